@@ -1,0 +1,12 @@
+pub mod Walk
+pub mod Plain
+pub mod Machine
+pub mod Swept
+pub mod Bound
+pub mod Level
+pub mod Rank
+pub mod UnrolledReadings
+pub mod EachStart
+pub mod Notes
+pub mod Starts
+pub mod Promise

@@ -1,0 +1,10 @@
+pub mod Basics
+pub mod Rows
+pub mod Query
+pub mod Language
+pub mod Places
+pub mod Readings
+pub mod Walk
+pub mod Search
+pub mod Preferment
+pub mod Reader

@@ -1,0 +1,136 @@
+-- Document 01, "Places and preferment", on starts: where attempts begin, how the search goes on behind a match, and the two whole searches,
+-- by the counted walk and by plain backtracking, which take starts, write matches and answer by the same rules.
+use mathlib.Core.List.{List, [], _∷_, _++_}
+use mathlib.Core.Bool.{Bool, true, false}
+use mathlib.Core.Option.{Option, none, some}
+use Prim.Native.Nat.{ℕ, zero, suc, _+_}
+use lib.ListN.{length, getD, replicate}
+use lib.Dec.{ltb}
+use Rattle.rules.specs.Basics.{pick}
+use Rattle.rules.specs.Places.{Place, pLetter, pCaret, pDollar, pFork, pEnd}
+use Rattle.rules.specs.Walk.{Ways, pairs, positionOf, placeOf, firstAt, pairWays, plain, Outcome, found, failed, enterUnless, inside}
+
+-- ---- matches
+
+-- a match: the row of its start, and its path
+pub record Match : Type 0 where
+  pub start : ℕ
+  pub path : List ℕ
+
+-- the labels of its rows: the letters of the letter places on its path
+abbrev pub labelOf : Place → List ℕ → List ℕ
+labelOf (pLetter c k) ls = c ∷ ls
+labelOf (pCaret k) ls = ls
+labelOf (pDollar k) ls = ls
+labelOf (pFork ks) ls = ls
+labelOf pEnd ls = ls
+
+unfoldable pub labels : List Place → List ℕ → List ℕ
+labels pl [] = []
+labels pl (x ∷ p) = labelOf (getD pl (placeOf (length pl) x) (pFork [])) (labels pl p)
+
+-- the position at which a path ends, behind the last row of its match
+abbrev pub lastOf : ℕ → List ℕ → ℕ
+lastOf x [] = x
+lastOf x (y ∷ ys) = lastOf y ys
+
+abbrev pub endOf : ℕ → List ℕ → ℕ
+endOf P p = positionOf P (lastOf 0 p)
+
+-- ---- starts
+
+-- After an empty match the next start is one row on; after a match of the rows i to j, not j itself, it is the row behind its last row with
+-- skip mode 0 (false), or one past its first with mode 1 (true).
+unfoldable pub nextStart : Bool → ℕ → ℕ → ℕ
+nextStart false i j = pick (ltb i j) j (suc i)
+nextStart true i j = suc i
+
+-- how a search goes on: the number of rows, the next start behind a path found at a start, the rows of a path, and whether its match fits
+-- behind so many matches with so many labels
+pub record Plan : Type 0 where
+  pub n : ℕ
+  pub next : ℕ → List ℕ → ℕ
+  pub rows : List ℕ → ℕ
+  pub fits : ℕ → ℕ → List ℕ → Bool
+
+-- what a search comes to: the matches written, the match that does not fit where there is one, and what the attempts kept
+pub record Swept (S : Type 0) : Type 0 where
+  pub matches : List Match
+  pub full : Option Match
+  pub state : S
+
+module _ {S : Type 0} where
+  abbrev pub below : Bool → S → (Unit {0} → Swept S) → Swept S
+  below false st go = record { matches = []; full = none; state = st }
+  below true st go = go tt
+
+  abbrev pub withMatch : Match → Swept S → Swept S
+  withMatch m r = record { matches = m ∷ r .matches; full = r .full; state = r .state }
+
+  -- a match that does not fit whole ends the search, and no later, smaller match is tried
+  abbrev pub byFit : Bool → Match → S → (Unit {0} → Swept S) → Swept S
+  byFit false m st go = record { matches = []; full = some m; state = st }
+  byFit true m st go = withMatch m (go tt)
+
+  -- behind the attempt at the start i, where m matches with l labels are written: after no match the next start is one row on
+  abbrev pub onAnswer : Plan → (ℕ → ℕ → ℕ → S → Swept S) → ℕ → ℕ → ℕ → Option (List ℕ) → S → Swept S
+  onAnswer plan on i m l none st = on (suc i) m l st
+  onAnswer plan on i m l (some p) st = byFit (plan .fits m l p) (record { start = i; path = p }) st (λ _. on (plan .next i p) (suc m) (l + plan .rows p) st)
+
+  -- the search from the start i on; attempts begin at rows below n only. k bounds the number of attempts, and n is enough (proofs/Fuel).
+  unfoldable pub sweep : (ℕ → S → Option (List ℕ) × S) → Plan → ℕ → ℕ → ℕ → ℕ → S → Swept S
+  sweep attempt plan zero i m l st = record { matches = []; full = none; state = st }
+  sweep attempt plan (suc k) i m l st = below (ltb i (plan .n)) st (λ _. let r = attempt i st in onAnswer plan (sweep attempt plan k) i m l (r .0) (r .1))
+
+-- ---- attempts
+
+-- what the counted walk keeps through one whole search: the failed pairs and the steps
+abbrev pub Kept : Type 0
+Kept = List Bool × ℕ
+
+abbrev pub answered : Outcome → Option (List ℕ) × Kept
+answered (found p F s) = (some p, (F, s))
+answered (failed F s) = (none, (F, s))
+
+-- an attempt tries the pair of the first place and the start
+abbrev pub walkAt : (ℕ → Ways) → ℕ → (ℕ → ℕ) → ℕ → Kept → Option (List ℕ) × Kept
+walkAt ways K first i st = answered (enterUnless (getD (st .0) (first i) false) (inside ways K) (st .0) (st .1) (first i))
+
+-- plain backtracking keeps nothing
+abbrev pub plainAt : (ℕ → Ways) → ℕ → (ℕ → ℕ) → ℕ → Unit {0} → Option (List ℕ) × Unit {0}
+plainAt ways K first i st = (plain ways K (first i), tt)
+
+-- ---- the two searches
+
+unfoldable pub planOf : List Place → ℕ → Bool → (ℕ → ℕ → List ℕ → Bool) → Plan
+unfolding labels nextStart
+planOf pl n mode fits =
+    record {
+      n = n;
+      next = λ i p. nextStart mode i (endOf (length pl) p);
+      rows = λ p. length (labels pl p);
+      fits = λ m l p. fits m l (labels pl p);
+    }
+
+-- by the counted walk: at first no pair has failed, and the count of steps is 0; the first start is row 0. `holds c i`: letter c holds at row i;
+-- `mode`: skip to the next row; `fits m l w`: a match with the labels w fits behind m matches with l labels.
+unfoldable pub walkSearch : (ℕ → ℕ → Bool) → ℕ → List Place → Bool → (ℕ → ℕ → List ℕ → Bool) → Swept Kept
+unfolding planOf pairWays inside sweep
+walkSearch holds n pl mode fits =
+    let N = pairs (length pl) n in
+    sweep (walkAt (pairWays holds n pl) N (firstAt (length pl))) (planOf pl n mode fits) n 0 0 0 (replicate N false, 0)
+
+-- by plain backtracking
+unfoldable pub plainSearch : (ℕ → ℕ → Bool) → ℕ → List Place → Bool → (ℕ → ℕ → List ℕ → Bool) → Swept (Unit {0})
+unfolding planOf pairWays plain sweep
+plainSearch holds n pl mode fits =
+    let N = pairs (length pl) n in
+    sweep (plainAt (pairWays holds n pl) N (firstAt (length pl))) (planOf pl n mode fits) n 0 0 0 tt
+
+-- all matches found: those written, and the one that does not fit
+abbrev pub fullOf : Option Match → List Match
+fullOf none = []
+fullOf (some m) = m ∷ []
+
+abbrev pub foundIn : {S : Type 0} → Swept S → List Match
+foundIn r = r .matches ++ fullOf (r .full)

@@ -1,0 +1,123 @@
+-- Document 01, "Places and preferment", on pairs: the graph of the pairs (place, position); plain backtracking; and the counted walk with
+-- its failed pairs and steps. Both walks are over any graph, and both searches use them over the same one.
+use mathlib.Core.List.{List, [], _∷_, map}
+use mathlib.Core.Bool.{Bool, true, false, _&&_}
+use mathlib.Core.Option.{Option, none, some}
+use Prim.Native.Nat.{ℕ, zero, suc, _+_, _*_, _/_, _%_}
+use lib.ListN.{length, getD, set}
+use lib.Dec.{ltb, eqb}
+use Rattle.rules.specs.Places.{Place, pLetter, pCaret, pDollar, pFork, pEnd}
+
+-- ---- pairs
+
+-- A pair is a number: position times P plus place. `pairs` counts those of n rows, whose positions are 0 to n.
+abbrev pub pairs : ℕ → ℕ → ℕ
+pairs P n = P * suc n
+
+abbrev pub pairAt : ℕ → ℕ → ℕ → ℕ
+pairAt P position place = position * P + place
+
+abbrev pub positionOf : ℕ → ℕ → ℕ
+positionOf P x = x / P
+
+abbrev pub placeOf : ℕ → ℕ → ℕ
+placeOf P x = x % P
+
+-- the pair of the first place at a start
+abbrev pub firstAt : ℕ → ℕ → ℕ
+firstAt P start = start * P
+
+-- what a pair does: it succeeds by itself, or it tries pairs in order until one succeeds (with none to try, it fails)
+pub data Ways : Type 0 where
+  accept : Ways
+  try : List ℕ → Ways
+
+-- a letter or anchor that passes tries the one pair it leads to; one that does not pass tries none
+abbrev pub passIf : Bool → ℕ → Ways
+passIf true y = try (y ∷ [])
+passIf false y = try []
+
+-- At position i of n rows: a letter place passes to the next position if a row is there and the letter holds (`holds c i`); `^` passes at
+-- position 0 only, `$` at n only; a fork tries its ways in order; END succeeds.
+unfoldable pub waysAt : (ℕ → ℕ → Bool) → ℕ → ℕ → Place → ℕ → Ways
+waysAt holds n P (pLetter c k) i = passIf (ltb i n && holds c i) (pairAt P (suc i) k)
+waysAt holds n P (pCaret k) i = passIf (eqb i 0) (pairAt P i k)
+waysAt holds n P (pDollar k) i = passIf (eqb i n) (pairAt P i k)
+waysAt holds n P (pFork ks) i = try (map (λ k. pairAt P i k) ks)
+waysAt holds n P pEnd i = accept
+
+-- the graph of the pairs
+unfoldable pub pairWays : (ℕ → ℕ → Bool) → ℕ → List Place → ℕ → Ways
+unfolding waysAt
+pairWays holds n pl x = waysAt holds n (length pl) (getD pl (placeOf (length pl) x) (pFork [])) (positionOf (length pl) x)
+
+-- ---- plain backtracking: every pair tried is entered
+
+-- the first success among pairs tried in order
+abbrev pub orNext : Option (List ℕ) → (Unit {0} → Option (List ℕ)) → Option (List ℕ)
+orNext none next = next tt
+orNext (some p) next = some p
+
+unfoldable pub firstOf : (ℕ → Option (List ℕ)) → List ℕ → Option (List ℕ)
+firstOf f [] = none
+firstOf f (y ∷ ys) = orNext (f y) (λ _. firstOf f ys)
+
+abbrev pub onto : ℕ → Option (List ℕ) → Option (List ℕ)
+onto x none = none
+onto x (some p) = some (x ∷ p)
+
+unfoldable pub plainBy : Ways → (ℕ → Option (List ℕ)) → ℕ → Option (List ℕ)
+unfolding firstOf
+plainBy accept f x = some (x ∷ [])
+plainBy (try ys) f x = onto x (firstOf f ys)
+
+-- the path that plain backtracking finds from x: the pairs from x to the one that succeeds by itself, each having led to the next. No path
+-- longer than k pairs is looked for; the law `plain-enough` (proofs/Fuel) says that the number of pairs is enough for k.
+unfoldable pub plain : (ℕ → Ways) → ℕ → ℕ → Option (List ℕ)
+unfolding plainBy
+plain ways zero x = none
+plain ways (suc k) x = plainBy (ways x) (plain ways k) x
+
+-- ---- the counted walk: a pair that has failed is not entered again, and each entry is one step
+
+-- what comes of a pair: a path, or a failure; with the failed pairs and the steps by then. The failed pairs are a list of Booleans, one for
+-- each pair.
+pub data Outcome : Type 0 where
+  found : List ℕ → List Bool → ℕ → Outcome
+  failed : List Bool → ℕ → Outcome
+
+abbrev pub orElse : Outcome → (List Bool → ℕ → Outcome) → Outcome
+orElse (found p F s) next = found p F s
+orElse (failed F s) next = next F s
+
+-- an entered pair whose tries came to an outcome leads the path, or it fails and is kept as failed
+abbrev pub close : ℕ → Outcome → Outcome
+close x (found p F s) = found (x ∷ p) F s
+close x (failed F s) = failed (set F x true) s
+
+-- a pair is tried: one that has failed is not entered, and trying it never succeeds; any other is entered, which is one step, END included
+abbrev pub enterUnless : Bool → (List Bool → ℕ → ℕ → Outcome) → List Bool → ℕ → ℕ → Outcome
+enterUnless true inside F s y = failed F s
+enterUnless false inside F s y = inside F (suc s) y
+
+-- pairs are tried in order until one succeeds
+unfoldable pub tries : (List Bool → ℕ → ℕ → Outcome) → List Bool → ℕ → List ℕ → Outcome
+tries inside F s [] = failed F s
+tries inside F s (y ∷ ys) = orElse (enterUnless (getD F y false) inside F s y) (λ F′ s′. tries inside F′ s′ ys)
+
+unfoldable pub insideBy : Ways → (List Bool → ℕ → ℕ → Outcome) → List Bool → ℕ → ℕ → Outcome
+unfolding tries
+insideBy accept f F s x = found (x ∷ []) F s
+insideBy (try ys) f F s x = close x (tries f F s ys)
+
+-- what comes of a pair that has been entered; k bounds the depth as it does for `plain`
+unfoldable pub inside : (ℕ → Ways) → ℕ → List Bool → ℕ → ℕ → Outcome
+unfolding insideBy
+inside ways zero F s x = failed F s
+inside ways (suc k) F s x = insideBy (ways x) (inside ways k) F s x
+
+-- how many pairs have failed
+unfoldable pub countTrue : List Bool → ℕ
+countTrue [] = 0
+countTrue (true ∷ F) = suc (countTrue F)
+countTrue (false ∷ F) = countTrue F
