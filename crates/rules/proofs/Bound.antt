@@ -11,8 +11,8 @@ use lib.ListN.{length, getD, set, length-set, length-append}
 use lib.Dec.{ltb, eqb}
 use borrow.Author.Tests.{ltb-true, eqb-true, eqb-false, not-true}
 use Rattle.rules.specs.Search.{Match, Swept, Plan, below, withMatch, byFit, onAnswer, sweep, fullOf, foundIn, Kept, walkAt, plainAt, lastOf}
-use Rattle.rules.specs.Walk.{Ways, accept, try, countTrue, orNext, firstOf, onto, plain, plainBy}
-use Rattle.rules.proofs.Plain.{IsPath, here, there, plain-path, plain-down, Sound}
+use Rattle.rules.specs.Walk.{IsPath, here, there, Ways, accept, try, countTrue, orNext, firstOf, onto, plain, plainBy}
+use Rattle.rules.proofs.Plain.{plain-path, plain-down, Sound}
 use Rattle.rules.proofs.Swept.{total, Counted, Alike, walk-is-plain, walk-counted}
 use Rattle.rules.proofs.Walk.{All, All-map, All-map₂, All-append, All-at, In, Out, Falls, Rising, Apart, room, out-of-not-in}
 

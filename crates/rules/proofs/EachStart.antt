@@ -12,9 +12,9 @@ use lib.Seq.{drop-set-add}
 use lib.Dec.{ltb}
 use borrow.Author.Tests.{ltb-true}
 use Rattle.rules.specs.Search.{Match, Swept, Plan, below, withMatch, byFit, onAnswer, sweep, Kept, answered, walkAt}
-use Rattle.rules.specs.Walk.{Ways, accept, try, Outcome, found, failed, orElse, close, enterUnless, tries, inside, insideBy, countTrue, plain}
+use Rattle.rules.specs.Walk.{IsPath, here, there, Ways, accept, try, Outcome, found, failed, orElse, close, enterUnless, tries, inside, insideBy, countTrue, plain}
 use Rattle.rules.proofs.Bound.{path-apart, path-pairs, path-closed}
-use Rattle.rules.proofs.Plain.{IsPath, here, there, plain-path, Sound, InsideSound, inside-sound}
+use Rattle.rules.proofs.Plain.{plain-path, Sound, InsideSound, inside-sound}
 use Rattle.rules.proofs.Walk.{All, All-map, All-map₂, In, Out, mark-in, count-mark, count-le, out-mark, Apart, Falls, InsidePost, inside-post}
 
 -- ---- what fails in an attempt lies where its pairs lie

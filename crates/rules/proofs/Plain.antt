@@ -8,7 +8,7 @@ use Prim.Native.Nat.{ℕ, zero, suc, _+_, _≤_, _<_, zero-le, suc-le-suc}
 use native.Mathlib.Nat.{le-trans, le-of-suc-le-suc, not-suc-le-zero}
 use native.Mathlib.Omega.{arith}
 use lib.ListN.{length, getD, set, length-set}
-use Rattle.rules.specs.Walk.{Ways, accept, try, Outcome, found, failed, orElse, close, enterUnless, tries, inside, insideBy, countTrue, orNext, firstOf, onto, plain, plainBy}
+use Rattle.rules.specs.Walk.{IsPath, here, there, Ways, accept, try, Outcome, found, failed, orElse, close, enterUnless, tries, inside, insideBy, countTrue, orNext, firstOf, onto, plain, plainBy}
 use Rattle.rules.proofs.Walk.{All, All-map, In, Out, mark-in, Falls}
 
 pub firstOf-none : (f : ℕ → Option (List ℕ)) (y : ℕ) (ys : List ℕ) → f y ≡ none → firstOf f (y ∷ ys) ≡ firstOf f ys
@@ -49,10 +49,6 @@ module _ (ways : ℕ → Ways) (ρ : ℕ → ℕ) (N : ℕ) (falls : Falls ways 
           ∙ sym (plain-try ways l x ys e)
 
 -- ---- paths
-
-pub data IsPath (ways : ℕ → Ways) : ℕ → List ℕ → Type 0 where
-  here : {x : ℕ} → ways x ≡ accept → IsPath ways x (x ∷ [])
-  there : {x y : ℕ} {ys p : List ℕ} → ways x ≡ try ys → List·Memᴰ y ys → IsPath ways y p → IsPath ways x (x ∷ p)
 
 module _ (ways : ℕ → Ways) where
   firstOf-path : (f : ℕ → Option (List ℕ)) → ((y : ℕ) (p : List ℕ) → f y ≡ some p → IsPath ways y p)

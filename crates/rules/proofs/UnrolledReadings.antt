@@ -13,9 +13,8 @@ use borrow.Author.Tests.{ltb-true, eqb-true, lt-ltb, eq-eqb}
 use Rattle.rules.specs.Places.{Unrolled, uLetter, uCaret, uDollar, uEmpty, uSeq, uAlt, uOpt, uStar, Branches, uNil, uCons, size, sizes, startOf, startsOf, code, codes, waysInTurn, Place, pLetter, pCaret, pDollar, pFork, pEnd, places}
 use Rattle.rules.specs.Readings.{Rounds}
 use Rattle.rules.specs.Search.{lastOf, labels, labelOf}
-use Rattle.rules.specs.Walk.{Ways, accept, try, passIf, waysAt, pairWays}
+use Rattle.rules.specs.Walk.{IsPath, here, there, Ways, accept, try, passIf, waysAt, pairWays}
 use Rattle.rules.proofs.Level.{and-true}
-use Rattle.rules.proofs.Plain.{IsPath, here, there}
 use Rattle.rules.proofs.Rank.{At, at-left, at-right, at-head, at-tail, code-length, entry-below}
 
 -- t takes the rows i to j, not j itself, with the labels w

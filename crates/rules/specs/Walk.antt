@@ -1,6 +1,7 @@
 -- Document 01, "Places and preferment", on pairs: the graph of the pairs (place, position); plain backtracking; and the counted walk with
 -- its failed pairs and steps. Both walks are over any graph, and both searches use them over the same one.
-use mathlib.Core.List.{List, [], _∷_, map}
+use mathlib.Core.Path.{_≡_}
+use mathlib.Core.List.{List, [], _∷_, map, List·Memᴰ}
 use mathlib.Core.Bool.{Bool, true, false, _&&_}
 use mathlib.Core.Option.{Option, none, some}
 use Prim.Native.Nat.{ℕ, zero, suc, _+_, _*_, _/_, _%_}
@@ -50,6 +51,12 @@ waysAt holds n P pEnd i = accept
 unfoldable pub pairWays : (ℕ → ℕ → Bool) → ℕ → List Place → ℕ → Ways
 unfolding waysAt
 pairWays holds n pl x = waysAt holds n (length pl) (getD pl (placeOf (length pl) x) (pFork [])) (positionOf (length pl) x)
+
+-- A reading of the rest from a pair: a path of pairs from it, each leading to the next by any of its ways, up to one that succeeds by itself.
+-- It says nothing of order.
+pub data IsPath (ways : ℕ → Ways) : ℕ → List ℕ → Type 0 where
+  here : {x : ℕ} → ways x ≡ accept → IsPath ways x (x ∷ [])
+  there : {x y : ℕ} {ys p : List ℕ} → ways x ≡ try ys → List·Memᴰ y ys → IsPath ways y p → IsPath ways x (x ∷ p)
 
 -- ---- plain backtracking: every pair tried is entered
 
