@@ -10,3 +10,4 @@ pub mod EachStart
 pub mod Notes
 pub mod Starts
 pub mod Promise
+pub mod Bench

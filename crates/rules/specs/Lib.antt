@@ -7,4 +7,8 @@ pub mod Readings
 pub mod Walk
 pub mod Search
 pub mod Preferment
+pub mod Report
 pub mod Reader
+pub mod Answers
+pub mod Program
+pub mod Bench
