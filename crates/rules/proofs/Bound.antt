@@ -10,10 +10,10 @@ use native.Mathlib.Omega.{arith}
 use lib.ListN.{length, getD, set, length-set, length-append}
 use lib.Dec.{ltb, eqb}
 use borrow.Author.Tests.{ltb-true, eqb-true, eqb-false, not-true}
-use Rattle.rules.specs.Search.{Match, Swept, Plan, below, withMatch, byFit, onAnswer, sweep, fullOf, foundIn, Kept, walkAt, plainAt, lastOf}
+use Rattle.rules.specs.Search.{pathPairs, Match, Swept, Plan, below, withMatch, byFit, onAnswer, sweep, fullOf, foundIn, Kept, walkAt, plainAt, lastOf}
 use Rattle.rules.specs.Walk.{IsPath, here, there, Ways, accept, try, countTrue, orNext, firstOf, onto, plain, plainBy}
 use Rattle.rules.proofs.Plain.{plain-path, plain-down, Sound}
-use Rattle.rules.proofs.Swept.{total, Counted, Alike, walk-is-plain, walk-counted}
+use Rattle.rules.proofs.Swept.{Counted, Alike, walk-is-plain, walk-counted}
 use Rattle.rules.proofs.Walk.{All, All-map, All-map₂, All-append, All-at, In, Out, Falls, Rising, Apart, room, out-of-not-in}
 
 -- ---- a pair that has a path does not fail
@@ -188,7 +188,7 @@ abbrev joined : (Match → List ℕ) → List Match → List ℕ
 joined f [] = []
 joined f (m ∷ ms) = f m ++ joined f ms
 
-joined-total : (pos : ℕ → ℕ) (ms : List Match) → length (joined (headOf pos) ms) + length (joined (tailOf pos) ms) ≡ total ms
+joined-total : (pos : ℕ → ℕ) (ms : List Match) → length (joined (headOf pos) ms) + length (joined (tailOf pos) ms) ≡ pathPairs ms
 joined-total pos [] = refl
 joined-total pos (m ∷ ms) =
     let ih = joined-total pos ms in

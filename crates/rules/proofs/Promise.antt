@@ -11,14 +11,14 @@ use lib.ListN.{length, getD, replicate, length-replicate, getD-replicate}
 use lib.Arith.{digits-lt, digits-div, digits-mod}
 use lib.Dec.{ltb, eqb}
 use Rattle.rules.specs.Places.{Unrolled, size, Place, pLetter, pCaret, pDollar, pFork, pEnd, places}
-use Rattle.rules.specs.Search.{endOf, Match, Swept, Plan, foundIn, Kept, lastOf, walkAt, plainAt, sweep, planOf, walkSearch, plainSearch}
+use Rattle.rules.specs.Search.{pathPairs, endOf, Match, Swept, Plan, foundIn, Kept, lastOf, walkAt, plainAt, sweep, planOf, walkSearch, plainSearch}
 use Rattle.rules.specs.Walk.{Ways, accept, try, countTrue, plain, passIf, waysAt, pairWays, positionOf}
 use Rattle.rules.proofs.Bound.{Onward, two-each}
 use Rattle.rules.proofs.Level.{legal}
 use Rattle.rules.proofs.Plain.{Sound}
 use Rattle.rules.proofs.Rank.{rank, places-length, pattern-falls, pattern-top, Edge, edges-at, levelsIn, places-edges}
 use Rattle.rules.proofs.Starts.{next-on, next-past}
-use Rattle.rules.proofs.Swept.{Alike, Counted, total, walk-is-plain, walk-counted}
+use Rattle.rules.proofs.Swept.{Alike, Counted, walk-is-plain, walk-counted}
 use Rattle.rules.proofs.Walk.{All, All-map, In, in-below, Falls}
 
 -- ---- no pair has failed at first
@@ -88,7 +88,7 @@ module _ (t : Unrolled) (g : legal t ≡ true) (holds : ℕ → ℕ → Bool) (n
 
   -- demand: the steps are the failed pairs and the pairs of the paths found
   pub walk-sum : (walkSearch holds n (places t) mode fits) .state .1
-      ≡ countTrue ((walkSearch holds n (places t) mode fits) .state .0) + total (foundIn (walkSearch holds n (places t) mode fits))
+      ≡ countTrue ((walkSearch holds n (places t) mode fits) .state .0) + pathPairs (foundIn (walkSearch holds n (places t) mode fits))
   unfolding walkSearch planOf
   walk-sum =
       let N : ℕ = length (places t) * suc n in

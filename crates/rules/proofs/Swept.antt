@@ -10,7 +10,7 @@ use native.Mathlib.Omega.{arith}
 use lib.ListN.{length, getD, set, length-set}
 use lib.Dec.{ltb}
 use borrow.Author.Tests.{ltb-true}
-use Rattle.rules.specs.Search.{Match, Swept, Plan, below, withMatch, byFit, onAnswer, sweep, fullOf, foundIn, Kept, answered, walkAt, plainAt}
+use Rattle.rules.specs.Search.{pathPairs, Match, Swept, Plan, below, withMatch, byFit, onAnswer, sweep, fullOf, foundIn, Kept, answered, walkAt, plainAt}
 use Rattle.rules.specs.Walk.{Ways, accept, try, Outcome, found, failed, enterUnless, inside, insideBy, countTrue, plain}
 use Rattle.rules.proofs.Plain.{Sound, InsideSound, inside-sound}
 use Rattle.rules.proofs.Walk.{All, In, Out, Falls, InsidePost, inside-post}
@@ -73,13 +73,9 @@ module _ (ways : ℕ → Ways) (ρ : ℕ → ℕ) (N : ℕ) (falls : Falls ways 
 
 -- ---- T2 for the whole search
 
-abbrev pub total : List Match → ℕ
-total [] = 0
-total (m ∷ ms) = length (m .path) + total ms
-
 pub record Counted (N : ℕ) (st : Kept) (r : Swept Kept) : Type 0 where
   pub len : length (r .state .0) ≡ N
-  pub sum : r .state .1 + countTrue (st .0) ≡ st .1 + countTrue (r .state .0) + total (foundIn r)
+  pub sum : r .state .1 + countTrue (st .0) ≡ st .1 + countTrue (r .state .0) + pathPairs (foundIn r)
 
 module _ (ways : ℕ → Ways) (ρ : ℕ → ℕ) (N : ℕ) (falls : Falls ways ρ N) (K : ℕ) (top : (x : ℕ) → ρ x < K) (first : ℕ → ℕ) (plan : Plan)
     (starts : (i : ℕ) → i < plan .n → first i < N) where

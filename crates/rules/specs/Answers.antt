@@ -99,14 +99,19 @@ taskOf q rows =
       measures = parts q .measures;
     }
 
+-- whether letter c holds at row i
+unfoldable pub letterHolds : Task → ℕ → ℕ → Bool
+unfolding holds
+letterHolds t c i = holds (t .table) i (t .comparisons c)
+
 -- the search by the counted walk, and by plain backtracking, for so many report numbers and label bytes
 unfoldable pub walked : Task → ℕ → ℕ → Swept Kept
-unfolding walkSearch holds fits
-walked t nums labs = walkSearch (λ c i. holds (t .table) i (t .comparisons c)) (t .table .n) (t .places) (t .mode) (fits nums labs (t .measures))
+unfolding walkSearch letterHolds fits
+walked t nums labs = walkSearch (letterHolds t) (t .table .n) (t .places) (t .mode) (fits nums labs (t .measures))
 
 unfoldable pub backtracked : Task → ℕ → ℕ → Swept (Unit {0})
-unfolding plainSearch holds fits
-backtracked t nums labs = plainSearch (λ c i. holds (t .table) i (t .comparisons c)) (t .table .n) (t .places) (t .mode) (fits nums labs (t .measures))
+unfolding plainSearch letterHolds fits
+backtracked t nums labs = plainSearch (letterHolds t) (t .table .n) (t .places) (t .mode) (fits nums labs (t .measures))
 
 -- ---- the answer
 

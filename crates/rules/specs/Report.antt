@@ -3,7 +3,7 @@
 use mathlib.Core.Bool.{Bool, true, false, _&&_, _||_}
 use mathlib.Core.List.{List, [], _∷_, _++_}
 use mathlib.Core.Option.{Option, none, some}
-use Prim.Native.Nat.{ℕ, zero, suc, _+_, _*_, _/_, _^_}
+use Prim.Native.Nat.{ℕ, zero, suc, _+_, _*_, _/_, _%_, _^_}
 use lib.Dec.{leb, eqb}
 use lib.IntN.{ℤ, pos, _+ℤ_}
 use lib.Signed.{ltZ}
@@ -90,12 +90,21 @@ fits nums labs ms m l ls = leb (suc m * (3 + 2 * length ms)) nums && leb (l + le
 unfoldable pub bytesFor : ℕ → ℕ
 bytesFor bits = (bits + 7) / 8
 
+-- bit k of a number, lowest first; and bit x of a byte buffer, lowest bit first in each byte
+unfoldable pub bitOf : ℕ → ℕ → ℕ
+bitOf zero b = b % 2
+bitOf (suc k) b = bitOf k (b / 2)
+
+unfoldable pub bitAt : List ℕ → ℕ → Bool
+unfolding bitOf
+bitAt s x = eqb (bitOf (x % 8) (getD s (x / 8) 0)) 1
+
 -- the number whose bit j is 1 exactly if f j is true, for j below k
 unfoldable pub weigh : ℕ → (ℕ → Bool) → ℕ
 weigh zero f = 0
 weigh (suc k) f = weigh k f + pick (f k) (2 ^ k) 0
 
--- The notes for these failed pairs: bit x, lowest bit first in each byte, is 1 exactly if pair x has failed; spare bits of the last byte are 0.
+-- The notes for these failed pairs: bit x is 1 exactly if pair x has failed; spare bits of the last byte are 0. The law `noted` (proofs/Noted) says so.
 unfoldable pub notesOf : List Bool → List ℕ
 unfolding bytesFor weigh tabulate
 notesOf F = tabulate (bytesFor (length F)) (λ b. weigh 8 (λ j. getD F (8 * b + j) false))

@@ -134,3 +134,8 @@ fullOf (some m) = m ∷ []
 
 abbrev pub foundIn : {S : Type 0} → Swept S → List Match
 foundIn r = r .matches ++ fullOf (r .full)
+
+-- the pairs on all paths found, path by path; a pair on two paths counts twice
+abbrev pub pathPairs : List Match → ℕ
+pathPairs [] = 0
+pathPairs (m ∷ ms) = length (m .path) + pathPairs ms
