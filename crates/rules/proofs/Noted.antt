@@ -71,7 +71,7 @@ unfolding notesOf bitAt
 noted F x h =
     let d : 8 * (x / 8) + x % 8 ≡ x = omega arith in
     let b : getD (notesOf F) (x / 8) 0 ≡ weigh 8 (λ j. getD F (8 * (x / 8) + j) false) =
-        getD-tabulate (bytesFor (length F)) (λ b. weigh 8 (λ j. getD F (8 * b + j) false)) (x / 8) 0 (omega arith) in
+    getD-tabulate (bytesFor (length F)) (λ b. weigh 8 (λ j. getD F (8 * b + j) false)) (x / 8) 0 (omega arith) in
     let w : bitOf (x % 8) (weigh 8 (λ j. getD F (8 * (x / 8) + j) false)) ≡ pick (getD F (8 * (x / 8) + x % 8) false) 1 0 =
-        weigh-bit (λ j. getD F (8 * (x / 8) + j) false) 8 (x % 8) (omega arith) in
+    weigh-bit (λ j. getD F (8 * (x / 8) + j) false) 8 (x % 8) (omega arith) in
     ap (λ (v : ℕ). eqb (bitOf (x % 8) v) 1) b ∙ ap (λ (v : ℕ). eqb v 1) w ∙ digit-is (getD F (8 * (x / 8) + x % 8) false) ∙ ap (λ (k : ℕ). getD F k false) d

@@ -1,4 +1,4 @@
--- Document 01, "Bench sheet": W1 to W12 as one table, with the easy slip `A | A B` beside them. The statement that the definitions agree with every line
+-- Document 01, "Bench sheet": W1 to W12 as one table, and some easy slips behind them. The statement that the definitions agree with every line
 -- is `sheet-holds` (proofs/Bench).
 use mathlib.Core.Bool.{Bool, true, false, _&&_}
 use mathlib.Core.List.{List, [], _∷_, _++_}
@@ -123,9 +123,15 @@ sheet =
     -- W12: `A` in 8 parentheses accepted, in 9 refused
     ∷ unstepped (asks "((((((((A))))))))" [] 0 []) [] 2 []
     ∷ refusal (asks "(((((((((A)))))))))" [] 0 []) 2 4
-    -- easy slips: the preferred match is not the longest; unequal does not hold where PREV has no row
+    -- beyond the sheet, easy slips: the preferred match is not the longest
     ∷ unstepped (asks "A | A B" [] 0 []) (any 2) 5 (at 0 "A" ∷ at 1 "A" ∷ [])
+    -- unequal does not hold where PREV has no row
     ∷ unstepped (asks "A" unequalPrev 0 []) X 2 (at 1 "A" ∷ at 2 "A" ∷ at 3 "A" ∷ at 4 "A" ∷ [])
+    -- leaving at any fork goes straight behind the whole factor: fork, A, END
+    ∷ line (asks "A{,3}" aboveZero 0 []) (any 1) 7 (at 0 "" ∷ []) 3
+    -- a parenthesis closed before any is opened counts: at most 8 are open here
+    ∷ refusal (asks ")(((((((((" [] 0 []) 0 5
+    ∷ refusal (asks ")((((((((((" [] 0 []) 0 4
     ∷ []
 
 -- ---- what agreeing with a line is
