@@ -1,4 +1,4 @@
--- A bound for every skip mode (R-2): an attempt enters each pair from its start's position on at most once.
+-- A bound on the steps for every skip mode: an attempt enters each pair from the position of its start on at most once.
 use mathlib.Core.Path.{_≡_, refl, ap, sym, _∙_}
 use mathlib.Core.List.{List, [], _∷_, _++_}
 use mathlib.Core.Bool.{Bool, true, false, true≢false, false≢true}

@@ -16,6 +16,8 @@ pub mod Starts
 pub mod Promise
 pub mod Counting
 pub mod TreeReadings
+pub mod Fuel
+pub mod Paths
 pub mod Notes
 pub mod Noted
 pub mod Accepted

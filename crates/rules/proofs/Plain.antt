@@ -1,4 +1,4 @@
--- Plain backtracking: its fuel, its paths; and the counted walk finds what it finds (T1).
+-- Plain backtracking over any graph: its fuel, its paths; and the counted walk finds what it finds.
 use mathlib.Core.Path.{_≡_, refl, ap, sym, _∙_}
 use mathlib.Core.List.{List, [], _∷_, _++_, List·Memᴰ, List·Memᴰ·head, List·Memᴰ·tail}
 use mathlib.Core.Bool.{Bool, true, false, true≢false, false≢true}
@@ -81,7 +81,7 @@ module _ (ways : ℕ → Ways) where
       go ih accept d e′ = let same : x ∷ [] ≡ p = cc in let h : IsPath ways x (x ∷ []) = here d in rw same at h
       go ih (try ys) d e′ = put ys d (firstOf-path (plain ways k) ih ys) (firstOf (plain ways k) ys) refl e′
 
--- ---- T1: the counted walk finds what plain backtracking finds
+-- ---- the counted walk finds what plain backtracking finds
 
 module _ (ways : ℕ → Ways) (K : ℕ) where
   -- every failed pair has no path

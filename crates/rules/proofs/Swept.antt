@@ -48,7 +48,7 @@ module _ {S T : Type 0} (I : S → T → Type 0) (att : ℕ → S → Option (Li
       alike-below _ _ st su h
       (rw (a .0) (alike-answer (sweep att plan k) (sweep alt plan k) (sweep-alike k) i m l (alt i su .0) (att i st .1) (alt i su .1) (a .1))) (ltb i (plan .n))
 
--- ---- T1 for the whole search
+-- ---- the matches of the whole search
 
 module _ (ways : ℕ → Ways) (ρ : ℕ → ℕ) (N : ℕ) (falls : Falls ways ρ N) (K : ℕ) (top : (x : ℕ) → ρ x < K) (first : ℕ → ℕ) where
   abbrev pub SoundKept : Kept → Unit {0} → Type 0
@@ -71,7 +71,7 @@ module _ (ways : ℕ → Ways) (ρ : ℕ → ℕ) (N : ℕ) (falls : Falls ways 
       → Alike SoundKept (sweep (walkAt ways K first) plan k i m l st) (sweep (plainAt ways K first) plan k i m l tt)
   walk-is-plain plan k i m l st h = sweep-alike SoundKept (walkAt ways K first) (plainAt ways K first) walk-plain-at plan k i m l st tt h
 
--- ---- T2 for the whole search
+-- ---- the steps of the whole search
 
 pub record Counted (N : ℕ) (st : Kept) (r : Swept Kept) : Type 0 where
   pub len : length (r .state .0) ≡ N

@@ -1,10 +1,10 @@
 -- A tree's readings are those of its unrolled pattern; and plain backtracking from the first place finds a path exactly where the tree has a
--- reading, and the path found is one, with its end and its labels (document 01, "Places and preferment": a match is found exactly if some
--- reading exists). And the rows that a reading takes are as many as its labels.
-use mathlib.Core.Path.{_≡_, refl, ap, sym, _∙_}
+-- reading, and the path found is one, with its end and its labels (demand 2: a start has a match exactly if some reading of the pattern exists
+-- there). And the rows that a reading takes are as many as its labels.
+use mathlib.Core.Path.{_≡_, refl, ap, _∙_}
 use mathlib.Core.List.{List, [], _∷_, _++_, append-nil}
-use mathlib.Core.Bool.{Bool, true, false}
-use mathlib.Core.Logic.{_⊎_, inl, inr, ⊎-elim, _≢_, _↔_}
+use mathlib.Core.Bool.{Bool, false}
+use mathlib.Core.Logic.{inl, inr, ⊎-elim, _≢_, _↔_}
 use mathlib.Core.Option.{Option, none, some}
 use Prim.Native.Nat.{ℕ, zero, suc, _+_, _-_, _*_, _≤_, _<_, zero-le, suc-le-suc}
 use native.Mathlib.Nat.{add-zero, zero-add, suc-add, le-of-suc-le-suc, not-suc-le-zero}
@@ -12,17 +12,16 @@ use native.Mathlib.Omega.{arith}
 use lib.ListN.{length, getD, length-append}
 use lib.Seq.{getD-at}
 use lib.Arith.{digits-div}
-use Rattle.rules.specs.Language.{Form, lower, upper, Rank, pattern, branch, factor, primary, Tree, one, more, last, next, bare, times, letter, caret, dollar, empty, group, emptyLoop}
+use Rattle.rules.specs.Language.{lower, upper, Rank, pattern, branch, factor, primary, Tree, one, more, last, next, bare, times, letter, caret, dollar, empty, group, emptyLoop}
 use Rattle.rules.specs.Places.{Unrolled, uLetter, uCaret, uDollar, uEmpty, uSeq, uAlt, uOpt, uStar, Branches, uNil, uCons, copies, options, behind, repeated, UnrolledAt, forked, unrolled, unroll, pFork, pEnd, size, startOf, code, places}
 use Rattle.rules.specs.Readings.{Within, Rounds, Reads, SomeReading}
 use Rattle.rules.specs.Search.{lastOf, endOf, labels}
 use Rattle.rules.specs.Walk.{IsPath, here, there, accept, pairs, positionOf, firstAt, waysAt, pairWays, plain}
-use Rattle.rules.proofs.Bound.{plain-complete}
 use Rattle.rules.proofs.Bounds.{Bounds, in-order}
 use Rattle.rules.proofs.Counting.{forked-more, legal-unroll}
-use Rattle.rules.proofs.Level.{legal}
+use Rattle.rules.proofs.Paths.{path-found}
 use Rattle.rules.proofs.Plain.{plain-path}
-use Rattle.rules.proofs.Rank.{At, code-length, places-length, rank, pattern-falls, pattern-top}
+use Rattle.rules.proofs.Rank.{At, code-length, places-length}
 use Rattle.rules.proofs.UnrolledReadings.{ReadsU, ReadsAny, node-ways, node-label, Ext, complete, Cut, sound}
 
 -- ---- the tree and the unrolled pattern
@@ -62,7 +61,8 @@ module _ (holds : ℕ → ℕ → Bool) (n : ℕ) where
     behind-from none lo lazy c i j w h r = (c, r)
     behind-from (some hi) lo lazy c i j w h r = options-from lazy (hi - lo) c i j w (omega arith) r
 
-    behind-to : (hi : Option ℕ) (lo : ℕ) (lazy : Bool) → Within lo hi → (i j : ℕ) (w : List ℕ) → ReadsU (behind hi lo lazy t) holds n i j w → (c : ℕ) × (Within (lo + c) hi) × (Rounds One c i j w)
+    behind-to : (hi : Option ℕ) (lo : ℕ) (lazy : Bool) → Within lo hi → (i j : ℕ) (w : List ℕ) → ReadsU (behind hi lo lazy t) holds n i j w
+        → (c : ℕ) × (Within (lo + c) hi) × (Rounds One c i j w)
     unfolding behind ReadsU
     behind-to none lo lazy g i j w r = (r .0, tt, r .1)
     behind-to (some hi) lo lazy g i j w r = let z = options-to lazy (hi - lo) i j w r in (z .0, omega arith, z .2)
@@ -239,7 +239,8 @@ module _ (t : Unrolled) (holds : ℕ → ℕ → Bool) (n : ℕ) where
       out : Cut (places t) holds n (λ i j w. ReadsU t holds n i j w) i (size t) path → ReadsU t holds n i (endOf (length (places t)) path) (labels (places t) path)
       out c =
           let s : c .rest ≡ (c .to * length (places t) + size t) ∷ [] = stops (ends-here (c .to)) (c .is) in
-          let w : labels (places t) path ≡ c .word = c .said ∙ ap (λ (l : List ℕ). c .word ++ labels (places t) l) s ∙ ap (λ (l : List ℕ). c .word ++ l) (end-says (c .to)) ∙ append-nil (c .word) in
+          let w : labels (places t) path ≡ c .word = c .said ∙ ap (λ (l : List ℕ). c .word ++ labels (places t) l) s
+          ∙ ap (λ (l : List ℕ). c .word ++ l) (end-says (c .to)) ∙ append-nil (c .word) in
           let j : endOf (length (places t)) path ≡ c .to = ap (positionOf (length (places t))) (c .ends ∙ ap (lastOf 0) s) ∙ digits-div (c .to) small in
           rw (w, j) (c .reads)
 
@@ -254,3 +255,32 @@ module _ (t : Unrolled) (holds : ℕ → ℕ → Bool) (n : ℕ) where
       let a = unrolled-taken holds n t i (endOf (length (places t)) (y .way)) (labels (places t) (y .way)) (path-reads i (y .way) h) in
       let b = unrolled-taken holds n t i j w r in
       (y .way, h, omega (arith, a .rows, b .rows, ap length d), d)
+
+-- ---- plain backtracking over a tree
+
+module _ (p : Tree pattern) (holds : ℕ → ℕ → Bool) (n : ℕ) where
+  abbrev P : ℕ
+  P = length (places (unroll p))
+
+  -- from the first place at a start
+  abbrev pub plainFrom : ℕ → Option (List ℕ)
+  plainFrom i = plain (pairWays holds n (places (unroll p))) (pairs P n) (firstAt P i)
+
+  -- the path found is a reading
+  pub found-reads : Bounds p → (i : ℕ) (path : List ℕ) → plainFrom i ≡ some path → Reads p holds n i (endOf P path) (labels (places (unroll p)) path)
+  found-reads o i path e =
+      unrolled-reads holds n p o i (endOf P path) (labels (places (unroll p)) path)
+      (path-reads (unroll p) holds n i path (plain-path (pairWays holds n (places (unroll p))) (pairs P n) (firstAt P i) path e))
+
+  -- where there is a reading, a path is found
+  pub reading-found : emptyLoop p ≡ false → (i j : ℕ) (w : List ℕ) → Reads p holds n i j w → plainFrom i ≢ none
+  reading-found g i j w r = path-found (unroll p) (legal-unroll p g) holds n (reads-path (unroll p) holds n i j w (reads-unrolled holds n p i j w r) .1)
+
+  -- a path is found at a start exactly if some reading exists there
+  pub match-exactly : emptyLoop p ≡ false → Bounds p → (i : ℕ) → ((path : List ℕ) × (plainFrom i ≡ some path)) ↔ SomeReading p holds n i
+  match-exactly g o i =
+      (λ f. (endOf P (f .0), labels (places (unroll p)) (f .0), found-reads o i (f .0) (f .1)), λ r. go (plainFrom i) refl (reading-found g i (r .0) (r .1) (r .2)))
+    where
+      go : (a : Option (List ℕ)) → plainFrom i ≡ a → plainFrom i ≢ none → (path : List ℕ) × (plainFrom i ≡ some path)
+      go none e h = absurd (h e)
+      go (some path) e h = (path, e)

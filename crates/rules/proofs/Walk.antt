@@ -1,4 +1,4 @@
--- The counted walk: what it keeps, and its count (T2, T3, T4 of the study).
+-- The counted walk over any graph: what it keeps, and that its steps are the pairs that failed and those of the path found.
 use mathlib.Core.Path.{_≡_, refl, ap, sym, _∙_}
 use mathlib.Core.List.{List, [], _∷_, _++_, List·Memᴰ, List·Memᴰ·head, List·Memᴰ·tail}
 use mathlib.Core.Bool.{Bool, true, false, true≢false, false≢true}

@@ -10,8 +10,7 @@ use lib.IntN.{ℤ, pos, negsuc}
 use lib.Signed.{leZ}
 use lib.ListN.{length, take, replicate}
 use Rattle.rules.specs.Basics.{bytes}
-use Rattle.rules.specs.Places.{Place}
-use Rattle.rules.specs.Search.{Match, labels}
+use Rattle.rules.specs.Search.{labels, shown}
 use Rattle.rules.specs.Report.{bytesFor}
 use Rattle.rules.specs.Answers.{treeIn, P, pairsOf, Buffers, taskOf, walkOf, searchOf}
 use Rattle.rules.specs.Program.{printed}
@@ -150,12 +149,6 @@ ifGiven f (some x) = f x
 abbrev pub equalZ : ℤ → ℤ → Bool
 equalZ a b = leZ a b && leZ b a
 
--- the matches are these, each with its first row and labels
-abbrev pub told : List Place → List Match → List (ℕ × List ℕ)
-unfolding labels
-told pl [] = []
-told pl (m ∷ ms) = (m .start, labels pl (m .path)) ∷ told pl ms
-
 abbrev pub sameMatch : ℕ × List ℕ → ℕ × List ℕ → Bool
 sameMatch a b = eqb (a .0) (b .0) && same eqb (a .1) (b .1)
 
@@ -185,7 +178,7 @@ agrees l =
     let after = searchOf (l .query) (l .rows) lent in
     eqb (after .result .answer) (l .answer)
     && (eqb (P (treeIn (l .query))) (l .places)
-    && (same sameMatch (told (taskOf (l .query) (l .rows) .places) (walkOf (l .query) (l .rows) lent .matches)) (l .matches)
+    && (same sameMatch (shown (taskOf (l .query) (l .rows) .places) (walkOf (l .query) (l .rows) lent .matches)) (l .matches)
     && (ifGiven (eqb (after .result .steps)) (l .steps)
     && (ifGiven (λ ns. same equalZ (take (length ns) (after .buffers .numbers)) ns) (l .numbers)
     && ifGiven (same eqb (printed (standardInput (l .query) (l .rows)))) (l .output)))))

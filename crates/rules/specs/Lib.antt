@@ -11,4 +11,5 @@ pub mod Report
 pub mod Reader
 pub mod Answers
 pub mod Program
+pub mod Demands
 pub mod Bench
