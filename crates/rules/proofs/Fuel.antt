@@ -15,7 +15,8 @@ use Rattle.rules.specs.Search.{Match, Swept, Plan, below, byFit, onAnswe
 use Rattle.rules.specs.Walk.{IsPath, here, there, Ways, accept, try, pairs, firstAt, pairWays, plain, Outcome, found, failed, orElse, close, enterUnless, tries, inside, insideBy}
 use Rattle.rules.proofs.Level.{legal}
 use Rattle.rules.proofs.Plain.{plain-fuel}
-use Rattle.rules.proofs.Rank.{rank, places-length, pattern-falls, pattern-top}
+use Rattle.rules.proofs.PatternWalk.{falls, top}
+use Rattle.rules.proofs.Rank.{rank}
 use Rattle.rules.proofs.Starts.{next-on}
 use Rattle.rules.proofs.Walk.{All, All-map, All-at, Falls}
 
@@ -101,18 +102,15 @@ module _ (t : Unrolled) (g : legal t ≡ true) (holds : ℕ → ℕ → Bool) (n
   abbrev P : ℕ
   P = length (places t)
 
-  top : (x : ℕ) → rank t n x < pairs P n
-  top x = rw (places-length t) (pattern-top t g holds n x)
-
   pub plain-enough : (K : ℕ) → pairs P n ≤ K → (x : ℕ) → plain (pairWays holds n (places t)) K x ≡ plain (pairWays holds n (places t)) (pairs P n) x
-  plain-enough K h x = plain-fuel (pairWays holds n (places t)) (rank t n) (suc (size t) * suc n) (pattern-falls t g holds n) K (pairs P n) x (le-trans (top x) h) (top x)
+  plain-enough K h x = plain-fuel (pairWays holds n (places t)) (rank t n) (pairs P n) (falls t g holds n) K (pairs P n) x (le-trans (top t g holds n x) h) (top t g holds n x)
 
   pub inside-enough : (K : ℕ) → pairs P n ≤ K → (F : List Bool) (s x : ℕ) → inside (pairWays holds n (places t)) K F s x ≡ inside (pairWays holds n (places t)) (pairs P n) F s x
-  inside-enough K h F s x = inside-fuel (pairWays holds n (places t)) (rank t n) (suc (size t) * suc n) (pattern-falls t g holds n) K (pairs P n) x (le-trans (top x) h) (top x) F s
+  inside-enough K h F s x = inside-fuel (pairWays holds n (places t)) (rank t n) (pairs P n) (falls t g holds n) K (pairs P n) x (le-trans (top t g holds n x) h) (top t g holds n x) F s
 
   -- no path is longer
   pub path-short : (x : ℕ) (p : List ℕ) → IsPath (pairWays holds n (places t)) x p → length p ≤ pairs P n
-  path-short x p h = omega (arith, top x, path-length (pairWays holds n (places t)) (rank t n) (suc (size t) * suc n) (pattern-falls t g holds n) h)
+  path-short x p h = omega (arith, top t g holds n x, path-length (pairWays holds n (places t)) (rank t n) (pairs P n) (falls t g holds n) h)
 
   -- the whole searches, with any larger bounds
   module _ (mode : Bool) (fits : ℕ → ℕ → List ℕ → Bool) (K k : ℕ) (h : pairs P n ≤ K) (l : n ≤ k) where

@@ -13,7 +13,7 @@ pub mod Level
 pub mod Rank
 pub mod UnrolledReadings
 pub mod Starts
-pub mod Promise
+pub mod PatternWalk
 pub mod Counting
 pub mod TreeReadings
 pub mod Fuel
@@ -21,4 +21,5 @@ pub mod Paths
 pub mod Notes
 pub mod Noted
 pub mod Accepted
+pub mod Demands
 pub mod Bench

@@ -12,7 +12,7 @@ use Rattle.rules.specs.Search.{walkSearch}
 use Rattle.rules.specs.Walk.{IsPath, pairs, pairWays, plain}
 use Rattle.rules.proofs.Bound.{plain-complete}
 use Rattle.rules.proofs.Level.{legal}
-use Rattle.rules.proofs.Promise.{walk-plain}
+use Rattle.rules.proofs.PatternWalk.{top, falls, walk-plain}
 use Rattle.rules.proofs.Rank.{rank, places-length, pattern-falls, pattern-top}
 use Rattle.rules.proofs.Walk.{In}
 
@@ -20,8 +20,7 @@ module _ (t : Unrolled) (g : legal t ≡ true) (holds : ℕ → ℕ → Bool) (n
   -- from a pair that has a path plain backtracking finds one
   pub path-found : {x : ℕ} {p : List ℕ} → IsPath (pairWays holds n (places t)) x p → plain (pairWays holds n (places t)) (pairs (length (places t)) n) x ≢ none
   path-found h =
-      plain-complete (pairWays holds n (places t)) (rank t n) (suc (size t) * suc n) (pattern-falls t g holds n) (pairs (length (places t)) n)
-      (λ y. rw (places-length t) (pattern-top t g holds n y)) h
+      plain-complete (pairWays holds n (places t)) (rank t n) (pairs (length (places t)) n) (falls t g holds n) (pairs (length (places t)) n) (top t g holds n) h
 
   pub failed-no-path : (mode : Bool) (fits : ℕ → ℕ → List ℕ → Bool) (x : ℕ) → In (walkSearch holds n (places t) mode fits .state .0) x
       → (p : List ℕ) → IsPath (pairWays holds n (places t)) x p → ⊥
