@@ -1,23 +1,20 @@
 -- What is known of an accepted search: none of the tests for 1 to 12 is true, so the pattern has a tree, P is 1 to 256, the rows are whole and at most
 -- 4,096, and the notes and the trail are long enough. Everything that an implementation may rely on follows from these.
-use mathlib.Core.Path.{_≡_, refl, sym, ap, _∙_}
-use mathlib.Core.Bool.{Bool, true, false, not, _&&_, _||_, true≢false, false≢true}
-use mathlib.Core.List.{List, [], _∷_, _++_}
+use mathlib.Core.Path.{_≡_, refl}
+use mathlib.Core.Bool.{Bool, true, false, not, _||_, true≢false}
+use mathlib.Core.List.{List, [], _∷_}
 use mathlib.Core.Option.{Option, none, some}
-use Prim.Native.Nat.{ℕ, zero, suc, _+_, _*_, _/_, _%_, _≤_, _<_}
-use native.Mathlib.Omega.{arith}
-use lib.Dec.{ltb, eqb}
+use Prim.Native.Nat.{ℕ, _%_, _≤_}
+use lib.Dec.{ltb}
 use lib.IntN.{ℤ}
 use lib.ListN.{length}
-use borrow.Author.Tests.{ltb-false, eqb-true, not-false}
+use borrow.Author.Tests.{ltb-false, eqb-true}
 use Rattle.rules.specs.Basics.{pick, inRange}
 use Rattle.rules.specs.Rows.{tableOf}
-use Rattle.rules.specs.Query.{cut, misplaced, unfit, doubled, columnsOf, textOf}
+use Rattle.rules.specs.Query.{cut, misplaced, unfit, doubled, columnsOf}
 use Rattle.rules.specs.Language.{Tree, pattern, emptyLoop}
-use Rattle.rules.specs.Reader.{treeOf}
 use Rattle.rules.specs.Places.{placesOf}
 use Rattle.rules.specs.Walk.{pairs}
-use Rattle.rules.specs.Search.{Swept}
 use Rattle.rules.specs.Report.{bytesFor}
 use Rattle.rules.specs.Answers.{tooDeep, treeIn, noTree, hasEmptyLoop, P, tooMany, foreign, badRows, Buffers, pairsOf, shortNotes, shortTrail, stopped, lowest, queryTests, answerBy, walkOf, answerOf}
 

@@ -1,30 +1,65 @@
 -- The tender's demands hold of every accepted search (specs/Demands): for every query, all rows and all lent buffers, both skip modes, done and stopped.
-use mathlib.Core.Path.{_≡_, refl, ap, sym, _∙_, subst}
-use mathlib.Core.Bool.{Bool, true, false}
+use mathlib.Core.Path.{_≡_}
+use mathlib.Core.Bool.{Bool, false}
 use mathlib.Core.List.{List}
-use mathlib.Core.Option.{Option, none, some}
-use Prim.Native.Nat.{ℕ, suc, _+_, _*_, _/_, _≤_, _<_}
+use mathlib.Core.Logic.{_↔_}
+use mathlib.Core.Option.{some}
+use Prim.Native.Nat.{ℕ, _*_, _/_, _≤_, _<_}
 use native.Mathlib.Omega.{arith}
 use lib.IntN.{ℤ}
 use lib.ListN.{length, getD}
-use Rattle.rules.specs.Basics.{pick, wrote}
-use Rattle.rules.specs.Rows.{Table}
-use Rattle.rules.specs.Query.{textOf, parts, columnsOf}
+use Rattle.rules.specs.Query.{textOf}
 use Rattle.rules.specs.Language.{Tree, pattern, Written, emptyLoop}
-use Rattle.rules.specs.Places.{Place, unroll, places, placesOf}
-use Rattle.rules.specs.Walk.{pairs, pairWays, IsPath}
-use Rattle.rules.specs.Search.{Swept, Kept, walkSearch, plainSearch}
+use Rattle.rules.specs.Places.{Place, unroll, places}
+use Rattle.rules.specs.Readings.{SomeReading}
+use Rattle.rules.specs.Walk.{pairs}
+use Rattle.rules.specs.Preferment.{Preferred, Reports}
+use Rattle.rules.specs.Search.{Swept, walkSearch, labels, endOf, plainFrom, shown, shownFull}
 use Rattle.rules.specs.Report.{fits, bytesFor, bitAt, notesOf}
-use Rattle.rules.specs.Answers.{treeIn, placesIn, Task, taskOf, letterHolds, walked, backtracked, Buffers, stopped, answerBy, answerOf, reportOf, walkOf, plainOf, walkReport, plainReport, refused, accepted, searchOf}
+use Rattle.rules.specs.Answers.{treeIn, placesIn, Task, taskOf, letterHolds, walked, backtracked, Buffers, stopped, answerBy, answerOf, reportOf, walkOf, plainOf, walkReport, plainReport, accepted, searchOf}
 use Rattle.rules.specs.Demands.{Demand2, Demand3, Demands}
-use Rattle.rules.proofs.Accepted.{Accepted, Granted, granted}
-use Rattle.rules.proofs.Counting.{legal-unroll, places-counted}
+use Rattle.rules.proofs.Accepted.{Accepted, granted}
+use Rattle.rules.proofs.Bounds.{Bounds, written-bounds}
+use Rattle.rules.proofs.Counting.{legal-unroll}
+use Rattle.rules.proofs.DerivationReadings.{parses-reads}
 use Rattle.rules.proofs.Grammar.{tree-exactly}
-use Rattle.rules.proofs.Level.{legal}
+use Rattle.rules.proofs.GreatestDerivation.{found-is-greatest}
 use Rattle.rules.proofs.Lists.{front-wrote}
 use Rattle.rules.proofs.Noted.{length-notes, noted}
 use Rattle.rules.proofs.Paths.{failed-no-path}
 use Rattle.rules.proofs.PatternWalk.{walk-plain, walk-sum, walk-bound, walk-kept}
+use Rattle.rules.proofs.PrefermentReports.{walk-reports, reports-one}
+use Rattle.rules.proofs.TreeReadings.{match-exactly}
+
+-- ---- demand 2
+
+module _ (p : Tree pattern) (g : emptyLoop p ≡ false) (o : Bounds p) (pl : List Place) (e : pl ≡ places (unroll p)) (holds : ℕ → ℕ → Bool) (n : ℕ) where
+  matches-exactly : (i : ℕ) → ((path : List ℕ) × (plainFrom holds n pl i ≡ some path)) ↔ SomeReading p holds n i
+  matches-exactly = rw e (match-exactly p holds n g o)
+
+  matches-preferred : (i j : ℕ) (w : List ℕ)
+      → ((path : List ℕ) × ((plainFrom holds n pl i ≡ some path) × (endOf (length pl) path ≡ j) × (labels pl path ≡ w))) ↔ Preferred p holds n i j w
+  matches-preferred = rw e (found-is-greatest p g o holds n)
+
+  matches-reported : (mode : Bool) (room : ℕ → ℕ → List ℕ → Bool)
+      → Reports p holds n mode room 0 0 0 (shown pl (walkSearch holds n pl mode room .matches)) (shownFull pl (walkSearch holds n pl mode room .full))
+  matches-reported = rw e (walk-reports p g o holds n)
+
+-- for a task whose places are those of a pattern that is read
+second : (p : Tree pattern) → emptyLoop p ≡ false → Bounds p → (t : Task) → t .places ≡ places (unroll p) → (nums labs : ℕ) → Demand2 p t nums labs (walked t nums labs)
+unfolding walked
+second p g o t e nums labs =
+    let h = letterHolds t in
+    let n = t .table .n in
+    let r = fits nums labs (t .measures) in
+    let told = matches-reported p g o (t .places) e h n (t .mode) r in
+    record {
+      exists = matches-exactly p g o (t .places) e h n;
+      preferred = matches-preferred p g o (t .places) e h n;
+      reads = λ i j w x. parses-reads h n p (x .derivation) i j w (x .parses);
+      report = told;
+      only = λ ms full x. reports-one p h n (t .mode) r x told;
+    }
 
 -- ---- demand 3
 
@@ -79,3 +114,24 @@ module _ (q : List ℕ) (rows : List ℤ) (lent : Buffers) (ok : Accepted q rows
   places-are : (p : Tree pattern) → treeIn q ≡ some p → taskOf q rows .places ≡ places (unroll p)
   unfolding taskOf placesIn
   places-are p e = rw e
+
+-- ---- both
+
+pub demands : (q : List ℕ) (rows : List ℤ) (lent : Buffers) → Accepted q rows lent → Demands q rows lent
+unfolding walkOf plainOf walkReport plainReport answerOf treeIn
+demands q rows lent ok =
+    let a = granted q rows lent ok in
+    let p = a .tree in
+    let w : Written p (textOf q) = tree-exactly (textOf q) p .0 (a .has-tree) in
+    let e = places-are q rows lent ok p (a .has-tree) in
+    let d = third p (a .no-empty-loop) (taskOf q rows) e (length (lent .numbers)) (length (lent .labels)) in
+    record {
+      tree = p;
+      written = w;
+      demand2 = second p (a .no-empty-loop) (written-bounds w) (taskOf q rows) e (length (lent .numbers)) (length (lent .labels));
+      demand3 = d;
+      like-plain =
+          report-same (answerOf q rows lent) (answerBy q rows lent (plainOf q rows lent)) (taskOf q rows) lent (walkOf q rows lent) (plainOf q rows lent)
+          (answer-same q rows lent (walkOf q rows lent) (plainOf q rows lent) (d .full)) (d .matches);
+      noted = noted-bits q rows lent ok;
+    }

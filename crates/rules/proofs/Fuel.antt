@@ -4,13 +4,13 @@ use mathlib.Core.Path.{_≡_, refl, ap}
 use mathlib.Core.List.{List, [], _∷_}
 use mathlib.Core.Bool.{Bool, true, false}
 use mathlib.Core.Option.{Option, none, some}
-use Prim.Native.Nat.{ℕ, zero, suc, _+_, _*_, _≤_, _<_}
+use Prim.Native.Nat.{ℕ, zero, suc, _+_, _≤_, _<_}
 use native.Mathlib.Nat.{le-trans, not-suc-le-zero}
 use native.Mathlib.Omega.{arith}
 use lib.ListN.{length, getD, replicate}
 use lib.Dec.{ltb}
 use borrow.Author.Tests.{le-ltb}
-use Rattle.rules.specs.Places.{Unrolled, Place, size, places}
+use Rattle.rules.specs.Places.{Unrolled, Place, places}
 use Rattle.rules.specs.Search.{Match, Swept, Plan, below, byFit, onAnswer, sweep, answered, walkAt, plainAt, endOf, planOf, walkSearch, plainSearch}
 use Rattle.rules.specs.Walk.{IsPath, here, there, Ways, accept, try, pairs, firstAt, pairWays, plain, Outcome, found, failed, orElse, close, enterUnless, tries, inside, insideBy}
 use Rattle.rules.proofs.Level.{legal}

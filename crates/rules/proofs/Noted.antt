@@ -1,16 +1,16 @@
 -- What the notes hold after a search, as document 01 words it: bit x, lowest bit first in each byte, is 1 exactly if pair x has failed, and spare bits
 -- of the last byte are 0.
-use mathlib.Core.Path.{_≡_, refl, ap, sym, _∙_}
+use mathlib.Core.Path.{_≡_, refl, ap, _∙_}
 use mathlib.Core.Bool.{Bool, true, false}
 use mathlib.Core.List.{List}
 use mathlib.Core.Logic.{_≢_}
 use Prim.Native.Nat.{ℕ, zero, suc, _+_, _*_, _/_, _%_, _^_, _≤_, _<_}
-use native.Mathlib.Nat.{not-suc-le-zero, mod-lt, div-add-mod', div-lt-iff-lt-mul, mul-comm}
+use native.Mathlib.Nat.{not-suc-le-zero}
 use native.Mathlib.Omega.{arith}
 use lib.Dec.{ltb, eqb}
 use lib.ListN.{length, getD}
 use borrow.Author.Tests.{ltb-true, ltb-false}
-use Rattle.rules.specs.Basics.{pick, tabulate}
+use Rattle.rules.specs.Basics.{pick}
 use Rattle.rules.specs.Report.{bytesFor, bitOf, bitAt, weigh, notesOf}
 use Rattle.rules.proofs.Lists.{length-tabulate, getD-tabulate}
 use Rattle.rules.proofs.Notes.{bitOf-same, bitOf-other}

@@ -5,15 +5,15 @@ use mathlib.Core.List.{List}
 use mathlib.Core.Bool.{Bool, true}
 use mathlib.Core.Logic.{_≢_}
 use mathlib.Core.Option.{none}
-use Prim.Native.Nat.{ℕ, suc, _*_}
+use Prim.Native.Nat.{ℕ}
 use lib.ListN.{length}
-use Rattle.rules.specs.Places.{Unrolled, size, places}
+use Rattle.rules.specs.Places.{Unrolled, places}
 use Rattle.rules.specs.Search.{walkSearch}
 use Rattle.rules.specs.Walk.{IsPath, pairs, pairWays, plain}
 use Rattle.rules.proofs.Bound.{plain-complete}
 use Rattle.rules.proofs.Level.{legal}
 use Rattle.rules.proofs.PatternWalk.{top, falls, walk-plain}
-use Rattle.rules.proofs.Rank.{rank, places-length, pattern-falls, pattern-top}
+use Rattle.rules.proofs.Rank.{rank}
 use Rattle.rules.proofs.Walk.{In}
 
 module _ (t : Unrolled) (g : legal t ≡ true) (holds : ℕ → ℕ → Bool) (n : ℕ) where

@@ -1,18 +1,16 @@
 -- The whole search over the graph of a legal unrolled pattern: the walk's matches are plain backtracking's; its steps are the failed pairs and the pairs of
 -- the paths found; with skip past last row they are at most 2P(n+1), and in every mode at most P n (n+3) / 2.
-use mathlib.Core.Path.{_≡_, refl, ap, sym, _∙_}
-use mathlib.Core.List.{List, [], _∷_, _++_, map}
-use mathlib.Core.Bool.{Bool, true, false, _&&_, true≢false, false≢true}
-use mathlib.Core.Logic.{_⊎_, inl, inr, ⊎-elim, _≢_}
-use mathlib.Core.Option.{Option, none, some}
-use Prim.Native.Nat.{ℕ, zero, suc, _+_, _-_, _*_, _/_, _%_, _≤_, _<_, max}
+use mathlib.Core.Path.{_≡_, refl}
+use mathlib.Core.List.{List, [], _∷_, map}
+use mathlib.Core.Bool.{Bool, true, false, _&&_, false≢true}
+use Prim.Native.Nat.{ℕ, zero, suc, _+_, _-_, _*_, _/_, _%_, _≤_, _<_}
 use native.Mathlib.Nat.{le-trans, mod-lt, mul-comm, add-zero, sub-zero, le-div-iff-mul-le}
 use native.Mathlib.Omega.{arith}
-use lib.ListN.{length, getD, replicate, length-replicate, getD-replicate}
-use lib.Arith.{digits-lt, digits-div, digits-mod}
+use lib.ListN.{length, getD, replicate, length-replicate}
+use lib.Arith.{digits-lt, digits-div}
 use lib.Dec.{ltb, eqb}
 use Rattle.rules.specs.Places.{Unrolled, size, Place, pLetter, pCaret, pDollar, pFork, pEnd, places}
-use Rattle.rules.specs.Search.{pathPairs, endOf, Match, Swept, Plan, foundIn, Kept, lastOf, walkAt, plainAt, sweep, planOf, walkSearch, plainSearch}
+use Rattle.rules.specs.Search.{pathPairs, endOf, Swept, foundIn, Kept, planOf, walkSearch, plainSearch}
 use Rattle.rules.specs.Walk.{Ways, accept, try, countTrue, passIf, waysAt, pairs, firstAt, pairWays, positionOf}
 use Rattle.rules.proofs.Bound.{Onward, two-each}
 use Rattle.rules.proofs.EachStart.{Closed, cost, cost-is, walk-cost}
@@ -21,7 +19,7 @@ use Rattle.rules.proofs.Plain.{Sound}
 use Rattle.rules.proofs.Rank.{rank, places-length, pattern-falls, pattern-top, Edge, edges-at, levelsIn, places-edges}
 use Rattle.rules.proofs.Starts.{next-on, next-past}
 use Rattle.rules.proofs.Swept.{Alike, Counted, walk-is-plain, walk-counted}
-use Rattle.rules.proofs.Walk.{All, All-map, In, in-below, Falls}
+use Rattle.rules.proofs.Walk.{All, All-map, In, Falls}
 
 -- ---- no pair has failed at first
 

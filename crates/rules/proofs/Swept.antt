@@ -1,19 +1,17 @@
 -- The search by the counted walk is the search by plain backtracking, and its count.
 use mathlib.Core.Path.{_≡_, refl, ap, sym, _∙_}
-use mathlib.Core.List.{List, [], _∷_, _++_}
-use mathlib.Core.Bool.{Bool, true, false, true≢false, false≢true}
-use mathlib.Core.Logic.{_⊎_, inl, inr, ⊎-elim, _≢_}
+use mathlib.Core.List.{List, _∷_}
+use mathlib.Core.Bool.{Bool, true, false}
 use mathlib.Core.Option.{Option, none, some}
-use Prim.Native.Nat.{ℕ, zero, suc, _+_, _≤_, _<_, zero-le, suc-le-suc}
-use native.Mathlib.Nat.{le-trans, le-of-suc-le-suc, not-suc-le-zero}
+use Prim.Native.Nat.{ℕ, zero, suc, _+_, _<_}
 use native.Mathlib.Omega.{arith}
-use lib.ListN.{length, getD, set, length-set}
+use lib.ListN.{length, getD}
 use lib.Dec.{ltb}
 use borrow.Author.Tests.{ltb-true}
-use Rattle.rules.specs.Search.{pathPairs, Match, Swept, Plan, below, withMatch, byFit, onAnswer, sweep, fullOf, foundIn, Kept, answered, walkAt, plainAt}
-use Rattle.rules.specs.Walk.{Ways, accept, try, Outcome, found, failed, enterUnless, inside, insideBy, countTrue, plain}
+use Rattle.rules.specs.Search.{pathPairs, Match, Swept, Plan, below, byFit, onAnswer, sweep, foundIn, Kept, answered, walkAt, plainAt}
+use Rattle.rules.specs.Walk.{Ways, Outcome, found, failed, enterUnless, inside, countTrue, plain}
 use Rattle.rules.proofs.Plain.{Sound, InsideSound, inside-sound}
-use Rattle.rules.proofs.Walk.{All, In, Out, Falls, InsidePost, inside-post}
+use Rattle.rules.proofs.Walk.{Falls, InsidePost, inside-post}
 
 -- ---- two ways to make attempts that answer alike give the same search
 

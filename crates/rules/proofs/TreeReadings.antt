@@ -6,23 +6,22 @@ use mathlib.Core.List.{List, [], _∷_, _++_, append-nil}
 use mathlib.Core.Bool.{Bool, false}
 use mathlib.Core.Logic.{inl, inr, ⊎-elim, _≢_, _↔_}
 use mathlib.Core.Option.{Option, none, some}
-use Prim.Native.Nat.{ℕ, zero, suc, _+_, _-_, _*_, _≤_, _<_, zero-le, suc-le-suc}
+use Prim.Native.Nat.{ℕ, zero, suc, _+_, _-_, _*_, _≤_, zero-le, suc-le-suc}
 use native.Mathlib.Nat.{add-zero, zero-add, suc-add, le-of-suc-le-suc, not-suc-le-zero}
 use native.Mathlib.Omega.{arith}
-use lib.ListN.{length, getD, length-append}
-use lib.Seq.{getD-at}
+use lib.ListN.{length, length-append}
 use lib.Arith.{digits-div}
 use Rattle.rules.specs.Language.{lower, upper, Rank, pattern, branch, factor, primary, Tree, one, more, last, next, bare, times, letter, caret, dollar, empty, group, emptyLoop}
-use Rattle.rules.specs.Places.{Unrolled, uLetter, uCaret, uDollar, uEmpty, uSeq, uAlt, uOpt, uStar, Branches, uNil, uCons, copies, options, behind, repeated, UnrolledAt, forked, unrolled, unroll, pFork, pEnd, size, startOf, code, places}
+use Rattle.rules.specs.Places.{Unrolled, uLetter, uCaret, uDollar, uEmpty, uSeq, uAlt, uOpt, uStar, Branches, uNil, uCons, copies, options, behind, repeated, UnrolledAt, forked, unrolled, unroll, size, startOf, places}
 use Rattle.rules.specs.Readings.{Within, Rounds, Reads, SomeReading}
-use Rattle.rules.specs.Search.{lastOf, endOf, labels}
-use Rattle.rules.specs.Walk.{IsPath, here, there, accept, pairs, positionOf, firstAt, waysAt, pairWays, plain}
+use Rattle.rules.specs.Search.{plainFrom, lastOf, endOf, labels}
+use Rattle.rules.specs.Walk.{IsPath, here, there, accept, pairs, positionOf, firstAt, pairWays}
 use Rattle.rules.proofs.Bounds.{Bounds, in-order}
 use Rattle.rules.proofs.Counting.{forked-more, legal-unroll}
 use Rattle.rules.proofs.Paths.{path-found}
 use Rattle.rules.proofs.Plain.{plain-path}
-use Rattle.rules.proofs.Rank.{At, code-length, places-length}
-use Rattle.rules.proofs.UnrolledReadings.{ReadsU, ReadsAny, node-ways, node-label, Ext, complete, Cut, sound}
+use Rattle.rules.proofs.UnrolledReadings.{ReadsU, ReadsAny, Ext, complete, Cut, sound}
+use Rattle.rules.proofs.WholePattern.{whole, first-place, small, ends-here, end-says}
 
 -- ---- the tree and the unrolled pattern
 
@@ -189,59 +188,23 @@ module _ (holds : ℕ → ℕ → Bool) (n : ℕ) where
 
 -- ---- paths
 
--- t begins at its first place
-start-first : (t : Unrolled) (b : ℕ) → startOf t b (b + size t) ≡ b
-unfolding startOf size
-start-first (uLetter c) b = refl
-start-first uCaret b = refl
-start-first uDollar b = refl
-start-first uEmpty b = add-zero b
-start-first (uSeq x y) b =
-    let e : b + (size x + size y) ≡ b + size x + size y = omega arith in
-    rw (e, start-first y (b + size x)) (start-first x b)
-start-first (uAlt ts) b = refl
-start-first (uOpt lazy t) b = refl
-start-first (uStar lazy t) b = refl
-
 module _ (t : Unrolled) (holds : ℕ → ℕ → Bool) (n : ℕ) where
-  whole : At (places t) 0 (code t 0 (size t))
-  unfolding places
-  whole = record { rest = pEnd ∷ []; is = refl }
-
-  end-place : getD (places t) (size t) (pFork []) ≡ pEnd
-  unfolding places
-  end-place = getD-at (code t 0 (size t)) pEnd [] (pFork []) (size t) (code-length t 0 (size t))
-
-  first-place : startOf t 0 (size t) ≡ 0
-  first-place = rw zero-add at (start-first t 0)
-
   -- a path from END is END
   stops : {x : ℕ} {path : List ℕ} → pairWays holds n (places t) x ≡ accept → IsPath (pairWays holds n (places t)) x path → path ≡ x ∷ []
   stops e (here d) = refl
   stops e (there d m h) = let z : _≡_ {A = ℕ} 0 1 = cc in absurd (omega arith)
 
-  small : size t < length (places t)
-  small = rw (places-length t) (omega arith)
-
-  ends-here : (j : ℕ) → pairWays holds n (places t) (j * length (places t) + size t) ≡ accept
-  unfolding waysAt
-  ends-here j = node-ways (places t) holds n j (size t) pEnd small end-place
-
-  end-says : (j : ℕ) → labels (places t) ((j * length (places t) + size t) ∷ []) ≡ []
-  unfolding labels
-  end-says j = node-label (places t) holds n j (size t) pEnd [] small end-place
-
   -- a path from the first place is a reading
   pub path-reads : (i : ℕ) (path : List ℕ) → IsPath (pairWays holds n (places t)) (firstAt (length (places t)) i) path
       → ReadsU t holds n i (endOf (length (places t)) path) (labels (places t) path)
-  path-reads i path h = out (sound (places t) holds n t 0 (size t) whole (omega (arith, small)) small i path (rw (first-place, add-zero) h))
+  path-reads i path h = out (sound (places t) holds n t 0 (size t) (whole t) (omega (arith, (small t))) (small t) i path (rw (first-place t, add-zero) h))
     where
       out : Cut (places t) holds n (λ i j w. ReadsU t holds n i j w) i (size t) path → ReadsU t holds n i (endOf (length (places t)) path) (labels (places t) path)
       out c =
-          let s : c .rest ≡ (c .to * length (places t) + size t) ∷ [] = stops (ends-here (c .to)) (c .is) in
+          let s : c .rest ≡ (c .to * length (places t) + size t) ∷ [] = stops (ends-here t holds n (c .to)) (c .is) in
           let w : labels (places t) path ≡ c .word = c .said ∙ ap (λ (l : List ℕ). c .word ++ labels (places t) l) s
-          ∙ ap (λ (l : List ℕ). c .word ++ l) (end-says (c .to)) ∙ append-nil (c .word) in
-          let j : endOf (length (places t)) path ≡ c .to = ap (positionOf (length (places t))) (c .ends ∙ ap (lastOf 0) s) ∙ digits-div (c .to) small in
+          ∙ ap (λ (l : List ℕ). c .word ++ l) (end-says t holds n (c .to)) ∙ append-nil (c .word) in
+          let j : endOf (length (places t)) path ≡ c .to = ap (positionOf (length (places t))) (c .ends ∙ ap (lastOf 0) s) ∙ digits-div (c .to) (small t) in
           rw (w, j) (c .reads)
 
   -- every reading has a path, which says it
@@ -249,9 +212,9 @@ module _ (t : Unrolled) (holds : ℕ → ℕ → Bool) (n : ℕ) where
       → (path : List ℕ) × (IsPath (pairWays holds n (places t)) (firstAt (length (places t)) i) path) × (endOf (length (places t)) path ≡ j) × (labels (places t) path ≡ w)
   reads-path i j w r =
       let y : Ext (places t) holds n i (startOf t 0 (size t)) w ((j * length (places t) + size t) ∷ []) =
-      complete (places t) holds n t 0 (size t) whole (omega (arith, small)) small i j w r ((j * length (places t) + size t) ∷ []) (here (ends-here j)) in
-      let h : IsPath (pairWays holds n (places t)) (firstAt (length (places t)) i) (y .way) = rw (first-place, add-zero) at (y .is) in
-      let d : labels (places t) (y .way) ≡ w = y .said ∙ ap (λ (l : List ℕ). w ++ l) (end-says j) ∙ append-nil w in
+      complete (places t) holds n t 0 (size t) (whole t) (omega (arith, (small t))) (small t) i j w r ((j * length (places t) + size t) ∷ []) (here (ends-here t holds n j)) in
+      let h : IsPath (pairWays holds n (places t)) (firstAt (length (places t)) i) (y .way) = rw (first-place t, add-zero) at (y .is) in
+      let d : labels (places t) (y .way) ≡ w = y .said ∙ ap (λ (l : List ℕ). w ++ l) (end-says t holds n j) ∙ append-nil w in
       let a = unrolled-taken holds n t i (endOf (length (places t)) (y .way)) (labels (places t) (y .way)) (path-reads i (y .way) h) in
       let b = unrolled-taken holds n t i j w r in
       (y .way, h, omega (arith, a .rows, b .rows, ap length d), d)
@@ -262,25 +225,21 @@ module _ (p : Tree pattern) (holds : ℕ → ℕ → Bool) (n : ℕ) where
   abbrev P : ℕ
   P = length (places (unroll p))
 
-  -- from the first place at a start
-  abbrev pub plainFrom : ℕ → Option (List ℕ)
-  plainFrom i = plain (pairWays holds n (places (unroll p))) (pairs P n) (firstAt P i)
-
   -- the path found is a reading
-  pub found-reads : Bounds p → (i : ℕ) (path : List ℕ) → plainFrom i ≡ some path → Reads p holds n i (endOf P path) (labels (places (unroll p)) path)
+  pub found-reads : Bounds p → (i : ℕ) (path : List ℕ) → plainFrom holds n (places (unroll p)) i ≡ some path → Reads p holds n i (endOf P path) (labels (places (unroll p)) path)
   found-reads o i path e =
       unrolled-reads holds n p o i (endOf P path) (labels (places (unroll p)) path)
       (path-reads (unroll p) holds n i path (plain-path (pairWays holds n (places (unroll p))) (pairs P n) (firstAt P i) path e))
 
   -- where there is a reading, a path is found
-  pub reading-found : emptyLoop p ≡ false → (i j : ℕ) (w : List ℕ) → Reads p holds n i j w → plainFrom i ≢ none
+  pub reading-found : emptyLoop p ≡ false → (i j : ℕ) (w : List ℕ) → Reads p holds n i j w → plainFrom holds n (places (unroll p)) i ≢ none
   reading-found g i j w r = path-found (unroll p) (legal-unroll p g) holds n (reads-path (unroll p) holds n i j w (reads-unrolled holds n p i j w r) .1)
 
   -- a path is found at a start exactly if some reading exists there
-  pub match-exactly : emptyLoop p ≡ false → Bounds p → (i : ℕ) → ((path : List ℕ) × (plainFrom i ≡ some path)) ↔ SomeReading p holds n i
+  pub match-exactly : emptyLoop p ≡ false → Bounds p → (i : ℕ) → ((path : List ℕ) × (plainFrom holds n (places (unroll p)) i ≡ some path)) ↔ SomeReading p holds n i
   match-exactly g o i =
-      (λ f. (endOf P (f .0), labels (places (unroll p)) (f .0), found-reads o i (f .0) (f .1)), λ r. go (plainFrom i) refl (reading-found g i (r .0) (r .1) (r .2)))
+      (λ f. (endOf P (f .0), labels (places (unroll p)) (f .0), found-reads o i (f .0) (f .1)), λ r. go (plainFrom holds n (places (unroll p)) i) refl (reading-found g i (r .0) (r .1) (r .2)))
     where
-      go : (a : Option (List ℕ)) → plainFrom i ≡ a → plainFrom i ≢ none → (path : List ℕ) × (plainFrom i ≡ some path)
+      go : (a : Option (List ℕ)) → plainFrom holds n (places (unroll p)) i ≡ a → plainFrom holds n (places (unroll p)) i ≢ none → (path : List ℕ) × (plainFrom holds n (places (unroll p)) i ≡ some path)
       go none e h = absurd (h e)
       go (some path) e h = (path, e)

@@ -3,13 +3,13 @@
 use mathlib.Core.Bool.{Bool, true, false, not, _||_}
 use mathlib.Core.List.{List, [], _∷_, _++_}
 use mathlib.Core.Option.{Option, none, some}
-use Prim.Native.Nat.{ℕ, zero, suc, _+_, _%_}
+use Prim.Native.Nat.{ℕ, suc, _+_, _%_}
 use lib.Dec.{ltb, eqb}
 use lib.IntN.{ℤ}
 use lib.ListN.{length}
 use Rattle.rules.specs.Basics.{pick, inRange, every, has, wrote}
 use Rattle.rules.specs.Rows.{Table, tableOf, Comparison, holds}
-use Rattle.rules.specs.Query.{cut, misplaced, unfit, doubled, columnsOf, textOf, Measure, Parts, parts}
+use Rattle.rules.specs.Query.{cut, misplaced, unfit, doubled, columnsOf, textOf, Measure, parts}
 use Rattle.rules.specs.Language.{Tree, pattern, emptyLoop, letters}
 use Rattle.rules.specs.Reader.{treeOf}
 use Rattle.rules.specs.Places.{Place, unroll, places, placesOf}

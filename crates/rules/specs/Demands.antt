@@ -1,16 +1,15 @@
 -- The tender's demands 2 and 3 for an accepted search, in the words of the definitions. `demands` (proofs/Demands) proves them for every query, all rows
 -- and all lent buffers with which a search is accepted, for both skip modes, whether it ends as done or stopped.
 use mathlib.Core.Path.{_≡_}
-use mathlib.Core.Bool.{Bool, true, false}
+use mathlib.Core.Bool.{true, false}
 use mathlib.Core.List.{List}
 use mathlib.Core.Logic.{_↔_}
-use mathlib.Core.Option.{Option, none, some}
+use mathlib.Core.Option.{Option, some}
 use Prim.Native.Nat.{ℕ, _+_, _*_, _≤_, _<_}
 use lib.IntN.{ℤ}
 use lib.ListN.{length, getD}
 use Rattle.rules.specs.Query.{textOf}
 use Rattle.rules.specs.Language.{Tree, pattern, Written}
-use Rattle.rules.specs.Places.{Place}
 use Rattle.rules.specs.Readings.{Reads, SomeReading}
 use Rattle.rules.specs.Preferment.{Preferred, Reports}
 use Rattle.rules.specs.Walk.{pairs, pairWays, IsPath, countTrue}
@@ -20,14 +19,17 @@ use Rattle.rules.specs.Answers.{Task, taskOf, letterHolds, Buffers, walk
 
 -- ---- demand 2
 
+-- a match at the start i, which is the path of the first success there, has its end at j and the labels w
+abbrev pub MatchAt : Task → ℕ → ℕ → List ℕ → Type 0
+MatchAt t i j w =
+    (path : List ℕ) × ((plainFrom (letterHolds t) (t .table .n) (t .places) i ≡ some path) × (endOf (length (t .places)) path ≡ j) × (labels (t .places) path ≡ w))
+
 -- for a task with the pattern p and so many report numbers and label bytes, the search r
 pub record Demand2 (p : Tree pattern) (t : Task) (nums labs : ℕ) (r : Swept Kept) : Type 0 where
   -- a start has a match exactly if some reading of the pattern exists there
   pub exists : (i : ℕ) → ((path : List ℕ) × (plainFrom (letterHolds t) (t .table .n) (t .places) i ≡ some path)) ↔ SomeReading p (letterHolds t) (t .table .n) i
   -- the match is the preferred one: its end and its labels are those of the greatest derivation that reads there
-  pub preferred : (i j : ℕ) (w : List ℕ)
-      → ((path : List ℕ) × (plainFrom (letterHolds t) (t .table .n) (t .places) i ≡ some path) × (endOf (length (t .places)) path ≡ j) × (labels (t .places) path ≡ w))
-          ↔ Preferred p (letterHolds t) (t .table .n) i j w
+  pub preferred : (i j : ℕ) (w : List ℕ) → MatchAt t i j w ↔ Preferred p (letterHolds t) (t .table .n) i j w
   -- and so a reading
   pub reads : (i j : ℕ) (w : List ℕ) → Preferred p (letterHolds t) (t .table .n) i j w → Reads p (letterHolds t) (t .table .n) i j w
   -- the report holds the preferred matches at the starts that the skip mode lets us try, in order, each with its labels, up to the one that does not fit

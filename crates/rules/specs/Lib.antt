@@ -7,6 +7,7 @@ pub mod Readings
 pub mod Walk
 pub mod Search
 pub mod Preferment
+pub mod Clause627
 pub mod Report
 pub mod Reader
 pub mod Answers

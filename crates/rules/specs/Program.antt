@@ -1,6 +1,6 @@
 -- Document 01, the last paragraph of "Report": what the program prints, as a function from the bytes of standard input to the bytes of standard
 -- output.
-use mathlib.Core.Bool.{Bool, true, false, not, _||_}
+use mathlib.Core.Bool.{not, _||_}
 use mathlib.Core.List.{List, [], _∷_, _++_}
 use mathlib.Core.Option.{Option, none, some}
 use Prim.Native.Nat.{ℕ, zero, suc, _+_, _*_, _-_, _/_, _%_}
@@ -10,7 +10,6 @@ use lib.ListN.{length, take, drop}
 use Rattle.rules.specs.Basics.{pick, tabulate, le16, le32, signed32, bytes}
 use Rattle.rules.specs.Rows.{Table}
 use Rattle.rules.specs.Query.{Measure}
-use Rattle.rules.specs.Places.{Place}
 use Rattle.rules.specs.Search.{Match, Swept, Kept, labels}
 use Rattle.rules.specs.Report.{measured}
 use Rattle.rules.specs.Answers.{badRows, roomAnswer, pairsOf, Task, taskOf, walked, stopped}

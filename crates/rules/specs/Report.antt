@@ -1,13 +1,13 @@
 -- Document 01, "Report": measures, what one match appends to the numbers and the labels, when it fits, and what the notes and the trail hold
 -- afterwards.
-use mathlib.Core.Bool.{Bool, true, false, _&&_, _||_}
+use mathlib.Core.Bool.{Bool, false, _&&_, _||_}
 use mathlib.Core.List.{List, [], _∷_, _++_}
 use mathlib.Core.Option.{Option, none, some}
 use Prim.Native.Nat.{ℕ, zero, suc, _+_, _*_, _/_, _%_, _^_}
 use lib.Dec.{leb, eqb}
 use lib.IntN.{ℤ, pos, _+ℤ_}
 use lib.Signed.{ltZ}
-use lib.ListN.{length, getD, drop, replicate}
+use lib.ListN.{length, getD, replicate}
 use Rattle.rules.specs.Basics.{pick, keep, tabulate}
 use Rattle.rules.specs.Rows.{Table, entry}
 use Rattle.rules.specs.Query.{Measure}
