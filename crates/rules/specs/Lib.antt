@@ -8,3 +8,4 @@ pub mod Walk
 pub mod Search
 pub mod Preferment
 pub mod Reader
+pub mod Clause627

@@ -1,0 +1,52 @@
+-- ISO/IEC 19075-5, clause 6.2.7, "Infinite repetitions of empty matches": the derivations that it leaves in the parenthesised language.
+-- Document 01 leaves none out, and it decides: no rule of the search uses this file. It is here to say where the two agree
+-- (proofs/EmptyRounds) and where they do not (proofs/Differs).
+use mathlib.Core.List.{List, [], _∷_, _++_, flatMap}
+use mathlib.Core.Bool.{Bool, true, false, _&&_, _||_}
+use mathlib.Core.Logic.{inl, inr}
+use Prim.Native.Nat.{ℕ, _-_}
+use lib.ListN.{length}
+use lib.Dec.{ltb, leb}
+use Rattle.rules.specs.Basics.{every}
+use Rattle.rules.specs.Language.{lower, Rank, Tree, one, more, last, next, bare, times, letter, caret, dollar, empty, group}
+use Rattle.rules.specs.Preferment.{Derivation}
+
+-- the labels of a derivation: its parenthesised string without the special symbols, one label for each row
+unfoldable pub word : {k : Rank} → (t : Tree k) → Derivation t → List ℕ
+unfolding Derivation flatMap
+word (one b) d = word b d
+word (more b p) (inl d) = word b d
+word (more b p) (inr d) = word p d
+word (last f) d = word f d
+word (next f b) d = word f (d .0) ++ word b (d .1)
+word (bare x) d = word x d
+word (times x f z) d = flatMap (λ y. word x y) (d .0)
+word (letter c) d = c ∷ []
+word caret d = []
+word dollar d = []
+word empty d = []
+word (group p) d = word p d
+
+-- "an empty match can only occur in the following positions within the trace of a quantifier with lower bound n: as the last match, or as a
+-- match in a position between 1 and n-1": the first round, where another follows, takes a row or stands at such a position; the same holds of
+-- the rounds behind it, whose positions count one less
+unfoldable pub emptyLate : {A : Type 0} → (A → List ℕ) → ℕ → List A → Bool
+emptyLate f lo [] = true
+emptyLate f lo (d ∷ []) = true
+emptyLate f lo (d ∷ e ∷ ds) = (leb 2 lo || ltb 0 (length (f d))) && emptyLate f (lo - 1) (e ∷ ds)
+
+-- clause 6.2.7 leaves d in the language
+unfoldable pub allowed : {k : Rank} → (t : Tree k) → Derivation t → Bool
+unfolding Derivation emptyLate word every lower
+allowed (one b) d = allowed b d
+allowed (more b p) (inl d) = allowed b d
+allowed (more b p) (inr d) = allowed p d
+allowed (last f) d = allowed f d
+allowed (next f b) d = allowed f (d .0) && allowed b (d .1)
+allowed (bare x) d = allowed x d
+allowed (times x f z) d = emptyLate (word x) (lower f) (d .0) && every (λ y. allowed x y) (d .0)
+allowed (letter c) d = true
+allowed caret d = true
+allowed dollar d = true
+allowed empty d = true
+allowed (group p) d = allowed p d
