@@ -12,3 +12,9 @@ pub mod Starts
 pub mod Promise
 pub mod PrefermentOrder
 pub mod DerivationReadings
+pub mod Bounds
+pub mod Counting
+pub mod DerivationPath
+pub mod PlainFinds
+pub mod WholePattern
+pub mod GreatestDerivation
