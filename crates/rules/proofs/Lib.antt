@@ -18,3 +18,4 @@ pub mod DerivationPath
 pub mod PlainFinds
 pub mod WholePattern
 pub mod GreatestDerivation
+pub mod PrefermentReports
