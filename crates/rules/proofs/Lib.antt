@@ -19,3 +19,5 @@ pub mod PlainFinds
 pub mod WholePattern
 pub mod GreatestDerivation
 pub mod PrefermentReports
+pub mod EmptyRounds
+pub mod Differs
