@@ -21,3 +21,4 @@ pub mod GreatestDerivation
 pub mod PrefermentReports
 pub mod EmptyRounds
 pub mod Differs
+pub mod Strings
