@@ -21,4 +21,6 @@ pub mod GreatestDerivation
 pub mod PrefermentReports
 pub mod EmptyRounds
 pub mod Differs
+pub mod Listing
+pub mod Clause62
 pub mod Strings

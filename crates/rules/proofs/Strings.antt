@@ -1,5 +1,5 @@
--- A derivation as clause 6.2 of ISO/IEC 19075-5 writes it, in parentheses (`text`); each derivation has a string of its own (`text-own`). Three or
--- more branches, and three or more factors, nest to the right, as the tree does: the clause prints none.
+-- The strings of clause 6.2 (`text` of proofs/Clause62) tell derivations apart: no two derivations of a phrase have the same one (`text-own`), as
+-- the clause says of its parenthesised language.
 use mathlib.Core.Path.{_≡_, refl, ap, ap₂, sym, _∙_}
 use mathlib.Core.List.{List, [], _∷_, _++_, append-assoc, flatMap, tail-eq-of-cons-eq}
 use mathlib.Core.Bool.{Bool, true, false}
@@ -11,31 +11,8 @@ use native.Mathlib.Omega.{arith}
 use lib.ListN.{length}
 use Rattle.rules.specs.Language.{upper, Rank, Tree, one, more, last, next, bare, times, letter, caret, dollar, empty, group}
 use Rattle.rules.specs.Preferment.{Derivation}
+use Rattle.rules.proofs.Clause62.{Symbol, left, right, dash, atStart, atEnd, name, text}
 use Rattle.rules.proofs.PrefermentOrder.{within-prop}
-
--- ( ) - ^ $ and the letters
-pub data Symbol : Type 0 where
-  left right dash atStart atEnd : Symbol
-  name : ℕ → Symbol
-
--- 6.2.1: a dash stands for the branch that is not taken. 6.2.2, 6.2.3: a concatenation and an expanded quantifier stand in parentheses. 6.2.5: an
--- anchor is itself. 6.2.6: the empty pattern is a pair of parentheses.
-unfoldable pub text : {k : Rank} (t : Tree k) → Derivation t → List Symbol
-unfolding Derivation flatMap
-text (one b) d = text b d
-text (more b p) (inl d) = left ∷ text b d ++ (dash ∷ right ∷ [])
-text (more b p) (inr d) = left ∷ dash ∷ text p d ++ (right ∷ [])
-text (last f) d = text f d
-text (next f b) d = left ∷ text f (d .0) ++ (text b (d .1) ++ (right ∷ []))
-text (bare x) d = text x d
-text (times x f z) d = left ∷ flatMap (λ y. text x y) (d .0) ++ (right ∷ [])
-text (letter c) d = name c ∷ []
-text caret d = atStart ∷ []
-text dollar d = atEnd ∷ []
-text empty d = left ∷ right ∷ []
-text (group p) d = text p d
-
--- ---- no two derivations of a phrase have the same string
 
 -- a symbol that can begin a string
 abbrev opens : Symbol → Bool
