@@ -50,7 +50,7 @@ ForkRuns T P zero b i d j p = T b i d j p
 ForkRuns T P (suc m) b i d j p = (q : List ℕ) × (T (suc b) i d j q) × (p ≡ pairAt P i b ∷ q)
 
 -- of a pattern: through its branches, without its fork
-unfoldable pub Runs : {k : Rank} → (t : Tree k) → ℕ → ℕ → ℕ → Derivation t → ℕ → List ℕ → Type 0
+unfoldable pub Runs : {k : Rank} → (t : Tree k) → ℕ → Routes (Derivation t)
 unfolding Derivation unrolled size fork lower upper CopyRuns BehindRuns ForkRuns
 Runs (one t) P b i d j p = Runs t P b i d j p
 Runs (more t ts) P b i d j p = Either (λ x. Runs t P b i x j p) (λ x. Runs ts P (b + size (unrolled t)) i x j p) d
@@ -135,7 +135,7 @@ runs-one P (next s t) b i d j j′ p p′ r r′ =
     (λ x j j′ v v′ a a′. runs-one P t (b + size (unrolled s)) x (d .1) j j′ v v′ a a′) j j′ p p′ r r′
 runs-one P (bare t) b i d j j′ p p′ r r′ = runs-one P t b i d j j′ p p′ r r′
 runs-one P (times t f z) b i d j j′ p p′ r r′ =
-    let T : ℕ → ℕ → Derivation t → ℕ → List ℕ → Type 0 = λ b i d j p. Runs t P b i d j p in
+    let T : Routes (Derivation t) = λ b i d j p. Runs t P b i d j p in
     let h : One T = λ b i d j j′ p p′ a a′. runs-one P t b i d j j′ p p′ a a′ in
     let s : ℕ = size (unrolled t) in
     copy-one T h s P (BehindRuns T s P (upper f) (lower f)) (behind-one T h s P (upper f) (lower f)) (lower f) b i (d .0) j j′ p p′ r r′

@@ -1,30 +1,29 @@
 -- The first success of plain backtracking is the greatest derivation that parses at the start (`preferred`), for every pattern that is not
 -- refused: an induction on the pattern as it is written, over what plain backtracking finds behind a part of it (proofs/PlainFinds). There is
 -- one greatest derivation at most, so one end and one list of labels (`greatest-one`, `greatest-same`, `others-after`).
-use mathlib.Core.Path.{_≡_, refl, ap, sym, _∙_, subst}
+use mathlib.Core.Path.{_≡_, refl, ap, sym, _∙_}
 use mathlib.Core.List.{List, [], _∷_, _++_, append-nil}
-use mathlib.Core.Bool.{Bool, true, false, _&&_}
+use mathlib.Core.Bool.{Bool, false, _&&_}
 use mathlib.Core.Logic.{_⊎_, inl, inr, _↔_}
 use mathlib.Core.Option.{Option, none, some}
-use Prim.Native.Nat.{ℕ, suc, _+_, _*_}
+use Prim.Native.Nat.{ℕ, suc}
 use native.Mathlib.Nat.{add-zero}
 use native.Mathlib.Omega.{arith}
 use lib.ListN.{length}
 use lib.Arith.{digits-div}
 use lib.Dec.{ltb, eqb}
 use borrow.Author.Tests.{ltb-true, eqb-true, lt-ltb, eq-eqb}
-use Rattle.rules.specs.Clause627.{word}
 use Rattle.rules.specs.Language.{lower, upper, Rank, pattern, branch, factor, primary, Tree, one, more, last, next, bare, times, letter, caret, dollar, empty, group, emptyLoop}
-use Rattle.rules.specs.Places.{Unrolled, UnrolledAt, uAlt, forked, unrolled, unroll, repeated, size, startOf, code, Place, pLetter, pCaret, pDollar, pFork, places, fork}
-use Rattle.rules.specs.Preferment.{Derivation, InTurn, Parses, Prefers, NoneParses, Preferred}
+use Rattle.rules.specs.Places.{UnrolledAt, forked, unrolled, unroll, repeated, size, startOf, code, Place, pLetter, pCaret, pDollar, pFork, places, fork}
+use Rattle.rules.specs.Preferment.{Derivation, Parses, Prefers, NoneParses, Preferred}
 use Rattle.rules.specs.Search.{labels, lastOf, endOf}
-use Rattle.rules.specs.Walk.{Ways, pairs, pairAt, positionOf, firstAt, waysAt, pairWays, plain, plainBy}
+use Rattle.rules.specs.Walk.{Ways, pairs, pairAt, positionOf, waysAt, pairWays, plain, plainBy}
 use Rattle.rules.proofs.Bounds.{Bounds, bounds-within}
 use Rattle.rules.proofs.Counting.{forked-more}
-use Rattle.rules.proofs.DerivationPath.{ForkRuns, Runs, PathOf, path-one}
+use Rattle.rules.proofs.DerivationPath.{Routes, ForkRuns, Runs, PathOf, path-one}
 use Rattle.rules.proofs.DerivationReadings.{parses-one}
 use Rattle.rules.proofs.Level.{and-true}
-use Rattle.rules.proofs.PlainFinds.{Post, Settled, Finds, FindsOne, labels-append, through, pass-by, finds-one, finds-only, finds-first, finds-alt, finds-seq, finds-rounds}
+use Rattle.rules.proofs.PlainFinds.{Reading, Order, Post, Settled, Finds, FindsOne, labels-append, through, pass-by, finds-one, finds-only, finds-first, finds-alt, finds-seq, finds-rounds}
 use Rattle.rules.proofs.PrefermentOrder.{Compared, before, same, after, total-order}
 use Rattle.rules.proofs.Rank.{at-head}
 use Rattle.rules.proofs.WholePattern.{whole, first-place, small, ends-here, end-says, plainFrom, plain-ways}
@@ -33,14 +32,14 @@ use Rattle.rules.proofs.WholePattern.{whole, first-place, small, ends-h
 
 module _ (pl : List Place) (holds : ℕ → ℕ → Bool) (n : ℕ) (f : ℕ → Option (List ℕ)) (down : (x : ℕ) → f x ≡ plainBy (pairWays holds n pl x) f x) where
   -- a pattern unrolls to branches, any other phrase to one part
-  abbrev FindsAt : (k : Rank) → {A : Type 0} → (A → ℕ → ℕ → List ℕ → Type 0) → (A → A → Type 0) → (ℕ → ℕ → A → ℕ → List ℕ → Type 0) → UnrolledAt k → Type 0
+  abbrev FindsAt : (k : Rank) → {A : Type 0} → Reading A → Order A → Routes A → UnrolledAt k → Type 0
   FindsAt pattern R L T ts = FindsOne pl holds n f down R L T ts
   FindsAt branch R L T t = Finds pl holds n f down R L T t
   FindsAt factor R L T t = Finds pl holds n f down R L T t
   FindsAt primary R L T t = Finds pl holds n f down R L T t
 
   -- with its fork, if it has one
-  finds-forked : {A : Type 0} (R : A → ℕ → ℕ → List ℕ → Type 0) (L : A → A → Type 0) (T : ℕ → ℕ → A → ℕ → List ℕ → Type 0) (p : Tree pattern)
+  finds-forked : {A : Type 0} (R : Reading A) (L : Order A) (T : Routes A) (p : Tree pattern)
       → FindsOne pl holds n f down R L T (unrolled p) → Finds pl holds n f down R L (ForkRuns T (length pl) (fork p)) (forked (unrolled p))
   unfolding unrolled forked fork ForkRuns
   finds-forked R L T (one b) x = finds-only pl holds n f down R L T (unrolled b) x

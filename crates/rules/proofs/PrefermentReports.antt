@@ -16,7 +16,7 @@ use Rattle.rules.specs.Search.{Match, Swept, labels, endOf, nextStart, b
 use Rattle.rules.specs.Walk.{pairs, firstAt, pairWays}
 use Rattle.rules.proofs.Bounds.{Bounds}
 use Rattle.rules.proofs.Counting.{legal-unroll}
-use Rattle.rules.proofs.GreatestDerivation.{Found, Answers, preferred, greatest-same}
+use Rattle.rules.proofs.GreatestDerivation.{Answers, preferred, greatest-same}
 use Rattle.rules.proofs.Promise.{walk-plain}
 use Rattle.rules.proofs.Starts.{next-on}
 use Rattle.rules.proofs.WholePattern.{plainFrom}
