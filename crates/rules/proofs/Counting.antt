@@ -1,16 +1,17 @@
 -- The places of a pattern counted on its tree: P is the length of the list of places. What can take no row and what is refused are told on the
 -- tree as on the unrolled pattern. And the count with a cap of 257 at every node: it says whether P is at most 256, and it stays small.
 use mathlib.Core.Path.{_≡_, refl, ap, sym, _∙_}
-use mathlib.Core.Bool.{Bool, true, false, not, _&&_, _||_, true≢false, false≢true}
-use mathlib.Core.Logic.{_⊎_, inl, inr, ⊎-elim, _≢_, _↔_}
+use mathlib.Core.Bool.{Bool, true, false, not, _&&_, _||_, false≢true}
+use mathlib.Core.Logic.{_↔_}
 use mathlib.Core.Option.{Option, none, some}
-use Prim.Native.Nat.{ℕ, zero, suc, _+_, _-_, _*_, _≤_, _<_, min}
+use Prim.Native.Nat.{ℕ, zero, suc, _+_, _-_, _*_, _≤_, suc-le-suc, min}
+use native.Mathlib.Nat.{mul-le-mul-left}
 use native.Mathlib.Omega.{arith}
 use lib.ListN.{length}
 use lib.Dec.{eqb}
 use borrow.Author.Tests.{ne-eqb}
 use Rattle.rules.specs.Language.{Form, star, plus, opt, exactly, atLeast, atMost, between, lower, upper, InBounds, Rank, pattern, branch, factor, primary, Tree, one, more, last, next, bare, times, letter, caret, dollar, empty, group, nullable, unbounded, emptyLoop}
-use Rattle.rules.specs.Places.{Unrolled, uStar, uAlt, Branches, uNil, uCons, copies, options, behind, repeated, UnrolledAt, forked, unrolled, unroll, size, sizes, places, roundPlaces, fork, placeCount, placesOf}
+use Rattle.rules.specs.Places.{Unrolled, uStar, uAlt, copies, options, behind, repeated, UnrolledAt, forked, unrolled, unroll, size, sizes, places, roundPlaces, fork, placeCount, placesOf}
 use Rattle.rules.proofs.Bounds.{Bounds}
 use Rattle.rules.proofs.Level.{or-false, and-true, skips, anySkips, legal, allLegal}
 use Rattle.rules.proofs.Rank.{places-length}
@@ -101,18 +102,14 @@ skipsAt branch t = skips t
 skipsAt factor t = skips t
 skipsAt primary t = skips t
 
-or-none : (a : Bool) → (a || false) ≡ a
-or-none true = refl
-or-none false = refl
-
 forked-skips : (p : Tree pattern) → skips (forked (unrolled p)) ≡ anySkips (unrolled p)
 unfolding skips unrolled forked
-forked-skips (one b) = sym (or-none (skips (unrolled b)))
+forked-skips (one b) = sym (mathlib.Core.Bool.or-false (skips (unrolled b)))
 forked-skips (more b p) = rw (forked-more b p)
 
 unrolled-skips : {k : Rank} (t : Tree k) → skipsAt k (unrolled t) ≡ nullable t
 unfolding unrolled skips nullable repeated
-unrolled-skips (one b) = or-none (skips (unrolled b)) ∙ unrolled-skips b
+unrolled-skips (one b) = mathlib.Core.Bool.or-false (skips (unrolled b)) ∙ unrolled-skips b
 unrolled-skips (more b p) = rw (unrolled-skips b, unrolled-skips p)
 unrolled-skips (last f) = unrolled-skips f
 unrolled-skips (next f b) = rw (unrolled-skips f, unrolled-skips b)
@@ -138,13 +135,9 @@ legalAt branch t = legal t
 legalAt factor t = legal t
 legalAt primary t = legal t
 
-and-all : (a : Bool) → (a && true) ≡ a
-and-all true = refl
-and-all false = refl
-
 forked-legal : (p : Tree pattern) → legal (forked (unrolled p)) ≡ allLegal (unrolled p)
 unfolding legal unrolled forked
-forked-legal (one b) = sym (and-all (legal (unrolled b)))
+forked-legal (one b) = sym (mathlib.Core.Bool.and-true (legal (unrolled b)))
 forked-legal (more b p) = rw (forked-more b p)
 
 copies-legal : (m : ℕ) (t r : Unrolled) → legal t ≡ true → legal r ≡ true → legal (copies m t r) ≡ true
@@ -309,18 +302,14 @@ pub record SmallRounds (lo : ℕ) (hi : Option ℕ) (c : ℕ) : Type 0 where
   pub copies : lo * c ≤ 25443
   pub all : roundPlaces lo hi c ≤ 25701
 
-product-le : (m c d : ℕ) → c ≤ d → m * c ≤ m * d
-product-le zero c d h = omega arith
-product-le (suc m) c d h = omega (arith, product-le m c d h)
-
 unbounded-small : (lo c : ℕ) → lo ≤ 99 → c ≤ 257 → SmallRounds lo none c
 unfolding roundPlaces
-unbounded-small lo c h l = record { copies = omega (arith, product-le lo c 257 l); all = omega (arith, product-le lo c 257 l) }
+unbounded-small lo c h l = record { copies = omega (arith, mul-le-mul-left lo l); all = omega (arith, mul-le-mul-left lo l) }
 
 bounded-small : (lo hi c : ℕ) → lo ≤ hi → hi ≤ 99 → c ≤ 257 → SmallRounds lo (some hi) c
 unfolding roundPlaces
 bounded-small lo hi c o h l =
-    record { copies = omega (arith, product-le lo c 257 l); all = omega (arith, product-le lo c 257 l, product-le (hi - lo) (1 + c) 258 (omega arith)) }
+    record { copies = omega (arith, mul-le-mul-left lo l); all = omega (arith, mul-le-mul-left lo l, mul-le-mul-left (hi - lo) (suc-le-suc l)) }
 
 pub rounds-small : (f : Form) → InBounds f → (c : ℕ) → c ≤ 257 → SmallRounds (lower f) (upper f) c
 unfolding InBounds lower upper

@@ -16,9 +16,9 @@ use borrow.Author.Tests.{ltb-true, eqb-true, lt-ltb, eq-eqb}
 use Rattle.rules.specs.Language.{lower, upper, Rank, pattern, branch, factor, primary, Tree, one, more, last, next, bare, times, letter, caret, dollar, empty, group, emptyLoop}
 use Rattle.rules.specs.Places.{UnrolledAt, forked, unrolled, unroll, repeated, size, startOf, code, Place, pLetter, pCaret, pDollar, pFork, places, fork}
 use Rattle.rules.specs.Preferment.{Derivation, Parses, Prefers, NoneParses, Preferred}
-use Rattle.rules.specs.Search.{labels, lastOf, endOf}
+use Rattle.rules.specs.Search.{plainFrom, labels, lastOf, endOf}
 use Rattle.rules.specs.Walk.{Ways, pairs, pairAt, positionOf, waysAt, pairWays, plain, plainBy}
-use Rattle.rules.proofs.Bounds.{Bounds, bounds-within}
+use Rattle.rules.proofs.Bounds.{Bounds, in-order}
 use Rattle.rules.proofs.Counting.{forked-more}
 use Rattle.rules.proofs.DerivationPath.{Routes, ForkRuns, Runs, PathOf, path-one}
 use Rattle.rules.proofs.DerivationReadings.{parses-one}
@@ -26,7 +26,7 @@ use Rattle.rules.proofs.Level.{and-true}
 use Rattle.rules.proofs.PlainFinds.{Reading, Order, Post, Settled, Finds, FindsOne, labels-append, through, pass-by, finds-one, finds-only, finds-first, finds-alt, finds-seq, finds-rounds}
 use Rattle.rules.proofs.PrefermentOrder.{Compared, before, same, after, total-order}
 use Rattle.rules.proofs.Rank.{at-head}
-use Rattle.rules.proofs.WholePattern.{whole, first-place, small, ends-here, end-says, plainFrom, plain-ways}
+use Rattle.rules.proofs.WholePattern.{whole, first-place, small, ends-here, end-says, plain-ways}
 
 -- ---- the induction
 
@@ -58,7 +58,7 @@ module _ (pl : List Place) (holds : ℕ → ℕ → Bool) (n : ℕ) (f : ℕ →
       finds-seq pl holds n f down (Parses s holds n) (Prefers s) (Parses t holds n) (Prefers t) (Runs s (length pl)) (Runs t (length pl)) (unrolled s) (unrolled t) (settled s) (finds s (o .0)) (finds t (o .1))
   finds (bare x) o = finds x o
   finds (times x q z) o =
-      finds-rounds pl holds n f down (Parses x holds n) (Prefers x) (Runs x (length pl)) z (unrolled x) (settled x) (finds x (o .1)) (lower q) (upper q) (bounds-within q (o .0))
+      finds-rounds pl holds n f down (Parses x holds n) (Prefers x) (Runs x (length pl)) z (unrolled x) (settled x) (finds x (o .1)) (lower q) (upper q) (in-order q (o .0))
   finds (letter c) o = λ b k a hb hk i.
       through pl holds n f down (Parses (letter c) holds n) (Prefers (letter c)) (Runs (letter c) (length pl) b i) i (suc i) b k (pLetter c k) (ltb i n && holds c i) tt (omega arith)
       (at-head pl b _ _ (pFork []) a) refl (λ e. let g = and-true (ltb i n) (holds c i) e in (ltb-true i n (g .0), g .1, refl, refl)) (refl, refl)
@@ -123,13 +123,13 @@ module _ (p : Tree pattern) (g : emptyLoop p ≡ false) (o : Bounds p) (holds : 
       }
 
   -- the match at a start is that of the greatest derivation
-  pub preferred : (i : ℕ) → Answers p holds n i (plainFrom p holds n i)
+  pub preferred : (i : ℕ) → Answers p holds n i (plainFrom holds n (places (unroll p)) i)
   unfolding unroll
   preferred i =
       let found : Post pl f (Parses p holds n) (Prefers p) (ForkRuns (Runs p (length pl)) (length pl) (fork p) 0 i) i (size (unroll p)) (f (pairAt (length pl) i (startOf (unroll p) 0 (size (unroll p))))) =
       finds-forked pl holds n f (plain-ways p g holds n) (Parses p holds n) (Prefers p) (Runs p (length pl)) p (finds pl holds n f (plain-ways p g holds n) p o) 0 (size (unroll p)) (whole (unroll p))
       (omega (arith, small (unroll p))) (small (unroll p)) i in
-      answer i (plainFrom p holds n i) (rw (first-place (unroll p), add-zero) at found)
+      answer i (plainFrom holds n (places (unroll p)) i) (rw (first-place (unroll p), add-zero) at found)
 
 -- ---- there is one greatest derivation at most
 
@@ -160,44 +160,44 @@ others-after {t} x e j′ w′ r = go (total-order t .compare e (x .derivation))
 
 module _ (p : Tree pattern) (g : emptyLoop p ≡ false) (o : Bounds p) (holds : ℕ → ℕ → Bool) (n : ℕ) where
   abbrev pub Finding : ℕ → ℕ → List ℕ → List ℕ → Type 0
-  Finding i j w path = (plainFrom p holds n i ≡ some path) × (endOf (length (places (unroll p))) path ≡ j) × (labels (places (unroll p)) path ≡ w)
+  Finding i j w path = (plainFrom holds n (places (unroll p)) i ≡ some path) × (endOf (length (places (unroll p))) path ≡ j) × (labels (places (unroll p)) path ≡ w)
 
   -- a path is found with these labels, up to this row, exactly if they are those of the greatest derivation
   pub found-is-greatest : (i j : ℕ) (w : List ℕ) → ((path : List ℕ) × Finding i j w path) ↔ Preferred p holds n i j w
-  found-is-greatest i j w = (to, λ x. from x (plainFrom p holds n i) refl (preferred p g o holds n i))
+  found-is-greatest i j w = (to, λ x. from x (plainFrom holds n (places (unroll p)) i) refl (preferred p g o holds n i))
     where
       to : (path : List ℕ) × Finding i j w path → Preferred p holds n i j w
       to x =
           let a : Answers p holds n i (some (x .0)) = rw (x .1 .0) at (preferred p g o holds n i) in
           rw (x .1 .1, x .1 .2) at (a .best)
 
-      from : Preferred p holds n i j w → (r : Option (List ℕ)) → plainFrom p holds n i ≡ r → Answers p holds n i r → (path : List ℕ) × Finding i j w path
+      from : Preferred p holds n i j w → (r : Option (List ℕ)) → plainFrom holds n (places (unroll p)) i ≡ r → Answers p holds n i r → (path : List ℕ) × Finding i j w path
       from x none e a = absurd (a (x .derivation) j w (x .parses))
       from x (some path) e a = let s = greatest-same (a .best) x in (path, (e, s .0, s .1))
 
   -- the path found is that of the greatest derivation
-  pub path-is-greatest : (i : ℕ) (path : List ℕ) → (plainFrom p holds n i ≡ some path) ↔ ((j : ℕ) × (w : List ℕ) × (x : Preferred p holds n i j w) × PathOf p (x .derivation) i j path)
-  path-is-greatest i path = (to, λ x. from x (plainFrom p holds n i) refl (preferred p g o holds n i))
+  pub path-is-greatest : (i : ℕ) (path : List ℕ) → (plainFrom holds n (places (unroll p)) i ≡ some path) ↔ ((j : ℕ) × (w : List ℕ) × (x : Preferred p holds n i j w) × PathOf p (x .derivation) i j path)
+  path-is-greatest i path = (to, λ x. from x (plainFrom holds n (places (unroll p)) i) refl (preferred p g o holds n i))
     where
-      to : plainFrom p holds n i ≡ some path → (j : ℕ) × (w : List ℕ) × (x : Preferred p holds n i j w) × PathOf p (x .derivation) i j path
+      to : plainFrom holds n (places (unroll p)) i ≡ some path → (j : ℕ) × (w : List ℕ) × (x : Preferred p holds n i j w) × PathOf p (x .derivation) i j path
       to e =
           let a : Answers p holds n i (some path) = rw e at (preferred p g o holds n i) in
           (endOf (length (places (unroll p))) path, labels (places (unroll p)) path, a .best, a .goes)
 
       from : (j : ℕ) × (w : List ℕ) × (x : Preferred p holds n i j w) × PathOf p (x .derivation) i j path
-          → (r : Option (List ℕ)) → plainFrom p holds n i ≡ r → Answers p holds n i r → plainFrom p holds n i ≡ some path
+          → (r : Option (List ℕ)) → plainFrom holds n (places (unroll p)) i ≡ r → Answers p holds n i r → plainFrom holds n (places (unroll p)) i ≡ some path
       from x none e a = absurd (a (x .2 .derivation) (x .0) (x .1) (x .2 .parses))
       from x (some q) e a =
           let y : PathOf p (x .2 .derivation) i (endOf (length (places (unroll p))) q) q = rw (greatest-one (a .best) (x .2)) at (a .goes) in
           e ∙ ap (λ (l : List ℕ). some l) (path-one y (x .3))
 
   -- nothing is found exactly if no derivation parses
-  pub none-is-none : (i : ℕ) → (plainFrom p holds n i ≡ none) ↔ NoneParses p holds n i
-  none-is-none i = (λ e. to e, λ x. from x (plainFrom p holds n i) refl (preferred p g o holds n i))
+  pub none-is-none : (i : ℕ) → (plainFrom holds n (places (unroll p)) i ≡ none) ↔ NoneParses p holds n i
+  none-is-none i = (λ e. to e, λ x. from x (plainFrom holds n (places (unroll p)) i) refl (preferred p g o holds n i))
     where
-      to : plainFrom p holds n i ≡ none → NoneParses p holds n i
+      to : plainFrom holds n (places (unroll p)) i ≡ none → NoneParses p holds n i
       to e = rw e at (preferred p g o holds n i)
 
-      from : NoneParses p holds n i → (r : Option (List ℕ)) → plainFrom p holds n i ≡ r → Answers p holds n i r → plainFrom p holds n i ≡ none
+      from : NoneParses p holds n i → (r : Option (List ℕ)) → plainFrom holds n (places (unroll p)) i ≡ r → Answers p holds n i r → plainFrom holds n (places (unroll p)) i ≡ none
       from x none e a = e
       from x (some path) e a = absurd (x (a .best .derivation) (endOf (length (places (unroll p))) path) (labels (places (unroll p)) path) (a .best .parses))

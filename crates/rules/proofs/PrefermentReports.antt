@@ -1,7 +1,7 @@
 -- The whole report told by the order of preferment alone (`Reports` of specs/Preferment): what the counted walk writes, and the match at which
 -- it stops, is such a report, in both skip modes and whatever the room (`walk-reports`), and there is one at most (`reports-one`).
 use mathlib.Core.Path.{_≡_, refl, ap, ap₂, sym, _∙_}
-use mathlib.Core.List.{List, [], _∷_, map}
+use mathlib.Core.List.{List, _∷_}
 use mathlib.Core.Bool.{Bool, true, false, true≢false}
 use mathlib.Core.Option.{Option, none, some}
 use Prim.Native.Nat.{ℕ, zero, suc, _+_, _≤_, _<_}
@@ -12,27 +12,13 @@ use borrow.Author.Tests.{ltb-true, ltb-false}
 use Rattle.rules.specs.Language.{pattern, Tree, emptyLoop}
 use Rattle.rules.specs.Places.{Place, places, unroll}
 use Rattle.rules.specs.Preferment.{Reports, finished, unmatched, matched, stopped}
-use Rattle.rules.specs.Search.{Match, Swept, labels, endOf, nextStart, below, byFit, onAnswer, sweep, plainAt, planOf, walkSearch, plainSearch}
+use Rattle.rules.specs.Search.{plainFrom, shown, shownFull, Swept, labels, endOf, nextStart, below, byFit, onAnswer, sweep, plainAt, planOf, walkSearch, plainSearch}
 use Rattle.rules.specs.Walk.{pairs, firstAt, pairWays}
 use Rattle.rules.proofs.Bounds.{Bounds}
 use Rattle.rules.proofs.Counting.{legal-unroll}
 use Rattle.rules.proofs.GreatestDerivation.{Answers, preferred, greatest-same}
-use Rattle.rules.proofs.Promise.{walk-plain}
+use Rattle.rules.proofs.PatternWalk.{walk-plain}
 use Rattle.rules.proofs.Starts.{next-on}
-use Rattle.rules.proofs.WholePattern.{plainFrom}
-
--- ---- what a search shows
-
--- the start and the labels of a match, of each match, and of the match that does not fit
-abbrev pub shownOne : List Place → Match → ℕ × List ℕ
-shownOne pl m = (m .start, labels pl (m .path))
-
-abbrev pub shown : List Place → List Match → List (ℕ × List ℕ)
-shown pl ms = map (shownOne pl) ms
-
-abbrev pub shownFull : List Place → Option Match → Option (ℕ × List ℕ)
-shownFull pl none = none
-shownFull pl (some m) = some (shownOne pl m)
 
 -- ---- the walk's report
 
@@ -68,9 +54,9 @@ module _ (p : Tree pattern) (g : emptyLoop p ≡ false) (o : Bounds p) (holds : 
       hit ih lt none a = unmatched lt a (ih (suc i) m l st (omega arith))
       hit ih lt (some path) a = fit ih lt path a (room m l (labels pl path)) refl
 
-      go : ToldWith k → (b : Bool) → ltb i n ≡ b → Told i m l (below b st (λ _. onAnswer (planOf pl n mode room) (run k) i m l (plainFrom p holds n i) st))
+      go : ToldWith k → (b : Bool) → ltb i n ≡ b → Told i m l (below b st (λ _. onAnswer (planOf pl n mode room) (run k) i m l (plainFrom holds n (places (unroll p)) i) st))
       go ih false e = finished (ltb-false i n e)
-      go ih true e = hit ih (ltb-true i n e) (plainFrom p holds n i) (preferred p g o holds n i)
+      go ih true e = hit ih (ltb-true i n e) (plainFrom holds n (places (unroll p)) i) (preferred p g o holds n i)
 
   -- the matches written, and the one at which the search stops, are the greatest derivations at their starts, and no start is left out
   pub walk-reports : Reports p holds n mode room 0 0 0 (shown pl (walkSearch holds n pl mode room .matches)) (shownFull pl (walkSearch holds n pl mode room .full))

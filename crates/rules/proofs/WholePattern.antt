@@ -1,10 +1,9 @@
 -- A whole pattern among its places: it begins at place 0 and END stands behind it, at which every path ends and nothing is said. And plain
--- backtracking from its first place (`plainFrom`), which with so many pairs to go through finds at a pair what its ways find (`plain-ways`).
+-- backtracking, which with as many pairs to go through as there are finds at a pair what its ways find (`plain-ways`).
 use mathlib.Core.Path.{_≡_, refl}
-use mathlib.Core.List.{List, [], _∷_}
+use mathlib.Core.List.{[], _∷_}
 use mathlib.Core.Bool.{Bool, false}
-use mathlib.Core.Option.{Option}
-use Prim.Native.Nat.{ℕ, suc, _+_, _*_, _<_}
+use Prim.Native.Nat.{ℕ, _+_, _<_}
 use native.Mathlib.Nat.{add-zero, zero-add}
 use native.Mathlib.Omega.{arith}
 use lib.ListN.{length, getD}
@@ -12,10 +11,11 @@ use lib.Seq.{getD-at}
 use Rattle.rules.specs.Language.{pattern, Tree, emptyLoop}
 use Rattle.rules.specs.Places.{Unrolled, uLetter, uCaret, uDollar, uEmpty, uSeq, uAlt, uOpt, uStar, unroll, size, startOf, code, pFork, pEnd, places}
 use Rattle.rules.specs.Search.{labels}
-use Rattle.rules.specs.Walk.{accept, pairs, pairAt, firstAt, waysAt, pairWays, plain, plainBy}
+use Rattle.rules.specs.Walk.{accept, pairs, pairAt, waysAt, pairWays, plain, plainBy}
 use Rattle.rules.proofs.Counting.{legal-unroll}
+use Rattle.rules.proofs.PatternWalk.{falls, top}
 use Rattle.rules.proofs.Plain.{plain-down}
-use Rattle.rules.proofs.Rank.{At, code-length, places-length, rank, pattern-falls, pattern-top}
+use Rattle.rules.proofs.Rank.{At, code-length, places-length, rank}
 use Rattle.rules.proofs.UnrolledReadings.{node-ways, node-label}
 
 -- t begins at its first place
@@ -56,14 +56,10 @@ module _ (t : Unrolled) where
     unfolding labels
     end-says j = node-label (places t) holds n j (size t) pEnd [] small end-place
 
--- what plain backtracking finds from the first place at the start i
-abbrev pub plainFrom : Tree pattern → (ℕ → ℕ → Bool) → ℕ → ℕ → Option (List ℕ)
-plainFrom p holds n i = plain (pairWays holds n (places (unroll p))) (pairs (length (places (unroll p))) n) (firstAt (length (places (unroll p))) i)
-
 pub plain-ways : (p : Tree pattern) → emptyLoop p ≡ false → (holds : ℕ → ℕ → Bool) (n x : ℕ)
     → plain (pairWays holds n (places (unroll p))) (pairs (length (places (unroll p))) n) x
     ≡ plainBy (pairWays holds n (places (unroll p)) x) (plain (pairWays holds n (places (unroll p))) (pairs (length (places (unroll p))) n)) x
 plain-ways p g holds n x =
     let t : Unrolled = unroll p in
-    plain-down (pairWays holds n (places t)) (rank t n) (suc (size t) * suc n) (pattern-falls t (legal-unroll p g) holds n) (pairs (length (places t)) n)
-    (λ x. rw (places-length t) (pattern-top t (legal-unroll p g) holds n x)) x
+    let l = legal-unroll p g in
+    plain-down (pairWays holds n (places t)) (rank t n) (pairs (length (places t)) n) (falls t l holds n) (pairs (length (places t)) n) (top t l holds n) x

@@ -1,4 +1,4 @@
--- ISO/IEC 19075-5, clause 6.2.7, "Infinite repetitions of empty matches": the derivations that it leaves in the parenthesised language.
+-- ISO/IEC 19075-5, clause 6.2.7, on rounds that take no row: the derivations that it leaves in the parenthesised language.
 -- Document 01 leaves none out, and it decides: no rule of the search uses this file. It is here to say where the two agree
 -- (proofs/EmptyRounds) and where they do not (proofs/Differs).
 use mathlib.Core.Path.{_≡_}
@@ -29,9 +29,8 @@ word dollar d = []
 word empty d = []
 word (group p) d = word p d
 
--- "an empty match can only occur in the following positions within the trace of a quantifier with lower bound n: as the last match, or as a
--- match in a position between 1 and n-1": the first round, where another follows, takes a row or stands at such a position; the same holds of
--- the rounds behind it, whose positions count one less
+-- A round that takes no row is left in the language only as the last round, or at one of the positions 1 to lo - 1 of a quantifier with lower bound lo: so the
+-- first round, where another follows, takes a row or stands at such a position; the same holds of the rounds behind it, whose positions count one less.
 unfoldable pub emptyLate : {A : Type 0} → (A → List ℕ) → ℕ → List A → Bool
 emptyLate f lo [] = true
 emptyLate f lo (d ∷ []) = true
