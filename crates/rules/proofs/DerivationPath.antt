@@ -95,7 +95,8 @@ module _ {A : Type 0} (T : Routes A) (same : One T) (s P : ℕ) where
   unfolding LoopRuns
   loop-one b i [] j j′ p p′ r r′ = both-same j j′ i p p′ (pairAt P i b ∷ []) r r′
   loop-one b i (d ∷ ds) j j′ p p′ r r′ =
-      chain (λ l. pairAt P i b ∷ l) (T (suc b) i d) (λ x j v. LoopRuns T P b x ds j v) (λ x x′ u u′. same (suc b) i d x x′ u u′) (λ x j j′ v v′. loop-one b x ds j j′ v v′) j j′ p p′ r r′
+      chain (λ l. pairAt P i b ∷ l) (T (suc b) i d) (λ x j v. LoopRuns T P b x ds j v) (λ x x′ u u′. same (suc b) i d x x′ u u′)
+      (λ x j j′ v v′. loop-one b x ds j j′ v v′) j j′ p p′ r r′
 
   option-one : (m : ℕ) → One (OptionRuns T s P m)
   unfolding OptionRuns

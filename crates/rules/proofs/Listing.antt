@@ -12,7 +12,7 @@ use native.Mathlib.Decide.{decLe}
 use native.Mathlib.Bridge.{le-prop}
 use lib.ListN.{length}
 use borrow.Author.Tests.{not-true}
-use Rattle.rules.specs.Language.{lower, upper, Rank, Tree, one, more, last, next, bare, times, letter, caret, dollar, empty, group, unbounded}
+use Rattle.rules.specs.Language.{Form, lower, upper, Rank, Tree, one, more, last, next, bare, times, letter, caret, dollar, empty, group, unbounded}
 use Rattle.rules.specs.Preferment.{Derivation, FirstBranch, Lexicographic, RoundByRound, Prefers}
 use Rattle.rules.specs.Readings.{Within}
 use Rattle.rules.proofs.Level.{and-true}
@@ -59,15 +59,22 @@ abbrev pub most : Option ℕ → ℕ
 most none = 0
 most (some hi) = hi
 
+-- so many rounds as a quantifier allows
+abbrev pub Fit : {A : Type 0} → Form → List A → Type 0
+Fit f ds = (lower f ≤ length ds) × Within (length ds) (upper f)
+
+unfoldable pub decFit : {A : Type 0} (f : Form) (ds : List A) → Dec (Fit f ds)
+unfolding decLe decWithin lower upper
+decFit f ds = both (decLe (lower f) (length ds)) (decWithin (length ds) (upper f))
+
 unfoldable pub listing : {k : Rank} (t : Tree k) → List (Derivation t)
-unfolding Derivation each upTo those decLe decWithin lower upper
+unfolding Derivation each upTo those decFit upper
 listing (one b) = listing b
 listing (more b p) = map (λ x. inl x) (listing b) ++ map (λ x. inr x) (listing p)
 listing (last f) = listing f
 listing (next f b) = each (λ x y. (x, y)) (listing f) (listing b)
 listing (bare x) = listing x
-listing (times x f z) =
-    those (λ ds. (lower f ≤ length ds) × Within (length ds) (upper f)) (λ ds. both (decLe (lower f) (length ds)) (decWithin (length ds) (upper f))) (upTo z (most (upper f)) (listing x))
+listing (times x f z) = those (Fit f) (decFit f) (upTo z (most (upper f)) (listing x))
 listing (letter c) = tt ∷ []
 listing caret = tt ∷ []
 listing dollar = tt ∷ []
@@ -124,8 +131,8 @@ module _ {A B C : Type 0} (f : A → B → C) where
   unfolding each
   of-each xs ys m = let r = of-flat (λ x. map (f x) ys) xs m in let s = Memᴰ·of-map (f (r .0)) ys (r .2) in (r .0, s .0, s .2)
 
-  each-descends : (P : A → A → Type 0) (Q : B → B → Type 0) (S : C → C → Type 0) → ((x x′ : A) (y y′ : B) → P x x′ → S (f x y) (f x′ y′)) → ((x : A) (y y′ : B) → Q y y′ → S (f x y) (f x y′))
-      → (xs : List A) (ys : List B) → Descends P xs → Descends Q ys → Descends S (each f xs ys)
+  each-descends : (P : A → A → Type 0) (Q : B → B → Type 0) (S : C → C → Type 0) → ((x x′ : A) (y y′ : B) → P x x′ → S (f x y) (f x′ y′))
+      → ((x : A) (y y′ : B) → Q y y′ → S (f x y) (f x y′)) → (xs : List A) (ys : List B) → Descends P xs → Descends Q ys → Descends S (each f xs ys)
   unfolding each
   each-descends P Q S h g xs ys a b =
       flat-descends (λ x. map (f x) ys) P S
@@ -133,7 +140,8 @@ module _ {A B C : Type 0} (f : A → B → C) where
       (λ x. descends-map Q S (f x) (g x) ys b) xs a
 
 module _ {A : Type 0} (P : A → A → Type 0) where
-  stopping-descends : (lazy : Bool) (xs : List A) (ys : List (List A)) → Descends (RoundByRound lazy P) (each (λ x l. x ∷ l) xs ys) → Descends (RoundByRound lazy P) (stopping lazy (each (λ x l. x ∷ l) xs ys))
+  stopping-descends : (lazy : Bool) (xs : List A) (ys : List (List A)) → Descends (RoundByRound lazy P) (each (λ x l. x ∷ l) xs ys)
+      → Descends (RoundByRound lazy P) (stopping lazy (each (λ x l. x ∷ l) xs ys))
   unfolding RoundByRound
   stopping-descends false xs ys d =
       descends-append (RoundByRound false P) (each (λ x l. x ∷ l) xs ys) ([] ∷ []) d (descends-one (RoundByRound false P) [])
@@ -177,11 +185,12 @@ listing-descends (more b p) =
     (λ x y m n. let r = Memᴰ·of-map (λ x. inl x) (listing b) m in let s = Memᴰ·of-map (λ x. inr x) (listing p) n in rw (← (r .2), ← (s .2)) tt)
 listing-descends (last f) = listing-descends f
 listing-descends (next f b) =
-    each-descends (λ x y. (x, y)) (Prefers f) (Prefers b) (Prefers (next f b)) (λ x x′ y y′ l. inl l) (λ x y y′ l. inr (refl, l)) (listing f) (listing b) (listing-descends f) (listing-descends b)
+    each-descends (λ x y. (x, y)) (Prefers f) (Prefers b) (Prefers (next f b)) (λ x x′ y y′ l. inl l) (λ x y y′ l. inr (refl, l))
+    (listing f) (listing b) (listing-descends f) (listing-descends b)
 listing-descends (bare x) = listing-descends x
 listing-descends (times x f z) =
-    those-descends (λ ds. (lower f ≤ length ds) × Within (length ds) (upper f)) (λ ds. both (decLe (lower f) (length ds)) (decWithin (length ds) (upper f))) (RoundByRound z (Prefers x))
-    (upTo z (most (upper f)) (listing x)) (upTo-descends (Prefers x) z (most (upper f)) (listing x) (listing-descends x))
+    those-descends (Fit f) (decFit f) (RoundByRound z (Prefers x)) (upTo z (most (upper f)) (listing x))
+    (upTo-descends (Prefers x) z (most (upper f)) (listing x) (listing-descends x))
 listing-descends (letter c) = descends-one (Prefers (letter c)) tt
 listing-descends caret = descends-one (Prefers caret) tt
 listing-descends dollar = descends-one (Prefers dollar) tt
@@ -227,7 +236,8 @@ module _ {A : Type 0} (xs : List A) (complete : (x : A) → List·Memᴰ x xs) w
   upTo-complete lazy (suc m) (d ∷ ds) h =
       in-stopping lazy (d ∷ ds) (each (λ x l. x ∷ l) xs (upTo lazy m xs)) (in-each (λ x l. x ∷ l) xs (upTo lazy m xs) (complete d) (upTo-complete lazy m ds (le-of-suc-le-suc h)))
 
-in-those : {A : Type 0} (W : A → Type 0) (dec : (x : A) → Dec (W x)) → ((x : A) → IsProp (W x)) → (d : (x : A) × W x) (xs : List A) → List·Memᴰ (d .0) xs → List·Memᴰ d (those W dec xs)
+in-those : {A : Type 0} (W : A → Type 0) (dec : (x : A) → Dec (W x)) → ((x : A) → IsProp (W x)) → (d : (x : A) × W x) (xs : List A) → List·Memᴰ (d .0) xs
+    → List·Memᴰ d (those W dec xs)
 unfolding those
 in-those W dec prop d (x ∷ xs) (List·Memᴰ·head e) = go (dec x)
   where
@@ -252,9 +262,9 @@ listing-complete (next f b) h d =
 listing-complete (bare x) h d = listing-complete x h d
 listing-complete (times x f z) h d =
     let g = and-true (not (unbounded (upper f))) (bounded x) h in
-    in-those (λ ds. (lower f ≤ length ds) × Within (length ds) (upper f)) (λ ds. both (decLe (lower f) (length ds)) (decWithin (length ds) (upper f)))
-    (λ ds. ×-prop le-prop (within-prop (length ds) (upper f))) d (upTo z (most (upper f)) (listing x))
-    (upTo-complete (listing x) (λ y. listing-complete x (g .1) y) z (most (upper f)) (d .0) (within-most (length (d .0)) (upper f) (not-true (unbounded (upper f)) (g .0)) (d .1 .1)))
+    in-those (Fit f) (decFit f) (λ ds. ×-prop le-prop (within-prop (length ds) (upper f))) d (upTo z (most (upper f)) (listing x))
+    (upTo-complete (listing x) (λ y. listing-complete x (g .1) y) z (most (upper f)) (d .0)
+    (within-most (length (d .0)) (upper f) (not-true (unbounded (upper f)) (g .0)) (d .1 .1)))
 listing-complete (letter c) h d = List·Memᴰ·head refl
 listing-complete caret h d = List·Memᴰ·head refl
 listing-complete dollar h d = List·Memᴰ·head refl

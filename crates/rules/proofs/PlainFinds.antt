@@ -30,6 +30,8 @@ Reading A = A → ℕ → ℕ → List ℕ → Type 0
 abbrev pub Order : Type 0 → Type 1
 Order A = A → A → Type 0
 
+-- ---- what is found
+
 -- p is the path from position i through the best derivation, to place k at position `to`, and on from there; behind every better one nothing is found
 pub record Win (pl : List Place) (f : ℕ → Option (List ℕ)) {A : Type 0} (R : Reading A) (L : Order A) (T : Route A) (i k : ℕ) (p : List ℕ) : Type 0 where
   pub best : A
@@ -42,6 +44,7 @@ pub record Win (pl : List Place) (f : ℕ → Option (List ℕ)) {A : Type 0} (R
   pub is : p ≡ front ++ rest
   pub first : (e : A) (j : ℕ) (w : List ℕ) → R e i j w → L e best → f (pairAt (length pl) j k) ≡ none
 
+-- what is said of the outcome at the first place of a part
 abbrev pub Post : List Place → (ℕ → Option (List ℕ)) → {A : Type 0} → Reading A → Order A → Route A → ℕ → ℕ → Option (List ℕ) → Type 0
 Post pl f {A} R L T i k none = (e : A) (j : ℕ) (w : List ℕ) → R e i j w → f (pairAt (length pl) j k) ≡ none
 Post pl f R L T i k (some p) = Win pl f R L T i k p
@@ -69,14 +72,14 @@ abbrev Under : List ℕ → Option (List ℕ) → Type 0
 Under q none = ⊥
 Under q (some p) = length q ≤ length p
 
--- what a fork tries
+-- what comes of a fork whose two ways come to these
 abbrev inOrder : Bool → Option (List ℕ) → Option (List ℕ) → Option (List ℕ)
 inOrder false copy leave = orNext copy (λ _. orNext leave (λ _. none))
 inOrder true copy leave = orNext leave (λ _. orNext copy (λ _. none))
 
-or-none : (o : Option (List ℕ)) → orNext o (λ _. none) ≡ o
-or-none none = refl
-or-none (some p) = refl
+next-none : (o : Option (List ℕ)) → orNext o (λ _. none) ≡ o
+next-none none = refl
+next-none (some p) = refl
 
 abbrev Shorter : ℕ → Option (List ℕ) → Type 0
 Shorter m none = Unit {0}
@@ -331,8 +334,8 @@ module _ (pl : List Place) (holds : ℕ → ℕ → Bool) (n : ℕ) (f : ℕ →
           go (d ∷ ds) j w r l = h l (d, ds) j w (out d ds i j w r)
 
       -- G: what is known of a path found, for the copy's own sake
-      by-fork : (lazy : Bool) (G : Option (List ℕ) → Type 0) (copy leave : Option (List ℕ)) → G none → (G copy → Parted lazy copy) → f (pair i k) ≡ leave → G (inOrder lazy copy leave)
-          → Listed lazy (inOrder lazy copy leave)
+      by-fork : (lazy : Bool) (G : Option (List ℕ) → Type 0) (copy leave : Option (List ℕ)) → G none → (G copy → Parted lazy copy) → f (pair i k) ≡ leave
+          → G (inOrder lazy copy leave) → Listed lazy (inOrder lazy copy leave)
       by-fork false G none none g c e r = neither false e (c g)
       by-fork false G none (some q) g c e r = left-out false q e (λ _. c g)
       by-fork false G (some p) leave g c e r = taken false p (λ h. absurd (false≢true h)) (c r)
@@ -353,13 +356,13 @@ module _ (pl : List Place) (holds : ℕ → ℕ → Bool) (n : ℕ) (f : ℕ →
   pub finds-one : {A : Type 0} (R : Reading A) (L : Order A) (T : Routes A) (t : Unrolled) → Finds R L T t → FindsOne R L T (uCons t uNil)
   unfolding codes startsOf sizes firstOf
   finds-one R L T t x b k a hb hk i =
-      post-by R L (T b i) i k (f (pair i (startOf t b k))) (orNext (f (pair i (startOf t b k))) (λ _. none)) (sym (or-none (f (pair i (startOf t b k)))))
+      post-by R L (T b i) i k (f (pair i (startOf t b k))) (orNext (f (pair i (startOf t b k))) (λ _. none)) (sym (next-none (f (pair i (startOf t b k)))))
       (x b k (at-left pl b (code t b k) [] a) (omega arith) hk i)
 
   pub finds-only : {A : Type 0} (R : Reading A) (L : Order A) (T : Routes A) (t : Unrolled) → FindsOne R L T (uCons t uNil) → Finds R L T t
   unfolding codes startsOf sizes firstOf
   finds-only R L T t x b k a hb hk i =
-      post-by R L (T b i) i k (orNext (f (pair i (startOf t b k))) (λ _. none)) (f (pair i (startOf t b k))) (or-none (f (pair i (startOf t b k))))
+      post-by R L (T b i) i k (orNext (f (pair i (startOf t b k))) (λ _. none)) (f (pair i (startOf t b k))) (next-none (f (pair i (startOf t b k))))
       (x b k (rw append-nil a) (omega arith) hk i)
 
   -- one branch before others

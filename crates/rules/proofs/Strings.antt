@@ -57,7 +57,8 @@ module _ {A : Type 0} (f : A → List Symbol) (own : (d e : A) (xs ys : List Sym
   rounds-own [] (e ∷ es) xs ys h = absurd (not e (flatMap f es ++ (right ∷ ys)) xs (sym (append-assoc (f e) (flatMap f es) (right ∷ ys)) ∙ sym h))
   rounds-own (d ∷ ds) [] xs ys h = absurd (not d (flatMap f ds ++ (right ∷ xs)) ys (sym (append-assoc (f d) (flatMap f ds) (right ∷ xs)) ∙ h))
   rounds-own (d ∷ ds) (e ∷ es) xs ys h =
-      let p = own d e (flatMap f ds ++ (right ∷ xs)) (flatMap f es ++ (right ∷ ys)) (sym (append-assoc (f d) (flatMap f ds) (right ∷ xs)) ∙ h ∙ append-assoc (f e) (flatMap f es) (right ∷ ys)) in
+      let p = own d e (flatMap f ds ++ (right ∷ xs)) (flatMap f es ++ (right ∷ ys))
+      (sym (append-assoc (f d) (flatMap f ds) (right ∷ xs)) ∙ h ∙ append-assoc (f e) (flatMap f es) (right ∷ ys)) in
       let q = rounds-own ds es xs ys (p .1) in
       (ap₂ (λ (x : A) (l : List A). x ∷ l) (p .0) (q .0), q .1)
 
@@ -69,7 +70,8 @@ own : {k : Rank} (t : Tree k) (d e : Derivation t) (xs ys : List Symbol) → tex
 unfolding Derivation text
 own (one b) d e xs ys h = own b d e xs ys h
 own (more b p) (inl d) (inl e) xs ys h =
-    let q = own b d e (dash ∷ right ∷ xs) (dash ∷ right ∷ ys) (sym (append-assoc (text b d) (dash ∷ right ∷ []) xs) ∙ tail-eq-of-cons-eq h ∙ append-assoc (text b e) (dash ∷ right ∷ []) ys) in
+    let q = own b d e (dash ∷ right ∷ xs) (dash ∷ right ∷ ys)
+    (sym (append-assoc (text b d) (dash ∷ right ∷ []) xs) ∙ tail-eq-of-cons-eq h ∙ append-assoc (text b e) (dash ∷ right ∷ []) ys) in
     (ap (λ (x : Derivation b). inl x) (q .0), tail-eq-of-cons-eq (tail-eq-of-cons-eq (q .1)))
 own (more b p) (inl d) (inr e) xs ys h =
     absurd (text-not b d (dash ∷ right ∷ xs) dash ((text p e ++ (right ∷ [])) ++ ys) refl (sym (append-assoc (text b d) (dash ∷ right ∷ []) xs) ∙ tail-eq-of-cons-eq h))
