@@ -13,10 +13,10 @@ use Rattle.rules.specs.Basics.{pick, inRange}
 use Rattle.rules.specs.Rows.{tableOf}
 use Rattle.rules.specs.Query.{cut, misplaced, unfit, doubled, columnsOf}
 use Rattle.rules.specs.Language.{Tree, pattern, emptyLoop}
-use Rattle.rules.specs.Places.{placesOf}
+use Rattle.rules.specs.Places.{unroll, places, placesOf}
 use Rattle.rules.specs.Walk.{pairs}
 use Rattle.rules.specs.Report.{bytesFor}
-use Rattle.rules.specs.Answers.{tooDeep, treeIn, noTree, hasEmptyLoop, P, tooMany, foreign, badRows, Buffers, pairsOf, shortNotes, shortTrail, stopped, lowest, queryTests, answerBy, walkOf, answerOf}
+use Rattle.rules.specs.Answers.{placesIn, taskOf, tooDeep, treeIn, noTree, hasEmptyLoop, P, tooMany, foreign, badRows, Buffers, pairsOf, shortNotes, shortTrail, stopped, lowest, queryTests, answerBy, walkOf, answerOf}
 
 -- the input is accepted: its answer is none of 1 to 12
 abbrev pub Accepted : List ℕ → List ℤ → Buffers → Type 0
@@ -136,3 +136,8 @@ module _ (q : List ℕ) (rows : List ℤ) (lent : Buffers) (ok : Accepted q rows
         notes-long = ltb-false _ _ (rw (t .1) at z11);
         trail-long = ltb-false _ _ (rw (t .1) at z12);
       }
+
+-- the places of the search are those of the tree
+pub places-are : (q : List ℕ) (rows : List ℤ) (p : Tree pattern) → treeIn q ≡ some p → taskOf q rows .places ≡ places (unroll p)
+unfolding taskOf placesIn
+places-are q rows p e = rw e

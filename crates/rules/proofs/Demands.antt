@@ -16,9 +16,9 @@ use Rattle.rules.specs.Walk.{pairs}
 use Rattle.rules.specs.Preferment.{Preferred, Reports}
 use Rattle.rules.specs.Search.{Swept, walkSearch, labels, endOf, plainFrom, shown, shownFull}
 use Rattle.rules.specs.Report.{fits, bytesFor, bitAt, notesOf}
-use Rattle.rules.specs.Answers.{treeIn, placesIn, Task, taskOf, letterHolds, walked, backtracked, Buffers, stopped, answerBy, answerOf, reportOf, walkOf, plainOf, walkReport, plainReport, accepted, searchOf}
+use Rattle.rules.specs.Answers.{treeIn, Task, taskOf, letterHolds, walked, backtracked, Buffers, stopped, answerBy, answerOf, reportOf, walkOf, plainOf, walkReport, plainReport, accepted, searchOf}
 use Rattle.rules.specs.Demands.{Demand2, Demand3, Demands}
-use Rattle.rules.proofs.Accepted.{Accepted, granted}
+use Rattle.rules.proofs.Accepted.{Accepted, granted, places-are}
 use Rattle.rules.proofs.Bounds.{Bounds, written-bounds}
 use Rattle.rules.proofs.Counting.{legal-unroll}
 use Rattle.rules.proofs.DerivationReadings.{parses-reads}
@@ -111,10 +111,6 @@ module _ (q : List ℕ) (rows : List ℤ) (lent : Buffers) (ok : Accepted q rows
       let l : x / 8 < length (notesOf F) = rw (length-notes F) (omega arith) in
       rw (search-accepted q rows lent ok, front-wrote (lent .notes) (notesOf F) (x / 8) 0 l) (noted F x h)
 
-  places-are : (p : Tree pattern) → treeIn q ≡ some p → taskOf q rows .places ≡ places (unroll p)
-  unfolding taskOf placesIn
-  places-are p e = rw e
-
 -- ---- both
 
 pub demands : (q : List ℕ) (rows : List ℤ) (lent : Buffers) → Accepted q rows lent → Demands q rows lent
@@ -123,7 +119,7 @@ demands q rows lent ok =
     let a = granted q rows lent ok in
     let p = a .tree in
     let w : Written p (textOf q) = tree-exactly (textOf q) p .0 (a .has-tree) in
-    let e = places-are q rows lent ok p (a .has-tree) in
+    let e = places-are q rows p (a .has-tree) in
     let d = third p (a .no-empty-loop) (taskOf q rows) e (length (lent .numbers)) (length (lent .labels)) in
     record {
       tree = p;

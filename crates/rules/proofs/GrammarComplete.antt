@@ -153,7 +153,7 @@ skip-spaces zero [] h = refl
 skip-spaces zero (b ∷ r) h = simp (ne-eqb b 32 h)
 skip-spaces (suc n) r h = skip-spaces n r h
 
-spaces-length : (n : ℕ) (r : List ℕ) → length (spaces n r) ≡ n + length r
+pub spaces-length : (n : ℕ) (r : List ℕ) → length (spaces n r) ≡ n + length r
 unfolding spaces
 spaces-length zero r = omega arith
 spaces-length (suc n) r = let e = spaces-length n r in omega arith
@@ -350,7 +350,7 @@ form-longer (atLeast n) s = let e = digits-longer n (44 ∷ 125 ∷ s) in omega 
 form-longer (atMost n) s = let e = digits-longer n (125 ∷ s) in omega arith
 form-longer (between n m) s = let e = digits-longer m (125 ∷ s) in let d = digits-longer n (44 ∷ digits m (125 ∷ s)) in omega arith
 
-mark-longer : (f : Form) (z : Bool) (s : List ℕ) → length s < length (spell (aMark f z) s)
+pub mark-longer : (f : Form) (z : Bool) (s : List ℕ) → length s < length (spell (aMark f z) s)
 unfolding spell
 mark-longer f true s = let e = form-longer f (63 ∷ s) in omega arith
 mark-longer f false s = form-longer f s

@@ -61,11 +61,11 @@ skipped (b ∷ s) = go (eqb b 32) refl (skipped s)
 -- ---- tokens
 
 -- a token that is no letter, and spaces, in front of others
-pub laid-token : (t : Token) (s u : List ℕ) (ts : List Token) → lettered t ≡ false → Proper t → s ≡ spell t u → Laid ts (skip u) → Laid (t ∷ ts) s
+laid-token : (t : Token) (s u : List ℕ) (ts : List Token) → lettered t ≡ false → Proper t → s ≡ spell t u → Laid ts (skip u) → Laid (t ∷ ts) s
 unfolding Laid
 laid-token t s u ts l p e h = let k = skipped u in (k .0, skip u, e ∙ ap (spell t) (k .1), p, (λ i j. absurd (true≢false (sym i ∙ l))), h)
 
-pub letter-first : (ts : List Token) (r : List ℕ) → Laid ts r → letterFirst ts ≡ true → isLetter (peek r) ≡ true
+letter-first : (ts : List Token) (r : List ℕ) → Laid ts r → letterFirst ts ≡ true → isLetter (peek r) ≡ true
 unfolding Laid peek
 letter-first [] r h e = absurd (false≢true e)
 letter-first (aLetter c ∷ ts) r h e = let i : peek r ≡ c = ap peek (h .2) in rw i (letter-in c (h .3 .0) (h .3 .1))
@@ -190,15 +190,18 @@ quantifier-good s =
     pick-both (GoodM s) (eqb (peek s) 63) _ _ (λ z. reluctant-good opt s (rest s) tt (peeked s 63 (omega arith) (eqb-true _ _ z))) λ z3.
     pick-both (GoodM s) (eqb (peek s) 123) _ _ (λ z. braces-good s (rest s) (peeked s 123 (omega arith) (eqb-true _ _ z))) λ z4. tt
 
--- a quantifier that is read has its bounds in order
-pub marked-in : (s : List ℕ) (f : Form) (z : Bool) (u : List ℕ) → quantifier s ≡ marked f z u → InBounds f
+-- a quantifier that is read is spelled there, and its bounds are in order
+pub marked-spelled : (s : List ℕ) (f : Form) (z : Bool) (u : List ℕ) → quantifier s ≡ marked f z u → (n : ℕ) × (InBounds f) × (s ≡ spell (aMark f z) (spaces n u))
 unfolding GoodM
-marked-in s f z u e = let g : GoodM s (marked f z u) = subst (GoodM s) e (quantifier-good s) in g .1
+marked-spelled s f z u e = subst (GoodM s) e (quantifier-good s)
+
+pub marked-in : (s : List ℕ) (f : Form) (z : Bool) (u : List ℕ) → quantifier s ≡ marked f z u → InBounds f
+marked-in s f z u e = (marked-spelled s f z u e) .1
 
 -- ---- the readers
 
 -- what is found is laid in front of all that is laid behind it
-unfoldable pub Good : {k : Rank} → List ℕ → Reading (Tree k) → Type 0
+unfoldable Good : {k : Rank} → List ℕ → Reading (Tree k) → Type 0
 Good s bad = Unit {0}
 Good s (got x r) = (ts : List Token) → Laid ts r → Laid (tokens x ts) s
 
@@ -269,7 +272,7 @@ unfolding primaryOn
 primary-good again s f true e = parted-good again s (rest s) f (peeked s 40 (omega arith) (eqb-true _ _ e)) (eqb (peek (skip (rest s))) 41) refl
 primary-good again s f false e = simple-good s
 
-pub read-good : (n : ℕ) (k : Rank) (s : List ℕ) → Good s (read n k s)
+read-good : (n : ℕ) (k : Rank) (s : List ℕ) → Good s (read n k s)
 unfolding read Good
 read-good zero k s = tt
 read-good (suc n) pattern s = alt-good (read n pattern) s (read n branch s) (read-good n pattern) (read-good n branch s)

@@ -3,6 +3,9 @@ pub mod GrammarSound
 pub mod GrammarComplete
 pub mod Grammar
 pub mod Bounds
+pub mod Sizes
+pub mod Depth
+pub mod Texts
 pub mod Walk
 pub mod Plain
 pub mod Machine
@@ -30,7 +33,9 @@ pub mod Differs
 pub mod Notes
 pub mod Noted
 pub mod Accepted
+pub mod Limits
 pub mod Demands
+pub mod Decimal
 pub mod Bench
 pub mod Listing
 pub mod Clause62

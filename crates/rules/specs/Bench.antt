@@ -128,6 +128,9 @@ sheet =
     ∷ unstepped (asks "A" unequalPrev 0 []) X 2 (at 1 "A" ∷ at 2 "A" ∷ at 3 "A" ∷ at 4 "A" ∷ [])
     -- leaving at any fork goes straight behind the whole factor: fork, A, END
     ∷ line (asks "A{,3}" aboveZero 0 []) (any 1) 7 (at 0 "" ∷ []) 3
+    -- no space stands inside a token, and two letters do not touch
+    ∷ refusal (asks "A{ 1}" [] 0 []) 0 5
+    ∷ refusal (asks "AB" [] 0 []) 0 5
     -- a parenthesis closed before any is opened counts: at most 8 are open here
     ∷ refusal (asks ")(((((((((" [] 0 []) 0 5
     ∷ refusal (asks ")((((((((((" [] 0 []) 0 4

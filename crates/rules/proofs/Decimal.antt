@@ -1,0 +1,65 @@
+-- The numbers that the program prints: read as a decimal they have the number's value, and only 0 begins with a 0.
+use mathlib.Core.Path.{_≡_, refl, _∙_}
+use mathlib.Core.Bool.{Bool, true, false}
+use mathlib.Core.List.{List, [], _∷_, _++_}
+use Prim.Native.Nat.{ℕ, zero, suc, _+_, _*_, _-_, _/_, _%_, _≤_, _<_}
+use native.Mathlib.Nat.{not-suc-le-zero}
+use native.Mathlib.Omega.{arith}
+use lib.Dec.{ltb}
+use borrow.Author.Tests.{ltb-false}
+use Rattle.rules.specs.Basics.{pick}
+use Rattle.rules.specs.Program.{digitsOf, decimal}
+
+-- the value of decimal digits behind a number a
+unfoldable pub value : ℕ → List ℕ → ℕ
+value a [] = a
+value a (d ∷ ds) = value (a * 10 + (d - 48)) ds
+
+value-last : (a : ℕ) (ds : List ℕ) (d : ℕ) → value a (ds ++ ((48 + d) ∷ [])) ≡ value a ds * 10 + d
+unfolding value
+value-last a [] d = omega arith
+value-last a (e ∷ ds) d = value-last (a * 10 + (e - 48)) ds d
+
+digits-value : (k n : ℕ) → n < k → value 0 (digitsOf k n) ≡ n
+unfolding digitsOf value
+digits-value zero n h = absurd (not-suc-le-zero h)
+digits-value (suc k) n h = go (λ l. digits-value k (n / 10) l) (ltb n 10) refl
+  where
+    small : value 0 ((48 + n) ∷ []) ≡ n
+    small = omega arith
+
+    go : (n / 10 < k → value 0 (digitsOf k (n / 10)) ≡ n / 10) → (t : Bool) → ltb n 10 ≡ t
+        → value 0 (pick t ((48 + n) ∷ []) (digitsOf k (n / 10) ++ ((48 + n % 10) ∷ []))) ≡ n
+    go ih true e = small
+    go ih false e = let b = ltb-false n 10 e in value-last 0 (digitsOf k (n / 10)) (n % 10) ∙ (let i = ih (omega arith) in omega arith)
+
+pub decimal-value : (n : ℕ) → value 0 (decimal n) ≡ n
+unfolding decimal
+decimal-value n = digits-value (suc n) n (omega arith)
+
+-- the first digit, 0 if there is none
+unfoldable pub firstDigit : List ℕ → ℕ
+firstDigit [] = 0
+firstDigit (d ∷ ds) = d
+
+first-before : (ds es : List ℕ) → 0 < firstDigit ds → firstDigit (ds ++ es) ≡ firstDigit ds
+unfolding firstDigit
+first-before [] es h = absurd (not-suc-le-zero h)
+first-before (d ∷ ds) es h = refl
+
+digits-first : (k n : ℕ) → n < k → 1 ≤ n → 48 < firstDigit (digitsOf k n)
+unfolding digitsOf firstDigit
+digits-first zero n h l = absurd (not-suc-le-zero h)
+digits-first (suc k) n h l = go (λ a b. digits-first k (n / 10) a b) (ltb n 10) refl
+  where
+    go : (n / 10 < k → 1 ≤ n / 10 → 48 < firstDigit (digitsOf k (n / 10))) → (t : Bool) → ltb n 10 ≡ t
+        → 48 < firstDigit (pick t ((48 + n) ∷ []) (digitsOf k (n / 10) ++ ((48 + n % 10) ∷ [])))
+    go ih true e = omega arith
+    go ih false e =
+        let b = ltb-false n 10 e in
+        let i = ih (omega arith) (omega arith) in
+        rw (first-before (digitsOf k (n / 10)) ((48 + n % 10) ∷ []) (omega arith)) i
+
+pub no-leading-zero : (n : ℕ) → 1 ≤ n → 48 < firstDigit (decimal n)
+unfolding decimal
+no-leading-zero n l = digits-first (suc n) n (omega arith) l
