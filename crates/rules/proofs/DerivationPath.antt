@@ -11,40 +11,46 @@ use Rattle.rules.specs.Places.{unrolled, unroll, size, places, fork}
 use Rattle.rules.specs.Preferment.{Derivation, Either}
 use Rattle.rules.specs.Walk.{pairAt}
 
--- `T b i d j p`: with its places numbered from b on, d goes from position i to position j through the pairs p. P is the number of all places, s
--- that of one copy.
+-- `T d j p`: d goes to position j through the pairs p; `T b i d j p`: so with its places numbered from b on, and from position i
+abbrev pub Route : Type 0 → Type 1
+Route A = A → ℕ → List ℕ → Type 0
+
+abbrev pub Routes : Type 0 → Type 1
+Routes A = ℕ → ℕ → Route A
+
+-- P is the number of all places, s that of one copy
 
 -- a loop, whose fork is b
-unfoldable pub LoopRuns : {A : Type 0} → (ℕ → ℕ → A → ℕ → List ℕ → Type 0) → ℕ → ℕ → ℕ → List A → ℕ → List ℕ → Type 0
+unfoldable pub LoopRuns : {A : Type 0} → Routes A → ℕ → Routes (List A)
 LoopRuns T P b i [] j p = (j ≡ i) × (p ≡ pairAt P i b ∷ [])
 LoopRuns T P b i (d ∷ ds) j p = (x : ℕ) × (u : List ℕ) × (v : List ℕ) × (T (suc b) i d x u) × (LoopRuns T P b x ds j v) × (p ≡ pairAt P i b ∷ (u ++ v))
 
 -- m times a fork and a copy
-unfoldable pub OptionRuns : {A : Type 0} → (ℕ → ℕ → A → ℕ → List ℕ → Type 0) → ℕ → ℕ → ℕ → ℕ → ℕ → List A → ℕ → List ℕ → Type 0
+unfoldable pub OptionRuns : {A : Type 0} → Routes A → ℕ → ℕ → ℕ → Routes (List A)
 OptionRuns T s P zero b i ds j p = (j ≡ i) × (p ≡ [])
 OptionRuns T s P (suc m) b i [] j p = (j ≡ i) × (p ≡ pairAt P i b ∷ [])
 OptionRuns T s P (suc m) b i (d ∷ ds) j p =
     (x : ℕ) × (u : List ℕ) × (v : List ℕ) × (T (suc b) i d x u) × (OptionRuns T s P m (suc b + s) x ds j v) × (p ≡ pairAt P i b ∷ (u ++ v))
 
 -- what follows lo copies
-unfoldable pub BehindRuns : {A : Type 0} → (ℕ → ℕ → A → ℕ → List ℕ → Type 0) → ℕ → ℕ → Option ℕ → ℕ → ℕ → ℕ → List A → ℕ → List ℕ → Type 0
+unfoldable pub BehindRuns : {A : Type 0} → Routes A → ℕ → ℕ → Option ℕ → ℕ → Routes (List A)
 unfolding LoopRuns OptionRuns
 BehindRuns T s P none lo b i ds j p = LoopRuns T P b i ds j p
 BehindRuns T s P (some hi) lo b i ds j p = OptionRuns T s P (hi - lo) b i ds j p
 
 -- m copies, then the rest
-unfoldable pub CopyRuns : {A : Type 0} → (ℕ → ℕ → A → ℕ → List ℕ → Type 0) → ℕ → (ℕ → ℕ → List A → ℕ → List ℕ → Type 0) → ℕ → ℕ → ℕ → List A → ℕ → List ℕ → Type 0
+unfoldable pub CopyRuns : {A : Type 0} → Routes A → ℕ → Routes (List A) → ℕ → Routes (List A)
 CopyRuns T s Rest zero b i ds j p = Rest b i ds j p
 CopyRuns T s Rest (suc m) b i [] j p = ⊥
 CopyRuns T s Rest (suc m) b i (d ∷ ds) j p = (x : ℕ) × (u : List ℕ) × (v : List ℕ) × (T b i d x u) × (CopyRuns T s Rest m (b + s) x ds j v) × (p ≡ u ++ v)
 
 -- a pattern with its fork: none for one branch, one for more
-unfoldable pub ForkRuns : {A : Type 0} → (ℕ → ℕ → A → ℕ → List ℕ → Type 0) → ℕ → ℕ → ℕ → ℕ → A → ℕ → List ℕ → Type 0
+unfoldable pub ForkRuns : {A : Type 0} → Routes A → ℕ → ℕ → Routes A
 ForkRuns T P zero b i d j p = T b i d j p
 ForkRuns T P (suc m) b i d j p = (q : List ℕ) × (T (suc b) i d j q) × (p ≡ pairAt P i b ∷ q)
 
 -- of a pattern: through its branches, without its fork
-unfoldable pub Runs : {k : Rank} → (t : Tree k) → ℕ → ℕ → ℕ → Derivation t → ℕ → List ℕ → Type 0
+unfoldable pub Runs : {k : Rank} → (t : Tree k) → ℕ → Routes (Derivation t)
 unfolding Derivation unrolled size fork lower upper CopyRuns BehindRuns ForkRuns
 Runs (one t) P b i d j p = Runs t P b i d j p
 Runs (more t ts) P b i d j p = Either (λ x. Runs t P b i x j p) (λ x. Runs ts P (b + size (unrolled t)) i x j p) d
@@ -81,15 +87,16 @@ chain pre X Y hx hy j j′ p p′ r s =
 both-same : (j j′ x : ℕ) (p p′ q : List ℕ) → (j ≡ x) × (p ≡ q) → (j′ ≡ x) × (p′ ≡ q) → (j ≡ j′) × (p ≡ p′)
 both-same j j′ x p p′ q r s = (r .0 ∙ sym (s .0), r .1 ∙ sym (s .1))
 
-abbrev One : {A : Type 0} → (ℕ → ℕ → A → ℕ → List ℕ → Type 0) → Type 0
+abbrev One : {A : Type 0} → Routes A → Type 0
 One {A} T = (b i : ℕ) (d : A) (j j′ : ℕ) (p p′ : List ℕ) → T b i d j p → T b i d j′ p′ → (j ≡ j′) × (p ≡ p′)
 
-module _ {A : Type 0} (T : ℕ → ℕ → A → ℕ → List ℕ → Type 0) (same : One T) (s P : ℕ) where
+module _ {A : Type 0} (T : Routes A) (same : One T) (s P : ℕ) where
   loop-one : One (LoopRuns T P)
   unfolding LoopRuns
   loop-one b i [] j j′ p p′ r r′ = both-same j j′ i p p′ (pairAt P i b ∷ []) r r′
   loop-one b i (d ∷ ds) j j′ p p′ r r′ =
-      chain (λ l. pairAt P i b ∷ l) (T (suc b) i d) (λ x j v. LoopRuns T P b x ds j v) (λ x x′ u u′. same (suc b) i d x x′ u u′) (λ x j j′ v v′. loop-one b x ds j j′ v v′) j j′ p p′ r r′
+      chain (λ l. pairAt P i b ∷ l) (T (suc b) i d) (λ x j v. LoopRuns T P b x ds j v) (λ x x′ u u′. same (suc b) i d x x′ u u′)
+      (λ x j j′ v v′. loop-one b x ds j j′ v v′) j j′ p p′ r r′
 
   option-one : (m : ℕ) → One (OptionRuns T s P m)
   unfolding OptionRuns
@@ -104,14 +111,14 @@ module _ {A : Type 0} (T : ℕ → ℕ → A → ℕ → List ℕ → Type 0) (s
   behind-one none lo b i ds j j′ p p′ r r′ = loop-one b i ds j j′ p p′ r r′
   behind-one (some hi) lo b i ds j j′ p p′ r r′ = option-one (hi - lo) b i ds j j′ p p′ r r′
 
-  copy-one : (U : ℕ → ℕ → List A → ℕ → List ℕ → Type 0) → One U → (m : ℕ) → One (CopyRuns T s U m)
+  copy-one : (U : Routes (List A)) → One U → (m : ℕ) → One (CopyRuns T s U m)
   unfolding CopyRuns
   copy-one U h zero b i ds j j′ p p′ r r′ = h b i ds j j′ p p′ r r′
   copy-one U h (suc m) b i [] j j′ p p′ r r′ = absurd r
   copy-one U h (suc m) b i (d ∷ ds) j j′ p p′ r r′ =
       chain (λ l. l) (T b i d) (λ x j v. CopyRuns T s U m (b + s) x ds j v) (λ x x′ u u′. same b i d x x′ u u′) (λ x j j′ v v′. copy-one U h m (b + s) x ds j j′ v v′) j j′ p p′ r r′
 
-fork-one : {A : Type 0} (T : ℕ → ℕ → A → ℕ → List ℕ → Type 0) → One T → (P m : ℕ) → One (ForkRuns T P m)
+fork-one : {A : Type 0} (T : Routes A) → One T → (P m : ℕ) → One (ForkRuns T P m)
 unfolding ForkRuns
 fork-one T same P zero b i d j j′ p p′ r r′ = same b i d j j′ p p′ r r′
 fork-one T same P (suc m) b i d j j′ p p′ r r′ =
@@ -129,7 +136,7 @@ runs-one P (next s t) b i d j j′ p p′ r r′ =
     (λ x j j′ v v′ a a′. runs-one P t (b + size (unrolled s)) x (d .1) j j′ v v′ a a′) j j′ p p′ r r′
 runs-one P (bare t) b i d j j′ p p′ r r′ = runs-one P t b i d j j′ p p′ r r′
 runs-one P (times t f z) b i d j j′ p p′ r r′ =
-    let T : ℕ → ℕ → Derivation t → ℕ → List ℕ → Type 0 = λ b i d j p. Runs t P b i d j p in
+    let T : Routes (Derivation t) = λ b i d j p. Runs t P b i d j p in
     let h : One T = λ b i d j j′ p p′ a a′. runs-one P t b i d j j′ p p′ a a′ in
     let s : ℕ = size (unrolled t) in
     copy-one T h s P (BehindRuns T s P (upper f) (lower f)) (behind-one T h s P (upper f) (lower f)) (lower f) b i (d .0) j j′ p p′ r r′

@@ -104,5 +104,6 @@ by-clause = record { derivation = chosen; kept = refl; parses = chosen-parses; g
   where
     better : (e : Derivation differs) (j : ℕ) (w : List ℕ) → allowed differs e ≡ true → Parses differs rows 3 e 0 j w → Prefers differs e chosen → ⊥
     better e j w k r l =
-        let late = and-true (emptyLate (word body) 0 (e .0 .0)) (every (λ y. allowed body y) (e .0 .0)) (and-true (emptyLate (word body) 0 (e .0 .0) && every (λ y. allowed body y) (e .0 .0)) true k .0) .0 in
-        never (λ z. first-two (e .0 .0) (r .0) (r .1) (e .0 .1 .1) late (r .3) (r .4 .1) z) (λ z. z .1) l
+        let ds = e .0 .0 in
+        let late = and-true (emptyLate (word body) 0 ds) (every (λ y. allowed body y) ds) (and-true (emptyLate (word body) 0 ds && every (λ y. allowed body y) ds) true k .0) .0 in
+        never (λ z. first-two ds (r .0) (r .1) (e .0 .1 .1) late (r .3) (r .4 .1) z) (λ z. z .1) l

@@ -77,7 +77,8 @@ late : {A : Type 0} (f : A → List ℕ) (lo : ℕ) (hi : Option ℕ) (ds : List
 unfolding atMostOne
 late f lo none ds w m = absurd (false≢true m)
 late f lo (some hi) ds w m =
-    late-few f lo ds (⊎-elim (λ (x : leb hi lo ≡ true). inl (omega (arith, leb-true hi lo x))) (λ (x : leb hi 1 ≡ true). inr (omega (arith, leb-true hi 1 x))) (or-cases (leb hi lo) (leb hi 1) m))
+    late-few f lo ds
+    (⊎-elim (λ (x : leb hi lo ≡ true). inl (omega (arith, leb-true hi lo x))) (λ (x : leb hi 1 ≡ true). inr (omega (arith, leb-true hi 1 x))) (or-cases (leb hi lo) (leb hi 1) m))
 
 every-all : {A : Type 0} (f : A → Bool) → ((x : A) → f x ≡ true) → (xs : List A) → every f xs ≡ true
 unfolding every

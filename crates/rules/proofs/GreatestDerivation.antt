@@ -20,10 +20,10 @@ use Rattle.rules.specs.Search.{plainFrom, labels, lastOf, endOf}
 use Rattle.rules.specs.Walk.{Ways, pairs, pairAt, positionOf, waysAt, pairWays, plain, plainBy}
 use Rattle.rules.proofs.Bounds.{Bounds, in-order}
 use Rattle.rules.proofs.Counting.{forked-more}
-use Rattle.rules.proofs.DerivationPath.{ForkRuns, Runs, PathOf, path-one}
+use Rattle.rules.proofs.DerivationPath.{Routes, ForkRuns, Runs, PathOf, path-one}
 use Rattle.rules.proofs.DerivationReadings.{parses-one}
 use Rattle.rules.proofs.Level.{and-true}
-use Rattle.rules.proofs.PlainFinds.{Post, Settled, Finds, FindsOne, labels-append, through, pass-by, finds-one, finds-only, finds-first, finds-alt, finds-seq, finds-rounds}
+use Rattle.rules.proofs.PlainFinds.{Reading, Order, Post, Settled, Finds, FindsOne, labels-append, through, pass-by, finds-one, finds-only, finds-first, finds-alt, finds-seq, finds-rounds}
 use Rattle.rules.proofs.PrefermentOrder.{Compared, before, same, after, total-order}
 use Rattle.rules.proofs.Rank.{at-head}
 use Rattle.rules.proofs.WholePattern.{whole, first-place, small, ends-here, end-says, plain-ways}
@@ -32,14 +32,14 @@ use Rattle.rules.proofs.WholePattern.{whole, first-place, small, ends-h
 
 module _ (pl : List Place) (holds : ℕ → ℕ → Bool) (n : ℕ) (f : ℕ → Option (List ℕ)) (down : (x : ℕ) → f x ≡ plainBy (pairWays holds n pl x) f x) where
   -- a pattern unrolls to branches, any other phrase to one part
-  abbrev FindsAt : (k : Rank) → {A : Type 0} → (A → ℕ → ℕ → List ℕ → Type 0) → (A → A → Type 0) → (ℕ → ℕ → A → ℕ → List ℕ → Type 0) → UnrolledAt k → Type 0
+  abbrev FindsAt : (k : Rank) → {A : Type 0} → Reading A → Order A → Routes A → UnrolledAt k → Type 0
   FindsAt pattern R L T ts = FindsOne pl holds n f down R L T ts
   FindsAt branch R L T t = Finds pl holds n f down R L T t
   FindsAt factor R L T t = Finds pl holds n f down R L T t
   FindsAt primary R L T t = Finds pl holds n f down R L T t
 
   -- with its fork, if it has one
-  finds-forked : {A : Type 0} (R : A → ℕ → ℕ → List ℕ → Type 0) (L : A → A → Type 0) (T : ℕ → ℕ → A → ℕ → List ℕ → Type 0) (p : Tree pattern)
+  finds-forked : {A : Type 0} (R : Reading A) (L : Order A) (T : Routes A) (p : Tree pattern)
       → FindsOne pl holds n f down R L T (unrolled p) → Finds pl holds n f down R L (ForkRuns T (length pl) (fork p)) (forked (unrolled p))
   unfolding unrolled forked fork ForkRuns
   finds-forked R L T (one b) x = finds-only pl holds n f down R L T (unrolled b) x
@@ -52,10 +52,12 @@ module _ (pl : List Place) (holds : ℕ → ℕ → Bool) (n : ℕ) (f : ℕ →
   unfolding Derivation Parses Prefers Runs unrolled repeated Bounds code startOf size waysAt
   finds (one b) o = finds-one pl holds n f down (Parses b holds n) (Prefers b) (Runs b (length pl)) (unrolled b) (finds b o)
   finds (more b p) o =
-      finds-first pl holds n f down (Parses b holds n) (Prefers b) (Parses p holds n) (Prefers p) (Runs b (length pl)) (Runs p (length pl)) (unrolled b) (unrolled p) (finds b (o .0)) (finds p (o .1))
+      finds-first pl holds n f down (Parses b holds n) (Prefers b) (Parses p holds n) (Prefers p) (Runs b (length pl)) (Runs p (length pl)) (unrolled b) (unrolled p)
+      (finds b (o .0)) (finds p (o .1))
   finds (last t) o = finds t o
   finds (next s t) o =
-      finds-seq pl holds n f down (Parses s holds n) (Prefers s) (Parses t holds n) (Prefers t) (Runs s (length pl)) (Runs t (length pl)) (unrolled s) (unrolled t) (settled s) (finds s (o .0)) (finds t (o .1))
+      finds-seq pl holds n f down (Parses s holds n) (Prefers s) (Parses t holds n) (Prefers t) (Runs s (length pl)) (Runs t (length pl)) (unrolled s) (unrolled t)
+      (settled s) (finds s (o .0)) (finds t (o .1))
   finds (bare x) o = finds x o
   finds (times x q z) o =
       finds-rounds pl holds n f down (Parses x holds n) (Prefers x) (Runs x (length pl)) z (unrolled x) (settled x) (finds x (o .1)) (lower q) (upper q) (in-order q (o .0))
@@ -70,7 +72,8 @@ module _ (pl : List Place) (holds : ℕ → ℕ → Bool) (n : ℕ) (f : ℕ →
       through pl holds n f down (Parses dollar holds n) (Prefers dollar) (Runs dollar (length pl) b i) i i b k (pDollar k) (eqb i n) tt (omega arith) (at-head pl b _ _ (pFork []) a) refl
       (λ e. (eqb-true i n e, refl, refl)) (refl, refl) (λ e j w r. (eq-eqb i n (r .0), r .1, λ l. l))
   finds empty o = λ b k a hb hk i.
-      pass-by pl holds n f down (Parses empty holds n) (Prefers empty) (Runs empty (length pl) b i) i k tt (refl, refl) (refl, refl) (λ e j w r. (r .0, λ l. l)) (f (pairAt (length pl) i k)) refl
+      pass-by pl holds n f down (Parses empty holds n) (Prefers empty) (Runs empty (length pl) b i) i k tt (refl, refl) (refl, refl) (λ e j w r. (r .0, λ l. l))
+      (f (pairAt (length pl) i k)) refl
   finds (group p) o = finds-forked (Parses p holds n) (Prefers p) (Runs p (length pl)) p (finds p o)
 
 -- ---- the match at a start
@@ -104,15 +107,21 @@ module _ (p : Tree pattern) (g : emptyLoop p ≡ false) (o : Bounds p) (holds : 
   unfolding plainBy
   end-is j = plain-ways p g holds n (end j) ∙ ap (λ (w : Ways). plainBy w f (end j)) (ends-here (unroll p) holds n j)
 
-  answer : (i : ℕ) (r : Option (List ℕ)) → Post pl f (Parses p holds n) (Prefers p) (ForkRuns (Runs p (length pl)) (length pl) (fork p) 0 i) i (size (unroll p)) r → Answers p holds n i r
+  -- what is found behind the whole pattern, at END
+  abbrev AtEnd : ℕ → Option (List ℕ) → Type 0
+  AtEnd i r = Post pl f (Parses p holds n) (Prefers p) (ForkRuns (Runs p (length pl)) (length pl) (fork p) 0 i) i (size (unroll p)) r
+
+  answer : (i : ℕ) (r : Option (List ℕ)) → AtEnd i r → Answers p holds n i r
   answer i none c = λ e j w r. let q = c e j w r in let z : _≡_ {A = ℕ} 0 1 = cc (end-is j) in omega arith
   answer i (some path) c =
       let x : ℕ = end (c .to) in
       let ends : x ∷ [] ≡ c .rest = cc (end-is (c .to), c .goes) in
       let is : path ≡ c .front ++ (x ∷ []) = c .is ∙ ap (λ (l : List ℕ). c .front ++ l) (sym ends) in
-      let to : endOf (length pl) path ≡ c .to = ap (λ (l : List ℕ). endOf (length pl) l) is ∙ ap (positionOf (length pl)) (last-of 0 x (c .front)) ∙ digits-div (c .to) (small (unroll p)) in
+      let to : endOf (length pl) path ≡ c .to =
+      ap (λ (l : List ℕ). endOf (length pl) l) is ∙ ap (positionOf (length pl)) (last-of 0 x (c .front)) ∙ digits-div (c .to) (small (unroll p)) in
       let said : labels pl path ≡ labels pl (c .front) =
-      ap (labels pl) is ∙ labels-append pl (c .front) (x ∷ []) ∙ ap (λ (l : List ℕ). labels pl (c .front) ++ l) (end-says (unroll p) holds n (c .to)) ∙ append-nil (labels pl (c .front)) in
+      ap (labels pl) is ∙ labels-append pl (c .front) (x ∷ []) ∙ ap (λ (l : List ℕ). labels pl (c .front) ++ l) (end-says (unroll p) holds n (c .to))
+      ∙ append-nil (labels pl (c .front)) in
       record {
         best = record {
           derivation = c .best;
@@ -126,8 +135,9 @@ module _ (p : Tree pattern) (g : emptyLoop p ≡ false) (o : Bounds p) (holds : 
   pub preferred : (i : ℕ) → Answers p holds n i (plainFrom holds n (places (unroll p)) i)
   unfolding unroll
   preferred i =
-      let found : Post pl f (Parses p holds n) (Prefers p) (ForkRuns (Runs p (length pl)) (length pl) (fork p) 0 i) i (size (unroll p)) (f (pairAt (length pl) i (startOf (unroll p) 0 (size (unroll p))))) =
-      finds-forked pl holds n f (plain-ways p g holds n) (Parses p holds n) (Prefers p) (Runs p (length pl)) p (finds pl holds n f (plain-ways p g holds n) p o) 0 (size (unroll p)) (whole (unroll p))
+      let down = plain-ways p g holds n in
+      let found : AtEnd i (f (pairAt (length pl) i (startOf (unroll p) 0 (size (unroll p))))) =
+      finds-forked pl holds n f down (Parses p holds n) (Prefers p) (Runs p (length pl)) p (finds pl holds n f down p o) 0 (size (unroll p)) (whole (unroll p))
       (omega (arith, small (unroll p))) (small (unroll p)) i in
       answer i (plainFrom holds n (places (unroll p)) i) (rw (first-place (unroll p), add-zero) at found)
 
@@ -176,7 +186,8 @@ module _ (p : Tree pattern) (g : emptyLoop p ≡ false) (o : Bounds p) (holds : 
       from x (some path) e a = let s = greatest-same (a .best) x in (path, (e, s .0, s .1))
 
   -- the path found is that of the greatest derivation
-  pub path-is-greatest : (i : ℕ) (path : List ℕ) → (plainFrom holds n (places (unroll p)) i ≡ some path) ↔ ((j : ℕ) × (w : List ℕ) × (x : Preferred p holds n i j w) × PathOf p (x .derivation) i j path)
+  pub path-is-greatest : (i : ℕ) (path : List ℕ) → (plainFrom holds n (places (unroll p)) i ≡ some path)
+      ↔ ((j : ℕ) × (w : List ℕ) × (x : Preferred p holds n i j w) × PathOf p (x .derivation) i j path)
   path-is-greatest i path = (to, λ x. from x (plainFrom holds n (places (unroll p)) i) refl (preferred p g o holds n i))
     where
       to : plainFrom holds n (places (unroll p)) i ≡ some path → (j : ℕ) × (w : List ℕ) × (x : Preferred p holds n i j w) × PathOf p (x .derivation) i j path

@@ -37,3 +37,6 @@ pub mod Limits
 pub mod Demands
 pub mod Decimal
 pub mod Bench
+pub mod Listing
+pub mod Clause62
+pub mod Strings

@@ -69,7 +69,8 @@ module _ {A B : Type 0} (P : A → A → Type 0) (Q : B → B → Type 0) (p : T
       irr : (d : A × B) → Lexicographic P Q d d → ⊥
       irr d l = ⊎-elim (λ (x : P (d .0) (d .0)). p .irreflexive (d .0) x) (λ (x : (d .0 ≡ d .0) × Q (d .1) (d .1)). q .irreflexive (d .1) (x .1)) l
 
-      tra : (d e g : A × B) → P (d .0) (e .0) ⊎ ((d .0 ≡ e .0) × Q (d .1) (e .1)) → P (e .0) (g .0) ⊎ ((e .0 ≡ g .0) × Q (e .1) (g .1)) → P (d .0) (g .0) ⊎ ((d .0 ≡ g .0) × Q (d .1) (g .1))
+      tra : (d e g : A × B) → P (d .0) (e .0) ⊎ ((d .0 ≡ e .0) × Q (d .1) (e .1)) → P (e .0) (g .0) ⊎ ((e .0 ≡ g .0) × Q (e .1) (g .1))
+          → P (d .0) (g .0) ⊎ ((d .0 ≡ g .0) × Q (d .1) (g .1))
       tra d e g (inl l) (inl m) = inl (p .transitive (d .0) (e .0) (g .0) l m)
       tra d e g (inl l) (inr m) = inl (subst (λ (x : A). P (d .0) x) (m .0) l)
       tra d e g (inr l) (inl m) = inl (subst (λ (x : A). P x (g .0)) (sym (l .0)) m)

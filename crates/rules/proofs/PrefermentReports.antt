@@ -71,8 +71,8 @@ module _ (p : Tree pattern) (holds : ℕ → ℕ → Bool) (n : ℕ) (mode : Boo
   clash : {m l : ℕ} (w w′ : List ℕ) → w ≡ w′ → room m l w ≡ true → room m l w′ ≡ false → ⊥
   clash {m} {l} w w′ e x y = true≢false (sym x ∙ ap (room m l) e ∙ y)
 
-  pub reports-one : {i m l : ℕ} {ms ms′ : List (ℕ × List ℕ)} {full full′ : Option (ℕ × List ℕ)} → Reports p holds n mode room i m l ms full → Reports p holds n mode room i m l ms′ full′
-      → (ms ≡ ms′) × (full ≡ full′)
+  pub reports-one : {i m l : ℕ} {ms ms′ : List (ℕ × List ℕ)} {full full′ : Option (ℕ × List ℕ)} → Reports p holds n mode room i m l ms full
+      → Reports p holds n mode room i m l ms′ full′ → (ms ≡ ms′) × (full ≡ full′)
   reports-one (finished h) (finished h′) = (refl, refl)
   reports-one (finished h) (unmatched lt x r) = absurd (omega arith)
   reports-one (finished h) (matched lt x b r) = absurd (omega arith)
