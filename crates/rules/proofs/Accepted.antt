@@ -1,7 +1,7 @@
 -- What is known of an accepted search: none of the tests for 1 to 12 is true, so the pattern has a tree, P is 1 to 256, the rows are whole and at most
 -- 4,096, and the notes and the trail are long enough. Everything that an implementation may rely on follows from these.
 use mathlib.Core.Path.{_≡_, refl}
-use mathlib.Core.Bool.{Bool, true, false, not, _||_, true≢false}
+use mathlib.Core.Bool.{Bool, true, false, not, true≢false}
 use mathlib.Core.List.{List, [], _∷_}
 use mathlib.Core.Option.{Option, none, some}
 use Prim.Native.Nat.{ℕ, _%_, _≤_}
@@ -17,6 +17,7 @@ use Rattle.rules.specs.Places.{unroll, places, placesOf}
 use Rattle.rules.specs.Walk.{pairs}
 use Rattle.rules.specs.Report.{bytesFor}
 use Rattle.rules.specs.Answers.{placesIn, taskOf, tooDeep, treeIn, noTree, hasEmptyLoop, P, tooMany, foreign, badRows, Buffers, pairsOf, shortNotes, shortTrail, stopped, lowest, queryTests, answerBy, walkOf, answerOf}
+use Rattle.rules.proofs.Level.{or-false}
 
 -- the input is accepted: its answer is none of 1 to 12
 abbrev pub Accepted : List ℕ → List ℤ → Buffers → Type 0
@@ -91,10 +92,6 @@ tree-of : (t : Option (Tree pattern)) → noTree t ≡ false → (p : Tree patte
 unfolding noTree
 tree-of none e = absurd (true≢false e)
 tree-of (some p) e = (p, refl)
-
-or-false : (a b : Bool) → (a || b) ≡ false → (a ≡ false) × (b ≡ false)
-or-false true b e = absurd (true≢false e)
-or-false false b e = (refl, e)
 
 not-false-is : (b : Bool) → not b ≡ false → b ≡ true
 not-false-is true e = refl

@@ -71,16 +71,17 @@ pub path-closed : (ways : ℕ → Ways) (Q : ℕ → Type 0) → ((x : ℕ) (ys 
 path-closed ways Q cl q (here e) = (q, tt)
 path-closed ways Q cl {x} q (there {ys = ys} e m h) = (q, path-closed ways Q cl (All-at Q m (cl x ys e q)) h)
 
+-- what is said to come before a path does not matter for its last pair
+pub last-same : {ways : ℕ → Ways} {x : ℕ} {p : List ℕ} (a b : ℕ) → IsPath ways x p → lastOf a p ≡ lastOf b p
+last-same a b (here e) = refl
+last-same a b (there e m h) = refl
+
 module _ (ways : ℕ → Ways) (pos : ℕ → ℕ) (onward : Onward ways pos) where
   pub path-from : {x : ℕ} {p : List ℕ} → IsPath ways x p → All (λ z. pos x ≤ pos z) p
   path-from (here e) = (omega arith, tt)
   path-from {x} (there {y = y} {ys = ys} {p = p} e m h) =
       let d = All-at (λ y. pos x ≤ pos y) m (onward x ys e) in
       (omega arith, All-map (λ z (r : pos y ≤ pos z). omega arith) p (path-from h))
-
-  last-same : {x : ℕ} {p : List ℕ} (a b : ℕ) → IsPath ways x p → lastOf a p ≡ lastOf b p
-  last-same a b (here e) = refl
-  last-same a b (there e m h) = refl
 
   last-from : {x : ℕ} {p : List ℕ} (a : ℕ) → IsPath ways x p → pos x ≤ pos (lastOf a p)
   last-from a (here e) = omega arith

@@ -1,57 +1,29 @@
 -- The bounds on depth and attempts in the definitions of plain backtracking, the counted walk and the search are large enough: over a graph whose
 -- ways fall in rank, and so for every legal pattern, a larger bound gives the same. And no path is longer than the number of pairs.
 use mathlib.Core.Path.{_≡_, refl, ap}
-use mathlib.Core.List.{List, [], _∷_}
+use mathlib.Core.List.{List}
 use mathlib.Core.Bool.{Bool, true, false}
 use mathlib.Core.Option.{Option, none, some}
 use Prim.Native.Nat.{ℕ, zero, suc, _+_, _≤_, _<_}
-use native.Mathlib.Nat.{le-trans, not-suc-le-zero}
+use native.Mathlib.Nat.{le-trans}
 use native.Mathlib.Omega.{arith}
 use lib.ListN.{length, getD, replicate}
 use lib.Dec.{ltb}
 use borrow.Author.Tests.{le-ltb}
 use Rattle.rules.specs.Places.{Unrolled, Place, places}
 use Rattle.rules.specs.Search.{Match, Swept, Plan, below, byFit, onAnswer, sweep, answered, walkAt, plainAt, endOf, planOf, walkSearch, plainSearch}
-use Rattle.rules.specs.Walk.{IsPath, here, there, Ways, accept, try, pairs, firstAt, pairWays, plain, Outcome, found, failed, orElse, close, enterUnless, tries, inside, insideBy}
+use Rattle.rules.specs.Walk.{IsPath, here, there, Ways, pairs, firstAt, pairWays, plain, enterUnless, inside}
 use Rattle.rules.proofs.Level.{legal}
 use Rattle.rules.proofs.Plain.{plain-fuel}
+use Rattle.rules.proofs.Machine.{inside-fuel}
 use Rattle.rules.proofs.PatternWalk.{falls, top}
 use Rattle.rules.proofs.Rank.{rank}
 use Rattle.rules.proofs.Starts.{next-on}
-use Rattle.rules.proofs.Walk.{All, All-map, All-at, Falls}
+use Rattle.rules.proofs.Walk.{All-at, Falls}
 
--- ---- the counted walk
-
-tries-same : (f g : List Bool → ℕ → ℕ → Outcome) (ys : List ℕ) → All (λ y. (F : List Bool) (s : ℕ) → f F s y ≡ g F s y) ys
-    → (F : List Bool) (s : ℕ) → tries f F s ys ≡ tries g F s ys
-unfolding tries
-tries-same f g [] a F s = refl
-tries-same f g (y ∷ ys) a F s = rw (enter (getD F y false)) (after (tries-same f g ys (a .1)) (enterUnless (getD F y false) g F s y))
-  where
-    enter : (t : Bool) → enterUnless t f F s y ≡ enterUnless t g F s y
-    enter true = refl
-    enter false = a .0 F (suc s)
-
-    after : ((F : List Bool) (s : ℕ) → tries f F s ys ≡ tries g F s ys) → (r : Outcome) → orElse r (λ F′ s′. tries f F′ s′ ys) ≡ orElse r (λ F′ s′. tries g F′ s′ ys)
-    after ih (found p F′ s′) = refl
-    after ih (failed F′ s′) = ih F′ s′
+-- ---- paths
 
 module _ (ways : ℕ → Ways) (ρ : ℕ → ℕ) (N : ℕ) (falls : Falls ways ρ N) where
-  -- any two bounds above the rank give the same, as `plain-fuel` says of plain backtracking
-  pub inside-fuel : (k l x : ℕ) → ρ x < k → ρ x < l → (F : List Bool) (s : ℕ) → inside ways k F s x ≡ inside ways l F s x
-  unfolding inside insideBy
-  inside-fuel zero l x h i F s = absurd (not-suc-le-zero h)
-  inside-fuel (suc k) zero x h i F s = absurd (not-suc-le-zero i)
-  inside-fuel (suc k) (suc l) x h i F s = go (λ y. inside-fuel k l y) (ways x) refl
-    where
-      go : ((y : ℕ) → ρ y < k → ρ y < l → (F : List Bool) (s : ℕ) → inside ways k F s y ≡ inside ways l F s y)
-          → (w : Ways) → ways x ≡ w → insideBy w (inside ways k) F s x ≡ insideBy w (inside ways l) F s x
-      go ih accept e = refl
-      go ih (try ys) e =
-          ap (close x) (tries-same (inside ways k) (inside ways l) ys
-          (All-map {Q = λ y. (F : List Bool) (s : ℕ) → inside ways k F s y ≡ inside ways l F s y}
-          (λ y (r : (ρ y < ρ x) × (x < N → y < N)). ih y (omega arith) (omega arith)) ys (falls x ys e)) F s)
-
   -- a path has at most as many pairs as its first pair's rank and one more
   pub path-length : {x : ℕ} {p : List ℕ} → IsPath ways x p → length p ≤ suc (ρ x)
   path-length (here e) = omega arith

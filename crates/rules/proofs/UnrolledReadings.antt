@@ -13,6 +13,7 @@ use Rattle.rules.specs.Places.{Unrolled, uLetter, uCaret, uDollar, uEmpt
 use Rattle.rules.specs.Readings.{Rounds}
 use Rattle.rules.specs.Search.{lastOf, labels, labelOf}
 use Rattle.rules.specs.Walk.{IsPath, here, there, try, passIf, waysAt, pairWays}
+use Rattle.rules.proofs.Bound.{last-same}
 use Rattle.rules.proofs.Level.{and-true}
 use Rattle.rules.proofs.Rank.{At, at-left, at-right, at-head, at-tail, code-length, entry-below}
 
@@ -177,10 +178,6 @@ module _ (pl : List Place) (holds : ℕ → ℕ → Bool) (n : ℕ) where
     is : IsPath (pairWays holds n pl) y rest
     begins : p ≡ x ∷ rest
     ends : lastOf 0 p ≡ lastOf 0 rest
-
-  last-same : {x : ℕ} {p : List ℕ} (a b : ℕ) → IsPath (pairWays holds n pl) x p → lastOf a p ≡ lastOf b p
-  last-same a b (here e) = refl
-  last-same a b (there e m h) = refl
 
   path-on : {x : ℕ} {p : List ℕ} (ys : List ℕ) → pairWays holds n pl x ≡ try ys → IsPath (pairWays holds n pl) x p → (y : ℕ) × (List·Memᴰ y ys) × (On x y p)
   path-on ys e (here d) = let z : _≡_ {A = ℕ} 0 1 = cc in absurd (omega arith)
