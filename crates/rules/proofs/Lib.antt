@@ -30,6 +30,7 @@ pub mod GreatestDerivation
 pub mod PrefermentReports
 pub mod EmptyRounds
 pub mod Differs
+pub mod QueryFuel
 pub mod Notes
 pub mod Noted
 pub mod Accepted
