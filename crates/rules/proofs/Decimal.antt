@@ -1,9 +1,9 @@
--- The numbers that the program prints: read as a decimal they have the number's value, and only 0 begins with a 0.
+-- The numbers that the program prints, below 10 ^ 20: read as a decimal they have the number's value, and only 0 begins with a 0.
 use mathlib.Core.Path.{_≡_, refl, _∙_}
 use mathlib.Core.Bool.{Bool, true, false}
 use mathlib.Core.List.{List, [], _∷_, _++_}
-use Prim.Native.Nat.{ℕ, zero, suc, _+_, _*_, _-_, _/_, _%_, _≤_, _<_}
-use native.Mathlib.Nat.{not-suc-le-zero}
+use Prim.Native.Nat.{ℕ, zero, suc, _+_, _*_, _-_, _/_, _%_, _^_, _≤_, _<_}
+use native.Mathlib.Nat.{not-suc-le-zero, pow-suc, div-lt-iff-lt-mul}
 use native.Mathlib.Omega.{arith}
 use lib.Dec.{ltb}
 use borrow.Author.Tests.{ltb-false}
@@ -20,22 +20,30 @@ unfolding value
 value-last a [] d = omega arith
 value-last a (e ∷ ds) d = value-last (a * 10 + (e - 48)) ds d
 
-digits-value : (k n : ℕ) → n < k → value 0 (digitsOf k n) ≡ n
+-- a tenth of a number has one digit less
+tenth : (k n : ℕ) → n < 10 ^ suc k → n / 10 < 10 ^ k
+tenth k n h =
+    let e : 10 ^ suc k ≡ 10 ^ k * 10 = pow-suc 10 k in
+    let l : n < 10 ^ k * 10 = omega (arith, e) in
+    let t : 0 < 10 = omega arith in
+    div-lt-iff-lt-mul t .1 l
+
+digits-value : (k n : ℕ) → n < 10 ^ k → value 0 (digitsOf k n) ≡ n
 unfolding digitsOf value
-digits-value zero n h = absurd (not-suc-le-zero h)
-digits-value (suc k) n h = go (λ l. digits-value k (n / 10) l) (ltb n 10) refl
+digits-value zero n h = let e : n ≡ 0 = omega arith in rw e
+digits-value (suc k) n h = go (digits-value k (n / 10) (tenth k n h)) (ltb n 10) refl
   where
     small : value 0 ((48 + n) ∷ []) ≡ n
     small = omega arith
 
-    go : (n / 10 < k → value 0 (digitsOf k (n / 10)) ≡ n / 10) → (t : Bool) → ltb n 10 ≡ t
+    go : value 0 (digitsOf k (n / 10)) ≡ n / 10 → (t : Bool) → ltb n 10 ≡ t
         → value 0 (pick t ((48 + n) ∷ []) (digitsOf k (n / 10) ++ ((48 + n % 10) ∷ []))) ≡ n
     go ih true e = small
-    go ih false e = let b = ltb-false n 10 e in value-last 0 (digitsOf k (n / 10)) (n % 10) ∙ (let i = ih (omega arith) in omega arith)
+    go ih false e = let b = ltb-false n 10 e in value-last 0 (digitsOf k (n / 10)) (n % 10) ∙ omega (arith, ih)
 
-pub decimal-value : (n : ℕ) → value 0 (decimal n) ≡ n
+pub decimal-value : (n : ℕ) → n < 10 ^ 20 → value 0 (decimal n) ≡ n
 unfolding decimal
-decimal-value n = digits-value (suc n) n (omega arith)
+decimal-value n h = digits-value 20 n h
 
 -- the first digit, 0 if there is none
 unfoldable pub firstDigit : List ℕ → ℕ
@@ -47,19 +55,19 @@ unfolding firstDigit
 first-before [] es h = absurd (not-suc-le-zero h)
 first-before (d ∷ ds) es h = refl
 
-digits-first : (k n : ℕ) → n < k → 1 ≤ n → 48 < firstDigit (digitsOf k n)
+digits-first : (k n : ℕ) → n < 10 ^ k → 1 ≤ n → 48 < firstDigit (digitsOf k n)
 unfolding digitsOf firstDigit
-digits-first zero n h l = absurd (not-suc-le-zero h)
-digits-first (suc k) n h l = go (λ a b. digits-first k (n / 10) a b) (ltb n 10) refl
+digits-first zero n h l = absurd (omega arith)
+digits-first (suc k) n h l = go (λ b. digits-first k (n / 10) (tenth k n h) b) (ltb n 10) refl
   where
-    go : (n / 10 < k → 1 ≤ n / 10 → 48 < firstDigit (digitsOf k (n / 10))) → (t : Bool) → ltb n 10 ≡ t
+    go : (1 ≤ n / 10 → 48 < firstDigit (digitsOf k (n / 10))) → (t : Bool) → ltb n 10 ≡ t
         → 48 < firstDigit (pick t ((48 + n) ∷ []) (digitsOf k (n / 10) ++ ((48 + n % 10) ∷ [])))
     go ih true e = omega arith
     go ih false e =
         let b = ltb-false n 10 e in
-        let i = ih (omega arith) (omega arith) in
+        let i = ih (omega arith) in
         rw (first-before (digitsOf k (n / 10)) ((48 + n % 10) ∷ []) (omega arith)) i
 
-pub no-leading-zero : (n : ℕ) → 1 ≤ n → 48 < firstDigit (decimal n)
+pub no-leading-zero : (n : ℕ) → n < 10 ^ 20 → 1 ≤ n → 48 < firstDigit (decimal n)
 unfolding decimal
-no-leading-zero n l = digits-first (suc n) n (omega arith) l
+no-leading-zero n h l = digits-first 20 n h l

@@ -16,14 +16,15 @@ use Rattle.rules.specs.Answers.{badRows, roomAnswer, pairsOf, Task, task
 
 -- ---- numbers in decimal
 
--- the digits of a number without leading zero, 0 is 48; at most k of them, and a number has no more digits than one more than itself
+-- the digits of a number without leading zero, 0 is 48; at most k of them
 unfoldable pub digitsOf : ℕ → ℕ → List ℕ
 digitsOf zero n = []
 digitsOf (suc k) n = pick (ltb n 10) ((48 + n) ∷ []) (digitsOf k (n / 10) ++ ((48 + n % 10) ∷ []))
 
+-- every number here is below 2 ^ 64, which has 20 digits; the law `decimal-value` (proofs/Decimal) says that 20 are enough
 unfoldable pub decimal : ℕ → List ℕ
 unfolding digitsOf
-decimal n = digitsOf (suc n) n
+decimal n = digitsOf 20 n
 
 -- a number below 0 has a minus (45) in front
 unfoldable pub signedDecimal : ℤ → List ℕ
