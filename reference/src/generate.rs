@@ -1,0 +1,16 @@
+//! Inputs for comparing programs: made by a deterministic generator from a seed,
+//! or listed in full. Accepted queries of all shapes, damaged ones for each
+//! answer of the table in document 01 and for pairs of answers, ones at the
+//! limits it states, and rooms of every critical length.
+//! The right results are not stored here: `search` and `program` give them.
+
+pub mod damage;
+pub mod draft;
+pub mod limits;
+pub mod mix;
+pub mod random;
+pub mod stdin;
+pub mod texts;
+
+pub use draft::{Draft, Input, Room, Size};
+pub use random::Random;

@@ -1,0 +1,302 @@
+//! Damage to a draft: for each answer of the table in document 01 many causes,
+//! one of them taken at random. Where two are wanted, the one with the higher
+//! number is done first, so that the lower one surely stands in the input.
+
+use super::draft::{define_body, random_define, with_number, Draft, Numbers, Room, Tail};
+use super::random::Random;
+use super::texts;
+use crate::query::{COUNT, DEFINE, LAST, MEASURE, MOST_MEASURES, MOST_TEXT, SHAPE, SKIP, TEXT};
+use crate::search::MOST_ROWS;
+
+/// Damages a draft so that the answer applies. False where this draft cannot be
+/// brought to that answer (a 13 without any match), and then it is unchanged.
+pub fn damage(random: &mut Random, draft: &mut Draft, answer: u8) -> bool {
+    match answer {
+        1 => cut(random, draft),
+        2 => wrong_kind(random, draft),
+        3 => wrong_field(random, draft),
+        4..=7 => wrong_text(random, draft, answer),
+        8 => define_twice(random, draft),
+        9 => measure_a_stranger(random, draft),
+        10 => wrong_rows(random, draft),
+        11 => draft.notes = short(random),
+        12 => draft.trail = short(random),
+        _ => return stop(random, draft),
+    }
+    true
+}
+
+/// Damages a draft for two answers; once if they are the same, since a second
+/// damage of the same sort might undo the first.
+pub fn damage_twice(random: &mut Random, draft: &mut Draft, answers: [u8; 2]) -> bool {
+    let [low, high] = [answers[0].min(answers[1]), answers[0].max(answers[1])];
+    damage(random, draft, high) && (low == high || damage(random, draft, low))
+}
+
+fn short(random: &mut Random) -> Room {
+    let part = Room::Part(random.below(99));
+    random.pick(&[Room::OneShort, Room::OneShort, Room::Nothing, part])
+}
+
+fn cut(random: &mut Random, draft: &mut Draft) {
+    if draft.records.is_empty() {
+        draft.tail = Tail::Stray(vec![0]);
+        return;
+    }
+    draft.tail = match random.below(3) {
+        0 => {
+            let count = 1 + random.below(3);
+            Tail::Stray(
+                (0..count)
+                    .map(|_| random.pick(&[0, 1, 2, 5, 255]))
+                    .collect(),
+            )
+        }
+        1 => Tail::Short(random.pick(&[1, 1, 2, 3, 4, 5, 100])),
+        _ => Tail::Stretched(random.pick(&[1, 1, 2, 100, 65_000])),
+    };
+}
+
+const UNKNOWN_KINDS: [u16; 9] = [0, 6, 7, 255, 256, 0x0101, 0x0102, 0x0500, 65_535];
+
+fn wrong_kind(random: &mut Random, draft: &mut Draft) {
+    let at = random.below(draft.records.len());
+    match random.below(9) {
+        0 => draft.records[at].0 = random.pick(&UNKNOWN_KINDS),
+        1 => {
+            let body = vec![0; random.below(3)];
+            let kind = random.pick(&UNKNOWN_KINDS);
+            draft.records.insert(at, (kind, body));
+        }
+        2 => {
+            let kind = random.pick(&[SHAPE, TEXT, SKIP]);
+            draft.records.retain(|record| record.0 != kind);
+        }
+        3 => {
+            let kind = random.pick(&[SHAPE, TEXT, SKIP]);
+            let again = draft.place_of(kind).unwrap_or(at);
+            let record = draft.records[again].clone();
+            let behind = random.pick(&[again, draft.records.len()]);
+            draft.records.insert(behind, record);
+        }
+        4 => too_many(draft, DEFINE, 27),
+        5 => too_many(draft, MEASURE, MOST_MEASURES + 1),
+        6 => draft.records.clear(),
+        _ => misplace(random, draft),
+    }
+}
+
+/// Brings the number of DEFINEs or measures to one more than there may be.
+fn too_many(draft: &mut Draft, kind: u16, count: usize) {
+    while draft.places_of(kind).len() < count {
+        let have = draft.places_of(kind).len() as u8;
+        match kind {
+            DEFINE => {
+                let letter = b'A' + have % 26;
+                draft.add_define(define_body(letter, &[with_number(0, 0, 1, 0)]));
+            }
+            _ => draft.records.push((MEASURE, vec![COUNT, 0, 0, 0])),
+        }
+    }
+}
+
+/// A record behind or before one of another kind.
+fn misplace(random: &mut Random, draft: &mut Draft) {
+    let before = draft.records.clone();
+    while draft.records.iter().map(|record| record.0).is_sorted() {
+        draft.records = before.clone();
+        let from = random.below(before.len());
+        let record = draft.records.remove(from);
+        let to = random.below(draft.records.len() + 1);
+        draft.records.insert(to, record);
+        if before.len() < 2 {
+            draft.records.clear();
+            return;
+        }
+    }
+}
+
+fn wrong_field(random: &mut Random, draft: &mut Draft) {
+    let kinds: Vec<u16> = draft.records.iter().map(|record| record.0).collect();
+    let mut different: Vec<u16> = kinds;
+    different.dedup();
+    let kind = random.pick(&different);
+    let at = random.pick(&draft.places_of(kind));
+    let columns = draft.columns();
+    let body = &mut draft.records[at].1;
+    if kind != TEXT && random.chance(20) {
+        wrong_length(random, body);
+        return;
+    }
+    match kind {
+        SHAPE => wrong_shape(random, body),
+        TEXT => lengthen(random, body),
+        DEFINE => wrong_define(random, body, columns),
+        SKIP => wrong_skip(random, body),
+        _ => wrong_measure(random, body, columns),
+    }
+}
+
+fn wrong_length(random: &mut Random, body: &mut Vec<u8>) {
+    match random.below(4) {
+        0 => body.push(0),
+        1 => body.extend(vec![0; 12]),
+        2 => {
+            body.pop();
+        }
+        _ => body.clear(),
+    }
+}
+
+fn wrong_shape(random: &mut Random, body: &mut [u8]) {
+    match random.chance(60) {
+        true => body[0] = random.pick(&[0, 9, 10, 255]),
+        false => body[1] = random.pick(&[1, 128, 255]),
+    }
+}
+
+fn lengthen(random: &mut Random, body: &mut Vec<u8>) {
+    let length = MOST_TEXT + 1 + random.pick(&[0, 0, 1, 256]);
+    body.resize(length.max(body.len()), b' ');
+}
+
+fn wrong_skip(random: &mut Random, body: &mut [u8]) {
+    match random.chance(60) {
+        true => body[0] = random.pick(&[2, 3, 255]),
+        false => body[1] = random.pick(&[1, 128, 255]),
+    }
+}
+
+const NO_LETTERS: [u8; 6] = [0, b'@', b'[', b'a', b'z', 255];
+
+fn wrong_define(random: &mut Random, body: &mut Vec<u8>, columns: u8) {
+    match random.below(10) {
+        0 => body[0] = random.pick(&NO_LETTERS),
+        1 => body[1] = random.pick(&[0, 9, 255]),
+        2 => body[1] = body[1] % 8 + 1,
+        3 => {
+            body[1] = 9;
+            let comparison = body[2..14].to_vec();
+            body.truncate(2);
+            body.extend(comparison.repeat(9));
+        }
+        _ => {
+            let comparison = 2 + 12 * random.below(body[1].into());
+            wrong_comparison(random, &mut body[comparison..comparison + 12], columns);
+        }
+    }
+}
+
+const WRONG_OFFSETS: [i8; 4] = [-65, 65, 127, -128];
+
+fn wrong_comparison(random: &mut Random, bytes: &mut [u8], columns: u8) {
+    let right_is_column = bytes[3] == 1;
+    match random.below(8) {
+        0 => bytes[0] = random.pick(&[columns, 255]),
+        1 => bytes[1] = random.pick(&WRONG_OFFSETS) as u8,
+        2 => bytes[2] = random.pick(&[0, 7, 255]),
+        3 => bytes[3] = random.pick(&[2, 255]),
+        4 if right_is_column => bytes[4] = random.pick(&[columns, 255]),
+        4 => bytes[4] = random.pick(&[1, 255]),
+        5 if right_is_column => bytes[5] = random.pick(&WRONG_OFFSETS) as u8,
+        5 => bytes[5] = random.pick(&[1, 255]),
+        at => bytes[at] = random.pick(&[1, 128, 255]),
+    }
+}
+
+fn wrong_measure(random: &mut Random, body: &mut [u8], columns: u8) {
+    match random.below(5) {
+        0 => body[0] = random.pick(&[0, 7, 255]),
+        1 => body[1] = random.pick(&[1, b'@', b'[', b'a', 255]),
+        2 => body[2] = random.pick(&[columns, 255]),
+        3 => {
+            body[0] = COUNT;
+            body[2] = 1;
+        }
+        _ => body[3] = random.pick(&[1, 128, 255]),
+    }
+}
+
+fn wrong_text(random: &mut Random, draft: &mut Draft, answer: u8) {
+    let text = texts::refused(random, answer);
+    if let Some(body) = draft.body_mut(TEXT) {
+        *body = text;
+    }
+}
+
+/// A second DEFINE for a letter, next to the first or far from it, the same or
+/// another one; also for a letter that is not in the pattern.
+fn define_twice(random: &mut Random, draft: &mut Draft) {
+    let columns = draft.columns();
+    let mut bodies: Vec<Vec<u8>> = draft
+        .places_of(DEFINE)
+        .into_iter()
+        .map(|at| draft.records[at].1.clone())
+        .collect();
+    if bodies.is_empty() || random.chance(20) {
+        let letter = random.pick(b"ABQZ");
+        let body = random_define(random, letter, columns, Numbers::Low);
+        bodies.push(body);
+    }
+    let first = random.pick(&bodies);
+    let second = match random.chance(50) {
+        true => first.clone(),
+        false => random_define(random, first[0], columns, Numbers::Low),
+    };
+    bodies.insert(random.below(bodies.len() + 1), second);
+    draft.records.retain(|record| record.0 != DEFINE);
+    for body in bodies {
+        draft.add_define(body);
+    }
+}
+
+fn measure_a_stranger(random: &mut Random, draft: &mut Draft) {
+    let letters = draft.letters();
+    let strangers: Vec<u8> = (b'A'..=b'Z').filter(|it| !letters.contains(it)).collect();
+    let Some(last) = strangers.last() else {
+        return;
+    };
+    let stranger = random.pick(&[strangers[0], *last]);
+    let measures = draft.places_of(MEASURE);
+    if measures.len() == MOST_MEASURES || (!measures.is_empty() && random.chance(50)) {
+        let at = random.pick(&measures);
+        draft.records[at].1[1] = stranger;
+    } else {
+        let function = random.between(COUNT.into(), LAST.into()) as u8;
+        draft
+            .records
+            .push((MEASURE, vec![function, stranger, 0, 0]));
+    }
+}
+
+/// Rows that are not whole; or, in a draft that is large anyway, too many.
+fn wrong_rows(random: &mut Random, draft: &mut Draft) {
+    let columns = usize::from(draft.columns());
+    if draft.rows.len() > 6 * 8 && random.chance(10) {
+        draft.rows = vec![1; (MOST_ROWS + 1) * columns];
+        return;
+    }
+    if columns == 1 {
+        if let Some(body) = draft.body_mut(SHAPE) {
+            body[0] = 2;
+        }
+    }
+    let columns = usize::from(draft.columns());
+    let left_over = 1 + random.below(columns - 1);
+    let whole = draft.rows.len() / columns * columns;
+    draft.rows.resize(whole + left_over, 1);
+}
+
+/// Report rooms that end before the last match does.
+fn stop(random: &mut Random, draft: &mut Draft) -> bool {
+    let [_, _, numbers, labels] = draft.needs();
+    let judged = crate::search::room(&draft.query(), &draft.rows);
+    if judged.0 != 0 || numbers == 0 {
+        return false;
+    }
+    match labels > 0 && random.chance(50) {
+        true => draft.labels = short(random),
+        false => draft.numbers = short(random),
+    }
+    true
+}

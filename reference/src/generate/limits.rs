@@ -1,0 +1,170 @@
+//! Inputs at the limits that document 01 states, and one beyond each: places,
+//! parentheses, text bytes, DEFINEs, comparisons, measures, offsets, rows; and
+//! texts that the judgement of texts easily gets wrong.
+
+use super::draft::{with_column, with_number, Draft, Room};
+use super::texts;
+
+/// All of them. Some are large: 1,048,832 pairs, or 8,390,656 labels.
+pub fn all() -> Vec<Draft> {
+    [
+        of_texts(),
+        of_records(),
+        of_offsets(),
+        of_rows(),
+        of_large_searches(),
+    ]
+    .concat()
+}
+
+fn ones(n: usize) -> Vec<i32> {
+    vec![1; n]
+}
+
+fn in_parentheses(text: &[u8], deep: usize) -> Vec<u8> {
+    [&b"(".repeat(deep), text, &b")".repeat(deep)].concat()
+}
+
+/// Texts at the limits of places, depth and length, each on three rows.
+pub fn of_texts() -> Vec<Draft> {
+    limit_texts()
+        .into_iter()
+        .map(|text| Draft::new(1, &text, ones(3)))
+        .collect()
+}
+
+pub fn limit_texts() -> Vec<Vec<u8>> {
+    let written: [&[u8]; 26] = [
+        b"(A{51}){5}",
+        b"(A{16}){16}",
+        b"A{99} A{99} A{57}",
+        b"A{99} A{99} A{58}",
+        b"A{,99} A{,28} A",
+        b"A{,99} A{,28} A A",
+        b"(A{,2}){51}",
+        b"(A{,2}){64}",
+        b"(A|B){85}",
+        b"(A|B){,63} A A A",
+        b"(A|B){,63} A A A A",
+        b"(A+){85}",
+        b"(A+){84,} A",
+        b"(A+){84,}",
+        b"(){99}",
+        b"(){,99}",
+        b"(){,99}(){,99}(){,57}",
+        b"(){,99}(){,99}(){,58}",
+        b"((){99}){99}",
+        b"()",
+        b"((A?){99}){3,}",
+        b"(A*){99}",
+        b"(A*){99} (A*){28} A",
+        b"(A*){99} (A*){28} A A",
+        b"((((((((A{2}){2}){2}){2}){2}){2}){2}){2})",
+        b"(((((((A{2}){2}){2}){2}){2}){2}){2})",
+    ];
+    let mut limit: Vec<Vec<u8>> = written.iter().map(|text| text.to_vec()).collect();
+    limit.push(texts::largest());
+    for deep in 7..=10 {
+        limit.push(in_parentheses(b"A", deep));
+        limit.push(in_parentheses(b"", deep));
+        limit.push([in_parentheses(b"A", deep), in_parentheses(b"B", deep)].concat());
+        limit.push([&b")"[..], &b"(".repeat(deep)].concat());
+        limit.push([b"x", in_parentheses(b"A", deep).as_slice()].concat());
+    }
+    for length in 255..=257 {
+        limit.push(b"^".repeat(length));
+        limit.push(b" ".repeat(length));
+        limit.push([&b" ".repeat(length - 1), &b"A"[..]].concat());
+        limit.push([&b"A"[..], &b" ".repeat(length - 1)].concat());
+        limit.push([&b"A|".repeat((length - 1) / 2), &b"A"[..]].concat());
+        limit.push([&b"x".repeat(length - 9), &b"(".repeat(9)[..]].concat());
+    }
+    let ways = [&b"(("[..], &b"()|".repeat(81), b"()){85}){3}"].concat();
+    limit.push(ways);
+    limit
+}
+
+/// Counts of DEFINEs, comparisons, measures and columns.
+fn of_records() -> Vec<Draft> {
+    let mut drafts = Vec::new();
+    for count in [0, 25, 26] {
+        drafts.push(with_defines(count));
+    }
+    drafts.push(with_defines(26).define(b'A', &[with_number(0, 0, 1, 1)]));
+    for count in [0, 1, 8, 9] {
+        let comparisons = vec![with_number(0, 0, 6, 1); count];
+        drafts.push(Draft::new(1, b"A+ B", ones(4)).define(b'A', &comparisons));
+    }
+    for count in [7, 8, 9] {
+        let mut draft = Draft::new(1, b"A+ B?", ones(4));
+        for measure in 0..count {
+            draft = draft.measure(1 + measure % 6, b'A' + measure % 2, 0);
+        }
+        drafts.push(draft);
+    }
+    for columns in 0..=9u8 {
+        let rows = (0..4 * i32::from(columns.max(1))).collect();
+        drafts.push(Draft::new(columns, b"A+", rows).measure(2, b'A', columns.saturating_sub(1)));
+    }
+    drafts
+}
+
+fn with_defines(count: u8) -> Draft {
+    let draft = Draft::new(1, b"(A|B|Y|Z)+", vec![2, 0, 25, 1, 7]);
+    (0..count).fold(draft, |draft, index| {
+        draft.define(b'A' + index, &[with_number(0, 0, 1, index.into())])
+    })
+}
+
+/// Every offset from -65 to 65, left and right, on rows on both sides of it.
+fn of_offsets() -> Vec<Draft> {
+    let mut drafts = Vec::new();
+    for offset in -65..=65i8 {
+        for n in [1, 64, 65, 66] {
+            let rows: Vec<i32> = (0..n).collect();
+            let left = with_number(0, offset, 2, 1_000);
+            let right = with_column((0, 0), 2, (0, offset), 1_000);
+            drafts.push(Draft::new(1, b"A", rows.clone()).define(b'A', &[left]));
+            drafts.push(Draft::new(1, b"A", rows).define(b'A', &[right]));
+        }
+    }
+    drafts
+}
+
+/// Numbers of rows, and rows that are not whole.
+fn of_rows() -> Vec<Draft> {
+    let mut drafts = Vec::new();
+    for columns in [1u8, 2, 8] {
+        for n in [0, 1, 4095, 4096, 4097] {
+            let whole = n * usize::from(columns);
+            drafts.push(Draft::new(columns, b"A", ones(whole)).measure(1, b'A', 0));
+            drafts.push(Draft::new(columns, b"A", ones(whole + 1)));
+        }
+    }
+    drafts
+}
+
+/// The largest searches: pairs, matches with eight measures, labels.
+fn of_large_searches() -> Vec<Draft> {
+    let mut drafts = vec![
+        Draft::new(1, b"(A{51}){5}", ones(4096)),
+        Draft::new(1, b"(A|A){84,} B", ones(4096)).define(b'B', &[with_number(0, 0, 1, 0)]),
+        Draft::new(1, b"(A*){99} (A*){28} A $", ones(4096)),
+        Draft::new(1, b"A*", ones(4096)),
+        Draft::new(1, b"A*", ones(4096)).to_next_row(),
+    ];
+    let extremes = (0..4096).map(|row| if row % 2 == 0 { i32::MAX } else { i32::MIN });
+    let mut measured = Draft::new(1, b"A", extremes.collect());
+    for function in [1, 2, 3, 4, 5, 6, 2, 2] {
+        measured = measured.measure(function, b'A', 0);
+    }
+    drafts.push(measured);
+    for extreme in [i32::MAX, i32::MIN] {
+        let sum = Draft::new(1, b"A+", vec![extreme; 4096]).measure(2, 0, 0);
+        drafts.push(sum);
+    }
+    let mut stopped = Draft::new(1, b"A*", ones(4096)).to_next_row();
+    stopped.labels = Room::OneShort;
+    drafts.push(stopped);
+    drafts
+}

@@ -1,0 +1,141 @@
+//! A mixed stream of inputs: each number of the stream has its sort, so that
+//! even a short stream holds all answers; all else is random from the seed.
+
+use super::damage::{damage, damage_twice};
+use super::draft::{self, Draft, Input, Numbers, Room, Size};
+use super::random::Random;
+use super::texts;
+use crate::pattern;
+
+/// The input with this number in the stream.
+pub fn input(random: &mut Random, size: &Size, number: usize) -> Input {
+    let turn = number / 10;
+    match number % 10 {
+        0..=2 => lively(random, size).finish(),
+        3 if turn % 8 == 7 && size.pairs >= 600 => near_limit(random, size).finish(),
+        3 => accepted(random, size, Numbers::Low).finish(),
+        4 => adversarial(random, size).finish(),
+        5 => accepted(random, size, Numbers::Extreme).finish(),
+        6 => critical(random, size),
+        slot @ 7..=8 => damaged(random, size, 1 + ((2 * turn + slot - 7) % 13) as u8),
+        _ => damaged_twice(random, size),
+    }
+}
+
+pub fn accepted(random: &mut Random, size: &Size, numbers: Numbers) -> Draft {
+    let mut draft = draft::accepted(random, size, numbers);
+    draft::widen_rooms(random, &mut draft);
+    draft
+}
+
+/// An accepted draft that most likely has a match with rows.
+pub fn lively(random: &mut Random, size: &Size) -> Draft {
+    for _ in 0..4 {
+        let draft = accepted(random, size, Numbers::Low);
+        let [_, _, _, labels] = draft.needs();
+        if labels > 0 {
+            return draft;
+        }
+    }
+    accepted(random, size, Numbers::Low)
+}
+
+/// A pattern that is hard on a careless walk; mostly on as many rows as it may
+/// have.
+pub fn adversarial(random: &mut Random, size: &Size) -> Draft {
+    let fewest_rows = random.below(size.rows + 1);
+    let most_places = size.pairs / (fewest_rows + 1);
+    let text = texts::adversarial(random, most_places as u128).unwrap_or(b"()? A".to_vec());
+    on_many_rows(random, size, &text)
+}
+
+/// A pattern with 250 to 262 places.
+pub fn near_limit(random: &mut Random, size: &Size) -> Draft {
+    let text = texts::near_limit(random);
+    on_many_rows(random, size, &text)
+}
+
+fn on_many_rows(random: &mut Random, size: &Size, text: &[u8]) -> Draft {
+    let places = pattern::judge(text).map_or(1, |tree| tree.count_with_end());
+    let most_rows = (size.pairs / places as usize)
+        .saturating_sub(1)
+        .min(size.rows);
+    let n = match random.chance(70) {
+        true => most_rows,
+        false => random.below(most_rows + 1),
+    };
+    let mut draft = draft::with_text(random, size, Numbers::Low, text, n);
+    draft::widen_rooms(random, &mut draft);
+    draft
+}
+
+/// Rooms at, one beside or below what is needed, each at random.
+pub fn critical(random: &mut Random, size: &Size) -> Input {
+    let mut draft = lively(random, size);
+    let working = [Room::Exact, Room::Exact, Room::Exact, Room::OneMore];
+    draft.notes = random.pick(&working);
+    draft.trail = random.pick(&working);
+    let report = |random: &mut Random| {
+        let part = Room::Part(random.below(100));
+        random.pick(&[
+            Room::Nothing,
+            Room::OneShort,
+            Room::Exact,
+            Room::OneMore,
+            part,
+        ])
+    };
+    draft.numbers = report(random);
+    draft.labels = report(random);
+    draft.finish()
+}
+
+pub fn damaged(random: &mut Random, size: &Size, answer: u8) -> Input {
+    loop {
+        let mut draft = accepted(random, size, Numbers::Low);
+        if damage(random, &mut draft, answer) {
+            return draft.finish();
+        }
+    }
+}
+
+pub fn damaged_twice(random: &mut Random, size: &Size) -> Input {
+    loop {
+        let answers = [1 + random.below(13) as u8, 1 + random.below(13) as u8];
+        let mut draft = accepted(random, size, Numbers::Low);
+        if damage_twice(random, &mut draft, answers) {
+            return draft.finish();
+        }
+    }
+}
+
+/// All texts over an alphabet that are not refused, on all rows of 0 and 1 up
+/// to a number of rows, in both skip modes. A holds at 1 and B at any row; the
+/// measures are the sum of A and the last row of all.
+pub fn every_small_input(
+    alphabet: &'static [u8],
+    longest: usize,
+    most_rows: usize,
+) -> impl Iterator<Item = Input> {
+    let not_refused = |text: &Vec<u8>| pattern::judge(text).is_ok();
+    texts::every_text(alphabet, longest)
+        .filter(not_refused)
+        .flat_map(move |text| {
+            every_row(most_rows).flat_map(move |rows| {
+                let draft = Draft::new(1, &text, rows)
+                    .define(b'A', &[draft::with_number(0, 0, 1, 1)])
+                    .measure(6, 0, 0);
+                let draft = match draft.letters().contains(&b'A') {
+                    true => draft.measure(2, b'A', 0),
+                    false => draft,
+                };
+                [draft.clone().finish(), draft.to_next_row().finish()]
+            })
+        })
+}
+
+fn every_row(most_rows: usize) -> impl Iterator<Item = Vec<i32>> {
+    (0..=most_rows).flat_map(|n| {
+        (0..1usize << n).map(move |bits| (0..n).map(|row| (bits >> row & 1) as i32).collect())
+    })
+}

@@ -1,0 +1,276 @@
+//! The query: its records, their fields and parts, and the answers 1, 2, 3
+//! and 8. From document 01, "Rows and query records" and the table of answers.
+//! Each answer is judged over the whole query by a function of its own, so that
+//! a low number late in the query comes before a high one early in it.
+
+/// One record as it lies in the query; the length is that of the body.
+#[derive(Clone, Copy, Debug, PartialEq, Eq)]
+pub struct Record<'a> {
+    pub kind: u16,
+    pub body: &'a [u8],
+}
+
+pub const SHAPE: u16 = 1;
+pub const TEXT: u16 = 2;
+pub const DEFINE: u16 = 3;
+pub const SKIP: u16 = 4;
+pub const MEASURE: u16 = 5;
+
+pub const MOST_COLUMNS: u8 = 8;
+pub const MOST_TEXT: usize = 256;
+pub const MOST_DEFINES: usize = 26;
+pub const MOST_COMPARISONS: u8 = 8;
+pub const MOST_MEASURES: usize = 8;
+pub const FARTHEST_OFFSET: i8 = 64;
+pub const COMPARISON_BYTES: usize = 12;
+
+pub const COUNT: u8 = 1;
+pub const SUM: u8 = 2;
+pub const MIN: u8 = 3;
+pub const MAX: u8 = 4;
+pub const FIRST: u8 = 5;
+pub const LAST: u8 = 6;
+
+/// A column read at a row some way off the current one.
+#[derive(Clone, Copy, Debug, PartialEq, Eq)]
+pub struct Reference {
+    pub column: usize,
+    pub offset: i64,
+}
+
+/// `left operator number`, or `left operator (number + right)`.
+#[derive(Clone, Copy, Debug, PartialEq, Eq)]
+pub struct Comparison {
+    pub left: Reference,
+    pub operator: u8,
+    pub right: Option<Reference>,
+    pub number: i64,
+}
+
+#[derive(Clone, Debug, PartialEq, Eq)]
+pub struct Define {
+    pub letter: u8,
+    pub comparisons: Vec<Comparison>,
+}
+
+#[derive(Clone, Copy, Debug, PartialEq, Eq)]
+pub enum Skip {
+    PastLastRow,
+    ToNextRow,
+}
+
+/// A measure over the rows with a letter, or over all rows of the match.
+#[derive(Clone, Copy, Debug, PartialEq, Eq)]
+pub struct Measure {
+    pub function: u8,
+    pub letter: Option<u8>,
+    pub column: usize,
+}
+
+/// The parts of a query that has none of the answers 1, 2 and 3.
+#[derive(Clone, Debug, PartialEq, Eq)]
+pub struct Query {
+    pub columns: usize,
+    pub text: Vec<u8>,
+    pub defines: Vec<Define>,
+    pub skip: Skip,
+    pub measures: Vec<Measure>,
+}
+
+/// Reads the parts, or gives the lowest of the answers 1, 2 and 3 that applies.
+pub fn read(query: &[u8]) -> Result<Query, u8> {
+    let Some(records) = records(query) else {
+        return Err(1);
+    };
+    if !kinds_are_right(&records) {
+        return Err(2);
+    }
+    if !fields_are_right(&records) {
+        return Err(3);
+    }
+    Ok(parts(&records))
+}
+
+/// The records in order. None if the query is cut: answer 1.
+pub fn records(query: &[u8]) -> Option<Vec<Record<'_>>> {
+    let mut records = Vec::new();
+    let mut left = query;
+    while !left.is_empty() {
+        if left.len() < 4 {
+            return None;
+        }
+        let length = usize::from(u16::from_le_bytes([left[0], left[1]]));
+        let kind = u16::from_le_bytes([left[2], left[3]]);
+        let behind_header = &left[4..];
+        if length > behind_header.len() {
+            return None;
+        }
+        records.push(Record {
+            kind,
+            body: &behind_header[..length],
+        });
+        left = &behind_header[length..];
+    }
+    Some(records)
+}
+
+/// False is answer 2. Kinds that never fall stand in the stated order, and the
+/// counts then say all the rest; an empty query lacks three kinds.
+pub fn kinds_are_right(records: &[Record]) -> bool {
+    let count = |kind: u16| records.iter().filter(|record| record.kind == kind).count();
+    let known = records
+        .iter()
+        .all(|record| (SHAPE..=MEASURE).contains(&record.kind));
+    let in_order = records.windows(2).all(|two| two[0].kind <= two[1].kind);
+    known
+        && in_order
+        && count(SHAPE) == 1
+        && count(TEXT) == 1
+        && count(DEFINE) <= MOST_DEFINES
+        && count(SKIP) == 1
+        && count(MEASURE) <= MOST_MEASURES
+}
+
+/// False is answer 3. The kinds are right already, so the first record is the
+/// shape; should its own body be wrong, 3 is the answer whatever is read as the
+/// number of columns.
+pub fn fields_are_right(records: &[Record]) -> bool {
+    let columns = records[0].body.first().copied().unwrap_or(0);
+    records.iter().all(|record| match record.kind {
+        SHAPE => shape_is_right(record.body),
+        TEXT => record.body.len() <= MOST_TEXT,
+        DEFINE => define_is_right(record.body, columns),
+        SKIP => skip_is_right(record.body),
+        _ => measure_is_right(record.body, columns),
+    })
+}
+
+fn shape_is_right(body: &[u8]) -> bool {
+    match body {
+        [columns, reserved] => (1..=MOST_COLUMNS).contains(columns) && *reserved == 0,
+        _ => false,
+    }
+}
+
+fn skip_is_right(body: &[u8]) -> bool {
+    match body {
+        [skip, reserved] => *skip <= 1 && *reserved == 0,
+        _ => false,
+    }
+}
+
+fn measure_is_right(body: &[u8], columns: u8) -> bool {
+    match body {
+        [function, letter, column, reserved] => {
+            (COUNT..=LAST).contains(function)
+                && (*letter == 0 || letter.is_ascii_uppercase())
+                && *column < columns
+                && (*function != COUNT || *column == 0)
+                && *reserved == 0
+        }
+        _ => false,
+    }
+}
+
+fn define_is_right(body: &[u8], columns: u8) -> bool {
+    match body {
+        [letter, count, comparisons @ ..] => {
+            letter.is_ascii_uppercase()
+                && (1..=MOST_COMPARISONS).contains(count)
+                && comparisons.len() == COMPARISON_BYTES * usize::from(*count)
+                && comparisons
+                    .chunks(COMPARISON_BYTES)
+                    .all(|bytes| comparison_is_right(bytes, columns))
+        }
+        _ => false,
+    }
+}
+
+fn comparison_is_right(bytes: &[u8], columns: u8) -> bool {
+    let (left_column, left_offset) = (bytes[0], bytes[1] as i8);
+    let (operator, right_kind) = (bytes[2], bytes[3]);
+    let (right_column, right_offset) = (bytes[4], bytes[5] as i8);
+    let right_is_right = match right_kind {
+        0 => right_column == 0 && right_offset == 0,
+        1 => right_column < columns && offset_is_right(right_offset),
+        _ => false,
+    };
+    left_column < columns
+        && offset_is_right(left_offset)
+        && (1..=6).contains(&operator)
+        && right_is_right
+        && bytes[6] == 0
+        && bytes[7] == 0
+}
+
+fn offset_is_right(offset: i8) -> bool {
+    (-FARTHEST_OFFSET..=FARTHEST_OFFSET).contains(&offset)
+}
+
+/// True is answer 8. A DEFINE for a letter outside the pattern counts too.
+pub fn letter_is_defined_twice(query: &Query) -> bool {
+    let letters: Vec<u8> = query.defines.iter().map(|define| define.letter).collect();
+    letters
+        .iter()
+        .enumerate()
+        .any(|(index, letter)| letters[..index].contains(letter))
+}
+
+/// The parts of records whose kinds and fields are right.
+fn parts(records: &[Record]) -> Query {
+    let bodies = |kind: u16| {
+        records
+            .iter()
+            .filter(move |record| record.kind == kind)
+            .map(|record| record.body)
+    };
+    let skip = match records.iter().find(|record| record.kind == SKIP) {
+        Some(record) if record.body[0] == 1 => Skip::ToNextRow,
+        _ => Skip::PastLastRow,
+    };
+    Query {
+        columns: usize::from(records[0].body[0]),
+        text: records[1].body.to_vec(),
+        defines: bodies(DEFINE).map(define).collect(),
+        skip,
+        measures: bodies(MEASURE).map(measure).collect(),
+    }
+}
+
+fn define(body: &[u8]) -> Define {
+    Define {
+        letter: body[0],
+        comparisons: body[2..].chunks(COMPARISON_BYTES).map(comparison).collect(),
+    }
+}
+
+fn comparison(bytes: &[u8]) -> Comparison {
+    let reference = |column: u8, offset: u8| Reference {
+        column: usize::from(column),
+        offset: i64::from(offset as i8),
+    };
+    let right = match bytes[3] {
+        0 => None,
+        _ => Some(reference(bytes[4], bytes[5])),
+    };
+    Comparison {
+        left: reference(bytes[0], bytes[1]),
+        operator: bytes[2],
+        right,
+        number: i64::from(i32::from_le_bytes([
+            bytes[8], bytes[9], bytes[10], bytes[11],
+        ])),
+    }
+}
+
+fn measure(body: &[u8]) -> Measure {
+    let letter = match body[1] {
+        0 => None,
+        letter => Some(letter),
+    };
+    Measure {
+        function: body[0],
+        letter,
+        column: usize::from(body[2]),
+    }
+}

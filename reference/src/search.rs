@@ -1,0 +1,332 @@
+//! The search: all answers in their order, the starts, the report and what lies
+//! in the four lent buffers afterwards; once with the counted walk and once with
+//! plain backtracking. From document 01, "Places and preferment" (starts) and
+//! "Report" (matches, measures, working room, table of answers).
+
+use crate::letters::Held;
+use crate::pattern::{self, Pattern};
+use crate::places::{self, Place};
+use crate::query::{self, Measure, Query, Skip};
+use crate::walk::{Attempt, Counted, Ground, Pair, Plain};
+
+pub const MOST_ROWS: usize = 4096;
+
+pub const DONE: u8 = 0;
+pub const STOPPED: u8 = 13;
+
+#[derive(Clone, Copy, Debug, PartialEq, Eq)]
+pub struct Outcome {
+    pub answer: u8,
+    pub matches: u64,
+    pub labels: u64,
+    pub steps: u64,
+}
+
+impl Outcome {
+    /// Answers 1 to 12 come with zeros.
+    pub fn refused(answer: u8) -> Outcome {
+        Outcome {
+            answer,
+            matches: 0,
+            labels: 0,
+            steps: 0,
+        }
+    }
+}
+
+/// A query and rows that have none of the answers 1 to 10.
+#[derive(Clone, Debug)]
+pub struct Accepted {
+    pub query: Query,
+    pub pattern: Pattern,
+    pub places: Vec<Place>,
+    pub held: Held,
+}
+
+impl Accepted {
+    pub fn n(&self) -> usize {
+        self.held.row_count()
+    }
+
+    pub fn ground(&self) -> Ground<'_> {
+        Ground {
+            places: &self.places,
+            held: &self.held,
+        }
+    }
+
+    /// The numbers that one match takes in the report.
+    pub fn numbers_per_match(&self) -> usize {
+        3 + 2 * self.query.measures.len()
+    }
+}
+
+/// Judges a query and rows: the parts, or the lowest of the answers 1 to 10.
+pub fn accept(query: &[u8], rows: &[i32]) -> Result<Accepted, u8> {
+    let query = query::read(query)?;
+    let pattern = pattern::judge(&query.text)?;
+    if query::letter_is_defined_twice(&query) {
+        return Err(8);
+    }
+    let letters = pattern.letters();
+    let measured = |measure: &Measure| measure.letter.is_none_or(|it| letters.contains(&it));
+    if !query.measures.iter().all(measured) {
+        return Err(9);
+    }
+    if !rows.len().is_multiple_of(query.columns) || rows.len() / query.columns > MOST_ROWS {
+        return Err(10);
+    }
+    let places = places::unroll(&pattern);
+    let held = Held::new(&query, rows);
+    Ok(Accepted {
+        query,
+        pattern,
+        places,
+        held,
+    })
+}
+
+/// The answer 0 with P and n, or the answer of 1 to 10 with zeros.
+pub fn room(query: &[u8], rows: &[i32]) -> (u8, usize, usize) {
+    match accept(query, rows) {
+        Ok(accepted) => (DONE, accepted.places.len(), accepted.n()),
+        Err(answer) => (answer, 0, 0),
+    }
+}
+
+/// The working room that P and n call for: bytes of notes, numbers of trail.
+pub fn working_room(places: usize, n: usize) -> (usize, usize) {
+    let pairs = places * (n + 1);
+    (pairs.div_ceil(8), pairs)
+}
+
+/// The search by the counted walk.
+pub fn search(
+    query: &[u8],
+    rows: &[i32],
+    notes: &mut [u8],
+    trail: &mut [u32],
+    numbers: &mut [i64],
+    labels: &mut [u8],
+) -> Outcome {
+    search_watched(query, rows, notes, trail, numbers, labels, &mut |_| {})
+}
+
+/// The same, showing every path found to a watcher: that of a match which does
+/// not fit as well.
+pub fn search_watched(
+    query: &[u8],
+    rows: &[i32],
+    notes: &mut [u8],
+    trail: &mut [u32],
+    numbers: &mut [i64],
+    labels: &mut [u8],
+    watch: &mut dyn FnMut(&[Pair]),
+) -> Outcome {
+    let accepted = match accept_with_room(query, rows, notes.len(), trail.len()) {
+        Ok(accepted) => accepted,
+        Err(answer) => return Outcome::refused(answer),
+    };
+    let mut walk = Counted::new(accepted.ground());
+    let mut report = Report::new(numbers, labels);
+    let mut attempt = |start| {
+        let attempt = walk.attempt(start);
+        if let Attempt::Match(path) = &attempt {
+            watch(path);
+        }
+        attempt
+    };
+    let answer = take_starts(&accepted, rows, &mut attempt, &mut report)
+        .expect("the counted walk never gives up");
+    write_notes(notes, walk.failed());
+    trail[..walk.failed().len()].fill(0);
+    report.outcome(answer, walk.steps())
+}
+
+/// The search by plain backtracking. It has no use for notes and trail but for
+/// their lengths. None if it took more steps than allowed, so that its result
+/// is not known; what the report then holds is of no use.
+pub fn search_plain(
+    query: &[u8],
+    rows: &[i32],
+    notes: &[u8],
+    trail: &[u32],
+    numbers: &mut [i64],
+    labels: &mut [u8],
+    allowance: u64,
+) -> Option<Outcome> {
+    let accepted = match accept_with_room(query, rows, notes.len(), trail.len()) {
+        Ok(accepted) => accepted,
+        Err(answer) => return Some(Outcome::refused(answer)),
+    };
+    let mut walk = Plain::new(accepted.ground(), allowance);
+    let mut report = Report::new(numbers, labels);
+    let answer = take_starts(
+        &accepted,
+        rows,
+        &mut |start| walk.attempt(start),
+        &mut report,
+    )?;
+    Some(report.outcome(answer, walk.steps()))
+}
+
+/// Answers 1 to 12.
+fn accept_with_room(
+    query: &[u8],
+    rows: &[i32],
+    notes: usize,
+    trail: usize,
+) -> Result<Accepted, u8> {
+    let accepted = accept(query, rows)?;
+    let (notes_needed, trail_needed) = working_room(accepted.places.len(), accepted.n());
+    if notes < notes_needed {
+        return Err(11);
+    }
+    if trail < trail_needed {
+        return Err(12);
+    }
+    Ok(accepted)
+}
+
+/// Makes the attempts start by start and writes their matches, until all is
+/// done or a match does not fit. None if an attempt gave up.
+fn take_starts(
+    accepted: &Accepted,
+    rows: &[i32],
+    attempt: &mut dyn FnMut(usize) -> Attempt,
+    report: &mut Report,
+) -> Option<u8> {
+    let mut start = 0;
+    while start < accepted.n() {
+        let taken = match attempt(start) {
+            Attempt::GaveUp => return None,
+            Attempt::NoMatch => 0,
+            Attempt::Match(path) => {
+                let labels = labels_on(&accepted.places, &path);
+                let results = results(accepted, rows, start, &labels);
+                if !report.append(start, &labels, &results) {
+                    return Some(STOPPED);
+                }
+                labels.len()
+            }
+        };
+        start = next_start(accepted.query.skip, start, taken);
+    }
+    Some(DONE)
+}
+
+fn next_start(skip: Skip, start: usize, taken: usize) -> usize {
+    match skip {
+        Skip::PastLastRow if taken > 0 => start + taken,
+        _ => start + 1,
+    }
+}
+
+/// The labels of the rows that a path takes: each letter on it passed one row.
+pub fn labels_on(places: &[Place], path: &[Pair]) -> Vec<u8> {
+    path.iter()
+        .filter_map(|pair| match places[pair.place] {
+            Place::Letter { letter, .. } => Some(letter),
+            _ => None,
+        })
+        .collect()
+}
+
+/// The results of the measures in order; null is None.
+fn results(accepted: &Accepted, rows: &[i32], start: usize, labels: &[u8]) -> Vec<Option<i64>> {
+    let columns = accepted.query.columns;
+    accepted
+        .query
+        .measures
+        .iter()
+        .map(|measure| result(measure, rows, columns, start, labels))
+        .collect()
+}
+
+fn result(
+    measure: &Measure,
+    rows: &[i32],
+    columns: usize,
+    start: usize,
+    labels: &[u8],
+) -> Option<i64> {
+    let entries: Vec<i64> = labels
+        .iter()
+        .enumerate()
+        .filter(|(_, label)| measure.letter.is_none_or(|letter| letter == **label))
+        .map(|(index, _)| i64::from(rows[(start + index) * columns + measure.column]))
+        .collect();
+    if measure.function == query::COUNT {
+        return Some(entries.len() as i64);
+    }
+    if entries.is_empty() {
+        return None;
+    }
+    match measure.function {
+        query::SUM => Some(entries.iter().sum()),
+        query::MIN => entries.iter().min().copied(),
+        query::MAX => entries.iter().max().copied(),
+        query::FIRST => entries.first().copied(),
+        _ => entries.last().copied(),
+    }
+}
+
+/// The two report buffers and how much of them is written.
+struct Report<'a> {
+    numbers: &'a mut [i64],
+    labels: &'a mut [u8],
+    matches: usize,
+    numbers_written: usize,
+    labels_written: usize,
+}
+
+impl<'a> Report<'a> {
+    fn new(numbers: &'a mut [i64], labels: &'a mut [u8]) -> Report<'a> {
+        Report {
+            numbers,
+            labels,
+            matches: 0,
+            numbers_written: 0,
+            labels_written: 0,
+        }
+    }
+
+    /// Writes a match whole, or changes nothing if it does not fit whole.
+    fn append(&mut self, start: usize, labels: &[u8], results: &[Option<i64>]) -> bool {
+        let mut written = vec![self.matches as i64 + 1, start as i64, labels.len() as i64];
+        for result in results {
+            written.push(i64::from(result.is_some()));
+            written.push(result.unwrap_or(0));
+        }
+        let numbers_end = self.numbers_written + written.len();
+        let labels_end = self.labels_written + labels.len();
+        if numbers_end > self.numbers.len() || labels_end > self.labels.len() {
+            return false;
+        }
+        self.numbers[self.numbers_written..numbers_end].copy_from_slice(&written);
+        self.labels[self.labels_written..labels_end].copy_from_slice(labels);
+        self.matches += 1;
+        self.numbers_written = numbers_end;
+        self.labels_written = labels_end;
+        true
+    }
+
+    fn outcome(&self, answer: u8, steps: u64) -> Outcome {
+        Outcome {
+            answer,
+            matches: self.matches as u64,
+            labels: self.labels_written as u64,
+            steps,
+        }
+    }
+}
+
+/// One bit for each pair, lowest bit first; spare bits of the last byte are 0.
+fn write_notes(notes: &mut [u8], failed: &[bool]) {
+    for (byte, eight) in notes.iter_mut().zip(failed.chunks(8)) {
+        *byte = 0;
+        for (bit, &has_failed) in eight.iter().enumerate() {
+            *byte |= u8::from(has_failed) << bit;
+        }
+    }
+}

@@ -1,0 +1,94 @@
+//! The generators: each damage brings the answer it is meant for, of two the
+//! lower one, and the streams hold what they are said to hold.
+
+mod common;
+
+use common::*;
+use reference::generate::damage::{damage, damage_twice};
+use reference::generate::draft::{self, Numbers, MIDDLE, SMALL};
+use reference::generate::{mix, stdin, Random};
+use reference::program::program;
+use reference::search;
+use std::collections::BTreeSet;
+
+#[test]
+fn one_damage_brings_its_answer() {
+    for (seed, size) in [(1, SMALL), (2, MIDDLE)] {
+        let mut random = Random::new(seed);
+        for answer in 1..=13 {
+            let mut done = 0;
+            while done < 400 {
+                let mut draft = draft::accepted(&mut random, &size, Numbers::Low);
+                let before = draft.clone();
+                if damage(&mut random, &mut draft, answer) {
+                    let called = call(&draft.finish());
+                    assert_eq!(called.outcome.answer, answer, "{before:?}\n{draft:?}");
+                    done += 1;
+                }
+            }
+        }
+    }
+}
+
+#[test]
+fn two_damages_bring_the_lower_answer() {
+    let mut random = Random::new(3);
+    for low in 1..=13 {
+        for high in low..=13 {
+            let mut done = 0;
+            while done < 60 {
+                let mut draft = draft::accepted(&mut random, &SMALL, Numbers::Low);
+                if damage_twice(&mut random, &mut draft, [high, low]) {
+                    let called = call(&draft.finish());
+                    assert_eq!(called.outcome.answer, low, "{high}: {draft:?}");
+                    done += 1;
+                }
+            }
+        }
+    }
+}
+
+#[test]
+fn small_inputs_are_small() {
+    let mut random = Random::new(4);
+    for number in 0..5_000 {
+        let input = mix::input(&mut random, &SMALL, number);
+        let (answer, places, n) = search::room(&input.query, &input.rows);
+        if answer == 0 {
+            assert!(n <= 6 && places * (n + 1) <= 120);
+        }
+    }
+}
+
+#[test]
+fn standard_inputs_of_all_sorts() {
+    let mut random = Random::new(5);
+    let mut heads = BTreeSet::new();
+    let mut long = 0;
+    for number in 0..3_000 {
+        let input = stdin::input(&mut random, number);
+        long += usize::from(input.len() >= 200);
+        let printed = String::from_utf8(program(&input)).expect("plain text");
+        let line = printed.lines().next().expect("a line");
+        let head = match line.starts_with("refused") {
+            true => line,
+            false => line.split(' ').next().expect("a word"),
+        };
+        heads.insert(head.to_string());
+    }
+    for answer in 1..=10 {
+        assert!(heads.contains(&format!("refused {answer}")), "{heads:?}");
+    }
+    assert!(heads.contains("matches") && heads.contains("too"));
+    assert!(long < 300, "{long}");
+}
+
+#[test]
+fn the_same_seed_gives_the_same_inputs() {
+    let stream = || {
+        let mut random = Random::new(9);
+        let inputs = (0..200).map(|number| mix::input(&mut random, &SMALL, number));
+        inputs.collect::<Vec<_>>()
+    };
+    assert_eq!(stream(), stream());
+}
