@@ -3,6 +3,7 @@
 //! module follows one section of the paper and uses its words. Other programs
 //! are run against it on the inputs that the module `generate` makes.
 
+pub mod cases;
 pub mod generate;
 pub mod letters;
 pub mod pattern;

@@ -5,9 +5,8 @@
 //! filled with 7 before it. `cases text SEED COUNT`: text; answer; P, or 0.
 //! `cases program SEED COUNT`: standard input; what is printed for it.
 
-use reference::generate::draft::{Input, SMALL};
-use reference::generate::{mix, stdin, texts, Random};
-use reference::{pattern, program, search};
+use reference::cases;
+use reference::generate::Random;
 use std::fmt::Display;
 use std::io::{self, BufWriter, Write};
 use std::process::ExitCode;
@@ -50,54 +49,27 @@ fn list<T: Display>(items: &[T]) -> String {
 }
 
 fn search_line(random: &mut Random, number: usize) -> String {
-    let input = mix::input(random, &SMALL, number);
-    let Input {
-        query,
-        rows,
-        notes,
-        trail,
-        numbers,
-        labels,
-    } = input;
-    let lengths = [notes, trail, numbers, labels];
-    let mut notes = vec![7; notes];
-    let mut trail = vec![7; trail];
-    let mut numbers = vec![7; numbers];
-    let mut labels = vec![7; labels];
-    let outcome = search::search(
-        &query,
-        &rows,
-        &mut notes,
-        &mut trail,
-        &mut numbers,
-        &mut labels,
-    );
-    let counts = [outcome.matches, outcome.labels, outcome.steps];
+    let case = cases::search_case(random, number);
     [
-        list(&query),
-        list(&rows),
-        list(&lengths).replace(',', ";"),
-        outcome.answer.to_string(),
-        list(&counts).replace(',', ";"),
-        list(&notes),
-        list(&trail),
-        list(&numbers),
-        list(&labels),
+        list(&case.query),
+        list(&case.rows),
+        list(&case.lengths).replace(',', ";"),
+        case.answer.to_string(),
+        list(&case.counts).replace(',', ";"),
+        list(&case.notes),
+        list(&case.trail),
+        list(&case.numbers),
+        list(&case.labels),
     ]
     .join(";")
 }
 
 fn text_line(random: &mut Random, _: usize) -> String {
-    let text = texts::any(random);
-    let (answer, places) = match pattern::judge(&text) {
-        Ok(tree) => (0, tree.count_with_end()),
-        Err(answer) => (answer, 0),
-    };
-    format!("{};{answer};{places}", list(&text))
+    let case = cases::text_case(random);
+    format!("{};{};{}", list(&case.text), case.answer, case.places)
 }
 
 fn program_line(random: &mut Random, number: usize) -> String {
-    let stdin = stdin::input(random, number);
-    let printed = program::program(&stdin);
-    format!("{};{}", list(&stdin), list(&printed))
+    let case = cases::program_case(random, number);
+    format!("{};{}", list(&case.stdin), list(&case.printed))
 }

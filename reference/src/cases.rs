@@ -1,0 +1,89 @@
+//! Cases with the results of the reference: inputs of the search, of the
+//! pattern's answers and of the program, small enough to be run inside a proof
+//! checker as well. Every lent buffer is filled with 7 before the call.
+
+use crate::generate::draft::{Input, SMALL};
+use crate::generate::{mix, stdin, texts, Random};
+use crate::{pattern, program, search};
+
+/// A search: what goes in, and the result and all four buffers afterwards.
+pub struct SearchCase {
+    pub query: Vec<u8>,
+    pub rows: Vec<i32>,
+    /// Lengths of notes, trail, numbers and labels.
+    pub lengths: [usize; 4],
+    pub answer: u64,
+    /// Matches, labels and steps.
+    pub counts: [u64; 3],
+    pub notes: Vec<u8>,
+    pub trail: Vec<u32>,
+    pub numbers: Vec<i64>,
+    pub labels: Vec<u8>,
+}
+
+/// A pattern's text with its answer, 4 to 7 or 0, and P, 0 where it is refused.
+pub struct TextCase {
+    pub text: Vec<u8>,
+    pub answer: u64,
+    pub places: u64,
+}
+
+/// A standard input and what is printed for it.
+pub struct ProgramCase {
+    pub stdin: Vec<u8>,
+    pub printed: Vec<u8>,
+}
+
+pub fn search_case(random: &mut Random, number: usize) -> SearchCase {
+    let Input {
+        query,
+        rows,
+        notes,
+        trail,
+        numbers,
+        labels,
+    } = mix::input(random, &SMALL, number);
+    let lengths = [notes, trail, numbers, labels];
+    let mut notes = vec![7; notes];
+    let mut trail = vec![7; trail];
+    let mut numbers = vec![7; numbers];
+    let mut labels = vec![7; labels];
+    let outcome = search::search(
+        &query,
+        &rows,
+        &mut notes,
+        &mut trail,
+        &mut numbers,
+        &mut labels,
+    );
+    SearchCase {
+        query,
+        rows,
+        lengths,
+        answer: outcome.answer.into(),
+        counts: [outcome.matches, outcome.labels, outcome.steps],
+        notes,
+        trail,
+        numbers,
+        labels,
+    }
+}
+
+pub fn text_case(random: &mut Random) -> TextCase {
+    let text = texts::any(random);
+    let (answer, places) = match pattern::judge(&text) {
+        Ok(tree) => (0, tree.count_with_end() as u64),
+        Err(answer) => (answer.into(), 0),
+    };
+    TextCase {
+        text,
+        answer,
+        places,
+    }
+}
+
+pub fn program_case(random: &mut Random, number: usize) -> ProgramCase {
+    let stdin = stdin::input(random, number);
+    let printed = program::program(&stdin);
+    ProgramCase { stdin, printed }
+}
