@@ -10,3 +10,5 @@ pub mod EachStart
 pub mod Notes
 pub mod Starts
 pub mod Promise
+pub mod Choice
+pub mod Records

@@ -1,0 +1,4 @@
+pub mod Reading
+pub mod Order
+pub mod FieldRules
+pub mod Marks
