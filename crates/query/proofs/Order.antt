@@ -134,8 +134,12 @@ rest-nil left (suc zero) = refl
 rest-nil left (suc (suc zero)) = some-nil left 3 defined
 rest-nil left (suc (suc (suc zero))) = some-nil left 5 noneLeft
 rest-nil left (suc (suc (suc (suc k)))) =
-    simp (ne-eqb (suc (suc (suc (suc k)))) 0 (λ e. omega arith), ne-eqb (suc (suc (suc (suc k)))) 1 (λ e. omega arith), ne-eqb (suc (suc (suc (suc k)))) 2 (λ e. omega arith),
-    ne-eqb (suc (suc (suc (suc k)))) 3 (λ e. omega arith))
+    simp (
+      ne-eqb (suc (suc (suc (suc k)))) 0 (λ e. omega arith),
+      ne-eqb (suc (suc (suc (suc k)))) 1 (λ e. omega arith),
+      ne-eqb (suc (suc (suc (suc k)))) 2 (λ e. omega arith),
+      ne-eqb (suc (suc (suc (suc k)))) 3 (λ e. omega arith),
+    )
 
 -- ---- what the pass has seen
 

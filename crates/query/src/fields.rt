@@ -71,7 +71,10 @@ fn right_fits(columns: usize, kind: usize, column: usize, offset: usize) -> bool
     if kind == 0 {
         return both(same(column, 0), same(offset, 0));
     }
-    both(same(kind, 1), both(less(column, columns), offset_fits(offset)))
+    both(
+        same(kind, 1),
+        both(less(column, columns), offset_fits(offset)),
+    )
 }
 
 // The left side of a comparison, and its operator.
