@@ -14,8 +14,8 @@ use Rattle.query.specs.declared.Read.the-variants.{Record as Whole, Cut}
 use Rattle.rules.specs.Basics.{pick, keep, has, repeats}
 use Rattle.rules.specs.Query.{Record, records, field, defined, doubled}
 use Rattle.rules.proofs.Choice.{decided}
-use Rattle.rules.proofs.Records.{recordsAt, records-end}
-use Rattle.query.specs.Read.{recordOf, readAt, Marked}
+use Rattle.query.specs.Read.{recordsAt, recordOf, readAt, Marked}
+use Rattle.query.proofs.Records.{records-end}
 use Rattle.query.proofs.Reading.{read-more, read-cut, field-first}
 
 -- some number of the list is marked

@@ -13,8 +13,8 @@ use Rattle.query.specs.declared.Read.the-variants.{Record as Whole, Cut}
 use Rattle.rules.specs.Basics.{pick, every}
 use Rattle.rules.specs.Query.{Record, records, oneOf, someOf, noneLeft, inOrder, kinds, misplaced, firstOfKind, recordFits, columnsOf, unfit, cut}
 use Rattle.rules.proofs.Choice.{decided}
-use Rattle.rules.proofs.Records.{recordsAt, records-end}
-use Rattle.query.specs.Read.{recordOf, readAt, restOf, Follows, firstAnswer}
+use Rattle.query.specs.Read.{recordsAt, recordOf, readAt, restOf, Follows, firstAnswer}
+use Rattle.query.proofs.Records.{records-end}
 use Rattle.query.proofs.Reading.{read-more, Along, along-none, along-more, along-cut, along-all, field-first}
 
 -- ---- the order of kinds

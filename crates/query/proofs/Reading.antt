@@ -11,8 +11,8 @@ use Rattle.query.specs.declared.Read.the-variants.{Record as Whole, Cut}
 use Rattle.rules.specs.Basics.{pick, le16}
 use Rattle.rules.specs.Query.{Record, wholeAt, recordAt, nextAt, field, cut}
 use Rattle.rules.proofs.Choice.{clash}
-use Rattle.rules.proofs.Records.{recordsAt, behindAt, whole-yes, whole-short, whole-past, within, records-more, records-none, behind-more, cut-is}
-use Rattle.query.specs.Read.{recordOf, readAt}
+use Rattle.query.specs.Read.{recordsAt, recordOf, readAt}
+use Rattle.query.proofs.Records.{behindAt, whole-yes, whole-short, whole-past, within, records-more, records-none, behind-more, cut-is}
 
 module _ (s : List ℕ) (at : ℕ) where
   pub cut-header : at < length s → length s - at < 4 → Cut ≡ readAt s at

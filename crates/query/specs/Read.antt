@@ -5,15 +5,20 @@ use mathlib.Core.Bool.{Bool, true, false, _&&_}
 use mathlib.Core.List.{List, [], _∷_}
 use Prim.Native.Nat.{ℕ, _+_, _*_, _<_}
 use lib.Dec.{eqb}
-use lib.ListN.{getD, set}
+use lib.ListN.{length, getD, set}
 use Rattle.rules.specs.Basics.{pick, le16}
-use Rattle.rules.specs.Query.{Record, wholeAt, nextAt, oneOf, someOf, noneLeft, comparisonFits, cut, misplaced, unfit}
+use Rattle.rules.specs.Query.{Record, wholeAt, nextAt, recordsFrom, oneOf, someOf, noneLeft, comparisonFits, cut, misplaced, unfit}
 use Rattle.query.specs.declared.Read.{Read}
 use Rattle.query.specs.declared.Read.the-variants.{Record as Whole, Cut}
 
 -- a record of this kind with this body
 abbrev pub recordOf : ℕ → ℕ → ℕ → Record
 recordOf kind start len = record { kind = kind; start = start; len = len }
+
+-- the whole records from an index on
+unfoldable pub recordsAt : List ℕ → ℕ → List Record
+unfolding recordsFrom
+recordsAt s at = recordsFrom (length s) s at
 
 -- the record at an index below the query's end, or Cut
 unfoldable pub readAt : List ℕ → ℕ → Read

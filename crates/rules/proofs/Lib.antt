@@ -11,4 +11,3 @@ pub mod Notes
 pub mod Starts
 pub mod Promise
 pub mod Choice
-pub mod Records

@@ -8,16 +8,12 @@ use native.Mathlib.Omega.{arith}
 use lib.Dec.{leb, ltb}
 use lib.ListN.{length}
 use borrow.Author.Tests.{leb-true, le-leb, lt-leb}
 use Rattle.rules.specs.Basics.{le16}
 use Rattle.rules.specs.Query.{Record, wholeAt, recordAt, nextAt, recordsOn, recordsFrom, behindOn, behindFrom, records, cut}
 use Rattle.rules.proofs.Choice.{decided, and-right}
+use Rattle.query.specs.Read.{recordsAt}
 
--- the whole records from an index on
-unfoldable pub recordsAt : List ℕ → ℕ → List Record
-unfolding recordsFrom
-recordsAt s at = recordsFrom (length s) s at
-
--- where they end
+-- where the whole records from an index on end
 unfoldable pub behindAt : List ℕ → ℕ → ℕ
 unfolding behindFrom
 behindAt s at = behindFrom (length s) s at

@@ -1,0 +1,4 @@
+pub mod Words
+pub mod Spotting
+pub mod Keeping
+pub mod Cells

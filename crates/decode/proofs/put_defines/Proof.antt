@@ -1,0 +1,69 @@
+use Rattle.decode.proofs.put_defines.Statement.{statement}
+use Rattle.decode.proofs.put_defines.Tie as tie
+use Rattle.decode.proofs.put_defines.Reads as reads
+use Rattle.decode.proofs.put_defines.Lts as lts
+use Rattle.decode.proofs.put_define.Reads as put-define-reads
+use Rattle.query.proofs.record_at.Reads as record-at-reads
+
+abbrev Inv-loop : tie.InvT-loop
+Inv-loop s from columns cells₀ offsets₀ numbers₀ counts₀ at₀ cells offsets numbers counts at = ?
+
+abbrev μ-loop : tie.MeasureT-loop
+μ-loop s from columns cells₀ offsets₀ numbers₀ counts₀ at₀ cells offsets numbers counts at = ?
+
+-- src/lib.rt:195:5
+loop-holds : tie.Need-loop-holds Inv-loop μ-loop
+loop-holds c = ?
+
+-- src/lib.rt:201:13
+record-at-requires : tie.Need-record-at-requires Inv-loop μ-loop
+record-at-requires c κs = ?
+
+-- src/lib.rt:197:13
+enum-known-kind : tie.Need-enum-known-kind Inv-loop μ-loop
+enum-known-kind c = ?
+
+-- src/lib.rt:203:13
+enum-told : tie.Need-enum-told Inv-loop μ-loop
+enum-told c = ?
+
+-- src/lib.rt:203:13
+returns : tie.Need-returns Inv-loop μ-loop
+returns c = ?
+
+-- src/lib.rt:206:13
+returns-2 : tie.Need-returns-2 Inv-loop μ-loop
+returns-2 c = ?
+
+-- src/lib.rt:208:9
+put-define-requires : tie.Need-put-define-requires Inv-loop μ-loop
+put-define-requires c κs = ?
+
+-- src/lib.rt:195:5
+loop-less : tie.Need-loop-less Inv-loop μ-loop
+loop-less c = ?
+
+-- src/lib.rt:195:5
+loop-again : tie.Need-loop-again Inv-loop μ-loop
+loop-again c = ?
+
+-- src/lib.rt:181:1
+returns-3 : tie.Need-returns-3 Inv-loop μ-loop
+returns-3 c = ?
+
+pub put-defines-spec : {M : Type 1} → statement M
+put-defines-spec =
+    tie.close
+    (tie.spec
+    Inv-loop
+    μ-loop
+    loop-holds
+    record-at-requires
+    enum-known-kind
+    enum-told
+    returns
+    returns-2
+    put-define-requires
+    loop-less
+    loop-again
+    returns-3)
