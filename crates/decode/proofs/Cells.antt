@@ -212,11 +212,15 @@ module _ (s : List ℕ) (p count columns g : ℕ) (cells₀ : List ℕ) (offsets
       each-on : (j : ℕ) → j < k + 1 → (cellAt columns cells' offsets' numbers' (g + j) ≡ comparisonAt s (p + j * 12)) × Spots columns cells' offsets' (g + j)
       each-on j w =
           decided (ltb j k)
-          (λ t. let y = ltb-true j k t in (untouched-cell cells offsets numbers cells' offsets' numbers' (g + j) (earlier j y) columns ∙ h .done .each j y,
-            untouched-spots cells offsets numbers cells' offsets' numbers' (g + j) (earlier j y) columns (h .done .spots j y)))
+          (λ t. let y = ltb-true j k t in (
+            untouched-cell cells offsets numbers cells' offsets' numbers' (g + j) (earlier j y) columns ∙ h .done .each j y,
+            untouched-spots cells offsets numbers cells' offsets' numbers' (g + j) (earlier j y) columns (h .done .spots j y),
+          ))
           (λ t. let y : j ≡ k = let v = ltb-false j k t in omega arith in
-            rw y (cell-new s (p + k * 12) columns (g + k) cells offsets numbers cells' offsets' numbers' sized (putting-room l) q,
-              spots-new s (p + k * 12) columns (g + k) cells offsets numbers cells' offsets' numbers' sized (putting-room l) q))
+          rw y (
+            cell-new s (p + k * 12) columns (g + k) cells offsets numbers cells' offsets' numbers' sized (putting-room l) q,
+            spots-new s (p + k * 12) columns (g + k) cells offsets numbers cells' offsets' numbers' sized (putting-room l) q,
+          ))
 
       pub putting-more : Putting s p count columns g cells₀ offsets₀ numbers₀ cells' offsets' numbers' (k + 1)
       putting-more = record {

@@ -66,7 +66,7 @@ module _ (columns offset column : ℕ) (h : SpotFits columns offset column) wher
       decided (ltb offset 128)
       (λ t. simp t)
       (λ t. let g = borrow.Author.Tests.ltb-false offset 128 t in let b = back g in
-        simp (t, le-ltb 64 (suc (255 - offset)) (omega arith)) (ap pos (let e : offset - 192 ≡ 64 - suc (255 - offset) = let y = h .byte in omega arith in e)))
+      simp (t, le-ltb 64 (suc (255 - offset)) (omega arith)) (ap pos (let e : offset - 192 ≡ 64 - suc (255 - offset) = let y = h .byte in omega arith in e)))
 
   pub spot-for : SpotFor columns (spotOf columns offset column) (signed8 offset)
   spot-for = ap pos spot-row ∙ moved-is

@@ -5,12 +5,14 @@ use mathlib.Core.List.{List, [], _∷_}
 use Prim.Native.Nat.{ℕ, _+_, _*_, _-_, _≤_, _<_}
 use lib.Dec.{ltb}
 use lib.IntN.{ℤ, pos}
-use lib.ListN.{length, getD, set}
+use lib.ListN.{length, getD, set, take, drop}
 use Rattle.rules.specs.Basics.{pick, every, le32, signed8, signed32}
-use Rattle.rules.specs.Query.{Measure, kinds, firstOfKind, offsetFits, comparisonFits, recordFits, columnsOf, comparisonAt, comparisonsFrom, measuresFrom}
+use Rattle.rules.specs.Query.{Measure, records, kinds, field, firstOfKind, offsetFits, comparisonFits, recordFits, columnsOf, textOf, comparisonAt, comparisonsFrom, measuresFrom}
 use Rattle.query.specs.Read.{recordsAt, restOf, firstAnswer}
 use Rattle.decode.specs.Layout.{cellAt, Spots, Letter, Untouched, measureIn, measuresIn, Fits}
 use Rattle.decode.specs.declared.Measure.{Measure as Three}
+use Rattle.decode.specs.declared.Head.{Head}
+use Rattle.decode.specs.declared.Tail.{Tail}
 
 -- from an index on, the records stand in order from a stage on, and their fields fit
 pub record Ahead (s : List ℕ) (stage left at : ℕ) : Type 0 where
@@ -124,6 +126,32 @@ pub record PutMeasures (s : List ℕ) (from : ℕ) (measures₀ measures : List 
   pub few : r ≤ 8
   pub fit : (k : ℕ) → k < r → Fits (columnsOf s) (measureIn measures k)
   pub rest : (j : ℕ) → r * 3 ≤ j → getD measures j 0 ≡ getD measures₀ j 0
+
+-- the shape and the text; from the index behind them on, the DEFINEs, the skip and the measures are those of the query
+pub record HeadOf (s : List ℕ) (h : Head) : Type 0 where
+  pub columns : h .columns ≡ columnsOf s
+  pub some : 1 ≤ h .columns
+  pub most : h .columns ≤ 8
+  pub text : take (h .len) (drop (h .start) s) ≡ textOf s
+  pub inside : h .start + h .len ≤ length s
+  pub short : h .len ≤ 256
+  pub ahead : Ahead s 2 26 (h .next)
+  pub skip : firstOfKind 4 (recordsAt s (h .next)) ≡ firstOfKind 4 (records s)
+  pub letters : (letter : ℕ) → comparisonsFrom s (recordsAt s (h .next)) letter ≡ comparisonsFrom s (records s) letter
+  pub measures : measuresFrom s (recordsAt s (h .next)) ≡ measuresFrom s (records s)
+
+-- the skip, at this index, and the measures behind it
+pub record TailRoom (s : List ℕ) (at : ℕ) (measures : List ℕ) : Type 0 where
+  pub ahead : Ahead s 2 0 at
+  pub long : length measures ≡ 24
+
+pub record TailOf (s : List ℕ) (at : ℕ) (measures₀ measures : List ℕ) (t : Tail) : Type 0 where
+  pub skip : t .skip ≡ field s (firstOfKind 4 (recordsAt s at)) 0
+  pub mode : t .skip ≤ 1
+  pub is : measuresIn measures (t .measures) ≡ measuresFrom s (recordsAt s at)
+  pub few : t .measures ≤ 8
+  pub fit : (k : ℕ) → k < t .measures → Fits (columnsOf s) (measureIn measures k)
+  pub rest : (j : ℕ) → t .measures * 3 ≤ j → getD measures j 0 ≡ getD measures₀ j 0
 
 -- a query with no answer 1 to 3, and room for its parts
 pub record Room (s cells : List ℕ) (offsets numbers : List ℤ) (measures : List ℕ) : Type 0 where

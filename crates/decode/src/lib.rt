@@ -5,8 +5,10 @@ ghost use mathlib.Core.Path.{_≡_};
 ghost use Prim.Native.Nat.{ℕ, _+_, _*_, _-_, _≤_, _<_};
 ghost use lib.ListN.{length, getD, set};
 ghost use Rattle.rules.specs.Basics.{le32, signed8, signed32};
+ghost use Rattle.rules.specs.Query.{measureAt};
+ghost use Rattle.query.specs.Read.{firstAnswer};
 ghost use Rattle.decode.specs.Layout.{measureIn, Decoded};
-ghost use Rattle.decode.specs.Steps.{Room, MeasuresRoom, spotOf, SpotFits, setThree, CellRoom, PutCell, CellsRoom, PutCells, DefineRoom, PutDefine, DefinesRoom, PutDefines, measureOf, PutMeasures};
+ghost use Rattle.decode.specs.Steps.{Room, HeadOf, TailRoom, TailOf, MeasuresRoom, spotOf, SpotFits, setThree, CellRoom, PutCell, CellsRoom, PutCells, DefineRoom, PutDefine, DefinesRoom, PutDefines, measureOf, PutMeasures};
 
 // A measure of the query: the number of its function, the letter of its rows or 0 for all rows, and its column.
 pub struct Measure {
@@ -173,7 +175,16 @@ fn put_define(
     if counts[l] != 0 {
         return;
     }
-    put_cells(s, start + 2, byte(s, start + 1), columns, cells, offsets, numbers, l * 8);
+    put_cells(
+        s,
+        start + 2,
+        byte(s, start + 1),
+        columns,
+        cells,
+        offsets,
+        numbers,
+        l * 8,
+    );
     counts[l] = s[start + 1];
 }
 
@@ -220,6 +231,14 @@ pub fn measure_at(measures: &[u8; 24], k: usize) -> Measure
     Measure::make(measures[at], measures[at + 1], measures[at + 2])
 }
 
+// The measure in a record's body.
+fn measure_of(s: &[u8], start: usize) -> Measure
+    requires { ⌜ start + 4 ≤ length (now s) ⌝ }
+    ensures { λ r. ⌜ measureOf r ≡ measureAt (now (s .entry)) start ⌝ }
+{
+    Measure::make(s[start], s[start + 1], s[start + 2])
+}
+
 fn put_measure(m: Measure, measures: &mut [u8; 24], k: usize)
     requires { ⌜ k < 8 ⌝ }
     ensures { λ r. ⌜ now (measures .exit) ≡ setThree (now (measures .entry)) (k * 3) (m .function) (m .letter) (m .column) ⌝ }
@@ -247,18 +266,95 @@ fn put_measures(s: &[u8], from: usize, measures: &mut [u8; 24]) -> usize
         else {
             return count;
         };
-        put_measure(
-            Measure::make(s[start], s[start + 1], s[start + 2]),
-            measures,
-            count,
-        );
+        put_measure(measure_of(s, start), measures, count);
         count += 1;
         at = next;
     }
     count
 }
 
-// All parts of a query. The records stand in order, so the first is the shape and the second the text; then come the DEFINEs, the skip and the measures.
+// What the first two records say, the shape and the text, and the index behind them.
+struct Head {
+    columns: usize,
+    start: usize,
+    len: usize,
+    next: usize,
+}
+
+// The shape and the text. There is no other way than the last: a query with no answer 1 to 3 is not cut.
+fn read_head(s: &[u8]) -> Head
+    requires { ⌜ firstAnswer (now s) ≡ 0 ⌝ }
+    ensures { λ r. ⌜ HeadOf (now (s .entry)) r ⌝ }
+{
+    let Read::Record {
+        kind: _,
+        start: shape,
+        len: _,
+        next: second,
+    } = query::record_at(s, 0)
+    else {
+        return Head {
+            columns: 0,
+            start: 0,
+            len: 0,
+            next: 0,
+        };
+    };
+    let Read::Record {
+        kind: _,
+        start,
+        len,
+        next,
+    } = query::record_at(s, second)
+    else {
+        return Head {
+            columns: 0,
+            start: 0,
+            len: 0,
+            next: 0,
+        };
+    };
+    let columns = byte(s, shape);
+    Head {
+        columns,
+        start,
+        len,
+        next,
+    }
+}
+
+// What stands behind the DEFINEs: the skip mode, and how many measures.
+struct Tail {
+    skip: usize,
+    measures: usize,
+}
+
+// The skip at this index, and the measures behind it.
+fn read_tail(s: &[u8], at: usize, measures: &mut [u8; 24]) -> Tail
+    requires { ⌜ TailRoom (now s) at (now measures) ⌝ }
+    ensures { λ r. ⌜ TailOf (now (s .entry)) at (now (measures .entry)) (now (measures .exit)) r ⌝ }
+{
+    let Read::Record {
+        kind: _,
+        start,
+        len: _,
+        next,
+    } = query::record_at(s, at)
+    else {
+        return Tail {
+            skip: 0,
+            measures: 0,
+        };
+    };
+    let skip = byte(s, start);
+    let count = put_measures(s, next, measures);
+    Tail {
+        skip,
+        measures: count,
+    }
+}
+
+// All parts of a query. The records stand in order: the shape and the text, the DEFINEs, the skip and the measures.
 pub fn decode(
     s: &[u8],
     cells: &mut [u16; 832],
@@ -270,51 +366,16 @@ pub fn decode(
     requires { ⌜ Room (now s) (now cells) (now offsets) (now numbers) (now measures) ⌝ }
     ensures { λ r. ⌜ Decoded (now (s .entry)) (now (cells .entry)) (now (offsets .entry)) (now (numbers .entry)) (now (measures .entry)) (now (cells .exit)) (now (offsets .exit)) (now (numbers .exit)) (now (counts .exit)) (now (measures .exit)) r ⌝ }
 {
-    let Read::Record {
-        kind: _,
-        start: shape,
-        len: _,
-        next: second,
-    } = query::record_at(s, 0)
-    else {
-        return nothing();
-    };
-    let Read::Record {
-        kind: _,
-        start,
-        len,
-        next: third,
-    } = query::record_at(s, second)
-    else {
-        return nothing();
-    };
-    let columns = byte(s, shape);
-    let behind = put_defines(s, third, columns, cells, offsets, numbers, counts);
-    let Read::Record {
-        kind: _,
-        start: skip,
-        len: _,
-        next: last,
-    } = query::record_at(s, behind)
-    else {
-        return nothing();
-    };
-    let count = put_measures(s, last, measures);
+    let h = read_head(s);
+    let columns = h.columns;
+    let next = h.next;
+    let behind = put_defines(s, next, columns, cells, offsets, numbers, counts);
+    let t = read_tail(s, behind, measures);
     Parts {
         columns,
-        start,
-        len,
-        skip: byte(s, skip),
-        measures: count,
-    }
-}
-
-fn nothing() -> Parts {
-    Parts {
-        columns: 0,
-        start: 0,
-        len: 0,
-        skip: 0,
-        measures: 0,
+        start: h.start,
+        len: h.len,
+        skip: t.skip,
+        measures: t.measures,
     }
 }

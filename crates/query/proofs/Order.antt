@@ -127,7 +127,7 @@ module _ (at left kind : ℕ) where
     out-stays h0 h1 h2 h3 = off (λ ks. simp (ne-eqb at 0 h0, ne-eqb at 1 h1, ne-eqb at 2 h2, ne-eqb at 3 h3))
 
 -- at the end the order is right exactly in stage 3
-rest-nil : (left at : ℕ) → restOf at left [] ≡ eqb at 3
+pub rest-nil : (left at : ℕ) → restOf at left [] ≡ eqb at 3
 unfolding restOf oneOf noneLeft
 rest-nil left zero = refl
 rest-nil left (suc zero) = refl
@@ -152,7 +152,7 @@ pub record Judged (s : List ℕ) (at a l columns : ℕ) (fit : Bool) : Type 0 wh
   pub shape : 0 < a → a < 4 → columns ≡ columnsOf s
   pub fits : a < 4 → (fit && every (recordFits s (columnsOf s)) (recordsAt s at)) ≡ every (recordFits s (columnsOf s)) (records s)
 
-columns-at : (s : List ℕ) (k b l : ℕ) (rs : List Record) → k ≡ 1 → recordOf k b l ∷ rs ≡ records s → columnsOf s ≡ getD s b 0
+pub columns-at : (s : List ℕ) (k b l : ℕ) (rs : List Record) → k ≡ 1 → recordOf k b l ∷ rs ≡ records s → columnsOf s ≡ getD s b 0
 unfolding columnsOf firstOfKind
 columns-at s k b l rs e q =
     ap (λ (x : List Record). Rattle.rules.specs.Query.field s (firstOfKind 1 x) 0) (sym q)

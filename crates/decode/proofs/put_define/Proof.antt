@@ -1,3 +1,4 @@
+use Rattle.decode.proofs.Defines.{define-taken, define-room, define-put}
 use borrow.Author.Needs.{needs}
 use Rattle.decode.proofs.put_define.Statement.{statement}
 use Rattle.decode.proofs.put_define.Tie as tie
@@ -20,7 +21,7 @@ element-copy-out-if1 c = search needs
 
 -- src/lib.rt:174:9
 returns : tie.Need-returns
-returns c = ?
+returns c = search (needs, define-taken)
 
 -- src/lib.rt:176:18
 add-put-cells : tie.Need-add-put-cells
@@ -40,7 +41,7 @@ mul-put-cells c = search needs
 
 -- src/lib.rt:176:5
 put-cells-requires : tie.Need-put-cells-requires
-put-cells-requires c κs = ?
+put-cells-requires c κs = search (needs, define-room)
 
 -- src/lib.rt:177:19
 add-counts : tie.Need-add-counts
@@ -56,7 +57,7 @@ element-write-counts c = search needs
 
 -- src/lib.rt:160:1
 returns-2 : tie.Need-returns-2
-returns-2 c = ?
+returns-2 c = search (needs, define-put)
 
 pub put-define-spec : {M : Type 1} → statement M
 put-define-spec =
