@@ -41,3 +41,4 @@ pub mod Bench
 pub mod Listing
 pub mod Clause62
 pub mod Strings
+pub mod Choice

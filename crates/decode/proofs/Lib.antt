@@ -1,0 +1,8 @@
+pub mod Words
+pub mod Spotting
+pub mod Keeping
+pub mod Cells
+pub mod Going
+pub mod Defines
+pub mod Counting
+pub mod Together

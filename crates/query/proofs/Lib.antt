@@ -1,0 +1,5 @@
+pub mod Records
+pub mod Reading
+pub mod Order
+pub mod FieldRules
+pub mod Marks

@@ -1,0 +1,20 @@
+use Rattle.query.proofs.Reading.{no-byte}
+use native.Mathlib.Omega.{arith}
+use borrow.Author.Needs.{needs}
+use Rattle.query.proofs.byte_or_zero.Statement.{statement}
+use Rattle.query.proofs.byte_or_zero.Tie as tie
+
+shared-slice-read-wide : tie.Need-shared-slice-read-wide
+shared-slice-read-wide c = search needs
+
+wide-requires : tie.Need-wide-requires
+wide-requires c κs = search needs
+
+returns : tie.Need-returns
+returns c = search needs
+
+returns-2 : tie.Need-returns-2
+returns-2 c = (no-byte (c .before .before .args .s .now) (c .before .before .args .at) (omega arith), omega arith)
+
+pub byte-or-zero-spec : {M : Type 1} → statement M
+byte-or-zero-spec = tie.close (tie.spec shared-slice-read-wide wide-requires returns returns-2)

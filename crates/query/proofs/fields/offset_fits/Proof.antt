@@ -1,0 +1,14 @@
+use Rattle.query.proofs.FieldRules.{offset-low, offset-high}
+use native.Mathlib.Omega.{arith}
+use borrow.Author.Needs.{needs}
+use Rattle.query.proofs.fields.offset_fits.Statement.{statement}
+use Rattle.query.proofs.fields.offset_fits.Tie as tie
+
+returns : tie.Need-returns
+returns c = offset-low _ (omega arith)
+
+returns-2 : tie.Need-returns-2
+returns-2 c = offset-high _ (omega arith) (omega arith)
+
+pub offset-fits-spec : {M : Type 1} → statement M
+offset-fits-spec = tie.close (tie.spec returns returns-2)
