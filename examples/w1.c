@@ -1,4 +1,4 @@
-/* Runs W1 of the bench sheet through the C interface: rows that rise (A) once or more and then fall (B), with COUNT(A) and LAST(B).
+/* Runs W1 of the bench sheet through the C interface: rows that rise (A) and then fall (B), with COUNT(A) and LAST(B).
  * It asks for the working room, lends static buffers, and prints the match row by row.
  * Build, in the repository's root, and run:
  *   rt staticlib mireladle_c
