@@ -156,7 +156,8 @@ struct mireladle_room mireladle_room(const uint8_t *query, size_t query_len, con
  *   kind 1, once           columns of a row, 1 to 8; reserved byte
  *   kind 2, once           pattern text, up to 256 bytes
  *   kind 3, up to 26 times DEFINE: letter 'A' to 'Z', count of comparisons 1 to 8, so many comparisons of 12 bytes
- *   kind 4, once           after a match go on 0 behind its last row, 1 at the row behind its first; reserved byte
+ *   kind 4, once           after a match go on 0 behind its last row, 1 at the row behind its first (in both cases one
+ *                          row on after a match that takes none); reserved byte
  *   kind 5, up to 8 times  measure: function 1 COUNT, 2 SUM, 3 MIN, 4 MAX, 5 FIRST, 6 LAST; letter, or 0 for all rows
  *                          of the match; column (0 for COUNT); reserved byte
  *
@@ -168,7 +169,8 @@ struct mireladle_room mireladle_room(const uint8_t *query, size_t query_len, con
  *
  * A pattern is made of letters, ^ (before the first row), $ (behind the last row), () (nothing), sequences, branches
  * parted by |, parentheses, and the quantifiers * + ? {n} {n,} {,m} {n,m}, greedy, or reluctant with a ? directly
- * behind them. Bounds are 0 to 99. Spaces may stand between these and have to stand between two letters.
+ * behind them. Bounds are 0 to 99, without leading zero; an upper bound, and n in {n}, is at least 1. Spaces may stand
+ * between these, but not inside the braces, and have to stand between two letters.
  */
 
 #ifdef __cplusplus
