@@ -318,6 +318,14 @@ mod tests {
     }
 
     #[test]
+    fn each_match_has_the_labels_behind_those_before_it() {
+        let numbers = vec![1, 0, 2, 2, 2, 0, 3, 3, 1, 4, 4, 3];
+        let report = Report::new(&outcome(0, 4, 6), numbers, b"ABCDEF".to_vec(), 0).unwrap();
+        let labels: Vec<&str> = report.matches().map(|found| found.labels()).collect();
+        assert_eq!(labels, ["AB", "", "C", "DEF"]);
+    }
+
+    #[test]
     fn a_stopped_report_keeps_its_matches() {
         let report = Report::new(&outcome(13, 1, 1), vec![1, 0, 1, 0], b"A".to_vec(), 0).unwrap();
         assert_eq!((report.ending(), report.len()), (Ending::Stopped, 1));

@@ -110,6 +110,27 @@ row  price  match:label
 }
 
 #[test]
+fn each_row_has_its_own_label() {
+    let query = file(
+        "own.txt",
+        "pattern: (A | B)+ C\nA: c0 = 1\nB: c0 = 2\nC: c0 = 3",
+    );
+    let rows = file("own.csv", "event\n1\n2\n3\n3\n2\n1\n3\n");
+    let output = run(&[&query, &rows]);
+    let printed = text(&output.stdout);
+    let labels = "row  event  match:label
+  0      1  1:A
+  1      2  1:B
+  2      3  1:C
+  3      3
+  4      2  2:B
+  5      1  2:A
+  6      3  2:C
+";
+    assert!(printed.ends_with(labels), "{printed}");
+}
+
+#[test]
 fn no_match_and_no_rows() {
     let query = file("none.txt", "pattern: A\nA: c0 > 5");
     let rows = file("none.csv", "price\n1\n");

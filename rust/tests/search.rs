@@ -104,6 +104,27 @@ fn w8_to_w12_places_and_refused_patterns() {
 }
 
 #[test]
+fn matches_with_labels_of_their_own() {
+    let is = |number| [col(0).eq(number)];
+    let query = free("(A | B)+ C")
+        .define('A', is(1))
+        .define('B', is(2))
+        .define('C', is(3));
+    let rows = [1, 2, 3, 2, 3, 3, 1, 1, 2, 3];
+    let past_last = matches(&[(0, "ABC"), (3, "BC"), (6, "AABC")]);
+    assert_eq!(found(&query, &rows).0, past_last);
+    let to_next = matches(&[
+        (0, "ABC"),
+        (1, "BC"),
+        (3, "BC"),
+        (6, "AABC"),
+        (7, "ABC"),
+        (8, "BC"),
+    ]);
+    assert_eq!(found(&query.skip(Skip::ToNextRow), &rows).0, to_next);
+}
+
+#[test]
 fn easy_slips() {
     assert_eq!(
         found(&free("A | A B"), &[0; 2]).0,

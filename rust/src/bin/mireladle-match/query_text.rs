@@ -8,7 +8,7 @@ use mireladle::{
 
 use crate::csv::index_named;
 use crate::fault::{shown, Fault};
-use crate::words::{Word, Words};
+use crate::words::{is_name, Word, Words};
 
 /// Limits of a query, kept here so that what passes them is told with its place.
 const LONGEST_PATTERN: usize = 256;
@@ -327,14 +327,22 @@ fn index_of(name: &str, names: &[String]) -> Option<usize> {
     names.iter().position(|known| known == name)
 }
 
-/// What is expected where a column stands, with all of them: `a column (c0 or time, c1 or event)`.
+/// What is expected where a column stands, with all of them: `a column (c0 or time, c1 or "base number")`.
 fn one_of_the_columns(names: &[String]) -> String {
     let both = |(index, name): (usize, &String)| match index_named(name) {
         Some(_) => format!("c{index}"),
-        None => format!("c{index} or {name}"),
+        None => format!("c{index} or {}", as_written(name)),
     };
     let all: Vec<String> = names.iter().enumerate().map(both).collect();
     format!("a column ({})", all.join(", "))
+}
+
+/// A name as a query has to write it: in quotes where it is more than one word.
+fn as_written(name: &str) -> String {
+    match is_name(name) {
+        true => String::from(name),
+        false => format!("\"{}\"", name.replace('"', "\"\"")),
+    }
 }
 
 /// Measures parted by commas, to the end of the line, each with its title.

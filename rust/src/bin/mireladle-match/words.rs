@@ -138,7 +138,7 @@ fn first_word(text: &str, first: char) -> (Word, &str) {
         return (Word::Digits(String::from(digits)), rest);
     }
     if is_name_start(first) {
-        let (name, rest) = run(text, |c| is_name_start(c) || c.is_numeric());
+        let (name, rest) = run(text, is_in_name);
         return (Word::Name(String::from(name)), rest);
     }
     if first == '"' {
@@ -158,6 +158,15 @@ fn first_word(text: &str, first: char) -> (Word, &str) {
 /// Whether a name may begin with this character.
 pub fn is_name_start(c: char) -> bool {
     c.is_alphabetic() || c == '_'
+}
+
+fn is_in_name(c: char) -> bool {
+    is_name_start(c) || c.is_numeric()
+}
+
+/// Whether a text is one name, which needs no quotes.
+pub fn is_name(text: &str) -> bool {
+    text.starts_with(is_name_start) && text.chars().all(is_in_name)
 }
 
 /// The longest front part of a text whose characters all belong, and the rest.

@@ -208,7 +208,7 @@ fn faults_of_lines() {
 
 #[test]
 fn faults_of_comparisons() {
-    let columns = "a column (c0 or time, c1 or event, c2 or base number)";
+    let columns = "a column (c0 or time, c1 or event, c2 or \"base number\")";
     assert_eq!(
         fault("A:"),
         format!("2:3: expected {columns}, found the end of the line")
@@ -307,7 +307,7 @@ fn faults_of_comparisons() {
 
 #[test]
 fn faults_of_measures() {
-    let columns = "a column (c0 or time, c1 or event, c2 or base number)";
+    let columns = "a column (c0 or time, c1 or event, c2 or \"base number\")";
     let measure = "a measure: COUNT, SUM, MIN, MAX, FIRST or LAST";
     assert_eq!(
         fault("measures:"),
