@@ -1,5 +1,5 @@
 //! The C header and its example, by the compilers `cc` and `c++` (or those that CC and CXX name): both languages take
-//! the header without a warning, its structs are those of this crate, and the example prints W1's match.
+//! the header without a warning, its structs have the size that this crate declares, and the example prints W1's match.
 
 use std::path::{Path, PathBuf};
 use std::process::{Command, Output};

@@ -2,7 +2,8 @@
 //! names as a row, would shift every label. Every other line is a row of whole numbers of 32 bits. Fields may be
 //! quoted, lines may end in CR LF, and empty lines may stand behind the last row only.
 
-use crate::fault::{shown, Fault};
+use crate::columns::index_named;
+use crate::fault::{column_of, shown, Fault};
 use crate::words::{is_name_start, quoted};
 
 /// The most columns that rows can have.
@@ -74,15 +75,6 @@ fn names(line: usize, fields: &[Field]) -> Result<Vec<String>, Fault> {
     Ok(names)
 }
 
-/// The index in a name such as `c0`, which every column has beside the one in the header row.
-pub fn index_named(name: &str) -> Option<usize> {
-    let digits = name.strip_prefix('c')?;
-    match digits.chars().all(|c| c.is_ascii_digit()) {
-        true => digits.parse().ok(),
-        false => None,
-    }
-}
-
 /// A field of a row as a number, if there is a name for it.
 fn entry(line: usize, field: &Field, index: usize, names: &[String]) -> Result<i32, Fault> {
     if index >= names.len() {
@@ -139,12 +131,6 @@ fn fields(line: usize, text: &str) -> Result<Vec<Field>, Fault> {
             }
         }
     }
-}
-
-/// The column at which the last part of a line begins.
-fn column_of(line: &str, last: &str) -> usize {
-    let before = line.chars().count().saturating_sub(last.chars().count());
-    before.saturating_add(1)
 }
 
 #[cfg(test)]
@@ -229,14 +215,5 @@ mod tests {
             fault("a,b\n\"1\" 2,3"),
             "2:5: expected a comma behind the closing quote, found `2,3`"
         );
-    }
-
-    #[test]
-    fn names_that_mean_a_column_by_its_index() {
-        assert_eq!(index_named("c0"), Some(0));
-        assert_eq!(index_named("c12"), Some(12));
-        for name in ["c", "cx", "C0", "c-1", "c+1", "c99999999999999999999999"] {
-            assert_eq!(index_named(name), None, "{name}");
-        }
     }
 }

@@ -71,6 +71,12 @@ impl fmt::Display for Marked<'_> {
     }
 }
 
+/// The column at which the last part of a line begins.
+pub fn column_of(line: &str, last: &str) -> usize {
+    let before = line.chars().count().saturating_sub(last.chars().count());
+    before.saturating_add(1)
+}
+
 /// A piece of text as a fault shows it: quoted, and cut if it is long.
 pub fn shown(text: &str) -> String {
     const LONGEST: usize = 40;

@@ -15,8 +15,11 @@
     )
 )]
 
+mod columns;
 mod csv;
+mod define_text;
 mod fault;
+mod measure_text;
 mod print;
 mod query_text;
 mod words;

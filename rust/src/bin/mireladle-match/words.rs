@@ -169,6 +169,15 @@ pub fn is_name(text: &str) -> bool {
     text.starts_with(is_name_start) && text.chars().all(is_in_name)
 }
 
+/// The letter that a word is, if it is one.
+pub fn letter(word: &str) -> Option<char> {
+    let mut characters = word.chars();
+    match (characters.next(), characters.next()) {
+        (Some(letter @ 'A'..='Z'), None) => Some(letter),
+        _ => None,
+    }
+}
+
 /// The longest front part of a text whose characters all belong, and the rest.
 fn run(text: &str, belongs: impl Fn(char) -> bool) -> (&str, &str) {
     let end = text.find(|c| !belongs(c)).unwrap_or(text.len());

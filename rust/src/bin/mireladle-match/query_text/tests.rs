@@ -1,5 +1,7 @@
 //! Tests of the reader of query text: what it reads, byte by byte, and the place and words of every fault.
 
+use mireladle::col;
+
 use super::*;
 
 fn names() -> Vec<String> {
