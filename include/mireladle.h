@@ -100,7 +100,7 @@ struct mireladle_room {
  * Each buffer is a pointer to its first element and a length in elements. A pointer may be NULL where its length is 0,
  * and only there; otherwise it points to so many elements, aligned as their type asks. The four buffers that are
  * written must not overlap one another, nor the query or the rows. All belong to the caller, who may free or reuse
- * them as soon as the call returns. What they hold before the call has no effect: nothing has to be cleared.
+ * them as soon as the call returns. What those four hold before the call has no effect: nothing has to be cleared.
  *
  *   query    The query's records, one behind the other; see "A query's bytes" below. Only read.
  *   rows     The rows' entries, row by row, in order: one partition, already sorted. rows_len counts entries, not rows.
@@ -169,8 +169,8 @@ struct mireladle_room mireladle_room(const uint8_t *query, size_t query_len, con
  *
  * A pattern is made of letters, ^ (before the first row), $ (behind the last row), () (nothing), sequences, branches
  * parted by |, parentheses, and the quantifiers * + ? {n} {n,} {,m} {n,m}, greedy, or reluctant with a ? directly
- * behind them. Bounds are 0 to 99, without leading zero; an upper bound, and n in {n}, is at least 1. Spaces may stand
- * between these, but not inside the braces, and have to stand between two letters.
+ * behind them. Bounds are 0 to 99, without leading zero; an upper bound is at least 1 and not below the lower one, and
+ * n in {n} is at least 1. Spaces may stand between these, but not inside the braces, and have to stand between letters.
  */
 
 #ifdef __cplusplus
