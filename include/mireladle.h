@@ -1,0 +1,180 @@
+/*
+ * Mireladle: a verified search for SQL row patterns (MATCH_RECOGNIZE) over ordered rows of whole numbers.
+ *
+ * This is the whole C interface of libmireladle_c.a, for C11 and C++17. Every query, all rows and all buffers get an
+ * answer: a caller checks nothing first. The functions allocate nothing, keep no pointer and no state between calls,
+ * and may run on several threads at once as long as no thread writes into what another one lends.
+ */
+#ifndef MIRELADLE_H
+#define MIRELADLE_H
+
+#include <stddef.h>
+#include <stdint.h>
+
+#ifdef __cplusplus
+extern "C" {
+#endif
+
+/* The words used below.
+ *
+ * Rows and positions count from 0. n is the number of rows. A position is a row or n, which lies behind the last row.
+ * P is the number of places: the letters, anchors and forks of the pattern once its repetitions are written out, from
+ * place 0 at its left end on, and one place END behind them. A pair is a place and a position. There are P * (n + 1)
+ * pairs, and both working buffers are measured by that number; mireladle_room() tells it.
+ */
+
+/* Limits. A query or rows beyond them are refused, so a buffer measured by them is always large enough. */
+#define MIRELADLE_MAX_COLUMNS 8       /* entries of one row */
+#define MIRELADLE_MAX_ROWS 4096       /* n */
+#define MIRELADLE_MAX_PLACES 256      /* P */
+#define MIRELADLE_MAX_PAIRS 1048832   /* P * (n + 1) */
+#define MIRELADLE_MAX_PATTERN 256     /* bytes of pattern text */
+#define MIRELADLE_MAX_DEFINES 26      /* one for each letter */
+#define MIRELADLE_MAX_COMPARISONS 8   /* of one DEFINE */
+#define MIRELADLE_MAX_MEASURES 8
+#define MIRELADLE_MAX_OFFSET 64       /* rows that PREV or NEXT looks away */
+
+/* Bytes of notes that a number of pairs calls for; the trail takes one number for each pair. */
+#define MIRELADLE_NOTES_LENGTH(pairs) (((pairs) + 7) / 8)
+
+/* Numbers that one match takes in the report of a query with so many measures. */
+#define MIRELADLE_MATCH_LENGTH(measures) (3 + 2 * (measures))
+
+/* The answers. Where several of 1 to 12 apply, the lowest is given; each is judged over the whole input, so that a
+ * fault of a low number at the very end of the query comes before one of a high number at its beginning.
+ */
+enum mireladle_answer {
+    /* The search went through all rows, and the report is whole. */
+    MIRELADLE_DONE = 0,
+    /* The query breaks off inside a record: in its 4 header bytes, or in the body that they announce. A query that
+     * ends behind a whole record, or has no byte at all, does not break off. */
+    MIRELADLE_QUERY_CUT = 1,
+    /* A record has an unknown kind, stands in the wrong place, is there too often, or is missing. An empty query is a
+     * case of this. */
+    MIRELADLE_WRONG_RECORDS = 2,
+    /* A record's body has the wrong length, or one of its fields a value that it must not have: a reserved byte that
+     * is not 0, a column that the rows do not have, an offset beyond 64, a pattern text beyond 256 bytes. */
+    MIRELADLE_WRONG_FIELD = 3,
+    /* Somewhere in the pattern text more than 8 parentheses are open. */
+    MIRELADLE_TOO_DEEP = 4,
+    /* The pattern text is not a pattern. */
+    MIRELADLE_NO_PATTERN = 5,
+    /* A repetition without an upper bound is put on something that can match without taking a row, such as (A*)*. */
+    MIRELADLE_EMPTY_REPETITION = 6,
+    /* Written out, the pattern has more than 256 places. */
+    MIRELADLE_TOO_MANY_PLACES = 7,
+    /* One letter has two DEFINEs. */
+    MIRELADLE_DEFINED_TWICE = 8,
+    /* A measure asks for a letter that the pattern does not have. */
+    MIRELADLE_MEASURE_LETTER = 9,
+    /* The entries do not make whole rows, or there are more than 4,096 rows. */
+    MIRELADLE_WRONG_ROWS = 10,
+    /* The notes are shorter than P * (n + 1) bits. */
+    MIRELADLE_NOTES_SHORT = 11,
+    /* The trail is shorter than P * (n + 1) numbers. */
+    MIRELADLE_TRAIL_SHORT = 12,
+    /* The search stopped at a match for which numbers or labels had no room left. The matches before it stand whole in
+     * the report; no later match is looked for, even one that would fit. */
+    MIRELADLE_STOPPED = 13
+};
+
+/* What a search returns. On the answers 1 to 12 all but the answer are 0. */
+struct mireladle_result {
+    uint64_t answer;  /* one of enum mireladle_answer */
+    uint64_t matches; /* matches in the report */
+    uint64_t labels;  /* label bytes in the report */
+    uint64_t steps;   /* pairs entered; on 13 the search for the match that did not fit is counted too */
+};
+
+/* What the working room of a search is measured by. On the answers 1 to 10 all but the answer are 0. */
+struct mireladle_room {
+    uint64_t answer; /* 0, or 1 to 10 of enum mireladle_answer */
+    uint64_t places; /* P */
+    uint64_t rows;   /* n */
+    uint64_t pairs;  /* P * (n + 1) */
+};
+
+/*
+ * Searches the rows for all matches of the query.
+ *
+ * Each buffer is a pointer to its first element and a length in elements. A pointer may be NULL where its length is 0,
+ * and only there; otherwise it points to so many elements, aligned as their type asks. The four buffers that are
+ * written must not overlap one another, nor the query or the rows. All belong to the caller, who may free or reuse
+ * them as soon as the call returns. What those four hold before the call has no effect: nothing has to be cleared.
+ *
+ *   query    The query's records, one behind the other; see "A query's bytes" below. Only read.
+ *   rows     The rows' entries, row by row, in order: one partition, already sorted. rows_len counts entries, not rows.
+ *            Only read.
+ *   notes    Working room of at least MIRELADLE_NOTES_LENGTH(P * (n + 1)) bytes.
+ *   trail    Working room of at least P * (n + 1) numbers.
+ *   numbers  Report room for MIRELADLE_MATCH_LENGTH(measures) numbers a match. There are at most n matches, so
+ *            n * MIRELADLE_MATCH_LENGTH(measures) are always enough. Less is allowed, even none: see answer 13.
+ *   labels   Report room for one byte for each row of each match: n bytes are always enough where the query skips past
+ *            the last row, n * (n + 1) / 2 where it skips to the next row. Less is allowed, even none: see answer 13.
+ *
+ * What the buffers hold afterwards:
+ *
+ *   answers 1 to 12   Nothing is changed.
+ *   answers 0 and 13  numbers: for each match in turn its number (from 1), its first row (the row where it was tried if
+ *                     it takes none), how many rows it takes, and for each measure two numbers: 1 and the result, or
+ *                     0 and 0 for null. That is matches * MIRELADLE_MATCH_LENGTH(measures) numbers.
+ *                     labels: the letters, 'A' to 'Z', of the matches' rows, match behind match; no byte 0 ends them.
+ *                     notes: bit (position * P + place), the lowest bit of a byte first, is 1 exactly if that pair
+ *                     was entered and failed. Spare bits of the last byte used are 0.
+ *                     trail: the first P * (n + 1) numbers are 0.
+ *                     Whatever lies behind that, in each of the four, is unchanged.
+ *
+ * With skip past last row the steps are at most 2 * P * (n + 1), whatever the rows.
+ */
+struct mireladle_result mireladle_search(const uint8_t *query, size_t query_len,
+                                         const int32_t *rows, size_t rows_len,
+                                         uint8_t *notes, size_t notes_len,
+                                         uint32_t *trail, size_t trail_len,
+                                         int64_t *numbers, size_t numbers_len,
+                                         uint8_t *labels, size_t labels_len);
+
+/*
+ * Judges a query and rows and tells how much working room their search takes: answer 0 with P, n and P * (n + 1), or
+ * the answer of 1 to 10 that mireladle_search() would give. With rows_len 0 it judges the query alone.
+ * query and rows are as for mireladle_search(): only read, and NULL only with length 0. Nothing else is touched.
+ */
+#if defined(__cplusplus) && defined(__GNUC__)
+#pragma GCC diagnostic push
+#pragma GCC diagnostic ignored "-Wshadow" /* the function has the name of the struct that it returns */
+#endif
+struct mireladle_room mireladle_room(const uint8_t *query, size_t query_len, const int32_t *rows, size_t rows_len);
+#if defined(__cplusplus) && defined(__GNUC__)
+#pragma GCC diagnostic pop
+#endif
+
+/*
+ * A query's bytes
+ *
+ * A query is a list of records. A record is the length of its body (2 bytes), its kind (2 bytes) and its body. Numbers
+ * are little-endian, reserved bytes are 0. The kinds stand in this order:
+ *
+ *   kind 1, once           columns of a row, 1 to 8; reserved byte
+ *   kind 2, once           pattern text, up to 256 bytes
+ *   kind 3, up to 26 times DEFINE: letter 'A' to 'Z', count of comparisons 1 to 8, so many comparisons of 12 bytes
+ *   kind 4, once           after a match go on 0 behind its last row, 1 at the row behind its first (in both cases one
+ *                          row on after a match that takes none); reserved byte
+ *   kind 5, up to 8 times  measure: function 1 COUNT, 2 SUM, 3 MIN, 4 MAX, 5 FIRST, 6 LAST; letter, or 0 for all rows
+ *                          of the match; column (0 for COUNT); reserved byte
+ *
+ * A comparison is: left column; left offset, a signed byte of -64 (64 rows back) to 64 (64 rows on); operator, 1 equal,
+ * 2 unequal, 3 less, 4 at most, 5 greater, 6 at least; right kind, 0 a number, 1 a column plus a number; right column;
+ * right offset; two reserved bytes; the number, signed, 4 bytes. With right kind 0 the right column and offset are 0.
+ * The sum is exact. A comparison that looks at a row which is not there is not met, not even by "unequal". A letter
+ * holds at a row where all its comparisons are met; a letter without DEFINE holds at every row.
+ *
+ * A pattern is made of letters, ^ (before the first row), $ (behind the last row), () (nothing), sequences, branches
+ * parted by |, parentheses, and the quantifiers * + ? {n} {n,} {,m} {n,m}, greedy, or reluctant with a ? directly
+ * behind them. Bounds are 0 to 99, without leading zero; an upper bound is at least 1 and not below the lower one, and
+ * n in {n} is at least 1. Spaces may stand between these, but not inside the braces, and have to stand between letters.
+ */
+
+#ifdef __cplusplus
+}
+#endif
+
+#endif

@@ -1,0 +1,134 @@
+//! What is wrong in a text that was read: the line, the column, what was expected there and what was found instead.
+//! Lines and columns count from 1, columns in characters.
+
+use std::fmt;
+
+/// One fault. Reading stops at the first.
+#[derive(Clone, Debug, PartialEq, Eq)]
+pub struct Fault {
+    pub line: usize,
+    pub column: usize,
+    pub expected: String,
+    pub found: String,
+}
+
+impl Fault {
+    pub fn new(
+        line: usize,
+        column: usize,
+        expected: impl Into<String>,
+        found: impl Into<String>,
+    ) -> Fault {
+        Fault {
+            line,
+            column,
+            expected: expected.into(),
+            found: found.into(),
+        }
+    }
+
+    /// The faulty line with a mark under the column.
+    pub fn marked<'a>(&'a self, text: &'a str) -> Marked<'a> {
+        Marked { fault: self, text }
+    }
+}
+
+impl fmt::Display for Fault {
+    fn fmt(&self, f: &mut fmt::Formatter<'_>) -> fmt::Result {
+        let Fault {
+            line,
+            column,
+            expected,
+            found,
+        } = self;
+        write!(f, "{line}:{column}: expected {expected}, found {found}")
+    }
+}
+
+/// A fault in its text; see [`Fault::marked`].
+pub struct Marked<'a> {
+    fault: &'a Fault,
+    text: &'a str,
+}
+
+/// A longer line is not shown: its mark would be lost on a screen.
+const LONGEST_SHOWN: usize = 160;
+
+impl fmt::Display for Marked<'_> {
+    fn fmt(&self, f: &mut fmt::Formatter<'_>) -> fmt::Result {
+        let line = self
+            .text
+            .lines()
+            .nth(self.fault.line.saturating_sub(1))
+            .unwrap_or("");
+        if line.trim().is_empty() || line.chars().count() > LONGEST_SHOWN {
+            return Ok(());
+        }
+        // A tab in front of the mark is kept, so that the mark stays under its place.
+        let before = line.chars().take(self.fault.column.saturating_sub(1));
+        let gap: String = before.map(|c| if c == '\t' { '\t' } else { ' ' }).collect();
+        write!(f, "\n    {line}\n    {gap}^")
+    }
+}
+
+/// The column at which the last part of a line begins.
+pub fn column_of(line: &str, last: &str) -> usize {
+    let before = line.chars().count().saturating_sub(last.chars().count());
+    before.saturating_add(1)
+}
+
+/// A piece of text as a fault shows it: quoted, and cut if it is long.
+pub fn shown(text: &str) -> String {
+    const LONGEST: usize = 40;
+    match text.chars().count() {
+        0 => String::from("nothing"),
+        length if length > LONGEST => {
+            format!("`{}...`", text.chars().take(LONGEST).collect::<String>())
+        }
+        _ => format!("`{text}`"),
+    }
+}
+
+#[cfg(test)]
+mod tests {
+    use super::*;
+
+    #[test]
+    fn a_mark_stands_under_its_column() {
+        let fault = Fault::new(2, 4, "this", "that");
+        assert_eq!(fault.to_string(), "2:4: expected this, found that");
+        assert_eq!(
+            fault.marked("one\nA: x = 1\n").to_string(),
+            "\n    A: x = 1\n       ^"
+        );
+        assert_eq!(
+            fault.marked("one\nA\t x\n").to_string(),
+            "\n    A\t x\n     \t ^"
+        );
+    }
+
+    #[test]
+    fn a_line_that_is_not_there_has_no_mark() {
+        for text in ["", "one", "one\n\n"] {
+            assert_eq!(
+                Fault::new(2, 1, "", "").marked(text).to_string(),
+                "",
+                "{text:?}"
+            );
+        }
+        assert_eq!(
+            Fault::new(0, 0, "", "").marked("one").to_string(),
+            "\n    one\n    ^"
+        );
+    }
+
+    #[test]
+    fn long_text_is_cut() {
+        assert_eq!(shown(""), "nothing");
+        assert_eq!(shown("ab"), "`ab`");
+        assert_eq!(
+            shown(&"\u{E9}".repeat(41)),
+            format!("`{}...`", "\u{E9}".repeat(40))
+        );
+    }
+}

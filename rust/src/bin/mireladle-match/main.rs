@@ -1,0 +1,280 @@
+//! mireladle-match: searches the rows of a CSV file for a query that is written as readable text, and prints the
+//! matches and the labelled rows. It promises a message with a place for every text that it cannot read, the number
+//! and the reason of every refusal, and an exit status: 0 done, 1 refused, 2 wrong input. It never panics.
+
+#![deny(unsafe_code)]
+#![cfg_attr(
+    not(test),
+    deny(
+        clippy::arithmetic_side_effects,
+        clippy::expect_used,
+        clippy::indexing_slicing,
+        clippy::panic,
+        clippy::string_slice,
+        clippy::unwrap_used
+    )
+)]
+
+mod columns;
+mod csv;
+mod define_text;
+mod fault;
+mod measure_text;
+mod print;
+mod query_text;
+mod words;
+
+use std::ffi::OsString;
+use std::io::{self, BufWriter, Write};
+use std::path::{Path, PathBuf};
+use std::process::ExitCode;
+
+use mireladle::{Error, Query, Rows};
+
+use csv::Table;
+use fault::Fault;
+use print::Printed;
+use query_text::QueryText;
+
+const HELP: &str = "\
+mireladle-match: search rows of whole numbers for a row pattern (SQL's MATCH_RECOGNIZE)
+
+usage: mireladle-match [--bytes] QUERY.txt ROWS.csv
+
+ROWS.csv   The first line names the columns, 1 to 8; every other line is a row of
+           whole numbers. The rows are one partition, in order, at most 4,096.
+QUERY.txt  Lines in any order; # begins a comment.
+             pattern: A+ B
+             A: c0 > PREV(c0)
+             B: price < PREV(price), event <> 2
+             C: c1 = 3 AND c0 <= NEXT(c0, 2) + 5
+             skip: past last row
+             measures: COUNT(A), LAST(B.price), SUM(c1)
+           A letter holds at a row where all its comparisons are met; one without a
+           line of its own holds at every row. A column is c0, c1 and so on, or its
+           name in ROWS.csv, in double quotes where it has spaces. Comparisons are
+           = <> < <= > >=, with a number, a column, or a column plus or minus a number.
+           skip is `past last row` (also where the line is missing) or `to next row`.
+           Measures are COUNT, SUM, MIN, MAX, FIRST, LAST; over all rows of the match,
+           or over those with one letter.
+
+--bytes    Write the query and the rows to standard output as the program `mireladle`
+           reads them from its standard input, and search nothing.
+--help     Print this.
+
+It prints the matches, then the rows; 2:A beside a row says that match 2 labels it A.
+Rows count from 0. Exit status: 0 done, 1 the search refused, 2 wrong input.
+";
+
+/// What the command line asks for.
+enum Task {
+    Help,
+    Search { query: PathBuf, rows: PathBuf },
+    Bytes { query: PathBuf, rows: PathBuf },
+}
+
+/// Why there is no result.
+enum Failure {
+    /// The command line is not as it should be.
+    Usage(String),
+    /// A file cannot be read.
+    File { path: PathBuf, error: io::Error },
+    /// A text is not as it should be.
+    Text {
+        path: PathBuf,
+        text: String,
+        fault: Fault,
+    },
+    /// The library refused; for answers about the pattern its file, line and text go with it.
+    Refused {
+        error: Error,
+        pattern: Option<(PathBuf, usize, String)>,
+    },
+    /// The output cannot be written.
+    Output(io::Error),
+}
+
+fn main() -> ExitCode {
+    let mut out = BufWriter::new(io::stdout().lock());
+    let done = task(std::env::args_os().skip(1)).and_then(|task| run(&task, &mut out));
+    match done.and_then(|()| out.flush().map_err(Failure::Output)) {
+        Ok(()) => ExitCode::SUCCESS,
+        // Whoever reads the output has had enough of it.
+        Err(Failure::Output(error)) if error.kind() == io::ErrorKind::BrokenPipe => {
+            ExitCode::SUCCESS
+        }
+        Err(failure) => {
+            // Should this not be written either, the exit status still tells.
+            let _ = writeln!(io::stderr(), "{}", failure.message());
+            ExitCode::from(failure.status())
+        }
+    }
+}
+
+/// Reads the command line.
+fn task(arguments: impl Iterator<Item = OsString>) -> Result<Task, Failure> {
+    let mut bytes = false;
+    let mut paths = Vec::new();
+    let mut options = true;
+    for argument in arguments {
+        match argument.to_str() {
+            Some("--") if options => options = false,
+            Some("--help" | "-h") if options => return Ok(Task::Help),
+            Some("--bytes") if options => bytes = true,
+            Some(other) if options && other.starts_with('-') && other != "-" => {
+                return Err(Failure::Usage(format!("there is no option {other}")));
+            }
+            _ => paths.push(PathBuf::from(argument)),
+        }
+    }
+    match <[PathBuf; 2]>::try_from(paths) {
+        Ok([query, rows]) if bytes => Ok(Task::Bytes { query, rows }),
+        Ok([query, rows]) => Ok(Task::Search { query, rows }),
+        Err(paths) => {
+            let count = paths.len();
+            Err(Failure::Usage(format!(
+                "expected two files, QUERY.txt and ROWS.csv, found {count}"
+            )))
+        }
+    }
+}
+
+fn run(task: &Task, out: &mut impl Write) -> Result<(), Failure> {
+    match task {
+        Task::Help => out.write_all(HELP.as_bytes()).map_err(Failure::Output),
+        Task::Search { query, rows } => {
+            let (text, table) = read_both(query, rows)?;
+            search(&text, &table, query, out)
+        }
+        Task::Bytes { query, rows } => {
+            let (text, table) = read_both(query, rows)?;
+            out.write_all(&program_input(&text, &table))
+                .map_err(Failure::Output)
+        }
+    }
+}
+
+/// Reads the rows first: the query may use the names of their columns.
+fn read_both(query: &Path, rows: &Path) -> Result<(QueryText, Table), Failure> {
+    let table = read_with(rows, csv::read)?;
+    let text = read_with(query, |text| query_text::read(text, &table.names))?;
+    Ok((text, table))
+}
+
+/// Reads a file with one of the readers.
+fn read_with<T>(path: &Path, reader: impl Fn(&str) -> Result<T, Fault>) -> Result<T, Failure> {
+    let path = path.to_path_buf();
+    let bytes = match std::fs::read(&path) {
+        Ok(bytes) => bytes,
+        Err(error) => return Err(Failure::File { path, error }),
+    };
+    let text = match String::from_utf8(bytes) {
+        Ok(text) => text,
+        Err(error) => {
+            let fault = not_text(error.as_bytes(), error.utf8_error().valid_up_to());
+            return Err(Failure::Text {
+                path,
+                text: String::new(),
+                fault,
+            });
+        }
+    };
+    // Some programs put a mark of the encoding in front of a text.
+    let plain = text.strip_prefix('\u{FEFF}').unwrap_or(&text);
+    reader(plain).map_err(|fault| Failure::Text {
+        path,
+        text: String::from(plain),
+        fault,
+    })
+}
+
+/// The fault of bytes that are text up to some byte only.
+fn not_text(bytes: &[u8], valid: usize) -> Fault {
+    let before = String::from_utf8_lossy(bytes.get(..valid).unwrap_or(&[]));
+    let line = before.matches('\n').count().saturating_add(1);
+    let column = before
+        .rsplit('\n')
+        .next()
+        .unwrap_or("")
+        .chars()
+        .count()
+        .saturating_add(1);
+    let found = bytes
+        .get(valid)
+        .map_or(String::new(), |byte| format!("the byte {byte:#04X}"));
+    Fault::new(line, column, "text in UTF-8", found)
+}
+
+fn search(
+    text: &QueryText,
+    table: &Table,
+    query_path: &Path,
+    out: &mut impl Write,
+) -> Result<(), Failure> {
+    let refused = |error: Error| {
+        let about_pattern = matches!(error.number(), Some(4..=7));
+        let pattern = (
+            query_path.to_path_buf(),
+            text.pattern_line,
+            text.pattern.clone(),
+        );
+        Failure::Refused {
+            error,
+            pattern: about_pattern.then_some(pattern),
+        }
+    };
+    let query = Query::from_bytes(text.builder.to_bytes()).map_err(refused)?;
+    let rows = Rows::new(&table.entries, query.columns());
+    let report = query.search(rows).map_err(refused)?;
+    let printed = Printed {
+        report: &report,
+        rows,
+        names: &table.names,
+        titles: &text.titles,
+    };
+    printed.write(out).map_err(Failure::Output)
+}
+
+/// The standard input of the program `mireladle`: the query's length in 2 bytes, the query, the entries in 4 bytes each.
+fn program_input(text: &QueryText, table: &Table) -> Vec<u8> {
+    let query = text.builder.to_bytes();
+    // What the reader lets through is far shorter than that.
+    let length = u16::try_from(query.len()).unwrap_or(u16::MAX);
+    let mut bytes = length.to_le_bytes().to_vec();
+    bytes.extend_from_slice(&query);
+    bytes.extend(table.entries.iter().flat_map(|entry| entry.to_le_bytes()));
+    bytes
+}
+
+impl Failure {
+    fn status(&self) -> u8 {
+        match self {
+            Failure::Refused { .. } => 1,
+            _ => 2,
+        }
+    }
+
+    fn message(&self) -> String {
+        match self {
+            Failure::Usage(reason) => {
+                format!("{reason}\nusage: mireladle-match [--bytes] QUERY.txt ROWS.csv (--help tells more)")
+            }
+            Failure::File { path, error } => format!("{}: {error}", path.display()),
+            Failure::Text { path, text, fault } => {
+                format!("{}:{fault}{}", path.display(), fault.marked(text))
+            }
+            Failure::Refused { error, pattern } => refusal(*error, pattern.as_ref()),
+            Failure::Output(error) => format!("the output cannot be written: {error}"),
+        }
+    }
+}
+
+fn refusal(error: Error, pattern: Option<&(PathBuf, usize, String)>) -> String {
+    let number = error
+        .number()
+        .map_or(String::new(), |number| format!(" {number}"));
+    let place = pattern.map_or(String::new(), |(path, line, text)| {
+        format!("\n{}:{line}: pattern: {text}", path.display())
+    });
+    format!("refused{number}: {error}{place}")
+}

@@ -1,0 +1,420 @@
+//! Tests of the reader of query text: what it reads, byte by byte, and the place and words of every fault.
+
+use mireladle::col;
+
+use super::*;
+
+fn names() -> Vec<String> {
+    ["time", "event", "base number"].map(String::from).to_vec()
+}
+
+fn builder(text: &str) -> QueryBuilder {
+    read(text, &names()).unwrap().builder
+}
+
+/// The fault of a text with a pattern line in front.
+fn fault(text: &str) -> String {
+    read(&format!("pattern: A\n{text}"), &names())
+        .unwrap_err()
+        .to_string()
+}
+
+fn defined(text: &str, comparisons: &[Comparison]) {
+    let expected = Query::builder(3)
+        .pattern("A")
+        .define('A', comparisons.iter().copied());
+    assert_eq!(
+        builder(&format!("pattern: A\nA: {text}")),
+        expected,
+        "{text}"
+    );
+}
+
+#[test]
+fn w1_is_read_into_its_bytes() {
+    let text = "# W1\npattern: A+ B\nA: c0 > PREV(c0)\nB: price < PREV(price)  # falls\n\n\
+                skip: past last row\nmeasures: COUNT(A), LAST(B.price)\n";
+    let read = read(text, &[String::from("price")]).unwrap();
+    let expected = Query::builder(1)
+        .pattern("A+ B")
+        .define('A', [col(0).gt(col(0).prev(1))])
+        .define('B', [col(0).lt(col(0).prev(1))])
+        .measure(Measure::count().of('A'))
+        .measure(Measure::last(0).of('B'));
+    assert_eq!(read.builder.to_bytes(), expected.to_bytes());
+    assert_eq!(read.titles, ["COUNT(A)", "LAST(B.price)"]);
+    assert_eq!((read.pattern.as_str(), read.pattern_line), ("A+ B", 2));
+}
+
+#[test]
+fn comparisons_of_every_form() {
+    defined("c0 = 3", &[col(0).eq(3)]);
+    defined("c0<>-3", &[col(0).ne(-3)]);
+    defined("c0 != +3", &[col(0).ne(3)]);
+    defined("event < time", &[col(1).lt(col(0))]);
+    defined("\"base number\" <= c1", &[col(2).le(col(1))]);
+    defined(
+        "PREV(c0, 64) >= next(c1 , 0)",
+        &[col(0).prev(64).ge(col(1).next(0))],
+    );
+    defined("c0 > NEXT(c2, 2) + 5", &[col(0).gt(col(2).next(2) + 5)]);
+    defined("c0 > c1 - 5", &[col(0).gt(col(1) + -5)]);
+    defined("c0 > c1-2147483648", &[col(0).gt(col(1) + i32::MIN)]);
+    defined("c0 = -2147483648", &[col(0).eq(i32::MIN)]);
+    let three = [
+        col(1).eq(3),
+        col(2).eq(col(2).prev(1)),
+        col(0).le(col(0).next(2) + 5),
+    ];
+    defined("c1 = 3, c2 = PREV(c2), c0 <= NEXT(c0, 2) + 5", &three);
+    defined("c1 = 3 AND c2 = PREV(c2) and c0 <= NEXT(c0, 2) + 5", &three);
+}
+
+#[test]
+fn lines_stand_in_any_order() {
+    let one = builder("measures: SUM(c1)\nskip: to next row\nA: c0 = 1\npattern: A\n");
+    let expected = Query::builder(3)
+        .pattern("A")
+        .define('A', [col(0).eq(1)])
+        .skip(Skip::ToNextRow)
+        .measure(Measure::sum(1));
+    assert_eq!(one, expected);
+    assert_eq!(
+        builder("  pattern :  A B  \r\n"),
+        Query::builder(3).pattern("A B")
+    );
+    assert_eq!(
+        builder("pattern: A\nskip:  To  NEXT row"),
+        Query::builder(3).pattern("A").skip(Skip::ToNextRow)
+    );
+}
+
+#[test]
+fn measures_of_every_form() {
+    let read = read(
+        "pattern: A\nmeasures: count(*), COUNT(A.*), Min(A.event), MAX(c0), first(\"base number\")",
+        &names(),
+    );
+    let read = read.unwrap();
+    let expected = [
+        Measure::count(),
+        Measure::count().of('A'),
+        Measure::min(1).of('A'),
+        Measure::max(0),
+        Measure::first(2),
+    ];
+    let expected = expected
+        .into_iter()
+        .fold(Query::builder(3).pattern("A"), QueryBuilder::measure);
+    assert_eq!(read.builder, expected);
+    assert_eq!(
+        read.titles,
+        [
+            "COUNT(*)",
+            "COUNT(A)",
+            "MIN(A.event)",
+            "MAX(time)",
+            "FIRST(base number)"
+        ]
+    );
+}
+
+#[test]
+fn names_that_are_words_of_the_language_too() {
+    let names = ["PREV", "next", "A", "c3"].map(String::from);
+    let read = read(
+        "pattern: A\nA: PREV = next(PREV), A > c3\nmeasures: LAST(A.A), SUM(A)",
+        &names,
+    )
+    .unwrap();
+    let expected = Query::builder(4)
+        .pattern("A")
+        .define('A', [col(0).eq(col(0).next(1)), col(2).gt(col(3))])
+        .measure(Measure::last(2).of('A'))
+        .measure(Measure::sum(2));
+    assert_eq!(read.builder, expected);
+}
+
+#[test]
+fn what_the_library_judges_is_left_to_it() {
+    for text in [
+        "pattern:",
+        "pattern: A** \u{E9}",
+        "pattern: A\nA: c0=1\nA: c0=2",
+        "pattern: A\nmeasures: COUNT(B)",
+    ] {
+        assert!(read(text, &names()).is_ok(), "{text}");
+    }
+}
+
+#[test]
+fn a_hash_in_quotes_is_no_comment() {
+    let names = [String::from("a#b")];
+    let read = read("pattern: A # A\nA: \"a#b\" = 1 # \"", &names).unwrap();
+    assert_eq!(
+        read.builder,
+        Query::builder(1).pattern("A").define('A', [col(0).eq(1)])
+    );
+}
+
+#[test]
+fn faults_of_lines() {
+    assert_eq!(
+        fault("hello"),
+        format!("2:1: expected {KEYS}, found `hello`")
+    );
+    assert_eq!(
+        fault("  ab: c0 = 1"),
+        format!("2:3: expected {KEYS}, found `ab`")
+    );
+    assert_eq!(
+        fault("a: c0 = 1"),
+        format!("2:1: expected {KEYS}, found `a`")
+    );
+    assert_eq!(
+        fault(": c0 = 1"),
+        format!("2:1: expected {KEYS}, found nothing")
+    );
+    assert_eq!(
+        fault("pattern: B"),
+        "2:1: expected one `pattern:` line only, found `pattern`"
+    );
+    assert_eq!(
+        fault("skip: to next row\nskip: to next row"),
+        "3:1: expected one `skip:` line only, found `skip`"
+    );
+    assert_eq!(
+        fault("skip: to last row"),
+        "2:7: expected `past last row` or `to next row`, found `to last row`"
+    );
+    assert_eq!(
+        fault("skip:"),
+        "2:6: expected `past last row` or `to next row`, found nothing"
+    );
+    let missing = read("A: c0 = 1\n# pattern: A\n", &names()).unwrap_err();
+    assert_eq!(
+        missing.to_string(),
+        "3:1: expected a `pattern:` line, found the end of the file"
+    );
+    let long = read(&format!("pattern: {}", "A ".repeat(129)), &names()).unwrap_err();
+    assert_eq!(
+        (long.line, long.column, long.expected.as_str()),
+        (1, 10, "a pattern of at most 256 bytes")
+    );
+    let many = "A: c0 = 1\n".repeat(27);
+    assert_eq!(
+        fault(&many),
+        "28:1: expected at most 26 DEFINE lines, one for each letter, found `A`"
+    );
+}
+
+#[test]
+fn faults_of_comparisons() {
+    let columns = "a column (c0 or time, c1 or event, c2 or \"base number\")";
+    assert_eq!(
+        fault("A:"),
+        format!("2:3: expected {columns}, found the end of the line")
+    );
+    assert_eq!(
+        fault("A: evnt = 1"),
+        format!("2:4: expected {columns}, found `evnt`")
+    );
+    assert_eq!(
+        fault("A: c3 = 1"),
+        format!("2:4: expected {columns}, found `c3`")
+    );
+    assert_eq!(
+        fault("A: c256 = 1"),
+        format!("2:4: expected {columns}, found `c256`")
+    );
+    assert_eq!(
+        fault("A: \"c0\" = 1"),
+        format!("2:4: expected {columns}, found `c0`")
+    );
+    assert_eq!(
+        fault("A: \"base number = 1"),
+        format!("2:4: expected {columns}, found '\"'")
+    );
+    assert_eq!(
+        fault("A: 3 = c0"),
+        format!("2:4: expected {columns}, found `3`")
+    );
+    assert_eq!(
+        fault("A: c0"),
+        "2:6: expected one of = <> < <= > >=, found the end of the line"
+    );
+    assert_eq!(
+        fault("A: c0 == 1"),
+        format!("2:8: expected {columns}, found `=`")
+    );
+    assert_eq!(
+        fault("A: c0 = "),
+        format!("2:8: expected {columns}, found the end of the line")
+    );
+    assert_eq!(
+        fault("A: c0 = B.c0"),
+        format!("2:9: expected {columns}, found `B`")
+    );
+    assert_eq!(
+        fault("A: FIRST(c0) = 1"),
+        "2:4: expected PREV, NEXT or a column, found `FIRST`"
+    );
+    assert_eq!(
+        fault("A: c0 > PREV(c0"),
+        "2:16: expected `)`, found the end of the line"
+    );
+    assert_eq!(
+        fault("A: c0 > PREV()"),
+        format!("2:14: expected {columns}, found `)`")
+    );
+    assert_eq!(
+        fault("A: c0 > PREV(c0, 65)"),
+        "2:18: expected a number of rows from 0 to 64, found `65`"
+    );
+    assert_eq!(
+        fault("A: c0 > PREV(c0, -1)"),
+        "2:18: expected a number of rows from 0 to 64, found `-`"
+    );
+    let number = "a whole number from -2147483648 to 2147483647";
+    assert_eq!(
+        fault("A: c0 > 2147483648"),
+        format!("2:9: expected {number}, found `2147483648`")
+    );
+    assert_eq!(
+        fault("A: c0 > c1 + c2"),
+        format!("2:14: expected {number}, found `c2`")
+    );
+    assert_eq!(
+        fault("A: c0 > - -1"),
+        format!("2:11: expected {number}, found `-`")
+    );
+    assert_eq!(
+        fault("A: c0 = 1 OR c0 = 2"),
+        "2:11: expected a comma, AND, or the end of the line, found `OR`"
+    );
+    assert_eq!(
+        fault("A: c0 = 1,"),
+        format!("2:11: expected {columns}, found the end of the line")
+    );
+    let nine = ["c0 = 1"; 9].join(", ");
+    assert_eq!(
+        fault(&format!("A: {nine}")),
+        "2:68: expected at most 8 comparisons for one letter, found `c0`"
+    );
+    assert_eq!(
+        fault("A: c0 = 1 \u{3BB}; c0"),
+        "2:11: expected a comma, AND, or the end of the line, found `\u{3BB}`"
+    );
+}
+
+#[test]
+fn faults_of_measures() {
+    let columns = "a column (c0 or time, c1 or event, c2 or \"base number\")";
+    let measure = "a measure: COUNT, SUM, MIN, MAX, FIRST or LAST";
+    assert_eq!(
+        fault("measures:"),
+        format!("2:10: expected {measure}, found the end of the line")
+    );
+    assert_eq!(
+        fault("measures: AVG(c0)"),
+        format!("2:11: expected {measure}, found `AVG`")
+    );
+    assert_eq!(
+        fault("measures: COUNT"),
+        "2:16: expected `(`, found the end of the line"
+    );
+    assert_eq!(
+        fault("measures: COUNT()"),
+        "2:17: expected `*` or a letter A to Z, found `)`"
+    );
+    assert_eq!(
+        fault("measures: COUNT(c0)"),
+        "2:17: expected `*` or a letter A to Z, found `c0`"
+    );
+    assert_eq!(
+        fault("measures: COUNT(A.c0)"),
+        "2:19: expected `*`, found `c0`"
+    );
+    assert_eq!(
+        fault("measures: SUM(A)"),
+        format!("2:15: expected {columns}, found `A`")
+    );
+    assert_eq!(
+        fault("measures: SUM(a.c0)"),
+        "2:15: expected a letter A to Z in front of the dot, found `a`"
+    );
+    assert_eq!(
+        fault("measures: SUM(A.x)"),
+        format!("2:17: expected {columns}, found `x`")
+    );
+    assert_eq!(
+        fault("measures: SUM(c0) MIN(c0)"),
+        "2:19: expected a comma or the end of the line, found `MIN`"
+    );
+    let nine = ["COUNT(*)"; 9].join(",");
+    assert_eq!(
+        fault(&format!("measures: {nine}")),
+        "2:83: expected at most 8 measures, found `COUNT`"
+    );
+}
+
+/// Any text gets a query or a fault inside the text, or right behind it.
+#[test]
+fn no_text_is_too_odd() {
+    let pieces = [
+        "pattern:",
+        "A:",
+        "skip:",
+        "measures:",
+        "\n",
+        " ",
+        "c0",
+        "event",
+        "PREV",
+        "(",
+        ")",
+        ",",
+        "=",
+        "<",
+        ">",
+        "1",
+        "-",
+        "+",
+        ".",
+        "*",
+        "\"",
+        "#",
+        "AND",
+        "COUNT",
+        "LAST",
+        "\u{E9}",
+        "\r",
+        "\t",
+        "99999999999",
+        ":",
+        "past last row",
+    ];
+    let mut seed: u64 = 1;
+    for _ in 0..40_000 {
+        let mut text = String::new();
+        for _ in 0..24 {
+            seed = seed
+                .wrapping_mul(6_364_136_223_846_793_005)
+                .wrapping_add(1_442_695_040_888_963_407);
+            text.push_str(pieces[(seed >> 33) as usize % pieces.len()]);
+        }
+        if let Err(fault) = read(&text, &names()) {
+            assert!(
+                fault.line >= 1 && fault.line <= text.lines().count() + 1,
+                "{text:?}"
+            );
+            let line = text.lines().nth(fault.line - 1).unwrap_or("");
+            assert!(
+                fault.column >= 1 && fault.column <= line.chars().count() + 1,
+                "{text:?} {fault}"
+            );
+            let _ = fault.marked(&text).to_string();
+        }
+        let _ = crate::csv::read(&text);
+    }
+}

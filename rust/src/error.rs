@@ -1,0 +1,160 @@
+//! Why a query or a search was refused: the library's answers 1 to 12 by name and in plain words, and the few faults
+//! that only this crate can see. Each answer of the library has exactly one error, and keeps its number.
+
+use std::fmt;
+
+/// The answer of a search that went through all rows.
+pub(crate) const DONE: u64 = 0;
+/// The answer of a search that ran out of report room.
+pub(crate) const STOPPED: u64 = 13;
+
+/// Why there is no query or no report.
+///
+/// Where several refusals apply, the library gives the one with the lowest number.
+#[derive(Clone, Copy, Debug, PartialEq, Eq, Hash)]
+#[non_exhaustive]
+pub enum Error {
+    /// 1: the query's bytes break off inside a record.
+    QueryCut,
+    /// 2: a record of the query is unknown, missing, repeated, misplaced or one too many.
+    WrongRecords,
+    /// 3: a record has the wrong length or a field outside its values.
+    WrongField,
+    /// 4: more than 8 parentheses are open somewhere in the pattern.
+    TooDeep,
+    /// 5: the pattern text is outside the pattern language.
+    NotAPattern,
+    /// 6: a repetition without upper bound of something that can match without taking a row.
+    EmptyRepetition,
+    /// 7: the unrolled pattern has more than 256 places.
+    TooManyPlaces,
+    /// 8: a letter has two DEFINEs.
+    DefinedTwice,
+    /// 9: a measure names a letter that is not in the pattern.
+    MeasureLetter,
+    /// 10: the entries are not whole rows, or there are more than 4,096 rows.
+    WrongRows,
+    /// 11: the notes are too short. [`Query::search`](crate::Query::search) lends enough, so it never gives this.
+    NotesShort,
+    /// 12: the trail is too short. [`Query::search`](crate::Query::search) lends enough, so it never gives this.
+    TrailShort,
+    /// The rows were said to have another number of columns than the query is about.
+    ColumnCount {
+        /// The columns that the query is about.
+        query: u8,
+        /// The columns that the rows were said to have.
+        rows: u8,
+    },
+    /// The linked library gave an answer or a report that this crate does not know: it is of another version.
+    OtherLibrary {
+        /// The answer that came with it.
+        answer: u64,
+    },
+}
+
+impl Error {
+    /// The error that stands for an answer other than 0 and 13.
+    ///
+    /// ```
+    /// assert_eq!(mireladle::Error::from_answer(5), mireladle::Error::NotAPattern);
+    /// ```
+    pub fn from_answer(answer: u64) -> Error {
+        match answer {
+            1 => Error::QueryCut,
+            2 => Error::WrongRecords,
+            3 => Error::WrongField,
+            4 => Error::TooDeep,
+            5 => Error::NotAPattern,
+            6 => Error::EmptyRepetition,
+            7 => Error::TooManyPlaces,
+            8 => Error::DefinedTwice,
+            9 => Error::MeasureLetter,
+            10 => Error::WrongRows,
+            11 => Error::NotesShort,
+            12 => Error::TrailShort,
+            _ => Error::OtherLibrary { answer },
+        }
+    }
+
+    /// The number of the library's refusal, 1 to 12; none for the faults that this crate sees itself.
+    pub fn number(self) -> Option<u64> {
+        match self {
+            Error::QueryCut => Some(1),
+            Error::WrongRecords => Some(2),
+            Error::WrongField => Some(3),
+            Error::TooDeep => Some(4),
+            Error::NotAPattern => Some(5),
+            Error::EmptyRepetition => Some(6),
+            Error::TooManyPlaces => Some(7),
+            Error::DefinedTwice => Some(8),
+            Error::MeasureLetter => Some(9),
+            Error::WrongRows => Some(10),
+            Error::NotesShort => Some(11),
+            Error::TrailShort => Some(12),
+            Error::ColumnCount { .. } | Error::OtherLibrary { .. } => None,
+        }
+    }
+
+    /// The reason in plain words, where it is always the same.
+    fn words(self) -> &'static str {
+        match self {
+            Error::QueryCut => "the query breaks off inside a record",
+            Error::WrongRecords => "a record of the query is unknown, missing, repeated, misplaced or one too many",
+            Error::WrongField => "a record of the query has the wrong length or a field outside its values",
+            Error::TooDeep => "more than 8 parentheses are open somewhere in the pattern",
+            Error::NotAPattern => "the text is outside the pattern language",
+            Error::EmptyRepetition => {
+                "a repetition without upper bound stands over something that can match without taking a row"
+            }
+            Error::TooManyPlaces => "the pattern, with its repetitions written out, has more than 256 places",
+            Error::DefinedTwice => "a letter has two DEFINEs",
+            Error::MeasureLetter => "a measure names a letter that is not in the pattern",
+            Error::WrongRows => "the entries are not whole rows, or there are more than 4,096 rows",
+            Error::NotesShort => "the notes are too short",
+            Error::TrailShort => "the trail is too short",
+            Error::ColumnCount { .. } => "the rows have another number of columns than the query",
+            Error::OtherLibrary { .. } => "the linked library is of another version",
+        }
+    }
+}
+
+impl fmt::Display for Error {
+    fn fmt(&self, f: &mut fmt::Formatter<'_>) -> fmt::Result {
+        f.write_str(self.words())?;
+        match self {
+            Error::ColumnCount { query, rows } => write!(f, " ({rows}, not {query})"),
+            Error::OtherLibrary { answer } => write!(f, " (answer {answer})"),
+            _ => Ok(()),
+        }
+    }
+}
+
+impl std::error::Error for Error {}
+
+#[cfg(test)]
+mod tests {
+    use super::*;
+
+    #[test]
+    fn each_refusal_keeps_its_number() {
+        for number in 1..=12 {
+            assert_eq!(Error::from_answer(number).number(), Some(number));
+        }
+        for other in [DONE, STOPPED, 14, u64::MAX] {
+            assert_eq!(Error::from_answer(other).number(), None);
+        }
+    }
+
+    #[test]
+    fn each_refusal_has_words_of_its_own() {
+        let words: std::collections::HashSet<String> = (1..=13)
+            .map(|number| Error::from_answer(number).to_string())
+            .collect();
+        assert_eq!(words.len(), 13);
+        let columns = Error::ColumnCount { query: 1, rows: 3 };
+        assert_eq!(
+            columns.to_string(),
+            "the rows have another number of columns than the query (3, not 1)"
+        );
+    }
+}

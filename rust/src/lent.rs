@@ -1,0 +1,114 @@
+//! The library's two functions as they are, on buffers that the caller lends: for callers who keep their buffers from
+//! one search to the next, or who read the notes. Most callers want [`Query::search`](crate::Query::search).
+//!
+//! Every input gets an answer. Slices make sure of what C callers have to see to: valid pointers, and no overlap of
+//! what is written. All `unsafe` code of this crate stands here.
+
+/// What a search returns. On the answers 1 to 12 all but the answer are 0.
+#[repr(C)]
+#[derive(Clone, Copy, Debug, PartialEq, Eq, Hash)]
+#[non_exhaustive]
+pub struct Outcome {
+    /// 0 done, 13 stopped, 1 to 12 refused; see [`Error`](crate::Error) for the refusals.
+    pub answer: u64,
+    /// Matches in the report.
+    pub matches: u64,
+    /// Label bytes in the report.
+    pub labels: u64,
+    /// Steps: how many pairs of a place and a position were entered.
+    pub steps: u64,
+}
+
+/// What the working room of a search is measured by. On the answers 1 to 10 all but the answer are 0.
+#[repr(C)]
+#[derive(Clone, Copy, Debug, PartialEq, Eq, Hash)]
+#[non_exhaustive]
+pub struct Room {
+    /// 0, or the answer of 1 to 10 that a search would give.
+    pub answer: u64,
+    /// P, the places of the unrolled pattern.
+    pub places: u64,
+    /// n, the rows.
+    pub rows: u64,
+    /// P(n+1): the numbers of the trail, and the bits of the notes.
+    pub pairs: u64,
+}
+
+impl Room {
+    /// The bytes of notes that a search takes: one bit for each pair.
+    pub fn notes(&self) -> u64 {
+        self.pairs.div_ceil(8)
+    }
+}
+
+/// Judges a query and rows: answer 0 with what the working room is measured by, or the refusal of 1 to 10.
+pub fn room(query: &[u8], rows: &[i32]) -> Room {
+    // SAFETY: both pointers come from slices with their lengths and are only read.
+    #[allow(unsafe_code)]
+    unsafe {
+        mireladle_room(query.as_ptr(), query.len(), rows.as_ptr(), rows.len())
+    }
+}
+
+/// Searches the rows for all matches of the query.
+///
+/// `notes` and `trail` are working room, [`Room::notes`] bytes and [`Room::pairs`] numbers at least. `numbers` and
+/// `labels` take the report: for each match its number from 1, its first row, how many rows it takes, then for each
+/// measure 1 and the result or 0 and 0 for null; and the labels of its rows, as bytes `A` to `Z`.
+///
+/// On the answers 1 to 12 no buffer is changed. On 0 and 13 bit (position times P plus place) of the notes, the lowest
+/// bit of a byte first, is 1 exactly if that pair has failed; the spare bits of the last byte and the first
+/// [`Room::pairs`] numbers of the trail are 0; what lies behind that, and behind the report, is unchanged.
+pub fn search(
+    query: &[u8],
+    rows: &[i32],
+    notes: &mut [u8],
+    trail: &mut [u32],
+    numbers: &mut [i64],
+    labels: &mut [u8],
+) -> Outcome {
+    // SAFETY: all pointers come from slices with their lengths; those that are written come from exclusive ones, so
+    // nothing overlaps them.
+    #[allow(unsafe_code)]
+    unsafe {
+        mireladle_search(
+            query.as_ptr(),
+            query.len(),
+            rows.as_ptr(),
+            rows.len(),
+            notes.as_mut_ptr(),
+            notes.len(),
+            trail.as_mut_ptr(),
+            trail.len(),
+            numbers.as_mut_ptr(),
+            numbers.len(),
+            labels.as_mut_ptr(),
+            labels.len(),
+        )
+    }
+}
+
+// As in include/mireladle.h; nothing but the tests compares the two.
+extern "C" {
+    fn mireladle_search(
+        query: *const u8,
+        query_len: usize,
+        rows: *const i32,
+        rows_len: usize,
+        notes: *mut u8,
+        notes_len: usize,
+        trail: *mut u32,
+        trail_len: usize,
+        numbers: *mut i64,
+        numbers_len: usize,
+        labels: *mut u8,
+        labels_len: usize,
+    ) -> Outcome;
+
+    fn mireladle_room(
+        query: *const u8,
+        query_len: usize,
+        rows: *const i32,
+        rows_len: usize,
+    ) -> Room;
+}

@@ -1,0 +1,70 @@
+//! Mireladle searches ordered rows of whole numbers for row patterns, by the rules of SQL's `MATCH_RECOGNIZE` (the
+//! form of the FROM clause with one output row per match). The search itself is a static library that is proved; this
+//! crate is a safe interface to it: it builds queries, lends the buffers, and reads the report.
+//!
+//! A pattern such as `A+ B` is made of letters. A letter labels one row, and its DEFINE says at which rows it holds:
+//! comparisons between entries of that row and of rows before or behind it. Each match gets the labels of its rows
+//! and the results of the query's measures.
+//!
+//! # Example
+//!
+//! Rows that rise once or more and then fall:
+//!
+//! ```
+//! use mireladle::{col, Measure, Query, Rows};
+//!
+//! let query = Query::builder(1)
+//!     .pattern("A+ B")
+//!     .define('A', [col(0).gt(col(0).prev(1))])
+//!     .define('B', [col(0).lt(col(0).prev(1))])
+//!     .measure(Measure::count().of('A'))
+//!     .measure(Measure::last(0).of('B'))
+//!     .build()?;
+//!
+//! let report = query.search(Rows::new(&[100, 110, 120, 115, 130], 1))?;
+//! assert_eq!(report.len(), 1);
+//! assert_eq!(report.steps(), 12);
+//!
+//! for found in &report {
+//!     assert_eq!(found.first_row(), 1);
+//!     assert_eq!(found.labels(), "AAB");
+//!     // COUNT(A) is 2 and LAST(B) is 115.
+//!     assert_eq!(found.measures().collect::<Vec<_>>(), [Some(2), Some(115)]);
+//! }
+//! # Ok::<(), mireladle::Error>(())
+//! ```
+//!
+//! # Promises
+//!
+//! No input makes this crate panic. A query or rows that the library refuses become an [`Error`] with the number and
+//! the reason of the refusal. What the library promises of its answers is proved with it; what this crate adds, the
+//! bytes of a query and the reading of a report, is tested.
+
+#![deny(missing_docs)]
+#![deny(unsafe_code)]
+#![cfg_attr(
+    not(test),
+    deny(
+        clippy::arithmetic_side_effects,
+        clippy::expect_used,
+        clippy::indexing_slicing,
+        clippy::panic,
+        clippy::string_slice,
+        clippy::unwrap_used
+    )
+)]
+
+mod comparison;
+mod error;
+pub mod lent;
+mod measure;
+mod query;
+mod report;
+mod rows;
+
+pub use comparison::{col, Column, Comparison, Operand, Operator, Sum};
+pub use error::Error;
+pub use measure::{Function, Measure};
+pub use query::{Query, QueryBuilder, Skip};
+pub use report::{Ending, Match, Matches, Report, ReportRoom};
+pub use rows::Rows;

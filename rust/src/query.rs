@@ -1,0 +1,383 @@
+//! Queries: built from parts, written as bytes, judged by the library, and run. A [`Query`] has been accepted by the
+//! library, so only rows can still be refused. The builder judges nothing itself: parts that are wrong are written so
+//! that the library refuses them, with its own number.
+
+use crate::comparison::Comparison;
+use crate::error::{Error, DONE};
+use crate::lent;
+use crate::measure::{letter_byte, Measure};
+use crate::report::{Report, ReportRoom};
+use crate::rows::Rows;
+
+/// Kinds of records, in the order in which they stand in a query.
+const SHAPE: u16 = 1;
+const PATTERN: u16 = 2;
+const DEFINE: u16 = 3;
+const SKIP: u16 = 4;
+const MEASURE: u16 = 5;
+
+/// Where the search goes on after a match with rows. After an empty match it goes one row on.
+#[derive(Clone, Copy, Debug, Default, PartialEq, Eq, Hash)]
+#[non_exhaustive]
+pub enum Skip {
+    /// At the row behind the match's last row: no two matches share a row.
+    #[default]
+    PastLastRow,
+    /// At the row behind the match's first row: matches may overlap.
+    ToNextRow,
+}
+
+impl Skip {
+    fn number(self) -> u8 {
+        match self {
+            Skip::PastLastRow => 0,
+            Skip::ToNextRow => 1,
+        }
+    }
+}
+
+/// Collects the parts of a query. Made by [`Query::builder`].
+///
+/// Parts are not judged before [`build`](QueryBuilder::build), where the library judges the whole query and gives the
+/// lowest number that applies.
+#[derive(Clone, Debug, PartialEq, Eq, Hash)]
+#[must_use = "a builder does nothing before `build`"]
+pub struct QueryBuilder {
+    columns: u8,
+    pattern: Option<String>,
+    defines: Vec<(char, Vec<Comparison>)>,
+    skip: Skip,
+    measures: Vec<Measure>,
+}
+
+impl QueryBuilder {
+    /// The pattern's text, at most 256 bytes; a later one replaces an earlier one.
+    ///
+    /// It is made of letters `A` to `Z`, `^` (before the first row), `$` (behind the last row), `()` (nothing),
+    /// branches parted by `|`, parentheses up to 8 deep, and the quantifiers `*`, `+`, `?`, `{n}`, `{n,}`, `{,m}` and
+    /// `{n,m}`. These take as many rows as they can; with a `?` directly behind them, as few. Spaces may stand between
+    /// all these, and two letters must have one between them.
+    pub fn pattern(mut self, text: impl Into<String>) -> Self {
+        self.pattern = Some(text.into());
+        self
+    }
+
+    /// Says at which rows a letter holds: where all its comparisons, 1 to 8, are met. A letter without DEFINE holds at
+    /// every row. A second DEFINE for a letter is refused.
+    pub fn define(
+        mut self,
+        letter: char,
+        comparisons: impl IntoIterator<Item = Comparison>,
+    ) -> Self {
+        self.defines
+            .push((letter, comparisons.into_iter().collect()));
+        self
+    }
+
+    /// Where the search goes on after a match; past its last row if this is not said.
+    pub fn skip(mut self, skip: Skip) -> Self {
+        self.skip = skip;
+        self
+    }
+
+    /// One more measure, up to 8. A match gives its results in the order in which they were asked for.
+    pub fn measure(mut self, measure: Measure) -> Self {
+        self.measures.push(measure);
+        self
+    }
+
+    /// The query's bytes, which the library may still refuse.
+    ///
+    /// A part that the bytes cannot carry, such as an offset of 200 rows, is written as one that is outside its values
+    /// too, so that the refusal is the same.
+    pub fn to_bytes(&self) -> Vec<u8> {
+        let mut bytes = Vec::new();
+        append(&mut bytes, SHAPE, &[self.columns, 0]);
+        if let Some(text) = &self.pattern {
+            append(&mut bytes, PATTERN, text.as_bytes());
+        }
+        for (letter, comparisons) in &self.defines {
+            append(&mut bytes, DEFINE, &define_body(*letter, comparisons));
+        }
+        append(&mut bytes, SKIP, &[self.skip.number(), 0]);
+        for measure in &self.measures {
+            append(&mut bytes, MEASURE, &measure.bytes());
+        }
+        bytes
+    }
+
+    /// Has the library judge the query.
+    ///
+    /// # Errors
+    ///
+    /// The refusals 2 to 9; a pattern that was never given is a missing record, so 2.
+    pub fn build(&self) -> Result<Query, Error> {
+        Query::from_bytes(self.to_bytes())
+    }
+}
+
+/// Appends a record. A body that is too long for its length field is cut to one that is still too long for any kind.
+fn append(bytes: &mut Vec<u8>, kind: u16, body: &[u8]) {
+    let body = body.get(..usize::from(u16::MAX)).unwrap_or(body);
+    let length = u16::try_from(body.len()).unwrap_or(u16::MAX);
+    bytes.extend_from_slice(&length.to_le_bytes());
+    bytes.extend_from_slice(&kind.to_le_bytes());
+    bytes.extend_from_slice(body);
+}
+
+/// The body of a DEFINE. More comparisons than a byte can count become 255, which is too many as well.
+fn define_body(letter: char, comparisons: &[Comparison]) -> Vec<u8> {
+    let count = u8::try_from(comparisons.len()).unwrap_or(u8::MAX);
+    let mut body = vec![letter_byte(letter), count];
+    for comparison in comparisons.iter().take(usize::from(count)) {
+        body.extend_from_slice(&comparison.bytes());
+    }
+    body
+}
+
+/// A query that the library accepts, ready to run on any rows with its number of columns.
+#[derive(Clone, Debug, PartialEq, Eq, Hash)]
+pub struct Query {
+    bytes: Vec<u8>,
+    shape: Shape,
+    places: u64,
+}
+
+impl Query {
+    /// Begins a query over rows of so many columns, 1 to 8.
+    pub fn builder(columns: u8) -> QueryBuilder {
+        QueryBuilder {
+            columns,
+            pattern: None,
+            defines: Vec::new(),
+            skip: Skip::default(),
+            measures: Vec::new(),
+        }
+    }
+
+    /// A query from its bytes, as a file or another program gives them.
+    ///
+    /// # Errors
+    ///
+    /// The refusals 1 to 9, whatever the bytes.
+    pub fn from_bytes(bytes: impl Into<Vec<u8>>) -> Result<Query, Error> {
+        let bytes = bytes.into();
+        // Without rows nothing but the query can be refused.
+        let room = lent::room(&bytes, &[]);
+        if room.answer != DONE {
+            return Err(Error::from_answer(room.answer));
+        }
+        let shape = Shape::of(&bytes).ok_or(Error::OtherLibrary { answer: DONE })?;
+        Ok(Query {
+            bytes,
+            shape,
+            places: room.places,
+        })
+    }
+
+    /// The query's bytes.
+    pub fn as_bytes(&self) -> &[u8] {
+        &self.bytes
+    }
+
+    /// How many columns its rows have.
+    pub fn columns(&self) -> u8 {
+        self.shape.columns
+    }
+
+    /// How many measures each match has.
+    pub fn measures(&self) -> usize {
+        self.shape.measures
+    }
+
+    /// P: the places of the unrolled pattern, at most 256. A search of n rows that skips past the last row takes at
+    /// most 2P(n+1) steps.
+    pub fn places(&self) -> u64 {
+        self.places
+    }
+
+    /// Searches rows for all matches, with room for all of them.
+    ///
+    /// # Errors
+    ///
+    /// [`Error::WrongRows`] and [`Error::ColumnCount`].
+    pub fn search(&self, rows: Rows<'_>) -> Result<Report, Error> {
+        self.search_within(rows, ReportRoom::default())
+    }
+
+    /// Searches rows with limited room for the report. The search stops at the first match that does not fit: see
+    /// [`Report::ending`].
+    ///
+    /// # Errors
+    ///
+    /// [`Error::WrongRows`] and [`Error::ColumnCount`].
+    pub fn search_within(&self, rows: Rows<'_>, report: ReportRoom) -> Result<Report, Error> {
+        if rows.columns() != self.shape.columns {
+            return Err(Error::ColumnCount {
+                query: self.shape.columns,
+                rows: rows.columns(),
+            });
+        }
+        let room = lent::room(&self.bytes, rows.entries());
+        if room.answer != DONE {
+            return Err(Error::from_answer(room.answer));
+        }
+        let (notes, trail) = (length(room.notes())?, length(room.pairs)?);
+        let n = length(room.rows)?;
+        let mut numbers = vec![0; report.numbers(n, self.shape.measures)];
+        let mut labels = vec![0; report.label_bytes(n, self.shape.overlaps)];
+        let outcome = lent::search(
+            &self.bytes,
+            rows.entries(),
+            &mut vec![0; notes],
+            &mut vec![0; trail],
+            &mut numbers,
+            &mut labels,
+        );
+        Report::new(&outcome, numbers, labels, self.shape.measures)
+    }
+}
+
+impl AsRef<[u8]> for Query {
+    fn as_ref(&self) -> &[u8] {
+        &self.bytes
+    }
+}
+
+/// A number of the library as a length in memory.
+fn length(number: u64) -> Result<usize, Error> {
+    usize::try_from(number).map_err(|_| Error::OtherLibrary { answer: DONE })
+}
+
+/// What has to be known of a query to lend it room and to read its report.
+#[derive(Clone, Copy, Debug, PartialEq, Eq, Hash)]
+struct Shape {
+    columns: u8,
+    measures: usize,
+    /// Whether two matches can share a row.
+    overlaps: bool,
+}
+
+impl Shape {
+    /// Reads the shape from an accepted query; none if it was wrongly accepted.
+    fn of(query: &[u8]) -> Option<Shape> {
+        let (mut columns, mut skip, mut measures) = (None, None, 0_usize);
+        let mut left = query;
+        while let [l0, l1, k0, k1, behind @ ..] = left {
+            let length = usize::from(u16::from_le_bytes([*l0, *l1]));
+            let body = behind.get(..length)?;
+            left = behind.get(length..)?;
+            match u16::from_le_bytes([*k0, *k1]) {
+                SHAPE => columns = body.first().copied(),
+                SKIP => skip = body.first().copied(),
+                MEASURE => measures = measures.saturating_add(1),
+                _ => {}
+            }
+        }
+        Some(Shape {
+            columns: columns?,
+            measures,
+            overlaps: skip? != Skip::PastLastRow.number(),
+        })
+    }
+}
+
+#[cfg(test)]
+mod tests {
+    use super::*;
+    use crate::comparison::col;
+
+    /// W1 of the bench sheet, with COUNT(A) and LAST(B) of column 0.
+    fn w1() -> QueryBuilder {
+        Query::builder(1)
+            .pattern("A+ B")
+            .define('A', [col(0).gt(col(0).prev(1))])
+            .define('B', [col(0).lt(col(0).prev(1))])
+            .skip(Skip::PastLastRow)
+            .measure(Measure::count().of('A'))
+            .measure(Measure::last(0).of('B'))
+    }
+
+    const W1: [u8; 72] = [
+        0x02, 0x00, 0x01, 0x00, 0x01, 0x00, //
+        0x04, 0x00, 0x02, 0x00, 0x41, 0x2B, 0x20, 0x42, //
+        0x0E, 0x00, 0x03, 0x00, 0x41, 0x01, 0x00, 0x00, 0x05, 0x01, 0x00, 0xFF, 0, 0, 0, 0, 0,
+        0, //
+        0x0E, 0x00, 0x03, 0x00, 0x42, 0x01, 0x00, 0x00, 0x03, 0x01, 0x00, 0xFF, 0, 0, 0, 0, 0,
+        0, //
+        0x02, 0x00, 0x04, 0x00, 0x00, 0x00, //
+        0x04, 0x00, 0x05, 0x00, 0x01, 0x41, 0x00, 0x00, //
+        0x04, 0x00, 0x05, 0x00, 0x06, 0x42, 0x00, 0x00, //
+    ];
+
+    #[test]
+    fn w1_has_its_bytes() {
+        assert_eq!(w1().to_bytes(), W1);
+        let query = w1().build().unwrap();
+        assert_eq!(query.as_bytes(), W1);
+        assert_eq!(query, Query::from_bytes(W1).unwrap());
+        assert_eq!(
+            (query.columns(), query.measures(), query.places()),
+            (1, 2, 5)
+        );
+    }
+
+    #[test]
+    fn a_later_pattern_or_skip_replaces_an_earlier_one() {
+        let twice = Query::builder(1)
+            .pattern("A")
+            .pattern("B")
+            .skip(Skip::ToNextRow)
+            .skip(Skip::PastLastRow);
+        assert_eq!(twice, Query::builder(1).pattern("B"));
+        assert_eq!(
+            Query::builder(1).skip(Skip::ToNextRow).to_bytes(),
+            [2, 0, 1, 0, 1, 0, 2, 0, 4, 0, 1, 0]
+        );
+    }
+
+    #[test]
+    fn parts_that_the_bytes_cannot_carry_stay_refused() {
+        let long = Query::builder(1).pattern("A".repeat(70_000));
+        assert_eq!(long.build(), Err(Error::WrongField));
+        let a = Query::builder(1).pattern("A");
+        assert_eq!(
+            a.clone().define('A', vec![col(0).eq(1); 70_000]).build(),
+            Err(Error::WrongField)
+        );
+        assert_eq!(
+            a.clone().define('A', vec![col(0).eq(1); 256 + 8]).build(),
+            Err(Error::WrongField)
+        );
+        assert_eq!(
+            a.clone().define('\u{141}', [col(0).eq(1)]).build(),
+            Err(Error::WrongField)
+        );
+        assert_eq!(
+            a.clone().define('A', [col(0).prev(255).eq(1)]).build(),
+            Err(Error::WrongField)
+        );
+        assert_eq!(
+            a.clone().measure(Measure::count().of('\0')).build(),
+            Err(Error::WrongField)
+        );
+        assert!(a.build().is_ok());
+    }
+
+    #[test]
+    fn the_shape_of_cut_bytes_is_none() {
+        for end in 0..W1.len() {
+            let _ = Shape::of(&W1[..end]);
+        }
+        assert_eq!(Shape::of(&[]), None);
+        assert_eq!(Shape::of(&[9, 0, 1, 0, 1]), None);
+        assert_eq!(
+            Shape::of(&W1),
+            Some(Shape {
+                columns: 1,
+                measures: 2,
+                overlaps: false
+            })
+        );
+    }
+}

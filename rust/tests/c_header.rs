@@ -1,0 +1,88 @@
+//! The C header and its example, by the compilers `cc` and `c++` (or those that CC and CXX name): both languages take
+//! the header without a warning, its structs have the size that this crate declares, and the example prints W1's match.
+
+use std::path::{Path, PathBuf};
+use std::process::{Command, Output};
+
+const ROOT: &str = concat!(env!("CARGO_MANIFEST_DIR"), "/..");
+const WARNINGS: [&str; 4] = ["-Wall", "-Wextra", "-Wpedantic", "-Werror"];
+
+fn compiler(variable: &str, usual: &str) -> Command {
+    let mut command = Command::new(std::env::var_os(variable).unwrap_or_else(|| usual.into()));
+    command.args(WARNINGS).arg(format!("-I{ROOT}/include"));
+    command
+}
+
+fn built(name: &str) -> PathBuf {
+    Path::new(env!("CARGO_TARGET_TMPDIR")).join(name)
+}
+
+fn succeed(command: &mut Command) -> Output {
+    let output = command.output().unwrap();
+    assert!(
+        output.status.success(),
+        "{command:?}\n{}",
+        String::from_utf8_lossy(&output.stderr)
+    );
+    output
+}
+
+/// A program that is C and C++ alike: sizes, names, and NULL with length 0 for every buffer.
+const BOTH: &str = r#"
+#include "mireladle.h"
+#include "mireladle.h"
+int main(void) {
+    struct mireladle_room room = mireladle_room(NULL, 0, NULL, 0);
+    struct mireladle_result result = mireladle_search(NULL, 0, NULL, 0, NULL, 0, NULL, 0, NULL, 0, NULL, 0);
+    if (sizeof room != 32 || sizeof result != 32 || offsetof(struct mireladle_result, steps) != 24) return 1;
+    if (room.answer != MIRELADLE_WRONG_RECORDS || room.places + room.rows + room.pairs != 0) return 2;
+    if (result.answer != MIRELADLE_WRONG_RECORDS || result.matches + result.labels + result.steps != 0) return 3;
+    return MIRELADLE_NOTES_LENGTH(30) == 4 && MIRELADLE_MATCH_LENGTH(2) == 7 && MIRELADLE_STOPPED == 13 ? 0 : 4;
+}
+"#;
+
+fn builds_and_runs(mut compiler: Command, standard: &str, name: &str) {
+    let (source, program) = (built(name), built(&format!("{name}.out")));
+    std::fs::write(&source, BOTH).unwrap();
+    succeed(
+        compiler
+            .arg(standard)
+            .arg(&source)
+            .arg(env!("MIRELADLE_LIBRARY"))
+            .arg("-o")
+            .arg(&program),
+    );
+    succeed(&mut Command::new(&program));
+}
+
+#[test]
+fn c11_takes_the_header() {
+    builds_and_runs(compiler("CC", "cc"), "-std=c11", "header.c");
+}
+
+#[test]
+fn cpp17_takes_the_header() {
+    builds_and_runs(compiler("CXX", "c++"), "-std=c++17", "header.cpp");
+}
+
+#[test]
+fn the_example_prints_w1() {
+    let program = built("w1");
+    let source = format!("{ROOT}/examples/w1.c");
+    let mut compiler = compiler("CC", "cc");
+    succeed(
+        compiler
+            .args(["-std=c11", &source, env!("MIRELADLE_LIBRARY"), "-o"])
+            .arg(&program),
+    );
+    let output = succeed(&mut Command::new(&program));
+    let expected = "\
+answer 0: 5 places, 5 rows, 30 pairs
+1 match in 12 steps
+match 1: COUNT(A) = 2, LAST(B) = 115
+  row 1 is A: 110
+  row 2 is A: 120
+  row 3 is B: 115
+";
+    assert_eq!(String::from_utf8_lossy(&output.stdout), expected);
+}

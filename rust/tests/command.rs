@@ -1,0 +1,271 @@
+//! The command mireladle-match as a user runs it: what it prints for the shipped examples, its exit status, its
+//! messages, and the bytes that it writes for the program.
+
+use std::path::{Path, PathBuf};
+use std::process::{Command, Output};
+
+const EXAMPLES: &str = concat!(env!("CARGO_MANIFEST_DIR"), "/../examples");
+
+fn run(arguments: &[&str]) -> Output {
+    Command::new(env!("CARGO_BIN_EXE_mireladle-match"))
+        .args(arguments)
+        .output()
+        .unwrap()
+}
+
+fn example(name: &str) -> String {
+    format!("{EXAMPLES}/{name}")
+}
+
+fn status(output: &Output) -> i32 {
+    output.status.code().unwrap()
+}
+
+fn text(bytes: &[u8]) -> &str {
+    std::str::from_utf8(bytes).unwrap()
+}
+
+/// A file of this test run; names differ from test to test, since tests run side by side.
+fn file(name: &str, content: impl AsRef<[u8]>) -> String {
+    let path: PathBuf = Path::new(env!("CARGO_TARGET_TMPDIR")).join(name);
+    std::fs::write(&path, content).unwrap();
+    path.into_os_string().into_string().unwrap()
+}
+
+/// Exit status and messages for a query and rows that give no result.
+fn failure(name: &str, query: &str, rows: &str) -> (i32, String) {
+    let query = file(&format!("{name}.txt"), query);
+    let rows = file(&format!("{name}.csv"), rows);
+    let output = run(&[&query, &rows]);
+    assert_eq!(text(&output.stdout), "");
+    let message = text(&output.stderr).replace(env!("CARGO_TARGET_TMPDIR"), "");
+    (status(&output), message)
+}
+
+#[test]
+fn rising_falling() {
+    let output = run(&[
+        &example("rising-falling.txt"),
+        &example("rising-falling.csv"),
+    ]);
+    let expected = "\
+1 match in 12 steps
+
+match  first row  rows  COUNT(A)  LAST(B.price)  labels
+    1          1     3         2            115  AAB
+
+row  price  match:label
+  0    100
+  1    110  1:A
+  2    120  1:A
+  3    115  1:B
+  4    130
+";
+    assert_eq!(
+        (status(&output), text(&output.stdout), text(&output.stderr)),
+        (0, expected, "")
+    );
+}
+
+#[test]
+fn release() {
+    let output = run(&[&example("release.txt"), &example("release.csv")]);
+    let printed = text(&output.stdout);
+    assert_eq!(status(&output), 0);
+    assert!(printed.starts_with("2 matches in 22 steps\n"), "{printed}");
+    for line in [
+        "    1          0     4            540           560           7           31         2  ORRC",
+        "    2         11     4            700           709           8           41         2  ORRC",
+        "  3   560      3     7     31  1:C",
+        "  6   611      3     7     32",
+        " 10   655      3     7     40",
+        " 14   709      3     8     41  2:C",
+    ] {
+        assert!(printed.lines().any(|printed| printed == line), "{line}\n{printed}");
+    }
+}
+
+#[test]
+fn overlapping_and_empty_matches_are_told_apart() {
+    let query = file(
+        "overlap.txt",
+        "pattern: A*\nA: c0 > 0\nskip: to next row\nmeasures: MIN(c0)",
+    );
+    let rows = file("overlap.csv", "price\n1\n1\n0\n");
+    let output = run(&[&query, &rows]);
+    let expected = "\
+3 matches in 13 steps
+
+match  first row  rows  MIN(price)  labels
+    1          0     2           1  AA
+    2          1     1           1  A
+    3          2     0        null  -
+
+row  price  match:label
+  0      1  1:A
+  1      1  1:A 2:A
+  2      0  3:-
+";
+    assert_eq!((status(&output), text(&output.stdout)), (0, expected));
+}
+
+#[test]
+fn each_row_has_its_own_label() {
+    let query = file(
+        "own.txt",
+        "pattern: (A | B)+ C\nA: c0 = 1\nB: c0 = 2\nC: c0 = 3",
+    );
+    let rows = file("own.csv", "event\n1\n2\n3\n3\n2\n1\n3\n");
+    let output = run(&[&query, &rows]);
+    let printed = text(&output.stdout);
+    let labels = "row  event  match:label
+  0      1  1:A
+  1      2  1:B
+  2      3  1:C
+  3      3
+  4      2  2:B
+  5      1  2:A
+  6      3  2:C
+";
+    assert!(printed.ends_with(labels), "{printed}");
+}
+
+#[test]
+fn no_match_and_no_rows() {
+    let query = file("none.txt", "pattern: A\nA: c0 > 5");
+    let rows = file("none.csv", "price\n1\n");
+    assert_eq!(
+        text(&run(&[&query, &rows]).stdout),
+        "no match in 1 step\n\nrow  price  match:label\n  0      1\n"
+    );
+    let empty = file("none-empty.csv", "\u{FEFF}price\r\n");
+    assert_eq!(
+        text(&run(&[&query, &empty]).stdout),
+        "no match in 0 steps\n\nrow  price  match:label\n"
+    );
+}
+
+#[test]
+fn bytes_for_the_program() {
+    let output = run(&[
+        "--bytes",
+        &example("rising-falling.txt"),
+        &example("rising-falling.csv"),
+    ]);
+    let mut expected = vec![72, 0];
+    expected.extend([2, 0, 1, 0, 1, 0, 4, 0, 2, 0, 0x41, 0x2B, 0x20, 0x42]);
+    expected.extend([
+        0x0E, 0, 3, 0, 0x41, 1, 0, 0, 5, 1, 0, 0xFF, 0, 0, 0, 0, 0, 0,
+    ]);
+    expected.extend([
+        0x0E, 0, 3, 0, 0x42, 1, 0, 0, 3, 1, 0, 0xFF, 0, 0, 0, 0, 0, 0,
+    ]);
+    expected.extend([
+        2, 0, 4, 0, 0, 0, 4, 0, 5, 0, 1, 0x41, 0, 0, 4, 0, 5, 0, 6, 0x42, 0, 0,
+    ]);
+    expected.extend([
+        100, 0, 0, 0, 110, 0, 0, 0, 120, 0, 0, 0, 115, 0, 0, 0, 130, 0, 0, 0,
+    ]);
+    assert_eq!((status(&output), output.stdout), (0, expected));
+    // Whether a query is accepted is then for the program to say.
+    let query = file("bytes.txt", "pattern: A**");
+    let rows = file("bytes.csv", "a\n-1\n");
+    let refused = run(&[&query, "--bytes", &rows]);
+    assert_eq!(status(&refused), 0);
+    assert_eq!(refused.stdout[2 + 6..][..7], [3, 0, 2, 0, b'A', b'*', b'*']);
+    assert!(refused.stdout.ends_with(&[0xFF; 4]));
+}
+
+#[test]
+fn refusals_have_number_and_words() {
+    let refused = |name: &str, query: &str, expected: &str| {
+        assert_eq!(
+            failure(name, query, "a,b\n1,2\n"),
+            (1, String::from(expected))
+        );
+    };
+    refused(
+        "refused-4",
+        "# deep\npattern: (((((((((A)))))))))",
+        "refused 4: more than 8 parentheses are open somewhere in the pattern\n\
+         /refused-4.txt:2: pattern: (((((((((A)))))))))\n",
+    );
+    refused(
+        "refused-5",
+        "pattern: A** # twice",
+        "refused 5: the text is outside the pattern language\n/refused-5.txt:1: pattern: A**\n",
+    );
+    refused(
+        "refused-8",
+        "pattern: A\nA: a = 1\nA: a = 2",
+        "refused 8: a letter has two DEFINEs\n",
+    );
+    refused(
+        "refused-9",
+        "pattern: A\nmeasures: COUNT(B)",
+        "refused 9: a measure names a letter that is not in the pattern\n",
+    );
+    let many = format!("a\n{}", "1\n".repeat(4097));
+    let rows = failure("refused-10", "pattern: A", &many);
+    assert_eq!(rows.0, 1);
+    assert!(rows.1.starts_with("refused 10: "), "{}", rows.1);
+}
+
+#[test]
+fn wrong_input_has_a_place_and_what_was_expected() {
+    let wrong = |name: &str, query: &str, rows: &str, expected: &str| {
+        assert_eq!(failure(name, query, rows), (2, String::from(expected)));
+    };
+    wrong(
+        "wrong-column",
+        "pattern: A\nA: evnt = 1",
+        "time,event\n",
+        "/wrong-column.txt:2:4: expected a column (c0 or time, c1 or event), found `evnt`\n    A: evnt = 1\n       ^\n",
+    );
+    wrong(
+        "wrong-row",
+        "pattern: A",
+        "a,b\n1,2\n3,x\n",
+        "/wrong-row.csv:3:3: expected a whole number from -2147483648 to 2147483647, found `x`\n    3,x\n      ^\n",
+    );
+    wrong(
+        "wrong-end",
+        "# nothing\n",
+        "a\n",
+        "/wrong-end.txt:2:1: expected a `pattern:` line, found the end of the file\n",
+    );
+}
+
+#[test]
+fn files_that_are_no_text_or_not_there() {
+    let good = example("rising-falling.txt");
+    let binary = file("binary.csv", b"price\n1\n\xFF2\n");
+    let output = run(&[&good, &binary]);
+    assert_eq!(status(&output), 2);
+    assert!(text(&output.stderr)
+        .ends_with("binary.csv:3:1: expected text in UTF-8, found the byte 0xFF\n"));
+    let missing = run(&[&good, &example("no-such-file.csv")]);
+    assert_eq!(status(&missing), 2);
+    assert!(text(&missing.stderr).contains("no-such-file.csv: "));
+}
+
+#[test]
+fn the_command_line() {
+    let help = run(&["--help"]);
+    assert_eq!(status(&help), 0);
+    assert!(text(&help.stdout).contains("usage: mireladle-match [--bytes] QUERY.txt ROWS.csv"));
+    for wrong in [
+        &[][..],
+        &["one"],
+        &["one", "two", "three"],
+        &["--byte", "one", "two"],
+    ] {
+        let output = run(wrong);
+        assert_eq!(
+            (status(&output), text(&output.stdout)),
+            (2, ""),
+            "{wrong:?}"
+        );
+        assert!(text(&output.stderr).contains("usage: "), "{wrong:?}");
+    }
+}

@@ -1,0 +1,416 @@
+//! The safe interface over the linked library: the bench sheet W1 to W12, every refusal by its number, stopped reports,
+//! what lent buffers hold afterwards, and damaged queries.
+
+use mireladle::{
+    col, lent, Ending, Error, Match, Measure, Query, QueryBuilder, Report, ReportRoom, Rows, Skip,
+};
+
+const X: [i32; 5] = [100, 110, 120, 115, 130];
+
+fn w1() -> QueryBuilder {
+    Query::builder(1)
+        .pattern("A+ B")
+        .define('A', [col(0).gt(col(0).prev(1))])
+        .define('B', [col(0).lt(col(0).prev(1))])
+        .measure(Measure::count().of('A'))
+        .measure(Measure::last(0).of('B'))
+}
+
+/// A pattern whose letters have no DEFINE.
+fn free(pattern: &str) -> QueryBuilder {
+    Query::builder(1).pattern(pattern)
+}
+
+fn search(query: &QueryBuilder, entries: &[i32]) -> Report {
+    query
+        .build()
+        .unwrap()
+        .search(Rows::new(entries, 1))
+        .unwrap()
+}
+
+/// First row and labels of each match, and the steps.
+fn found(query: &QueryBuilder, entries: &[i32]) -> (Vec<(usize, String)>, u64) {
+    let report = search(query, entries);
+    assert_eq!(report.ending(), Ending::Done);
+    assert_eq!(report.matches().len(), report.len());
+    let row_and_labels = |found: Match<'_>| (found.first_row(), found.labels().to_owned());
+    (
+        report.matches().map(row_and_labels).collect(),
+        report.steps(),
+    )
+}
+
+fn matches(expected: &[(usize, &str)]) -> Vec<(usize, String)> {
+    expected
+        .iter()
+        .map(|(row, labels)| (*row, (*labels).to_owned()))
+        .collect()
+}
+
+fn places(pattern: &str) -> Result<u64, Error> {
+    free(pattern).build().map(|query| query.places())
+}
+
+#[test]
+fn w1_rises_and_falls() {
+    let report = search(&w1(), &X);
+    assert_eq!((report.len(), report.steps()), (1, 12));
+    let only = report.matches().next().unwrap();
+    assert_eq!(
+        (only.number(), only.rows(), only.labels()),
+        (1, 1..4, "AAB")
+    );
+    assert_eq!(only.measures().collect::<Vec<_>>(), [Some(2), Some(115)]);
+    assert_eq!(w1().build().unwrap().places(), 5);
+}
+
+#[test]
+fn w2_without_rows() {
+    assert_eq!(found(&w1(), &[]), (matches(&[]), 0));
+}
+
+#[test]
+fn w3_and_w4_empty_matches() {
+    let above_0 = |pattern| free(pattern).define('A', [col(0).gt(0)]);
+    assert_eq!(
+        found(&above_0("A*"), &[1, 1, 0]),
+        (matches(&[(0, "AA"), (2, "")]), 9)
+    );
+    assert_eq!(
+        found(&above_0("A*?"), &[1, 1, 0]),
+        (matches(&[(0, ""), (1, ""), (2, "")]), 6)
+    );
+}
+
+#[test]
+fn w5_to_w7_branches_skips_and_anchors() {
+    assert_eq!(found(&free("B A | A B"), &[0; 2]).0, matches(&[(0, "BA")]));
+    assert_eq!(found(&free("A A"), &[0; 3]), (matches(&[(0, "AA")]), 5));
+    let each = free("A A").skip(Skip::ToNextRow);
+    assert_eq!(found(&each, &[0; 3]), (matches(&[(0, "AA"), (1, "AA")]), 8));
+    assert_eq!(found(&free("A $"), &[0; 2]).0, matches(&[(1, "A")]));
+}
+
+#[test]
+fn w8_to_w12_places_and_refused_patterns() {
+    assert_eq!(places("(A{51}){5}"), Ok(256));
+    assert_eq!(places("(A{16}){16}"), Err(Error::TooManyPlaces));
+    assert_eq!(places("(A*)*"), Err(Error::EmptyRepetition));
+    assert_eq!(places("(A?){3}"), Ok(7));
+    assert_eq!(places("(A+)+"), Ok(8));
+    assert!(places("((((((((A))))))))").is_ok());
+    assert_eq!(places("(((((((((A)))))))))"), Err(Error::TooDeep));
+}
+
+#[test]
+fn matches_with_labels_of_their_own() {
+    let is = |number| [col(0).eq(number)];
+    let query = free("(A | B)+ C")
+        .define('A', is(1))
+        .define('B', is(2))
+        .define('C', is(3));
+    let rows = [1, 2, 3, 2, 3, 3, 1, 1, 2, 3];
+    let past_last = matches(&[(0, "ABC"), (3, "BC"), (6, "AABC")]);
+    assert_eq!(found(&query, &rows).0, past_last);
+    let to_next = matches(&[
+        (0, "ABC"),
+        (1, "BC"),
+        (3, "BC"),
+        (6, "AABC"),
+        (7, "ABC"),
+        (8, "BC"),
+    ]);
+    assert_eq!(found(&query.skip(Skip::ToNextRow), &rows).0, to_next);
+}
+
+#[test]
+fn easy_slips() {
+    assert_eq!(
+        found(&free("A | A B"), &[0; 2]).0,
+        matches(&[(0, "A"), (1, "A")])
+    );
+    let unequal = free("A").define('A', [col(0).ne(col(0).prev(1))]);
+    assert_eq!(
+        found(&unequal, &[1, 2, 2, 3]).0,
+        matches(&[(1, "A"), (3, "A")])
+    );
+    let sum = free("A").define('A', [col(0).lt(col(0) + 1)]);
+    assert_eq!(found(&sum, &[i32::MAX]).0, matches(&[(0, "A")]));
+}
+
+#[test]
+fn all_measures_over_several_columns() {
+    let query = Query::builder(2)
+        .pattern("A B? A")
+        .define('B', [col(1).lt(0)])
+        .measure(Measure::count())
+        .measure(Measure::sum(1))
+        .measure(Measure::min(1).of('A'))
+        .measure(Measure::max(0))
+        .measure(Measure::first(0).of('A'))
+        .measure(Measure::last(1))
+        .measure(Measure::count().of('B'))
+        .measure(Measure::sum(0).of('B'));
+    let entries = [1, i32::MAX, 2, i32::MAX, 3, 10, 4, -20, 5, 30];
+    let report = query
+        .build()
+        .unwrap()
+        .search(Rows::new(&entries, 2))
+        .unwrap();
+    let all: Vec<Vec<Option<i64>>> = report
+        .matches()
+        .map(|found| found.measures().collect())
+        .collect();
+    let first = [
+        Some(2),
+        Some(4_294_967_294),
+        Some(2_147_483_647),
+        Some(2),
+        Some(1),
+        Some(2_147_483_647),
+        Some(0),
+        None,
+    ];
+    let second = [
+        Some(3),
+        Some(20),
+        Some(10),
+        Some(5),
+        Some(3),
+        Some(30),
+        Some(1),
+        Some(4),
+    ];
+    assert_eq!(all, [first, second]);
+}
+
+#[test]
+fn every_refusal_by_its_number() {
+    let one = || col(0).eq(1);
+    let bytes = w1().to_bytes();
+    let twice = free("A").define('B', [one()]).define('B', [one()]);
+    let refused: [(u64, Result<Query, Error>); 13] = [
+        (1, Query::from_bytes(&bytes[..bytes.len() - 1])),
+        (2, Query::from_bytes([])),
+        (2, Query::builder(1).build()),
+        (
+            2,
+            (0..9)
+                .fold(free("A"), |query, _| query.measure(Measure::count()))
+                .build(),
+        ),
+        (3, Query::builder(9).pattern("A").build()),
+        (3, free("A").define('A', []).build()),
+        (3, free("A").measure(Measure::sum(1)).build()),
+        (4, free("(((((((((").build()),
+        (5, free("A \u{E9}").build()),
+        (6, free("()*").build()),
+        (7, free("(A{99}){99}").build()),
+        (8, twice.build()),
+        (9, free("A").measure(Measure::count().of('B')).build()),
+    ];
+    for (number, query) in refused {
+        assert_eq!(query.map_err(Error::number), Err(Some(number)));
+    }
+}
+
+#[test]
+fn rows_that_are_refused() {
+    let query = Query::builder(2).pattern("A").build().unwrap();
+    assert_eq!(
+        query.search(Rows::new(&[1, 2, 3], 2)),
+        Err(Error::WrongRows)
+    );
+    assert_eq!(
+        query.search(Rows::new(&[0; 2 * 4097], 2)),
+        Err(Error::WrongRows)
+    );
+    assert_eq!(
+        query
+            .search(Rows::new(&[0; 2 * 4096], 2))
+            .map(|report| report.len()),
+        Ok(4096)
+    );
+    assert_eq!(
+        query.search(Rows::new(&[1, 2], 1)),
+        Err(Error::ColumnCount { query: 2, rows: 1 })
+    );
+    assert_eq!(
+        query.search(Rows::new(&[], 0)),
+        Err(Error::ColumnCount { query: 2, rows: 0 })
+    );
+}
+
+#[test]
+fn a_report_stops_where_its_room_ends() {
+    let query = free("A A?").skip(Skip::ToNextRow).build().unwrap();
+    let rows = Rows::new(&[0; 3], 1);
+    let within = |room: ReportRoom| {
+        let report = query.search_within(rows, room).unwrap();
+        let labels: Vec<String> = report
+            .matches()
+            .map(|found| found.labels().to_owned())
+            .collect();
+        (report.ending(), labels.join(" "))
+    };
+    let all = String::from("AA AA A");
+    assert_eq!(within(ReportRoom::default()), (Ending::Done, all.clone()));
+    assert_eq!(
+        within(ReportRoom::default().matches(3).labels(5)),
+        (Ending::Done, all)
+    );
+    assert_eq!(
+        within(ReportRoom::default().matches(2)),
+        (Ending::Stopped, String::from("AA AA"))
+    );
+    // The last match would fit, but none is looked for behind one that does not.
+    assert_eq!(
+        within(ReportRoom::default().labels(3)),
+        (Ending::Stopped, String::from("AA"))
+    );
+    assert_eq!(
+        within(ReportRoom::default().matches(0)),
+        (Ending::Stopped, String::new())
+    );
+    let stopped = query
+        .search_within(rows, ReportRoom::default().labels(3))
+        .unwrap();
+    assert!(stopped.steps() > 0 && stopped.steps() < query.search(rows).unwrap().steps());
+}
+
+#[test]
+fn the_largest_report_fits() {
+    let query = free("A*").skip(Skip::ToNextRow).build().unwrap();
+    let report = query.search(Rows::new(&[0; 4096], 1)).unwrap();
+    assert_eq!((report.len(), report.ending()), (4096, Ending::Done));
+    assert_eq!(
+        report.matches().map(|found| found.len()).sum::<usize>(),
+        8_390_656
+    );
+}
+
+#[test]
+fn lent_buffers_are_changed_as_promised() {
+    let query = w1().to_bytes();
+    let room = lent::room(&query, &X);
+    assert_eq!(
+        (
+            room.answer,
+            room.places,
+            room.rows,
+            room.pairs,
+            room.notes()
+        ),
+        (0, 5, 5, 30, 4)
+    );
+    let (mut notes, mut trail) = ([0xAA_u8; 6], [7_u32; 33]);
+    let (mut numbers, mut labels) = ([-7_i64; 10], [b'?'; 5]);
+    let outcome = lent::search(
+        &query,
+        &X,
+        &mut notes,
+        &mut trail,
+        &mut numbers,
+        &mut labels,
+    );
+    assert_eq!(
+        (
+            outcome.answer,
+            outcome.matches,
+            outcome.labels,
+            outcome.steps
+        ),
+        (0, 1, 3, 12)
+    );
+    assert_eq!(numbers, [1, 1, 3, 1, 2, 1, 115, -7, -7, -7]);
+    assert_eq!(&labels, b"AAB??");
+    assert_eq!((&trail[..30], &trail[30..]), (&[0; 30][..], &[7; 3][..]));
+    assert_eq!(notes[3] & 0xC0, 0, "spare bits");
+    assert_eq!(notes[4..], [0xAA; 2]);
+    // Each step either failed or is a pair of the path found: A, A's fork, A, the fork again, B, END.
+    let failed: u32 = notes[..4].iter().map(|byte| byte.count_ones()).sum();
+    assert_eq!(failed + 6, 12);
+}
+
+#[test]
+fn refusals_change_no_lent_buffer() {
+    let query = w1().to_bytes();
+    let lengths = [(3, 30, 11), (4, 29, 12), (0, 0, 11), (4, 0, 12)];
+    for (notes_length, trail_length, answer) in lengths {
+        let mut notes = vec![0xAA_u8; notes_length];
+        let mut trail = vec![7_u32; trail_length];
+        let (mut numbers, mut labels) = ([-7_i64; 10], [b'?'; 5]);
+        let outcome = lent::search(
+            &query,
+            &X,
+            &mut notes,
+            &mut trail,
+            &mut numbers,
+            &mut labels,
+        );
+        assert_eq!(
+            (
+                outcome.answer,
+                outcome.matches,
+                outcome.labels,
+                outcome.steps
+            ),
+            (answer, 0, 0, 0)
+        );
+        assert!(notes.iter().all(|byte| *byte == 0xAA) && trail.iter().all(|number| *number == 7));
+        assert_eq!((numbers, &labels), ([-7; 10], b"?????"));
+    }
+    assert_eq!(lent::room(&[], &X).answer, 2);
+    assert_eq!(
+        lent::search(&[], &[], &mut [], &mut [], &mut [], &mut []).answer,
+        2
+    );
+}
+
+/// Every query that differs from W1 in one byte, or ends early, is refused or gives a report in good order.
+#[test]
+fn damaged_queries() {
+    let whole = w1().to_bytes();
+    for end in 0..whole.len() {
+        // The two measures at the end are records that may be missing.
+        let accepted = end == whole.len() - 8 || end == whole.len() - 16;
+        assert_eq!(
+            Query::from_bytes(&whole[..end]).is_ok(),
+            accepted,
+            "cut at {end}"
+        );
+    }
+    for at in 0..whole.len() {
+        for byte in [
+            0, 1, 2, 7, 9, 0x28, 0x2A, 0x3F, 0x41, 0x42, 0x5A, 0x5B, 0x7F, 0x80, 0xBF, 0xC0, 0xFF,
+        ] {
+            let mut bytes = whole.clone();
+            bytes[at] = byte;
+            let Ok(query) = Query::from_bytes(bytes) else {
+                continue;
+            };
+            if let Ok(report) = query.search(Rows::new(&X, query.columns())) {
+                assert_eq!(report.matches().count(), report.len());
+                assert!(report
+                    .matches()
+                    .all(|found| found.measures().len() == query.measures()));
+                assert!(report.matches().all(|found| found.rows().end <= X.len()));
+            }
+        }
+    }
+}
+
+#[test]
+fn queries_and_reports_go_between_threads() {
+    fn moves<T: Send + Sync + 'static>(_: &T) {}
+    let query = w1().build().unwrap();
+    let report = query.search(Rows::new(&X, 1)).unwrap();
+    moves(&query);
+    moves(&report);
+    std::thread::scope(|scope| {
+        for _ in 0..4 {
+            scope.spawn(|| assert_eq!(query.search(Rows::new(&X, 1)).unwrap(), report));
+        }
+    });
+}
