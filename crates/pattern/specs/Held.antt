@@ -1,0 +1,34 @@
+-- A room that holds a tree's nodes, each behind its parts.
+use mathlib.Core.Path.{_≡_}
+use mathlib.Core.List.{List}
+use Prim.Native.Nat.{ℕ, _+_, _*_, _-_, _≤_, max, min}
+use lib.ListN.{length}
+use Rattle.rules.specs.Language.{InBounds, Rank, pattern, Tree, one, more, last, next, bare, times, letter, caret, dollar, empty, group}
+use Rattle.rules.specs.Places.{placeCount}
+use Rattle.pattern.specs.Nodes.{nodeAt}
+use Rattle.pattern.specs.declared.nodes.Sort.the-variants.{Sequence, Alternation}
+use Rattle.pattern.specs.Written.{plain, withMark, nodeCount, height, own}
+
+-- the nodes from c on are the tree's; of a primary only its parts' nodes
+unfoldable pub Held : {k : Rank} → Tree k → ℕ → List ℕ → Type 0
+unfolding nodeCount height own InBounds
+Held (one b) c s = Held b c s
+Held (more b p) c s =
+    Held b c s × Held p (c + nodeCount b) s × (nodeAt s (c + nodeCount b + nodeCount p) ≡ plain Alternation (c + nodeCount b - 1) (c + nodeCount b + nodeCount p - 1) (max (height b) (height p) + 1) (min 257 (placeCount b + placeCount p)))
+Held (last f) c s = Held f c s
+Held (next f b) c s =
+    Held f c s × Held b (c + nodeCount f) s × (nodeAt s (c + nodeCount f + nodeCount b) ≡ plain Sequence (c + nodeCount f - 1) (c + nodeCount f + nodeCount b - 1) (max (height f) (height b) + 1) (min 257 (placeCount f + placeCount b)))
+Held (bare x) c s = Held x c s × (nodeAt s (c + nodeCount x) ≡ own x c)
+Held (times x f z) c s = Held x c s × (InBounds f) × (nodeAt s (c + nodeCount x) ≡ withMark (own x c) f z)
+Held (letter b) c s = Unit {0}
+Held caret c s = Unit {0}
+Held dollar c s = Unit {0}
+Held empty c s = Unit {0}
+Held (group p) c s = Held p c s
+
+-- node i is the top of the nodes of p, which begin at some c; nodes fit the room
+pub record Top (p : Tree pattern) (i : ℕ) (s : List ℕ) : Type 0 where
+  pub base : ℕ
+  pub top : i + 1 ≡ base + nodeCount p
+  pub held : Held p base s
+  pub fits : 8 * (base + nodeCount p) ≤ length s
