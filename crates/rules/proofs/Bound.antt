@@ -1,20 +1,20 @@
 -- At most two steps for each pair, where the search goes on past the last row (document 01: the steps are at most 2P(n+1)).
 use mathlib.Core.Path.{_≡_, refl, ap, sym, _∙_}
-use mathlib.Core.List.{List, [], _∷_, _++_, List·Memᴰ, List·Memᴰ·head, List·Memᴰ·tail}
-use mathlib.Core.Bool.{Bool, true, false, not, true≢false, false≢true}
-use mathlib.Core.Logic.{_⊎_, inl, inr, ⊎-elim, _≢_}
+use mathlib.Core.List.{List, [], _∷_, _++_}
+use mathlib.Core.Bool.{Bool, true, false, not}
+use mathlib.Core.Logic.{_≢_}
 use mathlib.Core.Option.{Option, none, some}
-use Prim.Native.Nat.{ℕ, zero, suc, _+_, _*_, _≤_, _<_, zero-le, suc-le-suc, max}
-use native.Mathlib.Nat.{le-trans, le-of-suc-le-suc, not-suc-le-zero}
+use Prim.Native.Nat.{ℕ, zero, suc, _+_, _*_, _≤_, _<_, suc-le-suc}
+use native.Mathlib.Nat.{le-trans}
 use native.Mathlib.Omega.{arith}
-use lib.ListN.{length, getD, set, length-set, length-append}
+use lib.ListN.{length, length-append}
 use lib.Dec.{ltb, eqb}
 use borrow.Author.Tests.{ltb-true, eqb-true, eqb-false, not-true}
-use Rattle.rules.specs.Search.{Match, Swept, Plan, below, withMatch, byFit, onAnswer, sweep, fullOf, foundIn, Kept, walkAt, plainAt, lastOf}
-use Rattle.rules.specs.Walk.{IsPath, here, there, Ways, accept, try, countTrue, orNext, firstOf, onto, plain, plainBy}
+use Rattle.rules.specs.Search.{pathPairs, Match, Plan, below, byFit, onAnswer, sweep, foundIn, walkAt, plainAt, lastOf}
+use Rattle.rules.specs.Walk.{IsPath, here, there, Ways, try, countTrue, orNext, firstOf, onto, plain, plainBy}
 use Rattle.rules.proofs.Plain.{plain-path, plain-down, Sound}
-use Rattle.rules.proofs.Swept.{total, Counted, Alike, walk-is-plain, walk-counted}
-use Rattle.rules.proofs.Walk.{All, All-map, All-map₂, All-append, All-at, In, Out, Falls, Rising, Apart, room, out-of-not-in}
+use Rattle.rules.proofs.Swept.{Counted, walk-is-plain, walk-counted}
+use Rattle.rules.proofs.Walk.{All, All-map, All-append, All-at, Out, Falls, Apart, room, out-of-not-in}
 
 -- ---- a pair that has a path does not fail
 
@@ -188,7 +188,7 @@ abbrev joined : (Match → List ℕ) → List Match → List ℕ
 joined f [] = []
 joined f (m ∷ ms) = f m ++ joined f ms
 
-joined-total : (pos : ℕ → ℕ) (ms : List Match) → length (joined (headOf pos) ms) + length (joined (tailOf pos) ms) ≡ total ms
+joined-total : (pos : ℕ → ℕ) (ms : List Match) → length (joined (headOf pos) ms) + length (joined (tailOf pos) ms) ≡ pathPairs ms
 joined-total pos [] = refl
 joined-total pos (m ∷ ms) =
     let ih = joined-total pos ms in

@@ -1,18 +1,17 @@
--- A bound for every skip mode (R-2): an attempt enters each pair from its start's position on at most once.
+-- A bound on the steps for every skip mode: an attempt enters each pair from the position of its start on at most once.
 use mathlib.Core.Path.{_≡_, refl, ap, sym, _∙_}
 use mathlib.Core.List.{List, [], _∷_, _++_}
-use mathlib.Core.Bool.{Bool, true, false, true≢false, false≢true}
+use mathlib.Core.Bool.{Bool, true, false}
 use mathlib.Core.Logic.{_⊎_, inl, inr, ⊎-elim, _≢_}
 use mathlib.Core.Option.{Option, none, some}
-use Prim.Native.Nat.{ℕ, zero, suc, _+_, _-_, _*_, _≤_, _<_, zero-le, suc-le-suc}
+use Prim.Native.Nat.{ℕ, zero, suc, _+_, _-_, _*_, _≤_, _<_, suc-le-suc}
 use native.Mathlib.Nat.{le-trans, add-zero, add-suc, le-of-suc-le-suc, not-suc-le-zero}
 use native.Mathlib.Omega.{arith}
 use lib.ListN.{length, getD, set, take, drop, length-set, length-drop, take-append-drop}
-use lib.Seq.{drop-set-add}
 use lib.Dec.{ltb}
 use borrow.Author.Tests.{ltb-true}
-use Rattle.rules.specs.Search.{Match, Swept, Plan, below, withMatch, byFit, onAnswer, sweep, Kept, answered, walkAt}
-use Rattle.rules.specs.Walk.{IsPath, here, there, Ways, accept, try, Outcome, found, failed, orElse, close, enterUnless, tries, inside, insideBy, countTrue, plain}
+use Rattle.rules.specs.Search.{Swept, Plan, below, byFit, onAnswer, sweep, Kept, answered, walkAt}
+use Rattle.rules.specs.Walk.{Ways, accept, try, Outcome, found, failed, orElse, close, enterUnless, tries, inside, insideBy, countTrue}
 use Rattle.rules.proofs.Bound.{path-apart, path-pairs, path-closed}
 use Rattle.rules.proofs.Plain.{plain-path, Sound, InsideSound, inside-sound}
 use Rattle.rules.proofs.Walk.{All, All-map, All-map₂, In, Out, mark-in, count-mark, count-le, out-mark, Apart, Falls, InsidePost, inside-post}

@@ -1,15 +1,15 @@
--- Plain backtracking: its fuel, its paths; and the counted walk finds what it finds (T1).
+-- Plain backtracking over any graph: its fuel, its paths; and the counted walk finds what it finds.
 use mathlib.Core.Path.{_≡_, refl, ap, sym, _∙_}
-use mathlib.Core.List.{List, [], _∷_, _++_, List·Memᴰ, List·Memᴰ·head, List·Memᴰ·tail}
-use mathlib.Core.Bool.{Bool, true, false, true≢false, false≢true}
-use mathlib.Core.Logic.{_⊎_, inl, inr, ⊎-elim, _≢_}
+use mathlib.Core.List.{List, [], _∷_, List·Memᴰ, List·Memᴰ·head, List·Memᴰ·tail}
+use mathlib.Core.Bool.{Bool, true, false}
+use mathlib.Core.Logic.{⊎-elim}
 use mathlib.Core.Option.{Option, none, some}
-use Prim.Native.Nat.{ℕ, zero, suc, _+_, _≤_, _<_, zero-le, suc-le-suc}
-use native.Mathlib.Nat.{le-trans, le-of-suc-le-suc, not-suc-le-zero}
+use Prim.Native.Nat.{ℕ, zero, suc, _<_}
+use native.Mathlib.Nat.{le-trans, not-suc-le-zero}
 use native.Mathlib.Omega.{arith}
-use lib.ListN.{length, getD, set, length-set}
-use Rattle.rules.specs.Walk.{IsPath, here, there, Ways, accept, try, Outcome, found, failed, orElse, close, enterUnless, tries, inside, insideBy, countTrue, orNext, firstOf, onto, plain, plainBy}
-use Rattle.rules.proofs.Walk.{All, All-map, In, Out, mark-in, Falls}
+use lib.ListN.{getD, set}
+use Rattle.rules.specs.Walk.{IsPath, here, there, Ways, accept, try, Outcome, found, failed, orElse, close, enterUnless, tries, inside, insideBy, orNext, firstOf, onto, plain, plainBy}
+use Rattle.rules.proofs.Walk.{All, All-map, In, mark-in, Falls}
 
 pub firstOf-none : (f : ℕ → Option (List ℕ)) (y : ℕ) (ys : List ℕ) → f y ≡ none → firstOf f (y ∷ ys) ≡ firstOf f ys
 unfolding firstOf
@@ -81,7 +81,7 @@ module _ (ways : ℕ → Ways) where
       go ih accept d e′ = let same : x ∷ [] ≡ p = cc in let h : IsPath ways x (x ∷ []) = here d in rw same at h
       go ih (try ys) d e′ = put ys d (firstOf-path (plain ways k) ih ys) (firstOf (plain ways k) ys) refl e′
 
--- ---- T1: the counted walk finds what plain backtracking finds
+-- ---- the counted walk finds what plain backtracking finds
 
 module _ (ways : ℕ → Ways) (K : ℕ) where
   -- every failed pair has no path

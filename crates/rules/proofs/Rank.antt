@@ -1,17 +1,16 @@
 -- The rank of a pair falls along every way: the search graph of a legal pattern.
 use mathlib.Core.Path.{_≡_, refl, ap, sym, _∙_}
 use mathlib.Core.List.{List, [], _∷_, _++_, map, append-assoc}
-use mathlib.Core.Bool.{Bool, true, false, not, _&&_, _||_, true≢false, false≢true}
-use mathlib.Core.Logic.{_⊎_, inl, inr, ⊎-elim, _≢_}
-use Prim.Native.Nat.{ℕ, zero, suc, _+_, _-_, _*_, _/_, _%_, _≤_, _<_, max, zero-le, suc-le-suc}
-use native.Mathlib.Nat.{le-trans, add-zero, mod-lt, mul-le-mul-right, le-of-suc-le-suc, not-suc-le-zero, div-lt-iff-lt-mul, mul-comm}
+use mathlib.Core.Bool.{Bool, true, false, not, _&&_}
+use Prim.Native.Nat.{ℕ, zero, suc, _+_, _-_, _*_, _/_, _%_, _≤_, _<_, max, suc-le-suc}
+use native.Mathlib.Nat.{add-zero, mod-lt, le-of-suc-le-suc, not-suc-le-zero, div-lt-iff-lt-mul, mul-comm}
 use native.Mathlib.Numerals.{add-one}
 use native.Mathlib.Omega.{arith}
 use lib.ListN.{length, getD, drop, length-append}
 use lib.Seq.{drop-drop, drop-append-seam, getD-drop, getD-at}
 use lib.Arith.{digits-lt, digits-div, digits-mod}
 use lib.Dec.{ltb, eqb}
-use borrow.Author.Tests.{not-true, ltb-true, eqb-true}
+use borrow.Author.Tests.{not-true, ltb-true}
 use Rattle.rules.specs.Places.{Unrolled, uLetter, uCaret, uDollar, uEmpty, uSeq, uAlt, uOpt, uStar, Branches, uNil, uCons, size, sizes, startOf, startsOf, code, codes, waysInTurn, Place, pLetter, pCaret, pDollar, pFork, pEnd, places}
 use Rattle.rules.specs.Walk.{Ways, accept, try, passIf, waysAt, pairWays}
 use Rattle.rules.proofs.Level.{skips, legal, allLegal, level, highest, levels, levelsOf, and-true, level-same, levels-low}

@@ -1,19 +1,17 @@
 -- The search by the counted walk is the search by plain backtracking, and its count.
 use mathlib.Core.Path.{_≡_, refl, ap, sym, _∙_}
-use mathlib.Core.List.{List, [], _∷_, _++_}
-use mathlib.Core.Bool.{Bool, true, false, true≢false, false≢true}
-use mathlib.Core.Logic.{_⊎_, inl, inr, ⊎-elim, _≢_}
+use mathlib.Core.List.{List, _∷_}
+use mathlib.Core.Bool.{Bool, true, false}
 use mathlib.Core.Option.{Option, none, some}
-use Prim.Native.Nat.{ℕ, zero, suc, _+_, _≤_, _<_, zero-le, suc-le-suc}
-use native.Mathlib.Nat.{le-trans, le-of-suc-le-suc, not-suc-le-zero}
+use Prim.Native.Nat.{ℕ, zero, suc, _+_, _<_}
 use native.Mathlib.Omega.{arith}
-use lib.ListN.{length, getD, set, length-set}
+use lib.ListN.{length, getD}
 use lib.Dec.{ltb}
 use borrow.Author.Tests.{ltb-true}
-use Rattle.rules.specs.Search.{Match, Swept, Plan, below, withMatch, byFit, onAnswer, sweep, fullOf, foundIn, Kept, answered, walkAt, plainAt}
-use Rattle.rules.specs.Walk.{Ways, accept, try, Outcome, found, failed, enterUnless, inside, insideBy, countTrue, plain}
+use Rattle.rules.specs.Search.{pathPairs, Match, Swept, Plan, below, byFit, onAnswer, sweep, foundIn, Kept, answered, walkAt, plainAt}
+use Rattle.rules.specs.Walk.{Ways, Outcome, found, failed, enterUnless, inside, countTrue, plain}
 use Rattle.rules.proofs.Plain.{Sound, InsideSound, inside-sound}
-use Rattle.rules.proofs.Walk.{All, In, Out, Falls, InsidePost, inside-post}
+use Rattle.rules.proofs.Walk.{Falls, InsidePost, inside-post}
 
 -- ---- two ways to make attempts that answer alike give the same search
 
@@ -48,7 +46,7 @@ module _ {S T : Type 0} (I : S → T → Type 0) (att : ℕ → S → Option (Li
       alike-below _ _ st su h
       (rw (a .0) (alike-answer (sweep att plan k) (sweep alt plan k) (sweep-alike k) i m l (alt i su .0) (att i st .1) (alt i su .1) (a .1))) (ltb i (plan .n))
 
--- ---- T1 for the whole search
+-- ---- the matches of the whole search
 
 module _ (ways : ℕ → Ways) (ρ : ℕ → ℕ) (N : ℕ) (falls : Falls ways ρ N) (K : ℕ) (top : (x : ℕ) → ρ x < K) (first : ℕ → ℕ) where
   abbrev pub SoundKept : Kept → Unit {0} → Type 0
@@ -71,15 +69,11 @@ module _ (ways : ℕ → Ways) (ρ : ℕ → ℕ) (N : ℕ) (falls : Falls ways 
       → Alike SoundKept (sweep (walkAt ways K first) plan k i m l st) (sweep (plainAt ways K first) plan k i m l tt)
   walk-is-plain plan k i m l st h = sweep-alike SoundKept (walkAt ways K first) (plainAt ways K first) walk-plain-at plan k i m l st tt h
 
--- ---- T2 for the whole search
-
-abbrev pub total : List Match → ℕ
-total [] = 0
-total (m ∷ ms) = length (m .path) + total ms
+-- ---- the steps of the whole search
 
 pub record Counted (N : ℕ) (st : Kept) (r : Swept Kept) : Type 0 where
   pub len : length (r .state .0) ≡ N
-  pub sum : r .state .1 + countTrue (st .0) ≡ st .1 + countTrue (r .state .0) + total (foundIn r)
+  pub sum : r .state .1 + countTrue (st .0) ≡ st .1 + countTrue (r .state .0) + pathPairs (foundIn r)
 
 module _ (ways : ℕ → Ways) (ρ : ℕ → ℕ) (N : ℕ) (falls : Falls ways ρ N) (K : ℕ) (top : (x : ℕ) → ρ x < K) (first : ℕ → ℕ) (plan : Plan)
     (starts : (i : ℕ) → i < plan .n → first i < N) where

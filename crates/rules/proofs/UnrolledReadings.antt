@@ -1,19 +1,18 @@
 -- Readings: what an unrolled pattern says of rows, without order or search; and the paths of its graph are its readings.
 use mathlib.Core.Path.{_≡_, refl, ap, sym, _∙_}
 use mathlib.Core.List.{List, [], _∷_, _++_, map, append-assoc, List·Memᴰ, List·Memᴰ·head, List·Memᴰ·tail, List·Memᴰ·not-nil, List·Memᴰ·cases-cons, List·Memᴰ·eq-of-singleton}
-use mathlib.Core.Bool.{Bool, true, false, not, _&&_, _||_, true≢false, false≢true}
-use mathlib.Core.Logic.{_⊎_, inl, inr, ⊎-elim, _≢_}
-use Prim.Native.Nat.{ℕ, zero, suc, _+_, _-_, _*_, _/_, _%_, _≤_, _<_, max, zero-le, suc-le-suc}
-use native.Mathlib.Nat.{le-trans, add-zero, le-of-suc-le-suc, not-suc-le-zero}
+use mathlib.Core.Bool.{Bool, true, false, _&&_}
+use mathlib.Core.Logic.{_⊎_, inl, inr, ⊎-elim}
+use Prim.Native.Nat.{ℕ, zero, suc, _+_, _*_, _≤_, _<_}
 use native.Mathlib.Omega.{arith}
 use lib.ListN.{length, getD}
-use lib.Arith.{digits-lt, digits-div, digits-mod}
+use lib.Arith.{digits-div, digits-mod}
 use lib.Dec.{ltb, eqb}
 use borrow.Author.Tests.{ltb-true, eqb-true, lt-ltb, eq-eqb}
-use Rattle.rules.specs.Places.{Unrolled, uLetter, uCaret, uDollar, uEmpty, uSeq, uAlt, uOpt, uStar, Branches, uNil, uCons, size, sizes, startOf, startsOf, code, codes, waysInTurn, Place, pLetter, pCaret, pDollar, pFork, pEnd, places}
+use Rattle.rules.specs.Places.{Unrolled, uLetter, uCaret, uDollar, uEmpty, uSeq, uAlt, uOpt, uStar, Branches, uNil, uCons, size, sizes, startOf, startsOf, code, codes, waysInTurn, Place, pLetter, pCaret, pDollar, pFork}
 use Rattle.rules.specs.Readings.{Rounds}
 use Rattle.rules.specs.Search.{lastOf, labels, labelOf}
-use Rattle.rules.specs.Walk.{IsPath, here, there, Ways, accept, try, passIf, waysAt, pairWays}
+use Rattle.rules.specs.Walk.{IsPath, here, there, try, passIf, waysAt, pairWays}
 use Rattle.rules.proofs.Level.{and-true}
 use Rattle.rules.proofs.Rank.{At, at-left, at-right, at-head, at-tail, code-length, entry-below}
 

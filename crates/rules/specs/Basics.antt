@@ -2,7 +2,9 @@
 -- written into a buffer. None of them is a rule of document 01.
 use mathlib.Core.Bool.{Bool, true, false, _&&_, _||_}
 use mathlib.Core.List.{List, [], _∷_, _++_}
+use Prim.Native.Char.{code}
 use Prim.Native.Nat.{ℕ, zero, suc, _+_, _*_, _-_}
+use Prim.Native.String.{String, [] as []ˢ, _∷_ as _∷ˢ_}
 use lib.Dec.{ltb, leb, eqb}
 use lib.IntN.{ℤ, pos, negsuc}
 use lib.ListN.{length, getD, take, drop}
@@ -65,6 +67,11 @@ signed8 b = pick (ltb b 128) (pos b) (negsuc (255 - b))
 
 unfoldable pub signed32 : ℕ → ℤ
 signed32 w = pick (ltb w 2147483648) (pos w) (negsuc (4294967295 - w))
+
+-- the bytes of a text of ASCII characters
+unfoldable pub bytes : String → List ℕ
+bytes []ˢ = []
+bytes (c ∷ˢ s) = code c ∷ bytes s
 
 -- a buffer with vs from an index on, and all else as it was
 unfoldable pub wrote : {A : Type 0} → List A → ℕ → List A → List A

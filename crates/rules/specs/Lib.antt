@@ -7,4 +7,10 @@ pub mod Readings
 pub mod Walk
 pub mod Search
 pub mod Preferment
+pub mod Clause627
+pub mod Report
 pub mod Reader
+pub mod Answers
+pub mod Program
+pub mod Demands
+pub mod Bench

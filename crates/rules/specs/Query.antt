@@ -5,10 +5,10 @@ use mathlib.Core.Bool.{Bool, true, false, not, _&&_, _||_}
 use mathlib.Core.List.{List, [], _∷_}
 use Prim.Native.Nat.{ℕ, zero, suc, _+_, _*_}
 use lib.Dec.{ltb, leb, eqb}
-use lib.IntN.{ℤ, pos, negsuc}
+use lib.IntN.{pos, negsuc}
 use lib.Signed.{leZ}
 use lib.ListN.{length, getD, take, drop}
-use Rattle.rules.specs.Basics.{pick, inRange, isLetter, every, everyBelow, tabulate, has, repeats, keep, le16, le32, signed8, signed32}
+use Rattle.rules.specs.Basics.{pick, inRange, isLetter, every, everyBelow, tabulate, repeats, keep, le16, le32, signed8, signed32}
 use Rattle.rules.specs.Rows.{Comparison}
 
 -- ---- records

@@ -2,11 +2,11 @@
 -- which it holds), without order, place or search.
 use mathlib.Core.Path.{_≡_}
 use mathlib.Core.List.{List, [], _∷_, _++_}
-use mathlib.Core.Bool.{Bool, true, false}
+use mathlib.Core.Bool.{Bool, true}
 use mathlib.Core.Logic.{_⊎_}
 use mathlib.Core.Option.{Option, none, some}
 use Prim.Native.Nat.{ℕ, zero, suc, _≤_, _<_}
-use Rattle.rules.specs.Language.{Form, lower, upper, Rank, Tree, one, more, last, next, bare, times, letter, caret, dollar, empty, group}
+use Rattle.rules.specs.Language.{lower, upper, Rank, Tree, one, more, last, next, bare, times, letter, caret, dollar, empty, group}
 
 -- c is at most the upper bound, if there is one
 abbrev pub Within : ℕ → Option ℕ → Type 0

@@ -1,6 +1,6 @@
 -- Document 01, "Places and preferment", on starts: where attempts begin, how the search goes on behind a match, and the two whole searches,
 -- by the counted walk and by plain backtracking, which take starts, write matches and answer by the same rules.
-use mathlib.Core.List.{List, [], _∷_, _++_}
+use mathlib.Core.List.{List, [], _∷_, _++_, map}
 use mathlib.Core.Bool.{Bool, true, false}
 use mathlib.Core.Option.{Option, none, some}
 use Prim.Native.Nat.{ℕ, zero, suc, _+_}
@@ -28,6 +28,17 @@ labelOf pEnd ls = ls
 unfoldable pub labels : List Place → List ℕ → List ℕ
 labels pl [] = []
 labels pl (x ∷ p) = labelOf (getD pl (placeOf (length pl) x) (pFork [])) (labels pl p)
+
+-- the start and the labels of a match, of each match, and of the match that does not fit
+abbrev pub shownOne : List Place → Match → ℕ × List ℕ
+shownOne pl m = (m .start, labels pl (m .path))
+
+abbrev pub shown : List Place → List Match → List (ℕ × List ℕ)
+shown pl ms = map (shownOne pl) ms
+
+abbrev pub shownFull : List Place → Option Match → Option (ℕ × List ℕ)
+shownFull pl none = none
+shownFull pl (some m) = some (shownOne pl m)
 
 -- the position at which a path ends, behind the last row of its match
 abbrev pub lastOf : ℕ → List ℕ → ℕ
@@ -100,6 +111,10 @@ walkAt ways K first i st = answered (enterUnless (getD (st .0) (first i) false) 
 abbrev pub plainAt : (ℕ → Ways) → ℕ → (ℕ → ℕ) → ℕ → Unit {0} → Option (List ℕ) × Unit {0}
 plainAt ways K first i st = (plain ways K (first i), tt)
 
+-- The preferred match at a start is the first success of plain backtracking.
+abbrev pub plainFrom : (ℕ → ℕ → Bool) → ℕ → List Place → ℕ → Option (List ℕ)
+plainFrom holds n pl i = plain (pairWays holds n pl) (pairs (length pl) n) (firstAt (length pl) i)
+
 -- ---- the two searches
 
 unfoldable pub planOf : List Place → ℕ → Bool → (ℕ → ℕ → List ℕ → Bool) → Plan
@@ -134,3 +149,8 @@ fullOf (some m) = m ∷ []
 
 abbrev pub foundIn : {S : Type 0} → Swept S → List Match
 foundIn r = r .matches ++ fullOf (r .full)
+
+-- the pairs on all paths found, path by path; a pair on two paths counts twice
+abbrev pub pathPairs : List Match → ℕ
+pathPairs [] = 0
+pathPairs (m ∷ ms) = length (m .path) + pathPairs ms

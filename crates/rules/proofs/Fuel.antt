@@ -1,0 +1,134 @@
+-- The bounds on depth and attempts in the definitions of plain backtracking, the counted walk and the search are large enough: over a graph whose
+-- ways fall in rank, and so for every legal pattern, a larger bound gives the same. And no path is longer than the number of pairs.
+use mathlib.Core.Path.{_≡_, refl, ap}
+use mathlib.Core.List.{List, [], _∷_}
+use mathlib.Core.Bool.{Bool, true, false}
+use mathlib.Core.Option.{Option, none, some}
+use Prim.Native.Nat.{ℕ, zero, suc, _+_, _≤_, _<_}
+use native.Mathlib.Nat.{le-trans, not-suc-le-zero}
+use native.Mathlib.Omega.{arith}
+use lib.ListN.{length, getD, replicate}
+use lib.Dec.{ltb}
+use borrow.Author.Tests.{le-ltb}
+use Rattle.rules.specs.Places.{Unrolled, Place, places}
+use Rattle.rules.specs.Search.{Match, Swept, Plan, below, byFit, onAnswer, sweep, answered, walkAt, plainAt, endOf, planOf, walkSearch, plainSearch}
+use Rattle.rules.specs.Walk.{IsPath, here, there, Ways, accept, try, pairs, firstAt, pairWays, plain, Outcome, found, failed, orElse, close, enterUnless, tries, inside, insideBy}
+use Rattle.rules.proofs.Level.{legal}
+use Rattle.rules.proofs.Plain.{plain-fuel}
+use Rattle.rules.proofs.PatternWalk.{falls, top}
+use Rattle.rules.proofs.Rank.{rank}
+use Rattle.rules.proofs.Starts.{next-on}
+use Rattle.rules.proofs.Walk.{All, All-map, All-at, Falls}
+
+-- ---- the counted walk
+
+tries-same : (f g : List Bool → ℕ → ℕ → Outcome) (ys : List ℕ) → All (λ y. (F : List Bool) (s : ℕ) → f F s y ≡ g F s y) ys
+    → (F : List Bool) (s : ℕ) → tries f F s ys ≡ tries g F s ys
+unfolding tries
+tries-same f g [] a F s = refl
+tries-same f g (y ∷ ys) a F s = rw (enter (getD F y false)) (after (tries-same f g ys (a .1)) (enterUnless (getD F y false) g F s y))
+  where
+    enter : (t : Bool) → enterUnless t f F s y ≡ enterUnless t g F s y
+    enter true = refl
+    enter false = a .0 F (suc s)
+
+    after : ((F : List Bool) (s : ℕ) → tries f F s ys ≡ tries g F s ys) → (r : Outcome) → orElse r (λ F′ s′. tries f F′ s′ ys) ≡ orElse r (λ F′ s′. tries g F′ s′ ys)
+    after ih (found p F′ s′) = refl
+    after ih (failed F′ s′) = ih F′ s′
+
+module _ (ways : ℕ → Ways) (ρ : ℕ → ℕ) (N : ℕ) (falls : Falls ways ρ N) where
+  -- any two bounds above the rank give the same, as `plain-fuel` says of plain backtracking
+  pub inside-fuel : (k l x : ℕ) → ρ x < k → ρ x < l → (F : List Bool) (s : ℕ) → inside ways k F s x ≡ inside ways l F s x
+  unfolding inside insideBy
+  inside-fuel zero l x h i F s = absurd (not-suc-le-zero h)
+  inside-fuel (suc k) zero x h i F s = absurd (not-suc-le-zero i)
+  inside-fuel (suc k) (suc l) x h i F s = go (λ y. inside-fuel k l y) (ways x) refl
+    where
+      go : ((y : ℕ) → ρ y < k → ρ y < l → (F : List Bool) (s : ℕ) → inside ways k F s y ≡ inside ways l F s y)
+          → (w : Ways) → ways x ≡ w → insideBy w (inside ways k) F s x ≡ insideBy w (inside ways l) F s x
+      go ih accept e = refl
+      go ih (try ys) e =
+          ap (close x) (tries-same (inside ways k) (inside ways l) ys
+          (All-map {Q = λ y. (F : List Bool) (s : ℕ) → inside ways k F s y ≡ inside ways l F s y}
+          (λ y (r : (ρ y < ρ x) × (x < N → y < N)). ih y (omega arith) (omega arith)) ys (falls x ys e)) F s)
+
+  -- a path has at most as many pairs as its first pair's rank and one more
+  pub path-length : {x : ℕ} {p : List ℕ} → IsPath ways x p → length p ≤ suc (ρ x)
+  path-length (here e) = omega arith
+  path-length {x} (there {y = y} {ys = ys} e m h) = omega (arith, path-length h, All-at (λ y. (ρ y < ρ x) × (x < N → y < N)) m (falls x ys e) .0)
+
+-- ---- the search
+
+module _ {S : Type 0} (att alt : ℕ → S → Option (List ℕ) × S) (same : (i : ℕ) (st : S) → att i st ≡ alt i st) (plan : Plan) (on : (i : ℕ) (p : List ℕ) → i < plan .next i p) where
+  abbrev SameFrom : (ℕ → ℕ → ℕ → S → Swept S) → (ℕ → ℕ → ℕ → S → Swept S) → ℕ → Type 0
+  SameFrom f g i = (j m l : ℕ) (st : S) → i < j → f j m l st ≡ g j m l st
+
+  same-fit : (m : Match) (st : S) (f g : Unit {0} → Swept S) → f tt ≡ g tt → (t : Bool) → byFit t m st f ≡ byFit t m st g
+  same-fit m st f g e false = refl
+  same-fit m st f g e true = rw e
+
+  same-answer : (f g : ℕ → ℕ → ℕ → S → Swept S) (i : ℕ) → SameFrom f g i → (m l : ℕ) (o : Option (List ℕ)) (st : S) → onAnswer plan f i m l o st ≡ onAnswer plan g i m l o st
+  same-answer f g i e m l none st = e (suc i) m l st (omega arith)
+  same-answer f g i e m l (some p) st = same-fit (record { start = i; path = p }) st _ _ (e (plan .next i p) (suc m) (l + plan .rows p) st (on i p)) (plan .fits m l p)
+
+  same-below : (f g : Unit {0} → Swept S) (st : S) → f tt ≡ g tt → (t : Bool) → below t st f ≡ below t st g
+  same-below f g st e false = refl
+  same-below f g st e true = e
+
+  -- attempts that are the same, with any two bounds that reach the last row
+  pub sweep-fuel : (k h i m l : ℕ) (st : S) → plan .n ≤ i + k → plan .n ≤ i + h → sweep att plan k i m l st ≡ sweep alt plan h i m l st
+  unfolding sweep
+  sweep-fuel zero zero i m l st a b = refl
+  sweep-fuel zero (suc h) i m l st a b = rw (le-ltb i (plan .n) (omega arith))
+  sweep-fuel (suc k) zero i m l st a b = rw (le-ltb i (plan .n) (omega arith))
+  sweep-fuel (suc k) (suc h) i m l st a b =
+      rw (same i st) (same-below _ _ st
+      (same-answer (sweep att plan k) (sweep alt plan h) i (λ j m′ l′ st′ r. sweep-fuel k h j m′ l′ st′ (omega arith) (omega arith)) m l (alt i st .0) (alt i st .1))
+      (ltb i (plan .n)))
+
+-- more attempts than there are rows change nothing
+pub sweep-enough : {S : Type 0} (att : ℕ → S → Option (List ℕ) × S) (plan : Plan) → ((i : ℕ) (p : List ℕ) → i < plan .next i p)
+    → (k i m l : ℕ) (st : S) → plan .n ≤ k → sweep att plan k i m l st ≡ sweep att plan (plan .n) i m l st
+sweep-enough att plan on k i m l st h = sweep-fuel att att (λ i st. refl) plan on k (plan .n) i m l st (omega arith) (omega arith)
+
+-- in both skip modes the next start lies behind
+pub plan-on : (pl : List Place) (n : ℕ) (mode : Bool) (fits : ℕ → ℕ → List ℕ → Bool) (i : ℕ) (p : List ℕ) → i < planOf pl n mode fits .next i p
+unfolding planOf
+plan-on pl n mode fits i p = next-on mode i (endOf (length pl) p)
+
+-- ---- a legal pattern: the number of pairs is enough
+
+module _ (t : Unrolled) (g : legal t ≡ true) (holds : ℕ → ℕ → Bool) (n : ℕ) where
+  abbrev P : ℕ
+  P = length (places t)
+
+  pub plain-enough : (K : ℕ) → pairs P n ≤ K → (x : ℕ) → plain (pairWays holds n (places t)) K x ≡ plain (pairWays holds n (places t)) (pairs P n) x
+  plain-enough K h x = plain-fuel (pairWays holds n (places t)) (rank t n) (pairs P n) (falls t g holds n) K (pairs P n) x (le-trans (top t g holds n x) h) (top t g holds n x)
+
+  pub inside-enough : (K : ℕ) → pairs P n ≤ K → (F : List Bool) (s x : ℕ) → inside (pairWays holds n (places t)) K F s x ≡ inside (pairWays holds n (places t)) (pairs P n) F s x
+  inside-enough K h F s x = inside-fuel (pairWays holds n (places t)) (rank t n) (pairs P n) (falls t g holds n) K (pairs P n) x (le-trans (top t g holds n x) h) (top t g holds n x) F s
+
+  -- no path is longer
+  pub path-short : (x : ℕ) (p : List ℕ) → IsPath (pairWays holds n (places t)) x p → length p ≤ pairs P n
+  path-short x p h = omega (arith, top t g holds n x, path-length (pairWays holds n (places t)) (rank t n) (pairs P n) (falls t g holds n) h)
+
+  -- the whole searches, with any larger bounds
+  module _ (mode : Bool) (fits : ℕ → ℕ → List ℕ → Bool) (K k : ℕ) (h : pairs P n ≤ K) (l : n ≤ k) where
+    pub plain-search-enough : sweep (plainAt (pairWays holds n (places t)) K (firstAt P)) (planOf (places t) n mode fits) k 0 0 0 tt ≡ plainSearch holds n (places t) mode fits
+    unfolding plainSearch planOf
+    plain-search-enough =
+        sweep-fuel (plainAt (pairWays holds n (places t)) K (firstAt P)) (plainAt (pairWays holds n (places t)) (pairs P n) (firstAt P))
+        (λ i st. rw (plain-enough K h (firstAt P i))) (planOf (places t) n mode fits) (plan-on (places t) n mode fits) k n 0 0 0 tt (omega arith) (omega arith)
+
+    pub walk-search-enough : sweep (walkAt (pairWays holds n (places t)) K (firstAt P)) (planOf (places t) n mode fits) k 0 0 0 (replicate (pairs P n) false, 0)
+        ≡ walkSearch holds n (places t) mode fits
+    unfolding walkSearch planOf
+    walk-search-enough =
+        sweep-fuel (walkAt (pairWays holds n (places t)) K (firstAt P)) (walkAt (pairWays holds n (places t)) (pairs P n) (firstAt P))
+        (λ i st. ap answered (go i (st .0) (st .1) (getD (st .0) (firstAt P i) false))) (planOf (places t) n mode fits) (plan-on (places t) n mode fits) k n 0 0 0
+        (replicate (pairs P n) false, 0) (omega arith) (omega arith)
+      where
+        go : (i : ℕ) (F : List Bool) (s : ℕ) (b : Bool)
+            → enterUnless b (inside (pairWays holds n (places t)) K) F s (firstAt P i) ≡ enterUnless b (inside (pairWays holds n (places t)) (pairs P n)) F s (firstAt P i)
+        go i F s true = refl
+        go i F s false = inside-enough K h F (suc s) (firstAt P i)

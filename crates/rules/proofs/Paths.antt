@@ -1,0 +1,27 @@
+-- Paths of a legal pattern: from a pair that has a path plain backtracking finds one, and a pair that the counted walk keeps as failed has none, so
+-- no reading of the rest begins there.
+use mathlib.Core.Path.{_≡_}
+use mathlib.Core.List.{List}
+use mathlib.Core.Bool.{Bool, true}
+use mathlib.Core.Logic.{_≢_}
+use mathlib.Core.Option.{none}
+use Prim.Native.Nat.{ℕ}
+use lib.ListN.{length}
+use Rattle.rules.specs.Places.{Unrolled, places}
+use Rattle.rules.specs.Search.{walkSearch}
+use Rattle.rules.specs.Walk.{IsPath, pairs, pairWays, plain}
+use Rattle.rules.proofs.Bound.{plain-complete}
+use Rattle.rules.proofs.Level.{legal}
+use Rattle.rules.proofs.PatternWalk.{top, falls, walk-plain}
+use Rattle.rules.proofs.Rank.{rank}
+use Rattle.rules.proofs.Walk.{In}
+
+module _ (t : Unrolled) (g : legal t ≡ true) (holds : ℕ → ℕ → Bool) (n : ℕ) where
+  -- from a pair that has a path plain backtracking finds one
+  pub path-found : {x : ℕ} {p : List ℕ} → IsPath (pairWays holds n (places t)) x p → plain (pairWays holds n (places t)) (pairs (length (places t)) n) x ≢ none
+  path-found h =
+      plain-complete (pairWays holds n (places t)) (rank t n) (pairs (length (places t)) n) (falls t g holds n) (pairs (length (places t)) n) (top t g holds n) h
+
+  pub failed-no-path : (mode : Bool) (fits : ℕ → ℕ → List ℕ → Bool) (x : ℕ) → In (walkSearch holds n (places t) mode fits .state .0) x
+      → (p : List ℕ) → IsPath (pairWays holds n (places t)) x p → ⊥
+  failed-no-path mode fits x i p h = path-found h (walk-plain t g holds n mode fits .state x i)

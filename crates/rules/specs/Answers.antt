@@ -1,0 +1,267 @@
+-- Document 01, "Report", the table of answers: a test for each of 1 to 13 over the whole input, the lowest that applies, and from it the result
+-- and the later content of all four lent buffers, as one function of all that goes in.
+use mathlib.Core.Bool.{Bool, true, false, not, _||_}
+use mathlib.Core.List.{List, [], _∷_, _++_}
+use mathlib.Core.Option.{Option, none, some}
+use Prim.Native.Nat.{ℕ, suc, _+_, _%_}
+use lib.Dec.{ltb, eqb}
+use lib.IntN.{ℤ}
+use lib.ListN.{length}
+use Rattle.rules.specs.Basics.{pick, inRange, every, has, wrote}
+use Rattle.rules.specs.Rows.{Table, tableOf, Comparison, holds}
+use Rattle.rules.specs.Query.{cut, misplaced, unfit, doubled, columnsOf, textOf, Measure, parts}
+use Rattle.rules.specs.Language.{Tree, pattern, emptyLoop, letters}
+use Rattle.rules.specs.Reader.{treeOf}
+use Rattle.rules.specs.Places.{Place, unroll, places, placesOf}
+use Rattle.rules.specs.Walk.{pairs}
+use Rattle.rules.specs.Search.{Match, Swept, Kept, walkSearch, plainSearch}
+use Rattle.rules.specs.Report.{numbersOf, labelsOf, fits, bytesFor, notesOf, zeros}
+
+-- ---- the pattern's answers
+
+-- Answer 4: the parentheses opened less those closed pass 8 at some byte; o were opened and c closed before. Any bytes are counted, also those
+-- of a text outside the language.
+unfoldable pub deep : ℕ → ℕ → List ℕ → Bool
+deep o c [] = false
+deep o c (b ∷ s) =
+    pick (ltb (pick (eqb b 41) (c + 1) c + 8) (pick (eqb b 40) (o + 1) o)) true (deep (pick (eqb b 40) (o + 1) o) (pick (eqb b 41) (c + 1) c) s)
+
+unfoldable pub tooDeep : List ℕ → Bool
+unfolding deep textOf
+tooDeep q = deep 0 0 (textOf q)
+
+-- the tree of the query's pattern, if its text is in the language
+unfoldable pub treeIn : List ℕ → Option (Tree pattern)
+unfolding treeOf textOf
+treeIn q = treeOf (textOf q)
+
+-- Answer 5: the text is outside the pattern language
+unfoldable pub noTree : Option (Tree pattern) → Bool
+noTree none = true
+noTree (some t) = false
+
+-- Answer 6: an unbounded quantifier over a body that can take no row
+unfoldable pub hasEmptyLoop : Option (Tree pattern) → Bool
+unfolding emptyLoop
+hasEmptyLoop none = false
+hasEmptyLoop (some t) = emptyLoop t
+
+-- P, and answer 7: P above 256
+unfoldable pub P : Option (Tree pattern) → ℕ
+unfolding placesOf
+P none = 0
+P (some t) = placesOf t
+
+unfoldable pub tooMany : Option (Tree pattern) → Bool
+unfolding P
+tooMany t = ltb 256 (P t)
+
+-- Answer 9: a measure's letter is not in the pattern
+unfoldable pub lettersIn : Option (Tree pattern) → List ℕ
+unfolding letters
+lettersIn none = []
+lettersIn (some t) = letters t
+
+unfoldable pub foreign : List ℕ → Bool
+unfolding lettersIn treeIn parts every has
+foreign q = not (every (λ (m : Measure). eqb (m .letter) 0 || has (m .letter) (lettersIn (treeIn q))) (parts q .measures))
+
+-- ---- the rows' answer
+
+-- Answer 10: the row slice is not whole rows, or n is above 4,096
+unfoldable pub badRows : List ℕ → List ℤ → Bool
+unfolding columnsOf tableOf
+badRows q rows = not (eqb (length rows % columnsOf q) 0) || ltb 4096 (tableOf (columnsOf q) rows .n)
+
+-- ---- the search that a query asks for
+
+-- the rows, the places, the letters' comparisons, the skip mode and the measures of a search
+pub record Task : Type 0 where
+  pub table : Table
+  pub places : List Place
+  pub comparisons : ℕ → List Comparison
+  pub mode : Bool
+  pub measures : List Measure
+
+unfoldable pub placesIn : Option (Tree pattern) → List Place
+unfolding unroll places
+placesIn none = []
+placesIn (some t) = places (unroll t)
+
+unfoldable pub taskOf : List ℕ → List ℤ → Task
+unfolding treeIn placesIn tableOf parts
+taskOf q rows =
+    record {
+      table = tableOf (parts q .columns) rows;
+      places = placesIn (treeIn q);
+      comparisons = parts q .comparisons;
+      mode = eqb (parts q .skip) 1;
+      measures = parts q .measures;
+    }
+
+-- whether letter c holds at row i
+unfoldable pub letterHolds : Task → ℕ → ℕ → Bool
+unfolding holds
+letterHolds t c i = holds (t .table) i (t .comparisons c)
+
+-- the search by the counted walk, and by plain backtracking, for so many report numbers and label bytes
+unfoldable pub walked : Task → ℕ → ℕ → Swept Kept
+unfolding walkSearch letterHolds fits
+walked t nums labs = walkSearch (letterHolds t) (t .table .n) (t .places) (t .mode) (fits nums labs (t .measures))
+
+unfoldable pub backtracked : Task → ℕ → ℕ → Swept (Unit {0})
+unfolding plainSearch letterHolds fits
+backtracked t nums labs = plainSearch (letterHolds t) (t .table .n) (t .places) (t .mode) (fits nums labs (t .measures))
+
+-- ---- the answer
+
+-- the lent buffers: notes (bytes), trail (32-bit numbers), report numbers (signed, 64 bits) and label bytes
+pub record Buffers : Type 0 where
+  pub notes : List ℕ
+  pub trail : List ℕ
+  pub numbers : List ℤ
+  pub labels : List ℕ
+
+-- how many pairs a query has on these rows
+unfoldable pub pairsOf : List ℕ → List ℤ → ℕ
+unfolding P treeIn tableOf columnsOf
+pairsOf q rows = pairs (P (treeIn q)) (tableOf (columnsOf q) rows .n)
+
+-- Answers 11 and 12: notes, or trail, too short
+unfoldable pub shortNotes : List ℕ → List ℤ → Buffers → Bool
+unfolding pairsOf bytesFor
+shortNotes q rows lent = ltb (length (lent .notes)) (bytesFor (pairsOf q rows))
+
+unfoldable pub shortTrail : List ℕ → List ℤ → Buffers → Bool
+unfolding pairsOf
+shortTrail q rows lent = ltb (length (lent .trail)) (pairsOf q rows)
+
+-- Answer 13: stopped, since the next match does not fit whole in numbers or labels
+unfoldable pub stopped : {S : Type 0} → Swept S → Bool
+stopped r = isFull (r .full)
+  where
+    isFull : Option Match → Bool
+    isFull none = false
+    isFull (some m) = true
+
+-- the number of the first test that is true, the tests being numbered from k; 0 if none is
+unfoldable pub lowest : ℕ → List Bool → ℕ
+lowest k [] = 0
+lowest k (b ∷ bs) = pick b k (lowest (suc k) bs)
+
+-- the tests for answers 1 to 9, which ask the query alone
+unfoldable pub queryTests : List ℕ → List Bool
+unfolding cut misplaced unfit tooDeep treeIn noTree hasEmptyLoop tooMany doubled foreign
+queryTests q =
+    cut q
+    ∷ misplaced q
+    ∷ unfit q
+    ∷ tooDeep q
+    ∷ noTree (treeIn q)
+    ∷ hasEmptyLoop (treeIn q)
+    ∷ tooMany (treeIn q)
+    ∷ doubled q
+    ∷ foreign q
+    ∷ []
+
+-- The lowest number that applies is given; each is judged over the whole query. The search is the one that is asked for, by either walk.
+unfoldable pub answerBy : {S : Type 0} → List ℕ → List ℤ → Buffers → Swept S → ℕ
+unfolding lowest queryTests badRows shortNotes shortTrail stopped
+answerBy q rows lent r = lowest 1 (queryTests q ++ (badRows q rows ∷ shortNotes q rows lent ∷ shortTrail q rows lent ∷ stopped r ∷ []))
+
+-- ---- the result and the buffers
+
+-- what a search reports: the answer, the matches and labels written, and both report buffers, which hold what each match written appends and are
+-- unchanged beyond
+pub record Report : Type 0 where
+  pub answer : ℕ
+  pub matches : ℕ
+  pub labels : ℕ
+  pub numbers : List ℤ
+  pub labelBytes : List ℕ
+
+unfoldable pub reportOf : {S : Type 0} → ℕ → Task → Buffers → Swept S → Report
+unfolding numbersOf labelsOf wrote
+reportOf a t lent r =
+    record {
+      answer = a;
+      matches = length (r .matches);
+      labels = length (labelsOf (t .places) (r .matches));
+      numbers = wrote (lent .numbers) 0 (numbersOf (t .table) (t .measures) (t .places) 0 (r .matches));
+      labelBytes = wrote (lent .labels) 0 (labelsOf (t .places) (r .matches));
+    }
+
+pub record Result : Type 0 where
+  pub answer : ℕ
+  pub matches : ℕ
+  pub labels : ℕ
+  pub steps : ℕ
+
+pub record Memory : Type 0 where
+  pub result : Result
+  pub buffers : Buffers
+
+-- 1 to 12 return the number and zeros and change no buffer
+unfoldable pub refused : ℕ → Buffers → Memory
+refused a lent = record { result = record { answer = a; matches = 0; labels = 0; steps = 0 }; buffers = lent }
+
+-- 0 and 13 return the answer, the counts and the steps. The notes hold the failed pairs, the trail a 0 for each pair; beyond, both are unchanged.
+unfoldable pub accepted : Report → Kept → Buffers → Memory
+unfolding notesOf zeros wrote
+accepted r kept lent =
+    record {
+      result = record { answer = r .answer; matches = r .matches; labels = r .labels; steps = kept .1 };
+      buffers = record {
+        notes = wrote (lent .notes) 0 (notesOf (kept .0));
+        trail = wrote (lent .trail) 0 (zeros (length (kept .0)));
+        numbers = r .numbers;
+        labels = r .labelBytes;
+      };
+    }
+
+-- the search that an input asks for, by the counted walk, and the same by plain backtracking
+unfoldable pub walkOf : List ℕ → List ℤ → Buffers → Swept Kept
+unfolding taskOf walked
+walkOf q rows lent = walked (taskOf q rows) (length (lent .numbers)) (length (lent .labels))
+
+unfoldable pub plainOf : List ℕ → List ℤ → Buffers → Swept (Unit {0})
+unfolding taskOf backtracked
+plainOf q rows lent = backtracked (taskOf q rows) (length (lent .numbers)) (length (lent .labels))
+
+-- the answer to an input, and what it reports; and the report of the same search by plain backtracking
+unfoldable pub answerOf : List ℕ → List ℤ → Buffers → ℕ
+unfolding answerBy walkOf
+answerOf q rows lent = answerBy q rows lent (walkOf q rows lent)
+
+unfoldable pub walkReport : List ℕ → List ℤ → Buffers → Report
+unfolding reportOf answerOf walkOf taskOf
+walkReport q rows lent = reportOf (answerOf q rows lent) (taskOf q rows) lent (walkOf q rows lent)
+
+unfoldable pub plainReport : List ℕ → List ℤ → Buffers → Report
+unfolding reportOf answerBy plainOf taskOf
+plainReport q rows lent = reportOf (answerBy q rows lent (plainOf q rows lent)) (taskOf q rows) lent (plainOf q rows lent)
+
+-- The search: from the query, the rows and the lent buffers to the result and the buffers as it leaves them.
+unfoldable pub searchOf : List ℕ → List ℤ → Buffers → Memory
+unfolding answerOf refused accepted walkReport walkOf inRange
+searchOf q rows lent =
+    pick (inRange 1 12 (answerOf q rows lent)) (refused (answerOf q rows lent) lent) (accepted (walkReport q rows lent) (walkOf q rows lent .state) lent)
+
+-- ---- how much to lend
+
+-- `room`: the answer 1 to 10 that a query and rows get whatever is lent, or 0; and where it is 0, P and n
+pub record Room : Type 0 where
+  pub answer : ℕ
+  pub places : ℕ
+  pub rows : ℕ
+
+unfoldable pub roomAnswer : List ℕ → Bool → ℕ
+unfolding lowest queryTests
+roomAnswer q bad = lowest 1 (queryTests q ++ (bad ∷ []))
+
+unfoldable pub roomOf : List ℕ → List ℤ → Room
+unfolding roomAnswer badRows treeIn P tableOf columnsOf
+roomOf q rows =
+    pick (eqb (roomAnswer q (badRows q rows)) 0)
+    (record { answer = 0; places = P (treeIn q); rows = tableOf (columnsOf q) rows .n })
+    (record { answer = roomAnswer q (badRows q rows); places = 0; rows = 0 })
