@@ -1,6 +1,6 @@
 -- Laws of a text's bytes and quantifiers: each is one way through one function of the module marks.
 use mathlib.Core.Path.{_≡_, refl, sym, ap, _∙_, subst}
-use mathlib.Core.Bool.{Bool, true, false, _&&_, true≢false, false≢true}
+use mathlib.Core.Bool.{Bool, true, false, true≢false}
 use mathlib.Core.List.{List, [], _∷_}
 use mathlib.Core.Option.{Option, none, some}
 use Prim.Native.Nat.{ℕ, zero, suc, _+_, _*_, _-_, _≤_, _<_}
@@ -13,6 +13,7 @@ use borrow.Author.Tests.{le-leb, lt-leb, eq-eqb, ne-eqb, leb-true, leb-false}
 use Rattle.rules.specs.Basics.{pick, isLetter}
 use Rattle.rules.specs.Language.{Form, star, plus, opt, exactly, atLeast, atMost, between, lower, upper}
 use Rattle.rules.specs.Reader.{Reading, got, bad, peek, rest, skip, isDigit, number, bounded, Marked, unmarked, broken, marked, reluctant, shut, upTo, from, braces, quantifier}
+use Rattle.rules.proofs.GrammarSound.{in-range}
 use Rattle.pattern.specs.Shows.{codeOf, highest, highOf, Codes, boundedBy, Numbered, SaysNumber, Numeral, ShowsMark, Shows}
 use Rattle.pattern.specs.declared.marks.Mark.{Mark}
 use Rattle.pattern.specs.declared.marks.Mark.the-variants.{Unmarked, Broken, Found}
@@ -72,10 +73,6 @@ skip-less s to b eb e = let l = inside s to 32 (omega arith) (sym eb ∙ e) in o
 
 -- ---- letters, digits
 
-both : (t u : Bool) → (t && u) ≡ true → (t ≡ true) × (u ≡ true)
-both true u e = (refl, e)
-both false u e = absurd (false≢true e)
-
 pub letter-low : (b : ℕ) → b < 65 → false ≡ isLetter b
 unfolding isLetter
 letter-low b h = simp (lt-leb 65 b h)
@@ -94,11 +91,11 @@ digit-high b h = simp (le-leb 48 b h)
 
 pub digits-from : (b v : ℕ) (d : Bool) → d ≡ isDigit b → d ≡ true → v ≡ b → 48 ≤ v
 unfolding isDigit
-digits-from b v d ed e ev = let h = both (leb 48 b) (leb b 57) (sym ed ∙ e) in let l = leb-true 48 b (h .0) in omega arith
+digits-from b v d ed e ev = omega (arith, in-range 48 57 b (sym ed ∙ e))
 
 digits-to : (b : ℕ) (d : Bool) → d ≡ isDigit b → d ≡ true → b ≤ 57
 unfolding isDigit
-digits-to b d ed e = let h = both (leb 48 b) (leb b 57) (sym ed ∙ e) in leb-true b 57 (h .1)
+digits-to b d ed e = (in-range 48 57 b (sym ed ∙ e)) .1
 
 -- ---- numbers
 

@@ -20,8 +20,9 @@ use Rattle.pattern.specs.declared.marks.Mark.{Mark}
 use Rattle.pattern.specs.declared.marks.Mark.the-variants.{Unmarked, Broken, Found}
 use Rattle.pattern.proofs.MarkLaws.{inside, rest-drop}
 use Rattle.pattern.specs.Nodes.{putNode, Small}
-use Rattle.pattern.proofs.Fine.{pick-both, marked-in}
-use Rattle.pattern.proofs.RoundLaws.{form-order, rounds-eq, cap-rounds}
+use Rattle.rules.proofs.GrammarSound.{pick-both, marked-in}
+use Rattle.rules.proofs.Counting.{cap-rounds}
+use Rattle.pattern.proofs.RoundLaws.{form-order, rounds-eq}
 use Rattle.pattern.proofs.Put.{put-other, put-length}
 use Rattle.pattern.specs.declared.nodes.Sort.{Sort}
 use Rattle.pattern.specs.declared.nodes.Sort.the-variants.{Letter, Anchor, Empty, Sequence, Alternation, Group}
@@ -51,12 +52,12 @@ kept-put s t i n e j f = ap (λ (u : List ℕ). getD u j 0) e ∙ put-other s i 
 
 -- ---- join
 
-pub join-small : (m : List ℕ) (a b : Step) (k : Sort) (h q : ℕ) (n : Node) → Joins m a b → h ≡ max (a .height) (b .height) → q ≡ min 257 (a .places + b .places)
+pub join-small : (m : List ℕ) (a b : Step) (k : Sort) (h q : ℕ) (n : Node) → Joins m a b → h ≡ max (a .height) (b .height) → q ≡ min (a .places + b .places) 257
     → n ≡ plain k (a .count - 1) (b .count - 1) (h + 1) q → Small n
 join-small m a b k h q n j eh eq en =
     rw en (record { form = omega arith; low = omega arith; high = omega arith; left = omega (arith, j .right, j .few); right = omega (arith, j .few); height = omega (arith, j .low-left, j .low-right); places = omega arith })
 
-pub join-is : (m t : List ℕ) (a b : Step) (k : Sort) (f h q : ℕ) (n : Node) → h ≡ max (a .height) (b .height) → q ≡ min 257 (a .places + b .places) → n ≡ plain k (a .count - 1) (b .count - 1) (h + 1) q
+pub join-is : (m t : List ℕ) (a b : Step) (k : Sort) (f h q : ℕ) (n : Node) → h ≡ max (a .height) (b .height) → q ≡ min (a .places + b .places) 257 → n ≡ plain k (a .count - 1) (b .count - 1) (h + 1) q
     → t ≡ putNode m (b .count) n → Joined m t k f a b (record { ok = true; at = b .at; count = b .count + 1; height = h + 1; places = q; forks = f })
 join-is m t a b k f h q n eh eq en et = record { is = rw (eh, eq) refl; wrote = et ∙ ap (putNode m (b .count)) (en ∙ rw (eh, eq) refl) }
 
@@ -95,7 +96,7 @@ module _ (s m : List ℕ) (p : Head) (q : Mark) where
     abbrev Marking : Node
     Marking = record { sort = p .node .sort; form = form; lazy = lazy; low = low; high = high; left = p .node .left; right = p .node .right; height = p .node .height; places = q2 }
 
-    pub finish-found : (t : List ℕ) (r : Step) → q2 ≡ min 257 (roundsOf low high (p .node .places)) → Shows s (p .at) q (quantifier (drop (p .at) s)) → q ≡ Found form low high lazy to
+    pub finish-found : (t : List ℕ) (r : Step) → q2 ≡ min (roundsOf low high (p .node .places)) 257 → Shows s (p .at) q (quantifier (drop (p .at) s)) → q ≡ Found form low high lazy to
         → (r ≡ stepTo to p q2) × (t ≡ putNode m (p .count) (record { sort = p .node .sort; form = form; lazy = lazy; low = low; high = high; left = p .node .left; right = p .node .right; height = p .node .height; places = q2 })) → Finished s m t p r
     unfolding Shows FinishedAs
     finish-found t r eq h e g = record { ends = by (quantifier (drop (p .at) s)) refl h }
@@ -110,9 +111,9 @@ module _ (s m : List ℕ) (p : Head) (q : Mark) where
             let e3 : high ≡ highOf f = cc in
             let e4 : lazy ≡ z = cc in
             let e5 : to ≡ h .to = cc in
-            let e6 : q2 ≡ min 257 (roundPlaces (lower f) (upper f) (p .node .places)) =
-                eq ∙ ap (λ (x : ℕ). min 257 (roundsOf x high (p .node .places))) e2 ∙ ap (λ (x : ℕ). min 257 (roundsOf (lower f) x (p .node .places))) e3
-                ∙ ap (min 257) (rounds-eq f (p .node .places) (marked-in (drop (p .at) s) f z u d)) in
+            let e6 : q2 ≡ min (roundPlaces (lower f) (upper f) (p .node .places)) 257 =
+                eq ∙ ap (λ (x : ℕ). min (roundsOf x high (p .node .places)) 257) e2 ∙ ap (λ (x : ℕ). min (roundsOf (lower f) x (p .node .places)) 257) e3
+                ∙ ap (λ (x : ℕ). min x 257) (rounds-eq f (p .node .places) (marked-in (drop (p .at) s) f z u d)) in
             record {
               to = to;
               is = g .0 ∙ ap (stepTo to p) e6;
@@ -122,7 +123,7 @@ module _ (s m : List ℕ) (p : Head) (q : Mark) where
               wrote = g .1 ∙ rw (e1, e2, e3, e4, e6) refl;
             }
 
-    pub mark-holding : q2 ≡ min 257 (roundsOf low high (p .node .places)) → FitsHead s m p → Shows s (p .at) q (quantifier (drop (p .at) s)) → q ≡ Found form low high lazy to
+    pub mark-holding : q2 ≡ min (roundsOf low high (p .node .places)) 257 → FitsHead s m p → Shows s (p .at) q (quantifier (drop (p .at) s)) → q ≡ Found form low high lazy to
         → Holding m (p .count) (record { sort = p .node .sort; form = form; lazy = lazy; low = low; high = high; left = p .node .left; right = p .node .right; height = p .node .height; places = q2 })
     unfolding Shows
     mark-holding eq w h e = by (quantifier (drop (p .at) s)) refl h
@@ -245,7 +246,7 @@ module _ (s : List ℕ) (p : Step) where
     pub shut-open : (r : Head) → (b ≡ 41 → ⊥) → r .ok ≡ false → ShutIs s p r
     shut-open r nb er = record { unread = λ x. er; open-still = λ x y. er; shuts = λ x y. absurd (nb (eb ∙ y)) }
 
-    pub shut-whole : (to q : ℕ) (n : Node) → b ≡ 41 → SkipTo s (p .at + 1) to → q ≡ min 257 (p .forks + p .places) → n ≡ plain Group (p .count - 1) 0 (p .height + 1) q → ShutIs s p (record { ok = true; at = to; count = p .count; node = n })
+    pub shut-whole : (to q : ℕ) (n : Node) → b ≡ 41 → SkipTo s (p .at + 1) to → q ≡ min (p .forks + p .places) 257 → n ≡ plain Group (p .count - 1) 0 (p .height + 1) q → ShutIs s p (record { ok = true; at = to; count = p .count; node = n })
     shut-whole to q n eb2 k eq en =
         record { unread = λ x. clash o x; open-still = λ x y. absurd (y (sym eb ∙ eb2)); shuts = λ x y. record { to = to; skips = k; is = rw (en, eq) refl } }
 
@@ -261,7 +262,7 @@ record Read (k : Rank) (s : List ℕ) (c : ℕ) (m t : List ℕ) (r : Step) (x :
   is : x ≡ got tree (drop (r .at) s)
   count : r .count ≡ c + nodeCount tree
   high : r .height ≡ height tree
-  placed : r .places ≡ min 257 (placeCount tree)
+  placed : r .places ≡ min (placeCount tree) 257
   forked : r .forks ≡ forkOf k tree
   wrote : t ≡ written tree c m
 
@@ -322,7 +323,7 @@ module _ (s : List ℕ) (at c : ℕ) (m0 m1 m2 m3 : List ℕ) (a b w : Step) (to
       let e1 : w .at ≡ b .at = ap (λ (x : Step). x .at) (j .is) in
       let e2 : w .count ≡ b .count + 1 = ap (λ (x : Step). x .count) (j .is) in
       let e3 : w .height ≡ max (a .height) (b .height) + 1 = ap (λ (x : Step). x .height) (j .is) in
-      let e4 : w .places ≡ min 257 (a .places + b .places) = ap (λ (x : Step). x .places) (j .is) in
+      let e4 : w .places ≡ min (a .places + b .places) 257 = ap (λ (x : Step). x .places) (j .is) in
       let e5 : w .forks ≡ fk = ap (λ (x : Step). x .forks) (j .is) in
       record {
         on = omega (arith, o .on, q .on);
@@ -340,8 +341,8 @@ module _ (s : List ℕ) (at c : ℕ) (m0 m1 m2 m3 : List ℕ) (a b w : Step) (to
       (kept-on (8 * c) (room-of s at c) m1 m2 m3 (later s at c to (a .count) m1 m2 (omega (arith, o .on)) i (omega (arith, o .some)) (omega (arith, o .few)) k2)
       (kept-wide (8 * b .count) (8 * b .count + 8) (8 * c) (room-of s at c) m2 m3 (omega (arith, o .some, q .some)) (omega (arith, o .some, q .some, o .few, q .few, q .inside, o .on, q .on)) (kept-put m2 m3 (b .count) _ (j .wrote))))
 
-  joins-wrote : (v : List ℕ) (ca cb ha hb pa pb : ℕ) → a .count ≡ ca → b .count ≡ cb → a .height ≡ ha → b .height ≡ hb → a .places ≡ min 257 pa → b .places ≡ min 257 pb → m2 ≡ v → Joined m2 m3 k fk a b w → m3 ≡ putNode v cb (plain k (ca - 1) (cb - 1) (max ha hb + 1) (min 257 (pa + pb)))
-  joins-wrote v ca cb ha hb pa pb e1 e2 e3 e4 e6 e7 e5 j = let q : min 257 (a .places + b .places) ≡ min 257 (pa + pb) = omega arith in j .wrote ∙ rw (e1, e2, e3, e4, q, e5) refl
+  joins-wrote : (v : List ℕ) (ca cb ha hb pa pb : ℕ) → a .count ≡ ca → b .count ≡ cb → a .height ≡ ha → b .height ≡ hb → a .places ≡ min pa 257 → b .places ≡ min pb 257 → m2 ≡ v → Joined m2 m3 k fk a b w → m3 ≡ putNode v cb (plain k (ca - 1) (cb - 1) (max ha hb + 1) (min (pa + pb) 257))
+  joins-wrote v ca cb ha hb pa pb e1 e2 e3 e4 e6 e7 e5 j = let q : min (a .places + b .places) 257 ≡ min (pa + pb) 257 = omega arith in j .wrote ∙ rw (e1, e2, e3, e4, q, e5) refl
 
 -- ---- pattern
 
@@ -433,7 +434,7 @@ module _ (s : List ℕ) (at c : ℕ) (m0 m1 : List ℕ) (b : Step) (h : Reads br
               is = alt-two n (drop at s) _ _ (drop from s) _ (x .is) (sym ey ∙ is-bar) behind (y .is) ∙ ap (λ (i : ℕ). got (more (x .tree) (y .tree)) (drop i s)) (sym (ap (λ (t : Step). t .at) (j .is)));
               count = ap (λ (t : Step). t .count) (j .is) ∙ (let e1 = x .count in let e2 = y .count in let e3 : r .count + 1 ≡ c + (nodeCount (x .tree) + nodeCount (y .tree) + 1) = omega arith in e3);
               high = ap (λ (t : Step). t .height) (j .is) ∙ ap (λ (i : ℕ). max i (r .height) + 1) (x .high) ∙ ap (λ (i : ℕ). max (height (x .tree)) i + 1) (y .high);
-              placed = ap (λ (t : Step). t .places) (j .is) ∙ (let e1 = x .placed in let e2 = y .placed in let e3 : min 257 (b .places + r .places) ≡ min 257 (placeCount (x .tree) + placeCount (y .tree)) = omega arith in e3);
+              placed = ap (λ (t : Step). t .places) (j .is) ∙ (let e1 = x .placed in let e2 = y .placed in let e3 : min (b .places + r .places) 257 ≡ min (placeCount (x .tree) + placeCount (y .tree)) 257 = omega arith in e3);
               forked = ap (λ (t : Step). t .forks) (j .is);
               wrote = joins-wrote s at c m0 m1 m2 m3 b r z from Alternation 1 (written (y .tree) (c + nodeCount (x .tree)) (written (x .tree) c m0)) (c + nodeCount (x .tree)) (c + nodeCount (x .tree) + nodeCount (y .tree)) (height (x .tree)) (height (y .tree)) (placeCount (x .tree)) (placeCount (y .tree))
                   (x .count) (y .count ∙ ap (λ (i : ℕ). i + nodeCount (y .tree)) (x .count)) (x .high) (y .high) (x .placed) (y .placed)
@@ -521,7 +522,7 @@ module _ (s : List ℕ) (at c : ℕ) (m0 m1 : List ℕ) (b : Step) (h : Reads fa
             is = seq-two n (drop at s) _ _ _ (x .is) (ended-at y0 _ ey ∙ goes-on y0 n0 n1 n2) (y .is) ∙ ap (λ (i : ℕ). got (next (x .tree) (y .tree)) (drop i s)) (sym (ap (λ (t : Step). t .at) (j .is)));
             count = ap (λ (t : Step). t .count) (j .is) ∙ (let e1 = x .count in let e2 = y .count in let e3 : r .count + 1 ≡ c + (nodeCount (x .tree) + nodeCount (y .tree) + 1) = omega arith in e3);
             high = ap (λ (t : Step). t .height) (j .is) ∙ ap (λ (i : ℕ). max i (r .height) + 1) (x .high) ∙ ap (λ (i : ℕ). max (height (x .tree)) i + 1) (y .high);
-            placed = ap (λ (t : Step). t .places) (j .is) ∙ (let e1 = x .placed in let e2 = y .placed in let e3 : min 257 (b .places + r .places) ≡ min 257 (placeCount (x .tree) + placeCount (y .tree)) = omega arith in e3);
+            placed = ap (λ (t : Step). t .places) (j .is) ∙ (let e1 = x .placed in let e2 = y .placed in let e3 : min (b .places + r .places) 257 ≡ min (placeCount (x .tree) + placeCount (y .tree)) 257 = omega arith in e3);
             forked = ap (λ (t : Step). t .forks) (j .is);
             wrote = joins-wrote s at c m0 m1 m2 m3 b r z (b .at) Sequence 0 (written (y .tree) (c + nodeCount (x .tree)) (written (x .tree) c m0)) (c + nodeCount (x .tree)) (c + nodeCount (x .tree) + nodeCount (y .tree)) (height (x .tree)) (height (y .tree)) (placeCount (x .tree)) (placeCount (y .tree))
                 (x .count) (y .count ∙ ap (λ (i : ℕ). i + nodeCount (y .tree)) (x .count)) (x .high) (y .high) (x .placed) (y .placed)
@@ -550,7 +551,7 @@ own-height dollar c = refl
 own-height empty c = refl
 own-height (group p) c = refl
 
-own-places : (x : Tree primary) (c : ℕ) → (own x c) .places ≡ min 257 (placeCount x)
+own-places : (x : Tree primary) (c : ℕ) → (own x c) .places ≡ min (placeCount x) 257
 unfolding own placeCount
 own-places (letter b) c = refl
 own-places caret c = refl
@@ -607,7 +608,7 @@ module _ (s : List ℕ) (at c : ℕ) (m0 m1 : List ℕ) (p : Head) (h : ReadsHea
     unfolding rankOf depth nodeCount height placeCount written timesOn
     factor-marked f z u q g =
         let e = g .is in
-        a-reading factor s at c m0 m2 r (ap (λ (x : Step). x .ok) e) (step-on (g .to) (min 257 (roundPlaces (lower f) (upper f) (p .node .places))) (omega arith) (g .on) (g .inside) e) (put-kept (withMark (p .node) f z) (g .wrote))
+        a-reading factor s at c m0 m2 r (ap (λ (x : Step). x .ok) e) (step-on (g .to) (min (roundPlaces (lower f) (upper f) (p .node .places)) 257) (omega arith) (g .on) (g .inside) e) (put-kept (withMark (p .node) f z) (g .wrote))
         (ap length (g .wrote) ∙ put-length m1 (p .count) (withMark (p .node) f z) ∙ h .len) λ n d.
         let x = head-got s c m0 m1 p _ (h .says n (omega arith)) (h .wrote n (omega arith)) o in
         record {
@@ -615,8 +616,8 @@ module _ (s : List ℕ) (at c : ℕ) (m0 m1 : List ℕ) (p : Head) (h : ReadsHea
           is = times-got n (drop at s) _ _ (marked f z u) (x .is) q ∙ ap (got (times (x .tree) f z)) (g .rest) ∙ ap (λ (i : ℕ). got (times (x .tree) f z) (drop i s)) (sym (ap (λ (y : Step). y .at) e));
           count = ap (λ (y : Step). y .count) e ∙ (let e1 = x .count in let e2 : p .count + 1 ≡ c + (nodeCount (x .tree) + 1) = omega arith in e2);
           high = ap (λ (y : Step). y .height) e ∙ ap (λ (y : Node). y .height) (x .node) ∙ own-height (x .tree) c;
-          placed = ap (λ (y : Step). y .places) e ∙ ap (λ (y : Node). min 257 (roundPlaces (lower f) (upper f) (y .places))) (x .node)
-              ∙ ap (λ (i : ℕ). min 257 (roundPlaces (lower f) (upper f) i)) (own-places (x .tree) c) ∙ cap-rounds (lower f) (upper f) (placeCount (x .tree));
+          placed = ap (λ (y : Step). y .places) e ∙ ap (λ (y : Node). min (roundPlaces (lower f) (upper f) (y .places)) 257) (x .node)
+              ∙ ap (λ (i : ℕ). min (roundPlaces (lower f) (upper f) i) 257) (own-places (x .tree) c) ∙ cap-rounds (lower f) (upper f) (min (placeCount (x .tree)) 257) (placeCount (x .tree)) (omega arith);
           forked = ap (λ (y : Step). y .forks) e;
           wrote = g .wrote ∙ ap (λ (i : ℕ). putNode m1 i (withMark (p .node) f z)) (x .count) ∙ ap (λ (y : Node). putNode m1 (c + nodeCount (x .tree)) (withMark y f z)) (x .node)
               ∙ ap (λ (y : List ℕ). putNode y (c + nodeCount (x .tree)) (withMark (own (x .tree) c) f z)) (x .wrote);
@@ -767,8 +768,8 @@ module _ (s : List ℕ) (at c : ℕ) (m0 : List ℕ) (b : ℕ) (eb : b ≡ peek 
               tree = group (x .tree);
               is = read-inner i _ (x .is) ∙ shut-got (x .tree) (drop (p .at) s) e ∙ ap (got (group (x .tree))) (ap skip (rest-drop s (p .at)) ∙ sym (l .0)) ∙ ap (λ (j : ℕ). got (group (x .tree)) (drop j s)) (sym (ap (λ (x : Head). x .at) (q .is)));
               count = ap (λ (x : Head). x .count) (q .is) ∙ x .count;
-              node = ap (λ (x : Head). x .node) (q .is) ∙ ap (λ (i : ℕ). plain Group (i - 1) 0 (p .height + 1) (min 257 (p .forks + p .places))) (x .count) ∙ ap (λ (i : ℕ). plain Group (c + nodeCount (x .tree) - 1) 0 (i + 1) (min 257 (p .forks + p .places))) (x .high)
-                  ∙ ap (plain Group (c + nodeCount (x .tree) - 1) 0 (height (x .tree) + 1)) (let e1 = x .placed in let e2 = x .forked in let e3 : min 257 (p .forks + p .places) ≡ min 257 (fork (x .tree) + placeCount (x .tree)) = omega arith in e3);
+              node = ap (λ (x : Head). x .node) (q .is) ∙ ap (λ (i : ℕ). plain Group (i - 1) 0 (p .height + 1) (min (p .forks + p .places) 257)) (x .count) ∙ ap (λ (i : ℕ). plain Group (c + nodeCount (x .tree) - 1) 0 (i + 1) (min (p .forks + p .places) 257)) (x .high)
+                  ∙ ap (plain Group (c + nodeCount (x .tree) - 1) 0 (height (x .tree) + 1)) (let e1 = x .placed in let e2 = x .forked in let e3 : min (p .forks + p .places) 257 ≡ min (fork (x .tree) + placeCount (x .tree)) 257 = omega arith in e3);
               wrote = x .wrote;
             }
 

@@ -1,4 +1,4 @@
--- Rounds of a body: bounds as numbers, and counts up to 257.
+-- Rounds of a body with the bounds as numbers, 100 for no upper bound.
 use mathlib.Core.Path.{_≡_, refl, sym, ap, _∙_}
 use mathlib.Core.Bool.{Bool, true, false}
 use mathlib.Core.Option.{Option, none, some}
@@ -42,30 +42,13 @@ rounds-eq f c i = go (upper f) refl
     go none e = let t : eqb (highOf f) 100 ≡ true = bound-eq f i ∙ ap unbounded e in rw t refl
     go (some m) e = let t : eqb (highOf f) 100 ≡ false = bound-eq f i ∙ ap unbounded e in rw t (ap (λ (h : ℕ). lower f * c + (h - lower f) * (1 + c)) (ap highest e))
 
-pub rounds-open : (low high c r : ℕ) → high ≡ 100 → r ≡ min 257 (low * c + (1 + c)) → r ≡ min 257 (roundsOf low high c)
+pub rounds-open : (low high c r : ℕ) → high ≡ 100 → r ≡ min (low * c + (1 + c)) 257 → r ≡ min (roundsOf low high c) 257
 unfolding roundsOf
-rounds-open low high c r e h = h ∙ sym (ap (λ (t : Bool). min 257 (pick t (low * c + (1 + c)) (low * c + (high - low) * (1 + c)))) (eq-eqb high 100 e))
+rounds-open low high c r e h = h ∙ sym (ap (λ (t : Bool). min (pick t (low * c + (1 + c)) (low * c + (high - low) * (1 + c))) 257) (eq-eqb high 100 e))
 
-pub rounds-shut : (low high c r : ℕ) → (high ≡ 100 → ⊥) → r ≡ min 257 (low * c + (high - low) * (1 + c)) → r ≡ min 257 (roundsOf low high c)
+pub rounds-shut : (low high c r : ℕ) → (high ≡ 100 → ⊥) → r ≡ min (low * c + (high - low) * (1 + c)) 257 → r ≡ min (roundsOf low high c) 257
 unfolding roundsOf
-rounds-shut low high c r e h = h ∙ sym (ap (λ (t : Bool). min 257 (pick t (low * c + (1 + c)) (low * c + (high - low) * (1 + c)))) (ne-eqb high 100 e))
-
--- copies of a count that is capped
-cap-open : (n c : ℕ) → min 257 (n * min 257 c + (1 + min 257 c)) ≡ min 257 (n * c + (1 + c))
-cap-open n c = elim (decLt 257 c) [ yes l ↦ (let z : min 257 c ≡ 257 = omega (arith, l) in rw z (omega (arith, l))) | no g ↦ (let z : min 257 c ≡ c = omega (arith, g) in rw z refl) ]
-
-cap-two : (n m c : ℕ) → min 257 (n * min 257 c + m * (1 + min 257 c)) ≡ min 257 (n * c + m * (1 + c))
-cap-two n m c = elim (decLt 257 c) [ yes l ↦ (let z : min 257 c ≡ 257 = omega (arith, l) in rw z (big n m c l)) | no g ↦ (let z : min 257 c ≡ c = omega (arith, g) in rw z refl) ]
-  where
-    big : (n m c : ℕ) → 257 < c → min 257 (n * 257 + m * (1 + 257)) ≡ min 257 (n * c + m * (1 + c))
-    big zero zero c l = let a : 0 * c ≡ 0 = omega arith in let b : 0 * (1 + c) ≡ 0 = omega arith in omega arith
-    big zero (suc m) c l = let a : 1 * (1 + c) ≤ suc m * (1 + c) = mul-le-mul (omega arith) (omega arith) in omega (arith, a)
-    big (suc n) m c l = let a : 1 * c ≤ suc n * c = mul-le-mul (omega arith) (omega arith) in omega (arith, a)
-
-pub cap-rounds : (lo : ℕ) (up : Option ℕ) (c : ℕ) → min 257 (roundPlaces lo up (min 257 c)) ≡ min 257 (roundPlaces lo up c)
-unfolding roundPlaces
-cap-rounds lo none c = cap-open lo c
-cap-rounds lo (some hi) c = cap-two lo (hi - lo) c
+rounds-shut low high c r e h = h ∙ sym (ap (λ (t : Bool). min (pick t (low * c + (1 + c)) (low * c + (high - low) * (1 + c))) 257) (ne-eqb high 100 e))
 
 pub rounds-mul : (low high c : ℕ) → InOrder low high → c ≤ 257 → (high - low) * (1 + c) ≤ 100 * 258
 rounds-mul low high c o h =

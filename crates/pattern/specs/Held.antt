@@ -14,10 +14,10 @@ unfoldable pub Held : {k : Rank} → Tree k → ℕ → List ℕ → Type 0
 unfolding nodeCount height own InBounds
 Held (one b) c s = Held b c s
 Held (more b p) c s =
-    Held b c s × Held p (c + nodeCount b) s × (nodeAt s (c + nodeCount b + nodeCount p) ≡ plain Alternation (c + nodeCount b - 1) (c + nodeCount b + nodeCount p - 1) (max (height b) (height p) + 1) (min 257 (placeCount b + placeCount p)))
+    Held b c s × Held p (c + nodeCount b) s × (nodeAt s (c + nodeCount b + nodeCount p) ≡ plain Alternation (c + nodeCount b - 1) (c + nodeCount b + nodeCount p - 1) (max (height b) (height p) + 1) (min (placeCount b + placeCount p) 257))
 Held (last f) c s = Held f c s
 Held (next f b) c s =
-    Held f c s × Held b (c + nodeCount f) s × (nodeAt s (c + nodeCount f + nodeCount b) ≡ plain Sequence (c + nodeCount f - 1) (c + nodeCount f + nodeCount b - 1) (max (height f) (height b) + 1) (min 257 (placeCount f + placeCount b)))
+    Held f c s × Held b (c + nodeCount f) s × (nodeAt s (c + nodeCount f + nodeCount b) ≡ plain Sequence (c + nodeCount f - 1) (c + nodeCount f + nodeCount b - 1) (max (height f) (height b) + 1) (min (placeCount f + placeCount b) 257))
 Held (bare x) c s = Held x c s × (nodeAt s (c + nodeCount x) ≡ own x c)
 Held (times x f z) c s = Held x c s × (InBounds f) × (nodeAt s (c + nodeCount x) ≡ withMark (own x c) f z)
 Held (letter b) c s = Unit {0}
@@ -32,3 +32,8 @@ pub record Top (p : Tree pattern) (i : ℕ) (s : List ℕ) : Type 0 where
   pub top : i + 1 ≡ base + nodeCount p
   pub held : Held p base s
   pub fits : 8 * (base + nodeCount p) ≤ length s
+
+-- node i is the top of some tree's nodes
+pub record At (s : List ℕ) (i : ℕ) : Type 0 where
+  pub tree : Tree pattern
+  pub is : Top tree i s

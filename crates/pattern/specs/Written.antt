@@ -25,7 +25,7 @@ plain k l r h n = record { sort = k; form = 0; lazy = false; low = 1; high = 1; 
 -- a node with a quantifier
 abbrev pub withMark : Node → Form → Bool → Node
 withMark n f z =
-    record { sort = n .sort; form = codeOf f; lazy = z; low = lower f; high = highOf f; left = n .left; right = n .right; height = n .height; places = min 257 (roundPlaces (lower f) (upper f) (n .places)) }
+    record { sort = n .sort; form = codeOf f; lazy = z; low = lower f; high = highOf f; left = n .left; right = n .right; height = n .height; places = min (roundPlaces (lower f) (upper f) (n .places)) 257 }
 
 -- how many nodes a tree has; a primary's own node counts for its factor
 unfoldable pub nodeCount : {k : Rank} → Tree k → ℕ
@@ -72,17 +72,17 @@ own (letter b) c = plain (Letter b) 0 0 0 1
 own caret c = plain (Anchor 94) 0 0 0 1
 own dollar c = plain (Anchor 36) 0 0 0 1
 own empty c = plain Empty 0 0 0 0
-own (group p) c = plain Group (c + nodeCount p - 1) 0 (height p + 1) (min 257 (fork p + placeCount p))
+own (group p) c = plain Group (c + nodeCount p - 1) 0 (height p + 1) (min (fork p + placeCount p) 257)
 
 -- the room with a tree's nodes from c on; of a primary only its parts' nodes
 unfoldable pub written : {k : Rank} → Tree k → ℕ → List ℕ → List ℕ
 unfolding nodeCount height own placeCount
 written (one b) c s = written b c s
 written (more b p) c s =
-    putNode (written p (c + nodeCount b) (written b c s)) (c + nodeCount b + nodeCount p) (plain Alternation (c + nodeCount b - 1) (c + nodeCount b + nodeCount p - 1) (max (height b) (height p) + 1) (min 257 (placeCount b + placeCount p)))
+    putNode (written p (c + nodeCount b) (written b c s)) (c + nodeCount b + nodeCount p) (plain Alternation (c + nodeCount b - 1) (c + nodeCount b + nodeCount p - 1) (max (height b) (height p) + 1) (min (placeCount b + placeCount p) 257))
 written (last f) c s = written f c s
 written (next f b) c s =
-    putNode (written b (c + nodeCount f) (written f c s)) (c + nodeCount f + nodeCount b) (plain Sequence (c + nodeCount f - 1) (c + nodeCount f + nodeCount b - 1) (max (height f) (height b) + 1) (min 257 (placeCount f + placeCount b)))
+    putNode (written b (c + nodeCount f) (written f c s)) (c + nodeCount f + nodeCount b) (plain Sequence (c + nodeCount f - 1) (c + nodeCount f + nodeCount b - 1) (max (height f) (height b) + 1) (min (placeCount f + placeCount b) 257))
 written (bare x) c s = putNode (written x c s) (c + nodeCount x) (own x c)
 written (times x f z) c s = putNode (written x c s) (c + nodeCount x) (withMark (own x c) f z)
 written (letter b) c s = s
@@ -108,7 +108,7 @@ pub record Done (k : Rank) (text : List ℕ) (c : ℕ) (room exit : List ℕ) (r
   pub rest : u ≡ drop (r .at) text
   pub count : r .count ≡ c + nodeCount x
   pub high : r .height ≡ height x
-  pub placed : r .places ≡ min 257 (placeCount x)
+  pub placed : r .places ≡ min (placeCount x) 257
   pub forked : r .forks ≡ forkOf k x
   pub wrote : exit ≡ written x c room
 
@@ -191,7 +191,7 @@ stepTo to p n = record { ok = true; at = to; count = p .count + 1; height = p .n
 
 pub record FinishedMark (text room exit : List ℕ) (p : Head) (r : Step) (f : Form) (z : Bool) (u : List ℕ) : Type 0 where
   pub to : ℕ
-  pub is : r ≡ stepTo to p (min 257 (roundPlaces (lower f) (upper f) (p .node .places)))
+  pub is : r ≡ stepTo to p (min (roundPlaces (lower f) (upper f) (p .node .places)) 257)
   pub rest : u ≡ drop to text
   pub on : p .at ≤ to
   pub inside : to ≤ length text
@@ -216,8 +216,8 @@ pub record Joins (room : List ℕ) (a b : Step) : Type 0 where
   pub few-right : b .places ≤ 257
 
 pub record Joined (room exit : List ℕ) (k : Sort) (forks : ℕ) (a b r : Step) : Type 0 where
-  pub is : r ≡ record { ok = true; at = b .at; count = b .count + 1; height = max (a .height) (b .height) + 1; places = min 257 (a .places + b .places); forks = forks }
-  pub wrote : exit ≡ putNode room (b .count) (plain k (a .count - 1) (b .count - 1) (max (a .height) (b .height) + 1) (min 257 (a .places + b .places)))
+  pub is : r ≡ record { ok = true; at = b .at; count = b .count + 1; height = max (a .height) (b .height) + 1; places = min (a .places + b .places) 257; forks = forks }
+  pub wrote : exit ≡ putNode room (b .count) (plain k (a .count - 1) (b .count - 1) (max (a .height) (b .height) + 1) (min (a .places + b .places) 257))
 
 -- spaces are skipped from `at` to `to`
 abbrev pub SkipTo : List ℕ → ℕ → ℕ → Type 0
@@ -237,7 +237,7 @@ pub record ShutNeeds (p : Step) : Type 0 where
 pub record Shut (text : List ℕ) (p : Step) (r : Head) : Type 0 where
   pub to : ℕ
   pub skips : SkipTo text (p .at + 1) to
-  pub is : r ≡ record { ok = true; at = to; count = p .count; node = plain Group (p .count - 1) 0 (p .height + 1) (min 257 (p .forks + p .places)) }
+  pub is : r ≡ record { ok = true; at = to; count = p .count; node = plain Group (p .count - 1) 0 (p .height + 1) (min (p .forks + p .places) 257) }
 
 pub record ShutIs (text : List ℕ) (p : Step) (r : Head) : Type 0 where
   pub unread : p .ok ≡ false → r .ok ≡ false
@@ -251,7 +251,7 @@ pub record Parsed (text room exit : List ℕ) (r : Step) (p : Tree pattern) : Ty
   pub count : r .count ≡ nodeCount p
   pub few : nodeCount p ≤ 2 * length text
   pub high : r .height ≡ height p
-  pub placed : r .places ≡ min 257 (placeCount p)
+  pub placed : r .places ≡ min (placeCount p) 257
   pub forked : r .forks ≡ fork p
   pub wrote : exit ≡ written p 0 room
 

@@ -88,7 +88,7 @@ fn higher(a: usize, b: usize) -> usize
 
 // A number of places, counted up to 257.
 fn capped(n: usize) -> usize
-    ensures { λ r. ⌜ r ≡ min 257 n ⌝ }
+    ensures { λ r. ⌜ r ≡ min n 257 ⌝ }
 {
     if 257 < n { 257 } else { n }
 }
@@ -96,7 +96,7 @@ fn capped(n: usize) -> usize
 // The places of low to high rounds of a body with c places, counted up to 257.
 fn rounds(low: usize, high: usize, c: usize) -> usize
     requires { ⌜ InOrder low high × (c ≤ 257) ⌝ }
-    ensures { λ r. ⌜ r ≡ min 257 (roundsOf low high c) ⌝ }
+    ensures { λ r. ⌜ r ≡ min (roundsOf low high c) 257 ⌝ }
 {
     let first = low * c;
     if high == 100 {
