@@ -32,3 +32,4 @@ pub mod Noted
 pub mod Accepted
 pub mod Demands
 pub mod Bench
+pub mod Distinct
