@@ -23,10 +23,10 @@ use Rattle.pattern.specs.declared.nodes.Sort.the-variants.{Letter, Anchor, Empt
 use Rattle.pattern.specs.declared.nodes.Node.{Node}
 use Rattle.pattern.specs.declared.Step.{Step}
 use Rattle.pattern.specs.Written.{nodeCount, Fits, Parsed, ParsedAs, TextSays}
-use Rattle.pattern.specs.Held.{Top, At}
+use Rattle.pattern.specs.Held.{body, Top, At}
 use Rattle.pattern.proofs.RoundLaws.{bound-eq}
 use Rattle.pattern.proofs.Holds.{pattern-nodes, text-top}
-use Rattle.pattern.proofs.ByNode.{body, Bounded, IsAnchor, FactorAt, SeqAt, AltAt, GroupAt, as-any, as-seq, as-alt, as-letter, as-anchor, as-empty, as-group, group-left}
+use Rattle.pattern.proofs.ByNode.{Bounded, IsAnchor, FactorAt, SeqAt, AltAt, GroupAt, as-any, as-seq, as-alt, as-letter, as-anchor, as-empty, as-group, group-left}
 use Rattle.judge.specs.Judged.{textTests, textAnswer, refusal, Nullable, EmptyLoop, Judging}
 use Rattle.judge.specs.declared.Verdict.{Verdict}
 

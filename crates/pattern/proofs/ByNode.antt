@@ -17,30 +17,15 @@ use Rattle.pattern.specs.declared.nodes.Sort.{Sort}
 use Rattle.pattern.specs.declared.nodes.Sort.the-variants.{Letter, Anchor, Empty, Sequence, Alternation, Group}
 use Rattle.pattern.specs.declared.nodes.Node.{Node}
 use Rattle.pattern.specs.Written.{plain, withMark, nodeCount, height, own, InOrder}
-use Rattle.pattern.specs.Held.{Held, Top, At}
+use Rattle.pattern.specs.Held.{body, lowOf, highestOf, lazyOf, Held, Top, At}
 use Rattle.pattern.proofs.RoundLaws.{form-order}
+use Rattle.pattern.proofs.ReaderLaws.{own-height, own-places}
 use Rattle.pattern.proofs.Holds.{factor-nodes, branch-nodes, pattern-nodes}
 
 clash : {A : Type 0} → _≡_ {A = ℕ} 0 1 → A
 clash e = absurd (omega arith)
 
--- ---- factors: a primary and its bounds, 1 and 1 without a quantifier
-
-abbrev pub body : Tree factor → Tree primary
-body (bare x) = x
-body (times x f z) = x
-
-abbrev pub lowOf : Tree factor → ℕ
-lowOf (bare x) = 1
-lowOf (times x f z) = lower f
-
-abbrev pub highestOf : Tree factor → ℕ
-highestOf (bare x) = 1
-highestOf (times x f z) = highOf f
-
-abbrev pub lazyOf : Tree factor → Bool
-lazyOf (bare x) = false
-lazyOf (times x f z) = z
+-- ---- factors
 
 -- the bounds of a factor's quantifier are in order
 abbrev pub Bounded : Tree factor → Type 0
@@ -77,22 +62,6 @@ pub record AltAt (s : List ℕ) (n : Node) (b : Tree branch) (p : Tree pattern) 
   pub places : n .places ≡ min (placeCount b + placeCount p) 257
   pub left : Top (one b) (n .left) s
   pub right : Top p (n .right) s
-
-own-height : (x : Tree primary) (c : ℕ) → (own x c) .height ≡ height x
-unfolding own height
-own-height (letter b) c = refl
-own-height caret c = refl
-own-height dollar c = refl
-own-height empty c = refl
-own-height (group p) c = refl
-
-own-places : (x : Tree primary) (c : ℕ) → (own x c) .places ≡ min (placeCount x) 257
-unfolding own placeCount
-own-places (letter b) c = refl
-own-places caret c = refl
-own-places dollar c = refl
-own-places empty c = refl
-own-places (group p) c = refl
 
 own-bounds : (x : Tree primary) (c : ℕ) → ((own x c) .low ≡ 1) × ((own x c) .high ≡ 1) × ((own x c) .lazy ≡ false)
 unfolding own

@@ -43,6 +43,14 @@ pub node-read : (s : List ℕ) (i : ℕ) (k : Sort) (f a b c d h p : ℕ) → k 
 unfolding nodeAt
 node-read s i k f a b c d h p e1 e2 e3 e4 e5 e6 e7 e8 = rw (e1, e2, e3, e4, e5, e6, e7, e8) refl
 
+pub sort-read : (s : List ℕ) (i : ℕ) (k : Sort) → k ≡ sortOf (getD s (i * 8) 0) → k ≡ (nodeAt s i) .sort
+unfolding nodeAt
+sort-read s i k e = e
+
+pub places-read : (s : List ℕ) (i p : ℕ) → p ≡ getD s (i * 8 + 7) 0 → p ≡ (nodeAt s i) .places
+unfolding nodeAt
+places-read s i p e = e
+
 pub put-is : (s : List ℕ) (i w z : ℕ) (n : Node) → w ≡ wordOf (n .sort) → z ≡ n .form * 2 + bitOf (n .lazy)
     → set (set (set (set (set (set (set (set s (i * 8) w) (i * 8 + 1) z) (i * 8 + 2) (n .low)) (i * 8 + 3) (n .high)) (i * 8 + 4) (n .left)) (i * 8 + 5) (n .right)) (i * 8 + 6) (n .height)) (i * 8 + 7) (n .places) ≡ putNode s i n
 unfolding putNode

@@ -543,7 +543,7 @@ module _ (n : ℕ) (u : List ℕ) where
   unfolding read timesWith
   times-got x v k e q = simp (e, q)
 
-own-height : (x : Tree primary) (c : ℕ) → (own x c) .height ≡ height x
+pub own-height : (x : Tree primary) (c : ℕ) → (own x c) .height ≡ height x
 unfolding own height
 own-height (letter b) c = refl
 own-height caret c = refl
@@ -551,7 +551,7 @@ own-height dollar c = refl
 own-height empty c = refl
 own-height (group p) c = refl
 
-own-places : (x : Tree primary) (c : ℕ) → (own x c) .places ≡ min (placeCount x) 257
+pub own-places : (x : Tree primary) (c : ℕ) → (own x c) .places ≡ min (placeCount x) 257
 unfolding own placeCount
 own-places (letter b) c = refl
 own-places caret c = refl

@@ -1,13 +1,33 @@
--- A room that holds a tree's nodes, each behind its parts.
+-- A room that holds a tree's nodes, each behind its parts; a tree with its top at a node.
 use mathlib.Core.Path.{_≡_}
+use mathlib.Core.Bool.{Bool, true, false}
 use mathlib.Core.List.{List}
 use Prim.Native.Nat.{ℕ, _+_, _*_, _-_, _≤_, max, min}
 use lib.ListN.{length}
-use Rattle.rules.specs.Language.{InBounds, Rank, pattern, Tree, one, more, last, next, bare, times, letter, caret, dollar, empty, group}
+use Rattle.rules.specs.Language.{lower, InBounds, Rank, pattern, factor, primary, Tree, one, more, last, next, bare, times, letter, caret, dollar, empty, group}
 use Rattle.rules.specs.Places.{placeCount}
+use Rattle.pattern.specs.Shows.{highOf}
 use Rattle.pattern.specs.Nodes.{nodeAt}
 use Rattle.pattern.specs.declared.nodes.Sort.the-variants.{Sequence, Alternation}
 use Rattle.pattern.specs.Written.{plain, withMark, nodeCount, height, own}
+
+-- a factor's primary, and its bounds, 1 and 1 without a quantifier
+
+abbrev pub body : Tree factor → Tree primary
+body (bare x) = x
+body (times x f z) = x
+
+abbrev pub lowOf : Tree factor → ℕ
+lowOf (bare x) = 1
+lowOf (times x f z) = lower f
+
+abbrev pub highestOf : Tree factor → ℕ
+highestOf (bare x) = 1
+highestOf (times x f z) = highOf f
+
+abbrev pub lazyOf : Tree factor → Bool
+lazyOf (bare x) = false
+lazyOf (times x f z) = z
 
 -- the nodes from c on are the tree's; of a primary only its parts' nodes
 unfoldable pub Held : {k : Rank} → Tree k → ℕ → List ℕ → Type 0

@@ -105,6 +105,22 @@ pub fn node_at(room: &[u16], i: usize) -> Node
     }
 }
 
+// The sort of the node at i, and its places, without the other words.
+pub fn sort_at(room: &[u16], i: usize) -> Sort
+    requires { ⌜ 8 * i + 8 ≤ length (now room) ⌝ }
+    ensures { λ r. ⌜ r ≡ (nodeAt (now (room .entry)) i) .sort ⌝ }
+{
+    let word = room[i * 8];
+    sort_of(word)
+}
+
+pub fn places_at(room: &[u16], i: usize) -> usize
+    requires { ⌜ 8 * i + 8 ≤ length (now room) ⌝ }
+    ensures { λ r. ⌜ r ≡ (nodeAt (now (room .entry)) i) .places ⌝ }
+{
+    wide(room[i * 8 + 7])
+}
+
 // Puts a node at i.
 pub fn put_node(room: &mut [u16], i: usize, n: Node)
     requires { ⌜ (8 * i + 8 ≤ length (now room)) × Small n ⌝ }
