@@ -42,3 +42,4 @@ pub mod Listing
 pub mod Clause62
 pub mod Strings
 pub mod Choice
+pub mod Distinct

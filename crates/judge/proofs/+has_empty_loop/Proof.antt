@@ -1,0 +1,325 @@
+use Rattle.pattern.proofs.ByNode.{at-in, seq-left, seq-right, alt-left, alt-right, group-left}
+use Rattle.judge.proofs.Laws.{loop-letter, loop-anchor, loop-empty, loop-seq, loop-seq-second, loop-alt, loop-alt-second, loop-group, loop-group-null, loop-group-rest, group-inside}
+use Rattle.pattern.specs.Nodes.{nodeAt}
+use borrow.Author.Needs.{needs}
+use Prim.Native.Nat.{ℕ, _<_}
+use borrow.Fn.Kinds.{In}
+use borrow.Fn.PlainCycle.{Measures, is, falls, and}
+use Rattle.judge.proofs.has_empty_loop.Reads as has-empty-loop
+use Rattle.judge.proofs.has_empty_loop.Kinds as has-empty-loop-kinds
+use Rattle.judge.proofs.+has_empty_loop.Lts-has_empty_loop as has-empty-loop-lts
+use Rattle.judge.proofs.can_be_empty.Reads as can-be-empty-reads
+use Rattle.pattern.proofs.nodes.node_at.Reads as node-at-reads
+use Rattle.judge.proofs.+has_empty_loop.{statement}
+use Rattle.judge.proofs.+has_empty_loop.Tie.{close}
+
+abbrev μ-has-empty-loop : Measures 1 has-empty-loop-kinds.ps ℕ
+μ-has-empty-loop κs a = (nodeAt (a .0 .now) (a .1 .0)) .height
+
+abbrev has-empty-loop-at : ℕ → In 1 has-empty-loop-kinds.ps
+has-empty-loop-at t =
+    and 1 has-empty-loop-kinds.ps (is 1 has-empty-loop-kinds.ps μ-has-empty-loop t) has-empty-loop.Pre
+
+abbrev has-empty-loop-below : ℕ → In 1 has-empty-loop-kinds.ps
+has-empty-loop-below t =
+    and 1 has-empty-loop-kinds.ps (falls 1 has-empty-loop-kinds.ps _<_ μ-has-empty-loop t) has-empty-loop.Pre
+
+-- src/lib.rt:51:9
+has-empty-loop-node-at-requires : (t : ℕ) → has-empty-loop-lts.Need-node-at-requires (
+  node-at-reads.Asked,
+  node-at-reads.Learnt,
+  has-empty-loop-below t,
+  has-empty-loop.Post,
+  can-be-empty-reads.Asked,
+  can-be-empty-reads.Learnt,
+) (has-empty-loop-at t) has-empty-loop.Post
+has-empty-loop-node-at-requires t c κs = search (needs, at-in)
+
+-- src/lib.rt:57:28
+has-empty-loop-enum-told : (t : ℕ) → has-empty-loop-lts.Need-enum-told (
+  node-at-reads.Asked,
+  node-at-reads.Learnt,
+  has-empty-loop-below t,
+  has-empty-loop.Post,
+  can-be-empty-reads.Asked,
+  can-be-empty-reads.Learnt,
+) (has-empty-loop-at t) has-empty-loop.Post
+has-empty-loop-enum-told t c = search needs
+
+-- src/lib.rt:58:28
+has-empty-loop-enum-told-2 : (t : ℕ) → has-empty-loop-lts.Need-enum-told-2 (
+  node-at-reads.Asked,
+  node-at-reads.Learnt,
+  has-empty-loop-below t,
+  has-empty-loop.Post,
+  can-be-empty-reads.Asked,
+  can-be-empty-reads.Learnt,
+) (has-empty-loop-at t) has-empty-loop.Post
+has-empty-loop-enum-told-2 t c = search needs
+
+-- src/lib.rt:59:24
+has-empty-loop-enum-told-3 : (t : ℕ) → has-empty-loop-lts.Need-enum-told-3 (
+  node-at-reads.Asked,
+  node-at-reads.Learnt,
+  has-empty-loop-below t,
+  has-empty-loop.Post,
+  can-be-empty-reads.Asked,
+  can-be-empty-reads.Learnt,
+) (has-empty-loop-at t) has-empty-loop.Post
+has-empty-loop-enum-told-3 t c = search needs
+
+-- src/lib.rt:61:16
+has-empty-loop-enum-told-4 : (t : ℕ) → has-empty-loop-lts.Need-enum-told-4 (
+  node-at-reads.Asked,
+  node-at-reads.Learnt,
+  has-empty-loop-below t,
+  has-empty-loop.Post,
+  can-be-empty-reads.Asked,
+  can-be-empty-reads.Learnt,
+) (has-empty-loop-at t) has-empty-loop.Post
+has-empty-loop-enum-told-4 t c = search needs
+
+-- src/lib.rt:61:16
+has-empty-loop-has-empty-loop-requires : (t : ℕ) → has-empty-loop-lts.Need-has-empty-loop-requires (
+  node-at-reads.Asked,
+  node-at-reads.Learnt,
+  has-empty-loop-below t,
+  has-empty-loop.Post,
+  can-be-empty-reads.Asked,
+  can-be-empty-reads.Learnt,
+) (has-empty-loop-at t) has-empty-loop.Post
+has-empty-loop-has-empty-loop-requires t c κs = seq-left _ _ _ (c .before .before .node-at .ensures) _ (c .before .before .before .before .pre .0) (c .before .before .before .before .pre .1) (c .enum-told4 .given .1)
+
+-- src/lib.rt:64:17
+has-empty-loop-has-empty-loop-requires-2 : (t : ℕ) → has-empty-loop-lts.Need-has-empty-loop-requires-2 (
+  node-at-reads.Asked,
+  node-at-reads.Learnt,
+  has-empty-loop-below t,
+  has-empty-loop.Post,
+  can-be-empty-reads.Asked,
+  can-be-empty-reads.Learnt,
+) (has-empty-loop-at t) has-empty-loop.Post
+has-empty-loop-has-empty-loop-requires-2 t c κs = seq-right _ _ _ (c .before .before .before .before .node-at .ensures) _ (c .before .before .before .before .before .before .pre .0) (c .before .before .before .before .before .before .pre .1) (c .before .before .enum-told4 .given .1)
+
+-- src/lib.rt:68:16
+has-empty-loop-enum-told-5 : (t : ℕ) → has-empty-loop-lts.Need-enum-told-5 (
+  node-at-reads.Asked,
+  node-at-reads.Learnt,
+  has-empty-loop-below t,
+  has-empty-loop.Post,
+  can-be-empty-reads.Asked,
+  can-be-empty-reads.Learnt,
+) (has-empty-loop-at t) has-empty-loop.Post
+has-empty-loop-enum-told-5 t c = search needs
+
+-- src/lib.rt:68:16
+has-empty-loop-has-empty-loop-requires-3 : (t : ℕ) → has-empty-loop-lts.Need-has-empty-loop-requires-3 (
+  node-at-reads.Asked,
+  node-at-reads.Learnt,
+  has-empty-loop-below t,
+  has-empty-loop.Post,
+  can-be-empty-reads.Asked,
+  can-be-empty-reads.Learnt,
+) (has-empty-loop-at t) has-empty-loop.Post
+has-empty-loop-has-empty-loop-requires-3 t c κs = alt-left _ _ _ (c .before .before .node-at .ensures) _ (c .before .before .before .before .pre .0) (c .before .before .before .before .pre .1) (c .enum-told5 .given .1)
+
+-- src/lib.rt:71:17
+has-empty-loop-has-empty-loop-requires-4 : (t : ℕ) → has-empty-loop-lts.Need-has-empty-loop-requires-4 (
+  node-at-reads.Asked,
+  node-at-reads.Learnt,
+  has-empty-loop-below t,
+  has-empty-loop.Post,
+  can-be-empty-reads.Asked,
+  can-be-empty-reads.Learnt,
+) (has-empty-loop-at t) has-empty-loop.Post
+has-empty-loop-has-empty-loop-requires-4 t c κs = alt-right _ _ _ (c .before .before .before .before .node-at .ensures) _ (c .before .before .before .before .before .before .pre .0) (c .before .before .before .before .before .before .pre .1) (c .before .before .enum-told5 .given .1)
+
+-- src/lib.rt:75:16
+has-empty-loop-enum-told-6 : (t : ℕ) → has-empty-loop-lts.Need-enum-told-6 (
+  node-at-reads.Asked,
+  node-at-reads.Learnt,
+  has-empty-loop-below t,
+  has-empty-loop.Post,
+  can-be-empty-reads.Asked,
+  can-be-empty-reads.Learnt,
+) (has-empty-loop-at t) has-empty-loop.Post
+has-empty-loop-enum-told-6 t c = search needs
+
+-- src/lib.rt:76:17
+has-empty-loop-has-empty-loop-requires-5 : (t : ℕ) → has-empty-loop-lts.Need-has-empty-loop-requires-5 (
+  node-at-reads.Asked,
+  node-at-reads.Learnt,
+  has-empty-loop-below t,
+  has-empty-loop.Post,
+  can-be-empty-reads.Asked,
+  can-be-empty-reads.Learnt,
+) (has-empty-loop-at t) has-empty-loop.Post
+has-empty-loop-has-empty-loop-requires-5 t c κs = group-left _ _ _ (c .before .before .before .node-at .ensures) _ (c .before .before .before .before .before .pre .0) (c .before .before .before .before .before .pre .1) (c .before .enum-told6 .given .1)
+
+-- src/lib.rt:76:17
+has-empty-loop-returns : (t : ℕ) → has-empty-loop-lts.Need-returns (
+  node-at-reads.Asked,
+  node-at-reads.Learnt,
+  has-empty-loop-below t,
+  has-empty-loop.Post,
+  can-be-empty-reads.Asked,
+  can-be-empty-reads.Learnt,
+) (has-empty-loop-at t) has-empty-loop.Post
+has-empty-loop-returns t c = search (needs, loop-group)
+
+-- src/lib.rt:78:16
+has-empty-loop-can-be-empty-requires : (t : ℕ) → has-empty-loop-lts.Need-can-be-empty-requires (
+  node-at-reads.Asked,
+  node-at-reads.Learnt,
+  has-empty-loop-below t,
+  has-empty-loop.Post,
+  can-be-empty-reads.Asked,
+  can-be-empty-reads.Learnt,
+) (has-empty-loop-at t) has-empty-loop.Post
+has-empty-loop-can-be-empty-requires t c κs = search (needs, group-inside)
+
+-- src/lib.rt:79:17
+has-empty-loop-returns-2 : (t : ℕ) → has-empty-loop-lts.Need-returns-2 (
+  node-at-reads.Asked,
+  node-at-reads.Learnt,
+  has-empty-loop-below t,
+  has-empty-loop.Post,
+  can-be-empty-reads.Asked,
+  can-be-empty-reads.Learnt,
+) (has-empty-loop-at t) has-empty-loop.Post
+has-empty-loop-returns-2 t c = search (needs, loop-group-null)
+
+-- src/lib.rt:81:13
+has-empty-loop-has-empty-loop-requires-6 : (t : ℕ) → has-empty-loop-lts.Need-has-empty-loop-requires-6 (
+  node-at-reads.Asked,
+  node-at-reads.Learnt,
+  has-empty-loop-below t,
+  has-empty-loop.Post,
+  can-be-empty-reads.Asked,
+  can-be-empty-reads.Learnt,
+) (has-empty-loop-at t) has-empty-loop.Post
+has-empty-loop-has-empty-loop-requires-6 t c κs = group-left _ _ _ (c .before .before .before .before .before .node-at .ensures) _ (c .before .before .before .before .before .before .before .pre .0) (c .before .before .before .before .before .before .before .pre .1) (c .before .before .before .enum-told6 .given .1)
+
+-- src/lib.rt:47:1
+has-empty-loop-returns-3 : (t : ℕ) → has-empty-loop-lts.Need-returns-3 (
+  node-at-reads.Asked,
+  node-at-reads.Learnt,
+  has-empty-loop-below t,
+  has-empty-loop.Post,
+  can-be-empty-reads.Asked,
+  can-be-empty-reads.Learnt,
+) (has-empty-loop-at t) has-empty-loop.Post
+has-empty-loop-returns-3 t c = search (needs, loop-letter)
+
+-- src/lib.rt:47:1
+has-empty-loop-returns-4 : (t : ℕ) → has-empty-loop-lts.Need-returns-4 (
+  node-at-reads.Asked,
+  node-at-reads.Learnt,
+  has-empty-loop-below t,
+  has-empty-loop.Post,
+  can-be-empty-reads.Asked,
+  can-be-empty-reads.Learnt,
+) (has-empty-loop-at t) has-empty-loop.Post
+has-empty-loop-returns-4 t c = search (needs, loop-anchor)
+
+-- src/lib.rt:47:1
+has-empty-loop-returns-5 : (t : ℕ) → has-empty-loop-lts.Need-returns-5 (
+  node-at-reads.Asked,
+  node-at-reads.Learnt,
+  has-empty-loop-below t,
+  has-empty-loop.Post,
+  can-be-empty-reads.Asked,
+  can-be-empty-reads.Learnt,
+) (has-empty-loop-at t) has-empty-loop.Post
+has-empty-loop-returns-5 t c = search (needs, loop-empty)
+
+-- src/lib.rt:47:1
+has-empty-loop-returns-6 : (t : ℕ) → has-empty-loop-lts.Need-returns-6 (
+  node-at-reads.Asked,
+  node-at-reads.Learnt,
+  has-empty-loop-below t,
+  has-empty-loop.Post,
+  can-be-empty-reads.Asked,
+  can-be-empty-reads.Learnt,
+) (has-empty-loop-at t) has-empty-loop.Post
+has-empty-loop-returns-6 t c = search (needs, loop-seq)
+
+-- src/lib.rt:47:1
+has-empty-loop-returns-7 : (t : ℕ) → has-empty-loop-lts.Need-returns-7 (
+  node-at-reads.Asked,
+  node-at-reads.Learnt,
+  has-empty-loop-below t,
+  has-empty-loop.Post,
+  can-be-empty-reads.Asked,
+  can-be-empty-reads.Learnt,
+) (has-empty-loop-at t) has-empty-loop.Post
+has-empty-loop-returns-7 t c = search (needs, loop-seq-second)
+
+-- src/lib.rt:47:1
+has-empty-loop-returns-8 : (t : ℕ) → has-empty-loop-lts.Need-returns-8 (
+  node-at-reads.Asked,
+  node-at-reads.Learnt,
+  has-empty-loop-below t,
+  has-empty-loop.Post,
+  can-be-empty-reads.Asked,
+  can-be-empty-reads.Learnt,
+) (has-empty-loop-at t) has-empty-loop.Post
+has-empty-loop-returns-8 t c = search (needs, loop-alt)
+
+-- src/lib.rt:47:1
+has-empty-loop-returns-9 : (t : ℕ) → has-empty-loop-lts.Need-returns-9 (
+  node-at-reads.Asked,
+  node-at-reads.Learnt,
+  has-empty-loop-below t,
+  has-empty-loop.Post,
+  can-be-empty-reads.Asked,
+  can-be-empty-reads.Learnt,
+) (has-empty-loop-at t) has-empty-loop.Post
+has-empty-loop-returns-9 t c = search (needs, loop-alt-second)
+
+-- src/lib.rt:47:1
+has-empty-loop-returns-10 : (t : ℕ) → has-empty-loop-lts.Need-returns-10 (
+  node-at-reads.Asked,
+  node-at-reads.Learnt,
+  has-empty-loop-below t,
+  has-empty-loop.Post,
+  can-be-empty-reads.Asked,
+  can-be-empty-reads.Learnt,
+) (has-empty-loop-at t) has-empty-loop.Post
+has-empty-loop-returns-10 t c = search (needs, loop-group-rest)
+
+pub +has-empty-loop-spec : {M : Type 1} → statement M
++has-empty-loop-spec = close μ-has-empty-loop λ t. has-empty-loop-lts.spec (
+  node-at-reads.Asked,
+  node-at-reads.Learnt,
+  has-empty-loop-below t,
+  has-empty-loop.Post,
+  can-be-empty-reads.Asked,
+  can-be-empty-reads.Learnt,
+)
+    (has-empty-loop-at t)
+    has-empty-loop.Post
+    (has-empty-loop-node-at-requires t)
+    (has-empty-loop-enum-told t)
+    (has-empty-loop-enum-told-2 t)
+    (has-empty-loop-enum-told-3 t)
+    (has-empty-loop-enum-told-4 t)
+    (has-empty-loop-has-empty-loop-requires t)
+    (has-empty-loop-has-empty-loop-requires-2 t)
+    (has-empty-loop-enum-told-5 t)
+    (has-empty-loop-has-empty-loop-requires-3 t)
+    (has-empty-loop-has-empty-loop-requires-4 t)
+    (has-empty-loop-enum-told-6 t)
+    (has-empty-loop-has-empty-loop-requires-5 t)
+    (has-empty-loop-returns t)
+    (has-empty-loop-can-be-empty-requires t)
+    (has-empty-loop-returns-2 t)
+    (has-empty-loop-has-empty-loop-requires-6 t)
+    (has-empty-loop-returns-3 t)
+    (has-empty-loop-returns-4 t)
+    (has-empty-loop-returns-5 t)
+    (has-empty-loop-returns-6 t)
+    (has-empty-loop-returns-7 t)
+    (has-empty-loop-returns-8 t)
+    (has-empty-loop-returns-9 t)
+    (has-empty-loop-returns-10 t)

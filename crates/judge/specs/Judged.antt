@@ -1,0 +1,44 @@
+-- Answers 4 to 7 of document 01 for a pattern's text, by the tests of the rules' Answers, the lowest that applies; and what the functions that
+-- walk over a tree's nodes promise.
+use mathlib.Core.Path.{_≡_}
+use mathlib.Core.Bool.{Bool, true, false}
+use mathlib.Core.List.{List, [], _∷_}
+use mathlib.Core.Option.{Option, none, some}
+use Prim.Native.Nat.{ℕ, zero, suc, _+_, _*_, _≤_}
+use lib.Dec.{eqb}
+use lib.ListN.{length, getD}
+use Rattle.rules.specs.Basics.{pick}
+use Rattle.rules.specs.Language.{Tree, pattern, nullable, emptyLoop}
+use Rattle.rules.specs.Reader.{treeOf}
+use Rattle.rules.specs.Answers.{deep, noTree, hasEmptyLoop, tooMany, P, lowest}
+use Rattle.pattern.specs.Held.{Top}
+use Rattle.judge.specs.declared.Verdict.{Verdict}
+
+-- the tests for answers 4 to 7, which ask the pattern's text alone
+unfoldable pub textTests : List ℕ → List Bool
+unfolding deep treeOf noTree hasEmptyLoop tooMany
+textTests s = deep 0 0 s ∷ noTree (treeOf s) ∷ hasEmptyLoop (treeOf s) ∷ tooMany (treeOf s) ∷ []
+
+-- the answer, or 0
+unfoldable pub textAnswer : List ℕ → ℕ
+unfolding lowest textTests
+textAnswer s = lowest 4 (textTests s)
+
+abbrev pub refusal : ℕ → Verdict
+refusal a = record { answer = a; places = 0; top = 0 }
+
+-- r is right for whatever tree has its top at i
+abbrev pub Nullable : List ℕ → ℕ → Bool → Type 0
+Nullable s i r = (p : Tree pattern) → Top p i s → r ≡ nullable p
+
+abbrev pub EmptyLoop : List ℕ → ℕ → Bool → Type 0
+EmptyLoop s i r = (p : Tree pattern) → Top p i s → r ≡ emptyLoop p
+
+-- what `judge` promises: the answer; where it is 0, P, and the room holds the text's tree with its top at node `top`; words behind the tree's own
+-- room are as they were
+pub record Judging (text room exit : List ℕ) (r : Verdict) : Type 0 where
+  pub answer : r .answer ≡ textAnswer text
+  pub places : r .places ≡ pick (eqb (r .answer) 0) (P (treeOf text)) 0
+  pub top : r .answer ≡ 0 → (p : Tree pattern) → treeOf text ≡ some p → Top p (r .top) exit
+  pub kept : (j : ℕ) → 16 * length text ≤ j → getD exit j 0 ≡ getD room j 0
+  pub len : length exit ≡ length room

@@ -1,0 +1,179 @@
+// A pattern's text judged: answers 4, 5, 6 and 7 of document 01, the lowest that applies, and P. The can-take-no-row test and answer 6's test
+// recurse over the tree's nodes; the node's height falls.
+use pattern::nodes::Sort;
+use pattern::nodes::node_at;
+use pattern::read_text;
+ghost use mathlib.Core.Path.{_≡_};
+ghost use mathlib.Core.Bool.{true, false};
+ghost use Prim.Native.Nat.{ℕ, _+_, _*_, _-_, _≤_, _<_, _^_};
+ghost use lib.ListN.{length};
+ghost use lib.Dec.{eqb};
+ghost use Rattle.rules.specs.Basics.{pick, has};
+ghost use Rattle.rules.specs.Answers.{deep};
+ghost use Rattle.pattern.specs.Written.{Fits};
+ghost use Rattle.pattern.specs.Held.{At};
+ghost use Rattle.judge.specs.Judged.{Nullable, EmptyLoop, refusal, Judging};
+
+// answer: 0 if the pattern is good, else 4, 5, 6 or 7. places: P, and top: the top node of its tree, if it is good; else both are 0.
+pub struct Verdict {
+    pub answer: usize,
+    pub places: usize,
+    pub top: usize,
+}
+
+// Whether the tree at i can take no row.
+pub fn can_be_empty(room: &[u16], i: usize) -> bool
+    requires { ⌜ At (now room) i ⌝ }
+    ensures { λ r. ⌜ Nullable (now (room .entry)) i r ⌝ }
+{
+    let n = node_at(room, i);
+    let sort = n.sort;
+    let left = n.left;
+    let right = n.right;
+    if n.low == 0 {
+        return true;
+    }
+    match sort {
+        Sort::Letter(_) => false,
+        Sort::Anchor(_) => true,
+        Sort::Empty => true,
+        Sort::Sequence => {
+            if can_be_empty(room, left) {
+                can_be_empty(room, right)
+            } else {
+                false
+            }
+        }
+        Sort::Alternation => {
+            if can_be_empty(room, left) {
+                true
+            } else {
+                can_be_empty(room, right)
+            }
+        }
+        Sort::Group => can_be_empty(room, left),
+    }
+}
+
+// Whether the tree at i has an unbounded quantifier over a body that can take no row.
+pub fn has_empty_loop(room: &[u16], i: usize) -> bool
+    requires { ⌜ At (now room) i ⌝ }
+    ensures { λ r. ⌜ EmptyLoop (now (room .entry)) i r ⌝ }
+{
+    let n = node_at(room, i);
+    let sort = n.sort;
+    let left = n.left;
+    let right = n.right;
+    let high = n.high;
+    match sort {
+        Sort::Letter(_) => false,
+        Sort::Anchor(_) => high == 100,
+        Sort::Empty => high == 100,
+        Sort::Sequence => {
+            if has_empty_loop(room, left) {
+                true
+            } else {
+                has_empty_loop(room, right)
+            }
+        }
+        Sort::Alternation => {
+            if has_empty_loop(room, left) {
+                true
+            } else {
+                has_empty_loop(room, right)
+            }
+        }
+        Sort::Group => {
+            if high != 100 {
+                return has_empty_loop(room, left);
+            }
+            if can_be_empty(room, left) {
+                return true;
+            }
+            has_empty_loop(room, left)
+        }
+    }
+}
+
+// One more if the byte is this one.
+fn count_if(b: u8, this: u8, n: usize) -> usize
+    requires { ⌜ n + 1 < 2 ^ 64 ⌝ }
+    ensures { λ r. ⌜ (r ≡ pick (eqb b this) (n + 1) n) × (r ≤ n + 1) ⌝ }
+{
+    if b == this {
+        return n + 1;
+    }
+    n
+}
+
+// Whether parentheses opened less closed pass 8 at some byte.
+pub fn too_deep(text: &[u8]) -> bool
+    requires { ⌜ length (now text) < 60000 ⌝ }
+    ensures { λ r. ⌜ r ≡ deep 0 0 (now (text .entry)) ⌝ }
+{
+    let mut opened = 0usize;
+    let mut closed = 0usize;
+    let mut i = 0usize;
+    while i < text.len() {
+        let b = text[i];
+        opened = count_if(b, b'(', opened);
+        closed = count_if(b, b')', closed);
+        if closed + 8 < opened {
+            return true;
+        }
+        i = i + 1;
+    }
+    false
+}
+
+// Whether the byte stands in the text. A letter that stands in a pattern's text stands in the pattern.
+pub fn has_byte(text: &[u8], b: u8) -> bool
+    ensures { λ r. ⌜ r ≡ has b (now (text .entry)) ⌝ }
+{
+    let mut i = 0usize;
+    while i < text.len() {
+        if text[i] == b {
+            return true;
+        }
+        i = i + 1;
+    }
+    false
+}
+
+fn refused(answer: usize) -> Verdict
+    ensures { λ r. ⌜ r ≡ refusal answer ⌝ }
+{
+    Verdict {
+        answer,
+        places: 0,
+        top: 0,
+    }
+}
+
+// Judges a text. Its tree's nodes are in the room then, if it has one.
+pub fn judge(text: &[u8], room: &mut [u16]) -> Verdict
+    requires { ⌜ Fits (now text) 0 (now room) 0 ⌝ }
+    ensures { λ r. ⌜ Judging (now (text .entry)) (now (room .entry)) (now (room .exit)) r ⌝ }
+{
+    if too_deep(text) {
+        return refused(4);
+    }
+    let p = read_text(text, room);
+    let ok = p.ok;
+    if !ok {
+        return refused(5);
+    }
+    let top = p.count - 1;
+    if has_empty_loop(room, top) {
+        return refused(6);
+    }
+    let places = p.forks + p.places + 1;
+    if 256 < places {
+        return refused(7);
+    }
+    Verdict {
+        answer: 0,
+        places,
+        top,
+    }
+}

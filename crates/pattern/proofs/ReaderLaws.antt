@@ -1,0 +1,826 @@
+-- Laws of the four readers: each is one way through one reader.
+use mathlib.Core.Path.{_≡_, refl, sym, ap, _∙_, subst}
+use mathlib.Core.Bool.{Bool, true, false, true≢false, false≢true}
+use mathlib.Core.List.{List, [], _∷_}
+use mathlib.Core.Option.{Option, none, some}
+use Prim.Native.Nat.{ℕ, zero, suc, _+_, _*_, _-_, _≤_, _<_, _^_, max, min}
+use native.Mathlib.Omega.{arith}
+use mir.Val.{Fits as Fits-in}
+use mir.Syntax.{w64}
+use lib.Dec.{eqb}
+use lib.ListN.{length, getD, drop, length-drop}
+use lib.Seq.{drop-length, drop-cons}
+use borrow.Author.Tests.{eq-eqb, ne-eqb, eqb-true, eqb-false}
+use Rattle.rules.specs.Basics.{pick, isLetter}
+use Rattle.rules.specs.Places.{roundPlaces, fork, placeCount}
+use Rattle.rules.specs.Language.{Form, star, plus, opt, exactly, atLeast, atMost, between, lower, upper, InBounds, Rank, pattern, branch, factor, primary, Tree, one, more, last, next, bare, times, letter, caret, dollar, empty, group}
+use Rattle.rules.specs.Reader.{Reading, got, bad, peek, rest, skip, Marked, unmarked, broken, marked, quantifier, ended, under, altOn, altWith, seqOn, seqWith, timesOn, timesWith, closed, parted, simple, primaryOn, read, rankOf, depth, whole, treeOf}
+use Rattle.pattern.specs.Shows.{codeOf, highest, highOf, ShowsMark, Shows}
+use Rattle.pattern.specs.declared.marks.Mark.{Mark}
+use Rattle.pattern.specs.declared.marks.Mark.the-variants.{Unmarked, Broken, Found}
+use Rattle.pattern.proofs.MarkLaws.{inside, rest-drop}
+use Rattle.pattern.specs.Nodes.{putNode, Small}
+use Rattle.rules.proofs.GrammarSound.{pick-both, marked-in}
+use Rattle.rules.proofs.Counting.{cap-rounds}
+use Rattle.pattern.proofs.RoundLaws.{form-order, rounds-eq}
+use Rattle.pattern.proofs.Put.{put-other, put-length}
+use Rattle.pattern.specs.declared.nodes.Sort.{Sort}
+use Rattle.pattern.specs.declared.nodes.Sort.the-variants.{Letter, Anchor, Empty, Sequence, Alternation, Group}
+use Rattle.pattern.specs.declared.nodes.Node.{Node}
+use Rattle.pattern.specs.Written.{plain, withMark, nodeCount, height, own, written, forkOf, roundsOf, InOrder, Kept, Fits, Done, Says, On, Reads, HeadDone, SaysHead, Wrote, HeadOn, SimpleSays, ReadsHead, Holding, FitsHead, stepTo, FinishedMark, FinishedAs, Finished, Joins, Joined, SkipTo, EmptyIs, ShutNeeds, Shut, ShutIs, Parsed, ParsedAs, TextSays}
+use Rattle.pattern.specs.declared.Step.{Step}
+use Rattle.pattern.specs.declared.Head.{Head}
+
+clash : {A : Type 0} {b : Bool} → b ≡ true → b ≡ false → A
+clash p q = absurd (true≢false (sym p ∙ q))
+
+at-suc : (P : ℕ → Type 0) (k : ℕ) → ((m : ℕ) → k ≤ m → P (suc m)) → (n : ℕ) → k + 1 ≤ n → P n
+at-suc P k f zero h = absurd (omega arith)
+at-suc P k f (suc m) h = f m (omega arith)
+
+kept-none : (lo hi : ℕ) (s : List ℕ) → Kept lo hi s s
+kept-none lo hi s j h = refl
+
+kept-wide : (lo hi lo2 hi2 : ℕ) (s t : List ℕ) → lo2 ≤ lo → hi ≤ hi2 → Kept lo hi s t → Kept lo2 hi2 s t
+kept-wide lo hi lo2 hi2 s t l h k j f = k j (λ a b. f (omega arith) (omega arith))
+
+kept-on : (lo hi : ℕ) (s t u : List ℕ) → Kept lo hi s t → Kept lo hi t u → Kept lo hi s u
+kept-on lo hi s t u k g j f = g j f ∙ k j f
+
+kept-put : (s t : List ℕ) (i : ℕ) (n : Node) → t ≡ putNode s i n → Kept (8 * i) (8 * i + 8) s t
+kept-put s t i n e j f = ap (λ (u : List ℕ). getD u j 0) e ∙ put-other s i j n f
+
+-- ---- join
+
+pub join-small : (m : List ℕ) (a b : Step) (k : Sort) (h q : ℕ) (n : Node) → Joins m a b → h ≡ max (a .height) (b .height) → q ≡ min (a .places + b .places) 257
+    → n ≡ plain k (a .count - 1) (b .count - 1) (h + 1) q → Small n
+join-small m a b k h q n j eh eq en =
+    rw en (record { form = omega arith; low = omega arith; high = omega arith; left = omega (arith, j .right, j .few); right = omega (arith, j .few); height = omega (arith, j .low-left, j .low-right); places = omega arith })
+
+pub join-is : (m t : List ℕ) (a b : Step) (k : Sort) (f h q : ℕ) (n : Node) → h ≡ max (a .height) (b .height) → q ≡ min (a .places + b .places) 257 → n ≡ plain k (a .count - 1) (b .count - 1) (h + 1) q
+    → t ≡ putNode m (b .count) n → Joined m t k f a b (record { ok = true; at = b .at; count = b .count + 1; height = h + 1; places = q; forks = f })
+join-is m t a b k f h q n eh eq en et = record { is = rw (eh, eq) refl; wrote = et ∙ ap (putNode m (b .count)) (en ∙ rw (eh, eq) refl) }
+
+-- ---- finish
+
+form-small : (f : Form) → InBounds f → (codeOf f ≤ 7) × (lower f ≤ 99) × (highOf f ≤ 100)
+unfolding codeOf lower highOf highest upper InBounds
+form-small star i = (omega arith, omega arith, omega arith)
+form-small plus i = (omega arith, omega arith, omega arith)
+form-small opt i = (omega arith, omega arith, omega arith)
+form-small (exactly n) i = (omega arith, omega (arith, i .1), omega (arith, i .1))
+form-small (atLeast n) i = (omega arith, omega (arith, i), omega arith)
+form-small (atMost m) i = (omega arith, omega arith, omega (arith, i .1))
+form-small (between n m) i = (omega arith, omega (arith, i .1, i .2), omega (arith, i .2))
+
+module _ (s m : List ℕ) (p : Head) (q : Mark) where
+  pub finish-none : (t : List ℕ) (r : Step) → Shows s (p .at) q (quantifier (drop (p .at) s)) → q ≡ Unmarked → (r ≡ stepTo (p .at) p (p .node .places)) × (t ≡ putNode m (p .count) (p .node)) → Finished s m t p r
+  unfolding Shows FinishedAs
+  finish-none t r h e g = record { ends = by (quantifier (drop (p .at) s)) h }
+    where
+      by : (k : Marked) → Shows s (p .at) q k → FinishedAs s m t p r k
+      by unmarked h = g
+      by broken h = let z : _≡_ {A = ℕ} 0 1 = cc in absurd (omega arith)
+      by (marked f z u) h = let i = h .is in let z : _≡_ {A = ℕ} 0 1 = cc in absurd (omega arith)
+
+  pub finish-broken : (r : Step) → Shows s (p .at) q (quantifier (drop (p .at) s)) → q ≡ Broken → r .ok ≡ false → Finished s m m p r
+  unfolding Shows FinishedAs
+  finish-broken r h e g = record { ends = by (quantifier (drop (p .at) s)) h }
+    where
+      by : (k : Marked) → Shows s (p .at) q k → FinishedAs s m m p r k
+      by unmarked h = let z : _≡_ {A = ℕ} 0 1 = cc in absurd (omega arith)
+      by broken h = (g, refl)
+      by (marked f z u) h = let i = h .is in let z : _≡_ {A = ℕ} 0 1 = cc in absurd (omega arith)
+
+  module _ (form low high to q2 : ℕ) (lazy : Bool) where
+    abbrev Marking : Node
+    Marking = record { sort = p .node .sort; form = form; lazy = lazy; low = low; high = high; left = p .node .left; right = p .node .right; height = p .node .height; places = q2 }
+
+    pub finish-found : (t : List ℕ) (r : Step) → q2 ≡ min (roundsOf low high (p .node .places)) 257 → Shows s (p .at) q (quantifier (drop (p .at) s)) → q ≡ Found form low high lazy to
+        → (r ≡ stepTo to p q2) × (t ≡ putNode m (p .count) (record { sort = p .node .sort; form = form; lazy = lazy; low = low; high = high; left = p .node .left; right = p .node .right; height = p .node .height; places = q2 })) → Finished s m t p r
+    unfolding Shows FinishedAs
+    finish-found t r eq h e g = record { ends = by (quantifier (drop (p .at) s)) refl h }
+      where
+        by : (k : Marked) → quantifier (drop (p .at) s) ≡ k → Shows s (p .at) q k → FinishedAs s m t p r k
+        by unmarked d h = let z : _≡_ {A = ℕ} 0 1 = cc in absurd (omega arith)
+        by broken d h = let z : _≡_ {A = ℕ} 0 1 = cc in absurd (omega arith)
+        by (marked f z u) d h =
+            let i = h .is in
+            let e1 : form ≡ codeOf f = cc in
+            let e2 : low ≡ lower f = cc in
+            let e3 : high ≡ highOf f = cc in
+            let e4 : lazy ≡ z = cc in
+            let e5 : to ≡ h .to = cc in
+            let e6 : q2 ≡ min (roundPlaces (lower f) (upper f) (p .node .places)) 257 =
+                eq ∙ ap (λ (x : ℕ). min (roundsOf x high (p .node .places)) 257) e2 ∙ ap (λ (x : ℕ). min (roundsOf (lower f) x (p .node .places)) 257) e3
+                ∙ ap (λ (x : ℕ). min x 257) (rounds-eq f (p .node .places) (marked-in (drop (p .at) s) f z u d)) in
+            record {
+              to = to;
+              is = g .0 ∙ ap (stepTo to p) e6;
+              rest = h .rest ∙ ap (λ (k : ℕ). drop k s) (sym e5);
+              on = omega (arith, h .on);
+              inside = omega (arith, h .inside);
+              wrote = g .1 ∙ rw (e1, e2, e3, e4, e6) refl;
+            }
+
+    pub mark-holding : q2 ≡ min (roundsOf low high (p .node .places)) 257 → FitsHead s m p → Shows s (p .at) q (quantifier (drop (p .at) s)) → q ≡ Found form low high lazy to
+        → Holding m (p .count) (record { sort = p .node .sort; form = form; lazy = lazy; low = low; high = high; left = p .node .left; right = p .node .right; height = p .node .height; places = q2 })
+    unfolding Shows
+    mark-holding eq w h e = by (quantifier (drop (p .at) s)) refl h
+      where
+        by : (k : Marked) → quantifier (drop (p .at) s) ≡ k → Shows s (p .at) q k → Holding m (p .count) Marking
+        by unmarked d h = let z : _≡_ {A = ℕ} 0 1 = cc in absurd (omega arith)
+        by broken d h = let z : _≡_ {A = ℕ} 0 1 = cc in absurd (omega arith)
+        by (marked f z u) d h =
+            let i = h .is in
+            let e1 : form ≡ codeOf f = cc in
+            let e2 : low ≡ lower f = cc in
+            let e3 : high ≡ highOf f = cc in
+            let g = form-small f (marked-in (drop (p .at) s) f z u d) in
+            let k = w .holding .small in
+            record {
+              fits = w .holding .fits;
+              few = w .holding .few;
+              small = record { form = omega (arith, g .0); low = omega (arith, g .1); high = omega (arith, g .2); left = k .left; right = k .right; height = k .height; places = omega arith };
+            }
+
+  pub mark-order : (form low high to : ℕ) (lazy : Bool) → Shows s (p .at) q (quantifier (drop (p .at) s)) → q ≡ Found form low high lazy to → InOrder low high
+  unfolding Shows
+  mark-order form low high to lazy h e = by (quantifier (drop (p .at) s)) refl h
+    where
+      by : (k : Marked) → quantifier (drop (p .at) s) ≡ k → Shows s (p .at) q k → InOrder low high
+      by unmarked d h = let z : _≡_ {A = ℕ} 0 1 = cc in absurd (omega arith)
+      by broken d h = let z : _≡_ {A = ℕ} 0 1 = cc in absurd (omega arith)
+      by (marked f z u) d h =
+          let i = h .is in
+          let e2 : low ≡ lower f = cc in
+          let e3 : high ≡ highOf f = cc in
+          rw (e2, e3) (form-order f (marked-in (drop (p .at) s) f z u d))
+
+-- ---- letters and anchors
+
+leaf-on : (s : List ℕ) (at c to : ℕ) (k : Sort) (w : ℕ) (n : Node) → w ≤ 1 → at + 1 ≤ to → to ≤ length s → n ≡ plain k 0 0 0 w → HeadOn s at c (record { ok = true; at = to; count = c; node = n })
+leaf-on s at c to k w n hw h l e =
+    record {
+      on = omega arith;
+      inside = l;
+      some = omega arith;
+      few = omega arith;
+      low = (let z : n .height ≡ 0 = ap (λ (x : Node). x .height) e in omega arith);
+      few-places = (let z : n .places ≡ w = ap (λ (x : Node). x .places) e in omega arith);
+      small = rw e (record { form = omega arith; low = omega arith; high = omega arith; left = omega arith; right = omega arith; height = omega arith; places = omega arith });
+    }
+
+module _ (s : List ℕ) (at c b : ℕ) (eb : b ≡ peek (drop at s)) where
+  is-eq : (k : ℕ) → b ≡ k → eqb (peek (drop at s)) k ≡ true
+  is-eq k e = eq-eqb (peek (drop at s)) k (sym eb ∙ e)
+
+  is-ne : (k : ℕ) → (b ≡ k → ⊥) → eqb (peek (drop at s)) k ≡ false
+  is-ne k e = ne-eqb (peek (drop at s)) k (λ x. e (eb ∙ x))
+
+  module _ (to : ℕ) (n : Node) where
+    pub simple-caret : b ≡ 94 → SkipTo s (at + 1) to → n ≡ plain (Anchor b) 0 0 0 1 → SimpleSays s at c (record { ok = true; at = to; count = c; node = n })
+    unfolding simple SaysHead nodeCount own
+    simple-caret e k en =
+        record { says = simp (is-eq 94 e) (record { ok = refl; rest = ap skip (rest-drop s at) ∙ sym (k .0); count = omega arith; node = en ∙ ap (λ (x : ℕ). plain (Anchor x) 0 0 0 1) e }); on = λ o. leaf-on s at c to (Anchor b) 1 n (omega arith) (k .1) (k .2) en }
+
+    pub simple-dollar : b ≡ 36 → SkipTo s (at + 1) to → n ≡ plain (Anchor b) 0 0 0 1 → SimpleSays s at c (record { ok = true; at = to; count = c; node = n })
+    unfolding simple SaysHead nodeCount own
+    simple-dollar e k en =
+        record { says = simp (is-ne 94 (λ x. omega arith), is-eq 36 e) (record { ok = refl; rest = ap skip (rest-drop s at) ∙ sym (k .0); count = omega arith; node = en ∙ ap (λ (x : ℕ). plain (Anchor x) 0 0 0 1) e }); on = λ o. leaf-on s at c to (Anchor b) 1 n (omega arith) (k .1) (k .2) en }
+
+    pub simple-letter : (t u : Bool) (d : ℕ) → (b ≡ 94 → ⊥) → (b ≡ 36 → ⊥) → t ≡ isLetter b → t ≡ true → d ≡ peek (drop (at + 1) s) → u ≡ isLetter d → u ≡ false
+        → SkipTo s (at + 1) to → n ≡ plain (Letter b) 0 0 0 1 → SimpleSays s at c (record { ok = true; at = to; count = c; node = n })
+    unfolding simple SaysHead nodeCount own
+    simple-letter t u d e1 e2 et ot ed eu ou k en =
+        record {
+          says = simp (is-ne 94 e1, is-ne 36 e2, (let z : isLetter (peek (drop at s)) ≡ true = ap isLetter (sym eb) ∙ sym et ∙ ot in z), (let z : isLetter (peek (rest (drop at s))) ≡ false = ap (λ (x : List ℕ). isLetter (peek x)) (rest-drop s at) ∙ ap isLetter (sym ed) ∙ sym eu ∙ ou in z))
+              (record { ok = refl; rest = ap skip (rest-drop s at) ∙ sym (k .0); count = omega arith; node = en ∙ ap (λ (x : ℕ). plain (Letter x) 0 0 0 1) eb });
+          on = λ o. leaf-on s at c to (Letter b) 1 n (omega arith) (k .1) (k .2) en;
+        }
+
+  pub simple-other : (r : Head) (t : Bool) → (b ≡ 94 → ⊥) → (b ≡ 36 → ⊥) → t ≡ isLetter b → t ≡ false → r .ok ≡ false → SimpleSays s at c r
+  unfolding simple SaysHead
+  simple-other r t e1 e2 et ot er =
+      record { says = simp (is-ne 94 e1, is-ne 36 e2, (let z : isLetter (peek (drop at s)) ≡ false = ap isLetter (sym eb) ∙ sym et ∙ ot in z)) er; on = λ o. clash o er }
+
+  pub simple-touch : (r : Head) (t u : Bool) (d : ℕ) → (b ≡ 94 → ⊥) → (b ≡ 36 → ⊥) → t ≡ isLetter b → t ≡ true → d ≡ peek (drop (at + 1) s) → u ≡ isLetter d → u ≡ true → r .ok ≡ false → SimpleSays s at c r
+  unfolding simple SaysHead
+  simple-touch r t u d e1 e2 et ot ed eu ou er =
+      record { says = simp (is-ne 94 e1, is-ne 36 e2, (let z : isLetter (peek (drop at s)) ≡ true = ap isLetter (sym eb) ∙ sym et ∙ ot in z), (let z : isLetter (peek (rest (drop at s))) ≡ true = ap (λ (x : List ℕ). isLetter (peek x)) (rest-drop s at) ∙ ap isLetter (sym ed) ∙ sym eu ∙ ou in z)) er; on = λ o. clash o er }
+
+  pub letter-next : (t : Bool) → t ≡ isLetter b → t ≡ true → at + 1 ≤ length s
+  unfolding isLetter
+  letter-next t et ot = let l = low b (sym et ∙ ot) in let i = inside s at b l (sym eb) in omega arith
+    where
+      low : (b : ℕ) → isLetter b ≡ true → 1 ≤ b
+      low zero o = absurd (false≢true o)
+      low (suc k) o = omega arith
+
+-- a position behind a byte is in the text
+pub next-in : (s : List ℕ) (at b k : ℕ) → b ≡ peek (drop at s) → b ≡ k → 1 ≤ k → at + 1 ≤ length s
+next-in s at b k eb e h = let l = inside s at k h (sym eb ∙ e) in omega arith
+
+pub before-end : (s : List ℕ) (at b k : ℕ) → b ≡ peek (drop at s) → b ≡ k → 1 ≤ k → at < length s
+before-end s at b k eb e h = inside s at k h (sym eb ∙ e)
+
+-- ---- parentheses
+
+pub empty-is : (s : List ℕ) (at c to : ℕ) (n : Node) → SkipTo s (at + 1) to → n ≡ plain Empty 0 0 0 0 → EmptyIs s at c (record { ok = true; at = to; count = c; node = n })
+empty-is s at c to n k e = record { to = to; skips = k; is = rw e refl }
+
+module _ (s : List ℕ) (p : Step) where
+  pub shut-some : ShutNeeds p → p .ok ≡ true → 1 ≤ p .count
+  shut-some h o = h .some o
+
+  pub shut-low : ShutNeeds p → p .ok ≡ true → Fits-in w64 (p .height + 1)
+  shut-low h o = record { fits = omega (arith, h .low o) }
+
+  pub shut-few : ShutNeeds p → p .ok ≡ true → Fits-in w64 (p .forks + p .places)
+  shut-few h o = record { fits = omega (arith, h .few-places o, h .few-forks o) }
+
+  pub shut-unread : (r : Head) → p .ok ≡ false → r .ok ≡ false → ShutIs s p r
+  shut-unread r e er = record { unread = λ x. er; open-still = λ o. clash o e; shuts = λ o. clash o e }
+
+  module _ (b : ℕ) (eb : b ≡ peek (drop (p .at) s)) (o : p .ok ≡ true) where
+    pub shut-open : (r : Head) → (b ≡ 41 → ⊥) → r .ok ≡ false → ShutIs s p r
+    shut-open r nb er = record { unread = λ x. er; open-still = λ x y. er; shuts = λ x y. absurd (nb (eb ∙ y)) }
+
+    pub shut-whole : (to q : ℕ) (n : Node) → b ≡ 41 → SkipTo s (p .at + 1) to → q ≡ min (p .forks + p .places) 257 → n ≡ plain Group (p .count - 1) 0 (p .height + 1) q → ShutIs s p (record { ok = true; at = to; count = p .count; node = n })
+    shut-whole to q n eb2 k eq en =
+        record { unread = λ x. clash o x; open-still = λ x y. absurd (y (sym eb ∙ eb2)); shuts = λ x y. record { to = to; skips = k; is = rw (en, eq) refl } }
+
+-- ---- the readers' answers
+
+says-bad : (k : Rank) (s : List ℕ) (c : ℕ) (m t : List ℕ) (r : Step) (x : Reading (Tree k)) → Says k s c m t r x → r .ok ≡ false → x ≡ bad
+unfolding Says
+says-bad k s c m t r bad h e = refl
+says-bad k s c m t r (got x u) h e = clash (h .ok) e
+
+record Read (k : Rank) (s : List ℕ) (c : ℕ) (m t : List ℕ) (r : Step) (x : Reading (Tree k)) : Type 0 where
+  tree : Tree k
+  is : x ≡ got tree (drop (r .at) s)
+  count : r .count ≡ c + nodeCount tree
+  high : r .height ≡ height tree
+  placed : r .places ≡ min (placeCount tree) 257
+  forked : r .forks ≡ forkOf k tree
+  wrote : t ≡ written tree c m
+
+says-got : (k : Rank) (s : List ℕ) (c : ℕ) (m t : List ℕ) (r : Step) (x : Reading (Tree k)) → Says k s c m t r x → r .ok ≡ true → Read k s c m t r x
+unfolding Says
+says-got k s c m t r bad h e = clash e h
+says-got k s c m t r (got x u) h e = record { tree = x; is = ap (got x) (h .rest); count = h .count; high = h .high; placed = h .placed; forked = h .forked; wrote = h .wrote }
+
+head-bad : (s : List ℕ) (c : ℕ) (r : Head) (x : Reading (Tree primary)) → SaysHead s c r x → r .ok ≡ false → x ≡ bad
+unfolding SaysHead
+head-bad s c r bad h e = refl
+head-bad s c r (got x u) h e = clash (h .ok) e
+
+record ReadHead (s : List ℕ) (c : ℕ) (m t : List ℕ) (r : Head) (x : Reading (Tree primary)) : Type 0 where
+  tree : Tree primary
+  is : x ≡ got tree (drop (r .at) s)
+  count : r .count ≡ c + nodeCount tree
+  node : r .node ≡ own tree c
+  wrote : t ≡ written tree c m
+
+head-got : (s : List ℕ) (c : ℕ) (m t : List ℕ) (r : Head) (x : Reading (Tree primary)) → SaysHead s c r x → Wrote c m t x → r .ok ≡ true → ReadHead s c m t r x
+unfolding SaysHead Wrote
+head-got s c m t r bad h w e = clash e h
+head-got s c m t r (got x u) h w e = record { tree = x; is = ap (got x) (h .rest); count = h .count; node = h .node; wrote = w }
+
+abbrev room-of : List ℕ → ℕ → ℕ → ℕ
+room-of s at c = 8 * (c + 2 * (length s - at))
+
+-- an answer of no reading
+no-reading : (k : Rank) (s : List ℕ) (at c : ℕ) (m t : List ℕ) (r : Step) → r .ok ≡ false → Kept (8 * c) (room-of s at c) m t → length t ≡ length m
+    → ((n : ℕ) → 4 * length (drop at s) + rankOf k ≤ n → read (suc n) k (drop at s) ≡ bad) → Reads k s at c m t r
+unfolding depth Says
+no-reading k s at c m t r e kp l f =
+    record { says = at-suc (λ n. Says k s c m t r (read n k (drop at s))) (4 * length (drop at s) + rankOf k) (λ n h. rw (f n h) e); on = λ o. clash o e; kept = kp; len = l }
+
+-- an answer of a reading
+a-reading : (k : Rank) (s : List ℕ) (at c : ℕ) (m t : List ℕ) (r : Step) → r .ok ≡ true → On s at c r → Kept (8 * c) (room-of s at c) m t → length t ≡ length m
+    → ((n : ℕ) → 4 * length (drop at s) + rankOf k ≤ n → Read k s c m t r (read (suc n) k (drop at s))) → Reads k s at c m t r
+unfolding depth Says
+a-reading k s at c m t r e o kp l f =
+    record {
+      says = at-suc (λ n. Says k s c m t r (read n k (drop at s))) (4 * length (drop at s) + rankOf k)
+          (λ n h. let d = f n h in rw (d .is) (record { ok = e; rest = refl; count = d .count; high = d .high; placed = d .placed; forked = d .forked; wrote = d .wrote }));
+      on = λ z. o;
+      kept = kp;
+      len = l;
+    }
+
+-- the room of a later reader lies in the room
+later : (s : List ℕ) (at c to d : ℕ) (m t : List ℕ) → at ≤ to → to ≤ length s → c ≤ d → d ≤ c + 2 * (to - at) → Kept (8 * d) (room-of s to d) m t → Kept (8 * c) (room-of s at c) m t
+later s at c to d m t h l g e k = kept-wide (8 * d) (room-of s to d) (8 * c) (room-of s at c) m t (omega arith) (omega arith) k
+
+-- ---- two parts joined
+
+module _ (s : List ℕ) (at c : ℕ) (m0 m1 m2 m3 : List ℕ) (a b w : Step) (to : ℕ) (k : Sort) (fk : ℕ) where
+  joins-on : fk ≤ 1 → On s at c a → a .at ≤ to → On s to (a .count) b → Joined m2 m3 k fk a b w → On s at c w
+  joins-on hf o l q j =
+      let e1 : w .at ≡ b .at = ap (λ (x : Step). x .at) (j .is) in
+      let e2 : w .count ≡ b .count + 1 = ap (λ (x : Step). x .count) (j .is) in
+      let e3 : w .height ≡ max (a .height) (b .height) + 1 = ap (λ (x : Step). x .height) (j .is) in
+      let e4 : w .places ≡ min (a .places + b .places) 257 = ap (λ (x : Step). x .places) (j .is) in
+      let e5 : w .forks ≡ fk = ap (λ (x : Step). x .forks) (j .is) in
+      record {
+        on = omega (arith, o .on, q .on);
+        inside = omega (arith, q .inside);
+        some = omega (arith, o .some, q .some);
+        few = omega (arith, o .few, q .few, o .on, q .on);
+        low = omega (arith, o .low, q .low, o .some, q .some);
+        few-places = omega arith;
+        few-forks = omega arith;
+      }
+
+  joins-kept : On s at c a → a .at ≤ to → to ≤ length s → On s to (a .count) b → Joined m2 m3 k fk a b w → Kept (8 * c) (room-of s at c) m0 m1 → Kept (8 * a .count) (room-of s to (a .count)) m1 m2 → Kept (8 * c) (room-of s at c) m0 m3
+  joins-kept o l i q j k1 k2 =
+      kept-on (8 * c) (room-of s at c) m0 m1 m3 k1
+      (kept-on (8 * c) (room-of s at c) m1 m2 m3 (later s at c to (a .count) m1 m2 (omega (arith, o .on)) i (omega (arith, o .some)) (omega (arith, o .few)) k2)
+      (kept-wide (8 * b .count) (8 * b .count + 8) (8 * c) (room-of s at c) m2 m3 (omega (arith, o .some, q .some)) (omega (arith, o .some, q .some, o .few, q .few, q .inside, o .on, q .on)) (kept-put m2 m3 (b .count) _ (j .wrote))))
+
+  joins-wrote : (v : List ℕ) (ca cb ha hb pa pb : ℕ) → a .count ≡ ca → b .count ≡ cb → a .height ≡ ha → b .height ≡ hb → a .places ≡ min pa 257 → b .places ≡ min pb 257 → m2 ≡ v → Joined m2 m3 k fk a b w → m3 ≡ putNode v cb (plain k (ca - 1) (cb - 1) (max ha hb + 1) (min (pa + pb) 257))
+  joins-wrote v ca cb ha hb pa pb e1 e2 e3 e4 e6 e7 e5 j = let q : min (a .places + b .places) 257 ≡ min (pa + pb) 257 = omega arith in j .wrote ∙ rw (e1, e2, e3, e4, q, e5) refl
+
+-- ---- pattern
+
+module _ (n : ℕ) (u : List ℕ) where
+  alt-bad : read n branch u ≡ bad → read (suc n) pattern u ≡ bad
+  unfolding read altWith
+  alt-bad e = simp e
+
+  alt-one : (b : Tree branch) (v : List ℕ) → read n branch u ≡ got b v → (peek v ≡ 124 → ⊥) → read (suc n) pattern u ≡ got (one b) v
+  unfolding read altWith altOn
+  alt-one b v e h = simp (e, ne-eqb (peek v) 124 h)
+
+  alt-two : (b : Tree branch) (v w : List ℕ) (x : Reading (Tree pattern)) → read n branch u ≡ got b v → peek v ≡ 124 → skip (rest v) ≡ w → read n pattern w ≡ x → read (suc n) pattern u ≡ under (more b) x
+  unfolding read altWith altOn
+  alt-two b v w x e h g f = simp (e, eq-eqb (peek v) 124 h, g, f)
+
+  seq-bad : read n factor u ≡ bad → read (suc n) branch u ≡ bad
+  unfolding read seqWith
+  seq-bad e = simp e
+
+  seq-one : (f : Tree factor) (v : List ℕ) → read n factor u ≡ got f v → ended (peek v) ≡ true → read (suc n) branch u ≡ got (last f) v
+  unfolding read seqWith seqOn
+  seq-one f v e h = simp (e, h)
+
+  seq-two : (f : Tree factor) (v : List ℕ) (x : Reading (Tree branch)) → read n factor u ≡ got f v → ended (peek v) ≡ false → read n branch v ≡ x → read (suc n) branch u ≡ under (next f) x
+  unfolding read seqWith seqOn
+  seq-two f v x e h g = simp (e, h, g)
+
+module _ (s : List ℕ) (at c : ℕ) (m0 m1 : List ℕ) (b : Step) (h : Reads branch s at c m0 m1 b) where
+  pub pattern-fails : b .ok ≡ false → Reads pattern s at c m0 m1 b
+  unfolding rankOf depth
+  pattern-fails e = no-reading pattern s at c m0 m1 b e (h .kept) (h .len) λ n d. alt-bad n (drop at s) (says-bad branch s c m0 m1 b _ (h .says n (omega arith)) e)
+
+  module _ (y : ℕ) (ey : y ≡ peek (drop (b .at) s)) (o : b .ok ≡ true) where
+    pub pattern-ends : (y ≡ 124 → ⊥) → Reads pattern s at c m0 m1 b
+    unfolding rankOf depth nodeCount height fork placeCount written
+    pattern-ends ny = a-reading pattern s at c m0 m1 b o (h .on o) (h .kept) (h .len) λ n d.
+        let x = says-got branch s c m0 m1 b _ (h .says n (omega arith)) o in
+        record { tree = one (x .tree); is = alt-one n (drop at s) _ _ (x .is) (λ z. ny (ey ∙ z)); count = x .count; high = x .high; placed = x .placed; forked = x .forked; wrote = x .wrote }
+
+    module _ (is-bar : y ≡ 124) (from : ℕ) (k : SkipTo s (b .at + 1) from) where
+      behind : skip (rest (drop (b .at) s)) ≡ drop from s
+      behind = ap skip (rest-drop s (b .at)) ∙ sym (k .0)
+
+      pub pattern-again : (u : ℕ) → 4 * (length s - at) + 3 ≡ u → Fits s at m0 c → (4 * (length s - from) + 3 < u) × Fits s from m1 (b .count)
+      pattern-again u e f =
+          let w = h .on o in (
+            omega (arith, w .on, w .inside, k .1, k .2),
+            record { in-text = k .2; fits = omega (arith, w .few, w .on, k .1, k .2, f .fits, h .len); small = omega (arith, w .few, w .on, k .1, k .2, f .small) },
+          )
+
+      module _ (m2 : List ℕ) (r : Step) (g : Reads pattern s from (b .count) m1 m2 r) where
+        pub pattern-more-fails : r .ok ≡ false → Reads pattern s at c m0 m2 r
+        unfolding rankOf depth under
+        pattern-more-fails e =
+            let w = h .on o in
+            no-reading pattern s at c m0 m2 r e
+            (kept-on (8 * c) (room-of s at c) m0 m1 m2 (h .kept) (later s at c from (b .count) m1 m2 (omega (arith, w .on, k .1)) (k .2) (omega (arith, w .some)) (omega (arith, w .few, k .1)) (g .kept)))
+            (g .len ∙ h .len) λ n d.
+            let x = says-got branch s c m0 m1 b _ (h .says n (omega arith)) o in
+            alt-two n (drop at s) _ _ (drop from s) bad (x .is) (sym ey ∙ is-bar) behind
+            (says-bad pattern s (b .count) m1 m2 r _ (g .says n (omega (arith, w .on, w .inside, k .1, k .2, length-drop at s, length-drop from s))) e)
+
+        pub pattern-joins : Fits s at m0 c → r .ok ≡ true → Joins m2 b r
+        pattern-joins f e =
+            let w = h .on o in let q = g .on e in
+            record {
+              fits = omega (arith, w .few, q .few, w .on, q .on, q .inside, k .1, f .fits, h .len, g .len);
+              few = omega (arith, w .few, q .few, w .on, q .on, q .inside, k .1, f .small);
+              left = omega (arith, w .some);
+              right = omega (arith, q .some);
+              low-left = omega (arith, w .low, w .few, w .inside, w .on, f .small);
+              low-right = omega (arith, q .low, q .few, q .inside, w .few, w .on, q .on, k .1, f .small);
+              few-left = w .few-places;
+              few-right = q .few-places;
+            }
+
+        pub pattern-more : (m3 : List ℕ) (z : Step) → r .ok ≡ true → Joined m2 m3 Alternation 1 b r z → Reads pattern s at c m0 m3 z
+        unfolding rankOf depth under nodeCount height fork placeCount written
+        pattern-more m3 z e j =
+            let w = h .on o in let q = g .on e in
+            a-reading pattern s at c m0 m3 z (ap (λ (x : Step). x .ok) (j .is)) (joins-on s at c m0 m1 m2 m3 b r z from Alternation 1 (omega arith) w (omega (arith, k .1)) q j)
+            (joins-kept s at c m0 m1 m2 m3 b r z from Alternation 1 w (omega (arith, k .1)) (k .2) q j (h .kept) (g .kept))
+            (ap length (j .wrote) ∙ put-length m2 (r .count) _ ∙ g .len ∙ h .len) λ n d.
+            let x = says-got branch s c m0 m1 b _ (h .says n (omega arith)) o in
+            let y = says-got pattern s (b .count) m1 m2 r _ (g .says n (omega (arith, w .on, w .inside, k .1, k .2, length-drop at s, length-drop from s))) e in
+            record {
+              tree = more (x .tree) (y .tree);
+              is = alt-two n (drop at s) _ _ (drop from s) _ (x .is) (sym ey ∙ is-bar) behind (y .is) ∙ ap (λ (i : ℕ). got (more (x .tree) (y .tree)) (drop i s)) (sym (ap (λ (t : Step). t .at) (j .is)));
+              count = ap (λ (t : Step). t .count) (j .is) ∙ (let e1 = x .count in let e2 = y .count in let e3 : r .count + 1 ≡ c + (nodeCount (x .tree) + nodeCount (y .tree) + 1) = omega arith in e3);
+              high = ap (λ (t : Step). t .height) (j .is) ∙ ap (λ (i : ℕ). max i (r .height) + 1) (x .high) ∙ ap (λ (i : ℕ). max (height (x .tree)) i + 1) (y .high);
+              placed = ap (λ (t : Step). t .places) (j .is) ∙ (let e1 = x .placed in let e2 = y .placed in let e3 : min (b .places + r .places) 257 ≡ min (placeCount (x .tree) + placeCount (y .tree)) 257 = omega arith in e3);
+              forked = ap (λ (t : Step). t .forks) (j .is);
+              wrote = joins-wrote s at c m0 m1 m2 m3 b r z from Alternation 1 (written (y .tree) (c + nodeCount (x .tree)) (written (x .tree) c m0)) (c + nodeCount (x .tree)) (c + nodeCount (x .tree) + nodeCount (y .tree)) (height (x .tree)) (height (y .tree)) (placeCount (x .tree)) (placeCount (y .tree))
+                  (x .count) (y .count ∙ ap (λ (i : ℕ). i + nodeCount (y .tree)) (x .count)) (x .high) (y .high) (x .placed) (y .placed)
+                  (y .wrote ∙ ap (λ (i : ℕ). written (y .tree) i m1) (x .count) ∙ ap (written (y .tree) (c + nodeCount (x .tree))) (x .wrote)) j;
+            }
+
+-- ---- branch
+
+ended-at : (y b : ℕ) → y ≡ b → ended b ≡ ended y
+ended-at y b e = ap ended (sym e)
+
+goes-on : (y : ℕ) → (y ≡ 0 → ⊥) → (y ≡ 124 → ⊥) → (y ≡ 41 → ⊥) → ended y ≡ false
+unfolding ended
+goes-on y a b c = simp (ne-eqb y 0 a, ne-eqb y 124 b, ne-eqb y 41 c)
+
+module _ (s : List ℕ) (at c : ℕ) (m0 m1 : List ℕ) (b : Step) (h : Reads factor s at c m0 m1 b) where
+  pub branch-fails : b .ok ≡ false → Reads branch s at c m0 m1 b
+  unfolding rankOf depth
+  branch-fails e = no-reading branch s at c m0 m1 b e (h .kept) (h .len) λ n d. seq-bad n (drop at s) (says-bad factor s c m0 m1 b _ (h .says n (omega arith)) e)
+
+  module _ (y : ℕ) (ey : y ≡ peek (drop (b .at) s)) (o : b .ok ≡ true) where
+    branch-ends : ended y ≡ true → Reads branch s at c m0 m1 b
+    unfolding rankOf depth nodeCount height fork placeCount written
+    branch-ends ny = a-reading branch s at c m0 m1 b o (h .on o) (h .kept) (h .len) λ n d.
+        let x = says-got factor s c m0 m1 b _ (h .says n (omega arith)) o in
+        record { tree = last (x .tree); is = seq-one n (drop at s) _ _ (x .is) (ended-at y _ ey ∙ ny); count = x .count; high = x .high; placed = x .placed; forked = x .forked; wrote = x .wrote }
+
+    pub branch-ends-none : y ≡ 0 → Reads branch s at c m0 m1 b
+    unfolding ended
+    branch-ends-none e = branch-ends (ap ended e)
+
+    pub branch-ends-bar : y ≡ 124 → Reads branch s at c m0 m1 b
+    unfolding ended
+    branch-ends-bar e = branch-ends (ap ended e)
+
+    pub branch-ends-shut : y ≡ 41 → Reads branch s at c m0 m1 b
+    unfolding ended
+    branch-ends-shut e = branch-ends (ap ended e)
+
+  pub branch-again : (u : ℕ) → 4 * (length s - at) + 2 ≡ u → Fits s at m0 c → b .ok ≡ true → (4 * (length s - b .at) + 2 < u) × Fits s (b .at) m1 (b .count)
+  branch-again u e f o =
+      let w = h .on o in (
+        omega (arith, w .on, w .inside),
+        record { in-text = w .inside; fits = omega (arith, w .few, w .on, w .inside, f .fits, h .len); small = omega (arith, w .few, w .on, w .inside, f .small) },
+      )
+
+  module _ (m2 : List ℕ) (r : Step) (g : Reads branch s (b .at) (b .count) m1 m2 r) where
+    pub branch-joins : Fits s at m0 c → b .ok ≡ true → r .ok ≡ true → Joins m2 b r
+    branch-joins f o e =
+        let w = h .on o in let q = g .on e in
+        record {
+          fits = omega (arith, w .few, q .few, w .on, q .on, q .inside, f .fits, h .len, g .len);
+          few = omega (arith, w .few, q .few, w .on, q .on, q .inside, f .small);
+          left = omega (arith, w .some);
+          right = omega (arith, q .some);
+          low-left = omega (arith, w .low, w .few, w .inside, w .on, f .small);
+          low-right = omega (arith, q .low, q .few, q .inside, w .few, w .on, q .on, f .small);
+          few-left = w .few-places;
+          few-right = q .few-places;
+        }
+
+    module _ (y : ℕ) (ey : y ≡ peek (drop (b .at) s)) (o : b .ok ≡ true) (n0 : y ≡ 0 → ⊥) (n1 : y ≡ 124 → ⊥) (n2 : y ≡ 41 → ⊥) where
+      pub branch-more-fails : r .ok ≡ false → Reads branch s at c m0 m2 r
+      unfolding rankOf depth under
+      branch-more-fails e =
+          let w = h .on o in
+          no-reading branch s at c m0 m2 r e
+          (kept-on (8 * c) (room-of s at c) m0 m1 m2 (h .kept) (later s at c (b .at) (b .count) m1 m2 (omega (arith, w .on)) (w .inside) (omega (arith, w .some)) (omega (arith, w .few)) (g .kept)))
+          (g .len ∙ h .len) λ n d.
+          let x = says-got factor s c m0 m1 b _ (h .says n (omega arith)) o in
+          seq-two n (drop at s) _ _ bad (x .is) (ended-at y _ ey ∙ goes-on y n0 n1 n2)
+          (says-bad branch s (b .count) m1 m2 r _ (g .says n (omega (arith, w .on, w .inside, length-drop at s, length-drop (b .at) s))) e)
+
+      pub branch-more : (m3 : List ℕ) (z : Step) → r .ok ≡ true → Joined m2 m3 Sequence 0 b r z → Reads branch s at c m0 m3 z
+      unfolding rankOf depth under nodeCount height fork placeCount written
+      branch-more m3 z e j =
+          let w = h .on o in let q = g .on e in
+          a-reading branch s at c m0 m3 z (ap (λ (x : Step). x .ok) (j .is)) (joins-on s at c m0 m1 m2 m3 b r z (b .at) Sequence 0 (omega arith) w (omega arith) q j)
+          (joins-kept s at c m0 m1 m2 m3 b r z (b .at) Sequence 0 w (omega arith) (w .inside) q j (h .kept) (g .kept))
+          (ap length (j .wrote) ∙ put-length m2 (r .count) _ ∙ g .len ∙ h .len) λ n d.
+          let x = says-got factor s c m0 m1 b _ (h .says n (omega arith)) o in
+          let y = says-got branch s (b .count) m1 m2 r _ (g .says n (omega (arith, w .on, w .inside, length-drop at s, length-drop (b .at) s))) e in
+          record {
+            tree = next (x .tree) (y .tree);
+            is = seq-two n (drop at s) _ _ _ (x .is) (ended-at y0 _ ey ∙ goes-on y0 n0 n1 n2) (y .is) ∙ ap (λ (i : ℕ). got (next (x .tree) (y .tree)) (drop i s)) (sym (ap (λ (t : Step). t .at) (j .is)));
+            count = ap (λ (t : Step). t .count) (j .is) ∙ (let e1 = x .count in let e2 = y .count in let e3 : r .count + 1 ≡ c + (nodeCount (x .tree) + nodeCount (y .tree) + 1) = omega arith in e3);
+            high = ap (λ (t : Step). t .height) (j .is) ∙ ap (λ (i : ℕ). max i (r .height) + 1) (x .high) ∙ ap (λ (i : ℕ). max (height (x .tree)) i + 1) (y .high);
+            placed = ap (λ (t : Step). t .places) (j .is) ∙ (let e1 = x .placed in let e2 = y .placed in let e3 : min (b .places + r .places) 257 ≡ min (placeCount (x .tree) + placeCount (y .tree)) 257 = omega arith in e3);
+            forked = ap (λ (t : Step). t .forks) (j .is);
+            wrote = joins-wrote s at c m0 m1 m2 m3 b r z (b .at) Sequence 0 (written (y .tree) (c + nodeCount (x .tree)) (written (x .tree) c m0)) (c + nodeCount (x .tree)) (c + nodeCount (x .tree) + nodeCount (y .tree)) (height (x .tree)) (height (y .tree)) (placeCount (x .tree)) (placeCount (y .tree))
+                (x .count) (y .count ∙ ap (λ (i : ℕ). i + nodeCount (y .tree)) (x .count)) (x .high) (y .high) (x .placed) (y .placed)
+                (y .wrote ∙ ap (λ (i : ℕ). written (y .tree) i m1) (x .count) ∙ ap (written (y .tree) (c + nodeCount (x .tree))) (x .wrote)) j;
+          }
+        where
+          y0 : ℕ
+          y0 = y
+
+-- ---- factor
+
+module _ (n : ℕ) (u : List ℕ) where
+  times-bad : read n primary u ≡ bad → read (suc n) factor u ≡ bad
+  unfolding read timesWith
+  times-bad e = simp e
+
+  times-got : (x : Tree primary) (v : List ℕ) (k : Marked) → read n primary u ≡ got x v → quantifier v ≡ k → read (suc n) factor u ≡ timesOn x v k
+  unfolding read timesWith
+  times-got x v k e q = simp (e, q)
+
+pub own-height : (x : Tree primary) (c : ℕ) → (own x c) .height ≡ height x
+unfolding own height
+own-height (letter b) c = refl
+own-height caret c = refl
+own-height dollar c = refl
+own-height empty c = refl
+own-height (group p) c = refl
+
+pub own-places : (x : Tree primary) (c : ℕ) → (own x c) .places ≡ min (placeCount x) 257
+unfolding own placeCount
+own-places (letter b) c = refl
+own-places caret c = refl
+own-places dollar c = refl
+own-places empty c = refl
+own-places (group p) c = refl
+
+module _ (s : List ℕ) (at c : ℕ) (m0 m1 : List ℕ) (p : Head) (h : ReadsHead s at c m0 m1 p) where
+  pub factor-fails : (r : Step) → p .ok ≡ false → r .ok ≡ false → Reads factor s at c m0 m1 r
+  unfolding rankOf depth
+  factor-fails r e er = no-reading factor s at c m0 m1 r er (h .kept) (h .len) λ n d. times-bad n (drop at s) (head-bad s c p _ (h .says n (omega arith)) e)
+
+  pub factor-fits : Fits s at m0 c → p .ok ≡ true → FitsHead s m1 p
+  factor-fits f o =
+      let w = h .on o in
+      record { in-text = w .inside; holding = record { fits = omega (arith, w .few, w .inside, w .on, f .fits, h .len); few = omega (arith, w .few, w .inside, w .on, f .small); small = w .small }; few-places = w .few-places }
+
+  module _ (m2 : List ℕ) (r : Step) (o : p .ok ≡ true) where
+    put-kept : (n : Node) → m2 ≡ putNode m1 (p .count) n → Kept (8 * c) (room-of s at c) m0 m2
+    put-kept n e =
+        let w = h .on o in
+        kept-on (8 * c) (room-of s at c) m0 m1 m2 (h .kept)
+        (kept-wide (8 * p .count) (8 * p .count + 8) (8 * c) (room-of s at c) m1 m2 (omega (arith, w .some)) (omega (arith, w .few, w .inside, w .on)) (kept-put m1 m2 (p .count) n e))
+
+    step-on : (to n : ℕ) → n ≤ 257 → p .at ≤ to → to ≤ length s → r ≡ stepTo to p n → On s at c r
+    step-on to n g l i e =
+        let w = h .on o in
+        rw e (record { on = omega (arith, w .on); inside = i; some = omega (arith, w .some); few = omega (arith, w .few, w .on); low = omega (arith, w .low); few-places = g; few-forks = omega arith })
+
+    factor-bare : quantifier (drop (p .at) s) ≡ unmarked → r ≡ stepTo (p .at) p (p .node .places) → m2 ≡ putNode m1 (p .count) (p .node) → Reads factor s at c m0 m2 r
+    unfolding rankOf depth nodeCount height placeCount written timesOn
+    factor-bare q e w =
+        a-reading factor s at c m0 m2 r (ap (λ (x : Step). x .ok) e) (step-on (p .at) (p .node .places) ((h .on o) .few-places) (omega arith) ((h .on o) .inside) e) (put-kept (p .node) w)
+        (ap length w ∙ put-length m1 (p .count) (p .node) ∙ h .len) λ n d.
+        let x = head-got s c m0 m1 p _ (h .says n (omega arith)) (h .wrote n (omega arith)) o in
+        record {
+          tree = bare (x .tree);
+          is = times-got n (drop at s) _ _ unmarked (x .is) q ∙ ap (λ (i : ℕ). got (bare (x .tree)) (drop i s)) (sym (ap (λ (y : Step). y .at) e));
+          count = ap (λ (y : Step). y .count) e ∙ (let e1 = x .count in let e2 : p .count + 1 ≡ c + (nodeCount (x .tree) + 1) = omega arith in e2);
+          high = ap (λ (y : Step). y .height) e ∙ ap (λ (y : Node). y .height) (x .node) ∙ own-height (x .tree) c;
+          placed = ap (λ (y : Step). y .places) e ∙ ap (λ (y : Node). y .places) (x .node) ∙ own-places (x .tree) c;
+          forked = ap (λ (y : Step). y .forks) e;
+          wrote = w ∙ ap (λ (i : ℕ). putNode m1 i (p .node)) (x .count) ∙ ap (putNode m1 (c + nodeCount (x .tree))) (x .node) ∙ ap (λ (y : List ℕ). putNode y (c + nodeCount (x .tree)) (own (x .tree) c)) (x .wrote);
+        }
+
+    factor-broken : quantifier (drop (p .at) s) ≡ broken → r .ok ≡ false → m2 ≡ m1 → Reads factor s at c m0 m2 r
+    unfolding rankOf depth timesOn
+    factor-broken q e w =
+        no-reading factor s at c m0 m2 r e (subst (Kept (8 * c) (room-of s at c) m0) (sym w) (h .kept)) (ap length w ∙ h .len) λ n d.
+        let x = head-got s c m0 m1 p _ (h .says n (omega arith)) (h .wrote n (omega arith)) o in
+        times-got n (drop at s) _ _ broken (x .is) q
+
+    factor-marked : (f : Form) (z : Bool) (u : List ℕ) → quantifier (drop (p .at) s) ≡ marked f z u → FinishedMark s m1 m2 p r f z u → Reads factor s at c m0 m2 r
+    unfolding rankOf depth nodeCount height placeCount written timesOn
+    factor-marked f z u q g =
+        let e = g .is in
+        a-reading factor s at c m0 m2 r (ap (λ (x : Step). x .ok) e) (step-on (g .to) (min (roundPlaces (lower f) (upper f) (p .node .places)) 257) (omega arith) (g .on) (g .inside) e) (put-kept (withMark (p .node) f z) (g .wrote))
+        (ap length (g .wrote) ∙ put-length m1 (p .count) (withMark (p .node) f z) ∙ h .len) λ n d.
+        let x = head-got s c m0 m1 p _ (h .says n (omega arith)) (h .wrote n (omega arith)) o in
+        record {
+          tree = times (x .tree) f z;
+          is = times-got n (drop at s) _ _ (marked f z u) (x .is) q ∙ ap (got (times (x .tree) f z)) (g .rest) ∙ ap (λ (i : ℕ). got (times (x .tree) f z) (drop i s)) (sym (ap (λ (y : Step). y .at) e));
+          count = ap (λ (y : Step). y .count) e ∙ (let e1 = x .count in let e2 : p .count + 1 ≡ c + (nodeCount (x .tree) + 1) = omega arith in e2);
+          high = ap (λ (y : Step). y .height) e ∙ ap (λ (y : Node). y .height) (x .node) ∙ own-height (x .tree) c;
+          placed = ap (λ (y : Step). y .places) e ∙ ap (λ (y : Node). min (roundPlaces (lower f) (upper f) (y .places)) 257) (x .node)
+              ∙ ap (λ (i : ℕ). min (roundPlaces (lower f) (upper f) i) 257) (own-places (x .tree) c) ∙ cap-rounds (lower f) (upper f) (min (placeCount (x .tree)) 257) (placeCount (x .tree)) (omega arith);
+          forked = ap (λ (y : Step). y .forks) e;
+          wrote = g .wrote ∙ ap (λ (i : ℕ). putNode m1 i (withMark (p .node) f z)) (x .count) ∙ ap (λ (y : Node). putNode m1 (c + nodeCount (x .tree)) (withMark y f z)) (x .node)
+              ∙ ap (λ (y : List ℕ). putNode y (c + nodeCount (x .tree)) (withMark (own (x .tree) c) f z)) (x .wrote);
+        }
+
+    pub factor-ends : Finished s m1 m2 p r → Reads factor s at c m0 m2 r
+    unfolding FinishedAs
+    factor-ends g = by (quantifier (drop (p .at) s)) refl (g .ends)
+      where
+        by : (k : Marked) → quantifier (drop (p .at) s) ≡ k → FinishedAs s m1 m2 p r k → Reads factor s at c m0 m2 r
+        by unmarked q f = factor-bare q (f .0) (f .1)
+        by broken q f = factor-broken q (f .0) (f .1)
+        by (marked f z u) q e = factor-marked f z u q e
+
+-- ---- primary
+
+simple-wrote : (c : ℕ) (m s : List ℕ) → Wrote c m m (simple s)
+unfolding simple Wrote written
+simple-wrote c m s =
+    pick-both (Wrote c m m) (eqb (peek s) 94) _ _ (λ z. refl) λ z1.
+    pick-both (Wrote c m m) (eqb (peek s) 36) _ _ (λ z. refl) λ z2.
+    pick-both (Wrote c m m) (isLetter (peek s)) _ _ (λ z. pick-both (Wrote c m m) (isLetter (peek (rest s))) _ _ (λ y. tt) (λ y. refl)) (λ z. tt)
+
+module _ (n : ℕ) (u : List ℕ) where
+  prim-simple : (peek u ≡ 40 → ⊥) → read (suc n) primary u ≡ simple u
+  unfolding read primaryOn
+  prim-simple h = simp (ne-eqb (peek u) 40 h)
+
+  prim-empty : (v : List ℕ) → peek u ≡ 40 → skip (rest u) ≡ v → peek v ≡ 41 → read (suc n) primary u ≡ got empty (skip (rest v))
+  unfolding read primaryOn parted
+  prim-empty v h e g = simp (eq-eqb (peek u) 40 h, e, eq-eqb (peek v) 41 g)
+
+  prim-group : (v : List ℕ) (x : Reading (Tree pattern)) → peek u ≡ 40 → skip (rest u) ≡ v → (peek v ≡ 41 → ⊥) → read n pattern v ≡ x → read (suc n) primary u ≡ closed x
+  unfolding read primaryOn parted
+  prim-group v x h e g f = simp (eq-eqb (peek u) 40 h, e, ne-eqb (peek v) 41 g, f)
+
+shut-got : (p : Tree pattern) (v : List ℕ) → peek v ≡ 41 → closed (got p v) ≡ got (group p) (skip (rest v))
+unfolding closed
+shut-got p v h = simp (eq-eqb (peek v) 41 h)
+
+shut-bad : (p : Tree pattern) (v : List ℕ) → (peek v ≡ 41 → ⊥) → closed (got p v) ≡ bad
+unfolding closed
+shut-bad p v h = simp (ne-eqb (peek v) 41 h)
+
+-- an answer of no reading, and of a reading
+no-head-reading : (s : List ℕ) (at c : ℕ) (m t : List ℕ) (r : Head) → r .ok ≡ false → Kept (8 * c) (room-of s at c) m t → length t ≡ length m
+    → ((n : ℕ) → 4 * length (drop at s) ≤ n → read (suc n) primary (drop at s) ≡ bad) → ReadsHead s at c m t r
+unfolding depth rankOf SaysHead Wrote
+no-head-reading s at c m t r e kp l f =
+    record {
+      says = λ n h. at-suc (λ n. SaysHead s c r (read n primary (drop at s))) (4 * length (drop at s)) (λ n h. rw (f n h) e) n (omega arith);
+      wrote = λ n h. at-suc (λ n. Wrote c m t (read n primary (drop at s))) (4 * length (drop at s)) (λ n h. rw (f n h) tt) n (omega arith);
+      on = λ o. clash o e;
+      kept = kp;
+      len = l;
+    }
+
+a-head-reading : (s : List ℕ) (at c : ℕ) (m t : List ℕ) (r : Head) → r .ok ≡ true → HeadOn s at c r → Kept (8 * c) (room-of s at c) m t → length t ≡ length m
+    → ((n : ℕ) → 4 * length (drop at s) ≤ n → ReadHead s c m t r (read (suc n) primary (drop at s))) → ReadsHead s at c m t r
+unfolding depth rankOf SaysHead Wrote
+a-head-reading s at c m t r e o kp l f =
+    record {
+      says = λ n h. at-suc (λ n. SaysHead s c r (read n primary (drop at s))) (4 * length (drop at s)) (λ n h. let d = f n h in rw (d .is) (record { ok = e; rest = refl; count = d .count; node = d .node })) n (omega arith);
+      wrote = λ n h. at-suc (λ n. Wrote c m t (read n primary (drop at s))) (4 * length (drop at s)) (λ n h. let d = f n h in rw (d .is) (d .wrote)) n (omega arith);
+      on = λ z. o;
+      kept = kp;
+      len = l;
+    }
+
+module _ (s : List ℕ) (at c : ℕ) (m0 : List ℕ) (b : ℕ) (eb : b ≡ peek (drop at s)) where
+  pub primary-simple : (r : Head) → (b ≡ 40 → ⊥) → SimpleSays s at c r → ReadsHead s at c m0 m0 r
+  unfolding depth rankOf
+  primary-simple r e h =
+      record {
+        says = λ n k. at-suc (λ n. SaysHead s c r (read n primary (drop at s))) (4 * length (drop at s)) (λ n k. rw (prim-simple n (drop at s) (λ x. e (eb ∙ x))) (h .says)) n (omega arith);
+        wrote = λ n k. at-suc (λ n. Wrote c m0 m0 (read n primary (drop at s))) (4 * length (drop at s)) (λ n k. rw (prim-simple n (drop at s) (λ x. e (eb ∙ x))) (simple-wrote c m0 (drop at s))) n (omega arith);
+        on = h .on;
+        kept = kept-none (8 * c) (room-of s at c) m0;
+        len = refl;
+      }
+
+  module _ (op : b ≡ 40) (from : ℕ) (k : SkipTo s (at + 1) from) (y : ℕ) (ey : y ≡ peek (drop from s)) where
+    opened : skip (rest (drop at s)) ≡ drop from s
+    opened = ap skip (rest-drop s at) ∙ sym (k .0)
+
+    pub primary-empty : (r : Head) → y ≡ 41 → EmptyIs s from c r → ReadsHead s at c m0 m0 r
+    unfolding nodeCount own written
+    primary-empty r e g =
+        let q = g .skips in
+        a-head-reading s at c m0 m0 r (ap (λ (x : Head). x .ok) (g .is)) (subst (HeadOn s at c) (sym (g .is)) (leaf-on s at c (g .to) Empty 0 (plain Empty 0 0 0 0) (omega arith) (omega (arith, k .1, q .1)) (q .2) refl))
+        (kept-none (8 * c) (room-of s at c) m0) refl λ i d.
+        record {
+          tree = empty;
+          is = prim-empty i (drop at s) (drop from s) (sym eb ∙ op) opened (sym ey ∙ e) ∙ ap (got empty) (ap skip (rest-drop s from) ∙ sym (q .0)) ∙ ap (λ (j : ℕ). got empty (drop j s)) (sym (ap (λ (x : Head). x .at) (g .is)));
+          count = ap (λ (x : Head). x .count) (g .is) ∙ (let z : c ≡ c + 0 = omega arith in z);
+          node = ap (λ (x : Head). x .node) (g .is);
+          wrote = refl;
+        }
+
+    pub primary-again : (u : ℕ) → 4 * (length s - at) + 0 ≡ u → Fits s at m0 c → (4 * (length s - from) + 3 < u) × Fits s from m0 c
+    primary-again u e f =
+        let i = inside s at 40 (omega arith) (sym eb ∙ op) in
+        (omega (arith, k .1, k .2), record { in-text = k .2; fits = omega (arith, k .1, k .2, f .fits); small = omega (arith, k .1, k .2, f .small) })
+
+    module _ (f : Fits s at m0 c) (m1 : List ℕ) (p : Step) (h : Reads pattern s from c m0 m1 p) where
+      inner-kept : Kept (8 * c) (room-of s at c) m0 m1
+      inner-kept = kept-wide (8 * c) (room-of s from c) (8 * c) (room-of s at c) m0 m1 (omega arith) (omega (arith, k .1, k .2)) (h .kept)
+
+      deep : (n : ℕ) → 4 * length (drop at s) ≤ n → depth pattern (drop from s) ≤ n
+      unfolding depth rankOf
+      deep n d = let i = inside s at 40 (omega arith) (sym eb ∙ op) in omega (arith, k .1, k .2, length-drop at s, length-drop from s)
+
+      pub primary-needs : ShutNeeds p
+      primary-needs =
+          record { some = λ o. let w = h .on o in omega (arith, w .some); low = λ o. let w = h .on o in omega (arith, w .low, w .few, w .inside, w .on, k .1, f .small); few-places = λ o. (h .on o) .few-places; few-forks = λ o. (h .on o) .few-forks }
+
+      module _ (ny : y ≡ 41 → ⊥) (r : Head) (g : ShutIs s p r) where
+        read-inner : (n : ℕ) (x : Reading (Tree pattern)) → read n pattern (drop from s) ≡ x → read (suc n) primary (drop at s) ≡ closed x
+        read-inner n x e = prim-group n (drop at s) (drop from s) x (sym eb ∙ op) opened (λ z. ny (ey ∙ z)) e
+
+        group-fails : p .ok ≡ false → ReadsHead s at c m0 m1 r
+        unfolding closed
+        group-fails e = no-head-reading s at c m0 m1 r (g .unread e) inner-kept (h .len) λ n d. read-inner n bad (says-bad pattern s c m0 m1 p _ (h .says n (deep n d)) e)
+
+        group-open : p .ok ≡ true → (peek (drop (p .at) s) ≡ 41 → ⊥) → ReadsHead s at c m0 m1 r
+        group-open o nz = no-head-reading s at c m0 m1 r (g .open-still o nz) inner-kept (h .len) λ n d.
+            let x = says-got pattern s c m0 m1 p _ (h .says n (deep n d)) o in
+            read-inner n _ (x .is) ∙ shut-bad (x .tree) (drop (p .at) s) nz
+
+        group-shut : p .ok ≡ true → peek (drop (p .at) s) ≡ 41 → Shut s p r → ReadsHead s at c m0 m1 r
+        unfolding nodeCount height own written
+        group-shut o e q =
+            let w = h .on o in
+            let l = q .skips in
+            a-head-reading s at c m0 m1 r (ap (λ (x : Head). x .ok) (q .is))
+            (subst (HeadOn s at c) (sym (q .is)) (record {
+              on = omega (arith, w .on, k .1, l .1);
+              inside = l .2;
+              some = omega (arith, w .some);
+              few = omega (arith, w .few, w .on, k .1, l .1);
+              low = omega (arith, w .low);
+              few-places = omega arith;
+              small = record { form = omega arith; low = omega arith; high = omega arith; left = omega (arith, w .few, w .inside, w .on, k .1, f .small); right = omega arith; height = omega (arith, w .low, w .few, w .inside, w .on, k .1, f .small); places = omega arith };
+            }))
+            inner-kept (h .len) λ i d.
+            let x = says-got pattern s c m0 m1 p _ (h .says i (deep i d)) o in
+            record {
+              tree = group (x .tree);
+              is = read-inner i _ (x .is) ∙ shut-got (x .tree) (drop (p .at) s) e ∙ ap (got (group (x .tree))) (ap skip (rest-drop s (p .at)) ∙ sym (l .0)) ∙ ap (λ (j : ℕ). got (group (x .tree)) (drop j s)) (sym (ap (λ (x : Head). x .at) (q .is)));
+              count = ap (λ (x : Head). x .count) (q .is) ∙ x .count;
+              node = ap (λ (x : Head). x .node) (q .is) ∙ ap (λ (i : ℕ). plain Group (i - 1) 0 (p .height + 1) (min (p .forks + p .places) 257)) (x .count) ∙ ap (λ (i : ℕ). plain Group (c + nodeCount (x .tree) - 1) 0 (i + 1) (min (p .forks + p .places) 257)) (x .high)
+                  ∙ ap (plain Group (c + nodeCount (x .tree) - 1) 0 (height (x .tree) + 1)) (let e1 = x .placed in let e2 = x .forked in let e3 : min (p .forks + p .places) 257 ≡ min (fork (x .tree) + placeCount (x .tree)) 257 = omega arith in e3);
+              wrote = x .wrote;
+            }
+
+        pub primary-group : ReadsHead s at c m0 m1 r
+        primary-group = on-ok (p .ok) refl
+          where
+            on-shut : p .ok ≡ true → (t : Bool) → eqb (peek (drop (p .at) s)) 41 ≡ t → ReadsHead s at c m0 m1 r
+            on-shut o true e = group-shut o (eqb-true _ _ e) (g .shuts o (eqb-true _ _ e))
+            on-shut o false e = group-open o (eqb-false _ _ e)
+
+            on-ok : (t : Bool) → p .ok ≡ t → ReadsHead s at c m0 m1 r
+            on-ok true o = on-shut o (eqb (peek (drop (p .at) s)) 41) refl
+            on-ok false o = group-fails o
+
+-- ---- a whole text
+
+pub text-fits : (s : List ℕ) (from : ℕ) (m : List ℕ) → Fits s 0 m 0 → SkipTo s 0 from → Fits s from m 0
+text-fits s from m f k = record { in-text = k .2; fits = omega (arith, f .fits, k .2); small = omega (arith, f .small) }
+
+module _ (s : List ℕ) (from : ℕ) (m0 m1 : List ℕ) (p : Step) (k : SkipTo s 0 from) (h : Reads pattern s from 0 m0 m1 p) where
+  text-is : treeOf s ≡ whole (read (4 * length s + 4) pattern (drop from s))
+  unfolding treeOf
+  text-is = ap (λ (u : List ℕ). whole (read (4 * length s + 4) pattern u)) (sym (k .0))
+
+  enough : depth pattern (drop from s) ≤ 4 * length s + 4
+  unfolding depth rankOf
+  enough = omega (arith, length-drop from s)
+
+  text-kept : (j : ℕ) → 16 * length s ≤ j → getD m1 j 0 ≡ getD m0 j 0
+  text-kept j l = h .kept j (λ a b. omega arith)
+
+  pub text-none : p .ok ≡ false → TextSays s m0 m1 p
+  unfolding ParsedAs whole
+  text-none e = record { says = rw (text-is, says-bad pattern s 0 m0 m1 p _ (h .says _ enough) e) e; kept = text-kept; len = h .len }
+
+  module _ (o : p .ok ≡ true) where
+    found : Read pattern s 0 m0 m1 p (read (4 * length s + 4) pattern (drop from s))
+    found = says-got pattern s 0 m0 m1 p _ (h .says _ enough) o
+
+    pub text-rest : (r : Step) → (p .at ≡ length s → ⊥) → r .ok ≡ false → TextSays s m0 m1 r
+    unfolding ParsedAs whole
+    text-rest r n e =
+        let l : p .at < length s = omega (arith, (h .on o) .inside, n) in
+        record { says = rw (text-is, found .is, drop-cons s (p .at) 0 l) e; kept = text-kept; len = h .len }
+
+    pub text-whole : p .at ≡ length s → TextSays s m0 m1 p
+    unfolding ParsedAs whole
+    text-whole e =
+        let q : drop (p .at) s ≡ [] = ap (λ (i : ℕ). drop i s) e ∙ drop-length s in
+        record {
+          says = rw (text-is, found .is, q) (record { ok = o; count = found .count ∙ (let z : 0 + nodeCount (found .tree) ≡ nodeCount (found .tree) = omega arith in z); few = (let w = h .on o in let v = found .count in omega (arith, w .few, w .inside)); high = found .high; placed = found .placed; forked = found .forked; wrote = found .wrote });
+          kept = text-kept;
+          len = h .len;
+        }

@@ -1,0 +1,4 @@
+pub mod Nodes
+pub mod Shows
+pub mod Written
+pub mod Held

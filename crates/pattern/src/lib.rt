@@ -1,0 +1,367 @@
+// A pattern's text read into a tree: the four readers of the pattern language, in a cycle. The tree's nodes go into a lent room, each behind
+// its parts; `read_text` leaves there the nodes of the tree that the text has, or says that it has none.
+pub mod marks;
+pub mod nodes;
+
+use marks::Mark;
+use marks::is_letter;
+use marks::peek;
+use marks::quantifier;
+use marks::skip;
+use nodes::Node;
+use nodes::Sort;
+use nodes::put_node;
+ghost use mathlib.Core.Path.{_≡_};
+ghost use Prim.Native.Nat.{ℕ, _+_, _*_, _-_, _≤_, _<_, max, min};
+ghost use mathlib.Core.Bool.{true, false};
+ghost use lib.ListN.{length};
+ghost use Rattle.rules.specs.Language.{Rank};
+ghost use Rattle.pattern.specs.Nodes.{putNode};
+ghost use Rattle.pattern.specs.Written.{plain, FitsHead, Finished, Joins, Joined, SkipTo, EmptyIs, ShutNeeds, ShutIs, Fits, Reads, ReadsHead, SimpleSays, Holding, TextSays, InOrder, roundsOf};
+
+// What a reader answers: whether it read, where it ended or stopped, how many nodes there are then (its own is the last), its height, its
+// places counted up to 257, without the fork of an alternation, and 1 for that fork.
+pub struct Step {
+    pub ok: bool,
+    pub at: usize,
+    pub count: usize,
+    pub height: usize,
+    pub places: usize,
+    pub forks: usize,
+}
+
+// What the reader of a primary answers: its own node is not yet in the room.
+pub struct Head {
+    pub ok: bool,
+    pub at: usize,
+    pub count: usize,
+    pub node: Node,
+}
+
+// A node without a quantifier.
+fn plain_node(sort: Sort, left: usize, right: usize, height: usize, places: usize) -> Node
+    ensures { λ r. ⌜ r ≡ plain sort left right height places ⌝ }
+{
+    Node {
+        sort,
+        form: 0,
+        lazy: false,
+        low: 1,
+        high: 1,
+        left,
+        right,
+        height,
+        places,
+    }
+}
+
+fn no_head(at: usize, count: usize) -> Head
+    ensures { λ r. ⌜ r .ok ≡ false ⌝ }
+{
+    let node = plain_node(Sort::Empty, 0, 0, 0, 0);
+    Head {
+        ok: false,
+        at,
+        count,
+        node,
+    }
+}
+
+fn no_step(at: usize, count: usize) -> Step
+    ensures { λ r. ⌜ r .ok ≡ false ⌝ }
+{
+    Step {
+        ok: false,
+        at,
+        count,
+        height: 0,
+        places: 0,
+        forks: 0,
+    }
+}
+
+fn higher(a: usize, b: usize) -> usize
+    ensures { λ r. ⌜ r ≡ max a b ⌝ }
+{
+    if a < b { b } else { a }
+}
+
+// A number of places, counted up to 257.
+fn capped(n: usize) -> usize
+    ensures { λ r. ⌜ r ≡ min n 257 ⌝ }
+{
+    if 257 < n { 257 } else { n }
+}
+
+// The places of low to high rounds of a body with c places, counted up to 257.
+fn rounds(low: usize, high: usize, c: usize) -> usize
+    requires { ⌜ InOrder low high × (c ≤ 257) ⌝ }
+    ensures { λ r. ⌜ r ≡ min (roundsOf low high c) 257 ⌝ }
+{
+    let first = low * c;
+    if high == 100 {
+        return capped(first + (1 + c));
+    }
+    let more = (high - low) * (1 + c);
+    capped(first + more)
+}
+
+// A sequence (forks 0) or an alternation (forks 1) of two that are read.
+fn join(room: &mut [u16], sort: Sort, forks: usize, left: Step, right: Step) -> Step
+    requires { ⌜ Joins (now room) left right ⌝ }
+    ensures { λ r. ⌜ Joined (now (room .entry)) (now (room .exit)) sort forks left right r ⌝ }
+{
+    let height = higher(left.height, right.height) + 1;
+    let places = capped(left.places + right.places);
+    let node = plain_node(sort, left.count - 1, right.count - 1, height, places);
+    let count = right.count;
+    put_node(room, count, node);
+    Step {
+        ok: true,
+        at: right.at,
+        count: count + 1,
+        height,
+        places,
+        forks,
+    }
+}
+
+// Puts a factor's node.
+fn settle(room: &mut [u16], count: usize, node: Node, at: usize) -> Step
+    requires { ⌜ Holding (now room) count node ⌝ }
+    ensures { λ r. ⌜ (r ≡ record { ok = true; at = at; count = count + 1; height = node .height; places = node .places; forks = 0 }) × (now (room .exit) ≡ putNode (now (room .entry)) count node) ⌝ }
+{
+    put_node(room, count, node);
+    Step {
+        ok: true,
+        at,
+        count: count + 1,
+        height: node.height,
+        places: node.places,
+        forks: 0,
+    }
+}
+
+// A primary that is read, with the quantifier behind it.
+fn finish(text: &[u8], room: &mut [u16], p: Head) -> Step
+    requires { ⌜ FitsHead (now text) (now room) p ⌝ }
+    ensures { λ r. ⌜ Finished (now (text .entry)) (now (room .entry)) (now (room .exit)) p r ⌝ }
+{
+    let at = p.at;
+    let count = p.count;
+    let node = p.node;
+    match quantifier(text, at) {
+        Mark::Unmarked => settle(room, count, node, at),
+        Mark::Broken => no_step(at, count),
+        Mark::Found {
+            form,
+            low,
+            high,
+            lazy,
+            at: to,
+        } => {
+            let sort = node.sort;
+            let places = rounds(low, high, node.places);
+            let marked = Node {
+                sort,
+                form,
+                lazy,
+                low,
+                high,
+                left: node.left,
+                right: node.right,
+                height: node.height,
+                places,
+            };
+            settle(room, count, marked, to)
+        }
+    }
+}
+
+// A letter that no letter follows, or an anchor.
+fn simple(text: &[u8], at: usize, count: usize) -> Head
+    requires { ⌜ at ≤ length (now text) ⌝ }
+    ensures { λ r. ⌜ SimpleSays (now (text .entry)) at count r ⌝ }
+{
+    let b = peek(text, at);
+    if b == b'^' {
+        let to = skip(text, at + 1);
+        let node = plain_node(Sort::Anchor(b), 0, 0, 0, 1);
+        return Head {
+            ok: true,
+            at: to,
+            count,
+            node,
+        };
+    }
+    if b == b'$' {
+        let to = skip(text, at + 1);
+        let node = plain_node(Sort::Anchor(b), 0, 0, 0, 1);
+        return Head {
+            ok: true,
+            at: to,
+            count,
+            node,
+        };
+    }
+    if !is_letter(b) {
+        return no_head(at, count);
+    }
+    if is_letter(peek(text, at + 1)) {
+        return no_head(at, count);
+    }
+    let to = skip(text, at + 1);
+    let node = plain_node(Sort::Letter(b), 0, 0, 0, 1);
+    Head {
+        ok: true,
+        at: to,
+        count,
+        node,
+    }
+}
+
+// Behind a token of one byte and the spaces there.
+fn after(text: &[u8], at: usize) -> usize
+    requires { ⌜ at < length (now text) ⌝ }
+    ensures { λ r. ⌜ SkipTo (now (text .entry)) (at + 1) r ⌝ }
+{
+    skip(text, at + 1)
+}
+
+// `()`, at its second byte.
+fn empty_head(text: &[u8], at: usize, count: usize) -> Head
+    requires { ⌜ at < length (now text) ⌝ }
+    ensures { λ r. ⌜ EmptyIs (now (text .entry)) at count r ⌝ }
+{
+    let to = after(text, at);
+    let node = plain_node(Sort::Empty, 0, 0, 0, 0);
+    Head {
+        ok: true,
+        at: to,
+        count,
+        node,
+    }
+}
+
+// Behind a pattern in parentheses: `)`.
+fn shut_group(text: &[u8], p: Step) -> Head
+    requires { ⌜ ShutNeeds p ⌝ }
+    ensures { λ r. ⌜ ShutIs (now (text .entry)) p r ⌝ }
+{
+    let at = p.at;
+    let count = p.count;
+    let ok = p.ok;
+    if !ok {
+        return no_head(at, count);
+    }
+    if peek(text, at) != b')' {
+        return no_head(at, count);
+    }
+    let to = after(text, at);
+    let places = capped(p.forks + p.places);
+    let node = plain_node(Sort::Group, count - 1, 0, p.height + 1, places);
+    Head {
+        ok: true,
+        at: to,
+        count,
+        node,
+    }
+}
+
+// pattern: branch, or branch | pattern
+pub fn pattern(text: &[u8], at: usize, room: &mut [u16], count: usize) -> Step
+    requires { ⌜ Fits (now text) at (now room) count ⌝ }
+    ensures { λ r. ⌜ Reads Rank.pattern (now (text .entry)) at count (now (room .entry)) (now (room .exit)) r ⌝ }
+{
+    let b = branch(text, at, room, count);
+    let ok = b.ok;
+    if !ok {
+        return b;
+    }
+    let to = b.at;
+    if peek(text, to) != b'|' {
+        return b;
+    }
+    let from = after(text, to);
+    let more = pattern(text, from, room, b.count);
+    let more_ok = more.ok;
+    if !more_ok {
+        return more;
+    }
+    join(room, Sort::Alternation, 1, b, more)
+}
+
+// branch: factor, or factor branch
+pub fn branch(text: &[u8], at: usize, room: &mut [u16], count: usize) -> Step
+    requires { ⌜ Fits (now text) at (now room) count ⌝ }
+    ensures { λ r. ⌜ Reads Rank.branch (now (text .entry)) at count (now (room .entry)) (now (room .exit)) r ⌝ }
+{
+    let f = factor(text, at, room, count);
+    let ok = f.ok;
+    if !ok {
+        return f;
+    }
+    let to = f.at;
+    let y = peek(text, to);
+    if y == 0 {
+        return f;
+    }
+    if y == b'|' {
+        return f;
+    }
+    if y == b')' {
+        return f;
+    }
+    let more = branch(text, to, room, f.count);
+    let more_ok = more.ok;
+    if !more_ok {
+        return more;
+    }
+    join(room, Sort::Sequence, 0, f, more)
+}
+
+// factor: primary, and at most one quantifier
+pub fn factor(text: &[u8], at: usize, room: &mut [u16], count: usize) -> Step
+    requires { ⌜ Fits (now text) at (now room) count ⌝ }
+    ensures { λ r. ⌜ Reads Rank.factor (now (text .entry)) at count (now (room .entry)) (now (room .exit)) r ⌝ }
+{
+    let p = primary(text, at, room, count);
+    let ok = p.ok;
+    if !ok {
+        return no_step(p.at, count);
+    }
+    finish(text, room, p)
+}
+
+// primary: a letter, an anchor, (), or a pattern in parentheses
+pub fn primary(text: &[u8], at: usize, room: &mut [u16], count: usize) -> Head
+    requires { ⌜ Fits (now text) at (now room) count ⌝ }
+    ensures { λ r. ⌜ ReadsHead (now (text .entry)) at count (now (room .entry)) (now (room .exit)) r ⌝ }
+{
+    if peek(text, at) != b'(' {
+        return simple(text, at, count);
+    }
+    let from = after(text, at);
+    if peek(text, from) == b')' {
+        return empty_head(text, from, count);
+    }
+    let p = pattern(text, from, room, count);
+    shut_group(text, p)
+}
+
+// The tree of a whole text, its nodes from 0 on.
+pub fn read_text(text: &[u8], room: &mut [u16]) -> Step
+    requires { ⌜ Fits (now text) 0 (now room) 0 ⌝ }
+    ensures { λ r. ⌜ TextSays (now (text .entry)) (now (room .entry)) (now (room .exit)) r ⌝ }
+{
+    let from = skip(text, 0);
+    let p = pattern(text, from, room, 0);
+    let ok = p.ok;
+    if !ok {
+        return p;
+    }
+    if p.at != text.len() {
+        return no_step(p.at, p.count);
+    }
+    p
+}

@@ -1,0 +1,326 @@
+-- Laws of the functions that put forks: each is one way through one function.
+use mathlib.Core.Path.{_≡_, refl, sym, ap, _∙_, subst}
+use mathlib.Core.Bool.{Bool, true, false}
+use mathlib.Core.List.{List, [], _∷_, _++_}
+use Prim.Native.Nat.{ℕ, zero, suc, _+_, _*_, _-_, _≤_, _<_, min}
+use native.Mathlib.Omega.{arith}
+use types.Run.{OneOf, miss}
+use denote.Enum.Declared.{tagOf}
+use mir.Val.{Fits as Fits-in}
+use mir.Syntax.{w64}
+use lib.Dec.{eqb}
+use lib.ListN.{length, getD, set}
+use Rattle.rules.specs.Basics.{pick, has}
+use Rattle.rules.specs.Language.{Rank, pattern, branch, factor, Tree, one, more, last, next}
+use Rattle.rules.specs.Places.{unrolled, Place, pFork, waysInTurn, size, sizes, startOf, startsOf, placeCount}
+use Rattle.rules.proofs.Counting.{unrolled-size}
+use Rattle.rules.proofs.Distinct.{keepNew, fresh, distinct}
+use Rattle.pattern.specs.Nodes.{nodeAt}
+use Rattle.pattern.specs.declared.nodes.Sort.{Sort}
+use Rattle.pattern.specs.declared.nodes.Sort.the-variants.{Letter, Anchor, Empty, Sequence, Alternation, Group}
+use Rattle.pattern.specs.declared.nodes.Node.{Node}
+use Rattle.pattern.proofs.nodes.Sort.{the-type}
+use Rattle.pattern.specs.Held.{Top, At}
+use Rattle.pattern.proofs.ByNode.{FactorAt, SeqAt, AltAt, as-any, as-alt, at-in, alt-left, alt-right, top-places}
+use Rattle.places.specs.Tables.{span}
+use Rattle.places.specs.Emitting.{putWays, putWords, putPlace, wayCount, waysIn, putPlaces, Fitting, Emitted, WayPut, WayNeeds, newStarts, Starting, Started, twoPlaces, TwoWays, choicePlaces, Choosing, forkPlaces, Forking}
+use Rattle.places.specs.declared.Spot.{Spot}
+use Rattle.places.proofs.TableLaws.{ways-length, words-length}
+use Rattle.places.proofs.WayLaws.{AfterWay, after-way, start-by-size}
+
+-- ---- a place that is put
+
+-- a fork whose ways are put, and then its words
+pub fork-put : (T T1 T2 : List ℕ) (at : Spot) (ks : List ℕ) (to : ℕ) → T1 ≡ putWays T (at .way) ks → to ≡ at .way + length ks → T2 ≡ putWords T1 (at .place) 0 0 (at .way) to
+    → Emitted T T2 at (record { place = at .place + 1; way = to }) (pFork ks ∷ [])
+unfolding putPlaces putPlace waysIn wayCount
+fork-put T T1 T2 at ks to e1 e2 e3 =
+    record { is = e3 ∙ rw (e1, e2) refl; place = omega arith; way = omega arith }
+
+-- the words of a fork fit
+pub fork-words : (T T1 : List ℕ) (at : Spot) (k : ℕ) (ks : List ℕ) (to : ℕ) → Fitting T at k (pFork ks ∷ []) → length T1 ≡ length T → to ≡ at .way + length ks → (4 * at .place + 4 ≤ length T1) × (at .way < 65536) × (to < 65536)
+unfolding waysIn wayCount
+fork-words T T1 at k ks to f l e = let a = f .place in let b = f .long in let c = f .way in let d = f .small in (omega arith, omega arith, omega arith)
+
+-- one that is not among those seen is new
+one-new : (seen : List ℕ) (y : ℕ) (ys : List ℕ) → has y seen ≡ false → 1 ≤ length (fresh seen (y ∷ ys))
+unfolding fresh
+one-new seen y ys e = rw e (omega arith)
+
+span-none : (T : List ℕ) (w : ℕ) → span T w (w - w) ≡ []
+unfolding span
+span-none T w = ap (span T w) (let e : w - w ≡ 0 = omega arith in e)
+
+-- ---- two ways
+
+module _ (T : List ℕ) (at : Spot) (x y : ℕ) (h : TwoWays T at x y) where
+  pub two-first : WayNeeds T (at .way) (at .way) x
+  unfolding waysIn wayCount has
+  two-first =
+      let f = h .fits in let a = f .way in let b = f .small in
+      record {
+        order = omega arith;
+        inside = omega arith;
+        small = f .small;
+        fits = λ e. (let n = one-new [] x (y ∷ []) refl in omega arith);
+        low = f .behind;
+      }
+
+  module _ (T1 : List ℕ) (r1 : ℕ) (p : WayPut T T1 (at .way) (at .way) x r1) where
+    after : AfterWay T (at .way) (at .way) x (y ∷ []) T1 r1 two-first p
+    after = after-way T (at .way) (at .way) x (y ∷ []) T1 r1 two-first p
+
+    all-ways : fresh (span T (at .way) (at .way - at .way)) (x ∷ y ∷ []) ≡ distinct (x ∷ y ∷ [])
+    all-ways = ap (λ (s : List ℕ). fresh s (x ∷ y ∷ [])) (span-none T (at .way))
+
+    sum : r1 + length (fresh (span T1 (at .way) (r1 - at .way)) (y ∷ [])) ≡ at .way + length (distinct (x ∷ y ∷ []))
+    sum = ap (λ (s : List ℕ). r1 + length s) (sym (after .seen)) ∙ after .count ∙ ap (λ (s : List ℕ). at .way + length s) all-ways
+
+    pub two-second : WayNeeds T1 (at .way) r1 y
+    unfolding waysIn wayCount
+    two-second =
+        let f = h .fits in let a = f .way in let l = after .len in let s = sum in
+        record {
+          order = after .order;
+          inside = omega arith;
+          small = omega (arith, f .small);
+          fits = λ e. (let n = one-new (span T1 (at .way) (r1 - at .way)) y [] e in omega arith);
+          low = h .second;
+        }
+
+    module _ (T2 : List ℕ) (to : ℕ) (q : WayPut T1 T2 (at .way) r1 y to) where
+      then : AfterWay T1 (at .way) r1 y [] T2 to two-second q
+      then = after-way T1 (at .way) r1 y [] T2 to two-second q
+
+      pub two-length : length T2 ≡ length T
+      two-length = then .len ∙ after .len
+
+      two-put : T2 ≡ putWays T (at .way) (distinct (x ∷ y ∷ []))
+      unfolding fresh putWays
+      two-put =
+          ap (putWays T2 to) (sym (then .seen)) ∙ then .put
+          ∙ ap (putWays T1 r1) (sym (after .seen)) ∙ after .put ∙ ap (putWays T (at .way)) all-ways
+
+      two-count : to ≡ at .way + length (distinct (x ∷ y ∷ []))
+      unfolding fresh
+      two-count =
+          let a : to ≡ to + length (fresh (span T2 (at .way) (to - at .way)) []) = omega arith in
+          a ∙ ap (λ (s : List ℕ). to + length s) (sym (then .seen)) ∙ then .count ∙ sum
+
+      pub two-words : (4 * at .place + 4 ≤ length T2) × (at .way < 65536) × (to < 65536)
+      two-words = fork-words T T2 at x (distinct (x ∷ y ∷ [])) to (h .fits) two-length two-count
+
+      pub two-done : (T3 : List ℕ) → T3 ≡ putWords T2 (at .place) 0 0 (at .way) to → Emitted T T3 at (record { place = at .place + 1; way = to }) (twoPlaces x y)
+      two-done T3 e = fork-put T T2 T3 at (distinct (x ∷ y ∷ [])) to two-put two-count e
+
+-- ---- a copy and leaving
+
+module _ (T : List ℕ) (at : Spot) (lazy : Bool) (copy leave : ℕ) where
+  refit : (k j : ℕ) (pl : List Place) → Fitting T at k pl → j ≤ 256 → Fitting T at j pl
+  refit k j pl f h = record { long = f .long; small = f .small; place = f .place; low = f .low; way = f .way; behind = h }
+
+  pub lazy-needs : Choosing T at lazy copy leave → lazy ≡ true → TwoWays T at leave copy
+  lazy-needs h e = record { fits = subst (λ (z : Bool). Fitting T at leave (choicePlaces z copy leave)) e (h .fits); second = h .copied }
+
+  pub lazy-done : (T2 : List ℕ) (r : Spot) → lazy ≡ true → Emitted T T2 at r (twoPlaces leave copy) → Emitted T T2 at r (choicePlaces lazy copy leave)
+  lazy-done T2 r e d = rw e d
+
+  pub greedy-needs : Choosing T at lazy copy leave → lazy ≡ false → TwoWays T at copy leave
+  greedy-needs h e =
+      record { fits = refit leave copy (twoPlaces copy leave) (subst (λ (z : Bool). Fitting T at leave (choicePlaces z copy leave)) e (h .fits)) (h .copied); second = h .fits .behind }
+
+  pub greedy-done : (T2 : List ℕ) (r : Spot) → lazy ≡ false → Emitted T T2 at r (twoPlaces copy leave) → Emitted T T2 at r (choicePlaces lazy copy leave)
+  greedy-done T2 r e d = rw e d
+
+-- ---- the ways of an alternation
+
+pub start-node : (s : List ℕ) (i : ℕ) (T : List ℕ) (from to b k : ℕ) → Starting s i T from to b k → 8 * i + 8 ≤ length s
+start-node s i T from to b k h = at-in s i (record { tree = h .tree; is = h .top })
+
+module _ (s : List ℕ) (i : ℕ) (n : Node) (en : n ≡ nodeAt s i) (T : List ℕ) (from to b k : ℕ) where
+  start-at-node : Starting s i T from to b k → At s i
+  start-at-node h = record { tree = h .tree; is = h .top }
+
+  module _ (e : n .sort ≡ Alternation) (m : ℕ) (em : m ≡ (nodeAt s (n .left)) .places) where
+    -- what is known of an alternation's branches
+    record Alt (p : Tree pattern) : Type 0 where
+      first : Tree branch
+      rest : Tree pattern
+      first-top : Top (one first) (n .left) s
+      rest-top : Top rest (n .right) s
+      starts : startsOf (unrolled p) b k ≡ pick (eqb b (b + m)) k b ∷ startsOf (unrolled rest) (b + m) k
+      size-is : sizes (unrolled p) ≡ m + sizes (unrolled rest)
+
+    alt-facts : (p : Tree pattern) → Top p i s → b + sizes (unrolled p) ≤ 256 → Alt p
+    unfolding unrolled sizes startsOf placeCount
+    alt-facts = as-alt s i n en (λ p. b + sizes (unrolled p) ≤ 256 → Alt p) e λ x p q h.
+        let c : size (unrolled x) ≡ placeCount x = unrolled-size x in
+        let d = top-places s (n .left) (one x) (q .left) in
+        let z : size (unrolled x) ≡ m = omega arith in
+        record {
+          first = x;
+          rest = p;
+          first-top = q .left;
+          rest-top = q .right;
+          starts = ap (λ (v : ℕ). v ∷ startsOf (unrolled p) (b + size (unrolled x)) k) (start-by-size (unrolled x) b k)
+              ∙ ap (λ (v : ℕ). pick (eqb b (b + v)) k b ∷ startsOf (unrolled p) (b + v) k) z;
+          size-is = ap (λ (v : ℕ). v + sizes (unrolled p)) z;
+        }
+
+    module _ (h : Starting s i T from to b k) (y : ℕ) (ey : y ≡ pick (eqb b (b + m)) k b) where
+      alt : Alt (h .tree)
+      alt = alt-facts (h .tree) (h .top) (h .place)
+
+      low-start : (t : Bool) → pick t k b ≤ 256
+      low-start true = h .behind
+      low-start false = omega (arith, h .place)
+
+      new-list : newStarts T from to (h .tree) b k ≡ fresh (span T from (to - from)) (y ∷ startsOf (unrolled (alt .rest)) (b + m) k)
+      new-list = ap (fresh (span T from (to - from))) (alt .starts ∙ ap (λ (v : ℕ). v ∷ startsOf (unrolled (alt .rest)) (b + m) k) (sym ey))
+
+      pub start-way : WayNeeds T from to y
+      start-way =
+          let w : to + length (fresh (span T from (to - from)) (y ∷ startsOf (unrolled (alt .rest)) (b + m) k)) ≤ length T = subst (λ (ks : List ℕ). to + length ks ≤ length T) new-list (h .way) in
+          record {
+            order = h .order;
+            inside = omega arith;
+            small = h .small;
+            fits = λ u. (let v = one-new (span T from (to - from)) y (startsOf (unrolled (alt .rest)) (b + m) k) u in omega arith);
+            low = rw ey (low-start (eqb b (b + m)));
+          }
+
+      module _ (T1 : List ℕ) (r1 : ℕ) (p : WayPut T T1 from to y r1) where
+        after2 : AfterWay T from to y (startsOf (unrolled (alt .rest)) (b + m) k) T1 r1 start-way p
+        after2 = after-way T from to y (startsOf (unrolled (alt .rest)) (b + m) k) T1 r1 start-way p
+
+        rest-list : r1 + length (newStarts T1 from r1 (alt .rest) (b + m) k) ≡ to + length (newStarts T from to (h .tree) b k)
+        rest-list = ap (λ (ks : List ℕ). r1 + length ks) (sym (after2 .seen)) ∙ after2 .count ∙ ap (λ (ks : List ℕ). to + length ks) (sym new-list)
+
+        next-start : Starting s (n .right) T1 from r1 (b + m) k
+        next-start =
+            let z = alt .size-is in let l = after2 .len in let q = rest-list in
+            record {
+              tree = alt .rest;
+              top = alt .rest-top;
+              order = after2 .order;
+              small = omega (arith, h .small);
+              way = omega (arith, h .way);
+              place = omega (arith, h .place);
+              behind = h .behind;
+            }
+
+        pub start-again : (u : ℕ) → (nodeAt s i) .height ≡ u → ((nodeAt s (n .right)) .height < u) × Starting s (n .right) T1 from r1 (b + m) k
+        start-again u eu = ((alt-right s i n en u eu (start-at-node h) e) .0, next-start)
+
+        pub start-more : (exit : List ℕ) (r : ℕ) → ((g : Starting s (n .right) T1 from r1 (b + m) k) → Started s (n .right) T1 from r1 (b + m) k exit r g) → Started s i T from to b k exit r h
+        unfolding next-start
+        start-more exit r f =
+            let d = f next-start in
+            record {
+              is = d .is ∙ ap (putWays T1 r1) (sym (after2 .seen)) ∙ after2 .put ∙ ap (putWays T to) (sym new-list);
+              way = d .way ∙ rest-list;
+            }
+
+    pub start-left : Starting s i T from to b k → 8 * n .left + 8 ≤ length s
+    start-left h = at-in s (n .left) ((alt-left s i n en ((nodeAt s i) .height) refl (start-at-node h) e) .1)
+
+    pub start-fits : Starting s i T from to b k → Fits-in w64 (b + m)
+    start-fits h = let z = (alt-facts (h .tree) (h .top) (h .place)) .size-is in let g = h .place in record { fits = omega arith }
+
+  -- the last branch
+  module _ (e : n .sort ≡ Alternation → ⊥) where
+    record Single (p : Tree pattern) : Type 0 where
+      starts : startsOf (unrolled p) b k ≡ pick (eqb b (b + n .places)) k b ∷ []
+      size-is : sizes (unrolled p) ≡ n .places
+
+    one-facts : (x : Tree branch) → n .places ≡ min (placeCount x) 257 → b + sizes (unrolled (one x)) ≤ 256 → Single (one x)
+    unfolding unrolled sizes startsOf
+    one-facts x d h =
+        let c : size (unrolled x) ≡ placeCount x = unrolled-size x in
+        let z : size (unrolled x) ≡ n .places = omega arith in
+        record {
+          starts = ap (λ (v : ℕ). v ∷ []) (start-by-size (unrolled x) b k) ∙ ap (λ (v : ℕ). pick (eqb b (b + v)) k b ∷ []) z;
+          size-is = omega arith;
+        }
+
+    single : (p : Tree pattern) → Top p i s → b + sizes (unrolled p) ≤ 256 → Single p
+    unfolding placeCount
+    single = as-any s i n en (λ p. b + sizes (unrolled p) ≤ 256 → Single p) (λ F q h. one-facts (last F) (q .places) h) (λ f x q h. one-facts (next f x) (q .places) h) (λ x p q h. absurd (e (q .sort)))
+
+    module _ (h : Starting s i T from to b k) (y : ℕ) (ey : y ≡ pick (eqb b (b + n .places)) k b) where
+      low-last : (t : Bool) → pick t k b ≤ 256
+      low-last true = h .behind
+      low-last false = omega (arith, h .place)
+
+      last-list : newStarts T from to (h .tree) b k ≡ fresh (span T from (to - from)) (y ∷ [])
+      last-list = ap (fresh (span T from (to - from))) ((single (h .tree) (h .top) (h .place)) .starts ∙ ap (λ (v : ℕ). v ∷ []) (sym ey))
+
+      pub last-way : WayNeeds T from to y
+      last-way =
+          let w : to + length (fresh (span T from (to - from)) (y ∷ [])) ≤ length T = subst (λ (ks : List ℕ). to + length ks ≤ length T) last-list (h .way) in
+          record {
+            order = h .order;
+            inside = omega arith;
+            small = h .small;
+            fits = λ u. (let v = one-new (span T from (to - from)) y [] u in omega arith);
+            low = rw ey (low-last (eqb b (b + n .places)));
+          }
+
+      pub last-done : (T1 : List ℕ) (r1 : ℕ) → WayPut T T1 from to y r1 → Started s i T from to b k T1 r1 h
+      unfolding putWays fresh
+      last-done T1 r1 p =
+          let d = after-way T from to y [] T1 r1 last-way p in
+          let c : r1 ≡ r1 + length (fresh (span T1 from (r1 - from)) []) = omega arith in
+          record {
+            is = ap (putWays T1 r1) (sym (d .seen)) ∙ d .put ∙ ap (putWays T to) (sym last-list);
+            way = c ∙ ap (λ (ks : List ℕ). r1 + length ks) (sym (d .seen)) ∙ d .count ∙ ap (λ (ks : List ℕ). to + length ks) (sym last-list);
+          }
+
+    pub last-fits : Starting s i T from to b k → Fits-in w64 (b + n .places)
+    last-fits h = let z = (single (h .tree) (h .top) (h .place)) .size-is in let g = h .place in record { fits = omega arith }
+
+-- ---- the fork of an alternation
+
+module _ (s : List ℕ) (i : ℕ) (T : List ℕ) (at : Spot) (k : ℕ) (h : Forking s i T at k) where
+  starts-all : newStarts T (at .way) (at .way) (h .tree) (at .place + 1) k ≡ distinct (startsOf (unrolled (h .tree)) (at .place + 1) k)
+  starts-all = ap (λ (v : List ℕ). fresh v (startsOf (unrolled (h .tree)) (at .place + 1) k)) (span-none T (at .way))
+
+  pub fork-starting : Starting s i T (at .way) (at .way) (at .place + 1) k
+  unfolding waysIn wayCount
+  fork-starting =
+      let f = h .fits in let a = f .way in
+      record {
+        tree = h .tree;
+        top = h .top;
+        order = omega arith;
+        small = f .small;
+        way = subst (λ (ks : List ℕ). at .way + length ks ≤ length T) (sym starts-all) (omega arith);
+        place = h .room;
+        behind = f .behind;
+      }
+
+  module _ (T1 : List ℕ) (to : ℕ) (d : (g : Starting s i T (at .way) (at .way) (at .place + 1) k) → Started s i T (at .way) (at .way) (at .place + 1) k T1 to g) where
+    ways-put : T1 ≡ putWays T (at .way) (distinct (startsOf (unrolled (h .tree)) (at .place + 1) k))
+    unfolding fork-starting
+    ways-put = (d fork-starting) .is ∙ ap (putWays T (at .way)) starts-all
+
+    ways-count : to ≡ at .way + length (distinct (startsOf (unrolled (h .tree)) (at .place + 1) k))
+    unfolding fork-starting
+    ways-count = (d fork-starting) .way ∙ ap (λ (ks : List ℕ). at .way + length ks) starts-all
+
+    pub forking-words : (4 * at .place + 4 ≤ length T1) × (at .way < 65536) × (to < 65536)
+    forking-words = fork-words T T1 at k (distinct (startsOf (unrolled (h .tree)) (at .place + 1) k)) to (h .fits) (ap length ways-put ∙ ways-length T (at .way) _) ways-count
+
+    pub forking-done : (T2 : List ℕ) → T2 ≡ putWords T1 (at .place) 0 0 (at .way) to → Emitted T T2 at (record { place = at .place + 1; way = to }) (forkPlaces (h .tree) (at .place) k)
+    forking-done T2 e = fork-put T T1 T2 at (distinct (startsOf (unrolled (h .tree)) (at .place + 1) k)) to ways-put ways-count e
+
+-- ---- sorts that are not these
+
+pub not-sequence : (k : Sort) → OneOf (0 ∷ 1 ∷ 2 ∷ 4 ∷ 5 ∷ []) (tagOf the-type k) → k ≡ Sequence → ⊥
+not-sequence k h e = miss (0 ∷ 1 ∷ 2 ∷ 4 ∷ 5 ∷ []) 3 tt (subst (λ (x : Sort). OneOf (0 ∷ 1 ∷ 2 ∷ 4 ∷ 5 ∷ []) (tagOf the-type x)) e h)
+
+pub not-alternation : (k : Sort) → OneOf (0 ∷ 1 ∷ 2 ∷ 3 ∷ 5 ∷ []) (tagOf the-type k) → k ≡ Alternation → ⊥
+not-alternation k h e = miss (0 ∷ 1 ∷ 2 ∷ 3 ∷ 5 ∷ []) 4 tt (subst (λ (x : Sort). OneOf (0 ∷ 1 ∷ 2 ∷ 3 ∷ 5 ∷ []) (tagOf the-type x)) e h)
+
+pub started-length : (s : List ℕ) (i : ℕ) (T : List ℕ) (from to b k : ℕ) (exit : List ℕ) (r : ℕ) (h : Starting s i T from to b k) → Started s i T from to b k exit r h → length exit ≡ length T
+started-length s i T from to b k exit r h d = ap length (d .is) ∙ ways-length T to _

@@ -1,0 +1,4 @@
+pub mod TableLaws
+pub mod WayLaws
+pub mod CodeLaws
+pub mod ForkLaws

@@ -1,0 +1,190 @@
+-- A table into which places are put one after another, and what the functions that unroll a tree need and promise.
+use mathlib.Core.Path.{_≡_}
+use mathlib.Core.Bool.{Bool, true, false}
+use mathlib.Core.List.{List, [], _∷_}
+use Prim.Native.Nat.{ℕ, zero, suc, _+_, _*_, _-_, _≤_, _<_}
+use lib.Dec.{eqb}
+use lib.ListN.{length, getD, set}
+use Rattle.rules.specs.Basics.{pick, has}
+use Rattle.rules.specs.Language.{Rank, pattern, factor, Tree, one, last}
+use Rattle.rules.specs.Places.{Unrolled, uStar, copies, options, unrolled, unroll, Place, pLetter, pCaret, pDollar, pFork, pEnd, waysInTurn, size, sizes, startsOf, code, codes, places, placesOf}
+use Rattle.rules.proofs.Distinct.{fresh, distinct, thinned}
+use Rattle.pattern.specs.Held.{body, lazyOf, Top}
+use Rattle.places.specs.Tables.{span, tabled}
+use Rattle.places.specs.declared.Spot.{Spot}
+
+-- ---- the table with places
+
+-- ways from word w on
+unfoldable pub putWays : List ℕ → ℕ → List ℕ → List ℕ
+putWays T w [] = T
+putWays T w (k ∷ ks) = putWays (set T w k) (suc w) ks
+
+-- the four words of place q
+unfoldable pub putWords : List ℕ → ℕ → ℕ → ℕ → ℕ → ℕ → List ℕ
+putWords T q sort letter next stop = set (set (set (set T (4 * q) sort) (4 * q + 1) letter) (4 * q + 2) next) (4 * q + 3) stop
+
+-- place q, the ways of a fork from word w on
+unfoldable pub putPlace : List ℕ → ℕ → ℕ → Place → List ℕ
+unfolding putWords putWays
+putPlace T q w (pLetter c k) = putWords T q 1 c k 0
+putPlace T q w (pCaret k) = putWords T q 2 0 k 0
+putPlace T q w (pDollar k) = putWords T q 3 0 k 0
+putPlace T q w (pFork ks) = putWords (putWays T w ks) q 0 0 w (w + length ks)
+putPlace T q w pEnd = putWords T q 4 0 0 0
+
+unfoldable pub wayCount : Place → ℕ
+wayCount (pLetter c k) = 0
+wayCount (pCaret k) = 0
+wayCount (pDollar k) = 0
+wayCount (pFork ks) = length ks
+wayCount pEnd = 0
+
+unfoldable pub waysIn : List Place → ℕ
+unfolding wayCount
+waysIn [] = 0
+waysIn (p ∷ ps) = wayCount p + waysIn ps
+
+-- places from q on, their ways from word w on
+unfoldable pub putPlaces : List ℕ → ℕ → ℕ → List Place → List ℕ
+unfolding putPlace wayCount
+putPlaces T q w [] = T
+putPlaces T q w (p ∷ ps) = putPlaces (putPlace T q w p) (suc q) (w + wayCount p) ps
+
+-- ---- what is put where
+
+-- the table has room for these places, and all numbers fit their words; k is the place behind them
+pub record Fitting (T : List ℕ) (at : Spot) (k : ℕ) (pl : List Place) : Type 0 where
+  pub long : 1024 ≤ length T
+  pub small : length T < 65536
+  pub place : at .place + length pl ≤ 256
+  pub low : 1024 ≤ at .way
+  pub way : at .way + waysIn pl ≤ length T
+  pub behind : k ≤ 256
+
+-- these places were put, and r is where the next place and the next way go
+pub record Emitted (T exit : List ℕ) (at r : Spot) (pl : List Place) : Type 0 where
+  pub is : exit ≡ putPlaces T (at .place) (at .way) pl
+  pub place : r .place ≡ at .place + length pl
+  pub way : r .way ≡ at .way + waysIn pl
+
+-- ---- a fork's ways
+
+-- a way is put unless it stands in the words from `from` to `to`
+pub record WayPut (T exit : List ℕ) (from to y r : ℕ) : Type 0 where
+  pub old : has y (span T from (to - from)) ≡ true → (exit ≡ T) × (r ≡ to)
+  pub new : has y (span T from (to - from)) ≡ false → (exit ≡ set T to y) × (r ≡ to + 1)
+
+pub record WayNeeds (T : List ℕ) (from to y : ℕ) : Type 0 where
+  pub order : from ≤ to
+  pub inside : to ≤ length T
+  pub small : length T < 65536
+  pub fits : has y (span T from (to - from)) ≡ false → to < length T
+  pub low : y ≤ 256
+
+-- the starts of the branches of p that do not stand in the words from `from` to `to`, each once
+abbrev pub newStarts : List ℕ → ℕ → ℕ → Tree pattern → ℕ → ℕ → List ℕ
+newStarts T from to p b k = fresh (span T from (to - from)) (startsOf (unrolled p) b k)
+
+pub record Starting (s : List ℕ) (i : ℕ) (T : List ℕ) (from to b k : ℕ) : Type 0 where
+  pub tree : Tree pattern
+  pub top : Top tree i s
+  pub order : from ≤ to
+  pub small : length T < 65536
+  pub way : to + length (newStarts T from to tree b k) ≤ length T
+  pub place : b + sizes (unrolled tree) ≤ 256
+  pub behind : k ≤ 256
+
+pub record Started (s : List ℕ) (i : ℕ) (T : List ℕ) (from to b k : ℕ) (exit : List ℕ) (r : ℕ) (h : Starting s i T from to b k) : Type 0 where
+  pub is : exit ≡ putWays T to (newStarts T from to (h .tree) b k)
+  pub way : r ≡ to + length (newStarts T from to (h .tree) b k)
+
+-- a fork of two ways, as one place
+abbrev pub twoPlaces : ℕ → ℕ → List Place
+twoPlaces x y = pFork (distinct (x ∷ y ∷ [])) ∷ []
+
+pub record TwoWays (T : List ℕ) (at : Spot) (x y : ℕ) : Type 0 where
+  pub fits : Fitting T at x (twoPlaces x y)
+  pub second : y ≤ 256
+
+-- a fork between a copy and leaving
+abbrev pub choicePlaces : Bool → ℕ → ℕ → List Place
+choicePlaces lazy copy leave = pFork (distinct (waysInTurn lazy copy leave)) ∷ []
+
+pub record Choosing (T : List ℕ) (at : Spot) (lazy : Bool) (copy leave : ℕ) : Type 0 where
+  pub fits : Fitting T at leave (choicePlaces lazy copy leave)
+  pub copied : copy ≤ 256
+
+-- the fork of an alternation, as the one place at b
+abbrev pub forkPlaces : Tree pattern → ℕ → ℕ → List Place
+forkPlaces p b k = pFork (distinct (startsOf (unrolled p) (b + 1) k)) ∷ []
+
+pub record Forking (s : List ℕ) (i : ℕ) (T : List ℕ) (at : Spot) (k : ℕ) : Type 0 where
+  pub tree : Tree pattern
+  pub top : Top tree i s
+  pub fits : Fitting T at k (forkPlaces tree (at .place) k)
+  pub room : at .place + 1 + sizes (unrolled tree) ≤ 256
+
+-- ---- a tree's places
+
+abbrev pub treePlaces : Tree pattern → ℕ → ℕ → List Place
+treePlaces p b k = thinned (code (unroll p) b k)
+
+-- the branches' places, without the fork of an alternation
+abbrev pub branchPlaces : Tree pattern → ℕ → ℕ → List Place
+branchPlaces p b k = thinned (codes (unrolled p) b k)
+
+-- a factor's body, without its quantifier
+abbrev pub bodyPlaces : Tree factor → ℕ → ℕ → List Place
+bodyPlaces F b k = thinned (code (unrolled (body F)) b k)
+
+-- n copies, then m times a fork and a copy, or for m = 100 a fork and a copy that leads back to it
+unfoldable pub turns : ℕ → ℕ → Bool → Unrolled → Unrolled
+unfolding copies options
+turns n m lazy t = copies n t (pick (eqb m 100) (uStar lazy t) (options m lazy t))
+
+abbrev pub turnPlaces : ℕ → ℕ → Tree factor → ℕ → ℕ → List Place
+turnPlaces n m F b k = thinned (code (turns n m (lazyOf F) (unrolled (body F))) b k)
+
+pub record Emitting (s : List ℕ) (i : ℕ) (T : List ℕ) (at : Spot) (k : ℕ) : Type 0 where
+  pub tree : Tree pattern
+  pub top : Top tree i s
+  pub fits : Fitting T at k (treePlaces tree (at .place) k)
+
+pub record Branching (s : List ℕ) (i : ℕ) (T : List ℕ) (at : Spot) (k : ℕ) : Type 0 where
+  pub tree : Tree pattern
+  pub top : Top tree i s
+  pub fits : Fitting T at k (branchPlaces tree (at .place) k)
+
+pub record Bodying (s : List ℕ) (i : ℕ) (T : List ℕ) (at : Spot) (k : ℕ) : Type 0 where
+  pub of : Tree factor
+  pub top : Top (one (last of)) i s
+  pub fits : Fitting T at k (bodyPlaces of (at .place) k)
+
+-- c: the places of a body; end: the number behind the last place
+pub record Turning (s : List ℕ) (i c n m end : ℕ) (T : List ℕ) (at : Spot) (k : ℕ) : Type 0 where
+  pub of : Tree factor
+  pub top : Top (one (last of)) i s
+  pub each : c ≡ size (unrolled (body of))
+  pub ends : end ≡ at .place + size (turns n m (lazyOf of) (unrolled (body of)))
+  pub few : (n ≤ 99) × (m ≤ 100)
+  pub fits : Fitting T at k (turnPlaces n m of (at .place) k)
+
+-- ---- the whole
+
+-- room for 256 places and for three ways to a place
+pub record Unrolling (s : List ℕ) (top P : ℕ) (T : List ℕ) : Type 0 where
+  pub tree : Tree pattern
+  pub is : Top tree top s
+  pub count : P ≡ placesOf tree
+  pub few : P ≤ 256
+  pub long : 1024 + 3 * P ≤ length T
+  pub small : length T < 65536
+
+-- the table holds the places of the tree, each fork's ways once; no word behind the ways is changed
+pub record Tabled (p : Tree pattern) (P : ℕ) (T exit : List ℕ) (r : ℕ) : Type 0 where
+  pub is : tabled exit P ≡ thinned (places (unroll p))
+  pub ways : r ≡ 1024 + waysIn (thinned (places (unroll p)))
+  pub few : r ≤ 1024 + 3 * P
+  pub kept : (j : ℕ) → r ≤ j → getD exit j 0 ≡ getD T j 0
+  pub len : length exit ≡ length T
