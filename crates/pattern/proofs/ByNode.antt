@@ -209,12 +209,14 @@ group-at s n F q e = go (prim-group (body F) (q .base) (sym (q .sort) ∙ e))
     go (p, j) =
         let l : n .left ≡ q .base + nodeCount p - 1 = q .left ∙ ap (λ (x : Tree primary). (own x (q .base)) .left) j in
         let m : nodeCount (body F) ≡ nodeCount p = ap (λ (x : Tree primary). nodeCount x) j in
-        let f = q .fits in
-        (p, record {
-          is = j;
-          inside = record { base = q .base; top = omega (arith, pattern-nodes p); held = subst (λ (x : Tree primary). Held x (q .base) s) j (q .held); fits = omega arith };
-          high-is = q .high-is ∙ ap (λ (x : Tree primary). height x) j;
-        })
+        let f = q .fits in (
+          p,
+          record {
+            is = j;
+            inside = record { base = q .base; top = omega (arith, pattern-nodes p); held = subst (λ (x : Tree primary). Held x (q .base) s) j (q .held); fits = omega arith };
+            high-is = q .high-is ∙ ap (λ (x : Tree primary). height x) j;
+          },
+        )
 
 -- ---- a tree by its top node
 

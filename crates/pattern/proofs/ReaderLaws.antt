@@ -112,8 +112,8 @@ module _ (s m : List ℕ) (p : Head) (q : Mark) where
             let e4 : lazy ≡ z = cc in
             let e5 : to ≡ h .to = cc in
             let e6 : q2 ≡ min (roundPlaces (lower f) (upper f) (p .node .places)) 257 =
-                eq ∙ ap (λ (x : ℕ). min (roundsOf x high (p .node .places)) 257) e2 ∙ ap (λ (x : ℕ). min (roundsOf (lower f) x (p .node .places)) 257) e3
-                ∙ ap (λ (x : ℕ). min x 257) (rounds-eq f (p .node .places) (marked-in (drop (p .at) s) f z u d)) in
+            eq ∙ ap (λ (x : ℕ). min (roundsOf x high (p .node .places)) 257) e2 ∙ ap (λ (x : ℕ). min (roundsOf (lower f) x (p .node .places)) 257) e3
+            ∙ ap (λ (x : ℕ). min x 257) (rounds-eq f (p .node .places) (marked-in (drop (p .at) s) f z u d)) in
             record {
               to = to;
               is = g .0 ∙ ap (stepTo to p) e6;

@@ -29,7 +29,7 @@ seq-code x y B K c e k ec ee ek =
     let c2 : B + size x ≡ B + c = omega arith in
     let e2 : B + c + size y ≡ e = omega arith in
     let s : startOf y (B + size x) K ≡ k =
-        start-by-size y (B + size x) K ∙ ap (λ (v : ℕ). pick (eqb v (v + size y)) K v) c2 ∙ ap (λ (v : ℕ). pick (eqb (B + c) v) K (B + c)) e2 ∙ sym ek in
+    start-by-size y (B + size x) K ∙ ap (λ (v : ℕ). pick (eqb v (v + size y)) K v) c2 ∙ ap (λ (v : ℕ). pick (eqb (B + c) v) K (B + c)) e2 ∙ sym ek in
     thinned-append (code x B (startOf y (B + size x) K)) (code y (B + size x) K)
     ∙ ap (λ (v : ℕ). thinned (code x B v) ++ thinned (code y (B + size x) K)) s
     ∙ ap (λ (v : ℕ). thinned (code x B k) ++ thinned (code y v K)) c2

@@ -195,8 +195,8 @@ unfolding placesFrom putPlaces waysIn
 places-back T q w [] h l = refl
 places-back T q w (p ∷ ps) h l =
     let a : placeIn (putPlaces (putPlace T q w p) (suc q) (w + wayCount p) ps) q ≡ p =
-        place-back T (putPlaces (putPlace T q w p) (suc q) (w + wayCount p) ps) q w p (omega arith) (omega arith)
-            (λ j x y. places-kept (putPlace T q w p) (suc q) (w + wayCount p) ps j (λ c d. omega arith) (λ c d. omega arith))
-            (λ j x y. places-kept (putPlace T q w p) (suc q) (w + wayCount p) ps j (λ c d. omega arith) (λ c d. omega arith)) in
+    place-back T (putPlaces (putPlace T q w p) (suc q) (w + wayCount p) ps) q w p (omega arith) (omega arith)
+    (λ j x y. places-kept (putPlace T q w p) (suc q) (w + wayCount p) ps j (λ c d. omega arith) (λ c d. omega arith))
+    (λ j x y. places-kept (putPlace T q w p) (suc q) (w + wayCount p) ps j (λ c d. omega arith) (λ c d. omega arith)) in
     let b = places-back (putPlace T q w p) (suc q) (w + wayCount p) ps (omega arith) (omega (arith, place-length T q w p)) in
     λ i. a i ∷ b i

@@ -131,7 +131,7 @@ module _ (T : List ℕ) (from to y : ℕ) (ys : List ℕ) (T1 : List ℕ) (r1 : 
           let q = p .new e in
           let l = n .fits e in
           let f : fresh (span T1 from (r1 - from)) ys ≡ fresh (y ∷ span T from (to - from)) ys =
-              rw (q .0, q .1) (fresh-cong (span (set T to y) from (to + 1 - from)) (y ∷ span T from (to - from)) ys (λ z. has-seen T from to y z (n .order) l)) in
+          rw (q .0, q .1) (fresh-cong (span (set T to y) from (to + 1 - from)) (y ∷ span T from (to - from)) ys (λ z. has-seen T from to y z (n .order) l)) in
           let s : to + 1 ≡ suc to = omega arith in
           record {
             list = fresh (span T1 from (r1 - from)) ys;

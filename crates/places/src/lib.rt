@@ -77,7 +77,15 @@ fn put_way(table: &mut [u16], from: usize, to: usize, y: usize) -> usize
 }
 
 // The ways of an alternation's fork: where its branches begin, from the one at i on, whose places are numbered from b on.
-fn fork_ways(room: &[u16], i: usize, table: &mut [u16], from: usize, to: usize, b: usize, k: usize) -> usize
+fn fork_ways(
+    room: &[u16],
+    i: usize,
+    table: &mut [u16],
+    from: usize,
+    to: usize,
+    b: usize,
+    k: usize,
+) -> usize
     requires { ⌜ Starting (now room) i (now table) from to b k ⌝ }
     ensures { λ r. ⌜ ((h : Starting (now (room .entry)) i (now (table .entry)) from to b k) → Started (now (room .entry)) i (now (table .entry)) from to b k (now (table .exit)) r h) ⌝ }
 {

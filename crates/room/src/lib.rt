@@ -1,0 +1,163 @@
+// A query read whole: its answer 1 to 9 or 0, the tree of its pattern in lent words, its comparisons and measures in lent arrays (`read_query`); and
+// how much a caller has to lend for it on some rows (`room`). For all bytes and rows; the promises are equations with document 01's definitions.
+use decode::Parts;
+ghost use mathlib.Core.Path.{_≡_};
+ghost use mathlib.Core.List.{List};
+ghost use Prim.Native.Nat.{ℕ, _≤_, _<_};
+ghost use lib.IntN.{ℤ};
+ghost use lib.ListN.{length};
+ghost use Rattle.rules.specs.Answers.{roomOf};
+ghost use Rattle.room.specs.Reading.{knownIn, foreignIn, refusal, JudgeRoom, JudgedParts, Space, Asked, asRoom};
+
+// What a query asks: its answer 1 to 9, or 0; where it is 0, P, the top node of its pattern's tree, and its parts.
+pub struct Query {
+    pub answer: usize,
+    pub places: usize,
+    pub top: usize,
+    pub columns: usize,
+    pub skip: usize,
+    pub measures: usize,
+}
+
+// How much to lend: the answer 1 to 10, or 0 with P and n.
+pub struct Size {
+    pub answer: usize,
+    pub places: usize,
+    pub rows: usize,
+}
+
+// Whether a measure's letter stands in the pattern's text, or is 0 for all rows.
+fn is_known(text: &[u8], letter: u8) -> bool
+    ensures { λ r. ⌜ r ≡ knownIn (now (text .entry)) letter ⌝ }
+{
+    if letter == 0 {
+        return true;
+    }
+    judge::has_byte(text, letter)
+}
+
+// Whether some measure's letter does not stand in the pattern's text.
+fn has_foreign(text: &[u8], measures: &[u8; 24], count: usize) -> bool
+    requires { ⌜ count ≤ 8 ⌝ }
+    ensures { λ r. ⌜ r ≡ foreignIn (now (text .entry)) (now (measures .entry)) count ⌝ }
+{
+    let mut k = 0;
+    while k < count {
+        let m = decode::measure_at(measures, k);
+        if !is_known(text, m.letter) {
+            return true;
+        }
+        k += 1;
+    }
+    false
+}
+
+fn refused(answer: usize) -> Query
+    ensures { λ r. ⌜ r ≡ refusal answer ⌝ }
+{
+    Query {
+        answer,
+        places: 0,
+        top: 0,
+        columns: 0,
+        skip: 0,
+        measures: 0,
+    }
+}
+
+// The pattern of a query with no answer 1 to 3 judged, then its DEFINEs and measures: answers 4 to 9.
+fn judge_parts(s: &[u8], parts: Parts, room: &mut [u16], measures: &[u8; 24]) -> Query
+    requires { ⌜ JudgeRoom (now s) (now room) (now measures) parts ⌝ }
+    ensures { λ r. ⌜ JudgedParts (now (s .entry)) (now (room .exit)) (now (measures .entry)) parts r ⌝ }
+{
+    let start = parts.start;
+    let end = start + parts.len;
+    let v = judge::judge(&s[start..end], room);
+    let answer = v.answer;
+    if answer != 0 {
+        return refused(answer);
+    }
+    if query::two_defines(s) {
+        return refused(8);
+    }
+    if has_foreign(&s[start..end], measures, parts.measures) {
+        return refused(9);
+    }
+    Query {
+        answer: 0,
+        places: v.places,
+        top: v.top,
+        columns: parts.columns,
+        skip: parts.skip,
+        measures: parts.measures,
+    }
+}
+
+// Reads a query.
+pub fn read_query(
+    s: &[u8],
+    room: &mut [u16],
+    cells: &mut [u16; 832],
+    offsets: &mut [i8; 416],
+    numbers: &mut [i32; 208],
+    counts: &mut [u8; 26],
+    measures: &mut [u8; 24],
+) -> Query
+    requires { ⌜ Space (now room) (now cells) (now offsets) (now numbers) (now measures) ⌝ }
+    ensures { λ r. ⌜ Asked (now (s .entry)) (now (cells .entry)) (now (offsets .entry)) (now (numbers .entry)) (now (measures .entry)) (now (room .exit)) (now (cells .exit)) (now (offsets .exit)) (now (numbers .exit)) (now (counts .exit)) (now (measures .exit)) r ⌝ }
+{
+    let first = query::first_answer(s);
+    if first != 0 {
+        return refused(first);
+    }
+    let parts = decode::decode(s, cells, offsets, numbers, counts, measures);
+    judge_parts(s, parts, room, measures)
+}
+
+fn no_room(answer: usize) -> Size
+    ensures { λ r. ⌜ r ≡ record { answer = answer; places = 0; rows = 0 } ⌝ }
+{
+    Size {
+        answer,
+        places: 0,
+        rows: 0,
+    }
+}
+
+// How much a query needs on these rows.
+pub fn room(query: &[u8], rows: &[i32]) -> Size
+    ensures { λ r. ⌜ asRoom r ≡ roomOf (now (query .entry)) (now (rows .entry)) ⌝ }
+{
+    let mut nodes = [0u16; 4096];
+    let mut cells = [0u16; 832];
+    let mut offsets = [0i8; 416];
+    let mut numbers = [0i32; 208];
+    let mut counts = [0u8; 26];
+    let mut measures = [0u8; 24];
+    let q = read_query(
+        query,
+        &mut nodes,
+        &mut cells,
+        &mut offsets,
+        &mut numbers,
+        &mut counts,
+        &mut measures,
+    );
+    let answer = q.answer;
+    if answer != 0 {
+        return no_room(answer);
+    }
+    let columns = q.columns;
+    let n = rows.len() / columns;
+    if rows.len() % columns != 0 {
+        return no_room(10);
+    }
+    if 4096 < n {
+        return no_room(10);
+    }
+    Size {
+        answer: 0,
+        places: q.places,
+        rows: n,
+    }
+}
