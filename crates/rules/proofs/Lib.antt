@@ -11,3 +11,4 @@ pub mod Notes
 pub mod Starts
 pub mod Promise
 pub mod Choice
+pub mod Signed
