@@ -43,3 +43,4 @@ pub mod Clause62
 pub mod Strings
 pub mod Choice
 pub mod Distinct
+pub mod Signed

@@ -1,0 +1,159 @@
+-- A comparison and a letter at a row, by the ways through the code: each signed local is what the machine holds of it.
+use mathlib.Core.Path.{_≡_, refl, sym, ap, _∙_}
+use mathlib.Core.Bool.{Bool, true, false, not, _&&_, and-true, and-assoc}
+use mathlib.Core.List.{List, [], _∷_, _++_}
+use mathlib.Core.Option.{Option, none, some}
+use Prim.Native.Nat.{ℕ, zero, suc, _+_, _*_, _-_, _%_, _≤_, _<_}
+use native.Mathlib.Omega.{arith}
+use native.Mathlib.Numerals.{add-one}
+use lib.Dec.{eqb}
+use lib.IntN.{ℤ, pos, _+ℤ_}
+use lib.Signed.{mag}
+use lib.ListN.{length, getD}
+use mir.Syntax.{w8, w32, w64}
+use mir.Val.{SFits, toZ, ofZ}
+use mir.Facts.{toZ-ofZ}
+use borrow.Author.Tests.{eq-eqb, ne-eqb, not-true, not-false}
+use Rattle.rules.specs.Basics.{pick, every, tabulate}
+use Rattle.rules.specs.Rows.{Comparison, Table, tableOf, entryAt, compares, plusNumber, rightSide, metBy, met, holds}
+use Rattle.rules.proofs.Signed.{sum-fits, read-back}
+use Rattle.decode.specs.Layout.{cellAt, cellsFrom, SpotFor, Spots}
+use Rattle.letters.specs.Letters.{there, At, EntryThere, rightMet, RightRoom, CellRoom, LetterRoom}
+use Rattle.letters.proofs.Entries.{spot-inside, spot-entry, no-entry}
+
+abbrev held : ℤ → ℤ
+held z = toZ w64 (ofZ w64 z)
+
+abbrev held32 : ℤ → ℤ
+held32 z = toZ w32 (ofZ w32 z)
+
+abbrev held8 : ℤ → ℤ
+held8 z = toZ w8 (ofZ w8 z)
+
+small : (z : ℤ) → mag z < 2147483648 → held z ≡ z
+small z h = read-back z (omega arith)
+
+-- a row that the machine's byte leads to is there, or not
+module _ (n row : ℕ) (o : ℤ) (f : SFits w8 o) (t : Bool) (e : t ≡ there n (pos row +ℤ held8 o)) where
+  is-there : there n (pos row +ℤ o) ≡ t
+  is-there = ap (λ (z : ℤ). there n (pos row +ℤ z)) (sym (toZ-ofZ f)) ∙ sym e
+
+-- ---- the right side
+
+module _ (rows : List ℤ) (columns n row base operator : ℕ) (a : ℤ) (kind spot : ℕ) (offset number : ℤ) where
+  pub met-constant : (w : ℤ) (r : Bool) → SFits w64 a → SFits w32 number → (kind ≡ 1 → ⊥) → r ≡ compares operator (held a) (held w) → mag w < 2147483648 → w ≡ held32 number
+      → r ≡ rightMet (tableOf columns rows) row operator a kind spot offset number
+  unfolding rightMet metBy
+  met-constant w r fa f h e g ew = simp (ne-eqb kind 1 h) (e ∙ ap (λ (x : ℤ). compares operator x (held w)) (toZ-ofZ fa) ∙ ap (compares operator a) (small w g ∙ ew ∙ toZ-ofZ f))
+
+  module _ (room : RightRoom rows columns n row base spot offset) (f : SFits w8 offset) (t : Bool) (e : t ≡ there n (pos row +ℤ held8 offset)) where
+    pub met-missing : kind ≡ 1 → not t ≡ true → false ≡ rightMet (tableOf columns rows) row operator a kind spot offset number
+    unfolding rightMet metBy plusNumber tableOf
+    met-missing h q =
+        let z : entryAt (tableOf columns rows) (pos row +ℤ offset) (spot % columns) ≡ none = no-entry rows columns n row base (room .at) spot offset (room .spot-for) (is-there n row offset f t e ∙ not-true t q) in
+        simp (eq-eqb kind 1 h, z)
+
+    pub met-inside : not t ≡ false → EntryThere rows columns base spot
+    met-inside q = spot-inside rows columns n row base (room .at) spot offset (room .spot-for) (is-there n row offset f t e ∙ not-false t q) (room .short)
+
+    pub met-column : (b u : ℤ) (r : Bool) → SFits w64 a → SFits w32 number → kind ≡ 1 → not t ≡ false → b ≡ getD rows (base + spot - columns * 64) (pos 0) → mag b < 2147483648 → u ≡ held b +ℤ held32 number
+        → r ≡ compares operator (held a) (held u) → r ≡ rightMet (tableOf columns rows) row operator a kind spot offset number
+    unfolding rightMet metBy plusNumber tableOf
+    met-column b u r fa fn h q eb g eu er =
+        let z : entryAt (tableOf columns rows) (pos row +ℤ offset) (spot % columns) ≡ some (getD rows (base + spot - columns * 64) (pos 0)) =
+        spot-entry rows columns n row base (room .at) spot offset (room .spot-for) (is-there n row offset f t e ∙ not-false t q) in
+        let fm : mag number < 2147483648 = fn .sfits in
+        let w : u ≡ b +ℤ number = eu ∙ ap (λ (x : ℤ). x +ℤ held32 number) (small b g) ∙ ap (λ (x : ℤ). b +ℤ x) (toZ-ofZ fn) in
+        let v : held u ≡ b +ℤ number = ap held w ∙ toZ-ofZ (sum-fits b number 2147483648 2147483648 g fm (omega arith)) in
+        simp (eq-eqb kind 1 h, z) (er ∙ ap (λ (x : ℤ). compares operator x (held u)) (toZ-ofZ fa) ∙ ap (compares operator a) v ∙ ap (λ (x : ℤ). compares operator a (x +ℤ number)) eb)
+
+-- ---- a comparison of the arrays
+
+module _ (cells : List ℕ) (offsets numbers : List ℤ) (g : ℕ) (rows : List ℤ) (columns n row base : ℕ) (room : CellRoom cells offsets g rows columns n row base) where
+  module _ (f : SFits w8 (getD offsets (g * 2) (pos 0))) (t : Bool) (e : t ≡ there n (pos row +ℤ held8 (getD offsets (g * 2) (pos 0)))) where
+    pub cell-missing : not t ≡ true → false ≡ met (tableOf columns rows) row (cellAt columns cells offsets numbers g)
+    unfolding met metBy cellAt
+    cell-missing q =
+        let z = no-entry rows columns n row base (room .at) (getD cells (g * 4) 0) (getD offsets (g * 2) (pos 0)) (room .spots .left) (is-there n row (getD offsets (g * 2) (pos 0)) f t e ∙ not-true t q) in
+        simp z
+
+    module _ (q : not t ≡ false) (x : ℕ) (ex : x ≡ getD cells (g * 4) 0) where
+      pub cell-inside : x < 65536 → EntryThere rows columns base x
+      cell-inside w =
+          rw ex (spot-inside rows columns n row base (room .at) (getD cells (g * 4) 0) (getD offsets (g * 2) (pos 0)) (room .spots .left) (is-there n row (getD offsets (g * 2) (pos 0)) f t e ∙ not-false t q)
+          (let y : getD cells (g * 4) 0 < 65536 = omega arith in y))
+
+      pub cell-is : (a : ℤ) (y u v : ℕ) (r : Bool) → SFits w8 (getD offsets (g * 2 + 1) (pos 0)) → SFits w32 (getD numbers g (pos 0)) → a ≡ getD rows (base + x - columns * 64) (pos 0) → mag a < 2147483648
+          → u ≡ getD cells (g * 4 + 2) 0 → v ≡ getD cells (g * 4 + 3) 0 → y ≡ getD cells (g * 4 + 1) 0
+          → r ≡ rightMet (tableOf columns rows) row u (held a) v y (held8 (getD offsets (g * 2 + 1) (pos 0))) (held32 (getD numbers g (pos 0)))
+          → r ≡ met (tableOf columns rows) row (cellAt columns cells offsets numbers g)
+      unfolding met metBy rightMet rightSide cellAt tableOf
+      cell-is a y u v r f1 fn ea ga eu ev ey er =
+          let z = spot-entry rows columns n row base (room .at) (getD cells (g * 4) 0) (getD offsets (g * 2) (pos 0)) (room .spots .left) (is-there n row (getD offsets (g * 2) (pos 0)) f t e ∙ not-false t q) in
+          let aa : held a ≡ getD rows (base + getD cells (g * 4) 0 - columns * 64) (pos 0) = small a ga ∙ ea ∙ ap (λ (i : ℕ). getD rows (base + i - columns * 64) (pos 0)) ex in
+          er
+          ∙ rw (aa, toZ-ofZ f1, toZ-ofZ fn, eu, ev, ey) (rw z refl)
+
+  pub cell-right : (y : ℕ) → SFits w8 (getD offsets (g * 2 + 1) (pos 0)) → y ≡ getD cells (g * 4 + 1) 0 → y < 65536 → RightRoom rows columns n row base y (held8 (getD offsets (g * 2 + 1) (pos 0)))
+  cell-right y f ey w = record { at = room .at; short = w; spot-for = rw (toZ-ofZ f, ey) (room .spots .right) }
+
+-- ---- a letter: the loop over its comparisons
+
+module _ (f : Comparison → Bool) where
+  every-last : (xs : List Comparison) (x : Comparison) → every f (xs ++ x ∷ []) ≡ (every f xs && f x)
+  unfolding every
+  every-last [] x = and-true (f x)
+  every-last (y ∷ xs) x = ap (λ (t : Bool). f y && t) (every-last xs x) ∙ sym (and-assoc (f y) (every f xs) (f x))
+
+  module _ (g : ℕ → Comparison) where
+    one-more : (k : ℕ) → every f (tabulate (suc k) g) ≡ (every f (tabulate k g) && f (g k))
+    unfolding tabulate
+    one-more k = every-last (tabulate k g) (g k)
+
+    stays : (d k : ℕ) → every f (tabulate k g) ≡ false → every f (tabulate (d + k) g) ≡ false
+    stays zero k e = ap (λ (i : ℕ). every f (tabulate i g)) (let q : 0 + k ≡ k = omega arith in q) ∙ e
+    stays (suc d) k e =
+        ap (λ (i : ℕ). every f (tabulate i g)) (let q : suc d + k ≡ suc (d + k) = omega arith in q) ∙ one-more (d + k) ∙ ap (λ (u : Bool). u && f (g (d + k))) (stays d k e)
+
+-- the first k comparisons are met
+pub record Holding (t : Table) (row columns : ℕ) (cells : List ℕ) (offsets numbers : List ℤ) (g count k : ℕ) : Type 0 where
+  pub upto : k ≤ count
+  pub is : holds t row (cellsFrom columns cells offsets numbers g k) ≡ true
+
+module _ (t : Table) (row columns : ℕ) (cells : List ℕ) (offsets numbers : List ℤ) (g count : ℕ) where
+  pub holding-none : Holding t row columns cells offsets numbers g count 0
+  unfolding holds cellsFrom tabulate every
+  holding-none = record { upto = omega arith; is = refl }
+
+  next-one : (k : ℕ) → holds t row (cellsFrom columns cells offsets numbers g (suc k)) ≡ (holds t row (cellsFrom columns cells offsets numbers g k) && met t row (cellAt columns cells offsets numbers (g + k)))
+  unfolding holds cellsFrom
+  next-one k = one-more (met t row) (λ i. cellAt columns cells offsets numbers (g + i)) k
+
+  module _ (k : ℕ) (h : Holding t row columns cells offsets numbers g count k) where
+    pub holding-more : (r : Bool) → k < count → r ≡ met t row (cellAt columns cells offsets numbers (g + k)) → not r ≡ false → Holding t row columns cells offsets numbers g count (k + 1)
+    holding-more r l e u = record {
+      upto = omega arith;
+      is = ap (λ (i : ℕ). holds t row (cellsFrom columns cells offsets numbers g i)) (add-one k) ∙ next-one k
+          ∙ ap (λ (x : Bool). x && met t row (cellAt columns cells offsets numbers (g + k))) (h .is) ∙ sym e ∙ not-false r u;
+    }
+
+    stop : (r : Bool) → k < count → r ≡ met t row (cellAt columns cells offsets numbers (g + k)) → not r ≡ true → false ≡ holds t row (cellsFrom columns cells offsets numbers g count)
+    unfolding holds cellsFrom
+    stop r l e u =
+        let m : every (met t row) (tabulate (suc k) (λ i. cellAt columns cells offsets numbers (g + i))) ≡ false =
+        next-one k ∙ ap (λ (x : Bool). x && met t row (cellAt columns cells offsets numbers (g + k))) (h .is) ∙ sym e ∙ not-true r u in
+        sym (ap (λ (i : ℕ). every (met t row) (tabulate i (λ j. cellAt columns cells offsets numbers (g + j)))) (let q : count ≡ (count - suc k) + suc k = omega arith in q)
+        ∙ stays (met t row) (λ i. cellAt columns cells offsets numbers (g + i)) (count - suc k) (suc k) m)
+
+    pub holding-stop : (r : Bool) (all : ℕ) → k < count → r ≡ met t row (cellAt columns cells offsets numbers (g + k)) → not r ≡ true → count ≡ all → false ≡ holds t row (cellsFrom columns cells offsets numbers g all)
+    holding-stop r all l e u q = stop r l e u ∙ ap (λ (i : ℕ). holds t row (cellsFrom columns cells offsets numbers g i)) q
+
+    pub holding-all : (all : ℕ) → count ≤ k → count ≡ all → true ≡ holds t row (cellsFrom columns cells offsets numbers g all)
+    holding-all all l q = sym (h .is) ∙ ap (λ (i : ℕ). holds t row (cellsFrom columns cells offsets numbers g i)) (let e : k ≡ all = let u = h .upto in omega arith in e)
+
+pub letter-cell : (cells : List ℕ) (offsets : List ℤ) (counts : List ℕ) (l : ℕ) (rows : List ℤ) (columns n row base : ℕ) → LetterRoom cells offsets counts l rows columns n row base
+    → (count k : ℕ) → count ≡ getD counts l 0 → k < count → CellRoom cells offsets (l * 8 + k) rows columns n row base
+letter-cell cells offsets counts l rows columns n row base r count k e h =
+    let a = r .letter in
+    let b = r .few in
+    record { at = r .at; room = omega arith; spots = r .spots k (omega arith) }
