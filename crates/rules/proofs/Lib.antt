@@ -1,4 +1,5 @@
 pub mod Lists
+pub mod Signed
 pub mod GrammarSound
 pub mod GrammarComplete
 pub mod Grammar
@@ -34,6 +35,7 @@ pub mod Notes
 pub mod Noted
 pub mod Accepted
 pub mod Limits
+pub mod Appended
 pub mod Demands
 pub mod Decimal
 pub mod Bench
