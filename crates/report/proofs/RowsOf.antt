@@ -43,15 +43,6 @@ unfolding countOf
 count-all letter [] e = refl
 count-all letter (l ∷ ls) e = let q = count-all letter ls e in rw (← all-rows letter l e) (let s : suc (length ls) ≡ 1 + countOf letter ls = omega arith in s)
 
-count-few : (letter : ℕ) (ls : List ℕ) → countOf letter ls ≤ length ls
-unfolding countOf
-count-few letter [] = omega arith
-count-few letter (l ∷ ls) = go (isOf letter l) (count-few letter ls)
-  where
-    go : (t : Bool) → countOf letter ls ≤ length ls → pick t 1 0 + countOf letter ls ≤ suc (length ls)
-    go true h = omega arith
-    go false h = omega arith
-
 -- the loop that counts: `count` rows among the first i
 pub record Counting (letter : ℕ) (ls : List ℕ) (count i : ℕ) : Type 0 where
   pub upto : i ≤ length ls
@@ -215,9 +206,9 @@ module _ (t : Table) (f letter column : ℕ) where
     unfolding overSome twoOf numbersFor
     null-of h = rw (entries-none first ls h)
 
-    pub gives-count : (k : ℕ) (r : ℤ) → f ≡ 1 → k ≡ countOf letter ls → r ≡ pos k → SFits w64 r → numbersFor (Number (held r)) ≡ two
+    pub gives-count : (k : ℕ) (r : ℤ) → f ≡ 1 → k ≡ countOf letter ls → r ≡ pos k → k ≤ 4096 → numbersFor (Number (held r)) ≡ two
     unfolding measured resultOf twoOf numbersFor
-    gives-count k r e q p g = simp (eq-eqb f 1 e) (ap (λ (v : ℤ). pos 1 ∷ v ∷ []) (toZ-ofZ g ∙ p ∙ ap pos (q ∙ sym (entries-counted first ls))))
+    gives-count k r e q p g = simp (eq-eqb f 1 e) (ap (λ (v : ℤ). pos 1 ∷ v ∷ []) (ap held p ∙ read-back (pos k) (omega arith) ∙ ap pos (q ∙ sym (entries-counted first ls))))
 
     first-one : (i : ℕ) → f ≡ 5 → i < length ls → isOf letter (getD ls i 0) ≡ true → NoneIn letter ls 0 i → numbersFor (Number (entry t (first + i) column)) ≡ twoOf (overSome f (entries first ls))
     unfolding overSome twoOf numbersFor

@@ -87,3 +87,13 @@ pub record Reportable (numbers : List ℤ) (at : ℕ) (ms : List ℕ) (count : �
   pub room : at + count * 2 ≤ length numbers
   pub measured : count * 3 ≤ length ms
   pub columned : (k : ℕ) → k < count → getD ms (k * 3 + 2) 0 < columns
+
+-- match number `number` can be appended: its rows and its measures can be read, and there is room for its numbers
+pub record Appendable (numbers : List ℤ) (at number : ℕ) (ms : List ℕ) (count : ℕ) (rows : List ℤ) (columns first long : ℕ) : Type 0 where
+  pub few : long ≤ 4096
+  pub there : (first + long) * columns ≤ length rows
+  pub room : at + (3 + 2 * count) ≤ length numbers
+  pub measured : count * 3 ≤ length ms
+  pub columned : (k : ℕ) → k < count → getD ms (k * 3 + 2) 0 < columns
+  pub numbered : number ≤ 4096
+  pub placed : first ≤ 4096

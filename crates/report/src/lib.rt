@@ -14,7 +14,7 @@ ghost use Rattle.rules.specs.Rows.{tableOf, entry};
 ghost use Rattle.rules.specs.Query.{measureAt};
 ghost use Rattle.rules.specs.Query as Q;
 ghost use Rattle.rules.specs.Report.{joined, values, overSome, measured, twoOf, measureNumbers, matchNumbers, fits};
-ghost use Rattle.report.specs.Measures.{measureBy, measureOf, measuresIn, numbersFor, isOf, countOf, IsFirst, IsLast, Below, entryFound, Inside, Readable, Reportable};
+ghost use Rattle.report.specs.Measures.{measureBy, measureOf, measuresIn, numbersFor, isOf, countOf, IsFirst, IsLast, Below, entryFound, Inside, Readable, Reportable, Appendable};
 
 // A measure of the query: its function, the letter of its rows or 0 for all rows, and its column.
 pub struct Measure {
@@ -85,7 +85,7 @@ fn one_if(is: bool) -> usize
 
 // How many rows a measure has.
 fn count_of(letter: u8, labels: &[u8]) -> usize
-    ensures { λ r. ⌜ r ≡ countOf letter (now (labels .entry)) ⌝ }
+    ensures { λ r. ⌜ (r ≡ countOf letter (now (labels .entry))) × (r ≤ length (now (labels .entry))) ⌝ }
 {
     if letter == 0 {
         return labels.len();
@@ -321,8 +321,8 @@ pub fn put_match(
     first: usize,
     labels: &[u8],
 ) -> usize
-    requires { ⌜ Reportable (now numbers) (at + 3) (now ms) count (now rows) columns first (length (now labels)) × (number ≤ 4096) × (first ≤ 4096) ⌝ }
-    ensures { λ r. ⌜ (r ≡ at + 3 + count * 2) × (now (numbers .exit) ≡ wrote (now (numbers .entry)) at (matchNumbers (tableOf columns (now (rows .entry))) (measuresIn (now (ms .entry)) count) number first (now (labels .entry)))) ⌝ }
+    requires { ⌜ Appendable (now numbers) at number (now ms) count (now rows) columns first (length (now labels)) ⌝ }
+    ensures { λ r. ⌜ (r ≡ at + (3 + 2 * count)) × (now (numbers .exit) ≡ wrote (now (numbers .entry)) at (matchNumbers (tableOf columns (now (rows .entry))) (measuresIn (now (ms .entry)) count) number first (now (labels .entry)))) ⌝ }
 {
     put_three(numbers, at, number, first, labels.len());
     let behind = at + 3;
