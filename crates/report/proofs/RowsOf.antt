@@ -10,7 +10,7 @@ use native.Mathlib.Nat.{mul-le-mul, le-refl}
 use lib.Dec.{eqb, ltb}
 use lib.IntN.{ℤ, pos}
 use lib.Signed.{mag}
-use lib.ListN.{length, getD, take, drop, drop-of-length-le}
+use lib.ListN.{length, getD, take, drop, drop-of-length-le, length-drop}
 use lib.Seq.{drop-cons}
 use mir.Syntax.{w64}
 use mir.Val.{SFits, toZ, ofZ}
@@ -25,7 +25,7 @@ use Rattle.report.specs.declared.Outcome.{Outcome}
 use Rattle.report.specs.declared.Outcome.the-variants.{Null, Number}
 use Rattle.report.specs.declared.Found.{Found}
 use Rattle.report.specs.declared.Found.the-variants.{At, Nothing}
-use Rattle.report.specs.Measures.{measureBy, numbersFor, isOf, countOf, NoneIn, IsFirst, IsLast, Below, entryFound, Inside, Readable}
+use Rattle.report.specs.Measures.{measureBy, numbersFor, isOf, countOf, NoneIn, FirstAt, IsFirst, LastAt, Inside, Readable}
 use Rattle.report.proofs.Joins.{held}
 
 -- ---- is a row one of them
@@ -38,31 +38,48 @@ own-rows letter label e = simp (ne-eqb letter 0 e)
 
 -- ---- how many
 
-pub count-all : (letter : ℕ) (ls : List ℕ) → letter ≡ 0 → length ls ≡ countOf letter ls
+count-every : (letter : ℕ) (ls : List ℕ) → letter ≡ 0 → countOf letter ls ≡ length ls
 unfolding countOf
-count-all letter [] e = refl
-count-all letter (l ∷ ls) e = let q = count-all letter ls e in rw (← all-rows letter l e) (let s : suc (length ls) ≡ 1 + countOf letter ls = omega arith in s)
+count-every letter [] e = refl
+count-every letter (l ∷ ls) e = let q = count-every letter ls e in rw (← all-rows letter l e) (let s : 1 + countOf letter ls ≡ suc (length ls) = omega arith in s)
 
--- the loop that counts: `count` rows among the first i
-pub record Counting (letter : ℕ) (ls : List ℕ) (count i : ℕ) : Type 0 where
+-- over all rows there is nothing to count
+pub count-all : (letter : ℕ) (ls : List ℕ) (at : ℕ) → letter ≡ 0 → length ls - at ≡ countOf letter (drop at ls)
+count-all letter ls at e = sym (count-every letter (drop at ls) e ∙ length-drop at ls)
+
+-- the loop that counts: `count` rows from index `at` to below i
+pub record Counting (letter : ℕ) (ls : List ℕ) (at count i : ℕ) : Type 0 where
   pub upto : i ≤ length ls
   pub few : count ≤ i
-  pub left : count + countOf letter (drop i ls) ≡ countOf letter ls
+  pub left : count + countOf letter (drop i ls) ≡ countOf letter (drop at ls)
 
-module _ (letter : ℕ) (ls : List ℕ) where
-  pub count-none : Counting letter ls 0 0
-  count-none = record { upto = omega arith; few = omega arith; left = omega arith }
+module _ (letter : ℕ) (ls : List ℕ) (at : ℕ) where
+  pub count-none : at ≤ length ls → Counting letter ls at 0 at
+  count-none h = record { upto = h; few = omega arith; left = omega arith }
 
-  pub count-more : (count i one : ℕ) (t : Bool) → Counting letter ls count i → i < length ls → t ≡ isOf letter (getD ls i 0) → one ≡ pick t 1 0 → one ≤ 1 → Counting letter ls (count + one) (i + 1)
+  count-front : (i : ℕ) → i < length ls → countOf letter (drop i ls) ≡ pick (isOf letter (getD ls i 0)) 1 0 + countOf letter (drop (i + 1) ls)
   unfolding countOf
+  count-front i l = ap (countOf letter) (drop-cons ls i 0 l) ∙ ap (λ (k : ℕ). pick (isOf letter (getD ls i 0)) 1 0 + countOf letter (drop k ls)) (sym (add-one i))
+
+  pub count-more : (count i one : ℕ) (t : Bool) → Counting letter ls at count i → i < length ls → t ≡ isOf letter (getD ls i 0) → one ≡ pick t 1 0 → one ≤ 1 → Counting letter ls at (count + one) (i + 1)
   count-more count i one t h l e o u =
-      let d : countOf letter (drop i ls) ≡ pick (isOf letter (getD ls i 0)) 1 0 + countOf letter (drop (i + 1) ls) = ap (countOf letter) (drop-cons ls i 0 l) ∙ ap (λ (k : ℕ). pick (isOf letter (getD ls i 0)) 1 0 + countOf letter (drop k ls)) (sym (add-one i)) in
+      let d = count-front i l in
       let p : one ≡ pick (isOf letter (getD ls i 0)) 1 0 = o ∙ ap (λ (b : Bool). pick {A = ℕ} b 1 0) e in
       record { upto = omega arith; few = omega (arith, h .few); left = omega (arith, h .left) }
 
-  pub count-done : (count i : ℕ) → Counting letter ls count i → length ls ≤ i → count ≡ countOf letter ls
+  pub count-done : (count i : ℕ) → Counting letter ls at count i → length ls ≤ i → count ≡ countOf letter (drop at ls)
   unfolding countOf
   count-done count i h l = let d : countOf letter (drop i ls) ≡ 0 = ap (countOf letter) (drop-of-length-le ls l) in omega (arith, h .left)
+
+-- ---- no rows
+
+pub none-counted : (f : ℕ) → f ≡ 1 → numbersFor (Number (pos 0)) ≡ twoOf (resultOf f [])
+unfolding numbersFor twoOf resultOf
+none-counted f e = simp (eq-eqb f 1 e)
+
+pub none-null : (f : ℕ) → (f ≡ 1 → ⊥) → numbersFor Null ≡ twoOf (resultOf f [])
+unfolding numbersFor twoOf resultOf overSome
+none-null f h = simp (ne-eqb f 1 h)
 
 -- ---- the first and the last
 
@@ -77,7 +94,6 @@ module _ (letter : ℕ) (ls : List ℕ) where
   pub seek-none : (i : ℕ) → i ≤ length ls → Seeking letter ls i i
   seek-none i h = record { from = omega arith; upto = h; no-row = λ k a b. absurd (omega arith) }
 
-  -- one index more behind the range, or in front of it
   pub seek-on : (j : ℕ) (t : Bool) → Seeking letter ls 0 j → j < length ls → t ≡ isOf letter (getD ls j 0) → t ≡ false → Seeking letter ls 0 (j + 1)
   seek-on j t h l e q = record { from = omega arith; upto = omega arith; no-row = λ k a b. go k b (ltb k j) refl }
     where
@@ -85,38 +101,45 @@ module _ (letter : ℕ) (ls : List ℕ) where
       go k b true z = h .no-row k (omega arith) (ltb-true k j z)
       go k b false z = let y : k ≡ j = omega (arith, ltb-false k j z) in rw y (sym e ∙ q)
 
-  pub seek-back : (i : ℕ) (t : Bool) → Seeking letter ls i (length ls) → 0 < i → t ≡ isOf letter (getD ls (i - 1) 0) → t ≡ false → Seeking letter ls (i - 1) (length ls)
-  seek-back i t h l e q = record { from = omega (arith, h .from); upto = omega arith; no-row = λ k a b. go k a b (ltb k i) refl }
-    where
-      go : (k : ℕ) → i - 1 ≤ k → k < length ls → (u : Bool) → ltb k i ≡ u → isOf letter (getD ls k 0) ≡ false
-      go k a b true z = let y : k ≡ i - 1 = omega (arith, ltb-true k i z) in rw y (sym e ∙ q)
-      go k a b false z = h .no-row k (ltb-false k i z) b
-
   pub first-here : (j : ℕ) (t : Bool) → Seeking letter ls 0 j → j < length ls → t ≡ isOf letter (getD ls j 0) → t ≡ true → IsFirst letter ls (At j)
   unfolding IsFirst
-  first-here j t h l e q = (l, sym e ∙ q, h .no-row)
+  first-here j t h l e q = record { inside = l; is-of = sym e ∙ q; none-before = h .no-row }
 
   pub first-nowhere : (j : ℕ) → Seeking letter ls 0 j → length ls ≤ j → IsFirst letter ls Nothing
   unfolding IsFirst
   first-nowhere j h l = λ k a b. h .no-row k a (omega arith)
 
-  pub last-here : (i : ℕ) (t : Bool) → Seeking letter ls i (length ls) → 0 < i → t ≡ isOf letter (getD ls (i - 1) 0) → t ≡ true → IsLast letter ls (At (i - 1))
-  unfolding IsLast
-  last-here i t h l e q = (omega (arith, h .from), sym e ∙ q, λ k a b. h .no-row k (omega arith) b)
+  pub first-at : (found : Found) (i : ℕ) → IsFirst letter ls found → found ≡ At i → FirstAt letter ls i
+  unfolding IsFirst
+  first-at found i h e = rw e at h
 
-  pub last-nowhere : (i : ℕ) → Seeking letter ls i (length ls) → i ≤ 0 → IsLast letter ls Nothing
-  unfolding IsLast
-  last-nowhere i h l = λ k a b. h .no-row k (omega arith) b
+  no-first : (found : Found) → IsFirst letter ls found → found ≡ Nothing → NoneIn letter ls 0 (length ls)
+  unfolding IsFirst
+  no-first found h e = rw e at h
 
-  pub first-below : (found : Found) → IsFirst letter ls found → Below (length ls) found
-  unfolding IsFirst Below
-  first-below Nothing h = tt
-  first-below (At i) h = h .0
+  -- backwards: none lies behind index i, which is not before `at`
+  pub record Backing (at i : ℕ) : Type 0 where
+    pub from : at ≤ i
+    pub upto : i < length ls
+    pub no-row : NoneIn letter ls (i + 1) (length ls)
 
-  pub last-below : (found : Found) → IsLast letter ls found → Below (length ls) found
-  unfolding IsLast Below
-  last-below Nothing h = tt
-  last-below (At i) h = h .0
+  pub back-none : (at : ℕ) → at < length ls → Backing at (length ls - 1)
+  back-none at h = record { from = omega arith; upto = omega arith; no-row = λ k a b. absurd (omega arith) }
+
+  pub back-on : (at i : ℕ) (t : Bool) → Backing at i → at < i → t ≡ isOf letter (getD ls i 0) → t ≡ false → Backing at (i - 1)
+  back-on at i t h l e q = record { from = omega arith; upto = omega (arith, h .upto); no-row = λ k a b. go k a b (ltb i k) refl }
+    where
+      go : (k : ℕ) → i - 1 + 1 ≤ k → k < length ls → (u : Bool) → ltb i k ≡ u → isOf letter (getD ls k 0) ≡ false
+      go k a b true z = h .no-row k (let y = ltb-true i k z in omega arith) b
+      go k a b false z = let y : k ≡ i = omega (arith, ltb-false i k z) in rw y (sym e ∙ q)
+
+  pub last-here : (at i : ℕ) (t : Bool) → Backing at i → t ≡ isOf letter (getD ls i 0) → t ≡ true → LastAt letter ls i
+  last-here at i t h e q = record { inside = h .upto; is-of = sym e ∙ q; none-behind = h .no-row }
+
+  pub last-left : (at i : ℕ) → Backing at i → i ≤ at → isOf letter (getD ls at 0) ≡ true → LastAt letter ls at
+  last-left at i h l e =
+      let q : i ≡ at = omega (arith, h .from) in
+      record { inside = omega (arith, h .upto); is-of = e; none-behind = λ k a b. h .no-row k (omega arith) b }
 
 -- ---- the entries of a measure's rows
 
@@ -202,39 +225,44 @@ module _ (t : Table) (f letter column : ℕ) where
     unfolding measured resultOf
     over h = simp (ne-eqb f 1 h)
 
-    null-of : NoneIn letter ls 0 (length ls) → numbersFor Null ≡ twoOf (overSome f (entries first ls))
-    unfolding overSome twoOf numbersFor
-    null-of h = rw (entries-none first ls h)
+    pub gives-none : (found : Found) (r : Outcome) → IsFirst letter ls found → found ≡ Nothing → numbersFor r ≡ twoOf (resultOf f []) → numbersFor r ≡ two
+    unfolding measured
+    gives-none found r h e q = q ∙ ap (λ (v : List ℤ). twoOf (resultOf f v)) (sym (entries-none first ls (no-first letter ls found h e)))
 
-    pub gives-count : (k : ℕ) (r : ℤ) → f ≡ 1 → k ≡ countOf letter ls → r ≡ pos k → k ≤ 4096 → numbersFor (Number (held r)) ≡ two
-    unfolding measured resultOf twoOf numbersFor
-    gives-count k r e q p g = simp (eq-eqb f 1 e) (ap (λ (v : ℤ). pos 1 ∷ v ∷ []) (ap held p ∙ read-back (pos k) (omega arith) ∙ ap pos (q ∙ sym (entries-counted first ls))))
+    count-from : (at : ℕ) → FirstAt letter ls at → countOf letter (drop at ls) ≡ length (entries first ls)
+    count-from at h =
+        let c : countOf letter (drop at ls) ≡ 1 + countOf letter (drop (at + 1) ls) = count-front letter ls at at (h .inside) ∙ ap (λ (b : Bool). pick {A = ℕ} b 1 0 + countOf letter (drop (at + 1) ls)) (h .is-of) in
+        let d = entries-counted (first + suc at) (drop (suc at) ls) in
+        let e : length (entries first ls) ≡ suc (length (entries (first + suc at) (drop (suc at) ls))) = ap length (entries-first first ls at (h .inside) (h .is-of) (h .none-before)) in
+        let g : countOf letter (drop (at + 1) ls) ≡ countOf letter (drop (suc at) ls) = ap (λ (k : ℕ). countOf letter (drop k ls)) (add-one at) in
+        omega arith
 
-    first-one : (i : ℕ) → f ≡ 5 → i < length ls → isOf letter (getD ls i 0) ≡ true → NoneIn letter ls 0 i → numbersFor (Number (entry t (first + i) column)) ≡ twoOf (overSome f (entries first ls))
-    unfolding overSome twoOf numbersFor
-    first-one i e l h g = rw (entries-first first ls i l h g) (ap (λ (v : ℤ). pos 1 ∷ v ∷ []) (sym (front-stays e (entry t (first + i) column) (entries (first + suc i) (drop (suc i) ls)))))
+    module _ (at : ℕ) (h : FirstAt letter ls at) where
+      pub gives-count : (k : ℕ) (r : ℤ) → f ≡ 1 → k ≡ countOf letter (drop at ls) → r ≡ pos k → k ≤ 4096 → numbersFor (Number (held r)) ≡ two
+      unfolding measured resultOf twoOf numbersFor
+      gives-count k r e q p g = simp (eq-eqb f 1 e) (ap (λ (v : ℤ). pos 1 ∷ v ∷ []) (ap held p ∙ read-back (pos k) (omega arith) ∙ ap pos (q ∙ count-from at h)))
 
-    pub gives-first : (found : Found) (r : Outcome) → f ≡ 5 → IsFirst letter ls found → r ≡ entryFound t first column found → numbersFor r ≡ two
-    unfolding IsFirst entryFound
-    gives-first Nothing r e h q = ap numbersFor q ∙ null-of h ∙ sym (over (λ w. omega arith))
-    gives-first (At i) r e h q = ap numbersFor q ∙ first-one i e (h .0) (h .1) (h .2) ∙ sym (over (λ w. omega arith))
+      over-first : f ≡ 5 → overSome f (entries first ls) ≡ some (entry t (first + at) column)
+      unfolding overSome
+      over-first e = rw (entries-first first ls at (h .inside) (h .is-of) (h .none-before)) (ap some (front-stays e (entry t (first + at) column) (entries (first + suc at) (drop (suc at) ls))))
 
-    module _ (h1 : f ≡ 1 → ⊥) (h2 : f ≡ 2 → ⊥) (h3 : f ≡ 3 → ⊥) (h4 : f ≡ 4 → ⊥) (h5 : f ≡ 5 → ⊥) where
-      last-one : (i : ℕ) → i < length ls → isOf letter (getD ls i 0) ≡ true → NoneIn letter ls (suc i) (length ls) → numbersFor (Number (entry t (first + i) column)) ≡ twoOf (overSome f (entries first ls))
-      unfolding twoOf numbersFor
-      last-one i l h g = rw (entries-last first ls i l h g, over-back h2 h3 h4 h5)
+    -- a number that is the result
+    pub gives : (r : ℤ) → (f ≡ 1 → ⊥) → overSome f (entries first ls) ≡ some r → numbersFor (Number r) ≡ two
+    unfolding twoOf numbersFor
+    gives r h e = sym (over h ∙ ap twoOf e)
 
-      pub gives-last : (found : Found) (r : Outcome) → IsLast letter ls found → r ≡ entryFound t first column found → numbersFor r ≡ two
-      unfolding IsLast entryFound
-      gives-last Nothing r h q = ap numbersFor q ∙ null-of h ∙ sym (over h1)
-      gives-last (At i) r h q = ap numbersFor q ∙ last-one i (h .0) (h .1) (λ k a b. h .2 k (omega arith) b) ∙ sym (over h1)
+    pub gives-first : (at : ℕ) (r : ℤ) → f ≡ 5 → FirstAt letter ls at → r ≡ entry t (first + at) column → mag r < 2147483648 → numbersFor (Number (held r)) ≡ two
+    gives-first at r e h q g = gives (held r) (λ w. omega arith) (over-first at h e ∙ ap some (sym (read-back r (omega arith) ∙ q)))
 
-    pub gives-joined : (k : ℕ) (r : Outcome) → f ≡ k → (k ≡ 1 → ⊥) → numbersFor r ≡ twoOf (overSome k (values t (measureBy k letter column) first ls)) → numbersFor r ≡ two
-    gives-joined k r e h q = q ∙ ap (λ (i : ℕ). twoOf (overSome i (values t (measureBy i letter column) first ls))) (sym e) ∙ sym (over (λ w. h (sym e ∙ w)))
+    pub gives-last : (at : ℕ) (r : ℤ) → (f ≡ 1 → ⊥) → (f ≡ 2 → ⊥) → (f ≡ 3 → ⊥) → (f ≡ 4 → ⊥) → (f ≡ 5 → ⊥) → LastAt letter ls at → r ≡ entry t (first + at) column → mag r < 2147483648
+        → numbersFor (Number (held r)) ≡ two
+    gives-last at r h1 h2 h3 h4 h5 h q g =
+        let e : entries first ls ≡ entries first (take at ls) ++ (entry t (first + at) column ∷ []) = entries-last first ls at (h .inside) (h .is-of) (λ k a b. h .none-behind k (omega arith) b) in
+        gives (held r) h1 (ap (overSome f) e ∙ over-back h2 h3 h4 h5 (entries first (take at ls)) (entry t (first + at) column) ∙ ap some (sym (read-back r (omega arith) ∙ q)))
 
-    pub joined-null : (found : Found) → IsFirst letter ls found → found ≡ Nothing → numbersFor Null ≡ twoOf (overSome f (entries first ls))
-    unfolding IsFirst
-    joined-null found h e = null-of (rw e at h)
+    pub gives-joined : (k : ℕ) (r : ℤ) → mag r < 9223372036854775808 → f ≡ k → (k ≡ 1 → ⊥) → overSome k (values t (measureBy k letter column) first ls) ≡ some r → numbersFor (Number (held r)) ≡ two
+    gives-joined k r s e h q =
+        gives (held r) (λ w. h (sym e ∙ w)) (ap (λ (i : ℕ). overSome i (values t (measureBy i letter column) first ls)) e ∙ q ∙ ap some (sym (read-back r s)))
 
     -- ---- the loop of SUM, MIN and MAX: `value` is what the measure's rows among the first i give together
 
@@ -245,17 +273,16 @@ module _ (t : Table) (f letter column : ℕ) where
       pub small : mag value ≤ 2147483648 * i
       pub goes : some (joinAll f value (entries (first + i) (drop i ls))) ≡ overSome f (entries first ls)
 
-    pub joining-first : (found : Found) (i : ℕ) (x : ℤ) → IsFirst letter ls found → found ≡ At i → length ls ≤ 4096 → x ≡ entry t (first + i) column → mag x < 2147483648 → Joining (held x) (i + 1)
-    unfolding IsFirst overSome
-    joining-first found i x h e l q g =
-        let w : (i < length ls) × (isOf letter (getD ls i 0) ≡ true) × NoneIn letter ls 0 i = rw e at h in
+    pub joining-first : (i : ℕ) (x : ℤ) → FirstAt letter ls i → length ls ≤ 4096 → x ≡ entry t (first + i) column → mag x < 2147483648 → Joining (held x) (i + 1)
+    unfolding overSome
+    joining-first i x w l q g =
         let b : held x ≡ x = read-back x (omega arith) in
         record {
-          upto = omega (arith, w .0);
+          upto = omega (arith, w .inside);
           some-row = omega arith;
           few = l;
           small = rw b (omega arith);
-          goes = rw (entries-first first ls i (w .0) (w .1) (w .2), b, q, add-one i);
+          goes = rw (entries-first first ls i (w .inside) (w .is-of) (w .none-before), b, q, add-one i);
         }
 
     pub joining-more : (value : ℤ) (i : ℕ) (r : ℤ) → Joining value i → i < length ls → r ≡ pick (isOf letter (getD ls i 0)) (joined f value (entry t (first + i) column)) value
@@ -277,10 +304,9 @@ module _ (t : Table) (f letter column : ℕ) where
         step true xs = refl
         step false xs = refl
 
-    pub joining-all : (value : ℤ) (i : ℕ) → Joining value i → length ls ≤ i → numbersFor (Number value) ≡ twoOf (overSome f (entries first ls))
-    unfolding joinAll values twoOf numbersFor
-    joining-all value i h l =
-        rw (← h .goes) (ap (λ (v : List ℕ). twoOf (some (joinAll f value (entries (first + i) v)))) (sym (drop-of-length-le ls l)))
+    pub joining-all : (value : ℤ) (i : ℕ) → Joining value i → length ls ≤ i → overSome f (entries first ls) ≡ some value
+    unfolding joinAll values
+    joining-all value i h l = rw (← h .goes) (ap (λ (v : List ℕ). some (joinAll f value (entries (first + i) v))) (drop-of-length-le ls l))
 
     pub joining-fine : (value : ℤ) (i : ℕ) → Joining value i → mag value ≤ 8796093022208
     joining-fine value i h = omega (arith, h .upto, h .few, h .small)
@@ -298,23 +324,3 @@ module _ (rows : List ℤ) (columns first long column : ℕ) (h : Readable rows 
       let g = row-inside i l in
       let m : (first + i + 1) * 1 ≤ (first + i + 1) * columns = mul-le-mul (le-refl (first + i + 1)) (let e : 1 ≤ columns = omega (arith, h .is-column) in e) in
       omega (arith, g .there)
-
-  found-below : (found : Found) (i : ℕ) → Below long found → found ≡ At i → i < long
-  unfolding Below
-  found-below found i b e = rw e at b
-
-  pub found-inside : (found : Found) (i : ℕ) → Below long found → found ≡ At i → Inside rows columns (first + i) column
-  found-inside found i b e = row-inside i (found-below found i b e)
-
-  pub found-small : (found : Found) (i : ℕ) → Below long found → found ≡ At i → first + i < length rows
-  found-small found i b e = row-small i (found-below found i b e)
-
--- the entry of the row found, or null
-module _ (t : Table) (first column : ℕ) (found : Found) where
-  pub no-entry : found ≡ Nothing → Null ≡ entryFound t first column found
-  unfolding entryFound
-  no-entry e = rw e
-
-  pub one-entry : (i : ℕ) (x : ℤ) → found ≡ At i → x ≡ entry t (first + i) column → mag x < 2147483648 → Number (held x) ≡ entryFound t first column found
-  unfolding entryFound
-  one-entry i x e q g = rw e (ap Number (read-back x (omega arith) ∙ q))

@@ -47,25 +47,21 @@ countOf letter (l ∷ ls) = pick (isOf letter l) 1 0 + countOf letter ls
 abbrev pub NoneIn : ℕ → List ℕ → ℕ → ℕ → Type 0
 NoneIn letter ls i j = (k : ℕ) → i ≤ k → k < j → isOf letter (getD ls k 0) ≡ false
 
--- the first of them
+-- index i is the first of them
+pub record FirstAt (letter : ℕ) (ls : List ℕ) (i : ℕ) : Type 0 where
+  pub inside : i < length ls
+  pub is-of : isOf letter (getD ls i 0) ≡ true
+  pub none-before : NoneIn letter ls 0 i
+
 unfoldable pub IsFirst : ℕ → List ℕ → Found → Type 0
 IsFirst letter ls Nothing = NoneIn letter ls 0 (length ls)
-IsFirst letter ls (At i) = (i < length ls) × (isOf letter (getD ls i 0) ≡ true) × NoneIn letter ls 0 i
+IsFirst letter ls (At i) = FirstAt letter ls i
 
--- the last of them
-unfoldable pub IsLast : ℕ → List ℕ → Found → Type 0
-IsLast letter ls Nothing = NoneIn letter ls 0 (length ls)
-IsLast letter ls (At i) = (i < length ls) × (isOf letter (getD ls i 0) ≡ true) × NoneIn letter ls (i + 1) (length ls)
-
--- the entry there; the index counts from the row `first`
-unfoldable pub entryFound : Table → ℕ → ℕ → Found → Outcome
-entryFound t first column Nothing = Null
-entryFound t first column (At i) = Number (entry t (first + i) column)
-
--- an index found lies among so many labels
-unfoldable pub Below : ℕ → Found → Type 0
-Below long Nothing = Unit {0}
-Below long (At i) = i < long
+-- index i is the last of them
+pub record LastAt (letter : ℕ) (ls : List ℕ) (i : ℕ) : Type 0 where
+  pub inside : i < length ls
+  pub is-of : isOf letter (getD ls i 0) ≡ true
+  pub none-behind : NoneIn letter ls (i + 1) (length ls)
 
 -- ---- what the code may read and write
 

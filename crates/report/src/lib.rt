@@ -1,20 +1,21 @@
 // The report of a match: six measures over its rows, and the numbers that it appends behind those of the matches before it.
 // A match is appended whole or not at all: fits_whole says whether it fits. Sums are exact: 4,096 entries of 32 bits lie well within 64 bits.
-// COUNT over all rows reads no row; every other measure takes at most two passes over the labels, and FIRST and LAST stop at the row they look for.
+// A measure takes at most one pass over the labels of the match; over all rows, COUNT, FIRST and LAST take none.
 ghost use mathlib.Core.Path.{_≡_};
 ghost use mathlib.Core.Bool.{Bool, true, false, _||_};
 ghost use mathlib.Core.List.{List, [], _∷_};
+ghost use mathlib.Core.Option.{Option, none, some};
 ghost use Prim.Native.Nat.{ℕ, _+_, _*_, _≤_, _<_};
 ghost use lib.Dec.{eqb};
 ghost use lib.IntN.{ℤ, pos};
 ghost use lib.Signed.{mag};
-ghost use lib.ListN.{length, getD};
+ghost use lib.ListN.{length, getD, drop};
 ghost use Rattle.rules.specs.Basics.{pick, wrote};
 ghost use Rattle.rules.specs.Rows.{tableOf, entry};
 ghost use Rattle.rules.specs.Query.{measureAt};
 ghost use Rattle.rules.specs.Query as Q;
-ghost use Rattle.rules.specs.Report.{joined, values, overSome, measured, twoOf, measureNumbers, matchNumbers, fits};
-ghost use Rattle.report.specs.Measures.{measureBy, measureOf, measuresIn, numbersFor, isOf, countOf, IsFirst, IsLast, Below, entryFound, Inside, Readable, Reportable, Appendable};
+ghost use Rattle.rules.specs.Report.{joined, values, overSome, resultOf, measured, twoOf, measureNumbers, matchNumbers, fits};
+ghost use Rattle.report.specs.Measures.{measureBy, measureOf, measuresIn, numbersFor, isOf, countOf, FirstAt, IsFirst, LastAt, Inside, Readable, Reportable, Appendable};
 
 // A measure of the query: its function, the letter of its rows or 0 for all rows, and its column.
 pub struct Measure {
@@ -62,7 +63,7 @@ pub enum Outcome {
 }
 
 // A row of a measure: its index among the labels of the match.
-pub enum Found {
+enum Found {
     At(usize),
     Nothing,
 }
@@ -83,22 +84,6 @@ fn one_if(is: bool) -> usize
     if is { 1 } else { 0 }
 }
 
-// How many rows a measure has.
-fn count_of(letter: u8, labels: &[u8]) -> usize
-    ensures { λ r. ⌜ (r ≡ countOf letter (now (labels .entry))) × (r ≤ length (now (labels .entry))) ⌝ }
-{
-    if letter == 0 {
-        return labels.len();
-    }
-    let mut count = 0;
-    let mut i = 0;
-    while i < labels.len() {
-        count += one_if(is_of(letter, labels[i]));
-        i += 1;
-    }
-    count
-}
-
 // The first row of a measure.
 fn first_of(letter: u8, labels: &[u8]) -> Found
     ensures { λ r. ⌜ IsFirst letter (now (labels .entry)) r ⌝ }
@@ -113,18 +98,36 @@ fn first_of(letter: u8, labels: &[u8]) -> Found
     Found::Nothing
 }
 
-// The last row of a measure.
-fn last_of(letter: u8, labels: &[u8]) -> Found
-    ensures { λ r. ⌜ IsLast letter (now (labels .entry)) r ⌝ }
+// The last row of a measure, sought from the end; `at` is one of its rows.
+fn last_of(letter: u8, labels: &[u8], at: usize) -> usize
+    requires { ⌜ (at < length (now labels)) × (isOf letter (getD (now labels) at 0) ≡ true) ⌝ }
+    ensures { λ r. ⌜ LastAt letter (now (labels .entry)) r ⌝ }
 {
-    let mut i = labels.len();
-    while 0 < i {
-        i -= 1;
+    let mut i = labels.len() - 1;
+    while at < i {
         if is_of(letter, labels[i]) {
-            return Found::At(i);
+            return i;
         }
+        i -= 1;
     }
-    Found::Nothing
+    at
+}
+
+// How many rows a measure has from index `at` on.
+fn count_of(letter: u8, labels: &[u8], at: usize) -> usize
+    requires { ⌜ at ≤ length (now labels) ⌝ }
+    ensures { λ r. ⌜ (r ≡ countOf letter (drop at (now (labels .entry)))) × (r ≤ length (now (labels .entry))) ⌝ }
+{
+    if letter == 0 {
+        return labels.len() - at;
+    }
+    let mut count = 0;
+    let mut i = at;
+    while i < labels.len() {
+        count += one_if(is_of(letter, labels[i]));
+        i += 1;
+    }
+    count
 }
 
 // An entry of the rows, as a number of 64 bits.
@@ -140,17 +143,6 @@ fn entry_at(rows: &[i32], columns: usize, row: usize, column: usize) -> i64
     ensures { λ r. ⌜ (r ≡ entry (tableOf columns (now (rows .entry))) row column) × (mag r < 2147483648) ⌝ }
 {
     long(rows[row * columns + column])
-}
-
-// The entry of the row found, or null.
-fn entry_found(found: Found, rows: &[i32], columns: usize, first: usize, column: usize, many: usize) -> Outcome
-    requires { ⌜ Below many found × Readable (now rows) columns first many column ⌝ }
-    ensures { λ r. ⌜ r ≡ entryFound (tableOf columns (now (rows .entry))) first column found ⌝ }
-{
-    let Found::At(i) = found else {
-        return Outcome::Null;
-    };
-    Outcome::Number(entry_at(rows, columns, first + i, column))
 }
 
 // A value joined to the sum, the lowest or the highest of those before it.
@@ -187,8 +179,8 @@ fn take_row(
     join(function, value, entry_at(rows, columns, row, column))
 }
 
-// SUM, MIN or MAX over the rows of a match: the labels are of the rows from `first` on.
-fn joined_over(
+// SUM, MIN or MAX over the rows of a match, of which `at` is the measure's first: the labels are of the rows from `first` on.
+fn joined_from(
     function: u8,
     letter: u8,
     column: usize,
@@ -196,20 +188,18 @@ fn joined_over(
     columns: usize,
     first: usize,
     labels: &[u8],
-) -> Outcome
-    requires { ⌜ (2 ≤ function) × (function ≤ 4) × Readable (now rows) columns first (length (now labels)) column ⌝ }
-    ensures { λ r. ⌜ numbersFor r ≡ twoOf (overSome function (values (tableOf columns (now (rows .entry))) (measureBy function letter column) first (now (labels .entry)))) ⌝ }
+    at: usize,
+) -> i64
+    requires { ⌜ (2 ≤ function) × (function ≤ 4) × Readable (now rows) columns first (length (now labels)) column × FirstAt letter (now labels) at ⌝ }
+    ensures { λ r. ⌜ overSome function (values (tableOf columns (now (rows .entry))) (measureBy function letter column) first (now (labels .entry))) ≡ some r ⌝ }
 {
-    let Found::At(at) = first_of(letter, labels) else {
-        return Outcome::Null;
-    };
     let mut value = entry_at(rows, columns, first + at, column);
     let mut i = at + 1;
     while i < labels.len() {
         value = take_row(function, letter, value, labels[i], rows, columns, first + i, column);
         i += 1;
     }
-    Outcome::Number(value)
+    value
 }
 
 // A number of rows or matches, as a number of the report.
@@ -220,30 +210,52 @@ fn as_number(count: usize) -> i64
     count as i64
 }
 
-// A measure over the rows of a match: the labels are of the rows from `first` on.
-pub fn measure_of(m: Measure, rows: &[i32], columns: usize, first: usize, labels: &[u8]) -> Outcome
-    requires { ⌜ Readable (now rows) columns first (length (now labels)) (m .column) ⌝ }
+// COUNT of no rows is 0; the others are null.
+fn of_no_rows(function: u8) -> Outcome
+    ensures { λ r. ⌜ numbersFor r ≡ twoOf (resultOf function []) ⌝ }
+{
+    if function == Measure::COUNT {
+        return Outcome::Number(0);
+    }
+    Outcome::Null
+}
+
+// A measure that has rows, of which `at` is the first.
+fn measure_from(m: Measure, rows: &[i32], columns: usize, first: usize, labels: &[u8], at: usize) -> Outcome
+    requires { ⌜ Readable (now rows) columns first (length (now labels)) (m .column) × FirstAt (m .letter) (now labels) at ⌝ }
     ensures { λ r. ⌜ numbersFor r ≡ twoOf (measured (tableOf columns (now (rows .entry))) first (now (labels .entry)) (measureOf m)) ⌝ }
 {
     let function = m.function;
     let letter = m.letter;
     let column = m.column;
     if function == Measure::COUNT {
-        return Outcome::Number(as_number(count_of(letter, labels)));
+        return Outcome::Number(as_number(count_of(letter, labels, at)));
     }
     if function == Measure::SUM {
-        return joined_over(Measure::SUM, letter, column, rows, columns, first, labels);
+        return Outcome::Number(joined_from(Measure::SUM, letter, column, rows, columns, first, labels, at));
     }
     if function == Measure::MIN {
-        return joined_over(Measure::MIN, letter, column, rows, columns, first, labels);
+        return Outcome::Number(joined_from(Measure::MIN, letter, column, rows, columns, first, labels, at));
     }
     if function == Measure::MAX {
-        return joined_over(Measure::MAX, letter, column, rows, columns, first, labels);
+        return Outcome::Number(joined_from(Measure::MAX, letter, column, rows, columns, first, labels, at));
     }
     if function == Measure::FIRST {
-        return entry_found(first_of(letter, labels), rows, columns, first, column, labels.len());
+        return Outcome::Number(entry_at(rows, columns, first + at, column));
     }
-    entry_found(last_of(letter, labels), rows, columns, first, column, labels.len())
+    let last = last_of(letter, labels, at);
+    Outcome::Number(entry_at(rows, columns, first + last, column))
+}
+
+// A measure over the rows of a match: the labels are of the rows from `first` on.
+pub fn measure_of(m: Measure, rows: &[i32], columns: usize, first: usize, labels: &[u8]) -> Outcome
+    requires { ⌜ Readable (now rows) columns first (length (now labels)) (m .column) ⌝ }
+    ensures { λ r. ⌜ numbersFor r ≡ twoOf (measured (tableOf columns (now (rows .entry))) first (now (labels .entry)) (measureOf m)) ⌝ }
+{
+    let Found::At(at) = first_of(m.letter, labels) else {
+        return of_no_rows(m.function);
+    };
+    measure_from(m, rows, columns, first, labels, at)
 }
 
 // Two numbers written from index `at` on.
