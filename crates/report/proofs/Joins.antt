@@ -1,12 +1,12 @@
 -- Values joined in 64 bits: SUM, MIN and MAX of two give the definition's value, and what the joined value may grow to.
 use mathlib.Core.Path.{_≡_, refl, sym, ap, _∙_}
-use mathlib.Core.Bool.{Bool, true, false, not, _||_}
+use mathlib.Core.Bool.{Bool, true, false, not}
 use Prim.Native.Nat.{ℕ, _+_, _*_, _≤_, _<_}
 use native.Mathlib.Omega.{arith}
 use lib.Dec.{eqb}
 use lib.IntN.{ℤ, pos, _+ℤ_}
 use lib.Signed.{mag, ltZ}
-use lib.ListN.{length, getD}
+use lib.ListN.{getD}
 use mathlib.Core.List.{List}
 use mir.Syntax.{w32, w64}
 use mir.Val.{SFits, toZ, ofZ}
@@ -28,7 +28,8 @@ pub wide-is : (x : ℤ) → SFits w32 x → (held (toZ w32 (ofZ w32 x)) ≡ x) �
 wide-is x f = rw (widened x f) (refl, f .sfits)
 
 -- the entry that was read
-pub entry-is : (rows : List ℤ) (columns row column : ℕ) (r : ℤ) → mag (getD rows (row * columns + column) (pos 0)) < 2147483648 → r ≡ toZ w32 (ofZ w32 (getD rows (row * columns + column) (pos 0)))
+pub entry-is : (rows : List ℤ) (columns row column : ℕ) (r : ℤ) → mag (getD rows (row * columns + column) (pos 0)) < 2147483648
+    → r ≡ toZ w32 (ofZ w32 (getD rows (row * columns + column) (pos 0)))
     → mag r < 2147483648 → (held r ≡ entry (tableOf columns rows) row column) × (mag (held r) < 2147483648)
 unfolding entry tableOf
 entry-is rows columns row column r f e g = rw (read-back r (omega arith)) (e ∙ toZ-ofZ (record { sfits = f }), g)
@@ -39,12 +40,13 @@ pos-held k h = simp (lt-ltb k 9223372036854775808 (omega arith))
 -- ---- a value joined to those before it
 
 module _ (f : ℕ) (a b : ℤ) (fa : SFits w64 a) (fb : SFits w64 b) where
-  pub join-fits : mag a ≤ 8796093022208 → mag b < 2147483648 → SFits w64 (held a +ℤ held b)
-  join-fits h g = rw (toZ-ofZ fa, toZ-ofZ fb) (sum-fits a b 8796093022209 2147483648 (omega arith) g (omega arith))
+  pub join-fits : mag a ≤ 8796093022208 → mag b < 2147483648 → mag (held a +ℤ held b) < 9223372036854775808
+  join-fits h g = rw (toZ-ofZ fa, toZ-ofZ fb) (sum-fits a b 8796093022209 2147483648 (omega arith) g (omega arith) .sfits)
 
-  pub join-sum : mag a ≤ 8796093022208 → mag b < 2147483648 → f ≡ 2 → held (held a +ℤ held b) ≡ joined f a b
+  pub join-sum : (r : ℤ) → mag a ≤ 8796093022208 → mag b < 2147483648 → f ≡ 2 → r ≡ held a +ℤ held b → held r ≡ joined f a b
   unfolding joined
-  join-sum h g e = toZ-ofZ (join-fits h g) ∙ ap (λ (z : ℤ). z +ℤ held b) (toZ-ofZ fa) ∙ ap (λ (z : ℤ). a +ℤ z) (toZ-ofZ fb) ∙ simp (eq-eqb f 2 e)
+  join-sum r h g e q =
+      ap held q ∙ read-back (held a +ℤ held b) (join-fits h g) ∙ ap (λ (z : ℤ). z +ℤ held b) (toZ-ofZ fa) ∙ ap (λ (z : ℤ). a +ℤ z) (toZ-ofZ fb) ∙ simp (eq-eqb f 2 e)
 
   less : (t : Bool) → ltZ (held b) (held a) ≡ t → ltZ b a ≡ t
   less t e = ap (λ (z : ℤ). ltZ z a) (sym (toZ-ofZ fb)) ∙ ap (ltZ (held b)) (sym (toZ-ofZ fa)) ∙ e
@@ -94,7 +96,8 @@ module _ (f : ℕ) (value x : ℤ) (t r : Bool) (e : r ≡ t) (h : mag value ≤
   pub passed-over : not r ≡ true → (held value ≡ pick t (joined f value x) value) × (mag (held value) ≤ mag value + 2147483648)
   passed-over q = rw value-is (rw (← e) (rw (not-true r q) (let s : pick false (joined f value x) value ≡ value = refl in sym s)), omega arith)
 
-  pub taken : not r ≡ false → (y z : ℤ) → y ≡ x → mag y < 2147483648 → z ≡ joined f (held value) (held y) → (held z ≡ pick t (joined f value x) value) × (mag (held z) ≤ mag value + 2147483648)
+  pub taken : not r ≡ false → (y z : ℤ) → y ≡ x → mag y < 2147483648 → z ≡ joined f (held value) (held y)
+      → (held z ≡ pick t (joined f value x) value) × (mag (held z) ≤ mag value + 2147483648)
   taken q y z ey gy ez =
       let j : z ≡ joined f value y = ez ∙ ap (λ (v : ℤ). joined f v (held y)) value-is ∙ ap (joined f value) (read-back y (omega arith)) in
       let k : mag z ≤ mag value + mag y + 1 = rw j (mag-joined f value y) in

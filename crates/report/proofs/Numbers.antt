@@ -1,9 +1,8 @@
 -- Numbers written: two for a measure, three in front of them, the measures one behind the other, and the whole of a match; and when a match fits.
 use mathlib.Core.Path.{_≡_, refl, sym, ap, _∙_}
-use mathlib.Core.Bool.{Bool, true, false, _&&_}
+use mathlib.Core.Bool.{Bool, true, false}
 use mathlib.Core.List.{List, [], _∷_, _++_, append-assoc, append-nil}
-use mathlib.Core.Option.{Option, none, some}
-use Prim.Native.Nat.{ℕ, zero, suc, _+_, _*_, _-_, _≤_, _<_}
+use Prim.Native.Nat.{ℕ, suc, _+_, _*_, _-_, _≤_, _<_}
 use native.Mathlib.Nat.{mul-le-mul}
 use native.Mathlib.Omega.{arith}
 use native.Mathlib.Numerals.{add-one}
@@ -12,7 +11,7 @@ use lib.IntN.{ℤ, pos}
 use lib.ListN.{length, getD, set, take, drop}
 use lib.Seq.{sets, sets-eq}
 use mir.Syntax.{w64}
-use mir.Val.{SFits, toZ, ofZ}
+use mir.Val.{SFits}
 use mir.Facts.{toZ-ofZ}
 use borrow.Author.Tests.{le-leb, lt-leb, leb-true, leb-false}
 use Rattle.rules.specs.Basics.{wrote, tabulate}
@@ -69,25 +68,34 @@ column-is : (ms : List ℕ) (k f l c : ℕ) → measureBy f l c ≡ Q.measureAt 
 unfolding Q.measureAt
 column-is ms k f l c e = ap (λ (m : Q.Measure). m .column) e
 
-pub readable-one : (numbers : List ℤ) (at : ℕ) (ms : List ℕ) (count : ℕ) (rows : List ℤ) (columns first long k f l c : ℕ) → Reportable numbers at ms count rows columns first long → k < count
+pub readable-one : (numbers : List ℤ) (at : ℕ) (ms : List ℕ) (count : ℕ) (rows : List ℤ) (columns first long k f l c : ℕ)
+    → Reportable numbers at ms count rows columns first long → k < count
     → measureBy f l c ≡ Q.measureAt ms (k * 3) → Readable rows columns first long c
 readable-one numbers at ms count rows columns first long k f l c h q e =
     record { few = h .few; there = h .there; is-column = rw (column-is ms k f l c e) (h .columned k q) }
+
+-- there are `count` of them
+pub measures-many : (ms : List ℕ) (count : ℕ) → length (measuresIn ms count) ≡ count
+unfolding measuresIn
+measures-many ms count = length-tabulate count (λ k. Q.measureAt ms (k * 3))
 
 module _ (t : Table) (row : ℕ) (ls : List ℕ) where
   measures-on : (xs : List Q.Measure) (m : Q.Measure) → measureNumbers t row ls (xs ++ (m ∷ [])) ≡ measureNumbers t row ls xs ++ twoOf (measured t row ls m)
   unfolding measureNumbers
   measures-on [] m = append-nil (twoOf (measured t row ls m))
   measures-on (x ∷ xs) m =
-      ap (λ (v : List ℤ). twoOf (measured t row ls x) ++ v) (measures-on xs m) ∙ sym (append-assoc (twoOf (measured t row ls x)) (measureNumbers t row ls xs) (twoOf (measured t row ls m)))
+      ap (λ (v : List ℤ). twoOf (measured t row ls x) ++ v) (measures-on xs m)
+      ∙ sym (append-assoc (twoOf (measured t row ls x)) (measureNumbers t row ls xs) (twoOf (measured t row ls m)))
 
-  cells-on : (ms : List ℕ) (k : ℕ) → measureNumbers t row ls (measuresIn ms (k + 1)) ≡ measureNumbers t row ls (measuresIn ms k) ++ twoOf (measured t row ls (Q.measureAt ms (k * 3)))
+  cells-on : (ms : List ℕ) (k : ℕ) → measureNumbers t row ls (measuresIn ms (k + 1)) ≡ measureNumbers t row ls (measuresIn ms k) ++ twoOf
+      (measured t row ls (Q.measureAt ms (k * 3)))
   unfolding measuresIn tabulate
-  cells-on ms k = ap (λ (i : ℕ). measureNumbers t row ls (tabulate i (λ j. Q.measureAt ms (j * 3)))) (add-one k) ∙ measures-on (tabulate k (λ j. Q.measureAt ms (j * 3))) (Q.measureAt ms (k * 3))
+  cells-on ms k = ap (λ (i : ℕ). measureNumbers t row ls (tabulate i (λ j. Q.measureAt ms (j * 3)))) (add-one k)
+      ∙ measures-on (tabulate k (λ j. Q.measureAt ms (j * 3))) (Q.measureAt ms (k * 3))
 
   cells-long : (ms : List ℕ) (k : ℕ) → length (measureNumbers t row ls (measuresIn ms k)) ≡ k * 2
-  unfolding measuresIn matchNumbers
-  cells-long ms k = omega (arith, match-long t (tabulate k (λ j. Q.measureAt ms (j * 3))) 0 row ls, length-tabulate k (λ j. Q.measureAt ms (j * 3)))
+  unfolding matchNumbers
+  cells-long ms k = omega (arith, match-long t (measuresIn ms k) 0 row ls, measures-many ms k)
 
 -- ---- the loop over the measures
 
@@ -110,11 +118,11 @@ module _ (l₀ : List ℤ) (at : ℕ) (ms : List ℕ) (count : ℕ) (t : Table) 
       let lm : length xs ≡ k * 2 = cells-long t first ls ms k in
       let r : numbersFor o ≡ twoOf (measured t first ls (Q.measureAt ms (k * 3))) = eo ∙ ap (λ (m : Q.Measure). twoOf (measured t first ls m)) em in
       let e : l' ≡ wrote l₀ at (measureNumbers t first ls (measuresIn ms (k + 1))) =
-          el ∙ ap (λ (v : List ℤ). wrote v (at + k * 2) (numbersFor o)) (h .is)
-          ∙ ap (λ (i : ℕ). wrote (wrote l₀ at xs) (at + i) (numbersFor o)) (sym lm)
-          ∙ wrote-on l₀ at xs (omega arith) (numbersFor o)
-          ∙ ap (λ (v : List ℤ). wrote l₀ at (xs ++ v)) r
-          ∙ ap (wrote l₀ at) (sym (cells-on t first ls ms k)) in
+      el ∙ ap (λ (v : List ℤ). wrote v (at + k * 2) (numbersFor o)) (h .is)
+      ∙ ap (λ (i : ℕ). wrote (wrote l₀ at xs) (at + i) (numbersFor o)) (sym lm)
+      ∙ wrote-on l₀ at xs (omega arith) (numbersFor o)
+      ∙ ap (λ (v : List ℤ). wrote l₀ at (xs ++ v)) r
+      ∙ ap (wrote l₀ at) (sym (cells-on t first ls ms k)) in
       let ln = cells-long t first ls ms (k + 1) in
       record {
         upto = omega arith;

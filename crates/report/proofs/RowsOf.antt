@@ -1,8 +1,8 @@
 -- The rows of a measure by the labels of a match: how many there are, the first and the last of them, and what SUM, MIN and MAX give from the first on.
 use mathlib.Core.Path.{_≡_, refl, sym, ap, _∙_}
-use mathlib.Core.Bool.{Bool, true, false, not, _||_, true≢false}
+use mathlib.Core.Bool.{Bool, true, false, not}
 use mathlib.Core.List.{List, [], _∷_, _++_}
-use mathlib.Core.Option.{Option, none, some}
+use mathlib.Core.Option.{none, some}
 use Prim.Native.Nat.{ℕ, zero, suc, _+_, _*_, _-_, _≤_, _<_}
 use native.Mathlib.Omega.{arith}
 use native.Mathlib.Numerals.{add-one}
@@ -12,13 +12,9 @@ use lib.IntN.{ℤ, pos}
 use lib.Signed.{mag}
 use lib.ListN.{length, getD, take, drop, drop-of-length-le, length-drop}
 use lib.Seq.{drop-cons}
-use mir.Syntax.{w64}
-use mir.Val.{SFits, toZ, ofZ}
-use mir.Facts.{toZ-ofZ}
 use borrow.Author.Tests.{eq-eqb, ne-eqb, ltb-true, ltb-false}
 use Rattle.rules.specs.Basics.{pick, keep}
-use Rattle.rules.specs.Rows.{Table, tableOf, entry}
-use Rattle.rules.specs.Query as Q
+use Rattle.rules.specs.Rows.{Table, entry}
 use Rattle.rules.specs.Report.{values, joined, joinAll, overSome, resultOf, measured, twoOf}
 use Rattle.rules.proofs.Signed.{read-back}
 use Rattle.report.specs.declared.Outcome.{Outcome}
@@ -61,7 +57,8 @@ module _ (letter : ℕ) (ls : List ℕ) (at : ℕ) where
   unfolding countOf
   count-front i l = ap (countOf letter) (drop-cons ls i 0 l) ∙ ap (λ (k : ℕ). pick (isOf letter (getD ls i 0)) 1 0 + countOf letter (drop k ls)) (sym (add-one i))
 
-  pub count-more : (count i one : ℕ) (t : Bool) → Counting letter ls at count i → i < length ls → t ≡ isOf letter (getD ls i 0) → one ≡ pick t 1 0 → one ≤ 1 → Counting letter ls at (count + one) (i + 1)
+  pub count-more : (count i one : ℕ) (t : Bool) → Counting letter ls at count i → i < length ls → t ≡ isOf letter (getD ls i 0)
+      → one ≡ pick t 1 0 → one ≤ 1 → Counting letter ls at (count + one) (i + 1)
   count-more count i one t h l e o u =
       let d = count-front i l in
       let p : one ≡ pick (isOf letter (getD ls i 0)) 1 0 = o ∙ ap (λ (b : Bool). pick {A = ℕ} b 1 0) e in
@@ -156,10 +153,6 @@ module _ (t : Table) (f letter column : ℕ) where
   entries-counted row [] = refl
   entries-counted row (l ∷ ls) = length-keep (isOf letter l) _ _ ∙ ap (λ (k : ℕ). pick (isOf letter l) 1 0 + k) (entries-counted (row + 1) ls)
 
-  -- none in the tail
-  later : (l : ℕ) (ls : List ℕ) (i j : ℕ) → NoneIn letter (l ∷ ls) (suc i) (suc j) → NoneIn letter ls i j
-  later l ls i j h k a b = h (suc k) (omega arith) (omega arith)
-
   entries-none : (row : ℕ) (ls : List ℕ) → NoneIn letter ls 0 (length ls) → entries row ls ≡ []
   unfolding values
   entries-none row [] h = refl
@@ -179,7 +172,7 @@ module _ (t : Table) (f letter column : ℕ) where
       let a : row + 1 + i ≡ row + suc i = omega arith in
       let b : row + 1 + suc i ≡ row + suc (suc i) = omega arith in
       rw z (entries-first (row + 1) ls i (omega arith) e (λ k c d. g (suc k) (omega arith) (omega arith))
-        ∙ ap (λ (k : ℕ). entry t k column ∷ entries (row + 1 + suc i) (drop (suc i) ls)) a ∙ ap (λ (k : ℕ). entry t (row + suc i) column ∷ entries k (drop (suc i) ls)) b)
+      ∙ ap (λ (k : ℕ). entry t k column ∷ entries (row + 1 + suc i) (drop (suc i) ls)) a ∙ ap (λ (k : ℕ). entry t (row + suc i) column ∷ entries k (drop (suc i) ls)) b)
 
   entries-last : (row : ℕ) (ls : List ℕ) (i : ℕ) → i < length ls → isOf letter (getD ls i 0) ≡ true → NoneIn letter ls (suc i) (length ls)
       → entries row ls ≡ entries row (take i ls) ++ (entry t (row + i) column ∷ [])
@@ -192,7 +185,7 @@ module _ (t : Table) (f letter column : ℕ) where
   entries-last row (l ∷ ls) (suc i) h e g =
       let a : row + 1 + i ≡ row + suc i = omega arith in
       ap (keep (isOf letter l) (entry t row column)) (entries-last (row + 1) ls i (omega arith) e (λ k c d. g (suc k) (omega arith) (omega arith))
-        ∙ ap (λ (k : ℕ). entries (row + 1) (take i ls) ++ (entry t k column ∷ [])) a)
+      ∙ ap (λ (k : ℕ). entries (row + 1) (take i ls) ++ (entry t k column ∷ [])) a)
       ∙ kept (isOf letter l) (entry t row column) (entries (row + 1) (take i ls)) (entry t (row + suc i) column ∷ [])
     where
       kept : (u : Bool) (x : ℤ) (xs ys : List ℤ) → keep u x (xs ++ ys) ≡ keep u x xs ++ ys
@@ -231,9 +224,11 @@ module _ (t : Table) (f letter column : ℕ) where
 
     count-from : (at : ℕ) → FirstAt letter ls at → countOf letter (drop at ls) ≡ length (entries first ls)
     count-from at h =
-        let c : countOf letter (drop at ls) ≡ 1 + countOf letter (drop (at + 1) ls) = count-front letter ls at at (h .inside) ∙ ap (λ (b : Bool). pick {A = ℕ} b 1 0 + countOf letter (drop (at + 1) ls)) (h .is-of) in
+        let c : countOf letter (drop at ls) ≡ 1 + countOf letter (drop (at + 1) ls) = count-front letter ls at at (h .inside)
+        ∙ ap (λ (b : Bool). pick {A = ℕ} b 1 0 + countOf letter (drop (at + 1) ls)) (h .is-of) in
         let d = entries-counted (first + suc at) (drop (suc at) ls) in
-        let e : length (entries first ls) ≡ suc (length (entries (first + suc at) (drop (suc at) ls))) = ap length (entries-first first ls at (h .inside) (h .is-of) (h .none-before)) in
+        let e : length (entries first ls) ≡ suc (length (entries (first + suc at) (drop (suc at) ls))) =
+        ap length (entries-first first ls at (h .inside) (h .is-of) (h .none-before)) in
         let g : countOf letter (drop (at + 1) ls) ≡ countOf letter (drop (suc at) ls) = ap (λ (k : ℕ). countOf letter (drop k ls)) (add-one at) in
         omega arith
 
@@ -244,7 +239,8 @@ module _ (t : Table) (f letter column : ℕ) where
 
       over-first : f ≡ 5 → overSome f (entries first ls) ≡ some (entry t (first + at) column)
       unfolding overSome
-      over-first e = rw (entries-first first ls at (h .inside) (h .is-of) (h .none-before)) (ap some (front-stays e (entry t (first + at) column) (entries (first + suc at) (drop (suc at) ls))))
+      over-first e = rw (entries-first first ls at (h .inside) (h .is-of) (h .none-before))
+          (ap some (front-stays e (entry t (first + at) column) (entries (first + suc at) (drop (suc at) ls))))
 
     -- a number that is the result
     pub gives : (r : ℤ) → (f ≡ 1 → ⊥) → overSome f (entries first ls) ≡ some r → numbersFor (Number r) ≡ two
@@ -254,13 +250,16 @@ module _ (t : Table) (f letter column : ℕ) where
     pub gives-first : (at : ℕ) (r : ℤ) → f ≡ 5 → FirstAt letter ls at → r ≡ entry t (first + at) column → mag r < 2147483648 → numbersFor (Number (held r)) ≡ two
     gives-first at r e h q g = gives (held r) (λ w. omega arith) (over-first at h e ∙ ap some (sym (read-back r (omega arith) ∙ q)))
 
-    pub gives-last : (at : ℕ) (r : ℤ) → (f ≡ 1 → ⊥) → (f ≡ 2 → ⊥) → (f ≡ 3 → ⊥) → (f ≡ 4 → ⊥) → (f ≡ 5 → ⊥) → LastAt letter ls at → r ≡ entry t (first + at) column → mag r < 2147483648
+    pub gives-last : (at : ℕ) (r : ℤ) → (f ≡ 1 → ⊥) → (f ≡ 2 → ⊥) → (f ≡ 3 → ⊥) → (f ≡ 4 → ⊥) → (f ≡ 5 → ⊥) → LastAt letter ls at
+        → r ≡ entry t (first + at) column → mag r < 2147483648
         → numbersFor (Number (held r)) ≡ two
     gives-last at r h1 h2 h3 h4 h5 h q g =
-        let e : entries first ls ≡ entries first (take at ls) ++ (entry t (first + at) column ∷ []) = entries-last first ls at (h .inside) (h .is-of) (λ k a b. h .none-behind k (omega arith) b) in
+        let e : entries first ls ≡ entries first (take at ls) ++ (entry t (first + at) column ∷ []) =
+        entries-last first ls at (h .inside) (h .is-of) (λ k a b. h .none-behind k (omega arith) b) in
         gives (held r) h1 (ap (overSome f) e ∙ over-back h2 h3 h4 h5 (entries first (take at ls)) (entry t (first + at) column) ∙ ap some (sym (read-back r (omega arith) ∙ q)))
 
-    pub gives-joined : (k : ℕ) (r : ℤ) → mag r < 9223372036854775808 → f ≡ k → (k ≡ 1 → ⊥) → overSome k (values t (measureBy k letter column) first ls) ≡ some r → numbersFor (Number (held r)) ≡ two
+    pub gives-joined : (k : ℕ) (r : ℤ) → mag r < 9223372036854775808 → f ≡ k → (k ≡ 1 → ⊥) → overSome k (values t (measureBy k letter column) first ls) ≡ some r
+        → numbersFor (Number (held r)) ≡ two
     gives-joined k r s e h q =
         gives (held r) (λ w. h (sym e ∙ w)) (ap (λ (i : ℕ). overSome i (values t (measureBy i letter column) first ls)) e ∙ q ∙ ap some (sym (read-back r s)))
 
@@ -268,7 +267,6 @@ module _ (t : Table) (f letter column : ℕ) where
 
     pub record Joining (value : ℤ) (i : ℕ) : Type 0 where
       pub upto : i ≤ length ls
-      pub some-row : 1 ≤ i
       pub few : length ls ≤ 4096
       pub small : mag value ≤ 2147483648 * i
       pub goes : some (joinAll f value (entries (first + i) (drop i ls))) ≡ overSome f (entries first ls)
@@ -279,7 +277,6 @@ module _ (t : Table) (f letter column : ℕ) where
         let b : held x ≡ x = read-back x (omega arith) in
         record {
           upto = omega (arith, w .inside);
-          some-row = omega arith;
           few = l;
           small = rw b (omega arith);
           goes = rw (entries-first first ls i (w .inside) (w .is-of) (w .none-before), b, q, add-one i);
@@ -290,17 +287,19 @@ module _ (t : Table) (f letter column : ℕ) where
     unfolding joinAll values
     joining-more value i r h l e g =
         let b : held r ≡ r = read-back r (omega (arith, h .upto, h .few, h .small)) in
-        let d : entries (first + i) (drop i ls) ≡ keep (isOf letter (getD ls i 0)) (entry t (first + i) column) (entries (first + i + 1) (drop (suc i) ls)) = ap (entries (first + i)) (drop-cons ls i 0 l) in
+        let d : entries (first + i) (drop i ls) ≡ keep (isOf letter (getD ls i 0)) (entry t (first + i) column) (entries (first + i + 1) (drop (suc i) ls)) =
+        ap (entries (first + i)) (drop-cons ls i 0 l) in
         let a : first + (i + 1) ≡ first + i + 1 = omega arith in
         record {
           upto = omega arith;
-          some-row = omega arith;
           few = h .few;
           small = rw b (omega (arith, h .small));
-          goes = rw (b, e, a, add-one i) (step (isOf letter (getD ls i 0)) (entries (first + i + 1) (drop (suc i) ls)) ∙ ap (λ (v : List ℤ). some (joinAll f value v)) (sym d) ∙ h .goes);
+          goes = rw (b, e, a, add-one i) (step (isOf letter (getD ls i 0)) (entries (first + i + 1) (drop (suc i) ls))
+              ∙ ap (λ (v : List ℤ). some (joinAll f value v)) (sym d) ∙ h .goes);
         }
       where
-        step : (u : Bool) (xs : List ℤ) → some (joinAll f (pick u (joined f value (entry t (first + i) column)) value) xs) ≡ some (joinAll f value (keep u (entry t (first + i) column) xs))
+        step : (u : Bool) (xs : List ℤ) → some (joinAll f (pick u (joined f value (entry t (first + i) column)) value) xs) ≡ some
+            (joinAll f value (keep u (entry t (first + i) column) xs))
         step true xs = refl
         step false xs = refl
 

@@ -8,7 +8,6 @@ use lib.Dec.{eqb}
 use lib.IntN.{ℤ, pos}
 use lib.ListN.{length, getD}
 use Rattle.rules.specs.Basics.{pick, tabulate}
-use Rattle.rules.specs.Rows.{Table, entry}
 use Rattle.rules.specs.Query as Q
 use Rattle.report.specs.declared.Measure.{Measure}
 use Rattle.report.specs.declared.Outcome.{Outcome}

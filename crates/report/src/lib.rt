@@ -2,12 +2,11 @@
 // A match is appended whole or not at all: fits_whole says whether it fits. Sums are exact: 4,096 entries of 32 bits lie well within 64 bits.
 // A measure takes at most one pass over the labels of the match; over all rows, COUNT, FIRST and LAST take none.
 ghost use mathlib.Core.Path.{_≡_};
-ghost use mathlib.Core.Bool.{Bool, true, false, _||_};
+ghost use mathlib.Core.Bool.{true, false};
 ghost use mathlib.Core.List.{List, [], _∷_};
-ghost use mathlib.Core.Option.{Option, none, some};
+ghost use mathlib.Core.Option.{none, some};
 ghost use Prim.Native.Nat.{ℕ, _+_, _*_, _≤_, _<_};
-ghost use lib.Dec.{eqb};
-ghost use lib.IntN.{ℤ, pos};
+ghost use lib.IntN.{ℤ, pos, _+ℤ_};
 ghost use lib.Signed.{mag};
 ghost use lib.ListN.{length, getD, drop};
 ghost use Rattle.rules.specs.Basics.{pick, wrote};
@@ -78,6 +77,7 @@ fn is_of(letter: u8, label: u8) -> bool
     label == letter
 }
 
+// 1 where the test is true.
 fn one_if(is: bool) -> usize
     ensures { λ r. ⌜ (r ≡ pick is 1 0) × (r ≤ 1) ⌝ }
 {
@@ -145,13 +145,21 @@ fn entry_at(rows: &[i32], columns: usize, row: usize, column: usize) -> i64
     long(rows[row * columns + column])
 }
 
-// A value joined to the sum, the lowest or the highest of those before it.
+// The sum of two, exact in 64 bits.
+fn plus(a: i64, b: i64) -> i64
+    requires { ⌜ mag (a +ℤ b) < 9223372036854775808 ⌝ }
+    ensures { λ r. ⌜ r ≡ a +ℤ b ⌝ }
+{
+    a + b
+}
+
+// A value joined to the sum, the lowest or the highest of those before it; 4,096 entries of 32 bits are at most 8,796,093,022,208 together.
 fn join(function: u8, a: i64, b: i64) -> i64
     requires { ⌜ (2 ≤ function) × (function ≤ 4) × (mag a ≤ 8796093022208) × (mag b < 2147483648) ⌝ }
     ensures { λ r. ⌜ r ≡ joined function a b ⌝ }
 {
     if function == Measure::SUM {
-        return a + b;
+        return plus(a, b);
     }
     if function == Measure::MIN {
         return if b < a { b } else { a };
@@ -196,7 +204,16 @@ fn joined_from(
     let mut value = entry_at(rows, columns, first + at, column);
     let mut i = at + 1;
     while i < labels.len() {
-        value = take_row(function, letter, value, labels[i], rows, columns, first + i, column);
+        value = take_row(
+            function,
+            letter,
+            value,
+            labels[i],
+            rows,
+            columns,
+            first + i,
+            column,
+        );
         i += 1;
     }
     value
@@ -221,7 +238,14 @@ fn of_no_rows(function: u8) -> Outcome
 }
 
 // A measure that has rows, of which `at` is the first.
-fn measure_from(m: Measure, rows: &[i32], columns: usize, first: usize, labels: &[u8], at: usize) -> Outcome
+fn measure_from(
+    m: Measure,
+    rows: &[i32],
+    columns: usize,
+    first: usize,
+    labels: &[u8],
+    at: usize,
+) -> Outcome
     requires { ⌜ Readable (now rows) columns first (length (now labels)) (m .column) × FirstAt (m .letter) (now labels) at ⌝ }
     ensures { λ r. ⌜ numbersFor r ≡ twoOf (measured (tableOf columns (now (rows .entry))) first (now (labels .entry)) (measureOf m)) ⌝ }
 {
@@ -232,13 +256,40 @@ fn measure_from(m: Measure, rows: &[i32], columns: usize, first: usize, labels: 
         return Outcome::Number(as_number(count_of(letter, labels, at)));
     }
     if function == Measure::SUM {
-        return Outcome::Number(joined_from(Measure::SUM, letter, column, rows, columns, first, labels, at));
+        return Outcome::Number(joined_from(
+            Measure::SUM,
+            letter,
+            column,
+            rows,
+            columns,
+            first,
+            labels,
+            at,
+        ));
     }
     if function == Measure::MIN {
-        return Outcome::Number(joined_from(Measure::MIN, letter, column, rows, columns, first, labels, at));
+        return Outcome::Number(joined_from(
+            Measure::MIN,
+            letter,
+            column,
+            rows,
+            columns,
+            first,
+            labels,
+            at,
+        ));
     }
     if function == Measure::MAX {
-        return Outcome::Number(joined_from(Measure::MAX, letter, column, rows, columns, first, labels, at));
+        return Outcome::Number(joined_from(
+            Measure::MAX,
+            letter,
+            column,
+            rows,
+            columns,
+            first,
+            labels,
+            at,
+        ));
     }
     if function == Measure::FIRST {
         return Outcome::Number(entry_at(rows, columns, first + at, column));
@@ -300,7 +351,8 @@ fn put_measures(
     labels: &[u8],
 )
     requires { ⌜ Reportable (now numbers) at (now ms) count (now rows) columns first (length (now labels)) ⌝ }
-    ensures { λ r. ⌜ now (numbers .exit) ≡ wrote (now (numbers .entry)) at (measureNumbers (tableOf columns (now (rows .entry))) first (now (labels .entry)) (measuresIn (now (ms .entry)) count)) ⌝ }
+    ensures { λ r. ⌜ now (numbers .exit) ≡ wrote (now (numbers .entry)) at
+        (measureNumbers (tableOf columns (now (rows .entry))) first (now (labels .entry)) (measuresIn (now (ms .entry)) count)) ⌝ }
 {
     let mut k = 0;
     while k < count {
@@ -334,7 +386,9 @@ pub fn put_match(
     labels: &[u8],
 ) -> usize
     requires { ⌜ Appendable (now numbers) at number (now ms) count (now rows) columns first (length (now labels)) ⌝ }
-    ensures { λ r. ⌜ (r ≡ at + (3 + 2 * count)) × (now (numbers .exit) ≡ wrote (now (numbers .entry)) at (matchNumbers (tableOf columns (now (rows .entry))) (measuresIn (now (ms .entry)) count) number first (now (labels .entry)))) ⌝ }
+    ensures behind { λ r. ⌜ r ≡ at + (3 + 2 * count) ⌝ }
+    ensures numbers { λ r. ⌜ now (numbers .exit) ≡ wrote (now (numbers .entry)) at
+        (matchNumbers (tableOf columns (now (rows .entry))) (measuresIn (now (ms .entry)) count) number first (now (labels .entry))) ⌝ }
 {
     put_three(numbers, at, number, first, labels.len());
     let behind = at + 3;

@@ -3,14 +3,10 @@ use Rattle.report.proofs.Joins.{pos-held}
 use borrow.Author.Needs.{needs}
 use Rattle.report.proofs.as_number.Statement.{statement}
 use Rattle.report.proofs.as_number.Tie as tie
-use Rattle.report.proofs.as_number.Reads as reads
-use Rattle.report.proofs.as_number.Lts as lts
 
--- src/lib.rt:220:5
 cast-result : tie.Need-cast-result
 cast-result c = search needs
 
--- src/lib.rt:216:1
 returns : tie.Need-returns
 returns c = pos-held _ (omega arith)
 

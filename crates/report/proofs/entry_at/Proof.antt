@@ -2,31 +2,22 @@ use Rattle.report.proofs.Joins.{entry-is}
 use borrow.Author.Needs.{needs}
 use Rattle.report.proofs.entry_at.Statement.{statement}
 use Rattle.report.proofs.entry_at.Tie as tie
-use Rattle.report.proofs.entry_at.Reads as reads
-use Rattle.report.proofs.entry_at.Lts as lts
-use Rattle.report.proofs.long.Reads as long-reads
 
--- src/lib.rt:142:15
 mul-long : tie.Need-mul-long
 mul-long c = search needs
 
--- src/lib.rt:142:15
 add-long : tie.Need-add-long
 add-long c = search needs
 
--- src/lib.rt:142:10
 mul-long-2 : tie.Need-mul-long-2
 mul-long-2 c = search needs
 
--- src/lib.rt:142:10
 shared-slice-copy-out-long : tie.Need-shared-slice-copy-out-long
 shared-slice-copy-out-long c = search needs
 
--- src/lib.rt:142:5
 long-requires : tie.Need-long-requires
 long-requires c κs = search needs
 
--- src/lib.rt:138:1
 returns : tie.Need-returns
 returns c = entry-is _ _ _ _ (c .long .result) (c .before .long-arg .given) (c .long .ensures .0) (c .long .ensures .1)
 

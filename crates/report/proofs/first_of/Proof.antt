@@ -5,9 +5,6 @@ use native.Mathlib.Omega.{arith}
 use borrow.Author.Needs.{needs}
 use Rattle.report.proofs.first_of.Statement.{statement}
 use Rattle.report.proofs.first_of.Tie as tie
-use Rattle.report.proofs.first_of.Reads as reads
-use Rattle.report.proofs.first_of.Lts as lts
-use Rattle.report.proofs.is_of.Reads as is-of-reads
 
 abbrev Inv-loop : tie.InvT-loop
 Inv-loop letter labels i₀ i = Seeking letter labels 0 i
@@ -15,35 +12,27 @@ Inv-loop letter labels i₀ i = Seeking letter labels 0 i
 abbrev μ-loop : tie.MeasureT-loop
 μ-loop letter labels i₀ i = length labels - i
 
--- src/lib.rt:107:5
 loop-holds : tie.Need-loop-holds Inv-loop μ-loop
 loop-holds c = search (needs, seek-none)
 
--- src/lib.rt:108:26
 shared-slice-read-is-of : tie.Need-shared-slice-read-is-of Inv-loop μ-loop
 shared-slice-read-is-of c = search needs
 
--- src/lib.rt:108:12
 is-of-requires : tie.Need-is-of-requires Inv-loop μ-loop
 is-of-requires c κs = search needs
 
--- src/lib.rt:109:13
 returns : tie.Need-returns Inv-loop μ-loop
 returns c = search (needs, first-here)
 
--- src/lib.rt:111:9
 add-i : tie.Need-add-i Inv-loop μ-loop
 add-i c = search needs
 
--- src/lib.rt:107:5
 loop-less : tie.Need-loop-less Inv-loop μ-loop
 loop-less c = omega arith
 
--- src/lib.rt:107:5
 loop-again : tie.Need-loop-again Inv-loop μ-loop
 loop-again c = search (needs, seek-on)
 
--- src/lib.rt:103:1
 returns-2 : tie.Need-returns-2 Inv-loop μ-loop
 returns-2 c = search (needs, first-nowhere)
 

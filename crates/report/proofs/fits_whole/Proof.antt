@@ -3,36 +3,27 @@ use Rattle.report.proofs.Numbers.{room-small, no-room, fits-if}
 use borrow.Author.Needs.{needs}
 use Rattle.report.proofs.fits_whole.Statement.{statement}
 use Rattle.report.proofs.fits_whole.Tie as tie
-use Rattle.report.proofs.fits_whole.Reads as reads
-use Rattle.report.proofs.fits_whole.Lts as lts
 
--- src/lib.rt:345:16
 add-if1 : tie.Need-add-if1
 add-if1 c = search needs
 
--- src/lib.rt:345:36
 mul-if1 : tie.Need-mul-if1
 mul-if1 c = search needs
 
--- src/lib.rt:345:32
 add-if1-2 : tie.Need-add-if1-2
 add-if1-2 c = search needs
 
--- src/lib.rt:345:15
 mul-if1-2 : tie.Need-mul-if1-2
 mul-if1-2 c = omega (arith, room-small _ _ (c .pre .0) (c .pre .1))
 
--- src/lib.rt:346:9
 returns : tie.Need-returns
-returns c = no-room _ _ _ _ _ _ (c .before .pre .2) (c .if1 .taken)
+returns c = no-room _ _ _ _ _ _ (c .before .pre .2) (omega arith)
 
--- src/lib.rt:348:14
 sub-result : tie.Need-sub-result
 sub-result c = search needs
 
--- src/lib.rt:334:1
 returns-2 : tie.Need-returns-2
-returns-2 c = fits-if _ _ _ _ _ _ (c .before .pre .2) (c .if1 .left)
+returns-2 c = fits-if _ _ _ _ _ _ (c .before .pre .2) (omega arith)
 
 pub fits-whole-spec : {M : Type 1} → statement M
 fits-whole-spec =

@@ -2,14 +2,10 @@ use borrow.Author.Needs.{needs}
 use Rattle.report.proofs.RowsOf.{all-rows, own-rows}
 use Rattle.report.proofs.is_of.Statement.{statement}
 use Rattle.report.proofs.is_of.Tie as tie
-use Rattle.report.proofs.is_of.Reads as reads
-use Rattle.report.proofs.is_of.Lts as lts
 
--- src/lib.rt:75:9
 returns : tie.Need-returns
 returns c = search (needs, all-rows)
 
--- src/lib.rt:71:1
 returns-2 : tie.Need-returns-2
 returns-2 c = search (needs, own-rows)
 

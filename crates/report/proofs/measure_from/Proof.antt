@@ -3,75 +3,57 @@ use Rattle.report.proofs.RowsOf.{gives-count, gives-joined, gives-first
 use borrow.Author.Needs.{needs}
 use Rattle.report.proofs.measure_from.Statement.{statement}
 use Rattle.report.proofs.measure_from.Tie as tie
-use Rattle.report.proofs.measure_from.Reads as reads
-use Rattle.report.proofs.measure_from.Lts as lts
-use Rattle.report.proofs.as_number.Reads as as-number-reads
-use Rattle.report.proofs.count_of.Reads as count-of-reads
-use Rattle.report.proofs.entry_at.Reads as entry-at-reads
-use Rattle.report.proofs.joined_from.Reads as joined-from-reads
-use Rattle.report.proofs.last_of.Reads as last-of-reads
 
--- src/lib.rt:232:42
 count-of-requires : tie.Need-count-of-requires
 count-of-requires c κs = search needs
 
--- src/lib.rt:232:32
 as-number-requires : tie.Need-as-number-requires
 as-number-requires c κs = search needs
 
--- src/lib.rt:232:9
 returns : tie.Need-returns
-returns c = gives-count _ _ _ _ _ _ _ (c .before .before .before .before .pre .1) _ _ (c .before .before .if1 .taken) (c .before .count-of .ensures .0) (c .as-number .ensures) (omega arith)
+returns c = gives-count _ _ _ _ _ _ _ (c .before .before .before .before .pre .1) _ _ (c .before .before .if1 .taken)
+    (c .before .count-of .ensures .0) (c .as-number .ensures) (omega arith)
 
--- src/lib.rt:235:32
 joined-from-requires : tie.Need-joined-from-requires
 joined-from-requires c κs = search needs
 
--- src/lib.rt:235:9
 returns-2 : tie.Need-returns-2
 returns-2 c = gives-joined _ _ _ _ _ _ 2 _ (c .joined-from .ok) (c .before .if2 .taken) (λ w. omega arith) (c .joined-from .ensures)
 
--- src/lib.rt:238:32
 joined-from-requires-2 : tie.Need-joined-from-requires-2
 joined-from-requires-2 c κs = search needs
 
--- src/lib.rt:238:9
 returns-3 : tie.Need-returns-3
 returns-3 c = gives-joined _ _ _ _ _ _ 3 _ (c .joined-from2 .ok) (c .before .if3 .taken) (λ w. omega arith) (c .joined-from2 .ensures)
 
--- src/lib.rt:241:32
 joined-from-requires-3 : tie.Need-joined-from-requires-3
 joined-from-requires-3 c κs = search needs
 
--- src/lib.rt:241:9
 returns-4 : tie.Need-returns-4
 returns-4 c = gives-joined _ _ _ _ _ _ 4 _ (c .joined-from3 .ok) (c .before .if4 .taken) (λ w. omega arith) (c .joined-from3 .ensures)
 
--- src/lib.rt:244:56
 add-entry-at : tie.Need-add-entry-at
-add-entry-at c = omega (arith, row-small _ _ _ _ _ (c .before .before .before .before .before .before .pre .0) _ (c .before .before .before .before .before .before .pre .1 .inside))
+add-entry-at c = omega (
+  arith,
+  row-small _ _ _ _ _ (c .before .before .before .before .before .before .pre .0) _
+      (c .before .before .before .before .before .before .pre .1 .inside),
+)
 
--- src/lib.rt:244:32
 entry-at-requires : tie.Need-entry-at-requires
 entry-at-requires c κs = search (needs, row-inside)
 
--- src/lib.rt:244:9
 returns-5 : tie.Need-returns-5
 returns-5 c = search (needs, gives-first)
 
--- src/lib.rt:246:9
 last-of-requires : tie.Need-last-of-requires
 last-of-requires c κs = search needs
 
--- src/lib.rt:247:45
 add-entry-at-2 : tie.Need-add-entry-at-2
 add-entry-at-2 c = omega (arith, row-small _ _ _ _ _ (c .before .before .before .before .before .before .before .pre .0) _ (c .last-of .ensures .inside))
 
--- src/lib.rt:247:21
 entry-at-requires-2 : tie.Need-entry-at-requires-2
 entry-at-requires-2 c κs = search (needs, row-inside)
 
--- src/lib.rt:224:1
 returns-6 : tie.Need-returns-6
 returns-6 c = search (needs, gives-last)
 

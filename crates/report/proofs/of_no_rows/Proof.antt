@@ -2,14 +2,10 @@ use borrow.Author.Needs.{needs}
 use Rattle.report.proofs.RowsOf.{none-counted, none-null}
 use Rattle.report.proofs.of_no_rows.Statement.{statement}
 use Rattle.report.proofs.of_no_rows.Tie as tie
-use Rattle.report.proofs.of_no_rows.Reads as reads
-use Rattle.report.proofs.of_no_rows.Lts as lts
 
--- src/lib.rt:218:9
 returns : tie.Need-returns
 returns c = search (needs, none-counted)
 
--- src/lib.rt:214:1
 returns-2 : tie.Need-returns-2
 returns-2 c = search (needs, none-null)
 

@@ -5,11 +5,6 @@ use Rattle.rules.specs.Rows.{tableOf}
 use Rattle.report.proofs.Numbers.{Reporting, reporting-none, reporting-more, reporting-all, readable-one}
 use Rattle.report.proofs.put_measures.Statement.{statement}
 use Rattle.report.proofs.put_measures.Tie as tie
-use Rattle.report.proofs.put_measures.Reads as reads
-use Rattle.report.proofs.put_measures.Lts as lts
-use Rattle.report.proofs.measure_at.Reads as measure-at-reads
-use Rattle.report.proofs.measure_of.Reads as measure-of-reads
-use Rattle.report.proofs.put_outcome.Reads as put-outcome-reads
 
 abbrev Inv-loop : tie.InvT-loop
 Inv-loop numbers₀ at ms count rows columns first labels k₀ numbers k = Reporting numbers₀ at ms count (tableOf columns rows) first labels numbers k
@@ -17,47 +12,36 @@ Inv-loop numbers₀ at ms count rows columns first labels k₀ numbers k = Repor
 abbrev μ-loop : tie.MeasureT-loop
 μ-loop numbers₀ at ms count rows columns first labels k₀ numbers k = count - k
 
--- src/lib.rt:294:5
 loop-holds : tie.Need-loop-holds Inv-loop μ-loop
 loop-holds c = reporting-none _ _ _ _ _ _ _ (search needs)
 
--- src/lib.rt:295:34
 measure-at-requires : tie.Need-measure-at-requires Inv-loop μ-loop
 measure-at-requires c κs = search needs
 
--- src/lib.rt:295:13
 measure-of-requires : tie.Need-measure-of-requires Inv-loop μ-loop
 measure-of-requires c κs = search (needs, readable-one)
 
--- src/lib.rt:296:35
 mul-put-outcome : tie.Need-mul-put-outcome Inv-loop μ-loop
 mul-put-outcome c = search needs
 
--- src/lib.rt:296:30
 add-put-outcome : tie.Need-add-put-outcome Inv-loop μ-loop
 add-put-outcome c = search needs
 
--- src/lib.rt:296:9
 put-outcome-requires : tie.Need-put-outcome-requires Inv-loop μ-loop
 put-outcome-requires c κs = search needs
 
--- src/lib.rt:297:9
 add-k : tie.Need-add-k Inv-loop μ-loop
 add-k c = search needs
 
--- src/lib.rt:294:5
 loop-less : tie.Need-loop-less Inv-loop μ-loop
 loop-less c = omega arith
 
--- src/lib.rt:294:5
 loop-again : tie.Need-loop-again Inv-loop μ-loop
 loop-again c = search (needs, reporting-more)
 
--- src/lib.rt:280:1
 same-length : tie.Need-same-length Inv-loop μ-loop
 same-length c = search needs
 
--- src/lib.rt:280:1
 returns : tie.Need-returns Inv-loop μ-loop
 returns c = search (needs, reporting-all)
 

@@ -4,34 +4,25 @@ use Rattle.report.proofs.Numbers.{two}
 use borrow.Author.Needs.{needs}
 use Rattle.report.proofs.put_two.Statement.{statement}
 use Rattle.report.proofs.put_two.Tie as tie
-use Rattle.report.proofs.put_two.Reads as reads
-use Rattle.report.proofs.put_two.Lts as lts
 
--- src/lib.rt:254:5
 mul-a : tie.Need-mul-a
 mul-a c = search needs
 
--- src/lib.rt:254:5
 slice-set-from-a : tie.Need-slice-set-from-a
 slice-set-from-a c = search needs
 
--- src/lib.rt:255:13
 add-b : tie.Need-add-b
 add-b c = search needs
 
--- src/lib.rt:255:5
 mul-b : tie.Need-mul-b
 mul-b c = search needs
 
--- src/lib.rt:255:5
 slice-set-from-b : tie.Need-slice-set-from-b
 slice-set-from-b c = simp length-set (omega arith)
 
--- src/lib.rt:250:1
 same-length : tie.Need-same-length
 same-length c = search needs
 
--- src/lib.rt:250:1
 returns : tie.Need-returns
 returns c = two _ _ _ _ (c .fits .a) (c .fits .b) (c .pre)
 

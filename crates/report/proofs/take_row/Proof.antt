@@ -2,31 +2,23 @@ use Rattle.report.proofs.Joins.{passed-over, taken}
 use borrow.Author.Needs.{needs}
 use Rattle.report.proofs.take_row.Statement.{statement}
 use Rattle.report.proofs.take_row.Tie as tie
-use Rattle.report.proofs.take_row.Reads as reads
-use Rattle.report.proofs.take_row.Lts as lts
-use Rattle.report.proofs.entry_at.Reads as entry-at-reads
-use Rattle.report.proofs.is_of.Reads as is-of-reads
-use Rattle.report.proofs.join.Reads as join-reads
 
--- src/lib.rt:184:9
 is-of-requires : tie.Need-is-of-requires
 is-of-requires c κs = search needs
 
--- src/lib.rt:185:9
 returns : tie.Need-returns
 returns c = passed-over (c .before .before .args .function) (c .before .before .args .value) _ _ _ (c .before .is-of .ensures) (c .before .before .pre .2) (c .if1 .taken)
 
--- src/lib.rt:187:27
 entry-at-requires : tie.Need-entry-at-requires
 entry-at-requires c κs = search needs
 
--- src/lib.rt:187:5
 join-requires : tie.Need-join-requires
 join-requires c κs = search needs
 
--- src/lib.rt:171:1
 returns-2 : tie.Need-returns-2
-returns-2 c = taken (c .before .before .before .before .args .function) (c .before .before .before .before .args .value) _ _ _ (c .before .before .before .is-of .ensures) (c .before .before .before .before .pre .2) (c .before .before .if1 .left) _ (c .join .result) (c .before .entry-at .ensures .0) (c .before .entry-at .ensures .1) (c .join .ensures)
+returns-2 c = taken (c .before .before .before .before .args .function) (c .before .before .before .before .args .value) _ _ _
+    (c .before .before .before .is-of .ensures) (c .before .before .before .before .pre .2) (c .before .before .if1 .left) _
+    (c .join .result) (c .before .entry-at .ensures .0) (c .before .entry-at .ensures .1) (c .join .ensures)
 
 pub take-row-spec : {M : Type 1} → statement M
 take-row-spec =
