@@ -80,29 +80,27 @@ none-null f h = simp (ne-eqb f 1 h)
 
 -- ---- the first and the last
 
--- the loops that seek them: none of the measure's rows lies from i to below j
-pub record Seeking (letter : ℕ) (ls : List ℕ) (i j : ℕ) : Type 0 where
-  pub from : i ≤ j
+-- the loop that seeks the first: none of the measure's rows lies below index j
+pub record Seeking (letter : ℕ) (ls : List ℕ) (j : ℕ) : Type 0 where
   pub upto : j ≤ length ls
-  pub no-row : NoneIn letter ls i j
+  pub no-row : NoneIn letter ls 0 j
 
 module _ (letter : ℕ) (ls : List ℕ) where
-  -- a range of no index
-  pub seek-none : (i : ℕ) → i ≤ length ls → Seeking letter ls i i
-  seek-none i h = record { from = omega arith; upto = h; no-row = λ k a b. absurd (omega arith) }
+  pub seek-none : Seeking letter ls 0
+  seek-none = record { upto = omega arith; no-row = λ k a b. absurd (omega arith) }
 
-  pub seek-on : (j : ℕ) (t : Bool) → Seeking letter ls 0 j → j < length ls → t ≡ isOf letter (getD ls j 0) → t ≡ false → Seeking letter ls 0 (j + 1)
-  seek-on j t h l e q = record { from = omega arith; upto = omega arith; no-row = λ k a b. go k b (ltb k j) refl }
+  pub seek-on : (j : ℕ) (t : Bool) → Seeking letter ls j → j < length ls → t ≡ isOf letter (getD ls j 0) → t ≡ false → Seeking letter ls (j + 1)
+  seek-on j t h l e q = record { upto = omega arith; no-row = λ k a b. go k b (ltb k j) refl }
     where
       go : (k : ℕ) → k < j + 1 → (u : Bool) → ltb k j ≡ u → isOf letter (getD ls k 0) ≡ false
       go k b true z = h .no-row k (omega arith) (ltb-true k j z)
       go k b false z = let y : k ≡ j = omega (arith, ltb-false k j z) in rw y (sym e ∙ q)
 
-  pub first-here : (j : ℕ) (t : Bool) → Seeking letter ls 0 j → j < length ls → t ≡ isOf letter (getD ls j 0) → t ≡ true → IsFirst letter ls (At j)
+  pub first-here : (j : ℕ) (t : Bool) → Seeking letter ls j → j < length ls → t ≡ isOf letter (getD ls j 0) → t ≡ true → IsFirst letter ls (At j)
   unfolding IsFirst
   first-here j t h l e q = record { inside = l; is-of = sym e ∙ q; none-before = h .no-row }
 
-  pub first-nowhere : (j : ℕ) → Seeking letter ls 0 j → length ls ≤ j → IsFirst letter ls Nothing
+  pub first-nowhere : (j : ℕ) → Seeking letter ls j → length ls ≤ j → IsFirst letter ls Nothing
   unfolding IsFirst
   first-nowhere j h l = λ k a b. h .no-row k a (omega arith)
 
@@ -114,7 +112,7 @@ module _ (letter : ℕ) (ls : List ℕ) where
   unfolding IsFirst
   no-first found h e = rw e at h
 
-  -- backwards: none lies behind index i, which is not before `at`
+  -- the loop that seeks the last: none lies behind index i, which is not before `at`
   pub record Backing (at i : ℕ) : Type 0 where
     pub from : at ≤ i
     pub upto : i < length ls

@@ -7,7 +7,7 @@ use Rattle.report.proofs.first_of.Statement.{statement}
 use Rattle.report.proofs.first_of.Tie as tie
 
 abbrev Inv-loop : tie.InvT-loop
-Inv-loop letter labels i₀ i = Seeking letter labels 0 i
+Inv-loop letter labels i₀ i = Seeking letter labels i
 
 abbrev μ-loop : tie.MeasureT-loop
 μ-loop letter labels i₀ i = length labels - i
