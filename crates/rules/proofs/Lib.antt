@@ -1,4 +1,5 @@
 pub mod Lists
+pub mod Signed
 pub mod GrammarSound
 pub mod GrammarComplete
 pub mod Grammar
@@ -35,6 +36,7 @@ pub mod Notes
 pub mod Noted
 pub mod Accepted
 pub mod Limits
+pub mod Appended
 pub mod Demands
 pub mod Decimal
 pub mod Bench
@@ -43,4 +45,3 @@ pub mod Clause62
 pub mod Strings
 pub mod Choice
 pub mod Distinct
-pub mod Signed

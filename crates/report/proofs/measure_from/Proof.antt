@@ -1,0 +1,79 @@
+use native.Mathlib.Omega.{arith}
+use Rattle.report.proofs.RowsOf.{gives-count, gives-joined, gives-first, gives-last, row-inside, row-small}
+use borrow.Author.Needs.{needs}
+use Rattle.report.proofs.measure_from.Statement.{statement}
+use Rattle.report.proofs.measure_from.Tie as tie
+
+count-of-requires : tie.Need-count-of-requires
+count-of-requires c κs = search needs
+
+as-number-requires : tie.Need-as-number-requires
+as-number-requires c κs = search needs
+
+returns : tie.Need-returns
+returns c = gives-count _ _ _ _ _ _ _ (c .before .before .before .before .pre .1) _ _ (c .before .before .if1 .taken)
+    (c .before .count-of .ensures .0) (c .as-number .ensures) (omega arith)
+
+joined-from-requires : tie.Need-joined-from-requires
+joined-from-requires c κs = search needs
+
+returns-2 : tie.Need-returns-2
+returns-2 c = gives-joined _ _ _ _ _ _ 2 _ (c .joined-from .ok) (c .before .if2 .taken) (λ w. omega arith) (c .joined-from .ensures)
+
+joined-from-requires-2 : tie.Need-joined-from-requires-2
+joined-from-requires-2 c κs = search needs
+
+returns-3 : tie.Need-returns-3
+returns-3 c = gives-joined _ _ _ _ _ _ 3 _ (c .joined-from2 .ok) (c .before .if3 .taken) (λ w. omega arith) (c .joined-from2 .ensures)
+
+joined-from-requires-3 : tie.Need-joined-from-requires-3
+joined-from-requires-3 c κs = search needs
+
+returns-4 : tie.Need-returns-4
+returns-4 c = gives-joined _ _ _ _ _ _ 4 _ (c .joined-from3 .ok) (c .before .if4 .taken) (λ w. omega arith) (c .joined-from3 .ensures)
+
+add-entry-at : tie.Need-add-entry-at
+add-entry-at c = omega (
+  arith,
+  row-small _ _ _ _ _ (c .before .before .before .before .before .before .pre .0) _
+      (c .before .before .before .before .before .before .pre .1 .inside),
+)
+
+entry-at-requires : tie.Need-entry-at-requires
+entry-at-requires c κs = search (needs, row-inside)
+
+returns-5 : tie.Need-returns-5
+returns-5 c = search (needs, gives-first)
+
+last-of-requires : tie.Need-last-of-requires
+last-of-requires c κs = search needs
+
+add-entry-at-2 : tie.Need-add-entry-at-2
+add-entry-at-2 c = omega (arith, row-small _ _ _ _ _ (c .before .before .before .before .before .before .before .pre .0) _ (c .last-of .ensures .inside))
+
+entry-at-requires-2 : tie.Need-entry-at-requires-2
+entry-at-requires-2 c κs = search (needs, row-inside)
+
+returns-6 : tie.Need-returns-6
+returns-6 c = search (needs, gives-last)
+
+pub measure-from-spec : {M : Type 1} → statement M
+measure-from-spec =
+    tie.close
+    (tie.spec
+    count-of-requires
+    as-number-requires
+    returns
+    joined-from-requires
+    returns-2
+    joined-from-requires-2
+    returns-3
+    joined-from-requires-3
+    returns-4
+    add-entry-at
+    entry-at-requires
+    returns-5
+    last-of-requires
+    add-entry-at-2
+    entry-at-requires-2
+    returns-6)

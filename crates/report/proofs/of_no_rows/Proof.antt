@@ -1,0 +1,13 @@
+use borrow.Author.Needs.{needs}
+use Rattle.report.proofs.RowsOf.{none-counted, none-null}
+use Rattle.report.proofs.of_no_rows.Statement.{statement}
+use Rattle.report.proofs.of_no_rows.Tie as tie
+
+returns : tie.Need-returns
+returns c = search (needs, none-counted)
+
+returns-2 : tie.Need-returns-2
+returns-2 c = search (needs, none-null)
+
+pub of-no-rows-spec : {M : Type 1} → statement M
+of-no-rows-spec = tie.close (tie.spec returns returns-2)

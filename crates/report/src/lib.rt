@@ -1,0 +1,415 @@
+// The report of a match: six measures over its rows, and the numbers that it appends behind those of the matches before it.
+// A match is appended whole or not at all: fits_whole says whether it fits. Sums are exact: 4,096 entries of 32 bits lie well within 64 bits.
+// A measure takes at most one pass over the labels of the match; over all rows, COUNT, FIRST and LAST take none.
+ghost use mathlib.Core.Path.{_≡_};
+ghost use mathlib.Core.Bool.{true, false};
+ghost use mathlib.Core.List.{List, [], _∷_};
+ghost use mathlib.Core.Option.{none, some};
+ghost use Prim.Native.Nat.{ℕ, _+_, _*_, _≤_, _<_};
+ghost use lib.IntN.{ℤ, pos, _+ℤ_};
+ghost use lib.Signed.{mag};
+ghost use lib.ListN.{length, getD, drop};
+ghost use Rattle.rules.specs.Basics.{pick, wrote};
+ghost use Rattle.rules.specs.Rows.{tableOf, entry};
+ghost use Rattle.rules.specs.Query.{measureAt};
+ghost use Rattle.rules.specs.Query as Q;
+ghost use Rattle.rules.specs.Report.{joined, values, overSome, resultOf, measured, twoOf, measureNumbers, matchNumbers, fits};
+ghost use Rattle.report.specs.Measures.{measureBy, measureOf, measuresIn, numbersFor, isOf, countOf, FirstAt, IsFirst, LastAt, Inside, Readable, Reportable, Appendable};
+
+// A measure of the query: its function, the letter of its rows or 0 for all rows, and its column.
+pub struct Measure {
+    pub function: u8,
+    pub letter: u8,
+    pub column: usize,
+}
+
+impl Measure {
+    pub const COUNT: u8 = 1;
+
+    pub const SUM: u8 = 2;
+
+    pub const MIN: u8 = 3;
+
+    pub const MAX: u8 = 4;
+
+    pub const FIRST: u8 = 5;
+
+    pub const LAST: u8 = 6;
+
+    // The measure of checked record bytes.
+    pub fn make(function: u8, letter: u8, column: u8) -> Measure
+        ensures { λ r. ⌜ (r .function ≡ function) × (r .letter ≡ letter) × (r .column ≡ column) ⌝ }
+    {
+        Measure {
+            function,
+            letter,
+            column: wide(column),
+        }
+    }
+}
+
+// A byte as an index.
+fn wide(x: u8) -> usize
+    ensures { λ r. ⌜ (r ≡ x) × (r < 256) ⌝ }
+{
+    x as usize
+}
+
+// What a measure gives.
+pub enum Outcome {
+    Null,
+    Number(i64),
+}
+
+// A row of a measure: its index among the labels of the match.
+enum Found {
+    At(usize),
+    Nothing,
+}
+
+// Whether a row with this label is one of the measure's rows.
+fn is_of(letter: u8, label: u8) -> bool
+    ensures { λ r. ⌜ r ≡ isOf letter label ⌝ }
+{
+    if letter == 0 {
+        return true;
+    }
+    label == letter
+}
+
+// 1 where the test is true.
+fn one_if(is: bool) -> usize
+    ensures { λ r. ⌜ (r ≡ pick is 1 0) × (r ≤ 1) ⌝ }
+{
+    if is { 1 } else { 0 }
+}
+
+// The first row of a measure.
+fn first_of(letter: u8, labels: &[u8]) -> Found
+    ensures { λ r. ⌜ IsFirst letter (now (labels .entry)) r ⌝ }
+{
+    let mut i = 0;
+    while i < labels.len() {
+        if is_of(letter, labels[i]) {
+            return Found::At(i);
+        }
+        i += 1;
+    }
+    Found::Nothing
+}
+
+// The last row of a measure, sought from the end; `at` is one of its rows.
+fn last_of(letter: u8, labels: &[u8], at: usize) -> usize
+    requires { ⌜ (at < length (now labels)) × (isOf letter (getD (now labels) at 0) ≡ true) ⌝ }
+    ensures { λ r. ⌜ LastAt letter (now (labels .entry)) r ⌝ }
+{
+    let mut i = labels.len() - 1;
+    while at < i {
+        if is_of(letter, labels[i]) {
+            return i;
+        }
+        i -= 1;
+    }
+    at
+}
+
+// How many rows a measure has from index `at` on.
+fn count_of(letter: u8, labels: &[u8], at: usize) -> usize
+    requires { ⌜ at ≤ length (now labels) ⌝ }
+    ensures { λ r. ⌜ (r ≡ countOf letter (drop at (now (labels .entry)))) × (r ≤ length (now (labels .entry))) ⌝ }
+{
+    if letter == 0 {
+        return labels.len() - at;
+    }
+    let mut count = 0;
+    let mut i = at;
+    while i < labels.len() {
+        count += one_if(is_of(letter, labels[i]));
+        i += 1;
+    }
+    count
+}
+
+// An entry of the rows, as a number of 64 bits.
+fn long(x: i32) -> i64
+    ensures { λ r. ⌜ (r ≡ x) × (mag r < 2147483648) ⌝ }
+{
+    x as i64
+}
+
+// The entry of a row that is there.
+fn entry_at(rows: &[i32], columns: usize, row: usize, column: usize) -> i64
+    requires { ⌜ Inside (now rows) columns row column ⌝ }
+    ensures { λ r. ⌜ (r ≡ entry (tableOf columns (now (rows .entry))) row column) × (mag r < 2147483648) ⌝ }
+{
+    long(rows[row * columns + column])
+}
+
+// The sum of two, exact in 64 bits.
+fn plus(a: i64, b: i64) -> i64
+    requires { ⌜ mag (a +ℤ b) < 9223372036854775808 ⌝ }
+    ensures { λ r. ⌜ r ≡ a +ℤ b ⌝ }
+{
+    a + b
+}
+
+// A value joined to the sum, the lowest or the highest of those before it; 4,096 entries of 32 bits are at most 8,796,093,022,208 together.
+fn join(function: u8, a: i64, b: i64) -> i64
+    requires { ⌜ (2 ≤ function) × (function ≤ 4) × (mag a ≤ 8796093022208) × (mag b < 2147483648) ⌝ }
+    ensures { λ r. ⌜ r ≡ joined function a b ⌝ }
+{
+    if function == Measure::SUM {
+        return plus(a, b);
+    }
+    if function == Measure::MIN {
+        return if b < a { b } else { a };
+    }
+    if a < b { b } else { a }
+}
+
+// A row of the match: its entry is joined if it is one of the measure's rows.
+fn take_row(
+    function: u8,
+    letter: u8,
+    value: i64,
+    label: u8,
+    rows: &[i32],
+    columns: usize,
+    row: usize,
+    column: usize,
+) -> i64
+    requires { ⌜ (2 ≤ function) × (function ≤ 4) × (mag value ≤ 8796093022208) × Inside (now rows) columns row column ⌝ }
+    ensures { λ r. ⌜ (r ≡ pick (isOf letter label) (joined function value (entry (tableOf columns (now (rows .entry))) row column)) value) × (mag r ≤ mag value + 2147483648) ⌝ }
+{
+    if !is_of(letter, label) {
+        return value;
+    }
+    join(function, value, entry_at(rows, columns, row, column))
+}
+
+// SUM, MIN or MAX over the rows of a match, of which `at` is the measure's first: the labels are of the rows from `first` on.
+fn joined_from(
+    function: u8,
+    letter: u8,
+    column: usize,
+    rows: &[i32],
+    columns: usize,
+    first: usize,
+    labels: &[u8],
+    at: usize,
+) -> i64
+    requires { ⌜ (2 ≤ function) × (function ≤ 4) × Readable (now rows) columns first (length (now labels)) column × FirstAt letter (now labels) at ⌝ }
+    ensures { λ r. ⌜ overSome function (values (tableOf columns (now (rows .entry))) (measureBy function letter column) first (now (labels .entry))) ≡ some r ⌝ }
+{
+    let mut value = entry_at(rows, columns, first + at, column);
+    let mut i = at + 1;
+    while i < labels.len() {
+        value = take_row(
+            function,
+            letter,
+            value,
+            labels[i],
+            rows,
+            columns,
+            first + i,
+            column,
+        );
+        i += 1;
+    }
+    value
+}
+
+// A number of rows or matches, as a number of the report.
+fn as_number(count: usize) -> i64
+    requires { ⌜ count ≤ 4096 ⌝ }
+    ensures { λ r. ⌜ r ≡ pos count ⌝ }
+{
+    count as i64
+}
+
+// COUNT of no rows is 0; the others are null.
+fn of_no_rows(function: u8) -> Outcome
+    ensures { λ r. ⌜ numbersFor r ≡ twoOf (resultOf function []) ⌝ }
+{
+    if function == Measure::COUNT {
+        return Outcome::Number(0);
+    }
+    Outcome::Null
+}
+
+// A measure that has rows, of which `at` is the first.
+fn measure_from(
+    m: Measure,
+    rows: &[i32],
+    columns: usize,
+    first: usize,
+    labels: &[u8],
+    at: usize,
+) -> Outcome
+    requires { ⌜ Readable (now rows) columns first (length (now labels)) (m .column) × FirstAt (m .letter) (now labels) at ⌝ }
+    ensures { λ r. ⌜ numbersFor r ≡ twoOf (measured (tableOf columns (now (rows .entry))) first (now (labels .entry)) (measureOf m)) ⌝ }
+{
+    let function = m.function;
+    let letter = m.letter;
+    let column = m.column;
+    if function == Measure::COUNT {
+        return Outcome::Number(as_number(count_of(letter, labels, at)));
+    }
+    if function == Measure::SUM {
+        return Outcome::Number(joined_from(
+            Measure::SUM,
+            letter,
+            column,
+            rows,
+            columns,
+            first,
+            labels,
+            at,
+        ));
+    }
+    if function == Measure::MIN {
+        return Outcome::Number(joined_from(
+            Measure::MIN,
+            letter,
+            column,
+            rows,
+            columns,
+            first,
+            labels,
+            at,
+        ));
+    }
+    if function == Measure::MAX {
+        return Outcome::Number(joined_from(
+            Measure::MAX,
+            letter,
+            column,
+            rows,
+            columns,
+            first,
+            labels,
+            at,
+        ));
+    }
+    if function == Measure::FIRST {
+        return Outcome::Number(entry_at(rows, columns, first + at, column));
+    }
+    let last = last_of(letter, labels, at);
+    Outcome::Number(entry_at(rows, columns, first + last, column))
+}
+
+// A measure over the rows of a match: the labels are of the rows from `first` on.
+pub fn measure_of(m: Measure, rows: &[i32], columns: usize, first: usize, labels: &[u8]) -> Outcome
+    requires { ⌜ Readable (now rows) columns first (length (now labels)) (m .column) ⌝ }
+    ensures { λ r. ⌜ numbersFor r ≡ twoOf (measured (tableOf columns (now (rows .entry))) first (now (labels .entry)) (measureOf m)) ⌝ }
+{
+    let Found::At(at) = first_of(m.letter, labels) else {
+        return of_no_rows(m.function);
+    };
+    measure_from(m, rows, columns, first, labels, at)
+}
+
+// Two numbers written from index `at` on.
+fn put_two(numbers: &mut [i64], at: usize, a: i64, b: i64)
+    requires { ⌜ at + 2 ≤ length (now numbers) ⌝ }
+    ensures { λ r. ⌜ now (numbers .exit) ≡ wrote (now (numbers .entry)) at (a ∷ b ∷ []) ⌝ }
+{
+    numbers[at] = a;
+    numbers[at + 1] = b;
+}
+
+// 1 and the result, or 0 and 0 for null.
+fn put_outcome(numbers: &mut [i64], at: usize, outcome: Outcome)
+    requires { ⌜ at + 2 ≤ length (now numbers) ⌝ }
+    ensures { λ r. ⌜ now (numbers .exit) ≡ wrote (now (numbers .entry)) at (numbersFor outcome) ⌝ }
+{
+    let Outcome::Number(v) = outcome else {
+        put_two(numbers, at, 0, 0);
+        return;
+    };
+    put_two(numbers, at, 1, v);
+}
+
+// Measure number k of the flat bytes, three to a measure.
+fn measure_at(ms: &[u8], k: usize) -> Measure
+    requires { ⌜ k * 3 + 3 ≤ length (now ms) ⌝ }
+    ensures { λ r. ⌜ measureOf r ≡ measureAt (now (ms .entry)) (k * 3) ⌝ }
+{
+    let at = k * 3;
+    Measure::make(ms[at], ms[at + 1], ms[at + 2])
+}
+
+// The measures of a match, from index `at` on.
+fn put_measures(
+    numbers: &mut [i64],
+    at: usize,
+    ms: &[u8],
+    count: usize,
+    rows: &[i32],
+    columns: usize,
+    first: usize,
+    labels: &[u8],
+)
+    requires { ⌜ Reportable (now numbers) at (now ms) count (now rows) columns first (length (now labels)) ⌝ }
+    ensures { λ r. ⌜ now (numbers .exit) ≡ wrote (now (numbers .entry)) at
+        (measureNumbers (tableOf columns (now (rows .entry))) first (now (labels .entry)) (measuresIn (now (ms .entry)) count)) ⌝ }
+{
+    let mut k = 0;
+    while k < count {
+        let outcome = measure_of(measure_at(ms, k), rows, columns, first, labels);
+        put_outcome(numbers, at + k * 2, outcome);
+        k += 1;
+    }
+}
+
+// The first three numbers of a match.
+fn put_three(numbers: &mut [i64], at: usize, a: usize, b: usize, c: usize)
+    requires { ⌜ (at + 3 ≤ length (now numbers)) × (a ≤ 4096) × (b ≤ 4096) × (c ≤ 4096) ⌝ }
+    ensures { λ r. ⌜ now (numbers .exit) ≡ wrote (now (numbers .entry)) at (pos a ∷ pos b ∷ pos c ∷ []) ⌝ }
+{
+    numbers[at] = as_number(a);
+    numbers[at + 1] = as_number(b);
+    numbers[at + 2] = as_number(c);
+}
+
+// What match number `number` appends from index `at` on: its number, its first row, the rows taken, and its `count` measures. The labels are those
+// of its rows, which start at `first`. The answer is the index behind.
+pub fn put_match(
+    numbers: &mut [i64],
+    at: usize,
+    number: usize,
+    ms: &[u8],
+    count: usize,
+    rows: &[i32],
+    columns: usize,
+    first: usize,
+    labels: &[u8],
+) -> usize
+    requires { ⌜ Appendable (now numbers) at number (now ms) count (now rows) columns first (length (now labels)) ⌝ }
+    ensures behind { λ r. ⌜ r ≡ at + (3 + 2 * count) ⌝ }
+    ensures numbers { λ r. ⌜ now (numbers .exit) ≡ wrote (now (numbers .entry)) at
+        (matchNumbers (tableOf columns (now (rows .entry))) (measuresIn (now (ms .entry)) count) number first (now (labels .entry))) ⌝ }
+{
+    put_three(numbers, at, number, first, labels.len());
+    let behind = at + 3;
+    put_measures(numbers, behind, ms, count, rows, columns, first, labels);
+    behind + count * 2
+}
+
+// Whether a match of `taken` rows fits whole behind `matches` matches with `written` labels, in rooms of these lengths and with `count` measures.
+pub fn fits_whole(
+    nums: usize,
+    labs: usize,
+    count: usize,
+    matches: usize,
+    written: usize,
+    taken: usize,
+) -> bool
+    requires { ⌜ (count ≤ 8) × (matches ≤ 4096) × (written ≤ labs) ⌝ }
+    ensures { λ r. ⌜ ((ms : List Q.Measure) (ls : List ℕ) → length ms ≡ count → length ls ≡ taken → r ≡ fits nums labs ms matches written ls) ⌝ }
+{
+    if nums < (matches + 1) * (3 + 2 * count) {
+        return false;
+    }
+    taken <= labs - written
+}
