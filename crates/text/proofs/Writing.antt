@@ -1,0 +1,90 @@
+-- Laws of text written into a buffer, one piece behind the other.
+use mathlib.Core.Path.{_≡_, refl, sym, ap, _∙_}
+use mathlib.Core.List.{List, [], _∷_, _++_, append-assoc}
+use Prim.Native.Nat.{ℕ, zero, suc, _+_, _-_, _≤_, _<_}
+use native.Mathlib.Omega.{arith}
+use native.Mathlib.Numerals.{add-one}
+use native.Mathlib.Nat.{add-zero}
+use lib.ListN.{length, getD, set, take, drop, length-append, length-set, length-take, length-drop, take-append-drop}
+use lib.Seq.{set-at, take-at, drop-at, drop-drop, length-take-le, take-suc, take-length, paste, paste-zero, paste-suc}
+use Rattle.rules.specs.Basics.{wrote}
+use Rattle.text.specs.Put.{Put}
+
+module _ (l : List ℕ) (at : ℕ) where
+  pub wrote-none : wrote l at [] ≡ l
+  unfolding wrote
+  wrote-none = rw add-zero (take-append-drop at l)
+
+  pub length-wrote : (vs : List ℕ) → at + length vs ≤ length l → length (wrote l at vs) ≡ length l
+  unfolding wrote
+  length-wrote vs h = simp (length-append, length-take, length-drop) (omega arith)
+
+  -- one byte before a text that is written
+  pub wrote-before : (v : ℕ) (vs : List ℕ) → at + 1 + length vs ≤ length l → set (wrote l (at + 1) vs) at v ≡ wrote l at (v ∷ vs)
+  unfolding wrote
+  wrote-before v vs h =
+      let first : take (at + 1) l ≡ take at l ++ (getD l at 0 ∷ []) = rw (add-one at) (take-suc l at 0 (omega arith)) in
+      let count : at + 1 + length vs ≡ at + suc (length vs) = omega arith in
+      let R : List ℕ = vs ++ drop (at + suc (length vs)) l in
+      rw (first, count) (ap (λ (w : List ℕ). set w at v) (append-assoc (take at l) (getD l at 0 ∷ []) R) ∙ set-at (take at l) (getD l at 0) R v at (length-take-le at l (omega arith)))
+
+  -- a text behind a text
+  pub wrote-behind : (xs ys : List ℕ) → at + length xs + length ys ≤ length l → wrote (wrote l at xs) (at + length xs) ys ≡ wrote l at (xs ++ ys)
+  unfolding wrote
+  wrote-behind xs ys h =
+      let p : List ℕ = take at l in
+      let D : List ℕ = drop (at + length xs) l in
+      let n : length (p ++ xs) ≡ at + length xs = simp (length-append, length-take) (omega arith) in
+      let a : p ++ (xs ++ D) ≡ (p ++ xs) ++ D = sym (append-assoc p xs D) in
+      let front : take (at + length xs) ((p ++ xs) ++ D) ≡ p ++ xs = take-at (p ++ xs) D (at + length xs) n in
+      let back : drop (at + length xs + length ys) ((p ++ xs) ++ D) ≡ drop (at + length xs + length ys) l =
+        sym (drop-drop (length ys) (at + length xs) ((p ++ xs) ++ D)) ∙ ap (drop (length ys)) (drop-at (p ++ xs) D (at + length xs) n) ∙ drop-drop (length ys) (at + length xs) l
+      in
+      let count : at + length xs + length ys ≡ at + length (xs ++ ys) = simp length-append (omega arith) in
+      rw (a, front, back, count, append-assoc p xs, append-assoc xs ys)
+
+-- one byte
+pub put-one : (l : List ℕ) (at v : ℕ) → at < length l → Put l at (v ∷ []) (set l at v) (at + 1)
+put-one l at v h = record { holds = ap (λ (w : List ℕ). set w at v) (sym (wrote-none l (at + 1))) ∙ wrote-before l at v [] (omega arith); ends = refl }
+
+-- two texts, one behind the other
+pub put-both : (l : List ℕ) (at : ℕ) (xs : List ℕ) (m : List ℕ) (b : ℕ) (ys : List ℕ) (o : List ℕ) (e : ℕ) → at + length (xs ++ ys) ≤ length l
+    → Put l at xs m b → Put m b ys o e → Put l at (xs ++ ys) o e
+put-both l at xs m b ys o e h p q =
+    let n = length-append xs ys in
+    record {
+      holds = q .holds ∙ ap (λ (k : ℕ). wrote m k ys) (p .ends) ∙ ap (λ (w : List ℕ). wrote w (at + length xs) ys) (p .holds) ∙ wrote-behind l at xs ys (omega arith);
+      ends = q .ends ∙ (let a = p .ends in rw length-append (omega arith));
+    }
+
+-- ---- a loop that copies: the first i bytes are written
+
+pub record Copied (d : List ℕ) (at : ℕ) (s l : List ℕ) (i : ℕ) : Type 0 where
+  pub room : at + length s ≤ length d
+  pub upto : i ≤ length s
+  pub long : length l ≡ length d
+  pub is : l ≡ paste d at s i
+
+module _ (d : List ℕ) (at : ℕ) (s : List ℕ) where
+  pub copied-none : at + length s ≤ length d → Copied d at s d 0
+  copied-none h = record { room = h; upto = omega arith; long = refl; is = paste-zero d at s }
+
+  pub copied-more : (l : List ℕ) (i : ℕ) → Copied d at s l i → i < length s → Copied d at s (set l (at + i) (getD s i 0)) (i + 1)
+  copied-more l i h lt =
+      record {
+        room = h .room;
+        upto = omega arith;
+        long = length-set l (at + i) (getD s i 0) ∙ h .long;
+        is = ap (λ (x : List ℕ). set x (at + i) (getD s i 0)) (h .is) ∙ paste-suc d at s i 0 (let g = h .room in omega arith) lt ∙ ap (paste d at s) (sym (add-one i));
+      }
+
+  pub copied-all : (l : List ℕ) (i : ℕ) → Copied d at s l i → length s ≤ i → Put d at s l (at + length s)
+  unfolding wrote
+  copied-all l i h le =
+      record {
+        holds = h .is ∙ ap (paste d at s) (let e : i ≡ length s = omega arith in e) ∙ ap (λ (x : List ℕ). take at d ++ x ++ drop (at + length s) d) (take-length s) ∙ append-assoc (take at d) s (drop (at + length s) d);
+        ends = refl;
+      }
+
+pub put-long : (l : List ℕ) (at : ℕ) (xs m : List ℕ) (b : ℕ) → at + length xs ≤ length l → Put l at xs m b → length m ≡ length l
+put-long l at xs m b h p = ap length (p .holds) ∙ length-wrote l at xs h
