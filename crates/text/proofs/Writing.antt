@@ -1,6 +1,6 @@
 -- Laws of text written into a buffer, one piece behind the other.
 use mathlib.Core.Path.{_≡_, refl, sym, ap, _∙_}
-use mathlib.Core.List.{List, [], _∷_, _++_, append-assoc}
+use mathlib.Core.List.{List, [], _∷_, _++_, append-assoc, append-nil}
 use Prim.Native.Nat.{ℕ, zero, suc, _+_, _-_, _≤_, _<_}
 use native.Mathlib.Omega.{arith}
 use native.Mathlib.Numerals.{add-one}
@@ -88,3 +88,41 @@ module _ (d : List ℕ) (at : ℕ) (s : List ℕ) where
 
 pub put-long : (l : List ℕ) (at : ℕ) (xs m : List ℕ) (b : ℕ) → at + length xs ≤ length l → Put l at xs m b → length m ≡ length l
 put-long l at xs m b h p = ap length (p .holds) ∙ length-wrote l at xs h
+
+-- ---- a text of several pieces: those written so far, and those that are left
+
+pub record Partly (before : List ℕ) (at : ℕ) (text now : List ℕ) (behind : ℕ) (left : List ℕ) : Type 0 where
+  pub done : List ℕ
+  pub is : Put before at done now behind
+  pub whole : done ++ left ≡ text
+  pub room : at + length text ≤ length before
+  pub long : length now ≡ length before
+
+pub partly-none : {l : List ℕ} {at : ℕ} (t : List ℕ) → at + length t ≤ length l → Partly l at t l at t
+partly-none {l} {at} t h =
+    record { done = []; is = record { holds = sym (wrote-none l at); ends = omega arith }; whole = refl; room = h; long = refl }
+
+module _ {l : List ℕ} {at : ℕ} {t n : List ℕ} {b : ℕ} where
+  sizes : (ys : List ℕ) (s : Partly l at t n b ys) → length (s .done) + length ys ≡ length t
+  sizes ys s = simp length-append at (ap length (s .whole))
+
+  pub partly-room : (xs ys : List ℕ) → Partly l at t n b (xs ++ ys) → b + length xs ≤ length n
+  partly-room xs ys s = omega (arith, s .is .ends, s .room, s .long, sizes (xs ++ ys) s, length-append xs ys)
+
+  pub partly-more : (xs ys : List ℕ) {m : List ℕ} {e : ℕ} → Partly l at t n b (xs ++ ys) → Put n b xs m e → Partly l at t m e ys
+  partly-more xs ys {m} {e} s p =
+      let z = sizes (xs ++ ys) s in
+      let r = s .room in
+      let a = length-append xs ys in
+      let q = length-append (s .done) xs in
+      let g = s .is .ends in
+      record {
+        done = s .done ++ xs;
+        is = put-both l at (s .done) n b xs m e (omega arith) (s .is) p;
+        whole = append-assoc (s .done) xs ys ∙ s .whole;
+        room = r;
+        long = put-long n b xs m e (partly-room xs ys s) p ∙ s .long;
+      }
+
+  pub partly-all : Partly l at t n b [] → Put l at t n b
+  partly-all s = rw (← s .whole, append-nil (s .done)) (s .is)
