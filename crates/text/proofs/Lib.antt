@@ -2,3 +2,4 @@ pub mod Digits
 pub mod Writing
 pub mod Signed
 pub mod Lines
+pub mod Inputs

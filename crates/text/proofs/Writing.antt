@@ -10,30 +10,30 @@ use lib.Seq.{set-at, take-at, drop-at, drop-drop, length-take-le, take-suc, take
 use Rattle.rules.specs.Basics.{wrote}
 use Rattle.text.specs.Put.{Put}
 
-module _ (l : List ℕ) (at : ℕ) where
+module _ {A : Type 0} (l : List A) (at : ℕ) where
   pub wrote-none : wrote l at [] ≡ l
   unfolding wrote
   wrote-none = rw add-zero (take-append-drop at l)
 
-  pub length-wrote : (vs : List ℕ) → at + length vs ≤ length l → length (wrote l at vs) ≡ length l
+  pub length-wrote : (vs : List A) → at + length vs ≤ length l → length (wrote l at vs) ≡ length l
   unfolding wrote
   length-wrote vs h = simp (length-append, length-take, length-drop) (omega arith)
 
-  -- one byte before a text that is written
-  pub wrote-before : (v : ℕ) (vs : List ℕ) → at + 1 + length vs ≤ length l → set (wrote l (at + 1) vs) at v ≡ wrote l at (v ∷ vs)
+  -- one element before a text that is written
+  pub wrote-before : (v : A) (vs : List A) → at + 1 + length vs ≤ length l → set (wrote l (at + 1) vs) at v ≡ wrote l at (v ∷ vs)
   unfolding wrote
   wrote-before v vs h =
-      let first : take (at + 1) l ≡ take at l ++ (getD l at 0 ∷ []) = rw (add-one at) (take-suc l at 0 (omega arith)) in
+      let first : take (at + 1) l ≡ take at l ++ (getD l at v ∷ []) = rw (add-one at) (take-suc l at v (omega arith)) in
       let count : at + 1 + length vs ≡ at + suc (length vs) = omega arith in
-      let R : List ℕ = vs ++ drop (at + suc (length vs)) l in
-      rw (first, count) (ap (λ (w : List ℕ). set w at v) (append-assoc (take at l) (getD l at 0 ∷ []) R) ∙ set-at (take at l) (getD l at 0) R v at (length-take-le at l (omega arith)))
+      let R : List A = vs ++ drop (at + suc (length vs)) l in
+      rw (first, count) (ap (λ (w : List A). set w at v) (append-assoc (take at l) (getD l at v ∷ []) R) ∙ set-at (take at l) (getD l at v) R v at (length-take-le at l (omega arith)))
 
   -- a text behind a text
-  pub wrote-behind : (xs ys : List ℕ) → at + length xs + length ys ≤ length l → wrote (wrote l at xs) (at + length xs) ys ≡ wrote l at (xs ++ ys)
+  pub wrote-behind : (xs ys : List A) → at + length xs + length ys ≤ length l → wrote (wrote l at xs) (at + length xs) ys ≡ wrote l at (xs ++ ys)
   unfolding wrote
   wrote-behind xs ys h =
-      let p : List ℕ = take at l in
-      let D : List ℕ = drop (at + length xs) l in
+      let p : List A = take at l in
+      let D : List A = drop (at + length xs) l in
       let n : length (p ++ xs) ≡ at + length xs = simp (length-append, length-take) (omega arith) in
       let a : p ++ (xs ++ D) ≡ (p ++ xs) ++ D = sym (append-assoc p xs D) in
       let front : take (at + length xs) ((p ++ xs) ++ D) ≡ p ++ xs = take-at (p ++ xs) D (at + length xs) n in
@@ -43,9 +43,18 @@ module _ (l : List ℕ) (at : ℕ) where
       let count : at + length xs + length ys ≡ at + length (xs ++ ys) = simp length-append (omega arith) in
       rw (a, front, back, count, append-assoc p xs, append-assoc xs ys)
 
+-- one element, and one behind others
+pub wrote-one : {A : Type 0} (l : List A) (at : ℕ) (v : A) → at < length l → set l at v ≡ wrote l at (v ∷ [])
+wrote-one {A} l at v h = ap (λ (w : List A). set w at v) (sym (wrote-none l (at + 1))) ∙ wrote-before l at v [] (omega arith)
+
+pub wrote-next : {A : Type 0} (l : List A) (at : ℕ) (xs : List A) (v : A) → at + length xs < length l
+    → set (wrote l at xs) (at + length xs) v ≡ wrote l at (xs ++ (v ∷ []))
+wrote-next l at xs v h =
+    wrote-one (wrote l at xs) (at + length xs) v (omega (arith, length-wrote l at xs (omega arith))) ∙ wrote-behind l at xs (v ∷ []) (omega arith)
+
 -- one byte
 pub put-one : (l : List ℕ) (at v : ℕ) → at < length l → Put l at (v ∷ []) (set l at v) (at + 1)
-put-one l at v h = record { holds = ap (λ (w : List ℕ). set w at v) (sym (wrote-none l (at + 1))) ∙ wrote-before l at v [] (omega arith); ends = refl }
+put-one l at v h = record { holds = wrote-one l at v h; ends = refl }
 
 -- two texts, one behind the other
 pub put-both : (l : List ℕ) (at : ℕ) (xs : List ℕ) (m : List ℕ) (b : ℕ) (ys : List ℕ) (o : List ℕ) (e : ℕ) → at + length (xs ++ ys) ≤ length l
