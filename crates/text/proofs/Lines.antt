@@ -1,13 +1,20 @@
 -- The lines of the report, piece by piece: for each piece, that there is room for it behind those before it, and at the end that the whole line is
 -- written.
 use mathlib.Core.Path.{_≡_, refl, sym, ap, _∙_}
+use mathlib.Core.Bool.{Bool, true, false}
 use mathlib.Core.List.{List, [], _∷_, _++_}
 use Prim.Native.Nat.{ℕ, zero, suc, _+_, _≤_, _<_}
 use native.Mathlib.Omega.{arith}
-use lib.ListN.{length}
-use Rattle.rules.specs.Basics.{bytes}
-use Rattle.rules.specs.Program.{decimal, refusedText, tooLarge}
+use lib.IntN.{ℤ, natAbs}
+use lib.ListN.{length, drop}
+use mir.Syntax.{w64}
+use mir.Val.{SFits, toZ, ofZ}
+use mir.Facts.{toZ-ofZ}
+use borrow.Author.Tests.{eq-eqb, ne-eqb}
+use Rattle.rules.specs.Basics.{pick, bytes}
+use Rattle.rules.specs.Program.{decimal, signedDecimal, labelsText, refusedText}
 use Rattle.text.specs.Put.{Put}
+use Rattle.text.specs.Report.{numberAt, headerText, fieldText, resultText, resultsText, lineText, linesText}
 use Rattle.text.proofs.Writing.{Partly, partly-none, partly-room, partly-more, partly-all}
 
 -- ---- `refused N`
@@ -36,3 +43,134 @@ module _ (l : List ℕ) (at a : ℕ) (room : at + length (refusedText a) ≤ len
 
       pub put-refusal : (o : List ℕ) (e : ℕ) → Put n d (10 ∷ []) o e → Put l at (refusedText a) o e
       put-refusal o e r = partly-all (partly-more (10 ∷ []) [] refused-2 r)
+
+-- ---- `matches M steps S`
+
+outcome-long : (st : Bool) → length (pick st (bytes "stopped ") (bytes "matches ")) ≡ 8
+unfolding bytes
+outcome-long true = refl
+outcome-long false = refl
+
+module _ (l : List ℕ) (at : ℕ) (st : Bool) (k s : ℕ) (room : at + length (headerText st k s) ≤ length l) where
+  abbrev outcome : List ℕ
+  outcome = pick st (bytes "stopped ") (bytes "matches ")
+
+  abbrev rest-1 : List ℕ
+  rest-1 = bytes " steps " ++ (decimal s ++ (10 ∷ []))
+
+  header-0 : Partly l at (headerText st k s) l at (outcome ++ (decimal k ++ rest-1))
+  unfolding headerText
+  header-0 = partly-none (headerText st k s) room
+
+  pub header-room : at + 8 ≤ length l
+  header-room = omega (arith, outcome-long st, partly-room outcome (decimal k ++ rest-1) header-0)
+
+  module _ (m1 : List ℕ) (b1 : ℕ) (p1 : Put l at (pick st (bytes "stopped ") (bytes "matches ")) m1 b1) where
+    header-1 : Partly l at (headerText st k s) m1 b1 (decimal k ++ rest-1)
+    header-1 = partly-more outcome (decimal k ++ rest-1) header-0 p1
+
+    pub header-room-1 : b1 + length (decimal k) ≤ length m1
+    header-room-1 = partly-room (decimal k) rest-1 header-1
+
+    module _ (m2 : List ℕ) (b2 : ℕ) (p2 : Put m1 b1 (decimal k) m2 b2) where
+      header-2 : Partly l at (headerText st k s) m2 b2 rest-1
+      header-2 = partly-more (decimal k) rest-1 header-1 p2
+
+      pub header-room-2 : b2 + length (bytes " steps ") ≤ length m2
+      header-room-2 = partly-room (bytes " steps ") (decimal s ++ (10 ∷ [])) header-2
+
+      module _ (m3 : List ℕ) (b3 : ℕ) (p3 : Put m2 b2 (bytes " steps ") m3 b3) where
+        header-3 : Partly l at (headerText st k s) m3 b3 (decimal s ++ (10 ∷ []))
+        header-3 = partly-more (bytes " steps ") (decimal s ++ (10 ∷ [])) header-2 p3
+
+        pub header-room-3 : b3 + length (decimal s) ≤ length m3
+        header-room-3 = partly-room (decimal s) (10 ∷ []) header-3
+
+        module _ (m4 : List ℕ) (b4 : ℕ) (p4 : Put m3 b3 (decimal s) m4 b4) where
+          header-4 : Partly l at (headerText st k s) m4 b4 (10 ∷ [])
+          header-4 = partly-more (decimal s) (10 ∷ []) header-3 p4
+
+          pub header-room-4 : b4 < length m4
+          header-room-4 = omega (arith, partly-room (10 ∷ []) [] header-4)
+
+          pub put-head : (o : List ℕ) (e : ℕ) → Put m4 b4 (10 ∷ []) o e → Put l at (headerText st k s) o e
+          put-head o e p5 = partly-all (partly-more (10 ∷ []) [] header-4 p5)
+
+-- ---- a number and one space
+
+module _ (l : List ℕ) (at : ℕ) (n : ℤ) (room : at + length (fieldText n) ≤ length l) (f : SFits w64 n) where
+  field-0 : Partly l at (fieldText n) l at (signedDecimal n ++ (32 ∷ []))
+  unfolding fieldText
+  field-0 = partly-none (fieldText n) room
+
+  pub field-room : at + length (signedDecimal (toZ w64 (ofZ w64 n))) ≤ length l
+  field-room = rw (toZ-ofZ f) (partly-room (signedDecimal n) (32 ∷ []) field-0)
+
+  module _ (m : List ℕ) (b : ℕ) (p : Put l at (signedDecimal (toZ w64 (ofZ w64 n))) m b) where
+    field-1 : Partly l at (fieldText n) m b (32 ∷ [])
+    field-1 = partly-more (signedDecimal n) (32 ∷ []) field-0 (rw (toZ-ofZ f) at p)
+
+    pub field-room-1 : b < length m
+    field-room-1 = omega (arith, partly-room (32 ∷ []) [] field-1)
+
+    pub put-number : (o : List ℕ) (e : ℕ) → Put m b (32 ∷ []) o e → Put l at (fieldText n) o e
+    put-number o e q = partly-all (partly-more (32 ∷ []) [] field-1 q)
+
+-- ---- labels
+
+pub no-labels : (ls : List ℕ) → length ls ≡ 0 → labelsText ls ≡ 45 ∷ []
+unfolding labelsText
+no-labels [] h = refl
+no-labels (x ∷ ls) h = absurd (omega arith)
+
+pub some-labels : (ls : List ℕ) → (length ls ≡ 0 → ⊥) → labelsText ls ≡ ls
+unfolding labelsText
+some-labels [] h = absurd (h refl)
+some-labels (x ∷ ls) h = refl
+
+module _ (l : List ℕ) (at : ℕ) (ls : List ℕ) where
+  module _ (h : length ls ≡ 0) where
+    pub labels-none-room : at + length (labelsText ls) ≤ length l → at < length l
+    labels-none-room r = omega (arith, ap length (no-labels ls h))
+
+    pub put-no-labels : (o : List ℕ) (e : ℕ) → Put l at (45 ∷ []) o e → Put l at (labelsText ls) o e
+    put-no-labels o e p = rw (no-labels ls h) p
+
+  module _ (h : length ls ≡ 0 → ⊥) where
+    pub labels-room : at + length (labelsText ls) ≤ length l → at + length ls ≤ length l
+    labels-room r = omega (arith, ap length (some-labels ls h))
+
+    pub put-some-labels : (o : List ℕ) (e : ℕ) → Put l at ls o e → Put l at (labelsText ls) o e
+    put-some-labels o e p = rw (some-labels ls h) p
+
+-- ---- a measure's result, where s is what the size function gave of the first number
+
+module _ (l : List ℕ) (at : ℕ) (g v : ℤ) (room : at + length (resultText g v) ≤ length l) (fg : SFits w64 g) (s : ℕ) (e : s ≡ natAbs (toZ w64 (ofZ w64 g))) where
+  module _ (h : s ≡ 0) where
+    is-null : resultText g v ≡ bytes "null"
+    unfolding resultText
+    is-null = simp (eq-eqb (natAbs g) 0 (ap natAbs (sym (toZ-ofZ fg)) ∙ sym e ∙ h))
+
+    pub null-room : at + length (bytes "null") ≤ length l
+    null-room = rw is-null at room
+
+    pub put-null : (o : List ℕ) (b : ℕ) → Put l at (bytes "null") o b → Put l at (resultText g v) o b
+    put-null o b p = rw is-null p
+
+  module _ (h : s ≡ 0 → ⊥) (fv : SFits w64 v) where
+    is-some : resultText g v ≡ signedDecimal v
+    unfolding resultText
+    is-some = simp (ne-eqb (natAbs g) 0 (λ z. h (e ∙ ap natAbs (toZ-ofZ fg) ∙ z)))
+
+    pub result-room : at + length (signedDecimal (toZ w64 (ofZ w64 v))) ≤ length l
+    result-room = rw (toZ-ofZ fv) (rw is-some at room)
+
+    pub put-some : (o : List ℕ) (b : ℕ) → Put l at (signedDecimal (toZ w64 (ofZ w64 v))) o b → Put l at (resultText g v) o b
+    put-some o b p = rw is-some (rw (toZ-ofZ fv) at p)
+
+module _ (l : List ℕ) (at : ℕ) (st : Bool) (o : List ℕ) (e : ℕ) where
+  pub put-stopped : st ≡ true → Put l at (bytes "stopped ") o e → Put l at (pick st (bytes "stopped ") (bytes "matches ")) o e
+  put-stopped h p = rw h p
+
+  pub put-matches : st ≡ false → Put l at (bytes "matches ") o e → Put l at (pick st (bytes "stopped ") (bytes "matches ")) o e
+  put-matches h p = rw h p

@@ -40,7 +40,7 @@ pub fn put_decimal(out: &mut [u8], at: usize, n: u64) -> usize
 }
 
 // The size of a number without its sign, the lowest too, whose size is no i64.
-fn size_of(n: i64) -> u64
+pub fn size_of(n: i64) -> u64
     ensures { λ r. ⌜ r ≡ natAbs n ⌝ }
 {
     if n < 0 {

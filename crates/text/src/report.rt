@@ -3,9 +3,11 @@ ghost use mathlib.Core.Path.{_≡_};
 ghost use mathlib.Core.List.{List, [], _∷_, _++_};
 ghost use Prim.Native.Nat.{ℕ, _+_, _*_, _-_, _≤_, _<_};
 ghost use lib.ListN.{length, getD, take, drop};
-ghost use Rattle.rules.specs.Program.{decimal, refusedText, tooLarge};
+ghost use Rattle.rules.specs.Basics.{pick, bytes};
+ghost use Rattle.rules.specs.Program.{decimal, labelsText, refusedText, tooLarge};
 ghost use Rattle.text.specs.Put.{Put};
-use crate::put::{put_byte, put_bytes, put_decimal, put_signed};
+ghost use Rattle.text.specs.Report.{headerText, fieldText, resultText, resultsText, lineText, linesText, reportText};
+use crate::put::{put_byte, put_bytes, put_decimal, put_signed, size_of};
 
 // `refused N`
 pub fn put_refused(out: &mut [u8], at: usize, answer: u64) -> usize
@@ -23,4 +25,75 @@ pub fn put_too_large(out: &mut [u8], at: usize) -> usize
     ensures { λ r. ⌜ Put (now (out .entry)) at tooLarge (now (out .exit)) r ⌝ }
 {
     put_bytes(out, at, b"too large\n")
+}
+
+// `matches M steps S`, or `stopped M steps S`
+fn put_header(out: &mut [u8], at: usize, stopped: bool, matches: usize, steps: u64) -> usize
+    requires { ⌜ at + length (headerText stopped matches steps) ≤ length (now out) ⌝ }
+    ensures { λ r. ⌜ Put (now (out .entry)) at (headerText stopped matches steps) (now (out .exit)) r ⌝ }
+{
+    let count = put_outcome(out, at, stopped);
+    let word = put_decimal(out, count, matches as u64);
+    let number = put_bytes(out, word, b" steps ");
+    let line = put_decimal(out, number, steps);
+    put_byte(out, line, 10)
+}
+
+fn put_outcome(out: &mut [u8], at: usize, stopped: bool) -> usize
+    requires { ⌜ at + 8 ≤ length (now out) ⌝ }
+    ensures { λ r. ⌜ Put (now (out .entry)) at (pick stopped (bytes "stopped ") (bytes "matches ")) (now (out .exit)) r ⌝ }
+{
+    if stopped {
+        return put_bytes(out, at, b"stopped ");
+    }
+    put_bytes(out, at, b"matches ")
+}
+
+// A number and one space.
+fn put_field(out: &mut [u8], at: usize, n: i64) -> usize
+    requires { ⌜ at + length (fieldText n) ≤ length (now out) ⌝ }
+    ensures { λ r. ⌜ Put (now (out .entry)) at (fieldText n) (now (out .exit)) r ⌝ }
+{
+    let space = put_signed(out, at, n);
+    put_byte(out, space, 32)
+}
+
+// A match's labels, or `-` where it has none.
+fn put_labels(out: &mut [u8], at: usize, own: &[u8]) -> usize
+    requires { ⌜ at + length (labelsText (now own)) ≤ length (now out) ⌝ }
+    ensures { λ r. ⌜ Put (now (out .entry)) at (labelsText (now (own .entry))) (now (out .exit)) r ⌝ }
+{
+    if own.len() == 0 {
+        return put_byte(out, at, 45);
+    }
+    put_bytes(out, at, own)
+}
+
+// A measure's result, or `null`.
+fn put_result(out: &mut [u8], at: usize, given: i64, result: i64) -> usize
+    requires { ⌜ at + length (resultText given result) ≤ length (now out) ⌝ }
+    ensures { λ r. ⌜ Put (now (out .entry)) at (resultText given result) (now (out .exit)) r ⌝ }
+{
+    if size_of(given) == 0 {
+        return put_bytes(out, at, b"null");
+    }
+    put_signed(out, at, result)
+}
+
+// The results of the measures, whose numbers begin at index `first`.
+fn put_results(out: &mut [u8], at: usize, measures: usize, numbers: &[i64], first: usize) -> usize
+    requires { ⌜ first + 2 * measures ≤ length (now numbers) ⌝ }
+    requires { ⌜ at + length (resultsText measures (drop first (now numbers))) ≤ length (now out) ⌝ }
+    ensures { λ r. ⌜ Put (now (out .entry)) at (resultsText measures (drop first (now (numbers .entry)))) (now (out .exit)) r ⌝ }
+{
+    let mut left = measures;
+    let mut i = first;
+    let mut behind = at;
+    while 0 < left {
+        let result = put_byte(out, behind, 32);
+        behind = put_result(out, result, numbers[i], numbers[i + 1]);
+        i += 2;
+        left -= 1;
+    }
+    behind
 }
