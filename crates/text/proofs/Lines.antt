@@ -3,10 +3,11 @@
 use mathlib.Core.Path.{_≡_, refl, sym, ap, _∙_}
 use mathlib.Core.Bool.{Bool, true, false}
 use mathlib.Core.List.{List, [], _∷_, _++_}
-use Prim.Native.Nat.{ℕ, zero, suc, _+_, _≤_, _<_}
+use Prim.Native.Nat.{ℕ, zero, suc, _+_, _*_, _-_, _≤_, _<_}
 use native.Mathlib.Omega.{arith}
-use lib.IntN.{ℤ, natAbs}
+use lib.IntN.{ℤ, pos, natAbs}
 use lib.ListN.{length, drop}
+use lib.Seq.{getD-drop, drop-drop}
 use mir.Syntax.{w64}
 use mir.Val.{SFits, toZ, ofZ}
 use mir.Facts.{toZ-ofZ}
@@ -174,3 +175,53 @@ module _ (l : List ℕ) (at : ℕ) (st : Bool) (o : List ℕ) (e : ℕ) where
 
   pub put-matches : st ≡ false → Put l at (bytes "matches ") o e → Put l at (pick st (bytes "stopped ") (bytes "matches ")) o e
   put-matches h p = rw h p
+
+-- ---- the results of the measures: those from index i on are left, `left` of them
+
+pub record Resulted (before : List ℕ) (at w : ℕ) (ns : List ℤ) (first : ℕ) (now : List ℕ) (left i behind : ℕ) : Type 0 where
+  pub is : Partly before at (resultsText w (drop first ns)) now behind (resultsText left (drop i ns))
+  pub within : i + 2 * left ≤ length ns
+  pub long : length now ≡ length before
+
+results-next : (k : ℕ) (ns : List ℤ) (i : ℕ) → 0 < k
+    → resultsText k (drop i ns) ≡ (32 ∷ []) ++ (resultText (numberAt ns i) (numberAt ns (i + 1)) ++ resultsText (k - 1) (drop (i + 2) ns))
+unfolding resultsText
+results-next k ns i h =
+    let e : k ≡ suc (k - 1) = omega arith in
+    let z : i + 0 ≡ i = omega arith in
+    ap (λ (j : ℕ). resultsText j (drop i ns)) e ∙ rw (getD-drop i ns 0 (pos 0), getD-drop i ns 1 (pos 0), drop-drop 2 i ns, z)
+
+pub results-none : (l : List ℕ) (at w : ℕ) (ns : List ℤ) (first : ℕ) → first + 2 * w ≤ length ns → at + length (resultsText w (drop first ns)) ≤ length l
+    → Resulted l at w ns first l w first at
+results-none l at w ns first h r = record { is = partly-none (resultsText w (drop first ns)) r; within = h; long = refl }
+
+module _ (l : List ℕ) (at w : ℕ) (ns : List ℤ) (first : ℕ) (n : List ℕ) (k i b : ℕ) (s : Resulted l at w ns first n k i b) where
+  pub results-all : k ≤ 0 → Put l at (resultsText w (drop first ns)) n b
+  unfolding resultsText
+  results-all h = let e : k ≡ 0 = omega arith in partly-all (rw e at (s .is))
+
+  module _ (h : 0 < k) where
+    abbrev one-result : List ℕ
+    one-result = resultText (numberAt ns i) (numberAt ns (i + 1))
+
+    abbrev other-results : List ℕ
+    other-results = resultsText (k - 1) (drop (i + 2) ns)
+
+    results-0 : Partly l at (resultsText w (drop first ns)) n b ((32 ∷ []) ++ (one-result ++ other-results))
+    results-0 = rw (results-next k ns i h) at (s .is)
+
+    pub results-room : b < length n
+    results-room = omega (arith, partly-room (32 ∷ []) (one-result ++ other-results) results-0)
+
+    module _ (m : List ℕ) (d : ℕ) (p : Put n b (32 ∷ []) m d) (fg : SFits w64 (numberAt ns i)) (fv : SFits w64 (numberAt ns (i + 1))) where
+      results-1 : Partly l at (resultsText w (drop first ns)) m d (one-result ++ other-results)
+      results-1 = partly-more (32 ∷ []) (one-result ++ other-results) results-0 p
+
+      pub results-room-1 : d + length (resultText (toZ w64 (ofZ w64 (numberAt ns i))) (toZ w64 (ofZ w64 (numberAt ns (i + 1))))) ≤ length m
+      results-room-1 = rw (toZ-ofZ fg, toZ-ofZ fv) (partly-room one-result other-results results-1)
+
+      pub results-more : (o : List ℕ) (e : ℕ) → Put m d (resultText (toZ w64 (ofZ w64 (numberAt ns i))) (toZ w64 (ofZ w64 (numberAt ns (i + 1))))) o e
+          → Resulted l at w ns first o (k - 1) (i + 2) e
+      results-more o e q =
+          let t = partly-more one-result other-results results-1 (rw (toZ-ofZ fg, toZ-ofZ fv) at q) in
+          record { is = t; within = let g = s .within in omega arith; long = t .long }
