@@ -16,7 +16,7 @@ use Rattle.rules.specs.Basics.{pick, bytes}
 use Rattle.rules.specs.Program.{decimal, signedDecimal, labelsText, refusedText}
 use Rattle.text.specs.Put.{Put}
 use Rattle.text.specs.Report.{numberAt, headerText, fieldText, resultText, resultsText, lineText, linesText}
-use Rattle.text.proofs.Writing.{Partly, partly-none, partly-room, partly-more, partly-all}
+use Rattle.text.proofs.Writing.{Partly, partly-none, partly-from, partly-room, partly-more, partly-all}
 
 -- ---- `refused N`
 
@@ -225,3 +225,72 @@ module _ (l : List ℕ) (at w : ℕ) (ns : List ℤ) (first : ℕ) (n : List ℕ
       results-more o e q =
           let t = partly-more one-result other-results results-1 (rw (toZ-ofZ fg, toZ-ofZ fv) at q) in
           record { is = t; within = let g = s .within in omega arith; long = t .long }
+
+-- ---- the line of a match
+
+module _ (l : List ℕ) (at w : ℕ) (ns : List ℤ) (first : ℕ) (own : List ℕ) (room : at + length (lineText w (drop first ns) own) ≤ length l) where
+  abbrev T : List ℕ
+  T = lineText w (drop first ns) own
+
+  abbrev left-4 : List ℕ
+  left-4 = resultsText w (drop (first + 3) ns) ++ (10 ∷ [])
+
+  abbrev left-3 : List ℕ
+  left-3 = labelsText own ++ left-4
+
+  abbrev left-2 : List ℕ
+  left-2 = fieldText (numberAt ns (first + 2)) ++ left-3
+
+  abbrev left-1 : List ℕ
+  left-1 = fieldText (numberAt ns (first + 1)) ++ left-2
+
+  line-is : T ≡ fieldText (numberAt ns first) ++ left-1
+  unfolding lineText
+  line-is =
+      let z : first + 0 ≡ first = omega arith in
+      rw (getD-drop first ns 0 (pos 0), getD-drop first ns 1 (pos 0), getD-drop first ns 2 (pos 0), drop-drop 3 first ns, z)
+
+  line-0 : Partly l at T l at (fieldText (numberAt ns first) ++ left-1)
+  line-0 = partly-from T (fieldText (numberAt ns first) ++ left-1) (sym line-is) room
+
+  module _ (f0 : SFits w64 (numberAt ns first)) where
+    pub line-room : at + length (fieldText (toZ w64 (ofZ w64 (numberAt ns first)))) ≤ length l
+    line-room = rw (toZ-ofZ f0) (partly-room (fieldText (numberAt ns first)) left-1 line-0)
+
+    module _ (m1 : List ℕ) (b1 : ℕ) (p1 : Put l at (fieldText (toZ w64 (ofZ w64 (numberAt ns first)))) m1 b1) (f1 : SFits w64 (numberAt ns (first + 1))) where
+      line-1 : Partly l at T m1 b1 left-1
+      line-1 = partly-more (fieldText (numberAt ns first)) left-1 line-0 (rw (toZ-ofZ f0) at p1)
+
+      pub line-room-1 : b1 + length (fieldText (toZ w64 (ofZ w64 (numberAt ns (first + 1))))) ≤ length m1
+      line-room-1 = rw (toZ-ofZ f1) (partly-room (fieldText (numberAt ns (first + 1))) left-2 line-1)
+
+      module _ (m2 : List ℕ) (b2 : ℕ) (p2 : Put m1 b1 (fieldText (toZ w64 (ofZ w64 (numberAt ns (first + 1))))) m2 b2) (f2 : SFits w64 (numberAt ns (first + 2))) where
+        line-2 : Partly l at T m2 b2 left-2
+        line-2 = partly-more (fieldText (numberAt ns (first + 1))) left-2 line-1 (rw (toZ-ofZ f1) at p2)
+
+        pub line-room-2 : b2 + length (fieldText (toZ w64 (ofZ w64 (numberAt ns (first + 2))))) ≤ length m2
+        line-room-2 = rw (toZ-ofZ f2) (partly-room (fieldText (numberAt ns (first + 2))) left-3 line-2)
+
+        module _ (m3 : List ℕ) (b3 : ℕ) (p3 : Put m2 b2 (fieldText (toZ w64 (ofZ w64 (numberAt ns (first + 2))))) m3 b3) where
+          line-3 : Partly l at T m3 b3 left-3
+          line-3 = partly-more (fieldText (numberAt ns (first + 2))) left-3 line-2 (rw (toZ-ofZ f2) at p3)
+
+          pub line-room-3 : b3 + length (labelsText own) ≤ length m3
+          line-room-3 = partly-room (labelsText own) left-4 line-3
+
+          module _ (m4 : List ℕ) (b4 : ℕ) (p4 : Put m3 b3 (labelsText own) m4 b4) where
+            line-4 : Partly l at T m4 b4 left-4
+            line-4 = partly-more (labelsText own) left-4 line-3 p4
+
+            pub line-room-4 : b4 + length (resultsText w (drop (first + 3) ns)) ≤ length m4
+            line-room-4 = partly-room (resultsText w (drop (first + 3) ns)) (10 ∷ []) line-4
+
+            module _ (m5 : List ℕ) (b5 : ℕ) (p5 : Put m4 b4 (resultsText w (drop (first + 3) ns)) m5 b5) where
+              line-5 : Partly l at T m5 b5 (10 ∷ [])
+              line-5 = partly-more (resultsText w (drop (first + 3) ns)) (10 ∷ []) line-4 p5
+
+              pub line-room-5 : b5 < length m5
+              line-room-5 = omega (arith, partly-room (10 ∷ []) [] line-5)
+
+              pub put-one-line : (o : List ℕ) (e : ℕ) → Put m5 b5 (10 ∷ []) o e → Put l at (lineText w (drop first ns) own) o e
+              put-one-line o e p6 = partly-all (partly-more (10 ∷ []) [] line-5 p6)

@@ -107,9 +107,12 @@ pub record Partly (before : List ℕ) (at : ℕ) (text now : List ℕ) (behind :
   pub room : at + length text ≤ length before
   pub long : length now ≡ length before
 
+-- nothing is written, and the whole text, perhaps in other words, is left
+pub partly-from : {l : List ℕ} {at : ℕ} (t xs : List ℕ) → xs ≡ t → at + length t ≤ length l → Partly l at t l at xs
+partly-from {l} {at} t xs e h = record { done = []; is = record { holds = sym (wrote-none l at); ends = omega arith }; whole = e; room = h; long = refl }
+
 pub partly-none : {l : List ℕ} {at : ℕ} (t : List ℕ) → at + length t ≤ length l → Partly l at t l at t
-partly-none {l} {at} t h =
-    record { done = []; is = record { holds = sym (wrote-none l at); ends = omega arith }; whole = refl; room = h; long = refl }
+partly-none t h = partly-from t t refl h
 
 module _ {l : List ℕ} {at : ℕ} {t n : List ℕ} {b : ℕ} where
   sizes : (ys : List ℕ) (s : Partly l at t n b ys) → length (s .done) + length ys ≡ length t

@@ -1,7 +1,7 @@
 // The program's output as bytes: what it prints of a refused input, of one that is too large, and of a search's report.
 ghost use mathlib.Core.Path.{_≡_};
 ghost use mathlib.Core.List.{List, [], _∷_, _++_};
-ghost use Prim.Native.Nat.{ℕ, _+_, _*_, _-_, _≤_, _<_};
+ghost use Prim.Native.Nat.{ℕ, _+_, _*_, _-_, _≤_, _<_, min};
 ghost use lib.ListN.{length, getD, take, drop};
 ghost use Rattle.rules.specs.Basics.{pick, bytes};
 ghost use Rattle.rules.specs.Program.{decimal, labelsText, refusedText, tooLarge};
@@ -96,4 +96,68 @@ fn put_results(out: &mut [u8], at: usize, measures: usize, numbers: &[i64], firs
         left -= 1;
     }
     behind
+}
+
+// The line of the match whose numbers begin at index `first` and whose labels are `own`.
+fn put_line(out: &mut [u8], at: usize, measures: usize, numbers: &[i64], first: usize, own: &[u8]) -> usize
+    requires { ⌜ first + (3 + 2 * measures) ≤ length (now numbers) ⌝ }
+    requires { ⌜ at + length (lineText measures (drop first (now numbers)) (now own)) ≤ length (now out) ⌝ }
+    ensures { λ r. ⌜ Put (now (out .entry)) at (lineText measures (drop first (now (numbers .entry))) (now (own .entry))) (now (out .exit)) r ⌝ }
+{
+    let row = put_field(out, at, numbers[first]);
+    let rows = put_field(out, row, numbers[first + 1]);
+    let labels = put_field(out, rows, numbers[first + 2]);
+    let results = put_labels(out, labels, own);
+    let line = put_results(out, results, measures, numbers, first + 3);
+    put_byte(out, line, 10)
+}
+
+// As many of the labels left as a match has rows; all of them where there are fewer.
+fn least(rows: u64, left: usize) -> usize
+    ensures { λ r. ⌜ r ≡ min rows left ⌝ }
+{
+    if rows < left as u64 {
+        return rows as usize;
+    }
+    left
+}
+
+// The lines of the matches.
+fn put_lines(out: &mut [u8], at: usize, matches: usize, measures: usize, numbers: &[i64], labels: &[u8]) -> usize
+    requires { ⌜ (measures ≤ 8) × (matches * (3 + 2 * measures) ≤ length (now numbers)) ⌝ }
+    requires { ⌜ at + length (linesText matches measures (now numbers) (now labels)) ≤ length (now out) ⌝ }
+    ensures { λ r. ⌜ Put (now (out .entry)) at (linesText matches measures (now (numbers .entry)) (now (labels .entry))) (now (out .exit)) r ⌝ }
+{
+    let width = 3 + 2 * measures;
+    let mut left = matches;
+    let mut first = 0;
+    let mut label = 0;
+    let mut behind = at;
+    while 0 < left {
+        let next = label + least(size_of(numbers[first + 2]), labels.len() - label);
+        behind = put_line(out, behind, measures, numbers, first, &labels[label..next]);
+        first += width;
+        label = next;
+        left -= 1;
+    }
+    behind
+}
+
+// The text of a search's report: the header, and a line for each match. The numbers and labels are the report buffers as the search left them.
+pub fn put_report(
+    out: &mut [u8],
+    at: usize,
+    stopped: bool,
+    matches: usize,
+    steps: u64,
+    measures: usize,
+    numbers: &[i64],
+    labels: &[u8],
+) -> usize
+    requires { ⌜ (measures ≤ 8) × (matches * (3 + 2 * measures) ≤ length (now numbers)) ⌝ }
+    requires { ⌜ at + length (reportText stopped matches steps measures (now numbers) (now labels)) ≤ length (now out) ⌝ }
+    ensures { λ r. ⌜ Put (now (out .entry)) at (reportText stopped matches steps measures (now (numbers .entry)) (now (labels .entry))) (now (out .exit)) r ⌝ }
+{
+    let lines = put_header(out, at, stopped, matches, steps);
+    put_lines(out, lines, matches, measures, numbers, labels)
 }

@@ -1,0 +1,101 @@
+use native.Mathlib.Omega.{arith}
+use borrow.Author.Needs.{needs, sfits-of}
+use Rattle.text.proofs.Lines.{line-room, line-room-1, line-room-2, line-room-3, line-room-4, line-room-5, put-one-line}
+use Rattle.text.proofs.report.put_line.Statement.{statement}
+use Rattle.text.proofs.report.put_line.Tie as tie
+use Rattle.text.proofs.report.put_line.Reads as reads
+use Rattle.text.proofs.report.put_line.Lts as lts
+use Rattle.text.proofs.put.put_byte.Reads as put-byte-reads
+use Rattle.text.proofs.report.put_field.Reads as put-field-reads
+use Rattle.text.proofs.report.put_labels.Reads as put-labels-reads
+use Rattle.text.proofs.report.put_results.Reads as put-results-reads
+
+-- src/report.rt:107:34
+mul-put-field : tie.Need-mul-put-field
+mul-put-field c = search needs
+
+-- src/report.rt:107:34
+shared-slice-copy-out-put-field : tie.Need-shared-slice-copy-out-put-field
+shared-slice-copy-out-put-field c = search needs
+
+-- src/report.rt:107:9
+put-field-requires : tie.Need-put-field-requires
+put-field-requires c κs = search (needs, line-room)
+
+-- src/report.rt:108:44
+add-put-field : tie.Need-add-put-field
+add-put-field c = search needs
+
+-- src/report.rt:108:36
+mul-put-field-2 : tie.Need-mul-put-field-2
+mul-put-field-2 c = search needs
+
+-- src/report.rt:108:36
+shared-slice-copy-out-put-field-2 : tie.Need-shared-slice-copy-out-put-field-2
+shared-slice-copy-out-put-field-2 c = search needs
+
+-- src/report.rt:108:9
+put-field-requires-2 : tie.Need-put-field-requires-2
+put-field-requires-2 c κs = search (needs, line-room-1)
+
+-- src/report.rt:109:47
+add-put-field-2 : tie.Need-add-put-field-2
+add-put-field-2 c = search needs
+
+-- src/report.rt:109:39
+mul-put-field-3 : tie.Need-mul-put-field-3
+mul-put-field-3 c = search needs
+
+-- src/report.rt:109:39
+shared-slice-copy-out-put-field-3 : tie.Need-shared-slice-copy-out-put-field-3
+shared-slice-copy-out-put-field-3 c = search needs
+
+-- src/report.rt:109:9
+put-field-requires-3 : tie.Need-put-field-requires-3
+put-field-requires-3 c κs = let z = c .before .before .before .before .before .before .before .before .before .before .before .before .before .before in line-room-2 _ _ _ (z .args .numbers .now) (z .args .first) (z .args .own .now) (z .pre .1) (sfits-of (c .before .before .before .before .before .before .before .before .before .before .put-field-arg2 .given)) _ _ (c .before .before .before .before .before .before .before .before .before .put-field .ensures) (sfits-of (c .before .before .before .before .before .put-field-arg4 .given)) _ _ (c .before .before .before .before .put-field2 .ensures) (sfits-of (c .put-field-arg6 .given))
+
+-- src/report.rt:110:9
+put-labels-requires : tie.Need-put-labels-requires
+put-labels-requires c κs = let z = c .before .before .before .before .before .before .before .before .before .before .before .before .before .before .before .before .before .before in line-room-3 _ _ _ (z .args .numbers .now) (z .args .first) (z .args .own .now) (z .pre .1) (sfits-of (c .before .before .before .before .before .before .before .before .before .before .before .before .before .before .put-field-arg2 .given)) _ _ (c .before .before .before .before .before .before .before .before .before .before .before .before .before .put-field .ensures) (sfits-of (c .before .before .before .before .before .before .before .before .before .put-field-arg4 .given)) _ _ (c .before .before .before .before .before .before .before .before .put-field2 .ensures) (sfits-of (c .before .before .before .before .put-field-arg6 .given)) _ _ (c .before .before .before .put-field3 .ensures)
+
+-- src/report.rt:111:61
+add-put-results : tie.Need-add-put-results
+add-put-results c = search needs
+
+-- src/report.rt:111:9
+put-results-requires : tie.Need-put-results-requires
+put-results-requires c κs = let z = c .before .before .before .before .before .before .before .before .before .before .before .before .before .before .before .before .before .before .before .before .before .before in (omega arith, line-room-4 _ _ _ (z .args .numbers .now) (z .args .first) (z .args .own .now) (z .pre .1) (sfits-of (c .before .before .before .before .before .before .before .before .before .before .before .before .before .before .before .before .before .before .put-field-arg2 .given)) _ _ (c .before .before .before .before .before .before .before .before .before .before .before .before .before .before .before .before .before .put-field .ensures) (sfits-of (c .before .before .before .before .before .before .before .before .before .before .before .before .before .put-field-arg4 .given)) _ _ (c .before .before .before .before .before .before .before .before .before .before .before .before .put-field2 .ensures) (sfits-of (c .before .before .before .before .before .before .before .before .put-field-arg6 .given)) _ _ (c .before .before .before .before .before .before .before .put-field3 .ensures) _ _ (c .before .before .before .put-labels .ensures))
+
+-- src/report.rt:112:5
+put-byte-requires : tie.Need-put-byte-requires
+put-byte-requires c κs = let z = c .before .before .before .before .before .before .before .before .before .before .before .before .before .before .before .before .before .before .before .before .before .before .before .before .before .before in line-room-5 _ _ _ (z .args .numbers .now) (z .args .first) (z .args .own .now) (z .pre .1) (sfits-of (c .before .before .before .before .before .before .before .before .before .before .before .before .before .before .before .before .before .before .before .before .before .before .put-field-arg2 .given)) _ _ (c .before .before .before .before .before .before .before .before .before .before .before .before .before .before .before .before .before .before .before .before .before .put-field .ensures) (sfits-of (c .before .before .before .before .before .before .before .before .before .before .before .before .before .before .before .before .before .put-field-arg4 .given)) _ _ (c .before .before .before .before .before .before .before .before .before .before .before .before .before .before .before .before .put-field2 .ensures) (sfits-of (c .before .before .before .before .before .before .before .before .before .before .before .before .put-field-arg6 .given)) _ _ (c .before .before .before .before .before .before .before .before .before .before .before .put-field3 .ensures) _ _ (c .before .before .before .before .before .before .before .put-labels .ensures) _ _ (c .before .before .before .put-results .ensures)
+
+-- src/report.rt:102:1
+same-length : tie.Need-same-length
+same-length c = search needs
+
+-- src/report.rt:102:1
+returns : tie.Need-returns
+returns c = let z = c .before .before .before .before .before .before .before .before .before .before .before .before .before .before .before .before .before .before .before .before .before .before .before .before .before .before .before .before .before in put-one-line _ _ _ (z .args .numbers .now) (z .args .first) (z .args .own .now) (z .pre .1) (sfits-of (c .before .before .before .before .before .before .before .before .before .before .before .before .before .before .before .before .before .before .before .before .before .before .before .before .before .put-field-arg2 .given)) _ _ (c .before .before .before .before .before .before .before .before .before .before .before .before .before .before .before .before .before .before .before .before .before .before .before .before .put-field .ensures) (sfits-of (c .before .before .before .before .before .before .before .before .before .before .before .before .before .before .before .before .before .before .before .before .put-field-arg4 .given)) _ _ (c .before .before .before .before .before .before .before .before .before .before .before .before .before .before .before .before .before .before .before .put-field2 .ensures) (sfits-of (c .before .before .before .before .before .before .before .before .before .before .before .before .before .before .before .put-field-arg6 .given)) _ _ (c .before .before .before .before .before .before .before .before .before .before .before .before .before .before .put-field3 .ensures) _ _ (c .before .before .before .before .before .before .before .before .before .before .put-labels .ensures) _ _ (c .before .before .before .before .before .before .put-results .ensures) _ _ (c .before .before .put-byte .ensures)
+
+pub put-line-spec : {M : Type 1} → statement M
+put-line-spec =
+    tie.close
+    (tie.spec
+    mul-put-field
+    shared-slice-copy-out-put-field
+    put-field-requires
+    add-put-field
+    mul-put-field-2
+    shared-slice-copy-out-put-field-2
+    put-field-requires-2
+    add-put-field-2
+    mul-put-field-3
+    shared-slice-copy-out-put-field-3
+    put-field-requires-3
+    put-labels-requires
+    add-put-results
+    put-results-requires
+    put-byte-requires
+    same-length
+    returns)

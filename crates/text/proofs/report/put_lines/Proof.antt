@@ -1,0 +1,122 @@
+use Rattle.text.proofs.report.put_lines.Statement.{statement}
+use Rattle.text.proofs.report.put_lines.Tie as tie
+use Rattle.text.proofs.report.put_lines.Reads as reads
+use Rattle.text.proofs.report.put_lines.Lts as lts
+use Rattle.text.proofs.put.size_of.Reads as size-of-reads
+use Rattle.text.proofs.report.least.Reads as least-reads
+use Rattle.text.proofs.report.put_line.Reads as put-line-reads
+
+abbrev Inv-loop : tie.InvT-loop
+Inv-loop out₀ at matches measures numbers labels width left₀ first₀ label₀ behind₀ out left first label behind =
+    ?
+
+abbrev μ-loop : tie.MeasureT-loop
+μ-loop out₀ at matches measures numbers labels width left₀ first₀ label₀ behind₀ out left first label behind =
+    ?
+
+-- src/report.rt:131:21
+mul-width : tie.Need-mul-width Inv-loop μ-loop
+mul-width c = ?
+
+-- src/report.rt:131:17
+add-width : tie.Need-add-width Inv-loop μ-loop
+add-width c = ?
+
+-- src/report.rt:136:5
+loop-holds : tie.Need-loop-holds Inv-loop μ-loop
+loop-holds c = ?
+
+-- src/report.rt:137:50
+add-size-of : tie.Need-add-size-of Inv-loop μ-loop
+add-size-of c = ?
+
+-- src/report.rt:137:42
+mul-size-of : tie.Need-mul-size-of Inv-loop μ-loop
+mul-size-of c = ?
+
+-- src/report.rt:137:42
+shared-slice-copy-out-size-of : tie.Need-shared-slice-copy-out-size-of Inv-loop μ-loop
+shared-slice-copy-out-size-of c = ?
+
+-- src/report.rt:137:34
+size-of-requires : tie.Need-size-of-requires Inv-loop μ-loop
+size-of-requires c κs = ?
+
+-- src/report.rt:137:63
+sub-least : tie.Need-sub-least Inv-loop μ-loop
+sub-least c = ?
+
+-- src/report.rt:137:28
+least-requires : tie.Need-least-requires Inv-loop μ-loop
+least-requires c κs = ?
+
+-- src/report.rt:137:20
+add-next : tie.Need-add-next Inv-loop μ-loop
+add-next c = ?
+
+-- src/report.rt:138:66
+sub-put-line : tie.Need-sub-put-line Inv-loop μ-loop
+sub-put-line c = ?
+
+-- src/report.rt:138:66
+part-put-line-start : tie.Need-part-put-line-start Inv-loop μ-loop
+part-put-line-start c = ?
+
+-- src/report.rt:138:66
+part-put-line-end : tie.Need-part-put-line-end Inv-loop μ-loop
+part-put-line-end c = ?
+
+-- src/report.rt:138:9
+put-line-requires : tie.Need-put-line-requires Inv-loop μ-loop
+put-line-requires c κs = ?
+
+-- src/report.rt:139:9
+add-first : tie.Need-add-first Inv-loop μ-loop
+add-first c = ?
+
+-- src/report.rt:141:9
+sub-left : tie.Need-sub-left Inv-loop μ-loop
+sub-left c = ?
+
+-- src/report.rt:136:5
+loop-less : tie.Need-loop-less Inv-loop μ-loop
+loop-less c = ?
+
+-- src/report.rt:136:5
+loop-again : tie.Need-loop-again Inv-loop μ-loop
+loop-again c = ?
+
+-- src/report.rt:126:1
+same-length : tie.Need-same-length Inv-loop μ-loop
+same-length c = ?
+
+-- src/report.rt:126:1
+returns : tie.Need-returns Inv-loop μ-loop
+returns c = ?
+
+pub put-lines-spec : {M : Type 1} → statement M
+put-lines-spec =
+    tie.close
+    (tie.spec
+    Inv-loop
+    μ-loop
+    mul-width
+    add-width
+    loop-holds
+    add-size-of
+    mul-size-of
+    shared-slice-copy-out-size-of
+    size-of-requires
+    sub-least
+    least-requires
+    add-next
+    sub-put-line
+    part-put-line-start
+    part-put-line-end
+    put-line-requires
+    add-first
+    sub-left
+    loop-less
+    loop-again
+    same-length
+    returns)
