@@ -3,20 +3,22 @@
 use mathlib.Core.Path.{_≡_, refl, sym, ap, _∙_}
 use mathlib.Core.Bool.{Bool, true, false}
 use mathlib.Core.List.{List, [], _∷_, _++_}
-use Prim.Native.Nat.{ℕ, zero, suc, _+_, _*_, _-_, _≤_, _<_}
+use Prim.Native.Nat.{ℕ, zero, suc, _+_, _*_, _-_, _≤_, _<_, min}
+use native.Mathlib.Nat.{suc-mul}
 use native.Mathlib.Omega.{arith}
 use lib.IntN.{ℤ, pos, natAbs}
-use lib.ListN.{length, drop}
-use lib.Seq.{getD-drop, drop-drop}
+use lib.Dec.{ltb}
+use lib.ListN.{length, take, drop, length-drop, drop-of-length-le}
+use lib.Seq.{getD-drop, drop-drop, take-all, take-length, drop-length}
 use mir.Syntax.{w64}
 use mir.Val.{SFits, toZ, ofZ}
 use mir.Facts.{toZ-ofZ}
-use borrow.Author.Tests.{eq-eqb, ne-eqb}
+use borrow.Author.Tests.{ltb-true, ltb-false, eq-eqb, ne-eqb}
 use Rattle.rules.specs.Basics.{pick, bytes}
 use Rattle.rules.specs.Program.{decimal, signedDecimal, labelsText, refusedText}
 use Rattle.text.specs.Put.{Put}
-use Rattle.text.specs.Report.{numberAt, headerText, fieldText, resultText, resultsText, lineText, linesText}
-use Rattle.text.proofs.Writing.{Partly, partly-none, partly-from, partly-room, partly-more, partly-all}
+use Rattle.text.specs.Report.{numberAt, headerText, fieldText, resultText, resultsText, lineText, linesText, reportText}
+use Rattle.text.proofs.Writing.{Partly, partly-none, partly-from, partly-room, partly-more, partly-all, partly-room-last, partly-last}
 
 -- ---- `refused N`
 
@@ -294,3 +296,109 @@ module _ (l : List ℕ) (at w : ℕ) (ns : List ℤ) (first : ℕ) (own : List �
 
               pub put-one-line : (o : List ℕ) (e : ℕ) → Put m5 b5 (10 ∷ []) o e → Put l at (lineText w (drop first ns) own) o e
               put-one-line o e p6 = partly-all (partly-more (10 ∷ []) [] line-5 p6)
+
+-- ---- the lines of the matches: `left` of them are left, whose numbers begin at index `first` and whose labels at index `label`
+
+pub record Lined (before : List ℕ) (at matches w : ℕ) (ns : List ℤ) (ls now : List ℕ) (left first label behind : ℕ) : Type 0 where
+  pub is : Partly before at (linesText matches w ns ls) now behind (linesText left w (drop first ns) (drop label ls))
+  pub within : first + left * (3 + 2 * w) ≤ length ns
+  pub few : w ≤ 8
+  pub upto : label ≤ length ls
+  pub long : length now ≡ length before
+
+-- as many as there are, and no more
+take-least : (r : ℕ) (xs : List ℕ) → take (min r (length xs)) xs ≡ take r xs
+take-least r xs = go (ltb r (length xs)) refl
+  where
+    go : (t : Bool) → ltb r (length xs) ≡ t → take (min r (length xs)) xs ≡ take r xs
+    go true e = ap (λ (j : ℕ). take j xs) (let h = ltb-true r (length xs) e in let q : min r (length xs) ≡ r = omega arith in q)
+    go false e =
+        let h = ltb-false r (length xs) e in
+        let q : min r (length xs) ≡ length xs = omega arith in
+        ap (λ (j : ℕ). take j xs) q ∙ take-length xs ∙ sym (take-all r xs h)
+
+drop-least : (r : ℕ) (xs : List ℕ) → drop (min r (length xs)) xs ≡ drop r xs
+drop-least r xs = go (ltb r (length xs)) refl
+  where
+    go : (t : Bool) → ltb r (length xs) ≡ t → drop (min r (length xs)) xs ≡ drop r xs
+    go true e = ap (λ (j : ℕ). drop j xs) (let h = ltb-true r (length xs) e in let q : min r (length xs) ≡ r = omega arith in q)
+    go false e =
+        let h = ltb-false r (length xs) e in
+        let q : min r (length xs) ≡ length xs = omega arith in
+        ap (λ (j : ℕ). drop j xs) q ∙ drop-length xs ∙ sym (drop-of-length-le xs h)
+
+pub lines-none : (l : List ℕ) (at k w : ℕ) (ns : List ℤ) (ls : List ℕ) → (w ≤ 8) × (k * (3 + 2 * w) ≤ length ns) → at + length (linesText k w ns ls) ≤ length l
+    → Lined l at k w ns ls l k 0 0 at
+lines-none l at k w ns ls h r =
+    record { is = partly-none (linesText k w ns ls) r; within = let g = h .1 in omega arith; few = h .0; upto = omega arith; long = refl }
+
+module _ (l : List ℕ) (at k0 w : ℕ) (ns : List ℤ) (ls n : List ℕ) (k first label b : ℕ) (s : Lined l at k0 w ns ls n k first label b) where
+  pub lines-all : k ≤ 0 → Put l at (linesText k0 w ns ls) n b
+  unfolding linesText
+  lines-all h = let e : k ≡ 0 = omega arith in partly-all (rw e at (s .is))
+
+  module _ (h : 0 < k) where
+    one-less : k * (3 + 2 * w) ≡ (k - 1) * (3 + 2 * w) + (3 + 2 * w)
+    one-less = let e : k ≡ suc (k - 1) = omega arith in ap (λ (j : ℕ). j * (3 + 2 * w)) e ∙ suc-mul (k - 1) (3 + 2 * w)
+
+    pub lines-inside : first + (3 + 2 * w) ≤ length ns
+    lines-inside = let g = s .within in omega (arith, one-less)
+
+    -- r is what the size function gave of the rows taken, and own as many of the labels left
+    module _ (r own : ℕ) (f : SFits w64 (numberAt ns (first + 2))) (er : r ≡ natAbs (toZ w64 (ofZ w64 (numberAt ns (first + 2))))) (eo : own ≡ min r (length ls - label)) where
+      abbrev rows : ℕ
+      rows = natAbs (numberAt ns (first + 2))
+
+      abbrev others : List ℕ
+      others = linesText (k - 1) w (drop (first + (3 + 2 * w)) ns) (drop (label + own) ls)
+
+      own-is : own ≡ min rows (length (drop label ls))
+      own-is = eo ∙ ap (λ (j : ℕ). min j (length ls - label)) (er ∙ ap natAbs (toZ-ofZ f)) ∙ ap (min rows) (sym (length-drop label ls))
+
+      part : take rows (drop label ls) ≡ take (label + own - label) (drop label ls)
+      part =
+          let q : own ≡ label + own - label = omega arith in
+          sym (take-least rows (drop label ls)) ∙ ap (λ (j : ℕ). take j (drop label ls)) (sym own-is ∙ q)
+
+      beyond : drop rows (drop label ls) ≡ drop (label + own) ls
+      beyond = sym (drop-least rows (drop label ls)) ∙ ap (λ (j : ℕ). drop j (drop label ls)) (sym own-is) ∙ drop-drop own label ls
+
+      lines-next : linesText k w (drop first ns) (drop label ls) ≡ lineText w (drop first ns) (take (label + own - label) (drop label ls)) ++ others
+      unfolding linesText
+      lines-next =
+          let e : k ≡ suc (k - 1) = omega arith in
+          ap (λ (j : ℕ). linesText j w (drop first ns) (drop label ls)) e
+          ∙ rw (getD-drop first ns 2 (pos 0), drop-drop (3 + 2 * w) first ns, part, beyond)
+
+      lines-0 : Partly l at (linesText k0 w ns ls) n b (lineText w (drop first ns) (take (label + own - label) (drop label ls)) ++ others)
+      lines-0 = rw lines-next at (s .is)
+
+      pub lines-room : b + length (lineText w (drop first ns) (take (label + own - label) (drop label ls))) ≤ length n
+      lines-room = partly-room (lineText w (drop first ns) (take (label + own - label) (drop label ls))) others lines-0
+
+      pub lines-more : (o : List ℕ) (e : ℕ) → Put n b (lineText w (drop first ns) (take (label + own - label) (drop label ls))) o e
+          → Lined l at k0 w ns ls o (k - 1) (first + (3 + 2 * w)) (label + own) e
+      lines-more o e p =
+          let t = partly-more (lineText w (drop first ns) (take (label + own - label) (drop label ls))) others lines-0 p in
+          let u = s .upto in
+          record { is = t; within = let g = s .within in omega (arith, one-less); few = s .few; upto = omega arith; long = t .long }
+
+-- ---- the whole report
+
+module _ (l : List ℕ) (at : ℕ) (st : Bool) (k s w : ℕ) (ns : List ℤ) (ls : List ℕ) (room : at + length (reportText st k s w ns ls) ≤ length l) where
+  report-0 : Partly l at (reportText st k s w ns ls) l at (headerText st k s ++ linesText k w ns ls)
+  unfolding reportText
+  report-0 = partly-none (reportText st k s w ns ls) room
+
+  pub report-room : at + length (headerText st k s) ≤ length l
+  report-room = partly-room (headerText st k s) (linesText k w ns ls) report-0
+
+  module _ (m : List ℕ) (b : ℕ) (p : Put l at (headerText st k s) m b) where
+    report-1 : Partly l at (reportText st k s w ns ls) m b (linesText k w ns ls)
+    report-1 = partly-more (headerText st k s) (linesText k w ns ls) report-0 p
+
+    pub report-room-1 : b + length (linesText k w ns ls) ≤ length m
+    report-room-1 = partly-room-last (linesText k w ns ls) report-1
+
+    pub put-whole : (o : List ℕ) (e : ℕ) → Put m b (linesText k w ns ls) o e → Put l at (reportText st k s w ns ls) o e
+    put-whole o e q = partly-last (linesText k w ns ls) report-1 q

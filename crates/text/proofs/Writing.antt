@@ -138,3 +138,11 @@ module _ {l : List ℕ} {at : ℕ} {t n : List ℕ} {b : ℕ} where
 
   pub partly-all : Partly l at t n b [] → Put l at t n b
   partly-all s = rw (← s .whole, append-nil (s .done)) (s .is)
+
+  -- the last piece
+  pub partly-room-last : (xs : List ℕ) → Partly l at t n b xs → b + length xs ≤ length n
+  partly-room-last xs s = omega (arith, s .is .ends, s .room, s .long, sizes xs s)
+
+  pub partly-last : (xs : List ℕ) {m : List ℕ} {e : ℕ} → Partly l at t n b xs → Put n b xs m e → Put l at t m e
+  partly-last xs {m} {e} s p =
+      rw (← s .whole) (put-both l at (s .done) n b xs m e (let r = s .room in rw (s .whole) r) (s .is) p)
