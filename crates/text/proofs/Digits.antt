@@ -101,4 +101,5 @@ module _ (l : List ℕ) (at n : ℕ) where
       record {
         holds = ap (λ (x : List ℕ). set x i (48 + rest)) (s .is) ∙ wrote-before l i (48 + rest) (s .later) (omega arith) ∙ ap (λ (k : ℕ). wrote l k ((48 + rest) ∷ s .later)) w ∙ ap (wrote l at) (ap (λ (x : List ℕ). x ++ s .later) (sym o) ∙ s .whole);
         ends = e;
+        within = omega arith;
       }

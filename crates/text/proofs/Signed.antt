@@ -14,6 +14,7 @@ use borrow.Author.Tests.{lt-ltb, ltb-true}
 use lib.ListN.{length}
 use Rattle.rules.specs.Program.{decimal, signedDecimal}
 use Rattle.text.specs.Put.{Put}
+use Rattle.text.proofs.Digits.{few-digits}
 use Rattle.text.proofs.Writing.{put-both, put-long}
 
 -- n + 1 of a negative n
@@ -112,10 +113,10 @@ module _ (l : List ℕ) (at : ℕ) (n : ℤ) (room : at + length (signedDecimal 
 
     module _ (m : List ℕ) (b s : ℕ) (p : Put l at (45 ∷ []) m b) (e : s ≡ natAbs (toZ w64 (ofZ w64 n))) where
       pub digits-room : b + length (decimal s) ≤ length m
-      digits-room = rw (e, size-kept n f) (omega (arith, p .ends, ap length text, put-long l at (45 ∷ []) m b (omega (arith, ap length text)) p))
+      digits-room = rw (e, size-kept n f) (omega (arith, p .ends, ap length text, put-long l at (45 ∷ []) m b p))
 
       pub put-minus : (o : List ℕ) (g : ℕ) → Put m b (decimal s) o g → Put l at (signedDecimal n) o g
-      put-minus o g q = rw text (put-both l at (45 ∷ []) m b (decimal (natAbs n)) o g (rw text at room) p (rw (e, size-kept n f) at q))
+      put-minus o g q = rw text (put-both l at (45 ∷ []) m b (decimal (natAbs n)) o g p (rw (e, size-kept n f) at q))
 
   module _ (t : ltZ (toZ w64 (ofZ w64 n)) (pos 0) ≡ false) (s : ℕ) (e : s ≡ natAbs (toZ w64 (ofZ w64 n))) where
     pub plain-room : at + length (decimal s) ≤ length l
@@ -123,3 +124,10 @@ module _ (l : List ℕ) (at : ℕ) (n : ℤ) (room : at + length (signedDecimal 
 
     pub put-plain : (o : List ℕ) (g : ℕ) → Put l at (decimal s) o g → Put l at (signedDecimal n) o g
     put-plain o g q = rw (no-minus n f t, ← size-kept n f, ← e) q
+
+-- ---- a number of 64 bits has at most 19 digits, and a sign
+
+pub number-long : (v : ℤ) → SFits w64 v → length (signedDecimal v) ≤ 20
+unfolding signedDecimal
+number-long (pos n) f = let g = f .sfits in omega (arith, few-digits 18 n (omega arith))
+number-long (negsuc n) f = let g = f .sfits in omega (arith, few-digits 18 (suc n) (omega arith))

@@ -54,16 +54,22 @@ wrote-next l at xs v h =
 
 -- one byte
 pub put-one : (l : List ℕ) (at v : ℕ) → at < length l → Put l at (v ∷ []) (set l at v) (at + 1)
-put-one l at v h = record { holds = wrote-one l at v h; ends = refl }
+put-one l at v h = record { holds = wrote-one l at v h; ends = refl; within = omega arith }
+
+pub put-long : (l : List ℕ) (at : ℕ) (xs m : List ℕ) (b : ℕ) → Put l at xs m b → length m ≡ length l
+put-long l at xs m b p = ap length (p .holds) ∙ length-wrote l at xs (omega (arith, p .ends, p .within))
 
 -- two texts, one behind the other
-pub put-both : (l : List ℕ) (at : ℕ) (xs : List ℕ) (m : List ℕ) (b : ℕ) (ys : List ℕ) (o : List ℕ) (e : ℕ) → at + length (xs ++ ys) ≤ length l
-    → Put l at xs m b → Put m b ys o e → Put l at (xs ++ ys) o e
-put-both l at xs m b ys o e h p q =
-    let n = length-append xs ys in
+pub put-both : (l : List ℕ) (at : ℕ) (xs : List ℕ) (m : List ℕ) (b : ℕ) (ys : List ℕ) (o : List ℕ) (e : ℕ) → Put l at xs m b → Put m b ys o e → Put l at (xs ++ ys) o e
+put-both l at xs m b ys o e p q =
+    let n = put-long l at xs m b p in
+    let a = p .ends in
+    let z = q .ends in
+    let h = q .within in
     record {
       holds = q .holds ∙ ap (λ (k : ℕ). wrote m k ys) (p .ends) ∙ ap (λ (w : List ℕ). wrote w (at + length xs) ys) (p .holds) ∙ wrote-behind l at xs ys (omega arith);
-      ends = q .ends ∙ (let a = p .ends in rw length-append (omega arith));
+      ends = rw length-append (omega arith);
+      within = omega arith;
     }
 
 -- ---- a loop that copies: the first i bytes are written
@@ -93,10 +99,8 @@ module _ (d : List ℕ) (at : ℕ) (s : List ℕ) where
       record {
         holds = h .is ∙ ap (paste d at s) (let e : i ≡ length s = omega arith in e) ∙ ap (λ (x : List ℕ). take at d ++ x ++ drop (at + length s) d) (take-length s) ∙ append-assoc (take at d) s (drop (at + length s) d);
         ends = refl;
+        within = h .room;
       }
-
-pub put-long : (l : List ℕ) (at : ℕ) (xs m : List ℕ) (b : ℕ) → at + length xs ≤ length l → Put l at xs m b → length m ≡ length l
-put-long l at xs m b h p = ap length (p .holds) ∙ length-wrote l at xs h
 
 -- ---- a text of several pieces: those written so far, and those that are left
 
@@ -104,45 +108,37 @@ pub record Partly (before : List ℕ) (at : ℕ) (text now : List ℕ) (behind :
   pub done : List ℕ
   pub is : Put before at done now behind
   pub whole : done ++ left ≡ text
-  pub room : at + length text ≤ length before
   pub long : length now ≡ length before
 
 -- nothing is written, and the whole text, perhaps in other words, is left
-pub partly-from : {l : List ℕ} {at : ℕ} (t xs : List ℕ) → xs ≡ t → at + length t ≤ length l → Partly l at t l at xs
-partly-from {l} {at} t xs e h = record { done = []; is = record { holds = sym (wrote-none l at); ends = omega arith }; whole = e; room = h; long = refl }
+pub partly-from : {l : List ℕ} {at : ℕ} (t xs : List ℕ) → xs ≡ t → at ≤ length l → Partly l at t l at xs
+partly-from {l} {at} t xs e h =
+    record { done = []; is = record { holds = sym (wrote-none l at); ends = omega arith; within = h }; whole = e; long = refl }
 
-pub partly-none : {l : List ℕ} {at : ℕ} (t : List ℕ) → at + length t ≤ length l → Partly l at t l at t
+pub partly-none : {l : List ℕ} {at : ℕ} (t : List ℕ) → at ≤ length l → Partly l at t l at t
 partly-none t h = partly-from t t refl h
 
 module _ {l : List ℕ} {at : ℕ} {t n : List ℕ} {b : ℕ} where
-  sizes : (ys : List ℕ) (s : Partly l at t n b ys) → length (s .done) + length ys ≡ length t
-  sizes ys s = simp length-append at (ap length (s .whole))
-
-  pub partly-room : (xs ys : List ℕ) → Partly l at t n b (xs ++ ys) → b + length xs ≤ length n
-  partly-room xs ys s = omega (arith, s .is .ends, s .room, s .long, sizes (xs ++ ys) s, length-append xs ys)
-
   pub partly-more : (xs ys : List ℕ) {m : List ℕ} {e : ℕ} → Partly l at t n b (xs ++ ys) → Put n b xs m e → Partly l at t m e ys
   partly-more xs ys {m} {e} s p =
-      let z = sizes (xs ++ ys) s in
-      let r = s .room in
-      let a = length-append xs ys in
-      let q = length-append (s .done) xs in
-      let g = s .is .ends in
       record {
         done = s .done ++ xs;
-        is = put-both l at (s .done) n b xs m e (omega arith) (s .is) p;
+        is = put-both l at (s .done) n b xs m e (s .is) p;
         whole = append-assoc (s .done) xs ys ∙ s .whole;
-        room = r;
-        long = put-long n b xs m e (partly-room xs ys s) p ∙ s .long;
+        long = put-long n b xs m e p ∙ s .long;
       }
 
   pub partly-all : Partly l at t n b [] → Put l at t n b
   partly-all s = rw (← s .whole, append-nil (s .done)) (s .is)
 
   -- the last piece
-  pub partly-room-last : (xs : List ℕ) → Partly l at t n b xs → b + length xs ≤ length n
-  partly-room-last xs s = omega (arith, s .is .ends, s .room, s .long, sizes xs s)
-
   pub partly-last : (xs : List ℕ) {m : List ℕ} {e : ℕ} → Partly l at t n b xs → Put n b xs m e → Put l at t m e
-  partly-last xs {m} {e} s p =
-      rw (← s .whole) (put-both l at (s .done) n b xs m e (let r = s .room in rw (s .whole) r) (s .is) p)
+  partly-last xs {m} {e} s p = rw (← s .whole) (put-both l at (s .done) n b xs m e (s .is) p)
+
+  -- where there is room for the whole, there is for the next piece
+  module _ (room : at + length t ≤ length l) where
+    sizes : (ys : List ℕ) (s : Partly l at t n b ys) → length (s .done) + length ys ≡ length t
+    sizes ys s = simp length-append at (ap length (s .whole))
+
+    pub partly-room : (xs ys : List ℕ) → Partly l at t n b (xs ++ ys) → b + length xs ≤ length n
+    partly-room xs ys s = omega (arith, s .is .ends, s .long, sizes (xs ++ ys) s, length-append xs ys)

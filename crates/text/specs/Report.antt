@@ -50,3 +50,8 @@ linesText (suc m) w ns ls =
 unfoldable pub reportText : Bool → ℕ → ℕ → ℕ → List ℤ → List ℕ → List ℕ
 unfolding headerText linesText
 reportText stopped m steps w ns ls = headerText stopped m steps ++ linesText m w ns ls
+
+-- Room that is enough for the text, for so many numbers and labels: a header has at most 56 bytes, and a line at most 22 for each of its numbers and one
+-- for each of its labels.
+abbrev pub reportRoom : ℕ → ℕ → ℕ
+reportRoom numbers labels = 60 + 22 * numbers + labels

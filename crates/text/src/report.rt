@@ -6,7 +6,7 @@ ghost use lib.ListN.{length, getD, take, drop};
 ghost use Rattle.rules.specs.Basics.{pick, bytes};
 ghost use Rattle.rules.specs.Program.{decimal, labelsText, refusedText, tooLarge};
 ghost use Rattle.text.specs.Put.{Put};
-ghost use Rattle.text.specs.Report.{headerText, fieldText, resultText, resultsText, lineText, linesText, reportText};
+ghost use Rattle.text.specs.Report.{headerText, fieldText, resultText, resultsText, lineText, linesText, reportText, reportRoom};
 use crate::put::{put_byte, put_bytes, put_decimal, put_signed, size_of};
 
 // `refused N`
@@ -83,8 +83,9 @@ fn put_result(out: &mut [u8], at: usize, given: i64, result: i64) -> usize
 // The results of the measures, whose numbers begin at index `first`.
 fn put_results(out: &mut [u8], at: usize, measures: usize, numbers: &[i64], first: usize) -> usize
     requires { ⌜ first + 2 * measures ≤ length (now numbers) ⌝ }
-    requires { ⌜ at + length (resultsText measures (drop first (now numbers))) ≤ length (now out) ⌝ }
+    requires { ⌜ at + 21 * measures ≤ length (now out) ⌝ }
     ensures { λ r. ⌜ Put (now (out .entry)) at (resultsText measures (drop first (now (numbers .entry)))) (now (out .exit)) r ⌝ }
+    ensures { λ r. ⌜ r ≤ at + 21 * measures ⌝ }
 {
     let mut left = measures;
     let mut i = first;
@@ -101,8 +102,9 @@ fn put_results(out: &mut [u8], at: usize, measures: usize, numbers: &[i64], firs
 // The line of the match whose numbers begin at index `first` and whose labels are `own`.
 fn put_line(out: &mut [u8], at: usize, measures: usize, numbers: &[i64], first: usize, own: &[u8]) -> usize
     requires { ⌜ first + (3 + 2 * measures) ≤ length (now numbers) ⌝ }
-    requires { ⌜ at + length (lineText measures (drop first (now numbers)) (now own)) ≤ length (now out) ⌝ }
+    requires { ⌜ at + (65 + 21 * measures + length (now own)) ≤ length (now out) ⌝ }
     ensures { λ r. ⌜ Put (now (out .entry)) at (lineText measures (drop first (now (numbers .entry))) (now (own .entry))) (now (out .exit)) r ⌝ }
+    ensures { λ r. ⌜ r ≤ at + (65 + 21 * measures + length (now (own .entry))) ⌝ }
 {
     let row = put_field(out, at, numbers[first]);
     let rows = put_field(out, row, numbers[first + 1]);
@@ -125,7 +127,7 @@ fn least(rows: u64, left: usize) -> usize
 // The lines of the matches.
 fn put_lines(out: &mut [u8], at: usize, matches: usize, measures: usize, numbers: &[i64], labels: &[u8]) -> usize
     requires { ⌜ (measures ≤ 8) × (matches * (3 + 2 * measures) ≤ length (now numbers)) ⌝ }
-    requires { ⌜ at + length (linesText matches measures (now numbers) (now labels)) ≤ length (now out) ⌝ }
+    requires { ⌜ at + (22 * (matches * (3 + 2 * measures)) + length (now labels)) ≤ length (now out) ⌝ }
     ensures { λ r. ⌜ Put (now (out .entry)) at (linesText matches measures (now (numbers .entry)) (now (labels .entry))) (now (out .exit)) r ⌝ }
 {
     let width = 3 + 2 * measures;
@@ -155,7 +157,7 @@ pub fn put_report(
     labels: &[u8],
 ) -> usize
     requires { ⌜ (measures ≤ 8) × (matches * (3 + 2 * measures) ≤ length (now numbers)) ⌝ }
-    requires { ⌜ at + length (reportText stopped matches steps measures (now numbers) (now labels)) ≤ length (now out) ⌝ }
+    requires { ⌜ at + reportRoom (length (now numbers)) (length (now labels)) ≤ length (now out) ⌝ }
     ensures { λ r. ⌜ Put (now (out .entry)) at (reportText stopped matches steps measures (now (numbers .entry)) (now (labels .entry))) (now (out .exit)) r ⌝ }
 {
     let lines = put_header(out, at, stopped, matches, steps);

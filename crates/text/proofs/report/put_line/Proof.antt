@@ -52,11 +52,26 @@ shared-slice-copy-out-put-field-3 c = search needs
 
 -- src/report.rt:109:9
 put-field-requires-3 : tie.Need-put-field-requires-3
-put-field-requires-3 c κs = let z = c .before .before .before .before .before .before .before .before .before .before .before .before .before .before in line-room-2 _ _ _ (z .args .numbers .now) (z .args .first) (z .args .own .now) (z .pre .1) (sfits-of (c .before .before .before .before .before .before .before .before .before .before .put-field-arg2 .given)) _ _ (c .before .before .before .before .before .before .before .before .before .put-field .ensures) (sfits-of (c .before .before .before .before .before .put-field-arg4 .given)) _ _ (c .before .before .before .before .put-field2 .ensures) (sfits-of (c .put-field-arg6 .given))
+put-field-requires-3 c κs = 
+    let f2 = c in
+    let p2 = f2 .before .before .before .before in
+    let f1 = p2 .before in
+    let p1 = f1 .before .before .before .before in
+    let f0 = p1 .before in
+    let z = f0 .before .before .before .before in
+    line-room-2 _ _ _ (z .args .numbers .now) (z .args .first) (z .args .own .now) (z .pre .1) (sfits-of (f0 .put-field-arg2 .given)) _ _ (p1 .put-field .ensures) (sfits-of (f1 .put-field-arg4 .given)) _ _ (p2 .put-field2 .ensures) (sfits-of (f2 .put-field-arg6 .given))
 
 -- src/report.rt:110:9
 put-labels-requires : tie.Need-put-labels-requires
-put-labels-requires c κs = let z = c .before .before .before .before .before .before .before .before .before .before .before .before .before .before .before .before .before .before in line-room-3 _ _ _ (z .args .numbers .now) (z .args .first) (z .args .own .now) (z .pre .1) (sfits-of (c .before .before .before .before .before .before .before .before .before .before .before .before .before .before .put-field-arg2 .given)) _ _ (c .before .before .before .before .before .before .before .before .before .before .before .before .before .put-field .ensures) (sfits-of (c .before .before .before .before .before .before .before .before .before .put-field-arg4 .given)) _ _ (c .before .before .before .before .before .before .before .before .put-field2 .ensures) (sfits-of (c .before .before .before .before .put-field-arg6 .given)) _ _ (c .before .before .before .put-field3 .ensures)
+put-labels-requires c κs = 
+    let p3 = c .before .before .before in
+    let f2 = p3 .before in
+    let p2 = f2 .before .before .before .before in
+    let f1 = p2 .before in
+    let p1 = f1 .before .before .before .before in
+    let f0 = p1 .before in
+    let z = f0 .before .before .before .before in
+    line-room-3 _ _ _ (z .args .numbers .now) (z .args .first) (z .args .own .now) (z .pre .1) (sfits-of (f0 .put-field-arg2 .given)) _ _ (p1 .put-field .ensures) (sfits-of (f1 .put-field-arg4 .given)) _ _ (p2 .put-field2 .ensures) (sfits-of (f2 .put-field-arg6 .given)) _ _ (p3 .put-field3 .ensures)
 
 -- src/report.rt:111:61
 add-put-results : tie.Need-add-put-results
@@ -64,11 +79,30 @@ add-put-results c = search needs
 
 -- src/report.rt:111:9
 put-results-requires : tie.Need-put-results-requires
-put-results-requires c κs = let z = c .before .before .before .before .before .before .before .before .before .before .before .before .before .before .before .before .before .before .before .before .before .before in (omega arith, line-room-4 _ _ _ (z .args .numbers .now) (z .args .first) (z .args .own .now) (z .pre .1) (sfits-of (c .before .before .before .before .before .before .before .before .before .before .before .before .before .before .before .before .before .before .put-field-arg2 .given)) _ _ (c .before .before .before .before .before .before .before .before .before .before .before .before .before .before .before .before .before .put-field .ensures) (sfits-of (c .before .before .before .before .before .before .before .before .before .before .before .before .before .put-field-arg4 .given)) _ _ (c .before .before .before .before .before .before .before .before .before .before .before .before .put-field2 .ensures) (sfits-of (c .before .before .before .before .before .before .before .before .put-field-arg6 .given)) _ _ (c .before .before .before .before .before .before .before .put-field3 .ensures) _ _ (c .before .before .before .put-labels .ensures))
+put-results-requires c κs = 
+    let p4 = c .before .before .before in
+    let p3 = p4 .before .before .before .before in
+    let f2 = p3 .before in
+    let p2 = f2 .before .before .before .before in
+    let f1 = p2 .before in
+    let p1 = f1 .before .before .before .before in
+    let f0 = p1 .before in
+    let z = f0 .before .before .before .before in
+    (omega arith, line-room-4 _ _ _ (z .args .numbers .now) (z .args .first) (z .args .own .now) (z .pre .1) (sfits-of (f0 .put-field-arg2 .given)) _ _ (p1 .put-field .ensures) (sfits-of (f1 .put-field-arg4 .given)) _ _ (p2 .put-field2 .ensures) (sfits-of (f2 .put-field-arg6 .given)) _ _ (p3 .put-field3 .ensures) _ _ (p4 .put-labels .ensures))
 
 -- src/report.rt:112:5
 put-byte-requires : tie.Need-put-byte-requires
-put-byte-requires c κs = let z = c .before .before .before .before .before .before .before .before .before .before .before .before .before .before .before .before .before .before .before .before .before .before .before .before .before .before in line-room-5 _ _ _ (z .args .numbers .now) (z .args .first) (z .args .own .now) (z .pre .1) (sfits-of (c .before .before .before .before .before .before .before .before .before .before .before .before .before .before .before .before .before .before .before .before .before .before .put-field-arg2 .given)) _ _ (c .before .before .before .before .before .before .before .before .before .before .before .before .before .before .before .before .before .before .before .before .before .put-field .ensures) (sfits-of (c .before .before .before .before .before .before .before .before .before .before .before .before .before .before .before .before .before .put-field-arg4 .given)) _ _ (c .before .before .before .before .before .before .before .before .before .before .before .before .before .before .before .before .put-field2 .ensures) (sfits-of (c .before .before .before .before .before .before .before .before .before .before .before .before .put-field-arg6 .given)) _ _ (c .before .before .before .before .before .before .before .before .before .before .before .put-field3 .ensures) _ _ (c .before .before .before .before .before .before .before .put-labels .ensures) _ _ (c .before .before .before .put-results .ensures)
+put-byte-requires c κs = 
+    let p5 = c .before .before .before in
+    let p4 = p5 .before .before .before .before in
+    let p3 = p4 .before .before .before .before in
+    let f2 = p3 .before in
+    let p2 = f2 .before .before .before .before in
+    let f1 = p2 .before in
+    let p1 = f1 .before .before .before .before in
+    let f0 = p1 .before in
+    let z = f0 .before .before .before .before in
+    line-room-5 _ _ _ (z .args .numbers .now) (z .args .first) (z .args .own .now) (z .pre .1) (sfits-of (f0 .put-field-arg2 .given)) _ _ (p1 .put-field .ensures) (sfits-of (f1 .put-field-arg4 .given)) _ _ (p2 .put-field2 .ensures) (sfits-of (f2 .put-field-arg6 .given)) _ _ (p3 .put-field3 .ensures) _ _ (p4 .put-labels .ensures) _ _ (p5 .put-results .ensures .0) (p5 .put-results .ensures .1)
 
 -- src/report.rt:102:1
 same-length : tie.Need-same-length
@@ -76,7 +110,18 @@ same-length c = search needs
 
 -- src/report.rt:102:1
 returns : tie.Need-returns
-returns c = let z = c .before .before .before .before .before .before .before .before .before .before .before .before .before .before .before .before .before .before .before .before .before .before .before .before .before .before .before .before .before in put-one-line _ _ _ (z .args .numbers .now) (z .args .first) (z .args .own .now) (z .pre .1) (sfits-of (c .before .before .before .before .before .before .before .before .before .before .before .before .before .before .before .before .before .before .before .before .before .before .before .before .before .put-field-arg2 .given)) _ _ (c .before .before .before .before .before .before .before .before .before .before .before .before .before .before .before .before .before .before .before .before .before .before .before .before .put-field .ensures) (sfits-of (c .before .before .before .before .before .before .before .before .before .before .before .before .before .before .before .before .before .before .before .before .put-field-arg4 .given)) _ _ (c .before .before .before .before .before .before .before .before .before .before .before .before .before .before .before .before .before .before .before .put-field2 .ensures) (sfits-of (c .before .before .before .before .before .before .before .before .before .before .before .before .before .before .before .put-field-arg6 .given)) _ _ (c .before .before .before .before .before .before .before .before .before .before .before .before .before .before .put-field3 .ensures) _ _ (c .before .before .before .before .before .before .before .before .before .before .put-labels .ensures) _ _ (c .before .before .before .before .before .before .put-results .ensures) _ _ (c .before .before .put-byte .ensures)
+returns c = 
+    let p6 = c .before .before in
+    let p5 = p6 .before .before .before .before in
+    let p4 = p5 .before .before .before .before in
+    let p3 = p4 .before .before .before .before in
+    let f2 = p3 .before in
+    let p2 = f2 .before .before .before .before in
+    let f1 = p2 .before in
+    let p1 = f1 .before .before .before .before in
+    let f0 = p1 .before in
+    let z = f0 .before .before .before .before in
+    put-one-line _ _ _ (z .args .numbers .now) (z .args .first) (z .args .own .now) (z .pre .1) (sfits-of (f0 .put-field-arg2 .given)) _ _ (p1 .put-field .ensures) (sfits-of (f1 .put-field-arg4 .given)) _ _ (p2 .put-field2 .ensures) (sfits-of (f2 .put-field-arg6 .given)) _ _ (p3 .put-field3 .ensures) _ _ (p4 .put-labels .ensures) _ _ (p5 .put-results .ensures .0) (p5 .put-results .ensures .1) _ _ (p6 .put-byte .ensures)
 
 pub put-line-spec : {M : Type 1} → statement M
 put-line-spec =
