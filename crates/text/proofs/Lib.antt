@@ -3,3 +3,4 @@ pub mod Writing
 pub mod Signed
 pub mod Lines
 pub mod Inputs
+pub mod Printed
