@@ -354,7 +354,6 @@ module _ (l : List ℕ) (at w : ℕ) (ns : List ℤ) (first : ℕ) (own : List �
 pub record Lined (before : List ℕ) (at matches w : ℕ) (ns : List ℤ) (ls now : List ℕ) (left first label behind : ℕ) : Type 0 where
   pub is : Partly before at (linesText matches w ns ls) now behind (linesText left w (drop first ns) (drop label ls))
   pub within : first + left * (3 + 2 * w) ≤ length ns
-  pub few : w ≤ 8
   pub upto : label ≤ length ls
   pub long : length now ≡ length before
   pub room : behind + (22 * (left * (3 + 2 * w)) + (length ls - label)) ≤ length before
@@ -380,10 +379,10 @@ drop-least r xs = go (ltb r (length xs)) refl
         let q : min r (length xs) ≡ length xs = omega arith in
         ap (λ (j : ℕ). drop j xs) q ∙ drop-length xs ∙ sym (drop-of-length-le xs h)
 
-pub lines-none : (l : List ℕ) (at k w : ℕ) (ns : List ℤ) (ls : List ℕ) → (w ≤ 8) × (k * (3 + 2 * w) ≤ length ns) → at + (22 * (k * (3 + 2 * w)) + length ls) ≤ length l
+pub lines-none : (l : List ℕ) (at k w : ℕ) (ns : List ℤ) (ls : List ℕ) → k * (3 + 2 * w) ≤ length ns → at + (22 * (k * (3 + 2 * w)) + length ls) ≤ length l
     → Lined l at k w ns ls l k 0 0 at
 lines-none l at k w ns ls h r =
-    record { is = partly-none (linesText k w ns ls) (omega arith); within = let g = h .1 in omega arith; few = h .0; upto = omega arith; long = refl; room = omega arith }
+    record { is = partly-none (linesText k w ns ls) (omega arith); within = omega arith; upto = omega arith; long = refl; room = omega arith }
 
 module _ (l : List ℕ) (at k0 w : ℕ) (ns : List ℤ) (ls n : List ℕ) (k first label b : ℕ) (s : Lined l at k0 w ns ls n k first label b) where
   pub lines-all : k ≤ 0 → Put l at (linesText k0 w ns ls) n b
@@ -430,7 +429,7 @@ module _ (l : List ℕ) (at k0 w : ℕ) (ns : List ℤ) (ls n : List ℕ) (k fir
       own-long = let u = s .upto in let q : length ls - label ≡ length (drop label ls) = sym (length-drop label ls) in simp (length-take, length-drop) (omega arith)
 
       pub lines-room : b + (65 + 21 * w + length (take (label + own - label) (drop label ls))) ≤ length n
-      lines-room = omega (arith, own-long, s .room, s .long, one-less, s .few)
+      lines-room = omega (arith, own-long, s .room, s .long, one-less)
 
       pub lines-more : (o : List ℕ) (e : ℕ) → Put n b (lineText w (drop first ns) (take (label + own - label) (drop label ls))) o e
           → e ≤ b + (65 + 21 * w + length (take (label + own - label) (drop label ls))) → Lined l at k0 w ns ls o (k - 1) (first + (3 + 2 * w)) (label + own) e
@@ -441,10 +440,9 @@ module _ (l : List ℕ) (at k0 w : ℕ) (ns : List ℤ) (ls n : List ℕ) (k fir
           record {
             is = t;
             within = let g = s .within in omega (arith, one-less);
-            few = s .few;
             upto = omega arith;
             long = t .long;
-            room = omega (arith, own-long, s .room, one-less, s .few);
+            room = omega (arith, own-long, s .room, one-less);
           }
 
 -- ---- the whole report

@@ -5,9 +5,8 @@ use mathlib.Core.Bool.{Bool, true, false}
 use mathlib.Core.List.{List, [], _∷_, _++_, append-assoc}
 use mathlib.Core.Option.{Option, none, some}
 use Prim.Native.Nat.{ℕ, zero, suc, _+_, _*_}
-use native.Mathlib.Omega.{arith}
 use lib.IntN.{ℤ, pos, natAbs}
-use lib.ListN.{length, take, drop, length-append}
+use lib.ListN.{length, drop}
 use lib.Seq.{take-append-seam, drop-append-seam, drop-at}
 use Rattle.rules.specs.Basics.{pick, bytes, wrote}
 use Rattle.rules.specs.Rows.{Table}
@@ -17,17 +16,8 @@ use Rattle.rules.specs.Search.{Match, Swept, Kept, labels}
 use Rattle.rules.specs.Report.{measured, twoOf, measureNumbers, matchNumbers, numbersOf, labelsOf}
 use Rattle.rules.specs.Answers.{Task, stopped}
 use Rattle.rules.specs.Program.{decimal, signedDecimal, labelsText, measureText, measuresText, matchLine, matchLines, headerLine, searchText}
+use Rattle.rules.proofs.Limits.{match-long}
 use Rattle.text.specs.Report.{numberAt, headerText, resultText, resultsText, fieldText, lineText, linesText, reportText}
-
-two-long : (v : Option ℤ) → length (twoOf v) ≡ 2
-unfolding twoOf
-two-long none = refl
-two-long (some v) = refl
-
-measures-long : (t : Table) (row : ℕ) (ls : List ℕ) (ms : List Measure) → length (measureNumbers t row ls ms) ≡ 2 * length ms
-unfolding measureNumbers
-measures-long t row ls [] = omega arith
-measures-long t row ls (m ∷ ms) = simp length-append (omega (arith, two-long (measured t row ls m), measures-long t row ls ms))
 
 pub results-printed : (t : Table) (row : ℕ) (ls : List ℕ) (ms : List Measure) (rest : List ℤ)
     → resultsText (length ms) (measureNumbers t row ls ms ++ rest) ≡ measuresText t row ls ms
@@ -44,10 +34,6 @@ pub line-printed : (t : Table) (ms : List Measure) (k row : ℕ) (ls : List ℕ)
     → lineText (length ms) (matchNumbers t ms k row ls ++ rest) ls ≡ matchLine t ms k row ls
 unfolding lineText matchNumbers matchLine signedDecimal fieldText
 line-printed t ms k row ls rest = rw (results-printed t row ls ms rest) (simp append-assoc)
-
-match-long : (t : Table) (ms : List Measure) (k row : ℕ) (ls : List ℕ) → length (matchNumbers t ms k row ls) ≡ 3 + 2 * length ms
-unfolding matchNumbers
-match-long t ms k row ls = omega (arith, measures-long t row ls ms)
 
 rows-taken : (t : Table) (ms : List Measure) (k row : ℕ) (ls : List ℕ) (rest : List ℤ) → natAbs (numberAt (matchNumbers t ms k row ls ++ rest) 2) ≡ length ls
 unfolding matchNumbers

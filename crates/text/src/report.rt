@@ -126,11 +126,10 @@ fn least(rows: u64, left: usize) -> usize
 
 // The lines of the matches.
 fn put_lines(out: &mut [u8], at: usize, matches: usize, measures: usize, numbers: &[i64], labels: &[u8]) -> usize
-    requires { ⌜ (measures ≤ 8) × (matches * (3 + 2 * measures) ≤ length (now numbers)) ⌝ }
+    requires { ⌜ matches * (3 + 2 * measures) ≤ length (now numbers) ⌝ }
     requires { ⌜ at + (22 * (matches * (3 + 2 * measures)) + length (now labels)) ≤ length (now out) ⌝ }
     ensures { λ r. ⌜ Put (now (out .entry)) at (linesText matches measures (now (numbers .entry)) (now (labels .entry))) (now (out .exit)) r ⌝ }
 {
-    let width = 3 + 2 * measures;
     let mut left = matches;
     let mut first = 0;
     let mut label = 0;
@@ -138,7 +137,7 @@ fn put_lines(out: &mut [u8], at: usize, matches: usize, measures: usize, numbers
     while 0 < left {
         let next = label + least(size_of(numbers[first + 2]), labels.len() - label);
         behind = put_line(out, behind, measures, numbers, first, &labels[label..next]);
-        first += width;
+        first += 3 + 2 * measures;
         label = next;
         left -= 1;
     }
@@ -156,7 +155,7 @@ pub fn put_report(
     numbers: &[i64],
     labels: &[u8],
 ) -> usize
-    requires { ⌜ (measures ≤ 8) × (matches * (3 + 2 * measures) ≤ length (now numbers)) ⌝ }
+    requires { ⌜ matches * (3 + 2 * measures) ≤ length (now numbers) ⌝ }
     requires { ⌜ at + reportRoom (length (now numbers)) (length (now labels)) ≤ length (now out) ⌝ }
     ensures { λ r. ⌜ Put (now (out .entry)) at (reportText stopped matches steps measures (now (numbers .entry)) (now (labels .entry))) (now (out .exit)) r ⌝ }
 {

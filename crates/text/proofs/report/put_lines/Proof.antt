@@ -10,88 +10,88 @@ use Rattle.text.proofs.report.least.Reads as least-reads
 use Rattle.text.proofs.report.put_line.Reads as put-line-reads
 
 abbrev Inv-loop : tie.InvT-loop
-Inv-loop out₀ at matches measures numbers labels width left₀ first₀ label₀ behind₀ out left first label behind = Lined out₀ at matches measures numbers labels out left first label behind
+Inv-loop out₀ at matches measures numbers labels left₀ first₀ label₀ behind₀ out left first label behind = Lined out₀ at matches measures numbers labels out left first label behind
 
 abbrev μ-loop : tie.MeasureT-loop
-μ-loop out₀ at matches measures numbers labels width left₀ first₀ label₀ behind₀ out left first label behind = left
+μ-loop out₀ at matches measures numbers labels left₀ first₀ label₀ behind₀ out left first label behind = left
 
--- src/report.rt:131:21
-mul-width : tie.Need-mul-width Inv-loop μ-loop
-mul-width c = omega arith
-
--- src/report.rt:131:17
-add-width : tie.Need-add-width Inv-loop μ-loop
-add-width c = omega arith
-
--- src/report.rt:136:5
+-- src/report.rt:137:5
 loop-holds : tie.Need-loop-holds Inv-loop μ-loop
 loop-holds c = search (needs, lines-none)
 
--- src/report.rt:137:50
+-- src/report.rt:138:50
 add-size-of : tie.Need-add-size-of Inv-loop μ-loop
 add-size-of c = omega (arith, lines-inside _ _ _ _ _ _ _ _ _ _ _ (c .before .loop .inv) (c .loop-test .taken))
 
--- src/report.rt:137:42
+-- src/report.rt:138:42
 mul-size-of : tie.Need-mul-size-of Inv-loop μ-loop
 mul-size-of c = omega (arith, lines-inside _ _ _ _ _ _ _ _ _ _ _ (c .before .loop .inv) (c .loop-test .taken))
 
--- src/report.rt:137:42
+-- src/report.rt:138:42
 shared-slice-copy-out-size-of : tie.Need-shared-slice-copy-out-size-of Inv-loop μ-loop
 shared-slice-copy-out-size-of c = omega (arith, lines-inside _ _ _ _ _ _ _ _ _ _ _ (c .before .loop .inv) (c .loop-test .taken))
 
--- src/report.rt:137:34
+-- src/report.rt:138:34
 size-of-requires : tie.Need-size-of-requires Inv-loop μ-loop
 size-of-requires c κs = search needs
 
--- src/report.rt:137:63
+-- src/report.rt:138:63
 sub-least : tie.Need-sub-least Inv-loop μ-loop
 sub-least c = omega arith
 
--- src/report.rt:137:28
+-- src/report.rt:138:28
 least-requires : tie.Need-least-requires Inv-loop μ-loop
 least-requires c κs = search needs
 
--- src/report.rt:137:20
+-- src/report.rt:138:20
 add-next : tie.Need-add-next Inv-loop μ-loop
 add-next c = omega arith
 
--- src/report.rt:138:66
+-- src/report.rt:139:66
 sub-put-line : tie.Need-sub-put-line Inv-loop μ-loop
 sub-put-line c = omega arith
 
--- src/report.rt:138:66
+-- src/report.rt:139:66
 part-put-line-start : tie.Need-part-put-line-start Inv-loop μ-loop
 part-put-line-start c = omega arith
 
--- src/report.rt:138:66
+-- src/report.rt:139:66
 part-put-line-end : tie.Need-part-put-line-end Inv-loop μ-loop
 part-put-line-end c = omega arith
 
--- src/report.rt:138:9
+-- src/report.rt:139:9
 put-line-requires : tie.Need-put-line-requires Inv-loop μ-loop
 put-line-requires c κs = let d = c .before .before in let e = d .before .before .before in (search (needs, lines-inside), lines-room _ _ _ _ _ _ _ _ _ _ _ (e .before .loop .inv) (e .loop-test .taken) _ _ (sfits-of (d .before .before .size-of-arg .given)) (d .before .size-of .ensures) (d .least .ensures))
 
--- src/report.rt:139:9
+-- src/report.rt:140:22
+mul-first : tie.Need-mul-first Inv-loop μ-loop
+mul-first c = let d = c .before .before .before .before .before .before .before .before in omega (arith, lines-inside _ _ _ _ _ _ _ _ _ _ _ (d .before .loop .inv) (d .loop-test .taken))
+
+-- src/report.rt:140:18
 add-first : tie.Need-add-first Inv-loop μ-loop
 add-first c = let d = c .before .before .before .before .before .before .before .before in omega (arith, lines-inside _ _ _ _ _ _ _ _ _ _ _ (d .before .loop .inv) (d .loop-test .taken))
 
--- src/report.rt:141:9
+-- src/report.rt:140:9
+add-first-2 : tie.Need-add-first-2 Inv-loop μ-loop
+add-first-2 c = let d = c .before .before .before .before .before .before .before .before in omega (arith, lines-inside _ _ _ _ _ _ _ _ _ _ _ (d .before .loop .inv) (d .loop-test .taken))
+
+-- src/report.rt:142:9
 sub-left : tie.Need-sub-left Inv-loop μ-loop
 sub-left c = omega arith
 
--- src/report.rt:136:5
+-- src/report.rt:137:5
 loop-less : tie.Need-loop-less Inv-loop μ-loop
 loop-less c = omega arith
 
--- src/report.rt:136:5
+-- src/report.rt:137:5
 loop-again : tie.Need-loop-again Inv-loop μ-loop
 loop-again c = search (needs, lines-more)
 
--- src/report.rt:126:1
+-- src/report.rt:128:1
 same-length : tie.Need-same-length Inv-loop μ-loop
 same-length c = search needs
 
--- src/report.rt:126:1
+-- src/report.rt:128:1
 returns : tie.Need-returns Inv-loop μ-loop
 returns c = search (needs, lines-all)
 
@@ -101,8 +101,6 @@ put-lines-spec =
     (tie.spec
     Inv-loop
     μ-loop
-    mul-width
-    add-width
     loop-holds
     add-size-of
     mul-size-of
@@ -115,7 +113,9 @@ put-lines-spec =
     part-put-line-start
     part-put-line-end
     put-line-requires
+    mul-first
     add-first
+    add-first-2
     sub-left
     loop-less
     loop-again
