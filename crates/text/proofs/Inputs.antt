@@ -140,7 +140,7 @@ module _ (s : List ℕ) (l : List ℤ) (count : ℕ) where
       let r = f .room in
       let z : length (numbers k) ≡ k = length-tabulate k (λ j. signed32 (le32 s (4 * j))) in
       let a : set (wrote l 0 (numbers k)) (0 + length (numbers k)) (signed32 (le32 s (4 * k))) ≡ wrote l 0 (numbers k ++ (signed32 (le32 s (4 * k)) ∷ [])) =
-        wrote-next l 0 (numbers k) (signed32 (le32 s (4 * k))) (omega arith)
+      wrote-next l 0 (numbers k) (signed32 (le32 s (4 * k))) (omega arith)
       in
       let i : 0 + length (numbers k) ≡ k = omega arith in
       record {

@@ -4,3 +4,4 @@ pub mod Signed
 pub mod Lines
 pub mod Inputs
 pub mod Printed
+pub mod Joined

@@ -24,7 +24,14 @@ use Rattle.text.proofs.Writing.{put-long, put-both, Partly, partly-none
 
 -- ---- `refused N`
 
-module _ (l : List ℕ) (at a : ℕ) (room : at + length (refusedText a) ≤ length l) where
+refused-long : (a : ℕ) → a < 2 ^ 64 → length (refusedText a) ≤ 29
+unfolding refusedText bytes
+refused-long a h = simp length-append (omega (arith, few-digits 19 a (omega arith)))
+
+module _ (l : List ℕ) (at a : ℕ) (enough : at + 29 ≤ length l) (f : a < 2 ^ 64) where
+  room : at + length (refusedText a) ≤ length l
+  room = omega (arith, refused-long a f)
+
   refused-0 : Partly l at (refusedText a) l at (bytes "refused " ++ (decimal a ++ (10 ∷ [])))
   unfolding refusedText
   refused-0 = partly-none (refusedText a) (omega arith)

@@ -5,7 +5,7 @@ use mathlib.Core.Bool.{Bool, true, false}
 use mathlib.Core.List.{List, [], _∷_, _++_, append-assoc}
 use mathlib.Core.Option.{Option, none, some}
 use Prim.Native.Nat.{ℕ, zero, suc, _+_, _*_}
-use lib.IntN.{ℤ, pos, natAbs}
+use lib.IntN.{ℤ, pos, negsuc, natAbs}
 use lib.ListN.{length, drop}
 use lib.Seq.{take-append-seam, drop-append-seam, drop-at}
 use Rattle.rules.specs.Basics.{pick, bytes, wrote}
@@ -66,17 +66,27 @@ lines-printed t k (x ∷ xs) ns ls = go (labels (t .places) (x .path)) (lines-pr
     go own ih =
         let N : List ℤ = matchNumbers (t .table) (t .measures) (suc k) (x .start) own in
         let a : linesText (suc (length xs)) w (N ++ (Ns ++ ns)) (own ++ (Ls ++ ls)) ≡ lineText w (N ++ (Ns ++ ns)) own ++ linesText (length xs) w (Ns ++ ns) (Ls ++ ls) =
-          lines-step (length xs) w N own (Ns ++ ns) (Ls ++ ls) (match-long (t .table) (t .measures) (suc k) (x .start) own) (rows-taken (t .table) (t .measures) (suc k) (x .start) own (Ns ++ ns))
+        lines-step (length xs) w N own (Ns ++ ns) (Ls ++ ls) (match-long (t .table) (t .measures) (suc k) (x .start) own) (rows-taken (t .table) (t .measures) (suc k) (x .start) own (Ns ++ ns))
         in
         rw (append-assoc N Ns ns, append-assoc own Ls ls) (a ∙ rw (line-printed (t .table) (t .measures) (suc k) (x .start) own (Ns ++ ns), ih))
 
 -- With the promise of the search, the numbers and labels of its matches in front of what the lent buffers held, the report is the search's text.
 pub report-printed : (t : Task) (r : Swept Kept) (numbers : List ℤ) (labelBytes : List ℕ)
     → reportText (stopped r) (length (r .matches)) (r .state .1) (length (t .measures))
-        (wrote numbers 0 (numbersOf (t .table) (t .measures) (t .places) 0 (r .matches)))
-        (wrote labelBytes 0 (labelsOf (t .places) (r .matches)))
+    (wrote numbers 0 (numbersOf (t .table) (t .measures) (t .places) 0 (r .matches)))
+    (wrote labelBytes 0 (labelsOf (t .places) (r .matches)))
     ≡ searchText t r
 unfolding reportText searchText headerText headerLine wrote
 report-printed t r numbers labelBytes =
     ap (λ (z : List ℕ). headerLine r ++ z)
     (lines-printed t 0 (r .matches) (drop (0 + length (numbersOf (t .table) (t .measures) (t .places) 0 (r .matches))) numbers) (drop (0 + length (labelsOf (t .places) (r .matches))) labelBytes))
+
+-- document 01's own example, and a line with `-`, `null`, 0 and a number below 0
+pub example : reportText false 1 12 2 (pos 1 ∷ pos 1 ∷ pos 3 ∷ pos 1 ∷ pos 2 ∷ pos 1 ∷ pos 115 ∷ []) (bytes "AAB") ≡ bytes "matches 1 steps 12\n1 1 3 AAB 2 115\n"
+unfolding reportText bytes
+example = refl
+
+pub example-empty : reportText true 1 7 3 (pos 1 ∷ pos 40 ∷ pos 0 ∷ pos 0 ∷ pos 0 ∷ pos 1 ∷ pos 0 ∷ pos 1 ∷ negsuc 114 ∷ []) []
+    ≡ bytes "stopped 1 steps 7\n1 40 0 - null 0 -115\n"
+unfolding reportText bytes
+example-empty = refl

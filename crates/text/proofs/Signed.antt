@@ -111,12 +111,13 @@ module _ (l : List ℕ) (at : ℕ) (n : ℤ) (room : at + length (signedDecimal 
     pub minus-room : at < length l
     minus-room = omega (arith, ap length text)
 
-    module _ (m : List ℕ) (b s : ℕ) (p : Put l at (45 ∷ []) m b) (e : s ≡ natAbs (toZ w64 (ofZ w64 n))) where
-      pub digits-room : b + length (decimal s) ≤ length m
-      digits-room = rw (e, size-kept n f) (omega (arith, p .ends, ap length text, put-long l at (45 ∷ []) m b p))
+    -- behind any one byte there is room for the digits, and behind a minus they are the number's text
+    module _ (m : List ℕ) (b s : ℕ) (e : s ≡ natAbs (toZ w64 (ofZ w64 n))) where
+      pub digits-room : (v : ℕ) → Put l at (v ∷ []) m b → b + length (decimal s) ≤ length m
+      digits-room v p = rw (e, size-kept n f) (omega (arith, p .ends, ap length text, put-long l at (v ∷ []) m b p))
 
-      pub put-minus : (o : List ℕ) (g : ℕ) → Put m b (decimal s) o g → Put l at (signedDecimal n) o g
-      put-minus o g q = rw text (put-both l at (45 ∷ []) m b (decimal (natAbs n)) o g p (rw (e, size-kept n f) at q))
+      pub put-minus : (o : List ℕ) (g : ℕ) → Put l at (45 ∷ []) m b → Put m b (decimal s) o g → Put l at (signedDecimal n) o g
+      put-minus o g p q = rw text (put-both l at (45 ∷ []) m b (decimal (natAbs n)) o g p (rw (e, size-kept n f) at q))
 
   module _ (t : ltZ (toZ w64 (ofZ w64 n)) (pos 0) ≡ false) (s : ℕ) (e : s ≡ natAbs (toZ w64 (ofZ w64 n))) where
     pub plain-room : at + length (decimal s) ≤ length l

@@ -38,7 +38,7 @@ module _ {A : Type 0} (l : List A) (at : ℕ) where
       let a : p ++ (xs ++ D) ≡ (p ++ xs) ++ D = sym (append-assoc p xs D) in
       let front : take (at + length xs) ((p ++ xs) ++ D) ≡ p ++ xs = take-at (p ++ xs) D (at + length xs) n in
       let back : drop (at + length xs + length ys) ((p ++ xs) ++ D) ≡ drop (at + length xs + length ys) l =
-        sym (drop-drop (length ys) (at + length xs) ((p ++ xs) ++ D)) ∙ ap (drop (length ys)) (drop-at (p ++ xs) D (at + length xs) n) ∙ drop-drop (length ys) (at + length xs) l
+      sym (drop-drop (length ys) (at + length xs) ((p ++ xs) ++ D)) ∙ ap (drop (length ys)) (drop-at (p ++ xs) D (at + length xs) n) ∙ drop-drop (length ys) (at + length xs) l
       in
       let count : at + length xs + length ys ≡ at + length (xs ++ ys) = simp length-append (omega arith) in
       rw (a, front, back, count, append-assoc p xs, append-assoc xs ys)

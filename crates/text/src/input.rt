@@ -40,7 +40,10 @@ fn le32_at(s: &[u8], at: usize) -> u32
     requires { ⌜ at + 3 < length (now s) ⌝ }
     ensures { λ r. ⌜ r ≡ le32 (now (s .entry)) at ⌝ }
 {
-    wide32(s[at]) + wide32(s[at + 1]) * 256 + wide32(s[at + 2]) * 65536 + wide32(s[at + 3]) * 16777216
+    wide32(s[at])
+        + wide32(s[at + 1]) * 256
+        + wide32(s[at + 2]) * 65536
+        + wide32(s[at + 3]) * 16777216
 }
 
 // A word as a signed number, in two's complement.

@@ -12,5 +12,5 @@ pub use put::put_bytes;
 pub use put::put_decimal;
 pub use put::put_signed;
 pub use report::put_refused;
-pub use report::put_too_large;
 pub use report::put_report;
+pub use report::put_too_large;

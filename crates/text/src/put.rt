@@ -14,9 +14,9 @@ fn behind_digits(at: usize, n: u64) -> usize
     ensures { λ r. ⌜ r ≡ at + length (decimal n) ⌝ }
 {
     let mut behind = at + 1;
-    let mut rest = n;
-    while 10 <= rest {
-        rest /= 10;
+    let mut left = n;
+    while 10 <= left {
+        left /= 10;
         behind += 1;
     }
     behind

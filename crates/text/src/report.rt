@@ -7,11 +7,15 @@ ghost use Rattle.rules.specs.Basics.{pick, bytes};
 ghost use Rattle.rules.specs.Program.{decimal, labelsText, refusedText, tooLarge};
 ghost use Rattle.text.specs.Put.{Put};
 ghost use Rattle.text.specs.Report.{headerText, fieldText, resultText, resultsText, lineText, linesText, reportText, reportRoom};
-use crate::put::{put_byte, put_bytes, put_decimal, put_signed, size_of};
+use crate::put::put_byte;
+use crate::put::put_bytes;
+use crate::put::put_decimal;
+use crate::put::put_signed;
+use crate::put::size_of;
 
 // `refused N`
 pub fn put_refused(out: &mut [u8], at: usize, answer: u64) -> usize
-    requires { ⌜ at + length (refusedText answer) ≤ length (now out) ⌝ }
+    requires { ⌜ at + 29 ≤ length (now out) ⌝ }
     ensures { λ r. ⌜ Put (now (out .entry)) at (refusedText answer) (now (out .exit)) r ⌝ }
 {
     let number = put_bytes(out, at, b"refused ");
@@ -21,7 +25,7 @@ pub fn put_refused(out: &mut [u8], at: usize, answer: u64) -> usize
 
 // `too large`
 pub fn put_too_large(out: &mut [u8], at: usize) -> usize
-    requires { ⌜ at + length tooLarge ≤ length (now out) ⌝ }
+    requires { ⌜ at + 10 ≤ length (now out) ⌝ }
     ensures { λ r. ⌜ Put (now (out .entry)) at tooLarge (now (out .exit)) r ⌝ }
 {
     put_bytes(out, at, b"too large\n")
@@ -100,7 +104,14 @@ fn put_results(out: &mut [u8], at: usize, measures: usize, numbers: &[i64], firs
 }
 
 // The line of the match whose numbers begin at index `first` and whose labels are `own`.
-fn put_line(out: &mut [u8], at: usize, measures: usize, numbers: &[i64], first: usize, own: &[u8]) -> usize
+fn put_line(
+    out: &mut [u8],
+    at: usize,
+    measures: usize,
+    numbers: &[i64],
+    first: usize,
+    own: &[u8],
+) -> usize
     requires { ⌜ first + (3 + 2 * measures) ≤ length (now numbers) ⌝ }
     requires { ⌜ at + (65 + 21 * measures + length (now own)) ≤ length (now out) ⌝ }
     ensures { λ r. ⌜ Put (now (out .entry)) at (lineText measures (drop first (now (numbers .entry))) (now (own .entry))) (now (out .exit)) r ⌝ }
@@ -125,7 +136,14 @@ fn least(rows: u64, left: usize) -> usize
 }
 
 // The lines of the matches.
-fn put_lines(out: &mut [u8], at: usize, matches: usize, measures: usize, numbers: &[i64], labels: &[u8]) -> usize
+fn put_lines(
+    out: &mut [u8],
+    at: usize,
+    matches: usize,
+    measures: usize,
+    numbers: &[i64],
+    labels: &[u8],
+) -> usize
     requires { ⌜ matches * (3 + 2 * measures) ≤ length (now numbers) ⌝ }
     requires { ⌜ at + (22 * (matches * (3 + 2 * measures)) + length (now labels)) ≤ length (now out) ⌝ }
     ensures { λ r. ⌜ Put (now (out .entry)) at (linesText matches measures (now (numbers .entry)) (now (labels .entry))) (now (out .exit)) r ⌝ }

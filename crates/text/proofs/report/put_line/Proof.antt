@@ -52,7 +52,7 @@ shared-slice-copy-out-put-field-3 c = search needs
 
 -- src/report.rt:109:9
 put-field-requires-3 : tie.Need-put-field-requires-3
-put-field-requires-3 c κs = 
+put-field-requires-3 c κs =
     let f2 = c in
     let p2 = f2 .before .before .before .before in
     let f1 = p2 .before in
@@ -63,7 +63,7 @@ put-field-requires-3 c κs =
 
 -- src/report.rt:110:9
 put-labels-requires : tie.Need-put-labels-requires
-put-labels-requires c κs = 
+put-labels-requires c κs =
     let p3 = c .before .before .before in
     let f2 = p3 .before in
     let p2 = f2 .before .before .before .before in
@@ -79,7 +79,7 @@ add-put-results c = search needs
 
 -- src/report.rt:111:9
 put-results-requires : tie.Need-put-results-requires
-put-results-requires c κs = 
+put-results-requires c κs =
     let p4 = c .before .before .before in
     let p3 = p4 .before .before .before .before in
     let f2 = p3 .before in
@@ -92,7 +92,7 @@ put-results-requires c κs =
 
 -- src/report.rt:112:5
 put-byte-requires : tie.Need-put-byte-requires
-put-byte-requires c κs = 
+put-byte-requires c κs =
     let p5 = c .before .before .before in
     let p4 = p5 .before .before .before .before in
     let p3 = p4 .before .before .before .before in
@@ -110,7 +110,7 @@ same-length c = search needs
 
 -- src/report.rt:102:1
 returns : tie.Need-returns
-returns c = 
+returns c =
     let p6 = c .before .before in
     let p5 = p6 .before .before .before .before in
     let p4 = p5 .before .before .before .before in
