@@ -2,7 +2,7 @@
 use mathlib.Core.Path.{_≡_, refl, sym, ap, _∙_}
 use mathlib.Core.Bool.{Bool, true, false}
 use mathlib.Core.List.{List, [], _∷_, _++_, append-assoc, append-nil}
-use Prim.Native.Nat.{ℕ, zero, suc, _+_, _*_, _-_, _/_, _%_, _^_, _≤_, _<_}
+use Prim.Native.Nat.{ℕ, zero, suc, _+_, _-_, _/_, _%_, _^_, _≤_, _<_}
 use native.Mathlib.Nat.{not-suc-le-zero}
 use native.Mathlib.Omega.{arith}
 use lib.Dec.{ltb}
@@ -82,7 +82,10 @@ module _ (l : List ℕ) (at n : ℕ) where
       let e : i ≡ i - 1 + 1 = omega arith in
       record {
         later = (48 + rest % 10) ∷ s .later;
-        is = ap (λ (w : List ℕ). set w i (48 + rest % 10)) (s .is) ∙ wrote-before l i (48 + rest % 10) (s .later) (omega arith) ∙ ap (λ (k : ℕ). wrote l k ((48 + rest % 10) ∷ s .later)) e;
+        is =
+            ap (λ (w : List ℕ). set w i (48 + rest % 10)) (s .is)
+            ∙ wrote-before l i (48 + rest % 10) (s .later) (omega arith)
+            ∙ ap (λ (k : ℕ). wrote l k ((48 + rest % 10) ∷ s .later)) e;
         whole = sym (append-assoc (decimal (rest / 10)) ((48 + rest % 10) ∷ []) (s .later)) ∙ ap (λ (w : List ℕ). w ++ s .later) (sym (last-digit rest h)) ∙ s .whole;
         here = omega arith;
         room = r;
@@ -99,7 +102,11 @@ module _ (l : List ℕ) (at n : ℕ) where
       let u : length (decimal rest) ≡ 1 = ap length o in
       let w : i ≡ at = omega arith in
       record {
-        holds = ap (λ (x : List ℕ). set x i (48 + rest)) (s .is) ∙ wrote-before l i (48 + rest) (s .later) (omega arith) ∙ ap (λ (k : ℕ). wrote l k ((48 + rest) ∷ s .later)) w ∙ ap (wrote l at) (ap (λ (x : List ℕ). x ++ s .later) (sym o) ∙ s .whole);
+        holds =
+            ap (λ (x : List ℕ). set x i (48 + rest)) (s .is)
+            ∙ wrote-before l i (48 + rest) (s .later) (omega arith)
+            ∙ ap (λ (k : ℕ). wrote l k ((48 + rest) ∷ s .later)) w
+            ∙ ap (wrote l at) (ap (λ (x : List ℕ). x ++ s .later) (sym o) ∙ s .whole);
         ends = e;
         within = omega arith;
       }

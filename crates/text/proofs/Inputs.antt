@@ -11,14 +11,13 @@ use lib.ListN.{length, set, take, drop, length-set}
 use mir.Syntax.{w32}
 use mir.Val.{SFits, toZ, ofZ}
 use mir.Facts.{toZ-ofZ}
-use borrow.Author.Tests.{lt-ltb, le-ltb, ltb-true, ltb-false}
+use borrow.Author.Tests.{lt-ltb, le-ltb, ltb-false}
 use Rattle.rules.specs.Basics.{pick, tabulate, le16, le32, signed32, wrote}
 use Rattle.rules.specs.Program.{refusedText, tooLarge, rowsOf, printedFor, printed}
 use Rattle.rules.proofs.Lists.{length-tabulate}
-use Rattle.text.specs.declared.input.Input.{Input}
 use Rattle.text.specs.declared.input.Input.the-variants.{Refused, TooLarge, Go}
 use Rattle.text.specs.Input.{inputOf, printedInput}
-use Rattle.text.proofs.Writing.{wrote-none, wrote-next, length-wrote}
+use Rattle.text.proofs.Writing.{wrote-none, wrote-next}
 
 -- ---- the code's ways through the tests, where q is the query's length
 
@@ -144,7 +143,12 @@ module _ (s : List ℕ) (l : List ℤ) (count : ℕ) where
       in
       let i : 0 + length (numbers k) ≡ k = omega arith in
       record {
-        is = ap (λ (x : List ℤ). set x k v) (f .is) ∙ ap (set (wrote l 0 (numbers k)) k) (ev ∙ ap signed32 ew) ∙ ap (λ (j : ℕ). set (wrote l 0 (numbers k)) j (signed32 (le32 s (4 * k)))) (sym i) ∙ a ∙ ap (λ (j : ℕ). wrote l 0 (numbers j)) (sym (add-one k));
+        is =
+            ap (λ (x : List ℤ). set x k v) (f .is)
+            ∙ ap (set (wrote l 0 (numbers k)) k) (ev ∙ ap signed32 ew)
+            ∙ ap (λ (j : ℕ). set (wrote l 0 (numbers k)) j (signed32 (le32 s (4 * k)))) (sym i)
+            ∙ a
+            ∙ ap (λ (j : ℕ). wrote l 0 (numbers j)) (sym (add-one k));
         upto = omega arith;
         counted = f .counted;
         room = r;

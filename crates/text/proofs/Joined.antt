@@ -1,13 +1,11 @@
 -- What joins the program's text to the search: which of the three texts a query and its row bytes get, by the answer that asks no lent buffer and by the
 -- number of pairs; that the search is then accepted; and that the report of its promise is the text asked for, in the room that is lent.
-use mathlib.Core.Path.{_≡_, refl, sym, ap, _∙_}
+use mathlib.Core.Path.{_≡_, refl, ap, _∙_}
 use mathlib.Core.Bool.{Bool, true, false, not, _||_, true≢false}
 use mathlib.Core.List.{List, [], _∷_, _++_}
-use Prim.Native.Nat.{ℕ, zero, suc, _+_, _*_, _%_, _/_, _≤_, _<_}
-use native.Mathlib.Nat.{not-suc-le-zero}
-use native.Mathlib.Numerals.{add-one}
+use Prim.Native.Nat.{ℕ, suc, _+_, _*_, _%_, _/_, _≤_, _<_}
 use native.Mathlib.Omega.{arith}
-use lib.Dec.{ltb, eqb}
+use lib.Dec.{eqb}
 use lib.IntN.{ℤ}
 use lib.ListN.{length}
 use borrow.Author.Tests.{lt-ltb, le-ltb}
@@ -85,7 +83,8 @@ module _ (q r : List ℕ) where
         let b : badRows q (rowsOf r) ≡ false = or-none (not (eqb (length r % 4) 0)) (badRows q (rowsOf r)) (o .1) in
         let n : shortNotes q (rowsOf r) lent ≡ false = enough-notes q (rowsOf r) lent h hn in
         let t : shortTrail q (rowsOf r) lent ≡ false = enough-trail q (rowsOf r) lent h ht in
-        let k = lowest-skip 1 (queryTests q) (badRows q (rowsOf r) ∷ shortNotes q (rowsOf r) lent ∷ shortTrail q (rowsOf r) lent ∷ stopped (walkOf q (rowsOf r) lent) ∷ []) (omega arith) (o .0) in
+        let rest : List Bool = badRows q (rowsOf r) ∷ shortNotes q (rowsOf r) lent ∷ shortTrail q (rowsOf r) lent ∷ stopped (walkOf q (rowsOf r) lent) ∷ [] in
+        let k = lowest-skip 1 (queryTests q) rest (omega arith) (o .0) in
         ap (inRange 1 12) k ∙ rw (b, n, t) (done-or-stopped (stopped (walkOf q (rowsOf r) lent)))
 
 -- ---- the search's promise as text

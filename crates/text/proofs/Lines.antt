@@ -3,7 +3,7 @@
 use mathlib.Core.Path.{_≡_, refl, sym, ap, _∙_}
 use mathlib.Core.Bool.{Bool, true, false}
 use mathlib.Core.List.{List, [], _∷_, _++_}
-use Prim.Native.Nat.{ℕ, zero, suc, _+_, _*_, _-_, _^_, _≤_, _<_, min}
+use Prim.Native.Nat.{ℕ, suc, _+_, _*_, _-_, _^_, _≤_, _<_, min}
 use native.Mathlib.Nat.{suc-mul}
 use native.Mathlib.Omega.{arith}
 use lib.IntN.{ℤ, pos, natAbs}
@@ -11,7 +11,7 @@ use lib.Dec.{ltb, eqb}
 use lib.ListN.{length, take, drop, length-append, length-take, length-drop, drop-of-length-le}
 use lib.Seq.{getD-drop, drop-drop, take-all, take-length, drop-length}
 use mir.Syntax.{w64}
-use mir.Val.{SFits, toZ, ofZ}
+use mir.Val.{SFits}
 use mir.Facts.{toZ-ofZ}
 use borrow.Author.Tests.{ltb-true, ltb-false, eq-eqb, ne-eqb}
 use Rattle.rules.specs.Basics.{pick, bytes}
@@ -19,7 +19,7 @@ use Rattle.rules.specs.Program.{decimal, signedDecimal, labelsText, refusedText
 use Rattle.text.specs.Put.{Put}
 use Rattle.text.specs.Report.{numberAt, headerText, fieldText, resultText, resultsText, lineText, linesText, reportText, reportRoom}
 use Rattle.text.proofs.Digits.{few-digits}
-use Rattle.text.proofs.Signed.{number-long}
+use Rattle.text.proofs.Signed.{held, number-long}
 use Rattle.text.proofs.Writing.{put-long, put-both, Partly, partly-none, partly-from, partly-room, partly-more, partly-all}
 
 -- ---- `refused N`
@@ -115,10 +115,10 @@ module _ (l : List ℕ) (at : ℕ) (n : ℤ) (room : at + length (fieldText n) �
   unfolding fieldText
   field-0 = partly-none (fieldText n) (omega arith)
 
-  pub field-room : at + length (signedDecimal (toZ w64 (ofZ w64 n))) ≤ length l
+  pub field-room : at + length (signedDecimal (held n)) ≤ length l
   field-room = rw (toZ-ofZ f) (partly-room room (signedDecimal n) (32 ∷ []) field-0)
 
-  module _ (m : List ℕ) (b : ℕ) (p : Put l at (signedDecimal (toZ w64 (ofZ w64 n))) m b) where
+  module _ (m : List ℕ) (b : ℕ) (p : Put l at (signedDecimal (held n)) m b) where
     field-1 : Partly l at (fieldText n) m b (32 ∷ [])
     field-1 = partly-more (signedDecimal n) (32 ∷ []) field-0 (rw (toZ-ofZ f) at p)
 
@@ -157,7 +157,7 @@ module _ (l : List ℕ) (at : ℕ) (ls : List ℕ) where
 
 -- ---- a measure's result, where s is what the size function gave of the first number
 
-module _ (l : List ℕ) (at : ℕ) (g v : ℤ) (room : at + length (resultText g v) ≤ length l) (fg : SFits w64 g) (s : ℕ) (e : s ≡ natAbs (toZ w64 (ofZ w64 g))) where
+module _ (l : List ℕ) (at : ℕ) (g v : ℤ) (room : at + length (resultText g v) ≤ length l) (fg : SFits w64 g) (s : ℕ) (e : s ≡ natAbs (held g)) where
   module _ (h : s ≡ 0) where
     is-null : resultText g v ≡ bytes "null"
     unfolding resultText
@@ -174,10 +174,10 @@ module _ (l : List ℕ) (at : ℕ) (g v : ℤ) (room : at + length (resultText g
     unfolding resultText
     is-some = simp (ne-eqb (natAbs g) 0 (λ z. h (e ∙ ap natAbs (toZ-ofZ fg) ∙ z)))
 
-    pub result-room : at + length (signedDecimal (toZ w64 (ofZ w64 v))) ≤ length l
+    pub result-room : at + length (signedDecimal (held v)) ≤ length l
     result-room = rw (toZ-ofZ fv) (rw is-some at room)
 
-    pub put-some : (o : List ℕ) (b : ℕ) → Put l at (signedDecimal (toZ w64 (ofZ w64 v))) o b → Put l at (resultText g v) o b
+    pub put-some : (o : List ℕ) (b : ℕ) → Put l at (signedDecimal (held v)) o b → Put l at (resultText g v) o b
     put-some o b p = rw is-some (rw (toZ-ofZ fv) at p)
 
 module _ (l : List ℕ) (at : ℕ) (st : Bool) (o : List ℕ) (e : ℕ) where
@@ -249,14 +249,14 @@ module _ (l : List ℕ) (at w : ℕ) (ns : List ℤ) (first : ℕ) (n : List ℕ
       abbrev other-results : List ℕ
       other-results = resultsText (k - 1) (drop (i + 2) ns)
 
-      read : resultText (toZ w64 (ofZ w64 (numberAt ns i))) (toZ w64 (ofZ w64 (numberAt ns (i + 1)))) ≡ one-result
+      read : resultText (held (numberAt ns i)) (held (numberAt ns (i + 1))) ≡ one-result
       read = rw (toZ-ofZ fg, toZ-ofZ fv)
 
-      pub results-room-1 : d + length (resultText (toZ w64 (ofZ w64 (numberAt ns i))) (toZ w64 (ofZ w64 (numberAt ns (i + 1))))) ≤ length m
+      pub results-room-1 : d + length (resultText (held (numberAt ns i)) (held (numberAt ns (i + 1)))) ≤ length m
       results-room-1 =
           rw read (omega (arith, s .long, s .room, s .short, p .ends, put-long n b (32 ∷ []) m d p, result-long (numberAt ns i) (numberAt ns (i + 1)) fv))
 
-      pub results-more : (o : List ℕ) (e : ℕ) → Put m d (resultText (toZ w64 (ofZ w64 (numberAt ns i))) (toZ w64 (ofZ w64 (numberAt ns (i + 1))))) o e
+      pub results-more : (o : List ℕ) (e : ℕ) → Put m d (resultText (held (numberAt ns i)) (held (numberAt ns (i + 1)))) o e
           → Resulted l at w ns first o (k - 1) (i + 2) e
       results-more o e q =
           let v : Put m d one-result o e = rw read at q in
@@ -298,21 +298,21 @@ module _ (l : List ℕ) (at w : ℕ) (ns : List ℤ) (first : ℕ) (own : List �
   line-0 : Partly l at T l at (fieldText (numberAt ns first) ++ left-1)
   line-0 = partly-from T (fieldText (numberAt ns first) ++ left-1) (sym line-is) (omega arith)
 
-  pub line-room : at + length (fieldText (toZ w64 (ofZ w64 (numberAt ns first)))) ≤ length l
+  pub line-room : at + length (fieldText (held (numberAt ns first))) ≤ length l
   line-room = rw (toZ-ofZ f0) (omega (arith, field-long (numberAt ns first) f0))
 
   -- the pieces written so far are short enough
-  module _ (m1 : List ℕ) (b1 : ℕ) (p1 : Put l at (fieldText (toZ w64 (ofZ w64 (numberAt ns first)))) m1 b1) (f1 : SFits w64 (numberAt ns (first + 1))) where
+  module _ (m1 : List ℕ) (b1 : ℕ) (p1 : Put l at (fieldText (held (numberAt ns first))) m1 b1) (f1 : SFits w64 (numberAt ns (first + 1))) where
     line-1 : Partly l at T m1 b1 left-1
     line-1 = partly-more (fieldText (numberAt ns first)) left-1 line-0 (rw (toZ-ofZ f0) at p1)
 
     short-1 : b1 ≤ at + 21
     short-1 = let e : b1 ≡ at + length (fieldText (numberAt ns first)) = rw (toZ-ofZ f0) at (p1 .ends) in omega (arith, field-long (numberAt ns first) f0)
 
-    pub line-room-1 : b1 + length (fieldText (toZ w64 (ofZ w64 (numberAt ns (first + 1))))) ≤ length m1
+    pub line-room-1 : b1 + length (fieldText (held (numberAt ns (first + 1)))) ≤ length m1
     line-room-1 = rw (toZ-ofZ f1) (omega (arith, short-1, line-1 .long, field-long (numberAt ns (first + 1)) f1))
 
-    module _ (m2 : List ℕ) (b2 : ℕ) (p2 : Put m1 b1 (fieldText (toZ w64 (ofZ w64 (numberAt ns (first + 1))))) m2 b2) (f2 : SFits w64 (numberAt ns (first + 2))) where
+    module _ (m2 : List ℕ) (b2 : ℕ) (p2 : Put m1 b1 (fieldText (held (numberAt ns (first + 1)))) m2 b2) (f2 : SFits w64 (numberAt ns (first + 2))) where
       line-2 : Partly l at T m2 b2 left-2
       line-2 = partly-more (fieldText (numberAt ns (first + 1))) left-2 line-1 (rw (toZ-ofZ f1) at p2)
 
@@ -321,10 +321,10 @@ module _ (l : List ℕ) (at w : ℕ) (ns : List ℤ) (first : ℕ) (own : List �
           let e : b2 ≡ b1 + length (fieldText (numberAt ns (first + 1))) = rw (toZ-ofZ f1) at (p2 .ends) in
           omega (arith, short-1, field-long (numberAt ns (first + 1)) f1)
 
-      pub line-room-2 : b2 + length (fieldText (toZ w64 (ofZ w64 (numberAt ns (first + 2))))) ≤ length m2
+      pub line-room-2 : b2 + length (fieldText (held (numberAt ns (first + 2)))) ≤ length m2
       line-room-2 = rw (toZ-ofZ f2) (omega (arith, short-2, line-2 .long, field-long (numberAt ns (first + 2)) f2))
 
-      module _ (m3 : List ℕ) (b3 : ℕ) (p3 : Put m2 b2 (fieldText (toZ w64 (ofZ w64 (numberAt ns (first + 2))))) m3 b3) where
+      module _ (m3 : List ℕ) (b3 : ℕ) (p3 : Put m2 b2 (fieldText (held (numberAt ns (first + 2)))) m3 b3) where
         line-3 : Partly l at T m3 b3 left-3
         line-3 = partly-more (fieldText (numberAt ns (first + 2))) left-3 line-2 (rw (toZ-ofZ f2) at p3)
 
@@ -404,7 +404,7 @@ module _ (l : List ℕ) (at k0 w : ℕ) (ns : List ℤ) (ls n : List ℕ) (k fir
     lines-inside = let g = s .within in omega (arith, one-less)
 
     -- r is what the size function gave of the rows taken, and own as many of the labels left
-    module _ (r own : ℕ) (f : SFits w64 (numberAt ns (first + 2))) (er : r ≡ natAbs (toZ w64 (ofZ w64 (numberAt ns (first + 2))))) (eo : own ≡ min r (length ls - label)) where
+    module _ (r own : ℕ) (f : SFits w64 (numberAt ns (first + 2))) (er : r ≡ natAbs (held (numberAt ns (first + 2)))) (eo : own ≡ min r (length ls - label)) where
       abbrev rows : ℕ
       rows = natAbs (numberAt ns (first + 2))
 

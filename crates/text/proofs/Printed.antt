@@ -1,23 +1,22 @@
 -- The text made from the report's numbers and labels is the text that document 01 asks for: for the numbers and labels of any matches, whatever stands
 -- behind them in the lent buffers.
-use mathlib.Core.Path.{_≡_, refl, sym, ap, _∙_}
-use mathlib.Core.Bool.{Bool, true, false}
+use mathlib.Core.Path.{_≡_, refl, ap, _∙_}
+use mathlib.Core.Bool.{true, false}
 use mathlib.Core.List.{List, [], _∷_, _++_, append-assoc}
 use mathlib.Core.Option.{Option, none, some}
-use Prim.Native.Nat.{ℕ, zero, suc, _+_, _*_}
+use Prim.Native.Nat.{ℕ, suc, _+_, _*_}
 use lib.IntN.{ℤ, pos, negsuc, natAbs}
 use lib.ListN.{length, drop}
 use lib.Seq.{take-append-seam, drop-append-seam, drop-at}
-use Rattle.rules.specs.Basics.{pick, bytes, wrote}
+use Rattle.rules.specs.Basics.{bytes, wrote}
 use Rattle.rules.specs.Rows.{Table}
 use Rattle.rules.specs.Query.{Measure}
-use Rattle.rules.specs.Places.{Place}
 use Rattle.rules.specs.Search.{Match, Swept, Kept, labels}
 use Rattle.rules.specs.Report.{measured, twoOf, measureNumbers, matchNumbers, numbersOf, labelsOf}
 use Rattle.rules.specs.Answers.{Task, stopped}
-use Rattle.rules.specs.Program.{decimal, signedDecimal, labelsText, measureText, measuresText, matchLine, matchLines, headerLine, searchText}
+use Rattle.rules.specs.Program.{signedDecimal, measureText, measuresText, matchLine, matchLines, headerLine, searchText}
 use Rattle.rules.proofs.Limits.{match-long}
-use Rattle.text.specs.Report.{numberAt, headerText, resultText, resultsText, fieldText, lineText, linesText, reportText}
+use Rattle.text.specs.Report.{numberAt, headerText, resultsText, fieldText, lineText, linesText, reportText}
 
 pub results-printed : (t : Table) (row : ℕ) (ls : List ℕ) (ms : List Measure) (rest : List ℤ)
     → resultsText (length ms) (measureNumbers t row ls ms ++ rest) ≡ measuresText t row ls ms
@@ -65,9 +64,9 @@ lines-printed t k (x ∷ xs) ns ls = go (labels (t .places) (x .path)) (lines-pr
         ≡ matchLine (t .table) (t .measures) (suc k) (x .start) own ++ matchLines t (suc k) xs
     go own ih =
         let N : List ℤ = matchNumbers (t .table) (t .measures) (suc k) (x .start) own in
-        let a : linesText (suc (length xs)) w (N ++ (Ns ++ ns)) (own ++ (Ls ++ ls)) ≡ lineText w (N ++ (Ns ++ ns)) own ++ linesText (length xs) w (Ns ++ ns) (Ls ++ ls) =
-        lines-step (length xs) w N own (Ns ++ ns) (Ls ++ ls) (match-long (t .table) (t .measures) (suc k) (x .start) own) (rows-taken (t .table) (t .measures) (suc k) (x .start) own (Ns ++ ns))
-        in
+        let long = match-long (t .table) (t .measures) (suc k) (x .start) own in
+        let rows = rows-taken (t .table) (t .measures) (suc k) (x .start) own (Ns ++ ns) in
+        let a = lines-step (length xs) w N own (Ns ++ ns) (Ls ++ ls) long rows in
         rw (append-assoc N Ns ns, append-assoc own Ls ls) (a ∙ rw (line-printed (t .table) (t .measures) (suc k) (x .start) own (Ns ++ ns), ih))
 
 -- With the promise of the search, the numbers and labels of its matches in front of what the lent buffers held, the report is the search's text.
@@ -79,7 +78,9 @@ pub report-printed : (t : Task) (r : Swept Kept) (numbers : List ℤ) (labelByte
 unfolding reportText searchText headerText headerLine wrote
 report-printed t r numbers labelBytes =
     ap (λ (z : List ℕ). headerLine r ++ z)
-    (lines-printed t 0 (r .matches) (drop (0 + length (numbersOf (t .table) (t .measures) (t .places) 0 (r .matches))) numbers) (drop (0 + length (labelsOf (t .places) (r .matches))) labelBytes))
+    (lines-printed t 0 (r .matches)
+    (drop (0 + length (numbersOf (t .table) (t .measures) (t .places) 0 (r .matches))) numbers)
+    (drop (0 + length (labelsOf (t .places) (r .matches))) labelBytes))
 
 -- document 01's own example, and a line with `-`, `null`, 0 and a number below 0
 pub example : reportText false 1 12 2 (pos 1 ∷ pos 1 ∷ pos 3 ∷ pos 1 ∷ pos 2 ∷ pos 1 ∷ pos 115 ∷ []) (bytes "AAB") ≡ bytes "matches 1 steps 12\n1 1 3 AAB 2 115\n"

@@ -1,7 +1,7 @@
 -- Laws of text written into a buffer, one piece behind the other.
 use mathlib.Core.Path.{_≡_, refl, sym, ap, _∙_}
 use mathlib.Core.List.{List, [], _∷_, _++_, append-assoc, append-nil}
-use Prim.Native.Nat.{ℕ, zero, suc, _+_, _-_, _≤_, _<_}
+use Prim.Native.Nat.{ℕ, suc, _+_, _-_, _≤_, _<_}
 use native.Mathlib.Omega.{arith}
 use native.Mathlib.Numerals.{add-one}
 use native.Mathlib.Nat.{add-zero}
@@ -97,7 +97,11 @@ module _ (d : List ℕ) (at : ℕ) (s : List ℕ) where
   unfolding wrote
   copied-all l i h le =
       record {
-        holds = h .is ∙ ap (paste d at s) (let e : i ≡ length s = omega arith in e) ∙ ap (λ (x : List ℕ). take at d ++ x ++ drop (at + length s) d) (take-length s) ∙ append-assoc (take at d) s (drop (at + length s) d);
+        holds =
+            h .is
+            ∙ ap (paste d at s) (let e : i ≡ length s = omega arith in e)
+            ∙ ap (λ (x : List ℕ). take at d ++ x ++ drop (at + length s) d) (take-length s)
+            ∙ append-assoc (take at d) s (drop (at + length s) d);
         ends = refl;
         within = h .room;
       }

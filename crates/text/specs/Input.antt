@@ -1,5 +1,5 @@
 -- The program's input by its lengths alone: document 01's last paragraph of "Report", up to the answers, and what each case of the answer prints.
-use mathlib.Core.List.{List, [], _∷_, _++_}
+use mathlib.Core.List.{List}
 use Prim.Native.Nat.{ℕ, _+_, _-_}
 use lib.Dec.{ltb}
 use lib.ListN.{length, take, drop}

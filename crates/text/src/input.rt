@@ -1,8 +1,8 @@
-// The program's input taken apart: a query length of 2 bytes, the query, then the rows as signed numbers of 4 bytes each.
+// The program's input taken apart: a query length of 2 bytes, the query, then the rows as signed numbers of 4 bytes each. What the lengths decide comes
+// first, in the order of document 01 (specs/Input); proofs/Inputs says what is then known, and that the program prints what each case prints.
 ghost use mathlib.Core.Path.{_≡_};
-ghost use mathlib.Core.List.{List, [], _∷_, _++_};
-ghost use Prim.Native.Nat.{ℕ, _+_, _*_, _-_, _/_, _≤_, _<_};
-ghost use lib.ListN.{length, getD, take, drop};
+ghost use Prim.Native.Nat.{_+_, _/_, _≤_, _<_};
+ghost use lib.ListN.{length};
 ghost use Rattle.rules.specs.Basics.{le16, le32, signed32, wrote};
 ghost use Rattle.rules.specs.Program.{rowsOf};
 ghost use Rattle.text.specs.Input.{inputOf};
@@ -57,6 +57,7 @@ fn signed(w: u32) -> i32
     }
 }
 
+// The lengths judged in the paper's order. The row bytes are judged by their number alone: whether they are whole numbers is answer 10's to say.
 pub fn input_of(s: &[u8]) -> Input
     ensures { λ r. ⌜ r ≡ inputOf (now (s .entry)) ⌝ }
 {

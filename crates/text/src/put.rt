@@ -1,12 +1,34 @@
-// Numbers, single bytes and words, written into a lent buffer from an index on. Each function's result is the index behind what it wrote, and the
-// buffer is otherwise as it was.
+// Bytes, words and numbers in decimal, written into a lent buffer from an index on: each function asks for room for its text, the buffer is otherwise as
+// it was, and the result is the index behind the text (specs/Put). A number of 64 bits takes at most 20 bytes, with its sign (proofs/Signed).
 ghost use mathlib.Core.Path.{_≡_};
-ghost use mathlib.Core.List.{List, [], _∷_, _++_};
-ghost use Prim.Native.Nat.{ℕ, _+_, _*_, _-_, _^_, _≤_, _<_};
-ghost use lib.ListN.{length, getD, take, drop};
+ghost use mathlib.Core.List.{[], _∷_};
+ghost use Prim.Native.Nat.{_+_, _^_, _≤_, _<_};
+ghost use lib.ListN.{length};
 ghost use lib.IntN.{natAbs};
 ghost use Rattle.rules.specs.Program.{decimal, signedDecimal};
 ghost use Rattle.text.specs.Put.{Put};
+
+// Writes one byte.
+pub fn put_byte(out: &mut [u8], at: usize, b: u8) -> usize
+    requires { ⌜ at < length (now out) ⌝ }
+    ensures { λ r. ⌜ Put (now (out .entry)) at (b ∷ []) (now (out .exit)) r ⌝ }
+{
+    out[at] = b;
+    at + 1
+}
+
+// Writes the bytes of a text.
+pub fn put_bytes(out: &mut [u8], at: usize, text: &[u8]) -> usize
+    requires { ⌜ at + length (now text) ≤ length (now out) ⌝ }
+    ensures { λ r. ⌜ Put (now (out .entry)) at (now (text .entry)) (now (out .exit)) r ⌝ }
+{
+    let mut i = 0;
+    while i < text.len() {
+        out[at + i] = text[i];
+        i += 1;
+    }
+    at + text.len()
+}
 
 // The index behind the digits of n, the first of which is at `at`.
 fn behind_digits(at: usize, n: u64) -> usize
@@ -60,26 +82,4 @@ pub fn put_signed(out: &mut [u8], at: usize, n: i64) -> usize
         return put_decimal(out, digits, size_of(n));
     }
     put_decimal(out, at, size_of(n))
-}
-
-// Writes one byte.
-pub fn put_byte(out: &mut [u8], at: usize, b: u8) -> usize
-    requires { ⌜ at < length (now out) ⌝ }
-    ensures { λ r. ⌜ Put (now (out .entry)) at (b ∷ []) (now (out .exit)) r ⌝ }
-{
-    out[at] = b;
-    at + 1
-}
-
-// Writes the bytes of text.
-pub fn put_bytes(out: &mut [u8], at: usize, text: &[u8]) -> usize
-    requires { ⌜ at + length (now text) ≤ length (now out) ⌝ }
-    ensures { λ r. ⌜ Put (now (out .entry)) at (now (text .entry)) (now (out .exit)) r ⌝ }
-{
-    let mut i = 0;
-    while i < text.len() {
-        out[at + i] = text[i];
-        i += 1;
-    }
-    at + text.len()
 }

@@ -1,10 +1,11 @@
-// The program's output as bytes: what it prints of a refused input, of one that is too large, and of a search's report.
+// The program's output as bytes: what it prints of a refused input, of one that is too large, and of a search's report. The report's text is a function
+// of the search's counts and report buffers alone (specs/Report), and takes at most 22 bytes for each number, one for each label and 60 more.
+// proofs/Printed and proofs/Joined say that after the search this is the text that document 01 asks for.
 ghost use mathlib.Core.Path.{_≡_};
-ghost use mathlib.Core.List.{List, [], _∷_, _++_};
-ghost use Prim.Native.Nat.{ℕ, _+_, _*_, _-_, _≤_, _<_, min};
-ghost use lib.ListN.{length, getD, take, drop};
+ghost use Prim.Native.Nat.{_+_, _*_, _≤_, min};
+ghost use lib.ListN.{length, drop};
 ghost use Rattle.rules.specs.Basics.{pick, bytes};
-ghost use Rattle.rules.specs.Program.{decimal, labelsText, refusedText, tooLarge};
+ghost use Rattle.rules.specs.Program.{labelsText, refusedText, tooLarge};
 ghost use Rattle.text.specs.Put.{Put};
 ghost use Rattle.text.specs.Report.{headerText, fieldText, resultText, resultsText, lineText, linesText, reportText, reportRoom};
 use crate::put::put_byte;
@@ -43,6 +44,7 @@ fn put_header(out: &mut [u8], at: usize, stopped: bool, matches: usize, steps: u
     put_byte(out, line, 10)
 }
 
+// The header's first word.
 fn put_outcome(out: &mut [u8], at: usize, stopped: bool) -> usize
     requires { ⌜ at + 8 ≤ length (now out) ⌝ }
     ensures { λ r. ⌜ Put (now (out .entry)) at (pick stopped (bytes "stopped ") (bytes "matches ")) (now (out .exit)) r ⌝ }
@@ -73,7 +75,7 @@ fn put_labels(out: &mut [u8], at: usize, own: &[u8]) -> usize
     put_bytes(out, at, own)
 }
 
-// A measure's result, or `null`.
+// A measure's result, or `null` where the number before it is 0.
 fn put_result(out: &mut [u8], at: usize, given: i64, result: i64) -> usize
     requires { ⌜ at + length (resultText given result) ≤ length (now out) ⌝ }
     ensures { λ r. ⌜ Put (now (out .entry)) at (resultText given result) (now (out .exit)) r ⌝ }

@@ -1,41 +1,31 @@
-use Rattle.text.proofs.Inputs.{no-length, long-query, cut-query, many-rows, whole-input}
+-- `input_of` goes through the tests in the definition's order: one law of proofs/Inputs for each way.
 use native.Mathlib.Omega.{arith}
 use borrow.Author.Needs.{needs}
+use Rattle.text.proofs.Inputs.{no-length, long-query, cut-query, many-rows, whole-input}
 use Rattle.text.proofs.input.input_of.Statement.{statement}
 use Rattle.text.proofs.input.input_of.Tie as tie
-use Rattle.text.proofs.input.input_of.Reads as reads
-use Rattle.text.proofs.input.input_of.Lts as lts
-use Rattle.text.proofs.input.le16_at.Reads as le16-at-reads
 
--- src/input.rt:61:9
 returns : tie.Need-returns
 returns c = no-length _ (omega arith)
 
--- src/input.rt:63:9
 le16-at-requires : tie.Need-le16-at-requires
 le16-at-requires c κs = search needs
 
--- src/input.rt:65:9
 returns-2 : tie.Need-returns-2
 returns-2 c = search (needs, long-query)
 
--- src/input.rt:67:16
 add-rows : tie.Need-add-rows
 add-rows c = search needs
 
--- src/input.rt:69:9
 returns-3 : tie.Need-returns-3
 returns-3 c = search (needs, cut-query)
 
--- src/input.rt:71:16
 sub-if4 : tie.Need-sub-if4
 sub-if4 c = search needs
 
--- src/input.rt:72:9
 returns-4 : tie.Need-returns-4
 returns-4 c = search (needs, many-rows)
 
--- src/input.rt:57:1
 returns-5 : tie.Need-returns-5
 returns-5 c = search (needs, whole-input)
 

@@ -1,40 +1,30 @@
-use Rattle.rules.specs.Basics.{le16}
+-- `le16_at` is the number in two bytes.
 use borrow.Author.Needs.{needs}
+use Rattle.rules.specs.Basics.{le16}
 use Rattle.text.proofs.input.le16_at.Statement.{statement}
 use Rattle.text.proofs.input.le16_at.Tie as tie
-use Rattle.text.proofs.input.le16_at.Reads as reads
-use Rattle.text.proofs.input.le16_at.Lts as lts
-use Rattle.text.proofs.input.wide.Reads as wide-reads
 
--- src/input.rt:35:10
 shared-slice-read-wide : tie.Need-shared-slice-read-wide
 shared-slice-read-wide c = search needs
 
--- src/input.rt:35:5
 wide-requires : tie.Need-wide-requires
 wide-requires c κs = search needs
 
--- src/input.rt:35:26
 add-wide : tie.Need-add-wide
 add-wide c = search needs
 
--- src/input.rt:35:24
 shared-slice-read-wide-2 : tie.Need-shared-slice-read-wide-2
 shared-slice-read-wide-2 c = search needs
 
--- src/input.rt:35:19
 wide-requires-2 : tie.Need-wide-requires-2
 wide-requires-2 c κs = search needs
 
--- src/input.rt:35:19
 mul-result : tie.Need-mul-result
 mul-result c = search needs
 
--- src/input.rt:35:5
 add-result : tie.Need-add-result
 add-result c = search needs
 
--- src/input.rt:31:1
 returns : tie.Need-returns
 unfolding le16
 returns c = search needs

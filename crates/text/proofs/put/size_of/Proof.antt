@@ -1,35 +1,26 @@
+-- `size_of` gives a number's size without its sign, by the laws of proofs/Signed.
 use Rattle.text.proofs.Signed.{up-fits, size-fits, size-cast, size-more, size-all, at-least-zero, size-kept}
-use borrow.Author.Needs.{needs}
 use Rattle.text.proofs.put.size_of.Statement.{statement}
 use Rattle.text.proofs.put.size_of.Tie as tie
-use Rattle.text.proofs.put.size_of.Reads as reads
-use Rattle.text.proofs.put.size_of.Lts as lts
 
--- src/lib.rt:46:12
 add-result : tie.Need-add-result
 add-result c = up-fits (c .before .args .n) (c .before .fits .n) (c .if1 .taken)
 
--- src/lib.rt:46:10
 sub-result : tie.Need-sub-result
 sub-result c = size-fits (c .before .args .n) (c .before .fits .n) (c .if1 .taken)
 
--- src/lib.rt:46:9
 cast-result : tie.Need-cast-result
 cast-result c = size-cast (c .before .args .n) (c .before .fits .n) (c .if1 .taken)
 
--- src/lib.rt:46:9
 add-result-2 : tie.Need-add-result-2
 add-result-2 c = size-more (c .before .args .n) (c .before .fits .n) (c .if1 .taken)
 
--- src/lib.rt:48:9
 cast-result-2 : tie.Need-cast-result-2
 cast-result-2 c = at-least-zero (c .before .args .n) (c .before .fits .n) (c .if1 .left)
 
--- src/lib.rt:42:1
 returns : tie.Need-returns
 returns c = size-all (c .before .args .n) (c .before .fits .n) (c .if1 .taken)
 
--- src/lib.rt:42:1
 returns-2 : tie.Need-returns-2
 returns-2 c = size-kept (c .before .args .n) (c .before .fits .n)
 

@@ -1,25 +1,18 @@
-use Rattle.text.proofs.Lines.{field-room, field-room-1, put-number}
+-- `put_field` writes a number and one space.
 use borrow.Author.Needs.{needs}
+use Rattle.text.proofs.Lines.{field-room, field-room-1, put-number}
 use Rattle.text.proofs.report.put_field.Statement.{statement}
 use Rattle.text.proofs.report.put_field.Tie as tie
-use Rattle.text.proofs.report.put_field.Reads as reads
-use Rattle.text.proofs.report.put_field.Lts as lts
-use Rattle.text.proofs.put.put_byte.Reads as put-byte-reads
-use Rattle.text.proofs.put.put_signed.Reads as put-signed-reads
 
--- src/report.rt:57:9
 put-signed-requires : tie.Need-put-signed-requires
 put-signed-requires c κs = search (needs, field-room)
 
--- src/report.rt:58:5
 put-byte-requires : tie.Need-put-byte-requires
 put-byte-requires c κs = search (needs, field-room-1)
 
--- src/report.rt:53:1
 same-length : tie.Need-same-length
 same-length c = search needs
 
--- src/report.rt:53:1
 returns : tie.Need-returns
 returns c = search (needs, put-number)
 

@@ -1,33 +1,24 @@
-use Rattle.text.proofs.Lines.{labels-none-room, put-no-labels, labels-room, put-some-labels}
+-- `put_labels` writes the labels, or a `-`.
 use borrow.Author.Needs.{needs}
+use Rattle.text.proofs.Lines.{labels-none-room, put-no-labels, labels-room, put-some-labels}
 use Rattle.text.proofs.report.put_labels.Statement.{statement}
 use Rattle.text.proofs.report.put_labels.Tie as tie
-use Rattle.text.proofs.report.put_labels.Reads as reads
-use Rattle.text.proofs.report.put_labels.Lts as lts
-use Rattle.text.proofs.put.put_byte.Reads as put-byte-reads
-use Rattle.text.proofs.put.put_bytes.Reads as put-bytes-reads
 
--- src/report.rt:67:9
 put-byte-requires : tie.Need-put-byte-requires
 put-byte-requires c κs = search (needs, labels-none-room)
 
--- src/report.rt:67:9
 same-length : tie.Need-same-length
 same-length c = search needs
 
--- src/report.rt:67:9
 returns : tie.Need-returns
 returns c = search (needs, put-no-labels)
 
--- src/report.rt:69:5
 put-bytes-requires : tie.Need-put-bytes-requires
 put-bytes-requires c κs = search (needs, labels-room)
 
--- src/report.rt:62:1
 same-length-2 : tie.Need-same-length-2
 same-length-2 c = search needs
 
--- src/report.rt:62:1
 returns-2 : tie.Need-returns-2
 returns-2 c = search (needs, put-some-labels)
 

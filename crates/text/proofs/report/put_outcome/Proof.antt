@@ -1,42 +1,32 @@
+-- `put_outcome` writes the header's first word.
+use borrow.Author.Needs.{needs}
 use Rattle.rules.specs.Basics.{bytes}
 use Rattle.text.proofs.Lines.{put-stopped, put-matches}
-use borrow.Author.Needs.{needs}
 use Rattle.text.proofs.report.put_outcome.Statement.{statement}
 use Rattle.text.proofs.report.put_outcome.Tie as tie
-use Rattle.text.proofs.report.put_outcome.Reads as reads
-use Rattle.text.proofs.report.put_outcome.Lts as lts
-use Rattle.text.proofs.put.put_bytes.Reads as put-bytes-reads
 
--- src/report.rt:47:35
 slice-aggregate-put-bytes : tie.Need-slice-aggregate-put-bytes
 slice-aggregate-put-bytes c = search needs
 
--- src/report.rt:47:9
 put-bytes-requires : tie.Need-put-bytes-requires
 put-bytes-requires c κs = search needs
 
--- src/report.rt:47:9
 same-length : tie.Need-same-length
 same-length c = search needs
 
--- src/report.rt:47:9
 returns : tie.Need-returns
 unfolding bytes
 returns c = search (needs, put-stopped)
 
--- src/report.rt:49:24
 slice-aggregate-put-bytes-2 : tie.Need-slice-aggregate-put-bytes-2
 slice-aggregate-put-bytes-2 c = search needs
 
--- src/report.rt:49:5
 put-bytes-requires-2 : tie.Need-put-bytes-requires-2
 put-bytes-requires-2 c κs = search needs
 
--- src/report.rt:42:1
 same-length-2 : tie.Need-same-length-2
 same-length-2 c = search needs
 
--- src/report.rt:42:1
 returns-2 : tie.Need-returns-2
 unfolding bytes
 returns-2 c = search (needs, put-matches)

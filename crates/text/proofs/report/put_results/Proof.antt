@@ -1,12 +1,9 @@
-use Rattle.text.proofs.Lines.{Resulted, results-none, results-all, results-room, results-room-1, results-more}
+-- `put_results` writes the results of the measures: those left are as many as the loop has still to write (`Resulted`).
 use native.Mathlib.Omega.{arith}
 use borrow.Author.Needs.{needs}
+use Rattle.text.proofs.Lines.{Resulted, results-none, results-all, results-room, results-room-1, results-more}
 use Rattle.text.proofs.report.put_results.Statement.{statement}
 use Rattle.text.proofs.report.put_results.Tie as tie
-use Rattle.text.proofs.report.put_results.Reads as reads
-use Rattle.text.proofs.report.put_results.Lts as lts
-use Rattle.text.proofs.put.put_byte.Reads as put-byte-reads
-use Rattle.text.proofs.report.put_result.Reads as put-result-reads
 
 abbrev Inv-loop : tie.InvT-loop
 Inv-loop out₀ at measures numbers first left₀ i₀ behind₀ out left i behind = Resulted out₀ at measures numbers first out left i behind
@@ -14,59 +11,45 @@ Inv-loop out₀ at measures numbers first left₀ i₀ behind₀ out left i behi
 abbrev μ-loop : tie.MeasureT-loop
 μ-loop out₀ at measures numbers first left₀ i₀ behind₀ out left i behind = left
 
--- src/report.rt:92:5
 loop-holds : tie.Need-loop-holds Inv-loop μ-loop
 loop-holds c = search (needs, results-none)
 
--- src/report.rt:93:13
 put-byte-requires : tie.Need-put-byte-requires Inv-loop μ-loop
 put-byte-requires c κs = search (needs, results-room)
 
--- src/report.rt:94:42
 mul-put-result : tie.Need-mul-put-result Inv-loop μ-loop
 mul-put-result c = omega arith
 
--- src/report.rt:94:42
 shared-slice-copy-out-put-result : tie.Need-shared-slice-copy-out-put-result Inv-loop μ-loop
 shared-slice-copy-out-put-result c = omega arith
 
--- src/report.rt:94:62
 add-put-result : tie.Need-add-put-result Inv-loop μ-loop
 add-put-result c = omega arith
 
--- src/report.rt:94:54
 mul-put-result-2 : tie.Need-mul-put-result-2 Inv-loop μ-loop
 mul-put-result-2 c = omega arith
 
--- src/report.rt:94:54
 shared-slice-copy-out-put-result-2 : tie.Need-shared-slice-copy-out-put-result-2 Inv-loop μ-loop
 shared-slice-copy-out-put-result-2 c = omega arith
 
--- src/report.rt:94:9
 put-result-requires : tie.Need-put-result-requires Inv-loop μ-loop
 put-result-requires c κs = search (needs, results-room-1)
 
--- src/report.rt:95:9
 add-i : tie.Need-add-i Inv-loop μ-loop
 add-i c = omega arith
 
--- src/report.rt:96:9
 sub-left : tie.Need-sub-left Inv-loop μ-loop
 sub-left c = omega arith
 
--- src/report.rt:92:5
 loop-less : tie.Need-loop-less Inv-loop μ-loop
 loop-less c = omega arith
 
--- src/report.rt:92:5
 loop-again : tie.Need-loop-again Inv-loop μ-loop
 loop-again c = search (needs, results-more)
 
--- src/report.rt:84:1
 same-length : tie.Need-same-length Inv-loop μ-loop
 same-length c = search needs
 
--- src/report.rt:84:1
 returns : tie.Need-returns Inv-loop μ-loop
 returns c = search (needs, results-all)
 
