@@ -2,3 +2,4 @@ pub mod TableLaws
 pub mod WayLaws
 pub mod CodeLaws
 pub mod ForkLaws
+pub mod EmitLaws

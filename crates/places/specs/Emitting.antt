@@ -7,7 +7,7 @@ use lib.Dec.{eqb}
 use lib.ListN.{length, getD, set}
 use Rattle.rules.specs.Basics.{pick, has}
 use Rattle.rules.specs.Language.{Rank, pattern, factor, Tree, one, last}
-use Rattle.rules.specs.Places.{Unrolled, uStar, copies, options, unrolled, unroll, Place, pLetter, pCaret, pDollar, pFork, pEnd, waysInTurn, size, sizes, startsOf, code, codes, places, placesOf}
+use Rattle.rules.specs.Places.{Unrolled, uStar, copies, options, unrolled, unroll, Place, pLetter, pCaret, pDollar, pFork, pEnd, waysInTurn, size, sizes, startsOf, code, codes, places, fork, placeCount, placesOf}
 use Rattle.rules.proofs.Distinct.{fresh, distinct, thinned}
 use Rattle.pattern.specs.Held.{body, lazyOf, Top}
 use Rattle.places.specs.Tables.{span, tabled}
@@ -169,6 +169,17 @@ pub record Turning (s : List ℕ) (i c n m end : ℕ) (T : List ℕ) (at : Spot)
   pub ends : end ≡ at .place + size (turns n m (lazyOf of) (unrolled (body of)))
   pub few : (n ≤ 99) × (m ≤ 100)
   pub fits : Fitting T at k (turnPlaces n m of (at .place) k)
+
+-- r is the number of places of whatever tree has its top at i, if it has at most 256
+abbrev pub WholeSize : List ℕ → ℕ → ℕ → Type 0
+WholeSize s i r = (p : Tree pattern) → Top p i s → placeCount p ≤ 256 → r ≡ fork p + placeCount p
+
+abbrev pub BodySize : List ℕ → ℕ → ℕ → Type 0
+BodySize s i r = (F : Tree factor) → Top (one (last F)) i s → placeCount F ≤ 256 → r ≡ placeCount (body F)
+
+-- the sort of an anchor's place: ^ is 94
+abbrev pub anchorSort : ℕ → ℕ
+anchorSort c = pick (eqb c 94) 2 3
 
 -- ---- the whole
 
