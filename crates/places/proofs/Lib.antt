@@ -3,3 +3,4 @@ pub mod WayLaws
 pub mod CodeLaws
 pub mod ForkLaws
 pub mod EmitLaws
+pub mod UnrollLaws

@@ -192,10 +192,10 @@ pub record Unrolling (s : List ℕ) (top P : ℕ) (T : List ℕ) : Type 0 where
   pub long : 1024 + 3 * P ≤ length T
   pub small : length T < 65536
 
--- the table holds the places of the tree, each fork's ways once; no word behind the ways is changed
+-- The table holds the places of the tree, each fork's ways once; a fork's ways stop before the word r; from there on no word is changed.
 pub record Tabled (p : Tree pattern) (P : ℕ) (T exit : List ℕ) (r : ℕ) : Type 0 where
   pub is : tabled exit P ≡ thinned (places (unroll p))
-  pub ways : r ≡ 1024 + waysIn (thinned (places (unroll p)))
-  pub few : r ≤ 1024 + 3 * P
+  pub stop : (q : ℕ) → q < P → getD exit (4 * q + 3) 0 ≤ r
+  pub few : (1024 ≤ r) × (r ≤ 1024 + 3 * P)
   pub kept : (j : ℕ) → r ≤ j → getD exit j 0 ≡ getD T j 0
   pub len : length exit ≡ length T
