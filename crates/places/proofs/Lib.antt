@@ -4,3 +4,4 @@ pub mod CodeLaws
 pub mod ForkLaws
 pub mod EmitLaws
 pub mod UnrollLaws
+pub mod SafeLaws
