@@ -164,6 +164,15 @@ module _ (T : List ℕ) (at : Spot) (k : ℕ) (whole xs : List Place) (Q : ℕ �
 pub emitted-length : (T exit : List ℕ) (at r : Spot) (pl : List Place) → Emitted T exit at r pl → length exit ≡ length T
 emitted-length T exit at r pl d = ap length (d .is) ∙ places-length T (at .place) (at .way) pl
 
+-- a list of no places is put by doing nothing
+nothing-put : (T : List ℕ) (at : Spot) (pl : List Place) → length pl ≡ 0 → Emitted T T at at pl
+nothing-put T at [] e = emitted-none T at
+nothing-put T at (p ∷ pl) e = absurd (omega arith)
+
+no-list : (pl : List Place) → length pl ≡ 0 → pl ≡ []
+no-list [] e = refl
+no-list (p ∷ pl) e = absurd (omega arith)
+
 low-pick : (t : Bool) (k b : ℕ) → k ≤ 256 → b ≤ 256 → pick t k b ≤ 256
 low-pick true k b h g = h
 low-pick false k b h g = g
@@ -184,6 +193,14 @@ module _ (s : List ℕ) (i : ℕ) (n : Node) (en : n ≡ nodeAt s i) (T : List �
 
   pub emit-end : Emitting s i T at k → Fits-in w64 (at .place + n .places)
   emit-end h = let x = exact (h .tree) (h .top) (h .fits) in record { fits = omega (arith, x .0, x .1) }
+
+  -- no places
+  pub emit-none : (n .sort ≡ Alternation → ⊥) → at .place + n .places ≡ at .place → (h : Emitting s i T at k) → Emitted T T at at (treePlaces (h .tree) (at .place) k)
+  unfolding fork
+  emit-none na e h =
+      let f : fork (h .tree) ≡ 0 = as-any s i n en (λ p. fork p ≡ 0) (λ F q. refl) (λ f b q. refl) (λ b p q. absurd (na (q .sort))) (h .tree) (h .top) in
+      let x = exact (h .tree) (h .top) (h .fits) in
+      nothing-put T at (treePlaces (h .tree) (at .place) k) (omega (arith, x .0, tree-length (h .tree) (at .place) k))
 
   -- a sequence
   module _ (e : n .sort ≡ Sequence) (m : ℕ) (em : m ≡ (nodeAt s (n .left)) .places) where
@@ -221,6 +238,28 @@ module _ (s : List ℕ) (i : ℕ) (n : Node) (en : n ≡ nodeAt s i) (T : List �
 
     pub seq-mid : Emitting s i T at k → Fits-in w64 (at .place + m)
     seq-mid h = let x = seq-parts _ refl (h .tree) (h .top) (h .fits) in record { fits = omega (arith, x .low) }
+
+    -- the first part has no places
+    module _ (z : at .place + m ≡ at .place) (h : Emitting s i T at k) where
+      skipped : SeqParts (pick (eqb (at .place + m) (at .place + n .places)) k (at .place + m)) (h .tree)
+      skipped = seq-parts _ refl (h .tree) (h .top) (h .fits)
+
+      rest-only : treePlaces (h .tree) (at .place) k ≡ treePlaces (one (skipped .rest)) (at .place) k
+      rest-only =
+          let e1 : treePlaces (one (last (skipped .first))) (at .place) (pick (eqb (at .place + m) (at .place + n .places)) k (at .place + m)) ≡ [] = no-list _ (omega (arith, skipped .long)) in
+          skipped .split ∙ ap (λ (xs : List Place). xs ++ treePlaces (one (skipped .rest)) (at .place + m) k) e1
+          ∙ ap (λ (v : ℕ). treePlaces (one (skipped .rest)) v k) z
+
+      skip-emitting : Emitting s (n .right) T at k
+      skip-emitting = record { tree = one (skipped .rest); top = skipped .right-top; fits = subst (Fitting T at k) rest-only (h .fits) }
+
+      pub seq-skip : (u : ℕ) → emitM s i ≡ u → (emitM s (n .right) < u) × Emitting s (n .right) T at k
+      unfolding emitM
+      seq-skip u eu = (omega (arith, (seq-right s i n en ((nodeAt s i) .height) refl (emit-at h) e) .0, alt-small ((nodeAt s (n .right)) .sort)), skip-emitting)
+
+      pub seq-skipped : (T2 : List ℕ) (q : Spot) → ((g : Emitting s (n .right) T at k) → Emitted T T2 at q (treePlaces (g .tree) (at .place) k)) → Emitted T T2 at q (treePlaces (h .tree) (at .place) k)
+      unfolding skip-emitting
+      seq-skipped T2 q g = subst (Emitted T T2 at q) (sym rest-only) (g skip-emitting)
 
     module _ (nx : ℕ) (ex : nx ≡ pick (eqb (at .place + m) (at .place + n .places)) k (at .place + m)) (h : Emitting s i T at k) where
       seq : SeqParts nx (h .tree)
@@ -386,6 +425,12 @@ branches-in s i T at k h = at-in s i (record { tree = h .tree; is = h .top })
 module _ (s : List ℕ) (i : ℕ) (n : Node) (en : n ≡ nodeAt s i) (T : List ℕ) (at : Spot) (k : ℕ) where
   branching-at : Branching s i T at k → At s i
   branching-at h = record { tree = h .tree; is = h .top }
+
+  -- no places
+  pub branches-none : n .places ≡ 0 → (h : Branching s i T at k) → Emitted T T at at (branchPlaces (h .tree) (at .place) k)
+  branches-none e h =
+      let a : n .places ≡ min (placeCount (h .tree)) 257 = ap (λ (y : Node). y .places) en ∙ top-places s i (h .tree) (h .top) in
+      nothing-put T at (branchPlaces (h .tree) (at .place) k) (omega (arith, branch-length (h .tree) (at .place) k))
 
   module _ (e : n .sort ≡ Alternation) where
     record BranchParts (p : Tree pattern) : Type 0 where

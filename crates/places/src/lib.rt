@@ -79,7 +79,8 @@ fn put_way(table: &mut [u16], from: usize, to: usize, y: usize) -> usize
     to + 1
 }
 
-// The ways of an alternation's fork: where its branches begin, from the one at i on, whose places are numbered from b on.
+// The ways of an alternation's fork: where its branches begin, from the one at i on, whose places are numbered from b on. Branches without places
+// all begin behind it.
 fn fork_ways(room: &[u16], i: usize, table: &mut [u16], from: usize, to: usize, b: usize, k: usize) -> usize
     requires { ⌜ Starting (now room) i (now table) from to b k ⌝ }
     ensures { λ r. ⌜ ((h : Starting (now (room .entry)) i (now (table .entry)) from to b k) → Started (now (room .entry)) i (now (table .entry)) from to b k (now (table .exit)) r h) ⌝ }
@@ -88,6 +89,9 @@ fn fork_ways(room: &[u16], i: usize, table: &mut [u16], from: usize, to: usize, 
     let sort = n.sort;
     let left = n.left;
     let right = n.right;
+    if n.places == 0 {
+        return put_way(table, from, to, k);
+    }
     if let Sort::Alternation = sort {
         let end = b + places_at(room, left);
         let next = put_way(table, from, to, start_at(b, end, k));
@@ -209,7 +213,7 @@ fn put_simple(table: &mut [u16], at: Spot, sort: u16, letter: u16, k: usize) -> 
     }
 }
 
-// The tree at i, its places numbered from at.place on, where k is the place behind it.
+// The tree at i, its places numbered from at.place on, where k is the place behind it. A part without places is not walked over.
 fn emit(room: &[u16], i: usize, table: &mut [u16], at: Spot, k: usize) -> Spot
     requires { ⌜ Emitting (now room) i (now table) at k ⌝ }
     ensures { λ r. ⌜ ((h : Emitting (now (room .entry)) i (now (table .entry)) at k) → Emitted (now (table .entry)) (now (table .exit)) at r (treePlaces (h .tree) (at .place) k)) ⌝ }
@@ -220,14 +224,21 @@ fn emit(room: &[u16], i: usize, table: &mut [u16], at: Spot, k: usize) -> Spot
     let right = n.right;
     let b = at.place;
     let end = b + n.places;
-    if let Sort::Sequence = sort {
-        let next = start_at(b + places_at(room, left), end, k);
-        let then = emit(room, left, table, at, next);
-        return emit(room, right, table, then, k);
-    }
     if let Sort::Alternation = sort {
         let inside = branch_fork(room, i, table, at, k);
         return branches(room, i, table, inside, k);
+    }
+    if end == b {
+        return at;
+    }
+    if let Sort::Sequence = sort {
+        let mid = b + places_at(room, left);
+        if mid == b {
+            return emit(room, right, table, at, k);
+        }
+        let next = start_at(mid, end, k);
+        let then = emit(room, left, table, at, next);
+        return emit(room, right, table, then, k);
     }
     let c = body_size(room, i);
     let low = n.low;
@@ -244,6 +255,9 @@ fn branches(room: &[u16], i: usize, table: &mut [u16], at: Spot, k: usize) -> Sp
     let sort = n.sort;
     let left = n.left;
     let right = n.right;
+    if n.places == 0 {
+        return at;
+    }
     if let Sort::Alternation = sort {
         let then = emit(room, left, table, at, k);
         return branches(room, right, table, then, k);

@@ -1,5 +1,5 @@
 use Rattle.places.proofs.ForkLaws.{not-sequence, not-alternation}
-use Rattle.places.proofs.EmitLaws.{emitM, branchM, roundM, bodyM, emitted-length, emit-in, emit-end, seq-left-in, seq-mid, seq-first, seq-second, seq-done, alt-forking, alt-inside, alt-done, emit-node, turn-order, turn-first, turn-done, branches-in, branch-first, branch-second, branch-done, single-first, single-done, round-in, copy-first, copy-again, copy-done, copy-fits, copy-less, none-done, star-choose, star-body, star-done, star-fits, option-choose, option-body, option-again, option-done, option-fits, option-more, option-less, body-in, letter-words, letter-done, anchor-words, anchor-done, empty-done, sequence-done, alternation-done, group-first, group-done}
+use Rattle.places.proofs.EmitLaws.{emitM, branchM, roundM, bodyM, emitted-length, emit-in, emit-end, emit-none, seq-left-in, seq-mid, seq-skip, seq-skipped, seq-first, seq-second, seq-done, alt-forking, alt-inside, alt-done, emit-node, turn-order, turn-first, turn-done, branches-in, branches-none, branch-first, branch-second, branch-done, single-first, single-done, round-in, copy-first, copy-again, copy-done, copy-fits, copy-less, none-done, star-choose, star-body, star-done, star-fits, option-choose, option-body, option-again, option-done, option-fits, option-more, option-less, body-in, letter-words, letter-done, anchor-words, anchor-done, empty-done, sequence-done, alternation-done, group-first, group-done}
 use mathlib.Core.Path.{refl}
 use borrow.Author.Needs.{needs}
 use Prim.Native.Nat.{ℕ, _<_}
@@ -67,7 +67,7 @@ rounds-at t = and 2 rounds-kinds.ps (is 2 rounds-kinds.ps μ-rounds t) rounds.Pr
 abbrev rounds-below : ℕ → In 2 rounds-kinds.ps
 rounds-below t = and 2 rounds-kinds.ps (falls 2 rounds-kinds.ps _<_ μ-rounds t) rounds.Pre
 
--- src/lib.rt:285:9
+-- src/lib.rt:302:9
 body-node-at-requires : (t : ℕ) → body-lts.Need-node-at-requires (
   node-at-reads.Asked,
   node-at-reads.Learnt,
@@ -82,7 +82,7 @@ body-node-at-requires : (t : ℕ) → body-lts.Need-node-at-requires (
 ) (body-at t) body.Post
 body-node-at-requires t c κs = body-in _ _ _ _ _ (c .before .before .pre .1)
 
--- src/lib.rt:289:22
+-- src/lib.rt:306:22
 body-enum-known-sort : (t : ℕ) → body-lts.Need-enum-known-sort (
   node-at-reads.Asked,
   node-at-reads.Learnt,
@@ -97,7 +97,7 @@ body-enum-known-sort : (t : ℕ) → body-lts.Need-enum-known-sort (
 ) (body-at t) body.Post
 body-enum-known-sort t c = search needs
 
--- src/lib.rt:289:53
+-- src/lib.rt:306:53
 body-short-requires : (t : ℕ) → body-lts.Need-short-requires (
   node-at-reads.Asked,
   node-at-reads.Learnt,
@@ -112,7 +112,7 @@ body-short-requires : (t : ℕ) → body-lts.Need-short-requires (
 ) (body-at t) body.Post
 body-short-requires t c κs = search needs
 
--- src/lib.rt:289:28
+-- src/lib.rt:306:28
 body-put-simple-requires : (t : ℕ) → body-lts.Need-put-simple-requires (
   node-at-reads.Asked,
   node-at-reads.Learnt,
@@ -127,7 +127,7 @@ body-put-simple-requires : (t : ℕ) → body-lts.Need-put-simple-requires (
 ) (body-at t) body.Post
 body-put-simple-requires t c κs = letter-words _ _ _ (c .before .before .before .before .before .node-at .ensures) _ _ _ _ (c .before .before .before .sort .given .1) (c .before .before .before .before .before .before .before .before .pre .1)
 
--- src/lib.rt:290:22
+-- src/lib.rt:307:22
 body-enum-known-sort-2 : (t : ℕ) → body-lts.Need-enum-known-sort-2 (
   node-at-reads.Asked,
   node-at-reads.Learnt,
@@ -142,7 +142,7 @@ body-enum-known-sort-2 : (t : ℕ) → body-lts.Need-enum-known-sort-2 (
 ) (body-at t) body.Post
 body-enum-known-sort-2 t c = search needs
 
--- src/lib.rt:290:50
+-- src/lib.rt:307:50
 body-anchor-sort-requires : (t : ℕ) → body-lts.Need-anchor-sort-requires (
   node-at-reads.Asked,
   node-at-reads.Learnt,
@@ -157,7 +157,7 @@ body-anchor-sort-requires : (t : ℕ) → body-lts.Need-anchor-sort-requires (
 ) (body-at t) body.Post
 body-anchor-sort-requires t c κs = search needs
 
--- src/lib.rt:290:28
+-- src/lib.rt:307:28
 body-put-simple-requires-2 : (t : ℕ) → body-lts.Need-put-simple-requires-2 (
   node-at-reads.Asked,
   node-at-reads.Learnt,
@@ -172,7 +172,7 @@ body-put-simple-requires-2 : (t : ℕ) → body-lts.Need-put-simple-requires-2 (
 ) (body-at t) body.Post
 body-put-simple-requires-2 t c κs = anchor-words _ _ _ (c .before .before .before .before .before .node-at .ensures) _ _ _ _ (c .before .before .before .sort2 .given .1) (c .before .before .before .before .before .before .before .before .pre .1)
 
--- src/lib.rt:291:24
+-- src/lib.rt:308:24
 body-enum-told : (t : ℕ) → body-lts.Need-enum-told (
   node-at-reads.Asked,
   node-at-reads.Learnt,
@@ -187,7 +187,7 @@ body-enum-told : (t : ℕ) → body-lts.Need-enum-told (
 ) (body-at t) body.Post
 body-enum-told t c = search needs
 
--- src/lib.rt:292:27
+-- src/lib.rt:309:27
 body-enum-told-2 : (t : ℕ) → body-lts.Need-enum-told-2 (
   node-at-reads.Asked,
   node-at-reads.Learnt,
@@ -202,7 +202,7 @@ body-enum-told-2 : (t : ℕ) → body-lts.Need-enum-told-2 (
 ) (body-at t) body.Post
 body-enum-told-2 t c = search needs
 
--- src/lib.rt:293:30
+-- src/lib.rt:310:30
 body-enum-told-3 : (t : ℕ) → body-lts.Need-enum-told-3 (
   node-at-reads.Asked,
   node-at-reads.Learnt,
@@ -217,7 +217,7 @@ body-enum-told-3 : (t : ℕ) → body-lts.Need-enum-told-3 (
 ) (body-at t) body.Post
 body-enum-told-3 t c = search needs
 
--- src/lib.rt:294:41
+-- src/lib.rt:311:41
 body-enum-told-4 : (t : ℕ) → body-lts.Need-enum-told-4 (
   node-at-reads.Asked,
   node-at-reads.Learnt,
@@ -232,7 +232,7 @@ body-enum-told-4 : (t : ℕ) → body-lts.Need-enum-told-4 (
 ) (body-at t) body.Post
 body-enum-told-4 t c = search needs
 
--- src/lib.rt:294:24
+-- src/lib.rt:311:24
 body-emit-requires : (t : ℕ) → body-lts.Need-emit-requires (
   node-at-reads.Asked,
   node-at-reads.Learnt,
@@ -247,7 +247,7 @@ body-emit-requires : (t : ℕ) → body-lts.Need-emit-requires (
 ) (body-at t) body.Post
 body-emit-requires t c κs = group-first _ _ _ (c .before .before .before .node-at .ensures) _ _ _ (c .before .enum-told4 .given .1) (c .before .before .before .before .before .before .pre .1) _ (c .before .before .before .before .before .before .pre .0)
 
--- src/lib.rt:281:1
+-- src/lib.rt:298:1
 body-same-length : (t : ℕ) → body-lts.Need-same-length (
   node-at-reads.Asked,
   node-at-reads.Learnt,
@@ -262,7 +262,7 @@ body-same-length : (t : ℕ) → body-lts.Need-same-length (
 ) (body-at t) body.Post
 body-same-length t c = emitted-length _ _ _ _ _ (letter-done _ _ _ (c .before .before .before .before .before .before .before .before .node-at .ensures) _ _ _ _ (c .before .before .before .before .before .before .sort .given .1) (c .before .before .before .before .before .before .before .before .before .before .before .pre .1) _ _ _ (c .before .before .before .short .ensures) (c .before .before .put-simple .ensures))
 
--- src/lib.rt:281:1
+-- src/lib.rt:298:1
 body-returns : (t : ℕ) → body-lts.Need-returns (
   node-at-reads.Asked,
   node-at-reads.Learnt,
@@ -277,7 +277,7 @@ body-returns : (t : ℕ) → body-lts.Need-returns (
 ) (body-at t) body.Post
 body-returns t c = λ h. letter-done _ _ _ (c .before .before .before .before .before .before .before .before .node-at .ensures) _ _ _ _ (c .before .before .before .before .before .before .sort .given .1) h _ _ _ (c .before .before .before .short .ensures) (c .before .before .put-simple .ensures)
 
--- src/lib.rt:281:1
+-- src/lib.rt:298:1
 body-same-length-2 : (t : ℕ) → body-lts.Need-same-length-2 (
   node-at-reads.Asked,
   node-at-reads.Learnt,
@@ -292,7 +292,7 @@ body-same-length-2 : (t : ℕ) → body-lts.Need-same-length-2 (
 ) (body-at t) body.Post
 body-same-length-2 t c = emitted-length _ _ _ _ _ (anchor-done _ _ _ (c .before .before .before .before .before .before .before .before .node-at .ensures) _ _ _ _ (c .before .before .before .before .before .before .sort2 .given .1) (c .before .before .before .before .before .before .before .before .before .before .before .pre .1) _ _ _ (c .before .before .before .anchor-sort .ensures) (c .before .before .put-simple2 .ensures))
 
--- src/lib.rt:281:1
+-- src/lib.rt:298:1
 body-returns-2 : (t : ℕ) → body-lts.Need-returns-2 (
   node-at-reads.Asked,
   node-at-reads.Learnt,
@@ -307,7 +307,7 @@ body-returns-2 : (t : ℕ) → body-lts.Need-returns-2 (
 ) (body-at t) body.Post
 body-returns-2 t c = λ h. anchor-done _ _ _ (c .before .before .before .before .before .before .before .before .node-at .ensures) _ _ _ _ (c .before .before .before .before .before .before .sort2 .given .1) h _ _ _ (c .before .before .before .anchor-sort .ensures) (c .before .before .put-simple2 .ensures)
 
--- src/lib.rt:281:1
+-- src/lib.rt:298:1
 body-returns-3 : (t : ℕ) → body-lts.Need-returns-3 (
   node-at-reads.Asked,
   node-at-reads.Learnt,
@@ -322,7 +322,7 @@ body-returns-3 : (t : ℕ) → body-lts.Need-returns-3 (
 ) (body-at t) body.Post
 body-returns-3 t c = λ h. empty-done _ _ _ (c .before .before .node-at .ensures) _ _ _ (c .enum-told .given .1) h
 
--- src/lib.rt:281:1
+-- src/lib.rt:298:1
 body-returns-4 : (t : ℕ) → body-lts.Need-returns-4 (
   node-at-reads.Asked,
   node-at-reads.Learnt,
@@ -337,7 +337,7 @@ body-returns-4 : (t : ℕ) → body-lts.Need-returns-4 (
 ) (body-at t) body.Post
 body-returns-4 t c = λ h. sequence-done _ _ _ (c .before .before .node-at .ensures) _ _ _ (c .enum-told2 .given .1) h
 
--- src/lib.rt:281:1
+-- src/lib.rt:298:1
 body-returns-5 : (t : ℕ) → body-lts.Need-returns-5 (
   node-at-reads.Asked,
   node-at-reads.Learnt,
@@ -352,7 +352,7 @@ body-returns-5 : (t : ℕ) → body-lts.Need-returns-5 (
 ) (body-at t) body.Post
 body-returns-5 t c = λ h. alternation-done _ _ _ (c .before .before .node-at .ensures) _ _ _ (c .enum-told3 .given .1) h
 
--- src/lib.rt:281:1
+-- src/lib.rt:298:1
 body-same-length-3 : (t : ℕ) → body-lts.Need-same-length-3 (
   node-at-reads.Asked,
   node-at-reads.Learnt,
@@ -367,7 +367,7 @@ body-same-length-3 : (t : ℕ) → body-lts.Need-same-length-3 (
 ) (body-at t) body.Post
 body-same-length-3 t c = emitted-length _ _ _ _ _ (group-done _ _ _ (c .before .before .before .before .before .before .node-at .ensures) _ _ _ (c .before .before .before .before .enum-told4 .given .1) (c .before .before .before .before .before .before .before .before .before .pre .1) _ _ (c .before .before .emit .ensures))
 
--- src/lib.rt:281:1
+-- src/lib.rt:298:1
 body-returns-6 : (t : ℕ) → body-lts.Need-returns-6 (
   node-at-reads.Asked,
   node-at-reads.Learnt,
@@ -382,7 +382,7 @@ body-returns-6 : (t : ℕ) → body-lts.Need-returns-6 (
 ) (body-at t) body.Post
 body-returns-6 t c = λ h. group-done _ _ _ (c .before .before .before .before .before .before .node-at .ensures) _ _ _ (c .before .before .before .before .enum-told4 .given .1) h _ _ (c .before .before .emit .ensures)
 
--- src/lib.rt:240:9
+-- src/lib.rt:254:9
 branches-node-at-requires : (t : ℕ) → branches-lts.Need-node-at-requires (
   node-at-reads.Asked,
   node-at-reads.Learnt,
@@ -393,7 +393,18 @@ branches-node-at-requires : (t : ℕ) → branches-lts.Need-node-at-requires (
 ) (branches-at t) branches.Post
 branches-node-at-requires t c κs = branches-in _ _ _ _ _ (c .before .before .pre .1)
 
--- src/lib.rt:245:37
+-- src/lib.rt:259:9
+branches-returns : (t : ℕ) → branches-lts.Need-returns (
+  node-at-reads.Asked,
+  node-at-reads.Learnt,
+  emit-below t,
+  emit.Post,
+  branches-below t,
+  branches.Post,
+) (branches-at t) branches.Post
+branches-returns t c = λ h. branches-none _ _ _ (c .before .before .node-at .ensures) _ _ _ (c .if1 .taken) h
+
+-- src/lib.rt:262:37
 branches-enum-told : (t : ℕ) → branches-lts.Need-enum-told (
   node-at-reads.Asked,
   node-at-reads.Learnt,
@@ -404,7 +415,7 @@ branches-enum-told : (t : ℕ) → branches-lts.Need-enum-told (
 ) (branches-at t) branches.Post
 branches-enum-told t c = search needs
 
--- src/lib.rt:245:13
+-- src/lib.rt:262:13
 branches-emit-requires : (t : ℕ) → branches-lts.Need-emit-requires (
   node-at-reads.Asked,
   node-at-reads.Learnt,
@@ -413,9 +424,9 @@ branches-emit-requires : (t : ℕ) → branches-lts.Need-emit-requires (
   branches-below t,
   branches.Post,
 ) (branches-at t) branches.Post
-branches-emit-requires t c κs = branch-first _ _ _ (c .before .before .before .node-at .ensures) _ _ _ (c .before .enum-told .given .1) (c .before .before .before .before .before .before .pre .1) _ (c .before .before .before .before .before .before .pre .0)
+branches-emit-requires t c κs = branch-first _ _ _ (c .before .before .before .before .before .node-at .ensures) _ _ _ (c .before .enum-told .given .1) (c .before .before .before .before .before .before .before .before .pre .1) _ (c .before .before .before .before .before .before .before .before .pre .0)
 
--- src/lib.rt:246:9
+-- src/lib.rt:263:9
 branches-branches-requires : (t : ℕ) → branches-lts.Need-branches-requires (
   node-at-reads.Asked,
   node-at-reads.Learnt,
@@ -424,9 +435,9 @@ branches-branches-requires : (t : ℕ) → branches-lts.Need-branches-requires (
   branches-below t,
   branches.Post,
 ) (branches-at t) branches.Post
-branches-branches-requires t c κs = branch-second _ _ _ (c .before .before .before .before .before .before .before .node-at .ensures) _ _ _ (c .before .before .before .before .before .enum-told .given .1) (c .before .before .before .before .before .before .before .before .before .before .pre .1) _ _ (c .before .before .before .emit .ensures) _ (c .before .before .before .before .before .before .before .before .before .before .pre .0)
+branches-branches-requires t c κs = branch-second _ _ _ (c .before .before .before .before .before .before .before .before .before .node-at .ensures) _ _ _ (c .before .before .before .before .before .enum-told .given .1) (c .before .before .before .before .before .before .before .before .before .before .before .before .pre .1) _ _ (c .before .before .before .emit .ensures) _ (c .before .before .before .before .before .before .before .before .before .before .before .before .pre .0)
 
--- src/lib.rt:246:9
+-- src/lib.rt:263:9
 branches-same-length : (t : ℕ) → branches-lts.Need-same-length (
   node-at-reads.Asked,
   node-at-reads.Learnt,
@@ -435,42 +446,9 @@ branches-same-length : (t : ℕ) → branches-lts.Need-same-length (
   branches-below t,
   branches.Post,
 ) (branches-at t) branches.Post
-branches-same-length t c = emitted-length _ _ _ _ _ (branch-done _ _ _ (c .before .before .before .before .before .before .before .before .before .before .node-at .ensures) _ _ _ (c .before .before .before .before .before .before .before .before .enum-told .given .1) (c .before .before .before .before .before .before .before .before .before .before .before .before .before .pre .1) _ _ (c .before .before .before .before .before .before .emit .ensures) _ _ (c .before .before .branches .ensures))
+branches-same-length t c = emitted-length _ _ _ _ _ (branch-done _ _ _ (c .before .before .before .before .before .before .before .before .before .before .before .before .node-at .ensures) _ _ _ (c .before .before .before .before .before .before .before .before .enum-told .given .1) (c .before .before .before .before .before .before .before .before .before .before .before .before .before .before .before .pre .1) _ _ (c .before .before .before .before .before .before .emit .ensures) _ _ (c .before .before .branches .ensures))
 
--- src/lib.rt:246:9
-branches-returns : (t : ℕ) → branches-lts.Need-returns (
-  node-at-reads.Asked,
-  node-at-reads.Learnt,
-  emit-below t,
-  emit.Post,
-  branches-below t,
-  branches.Post,
-) (branches-at t) branches.Post
-branches-returns t c = λ h. branch-done _ _ _ (c .before .before .before .before .before .before .before .before .before .before .node-at .ensures) _ _ _ (c .before .before .before .before .before .before .before .before .enum-told .given .1) h _ _ (c .before .before .before .before .before .before .emit .ensures) _ _ (c .before .before .branches .ensures)
-
--- src/lib.rt:248:5
-branches-emit-requires-2 : (t : ℕ) → branches-lts.Need-emit-requires-2 (
-  node-at-reads.Asked,
-  node-at-reads.Learnt,
-  emit-below t,
-  emit.Post,
-  branches-below t,
-  branches.Post,
-) (branches-at t) branches.Post
-branches-emit-requires-2 t c κs = single-first _ _ _ (c .before .before .node-at .ensures) _ _ _ (not-alternation _ (c .before .match .keys2)) (c .before .before .before .before .before .pre .1) _ (c .before .before .before .before .before .pre .0)
-
--- src/lib.rt:236:1
-branches-same-length-2 : (t : ℕ) → branches-lts.Need-same-length-2 (
-  node-at-reads.Asked,
-  node-at-reads.Learnt,
-  emit-below t,
-  emit.Post,
-  branches-below t,
-  branches.Post,
-) (branches-at t) branches.Post
-branches-same-length-2 t c = emitted-length _ _ _ _ _ (single-done _ _ _ (c .before .before .before .before .before .node-at .ensures) _ _ _ (not-alternation _ (c .before .before .before .before .match .keys2)) (c .before .before .before .before .before .before .before .before .pre .1) _ _ (c .before .before .emit2 .ensures))
-
--- src/lib.rt:236:1
+-- src/lib.rt:263:9
 branches-returns-2 : (t : ℕ) → branches-lts.Need-returns-2 (
   node-at-reads.Asked,
   node-at-reads.Learnt,
@@ -479,22 +457,55 @@ branches-returns-2 : (t : ℕ) → branches-lts.Need-returns-2 (
   branches-below t,
   branches.Post,
 ) (branches-at t) branches.Post
-branches-returns-2 t c = λ h. single-done _ _ _ (c .before .before .before .before .before .node-at .ensures) _ _ _ (not-alternation _ (c .before .before .before .before .match .keys2)) h _ _ (c .before .before .emit2 .ensures)
+branches-returns-2 t c = λ h. branch-done _ _ _ (c .before .before .before .before .before .before .before .before .before .before .before .before .node-at .ensures) _ _ _ (c .before .before .before .before .before .before .before .before .enum-told .given .1) h _ _ (c .before .before .before .before .before .before .emit .ensures) _ _ (c .before .before .branches .ensures)
 
--- src/lib.rt:214:9
+-- src/lib.rt:265:5
+branches-emit-requires-2 : (t : ℕ) → branches-lts.Need-emit-requires-2 (
+  node-at-reads.Asked,
+  node-at-reads.Learnt,
+  emit-below t,
+  emit.Post,
+  branches-below t,
+  branches.Post,
+) (branches-at t) branches.Post
+branches-emit-requires-2 t c κs = single-first _ _ _ (c .before .before .before .before .node-at .ensures) _ _ _ (not-alternation _ (c .before .match .keys2)) (c .before .before .before .before .before .before .before .pre .1) _ (c .before .before .before .before .before .before .before .pre .0)
+
+-- src/lib.rt:250:1
+branches-same-length-2 : (t : ℕ) → branches-lts.Need-same-length-2 (
+  node-at-reads.Asked,
+  node-at-reads.Learnt,
+  emit-below t,
+  emit.Post,
+  branches-below t,
+  branches.Post,
+) (branches-at t) branches.Post
+branches-same-length-2 t c = emitted-length _ _ _ _ _ (single-done _ _ _ (c .before .before .before .before .before .before .before .node-at .ensures) _ _ _ (not-alternation _ (c .before .before .before .before .match .keys2)) (c .before .before .before .before .before .before .before .before .before .before .pre .1) _ _ (c .before .before .emit2 .ensures))
+
+-- src/lib.rt:250:1
+branches-returns-3 : (t : ℕ) → branches-lts.Need-returns-3 (
+  node-at-reads.Asked,
+  node-at-reads.Learnt,
+  emit-below t,
+  emit.Post,
+  branches-below t,
+  branches.Post,
+) (branches-at t) branches.Post
+branches-returns-3 t c = λ h. single-done _ _ _ (c .before .before .before .before .before .before .before .node-at .ensures) _ _ _ (not-alternation _ (c .before .before .before .before .match .keys2)) h _ _ (c .before .before .emit2 .ensures)
+
+-- src/lib.rt:221:9
 emit-node-at-requires : (t : ℕ) → emit-lts.Need-node-at-requires (
   node-at-reads.Asked,
   node-at-reads.Learnt,
-  places-at-reads.Asked,
-  places-at-reads.Learnt,
-  start-at-reads.Asked,
-  start-at-reads.Learnt,
-  emit-below t,
-  emit.Post,
   branch-fork-reads.Asked,
   branch-fork-reads.Learnt,
   branches-below t,
   branches.Post,
+  places-at-reads.Asked,
+  places-at-reads.Learnt,
+  emit-below t,
+  emit.Post,
+  start-at-reads.Asked,
+  start-at-reads.Learnt,
   body-size-reads.Asked,
   body-size-reads.Learnt,
   turns-behind-reads.Asked,
@@ -504,20 +515,20 @@ emit-node-at-requires : (t : ℕ) → emit-lts.Need-node-at-requires (
 ) (emit-at t) emit.Post
 emit-node-at-requires t c κs = emit-in _ _ _ _ _ (c .before .before .pre .1)
 
--- src/lib.rt:219:15
+-- src/lib.rt:226:15
 emit-add-end : (t : ℕ) → emit-lts.Need-add-end (
   node-at-reads.Asked,
   node-at-reads.Learnt,
-  places-at-reads.Asked,
-  places-at-reads.Learnt,
-  start-at-reads.Asked,
-  start-at-reads.Learnt,
-  emit-below t,
-  emit.Post,
   branch-fork-reads.Asked,
   branch-fork-reads.Learnt,
   branches-below t,
   branches.Post,
+  places-at-reads.Asked,
+  places-at-reads.Learnt,
+  emit-below t,
+  emit.Post,
+  start-at-reads.Asked,
+  start-at-reads.Learnt,
   body-size-reads.Asked,
   body-size-reads.Learnt,
   turns-behind-reads.Asked,
@@ -527,20 +538,20 @@ emit-add-end : (t : ℕ) → emit-lts.Need-add-end (
 ) (emit-at t) emit.Post
 emit-add-end t c = emit-end _ _ _ (c .before .node-at .ensures) _ _ _ (c .before .before .before .before .pre .1)
 
--- src/lib.rt:221:33
+-- src/lib.rt:228:43
 emit-enum-told : (t : ℕ) → emit-lts.Need-enum-told (
   node-at-reads.Asked,
   node-at-reads.Learnt,
-  places-at-reads.Asked,
-  places-at-reads.Learnt,
-  start-at-reads.Asked,
-  start-at-reads.Learnt,
-  emit-below t,
-  emit.Post,
   branch-fork-reads.Asked,
   branch-fork-reads.Learnt,
   branches-below t,
   branches.Post,
+  places-at-reads.Asked,
+  places-at-reads.Learnt,
+  emit-below t,
+  emit.Post,
+  start-at-reads.Asked,
+  start-at-reads.Learnt,
   body-size-reads.Asked,
   body-size-reads.Learnt,
   turns-behind-reads.Asked,
@@ -550,20 +561,20 @@ emit-enum-told : (t : ℕ) → emit-lts.Need-enum-told (
 ) (emit-at t) emit.Post
 emit-enum-told t c = search needs
 
--- src/lib.rt:221:33
-emit-places-at-requires : (t : ℕ) → emit-lts.Need-places-at-requires (
+-- src/lib.rt:228:13
+emit-branch-fork-requires : (t : ℕ) → emit-lts.Need-branch-fork-requires (
   node-at-reads.Asked,
   node-at-reads.Learnt,
-  places-at-reads.Asked,
-  places-at-reads.Learnt,
-  start-at-reads.Asked,
-  start-at-reads.Learnt,
-  emit-below t,
-  emit.Post,
   branch-fork-reads.Asked,
   branch-fork-reads.Learnt,
   branches-below t,
   branches.Post,
+  places-at-reads.Asked,
+  places-at-reads.Learnt,
+  emit-below t,
+  emit.Post,
+  start-at-reads.Asked,
+  start-at-reads.Learnt,
   body-size-reads.Asked,
   body-size-reads.Learnt,
   turns-behind-reads.Asked,
@@ -571,22 +582,22 @@ emit-places-at-requires : (t : ℕ) → emit-lts.Need-places-at-requires (
   rounds-below t,
   rounds.Post,
 ) (emit-at t) emit.Post
-emit-places-at-requires t c κs = seq-left-in _ _ _ (c .before .before .before .node-at .ensures) _ _ _ (c .enum-told .given .1) _ refl (c .before .before .before .before .before .before .pre .1)
+emit-branch-fork-requires t c κs = alt-forking _ _ _ (c .before .before .before .before .node-at .ensures) _ _ _ (c .before .enum-told .given .1) (c .before .before .before .before .before .before .before .pre .1)
 
--- src/lib.rt:221:29
-emit-add-start-at : (t : ℕ) → emit-lts.Need-add-start-at (
+-- src/lib.rt:229:9
+emit-branches-requires : (t : ℕ) → emit-lts.Need-branches-requires (
   node-at-reads.Asked,
   node-at-reads.Learnt,
-  places-at-reads.Asked,
-  places-at-reads.Learnt,
-  start-at-reads.Asked,
-  start-at-reads.Learnt,
-  emit-below t,
-  emit.Post,
   branch-fork-reads.Asked,
   branch-fork-reads.Learnt,
   branches-below t,
   branches.Post,
+  places-at-reads.Asked,
+  places-at-reads.Learnt,
+  emit-below t,
+  emit.Post,
+  start-at-reads.Asked,
+  start-at-reads.Learnt,
   body-size-reads.Asked,
   body-size-reads.Learnt,
   turns-behind-reads.Asked,
@@ -594,91 +605,22 @@ emit-add-start-at : (t : ℕ) → emit-lts.Need-add-start-at (
   rounds-below t,
   rounds.Post,
 ) (emit-at t) emit.Post
-emit-add-start-at t c = seq-mid _ _ _ (c .before .before .before .before .node-at .ensures) _ _ _ (c .before .enum-told .given .1) _ (c .places-at .ensures) (c .before .before .before .before .before .before .before .pre .1)
+emit-branches-requires t c κs = alt-inside _ _ _ (c .before .before .before .before .before .before .before .before .node-at .ensures) _ _ _ (c .before .before .before .before .before .enum-told .given .1) (c .before .before .before .before .before .before .before .before .before .before .before .pre .1) _ _ (c .before .before .before .branch-fork .ensures) _ (c .before .before .before .before .before .before .before .before .before .before .before .pre .0)
 
--- src/lib.rt:221:13
-emit-start-at-requires : (t : ℕ) → emit-lts.Need-start-at-requires (
-  node-at-reads.Asked,
-  node-at-reads.Learnt,
-  places-at-reads.Asked,
-  places-at-reads.Learnt,
-  start-at-reads.Asked,
-  start-at-reads.Learnt,
-  emit-below t,
-  emit.Post,
-  branch-fork-reads.Asked,
-  branch-fork-reads.Learnt,
-  branches-below t,
-  branches.Post,
-  body-size-reads.Asked,
-  body-size-reads.Learnt,
-  turns-behind-reads.Asked,
-  turns-behind-reads.Learnt,
-  rounds-below t,
-  rounds.Post,
-) (emit-at t) emit.Post
-emit-start-at-requires t c κs = search needs
-
--- src/lib.rt:222:13
-emit-emit-requires : (t : ℕ) → emit-lts.Need-emit-requires (
-  node-at-reads.Asked,
-  node-at-reads.Learnt,
-  places-at-reads.Asked,
-  places-at-reads.Learnt,
-  start-at-reads.Asked,
-  start-at-reads.Learnt,
-  emit-below t,
-  emit.Post,
-  branch-fork-reads.Asked,
-  branch-fork-reads.Learnt,
-  branches-below t,
-  branches.Post,
-  body-size-reads.Asked,
-  body-size-reads.Learnt,
-  turns-behind-reads.Asked,
-  turns-behind-reads.Learnt,
-  rounds-below t,
-  rounds.Post,
-) (emit-at t) emit.Post
-emit-emit-requires t c κs = seq-first _ _ _ (c .before .before .before .before .before .before .node-at .ensures) _ _ _ (c .before .before .before .enum-told .given .1) _ (c .before .before .places-at .ensures) _ (c .before .start-at .ensures) (c .before .before .before .before .before .before .before .before .before .pre .1) _ (c .before .before .before .before .before .before .before .before .before .pre .0)
-
--- src/lib.rt:223:9
-emit-emit-requires-2 : (t : ℕ) → emit-lts.Need-emit-requires-2 (
-  node-at-reads.Asked,
-  node-at-reads.Learnt,
-  places-at-reads.Asked,
-  places-at-reads.Learnt,
-  start-at-reads.Asked,
-  start-at-reads.Learnt,
-  emit-below t,
-  emit.Post,
-  branch-fork-reads.Asked,
-  branch-fork-reads.Learnt,
-  branches-below t,
-  branches.Post,
-  body-size-reads.Asked,
-  body-size-reads.Learnt,
-  turns-behind-reads.Asked,
-  turns-behind-reads.Learnt,
-  rounds-below t,
-  rounds.Post,
-) (emit-at t) emit.Post
-emit-emit-requires-2 t c κs = seq-second _ _ _ (c .before .before .before .before .before .before .before .before .before .before .node-at .ensures) _ _ _ (c .before .before .before .before .before .before .before .enum-told .given .1) _ (c .before .before .before .before .before .before .places-at .ensures) _ (c .before .before .before .before .before .start-at .ensures) (c .before .before .before .before .before .before .before .before .before .before .before .before .before .pre .1) _ _ (c .before .before .before .emit .ensures) _ (c .before .before .before .before .before .before .before .before .before .before .before .before .before .pre .0)
-
--- src/lib.rt:223:9
+-- src/lib.rt:229:9
 emit-same-length : (t : ℕ) → emit-lts.Need-same-length (
   node-at-reads.Asked,
   node-at-reads.Learnt,
-  places-at-reads.Asked,
-  places-at-reads.Learnt,
-  start-at-reads.Asked,
-  start-at-reads.Learnt,
-  emit-below t,
-  emit.Post,
   branch-fork-reads.Asked,
   branch-fork-reads.Learnt,
   branches-below t,
   branches.Post,
+  places-at-reads.Asked,
+  places-at-reads.Learnt,
+  emit-below t,
+  emit.Post,
+  start-at-reads.Asked,
+  start-at-reads.Learnt,
   body-size-reads.Asked,
   body-size-reads.Learnt,
   turns-behind-reads.Asked,
@@ -686,22 +628,22 @@ emit-same-length : (t : ℕ) → emit-lts.Need-same-length (
   rounds-below t,
   rounds.Post,
 ) (emit-at t) emit.Post
-emit-same-length t c = emitted-length _ _ _ _ _ (seq-done _ _ _ (c .before .before .before .before .before .before .before .before .before .before .before .before .before .node-at .ensures) _ _ _ (c .before .before .before .before .before .before .before .before .before .before .enum-told .given .1) _ (c .before .before .before .before .before .before .before .before .before .places-at .ensures) _ (c .before .before .before .before .before .before .before .before .start-at .ensures) (c .before .before .before .before .before .before .before .before .before .before .before .before .before .before .before .before .pre .1) _ _ (c .before .before .before .before .before .before .emit .ensures) _ _ (c .before .before .emit2 .ensures))
+emit-same-length t c = emitted-length _ _ _ _ _ (alt-done _ _ _ (c .before .before .before .before .before .before .before .before .before .before .before .node-at .ensures) _ _ _ (c .before .before .before .before .before .before .before .before .enum-told .given .1) (c .before .before .before .before .before .before .before .before .before .before .before .before .before .before .pre .1) _ _ (c .before .before .before .before .before .before .branch-fork .ensures) _ _ (c .before .before .branches .ensures))
 
--- src/lib.rt:223:9
+-- src/lib.rt:229:9
 emit-returns : (t : ℕ) → emit-lts.Need-returns (
   node-at-reads.Asked,
   node-at-reads.Learnt,
-  places-at-reads.Asked,
-  places-at-reads.Learnt,
-  start-at-reads.Asked,
-  start-at-reads.Learnt,
-  emit-below t,
-  emit.Post,
   branch-fork-reads.Asked,
   branch-fork-reads.Learnt,
   branches-below t,
   branches.Post,
+  places-at-reads.Asked,
+  places-at-reads.Learnt,
+  emit-below t,
+  emit.Post,
+  start-at-reads.Asked,
+  start-at-reads.Learnt,
   body-size-reads.Asked,
   body-size-reads.Learnt,
   turns-behind-reads.Asked,
@@ -709,22 +651,45 @@ emit-returns : (t : ℕ) → emit-lts.Need-returns (
   rounds-below t,
   rounds.Post,
 ) (emit-at t) emit.Post
-emit-returns t c = λ h. seq-done _ _ _ (c .before .before .before .before .before .before .before .before .before .before .before .before .before .node-at .ensures) _ _ _ (c .before .before .before .before .before .before .before .before .before .before .enum-told .given .1) _ (c .before .before .before .before .before .before .before .before .before .places-at .ensures) _ (c .before .before .before .before .before .before .before .before .start-at .ensures) h _ _ (c .before .before .before .before .before .before .emit .ensures) _ _ (c .before .before .emit2 .ensures)
+emit-returns t c = λ h. alt-done _ _ _ (c .before .before .before .before .before .before .before .before .before .before .before .node-at .ensures) _ _ _ (c .before .before .before .before .before .before .before .before .enum-told .given .1) h _ _ (c .before .before .before .before .before .before .branch-fork .ensures) _ _ (c .before .before .branches .ensures)
 
--- src/lib.rt:226:43
-emit-enum-told-2 : (t : ℕ) → emit-lts.Need-enum-told-2 (
+-- src/lib.rt:232:9
+emit-returns-2 : (t : ℕ) → emit-lts.Need-returns-2 (
   node-at-reads.Asked,
   node-at-reads.Learnt,
-  places-at-reads.Asked,
-  places-at-reads.Learnt,
-  start-at-reads.Asked,
-  start-at-reads.Learnt,
-  emit-below t,
-  emit.Post,
   branch-fork-reads.Asked,
   branch-fork-reads.Learnt,
   branches-below t,
   branches.Post,
+  places-at-reads.Asked,
+  places-at-reads.Learnt,
+  emit-below t,
+  emit.Post,
+  start-at-reads.Asked,
+  start-at-reads.Learnt,
+  body-size-reads.Asked,
+  body-size-reads.Learnt,
+  turns-behind-reads.Asked,
+  turns-behind-reads.Learnt,
+  rounds-below t,
+  rounds.Post,
+) (emit-at t) emit.Post
+emit-returns-2 t c = λ h. emit-none _ _ _ (c .before .before .before .node-at .ensures) _ _ _ (not-alternation _ (c .before .match .keys2)) (c .if1 .taken) h
+
+-- src/lib.rt:235:23
+emit-enum-told-2 : (t : ℕ) → emit-lts.Need-enum-told-2 (
+  node-at-reads.Asked,
+  node-at-reads.Learnt,
+  branch-fork-reads.Asked,
+  branch-fork-reads.Learnt,
+  branches-below t,
+  branches.Post,
+  places-at-reads.Asked,
+  places-at-reads.Learnt,
+  emit-below t,
+  emit.Post,
+  start-at-reads.Asked,
+  start-at-reads.Learnt,
   body-size-reads.Asked,
   body-size-reads.Learnt,
   turns-behind-reads.Asked,
@@ -734,20 +699,20 @@ emit-enum-told-2 : (t : ℕ) → emit-lts.Need-enum-told-2 (
 ) (emit-at t) emit.Post
 emit-enum-told-2 t c = search needs
 
--- src/lib.rt:226:13
-emit-branch-fork-requires : (t : ℕ) → emit-lts.Need-branch-fork-requires (
+-- src/lib.rt:235:23
+emit-places-at-requires : (t : ℕ) → emit-lts.Need-places-at-requires (
   node-at-reads.Asked,
   node-at-reads.Learnt,
-  places-at-reads.Asked,
-  places-at-reads.Learnt,
-  start-at-reads.Asked,
-  start-at-reads.Learnt,
-  emit-below t,
-  emit.Post,
   branch-fork-reads.Asked,
   branch-fork-reads.Learnt,
   branches-below t,
   branches.Post,
+  places-at-reads.Asked,
+  places-at-reads.Learnt,
+  emit-below t,
+  emit.Post,
+  start-at-reads.Asked,
+  start-at-reads.Learnt,
   body-size-reads.Asked,
   body-size-reads.Learnt,
   turns-behind-reads.Asked,
@@ -755,22 +720,22 @@ emit-branch-fork-requires : (t : ℕ) → emit-lts.Need-branch-fork-requires (
   rounds-below t,
   rounds.Post,
 ) (emit-at t) emit.Post
-emit-branch-fork-requires t c κs = alt-forking _ _ _ (c .before .before .before .before .before .node-at .ensures) _ _ _ (c .before .enum-told2 .given .1) (c .before .before .before .before .before .before .before .before .pre .1)
+emit-places-at-requires t c κs = seq-left-in _ _ _ (c .before .before .before .before .before .node-at .ensures) _ _ _ (c .enum-told2 .given .1) _ refl (c .before .before .before .before .before .before .before .before .pre .1)
 
--- src/lib.rt:227:9
-emit-branches-requires : (t : ℕ) → emit-lts.Need-branches-requires (
+-- src/lib.rt:235:19
+emit-add-mid : (t : ℕ) → emit-lts.Need-add-mid (
   node-at-reads.Asked,
   node-at-reads.Learnt,
-  places-at-reads.Asked,
-  places-at-reads.Learnt,
-  start-at-reads.Asked,
-  start-at-reads.Learnt,
-  emit-below t,
-  emit.Post,
   branch-fork-reads.Asked,
   branch-fork-reads.Learnt,
   branches-below t,
   branches.Post,
+  places-at-reads.Asked,
+  places-at-reads.Learnt,
+  emit-below t,
+  emit.Post,
+  start-at-reads.Asked,
+  start-at-reads.Learnt,
   body-size-reads.Asked,
   body-size-reads.Learnt,
   turns-behind-reads.Asked,
@@ -778,22 +743,45 @@ emit-branches-requires : (t : ℕ) → emit-lts.Need-branches-requires (
   rounds-below t,
   rounds.Post,
 ) (emit-at t) emit.Post
-emit-branches-requires t c κs = alt-inside _ _ _ (c .before .before .before .before .before .before .before .before .before .node-at .ensures) _ _ _ (c .before .before .before .before .before .enum-told2 .given .1) (c .before .before .before .before .before .before .before .before .before .before .before .before .pre .1) _ _ (c .before .before .before .branch-fork .ensures) _ (c .before .before .before .before .before .before .before .before .before .before .before .before .pre .0)
+emit-add-mid t c = seq-mid _ _ _ (c .before .before .before .before .before .before .node-at .ensures) _ _ _ (c .before .enum-told2 .given .1) _ (c .places-at .ensures) (c .before .before .before .before .before .before .before .before .before .pre .1)
 
--- src/lib.rt:227:9
+-- src/lib.rt:237:13
+emit-emit-requires : (t : ℕ) → emit-lts.Need-emit-requires (
+  node-at-reads.Asked,
+  node-at-reads.Learnt,
+  branch-fork-reads.Asked,
+  branch-fork-reads.Learnt,
+  branches-below t,
+  branches.Post,
+  places-at-reads.Asked,
+  places-at-reads.Learnt,
+  emit-below t,
+  emit.Post,
+  start-at-reads.Asked,
+  start-at-reads.Learnt,
+  body-size-reads.Asked,
+  body-size-reads.Learnt,
+  turns-behind-reads.Asked,
+  turns-behind-reads.Learnt,
+  rounds-below t,
+  rounds.Post,
+) (emit-at t) emit.Post
+emit-emit-requires t c κs = seq-skip _ _ _ (c .before .before .before .before .before .before .before .before .node-at .ensures) _ _ _ (c .before .before .before .enum-told2 .given .1) _ (c .before .before .places-at .ensures) (c .before .if2 .taken) (c .before .before .before .before .before .before .before .before .before .before .before .pre .1) _ (c .before .before .before .before .before .before .before .before .before .before .before .pre .0)
+
+-- src/lib.rt:237:13
 emit-same-length-2 : (t : ℕ) → emit-lts.Need-same-length-2 (
   node-at-reads.Asked,
   node-at-reads.Learnt,
-  places-at-reads.Asked,
-  places-at-reads.Learnt,
-  start-at-reads.Asked,
-  start-at-reads.Learnt,
-  emit-below t,
-  emit.Post,
   branch-fork-reads.Asked,
   branch-fork-reads.Learnt,
   branches-below t,
   branches.Post,
+  places-at-reads.Asked,
+  places-at-reads.Learnt,
+  emit-below t,
+  emit.Post,
+  start-at-reads.Asked,
+  start-at-reads.Learnt,
   body-size-reads.Asked,
   body-size-reads.Learnt,
   turns-behind-reads.Asked,
@@ -801,137 +789,22 @@ emit-same-length-2 : (t : ℕ) → emit-lts.Need-same-length-2 (
   rounds-below t,
   rounds.Post,
 ) (emit-at t) emit.Post
-emit-same-length-2 t c = emitted-length _ _ _ _ _ (alt-done _ _ _ (c .before .before .before .before .before .before .before .before .before .before .before .before .node-at .ensures) _ _ _ (c .before .before .before .before .before .before .before .before .enum-told2 .given .1) (c .before .before .before .before .before .before .before .before .before .before .before .before .before .before .before .pre .1) _ _ (c .before .before .before .before .before .before .branch-fork .ensures) _ _ (c .before .before .branches .ensures))
+emit-same-length-2 t c = emitted-length _ _ _ _ _ (seq-skipped _ _ _ (c .before .before .before .before .before .before .before .before .before .before .before .node-at .ensures) _ _ _ (c .before .before .before .before .before .before .enum-told2 .given .1) _ (c .before .before .before .before .before .places-at .ensures) (c .before .before .before .before .if2 .taken) (c .before .before .before .before .before .before .before .before .before .before .before .before .before .before .pre .1) _ _ (c .before .before .emit .ensures))
 
--- src/lib.rt:227:9
-emit-returns-2 : (t : ℕ) → emit-lts.Need-returns-2 (
-  node-at-reads.Asked,
-  node-at-reads.Learnt,
-  places-at-reads.Asked,
-  places-at-reads.Learnt,
-  start-at-reads.Asked,
-  start-at-reads.Learnt,
-  emit-below t,
-  emit.Post,
-  branch-fork-reads.Asked,
-  branch-fork-reads.Learnt,
-  branches-below t,
-  branches.Post,
-  body-size-reads.Asked,
-  body-size-reads.Learnt,
-  turns-behind-reads.Asked,
-  turns-behind-reads.Learnt,
-  rounds-below t,
-  rounds.Post,
-) (emit-at t) emit.Post
-emit-returns-2 t c = λ h. alt-done _ _ _ (c .before .before .before .before .before .before .before .before .before .before .before .before .node-at .ensures) _ _ _ (c .before .before .before .before .before .before .before .before .enum-told2 .given .1) h _ _ (c .before .before .before .before .before .before .branch-fork .ensures) _ _ (c .before .before .branches .ensures)
-
--- src/lib.rt:229:9
-emit-body-size-requires : (t : ℕ) → emit-lts.Need-body-size-requires (
-  node-at-reads.Asked,
-  node-at-reads.Learnt,
-  places-at-reads.Asked,
-  places-at-reads.Learnt,
-  start-at-reads.Asked,
-  start-at-reads.Learnt,
-  emit-below t,
-  emit.Post,
-  branch-fork-reads.Asked,
-  branch-fork-reads.Learnt,
-  branches-below t,
-  branches.Post,
-  body-size-reads.Asked,
-  body-size-reads.Learnt,
-  turns-behind-reads.Asked,
-  turns-behind-reads.Learnt,
-  rounds-below t,
-  rounds.Post,
-) (emit-at t) emit.Post
-emit-body-size-requires t c κs = emit-node _ _ _ (c .before .before .before .node-at .ensures) _ _ _ (not-sequence _ (c .before .match .keys2)) (not-alternation _ (c .match2 .keys2)) (c .before .before .before .before .before .before .pre .1)
-
--- src/lib.rt:231:9
-emit-turns-behind-requires : (t : ℕ) → emit-lts.Need-turns-behind-requires (
-  node-at-reads.Asked,
-  node-at-reads.Learnt,
-  places-at-reads.Asked,
-  places-at-reads.Learnt,
-  start-at-reads.Asked,
-  start-at-reads.Learnt,
-  emit-below t,
-  emit.Post,
-  branch-fork-reads.Asked,
-  branch-fork-reads.Learnt,
-  branches-below t,
-  branches.Post,
-  body-size-reads.Asked,
-  body-size-reads.Learnt,
-  turns-behind-reads.Asked,
-  turns-behind-reads.Learnt,
-  rounds-below t,
-  rounds.Post,
-) (emit-at t) emit.Post
-emit-turns-behind-requires t c κs = turn-order _ _ _ (c .before .before .before .before .node-at .ensures) _ _ _ (not-sequence _ (c .before .before .match .keys2)) (not-alternation _ (c .before .match2 .keys2)) (c .before .before .before .before .before .before .before .pre .1)
-
--- src/lib.rt:232:5
-emit-rounds-requires : (t : ℕ) → emit-lts.Need-rounds-requires (
-  node-at-reads.Asked,
-  node-at-reads.Learnt,
-  places-at-reads.Asked,
-  places-at-reads.Learnt,
-  start-at-reads.Asked,
-  start-at-reads.Learnt,
-  emit-below t,
-  emit.Post,
-  branch-fork-reads.Asked,
-  branch-fork-reads.Learnt,
-  branches-below t,
-  branches.Post,
-  body-size-reads.Asked,
-  body-size-reads.Learnt,
-  turns-behind-reads.Asked,
-  turns-behind-reads.Learnt,
-  rounds-below t,
-  rounds.Post,
-) (emit-at t) emit.Post
-emit-rounds-requires t c κs = turn-first _ _ _ (c .before .before .before .before .before .before .node-at .ensures) _ _ _ (not-sequence _ (c .before .before .before .before .match .keys2)) (not-alternation _ (c .before .before .before .match2 .keys2)) _ (c .before .before .body-size .ensures) _ (c .before .turns-behind .ensures) (c .before .before .before .before .before .before .before .before .before .pre .1) _ (c .before .before .before .before .before .before .before .before .before .pre .0)
-
--- src/lib.rt:210:1
-emit-same-length-3 : (t : ℕ) → emit-lts.Need-same-length-3 (
-  node-at-reads.Asked,
-  node-at-reads.Learnt,
-  places-at-reads.Asked,
-  places-at-reads.Learnt,
-  start-at-reads.Asked,
-  start-at-reads.Learnt,
-  emit-below t,
-  emit.Post,
-  branch-fork-reads.Asked,
-  branch-fork-reads.Learnt,
-  branches-below t,
-  branches.Post,
-  body-size-reads.Asked,
-  body-size-reads.Learnt,
-  turns-behind-reads.Asked,
-  turns-behind-reads.Learnt,
-  rounds-below t,
-  rounds.Post,
-) (emit-at t) emit.Post
-emit-same-length-3 t c = emitted-length _ _ _ _ _ (turn-done _ _ _ (c .before .before .before .before .before .before .before .before .before .node-at .ensures) _ _ _ (not-sequence _ (c .before .before .before .before .before .before .before .match .keys2)) (not-alternation _ (c .before .before .before .before .before .before .match2 .keys2)) _ (c .before .before .before .before .before .body-size .ensures) _ (c .before .before .before .before .turns-behind .ensures) (c .before .before .before .before .before .before .before .before .before .before .before .before .pre .1) _ _ (c .before .before .rounds .ensures))
-
--- src/lib.rt:210:1
+-- src/lib.rt:237:13
 emit-returns-3 : (t : ℕ) → emit-lts.Need-returns-3 (
   node-at-reads.Asked,
   node-at-reads.Learnt,
-  places-at-reads.Asked,
-  places-at-reads.Learnt,
-  start-at-reads.Asked,
-  start-at-reads.Learnt,
-  emit-below t,
-  emit.Post,
   branch-fork-reads.Asked,
   branch-fork-reads.Learnt,
   branches-below t,
   branches.Post,
+  places-at-reads.Asked,
+  places-at-reads.Learnt,
+  emit-below t,
+  emit.Post,
+  start-at-reads.Asked,
+  start-at-reads.Learnt,
   body-size-reads.Asked,
   body-size-reads.Learnt,
   turns-behind-reads.Asked,
@@ -939,9 +812,239 @@ emit-returns-3 : (t : ℕ) → emit-lts.Need-returns-3 (
   rounds-below t,
   rounds.Post,
 ) (emit-at t) emit.Post
-emit-returns-3 t c = λ h. turn-done _ _ _ (c .before .before .before .before .before .before .before .before .before .node-at .ensures) _ _ _ (not-sequence _ (c .before .before .before .before .before .before .before .match .keys2)) (not-alternation _ (c .before .before .before .before .before .before .match2 .keys2)) _ (c .before .before .before .before .before .body-size .ensures) _ (c .before .before .before .before .turns-behind .ensures) h _ _ (c .before .before .rounds .ensures)
+emit-returns-3 t c = λ h. seq-skipped _ _ _ (c .before .before .before .before .before .before .before .before .before .before .before .node-at .ensures) _ _ _ (c .before .before .before .before .before .before .enum-told2 .given .1) _ (c .before .before .before .before .before .places-at .ensures) (c .before .before .before .before .if2 .taken) h _ _ (c .before .before .emit .ensures)
 
--- src/lib.rt:259:29
+-- src/lib.rt:239:13
+emit-start-at-requires : (t : ℕ) → emit-lts.Need-start-at-requires (
+  node-at-reads.Asked,
+  node-at-reads.Learnt,
+  branch-fork-reads.Asked,
+  branch-fork-reads.Learnt,
+  branches-below t,
+  branches.Post,
+  places-at-reads.Asked,
+  places-at-reads.Learnt,
+  emit-below t,
+  emit.Post,
+  start-at-reads.Asked,
+  start-at-reads.Learnt,
+  body-size-reads.Asked,
+  body-size-reads.Learnt,
+  turns-behind-reads.Asked,
+  turns-behind-reads.Learnt,
+  rounds-below t,
+  rounds.Post,
+) (emit-at t) emit.Post
+emit-start-at-requires t c κs = search needs
+
+-- src/lib.rt:240:13
+emit-emit-requires-2 : (t : ℕ) → emit-lts.Need-emit-requires-2 (
+  node-at-reads.Asked,
+  node-at-reads.Learnt,
+  branch-fork-reads.Asked,
+  branch-fork-reads.Learnt,
+  branches-below t,
+  branches.Post,
+  places-at-reads.Asked,
+  places-at-reads.Learnt,
+  emit-below t,
+  emit.Post,
+  start-at-reads.Asked,
+  start-at-reads.Learnt,
+  body-size-reads.Asked,
+  body-size-reads.Learnt,
+  turns-behind-reads.Asked,
+  turns-behind-reads.Learnt,
+  rounds-below t,
+  rounds.Post,
+) (emit-at t) emit.Post
+emit-emit-requires-2 t c κs = seq-first _ _ _ (c .before .before .before .before .before .before .before .before .before .node-at .ensures) _ _ _ (c .before .before .before .before .enum-told2 .given .1) _ (c .before .before .before .places-at .ensures) _ (c .before .start-at .ensures) (c .before .before .before .before .before .before .before .before .before .before .before .before .pre .1) _ (c .before .before .before .before .before .before .before .before .before .before .before .before .pre .0)
+
+-- src/lib.rt:241:9
+emit-emit-requires-3 : (t : ℕ) → emit-lts.Need-emit-requires-3 (
+  node-at-reads.Asked,
+  node-at-reads.Learnt,
+  branch-fork-reads.Asked,
+  branch-fork-reads.Learnt,
+  branches-below t,
+  branches.Post,
+  places-at-reads.Asked,
+  places-at-reads.Learnt,
+  emit-below t,
+  emit.Post,
+  start-at-reads.Asked,
+  start-at-reads.Learnt,
+  body-size-reads.Asked,
+  body-size-reads.Learnt,
+  turns-behind-reads.Asked,
+  turns-behind-reads.Learnt,
+  rounds-below t,
+  rounds.Post,
+) (emit-at t) emit.Post
+emit-emit-requires-3 t c κs = seq-second _ _ _ (c .before .before .before .before .before .before .before .before .before .before .before .before .before .node-at .ensures) _ _ _ (c .before .before .before .before .before .before .before .before .enum-told2 .given .1) _ (c .before .before .before .before .before .before .before .places-at .ensures) _ (c .before .before .before .before .before .start-at .ensures) (c .before .before .before .before .before .before .before .before .before .before .before .before .before .before .before .before .pre .1) _ _ (c .before .before .before .emit2 .ensures) _ (c .before .before .before .before .before .before .before .before .before .before .before .before .before .before .before .before .pre .0)
+
+-- src/lib.rt:241:9
+emit-same-length-3 : (t : ℕ) → emit-lts.Need-same-length-3 (
+  node-at-reads.Asked,
+  node-at-reads.Learnt,
+  branch-fork-reads.Asked,
+  branch-fork-reads.Learnt,
+  branches-below t,
+  branches.Post,
+  places-at-reads.Asked,
+  places-at-reads.Learnt,
+  emit-below t,
+  emit.Post,
+  start-at-reads.Asked,
+  start-at-reads.Learnt,
+  body-size-reads.Asked,
+  body-size-reads.Learnt,
+  turns-behind-reads.Asked,
+  turns-behind-reads.Learnt,
+  rounds-below t,
+  rounds.Post,
+) (emit-at t) emit.Post
+emit-same-length-3 t c = emitted-length _ _ _ _ _ (seq-done _ _ _ (c .before .before .before .before .before .before .before .before .before .before .before .before .before .before .before .before .node-at .ensures) _ _ _ (c .before .before .before .before .before .before .before .before .before .before .before .enum-told2 .given .1) _ (c .before .before .before .before .before .before .before .before .before .before .places-at .ensures) _ (c .before .before .before .before .before .before .before .before .start-at .ensures) (c .before .before .before .before .before .before .before .before .before .before .before .before .before .before .before .before .before .before .before .pre .1) _ _ (c .before .before .before .before .before .before .emit2 .ensures) _ _ (c .before .before .emit3 .ensures))
+
+-- src/lib.rt:241:9
+emit-returns-4 : (t : ℕ) → emit-lts.Need-returns-4 (
+  node-at-reads.Asked,
+  node-at-reads.Learnt,
+  branch-fork-reads.Asked,
+  branch-fork-reads.Learnt,
+  branches-below t,
+  branches.Post,
+  places-at-reads.Asked,
+  places-at-reads.Learnt,
+  emit-below t,
+  emit.Post,
+  start-at-reads.Asked,
+  start-at-reads.Learnt,
+  body-size-reads.Asked,
+  body-size-reads.Learnt,
+  turns-behind-reads.Asked,
+  turns-behind-reads.Learnt,
+  rounds-below t,
+  rounds.Post,
+) (emit-at t) emit.Post
+emit-returns-4 t c = λ h. seq-done _ _ _ (c .before .before .before .before .before .before .before .before .before .before .before .before .before .before .before .before .node-at .ensures) _ _ _ (c .before .before .before .before .before .before .before .before .before .before .before .enum-told2 .given .1) _ (c .before .before .before .before .before .before .before .before .before .before .places-at .ensures) _ (c .before .before .before .before .before .before .before .before .start-at .ensures) h _ _ (c .before .before .before .before .before .before .emit2 .ensures) _ _ (c .before .before .emit3 .ensures)
+
+-- src/lib.rt:243:9
+emit-body-size-requires : (t : ℕ) → emit-lts.Need-body-size-requires (
+  node-at-reads.Asked,
+  node-at-reads.Learnt,
+  branch-fork-reads.Asked,
+  branch-fork-reads.Learnt,
+  branches-below t,
+  branches.Post,
+  places-at-reads.Asked,
+  places-at-reads.Learnt,
+  emit-below t,
+  emit.Post,
+  start-at-reads.Asked,
+  start-at-reads.Learnt,
+  body-size-reads.Asked,
+  body-size-reads.Learnt,
+  turns-behind-reads.Asked,
+  turns-behind-reads.Learnt,
+  rounds-below t,
+  rounds.Post,
+) (emit-at t) emit.Post
+emit-body-size-requires t c κs = emit-node _ _ _ (c .before .before .before .before .node-at .ensures) _ _ _ (not-sequence _ (c .match2 .keys2)) (not-alternation _ (c .before .before .match .keys2)) (c .before .before .before .before .before .before .before .pre .1)
+
+-- src/lib.rt:245:9
+emit-turns-behind-requires : (t : ℕ) → emit-lts.Need-turns-behind-requires (
+  node-at-reads.Asked,
+  node-at-reads.Learnt,
+  branch-fork-reads.Asked,
+  branch-fork-reads.Learnt,
+  branches-below t,
+  branches.Post,
+  places-at-reads.Asked,
+  places-at-reads.Learnt,
+  emit-below t,
+  emit.Post,
+  start-at-reads.Asked,
+  start-at-reads.Learnt,
+  body-size-reads.Asked,
+  body-size-reads.Learnt,
+  turns-behind-reads.Asked,
+  turns-behind-reads.Learnt,
+  rounds-below t,
+  rounds.Post,
+) (emit-at t) emit.Post
+emit-turns-behind-requires t c κs = turn-order _ _ _ (c .before .before .before .before .before .node-at .ensures) _ _ _ (not-sequence _ (c .before .match2 .keys2)) (not-alternation _ (c .before .before .before .match .keys2)) (c .before .before .before .before .before .before .before .before .pre .1)
+
+-- src/lib.rt:246:5
+emit-rounds-requires : (t : ℕ) → emit-lts.Need-rounds-requires (
+  node-at-reads.Asked,
+  node-at-reads.Learnt,
+  branch-fork-reads.Asked,
+  branch-fork-reads.Learnt,
+  branches-below t,
+  branches.Post,
+  places-at-reads.Asked,
+  places-at-reads.Learnt,
+  emit-below t,
+  emit.Post,
+  start-at-reads.Asked,
+  start-at-reads.Learnt,
+  body-size-reads.Asked,
+  body-size-reads.Learnt,
+  turns-behind-reads.Asked,
+  turns-behind-reads.Learnt,
+  rounds-below t,
+  rounds.Post,
+) (emit-at t) emit.Post
+emit-rounds-requires t c κs = turn-first _ _ _ (c .before .before .before .before .before .before .before .node-at .ensures) _ _ _ (not-sequence _ (c .before .before .before .match2 .keys2)) (not-alternation _ (c .before .before .before .before .before .match .keys2)) _ (c .before .before .body-size .ensures) _ (c .before .turns-behind .ensures) (c .before .before .before .before .before .before .before .before .before .before .pre .1) _ (c .before .before .before .before .before .before .before .before .before .before .pre .0)
+
+-- src/lib.rt:217:1
+emit-same-length-4 : (t : ℕ) → emit-lts.Need-same-length-4 (
+  node-at-reads.Asked,
+  node-at-reads.Learnt,
+  branch-fork-reads.Asked,
+  branch-fork-reads.Learnt,
+  branches-below t,
+  branches.Post,
+  places-at-reads.Asked,
+  places-at-reads.Learnt,
+  emit-below t,
+  emit.Post,
+  start-at-reads.Asked,
+  start-at-reads.Learnt,
+  body-size-reads.Asked,
+  body-size-reads.Learnt,
+  turns-behind-reads.Asked,
+  turns-behind-reads.Learnt,
+  rounds-below t,
+  rounds.Post,
+) (emit-at t) emit.Post
+emit-same-length-4 t c = emitted-length _ _ _ _ _ (turn-done _ _ _ (c .before .before .before .before .before .before .before .before .before .before .node-at .ensures) _ _ _ (not-sequence _ (c .before .before .before .before .before .before .match2 .keys2)) (not-alternation _ (c .before .before .before .before .before .before .before .before .match .keys2)) _ (c .before .before .before .before .before .body-size .ensures) _ (c .before .before .before .before .turns-behind .ensures) (c .before .before .before .before .before .before .before .before .before .before .before .before .before .pre .1) _ _ (c .before .before .rounds .ensures))
+
+-- src/lib.rt:217:1
+emit-returns-5 : (t : ℕ) → emit-lts.Need-returns-5 (
+  node-at-reads.Asked,
+  node-at-reads.Learnt,
+  branch-fork-reads.Asked,
+  branch-fork-reads.Learnt,
+  branches-below t,
+  branches.Post,
+  places-at-reads.Asked,
+  places-at-reads.Learnt,
+  emit-below t,
+  emit.Post,
+  start-at-reads.Asked,
+  start-at-reads.Learnt,
+  body-size-reads.Asked,
+  body-size-reads.Learnt,
+  turns-behind-reads.Asked,
+  turns-behind-reads.Learnt,
+  rounds-below t,
+  rounds.Post,
+) (emit-at t) emit.Post
+emit-returns-5 t c = λ h. turn-done _ _ _ (c .before .before .before .before .before .before .before .before .before .before .node-at .ensures) _ _ _ (not-sequence _ (c .before .before .before .before .before .before .match2 .keys2)) (not-alternation _ (c .before .before .before .before .before .before .before .before .match .keys2)) _ (c .before .before .before .before .before .body-size .ensures) _ (c .before .before .before .before .turns-behind .ensures) h _ _ (c .before .before .rounds .ensures)
+
+-- src/lib.rt:276:29
 rounds-add-start-at : (t : ℕ) → rounds-lts.Need-add-start-at (
   start-at-reads.Asked,
   start-at-reads.Learnt,
@@ -956,7 +1059,7 @@ rounds-add-start-at : (t : ℕ) → rounds-lts.Need-add-start-at (
 ) (rounds-at t) rounds.Post
 rounds-add-start-at t c = copy-fits _ _ _ _ _ _ _ _ _ (c .if1 .taken) (c .before .before .before .pre .1)
 
--- src/lib.rt:259:13
+-- src/lib.rt:276:13
 rounds-start-at-requires : (t : ℕ) → rounds-lts.Need-start-at-requires (
   start-at-reads.Asked,
   start-at-reads.Learnt,
@@ -971,7 +1074,7 @@ rounds-start-at-requires : (t : ℕ) → rounds-lts.Need-start-at-requires (
 ) (rounds-at t) rounds.Post
 rounds-start-at-requires t c κs = search needs
 
--- src/lib.rt:260:13
+-- src/lib.rt:277:13
 rounds-body-requires : (t : ℕ) → rounds-lts.Need-body-requires (
   start-at-reads.Asked,
   start-at-reads.Learnt,
@@ -986,7 +1089,7 @@ rounds-body-requires : (t : ℕ) → rounds-lts.Need-body-requires (
 ) (rounds-at t) rounds.Post
 rounds-body-requires t c κs = copy-first _ _ _ _ _ _ _ _ _ (c .before .before .if1 .taken) _ (c .before .start-at .ensures) (c .before .before .before .before .before .pre .1) _ (c .before .before .before .before .before .pre .0)
 
--- src/lib.rt:261:35
+-- src/lib.rt:278:35
 rounds-sub-rounds : (t : ℕ) → rounds-lts.Need-sub-rounds (
   start-at-reads.Asked,
   start-at-reads.Learnt,
@@ -1001,7 +1104,7 @@ rounds-sub-rounds : (t : ℕ) → rounds-lts.Need-sub-rounds (
 ) (rounds-at t) rounds.Post
 rounds-sub-rounds t c = copy-less _ _ _ _ _ _ _ _ _ (c .before .before .before .before .before .if1 .taken) (c .before .before .before .before .before .before .before .before .pre .1)
 
--- src/lib.rt:261:9
+-- src/lib.rt:278:9
 rounds-rounds-requires : (t : ℕ) → rounds-lts.Need-rounds-requires (
   start-at-reads.Asked,
   start-at-reads.Learnt,
@@ -1016,7 +1119,7 @@ rounds-rounds-requires : (t : ℕ) → rounds-lts.Need-rounds-requires (
 ) (rounds-at t) rounds.Post
 rounds-rounds-requires t c κs = copy-again _ _ _ _ _ _ _ _ _ (c .before .before .before .before .before .before .if1 .taken) _ (c .before .before .before .before .before .start-at .ensures) (c .before .before .before .before .before .before .before .before .before .pre .1) _ _ (c .before .before .before .body .ensures) _ (c .before .before .before .before .before .before .before .before .before .pre .0)
 
--- src/lib.rt:261:9
+-- src/lib.rt:278:9
 rounds-same-length : (t : ℕ) → rounds-lts.Need-same-length (
   start-at-reads.Asked,
   start-at-reads.Learnt,
@@ -1031,7 +1134,7 @@ rounds-same-length : (t : ℕ) → rounds-lts.Need-same-length (
 ) (rounds-at t) rounds.Post
 rounds-same-length t c = emitted-length _ _ _ _ _ (copy-done _ _ _ _ _ _ _ _ _ (c .before .before .before .before .before .before .before .before .before .if1 .taken) _ (c .before .before .before .before .before .before .before .before .start-at .ensures) (c .before .before .before .before .before .before .before .before .before .before .before .before .pre .1) _ _ (c .before .before .before .before .before .before .body .ensures) _ _ (c .before .before .rounds .ensures))
 
--- src/lib.rt:261:9
+-- src/lib.rt:278:9
 rounds-returns : (t : ℕ) → rounds-lts.Need-returns (
   start-at-reads.Asked,
   start-at-reads.Learnt,
@@ -1046,7 +1149,7 @@ rounds-returns : (t : ℕ) → rounds-lts.Need-returns (
 ) (rounds-at t) rounds.Post
 rounds-returns t c = λ h. copy-done _ _ _ _ _ _ _ _ _ (c .before .before .before .before .before .before .before .before .before .if1 .taken) _ (c .before .before .before .before .before .before .before .before .start-at .ensures) h _ _ (c .before .before .before .before .before .before .body .ensures) _ _ (c .before .before .rounds .ensures)
 
--- src/lib.rt:264:9
+-- src/lib.rt:281:9
 rounds-returns-2 : (t : ℕ) → rounds-lts.Need-returns-2 (
   start-at-reads.Asked,
   start-at-reads.Learnt,
@@ -1061,7 +1164,7 @@ rounds-returns-2 : (t : ℕ) → rounds-lts.Need-returns-2 (
 ) (rounds-at t) rounds.Post
 rounds-returns-2 t c = λ h. none-done _ _ _ _ _ _ _ _ _ (c .before .if1 .left) (c .if2 .taken) h
 
--- src/lib.rt:266:9
+-- src/lib.rt:283:9
 rounds-node-at-requires : (t : ℕ) → rounds-lts.Need-node-at-requires (
   start-at-reads.Asked,
   start-at-reads.Learnt,
@@ -1076,7 +1179,7 @@ rounds-node-at-requires : (t : ℕ) → rounds-lts.Need-node-at-requires (
 ) (rounds-at t) rounds.Post
 rounds-node-at-requires t c κs = round-in _ _ _ _ _ _ _ _ _ (c .before .before .before .before .pre .1)
 
--- src/lib.rt:269:29
+-- src/lib.rt:286:29
 rounds-add-start-at-2 : (t : ℕ) → rounds-lts.Need-add-start-at-2 (
   start-at-reads.Asked,
   start-at-reads.Learnt,
@@ -1091,7 +1194,7 @@ rounds-add-start-at-2 : (t : ℕ) → rounds-lts.Need-add-start-at-2 (
 ) (rounds-at t) rounds.Post
 rounds-add-start-at-2 t c = star-fits _ _ _ _ _ _ _ _ _ (c .before .before .before .if1 .left) (c .if3 .taken) _ (c .before .node-at .ensures) (c .before .before .before .before .before .before .pre .1)
 
--- src/lib.rt:269:13
+-- src/lib.rt:286:13
 rounds-start-at-requires-2 : (t : ℕ) → rounds-lts.Need-start-at-requires-2 (
   start-at-reads.Asked,
   start-at-reads.Learnt,
@@ -1106,7 +1209,7 @@ rounds-start-at-requires-2 : (t : ℕ) → rounds-lts.Need-start-at-requires-2 (
 ) (rounds-at t) rounds.Post
 rounds-start-at-requires-2 t c κs = search needs
 
--- src/lib.rt:270:13
+-- src/lib.rt:287:13
 rounds-fork-requires : (t : ℕ) → rounds-lts.Need-fork-requires (
   start-at-reads.Asked,
   start-at-reads.Learnt,
@@ -1121,7 +1224,7 @@ rounds-fork-requires : (t : ℕ) → rounds-lts.Need-fork-requires (
 ) (rounds-at t) rounds.Post
 rounds-fork-requires t c κs = star-choose _ _ _ _ _ _ _ _ _ (c .before .before .before .before .before .if1 .left) (c .before .before .if3 .taken) _ (c .before .before .before .node-at .ensures) _ (c .before .start-at2 .ensures) (c .before .before .before .before .before .before .before .before .pre .1)
 
--- src/lib.rt:271:9
+-- src/lib.rt:288:9
 rounds-body-requires-2 : (t : ℕ) → rounds-lts.Need-body-requires-2 (
   start-at-reads.Asked,
   start-at-reads.Learnt,
@@ -1136,7 +1239,7 @@ rounds-body-requires-2 : (t : ℕ) → rounds-lts.Need-body-requires-2 (
 ) (rounds-at t) rounds.Post
 rounds-body-requires-2 t c κs = star-body _ _ _ _ _ _ _ _ _ (c .before .before .before .before .before .before .before .before .before .if1 .left) (c .before .before .before .before .before .before .if3 .taken) _ (c .before .before .before .before .before .before .before .node-at .ensures) _ (c .before .before .before .before .before .start-at2 .ensures) (c .before .before .before .before .before .before .before .before .before .before .before .before .pre .1) _ _ (c .before .before .before .fork .ensures) _ (c .before .before .before .before .before .before .before .before .before .before .before .before .pre .0)
 
--- src/lib.rt:271:9
+-- src/lib.rt:288:9
 rounds-same-length-2 : (t : ℕ) → rounds-lts.Need-same-length-2 (
   start-at-reads.Asked,
   start-at-reads.Learnt,
@@ -1151,7 +1254,7 @@ rounds-same-length-2 : (t : ℕ) → rounds-lts.Need-same-length-2 (
 ) (rounds-at t) rounds.Post
 rounds-same-length-2 t c = emitted-length _ _ _ _ _ (star-done _ _ _ _ _ _ _ _ _ (c .before .before .before .before .before .before .before .before .before .before .before .before .if1 .left) (c .before .before .before .before .before .before .before .before .before .if3 .taken) _ (c .before .before .before .before .before .before .before .before .before .before .node-at .ensures) _ (c .before .before .before .before .before .before .before .before .start-at2 .ensures) (c .before .before .before .before .before .before .before .before .before .before .before .before .before .before .before .pre .1) _ _ (c .before .before .before .before .before .before .fork .ensures) _ _ (c .before .before .body2 .ensures))
 
--- src/lib.rt:271:9
+-- src/lib.rt:288:9
 rounds-returns-3 : (t : ℕ) → rounds-lts.Need-returns-3 (
   start-at-reads.Asked,
   start-at-reads.Learnt,
@@ -1166,7 +1269,7 @@ rounds-returns-3 : (t : ℕ) → rounds-lts.Need-returns-3 (
 ) (rounds-at t) rounds.Post
 rounds-returns-3 t c = λ h. star-done _ _ _ _ _ _ _ _ _ (c .before .before .before .before .before .before .before .before .before .before .before .before .if1 .left) (c .before .before .before .before .before .before .before .before .before .if3 .taken) _ (c .before .before .before .before .before .before .before .before .before .before .node-at .ensures) _ (c .before .before .before .before .before .before .before .before .start-at2 .ensures) h _ _ (c .before .before .before .before .before .before .fork .ensures) _ _ (c .before .before .body2 .ensures)
 
--- src/lib.rt:273:25
+-- src/lib.rt:290:25
 rounds-add-start-at-3 : (t : ℕ) → rounds-lts.Need-add-start-at-3 (
   start-at-reads.Asked,
   start-at-reads.Learnt,
@@ -1181,7 +1284,7 @@ rounds-add-start-at-3 : (t : ℕ) → rounds-lts.Need-add-start-at-3 (
 ) (rounds-at t) rounds.Post
 rounds-add-start-at-3 t c = option-fits _ _ _ _ _ _ _ _ _ (c .before .before .before .if1 .left) (c .before .before .if2 .left) (c .if3 .left) _ (c .before .node-at .ensures) (c .before .before .before .before .before .before .pre .1)
 
--- src/lib.rt:273:9
+-- src/lib.rt:290:9
 rounds-start-at-requires-3 : (t : ℕ) → rounds-lts.Need-start-at-requires-3 (
   start-at-reads.Asked,
   start-at-reads.Learnt,
@@ -1196,7 +1299,7 @@ rounds-start-at-requires-3 : (t : ℕ) → rounds-lts.Need-start-at-requires-3 (
 ) (rounds-at t) rounds.Post
 rounds-start-at-requires-3 t c κs = search needs
 
--- src/lib.rt:274:9
+-- src/lib.rt:291:9
 rounds-fork-requires-2 : (t : ℕ) → rounds-lts.Need-fork-requires-2 (
   start-at-reads.Asked,
   start-at-reads.Learnt,
@@ -1211,7 +1314,7 @@ rounds-fork-requires-2 : (t : ℕ) → rounds-lts.Need-fork-requires-2 (
 ) (rounds-at t) rounds.Post
 rounds-fork-requires-2 t c κs = option-choose _ _ _ _ _ _ _ _ _ (c .before .before .before .before .before .if1 .left) (c .before .before .before .before .if2 .left) (c .before .before .if3 .left) _ (c .before .before .before .node-at .ensures) _ (c .before .start-at3 .ensures) (c .before .before .before .before .before .before .before .before .pre .1)
 
--- src/lib.rt:275:25
+-- src/lib.rt:292:25
 rounds-add-start-at-4 : (t : ℕ) → rounds-lts.Need-add-start-at-4 (
   start-at-reads.Asked,
   start-at-reads.Learnt,
@@ -1226,7 +1329,7 @@ rounds-add-start-at-4 : (t : ℕ) → rounds-lts.Need-add-start-at-4 (
 ) (rounds-at t) rounds.Post
 rounds-add-start-at-4 t c = option-fits _ _ _ _ _ _ _ _ _ (c .before .before .before .before .before .before .before .before .if1 .left) (c .before .before .before .before .before .before .before .if2 .left) (c .before .before .before .before .before .if3 .left) _ (c .before .before .before .before .before .before .node-at .ensures) (c .before .before .before .before .before .before .before .before .before .before .before .pre .1)
 
--- src/lib.rt:275:25
+-- src/lib.rt:292:25
 rounds-add-start-at-5 : (t : ℕ) → rounds-lts.Need-add-start-at-5 (
   start-at-reads.Asked,
   start-at-reads.Learnt,
@@ -1241,7 +1344,7 @@ rounds-add-start-at-5 : (t : ℕ) → rounds-lts.Need-add-start-at-5 (
 ) (rounds-at t) rounds.Post
 rounds-add-start-at-5 t c = option-more _ _ _ _ _ _ _ _ _ (c .before .before .before .before .before .before .before .before .if1 .left) (c .before .before .before .before .before .before .before .if2 .left) (c .before .before .before .before .before .if3 .left) _ (c .before .before .before .before .before .before .node-at .ensures) (c .before .before .before .before .before .before .before .before .before .before .before .pre .1)
 
--- src/lib.rt:275:9
+-- src/lib.rt:292:9
 rounds-start-at-requires-4 : (t : ℕ) → rounds-lts.Need-start-at-requires-4 (
   start-at-reads.Asked,
   start-at-reads.Learnt,
@@ -1256,7 +1359,7 @@ rounds-start-at-requires-4 : (t : ℕ) → rounds-lts.Need-start-at-requires-4 (
 ) (rounds-at t) rounds.Post
 rounds-start-at-requires-4 t c κs = search needs
 
--- src/lib.rt:276:9
+-- src/lib.rt:293:9
 rounds-body-requires-3 : (t : ℕ) → rounds-lts.Need-body-requires-3 (
   start-at-reads.Asked,
   start-at-reads.Learnt,
@@ -1271,7 +1374,7 @@ rounds-body-requires-3 : (t : ℕ) → rounds-lts.Need-body-requires-3 (
 ) (rounds-at t) rounds.Post
 rounds-body-requires-3 t c κs = option-body _ _ _ _ _ _ _ _ _ (c .before .before .before .before .before .before .before .before .before .before .if1 .left) (c .before .before .before .before .before .before .before .before .before .if2 .left) (c .before .before .before .before .before .before .before .if3 .left) _ (c .before .before .before .before .before .before .before .before .node-at .ensures) _ (c .before .before .before .before .before .before .start-at3 .ensures) (c .before .before .before .before .before .before .before .before .before .before .before .before .before .pre .1) _ _ (c .before .before .before .before .fork2 .ensures) _ (c .before .start-at4 .ensures) _ (c .before .before .before .before .before .before .before .before .before .before .before .before .before .pre .0)
 
--- src/lib.rt:277:27
+-- src/lib.rt:294:27
 rounds-sub-rounds-2 : (t : ℕ) → rounds-lts.Need-sub-rounds-2 (
   start-at-reads.Asked,
   start-at-reads.Learnt,
@@ -1286,7 +1389,7 @@ rounds-sub-rounds-2 : (t : ℕ) → rounds-lts.Need-sub-rounds-2 (
 ) (rounds-at t) rounds.Post
 rounds-sub-rounds-2 t c = option-less _ _ _ _ _ _ _ _ _ (c .before .before .before .before .before .before .before .before .before .before .before .before .before .if1 .left) (c .before .before .before .before .before .before .before .before .before .before .before .before .if2 .left) (c .before .before .before .before .before .before .before .before .before .before .if3 .left) _ (c .before .before .before .before .before .before .before .before .before .before .before .node-at .ensures) (c .before .before .before .before .before .before .before .before .before .before .before .before .before .before .before .before .pre .1)
 
--- src/lib.rt:277:5
+-- src/lib.rt:294:5
 rounds-rounds-requires-2 : (t : ℕ) → rounds-lts.Need-rounds-requires-2 (
   start-at-reads.Asked,
   start-at-reads.Learnt,
@@ -1301,7 +1404,7 @@ rounds-rounds-requires-2 : (t : ℕ) → rounds-lts.Need-rounds-requires-2 (
 ) (rounds-at t) rounds.Post
 rounds-rounds-requires-2 t c κs = option-again _ _ _ _ _ _ _ _ _ (c .before .before .before .before .before .before .before .before .before .before .before .before .before .before .if1 .left) (c .before .before .before .before .before .before .before .before .before .before .before .before .before .if2 .left) (c .before .before .before .before .before .before .before .before .before .before .before .if3 .left) _ (c .before .before .before .before .before .before .before .before .before .before .before .before .node-at .ensures) _ (c .before .before .before .before .before .before .before .before .before .before .start-at3 .ensures) (c .before .before .before .before .before .before .before .before .before .before .before .before .before .before .before .before .before .pre .1) _ _ (c .before .before .before .before .before .before .before .before .fork2 .ensures) _ (c .before .before .before .before .before .start-at4 .ensures) _ _ (c .before .before .before .body3 .ensures) _ (c .before .before .before .before .before .before .before .before .before .before .before .before .before .before .before .before .before .pre .0)
 
--- src/lib.rt:253:1
+-- src/lib.rt:270:1
 rounds-same-length-3 : (t : ℕ) → rounds-lts.Need-same-length-3 (
   start-at-reads.Asked,
   start-at-reads.Learnt,
@@ -1316,7 +1419,7 @@ rounds-same-length-3 : (t : ℕ) → rounds-lts.Need-same-length-3 (
 ) (rounds-at t) rounds.Post
 rounds-same-length-3 t c = emitted-length _ _ _ _ _ (option-done _ _ _ _ _ _ _ _ _ (c .before .before .before .before .before .before .before .before .before .before .before .before .before .before .before .before .before .if1 .left) (c .before .before .before .before .before .before .before .before .before .before .before .before .before .before .before .before .if2 .left) (c .before .before .before .before .before .before .before .before .before .before .before .before .before .before .if3 .left) _ (c .before .before .before .before .before .before .before .before .before .before .before .before .before .before .before .node-at .ensures) _ (c .before .before .before .before .before .before .before .before .before .before .before .before .before .start-at3 .ensures) (c .before .before .before .before .before .before .before .before .before .before .before .before .before .before .before .before .before .before .before .before .pre .1) _ _ (c .before .before .before .before .before .before .before .before .before .before .before .fork2 .ensures) _ (c .before .before .before .before .before .before .before .before .start-at4 .ensures) _ _ (c .before .before .before .before .before .before .body3 .ensures) _ _ (c .before .before .rounds2 .ensures))
 
--- src/lib.rt:253:1
+-- src/lib.rt:270:1
 rounds-returns-4 : (t : ℕ) → rounds-lts.Need-returns-4 (
   start-at-reads.Asked,
   start-at-reads.Learnt,
@@ -1378,27 +1481,28 @@ pub +body+branches+emit+rounds-spec : {M : Type 1} → statement M
     (branches-at t)
     branches.Post
     (branches-node-at-requires t)
+    (branches-returns t)
     (branches-enum-told t)
     (branches-emit-requires t)
     (branches-branches-requires t)
     (branches-same-length t)
-    (branches-returns t)
+    (branches-returns-2 t)
     (branches-emit-requires-2 t)
     (branches-same-length-2 t)
-    (branches-returns-2 t))
+    (branches-returns-3 t))
     (λ t. emit-lts.spec (
       node-at-reads.Asked,
       node-at-reads.Learnt,
-      places-at-reads.Asked,
-      places-at-reads.Learnt,
-      start-at-reads.Asked,
-      start-at-reads.Learnt,
-      emit-below t,
-      emit.Post,
       branch-fork-reads.Asked,
       branch-fork-reads.Learnt,
       branches-below t,
       branches.Post,
+      places-at-reads.Asked,
+      places-at-reads.Learnt,
+      emit-below t,
+      emit.Post,
+      start-at-reads.Asked,
+      start-at-reads.Learnt,
       body-size-reads.Asked,
       body-size-reads.Learnt,
       turns-behind-reads.Asked,
@@ -1411,23 +1515,27 @@ pub +body+branches+emit+rounds-spec : {M : Type 1} → statement M
     (emit-node-at-requires t)
     (emit-add-end t)
     (emit-enum-told t)
-    (emit-places-at-requires t)
-    (emit-add-start-at t)
-    (emit-start-at-requires t)
-    (emit-emit-requires t)
-    (emit-emit-requires-2 t)
-    (emit-same-length t)
-    (emit-returns t)
-    (emit-enum-told-2 t)
     (emit-branch-fork-requires t)
     (emit-branches-requires t)
-    (emit-same-length-2 t)
+    (emit-same-length t)
+    (emit-returns t)
     (emit-returns-2 t)
+    (emit-enum-told-2 t)
+    (emit-places-at-requires t)
+    (emit-add-mid t)
+    (emit-emit-requires t)
+    (emit-same-length-2 t)
+    (emit-returns-3 t)
+    (emit-start-at-requires t)
+    (emit-emit-requires-2 t)
+    (emit-emit-requires-3 t)
+    (emit-same-length-3 t)
+    (emit-returns-4 t)
     (emit-body-size-requires t)
     (emit-turns-behind-requires t)
     (emit-rounds-requires t)
-    (emit-same-length-3 t)
-    (emit-returns-3 t))
+    (emit-same-length-4 t)
+    (emit-returns-5 t))
     λ t. rounds-lts.spec (
       start-at-reads.Asked,
       start-at-reads.Learnt,
