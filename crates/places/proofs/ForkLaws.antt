@@ -1,6 +1,6 @@
 -- Laws of the functions that put forks: each is one way through one function.
 use mathlib.Core.Path.{_≡_, refl, sym, ap, _∙_, subst}
-use mathlib.Core.Bool.{Bool, true, false}
+use mathlib.Core.Bool.{Bool, true, false, _||_}
 use mathlib.Core.List.{List, [], _∷_, _++_}
 use Prim.Native.Nat.{ℕ, zero, suc, _+_, _*_, _-_, _≤_, _<_, min}
 use native.Mathlib.Omega.{arith}
@@ -10,9 +10,10 @@ use mir.Val.{Fits as Fits-in}
 use mir.Syntax.{w64}
 use lib.Dec.{eqb}
 use lib.ListN.{length, getD, set}
+use borrow.Author.Tests.{eq-eqb}
 use Rattle.rules.specs.Basics.{pick, has}
 use Rattle.rules.specs.Language.{Rank, pattern, branch, factor, Tree, one, more, last, next}
-use Rattle.rules.specs.Places.{unrolled, Place, pFork, waysInTurn, size, sizes, startOf, startsOf, placeCount}
+use Rattle.rules.specs.Places.{Unrolled, Branches, uNil, uCons, unrolled, Place, pFork, waysInTurn, size, sizes, startOf, startsOf, placeCount}
 use Rattle.rules.proofs.Counting.{unrolled-size}
 use Rattle.rules.proofs.Distinct.{keepNew, fresh, distinct}
 use Rattle.pattern.specs.Nodes.{nodeAt}
@@ -26,7 +27,7 @@ use Rattle.places.specs.Tables.{span}
 use Rattle.places.specs.Emitting.{putWays, putWords, putPlace, wayCount, waysIn, putPlaces, Fitting, Emitted, WayPut, WayNeeds, newStarts, Starting, Started, twoPlaces, TwoWays, choicePlaces, Choosing, forkPlaces, Forking}
 use Rattle.places.specs.declared.Spot.{Spot}
 use Rattle.places.proofs.TableLaws.{ways-length, words-length}
-use Rattle.places.proofs.WayLaws.{AfterWay, after-way, start-by-size}
+use Rattle.places.proofs.WayLaws.{AfterWay, after-way, start-end, start-by-size}
 
 -- ---- a place that is put
 
@@ -226,6 +227,62 @@ module _ (s : List ℕ) (i : ℕ) (n : Node) (en : n ≡ nodeAt s i) (T : List �
 
     pub start-fits : Starting s i T from to b k → Fits-in w64 (b + m)
     start-fits h = let z = (alt-facts (h .tree) (h .top) (h .place)) .size-is in let g = h .place in record { fits = omega arith }
+
+  -- branches without places
+  module _ (e : n .places ≡ 0) where
+    same-starts : (ts : Branches) (c : ℕ) (S : List ℕ) → sizes ts ≡ 0 → has k S ≡ true → fresh S (startsOf ts c k) ≡ []
+    unfolding fresh startsOf sizes
+    same-starts uNil c S z h = refl
+    same-starts (uCons t ts) c S z h =
+        let x : size t ≡ 0 = omega arith in
+        let y : startOf t c k ≡ k = start-by-size t c k ∙ sym (start-end c (c + size t) k (omega arith)) in
+        ap (λ (v : ℕ). keepNew (has v S) v (fresh S (startsOf ts (c + size t) k)) (fresh (v ∷ S) (startsOf ts (c + size t) k))) y
+        ∙ ap (λ (b : Bool). keepNew b k (fresh S (startsOf ts (c + size t) k)) (fresh (k ∷ S) (startsOf ts (c + size t) k))) h
+        ∙ same-starts ts (c + size t) S (omega arith) h
+
+    one-start : (ts : Branches) (t : Unrolled) (S : List ℕ) → sizes (uCons t ts) ≡ 0 → fresh S (startsOf (uCons t ts) b k) ≡ fresh S (k ∷ [])
+    unfolding fresh startsOf sizes has
+    one-start ts t S z =
+        let x : size t ≡ 0 = omega arith in
+        let y : startOf t b k ≡ k = start-by-size t b k ∙ sym (start-end b (b + size t) k (omega arith)) in
+        ap (λ (v : ℕ). keepNew (has v S) v (fresh S (startsOf ts (b + size t) k)) (fresh (v ∷ S) (startsOf ts (b + size t) k))) y ∙ go (has k S) refl (omega arith)
+      where
+        go : (b2 : Bool) → has k S ≡ b2 → sizes ts ≡ 0 → keepNew b2 k (fresh S (startsOf ts (b + size t) k)) (fresh (k ∷ S) (startsOf ts (b + size t) k)) ≡ keepNew b2 k [] []
+        go true h w = same-starts ts (b + size t) S w h
+        go false h w = ap (λ (ks : List ℕ). k ∷ ks) (same-starts ts (b + size t) (k ∷ S) w (ap (λ (x : Bool). x || has k S) (eq-eqb k k refl)))
+
+    no-places : (p : Tree pattern) → n .places ≡ min (placeCount p) 257 → sizes (unrolled p) ≡ 0
+    no-places p d = let c : sizes (unrolled p) ≡ placeCount p = unrolled-size p in omega arith
+
+    some-branch : (p : Tree pattern) → n .places ≡ min (placeCount p) 257 → (S : List ℕ) → fresh S (startsOf (unrolled p) b k) ≡ fresh S (k ∷ [])
+    unfolding unrolled
+    some-branch (one x) d S = one-start uNil (unrolled x) S (no-places (one x) d)
+    some-branch (more x p) d S = one-start (unrolled p) (unrolled x) S (no-places (more x p) d)
+
+    module _ (h : Starting s i T from to b k) where
+      none-list : newStarts T from to (h .tree) b k ≡ fresh (span T from (to - from)) (k ∷ [])
+      none-list = some-branch (h .tree) (ap (λ (y : Node). y .places) en ∙ top-places s i (h .tree) (h .top)) (span T from (to - from))
+
+      pub none-way : WayNeeds T from to k
+      none-way =
+          let w : to + length (fresh (span T from (to - from)) (k ∷ [])) ≤ length T = subst (λ (ks : List ℕ). to + length ks ≤ length T) none-list (h .way) in
+          record {
+            order = h .order;
+            inside = omega arith;
+            small = h .small;
+            fits = λ u. (let v = one-new (span T from (to - from)) k [] u in omega arith);
+            low = h .behind;
+          }
+
+      pub none-done : (T1 : List ℕ) (r1 : ℕ) → WayPut T T1 from to k r1 → Started s i T from to b k T1 r1 h
+      unfolding putWays fresh
+      none-done T1 r1 p =
+          let d = after-way T from to k [] T1 r1 none-way p in
+          let c : r1 ≡ r1 + length (fresh (span T1 from (r1 - from)) []) = omega arith in
+          record {
+            is = ap (putWays T1 r1) (sym (d .seen)) ∙ d .put ∙ ap (putWays T to) (sym none-list);
+            way = c ∙ ap (λ (ks : List ℕ). r1 + length ks) (sym (d .seen)) ∙ d .count ∙ ap (λ (ks : List ℕ). to + length ks) (sym none-list);
+          }
 
   -- the last branch
   module _ (e : n .sort ≡ Alternation → ⊥) where

@@ -2,3 +2,6 @@ pub mod TableLaws
 pub mod WayLaws
 pub mod CodeLaws
 pub mod ForkLaws
+pub mod EmitLaws
+pub mod UnrollLaws
+pub mod SafeLaws

@@ -4,6 +4,7 @@ use mathlib.Core.Bool.{Bool, true, false}
 use mathlib.Core.List.{List, [], _∷_, _++_}
 use Prim.Native.Nat.{ℕ, zero, suc, _+_, _*_, _-_, _≤_, _<_}
 use native.Mathlib.Omega.{arith}
+use native.Mathlib.Decide.{decLt}
 use lib.ListN.{length, getD, set, length-append, length-set}
 use lib.Seq.{getD-set-same, getD-set-other}
 use Rattle.rules.specs.Places.{Place, pLetter, pCaret, pDollar, pFork, pEnd}
@@ -200,3 +201,25 @@ places-back T q w (p ∷ ps) h l =
     (λ j x y. places-kept (putPlace T q w p) (suc q) (w + wayCount p) ps j (λ c d. omega arith) (λ c d. omega arith)) in
     let b = places-back (putPlace T q w p) (suc q) (w + wayCount p) ps (omega arith) (omega (arith, place-length T q w p)) in
     λ i. a i ∷ b i
+
+-- ---- where ways stop
+
+place-stop : (T : List ℕ) (q w : ℕ) (p : Place) → 4 * q + 4 ≤ length T → getD (putPlace T q w p) (4 * q + 3) 0 ≤ w + wayCount p
+unfolding putPlace wayCount
+place-stop T q w (pLetter c k) h = omega (arith, (words-put T q 1 c k 0 h) .stop)
+place-stop T q w (pCaret k) h = omega (arith, (words-put T q 2 0 k 0 h) .stop)
+place-stop T q w (pDollar k) h = omega (arith, (words-put T q 3 0 k 0 h) .stop)
+place-stop T q w (pFork ks) h = omega (arith, (words-put (putWays T w ks) q 0 0 w (w + length ks) (omega (arith, ways-length T w ks))) .stop)
+place-stop T q w pEnd h = omega (arith, (words-put T q 4 0 0 0 h) .stop)
+
+pub places-stop : (T : List ℕ) (q w : ℕ) (ps : List Place) → 4 * (q + length ps) ≤ w → w + waysIn ps ≤ length T → (x : ℕ) → q ≤ x → x < q + length ps → getD (putPlaces T q w ps) (4 * x + 3) 0 ≤ w + waysIn ps
+unfolding putPlaces waysIn
+places-stop T q w [] h l x a b = absurd (omega arith)
+places-stop T q w (p ∷ ps) h l x a b = elim (decLt q x) [
+  | yes g ↦ omega (arith, places-stop (putPlace T q w p) (suc q) (w + wayCount p) ps (omega arith) (omega (arith, place-length T q w p)) x g (omega arith))
+  | no g ↦
+      let e : x ≡ q = omega (arith, g) in
+      let k : getD (putPlaces (putPlace T q w p) (suc q) (w + wayCount p) ps) (4 * q + 3) 0 ≡ getD (putPlace T q w p) (4 * q + 3) 0 =
+          places-kept (putPlace T q w p) (suc q) (w + wayCount p) ps (4 * q + 3) (λ c d. omega arith) (λ c d. omega arith) in
+      rw e (omega (arith, k, place-stop T q w p (omega arith)))
+]

@@ -241,3 +241,17 @@ mutual
 
 pub all-few : (t : Unrolled) (b k : ℕ) → waysIn (thinned (code t b k)) ≤ 3 * size t
 all-few t b k = omega (arith, few-ways t b k)
+
+-- ---- small choices
+
+pub caret-sort : (c : ℕ) → c ≡ 94 → _≡_ {A = ℕ} 2 (pick (eqb c 94) 2 3)
+caret-sort c e = sym (ap (λ (t : Bool). pick {A = ℕ} t 2 3) (eq-eqb c 94 e))
+
+pub dollar-sort : (c : ℕ) → (c ≡ 94 → ⊥) → _≡_ {A = ℕ} 3 (pick (eqb c 94) 2 3)
+dollar-sort c e = sym (ap (λ (t : Bool). pick {A = ℕ} t 2 3) (ne-eqb c 94 e))
+
+pub turns-open : (l h : ℕ) → h ≡ 100 → 100 ≡ pick (eqb h 100) 100 (h - l)
+turns-open l h e = sym (ap (λ (t : Bool). pick t 100 (h - l)) (eq-eqb h 100 e))
+
+pub turns-shut : (l h : ℕ) → (h ≡ 100 → ⊥) → h - l ≡ pick (eqb h 100) 100 (h - l)
+turns-shut l h e = sym (ap (λ (t : Bool). pick t 100 (h - l)) (ne-eqb h 100 e))

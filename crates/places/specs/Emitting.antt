@@ -7,7 +7,7 @@ use lib.Dec.{eqb}
 use lib.ListN.{length, getD, set}
 use Rattle.rules.specs.Basics.{pick, has}
 use Rattle.rules.specs.Language.{Rank, pattern, factor, Tree, one, last}
-use Rattle.rules.specs.Places.{Unrolled, uStar, copies, options, unrolled, unroll, Place, pLetter, pCaret, pDollar, pFork, pEnd, waysInTurn, size, sizes, startsOf, code, codes, places, placesOf}
+use Rattle.rules.specs.Places.{Unrolled, uStar, copies, options, unrolled, unroll, Place, pLetter, pCaret, pDollar, pFork, pEnd, waysInTurn, size, sizes, startsOf, code, codes, places, fork, placeCount, placesOf}
 use Rattle.rules.proofs.Distinct.{fresh, distinct, thinned}
 use Rattle.pattern.specs.Held.{body, lazyOf, Top}
 use Rattle.places.specs.Tables.{span, tabled}
@@ -170,6 +170,17 @@ pub record Turning (s : List ℕ) (i c n m end : ℕ) (T : List ℕ) (at : Spot)
   pub few : (n ≤ 99) × (m ≤ 100)
   pub fits : Fitting T at k (turnPlaces n m of (at .place) k)
 
+-- r is the number of places of whatever tree has its top at i, if it has at most 256
+abbrev pub WholeSize : List ℕ → ℕ → ℕ → Type 0
+WholeSize s i r = (p : Tree pattern) → Top p i s → placeCount p ≤ 256 → r ≡ fork p + placeCount p
+
+abbrev pub BodySize : List ℕ → ℕ → ℕ → Type 0
+BodySize s i r = (F : Tree factor) → Top (one (last F)) i s → placeCount F ≤ 256 → r ≡ placeCount (body F)
+
+-- the sort of an anchor's place: ^ is 94
+abbrev pub anchorSort : ℕ → ℕ
+anchorSort c = pick (eqb c 94) 2 3
+
 -- ---- the whole
 
 -- room for 256 places and for three ways to a place
@@ -181,10 +192,10 @@ pub record Unrolling (s : List ℕ) (top P : ℕ) (T : List ℕ) : Type 0 where
   pub long : 1024 + 3 * P ≤ length T
   pub small : length T < 65536
 
--- the table holds the places of the tree, each fork's ways once; no word behind the ways is changed
+-- The table holds the places of the tree, each fork's ways once; a fork's ways stop before the word r; from there on no word is changed.
 pub record Tabled (p : Tree pattern) (P : ℕ) (T exit : List ℕ) (r : ℕ) : Type 0 where
   pub is : tabled exit P ≡ thinned (places (unroll p))
-  pub ways : r ≡ 1024 + waysIn (thinned (places (unroll p)))
-  pub few : r ≤ 1024 + 3 * P
+  pub stop : (q : ℕ) → q < P → getD exit (4 * q + 3) 0 ≤ r
+  pub few : (1024 ≤ r) × (r ≤ 1024 + 3 * P)
   pub kept : (j : ℕ) → r ≤ j → getD exit j 0 ≡ getD T j 0
   pub len : length exit ≡ length T

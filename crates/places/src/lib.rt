@@ -1,5 +1,7 @@
-// A tree unrolled into its places: `unroll` puts them into a lent table of words, which an engine reads. A recursion over the tree's nodes; the
-// node's height falls. Repeated ways of a fork are dropped.
+// A tree unrolled into its places: `unroll` puts them into a lent table of words, which an engine reads, by a recursion over the tree's nodes; the
+// node's height falls. Repeated ways of a fork are dropped. `read_places` does all from a pattern's text on: its answer, and its table.
+use judge::Verdict;
+use judge::judge;
 use pattern::nodes::Sort;
 use pattern::nodes::node_at;
 use pattern::nodes::places_at;
@@ -13,7 +15,8 @@ ghost use lib.Dec.{eqb};
 ghost use Rattle.rules.specs.Basics.{pick, has};
 ghost use Rattle.pattern.specs.Held.{At};
 ghost use Rattle.places.specs.Tables.{span};
-ghost use Rattle.places.specs.Emitting.{putWords, Fitting, Emitted, WayPut, WayNeeds, treePlaces, branchPlaces, bodyPlaces, turnPlaces, Starting, Started, TwoWays, twoPlaces, Choosing, choicePlaces, forkPlaces, Forking, Emitting, Branching, Bodying, Turning, Unrolling, Tabled};
+ghost use Rattle.places.specs.Read.{Lent, Reads};
+ghost use Rattle.places.specs.Emitting.{putWords, Fitting, Emitted, WayPut, WayNeeds, treePlaces, branchPlaces, bodyPlaces, turnPlaces, Starting, Started, TwoWays, twoPlaces, Choosing, choicePlaces, forkPlaces, Forking, Emitting, Branching, Bodying, Turning, WholeSize, BodySize, anchorSort, Unrolling, Tabled};
 
 // Where the next place and the next way go.
 pub struct Spot {
@@ -76,6 +79,7 @@ fn put_way(table: &mut [u16], from: usize, to: usize, y: usize) -> usize
     to + 1
 }
 
+<<<<<<< HEAD
 // The ways of an alternation's fork: where its branches begin, from the one at i on, whose places are numbered from b on.
 fn fork_ways(
     room: &[u16],
@@ -86,6 +90,11 @@ fn fork_ways(
     b: usize,
     k: usize,
 ) -> usize
+=======
+// The ways of an alternation's fork: where its branches begin, from the one at i on, whose places are numbered from b on. Branches without places
+// all begin behind it.
+fn fork_ways(room: &[u16], i: usize, table: &mut [u16], from: usize, to: usize, b: usize, k: usize) -> usize
+>>>>>>> f82425d963950e5433080fec5e48246972639c20
     requires { ⌜ Starting (now room) i (now table) from to b k ⌝ }
     ensures { λ r. ⌜ ((h : Starting (now (room .entry)) i (now (table .entry)) from to b k) → Started (now (room .entry)) i (now (table .entry)) from to b k (now (table .exit)) r h) ⌝ }
 {
@@ -93,6 +102,9 @@ fn fork_ways(
     let sort = n.sort;
     let left = n.left;
     let right = n.right;
+    if n.places == 0 {
+        return put_way(table, from, to, k);
+    }
     if let Sort::Alternation = sort {
         let end = b + places_at(room, left);
         let next = put_way(table, from, to, start_at(b, end, k));
@@ -141,4 +153,205 @@ fn fork(table: &mut [u16], at: Spot, lazy: bool, copy: usize, leave: usize) -> S
         return two_ways(table, at, leave, copy);
     }
     two_ways(table, at, copy, leave)
+}
+
+// How many times a fork and a copy stand behind the copies; 100 if the quantifier is unbounded.
+fn turns_behind(low: usize, high: usize) -> usize
+    requires { ⌜ low ≤ high ⌝ }
+    ensures { λ r. ⌜ r ≡ pick (eqb high 100) 100 (high - low) ⌝ }
+{
+    if high == 100 {
+        return 100;
+    }
+    high - low
+}
+
+// The places of the pattern at i, its fork included.
+fn whole_size(room: &[u16], i: usize) -> usize
+    requires { ⌜ At (now room) i ⌝ }
+    ensures { λ r. ⌜ WholeSize (now (room .entry)) i r ⌝ }
+{
+    let c = places_at(room, i);
+    let sort = sort_at(room, i);
+    if let Sort::Alternation = sort {
+        return c + 1;
+    }
+    c
+}
+
+// The places of the body of the factor at i.
+fn body_size(room: &[u16], i: usize) -> usize
+    requires { ⌜ At (now room) i ⌝ }
+    ensures { λ r. ⌜ BodySize (now (room .entry)) i r ⌝ }
+{
+    let n = node_at(room, i);
+    let sort = n.sort;
+    let left = n.left;
+    match sort {
+        Sort::Letter(_) => 1,
+        Sort::Anchor(_) => 1,
+        Sort::Empty => 0,
+        Sort::Sequence => 0,
+        Sort::Alternation => 0,
+        Sort::Group => whole_size(room, left),
+    }
+}
+
+fn short(c: u8) -> u16
+    ensures { λ r. ⌜ r ≡ c ⌝ }
+{
+    c as u16
+}
+
+// The sort of an anchor's place.
+fn anchor_sort(c: u8) -> u16
+    ensures { λ r. ⌜ r ≡ anchorSort c ⌝ }
+{
+    if c == b'^' {
+        return 2;
+    }
+    3
+}
+
+// A letter's or an anchor's place.
+fn put_simple(table: &mut [u16], at: Spot, sort: u16, letter: u16, k: usize) -> Spot
+    requires { ⌜ (4 * at .place + 4 ≤ length (now table)) × (k < 65536) × (at .place < 65536) ⌝ }
+    ensures { λ r. ⌜ (r ≡ record { place = at .place + 1; way = at .way }) × (now (table .exit) ≡ putWords (now (table .entry)) (at .place) sort letter k 0) ⌝ }
+{
+    let q = at.place;
+    put_words(table, q, sort, letter, k, 0);
+    Spot {
+        place: q + 1,
+        way: at.way,
+    }
+}
+
+// The tree at i, its places numbered from at.place on, where k is the place behind it. A part without places is not walked over.
+fn emit(room: &[u16], i: usize, table: &mut [u16], at: Spot, k: usize) -> Spot
+    requires { ⌜ Emitting (now room) i (now table) at k ⌝ }
+    ensures { λ r. ⌜ ((h : Emitting (now (room .entry)) i (now (table .entry)) at k) → Emitted (now (table .entry)) (now (table .exit)) at r (treePlaces (h .tree) (at .place) k)) ⌝ }
+{
+    let n = node_at(room, i);
+    let sort = n.sort;
+    let left = n.left;
+    let right = n.right;
+    let b = at.place;
+    let end = b + n.places;
+    if let Sort::Alternation = sort {
+        let inside = branch_fork(room, i, table, at, k);
+        return branches(room, i, table, inside, k);
+    }
+    if end == b {
+        return at;
+    }
+    if let Sort::Sequence = sort {
+        let mid = b + places_at(room, left);
+        if mid == b {
+            return emit(room, right, table, at, k);
+        }
+        let next = start_at(mid, end, k);
+        let then = emit(room, left, table, at, next);
+        return emit(room, right, table, then, k);
+    }
+    let c = body_size(room, i);
+    let low = n.low;
+    let m = turns_behind(low, n.high);
+    rounds(room, i, c, low, m, end, table, at, k)
+}
+
+// The branches of the pattern at i; the fork of an alternation is there already.
+fn branches(room: &[u16], i: usize, table: &mut [u16], at: Spot, k: usize) -> Spot
+    requires { ⌜ Branching (now room) i (now table) at k ⌝ }
+    ensures { λ r. ⌜ ((h : Branching (now (room .entry)) i (now (table .entry)) at k) → Emitted (now (table .entry)) (now (table .exit)) at r (branchPlaces (h .tree) (at .place) k)) ⌝ }
+{
+    let n = node_at(room, i);
+    let sort = n.sort;
+    let left = n.left;
+    let right = n.right;
+    if n.places == 0 {
+        return at;
+    }
+    if let Sort::Alternation = sort {
+        let then = emit(room, left, table, at, k);
+        return branches(room, right, table, then, k);
+    }
+    emit(room, i, table, at, k)
+}
+
+// The body of the factor at i with c places: n copies, then m times a fork and a copy, or for m = 100 a fork and a copy that leads back to it.
+// Its places end before `end`.
+fn rounds(room: &[u16], i: usize, c: usize, n: usize, m: usize, end: usize, table: &mut [u16], at: Spot, k: usize) -> Spot
+    requires { ⌜ Turning (now room) i c n m end (now table) at k ⌝ }
+    ensures { λ r. ⌜ ((h : Turning (now (room .entry)) i c n m end (now (table .entry)) at k) → Emitted (now (table .entry)) (now (table .exit)) at r (turnPlaces n m (h .of) (at .place) k)) ⌝ }
+{
+    let b = at.place;
+    if 0 < n {
+        let next = start_at(b + c, end, k);
+        let then = body(room, i, table, at, next);
+        return rounds(room, i, c, n - 1, m, end, table, then, k);
+    }
+    if m == 0 {
+        return at;
+    }
+    let node = node_at(room, i);
+    let lazy = node.lazy;
+    if m == 100 {
+        let copy = start_at(b + 1, end, b);
+        let inside = fork(table, at, lazy, copy, k);
+        return body(room, i, table, inside, b);
+    }
+    let copy = start_at(b + 1, end, k);
+    let inside = fork(table, at, lazy, copy, k);
+    let next = start_at(b + 1 + c, end, k);
+    let then = body(room, i, table, inside, next);
+    rounds(room, i, c, 0, m - 1, end, table, then, k)
+}
+
+// The body of the factor at i, once.
+fn body(room: &[u16], i: usize, table: &mut [u16], at: Spot, k: usize) -> Spot
+    requires { ⌜ Bodying (now room) i (now table) at k ⌝ }
+    ensures { λ r. ⌜ ((h : Bodying (now (room .entry)) i (now (table .entry)) at k) → Emitted (now (table .entry)) (now (table .exit)) at r (bodyPlaces (h .of) (at .place) k)) ⌝ }
+{
+    let n = node_at(room, i);
+    let sort = n.sort;
+    let left = n.left;
+    match sort {
+        Sort::Letter(c) => put_simple(table, at, 1, short(c), k),
+        Sort::Anchor(c) => put_simple(table, at, anchor_sort(c), 0, k),
+        Sort::Empty => at,
+        Sort::Sequence => at,
+        Sort::Alternation => at,
+        Sort::Group => emit(room, left, table, at, k),
+    }
+}
+
+// Unrolls the tree whose top is a node: its P places, END the last, go into the table's first words, and their ways behind word 1024. Returns
+// the word behind the last way.
+pub fn unroll(room: &[u16], top: usize, places: usize, table: &mut [u16]) -> usize
+    requires { ⌜ Unrolling (now room) top places (now table) ⌝ }
+    ensures { λ r. ⌜ ((h : Unrolling (now (room .entry)) top places (now (table .entry))) → Tabled (h .tree) places (now (table .entry)) (now (table .exit)) r) ⌝ }
+{
+    let at = Spot {
+        place: 0,
+        way: 1024,
+    };
+    let end = emit(room, top, table, at, places - 1);
+    put_words(table, end.place, 4, 0, 0, 0);
+    end.way
+}
+
+// Judges a pattern's text, and puts its places into the table if it is good. The room is for the tree's nodes.
+pub fn read_places(text: &[u8], room: &mut [u16], table: &mut [u16]) -> Verdict
+    requires { ⌜ Lent (now text) (now room) (now table) ⌝ }
+    ensures { λ r. ⌜ Reads (now (text .entry)) (now (table .entry)) (now (table .exit)) r ⌝ }
+{
+    let v = judge(text, room);
+    let answer = v.answer;
+    if answer != 0 {
+        return v;
+    }
+    let top = v.top;
+    let places = v.places;
+    let _end = unroll(room, top, places, table);
+    v
 }
