@@ -79,22 +79,9 @@ fn put_way(table: &mut [u16], from: usize, to: usize, y: usize) -> usize
     to + 1
 }
 
-<<<<<<< HEAD
-// The ways of an alternation's fork: where its branches begin, from the one at i on, whose places are numbered from b on.
-fn fork_ways(
-    room: &[u16],
-    i: usize,
-    table: &mut [u16],
-    from: usize,
-    to: usize,
-    b: usize,
-    k: usize,
-) -> usize
-=======
 // The ways of an alternation's fork: where its branches begin, from the one at i on, whose places are numbered from b on. Branches without places
 // all begin behind it.
 fn fork_ways(room: &[u16], i: usize, table: &mut [u16], from: usize, to: usize, b: usize, k: usize) -> usize
->>>>>>> f82425d963950e5433080fec5e48246972639c20
     requires { ⌜ Starting (now room) i (now table) from to b k ⌝ }
     ensures { λ r. ⌜ ((h : Starting (now (room .entry)) i (now (table .entry)) from to b k) → Started (now (room .entry)) i (now (table .entry)) from to b k (now (table .exit)) r h) ⌝ }
 {

@@ -1,8 +1,4 @@
-<<<<<<< HEAD
--- Signed numbers in the machine: how large a sum is, and what a type of 32 or 64 bits holds of a number.
-=======
 -- Signed numbers in the machine: how large a sum is, that it fits 64 bits, and that a number which fits is read back as it was written.
->>>>>>> 8c7a2bf23c474c5aab94a63797a7724745ca4951
 use mathlib.Core.Path.{_≡_, ap, _∙_}
 use mathlib.Core.Bool.{Bool, true, false, cond}
 use Prim.Native.Nat.{ℕ, suc, _+_, _≤_, _<_}
@@ -28,18 +24,10 @@ mag-add (negsuc a) (negsuc b) = omega arith
 pub sum-fits : (a b : ℤ) (k l : ℕ) → mag a < k → mag b < l → k + l ≤ 9223372036854775808 → SFits w64 (a +ℤ b)
 sum-fits a b k l h g f = let m = mag-add a b in record { sfits = omega arith }
 
-<<<<<<< HEAD
--- what a wider type reads back
-pub widened : (x : ℤ) → SFits w32 x → toZ w64 (ofZ w64 (toZ w32 (ofZ w32 x))) ≡ x
-widened x f = ap (λ (z : ℤ). toZ w64 (ofZ w64 z)) (toZ-ofZ f) ∙ toZ-ofZ (sfits-widen tt f)
-
--- what 64 bits hold is what was written
-=======
 -- a number of 32 bits in 64
 pub widened : (x : ℤ) → SFits w32 x → toZ w64 (ofZ w64 (toZ w32 (ofZ w32 x))) ≡ x
 widened x f = ap (λ (z : ℤ). toZ w64 (ofZ w64 z)) (toZ-ofZ f) ∙ toZ-ofZ (sfits-widen tt f)
 
 -- what a word of 64 bits holds is what was written
->>>>>>> 8c7a2bf23c474c5aab94a63797a7724745ca4951
 pub read-back : (z : ℤ) → mag z < 9223372036854775808 → toZ w64 (ofZ w64 z) ≡ z
 read-back z h = toZ-ofZ (record { sfits = h })
