@@ -220,6 +220,6 @@ places-stop T q w (p ∷ ps) h l x a b = elim (decLt q x) [
   | no g ↦
       let e : x ≡ q = omega (arith, g) in
       let k : getD (putPlaces (putPlace T q w p) (suc q) (w + wayCount p) ps) (4 * q + 3) 0 ≡ getD (putPlace T q w p) (4 * q + 3) 0 =
-          places-kept (putPlace T q w p) (suc q) (w + wayCount p) ps (4 * q + 3) (λ c d. omega arith) (λ c d. omega arith) in
+      places-kept (putPlace T q w p) (suc q) (w + wayCount p) ps (4 * q + 3) (λ c d. omega arith) (λ c d. omega arith) in
       rw e (omega (arith, k, place-stop T q w p (omega arith)))
 ]

@@ -1,12 +1,13 @@
--- The numbers that the program prints, below 10 ^ 20: read as a decimal they have the number's value, and only 0 begins with a 0.
-use mathlib.Core.Path.{_≡_, refl, _∙_}
+-- The numbers that the program prints: any bound on the digits that is large enough gives the same (`decimal-is`); read as a decimal they have the
+-- number's value, and only 0 begins with a 0.
+use mathlib.Core.Path.{_≡_, refl, ap, _∙_}
 use mathlib.Core.Bool.{Bool, true, false}
 use mathlib.Core.List.{List, [], _∷_, _++_}
 use Prim.Native.Nat.{ℕ, zero, suc, _+_, _*_, _-_, _/_, _%_, _^_, _≤_, _<_}
 use native.Mathlib.Nat.{not-suc-le-zero, pow-suc, div-lt-iff-lt-mul}
 use native.Mathlib.Omega.{arith}
 use lib.Dec.{ltb}
-use borrow.Author.Tests.{ltb-false}
+use borrow.Author.Tests.{ltb-true, ltb-false}
 use Rattle.rules.specs.Basics.{pick}
 use Rattle.rules.specs.Program.{digitsOf, decimal}
 
@@ -41,9 +42,42 @@ digits-value (suc k) n h = go (digits-value k (n / 10) (tenth k n h)) (ltb n 10)
     go ih true e = small
     go ih false e = let b = ltb-false n 10 e in value-last 0 (digitsOf k (n / 10)) (n % 10) ∙ omega (arith, ih)
 
-pub decimal-value : (n : ℕ) → n < 10 ^ 20 → value 0 (decimal n) ≡ n
+-- ---- the bound on the digits
+
+pub digits-same : (k l n : ℕ) → 1 ≤ k → 1 ≤ l → n < 10 ^ k → n < 10 ^ l → digitsOf k n ≡ digitsOf l n
+unfolding digitsOf
+digits-same zero l n a b h i = absurd (not-suc-le-zero a)
+digits-same (suc k) zero n a b h i = absurd (not-suc-le-zero b)
+digits-same (suc k) (suc l) n a b h i = go (λ x y. digits-same k l (n / 10) x y (tenth k n h) (tenth l n i)) (ltb n 10) refl
+  where
+    -- a number of two digits or more needs a bound of two or more
+    long : (k : ℕ) → n < 10 ^ suc k → 10 ≤ n → 1 ≤ k
+    long zero h t = absurd (omega arith)
+    long (suc k) h t = omega arith
+
+    go : (1 ≤ k → 1 ≤ l → digitsOf k (n / 10) ≡ digitsOf l (n / 10)) → (t : Bool) → ltb n 10 ≡ t
+        → pick t ((48 + n) ∷ []) (digitsOf k (n / 10) ++ ((48 + n % 10) ∷ [])) ≡ pick t ((48 + n) ∷ []) (digitsOf l (n / 10) ++ ((48 + n % 10) ∷ []))
+    go ih true e = refl
+    go ih false e =
+        let t = ltb-false n 10 e in
+        ap (λ (ds : List ℕ). ds ++ ((48 + n % 10) ∷ [])) (ih (long k h t) (long l i t))
+
+below-power : (n : ℕ) → n < 10 ^ n
+below-power zero = omega arith
+below-power (suc n) = omega (arith, below-power n, pow-suc 10 n)
+
+pub decimal-is : (n : ℕ) → decimal n ≡ digitsOf (suc n) n
 unfolding decimal
-decimal-value n h = digits-value 20 n h
+decimal-is n = go (ltb n 100000000000000000000) refl
+  where
+    go : (t : Bool) → ltb n 100000000000000000000 ≡ t → digitsOf (pick t 20 (suc n)) n ≡ digitsOf (suc n) n
+    go true e =
+        let h : n < 10 ^ 20 = ltb-true n 100000000000000000000 e in
+        digits-same 20 (suc n) n (omega arith) (omega arith) h (omega (arith, below-power n, pow-suc 10 n))
+    go false e = refl
+
+pub decimal-value : (n : ℕ) → value 0 (decimal n) ≡ n
+decimal-value n = rw (decimal-is n) (digits-value (suc n) n (omega (arith, below-power n, pow-suc 10 n)))
 
 -- the first digit, 0 if there is none
 unfoldable pub firstDigit : List ℕ → ℕ
@@ -68,6 +102,5 @@ digits-first (suc k) n h l = go (λ b. digits-first k (n / 10) (tenth k n h) b) 
         let i = ih (omega arith) in
         rw (first-before (digitsOf k (n / 10)) ((48 + n % 10) ∷ []) (omega arith)) i
 
-pub no-leading-zero : (n : ℕ) → n < 10 ^ 20 → 1 ≤ n → 48 < firstDigit (decimal n)
-unfolding decimal
-no-leading-zero n h l = digits-first 20 n h l
+pub no-leading-zero : (n : ℕ) → 1 ≤ n → 48 < firstDigit (decimal n)
+no-leading-zero n l = rw (decimal-is n) (digits-first (suc n) n (omega (arith, below-power n, pow-suc 10 n)) l)

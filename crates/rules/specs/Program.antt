@@ -21,10 +21,10 @@ unfoldable pub digitsOf : ℕ → ℕ → List ℕ
 digitsOf zero n = []
 digitsOf (suc k) n = pick (ltb n 10) ((48 + n) ∷ []) (digitsOf k (n / 10) ++ ((48 + n % 10) ∷ []))
 
--- every number here is below 2 ^ 64, which has 20 digits; the law `decimal-value` (proofs/Decimal) says that 20 are enough
+-- all digits of a number: a number below 10 ^ 20, as every number here is, has at most 20, and any number has no more than one more than itself
 unfoldable pub decimal : ℕ → List ℕ
 unfolding digitsOf
-decimal n = digitsOf 20 n
+decimal n = digitsOf (pick (ltb n 100000000000000000000) 20 (suc n)) n
 
 -- a number below 0 has a minus (45) in front
 unfoldable pub signedDecimal : ℤ → List ℕ
