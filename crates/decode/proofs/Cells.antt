@@ -1,22 +1,20 @@
 -- Comparisons written into the arrays: the one written reads back as the query's, the others as before; and the loop over the comparisons of a DEFINE.
-use mathlib.Core.Path.{_≡_, refl, sym, ap, _∙_}
-use mathlib.Core.Bool.{Bool, true, false}
-use mathlib.Core.List.{List, [], _∷_}
-use Prim.Native.Nat.{ℕ, zero, suc, _+_, _*_, _-_, _%_, _≤_, _<_}
+use mathlib.Core.Path.{_≡_, refl, ap, _∙_}
+use mathlib.Core.List.{List}
+use Prim.Native.Nat.{ℕ, _+_, _*_, _-_, _%_, _≤_, _<_}
 use native.Mathlib.Omega.{arith}
 use lib.Dec.{ltb}
 use lib.IntN.{ℤ, pos}
-use lib.ListN.{length, getD, set, length-set}
+use lib.ListN.{length, getD, set}
 use lib.Seq.{getD-set-same}
 use mir.Syntax.{w8, w32}
 use mir.Val.{SFits, toZ, ofZ}
 use mir.Facts.{toZ-ofZ}
 use borrow.Author.Tests.{ltb-true, ltb-false}
 use Rattle.rules.specs.Basics.{signed8, signed32, le32}
-use Rattle.rules.specs.Rows.{Comparison}
-use Rattle.rules.specs.Query.{comparisonFits, comparisonAt}
+use Rattle.rules.specs.Query.{comparisonAt}
 use Rattle.rules.proofs.Choice.{decided}
-use Rattle.decode.specs.Layout.{cellAt, SpotFor, Spots, Untouched}
+use Rattle.decode.specs.Layout.{cellAt, Spots, Untouched}
 use Rattle.decode.specs.Steps.{spotOf, SpotFits, setTwo, setFour, Kept, Sized, CellRoom, PutCell, CellsRoom, PutCells}
 use Rattle.decode.proofs.Spotting.{left-spot, right-spot, spot-column, spot-for}
 use Rattle.decode.proofs.Keeping.{kept-none, kept-set, kept-on, kept-wider, kept-two, two-0, two-1, kept-four, four-0, four-1, four-2, four-3}

@@ -1,23 +1,23 @@
 -- Measures written into the array: those written and those to come are the measures of the query (`Counting`).
 use mathlib.Core.Path.{_≡_, refl, sym, ap, _∙_}
-use mathlib.Core.Bool.{Bool, true, false}
+use mathlib.Core.Bool.{Bool, true}
 use mathlib.Core.List.{List, [], _∷_, _++_, append-assoc, append-nil}
 use Prim.Native.Nat.{ℕ, zero, suc, _+_, _*_, _-_, _≤_, _<_}
 use native.Mathlib.Omega.{arith}
 use native.Mathlib.Numerals.{add-one}
-use lib.Dec.{eqb, ltb}
+use lib.Dec.{ltb}
 use lib.ListN.{length, getD}
 use borrow.Author.Tests.{eq-eqb, ltb-true, ltb-false}
 use Rattle.query.specs.declared.Read.{Read}
 use Rattle.query.specs.declared.Read.the-variants.{Record as Whole, Cut}
-use Rattle.rules.specs.Basics.{pick, keep, tabulate}
+use Rattle.rules.specs.Basics.{keep, tabulate}
 use Rattle.rules.specs.Query.{Record, columnsOf, Measure, measureAt, measuresFrom, functionFits}
 use Rattle.rules.proofs.Choice.{decided}
-use Rattle.query.specs.Read.{recordOf, recordsAt, readAt}
+use Rattle.query.specs.Read.{recordsAt, readAt}
 use Rattle.query.proofs.Records.{records-end}
-use Rattle.query.proofs.Reading.{Found, found, read-more, read-cut}
+use Rattle.query.proofs.Reading.{found, read-more, read-cut}
 use Rattle.decode.specs.Layout.{measureIn, measuresIn, Fits}
-use Rattle.decode.specs.Steps.{Ahead, setThree, Kept, measureOf, MeasuresRoom, PutMeasures}
+use Rattle.decode.specs.Steps.{Ahead, setThree, measureOf, MeasuresRoom, PutMeasures}
 use Rattle.decode.specs.declared.Measure.{Measure as Three}
 use Rattle.decode.proofs.Keeping.{kept-three, three-0, three-1, three-2}
 use Rattle.decode.proofs.Going.{this-fits, measure-next, measure-says}

@@ -6,20 +6,20 @@ use mathlib.Core.List.{List, [], _∷_, _++_}
 use Prim.Native.Nat.{ℕ, zero, suc, _+_, _*_, _-_, _≤_, _<_}
 use native.Mathlib.Omega.{arith}
 use lib.Dec.{eqb, ltb}
-use lib.IntN.{ℤ, pos}
+use lib.IntN.{ℤ}
 use lib.ListN.{length, getD, set, length-set, replicate, length-replicate, getD-replicate}
 use lib.Seq.{getD-set-same, getD-set-other}
 use borrow.Author.Tests.{eq-eqb, ne-eqb, eqb-true, eqb-false, ltb-true, ltb-false}
 use Rattle.query.specs.declared.Read.{Read}
 use Rattle.query.specs.declared.Read.the-variants.{Record as Whole, Cut}
-use Rattle.rules.specs.Basics.{pick, keep, tabulate}
+use Rattle.rules.specs.Basics.{pick, tabulate}
 use Rattle.rules.specs.Rows.{Comparison}
-use Rattle.rules.specs.Query.{Record, kinds, oneOf, someOf, noneLeft, field, firstOfKind, columnsOf, comparisonAt, comparisonsOf, comparisonsFrom, measureAt, measuresFrom}
+use Rattle.rules.specs.Query.{Record, kinds, oneOf, someOf, noneLeft, field, firstOfKind, columnsOf, comparisonAt, comparisonsOf, comparisonsFrom, measuresFrom}
 use Rattle.rules.proofs.Choice.{decided, clash, and-left, and-right}
 use Rattle.query.specs.Read.{recordOf, recordsAt, readAt, restOf}
-use Rattle.query.proofs.Reading.{Found, found, read-more, field-first}
-use Rattle.decode.specs.Layout.{cellAt, cellsFrom, Spots, Letter, Untouched}
-use Rattle.decode.specs.Steps.{Ahead, Kept, Sized, CellsRoom, PutCells, DefineRoom, PutDefine, DefinesRoom, PutDefines}
+use Rattle.query.proofs.Reading.{found, read-more, field-first}
+use Rattle.decode.specs.Layout.{cellAt, cellsFrom, Spots, Untouched}
+use Rattle.decode.specs.Steps.{Ahead, Sized, CellsRoom, PutCells, DefineRoom, PutDefine, DefinesRoom, PutDefines}
 use Rattle.decode.proofs.Cells.{untouched-none, untouched-before, untouched-behind, untouched-cell, untouched-spots, untouched-on}
 use Rattle.decode.proofs.Going.{before-end, not-cut, this-fits, define-next, defines-over, Says, define-says}
 

@@ -1,10 +1,10 @@
 -- A query with no answer 1 to 3 read in its order: which kind the next record has, what its fields are, and that the rest is again in order (`Ahead`).
 use mathlib.Core.Path.{_≡_, refl, sym, ap, _∙_}
-use mathlib.Core.Bool.{Bool, true, false, not, _&&_, _||_}
+use mathlib.Core.Bool.{Bool, true, false, _&&_}
 use mathlib.Core.List.{List, [], _∷_}
 use Prim.Native.Nat.{ℕ, zero, suc, _+_, _*_, _-_, _≤_, _<_}
 use native.Mathlib.Omega.{arith}
-use lib.Dec.{eqb, leb, ltb}
+use lib.Dec.{eqb, leb}
 use lib.ListN.{length, getD}
 use borrow.Author.Tests.{eq-eqb, ne-eqb, eqb-true, eqb-false, leb-true, leb-false, not-false}
 use Rattle.query.specs.declared.Read.{Read}
@@ -14,7 +14,7 @@ use Rattle.rules.specs.Query.{Record, records, oneOf, someOf, noneLeft, inOrder
 use Rattle.rules.proofs.Choice.{decided, clash, and-left, and-right}
 use Rattle.query.specs.Read.{recordOf, recordsAt, readAt, restOf, firstAnswer}
 use Rattle.query.proofs.Records.{records-end}
-use Rattle.query.proofs.Reading.{Found, found, read-more, read-cut, field-first}
+use Rattle.query.proofs.Reading.{found, read-more, read-cut}
 use Rattle.query.proofs.Order.{rest-nil}
 use Rattle.decode.specs.Steps.{Ahead}
 

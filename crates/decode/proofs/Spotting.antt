@@ -1,7 +1,7 @@
 -- Spots: how large they are, that the code computes them, and that a spot gives the column and the offset back.
-use mathlib.Core.Path.{_≡_, refl, sym, ap, _∙_}
+use mathlib.Core.Path.{_≡_, ap, _∙_}
 use mathlib.Core.Bool.{Bool, true, false, _&&_}
-use Prim.Native.Nat.{ℕ, zero, suc, _+_, _*_, _-_, _/_, _%_, _≤_, _<_}
+use Prim.Native.Nat.{ℕ, suc, _+_, _*_, _-_, _/_, _%_, _≤_, _<_}
 use native.Mathlib.Omega.{arith}
 use native.Mathlib.Nat.{mul-le-mul, mul-add-mod-self-right, mul-add-div-right, mod-eq-of-lt, div-eq-of-lt}
 use lib.Dec.{ltb, leb, eqb}

@@ -1,25 +1,22 @@
 -- The whole of a query: its shape and text are the first two records, the skip stands behind the DEFINEs, the measures behind the skip; so what was read
 -- one after the other are the query's parts.
 use mathlib.Core.Path.{_≡_, refl, sym, ap, _∙_}
-use mathlib.Core.Bool.{Bool, true, false}
-use mathlib.Core.List.{List, [], _∷_}
-use Prim.Native.Nat.{ℕ, _+_, _*_, _-_, _≤_, _<_}
+use mathlib.Core.List.{List, _∷_}
+use Prim.Native.Nat.{ℕ, _+_, _-_, _≤_, _<_}
 use native.Mathlib.Omega.{arith}
-use lib.Dec.{eqb}
-use lib.IntN.{ℤ, pos}
+use lib.IntN.{ℤ}
 use lib.ListN.{length, getD, take, drop}
 use borrow.Author.Tests.{eq-eqb, ne-eqb}
 use Rattle.query.specs.declared.Read.{Read}
 use Rattle.query.specs.declared.Read.the-variants.{Record as Whole, Cut}
-use Rattle.rules.specs.Basics.{pick, keep}
 use Rattle.rules.specs.Query.{Record, records, field, firstOfKind, columnsOf, textOf, comparisonsFrom, measuresFrom, parts}
 use Rattle.query.specs.Read.{recordOf, recordsAt, readAt, firstAnswer}
-use Rattle.query.proofs.Reading.{Found, found, read-more, field-first}
+use Rattle.query.proofs.Reading.{found, read-more, field-first}
 use Rattle.query.proofs.Order.{columns-at}
-use Rattle.decode.specs.Layout.{Decoded, measureIn, Fits}
+use Rattle.decode.specs.Layout.{Decoded}
 use Rattle.decode.specs.declared.Head.{Head}
 use Rattle.decode.specs.declared.Tail.{Tail}
-use Rattle.decode.specs.Steps.{Room, Ahead, HeadOf, TailRoom, TailOf, DefinesRoom, PutDefines, MeasuresRoom, PutMeasures}
+use Rattle.decode.specs.Steps.{Room, Ahead, HeadOf, TailRoom, TailOf, PutDefines, MeasuresRoom, PutMeasures}
 use Rattle.decode.proofs.Going.{at-start, before-end, not-cut, this-fits, shape-next, text-next, skip-next, shape-says, text-says, skip-says}
 
 -- ---- a record of another kind in front
@@ -170,13 +167,7 @@ module _ (s : List ℕ) (at : ℕ) (measures₀ : List ℕ) (room : TailRoom s a
 -- ---- all
 
 module _ (s cells₀ : List ℕ) (offsets₀ numbers₀ : List ℤ) (measures₀ : List ℕ) (room : Room s cells₀ offsets₀ numbers₀ measures₀) (h : Head) (f : HeadOf s h) where
-  pub defines-room : DefinesRoom s (h .next) (h .columns) cells₀ offsets₀ numbers₀
-  defines-room = record { sized = room .sized; ahead = f .ahead; shape = f .columns; most = f .most }
-
   module _ (cells : List ℕ) (offsets numbers : List ℤ) (counts : List ℕ) (at : ℕ) (d : PutDefines s (h .next) (h .columns) cells₀ offsets₀ numbers₀ cells offsets numbers counts at) where
-    pub tail-room : TailRoom s at measures₀
-    tail-room = record { ahead = d .ahead; long = room .long }
-
     pub decoded : (measures : List ℕ) (t : Tail) → TailOf s at measures₀ measures t
         → Decoded s cells₀ offsets₀ numbers₀ measures₀ cells offsets numbers counts measures (record { columns = h .columns; start = h .start; len = h .len; skip = t .skip; measures = t .measures })
     unfolding parts

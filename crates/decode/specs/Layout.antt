@@ -4,14 +4,14 @@
 -- the comparison reads, counted in entries from 64 rows before the row on: (64 + offset) * columns + column. So the search needs no product to find it.
 -- `counts` has how many comparisons each letter has. A measure is three bytes: function, letter, column.
 use mathlib.Core.Path.{_≡_}
-use mathlib.Core.Bool.{Bool, true, false}
-use mathlib.Core.List.{List, [], _∷_}
+use mathlib.Core.Bool.{true}
+use mathlib.Core.List.{List}
 use Prim.Native.Nat.{ℕ, _+_, _*_, _-_, _/_, _%_, _≤_, _<_}
 use lib.IntN.{ℤ, pos, _+ℤ_}
 use lib.ListN.{length, getD, take, drop}
 use Rattle.rules.specs.Basics.{tabulate}
 use Rattle.rules.specs.Rows.{Comparison}
-use Rattle.rules.specs.Query.{Measure, functionFits, columnsOf, parts}
+use Rattle.rules.specs.Query.{Measure, functionFits, parts}
 use Rattle.decode.specs.declared.Parts.{Parts}
 
 -- the comparison with this number, read back

@@ -2,8 +2,8 @@
 // specs/Layout says how the arrays hold comparisons and measures, and what they hold afterwards (`Decoded`). A query comes here with no answer 1 to 3.
 use query::Read;
 ghost use mathlib.Core.Path.{_≡_};
-ghost use Prim.Native.Nat.{ℕ, _+_, _*_, _-_, _≤_, _<_};
-ghost use lib.ListN.{length, getD, set};
+ghost use Prim.Native.Nat.{_+_, _*_, _-_, _≤_, _<_};
+ghost use lib.ListN.{length, getD};
 ghost use Rattle.rules.specs.Basics.{le32, signed8, signed32};
 ghost use Rattle.rules.specs.Query.{measureAt};
 ghost use Rattle.query.specs.Read.{firstAnswer};

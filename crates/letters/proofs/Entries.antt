@@ -2,24 +2,24 @@
 use mathlib.Core.Path.{_≡_, refl, sym, ap, _∙_, subst}
 use mathlib.Core.Bool.{Bool, true, false}
 use mathlib.Core.List.{List}
-use mathlib.Core.Option.{Option, none, some}
-use Prim.Native.Nat.{ℕ, zero, suc, _+_, _*_, _-_, _/_, _%_, _≤_, _<_}
+use mathlib.Core.Option.{none, some}
+use Prim.Native.Nat.{ℕ, suc, _+_, _*_, _-_, _/_, _%_, _≤_, _<_}
 use native.Mathlib.Omega.{arith}
 use native.Mathlib.Nat.{mul-le-mul, le-refl, suc-mul, add-mul, mod-lt, div-add-mod', mul-div-cancel}
 use lib.Dec.{ltb}
 use lib.IntN.{ℤ, pos, negsuc, _+ℤ_, +ℤ-assoc, +ℤ-comm}
-use lib.Signed.{mag, ltZ, leZ}
+use lib.Signed.{mag, ltZ}
 use lib.ListN.{length, getD}
 use mir.Syntax.{w8, w32, w64}
 use mir.Val.{SFits, toZ, ofZ}
 use mir.Facts.{toZ-ofZ, sfits-widen}
 use borrow.Author.Tests.{lt-ltb, ltb-true}
 use Rattle.rules.specs.Basics.{pick}
-use Rattle.rules.specs.Rows.{Table, tableOf, entry, entryAt}
+use Rattle.rules.specs.Rows.{tableOf, entry, entryAt}
 use Rattle.rules.proofs.Choice.{clash}
 use Rattle.rules.proofs.Signed.{sum-fits, read-back}
 use Rattle.decode.specs.Layout.{SpotFor}
-use Rattle.letters.specs.Letters.{there, At, EntryThere, RightRoom}
+use Rattle.letters.specs.Letters.{there, At, EntryThere}
 
 -- ---- a signed byte moves a row index
 

@@ -2,23 +2,22 @@
 use mathlib.Core.Path.{_≡_, refl, sym, ap, _∙_}
 use mathlib.Core.Bool.{Bool, true, false, not, _&&_, and-true, and-assoc}
 use mathlib.Core.List.{List, [], _∷_, _++_}
-use mathlib.Core.Option.{Option, none, some}
+use mathlib.Core.Option.{none, some}
 use Prim.Native.Nat.{ℕ, zero, suc, _+_, _*_, _-_, _%_, _≤_, _<_}
 use native.Mathlib.Omega.{arith}
 use native.Mathlib.Numerals.{add-one}
-use lib.Dec.{eqb}
 use lib.IntN.{ℤ, pos, _+ℤ_}
 use lib.Signed.{mag}
-use lib.ListN.{length, getD}
+use lib.ListN.{getD}
 use mir.Syntax.{w8, w32, w64}
 use mir.Val.{SFits, toZ, ofZ}
 use mir.Facts.{toZ-ofZ}
 use borrow.Author.Tests.{eq-eqb, ne-eqb, not-true, not-false}
-use Rattle.rules.specs.Basics.{pick, every, tabulate}
+use Rattle.rules.specs.Basics.{every, tabulate}
 use Rattle.rules.specs.Rows.{Comparison, Table, tableOf, entryAt, compares, plusNumber, rightSide, metBy, met, holds}
 use Rattle.rules.proofs.Signed.{sum-fits, read-back}
-use Rattle.decode.specs.Layout.{cellAt, cellsFrom, SpotFor, Spots}
-use Rattle.letters.specs.Letters.{there, At, EntryThere, rightMet, RightRoom, CellRoom, LetterRoom}
+use Rattle.decode.specs.Layout.{cellAt, cellsFrom}
+use Rattle.letters.specs.Letters.{there, EntryThere, rightMet, RightRoom, CellRoom, LetterRoom}
 use Rattle.letters.proofs.Entries.{spot-inside, spot-entry, no-entry}
 
 abbrev held : ℤ → ℤ

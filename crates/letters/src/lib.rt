@@ -1,14 +1,14 @@
 // Whether a letter holds at a row, over a query's decoded comparisons: the search asks this for every letter place that it enters.
 // A comparison costs no product: where an entry lies follows from the index of the row's first entry and the decoded spot. Sums are exact in 64 bits.
 ghost use mathlib.Core.Path.{_≡_};
-ghost use mathlib.Core.Bool.{Bool, true, false, _&&_, _||_};
-ghost use Prim.Native.Nat.{ℕ, _+_, _*_, _-_, _≤_, _<_};
+ghost use mathlib.Core.Bool.{true, false, _&&_, _||_};
+ghost use Prim.Native.Nat.{_+_, _*_, _-_, _≤_, _<_};
 ghost use lib.IntN.{ℤ, pos, _+ℤ_};
 ghost use lib.Signed.{ltZ, leZ, mag};
-ghost use lib.ListN.{length, getD};
+ghost use lib.ListN.{getD};
 ghost use Rattle.rules.specs.Rows.{tableOf, compares, met, holds};
 ghost use Rattle.decode.specs.Layout.{cellAt, cellsFrom};
-ghost use Rattle.letters.specs.Letters.{there, At, EntryThere, rightMet, RightRoom, CellRoom, LetterRoom};
+ghost use Rattle.letters.specs.Letters.{there, EntryThere, rightMet, RightRoom, CellRoom, LetterRoom};
 
 // Numbers as wider ones.
 fn long(x: i32) -> i64

@@ -1,14 +1,14 @@
 -- The rules for fields, by the tests in the code: each law is one way through a function of fields.rt, with its callees' results as premises.
 use mathlib.Core.Path.{_≡_, refl, sym, ap, _∙_}
 use mathlib.Core.Bool.{Bool, true, false, not, _&&_, _||_}
-use mathlib.Core.List.{List, [], _∷_}
+use mathlib.Core.List.{List}
 use Prim.Native.Nat.{ℕ, zero, suc, _+_, _*_, _-_, _≤_, _<_}
 use native.Mathlib.Omega.{arith}
 use lib.Dec.{eqb, ltb, leb}
-use lib.ListN.{length, getD}
-use borrow.Author.Tests.{eq-eqb, ne-eqb, lt-ltb, le-ltb, le-leb, lt-leb, leb-true, leb-false, not-true, not-false}
-use Rattle.rules.specs.Basics.{pick, inRange, isLetter, everyBelow, signed8}
-use Rattle.rules.specs.Query.{Record, offsetFits, field, shapeFits, textFits, leftFits, rightFits, comparisonFits, defineFits, skipFits, functionFits, measureFits, recordFits}
+use lib.ListN.{getD}
+use borrow.Author.Tests.{eq-eqb, ne-eqb, lt-ltb, le-ltb, le-leb, leb-true, leb-false, not-true, not-false}
+use Rattle.rules.specs.Basics.{inRange, isLetter, everyBelow, signed8}
+use Rattle.rules.specs.Query.{offsetFits, field, shapeFits, textFits, leftFits, rightFits, comparisonFits, defineFits, skipFits, functionFits, measureFits, recordFits}
 use Rattle.query.specs.Read.{recordOf, fitsAt}
 use Rattle.query.proofs.Reading.{field-first}
 

@@ -1,7 +1,7 @@
 -- The pass for answer 8. The letters of the DEFINEs seen are marked; two DEFINEs of the whole query are for one letter exactly if two to come are, or
 -- one to come is for a marked letter (`Marking`).
 use mathlib.Core.Path.{_≡_, refl, sym, ap, _∙_}
-use mathlib.Core.Bool.{Bool, true, false, _&&_, _||_, or-assoc, or-comm}
+use mathlib.Core.Bool.{Bool, true, false, _&&_, _||_}
 use mathlib.Core.List.{List, [], _∷_}
 use Prim.Native.Nat.{ℕ, zero, suc, _≤_, _<_}
 use native.Mathlib.Omega.{arith}
@@ -12,9 +12,9 @@ use borrow.Author.Tests.{eq-eqb, ne-eqb, eqb-true, eqb-false}
 use Rattle.query.specs.declared.Read.{Read}
 use Rattle.query.specs.declared.Read.the-variants.{Record as Whole, Cut}
 use Rattle.rules.specs.Basics.{pick, keep, has, repeats}
-use Rattle.rules.specs.Query.{Record, records, field, defined, doubled}
+use Rattle.rules.specs.Query.{Record, records, defined, doubled}
 use Rattle.rules.proofs.Choice.{decided}
-use Rattle.query.specs.Read.{recordsAt, recordOf, readAt, Marked}
+use Rattle.query.specs.Read.{recordsAt, readAt, Marked}
 use Rattle.query.proofs.Records.{records-end}
 use Rattle.query.proofs.Reading.{read-more, read-cut, field-first}
 

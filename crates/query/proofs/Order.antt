@@ -3,7 +3,7 @@
 use mathlib.Core.Path.{_≡_, refl, sym, ap, _∙_}
 use mathlib.Core.Bool.{Bool, true, false, not, _&&_, and-assoc}
 use mathlib.Core.List.{List, [], _∷_}
-use Prim.Native.Nat.{ℕ, zero, suc, _+_, _-_, _≤_, _<_}
+use Prim.Native.Nat.{ℕ, zero, suc, _-_, _≤_, _<_}
 use native.Mathlib.Omega.{arith}
 use lib.Dec.{eqb}
 use lib.ListN.{length, getD}
@@ -11,7 +11,7 @@ use borrow.Author.Tests.{eq-eqb, ne-eqb, eqb-true, eqb-false, not-true, not-fals
 use Rattle.query.specs.declared.Read.{Read}
 use Rattle.query.specs.declared.Read.the-variants.{Record as Whole, Cut}
 use Rattle.rules.specs.Basics.{pick, every}
-use Rattle.rules.specs.Query.{Record, records, oneOf, someOf, noneLeft, inOrder, kinds, misplaced, firstOfKind, recordFits, columnsOf, unfit, cut}
+use Rattle.rules.specs.Query.{Record, records, oneOf, someOf, noneLeft, inOrder, kinds, misplaced, firstOfKind, recordFits, columnsOf, unfit}
 use Rattle.rules.proofs.Choice.{decided}
 use Rattle.query.specs.Read.{recordsAt, recordOf, readAt, restOf, Follows, firstAnswer}
 use Rattle.query.proofs.Records.{records-end}

@@ -10,7 +10,6 @@ use Rattle.query.specs.declared.Read.{Read}
 use Rattle.query.specs.declared.Read.the-variants.{Record as Whole, Cut}
 use Rattle.rules.specs.Basics.{pick, le16}
 use Rattle.rules.specs.Query.{Record, wholeAt, recordAt, nextAt, field, cut}
-use Rattle.rules.proofs.Choice.{clash}
 use Rattle.query.specs.Read.{recordsAt, recordOf, readAt}
 use Rattle.query.proofs.Records.{behindAt, whole-yes, whole-short, whole-past, within, records-more, records-none, behind-more, cut-is}
 

@@ -1,7 +1,7 @@
 -- The records from an index on, one record at a time: what every pass over a query's records goes by. `recordsAt` and `behindAt` have enough
 -- fuel from every index, and answer 1 is where the walk over the records stops.
 use mathlib.Core.Path.{_≡_, refl, sym, ap, _∙_}
-use mathlib.Core.Bool.{Bool, true, false, _&&_}
+use mathlib.Core.Bool.{true, false}
 use mathlib.Core.List.{List, [], _∷_}
 use Prim.Native.Nat.{ℕ, zero, suc, _+_, _-_, _≤_, _<_}
 use native.Mathlib.Omega.{arith}

@@ -2,7 +2,7 @@
 // definition of its name; what is tested is short, so all parts of a test are computed and joined by both and either.
 ghost use mathlib.Core.Path.{_≡_};
 ghost use mathlib.Core.Bool.{true, false, not, _&&_, _||_};
-ghost use Prim.Native.Nat.{ℕ, _+_, _*_, _≤_, _<_};
+ghost use Prim.Native.Nat.{_+_, _*_, _≤_, _<_};
 ghost use lib.ListN.{length, getD};
 ghost use lib.Dec.{ltb, leb, eqb};
 ghost use Rattle.rules.specs.Basics.{inRange, everyBelow};

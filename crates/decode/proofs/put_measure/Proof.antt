@@ -1,36 +1,28 @@
-use Rattle.decode.specs.Steps.{setThree}
+-- `decode::put_measure` meets its contract.
 use mathlib.Core.Path.{refl}
 use borrow.Author.Needs.{needs}
+use Rattle.decode.specs.Steps.{setThree}
 use Rattle.decode.proofs.put_measure.Statement.{statement}
 use Rattle.decode.proofs.put_measure.Tie as tie
-use Rattle.decode.proofs.put_measure.Reads as reads
-use Rattle.decode.proofs.put_measure.Lts as lts
 
--- src/lib.rt:228:14
 mul-at : tie.Need-mul-at
 mul-at c = search needs
 
--- src/lib.rt:229:5
 element-write-measures : tie.Need-element-write-measures
 element-write-measures c = search needs
 
--- src/lib.rt:230:14
 add-measures : tie.Need-add-measures
 add-measures c = search needs
 
--- src/lib.rt:230:5
 element-write-measures-2 : tie.Need-element-write-measures-2
 element-write-measures-2 c = search needs
 
--- src/lib.rt:231:14
 add-measures-2 : tie.Need-add-measures-2
 add-measures-2 c = search needs
 
--- src/lib.rt:231:5
 element-write-measures-3 : tie.Need-element-write-measures-3
 element-write-measures-3 c = search needs
 
--- src/lib.rt:224:1
 returns : tie.Need-returns
 unfolding setThree
 returns c = refl

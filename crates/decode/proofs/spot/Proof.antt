@@ -1,48 +1,37 @@
-use Rattle.decode.proofs.Spotting.{product-low, product-high, back, spot-low, spot-high}
+-- `decode::spot` meets its contract by the laws of Spotting.
 use native.Mathlib.Omega.{arith}
 use borrow.Author.Needs.{needs}
+use Rattle.decode.proofs.Spotting.{product-low, product-high, back, spot-low, spot-high}
 use Rattle.decode.proofs.spot.Statement.{statement}
 use Rattle.decode.proofs.spot.Tie as tie
-use Rattle.decode.proofs.spot.Reads as reads
-use Rattle.decode.proofs.spot.Lts as lts
 
--- src/lib.rt:105:18
 add-result : tie.Need-add-result
 add-result c = search needs
 
--- src/lib.rt:105:17
 mul-result : tie.Need-mul-result
 mul-result c = omega (arith, product-low _ _ _ (c .before .pre) (omega arith))
 
--- src/lib.rt:105:17
 add-result-2 : tie.Need-add-result-2
 add-result-2 c = omega (arith, product-low _ _ _ (c .before .pre) (omega arith))
 
--- src/lib.rt:105:16
 cast-result : tie.Need-cast-result
 cast-result c = omega (arith, product-low _ _ _ (c .before .pre) (omega arith))
 
--- src/lib.rt:105:9
 returns : tie.Need-returns
 returns c = spot-low _ _ _ (c .before .pre) (omega arith)
 
--- src/lib.rt:107:7
 sub-result : tie.Need-sub-result
 sub-result c = back _ _ _ (c .before .pre) (omega arith)
 
--- src/lib.rt:107:6
 mul-result-2 : tie.Need-mul-result-2
 mul-result-2 c = omega (arith, product-high _ _ _ (c .before .pre) (omega arith))
 
--- src/lib.rt:107:6
 add-result-3 : tie.Need-add-result-3
 add-result-3 c = omega (arith, product-high _ _ _ (c .before .pre) (omega arith))
 
--- src/lib.rt:107:5
 cast-result-2 : tie.Need-cast-result-2
 cast-result-2 c = omega (arith, product-high _ _ _ (c .before .pre) (omega arith))
 
--- src/lib.rt:100:1
 returns-2 : tie.Need-returns-2
 returns-2 c = spot-high _ _ _ (c .before .pre) (omega arith)
 

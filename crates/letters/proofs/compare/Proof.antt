@@ -1,6 +1,6 @@
-use Rattle.letters.proofs.Comparing.{op-1, op-2, op-3, op-4, op-5, op-6}
-use native.Mathlib.Omega.{arith}
+-- `letters::compare` meets its contract by the laws of Comparing.
 use borrow.Author.Needs.{needs}
+use Rattle.letters.proofs.Comparing.{op-1, op-2, op-3, op-4, op-5, op-6}
 use Rattle.letters.proofs.compare.Statement.{statement}
 use Rattle.letters.proofs.compare.Tie as tie
 

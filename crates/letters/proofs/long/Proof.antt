@@ -1,15 +1,12 @@
+-- `letters::long` meets its contract by the laws of Signed.
 use mir.Facts.{toZ-ofZ, sfits-widen}
 use Rattle.rules.proofs.Signed.{widened}
 use Rattle.letters.proofs.long.Statement.{statement}
 use Rattle.letters.proofs.long.Tie as tie
-use Rattle.letters.proofs.long.Reads as reads
-use Rattle.letters.proofs.long.Lts as lts
 
--- src/lib.rt:17:5
 cast-result : tie.Need-cast-result
 cast-result c = rw (toZ-ofZ (c .fits .x)) (sfits-widen tt (c .fits .x))
 
--- src/lib.rt:14:1
 returns : tie.Need-returns
 returns c = (widened _ (c .fits .x), rw (widened _ (c .fits .x)) (c .fits .x .sfits))
 

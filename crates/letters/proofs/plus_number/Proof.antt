@@ -1,20 +1,15 @@
-use Rattle.letters.proofs.Entries.{plus-fits, plus-is}
+-- `letters::plus_number` meets its contract by the laws of Entries.
 use borrow.Author.Needs.{needs}
+use Rattle.letters.proofs.Entries.{plus-fits, plus-is}
 use Rattle.letters.proofs.plus_number.Statement.{statement}
 use Rattle.letters.proofs.plus_number.Tie as tie
-use Rattle.letters.proofs.plus_number.Reads as reads
-use Rattle.letters.proofs.plus_number.Lts as lts
-use Rattle.letters.proofs.long.Reads as long-reads
 
--- src/lib.rt:97:9
 long-requires : tie.Need-long-requires
 long-requires c κs = search needs
 
--- src/lib.rt:97:5
 add-result : tie.Need-add-result
 add-result c = plus-fits (c .before .args .a) (c .long .result) (search needs) (search needs)
 
--- src/lib.rt:93:1
 returns : tie.Need-returns
 returns c = plus-is (c .before .args .a) (c .long .result) (c .before .args .number) (search needs) (search needs) (c .before .fits .number) (c .long .ensures .0)
 

@@ -1,6 +1,7 @@
+-- `query::after` meets its contract by the laws of Order.
 use native.Mathlib.Omega.{arith}
-use Rattle.query.proofs.Order.{shape-yes, shape-no, text-yes, text-no, skip-yes, skip-no, defines-full, defines-more, measures-other, measures-full, measures-more, out-stays}
 use borrow.Author.Needs.{needs}
+use Rattle.query.proofs.Order.{shape-yes, shape-no, text-yes, text-no, skip-yes, skip-no, defines-full, defines-more, measures-other, measures-full, measures-more, out-stays}
 use Rattle.query.proofs.after.Statement.{statement}
 use Rattle.query.proofs.after.Tie as tie
 

@@ -1,16 +1,11 @@
+-- `query::first_answer` meets its contract by the laws of Order and Reading. The invariant is `Judged`, of what the pass has seen and of what is to come; the bytes left fall.
+use Prim.Native.Nat.{_-_}
+use lib.ListN.{length}
+use borrow.Author.Needs.{needs}
 use Rattle.query.proofs.Order.{Judged, judged-none, judged-more, judged-cut, judged-2, judged-3, judged-0}
 use Rattle.query.proofs.Reading.{fewer, body-inside}
-use lib.ListN.{length}
-use Prim.Native.Nat.{_-_}
-use borrow.Author.Needs.{needs}
 use Rattle.query.proofs.first_answer.Statement.{statement}
 use Rattle.query.proofs.first_answer.Tie as tie
-use Rattle.query.proofs.first_answer.Reads as reads
-use Rattle.query.proofs.first_answer.Lts as lts
-use Rattle.query.proofs.after.Reads as after-reads
-use Rattle.query.proofs.columns_by.Reads as columns-by-reads
-use Rattle.query.proofs.record_at.Reads as record-at-reads
-use Rattle.query.proofs.still_fit.Reads as still-fit-reads
 
 abbrev Inv-loop : tie.InvT-loop
 Inv-loop s at₀ stage₀ columns₀ fit₀ at stage columns fit = Judged s at (stage .at) (stage .left) columns fit
@@ -18,55 +13,42 @@ Inv-loop s at₀ stage₀ columns₀ fit₀ at stage columns fit = Judged s at (
 abbrev μ-loop : tie.MeasureT-loop
 μ-loop s at₀ stage₀ columns₀ fit₀ at stage columns fit = length s - at
 
--- src/lib.rt:162:5
 loop-holds : tie.Need-loop-holds Inv-loop μ-loop
 loop-holds c = judged-none _
 
--- src/lib.rt:168:13
 record-at-requires : tie.Need-record-at-requires Inv-loop μ-loop
 record-at-requires c κs = search needs
 
--- src/lib.rt:164:13
 enum-known-kind : tie.Need-enum-known-kind Inv-loop μ-loop
 enum-known-kind c = search needs
 
--- src/lib.rt:170:13
 enum-told : tie.Need-enum-told Inv-loop μ-loop
 enum-told c = search needs
 
--- src/lib.rt:170:13
 returns : tie.Need-returns Inv-loop μ-loop
 returns c = search (needs, judged-cut)
 
--- src/lib.rt:172:9
 columns-by-requires : tie.Need-columns-by-requires Inv-loop μ-loop
 columns-by-requires c κs = search needs
 
--- src/lib.rt:173:9
 still-fit-requires : tie.Need-still-fit-requires Inv-loop μ-loop
 still-fit-requires c κs = search (needs, body-inside)
 
--- src/lib.rt:174:9
 after-requires : tie.Need-after-requires Inv-loop μ-loop
 after-requires c κs = search needs
 
--- src/lib.rt:162:5
 loop-less : tie.Need-loop-less Inv-loop μ-loop
 loop-less c = search (needs, fewer)
 
--- src/lib.rt:162:5
 loop-again : tie.Need-loop-again Inv-loop μ-loop
 loop-again c = search (needs, judged-more)
 
--- src/lib.rt:178:9
 returns-2 : tie.Need-returns-2 Inv-loop μ-loop
 returns-2 c = search (needs, judged-2)
 
--- src/lib.rt:181:9
 returns-3 : tie.Need-returns-3 Inv-loop μ-loop
 returns-3 c = search (needs, judged-3)
 
--- src/lib.rt:155:1
 returns-4 : tie.Need-returns-4 Inv-loop μ-loop
 returns-4 c = search (needs, judged-0)
 

@@ -1,5 +1,6 @@
-use Rattle.rules.specs.Basics.{le16}
+-- `query::number_at` meets its contract.
 use borrow.Author.Needs.{needs}
+use Rattle.rules.specs.Basics.{le16}
 use Rattle.query.proofs.number_at.Statement.{statement}
 use Rattle.query.proofs.number_at.Tie as tie
 

@@ -1,6 +1,7 @@
+-- `query::record_at` meets its contract by the laws of Reading.
 use native.Mathlib.Omega.{arith}
-use Rattle.query.proofs.Reading.{cut-header, cut-body, is-whole}
 use borrow.Author.Needs.{needs}
+use Rattle.query.proofs.Reading.{cut-header, cut-body, is-whole}
 use Rattle.query.proofs.record_at.Statement.{statement}
 use Rattle.query.proofs.record_at.Tie as tie
 

@@ -1,14 +1,11 @@
+-- `query::two_defines` meets its contract by the laws of Marks and Reading. The invariant is `Marking`, of the marked letters and of the DEFINEs to come; the bytes left fall.
+use Prim.Native.Nat.{_-_}
+use lib.ListN.{length}
+use borrow.Author.Needs.{needs}
 use Rattle.query.proofs.Marks.{Marking, marking-none, marking-more, marking-here, marking-cut, marking-all}
 use Rattle.query.proofs.Reading.{fewer}
-use lib.ListN.{length}
-use Prim.Native.Nat.{_-_}
-use borrow.Author.Needs.{needs}
 use Rattle.query.proofs.two_defines.Statement.{statement}
 use Rattle.query.proofs.two_defines.Tie as tie
-use Rattle.query.proofs.two_defines.Reads as reads
-use Rattle.query.proofs.two_defines.Lts as lts
-use Rattle.query.proofs.marked_before.Reads as marked-before-reads
-use Rattle.query.proofs.record_at.Reads as record-at-reads
 
 abbrev Inv-loop : tie.InvT-loop
 Inv-loop s marks₀ at₀ marks at = Marking s marks at
@@ -16,43 +13,33 @@ Inv-loop s marks₀ at₀ marks at = Marking s marks at
 abbrev μ-loop : tie.MeasureT-loop
 μ-loop s marks₀ at₀ marks at = length s - at
 
--- src/lib.rt:205:5
 loop-holds : tie.Need-loop-holds Inv-loop μ-loop
 loop-holds c = marking-none _
 
--- src/lib.rt:211:13
 record-at-requires : tie.Need-record-at-requires Inv-loop μ-loop
 record-at-requires c κs = search needs
 
--- src/lib.rt:207:13
 enum-known-kind : tie.Need-enum-known-kind Inv-loop μ-loop
 enum-known-kind c = search needs
 
--- src/lib.rt:213:13
 enum-told : tie.Need-enum-told Inv-loop μ-loop
 enum-told c = search needs
 
--- src/lib.rt:213:13
 returns : tie.Need-returns Inv-loop μ-loop
 returns c = search (needs, marking-cut)
 
--- src/lib.rt:215:12
 marked-before-requires : tie.Need-marked-before-requires Inv-loop μ-loop
 marked-before-requires c κs = search needs
 
--- src/lib.rt:216:13
 returns-2 : tie.Need-returns-2 Inv-loop μ-loop
 returns-2 c = search (needs, marking-here)
 
--- src/lib.rt:205:5
 loop-less : tie.Need-loop-less Inv-loop μ-loop
 loop-less c = search (needs, fewer)
 
--- src/lib.rt:205:5
 loop-again : tie.Need-loop-again Inv-loop μ-loop
 loop-again c = search (needs, marking-more)
 
--- src/lib.rt:200:1
 returns-3 : tie.Need-returns-3 Inv-loop μ-loop
 returns-3 c = search (needs, marking-all)
 

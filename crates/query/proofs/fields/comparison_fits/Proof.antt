@@ -1,6 +1,6 @@
-use Rattle.query.proofs.FieldRules.{comparison-is}
-use native.Mathlib.Omega.{arith}
+-- `query::fields::comparison_fits` meets its contract by the laws of FieldRules.
 use borrow.Author.Needs.{needs}
+use Rattle.query.proofs.FieldRules.{comparison-is}
 use Rattle.query.proofs.fields.comparison_fits.Statement.{statement}
 use Rattle.query.proofs.fields.comparison_fits.Tie as tie
 

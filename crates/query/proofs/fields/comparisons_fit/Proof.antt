@@ -1,8 +1,9 @@
-use Rattle.query.proofs.FieldRules.{Below, below-none, below-all, each-more, each-stop}
-use native.Mathlib.Omega.{arith}
+-- `query::fields::comparisons_fit` meets its contract by the laws of FieldRules. The invariant is `Below`: the first k comparisons fit; the count left falls.
 use Prim.Native.Nat.{_-_}
-use Rattle.query.specs.Read.{fitsAt}
+use native.Mathlib.Omega.{arith}
 use borrow.Author.Needs.{needs}
+use Rattle.query.specs.Read.{fitsAt}
+use Rattle.query.proofs.FieldRules.{Below, below-none, below-all, each-more, each-stop}
 use Rattle.query.proofs.fields.comparisons_fit.Statement.{statement}
 use Rattle.query.proofs.fields.comparisons_fit.Tie as tie
 

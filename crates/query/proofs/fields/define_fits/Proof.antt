@@ -1,6 +1,6 @@
-use Rattle.query.proofs.FieldRules.{define-short, define-long, define-is}
-use native.Mathlib.Omega.{arith}
+-- `query::fields::define_fits` meets its contract by the laws of FieldRules.
 use borrow.Author.Needs.{needs}
+use Rattle.query.proofs.FieldRules.{define-short, define-long, define-is}
 use Rattle.query.proofs.fields.define_fits.Statement.{statement}
 use Rattle.query.proofs.fields.define_fits.Tie as tie
 

@@ -1,6 +1,6 @@
-use Rattle.query.proofs.FieldRules.{function-is}
-use native.Mathlib.Omega.{arith}
+-- `query::fields::function_fits` meets its contract by the laws of FieldRules.
 use borrow.Author.Needs.{needs}
+use Rattle.query.proofs.FieldRules.{function-is}
 use Rattle.query.proofs.fields.function_fits.Statement.{statement}
 use Rattle.query.proofs.fields.function_fits.Tie as tie
 

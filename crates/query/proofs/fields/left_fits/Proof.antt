@@ -1,6 +1,6 @@
-use Rattle.query.proofs.FieldRules.{left-is}
-use native.Mathlib.Omega.{arith}
+-- `query::fields::left_fits` meets its contract by the laws of FieldRules.
 use borrow.Author.Needs.{needs}
+use Rattle.query.proofs.FieldRules.{left-is}
 use Rattle.query.proofs.fields.left_fits.Statement.{statement}
 use Rattle.query.proofs.fields.left_fits.Tie as tie
 

@@ -1,6 +1,6 @@
-use Rattle.query.proofs.FieldRules.{measure-long, measure-is}
-use native.Mathlib.Omega.{arith}
+-- `query::fields::measure_fits` meets its contract by the laws of FieldRules.
 use borrow.Author.Needs.{needs}
+use Rattle.query.proofs.FieldRules.{measure-long, measure-is}
 use Rattle.query.proofs.fields.measure_fits.Statement.{statement}
 use Rattle.query.proofs.fields.measure_fits.Tie as tie
 

@@ -1,6 +1,6 @@
-use Rattle.query.proofs.FieldRules.{offset-low, offset-high}
+-- `query::fields::offset_fits` meets its contract by the laws of FieldRules.
 use native.Mathlib.Omega.{arith}
-use borrow.Author.Needs.{needs}
+use Rattle.query.proofs.FieldRules.{offset-low, offset-high}
 use Rattle.query.proofs.fields.offset_fits.Statement.{statement}
 use Rattle.query.proofs.fields.offset_fits.Tie as tie
 

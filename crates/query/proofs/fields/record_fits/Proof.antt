@@ -1,6 +1,6 @@
-use Rattle.query.proofs.FieldRules.{fits-1, fits-2, fits-3, fits-4, fits-5, fits-other}
-use native.Mathlib.Omega.{arith}
+-- `query::fields::record_fits` meets its contract by the laws of FieldRules.
 use borrow.Author.Needs.{needs}
+use Rattle.query.proofs.FieldRules.{fits-1, fits-2, fits-3, fits-4, fits-5, fits-other}
 use Rattle.query.proofs.fields.record_fits.Statement.{statement}
 use Rattle.query.proofs.fields.record_fits.Tie as tie
 

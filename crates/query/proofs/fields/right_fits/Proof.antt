@@ -1,6 +1,6 @@
-use Rattle.query.proofs.FieldRules.{right-constant, right-column}
-use native.Mathlib.Omega.{arith}
+-- `query::fields::right_fits` meets its contract by the laws of FieldRules.
 use borrow.Author.Needs.{needs}
+use Rattle.query.proofs.FieldRules.{right-constant, right-column}
 use Rattle.query.proofs.fields.right_fits.Statement.{statement}
 use Rattle.query.proofs.fields.right_fits.Tie as tie
 

@@ -1,6 +1,6 @@
-use Rattle.query.proofs.FieldRules.{shape-long, shape-is}
-use native.Mathlib.Omega.{arith}
+-- `query::fields::shape_fits` meets its contract by the laws of FieldRules.
 use borrow.Author.Needs.{needs}
+use Rattle.query.proofs.FieldRules.{shape-long, shape-is}
 use Rattle.query.proofs.fields.shape_fits.Statement.{statement}
 use Rattle.query.proofs.fields.shape_fits.Tie as tie
 

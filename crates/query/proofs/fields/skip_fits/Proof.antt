@@ -1,6 +1,6 @@
-use Rattle.query.proofs.FieldRules.{skip-long, skip-is}
-use native.Mathlib.Omega.{arith}
+-- `query::fields::skip_fits` meets its contract by the laws of FieldRules.
 use borrow.Author.Needs.{needs}
+use Rattle.query.proofs.FieldRules.{skip-long, skip-is}
 use Rattle.query.proofs.fields.skip_fits.Statement.{statement}
 use Rattle.query.proofs.fields.skip_fits.Tie as tie
 

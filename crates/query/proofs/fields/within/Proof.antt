@@ -1,6 +1,6 @@
-use Rattle.query.proofs.FieldRules.{within-is}
-use native.Mathlib.Omega.{arith}
+-- `query::fields::within` meets its contract by the laws of FieldRules.
 use borrow.Author.Needs.{needs}
+use Rattle.query.proofs.FieldRules.{within-is}
 use Rattle.query.proofs.fields.within.Statement.{statement}
 use Rattle.query.proofs.fields.within.Tie as tie
 
