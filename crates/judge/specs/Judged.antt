@@ -12,6 +12,7 @@ use Rattle.rules.specs.Language.{Tree, pattern, nullable, emptyLoop}
 use Rattle.rules.specs.Reader.{treeOf}
 use Rattle.rules.specs.Answers.{deep, noTree, hasEmptyLoop, tooMany, P, lowest}
 use Rattle.pattern.specs.Held.{Top}
+use Rattle.judge.specs.declared.Depth.{Depth}
 use Rattle.judge.specs.declared.Verdict.{Verdict}
 
 -- the tests for answers 4 to 7, which ask the pattern's text alone
@@ -26,6 +27,12 @@ textAnswer s = lowest 4 (textTests s)
 
 abbrev pub refusal : ℕ → Verdict
 refusal a = record { answer = a; places = 0; top = 0 }
+
+-- the counts of parentheses behind one more byte: ( is 40, ) is 41
+pub record Behind (b : ℕ) (d r : Depth) : Type 0 where
+  pub open-counted : b ≡ 40 → (r .opened ≡ d .opened + 1) × (r .closed ≡ d .closed)
+  pub shut-counted : b ≡ 41 → (r .opened ≡ d .opened) × (r .closed ≡ d .closed + 1)
+  pub others : (b ≡ 40 → ⊥) → (b ≡ 41 → ⊥) → (r .opened ≡ d .opened) × (r .closed ≡ d .closed)
 
 -- r is right for whatever tree has its top at i
 abbrev pub Nullable : List ℕ → ℕ → Bool → Type 0
