@@ -1,10 +1,10 @@
 -- Laws of the judging functions: each is one way through one function.
-use mathlib.Core.Path.{_≡_, refl, sym, ap, _∙_, subst}
-use mathlib.Core.Bool.{Bool, true, false, _&&_, _||_, true≢false, false≢true}
+use mathlib.Core.Path.{_≡_, refl, sym, ap, _∙_}
+use mathlib.Core.Bool.{Bool, true, false, _&&_, _||_, true≢false}
 use mathlib.Core.List.{List, [], _∷_}
-use mathlib.Core.Logic.{_⊎_, inl, inr}
+use mathlib.Core.Logic.{inl, inr}
 use mathlib.Core.Option.{Option, none, some}
-use Prim.Native.Nat.{ℕ, zero, suc, _+_, _*_, _-_, _≤_, _<_, min}
+use Prim.Native.Nat.{ℕ, suc, _+_, _-_, _≤_, _<_}
 use native.Mathlib.Omega.{arith}
 use mir.Val.{Fits as Fits-in}
 use mir.Syntax.{w64}
@@ -13,20 +13,19 @@ use lib.ListN.{length, getD, drop, drop-of-length-le}
 use lib.Seq.{drop-cons}
 use borrow.Author.Tests.{lt-ltb, le-ltb, eq-eqb, ne-eqb, eqb-true, eqb-false}
 use Rattle.rules.specs.Basics.{pick, has}
-use Rattle.rules.specs.Language.{Form, lower, upper, InBounds, Rank, pattern, branch, factor, primary, Tree, one, more, last, next, bare, times, letter, caret, dollar, empty, group, nullable, unbounded, emptyLoop}
+use Rattle.rules.specs.Language.{pattern, factor, primary, Tree, one, more, last, bare, times, letter, caret, dollar, empty, group, nullable, emptyLoop}
 use Rattle.rules.specs.Reader.{treeOf}
-use Rattle.rules.specs.Places.{fork, placeCount, placesOf}
+use Rattle.rules.specs.Places.{fork, placesOf}
 use Rattle.rules.specs.Answers.{deep, noTree, hasEmptyLoop, tooMany, P, lowest}
 use Rattle.pattern.specs.Nodes.{nodeAt}
-use Rattle.pattern.specs.declared.nodes.Sort.{Sort}
 use Rattle.pattern.specs.declared.nodes.Sort.the-variants.{Letter, Anchor, Empty, Sequence, Alternation, Group}
 use Rattle.pattern.specs.declared.nodes.Node.{Node}
 use Rattle.pattern.specs.declared.Step.{Step}
-use Rattle.pattern.specs.Written.{nodeCount, Fits, Parsed, ParsedAs, TextSays}
+use Rattle.pattern.specs.Written.{Fits, Parsed, ParsedAs, TextSays}
 use Rattle.pattern.specs.Held.{body, Top, At}
 use Rattle.pattern.proofs.RoundLaws.{bound-eq}
 use Rattle.pattern.proofs.Holds.{pattern-nodes, text-top}
-use Rattle.pattern.proofs.ByNode.{Bounded, IsAnchor, FactorAt, SeqAt, AltAt, GroupAt, as-any, as-seq, as-alt, as-letter, as-anchor, as-empty, as-group, group-left}
+use Rattle.pattern.proofs.ByNode.{IsAnchor, FactorAt, GroupAt, as-any, as-seq, as-alt, as-letter, as-anchor, as-empty, as-group, group-left}
 use Rattle.judge.specs.Judged.{textTests, textAnswer, refusal, Nullable, EmptyLoop, Behind, Judging}
 use Rattle.judge.specs.declared.Depth.{Depth}
 use Rattle.judge.specs.declared.Verdict.{Verdict}

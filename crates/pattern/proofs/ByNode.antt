@@ -1,19 +1,17 @@
 -- A tree by the sort of its top node: what the node's words say of the tree, and the trees at its parts' nodes. A function that recurses over
 -- nodes takes from here what its calls require, and that the height falls.
 use mathlib.Core.Path.{_≡_, refl, sym, ap, _∙_, subst}
-use mathlib.Core.Bool.{Bool, true, false}
-use mathlib.Core.List.{List, [], _∷_}
+use mathlib.Core.Bool.{false}
+use mathlib.Core.List.{List}
 use mathlib.Core.Logic.{_⊎_, inl, inr}
-use mathlib.Core.Option.{Option, none, some}
-use Prim.Native.Nat.{ℕ, zero, suc, _+_, _*_, _-_, _≤_, _<_, max, min}
+use Prim.Native.Nat.{ℕ, _+_, _*_, _-_, _≤_, _<_, max, min}
 use native.Mathlib.Omega.{arith}
 use lib.ListN.{length}
-use Rattle.rules.specs.Language.{Form, star, plus, opt, exactly, atLeast, atMost, between, lower, upper, InBounds, Rank, pattern, branch, factor, primary, Tree, one, more, last, next, bare, times, letter, caret, dollar, empty, group}
-use Rattle.rules.specs.Places.{roundPlaces, fork, placeCount}
+use Rattle.rules.specs.Language.{lower, upper, InBounds, pattern, branch, factor, primary, Tree, one, more, last, next, bare, times, letter, caret, dollar, empty, group}
+use Rattle.rules.specs.Places.{roundPlaces, placeCount}
 use Rattle.rules.proofs.Counting.{cap-rounds}
-use Rattle.pattern.specs.Shows.{highest, highOf}
+use Rattle.pattern.specs.Shows.{highOf}
 use Rattle.pattern.specs.Nodes.{nodeAt}
-use Rattle.pattern.specs.declared.nodes.Sort.{Sort}
 use Rattle.pattern.specs.declared.nodes.Sort.the-variants.{Letter, Anchor, Empty, Sequence, Alternation, Group}
 use Rattle.pattern.specs.declared.nodes.Node.{Node}
 use Rattle.pattern.specs.Written.{plain, withMark, nodeCount, height, own, InOrder}
@@ -209,12 +207,14 @@ group-at s n F q e = go (prim-group (body F) (q .base) (sym (q .sort) ∙ e))
     go (p, j) =
         let l : n .left ≡ q .base + nodeCount p - 1 = q .left ∙ ap (λ (x : Tree primary). (own x (q .base)) .left) j in
         let m : nodeCount (body F) ≡ nodeCount p = ap (λ (x : Tree primary). nodeCount x) j in
-        let f = q .fits in
-        (p, record {
-          is = j;
-          inside = record { base = q .base; top = omega (arith, pattern-nodes p); held = subst (λ (x : Tree primary). Held x (q .base) s) j (q .held); fits = omega arith };
-          high-is = q .high-is ∙ ap (λ (x : Tree primary). height x) j;
-        })
+        let f = q .fits in (
+          p,
+          record {
+            is = j;
+            inside = record { base = q .base; top = omega (arith, pattern-nodes p); held = subst (λ (x : Tree primary). Held x (q .base) s) j (q .held); fits = omega arith };
+            high-is = q .high-is ∙ ap (λ (x : Tree primary). height x) j;
+          },
+        )
 
 -- ---- a tree by its top node
 

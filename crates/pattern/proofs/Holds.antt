@@ -1,15 +1,15 @@
 -- What the readers write is held: the room that `written` leaves holds the tree, and holds it as long as its nodes are as they were. So the
 -- room that `read_text` leaves holds the text's tree, with its top at the last node (`text-top`).
-use mathlib.Core.Path.{_≡_, refl, sym, ap, _∙_, subst}
-use mathlib.Core.List.{List, [], _∷_}
-use mathlib.Core.Option.{Option, some}
-use Prim.Native.Nat.{ℕ, zero, suc, _+_, _*_, _-_, _≤_, _<_, max, min}
+use mathlib.Core.Path.{_≡_, refl, _∙_, subst}
+use mathlib.Core.List.{List}
+use mathlib.Core.Option.{some}
+use Prim.Native.Nat.{ℕ, _+_, _*_, _-_, _≤_, _<_, max, min}
 use native.Mathlib.Omega.{arith}
 use lib.ListN.{length}
-use Rattle.rules.specs.Language.{Form, InBounds, Rank, pattern, branch, factor, primary, Tree, one, more, last, next, bare, times, letter, caret, dollar, empty, group}
+use Rattle.rules.specs.Language.{Rank, pattern, branch, factor, primary, Tree, one, more, last, next, bare, times, letter, caret, dollar, empty, group}
 use Rattle.rules.specs.Places.{placeCount}
 use Rattle.pattern.specs.Nodes.{nodeAt, putNode}
-use Rattle.pattern.specs.declared.nodes.Sort.the-variants.{Letter, Anchor, Empty, Sequence, Alternation, Group}
+use Rattle.pattern.specs.declared.nodes.Sort.the-variants.{Sequence, Alternation}
 use Rattle.pattern.specs.declared.nodes.Node.{Node}
 use Rattle.pattern.specs.Written.{plain, withMark, nodeCount, height, own, written, Fits, Parsed, ParsedAs, TextSays}
 use Rattle.pattern.specs.Held.{Held, Top}

@@ -1,20 +1,20 @@
 -- Laws of a text's bytes and quantifiers: each is one way through one function of the module marks.
-use mathlib.Core.Path.{_≡_, refl, sym, ap, _∙_, subst}
+use mathlib.Core.Path.{_≡_, refl, sym, ap, _∙_}
 use mathlib.Core.Bool.{Bool, true, false, true≢false}
 use mathlib.Core.List.{List, [], _∷_}
-use mathlib.Core.Option.{Option, none, some}
-use Prim.Native.Nat.{ℕ, zero, suc, _+_, _*_, _-_, _≤_, _<_}
+use mathlib.Core.Option.{none}
+use Prim.Native.Nat.{ℕ, suc, _+_, _*_, _-_, _≤_, _<_}
 use native.Mathlib.Omega.{arith}
 use native.Mathlib.Decide.{decLt}
 use lib.Dec.{eqb, leb}
-use lib.ListN.{length, getD, drop, drop-of-length-le, length-drop}
+use lib.ListN.{length, getD, drop, drop-of-length-le}
 use lib.Seq.{drop-cons}
-use borrow.Author.Tests.{le-leb, lt-leb, eq-eqb, ne-eqb, leb-true, leb-false}
+use borrow.Author.Tests.{le-leb, lt-leb, eq-eqb, ne-eqb}
 use Rattle.rules.specs.Basics.{pick, isLetter}
 use Rattle.rules.specs.Language.{Form, star, plus, opt, exactly, atLeast, atMost, between, lower, upper}
 use Rattle.rules.specs.Reader.{Reading, got, bad, peek, rest, skip, isDigit, number, bounded, Marked, unmarked, broken, marked, reluctant, shut, upTo, from, braces, quantifier}
 use Rattle.rules.proofs.GrammarSound.{in-range}
-use Rattle.pattern.specs.Shows.{codeOf, highest, highOf, Codes, boundedBy, Numbered, SaysNumber, Numeral, ShowsMark, Shows}
+use Rattle.pattern.specs.Shows.{codeOf, highest, highOf, Codes, boundedBy, SaysNumber, Numeral, Shows}
 use Rattle.pattern.specs.declared.marks.Mark.{Mark}
 use Rattle.pattern.specs.declared.marks.Mark.the-variants.{Unmarked, Broken, Found}
 use Rattle.pattern.specs.declared.marks.Value.{Value}

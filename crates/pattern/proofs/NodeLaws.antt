@@ -1,12 +1,10 @@
 -- Laws of the module nodes: a word's sort, a node read, a node put.
-use mathlib.Core.Path.{_≡_, refl, sym, ap, _∙_}
-use mathlib.Core.Bool.{Bool, true, false}
+use mathlib.Core.Path.{_≡_, refl}
 use mathlib.Core.List.{List}
 use Prim.Native.Nat.{ℕ, _+_, _*_, _/_, _%_}
 use lib.Dec.{eqb}
 use lib.ListN.{getD, set}
-use borrow.Author.Tests.{eq-eqb, ne-eqb}
-use Rattle.rules.specs.Basics.{pick}
+use borrow.Author.Tests.{ne-eqb}
 use Rattle.pattern.specs.Nodes.{nodeAt, putNode, sortOf, wordOf, bitOf}
 use Rattle.pattern.specs.declared.nodes.Sort.{Sort}
 use Rattle.pattern.specs.declared.nodes.Sort.the-variants.{Letter, Anchor, Empty, Sequence, Alternation, Group}

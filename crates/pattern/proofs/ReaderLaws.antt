@@ -1,9 +1,9 @@
 -- Laws of the four readers: each is one way through one reader.
 use mathlib.Core.Path.{_≡_, refl, sym, ap, _∙_, subst}
 use mathlib.Core.Bool.{Bool, true, false, true≢false, false≢true}
-use mathlib.Core.List.{List, [], _∷_}
-use mathlib.Core.Option.{Option, none, some}
-use Prim.Native.Nat.{ℕ, zero, suc, _+_, _*_, _-_, _≤_, _<_, _^_, max, min}
+use mathlib.Core.List.{List, []}
+use mathlib.Core.Option.{some}
+use Prim.Native.Nat.{ℕ, zero, suc, _+_, _*_, _-_, _≤_, _<_, max, min}
 use native.Mathlib.Omega.{arith}
 use mir.Val.{Fits as Fits-in}
 use mir.Syntax.{w64}
@@ -11,11 +11,11 @@ use lib.Dec.{eqb}
 use lib.ListN.{length, getD, drop, length-drop}
 use lib.Seq.{drop-length, drop-cons}
 use borrow.Author.Tests.{eq-eqb, ne-eqb, eqb-true, eqb-false}
-use Rattle.rules.specs.Basics.{pick, isLetter}
+use Rattle.rules.specs.Basics.{isLetter}
 use Rattle.rules.specs.Places.{roundPlaces, fork, placeCount}
 use Rattle.rules.specs.Language.{Form, star, plus, opt, exactly, atLeast, atMost, between, lower, upper, InBounds, Rank, pattern, branch, factor, primary, Tree, one, more, last, next, bare, times, letter, caret, dollar, empty, group}
 use Rattle.rules.specs.Reader.{Reading, got, bad, peek, rest, skip, Marked, unmarked, broken, marked, quantifier, ended, under, altOn, altWith, seqOn, seqWith, timesOn, timesWith, closed, parted, simple, primaryOn, read, rankOf, depth, whole, treeOf}
-use Rattle.pattern.specs.Shows.{codeOf, highest, highOf, ShowsMark, Shows}
+use Rattle.pattern.specs.Shows.{codeOf, highest, highOf, Shows}
 use Rattle.pattern.specs.declared.marks.Mark.{Mark}
 use Rattle.pattern.specs.declared.marks.Mark.the-variants.{Unmarked, Broken, Found}
 use Rattle.pattern.proofs.MarkLaws.{inside, rest-drop}
@@ -27,7 +27,7 @@ use Rattle.pattern.proofs.Put.{put-other, put-length}
 use Rattle.pattern.specs.declared.nodes.Sort.{Sort}
 use Rattle.pattern.specs.declared.nodes.Sort.the-variants.{Letter, Anchor, Empty, Sequence, Alternation, Group}
 use Rattle.pattern.specs.declared.nodes.Node.{Node}
-use Rattle.pattern.specs.Written.{plain, withMark, nodeCount, height, own, written, forkOf, roundsOf, InOrder, Kept, Fits, Done, Says, On, Reads, HeadDone, SaysHead, Wrote, HeadOn, SimpleSays, ReadsHead, Holding, FitsHead, stepTo, FinishedMark, FinishedAs, Finished, Joins, Joined, SkipTo, EmptyIs, ShutNeeds, Shut, ShutIs, Parsed, ParsedAs, TextSays}
+use Rattle.pattern.specs.Written.{plain, withMark, nodeCount, height, own, written, forkOf, roundsOf, InOrder, Kept, Fits, Says, On, Reads, SaysHead, Wrote, HeadOn, SimpleSays, ReadsHead, Holding, FitsHead, stepTo, FinishedMark, FinishedAs, Finished, Joins, Joined, SkipTo, EmptyIs, ShutNeeds, Shut, ShutIs, ParsedAs, TextSays}
 use Rattle.pattern.specs.declared.Step.{Step}
 use Rattle.pattern.specs.declared.Head.{Head}
 
@@ -112,8 +112,8 @@ module _ (s m : List ℕ) (p : Head) (q : Mark) where
             let e4 : lazy ≡ z = cc in
             let e5 : to ≡ h .to = cc in
             let e6 : q2 ≡ min (roundPlaces (lower f) (upper f) (p .node .places)) 257 =
-                eq ∙ ap (λ (x : ℕ). min (roundsOf x high (p .node .places)) 257) e2 ∙ ap (λ (x : ℕ). min (roundsOf (lower f) x (p .node .places)) 257) e3
-                ∙ ap (λ (x : ℕ). min x 257) (rounds-eq f (p .node .places) (marked-in (drop (p .at) s) f z u d)) in
+            eq ∙ ap (λ (x : ℕ). min (roundsOf x high (p .node .places)) 257) e2 ∙ ap (λ (x : ℕ). min (roundsOf (lower f) x (p .node .places)) 257) e3
+            ∙ ap (λ (x : ℕ). min x 257) (rounds-eq f (p .node .places) (marked-in (drop (p .at) s) f z u d)) in
             record {
               to = to;
               is = g .0 ∙ ap (stepTo to p) e6;

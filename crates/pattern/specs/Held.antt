@@ -1,6 +1,6 @@
 -- A room that holds a tree's nodes, each behind its parts; a tree with its top at a node.
 use mathlib.Core.Path.{_≡_}
-use mathlib.Core.Bool.{Bool, true, false}
+use mathlib.Core.Bool.{Bool, false}
 use mathlib.Core.List.{List}
 use Prim.Native.Nat.{ℕ, _+_, _*_, _-_, _≤_, max, min}
 use lib.ListN.{length}

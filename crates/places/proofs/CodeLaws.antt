@@ -1,20 +1,18 @@
 -- The places of a tree, part by part, in the order in which they are put: each law is one way through one function that unrolls.
-use mathlib.Core.Path.{_≡_, refl, sym, ap, _∙_, subst}
-use mathlib.Core.Bool.{Bool, true, false}
+use mathlib.Core.Path.{_≡_, refl, sym, ap, _∙_}
+use mathlib.Core.Bool.{Bool}
 use mathlib.Core.List.{List, [], _∷_, _++_, append-nil}
-use mathlib.Core.Option.{Option, none, some}
-use Prim.Native.Nat.{ℕ, zero, suc, _+_, _*_, _-_, _≤_, _<_, min}
+use Prim.Native.Nat.{ℕ, suc, _+_, _-_, _≤_, _<_}
 use native.Mathlib.Omega.{arith}
-use native.Mathlib.Nat.{mul-le-mul}
 use lib.Dec.{eqb}
 use lib.ListN.{length}
-use borrow.Author.Tests.{eq-eqb, ne-eqb}
+use borrow.Author.Tests.{ne-eqb}
 use Rattle.rules.specs.Basics.{pick}
-use Rattle.rules.specs.Language.{Form, star, plus, opt, exactly, atLeast, atMost, between, lower, upper, InBounds, Rank, pattern, branch, factor, primary, Tree, one, more, last, next, bare, times, letter, caret, dollar, empty, group}
-use Rattle.rules.specs.Places.{Unrolled, uLetter, uCaret, uDollar, uEmpty, uSeq, uAlt, uOpt, uStar, Branches, uNil, uCons, copies, options, behind, repeated, forked, unrolled, unroll, Place, pLetter, pCaret, pDollar, pFork, pEnd, waysInTurn, size, sizes, startOf, startsOf, code, codes, places, roundPlaces, fork, placeCount, placesOf}
+use Rattle.rules.specs.Language.{Form, star, plus, opt, exactly, atLeast, atMost, between, lower, upper, InBounds, pattern, branch, factor, Tree, one, more, last, next, bare, times}
+use Rattle.rules.specs.Places.{Unrolled, uEmpty, uSeq, uAlt, uOpt, uStar, Branches, copies, options, behind, repeated, forked, unrolled, unroll, Place, pFork, waysInTurn, size, startOf, startsOf, code, codes, fork, placeCount}
 use Rattle.rules.proofs.Rank.{code-length, codes-length}
 use Rattle.rules.proofs.Counting.{forked-more, forked-size, unrolled-size}
-use Rattle.rules.proofs.Distinct.{fresh, distinct, thinPlace, thinned, thinned-append, thinned-length}
+use Rattle.rules.proofs.Distinct.{distinct, thinPlace, thinned, thinned-append, thinned-length}
 use Rattle.pattern.specs.Shows.{highest, highOf}
 use Rattle.pattern.specs.Held.{body, lowOf, highestOf, lazyOf}
 use Rattle.pattern.proofs.ByNode.{Bounded}
@@ -29,7 +27,7 @@ seq-code x y B K c e k ec ee ek =
     let c2 : B + size x ≡ B + c = omega arith in
     let e2 : B + c + size y ≡ e = omega arith in
     let s : startOf y (B + size x) K ≡ k =
-        start-by-size y (B + size x) K ∙ ap (λ (v : ℕ). pick (eqb v (v + size y)) K v) c2 ∙ ap (λ (v : ℕ). pick (eqb (B + c) v) K (B + c)) e2 ∙ sym ek in
+    start-by-size y (B + size x) K ∙ ap (λ (v : ℕ). pick (eqb v (v + size y)) K v) c2 ∙ ap (λ (v : ℕ). pick (eqb (B + c) v) K (B + c)) e2 ∙ sym ek in
     thinned-append (code x B (startOf y (B + size x) K)) (code y (B + size x) K)
     ∙ ap (λ (v : ℕ). thinned (code x B v) ++ thinned (code y (B + size x) K)) s
     ∙ ap (λ (v : ℕ). thinned (code x B k) ++ thinned (code y v K)) c2

@@ -1,32 +1,32 @@
 -- Laws of the functions that put forks: each is one way through one function.
 use mathlib.Core.Path.{_≡_, refl, sym, ap, _∙_, subst}
 use mathlib.Core.Bool.{Bool, true, false, _||_}
-use mathlib.Core.List.{List, [], _∷_, _++_}
-use Prim.Native.Nat.{ℕ, zero, suc, _+_, _*_, _-_, _≤_, _<_, min}
+use mathlib.Core.List.{List, [], _∷_}
+use Prim.Native.Nat.{ℕ, _+_, _*_, _-_, _≤_, _<_, min}
 use native.Mathlib.Omega.{arith}
 use types.Run.{OneOf, miss}
 use denote.Enum.Declared.{tagOf}
 use mir.Val.{Fits as Fits-in}
 use mir.Syntax.{w64}
 use lib.Dec.{eqb}
-use lib.ListN.{length, getD, set}
+use lib.ListN.{length}
 use borrow.Author.Tests.{eq-eqb}
 use Rattle.rules.specs.Basics.{pick, has}
-use Rattle.rules.specs.Language.{Rank, pattern, branch, factor, Tree, one, more, last, next}
-use Rattle.rules.specs.Places.{Unrolled, Branches, uNil, uCons, unrolled, Place, pFork, waysInTurn, size, sizes, startOf, startsOf, placeCount}
+use Rattle.rules.specs.Language.{pattern, branch, Tree, one, more, last, next}
+use Rattle.rules.specs.Places.{Unrolled, Branches, uNil, uCons, unrolled, Place, pFork, size, sizes, startOf, startsOf, placeCount}
 use Rattle.rules.proofs.Counting.{unrolled-size}
 use Rattle.rules.proofs.Distinct.{keepNew, fresh, distinct}
 use Rattle.pattern.specs.Nodes.{nodeAt}
 use Rattle.pattern.specs.declared.nodes.Sort.{Sort}
-use Rattle.pattern.specs.declared.nodes.Sort.the-variants.{Letter, Anchor, Empty, Sequence, Alternation, Group}
+use Rattle.pattern.specs.declared.nodes.Sort.the-variants.{Sequence, Alternation}
 use Rattle.pattern.specs.declared.nodes.Node.{Node}
 use Rattle.pattern.proofs.nodes.Sort.{the-type}
 use Rattle.pattern.specs.Held.{Top, At}
-use Rattle.pattern.proofs.ByNode.{FactorAt, SeqAt, AltAt, as-any, as-alt, at-in, alt-left, alt-right, top-places}
+use Rattle.pattern.proofs.ByNode.{as-any, as-alt, at-in, alt-left, alt-right, top-places}
 use Rattle.places.specs.Tables.{span}
 use Rattle.places.specs.Emitting.{putWays, putWords, putPlace, wayCount, waysIn, putPlaces, Fitting, Emitted, WayPut, WayNeeds, newStarts, Starting, Started, twoPlaces, TwoWays, choicePlaces, Choosing, forkPlaces, Forking}
 use Rattle.places.specs.declared.Spot.{Spot}
-use Rattle.places.proofs.TableLaws.{ways-length, words-length}
+use Rattle.places.proofs.TableLaws.{ways-length}
 use Rattle.places.proofs.WayLaws.{AfterWay, after-way, start-end, start-by-size}
 
 -- ---- a place that is put

@@ -3,14 +3,13 @@ use mathlib.Core.Path.{_≡_, refl, sym, ap, _∙_, subst}
 use mathlib.Core.Bool.{Bool, true, false, true≢false}
 use mathlib.Core.List.{List, [], _∷_, _++_}
 use mathlib.Core.Option.{Option, none, some}
-use Prim.Native.Nat.{ℕ, zero, suc, _+_, _*_, _-_, _≤_, _<_}
+use Prim.Native.Nat.{ℕ, zero, suc, _+_, _-_, _≤_, _<_}
 use native.Mathlib.Omega.{arith}
 use native.Mathlib.Decide.{decLt}
 use lib.Dec.{eqb, ltb}
 use borrow.Author.Tests.{ltb-false}
-use lib.ListN.{length, getD}
 use Rattle.rules.specs.Basics.{pick}
-use Rattle.rules.specs.Language.{Form, lower, upper, Rank, pattern, branch, factor, primary, Tree, one, more, last, next, bare, times, letter, caret, dollar, empty, group, Written}
+use Rattle.rules.specs.Language.{lower, upper, Rank, pattern, branch, factor, primary, Tree, one, more, last, next, bare, times, letter, caret, dollar, empty, group}
 use Rattle.rules.specs.Reader.{treeOf}
 use Rattle.rules.specs.Places.{Unrolled, uLetter, uCaret, uDollar, uEmpty, uSeq, uAlt, uOpt, uStar, Branches, uNil, uCons, copies, options, behind, repeated, UnrolledAt, forked, unrolled, unroll, Place, pLetter, pCaret, pDollar, pFork, pEnd, waysInTurn, size, sizes, startOf, startsOf, code, codes, places, placesOf}
 use Rattle.rules.specs.Answers.{deep, noTree, hasEmptyLoop, tooMany, P, placesIn, lowest}
@@ -18,14 +17,14 @@ use Rattle.rules.proofs.Walk.{All}
 use Rattle.rules.proofs.Rank.{entry-below}
 use Rattle.rules.proofs.Bounds.{Lettered, written-letters}
 use Rattle.rules.proofs.GrammarSound.{found-written}
-use Rattle.rules.proofs.Counting.{unroll-size, places-counted}
-use Rattle.rules.proofs.Distinct.{fresh, fresh-all, thinPlace, thinned}
+use Rattle.rules.proofs.Counting.{unroll-size}
+use Rattle.rules.proofs.Distinct.{fresh-all, thinPlace, thinned}
 use Rattle.pattern.specs.Held.{Top}
 use Rattle.judge.specs.Judged.{textTests, textAnswer, Judging}
 use Rattle.judge.specs.declared.Verdict.{Verdict}
 use Rattle.places.specs.Tables.{placeIn, placesFrom, tabled, Safe}
 use Rattle.places.specs.Emitting.{Unrolling, Tabled}
-use Rattle.places.specs.Read.{Lent, Holding, Reads}
+use Rattle.places.specs.Read.{Lent, Reads}
 
 -- ---- letters of an unrolled pattern
 

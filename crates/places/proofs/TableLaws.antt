@@ -1,6 +1,5 @@
 -- Places in a table: those that were put are read back, and other words are as they were.
-use mathlib.Core.Path.{_≡_, refl, sym, ap, _∙_, subst}
-use mathlib.Core.Bool.{Bool, true, false}
+use mathlib.Core.Path.{_≡_, refl, sym, ap, _∙_}
 use mathlib.Core.List.{List, [], _∷_, _++_}
 use Prim.Native.Nat.{ℕ, zero, suc, _+_, _*_, _-_, _≤_, _<_}
 use native.Mathlib.Omega.{arith}
@@ -196,9 +195,9 @@ unfolding placesFrom putPlaces waysIn
 places-back T q w [] h l = refl
 places-back T q w (p ∷ ps) h l =
     let a : placeIn (putPlaces (putPlace T q w p) (suc q) (w + wayCount p) ps) q ≡ p =
-        place-back T (putPlaces (putPlace T q w p) (suc q) (w + wayCount p) ps) q w p (omega arith) (omega arith)
-            (λ j x y. places-kept (putPlace T q w p) (suc q) (w + wayCount p) ps j (λ c d. omega arith) (λ c d. omega arith))
-            (λ j x y. places-kept (putPlace T q w p) (suc q) (w + wayCount p) ps j (λ c d. omega arith) (λ c d. omega arith)) in
+    place-back T (putPlaces (putPlace T q w p) (suc q) (w + wayCount p) ps) q w p (omega arith) (omega arith)
+    (λ j x y. places-kept (putPlace T q w p) (suc q) (w + wayCount p) ps j (λ c d. omega arith) (λ c d. omega arith))
+    (λ j x y. places-kept (putPlace T q w p) (suc q) (w + wayCount p) ps j (λ c d. omega arith) (λ c d. omega arith)) in
     let b = places-back (putPlace T q w p) (suc q) (w + wayCount p) ps (omega arith) (omega (arith, place-length T q w p)) in
     λ i. a i ∷ b i
 
@@ -220,6 +219,6 @@ places-stop T q w (p ∷ ps) h l x a b = elim (decLt q x) [
   | no g ↦
       let e : x ≡ q = omega (arith, g) in
       let k : getD (putPlaces (putPlace T q w p) (suc q) (w + wayCount p) ps) (4 * q + 3) 0 ≡ getD (putPlace T q w p) (4 * q + 3) 0 =
-          places-kept (putPlace T q w p) (suc q) (w + wayCount p) ps (4 * q + 3) (λ c d. omega arith) (λ c d. omega arith) in
+      places-kept (putPlace T q w p) (suc q) (w + wayCount p) ps (4 * q + 3) (λ c d. omega arith) (λ c d. omega arith) in
       rw e (omega (arith, k, place-stop T q w p (omega arith)))
 ]

@@ -1,16 +1,15 @@
 -- Laws of `unroll`: the whole tree is put, and END behind it; what was put is read back.
-use mathlib.Core.Path.{_≡_, refl, sym, ap, _∙_, subst}
+use mathlib.Core.Path.{_≡_, sym, ap, _∙_}
 use mathlib.Core.List.{List, [], _∷_, _++_}
-use Prim.Native.Nat.{ℕ, zero, suc, _+_, _*_, _-_, _≤_, _<_}
+use Prim.Native.Nat.{ℕ, _+_, _*_, _-_, _≤_, _<_}
 use native.Mathlib.Omega.{arith}
 use lib.ListN.{length, getD, length-append}
 use Rattle.rules.specs.Language.{Tree, pattern}
-use Rattle.rules.specs.Places.{unroll, Place, pEnd, size, code, places, fork, placeCount, placesOf}
+use Rattle.rules.specs.Places.{unroll, Place, pEnd, size, code, places, placesOf}
 use Rattle.rules.proofs.Counting.{unroll-size}
 use Rattle.rules.proofs.Distinct.{thinPlace, thinned, thinned-append}
-use Rattle.pattern.specs.Held.{Top}
 use Rattle.places.specs.Tables.{placesFrom, tabled}
-use Rattle.places.specs.Emitting.{putWords, putPlace, wayCount, waysIn, putPlaces, Fitting, Emitted, treePlaces, Emitting, Unrolling, Tabled}
+use Rattle.places.specs.Emitting.{putWords, putPlace, wayCount, waysIn, putPlaces, Emitted, treePlaces, Emitting, Unrolling, Tabled}
 use Rattle.places.specs.declared.Spot.{Spot}
 use Rattle.places.proofs.TableLaws.{places-append, waysIn-append, places-length, words-length, places-back, places-kept, places-stop}
 use Rattle.places.proofs.WayLaws.{all-few}

@@ -1,18 +1,15 @@
 -- A fork's ways in a table: those that do not yet stand there are put, each once; and all forks of a pattern have fewer than three ways to a place.
-use mathlib.Core.Path.{_≡_, refl, sym, ap, _∙_, subst}
+use mathlib.Core.Path.{_≡_, refl, sym, ap, _∙_}
 use mathlib.Core.Bool.{Bool, true, false, _||_, or-comm, true≢false}
 use mathlib.Core.List.{List, [], _∷_, _++_}
-use mathlib.Core.Logic.{_⊎_, inl, inr}
 use Prim.Native.Nat.{ℕ, zero, suc, _+_, _*_, _-_, _≤_, _<_, min}
 use native.Mathlib.Omega.{arith}
-use mir.Val.{Fits as Fits-in}
-use mir.Syntax.{w16}
 use lib.Dec.{eqb}
 use lib.ListN.{length, getD, set, length-set}
 use lib.Seq.{getD-set-same, getD-set-other}
 use borrow.Author.Tests.{eq-eqb, ne-eqb, eqb-true, eqb-false}
 use Rattle.rules.specs.Basics.{pick, has}
-use Rattle.rules.specs.Places.{Unrolled, uLetter, uCaret, uDollar, uEmpty, uSeq, uAlt, uOpt, uStar, Branches, uNil, uCons, size, sizes, startOf, startsOf, Place, pFork, waysInTurn, code, codes}
+use Rattle.rules.specs.Places.{Unrolled, uLetter, uCaret, uDollar, uEmpty, uSeq, uAlt, uOpt, uStar, Branches, uNil, uCons, size, sizes, startOf, startsOf, waysInTurn, code, codes}
 use Rattle.rules.proofs.Bounds.{has-append}
 use Rattle.rules.proofs.Distinct.{keepNew, fresh, distinct, thinPlace, thinned, thinned-append}
 use Rattle.places.specs.Tables.{span}
@@ -131,7 +128,7 @@ module _ (T : List ℕ) (from to y : ℕ) (ys : List ℕ) (T1 : List ℕ) (r1 : 
           let q = p .new e in
           let l = n .fits e in
           let f : fresh (span T1 from (r1 - from)) ys ≡ fresh (y ∷ span T from (to - from)) ys =
-              rw (q .0, q .1) (fresh-cong (span (set T to y) from (to + 1 - from)) (y ∷ span T from (to - from)) ys (λ z. has-seen T from to y z (n .order) l)) in
+          rw (q .0, q .1) (fresh-cong (span (set T to y) from (to + 1 - from)) (y ∷ span T from (to - from)) ys (λ z. has-seen T from to y z (n .order) l)) in
           let s : to + 1 ≡ suc to = omega arith in
           record {
             list = fresh (span T1 from (r1 - from)) ys;

@@ -81,7 +81,15 @@ fn put_way(table: &mut [u16], from: usize, to: usize, y: usize) -> usize
 
 // The ways of an alternation's fork: where its branches begin, from the one at i on, whose places are numbered from b on. Branches without places
 // all begin behind it.
-fn fork_ways(room: &[u16], i: usize, table: &mut [u16], from: usize, to: usize, b: usize, k: usize) -> usize
+fn fork_ways(
+    room: &[u16],
+    i: usize,
+    table: &mut [u16],
+    from: usize,
+    to: usize,
+    b: usize,
+    k: usize,
+) -> usize
     requires { ⌜ Starting (now room) i (now table) from to b k ⌝ }
     ensures { λ r. ⌜ ((h : Starting (now (room .entry)) i (now (table .entry)) from to b k) → Started (now (room .entry)) i (now (table .entry)) from to b k (now (table .exit)) r h) ⌝ }
 {
@@ -267,7 +275,17 @@ fn branches(room: &[u16], i: usize, table: &mut [u16], at: Spot, k: usize) -> Sp
 
 // The body of the factor at i with c places: n copies, then m times a fork and a copy, or for m = 100 a fork and a copy that leads back to it.
 // Its places end before `end`.
-fn rounds(room: &[u16], i: usize, c: usize, n: usize, m: usize, end: usize, table: &mut [u16], at: Spot, k: usize) -> Spot
+fn rounds(
+    room: &[u16],
+    i: usize,
+    c: usize,
+    n: usize,
+    m: usize,
+    end: usize,
+    table: &mut [u16],
+    at: Spot,
+    k: usize,
+) -> Spot
     requires { ⌜ Turning (now room) i c n m end (now table) at k ⌝ }
     ensures { λ r. ⌜ ((h : Turning (now (room .entry)) i c n m end (now (table .entry)) at k) → Emitted (now (table .entry)) (now (table .exit)) at r (turnPlaces n m (h .of) (at .place) k)) ⌝ }
 {

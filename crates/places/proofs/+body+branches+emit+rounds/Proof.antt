@@ -67,7 +67,6 @@ rounds-at t = and 2 rounds-kinds.ps (is 2 rounds-kinds.ps μ-rounds t) rounds.Pr
 abbrev rounds-below : ℕ → In 2 rounds-kinds.ps
 rounds-below t = and 2 rounds-kinds.ps (falls 2 rounds-kinds.ps _<_ μ-rounds t) rounds.Pre
 
--- src/lib.rt:302:9
 body-node-at-requires : (t : ℕ) → body-lts.Need-node-at-requires (
   node-at-reads.Asked,
   node-at-reads.Learnt,
@@ -82,7 +81,6 @@ body-node-at-requires : (t : ℕ) → body-lts.Need-node-at-requires (
 ) (body-at t) body.Post
 body-node-at-requires t c κs = body-in _ _ _ _ _ (c .before .before .pre .1)
 
--- src/lib.rt:306:22
 body-enum-known-sort : (t : ℕ) → body-lts.Need-enum-known-sort (
   node-at-reads.Asked,
   node-at-reads.Learnt,
@@ -97,7 +95,6 @@ body-enum-known-sort : (t : ℕ) → body-lts.Need-enum-known-sort (
 ) (body-at t) body.Post
 body-enum-known-sort t c = search needs
 
--- src/lib.rt:306:53
 body-short-requires : (t : ℕ) → body-lts.Need-short-requires (
   node-at-reads.Asked,
   node-at-reads.Learnt,
@@ -112,7 +109,6 @@ body-short-requires : (t : ℕ) → body-lts.Need-short-requires (
 ) (body-at t) body.Post
 body-short-requires t c κs = search needs
 
--- src/lib.rt:306:28
 body-put-simple-requires : (t : ℕ) → body-lts.Need-put-simple-requires (
   node-at-reads.Asked,
   node-at-reads.Learnt,
@@ -127,7 +123,6 @@ body-put-simple-requires : (t : ℕ) → body-lts.Need-put-simple-requires (
 ) (body-at t) body.Post
 body-put-simple-requires t c κs = letter-words _ _ _ (c .before .before .before .before .before .node-at .ensures) _ _ _ _ (c .before .before .before .sort .given .1) (c .before .before .before .before .before .before .before .before .pre .1)
 
--- src/lib.rt:307:22
 body-enum-known-sort-2 : (t : ℕ) → body-lts.Need-enum-known-sort-2 (
   node-at-reads.Asked,
   node-at-reads.Learnt,
@@ -142,7 +137,6 @@ body-enum-known-sort-2 : (t : ℕ) → body-lts.Need-enum-known-sort-2 (
 ) (body-at t) body.Post
 body-enum-known-sort-2 t c = search needs
 
--- src/lib.rt:307:50
 body-anchor-sort-requires : (t : ℕ) → body-lts.Need-anchor-sort-requires (
   node-at-reads.Asked,
   node-at-reads.Learnt,
@@ -157,7 +151,6 @@ body-anchor-sort-requires : (t : ℕ) → body-lts.Need-anchor-sort-requires (
 ) (body-at t) body.Post
 body-anchor-sort-requires t c κs = search needs
 
--- src/lib.rt:307:28
 body-put-simple-requires-2 : (t : ℕ) → body-lts.Need-put-simple-requires-2 (
   node-at-reads.Asked,
   node-at-reads.Learnt,
@@ -172,7 +165,6 @@ body-put-simple-requires-2 : (t : ℕ) → body-lts.Need-put-simple-requires-2 (
 ) (body-at t) body.Post
 body-put-simple-requires-2 t c κs = anchor-words _ _ _ (c .before .before .before .before .before .node-at .ensures) _ _ _ _ (c .before .before .before .sort2 .given .1) (c .before .before .before .before .before .before .before .before .pre .1)
 
--- src/lib.rt:308:24
 body-enum-told : (t : ℕ) → body-lts.Need-enum-told (
   node-at-reads.Asked,
   node-at-reads.Learnt,
@@ -187,7 +179,6 @@ body-enum-told : (t : ℕ) → body-lts.Need-enum-told (
 ) (body-at t) body.Post
 body-enum-told t c = search needs
 
--- src/lib.rt:309:27
 body-enum-told-2 : (t : ℕ) → body-lts.Need-enum-told-2 (
   node-at-reads.Asked,
   node-at-reads.Learnt,
@@ -202,7 +193,6 @@ body-enum-told-2 : (t : ℕ) → body-lts.Need-enum-told-2 (
 ) (body-at t) body.Post
 body-enum-told-2 t c = search needs
 
--- src/lib.rt:310:30
 body-enum-told-3 : (t : ℕ) → body-lts.Need-enum-told-3 (
   node-at-reads.Asked,
   node-at-reads.Learnt,
@@ -217,7 +207,6 @@ body-enum-told-3 : (t : ℕ) → body-lts.Need-enum-told-3 (
 ) (body-at t) body.Post
 body-enum-told-3 t c = search needs
 
--- src/lib.rt:311:41
 body-enum-told-4 : (t : ℕ) → body-lts.Need-enum-told-4 (
   node-at-reads.Asked,
   node-at-reads.Learnt,
@@ -232,7 +221,6 @@ body-enum-told-4 : (t : ℕ) → body-lts.Need-enum-told-4 (
 ) (body-at t) body.Post
 body-enum-told-4 t c = search needs
 
--- src/lib.rt:311:24
 body-emit-requires : (t : ℕ) → body-lts.Need-emit-requires (
   node-at-reads.Asked,
   node-at-reads.Learnt,
@@ -247,7 +235,6 @@ body-emit-requires : (t : ℕ) → body-lts.Need-emit-requires (
 ) (body-at t) body.Post
 body-emit-requires t c κs = group-first _ _ _ (c .before .before .before .node-at .ensures) _ _ _ (c .before .enum-told4 .given .1) (c .before .before .before .before .before .before .pre .1) _ (c .before .before .before .before .before .before .pre .0)
 
--- src/lib.rt:298:1
 body-same-length : (t : ℕ) → body-lts.Need-same-length (
   node-at-reads.Asked,
   node-at-reads.Learnt,
@@ -262,7 +249,6 @@ body-same-length : (t : ℕ) → body-lts.Need-same-length (
 ) (body-at t) body.Post
 body-same-length t c = emitted-length _ _ _ _ _ (letter-done _ _ _ (c .before .before .before .before .before .before .before .before .node-at .ensures) _ _ _ _ (c .before .before .before .before .before .before .sort .given .1) (c .before .before .before .before .before .before .before .before .before .before .before .pre .1) _ _ _ (c .before .before .before .short .ensures) (c .before .before .put-simple .ensures))
 
--- src/lib.rt:298:1
 body-returns : (t : ℕ) → body-lts.Need-returns (
   node-at-reads.Asked,
   node-at-reads.Learnt,
@@ -277,7 +263,6 @@ body-returns : (t : ℕ) → body-lts.Need-returns (
 ) (body-at t) body.Post
 body-returns t c = λ h. letter-done _ _ _ (c .before .before .before .before .before .before .before .before .node-at .ensures) _ _ _ _ (c .before .before .before .before .before .before .sort .given .1) h _ _ _ (c .before .before .before .short .ensures) (c .before .before .put-simple .ensures)
 
--- src/lib.rt:298:1
 body-same-length-2 : (t : ℕ) → body-lts.Need-same-length-2 (
   node-at-reads.Asked,
   node-at-reads.Learnt,
@@ -292,7 +277,6 @@ body-same-length-2 : (t : ℕ) → body-lts.Need-same-length-2 (
 ) (body-at t) body.Post
 body-same-length-2 t c = emitted-length _ _ _ _ _ (anchor-done _ _ _ (c .before .before .before .before .before .before .before .before .node-at .ensures) _ _ _ _ (c .before .before .before .before .before .before .sort2 .given .1) (c .before .before .before .before .before .before .before .before .before .before .before .pre .1) _ _ _ (c .before .before .before .anchor-sort .ensures) (c .before .before .put-simple2 .ensures))
 
--- src/lib.rt:298:1
 body-returns-2 : (t : ℕ) → body-lts.Need-returns-2 (
   node-at-reads.Asked,
   node-at-reads.Learnt,
@@ -307,7 +291,6 @@ body-returns-2 : (t : ℕ) → body-lts.Need-returns-2 (
 ) (body-at t) body.Post
 body-returns-2 t c = λ h. anchor-done _ _ _ (c .before .before .before .before .before .before .before .before .node-at .ensures) _ _ _ _ (c .before .before .before .before .before .before .sort2 .given .1) h _ _ _ (c .before .before .before .anchor-sort .ensures) (c .before .before .put-simple2 .ensures)
 
--- src/lib.rt:298:1
 body-returns-3 : (t : ℕ) → body-lts.Need-returns-3 (
   node-at-reads.Asked,
   node-at-reads.Learnt,
@@ -322,7 +305,6 @@ body-returns-3 : (t : ℕ) → body-lts.Need-returns-3 (
 ) (body-at t) body.Post
 body-returns-3 t c = λ h. empty-done _ _ _ (c .before .before .node-at .ensures) _ _ _ (c .enum-told .given .1) h
 
--- src/lib.rt:298:1
 body-returns-4 : (t : ℕ) → body-lts.Need-returns-4 (
   node-at-reads.Asked,
   node-at-reads.Learnt,
@@ -337,7 +319,6 @@ body-returns-4 : (t : ℕ) → body-lts.Need-returns-4 (
 ) (body-at t) body.Post
 body-returns-4 t c = λ h. sequence-done _ _ _ (c .before .before .node-at .ensures) _ _ _ (c .enum-told2 .given .1) h
 
--- src/lib.rt:298:1
 body-returns-5 : (t : ℕ) → body-lts.Need-returns-5 (
   node-at-reads.Asked,
   node-at-reads.Learnt,
@@ -352,7 +333,6 @@ body-returns-5 : (t : ℕ) → body-lts.Need-returns-5 (
 ) (body-at t) body.Post
 body-returns-5 t c = λ h. alternation-done _ _ _ (c .before .before .node-at .ensures) _ _ _ (c .enum-told3 .given .1) h
 
--- src/lib.rt:298:1
 body-same-length-3 : (t : ℕ) → body-lts.Need-same-length-3 (
   node-at-reads.Asked,
   node-at-reads.Learnt,
@@ -367,7 +347,6 @@ body-same-length-3 : (t : ℕ) → body-lts.Need-same-length-3 (
 ) (body-at t) body.Post
 body-same-length-3 t c = emitted-length _ _ _ _ _ (group-done _ _ _ (c .before .before .before .before .before .before .node-at .ensures) _ _ _ (c .before .before .before .before .enum-told4 .given .1) (c .before .before .before .before .before .before .before .before .before .pre .1) _ _ (c .before .before .emit .ensures))
 
--- src/lib.rt:298:1
 body-returns-6 : (t : ℕ) → body-lts.Need-returns-6 (
   node-at-reads.Asked,
   node-at-reads.Learnt,
@@ -382,7 +361,6 @@ body-returns-6 : (t : ℕ) → body-lts.Need-returns-6 (
 ) (body-at t) body.Post
 body-returns-6 t c = λ h. group-done _ _ _ (c .before .before .before .before .before .before .node-at .ensures) _ _ _ (c .before .before .before .before .enum-told4 .given .1) h _ _ (c .before .before .emit .ensures)
 
--- src/lib.rt:254:9
 branches-node-at-requires : (t : ℕ) → branches-lts.Need-node-at-requires (
   node-at-reads.Asked,
   node-at-reads.Learnt,
@@ -393,7 +371,6 @@ branches-node-at-requires : (t : ℕ) → branches-lts.Need-node-at-requires (
 ) (branches-at t) branches.Post
 branches-node-at-requires t c κs = branches-in _ _ _ _ _ (c .before .before .pre .1)
 
--- src/lib.rt:259:9
 branches-returns : (t : ℕ) → branches-lts.Need-returns (
   node-at-reads.Asked,
   node-at-reads.Learnt,
@@ -404,7 +381,6 @@ branches-returns : (t : ℕ) → branches-lts.Need-returns (
 ) (branches-at t) branches.Post
 branches-returns t c = λ h. branches-none _ _ _ (c .before .before .node-at .ensures) _ _ _ (c .if1 .taken) h
 
--- src/lib.rt:262:37
 branches-enum-told : (t : ℕ) → branches-lts.Need-enum-told (
   node-at-reads.Asked,
   node-at-reads.Learnt,
@@ -415,7 +391,6 @@ branches-enum-told : (t : ℕ) → branches-lts.Need-enum-told (
 ) (branches-at t) branches.Post
 branches-enum-told t c = search needs
 
--- src/lib.rt:262:13
 branches-emit-requires : (t : ℕ) → branches-lts.Need-emit-requires (
   node-at-reads.Asked,
   node-at-reads.Learnt,
@@ -426,7 +401,6 @@ branches-emit-requires : (t : ℕ) → branches-lts.Need-emit-requires (
 ) (branches-at t) branches.Post
 branches-emit-requires t c κs = branch-first _ _ _ (c .before .before .before .before .before .node-at .ensures) _ _ _ (c .before .enum-told .given .1) (c .before .before .before .before .before .before .before .before .pre .1) _ (c .before .before .before .before .before .before .before .before .pre .0)
 
--- src/lib.rt:263:9
 branches-branches-requires : (t : ℕ) → branches-lts.Need-branches-requires (
   node-at-reads.Asked,
   node-at-reads.Learnt,
@@ -437,7 +411,6 @@ branches-branches-requires : (t : ℕ) → branches-lts.Need-branches-requires (
 ) (branches-at t) branches.Post
 branches-branches-requires t c κs = branch-second _ _ _ (c .before .before .before .before .before .before .before .before .before .node-at .ensures) _ _ _ (c .before .before .before .before .before .enum-told .given .1) (c .before .before .before .before .before .before .before .before .before .before .before .before .pre .1) _ _ (c .before .before .before .emit .ensures) _ (c .before .before .before .before .before .before .before .before .before .before .before .before .pre .0)
 
--- src/lib.rt:263:9
 branches-same-length : (t : ℕ) → branches-lts.Need-same-length (
   node-at-reads.Asked,
   node-at-reads.Learnt,
@@ -448,7 +421,6 @@ branches-same-length : (t : ℕ) → branches-lts.Need-same-length (
 ) (branches-at t) branches.Post
 branches-same-length t c = emitted-length _ _ _ _ _ (branch-done _ _ _ (c .before .before .before .before .before .before .before .before .before .before .before .before .node-at .ensures) _ _ _ (c .before .before .before .before .before .before .before .before .enum-told .given .1) (c .before .before .before .before .before .before .before .before .before .before .before .before .before .before .before .pre .1) _ _ (c .before .before .before .before .before .before .emit .ensures) _ _ (c .before .before .branches .ensures))
 
--- src/lib.rt:263:9
 branches-returns-2 : (t : ℕ) → branches-lts.Need-returns-2 (
   node-at-reads.Asked,
   node-at-reads.Learnt,
@@ -459,7 +431,6 @@ branches-returns-2 : (t : ℕ) → branches-lts.Need-returns-2 (
 ) (branches-at t) branches.Post
 branches-returns-2 t c = λ h. branch-done _ _ _ (c .before .before .before .before .before .before .before .before .before .before .before .before .node-at .ensures) _ _ _ (c .before .before .before .before .before .before .before .before .enum-told .given .1) h _ _ (c .before .before .before .before .before .before .emit .ensures) _ _ (c .before .before .branches .ensures)
 
--- src/lib.rt:265:5
 branches-emit-requires-2 : (t : ℕ) → branches-lts.Need-emit-requires-2 (
   node-at-reads.Asked,
   node-at-reads.Learnt,
@@ -470,7 +441,6 @@ branches-emit-requires-2 : (t : ℕ) → branches-lts.Need-emit-requires-2 (
 ) (branches-at t) branches.Post
 branches-emit-requires-2 t c κs = single-first _ _ _ (c .before .before .before .before .node-at .ensures) _ _ _ (not-alternation _ (c .before .match .keys2)) (c .before .before .before .before .before .before .before .pre .1) _ (c .before .before .before .before .before .before .before .pre .0)
 
--- src/lib.rt:250:1
 branches-same-length-2 : (t : ℕ) → branches-lts.Need-same-length-2 (
   node-at-reads.Asked,
   node-at-reads.Learnt,
@@ -481,7 +451,6 @@ branches-same-length-2 : (t : ℕ) → branches-lts.Need-same-length-2 (
 ) (branches-at t) branches.Post
 branches-same-length-2 t c = emitted-length _ _ _ _ _ (single-done _ _ _ (c .before .before .before .before .before .before .before .node-at .ensures) _ _ _ (not-alternation _ (c .before .before .before .before .match .keys2)) (c .before .before .before .before .before .before .before .before .before .before .pre .1) _ _ (c .before .before .emit2 .ensures))
 
--- src/lib.rt:250:1
 branches-returns-3 : (t : ℕ) → branches-lts.Need-returns-3 (
   node-at-reads.Asked,
   node-at-reads.Learnt,
@@ -492,7 +461,6 @@ branches-returns-3 : (t : ℕ) → branches-lts.Need-returns-3 (
 ) (branches-at t) branches.Post
 branches-returns-3 t c = λ h. single-done _ _ _ (c .before .before .before .before .before .before .before .node-at .ensures) _ _ _ (not-alternation _ (c .before .before .before .before .match .keys2)) h _ _ (c .before .before .emit2 .ensures)
 
--- src/lib.rt:221:9
 emit-node-at-requires : (t : ℕ) → emit-lts.Need-node-at-requires (
   node-at-reads.Asked,
   node-at-reads.Learnt,
@@ -515,7 +483,6 @@ emit-node-at-requires : (t : ℕ) → emit-lts.Need-node-at-requires (
 ) (emit-at t) emit.Post
 emit-node-at-requires t c κs = emit-in _ _ _ _ _ (c .before .before .pre .1)
 
--- src/lib.rt:226:15
 emit-add-end : (t : ℕ) → emit-lts.Need-add-end (
   node-at-reads.Asked,
   node-at-reads.Learnt,
@@ -538,7 +505,6 @@ emit-add-end : (t : ℕ) → emit-lts.Need-add-end (
 ) (emit-at t) emit.Post
 emit-add-end t c = emit-end _ _ _ (c .before .node-at .ensures) _ _ _ (c .before .before .before .before .pre .1)
 
--- src/lib.rt:228:43
 emit-enum-told : (t : ℕ) → emit-lts.Need-enum-told (
   node-at-reads.Asked,
   node-at-reads.Learnt,
@@ -561,7 +527,6 @@ emit-enum-told : (t : ℕ) → emit-lts.Need-enum-told (
 ) (emit-at t) emit.Post
 emit-enum-told t c = search needs
 
--- src/lib.rt:228:13
 emit-branch-fork-requires : (t : ℕ) → emit-lts.Need-branch-fork-requires (
   node-at-reads.Asked,
   node-at-reads.Learnt,
@@ -584,7 +549,6 @@ emit-branch-fork-requires : (t : ℕ) → emit-lts.Need-branch-fork-requires (
 ) (emit-at t) emit.Post
 emit-branch-fork-requires t c κs = alt-forking _ _ _ (c .before .before .before .before .node-at .ensures) _ _ _ (c .before .enum-told .given .1) (c .before .before .before .before .before .before .before .pre .1)
 
--- src/lib.rt:229:9
 emit-branches-requires : (t : ℕ) → emit-lts.Need-branches-requires (
   node-at-reads.Asked,
   node-at-reads.Learnt,
@@ -607,7 +571,6 @@ emit-branches-requires : (t : ℕ) → emit-lts.Need-branches-requires (
 ) (emit-at t) emit.Post
 emit-branches-requires t c κs = alt-inside _ _ _ (c .before .before .before .before .before .before .before .before .node-at .ensures) _ _ _ (c .before .before .before .before .before .enum-told .given .1) (c .before .before .before .before .before .before .before .before .before .before .before .pre .1) _ _ (c .before .before .before .branch-fork .ensures) _ (c .before .before .before .before .before .before .before .before .before .before .before .pre .0)
 
--- src/lib.rt:229:9
 emit-same-length : (t : ℕ) → emit-lts.Need-same-length (
   node-at-reads.Asked,
   node-at-reads.Learnt,
@@ -630,7 +593,6 @@ emit-same-length : (t : ℕ) → emit-lts.Need-same-length (
 ) (emit-at t) emit.Post
 emit-same-length t c = emitted-length _ _ _ _ _ (alt-done _ _ _ (c .before .before .before .before .before .before .before .before .before .before .before .node-at .ensures) _ _ _ (c .before .before .before .before .before .before .before .before .enum-told .given .1) (c .before .before .before .before .before .before .before .before .before .before .before .before .before .before .pre .1) _ _ (c .before .before .before .before .before .before .branch-fork .ensures) _ _ (c .before .before .branches .ensures))
 
--- src/lib.rt:229:9
 emit-returns : (t : ℕ) → emit-lts.Need-returns (
   node-at-reads.Asked,
   node-at-reads.Learnt,
@@ -653,7 +615,6 @@ emit-returns : (t : ℕ) → emit-lts.Need-returns (
 ) (emit-at t) emit.Post
 emit-returns t c = λ h. alt-done _ _ _ (c .before .before .before .before .before .before .before .before .before .before .before .node-at .ensures) _ _ _ (c .before .before .before .before .before .before .before .before .enum-told .given .1) h _ _ (c .before .before .before .before .before .before .branch-fork .ensures) _ _ (c .before .before .branches .ensures)
 
--- src/lib.rt:232:9
 emit-returns-2 : (t : ℕ) → emit-lts.Need-returns-2 (
   node-at-reads.Asked,
   node-at-reads.Learnt,
@@ -676,7 +637,6 @@ emit-returns-2 : (t : ℕ) → emit-lts.Need-returns-2 (
 ) (emit-at t) emit.Post
 emit-returns-2 t c = λ h. emit-none _ _ _ (c .before .before .before .node-at .ensures) _ _ _ (not-alternation _ (c .before .match .keys2)) (c .if1 .taken) h
 
--- src/lib.rt:235:23
 emit-enum-told-2 : (t : ℕ) → emit-lts.Need-enum-told-2 (
   node-at-reads.Asked,
   node-at-reads.Learnt,
@@ -699,7 +659,6 @@ emit-enum-told-2 : (t : ℕ) → emit-lts.Need-enum-told-2 (
 ) (emit-at t) emit.Post
 emit-enum-told-2 t c = search needs
 
--- src/lib.rt:235:23
 emit-places-at-requires : (t : ℕ) → emit-lts.Need-places-at-requires (
   node-at-reads.Asked,
   node-at-reads.Learnt,
@@ -722,7 +681,6 @@ emit-places-at-requires : (t : ℕ) → emit-lts.Need-places-at-requires (
 ) (emit-at t) emit.Post
 emit-places-at-requires t c κs = seq-left-in _ _ _ (c .before .before .before .before .before .node-at .ensures) _ _ _ (c .enum-told2 .given .1) _ refl (c .before .before .before .before .before .before .before .before .pre .1)
 
--- src/lib.rt:235:19
 emit-add-mid : (t : ℕ) → emit-lts.Need-add-mid (
   node-at-reads.Asked,
   node-at-reads.Learnt,
@@ -745,7 +703,6 @@ emit-add-mid : (t : ℕ) → emit-lts.Need-add-mid (
 ) (emit-at t) emit.Post
 emit-add-mid t c = seq-mid _ _ _ (c .before .before .before .before .before .before .node-at .ensures) _ _ _ (c .before .enum-told2 .given .1) _ (c .places-at .ensures) (c .before .before .before .before .before .before .before .before .before .pre .1)
 
--- src/lib.rt:237:13
 emit-emit-requires : (t : ℕ) → emit-lts.Need-emit-requires (
   node-at-reads.Asked,
   node-at-reads.Learnt,
@@ -768,7 +725,6 @@ emit-emit-requires : (t : ℕ) → emit-lts.Need-emit-requires (
 ) (emit-at t) emit.Post
 emit-emit-requires t c κs = seq-skip _ _ _ (c .before .before .before .before .before .before .before .before .node-at .ensures) _ _ _ (c .before .before .before .enum-told2 .given .1) _ (c .before .before .places-at .ensures) (c .before .if2 .taken) (c .before .before .before .before .before .before .before .before .before .before .before .pre .1) _ (c .before .before .before .before .before .before .before .before .before .before .before .pre .0)
 
--- src/lib.rt:237:13
 emit-same-length-2 : (t : ℕ) → emit-lts.Need-same-length-2 (
   node-at-reads.Asked,
   node-at-reads.Learnt,
@@ -791,7 +747,6 @@ emit-same-length-2 : (t : ℕ) → emit-lts.Need-same-length-2 (
 ) (emit-at t) emit.Post
 emit-same-length-2 t c = emitted-length _ _ _ _ _ (seq-skipped _ _ _ (c .before .before .before .before .before .before .before .before .before .before .before .node-at .ensures) _ _ _ (c .before .before .before .before .before .before .enum-told2 .given .1) _ (c .before .before .before .before .before .places-at .ensures) (c .before .before .before .before .if2 .taken) (c .before .before .before .before .before .before .before .before .before .before .before .before .before .before .pre .1) _ _ (c .before .before .emit .ensures))
 
--- src/lib.rt:237:13
 emit-returns-3 : (t : ℕ) → emit-lts.Need-returns-3 (
   node-at-reads.Asked,
   node-at-reads.Learnt,
@@ -814,7 +769,6 @@ emit-returns-3 : (t : ℕ) → emit-lts.Need-returns-3 (
 ) (emit-at t) emit.Post
 emit-returns-3 t c = λ h. seq-skipped _ _ _ (c .before .before .before .before .before .before .before .before .before .before .before .node-at .ensures) _ _ _ (c .before .before .before .before .before .before .enum-told2 .given .1) _ (c .before .before .before .before .before .places-at .ensures) (c .before .before .before .before .if2 .taken) h _ _ (c .before .before .emit .ensures)
 
--- src/lib.rt:239:13
 emit-start-at-requires : (t : ℕ) → emit-lts.Need-start-at-requires (
   node-at-reads.Asked,
   node-at-reads.Learnt,
@@ -837,7 +791,6 @@ emit-start-at-requires : (t : ℕ) → emit-lts.Need-start-at-requires (
 ) (emit-at t) emit.Post
 emit-start-at-requires t c κs = search needs
 
--- src/lib.rt:240:13
 emit-emit-requires-2 : (t : ℕ) → emit-lts.Need-emit-requires-2 (
   node-at-reads.Asked,
   node-at-reads.Learnt,
@@ -860,7 +813,6 @@ emit-emit-requires-2 : (t : ℕ) → emit-lts.Need-emit-requires-2 (
 ) (emit-at t) emit.Post
 emit-emit-requires-2 t c κs = seq-first _ _ _ (c .before .before .before .before .before .before .before .before .before .node-at .ensures) _ _ _ (c .before .before .before .before .enum-told2 .given .1) _ (c .before .before .before .places-at .ensures) _ (c .before .start-at .ensures) (c .before .before .before .before .before .before .before .before .before .before .before .before .pre .1) _ (c .before .before .before .before .before .before .before .before .before .before .before .before .pre .0)
 
--- src/lib.rt:241:9
 emit-emit-requires-3 : (t : ℕ) → emit-lts.Need-emit-requires-3 (
   node-at-reads.Asked,
   node-at-reads.Learnt,
@@ -883,7 +835,6 @@ emit-emit-requires-3 : (t : ℕ) → emit-lts.Need-emit-requires-3 (
 ) (emit-at t) emit.Post
 emit-emit-requires-3 t c κs = seq-second _ _ _ (c .before .before .before .before .before .before .before .before .before .before .before .before .before .node-at .ensures) _ _ _ (c .before .before .before .before .before .before .before .before .enum-told2 .given .1) _ (c .before .before .before .before .before .before .before .places-at .ensures) _ (c .before .before .before .before .before .start-at .ensures) (c .before .before .before .before .before .before .before .before .before .before .before .before .before .before .before .before .pre .1) _ _ (c .before .before .before .emit2 .ensures) _ (c .before .before .before .before .before .before .before .before .before .before .before .before .before .before .before .before .pre .0)
 
--- src/lib.rt:241:9
 emit-same-length-3 : (t : ℕ) → emit-lts.Need-same-length-3 (
   node-at-reads.Asked,
   node-at-reads.Learnt,
@@ -906,7 +857,6 @@ emit-same-length-3 : (t : ℕ) → emit-lts.Need-same-length-3 (
 ) (emit-at t) emit.Post
 emit-same-length-3 t c = emitted-length _ _ _ _ _ (seq-done _ _ _ (c .before .before .before .before .before .before .before .before .before .before .before .before .before .before .before .before .node-at .ensures) _ _ _ (c .before .before .before .before .before .before .before .before .before .before .before .enum-told2 .given .1) _ (c .before .before .before .before .before .before .before .before .before .before .places-at .ensures) _ (c .before .before .before .before .before .before .before .before .start-at .ensures) (c .before .before .before .before .before .before .before .before .before .before .before .before .before .before .before .before .before .before .before .pre .1) _ _ (c .before .before .before .before .before .before .emit2 .ensures) _ _ (c .before .before .emit3 .ensures))
 
--- src/lib.rt:241:9
 emit-returns-4 : (t : ℕ) → emit-lts.Need-returns-4 (
   node-at-reads.Asked,
   node-at-reads.Learnt,
@@ -929,7 +879,6 @@ emit-returns-4 : (t : ℕ) → emit-lts.Need-returns-4 (
 ) (emit-at t) emit.Post
 emit-returns-4 t c = λ h. seq-done _ _ _ (c .before .before .before .before .before .before .before .before .before .before .before .before .before .before .before .before .node-at .ensures) _ _ _ (c .before .before .before .before .before .before .before .before .before .before .before .enum-told2 .given .1) _ (c .before .before .before .before .before .before .before .before .before .before .places-at .ensures) _ (c .before .before .before .before .before .before .before .before .start-at .ensures) h _ _ (c .before .before .before .before .before .before .emit2 .ensures) _ _ (c .before .before .emit3 .ensures)
 
--- src/lib.rt:243:9
 emit-body-size-requires : (t : ℕ) → emit-lts.Need-body-size-requires (
   node-at-reads.Asked,
   node-at-reads.Learnt,
@@ -952,7 +901,6 @@ emit-body-size-requires : (t : ℕ) → emit-lts.Need-body-size-requires (
 ) (emit-at t) emit.Post
 emit-body-size-requires t c κs = emit-node _ _ _ (c .before .before .before .before .node-at .ensures) _ _ _ (not-sequence _ (c .match2 .keys2)) (not-alternation _ (c .before .before .match .keys2)) (c .before .before .before .before .before .before .before .pre .1)
 
--- src/lib.rt:245:9
 emit-turns-behind-requires : (t : ℕ) → emit-lts.Need-turns-behind-requires (
   node-at-reads.Asked,
   node-at-reads.Learnt,
@@ -975,7 +923,6 @@ emit-turns-behind-requires : (t : ℕ) → emit-lts.Need-turns-behind-requires (
 ) (emit-at t) emit.Post
 emit-turns-behind-requires t c κs = turn-order _ _ _ (c .before .before .before .before .before .node-at .ensures) _ _ _ (not-sequence _ (c .before .match2 .keys2)) (not-alternation _ (c .before .before .before .match .keys2)) (c .before .before .before .before .before .before .before .before .pre .1)
 
--- src/lib.rt:246:5
 emit-rounds-requires : (t : ℕ) → emit-lts.Need-rounds-requires (
   node-at-reads.Asked,
   node-at-reads.Learnt,
@@ -998,7 +945,6 @@ emit-rounds-requires : (t : ℕ) → emit-lts.Need-rounds-requires (
 ) (emit-at t) emit.Post
 emit-rounds-requires t c κs = turn-first _ _ _ (c .before .before .before .before .before .before .before .node-at .ensures) _ _ _ (not-sequence _ (c .before .before .before .match2 .keys2)) (not-alternation _ (c .before .before .before .before .before .match .keys2)) _ (c .before .before .body-size .ensures) _ (c .before .turns-behind .ensures) (c .before .before .before .before .before .before .before .before .before .before .pre .1) _ (c .before .before .before .before .before .before .before .before .before .before .pre .0)
 
--- src/lib.rt:217:1
 emit-same-length-4 : (t : ℕ) → emit-lts.Need-same-length-4 (
   node-at-reads.Asked,
   node-at-reads.Learnt,
@@ -1021,7 +967,6 @@ emit-same-length-4 : (t : ℕ) → emit-lts.Need-same-length-4 (
 ) (emit-at t) emit.Post
 emit-same-length-4 t c = emitted-length _ _ _ _ _ (turn-done _ _ _ (c .before .before .before .before .before .before .before .before .before .before .node-at .ensures) _ _ _ (not-sequence _ (c .before .before .before .before .before .before .match2 .keys2)) (not-alternation _ (c .before .before .before .before .before .before .before .before .match .keys2)) _ (c .before .before .before .before .before .body-size .ensures) _ (c .before .before .before .before .turns-behind .ensures) (c .before .before .before .before .before .before .before .before .before .before .before .before .before .pre .1) _ _ (c .before .before .rounds .ensures))
 
--- src/lib.rt:217:1
 emit-returns-5 : (t : ℕ) → emit-lts.Need-returns-5 (
   node-at-reads.Asked,
   node-at-reads.Learnt,
@@ -1044,7 +989,6 @@ emit-returns-5 : (t : ℕ) → emit-lts.Need-returns-5 (
 ) (emit-at t) emit.Post
 emit-returns-5 t c = λ h. turn-done _ _ _ (c .before .before .before .before .before .before .before .before .before .before .node-at .ensures) _ _ _ (not-sequence _ (c .before .before .before .before .before .before .match2 .keys2)) (not-alternation _ (c .before .before .before .before .before .before .before .before .match .keys2)) _ (c .before .before .before .before .before .body-size .ensures) _ (c .before .before .before .before .turns-behind .ensures) h _ _ (c .before .before .rounds .ensures)
 
--- src/lib.rt:276:29
 rounds-add-start-at : (t : ℕ) → rounds-lts.Need-add-start-at (
   start-at-reads.Asked,
   start-at-reads.Learnt,
@@ -1059,7 +1003,6 @@ rounds-add-start-at : (t : ℕ) → rounds-lts.Need-add-start-at (
 ) (rounds-at t) rounds.Post
 rounds-add-start-at t c = copy-fits _ _ _ _ _ _ _ _ _ (c .if1 .taken) (c .before .before .before .pre .1)
 
--- src/lib.rt:276:13
 rounds-start-at-requires : (t : ℕ) → rounds-lts.Need-start-at-requires (
   start-at-reads.Asked,
   start-at-reads.Learnt,
@@ -1074,7 +1017,6 @@ rounds-start-at-requires : (t : ℕ) → rounds-lts.Need-start-at-requires (
 ) (rounds-at t) rounds.Post
 rounds-start-at-requires t c κs = search needs
 
--- src/lib.rt:277:13
 rounds-body-requires : (t : ℕ) → rounds-lts.Need-body-requires (
   start-at-reads.Asked,
   start-at-reads.Learnt,
@@ -1089,7 +1031,6 @@ rounds-body-requires : (t : ℕ) → rounds-lts.Need-body-requires (
 ) (rounds-at t) rounds.Post
 rounds-body-requires t c κs = copy-first _ _ _ _ _ _ _ _ _ (c .before .before .if1 .taken) _ (c .before .start-at .ensures) (c .before .before .before .before .before .pre .1) _ (c .before .before .before .before .before .pre .0)
 
--- src/lib.rt:278:35
 rounds-sub-rounds : (t : ℕ) → rounds-lts.Need-sub-rounds (
   start-at-reads.Asked,
   start-at-reads.Learnt,
@@ -1104,7 +1045,6 @@ rounds-sub-rounds : (t : ℕ) → rounds-lts.Need-sub-rounds (
 ) (rounds-at t) rounds.Post
 rounds-sub-rounds t c = copy-less _ _ _ _ _ _ _ _ _ (c .before .before .before .before .before .if1 .taken) (c .before .before .before .before .before .before .before .before .pre .1)
 
--- src/lib.rt:278:9
 rounds-rounds-requires : (t : ℕ) → rounds-lts.Need-rounds-requires (
   start-at-reads.Asked,
   start-at-reads.Learnt,
@@ -1119,7 +1059,6 @@ rounds-rounds-requires : (t : ℕ) → rounds-lts.Need-rounds-requires (
 ) (rounds-at t) rounds.Post
 rounds-rounds-requires t c κs = copy-again _ _ _ _ _ _ _ _ _ (c .before .before .before .before .before .before .if1 .taken) _ (c .before .before .before .before .before .start-at .ensures) (c .before .before .before .before .before .before .before .before .before .pre .1) _ _ (c .before .before .before .body .ensures) _ (c .before .before .before .before .before .before .before .before .before .pre .0)
 
--- src/lib.rt:278:9
 rounds-same-length : (t : ℕ) → rounds-lts.Need-same-length (
   start-at-reads.Asked,
   start-at-reads.Learnt,
@@ -1134,7 +1073,6 @@ rounds-same-length : (t : ℕ) → rounds-lts.Need-same-length (
 ) (rounds-at t) rounds.Post
 rounds-same-length t c = emitted-length _ _ _ _ _ (copy-done _ _ _ _ _ _ _ _ _ (c .before .before .before .before .before .before .before .before .before .if1 .taken) _ (c .before .before .before .before .before .before .before .before .start-at .ensures) (c .before .before .before .before .before .before .before .before .before .before .before .before .pre .1) _ _ (c .before .before .before .before .before .before .body .ensures) _ _ (c .before .before .rounds .ensures))
 
--- src/lib.rt:278:9
 rounds-returns : (t : ℕ) → rounds-lts.Need-returns (
   start-at-reads.Asked,
   start-at-reads.Learnt,
@@ -1149,7 +1087,6 @@ rounds-returns : (t : ℕ) → rounds-lts.Need-returns (
 ) (rounds-at t) rounds.Post
 rounds-returns t c = λ h. copy-done _ _ _ _ _ _ _ _ _ (c .before .before .before .before .before .before .before .before .before .if1 .taken) _ (c .before .before .before .before .before .before .before .before .start-at .ensures) h _ _ (c .before .before .before .before .before .before .body .ensures) _ _ (c .before .before .rounds .ensures)
 
--- src/lib.rt:281:9
 rounds-returns-2 : (t : ℕ) → rounds-lts.Need-returns-2 (
   start-at-reads.Asked,
   start-at-reads.Learnt,
@@ -1164,7 +1101,6 @@ rounds-returns-2 : (t : ℕ) → rounds-lts.Need-returns-2 (
 ) (rounds-at t) rounds.Post
 rounds-returns-2 t c = λ h. none-done _ _ _ _ _ _ _ _ _ (c .before .if1 .left) (c .if2 .taken) h
 
--- src/lib.rt:283:9
 rounds-node-at-requires : (t : ℕ) → rounds-lts.Need-node-at-requires (
   start-at-reads.Asked,
   start-at-reads.Learnt,
@@ -1179,7 +1115,6 @@ rounds-node-at-requires : (t : ℕ) → rounds-lts.Need-node-at-requires (
 ) (rounds-at t) rounds.Post
 rounds-node-at-requires t c κs = round-in _ _ _ _ _ _ _ _ _ (c .before .before .before .before .pre .1)
 
--- src/lib.rt:286:29
 rounds-add-start-at-2 : (t : ℕ) → rounds-lts.Need-add-start-at-2 (
   start-at-reads.Asked,
   start-at-reads.Learnt,
@@ -1194,7 +1129,6 @@ rounds-add-start-at-2 : (t : ℕ) → rounds-lts.Need-add-start-at-2 (
 ) (rounds-at t) rounds.Post
 rounds-add-start-at-2 t c = star-fits _ _ _ _ _ _ _ _ _ (c .before .before .before .if1 .left) (c .if3 .taken) _ (c .before .node-at .ensures) (c .before .before .before .before .before .before .pre .1)
 
--- src/lib.rt:286:13
 rounds-start-at-requires-2 : (t : ℕ) → rounds-lts.Need-start-at-requires-2 (
   start-at-reads.Asked,
   start-at-reads.Learnt,
@@ -1209,7 +1143,6 @@ rounds-start-at-requires-2 : (t : ℕ) → rounds-lts.Need-start-at-requires-2 (
 ) (rounds-at t) rounds.Post
 rounds-start-at-requires-2 t c κs = search needs
 
--- src/lib.rt:287:13
 rounds-fork-requires : (t : ℕ) → rounds-lts.Need-fork-requires (
   start-at-reads.Asked,
   start-at-reads.Learnt,
@@ -1224,7 +1157,6 @@ rounds-fork-requires : (t : ℕ) → rounds-lts.Need-fork-requires (
 ) (rounds-at t) rounds.Post
 rounds-fork-requires t c κs = star-choose _ _ _ _ _ _ _ _ _ (c .before .before .before .before .before .if1 .left) (c .before .before .if3 .taken) _ (c .before .before .before .node-at .ensures) _ (c .before .start-at2 .ensures) (c .before .before .before .before .before .before .before .before .pre .1)
 
--- src/lib.rt:288:9
 rounds-body-requires-2 : (t : ℕ) → rounds-lts.Need-body-requires-2 (
   start-at-reads.Asked,
   start-at-reads.Learnt,
@@ -1239,7 +1171,6 @@ rounds-body-requires-2 : (t : ℕ) → rounds-lts.Need-body-requires-2 (
 ) (rounds-at t) rounds.Post
 rounds-body-requires-2 t c κs = star-body _ _ _ _ _ _ _ _ _ (c .before .before .before .before .before .before .before .before .before .if1 .left) (c .before .before .before .before .before .before .if3 .taken) _ (c .before .before .before .before .before .before .before .node-at .ensures) _ (c .before .before .before .before .before .start-at2 .ensures) (c .before .before .before .before .before .before .before .before .before .before .before .before .pre .1) _ _ (c .before .before .before .fork .ensures) _ (c .before .before .before .before .before .before .before .before .before .before .before .before .pre .0)
 
--- src/lib.rt:288:9
 rounds-same-length-2 : (t : ℕ) → rounds-lts.Need-same-length-2 (
   start-at-reads.Asked,
   start-at-reads.Learnt,
@@ -1254,7 +1185,6 @@ rounds-same-length-2 : (t : ℕ) → rounds-lts.Need-same-length-2 (
 ) (rounds-at t) rounds.Post
 rounds-same-length-2 t c = emitted-length _ _ _ _ _ (star-done _ _ _ _ _ _ _ _ _ (c .before .before .before .before .before .before .before .before .before .before .before .before .if1 .left) (c .before .before .before .before .before .before .before .before .before .if3 .taken) _ (c .before .before .before .before .before .before .before .before .before .before .node-at .ensures) _ (c .before .before .before .before .before .before .before .before .start-at2 .ensures) (c .before .before .before .before .before .before .before .before .before .before .before .before .before .before .before .pre .1) _ _ (c .before .before .before .before .before .before .fork .ensures) _ _ (c .before .before .body2 .ensures))
 
--- src/lib.rt:288:9
 rounds-returns-3 : (t : ℕ) → rounds-lts.Need-returns-3 (
   start-at-reads.Asked,
   start-at-reads.Learnt,
@@ -1269,7 +1199,6 @@ rounds-returns-3 : (t : ℕ) → rounds-lts.Need-returns-3 (
 ) (rounds-at t) rounds.Post
 rounds-returns-3 t c = λ h. star-done _ _ _ _ _ _ _ _ _ (c .before .before .before .before .before .before .before .before .before .before .before .before .if1 .left) (c .before .before .before .before .before .before .before .before .before .if3 .taken) _ (c .before .before .before .before .before .before .before .before .before .before .node-at .ensures) _ (c .before .before .before .before .before .before .before .before .start-at2 .ensures) h _ _ (c .before .before .before .before .before .before .fork .ensures) _ _ (c .before .before .body2 .ensures)
 
--- src/lib.rt:290:25
 rounds-add-start-at-3 : (t : ℕ) → rounds-lts.Need-add-start-at-3 (
   start-at-reads.Asked,
   start-at-reads.Learnt,
@@ -1284,7 +1213,6 @@ rounds-add-start-at-3 : (t : ℕ) → rounds-lts.Need-add-start-at-3 (
 ) (rounds-at t) rounds.Post
 rounds-add-start-at-3 t c = option-fits _ _ _ _ _ _ _ _ _ (c .before .before .before .if1 .left) (c .before .before .if2 .left) (c .if3 .left) _ (c .before .node-at .ensures) (c .before .before .before .before .before .before .pre .1)
 
--- src/lib.rt:290:9
 rounds-start-at-requires-3 : (t : ℕ) → rounds-lts.Need-start-at-requires-3 (
   start-at-reads.Asked,
   start-at-reads.Learnt,
@@ -1299,7 +1227,6 @@ rounds-start-at-requires-3 : (t : ℕ) → rounds-lts.Need-start-at-requires-3 (
 ) (rounds-at t) rounds.Post
 rounds-start-at-requires-3 t c κs = search needs
 
--- src/lib.rt:291:9
 rounds-fork-requires-2 : (t : ℕ) → rounds-lts.Need-fork-requires-2 (
   start-at-reads.Asked,
   start-at-reads.Learnt,
@@ -1314,7 +1241,6 @@ rounds-fork-requires-2 : (t : ℕ) → rounds-lts.Need-fork-requires-2 (
 ) (rounds-at t) rounds.Post
 rounds-fork-requires-2 t c κs = option-choose _ _ _ _ _ _ _ _ _ (c .before .before .before .before .before .if1 .left) (c .before .before .before .before .if2 .left) (c .before .before .if3 .left) _ (c .before .before .before .node-at .ensures) _ (c .before .start-at3 .ensures) (c .before .before .before .before .before .before .before .before .pre .1)
 
--- src/lib.rt:292:25
 rounds-add-start-at-4 : (t : ℕ) → rounds-lts.Need-add-start-at-4 (
   start-at-reads.Asked,
   start-at-reads.Learnt,
@@ -1329,7 +1255,6 @@ rounds-add-start-at-4 : (t : ℕ) → rounds-lts.Need-add-start-at-4 (
 ) (rounds-at t) rounds.Post
 rounds-add-start-at-4 t c = option-fits _ _ _ _ _ _ _ _ _ (c .before .before .before .before .before .before .before .before .if1 .left) (c .before .before .before .before .before .before .before .if2 .left) (c .before .before .before .before .before .if3 .left) _ (c .before .before .before .before .before .before .node-at .ensures) (c .before .before .before .before .before .before .before .before .before .before .before .pre .1)
 
--- src/lib.rt:292:25
 rounds-add-start-at-5 : (t : ℕ) → rounds-lts.Need-add-start-at-5 (
   start-at-reads.Asked,
   start-at-reads.Learnt,
@@ -1344,7 +1269,6 @@ rounds-add-start-at-5 : (t : ℕ) → rounds-lts.Need-add-start-at-5 (
 ) (rounds-at t) rounds.Post
 rounds-add-start-at-5 t c = option-more _ _ _ _ _ _ _ _ _ (c .before .before .before .before .before .before .before .before .if1 .left) (c .before .before .before .before .before .before .before .if2 .left) (c .before .before .before .before .before .if3 .left) _ (c .before .before .before .before .before .before .node-at .ensures) (c .before .before .before .before .before .before .before .before .before .before .before .pre .1)
 
--- src/lib.rt:292:9
 rounds-start-at-requires-4 : (t : ℕ) → rounds-lts.Need-start-at-requires-4 (
   start-at-reads.Asked,
   start-at-reads.Learnt,
@@ -1359,7 +1283,6 @@ rounds-start-at-requires-4 : (t : ℕ) → rounds-lts.Need-start-at-requires-4 (
 ) (rounds-at t) rounds.Post
 rounds-start-at-requires-4 t c κs = search needs
 
--- src/lib.rt:293:9
 rounds-body-requires-3 : (t : ℕ) → rounds-lts.Need-body-requires-3 (
   start-at-reads.Asked,
   start-at-reads.Learnt,
@@ -1374,7 +1297,6 @@ rounds-body-requires-3 : (t : ℕ) → rounds-lts.Need-body-requires-3 (
 ) (rounds-at t) rounds.Post
 rounds-body-requires-3 t c κs = option-body _ _ _ _ _ _ _ _ _ (c .before .before .before .before .before .before .before .before .before .before .if1 .left) (c .before .before .before .before .before .before .before .before .before .if2 .left) (c .before .before .before .before .before .before .before .if3 .left) _ (c .before .before .before .before .before .before .before .before .node-at .ensures) _ (c .before .before .before .before .before .before .start-at3 .ensures) (c .before .before .before .before .before .before .before .before .before .before .before .before .before .pre .1) _ _ (c .before .before .before .before .fork2 .ensures) _ (c .before .start-at4 .ensures) _ (c .before .before .before .before .before .before .before .before .before .before .before .before .before .pre .0)
 
--- src/lib.rt:294:27
 rounds-sub-rounds-2 : (t : ℕ) → rounds-lts.Need-sub-rounds-2 (
   start-at-reads.Asked,
   start-at-reads.Learnt,
@@ -1389,7 +1311,6 @@ rounds-sub-rounds-2 : (t : ℕ) → rounds-lts.Need-sub-rounds-2 (
 ) (rounds-at t) rounds.Post
 rounds-sub-rounds-2 t c = option-less _ _ _ _ _ _ _ _ _ (c .before .before .before .before .before .before .before .before .before .before .before .before .before .if1 .left) (c .before .before .before .before .before .before .before .before .before .before .before .before .if2 .left) (c .before .before .before .before .before .before .before .before .before .before .if3 .left) _ (c .before .before .before .before .before .before .before .before .before .before .before .node-at .ensures) (c .before .before .before .before .before .before .before .before .before .before .before .before .before .before .before .before .pre .1)
 
--- src/lib.rt:294:5
 rounds-rounds-requires-2 : (t : ℕ) → rounds-lts.Need-rounds-requires-2 (
   start-at-reads.Asked,
   start-at-reads.Learnt,
@@ -1404,7 +1325,6 @@ rounds-rounds-requires-2 : (t : ℕ) → rounds-lts.Need-rounds-requires-2 (
 ) (rounds-at t) rounds.Post
 rounds-rounds-requires-2 t c κs = option-again _ _ _ _ _ _ _ _ _ (c .before .before .before .before .before .before .before .before .before .before .before .before .before .before .if1 .left) (c .before .before .before .before .before .before .before .before .before .before .before .before .before .if2 .left) (c .before .before .before .before .before .before .before .before .before .before .before .if3 .left) _ (c .before .before .before .before .before .before .before .before .before .before .before .before .node-at .ensures) _ (c .before .before .before .before .before .before .before .before .before .before .start-at3 .ensures) (c .before .before .before .before .before .before .before .before .before .before .before .before .before .before .before .before .before .pre .1) _ _ (c .before .before .before .before .before .before .before .before .fork2 .ensures) _ (c .before .before .before .before .before .start-at4 .ensures) _ _ (c .before .before .before .body3 .ensures) _ (c .before .before .before .before .before .before .before .before .before .before .before .before .before .before .before .before .before .pre .0)
 
--- src/lib.rt:270:1
 rounds-same-length-3 : (t : ℕ) → rounds-lts.Need-same-length-3 (
   start-at-reads.Asked,
   start-at-reads.Learnt,
@@ -1419,7 +1339,6 @@ rounds-same-length-3 : (t : ℕ) → rounds-lts.Need-same-length-3 (
 ) (rounds-at t) rounds.Post
 rounds-same-length-3 t c = emitted-length _ _ _ _ _ (option-done _ _ _ _ _ _ _ _ _ (c .before .before .before .before .before .before .before .before .before .before .before .before .before .before .before .before .before .if1 .left) (c .before .before .before .before .before .before .before .before .before .before .before .before .before .before .before .before .if2 .left) (c .before .before .before .before .before .before .before .before .before .before .before .before .before .before .if3 .left) _ (c .before .before .before .before .before .before .before .before .before .before .before .before .before .before .before .node-at .ensures) _ (c .before .before .before .before .before .before .before .before .before .before .before .before .before .start-at3 .ensures) (c .before .before .before .before .before .before .before .before .before .before .before .before .before .before .before .before .before .before .before .before .pre .1) _ _ (c .before .before .before .before .before .before .before .before .before .before .before .fork2 .ensures) _ (c .before .before .before .before .before .before .before .before .start-at4 .ensures) _ _ (c .before .before .before .before .before .before .body3 .ensures) _ _ (c .before .before .rounds2 .ensures))
 
--- src/lib.rt:270:1
 rounds-returns-4 : (t : ℕ) → rounds-lts.Need-returns-4 (
   start-at-reads.Asked,
   start-at-reads.Learnt,

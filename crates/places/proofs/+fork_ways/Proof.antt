@@ -25,7 +25,6 @@ abbrev fork-ways-below : ℕ → In 2 fork-ways-kinds.ps
 fork-ways-below t =
     and 2 fork-ways-kinds.ps (falls 2 fork-ways-kinds.ps _<_ μ-fork-ways t) fork-ways.Pre
 
--- src/lib.rt:88:9
 fork-ways-node-at-requires : (t : ℕ) → fork-ways-lts.Need-node-at-requires (
   node-at-reads.Asked,
   node-at-reads.Learnt,
@@ -40,7 +39,6 @@ fork-ways-node-at-requires : (t : ℕ) → fork-ways-lts.Need-node-at-requires (
 ) (fork-ways-at t) fork-ways.Post
 fork-ways-node-at-requires t c κs = start-node _ _ _ _ _ _ _ (c .before .before .pre .1)
 
--- src/lib.rt:93:9
 fork-ways-put-way-requires : (t : ℕ) → fork-ways-lts.Need-put-way-requires (
   node-at-reads.Asked,
   node-at-reads.Learnt,
@@ -55,7 +53,6 @@ fork-ways-put-way-requires : (t : ℕ) → fork-ways-lts.Need-put-way-requires (
 ) (fork-ways-at t) fork-ways.Post
 fork-ways-put-way-requires t c κs = none-way _ _ _ (c .before .before .before .node-at .ensures) _ _ _ _ _ (c .before .if1 .taken) (c .before .before .before .before .before .before .pre .1)
 
--- src/lib.rt:93:9
 fork-ways-same-length : (t : ℕ) → fork-ways-lts.Need-same-length (
   node-at-reads.Asked,
   node-at-reads.Learnt,
@@ -70,7 +67,6 @@ fork-ways-same-length : (t : ℕ) → fork-ways-lts.Need-same-length (
 ) (fork-ways-at t) fork-ways.Post
 fork-ways-same-length t c = started-length _ _ _ _ _ _ _ _ _ _ (none-done _ _ _ (c .before .before .before .before .before .before .node-at .ensures) _ _ _ _ _ (c .before .before .before .before .if1 .taken) (c .before .before .before .before .before .before .before .before .before .pre .1) _ _ (c .before .before .put-way .ensures))
 
--- src/lib.rt:93:9
 fork-ways-returns : (t : ℕ) → fork-ways-lts.Need-returns (
   node-at-reads.Asked,
   node-at-reads.Learnt,
@@ -85,7 +81,6 @@ fork-ways-returns : (t : ℕ) → fork-ways-lts.Need-returns (
 ) (fork-ways-at t) fork-ways.Post
 fork-ways-returns t c = λ h. none-done _ _ _ (c .before .before .before .before .before .before .node-at .ensures) _ _ _ _ _ (c .before .before .before .before .if1 .taken) h _ _ (c .before .before .put-way .ensures)
 
--- src/lib.rt:96:23
 fork-ways-enum-told : (t : ℕ) → fork-ways-lts.Need-enum-told (
   node-at-reads.Asked,
   node-at-reads.Learnt,
@@ -100,7 +95,6 @@ fork-ways-enum-told : (t : ℕ) → fork-ways-lts.Need-enum-told (
 ) (fork-ways-at t) fork-ways.Post
 fork-ways-enum-told t c = search needs
 
--- src/lib.rt:96:23
 fork-ways-places-at-requires : (t : ℕ) → fork-ways-lts.Need-places-at-requires (
   node-at-reads.Asked,
   node-at-reads.Learnt,
@@ -115,7 +109,6 @@ fork-ways-places-at-requires : (t : ℕ) → fork-ways-lts.Need-places-at-requir
 ) (fork-ways-at t) fork-ways.Post
 fork-ways-places-at-requires t c κs = start-left _ _ _ (c .before .before .before .before .node-at .ensures) _ _ _ _ _ (c .enum-told .given .1) _ refl (c .before .before .before .before .before .before .before .pre .1)
 
--- src/lib.rt:96:19
 fork-ways-add-end : (t : ℕ) → fork-ways-lts.Need-add-end (
   node-at-reads.Asked,
   node-at-reads.Learnt,
@@ -130,7 +123,6 @@ fork-ways-add-end : (t : ℕ) → fork-ways-lts.Need-add-end (
 ) (fork-ways-at t) fork-ways.Post
 fork-ways-add-end t c = start-fits _ _ _ (c .before .before .before .before .before .node-at .ensures) _ _ _ _ _ (c .before .enum-told .given .1) _ (c .places-at .ensures) (c .before .before .before .before .before .before .before .before .pre .1)
 
--- src/lib.rt:97:45
 fork-ways-start-at-requires : (t : ℕ) → fork-ways-lts.Need-start-at-requires (
   node-at-reads.Asked,
   node-at-reads.Learnt,
@@ -145,7 +137,6 @@ fork-ways-start-at-requires : (t : ℕ) → fork-ways-lts.Need-start-at-requires
 ) (fork-ways-at t) fork-ways.Post
 fork-ways-start-at-requires t c κs = search needs
 
--- src/lib.rt:97:13
 fork-ways-put-way-requires-2 : (t : ℕ) → fork-ways-lts.Need-put-way-requires-2 (
   node-at-reads.Asked,
   node-at-reads.Learnt,
@@ -160,7 +151,6 @@ fork-ways-put-way-requires-2 : (t : ℕ) → fork-ways-lts.Need-put-way-requires
 ) (fork-ways-at t) fork-ways.Post
 fork-ways-put-way-requires-2 t c κs = start-way _ _ _ (c .before .before .before .before .before .before .before .node-at .ensures) _ _ _ _ _ (c .before .before .before .enum-told .given .1) _ (c .before .before .places-at .ensures) (c .before .before .before .before .before .before .before .before .before .before .pre .1) _ (c .start-at .ensures)
 
--- src/lib.rt:98:9
 fork-ways-fork-ways-requires : (t : ℕ) → fork-ways-lts.Need-fork-ways-requires (
   node-at-reads.Asked,
   node-at-reads.Learnt,
@@ -175,7 +165,6 @@ fork-ways-fork-ways-requires : (t : ℕ) → fork-ways-lts.Need-fork-ways-requir
 ) (fork-ways-at t) fork-ways.Post
 fork-ways-fork-ways-requires t c κs = start-again _ _ _ (c .before .before .before .before .before .before .before .before .before .before .before .node-at .ensures) _ _ _ _ _ (c .before .before .before .before .before .before .before .enum-told .given .1) _ (c .before .before .before .before .before .before .places-at .ensures) (c .before .before .before .before .before .before .before .before .before .before .before .before .before .before .pre .1) _ (c .before .before .before .before .start-at .ensures) _ _ (c .before .before .before .put-way2 .ensures) _ (c .before .before .before .before .before .before .before .before .before .before .before .before .before .before .pre .0)
 
--- src/lib.rt:98:9
 fork-ways-same-length-2 : (t : ℕ) → fork-ways-lts.Need-same-length-2 (
   node-at-reads.Asked,
   node-at-reads.Learnt,
@@ -190,7 +179,6 @@ fork-ways-same-length-2 : (t : ℕ) → fork-ways-lts.Need-same-length-2 (
 ) (fork-ways-at t) fork-ways.Post
 fork-ways-same-length-2 t c = started-length _ _ _ _ _ _ _ _ _ _ (start-more _ _ _ (c .before .before .before .before .before .before .before .before .before .before .before .before .before .before .node-at .ensures) _ _ _ _ _ (c .before .before .before .before .before .before .before .before .before .before .enum-told .given .1) _ (c .before .before .before .before .before .before .before .before .before .places-at .ensures) (c .before .before .before .before .before .before .before .before .before .before .before .before .before .before .before .before .before .pre .1) _ (c .before .before .before .before .before .before .before .start-at .ensures) _ _ (c .before .before .before .before .before .before .put-way2 .ensures) _ _ (c .before .before .fork-ways .ensures))
 
--- src/lib.rt:98:9
 fork-ways-returns-2 : (t : ℕ) → fork-ways-lts.Need-returns-2 (
   node-at-reads.Asked,
   node-at-reads.Learnt,
@@ -205,7 +193,6 @@ fork-ways-returns-2 : (t : ℕ) → fork-ways-lts.Need-returns-2 (
 ) (fork-ways-at t) fork-ways.Post
 fork-ways-returns-2 t c = λ h. start-more _ _ _ (c .before .before .before .before .before .before .before .before .before .before .before .before .before .before .node-at .ensures) _ _ _ _ _ (c .before .before .before .before .before .before .before .before .before .before .enum-told .given .1) _ (c .before .before .before .before .before .before .before .before .before .places-at .ensures) h _ (c .before .before .before .before .before .before .before .start-at .ensures) _ _ (c .before .before .before .before .before .before .put-way2 .ensures) _ _ (c .before .before .fork-ways .ensures)
 
--- src/lib.rt:100:42
 fork-ways-add-start-at : (t : ℕ) → fork-ways-lts.Need-add-start-at (
   node-at-reads.Asked,
   node-at-reads.Learnt,
@@ -220,7 +207,6 @@ fork-ways-add-start-at : (t : ℕ) → fork-ways-lts.Need-add-start-at (
 ) (fork-ways-at t) fork-ways.Post
 fork-ways-add-start-at t c = last-fits _ _ _ (c .before .before .before .before .before .node-at .ensures) _ _ _ _ _ (not-alternation _ (c .before .before .match .keys2)) (c .before .before .before .before .before .before .before .before .pre .1)
 
--- src/lib.rt:100:30
 fork-ways-start-at-requires-2 : (t : ℕ) → fork-ways-lts.Need-start-at-requires-2 (
   node-at-reads.Asked,
   node-at-reads.Learnt,
@@ -235,7 +221,6 @@ fork-ways-start-at-requires-2 : (t : ℕ) → fork-ways-lts.Need-start-at-requir
 ) (fork-ways-at t) fork-ways.Post
 fork-ways-start-at-requires-2 t c κs = search needs
 
--- src/lib.rt:100:5
 fork-ways-put-way-requires-3 : (t : ℕ) → fork-ways-lts.Need-put-way-requires-3 (
   node-at-reads.Asked,
   node-at-reads.Learnt,
@@ -250,7 +235,6 @@ fork-ways-put-way-requires-3 : (t : ℕ) → fork-ways-lts.Need-put-way-requires
 ) (fork-ways-at t) fork-ways.Post
 fork-ways-put-way-requires-3 t c κs = last-way _ _ _ (c .before .before .before .before .before .before .node-at .ensures) _ _ _ _ _ (not-alternation _ (c .before .before .before .match .keys2)) (c .before .before .before .before .before .before .before .before .before .pre .1) _ (c .start-at2 .ensures)
 
--- src/lib.rt:84:1
 fork-ways-same-length-3 : (t : ℕ) → fork-ways-lts.Need-same-length-3 (
   node-at-reads.Asked,
   node-at-reads.Learnt,
@@ -265,7 +249,6 @@ fork-ways-same-length-3 : (t : ℕ) → fork-ways-lts.Need-same-length-3 (
 ) (fork-ways-at t) fork-ways.Post
 fork-ways-same-length-3 t c = started-length _ _ _ _ _ _ _ _ _ _ (last-done _ _ _ (c .before .before .before .before .before .before .before .before .before .node-at .ensures) _ _ _ _ _ (not-alternation _ (c .before .before .before .before .before .before .match .keys2)) (c .before .before .before .before .before .before .before .before .before .before .before .before .pre .1) _ (c .before .before .before .start-at2 .ensures) _ _ (c .before .before .put-way3 .ensures))
 
--- src/lib.rt:84:1
 fork-ways-returns-3 : (t : ℕ) → fork-ways-lts.Need-returns-3 (
   node-at-reads.Asked,
   node-at-reads.Learnt,
