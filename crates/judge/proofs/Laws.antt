@@ -128,7 +128,8 @@ module _ (s : List ℕ) (i : ℕ) (n : Node) (en : n ≡ nodeAt s i) where
 
   pub loop-seq-second : (r1 r2 : Bool) → n .sort ≡ Sequence → EmptyLoop s (n .left) r1 → r1 ≡ false → EmptyLoop s (n .right) r2 → EmptyLoop s i r2
   unfolding emptyLoop
-  loop-seq-second r1 r2 e f o g = as-seq s i n en (λ p. r2 ≡ emptyLoop p) e (λ x b q. let z : emptyLoop x ≡ false = sym (f (one (last x)) (q .left)) ∙ o in rw z (g (one b) (q .right)))
+  loop-seq-second r1 r2 e f o g = as-seq s i n en (λ p. r2 ≡ emptyLoop p) e (λ x b q. let z : emptyLoop x ≡ false = sym (f (one (last x)) (q .left))
+      ∙ o in rw z (g (one b) (q .right)))
 
   pub loop-alt : (r1 : Bool) → n .sort ≡ Alternation → EmptyLoop s (n .left) r1 → r1 ≡ true → EmptyLoop s i true
   unfolding emptyLoop
@@ -157,7 +158,8 @@ module _ (s : List ℕ) (i : ℕ) (n : Node) (en : n ≡ nodeAt s i) where
   pub loop-group-rest : (t r : Bool) → n .sort ≡ Group → n .high ≡ 100 → Nullable s (n .left) t → t ≡ false → EmptyLoop s (n .left) r → EmptyLoop s i r
   unfolding emptyLoop
   loop-group-rest t r e eh f o h = as-group s i n en (λ p. r ≡ emptyLoop p) e (λ F q p g.
-      let z : nullable p ≡ false = sym (f p (g .inside)) ∙ o in h p (g .inside) ∙ sym (loop-inside true F q p g (eq-eqb (n .high) 100 eh) ∙ ap (λ (b : Bool). (true && b) || emptyLoop p) z))
+      let z : nullable p ≡ false = sym (f p (g .inside)) ∙ o in h p (g .inside) ∙ sym (loop-inside true F q p g (eq-eqb (n .high) 100 eh)
+      ∙ ap (λ (b : Bool). (true && b) || emptyLoop p) z))
 
 -- ---- depth of parentheses
 
@@ -199,7 +201,11 @@ module _ (s : List ℕ) (d : Depth) (i : ℕ) (h : Deep s d i) where
     deep-found f = sym (h .same ∙ deep-step ∙ ap (λ (t : Bool). pick t true (deep (r .opened) (r .closed) (drop (i + 1) s))) (lt-ltb (r .closed + 8) (r .opened) f))
 
     few-more : (r .opened ≤ i + 1) × (r .closed ≤ i + 1)
-    few-more = let q = behind-is (getD s i 0) d r g in (at-most (eqb (getD s i 0) 40) (d .opened) (r .opened) (q .0) (h .few-open), at-most (eqb (getD s i 0) 41) (d .closed) (r .closed) (q .1) (h .few-closed))
+    few-more = let q = behind-is (getD s i 0) d r g in (
+      at-most (eqb (getD s i 0) 40) (d .opened) (r .opened) (q .0) (h .few-open),
+      at-most (eqb (getD s i 0) 41) (d .closed)
+          (r .closed) (q .1) (h .few-closed),
+    )
       where
         at-most : (t : Bool) (x y : ℕ) → y ≡ pick t (x + 1) x → x ≤ i → y ≤ i + 1
         at-most true x y e k = omega arith
@@ -258,7 +264,13 @@ module _ (s m0 m1 : List ℕ) where
     pub judge-outside : (r : Verdict) → p .ok ≡ false → r ≡ refusal 5 → Judging s m0 m1 r
     unfolding lowest noTree ParsedAs
     judge-outside r e er =
-        rw er (record { answer = sym (answer-is false true _ _ (sym ed ∙ nd) (go (treeOf s) (h .says)) refl refl); places = refl; top = λ z. clash (omega arith); kept = h .kept; len = h .len })
+        rw er (record {
+          answer = sym (answer-is false true _ _ (sym ed ∙ nd) (go (treeOf s) (h .says)) refl refl);
+          places = refl;
+          top = λ z. clash (omega arith);
+          kept = h .kept;
+          len = h .len;
+        })
       where
         go : (x : Option (Tree pattern)) → ParsedAs s m0 m1 p x → noTree x ≡ true
         go none q = refl
@@ -291,7 +303,8 @@ module _ (s m0 m1 : List ℕ) where
     fork-small (more b t) = omega arith
 
     -- P as it is counted
-    counted : (p .forks + p .places ≤ 258) × (256 < p .forks + p .places + 1 → 256 < placesOf (tree-of .tree)) × (p .forks + p .places + 1 ≤ 256 → placesOf (tree-of .tree) ≡ p .forks + p .places + 1)
+    counted : (p .forks + p .places ≤ 258) × (256 < p .forks + p .places + 1 → 256 < placesOf (tree-of .tree)) × (p .forks + p .places + 1 ≤ 256
+        → placesOf (tree-of .tree) ≡ p .forks + p .places + 1)
     unfolding placesOf
     counted =
         let t = tree-of in let a = t .parsed .forked in let b = t .parsed .placed in
@@ -318,7 +331,13 @@ module _ (s m0 m1 : List ℕ) where
 
       pub judge-loop : (r : Verdict) → l ≡ true → r ≡ refusal 6 → Judging s m0 m1 r
       unfolding lowest
-      judge-loop r ol er = rw er (record { answer = sym (answer-is false false true _ (sym ed ∙ nd) seen (looped ∙ ol) refl); places = refl; top = λ z. clash (omega arith); kept = h .kept; len = h .len })
+      judge-loop r ol er = rw er (record {
+        answer = sym (answer-is false false true _ (sym ed ∙ nd) seen (looped ∙ ol) refl);
+        places = refl;
+        top = λ z. clash (omega arith);
+        kept = h .kept;
+        len = h .len;
+      })
 
       pub judge-many : (r : Verdict) → l ≡ false → 256 < p .forks + p .places + 1 → r ≡ refusal 7 → Judging s m0 m1 r
       unfolding lowest

@@ -109,7 +109,8 @@ factor-at s n (times x f z) c e l h =
       fits = l;
     }
 
-seq-at : (s : List ℕ) (n : Node) (f : Tree factor) (b : Tree branch) (c : ℕ) → n ≡ nodeAt s (c + nodeCount f + nodeCount b) → 8 * (c + nodeCount f + nodeCount b + 1) ≤ length s → Held (next f b) c s → SeqAt s n f b
+seq-at : (s : List ℕ) (n : Node) (f : Tree factor) (b : Tree branch) (c : ℕ) → n ≡ nodeAt s (c + nodeCount f + nodeCount b) → 8 * (c + nodeCount f + nodeCount b + 1) ≤ length s
+    → Held (next f b) c s → SeqAt s n f b
 unfolding Held nodeCount
 seq-at s n f b c e l h =
     let q : n ≡ plain Sequence (c + nodeCount f - 1) (c + nodeCount f + nodeCount b - 1) (max (height f) (height b) + 1) (min (placeCount f + placeCount b) 257) = e ∙ h .2 in
@@ -124,7 +125,8 @@ seq-at s n f b c e l h =
       right = record { base = c + nodeCount f; top = omega (arith, factor-nodes f); held = h .1; fits = omega arith };
     }
 
-alt-at : (s : List ℕ) (n : Node) (b : Tree branch) (p : Tree pattern) (c : ℕ) → n ≡ nodeAt s (c + nodeCount b + nodeCount p) → 8 * (c + nodeCount b + nodeCount p + 1) ≤ length s → Held (more b p) c s → AltAt s n b p
+alt-at : (s : List ℕ) (n : Node) (b : Tree branch) (p : Tree pattern) (c : ℕ) → n ≡ nodeAt s (c + nodeCount b + nodeCount p) → 8 * (c + nodeCount b + nodeCount p + 1) ≤ length s
+    → Held (more b p) c s → AltAt s n b p
 unfolding Held nodeCount
 alt-at s n b p c e l h =
     let q : n ≡ plain Alternation (c + nodeCount b - 1) (c + nodeCount b + nodeCount p - 1) (max (height b) (height p) + 1) (min (placeCount b + placeCount p) 257) = e ∙ h .2 in

@@ -1,3 +1,5 @@
+-- `judge::can_be_empty`, which calls itself, meets its contract.
+-- The measure: the node's height. Laws: pattern's ByNode, Laws.
 use Rattle.pattern.proofs.ByNode.{at-in, seq-left, seq-right, alt-left, alt-right, group-left}
 use Rattle.judge.proofs.Laws.{null-zero, null-letter, null-anchor, null-empty, null-group, null-seq, null-seq-no, null-alt, null-alt-second}
 use Rattle.pattern.specs.Nodes.{nodeAt}
@@ -81,7 +83,8 @@ can-be-empty-can-be-empty-requires : (t : ℕ) → can-be-empty-lts.Need-can-be-
   can-be-empty-below t,
   can-be-empty.Post,
 ) (can-be-empty-at t) can-be-empty.Post
-can-be-empty-can-be-empty-requires t c κs = seq-left _ _ _ (c .before .before .before .before .node-at .ensures) _ (c .before .before .before .before .before .before .pre .0) (c .before .before .before .before .before .before .pre .1) (c .enum-told4 .given .1)
+can-be-empty-can-be-empty-requires t c κs = seq-left _ _ _ (c .before .before .before .before .node-at .ensures) _ (c .before .before .before .before .before .before .pre .0)
+    (c .before .before .before .before .before .before .pre .1) (c .enum-told4 .given .1)
 
 can-be-empty-can-be-empty-requires-2 : (t : ℕ) → can-be-empty-lts.Need-can-be-empty-requires-2 (
   node-at-reads.Asked,
@@ -89,7 +92,9 @@ can-be-empty-can-be-empty-requires-2 : (t : ℕ) → can-be-empty-lts.Need-can-b
   can-be-empty-below t,
   can-be-empty.Post,
 ) (can-be-empty-at t) can-be-empty.Post
-can-be-empty-can-be-empty-requires-2 t c κs = seq-right _ _ _ (c .before .before .before .before .before .before .node-at .ensures) _ (c .before .before .before .before .before .before .before .before .pre .0) (c .before .before .before .before .before .before .before .before .pre .1) (c .before .before .enum-told4 .given .1)
+can-be-empty-can-be-empty-requires-2 t c κs = seq-right _ _ _ (c .before .before .before .before .before .before .node-at .ensures) _
+    (c .before .before .before .before .before .before .before .before .pre .0) (c .before .before .before .before .before .before .before .before .pre .1)
+    (c .before .before .enum-told4 .given .1)
 
 can-be-empty-enum-told-5 : (t : ℕ) → can-be-empty-lts.Need-enum-told-5 (
   node-at-reads.Asked,
@@ -105,7 +110,8 @@ can-be-empty-can-be-empty-requires-3 : (t : ℕ) → can-be-empty-lts.Need-can-b
   can-be-empty-below t,
   can-be-empty.Post,
 ) (can-be-empty-at t) can-be-empty.Post
-can-be-empty-can-be-empty-requires-3 t c κs = alt-left _ _ _ (c .before .before .before .before .node-at .ensures) _ (c .before .before .before .before .before .before .pre .0) (c .before .before .before .before .before .before .pre .1) (c .enum-told5 .given .1)
+can-be-empty-can-be-empty-requires-3 t c κs = alt-left _ _ _ (c .before .before .before .before .node-at .ensures) _ (c .before .before .before .before .before .before .pre .0)
+    (c .before .before .before .before .before .before .pre .1) (c .enum-told5 .given .1)
 
 can-be-empty-can-be-empty-requires-4 : (t : ℕ) → can-be-empty-lts.Need-can-be-empty-requires-4 (
   node-at-reads.Asked,
@@ -113,7 +119,9 @@ can-be-empty-can-be-empty-requires-4 : (t : ℕ) → can-be-empty-lts.Need-can-b
   can-be-empty-below t,
   can-be-empty.Post,
 ) (can-be-empty-at t) can-be-empty.Post
-can-be-empty-can-be-empty-requires-4 t c κs = alt-right _ _ _ (c .before .before .before .before .before .before .node-at .ensures) _ (c .before .before .before .before .before .before .before .before .pre .0) (c .before .before .before .before .before .before .before .before .pre .1) (c .before .before .enum-told5 .given .1)
+can-be-empty-can-be-empty-requires-4 t c κs = alt-right _ _ _ (c .before .before .before .before .before .before .node-at .ensures) _
+    (c .before .before .before .before .before .before .before .before .pre .0) (c .before .before .before .before .before .before .before .before .pre .1)
+    (c .before .before .enum-told5 .given .1)
 
 can-be-empty-enum-told-6 : (t : ℕ) → can-be-empty-lts.Need-enum-told-6 (
   node-at-reads.Asked,
@@ -129,7 +137,8 @@ can-be-empty-can-be-empty-requires-5 : (t : ℕ) → can-be-empty-lts.Need-can-b
   can-be-empty-below t,
   can-be-empty.Post,
 ) (can-be-empty-at t) can-be-empty.Post
-can-be-empty-can-be-empty-requires-5 t c κs = group-left _ _ _ (c .before .before .before .before .node-at .ensures) _ (c .before .before .before .before .before .before .pre .0) (c .before .before .before .before .before .before .pre .1) (c .enum-told6 .given .1)
+can-be-empty-can-be-empty-requires-5 t c κs = group-left _ _ _ (c .before .before .before .before .node-at .ensures) _
+    (c .before .before .before .before .before .before .pre .0) (c .before .before .before .before .before .before .pre .1) (c .enum-told6 .given .1)
 
 can-be-empty-returns-2 : (t : ℕ) → can-be-empty-lts.Need-returns-2 (
   node-at-reads.Asked,

@@ -1,3 +1,5 @@
+-- `judge::has_empty_loop`, which calls itself, meets its contract.
+-- The measure: the node's height. Laws: pattern's ByNode, Laws.
 use Rattle.pattern.proofs.ByNode.{at-in, seq-left, seq-right, alt-left, alt-right, group-left}
 use Rattle.judge.proofs.Laws.{loop-letter, loop-anchor, loop-empty, loop-seq, loop-seq-second, loop-alt, loop-alt-second, loop-group, loop-group-null, loop-group-rest, group-inside}
 use Rattle.pattern.specs.Nodes.{nodeAt}
@@ -82,7 +84,8 @@ has-empty-loop-has-empty-loop-requires : (t : ℕ) → has-empty-loop-lts.Need-h
   can-be-empty-reads.Asked,
   can-be-empty-reads.Learnt,
 ) (has-empty-loop-at t) has-empty-loop.Post
-has-empty-loop-has-empty-loop-requires t c κs = seq-left _ _ _ (c .before .before .node-at .ensures) _ (c .before .before .before .before .pre .0) (c .before .before .before .before .pre .1) (c .enum-told4 .given .1)
+has-empty-loop-has-empty-loop-requires t c κs = seq-left _ _ _ (c .before .before .node-at .ensures) _ (c .before .before .before .before .pre .0)
+    (c .before .before .before .before .pre .1) (c .enum-told4 .given .1)
 
 has-empty-loop-has-empty-loop-requires-2 : (t : ℕ) → has-empty-loop-lts.Need-has-empty-loop-requires-2 (
   node-at-reads.Asked,
@@ -92,7 +95,8 @@ has-empty-loop-has-empty-loop-requires-2 : (t : ℕ) → has-empty-loop-lts.Need
   can-be-empty-reads.Asked,
   can-be-empty-reads.Learnt,
 ) (has-empty-loop-at t) has-empty-loop.Post
-has-empty-loop-has-empty-loop-requires-2 t c κs = seq-right _ _ _ (c .before .before .before .before .node-at .ensures) _ (c .before .before .before .before .before .before .pre .0) (c .before .before .before .before .before .before .pre .1) (c .before .before .enum-told4 .given .1)
+has-empty-loop-has-empty-loop-requires-2 t c κs = seq-right _ _ _ (c .before .before .before .before .node-at .ensures) _
+    (c .before .before .before .before .before .before .pre .0) (c .before .before .before .before .before .before .pre .1) (c .before .before .enum-told4 .given .1)
 
 has-empty-loop-enum-told-5 : (t : ℕ) → has-empty-loop-lts.Need-enum-told-5 (
   node-at-reads.Asked,
@@ -112,7 +116,8 @@ has-empty-loop-has-empty-loop-requires-3 : (t : ℕ) → has-empty-loop-lts.Need
   can-be-empty-reads.Asked,
   can-be-empty-reads.Learnt,
 ) (has-empty-loop-at t) has-empty-loop.Post
-has-empty-loop-has-empty-loop-requires-3 t c κs = alt-left _ _ _ (c .before .before .node-at .ensures) _ (c .before .before .before .before .pre .0) (c .before .before .before .before .pre .1) (c .enum-told5 .given .1)
+has-empty-loop-has-empty-loop-requires-3 t c κs = alt-left _ _ _ (c .before .before .node-at .ensures) _ (c .before .before .before .before .pre .0)
+    (c .before .before .before .before .pre .1) (c .enum-told5 .given .1)
 
 has-empty-loop-has-empty-loop-requires-4 : (t : ℕ) → has-empty-loop-lts.Need-has-empty-loop-requires-4 (
   node-at-reads.Asked,
@@ -122,7 +127,8 @@ has-empty-loop-has-empty-loop-requires-4 : (t : ℕ) → has-empty-loop-lts.Need
   can-be-empty-reads.Asked,
   can-be-empty-reads.Learnt,
 ) (has-empty-loop-at t) has-empty-loop.Post
-has-empty-loop-has-empty-loop-requires-4 t c κs = alt-right _ _ _ (c .before .before .before .before .node-at .ensures) _ (c .before .before .before .before .before .before .pre .0) (c .before .before .before .before .before .before .pre .1) (c .before .before .enum-told5 .given .1)
+has-empty-loop-has-empty-loop-requires-4 t c κs = alt-right _ _ _ (c .before .before .before .before .node-at .ensures) _
+    (c .before .before .before .before .before .before .pre .0) (c .before .before .before .before .before .before .pre .1) (c .before .before .enum-told5 .given .1)
 
 has-empty-loop-enum-told-6 : (t : ℕ) → has-empty-loop-lts.Need-enum-told-6 (
   node-at-reads.Asked,
@@ -142,7 +148,8 @@ has-empty-loop-has-empty-loop-requires-5 : (t : ℕ) → has-empty-loop-lts.Need
   can-be-empty-reads.Asked,
   can-be-empty-reads.Learnt,
 ) (has-empty-loop-at t) has-empty-loop.Post
-has-empty-loop-has-empty-loop-requires-5 t c κs = group-left _ _ _ (c .before .before .before .node-at .ensures) _ (c .before .before .before .before .before .pre .0) (c .before .before .before .before .before .pre .1) (c .before .enum-told6 .given .1)
+has-empty-loop-has-empty-loop-requires-5 t c κs = group-left _ _ _ (c .before .before .before .node-at .ensures) _ (c .before .before .before .before .before .pre .0)
+    (c .before .before .before .before .before .pre .1) (c .before .enum-told6 .given .1)
 
 has-empty-loop-returns : (t : ℕ) → has-empty-loop-lts.Need-returns (
   node-at-reads.Asked,
@@ -182,7 +189,9 @@ has-empty-loop-has-empty-loop-requires-6 : (t : ℕ) → has-empty-loop-lts.Need
   can-be-empty-reads.Asked,
   can-be-empty-reads.Learnt,
 ) (has-empty-loop-at t) has-empty-loop.Post
-has-empty-loop-has-empty-loop-requires-6 t c κs = group-left _ _ _ (c .before .before .before .before .before .node-at .ensures) _ (c .before .before .before .before .before .before .before .pre .0) (c .before .before .before .before .before .before .before .pre .1) (c .before .before .before .enum-told6 .given .1)
+has-empty-loop-has-empty-loop-requires-6 t c κs = group-left _ _ _ (c .before .before .before .before .before .node-at .ensures) _
+    (c .before .before .before .before .before .before .before .pre .0) (c .before .before .before .before .before .before .before .pre .1)
+    (c .before .before .before .enum-told6 .given .1)
 
 has-empty-loop-returns-3 : (t : ℕ) → has-empty-loop-lts.Need-returns-3 (
   node-at-reads.Asked,

@@ -1,3 +1,4 @@
+-- `judge::has_byte` meets its contract. Laws: Laws.
 use Rattle.judge.proofs.Laws.{Without, without-none, without-end, without-found, without-more}
 use lib.ListN.{length}
 use Prim.Native.Nat.{_-_}

@@ -1,3 +1,4 @@
+-- `judge::judge` meets its contract. Laws: Laws.
 use Rattle.judge.proofs.Laws.{judge-deep, judge-outside, some-node, top-at, sum-fits, more-fits, judge-loop, judge-many, judge-good}
 use borrow.Author.Tests.{not-true, not-false}
 use borrow.Author.Needs.{needs}

@@ -1,3 +1,5 @@
+-- The functions `branch`, `factor`, `pattern`, `primary` of pattern, which call each other, meet their contracts.
+-- The measure: four times the bytes of text left, and a rank for each reader. Laws: ReaderLaws.
 use Rattle.pattern.proofs.ReaderLaws.{before-end, pattern-fails, pattern-ends, pattern-again, pattern-more-fails, pattern-joins, pattern-more, branch-fails, branch-ends-none, branch-ends-bar, branch-ends-shut, branch-again, branch-joins, branch-more-fails, branch-more, factor-fails, factor-fits, factor-ends, primary-simple, primary-empty, primary-again, primary-needs, primary-group}
 use borrow.Author.Tests.{not-true, not-false}
 use native.Mathlib.Omega.{arith}
@@ -196,7 +198,10 @@ branch-branch-requires : (t : ℕ) → branch-lts.Need-branch-requires (
   join-reads.Asked,
   join-reads.Learnt,
 ) (branch-at t) branch.Post
-branch-branch-requires t c κs = branch-again _ _ _ _ _ _ (c .before .before .before .before .before .before .before .before .factor .ensures) _ (c .before .before .before .before .before .before .before .before .before .before .before .before .pre .0) (c .before .before .before .before .before .before .before .before .before .before .before .before .pre .1) (not-false _ (c .before .before .before .before .before .if1 .left))
+branch-branch-requires t c κs = branch-again _ _ _ _ _ _ (c .before .before .before .before .before .before .before .before .factor .ensures) _
+    (c .before .before .before .before .before .before .before .before .before .before .before .before .pre .0)
+    (c .before .before .before .before .before .before .before .before .before .before .before .before .pre .1)
+    (not-false _ (c .before .before .before .before .before .if1 .left))
 
 branch-same-length-5 : (t : ℕ) → branch-lts.Need-same-length-5 (
   factor-below t,
@@ -438,7 +443,10 @@ pattern-pattern-requires : (t : ℕ) → pattern-lts.Need-pattern-requires (
   join-reads.Asked,
   join-reads.Learnt,
 ) (pattern-at t) pattern.Post
-pattern-pattern-requires t c κs = pattern-again _ _ _ _ _ _ (c .before .before .before .before .before .before .before .branch .ensures) _ (c .before .before .before .peek .ensures) (not-false _ (c .before .before .before .before .if1 .left)) (c .before .before .if2 .left) _ (c .before .after .ensures) _ (c .before .before .before .before .before .before .before .before .before .before .before .pre .0) (c .before .before .before .before .before .before .before .before .before .before .before .pre .1)
+pattern-pattern-requires t c κs = pattern-again _ _ _ _ _ _ (c .before .before .before .before .before .before .before .branch .ensures) _
+    (c .before .before .before .peek .ensures) (not-false _ (c .before .before .before .before .if1 .left)) (c .before .before .if2 .left) _ (c .before .after .ensures) _
+    (c .before .before .before .before .before .before .before .before .before .before .before .pre .0)
+    (c .before .before .before .before .before .before .before .before .before .before .before .pre .1)
 
 pattern-same-length-3 : (t : ℕ) → pattern-lts.Need-same-length-3 (
   branch-below t,
@@ -480,7 +488,12 @@ pattern-join-requires : (t : ℕ) → pattern-lts.Need-join-requires (
   join-reads.Asked,
   join-reads.Learnt,
 ) (pattern-at t) pattern.Post
-pattern-join-requires t c κs = pattern-joins _ _ _ _ _ _ (c .before .before .before .before .before .before .before .before .before .before .before .before .branch .ensures) _ (c .before .before .before .before .before .before .before .before .peek .ensures) (not-false _ (c .before .before .before .before .before .before .before .before .before .if1 .left)) (c .before .before .before .before .before .before .before .if2 .left) _ (c .before .before .before .before .before .before .after .ensures) _ _ (c .before .before .before .before .pattern .ensures) (c .before .before .before .before .before .before .before .before .before .before .before .before .before .before .before .before .pre .1) (not-false _ (c .before .if3 .left))
+pattern-join-requires t c κs = pattern-joins _ _ _ _ _ _ (c .before .before .before .before .before .before .before .before .before .before .before .before .branch .ensures) _
+    (c .before .before .before .before .before .before .before .before .peek .ensures) (not-false _
+    (c .before .before .before .before .before .before .before .before .before .if1 .left)) (c .before .before .before .before .before .before .before .if2 .left) _
+    (c .before .before .before .before .before .before .after .ensures) _ _ (c .before .before .before .before .pattern .ensures)
+    (c .before .before .before .before .before .before .before .before .before .before .before .before .before .before .before .before .pre .1)
+    (not-false _ (c .before .if3 .left))
 
 pattern-same-length-4 : (t : ℕ) → pattern-lts.Need-same-length-4 (
   branch-below t,

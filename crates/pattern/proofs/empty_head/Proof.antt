@@ -1,3 +1,4 @@
+-- `pattern::empty_head` meets its contract. Laws: ReaderLaws.
 use Rattle.pattern.proofs.ReaderLaws.{empty-is}
 use borrow.Author.Needs.{needs}
 use Rattle.pattern.proofs.empty_head.Statement.{statement}

@@ -1,3 +1,4 @@
+-- `pattern::finish` meets its contract. Laws: ReaderLaws.
 use Rattle.pattern.proofs.ReaderLaws.{finish-none, finish-broken, finish-found, mark-holding, mark-order}
 use borrow.Author.Needs.{needs}
 use Rattle.pattern.proofs.finish.Statement.{statement}

@@ -1,3 +1,4 @@
+-- `pattern::join` meets its contract. Laws: ReaderLaws.
 use Rattle.pattern.proofs.ReaderLaws.{join-small, join-is}
 use borrow.Author.Needs.{needs}
 use Rattle.pattern.proofs.join.Statement.{statement}
@@ -34,7 +35,8 @@ same-length : tie.Need-same-length
 same-length c = search needs
 
 returns : tie.Need-returns
-returns c = join-is _ _ _ _ _ _ _ _ _ (c .before .before .before .before .before .before .before .before .before .before .higher .ensures) (c .before .before .before .before .before .before .before .capped .ensures) (c .before .before .before .before .plain-node .ensures) (c .before .before .put-node .ensures)
+returns c = join-is _ _ _ _ _ _ _ _ _ (c .before .before .before .before .before .before .before .before .before .before .higher .ensures)
+    (c .before .before .before .before .before .before .before .capped .ensures) (c .before .before .before .before .plain-node .ensures) (c .before .before .put-node .ensures)
 
 pub join-spec : {M : Type 1} → statement M
 join-spec =

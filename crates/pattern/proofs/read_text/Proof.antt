@@ -1,3 +1,4 @@
+-- `pattern::read_text` meets its contract. Laws: ReaderLaws.
 use Rattle.pattern.proofs.ReaderLaws.{text-fits, text-none, text-rest, text-whole}
 use borrow.Author.Tests.{not-true, not-false}
 use borrow.Author.Needs.{needs}

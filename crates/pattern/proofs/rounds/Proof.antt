@@ -1,3 +1,4 @@
+-- `pattern::rounds` meets its contract. Laws: RoundLaws.
 use Rattle.pattern.proofs.RoundLaws.{rounds-open, rounds-shut, rounds-mul}
 use native.Mathlib.Nat.{mul-le-mul}
 use native.Mathlib.Omega.{arith}

@@ -1,3 +1,4 @@
+-- `pattern::shut_group` meets its contract. Laws: ReaderLaws.
 use Rattle.pattern.proofs.ReaderLaws.{before-end, shut-some, shut-low, shut-few, shut-unread, shut-open, shut-whole}
 use borrow.Author.Tests.{not-true, not-false}
 use native.Mathlib.Omega.{arith}

@@ -1,3 +1,4 @@
+-- `pattern::simple` meets its contract. Laws: ReaderLaws.
 use Rattle.pattern.proofs.ReaderLaws.{simple-caret, simple-dollar, simple-letter, simple-other, simple-touch, letter-next, next-in}
 use borrow.Author.Tests.{not-true, not-false}
 use borrow.Author.Needs.{needs}

@@ -1,3 +1,5 @@
+-- The functions `body`, `branches`, `emit`, `rounds` of places, which call each other, meet their contracts.
+-- The measure: first the node's height, then the function and the rounds left (EmitLaws, measures). Laws: ForkLaws, EmitLaws.
 use Rattle.places.proofs.ForkLaws.{not-sequence, not-alternation}
 use Rattle.places.proofs.EmitLaws.{emitM, branchM, roundM, bodyM, emitted-length, emit-in, emit-end, emit-none, seq-left-in, seq-mid, seq-skip, seq-skipped, seq-first, seq-second, seq-done, alt-forking, alt-inside, alt-done, emit-node, turn-order, turn-first, turn-done, branches-in, branches-none, branch-first, branch-second, branch-done, single-first, single-done, round-in, copy-first, copy-again, copy-done, copy-fits, copy-less, none-done, star-choose, star-body, star-done, star-fits, option-choose, option-body, option-again, option-done, option-fits, option-more, option-less, body-in, letter-words, letter-done, anchor-words, anchor-done, empty-done, sequence-done, alternation-done, group-first, group-done}
 use mathlib.Core.Path.{refl}
@@ -121,7 +123,8 @@ body-put-simple-requires : (t : ℕ) → body-lts.Need-put-simple-requires (
   emit-below t,
   emit.Post,
 ) (body-at t) body.Post
-body-put-simple-requires t c κs = letter-words _ _ _ (c .before .before .before .before .before .node-at .ensures) _ _ _ _ (c .before .before .before .sort .given .1) (c .before .before .before .before .before .before .before .before .pre .1)
+body-put-simple-requires t c κs = letter-words _ _ _ (c .before .before .before .before .before .node-at .ensures) _ _ _ _ (c .before .before .before .sort .given .1)
+    (c .before .before .before .before .before .before .before .before .pre .1)
 
 body-enum-known-sort-2 : (t : ℕ) → body-lts.Need-enum-known-sort-2 (
   node-at-reads.Asked,
@@ -163,7 +166,8 @@ body-put-simple-requires-2 : (t : ℕ) → body-lts.Need-put-simple-requires-2 (
   emit-below t,
   emit.Post,
 ) (body-at t) body.Post
-body-put-simple-requires-2 t c κs = anchor-words _ _ _ (c .before .before .before .before .before .node-at .ensures) _ _ _ _ (c .before .before .before .sort2 .given .1) (c .before .before .before .before .before .before .before .before .pre .1)
+body-put-simple-requires-2 t c κs = anchor-words _ _ _ (c .before .before .before .before .before .node-at .ensures) _ _ _ _ (c .before .before .before .sort2 .given .1)
+    (c .before .before .before .before .before .before .before .before .pre .1)
 
 body-enum-told : (t : ℕ) → body-lts.Need-enum-told (
   node-at-reads.Asked,
@@ -233,7 +237,8 @@ body-emit-requires : (t : ℕ) → body-lts.Need-emit-requires (
   emit-below t,
   emit.Post,
 ) (body-at t) body.Post
-body-emit-requires t c κs = group-first _ _ _ (c .before .before .before .node-at .ensures) _ _ _ (c .before .enum-told4 .given .1) (c .before .before .before .before .before .before .pre .1) _ (c .before .before .before .before .before .before .pre .0)
+body-emit-requires t c κs = group-first _ _ _ (c .before .before .before .node-at .ensures) _ _ _ (c .before .enum-told4 .given .1)
+    (c .before .before .before .before .before .before .pre .1) _ (c .before .before .before .before .before .before .pre .0)
 
 body-same-length : (t : ℕ) → body-lts.Need-same-length (
   node-at-reads.Asked,
@@ -247,7 +252,9 @@ body-same-length : (t : ℕ) → body-lts.Need-same-length (
   emit-below t,
   emit.Post,
 ) (body-at t) body.Post
-body-same-length t c = emitted-length _ _ _ _ _ (letter-done _ _ _ (c .before .before .before .before .before .before .before .before .node-at .ensures) _ _ _ _ (c .before .before .before .before .before .before .sort .given .1) (c .before .before .before .before .before .before .before .before .before .before .before .pre .1) _ _ _ (c .before .before .before .short .ensures) (c .before .before .put-simple .ensures))
+body-same-length t c = emitted-length _ _ _ _ _ (letter-done _ _ _ (c .before .before .before .before .before .before .before .before .node-at .ensures) _ _ _ _
+    (c .before .before .before .before .before .before .sort .given .1) (c .before .before .before .before .before .before .before .before .before .before .before .pre .1) _ _ _
+    (c .before .before .before .short .ensures) (c .before .before .put-simple .ensures))
 
 body-returns : (t : ℕ) → body-lts.Need-returns (
   node-at-reads.Asked,
@@ -261,7 +268,8 @@ body-returns : (t : ℕ) → body-lts.Need-returns (
   emit-below t,
   emit.Post,
 ) (body-at t) body.Post
-body-returns t c = λ h. letter-done _ _ _ (c .before .before .before .before .before .before .before .before .node-at .ensures) _ _ _ _ (c .before .before .before .before .before .before .sort .given .1) h _ _ _ (c .before .before .before .short .ensures) (c .before .before .put-simple .ensures)
+body-returns t c = λ h. letter-done _ _ _ (c .before .before .before .before .before .before .before .before .node-at .ensures) _ _ _ _
+    (c .before .before .before .before .before .before .sort .given .1) h _ _ _ (c .before .before .before .short .ensures) (c .before .before .put-simple .ensures)
 
 body-same-length-2 : (t : ℕ) → body-lts.Need-same-length-2 (
   node-at-reads.Asked,
@@ -275,7 +283,9 @@ body-same-length-2 : (t : ℕ) → body-lts.Need-same-length-2 (
   emit-below t,
   emit.Post,
 ) (body-at t) body.Post
-body-same-length-2 t c = emitted-length _ _ _ _ _ (anchor-done _ _ _ (c .before .before .before .before .before .before .before .before .node-at .ensures) _ _ _ _ (c .before .before .before .before .before .before .sort2 .given .1) (c .before .before .before .before .before .before .before .before .before .before .before .pre .1) _ _ _ (c .before .before .before .anchor-sort .ensures) (c .before .before .put-simple2 .ensures))
+body-same-length-2 t c = emitted-length _ _ _ _ _ (anchor-done _ _ _ (c .before .before .before .before .before .before .before .before .node-at .ensures) _ _ _ _
+    (c .before .before .before .before .before .before .sort2 .given .1) (c .before .before .before .before .before .before .before .before .before .before .before .pre .1) _ _
+    _ (c .before .before .before .anchor-sort .ensures) (c .before .before .put-simple2 .ensures))
 
 body-returns-2 : (t : ℕ) → body-lts.Need-returns-2 (
   node-at-reads.Asked,
@@ -289,7 +299,8 @@ body-returns-2 : (t : ℕ) → body-lts.Need-returns-2 (
   emit-below t,
   emit.Post,
 ) (body-at t) body.Post
-body-returns-2 t c = λ h. anchor-done _ _ _ (c .before .before .before .before .before .before .before .before .node-at .ensures) _ _ _ _ (c .before .before .before .before .before .before .sort2 .given .1) h _ _ _ (c .before .before .before .anchor-sort .ensures) (c .before .before .put-simple2 .ensures)
+body-returns-2 t c = λ h. anchor-done _ _ _ (c .before .before .before .before .before .before .before .before .node-at .ensures) _ _ _ _
+    (c .before .before .before .before .before .before .sort2 .given .1) h _ _ _ (c .before .before .before .anchor-sort .ensures) (c .before .before .put-simple2 .ensures)
 
 body-returns-3 : (t : ℕ) → body-lts.Need-returns-3 (
   node-at-reads.Asked,
@@ -345,7 +356,9 @@ body-same-length-3 : (t : ℕ) → body-lts.Need-same-length-3 (
   emit-below t,
   emit.Post,
 ) (body-at t) body.Post
-body-same-length-3 t c = emitted-length _ _ _ _ _ (group-done _ _ _ (c .before .before .before .before .before .before .node-at .ensures) _ _ _ (c .before .before .before .before .enum-told4 .given .1) (c .before .before .before .before .before .before .before .before .before .pre .1) _ _ (c .before .before .emit .ensures))
+body-same-length-3 t c = emitted-length _ _ _ _ _ (group-done _ _ _ (c .before .before .before .before .before .before .node-at .ensures) _ _ _
+    (c .before .before .before .before .enum-told4 .given .1) (c .before .before .before .before .before .before .before .before .before .pre .1) _ _
+    (c .before .before .emit .ensures))
 
 body-returns-6 : (t : ℕ) → body-lts.Need-returns-6 (
   node-at-reads.Asked,
@@ -359,7 +372,8 @@ body-returns-6 : (t : ℕ) → body-lts.Need-returns-6 (
   emit-below t,
   emit.Post,
 ) (body-at t) body.Post
-body-returns-6 t c = λ h. group-done _ _ _ (c .before .before .before .before .before .before .node-at .ensures) _ _ _ (c .before .before .before .before .enum-told4 .given .1) h _ _ (c .before .before .emit .ensures)
+body-returns-6 t c = λ h. group-done _ _ _ (c .before .before .before .before .before .before .node-at .ensures) _ _ _ (c .before .before .before .before .enum-told4 .given .1)
+    h _ _ (c .before .before .emit .ensures)
 
 branches-node-at-requires : (t : ℕ) → branches-lts.Need-node-at-requires (
   node-at-reads.Asked,
@@ -399,7 +413,8 @@ branches-emit-requires : (t : ℕ) → branches-lts.Need-emit-requires (
   branches-below t,
   branches.Post,
 ) (branches-at t) branches.Post
-branches-emit-requires t c κs = branch-first _ _ _ (c .before .before .before .before .before .node-at .ensures) _ _ _ (c .before .enum-told .given .1) (c .before .before .before .before .before .before .before .before .pre .1) _ (c .before .before .before .before .before .before .before .before .pre .0)
+branches-emit-requires t c κs = branch-first _ _ _ (c .before .before .before .before .before .node-at .ensures) _ _ _ (c .before .enum-told .given .1)
+    (c .before .before .before .before .before .before .before .before .pre .1) _ (c .before .before .before .before .before .before .before .before .pre .0)
 
 branches-branches-requires : (t : ℕ) → branches-lts.Need-branches-requires (
   node-at-reads.Asked,
@@ -409,7 +424,9 @@ branches-branches-requires : (t : ℕ) → branches-lts.Need-branches-requires (
   branches-below t,
   branches.Post,
 ) (branches-at t) branches.Post
-branches-branches-requires t c κs = branch-second _ _ _ (c .before .before .before .before .before .before .before .before .before .node-at .ensures) _ _ _ (c .before .before .before .before .before .enum-told .given .1) (c .before .before .before .before .before .before .before .before .before .before .before .before .pre .1) _ _ (c .before .before .before .emit .ensures) _ (c .before .before .before .before .before .before .before .before .before .before .before .before .pre .0)
+branches-branches-requires t c κs = branch-second _ _ _ (c .before .before .before .before .before .before .before .before .before .node-at .ensures) _ _ _
+    (c .before .before .before .before .before .enum-told .given .1) (c .before .before .before .before .before .before .before .before .before .before .before .before .pre .1)
+    _ _ (c .before .before .before .emit .ensures) _ (c .before .before .before .before .before .before .before .before .before .before .before .before .pre .0)
 
 branches-same-length : (t : ℕ) → branches-lts.Need-same-length (
   node-at-reads.Asked,
@@ -419,7 +436,10 @@ branches-same-length : (t : ℕ) → branches-lts.Need-same-length (
   branches-below t,
   branches.Post,
 ) (branches-at t) branches.Post
-branches-same-length t c = emitted-length _ _ _ _ _ (branch-done _ _ _ (c .before .before .before .before .before .before .before .before .before .before .before .before .node-at .ensures) _ _ _ (c .before .before .before .before .before .before .before .before .enum-told .given .1) (c .before .before .before .before .before .before .before .before .before .before .before .before .before .before .before .pre .1) _ _ (c .before .before .before .before .before .before .emit .ensures) _ _ (c .before .before .branches .ensures))
+branches-same-length t c = emitted-length _ _ _ _ _ (branch-done _ _ _ (c .before .before .before .before .before .before .before .before .before .before .before .before
+    .node-at .ensures) _ _ _ (c .before .before .before .before .before .before .before .before .enum-told .given .1)
+    (c .before .before .before .before .before .before .before .before .before .before .before .before .before .before .before .pre .1) _ _
+    (c .before .before .before .before .before .before .emit .ensures) _ _ (c .before .before .branches .ensures))
 
 branches-returns-2 : (t : ℕ) → branches-lts.Need-returns-2 (
   node-at-reads.Asked,
@@ -429,7 +449,9 @@ branches-returns-2 : (t : ℕ) → branches-lts.Need-returns-2 (
   branches-below t,
   branches.Post,
 ) (branches-at t) branches.Post
-branches-returns-2 t c = λ h. branch-done _ _ _ (c .before .before .before .before .before .before .before .before .before .before .before .before .node-at .ensures) _ _ _ (c .before .before .before .before .before .before .before .before .enum-told .given .1) h _ _ (c .before .before .before .before .before .before .emit .ensures) _ _ (c .before .before .branches .ensures)
+branches-returns-2 t c = λ h. branch-done _ _ _ (c .before .before .before .before .before .before .before .before .before .before .before .before .node-at .ensures) _ _ _
+    (c .before .before .before .before .before .before .before .before .enum-told .given .1) h _ _ (c .before .before .before .before .before .before .emit .ensures) _ _
+    (c .before .before .branches .ensures)
 
 branches-emit-requires-2 : (t : ℕ) → branches-lts.Need-emit-requires-2 (
   node-at-reads.Asked,
@@ -439,7 +461,8 @@ branches-emit-requires-2 : (t : ℕ) → branches-lts.Need-emit-requires-2 (
   branches-below t,
   branches.Post,
 ) (branches-at t) branches.Post
-branches-emit-requires-2 t c κs = single-first _ _ _ (c .before .before .before .before .node-at .ensures) _ _ _ (not-alternation _ (c .before .match .keys2)) (c .before .before .before .before .before .before .before .pre .1) _ (c .before .before .before .before .before .before .before .pre .0)
+branches-emit-requires-2 t c κs = single-first _ _ _ (c .before .before .before .before .node-at .ensures) _ _ _ (not-alternation _ (c .before .match .keys2))
+    (c .before .before .before .before .before .before .before .pre .1) _ (c .before .before .before .before .before .before .before .pre .0)
 
 branches-same-length-2 : (t : ℕ) → branches-lts.Need-same-length-2 (
   node-at-reads.Asked,
@@ -449,7 +472,9 @@ branches-same-length-2 : (t : ℕ) → branches-lts.Need-same-length-2 (
   branches-below t,
   branches.Post,
 ) (branches-at t) branches.Post
-branches-same-length-2 t c = emitted-length _ _ _ _ _ (single-done _ _ _ (c .before .before .before .before .before .before .before .node-at .ensures) _ _ _ (not-alternation _ (c .before .before .before .before .match .keys2)) (c .before .before .before .before .before .before .before .before .before .before .pre .1) _ _ (c .before .before .emit2 .ensures))
+branches-same-length-2 t c = emitted-length _ _ _ _ _ (single-done _ _ _ (c .before .before .before .before .before .before .before .node-at .ensures) _ _ _
+    (not-alternation _ (c .before .before .before .before .match .keys2)) (c .before .before .before .before .before .before .before .before .before .before .pre .1) _ _
+    (c .before .before .emit2 .ensures))
 
 branches-returns-3 : (t : ℕ) → branches-lts.Need-returns-3 (
   node-at-reads.Asked,
@@ -459,7 +484,8 @@ branches-returns-3 : (t : ℕ) → branches-lts.Need-returns-3 (
   branches-below t,
   branches.Post,
 ) (branches-at t) branches.Post
-branches-returns-3 t c = λ h. single-done _ _ _ (c .before .before .before .before .before .before .before .node-at .ensures) _ _ _ (not-alternation _ (c .before .before .before .before .match .keys2)) h _ _ (c .before .before .emit2 .ensures)
+branches-returns-3 t c = λ h. single-done _ _ _ (c .before .before .before .before .before .before .before .node-at .ensures) _ _ _
+    (not-alternation _ (c .before .before .before .before .match .keys2)) h _ _ (c .before .before .emit2 .ensures)
 
 emit-node-at-requires : (t : ℕ) → emit-lts.Need-node-at-requires (
   node-at-reads.Asked,
@@ -547,7 +573,8 @@ emit-branch-fork-requires : (t : ℕ) → emit-lts.Need-branch-fork-requires (
   rounds-below t,
   rounds.Post,
 ) (emit-at t) emit.Post
-emit-branch-fork-requires t c κs = alt-forking _ _ _ (c .before .before .before .before .node-at .ensures) _ _ _ (c .before .enum-told .given .1) (c .before .before .before .before .before .before .before .pre .1)
+emit-branch-fork-requires t c κs = alt-forking _ _ _ (c .before .before .before .before .node-at .ensures) _ _ _ (c .before .enum-told .given .1)
+    (c .before .before .before .before .before .before .before .pre .1)
 
 emit-branches-requires : (t : ℕ) → emit-lts.Need-branches-requires (
   node-at-reads.Asked,
@@ -569,7 +596,9 @@ emit-branches-requires : (t : ℕ) → emit-lts.Need-branches-requires (
   rounds-below t,
   rounds.Post,
 ) (emit-at t) emit.Post
-emit-branches-requires t c κs = alt-inside _ _ _ (c .before .before .before .before .before .before .before .before .node-at .ensures) _ _ _ (c .before .before .before .before .before .enum-told .given .1) (c .before .before .before .before .before .before .before .before .before .before .before .pre .1) _ _ (c .before .before .before .branch-fork .ensures) _ (c .before .before .before .before .before .before .before .before .before .before .before .pre .0)
+emit-branches-requires t c κs = alt-inside _ _ _ (c .before .before .before .before .before .before .before .before .node-at .ensures) _ _ _
+    (c .before .before .before .before .before .enum-told .given .1) (c .before .before .before .before .before .before .before .before .before .before .before .pre .1) _ _
+    (c .before .before .before .branch-fork .ensures) _ (c .before .before .before .before .before .before .before .before .before .before .before .pre .0)
 
 emit-same-length : (t : ℕ) → emit-lts.Need-same-length (
   node-at-reads.Asked,
@@ -591,7 +620,10 @@ emit-same-length : (t : ℕ) → emit-lts.Need-same-length (
   rounds-below t,
   rounds.Post,
 ) (emit-at t) emit.Post
-emit-same-length t c = emitted-length _ _ _ _ _ (alt-done _ _ _ (c .before .before .before .before .before .before .before .before .before .before .before .node-at .ensures) _ _ _ (c .before .before .before .before .before .before .before .before .enum-told .given .1) (c .before .before .before .before .before .before .before .before .before .before .before .before .before .before .pre .1) _ _ (c .before .before .before .before .before .before .branch-fork .ensures) _ _ (c .before .before .branches .ensures))
+emit-same-length t c = emitted-length _ _ _ _ _ (alt-done _ _ _ (c .before .before .before .before .before .before .before .before .before .before .before .node-at .ensures) _ _
+    _ (c .before .before .before .before .before .before .before .before .enum-told .given .1)
+    (c .before .before .before .before .before .before .before .before .before .before .before .before .before .before .pre .1) _ _
+    (c .before .before .before .before .before .before .branch-fork .ensures) _ _ (c .before .before .branches .ensures))
 
 emit-returns : (t : ℕ) → emit-lts.Need-returns (
   node-at-reads.Asked,
@@ -613,7 +645,9 @@ emit-returns : (t : ℕ) → emit-lts.Need-returns (
   rounds-below t,
   rounds.Post,
 ) (emit-at t) emit.Post
-emit-returns t c = λ h. alt-done _ _ _ (c .before .before .before .before .before .before .before .before .before .before .before .node-at .ensures) _ _ _ (c .before .before .before .before .before .before .before .before .enum-told .given .1) h _ _ (c .before .before .before .before .before .before .branch-fork .ensures) _ _ (c .before .before .branches .ensures)
+emit-returns t c = λ h. alt-done _ _ _ (c .before .before .before .before .before .before .before .before .before .before .before .node-at .ensures) _ _ _
+    (c .before .before .before .before .before .before .before .before .enum-told .given .1) h _ _ (c .before .before .before .before .before .before .branch-fork .ensures) _ _
+    (c .before .before .branches .ensures)
 
 emit-returns-2 : (t : ℕ) → emit-lts.Need-returns-2 (
   node-at-reads.Asked,
@@ -679,7 +713,8 @@ emit-places-at-requires : (t : ℕ) → emit-lts.Need-places-at-requires (
   rounds-below t,
   rounds.Post,
 ) (emit-at t) emit.Post
-emit-places-at-requires t c κs = seq-left-in _ _ _ (c .before .before .before .before .before .node-at .ensures) _ _ _ (c .enum-told2 .given .1) _ refl (c .before .before .before .before .before .before .before .before .pre .1)
+emit-places-at-requires t c κs = seq-left-in _ _ _ (c .before .before .before .before .before .node-at .ensures) _ _ _ (c .enum-told2 .given .1) _ refl
+    (c .before .before .before .before .before .before .before .before .pre .1)
 
 emit-add-mid : (t : ℕ) → emit-lts.Need-add-mid (
   node-at-reads.Asked,
@@ -701,7 +736,8 @@ emit-add-mid : (t : ℕ) → emit-lts.Need-add-mid (
   rounds-below t,
   rounds.Post,
 ) (emit-at t) emit.Post
-emit-add-mid t c = seq-mid _ _ _ (c .before .before .before .before .before .before .node-at .ensures) _ _ _ (c .before .enum-told2 .given .1) _ (c .places-at .ensures) (c .before .before .before .before .before .before .before .before .before .pre .1)
+emit-add-mid t c = seq-mid _ _ _ (c .before .before .before .before .before .before .node-at .ensures) _ _ _ (c .before .enum-told2 .given .1) _ (c .places-at .ensures)
+    (c .before .before .before .before .before .before .before .before .before .pre .1)
 
 emit-emit-requires : (t : ℕ) → emit-lts.Need-emit-requires (
   node-at-reads.Asked,
@@ -723,7 +759,10 @@ emit-emit-requires : (t : ℕ) → emit-lts.Need-emit-requires (
   rounds-below t,
   rounds.Post,
 ) (emit-at t) emit.Post
-emit-emit-requires t c κs = seq-skip _ _ _ (c .before .before .before .before .before .before .before .before .node-at .ensures) _ _ _ (c .before .before .before .enum-told2 .given .1) _ (c .before .before .places-at .ensures) (c .before .if2 .taken) (c .before .before .before .before .before .before .before .before .before .before .before .pre .1) _ (c .before .before .before .before .before .before .before .before .before .before .before .pre .0)
+emit-emit-requires t c κs = seq-skip _ _ _ (c .before .before .before .before .before .before .before .before .node-at .ensures) _ _ _
+    (c .before .before .before .enum-told2 .given .1) _ (c .before .before .places-at .ensures) (c .before .if2 .taken)
+    (c .before .before .before .before .before .before .before .before .before .before .before .pre .1) _
+    (c .before .before .before .before .before .before .before .before .before .before .before .pre .0)
 
 emit-same-length-2 : (t : ℕ) → emit-lts.Need-same-length-2 (
   node-at-reads.Asked,
@@ -745,7 +784,10 @@ emit-same-length-2 : (t : ℕ) → emit-lts.Need-same-length-2 (
   rounds-below t,
   rounds.Post,
 ) (emit-at t) emit.Post
-emit-same-length-2 t c = emitted-length _ _ _ _ _ (seq-skipped _ _ _ (c .before .before .before .before .before .before .before .before .before .before .before .node-at .ensures) _ _ _ (c .before .before .before .before .before .before .enum-told2 .given .1) _ (c .before .before .before .before .before .places-at .ensures) (c .before .before .before .before .if2 .taken) (c .before .before .before .before .before .before .before .before .before .before .before .before .before .before .pre .1) _ _ (c .before .before .emit .ensures))
+emit-same-length-2 t c = emitted-length _ _ _ _ _ (seq-skipped _ _ _ (c .before .before .before .before .before .before .before .before .before .before .before .node-at
+    .ensures) _ _ _ (c .before .before .before .before .before .before .enum-told2 .given .1) _ (c .before .before .before .before .before .places-at .ensures)
+    (c .before .before .before .before .if2 .taken) (c .before .before .before .before .before .before .before .before .before .before .before .before .before .before .pre .1) _
+    _ (c .before .before .emit .ensures))
 
 emit-returns-3 : (t : ℕ) → emit-lts.Need-returns-3 (
   node-at-reads.Asked,
@@ -767,7 +809,9 @@ emit-returns-3 : (t : ℕ) → emit-lts.Need-returns-3 (
   rounds-below t,
   rounds.Post,
 ) (emit-at t) emit.Post
-emit-returns-3 t c = λ h. seq-skipped _ _ _ (c .before .before .before .before .before .before .before .before .before .before .before .node-at .ensures) _ _ _ (c .before .before .before .before .before .before .enum-told2 .given .1) _ (c .before .before .before .before .before .places-at .ensures) (c .before .before .before .before .if2 .taken) h _ _ (c .before .before .emit .ensures)
+emit-returns-3 t c = λ h. seq-skipped _ _ _ (c .before .before .before .before .before .before .before .before .before .before .before .node-at .ensures) _ _ _
+    (c .before .before .before .before .before .before .enum-told2 .given .1) _ (c .before .before .before .before .before .places-at .ensures)
+    (c .before .before .before .before .if2 .taken) h _ _ (c .before .before .emit .ensures)
 
 emit-start-at-requires : (t : ℕ) → emit-lts.Need-start-at-requires (
   node-at-reads.Asked,
@@ -811,7 +855,10 @@ emit-emit-requires-2 : (t : ℕ) → emit-lts.Need-emit-requires-2 (
   rounds-below t,
   rounds.Post,
 ) (emit-at t) emit.Post
-emit-emit-requires-2 t c κs = seq-first _ _ _ (c .before .before .before .before .before .before .before .before .before .node-at .ensures) _ _ _ (c .before .before .before .before .enum-told2 .given .1) _ (c .before .before .before .places-at .ensures) _ (c .before .start-at .ensures) (c .before .before .before .before .before .before .before .before .before .before .before .before .pre .1) _ (c .before .before .before .before .before .before .before .before .before .before .before .before .pre .0)
+emit-emit-requires-2 t c κs = seq-first _ _ _ (c .before .before .before .before .before .before .before .before .before .node-at .ensures) _ _ _
+    (c .before .before .before .before .enum-told2 .given .1) _ (c .before .before .before .places-at .ensures) _ (c .before .start-at .ensures)
+    (c .before .before .before .before .before .before .before .before .before .before .before .before .pre .1) _
+    (c .before .before .before .before .before .before .before .before .before .before .before .before .pre .0)
 
 emit-emit-requires-3 : (t : ℕ) → emit-lts.Need-emit-requires-3 (
   node-at-reads.Asked,
@@ -833,7 +880,11 @@ emit-emit-requires-3 : (t : ℕ) → emit-lts.Need-emit-requires-3 (
   rounds-below t,
   rounds.Post,
 ) (emit-at t) emit.Post
-emit-emit-requires-3 t c κs = seq-second _ _ _ (c .before .before .before .before .before .before .before .before .before .before .before .before .before .node-at .ensures) _ _ _ (c .before .before .before .before .before .before .before .before .enum-told2 .given .1) _ (c .before .before .before .before .before .before .before .places-at .ensures) _ (c .before .before .before .before .before .start-at .ensures) (c .before .before .before .before .before .before .before .before .before .before .before .before .before .before .before .before .pre .1) _ _ (c .before .before .before .emit2 .ensures) _ (c .before .before .before .before .before .before .before .before .before .before .before .before .before .before .before .before .pre .0)
+emit-emit-requires-3 t c κs = seq-second _ _ _ (c .before .before .before .before .before .before .before .before .before .before .before .before .before .node-at .ensures) _ _
+    _ (c .before .before .before .before .before .before .before .before .enum-told2 .given .1) _ (c .before .before .before .before .before .before .before .places-at .ensures)
+    _ (c .before .before .before .before .before .start-at .ensures) (c .before .before .before .before .before .before .before .before .before .before .before .before .before
+    .before .before .before .pre .1) _ _ (c .before .before .before .emit2 .ensures) _ (c .before .before .before .before .before .before .before .before .before .before .before
+    .before .before .before .before .before .pre .0)
 
 emit-same-length-3 : (t : ℕ) → emit-lts.Need-same-length-3 (
   node-at-reads.Asked,
@@ -855,7 +906,12 @@ emit-same-length-3 : (t : ℕ) → emit-lts.Need-same-length-3 (
   rounds-below t,
   rounds.Post,
 ) (emit-at t) emit.Post
-emit-same-length-3 t c = emitted-length _ _ _ _ _ (seq-done _ _ _ (c .before .before .before .before .before .before .before .before .before .before .before .before .before .before .before .before .node-at .ensures) _ _ _ (c .before .before .before .before .before .before .before .before .before .before .before .enum-told2 .given .1) _ (c .before .before .before .before .before .before .before .before .before .before .places-at .ensures) _ (c .before .before .before .before .before .before .before .before .start-at .ensures) (c .before .before .before .before .before .before .before .before .before .before .before .before .before .before .before .before .before .before .before .pre .1) _ _ (c .before .before .before .before .before .before .emit2 .ensures) _ _ (c .before .before .emit3 .ensures))
+emit-same-length-3 t c = emitted-length _ _ _ _ _ (seq-done _ _ _ (c .before .before .before .before .before .before .before .before .before .before .before .before .before
+    .before .before .before .node-at .ensures) _ _ _ (c .before .before .before .before .before .before .before .before .before .before .before .enum-told2 .given .1) _
+    (c .before .before .before .before .before .before .before .before .before .before .places-at .ensures) _
+    (c .before .before .before .before .before .before .before .before .start-at .ensures) (c .before .before .before .before .before .before .before .before .before .before
+    .before .before .before .before .before .before .before .before .before .pre .1) _ _ (c .before .before .before .before .before .before .emit2 .ensures) _ _
+    (c .before .before .emit3 .ensures))
 
 emit-returns-4 : (t : ℕ) → emit-lts.Need-returns-4 (
   node-at-reads.Asked,
@@ -877,7 +933,11 @@ emit-returns-4 : (t : ℕ) → emit-lts.Need-returns-4 (
   rounds-below t,
   rounds.Post,
 ) (emit-at t) emit.Post
-emit-returns-4 t c = λ h. seq-done _ _ _ (c .before .before .before .before .before .before .before .before .before .before .before .before .before .before .before .before .node-at .ensures) _ _ _ (c .before .before .before .before .before .before .before .before .before .before .before .enum-told2 .given .1) _ (c .before .before .before .before .before .before .before .before .before .before .places-at .ensures) _ (c .before .before .before .before .before .before .before .before .start-at .ensures) h _ _ (c .before .before .before .before .before .before .emit2 .ensures) _ _ (c .before .before .emit3 .ensures)
+emit-returns-4 t c = λ h. seq-done _ _ _ (c .before .before .before .before .before .before .before .before .before .before .before .before .before .before .before .before
+    .node-at .ensures) _ _ _ (c .before .before .before .before .before .before .before .before .before .before .before .enum-told2 .given .1) _
+    (c .before .before .before .before .before .before .before .before .before .before .places-at .ensures) _
+    (c .before .before .before .before .before .before .before .before .start-at .ensures) h _ _ (c .before .before .before .before .before .before .emit2 .ensures) _ _
+    (c .before .before .emit3 .ensures)
 
 emit-body-size-requires : (t : ℕ) → emit-lts.Need-body-size-requires (
   node-at-reads.Asked,
@@ -899,7 +959,8 @@ emit-body-size-requires : (t : ℕ) → emit-lts.Need-body-size-requires (
   rounds-below t,
   rounds.Post,
 ) (emit-at t) emit.Post
-emit-body-size-requires t c κs = emit-node _ _ _ (c .before .before .before .before .node-at .ensures) _ _ _ (not-sequence _ (c .match2 .keys2)) (not-alternation _ (c .before .before .match .keys2)) (c .before .before .before .before .before .before .before .pre .1)
+emit-body-size-requires t c κs = emit-node _ _ _ (c .before .before .before .before .node-at .ensures) _ _ _ (not-sequence _ (c .match2 .keys2))
+    (not-alternation _ (c .before .before .match .keys2)) (c .before .before .before .before .before .before .before .pre .1)
 
 emit-turns-behind-requires : (t : ℕ) → emit-lts.Need-turns-behind-requires (
   node-at-reads.Asked,
@@ -921,7 +982,8 @@ emit-turns-behind-requires : (t : ℕ) → emit-lts.Need-turns-behind-requires (
   rounds-below t,
   rounds.Post,
 ) (emit-at t) emit.Post
-emit-turns-behind-requires t c κs = turn-order _ _ _ (c .before .before .before .before .before .node-at .ensures) _ _ _ (not-sequence _ (c .before .match2 .keys2)) (not-alternation _ (c .before .before .before .match .keys2)) (c .before .before .before .before .before .before .before .before .pre .1)
+emit-turns-behind-requires t c κs = turn-order _ _ _ (c .before .before .before .before .before .node-at .ensures) _ _ _ (not-sequence _ (c .before .match2 .keys2))
+    (not-alternation _ (c .before .before .before .match .keys2)) (c .before .before .before .before .before .before .before .before .pre .1)
 
 emit-rounds-requires : (t : ℕ) → emit-lts.Need-rounds-requires (
   node-at-reads.Asked,
@@ -943,7 +1005,10 @@ emit-rounds-requires : (t : ℕ) → emit-lts.Need-rounds-requires (
   rounds-below t,
   rounds.Post,
 ) (emit-at t) emit.Post
-emit-rounds-requires t c κs = turn-first _ _ _ (c .before .before .before .before .before .before .before .node-at .ensures) _ _ _ (not-sequence _ (c .before .before .before .match2 .keys2)) (not-alternation _ (c .before .before .before .before .before .match .keys2)) _ (c .before .before .body-size .ensures) _ (c .before .turns-behind .ensures) (c .before .before .before .before .before .before .before .before .before .before .pre .1) _ (c .before .before .before .before .before .before .before .before .before .before .pre .0)
+emit-rounds-requires t c κs = turn-first _ _ _ (c .before .before .before .before .before .before .before .node-at .ensures) _ _ _
+    (not-sequence _ (c .before .before .before .match2 .keys2)) (not-alternation _ (c .before .before .before .before .before .match .keys2)) _
+    (c .before .before .body-size .ensures) _ (c .before .turns-behind .ensures) (c .before .before .before .before .before .before .before .before .before .before .pre .1) _
+    (c .before .before .before .before .before .before .before .before .before .before .pre .0)
 
 emit-same-length-4 : (t : ℕ) → emit-lts.Need-same-length-4 (
   node-at-reads.Asked,
@@ -965,7 +1030,11 @@ emit-same-length-4 : (t : ℕ) → emit-lts.Need-same-length-4 (
   rounds-below t,
   rounds.Post,
 ) (emit-at t) emit.Post
-emit-same-length-4 t c = emitted-length _ _ _ _ _ (turn-done _ _ _ (c .before .before .before .before .before .before .before .before .before .before .node-at .ensures) _ _ _ (not-sequence _ (c .before .before .before .before .before .before .match2 .keys2)) (not-alternation _ (c .before .before .before .before .before .before .before .before .match .keys2)) _ (c .before .before .before .before .before .body-size .ensures) _ (c .before .before .before .before .turns-behind .ensures) (c .before .before .before .before .before .before .before .before .before .before .before .before .before .pre .1) _ _ (c .before .before .rounds .ensures))
+emit-same-length-4 t c = emitted-length _ _ _ _ _ (turn-done _ _ _ (c .before .before .before .before .before .before .before .before .before .before .node-at .ensures) _ _ _
+    (not-sequence _ (c .before .before .before .before .before .before .match2 .keys2)) (not-alternation _
+    (c .before .before .before .before .before .before .before .before .match .keys2)) _ (c .before .before .before .before .before .body-size .ensures) _
+    (c .before .before .before .before .turns-behind .ensures) (c .before .before .before .before .before .before .before .before .before .before .before .before .before .pre
+    .1) _ _ (c .before .before .rounds .ensures))
 
 emit-returns-5 : (t : ℕ) → emit-lts.Need-returns-5 (
   node-at-reads.Asked,
@@ -987,7 +1056,10 @@ emit-returns-5 : (t : ℕ) → emit-lts.Need-returns-5 (
   rounds-below t,
   rounds.Post,
 ) (emit-at t) emit.Post
-emit-returns-5 t c = λ h. turn-done _ _ _ (c .before .before .before .before .before .before .before .before .before .before .node-at .ensures) _ _ _ (not-sequence _ (c .before .before .before .before .before .before .match2 .keys2)) (not-alternation _ (c .before .before .before .before .before .before .before .before .match .keys2)) _ (c .before .before .before .before .before .body-size .ensures) _ (c .before .before .before .before .turns-behind .ensures) h _ _ (c .before .before .rounds .ensures)
+emit-returns-5 t c = λ h. turn-done _ _ _ (c .before .before .before .before .before .before .before .before .before .before .node-at .ensures) _ _ _
+    (not-sequence _ (c .before .before .before .before .before .before .match2 .keys2)) (not-alternation _
+    (c .before .before .before .before .before .before .before .before .match .keys2)) _ (c .before .before .before .before .before .body-size .ensures) _
+    (c .before .before .before .before .turns-behind .ensures) h _ _ (c .before .before .rounds .ensures)
 
 rounds-add-start-at : (t : ℕ) → rounds-lts.Need-add-start-at (
   start-at-reads.Asked,
@@ -1029,7 +1101,8 @@ rounds-body-requires : (t : ℕ) → rounds-lts.Need-body-requires (
   fork-reads.Asked,
   fork-reads.Learnt,
 ) (rounds-at t) rounds.Post
-rounds-body-requires t c κs = copy-first _ _ _ _ _ _ _ _ _ (c .before .before .if1 .taken) _ (c .before .start-at .ensures) (c .before .before .before .before .before .pre .1) _ (c .before .before .before .before .before .pre .0)
+rounds-body-requires t c κs = copy-first _ _ _ _ _ _ _ _ _ (c .before .before .if1 .taken) _ (c .before .start-at .ensures) (c .before .before .before .before .before .pre .1) _
+    (c .before .before .before .before .before .pre .0)
 
 rounds-sub-rounds : (t : ℕ) → rounds-lts.Need-sub-rounds (
   start-at-reads.Asked,
@@ -1043,7 +1116,8 @@ rounds-sub-rounds : (t : ℕ) → rounds-lts.Need-sub-rounds (
   fork-reads.Asked,
   fork-reads.Learnt,
 ) (rounds-at t) rounds.Post
-rounds-sub-rounds t c = copy-less _ _ _ _ _ _ _ _ _ (c .before .before .before .before .before .if1 .taken) (c .before .before .before .before .before .before .before .before .pre .1)
+rounds-sub-rounds t c = copy-less _ _ _ _ _ _ _ _ _ (c .before .before .before .before .before .if1 .taken)
+    (c .before .before .before .before .before .before .before .before .pre .1)
 
 rounds-rounds-requires : (t : ℕ) → rounds-lts.Need-rounds-requires (
   start-at-reads.Asked,
@@ -1057,7 +1131,9 @@ rounds-rounds-requires : (t : ℕ) → rounds-lts.Need-rounds-requires (
   fork-reads.Asked,
   fork-reads.Learnt,
 ) (rounds-at t) rounds.Post
-rounds-rounds-requires t c κs = copy-again _ _ _ _ _ _ _ _ _ (c .before .before .before .before .before .before .if1 .taken) _ (c .before .before .before .before .before .start-at .ensures) (c .before .before .before .before .before .before .before .before .before .pre .1) _ _ (c .before .before .before .body .ensures) _ (c .before .before .before .before .before .before .before .before .before .pre .0)
+rounds-rounds-requires t c κs = copy-again _ _ _ _ _ _ _ _ _ (c .before .before .before .before .before .before .if1 .taken) _
+    (c .before .before .before .before .before .start-at .ensures) (c .before .before .before .before .before .before .before .before .before .pre .1) _ _
+    (c .before .before .before .body .ensures) _ (c .before .before .before .before .before .before .before .before .before .pre .0)
 
 rounds-same-length : (t : ℕ) → rounds-lts.Need-same-length (
   start-at-reads.Asked,
@@ -1071,7 +1147,9 @@ rounds-same-length : (t : ℕ) → rounds-lts.Need-same-length (
   fork-reads.Asked,
   fork-reads.Learnt,
 ) (rounds-at t) rounds.Post
-rounds-same-length t c = emitted-length _ _ _ _ _ (copy-done _ _ _ _ _ _ _ _ _ (c .before .before .before .before .before .before .before .before .before .if1 .taken) _ (c .before .before .before .before .before .before .before .before .start-at .ensures) (c .before .before .before .before .before .before .before .before .before .before .before .before .pre .1) _ _ (c .before .before .before .before .before .before .body .ensures) _ _ (c .before .before .rounds .ensures))
+rounds-same-length t c = emitted-length _ _ _ _ _ (copy-done _ _ _ _ _ _ _ _ _ (c .before .before .before .before .before .before .before .before .before .if1 .taken) _
+    (c .before .before .before .before .before .before .before .before .start-at .ensures) (c .before .before .before .before .before .before .before .before .before .before
+    .before .before .pre .1) _ _ (c .before .before .before .before .before .before .body .ensures) _ _ (c .before .before .rounds .ensures))
 
 rounds-returns : (t : ℕ) → rounds-lts.Need-returns (
   start-at-reads.Asked,
@@ -1085,7 +1163,9 @@ rounds-returns : (t : ℕ) → rounds-lts.Need-returns (
   fork-reads.Asked,
   fork-reads.Learnt,
 ) (rounds-at t) rounds.Post
-rounds-returns t c = λ h. copy-done _ _ _ _ _ _ _ _ _ (c .before .before .before .before .before .before .before .before .before .if1 .taken) _ (c .before .before .before .before .before .before .before .before .start-at .ensures) h _ _ (c .before .before .before .before .before .before .body .ensures) _ _ (c .before .before .rounds .ensures)
+rounds-returns t c = λ h. copy-done _ _ _ _ _ _ _ _ _ (c .before .before .before .before .before .before .before .before .before .if1 .taken) _
+    (c .before .before .before .before .before .before .before .before .start-at .ensures) h _ _ (c .before .before .before .before .before .before .body .ensures) _ _
+    (c .before .before .rounds .ensures)
 
 rounds-returns-2 : (t : ℕ) → rounds-lts.Need-returns-2 (
   start-at-reads.Asked,
@@ -1127,7 +1207,8 @@ rounds-add-start-at-2 : (t : ℕ) → rounds-lts.Need-add-start-at-2 (
   fork-reads.Asked,
   fork-reads.Learnt,
 ) (rounds-at t) rounds.Post
-rounds-add-start-at-2 t c = star-fits _ _ _ _ _ _ _ _ _ (c .before .before .before .if1 .left) (c .if3 .taken) _ (c .before .node-at .ensures) (c .before .before .before .before .before .before .pre .1)
+rounds-add-start-at-2 t c = star-fits _ _ _ _ _ _ _ _ _ (c .before .before .before .if1 .left) (c .if3 .taken) _ (c .before .node-at .ensures)
+    (c .before .before .before .before .before .before .pre .1)
 
 rounds-start-at-requires-2 : (t : ℕ) → rounds-lts.Need-start-at-requires-2 (
   start-at-reads.Asked,
@@ -1155,7 +1236,8 @@ rounds-fork-requires : (t : ℕ) → rounds-lts.Need-fork-requires (
   fork-reads.Asked,
   fork-reads.Learnt,
 ) (rounds-at t) rounds.Post
-rounds-fork-requires t c κs = star-choose _ _ _ _ _ _ _ _ _ (c .before .before .before .before .before .if1 .left) (c .before .before .if3 .taken) _ (c .before .before .before .node-at .ensures) _ (c .before .start-at2 .ensures) (c .before .before .before .before .before .before .before .before .pre .1)
+rounds-fork-requires t c κs = star-choose _ _ _ _ _ _ _ _ _ (c .before .before .before .before .before .if1 .left) (c .before .before .if3 .taken) _
+    (c .before .before .before .node-at .ensures) _ (c .before .start-at2 .ensures) (c .before .before .before .before .before .before .before .before .pre .1)
 
 rounds-body-requires-2 : (t : ℕ) → rounds-lts.Need-body-requires-2 (
   start-at-reads.Asked,
@@ -1169,7 +1251,10 @@ rounds-body-requires-2 : (t : ℕ) → rounds-lts.Need-body-requires-2 (
   fork-reads.Asked,
   fork-reads.Learnt,
 ) (rounds-at t) rounds.Post
-rounds-body-requires-2 t c κs = star-body _ _ _ _ _ _ _ _ _ (c .before .before .before .before .before .before .before .before .before .if1 .left) (c .before .before .before .before .before .before .if3 .taken) _ (c .before .before .before .before .before .before .before .node-at .ensures) _ (c .before .before .before .before .before .start-at2 .ensures) (c .before .before .before .before .before .before .before .before .before .before .before .before .pre .1) _ _ (c .before .before .before .fork .ensures) _ (c .before .before .before .before .before .before .before .before .before .before .before .before .pre .0)
+rounds-body-requires-2 t c κs = star-body _ _ _ _ _ _ _ _ _ (c .before .before .before .before .before .before .before .before .before .if1 .left)
+    (c .before .before .before .before .before .before .if3 .taken) _ (c .before .before .before .before .before .before .before .node-at .ensures) _
+    (c .before .before .before .before .before .start-at2 .ensures) (c .before .before .before .before .before .before .before .before .before .before .before .before .pre .1) _
+    _ (c .before .before .before .fork .ensures) _ (c .before .before .before .before .before .before .before .before .before .before .before .before .pre .0)
 
 rounds-same-length-2 : (t : ℕ) → rounds-lts.Need-same-length-2 (
   start-at-reads.Asked,
@@ -1183,7 +1268,12 @@ rounds-same-length-2 : (t : ℕ) → rounds-lts.Need-same-length-2 (
   fork-reads.Asked,
   fork-reads.Learnt,
 ) (rounds-at t) rounds.Post
-rounds-same-length-2 t c = emitted-length _ _ _ _ _ (star-done _ _ _ _ _ _ _ _ _ (c .before .before .before .before .before .before .before .before .before .before .before .before .if1 .left) (c .before .before .before .before .before .before .before .before .before .if3 .taken) _ (c .before .before .before .before .before .before .before .before .before .before .node-at .ensures) _ (c .before .before .before .before .before .before .before .before .start-at2 .ensures) (c .before .before .before .before .before .before .before .before .before .before .before .before .before .before .before .pre .1) _ _ (c .before .before .before .before .before .before .fork .ensures) _ _ (c .before .before .body2 .ensures))
+rounds-same-length-2 t c = emitted-length _ _ _ _ _ (star-done _ _ _ _ _ _ _ _ _ (c .before .before .before .before .before .before .before .before .before .before .before
+    .before .if1 .left) (c .before .before .before .before .before .before .before .before .before .if3 .taken) _
+    (c .before .before .before .before .before .before .before .before .before .before .node-at .ensures) _
+    (c .before .before .before .before .before .before .before .before .start-at2 .ensures)
+    (c .before .before .before .before .before .before .before .before .before .before .before .before .before .before .before .pre .1) _ _
+    (c .before .before .before .before .before .before .fork .ensures) _ _ (c .before .before .body2 .ensures))
 
 rounds-returns-3 : (t : ℕ) → rounds-lts.Need-returns-3 (
   start-at-reads.Asked,
@@ -1197,7 +1287,11 @@ rounds-returns-3 : (t : ℕ) → rounds-lts.Need-returns-3 (
   fork-reads.Asked,
   fork-reads.Learnt,
 ) (rounds-at t) rounds.Post
-rounds-returns-3 t c = λ h. star-done _ _ _ _ _ _ _ _ _ (c .before .before .before .before .before .before .before .before .before .before .before .before .if1 .left) (c .before .before .before .before .before .before .before .before .before .if3 .taken) _ (c .before .before .before .before .before .before .before .before .before .before .node-at .ensures) _ (c .before .before .before .before .before .before .before .before .start-at2 .ensures) h _ _ (c .before .before .before .before .before .before .fork .ensures) _ _ (c .before .before .body2 .ensures)
+rounds-returns-3 t c = λ h. star-done _ _ _ _ _ _ _ _ _ (c .before .before .before .before .before .before .before .before .before .before .before .before .if1 .left)
+    (c .before .before .before .before .before .before .before .before .before .if3 .taken) _
+    (c .before .before .before .before .before .before .before .before .before .before .node-at .ensures) _
+    (c .before .before .before .before .before .before .before .before .start-at2 .ensures) h _ _ (c .before .before .before .before .before .before .fork .ensures) _ _
+    (c .before .before .body2 .ensures)
 
 rounds-add-start-at-3 : (t : ℕ) → rounds-lts.Need-add-start-at-3 (
   start-at-reads.Asked,
@@ -1211,7 +1305,8 @@ rounds-add-start-at-3 : (t : ℕ) → rounds-lts.Need-add-start-at-3 (
   fork-reads.Asked,
   fork-reads.Learnt,
 ) (rounds-at t) rounds.Post
-rounds-add-start-at-3 t c = option-fits _ _ _ _ _ _ _ _ _ (c .before .before .before .if1 .left) (c .before .before .if2 .left) (c .if3 .left) _ (c .before .node-at .ensures) (c .before .before .before .before .before .before .pre .1)
+rounds-add-start-at-3 t c = option-fits _ _ _ _ _ _ _ _ _ (c .before .before .before .if1 .left) (c .before .before .if2 .left) (c .if3 .left) _ (c .before .node-at .ensures)
+    (c .before .before .before .before .before .before .pre .1)
 
 rounds-start-at-requires-3 : (t : ℕ) → rounds-lts.Need-start-at-requires-3 (
   start-at-reads.Asked,
@@ -1239,7 +1334,9 @@ rounds-fork-requires-2 : (t : ℕ) → rounds-lts.Need-fork-requires-2 (
   fork-reads.Asked,
   fork-reads.Learnt,
 ) (rounds-at t) rounds.Post
-rounds-fork-requires-2 t c κs = option-choose _ _ _ _ _ _ _ _ _ (c .before .before .before .before .before .if1 .left) (c .before .before .before .before .if2 .left) (c .before .before .if3 .left) _ (c .before .before .before .node-at .ensures) _ (c .before .start-at3 .ensures) (c .before .before .before .before .before .before .before .before .pre .1)
+rounds-fork-requires-2 t c κs = option-choose _ _ _ _ _ _ _ _ _ (c .before .before .before .before .before .if1 .left) (c .before .before .before .before .if2 .left)
+    (c .before .before .if3 .left) _ (c .before .before .before .node-at .ensures) _ (c .before .start-at3 .ensures)
+    (c .before .before .before .before .before .before .before .before .pre .1)
 
 rounds-add-start-at-4 : (t : ℕ) → rounds-lts.Need-add-start-at-4 (
   start-at-reads.Asked,
@@ -1253,7 +1350,9 @@ rounds-add-start-at-4 : (t : ℕ) → rounds-lts.Need-add-start-at-4 (
   fork-reads.Asked,
   fork-reads.Learnt,
 ) (rounds-at t) rounds.Post
-rounds-add-start-at-4 t c = option-fits _ _ _ _ _ _ _ _ _ (c .before .before .before .before .before .before .before .before .if1 .left) (c .before .before .before .before .before .before .before .if2 .left) (c .before .before .before .before .before .if3 .left) _ (c .before .before .before .before .before .before .node-at .ensures) (c .before .before .before .before .before .before .before .before .before .before .before .pre .1)
+rounds-add-start-at-4 t c = option-fits _ _ _ _ _ _ _ _ _ (c .before .before .before .before .before .before .before .before .if1 .left)
+    (c .before .before .before .before .before .before .before .if2 .left) (c .before .before .before .before .before .if3 .left) _
+    (c .before .before .before .before .before .before .node-at .ensures) (c .before .before .before .before .before .before .before .before .before .before .before .pre .1)
 
 rounds-add-start-at-5 : (t : ℕ) → rounds-lts.Need-add-start-at-5 (
   start-at-reads.Asked,
@@ -1267,7 +1366,9 @@ rounds-add-start-at-5 : (t : ℕ) → rounds-lts.Need-add-start-at-5 (
   fork-reads.Asked,
   fork-reads.Learnt,
 ) (rounds-at t) rounds.Post
-rounds-add-start-at-5 t c = option-more _ _ _ _ _ _ _ _ _ (c .before .before .before .before .before .before .before .before .if1 .left) (c .before .before .before .before .before .before .before .if2 .left) (c .before .before .before .before .before .if3 .left) _ (c .before .before .before .before .before .before .node-at .ensures) (c .before .before .before .before .before .before .before .before .before .before .before .pre .1)
+rounds-add-start-at-5 t c = option-more _ _ _ _ _ _ _ _ _ (c .before .before .before .before .before .before .before .before .if1 .left)
+    (c .before .before .before .before .before .before .before .if2 .left) (c .before .before .before .before .before .if3 .left) _
+    (c .before .before .before .before .before .before .node-at .ensures) (c .before .before .before .before .before .before .before .before .before .before .before .pre .1)
 
 rounds-start-at-requires-4 : (t : ℕ) → rounds-lts.Need-start-at-requires-4 (
   start-at-reads.Asked,
@@ -1295,7 +1396,11 @@ rounds-body-requires-3 : (t : ℕ) → rounds-lts.Need-body-requires-3 (
   fork-reads.Asked,
   fork-reads.Learnt,
 ) (rounds-at t) rounds.Post
-rounds-body-requires-3 t c κs = option-body _ _ _ _ _ _ _ _ _ (c .before .before .before .before .before .before .before .before .before .before .if1 .left) (c .before .before .before .before .before .before .before .before .before .if2 .left) (c .before .before .before .before .before .before .before .if3 .left) _ (c .before .before .before .before .before .before .before .before .node-at .ensures) _ (c .before .before .before .before .before .before .start-at3 .ensures) (c .before .before .before .before .before .before .before .before .before .before .before .before .before .pre .1) _ _ (c .before .before .before .before .fork2 .ensures) _ (c .before .start-at4 .ensures) _ (c .before .before .before .before .before .before .before .before .before .before .before .before .before .pre .0)
+rounds-body-requires-3 t c κs = option-body _ _ _ _ _ _ _ _ _ (c .before .before .before .before .before .before .before .before .before .before .if1 .left)
+    (c .before .before .before .before .before .before .before .before .before .if2 .left) (c .before .before .before .before .before .before .before .if3 .left) _
+    (c .before .before .before .before .before .before .before .before .node-at .ensures) _ (c .before .before .before .before .before .before .start-at3 .ensures)
+    (c .before .before .before .before .before .before .before .before .before .before .before .before .before .pre .1) _ _ (c .before .before .before .before .fork2 .ensures) _
+    (c .before .start-at4 .ensures) _ (c .before .before .before .before .before .before .before .before .before .before .before .before .before .pre .0)
 
 rounds-sub-rounds-2 : (t : ℕ) → rounds-lts.Need-sub-rounds-2 (
   start-at-reads.Asked,
@@ -1309,7 +1414,11 @@ rounds-sub-rounds-2 : (t : ℕ) → rounds-lts.Need-sub-rounds-2 (
   fork-reads.Asked,
   fork-reads.Learnt,
 ) (rounds-at t) rounds.Post
-rounds-sub-rounds-2 t c = option-less _ _ _ _ _ _ _ _ _ (c .before .before .before .before .before .before .before .before .before .before .before .before .before .if1 .left) (c .before .before .before .before .before .before .before .before .before .before .before .before .if2 .left) (c .before .before .before .before .before .before .before .before .before .before .if3 .left) _ (c .before .before .before .before .before .before .before .before .before .before .before .node-at .ensures) (c .before .before .before .before .before .before .before .before .before .before .before .before .before .before .before .before .pre .1)
+rounds-sub-rounds-2 t c = option-less _ _ _ _ _ _ _ _ _ (c .before .before .before .before .before .before .before .before .before .before .before .before .before .if1 .left)
+    (c .before .before .before .before .before .before .before .before .before .before .before .before .if2 .left)
+    (c .before .before .before .before .before .before .before .before .before .before .if3 .left) _
+    (c .before .before .before .before .before .before .before .before .before .before .before .node-at .ensures)
+    (c .before .before .before .before .before .before .before .before .before .before .before .before .before .before .before .before .pre .1)
 
 rounds-rounds-requires-2 : (t : ℕ) → rounds-lts.Need-rounds-requires-2 (
   start-at-reads.Asked,
@@ -1323,7 +1432,15 @@ rounds-rounds-requires-2 : (t : ℕ) → rounds-lts.Need-rounds-requires-2 (
   fork-reads.Asked,
   fork-reads.Learnt,
 ) (rounds-at t) rounds.Post
-rounds-rounds-requires-2 t c κs = option-again _ _ _ _ _ _ _ _ _ (c .before .before .before .before .before .before .before .before .before .before .before .before .before .before .if1 .left) (c .before .before .before .before .before .before .before .before .before .before .before .before .before .if2 .left) (c .before .before .before .before .before .before .before .before .before .before .before .if3 .left) _ (c .before .before .before .before .before .before .before .before .before .before .before .before .node-at .ensures) _ (c .before .before .before .before .before .before .before .before .before .before .start-at3 .ensures) (c .before .before .before .before .before .before .before .before .before .before .before .before .before .before .before .before .before .pre .1) _ _ (c .before .before .before .before .before .before .before .before .fork2 .ensures) _ (c .before .before .before .before .before .start-at4 .ensures) _ _ (c .before .before .before .body3 .ensures) _ (c .before .before .before .before .before .before .before .before .before .before .before .before .before .before .before .before .before .pre .0)
+rounds-rounds-requires-2 t c κs = option-again _ _ _ _ _ _ _ _ _ (c .before .before .before .before .before .before .before .before .before .before .before .before .before
+    .before .if1 .left) (c .before .before .before .before .before .before .before .before .before .before .before .before .before .if2 .left)
+    (c .before .before .before .before .before .before .before .before .before .before .before .if3 .left) _
+    (c .before .before .before .before .before .before .before .before .before .before .before .before .node-at .ensures) _
+    (c .before .before .before .before .before .before .before .before .before .before .start-at3 .ensures)
+    (c .before .before .before .before .before .before .before .before .before .before .before .before .before .before .before .before .before .pre .1) _ _
+    (c .before .before .before .before .before .before .before .before .fork2 .ensures) _ (c .before .before .before .before .before .start-at4 .ensures) _ _
+    (c .before .before .before .body3 .ensures) _ (c .before .before .before .before .before .before .before .before .before .before .before .before .before .before .before
+    .before .before .pre .0)
 
 rounds-same-length-3 : (t : ℕ) → rounds-lts.Need-same-length-3 (
   start-at-reads.Asked,
@@ -1337,7 +1454,15 @@ rounds-same-length-3 : (t : ℕ) → rounds-lts.Need-same-length-3 (
   fork-reads.Asked,
   fork-reads.Learnt,
 ) (rounds-at t) rounds.Post
-rounds-same-length-3 t c = emitted-length _ _ _ _ _ (option-done _ _ _ _ _ _ _ _ _ (c .before .before .before .before .before .before .before .before .before .before .before .before .before .before .before .before .before .if1 .left) (c .before .before .before .before .before .before .before .before .before .before .before .before .before .before .before .before .if2 .left) (c .before .before .before .before .before .before .before .before .before .before .before .before .before .before .if3 .left) _ (c .before .before .before .before .before .before .before .before .before .before .before .before .before .before .before .node-at .ensures) _ (c .before .before .before .before .before .before .before .before .before .before .before .before .before .start-at3 .ensures) (c .before .before .before .before .before .before .before .before .before .before .before .before .before .before .before .before .before .before .before .before .pre .1) _ _ (c .before .before .before .before .before .before .before .before .before .before .before .fork2 .ensures) _ (c .before .before .before .before .before .before .before .before .start-at4 .ensures) _ _ (c .before .before .before .before .before .before .body3 .ensures) _ _ (c .before .before .rounds2 .ensures))
+rounds-same-length-3 t c = emitted-length _ _ _ _ _ (option-done _ _ _ _ _ _ _ _ _ (c .before .before .before .before .before .before .before .before .before .before .before
+    .before .before .before .before .before .before .if1 .left) (c .before .before .before .before .before .before .before .before .before .before .before .before .before
+    .before .before .before .if2 .left) (c .before .before .before .before .before .before .before .before .before .before .before .before .before .before .if3 .left) _
+    (c .before .before .before .before .before .before .before .before .before .before .before .before .before .before .before .node-at .ensures) _
+    (c .before .before .before .before .before .before .before .before .before .before .before .before .before .start-at3 .ensures)
+    (c .before .before .before .before .before .before .before .before .before .before .before .before .before .before .before .before .before .before .before .before .pre .1) _
+    _ (c .before .before .before .before .before .before .before .before .before .before .before .fork2 .ensures) _
+    (c .before .before .before .before .before .before .before .before .start-at4 .ensures) _ _ (c .before .before .before .before .before .before .body3 .ensures) _ _
+    (c .before .before .rounds2 .ensures))
 
 rounds-returns-4 : (t : ℕ) → rounds-lts.Need-returns-4 (
   start-at-reads.Asked,
@@ -1351,7 +1476,14 @@ rounds-returns-4 : (t : ℕ) → rounds-lts.Need-returns-4 (
   fork-reads.Asked,
   fork-reads.Learnt,
 ) (rounds-at t) rounds.Post
-rounds-returns-4 t c = λ h. option-done _ _ _ _ _ _ _ _ _ (c .before .before .before .before .before .before .before .before .before .before .before .before .before .before .before .before .before .if1 .left) (c .before .before .before .before .before .before .before .before .before .before .before .before .before .before .before .before .if2 .left) (c .before .before .before .before .before .before .before .before .before .before .before .before .before .before .if3 .left) _ (c .before .before .before .before .before .before .before .before .before .before .before .before .before .before .before .node-at .ensures) _ (c .before .before .before .before .before .before .before .before .before .before .before .before .before .start-at3 .ensures) h _ _ (c .before .before .before .before .before .before .before .before .before .before .before .fork2 .ensures) _ (c .before .before .before .before .before .before .before .before .start-at4 .ensures) _ _ (c .before .before .before .before .before .before .body3 .ensures) _ _ (c .before .before .rounds2 .ensures)
+rounds-returns-4 t c = λ h. option-done _ _ _ _ _ _ _ _ _ (c .before .before .before .before .before .before .before .before .before .before .before .before .before .before
+    .before .before .before .if1 .left) (c .before .before .before .before .before .before .before .before .before .before .before .before .before .before .before .before .if2
+    .left) (c .before .before .before .before .before .before .before .before .before .before .before .before .before .before .if3 .left) _
+    (c .before .before .before .before .before .before .before .before .before .before .before .before .before .before .before .node-at .ensures) _
+    (c .before .before .before .before .before .before .before .before .before .before .before .before .before .start-at3 .ensures) h _ _
+    (c .before .before .before .before .before .before .before .before .before .before .before .fork2 .ensures) _
+    (c .before .before .before .before .before .before .before .before .start-at4 .ensures) _ _ (c .before .before .before .before .before .before .body3 .ensures) _ _
+    (c .before .before .rounds2 .ensures)
 
 pub +body+branches+emit+rounds-spec : {M : Type 1} → statement M
 +body+branches+emit+rounds-spec = close μ-body μ-branches μ-emit μ-rounds (λ t. body-lts.spec (

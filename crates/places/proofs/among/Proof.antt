@@ -1,3 +1,4 @@
+-- `places::among` meets its contract. Laws: WayLaws.
 use Rattle.places.proofs.WayLaws.{Looked, looked-none, looked-end, looked-found, looked-more}
 use Prim.Native.Nat.{_-_}
 use borrow.Author.Needs.{needs}

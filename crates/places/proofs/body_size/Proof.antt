@@ -1,3 +1,4 @@
+-- `places::body_size` meets its contract. Laws: EmitLaws.
 use Rattle.places.proofs.EmitLaws.{at-node, size-letter, size-anchor, size-empty, size-sequence, size-alternation, size-group, size-inside}
 use borrow.Author.Needs.{needs}
 use Rattle.places.proofs.body_size.Statement.{statement}

@@ -1,3 +1,4 @@
+-- `places::branch_fork` meets its contract. Laws: ForkLaws.
 use Rattle.places.proofs.ForkLaws.{fork-starting, forking-words, forking-done}
 use borrow.Author.Needs.{needs}
 use Rattle.places.proofs.branch_fork.Statement.{statement}

@@ -1,3 +1,4 @@
+-- `places::fork` meets its contract. Laws: ForkLaws.
 use Rattle.places.proofs.ForkLaws.{lazy-needs, lazy-done, greedy-needs, greedy-done}
 use borrow.Author.Needs.{needs}
 use Rattle.places.proofs.fork.Statement.{statement}

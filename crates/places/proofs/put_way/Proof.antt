@@ -1,3 +1,4 @@
+-- `places::put_way` meets its contract. Laws: WayLaws.
 use Rattle.places.proofs.WayLaws.{way-old, way-new, way-fits}
 use borrow.Author.Needs.{needs}
 use Rattle.places.proofs.put_way.Statement.{statement}

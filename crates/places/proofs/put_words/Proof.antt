@@ -1,3 +1,4 @@
+-- `places::put_words` meets its contract. Laws: TableLaws.
 use Rattle.places.proofs.TableLaws.{words-are}
 use lib.ListN.{length-set}
 use native.Mathlib.Omega.{arith}

@@ -1,3 +1,4 @@
+-- `places::start_at` meets its contract. Laws: WayLaws.
 use Rattle.places.proofs.WayLaws.{start-end, start-here}
 use borrow.Author.Needs.{needs}
 use Rattle.places.proofs.start_at.Statement.{statement}

@@ -1,3 +1,4 @@
+-- `places::unroll` meets its contract. Laws: UnrollLaws.
 use Rattle.places.proofs.UnrollLaws.{some-place, unroll-emitting, end-words, unroll-length, unroll-done}
 use Rattle.places.proofs.unroll.Statement.{statement}
 use Rattle.places.proofs.unroll.Tie as tie
@@ -12,7 +13,8 @@ put-words-requires : tie.Need-put-words-requires
 put-words-requires c κs = end-words _ _ _ _ (c .before .before .before .before .before .before .before .pre) _ _ (c .before .before .before .emit .ensures)
 
 same-length : tie.Need-same-length
-same-length c = unroll-length _ _ _ _ (c .before .before .before .before .before .before .before .before .before .before .pre) _ _ (c .before .before .before .before .before .before .emit .ensures) _ (c .before .before .put-words .ensures)
+same-length c = unroll-length _ _ _ _ (c .before .before .before .before .before .before .before .before .before .before .pre) _ _
+    (c .before .before .before .before .before .before .emit .ensures) _ (c .before .before .put-words .ensures)
 
 returns : tie.Need-returns
 returns c = λ h. unroll-done _ _ _ _ h _ _ (c .before .before .before .before .before .before .emit .ensures) _ (c .before .before .put-words .ensures)

@@ -1,3 +1,4 @@
+-- `places::whole_size` meets its contract. Laws: EmitLaws, ForkLaws.
 use Rattle.places.proofs.EmitLaws.{whole-alt, whole-one, whole-fits, at-node}
 use Rattle.places.proofs.ForkLaws.{not-alternation}
 use borrow.Author.Needs.{needs}

@@ -1,3 +1,4 @@
+-- `pattern::marks::braces` meets its contract. Laws: MarkLaws.
 use Rattle.pattern.proofs.MarkLaws.{brace-comma-bad, brace-comma, brace-bad, brace-up, brace-exactly, next-in}
 use borrow.Author.Tests.{not-true, not-false}
 use borrow.Author.Needs.{needs}

@@ -1,3 +1,4 @@
+-- `pattern::marks::is_digit` meets its contract. Laws: MarkLaws.
 use Rattle.pattern.proofs.MarkLaws.{digit-low, digit-high}
 use borrow.Author.Needs.{needs}
 use Rattle.pattern.proofs.marks.is_digit.Statement.{statement}

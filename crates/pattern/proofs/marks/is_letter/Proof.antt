@@ -1,3 +1,4 @@
+-- `pattern::marks::is_letter` meets its contract. Laws: MarkLaws.
 use Rattle.pattern.proofs.MarkLaws.{letter-low, letter-high}
 use borrow.Author.Needs.{needs}
 use Rattle.pattern.proofs.marks.is_letter.Statement.{statement}

@@ -1,3 +1,4 @@
+-- `pattern::marks::number` meets its contract. Laws: MarkLaws.
 use Rattle.pattern.proofs.MarkLaws.{digits-from, number-none, number-one, number-zero, number-two}
 use borrow.Author.Tests.{not-true, not-false}
 use borrow.Author.Needs.{needs}

@@ -1,3 +1,4 @@
+-- `pattern::marks::peek` meets its contract. Laws: MarkLaws.
 use Rattle.pattern.proofs.MarkLaws.{byte, no-byte}
 use borrow.Author.Needs.{needs}
 use Rattle.pattern.proofs.marks.peek.Statement.{statement}

@@ -1,3 +1,4 @@
+-- `pattern::marks::quantifier` meets its contract. Laws: MarkLaws.
 use Rattle.pattern.proofs.MarkLaws.{mark-star, mark-plus, mark-opt, mark-braces, mark-none, next-in}
 use borrow.Author.Needs.{needs}
 use Rattle.pattern.proofs.marks.quantifier.Statement.{statement}

@@ -1,3 +1,4 @@
+-- `pattern::marks::reluctant` meets its contract. Laws: MarkLaws.
 use Rattle.pattern.proofs.MarkLaws.{reluctant-yes, reluctant-no, next-in}
 use borrow.Author.Needs.{needs}
 use Rattle.pattern.proofs.marks.reluctant.Statement.{statement}

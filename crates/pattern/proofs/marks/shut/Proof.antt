@@ -1,3 +1,4 @@
+-- `pattern::marks::shut` meets its contract. Laws: MarkLaws.
 use Rattle.pattern.proofs.MarkLaws.{shut-open, shut-none, shut-less, shut-fine, next-in}
 use borrow.Author.Needs.{needs}
 use Rattle.pattern.proofs.marks.shut.Statement.{statement}

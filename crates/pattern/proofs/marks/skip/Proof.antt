@@ -1,3 +1,4 @@
+-- `pattern::marks::skip` meets its contract. Laws: MarkLaws.
 use Rattle.pattern.proofs.MarkLaws.{Skipped, skip-none, skip-more, skip-all, skip-less, next-in}
 use lib.ListN.{length}
 use Prim.Native.Nat.{_-_}

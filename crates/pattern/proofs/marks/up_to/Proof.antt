@@ -1,3 +1,4 @@
+-- `pattern::marks::up_to` meets its contract. Laws: MarkLaws.
 use Rattle.pattern.proofs.MarkLaws.{up-shut, up-bad, up-got, next-in}
 use borrow.Author.Tests.{not-true, not-false}
 use borrow.Author.Needs.{needs}

@@ -1,3 +1,4 @@
+-- `pattern::nodes::node_at` meets its contract. Laws: NodeLaws.
 use Rattle.pattern.proofs.NodeLaws.{node-read}
 use borrow.Author.Needs.{needs}
 use Rattle.pattern.proofs.nodes.node_at.Statement.{statement}

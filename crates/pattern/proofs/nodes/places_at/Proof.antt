@@ -1,3 +1,4 @@
+-- `pattern::nodes::places_at` meets its contract. Laws: NodeLaws.
 use Rattle.pattern.proofs.NodeLaws.{places-read}
 use borrow.Author.Needs.{needs}
 use Rattle.pattern.proofs.nodes.places_at.Statement.{statement}

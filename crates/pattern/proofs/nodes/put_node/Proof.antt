@@ -1,3 +1,4 @@
+-- `pattern::nodes::put_node` meets its contract. Laws: NodeLaws.
 use Rattle.pattern.proofs.NodeLaws.{put-is}
 use lib.ListN.{length-set}
 use native.Mathlib.Omega.{arith}

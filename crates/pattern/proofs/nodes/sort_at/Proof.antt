@@ -1,3 +1,4 @@
+-- `pattern::nodes::sort_at` meets its contract. Laws: NodeLaws.
 use Rattle.pattern.proofs.NodeLaws.{sort-read}
 use borrow.Author.Needs.{needs}
 use Rattle.pattern.proofs.nodes.sort_at.Statement.{statement}

@@ -1,3 +1,4 @@
+-- `pattern::nodes::sort_of` meets its contract. Laws: NodeLaws.
 use Rattle.pattern.proofs.NodeLaws.{sort-letter, sort-anchor, sort-empty, sort-sequence, sort-alternation, sort-group}
 use borrow.Author.Needs.{needs}
 use Rattle.pattern.proofs.nodes.sort_of.Statement.{statement}

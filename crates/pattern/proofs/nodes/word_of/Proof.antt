@@ -1,3 +1,4 @@
+-- `pattern::nodes::word_of` meets its contract.
 use mathlib.Core.Path.{ap, sym}
 use Rattle.pattern.specs.Nodes.{wordOf}
 use borrow.Author.Needs.{needs}
