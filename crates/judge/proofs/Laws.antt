@@ -1,33 +1,33 @@
 -- Laws of the judging functions: each is one way through one function.
-use mathlib.Core.Path.{_≡_, refl, sym, ap, _∙_, subst}
-use mathlib.Core.Bool.{Bool, true, false, _&&_, _||_, true≢false, false≢true}
+use mathlib.Core.Path.{_≡_, refl, sym, ap, _∙_}
+use mathlib.Core.Bool.{Bool, true, false, _&&_, _||_, true≢false}
 use mathlib.Core.List.{List, [], _∷_}
-use mathlib.Core.Logic.{_⊎_, inl, inr}
+use mathlib.Core.Logic.{inl, inr}
 use mathlib.Core.Option.{Option, none, some}
-use Prim.Native.Nat.{ℕ, zero, suc, _+_, _*_, _-_, _≤_, _<_, min}
+use Prim.Native.Nat.{ℕ, suc, _+_, _-_, _≤_, _<_}
 use native.Mathlib.Omega.{arith}
 use mir.Val.{Fits as Fits-in}
 use mir.Syntax.{w64}
 use lib.Dec.{eqb, ltb}
 use lib.ListN.{length, getD, drop, drop-of-length-le}
 use lib.Seq.{drop-cons}
-use borrow.Author.Tests.{lt-ltb, le-ltb, eq-eqb, ne-eqb}
+use borrow.Author.Tests.{lt-ltb, le-ltb, eq-eqb, ne-eqb, eqb-true, eqb-false}
 use Rattle.rules.specs.Basics.{pick, has}
-use Rattle.rules.specs.Language.{Form, lower, upper, InBounds, Rank, pattern, branch, factor, primary, Tree, one, more, last, next, bare, times, letter, caret, dollar, empty, group, nullable, unbounded, emptyLoop}
+use Rattle.rules.specs.Language.{pattern, factor, primary, Tree, one, more, last, bare, times, letter, caret, dollar, empty, group, nullable, emptyLoop}
 use Rattle.rules.specs.Reader.{treeOf}
-use Rattle.rules.specs.Places.{fork, placeCount, placesOf}
+use Rattle.rules.specs.Places.{fork, placesOf}
 use Rattle.rules.specs.Answers.{deep, noTree, hasEmptyLoop, tooMany, P, lowest}
 use Rattle.pattern.specs.Nodes.{nodeAt}
-use Rattle.pattern.specs.declared.nodes.Sort.{Sort}
 use Rattle.pattern.specs.declared.nodes.Sort.the-variants.{Letter, Anchor, Empty, Sequence, Alternation, Group}
 use Rattle.pattern.specs.declared.nodes.Node.{Node}
 use Rattle.pattern.specs.declared.Step.{Step}
-use Rattle.pattern.specs.Written.{nodeCount, Fits, Parsed, ParsedAs, TextSays}
+use Rattle.pattern.specs.Written.{Fits, Parsed, ParsedAs, TextSays}
 use Rattle.pattern.specs.Held.{body, Top, At}
 use Rattle.pattern.proofs.RoundLaws.{bound-eq}
 use Rattle.pattern.proofs.Holds.{pattern-nodes, text-top}
-use Rattle.pattern.proofs.ByNode.{Bounded, IsAnchor, FactorAt, SeqAt, AltAt, GroupAt, as-any, as-seq, as-alt, as-letter, as-anchor, as-empty, as-group, group-left}
-use Rattle.judge.specs.Judged.{textTests, textAnswer, refusal, Nullable, EmptyLoop, Judging}
+use Rattle.pattern.proofs.ByNode.{IsAnchor, FactorAt, GroupAt, as-any, as-seq, as-alt, as-letter, as-anchor, as-empty, as-group, group-left}
+use Rattle.judge.specs.Judged.{textTests, textAnswer, refusal, Nullable, EmptyLoop, Behind, Judging}
+use Rattle.judge.specs.declared.Depth.{Depth}
 use Rattle.judge.specs.declared.Verdict.{Verdict}
 
 clash : {A : Type 0} → _≡_ {A = ℕ} 0 1 → A
@@ -128,7 +128,8 @@ module _ (s : List ℕ) (i : ℕ) (n : Node) (en : n ≡ nodeAt s i) where
 
   pub loop-seq-second : (r1 r2 : Bool) → n .sort ≡ Sequence → EmptyLoop s (n .left) r1 → r1 ≡ false → EmptyLoop s (n .right) r2 → EmptyLoop s i r2
   unfolding emptyLoop
-  loop-seq-second r1 r2 e f o g = as-seq s i n en (λ p. r2 ≡ emptyLoop p) e (λ x b q. let z : emptyLoop x ≡ false = sym (f (one (last x)) (q .left)) ∙ o in rw z (g (one b) (q .right)))
+  loop-seq-second r1 r2 e f o g = as-seq s i n en (λ p. r2 ≡ emptyLoop p) e (λ x b q. let z : emptyLoop x ≡ false = sym (f (one (last x)) (q .left))
+      ∙ o in rw z (g (one b) (q .right)))
 
   pub loop-alt : (r1 : Bool) → n .sort ≡ Alternation → EmptyLoop s (n .left) r1 → r1 ≡ true → EmptyLoop s i true
   unfolding emptyLoop
@@ -157,53 +158,70 @@ module _ (s : List ℕ) (i : ℕ) (n : Node) (en : n ≡ nodeAt s i) where
   pub loop-group-rest : (t r : Bool) → n .sort ≡ Group → n .high ≡ 100 → Nullable s (n .left) t → t ≡ false → EmptyLoop s (n .left) r → EmptyLoop s i r
   unfolding emptyLoop
   loop-group-rest t r e eh f o h = as-group s i n en (λ p. r ≡ emptyLoop p) e (λ F q p g.
-      let z : nullable p ≡ false = sym (f p (g .inside)) ∙ o in h p (g .inside) ∙ sym (loop-inside true F q p g (eq-eqb (n .high) 100 eh) ∙ ap (λ (b : Bool). (true && b) || emptyLoop p) z))
+      let z : nullable p ≡ false = sym (f p (g .inside)) ∙ o in h p (g .inside) ∙ sym (loop-inside true F q p g (eq-eqb (n .high) 100 eh)
+      ∙ ap (λ (b : Bool). (true && b) || emptyLoop p) z))
 
 -- ---- depth of parentheses
 
-pub record Deep (s : List ℕ) (o c i : ℕ) : Type 0 where
-  pub same : deep 0 0 s ≡ deep o c (drop i s)
-  pub few-open : o ≤ i
-  pub few-closed : c ≤ i
+pub record Deep (s : List ℕ) (d : Depth) (i : ℕ) : Type 0 where
+  pub same : deep 0 0 s ≡ deep (d .opened) (d .closed) (drop i s)
+  pub few-open : d .opened ≤ i
+  pub few-closed : d .closed ≤ i
   pub inside : i ≤ length s
 
-pub deep-none : (s : List ℕ) → Deep s 0 0 0
+pub deep-none : (s : List ℕ) → Deep s (record { opened = 0; closed = 0 }) 0
 deep-none s = record { same = refl; few-open = omega arith; few-closed = omega arith; inside = omega arith }
 
-module _ (s : List ℕ) (o c i : ℕ) (h : Deep s o c i) where
+-- the counts by tests
+behind-is : (b : ℕ) (d r : Depth) → Behind b d r → (r .opened ≡ pick (eqb b 40) (d .opened + 1) (d .opened)) × (r .closed ≡ pick (eqb b 41) (d .closed + 1) (d .closed))
+behind-is b d r h = go (eqb b 40) (eqb b 41) refl refl
+  where
+    go : (x y : Bool) → eqb b 40 ≡ x → eqb b 41 ≡ y → (r .opened ≡ pick x (d .opened + 1) (d .opened)) × (r .closed ≡ pick y (d .closed + 1) (d .closed))
+    go true true e f = let a = eqb-true b 40 e in let c = eqb-true b 41 f in absurd (omega arith)
+    go true false e f = h .open-counted (eqb-true b 40 e)
+    go false true e f = h .shut-counted (eqb-true b 41 f)
+    go false false e f = h .others (eqb-false b 40 e) (eqb-false b 41 f)
+
+module _ (s : List ℕ) (d : Depth) (i : ℕ) (h : Deep s d i) where
   pub deep-end : length s ≤ i → false ≡ deep 0 0 s
   unfolding deep
-  deep-end l = sym (h .same ∙ ap (deep o c) (drop-of-length-le s l))
+  deep-end l = sym (h .same ∙ ap (deep (d .opened) (d .closed)) (drop-of-length-le s l))
 
-  module _ (b o2 c2 : ℕ) (l : i < length s) (eb : b ≡ getD s i 0) (eo : o2 ≡ pick (eqb b 40) (o + 1) o) (ec : c2 ≡ pick (eqb b 41) (c + 1) c) where
-    deep-step : deep o c (drop i s) ≡ pick (ltb (c2 + 8) o2) true (deep o2 c2 (drop (i + 1) s))
+  module _ (l : i < length s) (r : Depth) (g : Behind (getD s i 0) d r) where
+    deep-step : deep (d .opened) (d .closed) (drop i s) ≡ pick (ltb (r .closed + 8) (r .opened)) true (deep (r .opened) (r .closed) (drop (i + 1) s))
     unfolding deep
     deep-step =
-        ap (deep o c) (drop-cons s i 0 l ∙ ap (λ (x : ℕ). x ∷ drop (suc i) s) (sym eb) ∙ ap (λ (k : ℕ). b ∷ drop k s) (let z : suc i ≡ i + 1 = omega arith in z))
-        ∙ ap (λ (x : ℕ). pick (ltb (pick (eqb b 41) (c + 1) c + 8) x) true (deep x (pick (eqb b 41) (c + 1) c) (drop (i + 1) s))) (sym eo)
-        ∙ ap (λ (x : ℕ). pick (ltb (x + 8) o2) true (deep o2 x (drop (i + 1) s))) (sym ec)
+        let b : ℕ = getD s i 0 in
+        let q = behind-is b d r g in
+        ap (deep (d .opened) (d .closed)) (drop-cons s i 0 l ∙ ap (λ (k : ℕ). b ∷ drop k s) (let z : suc i ≡ i + 1 = omega arith in z))
+        ∙ ap (λ (x : ℕ). pick (ltb (pick (eqb b 41) (d .closed + 1) (d .closed) + 8) x) true (deep x (pick (eqb b 41) (d .closed + 1) (d .closed)) (drop (i + 1) s))) (sym (q .0))
+        ∙ ap (λ (x : ℕ). pick (ltb (x + 8) (r .opened)) true (deep (r .opened) x (drop (i + 1) s))) (sym (q .1))
 
-    pub deep-found : c2 + 8 < o2 → true ≡ deep 0 0 s
-    deep-found g = sym (h .same ∙ deep-step ∙ ap (λ (t : Bool). pick t true (deep o2 c2 (drop (i + 1) s))) (lt-ltb (c2 + 8) o2 g))
+    pub deep-found : r .closed + 8 < r .opened → true ≡ deep 0 0 s
+    deep-found f = sym (h .same ∙ deep-step ∙ ap (λ (t : Bool). pick t true (deep (r .opened) (r .closed) (drop (i + 1) s))) (lt-ltb (r .closed + 8) (r .opened) f))
 
-    pub deep-more : o2 ≤ c2 + 8 → Deep s o2 c2 (i + 1)
-    deep-more g =
-        record {
-          same = h .same ∙ deep-step ∙ ap (λ (t : Bool). pick t true (deep o2 c2 (drop (i + 1) s))) (le-ltb (c2 + 8) o2 g);
-          few-open = at-most (eqb b 40) o o2 eo (h .few-open);
-          few-closed = at-most (eqb b 41) c c2 ec (h .few-closed);
-          inside = omega arith;
-        }
+    few-more : (r .opened ≤ i + 1) × (r .closed ≤ i + 1)
+    few-more = let q = behind-is (getD s i 0) d r g in (
+      at-most (eqb (getD s i 0) 40) (d .opened) (r .opened) (q .0) (h .few-open),
+      at-most (eqb (getD s i 0) 41) (d .closed)
+          (r .closed) (q .1) (h .few-closed),
+    )
       where
         at-most : (t : Bool) (x y : ℕ) → y ≡ pick t (x + 1) x → x ≤ i → y ≤ i + 1
         at-most true x y e k = omega arith
         at-most false x y e k = omega arith
 
-pub count-yes : (b k n : ℕ) → b ≡ k → (n + 1 ≡ pick (eqb b k) (n + 1) n) × (n + 1 ≤ n + 1)
-count-yes b k n e = (sym (ap (λ (t : Bool). pick t (n + 1) n) (eq-eqb b k e)), omega arith)
+    pub deep-more : r .opened ≤ r .closed + 8 → Deep s r (i + 1)
+    deep-more f =
+        record {
+          same = h .same ∙ deep-step ∙ ap (λ (t : Bool). pick t true (deep (r .opened) (r .closed) (drop (i + 1) s))) (le-ltb (r .closed + 8) (r .opened) f);
+          few-open = few-more .0;
+          few-closed = few-more .1;
+          inside = omega arith;
+        }
 
-pub count-not : (b k n : ℕ) → (b ≡ k → ⊥) → (n ≡ pick (eqb b k) (n + 1) n) × (n ≤ n + 1)
-count-not b k n e = (sym (ap (λ (t : Bool). pick t (n + 1) n) (ne-eqb b k e)), omega arith)
+    pub deep-sum : length s < 60000 → Fits-in w64 (r .closed + 8)
+    deep-sum f = record { fits = omega (arith, few-more .1) }
 
 -- ---- a byte in a text
 
@@ -246,7 +264,13 @@ module _ (s m0 m1 : List ℕ) where
     pub judge-outside : (r : Verdict) → p .ok ≡ false → r ≡ refusal 5 → Judging s m0 m1 r
     unfolding lowest noTree ParsedAs
     judge-outside r e er =
-        rw er (record { answer = sym (answer-is false true _ _ (sym ed ∙ nd) (go (treeOf s) (h .says)) refl refl); places = refl; top = λ z. clash (omega arith); kept = h .kept; len = h .len })
+        rw er (record {
+          answer = sym (answer-is false true _ _ (sym ed ∙ nd) (go (treeOf s) (h .says)) refl refl);
+          places = refl;
+          top = λ z. clash (omega arith);
+          kept = h .kept;
+          len = h .len;
+        })
       where
         go : (x : Option (Tree pattern)) → ParsedAs s m0 m1 p x → noTree x ≡ true
         go none q = refl
@@ -279,7 +303,8 @@ module _ (s m0 m1 : List ℕ) where
     fork-small (more b t) = omega arith
 
     -- P as it is counted
-    counted : (p .forks + p .places ≤ 258) × (256 < p .forks + p .places + 1 → 256 < placesOf (tree-of .tree)) × (p .forks + p .places + 1 ≤ 256 → placesOf (tree-of .tree) ≡ p .forks + p .places + 1)
+    counted : (p .forks + p .places ≤ 258) × (256 < p .forks + p .places + 1 → 256 < placesOf (tree-of .tree)) × (p .forks + p .places + 1 ≤ 256
+        → placesOf (tree-of .tree) ≡ p .forks + p .places + 1)
     unfolding placesOf
     counted =
         let t = tree-of in let a = t .parsed .forked in let b = t .parsed .placed in
@@ -306,7 +331,13 @@ module _ (s m0 m1 : List ℕ) where
 
       pub judge-loop : (r : Verdict) → l ≡ true → r ≡ refusal 6 → Judging s m0 m1 r
       unfolding lowest
-      judge-loop r ol er = rw er (record { answer = sym (answer-is false false true _ (sym ed ∙ nd) seen (looped ∙ ol) refl); places = refl; top = λ z. clash (omega arith); kept = h .kept; len = h .len })
+      judge-loop r ol er = rw er (record {
+        answer = sym (answer-is false false true _ (sym ed ∙ nd) seen (looped ∙ ol) refl);
+        places = refl;
+        top = λ z. clash (omega arith);
+        kept = h .kept;
+        len = h .len;
+      })
 
       pub judge-many : (r : Verdict) → l ≡ false → 256 < p .forks + p .places + 1 → r ≡ refusal 7 → Judging s m0 m1 r
       unfolding lowest

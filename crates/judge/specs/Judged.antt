@@ -1,10 +1,10 @@
 -- Answers 4 to 7 of document 01 for a pattern's text, by the tests of the rules' Answers, the lowest that applies; and what the functions that
 -- walk over a tree's nodes promise.
 use mathlib.Core.Path.{_≡_}
-use mathlib.Core.Bool.{Bool, true, false}
+use mathlib.Core.Bool.{Bool}
 use mathlib.Core.List.{List, [], _∷_}
-use mathlib.Core.Option.{Option, none, some}
-use Prim.Native.Nat.{ℕ, zero, suc, _+_, _*_, _≤_}
+use mathlib.Core.Option.{some}
+use Prim.Native.Nat.{ℕ, _+_, _*_, _≤_}
 use lib.Dec.{eqb}
 use lib.ListN.{length, getD}
 use Rattle.rules.specs.Basics.{pick}
@@ -12,6 +12,7 @@ use Rattle.rules.specs.Language.{Tree, pattern, nullable, emptyLoop}
 use Rattle.rules.specs.Reader.{treeOf}
 use Rattle.rules.specs.Answers.{deep, noTree, hasEmptyLoop, tooMany, P, lowest}
 use Rattle.pattern.specs.Held.{Top}
+use Rattle.judge.specs.declared.Depth.{Depth}
 use Rattle.judge.specs.declared.Verdict.{Verdict}
 
 -- the tests for answers 4 to 7, which ask the pattern's text alone
@@ -26,6 +27,12 @@ textAnswer s = lowest 4 (textTests s)
 
 abbrev pub refusal : ℕ → Verdict
 refusal a = record { answer = a; places = 0; top = 0 }
+
+-- the counts of parentheses behind one more byte: ( is 40, ) is 41
+pub record Behind (b : ℕ) (d r : Depth) : Type 0 where
+  pub open-counted : b ≡ 40 → (r .opened ≡ d .opened + 1) × (r .closed ≡ d .closed)
+  pub shut-counted : b ≡ 41 → (r .opened ≡ d .opened) × (r .closed ≡ d .closed + 1)
+  pub others : (b ≡ 40 → ⊥) → (b ≡ 41 → ⊥) → (r .opened ≡ d .opened) × (r .closed ≡ d .closed)
 
 -- r is right for whatever tree has its top at i
 abbrev pub Nullable : List ℕ → ℕ → Bool → Type 0

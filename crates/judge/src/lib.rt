@@ -7,12 +7,11 @@ ghost use mathlib.Core.Path.{_≡_};
 ghost use mathlib.Core.Bool.{true, false};
 ghost use Prim.Native.Nat.{ℕ, _+_, _*_, _-_, _≤_, _<_, _^_};
 ghost use lib.ListN.{length};
-ghost use lib.Dec.{eqb};
-ghost use Rattle.rules.specs.Basics.{pick, has};
+ghost use Rattle.rules.specs.Basics.{has};
 ghost use Rattle.rules.specs.Answers.{deep};
 ghost use Rattle.pattern.specs.Written.{Fits};
 ghost use Rattle.pattern.specs.Held.{At};
-ghost use Rattle.judge.specs.Judged.{Nullable, EmptyLoop, refusal, Judging};
+ghost use Rattle.judge.specs.Judged.{Nullable, EmptyLoop, Behind, refusal, Judging};
 
 // answer: 0 if the pattern is good, else 4, 5, 6 or 7. places: P, and top: the top node of its tree, if it is good; else both are 0.
 pub struct Verdict {
@@ -95,15 +94,30 @@ pub fn has_empty_loop(room: &[u16], i: usize) -> bool
     }
 }
 
-// One more if the byte is this one.
-fn count_if(b: u8, this: u8, n: usize) -> usize
-    requires { ⌜ n + 1 < 2 ^ 64 ⌝ }
-    ensures { λ r. ⌜ (r ≡ pick (eqb b this) (n + 1) n) × (r ≤ n + 1) ⌝ }
+// Parentheses opened and closed so far. Their difference may be negative.
+pub struct Depth {
+    pub opened: usize,
+    pub closed: usize,
+}
+
+// The same behind one more byte.
+fn behind(b: u8, d: Depth) -> Depth
+    requires { ⌜ (d .opened + 1 < 2 ^ 64) × (d .closed + 1 < 2 ^ 64) ⌝ }
+    ensures { λ r. ⌜ Behind b d r ⌝ }
 {
-    if b == this {
-        return n + 1;
+    if b == b'(' {
+        return Depth {
+            opened: d.opened + 1,
+            closed: d.closed,
+        };
     }
-    n
+    if b == b')' {
+        return Depth {
+            opened: d.opened,
+            closed: d.closed + 1,
+        };
+    }
+    d
 }
 
 // Whether parentheses opened less closed pass 8 at some byte.
@@ -111,14 +125,14 @@ pub fn too_deep(text: &[u8]) -> bool
     requires { ⌜ length (now text) < 60000 ⌝ }
     ensures { λ r. ⌜ r ≡ deep 0 0 (now (text .entry)) ⌝ }
 {
-    let mut opened = 0usize;
-    let mut closed = 0usize;
+    let mut d = Depth {
+        opened: 0,
+        closed: 0,
+    };
     let mut i = 0usize;
     while i < text.len() {
-        let b = text[i];
-        opened = count_if(b, b'(', opened);
-        closed = count_if(b, b')', closed);
-        if closed + 8 < opened {
+        d = behind(text[i], d);
+        if d.closed + 8 < d.opened {
             return true;
         }
         i = i + 1;

@@ -1,19 +1,17 @@
 -- A tree by the sort of its top node: what the node's words say of the tree, and the trees at its parts' nodes. A function that recurses over
 -- nodes takes from here what its calls require, and that the height falls.
 use mathlib.Core.Path.{_≡_, refl, sym, ap, _∙_, subst}
-use mathlib.Core.Bool.{Bool, true, false}
-use mathlib.Core.List.{List, [], _∷_}
+use mathlib.Core.Bool.{false}
+use mathlib.Core.List.{List}
 use mathlib.Core.Logic.{_⊎_, inl, inr}
-use mathlib.Core.Option.{Option, none, some}
-use Prim.Native.Nat.{ℕ, zero, suc, _+_, _*_, _-_, _≤_, _<_, max, min}
+use Prim.Native.Nat.{ℕ, _+_, _*_, _-_, _≤_, _<_, max, min}
 use native.Mathlib.Omega.{arith}
 use lib.ListN.{length}
-use Rattle.rules.specs.Language.{Form, star, plus, opt, exactly, atLeast, atMost, between, lower, upper, InBounds, Rank, pattern, branch, factor, primary, Tree, one, more, last, next, bare, times, letter, caret, dollar, empty, group}
-use Rattle.rules.specs.Places.{roundPlaces, fork, placeCount}
+use Rattle.rules.specs.Language.{lower, upper, InBounds, pattern, branch, factor, primary, Tree, one, more, last, next, bare, times, letter, caret, dollar, empty, group}
+use Rattle.rules.specs.Places.{roundPlaces, placeCount}
 use Rattle.rules.proofs.Counting.{cap-rounds}
-use Rattle.pattern.specs.Shows.{highest, highOf}
+use Rattle.pattern.specs.Shows.{highOf}
 use Rattle.pattern.specs.Nodes.{nodeAt}
-use Rattle.pattern.specs.declared.nodes.Sort.{Sort}
 use Rattle.pattern.specs.declared.nodes.Sort.the-variants.{Letter, Anchor, Empty, Sequence, Alternation, Group}
 use Rattle.pattern.specs.declared.nodes.Node.{Node}
 use Rattle.pattern.specs.Written.{plain, withMark, nodeCount, height, own, InOrder}
@@ -111,7 +109,8 @@ factor-at s n (times x f z) c e l h =
       fits = l;
     }
 
-seq-at : (s : List ℕ) (n : Node) (f : Tree factor) (b : Tree branch) (c : ℕ) → n ≡ nodeAt s (c + nodeCount f + nodeCount b) → 8 * (c + nodeCount f + nodeCount b + 1) ≤ length s → Held (next f b) c s → SeqAt s n f b
+seq-at : (s : List ℕ) (n : Node) (f : Tree factor) (b : Tree branch) (c : ℕ) → n ≡ nodeAt s (c + nodeCount f + nodeCount b) → 8 * (c + nodeCount f + nodeCount b + 1) ≤ length s
+    → Held (next f b) c s → SeqAt s n f b
 unfolding Held nodeCount
 seq-at s n f b c e l h =
     let q : n ≡ plain Sequence (c + nodeCount f - 1) (c + nodeCount f + nodeCount b - 1) (max (height f) (height b) + 1) (min (placeCount f + placeCount b) 257) = e ∙ h .2 in
@@ -126,7 +125,8 @@ seq-at s n f b c e l h =
       right = record { base = c + nodeCount f; top = omega (arith, factor-nodes f); held = h .1; fits = omega arith };
     }
 
-alt-at : (s : List ℕ) (n : Node) (b : Tree branch) (p : Tree pattern) (c : ℕ) → n ≡ nodeAt s (c + nodeCount b + nodeCount p) → 8 * (c + nodeCount b + nodeCount p + 1) ≤ length s → Held (more b p) c s → AltAt s n b p
+alt-at : (s : List ℕ) (n : Node) (b : Tree branch) (p : Tree pattern) (c : ℕ) → n ≡ nodeAt s (c + nodeCount b + nodeCount p) → 8 * (c + nodeCount b + nodeCount p + 1) ≤ length s
+    → Held (more b p) c s → AltAt s n b p
 unfolding Held nodeCount
 alt-at s n b p c e l h =
     let q : n ≡ plain Alternation (c + nodeCount b - 1) (c + nodeCount b + nodeCount p - 1) (max (height b) (height p) + 1) (min (placeCount b + placeCount p) 257) = e ∙ h .2 in

@@ -1,15 +1,15 @@
 -- What the readers write is held: the room that `written` leaves holds the tree, and holds it as long as its nodes are as they were. So the
 -- room that `read_text` leaves holds the text's tree, with its top at the last node (`text-top`).
-use mathlib.Core.Path.{_≡_, refl, sym, ap, _∙_, subst}
-use mathlib.Core.List.{List, [], _∷_}
-use mathlib.Core.Option.{Option, some}
-use Prim.Native.Nat.{ℕ, zero, suc, _+_, _*_, _-_, _≤_, _<_, max, min}
+use mathlib.Core.Path.{_≡_, refl, _∙_, subst}
+use mathlib.Core.List.{List}
+use mathlib.Core.Option.{some}
+use Prim.Native.Nat.{ℕ, _+_, _*_, _-_, _≤_, _<_, max, min}
 use native.Mathlib.Omega.{arith}
 use lib.ListN.{length}
-use Rattle.rules.specs.Language.{Form, InBounds, Rank, pattern, branch, factor, primary, Tree, one, more, last, next, bare, times, letter, caret, dollar, empty, group}
+use Rattle.rules.specs.Language.{Rank, pattern, branch, factor, primary, Tree, one, more, last, next, bare, times, letter, caret, dollar, empty, group}
 use Rattle.rules.specs.Places.{placeCount}
 use Rattle.pattern.specs.Nodes.{nodeAt, putNode}
-use Rattle.pattern.specs.declared.nodes.Sort.the-variants.{Letter, Anchor, Empty, Sequence, Alternation, Group}
+use Rattle.pattern.specs.declared.nodes.Sort.the-variants.{Sequence, Alternation}
 use Rattle.pattern.specs.declared.nodes.Node.{Node}
 use Rattle.pattern.specs.Written.{plain, withMark, nodeCount, height, own, written, Fits, Parsed, ParsedAs, TextSays}
 use Rattle.pattern.specs.Held.{Held, Top}
@@ -53,9 +53,11 @@ written-length (group p) c s = written-length p c s
 written-below : {k : Rank} (t : Tree k) (c : ℕ) (s : List ℕ) (j : ℕ) → j < c → nodeAt (written t c s) j ≡ nodeAt s j
 unfolding written
 written-below (one b) c s j h = written-below b c s j h
-written-below (more b p) c s j h = node-other _ (c + nodeCount b + nodeCount p) j _ (λ e. omega arith) ∙ written-below p (c + nodeCount b) (written b c s) j (omega arith) ∙ written-below b c s j h
+written-below (more b p) c s j h = node-other _ (c + nodeCount b + nodeCount p) j _ (λ e. omega arith) ∙ written-below p (c + nodeCount b) (written b c s) j (omega arith)
+    ∙ written-below b c s j h
 written-below (last f) c s j h = written-below f c s j h
-written-below (next f b) c s j h = node-other _ (c + nodeCount f + nodeCount b) j _ (λ e. omega arith) ∙ written-below b (c + nodeCount f) (written f c s) j (omega arith) ∙ written-below f c s j h
+written-below (next f b) c s j h = node-other _ (c + nodeCount f + nodeCount b) j _ (λ e. omega arith) ∙ written-below b (c + nodeCount f) (written f c s) j (omega arith)
+    ∙ written-below f c s j h
 written-below (bare x) c s j h = node-other _ (c + nodeCount x) j _ (λ e. omega arith) ∙ written-below x c s j h
 written-below (times x f z) c s j h = node-other _ (c + nodeCount x) j _ (λ e. omega arith) ∙ written-below x c s j h
 written-below (letter b) c s j h = refl
@@ -68,11 +70,19 @@ written-below (group p) c s j h = written-below p c s j h
 pub held-same : {k : Rank} (t : Tree k) (c : ℕ) (s u : List ℕ) → ((j : ℕ) → c ≤ j → j < c + nodeCount t → nodeAt u j ≡ nodeAt s j) → Held t c s → Held t c u
 unfolding Held nodeCount
 held-same (one b) c s u f h = held-same b c s u f h
-held-same (more b p) c s u f h =
-    (held-same b c s u (λ j l g. f j l (omega arith)) (h .0), held-same p (c + nodeCount b) s u (λ j l g. f j (omega arith) (omega arith)) (h .1), f (c + nodeCount b + nodeCount p) (omega arith) (omega arith) ∙ h .2)
+held-same (more b p) c s u f h = (
+  held-same b c s u (λ j l g. f j l (omega arith)) (h .0),
+  held-same p (c + nodeCount b) s u (λ j l g. f j (omega arith) (omega arith)) (h .1),
+  f
+      (c + nodeCount b + nodeCount p) (omega arith) (omega arith) ∙ h .2,
+)
 held-same (last x) c s u f h = held-same x c s u f h
-held-same (next x b) c s u f h =
-    (held-same x c s u (λ j l g. f j l (omega arith)) (h .0), held-same b (c + nodeCount x) s u (λ j l g. f j (omega arith) (omega arith)) (h .1), f (c + nodeCount x + nodeCount b) (omega arith) (omega arith) ∙ h .2)
+held-same (next x b) c s u f h = (
+  held-same x c s u (λ j l g. f j l (omega arith)) (h .0),
+  held-same b (c + nodeCount x) s u (λ j l g. f j (omega arith) (omega arith)) (h .1),
+  f
+      (c + nodeCount x + nodeCount b) (omega arith) (omega arith) ∙ h .2,
+)
 held-same (bare x) c s u f h = (held-same x c s u (λ j l g. f j l (omega arith)) (h .0), f (c + nodeCount x) (omega arith) (omega arith) ∙ h .1)
 held-same (times x m z) c s u f h = (held-same x c s u (λ j l g. f j l (omega arith)) (h .0), h .1, f (c + nodeCount x) (omega arith) (omega arith) ∙ h .2)
 held-same (letter b) c s u f h = tt
@@ -96,7 +106,8 @@ written-held (more b p) c s h d l =
     let u = written b c s in
     let v = written p (c + nodeCount b) u in
     let n : Node = plain Alternation (c + nodeCount b - 1) (c + nodeCount b + nodeCount p - 1) (max (height b) (height p) + 1) (min (placeCount b + placeCount p) 257) in (
-      held-same b c u (putNode v (c + nodeCount b + nodeCount p) n) (λ j a e2. node-other v (c + nodeCount b + nodeCount p) j n (λ e. omega arith) ∙ written-below p (c + nodeCount b) u j e2) (written-held b c s (h .0) (d .0) (omega arith)),
+      held-same b c u (putNode v (c + nodeCount b + nodeCount p) n) (λ j a e2. node-other v (c + nodeCount b + nodeCount p) j n (λ e. omega arith)
+          ∙ written-below p (c + nodeCount b) u j e2) (written-held b c s (h .0) (d .0) (omega arith)),
       held-same p (c + nodeCount b) v (putNode v (c + nodeCount b + nodeCount p) n) (λ j a e2. node-other v (c + nodeCount b + nodeCount p) j n (λ e. omega arith))
           (written-held p (c + nodeCount b) u (h .1) (d .1) (omega (arith, written-length b c s))),
       read-put v (c + nodeCount b + nodeCount p) n (omega (arith, written-length p (c + nodeCount b) u, written-length b c s)) tt,
@@ -106,7 +117,8 @@ written-held (next b p) c s h d l =
     let u = written b c s in
     let v = written p (c + nodeCount b) u in
     let n : Node = plain Sequence (c + nodeCount b - 1) (c + nodeCount b + nodeCount p - 1) (max (height b) (height p) + 1) (min (placeCount b + placeCount p) 257) in (
-      held-same b c u (putNode v (c + nodeCount b + nodeCount p) n) (λ j a e2. node-other v (c + nodeCount b + nodeCount p) j n (λ e. omega arith) ∙ written-below p (c + nodeCount b) u j e2) (written-held b c s (h .0) (d .0) (omega arith)),
+      held-same b c u (putNode v (c + nodeCount b + nodeCount p) n) (λ j a e2. node-other v (c + nodeCount b + nodeCount p) j n (λ e. omega arith)
+          ∙ written-below p (c + nodeCount b) u j e2) (written-held b c s (h .0) (d .0) (omega arith)),
       held-same p (c + nodeCount b) v (putNode v (c + nodeCount b + nodeCount p) n) (λ j a e2. node-other v (c + nodeCount b + nodeCount p) j n (λ e. omega arith))
           (written-held p (c + nodeCount b) u (h .1) (d .1) (omega (arith, written-length b c s))),
       read-put v (c + nodeCount b + nodeCount p) n (omega (arith, written-length p (c + nodeCount b) u, written-length b c s)) tt,

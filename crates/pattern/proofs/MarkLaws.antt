@@ -1,20 +1,20 @@
 -- Laws of a text's bytes and quantifiers: each is one way through one function of the module marks.
-use mathlib.Core.Path.{_≡_, refl, sym, ap, _∙_, subst}
+use mathlib.Core.Path.{_≡_, refl, sym, ap, _∙_}
 use mathlib.Core.Bool.{Bool, true, false, true≢false}
 use mathlib.Core.List.{List, [], _∷_}
-use mathlib.Core.Option.{Option, none, some}
-use Prim.Native.Nat.{ℕ, zero, suc, _+_, _*_, _-_, _≤_, _<_}
+use mathlib.Core.Option.{none}
+use Prim.Native.Nat.{ℕ, suc, _+_, _*_, _-_, _≤_, _<_}
 use native.Mathlib.Omega.{arith}
 use native.Mathlib.Decide.{decLt}
 use lib.Dec.{eqb, leb}
-use lib.ListN.{length, getD, drop, drop-of-length-le, length-drop}
+use lib.ListN.{length, getD, drop, drop-of-length-le}
 use lib.Seq.{drop-cons}
-use borrow.Author.Tests.{le-leb, lt-leb, eq-eqb, ne-eqb, leb-true, leb-false}
+use borrow.Author.Tests.{le-leb, lt-leb, eq-eqb, ne-eqb}
 use Rattle.rules.specs.Basics.{pick, isLetter}
 use Rattle.rules.specs.Language.{Form, star, plus, opt, exactly, atLeast, atMost, between, lower, upper}
 use Rattle.rules.specs.Reader.{Reading, got, bad, peek, rest, skip, isDigit, number, bounded, Marked, unmarked, broken, marked, reluctant, shut, upTo, from, braces, quantifier}
 use Rattle.rules.proofs.GrammarSound.{in-range}
-use Rattle.pattern.specs.Shows.{codeOf, highest, highOf, Codes, boundedBy, Numbered, SaysNumber, Numeral, ShowsMark, Shows}
+use Rattle.pattern.specs.Shows.{codeOf, highest, highOf, Codes, boundedBy, SaysNumber, Numeral, Shows}
 use Rattle.pattern.specs.declared.marks.Mark.{Mark}
 use Rattle.pattern.specs.declared.marks.Mark.the-variants.{Unmarked, Broken, Found}
 use Rattle.pattern.specs.declared.marks.Value.{Value}
@@ -62,7 +62,8 @@ module _ (s : List ℕ) (at : ℕ) where
     unfolding skip
     skip-more h eb e =
         let l = inside s to 32 (omega arith) (sym eb ∙ e) in
-        let q : drop to s ≡ 32 ∷ drop (to + 1) s = drop-cons s to 0 l ∙ ap (λ (x : ℕ). x ∷ drop (suc to) s) (byte s to l ∙ sym eb ∙ e) ∙ ap (λ (k : ℕ). 32 ∷ drop k s) (let i : suc to ≡ to + 1 = omega arith in i) in
+        let q : drop to s ≡ 32 ∷ drop (to + 1) s = drop-cons s to 0 l ∙ ap (λ (x : ℕ). x ∷ drop (suc to) s) (byte s to l ∙ sym eb ∙ e)
+        ∙ ap (λ (k : ℕ). 32 ∷ drop k s) (let i : suc to ≡ to + 1 = omega arith in i) in
         record { same = h .same ∙ ap skip q; on = omega (arith, h .on); in-text = omega arith }
 
     pub skip-all : Skipped s at to → b ≡ peek (drop to s) → (b ≡ 32 → ⊥) → (drop to s ≡ skip (drop at s)) × (at ≤ to) × (to ≤ length s)
@@ -133,7 +134,8 @@ module _ (s : List ℕ) (at b : ℕ) (d : Bool) (eb : b ≡ peek (drop at s)) (e
         let l = digits-from b b d ed i refl in let h = digits-to b d ed i in
         let l2 = digits-from c c e ee j refl in let h2 = digits-to c e ee j in
         let n = inside s (at + 1) c (omega arith) (sym ec) in
-        let q : rest (rest (drop at s)) ≡ drop (at + 2) s = ap rest (rest-drop s at) ∙ rest-drop s (at + 1) ∙ ap (λ (k : ℕ). drop k s) (let k : at + 1 + 1 ≡ at + 2 = omega arith in k) in
+        let q : rest (rest (drop at s)) ≡ drop (at + 2) s = ap rest (rest-drop s at) ∙ rest-drop s (at + 1)
+        ∙ ap (λ (k : ℕ). drop k s) (let k : at + 1 + 1 ≡ at + 2 = omega arith in k) in
         let p : peek (rest (drop at s)) ≡ c = ap peek (rest-drop s at) ∙ sym ec in
         record {
           says = simp (first ∙ i, second ∙ j, ne-eqb (peek (drop at s)) 48 (λ x. z (eb ∙ x)))
@@ -295,15 +297,18 @@ module _ (s : List ℕ) (at b : ℕ) (eb : b ≡ peek (drop at s)) where
 
   pub mark-plus : (r : Mark) → b ≡ 43 → Reluct s (at + 1) 2 1 100 r → Shows s at r (quantifier (drop at s))
   unfolding quantifier codeOf lower highOf highest upper
-  mark-plus r e g = simp (is-ne 42 (λ x. omega arith), is-eq 43 e, rest-drop s at) (weaken s at (at + 1) r _ (omega arith) (g plus (record { code = refl; from = refl; upto = refl })))
+  mark-plus r e g = simp (is-ne 42 (λ x. omega arith), is-eq 43 e, rest-drop s at) (weaken s at (at + 1) r _ (omega arith)
+      (g plus (record { code = refl; from = refl; upto = refl })))
 
   pub mark-opt : (r : Mark) → b ≡ 63 → Reluct s (at + 1) 3 0 1 r → Shows s at r (quantifier (drop at s))
   unfolding quantifier codeOf lower highOf highest upper
-  mark-opt r e g = simp (is-ne 42 (λ x. omega arith), is-ne 43 (λ x. omega arith), is-eq 63 e, rest-drop s at) (weaken s at (at + 1) r _ (omega arith) (g opt (record { code = refl; from = refl; upto = refl })))
+  mark-opt r e g = simp (is-ne 42 (λ x. omega arith), is-ne 43 (λ x. omega arith), is-eq 63 e, rest-drop s at)
+      (weaken s at (at + 1) r _ (omega arith) (g opt (record { code = refl; from = refl; upto = refl })))
 
   pub mark-braces : (r : Mark) → b ≡ 123 → Shows s (at + 1) r (braces (drop (at + 1) s)) → Shows s at r (quantifier (drop at s))
   unfolding quantifier
-  mark-braces r e g = simp (is-ne 42 (λ x. omega arith), is-ne 43 (λ x. omega arith), is-ne 63 (λ x. omega arith), is-eq 123 e, rest-drop s at) (weaken s at (at + 1) r _ (omega arith) g)
+  mark-braces r e g = simp (is-ne 42 (λ x. omega arith), is-ne 43 (λ x. omega arith), is-ne 63 (λ x. omega arith), is-eq 123 e, rest-drop s at)
+      (weaken s at (at + 1) r _ (omega arith) g)
 
   pub mark-none : (b ≡ 42 → ⊥) → (b ≡ 43 → ⊥) → (b ≡ 63 → ⊥) → (b ≡ 123 → ⊥) → Shows s at Unmarked (quantifier (drop at s))
   unfolding quantifier Shows

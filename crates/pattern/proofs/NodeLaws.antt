@@ -1,12 +1,10 @@
 -- Laws of the module nodes: a word's sort, a node read, a node put.
-use mathlib.Core.Path.{_≡_, refl, sym, ap, _∙_}
-use mathlib.Core.Bool.{Bool, true, false}
+use mathlib.Core.Path.{_≡_, refl}
 use mathlib.Core.List.{List}
 use Prim.Native.Nat.{ℕ, _+_, _*_, _/_, _%_}
 use lib.Dec.{eqb}
 use lib.ListN.{getD, set}
-use borrow.Author.Tests.{eq-eqb, ne-eqb}
-use Rattle.rules.specs.Basics.{pick}
+use borrow.Author.Tests.{ne-eqb}
 use Rattle.pattern.specs.Nodes.{nodeAt, putNode, sortOf, wordOf, bitOf}
 use Rattle.pattern.specs.declared.nodes.Sort.{Sort}
 use Rattle.pattern.specs.declared.nodes.Sort.the-variants.{Letter, Anchor, Empty, Sequence, Alternation, Group}
@@ -37,7 +35,8 @@ module _ (w : ℕ) where
   unfolding sortOf
   sort-group a b c d e = simp (ne-eqb _ _ a, ne-eqb _ _ b, ne-eqb _ _ c, ne-eqb _ _ d, ne-eqb _ _ e)
 
-pub node-read : (s : List ℕ) (i : ℕ) (k : Sort) (f a b c d h p : ℕ) → k ≡ sortOf (getD s (i * 8) 0) → f ≡ getD s (i * 8 + 1) 0 / 2 → a ≡ getD s (i * 8 + 2) 0 → b ≡ getD s (i * 8 + 3) 0 → c ≡ getD s (i * 8 + 4) 0
+pub node-read : (s : List ℕ) (i : ℕ) (k : Sort) (f a b c d h p : ℕ) → k ≡ sortOf (getD s (i * 8) 0) → f ≡ getD s (i * 8 + 1) 0 / 2 → a ≡ getD s (i * 8 + 2) 0
+    → b ≡ getD s (i * 8 + 3) 0 → c ≡ getD s (i * 8 + 4) 0
     → d ≡ getD s (i * 8 + 5) 0 → h ≡ getD s (i * 8 + 6) 0 → p ≡ getD s (i * 8 + 7) 0
     → _≡_ {A = Node} (record { sort = k; form = f; lazy = eqb (getD s (i * 8 + 1) 0 % 2) 1; low = a; high = b; left = c; right = d; height = h; places = p }) (nodeAt s i)
 unfolding nodeAt
@@ -52,6 +51,7 @@ unfolding nodeAt
 places-read s i p e = e
 
 pub put-is : (s : List ℕ) (i w z : ℕ) (n : Node) → w ≡ wordOf (n .sort) → z ≡ n .form * 2 + bitOf (n .lazy)
-    → set (set (set (set (set (set (set (set s (i * 8) w) (i * 8 + 1) z) (i * 8 + 2) (n .low)) (i * 8 + 3) (n .high)) (i * 8 + 4) (n .left)) (i * 8 + 5) (n .right)) (i * 8 + 6) (n .height)) (i * 8 + 7) (n .places) ≡ putNode s i n
+    → set (set (set (set (set (set (set (set s (i * 8) w) (i * 8 + 1) z) (i * 8 + 2) (n .low)) (i * 8 + 3) (n .high)) (i * 8 + 4) (n .left)) (i * 8 + 5) (n .right)) (i * 8 + 6)
+    (n .height)) (i * 8 + 7) (n .places) ≡ putNode s i n
 unfolding putNode
 put-is s i w z n e g = rw (e, g)

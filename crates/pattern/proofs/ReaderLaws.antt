@@ -1,9 +1,9 @@
 -- Laws of the four readers: each is one way through one reader.
 use mathlib.Core.Path.{_≡_, refl, sym, ap, _∙_, subst}
 use mathlib.Core.Bool.{Bool, true, false, true≢false, false≢true}
-use mathlib.Core.List.{List, [], _∷_}
-use mathlib.Core.Option.{Option, none, some}
-use Prim.Native.Nat.{ℕ, zero, suc, _+_, _*_, _-_, _≤_, _<_, _^_, max, min}
+use mathlib.Core.List.{List, []}
+use mathlib.Core.Option.{some}
+use Prim.Native.Nat.{ℕ, zero, suc, _+_, _*_, _-_, _≤_, _<_, max, min}
 use native.Mathlib.Omega.{arith}
 use mir.Val.{Fits as Fits-in}
 use mir.Syntax.{w64}
@@ -11,11 +11,11 @@ use lib.Dec.{eqb}
 use lib.ListN.{length, getD, drop, length-drop}
 use lib.Seq.{drop-length, drop-cons}
 use borrow.Author.Tests.{eq-eqb, ne-eqb, eqb-true, eqb-false}
-use Rattle.rules.specs.Basics.{pick, isLetter}
+use Rattle.rules.specs.Basics.{isLetter}
 use Rattle.rules.specs.Places.{roundPlaces, fork, placeCount}
 use Rattle.rules.specs.Language.{Form, star, plus, opt, exactly, atLeast, atMost, between, lower, upper, InBounds, Rank, pattern, branch, factor, primary, Tree, one, more, last, next, bare, times, letter, caret, dollar, empty, group}
 use Rattle.rules.specs.Reader.{Reading, got, bad, peek, rest, skip, Marked, unmarked, broken, marked, quantifier, ended, under, altOn, altWith, seqOn, seqWith, timesOn, timesWith, closed, parted, simple, primaryOn, read, rankOf, depth, whole, treeOf}
-use Rattle.pattern.specs.Shows.{codeOf, highest, highOf, ShowsMark, Shows}
+use Rattle.pattern.specs.Shows.{codeOf, highest, highOf, Shows}
 use Rattle.pattern.specs.declared.marks.Mark.{Mark}
 use Rattle.pattern.specs.declared.marks.Mark.the-variants.{Unmarked, Broken, Found}
 use Rattle.pattern.proofs.MarkLaws.{inside, rest-drop}
@@ -27,7 +27,7 @@ use Rattle.pattern.proofs.Put.{put-other, put-length}
 use Rattle.pattern.specs.declared.nodes.Sort.{Sort}
 use Rattle.pattern.specs.declared.nodes.Sort.the-variants.{Letter, Anchor, Empty, Sequence, Alternation, Group}
 use Rattle.pattern.specs.declared.nodes.Node.{Node}
-use Rattle.pattern.specs.Written.{plain, withMark, nodeCount, height, own, written, forkOf, roundsOf, InOrder, Kept, Fits, Done, Says, On, Reads, HeadDone, SaysHead, Wrote, HeadOn, SimpleSays, ReadsHead, Holding, FitsHead, stepTo, FinishedMark, FinishedAs, Finished, Joins, Joined, SkipTo, EmptyIs, ShutNeeds, Shut, ShutIs, Parsed, ParsedAs, TextSays}
+use Rattle.pattern.specs.Written.{plain, withMark, nodeCount, height, own, written, forkOf, roundsOf, InOrder, Kept, Fits, Says, On, Reads, SaysHead, Wrote, HeadOn, SimpleSays, ReadsHead, Holding, FitsHead, stepTo, FinishedMark, FinishedAs, Finished, Joins, Joined, SkipTo, EmptyIs, ShutNeeds, Shut, ShutIs, ParsedAs, TextSays}
 use Rattle.pattern.specs.declared.Step.{Step}
 use Rattle.pattern.specs.declared.Head.{Head}
 
@@ -55,9 +55,19 @@ kept-put s t i n e j f = ap (λ (u : List ℕ). getD u j 0) e ∙ put-other s i 
 pub join-small : (m : List ℕ) (a b : Step) (k : Sort) (h q : ℕ) (n : Node) → Joins m a b → h ≡ max (a .height) (b .height) → q ≡ min (a .places + b .places) 257
     → n ≡ plain k (a .count - 1) (b .count - 1) (h + 1) q → Small n
 join-small m a b k h q n j eh eq en =
-    rw en (record { form = omega arith; low = omega arith; high = omega arith; left = omega (arith, j .right, j .few); right = omega (arith, j .few); height = omega (arith, j .low-left, j .low-right); places = omega arith })
+    rw en (record {
+      form = omega arith;
+      low = omega arith;
+      high = omega arith;
+      left = omega (arith, j .right, j .few);
+      right = omega (arith, j .few);
+      height = omega
+          (arith, j .low-left, j .low-right);
+      places = omega arith;
+    })
 
-pub join-is : (m t : List ℕ) (a b : Step) (k : Sort) (f h q : ℕ) (n : Node) → h ≡ max (a .height) (b .height) → q ≡ min (a .places + b .places) 257 → n ≡ plain k (a .count - 1) (b .count - 1) (h + 1) q
+pub join-is : (m t : List ℕ) (a b : Step) (k : Sort) (f h q : ℕ) (n : Node) → h ≡ max (a .height) (b .height) → q ≡ min (a .places + b .places) 257
+    → n ≡ plain k (a .count - 1) (b .count - 1) (h + 1) q
     → t ≡ putNode m (b .count) n → Joined m t k f a b (record { ok = true; at = b .at; count = b .count + 1; height = h + 1; places = q; forks = f })
 join-is m t a b k f h q n eh eq en et = record { is = rw (eh, eq) refl; wrote = et ∙ ap (putNode m (b .count)) (en ∙ rw (eh, eq) refl) }
 
@@ -74,7 +84,8 @@ form-small (atMost m) i = (omega arith, omega arith, omega (arith, i .1))
 form-small (between n m) i = (omega arith, omega (arith, i .1, i .2), omega (arith, i .2))
 
 module _ (s m : List ℕ) (p : Head) (q : Mark) where
-  pub finish-none : (t : List ℕ) (r : Step) → Shows s (p .at) q (quantifier (drop (p .at) s)) → q ≡ Unmarked → (r ≡ stepTo (p .at) p (p .node .places)) × (t ≡ putNode m (p .count) (p .node)) → Finished s m t p r
+  pub finish-none : (t : List ℕ) (r : Step) → Shows s (p .at) q (quantifier (drop (p .at) s)) → q ≡ Unmarked
+      → (r ≡ stepTo (p .at) p (p .node .places)) × (t ≡ putNode m (p .count) (p .node)) → Finished s m t p r
   unfolding Shows FinishedAs
   finish-none t r h e g = record { ends = by (quantifier (drop (p .at) s)) h }
     where
@@ -94,10 +105,33 @@ module _ (s m : List ℕ) (p : Head) (q : Mark) where
 
   module _ (form low high to q2 : ℕ) (lazy : Bool) where
     abbrev Marking : Node
-    Marking = record { sort = p .node .sort; form = form; lazy = lazy; low = low; high = high; left = p .node .left; right = p .node .right; height = p .node .height; places = q2 }
+    Marking = record {
+      sort = p .node .sort;
+      form = form;
+      lazy = lazy;
+      low = low;
+      high = high;
+      left = p .node .left;
+      right = p .node .right;
+      height = p .node .height;
+      places =
+          q2;
+    }
 
-    pub finish-found : (t : List ℕ) (r : Step) → q2 ≡ min (roundsOf low high (p .node .places)) 257 → Shows s (p .at) q (quantifier (drop (p .at) s)) → q ≡ Found form low high lazy to
-        → (r ≡ stepTo to p q2) × (t ≡ putNode m (p .count) (record { sort = p .node .sort; form = form; lazy = lazy; low = low; high = high; left = p .node .left; right = p .node .right; height = p .node .height; places = q2 })) → Finished s m t p r
+    pub finish-found : (t : List ℕ) (r : Step) → q2 ≡ min (roundsOf low high (p .node .places)) 257 → Shows s (p .at) q (quantifier (drop (p .at) s))
+        → q ≡ Found form low high lazy to
+        → (r ≡ stepTo to p q2) × (t ≡ putNode m (p .count) (record {
+          sort = p .node .sort;
+          form = form;
+          lazy = lazy;
+          low = low;
+          high = high;
+          left = p .node .left;
+          right = p
+              .node .right;
+          height = p .node .height;
+          places = q2;
+        })) → Finished s m t p r
     unfolding Shows FinishedAs
     finish-found t r eq h e g = record { ends = by (quantifier (drop (p .at) s)) refl h }
       where
@@ -124,7 +158,18 @@ module _ (s m : List ℕ) (p : Head) (q : Mark) where
             }
 
     pub mark-holding : q2 ≡ min (roundsOf low high (p .node .places)) 257 → FitsHead s m p → Shows s (p .at) q (quantifier (drop (p .at) s)) → q ≡ Found form low high lazy to
-        → Holding m (p .count) (record { sort = p .node .sort; form = form; lazy = lazy; low = low; high = high; left = p .node .left; right = p .node .right; height = p .node .height; places = q2 })
+        → Holding m (p .count) (record {
+          sort = p .node .sort;
+          form = form;
+          lazy = lazy;
+          low = low;
+          high = high;
+          left = p .node .left;
+          right = p .node .right;
+          height = p .node
+              .height;
+          places = q2;
+        })
     unfolding Shows
     mark-holding eq w h e = by (quantifier (drop (p .at) s)) refl h
       where
@@ -141,7 +186,16 @@ module _ (s m : List ℕ) (p : Head) (q : Mark) where
             record {
               fits = w .holding .fits;
               few = w .holding .few;
-              small = record { form = omega (arith, g .0); low = omega (arith, g .1); high = omega (arith, g .2); left = k .left; right = k .right; height = k .height; places = omega arith };
+              small = record {
+                form = omega (arith, g .0);
+                low = omega (arith, g .1);
+                high = omega (arith, g .2);
+                left = k .left;
+                right = k .right;
+                height = k .height;
+                places =
+                    omega arith;
+              };
             }
 
   pub mark-order : (form low high to : ℕ) (lazy : Bool) → Shows s (p .at) q (quantifier (drop (p .at) s)) → q ≡ Found form low high lazy to → InOrder low high
@@ -159,7 +213,8 @@ module _ (s m : List ℕ) (p : Head) (q : Mark) where
 
 -- ---- letters and anchors
 
-leaf-on : (s : List ℕ) (at c to : ℕ) (k : Sort) (w : ℕ) (n : Node) → w ≤ 1 → at + 1 ≤ to → to ≤ length s → n ≡ plain k 0 0 0 w → HeadOn s at c (record { ok = true; at = to; count = c; node = n })
+leaf-on : (s : List ℕ) (at c to : ℕ) (k : Sort) (w : ℕ) (n : Node) → w ≤ 1 → at + 1 ≤ to → to ≤ length s → n ≡ plain k 0 0 0 w
+    → HeadOn s at c (record { ok = true; at = to; count = c; node = n })
 leaf-on s at c to k w n hw h l e =
     record {
       on = omega arith;
@@ -182,19 +237,42 @@ module _ (s : List ℕ) (at c b : ℕ) (eb : b ≡ peek (drop at s)) where
     pub simple-caret : b ≡ 94 → SkipTo s (at + 1) to → n ≡ plain (Anchor b) 0 0 0 1 → SimpleSays s at c (record { ok = true; at = to; count = c; node = n })
     unfolding simple SaysHead nodeCount own
     simple-caret e k en =
-        record { says = simp (is-eq 94 e) (record { ok = refl; rest = ap skip (rest-drop s at) ∙ sym (k .0); count = omega arith; node = en ∙ ap (λ (x : ℕ). plain (Anchor x) 0 0 0 1) e }); on = λ o. leaf-on s at c to (Anchor b) 1 n (omega arith) (k .1) (k .2) en }
+        record {
+          says = simp (is-eq 94 e) (record {
+            ok = refl;
+            rest = ap skip (rest-drop s at) ∙ sym (k .0);
+            count = omega arith;
+            node = en
+                ∙ ap (λ (x : ℕ). plain (Anchor x) 0 0 0 1) e;
+          });
+          on = λ o. leaf-on s at c to (Anchor b) 1 n (omega arith) (k .1) (k .2) en;
+        }
 
     pub simple-dollar : b ≡ 36 → SkipTo s (at + 1) to → n ≡ plain (Anchor b) 0 0 0 1 → SimpleSays s at c (record { ok = true; at = to; count = c; node = n })
     unfolding simple SaysHead nodeCount own
     simple-dollar e k en =
-        record { says = simp (is-ne 94 (λ x. omega arith), is-eq 36 e) (record { ok = refl; rest = ap skip (rest-drop s at) ∙ sym (k .0); count = omega arith; node = en ∙ ap (λ (x : ℕ). plain (Anchor x) 0 0 0 1) e }); on = λ o. leaf-on s at c to (Anchor b) 1 n (omega arith) (k .1) (k .2) en }
+        record {
+          says = simp (is-ne 94 (λ x. omega arith), is-eq 36 e) (record {
+            ok = refl;
+            rest = ap skip (rest-drop s at) ∙ sym (k .0);
+            count = omega arith;
+            node = en
+                ∙ ap (λ (x : ℕ). plain (Anchor x) 0 0 0 1) e;
+          });
+          on = λ o. leaf-on s at c to (Anchor b) 1 n (omega arith) (k .1) (k .2) en;
+        }
 
     pub simple-letter : (t u : Bool) (d : ℕ) → (b ≡ 94 → ⊥) → (b ≡ 36 → ⊥) → t ≡ isLetter b → t ≡ true → d ≡ peek (drop (at + 1) s) → u ≡ isLetter d → u ≡ false
         → SkipTo s (at + 1) to → n ≡ plain (Letter b) 0 0 0 1 → SimpleSays s at c (record { ok = true; at = to; count = c; node = n })
     unfolding simple SaysHead nodeCount own
     simple-letter t u d e1 e2 et ot ed eu ou k en =
         record {
-          says = simp (is-ne 94 e1, is-ne 36 e2, (let z : isLetter (peek (drop at s)) ≡ true = ap isLetter (sym eb) ∙ sym et ∙ ot in z), (let z : isLetter (peek (rest (drop at s))) ≡ false = ap (λ (x : List ℕ). isLetter (peek x)) (rest-drop s at) ∙ ap isLetter (sym ed) ∙ sym eu ∙ ou in z))
+          says = simp (
+            is-ne 94 e1,
+            is-ne 36 e2,
+            (let z : isLetter (peek (drop at s)) ≡ true = ap isLetter (sym eb) ∙ sym et ∙ ot in z),
+            (let z : isLetter (peek (rest (drop at s))) ≡ false = ap (λ (x : List ℕ). isLetter (peek x)) (rest-drop s at) ∙ ap isLetter (sym ed) ∙ sym eu ∙ ou in z),
+          )
               (record { ok = refl; rest = ap skip (rest-drop s at) ∙ sym (k .0); count = omega arith; node = en ∙ ap (λ (x : ℕ). plain (Letter x) 0 0 0 1) eb });
           on = λ o. leaf-on s at c to (Letter b) 1 n (omega arith) (k .1) (k .2) en;
         }
@@ -204,10 +282,20 @@ module _ (s : List ℕ) (at c b : ℕ) (eb : b ≡ peek (drop at s)) where
   simple-other r t e1 e2 et ot er =
       record { says = simp (is-ne 94 e1, is-ne 36 e2, (let z : isLetter (peek (drop at s)) ≡ false = ap isLetter (sym eb) ∙ sym et ∙ ot in z)) er; on = λ o. clash o er }
 
-  pub simple-touch : (r : Head) (t u : Bool) (d : ℕ) → (b ≡ 94 → ⊥) → (b ≡ 36 → ⊥) → t ≡ isLetter b → t ≡ true → d ≡ peek (drop (at + 1) s) → u ≡ isLetter d → u ≡ true → r .ok ≡ false → SimpleSays s at c r
+  pub simple-touch : (r : Head) (t u : Bool) (d : ℕ) → (b ≡ 94 → ⊥) → (b ≡ 36 → ⊥) → t ≡ isLetter b → t ≡ true → d ≡ peek (drop (at + 1) s) → u ≡ isLetter d → u ≡ true
+      → r .ok ≡ false → SimpleSays s at c r
   unfolding simple SaysHead
   simple-touch r t u d e1 e2 et ot ed eu ou er =
-      record { says = simp (is-ne 94 e1, is-ne 36 e2, (let z : isLetter (peek (drop at s)) ≡ true = ap isLetter (sym eb) ∙ sym et ∙ ot in z), (let z : isLetter (peek (rest (drop at s))) ≡ true = ap (λ (x : List ℕ). isLetter (peek x)) (rest-drop s at) ∙ ap isLetter (sym ed) ∙ sym eu ∙ ou in z)) er; on = λ o. clash o er }
+      record {
+        says = simp (
+          is-ne 94 e1,
+          is-ne 36 e2,
+          (let z : isLetter (peek (drop at s)) ≡ true = ap isLetter (sym eb) ∙ sym et ∙ ot in z),
+          (let z : isLetter (peek (rest (drop at s))) ≡ true = ap (λ (x : List ℕ). isLetter (peek x)) (rest-drop s at) ∙ ap isLetter (sym ed) ∙ sym eu ∙ ou in z),
+        ) er;
+        on = λ o.
+            clash o er;
+      }
 
   pub letter-next : (t : Bool) → t ≡ isLetter b → t ≡ true → at + 1 ≤ length s
   unfolding isLetter
@@ -246,7 +334,8 @@ module _ (s : List ℕ) (p : Step) where
     pub shut-open : (r : Head) → (b ≡ 41 → ⊥) → r .ok ≡ false → ShutIs s p r
     shut-open r nb er = record { unread = λ x. er; open-still = λ x y. er; shuts = λ x y. absurd (nb (eb ∙ y)) }
 
-    pub shut-whole : (to q : ℕ) (n : Node) → b ≡ 41 → SkipTo s (p .at + 1) to → q ≡ min (p .forks + p .places) 257 → n ≡ plain Group (p .count - 1) 0 (p .height + 1) q → ShutIs s p (record { ok = true; at = to; count = p .count; node = n })
+    pub shut-whole : (to q : ℕ) (n : Node) → b ≡ 41 → SkipTo s (p .at + 1) to → q ≡ min (p .forks + p .places) 257 → n ≡ plain Group (p .count - 1) 0 (p .height + 1) q
+        → ShutIs s p (record { ok = true; at = to; count = p .count; node = n })
     shut-whole to q n eb2 k eq en =
         record { unread = λ x. clash o x; open-still = λ x y. absurd (y (sym eb ∙ eb2)); shuts = λ x y. record { to = to; skips = k; is = rw (en, eq) refl } }
 
@@ -312,7 +401,8 @@ a-reading k s at c m t r e o kp l f =
     }
 
 -- the room of a later reader lies in the room
-later : (s : List ℕ) (at c to d : ℕ) (m t : List ℕ) → at ≤ to → to ≤ length s → c ≤ d → d ≤ c + 2 * (to - at) → Kept (8 * d) (room-of s to d) m t → Kept (8 * c) (room-of s at c) m t
+later : (s : List ℕ) (at c to d : ℕ) (m t : List ℕ) → at ≤ to → to ≤ length s → c ≤ d → d ≤ c + 2 * (to - at) → Kept (8 * d) (room-of s to d) m t
+    → Kept (8 * c) (room-of s at c) m t
 later s at c to d m t h l g e k = kept-wide (8 * d) (room-of s to d) (8 * c) (room-of s at c) m t (omega arith) (omega arith) k
 
 -- ---- two parts joined
@@ -335,13 +425,16 @@ module _ (s : List ℕ) (at c : ℕ) (m0 m1 m2 m3 : List ℕ) (a b w : Step) (to
         few-forks = omega arith;
       }
 
-  joins-kept : On s at c a → a .at ≤ to → to ≤ length s → On s to (a .count) b → Joined m2 m3 k fk a b w → Kept (8 * c) (room-of s at c) m0 m1 → Kept (8 * a .count) (room-of s to (a .count)) m1 m2 → Kept (8 * c) (room-of s at c) m0 m3
+  joins-kept : On s at c a → a .at ≤ to → to ≤ length s → On s to (a .count) b → Joined m2 m3 k fk a b w → Kept (8 * c) (room-of s at c) m0 m1
+      → Kept (8 * a .count) (room-of s to (a .count)) m1 m2 → Kept (8 * c) (room-of s at c) m0 m3
   joins-kept o l i q j k1 k2 =
       kept-on (8 * c) (room-of s at c) m0 m1 m3 k1
       (kept-on (8 * c) (room-of s at c) m1 m2 m3 (later s at c to (a .count) m1 m2 (omega (arith, o .on)) i (omega (arith, o .some)) (omega (arith, o .few)) k2)
-      (kept-wide (8 * b .count) (8 * b .count + 8) (8 * c) (room-of s at c) m2 m3 (omega (arith, o .some, q .some)) (omega (arith, o .some, q .some, o .few, q .few, q .inside, o .on, q .on)) (kept-put m2 m3 (b .count) _ (j .wrote))))
+      (kept-wide (8 * b .count) (8 * b .count + 8) (8 * c) (room-of s at c) m2 m3 (omega (arith, o .some, q .some))
+      (omega (arith, o .some, q .some, o .few, q .few, q .inside, o .on, q .on)) (kept-put m2 m3 (b .count) _ (j .wrote))))
 
-  joins-wrote : (v : List ℕ) (ca cb ha hb pa pb : ℕ) → a .count ≡ ca → b .count ≡ cb → a .height ≡ ha → b .height ≡ hb → a .places ≡ min pa 257 → b .places ≡ min pb 257 → m2 ≡ v → Joined m2 m3 k fk a b w → m3 ≡ putNode v cb (plain k (ca - 1) (cb - 1) (max ha hb + 1) (min (pa + pb) 257))
+  joins-wrote : (v : List ℕ) (ca cb ha hb pa pb : ℕ) → a .count ≡ ca → b .count ≡ cb → a .height ≡ ha → b .height ≡ hb → a .places ≡ min pa 257 → b .places ≡ min pb 257 → m2 ≡ v
+      → Joined m2 m3 k fk a b w → m3 ≡ putNode v cb (plain k (ca - 1) (cb - 1) (max ha hb + 1) (min (pa + pb) 257))
   joins-wrote v ca cb ha hb pa pb e1 e2 e3 e4 e6 e7 e5 j = let q : min (a .places + b .places) 257 ≡ min (pa + pb) 257 = omega arith in j .wrote ∙ rw (e1, e2, e3, e4, q, e5) refl
 
 -- ---- pattern
@@ -355,7 +448,8 @@ module _ (n : ℕ) (u : List ℕ) where
   unfolding read altWith altOn
   alt-one b v e h = simp (e, ne-eqb (peek v) 124 h)
 
-  alt-two : (b : Tree branch) (v w : List ℕ) (x : Reading (Tree pattern)) → read n branch u ≡ got b v → peek v ≡ 124 → skip (rest v) ≡ w → read n pattern w ≡ x → read (suc n) pattern u ≡ under (more b) x
+  alt-two : (b : Tree branch) (v w : List ℕ) (x : Reading (Tree pattern)) → read n branch u ≡ got b v → peek v ≡ 124 → skip (rest v) ≡ w → read n pattern w ≡ x
+      → read (suc n) pattern u ≡ under (more b) x
   unfolding read altWith altOn
   alt-two b v w x e h g f = simp (e, eq-eqb (peek v) 124 h, g, f)
 
@@ -367,7 +461,8 @@ module _ (n : ℕ) (u : List ℕ) where
   unfolding read seqWith seqOn
   seq-one f v e h = simp (e, h)
 
-  seq-two : (f : Tree factor) (v : List ℕ) (x : Reading (Tree branch)) → read n factor u ≡ got f v → ended (peek v) ≡ false → read n branch v ≡ x → read (suc n) branch u ≡ under (next f) x
+  seq-two : (f : Tree factor) (v : List ℕ) (x : Reading (Tree branch)) → read n factor u ≡ got f v → ended (peek v) ≡ false → read n branch v ≡ x
+      → read (suc n) branch u ≡ under (next f) x
   unfolding read seqWith seqOn
   seq-two f v x e h g = simp (e, h, g)
 
@@ -381,7 +476,15 @@ module _ (s : List ℕ) (at c : ℕ) (m0 m1 : List ℕ) (b : Step) (h : Reads br
     unfolding rankOf depth nodeCount height fork placeCount written
     pattern-ends ny = a-reading pattern s at c m0 m1 b o (h .on o) (h .kept) (h .len) λ n d.
         let x = says-got branch s c m0 m1 b _ (h .says n (omega arith)) o in
-        record { tree = one (x .tree); is = alt-one n (drop at s) _ _ (x .is) (λ z. ny (ey ∙ z)); count = x .count; high = x .high; placed = x .placed; forked = x .forked; wrote = x .wrote }
+        record {
+          tree = one (x .tree);
+          is = alt-one n (drop at s) _ _ (x .is) (λ z. ny (ey ∙ z));
+          count = x .count;
+          high = x .high;
+          placed = x .placed;
+          forked = x .forked;
+          wrote = x .wrote;
+        }
 
     module _ (is-bar : y ≡ 124) (from : ℕ) (k : SkipTo s (b .at + 1) from) where
       behind : skip (rest (drop (b .at) s)) ≡ drop from s
@@ -400,7 +503,8 @@ module _ (s : List ℕ) (at c : ℕ) (m0 m1 : List ℕ) (b : Step) (h : Reads br
         pattern-more-fails e =
             let w = h .on o in
             no-reading pattern s at c m0 m2 r e
-            (kept-on (8 * c) (room-of s at c) m0 m1 m2 (h .kept) (later s at c from (b .count) m1 m2 (omega (arith, w .on, k .1)) (k .2) (omega (arith, w .some)) (omega (arith, w .few, k .1)) (g .kept)))
+            (kept-on (8 * c) (room-of s at c) m0 m1 m2 (h .kept) (later s at c from (b .count) m1 m2 (omega (arith, w .on, k .1)) (k .2) (omega (arith, w .some))
+            (omega (arith, w .few, k .1)) (g .kept)))
             (g .len ∙ h .len) λ n d.
             let x = says-got branch s c m0 m1 b _ (h .says n (omega arith)) o in
             alt-two n (drop at s) _ _ (drop from s) bad (x .is) (sym ey ∙ is-bar) behind
@@ -431,12 +535,16 @@ module _ (s : List ℕ) (at c : ℕ) (m0 m1 : List ℕ) (b : Step) (h : Reads br
             let y = says-got pattern s (b .count) m1 m2 r _ (g .says n (omega (arith, w .on, w .inside, k .1, k .2, length-drop at s, length-drop from s))) e in
             record {
               tree = more (x .tree) (y .tree);
-              is = alt-two n (drop at s) _ _ (drop from s) _ (x .is) (sym ey ∙ is-bar) behind (y .is) ∙ ap (λ (i : ℕ). got (more (x .tree) (y .tree)) (drop i s)) (sym (ap (λ (t : Step). t .at) (j .is)));
-              count = ap (λ (t : Step). t .count) (j .is) ∙ (let e1 = x .count in let e2 = y .count in let e3 : r .count + 1 ≡ c + (nodeCount (x .tree) + nodeCount (y .tree) + 1) = omega arith in e3);
+              is = alt-two n (drop at s) _ _ (drop from s) _ (x .is) (sym ey ∙ is-bar) behind (y .is)
+                  ∙ ap (λ (i : ℕ). got (more (x .tree) (y .tree)) (drop i s)) (sym (ap (λ (t : Step). t .at) (j .is)));
+              count = ap (λ (t : Step). t .count) (j .is) ∙ (let e1 = x .count in let e2 = y .count in let e3 : r
+                  .count + 1 ≡ c + (nodeCount (x .tree) + nodeCount (y .tree) + 1) = omega arith in e3);
               high = ap (λ (t : Step). t .height) (j .is) ∙ ap (λ (i : ℕ). max i (r .height) + 1) (x .high) ∙ ap (λ (i : ℕ). max (height (x .tree)) i + 1) (y .high);
-              placed = ap (λ (t : Step). t .places) (j .is) ∙ (let e1 = x .placed in let e2 = y .placed in let e3 : min (b .places + r .places) 257 ≡ min (placeCount (x .tree) + placeCount (y .tree)) 257 = omega arith in e3);
+              placed = ap (λ (t : Step). t .places) (j .is) ∙ (let e1 = x .placed in let e2 = y .placed in let e3 : min (b .places + r .places) 257 ≡ min
+                  (placeCount (x .tree) + placeCount (y .tree)) 257 = omega arith in e3);
               forked = ap (λ (t : Step). t .forks) (j .is);
-              wrote = joins-wrote s at c m0 m1 m2 m3 b r z from Alternation 1 (written (y .tree) (c + nodeCount (x .tree)) (written (x .tree) c m0)) (c + nodeCount (x .tree)) (c + nodeCount (x .tree) + nodeCount (y .tree)) (height (x .tree)) (height (y .tree)) (placeCount (x .tree)) (placeCount (y .tree))
+              wrote = joins-wrote s at c m0 m1 m2 m3 b r z from Alternation 1 (written (y .tree) (c + nodeCount (x .tree)) (written (x .tree) c m0)) (c + nodeCount (x .tree))
+                  (c + nodeCount (x .tree) + nodeCount (y .tree)) (height (x .tree)) (height (y .tree)) (placeCount (x .tree)) (placeCount (y .tree))
                   (x .count) (y .count ∙ ap (λ (i : ℕ). i + nodeCount (y .tree)) (x .count)) (x .high) (y .high) (x .placed) (y .placed)
                   (y .wrote ∙ ap (λ (i : ℕ). written (y .tree) i m1) (x .count) ∙ ap (written (y .tree) (c + nodeCount (x .tree))) (x .wrote)) j;
             }
@@ -460,7 +568,15 @@ module _ (s : List ℕ) (at c : ℕ) (m0 m1 : List ℕ) (b : Step) (h : Reads fa
     unfolding rankOf depth nodeCount height fork placeCount written
     branch-ends ny = a-reading branch s at c m0 m1 b o (h .on o) (h .kept) (h .len) λ n d.
         let x = says-got factor s c m0 m1 b _ (h .says n (omega arith)) o in
-        record { tree = last (x .tree); is = seq-one n (drop at s) _ _ (x .is) (ended-at y _ ey ∙ ny); count = x .count; high = x .high; placed = x .placed; forked = x .forked; wrote = x .wrote }
+        record {
+          tree = last (x .tree);
+          is = seq-one n (drop at s) _ _ (x .is) (ended-at y _ ey ∙ ny);
+          count = x .count;
+          high = x .high;
+          placed = x .placed;
+          forked = x .forked;
+          wrote = x .wrote;
+        }
 
     pub branch-ends-none : y ≡ 0 → Reads branch s at c m0 m1 b
     unfolding ended
@@ -502,7 +618,8 @@ module _ (s : List ℕ) (at c : ℕ) (m0 m1 : List ℕ) (b : Step) (h : Reads fa
       branch-more-fails e =
           let w = h .on o in
           no-reading branch s at c m0 m2 r e
-          (kept-on (8 * c) (room-of s at c) m0 m1 m2 (h .kept) (later s at c (b .at) (b .count) m1 m2 (omega (arith, w .on)) (w .inside) (omega (arith, w .some)) (omega (arith, w .few)) (g .kept)))
+          (kept-on (8 * c) (room-of s at c) m0 m1 m2 (h .kept) (later s at c (b .at) (b .count) m1 m2 (omega (arith, w .on)) (w .inside) (omega (arith, w .some))
+          (omega (arith, w .few)) (g .kept)))
           (g .len ∙ h .len) λ n d.
           let x = says-got factor s c m0 m1 b _ (h .says n (omega arith)) o in
           seq-two n (drop at s) _ _ bad (x .is) (ended-at y _ ey ∙ goes-on y n0 n1 n2)
@@ -519,12 +636,16 @@ module _ (s : List ℕ) (at c : ℕ) (m0 m1 : List ℕ) (b : Step) (h : Reads fa
           let y = says-got branch s (b .count) m1 m2 r _ (g .says n (omega (arith, w .on, w .inside, length-drop at s, length-drop (b .at) s))) e in
           record {
             tree = next (x .tree) (y .tree);
-            is = seq-two n (drop at s) _ _ _ (x .is) (ended-at y0 _ ey ∙ goes-on y0 n0 n1 n2) (y .is) ∙ ap (λ (i : ℕ). got (next (x .tree) (y .tree)) (drop i s)) (sym (ap (λ (t : Step). t .at) (j .is)));
-            count = ap (λ (t : Step). t .count) (j .is) ∙ (let e1 = x .count in let e2 = y .count in let e3 : r .count + 1 ≡ c + (nodeCount (x .tree) + nodeCount (y .tree) + 1) = omega arith in e3);
+            is = seq-two n (drop at s) _ _ _ (x .is) (ended-at y0 _ ey ∙ goes-on y0 n0 n1 n2) (y .is)
+                ∙ ap (λ (i : ℕ). got (next (x .tree) (y .tree)) (drop i s)) (sym (ap (λ (t : Step). t .at) (j .is)));
+            count = ap (λ (t : Step). t .count) (j .is) ∙ (let e1 = x .count in let e2 = y .count in let e3 : r
+                .count + 1 ≡ c + (nodeCount (x .tree) + nodeCount (y .tree) + 1) = omega arith in e3);
             high = ap (λ (t : Step). t .height) (j .is) ∙ ap (λ (i : ℕ). max i (r .height) + 1) (x .high) ∙ ap (λ (i : ℕ). max (height (x .tree)) i + 1) (y .high);
-            placed = ap (λ (t : Step). t .places) (j .is) ∙ (let e1 = x .placed in let e2 = y .placed in let e3 : min (b .places + r .places) 257 ≡ min (placeCount (x .tree) + placeCount (y .tree)) 257 = omega arith in e3);
+            placed = ap (λ (t : Step). t .places) (j .is) ∙ (let e1 = x .placed in let e2 = y .placed in let e3 : min (b .places + r .places) 257 ≡ min
+                (placeCount (x .tree) + placeCount (y .tree)) 257 = omega arith in e3);
             forked = ap (λ (t : Step). t .forks) (j .is);
-            wrote = joins-wrote s at c m0 m1 m2 m3 b r z (b .at) Sequence 0 (written (y .tree) (c + nodeCount (x .tree)) (written (x .tree) c m0)) (c + nodeCount (x .tree)) (c + nodeCount (x .tree) + nodeCount (y .tree)) (height (x .tree)) (height (y .tree)) (placeCount (x .tree)) (placeCount (y .tree))
+            wrote = joins-wrote s at c m0 m1 m2 m3 b r z (b .at) Sequence 0 (written (y .tree) (c + nodeCount (x .tree)) (written (x .tree) c m0)) (c + nodeCount (x .tree))
+                (c + nodeCount (x .tree) + nodeCount (y .tree)) (height (x .tree)) (height (y .tree)) (placeCount (x .tree)) (placeCount (y .tree))
                 (x .count) (y .count ∙ ap (λ (i : ℕ). i + nodeCount (y .tree)) (x .count)) (x .high) (y .high) (x .placed) (y .placed)
                 (y .wrote ∙ ap (λ (i : ℕ). written (y .tree) i m1) (x .count) ∙ ap (written (y .tree) (c + nodeCount (x .tree))) (x .wrote)) j;
           }
@@ -567,24 +688,42 @@ module _ (s : List ℕ) (at c : ℕ) (m0 m1 : List ℕ) (p : Head) (h : ReadsHea
   pub factor-fits : Fits s at m0 c → p .ok ≡ true → FitsHead s m1 p
   factor-fits f o =
       let w = h .on o in
-      record { in-text = w .inside; holding = record { fits = omega (arith, w .few, w .inside, w .on, f .fits, h .len); few = omega (arith, w .few, w .inside, w .on, f .small); small = w .small }; few-places = w .few-places }
+      record {
+        in-text = w .inside;
+        holding = record {
+          fits = omega (arith, w .few, w .inside, w .on, f .fits, h .len);
+          few = omega (arith, w .few, w .inside, w .on, f .small);
+          small = w .small;
+        };
+        few-places = w .few-places;
+      }
 
   module _ (m2 : List ℕ) (r : Step) (o : p .ok ≡ true) where
     put-kept : (n : Node) → m2 ≡ putNode m1 (p .count) n → Kept (8 * c) (room-of s at c) m0 m2
     put-kept n e =
         let w = h .on o in
         kept-on (8 * c) (room-of s at c) m0 m1 m2 (h .kept)
-        (kept-wide (8 * p .count) (8 * p .count + 8) (8 * c) (room-of s at c) m1 m2 (omega (arith, w .some)) (omega (arith, w .few, w .inside, w .on)) (kept-put m1 m2 (p .count) n e))
+        (kept-wide (8 * p .count) (8 * p .count + 8) (8 * c) (room-of s at c) m1 m2 (omega (arith, w .some)) (omega (arith, w .few, w .inside, w .on))
+        (kept-put m1 m2 (p .count) n e))
 
     step-on : (to n : ℕ) → n ≤ 257 → p .at ≤ to → to ≤ length s → r ≡ stepTo to p n → On s at c r
     step-on to n g l i e =
         let w = h .on o in
-        rw e (record { on = omega (arith, w .on); inside = i; some = omega (arith, w .some); few = omega (arith, w .few, w .on); low = omega (arith, w .low); few-places = g; few-forks = omega arith })
+        rw e (record {
+          on = omega (arith, w .on);
+          inside = i;
+          some = omega (arith, w .some);
+          few = omega (arith, w .few, w .on);
+          low = omega (arith, w .low);
+          few-places = g;
+          few-forks = omega arith;
+        })
 
     factor-bare : quantifier (drop (p .at) s) ≡ unmarked → r ≡ stepTo (p .at) p (p .node .places) → m2 ≡ putNode m1 (p .count) (p .node) → Reads factor s at c m0 m2 r
     unfolding rankOf depth nodeCount height placeCount written timesOn
     factor-bare q e w =
-        a-reading factor s at c m0 m2 r (ap (λ (x : Step). x .ok) e) (step-on (p .at) (p .node .places) ((h .on o) .few-places) (omega arith) ((h .on o) .inside) e) (put-kept (p .node) w)
+        a-reading factor s at c m0 m2 r (ap (λ (x : Step). x .ok) e) (step-on (p .at) (p .node .places) ((h .on o) .few-places) (omega arith) ((h .on o) .inside) e)
+        (put-kept (p .node) w)
         (ap length w ∙ put-length m1 (p .count) (p .node) ∙ h .len) λ n d.
         let x = head-got s c m0 m1 p _ (h .says n (omega arith)) (h .wrote n (omega arith)) o in
         record {
@@ -594,7 +733,8 @@ module _ (s : List ℕ) (at c : ℕ) (m0 m1 : List ℕ) (p : Head) (h : ReadsHea
           high = ap (λ (y : Step). y .height) e ∙ ap (λ (y : Node). y .height) (x .node) ∙ own-height (x .tree) c;
           placed = ap (λ (y : Step). y .places) e ∙ ap (λ (y : Node). y .places) (x .node) ∙ own-places (x .tree) c;
           forked = ap (λ (y : Step). y .forks) e;
-          wrote = w ∙ ap (λ (i : ℕ). putNode m1 i (p .node)) (x .count) ∙ ap (putNode m1 (c + nodeCount (x .tree))) (x .node) ∙ ap (λ (y : List ℕ). putNode y (c + nodeCount (x .tree)) (own (x .tree) c)) (x .wrote);
+          wrote = w ∙ ap (λ (i : ℕ). putNode m1 i (p .node)) (x .count) ∙ ap (putNode m1 (c + nodeCount (x .tree))) (x .node)
+              ∙ ap (λ (y : List ℕ). putNode y (c + nodeCount (x .tree)) (own (x .tree) c)) (x .wrote);
         }
 
     factor-broken : quantifier (drop (p .at) s) ≡ broken → r .ok ≡ false → m2 ≡ m1 → Reads factor s at c m0 m2 r
@@ -608,16 +748,19 @@ module _ (s : List ℕ) (at c : ℕ) (m0 m1 : List ℕ) (p : Head) (h : ReadsHea
     unfolding rankOf depth nodeCount height placeCount written timesOn
     factor-marked f z u q g =
         let e = g .is in
-        a-reading factor s at c m0 m2 r (ap (λ (x : Step). x .ok) e) (step-on (g .to) (min (roundPlaces (lower f) (upper f) (p .node .places)) 257) (omega arith) (g .on) (g .inside) e) (put-kept (withMark (p .node) f z) (g .wrote))
+        a-reading factor s at c m0 m2 r (ap (λ (x : Step). x .ok) e) (step-on (g .to) (min (roundPlaces (lower f) (upper f) (p .node .places)) 257) (omega arith) (g .on)
+        (g .inside) e) (put-kept (withMark (p .node) f z) (g .wrote))
         (ap length (g .wrote) ∙ put-length m1 (p .count) (withMark (p .node) f z) ∙ h .len) λ n d.
         let x = head-got s c m0 m1 p _ (h .says n (omega arith)) (h .wrote n (omega arith)) o in
         record {
           tree = times (x .tree) f z;
-          is = times-got n (drop at s) _ _ (marked f z u) (x .is) q ∙ ap (got (times (x .tree) f z)) (g .rest) ∙ ap (λ (i : ℕ). got (times (x .tree) f z) (drop i s)) (sym (ap (λ (y : Step). y .at) e));
+          is = times-got n (drop at s) _ _ (marked f z u) (x .is) q ∙ ap (got (times (x .tree) f z)) (g .rest)
+              ∙ ap (λ (i : ℕ). got (times (x .tree) f z) (drop i s)) (sym (ap (λ (y : Step). y .at) e));
           count = ap (λ (y : Step). y .count) e ∙ (let e1 = x .count in let e2 : p .count + 1 ≡ c + (nodeCount (x .tree) + 1) = omega arith in e2);
           high = ap (λ (y : Step). y .height) e ∙ ap (λ (y : Node). y .height) (x .node) ∙ own-height (x .tree) c;
           placed = ap (λ (y : Step). y .places) e ∙ ap (λ (y : Node). min (roundPlaces (lower f) (upper f) (y .places)) 257) (x .node)
-              ∙ ap (λ (i : ℕ). min (roundPlaces (lower f) (upper f) i) 257) (own-places (x .tree) c) ∙ cap-rounds (lower f) (upper f) (min (placeCount (x .tree)) 257) (placeCount (x .tree)) (omega arith);
+              ∙ ap (λ (i : ℕ). min (roundPlaces (lower f) (upper f) i) 257) (own-places (x .tree) c) ∙ cap-rounds (lower f) (upper f) (min (placeCount (x .tree)) 257)
+              (placeCount (x .tree)) (omega arith);
           forked = ap (λ (y : Step). y .forks) e;
           wrote = g .wrote ∙ ap (λ (i : ℕ). putNode m1 i (withMark (p .node) f z)) (x .count) ∙ ap (λ (y : Node). putNode m1 (c + nodeCount (x .tree)) (withMark y f z)) (x .node)
               ∙ ap (λ (y : List ℕ). putNode y (c + nodeCount (x .tree)) (withMark (own (x .tree) c) f z)) (x .wrote);
@@ -680,7 +823,8 @@ a-head-reading : (s : List ℕ) (at c : ℕ) (m t : List ℕ) (r : Head) → r .
 unfolding depth rankOf SaysHead Wrote
 a-head-reading s at c m t r e o kp l f =
     record {
-      says = λ n h. at-suc (λ n. SaysHead s c r (read n primary (drop at s))) (4 * length (drop at s)) (λ n h. let d = f n h in rw (d .is) (record { ok = e; rest = refl; count = d .count; node = d .node })) n (omega arith);
+      says = λ n h. at-suc (λ n. SaysHead s c r (read n primary (drop at s))) (4 * length (drop at s))
+          (λ n h. let d = f n h in rw (d .is) (record { ok = e; rest = refl; count = d .count; node = d .node })) n (omega arith);
       wrote = λ n h. at-suc (λ n. Wrote c m t (read n primary (drop at s))) (4 * length (drop at s)) (λ n h. let d = f n h in rw (d .is) (d .wrote)) n (omega arith);
       on = λ z. o;
       kept = kp;
@@ -692,8 +836,10 @@ module _ (s : List ℕ) (at c : ℕ) (m0 : List ℕ) (b : ℕ) (eb : b ≡ peek 
   unfolding depth rankOf
   primary-simple r e h =
       record {
-        says = λ n k. at-suc (λ n. SaysHead s c r (read n primary (drop at s))) (4 * length (drop at s)) (λ n k. rw (prim-simple n (drop at s) (λ x. e (eb ∙ x))) (h .says)) n (omega arith);
-        wrote = λ n k. at-suc (λ n. Wrote c m0 m0 (read n primary (drop at s))) (4 * length (drop at s)) (λ n k. rw (prim-simple n (drop at s) (λ x. e (eb ∙ x))) (simple-wrote c m0 (drop at s))) n (omega arith);
+        says = λ n k. at-suc (λ n. SaysHead s c r (read n primary (drop at s))) (4 * length (drop at s)) (λ n k. rw (prim-simple n (drop at s) (λ x. e (eb ∙ x))) (h .says)) n
+            (omega arith);
+        wrote = λ n k. at-suc (λ n. Wrote c m0 m0 (read n primary (drop at s))) (4 * length (drop at s))
+            (λ n k. rw (prim-simple n (drop at s) (λ x. e (eb ∙ x))) (simple-wrote c m0 (drop at s))) n (omega arith);
         on = h .on;
         kept = kept-none (8 * c) (room-of s at c) m0;
         len = refl;
@@ -707,11 +853,13 @@ module _ (s : List ℕ) (at c : ℕ) (m0 : List ℕ) (b : ℕ) (eb : b ≡ peek 
     unfolding nodeCount own written
     primary-empty r e g =
         let q = g .skips in
-        a-head-reading s at c m0 m0 r (ap (λ (x : Head). x .ok) (g .is)) (subst (HeadOn s at c) (sym (g .is)) (leaf-on s at c (g .to) Empty 0 (plain Empty 0 0 0 0) (omega arith) (omega (arith, k .1, q .1)) (q .2) refl))
+        a-head-reading s at c m0 m0 r (ap (λ (x : Head). x .ok) (g .is)) (subst (HeadOn s at c) (sym (g .is))
+        (leaf-on s at c (g .to) Empty 0 (plain Empty 0 0 0 0) (omega arith) (omega (arith, k .1, q .1)) (q .2) refl))
         (kept-none (8 * c) (room-of s at c) m0) refl λ i d.
         record {
           tree = empty;
-          is = prim-empty i (drop at s) (drop from s) (sym eb ∙ op) opened (sym ey ∙ e) ∙ ap (got empty) (ap skip (rest-drop s from) ∙ sym (q .0)) ∙ ap (λ (j : ℕ). got empty (drop j s)) (sym (ap (λ (x : Head). x .at) (g .is)));
+          is = prim-empty i (drop at s) (drop from s) (sym eb ∙ op) opened (sym ey ∙ e) ∙ ap (got empty) (ap skip (rest-drop s from) ∙ sym (q .0))
+              ∙ ap (λ (j : ℕ). got empty (drop j s)) (sym (ap (λ (x : Head). x .at) (g .is)));
           count = ap (λ (x : Head). x .count) (g .is) ∙ (let z : c ≡ c + 0 = omega arith in z);
           node = ap (λ (x : Head). x .node) (g .is);
           wrote = refl;
@@ -732,7 +880,12 @@ module _ (s : List ℕ) (at c : ℕ) (m0 : List ℕ) (b : ℕ) (eb : b ≡ peek 
 
       pub primary-needs : ShutNeeds p
       primary-needs =
-          record { some = λ o. let w = h .on o in omega (arith, w .some); low = λ o. let w = h .on o in omega (arith, w .low, w .few, w .inside, w .on, k .1, f .small); few-places = λ o. (h .on o) .few-places; few-forks = λ o. (h .on o) .few-forks }
+          record {
+            some = λ o. let w = h .on o in omega (arith, w .some);
+            low = λ o. let w = h .on o in omega (arith, w .low, w .few, w .inside, w .on, k .1, f .small);
+            few-places = λ o. (h .on o) .few-places;
+            few-forks = λ o. (h .on o) .few-forks;
+          }
 
       module _ (ny : y ≡ 41 → ⊥) (r : Head) (g : ShutIs s p r) where
         read-inner : (n : ℕ) (x : Reading (Tree pattern)) → read n pattern (drop from s) ≡ x → read (suc n) primary (drop at s) ≡ closed x
@@ -760,16 +913,27 @@ module _ (s : List ℕ) (at c : ℕ) (m0 : List ℕ) (b : ℕ) (eb : b ≡ peek 
               few = omega (arith, w .few, w .on, k .1, l .1);
               low = omega (arith, w .low);
               few-places = omega arith;
-              small = record { form = omega arith; low = omega arith; high = omega arith; left = omega (arith, w .few, w .inside, w .on, k .1, f .small); right = omega arith; height = omega (arith, w .low, w .few, w .inside, w .on, k .1, f .small); places = omega arith };
+              small = record {
+                form = omega arith;
+                low = omega arith;
+                high = omega arith;
+                left = omega (arith, w .few, w .inside, w .on, k .1, f .small);
+                right = omega arith;
+                height = omega (arith, w .low, w .few, w .inside, w .on, k .1, f .small);
+                places = omega arith;
+              };
             }))
             inner-kept (h .len) λ i d.
             let x = says-got pattern s c m0 m1 p _ (h .says i (deep i d)) o in
             record {
               tree = group (x .tree);
-              is = read-inner i _ (x .is) ∙ shut-got (x .tree) (drop (p .at) s) e ∙ ap (got (group (x .tree))) (ap skip (rest-drop s (p .at)) ∙ sym (l .0)) ∙ ap (λ (j : ℕ). got (group (x .tree)) (drop j s)) (sym (ap (λ (x : Head). x .at) (q .is)));
+              is = read-inner i _ (x .is) ∙ shut-got (x .tree) (drop (p .at) s) e ∙ ap (got (group (x .tree))) (ap skip (rest-drop s (p .at)) ∙ sym (l .0))
+                  ∙ ap (λ (j : ℕ). got (group (x .tree)) (drop j s)) (sym (ap (λ (x : Head). x .at) (q .is)));
               count = ap (λ (x : Head). x .count) (q .is) ∙ x .count;
-              node = ap (λ (x : Head). x .node) (q .is) ∙ ap (λ (i : ℕ). plain Group (i - 1) 0 (p .height + 1) (min (p .forks + p .places) 257)) (x .count) ∙ ap (λ (i : ℕ). plain Group (c + nodeCount (x .tree) - 1) 0 (i + 1) (min (p .forks + p .places) 257)) (x .high)
-                  ∙ ap (plain Group (c + nodeCount (x .tree) - 1) 0 (height (x .tree) + 1)) (let e1 = x .placed in let e2 = x .forked in let e3 : min (p .forks + p .places) 257 ≡ min (fork (x .tree) + placeCount (x .tree)) 257 = omega arith in e3);
+              node = ap (λ (x : Head). x .node) (q .is) ∙ ap (λ (i : ℕ). plain Group (i - 1) 0 (p .height + 1) (min (p .forks + p .places) 257)) (x .count)
+                  ∙ ap (λ (i : ℕ). plain Group (c + nodeCount (x .tree) - 1) 0 (i + 1) (min (p .forks + p .places) 257)) (x .high)
+                  ∙ ap (plain Group (c + nodeCount (x .tree) - 1) 0 (height (x .tree) + 1))
+                  (let e1 = x .placed in let e2 = x .forked in let e3 : min (p .forks + p .places) 257 ≡ min (fork (x .tree) + placeCount (x .tree)) 257 = omega arith in e3);
               wrote = x .wrote;
             }
 
@@ -820,7 +984,17 @@ module _ (s : List ℕ) (from : ℕ) (m0 m1 : List ℕ) (p : Step) (k : SkipTo s
     text-whole e =
         let q : drop (p .at) s ≡ [] = ap (λ (i : ℕ). drop i s) e ∙ drop-length s in
         record {
-          says = rw (text-is, found .is, q) (record { ok = o; count = found .count ∙ (let z : 0 + nodeCount (found .tree) ≡ nodeCount (found .tree) = omega arith in z); few = (let w = h .on o in let v = found .count in omega (arith, w .few, w .inside)); high = found .high; placed = found .placed; forked = found .forked; wrote = found .wrote });
+          says = rw (text-is, found .is, q) (record {
+            ok = o;
+            count = found .count ∙ (let z : 0 + nodeCount (found .tree) ≡ nodeCount (found .tree) = omega arith in z);
+            few =
+                (let w = h .on o in let v = found .count in omega (arith, w .few, w .inside));
+            high = found .high;
+            placed = found .placed;
+            forked = found .forked;
+            wrote = found
+                .wrote;
+          });
           kept = text-kept;
           len = h .len;
         }

@@ -1,6 +1,6 @@
 -- A room that holds a tree's nodes, each behind its parts; a tree with its top at a node.
 use mathlib.Core.Path.{_≡_}
-use mathlib.Core.Bool.{Bool, true, false}
+use mathlib.Core.Bool.{Bool, false}
 use mathlib.Core.List.{List}
 use Prim.Native.Nat.{ℕ, _+_, _*_, _-_, _≤_, max, min}
 use lib.ListN.{length}
@@ -34,10 +34,12 @@ unfoldable pub Held : {k : Rank} → Tree k → ℕ → List ℕ → Type 0
 unfolding nodeCount height own InBounds
 Held (one b) c s = Held b c s
 Held (more b p) c s =
-    Held b c s × Held p (c + nodeCount b) s × (nodeAt s (c + nodeCount b + nodeCount p) ≡ plain Alternation (c + nodeCount b - 1) (c + nodeCount b + nodeCount p - 1) (max (height b) (height p) + 1) (min (placeCount b + placeCount p) 257))
+    Held b c s × Held p (c + nodeCount b) s × (nodeAt s (c + nodeCount b + nodeCount p) ≡ plain Alternation (c + nodeCount b - 1) (c + nodeCount b + nodeCount p - 1)
+    (max (height b) (height p) + 1) (min (placeCount b + placeCount p) 257))
 Held (last f) c s = Held f c s
 Held (next f b) c s =
-    Held f c s × Held b (c + nodeCount f) s × (nodeAt s (c + nodeCount f + nodeCount b) ≡ plain Sequence (c + nodeCount f - 1) (c + nodeCount f + nodeCount b - 1) (max (height f) (height b) + 1) (min (placeCount f + placeCount b) 257))
+    Held f c s × Held b (c + nodeCount f) s × (nodeAt s (c + nodeCount f + nodeCount b) ≡ plain Sequence (c + nodeCount f - 1) (c + nodeCount f + nodeCount b - 1)
+    (max (height f) (height b) + 1) (min (placeCount f + placeCount b) 257))
 Held (bare x) c s = Held x c s × (nodeAt s (c + nodeCount x) ≡ own x c)
 Held (times x f z) c s = Held x c s × (InBounds f) × (nodeAt s (c + nodeCount x) ≡ withMark (own x c) f z)
 Held (letter b) c s = Unit {0}

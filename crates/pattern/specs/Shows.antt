@@ -5,7 +5,6 @@ use mathlib.Core.List.{List}
 use mathlib.Core.Option.{Option, none, some}
 use Prim.Native.Nat.{ℕ, _≤_, _<_}
 use lib.ListN.{length, drop}
-use Rattle.rules.specs.Basics.{pick}
 use Rattle.rules.specs.Language.{Form, star, plus, opt, exactly, atLeast, atMost, between, lower, upper}
 use Rattle.rules.specs.Reader.{Reading, got, bad, bounded, number, Marked, unmarked, broken, marked}
 use Rattle.pattern.specs.declared.marks.Mark.{Mark}

@@ -3,7 +3,7 @@ use mathlib.Core.Path.{_≡_}
 use mathlib.Core.Bool.{Bool, true, false}
 use mathlib.Core.List.{List}
 use mathlib.Core.Option.{Option, none, some}
-use Prim.Native.Nat.{ℕ, zero, suc, _+_, _*_, _-_, _≤_, _<_, max, min}
+use Prim.Native.Nat.{ℕ, _+_, _*_, _-_, _≤_, _<_, max, min}
 use lib.Dec.{eqb}
 use lib.ListN.{length, getD, drop}
 use Rattle.rules.specs.Basics.{pick}
@@ -25,7 +25,18 @@ plain k l r h n = record { sort = k; form = 0; lazy = false; low = 1; high = 1; 
 -- a node with a quantifier
 abbrev pub withMark : Node → Form → Bool → Node
 withMark n f z =
-    record { sort = n .sort; form = codeOf f; lazy = z; low = lower f; high = highOf f; left = n .left; right = n .right; height = n .height; places = min (roundPlaces (lower f) (upper f) (n .places)) 257 }
+    record {
+      sort = n .sort;
+      form = codeOf f;
+      lazy = z;
+      low = lower f;
+      high = highOf f;
+      left = n .left;
+      right = n .right;
+      height = n .height;
+      places = min
+          (roundPlaces (lower f) (upper f) (n .places)) 257;
+    }
 
 -- how many nodes a tree has; a primary's own node counts for its factor
 unfoldable pub nodeCount : {k : Rank} → Tree k → ℕ
@@ -79,10 +90,12 @@ unfoldable pub written : {k : Rank} → Tree k → ℕ → List ℕ → List ℕ
 unfolding nodeCount height own placeCount
 written (one b) c s = written b c s
 written (more b p) c s =
-    putNode (written p (c + nodeCount b) (written b c s)) (c + nodeCount b + nodeCount p) (plain Alternation (c + nodeCount b - 1) (c + nodeCount b + nodeCount p - 1) (max (height b) (height p) + 1) (min (placeCount b + placeCount p) 257))
+    putNode (written p (c + nodeCount b) (written b c s)) (c + nodeCount b + nodeCount p) (plain Alternation (c + nodeCount b - 1) (c + nodeCount b + nodeCount p - 1)
+    (max (height b) (height p) + 1) (min (placeCount b + placeCount p) 257))
 written (last f) c s = written f c s
 written (next f b) c s =
-    putNode (written b (c + nodeCount f) (written f c s)) (c + nodeCount f + nodeCount b) (plain Sequence (c + nodeCount f - 1) (c + nodeCount f + nodeCount b - 1) (max (height f) (height b) + 1) (min (placeCount f + placeCount b) 257))
+    putNode (written b (c + nodeCount f) (written f c s)) (c + nodeCount f + nodeCount b) (plain Sequence (c + nodeCount f - 1) (c + nodeCount f + nodeCount b - 1)
+    (max (height f) (height b) + 1) (min (placeCount f + placeCount b) 257))
 written (bare x) c s = putNode (written x c s) (c + nodeCount x) (own x c)
 written (times x f z) c s = putNode (written x c s) (c + nodeCount x) (withMark (own x c) f z)
 written (letter b) c s = s

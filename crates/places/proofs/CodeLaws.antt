@@ -1,20 +1,18 @@
 -- The places of a tree, part by part, in the order in which they are put: each law is one way through one function that unrolls.
-use mathlib.Core.Path.{_≡_, refl, sym, ap, _∙_, subst}
-use mathlib.Core.Bool.{Bool, true, false}
+use mathlib.Core.Path.{_≡_, refl, sym, ap, _∙_}
+use mathlib.Core.Bool.{Bool}
 use mathlib.Core.List.{List, [], _∷_, _++_, append-nil}
-use mathlib.Core.Option.{Option, none, some}
-use Prim.Native.Nat.{ℕ, zero, suc, _+_, _*_, _-_, _≤_, _<_, min}
+use Prim.Native.Nat.{ℕ, suc, _+_, _-_, _≤_, _<_}
 use native.Mathlib.Omega.{arith}
-use native.Mathlib.Nat.{mul-le-mul}
 use lib.Dec.{eqb}
 use lib.ListN.{length}
-use borrow.Author.Tests.{eq-eqb, ne-eqb}
+use borrow.Author.Tests.{ne-eqb}
 use Rattle.rules.specs.Basics.{pick}
-use Rattle.rules.specs.Language.{Form, star, plus, opt, exactly, atLeast, atMost, between, lower, upper, InBounds, Rank, pattern, branch, factor, primary, Tree, one, more, last, next, bare, times, letter, caret, dollar, empty, group}
-use Rattle.rules.specs.Places.{Unrolled, uLetter, uCaret, uDollar, uEmpty, uSeq, uAlt, uOpt, uStar, Branches, uNil, uCons, copies, options, behind, repeated, forked, unrolled, unroll, Place, pLetter, pCaret, pDollar, pFork, pEnd, waysInTurn, size, sizes, startOf, startsOf, code, codes, places, roundPlaces, fork, placeCount, placesOf}
+use Rattle.rules.specs.Language.{Form, star, plus, opt, exactly, atLeast, atMost, between, lower, upper, InBounds, pattern, branch, factor, Tree, one, more, last, next, bare, times}
+use Rattle.rules.specs.Places.{Unrolled, uEmpty, uSeq, uAlt, uOpt, uStar, Branches, copies, options, behind, repeated, forked, unrolled, unroll, Place, pFork, waysInTurn, size, startOf, startsOf, code, codes, fork, placeCount}
 use Rattle.rules.proofs.Rank.{code-length, codes-length}
 use Rattle.rules.proofs.Counting.{forked-more, forked-size, unrolled-size}
-use Rattle.rules.proofs.Distinct.{fresh, distinct, thinPlace, thinned, thinned-append, thinned-length}
+use Rattle.rules.proofs.Distinct.{distinct, thinPlace, thinned, thinned-append, thinned-length}
 use Rattle.pattern.specs.Shows.{highest, highOf}
 use Rattle.pattern.specs.Held.{body, lowOf, highestOf, lazyOf}
 use Rattle.pattern.proofs.ByNode.{Bounded}
@@ -23,7 +21,8 @@ use Rattle.places.proofs.WayLaws.{start-by-size}
 
 -- ---- parts of an unrolled pattern
 
-seq-code : (x y : Unrolled) (B K c e k : ℕ) → c ≡ size x → e ≡ B + size (uSeq x y) → k ≡ pick (eqb (B + c) e) K (B + c) → thinned (code (uSeq x y) B K) ≡ thinned (code x B k) ++ thinned (code y (B + c) K)
+seq-code : (x y : Unrolled) (B K c e k : ℕ) → c ≡ size x → e ≡ B + size (uSeq x y) → k ≡ pick (eqb (B + c) e) K (B + c)
+    → thinned (code (uSeq x y) B K) ≡ thinned (code x B k) ++ thinned (code y (B + c) K)
 unfolding code size
 seq-code x y B K c e k ec ee ek =
     let c2 : B + size x ≡ B + c = omega arith in
@@ -38,20 +37,24 @@ bare-code : (t : Unrolled) (B K : ℕ) → thinned (code t B K) ≡ thinned (cod
 unfolding code startOf
 bare-code t B K = ap thinned (sym (append-nil (code t B K)))
 
-opt-code : (z : Bool) (t : Unrolled) (B K e k0 : ℕ) → e ≡ B + size (uOpt z t) → k0 ≡ pick (eqb (B + 1) e) K (B + 1) → thinned (code (uOpt z t) B K) ≡ (pFork (distinct (waysInTurn z k0 K)) ∷ []) ++ thinned (code t (B + 1) K)
+opt-code : (z : Bool) (t : Unrolled) (B K e k0 : ℕ) → e ≡ B + size (uOpt z t) → k0 ≡ pick (eqb (B + 1) e) K (B + 1)
+    → thinned (code (uOpt z t) B K) ≡ (pFork (distinct (waysInTurn z k0 K)) ∷ []) ++ thinned (code t (B + 1) K)
 unfolding code size thinned thinPlace
 opt-code z t B K e k0 ee e0 =
     let b1 : suc B ≡ B + 1 = omega arith in
     let e2 : B + 1 + size t ≡ e = omega arith in
-    let s : startOf t (suc B) K ≡ k0 = start-by-size t (suc B) K ∙ ap (λ (v : ℕ). pick (eqb v (v + size t)) K v) b1 ∙ ap (λ (v : ℕ). pick (eqb (B + 1) v) K (B + 1)) e2 ∙ sym e0 in
+    let s : startOf t (suc B) K ≡ k0 = start-by-size t (suc B) K ∙ ap (λ (v : ℕ). pick (eqb v (v + size t)) K v) b1 ∙ ap (λ (v : ℕ). pick (eqb (B + 1) v) K (B + 1)) e2
+    ∙ sym e0 in
     ap (λ (v : ℕ). pFork (distinct (waysInTurn z v K)) ∷ thinned (code t (suc B) K)) s ∙ ap (λ (v : ℕ). pFork (distinct (waysInTurn z k0 K)) ∷ thinned (code t v K)) b1
 
-star-part : (z : Bool) (t : Unrolled) (B K e k0 : ℕ) → e ≡ B + size (uStar z t) → k0 ≡ pick (eqb (B + 1) e) B (B + 1) → thinned (code (uStar z t) B K) ≡ (pFork (distinct (waysInTurn z k0 K)) ∷ []) ++ thinned (code t (B + 1) B)
+star-part : (z : Bool) (t : Unrolled) (B K e k0 : ℕ) → e ≡ B + size (uStar z t) → k0 ≡ pick (eqb (B + 1) e) B (B + 1)
+    → thinned (code (uStar z t) B K) ≡ (pFork (distinct (waysInTurn z k0 K)) ∷ []) ++ thinned (code t (B + 1) B)
 unfolding code size thinned thinPlace
 star-part z t B K e k0 ee e0 =
     let b1 : suc B ≡ B + 1 = omega arith in
     let e2 : B + 1 + size t ≡ e = omega arith in
-    let s : startOf t (suc B) B ≡ k0 = start-by-size t (suc B) B ∙ ap (λ (v : ℕ). pick (eqb v (v + size t)) B v) b1 ∙ ap (λ (v : ℕ). pick (eqb (B + 1) v) B (B + 1)) e2 ∙ sym e0 in
+    let s : startOf t (suc B) B ≡ k0 = start-by-size t (suc B) B ∙ ap (λ (v : ℕ). pick (eqb v (v + size t)) B v) b1 ∙ ap (λ (v : ℕ). pick (eqb (B + 1) v) B (B + 1)) e2
+    ∙ sym e0 in
     ap (λ (v : ℕ). pFork (distinct (waysInTurn z v K)) ∷ thinned (code t (suc B) B)) s ∙ ap (λ (v : ℕ). pFork (distinct (waysInTurn z k0 K)) ∷ thinned (code t v B)) b1
 
 turns-star : (z : Bool) (t : Unrolled) → turns 0 100 z t ≡ uStar z t
@@ -75,7 +78,8 @@ star-code : (z : Bool) (t : Unrolled) (B K e k0 : ℕ) → e ≡ B + size (turns
 star-code z t B K e k0 ee e0 =
     ap (λ (x : Unrolled). thinned (code x B K)) (turns-star z t) ∙ star-part z t B K e k0 (ee ∙ ap (λ (x : Unrolled). B + size x) (turns-star z t)) e0
 
-option-code : (z : Bool) (t : Unrolled) (m B K c e k0 k : ℕ) → m < 99 → c ≡ size t → e ≡ B + size (turns 0 (suc m) z t) → k0 ≡ pick (eqb (B + 1) e) K (B + 1) → k ≡ pick (eqb (B + 1 + c) e) K (B + 1 + c)
+option-code : (z : Bool) (t : Unrolled) (m B K c e k0 k : ℕ) → m < 99 → c ≡ size t → e ≡ B + size (turns 0 (suc m) z t) → k0 ≡ pick (eqb (B + 1) e) K (B + 1)
+    → k ≡ pick (eqb (B + 1 + c) e) K (B + 1 + c)
     → thinned (code (turns 0 (suc m) z t) B K) ≡ (pFork (distinct (waysInTurn z k0 K)) ∷ []) ++ (thinned (code t (B + 1) k) ++ thinned (code (turns 0 m z t) (B + 1 + c) K))
 option-code z t m B K c e k0 k h ec ee e0 ek =
     let q : turns 0 (suc m) z t ≡ uOpt z (uSeq t (options m z t)) = turns-options (suc m) z t (omega arith) ∙ options-suc m z t in
@@ -84,7 +88,8 @@ option-code z t m B K c e k0 k h ec ee e0 ek =
     ap (λ (x : Unrolled). thinned (code x B K)) q
     ∙ opt-code z (uSeq t (options m z t)) B K e k0 e2 e0
     ∙ ap (λ (xs : List Place). (pFork (distinct (waysInTurn z k0 K)) ∷ []) ++ xs) (seq-code t (options m z t) (B + 1) K c e k ec e3 ek)
-    ∙ ap (λ (x : Unrolled). (pFork (distinct (waysInTurn z k0 K)) ∷ []) ++ (thinned (code t (B + 1) k) ++ thinned (code x (B + 1 + c) K))) (sym (turns-options m z t (omega arith)))
+    ∙ ap (λ (x : Unrolled). (pFork (distinct (waysInTurn z k0 K)) ∷ []) ++ (thinned (code t (B + 1) k) ++ thinned (code x (B + 1 + c) K)))
+    (sym (turns-options m z t (omega arith)))
 
 some-turns : (h l : ℕ) (z : Bool) (t : Unrolled) (m : ℕ) → h ≤ 99 → m ≡ pick (eqb h 100) 100 (h - l) → pick (eqb m 100) (uStar z t) (options m z t) ≡ options (h - l) z t
 some-turns h l z t m i e =
@@ -144,7 +149,8 @@ alt-places b p B K = ap (λ (t : Unrolled). thinned (code t B K)) (forked-more b
 -- ---- a factor
 
 -- the turns behind the copies: 100 for an unbounded quantifier, else how many
-turn-behind : (f : Form) (z : Bool) (t : Unrolled) (m : ℕ) → InBounds f → m ≡ pick (eqb (highOf f) 100) 100 (highOf f - lower f) → pick (eqb m 100) (uStar z t) (options m z t) ≡ behind (upper f) (lower f) z t
+turn-behind : (f : Form) (z : Bool) (t : Unrolled) (m : ℕ) → InBounds f → m ≡ pick (eqb (highOf f) 100) 100 (highOf f - lower f)
+    → pick (eqb m 100) (uStar z t) (options m z t) ≡ behind (upper f) (lower f) z t
 unfolding behind highOf highest upper lower InBounds
 turn-behind star z t m i e = rw e refl
 turn-behind plus z t m i e = rw e refl
@@ -154,15 +160,18 @@ turn-behind (atLeast n) z t m i e = rw e refl
 turn-behind (atMost n) z t m i e = some-turns n 0 z t m (i .1) e
 turn-behind (between l n) z t m i e = some-turns n l z t m (i .2) e
 
-pub factor-places : (F : Tree factor) (B K n m : ℕ) → Bounded F → n ≡ lowOf F → m ≡ pick (eqb (highestOf F) 100) 100 (highestOf F - lowOf F) → treePlaces (one (last F)) B K ≡ turnPlaces n m F B K
+pub factor-places : (F : Tree factor) (B K n m : ℕ) → Bounded F → n ≡ lowOf F → m ≡ pick (eqb (highestOf F) 100) 100 (highestOf F - lowOf F)
+    → treePlaces (one (last F)) B K ≡ turnPlaces n m F B K
 unfolding unroll unrolled forked turns repeated
 factor-places (bare x) B K n m i en em = rw (en, em) (bare-code (unrolled x) B K)
 factor-places (times x f z) B K n m i en em = rw en (ap (λ (r : Unrolled). thinned (code (copies (lower f) (unrolled x) r) B K)) (sym (turn-behind f z (unrolled x) m i em)))
 
-pub factor-size : (F : Tree factor) (n m : ℕ) → Bounded F → n ≡ lowOf F → m ≡ pick (eqb (highestOf F) 100) 100 (highestOf F - lowOf F) → size (turns n m (lazyOf F) (unrolled (body F))) ≡ placeCount F
+pub factor-size : (F : Tree factor) (n m : ℕ) → Bounded F → n ≡ lowOf F → m ≡ pick (eqb (highestOf F) 100) 100 (highestOf F - lowOf F)
+    → size (turns n m (lazyOf F) (unrolled (body F))) ≡ placeCount F
 unfolding fork
 factor-size F n m i en em =
-    sym (turn-length n m F 0 0) ∙ sym (ap length (factor-places F 0 0 n m i en em)) ∙ tree-length (one (last F)) 0 0 ∙ (let z : 0 + placeCount (one (last F)) ≡ placeCount F = last-count F in z)
+    sym (turn-length n m F 0 0) ∙ sym (ap length (factor-places F 0 0 n m i en em)) ∙ tree-length (one (last F)) 0 0
+    ∙ (let z : 0 + placeCount (one (last F)) ≡ placeCount F = last-count F in z)
 
 -- ---- turns
 
@@ -170,13 +179,15 @@ module _ (F : Tree factor) (c B K e : ℕ) (ec : c ≡ size (unrolled (body F)))
   pub turn-copy : (n n2 m k : ℕ) → n ≡ suc n2 → e ≡ B + size (turns n m (lazyOf F) (unrolled (body F))) → k ≡ pick (eqb (B + c) e) K (B + c)
       → turnPlaces n m F B K ≡ bodyPlaces F B k ++ turnPlaces n2 m F (B + c) K
   unfolding turns copies
-  turn-copy n n2 m k en ee ek = rw en (seq-code (unrolled (body F)) (turns n2 m (lazyOf F) (unrolled (body F))) B K c e k ec (ee ∙ ap (λ (x : ℕ). B + size (turns x m (lazyOf F) (unrolled (body F)))) en) ek)
+  turn-copy n n2 m k en ee ek = rw en (seq-code (unrolled (body F)) (turns n2 m (lazyOf F) (unrolled (body F))) B K c e k ec
+      (ee ∙ ap (λ (x : ℕ). B + size (turns x m (lazyOf F) (unrolled (body F)))) en) ek)
 
   pub turn-none : turnPlaces 0 0 F B K ≡ []
   unfolding turns copies options code thinned
   turn-none = refl
 
-  pub turn-option : (m k0 k : ℕ) → m < 99 → e ≡ B + size (turns 0 (suc m) (lazyOf F) (unrolled (body F))) → k0 ≡ pick (eqb (B + 1) e) K (B + 1) → k ≡ pick (eqb (B + 1 + c) e) K (B + 1 + c)
+  pub turn-option : (m k0 k : ℕ) → m < 99 → e ≡ B + size (turns 0 (suc m) (lazyOf F) (unrolled (body F))) → k0 ≡ pick (eqb (B + 1) e) K (B + 1)
+      → k ≡ pick (eqb (B + 1 + c) e) K (B + 1 + c)
       → turnPlaces 0 (suc m) F B K ≡ choicePlaces (lazyOf F) k0 K ++ (bodyPlaces F (B + 1) k ++ turnPlaces 0 m F (B + 1 + c) K)
   turn-option m k0 k h ee e0 ek = option-code (lazyOf F) (unrolled (body F)) m B K c e k0 k h ec ee e0 ek
 

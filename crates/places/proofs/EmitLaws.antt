@@ -3,18 +3,17 @@
 use mathlib.Core.Path.{_≡_, refl, sym, ap, _∙_, subst}
 use mathlib.Core.Bool.{Bool, true, false}
 use mathlib.Core.List.{List, [], _∷_, _++_}
-use mathlib.Core.Logic.{_⊎_, inl, inr}
+use mathlib.Core.Logic.{inl, inr}
 use Prim.Native.Nat.{ℕ, zero, suc, _+_, _*_, _-_, _≤_, _<_, min}
 use native.Mathlib.Omega.{arith}
 use native.Mathlib.Nat.{mul-le-mul}
 use mir.Val.{Fits as Fits-in}
 use mir.Syntax.{w64}
 use lib.Dec.{eqb}
-use lib.ListN.{length, getD, length-append}
-use borrow.Author.Tests.{eq-eqb, ne-eqb}
+use lib.ListN.{length, length-append}
 use Rattle.rules.specs.Basics.{pick}
-use Rattle.rules.specs.Language.{Form, star, plus, opt, exactly, atLeast, atMost, between, lower, upper, InBounds, Rank, pattern, branch, factor, primary, Tree, one, more, last, next, bare, times, letter, caret, dollar, empty, group}
-use Rattle.rules.specs.Places.{unrolled, unroll, Place, pLetter, pCaret, pDollar, pFork, pEnd, size, sizes, code, codes, roundPlaces, fork, placeCount}
+use Rattle.rules.specs.Language.{Form, star, plus, opt, exactly, atLeast, atMost, between, lower, upper, InBounds, pattern, branch, factor, primary, Tree, one, more, last, next, bare, times, letter, empty}
+use Rattle.rules.specs.Places.{unrolled, unroll, Place, pLetter, pCaret, pDollar, size, sizes, code, roundPlaces, fork, placeCount}
 use Rattle.rules.proofs.Counting.{unrolled-size}
 use Rattle.rules.proofs.Distinct.{thinPlace, thinned}
 use Rattle.pattern.specs.Nodes.{nodeAt}
@@ -22,7 +21,7 @@ use Rattle.pattern.specs.declared.nodes.Sort.{Sort}
 use Rattle.pattern.specs.declared.nodes.Sort.the-variants.{Letter, Anchor, Empty, Sequence, Alternation, Group}
 use Rattle.pattern.specs.declared.nodes.Node.{Node}
 use Rattle.pattern.specs.Held.{body, lowOf, highestOf, lazyOf, Top, At}
-use Rattle.pattern.proofs.ByNode.{Bounded, IsAnchor, FactorAt, SeqAt, AltAt, GroupAt, as-any, as-seq, as-alt, as-letter, as-anchor, as-empty, as-group, at-in, seq-left, seq-right, alt-left, alt-right, group-left, top-places}
+use Rattle.pattern.proofs.ByNode.{Bounded, IsAnchor, FactorAt, GroupAt, as-any, as-seq, as-alt, as-letter, as-anchor, as-empty, as-group, at-in, seq-left, seq-right, alt-left, alt-right, group-left, top-places}
 use Rattle.places.specs.Emitting.{putWords, putPlace, wayCount, waysIn, putPlaces, Fitting, Emitted, choicePlaces, Choosing, forkPlaces, Forking, treePlaces, branchPlaces, bodyPlaces, turns, turnPlaces, Emitting, Branching, Bodying, Turning, WholeSize, BodySize, anchorSort}
 use Rattle.places.specs.declared.Spot.{Spot}
 use Rattle.places.proofs.TableLaws.{fit-left, fit-right, emitted-two, emitted-none, places-length}
@@ -213,7 +212,8 @@ module _ (s : List ℕ) (i : ℕ) (n : Node) (en : n ≡ nodeAt s i) (T : List �
       long : at .place + m ≡ at .place + length (treePlaces (one (last first)) (at .place) nx)
       low : at .place + m ≤ 256
 
-    seq-parts : (nx : ℕ) → nx ≡ pick (eqb (at .place + m) (at .place + n .places)) k (at .place + m) → (p : Tree pattern) → Top p i s → Fitting T at k (treePlaces p (at .place) k) → SeqParts nx p
+    seq-parts : (nx : ℕ) → nx ≡ pick (eqb (at .place + m) (at .place + n .places)) k (at .place + m) → (p : Tree pattern) → Top p i s
+        → Fitting T at k (treePlaces p (at .place) k) → SeqParts nx p
     unfolding placeCount fork
     seq-parts nx ex p t f =
         as-seq s i n en (λ p. (n .places ≡ placeCount p) × (at .place + (fork p + placeCount p) ≤ 256) → SeqParts nx p) e
@@ -246,7 +246,8 @@ module _ (s : List ℕ) (i : ℕ) (n : Node) (en : n ≡ nodeAt s i) (T : List �
 
       rest-only : treePlaces (h .tree) (at .place) k ≡ treePlaces (one (skipped .rest)) (at .place) k
       rest-only =
-          let e1 : treePlaces (one (last (skipped .first))) (at .place) (pick (eqb (at .place + m) (at .place + n .places)) k (at .place + m)) ≡ [] = no-list _ (omega (arith, skipped .long)) in
+          let e1 : treePlaces (one (last (skipped .first))) (at .place) (pick (eqb (at .place + m) (at .place + n .places)) k (at .place + m)) ≡ [] = no-list _
+          (omega (arith, skipped .long)) in
           skipped .split ∙ ap (λ (xs : List Place). xs ++ treePlaces (one (skipped .rest)) (at .place + m) k) e1
           ∙ ap (λ (v : ℕ). treePlaces (one (skipped .rest)) v k) z
 
@@ -257,7 +258,8 @@ module _ (s : List ℕ) (i : ℕ) (n : Node) (en : n ≡ nodeAt s i) (T : List �
       unfolding emitM
       seq-skip u eu = (omega (arith, (seq-right s i n en ((nodeAt s i) .height) refl (emit-at h) e) .0, alt-small ((nodeAt s (n .right)) .sort)), skip-emitting)
 
-      pub seq-skipped : (T2 : List ℕ) (q : Spot) → ((g : Emitting s (n .right) T at k) → Emitted T T2 at q (treePlaces (g .tree) (at .place) k)) → Emitted T T2 at q (treePlaces (h .tree) (at .place) k)
+      pub seq-skipped : (T2 : List ℕ) (q : Spot) → ((g : Emitting s (n .right) T at k) → Emitted T T2 at q (treePlaces (g .tree) (at .place) k))
+          → Emitted T T2 at q (treePlaces (h .tree) (at .place) k)
       unfolding skip-emitting
       seq-skipped T2 q g = subst (Emitted T T2 at q) (sym rest-only) (g skip-emitting)
 
@@ -270,7 +272,8 @@ module _ (s : List ℕ) (i : ℕ) (n : Node) (en : n ≡ nodeAt s i) (T : List �
           record {
             tree = one (last (seq .first));
             top = seq .left-top;
-            fits = part-left T at k (treePlaces (h .tree) (at .place) k) (treePlaces (one (last (seq .first))) (at .place) nx) (λ v. treePlaces (one (seq .rest)) v k) (at .place + m) (seq .split) (seq .long)
+            fits = part-left T at k (treePlaces (h .tree) (at .place) k) (treePlaces (one (last (seq .first))) (at .place) nx) (λ v. treePlaces (one (seq .rest)) v k)
+                (at .place + m) (seq .split) (seq .long)
                 nx (rw ex (low-pick (eqb (at .place + m) (at .place + n .places)) k (at .place + m) (h .fits .behind) (seq .low))) (h .fits);
           }
 
@@ -288,17 +291,20 @@ module _ (s : List ℕ) (i : ℕ) (n : Node) (en : n ≡ nodeAt s i) (T : List �
             record {
               tree = one (seq .rest);
               top = seq .right-top;
-              fits = part-right T at k (treePlaces (h .tree) (at .place) k) (treePlaces (one (last (seq .first))) (at .place) nx) (λ v. treePlaces (one (seq .rest)) v k) (at .place + m) (seq .split) (seq .long) T1 r first-done (h .fits);
+              fits = part-right T at k (treePlaces (h .tree) (at .place) k) (treePlaces (one (last (seq .first))) (at .place) nx) (λ v. treePlaces (one (seq .rest)) v k)
+                  (at .place + m) (seq .split) (seq .long) T1 r first-done (h .fits);
             }
 
         pub seq-second : (u : ℕ) → emitM s i ≡ u → (emitM s (n .right) < u) × Emitting s (n .right) T1 r k
         unfolding emitM
         seq-second u eu = (omega (arith, (seq-right s i n en ((nodeAt s i) .height) refl (emit-at h) e) .0, alt-small ((nodeAt s (n .right)) .sort)), second-emitting)
 
-        pub seq-done : (T2 : List ℕ) (q : Spot) → ((g : Emitting s (n .right) T1 r k) → Emitted T1 T2 r q (treePlaces (g .tree) (r .place) k)) → Emitted T T2 at q (treePlaces (h .tree) (at .place) k)
+        pub seq-done : (T2 : List ℕ) (q : Spot) → ((g : Emitting s (n .right) T1 r k) → Emitted T1 T2 r q (treePlaces (g .tree) (r .place) k))
+            → Emitted T T2 at q (treePlaces (h .tree) (at .place) k)
         unfolding second-emitting
         seq-done T2 q g =
-            part-both T at k (treePlaces (h .tree) (at .place) k) (treePlaces (one (last (seq .first))) (at .place) nx) (λ v. treePlaces (one (seq .rest)) v k) (at .place + m) (seq .split) (seq .long) T1 r first-done T2 q (g second-emitting)
+            part-both T at k (treePlaces (h .tree) (at .place) k) (treePlaces (one (last (seq .first))) (at .place) nx) (λ v. treePlaces (one (seq .rest)) v k) (at .place + m)
+            (seq .split) (seq .long) T1 r first-done T2 q (g second-emitting)
 
   -- an alternation
   module _ (e : n .sort ≡ Alternation) where
@@ -310,7 +316,8 @@ module _ (s : List ℕ) (i : ℕ) (n : Node) (en : n ≡ nodeAt s i) (T : List �
     unfolding placeCount fork
     alt-parts p t f =
         as-alt s i n en (λ p. (n .places ≡ placeCount p) × (at .place + (fork p + placeCount p) ≤ 256) → AltParts p) e
-        (λ b p q x. let y = x .1 in let z : sizes (unrolled (more b p)) ≡ placeCount (more b p) = unrolled-size (more b p) in record { split = alt-places b p (at .place) k; room = omega arith })
+        (λ b p q x. let y = x .1 in let z : sizes (unrolled (more b p)) ≡ placeCount (more b p) = unrolled-size (more b p) in record
+        { split = alt-places b p (at .place) k; room = omega arith })
         p t (exact p t f)
 
     module _ (h : Emitting s i T at k) where
@@ -325,7 +332,8 @@ module _ (s : List ℕ) (i : ℕ) (n : Node) (en : n ≡ nodeAt s i) (T : List �
           record {
             tree = h .tree;
             top = h .top;
-            fits = part-left T at k (treePlaces (h .tree) (at .place) k) (forkPlaces (h .tree) (at .place) k) (λ v. branchPlaces (h .tree) v k) (at .place + 1) (alt .split) one-long k (h .fits .behind) (h .fits);
+            fits = part-left T at k (treePlaces (h .tree) (at .place) k) (forkPlaces (h .tree) (at .place) k) (λ v. branchPlaces (h .tree) v k) (at .place + 1) (alt .split)
+                one-long k (h .fits .behind) (h .fits);
             room = alt .room;
           }
 
@@ -339,17 +347,20 @@ module _ (s : List ℕ) (i : ℕ) (n : Node) (en : n ≡ nodeAt s i) (T : List �
             record {
               tree = h .tree;
               top = h .top;
-              fits = part-right T at k (treePlaces (h .tree) (at .place) k) (forkPlaces (h .tree) (at .place) k) (λ v. branchPlaces (h .tree) v k) (at .place + 1) (alt .split) one-long T1 r fork-done (h .fits);
+              fits = part-right T at k (treePlaces (h .tree) (at .place) k) (forkPlaces (h .tree) (at .place) k) (λ v. branchPlaces (h .tree) v k) (at .place + 1) (alt .split)
+                  one-long T1 r fork-done (h .fits);
             }
 
         pub alt-inside : (u : ℕ) → emitM s i ≡ u → (branchM s i < u) × Branching s i T1 r k
         unfolding emitM branchM
         alt-inside u eu = let b : altBit ((nodeAt s i) .sort) ≡ 2 = ap altBit (ap (λ (y : Node). y .sort) (sym en) ∙ e) in (omega arith, inside-branching)
 
-        pub alt-done : (T2 : List ℕ) (q : Spot) → ((g : Branching s i T1 r k) → Emitted T1 T2 r q (branchPlaces (g .tree) (r .place) k)) → Emitted T T2 at q (treePlaces (h .tree) (at .place) k)
+        pub alt-done : (T2 : List ℕ) (q : Spot) → ((g : Branching s i T1 r k) → Emitted T1 T2 r q (branchPlaces (g .tree) (r .place) k))
+            → Emitted T T2 at q (treePlaces (h .tree) (at .place) k)
         unfolding inside-branching
         alt-done T2 q g =
-            part-both T at k (treePlaces (h .tree) (at .place) k) (forkPlaces (h .tree) (at .place) k) (λ v. branchPlaces (h .tree) v k) (at .place + 1) (alt .split) one-long T1 r fork-done T2 q (g inside-branching)
+            part-both T at k (treePlaces (h .tree) (at .place) k) (forkPlaces (h .tree) (at .place) k) (λ v. branchPlaces (h .tree) v k) (at .place + 1) (alt .split) one-long T1
+            r fork-done T2 q (g inside-branching)
 
   -- a factor
   module _ (ns : n .sort ≡ Sequence → ⊥) (na : n .sort ≡ Alternation → ⊥) where
@@ -375,7 +386,8 @@ module _ (s : List ℕ) (i : ℕ) (n : Node) (en : n ≡ nodeAt s i) (T : List �
       factor-top = subst (λ (p : Tree pattern). Top p i s) (F .is) (h .top)
 
       more-is : m ≡ pick (eqb (highestOf (F .of)) 100) 100 (highestOf (F .of) - lowOf (F .of))
-      more-is = em ∙ ap (λ (v : ℕ). pick (eqb v 100) 100 (v - n .low)) (F .seen .high) ∙ ap (λ (v : ℕ). pick (eqb (highestOf (F .of)) 100) 100 (highestOf (F .of) - v)) (F .seen .low)
+      more-is = em ∙ ap (λ (v : ℕ). pick (eqb v 100) 100 (v - n .low)) (F .seen .high) ∙ ap (λ (v : ℕ). pick (eqb (highestOf (F .of)) 100) 100 (highestOf (F .of) - v))
+          (F .seen .low)
 
       same-places : treePlaces (h .tree) (at .place) k ≡ turnPlaces (n .low) m (F .of) (at .place) k
       same-places = ap (λ (p : Tree pattern). treePlaces p (at .place) k) (F .is) ∙ factor-places (F .of) (at .place) k (n .low) m (F .seen .bounds) (F .seen .low) more-is
@@ -410,7 +422,8 @@ module _ (s : List ℕ) (i : ℕ) (n : Node) (en : n ≡ nodeAt s i) (T : List �
       unfolding emitM roundM
       turn-first u eu = (omega (arith, F .seen .order .low-small, more-small), turning)
 
-      pub turn-done : (T2 : List ℕ) (q : Spot) → ((g : Turning s i c (n .low) m (at .place + n .places) T at k) → Emitted T T2 at q (turnPlaces (n .low) m (g .of) (at .place) k)) → Emitted T T2 at q (treePlaces (h .tree) (at .place) k)
+      pub turn-done : (T2 : List ℕ) (q : Spot) → ((g : Turning s i c (n .low) m (at .place + n .places) T at k)
+          → Emitted T T2 at q (turnPlaces (n .low) m (g .of) (at .place) k)) → Emitted T T2 at q (treePlaces (h .tree) (at .place) k)
       unfolding turning
       turn-done T2 q g = subst (Emitted T T2 at q) (sym same-places) (g turning)
 
@@ -457,7 +470,8 @@ module _ (s : List ℕ) (i : ℕ) (n : Node) (en : n ≡ nodeAt s i) (T : List �
           record {
             tree = one (parts .first);
             top = parts .left-top;
-            fits = part-left T at k (branchPlaces (h .tree) (at .place) k) (treePlaces (one (parts .first)) (at .place) k) (λ v. branchPlaces (parts .rest) v k) (at .place + placeCount (parts .first)) (parts .split) (parts .long)
+            fits = part-left T at k (branchPlaces (h .tree) (at .place) k) (treePlaces (one (parts .first)) (at .place) k) (λ v. branchPlaces (parts .rest) v k)
+                (at .place + placeCount (parts .first)) (parts .split) (parts .long)
                 k (h .fits .behind) (h .fits);
           }
 
@@ -475,21 +489,25 @@ module _ (s : List ℕ) (i : ℕ) (n : Node) (en : n ≡ nodeAt s i) (T : List �
             record {
               tree = parts .rest;
               top = parts .right-top;
-              fits = part-right T at k (branchPlaces (h .tree) (at .place) k) (treePlaces (one (parts .first)) (at .place) k) (λ v. branchPlaces (parts .rest) v k) (at .place + placeCount (parts .first)) (parts .split) (parts .long) T1 r branch-put (h .fits);
+              fits = part-right T at k (branchPlaces (h .tree) (at .place) k) (treePlaces (one (parts .first)) (at .place) k) (λ v. branchPlaces (parts .rest) v k)
+                  (at .place + placeCount (parts .first)) (parts .split) (parts .long) T1 r branch-put (h .fits);
             }
 
         pub branch-second : (u : ℕ) → branchM s i ≡ u → (branchM s (n .right) < u) × Branching s (n .right) T1 r k
         unfolding branchM
         branch-second u eu = (omega (arith, (alt-right s i n en ((nodeAt s i) .height) refl (branching-at h) e) .0), rest-branching)
 
-        pub branch-done : (T2 : List ℕ) (q : Spot) → ((g : Branching s (n .right) T1 r k) → Emitted T1 T2 r q (branchPlaces (g .tree) (r .place) k)) → Emitted T T2 at q (branchPlaces (h .tree) (at .place) k)
+        pub branch-done : (T2 : List ℕ) (q : Spot) → ((g : Branching s (n .right) T1 r k) → Emitted T1 T2 r q (branchPlaces (g .tree) (r .place) k))
+            → Emitted T T2 at q (branchPlaces (h .tree) (at .place) k)
         unfolding rest-branching
         branch-done T2 q g =
-            part-both T at k (branchPlaces (h .tree) (at .place) k) (treePlaces (one (parts .first)) (at .place) k) (λ v. branchPlaces (parts .rest) v k) (at .place + placeCount (parts .first)) (parts .split) (parts .long) T1 r branch-put T2 q (g rest-branching)
+            part-both T at k (branchPlaces (h .tree) (at .place) k) (treePlaces (one (parts .first)) (at .place) k) (λ v. branchPlaces (parts .rest) v k)
+            (at .place + placeCount (parts .first)) (parts .split) (parts .long) T1 r branch-put T2 q (g rest-branching)
 
   module _ (e : n .sort ≡ Alternation → ⊥) where
     single : (p : Tree pattern) → Top p i s → branchPlaces p (at .place) k ≡ treePlaces p (at .place) k
-    single = as-any s i n en (λ p. branchPlaces p (at .place) k ≡ treePlaces p (at .place) k) (λ F q. branch-one (last F) (at .place) k) (λ f b q. branch-one (next f b) (at .place) k) (λ b p q. absurd (e (q .sort)))
+    single = as-any s i n en (λ p. branchPlaces p (at .place) k ≡ treePlaces p (at .place) k) (λ F q. branch-one (last F) (at .place) k)
+        (λ f b q. branch-one (next f b) (at .place) k) (λ b p q. absurd (e (q .sort)))
 
     module _ (h : Branching s i T at k) where
       single-emitting : Emitting s i T at k
@@ -499,7 +517,8 @@ module _ (s : List ℕ) (i : ℕ) (n : Node) (en : n ≡ nodeAt s i) (T : List �
       unfolding emitM branchM
       single-first u eu = (omega (arith, not-alt-bit ((nodeAt s i) .sort) (λ j. e (ap (λ (y : Node). y .sort) en ∙ j))), single-emitting)
 
-      pub single-done : (T2 : List ℕ) (q : Spot) → ((g : Emitting s i T at k) → Emitted T T2 at q (treePlaces (g .tree) (at .place) k)) → Emitted T T2 at q (branchPlaces (h .tree) (at .place) k)
+      pub single-done : (T2 : List ℕ) (q : Spot) → ((g : Emitting s i T at k) → Emitted T T2 at q (treePlaces (g .tree) (at .place) k))
+          → Emitted T T2 at q (branchPlaces (h .tree) (at .place) k)
       unfolding single-emitting
       single-done T2 q g = subst (Emitted T T2 at q) (sym (single (h .tree) (h .top))) (g single-emitting)
 
@@ -534,7 +553,8 @@ module _ (s : List ℕ) (i c n m end : ℕ) (T : List ℕ) (at : Spot) (k : ℕ)
           record {
             of = h .of;
             top = h .top;
-            fits = part-left T at k (turnPlaces n m (h .of) (at .place) k) (bodyPlaces (h .of) (at .place) nx) (λ v. turnPlaces (n - 1) m (h .of) v k) (at .place + c) copy-split copy-long
+            fits = part-left T at k (turnPlaces n m (h .of) (at .place) k) (bodyPlaces (h .of) (at .place) nx) (λ v. turnPlaces (n - 1) m (h .of) v k) (at .place + c) copy-split
+                copy-long
                 nx (rw ex (low-pick (eqb (at .place + c) end) k (at .place + c) (h .fits .behind) copy-low)) (h .fits);
           }
 
@@ -549,10 +569,12 @@ module _ (s : List ℕ) (i c n m end : ℕ) (T : List ℕ) (at : Spot) (k : ℕ)
 
         copy-turning : Turning s i c (n - 1) m end T1 r k
         copy-turning =
-            let f = part-right T at k (turnPlaces n m (h .of) (at .place) k) (bodyPlaces (h .of) (at .place) nx) (λ v. turnPlaces (n - 1) m (h .of) v k) (at .place + c) copy-split copy-long T1 r copy-put (h .fits) in
+            let f = part-right T at k (turnPlaces n m (h .of) (at .place) k) (bodyPlaces (h .of) (at .place) nx) (λ v. turnPlaces (n - 1) m (h .of) v k) (at .place + c)
+            copy-split copy-long T1 r copy-put (h .fits) in
             let l1 = turn-length n m (h .of) (at .place) k in
             let l2 = turn-length (n - 1) m (h .of) (at .place + c) k in
-            let l3 : length (turnPlaces n m (h .of) (at .place) k) ≡ length (bodyPlaces (h .of) (at .place) nx) + length (turnPlaces (n - 1) m (h .of) (at .place + c) k) = ap length copy-split ∙ length-append (bodyPlaces (h .of) (at .place) nx) _ in
+            let l3 : length (turnPlaces n m (h .of) (at .place) k) ≡ length (bodyPlaces (h .of) (at .place) nx) + length (turnPlaces (n - 1) m (h .of) (at .place + c) k) = ap
+            length copy-split ∙ length-append (bodyPlaces (h .of) (at .place) nx) _ in
             record {
               of = h .of;
               top = h .top;
@@ -566,10 +588,12 @@ module _ (s : List ℕ) (i c n m end : ℕ) (T : List ℕ) (at : Spot) (k : ℕ)
         unfolding roundM
         copy-again u eu = (omega arith, copy-turning)
 
-        pub copy-done : (T2 : List ℕ) (q : Spot) → ((g : Turning s i c (n - 1) m end T1 r k) → Emitted T1 T2 r q (turnPlaces (n - 1) m (g .of) (r .place) k)) → Emitted T T2 at q (turnPlaces n m (h .of) (at .place) k)
+        pub copy-done : (T2 : List ℕ) (q : Spot) → ((g : Turning s i c (n - 1) m end T1 r k) → Emitted T1 T2 r q (turnPlaces (n - 1) m (g .of) (r .place) k))
+            → Emitted T T2 at q (turnPlaces n m (h .of) (at .place) k)
         unfolding copy-turning
         copy-done T2 q g =
-            part-both T at k (turnPlaces n m (h .of) (at .place) k) (bodyPlaces (h .of) (at .place) nx) (λ v. turnPlaces (n - 1) m (h .of) v k) (at .place + c) copy-split copy-long T1 r copy-put T2 q (g copy-turning)
+            part-both T at k (turnPlaces n m (h .of) (at .place) k) (bodyPlaces (h .of) (at .place) nx) (λ v. turnPlaces (n - 1) m (h .of) v k) (at .place + c) copy-split
+            copy-long T1 r copy-put T2 q (g copy-turning)
 
     pub copy-fits : Turning s i c n m end T at k → Fits-in w64 (at .place + c)
     copy-fits h = record { fits = omega (arith, copy-low _ refl h) }
@@ -581,14 +605,16 @@ module _ (s : List ℕ) (i c n m end : ℕ) (T : List ℕ) (at : Spot) (k : ℕ)
   pub none-done : n ≤ 0 → m ≡ 0 → (h : Turning s i c n m end T at k) → Emitted T T at at (turnPlaces n m (h .of) (at .place) k)
   none-done l e h =
       let z : n ≡ 0 = omega arith in
-      subst (Emitted T T at at) (sym (ap (λ (v : ℕ). turnPlaces v m (h .of) (at .place) k) z ∙ ap (λ (v : ℕ). turnPlaces 0 v (h .of) (at .place) k) e ∙ turn-none (h .of) c (at .place) k end (h .each))) (emitted-none T at)
+      subst (Emitted T T at at) (sym (ap (λ (v : ℕ). turnPlaces v m (h .of) (at .place) k) z ∙ ap (λ (v : ℕ). turnPlaces 0 v (h .of) (at .place) k) e
+      ∙ turn-none (h .of) c (at .place) k end (h .each))) (emitted-none T at)
 
   -- the node says whether the quantifier is reluctant
   node-lazy : (node : Node) → node ≡ nodeAt s i → (F : Tree factor) → Top (one (last F)) i s → node .lazy ≡ lazyOf F
   node-lazy node en F t = as-any s i node en (OnFactor (λ G. node .lazy ≡ lazyOf G)) (λ G q. q .lazy) (λ f b q. tt) (λ b p q. tt) (one (last F)) t
 
   -- a fork, and what stands behind it
-  module _ (F : Tree factor) (lazy : Bool) (el : lazy ≡ lazyOf F) (co : ℕ) (Q : ℕ → List Place) (whole : List Place) (ew : whole ≡ choicePlaces (lazyOf F) co k ++ Q (at .place + 1)) where
+  module _ (F : Tree factor) (lazy : Bool) (el : lazy ≡ lazyOf F) (co : ℕ) (Q : ℕ → List Place) (whole : List Place)
+      (ew : whole ≡ choicePlaces (lazyOf F) co k ++ Q (at .place + 1)) where
     whole-lazy : whole ≡ choicePlaces lazy co k ++ Q (at .place + 1)
     whole-lazy = ew ∙ ap (λ (z : Bool). choicePlaces z co k ++ Q (at .place + 1)) (sym el)
 
@@ -633,17 +659,32 @@ module _ (s : List ℕ) (i c n m end : ℕ) (T : List ℕ) (at : Spot) (k : ℕ)
       module _ (T1 : List ℕ) (r : Spot) (d : Emitted T T1 at r (choicePlaces (node .lazy) co k)) where
         star-bodying : Bodying s i T1 r (at .place)
         star-bodying =
-            let f = chosen (h .of) (node .lazy) (node-lazy node en (h .of) (h .top)) co (λ v. bodyPlaces (h .of) v (at .place)) (turnPlaces n m (h .of) (at .place) k) star-split (h .fits) T1 r d in
-            record { of = h .of; top = h .top; fits = record { long = f .long; small = f .small; place = f .place; low = f .low; way = f .way; behind = omega (arith, star-low) } }
+            let f = chosen (h .of) (node .lazy) (node-lazy node en (h .of) (h .top)) co (λ v. bodyPlaces (h .of) v (at .place)) (turnPlaces n m (h .of) (at .place) k) star-split
+            (h .fits) T1 r d in
+            record {
+              of = h .of;
+              top = h .top;
+              fits = record {
+                long = f .long;
+                small = f .small;
+                place = f .place;
+                low = f .low;
+                way = f .way;
+                behind = omega
+                    (arith, star-low);
+              };
+            }
 
         pub star-body : (u : ℕ) → roundM s i n m ≡ u → (bodyM s i < u) × Bodying s i T1 r (at .place)
         unfolding roundM bodyM
         star-body u eu = (omega arith, star-bodying)
 
-        pub star-done : (T2 : List ℕ) (q : Spot) → ((g : Bodying s i T1 r (at .place)) → Emitted T1 T2 r q (bodyPlaces (g .of) (r .place) (at .place))) → Emitted T T2 at q (turnPlaces n m (h .of) (at .place) k)
+        pub star-done : (T2 : List ℕ) (q : Spot) → ((g : Bodying s i T1 r (at .place)) → Emitted T1 T2 r q (bodyPlaces (g .of) (r .place) (at .place)))
+            → Emitted T T2 at q (turnPlaces n m (h .of) (at .place) k)
         unfolding star-bodying
         star-done T2 q g =
-            chosen-done (h .of) (node .lazy) (node-lazy node en (h .of) (h .top)) co (λ v. bodyPlaces (h .of) v (at .place)) (turnPlaces n m (h .of) (at .place) k) star-split T1 T2 r q d (g star-bodying)
+            chosen-done (h .of) (node .lazy) (node-lazy node en (h .of) (h .top)) co (λ v. bodyPlaces (h .of) v (at .place)) (turnPlaces n m (h .of) (at .place) k) star-split T1
+            T2 r q d (g star-bodying)
 
     pub star-fits : Turning s i c n m end T at k → Fits-in w64 (at .place + 1)
     star-fits h = record { fits = omega (arith, star-low _ refl h) }
@@ -666,15 +707,18 @@ module _ (s : List ℕ) (i c n m end : ℕ) (T : List ℕ) (at : Spot) (k : ℕ)
       behindFork : ℕ → ℕ → List Place
       behindFork nx v = bodyPlaces (h .of) v nx ++ turnPlaces 0 (m - 1) (h .of) (v + c) k
 
-      option-split : (nx : ℕ) → nx ≡ pick (eqb (at .place + 1 + c) end) k (at .place + 1 + c) → turnPlaces n m (h .of) (at .place) k ≡ choicePlaces (lazyOf (h .of)) co k ++ behindFork nx (at .place + 1)
+      option-split : (nx : ℕ) → nx ≡ pick (eqb (at .place + 1 + c) end) k (at .place + 1 + c)
+          → turnPlaces n m (h .of) (at .place) k ≡ choicePlaces (lazyOf (h .of)) co k ++ behindFork nx (at .place + 1)
       unfolding behindFork
       option-split nx ex = all-options h ∙ turn-option (h .of) c (at .place) k end (h .each) (m - 1) co nx (suc-more h .1) (option-ends h) ec ex
 
-      option-lengths : (nx : ℕ) → nx ≡ pick (eqb (at .place + 1 + c) end) k (at .place + 1 + c) → length (turnPlaces n m (h .of) (at .place) k) ≡ 1 + (c + length (turnPlaces 0 (m - 1) (h .of) (at .place + 1 + c) k))
+      option-lengths : (nx : ℕ) → nx ≡ pick (eqb (at .place + 1 + c) end) k (at .place + 1 + c)
+          → length (turnPlaces n m (h .of) (at .place) k) ≡ 1 + (c + length (turnPlaces 0 (m - 1) (h .of) (at .place + 1 + c) k))
       unfolding behindFork
       option-lengths nx ex =
           ap length (option-split nx ex) ∙ length-append (choicePlaces (lazyOf (h .of)) co k) (behindFork nx (at .place + 1))
-          ∙ ap (λ (v : ℕ). 1 + v) (length-append (bodyPlaces (h .of) (at .place + 1) nx) (turnPlaces 0 (m - 1) (h .of) (at .place + 1 + c) k) ∙ ap (λ (v : ℕ). v + length (turnPlaces 0 (m - 1) (h .of) (at .place + 1 + c) k)) (body-places h (at .place + 1) nx))
+          ∙ ap (λ (v : ℕ). 1 + v) (length-append (bodyPlaces (h .of) (at .place + 1) nx) (turnPlaces 0 (m - 1) (h .of) (at .place + 1 + c) k)
+          ∙ ap (λ (v : ℕ). v + length (turnPlaces 0 (m - 1) (h .of) (at .place + 1 + c) k)) (body-places h (at .place + 1) nx))
 
       option-low : at .place + 1 + c ≤ 256
       unfolding behindFork
@@ -685,58 +729,65 @@ module _ (s : List ℕ) (i c n m end : ℕ) (T : List ℕ) (at : Spot) (k : ℕ)
 
       pub option-choose : Choosing T at (node .lazy) co k
       option-choose =
-          choose (h .of) (node .lazy) (node-lazy node en (h .of) (h .top)) co (behindFork (pick (eqb (at .place + 1 + c) end) k (at .place + 1 + c))) (turnPlaces n m (h .of) (at .place) k) (option-split _ refl)
+          choose (h .of) (node .lazy) (node-lazy node en (h .of) (h .top)) co (behindFork (pick (eqb (at .place + 1 + c) end) k (at .place + 1 + c)))
+          (turnPlaces n m (h .of) (at .place) k) (option-split _ refl)
           (rw ec (low-pick (eqb (at .place + 1) end) k (at .place + 1) (h .fits .behind) (omega (arith, option-low)))) (h .fits)
 
-      module _ (T1 : List ℕ) (r : Spot) (d : Emitted T T1 at r (choicePlaces (node .lazy) co k)) (nx : ℕ) (ex : nx ≡ pick (eqb (at .place + 1 + c) end) k (at .place + 1 + c)) where
-        inside-fits : Fitting T1 r k (bodyPlaces (h .of) (r .place) nx ++ turnPlaces 0 (m - 1) (h .of) (r .place + c) k)
-        unfolding behindFork
-        inside-fits = chosen (h .of) (node .lazy) (node-lazy node en (h .of) (h .top)) co (behindFork nx) (turnPlaces n m (h .of) (at .place) k) (option-split nx ex) (h .fits) T1 r d
+      module _ (T1 : List ℕ) (r : Spot) (d : Emitted T T1 at r (choicePlaces (node .lazy) co k)) (nx : ℕ) (ex : nx ≡ pick (eqb (at .place + 1 + c) end) k (at .place + 1 + c))
+        where
+          inside-fits : Fitting T1 r k (bodyPlaces (h .of) (r .place) nx ++ turnPlaces 0 (m - 1) (h .of) (r .place + c) k)
+          unfolding behindFork
+          inside-fits = chosen (h .of) (node .lazy) (node-lazy node en (h .of) (h .top)) co (behindFork nx) (turnPlaces n m (h .of) (at .place) k) (option-split nx ex) (h .fits)
+              T1 r d
 
-        option-long : r .place + c ≡ r .place + length (bodyPlaces (h .of) (r .place) nx)
-        option-long = ap (λ (v : ℕ). r .place + v) (sym (body-places h (r .place) nx))
+          option-long : r .place + c ≡ r .place + length (bodyPlaces (h .of) (r .place) nx)
+          option-long = ap (λ (v : ℕ). r .place + v) (sym (body-places h (r .place) nx))
 
-        option-bodying : Bodying s i T1 r nx
-        option-bodying =
-            record {
-              of = h .of;
-              top = h .top;
-              fits = fit-left T1 r k (bodyPlaces (h .of) (r .place) nx) (turnPlaces 0 (m - 1) (h .of) (r .place + c) k) nx (rw ex (low-pick (eqb (at .place + 1 + c) end) k (at .place + 1 + c) (h .fits .behind) option-low)) inside-fits;
-            }
-
-        pub option-body : (u : ℕ) → roundM s i n m ≡ u → (bodyM s i < u) × Bodying s i T1 r nx
-        unfolding roundM bodyM
-        option-body u eu = (omega arith, option-bodying)
-
-        module _ (T2 : List ℕ) (q : Spot) (g : (b : Bodying s i T1 r nx) → Emitted T1 T2 r q (bodyPlaces (b .of) (r .place) nx)) where
-          option-put : Emitted T1 T2 r q (bodyPlaces (h .of) (r .place) nx)
-          unfolding option-bodying
-          option-put = g option-bodying
-
-          option-turning : Turning s i c 0 (m - 1) end T2 q k
-          option-turning =
-              let f = part-right T1 r k (bodyPlaces (h .of) (r .place) nx ++ turnPlaces 0 (m - 1) (h .of) (r .place + c) k) (bodyPlaces (h .of) (r .place) nx) (λ v. turnPlaces 0 (m - 1) (h .of) v k) (r .place + c) refl option-long T2 q option-put inside-fits in
-              let l1 = turn-length n m (h .of) (at .place) k in
-              let l2 = turn-length 0 (m - 1) (h .of) (at .place + 1 + c) k in
-              let l3 = option-lengths nx ex in
+          option-bodying : Bodying s i T1 r nx
+          option-bodying =
               record {
                 of = h .of;
                 top = h .top;
-                each = h .each;
-                ends = omega (arith, h .ends, body-places h (r .place) nx, option-put .place, d .place);
-                few = (omega arith, omega (arith, h .few .1));
-                fits = f;
+                fits = fit-left T1 r k (bodyPlaces (h .of) (r .place) nx) (turnPlaces 0 (m - 1) (h .of) (r .place + c) k) nx
+                    (rw ex (low-pick (eqb (at .place + 1 + c) end) k (at .place + 1 + c) (h .fits .behind) option-low)) inside-fits;
               }
 
-          pub option-again : (u : ℕ) → roundM s i n m ≡ u → (roundM s i 0 (m - 1) < u) × Turning s i c 0 (m - 1) end T2 q k
-          unfolding roundM
-          option-again u eu = (omega (arith, suc-more h .0), option-turning)
+          pub option-body : (u : ℕ) → roundM s i n m ≡ u → (bodyM s i < u) × Bodying s i T1 r nx
+          unfolding roundM bodyM
+          option-body u eu = (omega arith, option-bodying)
 
-          pub option-done : (T3 : List ℕ) (z : Spot) → ((b : Turning s i c 0 (m - 1) end T2 q k) → Emitted T2 T3 q z (turnPlaces 0 (m - 1) (b .of) (q .place) k)) → Emitted T T3 at z (turnPlaces n m (h .of) (at .place) k)
-          unfolding option-turning behindFork
-          option-done T3 z b =
-              chosen-done (h .of) (node .lazy) (node-lazy node en (h .of) (h .top)) co (behindFork nx) (turnPlaces n m (h .of) (at .place) k) (option-split nx ex) T1 T3 r z d
-              (part-both T1 r k (bodyPlaces (h .of) (r .place) nx ++ turnPlaces 0 (m - 1) (h .of) (r .place + c) k) (bodyPlaces (h .of) (r .place) nx) (λ v. turnPlaces 0 (m - 1) (h .of) v k) (r .place + c) refl option-long T2 q option-put T3 z (b option-turning))
+          module _ (T2 : List ℕ) (q : Spot) (g : (b : Bodying s i T1 r nx) → Emitted T1 T2 r q (bodyPlaces (b .of) (r .place) nx)) where
+            option-put : Emitted T1 T2 r q (bodyPlaces (h .of) (r .place) nx)
+            unfolding option-bodying
+            option-put = g option-bodying
+
+            option-turning : Turning s i c 0 (m - 1) end T2 q k
+            option-turning =
+                let f = part-right T1 r k (bodyPlaces (h .of) (r .place) nx ++ turnPlaces 0 (m - 1) (h .of) (r .place + c) k) (bodyPlaces (h .of) (r .place) nx)
+                (λ v. turnPlaces 0 (m - 1) (h .of) v k) (r .place + c) refl option-long T2 q option-put inside-fits in
+                let l1 = turn-length n m (h .of) (at .place) k in
+                let l2 = turn-length 0 (m - 1) (h .of) (at .place + 1 + c) k in
+                let l3 = option-lengths nx ex in
+                record {
+                  of = h .of;
+                  top = h .top;
+                  each = h .each;
+                  ends = omega (arith, h .ends, body-places h (r .place) nx, option-put .place, d .place);
+                  few = (omega arith, omega (arith, h .few .1));
+                  fits = f;
+                }
+
+            pub option-again : (u : ℕ) → roundM s i n m ≡ u → (roundM s i 0 (m - 1) < u) × Turning s i c 0 (m - 1) end T2 q k
+            unfolding roundM
+            option-again u eu = (omega (arith, suc-more h .0), option-turning)
+
+            pub option-done : (T3 : List ℕ) (z : Spot) → ((b : Turning s i c 0 (m - 1) end T2 q k) → Emitted T2 T3 q z (turnPlaces 0 (m - 1) (b .of) (q .place) k))
+                → Emitted T T3 at z (turnPlaces n m (h .of) (at .place) k)
+            unfolding option-turning behindFork
+            option-done T3 z b =
+                chosen-done (h .of) (node .lazy) (node-lazy node en (h .of) (h .top)) co (behindFork nx) (turnPlaces n m (h .of) (at .place) k) (option-split nx ex) T1 T3 r z d
+                (part-both T1 r k (bodyPlaces (h .of) (r .place) nx ++ turnPlaces 0 (m - 1) (h .of) (r .place + c) k) (bodyPlaces (h .of) (r .place) nx)
+                (λ v. turnPlaces 0 (m - 1) (h .of) v k) (r .place + c) refl option-long T2 q option-put T3 z (b option-turning))
 
     pub option-fits : Turning s i c n m end T at k → Fits-in w64 (at .place + 1)
     option-fits h = record { fits = omega (arith, option-low _ refl h) }
@@ -775,7 +826,8 @@ module _ (s : List ℕ) (i : ℕ) (n : Node) (en : n ≡ nodeAt s i) (T : List �
     pub letter-words : (4 * at .place + 4 ≤ length T) × (k < 65536) × (at .place < 65536)
     letter-words = one-fits (pLetter a k) (subst (Fitting T at k) is-letter (h .fits))
 
-    pub letter-done : (v : ℕ) (T1 : List ℕ) (r : Spot) → v ≡ a → (r ≡ record { place = at .place + 1; way = at .way }) × (T1 ≡ putWords T (at .place) 1 v k 0) → Emitted T T1 at r (bodyPlaces (h .of) (at .place) k)
+    pub letter-done : (v : ℕ) (T1 : List ℕ) (r : Spot) → v ≡ a → (r ≡ record { place = at .place + 1; way = at .way }) × (T1 ≡ putWords T (at .place) 1 v k 0)
+        → Emitted T T1 at r (bodyPlaces (h .of) (at .place) k)
     unfolding putPlace wayCount
     letter-done v T1 r ev d =
         subst (Emitted T T1 at r) (sym is-letter) (simple-put T T1 at r (pLetter a k) 1 a k refl refl (d .0, d .1 ∙ ap (λ (x : ℕ). putWords T (at .place) 1 x k 0) ev))
@@ -816,16 +868,19 @@ module _ (s : List ℕ) (i : ℕ) (n : Node) (en : n ≡ nodeAt s i) (T : List �
     pub anchor-words : (4 * at .place + 4 ≤ length T) × (k < 65536) × (at .place < 65536)
     anchor-words = one-fits (anchor-place .place) (subst (Fitting T at k) (anchor-place .is) (h .fits))
 
-    pub anchor-done : (v : ℕ) (T1 : List ℕ) (r : Spot) → v ≡ anchorSort a → (r ≡ record { place = at .place + 1; way = at .way }) × (T1 ≡ putWords T (at .place) v 0 k 0) → Emitted T T1 at r (bodyPlaces (h .of) (at .place) k)
+    pub anchor-done : (v : ℕ) (T1 : List ℕ) (r : Spot) → v ≡ anchorSort a → (r ≡ record { place = at .place + 1; way = at .way }) × (T1 ≡ putWords T (at .place) v 0 k 0)
+        → Emitted T T1 at r (bodyPlaces (h .of) (at .place) k)
     anchor-done v T1 r ev d =
         subst (Emitted T T1 at r) (sym (anchor-place .is))
-        (simple-put T T1 at r (anchor-place .place) (anchorSort a) 0 k (anchor-place .ways) (anchor-place .words) (d .0, d .1 ∙ ap (λ (x : ℕ). putWords T (at .place) x 0 k 0) ev))
+        (simple-put T T1 at r (anchor-place .place) (anchorSort a) 0 k (anchor-place .ways) (anchor-place .words)
+        (d .0, d .1 ∙ ap (λ (x : ℕ). putWords T (at .place) x 0 k 0) ev))
 
   pub empty-done : n .sort ≡ Empty → (h : Bodying s i T at k) → Emitted T T at at (bodyPlaces (h .of) (at .place) k)
   unfolding unrolled code thinned
   empty-done e h =
       subst (Emitted T T at at)
-      (sym (ap (λ (x : Tree primary). thinned (code (unrolled x) (at .place) k)) (as-empty s i n en (OnFactor (λ G. body G ≡ empty)) e (λ G q j. j) (one (last (h .of))) (h .top)))) (emitted-none T at)
+      (sym (ap (λ (x : Tree primary). thinned (code (unrolled x) (at .place) k)) (as-empty s i n en (OnFactor (λ G. body G ≡ empty)) e (λ G q j. j) (one (last (h .of)))
+      (h .top)))) (emitted-none T at)
 
   pub sequence-done : n .sort ≡ Sequence → (h : Bodying s i T at k) → Emitted T T at at (bodyPlaces (h .of) (at .place) k)
   sequence-done e h = absurd (as-seq s i n en (OnFactor (λ G. ⊥)) e (λ f b q. tt) (one (last (h .of))) (h .top))
@@ -846,9 +901,12 @@ module _ (s : List ℕ) (i : ℕ) (n : Node) (en : n ≡ nodeAt s i) (T : List �
 
     pub group-first : (u : ℕ) → bodyM s i ≡ u → (emitM s (n .left) < u) × Emitting s (n .left) T at k
     unfolding emitM bodyM
-    group-first u eu =
-        (omega (arith, (group-left s i n en ((nodeAt s i) .height) refl (record { tree = one (last (h .of)); is = h .top }) e) .0, alt-small ((nodeAt s (n .left)) .sort)), group-emitting)
+    group-first u eu = (
+      omega (arith, (group-left s i n en ((nodeAt s i) .height) refl (record { tree = one (last (h .of)); is = h .top }) e) .0, alt-small ((nodeAt s (n .left)) .sort)),
+      group-emitting,
+    )
 
-    pub group-done : (T2 : List ℕ) (q : Spot) → ((g : Emitting s (n .left) T at k) → Emitted T T2 at q (treePlaces (g .tree) (at .place) k)) → Emitted T T2 at q (bodyPlaces (h .of) (at .place) k)
+    pub group-done : (T2 : List ℕ) (q : Spot) → ((g : Emitting s (n .left) T at k) → Emitted T T2 at q (treePlaces (g .tree) (at .place) k))
+        → Emitted T T2 at q (bodyPlaces (h .of) (at .place) k)
     unfolding group-emitting
     group-done T2 q g = subst (Emitted T T2 at q) (sym is-group) (g group-emitting)

@@ -1,32 +1,32 @@
 -- Laws of the functions that put forks: each is one way through one function.
 use mathlib.Core.Path.{_≡_, refl, sym, ap, _∙_, subst}
 use mathlib.Core.Bool.{Bool, true, false, _||_}
-use mathlib.Core.List.{List, [], _∷_, _++_}
-use Prim.Native.Nat.{ℕ, zero, suc, _+_, _*_, _-_, _≤_, _<_, min}
+use mathlib.Core.List.{List, [], _∷_}
+use Prim.Native.Nat.{ℕ, _+_, _*_, _-_, _≤_, _<_, min}
 use native.Mathlib.Omega.{arith}
 use types.Run.{OneOf, miss}
 use denote.Enum.Declared.{tagOf}
 use mir.Val.{Fits as Fits-in}
 use mir.Syntax.{w64}
 use lib.Dec.{eqb}
-use lib.ListN.{length, getD, set}
+use lib.ListN.{length}
 use borrow.Author.Tests.{eq-eqb}
 use Rattle.rules.specs.Basics.{pick, has}
-use Rattle.rules.specs.Language.{Rank, pattern, branch, factor, Tree, one, more, last, next}
-use Rattle.rules.specs.Places.{Unrolled, Branches, uNil, uCons, unrolled, Place, pFork, waysInTurn, size, sizes, startOf, startsOf, placeCount}
+use Rattle.rules.specs.Language.{pattern, branch, Tree, one, more, last, next}
+use Rattle.rules.specs.Places.{Unrolled, Branches, uNil, uCons, unrolled, Place, pFork, size, sizes, startOf, startsOf, placeCount}
 use Rattle.rules.proofs.Counting.{unrolled-size}
 use Rattle.rules.proofs.Distinct.{keepNew, fresh, distinct}
 use Rattle.pattern.specs.Nodes.{nodeAt}
 use Rattle.pattern.specs.declared.nodes.Sort.{Sort}
-use Rattle.pattern.specs.declared.nodes.Sort.the-variants.{Letter, Anchor, Empty, Sequence, Alternation, Group}
+use Rattle.pattern.specs.declared.nodes.Sort.the-variants.{Sequence, Alternation}
 use Rattle.pattern.specs.declared.nodes.Node.{Node}
 use Rattle.pattern.proofs.nodes.Sort.{the-type}
 use Rattle.pattern.specs.Held.{Top, At}
-use Rattle.pattern.proofs.ByNode.{FactorAt, SeqAt, AltAt, as-any, as-alt, at-in, alt-left, alt-right, top-places}
+use Rattle.pattern.proofs.ByNode.{as-any, as-alt, at-in, alt-left, alt-right, top-places}
 use Rattle.places.specs.Tables.{span}
 use Rattle.places.specs.Emitting.{putWays, putWords, putPlace, wayCount, waysIn, putPlaces, Fitting, Emitted, WayPut, WayNeeds, newStarts, Starting, Started, twoPlaces, TwoWays, choicePlaces, Choosing, forkPlaces, Forking}
 use Rattle.places.specs.declared.Spot.{Spot}
-use Rattle.places.proofs.TableLaws.{ways-length, words-length}
+use Rattle.places.proofs.TableLaws.{ways-length}
 use Rattle.places.proofs.WayLaws.{AfterWay, after-way, start-end, start-by-size}
 
 -- ---- a place that is put
@@ -39,7 +39,8 @@ fork-put T T1 T2 at ks to e1 e2 e3 =
     record { is = e3 ∙ rw (e1, e2) refl; place = omega arith; way = omega arith }
 
 -- the words of a fork fit
-pub fork-words : (T T1 : List ℕ) (at : Spot) (k : ℕ) (ks : List ℕ) (to : ℕ) → Fitting T at k (pFork ks ∷ []) → length T1 ≡ length T → to ≡ at .way + length ks → (4 * at .place + 4 ≤ length T1) × (at .way < 65536) × (to < 65536)
+pub fork-words : (T T1 : List ℕ) (at : Spot) (k : ℕ) (ks : List ℕ) (to : ℕ) → Fitting T at k (pFork ks ∷ []) → length T1 ≡ length T → to ≡ at .way + length ks
+    → (4 * at .place + 4 ≤ length T1) × (at .way < 65536) × (to < 65536)
 unfolding waysIn wayCount
 fork-words T T1 at k ks to f l e = let a = f .place in let b = f .long in let c = f .way in let d = f .small in (omega arith, omega arith, omega arith)
 
@@ -128,7 +129,11 @@ module _ (T : List ℕ) (at : Spot) (lazy : Bool) (copy leave : ℕ) where
 
   pub greedy-needs : Choosing T at lazy copy leave → lazy ≡ false → TwoWays T at copy leave
   greedy-needs h e =
-      record { fits = refit leave copy (twoPlaces copy leave) (subst (λ (z : Bool). Fitting T at leave (choicePlaces z copy leave)) e (h .fits)) (h .copied); second = h .fits .behind }
+      record {
+        fits = refit leave copy (twoPlaces copy leave) (subst (λ (z : Bool). Fitting T at leave (choicePlaces z copy leave)) e (h .fits)) (h .copied);
+        second = h .fits
+            .behind;
+      }
 
   pub greedy-done : (T2 : List ℕ) (r : Spot) → lazy ≡ false → Emitted T T2 at r (twoPlaces copy leave) → Emitted T T2 at r (choicePlaces lazy copy leave)
   greedy-done T2 r e d = rw e d
@@ -145,9 +150,7 @@ module _ (s : List ℕ) (i : ℕ) (n : Node) (en : n ≡ nodeAt s i) (T : List �
   module _ (e : n .sort ≡ Alternation) (m : ℕ) (em : m ≡ (nodeAt s (n .left)) .places) where
     -- what is known of an alternation's branches
     record Alt (p : Tree pattern) : Type 0 where
-      first : Tree branch
       rest : Tree pattern
-      first-top : Top (one first) (n .left) s
       rest-top : Top rest (n .right) s
       starts : startsOf (unrolled p) b k ≡ pick (eqb b (b + m)) k b ∷ startsOf (unrolled rest) (b + m) k
       size-is : sizes (unrolled p) ≡ m + sizes (unrolled rest)
@@ -159,9 +162,7 @@ module _ (s : List ℕ) (i : ℕ) (n : Node) (en : n ≡ nodeAt s i) (T : List �
         let d = top-places s (n .left) (one x) (q .left) in
         let z : size (unrolled x) ≡ m = omega arith in
         record {
-          first = x;
           rest = p;
-          first-top = q .left;
           rest-top = q .right;
           starts = ap (λ (v : ℕ). v ∷ startsOf (unrolled p) (b + size (unrolled x)) k) (start-by-size (unrolled x) b k)
               ∙ ap (λ (v : ℕ). pick (eqb b (b + v)) k b ∷ startsOf (unrolled p) (b + v) k) z;
@@ -181,7 +182,8 @@ module _ (s : List ℕ) (i : ℕ) (n : Node) (en : n ≡ nodeAt s i) (T : List �
 
       pub start-way : WayNeeds T from to y
       start-way =
-          let w : to + length (fresh (span T from (to - from)) (y ∷ startsOf (unrolled (alt .rest)) (b + m) k)) ≤ length T = subst (λ (ks : List ℕ). to + length ks ≤ length T) new-list (h .way) in
+          let w : to + length (fresh (span T from (to - from)) (y ∷ startsOf (unrolled (alt .rest)) (b + m) k)) ≤ length T = subst (λ (ks : List ℕ). to + length ks ≤ length T)
+          new-list (h .way) in
           record {
             order = h .order;
             inside = omega arith;
@@ -213,7 +215,8 @@ module _ (s : List ℕ) (i : ℕ) (n : Node) (en : n ≡ nodeAt s i) (T : List �
         pub start-again : (u : ℕ) → (nodeAt s i) .height ≡ u → ((nodeAt s (n .right)) .height < u) × Starting s (n .right) T1 from r1 (b + m) k
         start-again u eu = ((alt-right s i n en u eu (start-at-node h) e) .0, next-start)
 
-        pub start-more : (exit : List ℕ) (r : ℕ) → ((g : Starting s (n .right) T1 from r1 (b + m) k) → Started s (n .right) T1 from r1 (b + m) k exit r g) → Started s i T from to b k exit r h
+        pub start-more : (exit : List ℕ) (r : ℕ) → ((g : Starting s (n .right) T1 from r1 (b + m) k) → Started s (n .right) T1 from r1 (b + m) k exit r g)
+            → Started s i T from to b k exit r h
         unfolding next-start
         start-more exit r f =
             let d = f next-start in
@@ -302,7 +305,8 @@ module _ (s : List ℕ) (i : ℕ) (n : Node) (en : n ≡ nodeAt s i) (T : List �
 
     single : (p : Tree pattern) → Top p i s → b + sizes (unrolled p) ≤ 256 → Single p
     unfolding placeCount
-    single = as-any s i n en (λ p. b + sizes (unrolled p) ≤ 256 → Single p) (λ F q h. one-facts (last F) (q .places) h) (λ f x q h. one-facts (next f x) (q .places) h) (λ x p q h. absurd (e (q .sort)))
+    single = as-any s i n en (λ p. b + sizes (unrolled p) ≤ 256 → Single p) (λ F q h. one-facts (last F) (q .places) h) (λ f x q h. one-facts (next f x) (q .places) h)
+        (λ x p q h. absurd (e (q .sort)))
 
     module _ (h : Starting s i T from to b k) (y : ℕ) (ey : y ≡ pick (eqb b (b + n .places)) k b) where
       low-last : (t : Bool) → pick t k b ≤ 256
@@ -368,7 +372,8 @@ module _ (s : List ℕ) (i : ℕ) (T : List ℕ) (at : Spot) (k : ℕ) (h : Fork
     pub forking-words : (4 * at .place + 4 ≤ length T1) × (at .way < 65536) × (to < 65536)
     forking-words = fork-words T T1 at k (distinct (startsOf (unrolled (h .tree)) (at .place + 1) k)) to (h .fits) (ap length ways-put ∙ ways-length T (at .way) _) ways-count
 
-    pub forking-done : (T2 : List ℕ) → T2 ≡ putWords T1 (at .place) 0 0 (at .way) to → Emitted T T2 at (record { place = at .place + 1; way = to }) (forkPlaces (h .tree) (at .place) k)
+    pub forking-done : (T2 : List ℕ) → T2 ≡ putWords T1 (at .place) 0 0 (at .way) to → Emitted T T2 at (record { place = at .place + 1; way = to })
+        (forkPlaces (h .tree) (at .place) k)
     forking-done T2 e = fork-put T T1 T2 at (distinct (startsOf (unrolled (h .tree)) (at .place + 1) k)) to ways-put ways-count e
 
 -- ---- sorts that are not these
@@ -379,5 +384,6 @@ not-sequence k h e = miss (0 ∷ 1 ∷ 2 ∷ 4 ∷ 5 ∷ []) 3 tt (subst (λ (x 
 pub not-alternation : (k : Sort) → OneOf (0 ∷ 1 ∷ 2 ∷ 3 ∷ 5 ∷ []) (tagOf the-type k) → k ≡ Alternation → ⊥
 not-alternation k h e = miss (0 ∷ 1 ∷ 2 ∷ 3 ∷ 5 ∷ []) 4 tt (subst (λ (x : Sort). OneOf (0 ∷ 1 ∷ 2 ∷ 3 ∷ 5 ∷ []) (tagOf the-type x)) e h)
 
-pub started-length : (s : List ℕ) (i : ℕ) (T : List ℕ) (from to b k : ℕ) (exit : List ℕ) (r : ℕ) (h : Starting s i T from to b k) → Started s i T from to b k exit r h → length exit ≡ length T
+pub started-length : (s : List ℕ) (i : ℕ) (T : List ℕ) (from to b k : ℕ) (exit : List ℕ) (r : ℕ) (h : Starting s i T from to b k) → Started s i T from to b k exit r h
+    → length exit ≡ length T
 started-length s i T from to b k exit r h d = ap length (d .is) ∙ ways-length T to _

@@ -3,14 +3,13 @@ use mathlib.Core.Path.{_≡_, refl, sym, ap, _∙_, subst}
 use mathlib.Core.Bool.{Bool, true, false, true≢false}
 use mathlib.Core.List.{List, [], _∷_, _++_}
 use mathlib.Core.Option.{Option, none, some}
-use Prim.Native.Nat.{ℕ, zero, suc, _+_, _*_, _-_, _≤_, _<_}
+use Prim.Native.Nat.{ℕ, zero, suc, _+_, _-_, _≤_, _<_}
 use native.Mathlib.Omega.{arith}
 use native.Mathlib.Decide.{decLt}
 use lib.Dec.{eqb, ltb}
 use borrow.Author.Tests.{ltb-false}
-use lib.ListN.{length, getD}
 use Rattle.rules.specs.Basics.{pick}
-use Rattle.rules.specs.Language.{Form, lower, upper, Rank, pattern, branch, factor, primary, Tree, one, more, last, next, bare, times, letter, caret, dollar, empty, group, Written}
+use Rattle.rules.specs.Language.{lower, upper, Rank, pattern, branch, factor, primary, Tree, one, more, last, next, bare, times, letter, caret, dollar, empty, group}
 use Rattle.rules.specs.Reader.{treeOf}
 use Rattle.rules.specs.Places.{Unrolled, uLetter, uCaret, uDollar, uEmpty, uSeq, uAlt, uOpt, uStar, Branches, uNil, uCons, copies, options, behind, repeated, UnrolledAt, forked, unrolled, unroll, Place, pLetter, pCaret, pDollar, pFork, pEnd, waysInTurn, size, sizes, startOf, startsOf, code, codes, places, placesOf}
 use Rattle.rules.specs.Answers.{deep, noTree, hasEmptyLoop, tooMany, P, placesIn, lowest}
@@ -18,14 +17,14 @@ use Rattle.rules.proofs.Walk.{All}
 use Rattle.rules.proofs.Rank.{entry-below}
 use Rattle.rules.proofs.Bounds.{Lettered, written-letters}
 use Rattle.rules.proofs.GrammarSound.{found-written}
-use Rattle.rules.proofs.Counting.{unroll-size, places-counted}
-use Rattle.rules.proofs.Distinct.{fresh, fresh-all, thinPlace, thinned}
+use Rattle.rules.proofs.Counting.{unroll-size}
+use Rattle.rules.proofs.Distinct.{fresh-all, thinPlace, thinned}
 use Rattle.pattern.specs.Held.{Top}
 use Rattle.judge.specs.Judged.{textTests, textAnswer, Judging}
 use Rattle.judge.specs.declared.Verdict.{Verdict}
 use Rattle.places.specs.Tables.{placeIn, placesFrom, tabled, Safe}
 use Rattle.places.specs.Emitting.{Unrolling, Tabled}
-use Rattle.places.specs.Read.{Lent, Holding, Reads}
+use Rattle.places.specs.Read.{Lent, Reads}
 
 -- ---- letters of an unrolled pattern
 
@@ -77,7 +76,8 @@ unrolled-lettered (more b p) h = (unrolled-lettered b (h .0), unrolled-lettered 
 unrolled-lettered (last f) h = unrolled-lettered f h
 unrolled-lettered (next f b) h = (unrolled-lettered f (h .0), unrolled-lettered b (h .1))
 unrolled-lettered (bare x) h = unrolled-lettered x h
-unrolled-lettered (times x f z) h = copies-lettered (lower f) (unrolled x) (behind (upper f) (lower f) z (unrolled x)) (unrolled-lettered x h) (behind-lettered (upper f) (lower f) z (unrolled x) (unrolled-lettered x h))
+unrolled-lettered (times x f z) h = copies-lettered (lower f) (unrolled x) (behind (upper f) (lower f) z (unrolled x)) (unrolled-lettered x h)
+    (behind-lettered (upper f) (lower f) z (unrolled x) (unrolled-lettered x h))
 unrolled-lettered (letter c) h = h
 unrolled-lettered caret h = tt
 unrolled-lettered dollar h = tt
@@ -116,7 +116,11 @@ mutual
       (code-safe x b (startOf y (b + size x) k) P (l .0) (entry-below y (b + size x) k P h (omega arith)) (omega arith)) (code-safe y (b + size x) k P (l .1) h (omega arith))
   code-safe (uAlt ts) b k P l h g = (starts-below ts (suc b) k P h (omega arith), codes-safe ts (suc b) k P l h (omega arith))
   code-safe (uOpt z t) b k P l h g = (turn-below z (startOf t (suc b) k) k P (entry-below t (suc b) k P h (omega arith)) h, code-safe t (suc b) k P l h (omega arith))
-  code-safe (uStar z t) b k P l h g = (turn-below z (startOf t (suc b) b) k P (entry-below t (suc b) b P (omega arith) (omega arith)) h, code-safe t (suc b) b P l (omega arith) (omega arith))
+  code-safe (uStar z t) b k P l h g = (
+    turn-below z (startOf t (suc b) b) k P (entry-below t (suc b) b P (omega arith) (omega arith)) h,
+    code-safe t (suc b) b P l (omega arith)
+        (omega arith),
+  )
 
   codes-safe : (ts : Branches) (b k P : ℕ) → LetteredB ts → k < P → b + sizes ts ≤ P → AllSafe P (codes ts b k)
   codes-safe uNil b k P l h g = tt
@@ -142,7 +146,8 @@ unfolding places Safe unroll
 tree-safe p l =
     thinned-safe (placesOf p) (places (unroll p))
     (safe-append (placesOf p) (code (unroll p) 0 (size (unroll p))) (pEnd ∷ [])
-    (code-safe (unroll p) 0 (size (unroll p)) (placesOf p) (forked-lettered (unrolled p) (unrolled-lettered p l)) (omega (arith, unroll-size p)) (omega (arith, unroll-size p))) (tt, tt))
+    (code-safe (unroll p) 0 (size (unroll p)) (placesOf p) (forked-lettered (unrolled p) (unrolled-lettered p l)) (omega (arith, unroll-size p)) (omega (arith, unroll-size p)))
+    (tt, tt))
 
 -- each place of a table is safe if all that it holds are
 from-safe : (T : List ℕ) (m q N : ℕ) (pl : List Place) → placesFrom T q m ≡ pl → AllSafe N pl → (x : ℕ) → q ≤ x → x < q + m → Safe N (placeIn T x)
@@ -151,7 +156,11 @@ from-safe T m q N pl e a x h g = go m q x h g (subst (AllSafe N) (sym e) a)
   where
     go : (m q x : ℕ) → q ≤ x → x < q + m → AllSafe N (placesFrom T q m) → Safe N (placeIn T x)
     go zero q x h g a = absurd (omega arith)
-    go (suc m) q x h g a = elim (decLt q x) [ yes l ↦ go m (suc q) x l (omega arith) (a .1) | no l ↦ subst (λ (y : ℕ). Safe N (placeIn T y)) (let e : q ≡ x = omega (arith, l) in e) (a .0) ]
+    go (suc m) q x h g a = elim (decLt q x) [
+      | yes l ↦ go m (suc q) x l (omega arith) (a .1)
+      | no l ↦ subst (λ (y : ℕ). Safe N (placeIn T y))
+          (let e : q ≡ x = omega (arith, l) in e) (a .0)
+    ]
 
 -- ---- a text and its table
 
@@ -176,7 +185,7 @@ few-places text p e z =
     ltb-false 256 (placesOf p) g
 
 module _ (text room exit : List ℕ) (v : Verdict) (T : List ℕ) (h : Judging text room exit v) where
-  pub read-bad : (v .answer ≡ 0 → ⊥) → Reads text T T v
+  pub read-bad : (v .answer ≡ 0 → ⊥) → PlacesRead text T T v
   read-bad n = record { answer = h .answer; places = h .places; good = λ e. absurd (n e); bad = λ e. refl; len = refl }
 
   module _ (o : v .answer ≡ 0) where
@@ -206,7 +215,7 @@ module _ (text room exit : List ℕ) (v : Verdict) (T : List ℕ) (h : Judging t
     pub read-unrolling : Lent text room T → Unrolling exit (v .top) (v .places) T
     read-unrolling l = let g = good in record { tree = g .tree; is = g .top; count = g .count; few = g .few; long = omega (arith, g .few, l .long); small = l .small }
 
-    pub read-good : Lent text room T → (T1 : List ℕ) (r : ℕ) → ((u : Unrolling exit (v .top) (v .places) T) → Tabled (u .tree) (v .places) T T1 r) → Reads text T T1 v
+    pub read-good : Lent text room T → (T1 : List ℕ) (r : ℕ) → ((u : Unrolling exit (v .top) (v .places) T) → Tabled (u .tree) (v .places) T T1 r) → PlacesRead text T T1 v
     unfolding read-unrolling tabled placesIn
     read-good l T1 r d =
         let g = good in
@@ -219,7 +228,8 @@ module _ (text room exit : List ℕ) (v : Verdict) (T : List ℕ) (h : Judging t
             is = t .is ∙ sym (ap (λ (x : Option (Tree pattern)). thinned (placesIn x)) (g .is));
             stop = λ q b. omega (arith, t .stop q b, t .few .1, t .len, l .long, g .few);
             safe = λ q b. from-safe T1 (v .places) 0 (v .places) (thinned (places (unroll (g .tree)))) (t .is)
-                (subst (λ (N : ℕ). AllSafe N (thinned (places (unroll (g .tree))))) (sym (g .count)) (tree-safe (g .tree) (written-letters (found-written (g .tree) text (g .is))))) q (omega arith) (omega arith);
+                (subst (λ (N : ℕ). AllSafe N (thinned (places (unroll (g .tree))))) (sym (g .count))
+                (tree-safe (g .tree) (written-letters (found-written (g .tree) text (g .is))))) q (omega arith) (omega arith);
           };
           bad = λ n. absurd (n o);
           len = t .len;

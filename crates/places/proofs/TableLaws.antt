@@ -1,6 +1,5 @@
 -- Places in a table: those that were put are read back, and other words are as they were.
-use mathlib.Core.Path.{_≡_, refl, sym, ap, _∙_, subst}
-use mathlib.Core.Bool.{Bool, true, false}
+use mathlib.Core.Path.{_≡_, refl, sym, ap, _∙_}
 use mathlib.Core.List.{List, [], _∷_, _++_}
 use Prim.Native.Nat.{ℕ, zero, suc, _+_, _*_, _-_, _≤_, _<_}
 use native.Mathlib.Omega.{arith}
@@ -45,7 +44,8 @@ places-length T q w (p ∷ ps) = places-length (putPlace T q w p) (suc q) (w + w
 pub ways-append : (T : List ℕ) (w : ℕ) (xs ys : List ℕ) → putWays T w (xs ++ ys) ≡ putWays (putWays T w xs) (w + length xs) ys
 unfolding putWays
 ways-append T w [] ys = ap (λ (v : ℕ). putWays T v ys) (let e : w ≡ w + 0 = omega arith in e)
-ways-append T w (x ∷ xs) ys = ways-append (set T w x) (suc w) xs ys ∙ ap (λ (v : ℕ). putWays (putWays (set T w x) (suc w) xs) v ys) (let e : suc w + length xs ≡ w + suc (length xs) = omega arith in e)
+ways-append T w (x ∷ xs) ys = ways-append (set T w x) (suc w) xs ys ∙ ap (λ (v : ℕ). putWays (putWays (set T w x) (suc w) xs) v ys)
+    (let e : suc w + length xs ≡ w + suc (length xs) = omega arith in e)
 
 pub waysIn-append : (ps rs : List Place) → waysIn (ps ++ rs) ≡ waysIn ps + waysIn rs
 unfolding waysIn
@@ -54,11 +54,14 @@ waysIn-append (p ∷ ps) rs = omega (arith, waysIn-append ps rs)
 
 pub places-append : (T : List ℕ) (q w : ℕ) (ps rs : List Place) → putPlaces T q w (ps ++ rs) ≡ putPlaces (putPlaces T q w ps) (q + length ps) (w + waysIn ps) rs
 unfolding putPlaces waysIn
-places-append T q w [] rs = ap (λ (v : ℕ). putPlaces T v w rs) (let e : q ≡ q + 0 = omega arith in e) ∙ ap (λ (v : ℕ). putPlaces T (q + 0) v rs) (let e : w ≡ w + 0 = omega arith in e)
+places-append T q w [] rs = ap (λ (v : ℕ). putPlaces T v w rs) (let e : q ≡ q + 0 = omega arith in e)
+    ∙ ap (λ (v : ℕ). putPlaces T (q + 0) v rs) (let e : w ≡ w + 0 = omega arith in e)
 places-append T q w (p ∷ ps) rs =
     places-append (putPlace T q w p) (suc q) (w + wayCount p) ps rs
-    ∙ ap (λ (v : ℕ). putPlaces (putPlaces (putPlace T q w p) (suc q) (w + wayCount p) ps) v (w + wayCount p + waysIn ps) rs) (let e : suc q + length ps ≡ q + suc (length ps) = omega arith in e)
-    ∙ ap (λ (v : ℕ). putPlaces (putPlaces (putPlace T q w p) (suc q) (w + wayCount p) ps) (q + suc (length ps)) v rs) (let e : w + wayCount p + waysIn ps ≡ w + (wayCount p + waysIn ps) = omega arith in e)
+    ∙ ap (λ (v : ℕ). putPlaces (putPlaces (putPlace T q w p) (suc q) (w + wayCount p) ps) v (w + wayCount p + waysIn ps) rs)
+    (let e : suc q + length ps ≡ q + suc (length ps) = omega arith in e)
+    ∙ ap (λ (v : ℕ). putPlaces (putPlaces (putPlace T q w p) (suc q) (w + wayCount p) ps) (q + suc (length ps)) v rs)
+    (let e : w + wayCount p + waysIn ps ≡ w + (wayCount p + waysIn ps) = omega arith in e)
 
 -- ---- what is put, in two parts
 
@@ -122,7 +125,8 @@ place-kept T q w (pDollar k) j h g = words-kept T q 3 0 k 0 j h
 place-kept T q w (pFork ks) j h g = words-kept (putWays T w ks) q 0 0 w (w + length ks) j h ∙ ways-kept T w ks j g
 place-kept T q w pEnd j h g = words-kept T q 4 0 0 0 j h
 
-pub places-kept : (T : List ℕ) (q w : ℕ) (ps : List Place) (j : ℕ) → (4 * q ≤ j → j < 4 * (q + length ps) → ⊥) → (w ≤ j → j < w + waysIn ps → ⊥) → getD (putPlaces T q w ps) j 0 ≡ getD T j 0
+pub places-kept : (T : List ℕ) (q w : ℕ) (ps : List Place) (j : ℕ) → (4 * q ≤ j → j < 4 * (q + length ps) → ⊥) → (w ≤ j → j < w + waysIn ps → ⊥)
+    → getD (putPlaces T q w ps) j 0 ≡ getD T j 0
 unfolding putPlaces waysIn
 places-kept T q w [] j h g = refl
 places-kept T q w (p ∷ ps) j h g =
@@ -175,7 +179,13 @@ by-words U q a b c d h = rw (h .sort, h .letter, h .next, h .stop) refl
 
 words-same : (T U : List ℕ) (q a b c d : ℕ) → ((j : ℕ) → 4 * q ≤ j → j < 4 * q + 4 → getD U j 0 ≡ getD T j 0) → Words T q a b c d → Words U q a b c d
 words-same T U q a b c d f h =
-    record { sort = f (4 * q) (omega arith) (omega arith) ∙ h .sort; letter = f (4 * q + 1) (omega arith) (omega arith) ∙ h .letter; next = f (4 * q + 2) (omega arith) (omega arith) ∙ h .next; stop = f (4 * q + 3) (omega arith) (omega arith) ∙ h .stop }
+    record {
+      sort = f (4 * q) (omega arith) (omega arith) ∙ h .sort;
+      letter = f (4 * q + 1) (omega arith) (omega arith)
+          ∙ h .letter;
+      next = f (4 * q + 2) (omega arith) (omega arith) ∙ h .next;
+      stop = f (4 * q + 3) (omega arith) (omega arith) ∙ h .stop;
+    }
 
 -- a place that was put is read back from any table that has its words and its ways
 place-back : (T U : List ℕ) (q w : ℕ) (p : Place) → 4 * q + 4 ≤ w → w + wayCount p ≤ length T → ((j : ℕ) → 4 * q ≤ j → j < 4 * q + 4 → getD U j 0 ≡ getD (putPlace T q w p) j 0)
@@ -212,7 +222,8 @@ place-stop T q w (pDollar k) h = omega (arith, (words-put T q 3 0 k 0 h) .stop)
 place-stop T q w (pFork ks) h = omega (arith, (words-put (putWays T w ks) q 0 0 w (w + length ks) (omega (arith, ways-length T w ks))) .stop)
 place-stop T q w pEnd h = omega (arith, (words-put T q 4 0 0 0 h) .stop)
 
-pub places-stop : (T : List ℕ) (q w : ℕ) (ps : List Place) → 4 * (q + length ps) ≤ w → w + waysIn ps ≤ length T → (x : ℕ) → q ≤ x → x < q + length ps → getD (putPlaces T q w ps) (4 * x + 3) 0 ≤ w + waysIn ps
+pub places-stop : (T : List ℕ) (q w : ℕ) (ps : List Place) → 4 * (q + length ps) ≤ w → w + waysIn ps ≤ length T → (x : ℕ) → q ≤ x → x < q + length ps
+    → getD (putPlaces T q w ps) (4 * x + 3) 0 ≤ w + waysIn ps
 unfolding putPlaces waysIn
 places-stop T q w [] h l x a b = absurd (omega arith)
 places-stop T q w (p ∷ ps) h l x a b = elim (decLt q x) [

@@ -1,16 +1,15 @@
 -- Laws of `unroll`: the whole tree is put, and END behind it; what was put is read back.
-use mathlib.Core.Path.{_≡_, refl, sym, ap, _∙_, subst}
+use mathlib.Core.Path.{_≡_, sym, ap, _∙_}
 use mathlib.Core.List.{List, [], _∷_, _++_}
-use Prim.Native.Nat.{ℕ, zero, suc, _+_, _*_, _-_, _≤_, _<_}
+use Prim.Native.Nat.{ℕ, _+_, _*_, _-_, _≤_, _<_}
 use native.Mathlib.Omega.{arith}
 use lib.ListN.{length, getD, length-append}
 use Rattle.rules.specs.Language.{Tree, pattern}
-use Rattle.rules.specs.Places.{unroll, Place, pEnd, size, code, places, fork, placeCount, placesOf}
+use Rattle.rules.specs.Places.{unroll, Place, pEnd, size, code, places, placesOf}
 use Rattle.rules.proofs.Counting.{unroll-size}
 use Rattle.rules.proofs.Distinct.{thinPlace, thinned, thinned-append}
-use Rattle.pattern.specs.Held.{Top}
 use Rattle.places.specs.Tables.{placesFrom, tabled}
-use Rattle.places.specs.Emitting.{putWords, putPlace, wayCount, waysIn, putPlaces, Fitting, Emitted, treePlaces, Emitting, Unrolling, Tabled}
+use Rattle.places.specs.Emitting.{putWords, putPlace, wayCount, waysIn, putPlaces, Emitted, treePlaces, Emitting, Unrolling, Tabled}
 use Rattle.places.specs.declared.Spot.{Spot}
 use Rattle.places.proofs.TableLaws.{places-append, waysIn-append, places-length, words-length, places-back, places-kept, places-stop}
 use Rattle.places.proofs.WayLaws.{all-few}
@@ -24,9 +23,6 @@ module _ (s : List ℕ) (top P : ℕ) (T : List ℕ) where
   some-place h = omega (arith, h .count, unroll-size (h .tree))
 
   module _ (h : Unrolling s top P T) where
-    t : Tree pattern
-    t = h .tree
-
     last-place : size (unroll (h .tree)) ≡ P - 1
     last-place = omega (arith, h .count, unroll-size (h .tree))
 
@@ -37,16 +33,21 @@ module _ (s : List ℕ) (top P : ℕ) (T : List ℕ) where
     few : waysIn (treePlaces (h .tree) 0 (P - 1)) ≤ 3 * (P - 1)
     few = omega (arith, all-few (unroll (h .tree)) 0 (P - 1), last-place)
 
-    emitting : Emitting s top T first (P - 1)
-    emitting =
+    pub unroll-emitting : Emitting s top T first (P - 1)
+    unroll-emitting =
         record {
           tree = h .tree;
           top = h .is;
-          fits = record { long = omega (arith, h .long); small = h .small; place = omega (arith, long, h .few); low = omega arith; way = omega (arith, few, h .long); behind = omega (arith, h .few) };
+          fits = record {
+            long = omega (arith, h .long);
+            small = h .small;
+            place = omega (arith, long, h .few);
+            low = omega arith;
+            way = omega (arith, few, h .long);
+            behind =
+                omega (arith, h .few);
+          };
         }
-
-    pub unroll-emitting : Emitting s top T first (P - 1)
-    unroll-emitting = emitting
 
     all : thinned (places (unroll (h .tree))) ≡ treePlaces (h .tree) 0 (P - 1) ++ (pEnd ∷ [])
     unfolding places thinned thinPlace
@@ -54,8 +55,8 @@ module _ (s : List ℕ) (top P : ℕ) (T : List ℕ) where
 
     module _ (T1 : List ℕ) (r : Spot) (d : (g : Emitting s top T first (P - 1)) → Emitted T T1 first r (treePlaces (g .tree) 0 (P - 1))) where
       put : Emitted T T1 first r (treePlaces (h .tree) 0 (P - 1))
-      unfolding emitting
-      put = d emitting
+      unfolding unroll-emitting
+      put = d unroll-emitting
 
       same : length T1 ≡ length T
       same = ap length (put .is) ∙ places-length T 0 1024 (treePlaces (h .tree) 0 (P - 1))
@@ -66,7 +67,8 @@ module _ (s : List ℕ) (top P : ℕ) (T : List ℕ) where
       module _ (T2 : List ℕ) (e : T2 ≡ putWords T1 (r .place) 4 0 0 0) where
         both : T2 ≡ putPlaces T 0 1024 (treePlaces (h .tree) 0 (P - 1) ++ (pEnd ∷ []))
         unfolding putPlaces putPlace
-        both = e ∙ ap (λ (U : List ℕ). putWords U (r .place) 4 0 0 0) (put .is) ∙ ap (λ (q : ℕ). putWords (putPlaces T 0 1024 (treePlaces (h .tree) 0 (P - 1))) q 4 0 0 0) (put .place)
+        both = e ∙ ap (λ (U : List ℕ). putWords U (r .place) 4 0 0 0) (put .is) ∙ ap (λ (q : ℕ). putWords (putPlaces T 0 1024 (treePlaces (h .tree) 0 (P - 1))) q 4 0 0 0)
+            (put .place)
             ∙ sym (places-append T 0 1024 (treePlaces (h .tree) 0 (P - 1)) (pEnd ∷ []))
 
         ways-all : waysIn (treePlaces (h .tree) 0 (P - 1) ++ (pEnd ∷ [])) ≡ waysIn (treePlaces (h .tree) 0 (P - 1))
@@ -83,11 +85,13 @@ module _ (s : List ℕ) (top P : ℕ) (T : List ℕ) where
         unfolding tabled
         unroll-done =
             let pl : List Place = treePlaces (h .tree) 0 (P - 1) ++ (pEnd ∷ []) in
-            let back : placesFrom (putPlaces T 0 1024 pl) 0 (length pl) ≡ pl = places-back T 0 1024 pl (omega (arith, long-all, h .few)) (omega (arith, ways-all, few, h .long)) in
+            let back : placesFrom (putPlaces T 0 1024 pl) 0 (length pl) ≡ pl = places-back T 0 1024 pl (omega (arith, long-all, h .few))
+            (omega (arith, ways-all, few, h .long)) in
             let end : r .way ≡ 1024 + waysIn pl = omega (arith, put .way, ways-all) in
             record {
               is = ap (λ (U : List ℕ). placesFrom U 0 P) both ∙ ap (λ (m : ℕ). placesFrom (putPlaces T 0 1024 pl) 0 m) (sym long-all) ∙ back ∙ sym all;
-              stop = λ q l. rw (both, end) (places-stop T 0 1024 pl (omega (arith, long-all, h .few)) (omega (arith, ways-all, few, h .long)) q (omega arith) (omega (arith, long-all)));
+              stop = λ q l. rw (both, end) (places-stop T 0 1024 pl (omega (arith, long-all, h .few)) (omega (arith, ways-all, few, h .long)) q (omega arith)
+                  (omega (arith, long-all)));
               few = (omega arith, omega (arith, ways-all, few));
               kept = λ j l. ap (λ (U : List ℕ). getD U j 0) both ∙ places-kept T 0 1024 pl j (λ a b. omega (arith, long-all, h .few, end)) (λ a b. omega (arith, end));
               len = unroll-length;

@@ -1,18 +1,15 @@
 -- A fork's ways in a table: those that do not yet stand there are put, each once; and all forks of a pattern have fewer than three ways to a place.
-use mathlib.Core.Path.{_≡_, refl, sym, ap, _∙_, subst}
+use mathlib.Core.Path.{_≡_, refl, sym, ap, _∙_}
 use mathlib.Core.Bool.{Bool, true, false, _||_, or-comm, true≢false}
 use mathlib.Core.List.{List, [], _∷_, _++_}
-use mathlib.Core.Logic.{_⊎_, inl, inr}
 use Prim.Native.Nat.{ℕ, zero, suc, _+_, _*_, _-_, _≤_, _<_, min}
 use native.Mathlib.Omega.{arith}
-use mir.Val.{Fits as Fits-in}
-use mir.Syntax.{w16}
 use lib.Dec.{eqb}
 use lib.ListN.{length, getD, set, length-set}
 use lib.Seq.{getD-set-same, getD-set-other}
 use borrow.Author.Tests.{eq-eqb, ne-eqb, eqb-true, eqb-false}
 use Rattle.rules.specs.Basics.{pick, has}
-use Rattle.rules.specs.Places.{Unrolled, uLetter, uCaret, uDollar, uEmpty, uSeq, uAlt, uOpt, uStar, Branches, uNil, uCons, size, sizes, startOf, startsOf, Place, pFork, waysInTurn, code, codes}
+use Rattle.rules.specs.Places.{Unrolled, uLetter, uCaret, uDollar, uEmpty, uSeq, uAlt, uOpt, uStar, Branches, uNil, uCons, size, sizes, startOf, startsOf, waysInTurn, code, codes}
 use Rattle.rules.proofs.Bounds.{has-append}
 use Rattle.rules.proofs.Distinct.{keepNew, fresh, distinct, thinPlace, thinned, thinned-append}
 use Rattle.places.specs.Tables.{span}
@@ -54,7 +51,12 @@ module _ (T : List ℕ) (from to y j : ℕ) (h : Looked T from to y j) where
     looked-found e = sym (h .same ∙ looked-step ∙ ap (λ (t : Bool). t || has y (span T (j + 1) (to - (j + 1)))) (eq-eqb v y e))
 
     pub looked-more : (v ≡ y → ⊥) → Looked T from to y (j + 1)
-    looked-more n = record { same = h .same ∙ looked-step ∙ ap (λ (t : Bool). t || has y (span T (j + 1) (to - (j + 1)))) (ne-eqb v y n); order = omega arith; inside = h .inside }
+    looked-more n = record {
+      same = h .same ∙ looked-step ∙ ap (λ (t : Bool). t || has y (span T (j + 1) (to - (j + 1)))) (ne-eqb v y n);
+      order = omega arith;
+      inside = h
+          .inside;
+    }
 
 -- ---- a way that is put
 
@@ -80,7 +82,8 @@ fresh-cong s t (y ∷ ys) h =
 span-snoc : (T : List ℕ) (j m : ℕ) → span T j (suc m) ≡ span T j m ++ (getD T (j + m) 0 ∷ [])
 unfolding span
 span-snoc T j zero = ap (λ (i : ℕ). getD T i 0 ∷ []) (let e : j ≡ j + 0 = omega arith in e)
-span-snoc T j (suc m) = ap (λ (xs : List ℕ). getD T j 0 ∷ xs) (span-snoc T (suc j) m ∙ ap (λ (i : ℕ). span T (suc j) m ++ (getD T i 0 ∷ [])) (let e : suc j + m ≡ j + suc m = omega arith in e))
+span-snoc T j (suc m) = ap (λ (xs : List ℕ). getD T j 0 ∷ xs) (span-snoc T (suc j) m ∙ ap (λ (i : ℕ). span T (suc j) m ++ (getD T i 0 ∷ []))
+    (let e : suc j + m ≡ j + suc m = omega arith in e))
 
 span-set : (T : List ℕ) (j m i v : ℕ) → j + m ≤ i → span (set T i v) j m ≡ span T j m
 unfolding span
@@ -91,7 +94,8 @@ has-seen : (T : List ℕ) (from to y z : ℕ) → from ≤ to → to < length T 
 unfolding has
 has-seen T from to y z h l =
     ap (λ (m : ℕ). has z (span (set T to y) from m)) (let e : to + 1 - from ≡ suc (to - from) = omega arith in e)
-    ∙ ap (has z) (span-snoc (set T to y) from (to - from) ∙ ap (λ (xs : List ℕ). xs ++ (getD (set T to y) (from + (to - from)) 0 ∷ [])) (span-set T from (to - from) to y (omega arith)))
+    ∙ ap (has z) (span-snoc (set T to y) from (to - from) ∙ ap (λ (xs : List ℕ). xs ++ (getD (set T to y) (from + (to - from)) 0 ∷ []))
+    (span-set T from (to - from) to y (omega arith)))
     ∙ ap (λ (i : ℕ). has z (span T from (to - from) ++ (getD (set T to y) i 0 ∷ []))) (let e : from + (to - from) ≡ to = omega arith in e)
     ∙ ap (λ (v : ℕ). has z (span T from (to - from) ++ (v ∷ []))) (getD-set-same T to y 0 l)
     ∙ has-append z (span T from (to - from)) (y ∷ [])
@@ -156,7 +160,8 @@ start-by-size (uLetter c) b k = start-here b (b + 1) k (λ e. omega arith)
 start-by-size uCaret b k = start-here b (b + 1) k (λ e. omega arith)
 start-by-size uDollar b k = start-here b (b + 1) k (λ e. omega arith)
 start-by-size uEmpty b k = start-end b (b + 0) k (omega arith)
-start-by-size (uSeq x y) b k = start-by-size x b (startOf y (b + size x) k) ∙ ap (λ (v : ℕ). pick (eqb b (b + size x)) v b) (start-by-size y (b + size x) k) ∙ go (eqb b (b + size x)) refl
+start-by-size (uSeq x y) b k = start-by-size x b (startOf y (b + size x) k) ∙ ap (λ (v : ℕ). pick (eqb b (b + size x)) v b) (start-by-size y (b + size x) k)
+    ∙ go (eqb b (b + size x)) refl
   where
     go : (t : Bool) → eqb b (b + size x) ≡ t → pick t (pick (eqb (b + size x) (b + size x + size y)) k (b + size x)) b ≡ pick (eqb b (b + (size x + size y))) k b
     go true e =
@@ -190,7 +195,8 @@ few-fresh uNil b k seen = omega arith
 few-fresh (uCons t ts) b k seen = rw (start-by-size t b k) (go (eqb b (b + size t)) refl (few-fresh ts (b + size t) k))
   where
     go : (e : Bool) → eqb b (b + size t) ≡ e → ((s : List ℕ) → length (fresh s (startsOf ts (b + size t) k)) ≤ someOf ts + pick (has k s) 0 1)
-        → length (keepNew (has (pick e k b) seen) (pick e k b) (fresh seen (startsOf ts (b + size t) k)) (fresh (pick e k b ∷ seen) (startsOf ts (b + size t) k))) ≤ min 1 (size t) + someOf ts + pick (has k seen) 0 1
+        → length (keepNew (has (pick e k b) seen) (pick e k b) (fresh seen (startsOf ts (b + size t) k)) (fresh (pick e k b ∷ seen) (startsOf ts (b + size t) k))) ≤ min 1
+        (size t) + someOf ts + pick (has k seen) 0 1
     go true q ih =
         keep-le (has k seen) k (fresh seen (startsOf ts (b + size t) k)) (fresh (k ∷ seen) (startsOf ts (b + size t) k)) _
         (λ e. omega (arith, ih seen))
@@ -227,7 +233,11 @@ mutual
   few-ways uDollar b k = omega arith
   few-ways uEmpty b k = omega arith
   few-ways (uSeq x y) b k =
-      rw (thinned-append (code x b (startOf y (b + size x) k)) (code y (b + size x) k), waysIn-append (thinned (code x b (startOf y (b + size x) k))) (thinned (code y (b + size x) k)))
+      rw (
+        thinned-append (code x b (startOf y (b + size x) k)) (code y (b + size x) k),
+        waysIn-append (thinned (code x b (startOf y (b + size x) k)))
+            (thinned (code y (b + size x) k)),
+      )
       (omega (arith, few-ways x b (startOf y (b + size x) k), few-ways y (b + size x) k))
   few-ways (uAlt ts) b k = omega (arith, few-fresh ts (suc b) k [], few-ways-of ts (suc b) k)
   few-ways (uOpt lazy t) b k = omega (arith, two-ways lazy (startOf t (suc b) k) k, few-ways t (suc b) k)

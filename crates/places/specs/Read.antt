@@ -1,6 +1,5 @@
 -- A pattern's text read into its table of places.
 use mathlib.Core.Path.{_≡_}
-use mathlib.Core.Bool.{Bool, true, false}
 use mathlib.Core.List.{List}
 use Prim.Native.Nat.{ℕ, _+_, _*_, _≤_, _<_}
 use lib.Dec.{eqb}
@@ -21,16 +20,16 @@ pub record Lent (text room T : List ℕ) : Type 0 where
   pub small : length T < 65536
 
 -- the table holds P places, each fork's ways once
-pub record Holding (text : List ℕ) (P : ℕ) (T : List ℕ) : Type 0 where
+pub record TableHolds (text : List ℕ) (P : ℕ) (T : List ℕ) : Type 0 where
   pub few : P ≤ 256
   pub is : tabled T P ≡ thinned (placesIn (treeOf text))
   pub stop : (q : ℕ) → q < P → getD T (4 * q + 3) 0 ≤ length T
   pub safe : (q : ℕ) → q < P → Safe P (placeIn T q)
 
 -- what `read_places` promises: answers 4 to 7, or 0; where it is 0, P, and the table; else the table is as it was
-pub record Reads (text T exit : List ℕ) (r : Verdict) : Type 0 where
+pub record PlacesRead (text T exit : List ℕ) (r : Verdict) : Type 0 where
   pub answer : r .answer ≡ textAnswer text
   pub places : r .places ≡ pick (eqb (r .answer) 0) (P (treeOf text)) 0
-  pub good : r .answer ≡ 0 → Holding text (r .places) exit
+  pub good : r .answer ≡ 0 → TableHolds text (r .places) exit
   pub bad : (r .answer ≡ 0 → ⊥) → exit ≡ T
   pub len : length exit ≡ length T

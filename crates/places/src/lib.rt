@@ -15,8 +15,9 @@ ghost use lib.Dec.{eqb};
 ghost use Rattle.rules.specs.Basics.{pick, has};
 ghost use Rattle.pattern.specs.Held.{At};
 ghost use Rattle.places.specs.Tables.{span};
-ghost use Rattle.places.specs.Read.{Lent, Reads};
-ghost use Rattle.places.specs.Emitting.{putWords, Fitting, Emitted, WayPut, WayNeeds, treePlaces, branchPlaces, bodyPlaces, turnPlaces, Starting, Started, TwoWays, twoPlaces, Choosing, choicePlaces, forkPlaces, Forking, Emitting, Branching, Bodying, Turning, WholeSize, BodySize, anchorSort, Unrolling, Tabled};
+ghost use Rattle.places.specs.Read.{Lent, PlacesRead};
+ghost use Rattle.places.specs.Emitting.{putWords, Emitted, WayPut, WayNeeds, Starting, Started, TwoWays, twoPlaces, Choosing, choicePlaces, forkPlaces, Forking, anchorSort};
+ghost use Rattle.places.specs.Emitting.{treePlaces, branchPlaces, bodyPlaces, turnPlaces, Emitting, Branching, Bodying, Turning, WholeSize, BodySize, Unrolling, Tabled};
 
 // Where the next place and the next way go.
 pub struct Spot {
@@ -348,7 +349,7 @@ pub fn unroll(room: &[u16], top: usize, places: usize, table: &mut [u16]) -> usi
 // Judges a pattern's text, and puts its places into the table if it is good. The room is for the tree's nodes.
 pub fn read_places(text: &[u8], room: &mut [u16], table: &mut [u16]) -> Verdict
     requires { ⌜ Lent (now text) (now room) (now table) ⌝ }
-    ensures { λ r. ⌜ Reads (now (text .entry)) (now (table .entry)) (now (table .exit)) r ⌝ }
+    ensures { λ r. ⌜ PlacesRead (now (text .entry)) (now (table .entry)) (now (table .exit)) r ⌝ }
 {
     let v = judge(text, room);
     let answer = v.answer;

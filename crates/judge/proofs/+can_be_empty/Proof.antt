@@ -1,3 +1,5 @@
+-- `judge::can_be_empty`, which calls itself, meets its contract.
+-- The measure: the node's height. Laws: pattern's ByNode, Laws.
 use Rattle.pattern.proofs.ByNode.{at-in, seq-left, seq-right, alt-left, alt-right, group-left}
 use Rattle.judge.proofs.Laws.{null-zero, null-letter, null-anchor, null-empty, null-group, null-seq, null-seq-no, null-alt, null-alt-second}
 use Rattle.pattern.specs.Nodes.{nodeAt}
@@ -27,7 +29,6 @@ can-be-empty-below t =
     (falls 1 can-be-empty-kinds.ps _<_ μ-can-be-empty t)
     can-be-empty.Pre
 
--- src/lib.rt:17:9
 can-be-empty-node-at-requires : (t : ℕ) → can-be-empty-lts.Need-node-at-requires (
   node-at-reads.Asked,
   node-at-reads.Learnt,
@@ -36,7 +37,6 @@ can-be-empty-node-at-requires : (t : ℕ) → can-be-empty-lts.Need-node-at-requ
 ) (can-be-empty-at t) can-be-empty.Post
 can-be-empty-node-at-requires t c κs = search (needs, at-in)
 
--- src/lib.rt:22:9
 can-be-empty-returns : (t : ℕ) → can-be-empty-lts.Need-returns (
   node-at-reads.Asked,
   node-at-reads.Learnt,
@@ -45,7 +45,6 @@ can-be-empty-returns : (t : ℕ) → can-be-empty-lts.Need-returns (
 ) (can-be-empty-at t) can-be-empty.Post
 can-be-empty-returns t c = search (needs, null-zero)
 
--- src/lib.rt:25:28
 can-be-empty-enum-told : (t : ℕ) → can-be-empty-lts.Need-enum-told (
   node-at-reads.Asked,
   node-at-reads.Learnt,
@@ -54,7 +53,6 @@ can-be-empty-enum-told : (t : ℕ) → can-be-empty-lts.Need-enum-told (
 ) (can-be-empty-at t) can-be-empty.Post
 can-be-empty-enum-told t c = search needs
 
--- src/lib.rt:26:28
 can-be-empty-enum-told-2 : (t : ℕ) → can-be-empty-lts.Need-enum-told-2 (
   node-at-reads.Asked,
   node-at-reads.Learnt,
@@ -63,7 +61,6 @@ can-be-empty-enum-told-2 : (t : ℕ) → can-be-empty-lts.Need-enum-told-2 (
 ) (can-be-empty-at t) can-be-empty.Post
 can-be-empty-enum-told-2 t c = search needs
 
--- src/lib.rt:27:24
 can-be-empty-enum-told-3 : (t : ℕ) → can-be-empty-lts.Need-enum-told-3 (
   node-at-reads.Asked,
   node-at-reads.Learnt,
@@ -72,7 +69,6 @@ can-be-empty-enum-told-3 : (t : ℕ) → can-be-empty-lts.Need-enum-told-3 (
 ) (can-be-empty-at t) can-be-empty.Post
 can-be-empty-enum-told-3 t c = search needs
 
--- src/lib.rt:29:16
 can-be-empty-enum-told-4 : (t : ℕ) → can-be-empty-lts.Need-enum-told-4 (
   node-at-reads.Asked,
   node-at-reads.Learnt,
@@ -81,25 +77,25 @@ can-be-empty-enum-told-4 : (t : ℕ) → can-be-empty-lts.Need-enum-told-4 (
 ) (can-be-empty-at t) can-be-empty.Post
 can-be-empty-enum-told-4 t c = search needs
 
--- src/lib.rt:29:16
 can-be-empty-can-be-empty-requires : (t : ℕ) → can-be-empty-lts.Need-can-be-empty-requires (
   node-at-reads.Asked,
   node-at-reads.Learnt,
   can-be-empty-below t,
   can-be-empty.Post,
 ) (can-be-empty-at t) can-be-empty.Post
-can-be-empty-can-be-empty-requires t c κs = seq-left _ _ _ (c .before .before .before .before .node-at .ensures) _ (c .before .before .before .before .before .before .pre .0) (c .before .before .before .before .before .before .pre .1) (c .enum-told4 .given .1)
+can-be-empty-can-be-empty-requires t c κs = seq-left _ _ _ (c .before .before .before .before .node-at .ensures) _ (c .before .before .before .before .before .before .pre .0)
+    (c .before .before .before .before .before .before .pre .1) (c .enum-told4 .given .1)
 
--- src/lib.rt:30:17
 can-be-empty-can-be-empty-requires-2 : (t : ℕ) → can-be-empty-lts.Need-can-be-empty-requires-2 (
   node-at-reads.Asked,
   node-at-reads.Learnt,
   can-be-empty-below t,
   can-be-empty.Post,
 ) (can-be-empty-at t) can-be-empty.Post
-can-be-empty-can-be-empty-requires-2 t c κs = seq-right _ _ _ (c .before .before .before .before .before .before .node-at .ensures) _ (c .before .before .before .before .before .before .before .before .pre .0) (c .before .before .before .before .before .before .before .before .pre .1) (c .before .before .enum-told4 .given .1)
+can-be-empty-can-be-empty-requires-2 t c κs = seq-right _ _ _ (c .before .before .before .before .before .before .node-at .ensures) _
+    (c .before .before .before .before .before .before .before .before .pre .0) (c .before .before .before .before .before .before .before .before .pre .1)
+    (c .before .before .enum-told4 .given .1)
 
--- src/lib.rt:36:16
 can-be-empty-enum-told-5 : (t : ℕ) → can-be-empty-lts.Need-enum-told-5 (
   node-at-reads.Asked,
   node-at-reads.Learnt,
@@ -108,25 +104,25 @@ can-be-empty-enum-told-5 : (t : ℕ) → can-be-empty-lts.Need-enum-told-5 (
 ) (can-be-empty-at t) can-be-empty.Post
 can-be-empty-enum-told-5 t c = search needs
 
--- src/lib.rt:36:16
 can-be-empty-can-be-empty-requires-3 : (t : ℕ) → can-be-empty-lts.Need-can-be-empty-requires-3 (
   node-at-reads.Asked,
   node-at-reads.Learnt,
   can-be-empty-below t,
   can-be-empty.Post,
 ) (can-be-empty-at t) can-be-empty.Post
-can-be-empty-can-be-empty-requires-3 t c κs = alt-left _ _ _ (c .before .before .before .before .node-at .ensures) _ (c .before .before .before .before .before .before .pre .0) (c .before .before .before .before .before .before .pre .1) (c .enum-told5 .given .1)
+can-be-empty-can-be-empty-requires-3 t c κs = alt-left _ _ _ (c .before .before .before .before .node-at .ensures) _ (c .before .before .before .before .before .before .pre .0)
+    (c .before .before .before .before .before .before .pre .1) (c .enum-told5 .given .1)
 
--- src/lib.rt:39:17
 can-be-empty-can-be-empty-requires-4 : (t : ℕ) → can-be-empty-lts.Need-can-be-empty-requires-4 (
   node-at-reads.Asked,
   node-at-reads.Learnt,
   can-be-empty-below t,
   can-be-empty.Post,
 ) (can-be-empty-at t) can-be-empty.Post
-can-be-empty-can-be-empty-requires-4 t c κs = alt-right _ _ _ (c .before .before .before .before .before .before .node-at .ensures) _ (c .before .before .before .before .before .before .before .before .pre .0) (c .before .before .before .before .before .before .before .before .pre .1) (c .before .before .enum-told5 .given .1)
+can-be-empty-can-be-empty-requires-4 t c κs = alt-right _ _ _ (c .before .before .before .before .before .before .node-at .ensures) _
+    (c .before .before .before .before .before .before .before .before .pre .0) (c .before .before .before .before .before .before .before .before .pre .1)
+    (c .before .before .enum-told5 .given .1)
 
--- src/lib.rt:42:24
 can-be-empty-enum-told-6 : (t : ℕ) → can-be-empty-lts.Need-enum-told-6 (
   node-at-reads.Asked,
   node-at-reads.Learnt,
@@ -135,16 +131,15 @@ can-be-empty-enum-told-6 : (t : ℕ) → can-be-empty-lts.Need-enum-told-6 (
 ) (can-be-empty-at t) can-be-empty.Post
 can-be-empty-enum-told-6 t c = search needs
 
--- src/lib.rt:42:24
 can-be-empty-can-be-empty-requires-5 : (t : ℕ) → can-be-empty-lts.Need-can-be-empty-requires-5 (
   node-at-reads.Asked,
   node-at-reads.Learnt,
   can-be-empty-below t,
   can-be-empty.Post,
 ) (can-be-empty-at t) can-be-empty.Post
-can-be-empty-can-be-empty-requires-5 t c κs = group-left _ _ _ (c .before .before .before .before .node-at .ensures) _ (c .before .before .before .before .before .before .pre .0) (c .before .before .before .before .before .before .pre .1) (c .enum-told6 .given .1)
+can-be-empty-can-be-empty-requires-5 t c κs = group-left _ _ _ (c .before .before .before .before .node-at .ensures) _
+    (c .before .before .before .before .before .before .pre .0) (c .before .before .before .before .before .before .pre .1) (c .enum-told6 .given .1)
 
--- src/lib.rt:13:1
 can-be-empty-returns-2 : (t : ℕ) → can-be-empty-lts.Need-returns-2 (
   node-at-reads.Asked,
   node-at-reads.Learnt,
@@ -153,7 +148,6 @@ can-be-empty-returns-2 : (t : ℕ) → can-be-empty-lts.Need-returns-2 (
 ) (can-be-empty-at t) can-be-empty.Post
 can-be-empty-returns-2 t c = search (needs, null-letter)
 
--- src/lib.rt:13:1
 can-be-empty-returns-3 : (t : ℕ) → can-be-empty-lts.Need-returns-3 (
   node-at-reads.Asked,
   node-at-reads.Learnt,
@@ -162,7 +156,6 @@ can-be-empty-returns-3 : (t : ℕ) → can-be-empty-lts.Need-returns-3 (
 ) (can-be-empty-at t) can-be-empty.Post
 can-be-empty-returns-3 t c = search (needs, null-anchor)
 
--- src/lib.rt:13:1
 can-be-empty-returns-4 : (t : ℕ) → can-be-empty-lts.Need-returns-4 (
   node-at-reads.Asked,
   node-at-reads.Learnt,
@@ -171,7 +164,6 @@ can-be-empty-returns-4 : (t : ℕ) → can-be-empty-lts.Need-returns-4 (
 ) (can-be-empty-at t) can-be-empty.Post
 can-be-empty-returns-4 t c = search (needs, null-empty)
 
--- src/lib.rt:13:1
 can-be-empty-returns-5 : (t : ℕ) → can-be-empty-lts.Need-returns-5 (
   node-at-reads.Asked,
   node-at-reads.Learnt,
@@ -180,7 +172,6 @@ can-be-empty-returns-5 : (t : ℕ) → can-be-empty-lts.Need-returns-5 (
 ) (can-be-empty-at t) can-be-empty.Post
 can-be-empty-returns-5 t c = search (needs, null-seq)
 
--- src/lib.rt:13:1
 can-be-empty-returns-6 : (t : ℕ) → can-be-empty-lts.Need-returns-6 (
   node-at-reads.Asked,
   node-at-reads.Learnt,
@@ -189,7 +180,6 @@ can-be-empty-returns-6 : (t : ℕ) → can-be-empty-lts.Need-returns-6 (
 ) (can-be-empty-at t) can-be-empty.Post
 can-be-empty-returns-6 t c = search (needs, null-seq-no)
 
--- src/lib.rt:13:1
 can-be-empty-returns-7 : (t : ℕ) → can-be-empty-lts.Need-returns-7 (
   node-at-reads.Asked,
   node-at-reads.Learnt,
@@ -198,7 +188,6 @@ can-be-empty-returns-7 : (t : ℕ) → can-be-empty-lts.Need-returns-7 (
 ) (can-be-empty-at t) can-be-empty.Post
 can-be-empty-returns-7 t c = search (needs, null-alt)
 
--- src/lib.rt:13:1
 can-be-empty-returns-8 : (t : ℕ) → can-be-empty-lts.Need-returns-8 (
   node-at-reads.Asked,
   node-at-reads.Learnt,
@@ -207,7 +196,6 @@ can-be-empty-returns-8 : (t : ℕ) → can-be-empty-lts.Need-returns-8 (
 ) (can-be-empty-at t) can-be-empty.Post
 can-be-empty-returns-8 t c = search (needs, null-alt-second)
 
--- src/lib.rt:13:1
 can-be-empty-returns-9 : (t : ℕ) → can-be-empty-lts.Need-returns-9 (
   node-at-reads.Asked,
   node-at-reads.Learnt,

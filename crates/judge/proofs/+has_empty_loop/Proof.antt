@@ -1,3 +1,5 @@
+-- `judge::has_empty_loop`, which calls itself, meets its contract.
+-- The measure: the node's height. Laws: pattern's ByNode, Laws.
 use Rattle.pattern.proofs.ByNode.{at-in, seq-left, seq-right, alt-left, alt-right, group-left}
 use Rattle.judge.proofs.Laws.{loop-letter, loop-anchor, loop-empty, loop-seq, loop-seq-second, loop-alt, loop-alt-second, loop-group, loop-group-null, loop-group-rest, group-inside}
 use Rattle.pattern.specs.Nodes.{nodeAt}
@@ -24,7 +26,6 @@ abbrev has-empty-loop-below : ℕ → In 1 has-empty-loop-kinds.ps
 has-empty-loop-below t =
     and 1 has-empty-loop-kinds.ps (falls 1 has-empty-loop-kinds.ps _<_ μ-has-empty-loop t) has-empty-loop.Pre
 
--- src/lib.rt:51:9
 has-empty-loop-node-at-requires : (t : ℕ) → has-empty-loop-lts.Need-node-at-requires (
   node-at-reads.Asked,
   node-at-reads.Learnt,
@@ -35,7 +36,6 @@ has-empty-loop-node-at-requires : (t : ℕ) → has-empty-loop-lts.Need-node-at-
 ) (has-empty-loop-at t) has-empty-loop.Post
 has-empty-loop-node-at-requires t c κs = search (needs, at-in)
 
--- src/lib.rt:57:28
 has-empty-loop-enum-told : (t : ℕ) → has-empty-loop-lts.Need-enum-told (
   node-at-reads.Asked,
   node-at-reads.Learnt,
@@ -46,7 +46,6 @@ has-empty-loop-enum-told : (t : ℕ) → has-empty-loop-lts.Need-enum-told (
 ) (has-empty-loop-at t) has-empty-loop.Post
 has-empty-loop-enum-told t c = search needs
 
--- src/lib.rt:58:28
 has-empty-loop-enum-told-2 : (t : ℕ) → has-empty-loop-lts.Need-enum-told-2 (
   node-at-reads.Asked,
   node-at-reads.Learnt,
@@ -57,7 +56,6 @@ has-empty-loop-enum-told-2 : (t : ℕ) → has-empty-loop-lts.Need-enum-told-2 (
 ) (has-empty-loop-at t) has-empty-loop.Post
 has-empty-loop-enum-told-2 t c = search needs
 
--- src/lib.rt:59:24
 has-empty-loop-enum-told-3 : (t : ℕ) → has-empty-loop-lts.Need-enum-told-3 (
   node-at-reads.Asked,
   node-at-reads.Learnt,
@@ -68,7 +66,6 @@ has-empty-loop-enum-told-3 : (t : ℕ) → has-empty-loop-lts.Need-enum-told-3 (
 ) (has-empty-loop-at t) has-empty-loop.Post
 has-empty-loop-enum-told-3 t c = search needs
 
--- src/lib.rt:61:16
 has-empty-loop-enum-told-4 : (t : ℕ) → has-empty-loop-lts.Need-enum-told-4 (
   node-at-reads.Asked,
   node-at-reads.Learnt,
@@ -79,7 +76,6 @@ has-empty-loop-enum-told-4 : (t : ℕ) → has-empty-loop-lts.Need-enum-told-4 (
 ) (has-empty-loop-at t) has-empty-loop.Post
 has-empty-loop-enum-told-4 t c = search needs
 
--- src/lib.rt:61:16
 has-empty-loop-has-empty-loop-requires : (t : ℕ) → has-empty-loop-lts.Need-has-empty-loop-requires (
   node-at-reads.Asked,
   node-at-reads.Learnt,
@@ -88,9 +84,9 @@ has-empty-loop-has-empty-loop-requires : (t : ℕ) → has-empty-loop-lts.Need-h
   can-be-empty-reads.Asked,
   can-be-empty-reads.Learnt,
 ) (has-empty-loop-at t) has-empty-loop.Post
-has-empty-loop-has-empty-loop-requires t c κs = seq-left _ _ _ (c .before .before .node-at .ensures) _ (c .before .before .before .before .pre .0) (c .before .before .before .before .pre .1) (c .enum-told4 .given .1)
+has-empty-loop-has-empty-loop-requires t c κs = seq-left _ _ _ (c .before .before .node-at .ensures) _ (c .before .before .before .before .pre .0)
+    (c .before .before .before .before .pre .1) (c .enum-told4 .given .1)
 
--- src/lib.rt:64:17
 has-empty-loop-has-empty-loop-requires-2 : (t : ℕ) → has-empty-loop-lts.Need-has-empty-loop-requires-2 (
   node-at-reads.Asked,
   node-at-reads.Learnt,
@@ -99,9 +95,9 @@ has-empty-loop-has-empty-loop-requires-2 : (t : ℕ) → has-empty-loop-lts.Need
   can-be-empty-reads.Asked,
   can-be-empty-reads.Learnt,
 ) (has-empty-loop-at t) has-empty-loop.Post
-has-empty-loop-has-empty-loop-requires-2 t c κs = seq-right _ _ _ (c .before .before .before .before .node-at .ensures) _ (c .before .before .before .before .before .before .pre .0) (c .before .before .before .before .before .before .pre .1) (c .before .before .enum-told4 .given .1)
+has-empty-loop-has-empty-loop-requires-2 t c κs = seq-right _ _ _ (c .before .before .before .before .node-at .ensures) _
+    (c .before .before .before .before .before .before .pre .0) (c .before .before .before .before .before .before .pre .1) (c .before .before .enum-told4 .given .1)
 
--- src/lib.rt:68:16
 has-empty-loop-enum-told-5 : (t : ℕ) → has-empty-loop-lts.Need-enum-told-5 (
   node-at-reads.Asked,
   node-at-reads.Learnt,
@@ -112,7 +108,6 @@ has-empty-loop-enum-told-5 : (t : ℕ) → has-empty-loop-lts.Need-enum-told-5 (
 ) (has-empty-loop-at t) has-empty-loop.Post
 has-empty-loop-enum-told-5 t c = search needs
 
--- src/lib.rt:68:16
 has-empty-loop-has-empty-loop-requires-3 : (t : ℕ) → has-empty-loop-lts.Need-has-empty-loop-requires-3 (
   node-at-reads.Asked,
   node-at-reads.Learnt,
@@ -121,9 +116,9 @@ has-empty-loop-has-empty-loop-requires-3 : (t : ℕ) → has-empty-loop-lts.Need
   can-be-empty-reads.Asked,
   can-be-empty-reads.Learnt,
 ) (has-empty-loop-at t) has-empty-loop.Post
-has-empty-loop-has-empty-loop-requires-3 t c κs = alt-left _ _ _ (c .before .before .node-at .ensures) _ (c .before .before .before .before .pre .0) (c .before .before .before .before .pre .1) (c .enum-told5 .given .1)
+has-empty-loop-has-empty-loop-requires-3 t c κs = alt-left _ _ _ (c .before .before .node-at .ensures) _ (c .before .before .before .before .pre .0)
+    (c .before .before .before .before .pre .1) (c .enum-told5 .given .1)
 
--- src/lib.rt:71:17
 has-empty-loop-has-empty-loop-requires-4 : (t : ℕ) → has-empty-loop-lts.Need-has-empty-loop-requires-4 (
   node-at-reads.Asked,
   node-at-reads.Learnt,
@@ -132,9 +127,9 @@ has-empty-loop-has-empty-loop-requires-4 : (t : ℕ) → has-empty-loop-lts.Need
   can-be-empty-reads.Asked,
   can-be-empty-reads.Learnt,
 ) (has-empty-loop-at t) has-empty-loop.Post
-has-empty-loop-has-empty-loop-requires-4 t c κs = alt-right _ _ _ (c .before .before .before .before .node-at .ensures) _ (c .before .before .before .before .before .before .pre .0) (c .before .before .before .before .before .before .pre .1) (c .before .before .enum-told5 .given .1)
+has-empty-loop-has-empty-loop-requires-4 t c κs = alt-right _ _ _ (c .before .before .before .before .node-at .ensures) _
+    (c .before .before .before .before .before .before .pre .0) (c .before .before .before .before .before .before .pre .1) (c .before .before .enum-told5 .given .1)
 
--- src/lib.rt:75:16
 has-empty-loop-enum-told-6 : (t : ℕ) → has-empty-loop-lts.Need-enum-told-6 (
   node-at-reads.Asked,
   node-at-reads.Learnt,
@@ -145,7 +140,6 @@ has-empty-loop-enum-told-6 : (t : ℕ) → has-empty-loop-lts.Need-enum-told-6 (
 ) (has-empty-loop-at t) has-empty-loop.Post
 has-empty-loop-enum-told-6 t c = search needs
 
--- src/lib.rt:76:17
 has-empty-loop-has-empty-loop-requires-5 : (t : ℕ) → has-empty-loop-lts.Need-has-empty-loop-requires-5 (
   node-at-reads.Asked,
   node-at-reads.Learnt,
@@ -154,9 +148,9 @@ has-empty-loop-has-empty-loop-requires-5 : (t : ℕ) → has-empty-loop-lts.Need
   can-be-empty-reads.Asked,
   can-be-empty-reads.Learnt,
 ) (has-empty-loop-at t) has-empty-loop.Post
-has-empty-loop-has-empty-loop-requires-5 t c κs = group-left _ _ _ (c .before .before .before .node-at .ensures) _ (c .before .before .before .before .before .pre .0) (c .before .before .before .before .before .pre .1) (c .before .enum-told6 .given .1)
+has-empty-loop-has-empty-loop-requires-5 t c κs = group-left _ _ _ (c .before .before .before .node-at .ensures) _ (c .before .before .before .before .before .pre .0)
+    (c .before .before .before .before .before .pre .1) (c .before .enum-told6 .given .1)
 
--- src/lib.rt:76:17
 has-empty-loop-returns : (t : ℕ) → has-empty-loop-lts.Need-returns (
   node-at-reads.Asked,
   node-at-reads.Learnt,
@@ -167,7 +161,6 @@ has-empty-loop-returns : (t : ℕ) → has-empty-loop-lts.Need-returns (
 ) (has-empty-loop-at t) has-empty-loop.Post
 has-empty-loop-returns t c = search (needs, loop-group)
 
--- src/lib.rt:78:16
 has-empty-loop-can-be-empty-requires : (t : ℕ) → has-empty-loop-lts.Need-can-be-empty-requires (
   node-at-reads.Asked,
   node-at-reads.Learnt,
@@ -178,7 +171,6 @@ has-empty-loop-can-be-empty-requires : (t : ℕ) → has-empty-loop-lts.Need-can
 ) (has-empty-loop-at t) has-empty-loop.Post
 has-empty-loop-can-be-empty-requires t c κs = search (needs, group-inside)
 
--- src/lib.rt:79:17
 has-empty-loop-returns-2 : (t : ℕ) → has-empty-loop-lts.Need-returns-2 (
   node-at-reads.Asked,
   node-at-reads.Learnt,
@@ -189,7 +181,6 @@ has-empty-loop-returns-2 : (t : ℕ) → has-empty-loop-lts.Need-returns-2 (
 ) (has-empty-loop-at t) has-empty-loop.Post
 has-empty-loop-returns-2 t c = search (needs, loop-group-null)
 
--- src/lib.rt:81:13
 has-empty-loop-has-empty-loop-requires-6 : (t : ℕ) → has-empty-loop-lts.Need-has-empty-loop-requires-6 (
   node-at-reads.Asked,
   node-at-reads.Learnt,
@@ -198,9 +189,10 @@ has-empty-loop-has-empty-loop-requires-6 : (t : ℕ) → has-empty-loop-lts.Need
   can-be-empty-reads.Asked,
   can-be-empty-reads.Learnt,
 ) (has-empty-loop-at t) has-empty-loop.Post
-has-empty-loop-has-empty-loop-requires-6 t c κs = group-left _ _ _ (c .before .before .before .before .before .node-at .ensures) _ (c .before .before .before .before .before .before .before .pre .0) (c .before .before .before .before .before .before .before .pre .1) (c .before .before .before .enum-told6 .given .1)
+has-empty-loop-has-empty-loop-requires-6 t c κs = group-left _ _ _ (c .before .before .before .before .before .node-at .ensures) _
+    (c .before .before .before .before .before .before .before .pre .0) (c .before .before .before .before .before .before .before .pre .1)
+    (c .before .before .before .enum-told6 .given .1)
 
--- src/lib.rt:47:1
 has-empty-loop-returns-3 : (t : ℕ) → has-empty-loop-lts.Need-returns-3 (
   node-at-reads.Asked,
   node-at-reads.Learnt,
@@ -211,7 +203,6 @@ has-empty-loop-returns-3 : (t : ℕ) → has-empty-loop-lts.Need-returns-3 (
 ) (has-empty-loop-at t) has-empty-loop.Post
 has-empty-loop-returns-3 t c = search (needs, loop-letter)
 
--- src/lib.rt:47:1
 has-empty-loop-returns-4 : (t : ℕ) → has-empty-loop-lts.Need-returns-4 (
   node-at-reads.Asked,
   node-at-reads.Learnt,
@@ -222,7 +213,6 @@ has-empty-loop-returns-4 : (t : ℕ) → has-empty-loop-lts.Need-returns-4 (
 ) (has-empty-loop-at t) has-empty-loop.Post
 has-empty-loop-returns-4 t c = search (needs, loop-anchor)
 
--- src/lib.rt:47:1
 has-empty-loop-returns-5 : (t : ℕ) → has-empty-loop-lts.Need-returns-5 (
   node-at-reads.Asked,
   node-at-reads.Learnt,
@@ -233,7 +223,6 @@ has-empty-loop-returns-5 : (t : ℕ) → has-empty-loop-lts.Need-returns-5 (
 ) (has-empty-loop-at t) has-empty-loop.Post
 has-empty-loop-returns-5 t c = search (needs, loop-empty)
 
--- src/lib.rt:47:1
 has-empty-loop-returns-6 : (t : ℕ) → has-empty-loop-lts.Need-returns-6 (
   node-at-reads.Asked,
   node-at-reads.Learnt,
@@ -244,7 +233,6 @@ has-empty-loop-returns-6 : (t : ℕ) → has-empty-loop-lts.Need-returns-6 (
 ) (has-empty-loop-at t) has-empty-loop.Post
 has-empty-loop-returns-6 t c = search (needs, loop-seq)
 
--- src/lib.rt:47:1
 has-empty-loop-returns-7 : (t : ℕ) → has-empty-loop-lts.Need-returns-7 (
   node-at-reads.Asked,
   node-at-reads.Learnt,
@@ -255,7 +243,6 @@ has-empty-loop-returns-7 : (t : ℕ) → has-empty-loop-lts.Need-returns-7 (
 ) (has-empty-loop-at t) has-empty-loop.Post
 has-empty-loop-returns-7 t c = search (needs, loop-seq-second)
 
--- src/lib.rt:47:1
 has-empty-loop-returns-8 : (t : ℕ) → has-empty-loop-lts.Need-returns-8 (
   node-at-reads.Asked,
   node-at-reads.Learnt,
@@ -266,7 +253,6 @@ has-empty-loop-returns-8 : (t : ℕ) → has-empty-loop-lts.Need-returns-8 (
 ) (has-empty-loop-at t) has-empty-loop.Post
 has-empty-loop-returns-8 t c = search (needs, loop-alt)
 
--- src/lib.rt:47:1
 has-empty-loop-returns-9 : (t : ℕ) → has-empty-loop-lts.Need-returns-9 (
   node-at-reads.Asked,
   node-at-reads.Learnt,
@@ -277,7 +263,6 @@ has-empty-loop-returns-9 : (t : ℕ) → has-empty-loop-lts.Need-returns-9 (
 ) (has-empty-loop-at t) has-empty-loop.Post
 has-empty-loop-returns-9 t c = search (needs, loop-alt-second)
 
--- src/lib.rt:47:1
 has-empty-loop-returns-10 : (t : ℕ) → has-empty-loop-lts.Need-returns-10 (
   node-at-reads.Asked,
   node-at-reads.Learnt,

@@ -1,11 +1,10 @@
+-- `judge::has_byte` meets its contract. Laws: Laws.
 use Rattle.judge.proofs.Laws.{Without, without-none, without-end, without-found, without-more}
 use lib.ListN.{length}
 use Prim.Native.Nat.{_-_}
 use borrow.Author.Needs.{needs}
 use Rattle.judge.proofs.has_byte.Statement.{statement}
 use Rattle.judge.proofs.has_byte.Tie as tie
-use Rattle.judge.proofs.has_byte.Reads as reads
-use Rattle.judge.proofs.has_byte.Lts as lts
 
 abbrev Inv-loop : tie.InvT-loop
 Inv-loop text b i₀ i = Without text b i
@@ -13,31 +12,24 @@ Inv-loop text b i₀ i = Without text b i
 abbrev μ-loop : tie.MeasureT-loop
 μ-loop text b i₀ i = length text - i
 
--- src/lib.rt:134:5
 loop-holds : tie.Need-loop-holds Inv-loop μ-loop
 loop-holds c = search (needs, without-none)
 
--- src/lib.rt:135:12
 shared-slice-read-if1 : tie.Need-shared-slice-read-if1 Inv-loop μ-loop
 shared-slice-read-if1 c = search needs
 
--- src/lib.rt:136:13
 returns : tie.Need-returns Inv-loop μ-loop
 returns c = search (needs, without-found)
 
--- src/lib.rt:138:13
 add-i : tie.Need-add-i Inv-loop μ-loop
 add-i c = search needs
 
--- src/lib.rt:134:5
 loop-less : tie.Need-loop-less Inv-loop μ-loop
 loop-less c = search needs
 
--- src/lib.rt:134:5
 loop-again : tie.Need-loop-again Inv-loop μ-loop
 loop-again c = search (needs, without-more)
 
--- src/lib.rt:130:1
 returns-2 : tie.Need-returns-2 Inv-loop μ-loop
 returns-2 c = search (needs, without-end)
 

@@ -1,3 +1,5 @@
+-- The functions `branch`, `factor`, `pattern`, `primary` of pattern, which call each other, meet their contracts.
+-- The measure: four times the bytes of text left, and a rank for each reader. Laws: ReaderLaws.
 use Rattle.pattern.proofs.ReaderLaws.{before-end, pattern-fails, pattern-ends, pattern-again, pattern-more-fails, pattern-joins, pattern-more, branch-fails, branch-ends-none, branch-ends-bar, branch-ends-shut, branch-again, branch-joins, branch-more-fails, branch-more, factor-fails, factor-fits, factor-ends, primary-simple, primary-empty, primary-again, primary-needs, primary-group}
 use borrow.Author.Tests.{not-true, not-false}
 use native.Mathlib.Omega.{arith}
@@ -20,12 +22,9 @@ use Rattle.pattern.proofs.primary.Reads as primary
 use Rattle.pattern.proofs.primary.Kinds as primary-kinds
 use Rattle.pattern.proofs.+branch+factor+pattern+primary.Lts-primary as primary-lts
 use Rattle.pattern.proofs.marks.peek.Reads as peek-reads
-use Rattle.pattern.proofs.marks.skip.Reads as skip-reads
 use Rattle.pattern.proofs.finish.Reads as finish-reads
 use Rattle.pattern.proofs.join.Reads as join-reads
-use Rattle.pattern.proofs.no_head.Reads as no-head-reads
 use Rattle.pattern.proofs.no_step.Reads as no-step-reads
-use Rattle.pattern.proofs.plain_node.Reads as plain-node-reads
 use Rattle.pattern.proofs.simple.Reads as simple-reads
 use Rattle.pattern.proofs.+branch+factor+pattern+primary.{statement}
 use Rattle.pattern.proofs.+branch+factor+pattern+primary.Tie.{close}
@@ -69,7 +68,6 @@ primary-at t = and 2 primary-kinds.ps (is 2 primary-kinds.ps μ-primary t) prima
 abbrev primary-below : ℕ → In 2 primary-kinds.ps
 primary-below t = and 2 primary-kinds.ps (falls 2 primary-kinds.ps _<_ μ-primary t) primary.Pre
 
--- src/lib.rt:260:9
 branch-factor-requires : (t : ℕ) → branch-lts.Need-factor-requires (
   factor-below t,
   factor.Post,
@@ -82,7 +80,6 @@ branch-factor-requires : (t : ℕ) → branch-lts.Need-factor-requires (
 ) (branch-at t) branch.Post
 branch-factor-requires t c κs = search needs
 
--- src/lib.rt:263:9
 branch-same-length : (t : ℕ) → branch-lts.Need-same-length (
   factor-below t,
   factor.Post,
@@ -95,7 +92,6 @@ branch-same-length : (t : ℕ) → branch-lts.Need-same-length (
 ) (branch-at t) branch.Post
 branch-same-length t c = search needs
 
--- src/lib.rt:263:9
 branch-returns : (t : ℕ) → branch-lts.Need-returns (
   factor-below t,
   factor.Post,
@@ -108,7 +104,6 @@ branch-returns : (t : ℕ) → branch-lts.Need-returns (
 ) (branch-at t) branch.Post
 branch-returns t c = search (needs, branch-fails, not-true)
 
--- src/lib.rt:266:9
 branch-peek-requires : (t : ℕ) → branch-lts.Need-peek-requires (
   factor-below t,
   factor.Post,
@@ -121,7 +116,6 @@ branch-peek-requires : (t : ℕ) → branch-lts.Need-peek-requires (
 ) (branch-at t) branch.Post
 branch-peek-requires t c κs = search needs
 
--- src/lib.rt:268:9
 branch-same-length-2 : (t : ℕ) → branch-lts.Need-same-length-2 (
   factor-below t,
   factor.Post,
@@ -134,7 +128,6 @@ branch-same-length-2 : (t : ℕ) → branch-lts.Need-same-length-2 (
 ) (branch-at t) branch.Post
 branch-same-length-2 t c = search needs
 
--- src/lib.rt:268:9
 branch-returns-2 : (t : ℕ) → branch-lts.Need-returns-2 (
   factor-below t,
   factor.Post,
@@ -147,7 +140,6 @@ branch-returns-2 : (t : ℕ) → branch-lts.Need-returns-2 (
 ) (branch-at t) branch.Post
 branch-returns-2 t c = search (needs, branch-ends-none, not-false)
 
--- src/lib.rt:271:9
 branch-same-length-3 : (t : ℕ) → branch-lts.Need-same-length-3 (
   factor-below t,
   factor.Post,
@@ -160,7 +152,6 @@ branch-same-length-3 : (t : ℕ) → branch-lts.Need-same-length-3 (
 ) (branch-at t) branch.Post
 branch-same-length-3 t c = search needs
 
--- src/lib.rt:271:9
 branch-returns-3 : (t : ℕ) → branch-lts.Need-returns-3 (
   factor-below t,
   factor.Post,
@@ -173,7 +164,6 @@ branch-returns-3 : (t : ℕ) → branch-lts.Need-returns-3 (
 ) (branch-at t) branch.Post
 branch-returns-3 t c = search (needs, branch-ends-bar, not-false)
 
--- src/lib.rt:274:9
 branch-same-length-4 : (t : ℕ) → branch-lts.Need-same-length-4 (
   factor-below t,
   factor.Post,
@@ -186,7 +176,6 @@ branch-same-length-4 : (t : ℕ) → branch-lts.Need-same-length-4 (
 ) (branch-at t) branch.Post
 branch-same-length-4 t c = search needs
 
--- src/lib.rt:274:9
 branch-returns-4 : (t : ℕ) → branch-lts.Need-returns-4 (
   factor-below t,
   factor.Post,
@@ -199,7 +188,6 @@ branch-returns-4 : (t : ℕ) → branch-lts.Need-returns-4 (
 ) (branch-at t) branch.Post
 branch-returns-4 t c = search (needs, branch-ends-shut, not-false)
 
--- src/lib.rt:276:9
 branch-branch-requires : (t : ℕ) → branch-lts.Need-branch-requires (
   factor-below t,
   factor.Post,
@@ -210,9 +198,11 @@ branch-branch-requires : (t : ℕ) → branch-lts.Need-branch-requires (
   join-reads.Asked,
   join-reads.Learnt,
 ) (branch-at t) branch.Post
-branch-branch-requires t c κs = branch-again _ _ _ _ _ _ (c .before .before .before .before .before .before .before .before .factor .ensures) _ (c .before .before .before .before .before .before .before .before .before .before .before .before .pre .0) (c .before .before .before .before .before .before .before .before .before .before .before .before .pre .1) (not-false _ (c .before .before .before .before .before .if1 .left))
+branch-branch-requires t c κs = branch-again _ _ _ _ _ _ (c .before .before .before .before .before .before .before .before .factor .ensures) _
+    (c .before .before .before .before .before .before .before .before .before .before .before .before .pre .0)
+    (c .before .before .before .before .before .before .before .before .before .before .before .before .pre .1)
+    (not-false _ (c .before .before .before .before .before .if1 .left))
 
--- src/lib.rt:279:9
 branch-same-length-5 : (t : ℕ) → branch-lts.Need-same-length-5 (
   factor-below t,
   factor.Post,
@@ -225,7 +215,6 @@ branch-same-length-5 : (t : ℕ) → branch-lts.Need-same-length-5 (
 ) (branch-at t) branch.Post
 branch-same-length-5 t c = search needs
 
--- src/lib.rt:279:9
 branch-returns-5 : (t : ℕ) → branch-lts.Need-returns-5 (
   factor-below t,
   factor.Post,
@@ -238,7 +227,6 @@ branch-returns-5 : (t : ℕ) → branch-lts.Need-returns-5 (
 ) (branch-at t) branch.Post
 branch-returns-5 t c = search (needs, branch-more-fails, not-true, not-false)
 
--- src/lib.rt:281:5
 branch-join-requires : (t : ℕ) → branch-lts.Need-join-requires (
   factor-below t,
   factor.Post,
@@ -251,7 +239,6 @@ branch-join-requires : (t : ℕ) → branch-lts.Need-join-requires (
 ) (branch-at t) branch.Post
 branch-join-requires t c κs = search (needs, branch-joins, not-false)
 
--- src/lib.rt:256:1
 branch-same-length-6 : (t : ℕ) → branch-lts.Need-same-length-6 (
   factor-below t,
   factor.Post,
@@ -264,7 +251,6 @@ branch-same-length-6 : (t : ℕ) → branch-lts.Need-same-length-6 (
 ) (branch-at t) branch.Post
 branch-same-length-6 t c = search needs
 
--- src/lib.rt:256:1
 branch-returns-6 : (t : ℕ) → branch-lts.Need-returns-6 (
   factor-below t,
   factor.Post,
@@ -277,7 +263,6 @@ branch-returns-6 : (t : ℕ) → branch-lts.Need-returns-6 (
 ) (branch-at t) branch.Post
 branch-returns-6 t c = search (needs, branch-more, not-false)
 
--- src/lib.rt:289:9
 factor-primary-requires : (t : ℕ) → factor-lts.Need-primary-requires (
   primary-below t,
   primary.Post,
@@ -288,7 +273,6 @@ factor-primary-requires : (t : ℕ) → factor-lts.Need-primary-requires (
 ) (factor-at t) factor.Post
 factor-primary-requires t c κs = search needs
 
--- src/lib.rt:292:9
 factor-no-step-requires : (t : ℕ) → factor-lts.Need-no-step-requires (
   primary-below t,
   primary.Post,
@@ -299,7 +283,6 @@ factor-no-step-requires : (t : ℕ) → factor-lts.Need-no-step-requires (
 ) (factor-at t) factor.Post
 factor-no-step-requires t c κs = search needs
 
--- src/lib.rt:292:9
 factor-same-length : (t : ℕ) → factor-lts.Need-same-length (
   primary-below t,
   primary.Post,
@@ -310,7 +293,6 @@ factor-same-length : (t : ℕ) → factor-lts.Need-same-length (
 ) (factor-at t) factor.Post
 factor-same-length t c = search needs
 
--- src/lib.rt:292:9
 factor-returns : (t : ℕ) → factor-lts.Need-returns (
   primary-below t,
   primary.Post,
@@ -321,7 +303,6 @@ factor-returns : (t : ℕ) → factor-lts.Need-returns (
 ) (factor-at t) factor.Post
 factor-returns t c = search (needs, factor-fails, not-true)
 
--- src/lib.rt:294:5
 factor-finish-requires : (t : ℕ) → factor-lts.Need-finish-requires (
   primary-below t,
   primary.Post,
@@ -332,7 +313,6 @@ factor-finish-requires : (t : ℕ) → factor-lts.Need-finish-requires (
 ) (factor-at t) factor.Post
 factor-finish-requires t c κs = search (needs, factor-fits, not-false)
 
--- src/lib.rt:285:1
 factor-same-length-2 : (t : ℕ) → factor-lts.Need-same-length-2 (
   primary-below t,
   primary.Post,
@@ -343,7 +323,6 @@ factor-same-length-2 : (t : ℕ) → factor-lts.Need-same-length-2 (
 ) (factor-at t) factor.Post
 factor-same-length-2 t c = search needs
 
--- src/lib.rt:285:1
 factor-returns-2 : (t : ℕ) → factor-lts.Need-returns-2 (
   primary-below t,
   primary.Post,
@@ -354,7 +333,6 @@ factor-returns-2 : (t : ℕ) → factor-lts.Need-returns-2 (
 ) (factor-at t) factor.Post
 factor-returns-2 t c = search (needs, factor-ends, not-false)
 
--- src/lib.rt:237:9
 pattern-branch-requires : (t : ℕ) → pattern-lts.Need-branch-requires (
   branch-below t,
   branch.Post,
@@ -369,7 +347,6 @@ pattern-branch-requires : (t : ℕ) → pattern-lts.Need-branch-requires (
 ) (pattern-at t) pattern.Post
 pattern-branch-requires t c κs = search needs
 
--- src/lib.rt:240:9
 pattern-same-length : (t : ℕ) → pattern-lts.Need-same-length (
   branch-below t,
   branch.Post,
@@ -384,7 +361,6 @@ pattern-same-length : (t : ℕ) → pattern-lts.Need-same-length (
 ) (pattern-at t) pattern.Post
 pattern-same-length t c = search needs
 
--- src/lib.rt:240:9
 pattern-returns : (t : ℕ) → pattern-lts.Need-returns (
   branch-below t,
   branch.Post,
@@ -399,7 +375,6 @@ pattern-returns : (t : ℕ) → pattern-lts.Need-returns (
 ) (pattern-at t) pattern.Post
 pattern-returns t c = search (needs, pattern-fails, not-true)
 
--- src/lib.rt:243:8
 pattern-peek-requires : (t : ℕ) → pattern-lts.Need-peek-requires (
   branch-below t,
   branch.Post,
@@ -414,7 +389,6 @@ pattern-peek-requires : (t : ℕ) → pattern-lts.Need-peek-requires (
 ) (pattern-at t) pattern.Post
 pattern-peek-requires t c κs = search needs
 
--- src/lib.rt:244:9
 pattern-same-length-2 : (t : ℕ) → pattern-lts.Need-same-length-2 (
   branch-below t,
   branch.Post,
@@ -429,7 +403,6 @@ pattern-same-length-2 : (t : ℕ) → pattern-lts.Need-same-length-2 (
 ) (pattern-at t) pattern.Post
 pattern-same-length-2 t c = search needs
 
--- src/lib.rt:244:9
 pattern-returns-2 : (t : ℕ) → pattern-lts.Need-returns-2 (
   branch-below t,
   branch.Post,
@@ -444,7 +417,6 @@ pattern-returns-2 : (t : ℕ) → pattern-lts.Need-returns-2 (
 ) (pattern-at t) pattern.Post
 pattern-returns-2 t c = search (needs, pattern-ends, not-false)
 
--- src/lib.rt:246:9
 pattern-after-requires : (t : ℕ) → pattern-lts.Need-after-requires (
   branch-below t,
   branch.Post,
@@ -459,7 +431,6 @@ pattern-after-requires : (t : ℕ) → pattern-lts.Need-after-requires (
 ) (pattern-at t) pattern.Post
 pattern-after-requires t c κs = before-end _ _ _ _ (c .before .peek .ensures) (c .if2 .left) (omega arith)
 
--- src/lib.rt:247:9
 pattern-pattern-requires : (t : ℕ) → pattern-lts.Need-pattern-requires (
   branch-below t,
   branch.Post,
@@ -472,9 +443,11 @@ pattern-pattern-requires : (t : ℕ) → pattern-lts.Need-pattern-requires (
   join-reads.Asked,
   join-reads.Learnt,
 ) (pattern-at t) pattern.Post
-pattern-pattern-requires t c κs = pattern-again _ _ _ _ _ _ (c .before .before .before .before .before .before .before .branch .ensures) _ (c .before .before .before .peek .ensures) (not-false _ (c .before .before .before .before .if1 .left)) (c .before .before .if2 .left) _ (c .before .after .ensures) _ (c .before .before .before .before .before .before .before .before .before .before .before .pre .0) (c .before .before .before .before .before .before .before .before .before .before .before .pre .1)
+pattern-pattern-requires t c κs = pattern-again _ _ _ _ _ _ (c .before .before .before .before .before .before .before .branch .ensures) _
+    (c .before .before .before .peek .ensures) (not-false _ (c .before .before .before .before .if1 .left)) (c .before .before .if2 .left) _ (c .before .after .ensures) _
+    (c .before .before .before .before .before .before .before .before .before .before .before .pre .0)
+    (c .before .before .before .before .before .before .before .before .before .before .before .pre .1)
 
--- src/lib.rt:250:9
 pattern-same-length-3 : (t : ℕ) → pattern-lts.Need-same-length-3 (
   branch-below t,
   branch.Post,
@@ -489,7 +462,6 @@ pattern-same-length-3 : (t : ℕ) → pattern-lts.Need-same-length-3 (
 ) (pattern-at t) pattern.Post
 pattern-same-length-3 t c = search needs
 
--- src/lib.rt:250:9
 pattern-returns-3 : (t : ℕ) → pattern-lts.Need-returns-3 (
   branch-below t,
   branch.Post,
@@ -504,7 +476,6 @@ pattern-returns-3 : (t : ℕ) → pattern-lts.Need-returns-3 (
 ) (pattern-at t) pattern.Post
 pattern-returns-3 t c = search (needs, pattern-more-fails, not-true, not-false)
 
--- src/lib.rt:252:5
 pattern-join-requires : (t : ℕ) → pattern-lts.Need-join-requires (
   branch-below t,
   branch.Post,
@@ -517,9 +488,13 @@ pattern-join-requires : (t : ℕ) → pattern-lts.Need-join-requires (
   join-reads.Asked,
   join-reads.Learnt,
 ) (pattern-at t) pattern.Post
-pattern-join-requires t c κs = pattern-joins _ _ _ _ _ _ (c .before .before .before .before .before .before .before .before .before .before .before .before .branch .ensures) _ (c .before .before .before .before .before .before .before .before .peek .ensures) (not-false _ (c .before .before .before .before .before .before .before .before .before .if1 .left)) (c .before .before .before .before .before .before .before .if2 .left) _ (c .before .before .before .before .before .before .after .ensures) _ _ (c .before .before .before .before .pattern .ensures) (c .before .before .before .before .before .before .before .before .before .before .before .before .before .before .before .before .pre .1) (not-false _ (c .before .if3 .left))
+pattern-join-requires t c κs = pattern-joins _ _ _ _ _ _ (c .before .before .before .before .before .before .before .before .before .before .before .before .branch .ensures) _
+    (c .before .before .before .before .before .before .before .before .peek .ensures) (not-false _
+    (c .before .before .before .before .before .before .before .before .before .if1 .left)) (c .before .before .before .before .before .before .before .if2 .left) _
+    (c .before .before .before .before .before .before .after .ensures) _ _ (c .before .before .before .before .pattern .ensures)
+    (c .before .before .before .before .before .before .before .before .before .before .before .before .before .before .before .before .pre .1)
+    (not-false _ (c .before .if3 .left))
 
--- src/lib.rt:233:1
 pattern-same-length-4 : (t : ℕ) → pattern-lts.Need-same-length-4 (
   branch-below t,
   branch.Post,
@@ -534,7 +509,6 @@ pattern-same-length-4 : (t : ℕ) → pattern-lts.Need-same-length-4 (
 ) (pattern-at t) pattern.Post
 pattern-same-length-4 t c = search needs
 
--- src/lib.rt:233:1
 pattern-returns-4 : (t : ℕ) → pattern-lts.Need-returns-4 (
   branch-below t,
   branch.Post,
@@ -549,7 +523,6 @@ pattern-returns-4 : (t : ℕ) → pattern-lts.Need-returns-4 (
 ) (pattern-at t) pattern.Post
 pattern-returns-4 t c = search (needs, pattern-more, not-false)
 
--- src/lib.rt:302:8
 primary-peek-requires : (t : ℕ) → primary-lts.Need-peek-requires (
   peek-reads.Asked,
   peek-reads.Learnt,
@@ -566,7 +539,6 @@ primary-peek-requires : (t : ℕ) → primary-lts.Need-peek-requires (
 ) (primary-at t) primary.Post
 primary-peek-requires t c κs = search needs
 
--- src/lib.rt:303:9
 primary-simple-requires : (t : ℕ) → primary-lts.Need-simple-requires (
   peek-reads.Asked,
   peek-reads.Learnt,
@@ -583,7 +555,6 @@ primary-simple-requires : (t : ℕ) → primary-lts.Need-simple-requires (
 ) (primary-at t) primary.Post
 primary-simple-requires t c κs = search needs
 
--- src/lib.rt:303:9
 primary-returns : (t : ℕ) → primary-lts.Need-returns (
   peek-reads.Asked,
   peek-reads.Learnt,
@@ -600,7 +571,6 @@ primary-returns : (t : ℕ) → primary-lts.Need-returns (
 ) (primary-at t) primary.Post
 primary-returns t c = search (needs, primary-simple)
 
--- src/lib.rt:305:9
 primary-after-requires : (t : ℕ) → primary-lts.Need-after-requires (
   peek-reads.Asked,
   peek-reads.Learnt,
@@ -617,7 +587,6 @@ primary-after-requires : (t : ℕ) → primary-lts.Need-after-requires (
 ) (primary-at t) primary.Post
 primary-after-requires t c κs = search (needs, before-end)
 
--- src/lib.rt:306:8
 primary-peek-requires-2 : (t : ℕ) → primary-lts.Need-peek-requires-2 (
   peek-reads.Asked,
   peek-reads.Learnt,
@@ -634,7 +603,6 @@ primary-peek-requires-2 : (t : ℕ) → primary-lts.Need-peek-requires-2 (
 ) (primary-at t) primary.Post
 primary-peek-requires-2 t c κs = search needs
 
--- src/lib.rt:307:9
 primary-empty-head-requires : (t : ℕ) → primary-lts.Need-empty-head-requires (
   peek-reads.Asked,
   peek-reads.Learnt,
@@ -651,7 +619,6 @@ primary-empty-head-requires : (t : ℕ) → primary-lts.Need-empty-head-requires
 ) (primary-at t) primary.Post
 primary-empty-head-requires t c κs = before-end _ _ _ _ (c .before .peek2 .ensures) (c .if2 .taken) (omega arith)
 
--- src/lib.rt:307:9
 primary-returns-2 : (t : ℕ) → primary-lts.Need-returns-2 (
   peek-reads.Asked,
   peek-reads.Learnt,
@@ -668,7 +635,6 @@ primary-returns-2 : (t : ℕ) → primary-lts.Need-returns-2 (
 ) (primary-at t) primary.Post
 primary-returns-2 t c = search (needs, primary-empty)
 
--- src/lib.rt:309:9
 primary-pattern-requires : (t : ℕ) → primary-lts.Need-pattern-requires (
   peek-reads.Asked,
   peek-reads.Learnt,
@@ -685,7 +651,6 @@ primary-pattern-requires : (t : ℕ) → primary-lts.Need-pattern-requires (
 ) (primary-at t) primary.Post
 primary-pattern-requires t c κs = search (needs, primary-again, not-true, not-false)
 
--- src/lib.rt:310:5
 primary-shut-group-requires : (t : ℕ) → primary-lts.Need-shut-group-requires (
   peek-reads.Asked,
   peek-reads.Learnt,
@@ -702,7 +667,6 @@ primary-shut-group-requires : (t : ℕ) → primary-lts.Need-shut-group-requires
 ) (primary-at t) primary.Post
 primary-shut-group-requires t c κs = search (needs, primary-needs)
 
--- src/lib.rt:298:1
 primary-same-length : (t : ℕ) → primary-lts.Need-same-length (
   peek-reads.Asked,
   peek-reads.Learnt,
@@ -719,7 +683,6 @@ primary-same-length : (t : ℕ) → primary-lts.Need-same-length (
 ) (primary-at t) primary.Post
 primary-same-length t c = search needs
 
--- src/lib.rt:298:1
 primary-returns-3 : (t : ℕ) → primary-lts.Need-returns-3 (
   peek-reads.Asked,
   peek-reads.Learnt,

@@ -1,54 +1,41 @@
+-- `pattern::rounds` meets its contract. Laws: RoundLaws.
 use Rattle.pattern.proofs.RoundLaws.{rounds-open, rounds-shut, rounds-mul}
 use native.Mathlib.Nat.{mul-le-mul}
 use native.Mathlib.Omega.{arith}
 use borrow.Author.Needs.{needs}
 use Rattle.pattern.proofs.rounds.Statement.{statement}
 use Rattle.pattern.proofs.rounds.Tie as tie
-use Rattle.pattern.proofs.rounds.Reads as reads
-use Rattle.pattern.proofs.rounds.Lts as lts
-use Rattle.pattern.proofs.capped.Reads as capped-reads
 
--- src/lib.rt:98:17
 mul-first : tie.Need-mul-first
 mul-first c = omega (arith, mul-le-mul (c .pre .0 .low-small) (c .pre .1))
 
--- src/lib.rt:100:32
 add-capped : tie.Need-add-capped
 add-capped c = search needs
 
--- src/lib.rt:100:23
 add-capped-2 : tie.Need-add-capped-2
 add-capped-2 c = omega (arith, mul-le-mul (c .before .pre .0 .low-small) (c .before .pre .1))
 
--- src/lib.rt:100:9
 capped-requires : tie.Need-capped-requires
 capped-requires c κs = search needs
 
--- src/lib.rt:100:9
 returns : tie.Need-returns
 returns c = search (needs, rounds-open)
 
--- src/lib.rt:102:17
 sub-more : tie.Need-sub-more
 sub-more c = search needs
 
--- src/lib.rt:102:32
 add-more : tie.Need-add-more
 add-more c = search needs
 
--- src/lib.rt:102:16
 mul-more : tie.Need-mul-more
 mul-more c = omega (arith, rounds-mul _ _ _ (c .before .pre .0) (c .before .pre .1))
 
--- src/lib.rt:103:12
 add-capped-3 : tie.Need-add-capped-3
 add-capped-3 c = omega (arith, rounds-mul _ _ _ (c .before .pre .0) (c .before .pre .1), mul-le-mul (c .before .pre .0 .low-small) (c .before .pre .1))
 
--- src/lib.rt:103:5
 capped-requires-2 : tie.Need-capped-requires-2
 capped-requires-2 c κs = search needs
 
--- src/lib.rt:94:1
 returns-2 : tie.Need-returns-2
 returns-2 c = search (needs, rounds-shut)
 

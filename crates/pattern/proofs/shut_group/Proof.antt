@@ -1,62 +1,44 @@
+-- `pattern::shut_group` meets its contract. Laws: ReaderLaws.
 use Rattle.pattern.proofs.ReaderLaws.{before-end, shut-some, shut-low, shut-few, shut-unread, shut-open, shut-whole}
 use borrow.Author.Tests.{not-true, not-false}
 use native.Mathlib.Omega.{arith}
 use borrow.Author.Needs.{needs}
 use Rattle.pattern.proofs.shut_group.Statement.{statement}
 use Rattle.pattern.proofs.shut_group.Tie as tie
-use Rattle.pattern.proofs.shut_group.Reads as reads
-use Rattle.pattern.proofs.shut_group.Lts as lts
-use Rattle.pattern.proofs.marks.peek.Reads as peek-reads
-use Rattle.pattern.proofs.after.Reads as after-reads
-use Rattle.pattern.proofs.no_head.Reads as no-head-reads
-use Rattle.pattern.proofs.plain_node.Reads as plain-node-reads
-use Rattle.pattern.proofs.capped.Reads as capped-reads
 
--- src/lib.rt:255:9
 no-head-requires : tie.Need-no-head-requires
 no-head-requires c κs = search needs
 
--- src/lib.rt:255:9
 returns : tie.Need-returns
 returns c = search (needs, shut-unread, not-true, not-false)
 
--- src/lib.rt:257:8
 peek-requires : tie.Need-peek-requires
 peek-requires c κs = search needs
 
--- src/lib.rt:258:9
 no-head-requires-2 : tie.Need-no-head-requires-2
 no-head-requires-2 c κs = search needs
 
--- src/lib.rt:258:9
 returns-2 : tie.Need-returns-2
 returns-2 c = search (needs, shut-open, not-false)
 
--- src/lib.rt:260:9
 after-requires : tie.Need-after-requires
 after-requires c κs = before-end _ _ _ _ (c .before .peek .ensures) (c .if2 .left) (omega arith)
 
--- src/lib.rt:261:25
 add-capped : tie.Need-add-capped
 add-capped c = search (needs, shut-few, not-true, not-false)
 
--- src/lib.rt:261:9
 capped-requires : tie.Need-capped-requires
 capped-requires c κs = search needs
 
--- src/lib.rt:262:40
 sub-plain-node : tie.Need-sub-plain-node
 sub-plain-node c = search (needs, shut-some, not-true, not-false)
 
--- src/lib.rt:262:54
 add-plain-node : tie.Need-add-plain-node
 add-plain-node c = search (needs, shut-low, not-true, not-false)
 
--- src/lib.rt:262:9
 plain-node-requires : tie.Need-plain-node-requires
 plain-node-requires c κs = search needs
 
--- src/lib.rt:247:1
 returns-3 : tie.Need-returns-3
 returns-3 c = search (needs, shut-whole, not-false)
 

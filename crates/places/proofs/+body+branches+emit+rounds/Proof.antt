@@ -1,3 +1,5 @@
+-- The functions `body`, `branches`, `emit`, `rounds` of places, which call each other, meet their contracts.
+-- The measure: first the node's height, then the function and the rounds left (EmitLaws, measures). Laws: ForkLaws, EmitLaws.
 use Rattle.places.proofs.ForkLaws.{not-sequence, not-alternation}
 use Rattle.places.proofs.EmitLaws.{emitM, branchM, roundM, bodyM, emitted-length, emit-in, emit-end, emit-none, seq-left-in, seq-mid, seq-skip, seq-skipped, seq-first, seq-second, seq-done, alt-forking, alt-inside, alt-done, emit-node, turn-order, turn-first, turn-done, branches-in, branches-none, branch-first, branch-second, branch-done, single-first, single-done, round-in, copy-first, copy-again, copy-done, copy-fits, copy-less, none-done, star-choose, star-body, star-done, star-fits, option-choose, option-body, option-again, option-done, option-fits, option-more, option-less, body-in, letter-words, letter-done, anchor-words, anchor-done, empty-done, sequence-done, alternation-done, group-first, group-done}
 use mathlib.Core.Path.{refl}
@@ -67,7 +69,6 @@ rounds-at t = and 2 rounds-kinds.ps (is 2 rounds-kinds.ps μ-rounds t) rounds.Pr
 abbrev rounds-below : ℕ → In 2 rounds-kinds.ps
 rounds-below t = and 2 rounds-kinds.ps (falls 2 rounds-kinds.ps _<_ μ-rounds t) rounds.Pre
 
--- src/lib.rt:302:9
 body-node-at-requires : (t : ℕ) → body-lts.Need-node-at-requires (
   node-at-reads.Asked,
   node-at-reads.Learnt,
@@ -82,7 +83,6 @@ body-node-at-requires : (t : ℕ) → body-lts.Need-node-at-requires (
 ) (body-at t) body.Post
 body-node-at-requires t c κs = body-in _ _ _ _ _ (c .before .before .pre .1)
 
--- src/lib.rt:306:22
 body-enum-known-sort : (t : ℕ) → body-lts.Need-enum-known-sort (
   node-at-reads.Asked,
   node-at-reads.Learnt,
@@ -97,7 +97,6 @@ body-enum-known-sort : (t : ℕ) → body-lts.Need-enum-known-sort (
 ) (body-at t) body.Post
 body-enum-known-sort t c = search needs
 
--- src/lib.rt:306:53
 body-short-requires : (t : ℕ) → body-lts.Need-short-requires (
   node-at-reads.Asked,
   node-at-reads.Learnt,
@@ -112,7 +111,6 @@ body-short-requires : (t : ℕ) → body-lts.Need-short-requires (
 ) (body-at t) body.Post
 body-short-requires t c κs = search needs
 
--- src/lib.rt:306:28
 body-put-simple-requires : (t : ℕ) → body-lts.Need-put-simple-requires (
   node-at-reads.Asked,
   node-at-reads.Learnt,
@@ -125,9 +123,9 @@ body-put-simple-requires : (t : ℕ) → body-lts.Need-put-simple-requires (
   emit-below t,
   emit.Post,
 ) (body-at t) body.Post
-body-put-simple-requires t c κs = letter-words _ _ _ (c .before .before .before .before .before .node-at .ensures) _ _ _ _ (c .before .before .before .sort .given .1) (c .before .before .before .before .before .before .before .before .pre .1)
+body-put-simple-requires t c κs = letter-words _ _ _ (c .before .before .before .before .before .node-at .ensures) _ _ _ _ (c .before .before .before .sort .given .1)
+    (c .before .before .before .before .before .before .before .before .pre .1)
 
--- src/lib.rt:307:22
 body-enum-known-sort-2 : (t : ℕ) → body-lts.Need-enum-known-sort-2 (
   node-at-reads.Asked,
   node-at-reads.Learnt,
@@ -142,7 +140,6 @@ body-enum-known-sort-2 : (t : ℕ) → body-lts.Need-enum-known-sort-2 (
 ) (body-at t) body.Post
 body-enum-known-sort-2 t c = search needs
 
--- src/lib.rt:307:50
 body-anchor-sort-requires : (t : ℕ) → body-lts.Need-anchor-sort-requires (
   node-at-reads.Asked,
   node-at-reads.Learnt,
@@ -157,7 +154,6 @@ body-anchor-sort-requires : (t : ℕ) → body-lts.Need-anchor-sort-requires (
 ) (body-at t) body.Post
 body-anchor-sort-requires t c κs = search needs
 
--- src/lib.rt:307:28
 body-put-simple-requires-2 : (t : ℕ) → body-lts.Need-put-simple-requires-2 (
   node-at-reads.Asked,
   node-at-reads.Learnt,
@@ -170,9 +166,9 @@ body-put-simple-requires-2 : (t : ℕ) → body-lts.Need-put-simple-requires-2 (
   emit-below t,
   emit.Post,
 ) (body-at t) body.Post
-body-put-simple-requires-2 t c κs = anchor-words _ _ _ (c .before .before .before .before .before .node-at .ensures) _ _ _ _ (c .before .before .before .sort2 .given .1) (c .before .before .before .before .before .before .before .before .pre .1)
+body-put-simple-requires-2 t c κs = anchor-words _ _ _ (c .before .before .before .before .before .node-at .ensures) _ _ _ _ (c .before .before .before .sort2 .given .1)
+    (c .before .before .before .before .before .before .before .before .pre .1)
 
--- src/lib.rt:308:24
 body-enum-told : (t : ℕ) → body-lts.Need-enum-told (
   node-at-reads.Asked,
   node-at-reads.Learnt,
@@ -187,7 +183,6 @@ body-enum-told : (t : ℕ) → body-lts.Need-enum-told (
 ) (body-at t) body.Post
 body-enum-told t c = search needs
 
--- src/lib.rt:309:27
 body-enum-told-2 : (t : ℕ) → body-lts.Need-enum-told-2 (
   node-at-reads.Asked,
   node-at-reads.Learnt,
@@ -202,7 +197,6 @@ body-enum-told-2 : (t : ℕ) → body-lts.Need-enum-told-2 (
 ) (body-at t) body.Post
 body-enum-told-2 t c = search needs
 
--- src/lib.rt:310:30
 body-enum-told-3 : (t : ℕ) → body-lts.Need-enum-told-3 (
   node-at-reads.Asked,
   node-at-reads.Learnt,
@@ -217,7 +211,6 @@ body-enum-told-3 : (t : ℕ) → body-lts.Need-enum-told-3 (
 ) (body-at t) body.Post
 body-enum-told-3 t c = search needs
 
--- src/lib.rt:311:41
 body-enum-told-4 : (t : ℕ) → body-lts.Need-enum-told-4 (
   node-at-reads.Asked,
   node-at-reads.Learnt,
@@ -232,7 +225,6 @@ body-enum-told-4 : (t : ℕ) → body-lts.Need-enum-told-4 (
 ) (body-at t) body.Post
 body-enum-told-4 t c = search needs
 
--- src/lib.rt:311:24
 body-emit-requires : (t : ℕ) → body-lts.Need-emit-requires (
   node-at-reads.Asked,
   node-at-reads.Learnt,
@@ -245,9 +237,9 @@ body-emit-requires : (t : ℕ) → body-lts.Need-emit-requires (
   emit-below t,
   emit.Post,
 ) (body-at t) body.Post
-body-emit-requires t c κs = group-first _ _ _ (c .before .before .before .node-at .ensures) _ _ _ (c .before .enum-told4 .given .1) (c .before .before .before .before .before .before .pre .1) _ (c .before .before .before .before .before .before .pre .0)
+body-emit-requires t c κs = group-first _ _ _ (c .before .before .before .node-at .ensures) _ _ _ (c .before .enum-told4 .given .1)
+    (c .before .before .before .before .before .before .pre .1) _ (c .before .before .before .before .before .before .pre .0)
 
--- src/lib.rt:298:1
 body-same-length : (t : ℕ) → body-lts.Need-same-length (
   node-at-reads.Asked,
   node-at-reads.Learnt,
@@ -260,9 +252,10 @@ body-same-length : (t : ℕ) → body-lts.Need-same-length (
   emit-below t,
   emit.Post,
 ) (body-at t) body.Post
-body-same-length t c = emitted-length _ _ _ _ _ (letter-done _ _ _ (c .before .before .before .before .before .before .before .before .node-at .ensures) _ _ _ _ (c .before .before .before .before .before .before .sort .given .1) (c .before .before .before .before .before .before .before .before .before .before .before .pre .1) _ _ _ (c .before .before .before .short .ensures) (c .before .before .put-simple .ensures))
+body-same-length t c = emitted-length _ _ _ _ _ (letter-done _ _ _ (c .before .before .before .before .before .before .before .before .node-at .ensures) _ _ _ _
+    (c .before .before .before .before .before .before .sort .given .1) (c .before .before .before .before .before .before .before .before .before .before .before .pre .1) _ _ _
+    (c .before .before .before .short .ensures) (c .before .before .put-simple .ensures))
 
--- src/lib.rt:298:1
 body-returns : (t : ℕ) → body-lts.Need-returns (
   node-at-reads.Asked,
   node-at-reads.Learnt,
@@ -275,9 +268,9 @@ body-returns : (t : ℕ) → body-lts.Need-returns (
   emit-below t,
   emit.Post,
 ) (body-at t) body.Post
-body-returns t c = λ h. letter-done _ _ _ (c .before .before .before .before .before .before .before .before .node-at .ensures) _ _ _ _ (c .before .before .before .before .before .before .sort .given .1) h _ _ _ (c .before .before .before .short .ensures) (c .before .before .put-simple .ensures)
+body-returns t c = λ h. letter-done _ _ _ (c .before .before .before .before .before .before .before .before .node-at .ensures) _ _ _ _
+    (c .before .before .before .before .before .before .sort .given .1) h _ _ _ (c .before .before .before .short .ensures) (c .before .before .put-simple .ensures)
 
--- src/lib.rt:298:1
 body-same-length-2 : (t : ℕ) → body-lts.Need-same-length-2 (
   node-at-reads.Asked,
   node-at-reads.Learnt,
@@ -290,9 +283,10 @@ body-same-length-2 : (t : ℕ) → body-lts.Need-same-length-2 (
   emit-below t,
   emit.Post,
 ) (body-at t) body.Post
-body-same-length-2 t c = emitted-length _ _ _ _ _ (anchor-done _ _ _ (c .before .before .before .before .before .before .before .before .node-at .ensures) _ _ _ _ (c .before .before .before .before .before .before .sort2 .given .1) (c .before .before .before .before .before .before .before .before .before .before .before .pre .1) _ _ _ (c .before .before .before .anchor-sort .ensures) (c .before .before .put-simple2 .ensures))
+body-same-length-2 t c = emitted-length _ _ _ _ _ (anchor-done _ _ _ (c .before .before .before .before .before .before .before .before .node-at .ensures) _ _ _ _
+    (c .before .before .before .before .before .before .sort2 .given .1) (c .before .before .before .before .before .before .before .before .before .before .before .pre .1) _ _
+    _ (c .before .before .before .anchor-sort .ensures) (c .before .before .put-simple2 .ensures))
 
--- src/lib.rt:298:1
 body-returns-2 : (t : ℕ) → body-lts.Need-returns-2 (
   node-at-reads.Asked,
   node-at-reads.Learnt,
@@ -305,9 +299,9 @@ body-returns-2 : (t : ℕ) → body-lts.Need-returns-2 (
   emit-below t,
   emit.Post,
 ) (body-at t) body.Post
-body-returns-2 t c = λ h. anchor-done _ _ _ (c .before .before .before .before .before .before .before .before .node-at .ensures) _ _ _ _ (c .before .before .before .before .before .before .sort2 .given .1) h _ _ _ (c .before .before .before .anchor-sort .ensures) (c .before .before .put-simple2 .ensures)
+body-returns-2 t c = λ h. anchor-done _ _ _ (c .before .before .before .before .before .before .before .before .node-at .ensures) _ _ _ _
+    (c .before .before .before .before .before .before .sort2 .given .1) h _ _ _ (c .before .before .before .anchor-sort .ensures) (c .before .before .put-simple2 .ensures)
 
--- src/lib.rt:298:1
 body-returns-3 : (t : ℕ) → body-lts.Need-returns-3 (
   node-at-reads.Asked,
   node-at-reads.Learnt,
@@ -322,7 +316,6 @@ body-returns-3 : (t : ℕ) → body-lts.Need-returns-3 (
 ) (body-at t) body.Post
 body-returns-3 t c = λ h. empty-done _ _ _ (c .before .before .node-at .ensures) _ _ _ (c .enum-told .given .1) h
 
--- src/lib.rt:298:1
 body-returns-4 : (t : ℕ) → body-lts.Need-returns-4 (
   node-at-reads.Asked,
   node-at-reads.Learnt,
@@ -337,7 +330,6 @@ body-returns-4 : (t : ℕ) → body-lts.Need-returns-4 (
 ) (body-at t) body.Post
 body-returns-4 t c = λ h. sequence-done _ _ _ (c .before .before .node-at .ensures) _ _ _ (c .enum-told2 .given .1) h
 
--- src/lib.rt:298:1
 body-returns-5 : (t : ℕ) → body-lts.Need-returns-5 (
   node-at-reads.Asked,
   node-at-reads.Learnt,
@@ -352,7 +344,6 @@ body-returns-5 : (t : ℕ) → body-lts.Need-returns-5 (
 ) (body-at t) body.Post
 body-returns-5 t c = λ h. alternation-done _ _ _ (c .before .before .node-at .ensures) _ _ _ (c .enum-told3 .given .1) h
 
--- src/lib.rt:298:1
 body-same-length-3 : (t : ℕ) → body-lts.Need-same-length-3 (
   node-at-reads.Asked,
   node-at-reads.Learnt,
@@ -365,9 +356,10 @@ body-same-length-3 : (t : ℕ) → body-lts.Need-same-length-3 (
   emit-below t,
   emit.Post,
 ) (body-at t) body.Post
-body-same-length-3 t c = emitted-length _ _ _ _ _ (group-done _ _ _ (c .before .before .before .before .before .before .node-at .ensures) _ _ _ (c .before .before .before .before .enum-told4 .given .1) (c .before .before .before .before .before .before .before .before .before .pre .1) _ _ (c .before .before .emit .ensures))
+body-same-length-3 t c = emitted-length _ _ _ _ _ (group-done _ _ _ (c .before .before .before .before .before .before .node-at .ensures) _ _ _
+    (c .before .before .before .before .enum-told4 .given .1) (c .before .before .before .before .before .before .before .before .before .pre .1) _ _
+    (c .before .before .emit .ensures))
 
--- src/lib.rt:298:1
 body-returns-6 : (t : ℕ) → body-lts.Need-returns-6 (
   node-at-reads.Asked,
   node-at-reads.Learnt,
@@ -380,9 +372,9 @@ body-returns-6 : (t : ℕ) → body-lts.Need-returns-6 (
   emit-below t,
   emit.Post,
 ) (body-at t) body.Post
-body-returns-6 t c = λ h. group-done _ _ _ (c .before .before .before .before .before .before .node-at .ensures) _ _ _ (c .before .before .before .before .enum-told4 .given .1) h _ _ (c .before .before .emit .ensures)
+body-returns-6 t c = λ h. group-done _ _ _ (c .before .before .before .before .before .before .node-at .ensures) _ _ _ (c .before .before .before .before .enum-told4 .given .1)
+    h _ _ (c .before .before .emit .ensures)
 
--- src/lib.rt:254:9
 branches-node-at-requires : (t : ℕ) → branches-lts.Need-node-at-requires (
   node-at-reads.Asked,
   node-at-reads.Learnt,
@@ -393,7 +385,6 @@ branches-node-at-requires : (t : ℕ) → branches-lts.Need-node-at-requires (
 ) (branches-at t) branches.Post
 branches-node-at-requires t c κs = branches-in _ _ _ _ _ (c .before .before .pre .1)
 
--- src/lib.rt:259:9
 branches-returns : (t : ℕ) → branches-lts.Need-returns (
   node-at-reads.Asked,
   node-at-reads.Learnt,
@@ -404,7 +395,6 @@ branches-returns : (t : ℕ) → branches-lts.Need-returns (
 ) (branches-at t) branches.Post
 branches-returns t c = λ h. branches-none _ _ _ (c .before .before .node-at .ensures) _ _ _ (c .if1 .taken) h
 
--- src/lib.rt:262:37
 branches-enum-told : (t : ℕ) → branches-lts.Need-enum-told (
   node-at-reads.Asked,
   node-at-reads.Learnt,
@@ -415,7 +405,6 @@ branches-enum-told : (t : ℕ) → branches-lts.Need-enum-told (
 ) (branches-at t) branches.Post
 branches-enum-told t c = search needs
 
--- src/lib.rt:262:13
 branches-emit-requires : (t : ℕ) → branches-lts.Need-emit-requires (
   node-at-reads.Asked,
   node-at-reads.Learnt,
@@ -424,9 +413,9 @@ branches-emit-requires : (t : ℕ) → branches-lts.Need-emit-requires (
   branches-below t,
   branches.Post,
 ) (branches-at t) branches.Post
-branches-emit-requires t c κs = branch-first _ _ _ (c .before .before .before .before .before .node-at .ensures) _ _ _ (c .before .enum-told .given .1) (c .before .before .before .before .before .before .before .before .pre .1) _ (c .before .before .before .before .before .before .before .before .pre .0)
+branches-emit-requires t c κs = branch-first _ _ _ (c .before .before .before .before .before .node-at .ensures) _ _ _ (c .before .enum-told .given .1)
+    (c .before .before .before .before .before .before .before .before .pre .1) _ (c .before .before .before .before .before .before .before .before .pre .0)
 
--- src/lib.rt:263:9
 branches-branches-requires : (t : ℕ) → branches-lts.Need-branches-requires (
   node-at-reads.Asked,
   node-at-reads.Learnt,
@@ -435,9 +424,10 @@ branches-branches-requires : (t : ℕ) → branches-lts.Need-branches-requires (
   branches-below t,
   branches.Post,
 ) (branches-at t) branches.Post
-branches-branches-requires t c κs = branch-second _ _ _ (c .before .before .before .before .before .before .before .before .before .node-at .ensures) _ _ _ (c .before .before .before .before .before .enum-told .given .1) (c .before .before .before .before .before .before .before .before .before .before .before .before .pre .1) _ _ (c .before .before .before .emit .ensures) _ (c .before .before .before .before .before .before .before .before .before .before .before .before .pre .0)
+branches-branches-requires t c κs = branch-second _ _ _ (c .before .before .before .before .before .before .before .before .before .node-at .ensures) _ _ _
+    (c .before .before .before .before .before .enum-told .given .1) (c .before .before .before .before .before .before .before .before .before .before .before .before .pre .1)
+    _ _ (c .before .before .before .emit .ensures) _ (c .before .before .before .before .before .before .before .before .before .before .before .before .pre .0)
 
--- src/lib.rt:263:9
 branches-same-length : (t : ℕ) → branches-lts.Need-same-length (
   node-at-reads.Asked,
   node-at-reads.Learnt,
@@ -446,9 +436,11 @@ branches-same-length : (t : ℕ) → branches-lts.Need-same-length (
   branches-below t,
   branches.Post,
 ) (branches-at t) branches.Post
-branches-same-length t c = emitted-length _ _ _ _ _ (branch-done _ _ _ (c .before .before .before .before .before .before .before .before .before .before .before .before .node-at .ensures) _ _ _ (c .before .before .before .before .before .before .before .before .enum-told .given .1) (c .before .before .before .before .before .before .before .before .before .before .before .before .before .before .before .pre .1) _ _ (c .before .before .before .before .before .before .emit .ensures) _ _ (c .before .before .branches .ensures))
+branches-same-length t c = emitted-length _ _ _ _ _ (branch-done _ _ _ (c .before .before .before .before .before .before .before .before .before .before .before .before
+    .node-at .ensures) _ _ _ (c .before .before .before .before .before .before .before .before .enum-told .given .1)
+    (c .before .before .before .before .before .before .before .before .before .before .before .before .before .before .before .pre .1) _ _
+    (c .before .before .before .before .before .before .emit .ensures) _ _ (c .before .before .branches .ensures))
 
--- src/lib.rt:263:9
 branches-returns-2 : (t : ℕ) → branches-lts.Need-returns-2 (
   node-at-reads.Asked,
   node-at-reads.Learnt,
@@ -457,9 +449,10 @@ branches-returns-2 : (t : ℕ) → branches-lts.Need-returns-2 (
   branches-below t,
   branches.Post,
 ) (branches-at t) branches.Post
-branches-returns-2 t c = λ h. branch-done _ _ _ (c .before .before .before .before .before .before .before .before .before .before .before .before .node-at .ensures) _ _ _ (c .before .before .before .before .before .before .before .before .enum-told .given .1) h _ _ (c .before .before .before .before .before .before .emit .ensures) _ _ (c .before .before .branches .ensures)
+branches-returns-2 t c = λ h. branch-done _ _ _ (c .before .before .before .before .before .before .before .before .before .before .before .before .node-at .ensures) _ _ _
+    (c .before .before .before .before .before .before .before .before .enum-told .given .1) h _ _ (c .before .before .before .before .before .before .emit .ensures) _ _
+    (c .before .before .branches .ensures)
 
--- src/lib.rt:265:5
 branches-emit-requires-2 : (t : ℕ) → branches-lts.Need-emit-requires-2 (
   node-at-reads.Asked,
   node-at-reads.Learnt,
@@ -468,9 +461,9 @@ branches-emit-requires-2 : (t : ℕ) → branches-lts.Need-emit-requires-2 (
   branches-below t,
   branches.Post,
 ) (branches-at t) branches.Post
-branches-emit-requires-2 t c κs = single-first _ _ _ (c .before .before .before .before .node-at .ensures) _ _ _ (not-alternation _ (c .before .match .keys2)) (c .before .before .before .before .before .before .before .pre .1) _ (c .before .before .before .before .before .before .before .pre .0)
+branches-emit-requires-2 t c κs = single-first _ _ _ (c .before .before .before .before .node-at .ensures) _ _ _ (not-alternation _ (c .before .match .keys2))
+    (c .before .before .before .before .before .before .before .pre .1) _ (c .before .before .before .before .before .before .before .pre .0)
 
--- src/lib.rt:250:1
 branches-same-length-2 : (t : ℕ) → branches-lts.Need-same-length-2 (
   node-at-reads.Asked,
   node-at-reads.Learnt,
@@ -479,9 +472,10 @@ branches-same-length-2 : (t : ℕ) → branches-lts.Need-same-length-2 (
   branches-below t,
   branches.Post,
 ) (branches-at t) branches.Post
-branches-same-length-2 t c = emitted-length _ _ _ _ _ (single-done _ _ _ (c .before .before .before .before .before .before .before .node-at .ensures) _ _ _ (not-alternation _ (c .before .before .before .before .match .keys2)) (c .before .before .before .before .before .before .before .before .before .before .pre .1) _ _ (c .before .before .emit2 .ensures))
+branches-same-length-2 t c = emitted-length _ _ _ _ _ (single-done _ _ _ (c .before .before .before .before .before .before .before .node-at .ensures) _ _ _
+    (not-alternation _ (c .before .before .before .before .match .keys2)) (c .before .before .before .before .before .before .before .before .before .before .pre .1) _ _
+    (c .before .before .emit2 .ensures))
 
--- src/lib.rt:250:1
 branches-returns-3 : (t : ℕ) → branches-lts.Need-returns-3 (
   node-at-reads.Asked,
   node-at-reads.Learnt,
@@ -490,9 +484,9 @@ branches-returns-3 : (t : ℕ) → branches-lts.Need-returns-3 (
   branches-below t,
   branches.Post,
 ) (branches-at t) branches.Post
-branches-returns-3 t c = λ h. single-done _ _ _ (c .before .before .before .before .before .before .before .node-at .ensures) _ _ _ (not-alternation _ (c .before .before .before .before .match .keys2)) h _ _ (c .before .before .emit2 .ensures)
+branches-returns-3 t c = λ h. single-done _ _ _ (c .before .before .before .before .before .before .before .node-at .ensures) _ _ _
+    (not-alternation _ (c .before .before .before .before .match .keys2)) h _ _ (c .before .before .emit2 .ensures)
 
--- src/lib.rt:221:9
 emit-node-at-requires : (t : ℕ) → emit-lts.Need-node-at-requires (
   node-at-reads.Asked,
   node-at-reads.Learnt,
@@ -515,7 +509,6 @@ emit-node-at-requires : (t : ℕ) → emit-lts.Need-node-at-requires (
 ) (emit-at t) emit.Post
 emit-node-at-requires t c κs = emit-in _ _ _ _ _ (c .before .before .pre .1)
 
--- src/lib.rt:226:15
 emit-add-end : (t : ℕ) → emit-lts.Need-add-end (
   node-at-reads.Asked,
   node-at-reads.Learnt,
@@ -538,7 +531,6 @@ emit-add-end : (t : ℕ) → emit-lts.Need-add-end (
 ) (emit-at t) emit.Post
 emit-add-end t c = emit-end _ _ _ (c .before .node-at .ensures) _ _ _ (c .before .before .before .before .pre .1)
 
--- src/lib.rt:228:43
 emit-enum-told : (t : ℕ) → emit-lts.Need-enum-told (
   node-at-reads.Asked,
   node-at-reads.Learnt,
@@ -561,7 +553,6 @@ emit-enum-told : (t : ℕ) → emit-lts.Need-enum-told (
 ) (emit-at t) emit.Post
 emit-enum-told t c = search needs
 
--- src/lib.rt:228:13
 emit-branch-fork-requires : (t : ℕ) → emit-lts.Need-branch-fork-requires (
   node-at-reads.Asked,
   node-at-reads.Learnt,
@@ -582,9 +573,9 @@ emit-branch-fork-requires : (t : ℕ) → emit-lts.Need-branch-fork-requires (
   rounds-below t,
   rounds.Post,
 ) (emit-at t) emit.Post
-emit-branch-fork-requires t c κs = alt-forking _ _ _ (c .before .before .before .before .node-at .ensures) _ _ _ (c .before .enum-told .given .1) (c .before .before .before .before .before .before .before .pre .1)
+emit-branch-fork-requires t c κs = alt-forking _ _ _ (c .before .before .before .before .node-at .ensures) _ _ _ (c .before .enum-told .given .1)
+    (c .before .before .before .before .before .before .before .pre .1)
 
--- src/lib.rt:229:9
 emit-branches-requires : (t : ℕ) → emit-lts.Need-branches-requires (
   node-at-reads.Asked,
   node-at-reads.Learnt,
@@ -605,9 +596,10 @@ emit-branches-requires : (t : ℕ) → emit-lts.Need-branches-requires (
   rounds-below t,
   rounds.Post,
 ) (emit-at t) emit.Post
-emit-branches-requires t c κs = alt-inside _ _ _ (c .before .before .before .before .before .before .before .before .node-at .ensures) _ _ _ (c .before .before .before .before .before .enum-told .given .1) (c .before .before .before .before .before .before .before .before .before .before .before .pre .1) _ _ (c .before .before .before .branch-fork .ensures) _ (c .before .before .before .before .before .before .before .before .before .before .before .pre .0)
+emit-branches-requires t c κs = alt-inside _ _ _ (c .before .before .before .before .before .before .before .before .node-at .ensures) _ _ _
+    (c .before .before .before .before .before .enum-told .given .1) (c .before .before .before .before .before .before .before .before .before .before .before .pre .1) _ _
+    (c .before .before .before .branch-fork .ensures) _ (c .before .before .before .before .before .before .before .before .before .before .before .pre .0)
 
--- src/lib.rt:229:9
 emit-same-length : (t : ℕ) → emit-lts.Need-same-length (
   node-at-reads.Asked,
   node-at-reads.Learnt,
@@ -628,9 +620,11 @@ emit-same-length : (t : ℕ) → emit-lts.Need-same-length (
   rounds-below t,
   rounds.Post,
 ) (emit-at t) emit.Post
-emit-same-length t c = emitted-length _ _ _ _ _ (alt-done _ _ _ (c .before .before .before .before .before .before .before .before .before .before .before .node-at .ensures) _ _ _ (c .before .before .before .before .before .before .before .before .enum-told .given .1) (c .before .before .before .before .before .before .before .before .before .before .before .before .before .before .pre .1) _ _ (c .before .before .before .before .before .before .branch-fork .ensures) _ _ (c .before .before .branches .ensures))
+emit-same-length t c = emitted-length _ _ _ _ _ (alt-done _ _ _ (c .before .before .before .before .before .before .before .before .before .before .before .node-at .ensures) _ _
+    _ (c .before .before .before .before .before .before .before .before .enum-told .given .1)
+    (c .before .before .before .before .before .before .before .before .before .before .before .before .before .before .pre .1) _ _
+    (c .before .before .before .before .before .before .branch-fork .ensures) _ _ (c .before .before .branches .ensures))
 
--- src/lib.rt:229:9
 emit-returns : (t : ℕ) → emit-lts.Need-returns (
   node-at-reads.Asked,
   node-at-reads.Learnt,
@@ -651,9 +645,10 @@ emit-returns : (t : ℕ) → emit-lts.Need-returns (
   rounds-below t,
   rounds.Post,
 ) (emit-at t) emit.Post
-emit-returns t c = λ h. alt-done _ _ _ (c .before .before .before .before .before .before .before .before .before .before .before .node-at .ensures) _ _ _ (c .before .before .before .before .before .before .before .before .enum-told .given .1) h _ _ (c .before .before .before .before .before .before .branch-fork .ensures) _ _ (c .before .before .branches .ensures)
+emit-returns t c = λ h. alt-done _ _ _ (c .before .before .before .before .before .before .before .before .before .before .before .node-at .ensures) _ _ _
+    (c .before .before .before .before .before .before .before .before .enum-told .given .1) h _ _ (c .before .before .before .before .before .before .branch-fork .ensures) _ _
+    (c .before .before .branches .ensures)
 
--- src/lib.rt:232:9
 emit-returns-2 : (t : ℕ) → emit-lts.Need-returns-2 (
   node-at-reads.Asked,
   node-at-reads.Learnt,
@@ -676,7 +671,6 @@ emit-returns-2 : (t : ℕ) → emit-lts.Need-returns-2 (
 ) (emit-at t) emit.Post
 emit-returns-2 t c = λ h. emit-none _ _ _ (c .before .before .before .node-at .ensures) _ _ _ (not-alternation _ (c .before .match .keys2)) (c .if1 .taken) h
 
--- src/lib.rt:235:23
 emit-enum-told-2 : (t : ℕ) → emit-lts.Need-enum-told-2 (
   node-at-reads.Asked,
   node-at-reads.Learnt,
@@ -699,7 +693,6 @@ emit-enum-told-2 : (t : ℕ) → emit-lts.Need-enum-told-2 (
 ) (emit-at t) emit.Post
 emit-enum-told-2 t c = search needs
 
--- src/lib.rt:235:23
 emit-places-at-requires : (t : ℕ) → emit-lts.Need-places-at-requires (
   node-at-reads.Asked,
   node-at-reads.Learnt,
@@ -720,9 +713,9 @@ emit-places-at-requires : (t : ℕ) → emit-lts.Need-places-at-requires (
   rounds-below t,
   rounds.Post,
 ) (emit-at t) emit.Post
-emit-places-at-requires t c κs = seq-left-in _ _ _ (c .before .before .before .before .before .node-at .ensures) _ _ _ (c .enum-told2 .given .1) _ refl (c .before .before .before .before .before .before .before .before .pre .1)
+emit-places-at-requires t c κs = seq-left-in _ _ _ (c .before .before .before .before .before .node-at .ensures) _ _ _ (c .enum-told2 .given .1) _ refl
+    (c .before .before .before .before .before .before .before .before .pre .1)
 
--- src/lib.rt:235:19
 emit-add-mid : (t : ℕ) → emit-lts.Need-add-mid (
   node-at-reads.Asked,
   node-at-reads.Learnt,
@@ -743,9 +736,9 @@ emit-add-mid : (t : ℕ) → emit-lts.Need-add-mid (
   rounds-below t,
   rounds.Post,
 ) (emit-at t) emit.Post
-emit-add-mid t c = seq-mid _ _ _ (c .before .before .before .before .before .before .node-at .ensures) _ _ _ (c .before .enum-told2 .given .1) _ (c .places-at .ensures) (c .before .before .before .before .before .before .before .before .before .pre .1)
+emit-add-mid t c = seq-mid _ _ _ (c .before .before .before .before .before .before .node-at .ensures) _ _ _ (c .before .enum-told2 .given .1) _ (c .places-at .ensures)
+    (c .before .before .before .before .before .before .before .before .before .pre .1)
 
--- src/lib.rt:237:13
 emit-emit-requires : (t : ℕ) → emit-lts.Need-emit-requires (
   node-at-reads.Asked,
   node-at-reads.Learnt,
@@ -766,9 +759,11 @@ emit-emit-requires : (t : ℕ) → emit-lts.Need-emit-requires (
   rounds-below t,
   rounds.Post,
 ) (emit-at t) emit.Post
-emit-emit-requires t c κs = seq-skip _ _ _ (c .before .before .before .before .before .before .before .before .node-at .ensures) _ _ _ (c .before .before .before .enum-told2 .given .1) _ (c .before .before .places-at .ensures) (c .before .if2 .taken) (c .before .before .before .before .before .before .before .before .before .before .before .pre .1) _ (c .before .before .before .before .before .before .before .before .before .before .before .pre .0)
+emit-emit-requires t c κs = seq-skip _ _ _ (c .before .before .before .before .before .before .before .before .node-at .ensures) _ _ _
+    (c .before .before .before .enum-told2 .given .1) _ (c .before .before .places-at .ensures) (c .before .if2 .taken)
+    (c .before .before .before .before .before .before .before .before .before .before .before .pre .1) _
+    (c .before .before .before .before .before .before .before .before .before .before .before .pre .0)
 
--- src/lib.rt:237:13
 emit-same-length-2 : (t : ℕ) → emit-lts.Need-same-length-2 (
   node-at-reads.Asked,
   node-at-reads.Learnt,
@@ -789,9 +784,11 @@ emit-same-length-2 : (t : ℕ) → emit-lts.Need-same-length-2 (
   rounds-below t,
   rounds.Post,
 ) (emit-at t) emit.Post
-emit-same-length-2 t c = emitted-length _ _ _ _ _ (seq-skipped _ _ _ (c .before .before .before .before .before .before .before .before .before .before .before .node-at .ensures) _ _ _ (c .before .before .before .before .before .before .enum-told2 .given .1) _ (c .before .before .before .before .before .places-at .ensures) (c .before .before .before .before .if2 .taken) (c .before .before .before .before .before .before .before .before .before .before .before .before .before .before .pre .1) _ _ (c .before .before .emit .ensures))
+emit-same-length-2 t c = emitted-length _ _ _ _ _ (seq-skipped _ _ _ (c .before .before .before .before .before .before .before .before .before .before .before .node-at
+    .ensures) _ _ _ (c .before .before .before .before .before .before .enum-told2 .given .1) _ (c .before .before .before .before .before .places-at .ensures)
+    (c .before .before .before .before .if2 .taken) (c .before .before .before .before .before .before .before .before .before .before .before .before .before .before .pre .1) _
+    _ (c .before .before .emit .ensures))
 
--- src/lib.rt:237:13
 emit-returns-3 : (t : ℕ) → emit-lts.Need-returns-3 (
   node-at-reads.Asked,
   node-at-reads.Learnt,
@@ -812,9 +809,10 @@ emit-returns-3 : (t : ℕ) → emit-lts.Need-returns-3 (
   rounds-below t,
   rounds.Post,
 ) (emit-at t) emit.Post
-emit-returns-3 t c = λ h. seq-skipped _ _ _ (c .before .before .before .before .before .before .before .before .before .before .before .node-at .ensures) _ _ _ (c .before .before .before .before .before .before .enum-told2 .given .1) _ (c .before .before .before .before .before .places-at .ensures) (c .before .before .before .before .if2 .taken) h _ _ (c .before .before .emit .ensures)
+emit-returns-3 t c = λ h. seq-skipped _ _ _ (c .before .before .before .before .before .before .before .before .before .before .before .node-at .ensures) _ _ _
+    (c .before .before .before .before .before .before .enum-told2 .given .1) _ (c .before .before .before .before .before .places-at .ensures)
+    (c .before .before .before .before .if2 .taken) h _ _ (c .before .before .emit .ensures)
 
--- src/lib.rt:239:13
 emit-start-at-requires : (t : ℕ) → emit-lts.Need-start-at-requires (
   node-at-reads.Asked,
   node-at-reads.Learnt,
@@ -837,7 +835,6 @@ emit-start-at-requires : (t : ℕ) → emit-lts.Need-start-at-requires (
 ) (emit-at t) emit.Post
 emit-start-at-requires t c κs = search needs
 
--- src/lib.rt:240:13
 emit-emit-requires-2 : (t : ℕ) → emit-lts.Need-emit-requires-2 (
   node-at-reads.Asked,
   node-at-reads.Learnt,
@@ -858,9 +855,11 @@ emit-emit-requires-2 : (t : ℕ) → emit-lts.Need-emit-requires-2 (
   rounds-below t,
   rounds.Post,
 ) (emit-at t) emit.Post
-emit-emit-requires-2 t c κs = seq-first _ _ _ (c .before .before .before .before .before .before .before .before .before .node-at .ensures) _ _ _ (c .before .before .before .before .enum-told2 .given .1) _ (c .before .before .before .places-at .ensures) _ (c .before .start-at .ensures) (c .before .before .before .before .before .before .before .before .before .before .before .before .pre .1) _ (c .before .before .before .before .before .before .before .before .before .before .before .before .pre .0)
+emit-emit-requires-2 t c κs = seq-first _ _ _ (c .before .before .before .before .before .before .before .before .before .node-at .ensures) _ _ _
+    (c .before .before .before .before .enum-told2 .given .1) _ (c .before .before .before .places-at .ensures) _ (c .before .start-at .ensures)
+    (c .before .before .before .before .before .before .before .before .before .before .before .before .pre .1) _
+    (c .before .before .before .before .before .before .before .before .before .before .before .before .pre .0)
 
--- src/lib.rt:241:9
 emit-emit-requires-3 : (t : ℕ) → emit-lts.Need-emit-requires-3 (
   node-at-reads.Asked,
   node-at-reads.Learnt,
@@ -881,9 +880,12 @@ emit-emit-requires-3 : (t : ℕ) → emit-lts.Need-emit-requires-3 (
   rounds-below t,
   rounds.Post,
 ) (emit-at t) emit.Post
-emit-emit-requires-3 t c κs = seq-second _ _ _ (c .before .before .before .before .before .before .before .before .before .before .before .before .before .node-at .ensures) _ _ _ (c .before .before .before .before .before .before .before .before .enum-told2 .given .1) _ (c .before .before .before .before .before .before .before .places-at .ensures) _ (c .before .before .before .before .before .start-at .ensures) (c .before .before .before .before .before .before .before .before .before .before .before .before .before .before .before .before .pre .1) _ _ (c .before .before .before .emit2 .ensures) _ (c .before .before .before .before .before .before .before .before .before .before .before .before .before .before .before .before .pre .0)
+emit-emit-requires-3 t c κs = seq-second _ _ _ (c .before .before .before .before .before .before .before .before .before .before .before .before .before .node-at .ensures) _ _
+    _ (c .before .before .before .before .before .before .before .before .enum-told2 .given .1) _ (c .before .before .before .before .before .before .before .places-at .ensures)
+    _ (c .before .before .before .before .before .start-at .ensures) (c .before .before .before .before .before .before .before .before .before .before .before .before .before
+    .before .before .before .pre .1) _ _ (c .before .before .before .emit2 .ensures) _ (c .before .before .before .before .before .before .before .before .before .before .before
+    .before .before .before .before .before .pre .0)
 
--- src/lib.rt:241:9
 emit-same-length-3 : (t : ℕ) → emit-lts.Need-same-length-3 (
   node-at-reads.Asked,
   node-at-reads.Learnt,
@@ -904,9 +906,13 @@ emit-same-length-3 : (t : ℕ) → emit-lts.Need-same-length-3 (
   rounds-below t,
   rounds.Post,
 ) (emit-at t) emit.Post
-emit-same-length-3 t c = emitted-length _ _ _ _ _ (seq-done _ _ _ (c .before .before .before .before .before .before .before .before .before .before .before .before .before .before .before .before .node-at .ensures) _ _ _ (c .before .before .before .before .before .before .before .before .before .before .before .enum-told2 .given .1) _ (c .before .before .before .before .before .before .before .before .before .before .places-at .ensures) _ (c .before .before .before .before .before .before .before .before .start-at .ensures) (c .before .before .before .before .before .before .before .before .before .before .before .before .before .before .before .before .before .before .before .pre .1) _ _ (c .before .before .before .before .before .before .emit2 .ensures) _ _ (c .before .before .emit3 .ensures))
+emit-same-length-3 t c = emitted-length _ _ _ _ _ (seq-done _ _ _ (c .before .before .before .before .before .before .before .before .before .before .before .before .before
+    .before .before .before .node-at .ensures) _ _ _ (c .before .before .before .before .before .before .before .before .before .before .before .enum-told2 .given .1) _
+    (c .before .before .before .before .before .before .before .before .before .before .places-at .ensures) _
+    (c .before .before .before .before .before .before .before .before .start-at .ensures) (c .before .before .before .before .before .before .before .before .before .before
+    .before .before .before .before .before .before .before .before .before .pre .1) _ _ (c .before .before .before .before .before .before .emit2 .ensures) _ _
+    (c .before .before .emit3 .ensures))
 
--- src/lib.rt:241:9
 emit-returns-4 : (t : ℕ) → emit-lts.Need-returns-4 (
   node-at-reads.Asked,
   node-at-reads.Learnt,
@@ -927,9 +933,12 @@ emit-returns-4 : (t : ℕ) → emit-lts.Need-returns-4 (
   rounds-below t,
   rounds.Post,
 ) (emit-at t) emit.Post
-emit-returns-4 t c = λ h. seq-done _ _ _ (c .before .before .before .before .before .before .before .before .before .before .before .before .before .before .before .before .node-at .ensures) _ _ _ (c .before .before .before .before .before .before .before .before .before .before .before .enum-told2 .given .1) _ (c .before .before .before .before .before .before .before .before .before .before .places-at .ensures) _ (c .before .before .before .before .before .before .before .before .start-at .ensures) h _ _ (c .before .before .before .before .before .before .emit2 .ensures) _ _ (c .before .before .emit3 .ensures)
+emit-returns-4 t c = λ h. seq-done _ _ _ (c .before .before .before .before .before .before .before .before .before .before .before .before .before .before .before .before
+    .node-at .ensures) _ _ _ (c .before .before .before .before .before .before .before .before .before .before .before .enum-told2 .given .1) _
+    (c .before .before .before .before .before .before .before .before .before .before .places-at .ensures) _
+    (c .before .before .before .before .before .before .before .before .start-at .ensures) h _ _ (c .before .before .before .before .before .before .emit2 .ensures) _ _
+    (c .before .before .emit3 .ensures)
 
--- src/lib.rt:243:9
 emit-body-size-requires : (t : ℕ) → emit-lts.Need-body-size-requires (
   node-at-reads.Asked,
   node-at-reads.Learnt,
@@ -950,9 +959,9 @@ emit-body-size-requires : (t : ℕ) → emit-lts.Need-body-size-requires (
   rounds-below t,
   rounds.Post,
 ) (emit-at t) emit.Post
-emit-body-size-requires t c κs = emit-node _ _ _ (c .before .before .before .before .node-at .ensures) _ _ _ (not-sequence _ (c .match2 .keys2)) (not-alternation _ (c .before .before .match .keys2)) (c .before .before .before .before .before .before .before .pre .1)
+emit-body-size-requires t c κs = emit-node _ _ _ (c .before .before .before .before .node-at .ensures) _ _ _ (not-sequence _ (c .match2 .keys2))
+    (not-alternation _ (c .before .before .match .keys2)) (c .before .before .before .before .before .before .before .pre .1)
 
--- src/lib.rt:245:9
 emit-turns-behind-requires : (t : ℕ) → emit-lts.Need-turns-behind-requires (
   node-at-reads.Asked,
   node-at-reads.Learnt,
@@ -973,9 +982,9 @@ emit-turns-behind-requires : (t : ℕ) → emit-lts.Need-turns-behind-requires (
   rounds-below t,
   rounds.Post,
 ) (emit-at t) emit.Post
-emit-turns-behind-requires t c κs = turn-order _ _ _ (c .before .before .before .before .before .node-at .ensures) _ _ _ (not-sequence _ (c .before .match2 .keys2)) (not-alternation _ (c .before .before .before .match .keys2)) (c .before .before .before .before .before .before .before .before .pre .1)
+emit-turns-behind-requires t c κs = turn-order _ _ _ (c .before .before .before .before .before .node-at .ensures) _ _ _ (not-sequence _ (c .before .match2 .keys2))
+    (not-alternation _ (c .before .before .before .match .keys2)) (c .before .before .before .before .before .before .before .before .pre .1)
 
--- src/lib.rt:246:5
 emit-rounds-requires : (t : ℕ) → emit-lts.Need-rounds-requires (
   node-at-reads.Asked,
   node-at-reads.Learnt,
@@ -996,9 +1005,11 @@ emit-rounds-requires : (t : ℕ) → emit-lts.Need-rounds-requires (
   rounds-below t,
   rounds.Post,
 ) (emit-at t) emit.Post
-emit-rounds-requires t c κs = turn-first _ _ _ (c .before .before .before .before .before .before .before .node-at .ensures) _ _ _ (not-sequence _ (c .before .before .before .match2 .keys2)) (not-alternation _ (c .before .before .before .before .before .match .keys2)) _ (c .before .before .body-size .ensures) _ (c .before .turns-behind .ensures) (c .before .before .before .before .before .before .before .before .before .before .pre .1) _ (c .before .before .before .before .before .before .before .before .before .before .pre .0)
+emit-rounds-requires t c κs = turn-first _ _ _ (c .before .before .before .before .before .before .before .node-at .ensures) _ _ _
+    (not-sequence _ (c .before .before .before .match2 .keys2)) (not-alternation _ (c .before .before .before .before .before .match .keys2)) _
+    (c .before .before .body-size .ensures) _ (c .before .turns-behind .ensures) (c .before .before .before .before .before .before .before .before .before .before .pre .1) _
+    (c .before .before .before .before .before .before .before .before .before .before .pre .0)
 
--- src/lib.rt:217:1
 emit-same-length-4 : (t : ℕ) → emit-lts.Need-same-length-4 (
   node-at-reads.Asked,
   node-at-reads.Learnt,
@@ -1019,9 +1030,12 @@ emit-same-length-4 : (t : ℕ) → emit-lts.Need-same-length-4 (
   rounds-below t,
   rounds.Post,
 ) (emit-at t) emit.Post
-emit-same-length-4 t c = emitted-length _ _ _ _ _ (turn-done _ _ _ (c .before .before .before .before .before .before .before .before .before .before .node-at .ensures) _ _ _ (not-sequence _ (c .before .before .before .before .before .before .match2 .keys2)) (not-alternation _ (c .before .before .before .before .before .before .before .before .match .keys2)) _ (c .before .before .before .before .before .body-size .ensures) _ (c .before .before .before .before .turns-behind .ensures) (c .before .before .before .before .before .before .before .before .before .before .before .before .before .pre .1) _ _ (c .before .before .rounds .ensures))
+emit-same-length-4 t c = emitted-length _ _ _ _ _ (turn-done _ _ _ (c .before .before .before .before .before .before .before .before .before .before .node-at .ensures) _ _ _
+    (not-sequence _ (c .before .before .before .before .before .before .match2 .keys2)) (not-alternation _
+    (c .before .before .before .before .before .before .before .before .match .keys2)) _ (c .before .before .before .before .before .body-size .ensures) _
+    (c .before .before .before .before .turns-behind .ensures) (c .before .before .before .before .before .before .before .before .before .before .before .before .before .pre
+    .1) _ _ (c .before .before .rounds .ensures))
 
--- src/lib.rt:217:1
 emit-returns-5 : (t : ℕ) → emit-lts.Need-returns-5 (
   node-at-reads.Asked,
   node-at-reads.Learnt,
@@ -1042,9 +1056,11 @@ emit-returns-5 : (t : ℕ) → emit-lts.Need-returns-5 (
   rounds-below t,
   rounds.Post,
 ) (emit-at t) emit.Post
-emit-returns-5 t c = λ h. turn-done _ _ _ (c .before .before .before .before .before .before .before .before .before .before .node-at .ensures) _ _ _ (not-sequence _ (c .before .before .before .before .before .before .match2 .keys2)) (not-alternation _ (c .before .before .before .before .before .before .before .before .match .keys2)) _ (c .before .before .before .before .before .body-size .ensures) _ (c .before .before .before .before .turns-behind .ensures) h _ _ (c .before .before .rounds .ensures)
+emit-returns-5 t c = λ h. turn-done _ _ _ (c .before .before .before .before .before .before .before .before .before .before .node-at .ensures) _ _ _
+    (not-sequence _ (c .before .before .before .before .before .before .match2 .keys2)) (not-alternation _
+    (c .before .before .before .before .before .before .before .before .match .keys2)) _ (c .before .before .before .before .before .body-size .ensures) _
+    (c .before .before .before .before .turns-behind .ensures) h _ _ (c .before .before .rounds .ensures)
 
--- src/lib.rt:276:29
 rounds-add-start-at : (t : ℕ) → rounds-lts.Need-add-start-at (
   start-at-reads.Asked,
   start-at-reads.Learnt,
@@ -1059,7 +1075,6 @@ rounds-add-start-at : (t : ℕ) → rounds-lts.Need-add-start-at (
 ) (rounds-at t) rounds.Post
 rounds-add-start-at t c = copy-fits _ _ _ _ _ _ _ _ _ (c .if1 .taken) (c .before .before .before .pre .1)
 
--- src/lib.rt:276:13
 rounds-start-at-requires : (t : ℕ) → rounds-lts.Need-start-at-requires (
   start-at-reads.Asked,
   start-at-reads.Learnt,
@@ -1074,7 +1089,6 @@ rounds-start-at-requires : (t : ℕ) → rounds-lts.Need-start-at-requires (
 ) (rounds-at t) rounds.Post
 rounds-start-at-requires t c κs = search needs
 
--- src/lib.rt:277:13
 rounds-body-requires : (t : ℕ) → rounds-lts.Need-body-requires (
   start-at-reads.Asked,
   start-at-reads.Learnt,
@@ -1087,9 +1101,9 @@ rounds-body-requires : (t : ℕ) → rounds-lts.Need-body-requires (
   fork-reads.Asked,
   fork-reads.Learnt,
 ) (rounds-at t) rounds.Post
-rounds-body-requires t c κs = copy-first _ _ _ _ _ _ _ _ _ (c .before .before .if1 .taken) _ (c .before .start-at .ensures) (c .before .before .before .before .before .pre .1) _ (c .before .before .before .before .before .pre .0)
+rounds-body-requires t c κs = copy-first _ _ _ _ _ _ _ _ _ (c .before .before .if1 .taken) _ (c .before .start-at .ensures) (c .before .before .before .before .before .pre .1) _
+    (c .before .before .before .before .before .pre .0)
 
--- src/lib.rt:278:35
 rounds-sub-rounds : (t : ℕ) → rounds-lts.Need-sub-rounds (
   start-at-reads.Asked,
   start-at-reads.Learnt,
@@ -1102,9 +1116,9 @@ rounds-sub-rounds : (t : ℕ) → rounds-lts.Need-sub-rounds (
   fork-reads.Asked,
   fork-reads.Learnt,
 ) (rounds-at t) rounds.Post
-rounds-sub-rounds t c = copy-less _ _ _ _ _ _ _ _ _ (c .before .before .before .before .before .if1 .taken) (c .before .before .before .before .before .before .before .before .pre .1)
+rounds-sub-rounds t c = copy-less _ _ _ _ _ _ _ _ _ (c .before .before .before .before .before .if1 .taken)
+    (c .before .before .before .before .before .before .before .before .pre .1)
 
--- src/lib.rt:278:9
 rounds-rounds-requires : (t : ℕ) → rounds-lts.Need-rounds-requires (
   start-at-reads.Asked,
   start-at-reads.Learnt,
@@ -1117,9 +1131,10 @@ rounds-rounds-requires : (t : ℕ) → rounds-lts.Need-rounds-requires (
   fork-reads.Asked,
   fork-reads.Learnt,
 ) (rounds-at t) rounds.Post
-rounds-rounds-requires t c κs = copy-again _ _ _ _ _ _ _ _ _ (c .before .before .before .before .before .before .if1 .taken) _ (c .before .before .before .before .before .start-at .ensures) (c .before .before .before .before .before .before .before .before .before .pre .1) _ _ (c .before .before .before .body .ensures) _ (c .before .before .before .before .before .before .before .before .before .pre .0)
+rounds-rounds-requires t c κs = copy-again _ _ _ _ _ _ _ _ _ (c .before .before .before .before .before .before .if1 .taken) _
+    (c .before .before .before .before .before .start-at .ensures) (c .before .before .before .before .before .before .before .before .before .pre .1) _ _
+    (c .before .before .before .body .ensures) _ (c .before .before .before .before .before .before .before .before .before .pre .0)
 
--- src/lib.rt:278:9
 rounds-same-length : (t : ℕ) → rounds-lts.Need-same-length (
   start-at-reads.Asked,
   start-at-reads.Learnt,
@@ -1132,9 +1147,10 @@ rounds-same-length : (t : ℕ) → rounds-lts.Need-same-length (
   fork-reads.Asked,
   fork-reads.Learnt,
 ) (rounds-at t) rounds.Post
-rounds-same-length t c = emitted-length _ _ _ _ _ (copy-done _ _ _ _ _ _ _ _ _ (c .before .before .before .before .before .before .before .before .before .if1 .taken) _ (c .before .before .before .before .before .before .before .before .start-at .ensures) (c .before .before .before .before .before .before .before .before .before .before .before .before .pre .1) _ _ (c .before .before .before .before .before .before .body .ensures) _ _ (c .before .before .rounds .ensures))
+rounds-same-length t c = emitted-length _ _ _ _ _ (copy-done _ _ _ _ _ _ _ _ _ (c .before .before .before .before .before .before .before .before .before .if1 .taken) _
+    (c .before .before .before .before .before .before .before .before .start-at .ensures) (c .before .before .before .before .before .before .before .before .before .before
+    .before .before .pre .1) _ _ (c .before .before .before .before .before .before .body .ensures) _ _ (c .before .before .rounds .ensures))
 
--- src/lib.rt:278:9
 rounds-returns : (t : ℕ) → rounds-lts.Need-returns (
   start-at-reads.Asked,
   start-at-reads.Learnt,
@@ -1147,9 +1163,10 @@ rounds-returns : (t : ℕ) → rounds-lts.Need-returns (
   fork-reads.Asked,
   fork-reads.Learnt,
 ) (rounds-at t) rounds.Post
-rounds-returns t c = λ h. copy-done _ _ _ _ _ _ _ _ _ (c .before .before .before .before .before .before .before .before .before .if1 .taken) _ (c .before .before .before .before .before .before .before .before .start-at .ensures) h _ _ (c .before .before .before .before .before .before .body .ensures) _ _ (c .before .before .rounds .ensures)
+rounds-returns t c = λ h. copy-done _ _ _ _ _ _ _ _ _ (c .before .before .before .before .before .before .before .before .before .if1 .taken) _
+    (c .before .before .before .before .before .before .before .before .start-at .ensures) h _ _ (c .before .before .before .before .before .before .body .ensures) _ _
+    (c .before .before .rounds .ensures)
 
--- src/lib.rt:281:9
 rounds-returns-2 : (t : ℕ) → rounds-lts.Need-returns-2 (
   start-at-reads.Asked,
   start-at-reads.Learnt,
@@ -1164,7 +1181,6 @@ rounds-returns-2 : (t : ℕ) → rounds-lts.Need-returns-2 (
 ) (rounds-at t) rounds.Post
 rounds-returns-2 t c = λ h. none-done _ _ _ _ _ _ _ _ _ (c .before .if1 .left) (c .if2 .taken) h
 
--- src/lib.rt:283:9
 rounds-node-at-requires : (t : ℕ) → rounds-lts.Need-node-at-requires (
   start-at-reads.Asked,
   start-at-reads.Learnt,
@@ -1179,7 +1195,6 @@ rounds-node-at-requires : (t : ℕ) → rounds-lts.Need-node-at-requires (
 ) (rounds-at t) rounds.Post
 rounds-node-at-requires t c κs = round-in _ _ _ _ _ _ _ _ _ (c .before .before .before .before .pre .1)
 
--- src/lib.rt:286:29
 rounds-add-start-at-2 : (t : ℕ) → rounds-lts.Need-add-start-at-2 (
   start-at-reads.Asked,
   start-at-reads.Learnt,
@@ -1192,9 +1207,9 @@ rounds-add-start-at-2 : (t : ℕ) → rounds-lts.Need-add-start-at-2 (
   fork-reads.Asked,
   fork-reads.Learnt,
 ) (rounds-at t) rounds.Post
-rounds-add-start-at-2 t c = star-fits _ _ _ _ _ _ _ _ _ (c .before .before .before .if1 .left) (c .if3 .taken) _ (c .before .node-at .ensures) (c .before .before .before .before .before .before .pre .1)
+rounds-add-start-at-2 t c = star-fits _ _ _ _ _ _ _ _ _ (c .before .before .before .if1 .left) (c .if3 .taken) _ (c .before .node-at .ensures)
+    (c .before .before .before .before .before .before .pre .1)
 
--- src/lib.rt:286:13
 rounds-start-at-requires-2 : (t : ℕ) → rounds-lts.Need-start-at-requires-2 (
   start-at-reads.Asked,
   start-at-reads.Learnt,
@@ -1209,7 +1224,6 @@ rounds-start-at-requires-2 : (t : ℕ) → rounds-lts.Need-start-at-requires-2 (
 ) (rounds-at t) rounds.Post
 rounds-start-at-requires-2 t c κs = search needs
 
--- src/lib.rt:287:13
 rounds-fork-requires : (t : ℕ) → rounds-lts.Need-fork-requires (
   start-at-reads.Asked,
   start-at-reads.Learnt,
@@ -1222,9 +1236,9 @@ rounds-fork-requires : (t : ℕ) → rounds-lts.Need-fork-requires (
   fork-reads.Asked,
   fork-reads.Learnt,
 ) (rounds-at t) rounds.Post
-rounds-fork-requires t c κs = star-choose _ _ _ _ _ _ _ _ _ (c .before .before .before .before .before .if1 .left) (c .before .before .if3 .taken) _ (c .before .before .before .node-at .ensures) _ (c .before .start-at2 .ensures) (c .before .before .before .before .before .before .before .before .pre .1)
+rounds-fork-requires t c κs = star-choose _ _ _ _ _ _ _ _ _ (c .before .before .before .before .before .if1 .left) (c .before .before .if3 .taken) _
+    (c .before .before .before .node-at .ensures) _ (c .before .start-at2 .ensures) (c .before .before .before .before .before .before .before .before .pre .1)
 
--- src/lib.rt:288:9
 rounds-body-requires-2 : (t : ℕ) → rounds-lts.Need-body-requires-2 (
   start-at-reads.Asked,
   start-at-reads.Learnt,
@@ -1237,9 +1251,11 @@ rounds-body-requires-2 : (t : ℕ) → rounds-lts.Need-body-requires-2 (
   fork-reads.Asked,
   fork-reads.Learnt,
 ) (rounds-at t) rounds.Post
-rounds-body-requires-2 t c κs = star-body _ _ _ _ _ _ _ _ _ (c .before .before .before .before .before .before .before .before .before .if1 .left) (c .before .before .before .before .before .before .if3 .taken) _ (c .before .before .before .before .before .before .before .node-at .ensures) _ (c .before .before .before .before .before .start-at2 .ensures) (c .before .before .before .before .before .before .before .before .before .before .before .before .pre .1) _ _ (c .before .before .before .fork .ensures) _ (c .before .before .before .before .before .before .before .before .before .before .before .before .pre .0)
+rounds-body-requires-2 t c κs = star-body _ _ _ _ _ _ _ _ _ (c .before .before .before .before .before .before .before .before .before .if1 .left)
+    (c .before .before .before .before .before .before .if3 .taken) _ (c .before .before .before .before .before .before .before .node-at .ensures) _
+    (c .before .before .before .before .before .start-at2 .ensures) (c .before .before .before .before .before .before .before .before .before .before .before .before .pre .1) _
+    _ (c .before .before .before .fork .ensures) _ (c .before .before .before .before .before .before .before .before .before .before .before .before .pre .0)
 
--- src/lib.rt:288:9
 rounds-same-length-2 : (t : ℕ) → rounds-lts.Need-same-length-2 (
   start-at-reads.Asked,
   start-at-reads.Learnt,
@@ -1252,9 +1268,13 @@ rounds-same-length-2 : (t : ℕ) → rounds-lts.Need-same-length-2 (
   fork-reads.Asked,
   fork-reads.Learnt,
 ) (rounds-at t) rounds.Post
-rounds-same-length-2 t c = emitted-length _ _ _ _ _ (star-done _ _ _ _ _ _ _ _ _ (c .before .before .before .before .before .before .before .before .before .before .before .before .if1 .left) (c .before .before .before .before .before .before .before .before .before .if3 .taken) _ (c .before .before .before .before .before .before .before .before .before .before .node-at .ensures) _ (c .before .before .before .before .before .before .before .before .start-at2 .ensures) (c .before .before .before .before .before .before .before .before .before .before .before .before .before .before .before .pre .1) _ _ (c .before .before .before .before .before .before .fork .ensures) _ _ (c .before .before .body2 .ensures))
+rounds-same-length-2 t c = emitted-length _ _ _ _ _ (star-done _ _ _ _ _ _ _ _ _ (c .before .before .before .before .before .before .before .before .before .before .before
+    .before .if1 .left) (c .before .before .before .before .before .before .before .before .before .if3 .taken) _
+    (c .before .before .before .before .before .before .before .before .before .before .node-at .ensures) _
+    (c .before .before .before .before .before .before .before .before .start-at2 .ensures)
+    (c .before .before .before .before .before .before .before .before .before .before .before .before .before .before .before .pre .1) _ _
+    (c .before .before .before .before .before .before .fork .ensures) _ _ (c .before .before .body2 .ensures))
 
--- src/lib.rt:288:9
 rounds-returns-3 : (t : ℕ) → rounds-lts.Need-returns-3 (
   start-at-reads.Asked,
   start-at-reads.Learnt,
@@ -1267,9 +1287,12 @@ rounds-returns-3 : (t : ℕ) → rounds-lts.Need-returns-3 (
   fork-reads.Asked,
   fork-reads.Learnt,
 ) (rounds-at t) rounds.Post
-rounds-returns-3 t c = λ h. star-done _ _ _ _ _ _ _ _ _ (c .before .before .before .before .before .before .before .before .before .before .before .before .if1 .left) (c .before .before .before .before .before .before .before .before .before .if3 .taken) _ (c .before .before .before .before .before .before .before .before .before .before .node-at .ensures) _ (c .before .before .before .before .before .before .before .before .start-at2 .ensures) h _ _ (c .before .before .before .before .before .before .fork .ensures) _ _ (c .before .before .body2 .ensures)
+rounds-returns-3 t c = λ h. star-done _ _ _ _ _ _ _ _ _ (c .before .before .before .before .before .before .before .before .before .before .before .before .if1 .left)
+    (c .before .before .before .before .before .before .before .before .before .if3 .taken) _
+    (c .before .before .before .before .before .before .before .before .before .before .node-at .ensures) _
+    (c .before .before .before .before .before .before .before .before .start-at2 .ensures) h _ _ (c .before .before .before .before .before .before .fork .ensures) _ _
+    (c .before .before .body2 .ensures)
 
--- src/lib.rt:290:25
 rounds-add-start-at-3 : (t : ℕ) → rounds-lts.Need-add-start-at-3 (
   start-at-reads.Asked,
   start-at-reads.Learnt,
@@ -1282,9 +1305,9 @@ rounds-add-start-at-3 : (t : ℕ) → rounds-lts.Need-add-start-at-3 (
   fork-reads.Asked,
   fork-reads.Learnt,
 ) (rounds-at t) rounds.Post
-rounds-add-start-at-3 t c = option-fits _ _ _ _ _ _ _ _ _ (c .before .before .before .if1 .left) (c .before .before .if2 .left) (c .if3 .left) _ (c .before .node-at .ensures) (c .before .before .before .before .before .before .pre .1)
+rounds-add-start-at-3 t c = option-fits _ _ _ _ _ _ _ _ _ (c .before .before .before .if1 .left) (c .before .before .if2 .left) (c .if3 .left) _ (c .before .node-at .ensures)
+    (c .before .before .before .before .before .before .pre .1)
 
--- src/lib.rt:290:9
 rounds-start-at-requires-3 : (t : ℕ) → rounds-lts.Need-start-at-requires-3 (
   start-at-reads.Asked,
   start-at-reads.Learnt,
@@ -1299,7 +1322,6 @@ rounds-start-at-requires-3 : (t : ℕ) → rounds-lts.Need-start-at-requires-3 (
 ) (rounds-at t) rounds.Post
 rounds-start-at-requires-3 t c κs = search needs
 
--- src/lib.rt:291:9
 rounds-fork-requires-2 : (t : ℕ) → rounds-lts.Need-fork-requires-2 (
   start-at-reads.Asked,
   start-at-reads.Learnt,
@@ -1312,9 +1334,10 @@ rounds-fork-requires-2 : (t : ℕ) → rounds-lts.Need-fork-requires-2 (
   fork-reads.Asked,
   fork-reads.Learnt,
 ) (rounds-at t) rounds.Post
-rounds-fork-requires-2 t c κs = option-choose _ _ _ _ _ _ _ _ _ (c .before .before .before .before .before .if1 .left) (c .before .before .before .before .if2 .left) (c .before .before .if3 .left) _ (c .before .before .before .node-at .ensures) _ (c .before .start-at3 .ensures) (c .before .before .before .before .before .before .before .before .pre .1)
+rounds-fork-requires-2 t c κs = option-choose _ _ _ _ _ _ _ _ _ (c .before .before .before .before .before .if1 .left) (c .before .before .before .before .if2 .left)
+    (c .before .before .if3 .left) _ (c .before .before .before .node-at .ensures) _ (c .before .start-at3 .ensures)
+    (c .before .before .before .before .before .before .before .before .pre .1)
 
--- src/lib.rt:292:25
 rounds-add-start-at-4 : (t : ℕ) → rounds-lts.Need-add-start-at-4 (
   start-at-reads.Asked,
   start-at-reads.Learnt,
@@ -1327,9 +1350,10 @@ rounds-add-start-at-4 : (t : ℕ) → rounds-lts.Need-add-start-at-4 (
   fork-reads.Asked,
   fork-reads.Learnt,
 ) (rounds-at t) rounds.Post
-rounds-add-start-at-4 t c = option-fits _ _ _ _ _ _ _ _ _ (c .before .before .before .before .before .before .before .before .if1 .left) (c .before .before .before .before .before .before .before .if2 .left) (c .before .before .before .before .before .if3 .left) _ (c .before .before .before .before .before .before .node-at .ensures) (c .before .before .before .before .before .before .before .before .before .before .before .pre .1)
+rounds-add-start-at-4 t c = option-fits _ _ _ _ _ _ _ _ _ (c .before .before .before .before .before .before .before .before .if1 .left)
+    (c .before .before .before .before .before .before .before .if2 .left) (c .before .before .before .before .before .if3 .left) _
+    (c .before .before .before .before .before .before .node-at .ensures) (c .before .before .before .before .before .before .before .before .before .before .before .pre .1)
 
--- src/lib.rt:292:25
 rounds-add-start-at-5 : (t : ℕ) → rounds-lts.Need-add-start-at-5 (
   start-at-reads.Asked,
   start-at-reads.Learnt,
@@ -1342,9 +1366,10 @@ rounds-add-start-at-5 : (t : ℕ) → rounds-lts.Need-add-start-at-5 (
   fork-reads.Asked,
   fork-reads.Learnt,
 ) (rounds-at t) rounds.Post
-rounds-add-start-at-5 t c = option-more _ _ _ _ _ _ _ _ _ (c .before .before .before .before .before .before .before .before .if1 .left) (c .before .before .before .before .before .before .before .if2 .left) (c .before .before .before .before .before .if3 .left) _ (c .before .before .before .before .before .before .node-at .ensures) (c .before .before .before .before .before .before .before .before .before .before .before .pre .1)
+rounds-add-start-at-5 t c = option-more _ _ _ _ _ _ _ _ _ (c .before .before .before .before .before .before .before .before .if1 .left)
+    (c .before .before .before .before .before .before .before .if2 .left) (c .before .before .before .before .before .if3 .left) _
+    (c .before .before .before .before .before .before .node-at .ensures) (c .before .before .before .before .before .before .before .before .before .before .before .pre .1)
 
--- src/lib.rt:292:9
 rounds-start-at-requires-4 : (t : ℕ) → rounds-lts.Need-start-at-requires-4 (
   start-at-reads.Asked,
   start-at-reads.Learnt,
@@ -1359,7 +1384,6 @@ rounds-start-at-requires-4 : (t : ℕ) → rounds-lts.Need-start-at-requires-4 (
 ) (rounds-at t) rounds.Post
 rounds-start-at-requires-4 t c κs = search needs
 
--- src/lib.rt:293:9
 rounds-body-requires-3 : (t : ℕ) → rounds-lts.Need-body-requires-3 (
   start-at-reads.Asked,
   start-at-reads.Learnt,
@@ -1372,9 +1396,12 @@ rounds-body-requires-3 : (t : ℕ) → rounds-lts.Need-body-requires-3 (
   fork-reads.Asked,
   fork-reads.Learnt,
 ) (rounds-at t) rounds.Post
-rounds-body-requires-3 t c κs = option-body _ _ _ _ _ _ _ _ _ (c .before .before .before .before .before .before .before .before .before .before .if1 .left) (c .before .before .before .before .before .before .before .before .before .if2 .left) (c .before .before .before .before .before .before .before .if3 .left) _ (c .before .before .before .before .before .before .before .before .node-at .ensures) _ (c .before .before .before .before .before .before .start-at3 .ensures) (c .before .before .before .before .before .before .before .before .before .before .before .before .before .pre .1) _ _ (c .before .before .before .before .fork2 .ensures) _ (c .before .start-at4 .ensures) _ (c .before .before .before .before .before .before .before .before .before .before .before .before .before .pre .0)
+rounds-body-requires-3 t c κs = option-body _ _ _ _ _ _ _ _ _ (c .before .before .before .before .before .before .before .before .before .before .if1 .left)
+    (c .before .before .before .before .before .before .before .before .before .if2 .left) (c .before .before .before .before .before .before .before .if3 .left) _
+    (c .before .before .before .before .before .before .before .before .node-at .ensures) _ (c .before .before .before .before .before .before .start-at3 .ensures)
+    (c .before .before .before .before .before .before .before .before .before .before .before .before .before .pre .1) _ _ (c .before .before .before .before .fork2 .ensures) _
+    (c .before .start-at4 .ensures) _ (c .before .before .before .before .before .before .before .before .before .before .before .before .before .pre .0)
 
--- src/lib.rt:294:27
 rounds-sub-rounds-2 : (t : ℕ) → rounds-lts.Need-sub-rounds-2 (
   start-at-reads.Asked,
   start-at-reads.Learnt,
@@ -1387,9 +1414,12 @@ rounds-sub-rounds-2 : (t : ℕ) → rounds-lts.Need-sub-rounds-2 (
   fork-reads.Asked,
   fork-reads.Learnt,
 ) (rounds-at t) rounds.Post
-rounds-sub-rounds-2 t c = option-less _ _ _ _ _ _ _ _ _ (c .before .before .before .before .before .before .before .before .before .before .before .before .before .if1 .left) (c .before .before .before .before .before .before .before .before .before .before .before .before .if2 .left) (c .before .before .before .before .before .before .before .before .before .before .if3 .left) _ (c .before .before .before .before .before .before .before .before .before .before .before .node-at .ensures) (c .before .before .before .before .before .before .before .before .before .before .before .before .before .before .before .before .pre .1)
+rounds-sub-rounds-2 t c = option-less _ _ _ _ _ _ _ _ _ (c .before .before .before .before .before .before .before .before .before .before .before .before .before .if1 .left)
+    (c .before .before .before .before .before .before .before .before .before .before .before .before .if2 .left)
+    (c .before .before .before .before .before .before .before .before .before .before .if3 .left) _
+    (c .before .before .before .before .before .before .before .before .before .before .before .node-at .ensures)
+    (c .before .before .before .before .before .before .before .before .before .before .before .before .before .before .before .before .pre .1)
 
--- src/lib.rt:294:5
 rounds-rounds-requires-2 : (t : ℕ) → rounds-lts.Need-rounds-requires-2 (
   start-at-reads.Asked,
   start-at-reads.Learnt,
@@ -1402,9 +1432,16 @@ rounds-rounds-requires-2 : (t : ℕ) → rounds-lts.Need-rounds-requires-2 (
   fork-reads.Asked,
   fork-reads.Learnt,
 ) (rounds-at t) rounds.Post
-rounds-rounds-requires-2 t c κs = option-again _ _ _ _ _ _ _ _ _ (c .before .before .before .before .before .before .before .before .before .before .before .before .before .before .if1 .left) (c .before .before .before .before .before .before .before .before .before .before .before .before .before .if2 .left) (c .before .before .before .before .before .before .before .before .before .before .before .if3 .left) _ (c .before .before .before .before .before .before .before .before .before .before .before .before .node-at .ensures) _ (c .before .before .before .before .before .before .before .before .before .before .start-at3 .ensures) (c .before .before .before .before .before .before .before .before .before .before .before .before .before .before .before .before .before .pre .1) _ _ (c .before .before .before .before .before .before .before .before .fork2 .ensures) _ (c .before .before .before .before .before .start-at4 .ensures) _ _ (c .before .before .before .body3 .ensures) _ (c .before .before .before .before .before .before .before .before .before .before .before .before .before .before .before .before .before .pre .0)
+rounds-rounds-requires-2 t c κs = option-again _ _ _ _ _ _ _ _ _ (c .before .before .before .before .before .before .before .before .before .before .before .before .before
+    .before .if1 .left) (c .before .before .before .before .before .before .before .before .before .before .before .before .before .if2 .left)
+    (c .before .before .before .before .before .before .before .before .before .before .before .if3 .left) _
+    (c .before .before .before .before .before .before .before .before .before .before .before .before .node-at .ensures) _
+    (c .before .before .before .before .before .before .before .before .before .before .start-at3 .ensures)
+    (c .before .before .before .before .before .before .before .before .before .before .before .before .before .before .before .before .before .pre .1) _ _
+    (c .before .before .before .before .before .before .before .before .fork2 .ensures) _ (c .before .before .before .before .before .start-at4 .ensures) _ _
+    (c .before .before .before .body3 .ensures) _ (c .before .before .before .before .before .before .before .before .before .before .before .before .before .before .before
+    .before .before .pre .0)
 
--- src/lib.rt:270:1
 rounds-same-length-3 : (t : ℕ) → rounds-lts.Need-same-length-3 (
   start-at-reads.Asked,
   start-at-reads.Learnt,
@@ -1417,9 +1454,16 @@ rounds-same-length-3 : (t : ℕ) → rounds-lts.Need-same-length-3 (
   fork-reads.Asked,
   fork-reads.Learnt,
 ) (rounds-at t) rounds.Post
-rounds-same-length-3 t c = emitted-length _ _ _ _ _ (option-done _ _ _ _ _ _ _ _ _ (c .before .before .before .before .before .before .before .before .before .before .before .before .before .before .before .before .before .if1 .left) (c .before .before .before .before .before .before .before .before .before .before .before .before .before .before .before .before .if2 .left) (c .before .before .before .before .before .before .before .before .before .before .before .before .before .before .if3 .left) _ (c .before .before .before .before .before .before .before .before .before .before .before .before .before .before .before .node-at .ensures) _ (c .before .before .before .before .before .before .before .before .before .before .before .before .before .start-at3 .ensures) (c .before .before .before .before .before .before .before .before .before .before .before .before .before .before .before .before .before .before .before .before .pre .1) _ _ (c .before .before .before .before .before .before .before .before .before .before .before .fork2 .ensures) _ (c .before .before .before .before .before .before .before .before .start-at4 .ensures) _ _ (c .before .before .before .before .before .before .body3 .ensures) _ _ (c .before .before .rounds2 .ensures))
+rounds-same-length-3 t c = emitted-length _ _ _ _ _ (option-done _ _ _ _ _ _ _ _ _ (c .before .before .before .before .before .before .before .before .before .before .before
+    .before .before .before .before .before .before .if1 .left) (c .before .before .before .before .before .before .before .before .before .before .before .before .before
+    .before .before .before .if2 .left) (c .before .before .before .before .before .before .before .before .before .before .before .before .before .before .if3 .left) _
+    (c .before .before .before .before .before .before .before .before .before .before .before .before .before .before .before .node-at .ensures) _
+    (c .before .before .before .before .before .before .before .before .before .before .before .before .before .start-at3 .ensures)
+    (c .before .before .before .before .before .before .before .before .before .before .before .before .before .before .before .before .before .before .before .before .pre .1) _
+    _ (c .before .before .before .before .before .before .before .before .before .before .before .fork2 .ensures) _
+    (c .before .before .before .before .before .before .before .before .start-at4 .ensures) _ _ (c .before .before .before .before .before .before .body3 .ensures) _ _
+    (c .before .before .rounds2 .ensures))
 
--- src/lib.rt:270:1
 rounds-returns-4 : (t : ℕ) → rounds-lts.Need-returns-4 (
   start-at-reads.Asked,
   start-at-reads.Learnt,
@@ -1432,7 +1476,14 @@ rounds-returns-4 : (t : ℕ) → rounds-lts.Need-returns-4 (
   fork-reads.Asked,
   fork-reads.Learnt,
 ) (rounds-at t) rounds.Post
-rounds-returns-4 t c = λ h. option-done _ _ _ _ _ _ _ _ _ (c .before .before .before .before .before .before .before .before .before .before .before .before .before .before .before .before .before .if1 .left) (c .before .before .before .before .before .before .before .before .before .before .before .before .before .before .before .before .if2 .left) (c .before .before .before .before .before .before .before .before .before .before .before .before .before .before .if3 .left) _ (c .before .before .before .before .before .before .before .before .before .before .before .before .before .before .before .node-at .ensures) _ (c .before .before .before .before .before .before .before .before .before .before .before .before .before .start-at3 .ensures) h _ _ (c .before .before .before .before .before .before .before .before .before .before .before .fork2 .ensures) _ (c .before .before .before .before .before .before .before .before .start-at4 .ensures) _ _ (c .before .before .before .before .before .before .body3 .ensures) _ _ (c .before .before .rounds2 .ensures)
+rounds-returns-4 t c = λ h. option-done _ _ _ _ _ _ _ _ _ (c .before .before .before .before .before .before .before .before .before .before .before .before .before .before
+    .before .before .before .if1 .left) (c .before .before .before .before .before .before .before .before .before .before .before .before .before .before .before .before .if2
+    .left) (c .before .before .before .before .before .before .before .before .before .before .before .before .before .before .if3 .left) _
+    (c .before .before .before .before .before .before .before .before .before .before .before .before .before .before .before .node-at .ensures) _
+    (c .before .before .before .before .before .before .before .before .before .before .before .before .before .start-at3 .ensures) h _ _
+    (c .before .before .before .before .before .before .before .before .before .before .before .fork2 .ensures) _
+    (c .before .before .before .before .before .before .before .before .start-at4 .ensures) _ _ (c .before .before .before .before .before .before .body3 .ensures) _ _
+    (c .before .before .rounds2 .ensures)
 
 pub +body+branches+emit+rounds-spec : {M : Type 1} → statement M
 +body+branches+emit+rounds-spec = close μ-body μ-branches μ-emit μ-rounds (λ t. body-lts.spec (

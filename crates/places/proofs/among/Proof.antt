@@ -1,11 +1,9 @@
+-- `places::among` meets its contract. Laws: WayLaws.
 use Rattle.places.proofs.WayLaws.{Looked, looked-none, looked-end, looked-found, looked-more}
 use Prim.Native.Nat.{_-_}
 use borrow.Author.Needs.{needs}
 use Rattle.places.proofs.among.Statement.{statement}
 use Rattle.places.proofs.among.Tie as tie
-use Rattle.places.proofs.among.Reads as reads
-use Rattle.places.proofs.among.Lts as lts
-use Rattle.places.proofs.wide.Reads as wide-reads
 
 abbrev Inv-loop : tie.InvT-loop
 Inv-loop table from to y j₀ j = Looked table from to y j
@@ -13,39 +11,30 @@ Inv-loop table from to y j₀ j = Looked table from to y j
 abbrev μ-loop : tie.MeasureT-loop
 μ-loop table from to y j₀ j = to - j
 
--- src/lib.rt:60:5
 loop-holds : tie.Need-loop-holds Inv-loop μ-loop
 loop-holds c = search (needs, looked-none)
 
--- src/lib.rt:61:17
 mul-wide : tie.Need-mul-wide Inv-loop μ-loop
 mul-wide c = search needs
 
--- src/lib.rt:61:17
 shared-slice-read-wide : tie.Need-shared-slice-read-wide Inv-loop μ-loop
 shared-slice-read-wide c = search needs
 
--- src/lib.rt:61:12
 wide-requires : tie.Need-wide-requires Inv-loop μ-loop
 wide-requires c κs = search needs
 
--- src/lib.rt:62:13
 returns : tie.Need-returns Inv-loop μ-loop
 returns c = search (needs, looked-found)
 
--- src/lib.rt:64:13
 add-j : tie.Need-add-j Inv-loop μ-loop
 add-j c = search needs
 
--- src/lib.rt:60:5
 loop-less : tie.Need-loop-less Inv-loop μ-loop
 loop-less c = search needs
 
--- src/lib.rt:60:5
 loop-again : tie.Need-loop-again Inv-loop μ-loop
 loop-again c = looked-more _ _ _ _ _ (c .before .before .before .before .loop .inv) _ (c .before .before .before .loop-test .taken) (c .before .wide .ensures) (c .if1 .left)
 
--- src/lib.rt:55:1
 returns-2 : tie.Need-returns-2 Inv-loop μ-loop
 returns-2 c = search (needs, looked-end)
 

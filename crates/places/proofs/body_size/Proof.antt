@@ -1,65 +1,48 @@
+-- `places::body_size` meets its contract. Laws: EmitLaws.
 use Rattle.places.proofs.EmitLaws.{at-node, size-letter, size-anchor, size-empty, size-sequence, size-alternation, size-group, size-inside}
 use borrow.Author.Needs.{needs}
 use Rattle.places.proofs.body_size.Statement.{statement}
 use Rattle.places.proofs.body_size.Tie as tie
-use Rattle.places.proofs.body_size.Reads as reads
-use Rattle.places.proofs.body_size.Lts as lts
-use Rattle.pattern.proofs.nodes.node_at.Reads as node-at-reads
-use Rattle.places.proofs.whole_size.Reads as whole-size-reads
 
--- src/lib.rt:167:9
 node-at-requires : tie.Need-node-at-requires
 node-at-requires c κs = at-node _ _ (c .before .pre)
 
--- src/lib.rt:171:28
 enum-told : tie.Need-enum-told
 enum-told c = search needs
 
--- src/lib.rt:172:28
 enum-told-2 : tie.Need-enum-told-2
 enum-told-2 c = search needs
 
--- src/lib.rt:173:24
 enum-told-3 : tie.Need-enum-told-3
 enum-told-3 c = search needs
 
--- src/lib.rt:174:27
 enum-told-4 : tie.Need-enum-told-4
 enum-told-4 c = search needs
 
--- src/lib.rt:175:30
 enum-told-5 : tie.Need-enum-told-5
 enum-told-5 c = search needs
 
--- src/lib.rt:176:24
 enum-told-6 : tie.Need-enum-told-6
 enum-told-6 c = search needs
 
--- src/lib.rt:176:24
 whole-size-requires : tie.Need-whole-size-requires
 whole-size-requires c κs = size-inside _ _ _ (c .before .before .node-at .ensures) (c .before .before .before .before .pre) (c .enum-told6 .given .1)
 
--- src/lib.rt:163:1
 returns : tie.Need-returns
 returns c = search (needs, size-letter)
 
--- src/lib.rt:163:1
 returns-2 : tie.Need-returns-2
 returns-2 c = search (needs, size-anchor)
 
--- src/lib.rt:163:1
 returns-3 : tie.Need-returns-3
 returns-3 c = size-empty _ _ _ (c .before .before .node-at .ensures) (c .enum-told3 .given .1)
 
--- src/lib.rt:163:1
 returns-4 : tie.Need-returns-4
 returns-4 c = size-sequence _ _ _ (c .before .before .node-at .ensures) (c .enum-told4 .given .1)
 
--- src/lib.rt:163:1
 returns-5 : tie.Need-returns-5
 returns-5 c = size-alternation _ _ _ (c .before .before .node-at .ensures) (c .enum-told5 .given .1)
 
--- src/lib.rt:163:1
 returns-6 : tie.Need-returns-6
 returns-6 c = size-group _ _ _ (c .before .before .before .node-at .ensures) _ (c .before .enum-told6 .given .1) (c .whole-size .ensures)
 

@@ -1,33 +1,24 @@
+-- `places::branch_fork` meets its contract. Laws: ForkLaws.
 use Rattle.places.proofs.ForkLaws.{fork-starting, forking-words, forking-done}
 use borrow.Author.Needs.{needs}
 use Rattle.places.proofs.branch_fork.Statement.{statement}
 use Rattle.places.proofs.branch_fork.Tie as tie
-use Rattle.places.proofs.branch_fork.Reads as reads
-use Rattle.places.proofs.branch_fork.Lts as lts
-use Rattle.places.proofs.fork_ways.Reads as fork-ways-reads
-use Rattle.places.proofs.put_words.Reads as put-words-reads
 
--- src/lib.rt:103:46
 add-fork-ways : tie.Need-add-fork-ways
 add-fork-ways c = search needs
 
--- src/lib.rt:103:9
 fork-ways-requires : tie.Need-fork-ways-requires
 fork-ways-requires c κs = fork-starting _ _ _ _ _ (c .before .before .before .pre)
 
--- src/lib.rt:104:5
 put-words-requires : tie.Need-put-words-requires
 put-words-requires c κs = forking-words _ _ _ _ _ (c .before .before .before .before .before .before .before .pre) _ _ (c .before .before .before .fork-ways .ensures)
 
--- src/lib.rt:106:16
 add-t11 : tie.Need-add-t11
 add-t11 c = search needs
 
--- src/lib.rt:97:1
 same-length : tie.Need-same-length
 same-length c = search needs
 
--- src/lib.rt:97:1
 returns : tie.Need-returns
 returns c = λ h. forking-done _ _ _ _ _ h _ _ (c .before .before .before .before .before .before .fork-ways .ensures) _ (c .before .before .put-words .ensures)
 

@@ -1,32 +1,24 @@
+-- `places::fork` meets its contract. Laws: ForkLaws.
 use Rattle.places.proofs.ForkLaws.{lazy-needs, lazy-done, greedy-needs, greedy-done}
 use borrow.Author.Needs.{needs}
 use Rattle.places.proofs.fork.Statement.{statement}
 use Rattle.places.proofs.fork.Tie as tie
-use Rattle.places.proofs.fork.Reads as reads
-use Rattle.places.proofs.fork.Lts as lts
-use Rattle.places.proofs.two_ways.Reads as two-ways-reads
 
--- src/lib.rt:133:9
 two-ways-requires : tie.Need-two-ways-requires
 two-ways-requires c κs = lazy-needs _ _ _ _ _ (c .before .before .before .pre) (c .before .if1 .taken)
 
--- src/lib.rt:133:9
 same-length : tie.Need-same-length
 same-length c = search needs
 
--- src/lib.rt:133:9
 returns : tie.Need-returns
 returns c = lazy-done _ _ _ _ _ _ _ (c .before .before .before .before .if1 .taken) (c .before .before .two-ways .ensures)
 
--- src/lib.rt:135:5
 two-ways-requires-2 : tie.Need-two-ways-requires-2
 two-ways-requires-2 c κs = greedy-needs _ _ _ _ _ (c .before .before .before .pre) (c .before .if1 .left)
 
--- src/lib.rt:128:1
 same-length-2 : tie.Need-same-length-2
 same-length-2 c = search needs
 
--- src/lib.rt:128:1
 returns-2 : tie.Need-returns-2
 returns-2 c = greedy-done _ _ _ _ _ _ _ (c .before .before .before .before .if1 .left) (c .before .before .two-ways2 .ensures)
 

@@ -1,73 +1,56 @@
+-- `places::put_words` meets its contract. Laws: TableLaws.
 use Rattle.places.proofs.TableLaws.{words-are}
 use lib.ListN.{length-set}
 use native.Mathlib.Omega.{arith}
 use borrow.Author.Needs.{needs}
 use Rattle.places.proofs.put_words.Statement.{statement}
 use Rattle.places.proofs.put_words.Tie as tie
-use Rattle.places.proofs.put_words.Reads as reads
-use Rattle.places.proofs.put_words.Lts as lts
 
--- src/lib.rt:47:14
 mul-at : tie.Need-mul-at
 mul-at c = search needs
 
--- src/lib.rt:48:5
 mul-table : tie.Need-mul-table
 mul-table c = search needs
 
--- src/lib.rt:48:5
 slice-write-table : tie.Need-slice-write-table
 slice-write-table c = search needs
 
--- src/lib.rt:49:11
 add-table : tie.Need-add-table
 add-table c = search needs
 
--- src/lib.rt:49:5
 mul-table-2 : tie.Need-mul-table-2
 mul-table-2 c = search needs
 
--- src/lib.rt:49:5
 slice-write-table-2 : tie.Need-slice-write-table-2
 slice-write-table-2 c = simp length-set (omega arith)
 
--- src/lib.rt:50:21
 cast-table : tie.Need-cast-table
 cast-table c = search needs
 
--- src/lib.rt:50:11
 add-table-2 : tie.Need-add-table-2
 add-table-2 c = search needs
 
--- src/lib.rt:50:5
 mul-table-3 : tie.Need-mul-table-3
 mul-table-3 c = search needs
 
--- src/lib.rt:50:5
 slice-write-table-3 : tie.Need-slice-write-table-3
 slice-write-table-3 c = simp length-set (omega arith)
 
--- src/lib.rt:51:21
 cast-table-2 : tie.Need-cast-table-2
 cast-table-2 c = search needs
 
--- src/lib.rt:51:11
 add-table-3 : tie.Need-add-table-3
 add-table-3 c = search needs
 
--- src/lib.rt:51:5
 mul-table-4 : tie.Need-mul-table-4
 mul-table-4 c = search needs
 
--- src/lib.rt:51:5
 slice-write-table-4 : tie.Need-slice-write-table-4
 slice-write-table-4 c = simp length-set (omega arith)
 
--- src/lib.rt:43:1
 same-length : tie.Need-same-length
 same-length c = search needs
 
--- src/lib.rt:43:1
 returns : tie.Need-returns
 returns c = search (needs, words-are)
 

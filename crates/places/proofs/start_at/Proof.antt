@@ -1,15 +1,12 @@
+-- `places::start_at` meets its contract. Laws: WayLaws.
 use Rattle.places.proofs.WayLaws.{start-end, start-here}
 use borrow.Author.Needs.{needs}
 use Rattle.places.proofs.start_at.Statement.{statement}
 use Rattle.places.proofs.start_at.Tie as tie
-use Rattle.places.proofs.start_at.Reads as reads
-use Rattle.places.proofs.start_at.Lts as lts
 
--- src/lib.rt:37:9
 returns : tie.Need-returns
 returns c = search (needs, start-end)
 
--- src/lib.rt:33:1
 returns-2 : tie.Need-returns-2
 returns-2 c = search (needs, start-here)
 

@@ -1,3 +1,4 @@
+-- `places::two_ways` meets its contract. Laws: ForkLaws, TableLaws.
 use Rattle.places.proofs.ForkLaws.{two-first, two-second, two-words, two-done, two-length}
 use Rattle.places.proofs.TableLaws.{words-length}
 use mathlib.Core.Path.{ap, _∙_}
@@ -5,34 +6,30 @@ use lib.ListN.{length}
 use borrow.Author.Needs.{needs}
 use Rattle.places.proofs.two_ways.Statement.{statement}
 use Rattle.places.proofs.two_ways.Tie as tie
-use Rattle.places.proofs.two_ways.Reads as reads
-use Rattle.places.proofs.two_ways.Lts as lts
-use Rattle.places.proofs.put_way.Reads as put-way-reads
-use Rattle.places.proofs.put_words.Reads as put-words-reads
 
--- src/lib.rt:118:9
 put-way-requires : tie.Need-put-way-requires
 put-way-requires c κs = two-first _ _ _ _ (c .before .before .pre)
 
--- src/lib.rt:119:9
 put-way-requires-2 : tie.Need-put-way-requires-2
 put-way-requires-2 c κs = two-second _ _ _ _ (c .before .before .before .before .before .before .pre) _ _ (c .before .before .before .put-way .ensures)
 
--- src/lib.rt:120:5
 put-words-requires : tie.Need-put-words-requires
-put-words-requires c κs = two-words _ _ _ _ (c .before .before .before .before .before .before .before .before .before .before .pre) _ _ (c .before .before .before .before .before .before .before .put-way .ensures) _ _ (c .before .before .before .put-way2 .ensures)
+put-words-requires c κs = two-words _ _ _ _ (c .before .before .before .before .before .before .before .before .before .before .pre) _ _
+    (c .before .before .before .before .before .before .before .put-way .ensures) _ _ (c .before .before .before .put-way2 .ensures)
 
--- src/lib.rt:122:16
 add-t16 : tie.Need-add-t16
 add-t16 c = search needs
 
--- src/lib.rt:112:1
 same-length : tie.Need-same-length
-same-length c = ap length (c .before .before .put-words .ensures) ∙ words-length _ _ _ _ _ _ ∙ two-length _ _ _ _ (c .before .before .before .before .before .before .before .before .before .before .before .before .before .pre) _ _ (c .before .before .before .before .before .before .before .before .before .before .put-way .ensures) _ _ (c .before .before .before .before .before .before .put-way2 .ensures)
+same-length c = ap length (c .before .before .put-words .ensures) ∙ words-length _ _ _ _ _ _ ∙ two-length _ _ _ _
+    (c .before .before .before .before .before .before .before .before .before .before .before .before .before .pre) _ _
+    (c .before .before .before .before .before .before .before .before .before .before .put-way .ensures) _ _
+    (c .before .before .before .before .before .before .put-way2 .ensures)
 
--- src/lib.rt:112:1
 returns : tie.Need-returns
-returns c = two-done _ _ _ _ (c .before .before .before .before .before .before .before .before .before .before .before .before .before .pre) _ _ (c .before .before .before .before .before .before .before .before .before .before .put-way .ensures) _ _ (c .before .before .before .before .before .before .put-way2 .ensures) _ (c .before .before .put-words .ensures)
+returns c = two-done _ _ _ _ (c .before .before .before .before .before .before .before .before .before .before .before .before .before .pre) _ _
+    (c .before .before .before .before .before .before .before .before .before .before .put-way .ensures) _ _
+    (c .before .before .before .before .before .before .put-way2 .ensures) _ (c .before .before .put-words .ensures)
 
 pub two-ways-spec : {M : Type 1} → statement M
 two-ways-spec =

@@ -1,29 +1,21 @@
+-- `places::unroll` meets its contract. Laws: UnrollLaws.
 use Rattle.places.proofs.UnrollLaws.{some-place, unroll-emitting, end-words, unroll-length, unroll-done}
-use borrow.Author.Needs.{needs}
 use Rattle.places.proofs.unroll.Statement.{statement}
 use Rattle.places.proofs.unroll.Tie as tie
-use Rattle.places.proofs.unroll.Reads as reads
-use Rattle.places.proofs.unroll.Lts as lts
-use Rattle.places.proofs.emit.Reads as emit-reads
-use Rattle.places.proofs.put_words.Reads as put-words-reads
 
--- src/lib.rt:308:42
 sub-emit : tie.Need-sub-emit
 sub-emit c = some-place _ _ _ _ (c .before .before .before .pre)
 
--- src/lib.rt:308:9
 emit-requires : tie.Need-emit-requires
 emit-requires c κs = unroll-emitting _ _ _ _ (c .before .before .before .pre)
 
--- src/lib.rt:309:5
 put-words-requires : tie.Need-put-words-requires
 put-words-requires c κs = end-words _ _ _ _ (c .before .before .before .before .before .before .before .pre) _ _ (c .before .before .before .emit .ensures)
 
--- src/lib.rt:300:1
 same-length : tie.Need-same-length
-same-length c = unroll-length _ _ _ _ (c .before .before .before .before .before .before .before .before .before .before .pre) _ _ (c .before .before .before .before .before .before .emit .ensures) _ (c .before .before .put-words .ensures)
+same-length c = unroll-length _ _ _ _ (c .before .before .before .before .before .before .before .before .before .before .pre) _ _
+    (c .before .before .before .before .before .before .emit .ensures) _ (c .before .before .put-words .ensures)
 
--- src/lib.rt:300:1
 returns : tie.Need-returns
 returns c = λ h. unroll-done _ _ _ _ h _ _ (c .before .before .before .before .before .before .emit .ensures) _ (c .before .before .put-words .ensures)
 

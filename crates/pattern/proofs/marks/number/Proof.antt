@@ -1,87 +1,64 @@
+-- `pattern::marks::number` meets its contract. Laws: MarkLaws.
 use Rattle.pattern.proofs.MarkLaws.{digits-from, number-none, number-one, number-zero, number-two}
 use borrow.Author.Tests.{not-true, not-false}
 use borrow.Author.Needs.{needs}
 use Rattle.pattern.proofs.marks.number.Statement.{statement}
 use Rattle.pattern.proofs.marks.number.Tie as tie
-use Rattle.pattern.proofs.marks.number.Reads as reads
-use Rattle.pattern.proofs.marks.number.Lts as lts
-use Rattle.pattern.proofs.marks.is_digit.Reads as is-digit-reads
-use Rattle.pattern.proofs.marks.peek.Reads as peek-reads
-use Rattle.pattern.proofs.marks.wide.Reads as wide-reads
 
--- src/lib.rt:77:9
 peek-requires : tie.Need-peek-requires
 peek-requires c κs = search needs
 
--- src/lib.rt:78:9
 is-digit-requires : tie.Need-is-digit-requires
 is-digit-requires c κs = search needs
 
--- src/lib.rt:79:9
 returns : tie.Need-returns
 returns c = search (needs, number-none, not-true)
 
--- src/lib.rt:85:24
 add-peek : tie.Need-add-peek
 add-peek c = search needs
 
--- src/lib.rt:85:9
 peek-requires-2 : tie.Need-peek-requires-2
 peek-requires-2 c κs = search needs
 
--- src/lib.rt:86:9
 is-digit-requires-2 : tie.Need-is-digit-requires-2
 is-digit-requires-2 c κs = search needs
 
--- src/lib.rt:89:20
 wide-requires : tie.Need-wide-requires
 wide-requires c κs = search needs
 
--- src/lib.rt:89:20
 sub-t9 : tie.Need-sub-t9
 sub-t9 c = search (needs, digits-from, not-true, not-false)
 
--- src/lib.rt:90:17
 add-t10 : tie.Need-add-t10
 add-t10 c = search needs
 
--- src/lib.rt:87:9
 returns-2 : tie.Need-returns-2
 returns-2 c = search (needs, number-one, not-true, not-false)
 
--- src/lib.rt:94:9
 returns-3 : tie.Need-returns-3
 returns-3 c = search (needs, number-zero, not-false)
 
--- src/lib.rt:102:22
 wide-requires-2 : tie.Need-wide-requires-2
 wide-requires-2 c κs = search needs
 
--- src/lib.rt:102:22
 sub-t11 : tie.Need-sub-t11
 sub-t11 c = search (needs, digits-from, not-true, not-false)
 
--- src/lib.rt:102:16
 mul-t12 : tie.Need-mul-t12
 mul-t12 c = search needs
 
--- src/lib.rt:102:39
 wide-requires-3 : tie.Need-wide-requires-3
 wide-requires-3 c κs = search needs
 
--- src/lib.rt:102:39
 sub-t14 : tie.Need-sub-t14
 sub-t14 c = search (needs, digits-from, not-true, not-false)
 
--- src/lib.rt:102:16
 add-t15 : tie.Need-add-t15
 add-t15 c = search needs
 
--- src/lib.rt:103:13
 add-t16 : tie.Need-add-t16
 add-t16 c = search needs
 
--- src/lib.rt:73:1
 returns-4 : tie.Need-returns-4
 returns-4 c = search (needs, number-two, not-false)
 

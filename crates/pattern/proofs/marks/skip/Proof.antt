@@ -1,12 +1,10 @@
+-- `pattern::marks::skip` meets its contract. Laws: MarkLaws.
 use Rattle.pattern.proofs.MarkLaws.{Skipped, skip-none, skip-more, skip-all, skip-less, next-in}
 use lib.ListN.{length}
 use Prim.Native.Nat.{_-_}
 use borrow.Author.Needs.{needs}
 use Rattle.pattern.proofs.marks.skip.Statement.{statement}
 use Rattle.pattern.proofs.marks.skip.Tie as tie
-use Rattle.pattern.proofs.marks.skip.Reads as reads
-use Rattle.pattern.proofs.marks.skip.Lts as lts
-use Rattle.pattern.proofs.marks.peek.Reads as peek-reads
 
 abbrev Inv-loop : tie.InvT-loop
 Inv-loop text at to₀ to = Skipped text at to
@@ -14,27 +12,21 @@ Inv-loop text at to₀ to = Skipped text at to
 abbrev μ-loop : tie.MeasureT-loop
 μ-loop text at to₀ to = length text - to
 
--- src/lib.rt:48:5
 loop-holds : tie.Need-loop-holds Inv-loop μ-loop
 loop-holds c = search (needs, skip-none)
 
--- src/lib.rt:48:11
 peek-requires : tie.Need-peek-requires Inv-loop μ-loop
 peek-requires c κs = search needs
 
--- src/lib.rt:49:14
 add-to : tie.Need-add-to Inv-loop μ-loop
 add-to c = search (needs, next-in)
 
--- src/lib.rt:48:5
 loop-less : tie.Need-loop-less Inv-loop μ-loop
 loop-less c = search (needs, skip-less)
 
--- src/lib.rt:48:5
 loop-again : tie.Need-loop-again Inv-loop μ-loop
 loop-again c = search (needs, skip-more)
 
--- src/lib.rt:43:1
 returns : tie.Need-returns Inv-loop μ-loop
 returns c = skip-all _ _ _ _ (c .before .before .loop .inv) (c .before .peek .ensures) (c .if1 .left)
 

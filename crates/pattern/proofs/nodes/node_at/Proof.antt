@@ -1,153 +1,114 @@
+-- `pattern::nodes::node_at` meets its contract. Laws: NodeLaws.
 use Rattle.pattern.proofs.NodeLaws.{node-read}
 use borrow.Author.Needs.{needs}
 use Rattle.pattern.proofs.nodes.node_at.Statement.{statement}
 use Rattle.pattern.proofs.nodes.node_at.Tie as tie
-use Rattle.pattern.proofs.nodes.node_at.Reads as reads
-use Rattle.pattern.proofs.nodes.node_at.Lts as lts
-use Rattle.pattern.proofs.nodes.sort_of.Reads as sort-of-reads
-use Rattle.pattern.proofs.nodes.wide.Reads as wide-reads
 
--- src/nodes.rt:92:14
 mul-at : tie.Need-mul-at
 mul-at c = search needs
 
--- src/nodes.rt:93:16
 mul-word : tie.Need-mul-word
 mul-word c = search needs
 
--- src/nodes.rt:93:16
 shared-slice-read-word : tie.Need-shared-slice-read-word
 shared-slice-read-word c = search needs
 
--- src/nodes.rt:94:9
 sort-of-requires : tie.Need-sort-of-requires
 sort-of-requires c κs = search needs
 
--- src/nodes.rt:97:25
 add-wide : tie.Need-add-wide
 add-wide c = search needs
 
--- src/nodes.rt:97:20
 mul-wide : tie.Need-mul-wide
 mul-wide c = search needs
 
--- src/nodes.rt:97:20
 shared-slice-read-wide : tie.Need-shared-slice-read-wide
 shared-slice-read-wide c = search needs
 
--- src/nodes.rt:97:15
 wide-requires : tie.Need-wide-requires
 wide-requires c κs = search needs
 
--- src/nodes.rt:98:20
 add-t13 : tie.Need-add-t13
 add-t13 c = search needs
 
--- src/nodes.rt:98:15
 mul-t14 : tie.Need-mul-t14
 mul-t14 c = search needs
 
--- src/nodes.rt:98:15
 shared-slice-read-t16 : tie.Need-shared-slice-read-t16
 shared-slice-read-t16 c = search needs
 
--- src/nodes.rt:99:24
 add-wide-2 : tie.Need-add-wide-2
 add-wide-2 c = search needs
 
--- src/nodes.rt:99:19
 mul-wide-2 : tie.Need-mul-wide-2
 mul-wide-2 c = search needs
 
--- src/nodes.rt:99:19
 shared-slice-read-wide-2 : tie.Need-shared-slice-read-wide-2
 shared-slice-read-wide-2 c = search needs
 
--- src/nodes.rt:99:14
 wide-requires-2 : tie.Need-wide-requires-2
 wide-requires-2 c κs = search needs
 
--- src/nodes.rt:100:25
 add-wide-3 : tie.Need-add-wide-3
 add-wide-3 c = search needs
 
--- src/nodes.rt:100:20
 mul-wide-3 : tie.Need-mul-wide-3
 mul-wide-3 c = search needs
 
--- src/nodes.rt:100:20
 shared-slice-read-wide-3 : tie.Need-shared-slice-read-wide-3
 shared-slice-read-wide-3 c = search needs
 
--- src/nodes.rt:100:15
 wide-requires-3 : tie.Need-wide-requires-3
 wide-requires-3 c κs = search needs
 
--- src/nodes.rt:101:25
 add-wide-4 : tie.Need-add-wide-4
 add-wide-4 c = search needs
 
--- src/nodes.rt:101:20
 mul-wide-4 : tie.Need-mul-wide-4
 mul-wide-4 c = search needs
 
--- src/nodes.rt:101:20
 shared-slice-read-wide-4 : tie.Need-shared-slice-read-wide-4
 shared-slice-read-wide-4 c = search needs
 
--- src/nodes.rt:101:15
 wide-requires-4 : tie.Need-wide-requires-4
 wide-requires-4 c κs = search needs
 
--- src/nodes.rt:102:26
 add-wide-5 : tie.Need-add-wide-5
 add-wide-5 c = search needs
 
--- src/nodes.rt:102:21
 mul-wide-5 : tie.Need-mul-wide-5
 mul-wide-5 c = search needs
 
--- src/nodes.rt:102:21
 shared-slice-read-wide-5 : tie.Need-shared-slice-read-wide-5
 shared-slice-read-wide-5 c = search needs
 
--- src/nodes.rt:102:16
 wide-requires-5 : tie.Need-wide-requires-5
 wide-requires-5 c κs = search needs
 
--- src/nodes.rt:103:27
 add-wide-6 : tie.Need-add-wide-6
 add-wide-6 c = search needs
 
--- src/nodes.rt:103:22
 mul-wide-6 : tie.Need-mul-wide-6
 mul-wide-6 c = search needs
 
--- src/nodes.rt:103:22
 shared-slice-read-wide-6 : tie.Need-shared-slice-read-wide-6
 shared-slice-read-wide-6 c = search needs
 
--- src/nodes.rt:103:17
 wide-requires-6 : tie.Need-wide-requires-6
 wide-requires-6 c κs = search needs
 
--- src/nodes.rt:104:27
 add-wide-7 : tie.Need-add-wide-7
 add-wide-7 c = search needs
 
--- src/nodes.rt:104:22
 mul-wide-7 : tie.Need-mul-wide-7
 mul-wide-7 c = search needs
 
--- src/nodes.rt:104:22
 shared-slice-read-wide-7 : tie.Need-shared-slice-read-wide-7
 shared-slice-read-wide-7 c = search needs
 
--- src/nodes.rt:104:17
 wide-requires-7 : tie.Need-wide-requires-7
 wide-requires-7 c κs = search needs
 
--- src/nodes.rt:88:1
 returns : tie.Need-returns
 returns c = search (needs, node-read)
 

@@ -1,36 +1,27 @@
+-- `pattern::nodes::sort_of` meets its contract. Laws: NodeLaws.
 use Rattle.pattern.proofs.NodeLaws.{sort-letter, sort-anchor, sort-empty, sort-sequence, sort-alternation, sort-group}
 use borrow.Author.Needs.{needs}
 use Rattle.pattern.proofs.nodes.sort_of.Statement.{statement}
 use Rattle.pattern.proofs.nodes.sort_of.Tie as tie
-use Rattle.pattern.proofs.nodes.sort_of.Reads as reads
-use Rattle.pattern.proofs.nodes.sort_of.Lts as lts
-use Rattle.pattern.proofs.nodes.byte_of.Reads as byte-of-reads
 
--- src/lib.rt:45:9
 byte-of-requires : tie.Need-byte-of-requires
 byte-of-requires c κs = search needs
 
--- src/lib.rt:42:1
 returns : tie.Need-returns
 returns c = search (needs, sort-letter)
 
--- src/lib.rt:42:1
 returns-2 : tie.Need-returns-2
 returns-2 c = search (needs, sort-anchor)
 
--- src/lib.rt:42:1
 returns-3 : tie.Need-returns-3
 returns-3 c = search (needs, sort-empty)
 
--- src/lib.rt:42:1
 returns-4 : tie.Need-returns-4
 returns-4 c = search (needs, sort-sequence)
 
--- src/lib.rt:42:1
 returns-5 : tie.Need-returns-5
 returns-5 c = search (needs, sort-alternation)
 
--- src/lib.rt:42:1
 returns-6 : tie.Need-returns-6
 returns-6 c = search (needs, sort-group)
 
