@@ -24,7 +24,7 @@ use Rattle.judge.specs.Judged.{textTests, textAnswer, Judging}
 use Rattle.judge.specs.declared.Verdict.{Verdict}
 use Rattle.places.specs.Tables.{placeIn, placesFrom, tabled, Safe}
 use Rattle.places.specs.Emitting.{Unrolling, Tabled}
-use Rattle.places.specs.Read.{Lent, Reads}
+use Rattle.places.specs.Read.{Lent, PlacesRead}
 
 -- ---- letters of an unrolled pattern
 

@@ -39,7 +39,7 @@ same-length-2 : tie.Need-same-length-2
 same-length-2 c = search needs
 
 returns-3 : tie.Need-returns-3
-returns-3 c = search (needs, judge-loop, not-false)
+returns-3 c = judge-loop _ _ _ _ (c .before .before .before .before .before .before .before .before .read-text .ensures) (c .before .before .before .before .before .before .before .before .before .before .before .before .before .before .pre) (not-false _ (c .before .before .before .before .before .if2 .left)) _ (c .before .before .before .before .before .before .before .before .before .before .before .too-deep .ensures) (c .before .before .before .before .before .before .before .before .before .before .if1 .left) _ (c .before .before .has-empty-loop .ensures) _ (c .before .if3 .taken) (c .refused3 .ensures)
 
 add-places : tie.Need-add-places
 add-places c = search (needs, sum-fits, not-false)
@@ -54,13 +54,13 @@ same-length-3 : tie.Need-same-length-3
 same-length-3 c = search needs
 
 returns-4 : tie.Need-returns-4
-returns-4 c = search (needs, judge-many, not-false)
+returns-4 c = judge-many _ _ _ _ (c .before .before .before .before .before .before .before .before .before .before .read-text .ensures) (c .before .before .before .before .before .before .before .before .before .before .before .before .before .before .before .before .pre) (not-false _ (c .before .before .before .before .before .before .before .if2 .left)) _ (c .before .before .before .before .before .before .before .before .before .before .before .before .before .too-deep .ensures) (c .before .before .before .before .before .before .before .before .before .before .before .before .if1 .left) _ (c .before .before .before .before .has-empty-loop .ensures) _ (c .before .before .before .if3 .left) (c .before .if4 .taken) (c .refused4 .ensures)
 
 same-length-4 : tie.Need-same-length-4
 same-length-4 c = search needs
 
 returns-5 : tie.Need-returns-5
-returns-5 c = search (needs, judge-good, not-false)
+returns-5 c = judge-good _ _ _ _ (c .before .before .before .before .before .before .before .before .before .read-text .ensures) (c .before .before .before .before .before .before .before .before .before .before .before .before .before .before .before .pre) (not-false _ (c .before .before .before .before .before .before .if2 .left)) _ (c .before .before .before .before .before .before .before .before .before .before .before .before .too-deep .ensures) (c .before .before .before .before .before .before .before .before .before .before .before .if1 .left) _ (c .before .before .before .has-empty-loop .ensures) (c .before .before .if3 .left) (c .if4 .left)
 
 pub judge-spec : {M : Type 1} → statement M
 judge-spec =

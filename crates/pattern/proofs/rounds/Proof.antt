@@ -19,7 +19,7 @@ capped-requires : tie.Need-capped-requires
 capped-requires c κs = search needs
 
 returns : tie.Need-returns
-returns c = search (needs, rounds-open)
+returns c = rounds-open _ _ _ _ (c .before .if1 .taken) (c .capped .ensures)
 
 sub-more : tie.Need-sub-more
 sub-more c = search needs
@@ -37,7 +37,7 @@ capped-requires-2 : tie.Need-capped-requires-2
 capped-requires-2 c κs = search needs
 
 returns-2 : tie.Need-returns-2
-returns-2 c = search (needs, rounds-shut)
+returns-2 c = rounds-shut _ _ _ _ (c .before .if1 .left) (c .capped2 .ensures)
 
 pub rounds-spec : {M : Type 1} → statement M
 rounds-spec =

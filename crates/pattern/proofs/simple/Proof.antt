@@ -18,7 +18,7 @@ plain-node-requires : tie.Need-plain-node-requires
 plain-node-requires c κs = search needs
 
 returns : tie.Need-returns
-returns c = search (needs, simple-caret)
+returns c = simple-caret _ _ _ _ (c .before .before .before .peek .ensures) _ _ (c .before .before .if1 .taken) (c .before .skip .ensures) (c .plain-node .ensures)
 
 add-skip-2 : tie.Need-add-skip-2
 add-skip-2 c = search needs
@@ -30,7 +30,7 @@ plain-node-requires-2 : tie.Need-plain-node-requires-2
 plain-node-requires-2 c κs = search needs
 
 returns-2 : tie.Need-returns-2
-returns-2 c = search (needs, simple-dollar)
+returns-2 c = simple-dollar _ _ _ _ (c .before .before .before .before .peek .ensures) _ _ (c .before .before .if2 .taken) (c .before .skip2 .ensures) (c .plain-node2 .ensures)
 
 is-letter-requires : tie.Need-is-letter-requires
 is-letter-requires c κs = search needs
@@ -39,7 +39,7 @@ no-head-requires : tie.Need-no-head-requires
 no-head-requires c κs = search needs
 
 returns-3 : tie.Need-returns-3
-returns-3 c = search (needs, simple-other, not-true)
+returns-3 c = simple-other _ _ _ _ (c .before .before .before .before .before .peek .ensures) _ _ (c .before .before .before .before .if1 .left) (c .before .before .before .if2 .left) (c .before .before .is-letter .ensures) (not-true _ (c .before .if3 .taken)) (c .no-head .ensures)
 
 add-peek : tie.Need-add-peek
 add-peek c = search needs
@@ -54,7 +54,7 @@ no-head-requires-2 : tie.Need-no-head-requires-2
 no-head-requires-2 c κs = search needs
 
 returns-4 : tie.Need-returns-4
-returns-4 c = search (needs, simple-touch, not-false)
+returns-4 c = simple-touch _ _ _ _ (c .before .before .before .before .before .before .before .before .peek .ensures) _ _ _ _ (c .before .before .before .before .before .before .before .if1 .left) (c .before .before .before .before .before .before .if2 .left) (c .before .before .before .before .before .is-letter .ensures) (not-false _ (c .before .before .before .before .if3 .left)) (c .before .before .before .peek2 .ensures) (c .before .before .is-letter2 .ensures) (c .before .if4 .taken) (c .no-head2 .ensures)
 
 add-skip-3 : tie.Need-add-skip-3
 add-skip-3 c = search needs
@@ -66,7 +66,7 @@ plain-node-requires-3 : tie.Need-plain-node-requires-3
 plain-node-requires-3 c κs = search needs
 
 returns-5 : tie.Need-returns-5
-returns-5 c = search (needs, simple-letter, not-false)
+returns-5 c = simple-letter _ _ _ _ (c .before .before .before .before .before .before .before .before .before .peek .ensures) _ _ _ _ _ (c .before .before .before .before .before .before .before .before .if1 .left) (c .before .before .before .before .before .before .before .if2 .left) (c .before .before .before .before .before .before .is-letter .ensures) (not-false _ (c .before .before .before .before .before .if3 .left)) (c .before .before .before .before .peek2 .ensures) (c .before .before .before .is-letter2 .ensures) (c .before .before .if4 .left) (c .before .skip3 .ensures) (c .plain-node3 .ensures)
 
 pub simple-spec : {M : Type 1} → statement M
 simple-spec =

@@ -8,13 +8,13 @@ peek-requires : tie.Need-peek-requires
 peek-requires c κs = search needs
 
 returns : tie.Need-returns
-returns c = search (needs, shut-open)
+returns c = shut-open _ _ _ (c .before .peek .ensures) _ _ _ (c .if1 .taken)
 
 returns-2 : tie.Need-returns-2
-returns-2 c = search (needs, shut-none)
+returns-2 c = shut-none _ _ _ (c .before .before .peek .ensures) _ _ _ (c .before .if1 .left) (c .if2 .taken)
 
 returns-3 : tie.Need-returns-3
-returns-3 c = search (needs, shut-less)
+returns-3 c = shut-less _ _ _ (c .before .before .before .peek .ensures) _ _ _ (c .before .before .if1 .left) (c .if3 .taken)
 
 add-reluctant : tie.Need-add-reluctant
 add-reluctant c = search needs
@@ -23,7 +23,7 @@ reluctant-requires : tie.Need-reluctant-requires
 reluctant-requires c κs = search (needs, next-in)
 
 returns-4 : tie.Need-returns-4
-returns-4 c = search (needs, shut-fine)
+returns-4 c = shut-fine _ _ _ (c .before .before .before .before .peek .ensures) _ _ _ _ (c .before .before .before .if1 .left) (c .before .before .if2 .left) (c .before .if3 .left) (c .reluctant .ensures)
 
 pub shut-spec : {M : Type 1} → statement M
 shut-spec =
