@@ -202,7 +202,7 @@ unfolding thinned
 thinned-length [] = refl
 thinned-length (p ∷ ps) = ap suc (thinned-length ps)
 
-thinned-at : (ps : List Place) (q : ℕ) → getD (thinned ps) q (pFork []) ≡ thinPlace (getD ps q (pFork []))
+pub thinned-at : (ps : List Place) (q : ℕ) → getD (thinned ps) q (pFork []) ≡ thinPlace (getD ps q (pFork []))
 unfolding thinned
 thinned-at [] q = refl
 thinned-at (p ∷ ps) zero = refl

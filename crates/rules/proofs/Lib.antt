@@ -34,6 +34,7 @@ pub mod Differs
 pub mod QueryFuel
 pub mod Notes
 pub mod Noted
+pub mod NotesWritten
 pub mod Accepted
 pub mod Limits
 pub mod Appended
@@ -45,3 +46,5 @@ pub mod Clause62
 pub mod Strings
 pub mod Choice
 pub mod Distinct
+pub mod ThinPlaces
+pub mod SameLetters

@@ -24,7 +24,7 @@ module _ (f : ℕ → Bool) where
   bit-above (suc k) zero b h l = absurd (not-suc-le-zero l)
   bit-above (suc k) (suc j) b h l = bit-above k j (b / 2) (omega arith) (omega arith)
 
-  weigh-small : (k : ℕ) → weigh k f < 2 ^ k
+  pub weigh-small : (k : ℕ) → weigh k f < 2 ^ k
   unfolding weigh
   weigh-small zero = omega arith
   weigh-small (suc k) = go (weigh-small k) (f k)

@@ -1,0 +1,5 @@
+pub mod Labelled
+pub mod Telling
+pub mod Visiting
+pub mod Sofar
+pub mod Clearing

@@ -1,0 +1,44 @@
+-- What a search is over, and the search that the definition makes of it.
+use mathlib.Core.Bool.{Bool}
+use mathlib.Core.List.{List, [], _∷_, reverseAux}
+use Prim.Native.Nat.{ℕ, _+_, _*_}
+use lib.ListN.{length}
+use Rattle.rules.specs.Places.{Place}
+use Rattle.rules.specs.Query.{Measure}
+use Rattle.rules.specs.Report.{fits}
+use Rattle.rules.specs.Rows.{Table}
+use Rattle.rules.specs.Search.{Swept, Kept, labels, walkSearch}
+use Rattle.walk.specs.Step.{stack}
+use Rattle.walk.specs.Tables.{Tables, placesIn}
+
+-- the places in tables, when a letter holds at a row, the number of rows, the skip mode (to the next row), the rows, and the measures
+pub record Asked : Type 0 where
+  pub tables : Tables
+  pub holds : ℕ → ℕ → Bool
+  pub n : ℕ
+  pub mode : Bool
+  pub rows : Table
+  pub measures : List Measure
+
+abbrev pub asked : Tables → (ℕ → ℕ → Bool) → ℕ → Bool → Table → List Measure → Asked
+asked T holds n mode rows ms = record { tables = T; holds = holds; n = n; mode = mode; rows = rows; measures = ms }
+
+abbrev pub pl : Asked → List Place
+pl A = placesIn (A .tables)
+
+-- how many numbers a match appends
+abbrev pub width : Asked → ℕ
+width A = 3 + 2 * length (A .measures)
+
+-- the search by the counted walk, for so many report numbers and label bytes
+unfoldable pub searchOf : Asked → ℕ → ℕ → Swept Kept
+unfolding walkSearch placesIn fits
+searchOf A nums labs = walkSearch (A .holds) (A .n) (pl A) (A .mode) (fits nums labs (A .measures))
+
+-- the path on the trail, from its first pair to its last, and its labels
+abbrev pub pathOn : List ℕ → ℕ → List ℕ
+pathOn trail top = reverseAux (stack trail top) []
+
+unfoldable pub labelsOn : Tables → List ℕ → ℕ → List ℕ
+unfolding labels placesIn stack
+labelsOn T trail top = labels (placesIn T) (pathOn trail top)

@@ -1,0 +1,346 @@
+// The whole search by the counted walk: all starts, each with one attempt; the matches written as they are found; and the buffers left as the report says.
+use walk::Walk;
+ghost use mathlib.Core.Path.{_≡_};
+ghost use mathlib.Core.List.{List, [], _∷_};
+ghost use mathlib.Core.Bool.{Bool, true, false};
+ghost use Prim.Native.Nat.{ℕ, suc, _+_, _-_, _*_, _/_, _%_, _<_, _≤_};
+ghost use lib.ListN.{length, getD, set};
+ghost use Rattle.rules.specs.Basics.{wrote};
+ghost use Rattle.rules.specs.Search.{nextStart};
+ghost use Rattle.walk.specs.Tables.{tables};
+ghost use Rattle.walk.specs.Letters.{holdsIn, Lettered};
+ghost use Rattle.sweep.specs.Asked.{asked, labelsOn, pathOn, pl};
+ghost use mathlib.Core.Option.{some};
+ghost use Rattle.rules.specs.Rows.{tableOf};
+ghost use Rattle.report.specs.Measures.{measuresIn};
+ghost use Rattle.sweep.specs.Searched.{Starts, Searched, Searches, Answered};
+ghost use Rattle.rules.specs.Report.{zeros};
+ghost use Rattle.sweep.specs.Found.{OneMore, PutsLabel, Labels, Told, Reports, Visits, Visited};
+
+// A search under way: whether a match did not fit, the next start, the matches and labels written, and the steps.
+#[repr(C)]
+pub struct Sweep {
+    pub full: bool,
+    pub row: usize,
+    pub matches: usize,
+    pub labels: usize,
+    pub steps: usize,
+}
+
+// The label of the place q before index e, if it is a letter's.
+fn put_label(sort: &[u8], letter: &[u8], labels: &mut [u8], q: usize, e: usize) -> usize
+    requires { ⌜ PutsLabel (now sort) (now letter) (now labels) q e ⌝ }
+    ensures { λ r. ⌜ OneMore (now (labels .entry)) (now (labels .exit)) (getD (now (sort .entry)) q 0) (getD (now (letter .entry)) q 0) e r ⌝ }
+{
+    if sort[q] == 1 {
+        labels[e - 1] = letter[q];
+        return e - 1;
+    }
+    e
+}
+
+// The labels of the path on the trail, written before index `end` from the last to the first.
+fn put_labels(
+    sort: &[u8],
+    letter: &[u8],
+    next: &[u16],
+    stop: &[u16],
+    ways: &[u16],
+    trail: &[u32],
+    labels: &mut [u8],
+    from: Walk,
+    end: usize,
+)
+    requires { ⌜ Labels (tables (now sort) (now letter) (now next) (now stop) (now ways)) (now trail) (now labels) from end ⌝ }
+    ensures { λ _. ⌜ now (labels .exit) ≡ wrote (now (labels .entry)) (end - length (labelsOn (tables (now (sort .entry)) (now (letter .entry)) (now (next .entry)) (now (stop .entry)) (now (ways .entry))) (now (trail .entry)) (from .top))) (labelsOn (tables (now (sort .entry)) (now (letter .entry)) (now (next .entry)) (now (stop .entry)) (now (ways .entry))) (now (trail .entry)) (from .top)) ⌝ }
+{
+    let mut w = from;
+    let mut e = end;
+    while w.top > 0 {
+        e = put_label(sort, letter, labels, w.place, e);
+        w = walk::back(trail, sort.len(), w);
+    }
+}
+
+// Where the next attempt begins behind a match of the rows from `row` to below `behind`: at `behind`, or one row on.
+fn next_row(mode: bool, row: usize, behind: usize) -> usize
+    requires { ⌜ row + 1 < 18446744073709551616 ⌝ }
+    ensures { λ r. ⌜ r ≡ nextStart mode row behind ⌝ }
+{
+    if mode {
+        return row + 1;
+    }
+    if row < behind {
+        return behind;
+    }
+    row + 1
+}
+
+// A path is on the trail: its match is written if it fits whole, and the search goes on; else the search is over.
+fn write_match(
+    sort: &[u8],
+    letter: &[u8],
+    next: &[u16],
+    stop: &[u16],
+    ways: &[u16],
+    rows: &[i32],
+    columns: usize,
+    ms: &[u8],
+    count: usize,
+    mode: bool,
+    n: usize,
+    trail: &[u32],
+    numbers: &mut [i64],
+    labels: &mut [u8],
+    i: Sweep,
+    w: Walk,
+) -> Sweep
+    requires { ⌜ Reports (tables (now sort) (now letter) (now next) (now stop) (now ways)) n (now ms) count (now rows) columns (now trail) (now labels) i w ⌝ }
+    ensures { λ r. ⌜ ((holds : ℕ → ℕ → Bool) → Told (asked (tables (now (sort .entry)) (now (letter .entry)) (now (next .entry)) (now (stop .entry)) (now (ways .entry))) holds n mode (tableOf columns (now (rows .entry))) (measuresIn (now (ms .entry)) count)) (some (pathOn (now (trail .entry)) (w .top))) i (w .steps) (now (numbers .entry)) (now (numbers .exit)) (now (labels .entry)) (now (labels .exit)) r) ⌝ }
+{
+    let row = i.row;
+    let behind = w.row;
+    let m = i.matches;
+    let l = i.labels;
+    let taken = behind - row;
+    if report::fits_whole(numbers.len(), labels.len(), count, m, l, taken) {
+        let end = l + taken;
+        put_labels(sort, letter, next, stop, ways, trail, labels, w, end);
+        report::put_match(
+            numbers,
+            m * (3 + 2 * count),
+            m + 1,
+            ms,
+            count,
+            rows,
+            columns,
+            row,
+            &labels[l..end],
+        );
+        return Sweep {
+            full: false,
+            row: next_row(mode, row, behind),
+            matches: m + 1,
+            labels: end,
+            steps: w.steps,
+        };
+    }
+    Sweep {
+        full: true,
+        row: n,
+        matches: m,
+        labels: l,
+        steps: w.steps,
+    }
+}
+
+// One start: the attempt there, and its match where it finds a path.
+fn visit(
+    sort: &[u8],
+    letter: &[u8],
+    next: &[u16],
+    stop: &[u16],
+    ways: &[u16],
+    rows: &[i32],
+    columns: usize,
+    n: usize,
+    cells: &[u16; 832],
+    offsets: &[i8; 416],
+    constants: &[i32; 208],
+    counts: &[u8; 26],
+    ms: &[u8],
+    count: usize,
+    mode: bool,
+    notes: &mut [u8],
+    trail: &mut [u32],
+    numbers: &mut [i64],
+    labels: &mut [u8],
+    i: Sweep,
+) -> Sweep
+    requires { ⌜ Visits (asked (tables (now sort) (now letter) (now next) (now stop) (now ways)) (holdsIn (now rows) columns (now cells) (now offsets) (now constants) (now counts)) n mode (tableOf columns (now rows)) (measuresIn (now ms) count)) (Lettered (now cells) (now offsets) (now counts) (now rows) columns n) (now ms) count (now rows) columns (now notes) (now trail) (now labels) i ⌝ }
+    ensures { λ r. ⌜ Visited (asked (tables (now (sort .entry)) (now (letter .entry)) (now (next .entry)) (now (stop .entry)) (now (ways .entry))) (holdsIn (now (rows .entry)) columns (now (cells .entry)) (now (offsets .entry)) (now (constants .entry)) (now (counts .entry))) n mode (tableOf columns (now (rows .entry))) (measuresIn (now (ms .entry)) count)) (now (notes .entry)) (now (notes .exit)) (now (trail .entry)) (now (trail .exit)) (now (numbers .entry)) (now (numbers .exit)) (now (labels .entry)) (now (labels .exit)) i r ⌝ }
+{
+    let row = i.row;
+    let w = walk::attempt(
+        sort,
+        letter,
+        next,
+        stop,
+        ways,
+        rows,
+        columns,
+        n,
+        cells,
+        offsets,
+        constants,
+        counts,
+        notes,
+        trail,
+        row,
+        i.steps,
+    );
+    if w.top == 0 {
+        let after = row + 1;
+        return Sweep {
+            full: false,
+            row: after,
+            matches: i.matches,
+            labels: i.labels,
+            steps: w.steps,
+        };
+    }
+    write_match(
+        sort,
+        letter,
+        next,
+        stop,
+        ways,
+        rows,
+        columns,
+        ms,
+        count,
+        mode,
+        n,
+        trail,
+        numbers,
+        labels,
+        i,
+        w,
+    )
+}
+
+// All starts, where no pair has failed yet.
+fn starts(
+    sort: &[u8],
+    letter: &[u8],
+    next: &[u16],
+    stop: &[u16],
+    ways: &[u16],
+    rows: &[i32],
+    columns: usize,
+    n: usize,
+    cells: &[u16; 832],
+    offsets: &[i8; 416],
+    constants: &[i32; 208],
+    counts: &[u8; 26],
+    ms: &[u8],
+    count: usize,
+    mode: bool,
+    notes: &mut [u8],
+    trail: &mut [u32],
+    numbers: &mut [i64],
+    labels: &mut [u8],
+) -> Sweep
+    requires { ⌜ Starts (asked (tables (now sort) (now letter) (now next) (now stop) (now ways)) (holdsIn (now rows) columns (now cells) (now offsets) (now constants) (now counts)) n mode (tableOf columns (now rows)) (measuresIn (now ms) count)) (Lettered (now cells) (now offsets) (now counts) (now rows) columns n) (now ms) count (now rows) columns (now notes) (now trail) ⌝ }
+    ensures { λ r. ⌜ Searched (asked (tables (now (sort .entry)) (now (letter .entry)) (now (next .entry)) (now (stop .entry)) (now (ways .entry))) (holdsIn (now (rows .entry)) columns (now (cells .entry)) (now (offsets .entry)) (now (constants .entry)) (now (counts .entry))) n mode (tableOf columns (now (rows .entry))) (measuresIn (now (ms .entry)) count)) (now (notes .entry)) (now (trail .entry)) (now (numbers .entry)) (now (labels .entry)) (now (notes .exit)) (now (trail .exit)) (now (numbers .exit)) (now (labels .exit)) r ⌝ }
+{
+    let mut i = Sweep {
+        full: false,
+        row: 0,
+        matches: 0,
+        labels: 0,
+        steps: 0,
+    };
+    while i.row < n {
+        i = visit(
+            sort,
+            letter,
+            next,
+            stop,
+            ways,
+            rows,
+            columns,
+            n,
+            cells,
+            offsets,
+            constants,
+            counts,
+            ms,
+            count,
+            mode,
+            notes,
+            trail,
+            numbers,
+            labels,
+            i,
+        );
+    }
+    i
+}
+
+// Zeros in the first `count` bytes.
+fn zero_bytes(s: &mut [u8], count: usize)
+    requires { ⌜ count ≤ length (now s) ⌝ }
+    ensures { λ _. ⌜ now (s .exit) ≡ wrote (now (s .entry)) 0 (zeros count) ⌝ }
+{
+    let mut i = 0;
+    while i < count {
+        s[i] = 0;
+        i += 1;
+    }
+}
+
+// Zeros in the first `count` numbers.
+fn zero_words(s: &mut [u32], count: usize)
+    requires { ⌜ count ≤ length (now s) ⌝ }
+    ensures { λ _. ⌜ now (s .exit) ≡ wrote (now (s .entry)) 0 (zeros count) ⌝ }
+{
+    let mut i = 0;
+    while i < count {
+        s[i] = 0;
+        i += 1;
+    }
+}
+
+// The whole search: the notes' bits are cleared, all starts are tried, and the trail is cleared.
+#[no_mangle]
+pub extern "C" fn search(
+    sort: &[u8],
+    letter: &[u8],
+    next: &[u16],
+    stop: &[u16],
+    ways: &[u16],
+    rows: &[i32],
+    columns: usize,
+    n: usize,
+    cells: &[u16; 832],
+    offsets: &[i8; 416],
+    constants: &[i32; 208],
+    counts: &[u8; 26],
+    ms: &[u8],
+    count: usize,
+    mode: bool,
+    notes: &mut [u8],
+    trail: &mut [u32],
+    numbers: &mut [i64],
+    labels: &mut [u8],
+) -> Sweep
+    requires { ⌜ Searches (asked (tables (now sort) (now letter) (now next) (now stop) (now ways)) (holdsIn (now rows) columns (now cells) (now offsets) (now constants) (now counts)) n mode (tableOf columns (now rows)) (measuresIn (now ms) count)) (Lettered (now cells) (now offsets) (now counts) (now rows) columns n) (now ms) count (now rows) columns (now notes) (now trail) ⌝ }
+    ensures { λ r. ⌜ Answered (asked (tables (now (sort .entry)) (now (letter .entry)) (now (next .entry)) (now (stop .entry)) (now (ways .entry))) (holdsIn (now (rows .entry)) columns (now (cells .entry)) (now (offsets .entry)) (now (constants .entry)) (now (counts .entry))) n mode (tableOf columns (now (rows .entry))) (measuresIn (now (ms .entry)) count)) (now (notes .entry)) (now (trail .entry)) (now (numbers .entry)) (now (labels .entry)) (now (notes .exit)) (now (trail .exit)) (now (numbers .exit)) (now (labels .exit)) r ⌝ }
+{
+    let pairs = sort.len() * (n + 1);
+    zero_bytes(notes, (pairs + 7) / 8);
+    let r = starts(
+        sort,
+        letter,
+        next,
+        stop,
+        ways,
+        rows,
+        columns,
+        n,
+        cells,
+        offsets,
+        constants,
+        counts,
+        ms,
+        count,
+        mode,
+        notes,
+        trail,
+        numbers,
+        labels,
+    );
+    zero_words(trail, pairs);
+    r
+}

@@ -1,0 +1,8 @@
+pub mod Small
+pub mod Ways
+pub mod Trails
+pub mod Going
+pub mod Trying
+pub mod Passed
+pub mod Forks
+pub mod Whole

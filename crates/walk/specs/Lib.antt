@@ -1,0 +1,4 @@
+pub mod Tables
+pub mod Letters
+pub mod Step
+pub mod State
