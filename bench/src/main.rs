@@ -87,6 +87,7 @@ fn main() {
         eprintln!("no workload has this in its name");
         exit(2);
     }
+    println!("Times are the least over all rounds, or their median; ratios are of the least.");
     if product_search().is_none() {
         println!("The yardstick alone: the product's library was not there at the build.");
     }

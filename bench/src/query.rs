@@ -1,4 +1,5 @@
-//! Writing queries down: the records of document 01 as bytes.
+//! Writing queries down: the records of document 01 as bytes, for workloads and
+//! tests. Nothing is checked here; the engines refuse what is wrong.
 
 pub const EQUAL: u8 = 1;
 pub const UNEQUAL: u8 = 2;

@@ -86,7 +86,6 @@ impl Rooms {
 #[derive(Clone, Copy, Default)]
 pub struct Sums {
     pub matches: u64,
-    pub labels: u64,
     pub steps: u64,
 }
 
@@ -118,7 +117,6 @@ pub fn compare(
             }
         }
         sums.matches += result.matches;
-        sums.labels += result.labels;
         sums.steps += result.steps;
     }
     Ok(sums)

@@ -40,12 +40,10 @@ pub fn measure(workload: &Workload, engines: &[Search], plan: Plan) -> Vec<Times
     let rounds = (plan.nanoseconds / (longest * runs)).min(MOST_ROUNDS) as usize;
     let rounds = rounds.max(plan.fewest_rounds);
     let mut samples = vec![Vec::new(); engines.len()];
-    for round in 0..rounds {
-        // Each engine comes first as often as any other.
-        for turn in 0..engines.len() {
-            let index = (round + turn) % engines.len();
-            let nanoseconds = time(workload, engines[index], &mut rooms, runs);
-            samples[index].push(nanoseconds as f64 / runs as f64);
+    for _ in 0..rounds {
+        for (engine, samples) in engines.iter().zip(&mut samples) {
+            let nanoseconds = time(workload, *engine, &mut rooms, runs);
+            samples.push(nanoseconds as f64 / runs as f64);
         }
     }
     samples.into_iter().map(times).collect()

@@ -1,4 +1,5 @@
-//! Tables of text: aligned for the eye, or as Markdown.
+//! Tables of text, printed with aligned columns or as Markdown, which is aligned
+//! too.
 
 pub struct Table {
     /// A column of names is aligned to the left, one of numbers to the right.

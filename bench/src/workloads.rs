@@ -252,7 +252,7 @@ fn optional_then_b(count: usize) -> Query {
 fn all_places() -> Workload {
     Workload::new(
         "256-places",
-        "(A?){99} (A?){28} B with no B, P = 256, 4,096 rows: every pair fails",
+        "(A?){99} (A?){28} B with no B, P = 256, 4,096 rows: every attempt fails",
         optional_then_b(127),
         vec![vec![1; MOST_ROWS]],
     )

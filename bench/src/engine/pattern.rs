@@ -118,6 +118,7 @@ struct Reader<'a> {
     /// How much of the pattern's `branches` is used.
     branches: usize,
     /// Where the branches begin of the alternations that are not read whole.
+    /// There are at most two for each `|`, so they fit.
     open: [u8; 256],
     open_count: usize,
     /// An unbounded quantifier stands over a body that can take no row.
@@ -166,7 +167,7 @@ impl Reader<'_> {
     }
 
     fn push_open(&mut self, start: usize) {
-        self.open[self.open_count & 255] = start as u8;
+        self.open[self.open_count] = start as u8;
         self.open_count += 1;
     }
 

@@ -70,19 +70,19 @@ impl<'a> Report<'a> {
 /// whose entries are the first; null is None.
 fn result(measure: Measure, entries: &[i32], columns: usize, labels: &[u8]) -> Option<i64> {
     let all = measure.letter == 0;
-    let counts = |label: u8| all || label == measure.letter;
-    if measure.function == query::COUNT {
-        return Some(labels.iter().filter(|label| counts(**label)).count() as i64);
-    }
+    let counts = |label: &u8| all || *label == measure.letter;
     let entry = |row: usize| i64::from(entries[row * columns + usize::from(measure.column)]);
-    let first = labels.iter().position(|label| counts(*label))?;
-    let last = labels.iter().rposition(|label| counts(*label))?;
-    let counted = || (first..=last).filter(|row| counts(labels[*row])).map(entry);
+    let counted = || {
+        let rows = labels.iter().enumerate();
+        rows.filter(|(_, label)| counts(label))
+            .map(|(row, _)| entry(row))
+    };
     match measure.function {
-        query::SUM => Some(counted().sum()),
+        query::COUNT => Some(labels.iter().filter(|label| counts(label)).count() as i64),
+        query::SUM => counted().reduce(|sum, entry| sum + entry),
         query::MIN => counted().min(),
         query::MAX => counted().max(),
-        query::FIRST => Some(entry(first)),
-        _ => Some(entry(last)),
+        query::FIRST => labels.iter().position(counts).map(entry),
+        _ => labels.iter().rposition(counts).map(entry),
     }
 }

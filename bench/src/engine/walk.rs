@@ -40,8 +40,8 @@ fn search_sized<const N: usize>(
     let mut tables = Tables::<N>::new();
     tables.fill(query, pattern, rows.n);
     notes.fill(0);
-    // END is never on the trail, so P - 1 places at n + 1 positions fill less
-    // than all of it, and the last n entries can hold the place of each row.
+    // END is never on the trail, so at most P - 1 places at n + 1 positions are,
+    // and the last n entries are free to say which letter took each row.
     let (path, taken) = trail.split_at_mut(trail.len() - rows.n);
     let mut walk = Walk {
         tables: &tables,
@@ -83,13 +83,13 @@ struct Walk<'a, const N: usize> {
     tables: &'a Tables<N>,
     /// P
     places: usize,
-    /// 2^32 / P, rounded up: a pair's position is its product by this, above 32
-    /// bits, for all pairs below 2^21.
+    /// A little above 2^32 / P: times a pair below 2^21, and shifted down by 32
+    /// bits, it gives the pair's position.
     inverse: u64,
     rows: Rows<'a>,
     notes: &'a mut [u8],
     trail: &'a mut [u32],
-    /// The letter's place for each row on the path.
+    /// For each row on the path, the place of the letter that took it.
     taken: &'a mut [u32],
     steps: u64,
     /// The pair that is tried or entered: its place, position and number.
