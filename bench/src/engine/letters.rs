@@ -1,0 +1,181 @@
+//! Letters at a row: their comparisons decoded from the query's bytes into flat
+//! numbers, so that one test serves all six operators: a difference lies in an
+//! interval, which may wrap. Rows outside the partition are not met.
+
+use super::query::COMPARISON_BYTES;
+
+/// Met where `left - right` lies in the interval from `low`, `width` above it.
+/// Left and right are distances from the current row's first entry.
+#[derive(Clone, Copy, Default)]
+pub struct Comparison {
+    pub low: i64,
+    pub width: u64,
+    pub left: i16,
+    pub right: i16,
+    /// All bits of the right entry are kept, or none: a constant has no column.
+    pub keep: i32,
+}
+
+/// How a letter is tested.
+#[derive(Clone, Copy, Default, PartialEq, Eq)]
+pub enum Test {
+    /// It has no DEFINE: wherever a row is, it holds.
+    #[default]
+    Free,
+    /// One comparison with a number.
+    Constant,
+    /// One comparison with a column.
+    Column,
+    /// Any comparisons. In place of a comparison the letter has where they
+    /// begin and how many they are, as left and right, and the rows at which
+    /// every row that they look at exists, as low and width.
+    Several,
+}
+
+#[derive(Clone, Copy, Default)]
+pub struct Letter {
+    pub test: Test,
+    pub comparison: Comparison,
+}
+
+/// The rows that a search runs over.
+#[derive(Clone, Copy)]
+pub struct Rows<'a> {
+    pub entries: &'a [i32],
+    pub columns: usize,
+    pub n: usize,
+}
+
+impl Rows<'_> {
+    /// An entry, by its distance from the first of a row. It is there exactly if
+    /// its row is: both ends of the slice are ends of rows.
+    #[inline(always)]
+    fn entry(&self, position: usize, distance: i16) -> Option<i64> {
+        let at = (position * self.columns).wrapping_add_signed(isize::from(distance));
+        self.entries.get(at).map(|&entry| i64::from(entry))
+    }
+}
+
+impl Comparison {
+    /// A comparison with a number.
+    #[inline(always)]
+    pub fn constant_is_met(&self, rows: &Rows, position: usize) -> bool {
+        match rows.entry(position, self.left) {
+            Some(left) => self.holds(left),
+            None => false,
+        }
+    }
+
+    /// A comparison with a column.
+    #[inline(always)]
+    pub fn column_is_met(&self, rows: &Rows, position: usize) -> bool {
+        match (
+            rows.entry(position, self.left),
+            rows.entry(position, self.right),
+        ) {
+            (Some(left), Some(right)) => self.holds(left - right),
+            _ => false,
+        }
+    }
+
+    /// Several comparisons, of which this one is the part in the place.
+    #[inline(always)]
+    pub fn several_are_met(&self, decoded: &[Comparison], rows: &Rows, position: usize) -> bool {
+        if (position as u64).wrapping_sub(self.low as u64) >= self.width {
+            return false;
+        }
+        let base = position * rows.columns;
+        let at = |distance: i16| rows.entries[base.wrapping_add_signed(isize::from(distance))];
+        decoded[self.left as usize..][..self.right as usize]
+            .iter()
+            .all(|one| one.holds(i64::from(at(one.left)) - i64::from(at(one.right) & one.keep)))
+    }
+
+    #[inline(always)]
+    fn holds(&self, difference: i64) -> bool {
+        difference.wrapping_sub(self.low) as u64 <= self.width
+    }
+}
+
+/// Decodes a letter from the bytes of its DEFINE, whose fields are tested. If it
+/// has several comparisons, they are put behind those decoded before.
+pub fn decode(define: &[u8], columns: usize, n: usize, decoded: &mut Vec<Comparison>) -> Letter {
+    if define.is_empty() {
+        return Letter::default();
+    }
+    let one = <&[u8; COMPARISON_BYTES]>::try_from(define).map(|bytes| single(bytes, columns));
+    match one {
+        Ok(Some(letter)) => letter,
+        _ => several(define, columns, n, decoded),
+    }
+}
+
+/// A letter with one comparison, unless it looks back only: behind the last row
+/// such a comparison may be met, and no row is there.
+fn single(bytes: &[u8; COMPARISON_BYTES], columns: usize) -> Option<Letter> {
+    let looks_back = |offset: u8| (offset as i8) < 0;
+    let (test, only_back) = match bytes[3] {
+        0 => (Test::Constant, looks_back(bytes[1])),
+        _ => (Test::Column, looks_back(bytes[1]) && looks_back(bytes[5])),
+    };
+    let comparison = comparison(bytes, columns);
+    (!only_back).then_some(Letter { test, comparison })
+}
+
+fn several(define: &[u8], columns: usize, n: usize, decoded: &mut Vec<Comparison>) -> Letter {
+    let from = decoded.len();
+    let (mut back, mut ahead) = (0, 0);
+    for bytes in define.chunks_exact(COMPARISON_BYTES) {
+        let (left, right) = (bytes[1] as i8, bytes[5] as i8);
+        back = back.min(left).min(right);
+        ahead = ahead.max(left).max(right);
+        if let Ok(bytes) = bytes.try_into() {
+            decoded.push(comparison(bytes, columns));
+        }
+    }
+    let first = usize::from(back.unsigned_abs());
+    let count = n.saturating_sub(first + usize::from(ahead.unsigned_abs()));
+    Letter {
+        test: Test::Several,
+        comparison: Comparison {
+            low: first as i64,
+            width: count as u64,
+            left: from as i16,
+            right: (decoded.len() - from) as i16,
+            keep: 0,
+        },
+    }
+}
+
+fn comparison(bytes: &[u8; COMPARISON_BYTES], columns: usize) -> Comparison {
+    let distance =
+        |column: u8, offset: u8| i16::from(offset as i8) * columns as i16 + i16::from(column);
+    let left = distance(bytes[0], bytes[1]);
+    let has_column = bytes[3] == 1;
+    let number = i32::from_le_bytes([bytes[8], bytes[9], bytes[10], bytes[11]]);
+    let (low, high) = interval(bytes[2], i64::from(number));
+    Comparison {
+        low,
+        width: high.wrapping_sub(low) as u64,
+        left,
+        // A constant reads its left entry again, which is there, and keeps none
+        // of it: so letters with several comparisons need no case for it.
+        right: match has_column {
+            true => distance(bytes[4], bytes[5]),
+            false => left,
+        },
+        keep: -i32::from(has_column),
+    }
+}
+
+/// What `left - right` may be, from low to high; unequal wraps round.
+fn interval(operator: u8, number: i64) -> (i64, i64) {
+    match operator {
+        1 => (number, number),
+        2 => (number + 1, number - 1),
+        3 => (i64::MIN, number - 1),
+        4 => (i64::MIN, number),
+        5 => (number + 1, i64::MAX),
+        _ => (number, i64::MAX),
+    }
+}

@@ -1,0 +1,202 @@
+//! The query's records: read in one pass over the bytes, every field tested,
+//! for answers 1, 2, 3 and 8. A DEFINE is kept as its bytes, since only letters
+//! that stand in the pattern are decoded later.
+
+pub const COUNT: u8 = 1;
+pub const SUM: u8 = 2;
+pub const MIN: u8 = 3;
+pub const MAX: u8 = 4;
+pub const FIRST: u8 = 5;
+
+pub const COMPARISON_BYTES: usize = 12;
+
+const MOST_DEFINES: usize = 26;
+const MOST_MEASURES: usize = 8;
+
+/// A measure; the letter is 0 where it is over all rows of the match.
+#[derive(Clone, Copy)]
+pub struct Measure {
+    pub function: u8,
+    pub letter: u8,
+    pub column: u8,
+}
+
+/// The parts of a query that has none of the answers 1, 2 and 3.
+pub struct Query<'a> {
+    pub columns: usize,
+    pub text: &'a [u8],
+    /// By letter, A first: the bytes of its comparisons, empty without DEFINE.
+    pub defines: [&'a [u8]; 26],
+    pub defined_twice: bool,
+    pub to_next_row: bool,
+    pub measures: [Measure; MOST_MEASURES],
+    pub measure_count: usize,
+}
+
+impl Query<'_> {
+    pub fn measures(&self) -> &[Measure] {
+        &self.measures[..self.measure_count]
+    }
+}
+
+/// Reads the parts, or gives the lowest of the answers 1, 2 and 3 that applies.
+/// The pass goes on after a fault of 2 or 3, as a 1 may still come.
+pub fn read(bytes: &[u8]) -> Result<Query<'_>, u64> {
+    let mut query = Query {
+        columns: 0,
+        text: &[],
+        defines: [&[]; 26],
+        defined_twice: false,
+        to_next_row: false,
+        measures: [Measure {
+            function: 0,
+            letter: 0,
+            column: 0,
+        }; MOST_MEASURES],
+        measure_count: 0,
+    };
+    let mut order = Order {
+        last: 0,
+        defines: 0,
+        measures: 0,
+        right: true,
+    };
+    let mut fields_right = true;
+    let mut left = bytes;
+    while let [length0, length1, kind0, kind1, behind @ ..] = left {
+        let length = usize::from(u16::from_le_bytes([*length0, *length1]));
+        if length > behind.len() {
+            return Err(1);
+        }
+        let (body, rest) = behind.split_at(length);
+        let kind = u16::from_le_bytes([*kind0, *kind1]);
+        order.take(kind);
+        // Out of order the answer is 2 or 1, and fields say nothing.
+        fields_right = fields_right && order.right && query.take(kind, body);
+        left = rest;
+    }
+    if !left.is_empty() {
+        return Err(1);
+    }
+    if !order.is_whole() {
+        return Err(2);
+    }
+    if !fields_right {
+        return Err(3);
+    }
+    Ok(query)
+}
+
+/// Which kinds have come so far: one 1, one 2, 3s, one 4, 5s.
+struct Order {
+    last: u16,
+    defines: usize,
+    measures: usize,
+    right: bool,
+}
+
+impl Order {
+    fn take(&mut self, kind: u16) {
+        let last = self.last;
+        let fits = match kind {
+            1 => last == 0,
+            2 => last == 1,
+            3 => {
+                self.defines += 1;
+                (last == 2 || last == 3) && self.defines <= MOST_DEFINES
+            }
+            4 => last == 2 || last == 3,
+            5 => {
+                self.measures += 1;
+                last >= 4 && self.measures <= MOST_MEASURES
+            }
+            _ => false,
+        };
+        self.last = kind;
+        self.right &= fits;
+    }
+
+    fn is_whole(&self) -> bool {
+        self.right && self.last >= 4
+    }
+}
+
+impl<'a> Query<'a> {
+    /// Takes a record that stands in its order; false where a field is wrong.
+    fn take(&mut self, kind: u16, body: &'a [u8]) -> bool {
+        match kind {
+            1 => self.take_shape(body),
+            2 => {
+                self.text = body;
+                body.len() <= 256
+            }
+            3 => self.take_define(body),
+            4 => self.take_skip(body),
+            _ => self.take_measure(body),
+        }
+    }
+
+    fn take_shape(&mut self, body: &[u8]) -> bool {
+        let &[columns, 0] = body else { return false };
+        self.columns = usize::from(columns);
+        (1..=8).contains(&columns)
+    }
+
+    fn take_skip(&mut self, body: &[u8]) -> bool {
+        let &[skip, 0] = body else { return false };
+        self.to_next_row = skip == 1;
+        skip <= 1
+    }
+
+    fn take_measure(&mut self, body: &[u8]) -> bool {
+        let &[function, letter, column, 0] = body else {
+            return false;
+        };
+        self.measures[self.measure_count] = Measure {
+            function,
+            letter,
+            column,
+        };
+        self.measure_count += 1;
+        (1..=6).contains(&function)
+            && (letter == 0 || letter.is_ascii_uppercase())
+            && usize::from(column) < self.columns
+            && (function != COUNT || column == 0)
+    }
+
+    fn take_define(&mut self, body: &'a [u8]) -> bool {
+        let [letter, count, comparisons @ ..] = body else {
+            return false;
+        };
+        let right = letter.is_ascii_uppercase()
+            && (1..=8).contains(count)
+            && comparisons.len() == COMPARISON_BYTES * usize::from(*count)
+            && comparisons
+                .chunks_exact(COMPARISON_BYTES)
+                .all(|bytes| comparison_is_right(bytes, self.columns));
+        if right {
+            let define = &mut self.defines[usize::from(letter - b'A')];
+            self.defined_twice |= !define.is_empty();
+            *define = comparisons;
+        }
+        right
+    }
+}
+
+/// Tests all fields without a branch for each: they are nearly always right.
+fn comparison_is_right(bytes: &[u8], columns: usize) -> bool {
+    let &[left, left_offset, operator, right_kind, right, right_offset, 0, 0, _, _, _, _] = bytes
+    else {
+        return false;
+    };
+    let no_column = (right_kind == 0) & (right == 0) & (right_offset == 0);
+    let column = (right_kind == 1) & (usize::from(right) < columns) & offset_is_right(right_offset);
+    (usize::from(left) < columns)
+        & offset_is_right(left_offset)
+        & (operator.wrapping_sub(1) < 6)
+        & (no_column | column)
+}
+
+fn offset_is_right(offset: u8) -> bool {
+    offset.wrapping_add(64) <= 128
+}

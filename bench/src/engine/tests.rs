@@ -1,0 +1,249 @@
+//! The bench sheet of document 01, W1 to W12, run on the engine; with them what
+//! the paper says of the lent buffers when a search is done, stopped or refused.
+
+use super::{room, search, SearchResult};
+use crate::query::*;
+
+/// What every index of a buffer holds before a search.
+const FILL: u8 = 7;
+
+/// A search with buffers of generous length, and what it left in them.
+struct Searched {
+    result: SearchResult,
+    notes: Vec<u8>,
+    trail: Vec<u32>,
+    numbers: Vec<i64>,
+    labels: Vec<u8>,
+}
+
+fn searched(query: &[u8], rows: &[i32]) -> Searched {
+    searched_with(query, rows, [64, 512, 64, 64])
+}
+
+fn searched_with(query: &[u8], rows: &[i32], rooms: [usize; 4]) -> Searched {
+    let mut notes = vec![FILL; rooms[0]];
+    let mut trail = vec![u32::from(FILL); rooms[1]];
+    let mut numbers = vec![i64::from(FILL); rooms[2]];
+    let mut labels = vec![FILL; rooms[3]];
+    let result = search(
+        query,
+        rows,
+        &mut notes,
+        &mut trail,
+        &mut numbers,
+        &mut labels,
+    );
+    Searched {
+        result,
+        notes,
+        trail,
+        numbers,
+        labels,
+    }
+}
+
+impl Searched {
+    /// The matches as first row and labels, of a query without measures.
+    fn matches(&self) -> Vec<(i64, &str)> {
+        let mut labels = &self.labels[..self.result.labels as usize];
+        let numbers = &self.numbers[..3 * self.result.matches as usize];
+        numbers
+            .chunks(3)
+            .map(|one| {
+                let (own, later) = labels.split_at(one[2] as usize);
+                labels = later;
+                (
+                    one[1],
+                    std::str::from_utf8(own).expect("labels are letters"),
+                )
+            })
+            .collect()
+    }
+
+    fn is_untouched(&self) -> bool {
+        self.notes.iter().all(|&it| it == FILL)
+            && self.trail.iter().all(|&it| it == u32::from(FILL))
+            && self.numbers.iter().all(|&it| it == i64::from(FILL))
+            && self.labels.iter().all(|&it| it == FILL)
+    }
+}
+
+fn free(pattern: &str) -> Query {
+    Query::new(1, pattern).skip_past_last_row()
+}
+
+/// A is above 0.
+fn above_zero(pattern: &str) -> Query {
+    Query::new(1, pattern)
+        .define(b'A', &[with_number((0, 0), GREATER, 0)])
+        .skip_past_last_row()
+}
+
+fn answer(pattern: &str) -> u64 {
+    searched(&free(pattern).bytes, &[]).result.answer
+}
+
+fn places(pattern: &str) -> Option<usize> {
+    room(&free(pattern).bytes, &[]).map(|room| room.places).ok()
+}
+
+const X: [i32; 5] = [100, 110, 120, 115, 130];
+
+fn w1() -> Query {
+    Query::new(1, "A+ B")
+        .define(b'A', &[with_previous(0, GREATER)])
+        .define(b'B', &[with_previous(0, LESS)])
+        .skip_past_last_row()
+        .measure(COUNT, b'A', 0)
+        .measure(LAST, b'B', 0)
+}
+
+/// The bytes of W1 as the paper writes them.
+const W1_BYTES: &str = "02 00 01 00 01 00 04 00 02 00 41 2B 20 42 \
+    0E 00 03 00 41 01 00 00 05 01 00 FF 00 00 00 00 00 00 \
+    0E 00 03 00 42 01 00 00 03 01 00 FF 00 00 00 00 00 00 \
+    02 00 04 00 00 00 04 00 05 00 01 41 00 00 04 00 05 00 06 42 00 00";
+
+#[test]
+fn w1_bytes() {
+    let bytes: Vec<u8> = W1_BYTES
+        .split_whitespace()
+        .map(|byte| u8::from_str_radix(byte, 16).expect("two hexadecimal digits"))
+        .collect();
+    assert_eq!(w1().bytes, bytes);
+}
+
+#[test]
+fn w1_rise_and_fall() {
+    let query = w1().bytes;
+    assert_eq!(
+        room(&query, &X).map(|room| (room.places, room.n)),
+        Ok((5, 5))
+    );
+    let searched = searched(&query, &X);
+    assert_eq!(
+        searched.result,
+        SearchResult {
+            answer: 0,
+            matches: 1,
+            labels: 3,
+            steps: 12
+        }
+    );
+    assert_eq!(searched.numbers[..8], [1, 1, 3, 1, 2, 1, 115, FILL.into()]);
+    assert_eq!(searched.labels[..4], *b"AAB\x07");
+}
+
+/// The path is A at 1, fork and A at 2, fork and B at 3, END at 4. Failed are A
+/// at 0; the second A at 3; and A at 4 with fork, second A and B at 5.
+#[test]
+fn w1_notes_and_trail() {
+    let searched = searched(&w1().bytes, &X);
+    let failed = [(0, 0), (3, 2), (4, 0), (5, 1), (5, 2), (5, 3)];
+    let mut notes = vec![0; 4];
+    for (position, place) in failed {
+        let pair: usize = position * 5 + place;
+        notes[pair / 8] |= 1 << (pair % 8);
+    }
+    assert_eq!(searched.notes[..4], notes);
+    assert!(searched.notes[4..].iter().all(|&it| it == FILL));
+    assert!(searched.trail[..30].iter().all(|&it| it == 0));
+    assert!(searched.trail[30..].iter().all(|&it| it == u32::from(FILL)));
+}
+
+#[test]
+fn w2_no_rows() {
+    let searched = searched(&w1().bytes, &[]);
+    assert_eq!((searched.result.answer, searched.result.steps), (0, 0));
+    assert!(searched.matches().is_empty());
+}
+
+#[test]
+fn w3_greedy() {
+    let query = above_zero("A*");
+    let searched = searched(&query.bytes, &[1, 1, 0]);
+    assert_eq!(searched.matches(), [(0, "AA"), (2, "")]);
+    assert_eq!(searched.result.steps, 9);
+}
+
+#[test]
+fn w4_reluctant() {
+    let query = above_zero("A*?");
+    let searched = searched(&query.bytes, &[1, 1, 0]);
+    assert_eq!(searched.matches(), [(0, ""), (1, ""), (2, "")]);
+    assert_eq!(searched.result.steps, 6);
+}
+
+#[test]
+fn w5_first_branch() {
+    let searched = searched(&free("B A | A B").bytes, &[1, 1]);
+    assert_eq!(searched.matches(), [(0, "BA")]);
+}
+
+#[test]
+fn w6_skip_modes() {
+    let past = searched(&free("A A").bytes, &[1, 1, 1]);
+    assert_eq!(past.matches(), [(0, "AA")]);
+    assert_eq!(past.result.steps, 5);
+    let next = searched(&Query::new(1, "A A").skip_to_next_row().bytes, &[1, 1, 1]);
+    assert_eq!(next.matches(), [(0, "AA"), (1, "AA")]);
+    assert_eq!(next.result.steps, 8);
+}
+
+#[test]
+fn w7_behind_last_row() {
+    let searched = searched(&free("A $").bytes, &[1, 1]);
+    assert_eq!(searched.matches(), [(1, "A")]);
+}
+
+#[test]
+fn w8_w9_most_places() {
+    assert_eq!(places("(A{51}){5}"), Some(256));
+    assert_eq!(answer("(A{16}){16}"), 7);
+}
+
+#[test]
+fn w10_w11_repeated() {
+    assert_eq!(answer("(A*)*"), 6);
+    assert_eq!(places("(A?){3}"), Some(7));
+    assert_eq!(places("(A+)+"), Some(8));
+}
+
+#[test]
+fn w12_parentheses() {
+    let nested = |deep: usize| format!("{}A{}", "(".repeat(deep), ")".repeat(deep));
+    assert_eq!(answer(&nested(8)), 0);
+    assert_eq!(places(&nested(8)), Some(2));
+    assert_eq!(answer(&nested(9)), 4);
+}
+
+/// A report that has no room for the second match keeps the first.
+#[test]
+fn stopped() {
+    let query = free("A");
+    let searched = searched_with(&query.bytes, &[1, 1, 1], [1, 8, 5, 9]);
+    assert_eq!(
+        searched.result,
+        SearchResult {
+            answer: 13,
+            matches: 1,
+            labels: 1,
+            steps: 4
+        }
+    );
+    assert_eq!(searched.numbers, [1, 0, 1, FILL.into(), FILL.into()]);
+    assert_eq!(searched.labels[..2], [b'A', FILL]);
+    assert_eq!((searched.notes[0], &searched.trail[..]), (0, &[0; 8][..]));
+}
+
+#[test]
+fn refused() {
+    let query = w1().bytes;
+    let cut = searched(&query[..query.len() - 1], &X);
+    assert_eq!(cut.result, SearchResult::refused(1));
+    let short_notes = searched_with(&query, &X, [3, 30, 64, 64]);
+    assert_eq!(short_notes.result, SearchResult::refused(11));
+    let short_trail = searched_with(&query, &X, [4, 29, 64, 64]);
+    assert_eq!(short_trail.result, SearchResult::refused(12));
+    assert!(cut.is_untouched() && short_notes.is_untouched() && short_trail.is_untouched());
+}

@@ -1,0 +1,120 @@
+//! The output: one table for each section, with columns for the yardstick, for
+//! the product where it was measured, and for their ratio.
+
+use crate::rooms::Sums;
+use crate::rounds::Times;
+use crate::table::{Side, Table};
+use crate::workloads::Workload;
+
+/// A workload with what was measured of it.
+pub struct Measured {
+    pub workload: Workload,
+    pub sums: Sums,
+    pub yardstick: Times,
+    pub product: Option<Times>,
+}
+
+/// Which columns a section has.
+#[derive(Clone, Copy, PartialEq, Eq)]
+pub enum Columns {
+    Searches,
+    Growth,
+    Calls,
+}
+
+pub fn print(title: &str, columns: Columns, measured: &[Measured], markdown: bool) {
+    match markdown {
+        true => println!("### {title}\n"),
+        false => println!("{title}\n"),
+    }
+    let with_product = measured.iter().any(|one| one.product.is_some());
+    let mut table = Table::new(&heads(columns, with_product));
+    for (index, one) in measured.iter().enumerate() {
+        let before = index.checked_sub(1).map(|index| &measured[index]);
+        table.push(line(columns, one, before));
+    }
+    table.print(markdown);
+    for one in measured {
+        let bullet = if markdown { "- " } else { "  " };
+        println!("{bullet}{}: {}", one.workload.name, one.workload.about);
+    }
+    println!();
+}
+
+fn heads(columns: Columns, with_product: bool) -> Vec<(String, Side)> {
+    let counts: &[&str] = match columns {
+        Columns::Searches => &["rows", "matches", "steps"],
+        Columns::Growth => &["steps", "times"],
+        Columns::Calls => &[],
+    };
+    let of_engine: &[&str] = match columns {
+        Columns::Searches => &["ns/step", "median", "ns/row"],
+        Columns::Growth => &["µs", "times", "ns/step"],
+        Columns::Calls => &["ns/call", "median"],
+    };
+    let right = |head: &str| (head.to_string(), Side::Right);
+    let mut heads = vec![("workload".to_string(), Side::Left)];
+    heads.extend(counts.iter().map(|head| right(head)));
+    let engines: &[&str] = match with_product {
+        true => &["yardstick", "product"],
+        false => &["yardstick"],
+    };
+    for engine in engines {
+        heads.push(right(&format!("{engine} {}", of_engine[0])));
+        heads.extend(of_engine[1..].iter().map(|head| right(head)));
+    }
+    if with_product {
+        heads.push(right("product/yardstick"));
+    }
+    heads
+}
+
+/// The cells of a workload; `before` is the one in the line above. Times are the
+/// minimum over the rounds where no median is named, and so is the ratio.
+fn line(columns: Columns, one: &Measured, before: Option<&Measured>) -> Vec<String> {
+    let mut line = vec![one.workload.name.clone()];
+    let steps = one.sums.steps;
+    match columns {
+        Columns::Searches => {
+            let counts = [one.workload.rows() as u64, one.sums.matches, steps];
+            line.extend(counts.map(|count| count.to_string()));
+        }
+        Columns::Growth => {
+            let before = before.map(|before| before.sums.steps as f64);
+            line.extend([steps.to_string(), growth(steps as f64, before)]);
+        }
+        Columns::Calls => {}
+    }
+    let before_yardstick = before.map(|before| before.yardstick);
+    line.extend(cells(columns, one, one.yardstick, before_yardstick));
+    if let Some(product) = one.product {
+        let before_product = before.and_then(|before| before.product);
+        line.extend(cells(columns, one, product, before_product));
+        line.push(format!("{:.2}", product.minimum / one.yardstick.minimum));
+    }
+    line
+}
+
+fn cells(columns: Columns, one: &Measured, times: Times, before: Option<Times>) -> Vec<String> {
+    let Times { minimum, median } = times;
+    let steps = one.sums.steps as f64;
+    let rows = one.workload.rows() as f64;
+    match columns {
+        Columns::Searches => vec![
+            format!("{:.2}", minimum / steps),
+            format!("{:.2}", median / steps),
+            format!("{:.1}", minimum / rows),
+        ],
+        Columns::Growth => vec![
+            format!("{:.1}", minimum / 1_000.0),
+            growth(minimum, before.map(|before| before.minimum)),
+            format!("{:.2}", minimum / steps),
+        ],
+        Columns::Calls => vec![format!("{minimum:.0}"), format!("{median:.0}")],
+    }
+}
+
+/// How many times the value of the line above.
+fn growth(value: f64, before: Option<f64>) -> String {
+    before.map_or(String::new(), |before| format!("{:.2}", value / before))
+}

@@ -1,0 +1,123 @@
+//! The four lent buffers, large enough for every partition of a workload, and
+//! the comparison of what two engines leave in them.
+
+use crate::engine::{self, SearchResult};
+use crate::workloads::Workload;
+
+/// An engine's whole search.
+pub type Search = fn(
+    query: &[u8],
+    rows: &[i32],
+    notes: &mut [u8],
+    trail: &mut [u32],
+    numbers: &mut [i64],
+    labels: &mut [u8],
+) -> SearchResult;
+
+/// What each buffer has beyond what a search needs, to see that it is left.
+const BEYOND: usize = 9;
+
+#[derive(Clone, PartialEq, Eq)]
+pub struct Rooms {
+    notes: Vec<u8>,
+    trail: Vec<u32>,
+    numbers: Vec<i64>,
+    labels: Vec<u8>,
+}
+
+impl Rooms {
+    /// Rooms in which no search of the workload stops. They hold no zeros, so
+    /// that a search which leaves out its clearing is seen.
+    pub fn new(workload: &Workload) -> Rooms {
+        let query = &workload.query;
+        let (mut pairs, mut n) = (0, 0);
+        for rows in &workload.partitions {
+            let Ok(room) = engine::room(&query.bytes, rows) else {
+                panic!("{}: the query is refused", workload.name);
+            };
+            pairs = pairs.max(room.places * (room.n + 1));
+            n = n.max(room.n);
+        }
+        let labels = match query.to_next_row {
+            true => n * (n + 1) / 2,
+            false => n,
+        };
+        Rooms {
+            notes: vec![0x5a; pairs.div_ceil(8) + BEYOND],
+            trail: vec![0x5a5a_5a5a; pairs + BEYOND],
+            numbers: vec![-0x5a5a_5a5a; n * (3 + 2 * query.measures) + BEYOND],
+            labels: vec![0x5a; labels + BEYOND],
+        }
+    }
+
+    pub fn search(&mut self, search: Search, query: &[u8], rows: &[i32]) -> SearchResult {
+        search(
+            query,
+            rows,
+            &mut self.notes,
+            &mut self.trail,
+            &mut self.numbers,
+            &mut self.labels,
+        )
+    }
+
+    /// Which buffers differ, by name and first index.
+    fn differences(&self, other: &Rooms) -> Vec<String> {
+        fn first<T: PartialEq>(name: &str, one: &[T], other: &[T]) -> Option<String> {
+            let at = one
+                .iter()
+                .zip(other)
+                .position(|(one, other)| one != other)?;
+            Some(format!("{name} from index {at}"))
+        }
+        [
+            first("notes", &self.notes, &other.notes),
+            first("trail", &self.trail, &other.trail),
+            first("numbers", &self.numbers, &other.numbers),
+            first("labels", &self.labels, &other.labels),
+        ]
+        .into_iter()
+        .flatten()
+        .collect()
+    }
+}
+
+/// The sums over all partitions of a workload.
+#[derive(Clone, Copy, Default)]
+pub struct Sums {
+    pub matches: u64,
+    pub steps: u64,
+}
+
+/// Searches all partitions with the yardstick, and with the product if there is
+/// one, and compares results and all buffers after each. An Err says what
+/// differs, or that the yardstick did not end as done.
+pub fn compare(
+    workload: &Workload,
+    yardstick: Search,
+    product: Option<Search>,
+) -> Result<Sums, String> {
+    let mut rooms = Rooms::new(workload);
+    let mut product_rooms = rooms.clone();
+    let mut sums = Sums::default();
+    for (index, rows) in workload.partitions.iter().enumerate() {
+        let context = |what: String| format!("{}, partition {index}: {what}", workload.name);
+        let result = rooms.search(yardstick, &workload.query.bytes, rows);
+        if result.answer != 0 {
+            return Err(context(format!("the yardstick answers {}", result.answer)));
+        }
+        if let Some(product) = product {
+            let other = product_rooms.search(product, &workload.query.bytes, rows);
+            if other != result {
+                return Err(context(format!("product {other:?}, yardstick {result:?}")));
+            }
+            if rooms != product_rooms {
+                let differences = rooms.differences(&product_rooms).join(", ");
+                return Err(context(format!("buffers differ: {differences}")));
+            }
+        }
+        sums.matches += result.matches;
+        sums.steps += result.steps;
+    }
+    Ok(sums)
+}
