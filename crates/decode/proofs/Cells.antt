@@ -14,8 +14,8 @@ use borrow.Author.Tests.{ltb-true, ltb-false}
 use Rattle.rules.specs.Basics.{signed8, signed32, le32}
 use Rattle.rules.specs.Query.{comparisonAt}
 use Rattle.rules.proofs.Choice.{decided}
-use Rattle.decode.specs.Layout.{cellAt, Spots, Untouched}
-use Rattle.decode.specs.Steps.{spotOf, SpotFits, setTwo, setFour, Kept, Sized, CellRoom, PutCell, CellsRoom, PutCells}
+use Rattle.decode.specs.Layout.{Sized, cellAt, Spots, Untouched}
+use Rattle.decode.specs.Steps.{spotOf, SpotFits, setTwo, setFour, Kept, CellRoom, PutCell, CellsRoom, PutCells}
 use Rattle.decode.proofs.Spotting.{left-spot, right-spot, spot-column, spot-for}
 use Rattle.decode.proofs.Keeping.{kept-none, kept-set, kept-on, kept-wider, kept-two, two-0, two-1, kept-four, four-0, four-1, four-2, four-3}
 
@@ -70,7 +70,8 @@ module _ (cells₀ : List ℕ) (offsets₀ numbers₀ : List ℤ) (cells : List 
     }
 
 pub untouched-on : (cells₀ : List ℕ) (offsets₀ numbers₀ : List ℤ) (cells : List ℕ) (offsets numbers : List ℤ) (cells' : List ℕ) (offsets' numbers' : List ℤ) (g : ℕ)
-    → Untouched cells₀ offsets₀ numbers₀ cells offsets numbers g → Untouched cells offsets numbers cells' offsets' numbers' g → Untouched cells₀ offsets₀ numbers₀ cells' offsets' numbers' g
+    → Untouched cells₀ offsets₀ numbers₀ cells offsets numbers g → Untouched cells offsets numbers cells' offsets' numbers' g
+    → Untouched cells₀ offsets₀ numbers₀ cells' offsets' numbers' g
 untouched-on cells₀ offsets₀ numbers₀ cells offsets numbers cells' offsets' numbers' g u v = record {
   in-cells = λ i h. v .in-cells i h ∙ u .in-cells i h;
   in-offsets = λ i h. v .in-offsets i h ∙ u .in-offsets i h;

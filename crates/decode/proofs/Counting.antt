@@ -71,6 +71,7 @@ module _ (s : List ℕ) (from : ℕ) (measures₀ : List ℕ) where
     ended : recordsAt s at ≡ [] → PutMeasures s from measures₀ measures count
     unfolding measuresFrom
     ended e = record {
+      long = h .long;
       is = sym (append-nil (measuresIn measures count)) ∙ ap (λ (x : List Record). measuresIn measures count ++ measuresFrom s x) (sym e) ∙ h .is;
       few = h .few;
       fit = h .fit;
@@ -109,15 +110,18 @@ module _ (s : List ℕ) (from : ℕ) (measures₀ : List ℕ) where
               let cr = counting-room in
               let t = kept-three measures (count * 3) (v .function) (v .letter) (v .column) in
               let fit3 : count * 3 + 3 ≤ length measures = omega arith in
-              let new : measureIn measures' count ≡ measureAt s b = ap (λ (u : List ℕ). measureIn u count) em ∙ measure-new measures count (v .function) (v .letter) (v .column) fit3 ∙ ev in
+              let new : measureIn measures' count ≡ measureAt s b = ap (λ (u : List ℕ). measureIn u count) em
+              ∙ measure-new measures count (v .function) (v .letter) (v .column) fit3 ∙ ev in
               let more : measuresIn measures' (count + 1) ≡ measuresIn measures count ++ (measureAt s b ∷ []) =
-              ap (λ (u : List ℕ). measuresIn u (count + 1)) em ∙ measures-more measures count (v .function) (v .letter) (v .column) fit3 ∙ ap (λ (u : Measure). measuresIn measures count ++ (u ∷ [])) ev in
+              ap (λ (u : List ℕ). measuresIn u (count + 1)) em ∙ measures-more measures count (v .function) (v .letter) (v .column) fit3
+              ∙ ap (λ (u : Measure). measuresIn measures count ++ (u ∷ [])) ev in
               record {
                 long = ap length em ∙ t .long ∙ lg;
                 few = omega arith;
                 ahead = let i : 8 - (count + 1) ≡ 8 - count - 1 = omega arith in rw i (next .2);
                 is =
-                    ap (λ (u : List Measure). u ++ measuresFrom s (recordsAt s n)) more ∙ append-assoc (measuresIn measures count) (measureAt s b ∷ []) (measuresFrom s (recordsAt s n))
+                    ap (λ (u : List Measure). u ++ measuresFrom s (recordsAt s n)) more
+                    ∙ append-assoc (measuresIn measures count) (measureAt s b ∷ []) (measuresFrom s (recordsAt s n))
                     ∙ ap (λ (u : List Measure). measuresIn measures count ++ u) (sym front) ∙ h .is;
                 fit = λ j g. decided (ltb j count)
                     (λ w. let i = ltb-true j count w in rw em (rw (measure-old measures count (v .function) (v .letter) (v .column) j i) (h .fit j i)))

@@ -18,8 +18,8 @@ use Rattle.rules.specs.Query.{Record, kinds, oneOf, someOf, noneLeft, field, fi
 use Rattle.rules.proofs.Choice.{decided, clash, and-left, and-right}
 use Rattle.query.specs.Read.{recordOf, recordsAt, readAt, restOf}
 use Rattle.query.proofs.Reading.{found, read-more, field-first}
-use Rattle.decode.specs.Layout.{cellAt, cellsFrom, Spots, Untouched}
-use Rattle.decode.specs.Steps.{Ahead, Sized, CellsRoom, PutCells, DefineRoom, PutDefine, DefinesRoom, PutDefines}
+use Rattle.decode.specs.Layout.{Sized, cellAt, cellsFrom, Spots, Untouched}
+use Rattle.decode.specs.Steps.{Ahead, CellsRoom, PutCells, DefineRoom, PutDefine, DefinesRoom, PutDefines}
 use Rattle.decode.proofs.Cells.{untouched-none, untouched-before, untouched-behind, untouched-cell, untouched-spots, untouched-on}
 use Rattle.decode.proofs.Going.{before-end, not-cut, this-fits, define-next, defines-over, Says, define-says}
 
@@ -40,7 +40,8 @@ module _ (s : List ℕ) (start columns : ℕ) (cells₀ : List ℕ) (offsets₀ 
         let d = r .there in
         record { sized = r .sized; there = omega arith; room = omega arith; most = r .most; fits = λ k h. r .fits k (omega arith) }
 
-    pub define-put : (cells : List ℕ) (offsets numbers : List ℤ) → getD counts₀ (x - 65) 0 ≡ 0 → PutCells s (start + 2) y columns ((x - 65) * 8) cells₀ offsets₀ numbers₀ cells offsets numbers
+    pub define-put : (cells : List ℕ) (offsets numbers : List ℤ) → getD counts₀ (x - 65) 0 ≡ 0
+        → PutCells s (start + 2) y columns ((x - 65) * 8) cells₀ offsets₀ numbers₀ cells offsets numbers
         → PutDefine s start columns cells₀ offsets₀ numbers₀ counts₀ cells offsets numbers (set counts₀ (x - 65) (getD s (start + 1) 0))
     define-put cells offsets numbers e q = record {
       taken = λ f. absurd (f (sym same-count ∙ e));
@@ -104,7 +105,8 @@ module _ (s : List ℕ) (letter : ℕ) where
   measures-only (suc m) [] e = refl
   measures-only (suc m) (r ∷ rs) e = by (eqb (r .kind) 5) refl e (measures-only m rs)
     where
-      by : (t : Bool) → eqb (r .kind) 5 ≡ t → pick t (someOf m 5 noneLeft (kinds rs)) (noneLeft (r .kind ∷ kinds rs)) ≡ true → (someOf m 5 noneLeft (kinds rs) ≡ true → comparisonsFrom s rs letter ≡ [])
+      by : (t : Bool) → eqb (r .kind) 5 ≡ t → pick t (someOf m 5 noneLeft (kinds rs)) (noneLeft (r .kind ∷ kinds rs)) ≡ true
+          → (someOf m 5 noneLeft (kinds rs) ≡ true → comparisonsFrom s rs letter ≡ [])
           → comparisonsFrom s (r ∷ rs) letter ≡ []
       by true q w g = no-define r rs (λ z. let y = eqb-true (r .kind) 5 q in absurd (omega arith)) ∙ g w
       by false q w g = none-left (r ∷ rs) w
@@ -241,12 +243,14 @@ module _ (s : List ℕ) (from columns : ℕ) (cells₀ : List ℕ) (offsets₀ n
                 let w0 = y .one in
                 let ll = h .counted in
                 let il = letter-low in
-                let c1 : getD counts' letter 0 ≡ getD s (b + 1) 0 = ap (λ (x : List ℕ). getD x letter 0) counts-are ∙ getD-set-same counts letter (getD s (b + 1) 0) 0 (omega arith) in
+                let c1 : getD counts' letter 0 ≡ getD s (b + 1) 0 = ap (λ (x : List ℕ). getD x letter 0) counts-are
+                ∙ getD-set-same counts letter (getD s (b + 1) 0) 0 (omega arith) in
                 rw c1 (record {
                   few = y .few;
                   open' = λ z. absurd (omega arith);
                   shut = λ z. tabulate-same (getD s (b + 1) 0) (λ j. cellAt columns cells' offsets' numbers' (letter * 8 + j)) (λ j. comparisonAt s (b + 2 + j * 12)) (put .each)
-                      ∙ sym (its-own s k b m (recordsAt s n) (65 + letter) k3 (sym letter-is)) ∙ sym (ap (λ (x : List Record). comparisonsFrom s x (65 + letter)) fewer-left) ∙ o .open' c0;
+                      ∙ sym (its-own s k b m (recordsAt s n) (65 + letter) k3 (sym letter-is)) ∙ sym (ap (λ (x : List Record). comparisonsFrom s x (65 + letter)) fewer-left)
+                      ∙ o .open' c0;
                   spots = put .spots;
                   free = λ j u v. untouched-on cells₀ offsets₀ numbers₀ cells offsets numbers cells' offsets' numbers' (letter * 8 + j) (o .free j (omega arith) v) (behind-it (letter * 8 + j) (omega arith));
                 })
@@ -303,6 +307,8 @@ module _ (s : List ℕ) (from columns : ℕ) (cells₀ : List ℕ) (offsets₀ n
         lettering-over f =
             let a = defines-over s 2 (h .left) at (h .ahead) r k b m n e q refl f in
             record {
+              sized = h .sized;
+              counted = h .counted;
               ahead = a;
               skip = h .skip;
               measures = h .measures;

@@ -110,14 +110,16 @@ module _ (s : List ℕ) (a l at : ℕ) (h : Ahead s a l at) where
     defines-over w f =
         record {
           upto = h .upto;
-          order = ap (λ (x : List Record). restOf 2 0 (kinds x)) (read-more s at r k b m n e q) ∙ some-out 3 (oneOf 4 (someOf 8 5 noneLeft)) k (kinds (recordsAt s n)) l f (at-stage 2 w);
+          order = ap (λ (x : List Record). restOf 2 0 (kinds x)) (read-more s at r k b m n e q)
+              ∙ some-out 3 (oneOf 4 (someOf 8 5 noneLeft)) k (kinds (recordsAt s n)) l f (at-stage 2 w);
           fits = h .fits;
         }
 
     pub skip-next : a ≡ 2 → l ≡ 0 → (k ≡ 4) × Ahead s 3 8 n
     unfolding restOf someOf
     skip-next w i =
-        let z = one-in 4 (someOf 8 5 noneLeft) k (kinds (recordsAt s n)) (ap (λ (j : ℕ). someOf j 3 (oneOf 4 (someOf 8 5 noneLeft)) (k ∷ kinds (recordsAt s n))) (sym i) ∙ at-stage 2 w) in
+        let z = one-in 4 (someOf 8 5 noneLeft) k (kinds (recordsAt s n)) (ap (λ (j : ℕ). someOf j 3 (oneOf 4 (someOf 8 5 noneLeft)) (k ∷ kinds (recordsAt s n))) (sym i)
+        ∙ at-stage 2 w) in
         (z .0, go-on 3 8 (z .1))
 
     measure-kind : a ≡ 3 → k ≡ 5

@@ -13,10 +13,10 @@ use Rattle.rules.specs.Query.{Record, records, field, firstOfKind, columnsOf, t
 use Rattle.query.specs.Read.{recordOf, recordsAt, readAt, firstAnswer}
 use Rattle.query.proofs.Reading.{found, read-more, field-first}
 use Rattle.query.proofs.Order.{columns-at}
-use Rattle.decode.specs.Layout.{Decoded}
+use Rattle.decode.specs.Layout.{Room, Decoded}
 use Rattle.decode.specs.declared.Head.{Head}
 use Rattle.decode.specs.declared.Tail.{Tail}
-use Rattle.decode.specs.Steps.{Room, Ahead, HeadOf, TailRoom, TailOf, PutDefines, MeasuresRoom, PutMeasures}
+use Rattle.decode.specs.Steps.{Ahead, HeadOf, TailRoom, TailOf, PutDefines, MeasuresRoom, PutMeasures}
 use Rattle.decode.proofs.Going.{at-start, before-end, not-cut, this-fits, shape-next, text-next, skip-next, shape-says, text-says, skip-says}
 
 -- ---- a record of another kind in front
@@ -94,20 +94,24 @@ module _ (s : List ℕ) (clean : firstAnswer s ≡ 0) where
 
           text-is : take m2 (drop b2 s) ≡ textOf s
           unfolding textOf both
-          text-is = ap (λ (x : Record). take (x .len) (drop (x .start) s)) (sym (ap (firstOfKind 2) both-records ∙ other-first s k1 b1 m1 both 2 (not-first 2 (omega arith)) ∙ this-first s k2 b2 m2 (recordsAt s n2) 2 (text .0)))
+          text-is = ap (λ (x : Record). take (x .len) (drop (x .start) s)) (sym (ap (firstOfKind 2) both-records ∙ other-first s k1 b1 m1 both 2 (not-first 2 (omega arith))
+              ∙ this-first s k2 b2 m2 (recordsAt s n2) 2 (text .0)))
 
           skip-is : firstOfKind 4 (recordsAt s n2) ≡ firstOfKind 4 (records s)
           unfolding both
-          skip-is = sym (ap (firstOfKind 4) both-records ∙ other-first s k1 b1 m1 both 4 (not-first 4 (omega arith)) ∙ other-first s k2 b2 m2 (recordsAt s n2) 4 (not-second 4 (omega arith)))
+          skip-is = sym (ap (firstOfKind 4) both-records ∙ other-first s k1 b1 m1 both 4 (not-first 4 (omega arith))
+              ∙ other-first s k2 b2 m2 (recordsAt s n2) 4 (not-second 4 (omega arith)))
 
           letters-are : (letter : ℕ) → comparisonsFrom s (recordsAt s n2) letter ≡ comparisonsFrom s (records s) letter
           unfolding both
           letters-are letter =
-              sym (ap (λ (x : List Record). comparisonsFrom s x letter) both-records ∙ other-letters s k1 b1 m1 both letter (not-first 3 (omega arith)) ∙ other-letters s k2 b2 m2 (recordsAt s n2) letter (not-second 3 (omega arith)))
+              sym (ap (λ (x : List Record). comparisonsFrom s x letter) both-records ∙ other-letters s k1 b1 m1 both letter (not-first 3 (omega arith))
+              ∙ other-letters s k2 b2 m2 (recordsAt s n2) letter (not-second 3 (omega arith)))
 
           measures-are : measuresFrom s (recordsAt s n2) ≡ measuresFrom s (records s)
           unfolding both
-          measures-are = sym (ap (measuresFrom s) both-records ∙ other-measures s k1 b1 m1 both (not-first 5 (omega arith)) ∙ other-measures s k2 b2 m2 (recordsAt s n2) (not-second 5 (omega arith)))
+          measures-are = sym (ap (measuresFrom s) both-records ∙ other-measures s k1 b1 m1 both (not-first 5 (omega arith))
+              ∙ other-measures s k2 b2 m2 (recordsAt s n2) (not-second 5 (omega arith)))
 
           pub head-is : (columns : ℕ) → columns ≡ getD s b1 0 → HeadOf s (record { columns = columns; start = b2; len = m2; next = n2 })
           head-is columns ec =
@@ -152,11 +156,14 @@ module _ (s : List ℕ) (at : ℕ) (measures₀ : List ℕ) (room : TailRoom s a
       pub measures-room : MeasuresRoom s n measures₀
       measures-room = record { ahead = skip .1; long = room .long }
 
-      pub tail-is : (mode : ℕ) → mode ≡ getD s b 0 → (measures : List ℕ) (count : ℕ) → PutMeasures s n measures₀ measures count → TailOf s at measures₀ measures (record { skip = mode; measures = count })
+      pub tail-is : (mode : ℕ) → mode ≡ getD s b 0 → (measures : List ℕ) (count : ℕ) → PutMeasures s n measures₀ measures count
+          → TailOf s at measures₀ measures (record { skip = mode; measures = count })
       tail-is mode em measures count p =
           let y = skipped .1 in
           record {
-            skip = em ∙ sym (field-first s k b m) ∙ ap (λ (x : Record). field s x 0) (sym (ap (firstOfKind 4) (read-more s at r k b m n e q) ∙ this-first s k b m (recordsAt s n) 4 (skip .0)));
+            long = p .long;
+            skip = em ∙ sym (field-first s k b m)
+                ∙ ap (λ (x : Record). field s x 0) (sym (ap (firstOfKind 4) (read-more s at r k b m n e q) ∙ this-first s k b m (recordsAt s n) 4 (skip .0)));
             mode = omega arith;
             is = p .is ∙ sym (ap (measuresFrom s) (read-more s at r k b m n e q) ∙ other-measures s k b m (recordsAt s n) (λ w. let z = skip .0 in omega arith));
             few = p .few;
@@ -172,6 +179,9 @@ module _ (s cells₀ : List ℕ) (offsets₀ numbers₀ : List ℤ) (measures₀
         → Decoded s cells₀ offsets₀ numbers₀ measures₀ cells offsets numbers counts measures (record { columns = h .columns; start = h .start; len = h .len; skip = t .skip; measures = t .measures })
     unfolding parts
     decoded measures t g = record {
+      sized = d .sized;
+      counted = d .counted;
+      long = g .long;
       columns = f .columns;
       some = f .some;
       most = f .most;

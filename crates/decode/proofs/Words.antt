@@ -37,7 +37,8 @@ module _ (b : ℕ) (h : 128 ≤ b) (g : b < 256) where
 
 module _ (w : ℕ) (h : 2147483648 ≤ w) (g : w < 4294967296) where
   word-taken : negsuc 0 -ℤ toZ w32 (4294967295 - w) ≡ negsuc (4294967295 - w)
-  word-taken = ap (λ (z : ℤ). negsuc 0 -ℤ z) (let e : toZ w32 (4294967295 - w) ≡ pos (4294967295 - w) = simp (lt-ltb (4294967295 - w) 2147483648 (omega arith)) in e) ∙ minus (4294967295 - w)
+  word-taken = ap (λ (z : ℤ). negsuc 0 -ℤ z) (let e : toZ w32 (4294967295 - w) ≡ pos (4294967295 - w) = simp (lt-ltb (4294967295 - w) 2147483648 (omega arith)) in e)
+      ∙ minus (4294967295 - w)
 
   word-fits : SFits w32 (negsuc (4294967295 - w))
   word-fits = record { sfits = omega arith }

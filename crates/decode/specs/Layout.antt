@@ -12,7 +12,14 @@ use lib.ListN.{length, getD, take, drop}
 use Rattle.rules.specs.Basics.{tabulate}
 use Rattle.rules.specs.Rows.{Comparison}
 use Rattle.rules.specs.Query.{Measure, functionFits, parts}
+use Rattle.query.specs.Read.{firstAnswer}
 use Rattle.decode.specs.declared.Parts.{Parts}
+
+-- the arrays have room for 26 letters of 8 comparisons
+pub record Sized (cells : List ℕ) (offsets numbers : List ℤ) : Type 0 where
+  pub fours : length cells ≡ 832
+  pub twos : length offsets ≡ 416
+  pub ones : length numbers ≡ 208
 
 -- the comparison with this number, read back
 unfoldable pub cellAt : ℕ → List ℕ → List ℤ → List ℤ → ℕ → Comparison
@@ -66,8 +73,18 @@ measuresIn measures count = tabulate count (measureIn measures)
 abbrev pub Fits : ℕ → Measure → Type 0
 Fits columns m = functionFits columns (m .function) (m .letter) (m .column) ≡ true
 
+-- a query with no answer 1 to 3, and room for its parts
+pub record Room (s cells : List ℕ) (offsets numbers : List ℤ) (measures : List ℕ) : Type 0 where
+  pub clean : firstAnswer s ≡ 0
+  pub sized : Sized cells offsets numbers
+  pub long : length measures ≡ 24
+
 -- What decoding leaves: the numbers of `p` and the arrays are the query's parts, and what they do not need is as it was.
-pub record Decoded (s : List ℕ) (cells₀ : List ℕ) (offsets₀ numbers₀ : List ℤ) (measures₀ : List ℕ) (cells : List ℕ) (offsets numbers : List ℤ) (counts measures : List ℕ) (p : Parts) : Type 0 where
+pub record Decoded (s : List ℕ) (cells₀ : List ℕ) (offsets₀ numbers₀ : List ℤ) (measures₀ : List ℕ)
+    (cells : List ℕ) (offsets numbers : List ℤ) (counts measures : List ℕ) (p : Parts) : Type 0 where
+  pub sized : Sized cells offsets numbers
+  pub counted : length counts ≡ 26
+  pub long : length measures ≡ 24
   pub columns : p .columns ≡ parts s .columns
   pub some : 1 ≤ p .columns
   pub most : p .columns ≤ 8

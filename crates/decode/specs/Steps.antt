@@ -8,8 +8,8 @@ use lib.IntN.{ℤ, pos}
 use lib.ListN.{length, getD, set, take, drop}
 use Rattle.rules.specs.Basics.{pick, every, le32, signed8, signed32}
 use Rattle.rules.specs.Query.{Measure, records, kinds, field, firstOfKind, offsetFits, comparisonFits, recordFits, columnsOf, textOf, comparisonAt, comparisonsFrom, measuresFrom}
-use Rattle.query.specs.Read.{recordsAt, restOf, firstAnswer}
-use Rattle.decode.specs.Layout.{cellAt, Spots, Letter, Untouched, measureIn, measuresIn, Fits}
+use Rattle.query.specs.Read.{recordsAt, restOf}
+use Rattle.decode.specs.Layout.{Sized, cellAt, Spots, Letter, Untouched, measureIn, measuresIn, Fits}
 use Rattle.decode.specs.declared.Measure.{Measure as Three}
 use Rattle.decode.specs.declared.Head.{Head}
 use Rattle.decode.specs.declared.Tail.{Tail}
@@ -40,12 +40,6 @@ setTwo l at a b = set (set l at a) (at + 1) b
 unfoldable pub setThree : List ℕ → ℕ → ℕ → ℕ → ℕ → List ℕ
 setThree l at a b c = set (set (set l at a) (at + 1) b) (at + 2) c
 
--- the arrays have room for 26 letters of 8 comparisons
-pub record Sized (cells : List ℕ) (offsets numbers : List ℤ) : Type 0 where
-  pub fours : length cells ≡ 832
-  pub twos : length offsets ≡ 416
-  pub ones : length numbers ≡ 208
-
 -- the comparison in the 12 bytes from index p on, as number g
 pub record CellRoom (s : List ℕ) (p columns g : ℕ) : Type 0 where
   pub there : p + 12 ≤ length s
@@ -54,7 +48,8 @@ pub record CellRoom (s : List ℕ) (p columns g : ℕ) : Type 0 where
   pub fits : comparisonFits s columns p ≡ true
 
 pub record PutCell (s : List ℕ) (p columns g : ℕ) (cells₀ : List ℕ) (offsets₀ numbers₀ : List ℤ) (cells : List ℕ) (offsets numbers : List ℤ) : Type 0 where
-  pub in-cells : cells ≡ setFour cells₀ (g * 4) (spotOf columns (getD s (p + 1) 0) (getD s p 0)) (spotOf columns (getD s (p + 5) 0) (getD s (p + 4) 0)) (getD s (p + 2) 0) (getD s (p + 3) 0)
+  pub in-cells : cells ≡ setFour cells₀ (g * 4) (spotOf columns (getD s (p + 1) 0) (getD s p 0)) (spotOf columns (getD s (p + 5) 0) (getD s (p + 4) 0))
+      (getD s (p + 2) 0) (getD s (p + 3) 0)
   pub in-offsets : offsets ≡ setTwo offsets₀ (g * 2) (signed8 (getD s (p + 1) 0)) (signed8 (getD s (p + 5) 0))
   pub in-numbers : numbers ≡ set numbers₀ g (signed32 (le32 s (p + 8)))
   pub left-byte : getD s (p + 1) 0 < 256
@@ -92,7 +87,8 @@ pub record DefineRoom (s : List ℕ) (start columns : ℕ) (cells : List ℕ) (o
   pub most : columns ≤ 8
   pub fits : (k : ℕ) → k < getD s (start + 1) 0 → comparisonFits s columns (start + 2 + k * 12) ≡ true
 
-pub record PutDefine (s : List ℕ) (start columns : ℕ) (cells₀ : List ℕ) (offsets₀ numbers₀ : List ℤ) (counts₀ : List ℕ) (cells : List ℕ) (offsets numbers : List ℤ) (counts : List ℕ) : Type 0 where
+pub record PutDefine (s : List ℕ) (start columns : ℕ) (cells₀ : List ℕ) (offsets₀ numbers₀ : List ℤ) (counts₀ : List ℕ)
+    (cells : List ℕ) (offsets numbers : List ℤ) (counts : List ℕ) : Type 0 where
   pub taken : (getD counts₀ (getD s start 0 - 65) 0 ≡ 0 → ⊥) → (cells ≡ cells₀) × (offsets ≡ offsets₀) × (numbers ≡ numbers₀) × (counts ≡ counts₀)
   pub put : getD counts₀ (getD s start 0 - 65) 0 ≡ 0
       → PutCells s (start + 2) (getD s (start + 1) 0) columns ((getD s start 0 - 65) * 8) cells₀ offsets₀ numbers₀ cells offsets numbers
@@ -105,7 +101,10 @@ pub record DefinesRoom (s : List ℕ) (from columns : ℕ) (cells : List ℕ) (o
   pub shape : columns ≡ columnsOf s
   pub most : columns ≤ 8
 
-pub record PutDefines (s : List ℕ) (from columns : ℕ) (cells₀ : List ℕ) (offsets₀ numbers₀ : List ℤ) (cells : List ℕ) (offsets numbers : List ℤ) (counts : List ℕ) (r : ℕ) : Type 0 where
+pub record PutDefines (s : List ℕ) (from columns : ℕ) (cells₀ : List ℕ) (offsets₀ numbers₀ : List ℤ)
+    (cells : List ℕ) (offsets numbers : List ℤ) (counts : List ℕ) (r : ℕ) : Type 0 where
+  pub sized : Sized cells offsets numbers
+  pub counted : length counts ≡ 26
   pub ahead : Ahead s 2 0 r
   pub skip : firstOfKind 4 (recordsAt s r) ≡ firstOfKind 4 (recordsAt s from)
   pub measures : measuresFrom s (recordsAt s r) ≡ measuresFrom s (recordsAt s from)
@@ -122,6 +121,7 @@ pub record MeasuresRoom (s : List ℕ) (from : ℕ) (measures : List ℕ) : Type
   pub long : length measures ≡ 24
 
 pub record PutMeasures (s : List ℕ) (from : ℕ) (measures₀ measures : List ℕ) (r : ℕ) : Type 0 where
+  pub long : length measures ≡ 24
   pub is : measuresIn measures r ≡ measuresFrom s (recordsAt s from)
   pub few : r ≤ 8
   pub fit : (k : ℕ) → k < r → Fits (columnsOf s) (measureIn measures k)
@@ -146,15 +146,10 @@ pub record TailRoom (s : List ℕ) (at : ℕ) (measures : List ℕ) : Type 0 whe
   pub long : length measures ≡ 24
 
 pub record TailOf (s : List ℕ) (at : ℕ) (measures₀ measures : List ℕ) (t : Tail) : Type 0 where
+  pub long : length measures ≡ 24
   pub skip : t .skip ≡ field s (firstOfKind 4 (recordsAt s at)) 0
   pub mode : t .skip ≤ 1
   pub is : measuresIn measures (t .measures) ≡ measuresFrom s (recordsAt s at)
   pub few : t .measures ≤ 8
   pub fit : (k : ℕ) → k < t .measures → Fits (columnsOf s) (measureIn measures k)
   pub rest : (j : ℕ) → t .measures * 3 ≤ j → getD measures j 0 ≡ getD measures₀ j 0
-
--- a query with no answer 1 to 3, and room for its parts
-pub record Room (s cells : List ℕ) (offsets numbers : List ℤ) (measures : List ℕ) : Type 0 where
-  pub clean : firstAnswer s ≡ 0
-  pub sized : Sized cells offsets numbers
-  pub long : length measures ≡ 24

@@ -7,8 +7,9 @@ ghost use lib.ListN.{length, getD};
 ghost use Rattle.rules.specs.Basics.{le32, signed8, signed32};
 ghost use Rattle.rules.specs.Query.{measureAt};
 ghost use Rattle.query.specs.Read.{firstAnswer};
-ghost use Rattle.decode.specs.Layout.{measureIn, Decoded};
-ghost use Rattle.decode.specs.Steps.{Room, HeadOf, TailRoom, TailOf, MeasuresRoom, spotOf, SpotFits, setThree, CellRoom, PutCell, CellsRoom, PutCells, DefineRoom, PutDefine, DefinesRoom, PutDefines, measureOf, PutMeasures};
+ghost use Rattle.decode.specs.Layout.{measureIn, Room, Decoded};
+ghost use Rattle.decode.specs.Steps.{HeadOf, TailRoom, TailOf, MeasuresRoom, spotOf, SpotFits, setThree, CellRoom, PutCell, CellsRoom, PutCells};
+ghost use Rattle.decode.specs.Steps.{DefineRoom, PutDefine, DefinesRoom, PutDefines, measureOf, PutMeasures};
 
 // A measure of the query: the number of its function, the letter of its rows or 0 for all rows, and its column.
 pub struct Measure {
@@ -125,7 +126,9 @@ fn put_cell(
     g: usize,
 )
     requires { ⌜ CellRoom (now s) p columns g ⌝ }
-    ensures { λ r. ⌜ PutCell (now (s .entry)) p columns g (now (cells .entry)) (now (offsets .entry)) (now (numbers .entry)) (now (cells .exit)) (now (offsets .exit)) (now (numbers .exit)) ⌝ }
+    ensures { λ r. ⌜ PutCell (now (s .entry)) p columns g
+        (now (cells .entry)) (now (offsets .entry)) (now (numbers .entry))
+        (now (cells .exit)) (now (offsets .exit)) (now (numbers .exit)) ⌝ }
 {
     let at = g * 4;
     cells[at] = spot(columns, byte(s, p + 1), byte(s, p));
@@ -149,7 +152,9 @@ fn put_cells(
     g: usize,
 )
     requires { ⌜ CellsRoom (now s) p count columns g (now cells) (now offsets) (now numbers) ⌝ }
-    ensures { λ r. ⌜ PutCells (now (s .entry)) p count columns g (now (cells .entry)) (now (offsets .entry)) (now (numbers .entry)) (now (cells .exit)) (now (offsets .exit)) (now (numbers .exit)) ⌝ }
+    ensures { λ r. ⌜ PutCells (now (s .entry)) p count columns g
+        (now (cells .entry)) (now (offsets .entry)) (now (numbers .entry))
+        (now (cells .exit)) (now (offsets .exit)) (now (numbers .exit)) ⌝ }
 {
     let mut k = 0;
     while k < count {
@@ -169,7 +174,9 @@ fn put_define(
     counts: &mut [u8; 26],
 )
     requires { ⌜ DefineRoom (now s) start columns (now cells) (now offsets) (now numbers) ⌝ }
-    ensures { λ r. ⌜ PutDefine (now (s .entry)) start columns (now (cells .entry)) (now (offsets .entry)) (now (numbers .entry)) (now (counts .entry)) (now (cells .exit)) (now (offsets .exit)) (now (numbers .exit)) (now (counts .exit)) ⌝ }
+    ensures { λ r. ⌜ PutDefine (now (s .entry)) start columns
+        (now (cells .entry)) (now (offsets .entry)) (now (numbers .entry)) (now (counts .entry))
+        (now (cells .exit)) (now (offsets .exit)) (now (numbers .exit)) (now (counts .exit)) ⌝ }
 {
     let l = byte(s, start) - 65;
     if counts[l] != 0 {
@@ -199,7 +206,9 @@ fn put_defines(
     counts: &mut [u8; 26],
 ) -> usize
     requires { ⌜ DefinesRoom (now s) from columns (now cells) (now offsets) (now numbers) ⌝ }
-    ensures { λ r. ⌜ PutDefines (now (s .entry)) from columns (now (cells .entry)) (now (offsets .entry)) (now (numbers .entry)) (now (cells .exit)) (now (offsets .exit)) (now (numbers .exit)) (now (counts .exit)) r ⌝ }
+    ensures { λ r. ⌜ PutDefines (now (s .entry)) from columns
+        (now (cells .entry)) (now (offsets .entry)) (now (numbers .entry))
+        (now (cells .exit)) (now (offsets .exit)) (now (numbers .exit)) (now (counts .exit)) r ⌝ }
 {
     *counts = [0u8; 26];
     let mut at = from;
@@ -364,7 +373,9 @@ pub fn decode(
     measures: &mut [u8; 24],
 ) -> Parts
     requires { ⌜ Room (now s) (now cells) (now offsets) (now numbers) (now measures) ⌝ }
-    ensures { λ r. ⌜ Decoded (now (s .entry)) (now (cells .entry)) (now (offsets .entry)) (now (numbers .entry)) (now (measures .entry)) (now (cells .exit)) (now (offsets .exit)) (now (numbers .exit)) (now (counts .exit)) (now (measures .exit)) r ⌝ }
+    ensures { λ r. ⌜ Decoded (now (s .entry))
+        (now (cells .entry)) (now (offsets .entry)) (now (numbers .entry)) (now (measures .entry))
+        (now (cells .exit)) (now (offsets .exit)) (now (numbers .exit)) (now (counts .exit)) (now (measures .exit)) r ⌝ }
 {
     let h = read_head(s);
     let columns = h.columns;

@@ -64,7 +64,8 @@ module _ (row n : ℕ) (o : ℤ) (h : row < n) (m : n ≤ 4096) (f : SFits w8 o)
 
   pub there-is : ltZ (toZ w64 (ofZ w64 (toZ w64 row +ℤ byte-held o))) (toZ w64 0) ≡ false → ltZ (toZ w64 (ofZ w64 (toZ w64 row +ℤ byte-held o))) (toZ w64 n) ≡ there n (pos row +ℤ o)
   there-is e =
-      ap (λ (z : ℤ). ltZ z (toZ w64 n)) to-is ∙ ap (λ (z : ℤ). ltZ (pos row +ℤ o) z) (index-is n (omega arith)) ∙ not-before (pos row +ℤ o) (ap (λ (z : ℤ). ltZ z (toZ w64 0)) (sym to-is) ∙ e)
+      ap (λ (z : ℤ). ltZ z (toZ w64 n)) to-is ∙ ap (λ (z : ℤ). ltZ (pos row +ℤ o) z) (index-is n (omega arith))
+      ∙ not-before (pos row +ℤ o) (ap (λ (z : ℤ). ltZ z (toZ w64 0)) (sym to-is) ∙ e)
 
 -- ---- the entry at a spot
 
@@ -96,7 +97,8 @@ module _ (rows : List ℤ) (columns n row base : ℕ) (h : At rows columns n row
       apart : row + spot / columns ≡ 64 + k
       apart =
           let z : pos (row + spot / columns) ≡ pos (64 + k) =
-          ap (λ (u : ℤ). pos row +ℤ u) s ∙ sym (+ℤ-assoc (pos row) (pos 64) offset) ∙ ap (λ (u : ℤ). u +ℤ offset) (+ℤ-comm (pos row) (pos 64)) ∙ +ℤ-assoc (pos 64) (pos row) offset ∙ ap (λ (u : ℤ). pos 64 +ℤ u) e in
+          ap (λ (u : ℤ). pos row +ℤ u) s ∙ sym (+ℤ-assoc (pos row) (pos 64) offset) ∙ ap (λ (u : ℤ). u +ℤ offset) (+ℤ-comm (pos row) (pos 64))
+          ∙ +ℤ-assoc (pos 64) (pos row) offset ∙ ap (λ (u : ℤ). pos 64 +ℤ u) e in
           cc
 
       index : base + spot ≡ 64 * columns + (k * columns + column)

@@ -55,7 +55,8 @@ module _ (rows : List ℤ) (columns n row base operator : ℕ) (a : ℤ) (kind s
     pub met-inside : not t ≡ false → EntryThere rows columns base spot
     met-inside q = spot-inside rows columns n row base (room .at) spot offset (room .spot-for) (is-there n row offset f t e ∙ not-false t q) (room .short)
 
-    pub met-column : (b u : ℤ) (r : Bool) → SFits w64 a → SFits w32 number → kind ≡ 1 → not t ≡ false → b ≡ getD rows (base + spot - columns * 64) (pos 0) → mag b < 2147483648 → u ≡ held b +ℤ held32 number
+    pub met-column : (b u : ℤ) (r : Bool) → SFits w64 a → SFits w32 number → kind ≡ 1 → not t ≡ false → b ≡ getD rows (base + spot - columns * 64) (pos 0) → mag b < 2147483648
+        → u ≡ held b +ℤ held32 number
         → r ≡ compares operator (held a) (held u) → r ≡ rightMet (tableOf columns rows) row operator a kind spot offset number
     unfolding rightMet metBy plusNumber tableOf
     met-column b u r fa fn h q eb g eu er =
@@ -82,7 +83,8 @@ module _ (cells : List ℕ) (offsets numbers : List ℤ) (g : ℕ) (rows : List 
           rw ex (spot-inside rows columns n row base (room .at) (getD cells (g * 4) 0) (getD offsets (g * 2) (pos 0)) (room .spots .left) (is-there n row (getD offsets (g * 2) (pos 0)) f t e ∙ not-false t q)
           (let y : getD cells (g * 4) 0 < 65536 = omega arith in y))
 
-      pub cell-is : (a : ℤ) (y u v : ℕ) (r : Bool) → SFits w8 (getD offsets (g * 2 + 1) (pos 0)) → SFits w32 (getD numbers g (pos 0)) → a ≡ getD rows (base + x - columns * 64) (pos 0) → mag a < 2147483648
+      pub cell-is : (a : ℤ) (y u v : ℕ) (r : Bool) → SFits w8 (getD offsets (g * 2 + 1) (pos 0)) → SFits w32 (getD numbers g (pos 0))
+          → a ≡ getD rows (base + x - columns * 64) (pos 0) → mag a < 2147483648
           → u ≡ getD cells (g * 4 + 2) 0 → v ≡ getD cells (g * 4 + 3) 0 → y ≡ getD cells (g * 4 + 1) 0
           → r ≡ rightMet (tableOf columns rows) row u (held a) v y (held8 (getD offsets (g * 2 + 1) (pos 0))) (held32 (getD numbers g (pos 0)))
           → r ≡ met (tableOf columns rows) row (cellAt columns cells offsets numbers g)
@@ -93,7 +95,8 @@ module _ (cells : List ℕ) (offsets numbers : List ℤ) (g : ℕ) (rows : List 
           er
           ∙ rw (aa, toZ-ofZ f1, toZ-ofZ fn, eu, ev, ey) (rw z refl)
 
-  pub cell-right : (y : ℕ) → SFits w8 (getD offsets (g * 2 + 1) (pos 0)) → y ≡ getD cells (g * 4 + 1) 0 → y < 65536 → RightRoom rows columns n row base y (held8 (getD offsets (g * 2 + 1) (pos 0)))
+  pub cell-right : (y : ℕ) → SFits w8 (getD offsets (g * 2 + 1) (pos 0)) → y ≡ getD cells (g * 4 + 1) 0 → y < 65536
+      → RightRoom rows columns n row base y (held8 (getD offsets (g * 2 + 1) (pos 0)))
   cell-right y f ey w = record { at = room .at; short = w; spot-for = rw (toZ-ofZ f, ey) (room .spots .right) }
 
 -- ---- a letter: the loop over its comparisons
@@ -129,14 +132,16 @@ module _ (t : Table) (row columns : ℕ) (cells : List ℕ) (offsets numbers : L
   next-one k = one-more (met t row) (λ i. cellAt columns cells offsets numbers (g + i)) k
 
   module _ (k : ℕ) (h : Holding t row columns cells offsets numbers g count k) where
-    pub holding-more : (r : Bool) → k < count → r ≡ met t row (cellAt columns cells offsets numbers (g + k)) → not r ≡ false → Holding t row columns cells offsets numbers g count (k + 1)
+    pub holding-more : (r : Bool) → k < count → r ≡ met t row (cellAt columns cells offsets numbers (g + k)) → not r ≡ false
+        → Holding t row columns cells offsets numbers g count (k + 1)
     holding-more r l e u = record {
       upto = omega arith;
       is = ap (λ (i : ℕ). holds t row (cellsFrom columns cells offsets numbers g i)) (add-one k) ∙ next-one k
           ∙ ap (λ (x : Bool). x && met t row (cellAt columns cells offsets numbers (g + k))) (h .is) ∙ sym e ∙ not-false r u;
     }
 
-    stop : (r : Bool) → k < count → r ≡ met t row (cellAt columns cells offsets numbers (g + k)) → not r ≡ true → false ≡ holds t row (cellsFrom columns cells offsets numbers g count)
+    stop : (r : Bool) → k < count → r ≡ met t row (cellAt columns cells offsets numbers (g + k)) → not r ≡ true
+        → false ≡ holds t row (cellsFrom columns cells offsets numbers g count)
     unfolding holds cellsFrom
     stop r l e u =
         let m : every (met t row) (tabulate (suc k) (λ i. cellAt columns cells offsets numbers (g + i))) ≡ false =
@@ -144,7 +149,8 @@ module _ (t : Table) (row columns : ℕ) (cells : List ℕ) (offsets numbers : L
         sym (ap (λ (i : ℕ). every (met t row) (tabulate i (λ j. cellAt columns cells offsets numbers (g + j)))) (let q : count ≡ (count - suc k) + suc k = omega arith in q)
         ∙ stays (met t row) (λ i. cellAt columns cells offsets numbers (g + i)) (count - suc k) (suc k) m)
 
-    pub holding-stop : (r : Bool) (all : ℕ) → k < count → r ≡ met t row (cellAt columns cells offsets numbers (g + k)) → not r ≡ true → count ≡ all → false ≡ holds t row (cellsFrom columns cells offsets numbers g all)
+    pub holding-stop : (r : Bool) (all : ℕ) → k < count → r ≡ met t row (cellAt columns cells offsets numbers (g + k)) → not r ≡ true → count ≡ all
+        → false ≡ holds t row (cellsFrom columns cells offsets numbers g all)
     holding-stop r all l e u q = stop r l e u ∙ ap (λ (i : ℕ). holds t row (cellsFrom columns cells offsets numbers g i)) q
 
     pub holding-all : (all : ℕ) → count ≤ k → count ≡ all → true ≡ holds t row (cellsFrom columns cells offsets numbers g all)

@@ -179,7 +179,8 @@ pub fn letter_holds(
     base: usize,
 ) -> bool
     requires { ⌜ LetterRoom (now cells) (now offsets) (now counts) l (now rows) columns n row base ⌝ }
-    ensures { λ r. ⌜ r ≡ holds (tableOf columns (now (rows .entry))) row (cellsFrom columns (now (cells .entry)) (now (offsets .entry)) (now (numbers .entry)) (l * 8) (getD (now (counts .entry)) l 0)) ⌝ }
+    ensures { λ r. ⌜ r ≡ holds (tableOf columns (now (rows .entry))) row
+        (cellsFrom columns (now (cells .entry)) (now (offsets .entry)) (now (numbers .entry)) (l * 8) (getD (now (counts .entry)) l 0)) ⌝ }
 {
     let count = byte(counts[l]);
     let g = l * 8;

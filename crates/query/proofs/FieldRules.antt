@@ -42,7 +42,8 @@ module _ (s : List ℕ) (b l : ℕ) where
 
   pub shape-is : (x y : ℕ) (t u r : Bool) → l ≡ 2 → x ≡ getD s b 0 → y ≡ getD s (b + 1) 0 → t ≡ inRange 1 8 x → u ≡ eqb y 0 → r ≡ (t && u) → r ≡ shapeFits s (recordOf 1 b l)
   unfolding shapeFits field
-  shape-is x y t u r h ex ey et eu er = simp (eq-eqb l 2 h) (er ∙ ap (λ (v : Bool). v && u) (et ∙ ap (inRange 1 8) (ex ∙ sym (field-first s 1 b l))) ∙ ap (λ (v : Bool). inRange 1 8 (field s (recordOf 1 b l) 0) && v) (eu ∙ ap (λ (v : ℕ). eqb v 0) ey))
+  shape-is x y t u r h ex ey et eu er = simp (eq-eqb l 2 h) (er ∙ ap (λ (v : Bool). v && u) (et ∙ ap (inRange 1 8) (ex ∙ sym (field-first s 1 b l)))
+      ∙ ap (λ (v : Bool). inRange 1 8 (field s (recordOf 1 b l) 0) && v) (eu ∙ ap (λ (v : ℕ). eqb v 0) ey))
 
   pub skip-long : (l ≡ 2 → ⊥) → false ≡ skipFits s (recordOf 4 b l)
   unfolding skipFits
@@ -50,7 +51,8 @@ module _ (s : List ℕ) (b l : ℕ) where
 
   pub skip-is : (x y : ℕ) (t u r : Bool) → l ≡ 2 → x ≡ getD s b 0 → y ≡ getD s (b + 1) 0 → t ≡ leb x 1 → u ≡ eqb y 0 → r ≡ (t && u) → r ≡ skipFits s (recordOf 4 b l)
   unfolding skipFits field
-  skip-is x y t u r h ex ey et eu er = simp (eq-eqb l 2 h) (er ∙ ap (λ (v : Bool). v && u) (et ∙ ap (λ (v : ℕ). leb v 1) (ex ∙ sym (field-first s 4 b l))) ∙ ap (λ (v : Bool). leb (field s (recordOf 4 b l) 0) 1 && v) (eu ∙ ap (λ (v : ℕ). eqb v 0) ey))
+  skip-is x y t u r h ex ey et eu er = simp (eq-eqb l 2 h) (er ∙ ap (λ (v : Bool). v && u) (et ∙ ap (λ (v : ℕ). leb v 1) (ex ∙ sym (field-first s 4 b l)))
+      ∙ ap (λ (v : Bool). leb (field s (recordOf 4 b l) 0) 1 && v) (eu ∙ ap (λ (v : ℕ). eqb v 0) ey))
 
 module _ (s : List ℕ) (columns b l : ℕ) where
   pub define-short : l < 2 → false ≡ defineFits s columns (recordOf 3 b l)
@@ -61,11 +63,13 @@ module _ (s : List ℕ) (columns b l : ℕ) where
   unfolding defineFits field
   define-long x ex h = let g : getD s (b + 1) 0 ≡ x = sym ex in simp (ne-eqb l (2 + getD s (b + 1) 0 * 12) (λ e. h (rw (← g) e)))
 
-  pub define-is : (x y : ℕ) (t u v w r : Bool) → x ≡ getD s (b + 1) 0 → l ≡ 2 + x * 12 → y ≡ getD s b 0 → t ≡ inRange 65 90 y → u ≡ inRange 1 8 x → v ≡ everyBelow x (fitsAt s columns (b + 2)) → w ≡ (u && v) → r ≡ (t && w) → r ≡ defineFits s columns (recordOf 3 b l)
+  pub define-is : (x y : ℕ) (t u v w r : Bool) → x ≡ getD s (b + 1) 0 → l ≡ 2 + x * 12 → y ≡ getD s b 0 → t ≡ inRange 65 90 y → u ≡ inRange 1 8 x
+      → v ≡ everyBelow x (fitsAt s columns (b + 2)) → w ≡ (u && v) → r ≡ (t && w) → r ≡ defineFits s columns (recordOf 3 b l)
   unfolding defineFits field isLetter fitsAt
   define-is x y t u v w r ex el ey et eu ev ew er =
       er ∙ ap (λ (z : Bool). z && w) (et ∙ ap (inRange 65 90) (ey ∙ sym (field-first s 3 b l)))
-      ∙ ap (λ (z : Bool). inRange 65 90 (field s (recordOf 3 b l) 0) && z) (ew ∙ ap (λ (z : Bool). z && v) (eu ∙ ap (inRange 1 8) ex) ∙ ap (λ (z : Bool). inRange 1 8 (getD s (b + 1) 0) && z) (ev ∙ ap (λ (z : ℕ). everyBelow z (fitsAt s columns (b + 2))) ex))
+      ∙ ap (λ (z : Bool). inRange 65 90 (field s (recordOf 3 b l) 0) && z) (ew ∙ ap (λ (z : Bool). z && v) (eu ∙ ap (inRange 1 8) ex)
+      ∙ ap (λ (z : Bool). inRange 1 8 (getD s (b + 1) 0) && z) (ev ∙ ap (λ (z : ℕ). everyBelow z (fitsAt s columns (b + 2))) ex))
       ∙ sym (ap (λ (z : Bool). z && (inRange 65 90 (field s (recordOf 3 b l) 0) && (inRange 1 8 (getD s (b + 1) 0) && everyBelow (getD s (b + 1) 0) (fitsAt s columns (b + 2))))) (eq-eqb l (2 + getD s (b + 1) 0 * 12) (el ∙ ap (λ (z : ℕ). 2 + z * 12) ex)))
 
   pub measure-long : (l ≡ 4 → ⊥) → false ≡ measureFits s columns (recordOf 5 b l)
@@ -88,7 +92,11 @@ module _ (f : ℕ → Bool) where
   one-more k = refl
 
   pub below-more : (n k : ℕ) (r : Bool) → Below f n k → k < n → r ≡ f k → r ≡ true → Below f n (k + 1)
-  below-more n k r h l e t = record { upto = omega arith; is = ap (λ (i : ℕ). everyBelow i f) (native.Mathlib.Numerals.add-one k) ∙ one-more k ∙ ap (λ (u : Bool). u && f k) (h .is) ∙ sym e ∙ t }
+  below-more n k r h l e t = record {
+    upto = omega arith;
+    is = ap (λ (i : ℕ). everyBelow i f) (native.Mathlib.Numerals.add-one k) ∙ one-more k
+        ∙ ap (λ (u : Bool). u && f k) (h .is) ∙ sym e ∙ t;
+  }
 
   stays : (d k : ℕ) → everyBelow k f ≡ false → everyBelow (d + k) f ≡ false
   stays zero k e = ap (λ (i : ℕ). everyBelow i f) (let q : 0 + k ≡ k = omega arith in q) ∙ e
@@ -149,25 +157,32 @@ module _ (columns kind column offset : ℕ) where
   unfolding rightFits
   right-constant t u r h er et eu = simp (eq-eqb kind 0 h) (let z : r ≡ (eqb column 0 && eqb offset 0) = cc in z)
 
-  pub right-column : (t u v w r : Bool) → (kind ≡ 0 → ⊥) → r ≡ (t && w) → t ≡ eqb kind 1 → w ≡ (u && v) → u ≡ ltb column columns → v ≡ offsetFits offset → r ≡ rightFits columns kind column offset
+  pub right-column : (t u v w r : Bool) → (kind ≡ 0 → ⊥) → r ≡ (t && w) → t ≡ eqb kind 1 → w ≡ (u && v) → u ≡ ltb column columns → v ≡ offsetFits offset
+      → r ≡ rightFits columns kind column offset
   unfolding rightFits
   right-column t u v w r h er et ew eu ev = simp (ne-eqb kind 0 h) (let z : r ≡ (eqb kind 1 && (ltb column columns && offsetFits offset)) = cc in z)
 
-pub left-is : (columns column offset operator : ℕ) (t u v w r : Bool) → r ≡ (t && w) → t ≡ ltb column columns → w ≡ (u && v) → u ≡ offsetFits offset → v ≡ inRange 1 6 operator → r ≡ leftFits columns column offset operator
+pub left-is : (columns column offset operator : ℕ) (t u v w r : Bool) → r ≡ (t && w) → t ≡ ltb column columns → w ≡ (u && v) → u ≡ offsetFits offset → v ≡ inRange 1 6 operator
+    → r ≡ leftFits columns column offset operator
 unfolding leftFits
 left-is columns column offset operator t u v w r er et ew eu ev = cc
 
-pub comparison-is : (s : List ℕ) (columns p : ℕ) (t u v v' w w' r : Bool) (x0 x1 x2 x3 x4 x5 x6 x7 : ℕ) → r ≡ (t && w) → t ≡ leftFits columns x0 x1 x2 → w ≡ (u && w') → u ≡ rightFits columns x3 x4 x5 → w' ≡ (v && v') → v ≡ eqb x6 0 → v' ≡ eqb x7 0
-    → x0 ≡ getD s p 0 → x1 ≡ getD s (p + 1) 0 → x2 ≡ getD s (p + 2) 0 → x3 ≡ getD s (p + 3) 0 → x4 ≡ getD s (p + 4) 0 → x5 ≡ getD s (p + 5) 0 → x6 ≡ getD s (p + 6) 0 → x7 ≡ getD s (p + 7) 0 → r ≡ comparisonFits s columns p
+pub comparison-is : (s : List ℕ) (columns p : ℕ) (t u v v' w w' r : Bool) (x0 x1 x2 x3 x4 x5 x6 x7 : ℕ) → r ≡ (t && w) → t ≡ leftFits columns x0 x1 x2 → w ≡ (u && w')
+    → u ≡ rightFits columns x3 x4 x5 → w' ≡ (v && v') → v ≡ eqb x6 0 → v' ≡ eqb x7 0
+    → x0 ≡ getD s p 0 → x1 ≡ getD s (p + 1) 0 → x2 ≡ getD s (p + 2) 0 → x3 ≡ getD s (p + 3) 0 → x4 ≡ getD s (p + 4) 0 → x5 ≡ getD s (p + 5) 0 → x6 ≡ getD s (p + 6) 0
+    → x7 ≡ getD s (p + 7) 0 → r ≡ comparisonFits s columns p
 unfolding comparisonFits
 comparison-is s columns p t u v v' w w' r x0 x1 x2 x3 x4 x5 x6 x7 e0 e1 e2 e3 e4 e5 e6 f0 f1 f2 f3 f4 f5 f6 f7 =
     rw (← f0, ← f1, ← f2, ← f3, ← f4, ← f5, ← f6, ← f7) (rw (← e6, ← e5, ← e4, ← e3, ← e2, ← e1) e0)
 
-pub function-is : (columns function letter column : ℕ) (a b b0 b1 c d d0 d1 d2 u v r : Bool) → r ≡ (a && u) → a ≡ inRange 1 6 function → u ≡ (b && v) → b ≡ (b0 || b1) → b0 ≡ eqb letter 0 → b1 ≡ inRange 65 90 letter → v ≡ (c && d) → c ≡ ltb column columns → d ≡ (d1 || d2) → d1 ≡ not d0 → d0 ≡ eqb function 1 → d2 ≡ eqb column 0 → r ≡ functionFits columns function letter column
+pub function-is : (columns function letter column : ℕ) (a b b0 b1 c d d0 d1 d2 u v r : Bool) → r ≡ (a && u) → a ≡ inRange 1 6 function → u ≡ (b && v) → b ≡ (b0 || b1)
+    → b0 ≡ eqb letter 0 → b1 ≡ inRange 65 90 letter → v ≡ (c && d) → c ≡ ltb column columns → d ≡ (d1 || d2) → d1 ≡ not d0 → d0 ≡ eqb function 1 → d2 ≡ eqb column 0
+    → r ≡ functionFits columns function letter column
 unfolding functionFits isLetter
 function-is columns function letter column a b b0 b1 c d d0 d1 d2 u v r e0 e1 e2 e3 e4 e5 e6 e7 e8 e9 e10 e11 = rw (← e10, ← e11, ← e9, ← e8, ← e7, ← e6, ← e5, ← e4, ← e3, ← e2, ← e1) e0
 
-pub measure-is : (s : List ℕ) (columns b l : ℕ) (t u r : Bool) (x0 x1 x2 x3 : ℕ) → l ≡ 4 → r ≡ (t && u) → t ≡ functionFits columns x0 x1 x2 → u ≡ eqb x3 0 → x0 ≡ getD s b 0 → x1 ≡ getD s (b + 1) 0 → x2 ≡ getD s (b + 2) 0 → x3 ≡ getD s (b + 3) 0 → r ≡ measureFits s columns (recordOf 5 b l)
+pub measure-is : (s : List ℕ) (columns b l : ℕ) (t u r : Bool) (x0 x1 x2 x3 : ℕ) → l ≡ 4 → r ≡ (t && u) → t ≡ functionFits columns x0 x1 x2 → u ≡ eqb x3 0 → x0 ≡ getD s b 0
+    → x1 ≡ getD s (b + 1) 0 → x2 ≡ getD s (b + 2) 0 → x3 ≡ getD s (b + 3) 0 → r ≡ measureFits s columns (recordOf 5 b l)
 unfolding measureFits field
 measure-is s columns b l t u r x0 x1 x2 x3 h e0 e1 e2 f0 f1 f2 f3 =
     let g : getD s (b + 0) 0 ≡ getD s b 0 = field-first s 5 b l in

@@ -167,7 +167,8 @@ module _ (s : List ℕ) where
     columns-known : (c : ℕ) → c ≡ pick (eqb a 0) (getD s b 0) columns → a < 4 → (a ≡ 0 → k ≡ 1) → c ≡ columnsOf s
     columns-known c ec g f =
         decided (eqb a 0)
-        (λ t. let z = eqb-true a 0 t in ec ∙ ap (λ (u : Bool). pick u (getD s b 0) columns) t ∙ sym (columns-at s k b m (recordsAt s n) (f z) (sym (read-more s at r k b m n e q) ∙ h .first z)))
+        (λ t. let z = eqb-true a 0 t in ec ∙ ap (λ (u : Bool). pick u (getD s b 0) columns) t
+        ∙ sym (columns-at s k b m (recordsAt s n) (f z) (sym (read-more s at r k b m n e q) ∙ h .first z)))
         (λ t. let z = eqb-false a 0 t in ec ∙ ap (λ (u : Bool). pick u (getD s b 0) columns) t ∙ h .shape (let y : 0 < a = omega arith in y) g)
 
     fits-on : (c : ℕ) (v : Bool) → v ≡ (fit && recordFits s c (recordOf k b m)) → c ≡ columnsOf s → a < 4

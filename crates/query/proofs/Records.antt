@@ -51,7 +51,8 @@ module _ (s : List ℕ) where
   records-enough (suc k) zero at h g = decided (wholeAt s at) (λ e. absurd (let w = within s at e in omega arith)) (λ e. records-no (suc k) at e ∙ sym (records-no zero at e))
   records-enough (suc k) (suc m) at h g =
       decided (wholeAt s at)
-      (λ e. let w = within s at e in records-yes k at e ∙ ap (λ (l : List Record). recordAt s at ∷ l) (records-enough k m (nextAt s at) (omega arith) (omega arith)) ∙ sym (records-yes m at e))
+      (λ e. let w = within s at e in records-yes k at e ∙ ap (λ (l : List Record). recordAt s at ∷ l) (records-enough k m (nextAt s at) (omega arith) (omega arith))
+      ∙ sym (records-yes m at e))
       (λ e. records-no (suc k) at e ∙ sym (records-no (suc m) at e))
 
   behind-yes : (k at : ℕ) → wholeAt s at ≡ true → behindFrom (suc k) s at ≡ behindFrom k s (nextAt s at)

@@ -29,7 +29,7 @@ use Rattle.judge.specs.Judged.{textTests, textAnswer, Judging}
 use Rattle.room.specs.declared.Query.{Query}
 use Rattle.room.specs.declared.Size.{Size}
 use Rattle.decode.specs.Layout.{measureIn, measuresIn, Fits, Decoded}
-use Rattle.decode.specs.Steps.{Room}
+use Rattle.decode.specs.Layout.{Room}
 use Rattle.room.specs.Reading.{knownIn, foreignIn, queryAnswer, refusal, JudgeRoom, JudgedParts, Space, Whole, Asked, asRoom}
 
 -- ---- letters

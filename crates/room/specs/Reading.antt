@@ -16,7 +16,7 @@ use Rattle.rules.specs.Answers as A
 use Rattle.rules.specs.Answers.{lowest, queryTests, treeIn, P}
 use Rattle.pattern.specs.Held.{Top}
 use Rattle.decode.specs.Layout.{measureIn, measuresIn, Fits, Decoded}
-use Rattle.decode.specs.Steps.{Sized}
+use Rattle.decode.specs.Layout.{Sized}
 use Rattle.decode.specs.declared.Parts.{Parts}
 use Rattle.room.specs.declared.Query.{Query}
 use Rattle.room.specs.declared.Size.{Size}

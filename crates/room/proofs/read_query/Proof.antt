@@ -1,5 +1,5 @@
 use borrow.Author.Needs.{needs}
-use Rattle.decode.specs.Steps.{Room}
+use Rattle.decode.specs.Layout.{Room}
 use Rattle.room.proofs.Laws.{first-answers, may-decode, may-judge, all-answers}
 use Rattle.room.proofs.read_query.Statement.{statement}
 use Rattle.room.proofs.read_query.Tie as tie

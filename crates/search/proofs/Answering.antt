@@ -1,0 +1,226 @@
+-- The search's answers: one law for each way through `search`. The answer is the lowest of the rules' thirteen tests.
+use mathlib.Core.Path.{_≡_, refl, ap, ap₂, sym, _∙_}
+use mathlib.Core.Bool.{Bool, true, false, not, _&&_, _||_, true≢false}
+use mathlib.Core.List.{List, [], _∷_, _++_}
+use mathlib.Core.Option.{Option, none, some}
+use Prim.Native.Nat.{ℕ, zero, suc, _+_, _-_, _*_, _/_, _%_, _≤_, _<_}
+use native.Mathlib.Nat.{mul-le-mul, div-add-mod'}
+use native.Mathlib.Numerals.{add-one}
+use native.Mathlib.Omega.{arith}
+use lib.Dec.{eqb, leb, ltb}
+use lib.IntN.{ℤ}
+use lib.ListN.{length, getD}
+use borrow.Author.Tests.{lt-ltb, le-ltb, le-leb, ltb-false, ne-eqb, eq-eqb}
+use Rattle.rules.specs.Basics.{pick, inRange}
+use Rattle.rules.specs.Rows.{tableOf}
+use Rattle.rules.specs.Query.{cut, misplaced, unfit, doubled, columnsOf, parts}
+use Rattle.rules.specs.Language.{Tree, pattern, emptyLoop}
+use Rattle.rules.specs.Places.{placesOf}
+use Rattle.rules.specs.Walk.{pairs}
+use Rattle.rules.specs.Report.{bytesFor}
+use Rattle.rules.specs.Answers.{tooDeep, treeIn, noTree, hasEmptyLoop, P, tooMany, foreign, badRows, Buffers, Memory, taskOf, pairsOf, shortNotes, shortTrail, stopped, lowest, queryTests, answerBy, answerOf, walkOf, walkReport, reportOf, refused, accepted, searchOf}
+use Rattle.rules.proofs.Demands.{demands}
+use Rattle.room.specs.Reading.{queryAnswer, GoodParts, Whole, Asked}
+use Rattle.room.specs.declared.Query.{Query}
+use Rattle.search.specs.declared.Outcome.{Outcome}
+use Rattle.search.specs.Promise.{lent, memory, refusal, ended, Promised, Walks}
+
+-- ---- the lowest of tests
+
+lowest-after : (k : ℕ) (bs cs : List Bool) → 1 ≤ k → lowest k bs ≡ 0 → lowest k (bs ++ cs) ≡ lowest (k + length bs) cs
+unfolding lowest
+lowest-after k [] cs h e = let q : k + 0 ≡ k = omega arith in rw q
+lowest-after k (true ∷ bs) cs h e = absurd (omega arith)
+lowest-after k (false ∷ bs) cs h e = let q : k + suc (length bs) ≡ suc k + length bs = omega arith in rw q (lowest-after (suc k) bs cs (omega arith) e)
+
+lowest-before : (k : ℕ) (bs cs : List Bool) → (lowest k bs ≡ 0 → ⊥) → lowest k (bs ++ cs) ≡ lowest k bs
+unfolding lowest
+lowest-before k [] cs d = absurd (d refl)
+lowest-before k (true ∷ bs) cs d = refl
+lowest-before k (false ∷ bs) cs d = lowest-before (suc k) bs cs d
+
+lowest-range : (k : ℕ) (bs : List Bool) → (lowest k bs ≡ 0 → ⊥) → (k ≤ lowest k bs) × (lowest k bs < k + length bs)
+unfolding lowest
+lowest-range k [] d = absurd (d refl)
+lowest-range k (true ∷ bs) d = (omega arith, omega arith)
+lowest-range k (false ∷ bs) d = let r = lowest-range (suc k) bs d in (omega (arith, r .0), omega (arith, r .1))
+
+-- neither 0 nor 13 is a refusal
+outside : (b : Bool) → inRange 1 12 (pick b 13 0) ≡ false
+unfolding inRange
+outside true = refl
+outside false = refl
+
+module _ (q : List ℕ) (rows : List ℤ) (notes trail : List ℕ) (numbers : List ℤ) (labels : List ℕ) where
+  abbrev before : Buffers
+  before = lent notes trail numbers labels
+
+  -- a number that is the answer, 1 to 12, is given with zeros, and nothing is changed
+  refuse : (n : ℕ) → answerOf q rows before ≡ n → 1 ≤ n → n ≤ 12 → (r : Outcome) → r ≡ refusal n → Promised q rows before (memory r notes trail numbers labels)
+  unfolding searchOf refused inRange
+  refuse n e lo hi r b =
+      let t : inRange 1 12 n ≡ true = rw (le-leb 1 n lo, le-leb n 12 hi) in
+      record { whole = rw (b, e, t); demands = λ z. absurd (true≢false (sym t ∙ ap (inRange 1 12) (sym e) ∙ z)) }
+
+  abbrev rest : List Bool
+  rest = badRows q rows ∷ shortNotes q rows before ∷ shortTrail q rows before ∷ stopped (walkOf q rows before) ∷ []
+
+  the-answer-before : (queryAnswer q ≡ 0 → ⊥) → answerOf q rows before ≡ queryAnswer q
+  unfolding answerOf answerBy queryAnswer
+  the-answer-before d = lowest-before 1 (queryTests q) rest d
+
+  the-answer-after : queryAnswer q ≡ 0 → answerOf q rows before ≡ lowest 10 (badRows q rows ∷ shortNotes q rows before ∷ shortTrail q rows before ∷ stopped (walkOf q rows before) ∷ [])
+  unfolding answerOf answerBy queryAnswer queryTests
+  the-answer-after e = lowest-after 1 (queryTests q) rest (omega arith) e
+
+  -- answers 1 to 9
+  pub query-refused : (a : ℕ) → a ≡ queryAnswer q → (a ≡ 0 → ⊥) → (r : Outcome) → r ≡ refusal a → Promised q rows before (memory r notes trail numbers labels)
+  unfolding queryAnswer queryTests
+  query-refused a e d r b =
+      let w = lowest-range 1 (queryTests q) (λ z. d (e ∙ z)) in
+      refuse a (the-answer-before (λ z. d (e ∙ z)) ∙ sym e) (omega (arith, w .0, e)) (omega (arith, w .1, e)) r b
+
+  module _ (z : queryAnswer q ≡ 0) where
+    -- answers 10, 11 and 12
+    pub rows-refused : badRows q rows ≡ true → (r : Outcome) → r ≡ refusal 10 → Promised q rows before (memory r notes trail numbers labels)
+    unfolding lowest
+    rows-refused t r b = refuse 10 (the-answer-after z ∙ rw t) (omega arith) (omega arith) r b
+
+    pub notes-refused : badRows q rows ≡ false → shortNotes q rows before ≡ true → (r : Outcome) → r ≡ refusal 11 → Promised q rows before (memory r notes trail numbers labels)
+    unfolding lowest
+    notes-refused f t r b = refuse 11 (the-answer-after z ∙ rw (f, t)) (omega arith) (omega arith) r b
+
+    pub trail-refused : badRows q rows ≡ false → shortNotes q rows before ≡ false → shortTrail q rows before ≡ true → (r : Outcome) → r ≡ refusal 12
+        → Promised q rows before (memory r notes trail numbers labels)
+    unfolding lowest
+    trail-refused f g t r b = refuse 12 (the-answer-after z ∙ rw (f, g, t)) (omega arith) (omega arith) r b
+
+    -- done or stopped
+    pub search-ended : badRows q rows ≡ false → shortNotes q rows before ≡ false → shortTrail q rows before ≡ false → (m : Memory) → m ≡ ended q rows before → Promised q rows before m
+    unfolding lowest searchOf ended walkReport
+    search-ended f g h m e =
+        let x : answerOf q rows before ≡ pick (stopped (walkOf q rows before)) 13 0 = the-answer-after z ∙ rw (f, g, h) in
+        let y : inRange 1 12 (answerOf q rows before) ≡ false = ap (inRange 1 12) x ∙ outside (stopped (walkOf q rows before)) in
+        record { whole = e ∙ sym (rw y (ap (λ (n : ℕ). accepted (reportOf n (taskOf q rows) before (walkOf q rows before)) (walkOf q rows before .state) before) x)); demands = demands q rows before }
+
+-- ---- what reading gives
+
+-- no answer 1 to 9: no test of these is true
+pub record ClearQuery (q : List ℕ) : Type 0 where
+  pub loop : hasEmptyLoop (treeIn q) ≡ false
+  pub many : tooMany (treeIn q) ≡ false
+
+pub clear-query : (q : List ℕ) → queryAnswer q ≡ 0 → ClearQuery q
+unfolding queryAnswer queryTests lowest
+clear-query q e = go (cut q) (misplaced q) (unfit q) (tooDeep q) (noTree (treeIn q)) (hasEmptyLoop (treeIn q)) (tooMany (treeIn q)) refl refl e
+  where
+    go : (a b c d f g h : Bool) → hasEmptyLoop (treeIn q) ≡ g → tooMany (treeIn q) ≡ h → lowest 1 (a ∷ b ∷ c ∷ d ∷ f ∷ g ∷ h ∷ doubled q ∷ foreign q ∷ []) ≡ 0 → ClearQuery q
+    go true b c d f g h x y z = absurd (omega arith)
+    go false true c d f g h x y z = absurd (omega arith)
+    go false false true d f g h x y z = absurd (omega arith)
+    go false false false true f g h x y z = absurd (omega arith)
+    go false false false false true g h x y z = absurd (omega arith)
+    go false false false false false true h x y z = absurd (omega arith)
+    go false false false false false false true x y z = absurd (omega arith)
+    go false false false false false false false x y z = record { loop = x; many = y }
+
+module _ (q cells₀ : List ℕ) (offsets₀ numbers₀ : List ℤ) (measures₀ room cells : List ℕ) (offsets constants : List ℤ) (counts measures : List ℕ) (r : Query)
+    (a : Asked q cells₀ offsets₀ numbers₀ measures₀ room cells offsets constants counts measures r) (z : r .answer ≡ 0) (rows : List ℤ) where
+  abbrev whole : Whole q cells₀ offsets₀ numbers₀ measures₀ room cells offsets constants counts measures r
+  whole = a .good z
+
+  pub no-answer : queryAnswer q ≡ 0
+  no-answer = sym (a .answer) ∙ z
+
+  the-columns : r .columns ≡ columnsOf q
+  unfolding parts
+  the-columns = whole .good .columns ∙ whole .decoded .columns
+
+  pub some-column : 1 ≤ r .columns
+  some-column = omega (arith, whole .decoded .some, whole .good .columns)
+
+  the-tree : P (treeIn q) ≡ placesOf (whole .good .tree)
+  unfolding P
+  the-tree = ap P (whole .good .is)
+
+  -- the measures' array keeps its length
+  pub kept-long : length measures₀ ≡ 24 → length measures ≡ 24
+  kept-long e = whole .decoded .long
+
+  pub few-places : r .places ≤ 256
+  unfolding tooMany
+  few-places = omega (arith, whole .good .places, ltb-false 256 (P (treeIn q)) (clear-query q no-answer .many))
+
+  pub pairs-fit : (n : ℕ) → n ≤ 4096 → r .places * (n + 1) ≤ 1048832
+  pairs-fit n h = let k : r .places * (n + 1) ≤ 256 * 4097 = mul-le-mul few-places (let g : n + 1 ≤ 4097 = omega arith in g) in omega arith
+
+  pub ragged : (length rows % r .columns ≡ 0 → ⊥) → badRows q rows ≡ true
+  unfolding badRows
+  ragged d = rw (← the-columns, ne-eqb (length rows % r .columns) 0 d)
+
+  or-true : (b : Bool) → (b || true) ≡ true
+  or-true true = refl
+  or-true false = refl
+
+  pub many-rows : 4096 < length rows / r .columns → badRows q rows ≡ true
+  unfolding badRows tableOf
+  many-rows h = rw (← the-columns, lt-ltb 4096 (length rows / r .columns) h) (or-true (not (eqb (length rows % r .columns) 0)))
+
+  pub good-rows : length rows % r .columns ≡ 0 → length rows / r .columns ≤ 4096 → badRows q rows ≡ false
+  unfolding badRows tableOf
+  good-rows e h = rw (← the-columns, e, le-ltb 4096 (length rows / r .columns) h)
+
+  the-pairs : pairsOf q rows ≡ r .places * (length rows / r .columns + 1)
+  unfolding pairsOf tableOf
+  the-pairs = rw (← the-columns, ← (whole .good .places), add-one)
+
+  module _ (notes trail : List ℕ) (numbers : List ℤ) (labels : List ℕ) where
+    pub short-notes : length notes < (r .places * (length rows / r .columns + 1) + 7) / 8 → shortNotes q rows (lent notes trail numbers labels) ≡ true
+    unfolding shortNotes bytesFor
+    short-notes h = rw the-pairs (lt-ltb (length notes) ((r .places * (length rows / r .columns + 1) + 7) / 8) h)
+
+    pub long-notes : (r .places * (length rows / r .columns + 1) + 7) / 8 ≤ length notes → shortNotes q rows (lent notes trail numbers labels) ≡ false
+    unfolding shortNotes bytesFor
+    long-notes h = rw the-pairs (le-ltb (length notes) ((r .places * (length rows / r .columns + 1) + 7) / 8) h)
+
+    pub short-trail : length trail < r .places * (length rows / r .columns + 1) → shortTrail q rows (lent notes trail numbers labels) ≡ true
+    unfolding shortTrail
+    short-trail h = rw the-pairs (lt-ltb (length trail) (r .places * (length rows / r .columns + 1)) h)
+
+    pub long-trail : r .places * (length rows / r .columns + 1) ≤ length trail → shortTrail q rows (lent notes trail numbers labels) ≡ false
+    unfolding shortTrail
+    long-trail h = rw the-pairs (le-ltb (length trail) (r .places * (length rows / r .columns + 1)) h)
+
+    -- the walk may begin
+    pub may-walk : length rows % r .columns ≡ 0 → length rows / r .columns ≤ 4096 → length measures ≡ 24 → (r .places * (length rows / r .columns + 1) + 7) / 8 ≤ length notes
+        → r .places * (length rows / r .columns + 1) ≤ length trail
+        → Walks q room (r .top) (r .places) rows (r .columns) (length rows / r .columns) cells offsets constants counts measures (r .measures) (eqb (r .skip) 1) notes trail
+    unfolding hasEmptyLoop P
+    may-walk e h l f g =
+        let n : ℕ = length rows / r .columns in
+        let s : n + 1 ≡ suc n = add-one n in
+        let d : n * r .columns + length rows % r .columns ≡ length rows = div-add-mod' (length rows) (r .columns) in
+        let pl : r .places ≡ placesOf (whole .good .tree) = whole .good .places ∙ the-tree in
+        let f′ : (r .places * suc n + 7) / 8 ≤ length notes = rw (← s) f in
+        record {
+          tree = whole .good .tree;
+          has-tree = whole .good .is;
+          no-loop = sym (ap hasEmptyLoop (whole .good .is)) ∙ clear-query q no-answer .loop;
+          few = omega (arith, few-places, pl);
+          places-are = pl;
+          held = whole .good .top;
+          cells₀ = cells₀;
+          offsets₀ = offsets₀;
+          numbers₀ = numbers₀;
+          measures₀ = measures₀;
+          parts = whole .parts;
+          decoded = whole .decoded;
+          columns-are = whole .good .columns;
+          count-is = whole .good .measured;
+          mode-is = ap (λ (k : ℕ). eqb k 1) (whole .good .skip);
+          long = l;
+          most = h;
+          all = omega (arith, d, e);
+          noted = omega (arith, f′);
+          trailed = rw (← s) g;
+        }

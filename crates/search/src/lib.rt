@@ -1,0 +1,275 @@
+// The whole search: answers 1 to 12 in front, then the walk over the unrolled pattern. Its promise, for every query, all rows and all lent buffers, is an
+// equation with document 01's definition, and the tender's demands with it (specs/Promise). Nothing is allocated; the tables lie on the stack.
+ghost use mathlib.Core.Path.{_≡_};
+ghost use Prim.Native.Nat.{ℕ, _+_, _*_, _%_, _≤_, _<_, min};
+ghost use lib.ListN.{length, getD, set};
+ghost use mathlib.Core.Bool.{Bool, true, false};
+ghost use lib.Dec.{eqb};
+ghost use Rattle.rules.specs.Basics.{pick};
+ghost use Rattle.walk.specs.Tables.{tables};
+ghost use Rattle.search.specs.Promise.{lent, memory, refusal, ended, Promised, Walks, Runs};
+ghost use Rattle.search.specs.Spread.{sortOf, letterOf, nextOf, stopOf, Parts, Parted};
+
+// The sort of a place in a byte: any above 3 is END.
+fn sort_of(x: u16) -> u8
+    ensures { λ r. ⌜ r ≡ min x 4 ⌝ }
+{
+    if x < 4 { (x % 256) as u8 } else { 4 }
+}
+
+fn low_byte(x: u16) -> u8
+    ensures { λ r. ⌜ r ≡ x % 256 ⌝ }
+{
+    (x % 256) as u8
+}
+
+// The words of place q into the four tables.
+fn put_place(
+    table: &[u16],
+    q: usize,
+    sort: &mut [u8],
+    letter: &mut [u8],
+    next: &mut [u16],
+    stop: &mut [u16],
+)
+    requires { ⌜ (4 * q + 3 < length (now table)) × (q < length (now sort)) × (q < length (now letter)) × (q < length (now next)) × (q < length (now stop)) ⌝ }
+    ensures { λ _. ⌜ (now (sort .exit) ≡ set (now (sort .entry)) q (sortOf (now (table .entry)) q)) × (now (letter .exit) ≡ set (now (letter .entry)) q (letterOf (now (table .entry)) q)) × (now (next .exit) ≡ set (now (next .entry)) q (nextOf (now (table .entry)) q)) × (now (stop .exit) ≡ set (now (stop .entry)) q (stopOf (now (table .entry)) q)) ⌝ }
+{
+    let at = 4 * q;
+    sort[q] = sort_of(table[at]);
+    letter[q] = low_byte(table[at + 1]);
+    next[q] = table[at + 2];
+    stop[q] = table[at + 3];
+}
+
+// Parts the table of p places into a table for each word.
+fn part(
+    table: &[u16],
+    p: usize,
+    sort: &mut [u8],
+    letter: &mut [u8],
+    next: &mut [u16],
+    stop: &mut [u16],
+)
+    requires { ⌜ Parts (now table) p (now sort) (now letter) (now next) (now stop) ⌝ }
+    ensures { λ _. ⌜ Parted (now (table .entry)) p (now (sort .entry)) (now (letter .entry)) (now (next .entry)) (now (stop .entry)) (now (sort .exit)) (now (letter .exit)) (now (next .exit)) (now (stop .exit)) ⌝ }
+{
+    let mut q = 0;
+    while q < p {
+        put_place(table, q, sort, letter, next, stop);
+        q += 1;
+    }
+}
+
+// How a search ended: the answer of document 01, the matches and labels written, and the steps.
+#[repr(C)]
+pub struct Outcome {
+    pub answer: usize,
+    pub matches: usize,
+    pub labels: usize,
+    pub steps: usize,
+}
+
+fn refused(answer: usize) -> Outcome
+    ensures { λ r. ⌜ r ≡ refusal answer ⌝ }
+{
+    Outcome {
+        answer,
+        matches: 0,
+        labels: 0,
+        steps: 0,
+    }
+}
+
+// Done or stopped, by what the walk over all starts came to.
+fn finished(s: sweep::Sweep) -> Outcome
+    ensures { λ r. ⌜ r ≡ record { answer = pick (s .full) 13 0; matches = s .matches; labels = s .labels; steps = s .steps } ⌝ }
+{
+    let full = s.full;
+    if full {
+        return Outcome {
+            answer: 13,
+            matches: s.matches,
+            labels: s.labels,
+            steps: s.steps,
+        };
+    }
+    Outcome {
+        answer: 0,
+        matches: s.matches,
+        labels: s.labels,
+        steps: s.steps,
+    }
+}
+
+// All starts over the tables of the places.
+fn run_tables(
+    query: &[u8],
+    sort: &[u8],
+    letter: &[u8],
+    next: &[u16],
+    stop: &[u16],
+    table: &[u16],
+    rows: &[i32],
+    columns: usize,
+    n: usize,
+    cells: &[u16; 832],
+    offsets: &[i8; 416],
+    constants: &[i32; 208],
+    counts: &[u8; 26],
+    ms: &[u8],
+    count: usize,
+    mode: bool,
+    notes: &mut [u8],
+    trail: &mut [u32],
+    numbers: &mut [i64],
+    labels: &mut [u8],
+) -> Outcome
+    requires { ⌜ Runs (now query) (tables (now sort) (now letter) (now next) (now stop) (now table)) (now rows) columns n (now cells) (now offsets) (now constants) (now counts) (now ms) count mode (now notes) (now trail) ⌝ }
+    ensures { λ r. ⌜ memory r (now (notes .exit)) (now (trail .exit)) (now (numbers .exit)) (now (labels .exit)) ≡ ended (now (query .entry)) (now (rows .entry)) (lent (now (notes .entry)) (now (trail .entry)) (now (numbers .entry)) (now (labels .entry))) ⌝ }
+{
+    let s = sweep::search(
+        sort,
+        letter,
+        next,
+        stop,
+        table,
+        rows,
+        columns,
+        n,
+        cells,
+        offsets,
+        constants,
+        counts,
+        ms,
+        count,
+        mode,
+        notes,
+        trail,
+        numbers,
+        labels,
+    );
+    finished(s)
+}
+
+// The walk over an accepted query: its pattern unrolled into tables, then all starts.
+fn walk_all(
+    query: &[u8],
+    nodes: &[u16],
+    top: usize,
+    places: usize,
+    rows: &[i32],
+    columns: usize,
+    n: usize,
+    cells: &[u16; 832],
+    offsets: &[i8; 416],
+    constants: &[i32; 208],
+    counts: &[u8; 26],
+    ms: &[u8; 24],
+    count: usize,
+    mode: bool,
+    notes: &mut [u8],
+    trail: &mut [u32],
+    numbers: &mut [i64],
+    labels: &mut [u8],
+) -> Outcome
+    requires { ⌜ Walks (now query) (now nodes) top places (now rows) columns n (now cells) (now offsets) (now constants) (now counts) (now ms) count mode (now notes) (now trail) ⌝ }
+    ensures { λ r. ⌜ memory r (now (notes .exit)) (now (trail .exit)) (now (numbers .exit)) (now (labels .exit)) ≡ ended (now (query .entry)) (now (rows .entry)) (lent (now (notes .entry)) (now (trail .entry)) (now (numbers .entry)) (now (labels .entry))) ⌝ }
+{
+    let mut table = [0u16; 1792];
+    let _end = places::unroll(nodes, top, places, &mut table);
+    let mut sort = [0u8; 256];
+    let mut letter = [0u8; 256];
+    let mut next = [0u16; 256];
+    let mut stop = [0u16; 256];
+    part(&table, places, &mut sort, &mut letter, &mut next, &mut stop);
+    run_tables(
+        query,
+        &sort[0..places],
+        &letter[0..places],
+        &next[0..places],
+        &stop[0..places],
+        &table,
+        rows,
+        columns,
+        n,
+        cells,
+        offsets,
+        constants,
+        counts,
+        ms,
+        count,
+        mode,
+        notes,
+        trail,
+        numbers,
+        labels,
+    )
+}
+
+// The search.
+pub fn search(
+    query: &[u8],
+    rows: &[i32],
+    notes: &mut [u8],
+    trail: &mut [u32],
+    numbers: &mut [i64],
+    labels: &mut [u8],
+) -> Outcome
+    ensures { λ r. ⌜ Promised (now (query .entry)) (now (rows .entry)) (lent (now (notes .entry)) (now (trail .entry)) (now (numbers .entry)) (now (labels .entry))) (memory r (now (notes .exit)) (now (trail .exit)) (now (numbers .exit)) (now (labels .exit))) ⌝ }
+{
+    let mut nodes = [0u16; 4096];
+    let mut cells = [0u16; 832];
+    let mut offsets = [0i8; 416];
+    let mut constants = [0i32; 208];
+    let mut counts = [0u8; 26];
+    let mut measures = [0u8; 24];
+    let q = room::read_query(
+        query,
+        &mut nodes,
+        &mut cells,
+        &mut offsets,
+        &mut constants,
+        &mut counts,
+        &mut measures,
+    );
+    let answer = q.answer;
+    if answer != 0 {
+        return refused(answer);
+    }
+    let columns = q.columns;
+    let n = rows.len() / columns;
+    if rows.len() % columns != 0 {
+        return refused(10);
+    }
+    if 4096 < n {
+        return refused(10);
+    }
+    let pairs = q.places * (n + 1);
+    if notes.len() < (pairs + 7) / 8 {
+        return refused(11);
+    }
+    if trail.len() < pairs {
+        return refused(12);
+    }
+    walk_all(
+        query,
+        &nodes,
+        q.top,
+        q.places,
+        rows,
+        columns,
+        n,
+        &cells,
+        &offsets,
+        &constants,
+        &counts,
+        &measures,
+        q.measures,
+        q.skip == 1,
+        notes,
+        trail,
+        numbers,
+        labels,
+    )
+}
