@@ -4,4 +4,3 @@ pub mod CodeLaws
 pub mod ForkLaws
 pub mod EmitLaws
 pub mod UnrollLaws
-pub mod SafeLaws

@@ -2,9 +2,8 @@
 -- sort (0 fork, 1 letter, 2 `^`, 3 `$`, 4 END), word 4q + 1 its letter, word 4q + 2 its next place, of a fork the word where its ways begin, and
 -- word 4q + 3 of a fork the word where its ways stop.
 use mathlib.Core.List.{List, [], _∷_}
-use Prim.Native.Nat.{ℕ, zero, suc, _+_, _*_, _-_, _≤_, _<_}
+use Prim.Native.Nat.{ℕ, zero, suc, _+_, _*_, _-_}
 use lib.ListN.{getD}
-use Rattle.rules.proofs.Walk.{All}
 use Rattle.rules.specs.Places.{Place, pLetter, pCaret, pDollar, pFork, pEnd}
 
 -- m words from j on
@@ -34,11 +33,3 @@ placesFrom T q (suc m) = placeIn T q ∷ placesFrom T (suc q) m
 unfoldable pub tabled : List ℕ → ℕ → List Place
 unfolding placesFrom
 tabled T P = placesFrom T 0 P
-
--- what a place of P keeps to: it leads to places below P, and its letter is A (65) to Z (90)
-unfoldable pub Safe : ℕ → Place → Type 0
-Safe P (pLetter c k) = (65 ≤ c) × (c ≤ 90) × (k < P)
-Safe P (pCaret k) = k < P
-Safe P (pDollar k) = k < P
-Safe P (pFork ks) = All (λ k. k < P) ks
-Safe P pEnd = Unit {0}

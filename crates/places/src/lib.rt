@@ -1,7 +1,5 @@
 // A tree unrolled into its places: `unroll` puts them into a lent table of words, which an engine reads, by a recursion over the tree's nodes; the
-// node's height falls. Repeated ways of a fork are dropped. `read_places` does all from a pattern's text on: its answer, and its table.
-use judge::Verdict;
-use judge::judge;
+// node's height falls. Repeated ways of a fork are dropped.
 use pattern::nodes::Sort;
 use pattern::nodes::node_at;
 use pattern::nodes::places_at;
@@ -15,7 +13,6 @@ ghost use lib.Dec.{eqb};
 ghost use Rattle.rules.specs.Basics.{pick, has};
 ghost use Rattle.pattern.specs.Held.{At};
 ghost use Rattle.places.specs.Tables.{span};
-ghost use Rattle.places.specs.Read.{Lent, PlacesRead};
 ghost use Rattle.places.specs.Emitting.{putWords, Emitted, WayPut, WayNeeds, Starting, Started, TwoWays, twoPlaces, Choosing, choicePlaces, forkPlaces, Forking, anchorSort};
 ghost use Rattle.places.specs.Emitting.{treePlaces, branchPlaces, bodyPlaces, turnPlaces, Emitting, Branching, Bodying, Turning, WholeSize, BodySize, Unrolling, Tabled};
 
@@ -344,20 +341,4 @@ pub fn unroll(room: &[u16], top: usize, places: usize, table: &mut [u16]) -> usi
     let end = emit(room, top, table, at, places - 1);
     put_words(table, end.place, 4, 0, 0, 0);
     end.way
-}
-
-// Judges a pattern's text, and puts its places into the table if it is good. The room is for the tree's nodes.
-pub fn read_places(text: &[u8], room: &mut [u16], table: &mut [u16]) -> Verdict
-    requires { ⌜ Lent (now text) (now room) (now table) ⌝ }
-    ensures { λ r. ⌜ PlacesRead (now (text .entry)) (now (table .entry)) (now (table .exit)) r ⌝ }
-{
-    let v = judge(text, room);
-    let answer = v.answer;
-    if answer != 0 {
-        return v;
-    }
-    let top = v.top;
-    let places = v.places;
-    let _end = unroll(room, top, places, table);
-    v
 }
