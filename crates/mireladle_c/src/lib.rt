@@ -1,0 +1,44 @@
+// The face for C and Rust callers, built by `rt staticlib mireladle_c`: each function is the proved one of its name, with the same promise. A slice
+// passes as a pointer and a length in elements; include/mireladle.h says what a caller owes for the pointers, which no promise here can check.
+use search::Outcome;
+ghost use lib.ListN.{length};
+ghost use Rattle.search.specs.Promise.{lent, memory, Promised};
+ghost use Rattle.mireladle_c.specs.Told.{Told};
+
+// How much to lend: the answer 1 to 10, or 0 with P, n and the number of pairs.
+#[repr(C)]
+pub struct Room {
+    pub answer: usize,
+    pub places: usize,
+    pub rows: usize,
+    pub pairs: usize,
+}
+
+// The search.
+#[no_mangle]
+pub extern "C" fn mireladle_search(
+    query: &[u8],
+    rows: &[i32],
+    notes: &mut [u8],
+    trail: &mut [u32],
+    numbers: &mut [i64],
+    labels: &mut [u8],
+) -> Outcome
+    ensures { λ r. ⌜ Promised (now (query .entry)) (now (rows .entry)) (lent (now (notes .entry)) (now (trail .entry)) (now (numbers .entry)) (now (labels .entry))) (memory r (now (notes .exit)) (now (trail .exit)) (now (numbers .exit)) (now (labels .exit))) ⌝ }
+{
+    search::search(query, rows, notes, trail, numbers, labels)
+}
+
+// How much a query needs on these rows.
+#[no_mangle]
+pub extern "C" fn mireladle_room(query: &[u8], rows: &[i32]) -> Room
+    ensures { λ r. ⌜ Told (now (query .entry)) (now (rows .entry)) r ⌝ }
+{
+    let size = room::room(query, rows);
+    Room {
+        answer: size.answer,
+        places: size.places,
+        rows: size.rows,
+        pairs: size.places * (size.rows + 1),
+    }
+}
