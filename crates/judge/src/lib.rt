@@ -21,7 +21,7 @@ pub struct Verdict {
 }
 
 // Whether the tree at i can take no row.
-pub fn can_be_empty(room: &[u16], i: usize) -> bool
+fn can_be_empty(room: &[u16], i: usize) -> bool
     requires { ⌜ At (now room) i ⌝ }
     ensures { λ r. ⌜ Nullable (now (room .entry)) i r ⌝ }
 {
@@ -55,7 +55,7 @@ pub fn can_be_empty(room: &[u16], i: usize) -> bool
 }
 
 // Whether the tree at i has an unbounded quantifier over a body that can take no row.
-pub fn has_empty_loop(room: &[u16], i: usize) -> bool
+fn has_empty_loop(room: &[u16], i: usize) -> bool
     requires { ⌜ At (now room) i ⌝ }
     ensures { λ r. ⌜ EmptyLoop (now (room .entry)) i r ⌝ }
 {
@@ -121,7 +121,7 @@ fn behind(b: u8, d: Depth) -> Depth
 }
 
 // Whether parentheses opened less closed pass 8 at some byte.
-pub fn too_deep(text: &[u8]) -> bool
+fn too_deep(text: &[u8]) -> bool
     requires { ⌜ length (now text) < 60000 ⌝ }
     ensures { λ r. ⌜ r ≡ deep 0 0 (now (text .entry)) ⌝ }
 {

@@ -1,6 +1,6 @@
 // A pattern's text read into a tree: the four readers of the pattern language, in a cycle. The tree's nodes go into a lent room, each behind
 // its parts; `read_text` leaves there the nodes of the tree that the text has, or says that it has none.
-pub mod marks;
+mod marks;
 pub mod nodes;
 
 use marks::Mark;
@@ -269,7 +269,7 @@ fn shut_group(text: &[u8], p: Step) -> Head
 }
 
 // pattern: branch, or branch | pattern
-pub fn pattern(text: &[u8], at: usize, room: &mut [u16], count: usize) -> Step
+fn pattern(text: &[u8], at: usize, room: &mut [u16], count: usize) -> Step
     requires { ⌜ Fits (now text) at (now room) count ⌝ }
     ensures { λ r. ⌜ Reads Rank.pattern (now (text .entry)) at count (now (room .entry)) (now (room .exit)) r ⌝ }
 {
@@ -292,7 +292,7 @@ pub fn pattern(text: &[u8], at: usize, room: &mut [u16], count: usize) -> Step
 }
 
 // branch: factor, or factor branch
-pub fn branch(text: &[u8], at: usize, room: &mut [u16], count: usize) -> Step
+fn branch(text: &[u8], at: usize, room: &mut [u16], count: usize) -> Step
     requires { ⌜ Fits (now text) at (now room) count ⌝ }
     ensures { λ r. ⌜ Reads Rank.branch (now (text .entry)) at count (now (room .entry)) (now (room .exit)) r ⌝ }
 {
@@ -321,7 +321,7 @@ pub fn branch(text: &[u8], at: usize, room: &mut [u16], count: usize) -> Step
 }
 
 // factor: primary, and at most one quantifier
-pub fn factor(text: &[u8], at: usize, room: &mut [u16], count: usize) -> Step
+fn factor(text: &[u8], at: usize, room: &mut [u16], count: usize) -> Step
     requires { ⌜ Fits (now text) at (now room) count ⌝ }
     ensures { λ r. ⌜ Reads Rank.factor (now (text .entry)) at count (now (room .entry)) (now (room .exit)) r ⌝ }
 {
@@ -334,7 +334,7 @@ pub fn factor(text: &[u8], at: usize, room: &mut [u16], count: usize) -> Step
 }
 
 // primary: a letter, an anchor, (), or a pattern in parentheses
-pub fn primary(text: &[u8], at: usize, room: &mut [u16], count: usize) -> Head
+fn primary(text: &[u8], at: usize, room: &mut [u16], count: usize) -> Head
     requires { ⌜ Fits (now text) at (now room) count ⌝ }
     ensures { λ r. ⌜ ReadsHead (now (text .entry)) at count (now (room .entry)) (now (room .exit)) r ⌝ }
 {

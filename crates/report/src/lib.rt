@@ -299,7 +299,7 @@ fn measure_from(
 }
 
 // A measure over the rows of a match: the labels are of the rows from `first` on.
-pub fn measure_of(m: Measure, rows: &[i32], columns: usize, first: usize, labels: &[u8]) -> Outcome
+fn measure_of(m: Measure, rows: &[i32], columns: usize, first: usize, labels: &[u8]) -> Outcome
     requires { ⌜ Readable (now rows) columns first (length (now labels)) (m .column) ⌝ }
     ensures { λ r. ⌜ numbersFor r ≡ twoOf (measured (tableOf columns (now (rows .entry))) first (now (labels .entry)) (measureOf m)) ⌝ }
 {
