@@ -162,7 +162,7 @@ module _ (table : List ℕ) (p : ℕ) (so₀ le₀ ne₀ st₀ so le ne st : Lis
               go true x = let h = ltb-true q p x in omega (arith, at-stop q h, inside q h)
               go false x = omega (arith, behind-end (take p st) q (omega (arith, length-take-le p st ht, ltb-false q p x)))
 
-      pub legal-tables : (holds : ℕ → ℕ → Bool) (n : ℕ) → pairs p n < 4294967296 → W.Legal cut holds n
+      pub legal-tables : (holds : ℕ → ℕ → Bool) (n : ℕ) → pairs p n < 2097152 → W.Legal cut holds n
       unfolding W.graphOf
       legal-tables holds n s =
           let u = legal-unroll t g in

@@ -116,7 +116,7 @@ module _ (q nodes : List ℕ) (top p : ℕ) (rows : List ℤ) (columns n : ℕ) 
   product-le : (x y z w : ℕ) → x ≤ z → y ≤ w → x * y ≤ z * w
   product-le x y z w h k = mul-le-mul h k
 
-  few-pairs : pairs p n < 4294967296
+  few-pairs : pairs p n < 2097152
   few-pairs = let h : p * suc n ≤ 256 * 4097 = product-le p (suc n) 256 4097 (omega (arith, a .few, a .places-are)) (omega (arith, a .most)) in omega arith
 
   some-place : 1 ≤ placesOf (a .tree)

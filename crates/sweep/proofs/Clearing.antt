@@ -1,7 +1,7 @@
 -- Zeros written; and the whole search, from the buffers as they were lent to what the report says of them.
 use mathlib.Core.Path.{_≡_, refl, sym, ap, _∙_}
 use mathlib.Core.List.{List, [], _∷_, _++_}
-use mathlib.Core.Bool.{Bool, true, false}
+use mathlib.Core.Bool.{Bool, false}
 use Prim.Native.Nat.{ℕ, zero, suc, _+_, _-_, _*_, _/_, _%_, _≤_, _<_}
 use native.Mathlib.Numerals.{add-one}
 use native.Mathlib.Decide.{decLt}
@@ -10,8 +10,7 @@ use lib.IntN.{ℤ}
 use lib.ListN.{length, getD, set, take, drop, replicate, length-replicate, getD-replicate, List·getD-eq-default}
 use lib.Seq.{ext-getD, set-split}
 use Rattle.rules.specs.Basics.{wrote}
-use Rattle.rules.specs.Report.{bytesFor, bitOf, bitAt, notesOf, zeros}
-use Rattle.rules.specs.Search.{Swept, Kept}
+use Rattle.rules.specs.Report.{bytesFor, bitOf, bitAt, zeros}
 use Rattle.rules.proofs.Appended.{wrote-none, wrote-on, length-wrote-at}
 use Rattle.rules.proofs.Lists.{front-wrote, beyond-wrote}
 use Rattle.rules.proofs.Notes.{bitsOf, bitsOf-at, bitsFrom-length}
@@ -19,7 +18,7 @@ use Rattle.rules.proofs.NotesWritten.{wrote-over, notes-written}
 use Rattle.walk.specs.Tables.{P, N}
 use Rattle.sweep.specs.declared.Sweep.{Sweep}
 use Rattle.sweep.specs.Asked.{Asked, searchOf}
-use Rattle.sweep.specs.Searched.{Searches, Starts, Reported, Searched, Answered}
+use Rattle.sweep.specs.Searched.{Searches, Starts, Searched, Answered}
 
 -- ---- zeros
 
@@ -94,7 +93,7 @@ module _ (A : Asked) (Q : Type 0) (ms : List ℕ) (count : ℕ) (rows : List ℤ
   pub rows-fit : A .n + 1 ≤ 4097
   rows-fit = let r = h .measured .few-rows in omega arith
 
-  pub pairs-fit : code < 4294967296
+  pub pairs-fit : code < 2097152
   pairs-fit = rw pairs-are (h .legal .small)
 
   pub bytes-fit : (code + 7) / 8 ≤ length n₀

@@ -1,11 +1,10 @@
 -- The labels of a path, written from the last to the first while the walk goes back along the trail; and the rows that a path takes.
 use mathlib.Core.Path.{_≡_, refl, sym, ap, _∙_, subst}
-use mathlib.Core.List.{List, [], _∷_, _++_, reverseAux}
+use mathlib.Core.List.{List, [], _∷_, reverseAux}
 use mathlib.Core.Bool.{Bool, true, false}
-use Prim.Native.Nat.{ℕ, zero, suc, _+_, _-_, _*_, _/_, _%_, _≤_, _<_}
+use Prim.Native.Nat.{ℕ, zero, suc, _+_, _-_, _/_, _%_, _≤_, _<_}
 use native.Mathlib.Nat.{mod-lt}
 use native.Mathlib.Omega.{arith}
-use lib.Dec.{eqb}
 use lib.ListN.{length, getD, set}
 use borrow.Author.Tests.{eq-eqb, ne-eqb, lt-ltb, le-ltb}
 use Rattle.rules.specs.Basics.{wrote}
@@ -18,8 +17,8 @@ use Rattle.walk.specs.Step.{stack, pairOf, backTo, Backs}
 use Rattle.walk.specs.State.{takes, Onto, Linked, OnPath}
 use Rattle.walk.proofs.Ways.{in-length, in-at}
 use Rattle.walk.proofs.Trails.{back-top, path-top, path-place, path-backs, path-back}
-use Rattle.sweep.specs.Asked.{pathOn, labelsOn}
-use Rattle.sweep.specs.Found.{ifLetter, labelBy, OneMore, PutsLabel, Labels}
+use Rattle.sweep.specs.Asked.{labelsOn}
+use Rattle.sweep.specs.Found.{labelBy, OneMore, PutsLabel, Labels}
 
 -- ---- one label
 

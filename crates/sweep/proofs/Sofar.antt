@@ -6,27 +6,24 @@ use mathlib.Core.Option.{Option, none, some}
 use Prim.Native.Nat.{ℕ, zero, suc, _+_, _-_, _*_, _≤_, _<_}
 use native.Mathlib.Nat.{suc-mul, mul-le-mul, mul-le-mul-right}
 use native.Mathlib.Omega.{arith}
-use lib.Dec.{ltb}
 use lib.IntN.{ℤ}
 use lib.ListN.{length, getD, replicate, length-append}
 use borrow.Author.Tests.{lt-ltb, le-ltb}
 use Rattle.rules.specs.Answers.{stopped}
 use Rattle.rules.specs.Basics.{wrote}
-use Rattle.rules.specs.Places.{Place}
 use Rattle.rules.specs.Report.{bitAt, matchNumbers, numbersOf, labelsOf, fits}
-use Rattle.rules.specs.Search.{Match, Swept, Plan, Kept, sweep, below, byFit, onAnswer, withMatch, walkAt, answered, labels, endOf, nextStart, planOf, walkSearch}
-use Rattle.rules.specs.Walk.{pairs, firstAt, pairWays, inside, enterUnless}
+use Rattle.rules.specs.Search.{Match, Swept, Plan, Kept, sweep, byFit, onAnswer, withMatch, walkAt, labels, endOf, nextStart, planOf, walkSearch}
+use Rattle.rules.specs.Walk.{pairs, firstAt, pairWays}
 use Rattle.rules.proofs.Appended.{wrote-none, wrote-on, length-wrote-at, numbers-on, labels-on, fits-room}
 use Rattle.rules.proofs.Limits.{numbers-long}
 use Rattle.rules.proofs.Notes.{bitsOf}
 use Rattle.rules.proofs.Starts.{next-on}
-use Rattle.walk.specs.Tables.{Tables, P, N, graphOf, placesIn}
-use Rattle.walk.specs.State.{attemptBy}
+use Rattle.walk.specs.Tables.{N, graphOf}
 use Rattle.walk.proofs.Ways.{in-length}
 use Rattle.sweep.specs.declared.Sweep.{Sweep}
 use Rattle.sweep.specs.Asked.{Asked, pl, width, searchOf}
 use Rattle.sweep.specs.Found.{swept, Quiet, Written, ToldBy, Told, Visits, attemptAt, Visited}
-use Rattle.sweep.specs.Searched.{Searches, Starts, Reported, Searched}
+use Rattle.sweep.specs.Searched.{Searches, Starts, Searched}
 
 -- matches before
 abbrev pub pre : List Match → Swept Kept → Swept Kept
@@ -130,7 +127,7 @@ module _ (A : Asked) (Q : Type 0) (ms : List ℕ) (count : ℕ) (rows : List ℤ
           let s = h .searches .legal .small in
           let r = h .searches .measured .few-rows in
           let a : suc (i .row) * M A ≤ A .n * M A = mul-le-mul-right (M A) lt in
-          let b : A .n * M A ≤ 4096 * 4294967296 = mul-le-mul r (let z : M A ≤ 4294967296 = omega arith in z) in
+          let b : A .n * M A ≤ 4096 * 2097152 = mul-le-mul r (let z : M A ≤ 2097152 = omega arith in z) in
           let c : suc (i .row) * M A ≡ i .row * M A + M A = suc-mul (i .row) (M A) in
           let d = h .steps in
           omega arith

@@ -3,15 +3,14 @@ use mathlib.Core.Path.{_≡_, refl, sym, ap, _∙_, subst}
 use mathlib.Core.List.{List, [], _∷_, _++_, reverseAux}
 use mathlib.Core.Bool.{Bool, true, false}
 use mathlib.Core.Option.{some}
-use Prim.Native.Nat.{ℕ, zero, suc, _+_, _-_, _*_, _/_, _%_, _≤_, _<_}
+use Prim.Native.Nat.{ℕ, zero, suc, _+_, _-_, _*_, _/_, _%_, _≤_}
 use native.Mathlib.Nat.{add-zero, mul-le-mul, mul-le-mul-right, le-trans}
 use native.Mathlib.Omega.{arith}
 use lib.Arith.{digits-div}
 use lib.IntN.{ℤ}
-use lib.ListN.{length, getD, take, drop, length-take, length-drop}
+use lib.ListN.{length, getD, take, drop}
 use lib.Seq.{length-take-le, take-at, drop-at}
-use Rattle.rules.specs.Basics.{wrote, tabulate}
-use Rattle.rules.specs.Places.{Place}
+use Rattle.rules.specs.Basics.{wrote}
 use Rattle.rules.specs.Query as Q
 use Rattle.rules.specs.Report.{fits, matchNumbers}
 use Rattle.rules.specs.Rows.{tableOf}
@@ -21,13 +20,13 @@ use Rattle.rules.proofs.Lists.{length-tabulate}
 use Rattle.report.specs.Measures.{measuresIn, Appendable}
 use Rattle.walk.specs.declared.Walk.{Walk}
 use Rattle.walk.specs.Tables.{Tables, P, placeBy, placeAt, placesIn}
-use Rattle.walk.specs.Step.{stack, pairOf}
+use Rattle.walk.specs.Step.{pairIn, stack, pairOf}
 use Rattle.walk.specs.State.{takes}
 use Rattle.walk.proofs.Ways.{in-length}
 use Rattle.walk.proofs.Trails.{path-top, path-linked, path-row, path-place}
 use Rattle.sweep.specs.declared.Sweep.{Sweep}
-use Rattle.sweep.specs.Asked.{Asked, asked, pl, width, pathOn, labelsOn}
-use Rattle.sweep.specs.Found.{Labels, swept, Quiet, Written, ToldBy, Told, Measured, Reports}
+use Rattle.sweep.specs.Asked.{asked, pathOn, labelsOn}
+use Rattle.sweep.specs.Found.{Labels, Told, Reports}
 use Rattle.sweep.proofs.Labelled.{Ends, rows-taken}
 
 -- the last pair of a path
@@ -47,7 +46,7 @@ takes-end : (T : Tables) (q : ℕ) → 4 ≤ getD (T .sort) q 0 → takes (place
 unfolding placeAt
 takes-end T q h = end-takes (getD (T .sort) q 0) _ _ _ h
 
-ends-at : (T : Tables) (trail : List ℕ) (i : ℕ) → getD trail 0 0 / P T ≡ i → (t : ℕ) → Ends T (stack trail (suc t)) i
+ends-at : (T : Tables) (trail : List ℕ) (i : ℕ) → pairIn (getD trail 0 0) / P T ≡ i → (t : ℕ) → Ends T (stack trail (suc t)) i
 unfolding stack
 ends-at T trail i e zero = e
 ends-at T trail i e (suc t) = ends-at T trail i e t
@@ -79,7 +78,7 @@ module _ (T : Tables) (n : ℕ) (ms : List ℕ) (count : ℕ) (rows : List ℤ) 
 
   ends : Ends T (pairOf w ∷ stack trail (w .top - 1)) (i .row)
   ends =
-      let b : getD trail 0 0 / P T ≡ i .row = rw (h .bottom) (rw add-zero at (digits-div (i .row) (h .path .sized .some))) in
+      let b : pairIn (getD trail 0 0) / P T ≡ i .row = rw (h .bottom) (rw add-zero at (digits-div (i .row) (h .path .sized .some))) in
       let g = h .going in
       let k : w .top ≡ suc (w .top - 1) = omega arith in
       let e : Ends T (stack trail (suc (w .top - 1))) (i .row) = ends-at T trail (i .row) b (w .top - 1) in

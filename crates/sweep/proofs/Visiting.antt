@@ -3,28 +3,25 @@ use mathlib.Core.Path.{_≡_, refl, sym, ap, _∙_}
 use mathlib.Core.List.{List, [], _∷_, reverseAux}
 use mathlib.Core.Bool.{Bool, true, false}
 use mathlib.Core.Option.{Option, none, some}
-use Prim.Native.Nat.{ℕ, zero, suc, _+_, _-_, _*_, _/_, _%_, _≤_, _<_, suc-le-suc, zero-le}
+use Prim.Native.Nat.{ℕ, zero, suc, _+_, _-_, _*_, _≤_, _<_, suc-le-suc, zero-le}
 use native.Mathlib.Nat.{not-suc-le-zero}
 use native.Mathlib.Omega.{arith}
 use lib.IntN.{ℤ}
 use lib.ListN.{length, getD}
-use Rattle.rules.specs.Report.{bitAt}
-use Rattle.rules.specs.Rows.{tableOf}
 use Rattle.rules.specs.Search.{Kept, answered}
-use Rattle.rules.specs.Walk.{Ways, accept, try, Outcome, found, failed, close, tries, enterUnless, inside, insideBy, countTrue, pairs}
+use Rattle.rules.specs.Walk.{Ways, accept, try, Outcome, found, failed, close, tries, enterUnless, inside, insideBy, countTrue}
 use Rattle.rules.proofs.Notes.{bitsOf, bitsFrom-length}
-use Rattle.rules.proofs.Walk.{In, Out, InsidePost, inside-post, count-le}
-use Rattle.report.specs.Measures.{measuresIn}
+use Rattle.rules.proofs.Walk.{InsidePost, inside-post}
 use Rattle.walk.specs.declared.Walk.{Walk}
-use Rattle.walk.specs.Tables.{Tables, P, N, Legal, graphOf}
-use Rattle.walk.specs.Step.{stack, outcomeBy}
-use Rattle.walk.specs.State.{OnPath, Good, Ready, attemptBy, Done}
+use Rattle.walk.specs.Tables.{Tables, P, N, graphOf}
+use Rattle.walk.specs.Step.{pairIn, stack, outcomeBy}
+use Rattle.walk.specs.State.{Ready, Done}
 use Rattle.walk.proofs.Trails.{stack-length}
 use Rattle.walk.proofs.Trying.{pair-in}
 use Rattle.walk.proofs.Going.{good-room, top-row}
 use Rattle.sweep.specs.declared.Sweep.{Sweep}
-use Rattle.sweep.specs.Asked.{Asked, asked, pathOn}
-use Rattle.sweep.specs.Found.{Quiet, ToldBy, Told, Reports, Visits, attemptAt, Visited}
+use Rattle.sweep.specs.Asked.{Asked, pathOn}
+use Rattle.sweep.specs.Found.{Told, Reports, Visits, attemptAt, Visited}
 
 -- ---- a path begins where its attempt began
 
@@ -53,12 +50,12 @@ enter-head : (b : Bool) (ways : ℕ → Ways) (k : ℕ) (F : List Bool) (s x : �
 enter-head true ways k F s x = tt
 enter-head false ways k F s x = inside-head ways k F (suc s) x
 
-head-up : (trail p : List ℕ) (t : ℕ) → headOf (reverseAux (stack trail (suc t)) p) ≡ getD trail 0 0
+head-up : (trail p : List ℕ) (t : ℕ) → headOf (reverseAux (stack trail (suc t)) p) ≡ pairIn (getD trail 0 0)
 unfolding stack
 head-up trail p zero = refl
-head-up trail p (suc t) = head-up trail (getD trail (suc t) 0 ∷ p) t
+head-up trail p (suc t) = head-up trail (pairIn (getD trail (suc t) 0) ∷ p) t
 
-head-out : (trail : List ℕ) (F : List Bool) (s x t : ℕ) → 0 < t → HeadIs x (outcomeBy t trail F s) → getD trail 0 0 ≡ x
+head-out : (trail : List ℕ) (F : List Bool) (s x t : ℕ) → 0 < t → HeadIs x (outcomeBy t trail F s) → pairIn (getD trail 0 0) ≡ x
 unfolding outcomeBy
 head-out trail F s x zero l h = absurd (not-suc-le-zero l)
 head-out trail F s x (suc t) l h = sym (head-up trail [] t) ∙ h

@@ -1,6 +1,6 @@
 -- What a search is over, and the search that the definition makes of it.
 use mathlib.Core.Bool.{Bool}
-use mathlib.Core.List.{List, [], _∷_, reverseAux}
+use mathlib.Core.List.{List, [], reverseAux}
 use Prim.Native.Nat.{ℕ, _+_, _*_}
 use lib.ListN.{length}
 use Rattle.rules.specs.Places.{Place}

@@ -1,9 +1,9 @@
 -- A path that was found: its labels, its report, and what one start of the search leaves.
 use mathlib.Core.Path.{_≡_}
-use mathlib.Core.List.{List, [], _∷_, _++_}
+use mathlib.Core.List.{List, _∷_}
 use mathlib.Core.Bool.{Bool, true, false}
 use mathlib.Core.Option.{Option, none, some}
-use Prim.Native.Nat.{ℕ, zero, suc, _+_, _-_, _*_, _≤_, _<_}
+use Prim.Native.Nat.{ℕ, _+_, _-_, _*_, _≤_, _<_}
 use lib.Dec.{eqb}
 use lib.IntN.{ℤ}
 use lib.ListN.{length, getD}
@@ -13,9 +13,10 @@ use Rattle.rules.specs.Search.{Kept, answered, labels, nextStart, endOf}
 use Rattle.rules.proofs.Notes.{bitsOf}
 use Rattle.walk.specs.declared.Walk.{Walk}
 use Rattle.walk.specs.Tables.{Tables, P, N, Legal}
+use Rattle.walk.specs.Step.{pairIn}
 use Rattle.walk.specs.State.{OnPath, attemptBy}
 use Rattle.sweep.specs.declared.Sweep.{Sweep}
-use Rattle.sweep.specs.Asked.{Asked, pl, width, pathOn, labelsOn}
+use Rattle.sweep.specs.Asked.{Asked, pl, width, labelsOn}
 
 -- ---- labels
 
@@ -83,7 +84,7 @@ pub record Reports (T : Tables) (n : ℕ) (ms : List ℕ) (count : ℕ) (rows : 
   pub path : OnPath T trail w
   pub going : 0 < w .top
   pub last : 4 ≤ getD (T .sort) (w .place) 0
-  pub bottom : getD trail 0 0 ≡ i .row * P T
+  pub bottom : pairIn (getD trail 0 0) ≡ i .row * P T
   pub row : i .row < n
   pub behind : w .row ≤ n
   pub few : i .matches ≤ i .row

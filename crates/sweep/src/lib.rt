@@ -1,15 +1,14 @@
 // The whole search by the counted walk: all starts, each with one attempt; the matches written as they are found; and the buffers left as the report says.
 use walk::Walk;
 ghost use mathlib.Core.Path.{_≡_};
-ghost use mathlib.Core.List.{List, [], _∷_};
 ghost use mathlib.Core.Bool.{Bool, true, false};
-ghost use Prim.Native.Nat.{ℕ, suc, _+_, _-_, _*_, _/_, _%_, _<_, _≤_};
-ghost use lib.ListN.{length, getD, set};
+ghost use Prim.Native.Nat.{ℕ, _+_, _-_, _*_, _/_, _<_, _≤_};
+ghost use lib.ListN.{length, getD};
 ghost use Rattle.rules.specs.Basics.{wrote};
 ghost use Rattle.rules.specs.Search.{nextStart};
 ghost use Rattle.walk.specs.Tables.{tables};
 ghost use Rattle.walk.specs.Letters.{holdsIn, Lettered};
-ghost use Rattle.sweep.specs.Asked.{asked, labelsOn, pathOn, pl};
+ghost use Rattle.sweep.specs.Asked.{asked, labelsOn, pathOn};
 ghost use mathlib.Core.Option.{some};
 ghost use Rattle.rules.specs.Rows.{tableOf};
 ghost use Rattle.report.specs.Measures.{measuresIn};
@@ -52,7 +51,9 @@ fn put_labels(
     end: usize,
 )
     requires { ⌜ Labels (tables (now sort) (now letter) (now next) (now stop) (now ways)) (now trail) (now labels) from end ⌝ }
-    ensures { λ _. ⌜ now (labels .exit) ≡ wrote (now (labels .entry)) (end - length (labelsOn (tables (now (sort .entry)) (now (letter .entry)) (now (next .entry)) (now (stop .entry)) (now (ways .entry))) (now (trail .entry)) (from .top))) (labelsOn (tables (now (sort .entry)) (now (letter .entry)) (now (next .entry)) (now (stop .entry)) (now (ways .entry))) (now (trail .entry)) (from .top)) ⌝ }
+    ensures { λ _. ⌜ now (labels .exit) ≡ wrote (now (labels .entry)) (end - length
+        (labelsOn (tables (now (sort .entry)) (now (letter .entry)) (now (next .entry)) (now (stop .entry)) (now (ways .entry))) (now (trail .entry)) (from .top)))
+        (labelsOn (tables (now (sort .entry)) (now (letter .entry)) (now (next .entry)) (now (stop .entry)) (now (ways .entry))) (now (trail .entry)) (from .top)) ⌝ }
 {
     let mut w = from;
     let mut e = end;
@@ -96,7 +97,10 @@ fn write_match(
     w: Walk,
 ) -> Sweep
     requires { ⌜ Reports (tables (now sort) (now letter) (now next) (now stop) (now ways)) n (now ms) count (now rows) columns (now trail) (now labels) i w ⌝ }
-    ensures { λ r. ⌜ ((holds : ℕ → ℕ → Bool) → Told (asked (tables (now (sort .entry)) (now (letter .entry)) (now (next .entry)) (now (stop .entry)) (now (ways .entry))) holds n mode (tableOf columns (now (rows .entry))) (measuresIn (now (ms .entry)) count)) (some (pathOn (now (trail .entry)) (w .top))) i (w .steps) (now (numbers .entry)) (now (numbers .exit)) (now (labels .entry)) (now (labels .exit)) r) ⌝ }
+    ensures { λ r. ⌜ ((holds : ℕ → ℕ → Bool) → Told (asked
+        (tables (now (sort .entry)) (now (letter .entry)) (now (next .entry)) (now (stop .entry)) (now (ways .entry))) holds n mode
+        (tableOf columns (now (rows .entry))) (measuresIn (now (ms .entry)) count)) (some (pathOn (now (trail .entry)) (w .top))) i (w .steps) (now (numbers .entry))
+        (now (numbers .exit)) (now (labels .entry)) (now (labels .exit)) r) ⌝ }
 {
     let row = i.row;
     let behind = w.row;
@@ -157,8 +161,13 @@ fn visit(
     labels: &mut [u8],
     i: Sweep,
 ) -> Sweep
-    requires { ⌜ Visits (asked (tables (now sort) (now letter) (now next) (now stop) (now ways)) (holdsIn (now rows) columns (now cells) (now offsets) (now constants) (now counts)) n mode (tableOf columns (now rows)) (measuresIn (now ms) count)) (Lettered (now cells) (now offsets) (now counts) (now rows) columns n) (now ms) count (now rows) columns (now notes) (now trail) (now labels) i ⌝ }
-    ensures { λ r. ⌜ Visited (asked (tables (now (sort .entry)) (now (letter .entry)) (now (next .entry)) (now (stop .entry)) (now (ways .entry))) (holdsIn (now (rows .entry)) columns (now (cells .entry)) (now (offsets .entry)) (now (constants .entry)) (now (counts .entry))) n mode (tableOf columns (now (rows .entry))) (measuresIn (now (ms .entry)) count)) (now (notes .entry)) (now (notes .exit)) (now (trail .entry)) (now (trail .exit)) (now (numbers .entry)) (now (numbers .exit)) (now (labels .entry)) (now (labels .exit)) i r ⌝ }
+    requires { ⌜ Visits (asked (tables (now sort) (now letter) (now next) (now stop) (now ways))
+        (holdsIn (now rows) columns (now cells) (now offsets) (now constants) (now counts)) n mode (tableOf columns (now rows)) (measuresIn (now ms) count)) (Lettered
+        (now cells) (now offsets) (now counts) (now rows) columns n) (now ms) count (now rows) columns (now notes) (now trail) (now labels) i ⌝ }
+    ensures { λ r. ⌜ Visited (asked (tables (now (sort .entry)) (now (letter .entry)) (now (next .entry)) (now (stop .entry)) (now (ways .entry)))
+        (holdsIn (now (rows .entry)) columns (now (cells .entry)) (now (offsets .entry)) (now (constants .entry)) (now (counts .entry))) n mode
+        (tableOf columns (now (rows .entry))) (measuresIn (now (ms .entry)) count)) (now (notes .entry)) (now (notes .exit)) (now (trail .entry)) (now (trail .exit))
+        (now (numbers .entry)) (now (numbers .exit)) (now (labels .entry)) (now (labels .exit)) i r ⌝ }
 {
     let row = i.row;
     let w = walk::attempt(
@@ -231,8 +240,13 @@ fn starts(
     numbers: &mut [i64],
     labels: &mut [u8],
 ) -> Sweep
-    requires { ⌜ Starts (asked (tables (now sort) (now letter) (now next) (now stop) (now ways)) (holdsIn (now rows) columns (now cells) (now offsets) (now constants) (now counts)) n mode (tableOf columns (now rows)) (measuresIn (now ms) count)) (Lettered (now cells) (now offsets) (now counts) (now rows) columns n) (now ms) count (now rows) columns (now notes) (now trail) ⌝ }
-    ensures { λ r. ⌜ Searched (asked (tables (now (sort .entry)) (now (letter .entry)) (now (next .entry)) (now (stop .entry)) (now (ways .entry))) (holdsIn (now (rows .entry)) columns (now (cells .entry)) (now (offsets .entry)) (now (constants .entry)) (now (counts .entry))) n mode (tableOf columns (now (rows .entry))) (measuresIn (now (ms .entry)) count)) (now (notes .entry)) (now (trail .entry)) (now (numbers .entry)) (now (labels .entry)) (now (notes .exit)) (now (trail .exit)) (now (numbers .exit)) (now (labels .exit)) r ⌝ }
+    requires { ⌜ Starts (asked (tables (now sort) (now letter) (now next) (now stop) (now ways))
+        (holdsIn (now rows) columns (now cells) (now offsets) (now constants) (now counts)) n mode (tableOf columns (now rows)) (measuresIn (now ms) count)) (Lettered
+        (now cells) (now offsets) (now counts) (now rows) columns n) (now ms) count (now rows) columns (now notes) (now trail) ⌝ }
+    ensures { λ r. ⌜ Searched (asked (tables (now (sort .entry)) (now (letter .entry)) (now (next .entry)) (now (stop .entry)) (now (ways .entry)))
+        (holdsIn (now (rows .entry)) columns (now (cells .entry)) (now (offsets .entry)) (now (constants .entry)) (now (counts .entry))) n mode
+        (tableOf columns (now (rows .entry))) (measuresIn (now (ms .entry)) count)) (now (notes .entry)) (now (trail .entry)) (now (numbers .entry)) (now
+        (labels .entry)) (now (notes .exit)) (now (trail .exit)) (now (numbers .exit)) (now (labels .exit)) r ⌝ }
 {
     let mut i = Sweep {
         full: false,
@@ -315,8 +329,13 @@ pub extern "C" fn search(
     numbers: &mut [i64],
     labels: &mut [u8],
 ) -> Sweep
-    requires { ⌜ Searches (asked (tables (now sort) (now letter) (now next) (now stop) (now ways)) (holdsIn (now rows) columns (now cells) (now offsets) (now constants) (now counts)) n mode (tableOf columns (now rows)) (measuresIn (now ms) count)) (Lettered (now cells) (now offsets) (now counts) (now rows) columns n) (now ms) count (now rows) columns (now notes) (now trail) ⌝ }
-    ensures { λ r. ⌜ Answered (asked (tables (now (sort .entry)) (now (letter .entry)) (now (next .entry)) (now (stop .entry)) (now (ways .entry))) (holdsIn (now (rows .entry)) columns (now (cells .entry)) (now (offsets .entry)) (now (constants .entry)) (now (counts .entry))) n mode (tableOf columns (now (rows .entry))) (measuresIn (now (ms .entry)) count)) (now (notes .entry)) (now (trail .entry)) (now (numbers .entry)) (now (labels .entry)) (now (notes .exit)) (now (trail .exit)) (now (numbers .exit)) (now (labels .exit)) r ⌝ }
+    requires { ⌜ Searches (asked (tables (now sort) (now letter) (now next) (now stop) (now ways))
+        (holdsIn (now rows) columns (now cells) (now offsets) (now constants) (now counts)) n mode (tableOf columns (now rows)) (measuresIn (now ms) count)) (Lettered
+        (now cells) (now offsets) (now counts) (now rows) columns n) (now ms) count (now rows) columns (now notes) (now trail) ⌝ }
+    ensures { λ r. ⌜ Answered (asked (tables (now (sort .entry)) (now (letter .entry)) (now (next .entry)) (now (stop .entry)) (now (ways .entry)))
+        (holdsIn (now (rows .entry)) columns (now (cells .entry)) (now (offsets .entry)) (now (constants .entry)) (now (counts .entry))) n mode
+        (tableOf columns (now (rows .entry))) (measuresIn (now (ms .entry)) count)) (now (notes .entry)) (now (trail .entry)) (now (numbers .entry)) (now
+        (labels .entry)) (now (notes .exit)) (now (trail .exit)) (now (numbers .exit)) (now (labels .exit)) r ⌝ }
 {
     let pairs = sort.len() * (n + 1);
     zero_bytes(notes, (pairs + 7) / 8);

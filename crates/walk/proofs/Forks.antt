@@ -1,31 +1,25 @@
 -- The last open pair is a fork: it tries the pairs of its ways in order.
-use mathlib.Core.Path.{_≡_, refl, sym, ap, _∙_, subst}
-use mathlib.Core.List.{List, [], _∷_, map}
-use mathlib.Core.Bool.{Bool, true, false, _&&_}
+use mathlib.Core.Path.{_≡_, refl, _∙_}
+use mathlib.Core.List.{List, map}
+use mathlib.Core.Bool.{Bool, true, false}
 use mathlib.Core.Logic.{_≢_}
-use mathlib.Core.Option.{Option, none, some}
-use Prim.Native.Nat.{ℕ, zero, suc, _+_, _-_, _*_, _/_, _%_, _≤_, _<_, suc-le-suc, zero-le}
-use native.Mathlib.Nat.{le-of-suc-le-suc, not-suc-le-zero, mul-comm, suc-mul, add-zero}
-use native.Mathlib.Numerals.{add-one}
+use mathlib.Core.Option.{some}
+use Prim.Native.Nat.{ℕ, _+_, _-_, _/_, _%_, _≤_, _<_}
 use native.Mathlib.Decide.{ℕ-discrete}
 use native.Mathlib.Omega.{arith}
-use lib.Arith.{digits-lt, digits-div}
-use lib.Dec.{ltb}
-use lib.ListN.{length, getD, set}
-use borrow.Author.Tests.{ltb-true}
+use lib.Arith.{digits-div, digits-mod}
+use lib.ListN.{length, getD}
 use Rattle.rules.specs.Report.{bitAt}
-use Rattle.rules.specs.Walk.{Ways, try, Outcome, failed, enterUnless, inside}
-use Rattle.rules.proofs.Level.{and-true}
-use Rattle.rules.proofs.Machine.{firstOpen, openOr, resume, resume-one}
-use Rattle.rules.proofs.Notes.{marked, bitsOf, bitsOf-at, bit-keep}
-use Rattle.rules.proofs.Walk.{All, All-map}
+use Rattle.rules.specs.Walk.{try}
+use Rattle.rules.proofs.Machine.{firstOpen}
+use Rattle.rules.proofs.Notes.{bitsOf, bitsOf-at}
 use Rattle.walk.specs.declared.Walk.{Walk}
-use Rattle.walk.specs.Tables.{Tables, P, N, span, placeAt, graphOf, passesBy, Leads}
-use Rattle.walk.specs.Step.{Mem, mem, stack, walkAt, pairOf, enteredBy, triedBy, backTo, outcomeBy, Enters, Tries, Leaves}
-use Rattle.walk.specs.State.{takes, Good, Goes, Passes, left, comes, Reached, Stepped, Ran, Ready, attemptBy, Done}
-use Rattle.walk.proofs.Ways.{span-each, ways-fork, ways-letter, ways-anchor, leads-next, leads-way, takes-row, takes-no-row}
-use Rattle.walk.proofs.Going.{reached-none, reached-on, Next, next-enters, open-reached, open-less, shut-reached, shut-less, shut-marked, top-place, top-base, top-row, top-below, top-passes, top-leaves, top-end, top-next, next-same, leave-reached, leave-less}
-use Rattle.walk.proofs.Trying.{Stays, Tried, tried, shut-all, first-at, pair-in, Shut}
+use Rattle.walk.specs.Tables.{Tables, P, N, span, placeAt, graphOf, passesBy}
+use Rattle.walk.specs.Step.{mem, pairOf, triedBy, Tries}
+use Rattle.walk.specs.State.{takes, wayAt, Good, Goes, left, comes, Reached, Stepped}
+use Rattle.walk.proofs.Ways.{span-each, ways-fork, leads-way, takes-no-row}
+use Rattle.walk.proofs.Going.{reached-none, reached-on, Next, next-enters, top-place, top-base, top-row, top-next, next-same}
+use Rattle.walk.proofs.Trying.{Tried, tried, shut-all, first-at, pair-in, Shut}
 
 -- its ways before way j have been tried, and have failed
 pub record Trying (T : Tables) (holds : ℕ → ℕ → Bool) (n : ℕ) (Q : Type 0) (n₁ t₁ : List ℕ) (w₁ : Walk) (notes trail : List ℕ) (j : ℕ) (w : Walk) : Type 0 where
@@ -52,8 +46,10 @@ module _ (T : Tables) (holds : ℕ → ℕ → Bool) (n : ℕ) (Q : Type 0) (n�
   pub fork-stop : Goes T holds n Q n₁ t₁ w₁ (λ s. s ≡ 0) → w₁ .place < length (T .stop)
   fork-stop h = rw (h .good .legal .sized .stops) (fork-place h)
 
-  pub fork-none : (j : ℕ) → j ≡ from → Goes T holds n Q n₁ t₁ w₁ (λ s. s ≡ 0) → Trying T holds n Q n₁ t₁ w₁ n₁ t₁ j w₁
-  fork-none j e h =
+  -- those before the way from which it goes on
+  pub fork-none : (begin : ℕ) → begin ≡ from → Goes T holds n Q n₁ t₁ w₁ (λ s. s ≡ 0) → Trying T holds n Q n₁ t₁ w₁ n₁ t₁ (begin + w₁ .from) w₁
+  unfolding wayAt
+  fork-none begin e h =
       record {
         goes = h;
         reached = reached-none T holds n Q n₁ t₁ w₁ (h .good);
@@ -63,7 +59,12 @@ module _ (T : Tables) (holds : ℕ → ℕ → Bool) (n : ℕ) (Q : Type 0) (n�
         row = refl;
         base = refl;
         from = omega arith;
-        tried = λ k a b. absurd (omega arith);
+        tried = λ k a b.
+            let m : from + (k - from) ≡ k = omega arith in
+            let t = h .good .from-tried (h .going) (k - from) (omega arith) in
+            let d : (w₁ .base + w₁ .place) / P T ≡ w₁ .row = rw (top-base T holds n Q n₁ t₁ w₁ (h .good) (h .going)) (digits-div (w₁ .row) (fork-place h)) in
+            let p : (w₁ .base + w₁ .place) % P T ≡ w₁ .place = rw (top-base T holds n Q n₁ t₁ w₁ (h .good) (h .going)) (digits-mod (w₁ .row) (fork-place h)) in
+            rw (top-base T holds n Q n₁ t₁ w₁ (h .good) (h .going)) (rw (d, p, m) at t);
       }
 
   module _ (notes trail : List ℕ) (j : ℕ) (w : Walk) (t : Trying T holds n Q n₁ t₁ w₁ notes trail j w) (end : ℕ) (ee : end ≡ getD (T .stop) (w₁ .place) 0) where
@@ -111,6 +112,9 @@ module _ (T : Tables) (holds : ℕ → ℕ → Bool) (n : ℕ) (Q : Type 0) (n�
     }
 
     module _ (lt : j < end) where
+      pub fork-begin : (begin : ℕ) → begin ≡ from → begin ≤ j
+      fork-begin begin e = let f = t .from in omega arith
+
       pub fork-way : j < length (T .ways)
       fork-way = let s = g .legal .sized .stop (w₁ .place) in omega arith
 
@@ -131,23 +135,32 @@ module _ (T : Tables) (holds : ℕ → ℕ → Bool) (n : ℕ) (Q : Type 0) (n�
             let z : takes (placeAt T (w .place)) ≡ 0 = takes-no-row T holds n (w .place) (w .row) place (λ (e : getD (T .sort) (w .place) 0 ≡ 1). let s = sort-is in omega arith) in
             omega arith
 
-        next-way : bitAt notes (w .base + q) ≡ false → Next T holds n Q notes trail w q (w .row) (w .base)
-        next-way o = top-next T holds n Q notes trail w g going (map (λ k. w .base + k) ws) ways-are q (w .row) (w .base) way-place (top-base T holds n Q notes trail w g going) same-row (first o)
+        -- the ways before it
+        before : 0 < w .top → (m : ℕ) → m < j - from → bitAt notes (wayAt T (pairOf w) m) ≡ true
+        unfolding wayAt
+        before _ m l =
+            let eb = top-base T holds n Q notes trail w g going in
+            let d : pairOf w / P T ≡ w .row = rw eb (digits-div (w .row) place) in
+            let p : pairOf w % P T ≡ w .place = rw eb (digits-mod (w .row) place) in
+            rw (d, p, ← eb, t .base, t .place) (t .tried (from + m) (omega arith) (let f = t .from in omega arith))
+
+        next-way : bitAt notes (w .base + q) ≡ false → Next T holds n Q notes trail w q (w .row) (w .base) (j - from)
+        next-way o = top-next T holds n Q notes trail w g going (map (λ k. w .base + k) ws) ways-are q (w .row) (w .base) (j - from) before way-place (top-base T holds n Q notes trail w g going) same-row (first o)
 
         pub fork-tries : Tries (T .sort) (T .letter) Q notes trail w q (w .base)
         fork-tries =
             let b = y-in in
             let no = g .noted in
             let sm = g .legal .small in
-            record { small = omega arith; byte = omega arith; enters = λ o. next-enters T holds n Q notes trail w q (w .row) (w .base) (next-way o) }
+            record { small = omega arith; byte = omega arith; enters = λ o. next-enters T holds n Q notes trail w q (w .row) (w .base) (j - from) (next-way o) }
 
-        module _ (notes′ trail′ : List ℕ) (v : Walk)
-            (e : mem notes′ trail′ v ≡ triedBy (bitAt notes (w .base + q)) (passesBy holds n (getD (T .sort) q 0) (getD (T .letter) q 0) (w .row)) (mem notes trail w) q (w .row) (w .base)) where
+        module _ (begin : ℕ) (ef : begin ≡ from) (notes′ trail′ : List ℕ) (v : Walk)
+            (e : mem notes′ trail′ v ≡ triedBy (bitAt notes (w .base + q)) (passesBy holds n (getD (T .sort) q 0) (getD (T .letter) q 0) (w .row)) (mem notes trail w) q (w .row) (w .base) (j - begin)) where
           way-tried : Tried T holds n Q notes trail w (w .base + q) (comes T holds n notes trail w) notes′ trail′ v
           way-tried =
-              tried T holds n Q notes trail w q (w .row) (w .base) (comes T holds n notes trail w) g next-way
-              (λ o. next-same T holds n Q notes trail w g going (map (λ k. w .base + k) ws) ways-are q (w .row) (w .base) way-place (top-base T holds n Q notes trail w g going) same-row (first o))
-              (λ _. refl) notes′ trail′ v e
+              tried T holds n Q notes trail w q (w .row) (w .base) (j - from) (comes T holds n notes trail w) g next-way
+              (λ o. next-same T holds n Q notes trail w g going (map (λ k. w .base + k) ws) ways-are q (w .row) (w .base) (j - from) before way-place (top-base T holds n Q notes trail w g going) same-row (first o))
+              (λ _. refl) notes′ trail′ v (rw ef at e)
 
           on : Reached T holds n Q n₁ t₁ (comes T holds n n₁ t₁ w₁) notes′ trail′ v
           on = reached-on T holds n Q n₁ t₁ _ notes trail w notes′ trail′ v (t .reached) (way-tried .reached)

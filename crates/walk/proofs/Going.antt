@@ -1,24 +1,26 @@
 -- An attempt that goes on: entering a pair and leaving one keep what holds of it (`Good`), the state comes to what it came to before, and less is left.
 use mathlib.Core.Path.{_≡_, refl, sym, ap, _∙_}
 use mathlib.Core.List.{List, [], _∷_, reverseAux}
-use mathlib.Core.Bool.{Bool, true, false}
-use mathlib.Core.Option.{Option, none, some}
-use Prim.Native.Nat.{ℕ, zero, suc, _+_, _-_, _*_, _/_, _%_, _≤_, _<_, suc-le-suc}
-use native.Mathlib.Nat.{le-of-suc-le-suc, not-suc-le-zero, div-lt-iff-lt-mul, mul-comm, div-add-mod', mod-lt}
+use mathlib.Core.Bool.{Bool, true, false, false≢true}
+use mathlib.Core.Logic.{_≢_}
+use mathlib.Core.Option.{none, some}
+use Prim.Native.Nat.{ℕ, zero, suc, _+_, _-_, _*_, _/_, _%_, _≤_, _<_}
+use native.Mathlib.Nat.{le-of-suc-le-suc, not-suc-le-zero, div-lt-iff-lt-mul, mul-comm, div-add-mod'}
 use native.Mathlib.Numerals.{add-one}
+use native.Mathlib.Decide.{ℕ-discrete}
 use native.Mathlib.Omega.{arith}
-use lib.Arith.{digits-div, digits-mod}
+use lib.Arith.{digits-div}
 use lib.ListN.{length, getD, set, length-set}
 use lib.Seq.{getD-set-same, getD-set-other}
 use Rattle.rules.specs.Report.{bitAt}
-use Rattle.rules.specs.Walk.{Ways, accept, try, Outcome, found, failed, countTrue}
+use Rattle.rules.specs.Walk.{Ways, accept, try, Outcome, found, countTrue}
 use Rattle.rules.proofs.Machine.{firstOpen, openOr, resume, resume-accept, resume-pop, resume-push, Open, open-room, open-push, open-pop}
 use Rattle.rules.proofs.Notes.{marked, bitsOf, bitsOf-at, bitsFrom-length, bits-mark, bit-keep}
-use Rattle.rules.proofs.Walk.{All, All-map, Out, Falls, count-mark}
+use Rattle.rules.proofs.Walk.{All, Out, count-mark}
 use Rattle.walk.specs.declared.Walk.{Walk}
 use Rattle.walk.specs.Tables.{Tables, P, N, placeAt, graphOf, passesBy}
-use Rattle.walk.specs.Step.{stack, walkAt, pairOf, spotted, backTo, outcomeBy, Known, Enters, Under, Backs, Leaves}
-use Rattle.walk.specs.State.{takes, Onto, Linked, Passing, Spot, OnPath, Good, left, comes, Reached}
+use Rattle.walk.specs.Step.{entryOf, pairIn, wayIn, stack, walkAt, pairOf, spotted, backTo, outcomeBy, Enters, Leaves}
+use Rattle.walk.specs.State.{takes, Onto, Linked, Passing, Spot, OnPath, wayAt, Good, left, comes, Reached}
 use Rattle.walk.proofs.Ways.{pair-row, pair-place, ways-shut, ways-end}
 use Rattle.walk.proofs.Trails.{stack-length, stack-push, back-top, back-steps, back-spot, linked-under, path-top, path-linked, path-row, path-place, path-backs}
 
@@ -75,14 +77,19 @@ module _ (T : Tables) (holds : ℕ → ℕ → Bool) (n : ℕ) (Q : Type 0) (n�
 -- ---- a pair is entered
 
 -- the pair of place q at a row is the next to be entered
-pub record Next (T : Tables) (holds : ℕ → ℕ → Bool) (n : ℕ) (Q : Type 0) (notes trail : List ℕ) (w : Walk) (q row base : ℕ) : Type 0 where
+pub record Next (T : Tables) (holds : ℕ → ℕ → Bool) (n : ℕ) (Q : Type 0) (notes trail : List ℕ) (w : Walk) (q row base way : ℕ) : Type 0 where
   pub good : Good T holds n Q notes trail w
   pub place : q < P T
   pub base-is : base ≡ row * P T
   pub opened : Open (good .legal .ρ) (N T n) (bitsOf notes (N T n)) ((base + q) ∷ stack trail (w .top))
   pub linked : Linked T ((base + q) ∷ stack trail (w .top))
+  pub before : 0 < w .top → (m : ℕ) → m < way → bitAt notes (wayAt T (pairOf w) m) ≡ true
 
-module _ (T : Tables) (holds : ℕ → ℕ → Bool) (n : ℕ) (Q : Type 0) (notes trail : List ℕ) (w : Walk) (q row base : ℕ) (h : Next T holds n Q notes trail w q row base) where
+-- a note is not taken back
+pub keeps-marked : (notes : List ℕ) (x z : ℕ) → x / 8 < length notes → bitAt notes x ≡ false → bitAt notes z ≡ true → bitAt (marked notes x) z ≡ true
+keeps-marked notes x z l o e = bit-keep notes x z l o (λ (q : z ≡ x). false≢true (sym o ∙ sym (ap (bitAt notes) q) ∙ e)) ∙ e
+
+module _ (T : Tables) (holds : ℕ → ℕ → Bool) (n : ℕ) (Q : Type 0) (notes trail : List ℕ) (w : Walk) (q row base way : ℕ) (h : Next T holds n Q notes trail w q row base way) where
   abbrev y : ℕ
   y = base + q
 
@@ -129,19 +136,46 @@ module _ (T : Tables) (holds : ℕ → ℕ → Bool) (n : ℕ) (Q : Type 0) (not
 
   -- it passes
   module _ (p : passing ≡ true) where
-    stack-is : stack (set trail (w .top) y) (w .top + 1) ≡ y ∷ stack trail (w .top)
-    stack-is = stack-push trail (w .top) y (next-enters .room)
+    abbrev e : ℕ
+    e = entryOf y way
+
+    pair-is : pairIn e ≡ y
+    pair-is = let b = below in let s = h .good .legal .small in omega arith
+
+    stack-is : stack (set trail (w .top) e) (w .top + 1) ≡ y ∷ stack trail (w .top)
+    stack-is = stack-push trail (w .top) e (next-enters .room) ∙ ap (λ (z : ℕ). z ∷ stack trail (w .top)) pair-is
 
     y-passes : Passing T holds n y
     unfolding Passing
     y-passes = rw (h .base-is, pair-row T holds n q row (h .place), pair-place T holds n q row (h .place)) p
 
-    at-top : Spot (P T) (walkAt (w .top + 1) (w .steps + 1) q row base) (getD (set trail (w .top) y) (w .top + 1 - 1) 0)
+    at-top : Spot (P T) (walkAt (w .top + 1) (w .steps + 1) q row base 0) (pairIn (getD (set trail (w .top) e) (w .top + 1 - 1) 0))
     at-top =
-        let e : w .top + 1 - 1 ≡ w .top = omega arith in
-        rw (e, getD-set-same trail (w .top) y 0 (next-enters .room)) (record { pair = refl; place = h .place; base = h .base-is })
+        let o : w .top + 1 - 1 ≡ w .top = omega arith in
+        rw (o, getD-set-same trail (w .top) e 0 (next-enters .room), pair-is) (record { pair = refl; place = h .place; base = h .base-is })
 
-    open-good : Good T holds n Q notes (set trail (w .top) y) (walkAt (w .top + 1) (w .steps + 1) q row base)
+    -- the ways before the one by which it was reached have failed
+    open-tried : (k m : ℕ) → suc k < w .top + 1 → m < wayIn (getD (set trail (w .top) e) (suc k) 0) → bitAt notes (wayAt T (pairIn (getD (set trail (w .top) e) k 0)) m) ≡ true
+    open-tried k m l b =
+        let u : getD (set trail (w .top) e) k 0 ≡ getD trail k 0 = getD-set-other trail (w .top) k e 0 (λ (q : k ≡ w .top). omega arith) in
+        rw u (elim (ℕ-discrete (suc k) (w .top)) [
+          | yes q ↦ last q (rw q at b)
+          | no q ↦ h .good .tried k m (less q) (rw (getD-set-other trail (w .top) (suc k) e 0 q) at b)
+        ])
+      where
+        less : (suc k ≡ w .top → ⊥) → suc k < w .top
+        less q = let d : suc k ≢ w .top = q in omega arith
+
+        last : suc k ≡ w .top → m < wayIn (getD (set trail (w .top) e) (w .top) 0) → bitAt notes (wayAt T (pairIn (getD trail k 0)) m) ≡ true
+        last q b =
+            let f : m < wayIn e = rw (getD-set-same trail (w .top) e 0 (next-enters .room)) at b in
+            let s = h .good .legal .small in
+            let g = below in
+            let i : k ≡ w .top - 1 = omega arith in
+            let c : pairOf w ≡ pairIn (getD trail (w .top - 1) 0) = h .good .spot (omega arith) .pair in
+            rw (i, ← c) (h .before (omega arith) m (omega arith))
+
+    open-good : Good T holds n Q notes (set trail (w .top) e) (walkAt (w .top + 1) (w .steps + 1) q row base 0)
     open-good =
         let g = h .good in
         let r = room in
@@ -150,15 +184,18 @@ module _ (T : Tables) (holds : ℕ → ℕ → Bool) (n : ℕ) (Q : Type 0) (not
           legal = g .legal;
           asks = g .asks;
           noted = g .noted;
-          trailed = rw (length-set trail (w .top) y) (g .trailed);
+          trailed = rw (length-set trail (w .top) e) (g .trailed);
           opened = rw stack-is (h .opened);
           linked = rw stack-is (h .linked);
           passing = rw stack-is (y-passes, g .passing);
           spot = λ _. at-top;
+          from-small = omega arith;
+          from-tried = λ _ m l. absurd (not-suc-le-zero l);
+          tried = open-tried;
           steps = omega arith;
         }
 
-    pub open-reached : Reached T holds n Q notes trail then notes (set trail (w .top) y) (walkAt (w .top + 1) (w .steps + 1) q row base)
+    pub open-reached : Reached T holds n Q notes trail then notes (set trail (w .top) e) (walkAt (w .top + 1) (w .steps + 1) q row base 0)
     unfolding comes
     open-reached =
         let r = room in
@@ -166,12 +203,12 @@ module _ (T : Tables) (holds : ℕ → ℕ → Bool) (n : ℕ) (Q : Type 0) (not
           good = open-good;
           same = rw (stack-is, add-one (w .steps));
           notes-long = refl;
-          trail-long = length-set trail (w .top) y;
+          trail-long = length-set trail (w .top) e;
           notes-beyond = λ z l. refl;
-          trail-beyond = λ k l. getD-set-other trail (w .top) k y 0 (λ (e : k ≡ w .top). omega arith);
+          trail-beyond = λ k l. getD-set-other trail (w .top) k e 0 (λ (q : k ≡ w .top). omega arith);
         }
 
-    pub open-less : left (N T n) notes (walkAt (w .top + 1) (w .steps + 1) q row base) < left (N T n) notes w
+    pub open-less : left (N T n) notes (walkAt (w .top + 1) (w .steps + 1) q row base 0) < left (N T n) notes w
     unfolding left
     open-less = let r = room in omega arith
 
@@ -186,7 +223,7 @@ module _ (T : Tables) (holds : ℕ → ℕ → Bool) (n : ℕ) (Q : Type 0) (not
     count-is : countTrue G′ ≡ suc (countTrue G)
     count-is = rw bits-is (count-mark G y (rw (bitsFrom-length notes (N T n) 0) below) (h .opened .out .0))
 
-    shut-good : Good T holds n Q (marked notes y) trail (walkAt (w .top) (w .steps + 1) (w .place) (w .row) (w .base))
+    shut-good : Good T holds n Q (marked notes y) trail (walkAt (w .top) (w .steps + 1) (w .place) (w .row) (w .base) (w .from))
     unfolding marked
     shut-good =
         let g = h .good in
@@ -202,19 +239,22 @@ module _ (T : Tables) (holds : ℕ → ℕ → Bool) (n : ℕ) (Q : Type 0) (not
           linked = g .linked;
           passing = g .passing;
           spot = λ l. let k = g .spot l in record { pair = k .pair; place = k .place; base = k .base };
+          from-small = g .from-small;
+          from-tried = λ l m b. keeps-marked notes y _ (next-enters .byte) out (g .from-tried l m b);
+          tried = λ k m l b. keeps-marked notes y _ (next-enters .byte) out (g .tried k m l b);
           steps = omega arith;
         }
 
     nothing : graphOf T holds n y ≡ try []
     nothing = rw (h .base-is) (ways-shut T holds n q row (h .place) p)
 
-    shut-same : comes T holds n (marked notes y) trail (walkAt (w .top) (w .steps + 1) (w .place) (w .row) (w .base)) ≡ then
+    shut-same : comes T holds n (marked notes y) trail (walkAt (w .top) (w .steps + 1) (w .place) (w .row) (w .base) (w .from)) ≡ then
     unfolding comes firstOpen
     shut-same =
         rw (bits-is, add-one (w .steps))
         (sym (resume-pop (graphOf T holds n) (h .good .legal .ρ) (N T n) (h .good .legal .falls) (N T n) (h .good .legal .bound) (stack trail (w .top)) G (suc (w .steps)) y [] nothing refl))
 
-    pub shut-reached : Reached T holds n Q notes trail then (marked notes y) trail (walkAt (w .top) (w .steps + 1) (w .place) (w .row) (w .base))
+    pub shut-reached : Reached T holds n Q notes trail then (marked notes y) trail (walkAt (w .top) (w .steps + 1) (w .place) (w .row) (w .base) (w .from))
     unfolding marked
     shut-reached =
         let b = below in
@@ -227,7 +267,7 @@ module _ (T : Tables) (holds : ℕ → ℕ → Bool) (n : ℕ) (Q : Type 0) (not
           trail-beyond = λ k l. refl;
         }
 
-    pub shut-less : left (N T n) (marked notes y) (walkAt (w .top) (w .steps + 1) (w .place) (w .row) (w .base)) < left (N T n) notes w
+    pub shut-less : left (N T n) (marked notes y) (walkAt (w .top) (w .steps + 1) (w .place) (w .row) (w .base) (w .from)) < left (N T n) notes w
     unfolding left
     shut-less = let r = room in let c = count-is in omega arith
 
@@ -306,7 +346,7 @@ module _ (T : Tables) (holds : ℕ → ℕ → Bool) (n : ℕ) (Q : Type 0) (not
     ranks = g .legal .falls x ys tries
 
     -- its first way that has not failed is the next to be entered
-    module _ (q row base : ℕ) (place : q < P T) (eb : base ≡ row * P T) (er : row ≡ w .row + takes (placeAt T (w .place))) (first : firstOpen (bitsOf notes (N T n)) ys ≡ some (base + q)) where
+    module _ (q row base way : ℕ) (before : 0 < w .top → (m : ℕ) → m < way → bitAt notes (wayAt T (pairOf w) m) ≡ true) (place : q < P T) (eb : base ≡ row * P T) (er : row ≡ w .row + takes (placeAt T (w .place))) (first : firstOpen (bitsOf notes (N T n)) ys ≡ some (base + q)) where
       facts : ((g .legal .ρ (base + q) < g .legal .ρ x) × (x < N T n → base + q < N T n)) × Out (bitsOf notes (N T n)) (base + q)
       facts = firstOpen-some (λ z. (g .legal .ρ z < g .legal .ρ x) × (x < N T n → z < N T n)) (bitsOf notes (N T n)) ys (base + q) ranks first
 
@@ -314,7 +354,7 @@ module _ (T : Tables) (holds : ℕ → ℕ → Bool) (n : ℕ) (Q : Type 0) (not
       unfolding Onto
       onto = rw (place-is, row-is, eb, digits-div row place) er
 
-      pub top-next : Next T holds n Q notes trail w q row base
+      pub top-next : Next T holds n Q notes trail w q row base way
       top-next =
           record {
             good = g;
@@ -322,6 +362,7 @@ module _ (T : Tables) (holds : ℕ → ℕ → Bool) (n : ℕ) (Q : Type 0) (not
             base-is = eb;
             opened = rw top-is (open-push (g .legal .ρ) (N T n) (bitsOf notes (N T n)) (stack trail (w .top - 1)) x (base + q) (facts .0 .0) (facts .0 .1 top-below) (facts .1) opened);
             linked = rw top-is (onto, linked);
+            before = before;
           }
 
       pub next-same : resume (graphOf T holds n) (N T n) ((base + q) ∷ stack trail (w .top)) (bitsOf notes (N T n)) (suc (w .steps)) ≡ comes T holds n notes trail w
@@ -345,9 +386,16 @@ module _ (T : Tables) (holds : ℕ → ℕ → Bool) (n : ℕ) (Q : Type 0) (not
       abbrev below-walk : Walk
       below-walk = backTo (P T) trail w (w .top - 1)
 
-      leave-good : Good T holds n Q (marked notes x) trail below-walk
+      -- the pair below goes on with the way by which this one was reached
+      below-tried : (t : ℕ) → w .top - 1 ≡ t → 0 < (backTo (P T) trail w t) .top → (m : ℕ) → m < (backTo (P T) trail w t) .from
+          → bitAt notes (wayAt T (pairOf (backTo (P T) trail w t)) m) ≡ true
+      unfolding backTo spotted
+      below-tried zero e l m b = absurd (not-suc-le-zero l)
+      below-tried (suc t) e l m b = rw (div-add-mod' (pairIn (getD trail t 0)) (P T)) (g .tried t m (omega arith) b)
+
+      leave-good : below-walk .from < 2048 → Good T holds n Q (marked notes x) trail below-walk
       unfolding marked
-      leave-good =
+      leave-good small =
           let c = marked-count in
           let s = g .steps in
           let bt = back-top (P T) trail w (w .top - 1) in
@@ -362,6 +410,9 @@ module _ (T : Tables) (holds : ℕ → ℕ → Bool) (n : ℕ) (Q : Type 0) (not
             linked = rw bt (linked-under T x (stack trail (w .top - 1)) linked);
             passing = rw bt (a .1);
             spot = back-spot (P T) trail w (g .legal .sized .some) (w .top - 1);
+            from-small = small;
+            from-tried = λ l m b. keeps-marked notes x _ (top-leaves .byte) top-out (below-tried (w .top - 1) refl l m b);
+            tried = λ k m l b. keeps-marked notes x _ (top-leaves .byte) top-out (g .tried k m (let c : suc k < w .top - 1 = rw bt at l in omega arith) b);
             steps = omega arith;
           }
 
@@ -371,12 +422,12 @@ module _ (T : Tables) (holds : ℕ → ℕ → Bool) (n : ℕ) (Q : Type 0) (not
           rw (back-top (P T) trail w (w .top - 1), back-steps (P T) trail w (w .top - 1), top-is, marked-is)
           (sym (resume-pop (graphOf T holds n) (g .legal .ρ) (N T n) (g .legal .falls) (N T n) (g .legal .bound) (stack trail (w .top - 1)) (bitsOf notes (N T n)) (w .steps) x ys tries shut))
 
-      pub leave-reached : Reached T holds n Q notes trail (comes T holds n notes trail w) (marked notes x) trail below-walk
+      pub leave-reached : below-walk .from < 2048 → Reached T holds n Q notes trail (comes T holds n notes trail w) (marked notes x) trail below-walk
       unfolding marked
-      leave-reached =
+      leave-reached small =
           let b = top-below in
           record {
-            good = leave-good;
+            good = leave-good small;
             same = leave-same;
             notes-long = length-set notes (x / 8) _;
             trail-long = refl;

@@ -1,31 +1,25 @@
 -- The last open pair is a letter or anchor: it tries the one pair that it leads to.
-use mathlib.Core.Path.{_≡_, refl, sym, ap, _∙_, subst}
-use mathlib.Core.List.{List, [], _∷_, map}
-use mathlib.Core.Bool.{Bool, true, false, _&&_}
+use mathlib.Core.Path.{_≡_, refl, sym, _∙_, subst}
+use mathlib.Core.List.{List, [], _∷_}
+use mathlib.Core.Bool.{Bool, true, false}
 use mathlib.Core.Logic.{_≢_}
-use mathlib.Core.Option.{Option, none, some}
-use Prim.Native.Nat.{ℕ, zero, suc, _+_, _-_, _*_, _/_, _%_, _≤_, _<_, suc-le-suc, zero-le}
-use native.Mathlib.Nat.{le-of-suc-le-suc, not-suc-le-zero, mul-comm, suc-mul, add-zero}
-use native.Mathlib.Numerals.{add-one}
+use mathlib.Core.Option.{some}
+use Prim.Native.Nat.{ℕ, suc, _+_, _-_, _≤_, _<_, suc-le-suc}
+use native.Mathlib.Nat.{not-suc-le-zero}
 use native.Mathlib.Decide.{ℕ-discrete}
 use native.Mathlib.Omega.{arith}
-use lib.Arith.{digits-lt, digits-div}
-use lib.Dec.{ltb}
-use lib.ListN.{length, getD, set}
-use borrow.Author.Tests.{ltb-true}
+use lib.ListN.{length, getD}
 use Rattle.rules.specs.Report.{bitAt}
-use Rattle.rules.specs.Walk.{Ways, try, Outcome, failed, enterUnless, inside}
-use Rattle.rules.proofs.Level.{and-true}
-use Rattle.rules.proofs.Machine.{firstOpen, openOr, resume, resume-one}
-use Rattle.rules.proofs.Notes.{marked, bitsOf, bitsOf-at, bit-keep}
-use Rattle.rules.proofs.Walk.{All, All-map}
+use Rattle.rules.specs.Walk.{try}
+use Rattle.rules.proofs.Machine.{firstOpen}
+use Rattle.rules.proofs.Notes.{bitsOf, bitsOf-at}
 use Rattle.walk.specs.declared.Walk.{Walk}
-use Rattle.walk.specs.Tables.{Tables, P, N, span, placeAt, graphOf, passesBy, Leads}
-use Rattle.walk.specs.Step.{Mem, mem, stack, walkAt, pairOf, enteredBy, triedBy, backTo, outcomeBy, Enters, Tries, Leaves}
-use Rattle.walk.specs.State.{takes, Good, Goes, Passes, left, comes, Reached, Stepped, Ran, Ready, attemptBy, Done}
-use Rattle.walk.proofs.Ways.{span-each, ways-fork, ways-letter, ways-anchor, leads-next, leads-way, takes-row, takes-no-row}
-use Rattle.walk.proofs.Going.{reached-none, reached-on, Next, next-enters, open-reached, open-less, shut-reached, shut-less, shut-marked, top-place, top-base, top-row, top-below, top-passes, top-leaves, top-end, top-next, next-same, leave-reached, leave-less}
-use Rattle.walk.proofs.Trying.{Stays, Tried, tried, pair-in, letter-in, Shut}
+use Rattle.walk.specs.Tables.{Tables, P, N, graphOf, passesBy}
+use Rattle.walk.specs.Step.{mem, pairOf, triedBy, Tries}
+use Rattle.walk.specs.State.{Good, Passes, comes, Stepped}
+use Rattle.walk.proofs.Ways.{ways-letter, ways-anchor, leads-next, takes-row, takes-no-row}
+use Rattle.walk.proofs.Going.{Next, next-enters, top-place, top-base, top-row, top-passes, top-next, next-same}
+use Rattle.walk.proofs.Trying.{Tried, tried, pair-in, letter-in, Shut}
 
 module _ (T : Tables) (holds : ℕ → ℕ → Bool) (n : ℕ) (Q : Type 0) (notes trail : List ℕ) (w : Walk) (row base : ℕ) (h : Passes T holds n Q notes trail w row base) where
   abbrev g : Good T holds n Q notes trail w
@@ -88,22 +82,22 @@ module _ (T : Tables) (holds : ℕ → ℕ → Bool) (n : ℕ) (Q : Type 0) (not
     unfolding firstOpen
     first-is e = rw (bit-is (base + q) y-below ∙ e)
 
-    next-is : bitAt notes (base + q) ≡ false → Next T holds n Q notes trail w q row base
-    next-is e = top-next T holds n Q notes trail w g going ((base + q) ∷ []) way-q q row base (rw eq next-below) (h .base-is) (h .row-is) (first-is e)
+    next-is : bitAt notes (base + q) ≡ false → Next T holds n Q notes trail w q row base 0
+    next-is e = top-next T holds n Q notes trail w g going ((base + q) ∷ []) way-q q row base 0 (λ _ m l. absurd (not-suc-le-zero l)) (rw eq next-below) (h .base-is) (h .row-is) (first-is e)
 
     pub pass-tries : Tries (T .sort) (T .letter) Q notes trail w q base
     pass-tries =
         let b = y-below in
         let no = g .noted in
         let sm = g .legal .small in
-        record { small = omega arith; byte = omega arith; enters = λ o. next-enters T holds n Q notes trail w q row base (next-is o) }
+        record { small = omega arith; byte = omega arith; enters = λ o. next-enters T holds n Q notes trail w q row base 0 (next-is o) }
 
     module _ (notes′ trail′ : List ℕ) (v : Walk)
-        (e : mem notes′ trail′ v ≡ triedBy (bitAt notes (base + q)) (passesBy holds n (getD (T .sort) q 0) (getD (T .letter) q 0) row) (mem notes trail w) q row base) where
+        (e : mem notes′ trail′ v ≡ triedBy (bitAt notes (base + q)) (passesBy holds n (getD (T .sort) q 0) (getD (T .letter) q 0) row) (mem notes trail w) q row base 0) where
       it : Tried T holds n Q notes trail w (base + q) (comes T holds n notes trail w) notes′ trail′ v
       it =
-          tried T holds n Q notes trail w q row base (comes T holds n notes trail w) g next-is
-          (λ o. next-same T holds n Q notes trail w g going ((base + q) ∷ []) way-q q row base (rw eq next-below) (h .base-is) (h .row-is) (first-is o)) (λ _. refl) notes′ trail′ v e
+          tried T holds n Q notes trail w q row base 0 (comes T holds n notes trail w) g next-is
+          (λ o. next-same T holds n Q notes trail w g going ((base + q) ∷ []) way-q q row base 0 (λ _ m l. absurd (not-suc-le-zero l)) (rw eq next-below) (h .base-is) (h .row-is) (first-is o)) (λ _. refl) notes′ trail′ v e
 
       pub pass-opened : w .top < v .top → Stepped T holds n Q notes trail w notes′ trail′ v
       pass-opened l = record { reached = it .reached; less = it .opens l }

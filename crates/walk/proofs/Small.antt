@@ -2,14 +2,13 @@
 -- pair below the last, without a division.
 use mathlib.Core.Path.{_≡_, refl, sym, ap, _∙_}
 use mathlib.Core.List.{List}
-use mathlib.Core.Bool.{Bool, true, false, _&&_}
+use mathlib.Core.Bool.{Bool, true, false}
 use Prim.Native.Nat.{ℕ, zero, suc, _+_, _-_, _*_, _/_, _%_, _≤_, _<_}
 use native.Mathlib.Nat.{div-add-mod', div-lt-iff-lt-mul, le-div-iff-mul-le, suc-mul, mul-le-mul}
 use native.Mathlib.Omega.{arith}
-use lib.Arith.{digits-div}
-use lib.Dec.{ltb, eqb}
+use lib.Dec.{eqb}
 use lib.IntN.{ℤ}
-use lib.ListN.{length, getD, set}
+use lib.ListN.{getD, set}
 use borrow.Author.Tests.{leb-true, eq-eqb, ne-eqb, lt-ltb, le-ltb}
 use Rattle.rules.specs.Basics.{isLetter, inRange}
 use Rattle.rules.specs.Report.{bitAt}
@@ -21,7 +20,7 @@ use Rattle.letters.specs.Letters.{At, LetterRoom}
 use Rattle.walk.specs.declared.Walk.{Walk}
 use Rattle.walk.specs.Letters.{holdsIn, Lettered}
 use Rattle.walk.specs.Tables.{passesBy}
-use Rattle.walk.specs.Step.{mem, walkAt, enteredBy, triedBy, spotted, backTo, Known, Enters, Tries, Under, Backs}
+use Rattle.walk.specs.Step.{mem, walkAt, pairIn, wayIn, enteredBy, triedBy, spotted, backTo, Known, Enters, Tries, Under, Backs}
 
 -- ---- a letter
 
@@ -78,13 +77,14 @@ module _ (holds : ℕ → ℕ → Bool) (n k c i : ℕ) where
 
 -- ---- a pair is entered, and tried
 
-module _ (notes trail : List ℕ) (w : Walk) (q row base : ℕ) (b p : Bool) (e : b ≡ p) where
-  pub entered-open : b ≡ true → mem notes (set trail (w .top) (base + q)) (walkAt (w .top + 1) (w .steps + 1) q row base) ≡ enteredBy p (mem notes trail w) q row base
+module _ (notes trail : List ℕ) (w : Walk) (q row base way : ℕ) (b p : Bool) (e : b ≡ p) where
+  pub entered-open : b ≡ true
+      → mem notes (set trail (w .top) (base + q + way % 2048 * 2097152)) (walkAt (w .top + 1) (w .steps + 1) q row base 0) ≡ enteredBy p (mem notes trail w) q row base way
   unfolding enteredBy
   entered-open t = rw (sym e ∙ t)
 
   pub entered-shut : (notes′ : List ℕ) → b ≡ false → notes′ ≡ marked notes (base + q)
-      → mem notes′ trail (walkAt (w .top) (w .steps + 1) (w .place) (w .row) (w .base)) ≡ enteredBy p (mem notes trail w) q row base
+      → mem notes′ trail (walkAt (w .top) (w .steps + 1) (w .place) (w .row) (w .base) (w .from)) ≡ enteredBy p (mem notes trail w) q row base way
   unfolding enteredBy
   entered-shut notes′ t m = rw (sym e ∙ t, m)
 
@@ -92,22 +92,22 @@ pub tries-enters : (so le : List ℕ) (Q : Type 0) (notes trail : List ℕ) (w :
     → Enters so le Q notes trail w q base
 tries-enters so le Q notes trail w q base f e h t = h .enters (sym e ∙ t)
 
-module _ (notes trail : List ℕ) (w : Walk) (q row base : ℕ) (p : Bool) (f : Bool) (e : f ≡ bitAt notes (base + q)) where
-  pub tried-failed : f ≡ true → mem notes trail w ≡ triedBy (bitAt notes (base + q)) p (mem notes trail w) q row base
+module _ (notes trail : List ℕ) (w : Walk) (q row base way : ℕ) (p : Bool) (f : Bool) (e : f ≡ bitAt notes (base + q)) where
+  pub tried-failed : f ≡ true → mem notes trail w ≡ triedBy (bitAt notes (base + q)) p (mem notes trail w) q row base way
   unfolding triedBy
   tried-failed t = rw (sym e ∙ t)
 
-  pub tried-entered : (notes′ trail′ : List ℕ) (r : Walk) → f ≡ false → mem notes′ trail′ r ≡ enteredBy p (mem notes trail w) q row base
-      → mem notes′ trail′ r ≡ triedBy (bitAt notes (base + q)) p (mem notes trail w) q row base
+  pub tried-entered : (notes′ trail′ : List ℕ) (r : Walk) → f ≡ false → mem notes′ trail′ r ≡ enteredBy p (mem notes trail w) q row base way
+      → mem notes′ trail′ r ≡ triedBy (bitAt notes (base + q)) p (mem notes trail w) q row base way
   unfolding triedBy
   tried-entered notes′ trail′ r t m = rw (sym e ∙ t) m
 
 -- ---- the open pair below
 
 -- the walk at x, by its row
-spotted-at : (p t s x place row base : ℕ) → row ≡ x / p → base ≡ row * p → place ≡ x - base → walkAt t s place row base ≡ spotted p t s x
+spotted-at : (p t s x place row base from : ℕ) → row ≡ x / p → base ≡ row * p → place ≡ x - base → walkAt t s place row base from ≡ spotted p t s x from
 unfolding spotted
-spotted-at p t s x place row base er eb ep =
+spotted-at p t s x place row base from er eb ep =
     let d : x / p * p + x % p ≡ x = div-add-mod' x p in
     let b : base ≡ x / p * p = eb ∙ ap (λ (r : ℕ). r * p) er in
     let q : place ≡ x % p = omega arith in
@@ -134,31 +134,37 @@ module _ (p : ℕ) (w : Walk) (x : ℕ) (h : Under p w x) where
   under-one : x < w .base → 1 ≤ w .row
   under-one lt = before-facts lt .1 .1
 
-  under-before : (t s : ℕ) → x < w .base → walkAt t s (x - (w .base - p)) (w .row - 1) (w .base - p) ≡ spotted p t s x
-  under-before t s lt =
+  under-before : (t s from : ℕ) → x < w .base → walkAt t s (x - (w .base - p)) (w .row - 1) (w .base - p) from ≡ spotted p t s x from
+  under-before t s from lt =
       let f = before-facts lt in
       let e = before-row lt in
       let r : w .row - 1 ≡ x / p = omega arith in
-      spotted-at p t s x (x - (w .base - p)) (w .row - 1) (w .base - p) r (rw r (omega arith)) refl
+      spotted-at p t s x (x - (w .base - p)) (w .row - 1) (w .base - p) from r (rw r (omega arith)) refl
 
-  under-same : (t s : ℕ) → w .base ≤ x → walkAt t s (x - w .base) (w .row) (w .base) ≡ spotted p t s x
-  under-same t s le =
+  under-same : (t s from : ℕ) → w .base ≤ x → walkAt t s (x - w .base) (w .row) (w .base) from ≡ spotted p t s x from
+  under-same t s from le =
       let d : x / p * p + x % p ≡ x = div-add-mod' x p in
       let l : w .row ≤ x / p = le-div-iff-mul-le (h .some) .1 (rw (h .base) at le) in
       let g = h .row in
-      spotted-at p t s x (x - w .base) (w .row) (w .base) (omega arith) (h .base) refl
+      spotted-at p t s x (x - w .base) (w .row) (w .base) from (omega arith) (h .base) refl
 
 module _ (trail : List ℕ) (p : ℕ) (w : Walk) (h : Backs trail p w) where
-  pub back-none : (t : ℕ) → t ≡ 0 → walkAt 0 (w .steps) (w .place) (w .row) (w .base) ≡ backTo p trail w t
+  pub back-none : (t : ℕ) → t ≡ 0 → (walkAt 0 (w .steps) (w .place) (w .row) (w .base) 0 ≡ backTo p trail w t) × (0 < 2048)
   unfolding backTo
-  back-none t e = rw e
+  back-none t e = (rw e, omega arith)
 
-  below-is : (t : ℕ) → (t ≡ 0 → ⊥) → spotted p t (w .steps) (getD trail (t - 1) 0) ≡ backTo p trail w t
+  below-is : (t : ℕ) → (t ≡ 0 → ⊥) → spotted p t (w .steps) (pairIn (getD trail (t - 1) 0)) (wayIn (getD trail t 0)) ≡ backTo p trail w t
   unfolding backTo
   below-is zero n = absurd (n refl)
   below-is (suc t) n = let e : suc t - 1 ≡ t = omega arith in rw e
 
-  module _ (x : ℕ) (ex : x ≡ getD trail (w .top - 1 - 1) 0) (n : w .top - 1 ≡ 0 → ⊥) where
+  module _ (v : ℕ) (ev : v ≡ getD trail (w .top - 1 - 1) 0) (n : w .top - 1 ≡ 0 → ⊥) where
+    abbrev x : ℕ
+    x = v % 2097152
+
+    ex : x ≡ pairIn (getD trail (w .top - 1 - 1) 0)
+    ex = ap (λ (z : ℕ). z % 2097152) ev
+
     near : Under p w x
     near =
         let i : 1 < w .top = one (w .top) n in
@@ -179,8 +185,17 @@ module _ (trail : List ℕ) (p : ℕ) (w : Walk) (h : Backs trail p w) where
     pub back-one : x < w .base → 1 ≤ w .row
     back-one = under-one p w x near
 
-    pub back-before : x < w .base → walkAt (w .top - 1) (w .steps) (x - (w .base - p)) (w .row - 1) (w .base - p) ≡ backTo p trail w (w .top - 1)
-    back-before lt = under-before p w x near (w .top - 1) (w .steps) lt ∙ ap (spotted p (w .top - 1) (w .steps)) ex ∙ below-is (w .top - 1) n
+    module _ (u : ℕ) (eu : (u ≡ getD trail (w .top - 1) 0) × (u < 4294967296)) where
+      to : (r : Walk) → r ≡ spotted p (w .top - 1) (w .steps) x (u / 2097152) → (r ≡ backTo p trail w (w .top - 1)) × (r .from < 2048)
+      unfolding spotted
+      to r e =
+          let a : spotted p (w .top - 1) (w .steps) x (u / 2097152) ≡ spotted p (w .top - 1) (w .steps) (pairIn (getD trail (w .top - 1 - 1) 0)) (wayIn (getD trail (w .top - 1) 0)) = rw (← ex, ← eu .0) in
+          let f : r .from ≡ u / 2097152 = ap (λ (z : Walk). z .from) e in
+          (e ∙ a ∙ below-is (w .top - 1) n, omega arith)
 
-    pub back-same : w .base ≤ x → walkAt (w .top - 1) (w .steps) (x - w .base) (w .row) (w .base) ≡ backTo p trail w (w .top - 1)
-    back-same le = under-same p w x near (w .top - 1) (w .steps) le ∙ ap (spotted p (w .top - 1) (w .steps)) ex ∙ below-is (w .top - 1) n
+      pub back-before : x < w .base
+          → (walkAt (w .top - 1) (w .steps) (x - (w .base - p)) (w .row - 1) (w .base - p) (u / 2097152) ≡ backTo p trail w (w .top - 1)) × (u / 2097152 < 2048)
+      back-before lt = to _ (under-before p w x near (w .top - 1) (w .steps) (u / 2097152) lt)
+
+      pub back-same : w .base ≤ x → (walkAt (w .top - 1) (w .steps) (x - w .base) (w .row) (w .base) (u / 2097152) ≡ backTo p trail w (w .top - 1)) × (u / 2097152 < 2048)
+      back-same le = to _ (under-same p w x near (w .top - 1) (w .steps) (u / 2097152) le)

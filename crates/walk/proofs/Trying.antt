@@ -1,30 +1,27 @@
 -- A pair is tried: it is open then, or it has failed and all else is as before. The ways of a fork are tried in order.
-use mathlib.Core.Path.{_≡_, refl, sym, ap, _∙_, subst}
-use mathlib.Core.List.{List, [], _∷_, map}
+use mathlib.Core.Path.{_≡_, refl, sym, _∙_, subst}
+use mathlib.Core.List.{List, _∷_, map}
 use mathlib.Core.Bool.{Bool, true, false, _&&_}
 use mathlib.Core.Logic.{_≢_}
-use mathlib.Core.Option.{Option, none, some}
-use Prim.Native.Nat.{ℕ, zero, suc, _+_, _-_, _*_, _/_, _%_, _≤_, _<_, suc-le-suc, zero-le}
-use native.Mathlib.Nat.{le-of-suc-le-suc, not-suc-le-zero, mul-comm, suc-mul, add-zero}
-use native.Mathlib.Numerals.{add-one}
+use mathlib.Core.Option.{none, some}
+use Prim.Native.Nat.{ℕ, zero, suc, _+_, _-_, _*_, _≤_, _<_, suc-le-suc}
+use native.Mathlib.Nat.{mul-comm}
 use native.Mathlib.Decide.{ℕ-discrete}
 use native.Mathlib.Omega.{arith}
-use lib.Arith.{digits-lt, digits-div}
+use lib.Arith.{digits-lt}
 use lib.Dec.{ltb}
-use lib.ListN.{length, getD, set}
+use lib.ListN.{getD}
 use borrow.Author.Tests.{ltb-true}
 use Rattle.rules.specs.Report.{bitAt}
-use Rattle.rules.specs.Walk.{Ways, try, Outcome, failed, enterUnless, inside}
+use Rattle.rules.specs.Walk.{try, Outcome}
 use Rattle.rules.proofs.Level.{and-true}
-use Rattle.rules.proofs.Machine.{firstOpen, openOr, resume, resume-one}
-use Rattle.rules.proofs.Notes.{marked, bitsOf, bitsOf-at, bit-keep}
-use Rattle.rules.proofs.Walk.{All, All-map}
+use Rattle.rules.proofs.Machine.{firstOpen, resume}
+use Rattle.rules.proofs.Notes.{marked, bitsOf, bit-keep}
 use Rattle.walk.specs.declared.Walk.{Walk}
-use Rattle.walk.specs.Tables.{Tables, P, N, span, placeAt, graphOf, passesBy, Leads}
-use Rattle.walk.specs.Step.{Mem, mem, stack, walkAt, pairOf, enteredBy, triedBy, backTo, outcomeBy, Enters, Tries, Leaves}
-use Rattle.walk.specs.State.{takes, Good, Goes, Passes, left, comes, Reached, Stepped, Ran, Ready, attemptBy, Done}
-use Rattle.walk.proofs.Ways.{span-each, ways-fork, ways-letter, ways-anchor, leads-next, leads-way, takes-row, takes-no-row}
-use Rattle.walk.proofs.Going.{reached-none, reached-on, Next, next-enters, open-reached, open-less, shut-reached, shut-less, shut-marked, top-place, top-base, top-row, top-below, top-passes, top-leaves, top-end, top-next, next-same, leave-reached, leave-less}
+use Rattle.walk.specs.Tables.{Tables, P, N, span, graphOf, passesBy}
+use Rattle.walk.specs.Step.{Mem, mem, stack, pairOf, enteredBy, triedBy, backTo, Leaves}
+use Rattle.walk.specs.State.{Good, left, comes, Reached, Stepped}
+use Rattle.walk.proofs.Going.{reached-none, reached-on, Next, next-enters, open-reached, open-less, shut-reached, shut-less, shut-marked, top-leaves, leave-reached, leave-less}
 
 -- ---- a pair is tried
 
@@ -43,8 +40,8 @@ pub record Tried (T : Tables) (holds : ℕ → ℕ → Bool) (n : ℕ) (Q : Type
   pub stays : r .top ≤ w .top → Stays notes trail w y notes′ trail′ r
   pub less : left (N T n) notes′ r ≤ left (N T n) notes w
 
-module _ (T : Tables) (holds : ℕ → ℕ → Bool) (n : ℕ) (Q : Type 0) (notes trail : List ℕ) (w : Walk) (q row base : ℕ) (R : Outcome) (g : Good T holds n Q notes trail w)
-    (next : bitAt notes (base + q) ≡ false → Next T holds n Q notes trail w q row base)
+module _ (T : Tables) (holds : ℕ → ℕ → Bool) (n : ℕ) (Q : Type 0) (notes trail : List ℕ) (w : Walk) (q row base way : ℕ) (R : Outcome) (g : Good T holds n Q notes trail w)
+    (next : bitAt notes (base + q) ≡ false → Next T holds n Q notes trail w q row base way)
     (fresh : bitAt notes (base + q) ≡ false → resume (graphOf T holds n) (N T n) ((base + q) ∷ stack trail (w .top)) (bitsOf notes (N T n)) (suc (w .steps)) ≡ R)
     (stale : bitAt notes (base + q) ≡ true → comes T holds n notes trail w ≡ R) where
   abbrev passing : Bool
@@ -56,37 +53,37 @@ module _ (T : Tables) (holds : ℕ → ℕ → Bool) (n : ℕ) (Q : Type 0) (not
   to : (notes′ trail′ : List ℕ) (r : Walk) (S : Outcome) → S ≡ R → Reached T holds n Q notes trail S notes′ trail′ r → Reached T holds n Q notes trail R notes′ trail′ r
   to notes′ trail′ r S e h = rw e at h
 
-  entered : (p : Bool) → passing ≡ p → bitAt notes (base + q) ≡ false → TriedTo (enteredBy p (mem notes trail w) q row base)
+  entered : (p : Bool) → passing ≡ p → bitAt notes (base + q) ≡ false → TriedTo (enteredBy p (mem notes trail w) q row base way)
   unfolding enteredBy
   entered true ep eb =
-      let l = open-less T holds n Q notes trail w q row base (next eb) ep in
+      let l = open-less T holds n Q notes trail w q row base way (next eb) ep in
       record {
-        reached = to _ _ _ _ (fresh eb) (open-reached T holds n Q notes trail w q row base (next eb) ep);
+        reached = to _ _ _ _ (fresh eb) (open-reached T holds n Q notes trail w q row base way (next eb) ep);
         opens = λ _. l;
         stays = λ h. absurd (omega arith);
         less = omega arith;
       }
   entered false ep eb =
-      let l = shut-less T holds n Q notes trail w q row base (next eb) ep in
-      let en = next-enters T holds n Q notes trail w q row base (next eb) in
+      let l = shut-less T holds n Q notes trail w q row base way (next eb) ep in
+      let en = next-enters T holds n Q notes trail w q row base way (next eb) in
       record {
-        reached = to _ _ _ _ (fresh eb) (shut-reached T holds n Q notes trail w q row base (next eb) ep);
+        reached = to _ _ _ _ (fresh eb) (shut-reached T holds n Q notes trail w q row base way (next eb) ep);
         opens = λ h. absurd (omega arith);
         stays = λ _. record {
           top = refl;
           place = refl;
           row = refl;
           base = refl;
-          it = shut-marked T holds n Q notes trail w q row base (next eb) ep;
+          it = shut-marked T holds n Q notes trail w q row base way (next eb) ep;
           keeps = λ z e. elim (ℕ-discrete z (base + q)) [
-            | yes d ↦ rw d (shut-marked T holds n Q notes trail w q row base (next eb) ep)
+            | yes d ↦ rw d (shut-marked T holds n Q notes trail w q row base way (next eb) ep)
             | no d ↦ bit-keep notes (base + q) z (en .byte) (en .out) d ∙ e
           ];
         };
         less = omega arith;
       }
 
-  tried-by : (b : Bool) → bitAt notes (base + q) ≡ b → TriedTo (triedBy b passing (mem notes trail w) q row base)
+  tried-by : (b : Bool) → bitAt notes (base + q) ≡ b → TriedTo (triedBy b passing (mem notes trail w) q row base way)
   unfolding triedBy
   tried-by true eb =
       record {
@@ -97,7 +94,7 @@ module _ (T : Tables) (holds : ℕ → ℕ → Bool) (n : ℕ) (Q : Type 0) (not
       }
   tried-by false eb = entered passing refl eb
 
-  pub tried : (notes′ trail′ : List ℕ) (r : Walk) → mem notes′ trail′ r ≡ triedBy (bitAt notes (base + q)) passing (mem notes trail w) q row base
+  pub tried : (notes′ trail′ : List ℕ) (r : Walk) → mem notes′ trail′ r ≡ triedBy (bitAt notes (base + q)) passing (mem notes trail w) q row base way
       → Tried T holds n Q notes trail w (base + q) R notes′ trail′ r
   tried notes′ trail′ r e = subst TriedTo (sym e) (tried-by (bitAt notes (base + q)) refl)
 
@@ -151,9 +148,11 @@ module _ (T : Tables) (holds : ℕ → ℕ → Bool) (n : ℕ) (Q : Type 0) (n�
   pub shut-leaves : Leaves notes trail (P T) w
   shut-leaves = top-leaves T holds n Q notes trail w (s .reached .good) (s .going)
 
-  pub shut-stepped : (notes′ : List ℕ) (r : Walk) → r ≡ backTo (P T) trail w (w .top - 1) → notes′ ≡ marked notes (pairOf w) → Stepped T holds n Q n₁ t₁ w₁ notes′ trail r
-  shut-stepped notes′ r er en =
-      let a = leave-reached T holds n Q notes trail w (s .reached .good) (s .going) (s .ways) (s .tries) (s .shut) in
+  pub shut-stepped : (notes′ : List ℕ) (r : Walk) → (r ≡ backTo (P T) trail w (w .top - 1)) × (r .from < 2048) × (notes′ ≡ marked notes (pairOf w)) → Stepped T holds n Q n₁ t₁ w₁ notes′ trail r
+  shut-stepped notes′ r l =
+      let er = l .0 in
+      let en = l .2 in
+      let a = leave-reached T holds n Q notes trail w (s .reached .good) (s .going) (s .ways) (s .tries) (s .shut) (rw er at (l .1)) in
       let b = leave-less T holds n Q notes trail w (s .reached .good) (s .going) (s .ways) (s .tries) (s .shut) in
-      let l = s .less in
+      let o = s .less in
       rw (er, en) (record { reached = reached-on T holds n Q n₁ t₁ _ notes trail w _ trail _ (s .reached) a; less = omega arith })

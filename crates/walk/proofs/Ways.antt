@@ -1,18 +1,17 @@
 -- What the tables say of a pair: its ways, by the sort of its place.
-use mathlib.Core.Path.{_≡_, refl, sym, ap, _∙_}
+use mathlib.Core.Path.{_≡_, refl, ap, _∙_}
 use mathlib.Core.List.{List, [], _∷_, map}
-use mathlib.Core.Bool.{Bool, true, false, _&&_, true≢false}
+use mathlib.Core.Bool.{Bool, true, false, true≢false}
 use Prim.Native.Nat.{ℕ, zero, suc, _+_, _-_, _*_, _/_, _%_, _≤_, _<_, suc-le-suc, zero-le}
 use native.Mathlib.Nat.{le-of-suc-le-suc, not-suc-le-zero, add-zero}
 use native.Mathlib.Decide.{ℕ-discrete}
 use native.Mathlib.Omega.{arith}
 use lib.Arith.{digits-div, digits-mod}
-use lib.Dec.{ltb, eqb}
+use lib.Dec.{eqb}
 use lib.ListN.{length, getD}
 use borrow.Author.Tests.{ne-eqb}
-use Rattle.rules.specs.Basics.{pick}
 use Rattle.rules.specs.Places.{Place, pLetter, pCaret, pDollar, pFork, pEnd}
-use Rattle.rules.specs.Walk.{Ways, accept, try, waysAt, passIf, pairWays}
+use Rattle.rules.specs.Walk.{Ways, accept, try, waysAt, pairWays}
 use Rattle.rules.proofs.Walk.{All}
 use Rattle.walk.specs.Tables.{Tables, P, span, placeBy, placeAt, placesFrom, placesIn, graphOf, passesBy, Leads}
 use Rattle.walk.specs.State.{takes}

@@ -1,24 +1,21 @@
 -- A step by the sort of the last open pair; all steps; and the attempt, from the pair that it tries to its result.
-use mathlib.Core.Path.{_≡_, refl, sym, ap, _∙_}
-use mathlib.Core.List.{List, [], _∷_}
+use mathlib.Core.Path.{_≡_, refl, sym, _∙_}
+use mathlib.Core.List.{List, _∷_}
 use mathlib.Core.Bool.{Bool, true, false}
 use mathlib.Core.Logic.{_≢_}
-use Prim.Native.Nat.{ℕ, zero, suc, _+_, _-_, _*_, _/_, _%_, _≤_, _<_, suc-le-suc}
+use Prim.Native.Nat.{ℕ, zero, suc, _+_, _-_, _*_, _≤_, _<_}
 use native.Mathlib.Nat.{suc-mul, not-suc-le-zero}
 use native.Mathlib.Omega.{arith}
-use lib.Arith.{digits-div}
-use lib.ListN.{length, getD}
+use lib.ListN.{getD}
 use Rattle.rules.specs.Report.{bitAt}
-use Rattle.rules.specs.Walk.{Outcome, failed, enterUnless, inside}
-use Rattle.rules.proofs.Machine.{Open, resume, resume-one}
+use Rattle.rules.proofs.Machine.{resume, resume-one}
 use Rattle.rules.proofs.Notes.{bitsOf, bitsOf-at}
-use Rattle.rules.proofs.Walk.{Out}
 use Rattle.walk.specs.declared.Walk.{Walk}
-use Rattle.walk.specs.Tables.{Tables, P, N, placeAt, graphOf, passesBy}
+use Rattle.walk.specs.Tables.{Tables, P, N, graphOf, passesBy}
 use Rattle.walk.specs.Step.{mem, stack, walkAt, triedBy, outcomeBy, Tries}
-use Rattle.walk.specs.State.{takes, Good, Goes, Passes, left, comes, Reached, Stepped, Ran, Ready, attemptBy, Done}
+use Rattle.walk.specs.State.{Good, Goes, Passes, comes, Reached, Stepped, Ran, Ready, attemptBy, Done}
 use Rattle.walk.proofs.Ways.{takes-row, takes-no-row}
-use Rattle.walk.proofs.Going.{reached-none, reached-on, Next, next-enters, top-place, top-base, top-passes, top-end}
+use Rattle.walk.proofs.Going.{reached-on, Next, next-enters, top-place, top-base, top-passes, top-end}
 use Rattle.walk.proofs.Trying.{Tried, tried, pair-in, letter-in}
 
 -- ---- a step
@@ -105,7 +102,7 @@ comes-out T holds n Q notes trail w g last = go (w .top) refl
 
 module _ (T : Tables) (holds : ℕ → ℕ → Bool) (n : ℕ) (Q : Type 0) (notes trail : List ℕ) (i s : ℕ) (h : Ready T holds n Q notes trail i s) where
   abbrev start : Walk
-  start = walkAt 0 s 0 i (i * P T)
+  start = walkAt 0 s 0 i (i * P T) 0
 
   abbrev F : List Bool
   F = bitsOf notes (N T n)
@@ -129,10 +126,13 @@ module _ (T : Tables) (holds : ℕ → ℕ → Bool) (n : ℕ) (Q : Type 0) (not
         linked = tt;
         passing = tt;
         spot = λ l. absurd (not-suc-le-zero l);
+        from-small = omega arith;
+        from-tried = λ l. absurd (not-suc-le-zero l);
+        tried = λ k m l b. absurd (not-suc-le-zero l);
         steps = omega arith;
       }
 
-  next-first : bitAt notes (i * P T + 0) ≡ false → Next T holds n Q notes trail start 0 i (i * P T)
+  next-first : bitAt notes (i * P T + 0) ≡ false → Next T holds n Q notes trail start 0 i (i * P T) 0
   unfolding stack
   next-first o =
       record {
@@ -141,6 +141,7 @@ module _ (T : Tables) (holds : ℕ → ℕ → Bool) (n : ℕ) (Q : Type 0) (not
         base-is = refl;
         opened = record { rising = (tt, tt); out = (bitsOf-at notes (N T n) (i * P T + 0) first-below ∙ o, tt); pairs = (first-below, tt) };
         linked = tt;
+        before = λ l. absurd (not-suc-le-zero l);
       }
 
   pub first-tries : Tries (T .sort) (T .letter) Q notes trail start 0 (i * P T)
@@ -148,7 +149,7 @@ module _ (T : Tables) (holds : ℕ → ℕ → Bool) (n : ℕ) (Q : Type 0) (not
       let b = first-below in
       let no = h .noted in
       let sm = h .legal .small in
-      record { small = omega arith; byte = omega arith; enters = λ o. next-enters T holds n Q notes trail start 0 i (i * P T) (next-first o) }
+      record { small = omega arith; byte = omega arith; enters = λ o. next-enters T holds n Q notes trail start 0 i (i * P T) 0 (next-first o) }
 
   fresh : bitAt notes (i * P T + 0) ≡ false → resume (graphOf T holds n) (N T n) ((i * P T + 0) ∷ stack trail 0) F (suc s) ≡ attemptBy T holds n F s i
   unfolding stack
@@ -165,9 +166,9 @@ module _ (T : Tables) (holds : ℕ → ℕ → Bool) (n : ℕ) (Q : Type 0) (not
       rw b
 
   module _ (n₁ t₁ : List ℕ) (v : Walk)
-      (e : mem n₁ t₁ v ≡ triedBy (bitAt notes (i * P T + 0)) (passesBy holds n (getD (T .sort) 0 0) (getD (T .letter) 0 0) i) (mem notes trail start) 0 i (i * P T)) where
+      (e : mem n₁ t₁ v ≡ triedBy (bitAt notes (i * P T + 0)) (passesBy holds n (getD (T .sort) 0 0) (getD (T .letter) 0 0) i) (mem notes trail start) 0 i (i * P T) 0) where
     first-tried : Tried T holds n Q notes trail start (i * P T + 0) (attemptBy T holds n F s i) n₁ t₁ v
-    first-tried = tried T holds n Q notes trail start 0 i (i * P T) (attemptBy T holds n F s i) start-good next-first fresh stale n₁ t₁ v e
+    first-tried = tried T holds n Q notes trail start 0 i (i * P T) 0 (attemptBy T holds n F s i) start-good next-first fresh stale n₁ t₁ v e
 
     pub first-good : Good T holds n Q n₁ t₁ v
     first-good = first-tried .reached .good

@@ -2,7 +2,7 @@
 use mathlib.Core.Path.{_≡_}
 use mathlib.Core.List.{List, [], _∷_}
 use mathlib.Core.Bool.{Bool, true, false}
-use Prim.Native.Nat.{ℕ, zero, suc, _+_, _-_, _*_, _/_, _%_, _≤_, _<_}
+use Prim.Native.Nat.{ℕ, suc, _+_, _-_, _*_, _/_, _%_, _≤_, _<_}
 use lib.ListN.{length, getD}
 use Rattle.rules.specs.Places.{Place, pLetter, pCaret, pDollar, pFork, pEnd}
 use Rattle.rules.specs.Report.{bitAt}
@@ -12,7 +12,7 @@ use Rattle.rules.proofs.Notes.{bitsOf}
 use Rattle.rules.proofs.Walk.{All}
 use Rattle.walk.specs.declared.Walk.{Walk}
 use Rattle.walk.specs.Tables.{Tables, P, N, Sized, Legal, placeAt, graphOf, passesBy}
-use Rattle.walk.specs.Step.{stack, outcomeBy}
+use Rattle.walk.specs.Step.{pairIn, wayIn, stack, outcomeBy}
 
 -- the rows that a place takes
 abbrev pub takes : Place → ℕ
@@ -49,9 +49,14 @@ pub record OnPath (T : Tables) (trail : List ℕ) (w : Walk) : Type 0 where
   pub sized : Sized T
   pub room : w .top ≤ length trail
   pub linked : Linked T (stack trail (w .top))
-  pub spot : 0 < w .top → Spot (P T) w (getD trail (w .top - 1) 0)
+  pub spot : 0 < w .top → Spot (P T) w (pairIn (getD trail (w .top - 1) 0))
 
--- the open pairs have not failed, each led to the one above it, all pass; the walk is at the last of them; the steps cannot run over
+-- the pair of way m of a fork's pair x
+unfoldable pub wayAt : Tables → ℕ → ℕ → ℕ
+wayAt T x m = x / P T * P T + getD (T .ways) (getD (T .next) (x % P T) 0 + m) 0
+
+-- the open pairs have not failed, each led to the one above it, all pass; the walk is at the last of them; the ways of a pair before the one by which the next open
+-- pair was reached, and those before `from`, have failed; the steps cannot run over
 pub record Good (T : Tables) (holds : ℕ → ℕ → Bool) (n : ℕ) (Q : Type 0) (notes trail : List ℕ) (w : Walk) : Type 0 where
   pub legal : Legal T holds n
   pub asks : Q
@@ -60,7 +65,10 @@ pub record Good (T : Tables) (holds : ℕ → ℕ → Bool) (n : ℕ) (Q : Type 
   pub opened : Open (legal .ρ) (N T n) (bitsOf notes (N T n)) (stack trail (w .top))
   pub linked : Linked T (stack trail (w .top))
   pub passing : All (Passing T holds n) (stack trail (w .top))
-  pub spot : 0 < w .top → Spot (P T) w (getD trail (w .top - 1) 0)
+  pub spot : 0 < w .top → Spot (P T) w (pairIn (getD trail (w .top - 1) 0))
+  pub from-small : w .from < 2048
+  pub from-tried : 0 < w .top → (m : ℕ) → m < w .from → bitAt notes (wayAt T (w .base + w .place) m) ≡ true
+  pub tried : (k m : ℕ) → suc k < w .top → m < wayIn (getD trail (suc k) 0) → bitAt notes (wayAt T (pairIn (getD trail k 0)) m) ≡ true
   pub steps : w .steps + N T n < 18446744073709551616 + (countTrue (bitsOf notes (N T n)) + w .top)
 
 -- a pair is open, and it is of this sort or sorts

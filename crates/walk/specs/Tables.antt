@@ -3,8 +3,8 @@
 -- the table of ways) and, of a fork, where its ways stop.
 use mathlib.Core.Path.{_≡_}
 use mathlib.Core.List.{List, [], _∷_}
-use mathlib.Core.Bool.{Bool, true, false, _&&_}
-use Prim.Native.Nat.{ℕ, zero, suc, _+_, _-_, _*_, _≤_, _<_}
+use mathlib.Core.Bool.{Bool, true, _&&_}
+use Prim.Native.Nat.{ℕ, zero, suc, _-_, _≤_, _<_}
 use lib.Dec.{ltb, eqb}
 use lib.ListN.{length, getD}
 use Rattle.rules.specs.Basics.{pick, isLetter}
@@ -92,4 +92,4 @@ pub record Legal (T : Tables) (holds : ℕ → ℕ → Bool) (n : ℕ) : Type 0 
   pub ρ : ℕ → ℕ
   pub falls : Falls (graphOf T holds n) ρ (N T n)
   pub bound : (x : ℕ) → ρ x < N T n
-  pub small : N T n < 4294967296
+  pub small : N T n < 2097152

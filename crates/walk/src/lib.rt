@@ -2,9 +2,9 @@
 // A pair is the number row * P + place. Pairs are entered in one function only, `enter`, which counts the entry. No pair is entered that has
 // failed, so an attempt takes no more steps than there are pairs. The promise is `Done` (specs/State): the result is the definition's.
 ghost use mathlib.Core.Path.{_≡_};
-ghost use mathlib.Core.Bool.{Bool, true, false};
-ghost use Prim.Native.Nat.{ℕ, suc, _+_, _-_, _*_, _/_, _%_, _<_, _≤_};
-ghost use lib.ListN.{length, getD, set};
+ghost use mathlib.Core.Bool.{true, false};
+ghost use Prim.Native.Nat.{_+_, _-_, _*_, _/_, _%_, _<_, _≤_};
+ghost use lib.ListN.{length, getD};
 ghost use Rattle.rules.specs.Basics.{isLetter};
 ghost use Rattle.rules.specs.Report.{bitAt};
 ghost use Rattle.rules.proofs.Notes.{marked};
@@ -13,7 +13,7 @@ ghost use Rattle.walk.specs.Letters.{holdsIn, Lettered};
 ghost use Rattle.walk.specs.Step.{mem, enteredBy, triedBy, backTo, Known, Enters, Tries, Backs, Leaves};
 ghost use Rattle.walk.specs.State.{Good, Goes, Passes, Stepped, Ran, Ready, Done};
 
-// Where a walk is: how many pairs are open, the steps so far, the last open pair's place and row, and its row times P.
+// Where a walk is: how many pairs are open, the steps so far, the last open pair's place and row, its row times P, and the way from which it goes on.
 #[repr(C)]
 pub struct Walk {
     pub top: usize,
@@ -21,6 +21,7 @@ pub struct Walk {
     pub place: usize,
     pub row: usize,
     pub base: usize,
+    pub from: usize,
 }
 
 // A 16-bit number, without a proof of the cast at the caller.
@@ -103,7 +104,8 @@ fn passes(
     row: usize,
 ) -> bool
     requires { ⌜ Known (now sort) (now letter) (Lettered (now cells) (now offsets) (now counts) (now rows) columns n) q ⌝ }
-    ensures { λ r. ⌜ r ≡ passesBy (holdsIn (now (rows .entry)) columns (now (cells .entry)) (now (offsets .entry)) (now (constants .entry)) (now (counts .entry))) n (getD (now (sort .entry)) q 0) (getD (now (letter .entry)) q 0) row ⌝ }
+    ensures { λ r. ⌜ r ≡ passesBy (holdsIn (now (rows .entry)) columns (now (cells .entry)) (now (offsets .entry)) (now (constants .entry)) (now (counts .entry))) n
+        (getD (now (sort .entry)) q 0) (getD (now (letter .entry)) q 0) row ⌝ }
 {
     let k = sort[q];
     if k == 1 {
@@ -148,9 +150,12 @@ fn enter(
     q: usize,
     row: usize,
     base: usize,
+    way: usize,
 ) -> Walk
     requires { ⌜ Enters (now sort) (now letter) (Lettered (now cells) (now offsets) (now counts) (now rows) columns n) (now notes) (now trail) w q base ⌝ }
-    ensures { λ r. ⌜ mem (now (notes .exit)) (now (trail .exit)) r ≡ enteredBy (passesBy (holdsIn (now (rows .entry)) columns (now (cells .entry)) (now (offsets .entry)) (now (constants .entry)) (now (counts .entry))) n (getD (now (sort .entry)) q 0) (getD (now (letter .entry)) q 0) row) (mem (now (notes .entry)) (now (trail .entry)) w) q row base ⌝ }
+    ensures { λ r. ⌜ mem (now (notes .exit)) (now (trail .exit)) r ≡ enteredBy (passesBy
+        (holdsIn (now (rows .entry)) columns (now (cells .entry)) (now (offsets .entry)) (now (constants .entry)) (now (counts .entry))) n
+        (getD (now (sort .entry)) q 0) (getD (now (letter .entry)) q 0) row) (mem (now (notes .entry)) (now (trail .entry)) w) q row base way ⌝ }
 {
     let steps = w.steps + 1;
     let top = w.top;
@@ -167,7 +172,7 @@ fn enter(
         q,
         row,
     ) {
-        trail[top] = (base + q) as u32;
+        trail[top] = (base + q + way % 2048 * 2097152) as u32;
         let opened = top + 1;
         return Walk {
             top: opened,
@@ -175,6 +180,7 @@ fn enter(
             place: q,
             row,
             base,
+            from: 0,
         };
     }
     mark(notes, base + q);
@@ -184,6 +190,7 @@ fn enter(
         place: w.place,
         row: w.row,
         base: w.base,
+        from: w.from,
     }
 }
 
@@ -204,9 +211,12 @@ fn try_pair(
     q: usize,
     row: usize,
     base: usize,
+    way: usize,
 ) -> Walk
     requires { ⌜ Tries (now sort) (now letter) (Lettered (now cells) (now offsets) (now counts) (now rows) columns n) (now notes) (now trail) w q base ⌝ }
-    ensures { λ r. ⌜ mem (now (notes .exit)) (now (trail .exit)) r ≡ triedBy (bitAt (now (notes .entry)) (base + q)) (passesBy (holdsIn (now (rows .entry)) columns (now (cells .entry)) (now (offsets .entry)) (now (constants .entry)) (now (counts .entry))) n (getD (now (sort .entry)) q 0) (getD (now (letter .entry)) q 0) row) (mem (now (notes .entry)) (now (trail .entry)) w) q row base ⌝ }
+    ensures { λ r. ⌜ mem (now (notes .exit)) (now (trail .exit)) r ≡ triedBy (bitAt (now (notes .entry)) (base + q)) (passesBy
+        (holdsIn (now (rows .entry)) columns (now (cells .entry)) (now (offsets .entry)) (now (constants .entry)) (now (counts .entry))) n
+        (getD (now (sort .entry)) q 0) (getD (now (letter .entry)) q 0) row) (mem (now (notes .entry)) (now (trail .entry)) w) q row base way ⌝ }
 {
     if failed(notes, base + q) {
         return w;
@@ -227,13 +237,14 @@ fn try_pair(
         q,
         row,
         base,
+        way,
     )
 }
 
-// The walk at the open pair below the last.
+// The walk at the open pair below the last; it goes on with the way by which the last was reached.
 pub fn back(trail: &[u32], p: usize, w: Walk) -> Walk
     requires { ⌜ Backs (now trail) p w ⌝ }
-    ensures { λ r. ⌜ r ≡ backTo p (now (trail .entry)) w (w .top - 1) ⌝ }
+    ensures { λ r. ⌜ (r ≡ backTo p (now (trail .entry)) w (w .top - 1)) × (r .from < 2048) ⌝ }
 {
     let top = w.top - 1;
     let base = w.base;
@@ -245,31 +256,39 @@ pub fn back(trail: &[u32], p: usize, w: Walk) -> Walk
             place: w.place,
             row,
             base,
+            from: 0,
         };
     }
-    let x = wide32(trail[top - 1]);
+    let from = wide32(trail[top]) / 2097152;
+    let x = wide32(trail[top - 1]) % 2097152;
     if x < base {
+        let under = base - p;
+        let place = x - under;
+        let before = row - 1;
         return Walk {
             top,
             steps: w.steps,
-            place: x - (base - p),
-            row: row - 1,
-            base: base - p,
+            place,
+            row: before,
+            base: under,
+            from,
         };
     }
+    let place = x - base;
     Walk {
         top,
         steps: w.steps,
-        place: x - base,
+        place,
         row,
         base,
+        from,
     }
 }
 
 // The last open pair fails.
 fn leave(notes: &mut [u8], trail: &[u32], p: usize, w: Walk) -> Walk
     requires { ⌜ Leaves (now notes) (now trail) p w ⌝ }
-    ensures { λ r. ⌜ (r ≡ backTo p (now (trail .entry)) w (w .top - 1)) × (now (notes .exit) ≡ marked (now (notes .entry)) (w .base + w .place)) ⌝ }
+    ensures { λ r. ⌜ (r ≡ backTo p (now (trail .entry)) w (w .top - 1)) × (r .from < 2048) × (now (notes .exit) ≡ marked (now (notes .entry)) (w .base + w .place)) ⌝ }
 {
     mark(notes, w.base + w.place);
     back(trail, p, w)
@@ -295,8 +314,11 @@ fn pass(
     row: usize,
     base: usize,
 ) -> Walk
-    requires { ⌜ Passes (tables (now sort) (now letter) (now next) (now stop) (now ways)) (holdsIn (now rows) columns (now cells) (now offsets) (now constants) (now counts)) n (Lettered (now cells) (now offsets) (now counts) (now rows) columns n) (now notes) (now trail) w row base ⌝ }
-    ensures { λ r. ⌜ Stepped (tables (now (sort .entry)) (now (letter .entry)) (now (next .entry)) (now (stop .entry)) (now (ways .entry))) (holdsIn (now (rows .entry)) columns (now (cells .entry)) (now (offsets .entry)) (now (constants .entry)) (now (counts .entry))) n (Lettered (now (cells .entry)) (now (offsets .entry)) (now (counts .entry)) (now (rows .entry)) columns n) (now (notes .entry)) (now (trail .entry)) w (now (notes .exit)) (now (trail .exit)) r ⌝ }
+    requires { ⌜ Passes (tables (now sort) (now letter) (now next) (now stop) (now ways)) (holdsIn (now rows) columns (now cells) (now offsets) (now constants)
+        (now counts)) n (Lettered (now cells) (now offsets) (now counts) (now rows) columns n) (now notes) (now trail) w row base ⌝ }
+    ensures { λ r. ⌜ Stepped (tables (now (sort .entry)) (now (letter .entry)) (now (next .entry)) (now (stop .entry)) (now (ways .entry))) (holdsIn (now (rows .entry))
+        columns (now (cells .entry)) (now (offsets .entry)) (now (constants .entry)) (now (counts .entry))) n (Lettered (now (cells .entry)) (now (offsets .entry))
+        (now (counts .entry)) (now (rows .entry)) columns n) (now (notes .entry)) (now (trail .entry)) w (now (notes .exit)) (now (trail .exit)) r ⌝ }
 {
     let place = w.place;
     let q = wide(next[place]);
@@ -316,6 +338,7 @@ fn pass(
         q,
         row,
         base,
+        0,
     );
     if w.top < v.top {
         return v;
@@ -341,13 +364,17 @@ fn fork(
     trail: &mut [u32],
     from: Walk,
 ) -> Walk
-    requires { ⌜ Goes (tables (now sort) (now letter) (now next) (now stop) (now ways)) (holdsIn (now rows) columns (now cells) (now offsets) (now constants) (now counts)) n (Lettered (now cells) (now offsets) (now counts) (now rows) columns n) (now notes) (now trail) from (λ s. s ≡ 0) ⌝ }
-    ensures { λ r. ⌜ Stepped (tables (now (sort .entry)) (now (letter .entry)) (now (next .entry)) (now (stop .entry)) (now (ways .entry))) (holdsIn (now (rows .entry)) columns (now (cells .entry)) (now (offsets .entry)) (now (constants .entry)) (now (counts .entry))) n (Lettered (now (cells .entry)) (now (offsets .entry)) (now (counts .entry)) (now (rows .entry)) columns n) (now (notes .entry)) (now (trail .entry)) from (now (notes .exit)) (now (trail .exit)) r ⌝ }
+    requires { ⌜ Goes (tables (now sort) (now letter) (now next) (now stop) (now ways)) (holdsIn (now rows) columns (now cells) (now offsets) (now constants)
+        (now counts)) n (Lettered (now cells) (now offsets) (now counts) (now rows) columns n) (now notes) (now trail) from (λ s. s ≡ 0) ⌝ }
+    ensures { λ r. ⌜ Stepped (tables (now (sort .entry)) (now (letter .entry)) (now (next .entry)) (now (stop .entry)) (now (ways .entry))) (holdsIn (now (rows .entry))
+        columns (now (cells .entry)) (now (offsets .entry)) (now (constants .entry)) (now (counts .entry))) n (Lettered (now (cells .entry)) (now (offsets .entry))
+        (now (counts .entry)) (now (rows .entry)) columns n) (now (notes .entry)) (now (trail .entry)) from (now (notes .exit)) (now (trail .exit)) r ⌝ }
 {
     let place = from.place;
+    let begin = wide(next[place]);
     let end = wide(stop[place]);
     let top = from.top;
-    let mut j = wide(next[place]);
+    let mut j = begin + from.from;
     let mut w = from;
     while j < end {
         w = try_pair(
@@ -366,6 +393,7 @@ fn fork(
             wide(ways[j]),
             w.row,
             w.base,
+            j - begin,
         );
         if top < w.top {
             return w;
@@ -393,8 +421,11 @@ fn step(
     trail: &mut [u32],
     w: Walk,
 ) -> Walk
-    requires { ⌜ Goes (tables (now sort) (now letter) (now next) (now stop) (now ways)) (holdsIn (now rows) columns (now cells) (now offsets) (now constants) (now counts)) n (Lettered (now cells) (now offsets) (now counts) (now rows) columns n) (now notes) (now trail) w (λ s. s ≤ 3) ⌝ }
-    ensures { λ r. ⌜ Stepped (tables (now (sort .entry)) (now (letter .entry)) (now (next .entry)) (now (stop .entry)) (now (ways .entry))) (holdsIn (now (rows .entry)) columns (now (cells .entry)) (now (offsets .entry)) (now (constants .entry)) (now (counts .entry))) n (Lettered (now (cells .entry)) (now (offsets .entry)) (now (counts .entry)) (now (rows .entry)) columns n) (now (notes .entry)) (now (trail .entry)) w (now (notes .exit)) (now (trail .exit)) r ⌝ }
+    requires { ⌜ Goes (tables (now sort) (now letter) (now next) (now stop) (now ways)) (holdsIn (now rows) columns (now cells) (now offsets) (now constants)
+        (now counts)) n (Lettered (now cells) (now offsets) (now counts) (now rows) columns n) (now notes) (now trail) w (λ s. s ≤ 3) ⌝ }
+    ensures { λ r. ⌜ Stepped (tables (now (sort .entry)) (now (letter .entry)) (now (next .entry)) (now (stop .entry)) (now (ways .entry))) (holdsIn (now (rows .entry))
+        columns (now (cells .entry)) (now (offsets .entry)) (now (constants .entry)) (now (counts .entry))) n (Lettered (now (cells .entry)) (now (offsets .entry))
+        (now (counts .entry)) (now (rows .entry)) columns n) (now (notes .entry)) (now (trail .entry)) w (now (notes .exit)) (now (trail .exit)) r ⌝ }
 {
     let q = w.place;
     let row = w.row;
@@ -478,8 +509,11 @@ fn run(
     trail: &mut [u32],
     from: Walk,
 ) -> Walk
-    requires { ⌜ Good (tables (now sort) (now letter) (now next) (now stop) (now ways)) (holdsIn (now rows) columns (now cells) (now offsets) (now constants) (now counts)) n (Lettered (now cells) (now offsets) (now counts) (now rows) columns n) (now notes) (now trail) from ⌝ }
-    ensures { λ r. ⌜ Ran (tables (now (sort .entry)) (now (letter .entry)) (now (next .entry)) (now (stop .entry)) (now (ways .entry))) (holdsIn (now (rows .entry)) columns (now (cells .entry)) (now (offsets .entry)) (now (constants .entry)) (now (counts .entry))) n (Lettered (now (cells .entry)) (now (offsets .entry)) (now (counts .entry)) (now (rows .entry)) columns n) (now (notes .entry)) (now (trail .entry)) from (now (notes .exit)) (now (trail .exit)) r ⌝ }
+    requires { ⌜ Good (tables (now sort) (now letter) (now next) (now stop) (now ways)) (holdsIn (now rows) columns (now cells) (now offsets) (now constants)
+        (now counts)) n (Lettered (now cells) (now offsets) (now counts) (now rows) columns n) (now notes) (now trail) from ⌝ }
+    ensures { λ r. ⌜ Ran (tables (now (sort .entry)) (now (letter .entry)) (now (next .entry)) (now (stop .entry)) (now (ways .entry))) (holdsIn (now (rows .entry))
+        columns (now (cells .entry)) (now (offsets .entry)) (now (constants .entry)) (now (counts .entry))) n (Lettered (now (cells .entry)) (now (offsets .entry))
+        (now (counts .entry)) (now (rows .entry)) columns n) (now (notes .entry)) (now (trail .entry)) from (now (notes .exit)) (now (trail .exit)) r ⌝ }
 {
     let mut w = from;
     while w.top > 0 {
@@ -527,8 +561,11 @@ pub fn attempt(
     row: usize,
     steps: usize,
 ) -> Walk
-    requires { ⌜ Ready (tables (now sort) (now letter) (now next) (now stop) (now ways)) (holdsIn (now rows) columns (now cells) (now offsets) (now constants) (now counts)) n (Lettered (now cells) (now offsets) (now counts) (now rows) columns n) (now notes) (now trail) row steps ⌝ }
-    ensures { λ r. ⌜ Done (tables (now (sort .entry)) (now (letter .entry)) (now (next .entry)) (now (stop .entry)) (now (ways .entry))) (holdsIn (now (rows .entry)) columns (now (cells .entry)) (now (offsets .entry)) (now (constants .entry)) (now (counts .entry))) n (Lettered (now (cells .entry)) (now (offsets .entry)) (now (counts .entry)) (now (rows .entry)) columns n) (now (notes .entry)) (now (trail .entry)) row steps (now (notes .exit)) (now (trail .exit)) r ⌝ }
+    requires { ⌜ Ready (tables (now sort) (now letter) (now next) (now stop) (now ways)) (holdsIn (now rows) columns (now cells) (now offsets) (now constants)
+        (now counts)) n (Lettered (now cells) (now offsets) (now counts) (now rows) columns n) (now notes) (now trail) row steps ⌝ }
+    ensures { λ r. ⌜ Done (tables (now (sort .entry)) (now (letter .entry)) (now (next .entry)) (now (stop .entry)) (now (ways .entry))) (holdsIn (now (rows .entry))
+        columns (now (cells .entry)) (now (offsets .entry)) (now (constants .entry)) (now (counts .entry))) n (Lettered (now (cells .entry)) (now (offsets .entry))
+        (now (counts .entry)) (now (rows .entry)) columns n) (now (notes .entry)) (now (trail .entry)) row steps (now (notes .exit)) (now (trail .exit)) r ⌝ }
 {
     let base = row * sort.len();
     let start = Walk {
@@ -537,6 +574,7 @@ pub fn attempt(
         place: 0,
         row,
         base,
+        from: 0,
     };
     let w = try_pair(
         sort,
@@ -554,6 +592,7 @@ pub fn attempt(
         0,
         row,
         base,
+        0,
     );
     run(
         sort,

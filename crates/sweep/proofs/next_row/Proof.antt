@@ -2,26 +2,19 @@ use Rattle.sweep.proofs.Labelled.{next-one, next-behind, next-up}
 use borrow.Author.Needs.{needs}
 use Rattle.sweep.proofs.next_row.Statement.{statement}
 use Rattle.sweep.proofs.next_row.Tie as tie
-use Rattle.sweep.proofs.next_row.Reads as reads
-use Rattle.sweep.proofs.next_row.Lts as lts
 
--- src/lib.rt:65:16
 add-result : tie.Need-add-result
 add-result c = search needs
 
--- src/lib.rt:65:9
 returns : tie.Need-returns
 returns c = search (needs, next-one)
 
--- src/lib.rt:68:9
 returns-2 : tie.Need-returns-2
 returns-2 c = search (needs, next-behind)
 
--- src/lib.rt:70:5
 add-result-2 : tie.Need-add-result-2
 add-result-2 c = search needs
 
--- src/lib.rt:60:1
 returns-3 : tie.Need-returns-3
 returns-3 c = search (needs, next-up)
 

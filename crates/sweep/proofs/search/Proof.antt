@@ -3,53 +3,37 @@ use Rattle.sweep.proofs.Clearing.{rows-fit, pairs-fit, bytes-fit, words
 use borrow.Author.Needs.{needs}
 use Rattle.sweep.proofs.search.Statement.{statement}
 use Rattle.sweep.proofs.search.Tie as tie
-use Rattle.sweep.proofs.search.Reads as reads
-use Rattle.sweep.proofs.search.Lts as lts
-use Rattle.sweep.proofs.starts.Reads as starts-reads
-use Rattle.sweep.proofs.zero_bytes.Reads as zero-bytes-reads
-use Rattle.sweep.proofs.zero_words.Reads as zero-words-reads
 
--- src/lib.rt:297:31
 add-pairs : tie.Need-add-pairs
 add-pairs c = omega (arith, rows-fit _ _ _ _ _ _ _ _ (c .before .before .before .before .before .before .before .before .before .pre))
 
--- src/lib.rt:297:17
 mul-pairs : tie.Need-mul-pairs
 mul-pairs c = omega (arith, pairs-fit _ _ _ _ _ _ _ _ (c .before .before .before .before .before .before .before .before .before .pre))
 
--- src/lib.rt:298:24
 add-zero-bytes : tie.Need-add-zero-bytes
 add-zero-bytes c = omega (arith, pairs-fit _ _ _ _ _ _ _ _ (c .before .before .before .before .before .before .before .before .before .before .pre))
 
--- src/lib.rt:298:5
 zero-bytes-requires : tie.Need-zero-bytes-requires
-zero-bytes-requires c κs = bytes-fit _ _ _ _ _ _ _ _ (c .before .before .before .before .before .before .before .before .before .before .pre)
+zero-bytes-requires c κs = omega (arith, bytes-fit _ _ _ _ _ _ _ _ (c .before .before .before .before .before .before .before .before .before .before .pre))
 
--- src/lib.rt:299:9
 starts-requires : tie.Need-starts-requires
 starts-requires c κs = cleared-starts _ _ _ _ _ _ _ _ (c .before .before .before .before .before .before .before .before .before .before .before .before .before .before .before .before .before .pre) _ (c .before .before .before .before .before .before .zero-bytes .ensures)
 
--- src/lib.rt:316:5
 zero-words-requires : tie.Need-zero-words-requires
 zero-words-requires c κs = omega (arith, words-fit _ _ _ _ _ _ _ _ (c .before .before .before .before .before .before .before .before .before .before .before .before .before .before .before .before .before .before .before .before .before .before .before .before .before .before .pre), (c .before .before .before .before .before .before .before .before .starts .ensures .trail-long))
 
--- src/lib.rt:276:1
 same-length : tie.Need-same-length
 same-length c = search needs
 
--- src/lib.rt:276:1
 same-length-2 : tie.Need-same-length-2
 same-length-2 c = search needs
 
--- src/lib.rt:276:1
 same-length-3 : tie.Need-same-length-3
 same-length-3 c = search needs
 
--- src/lib.rt:276:1
 same-length-4 : tie.Need-same-length-4
 same-length-4 c = search needs
 
--- src/lib.rt:276:1
 returns : tie.Need-returns
 returns c = search-done _ _ _ _ _ _ _ _ (c .before .before .before .before .before .before .before .before .before .before .before .before .before .before .before .before .before .before .before .before .before .before .before .before .before .before .before .before .before .pre) _ (c .before .before .before .before .before .before .before .before .before .before .before .before .before .before .before .before .before .before .zero-bytes .ensures) _ _ _ _ _ _ _ _ (λ k. omega (arith, (c .before .before .before .before .before .before .before .before .before .slice-known5 .given) k)) (λ k. omega (arith, (c .before .before .before .before .before .before .before .before .before .before .before .before .before .before .before .before .before .before .before .before .before .before .slice-known .given) k)) (c .before .before .before .before .before .before .before .before .before .before .before .starts .ensures) (c .before .before .zero-words .ensures)
 

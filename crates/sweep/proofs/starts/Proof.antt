@@ -1,5 +1,4 @@
 use Prim.Native.Nat.{_-_}
-use lib.ListN.{length}
 use Rattle.sweep.specs.Asked.{asked}
 use Rattle.report.specs.Measures.{measuresIn}
 use Rattle.rules.specs.Rows.{tableOf}
@@ -8,9 +7,6 @@ use Rattle.walk.specs.Letters.{holdsIn, Lettered}
 use Rattle.sweep.proofs.Sofar.{SoFar, so-none, so-numbers, so-labels, so-visits, so-more, so-less, so-all}
 use Rattle.sweep.proofs.starts.Statement.{statement}
 use Rattle.sweep.proofs.starts.Tie as tie
-use Rattle.sweep.proofs.starts.Reads as reads
-use Rattle.sweep.proofs.starts.Lts as lts
-use Rattle.sweep.proofs.visit.Reads as visit-reads
 
 abbrev Inv-loop : tie.InvT-loop
 Inv-loop sort letter next stop ways rows columns n cells offsets constants counts ms count mode notes₀ trail₀ numbers₀ labels₀ i₀ notes trail numbers labels i =
@@ -20,39 +16,30 @@ abbrev μ-loop : tie.MeasureT-loop
 μ-loop sort letter next stop ways rows columns n cells offsets constants counts ms count mode notes₀ trail₀ numbers₀ labels₀ i₀ notes trail numbers labels i =
     n - i .row
 
--- src/lib.rt:227:5
 loop-holds : tie.Need-loop-holds Inv-loop μ-loop
 loop-holds c = so-none _ _ _ _ _ _ _ _ _ _ (c .before .before .before .before .before .before .before .before .before .pre)
 
--- src/lib.rt:228:9
 visit-requires : tie.Need-visit-requires Inv-loop μ-loop
 visit-requires c κs = so-visits _ _ _ _ _ _ _ _ _ _ _ _ _ _ _ (c .before .before .before .before .before .before .loop .inv) (c .before .before .before .before .if1 .taken)
 
--- src/lib.rt:227:5
 loop-less : tie.Need-loop-less Inv-loop μ-loop
 loop-less c = so-less _ _ _ _ _ _ _ _ _ _ _ _ _ _ _ (c .before .before .before .before .before .before .before .before .before .before .before .before .before .before .loop .inv) (c .before .before .before .before .before .before .before .before .before .before .before .before .if1 .taken) _ _ _ _ _ (c .before .before .before .before .before .before .before .visit .ensures)
 
--- src/lib.rt:227:5
 loop-again : tie.Need-loop-again Inv-loop μ-loop
 loop-again c = so-more _ _ _ _ _ _ _ _ _ _ _ _ _ _ _ (c .before .before .before .before .before .before .before .before .before .before .before .before .before .before .loop .inv) (c .before .before .before .before .before .before .before .before .before .before .before .before .if1 .taken) _ _ _ _ _ (c .before .before .before .before .before .before .before .visit .ensures)
 
--- src/lib.rt:200:1
 same-length : tie.Need-same-length Inv-loop μ-loop
 same-length c = (c .before .before .loop .inv .notes-long)
 
--- src/lib.rt:200:1
 same-length-2 : tie.Need-same-length-2 Inv-loop μ-loop
 same-length-2 c = (c .before .before .loop .inv .trail-long)
 
--- src/lib.rt:200:1
 same-length-3 : tie.Need-same-length-3 Inv-loop μ-loop
 same-length-3 c = so-numbers _ _ _ _ _ _ _ _ _ _ _ _ _ _ _ (c .before .before .loop .inv)
 
--- src/lib.rt:200:1
 same-length-4 : tie.Need-same-length-4 Inv-loop μ-loop
 same-length-4 c = so-labels _ _ _ _ _ _ _ _ _ _ _ _ _ _ _ (c .before .before .loop .inv)
 
--- src/lib.rt:200:1
 returns : tie.Need-returns Inv-loop μ-loop
 returns c = so-all _ _ _ _ _ _ _ _ _ _ _ _ _ _ _ (c .before .before .loop .inv) (c .if1 .left)
 

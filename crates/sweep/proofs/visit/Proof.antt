@@ -3,52 +3,37 @@ use Rattle.sweep.proofs.Visiting.{visit-ready, visit-row, visit-none, v
 use borrow.Author.Needs.{needs}
 use Rattle.sweep.proofs.visit.Statement.{statement}
 use Rattle.sweep.proofs.visit.Tie as tie
-use Rattle.sweep.proofs.visit.Reads as reads
-use Rattle.sweep.proofs.visit.Lts as lts
-use Rattle.sweep.proofs.write_match.Reads as write-match-reads
-use Rattle.walk.proofs.attempt.Reads as attempt-reads
 
--- src/lib.rt:157:9
 attempt-requires : tie.Need-attempt-requires
 attempt-requires c κs = visit-ready _ _ _ _ _ _ _ _ _ _ (c .before .before .before .before .before .before .before .before .before .before .before .pre)
 
--- src/lib.rt:172:18
 add-after : tie.Need-add-after
-add-after c = search needs
+add-after c = omega (arith, visit-row _ _ _ _ _ _ _ _ _ _ (c .before .before .before .before .before .before .before .before .before .before .before .before .before .before .before .before .before .before .pre))
 
--- src/lib.rt:170:9
 same-length : tie.Need-same-length
 same-length c = search needs
 
--- src/lib.rt:170:9
 same-length-2 : tie.Need-same-length-2
 same-length-2 c = search needs
 
--- src/lib.rt:170:9
 returns : tie.Need-returns
 returns c = visit-none _ _ _ _ _ _ _ _ _ _ (c .before .before .before .before .before .before .before .before .before .before .before .before .before .before .before .before .before .before .pre) _ _ _ (c .before .before .before .before .before .before .attempt .ensures) _ (c .if1 .taken)
 
--- src/lib.rt:178:5
 write-match-requires : tie.Need-write-match-requires
 write-match-requires c κs = visit-reports _ _ _ _ _ _ _ _ _ _ (c .before .before .before .before .before .before .before .before .before .before .before .before .before .before .before .before .before .before .before .before .before .pre) _ _ _ (c .before .before .before .before .before .before .before .before .before .attempt .ensures) (c .before .before .before .if1 .left)
 
--- src/lib.rt:135:1
 same-length-3 : tie.Need-same-length-3
 same-length-3 c = search needs
 
--- src/lib.rt:135:1
 same-length-4 : tie.Need-same-length-4
 same-length-4 c = search needs
 
--- src/lib.rt:135:1
 same-length-5 : tie.Need-same-length-5
 same-length-5 c = search needs
 
--- src/lib.rt:135:1
 same-length-6 : tie.Need-same-length-6
 same-length-6 c = search needs
 
--- src/lib.rt:135:1
 returns-2 : tie.Need-returns-2
 returns-2 c = visit-found _ _ _ _ _ _ _ _ _ _ (c .before .before .before .before .before .before .before .before .before .before .before .before .before .before .before .before .before .before .before .before .before .before .before .before .before .pre) _ _ _ (c .before .before .before .before .before .before .before .before .before .before .before .before .before .attempt .ensures) (c .before .before .before .before .before .before .before .if1 .left) _ _ _ _ ((c .before .before .before .write-match .ensures) _)
 

@@ -3,8 +3,6 @@ use Prim.Native.Nat.{_-_}
 use Rattle.sweep.proofs.Clearing.{Zeroed, zeroed-none, zeroed-long, zeroed-room, zeroed-more, zeroed-all}
 use Rattle.sweep.proofs.zero_bytes.Statement.{statement}
 use Rattle.sweep.proofs.zero_bytes.Tie as tie
-use Rattle.sweep.proofs.zero_bytes.Reads as reads
-use Rattle.sweep.proofs.zero_bytes.Lts as lts
 
 abbrev Inv-loop : tie.InvT-loop
 Inv-loop s₀ count i₀ s i = Zeroed s₀ count s i
@@ -12,31 +10,24 @@ Inv-loop s₀ count i₀ s i = Zeroed s₀ count s i
 abbrev μ-loop : tie.MeasureT-loop
 μ-loop s₀ count i₀ s i = count - i
 
--- src/lib.rt:257:5
 loop-holds : tie.Need-loop-holds Inv-loop μ-loop
 loop-holds c = zeroed-none _ _ (c .pre)
 
--- src/lib.rt:258:9
 slice-write-s : tie.Need-slice-write-s Inv-loop μ-loop
 slice-write-s c = zeroed-room _ _ _ _ (c .before .loop .inv) (c .loop-test .taken)
 
--- src/lib.rt:259:9
 add-i : tie.Need-add-i Inv-loop μ-loop
 add-i c = omega arith
 
--- src/lib.rt:257:5
 loop-less : tie.Need-loop-less Inv-loop μ-loop
 loop-less c = omega arith
 
--- src/lib.rt:257:5
 loop-again : tie.Need-loop-again Inv-loop μ-loop
 loop-again c = zeroed-more _ _ _ _ (c .before .loop .inv) (c .loop-test .taken)
 
--- src/lib.rt:252:1
 same-length : tie.Need-same-length Inv-loop μ-loop
 same-length c = zeroed-long _ _ _ _ (c .before .loop .inv)
 
--- src/lib.rt:252:1
 returns : tie.Need-returns Inv-loop μ-loop
 returns c = zeroed-all _ _ _ _ (c .before .loop .inv) (c .loop-test .left)
 

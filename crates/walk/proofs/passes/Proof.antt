@@ -3,39 +3,28 @@ use Rattle.walk.proofs.Small.{passes-letter, passes-late, passes-caret,
 use borrow.Author.Needs.{needs}
 use Rattle.walk.proofs.passes.Statement.{statement}
 use Rattle.walk.proofs.passes.Tie as tie
-use Rattle.walk.proofs.passes.Reads as reads
-use Rattle.walk.proofs.passes.Lts as lts
-use Rattle.walk.proofs.holds.Reads as holds-reads
 
--- src/lib.rt:67:13
 shared-slice-read-k : tie.Need-shared-slice-read-k
 shared-slice-read-k c = search needs
 
--- src/lib.rt:70:32
 shared-slice-read-holds : tie.Need-shared-slice-read-holds
 shared-slice-read-holds c = search needs
 
--- src/lib.rt:70:13
 holds-requires : tie.Need-holds-requires
 holds-requires c κs = ((c .before .if2 .taken), known-letter _ _ _ _ (c .before .before .before .before .before .before .pre) (c .before .before .if1 .taken), (c .before .before .before .before .before .before .pre .asks))
 
--- src/lib.rt:70:13
 returns : tie.Need-returns
 returns c = search (needs, passes-letter)
 
--- src/lib.rt:72:9
 returns-2 : tie.Need-returns-2
 returns-2 c = search (needs, passes-late)
 
--- src/lib.rt:75:9
 returns-3 : tie.Need-returns-3
 returns-3 c = search (needs, passes-caret)
 
--- src/lib.rt:78:9
 returns-4 : tie.Need-returns-4
 returns-4 c = search (needs, passes-dollar)
 
--- src/lib.rt:63:1
 returns-5 : tie.Need-returns-5
 returns-5 c = search (needs, passes-any)
 

@@ -1,4 +1,4 @@
-use lib.ListN.{length}
+use native.Mathlib.Omega.{arith}
 use Rattle.walk.specs.State.{left, comes, Reached}
 use Rattle.walk.specs.Tables.{tables, N}
 use Rattle.walk.specs.Letters.{holdsIn, Lettered}
@@ -6,9 +6,6 @@ use Rattle.walk.proofs.Going.{reached-none}
 use Rattle.walk.proofs.Whole.{run-place, run-goes, run-found, run-end, run-more}
 use Rattle.walk.proofs.run.Statement.{statement}
 use Rattle.walk.proofs.run.Tie as tie
-use Rattle.walk.proofs.run.Reads as reads
-use Rattle.walk.proofs.run.Lts as lts
-use Rattle.walk.proofs.step.Reads as step-reads
 
 abbrev Inv-loop : tie.InvT-loop
 Inv-loop sort letter next stop ways rows columns n cells offsets constants counts notes₀ trail₀ w₀ notes trail w =
@@ -17,47 +14,36 @@ Inv-loop sort letter next stop ways rows columns n cells offsets constants count
 abbrev μ-loop : tie.MeasureT-loop
 μ-loop sort letter next stop ways rows columns n cells offsets constants counts notes₀ trail₀ w₀ notes trail w = left (N (tables sort letter next stop ways) n) notes w
 
--- src/lib.rt:286:5
 loop-holds : tie.Need-loop-holds Inv-loop μ-loop
 loop-holds c = reached-none _ _ _ _ _ _ _ (c .before .before .before .before .before .before .before .pre)
 
--- src/lib.rt:288:12
 shared-slice-read-if2 : tie.Need-shared-slice-read-if2 Inv-loop μ-loop
 shared-slice-read-if2 c = run-place _ _ _ _ _ _ _ _ _ _ (c .before .before .before .loop .inv) (c .before .if1 .taken)
 
--- src/lib.rt:289:13
 same-length : tie.Need-same-length Inv-loop μ-loop
 same-length c = (c .before .before .before .before .loop .inv .notes-long)
 
--- src/lib.rt:289:13
 same-length-2 : tie.Need-same-length-2 Inv-loop μ-loop
 same-length-2 c = (c .before .before .before .before .loop .inv .trail-long)
 
--- src/lib.rt:289:13
 returns : tie.Need-returns Inv-loop μ-loop
-returns c = run-found _ _ _ _ _ _ _ _ _ _ (c .before .before .before .before .loop .inv) (c .if2 .taken)
+returns c = run-found _ _ _ _ _ _ _ _ _ _ (c .before .before .before .before .loop .inv) (omega (arith, (c .if2 .taken)))
 
--- src/lib.rt:291:9
 step-requires : tie.Need-step-requires Inv-loop μ-loop
-step-requires c κs = run-goes _ _ _ _ _ _ _ _ _ _ (c .before .before .before .before .before .before .loop .inv) (c .before .before .before .before .if1 .taken) (c .before .before .if2 .left)
+step-requires c κs = run-goes _ _ _ _ _ _ _ _ _ _ (c .before .before .before .before .before .before .loop .inv) (c .before .before .before .before .if1 .taken) (omega (arith, (c .before .before .if2 .left)))
 
--- src/lib.rt:286:5
 loop-less : tie.Need-loop-less Inv-loop μ-loop
 loop-less c = (c .before .before .before .before .step .ensures .less)
 
--- src/lib.rt:286:5
 loop-again : tie.Need-loop-again Inv-loop μ-loop
 loop-again c = run-more _ _ _ _ _ _ _ _ _ _ (c .before .before .before .before .before .before .before .before .before .before .before .loop .inv) _ _ _ (c .before .before .before .before .step .ensures)
 
--- src/lib.rt:271:1
 same-length-3 : tie.Need-same-length-3 Inv-loop μ-loop
 same-length-3 c = (c .before .before .loop .inv .notes-long)
 
--- src/lib.rt:271:1
 same-length-4 : tie.Need-same-length-4 Inv-loop μ-loop
 same-length-4 c = (c .before .before .loop .inv .trail-long)
 
--- src/lib.rt:271:1
 returns-2 : tie.Need-returns-2 Inv-loop μ-loop
 returns-2 c = run-end _ _ _ _ _ _ _ _ _ _ (c .before .before .loop .inv) (c .if1 .left)
 

@@ -3,72 +3,52 @@ use Rattle.walk.proofs.Whole.{step-place, step-fork, step-row, step-ahe
 use borrow.Author.Needs.{needs}
 use Rattle.walk.proofs.step.Statement.{statement}
 use Rattle.walk.proofs.step.Tie as tie
-use Rattle.walk.proofs.step.Reads as reads
-use Rattle.walk.proofs.step.Lts as lts
-use Rattle.walk.proofs.fork.Reads as fork-reads
-use Rattle.walk.proofs.pass.Reads as pass-reads
 
--- src/lib.rt:261:8
 shared-slice-read-if1 : tie.Need-shared-slice-read-if1
 shared-slice-read-if1 c = step-place _ _ _ _ _ _ _ (c .before .before .before .before .before .before .before .before .pre)
 
--- src/lib.rt:262:9
 fork-requires : tie.Need-fork-requires
 fork-requires c κs = step-fork _ _ _ _ _ _ _ (c .before .before .before .before .before .before .before .before .before .before .before .pre) (c .before .before .if1 .taken)
 
--- src/lib.rt:262:9
 same-length : tie.Need-same-length
 same-length c = search needs
 
--- src/lib.rt:262:9
 same-length-2 : tie.Need-same-length-2
 same-length-2 c = search needs
 
--- src/lib.rt:262:9
 returns : tie.Need-returns
 returns c = search needs
 
--- src/lib.rt:264:8
 shared-slice-read-if2 : tie.Need-shared-slice-read-if2
 shared-slice-read-if2 c = step-place _ _ _ _ _ _ _ (c .before .before .before .before .before .before .before .before .before .before .pre)
 
--- src/lib.rt:265:76
 add-pass : tie.Need-add-pass
 add-pass c = omega (arith, step-row _ _ _ _ _ _ _ (c .before .before .before .before .before .before .before .before .before .before .before .before .before .pre) (c .before .before .if2 .taken))
 
--- src/lib.rt:265:85
 add-pass-2 : tie.Need-add-pass-2
 add-pass-2 c = omega (arith, step-ahead _ _ _ _ _ _ _ (c .before .before .before .before .before .before .before .before .before .before .before .before .before .pre) (c .before .before .if2 .taken))
 
--- src/lib.rt:265:9
 pass-requires : tie.Need-pass-requires
 pass-requires c κs = step-letter _ _ _ _ _ _ _ (c .before .before .before .before .before .before .before .before .before .before .before .before .before .pre) (c .before .before .if2 .taken)
 
--- src/lib.rt:265:9
 same-length-3 : tie.Need-same-length-3
 same-length-3 c = search needs
 
--- src/lib.rt:265:9
 same-length-4 : tie.Need-same-length-4
 same-length-4 c = search needs
 
--- src/lib.rt:265:9
 returns-2 : tie.Need-returns-2
 returns-2 c = search needs
 
--- src/lib.rt:267:5
 pass-requires-2 : tie.Need-pass-requires-2
 pass-requires-2 c κs = step-anchor _ _ _ _ _ _ _ (c .before .before .before .before .before .before .before .before .before .before .before .before .before .pre) (c .before .before .before .before .if1 .left) (c .before .before .if2 .left)
 
--- src/lib.rt:244:1
 same-length-5 : tie.Need-same-length-5
 same-length-5 c = search needs
 
--- src/lib.rt:244:1
 same-length-6 : tie.Need-same-length-6
 same-length-6 c = search needs
 
--- src/lib.rt:244:1
 returns-3 : tie.Need-returns-3
 returns-3 c = search needs
 
