@@ -4,4 +4,3 @@ pub mod Signed
 pub mod Lines
 pub mod Inputs
 pub mod Printed
-pub mod Joined

@@ -1,0 +1,133 @@
+-- One law for each way through the functions of this crate: the measures counted, the search's report as text, and the program's text by what the input
+-- is; and that the first 36,867 bytes of an input decide what is printed.
+use mathlib.Core.Path.{_≡_, refl, sym, ap, _∙_}
+use mathlib.Core.Bool.{Bool, true, false}
+use mathlib.Core.List.{List}
+use Prim.Native.Nat.{ℕ, _+_, _*_, _-_, _≤_}
+use native.Mathlib.Omega.{arith}
+use lib.Dec.{ltb, eqb}
+use lib.IntN.{ℤ}
+use lib.ListN.{length, take, drop, length-take, length-drop}
+use lib.Seq.{take-all}
+use borrow.Author.Tests.{lt-ltb, le-ltb, ltb-true, ltb-false}
+use Rattle.rules.specs.Basics.{pick, le16}
+use Rattle.rules.specs.Query.{parts}
+use Rattle.rules.specs.Answers.{taskOf, walked, Buffers, Memory, searchOf}
+use Rattle.rules.specs.Program.{refusedText, tooLarge, searchText, printedFor, printed}
+use Rattle.rules.proofs.Accepted.{Accepted}
+use Rattle.rules.proofs.Lists.{length-tabulate}
+use Rattle.decode.specs.Layout.{measureIn, measuresIn}
+use Rattle.room.specs.declared.Query.{Query}
+use Rattle.room.specs.Reading.{queryAnswer, Asked}
+use Rattle.search.specs.declared.Outcome.{Outcome}
+use Rattle.search.specs.Promise.{lent, memory, Promised}
+use Rattle.text.specs.declared.input.Input.{Input}
+use Rattle.text.specs.declared.input.Input.the-variants.{Refused, TooLarge, Go}
+use Rattle.text.specs.Input.{inputOf, printedInput}
+use Rattle.text.specs.Put.{Put}
+use Rattle.text.specs.Report.{reportText}
+use Rattle.text.proofs.Inputs.{Parted, parted, printed-input}
+use Rattle.text.proofs.Writing.{put-long}
+use Rattle.run.specs.Run.{Ran, Counted, Found}
+use Rattle.run.proofs.Joined.{room-accepts, no-query-answer, search-numbers, search-printed}
+
+-- ---- the measures
+
+pub measures-counted : (q cells₀ : List ℕ) (offsets₀ numbers₀ : List ℤ) (measures₀ room cells : List ℕ) (offsets numbers : List ℤ) (counts measures : List ℕ) (r : Query)
+    → Asked q cells₀ offsets₀ numbers₀ measures₀ room cells offsets numbers counts measures r → Counted q (r .measures)
+unfolding measuresIn
+measures-counted q cells₀ offsets₀ numbers₀ measures₀ room cells offsets numbers counts measures r a =
+    record {
+      is = λ z.
+          let w = a .good (a .answer ∙ z) in
+          w .good .measured ∙ sym (length-tabulate (w .parts .measures) (measureIn measures)) ∙ ap length (w .decoded .measured);
+    }
+
+-- ---- the search's report: r and the buffers without a stroke are what the search leaves of those with one, and k is the number of measures
+
+module _ (q : List ℕ) (rows : List ℤ) (f : Found q rows) (notes′ trail′ : List ℕ) (numbers′ : List ℤ) (labels′ : List ℕ) (r : Outcome) (notes trail : List ℕ) (numbers : List ℤ) (labels : List ℕ)
+    (p : Promised q rows (lent notes′ trail′ numbers′ labels′) (memory r notes trail numbers labels)) (k : ℕ) (c : Counted q k) (hn : length notes′ ≡ 2000) (ht : length trail′ ≡ 16000) where
+  abbrev L : Buffers
+  L = lent notes′ trail′ numbers′ labels′
+
+  accepts : Accepted q rows L
+  accepts = room-accepts q rows (f .none) L (omega arith) (omega arith) (f .few)
+
+  measures : k ≡ length (taskOf q rows .measures)
+  unfolding taskOf queryAnswer
+  measures = c .is (no-query-answer q rows (f .none))
+
+  pub numbers-there : r .matches * (3 + 2 * k) ≤ length numbers
+  numbers-there =
+      let t : (M : Memory) → M ≡ searchOf q rows L → M .result .matches * (3 + 2 * k) ≤ length (M .buffers .numbers) = λ M e. rw (e, measures) (search-numbers q rows L accepts) in
+      t _ (p .whole)
+
+  report-is : (M : Memory) → M ≡ searchOf q rows L → length numbers′ ≡ 8192 → length labels′ ≡ 65536
+      → reportText (eqb (M .result .answer) 13) (M .result .matches) (M .result .steps) k (M .buffers .numbers) (M .buffers .labels)
+      ≡ searchText (taskOf q rows) (walked (taskOf q rows) 8192 65536)
+  report-is M e n l = rw (e, measures) (search-printed q rows L accepts n l)
+
+  pub report-put : length numbers′ ≡ 8192 → length labels′ ≡ 65536 → (o m : List ℕ) (b : ℕ)
+      → Put o 0 (reportText (eqb (r .answer) 13) (r .matches) (r .steps) k numbers labels) m b → Put o 0 (searchText (taskOf q rows) (walked (taskOf q rows) 8192 65536)) m b
+  report-put n l o m b w = rw (← (report-is _ (p .whole) n l)) w
+
+-- ---- the whole input
+
+-- all that is longer than the longest query with the most row bytes is too large
+long-input : (s : List ℕ) → 36867 ≤ length s → printed s ≡ tooLarge
+unfolding printed
+long-input s h = simp (le-ltb (length s) 2 (omega arith)) (go (ltb 4096 (le16 s 0)) refl)
+  where
+    go : (t : Bool) → ltb 4096 (le16 s 0) ≡ t
+        → pick t tooLarge
+        (pick (ltb (length s) (2 + le16 s 0)) (refusedText 1)
+        (pick (ltb 32768 (length s - (2 + le16 s 0))) tooLarge
+        (printedFor (take (le16 s 0) (drop 2 s)) (drop (2 + le16 s 0) s))))
+        ≡ tooLarge
+    go true e = refl
+    go false e =
+        let b = ltb-false 4096 (le16 s 0) e in
+        simp (le-ltb (length s) (2 + le16 s 0) (omega arith), lt-ltb 32768 (length s - (2 + le16 s 0)) (omega arith))
+
+-- so the first 36,867 bytes decide
+pub prefix-decides : (s : List ℕ) → printed s ≡ printed (take 36867 s)
+prefix-decides s = go (ltb 36867 (length s)) refl
+  where
+    go : (t : Bool) → ltb 36867 (length s) ≡ t → printed s ≡ printed (take 36867 s)
+    go true e =
+        let h = ltb-true 36867 (length s) e in
+        long-input s (omega arith) ∙ sym (long-input (take 36867 s) (simp length-take (omega arith)))
+    go false e = ap printed (sym (take-all 36867 s (ltb-false 36867 (length s) e)))
+
+ran : (s l m : List ℕ) (b : ℕ) (t : List ℕ) → printed s ≡ t → Put l 0 t m b → Ran s l m b
+ran s l m b t e p = record { text = rw e p; enough = λ u h. prefix-decides u ∙ ap printed h }
+
+module _ (s : List ℕ) (i : Input) (given : i ≡ inputOf s) where
+  case : (j : Input) → i ≡ j → printed s ≡ printedInput j s
+  case j h = printed-input s ∙ ap (λ (k : Input). printedInput k s) (sym given ∙ h)
+
+  -- where the query and the rows lie
+  pub case-parted : (rows : ℕ) → i ≡ Go rows → Parted s rows
+  case-parted rows h = parted s rows (sym given ∙ h)
+
+  pub ran-refused : (l m : List ℕ) (b a : ℕ) → i ≡ Refused a → Put l 0 (refusedText a) m b → Ran s l m b
+  unfolding printedInput
+  ran-refused l m b a h p = ran s l m b (refusedText a) (case (Refused a) h) p
+
+  pub ran-large : (l m : List ℕ) (b : ℕ) → i ≡ TooLarge → Put l 0 tooLarge m b → Ran s l m b
+  unfolding printedInput
+  ran-large l m b h p = ran s l m b tooLarge (case TooLarge h) p
+
+  pub ran-query : (l m : List ℕ) (b rows : ℕ) → i ≡ Go rows → Put l 0 (printedFor (take (rows - 2) (drop 2 s)) (take (length s - rows) (drop rows s))) m b → Ran s l m b
+  unfolding printedInput
+  ran-query l m b rows h p =
+      let w : take (length s - rows) (drop rows s) ≡ drop rows s = take-all (length s - rows) (drop rows s) (simp length-drop (omega arith)) in
+      ran s l m b _ (case (Go rows) h) (rw w at p)
+
+-- the text lies within the buffer
+module _ (s l m : List ℕ) (b : ℕ) (r : Ran s l m b) where
+  pub ran-within : b ≤ length m
+  ran-within = let p = r .text in omega (arith, put-long l 0 (printed s) m b p)
+
+  pub ran-long : b ≡ length (take b m)
+  ran-long = let w = ran-within in simp length-take (omega arith)

@@ -1,0 +1,101 @@
+// The program between reading and writing, as one function on slices: `run` writes what document 01 has the program print of an input, for every input
+// (specs/Run); the laws are in proofs/Joined and proofs/Running. It lends the search 8,192 report numbers, 65,536 label bytes and room for 16,000 pairs, all
+// on the stack. The query is read three times: for its room, by the search, and for the number of its measures, by which the report's numbers are parted.
+mod streams;
+
+ghost use Prim.Native.Nat.{_≤_};
+ghost use lib.ListN.{length};
+ghost use Rattle.rules.specs.Answers.{taskOf, walked};
+ghost use Rattle.rules.specs.Program.{searchText, printedFor};
+ghost use Rattle.text.specs.Put.{Put};
+ghost use Rattle.run.specs.Run.{Counted, Found, Ran};
+pub use streams::on_streams;
+
+// How many measures a query with no answer 1 to 9 has.
+fn measures_of(query: &[u8]) -> usize
+    ensures { λ r. ⌜ Counted (now (query .entry)) r ⌝ }
+{
+    let mut nodes = [0u16; 4096];
+    let mut cells = [0u16; 832];
+    let mut offsets = [0i8; 416];
+    let mut constants = [0i32; 208];
+    let mut counts = [0u8; 26];
+    let mut measures = [0u8; 24];
+    let q = room::read_query(
+        query,
+        &mut nodes,
+        &mut cells,
+        &mut offsets,
+        &mut constants,
+        &mut counts,
+        &mut measures,
+    );
+    q.measures
+}
+
+// The search of a query and rows that are not refused and have at most 16,000 pairs, and its report as text.
+fn run_search(query: &[u8], rows: &[i32], out: &mut [u8]) -> usize
+    requires { ⌜ Found (now query) (now rows) ⌝ }
+    requires { ⌜ 245820 ≤ length (now out) ⌝ }
+    ensures { λ r. ⌜ Put (now (out .entry)) 0 (searchText (taskOf (now (query .entry)) (now (rows .entry))) (walked (taskOf (now (query .entry)) (now (rows .entry))) 8192 65536)) (now (out .exit)) r ⌝ }
+{
+    let mut notes = [0u8; 2000];
+    let mut trail = [0u32; 16000];
+    let mut numbers = [0i64; 8192];
+    let mut labels = [0u8; 65536];
+    let end = search::search(
+        query,
+        rows,
+        &mut notes,
+        &mut trail,
+        &mut numbers,
+        &mut labels,
+    );
+    let measures = measures_of(query);
+    text::put_report(
+        out,
+        0,
+        end.answer == 13,
+        end.matches,
+        end.steps as u64,
+        measures,
+        &numbers,
+        &labels,
+    )
+}
+
+// A query and its row bytes: the answers 1 to 10, then too many pairs, then the search.
+fn run_query(query: &[u8], bytes: &[u8], out: &mut [u8]) -> usize
+    requires { ⌜ length (now bytes) ≤ 32768 ⌝ }
+    requires { ⌜ 245820 ≤ length (now out) ⌝ }
+    ensures { λ r. ⌜ Put (now (out .entry)) 0 (printedFor (now (query .entry)) (now (bytes .entry))) (now (out .exit)) r ⌝ }
+{
+    let mut rows = [0i32; 8192];
+    let count = text::rows_of(bytes, &mut rows);
+    let size = room::room(query, &rows[..count]);
+    let answer = size.answer;
+    if answer != 0 {
+        return text::put_refused(out, 0, answer as u64);
+    }
+    if bytes.len() % 4 != 0 {
+        return text::put_refused(out, 0, 10);
+    }
+    let pairs = size.places * (size.rows + 1);
+    if 16000 < pairs {
+        return text::put_too_large(out, 0);
+    }
+    run_search(query, &rows[..count], out)
+}
+
+// What the program prints of an input, into the front of `out`; the result is how many bytes that is.
+pub fn run(input: &[u8], out: &mut [u8]) -> usize
+    requires { ⌜ 245820 ≤ length (now out) ⌝ }
+    ensures { λ r. ⌜ Ran (now (input .entry)) (now (out .entry)) (now (out .exit)) r ⌝ }
+{
+    let case = text::input_of(input);
+    match case {
+        text::Input::Refused(answer) => text::put_refused(out, 0, answer),
+        text::Input::TooLarge => text::put_too_large(out, 0),
+        text::Input::Go { rows } => run_query(&input[2..rows], &input[rows..], out),
+    }
+}
