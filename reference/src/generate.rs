@@ -9,6 +9,7 @@ pub mod draft;
 pub mod limits;
 pub mod mix;
 pub mod random;
+pub mod scramble;
 pub mod stdin;
 pub mod texts;
 

@@ -6,7 +6,9 @@ mod common;
 use common::*;
 use reference::generate::damage::{damage, damage_twice};
 use reference::generate::draft::{self, Numbers, MIDDLE, SMALL};
-use reference::generate::{mix, stdin, Random};
+use reference::generate::scramble::scrambled;
+use reference::generate::{mix, stdin, texts, Random};
+use reference::pattern;
 use reference::program::program;
 use reference::search;
 use std::collections::BTreeSet;
@@ -91,4 +93,31 @@ fn the_same_seed_gives_the_same_inputs() {
         inputs.collect::<Vec<_>>()
     };
     assert_eq!(stream(), stream());
+}
+
+#[test]
+fn texts_of_a_wanted_number_of_places() {
+    let near = (0..=65).flat_map(|power| [(1u128 << power) - 1, 1 << power, (1 << power) + 1]);
+    for places in near.filter(|&places| places > 0) {
+        let text = texts::with_places(places).expect("short enough");
+        let tree = pattern::read(&text).expect("in the language");
+        assert_eq!(tree.count_with_end(), places);
+        assert!(!tree.repeats_nothing_without_end());
+    }
+    assert_eq!(texts::with_places(0), None);
+    assert_eq!(texts::with_places(1 << 70), None);
+}
+
+#[test]
+fn scrambled_queries_are_refused_in_many_ways_or_accepted() {
+    let mut random = Random::new(6);
+    let mut answers = [0; 14];
+    for _ in 0..20_000 {
+        let draft = draft::accepted(&mut random, &SMALL, Numbers::Low);
+        let query = scrambled(&mut random, &draft.query());
+        answers[usize::from(search::room(&query, &draft.rows).0)] += 1;
+    }
+    for answer in [0, 1, 2, 3, 5, 8, 9, 10] {
+        assert!(answers[answer] > 20, "{answers:?}");
+    }
 }

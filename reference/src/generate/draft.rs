@@ -241,7 +241,7 @@ impl Draft {
             .collect()
     }
 
-    fn with_lengths(&self, [notes, trail, numbers, labels]: [usize; 4]) -> Input {
+    pub fn with_lengths(&self, [notes, trail, numbers, labels]: [usize; 4]) -> Input {
         Input {
             query: self.query(),
             rows: self.rows.clone(),

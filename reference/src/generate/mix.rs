@@ -134,6 +134,26 @@ pub fn every_small_input(
         })
 }
 
+/// The given texts on every truth table of A and B: up to a number of rows, at
+/// each of which A, B, both or neither hold; in both skip modes.
+pub fn every_table<'a>(
+    texts: &'a [&'a [u8]],
+    most_rows: usize,
+) -> impl Iterator<Item = Input> + 'a {
+    texts.iter().flat_map(move |text| {
+        every_row(2 * most_rows)
+            .filter(|bits| bits.len() % 2 == 0)
+            .flat_map(move |rows| {
+                let draft = Draft::new(2, text, rows)
+                    .define(b'A', &[draft::with_number(0, 0, 1, 1)])
+                    .define(b'B', &[draft::with_number(1, 0, 1, 1)])
+                    .measure(1, 0, 0)
+                    .measure(5, 0, 1);
+                [draft.clone().finish(), draft.to_next_row().finish()]
+            })
+    })
+}
+
 fn every_row(most_rows: usize) -> impl Iterator<Item = Vec<i32>> {
     (0..=most_rows).flat_map(|n| {
         (0..1usize << n).map(move |bits| (0..n).map(|row| (bits >> row & 1) as i32).collect())

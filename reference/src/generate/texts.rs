@@ -416,6 +416,32 @@ pub fn largest() -> Vec<u8> {
     .concat()
 }
 
+/// A text with exactly so many places, END included: at most 8 repetitions one
+/// around another, each of which makes c places to 99 c and up to 98 more. None
+/// where that takes more than 256 bytes.
+pub fn with_places(places: u128) -> Option<Vec<u8>> {
+    let mut inside = places.checked_sub(1)?;
+    let mut repetitions = Vec::new();
+    while inside > 198 && repetitions.len() < 8 {
+        repetitions.push(format!("){{{},99}}", 99 - inside % 99));
+        inside /= 99;
+    }
+    let mut text = b"(".repeat(repetitions.len());
+    if inside == 0 {
+        text.extend(b"()");
+    }
+    while inside > 0 && text.len() <= MOST_TEXT {
+        let (part, count) = match inside {
+            198.. => ("A{,99}".to_string(), 198),
+            _ => (format!("A{{{}}}", inside.min(99)), inside.min(99)),
+        };
+        text.extend(part.bytes());
+        inside -= count;
+    }
+    text.extend(repetitions.iter().rev().flat_map(|part| part.bytes()));
+    (text.len() <= MOST_TEXT).then_some(text)
+}
+
 /// A text with 250 to 262 places.
 pub fn near_limit(random: &mut Random) -> Vec<u8> {
     let target = random.between(250, 262) - 1;

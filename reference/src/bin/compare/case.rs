@@ -1,0 +1,48 @@
+//! One comparison: an input, which of the two calls is made with it, and the
+//! seed of the noise. The product and the reference are lent the same, and what
+//! they return and leave has to be the same in every item.
+
+use crate::engine::{Engine, Four, Reference};
+use crate::lent::Lent;
+use reference::generate::Input;
+
+#[derive(Clone, Copy, Debug, PartialEq, Eq)]
+pub enum Call {
+    Search,
+    Room,
+}
+
+#[derive(Clone, Debug, PartialEq, Eq)]
+pub struct Case {
+    pub call: Call,
+    pub input: Input,
+    pub noise: u64,
+}
+
+impl Case {
+    /// What a call returns and what it leaves in all it was lent.
+    pub fn run(&self, engine: &dyn Engine) -> (Four, Lent) {
+        self.run_on(engine, Lent::new(&self.input, self.noise))
+    }
+
+    fn run_on(&self, engine: &dyn Engine, mut lent: Lent) -> (Four, Lent) {
+        let returned = match self.call {
+            Call::Search => engine.search(&mut lent),
+            Call::Room => engine.room(&mut lent),
+        };
+        (returned, lent)
+    }
+
+    pub fn agrees(&self, product: &dyn Engine) -> bool {
+        let lent = Lent::new(&self.input, self.noise);
+        self.run_on(product, lent.clone()) == self.run_on(&Reference, lent)
+    }
+
+    /// What the four returned numbers are called.
+    pub fn names(&self) -> [&'static str; 4] {
+        match self.call {
+            Call::Search => ["answer", "matches", "labels", "steps"],
+            Call::Room => ["answer", "P", "n", "pairs"],
+        }
+    }
+}

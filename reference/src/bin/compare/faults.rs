@@ -1,0 +1,640 @@
+//! Deliberate faults, to prove that the comparison finds such ones: an engine
+//! that does one thing wrong, by reading another query than it was lent, or by
+//! changing what it returns or leaves. Each has to be found and shrunk.
+
+use crate::engine::{Engine, Four};
+use crate::lent::{Guarded, Lent};
+use reference::generate::Random;
+use reference::pattern;
+use reference::query::{
+    self, COMPARISON_BYTES, DEFINE, FIRST, MEASURE, MIN, SHAPE, SKIP, SUM, TEXT,
+};
+use reference::readings;
+use reference::search::{self, Accepted, DONE, STOPPED};
+
+pub struct Fault {
+    pub name: &'static str,
+    pub about: &'static str,
+    wrong: Wrong,
+}
+
+enum Wrong {
+    /// Reads another query or other rows.
+    Reads(fn(&mut Vec<u8>, &mut Vec<i32>)),
+    /// Ends a search in another way.
+    Ends(fn(&mut Search)),
+    /// Judges room in another way.
+    Judges(fn(&mut Four, &Lent)),
+}
+
+/// A search that was right so far.
+struct Search<'a> {
+    before: &'a Lent,
+    lent: &'a mut Lent,
+    returned: &'a mut Four,
+    /// Where the query and the rows have none of the answers 1 to 10.
+    accepted: Option<Accepted>,
+}
+
+/// An engine with one fault.
+pub struct Faulty<'a> {
+    pub engine: &'a dyn Engine,
+    pub fault: &'a Fault,
+}
+
+impl Engine for Faulty<'_> {
+    fn search(&self, lent: &mut Lent) -> Four {
+        let before = lent.clone();
+        let mut returned = self.called(lent, |lent| self.engine.search(lent));
+        if let Wrong::Ends(wrong) = self.fault.wrong {
+            wrong(&mut Search {
+                before: &before,
+                lent,
+                returned: &mut returned,
+                accepted: search::accept(before.query.items(), before.rows.items()).ok(),
+            });
+        }
+        returned
+    }
+
+    fn room(&self, lent: &mut Lent) -> Four {
+        let mut returned = self.called(lent, |lent| self.engine.room(lent));
+        if let Wrong::Judges(wrong) = self.fault.wrong {
+            wrong(&mut returned, lent);
+        }
+        returned
+    }
+}
+
+impl Faulty<'_> {
+    /// A call with what the engine reads in the place of query and rows.
+    fn called(&self, lent: &mut Lent, call: impl Fn(&mut Lent) -> Four) -> Four {
+        let Wrong::Reads(wrong) = self.fault.wrong else {
+            return call(lent);
+        };
+        let (mut query, mut rows) = (lent.query.items().to_vec(), lent.rows.items().to_vec());
+        wrong(&mut query, &mut rows);
+        let random = &mut Random::new(0);
+        let query = Guarded::holding(random, &query);
+        let query = std::mem::replace(&mut lent.query, query);
+        let rows = std::mem::replace(&mut lent.rows, Guarded::holding(random, &rows));
+        let returned = call(lent);
+        lent.query = query;
+        lent.rows = rows;
+        returned
+    }
+}
+
+impl Search<'_> {
+    fn is(&self, answer: u8) -> bool {
+        self.returned[0] == u64::from(answer)
+    }
+
+    fn ended(&self) -> bool {
+        self.is(DONE) || self.is(STOPPED)
+    }
+
+    fn refuse(&mut self, answer: u64) {
+        *self.lent = self.before.clone();
+        *self.returned = [answer, 0, 0, 0];
+    }
+
+    /// P and P(n+1), where the search ended as done or stopped.
+    fn sizes(&self) -> Option<(usize, usize)> {
+        let accepted = self.accepted.as_ref().filter(|_| self.ended())?;
+        let places = accepted.places.len();
+        Some((places, places * (accepted.n() + 1)))
+    }
+
+    /// How many numbers are written.
+    fn written(&self) -> usize {
+        let per_match = self
+            .accepted
+            .as_ref()
+            .map_or(0, Accepted::numbers_per_match);
+        self.returned[1] as usize * per_match
+    }
+
+    /// The numbers of each match, to be changed.
+    fn matches(&mut self) -> impl Iterator<Item = &mut [i64]> {
+        let per_match = self
+            .accepted
+            .as_ref()
+            .map_or(1, Accepted::numbers_per_match);
+        let written = self.written();
+        self.lent.numbers.items_mut()[..written].chunks_mut(per_match)
+    }
+}
+
+const fn reads(
+    name: &'static str,
+    about: &'static str,
+    wrong: fn(&mut Vec<u8>, &mut Vec<i32>),
+) -> Fault {
+    Fault {
+        name,
+        about,
+        wrong: Wrong::Reads(wrong),
+    }
+}
+
+const fn ends(name: &'static str, about: &'static str, wrong: fn(&mut Search)) -> Fault {
+    Fault {
+        name,
+        about,
+        wrong: Wrong::Ends(wrong),
+    }
+}
+
+const fn judges(name: &'static str, about: &'static str, wrong: fn(&mut Four, &Lent)) -> Fault {
+    Fault {
+        name,
+        about,
+        wrong: Wrong::Judges(wrong),
+    }
+}
+
+pub const FAULTS: [Fault; 51] = [
+    ends("label", "the last label is another letter", |search| {
+        if let Some(last) = (search.returned[2] as usize).checked_sub(1) {
+            search.lent.labels.items_mut()[last] ^= 1;
+        }
+    }),
+    ends(
+        "labels-reversed",
+        "labels are written backwards",
+        |search| {
+            let count = search.returned[2] as usize;
+            search.lent.labels.items_mut()[..count].reverse();
+        },
+    ),
+    ends("steps", "one step more", |search| {
+        search.returned[3] += u64::from(search.ended());
+    }),
+    ends(
+        "steps-stopped",
+        "a stopped search leaves its last step out",
+        |search| search.returned[3] -= u64::from(search.is(STOPPED)),
+    ),
+    ends(
+        "unfit-counted",
+        "a match that does not fit is counted",
+        |search| search.returned[1] += u64::from(search.is(STOPPED)),
+    ),
+    ends("spare-bit", "a spare bit of the notes is set", |search| {
+        if let Some((_, pairs)) = search.sizes().filter(|(_, pairs)| pairs % 8 != 0) {
+            search.lent.notes.items_mut()[pairs / 8] |= 0x80;
+        }
+    }),
+    ends(
+        "note-lost",
+        "the first failed pair is not noted",
+        |search| {
+            if let Some((_, pairs)) = search.sizes() {
+                let notes = &mut search.lent.notes.items_mut()[..pairs.div_ceil(8)];
+                if let Some(byte) = notes.iter_mut().find(|byte| **byte != 0) {
+                    *byte &= *byte - 1;
+                }
+            }
+        },
+    ),
+    ends(
+        "note-success",
+        "a match's first pair is noted as failed",
+        |search| {
+            if let (Some((places, _)), 1..) = (search.sizes(), search.returned[1]) {
+                let pair = search.lent.numbers.items()[1] as usize * places;
+                search.lent.notes.items_mut()[pair / 8] |= 1 << (pair % 8);
+            }
+        },
+    ),
+    ends(
+        "trail-left",
+        "the trail's last number is not cleared",
+        |search| {
+            if let Some((_, pairs)) = search.sizes() {
+                search.lent.trail.items_mut()[pairs - 1] = search.before.trail.items()[pairs - 1];
+            }
+        },
+    ),
+    ends(
+        "trail-beyond",
+        "the trail is cleared one too far",
+        |search| {
+            if let Some((_, pairs)) = search.sizes() {
+                *search.lent.trail.at_mut(pairs as isize) = 0;
+            }
+        },
+    ),
+    ends(
+        "notes-beyond",
+        "the notes are cleared one too far",
+        |search| {
+            if let Some((_, pairs)) = search.sizes() {
+                *search.lent.notes.at_mut(pairs.div_ceil(8) as isize) = 0;
+            }
+        },
+    ),
+    ends(
+        "notes-front",
+        "the byte in front of the notes changes",
+        |search| {
+            *search.lent.notes.at_mut(-1) ^= 0x10;
+        },
+    ),
+    ends(
+        "numbers-behind",
+        "the number behind the numbers changes",
+        |search| {
+            *search
+                .lent
+                .numbers
+                .at_mut(search.lent.numbers.len() as isize) = 0;
+        },
+    ),
+    ends(
+        "labels-ended",
+        "a byte 0 is put behind the labels",
+        |search| {
+            if search.ended() {
+                *search.lent.labels.at_mut(search.returned[2] as isize) = 0;
+            }
+        },
+    ),
+    ends(
+        "half-match",
+        "a match that does not fit leaves its number",
+        |search| {
+            let written = search.written();
+            if search.is(STOPPED) && written < search.lent.numbers.len() {
+                search.lent.numbers.items_mut()[written] = search.returned[1] as i64 + 1;
+            }
+        },
+    ),
+    ends(
+        "half-labels",
+        "a match that does not fit leaves a label",
+        |search| {
+            let written = search.returned[2] as usize;
+            if search.is(STOPPED) && written < search.lent.labels.len() {
+                search.lent.labels.items_mut()[written] = b'A';
+            }
+        },
+    ),
+    ends(
+        "late-stop",
+        "a full room stops though no match is left",
+        |search| {
+            let full = search.written() == search.lent.numbers.len() && search.returned[1] > 0;
+            if search.is(DONE) && full {
+                search.returned[0] = STOPPED.into();
+            }
+        },
+    ),
+    ends(
+        "refusal-clears",
+        "a refused search clears a note",
+        |search| {
+            if let (false, Some(byte)) = (search.ended(), search.lent.notes.items_mut().first_mut())
+            {
+                *byte = 0;
+            }
+        },
+    ),
+    ends(
+        "short-trail-clears",
+        "answer 12 clears the notes",
+        |search| {
+            if search.is(12) {
+                search.lent.notes.items_mut().fill(0);
+            }
+        },
+    ),
+    ends(
+        "refusal-counts",
+        "a refused search returns a step",
+        |search| {
+            search.returned[3] += u64::from(!search.ended());
+        },
+    ),
+    ends("query-changed", "a byte of the query changes", |search| {
+        if search.lent.query.len() > 0 {
+            *search.lent.query.at_mut(0) ^= 1;
+        }
+    }),
+    ends("null", "null is written as 1 and 0", |search| {
+        for measure in search.matches().flat_map(|one| one[3..].chunks_mut(2)) {
+            measure[0] = 1;
+        }
+    }),
+    ends("sum-wraps", "a sum keeps 32 bits only", |search| {
+        let Some(accepted) = search.accepted.clone() else {
+            return;
+        };
+        for one in search.matches() {
+            let measures = accepted.query.measures.iter().zip(one[3..].chunks_mut(2));
+            for (measure, written) in measures.filter(|(measure, _)| measure.function == SUM) {
+                debug_assert!(measure.column < 8);
+                written[1] = i64::from(written[1] as i32);
+            }
+        }
+    }),
+    ends(
+        "empty-row",
+        "an empty match's first row is one further",
+        |search| {
+            for one in search.matches().filter(|one| one[2] == 0) {
+                one[1] += 1;
+            }
+        },
+    ),
+    ends("last-match", "the last match is dropped", |search| {
+        let written = search.written();
+        if search.is(DONE) && written > 0 {
+            search.returned[1] -= 1;
+            let left = search.written();
+            let noise = &search.before.numbers.items()[left..written];
+            search.lent.numbers.items_mut()[left..written].copy_from_slice(noise);
+        }
+    }),
+    ends(
+        "longest",
+        "a match takes the longest reading's rows",
+        |search| {
+            let Some(accepted) = search.accepted.clone() else {
+                return;
+            };
+            for one in search.matches() {
+                let start = one[1] as usize;
+                let ends = readings::ends_from(&accepted.pattern, &accepted.held, start);
+                one[2] = ends.last().map_or(one[2], |&end| (end - start) as i64);
+            }
+        },
+    ),
+    ends("offset-64", "an offset of 64 is refused", |search| {
+        let Some(accepted) = &search.accepted else {
+            return;
+        };
+        let comparisons = accepted.query.defines.iter().flat_map(|it| &it.comparisons);
+        let mut offsets = comparisons.flat_map(|comparison| {
+            let right = comparison.right.map_or(0, |right| right.offset);
+            [comparison.left.offset, right]
+        });
+        if offsets.any(|offset| offset.abs() == 64) {
+            search.refuse(3);
+        }
+    }),
+    ends("rows-4096", "4,096 rows are refused", |search| {
+        if search.accepted.as_ref().is_some_and(|it| it.n() == 4096) {
+            search.refuse(10);
+        }
+    }),
+    ends("places-256", "256 places are refused", |search| {
+        if search
+            .accepted
+            .as_ref()
+            .is_some_and(|it| it.places.len() == 256)
+        {
+            search.refuse(7);
+        }
+    }),
+    ends(
+        "notes-exact",
+        "notes of exactly the needed length are refused",
+        |search| {
+            if let Some((_, pairs)) = search.sizes() {
+                if search.lent.notes.len() == pairs.div_ceil(8) {
+                    search.refuse(11);
+                }
+            }
+        },
+    ),
+    ends(
+        "trail-exact",
+        "a trail of exactly the needed length is refused",
+        |search| {
+            if let Some((_, pairs)) = search.sizes() {
+                if search.lent.trail.len() == pairs {
+                    search.refuse(12);
+                }
+            }
+        },
+    ),
+    ends(
+        "trail-first",
+        "a short trail comes before short notes",
+        |search| {
+            if let (true, Some(accepted)) = (search.is(11), &search.accepted) {
+                if search.lent.trail.len() < accepted.places.len() * (accepted.n() + 1) {
+                    search.returned[0] = 12;
+                }
+            }
+        },
+    ),
+    reads("greedy", "reluctant marks are overlooked", |query, _| {
+        change_bodies(query, TEXT, |text| {
+            for at in 1..text.len() {
+                if text[at] == b'?' && b"*+?}".contains(&text[at - 1]) {
+                    text[at] = b' ';
+                }
+            }
+        });
+    }),
+    reads(
+        "branches",
+        "branches are tried from the last to the first",
+        |query, _| {
+            change_bodies(query, TEXT, |text| {
+                if !text.contains(&b'(') {
+                    let branches: Vec<&[u8]> = text.rsplit(|&byte| byte == b'|').collect();
+                    *text = branches.join(&b'|');
+                }
+            });
+        },
+    ),
+    reads("anchor", "`^` is read as nothing", |query, _| {
+        change_bodies(query, TEXT, |text| {
+            if text.starts_with(b"^ ") {
+                text.splice(..1, *b"()");
+            }
+        });
+    }),
+    reads(
+        "skip",
+        "to next row is read as past last row",
+        |query, _| {
+            change_bodies(query, SKIP, |body| {
+                if body == &[1, 0] {
+                    body[0] = 0;
+                }
+            });
+        },
+    ),
+    reads("minimum", "MIN is read as FIRST", |query, _| {
+        change_bodies(query, MEASURE, |body| {
+            if body.first() == Some(&MIN) {
+                body[0] = FIRST;
+            }
+        });
+    }),
+    reads(
+        "unequal",
+        "unequal holds wherever PREV or NEXT is asked",
+        |query, _| {
+            change_comparisons(query, |bytes| {
+                if bytes[2] == 2 && (-64..=64).contains(&(bytes[1] as i8)) && bytes[1] != 0 {
+                    bytes[1..].copy_from_slice(&[0, 6, 0, 0, 0, 0, 0, 0, 0, 0, 128]);
+                }
+            });
+        },
+    ),
+    reads("at-least", "at least is read as greater", |query, _| {
+        change_comparisons(query, |bytes| {
+            if bytes[2] == 6 {
+                bytes[2] = 5;
+            }
+        });
+    }),
+    reads("next", "NEXT is read as PREV", |query, _| {
+        change_comparisons(query, |bytes| {
+            if bytes[1] as i8 > 0 {
+                bytes[1] = bytes[1].wrapping_neg();
+            }
+        });
+    }),
+    reads(
+        "right-offset",
+        "the right side is read at the current row",
+        |query, _| {
+            change_comparisons(query, |bytes| {
+                if bytes[3] == 1 && (-64..=64).contains(&(bytes[5] as i8)) {
+                    bytes[5] = 0;
+                }
+            });
+        },
+    ),
+    reads(
+        "least-number",
+        "a comparison's least number is read one higher",
+        |query, _| {
+            change_comparisons(query, |bytes| {
+                if bytes[8..] == i32::MIN.to_le_bytes() {
+                    bytes[8] = 1;
+                }
+            });
+        },
+    ),
+    reads(
+        "greatest-entry",
+        "the greatest entry is read one lower",
+        |_, rows| {
+            for entry in rows.iter_mut() {
+                *entry = (*entry).min(i32::MAX - 1);
+            }
+        },
+    ),
+    reads(
+        "stray-byte",
+        "a byte behind the last record is overlooked",
+        |query, _| {
+            if query::records(query).is_none() {
+                let whole = &query[..query.len() - 1];
+                if query::records(whole).is_some() {
+                    query.pop();
+                }
+            }
+        },
+    ),
+    reads("reserved", "a reserved byte is overlooked", |query, _| {
+        change_bodies(query, SHAPE, |body| {
+            if let [_, reserved] = &mut body[..] {
+                *reserved = 0;
+            }
+        });
+    }),
+    reads("tab", "a tab is read as a space", |query, _| {
+        change_bodies(query, TEXT, |text| {
+            for byte in text.iter_mut().filter(|byte| **byte == b'\t') {
+                *byte = b' ';
+            }
+        });
+    }),
+    reads(
+        "rest-of-rows",
+        "entries behind the last whole row are overlooked",
+        |query, rows| {
+            if let Ok(query) = query::read(query) {
+                rows.truncate(rows.len() / query.columns * query.columns);
+            }
+        },
+    ),
+    judges(
+        "room-places",
+        "room tells one place too many",
+        |returned, _| {
+            returned[1] += u64::from(returned[0] == 0);
+        },
+    ),
+    judges(
+        "room-pairs",
+        "room leaves out the position behind the rows",
+        |returned, _| {
+            returned[3] = returned[1] * returned[2];
+        },
+    ),
+    judges(
+        "room-wraps",
+        "room counts P in 64 bits that wrap",
+        |returned, lent| {
+            wrap_places(returned, lent, 1 << 64);
+        },
+    ),
+    judges(
+        "room-wraps-32",
+        "room counts P in 32 bits that wrap",
+        |returned, lent| {
+            wrap_places(returned, lent, 1 << 32);
+        },
+    ),
+];
+
+fn change_bodies(query: &mut Vec<u8>, kind: u16, change: impl Fn(&mut Vec<u8>)) {
+    let Some(records) = query::records(query) else {
+        return;
+    };
+    let mut changed = Vec::new();
+    for record in records {
+        let mut body = record.body.to_vec();
+        if record.kind == kind {
+            change(&mut body);
+        }
+        changed.extend((body.len() as u16).to_le_bytes());
+        changed.extend(record.kind.to_le_bytes());
+        changed.extend(body);
+    }
+    *query = changed;
+}
+
+fn change_comparisons(query: &mut Vec<u8>, change: impl Fn(&mut [u8])) {
+    change_bodies(query, DEFINE, |body| {
+        if body.len() > 2 {
+            body[2..]
+                .chunks_exact_mut(COMPARISON_BYTES)
+                .for_each(&change);
+        }
+    });
+}
+
+/// A judgement of 7 for a P that is small once it has wrapped.
+fn wrap_places(returned: &mut Four, lent: &Lent, modulus: u128) {
+    if returned[0] != 7 {
+        return;
+    }
+    let tree = query::read(lent.query.items())
+        .ok()
+        .and_then(|query| pattern::read(&query.text));
+    let wrapped = tree.map_or(0, |tree| tree.count_with_end() % modulus);
+    if (1..=256).contains(&wrapped) {
+        *returned = [0, wrapped as u64, 1, 2 * wrapped as u64];
+    }
+}

@@ -1,0 +1,233 @@
+//! Compares the product, through the C face of its static library, with the
+//! reference: answer, counts, steps, and every item of all buffers with the guard
+//! zones around them. What differs is shrunk and printed. Then deliberate faults
+//! are put on the product, each of which has to be found.
+//!
+//!   compare                    every stream at its usual length, then all faults
+//!   compare SEED COUNT NAME..  so many cases of the random streams of these names, or of all
+//!   compare --only NAME..      the streams of these names at their usual length
+//!   compare --fault NAME..     the faults of these names, or all, with their shrunk cases
+//!   compare --list             the names of streams and faults
+//! In front of these, --show prints every case before it is run.
+//!
+//! The last line is `N passed, M failed`: comparisons, and faults found.
+
+mod case;
+#[cfg_attr(any(test, not(mireladle)), allow(dead_code))]
+mod engine;
+mod faults;
+#[cfg_attr(any(test, not(mireladle)), allow(dead_code))]
+mod lent;
+mod readable;
+mod shrink;
+mod streams;
+#[cfg(test)]
+mod tests;
+
+use case::Case;
+use engine::Engine;
+use faults::{Fault, Faulty, FAULTS};
+use std::process::ExitCode;
+use std::time::Instant;
+use streams::{Cases, Stream, STREAMS};
+
+/// The seed of the gate.
+const SEED: u64 = 1;
+/// Of so many differences in a stream the shrunk case is printed.
+const PRINTED: usize = 3;
+/// How many cases of each stream a fault may pass unseen.
+const UNSEEN: usize = 3_000;
+
+struct Counts {
+    passed: usize,
+    failed: usize,
+}
+
+fn main() -> ExitCode {
+    let words: Vec<String> = std::env::args().skip(1).collect();
+    let mut words: Vec<&str> = words.iter().map(String::as_str).collect();
+    let show = words.first() == Some(&"--show");
+    words.drain(..usize::from(show));
+    let Some(product) = product() else {
+        println!("no library was there at the build: run `rt staticlib mireladle_c`");
+        println!("0 passed, 1 failed");
+        return ExitCode::FAILURE;
+    };
+    let mut run = Run {
+        product: &*product,
+        show,
+        counts: Counts {
+            passed: 0,
+            failed: 0,
+        },
+    };
+    if !run.words(&words) {
+        eprintln!("compare [--show] [SEED COUNT NAME.. | --only NAME.. | --fault NAME.. | --list]");
+        return ExitCode::from(2);
+    }
+    let Counts { passed, failed } = run.counts;
+    println!("{passed} passed, {failed} failed");
+    match failed {
+        0 => ExitCode::SUCCESS,
+        _ => ExitCode::FAILURE,
+    }
+}
+
+#[cfg(all(mireladle, not(test)))]
+fn product() -> Option<Box<dyn Engine>> {
+    Some(Box::new(engine::Product))
+}
+
+#[cfg(any(test, not(mireladle)))]
+fn product() -> Option<Box<dyn Engine>> {
+    None
+}
+
+struct Run<'a> {
+    product: &'a dyn Engine,
+    show: bool,
+    counts: Counts,
+}
+
+impl Run<'_> {
+    /// Does what the command line asks for; false if it asks for nothing known.
+    fn words(&mut self, words: &[&str]) -> bool {
+        match words {
+            [] => {
+                self.streams(&[], |stream| Some((SEED, stream.count)));
+                self.faults(&[], false);
+                true
+            }
+            ["--list"] => {
+                list();
+                true
+            }
+            ["--only", names @ ..] => {
+                self.streams(names, |stream| Some((SEED, stream.count))) && !names.is_empty()
+            }
+            ["--fault", names @ ..] => self.faults(names, true),
+            [seed, count, names @ ..] => match (seed.parse(), count.parse()) {
+                (Ok(seed), Ok(count)) => self.streams(names, |stream: &Stream| {
+                    stream.count.map(|_| (seed, Some(count)))
+                }),
+                _ => false,
+            },
+            _ => false,
+        }
+    }
+
+    /// Runs the streams of these names, or all, as long as `plan` says: seed and
+    /// count, or none for a stream that is left out. False if a name is unknown.
+    fn streams(
+        &mut self,
+        names: &[&str],
+        plan: impl Fn(&Stream) -> Option<(u64, Option<usize>)>,
+    ) -> bool {
+        let known = |name: &&str| STREAMS.iter().any(|stream| stream.name == *name);
+        for stream in &STREAMS {
+            let wanted = names.is_empty() || names.contains(&stream.name);
+            if let (true, Some((seed, count))) = (wanted, plan(stream)) {
+                let cases = (stream.cases)(seed);
+                self.stream(stream.name, cases, count.unwrap_or(usize::MAX));
+            }
+        }
+        names.iter().all(known)
+    }
+
+    fn stream(&mut self, name: &str, cases: Cases, count: usize) {
+        let start = Instant::now();
+        let (mut passed, mut failed) = (0, 0);
+        for (number, case) in cases.take(count).enumerate() {
+            if self.show {
+                println!("{name}, number {number}\n{}", readable::describe(&case));
+            }
+            if case.agrees(self.product) {
+                passed += 1;
+                continue;
+            }
+            failed += 1;
+            if failed <= PRINTED {
+                let small = shrink::shrink(self.product, &case);
+                let text = readable::difference(self.product, &small);
+                println!("DIFFERENCE in stream {name}, number {number}, shrunk to\n{text}");
+            }
+        }
+        let seconds = start.elapsed().as_secs_f64();
+        println!("{name}: {passed} alike, {failed} different, {seconds:.1} s");
+        self.counts.passed += passed;
+        self.counts.failed += failed;
+    }
+
+    /// Puts the faults of these names, or all, on the product; each that is found
+    /// is passed. False if a name is unknown.
+    fn faults(&mut self, names: &[&str], print: bool) -> bool {
+        let known = |name: &&str| FAULTS.iter().any(|fault| fault.name == *name);
+        for fault in &FAULTS {
+            if names.is_empty() || names.contains(&fault.name) {
+                self.fault(fault, print);
+            }
+        }
+        names.iter().all(known)
+    }
+
+    fn fault(&mut self, fault: &Fault, print: bool) {
+        let faulty = Faulty {
+            engine: self.product,
+            fault,
+        };
+        let Some(Found { stream, seen, case }) = find(&faulty) else {
+            println!("fault {} ({}): NOT FOUND", fault.name, fault.about);
+            self.counts.failed += 1;
+            return;
+        };
+        let small = shrink::shrink(&faulty, &case);
+        let sizes = |case: &Case| (case.input.query.len(), case.input.rows.len());
+        let ((query, rows), (small_query, small_rows)) = (sizes(&case), sizes(&small));
+        println!(
+            "fault {} ({}): found by {stream} after {seen} cases; shrunk from {query} query bytes and {rows} entries to {small_query} and {small_rows}",
+            fault.name, fault.about
+        );
+        if print {
+            println!("{}", readable::difference(&faulty, &small));
+        }
+        self.counts.passed += 1;
+    }
+}
+
+/// The first case that shows a fault.
+struct Found {
+    stream: &'static str,
+    seen: usize,
+    case: Case,
+}
+
+/// Takes a case of each stream in turn.
+fn find(faulty: &Faulty) -> Option<Found> {
+    let mut streams: Vec<(&'static str, Cases)> = STREAMS
+        .iter()
+        .map(|stream| (stream.name, (stream.cases)(SEED)))
+        .collect();
+    let mut seen = 0;
+    for _ in 0..UNSEEN {
+        for (stream, cases) in &mut streams {
+            let Some(case) = cases.next() else {
+                continue;
+            };
+            seen += 1;
+            if !case.agrees(faulty) {
+                let stream = *stream;
+                return Some(Found { stream, seen, case });
+            }
+        }
+    }
+    None
+}
+
+fn list() {
+    for stream in &STREAMS {
+        println!("stream {}: {}", stream.name, stream.about);
+    }
+    for fault in &FAULTS {
+        println!("fault {}: {}", fault.name, fault.about);
+    }
+}

@@ -1,0 +1,158 @@
+//! A case in words and in bytes, with what the product and the reference make of
+//! it: what is printed of a difference.
+
+use crate::case::{Call, Case};
+use crate::engine::{Engine, Reference};
+use reference::query::{
+    self, Comparison, Measure, Query, Record, Reference as Entry, Skip, DEFINE, MEASURE, SHAPE,
+    SKIP, TEXT,
+};
+use std::fmt::{Display, Write};
+
+/// The case and how the two differ on it.
+pub fn difference(product: &dyn Engine, case: &Case) -> String {
+    let (returned, left) = case.run(product);
+    let (expected, expected_left) = case.run(&Reference);
+    let mut text = describe(case);
+    for (name, (product, reference)) in case.names().iter().zip(returned.iter().zip(&expected)) {
+        let mark = if product == reference { "  " } else { "* " };
+        let _ = writeln!(
+            text,
+            "  {mark}{name}: product {product}, reference {reference}"
+        );
+    }
+    for line in expected_left.differences(&left) {
+        let _ = writeln!(text, "  * {line}");
+    }
+    text
+}
+
+/// The case alone.
+pub fn describe(case: &Case) -> String {
+    let input = &case.input;
+    let call = match case.call {
+        Call::Search => "mireladle_search",
+        Call::Room => "mireladle_room",
+    };
+    let mut text = format!("  {call}, noise {}\n", case.noise);
+    for line in query_lines(&input.query) {
+        let _ = writeln!(text, "  {line}");
+    }
+    let _ = writeln!(text, "  query: {}", hexadecimal(&input.query));
+    let _ = writeln!(
+        text,
+        "  rows, {} entries: {}",
+        input.rows.len(),
+        list(&input.rows)
+    );
+    if case.call == Call::Search {
+        let _ = writeln!(
+            text,
+            "  lent: notes {}, trail {}, numbers {}, labels {}",
+            input.notes, input.trail, input.numbers, input.labels
+        );
+    }
+    text
+}
+
+/// The records in words; of a query that is refused for its records or fields,
+/// kinds and bytes.
+fn query_lines(bytes: &[u8]) -> Vec<String> {
+    match (query::read(bytes), query::records(bytes)) {
+        (Ok(query), _) => in_words(&query),
+        (Err(_), Some(records)) => records.iter().map(record_line).collect(),
+        (Err(_), None) => vec!["the query is cut".to_string()],
+    }
+}
+
+fn in_words(query: &Query) -> Vec<String> {
+    let mut lines = vec![
+        format!("columns: {}", query.columns),
+        format!("pattern: {}", quoted(&query.text)),
+    ];
+    for define in &query.defines {
+        let comparisons: Vec<String> = define.comparisons.iter().map(comparison).collect();
+        let letter = char::from(define.letter);
+        lines.push(format!("{letter}: {}", comparisons.join(", ")));
+    }
+    lines.push(match query.skip {
+        Skip::PastLastRow => "skip: past last row".to_string(),
+        Skip::ToNextRow => "skip: to next row".to_string(),
+    });
+    lines.extend(query.measures.iter().map(measure));
+    lines
+}
+
+fn comparison(comparison: &Comparison) -> String {
+    let operator = match comparison.operator {
+        1 => "=",
+        2 => "<>",
+        3 => "<",
+        4 => "<=",
+        5 => ">",
+        _ => ">=",
+    };
+    let number = comparison.number;
+    let right = match comparison.right {
+        None => number.to_string(),
+        Some(right) if number == 0 => entry(right),
+        Some(right) => format!("{} + {number}", entry(right)),
+    };
+    format!("{} {operator} {right}", entry(comparison.left))
+}
+
+fn entry(entry: Entry) -> String {
+    let column = entry.column;
+    match entry.offset {
+        0 => format!("c{column}"),
+        back @ ..=-1 => format!("PREV(c{column}, {})", -back),
+        on => format!("NEXT(c{column}, {on})"),
+    }
+}
+
+fn measure(measure: &Measure) -> String {
+    let function = match measure.function {
+        query::COUNT => "COUNT",
+        query::SUM => "SUM",
+        query::MIN => "MIN",
+        query::MAX => "MAX",
+        query::FIRST => "FIRST",
+        _ => "LAST",
+    };
+    let letter = measure
+        .letter
+        .map_or(String::new(), |letter| format!("{}.", char::from(letter)));
+    format!("measure: {function}({letter}c{})", measure.column)
+}
+
+fn record_line(record: &Record) -> String {
+    let name = match record.kind {
+        SHAPE => "shape",
+        TEXT => return format!("pattern: {}", quoted(record.body)),
+        DEFINE => "DEFINE",
+        SKIP => "skip",
+        MEASURE => "measure",
+        _ => "unknown",
+    };
+    let body = hexadecimal(record.body);
+    format!("record of kind {} ({name}): {body}", record.kind)
+}
+
+fn quoted(text: &[u8]) -> String {
+    format!("`{}` ({} bytes)", text.escape_ascii(), text.len())
+}
+
+fn hexadecimal(bytes: &[u8]) -> String {
+    let words: Vec<String> = bytes.iter().map(|byte| format!("{byte:02X}")).collect();
+    words.join(" ")
+}
+
+/// The first of many items.
+fn list<T: Display>(items: &[T]) -> String {
+    const MOST: usize = 64;
+    let mut words: Vec<String> = items.iter().take(MOST).map(T::to_string).collect();
+    if items.len() > MOST {
+        words.push("..".to_string());
+    }
+    words.join(", ")
+}

@@ -1,0 +1,317 @@
+//! Making a case on which the two differ smaller, as long as they still differ
+//! on it in some way: fewer rows, fewer records and comparisons, a shorter
+//! pattern, smaller numbers, smaller buffers. Greedy, so the result is small and
+//! not the smallest.
+
+use crate::case::Case;
+use crate::engine::Engine;
+use reference::query::{COMPARISON_BYTES, DEFINE, MEASURE, TEXT};
+use std::time::{Duration, Instant};
+
+/// The most cases that are tried for one shrinking, and how long that may take.
+const TRIES: usize = 20_000;
+const TIME: Duration = Duration::from_secs(3);
+
+pub fn shrink(product: &dyn Engine, case: &Case) -> Case {
+    let mut shrinking = Shrinking {
+        product,
+        case: case.clone(),
+        tries: 0,
+        begun: Instant::now(),
+    };
+    while shrinking.round() {}
+    shrinking.case
+}
+
+struct Shrinking<'a> {
+    product: &'a dyn Engine,
+    case: Case,
+    tries: usize,
+    begun: Instant,
+}
+
+impl Shrinking<'_> {
+    /// Tries every sort of change; false if none was of use.
+    fn round(&mut self) -> bool {
+        let rows = self.fewer_rows();
+        let records = self.fewer_records();
+        let bodies = self.shorter_bodies();
+        let numbers = self.smaller_numbers();
+        let buffers = self.smaller_buffers();
+        rows || records || bodies || numbers || buffers
+    }
+
+    /// Takes a changed case over if the two still differ on it.
+    fn take(&mut self, change: impl FnOnce(&mut Case)) -> bool {
+        let mut changed = self.case.clone();
+        change(&mut changed);
+        let spent = self.tries == TRIES || self.begun.elapsed() > TIME;
+        if changed == self.case || spent {
+            return false;
+        }
+        self.tries += 1;
+        let differs = !changed.agrees(self.product);
+        if differs {
+            self.case = changed;
+        }
+        differs
+    }
+
+    /// Takes out runs of items: long ones first, each half as long as the one
+    /// before and side by side, then short ones wherever they stand. `remove`
+    /// takes out `length` items from `at` on.
+    fn remove_runs(
+        &mut self,
+        count: impl Fn(&Case) -> usize,
+        remove: impl Fn(&mut Case, usize, usize),
+    ) -> bool {
+        const SHORT: usize = 8;
+        let mut any = false;
+        let mut length = count(&self.case);
+        while length > 0 {
+            let step = if length > SHORT { length } else { 1 };
+            let mut at = 0;
+            while at + length <= count(&self.case) {
+                match self.take(|case| remove(case, at, length)) {
+                    true => any = true,
+                    false => at += step,
+                }
+            }
+            length = if length > SHORT {
+                length / 2
+            } else {
+                length - 1
+            };
+        }
+        any
+    }
+
+    fn fewer_rows(&mut self) -> bool {
+        let columns = Parts::of(&self.case.input.query).columns();
+        let whole = self.remove_runs(
+            |case| case.input.rows.len() / columns,
+            |case, at, length| {
+                case.input.rows.drain(at * columns..(at + length) * columns);
+            },
+        );
+        let entries = self.remove_runs(
+            |case| case.input.rows.len(),
+            |case, at, length| {
+                case.input.rows.drain(at..at + length);
+            },
+        );
+        whole || entries
+    }
+
+    fn fewer_records(&mut self) -> bool {
+        let records = self.remove_runs(
+            |case| Parts::of(&case.input.query).records.len(),
+            |case, at, length| {
+                case.change_parts(|parts| {
+                    parts.records.drain(at..at + length);
+                });
+            },
+        );
+        let tail = self.remove_runs(
+            |case| Parts::of(&case.input.query).tail.len(),
+            |case, at, length| {
+                case.change_parts(|parts| {
+                    parts.tail.drain(at..at + length);
+                });
+            },
+        );
+        records || tail
+    }
+
+    fn shorter_bodies(&mut self) -> bool {
+        let mut any = false;
+        for record in 0..Parts::of(&self.case.input.query).records.len() {
+            any |= match Parts::of(&self.case.input.query).records[record].0 {
+                DEFINE => self.fewer_comparisons(record),
+                TEXT => self.fewer_parentheses(record),
+                _ => false,
+            };
+            any |= match Parts::of(&self.case.input.query).records[record].0 {
+                DEFINE => false,
+                _ => self.remove_runs(
+                    |case| Parts::of(&case.input.query).records[record].1.len(),
+                    |case, at, length| {
+                        case.change_parts(|parts| {
+                            parts.records[record].1.drain(at..at + length);
+                        });
+                    },
+                ),
+            };
+        }
+        any
+    }
+
+    /// Takes out an opening parenthesis and the one that closes it.
+    fn fewer_parentheses(&mut self, record: usize) -> bool {
+        let mut any = false;
+        let mut open = 0;
+        while let Some((first, last)) =
+            parentheses(&Parts::of(&self.case.input.query).records[record].1, open)
+        {
+            let change = |case: &mut Case| {
+                case.change_parts(|parts| {
+                    parts.records[record].1.remove(last);
+                    parts.records[record].1.remove(first);
+                });
+            };
+            match self.take(change) {
+                true => any = true,
+                false => open += 1,
+            }
+        }
+        any
+    }
+
+    fn fewer_comparisons(&mut self, record: usize) -> bool {
+        let whole = |body: &[u8]| body.len().saturating_sub(2) / COMPARISON_BYTES;
+        self.remove_runs(
+            |case| whole(&Parts::of(&case.input.query).records[record].1),
+            |case, at, length| {
+                case.change_parts(|parts| {
+                    let body = &mut parts.records[record].1;
+                    let from = 2 + at * COMPARISON_BYTES;
+                    body.drain(from..from + length * COMPARISON_BYTES);
+                    body[1] = body[1].saturating_sub(length as u8);
+                });
+            },
+        )
+    }
+
+    /// Entries of rows and bytes of bodies become 0 or 1, letters A.
+    fn smaller_numbers(&mut self) -> bool {
+        let mut any = false;
+        for index in 0..self.case.input.rows.len() {
+            let entry = self.case.input.rows[index];
+            for smaller in [0, 1].into_iter().take_while(|&it| it != entry) {
+                if self.take(|case| case.input.rows[index] = smaller) {
+                    any = true;
+                    break;
+                }
+            }
+        }
+        for record in 0..Parts::of(&self.case.input.query).records.len() {
+            any |= self.smaller_bytes(record);
+        }
+        any
+    }
+
+    fn smaller_bytes(&mut self, record: usize) -> bool {
+        let mut any = false;
+        let (kind, body) = Parts::of(&self.case.input.query)
+            .records
+            .swap_remove(record);
+        for index in 0..body.len() {
+            let smaller: &[u8] = match (kind, index) {
+                (TEXT, _) => b"A",
+                (DEFINE, 0) | (MEASURE, 1) => b"\0A",
+                _ => &[0, 1],
+            };
+            for &smaller in smaller.iter().take_while(|&&it| it != body[index]) {
+                let change = |case: &mut Case| {
+                    case.change_parts(|parts| parts.records[record].1[index] = smaller);
+                };
+                if self.take(change) {
+                    any = true;
+                    break;
+                }
+            }
+        }
+        any
+    }
+
+    fn smaller_buffers(&mut self) -> bool {
+        let mut any = false;
+        for buffer in 0..4 {
+            let mut less = *self.case.length_mut(buffer);
+            while less > 0 {
+                let change = |case: &mut Case| {
+                    let length = case.length_mut(buffer);
+                    *length = length.saturating_sub(less);
+                };
+                match self.take(change) {
+                    true => any = true,
+                    false => less /= 2,
+                }
+            }
+        }
+        any
+    }
+}
+
+impl Case {
+    fn length_mut(&mut self, buffer: usize) -> &mut usize {
+        match buffer {
+            0 => &mut self.input.notes,
+            1 => &mut self.input.trail,
+            2 => &mut self.input.numbers,
+            _ => &mut self.input.labels,
+        }
+    }
+
+    fn change_parts(&mut self, change: impl FnOnce(&mut Parts)) {
+        let mut parts = Parts::of(&self.input.query);
+        change(&mut parts);
+        self.input.query = parts.bytes();
+    }
+}
+
+/// Where the opening parenthesis of this number stands, and the one closing it.
+fn parentheses(text: &[u8], number: usize) -> Option<(usize, usize)> {
+    let mut opening = text.iter().enumerate().filter(|(_, byte)| **byte == b'(');
+    let (first, _) = opening.nth(number)?;
+    let mut depth = 0;
+    let closes = |byte: &u8| {
+        depth += i64::from(*byte == b'(') - i64::from(*byte == b')');
+        depth == 0
+    };
+    let length = text[first..].iter().position(closes)?;
+    Some((first, first + length))
+}
+
+/// A query taken apart as far as it is made of whole records: kinds and bodies,
+/// and the bytes behind them.
+struct Parts {
+    records: Vec<(u16, Vec<u8>)>,
+    tail: Vec<u8>,
+}
+
+impl Parts {
+    fn of(query: &[u8]) -> Parts {
+        let mut records = Vec::new();
+        let mut left = query;
+        while let [l0, l1, k0, k1, behind @ ..] = left {
+            let length = usize::from(u16::from_le_bytes([*l0, *l1]));
+            let Some((body, rest)) = behind.split_at_checked(length) else {
+                break;
+            };
+            records.push((u16::from_le_bytes([*k0, *k1]), body.to_vec()));
+            left = rest;
+        }
+        Parts {
+            records,
+            tail: left.to_vec(),
+        }
+    }
+
+    fn bytes(&self) -> Vec<u8> {
+        let mut bytes = Vec::new();
+        for (kind, body) in &self.records {
+            bytes.extend((body.len() as u16).to_le_bytes());
+            bytes.extend(kind.to_le_bytes());
+            bytes.extend(body);
+        }
+        bytes.extend(&self.tail);
+        bytes
+    }
+
+    /// Entries of a row, where the first record tells; otherwise 1.
+    fn columns(&self) -> usize {
+        let first = self.records.first().and_then(|record| record.1.first());
+        first.map_or(1, |&columns| usize::from(columns.max(1)))
+    }
+}

@@ -1,0 +1,353 @@
+//! The streams of cases: inputs listed in full, random ones and damaged ones,
+//! for the search and for the judgement of room. A stream has a usual length,
+//! which is that of the gate; the random ones can be run with other seeds and
+//! for longer.
+
+use crate::case::{Call, Case};
+use reference::generate::damage::damage_twice;
+use reference::generate::draft::{self, Draft, Input, Numbers, Room, LARGE, MIDDLE, SMALL};
+use reference::generate::scramble::scrambled;
+use reference::generate::{limits, mix, texts, Random};
+
+pub type Cases = Box<dyn Iterator<Item = Case>>;
+
+pub struct Stream {
+    pub name: &'static str,
+    pub about: &'static str,
+    /// How many cases the gate takes from a random stream; one without this
+    /// number is listed and always taken whole.
+    pub count: Option<usize>,
+    pub cases: fn(u64) -> Cases,
+}
+
+const fn listed(name: &'static str, about: &'static str, cases: fn(u64) -> Cases) -> Stream {
+    Stream {
+        name,
+        about,
+        count: None,
+        cases,
+    }
+}
+
+const fn random(
+    name: &'static str,
+    about: &'static str,
+    count: usize,
+    cases: fn(u64) -> Cases,
+) -> Stream {
+    Stream {
+        name,
+        about,
+        count: Some(count),
+        cases,
+    }
+}
+
+pub const STREAMS: [Stream; 18] = [
+    listed(
+        "texts",
+        "room: every text of up to 5 bytes over two alphabets",
+        every_text,
+    ),
+    listed(
+        "small",
+        "every pattern of up to 5 bytes over two alphabets on all rows of 0 and 1, up to 2",
+        every_small_input,
+    ),
+    listed(
+        "tables",
+        "patterns on every truth table of two letters, up to 3 rows",
+        every_table,
+    ),
+    listed(
+        "rooms",
+        "each of the four buffers at 0, one short, exact and one more, in every combination",
+        every_room,
+    ),
+    listed(
+        "limits",
+        "all that document 01 limits, at the limit and one beyond",
+        at_limits,
+    ),
+    listed(
+        "places",
+        "room: P around each power of two up to 2 to the 65",
+        around_powers,
+    ),
+    listed("rows", "room: rows whole and not, up to 4,097", row_counts),
+    random(
+        "accepted",
+        "accepted queries, up to 6 rows",
+        60_000,
+        accepted,
+    ),
+    random(
+        "extreme",
+        "the same with numbers at the ends of 32 bits and their sums",
+        40_000,
+        extreme,
+    ),
+    random("mix", "inputs of all sorts, up to 6 rows", 60_000, mixed),
+    random(
+        "middle",
+        "inputs of all sorts, up to 60 rows",
+        12_000,
+        middle,
+    ),
+    random("large", "inputs of all sorts, up to 500 rows", 400, large),
+    random(
+        "adversarial",
+        "patterns that are hard on a careless walk, up to 60 rows",
+        8_000,
+        adversarial,
+    ),
+    random(
+        "near-256",
+        "patterns of 250 to 262 places, up to 22 rows",
+        2_000,
+        near_limit,
+    ),
+    random(
+        "critical",
+        "report rooms that end at and beside each match",
+        40_000,
+        critical,
+    ),
+    random(
+        "answers",
+        "each answer 1 to 13 and each pair of them, from many causes",
+        60_000,
+        answers,
+    ),
+    random(
+        "scrambled",
+        "queries with bytes flipped, cut and moved, and records swapped",
+        80_000,
+        scrambled_queries,
+    ),
+    random(
+        "judged",
+        "room: texts of all sorts, whole and damaged queries",
+        80_000,
+        judged,
+    ),
+];
+
+/// Cases of one call, each with a noise of its own.
+fn calls(call: Call, seed: u64, inputs: impl Iterator<Item = Input> + 'static) -> Cases {
+    let mut random = Random::new(seed ^ 0x6E6F_6973_6500);
+    Box::new(inputs.map(move |input| Case {
+        call,
+        input,
+        noise: random.draw(),
+    }))
+}
+
+fn searches(seed: u64, inputs: impl Iterator<Item = Input> + 'static) -> Cases {
+    calls(Call::Search, seed, inputs)
+}
+
+fn rooms(seed: u64, drafts: impl Iterator<Item = Draft> + 'static) -> Cases {
+    let inputs = drafts.map(|draft| Input {
+        query: draft.query(),
+        rows: draft.rows,
+        notes: 0,
+        trail: 0,
+        numbers: 0,
+        labels: 0,
+    });
+    calls(Call::Room, seed, inputs)
+}
+
+/// Searches of inputs that are made one by one from a number and a generator.
+fn made(seed: u64, make: fn(&mut Random, usize) -> Input) -> Cases {
+    let mut random = Random::new(seed);
+    searches(seed, (0..).map(move |number| make(&mut random, number)))
+}
+
+fn every_text(seed: u64) -> Cases {
+    let alphabets: [&[u8]; 2] = [b"AB |()*?$", b"A{}120,?+"];
+    let texts = alphabets
+        .into_iter()
+        .flat_map(|alphabet| texts::every_text(alphabet, 5));
+    rooms(seed, texts.map(|text| Draft::new(1, &text, vec![1])))
+}
+
+fn every_small_input(seed: u64) -> Cases {
+    let signs = mix::every_small_input(b"AB |()*?$", 5, 2);
+    let bounds = mix::every_small_input(b"AB{}2,?", 6, 2);
+    searches(seed, signs.chain(bounds))
+}
+
+/// Patterns with letters that hold together, in which the order of ways tells.
+const TABLED: [&[u8]; 32] = [
+    b"A B",
+    b"A | A B",
+    b"A B | A",
+    b"B A | A B",
+    b"A* B",
+    b"A*? B",
+    b"A+ B+",
+    b"A+? B+?",
+    b"(A | B)+ A",
+    b"(A | B)*? B",
+    b"(A B?)+",
+    b"(A B??)+?",
+    b"A? B? A?",
+    b"A?? B?? A??",
+    b"(A+)+ B",
+    b"(A|A)+ B",
+    b"A{2} | B{2}",
+    b"A{1,2} B{,2}",
+    b"A{2,} | B",
+    b"(A | B A){2}",
+    b"^ A* B $",
+    b"A $ | B",
+    b"^ B | A",
+    b"(^ A | B)+ $",
+    b"() | A",
+    b"A | ()",
+    b"(() | A){,2} B",
+    b"(A?){3} B",
+    b"(A??){3} B",
+    b"(A{,2}){2} $",
+    b"((A | B)+ A?)+ B $",
+    b"$ | B A",
+];
+
+fn every_table(seed: u64) -> Cases {
+    searches(seed, mix::every_table(&TABLED, 3))
+}
+
+/// Drafts with matches, on which all combinations of rooms are tried.
+fn every_room(seed: u64) -> Cases {
+    let mut random = Random::new(seed);
+    let drafts = (0..150).map(move |_| mix::lively(&mut random, &SMALL));
+    let critical = [Room::Nothing, Room::OneShort, Room::Exact, Room::OneMore];
+    let inputs = drafts.flat_map(move |draft| {
+        let needs = draft.needs();
+        (0..256).map(move |number: usize| {
+            let length = |buffer: usize| critical[number >> (2 * buffer) & 3].length(needs[buffer]);
+            draft.with_lengths([length(0), length(1), length(2), length(3)])
+        })
+    });
+    searches(seed, inputs)
+}
+
+fn at_limits(seed: u64) -> Cases {
+    let whole = limits::all().into_iter().map(|draft| draft.finish());
+    let texts = limits::of_texts().into_iter();
+    let in_rooms = texts.flat_map(|draft| draft.with_critical_rooms());
+    let judged = rooms(seed, limits::all().into_iter());
+    Box::new(searches(seed, whole.chain(in_rooms)).chain(judged))
+}
+
+fn around_powers(seed: u64) -> Cases {
+    let near = (0..=65).flat_map(|power| {
+        let beside = [0, 1, 2, 3, 100, 254, 255, 256, 257, 258, 1000];
+        beside.into_iter().flat_map(move |more| {
+            [
+                (1u128 << power) + more,
+                (1u128 << power).saturating_sub(more),
+            ]
+        })
+    });
+    let texts = near.filter_map(texts::with_places);
+    rooms(seed, texts.map(|text| Draft::new(1, &text, vec![1])))
+}
+
+fn row_counts(seed: u64) -> Cases {
+    let counts = (1..=8u8).flat_map(|columns| {
+        let whole = [0, 1, 2, 63, 64, 4095, 4096, 4097, 5000];
+        whole.into_iter().flat_map(move |n| {
+            let entries = n * usize::from(columns);
+            let beside = [entries.saturating_sub(1), entries, entries + 1];
+            beside.map(|entries| Draft::new(columns, b"A+ B", vec![1; entries]))
+        })
+    });
+    rooms(seed, counts)
+}
+
+fn accepted(seed: u64) -> Cases {
+    made(seed, |random, _| {
+        mix::accepted(random, &SMALL, Numbers::Low).finish()
+    })
+}
+
+fn extreme(seed: u64) -> Cases {
+    made(seed, |random, _| {
+        mix::accepted(random, &SMALL, Numbers::Extreme).finish()
+    })
+}
+
+fn mixed(seed: u64) -> Cases {
+    made(seed, |random, number| mix::input(random, &SMALL, number))
+}
+
+fn middle(seed: u64) -> Cases {
+    made(seed, |random, number| mix::input(random, &MIDDLE, number))
+}
+
+fn large(seed: u64) -> Cases {
+    made(seed, |random, number| mix::input(random, &LARGE, number))
+}
+
+fn adversarial(seed: u64) -> Cases {
+    made(seed, |random, number| match number % 40 {
+        0 => Draft::new(1, b"(A?){30} A{30}", vec![1; 25 + random.below(10)]).finish(),
+        _ => mix::adversarial(random, &MIDDLE).finish(),
+    })
+}
+
+fn near_limit(seed: u64) -> Cases {
+    made(seed, |random, _| mix::near_limit(random, &MIDDLE).finish())
+}
+
+fn critical(seed: u64) -> Cases {
+    let mut random = Random::new(seed);
+    let drafts = (0..).map(move |_| draft::accepted(&mut random, &SMALL, Numbers::Low));
+    searches(seed, drafts.flat_map(|draft| draft.with_critical_rooms()))
+}
+
+/// All pairs in turn, the equal ones among them.
+fn answers(seed: u64) -> Cases {
+    made(seed, |random, number| {
+        let answers = [1 + number % 13, 1 + number / 13 % 13].map(|answer| answer as u8);
+        loop {
+            let mut draft = mix::accepted(random, &SMALL, Numbers::Low);
+            if damage_twice(random, &mut draft, answers) {
+                return draft.finish();
+            }
+        }
+    })
+}
+
+/// The buffers are those of the whole query, at times with a little more.
+fn scrambled_queries(seed: u64) -> Cases {
+    made(seed, |random, _| {
+        let draft = mix::lively(random, &SMALL);
+        let mut input = draft.finish();
+        input.query = scrambled(random, &input.query);
+        input.notes += random.pick(&[0, 0, 1, 8]);
+        input.trail += random.pick(&[0, 0, 1, 64]);
+        input
+    })
+}
+
+fn judged(seed: u64) -> Cases {
+    let mut random = Random::new(seed);
+    let drafts = (0..).map(move |number| {
+        let text = texts::any(&mut random);
+        let mut draft = match number % 4 {
+            0 => draft::with_text(&mut random, &SMALL, Numbers::Low, &text, 3),
+            1 => draft::with_text(&mut random, &MIDDLE, Numbers::Low, &text, 9),
+            _ => mix::accepted(&mut random, &MIDDLE, Numbers::Extreme),
+        };
+        if number % 4 == 3 {
+            let answers = [1, 1].map(|low| low + random.below(10) as u8);
+            damage_twice(&mut random, &mut draft, answers);
+        }
+        draft
+    });
+    rooms(seed, drafts)
+}
