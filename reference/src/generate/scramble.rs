@@ -5,13 +5,15 @@
 use super::random::Random;
 use crate::query::{self, Record};
 
-/// A query with one to three of these damages.
+/// A query with one to three of these damages; mostly its records stay whole, so
+/// that what is behind the answers 1 and 2 is reached too.
 pub fn scrambled(random: &mut Random, query: &[u8]) -> Vec<u8> {
     let mut bytes = query.to_vec();
     for _ in 0..1 + random.below(3) {
-        bytes = match random.chance(60) {
-            true => with_wrong_byte(random, bytes),
-            false => with_wrong_record(random, bytes),
+        bytes = match random.below(10) {
+            0 => with_wrong_byte(random, bytes),
+            1 | 2 => with_wrong_record(random, bytes),
+            _ => with_wrong_body(random, bytes),
         };
     }
     bytes
@@ -56,6 +58,17 @@ fn with_wrong_record(random: &mut Random, bytes: Vec<u8>) -> Vec<u8> {
         3 => records.insert(at, records[other]),
         _ => return with_wrong_header(random, &records, at),
     }
+    written(&records)
+}
+
+/// A body with a wrong byte, behind a header that is right.
+fn with_wrong_body(random: &mut Random, bytes: Vec<u8>) -> Vec<u8> {
+    let Some(mut records) = query::records(&bytes).filter(|records| !records.is_empty()) else {
+        return bytes;
+    };
+    let at = random.below(records.len());
+    let body = with_wrong_byte(random, records[at].body.to_vec());
+    records[at].body = &body;
     written(&records)
 }
 

@@ -205,13 +205,13 @@ impl Shrinking<'_> {
         let (kind, body) = Parts::of(&self.case.input.query)
             .records
             .swap_remove(record);
-        for index in 0..body.len() {
+        for (index, byte) in body.into_iter().enumerate() {
             let smaller: &[u8] = match (kind, index) {
                 (TEXT, _) => b"A",
                 (DEFINE, 0) | (MEASURE, 1) => b"\0A",
                 _ => &[0, 1],
             };
-            for &smaller in smaller.iter().take_while(|&&it| it != body[index]) {
+            for &smaller in smaller.iter().take_while(|&&it| it != byte) {
                 let change = |case: &mut Case| {
                     case.change_parts(|parts| parts.records[record].1[index] = smaller);
                 };
