@@ -11,29 +11,17 @@ pub trait Noise: Copy + PartialEq + Debug {
     fn noise(random: &mut Random) -> Self;
 }
 
-impl Noise for u8 {
-    fn noise(random: &mut Random) -> u8 {
-        random.draw() as u8
-    }
+macro_rules! noise {
+    ($($number:ty),*) => {
+        $(impl Noise for $number {
+            fn noise(random: &mut Random) -> $number {
+                random.draw() as $number
+            }
+        })*
+    };
 }
 
-impl Noise for i32 {
-    fn noise(random: &mut Random) -> i32 {
-        random.draw() as i32
-    }
-}
-
-impl Noise for u32 {
-    fn noise(random: &mut Random) -> u32 {
-        random.draw() as u32
-    }
-}
-
-impl Noise for i64 {
-    fn noise(random: &mut Random) -> i64 {
-        random.draw() as i64
-    }
-}
+noise!(u8, u32, i32, i64);
 
 /// The fewest items of a zone; up to as many more are added, so that bytes begin
 /// at any address.
