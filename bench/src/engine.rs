@@ -16,32 +16,13 @@ mod tests;
 mod walk;
 
 use letters::Rows;
+use mireladle::lent::{Outcome, Room};
 use pattern::Pattern;
 use query::{Measure, Query};
 use report::Report;
 
 const MOST_ROWS: usize = 4096;
 const STOPPED: u64 = 13;
-
-#[repr(C)]
-#[derive(Clone, Copy, Debug, PartialEq, Eq)]
-pub struct SearchResult {
-    pub answer: u64,
-    pub matches: u64,
-    pub labels: u64,
-    pub steps: u64,
-}
-
-impl SearchResult {
-    fn refused(answer: u64) -> SearchResult {
-        SearchResult {
-            answer,
-            matches: 0,
-            labels: 0,
-            steps: 0,
-        }
-    }
-}
 
 /// The whole search.
 pub fn search(
@@ -51,29 +32,41 @@ pub fn search(
     trail: &mut [u32],
     numbers: &mut [i64],
     labels: &mut [u8],
-) -> SearchResult {
+) -> Outcome {
     match accepted_search(query, rows, notes, trail, numbers, labels) {
-        Ok(result) => result,
-        Err(answer) => SearchResult::refused(answer),
+        Ok(outcome) => outcome,
+        Err(answer) => refused(answer),
     }
 }
 
-/// What working room a search needs.
-pub struct Room {
-    /// P
-    pub places: usize,
-    pub n: usize,
+fn refused(answer: u64) -> Outcome {
+    Outcome {
+        answer,
+        matches: 0,
+        labels: 0,
+        steps: 0,
+    }
 }
 
-/// P and n, or the lowest of the answers 1 to 10 that applies.
-pub fn room(query: &[u8], rows: &[i32]) -> Result<Room, u64> {
+/// P, n and P(n+1), or the lowest of the answers 1 to 10 that applies.
+pub fn room(query: &[u8], rows: &[i32]) -> Room {
+    let (answer, places, n) = match sizes(query, rows) {
+        Ok((places, n)) => (0, places as u64, n as u64),
+        Err(answer) => (answer, 0, 0),
+    };
+    Room {
+        answer,
+        places,
+        rows: n,
+        pairs: places * (n + 1),
+    }
+}
+
+fn sizes(query: &[u8], rows: &[i32]) -> Result<(usize, usize), u64> {
     let query = query::read(query)?;
     let mut pattern = Pattern::new();
     let rows = accept(&query, &mut pattern, rows)?;
-    Ok(Room {
-        places: pattern.count,
-        n: rows.n,
-    })
+    Ok((pattern.count, rows.n))
 }
 
 /// The search, or the lowest of the answers 1 to 12 that applies.
@@ -84,7 +77,7 @@ fn accepted_search(
     trail: &mut [u32],
     numbers: &mut [i64],
     labels: &mut [u8],
-) -> Result<SearchResult, u64> {
+) -> Result<Outcome, u64> {
     let query = query::read(query)?;
     let mut pattern = Pattern::new();
     let rows = accept(&query, &mut pattern, rows)?;
@@ -93,7 +86,7 @@ fn accepted_search(
     let trail = trail.get_mut(..pairs).ok_or(12_u64)?;
     let mut report = Report::new(numbers, labels, query.measures());
     let (done, steps) = walk::search(&query, &pattern, rows, notes, trail, &mut report);
-    Ok(SearchResult {
+    Ok(Outcome {
         answer: if done { 0 } else { STOPPED },
         matches: report.matches as u64,
         labels: report.labels_written as u64,

@@ -2,23 +2,25 @@
 //! yardstick, in one process. Both first search every workload, and results and
 //! all lent buffers are compared; a difference ends the bench with an error.
 //! Options: --quick (a few seconds in all), --only NAME (workloads that have
-//! NAME in their name), --markdown (tables for docs/PERFORMANCE.md).
+//! NAME in their name), --markdown (tables for docs/PERFORMANCE.md), --check
+//! (compares and measures nothing; the last line is `N passed, M failed`).
 
 mod clock;
 mod engine;
 mod output;
-#[cfg(mireladle)]
-mod product;
-mod query;
 mod random;
+mod readings;
 mod rooms;
 mod rounds;
 mod table;
 mod workloads;
 
+use mireladle::lent;
 use output::{Columns, Measured};
-use rooms::Search;
-use rounds::Plan;
+use readings::{Judge, Reading};
+use rooms::{Rooms, Search, Sums};
+use rounds::{Plan, Run};
+use std::hint::black_box;
 use std::process::exit;
 use workloads::Workload;
 
@@ -35,9 +37,16 @@ struct Options {
     plan: Plan,
     only: Option<String>,
     markdown: bool,
+    check: bool,
 }
 
-/// One table of the output.
+impl Options {
+    fn wants(&self, name: &str) -> bool {
+        self.only.as_ref().is_none_or(|only| name.contains(only))
+    }
+}
+
+/// A table of searches.
 struct Section {
     title: &'static str,
     workloads: fn() -> Vec<Workload>,
@@ -61,35 +70,25 @@ const SECTIONS: [Section; 4] = [
         columns: Columns::Growth,
     },
     Section {
-        title: "Reading a query, over no rows",
-        workloads: workloads::readings,
+        title: "Reading and unrolling a query: searches over no rows",
+        workloads: readings::unrolled,
         columns: Columns::Calls,
     },
 ];
+const READING: &str = "Reading a query: calls of room";
 
 fn main() {
     let options = options().unwrap_or_else(|message| {
-        eprintln!("{message}\noptions: --quick --only NAME --markdown");
+        eprintln!("{message}\noptions: --quick --only NAME --markdown --check");
         exit(2);
     });
-    let mut any = false;
-    for section in SECTIONS {
-        let measured = measure(&section, &options).unwrap_or_else(|difference| {
-            eprintln!("THE BENCH FAILS. {difference}");
-            exit(1);
-        });
-        if !measured.is_empty() {
-            any = true;
-            output::print(section.title, section.columns, &measured, options.markdown);
-        }
-    }
-    if !any {
-        eprintln!("no workload has this in its name");
-        exit(2);
-    }
-    println!("Times are the least over all rounds, or their median; ratios are of the least.");
-    if product_search().is_none() {
-        println!("The yardstick alone: the product's library was not there at the build.");
+    let done = match options.check {
+        true => check(&options),
+        false => measure_all(&options),
+    };
+    if let Err(message) = done {
+        eprintln!("THE BENCH FAILS. {message}");
+        exit(1);
     }
 }
 
@@ -98,12 +97,14 @@ fn options() -> Result<Options, String> {
         plan: WHOLE,
         only: None,
         markdown: false,
+        check: false,
     };
     let mut arguments = std::env::args().skip(1);
     while let Some(argument) = arguments.next() {
         match argument.as_str() {
             "--quick" => options.plan = QUICK,
             "--markdown" => options.markdown = true,
+            "--check" => options.check = true,
             "--only" => options.only = Some(arguments.next().ok_or("--only needs a name")?),
             _ => return Err(format!("unknown option {argument}")),
         }
@@ -111,37 +112,107 @@ fn options() -> Result<Options, String> {
     Ok(options)
 }
 
-#[cfg(mireladle)]
-fn product_search() -> Option<Search> {
-    Some(product::search)
-}
-
-#[cfg(not(mireladle))]
-fn product_search() -> Option<Search> {
-    None
-}
-
-/// Compares and measures the workloads of a section that are asked for.
-fn measure(section: &Section, options: &Options) -> Result<Vec<Measured>, String> {
-    let wanted = |workload: &Workload| match &options.only {
-        Some(name) => workload.name.contains(name.as_str()),
-        None => true,
+/// Compares everything that is asked for.
+fn check(options: &Options) -> Result<(), String> {
+    let (mut passed, mut failed) = (0, 0);
+    let mut count = |compared: Result<(), String>| match compared {
+        Ok(()) => passed += 1,
+        Err(difference) => {
+            println!("{difference}");
+            failed += 1;
+        }
     };
-    let product = product_search();
-    let engines: Vec<Search> = product
-        .into_iter()
-        .chain([engine::search as Search])
-        .collect();
-    let mut measured = Vec::new();
-    for workload in (section.workloads)().into_iter().filter(wanted) {
-        let sums = rooms::compare(&workload, engine::search, product)?;
-        let times = rounds::measure(&workload, &engines, options.plan);
-        measured.push(Measured {
-            workload,
-            sums,
-            yardstick: times[engines.len() - 1],
-            product: product.map(|_| times[0]),
-        });
+    for section in &SECTIONS {
+        for workload in wanted((section.workloads)(), options) {
+            count(rooms::compare(&workload).map(|_| ()));
+        }
     }
-    Ok(measured)
+    for reading in wanted_readings(options) {
+        count(readings::compare(&reading));
+    }
+    println!("{passed} passed, {failed} failed");
+    match (passed, failed) {
+        (0, 0) => Err("no workload has this in its name".to_string()),
+        (_, 0) => Ok(()),
+        _ => Err("the engines differ".to_string()),
+    }
+}
+
+fn measure_all(options: &Options) -> Result<(), String> {
+    let mut any = false;
+    let mut print = |title: &str, columns: Columns, measured: Vec<Measured>| {
+        if !measured.is_empty() {
+            any = true;
+            output::print(title, columns, &measured, options.markdown);
+        }
+    };
+    for section in &SECTIONS {
+        let workloads = wanted((section.workloads)(), options);
+        let measured: Result<Vec<Measured>, String> = workloads
+            .map(|workload| measure_search(workload, options.plan))
+            .collect();
+        print(section.title, section.columns, measured?);
+    }
+    let measured: Result<Vec<Measured>, String> = wanted_readings(options)
+        .map(|reading| measure_reading(reading, options.plan))
+        .collect();
+    print(READING, Columns::Calls, measured?);
+    if !any {
+        return Err("no workload has this in its name".to_string());
+    }
+    println!("Times are the least over all rounds, or their median; ratios are of the least.");
+    Ok(())
+}
+
+fn wanted(workloads: Vec<Workload>, options: &Options) -> impl Iterator<Item = Workload> + '_ {
+    workloads
+        .into_iter()
+        .filter(|workload| options.wants(&workload.name))
+}
+
+fn wanted_readings(options: &Options) -> impl Iterator<Item = Reading> + '_ {
+    let readings = readings::all().into_iter();
+    readings.filter(|reading| options.wants(reading.name))
+}
+
+fn measure_search(workload: Workload, plan: Plan) -> Result<Measured, String> {
+    let sums = rooms::compare(&workload)?;
+    let run = |search: Search| {
+        let workload = &workload;
+        move |rooms: &mut Rooms| {
+            for rows in &workload.partitions {
+                black_box(rooms.search(search, workload.query.as_bytes(), black_box(rows)));
+            }
+        }
+    };
+    let engines: [Run<Rooms>; 2] = [&run(lent::search), &run(engine::search)];
+    let [product, yardstick] = rounds::measure(&mut Rooms::new(&workload), engines, plan);
+    Ok(Measured {
+        rows: workload.rows(),
+        name: workload.name,
+        about: workload.about,
+        sums,
+        yardstick,
+        product,
+    })
+}
+
+fn measure_reading(reading: Reading, plan: Plan) -> Result<Measured, String> {
+    readings::compare(&reading)?;
+    let query = &reading.query.to_bytes();
+    let run = |judge: Judge| {
+        move |_: &mut ()| {
+            black_box(judge(black_box(query), &[]));
+        }
+    };
+    let engines: [Run<()>; 2] = [&run(lent::room), &run(engine::room)];
+    let [product, yardstick] = rounds::measure(&mut (), engines, plan);
+    Ok(Measured {
+        rows: 0,
+        name: reading.name.to_string(),
+        about: reading.about.to_string(),
+        sums: Sums::default(),
+        yardstick,
+        product,
+    })
 }

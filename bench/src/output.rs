@@ -1,17 +1,18 @@
 //! The output: one table for each section, with columns for the yardstick, for
-//! the product where it was measured, and for their ratio.
+//! the product and for their ratio.
 
 use crate::rooms::Sums;
 use crate::rounds::Times;
 use crate::table::{Side, Table};
-use crate::workloads::Workload;
 
 /// A workload with what was measured of it.
 pub struct Measured {
-    pub workload: Workload,
+    pub name: String,
+    pub about: String,
+    pub rows: usize,
     pub sums: Sums,
     pub yardstick: Times,
-    pub product: Option<Times>,
+    pub product: Times,
 }
 
 /// Which columns a section has.
@@ -27,8 +28,7 @@ pub fn print(title: &str, columns: Columns, measured: &[Measured], markdown: boo
         true => println!("### {title}\n"),
         false => println!("{title}\n"),
     }
-    let with_product = measured.iter().any(|one| one.product.is_some());
-    let mut table = Table::new(&heads(columns, with_product));
+    let mut table = Table::new(&heads(columns));
     for (index, one) in measured.iter().enumerate() {
         let before = index.checked_sub(1).map(|index| &measured[index]);
         table.push(line(columns, one, before));
@@ -36,12 +36,12 @@ pub fn print(title: &str, columns: Columns, measured: &[Measured], markdown: boo
     table.print(markdown);
     for one in measured {
         let bullet = if markdown { "- " } else { "  " };
-        println!("{bullet}{}: {}", one.workload.name, one.workload.about);
+        println!("{bullet}{}: {}", one.name, one.about);
     }
     println!();
 }
 
-fn heads(columns: Columns, with_product: bool) -> Vec<(String, Side)> {
+fn heads(columns: Columns) -> Vec<(String, Side)> {
     let counts: &[&str] = match columns {
         Columns::Searches => &["rows", "matches", "steps"],
         Columns::Growth => &["steps", "times"],
@@ -55,28 +55,22 @@ fn heads(columns: Columns, with_product: bool) -> Vec<(String, Side)> {
     let right = |head: &str| (head.to_string(), Side::Right);
     let mut heads = vec![("workload".to_string(), Side::Left)];
     heads.extend(counts.iter().map(|head| right(head)));
-    let engines: &[&str] = match with_product {
-        true => &["yardstick", "product"],
-        false => &["yardstick"],
-    };
-    for engine in engines {
+    for engine in ["yardstick", "product"] {
         heads.push(right(&format!("{engine} {}", of_engine[0])));
         heads.extend(of_engine[1..].iter().map(|head| right(head)));
     }
-    if with_product {
-        heads.push(right("product/yardstick"));
-    }
+    heads.push(right("product/yardstick"));
     heads
 }
 
 /// The cells of a workload; `before` is the one in the line above. Times are the
 /// minimum over the rounds where no median is named, and so is the ratio.
 fn line(columns: Columns, one: &Measured, before: Option<&Measured>) -> Vec<String> {
-    let mut line = vec![one.workload.name.clone()];
+    let mut line = vec![one.name.clone()];
     let steps = one.sums.steps;
     match columns {
         Columns::Searches => {
-            let counts = [one.workload.rows() as u64, one.sums.matches, steps];
+            let counts = [one.rows as u64, one.sums.matches, steps];
             line.extend(counts.map(|count| count.to_string()));
         }
         Columns::Growth => {
@@ -87,18 +81,17 @@ fn line(columns: Columns, one: &Measured, before: Option<&Measured>) -> Vec<Stri
     }
     let before_yardstick = before.map(|before| before.yardstick);
     line.extend(cells(columns, one, one.yardstick, before_yardstick));
-    if let Some(product) = one.product {
-        let before_product = before.and_then(|before| before.product);
-        line.extend(cells(columns, one, product, before_product));
-        line.push(format!("{:.2}", product.minimum / one.yardstick.minimum));
-    }
+    let before_product = before.map(|before| before.product);
+    line.extend(cells(columns, one, one.product, before_product));
+    let ratio = one.product.minimum / one.yardstick.minimum;
+    line.push(format!("{ratio:.2}"));
     line
 }
 
 fn cells(columns: Columns, one: &Measured, times: Times, before: Option<Times>) -> Vec<String> {
     let Times { minimum, median } = times;
     let steps = one.sums.steps as f64;
-    let rows = one.workload.rows() as f64;
+    let rows = one.rows as f64;
     match columns {
         Columns::Searches => vec![
             format!("{:.2}", minimum / steps),

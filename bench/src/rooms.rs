@@ -1,8 +1,10 @@
 //! The four lent buffers, large enough for every partition of a workload, and
-//! the comparison of what two engines leave in them.
+//! the comparison of what the two engines leave in them.
 
-use crate::engine::{self, SearchResult};
+use crate::engine;
 use crate::workloads::Workload;
+use mireladle::lent::{self, Outcome};
+use mireladle::Skip;
 
 /// An engine's whole search.
 pub type Search = fn(
@@ -12,7 +14,7 @@ pub type Search = fn(
     trail: &mut [u32],
     numbers: &mut [i64],
     labels: &mut [u8],
-) -> SearchResult;
+) -> Outcome;
 
 /// What each buffer has beyond what a search needs, to see that it is left.
 const BEYOND: usize = 9;
@@ -32,25 +34,24 @@ impl Rooms {
         let query = &workload.query;
         let (mut pairs, mut n) = (0, 0);
         for rows in &workload.partitions {
-            let Ok(room) = engine::room(&query.bytes, rows) else {
-                panic!("{}: the query is refused", workload.name);
-            };
-            pairs = pairs.max(room.places * (room.n + 1));
-            n = n.max(room.n);
+            let room = engine::room(query.as_bytes(), rows);
+            assert_eq!(room.answer, 0, "{}", workload.name);
+            pairs = pairs.max(room.pairs as usize);
+            n = n.max(room.rows as usize);
         }
-        let labels = match query.to_next_row {
-            true => n * (n + 1) / 2,
-            false => n,
+        let labels = match query.skip() {
+            Skip::PastLastRow => n,
+            _ => n * (n + 1) / 2,
         };
         Rooms {
             notes: vec![0x5a; pairs.div_ceil(8) + BEYOND],
             trail: vec![0x5a5a_5a5a; pairs + BEYOND],
-            numbers: vec![-0x5a5a_5a5a; n * (3 + 2 * query.measures) + BEYOND],
+            numbers: vec![-0x5a5a_5a5a; n * (3 + 2 * query.measures()) + BEYOND],
             labels: vec![0x5a; labels + BEYOND],
         }
     }
 
-    pub fn search(&mut self, search: Search, query: &[u8], rows: &[i32]) -> SearchResult {
+    pub fn search(&mut self, search: Search, query: &[u8], rows: &[i32]) -> Outcome {
         search(
             query,
             rows,
@@ -89,35 +90,31 @@ pub struct Sums {
     pub steps: u64,
 }
 
-/// Searches all partitions with the yardstick, and with the product if there is
-/// one, and compares results and all buffers after each. An Err says what
-/// differs, or that the yardstick did not end as done.
-pub fn compare(
-    workload: &Workload,
-    yardstick: Search,
-    product: Option<Search>,
-) -> Result<Sums, String> {
+/// Searches all partitions with both engines and compares results and all
+/// buffers after each. An Err says what differs, or that a search did not end as
+/// done.
+pub fn compare(workload: &Workload) -> Result<Sums, String> {
     let mut rooms = Rooms::new(workload);
     let mut product_rooms = rooms.clone();
     let mut sums = Sums::default();
+    let query = workload.query.as_bytes();
     for (index, rows) in workload.partitions.iter().enumerate() {
         let context = |what: String| format!("{}, partition {index}: {what}", workload.name);
-        let result = rooms.search(yardstick, &workload.query.bytes, rows);
-        if result.answer != 0 {
-            return Err(context(format!("the yardstick answers {}", result.answer)));
+        let outcome = rooms.search(engine::search, query, rows);
+        let product = product_rooms.search(lent::search, query, rows);
+        if outcome.answer != 0 {
+            return Err(context(format!("the yardstick answers {}", outcome.answer)));
         }
-        if let Some(product) = product {
-            let other = product_rooms.search(product, &workload.query.bytes, rows);
-            if other != result {
-                return Err(context(format!("product {other:?}, yardstick {result:?}")));
-            }
-            if rooms != product_rooms {
-                let differences = rooms.differences(&product_rooms).join(", ");
-                return Err(context(format!("buffers differ: {differences}")));
-            }
+        if product != outcome {
+            let what = format!("product {product:?}, yardstick {outcome:?}");
+            return Err(context(what));
         }
-        sums.matches += result.matches;
-        sums.steps += result.steps;
+        if rooms != product_rooms {
+            let differences = rooms.differences(&product_rooms).join(", ");
+            return Err(context(format!("buffers differ: {differences}")));
+        }
+        sums.matches += outcome.matches;
+        sums.steps += outcome.steps;
     }
     Ok(sums)
 }

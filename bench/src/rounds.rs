@@ -1,12 +1,9 @@
 //! Measuring: rounds in which the engines take turns in one process, so that
 //! what disturbs the machine disturbs them alike. A round is as many runs of
-//! the workload as last long against the clock. The buffers are the same for
-//! all engines and are not cleared between runs: the searches do that.
+//! the workload as last long against the clock. What is lent to the runs is the
+//! same for both engines and is not cleared between runs: the searches do that.
 
 use crate::clock;
-use crate::rooms::{Rooms, Search};
-use crate::workloads::Workload;
-use std::hint::black_box;
 
 /// Nanoseconds of one run of a workload, over all rounds.
 #[derive(Clone, Copy)]
@@ -26,35 +23,35 @@ pub struct Plan {
 const ROUND: u64 = 500_000;
 const MOST_ROUNDS: u64 = 1_000;
 
+/// One run of a workload by an engine, with what is lent to it.
+pub type Run<'a, L> = &'a dyn Fn(&mut L);
+
 /// The times of each engine.
-pub fn measure(workload: &Workload, engines: &[Search], plan: Plan) -> Vec<Times> {
-    let mut rooms = Rooms::new(workload);
+pub fn measure<L, const ENGINES: usize>(
+    lent: &mut L,
+    engines: [Run<L>; ENGINES],
+    plan: Plan,
+) -> [Times; ENGINES] {
     // The first run of each engine warms caches and tells how long a run is.
-    let longest = engines
-        .iter()
-        .map(|&engine| time(workload, engine, &mut rooms, 1))
-        .max()
-        .unwrap_or(1)
-        .max(1);
+    let first = engines.map(|engine| time(lent, engine, 1));
+    let longest = first.into_iter().fold(1, u64::max);
     let runs = (ROUND / longest).max(1);
     let rounds = (plan.nanoseconds / (longest * runs)).min(MOST_ROUNDS) as usize;
     let rounds = rounds.max(plan.fewest_rounds);
-    let mut samples = vec![Vec::new(); engines.len()];
+    let mut samples = [const { Vec::new() }; ENGINES];
     for _ in 0..rounds {
         for (engine, samples) in engines.iter().zip(&mut samples) {
-            let nanoseconds = time(workload, *engine, &mut rooms, runs);
+            let nanoseconds = time(lent, engine, runs);
             samples.push(nanoseconds as f64 / runs as f64);
         }
     }
-    samples.into_iter().map(times).collect()
+    samples.map(times)
 }
 
-fn time(workload: &Workload, engine: Search, rooms: &mut Rooms, runs: u64) -> u64 {
+fn time<L>(lent: &mut L, engine: Run<L>, runs: u64) -> u64 {
     let start = clock::now();
     for _ in 0..runs {
-        for rows in &workload.partitions {
-            black_box(rooms.search(engine, &workload.query.bytes, black_box(rows)));
-        }
+        engine(lent);
     }
     clock::now() - start
 }

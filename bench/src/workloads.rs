@@ -1,8 +1,8 @@
 //! The workloads: queries and rows from fixed seeds. Each is one query over one
 //! or more partitions; one run of a workload searches all of them in turn.
 
-use crate::query::*;
 use crate::random::Random;
+use mireladle::{col, Column, Comparison, Measure, Query, QueryBuilder, Skip};
 
 const MOST_ROWS: usize = 4096;
 
@@ -14,18 +14,24 @@ pub struct Workload {
 }
 
 impl Workload {
-    fn new(name: &str, about: &str, query: Query, partitions: Vec<Vec<i32>>) -> Workload {
+    pub fn new(
+        name: &str,
+        about: &str,
+        query: QueryBuilder,
+        partitions: Vec<Vec<i32>>,
+    ) -> Workload {
+        let query = query.build();
         Workload {
             name: name.to_string(),
             about: about.to_string(),
-            query,
+            query: query.unwrap_or_else(|refusal| panic!("{name}: {refusal}")),
             partitions,
         }
     }
 
     pub fn rows(&self) -> usize {
         let entries: usize = self.partitions.iter().map(Vec::len).sum();
-        entries / self.query.columns
+        entries / usize::from(self.query.columns())
     }
 }
 
@@ -72,28 +78,19 @@ pub fn growth_in_places() -> Vec<Workload> {
         .into()
 }
 
-/// Queries over no rows: what reading them takes.
-pub fn readings() -> Vec<Workload> {
-    vec![
-        Workload::new(
-            "read-256-bytes",
-            "a pattern of 256 bytes, no DEFINE",
-            Query::new(1, &long_pattern()).skip_past_last_row(),
-            vec![Vec::new()],
-        ),
-        Workload::new(
-            "read-two-defines",
-            "A+ B with two DEFINEs",
-            rise_and_fall_query().skip_past_last_row(),
-            vec![Vec::new()],
-        ),
-    ]
+fn pattern(columns: u8, text: &str) -> QueryBuilder {
+    Query::builder(columns).pattern(text)
 }
 
-fn rise_and_fall_query() -> Query {
-    Query::new(1, "A+ B")
-        .define(b'A', &[with_previous(0, GREATER)])
-        .define(b'B', &[with_previous(0, LESS)])
+/// The column at the row before.
+fn previous(column: u8) -> Column {
+    col(column).prev(1)
+}
+
+pub fn rise_and_fall_query() -> QueryBuilder {
+    pattern(1, "A+ B")
+        .define('A', [col(0).gt(previous(0))])
+        .define('B', [col(0).lt(previous(0))])
 }
 
 /// Up or down by 1 to 9 from row to row, up with a chance of so many percent.
@@ -113,7 +110,7 @@ fn rise_and_fall() -> Workload {
     Workload::new(
         "rise-and-fall",
         "A+ B, above and below PREV, 4,096 rows of a random walk",
-        rise_and_fall_query().skip_past_last_row(),
+        rise_and_fall_query(),
         vec![random_walk(1, MOST_ROWS, 50)],
     )
 }
@@ -123,7 +120,7 @@ fn rise_and_fall_50() -> Workload {
     Workload::new(
         "50-walks",
         "the same on 50 different walks",
-        rise_and_fall_query().skip_past_last_row(),
+        rise_and_fall_query(),
         (0..50)
             .map(|seed| random_walk(100 + seed, MOST_ROWS, 50))
             .collect(),
@@ -131,13 +128,12 @@ fn rise_and_fall_50() -> Workload {
 }
 
 fn valley() -> Workload {
-    let query = Query::new(1, "S D+ U+")
-        .define(b'D', &[with_previous(0, LESS)])
-        .define(b'U', &[with_previous(0, GREATER)])
-        .skip_past_last_row()
-        .measure(FIRST, b'S', 0)
-        .measure(LAST, b'D', 0)
-        .measure(LAST, b'U', 0);
+    let query = pattern(1, "S D+ U+")
+        .define('D', [col(0).lt(previous(0))])
+        .define('U', [col(0).gt(previous(0))])
+        .measure(Measure::first(0).of('S'))
+        .measure(Measure::last(0).of('D'))
+        .measure(Measure::last(0).of('U'));
     let walks = (0..20)
         .map(|seed| random_walk(200 + seed, MOST_ROWS, 50))
         .collect();
@@ -158,18 +154,17 @@ const ACCEPTED: i32 = 3;
 fn offers() -> Workload {
     let same = |event: i32| {
         [
-            with_number((0, 0), EQUAL, event),
-            with_previous(1, EQUAL),
-            with_previous(2, EQUAL),
+            col(0).eq(event),
+            col(1).eq(previous(1)),
+            col(2).eq(previous(2)),
         ]
     };
-    let query = Query::new(3, "O R* C")
-        .define(b'O', &[with_number((0, 0), EQUAL, OFFERED)])
-        .define(b'R', &same(REFUSED))
-        .define(b'C', &same(ACCEPTED))
-        .skip_past_last_row()
-        .measure(COUNT, b'R', 0)
-        .measure(LAST, ALL_ROWS, 2);
+    let query = pattern(3, "O R* C")
+        .define('O', [col(0).eq(OFFERED)])
+        .define('R', same(REFUSED))
+        .define('C', same(ACCEPTED))
+        .measure(Measure::count().of('R'))
+        .measure(Measure::last(2));
     Workload::new(
         "offers",
         "O R* C on event, base, patch with PREV equalities, 20 logs of 4,096 rows",
@@ -211,13 +206,12 @@ fn nested() -> Workload {
 }
 
 /// A, B and C overlap, so that there are many ways to fail.
-fn nested_query() -> Query {
-    Query::new(1, "((A|B)+ C?)+ D")
-        .define(b'A', &[with_number((0, 0), LESS, 60)])
-        .define(b'B', &[with_number((0, 0), AT_LEAST, 40)])
-        .define(b'C', &[with_number((0, 0), GREATER, 80)])
-        .define(b'D', &[with_number((0, 0), GREATER, 1_000)])
-        .skip_past_last_row()
+fn nested_query() -> QueryBuilder {
+    pattern(1, "((A|B)+ C?)+ D")
+        .define('A', [col(0).lt(60)])
+        .define('B', [col(0).ge(40)])
+        .define('C', [col(0).gt(80)])
+        .define('D', [col(0).gt(1_000)])
 }
 
 fn nested_rows(n: usize) -> Vec<i32> {
@@ -226,9 +220,7 @@ fn nested_rows(n: usize) -> Vec<i32> {
 }
 
 fn optional() -> Workload {
-    let query = Query::new(1, "(A?){30} A{30}")
-        .define(b'A', &[with_number((0, 0), EQUAL, 1)])
-        .skip_past_last_row();
+    let query = pattern(1, "(A?){30} A{30}").define('A', [col(0).eq(1)]);
     Workload::new(
         "optional",
         "(A?){30} A{30} on 30 rows that all are A",
@@ -238,15 +230,14 @@ fn optional() -> Workload {
 }
 
 /// `A?` so many times, then B; A holds at 1 and B never.
-fn optional_then_b(count: usize) -> Query {
-    let pattern = match count {
+fn optional_then_b(count: usize) -> QueryBuilder {
+    let text = match count {
         0..=99 => format!("(A?){{{count}}} B"),
         _ => format!("(A?){{99}} (A?){{{}}} B", count - 99),
     };
-    Query::new(1, &pattern)
-        .define(b'A', &[with_number((0, 0), EQUAL, 1)])
-        .define(b'B', &[with_number((0, 0), EQUAL, 2)])
-        .skip_past_last_row()
+    pattern(1, &text)
+        .define('A', [col(0).eq(1)])
+        .define('B', [col(0).eq(2)])
 }
 
 fn all_places() -> Workload {
@@ -260,9 +251,9 @@ fn all_places() -> Workload {
 
 fn overlapping() -> Workload {
     let query = rise_and_fall_query()
-        .skip_to_next_row()
-        .measure(COUNT, b'A', 0)
-        .measure(SUM, b'A', 0);
+        .skip(Skip::ToNextRow)
+        .measure(Measure::count().of('A'))
+        .measure(Measure::sum(0).of('A'));
     Workload::new(
         "overlapping",
         "A+ B to next row, long rises, two measures, 4,096 rows",
@@ -273,9 +264,8 @@ fn overlapping() -> Workload {
 
 fn small_partitions() -> Workload {
     let query = rise_and_fall_query()
-        .skip_past_last_row()
-        .measure(COUNT, b'A', 0)
-        .measure(LAST, b'B', 0);
+        .measure(Measure::count().of('A'))
+        .measure(Measure::last(0).of('B'));
     Workload::new(
         "partitions",
         "A+ B with two measures on 10,000 partitions of 20 rows",
@@ -290,38 +280,31 @@ fn small_partitions() -> Workload {
 /// column says which letter holds, and that test stands at a different place in
 /// each letter; the others are met by most rows.
 fn all_letters() -> Workload {
-    let letters = b'A'..=b'Z';
-    let branches: Vec<String> = letters
-        .clone()
-        .map(|letter| char::from(letter).into())
-        .collect();
-    let mut query = Query::new(8, &format!("({})+", branches.join("|")));
-    for letter in letters {
-        query = query.define(letter, &eight_comparisons(letter - b'A'));
+    let branches: Vec<String> = ('A'..='Z').map(String::from).collect();
+    let mut query = pattern(8, &format!("({})+", branches.join("|")));
+    for (index, letter) in (0..).zip('A'..='Z') {
+        query = query.define(letter, eight_comparisons(index));
     }
     Workload::new(
         "all-letters",
         "(A|B|..|Z)+, 26 letters of 8 comparisons, 8 columns, 4,096 rows",
-        query
-            .skip_past_last_row()
-            .measure(MIN, ALL_ROWS, 1)
-            .measure(MAX, ALL_ROWS, 1),
+        query.measure(Measure::min(1)).measure(Measure::max(1)),
         vec![lettered_rows(MOST_ROWS)],
     )
 }
 
-fn eight_comparisons(index: u8) -> [Comparison; 8] {
+fn eight_comparisons(index: i32) -> [Comparison; 8] {
     let mut comparisons = [
-        with_number((1, 0), AT_LEAST, 5),
-        with_number((2, 0), UNEQUAL, 50),
-        with_column((3, 0), AT_MOST, (4, 0), 90),
-        with_column((4, 0), AT_MOST, (3, 0), 90),
-        with_number((5, 0), LESS, 95),
-        with_column((6, 0), UNEQUAL, (7, 0), 0),
-        with_number((7, 0), GREATER, 1),
-        with_number((1, 0), AT_MOST, 97),
+        col(1).ge(5),
+        col(2).ne(50),
+        col(3).le(col(4) + 90),
+        col(4).le(col(3) + 90),
+        col(5).lt(95),
+        col(6).ne(col(7)),
+        col(7).gt(1),
+        col(1).le(97),
     ];
-    comparisons[usize::from(index) % 8] = with_number((0, 0), EQUAL, index.into());
+    comparisons[index as usize % 8] = col(0).eq(index);
     comparisons
 }
 
@@ -333,12 +316,4 @@ fn lettered_rows(n: usize) -> Vec<i32> {
         rows.extend((1..8).map(|_| random.below(100) as i32));
     }
     rows
-}
-
-/// A pattern of 256 bytes with all sorts of parts and not too many places.
-fn long_pattern() -> String {
-    let mut pattern = "(A|B C?)+ D{2,3}? ".repeat(14);
-    pattern.push_str("(^)?");
-    assert_eq!(pattern.len(), 256);
-    pattern
 }

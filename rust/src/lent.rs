@@ -7,7 +7,6 @@
 /// What a search returns. On the answers 1 to 12 all but the answer are 0.
 #[repr(C)]
 #[derive(Clone, Copy, Debug, PartialEq, Eq, Hash)]
-#[non_exhaustive]
 pub struct Outcome {
     /// 0 done, 13 stopped, 1 to 12 refused; see [`Error`](crate::Error) for the refusals.
     pub answer: u64,
@@ -22,7 +21,6 @@ pub struct Outcome {
 /// What the working room of a search is measured by. On the answers 1 to 10 all but the answer are 0.
 #[repr(C)]
 #[derive(Clone, Copy, Debug, PartialEq, Eq, Hash)]
-#[non_exhaustive]
 pub struct Room {
     /// 0, or the answer of 1 to 10 that a search would give.
     pub answer: u64,

@@ -185,6 +185,11 @@ impl Query {
         self.shape.columns
     }
 
+    /// Where the search goes on after a match.
+    pub fn skip(&self) -> Skip {
+        self.shape.skip
+    }
+
     /// How many measures each match has.
     pub fn measures(&self) -> usize {
         self.shape.measures
@@ -225,7 +230,7 @@ impl Query {
         let (notes, trail) = (length(room.notes())?, length(room.pairs)?);
         let n = length(room.rows)?;
         let mut numbers = vec![0; report.numbers(n, self.shape.measures)];
-        let mut labels = vec![0; report.label_bytes(n, self.shape.overlaps)];
+        let mut labels = vec![0; report.label_bytes(n, self.shape.skip)];
         let outcome = lent::search(
             &self.bytes,
             rows.entries(),
@@ -254,8 +259,7 @@ fn length(number: u64) -> Result<usize, Error> {
 struct Shape {
     columns: u8,
     measures: usize,
-    /// Whether two matches can share a row.
-    overlaps: bool,
+    skip: Skip,
 }
 
 impl Shape {
@@ -277,7 +281,10 @@ impl Shape {
         Some(Shape {
             columns: columns?,
             measures,
-            overlaps: skip? != Skip::PastLastRow.number(),
+            skip: match skip? {
+                0 => Skip::PastLastRow,
+                _ => Skip::ToNextRow,
+            },
         })
     }
 }
@@ -376,7 +383,7 @@ mod tests {
             Some(Shape {
                 columns: 1,
                 measures: 2,
-                overlaps: false
+                skip: Skip::PastLastRow
             })
         );
     }

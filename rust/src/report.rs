@@ -7,6 +7,7 @@ use std::slice::ChunksExact;
 
 use crate::error::{Error, DONE, STOPPED};
 use crate::lent::Outcome;
+use crate::query::Skip;
 
 /// Numbers of a match in front of its measures: match number, first row, rows taken.
 const HEAD: usize = 3;
@@ -57,10 +58,10 @@ impl ReportRoom {
 
     /// The label bytes to lend for n rows: one for each row, or, where matches may overlap, one for each row behind
     /// each start.
-    pub(crate) fn label_bytes(self, n: usize, overlaps: bool) -> usize {
-        let all = match overlaps {
-            false => n,
-            true => n.saturating_mul(n.saturating_add(1)).div_ceil(2),
+    pub(crate) fn label_bytes(self, n: usize, skip: Skip) -> usize {
+        let all = match skip {
+            Skip::PastLastRow => n,
+            Skip::ToNextRow => n.saturating_mul(n.saturating_add(1)).div_ceil(2),
         };
         self.labels.unwrap_or(all).min(all)
     }
@@ -372,13 +373,22 @@ mod tests {
     fn room_is_never_lent_beyond_need() {
         let all = ReportRoom::default();
         assert_eq!(
-            (all.numbers(4096, 8), all.label_bytes(4096, false)),
+            (
+                all.numbers(4096, 8),
+                all.label_bytes(4096, Skip::PastLastRow)
+            ),
             (77_824, 4096)
         );
-        assert_eq!(all.label_bytes(4096, true), 8_390_656);
+        assert_eq!(all.label_bytes(4096, Skip::ToNextRow), 8_390_656);
         let huge = ReportRoom::default().matches(usize::MAX).labels(usize::MAX);
-        assert_eq!((huge.numbers(5, 0), huge.label_bytes(5, true)), (15, 15));
+        assert_eq!(
+            (huge.numbers(5, 0), huge.label_bytes(5, Skip::ToNextRow)),
+            (15, 15)
+        );
         let none = ReportRoom::default().matches(0).labels(0);
-        assert_eq!((none.numbers(5, 0), none.label_bytes(5, true)), (0, 0));
+        assert_eq!(
+            (none.numbers(5, 0), none.label_bytes(5, Skip::ToNextRow)),
+            (0, 0)
+        );
     }
 }

@@ -1,6 +1,8 @@
 //! The C header and its example, by the compilers `cc` and `c++` (or those that CC and CXX name): both languages take
 //! the header without a warning, its structs have the size that this crate declares, and the example prints W1's match.
 
+#![allow(clippy::restriction)]
+
 use std::path::{Path, PathBuf};
 use std::process::{Command, Output};
 

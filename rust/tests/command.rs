@@ -1,6 +1,8 @@
 //! The command mireladle-match as a user runs it: what it prints for the shipped examples, its exit status, its
 //! messages, and the bytes that it writes for the program.
 
+#![allow(clippy::restriction)]
+
 use std::path::{Path, PathBuf};
 use std::process::{Command, Output};
 

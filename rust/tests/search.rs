@@ -1,6 +1,8 @@
 //! The safe interface over the linked library: the bench sheet W1 to W12, every refusal by its number, stopped reports,
 //! what lent buffers hold afterwards, and damaged queries.
 
+#![allow(clippy::restriction)]
+
 use mireladle::{
     col, lent, Ending, Error, Match, Measure, Query, QueryBuilder, Report, ReportRoom, Rows, Skip,
 };
@@ -290,76 +292,70 @@ fn the_largest_report_fits() {
     );
 }
 
+/// The buffers that W1 is lent, with what they hold before and after a search.
+struct Lent {
+    notes: Vec<u8>,
+    trail: Vec<u32>,
+    numbers: [i64; 10],
+    labels: [u8; 5],
+}
+
+impl Lent {
+    fn new(notes: usize, trail: usize) -> Lent {
+        Lent {
+            notes: vec![0xAA; notes],
+            trail: vec![7; trail],
+            numbers: [-7; 10],
+            labels: *b"?????",
+        }
+    }
+
+    /// Answer, matches, labels and steps.
+    fn search(&mut self, query: &[u8]) -> [u64; 4] {
+        let Lent {
+            notes,
+            trail,
+            numbers,
+            labels,
+        } = self;
+        let outcome = lent::search(query, &X, notes, trail, numbers, labels);
+        let lent::Outcome {
+            answer,
+            matches,
+            labels,
+            steps,
+        } = outcome;
+        [answer, matches, labels, steps]
+    }
+}
+
 #[test]
 fn lent_buffers_are_changed_as_promised() {
     let query = w1().to_bytes();
     let room = lent::room(&query, &X);
-    assert_eq!(
-        (
-            room.answer,
-            room.places,
-            room.rows,
-            room.pairs,
-            room.notes()
-        ),
-        (0, 5, 5, 30, 4)
-    );
-    let (mut notes, mut trail) = ([0xAA_u8; 6], [7_u32; 33]);
-    let (mut numbers, mut labels) = ([-7_i64; 10], [b'?'; 5]);
-    let outcome = lent::search(
-        &query,
-        &X,
-        &mut notes,
-        &mut trail,
-        &mut numbers,
-        &mut labels,
-    );
-    assert_eq!(
-        (
-            outcome.answer,
-            outcome.matches,
-            outcome.labels,
-            outcome.steps
-        ),
-        (0, 1, 3, 12)
-    );
-    assert_eq!(numbers, [1, 1, 3, 1, 2, 1, 115, -7, -7, -7]);
-    assert_eq!(&labels, b"AAB??");
-    assert_eq!((&trail[..30], &trail[30..]), (&[0; 30][..], &[7; 3][..]));
-    assert_eq!(notes[3] & 0xC0, 0, "spare bits");
-    assert_eq!(notes[4..], [0xAA; 2]);
+    let sizes = [room.answer, room.places, room.rows, room.pairs];
+    assert_eq!((sizes, room.notes()), ([0, 5, 5, 30], 4));
+    let mut lent = Lent::new(6, 33);
+    assert_eq!(lent.search(&query), [0, 1, 3, 12]);
+    assert_eq!(lent.numbers, [1, 1, 3, 1, 2, 1, 115, -7, -7, -7]);
+    assert_eq!(&lent.labels, b"AAB??");
+    assert_eq!(lent.trail, [vec![0; 30], vec![7; 3]].concat());
+    assert_eq!(lent.notes[3] & 0xC0, 0, "spare bits");
+    assert_eq!(lent.notes[4..], [0xAA; 2]);
     // Each step either failed or is a pair of the path found: A, A's fork, A, the fork again, B, END.
-    let failed: u32 = notes[..4].iter().map(|byte| byte.count_ones()).sum();
+    let failed: u32 = lent.notes[..4].iter().map(|byte| byte.count_ones()).sum();
     assert_eq!(failed + 6, 12);
 }
 
 #[test]
 fn refusals_change_no_lent_buffer() {
     let query = w1().to_bytes();
-    let lengths = [(3, 30, 11), (4, 29, 12), (0, 0, 11), (4, 0, 12)];
-    for (notes_length, trail_length, answer) in lengths {
-        let mut notes = vec![0xAA_u8; notes_length];
-        let mut trail = vec![7_u32; trail_length];
-        let (mut numbers, mut labels) = ([-7_i64; 10], [b'?'; 5]);
-        let outcome = lent::search(
-            &query,
-            &X,
-            &mut notes,
-            &mut trail,
-            &mut numbers,
-            &mut labels,
-        );
-        assert_eq!(
-            (
-                outcome.answer,
-                outcome.matches,
-                outcome.labels,
-                outcome.steps
-            ),
-            (answer, 0, 0, 0)
-        );
-        assert!(notes.iter().all(|byte| *byte == 0xAA) && trail.iter().all(|number| *number == 7));
-        assert_eq!((numbers, &labels), ([-7; 10], b"?????"));
+    for (notes, trail, answer) in [(3, 30, 11), (4, 29, 12), (0, 0, 11), (4, 0, 12)] {
+        let mut lent = Lent::new(notes, trail);
+        assert_eq!(lent.search(&query), [answer, 0, 0, 0]);
+        assert!(lent.notes.iter().all(|byte| *byte == 0xAA));
+        assert!(lent.trail.iter().all(|number| *number == 7));
+        assert_eq!((lent.numbers, &lent.labels), ([-7; 10], b"?????"));
     }
     assert_eq!(lent::room(&[], &X).answer, 2);
     assert_eq!(

@@ -1,15 +1,16 @@
 //! The bench sheet of document 01, W1 to W12, run on the engine; with them what
 //! the paper says of the lent buffers when a search is done, stopped or refused.
 
-use super::{room, search, SearchResult};
-use crate::query::*;
+use super::{refused, room, search};
+use mireladle::lent::Outcome;
+use mireladle::{col, Measure, Query, QueryBuilder, Skip};
 
 /// What every index of a buffer holds before a search.
 const FILL: u8 = 7;
 
 /// A search with buffers of generous length, and what it left in them.
 struct Searched {
-    result: SearchResult,
+    result: Outcome,
     notes: Vec<u8>,
     trail: Vec<u32>,
     numbers: Vec<i64>,
@@ -68,34 +69,31 @@ impl Searched {
     }
 }
 
-fn free(pattern: &str) -> Query {
-    Query::new(1, pattern).skip_past_last_row()
+fn free(pattern: &str) -> QueryBuilder {
+    Query::builder(1).pattern(pattern)
 }
 
 /// A is above 0.
-fn above_zero(pattern: &str) -> Query {
-    Query::new(1, pattern)
-        .define(b'A', &[with_number((0, 0), GREATER, 0)])
-        .skip_past_last_row()
+fn above_zero(pattern: &str) -> QueryBuilder {
+    free(pattern).define('A', [col(0).gt(0)])
 }
 
 fn answer(pattern: &str) -> u64 {
-    searched(&free(pattern).bytes, &[]).result.answer
+    searched(&free(pattern).to_bytes(), &[]).result.answer
 }
 
-fn places(pattern: &str) -> Option<usize> {
-    room(&free(pattern).bytes, &[]).map(|room| room.places).ok()
+fn places(pattern: &str) -> u64 {
+    room(&free(pattern).to_bytes(), &[]).places
 }
 
 const X: [i32; 5] = [100, 110, 120, 115, 130];
 
-fn w1() -> Query {
-    Query::new(1, "A+ B")
-        .define(b'A', &[with_previous(0, GREATER)])
-        .define(b'B', &[with_previous(0, LESS)])
-        .skip_past_last_row()
-        .measure(COUNT, b'A', 0)
-        .measure(LAST, b'B', 0)
+fn w1() -> QueryBuilder {
+    free("A+ B")
+        .define('A', [col(0).gt(col(0).prev(1))])
+        .define('B', [col(0).lt(col(0).prev(1))])
+        .measure(Measure::count().of('A'))
+        .measure(Measure::last(0).of('B'))
 }
 
 /// The bytes of W1 as the paper writes them.
@@ -110,20 +108,21 @@ fn w1_bytes() {
         .split_whitespace()
         .map(|byte| u8::from_str_radix(byte, 16).expect("two hexadecimal digits"))
         .collect();
-    assert_eq!(w1().bytes, bytes);
+    assert_eq!(w1().to_bytes(), bytes);
 }
 
 #[test]
 fn w1_rise_and_fall() {
-    let query = w1().bytes;
+    let query = w1().to_bytes();
+    let room = room(&query, &X);
     assert_eq!(
-        room(&query, &X).map(|room| (room.places, room.n)),
-        Ok((5, 5))
+        (room.answer, room.places, room.rows, room.pairs),
+        (0, 5, 5, 30)
     );
     let searched = searched(&query, &X);
     assert_eq!(
         searched.result,
-        SearchResult {
+        Outcome {
             answer: 0,
             matches: 1,
             labels: 3,
@@ -138,7 +137,7 @@ fn w1_rise_and_fall() {
 /// at 0; the second A at 3; and A at 4 with fork, second A and B at 5.
 #[test]
 fn w1_notes_and_trail() {
-    let searched = searched(&w1().bytes, &X);
+    let searched = searched(&w1().to_bytes(), &X);
     let failed = [(0, 0), (3, 2), (4, 0), (5, 1), (5, 2), (5, 3)];
     let mut notes = vec![0; 4];
     for (position, place) in failed {
@@ -153,7 +152,7 @@ fn w1_notes_and_trail() {
 
 #[test]
 fn w2_no_rows() {
-    let searched = searched(&w1().bytes, &[]);
+    let searched = searched(&w1().to_bytes(), &[]);
     assert_eq!((searched.result.answer, searched.result.steps), (0, 0));
     assert!(searched.matches().is_empty());
 }
@@ -161,7 +160,7 @@ fn w2_no_rows() {
 #[test]
 fn w3_greedy() {
     let query = above_zero("A*");
-    let searched = searched(&query.bytes, &[1, 1, 0]);
+    let searched = searched(&query.to_bytes(), &[1, 1, 0]);
     assert_eq!(searched.matches(), [(0, "AA"), (2, "")]);
     assert_eq!(searched.result.steps, 9);
 }
@@ -169,51 +168,51 @@ fn w3_greedy() {
 #[test]
 fn w4_reluctant() {
     let query = above_zero("A*?");
-    let searched = searched(&query.bytes, &[1, 1, 0]);
+    let searched = searched(&query.to_bytes(), &[1, 1, 0]);
     assert_eq!(searched.matches(), [(0, ""), (1, ""), (2, "")]);
     assert_eq!(searched.result.steps, 6);
 }
 
 #[test]
 fn w5_first_branch() {
-    let searched = searched(&free("B A | A B").bytes, &[1, 1]);
+    let searched = searched(&free("B A | A B").to_bytes(), &[1, 1]);
     assert_eq!(searched.matches(), [(0, "BA")]);
 }
 
 #[test]
 fn w6_skip_modes() {
-    let past = searched(&free("A A").bytes, &[1, 1, 1]);
+    let past = searched(&free("A A").to_bytes(), &[1, 1, 1]);
     assert_eq!(past.matches(), [(0, "AA")]);
     assert_eq!(past.result.steps, 5);
-    let next = searched(&Query::new(1, "A A").skip_to_next_row().bytes, &[1, 1, 1]);
+    let next = searched(&free("A A").skip(Skip::ToNextRow).to_bytes(), &[1, 1, 1]);
     assert_eq!(next.matches(), [(0, "AA"), (1, "AA")]);
     assert_eq!(next.result.steps, 8);
 }
 
 #[test]
 fn w7_behind_last_row() {
-    let searched = searched(&free("A $").bytes, &[1, 1]);
+    let searched = searched(&free("A $").to_bytes(), &[1, 1]);
     assert_eq!(searched.matches(), [(1, "A")]);
 }
 
 #[test]
 fn w8_w9_most_places() {
-    assert_eq!(places("(A{51}){5}"), Some(256));
+    assert_eq!(places("(A{51}){5}"), 256);
     assert_eq!(answer("(A{16}){16}"), 7);
 }
 
 #[test]
 fn w10_w11_repeated() {
     assert_eq!(answer("(A*)*"), 6);
-    assert_eq!(places("(A?){3}"), Some(7));
-    assert_eq!(places("(A+)+"), Some(8));
+    assert_eq!(places("(A?){3}"), 7);
+    assert_eq!(places("(A+)+"), 8);
 }
 
 #[test]
 fn w12_parentheses() {
     let nested = |deep: usize| format!("{}A{}", "(".repeat(deep), ")".repeat(deep));
     assert_eq!(answer(&nested(8)), 0);
-    assert_eq!(places(&nested(8)), Some(2));
+    assert_eq!(places(&nested(8)), 2);
     assert_eq!(answer(&nested(9)), 4);
 }
 
@@ -221,10 +220,10 @@ fn w12_parentheses() {
 #[test]
 fn stopped() {
     let query = free("A");
-    let searched = searched_with(&query.bytes, &[1, 1, 1], [1, 8, 5, 9]);
+    let searched = searched_with(&query.to_bytes(), &[1, 1, 1], [1, 8, 5, 9]);
     assert_eq!(
         searched.result,
-        SearchResult {
+        Outcome {
             answer: 13,
             matches: 1,
             labels: 1,
@@ -237,13 +236,13 @@ fn stopped() {
 }
 
 #[test]
-fn refused() {
-    let query = w1().bytes;
+fn refusals() {
+    let query = w1().to_bytes();
     let cut = searched(&query[..query.len() - 1], &X);
-    assert_eq!(cut.result, SearchResult::refused(1));
+    assert_eq!(cut.result, refused(1));
     let short_notes = searched_with(&query, &X, [3, 30, 64, 64]);
-    assert_eq!(short_notes.result, SearchResult::refused(11));
+    assert_eq!(short_notes.result, refused(11));
     let short_trail = searched_with(&query, &X, [4, 29, 64, 64]);
-    assert_eq!(short_trail.result, SearchResult::refused(12));
+    assert_eq!(short_trail.result, refused(12));
     assert!(cut.is_untouched() && short_notes.is_untouched() && short_trail.is_untouched());
 }

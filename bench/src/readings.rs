@@ -1,0 +1,123 @@
+//! What it takes to judge a query, by `room`, and to judge and unroll it, by a
+//! search over no rows: most of what a short search takes. The pattern's text is
+//! what can make it long, so most readings have one of 256 bytes, of the shapes
+//! that are hard on some part: many tokens, parentheses, branches, forks, copies of
+//! a body that has few places.
+
+use crate::engine;
+use crate::workloads::{self, Workload};
+use mireladle::lent::{self, Room};
+use mireladle::{Query, QueryBuilder};
+
+/// The judgement of an engine.
+pub type Judge = fn(query: &[u8], rows: &[i32]) -> Room;
+
+pub struct Reading {
+    pub name: &'static str,
+    pub about: &'static str,
+    pub query: QueryBuilder,
+}
+
+const MOST: usize = 256;
+
+pub fn all() -> Vec<Reading> {
+    let mut readings = vec![Reading {
+        name: "two-defines",
+        about: "A+ B with two DEFINEs",
+        query: workloads::rise_and_fall_query(),
+    }];
+    let texts: [(&str, &str, String); 13] = [
+        (
+            "mixed",
+            "(A|B C?)+ D{2,3}? again and again",
+            filled("", "(A|B C?)+ D{2,3}? ", "(^)?"),
+        ),
+        (
+            "letters",
+            "A B C .. again and again",
+            filled("", "A B C D ", "A"),
+        ),
+        ("spaces", "255 spaces, then A", filled("", " ", "A")),
+        ("branches", "A|A|A..", filled("", "A|", "A")),
+        ("options", "A? again and again", filled("", "A?", "B")),
+        (
+            "bounds",
+            "A{1,2} again and again",
+            filled("", "A{1,2}", "B"),
+        ),
+        (
+            "deep",
+            "A in 8 parentheses, again and again",
+            filled("", "((((((((A))))))))", "B"),
+        ),
+        ("empty", "() again and again", filled("", "()", "A")),
+        (
+            "empty-repeated",
+            "(()()..A){99}",
+            filled("(", "()", "A){99}"),
+        ),
+        (
+            "empty-in-two",
+            "((()()..A){15}){17}, P 256",
+            filled("((", "()", "A){15}){17}"),
+        ),
+        (
+            "empty-branches",
+            "((()|()|..|A){15}){8}, P 241",
+            filled("((", "()|", "A){15}){8}"),
+        ),
+        (
+            "too-many",
+            "((((((((A{,99}..){99}){99}..: answer 7",
+            too_many(),
+        ),
+        (
+            "outside",
+            "A? again and again and at the end AB: answer 5",
+            filled("", "A?", "AB"),
+        ),
+    ];
+    for (name, about, text) in texts {
+        readings.push(Reading {
+            name,
+            about,
+            query: Query::builder(1).pattern(text),
+        });
+    }
+    readings
+}
+
+/// A text of 256 bytes: `part` as often as there is room between `first` and
+/// `last`, then spaces.
+fn filled(first: &str, part: &str, last: &str) -> String {
+    let times = (MOST - first.len() - last.len()) / part.len();
+    let text = format!("{first}{}{last}", part.repeat(times));
+    format!("{text:MOST$}")
+}
+
+fn too_many() -> String {
+    let inner = "A{,99}".repeat(33);
+    format!("{}{inner}{}", "(".repeat(8), "){99}".repeat(8))
+}
+
+/// The accepted ones as searches over no rows.
+pub fn unrolled() -> Vec<Workload> {
+    let accepted = all().into_iter().filter(|it| it.query.build().is_ok());
+    accepted
+        .map(|it| Workload::new(it.name, it.about, it.query, vec![Vec::new()]))
+        .collect()
+}
+
+/// Whether both engines judge a reading alike; an Err says how not.
+pub fn compare(reading: &Reading) -> Result<(), String> {
+    let query = reading.query.to_bytes();
+    let yardstick = engine::room(&query, &[]);
+    let product = lent::room(&query, &[]);
+    match product == yardstick {
+        true => Ok(()),
+        false => Err(format!(
+            "{}: product {product:?}, yardstick {yardstick:?}",
+            reading.name
+        )),
+    }
+}
