@@ -33,10 +33,24 @@ pub fn search(
     numbers: &mut [i64],
     labels: &mut [u8],
 ) -> Outcome {
-    match accepted_search(query, rows, notes, trail, numbers, labels) {
-        Ok(outcome) => outcome,
-        Err(answer) => refused(answer),
-    }
+    // An Err is the lowest of the answers 1 to 12 that applies.
+    let mut accepted = || {
+        let query = query::read(query)?;
+        let mut pattern = Pattern::new();
+        let rows = accept(&query, &mut pattern, rows)?;
+        let pairs = pattern.count * (rows.n + 1);
+        let notes = notes.get_mut(..pairs.div_ceil(8)).ok_or(11_u64)?;
+        let trail = trail.get_mut(..pairs).ok_or(12_u64)?;
+        let mut report = Report::new(numbers, labels, query.measures());
+        let (done, steps) = walk::search(&query, &pattern, rows, notes, trail, &mut report);
+        Ok(Outcome {
+            answer: if done { 0 } else { STOPPED },
+            matches: report.matches as u64,
+            labels: report.labels_written as u64,
+            steps,
+        })
+    };
+    accepted().unwrap_or_else(refused)
 }
 
 fn refused(answer: u64) -> Outcome {
@@ -67,31 +81,6 @@ fn sizes(query: &[u8], rows: &[i32]) -> Result<(usize, usize), u64> {
     let mut pattern = Pattern::new();
     let rows = accept(&query, &mut pattern, rows)?;
     Ok((pattern.count, rows.n))
-}
-
-/// The search, or the lowest of the answers 1 to 12 that applies.
-fn accepted_search(
-    query: &[u8],
-    rows: &[i32],
-    notes: &mut [u8],
-    trail: &mut [u32],
-    numbers: &mut [i64],
-    labels: &mut [u8],
-) -> Result<Outcome, u64> {
-    let query = query::read(query)?;
-    let mut pattern = Pattern::new();
-    let rows = accept(&query, &mut pattern, rows)?;
-    let pairs = pattern.count * (rows.n + 1);
-    let notes = notes.get_mut(..pairs.div_ceil(8)).ok_or(11_u64)?;
-    let trail = trail.get_mut(..pairs).ok_or(12_u64)?;
-    let mut report = Report::new(numbers, labels, query.measures());
-    let (done, steps) = walk::search(&query, &pattern, rows, notes, trail, &mut report);
-    Ok(Outcome {
-        answer: if done { 0 } else { STOPPED },
-        matches: report.matches as u64,
-        labels: report.labels_written as u64,
-        steps,
-    })
 }
 
 /// Reads the pattern of a query that has none of the answers 1 to 3, and takes

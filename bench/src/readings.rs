@@ -20,76 +20,55 @@ pub struct Reading {
 
 const MOST: usize = 256;
 
+/// Name, the text in short, and what it is made of: see `filled`.
+const TEXTS: [(&str, &str, [&str; 3]); 12] = [
+    (
+        "mixed",
+        "(A|B C?)+ D{2,3}? ..",
+        ["", "(A|B C?)+ D{2,3}? ", "^?"],
+    ),
+    ("letters", "A B C D ..", ["", "A B C D ", "A"]),
+    ("spaces", "255 spaces, then A", ["", " ", "A"]),
+    ("branches", "A|A|A..", ["", "A|", "A"]),
+    ("options", "A?A?..", ["", "A?", "B"]),
+    ("bounds", "A{1,2}A{1,2}..", ["", "A{1,2}", "B"]),
+    (
+        "deep",
+        "A in 8 parentheses ..",
+        ["", "((((((((A))))))))", "B"],
+    ),
+    ("empty", "()()..A", ["", "()", "A"]),
+    ("empty-repeated", "(()()..A){99}", ["(", "()", "A){99}"]),
+    (
+        "empty-in-two",
+        "((()()..A){15}){17}",
+        ["((", "()", "A){15}){17}"],
+    ),
+    (
+        "empty-branches",
+        "((()|()|..A){15}){8}",
+        ["((", "()|", "A){15}){8}"],
+    ),
+    ("outside", "A?A?..AB: answer 5", ["", "A?", "AB"]),
+];
+
 pub fn all() -> Vec<Reading> {
-    let mut readings = vec![Reading {
-        name: "two-defines",
-        about: "A+ B with two DEFINEs",
-        query: workloads::rise_and_fall_query(),
-    }];
-    let texts: [(&str, &str, String); 13] = [
-        (
-            "mixed",
-            "(A|B C?)+ D{2,3}? again and again",
-            filled("", "(A|B C?)+ D{2,3}? ", "(^)?"),
-        ),
-        (
-            "letters",
-            "A B C .. again and again",
-            filled("", "A B C D ", "A"),
-        ),
-        ("spaces", "255 spaces, then A", filled("", " ", "A")),
-        ("branches", "A|A|A..", filled("", "A|", "A")),
-        ("options", "A? again and again", filled("", "A?", "B")),
-        (
-            "bounds",
-            "A{1,2} again and again",
-            filled("", "A{1,2}", "B"),
-        ),
-        (
-            "deep",
-            "A in 8 parentheses, again and again",
-            filled("", "((((((((A))))))))", "B"),
-        ),
-        ("empty", "() again and again", filled("", "()", "A")),
-        (
-            "empty-repeated",
-            "(()()..A){99}",
-            filled("(", "()", "A){99}"),
-        ),
-        (
-            "empty-in-two",
-            "((()()..A){15}){17}, P 256",
-            filled("((", "()", "A){15}){17}"),
-        ),
-        (
-            "empty-branches",
-            "((()|()|..|A){15}){8}, P 241",
-            filled("((", "()|", "A){15}){8}"),
-        ),
-        (
-            "too-many",
-            "((((((((A{,99}..){99}){99}..: answer 7",
-            too_many(),
-        ),
-        (
-            "outside",
-            "A? again and again and at the end AB: answer 5",
-            filled("", "A?", "AB"),
-        ),
-    ];
-    for (name, about, text) in texts {
-        readings.push(Reading {
-            name,
-            about,
-            query: Query::builder(1).pattern(text),
-        });
+    let reading = |name, about, query| Reading { name, about, query };
+    let two = workloads::rise_and_fall_query();
+    let mut readings = vec![reading("two-defines", "A+ B with two DEFINEs", two)];
+    for (name, about, parts) in TEXTS {
+        let query = Query::builder(1).pattern(filled(parts));
+        readings.push(reading(name, about, query));
     }
+    let query = Query::builder(1).pattern(too_many());
+    let about = "(((A{,99}..){99}){99}..: answer 7";
+    readings.push(reading("too-many", about, query));
     readings
 }
 
 /// A text of 256 bytes: `part` as often as there is room between `first` and
 /// `last`, then spaces.
-fn filled(first: &str, part: &str, last: &str) -> String {
+fn filled([first, part, last]: [&str; 3]) -> String {
     let times = (MOST - first.len() - last.len()) / part.len();
     let text = format!("{first}{}{last}", part.repeat(times));
     format!("{text:MOST$}")
