@@ -91,8 +91,13 @@ pub struct Report {
 }
 
 impl Report {
-    /// Takes the lent buffers over after a search.
-    pub(crate) fn new(
+    /// Reads the report that a search left in the buffers it was lent, [`lent::search`](crate::lent::search) above all.
+    ///
+    /// # Errors
+    ///
+    /// The refusal that the outcome is; [`Error::OtherLibrary`] where numbers and labels are not those of so many
+    /// matches with so many measures.
+    pub fn new(
         outcome: &Outcome,
         mut numbers: Vec<i64>,
         mut labels: Vec<u8>,

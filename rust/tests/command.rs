@@ -255,12 +255,14 @@ fn files_that_are_no_text_or_not_there() {
 fn the_command_line() {
     let help = run(&["--help"]);
     assert_eq!(status(&help), 0);
-    assert!(text(&help.stdout).contains("usage: mireladle-match [--bytes] QUERY.txt ROWS.csv"));
+    let usage = "usage: mireladle-match [--bytes | --program PATH] QUERY.txt ROWS.csv";
+    assert!(text(&help.stdout).contains(usage));
     for wrong in [
         &[][..],
         &["one"],
         &["one", "two", "three"],
         &["--byte", "one", "two"],
+        &["one", "two", "--program"],
     ] {
         let output = run(wrong);
         assert_eq!(
@@ -270,4 +272,48 @@ fn the_command_line() {
         );
         assert!(text(&output.stderr).contains("usage: "), "{wrong:?}");
     }
+}
+
+/// A script in the place of the program: it keeps what it reads in a file and prints what it is told to.
+fn stand_in(name: &str, prints: &str) -> (String, String) {
+    use std::os::unix::fs::PermissionsExt;
+    let input = file(&format!("{name}.input"), "");
+    let script = format!("#!/bin/sh\ncat > '{input}'\nprintf '{prints}'\n");
+    let path = file(&format!("{name}.sh"), script);
+    std::fs::set_permissions(&path, std::fs::Permissions::from_mode(0o755)).unwrap();
+    (path, input)
+}
+
+#[test]
+fn a_program_searches_in_the_place_of_the_library() {
+    let files = [
+        &example("rising-falling.txt"),
+        &example("rising-falling.csv"),
+    ];
+    let (program, input) = stand_in("program", "matches 1 steps 12\\n1 1 3 AAB 2 115\\n");
+    let output = run(&["--program", &program, files[0], files[1]]);
+    let by_library = run(&[files[0], files[1]]);
+    assert_eq!((status(&output), text(&output.stderr)), (0, ""));
+    assert_eq!(text(&output.stdout), text(&by_library.stdout));
+    let bytes = run(&["--bytes", files[0], files[1]]);
+    assert_eq!(std::fs::read(input).unwrap(), bytes.stdout);
+}
+
+#[test]
+fn a_program_that_refuses_or_says_something_else() {
+    let files = [example("release.txt"), example("release.csv")];
+    let message = |program: &str| {
+        let output = run(&["--program", program, &files[0], &files[1]]);
+        assert_eq!(text(&output.stdout), "");
+        let message = text(&output.stderr).replace(env!("CARGO_TARGET_TMPDIR"), "");
+        (status(&output), message)
+    };
+    let refused = "refused 9: a measure names a letter that is not in the pattern\n";
+    let (program, _) = stand_in("refuses", "refused 9\\n");
+    assert_eq!(message(&program), (1, String::from(refused)));
+    let large = "/large.sh: expected the lines of a report, found `too large`\n";
+    let (program, _) = stand_in("large", "too large\\n");
+    assert_eq!(message(&program), (2, String::from(large)));
+    let missing = message("/no/such/program");
+    assert!(missing.0 == 2 && missing.1.starts_with("/no/such/program: "));
 }

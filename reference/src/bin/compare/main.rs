@@ -7,6 +7,8 @@
 //!   compare SEED COUNT NAME..  so many cases of the random streams of these names, or of all
 //!   compare --only NAME..      the streams of these names at their usual length
 //!   compare --fault NAME..     the faults of these names, or all, with their shrunk cases
+//!   compare --program PATH [SEED COUNT]
+//!                              the program there, on so many standard inputs
 //!   compare --list             the names of streams and faults
 //! In front of these, --show prints every case before it is run.
 //!
@@ -18,6 +20,7 @@ mod engine;
 mod faults;
 #[cfg_attr(any(test, not(mireladle)), allow(dead_code))]
 mod lent;
+mod program;
 mod readable;
 mod shrink;
 mod streams;
@@ -27,6 +30,7 @@ mod tests;
 use case::Case;
 use engine::Engine;
 use faults::{Fault, Faulty, FAULTS};
+use std::path::Path;
 use std::process::ExitCode;
 use std::time::Instant;
 use streams::{Cases, Stream, STREAMS};
@@ -37,6 +41,8 @@ const SEED: u64 = 1;
 const PRINTED: usize = 3;
 /// How many cases of each stream a fault may pass unseen.
 const UNSEEN: usize = 3_000;
+/// How many standard inputs the program gets in the gate.
+const STDINS: usize = 4_000;
 
 struct Counts {
     passed: usize,
@@ -62,7 +68,7 @@ fn main() -> ExitCode {
         },
     };
     if !run.words(&words) {
-        eprintln!("compare [--show] [SEED COUNT NAME.. | --only NAME.. | --fault NAME.. | --list]");
+        eprintln!("compare [--show] [SEED COUNT NAME.. | --only NAME.. | --fault NAME.. | --program PATH [SEED COUNT] | --list]");
         return ExitCode::from(2);
     }
     let Counts { passed, failed } = run.counts;
@@ -106,6 +112,17 @@ impl Run<'_> {
                 self.streams(names, |stream| Some((SEED, stream.count))) && !names.is_empty()
             }
             ["--fault", names @ ..] => self.faults(names, true),
+            ["--program", path] => {
+                self.program(Path::new(path), SEED, STDINS);
+                true
+            }
+            ["--program", path, seed, count] => match (seed.parse(), count.parse()) {
+                (Ok(seed), Ok(count)) => {
+                    self.program(Path::new(path), seed, count);
+                    true
+                }
+                _ => false,
+            },
             [seed, count, names @ ..] => match (seed.parse(), count.parse()) {
                 (Ok(seed), Ok(count)) => self.streams(names, |stream: &Stream| {
                     stream.count.map(|_| (seed, Some(count)))
@@ -156,6 +173,21 @@ impl Run<'_> {
         println!("{name}: {passed} alike, {failed} different, {seconds:.1} s");
         self.counts.passed += passed;
         self.counts.failed += failed;
+    }
+
+    fn program(&mut self, path: &Path, seed: u64, count: usize) {
+        for (number, input) in program::inputs(seed, count).enumerate() {
+            if program::agrees(path, &input) {
+                self.counts.passed += 1;
+                continue;
+            }
+            self.counts.failed += 1;
+            if self.counts.failed <= PRINTED {
+                let small = program::shrink(path, &input);
+                let text = program::difference(path, &small);
+                println!("DIFFERENCE of the program, number {number}, shrunk to\n{text}");
+            }
+        }
     }
 
     /// Puts the faults of these names, or all, on the product; each that is found

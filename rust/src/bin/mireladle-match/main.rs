@@ -11,6 +11,7 @@ mod define_text;
 mod fault;
 mod measure_text;
 mod print;
+mod program;
 mod query_text;
 mod words;
 
@@ -19,17 +20,18 @@ use std::io::{self, BufWriter, Write};
 use std::path::{Path, PathBuf};
 use std::process::ExitCode;
 
-use mireladle::{Error, Query, Rows};
+use mireladle::{Error, Query, Report, Rows};
 
 use csv::Table;
 use fault::Fault;
 use print::Printed;
+use program::Failed;
 use query_text::QueryText;
 
 const HELP: &str = "\
 mireladle-match: search rows of whole numbers for a row pattern (SQL's MATCH_RECOGNIZE)
 
-usage: mireladle-match [--bytes] QUERY.txt ROWS.csv
+usage: mireladle-match [--bytes | --program PATH] QUERY.txt ROWS.csv
 
 ROWS.csv   The first line names the columns, 1 to 8; every other line is a row of
            whole numbers. The rows are one partition, in order, at most 4,096.
@@ -48,6 +50,8 @@ QUERY.txt  Lines in any order; # begins a comment.
            Measures are COUNT, SUM, MIN, MAX, FIRST, LAST; over all rows of the match,
            or over those with one letter.
 
+--program PATH
+           Search by running the program `mireladle` there, not by the linked library.
 --bytes    Write the query and the rows to standard output as the program `mireladle`
            reads them from its standard input, and search nothing.
 --help     Print this.
@@ -59,8 +63,16 @@ Rows count from 0. Exit status: 0 done, 1 the search refused, 2 wrong input.
 /// What the command line asks for.
 enum Task {
     Help,
-    Search { query: PathBuf, rows: PathBuf },
-    Bytes { query: PathBuf, rows: PathBuf },
+    Search {
+        /// The program to run; without one, the library searches.
+        program: Option<PathBuf>,
+        query: PathBuf,
+        rows: PathBuf,
+    },
+    Bytes {
+        query: PathBuf,
+        rows: PathBuf,
+    },
 }
 
 /// Why there is no result.
@@ -80,6 +92,8 @@ enum Failure {
         error: Error,
         pattern: Option<(PathBuf, usize, String)>,
     },
+    /// The program cannot be run, or what it printed is no report.
+    Program { path: PathBuf, reason: String },
     /// The output cannot be written.
     Output(io::Error),
 }
@@ -102,15 +116,22 @@ fn main() -> ExitCode {
 }
 
 /// Reads the command line.
-fn task(arguments: impl Iterator<Item = OsString>) -> Result<Task, Failure> {
+fn task(mut arguments: impl Iterator<Item = OsString>) -> Result<Task, Failure> {
     let mut bytes = false;
+    let mut program = None;
     let mut paths = Vec::new();
     let mut options = true;
-    for argument in arguments {
+    while let Some(argument) = arguments.next() {
         match argument.to_str() {
             Some("--") if options => options = false,
             Some("--help" | "-h") if options => return Ok(Task::Help),
             Some("--bytes") if options => bytes = true,
+            Some("--program") if options => {
+                let path = arguments.next().ok_or_else(|| {
+                    Failure::Usage(String::from("--program needs the program's path"))
+                })?;
+                program = Some(PathBuf::from(path));
+            }
             Some(other) if options && other.starts_with('-') && other != "-" => {
                 return Err(Failure::Usage(format!("there is no option {other}")));
             }
@@ -119,7 +140,11 @@ fn task(arguments: impl Iterator<Item = OsString>) -> Result<Task, Failure> {
     }
     match <[PathBuf; 2]>::try_from(paths) {
         Ok([query, rows]) if bytes => Ok(Task::Bytes { query, rows }),
-        Ok([query, rows]) => Ok(Task::Search { query, rows }),
+        Ok([query, rows]) => Ok(Task::Search {
+            program,
+            query,
+            rows,
+        }),
         Err(paths) => {
             let count = paths.len();
             Err(Failure::Usage(format!(
@@ -132,9 +157,13 @@ fn task(arguments: impl Iterator<Item = OsString>) -> Result<Task, Failure> {
 fn run(task: &Task, out: &mut impl Write) -> Result<(), Failure> {
     match task {
         Task::Help => out.write_all(HELP.as_bytes()).map_err(Failure::Output),
-        Task::Search { query, rows } => {
+        Task::Search {
+            program,
+            query,
+            rows,
+        } => {
             let (text, table) = read_both(query, rows)?;
-            search(&text, &table, query, out)
+            search(&text, &table, query, program.as_deref(), out)
         }
         Task::Bytes { query, rows } => {
             let (text, table) = read_both(query, rows)?;
@@ -199,6 +228,7 @@ fn search(
     text: &QueryText,
     table: &Table,
     query_path: &Path,
+    program: Option<&Path>,
     out: &mut impl Write,
 ) -> Result<(), Failure> {
     let refused = |error: Error| {
@@ -213,9 +243,14 @@ fn search(
             pattern: about_pattern.then_some(pattern),
         }
     };
-    let query = Query::from_bytes(text.builder.to_bytes()).map_err(refused)?;
-    let rows = Rows::new(&table.entries, query.columns());
-    let report = query.search(rows).map_err(refused)?;
+    let columns = u8::try_from(table.names.len()).unwrap_or(u8::MAX);
+    let rows = Rows::new(&table.entries, columns);
+    let report = match program {
+        Some(path) => search_by_program(path, text, table, refused)?,
+        None => Query::from_bytes(text.builder.to_bytes())
+            .and_then(|query| query.search(rows))
+            .map_err(refused)?,
+    };
     let printed = Printed {
         report: &report,
         rows,
@@ -223,6 +258,24 @@ fn search(
         titles: &text.titles,
     };
     printed.write(out).map_err(Failure::Output)
+}
+
+fn search_by_program(
+    path: &Path,
+    text: &QueryText,
+    table: &Table,
+    refused: impl Fn(Error) -> Failure,
+) -> Result<Report, Failure> {
+    let strange = |reason: String| Failure::Program {
+        path: path.to_path_buf(),
+        reason,
+    };
+    let searched = program::search(path, program_input(text, table), text.titles.len());
+    searched.map_err(|failed| match failed {
+        Failed::Refused(error) => refused(error),
+        Failed::Run(error) => strange(error.to_string()),
+        Failed::Line(line) => strange(format!("expected the lines of a report, found `{line}`")),
+    })
 }
 
 /// The standard input of the program `mireladle`: the query's length in 2 bytes, the query, the entries in 4 bytes each.
@@ -247,13 +300,14 @@ impl Failure {
     fn message(&self) -> String {
         match self {
             Failure::Usage(reason) => {
-                format!("{reason}\nusage: mireladle-match [--bytes] QUERY.txt ROWS.csv (--help tells more)")
+                format!("{reason}\nusage: mireladle-match [--bytes | --program PATH] QUERY.txt ROWS.csv (--help tells more)")
             }
             Failure::File { path, error } => format!("{}: {error}", path.display()),
             Failure::Text { path, text, fault } => {
                 format!("{}:{fault}{}", path.display(), fault.marked(text))
             }
             Failure::Refused { error, pattern } => refusal(*error, pattern.as_ref()),
+            Failure::Program { path, reason } => format!("{}: {reason}", path.display()),
             Failure::Output(error) => format!("the output cannot be written: {error}"),
         }
     }
