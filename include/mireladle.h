@@ -1,9 +1,10 @@
 /*
  * Mireladle: a verified search for SQL row patterns (MATCH_RECOGNIZE) over ordered rows of whole numbers.
  *
- * This is the whole C interface of libmireladle_c.a, for C11 and C++17. Every query, all rows and all buffers get an
- * answer: a caller checks nothing first. The functions allocate nothing, keep no pointer and no state between calls,
- * and may run on several threads at once as long as no thread writes into what another one lends.
+ * This is the whole C interface of libmireladle_c.a, for C11 and C++17 on x86-64 Linux. `rt staticlib mireladle_c`
+ * builds the library, which needs nothing beside the C library. Every query, all rows and all buffers get an answer: a
+ * caller checks nothing first. The functions allocate nothing, keep no pointer and no state between calls, and may run
+ * on several threads at once as long as no thread writes into what another one lends.
  */
 #ifndef MIRELADLE_H
 #define MIRELADLE_H

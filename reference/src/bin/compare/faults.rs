@@ -333,8 +333,7 @@ pub const FAULTS: [Fault; 51] = [
         };
         for one in search.matches() {
             let measures = accepted.query.measures.iter().zip(one[3..].chunks_mut(2));
-            for (measure, written) in measures.filter(|(measure, _)| measure.function == SUM) {
-                debug_assert!(measure.column < 8);
+            for (_, written) in measures.filter(|(measure, _)| measure.function == SUM) {
                 written[1] = i64::from(written[1] as i32);
             }
         }

@@ -56,7 +56,7 @@ pub const STREAMS: [Stream; 18] = [
     ),
     listed(
         "tables",
-        "patterns on every truth table of two letters, up to 3 rows",
+        "patterns on every truth table of two letters, up to 4 rows",
         every_table,
     ),
     listed(
@@ -216,7 +216,7 @@ const TABLED: [&[u8]; 32] = [
 ];
 
 fn every_table(seed: u64) -> Cases {
-    searches(seed, mix::every_table(&TABLED, 3))
+    searches(seed, mix::every_table(&TABLED, 4))
 }
 
 /// Drafts with matches, on which all combinations of rooms are tried.
