@@ -24,7 +24,8 @@ use Rattle.rules.proofs.Signed.{read-back}
 use Rattle.rules.proofs.Appended.{wrote-none, wrote-on, length-wrote-at}
 use Rattle.report.specs.declared.Outcome.{Outcome}
 use Rattle.report.specs.declared.Outcome.the-variants.{Null, Number}
-use Rattle.report.specs.Measures.{measureBy, measuresIn, numbersFor, Readable, Reportable}
+use Rattle.report.specs.Measures.{measureBy, numbersFor, Readable, Reportable}
+use Rattle.decode.specs.Layout.{measureIn, measuresIn}
 use Rattle.report.proofs.Joins.{held}
 
 -- ---- two and three
@@ -60,24 +61,24 @@ put-number l l' at o v f e q = q ∙ ap (λ (x : ℤ). wrote l at (pos 1 ∷ x �
 
 -- ---- the measures in flat bytes
 
-pub measure-is : (ms : List ℕ) (k f l c : ℕ) → f ≡ getD ms (k * 3) 0 → l ≡ getD ms (k * 3 + 1) 0 → c ≡ getD ms (k * 3 + 2) 0 → measureBy f l c ≡ Q.measureAt ms (k * 3)
-unfolding Q.measureAt
+pub measure-is : (ms : List ℕ) (k f l c : ℕ) → f ≡ getD ms (k * 3) 0 → l ≡ getD ms (k * 3 + 1) 0 → c ≡ getD ms (k * 3 + 2) 0 → measureBy f l c ≡ measureIn ms k
+unfolding measureIn
 measure-is ms k f l c ef el ec = rw (ef, el, ec)
 
-column-is : (ms : List ℕ) (k f l c : ℕ) → measureBy f l c ≡ Q.measureAt ms (k * 3) → c ≡ getD ms (k * 3 + 2) 0
-unfolding Q.measureAt
+column-is : (ms : List ℕ) (k f l c : ℕ) → measureBy f l c ≡ measureIn ms k → c ≡ getD ms (k * 3 + 2) 0
+unfolding measureIn
 column-is ms k f l c e = ap (λ (m : Q.Measure). m .column) e
 
 pub readable-one : (numbers : List ℤ) (at : ℕ) (ms : List ℕ) (count : ℕ) (rows : List ℤ) (columns first long k f l c : ℕ)
     → Reportable numbers at ms count rows columns first long → k < count
-    → measureBy f l c ≡ Q.measureAt ms (k * 3) → Readable rows columns first long c
+    → measureBy f l c ≡ measureIn ms k → Readable rows columns first long c
 readable-one numbers at ms count rows columns first long k f l c h q e =
     record { few = h .few; there = h .there; is-column = rw (column-is ms k f l c e) (h .columned k q) }
 
 -- there are `count` of them
 pub measures-many : (ms : List ℕ) (count : ℕ) → length (measuresIn ms count) ≡ count
 unfolding measuresIn
-measures-many ms count = length-tabulate count (λ k. Q.measureAt ms (k * 3))
+measures-many ms count = length-tabulate count (measureIn ms)
 
 module _ (t : Table) (row : ℕ) (ls : List ℕ) where
   measures-on : (xs : List Q.Measure) (m : Q.Measure) → measureNumbers t row ls (xs ++ (m ∷ [])) ≡ measureNumbers t row ls xs ++ twoOf (measured t row ls m)
@@ -88,10 +89,10 @@ module _ (t : Table) (row : ℕ) (ls : List ℕ) where
       ∙ sym (append-assoc (twoOf (measured t row ls x)) (measureNumbers t row ls xs) (twoOf (measured t row ls m)))
 
   cells-on : (ms : List ℕ) (k : ℕ) → measureNumbers t row ls (measuresIn ms (k + 1)) ≡ measureNumbers t row ls (measuresIn ms k) ++ twoOf
-      (measured t row ls (Q.measureAt ms (k * 3)))
+      (measured t row ls (measureIn ms k))
   unfolding measuresIn tabulate
-  cells-on ms k = ap (λ (i : ℕ). measureNumbers t row ls (tabulate i (λ j. Q.measureAt ms (j * 3)))) (add-one k)
-      ∙ measures-on (tabulate k (λ j. Q.measureAt ms (j * 3))) (Q.measureAt ms (k * 3))
+  cells-on ms k = ap (λ (i : ℕ). measureNumbers t row ls (tabulate i (measureIn ms))) (add-one k)
+      ∙ measures-on (tabulate k (measureIn ms)) (measureIn ms k)
 
   cells-long : (ms : List ℕ) (k : ℕ) → length (measureNumbers t row ls (measuresIn ms k)) ≡ k * 2
   unfolding matchNumbers
@@ -110,13 +111,13 @@ module _ (l₀ : List ℤ) (at : ℕ) (ms : List ℕ) (count : ℕ) (t : Table) 
   unfolding measuresIn tabulate measureNumbers
   reporting-none h = record { upto = omega arith; room = h; long = refl; is = sym (wrote-none l₀ at) }
 
-  pub reporting-more : (l l' : List ℤ) (k f let' c : ℕ) (o : Outcome) → Reporting l₀ at ms count t first ls l k → k < count → measureBy f let' c ≡ Q.measureAt ms (k * 3)
+  pub reporting-more : (l l' : List ℤ) (k f let' c : ℕ) (o : Outcome) → Reporting l₀ at ms count t first ls l k → k < count → measureBy f let' c ≡ measureIn ms k
       → numbersFor o ≡ twoOf (measured t first ls (measureBy f let' c)) → l' ≡ wrote l (at + k * 2) (numbersFor o) → Reporting l₀ at ms count t first ls l' (k + 1)
   reporting-more l l' k f let' c o h q em eo el =
       let ft = h .room in
       let xs : List ℤ = measureNumbers t first ls (measuresIn ms k) in
       let lm : length xs ≡ k * 2 = cells-long t first ls ms k in
-      let r : numbersFor o ≡ twoOf (measured t first ls (Q.measureAt ms (k * 3))) = eo ∙ ap (λ (m : Q.Measure). twoOf (measured t first ls m)) em in
+      let r : numbersFor o ≡ twoOf (measured t first ls (measureIn ms k)) = eo ∙ ap (λ (m : Q.Measure). twoOf (measured t first ls m)) em in
       let e : l' ≡ wrote l₀ at (measureNumbers t first ls (measuresIn ms (k + 1))) =
       el ∙ ap (λ (v : List ℤ). wrote v (at + k * 2) (numbersFor o)) (h .is)
       ∙ ap (λ (i : ℕ). wrote (wrote l₀ at xs) (at + i) (numbersFor o)) (sym lm)

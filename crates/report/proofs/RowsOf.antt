@@ -321,3 +321,8 @@ module _ (rows : List ℤ) (columns first long column : ℕ) (h : Readable rows 
       let g = row-inside i l in
       let m : (first + i + 1) * 1 ≤ (first + i + 1) * columns = mul-le-mul (le-refl (first + i + 1)) (let e : 1 ≤ columns = omega (arith, h .is-column) in e) in
       omega (arith, g .there)
+
+-- a measure's column as an index is that column
+pub same-column : (t : Table) (first : ℕ) (ls : List ℕ) (f letter column index : ℕ) (r : Outcome) → index ≡ column
+    → numbersFor r ≡ twoOf (measured t first ls (measureBy f letter index)) → numbersFor r ≡ twoOf (measured t first ls (measureBy f letter column))
+same-column t first ls f letter column index r e q = q ∙ ap (λ (c : ℕ). twoOf (measured t first ls (measureBy f letter c))) e

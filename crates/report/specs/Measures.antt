@@ -9,7 +9,6 @@ use lib.IntN.{ℤ, pos}
 use lib.ListN.{length, getD}
 use Rattle.rules.specs.Basics.{pick, tabulate}
 use Rattle.rules.specs.Query as Q
-use Rattle.report.specs.declared.Measure.{Measure}
 use Rattle.report.specs.declared.Outcome.{Outcome}
 use Rattle.report.specs.declared.Outcome.the-variants.{Null, Number}
 use Rattle.report.specs.declared.Found.{Found}
@@ -18,13 +17,6 @@ use Rattle.report.specs.declared.Found.the-variants.{At, Nothing}
 -- a measure as the query has it
 abbrev pub measureBy : ℕ → ℕ → ℕ → Q.Measure
 measureBy function letter column = record { function = function; letter = letter; column = column }
-
-abbrev pub measureOf : Measure → Q.Measure
-measureOf m = measureBy (m .function) (m .letter) (m .column)
-
--- `count` measures in flat bytes, three to a measure: function, letter, column
-unfoldable pub measuresIn : List ℕ → ℕ → List Q.Measure
-measuresIn ms count = tabulate count (λ k. Q.measureAt ms (k * 3))
 
 -- document 01's numbers for an outcome: 0 and 0 for null, 1 and the result for a number
 unfoldable pub numbersFor : Outcome → List ℤ

@@ -1,6 +1,7 @@
 // The report of a match: six measures over its rows, and the numbers that it appends behind those of the matches before it.
 // A match is appended whole or not at all: fits_whole says whether it fits. Sums are exact: 4,096 entries of 32 bits lie well within 64 bits.
 // A measure takes at most one pass over the labels of the match; over all rows, COUNT, FIRST and LAST take none.
+use decode::Measure;
 ghost use mathlib.Core.Path.{_≡_};
 ghost use mathlib.Core.Bool.{true, false};
 ghost use mathlib.Core.List.{List, [], _∷_};
@@ -11,42 +12,11 @@ ghost use lib.Signed.{mag};
 ghost use lib.ListN.{length, getD, drop};
 ghost use Rattle.rules.specs.Basics.{pick, wrote};
 ghost use Rattle.rules.specs.Rows.{tableOf, entry};
-ghost use Rattle.rules.specs.Query.{measureAt};
 ghost use Rattle.rules.specs.Query as Q;
+ghost use Rattle.decode.specs.Layout.{measureIn, measuresIn};
+ghost use Rattle.decode.specs.Steps.{measureOf};
 ghost use Rattle.rules.specs.Report.{joined, values, overSome, resultOf, measured, twoOf, measureNumbers, matchNumbers, fits};
-ghost use Rattle.report.specs.Measures.{measureBy, measureOf, measuresIn, numbersFor, isOf, countOf, FirstAt, IsFirst, LastAt, Inside, Readable, Reportable, Appendable};
-
-// A measure of the query: its function, the letter of its rows or 0 for all rows, and its column.
-pub struct Measure {
-    pub function: u8,
-    pub letter: u8,
-    pub column: usize,
-}
-
-impl Measure {
-    pub const COUNT: u8 = 1;
-
-    pub const SUM: u8 = 2;
-
-    pub const MIN: u8 = 3;
-
-    pub const MAX: u8 = 4;
-
-    pub const FIRST: u8 = 5;
-
-    pub const LAST: u8 = 6;
-
-    // The measure of checked record bytes.
-    pub fn make(function: u8, letter: u8, column: u8) -> Measure
-        ensures { λ r. ⌜ (r .function ≡ function) × (r .letter ≡ letter) × (r .column ≡ column) ⌝ }
-    {
-        Measure {
-            function,
-            letter,
-            column: wide(column),
-        }
-    }
-}
+ghost use Rattle.report.specs.Measures.{measureBy, numbersFor, isOf, countOf, FirstAt, IsFirst, LastAt, Inside, Readable, Reportable, Appendable};
 
 // A byte as an index.
 fn wide(x: u8) -> usize
@@ -239,19 +209,18 @@ fn of_no_rows(function: u8) -> Outcome
 
 // A measure that has rows, of which `at` is the first.
 fn measure_from(
-    m: Measure,
+    function: u8,
+    letter: u8,
+    column: usize,
     rows: &[i32],
     columns: usize,
     first: usize,
     labels: &[u8],
     at: usize,
 ) -> Outcome
-    requires { ⌜ Readable (now rows) columns first (length (now labels)) (m .column) × FirstAt (m .letter) (now labels) at ⌝ }
-    ensures { λ r. ⌜ numbersFor r ≡ twoOf (measured (tableOf columns (now (rows .entry))) first (now (labels .entry)) (measureOf m)) ⌝ }
+    requires { ⌜ Readable (now rows) columns first (length (now labels)) column × FirstAt letter (now labels) at ⌝ }
+    ensures { λ r. ⌜ numbersFor r ≡ twoOf (measured (tableOf columns (now (rows .entry))) first (now (labels .entry)) (measureBy function letter column)) ⌝ }
 {
-    let function = m.function;
-    let letter = m.letter;
-    let column = m.column;
     if function == Measure::COUNT {
         return Outcome::Number(as_number(count_of(letter, labels, at)));
     }
@@ -306,7 +275,16 @@ fn measure_of(m: Measure, rows: &[i32], columns: usize, first: usize, labels: &[
     let Found::At(at) = first_of(m.letter, labels) else {
         return of_no_rows(m.function);
     };
-    measure_from(m, rows, columns, first, labels, at)
+    measure_from(
+        m.function,
+        m.letter,
+        wide(m.column),
+        rows,
+        columns,
+        first,
+        labels,
+        at,
+    )
 }
 
 // Two numbers written from index `at` on.
@@ -333,7 +311,7 @@ fn put_outcome(numbers: &mut [i64], at: usize, outcome: Outcome)
 // Measure number k of the flat bytes, three to a measure.
 fn measure_at(ms: &[u8], k: usize) -> Measure
     requires { ⌜ k * 3 + 3 ≤ length (now ms) ⌝ }
-    ensures { λ r. ⌜ measureOf r ≡ measureAt (now (ms .entry)) (k * 3) ⌝ }
+    ensures { λ r. ⌜ measureOf r ≡ measureIn (now (ms .entry)) k ⌝ }
 {
     let at = k * 3;
     Measure::make(ms[at], ms[at + 1], ms[at + 2])

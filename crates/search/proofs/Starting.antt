@@ -12,7 +12,7 @@ use lib.IntN.{ℤ}
 use lib.ListN.{length, getD, take, drop}
 use Rattle.rules.specs.Basics.{inRange, isLetter}
 use Rattle.rules.specs.Rows.{Table, Comparison, tableOf, holds}
-use Rattle.rules.specs.Query.{Measure, measureAt, functionFits, columnsOf, textOf, parts}
+use Rattle.rules.specs.Query.{Measure, functionFits, columnsOf, textOf, parts}
 use Rattle.rules.specs.Language.{Tree, pattern, emptyLoop, Written}
 use Rattle.rules.specs.Places.{Place, pFork, unroll, places, placesOf}
 use Rattle.rules.specs.Walk.{pairs}
@@ -28,10 +28,8 @@ use Rattle.rules.proofs.Grammar.{tree-exactly}
 use Rattle.rules.proofs.PatternWalk.{walk-kept}
 use Rattle.rules.proofs.SameLetters.{search-agrees}
 use Rattle.rules.proofs.ThinPlaces.{Spelt, thinned-spelt}
-use Rattle.decode.specs.Layout as D
-use Rattle.decode.specs.Layout.{Decoded, cellsFrom}
+use Rattle.decode.specs.Layout.{Decoded, cellsFrom, measureIn, measuresIn}
 use Rattle.places.specs.Emitting.{Unrolling, Tabled}
-use Rattle.report.specs.Measures.{measuresIn}
 use Rattle.walk.specs.Letters as L
 use Rattle.walk.specs.Letters.{holdsIn}
 use Rattle.walk.specs.Tables as W
@@ -83,7 +81,7 @@ module _ (q nodes : List ℕ) (top p : ℕ) (rows : List ℤ) (columns n : ℕ) 
   the-rows = let z : 0 < columns = omega (arith, a .columns-are, a .decoded .some) in sym (ap (λ (k : ℕ). k / columns) (a .all) ∙ mul-div-cancel n z) ∙ ap (λ (t : Table). t .n) the-table
 
   the-measures : measuresIn ms count ≡ taskOf q rows .measures
-  unfolding taskOf measuresIn D.measuresIn D.measureIn measureAt
+  unfolding taskOf
   the-measures = ap (measuresIn ms) (a .count-is) ∙ a .decoded .measured
 
   the-mode : mode ≡ taskOf q rows .mode
@@ -124,7 +122,7 @@ module _ (q nodes : List ℕ) (top p : ℕ) (rows : List ℤ) (columns n : ℕ) 
   some-place = omega arith
 
   column-fits : (k : ℕ) → k < count → getD ms (k * 3 + 2) 0 < columns
-  unfolding D.measureIn
+  unfolding measureIn
   column-fits k h =
       let f : functionFits (a .parts .columns) (getD ms (k * 3) 0) (getD ms (k * 3 + 1) 0) (getD ms (k * 3 + 2) 0) ≡ true = a .decoded .fit k (omega (arith, a .count-is)) in
       let z : ltb (getD ms (k * 3 + 2) 0) (a .parts .columns) ≡ true = third-part (getD ms (k * 3) 0) (getD ms (k * 3 + 1) 0) (getD ms (k * 3 + 2) 0) (a .parts .columns) f in

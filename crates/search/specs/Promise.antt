@@ -16,11 +16,10 @@ use Rattle.rules.specs.Walk.{pairs}
 use Rattle.rules.specs.Answers.{Buffers, Memory, taskOf, treeIn, walked, walkOf, stopped, reportOf, accepted, answerOf, searchOf}
 use Rattle.rules.specs.Demands.{Demands}
 use Rattle.pattern.specs.Held.{Top}
-use Rattle.decode.specs.Layout.{Decoded}
+use Rattle.decode.specs.Layout.{measuresIn, Decoded}
 use Rattle.decode.specs.declared.Parts.{Parts}
 use Rattle.rules.specs.Search.{Match}
 use Rattle.rules.specs.Report.{numbersOf, labelsOf}
-use Rattle.report.specs.Measures.{measuresIn}
 use Rattle.walk.specs.Tables.{Tables, N, placesIn}
 use Rattle.walk.specs.Letters.{holdsIn, Lettered}
 use Rattle.sweep.specs.Asked as S

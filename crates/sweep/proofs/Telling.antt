@@ -17,7 +17,8 @@ use Rattle.rules.specs.Rows.{tableOf}
 use Rattle.rules.specs.Search.{labels, lastOf, endOf, nextStart}
 use Rattle.rules.proofs.Appended.{length-wrote-at, fits-room}
 use Rattle.rules.proofs.Lists.{length-tabulate}
-use Rattle.report.specs.Measures.{measuresIn, Appendable}
+use Rattle.decode.specs.Layout.{measuresIn}
+use Rattle.report.specs.Measures.{Appendable}
 use Rattle.walk.specs.declared.Walk.{Walk}
 use Rattle.walk.specs.Tables.{Tables, P, placeBy, placeAt, placesIn}
 use Rattle.walk.specs.Step.{pairIn, stack, pairOf}

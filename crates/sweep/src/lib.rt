@@ -11,7 +11,7 @@ ghost use Rattle.walk.specs.Letters.{holdsIn, Lettered};
 ghost use Rattle.sweep.specs.Asked.{asked, labelsOn, pathOn};
 ghost use mathlib.Core.Option.{some};
 ghost use Rattle.rules.specs.Rows.{tableOf};
-ghost use Rattle.report.specs.Measures.{measuresIn};
+ghost use Rattle.decode.specs.Layout.{measuresIn};
 ghost use Rattle.sweep.specs.Searched.{Starts, Searched, Searches, Answered};
 ghost use Rattle.rules.specs.Report.{zeros};
 ghost use Rattle.sweep.specs.Found.{OneMore, PutsLabel, Labels, Told, Reports, Visits, Visited};

@@ -1,6 +1,6 @@
 use Prim.Native.Nat.{_-_}
 use Rattle.sweep.specs.Asked.{asked}
-use Rattle.report.specs.Measures.{measuresIn}
+use Rattle.decode.specs.Layout.{measuresIn}
 use Rattle.rules.specs.Rows.{tableOf}
 use Rattle.walk.specs.Tables.{tables}
 use Rattle.walk.specs.Letters.{holdsIn, Lettered}
