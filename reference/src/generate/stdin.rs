@@ -1,9 +1,9 @@
 //! Standard inputs for the program: a length, a query and rows, whole or cut,
 //! and those that it prints `too large` for. From document 01, "Report".
 
-use super::draft::{Draft, Input, Numbers, Size, SMALL};
-use super::mix;
+use super::draft::{Draft, Input, Numbers, Size, MIDDLE, SMALL};
 use super::random::Random;
+use super::{limits, mix};
 use crate::program::{LONGEST_QUERY, MOST_ROW_BYTES};
 
 pub fn of_input(input: &Input) -> Vec<u8> {
@@ -134,6 +134,63 @@ fn row_bytes(text: &[u8], count: usize) -> Vec<u8> {
     stdin
 }
 
+/// The input with this number in a stream of middle size: matches, patterns that
+/// are hard on a careless walk, each answer, two at once with bytes too many,
+/// large numbers, single bytes changed, and noise.
+pub fn middle(random: &mut Random, number: usize) -> Vec<u8> {
+    let turn = number / 8;
+    match number % 8 {
+        0 => of_input(&mix::lively(random, &MIDDLE).finish()),
+        1 | 2 => of_input(&mix::adversarial(random, &MIDDLE).finish()),
+        3 => of_input(&mix::damaged(random, &MIDDLE, 1 + (turn % 10) as u8)),
+        4 => {
+            let mut stdin = of_input(&mix::damaged_twice(random, &MIDDLE));
+            stdin.extend(vec![9; random.below(5)]);
+            stdin
+        }
+        5 => of_input(&mix::accepted(random, &MIDDLE, Numbers::Extreme).finish()),
+        6 => changed(random),
+        _ => noise(random),
+    }
+}
+
+/// One to three bytes of a whole input changed, mostly of its query.
+fn changed(random: &mut Random) -> Vec<u8> {
+    let mut stdin = of_input(&mix::lively(random, &MIDDLE).finish());
+    let query = usize::from(u16::from_le_bytes([stdin[0], stdin[1]]));
+    for _ in 0..1 + random.below(3) {
+        let at = match random.chance(80) {
+            true => 2 + random.below(query),
+            false => random.below(stdin.len()),
+        };
+        stdin[at] = match random.below(3) {
+            0 => random.below(256) as u8,
+            1 => stdin[at].wrapping_add(1),
+            _ => stdin[at] ^ 1 << random.below(8),
+        };
+    }
+    stdin
+}
+
+/// Random bytes behind a length that may fit.
+fn noise(random: &mut Random) -> Vec<u8> {
+    let length = 2 + random.below(80);
+    let mut stdin: Vec<u8> = (0..length).map(|_| random.below(256) as u8).collect();
+    set_length(&mut stdin, random.below(80) as u16);
+    stdin
+}
+
+/// Queries and rows at the limits that document 01 states, as they are and with
+/// one byte behind the rows.
+pub fn at_limits() -> Vec<Vec<u8>> {
+    let whole = limits::all()
+        .into_iter()
+        .map(|draft| of_input(&draft.finish()));
+    whole
+        .flat_map(|stdin| [stdin.clone(), [&stdin[..], &[0]].concat()])
+        .collect()
+}
+
 /// Few inputs, each of them long: at the limits of row bytes, pairs, report
 /// numbers and labels.
 pub fn long() -> Vec<Vec<u8>> {
@@ -162,10 +219,28 @@ pub fn long() -> Vec<Vec<u8>> {
     for (text, n) in [(&b"A"[..], 4096), (b"A* B", 3199), (b"A* B", 3200)] {
         inputs.push(whole(&query(text), &vec![0; n]));
     }
+    // The longest query with the most row bytes, and more: who reads a byte too
+    // little of it does not print `too large`.
+    for more in [0, 1, 2, 30_000, 200_000] {
+        let mut longest = whole(&unknown_kind(LONGEST_QUERY), &[]);
+        longest.extend(vec![0; MOST_ROW_BYTES + more]);
+        inputs.push(longest);
+    }
     inputs.push(whole(&vec![0; LONGEST_QUERY], &[1]));
     let mut too_long = whole(&vec![0; LONGEST_QUERY + 1], &[1]);
     inputs.push(too_long.clone());
     too_long.truncate(100);
     inputs.push(too_long);
     inputs
+}
+
+/// A query of so many bytes whose last record, as long as is needed, is of an
+/// unknown kind.
+fn unknown_kind(length: usize) -> Vec<u8> {
+    let mut query = Draft::new(1, b"A", Vec::new()).query();
+    let body = length - query.len() - 4;
+    query.extend((body as u16).to_le_bytes());
+    query.extend(6u16.to_le_bytes());
+    query.extend(vec![0; body]);
+    query
 }

@@ -10,11 +10,16 @@ use std::process::{Command, Stdio};
 /// The most runs that are tried for one shrinking.
 const TRIES: usize = 2_000;
 
-/// Listed long inputs first, then random ones.
+/// Listed inputs first, long and at limits, then random ones, short and of middle
+/// size in turn.
 pub fn inputs(seed: u64, count: usize) -> impl Iterator<Item = Vec<u8>> {
     let mut random = Random::new(seed);
-    let short = (0..count).map(move |number| stdin::input(&mut random, number));
-    stdin::long().into_iter().chain(short)
+    let made = (0..count).map(move |number| match number % 2 {
+        0 => stdin::input(&mut random, number / 2),
+        _ => stdin::middle(&mut random, number / 2),
+    });
+    let listed = stdin::long().into_iter().chain(stdin::at_limits());
+    listed.chain(made)
 }
 
 /// Whether the program at the path prints what it should.
