@@ -1,4 +1,5 @@
 pub mod Parting
+pub mod Forking
 pub mod Places
 pub mod Ending
 pub mod Starting

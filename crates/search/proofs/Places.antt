@@ -1,15 +1,15 @@
--- The parted tables hold the places of the pattern, each fork's ways once; and so the walk may go over them.
+-- The tables that are spread hold the places of the pattern, each fork's ways once; and so the walk may go over them.
 use mathlib.Core.Path.{_≡_, refl, ap, ap₂, sym, _∙_}
-use mathlib.Core.Bool.{Bool, true, false, _&&_}
+use mathlib.Core.Bool.{Bool, true, false}
 use mathlib.Core.List.{List, [], _∷_}
-use Prim.Native.Nat.{ℕ, zero, suc, _+_, _-_, _*_, _%_, _≤_, _<_, min}
+use Prim.Native.Nat.{ℕ, zero, suc, _+_, _-_, _*_, _%_, _≤_, _<_}
 use native.Mathlib.Nat.{not-suc-le-zero}
 use native.Mathlib.Omega.{arith}
-use lib.Dec.{leb, ltb, eqb}
+use lib.Dec.{ltb, eqb}
 use lib.ListN.{length, getD, take}
 use lib.Seq.{ext-getD, getD-take, length-take-le}
-use borrow.Author.Tests.{ltb-true, ltb-false, le-leb}
-use Rattle.rules.specs.Basics.{inRange, isLetter}
+use borrow.Author.Tests.{ltb-true, ltb-false, lt-ltb, ne-eqb, eqb-true}
+use Rattle.rules.specs.Basics.{pick}
 use Rattle.rules.specs.Language.{Tree, pattern, emptyLoop}
 use Rattle.rules.specs.Places.{Place, pLetter, pCaret, pDollar, pFork, pEnd, unroll, places, placesOf}
 use Rattle.rules.specs.Walk.{pairs, pairWays}
@@ -22,9 +22,11 @@ use Rattle.rules.proofs.ThinPlaces.{Leads, Spelt, thinned-leads, thinned-falls,
 use Rattle.rules.proofs.Walk.{Falls}
 use Rattle.places.specs.Tables as F
 use Rattle.places.specs.Emitting.{Tabled}
+use Rattle.walk.specs.Step.{after}
 use Rattle.walk.specs.Tables as W
 use Rattle.walk.proofs.Ways.{in-length, in-at}
-use Rattle.search.specs.Spread.{Filled, sortOf, letterOf, nextOf, stopOf, Parted}
+use Rattle.search.specs.Spread.{sortOf, letterOf, beginOf, stopOf, codeBy, firstBy, secondBy, codeOf, nextOf, entryOf, Parted}
+use Rattle.search.proofs.Forking.{Wayed, thinned-wayed}
 
 -- ---- one place
 
@@ -33,14 +35,81 @@ unfolding W.span F.span
 span-same T zero j = refl
 span-same T (suc m) j = ap (λ (l : List ℕ). getD T j 0 ∷ l) (span-same T m (suc j))
 
--- a sort cut at 4 and a letter's low byte give the same place
-place-same : (s c k : ℕ) (ks : List ℕ) → Spelt (F.placeBy s c k ks) → W.placeBy (min s 4) (c % 256) k ks ≡ F.placeBy s c k ks
-unfolding W.placeBy F.placeBy
-place-same zero c k ks l = refl
-place-same (suc zero) c k ks l = let e : c % 256 ≡ c = omega arith in rw e
-place-same (suc (suc zero)) c k ks l = refl
-place-same (suc (suc (suc zero))) c k ks l = refl
-place-same (suc (suc (suc (suc m)))) c k ks l = let e : min (suc (suc (suc (suc m)))) 4 ≡ 4 = omega arith in rw e
+span-length : (T : List ℕ) (m j : ℕ) → length (F.span T j m) ≡ m
+unfolding F.span
+span-length T zero j = refl
+span-length T (suc m) j = ap suc (span-length T m (suc j))
+
+span-first : (T : List ℕ) (k e : ℕ) → k < e → F.span T k (e - k) ≡ getD T k 0 ∷ F.span T (suc k) (e - k - 1)
+unfolding F.span
+span-first T k e h = let d : e - k ≡ suc (e - k - 1) = omega arith in ap (F.span T k) d
+
+-- how many ways there are from way j on, where they stop before e
+abbrev many : ℕ → ℕ → ℕ
+many e j = pick (eqb j 0) 0 (e - j)
+
+-- a fork's first way, and the ways from its second on
+fork-ways : (T : List ℕ) (k e : ℕ) → k < e → (getD T k 0 ∷ W.span T (after e k) (many e (after e k))) ≡ F.span T k (e - k)
+unfolding after W.span F.span
+fork-ways T k e h = go (ltb (k + 1) e) refl
+  where
+    go : (b : Bool) → ltb (k + 1) e ≡ b → (getD T k 0 ∷ W.span T (pick b (k + 1) 0) (many e (pick b (k + 1) 0))) ≡ F.span T k (e - k)
+    go true x =
+        let n : eqb (k + 1) 0 ≡ false = ne-eqb (k + 1) 0 (λ (z : k + 1 ≡ 0). omega arith) in
+        let i : k + 1 ≡ suc k = omega arith in
+        let m : e - suc k ≡ e - k - 1 = omega arith in
+        let a : W.span T (k + 1) (many e (k + 1)) ≡ F.span T (suc k) (e - k - 1) = rw (n, i, m) (span-same T (e - k - 1) (suc k)) in
+        ap (λ (l : List ℕ). getD T k 0 ∷ l) a ∙ sym (span-first T k e h)
+    go false x =
+        let m : e - k - 1 ≡ 0 = omega (arith, ltb-false (k + 1) e x) in
+        let a : F.span T (suc k) (e - k - 1) ≡ [] = ap (F.span T (suc k)) m in
+        sym (span-first T k e h ∙ ap (λ (l : List ℕ). getD T k 0 ∷ l) a)
+
+-- the code, the first place and the ways give the same place
+module _ (T : List ℕ) (c k e : ℕ) where
+  abbrev ways : ℕ → List ℕ
+  ways s = firstBy T s k ∷ W.span T (secondBy s k e) (many e (secondBy s k e))
+
+  pub place-same : (s : ℕ) → Spelt (F.placeBy s c k (F.span T k (e - k))) → Wayed (F.placeBy s c k (F.span T k (e - k)))
+      → W.placeBy (codeBy s c) (firstBy T s k) (ways s) ≡ F.placeBy s c k (F.span T k (e - k))
+  unfolding W.placeBy F.placeBy codeBy firstBy secondBy
+  place-same zero l w = ap pFork (fork-ways T k e (let d : length (F.span T k (e - k)) ≡ e - k = span-length T (e - k) k in omega arith))
+  place-same (suc zero) l w =
+      let d : (c % 256 + 191) % 256 + 65 ≡ c = omega arith in
+      let b : ltb ((c % 256 + 191) % 256) 26 ≡ true = lt-ltb ((c % 256 + 191) % 256) 26 (omega arith) in
+      rw (b, d)
+  place-same (suc (suc zero)) l w = refl
+  place-same (suc (suc (suc zero))) l w = refl
+  place-same (suc (suc (suc (suc m)))) l w =
+      rw (
+        ne-eqb (suc (suc (suc (suc m)))) 0 (λ (z : suc (suc (suc (suc m))) ≡ 0). omega arith),
+        ne-eqb (suc (suc (suc (suc m)))) 1 (λ (z : suc (suc (suc (suc m))) ≡ 1). omega arith),
+        ne-eqb (suc (suc (suc (suc m)))) 2 (λ (z : suc (suc (suc (suc m))) ≡ 2). omega arith),
+        ne-eqb (suc (suc (suc (suc m)))) 3 (λ (z : suc (suc (suc (suc m))) ≡ 3). omega arith),
+      )
+
+-- a fork has a way, so that its ways begin before they stop
+begins : (T : List ℕ) (s c k e : ℕ) → s ≡ 0 → Wayed (F.placeBy s c k (F.span T k (e - k))) → k < e
+unfolding F.placeBy
+begins T s c k e z w =
+    let d : length (F.span T k (e - k)) ≡ e - k = span-length T (e - k) k in
+    let y : Wayed (F.placeBy 0 c k (F.span T k (e - k))) = rw z at w in
+    let x : 0 < length (F.span T k (e - k)) = y in
+    omega arith
+
+-- a second way lies before the stop, and only a fork has one
+second-is : (s k e : ℕ) → 0 < secondBy s k e → (s ≡ 0) × (secondBy s k e < e)
+unfolding secondBy after
+second-is s k e h = go (eqb s 0) refl (ltb (k + 1) e) refl h
+  where
+    go : (b : Bool) → eqb s 0 ≡ b → (d : Bool) → ltb (k + 1) e ≡ d → 0 < pick b (pick d (k + 1) 0) 0 → (s ≡ 0) × (pick b (pick d (k + 1) 0) 0 < e)
+    go true x true y h = (eqb-true s 0 x, ltb-true (k + 1) e y)
+    go true x false y h = absurd (not-suc-le-zero h)
+    go false x d y h = absurd (not-suc-le-zero h)
+
+code-is-fork : (s c : ℕ) → s ≡ 0 → codeBy s c ≡ 28
+unfolding codeBy
+code-is-fork s c e = rw e
 
 -- ---- the packed table
 
@@ -59,27 +128,11 @@ table-at : (T : List ℕ) (p q : ℕ) → q < p → getD (F.tabled T p) q (pFork
 unfolding F.tabled
 table-at T p q h = let e : 0 + q ≡ q = omega arith in rw e at (from-at T p 0 q h)
 
--- ---- letters and ends
+-- ---- where a place leads
 
--- a place of sort 1 that is spelt has a letter
-is-letter : (s c k : ℕ) (ks : List ℕ) → min s 4 ≡ 1 → Spelt (F.placeBy s c k ks) → isLetter (c % 256) ≡ true
-unfolding F.placeBy isLetter inRange
-is-letter zero c k ks m l = absurd (omega arith)
-is-letter (suc zero) c k ks m l = let e : c % 256 ≡ c = omega arith in rw (e, le-leb 65 c (l .0), le-leb c 90 (l .1))
-is-letter (suc (suc zero)) c k ks m l = absurd (omega arith)
-is-letter (suc (suc (suc zero))) c k ks m l = absurd (omega arith)
-is-letter (suc (suc (suc (suc n)))) c k ks m l = absurd (omega arith)
-
-open-place : (T : List ℕ) (q : ℕ) → Spelt (F.placeIn T q)
-    → Spelt (F.placeBy (getD T (4 * q) 0) (getD T (4 * q + 1) 0) (nextOf T q) (F.span T (nextOf T q) (stopOf T q - nextOf T q)))
+open-place : (Q : Place → Type 0) (T : List ℕ) (q : ℕ) → Q (F.placeIn T q) → Q (F.placeBy (sortOf T q) (letterOf T q) (beginOf T q) (F.span T (beginOf T q) (stopOf T q - beginOf T q)))
 unfolding F.placeIn
-open-place T q l = l
-
--- behind a list's end there is nothing
-behind-end : (l : List ℕ) (q : ℕ) → length l ≤ q → getD l q 0 ≡ 0
-behind-end [] q h = refl
-behind-end (x ∷ l) zero h = absurd (omega arith)
-behind-end (x ∷ l) (suc q) h = behind-end l q (omega arith)
+open-place Q T q l = l
 
 -- the walk's word for where a place leads is the rules'
 same-leads : (P : ℕ) (p : Place) → Leads P p → W.Leads P p
@@ -89,96 +142,121 @@ same-leads P (pDollar k) l = l
 same-leads P (pFork ks) l = l
 same-leads P pEnd l = l
 
+-- ---- the table of a pattern's places
+
+module _ (table : List ℕ) (p : ℕ) (t : Tree pattern) (c : p ≡ placesOf t) (e : F.tabled table p ≡ thinned (places (unroll t))) where
+  pub all-count : length (places (unroll t)) ≡ p
+  all-count = places-counted t ∙ sym c
+
+  wayed-at : (q : ℕ) → q < p → Wayed (F.placeIn table q)
+  wayed-at q h = rw (← (table-at table p q h), e) (thinned-wayed t q (omega (arith, all-count)))
+
+  spelt-at : Lettered t → (q : ℕ) → q < p → Spelt (F.placeIn table q)
+  spelt-at l q h = rw (← (table-at table p q h), e) (thinned-spelt t l q)
+
+  -- a fork's ways begin before they stop
+  pub begin-before : (q : ℕ) → q < p → sortOf table q ≡ 0 → beginOf table q < stopOf table q
+  begin-before q h z = begins table (sortOf table q) (letterOf table q) (beginOf table q) (stopOf table q) z (open-place Wayed table q (wayed-at q h))
+
 -- ---- the tables
 
-module _ (table : List ℕ) (p : ℕ) (so₀ le₀ ne₀ st₀ so le ne st : List ℕ) (d : Parted table p so₀ le₀ ne₀ st₀ so le ne st)
-    (hs : p ≤ length so) (hl : p ≤ length le) (hn : p ≤ length ne) (ht : p ≤ length st) where
+module _ (table : List ℕ) (p : ℕ) (co₀ ne₀ en₀ st₀ co ne en st : List ℕ) (d : Parted table p co₀ ne₀ en₀ st₀ co ne en st)
+    (hc : p ≤ length co) (hn : p ≤ length ne) (he : p ≤ length en) (ht : p ≤ length st) (few : p ≤ 256) where
   abbrev pub cut : W.Tables
-  cut = W.tables (take p so) (take p le) (take p ne) (take p st) table
+  cut = W.tables (take p co) (take p ne) (take p en) (take p st) table
 
   pub cut-count : W.P cut ≡ p
-  cut-count = length-take-le p so hs
+  cut-count = length-take-le p co hc
 
-  at-sort : (q : ℕ) → q < p → getD (take p so) q 0 ≡ sortOf table q
-  at-sort q h = getD-take p so q 0 h ∙ d .sorts .is q h
-
-  at-letter : (q : ℕ) → q < p → getD (take p le) q 0 ≡ letterOf table q
-  at-letter q h = getD-take p le q 0 h ∙ d .letters .is q h
+  at-code : (q : ℕ) → q < p → getD (take p co) q 0 ≡ codeOf table q
+  at-code q h = getD-take p co q 0 h ∙ d .codes .is q h
 
   at-next : (q : ℕ) → q < p → getD (take p ne) q 0 ≡ nextOf table q
   at-next q h = getD-take p ne q 0 h ∙ d .nexts .is q h
 
+  at-entry : (q : ℕ) → q < p → getD (take p en) q 0 ≡ entryOf table q
+  at-entry q h = getD-take p en q 0 h ∙ d .entries .is q h
+
   at-stop : (q : ℕ) → q < p → getD (take p st) q 0 ≡ stopOf table q
   at-stop q h = getD-take p st q 0 h ∙ d .stops .is q h
 
-  cut-at : (q : ℕ) → q < p → Spelt (F.placeIn table q) → W.placeAt cut q ≡ F.placeIn table q
+  abbrev second : ℕ → ℕ
+  second q = secondBy (sortOf table q) (beginOf table q) (stopOf table q)
+
+  at-second : (q : ℕ) → q < p → W.second cut q ≡ second q
+  at-second q h = rw (at-entry q h) (omega arith)
+
+  ways-at : (q : ℕ) → q < p → W.waysOf cut q ≡ nextOf table q ∷ W.span table (second q) (many (stopOf table q) (second q))
+  unfolding W.waysOf W.leftFrom
+  ways-at q h = rw (at-next q h, at-second q h, at-stop q h)
+
+  cut-at : (q : ℕ) → q < p → Spelt (F.placeIn table q) → Wayed (F.placeIn table q) → W.placeAt cut q ≡ F.placeIn table q
   unfolding W.placeAt F.placeIn
-  cut-at q h l =
-      rw (at-sort q h, at-letter q h, at-next q h, at-stop q h, span-same table (stopOf table q - nextOf table q) (nextOf table q))
-      (place-same (getD table (4 * q) 0) (getD table (4 * q + 1) 0) (getD table (4 * q + 2) 0) (F.span table (nextOf table q) (stopOf table q - nextOf table q)) l)
+  cut-at q h l w =
+      rw (at-code q h, ways-at q h, at-next q h)
+      (place-same table (letterOf table q) (beginOf table q) (stopOf table q) (sortOf table q) (open-place Spelt table q l) (open-place Wayed table q w))
 
   -- ---- against the unrolled pattern
 
   module _ (t : Tree pattern) (g : emptyLoop t ≡ false) (l : Lettered t) (c : p ≡ placesOf t) (e : F.tabled table p ≡ thinned (places (unroll t))) where
-    all-count : length (places (unroll t)) ≡ p
-    all-count = places-counted t ∙ sym c
-
-    spelt-at : (q : ℕ) → q < p → Spelt (F.placeIn table q)
-    spelt-at q h = rw (← (table-at table p q h), e) (thinned-spelt t l q)
+    count : length (places (unroll t)) ≡ p
+    count = all-count table p t c e
 
     pub cut-places : W.placesIn cut ≡ thinned (places (unroll t))
     cut-places =
-        ext-getD (pFork []) (W.placesIn cut) (thinned (places (unroll t))) (in-length cut ∙ cut-count ∙ sym (thinned-length (places (unroll t)) ∙ all-count))
+        ext-getD (pFork []) (W.placesIn cut) (thinned (places (unroll t))) (in-length cut ∙ cut-count ∙ sym (thinned-length (places (unroll t)) ∙ count))
         (λ q h. let k : q < p = omega (arith, in-length cut, cut-count) in
-        in-at cut q (omega (arith, cut-count)) ∙ cut-at q k (spelt-at q k) ∙ sym (table-at table p q k) ∙ ap (λ (ps : List Place). getD ps q (pFork [])) e)
+        in-at cut q (omega (arith, cut-count)) ∙ cut-at q k (spelt-at table p t c e l q k) (wayed-at table p t c e q k) ∙ sym (table-at table p q k)
+        ∙ ap (λ (ps : List Place). getD ps q (pFork [])) e)
 
     -- the ways of every fork lie in the table
-    module _ (some : 1 ≤ p) (inside : (q : ℕ) → q < p → stopOf table q ≤ length table) where
-      letters-are : (q : ℕ) → getD (take p so) q 0 ≡ 1 → isLetter (getD (take p le) q 0) ≡ true
-      letters-are q z = go (ltb q p) refl
-        where
-          go : (b : Bool) → ltb q p ≡ b → isLetter (getD (take p le) q 0) ≡ true
-          go true x =
-              let h = ltb-true q p x in
-              rw (at-letter q h) (is-letter (getD table (4 * q) 0) (getD table (4 * q + 1) 0) (nextOf table q) (F.span table (nextOf table q) (stopOf table q - nextOf table q))
-              (sym (at-sort q h) ∙ z) (open-place table q (spelt-at q h)))
-          go false x = let y : _≡_ {A = ℕ} 0 1 = sym (behind-end (take p so) q (omega (arith, cut-count, ltb-false q p x))) ∙ z in absurd (omega arith)
+    module _ (some : 1 ≤ p) (short : length table ≤ 2048) (inside : (q : ℕ) → q < p → stopOf table q ≤ length table) where
+      below : (q : ℕ) → q < W.P cut → q < p
+      below q h = omega (arith, cut-count)
 
       sized : W.Sized cut
       sized =
           record {
             some = omega (arith, cut-count);
-            letters = length-take-le p le hl ∙ sym cut-count;
+            few = omega (arith, cut-count);
             nexts = length-take-le p ne hn ∙ sym cut-count;
+            entries = length-take-le p en he ∙ sym cut-count;
             stops = length-take-le p st ht ∙ sym cut-count;
-            letter = letters-are;
-            stop = stop-inside;
+            ways = short;
+            entry = λ q h. let k = below q h in rw (at-entry q k) (omega arith);
+            one = λ q h z. one q (below q h) z;
+            back = λ q h z. let k = below q h in rw (at-second q k, at-stop q k) (second-is (sortOf table q) (beginOf table q) (stopOf table q) (rw (at-second q k) at z) .1);
+            stop = λ q h z. let k = below q h in rw (at-stop q k) (inside q k);
           }
         where
-          stop-inside : (q : ℕ) → getD (take p st) q 0 ≤ length table
-          stop-inside q = go (ltb q p) refl
-            where
-              go : (b : Bool) → ltb q p ≡ b → getD (take p st) q 0 ≤ length table
-              go true x = let h = ltb-true q p x in omega (arith, at-stop q h, inside q h)
-              go false x = omega (arith, behind-end (take p st) q (omega (arith, length-take-le p st ht, ltb-false q p x)))
+          none : (q : ℕ) (b : Bool) → ltb 0 (second q) ≡ b → codeOf table q < 28 → second q ≡ 0
+          none q true x z =
+              let f = second-is (sortOf table q) (beginOf table q) (stopOf table q) (ltb-true 0 (second q) x) .0 in
+              let v = code-is-fork (sortOf table q) (letterOf table q) f in
+              absurd (omega arith)
+          none q false x z = let v = ltb-false 0 (second q) x in omega arith
 
-      pub legal-tables : (holds : ℕ → ℕ → Bool) (n : ℕ) → pairs p n < 2097152 → W.Legal cut holds n
+          one : (q : ℕ) → q < p → getD (take p co) q 0 < 28 → W.second cut q ≡ 0
+          one q h z = at-second q h ∙ none q (ltb 0 (second q)) refl (rw (at-code q h) at z)
+
+      pub legal-tables : (holds : ℕ → ℕ → Bool) (n : ℕ) → pairs p n < 2097152 → n ≤ 4096 → W.Legal cut holds n
       unfolding W.graphOf
-      legal-tables holds n s =
+      legal-tables holds n s r =
           let u = legal-unroll t g in
           record {
             sized = sized;
             leads = λ q h. let k : q < p = omega (arith, cut-count) in leads-at q k;
             ρ = rank (unroll t) n;
-            falls = rw (cut-places, cut-count, ← all-count) (thinned-falls (unroll t) u holds n);
-            bound = λ x. rw (cut-count, ← all-count) (top (unroll t) u holds n x);
+            falls = rw (cut-places, cut-count, ← count) (thinned-falls (unroll t) u holds n);
+            bound = λ x. rw (cut-count, ← count) (top (unroll t) u holds n x);
             small = rw cut-count s;
+            rows = r;
           }
         where
           leads-at : (q : ℕ) → q < p → W.Leads (W.P cut) (W.placeAt cut q)
           leads-at q h =
-              let k : q < length (places (unroll t)) = omega (arith, all-count) in
+              let k : q < length (places (unroll t)) = omega (arith, count) in
               let a : Leads (length (places (unroll t))) (getD (thinned (places (unroll t))) q (pFork [])) = thinned-leads (unroll t) (legal-unroll t g) q k in
               let b : getD (thinned (places (unroll t))) q (pFork []) ≡ W.placeAt cut q = ap (λ (ps : List Place). getD ps q (pFork [])) (sym cut-places) ∙ in-at cut q (omega (arith, cut-count)) in
-              let c : length (places (unroll t)) ≡ W.P cut = all-count ∙ sym cut-count in
+              let c : length (places (unroll t)) ≡ W.P cut = count ∙ sym cut-count in
               same-leads (W.P cut) (W.placeAt cut q) (rw (← b, ← c) a)

@@ -39,7 +39,7 @@ use Rattle.sweep.specs.Found.{Measured}
 use Rattle.sweep.specs.Searched.{Searches}
 use Rattle.search.specs.Spread.{Parts, Parted}
 use Rattle.search.specs.Promise.{Walks, Runs}
-use Rattle.search.proofs.Places.{cut, cut-count, cut-places, legal-tables}
+use Rattle.search.proofs.Places.{begin-before, cut, cut-count, cut-places, legal-tables}
 use Rattle.search.proofs.Ending.{numbers-thin, labels-of-thin}
 
 -- the column of a measure that fits lies below the columns
@@ -55,17 +55,6 @@ module _ (q nodes : List ℕ) (top p : ℕ) (rows : List ℤ) (columns n : ℕ) 
   unfoldable pub may-unroll : (table : List ℕ) → length table ≡ 1792 → Unrolling nodes top p table
   may-unroll table e =
       record { tree = a .tree; is = a .held; count = a .places-are; few = omega (arith, a .few, a .places-are); long = omega (arith, a .few, a .places-are); small = omega arith }
-
-  -- parting
-  pub may-part : (table so le ne st : List ℕ) → length table ≡ 1792 → length so ≡ 256 → length le ≡ 256 → length ne ≡ 256 → length st ≡ 256 → Parts table p so le ne st
-  may-part table so le ne st e f g h i =
-      record {
-        table = omega (arith, a .few, a .places-are);
-        sorts = omega (arith, a .few, a .places-are);
-        letters = omega (arith, a .few, a .places-are);
-        nexts = omega (arith, a .few, a .places-are);
-        stops = omega (arith, a .few, a .places-are);
-      }
 
   -- ---- the task
 
@@ -142,61 +131,83 @@ module _ (q nodes : List ℕ) (top p : ℕ) (rows : List ℤ) (columns n : ℕ) 
         spots = λ l k h i. rw (a .columns-are) (a .decoded .letters l h .spots k i);
       }
 
-  module _ (table₀ table : List ℕ) (end : ℕ) (b : Tabled (a .tree) p table₀ table end) (long : length table ≡ 1792)
-      (so₀ le₀ ne₀ st₀ so le ne st : List ℕ) (d : Parted table p so₀ le₀ ne₀ st₀ so le ne st) (ls : length so ≡ 256) (ll : length le ≡ 256) (ln : length ne ≡ 256) (lt : length st ≡ 256) where
+  module _ (table₀ table : List ℕ) (end : ℕ) (b : Tabled (a .tree) p table₀ table end) (long : length table ≡ 1792) where
     pub few-places : p ≤ 256
     few-places = omega (arith, a .few, a .places-are)
 
-    abbrev g : emptyLoop (a .tree) ≡ false
-    g = a .no-loop
+    stop-low : (q : ℕ) → q < p → getD table (4 * q + 3) 0 ≤ 1792
+    stop-low q h = omega (arith, b .stop q h, b .few .1, few-places)
 
-    abbrev T : W.Tables
-    T = cut table p so₀ le₀ ne₀ st₀ so le ne st d (omega (arith, few-places)) (omega (arith, few-places)) (omega (arith, few-places)) (omega (arith, few-places))
-
-    T-count : W.P T ≡ p
-    T-count = cut-count table p so₀ le₀ ne₀ st₀ so le ne st d (omega (arith, few-places)) (omega (arith, few-places)) (omega (arith, few-places)) (omega (arith, few-places))
-
-    T-places : W.placesIn T ≡ thinned (places (unroll (a .tree)))
-    T-places =
-        cut-places table p so₀ le₀ ne₀ st₀ so le ne st d (omega (arith, few-places)) (omega (arith, few-places)) (omega (arith, few-places)) (omega (arith, few-places)) (a .tree) g the-lettered
-        (a .places-are) (b .is)
-
-    T-legal : W.Legal T (holdsIn rows columns cells offsets constants counts) n
-    T-legal =
-        legal-tables table p so₀ le₀ ne₀ st₀ so le ne st d (omega (arith, few-places)) (omega (arith, few-places)) (omega (arith, few-places)) (omega (arith, few-places)) (a .tree) g the-lettered
-        (a .places-are) (b .is) (omega (arith, a .places-are, some-place)) (λ q h. omega (arith, b .stop q h, b .few .1, few-places)) (holdsIn rows columns cells offsets constants counts) n few-pairs
-
-    T-found : (nums labs : ℕ)
-        → S.searchOf (asked T (holdsIn rows columns cells offsets constants counts) n mode (tableOf columns rows) (measuresIn ms count)) nums labs ≡ walked (taskOf q rows) nums labs
-    unfolding S.searchOf walked
-    T-found nums labs =
-        rw (T-places)
-        (search-agrees (holdsIn rows columns cells offsets constants counts) (letterHolds (taskOf q rows)) letters-agree n (thinned (places (unroll (a .tree)))) (thinned-spelt (a .tree) the-lettered) mode (fits nums labs (measuresIn ms count))
-        ∙ walk-thin (unroll (a .tree)) (legal-unroll (a .tree) g) (letterHolds (taskOf q rows)) n mode (fits nums labs (measuresIn ms count))
-        ∙ same-search (places (unroll (a .tree))) (taskOf q rows .places) n (taskOf q rows .table .n) mode (taskOf q rows .mode) (measuresIn ms count) (taskOf q rows .measures) (sym the-places) the-rows the-mode the-measures)
-      where
-        same-search : (pl pl′ : List Place) (m m′ : ℕ) (o o′ : Bool) (x x′ : List Measure) → pl ≡ pl′ → m ≡ m′ → o ≡ o′ → x ≡ x′
-            → walkSearch (letterHolds (taskOf q rows)) m pl o (fits nums labs x) ≡ walkSearch (letterHolds (taskOf q rows)) m′ pl′ o′ (fits nums labs x′)
-        same-search pl pl′ m m′ o o′ x x′ e f h i = rw (e, f, h, i)
-
-    T-counted : (nums labs : ℕ) → W.N T n ≡ length (walked (taskOf q rows) nums labs .state .0)
-    unfolding walked
-    T-counted nums labs =
-        ap (λ (k : ℕ). pairs k n) T-count
-        ∙ ap₂ (λ (x y : ℕ). pairs x y) (a .places-are ∙ sym (places-counted (a .tree)) ∙ ap length (sym the-places)) the-rows
-        ∙ sym (rw the-places (walk-kept (unroll (a .tree)) (legal-unroll (a .tree) g) (letterHolds (taskOf q rows)) (taskOf q rows .table .n) (taskOf q rows .mode) (fits nums labs (taskOf q rows .measures))))
-
-    pub runs : Runs q T rows columns n cells offsets constants counts ms count mode notes trail
-    runs =
+    -- spreading
+    pub may-spread : (co ne en st : List ℕ) → length co ≡ 256 → length ne ≡ 256 → length en ≡ 256 → length st ≡ 256 → Parts table p co ne en st
+    may-spread co ne en st lc ln le ls =
         record {
-          searches = record { measured = the-measured; legal = T-legal; asks = the-letters; noted = rw T-count (a .noted); trailed = rw T-count (a .trailed) };
-          found = T-found;
-          numbered = λ k xs. rw (T-places, the-table, the-measures, the-places) (numbers-thin (taskOf q rows .table) (taskOf q rows .measures) (places (unroll (a .tree))) k xs);
-          labelled = λ xs. rw (T-places, the-places) (labels-of-thin (places (unroll (a .tree))) xs);
-          counted = T-counted;
+          table = omega (arith, few-places);
+          begin = λ q h z. omega (arith, begin-before table p (a .tree) (a .places-are) (b .is) q h z, stop-low q h);
+          stop = λ q h. omega (arith, stop-low q h);
+          few = few-places;
+          codes = omega (arith, few-places);
+          nexts = omega (arith, few-places);
+          entries = omega (arith, few-places);
+          stops = omega (arith, few-places);
         }
 
-  -- as the code parts its arrays
+    module _ (so₀ le₀ ne₀ st₀ so le ne st : List ℕ) (d : Parted table p so₀ le₀ ne₀ st₀ so le ne st) (ls : length so ≡ 256) (ll : length le ≡ 256) (ln : length ne ≡ 256) (lt : length st ≡ 256) where
+      abbrev g : emptyLoop (a .tree) ≡ false
+      g = a .no-loop
+
+      abbrev T : W.Tables
+      T = cut table p so₀ le₀ ne₀ st₀ so le ne st d (omega (arith, few-places)) (omega (arith, few-places)) (omega (arith, few-places)) (omega (arith, few-places)) few-places
+
+      T-count : W.P T ≡ p
+      T-count = cut-count table p so₀ le₀ ne₀ st₀ so le ne st d (omega (arith, few-places)) (omega (arith, few-places)) (omega (arith, few-places)) (omega (arith, few-places)) few-places
+
+      T-places : W.placesIn T ≡ thinned (places (unroll (a .tree)))
+      T-places =
+          cut-places table p so₀ le₀ ne₀ st₀ so le ne st d (omega (arith, few-places)) (omega (arith, few-places)) (omega (arith, few-places)) (omega (arith, few-places)) few-places (a .tree) g the-lettered
+          (a .places-are) (b .is)
+
+      T-legal : W.Legal T (holdsIn rows columns cells offsets constants counts) n
+      T-legal =
+          legal-tables table p so₀ le₀ ne₀ st₀ so le ne st d (omega (arith, few-places)) (omega (arith, few-places)) (omega (arith, few-places)) (omega (arith, few-places)) few-places (a .tree) g the-lettered
+          (a .places-are) (b .is) (omega (arith, a .places-are, some-place)) (omega arith) (λ q h. omega (arith, stop-low q h)) (holdsIn rows columns cells offsets constants counts) n few-pairs (a .most)
+
+      T-found : (nums labs : ℕ)
+          → S.searchOf (asked T (holdsIn rows columns cells offsets constants counts) n mode (tableOf columns rows) (measuresIn ms count)) nums labs ≡ walked (taskOf q rows) nums labs
+      unfolding S.searchOf walked
+      T-found nums labs =
+          rw (T-places)
+          (search-agrees (holdsIn rows columns cells offsets constants counts) (letterHolds (taskOf q rows)) letters-agree n (thinned (places (unroll (a .tree)))) (thinned-spelt (a .tree) the-lettered) mode (fits nums labs (measuresIn ms count))
+          ∙ walk-thin (unroll (a .tree)) (legal-unroll (a .tree) g) (letterHolds (taskOf q rows)) n mode (fits nums labs (measuresIn ms count))
+          ∙ same-search (places (unroll (a .tree))) (taskOf q rows .places) n (taskOf q rows .table .n) mode (taskOf q rows .mode) (measuresIn ms count) (taskOf q rows .measures) (sym the-places) the-rows the-mode the-measures)
+        where
+          same-search : (pl pl′ : List Place) (m m′ : ℕ) (o o′ : Bool) (x x′ : List Measure) → pl ≡ pl′ → m ≡ m′ → o ≡ o′ → x ≡ x′
+              → walkSearch (letterHolds (taskOf q rows)) m pl o (fits nums labs x) ≡ walkSearch (letterHolds (taskOf q rows)) m′ pl′ o′ (fits nums labs x′)
+          same-search pl pl′ m m′ o o′ x x′ e f h i = rw (e, f, h, i)
+
+      T-counted : (nums labs : ℕ) → W.N T n ≡ length (walked (taskOf q rows) nums labs .state .0)
+      unfolding walked
+      T-counted nums labs =
+          ap (λ (k : ℕ). pairs k n) T-count
+          ∙ ap₂ (λ (x y : ℕ). pairs x y) (a .places-are ∙ sym (places-counted (a .tree)) ∙ ap length (sym the-places)) the-rows
+          ∙ sym (rw the-places (walk-kept (unroll (a .tree)) (legal-unroll (a .tree) g) (letterHolds (taskOf q rows)) (taskOf q rows .table .n) (taskOf q rows .mode) (fits nums labs (taskOf q rows .measures))))
+
+      pub runs : Runs q T rows columns n cells offsets constants counts ms count mode notes trail
+      runs =
+          record {
+            searches = record { measured = the-measured; legal = T-legal; asks = the-letters; noted = rw T-count (a .noted); trailed = rw T-count (a .trailed) };
+            found = T-found;
+            numbered = λ k xs. rw (T-places, the-table, the-measures, the-places) (numbers-thin (taskOf q rows .table) (taskOf q rows .measures) (places (unroll (a .tree))) k xs);
+            labelled = λ xs. rw (T-places, the-places) (labels-of-thin (places (unroll (a .tree))) xs);
+            counted = T-counted;
+          }
+
+  -- as the code spreads its arrays
+  pub may-part : (table₀ table : List ℕ) (end : ℕ) → ((h : Unrolling nodes top p table₀) → Tabled (h .tree) p table₀ table end) → length table₀ ≡ 1792
+      → (co ne en st : List ℕ) → length co ≡ 256 → length ne ≡ 256 → length en ≡ 256 → length st ≡ 256 → Parts table p co ne en st
+  unfolding may-unroll
+  may-part table₀ table end f e co ne en st lc ln le ls = let b = f (may-unroll table₀ e) in may-spread table₀ table end b (b .len ∙ e) co ne en st lc ln le ls
+
   pub may-run : (table₀ table : List ℕ) (end : ℕ) → ((h : Unrolling nodes top p table₀) → Tabled (h .tree) p table₀ table end) → length table₀ ≡ 1792
       → (so₀ le₀ ne₀ st₀ so le ne st : List ℕ) → Parted table p so₀ le₀ ne₀ st₀ so le ne st → length so₀ ≡ 256 → length le₀ ≡ 256 → length ne₀ ≡ 256 → length st₀ ≡ 256
       → Runs q (W.tables (take (p - 0) (drop 0 so)) (take (p - 0) (drop 0 le)) (take (p - 0) (drop 0 ne)) (take (p - 0) (drop 0 st)) table) rows columns n cells offsets constants counts ms count mode notes trail
@@ -204,4 +215,4 @@ module _ (q nodes : List ℕ) (top p : ℕ) (rows : List ℤ) (columns n : ℕ) 
   may-run table₀ table end f e so₀ le₀ ne₀ st₀ so le ne st d ls ll ln lt =
       let b = f (may-unroll table₀ e) in
       let z : p - 0 ≡ p = omega arith in
-      rw z (runs table₀ table end b (b .len ∙ e) so₀ le₀ ne₀ st₀ so le ne st d (d .sorts .long ∙ ls) (d .letters .long ∙ ll) (d .nexts .long ∙ ln) (d .stops .long ∙ lt))
+      rw z (runs table₀ table end b (b .len ∙ e) so₀ le₀ ne₀ st₀ so le ne st d (d .codes .long ∙ ls) (d .nexts .long ∙ ll) (d .entries .long ∙ ln) (d .stops .long ∙ lt))

@@ -1,62 +1,101 @@
 // The whole search: answers 1 to 12 in front, then the walk over the unrolled pattern. Its promise, for every query, all rows and all lent buffers, is an
 // equation with document 01's definition, and the tender's demands with it (specs/Promise). Nothing is allocated; the tables lie on the stack.
 ghost use mathlib.Core.Path.{_≡_};
-ghost use Prim.Native.Nat.{ℕ, _+_, _*_, _%_, _≤_, _<_, min};
+ghost use Prim.Native.Nat.{ℕ, _+_, _*_, _%_, _≤_, _<_};
 ghost use lib.ListN.{length, getD, set};
 ghost use mathlib.Core.Bool.{Bool, true, false};
 ghost use lib.Dec.{eqb};
 ghost use Rattle.rules.specs.Basics.{pick};
 ghost use Rattle.walk.specs.Tables.{tables};
 ghost use Rattle.search.specs.Promise.{lent, memory, refusal, ended, Promised, Walks, Runs};
-ghost use Rattle.search.specs.Spread.{sortOf, letterOf, nextOf, stopOf, Parts, Parted};
+ghost use Rattle.search.specs.Spread.{codeBy, firstBy, secondBy, codeOf, nextOf, entryOf, stopOf, Place, Parts, Parted};
 
-// The sort of a place in a byte: any above 3 is END.
-fn sort_of(x: u16) -> u8
-    ensures { λ r. ⌜ r ≡ min x 4 ⌝ }
+fn wide(x: u16) -> usize
+    ensures { λ r. ⌜ (r ≡ x) × (r < 65536) ⌝ }
 {
-    if x < 4 { (x % 256) as u8 } else { 4 }
+    x as usize
 }
 
-fn low_byte(x: u16) -> u8
-    ensures { λ r. ⌜ r ≡ x % 256 ⌝ }
+// The code of a place of this sort and letter.
+fn code_of(sort: u16, letter: u16) -> u8
+    ensures { λ r. ⌜ r ≡ codeBy sort letter ⌝ }
 {
-    (x % 256) as u8
+    if sort == 0 {
+        return 28;
+    }
+    if sort == 1 {
+        return ((letter % 256 + 191) % 256) as u8;
+    }
+    if sort == 2 {
+        return 26;
+    }
+    if sort == 3 {
+        return 27;
+    }
+    29
 }
 
-// The words of place q into the four tables.
+// The place that is tried first from a place of this sort whose next place, or whose first way's word, is k.
+fn first_of(table: &[u16], sort: u16, k: u16) -> u16
+    requires { ⌜ (sort ≡ 0 → k < length (now table)) ⌝ }
+    ensures { λ r. ⌜ r ≡ firstBy (now (table .entry)) sort k ⌝ }
+{
+    if sort == 0 {
+        return table[wide(k)];
+    }
+    k
+}
+
+// The index of a fork's second way, where its ways begin at k and stop before e.
+fn second_of(sort: u16, k: usize, e: usize) -> usize
+    requires { ⌜ (k < 65536) × (e ≤ 2048) ⌝ }
+    ensures { λ r. ⌜ (r ≡ secondBy sort k e) × (r < 2048) ⌝ }
+{
+    if sort == 0 {
+        if k + 1 < e {
+            return k + 1;
+        }
+    }
+    0
+}
+
+// What the walk reads of place q, into the four tables.
 fn put_place(
     table: &[u16],
     q: usize,
-    sort: &mut [u8],
-    letter: &mut [u8],
+    code: &mut [u8],
     next: &mut [u16],
+    entry: &mut [u32],
     stop: &mut [u16],
 )
-    requires { ⌜ (4 * q + 3 < length (now table)) × (q < length (now sort)) × (q < length (now letter)) × (q < length (now next)) × (q < length (now stop)) ⌝ }
-    ensures { λ _. ⌜ (now (sort .exit) ≡ set (now (sort .entry)) q (sortOf (now (table .entry)) q)) × (now (letter .exit) ≡ set (now (letter .entry)) q (letterOf (now (table .entry)) q)) × (now (next .exit) ≡ set (now (next .entry)) q (nextOf (now (table .entry)) q)) × (now (stop .exit) ≡ set (now (stop .entry)) q (stopOf (now (table .entry)) q)) ⌝ }
+    requires { ⌜ Place (now table) q (now code) (now next) (now entry) (now stop) ⌝ }
+    ensures { λ _. ⌜ (now (code .exit) ≡ set (now (code .entry)) q (codeOf (now (table .entry)) q)) × (now (next .exit) ≡ set (now (next .entry)) q (nextOf (now (table .entry)) q)) × (now (entry .exit) ≡ set (now (entry .entry)) q (entryOf (now (table .entry)) q)) × (now (stop .exit) ≡ set (now (stop .entry)) q (stopOf (now (table .entry)) q)) ⌝ }
 {
     let at = 4 * q;
-    sort[q] = sort_of(table[at]);
-    letter[q] = low_byte(table[at + 1]);
-    next[q] = table[at + 2];
-    stop[q] = table[at + 3];
+    let sort = table[at];
+    let k = table[at + 2];
+    let e = table[at + 3];
+    code[q] = code_of(sort, table[at + 1]);
+    next[q] = first_of(table, sort, k);
+    entry[q] = (q + second_of(sort, wide(k), wide(e)) * 2097152) as u32;
+    stop[q] = e;
 }
 
-// Parts the table of p places into a table for each word.
+// Spreads the table of p places into a table for each thing that the walk reads of a place.
 fn part(
     table: &[u16],
     p: usize,
-    sort: &mut [u8],
-    letter: &mut [u8],
+    code: &mut [u8],
     next: &mut [u16],
+    entry: &mut [u32],
     stop: &mut [u16],
 )
-    requires { ⌜ Parts (now table) p (now sort) (now letter) (now next) (now stop) ⌝ }
-    ensures { λ _. ⌜ Parted (now (table .entry)) p (now (sort .entry)) (now (letter .entry)) (now (next .entry)) (now (stop .entry)) (now (sort .exit)) (now (letter .exit)) (now (next .exit)) (now (stop .exit)) ⌝ }
+    requires { ⌜ Parts (now table) p (now code) (now next) (now entry) (now stop) ⌝ }
+    ensures { λ _. ⌜ Parted (now (table .entry)) p (now (code .entry)) (now (next .entry)) (now (entry .entry)) (now (stop .entry)) (now (code .exit)) (now (next .exit)) (now (entry .exit)) (now (stop .exit)) ⌝ }
 {
     let mut q = 0;
     while q < p {
-        put_place(table, q, sort, letter, next, stop);
+        put_place(table, q, code, next, entry, stop);
         q += 1;
     }
 }
@@ -105,9 +144,9 @@ fn finished(s: sweep::Sweep) -> Outcome
 // All starts over the tables of the places.
 fn run_tables(
     query: &[u8],
-    sort: &[u8],
-    letter: &[u8],
+    code: &[u8],
     next: &[u16],
+    entry: &[u32],
     stop: &[u16],
     table: &[u16],
     rows: &[i32],
@@ -125,13 +164,13 @@ fn run_tables(
     numbers: &mut [i64],
     labels: &mut [u8],
 ) -> Outcome
-    requires { ⌜ Runs (now query) (tables (now sort) (now letter) (now next) (now stop) (now table)) (now rows) columns n (now cells) (now offsets) (now constants) (now counts) (now ms) count mode (now notes) (now trail) ⌝ }
+    requires { ⌜ Runs (now query) (tables (now code) (now next) (now entry) (now stop) (now table)) (now rows) columns n (now cells) (now offsets) (now constants) (now counts) (now ms) count mode (now notes) (now trail) ⌝ }
     ensures { λ r. ⌜ memory r (now (notes .exit)) (now (trail .exit)) (now (numbers .exit)) (now (labels .exit)) ≡ ended (now (query .entry)) (now (rows .entry)) (lent (now (notes .entry)) (now (trail .entry)) (now (numbers .entry)) (now (labels .entry))) ⌝ }
 {
     let s = sweep::search(
-        sort,
-        letter,
+        code,
         next,
+        entry,
         stop,
         table,
         rows,
@@ -178,16 +217,16 @@ fn walk_all(
 {
     let mut table = [0u16; 1792];
     let _end = places::unroll(nodes, top, places, &mut table);
-    let mut sort = [0u8; 256];
-    let mut letter = [0u8; 256];
+    let mut code = [0u8; 256];
     let mut next = [0u16; 256];
+    let mut entry = [0u32; 256];
     let mut stop = [0u16; 256];
-    part(&table, places, &mut sort, &mut letter, &mut next, &mut stop);
+    part(&table, places, &mut code, &mut next, &mut entry, &mut stop);
     run_tables(
         query,
-        &sort[0..places],
-        &letter[0..places],
+        &code[0..places],
         &next[0..places],
+        &entry[0..places],
         &stop[0..places],
         &table,
         rows,

@@ -6,19 +6,19 @@ use Prim.Native.Nat.{ℕ, zero, suc, _+_, _-_, _/_, _%_, _≤_, _<_}
 use native.Mathlib.Nat.{mod-lt}
 use native.Mathlib.Omega.{arith}
 use lib.ListN.{length, getD, set}
-use borrow.Author.Tests.{eq-eqb, ne-eqb, lt-ltb, le-ltb}
-use Rattle.rules.specs.Basics.{wrote}
+use lib.Dec.{ltb, eqb}
+use borrow.Author.Tests.{lt-ltb, le-ltb}
+use Rattle.rules.specs.Basics.{pick, wrote}
 use Rattle.rules.specs.Places.{Place, pLetter, pCaret, pDollar, pFork, pEnd}
 use Rattle.rules.specs.Search.{labels, labelOf, nextStart}
 use Rattle.rules.proofs.Appended.{wrote-none, length-wrote-at}
-use Rattle.walk.specs.declared.Walk.{Walk}
-use Rattle.walk.specs.Tables.{Tables, P, placeBy, placeAt, placesIn}
-use Rattle.walk.specs.Step.{stack, pairOf, backTo, Backs}
-use Rattle.walk.specs.State.{takes, Onto, Linked, OnPath}
+use Rattle.walk.specs.Tables.{Tables, P, waysOf, placeBy, placeAt, placesIn}
+use Rattle.walk.specs.Step.{placeIn, pairIn, stack}
+use Rattle.walk.specs.State.{takes, Onto, Linked, Word}
 use Rattle.walk.proofs.Ways.{in-length, in-at}
-use Rattle.walk.proofs.Trails.{back-top, path-top, path-place, path-backs, path-back}
+use Rattle.walk.proofs.Trails.{word-place}
 use Rattle.sweep.specs.Asked.{labelsOn}
-use Rattle.sweep.specs.Found.{labelBy, OneMore, PutsLabel, Labels}
+use Rattle.sweep.specs.Found.{ifLetter, labelBy, OneMore, PutsLabel, Labels}
 
 -- ---- one label
 
@@ -34,20 +34,20 @@ wrote-before {A} (x ∷ xs) vs (suc e) c h =
     let b : suc e + suc (length vs) ≡ suc (e + suc (length vs)) = omega arith in
     rw (a, b) (ap (λ (l : List A). x ∷ l) (wrote-before xs vs e c (omega arith)))
 
-pub puts-some : (so le labs : List ℕ) (q e : ℕ) → PutsLabel so le labs q e → getD so q 0 ≡ 1 → (0 < e) × (e ≤ length labs)
-puts-some so le labs q e h s = (h .room s, h .end)
+pub puts-some : (co labs : List ℕ) (q e : ℕ) → PutsLabel co labs q e → getD co q 0 < 26 → (0 < e) × (e ≤ length labs)
+puts-some co labs q e h s = (h .room s, h .end)
 
-module _ (l l′ : List ℕ) (s c e : ℕ) where
-  pub put-letter : s ≡ 1 → 0 < e → l′ ≡ set l (e - 1) c → OneMore l l′ s c e (e - 1)
+module _ (l l′ : List ℕ) (c e : ℕ) where
+  pub put-letter : c < 26 → 0 < e → l′ ≡ set l (e - 1) (c + 65) → OneMore l l′ c e (e - 1)
   unfolding labelBy
   put-letter h g el d vs ed room =
       let k : e ≡ suc (e - 1) = omega arith in
-      let w : set (wrote d e vs) (e - 1) c ≡ wrote d (e - 1) (c ∷ vs) = subst (λ (z : ℕ). set (wrote d z vs) (e - 1) c ≡ wrote d (e - 1) (c ∷ vs)) (sym k) (wrote-before d vs (e - 1) c (omega arith)) in
-      rw (eq-eqb s 1 h) (el ∙ ap (λ (z : List ℕ). set z (e - 1) c) ed ∙ w, omega arith)
+      let w : set (wrote d e vs) (e - 1) (c + 65) ≡ wrote d (e - 1) ((c + 65) ∷ vs) = subst (λ (z : ℕ). set (wrote d z vs) (e - 1) (c + 65) ≡ wrote d (e - 1) ((c + 65) ∷ vs)) (sym k) (wrote-before d vs (e - 1) (c + 65) (omega arith)) in
+      rw (lt-ltb c 26 h) (el ∙ ap (λ (z : List ℕ). set z (e - 1) (c + 65)) ed ∙ w, omega arith)
 
-  pub put-other : (s ≡ 1 → ⊥) → l′ ≡ l → OneMore l l′ s c e e
+  pub put-other : 26 ≤ c → l′ ≡ l → OneMore l l′ c e e
   unfolding labelBy
-  put-other h el d vs ed room = rw (ne-eqb s 1 h) (el ∙ ed, refl)
+  put-other h el d vs ed room = rw (le-ltb c 26 h) (el ∙ ed, refl)
 
 -- ---- the labels of a stack, before others
 
@@ -76,17 +76,16 @@ up-length pl (x ∷ xs) vs =
     let b = label-length p vs in
     omega arith
 
-label-by : (s c k : ℕ) (ks vs : List ℕ) → labelOf (placeBy s c k ks) vs ≡ labelBy s c vs
-unfolding placeBy labelBy
-label-by zero c k ks vs = refl
-label-by (suc zero) c k ks vs = refl
-label-by (suc (suc zero)) c k ks vs = refl
-label-by (suc (suc (suc zero))) c k ks vs = refl
-label-by (suc (suc (suc (suc m)))) c k ks vs = rw (ne-eqb (suc (suc (suc (suc m)))) 1 (λ (e : suc (suc (suc (suc m))) ≡ 1). omega arith))
+label-of : (c k : ℕ) (ks vs : List ℕ) (a x y z : Bool) → labelOf (pick a (pLetter c k) (pick x (pCaret k) (pick y (pDollar k) (pick z (pFork ks) pEnd)))) vs ≡ ifLetter a c vs
+label-of c k ks vs true x y z = refl
+label-of c k ks vs false true y z = refl
+label-of c k ks vs false false true z = refl
+label-of c k ks vs false false false true = refl
+label-of c k ks vs false false false false = refl
 
-label-at : (T : Tables) (q : ℕ) (vs : List ℕ) → labelOf (placeAt T q) vs ≡ labelBy (getD (T .sort) q 0) (getD (T .letter) q 0) vs
-unfolding placeAt
-label-at T q vs = label-by (getD (T .sort) q 0) (getD (T .letter) q 0) (getD (T .next) q 0) _ vs
+label-at : (T : Tables) (q : ℕ) (vs : List ℕ) → labelOf (placeAt T q) vs ≡ labelBy (getD (T .code) q 0) vs
+unfolding placeAt placeBy labelBy
+label-at T q vs = label-of _ (getD (T .next) q 0) (waysOf T q) vs (ltb (getD (T .code) q 0) 26) (eqb (getD (T .code) q 0) 26) (eqb (getD (T .code) q 0) 27) (eqb (getD (T .code) q 0) 28)
 
 up-cons : (pl : List Place) (x : ℕ) (xs vs : List ℕ) → labelsUp pl (x ∷ xs) vs ≡ labelsUp pl xs (labelOf (getD pl (x % length pl) (pFork [])) vs)
 unfolding labelsUp
@@ -124,104 +123,103 @@ module _ (T : Tables) where
 
 -- ---- one pair back
 
-module _ (T : Tables) (trail : List ℕ) (w : Walk) (h : OnPath T trail w) (going : 0 < w .top) where
-  up-back : (vs : List ℕ) → labelsUp (placesIn T) (stack trail (w .top)) vs
-      ≡ labelsUp (placesIn T) (stack trail (w .top - 1)) (labelBy (getD (T .sort) (w .place) 0) (getD (T .letter) (w .place) 0) vs)
-  up-back vs =
-      rw (path-top T trail w h going) (up-cons (placesIn T) (pairOf w) (stack trail (w .top - 1)) vs ∙ ap (labelsUp (placesIn T) (stack trail (w .top - 1))) label-is)
+module _ (T : Tables) (trail : List ℕ) (some : 0 < P T) where
+  up-back : (k : ℕ) → Word T (getD trail k 0) → (vs : List ℕ)
+      → labelsUp (placesIn T) (stack (P T) trail (suc k)) vs ≡ labelsUp (placesIn T) (stack (P T) trail k) (labelBy (getD (T .code) (placeIn (getD trail k 0)) 0) vs)
+  unfolding stack
+  up-back k h vs = up-cons (placesIn T) (pairIn (P T) (getD trail k 0)) (stack (P T) trail k) vs ∙ ap (labelsUp (placesIn T) (stack (P T) trail k)) label-is
     where
-      label-is : labelOf (getD (placesIn T) (pairOf w % length (placesIn T)) (pFork [])) vs ≡ labelBy (getD (T .sort) (w .place) 0) (getD (T .letter) (w .place) 0) vs
-      label-is = ap (λ (p : Place). labelOf p vs) (place-of T (pairOf w) (h .sized .some) ∙ ap (placeAt T) (path-place T trail w h going)) ∙ label-at T (w .place) vs
+      label-is : labelOf (getD (placesIn T) (pairIn (P T) (getD trail k 0) % length (placesIn T)) (pFork [])) vs ≡ labelBy (getD (T .code) (placeIn (getD trail k 0)) 0) vs
+      label-is = ap (λ (p : Place). labelOf p vs) (place-of T (pairIn (P T) (getD trail k 0)) some ∙ ap (placeAt T) (word-place T (getD trail k 0) (h .place))) ∙ label-at T (placeIn (getD trail k 0)) vs
 
 -- ---- the loop
 
-pub record Labelling (T : Tables) (trail d : List ℕ) (top₁ fin : ℕ) (lab : List ℕ) (w : Walk) (e : ℕ) : Type 0 where
-  pub path : OnPath T trail w
+pub record Labelling (T : Tables) (trail d : List ℕ) (top₁ fin : ℕ) (lab : List ℕ) (k e : ℕ) : Type 0 where
+  pub asks : Labels T trail d top₁ fin
+  pub within : k ≤ top₁
   pub vs : List ℕ
   pub lab-is : lab ≡ wrote d e vs
   pub end : e + length vs ≡ fin
-  pub room : fin ≤ length d
-  pub up : labelsUp (placesIn T) (stack trail (w .top)) vs ≡ labelsOn T trail top₁
-  pub enough : length (labelsOn T trail top₁) ≤ fin
+  pub up : labelsUp (placesIn T) (stack (P T) trail k) vs ≡ labelsOn T trail top₁
 
-up-none : (pl : List Place) (trail vs L : List ℕ) (t : ℕ) → t ≤ 0 → labelsUp pl (stack trail t) vs ≡ L → vs ≡ L
+up-none : (pl : List Place) (P : ℕ) (trail vs L : List ℕ) (t : ℕ) → t ≤ 0 → labelsUp pl (stack P trail t) vs ≡ L → vs ≡ L
 unfolding labelsUp stack
-up-none pl trail vs L zero h e = e
-up-none pl trail vs L (suc t) h e = absurd (omega arith)
+up-none pl P trail vs L zero h e = e
+up-none pl P trail vs L (suc t) h e = absurd (omega arith)
 
-one-longer : (s c : ℕ) (vs : List ℕ) → s ≡ 1 → length (labelBy s c vs) ≡ suc (length vs)
+one-longer : (c : ℕ) (vs : List ℕ) → c < 26 → length (labelBy c vs) ≡ suc (length vs)
 unfolding labelBy
-one-longer s c vs e = rw (eq-eqb s 1 e)
+one-longer c vs e = rw (lt-ltb c 26 e)
 
-module _ (T : Tables) (trail d : List ℕ) (fin : ℕ) where
-  pub labelling-none : (w : Walk) → Labels T trail d w fin → Labelling T trail d (w .top) fin d w fin
+module _ (T : Tables) (trail d : List ℕ) (top₁ fin : ℕ) where
+  pub labelling-none : Labels T trail d top₁ fin → Labelling T trail d top₁ fin d top₁ fin
   unfolding labelsOn labels
-  labelling-none w h =
+  labelling-none h =
       record {
-        path = h .path;
+        asks = h;
+        within = omega arith;
         vs = [];
         lab-is = sym (wrote-none d fin);
         end = omega arith;
-        room = h .end-room;
-        up = sym (labels-up (placesIn T) (stack trail (w .top)) []);
-        enough = h .enough;
+        up = sym (labels-up (placesIn T) (stack (P T) trail top₁) []);
       }
 
-  module _ (top₁ : ℕ) (lab : List ℕ) (w : Walk) (e : ℕ) (u : Labelling T trail d top₁ fin lab w e) where
+  module _ (lab : List ℕ) (k e : ℕ) (u : Labelling T trail d top₁ fin lab k e) where
     pub labelling-long : length lab ≡ length d
-    labelling-long = let a = u .end in let b = u .room in rw (u .lab-is) (length-wrote-at d e (u .vs) (omega arith))
+    labelling-long = let a = u .end in let b = u .asks .end-room in rw (u .lab-is) (length-wrote-at d e (u .vs) (omega arith))
 
-    pub labelling-all : w .top ≤ 0 → lab ≡ wrote d (fin - length (labelsOn T trail top₁)) (labelsOn T trail top₁)
+    pub labelling-all : k ≤ 0 → lab ≡ wrote d (fin - length (labelsOn T trail top₁)) (labelsOn T trail top₁)
     labelling-all l =
-        let v : u .vs ≡ labelsOn T trail top₁ = up-none (placesIn T) trail (u .vs) _ (w .top) l (u .up) in
+        let v : u .vs ≡ labelsOn T trail top₁ = up-none (placesIn T) (P T) trail (u .vs) _ k l (u .up) in
         let a = u .end in
-        let k : e ≡ fin - length (labelsOn T trail top₁) = rw v at (let z : e ≡ fin - length (u .vs) = omega arith in z) in
-        rw (k, v) at (u .lab-is)
+        let z : e ≡ fin - length (labelsOn T trail top₁) = rw v at (let y : e ≡ fin - length (u .vs) = omega arith in y) in
+        rw (z, v) at (u .lab-is)
 
-    module _ (going : 0 < w .top) where
-      pub labelling-backs : Backs trail (P T) w
-      labelling-backs = path-backs T trail w (u .path) going
+    module _ (going : 0 < k) where
+      pub labelling-read : k - 1 < length trail
+      labelling-read = let a = u .within in let b = u .asks .trailed in omega arith
 
-      room : getD (T .sort) (w .place) 0 ≡ 1 → 0 < e
+      abbrev code : ℕ
+      code = getD (T .code) (placeIn (getD trail (k - 1) 0)) 0
+
+      word : Word T (getD trail (k - 1) 0)
+      word = u .asks .words (k - 1) (let a = u .within in omega arith)
+
+      up-is : labelsUp (placesIn T) (stack (P T) trail (k - 1)) (labelBy code (u .vs)) ≡ labelsOn T trail top₁
+      up-is =
+          let s : suc (k - 1) ≡ k = omega arith in
+          let a : labelsUp (placesIn T) (stack (P T) trail k) (u .vs) ≡ labelsUp (placesIn T) (stack (P T) trail (k - 1)) (labelBy code (u .vs)) =
+          subst (λ (t : ℕ). labelsUp (placesIn T) (stack (P T) trail t) (u .vs) ≡ labelsUp (placesIn T) (stack (P T) trail (k - 1)) (labelBy code (u .vs))) s (up-back T trail (u .asks .some) (k - 1) word (u .vs)) in
+          sym a ∙ u .up
+
+      room : code < 26 → 0 < e
       room s =
           let a = u .end in
-          let b = u .enough in
-          let v : List ℕ = labelBy (getD (T .sort) (w .place) 0) (getD (T .letter) (w .place) 0) (u .vs) in
-          let c : length v ≤ length (labelsOn T trail top₁) = rw (← u .up, up-back T trail w (u .path) going (u .vs)) (up-length (placesIn T) (stack trail (w .top - 1)) v) in
-          let f : length v ≡ suc (length (u .vs)) = one-longer (getD (T .sort) (w .place) 0) (getD (T .letter) (w .place) 0) (u .vs) s in
+          let b = u .asks .enough in
+          let c : length (labelBy code (u .vs)) ≤ length (labelsOn T trail top₁) = rw (← up-is) (up-length (placesIn T) (stack (P T) trail (k - 1)) (labelBy code (u .vs))) in
+          let f : length (labelBy code (u .vs)) ≡ suc (length (u .vs)) = one-longer code (u .vs) s in
           omega arith
 
-      pub labelling-puts : PutsLabel (T .sort) (T .letter) lab (w .place) e
-      labelling-puts =
-          let p = u .path .spot going .place in
+      pub labelling-puts : (q : ℕ) → q ≡ placeIn (getD trail (k - 1) 0) → PutsLabel (T .code) lab q e
+      labelling-puts q eq =
           let a = u .end in
-          let b = u .room in
+          let b = u .asks .end-room in
           let l = labelling-long in
-          record { place = p; letter = rw (u .path .sized .letters) p; end = omega arith; room = room }
+          rw eq (record { place = word .place; end = omega arith; room = room })
 
-      module _ (lab′ : List ℕ) (r : Walk) (e′ : ℕ) (o : OneMore lab lab′ (getD (T .sort) (w .place) 0) (getD (T .letter) (w .place) 0) e e′)
-          (er : r ≡ backTo (P T) trail w (w .top - 1)) where
-        more : Labelling T trail d top₁ fin lab′ (backTo (P T) trail w (w .top - 1)) e′
-        more =
-            let bt = back-top (P T) trail w (w .top - 1) in
-            let a = u .end in
-            let b = u .room in
-            let f = o d (u .vs) (u .lab-is) (omega arith) in
-            record {
-              path = path-back T trail w (u .path) going;
-              vs = labelBy (getD (T .sort) (w .place) 0) (getD (T .letter) (w .place) 0) (u .vs);
-              lab-is = f .0;
-              end = f .1 ∙ u .end;
-              room = u .room;
-              up = rw bt (sym (up-back T trail w (u .path) going (u .vs)) ∙ u .up);
-              enough = u .enough;
-            }
-
-        pub labelling-more : Labelling T trail d top₁ fin lab′ r e′
-        labelling-more = rw er more
-
-        pub labelling-less : r .top < w .top
-        labelling-less = rw (er, back-top (P T) trail w (w .top - 1)) (omega arith)
+      pub labelling-more : (q : ℕ) → q ≡ placeIn (getD trail (k - 1) 0) → (lab′ : List ℕ) (e′ : ℕ) → OneMore lab lab′ (getD (T .code) q 0) e e′ → Labelling T trail d top₁ fin lab′ (k - 1) e′
+      labelling-more q eq lab′ e′ o =
+          let a = u .end in
+          let b = u .asks .end-room in
+          let f : (lab′ ≡ wrote d e′ (labelBy code (u .vs))) × (e′ + length (labelBy code (u .vs)) ≡ e + length (u .vs)) = rw eq at (o d (u .vs) (u .lab-is) (omega arith)) in
+          record {
+            asks = u .asks;
+            within = let w = u .within in omega arith;
+            vs = labelBy code (u .vs);
+            lab-is = f .0;
+            end = f .1 ∙ u .end;
+            up = up-is;
+          }
 
 -- ---- the next start
 

@@ -3,7 +3,7 @@ use mathlib.Core.Path.{_≡_, refl, sym, ap, _∙_, subst}
 use mathlib.Core.List.{List, [], _∷_, _++_, reverseAux}
 use mathlib.Core.Bool.{Bool, true, false}
 use mathlib.Core.Option.{some}
-use Prim.Native.Nat.{ℕ, zero, suc, _+_, _-_, _*_, _/_, _%_, _≤_}
+use Prim.Native.Nat.{ℕ, zero, suc, _+_, _-_, _*_, _/_, _%_, _≤_, _<_}
 use native.Mathlib.Nat.{add-zero, mul-le-mul, mul-le-mul-right, le-trans}
 use native.Mathlib.Omega.{arith}
 use lib.Arith.{digits-div}
@@ -20,11 +20,11 @@ use Rattle.rules.proofs.Lists.{length-tabulate}
 use Rattle.decode.specs.Layout.{measuresIn}
 use Rattle.report.specs.Measures.{Appendable}
 use Rattle.walk.specs.declared.Walk.{Walk}
-use Rattle.walk.specs.Tables.{Tables, P, placeBy, placeAt, placesIn}
+use Rattle.walk.specs.Tables.{Tables, P, waysOf, placeAt, placesIn}
 use Rattle.walk.specs.Step.{pairIn, stack, pairOf}
 use Rattle.walk.specs.State.{takes}
-use Rattle.walk.proofs.Ways.{in-length}
-use Rattle.walk.proofs.Trails.{path-top, path-linked, path-row, path-place}
+use Rattle.walk.proofs.Ways.{in-length, by-high}
+use Rattle.walk.proofs.Trails.{path-top, path-linked, path-row, path-at}
 use Rattle.sweep.specs.declared.Sweep.{Sweep}
 use Rattle.sweep.specs.Asked.{asked, pathOn, labelsOn}
 use Rattle.sweep.specs.Found.{Labels, Told, Reports}
@@ -35,19 +35,11 @@ last-up : (d x : ℕ) (p xs : List ℕ) → lastOf d (reverseAux xs (x ∷ p)) �
 last-up d x p [] = refl
 last-up d x p (y ∷ xs) = last-up d y (x ∷ p) xs
 
-end-takes : (s c k : ℕ) (ks : List ℕ) → 4 ≤ s → takes (placeBy s c k ks) ≡ 0
-unfolding placeBy
-end-takes zero c k ks h = absurd (omega arith)
-end-takes (suc zero) c k ks h = absurd (omega arith)
-end-takes (suc (suc zero)) c k ks h = absurd (omega arith)
-end-takes (suc (suc (suc zero))) c k ks h = absurd (omega arith)
-end-takes (suc (suc (suc (suc m)))) c k ks h = refl
-
-takes-end : (T : Tables) (q : ℕ) → 4 ≤ getD (T .sort) q 0 → takes (placeAt T q) ≡ 0
+takes-end : (T : Tables) (q : ℕ) → 28 < getD (T .code) q 0 → takes (placeAt T q) ≡ 0
 unfolding placeAt
-takes-end T q h = end-takes (getD (T .sort) q 0) _ _ _ h
+takes-end T q h = by-high (λ _ _. true) 0 (P T) (getD (T .next) q 0) (waysOf T q) 0 (getD (T .code) q 0) (omega arith)
 
-ends-at : (T : Tables) (trail : List ℕ) (i : ℕ) → pairIn (getD trail 0 0) / P T ≡ i → (t : ℕ) → Ends T (stack trail (suc t)) i
+ends-at : (T : Tables) (trail : List ℕ) (i : ℕ) → pairIn (P T) (getD trail 0 0) / P T ≡ i → (t : ℕ) → Ends T (stack (P T) trail (suc t)) i
 unfolding stack
 ends-at T trail i e zero = e
 ends-at T trail i e (suc t) = ends-at T trail i e t
@@ -66,7 +58,7 @@ measures-count ms count = length-tabulate count _
 module _ (T : Tables) (n : ℕ) (ms : List ℕ) (count : ℕ) (rows : List ℤ) (columns : ℕ) (trail labs : List ℕ) (i : Sweep) (w : Walk)
     (h : Reports T n ms count rows columns trail labs i w) where
   abbrev p : List ℕ
-  p = pathOn trail (w .top)
+  p = pathOn (P T) trail (w .top)
 
   abbrev ls : List ℕ
   ls = labels (placesIn T) p
@@ -74,23 +66,23 @@ module _ (T : Tables) (n : ℕ) (ms : List ℕ) (count : ℕ) (rows : List ℤ) 
   abbrev taken : ℕ
   taken = w .row - i .row
 
-  stack-is : stack trail (w .top) ≡ pairOf w ∷ stack trail (w .top - 1)
+  stack-is : stack (P T) trail (w .top) ≡ pairOf w ∷ stack (P T) trail (w .top - 1)
   stack-is = path-top T trail w (h .path) (h .going)
 
-  ends : Ends T (pairOf w ∷ stack trail (w .top - 1)) (i .row)
+  ends : Ends T (pairOf w ∷ stack (P T) trail (w .top - 1)) (i .row)
   ends =
-      let b : pairIn (getD trail 0 0) / P T ≡ i .row = rw (h .bottom) (rw add-zero at (digits-div (i .row) (h .path .sized .some))) in
+      let b : pairIn (P T) (getD trail 0 0) / P T ≡ i .row = rw (h .bottom) (rw add-zero at (digits-div (i .row) (h .path .sized .some))) in
       let g = h .going in
       let k : w .top ≡ suc (w .top - 1) = omega arith in
-      let e : Ends T (stack trail (suc (w .top - 1))) (i .row) = ends-at T trail (i .row) b (w .top - 1) in
-      let f : Ends T (stack trail (w .top)) (i .row) = subst (λ (t : ℕ). Ends T (stack trail t) (i .row)) (sym k) e in
+      let e : Ends T (stack (P T) trail (suc (w .top - 1))) (i .row) = ends-at T trail (i .row) b (w .top - 1) in
+      let f : Ends T (stack (P T) trail (w .top)) (i .row) = subst (λ (t : ℕ). Ends T (stack (P T) trail t) (i .row)) (sym k) e in
       rw stack-is at f
 
   rows-are : i .row + length ls ≡ w .row
   rows-are =
-      let r = rows-taken T (h .path .sized .some) (pairOf w) (stack trail (w .top - 1)) (i .row) (path-linked T trail w (h .path) (h .going)) ends in
+      let r = rows-taken T (h .path .sized .some) (pairOf w) (stack (P T) trail (w .top - 1)) (i .row) (path-linked T trail w (h .path) (h .going)) ends in
       let a = path-row T trail w (h .path) (h .going) in
-      let t : takes (placeAt T (pairOf w % P T)) ≡ 0 = rw (path-place T trail w (h .path) (h .going)) (takes-end T (w .place) (h .last)) in
+      let t : takes (placeAt T (pairOf w % P T)) ≡ 0 = rw (path-at T trail w (h .path) (h .going)) (takes-end T (w .place) (h .last)) in
       rw stack-is (omega arith)
 
   pub tell-at : i .matches * (3 + 2 * count) ≤ 4096 * 19
@@ -120,8 +112,8 @@ module _ (T : Tables) (n : ℕ) (ms : List ℕ) (count : ℕ) (rows : List ℤ) 
       rooms : (i .matches * (3 + 2 * count) + (3 + 2 * count) ≤ nums) × (i .labels + taken ≤ length labs)
       rooms = rw (measures-count ms count, taken-is) at (fits-room nums (length labs) (measuresIn ms count) (i .matches) (i .labels) ls (sym fits-is ∙ et))
 
-      pub tell-labels : Labels T trail labs w (i .labels + taken)
-      tell-labels = record { path = h .path; end-room = rooms .1; enough = rw (on-is, taken-is) (omega arith) }
+      pub tell-labels : Labels T trail labs (w .top) (i .labels + taken)
+      tell-labels = record { some = h .path .sized .some; trailed = h .path .room; words = h .path .words; end-room = rooms .1; enough = rw (on-is, taken-is) (omega arith) }
 
       module _ (labs′ : List ℕ) (el : labs′ ≡ wrote labs (i .labels + taken - length (labelsOn T trail (w .top))) (labelsOn T trail (w .top))) where
         written : labs′ ≡ wrote labs (i .labels) ls
@@ -160,7 +152,7 @@ module _ (T : Tables) (n : ℕ) (ms : List ℕ) (count : ℕ) (rows : List ℤ) 
 
         next-is : (mode : Bool) → nextStart mode (i .row) (endOf (length (placesIn T)) p) ≡ nextStart mode (i .row) (w .row)
         next-is mode =
-            let l : lastOf 0 p ≡ pairOf w = ap (λ (s : List ℕ). lastOf 0 (reverseAux s [])) stack-is ∙ last-up 0 (pairOf w) [] (stack trail (w .top - 1)) in
+            let l : lastOf 0 p ≡ pairOf w = ap (λ (s : List ℕ). lastOf 0 (reverseAux s [])) stack-is ∙ last-up 0 (pairOf w) [] (stack (P T) trail (w .top - 1)) in
             ap (nextStart mode (i .row)) (rw (l, in-length T) (path-row T trail w (h .path) (h .going)))
 
         pub tell-fits : (numbers numbers′ : List ℤ) (mode : Bool) (nx : ℕ) → nums ≡ length numbers

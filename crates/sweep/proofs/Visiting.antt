@@ -50,20 +50,20 @@ enter-head : (b : Bool) (ways : ℕ → Ways) (k : ℕ) (F : List Bool) (s x : �
 enter-head true ways k F s x = tt
 enter-head false ways k F s x = inside-head ways k F (suc s) x
 
-head-up : (trail p : List ℕ) (t : ℕ) → headOf (reverseAux (stack trail (suc t)) p) ≡ pairIn (getD trail 0 0)
+head-up : (P : ℕ) (trail p : List ℕ) (t : ℕ) → headOf (reverseAux (stack P trail (suc t)) p) ≡ pairIn P (getD trail 0 0)
 unfolding stack
-head-up trail p zero = refl
-head-up trail p (suc t) = head-up trail (pairIn (getD trail (suc t) 0) ∷ p) t
+head-up P trail p zero = refl
+head-up P trail p (suc t) = head-up P trail (pairIn P (getD trail (suc t) 0) ∷ p) t
 
-head-out : (trail : List ℕ) (F : List Bool) (s x t : ℕ) → 0 < t → HeadIs x (outcomeBy t trail F s) → pairIn (getD trail 0 0) ≡ x
+head-out : (P : ℕ) (trail : List ℕ) (F : List Bool) (s x t : ℕ) → 0 < t → HeadIs x (outcomeBy P t trail F s) → pairIn P (getD trail 0 0) ≡ x
 unfolding outcomeBy
-head-out trail F s x zero l h = absurd (not-suc-le-zero l)
-head-out trail F s x (suc t) l h = sym (head-up trail [] t) ∙ h
+head-out P trail F s x zero l h = absurd (not-suc-le-zero l)
+head-out P trail F s x (suc t) l h = sym (head-up P trail [] t) ∙ h
 
-found-by : (trail : List ℕ) (F : List Bool) (s k : ℕ) → 0 < k → answered (outcomeBy k trail F s) ≡ (some (pathOn trail k), (F, s))
+found-by : (P : ℕ) (trail : List ℕ) (F : List Bool) (s k : ℕ) → 0 < k → answered (outcomeBy P k trail F s) ≡ (some (pathOn P trail k), (F, s))
 unfolding outcomeBy
-found-by trail F s zero l = absurd (not-suc-le-zero l)
-found-by trail F s (suc k) l = refl
+found-by P trail F s zero l = absurd (not-suc-le-zero l)
+found-by P trail F s (suc k) l = refl
 
 -- ---- an attempt takes no more steps than there are pairs
 
@@ -71,19 +71,19 @@ length-up : (xs p : List ℕ) → length (reverseAux xs p) ≡ length xs + lengt
 length-up [] p = omega arith
 length-up (x ∷ xs) p = let r = length-up xs (x ∷ p) in omega arith
 
-none-taken : (trail : List ℕ) (F F′ : List Bool) (s s′ t : ℕ) → failed F s ≡ outcomeBy t trail F′ s′ → s ≡ s′
+none-taken : (P : ℕ) (trail : List ℕ) (F F′ : List Bool) (s s′ t : ℕ) → failed F s ≡ outcomeBy P t trail F′ s′ → s ≡ s′
 unfolding outcomeBy
-none-taken trail F F′ s s′ zero e = cc
-none-taken trail F F′ s s′ (suc t) e = let z : _≡_ {A = ℕ} 0 1 = cc in absurd (omega arith)
+none-taken P trail F F′ s s′ zero e = cc
+none-taken P trail F F′ s s′ (suc t) e = let z : _≡_ {A = ℕ} 0 1 = cc in absurd (omega arith)
 
-module _ (ρ : ℕ → ℕ) (N : ℕ) (F : List Bool) (s x : ℕ) (trail : List ℕ) (F′ : List Bool) (s′ : ℕ) where
-  steps-by : (t : ℕ) → t + countTrue F′ ≤ N → InsidePost ρ F (suc s) x (outcomeBy t trail F′ s′) → s′ ≤ s + N
+module _ (P : ℕ) (ρ : ℕ → ℕ) (N : ℕ) (F : List Bool) (s x : ℕ) (trail : List ℕ) (F′ : List Bool) (s′ : ℕ) where
+  steps-by : (t : ℕ) → t + countTrue F′ ≤ N → InsidePost ρ F (suc s) x (outcomeBy P t trail F′ s′) → s′ ≤ s + N
   unfolding outcomeBy
   steps-by zero l p = let q = p .sum in omega arith
   steps-by (suc t) l p =
       let q = p .sum in
-      let a = length-up (stack trail (suc t)) [] in
-      let b = stack-length trail (suc t) in
+      let a = length-up (stack P trail (suc t)) [] in
+      let b = stack-length P trail (suc t) in
       omega arith
 
 -- ---- the start
@@ -114,7 +114,7 @@ module _ (A : Asked) (Q : Type 0) (ms : List ℕ) (count : ℕ) (rows : List ℤ
     abbrev F₁ : List Bool
     F₁ = bitsOf notes₁ M
 
-    att-is : att ≡ answered (outcomeBy (w .top) trail₁ F₁ (w .steps))
+    att-is : att ≡ answered (outcomeBy (P T) (w .top) trail₁ F₁ (w .steps))
     att-is = ap answered (d .same)
 
     room : w .top + countTrue F₁ ≤ M
@@ -123,17 +123,17 @@ module _ (A : Asked) (Q : Type 0) (ms : List ℕ) (count : ℕ) (rows : List ℤ
     steps-more : w .steps ≤ i .steps + M
     steps-more = go (getD F (i .row * P T) false) refl (d .same)
       where
-        go : (b : Bool) → getD F (i .row * P T) false ≡ b → enterUnless b (inside (graphOf T (A .holds) (A .n)) M) F (i .steps) (i .row * P T) ≡ outcomeBy (w .top) trail₁ F₁ (w .steps) → w .steps ≤ i .steps + M
-        go true o e = let q = none-taken trail₁ F F₁ (i .steps) (w .steps) (w .top) e in omega arith
+        go : (b : Bool) → getD F (i .row * P T) false ≡ b → enterUnless b (inside (graphOf T (A .holds) (A .n)) M) F (i .steps) (i .row * P T) ≡ outcomeBy (P T) (w .top) trail₁ F₁ (w .steps) → w .steps ≤ i .steps + M
+        go true o e = let q = none-taken (P T) trail₁ F F₁ (i .steps) (w .steps) (w .top) e in omega arith
         go false o e =
             let p = inside-post (graphOf T (A .holds) (A .n)) (h .legal .ρ) M (h .legal .falls) M F (suc (i .steps)) (i .row * P T) (h .legal .bound (i .row * P T)) first-below (bitsFrom-length notes M 0) o in
-            steps-by (h .legal .ρ) M F (i .steps) (i .row * P T) trail₁ F₁ (w .steps) (w .top) room (rw e at p)
+            steps-by (P T) (h .legal .ρ) M F (i .steps) (i .row * P T) trail₁ F₁ (w .steps) (w .top) room (rw e at p)
 
     pub visit-none : (numbers : List ℤ) → w .top ≡ 0
         → Visited A notes notes₁ trail trail₁ numbers numbers labs labs i (record { full = false; row = i .row + 1; matches = i .matches; labels = i .labels; steps = w .steps })
     unfolding outcomeBy
     visit-none numbers t =
-        let a : att ≡ (none, (F₁, w .steps)) = att-is ∙ ap (λ (k : ℕ). answered (outcomeBy k trail₁ F₁ (w .steps))) t in
+        let a : att ≡ (none, (F₁, w .steps)) = att-is ∙ ap (λ (k : ℕ). answered (outcomeBy (P T) k trail₁ F₁ (w .steps))) t in
         let m = steps-more in
         record {
           kept = rw a;
@@ -160,20 +160,20 @@ module _ (A : Asked) (Q : Type 0) (ms : List ℕ) (count : ℕ) (rows : List ℤ
           let b = g .trailed in
           record {
             measured = h .measured;
-            path = record { sized = h .legal .sized; room = omega arith; linked = g .linked; spot = g .spot };
+            path = record { sized = h .legal .sized; room = omega arith; words = g .words; linked = g .linked; spot = λ _. d .last going .spot };
             going = going;
-            last = d .last going;
-            bottom = head-out trail₁ F₁ (w .steps) (i .row * P T) (w .top) going (rw (d .same) at (enter-head (getD F (i .row * P T) false) (graphOf T (A .holds) (A .n)) M F (i .steps) (i .row * P T)));
+            last = d .last going .end;
+            bottom = head-out (P T) trail₁ F₁ (w .steps) (i .row * P T) (w .top) going (rw (d .same) at (enter-head (getD F (i .row * P T) false) (graphOf T (A .holds) (A .n)) M F (i .steps) (i .row * P T)));
             row = h .row;
-            behind = top-row T (A .holds) (A .n) Q notes₁ trail₁ w g going;
+            behind = rw (d .last going .spot .row) at (top-row T (A .holds) (A .n) Q notes₁ trail₁ w g going);
             few = h .few;
             labels = h .labels;
           }
 
-      pub visit-found : (numbers numbers′ : List ℤ) (labs′ : List ℕ) (q : Sweep) → Told A (some (pathOn trail₁ (w .top))) i (w .steps) numbers numbers′ labs labs′ q
+      pub visit-found : (numbers numbers′ : List ℤ) (labs′ : List ℕ) (q : Sweep) → Told A (some (pathOn (P T) trail₁ (w .top))) i (w .steps) numbers numbers′ labs labs′ q
           → Visited A notes notes₁ trail trail₁ numbers numbers′ labs labs′ i q
       visit-found numbers numbers′ labs′ q told =
-          let a : att ≡ (some (pathOn trail₁ (w .top)), (F₁, w .steps)) = att-is ∙ found-by trail₁ F₁ (w .steps) (w .top) going in
+          let a : att ≡ (some (pathOn (P T) trail₁ (w .top)), (F₁, w .steps)) = att-is ∙ found-by (P T) trail₁ F₁ (w .steps) (w .top) going in
           let m = steps-more in
           record {
             kept = rw a;

@@ -9,7 +9,7 @@ use Rattle.rules.specs.Report.{fits}
 use Rattle.rules.specs.Rows.{Table}
 use Rattle.rules.specs.Search.{Swept, Kept, labels, walkSearch}
 use Rattle.walk.specs.Step.{stack}
-use Rattle.walk.specs.Tables.{Tables, placesIn}
+use Rattle.walk.specs.Tables.{Tables, P, placesIn}
 
 -- the places in tables, when a letter holds at a row, the number of rows, the skip mode (to the next row), the rows, and the measures
 pub record Asked : Type 0 where
@@ -35,10 +35,10 @@ unfoldable pub searchOf : Asked → ℕ → ℕ → Swept Kept
 unfolding walkSearch placesIn fits
 searchOf A nums labs = walkSearch (A .holds) (A .n) (pl A) (A .mode) (fits nums labs (A .measures))
 
--- the path on the trail, from its first pair to its last, and its labels
-abbrev pub pathOn : List ℕ → ℕ → List ℕ
-pathOn trail top = reverseAux (stack trail top) []
+-- the path on the trail where there are P places, from its first pair to its last, and its labels
+abbrev pub pathOn : ℕ → List ℕ → ℕ → List ℕ
+pathOn P trail top = reverseAux (stack P trail top) []
 
 unfoldable pub labelsOn : Tables → List ℕ → ℕ → List ℕ
 unfolding labels placesIn stack
-labelsOn T trail top = labels (placesIn T) (pathOn trail top)
+labelsOn T trail top = labels (placesIn T) (pathOn (P T) trail top)

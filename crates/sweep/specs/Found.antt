@@ -4,7 +4,7 @@ use mathlib.Core.List.{List, _∷_}
 use mathlib.Core.Bool.{Bool, true, false}
 use mathlib.Core.Option.{Option, none, some}
 use Prim.Native.Nat.{ℕ, _+_, _-_, _*_, _≤_, _<_}
-use lib.Dec.{eqb}
+use lib.Dec.{ltb}
 use lib.IntN.{ℤ}
 use lib.ListN.{length, getD}
 use Rattle.rules.specs.Basics.{wrote}
@@ -14,35 +14,36 @@ use Rattle.rules.proofs.Notes.{bitsOf}
 use Rattle.walk.specs.declared.Walk.{Walk}
 use Rattle.walk.specs.Tables.{Tables, P, N, Legal}
 use Rattle.walk.specs.Step.{pairIn}
-use Rattle.walk.specs.State.{OnPath, attemptBy}
+use Rattle.walk.specs.State.{Word, OnPath, attemptBy}
 use Rattle.sweep.specs.declared.Sweep.{Sweep}
 use Rattle.sweep.specs.Asked.{Asked, pl, width, labelsOn}
 
 -- ---- labels
 
--- the label of a place, by its sort, before others
+-- the label of a place, by its code, before others
 abbrev pub ifLetter : Bool → ℕ → List ℕ → List ℕ
 ifLetter true c vs = c ∷ vs
 ifLetter false c vs = vs
 
-unfoldable pub labelBy : ℕ → ℕ → List ℕ → List ℕ
-labelBy s c vs = ifLetter (eqb s 1) c vs
+unfoldable pub labelBy : ℕ → List ℕ → List ℕ
+labelBy c vs = ifLetter (ltb c 26) (c + 65) vs
 
 -- one label more, or none, before those that are written from index e on
-abbrev pub OneMore : List ℕ → List ℕ → ℕ → ℕ → ℕ → ℕ → Type 0
-OneMore l l′ s c e r = (d vs : List ℕ) → l ≡ wrote d e vs → e + length vs ≤ length d → (l′ ≡ wrote d r (labelBy s c vs)) × (r + length (labelBy s c vs) ≡ e + length vs)
+abbrev pub OneMore : List ℕ → List ℕ → ℕ → ℕ → ℕ → Type 0
+OneMore l l′ c e r = (d vs : List ℕ) → l ≡ wrote d e vs → e + length vs ≤ length d → (l′ ≡ wrote d r (labelBy c vs)) × (r + length (labelBy c vs) ≡ e + length vs)
 
-pub record PutsLabel (so le labs : List ℕ) (q e : ℕ) : Type 0 where
-  pub place : q < length so
-  pub letter : q < length le
+pub record PutsLabel (co labs : List ℕ) (q e : ℕ) : Type 0 where
+  pub place : q < length co
   pub end : e ≤ length labs
-  pub room : getD so q 0 ≡ 1 → 0 < e
+  pub room : getD co q 0 < 26 → 0 < e
 
 -- a path is on the trail, and there is room for its labels before index `end`
-pub record Labels (T : Tables) (trail labs : List ℕ) (w : Walk) (end : ℕ) : Type 0 where
-  pub path : OnPath T trail w
+pub record Labels (T : Tables) (trail labs : List ℕ) (top end : ℕ) : Type 0 where
+  pub some : 0 < P T
+  pub trailed : top ≤ length trail
+  pub words : (k : ℕ) → k < top → Word T (getD trail k 0)
   pub end-room : end ≤ length labs
-  pub enough : length (labelsOn T trail (w .top)) ≤ end
+  pub enough : length (labelsOn T trail top) ≤ end
 
 -- ---- the report of a path
 
@@ -83,8 +84,8 @@ pub record Reports (T : Tables) (n : ℕ) (ms : List ℕ) (count : ℕ) (rows : 
   pub measured : Measured ms count rows columns n
   pub path : OnPath T trail w
   pub going : 0 < w .top
-  pub last : 4 ≤ getD (T .sort) (w .place) 0
-  pub bottom : pairIn (getD trail 0 0) ≡ i .row * P T
+  pub last : 28 < getD (T .code) (w .place) 0
+  pub bottom : pairIn (P T) (getD trail 0 0) ≡ i .row * P T
   pub row : i .row < n
   pub behind : w .row ≤ n
   pub few : i .matches ≤ i .row

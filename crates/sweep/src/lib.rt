@@ -6,6 +6,7 @@ ghost use Prim.Native.Nat.{ℕ, _+_, _-_, _*_, _/_, _<_, _≤_};
 ghost use lib.ListN.{length, getD};
 ghost use Rattle.rules.specs.Basics.{wrote};
 ghost use Rattle.rules.specs.Search.{nextStart};
+ghost use Rattle.walk.specs.Step.{placeIn};
 ghost use Rattle.walk.specs.Tables.{tables};
 ghost use Rattle.walk.specs.Letters.{holdsIn, Lettered};
 ghost use Rattle.sweep.specs.Asked.{asked, labelsOn, pathOn};
@@ -26,13 +27,20 @@ pub struct Sweep {
     pub steps: usize,
 }
 
-// The label of the place q before index e, if it is a letter's.
-fn put_label(sort: &[u8], letter: &[u8], labels: &mut [u8], q: usize, e: usize) -> usize
-    requires { ⌜ PutsLabel (now sort) (now letter) (now labels) q e ⌝ }
-    ensures { λ r. ⌜ OneMore (now (labels .entry)) (now (labels .exit)) (getD (now (sort .entry)) q 0) (getD (now (letter .entry)) q 0) e r ⌝ }
+// The place of a number of the trail.
+fn place_of(e: u32) -> usize
+    ensures { λ r. ⌜ r ≡ placeIn e ⌝ }
 {
-    if sort[q] == 1 {
-        labels[e - 1] = letter[q];
+    (e % 256) as usize
+}
+
+// The label of the place q before index e, if it is a letter's.
+fn put_label(code: &[u8], labels: &mut [u8], q: usize, e: usize) -> usize
+    requires { ⌜ PutsLabel (now code) (now labels) q e ⌝ }
+    ensures { λ r. ⌜ OneMore (now (labels .entry)) (now (labels .exit)) (getD (now (code .entry)) q 0) e r ⌝ }
+{
+    if code[q] < 26 {
+        labels[e - 1] = code[q] + 65;
         return e - 1;
     }
     e
@@ -40,26 +48,26 @@ fn put_label(sort: &[u8], letter: &[u8], labels: &mut [u8], q: usize, e: usize) 
 
 // The labels of the path on the trail, written before index `end` from the last to the first.
 fn put_labels(
-    sort: &[u8],
-    letter: &[u8],
+    code: &[u8],
     next: &[u16],
+    entry: &[u32],
     stop: &[u16],
     ways: &[u16],
     trail: &[u32],
     labels: &mut [u8],
-    from: Walk,
+    top: usize,
     end: usize,
 )
-    requires { ⌜ Labels (tables (now sort) (now letter) (now next) (now stop) (now ways)) (now trail) (now labels) from end ⌝ }
+    requires { ⌜ Labels (tables (now code) (now next) (now entry) (now stop) (now ways)) (now trail) (now labels) top end ⌝ }
     ensures { λ _. ⌜ now (labels .exit) ≡ wrote (now (labels .entry)) (end - length
-        (labelsOn (tables (now (sort .entry)) (now (letter .entry)) (now (next .entry)) (now (stop .entry)) (now (ways .entry))) (now (trail .entry)) (from .top)))
-        (labelsOn (tables (now (sort .entry)) (now (letter .entry)) (now (next .entry)) (now (stop .entry)) (now (ways .entry))) (now (trail .entry)) (from .top)) ⌝ }
+        (labelsOn (tables (now (code .entry)) (now (next .entry)) (now (entry .entry)) (now (stop .entry)) (now (ways .entry))) (now (trail .entry)) top))
+        (labelsOn (tables (now (code .entry)) (now (next .entry)) (now (entry .entry)) (now (stop .entry)) (now (ways .entry))) (now (trail .entry)) top) ⌝ }
 {
-    let mut w = from;
+    let mut k = top;
     let mut e = end;
-    while w.top > 0 {
-        e = put_label(sort, letter, labels, w.place, e);
-        w = walk::back(trail, sort.len(), w);
+    while k > 0 {
+        k -= 1;
+        e = put_label(code, labels, place_of(trail[k]), e);
     }
 }
 
@@ -79,9 +87,9 @@ fn next_row(mode: bool, row: usize, behind: usize) -> usize
 
 // A path is on the trail: its match is written if it fits whole, and the search goes on; else the search is over.
 fn write_match(
-    sort: &[u8],
-    letter: &[u8],
+    code: &[u8],
     next: &[u16],
+    entry: &[u32],
     stop: &[u16],
     ways: &[u16],
     rows: &[i32],
@@ -96,10 +104,10 @@ fn write_match(
     i: Sweep,
     w: Walk,
 ) -> Sweep
-    requires { ⌜ Reports (tables (now sort) (now letter) (now next) (now stop) (now ways)) n (now ms) count (now rows) columns (now trail) (now labels) i w ⌝ }
+    requires { ⌜ Reports (tables (now code) (now next) (now entry) (now stop) (now ways)) n (now ms) count (now rows) columns (now trail) (now labels) i w ⌝ }
     ensures { λ r. ⌜ ((holds : ℕ → ℕ → Bool) → Told (asked
-        (tables (now (sort .entry)) (now (letter .entry)) (now (next .entry)) (now (stop .entry)) (now (ways .entry))) holds n mode
-        (tableOf columns (now (rows .entry))) (measuresIn (now (ms .entry)) count)) (some (pathOn (now (trail .entry)) (w .top))) i (w .steps) (now (numbers .entry))
+        (tables (now (code .entry)) (now (next .entry)) (now (entry .entry)) (now (stop .entry)) (now (ways .entry))) holds n mode
+        (tableOf columns (now (rows .entry))) (measuresIn (now (ms .entry)) count)) (some (pathOn (length (now (code .entry))) (now (trail .entry)) (w .top))) i (w .steps) (now (numbers .entry))
         (now (numbers .exit)) (now (labels .entry)) (now (labels .exit)) r) ⌝ }
 {
     let row = i.row;
@@ -109,7 +117,7 @@ fn write_match(
     let taken = behind - row;
     if report::fits_whole(numbers.len(), labels.len(), count, m, l, taken) {
         let end = l + taken;
-        put_labels(sort, letter, next, stop, ways, trail, labels, w, end);
+        put_labels(code, next, entry, stop, ways, trail, labels, w.top, end);
         report::put_match(
             numbers,
             m * (3 + 2 * count),
@@ -140,9 +148,9 @@ fn write_match(
 
 // One start: the attempt there, and its match where it finds a path.
 fn visit(
-    sort: &[u8],
-    letter: &[u8],
+    code: &[u8],
     next: &[u16],
+    entry: &[u32],
     stop: &[u16],
     ways: &[u16],
     rows: &[i32],
@@ -161,19 +169,19 @@ fn visit(
     labels: &mut [u8],
     i: Sweep,
 ) -> Sweep
-    requires { ⌜ Visits (asked (tables (now sort) (now letter) (now next) (now stop) (now ways))
+    requires { ⌜ Visits (asked (tables (now code) (now next) (now entry) (now stop) (now ways))
         (holdsIn (now rows) columns (now cells) (now offsets) (now constants) (now counts)) n mode (tableOf columns (now rows)) (measuresIn (now ms) count)) (Lettered
         (now cells) (now offsets) (now counts) (now rows) columns n) (now ms) count (now rows) columns (now notes) (now trail) (now labels) i ⌝ }
-    ensures { λ r. ⌜ Visited (asked (tables (now (sort .entry)) (now (letter .entry)) (now (next .entry)) (now (stop .entry)) (now (ways .entry)))
+    ensures { λ r. ⌜ Visited (asked (tables (now (code .entry)) (now (next .entry)) (now (entry .entry)) (now (stop .entry)) (now (ways .entry)))
         (holdsIn (now (rows .entry)) columns (now (cells .entry)) (now (offsets .entry)) (now (constants .entry)) (now (counts .entry))) n mode
         (tableOf columns (now (rows .entry))) (measuresIn (now (ms .entry)) count)) (now (notes .entry)) (now (notes .exit)) (now (trail .entry)) (now (trail .exit))
         (now (numbers .entry)) (now (numbers .exit)) (now (labels .entry)) (now (labels .exit)) i r ⌝ }
 {
     let row = i.row;
     let w = walk::attempt(
-        sort,
-        letter,
+        code,
         next,
+        entry,
         stop,
         ways,
         rows,
@@ -199,9 +207,9 @@ fn visit(
         };
     }
     write_match(
-        sort,
-        letter,
+        code,
         next,
+        entry,
         stop,
         ways,
         rows,
@@ -220,9 +228,9 @@ fn visit(
 
 // All starts, where no pair has failed yet.
 fn starts(
-    sort: &[u8],
-    letter: &[u8],
+    code: &[u8],
     next: &[u16],
+    entry: &[u32],
     stop: &[u16],
     ways: &[u16],
     rows: &[i32],
@@ -240,10 +248,10 @@ fn starts(
     numbers: &mut [i64],
     labels: &mut [u8],
 ) -> Sweep
-    requires { ⌜ Starts (asked (tables (now sort) (now letter) (now next) (now stop) (now ways))
+    requires { ⌜ Starts (asked (tables (now code) (now next) (now entry) (now stop) (now ways))
         (holdsIn (now rows) columns (now cells) (now offsets) (now constants) (now counts)) n mode (tableOf columns (now rows)) (measuresIn (now ms) count)) (Lettered
         (now cells) (now offsets) (now counts) (now rows) columns n) (now ms) count (now rows) columns (now notes) (now trail) ⌝ }
-    ensures { λ r. ⌜ Searched (asked (tables (now (sort .entry)) (now (letter .entry)) (now (next .entry)) (now (stop .entry)) (now (ways .entry)))
+    ensures { λ r. ⌜ Searched (asked (tables (now (code .entry)) (now (next .entry)) (now (entry .entry)) (now (stop .entry)) (now (ways .entry)))
         (holdsIn (now (rows .entry)) columns (now (cells .entry)) (now (offsets .entry)) (now (constants .entry)) (now (counts .entry))) n mode
         (tableOf columns (now (rows .entry))) (measuresIn (now (ms .entry)) count)) (now (notes .entry)) (now (trail .entry)) (now (numbers .entry)) (now
         (labels .entry)) (now (notes .exit)) (now (trail .exit)) (now (numbers .exit)) (now (labels .exit)) r ⌝ }
@@ -257,9 +265,9 @@ fn starts(
     };
     while i.row < n {
         i = visit(
-            sort,
-            letter,
+            code,
             next,
+            entry,
             stop,
             ways,
             rows,
@@ -307,11 +315,10 @@ fn zero_words(s: &mut [u32], count: usize)
 }
 
 // The whole search: the notes' bits are cleared, all starts are tried, and the trail is cleared.
-#[no_mangle]
-pub extern "C" fn search(
-    sort: &[u8],
-    letter: &[u8],
+pub fn search(
+    code: &[u8],
     next: &[u16],
+    entry: &[u32],
     stop: &[u16],
     ways: &[u16],
     rows: &[i32],
@@ -329,20 +336,20 @@ pub extern "C" fn search(
     numbers: &mut [i64],
     labels: &mut [u8],
 ) -> Sweep
-    requires { ⌜ Searches (asked (tables (now sort) (now letter) (now next) (now stop) (now ways))
+    requires { ⌜ Searches (asked (tables (now code) (now next) (now entry) (now stop) (now ways))
         (holdsIn (now rows) columns (now cells) (now offsets) (now constants) (now counts)) n mode (tableOf columns (now rows)) (measuresIn (now ms) count)) (Lettered
         (now cells) (now offsets) (now counts) (now rows) columns n) (now ms) count (now rows) columns (now notes) (now trail) ⌝ }
-    ensures { λ r. ⌜ Answered (asked (tables (now (sort .entry)) (now (letter .entry)) (now (next .entry)) (now (stop .entry)) (now (ways .entry)))
+    ensures { λ r. ⌜ Answered (asked (tables (now (code .entry)) (now (next .entry)) (now (entry .entry)) (now (stop .entry)) (now (ways .entry)))
         (holdsIn (now (rows .entry)) columns (now (cells .entry)) (now (offsets .entry)) (now (constants .entry)) (now (counts .entry))) n mode
         (tableOf columns (now (rows .entry))) (measuresIn (now (ms .entry)) count)) (now (notes .entry)) (now (trail .entry)) (now (numbers .entry)) (now
         (labels .entry)) (now (notes .exit)) (now (trail .exit)) (now (numbers .exit)) (now (labels .exit)) r ⌝ }
 {
-    let pairs = sort.len() * (n + 1);
+    let pairs = code.len() * (n + 1);
     zero_bytes(notes, (pairs + 7) / 8);
     let r = starts(
-        sort,
-        letter,
+        code,
         next,
+        entry,
         stop,
         ways,
         rows,

@@ -1,11 +1,11 @@
--- An attempt that goes on: entering a pair and leaving one keep what holds of it (`Good`), the state comes to what it came to before, and less is left.
+-- An attempt that goes on: entering a pair and leaving one keep what holds of it (`Good`, `Stands`), the state comes to what it came to before, and less is left.
 use mathlib.Core.Path.{_≡_, refl, sym, ap, _∙_}
-use mathlib.Core.List.{List, [], _∷_, reverseAux}
-use mathlib.Core.Bool.{Bool, true, false, false≢true}
+use mathlib.Core.List.{List, [], _∷_, reverseAux, map}
+use mathlib.Core.Bool.{Bool, true, false, false≢true, true≢false}
 use mathlib.Core.Logic.{_≢_}
 use mathlib.Core.Option.{none, some}
 use Prim.Native.Nat.{ℕ, zero, suc, _+_, _-_, _*_, _/_, _%_, _≤_, _<_}
-use native.Mathlib.Nat.{le-of-suc-le-suc, not-suc-le-zero, div-lt-iff-lt-mul, mul-comm, div-add-mod'}
+use native.Mathlib.Nat.{le-of-suc-le-suc, not-suc-le-zero, div-lt-iff-lt-mul, mul-comm}
 use native.Mathlib.Numerals.{add-one}
 use native.Mathlib.Decide.{ℕ-discrete}
 use native.Mathlib.Omega.{arith}
@@ -14,52 +14,49 @@ use lib.ListN.{length, getD, set, length-set}
 use lib.Seq.{getD-set-same, getD-set-other}
 use Rattle.rules.specs.Report.{bitAt}
 use Rattle.rules.specs.Walk.{Ways, accept, try, Outcome, found, countTrue}
-use Rattle.rules.proofs.Machine.{firstOpen, openOr, resume, resume-accept, resume-pop, resume-push, Open, open-room, open-push, open-pop}
+use Rattle.rules.proofs.Machine.{firstOpen, resume, resume-accept, resume-pop, resume-push, Open, open-room, open-push, open-pop}
 use Rattle.rules.proofs.Notes.{marked, bitsOf, bitsOf-at, bitsFrom-length, bits-mark, bit-keep}
 use Rattle.rules.proofs.Walk.{All, Out, count-mark}
 use Rattle.walk.specs.declared.Walk.{Walk}
-use Rattle.walk.specs.Tables.{Tables, P, N, placeAt, graphOf, passesBy}
-use Rattle.walk.specs.Step.{entryOf, pairIn, wayIn, stack, walkAt, pairOf, spotted, backTo, outcomeBy, Enters, Leaves}
-use Rattle.walk.specs.State.{takes, Onto, Linked, Passing, Spot, OnPath, wayAt, Good, left, comes, Reached}
-use Rattle.walk.proofs.Ways.{pair-row, pair-place, ways-shut, ways-end}
-use Rattle.walk.proofs.Trails.{stack-length, stack-push, back-top, back-steps, back-spot, linked-under, path-top, path-linked, path-row, path-place, path-backs}
+use Rattle.walk.specs.Tables.{Tables, P, N, second, waysOf, placeAt, graphOf, passesBy}
+use Rattle.walk.specs.Step.{placeIn, rowIn, wayIn, pairIn, stack, walkAt, outcomeBy, Enters}
+use Rattle.walk.specs.State.{takes, Onto, Linked, Passing, Word, rowFrom, wayAt, reach, Led, Stuck, Good, Stands, State, left, comes, Reached}
+use Rattle.walk.proofs.Ways.{pair-row, pair-place, ways-shut, ways-end, ways-are, leads-each}
+use Rattle.walk.proofs.Trails.{word-row, word-place, entry-place, entry-row, entry-way, stack-length, stack-push, stack-top, linked-under}
 
--- the first open way is one of the ways, and has not failed
-firstOpen-some : (Q : ℕ → Type 0) (F : List Bool) (ys : List ℕ) (y : ℕ) → All Q ys → firstOpen F ys ≡ some y → Q y × Out F y
-unfolding firstOpen
-firstOpen-some Q F [] y a e = let z : _≡_ {A = ℕ} 0 1 = cc in absurd (omega arith)
-firstOpen-some Q F (v ∷ ys) y a e = go (firstOpen-some Q F ys y (a .1)) (getD F v false) refl e
-  where
-    go : (firstOpen F ys ≡ some y → Q y × Out F y) → (t : Bool) → getD F v false ≡ t → openOr t v (λ _. firstOpen F ys) ≡ some y → Q y × Out F y
-    go ih true d e′ = ih e′
-    go ih false d e′ = let q : v ≡ y = cc in (rw q at (a .0), rw q at d)
-
-pub path-is : (trail : List ℕ) (F : List Bool) (s t : ℕ) → 0 < t → found (reverseAux (stack trail t) []) F s ≡ outcomeBy t trail F s
+pub path-is : (P : ℕ) (trail : List ℕ) (F : List Bool) (s t : ℕ) → 0 < t → found (reverseAux (stack P trail t) []) F s ≡ outcomeBy P t trail F s
 unfolding outcomeBy
-path-is trail F s zero h = absurd (not-suc-le-zero h)
-path-is trail F s (suc t) h = refl
+path-is P trail F s zero h = absurd (not-suc-le-zero h)
+path-is P trail F s (suc t) h = refl
 
 -- ---- a good state
 
-module _ (T : Tables) (holds : ℕ → ℕ → Bool) (n : ℕ) (Q : Type 0) (notes trail : List ℕ) (w : Walk) (g : Good T holds n Q notes trail w) where
-  abbrev F : List Bool
-  F = bitsOf notes (N T n)
+pub good-room : (T : Tables) (holds : ℕ → ℕ → Bool) (n : ℕ) (Q : Type 0) (notes trail : List ℕ) (w : Walk) → Good T holds n Q notes trail w → w .top + countTrue (bitsOf notes (N T n)) ≤ N T n
+good-room T holds n Q notes trail w g =
+    rw (stack-length (P T) trail (w .top)) at (open-room (g .legal .ρ) (N T n) (bitsOf notes (N T n)) (stack (P T) trail (w .top)) (bitsFrom-length notes (N T n) 0) (g .opened))
 
-  abbrev ways : ℕ → Ways
-  ways = graphOf T holds n
+-- it is one of the open pairs and the steps alone
+pub good-as : (T : Tables) (holds : ℕ → ℕ → Bool) (n : ℕ) (Q : Type 0) (notes trail : List ℕ) (t s q r b : ℕ) (d : Bool) (q′ r′ b′ : ℕ) (d′ : Bool)
+    → Good T holds n Q notes trail (walkAt t s q r b d) → Good T holds n Q notes trail (walkAt t s q′ r′ b′ d′)
+good-as T holds n Q notes trail t s q r b d q′ r′ b′ d′ g =
+    record {
+      legal = g .legal;
+      asks = g .asks;
+      noted = g .noted;
+      trailed = g .trailed;
+      opened = g .opened;
+      linked = g .linked;
+      passing = g .passing;
+      words = g .words;
+      led = g .led;
+      steps = g .steps;
+    }
 
-  abbrev ρ : ℕ → ℕ
-  ρ = g .legal .ρ
-
-  F-length : length F ≡ N T n
-  F-length = bitsFrom-length notes (N T n) 0
-
-  pub good-room : w .top + countTrue F ≤ N T n
-  good-room = rw (stack-length trail (w .top)) at (open-room ρ (N T n) F (stack trail (w .top)) F-length (g .opened))
-
-  -- a state comes to itself
-  pub reached-none : Reached T holds n Q notes trail (comes T holds n notes trail w) notes trail w
-  reached-none = record { good = g; same = refl; notes-long = refl; trail-long = refl; notes-beyond = λ z l. refl; trail-beyond = λ k l. refl }
+-- a state comes to itself
+pub reached-none : (T : Tables) (holds : ℕ → ℕ → Bool) (n : ℕ) (Q : Type 0) (notes trail : List ℕ) (w : Walk) → State T holds n Q notes trail w
+    → Reached T holds n Q notes trail (comes T holds n notes trail w) notes trail w
+reached-none T holds n Q notes trail w s =
+    record { good = s .good; stands = s .stands; same = refl; notes-long = refl; trail-long = refl; notes-beyond = λ z l. refl; trail-beyond = λ k l. refl }
 
 -- and on from a state that was reached
 module _ (T : Tables) (holds : ℕ → ℕ → Bool) (n : ℕ) (Q : Type 0) (n₁ t₁ : List ℕ) (R : Outcome) (n₂ t₂ : List ℕ) (w₂ : Walk) (notes trail : List ℕ) (w : Walk) where
@@ -67,6 +64,7 @@ module _ (T : Tables) (holds : ℕ → ℕ → Bool) (n : ℕ) (Q : Type 0) (n�
   reached-on a b =
       record {
         good = b .good;
+        stands = b .stands;
         same = b .same ∙ a .same;
         notes-long = b .notes-long ∙ a .notes-long;
         trail-long = b .trail-long ∙ a .trail-long;
@@ -74,48 +72,89 @@ module _ (T : Tables) (holds : ℕ → ℕ → Bool) (n : ℕ) (Q : Type 0) (n�
         trail-beyond = λ k l. b .trail-beyond k l ∙ a .trail-beyond k l;
       }
 
+-- ---- the ways that a pair has tried
+
+-- a note is not taken back
+pub keeps-marked : (notes : List ℕ) (x : ℕ) → x / 8 < length notes → bitAt notes x ≡ false → (z : ℕ) → bitAt notes z ≡ true → bitAt (marked notes x) z ≡ true
+keeps-marked notes x l o z e = bit-keep notes x z l o (λ (q : z ≡ x). false≢true (sym o ∙ sym (ap (bitAt notes) q) ∙ e)) ∙ e
+
+module _ (T : Tables) (notes notes′ : List ℕ) (e y : ℕ) (l : Led T notes e y) (keeps : (z : ℕ) → bitAt notes z ≡ true → bitAt notes′ z ≡ true) where
+  pub led-keeps : Led T notes′ e y
+  led-keeps = record { going = l .going; tried = λ m b d. keeps _ (l .tried m b d) }
+
+  -- the pair above has failed too
+  pub led-stuck : bitAt notes′ y ≡ true → Stuck T notes′ e
+  led-stuck h = record {
+    going = l .going;
+    tried = λ m b. elim (ℕ-discrete (wayAt T e m) y) [
+      | yes d ↦ rw d h
+      | no d ↦ keeps _ (l .tried m b d)
+    ];
+  }
+
 -- ---- a pair is entered
 
 -- the pair of place q at a row is the next to be entered
-pub record Next (T : Tables) (holds : ℕ → ℕ → Bool) (n : ℕ) (Q : Type 0) (notes trail : List ℕ) (w : Walk) (q row base way : ℕ) : Type 0 where
+pub record Next (T : Tables) (holds : ℕ → ℕ → Bool) (n : ℕ) (Q : Type 0) (notes trail : List ℕ) (w : Walk) (q row base : ℕ) : Type 0 where
   pub good : Good T holds n Q notes trail w
   pub place : q < P T
   pub base-is : base ≡ row * P T
-  pub opened : Open (good .legal .ρ) (N T n) (bitsOf notes (N T n)) ((base + q) ∷ stack trail (w .top))
-  pub linked : Linked T ((base + q) ∷ stack trail (w .top))
-  pub before : 0 < w .top → (m : ℕ) → m < way → bitAt notes (wayAt T (pairOf w) m) ≡ true
+  pub opened : Open (good .legal .ρ) (N T n) (bitsOf notes (N T n)) ((base + q) ∷ stack (P T) trail (w .top))
+  pub linked : Linked T ((base + q) ∷ stack (P T) trail (w .top))
+  pub led : 0 < w .top → Led T notes (getD trail (w .top - 1) 0) (base + q)
 
--- a note is not taken back
-pub keeps-marked : (notes : List ℕ) (x z : ℕ) → x / 8 < length notes → bitAt notes x ≡ false → bitAt notes z ≡ true → bitAt (marked notes x) z ≡ true
-keeps-marked notes x z l o e = bit-keep notes x z l o (λ (q : z ≡ x). false≢true (sym o ∙ sym (ap (bitAt notes) q) ∙ e)) ∙ e
-
-module _ (T : Tables) (holds : ℕ → ℕ → Bool) (n : ℕ) (Q : Type 0) (notes trail : List ℕ) (w : Walk) (q row base way : ℕ) (h : Next T holds n Q notes trail w q row base way) where
+module _ (T : Tables) (holds : ℕ → ℕ → Bool) (n : ℕ) (Q : Type 0) (notes trail : List ℕ) (w : Walk) (q row base : ℕ) (h : Next T holds n Q notes trail w q row base) where
   abbrev y : ℕ
   y = base + q
 
   abbrev G : List Bool
   G = bitsOf notes (N T n)
 
+  abbrev v : ℕ
+  v = row * 256 + getD (T .entry) q 0
+
   -- what it comes to once the pair is entered
   abbrev then : Outcome
-  then = resume (graphOf T holds n) (N T n) (y ∷ stack trail (w .top)) G (suc (w .steps))
+  then = resume (graphOf T holds n) (N T n) (y ∷ stack (P T) trail (w .top)) G (suc (w .steps))
 
   abbrev passing : Bool
-  passing = passesBy holds n (getD (T .sort) q 0) (getD (T .letter) q 0) row
+  passing = passesBy holds n (getD (T .code) q 0) row
 
   below : y < N T n
   below = h .opened .pairs .0
+
+  row-le : row ≤ n
+  row-le =
+      let l : y < suc n * P T = rw (mul-comm (suc n) (P T)) below in
+      let k : y / P T < suc n = div-lt-iff-lt-mul (h .good .legal .sized .some) .1 l in
+      let d : y / P T ≡ row = rw (h .base-is) (digits-div row (h .place)) in
+      omega arith
+
+  few : row ≤ 4096
+  few = let a = row-le in let b = h .good .legal .rows in omega arith
 
   out : bitAt notes y ≡ false
   out = sym (bitsOf-at notes (N T n) y below) ∙ h .opened .out .0
 
   room : w .top + 1 + countTrue G ≤ N T n
   room =
-      let r = open-room (h .good .legal .ρ) (N T n) G (y ∷ stack trail (w .top)) (bitsFrom-length notes (N T n) 0) (h .opened) in
-      let l = stack-length trail (w .top) in
+      let r = open-room (h .good .legal .ρ) (N T n) G (y ∷ stack (P T) trail (w .top)) (bitsFrom-length notes (N T n) 0) (h .opened) in
+      let l = stack-length (P T) trail (w .top) in
       omega arith
 
-  pub next-enters : Enters (T .sort) (T .letter) Q notes trail w q base
+  second-small : second T q < 2048
+  second-small = elim (ℕ-discrete (second T q) 0) [
+    | yes e ↦ omega arith
+    | no d ↦
+        let c : second T q ≢ 0 = d in
+        let z = h .good .legal .sized in
+        let a = z .back q (h .place) (omega arith) in
+        let b = z .stop q (h .place) (omega arith) in
+        let m = z .ways in
+        omega arith
+  ]
+
+  pub next-enters : Enters (T .code) (T .entry) Q notes trail w q row base
   next-enters =
       let g = h .good in
       let z = g .legal .sized in
@@ -125,57 +164,75 @@ module _ (T : Tables) (holds : ℕ → ℕ → Bool) (n : ℕ) (Q : Type 0) (not
       let tr = g .trailed in
       let sm = g .legal .small in
       let st = g .steps in
+      let se = second-small in
+      let en = z .entry q (h .place) in
+      let f = few in
+      let p = h .place in
+      let pf = z .few in
       record {
-        known = record { asks = g .asks; sort = h .place; letters = rw (z .letters) (h .place); letter = z .letter q };
+        known = record { asks = g .asks; place = h .place };
+        entry = rw (z .entries) (h .place);
         small = omega arith;
+        word = omega arith;
         byte = omega arith;
         out = out;
         room = omega arith;
         steps = omega arith;
       }
 
+  keeps : (z : ℕ) → bitAt notes z ≡ true → bitAt (marked notes y) z ≡ true
+  keeps = keeps-marked notes y (next-enters .byte) out
+
   -- it passes
   module _ (p : passing ≡ true) where
-    abbrev e : ℕ
-    e = entryOf y way
+    v-place : placeIn v ≡ q
+    v-place = entry-place T (h .good .legal .sized) q row (h .place) few
 
-    pair-is : pairIn e ≡ y
-    pair-is = let b = below in let s = h .good .legal .small in omega arith
+    v-row : rowIn v ≡ row
+    v-row = entry-row T (h .good .legal .sized) q row (h .place) few
 
-    stack-is : stack (set trail (w .top) e) (w .top + 1) ≡ y ∷ stack trail (w .top)
-    stack-is = stack-push trail (w .top) e (next-enters .room) ∙ ap (λ (z : ℕ). z ∷ stack trail (w .top)) pair-is
+    v-way : wayIn v ≡ second T q
+    v-way = entry-way T (h .good .legal .sized) q row (h .place) few
+
+    pair-is : pairIn (P T) v ≡ y
+    pair-is = rw (v-place, v-row, h .base-is)
+
+    stack-is : stack (P T) (set trail (w .top) v) (w .top + 1) ≡ y ∷ stack (P T) trail (w .top)
+    stack-is = stack-push (P T) trail (w .top) v (next-enters .room) ∙ ap (λ (z : ℕ). z ∷ stack (P T) trail (w .top)) pair-is
 
     y-passes : Passing T holds n y
     unfolding Passing
     y-passes = rw (h .base-is, pair-row T holds n q row (h .place), pair-place T holds n q row (h .place)) p
 
-    at-top : Spot (P T) (walkAt (w .top + 1) (w .steps + 1) q row base 0) (pairIn (getD (set trail (w .top) e) (w .top + 1 - 1) 0))
-    at-top =
-        let o : w .top + 1 - 1 ≡ w .top = omega arith in
-        rw (o, getD-set-same trail (w .top) e 0 (next-enters .room), pair-is) (record { pair = refl; place = h .place; base = h .base-is })
+    v-word : Word T v
+    v-word =
+        record {
+          place = rw v-place (h .place);
+          some = λ l. rw v-place (rw v-way at l);
+          behind = λ l. rw (v-place, v-way) (omega arith);
+          before = λ l. rw (v-place, v-way) (h .good .legal .sized .back q (h .place) (rw v-way at l));
+        }
 
-    -- the ways before the one by which it was reached have failed
-    open-tried : (k m : ℕ) → suc k < w .top + 1 → m < wayIn (getD (set trail (w .top) e) (suc k) 0) → bitAt notes (wayAt T (pairIn (getD (set trail (w .top) e) k 0)) m) ≡ true
-    open-tried k m l b =
-        let u : getD (set trail (w .top) e) k 0 ≡ getD trail k 0 = getD-set-other trail (w .top) k e 0 (λ (q : k ≡ w .top). omega arith) in
+    open-words : (k : ℕ) → k < w .top + 1 → Word T (getD (set trail (w .top) v) k 0)
+    open-words k l = elim (ℕ-discrete k (w .top)) [
+      | yes e ↦ rw (e, getD-set-same trail (w .top) v 0 (next-enters .room)) v-word
+      | no d ↦ let c : k ≢ w .top = d in rw (getD-set-other trail (w .top) k v 0 d) (h .good .words k (omega arith))
+    ]
+
+    open-led : (k : ℕ) → suc k < w .top + 1 → Led T notes (getD (set trail (w .top) v) k 0) (pairIn (P T) (getD (set trail (w .top) v) (suc k) 0))
+    open-led k l =
+        let u : getD (set trail (w .top) v) k 0 ≡ getD trail k 0 = getD-set-other trail (w .top) k v 0 (λ (e : k ≡ w .top). omega arith) in
         rw u (elim (ℕ-discrete (suc k) (w .top)) [
-          | yes q ↦ last q (rw q at b)
-          | no q ↦ h .good .tried k m (less q) (rw (getD-set-other trail (w .top) (suc k) e 0 q) at b)
+          | yes e ↦ last e
+          | no d ↦ let c : suc k ≢ w .top = d in rw (getD-set-other trail (w .top) (suc k) v 0 d) (h .good .led k (omega arith))
         ])
       where
-        less : (suc k ≡ w .top → ⊥) → suc k < w .top
-        less q = let d : suc k ≢ w .top = q in omega arith
+        last : suc k ≡ w .top → Led T notes (getD trail k 0) (pairIn (P T) (getD (set trail (w .top) v) (suc k) 0))
+        last e =
+            let i : w .top - 1 ≡ k = omega arith in
+            rw (e, getD-set-same trail (w .top) v 0 (next-enters .room), pair-is) (rw i at (h .led (omega arith)))
 
-        last : suc k ≡ w .top → m < wayIn (getD (set trail (w .top) e) (w .top) 0) → bitAt notes (wayAt T (pairIn (getD trail k 0)) m) ≡ true
-        last q b =
-            let f : m < wayIn e = rw (getD-set-same trail (w .top) e 0 (next-enters .room)) at b in
-            let s = h .good .legal .small in
-            let g = below in
-            let i : k ≡ w .top - 1 = omega arith in
-            let c : pairOf w ≡ pairIn (getD trail (w .top - 1) 0) = h .good .spot (omega arith) .pair in
-            rw (i, ← c) (h .before (omega arith) m (omega arith))
-
-    open-good : Good T holds n Q notes (set trail (w .top) e) (walkAt (w .top + 1) (w .steps + 1) q row base 0)
+    open-good : Good T holds n Q notes (set trail (w .top) v) (walkAt (w .top + 1) (w .steps + 1) q row base true)
     open-good =
         let g = h .good in
         let r = room in
@@ -184,31 +241,42 @@ module _ (T : Tables) (holds : ℕ → ℕ → Bool) (n : ℕ) (Q : Type 0) (not
           legal = g .legal;
           asks = g .asks;
           noted = g .noted;
-          trailed = rw (length-set trail (w .top) e) (g .trailed);
+          trailed = rw (length-set trail (w .top) v) (g .trailed);
           opened = rw stack-is (h .opened);
           linked = rw stack-is (h .linked);
           passing = rw stack-is (y-passes, g .passing);
-          spot = λ _. at-top;
-          from-small = omega arith;
-          from-tried = λ _ m l. absurd (not-suc-le-zero l);
-          tried = open-tried;
+          words = open-words;
+          led = open-led;
           steps = omega arith;
         }
 
-    pub open-reached : Reached T holds n Q notes trail then notes (set trail (w .top) e) (walkAt (w .top + 1) (w .steps + 1) q row base 0)
+    open-stands : Stands T notes (set trail (w .top) v) (walkAt (w .top + 1) (w .steps + 1) q row base true)
+    open-stands =
+        let o : w .top + 1 - 1 ≡ w .top = omega arith in
+        record {
+          fresh = λ _. record {
+            going = omega arith;
+            spot = rw (o, getD-set-same trail (w .top) v 0 (next-enters .room)) (record { place = v-place; row = v-row; base = h .base-is });
+            way = rw (o, getD-set-same trail (w .top) v 0 (next-enters .room), v-place, v-way);
+          };
+          stuck = λ (d : true ≡ false). absurd (true≢false d);
+        }
+
+    pub open-reached : Reached T holds n Q notes trail then notes (set trail (w .top) v) (walkAt (w .top + 1) (w .steps + 1) q row base true)
     unfolding comes
     open-reached =
         let r = room in
         record {
           good = open-good;
+          stands = open-stands;
           same = rw (stack-is, add-one (w .steps));
           notes-long = refl;
-          trail-long = length-set trail (w .top) e;
+          trail-long = length-set trail (w .top) v;
           notes-beyond = λ z l. refl;
-          trail-beyond = λ k l. getD-set-other trail (w .top) k e 0 (λ (q : k ≡ w .top). omega arith);
+          trail-beyond = λ k l. getD-set-other trail (w .top) k v 0 (λ (e : k ≡ w .top). omega arith);
         }
 
-    pub open-less : left (N T n) notes (walkAt (w .top + 1) (w .steps + 1) q row base 0) < left (N T n) notes w
+    pub open-less : left (N T n) notes (walkAt (w .top + 1) (w .steps + 1) q row base true) < left (N T n) notes w
     unfolding left
     open-less = let r = room in omega arith
 
@@ -223,7 +291,12 @@ module _ (T : Tables) (holds : ℕ → ℕ → Bool) (n : ℕ) (Q : Type 0) (not
     count-is : countTrue G′ ≡ suc (countTrue G)
     count-is = rw bits-is (count-mark G y (rw (bitsFrom-length notes (N T n) 0) below) (h .opened .out .0))
 
-    shut-good : Good T holds n Q (marked notes y) trail (walkAt (w .top) (w .steps + 1) (w .place) (w .row) (w .base) (w .from))
+    shut-marked : bitAt (marked notes y) y ≡ true
+    shut-marked =
+        sym (bitsOf-at (marked notes y) (N T n) y below) ∙ ap (λ (l : List Bool). getD l y false) bits-is
+        ∙ getD-set-same G y true false (rw (bitsFrom-length notes (N T n) 0) below)
+
+    shut-good : Good T holds n Q (marked notes y) trail (walkAt (w .top) (w .steps + 1) (w .place) (w .row) (w .base) false)
     unfolding marked
     shut-good =
         let g = h .good in
@@ -235,31 +308,33 @@ module _ (T : Tables) (holds : ℕ → ℕ → Bool) (n : ℕ) (Q : Type 0) (not
           asks = g .asks;
           noted = simp length-set (g .noted);
           trailed = g .trailed;
-          opened = rw bits-is (open-pop (g .legal .ρ) (N T n) G (stack trail (w .top)) y (h .opened));
+          opened = rw bits-is (open-pop (g .legal .ρ) (N T n) G (stack (P T) trail (w .top)) y (h .opened));
           linked = g .linked;
           passing = g .passing;
-          spot = λ l. let k = g .spot l in record { pair = k .pair; place = k .place; base = k .base };
-          from-small = g .from-small;
-          from-tried = λ l m b. keeps-marked notes y _ (next-enters .byte) out (g .from-tried l m b);
-          tried = λ k m l b. keeps-marked notes y _ (next-enters .byte) out (g .tried k m l b);
+          words = g .words;
+          led = λ k l. led-keeps T notes (marked notes y) _ _ (g .led k l) keeps;
           steps = omega arith;
         }
+
+    shut-stands : Stands T (marked notes y) trail (walkAt (w .top) (w .steps + 1) (w .place) (w .row) (w .base) false)
+    shut-stands = record { fresh = λ (d : false ≡ true). absurd (false≢true d); stuck = λ _ l. led-stuck T notes (marked notes y) _ _ (h .led l) keeps shut-marked }
 
     nothing : graphOf T holds n y ≡ try []
     nothing = rw (h .base-is) (ways-shut T holds n q row (h .place) p)
 
-    shut-same : comes T holds n (marked notes y) trail (walkAt (w .top) (w .steps + 1) (w .place) (w .row) (w .base) (w .from)) ≡ then
+    shut-same : comes T holds n (marked notes y) trail (walkAt (w .top) (w .steps + 1) (w .place) (w .row) (w .base) false) ≡ then
     unfolding comes firstOpen
     shut-same =
         rw (bits-is, add-one (w .steps))
-        (sym (resume-pop (graphOf T holds n) (h .good .legal .ρ) (N T n) (h .good .legal .falls) (N T n) (h .good .legal .bound) (stack trail (w .top)) G (suc (w .steps)) y [] nothing refl))
+        (sym (resume-pop (graphOf T holds n) (h .good .legal .ρ) (N T n) (h .good .legal .falls) (N T n) (h .good .legal .bound) (stack (P T) trail (w .top)) G (suc (w .steps)) y [] nothing refl))
 
-    pub shut-reached : Reached T holds n Q notes trail then (marked notes y) trail (walkAt (w .top) (w .steps + 1) (w .place) (w .row) (w .base) (w .from))
+    pub shut-reached : Reached T holds n Q notes trail then (marked notes y) trail (walkAt (w .top) (w .steps + 1) (w .place) (w .row) (w .base) false)
     unfolding marked
     shut-reached =
         let b = below in
         record {
           good = shut-good;
+          stands = shut-stands;
           same = shut-same;
           notes-long = length-set notes (y / 8) _;
           trail-long = refl;
@@ -267,178 +342,225 @@ module _ (T : Tables) (holds : ℕ → ℕ → Bool) (n : ℕ) (Q : Type 0) (not
           trail-beyond = λ k l. refl;
         }
 
-    pub shut-less : left (N T n) (marked notes y) (walkAt (w .top) (w .steps + 1) (w .place) (w .row) (w .base) (w .from)) < left (N T n) notes w
+    pub shut-less : left (N T n) (marked notes y) (walkAt (w .top) (w .steps + 1) (w .place) (w .row) (w .base) false) < left (N T n) notes w
     unfolding left
     shut-less = let r = room in let c = count-is in omega arith
 
-    pub shut-marked : bitAt (marked notes y) y ≡ true
-    shut-marked =
-        sym (bitsOf-at (marked notes y) (N T n) y below) ∙ ap (λ (l : List Bool). getD l y false) bits-is
-        ∙ getD-set-same G y true false (rw (bitsFrom-length notes (N T n) 0) below)
+-- ---- the first open way
+
+-- all ways have failed
+shut-all : (F : List Bool) (b : ℕ) (ks : List ℕ) → ((m : ℕ) → m < length ks → getD F (b + getD ks m 0) false ≡ true) → firstOpen F (map (λ k. b + k) ks) ≡ none
+unfolding firstOpen
+shut-all F b [] a = refl
+shut-all F b (k ∷ ks) a = rw (a 0 (omega arith)) (shut-all F b ks (λ m l. a (suc m) (omega arith)))
+
+-- those before way m have
+first-at : (F : List Bool) (b : ℕ) (ks : List ℕ) (m : ℕ) → m < length ks → ((i : ℕ) → i < m → getD F (b + getD ks i 0) false ≡ true) → getD F (b + getD ks m 0) false ≡ false
+    → firstOpen F (map (λ k. b + k) ks) ≡ some (b + getD ks m 0)
+unfolding firstOpen
+first-at F b [] m l a o = absurd (not-suc-le-zero l)
+first-at F b (k ∷ ks) zero l a o = rw o
+first-at F b (k ∷ ks) (suc m) l a o = rw (a 0 (omega arith)) (first-at F b ks m (le-of-suc-le-suc l) (λ i j. a (suc i) (omega arith)) o)
+
+each-map : (Q : ℕ → Type 0) (b : ℕ) (ks : List ℕ) → All Q (map (λ k. b + k) ks) → (m : ℕ) → m < length ks → Q (b + getD ks m 0)
+each-map Q b [] a m l = absurd (not-suc-le-zero l)
+each-map Q b (k ∷ ks) a zero l = a .0
+each-map Q b (k ∷ ks) a (suc m) l = each-map Q b ks (a .1) m (le-of-suc-le-suc l)
 
 -- ---- the last open pair
 
 module _ (T : Tables) (holds : ℕ → ℕ → Bool) (n : ℕ) (Q : Type 0) (notes trail : List ℕ) (w : Walk) (g : Good T holds n Q notes trail w) (going : 0 < w .top) where
+  abbrev e : ℕ
+  e = getD trail (w .top - 1) 0
+
   abbrev x : ℕ
-  x = pairOf w
+  x = pairIn (P T) e
 
-  path : OnPath T trail w
-  path = let r = good-room T holds n Q notes trail w g in let t = g .trailed in record { sized = g .legal .sized; room = omega arith; linked = g .linked; spot = g .spot }
+  abbrev F : List Bool
+  F = bitsOf notes (N T n)
 
-  top-is : stack trail (w .top) ≡ x ∷ stack trail (w .top - 1)
-  top-is = path-top T trail w path going
+  pub top-word : Word T e
+  top-word = g .words (w .top - 1) (omega arith)
 
-  opened : Open (ρ T holds n Q notes trail w g) (N T n) (F T holds n Q notes trail w g) (x ∷ stack trail (w .top - 1))
+  top-is : stack (P T) trail (w .top) ≡ x ∷ stack (P T) trail (w .top - 1)
+  top-is = stack-top (P T) trail (w .top) going
+
+  opened : Open (g .legal .ρ) (N T n) F (x ∷ stack (P T) trail (w .top - 1))
   opened = rw top-is at (g .opened)
 
-  linked : Linked T (x ∷ stack trail (w .top - 1))
-  linked = path-linked T trail w path going
-
-  pub top-place : w .place < P T
-  top-place = g .spot going .place
-
-  pub top-base : w .base ≡ w .row * P T
-  top-base = g .spot going .base
+  linked : Linked T (x ∷ stack (P T) trail (w .top - 1))
+  linked = rw top-is at (g .linked)
 
   pub top-below : x < N T n
   top-below = opened .pairs .0
 
-  top-out : bitAt notes x ≡ false
+  pub top-out : bitAt notes x ≡ false
   top-out = sym (bitsOf-at notes (N T n) x top-below) ∙ opened .out .0
 
-  row-is : x / P T ≡ w .row
-  row-is = path-row T trail w path going
+  pub top-byte : x / 8 < length notes
+  top-byte = let b = top-below in let no = g .noted in omega arith
 
-  place-is : x % P T ≡ w .place
-  place-is = path-place T trail w path going
+  row-is : x / P T ≡ rowIn e
+  row-is = word-row T e (top-word .place)
 
-  pub top-row : w .row ≤ n
+  place-is : x % P T ≡ placeIn e
+  place-is = word-place T e (top-word .place)
+
+  pub top-row : rowIn e ≤ n
   top-row =
       let l : x < suc n * P T = rw (mul-comm (suc n) (P T)) top-below in
       let q : x / P T < suc n = div-lt-iff-lt-mul (g .legal .sized .some) .1 l in
       rw row-is at (le-of-suc-le-suc q)
 
   -- the last open pair passes
-  pub top-passes : passesBy holds n (getD (T .sort) (w .place) 0) (getD (T .letter) (w .place) 0) (w .row) ≡ true
+  pub top-passes : passesBy holds n (getD (T .code) (placeIn e) 0) (rowIn e) ≡ true
   unfolding Passing
   top-passes =
-      let a : All (Passing T holds n) (x ∷ stack trail (w .top - 1)) = rw top-is at (g .passing) in
+      let a : All (Passing T holds n) (x ∷ stack (P T) trail (w .top - 1)) = rw top-is at (g .passing) in
       rw (row-is, place-is) at (a .0)
 
-  pub top-leaves : Leaves notes trail (P T) w
-  top-leaves =
-      let b = top-below in
-      let no = g .noted in
-      let sm = g .legal .small in
-      record { small = omega arith; byte = omega arith; out = top-out; backs = path-backs T trail w path going }
-
   -- END is on top: the open pairs are the path
-  pub top-end : 4 ≤ getD (T .sort) (w .place) 0 → comes T holds n notes trail w ≡ outcomeBy (w .top) trail (bitsOf notes (N T n)) (w .steps)
+  pub top-end : 28 < getD (T .code) (placeIn e) 0 → comes T holds n notes trail w ≡ outcomeBy (P T) (w .top) trail (bitsOf notes (N T n)) (w .steps)
   unfolding comes
   top-end h =
-      let e : graphOf T holds n x ≡ accept = rw top-base (ways-end T holds n (w .place) (w .row) top-place h) in
-      let a : resume (graphOf T holds n) (N T n) (stack trail (w .top)) (bitsOf notes (N T n)) (w .steps) ≡ found (reverseAux (stack trail (w .top)) []) (bitsOf notes (N T n)) (w .steps) =
-      rw top-is (resume-accept (graphOf T holds n) (g .legal .ρ) (N T n) (g .legal .falls) (N T n) (g .legal .bound) (stack trail (w .top - 1)) (bitsOf notes (N T n)) (w .steps) x e) in
-      a ∙ path-is trail (bitsOf notes (N T n)) (w .steps) (w .top) going
+      let d : graphOf T holds n x ≡ accept = ways-end T holds n (placeIn e) (rowIn e) (top-word .place) h in
+      let a : resume (graphOf T holds n) (N T n) (stack (P T) trail (w .top)) F (w .steps) ≡ found (reverseAux (stack (P T) trail (w .top)) []) F (w .steps) =
+      rw top-is (resume-accept (graphOf T holds n) (g .legal .ρ) (N T n) (g .legal .falls) (N T n) (g .legal .bound) (stack (P T) trail (w .top - 1)) F (w .steps) x d) in
+      a ∙ path-is (P T) trail F (w .steps) (w .top) going
 
-  module _ (ys : List ℕ) (tries : graphOf T holds n x ≡ try ys) where
-    ranks : All (λ z. (g .legal .ρ z < g .legal .ρ x) × (x < N T n → z < N T n)) ys
-    ranks = g .legal .falls x ys tries
+  module _ (more : getD (T .code) (placeIn e) 0 ≤ 28) where
+    abbrev ks : List ℕ
+    ks = waysOf T (placeIn e)
 
-    -- its first way that has not failed is the next to be entered
-    module _ (q row base way : ℕ) (before : 0 < w .top → (m : ℕ) → m < way → bitAt notes (wayAt T (pairOf w) m) ≡ true) (place : q < P T) (eb : base ≡ row * P T) (er : row ≡ w .row + takes (placeAt T (w .place))) (first : firstOpen (bitsOf notes (N T n)) ys ≡ some (base + q)) where
-      facts : ((g .legal .ρ (base + q) < g .legal .ρ x) × (x < N T n → base + q < N T n)) × Out (bitsOf notes (N T n)) (base + q)
-      facts = firstOpen-some (λ z. (g .legal .ρ z < g .legal .ρ x) × (x < N T n → z < N T n)) (bitsOf notes (N T n)) ys (base + q) ranks first
+    abbrev ys : List ℕ
+    ys = map (λ k. rowFrom T e * P T + k) ks
 
-      onto : Onto T x (base + q)
-      unfolding Onto
-      onto = rw (place-is, row-is, eb, digits-div row place) er
+    tries : graphOf T holds n x ≡ try ys
+    unfolding rowFrom
+    tries = ways-are T holds n (placeIn e) (rowIn e) (top-word .place) (g .legal .sized) top-passes more
 
-      pub top-next : Next T holds n Q notes trail w q row base way
-      top-next =
-          record {
-            good = g;
-            place = place;
-            base-is = eb;
-            opened = rw top-is (open-push (g .legal .ρ) (N T n) (bitsOf notes (N T n)) (stack trail (w .top - 1)) x (base + q) (facts .0 .0) (facts .0 .1 top-below) (facts .1) opened);
-            linked = rw top-is (onto, linked);
-            before = before;
-          }
+    -- its way m
+    module _ (m : ℕ) (l : m < length ks) where
+      pub way-place : getD ks m 0 < P T
+      way-place = leads-each T holds n (placeIn e) (rowIn e) (top-word .place) (g .legal .sized) more (g .legal .leads (placeIn e) (top-word .place)) m l
 
-      pub next-same : resume (graphOf T holds n) (N T n) ((base + q) ∷ stack trail (w .top)) (bitsOf notes (N T n)) (suc (w .steps)) ≡ comes T holds n notes trail w
-      unfolding comes
-      next-same =
-          rw top-is
-          (sym (resume-push (graphOf T holds n) (g .legal .ρ) (N T n) (g .legal .falls) (N T n) (g .legal .bound) (stack trail (w .top - 1)) (bitsOf notes (N T n)) (w .steps) x ys (base + q) tries first
-          (bitsFrom-length notes (N T n) 0) (facts .0 .1 top-below) (facts .1)))
+      way-ranks : (g .legal .ρ (wayAt T e m) < g .legal .ρ x) × (x < N T n → wayAt T e m < N T n)
+      unfolding wayAt
+      way-ranks = each-map (λ z. (g .legal .ρ z < g .legal .ρ x) × (x < N T n → z < N T n)) (rowFrom T e * P T) ks (g .legal .falls x ys tries) m l
+
+      pub way-below : wayAt T e m < N T n
+      way-below = way-ranks .1 top-below
+
+      -- it is the next to be entered, where those before it have failed
+      module _ (before : (i : ℕ) → i < m → bitAt notes (wayAt T e i) ≡ true) (q row base : ℕ) (eq : q ≡ getD ks m 0) (er : row ≡ rowFrom T e) (eb : base ≡ row * P T)
+          (led : Led T notes e (base + q)) (out : bitAt notes (base + q) ≡ false) where
+        y-is : base + q ≡ wayAt T e m
+        unfolding wayAt
+        y-is = rw (eb, er, eq)
+
+        open-way : getD F (wayAt T e m) false ≡ false
+        open-way = bitsOf-at notes (N T n) (wayAt T e m) way-below ∙ rw y-is at out
+
+        first : firstOpen F ys ≡ some (wayAt T e m)
+        unfolding wayAt
+        first = first-at F (rowFrom T e * P T) ks m l (λ i j. bitsOf-at notes (N T n) (wayAt T e i) (below-each i j) ∙ before i j) open-way
+          where
+            below-each : (i : ℕ) → i < m → wayAt T e i < N T n
+            below-each i j = each-map (λ z. (g .legal .ρ z < g .legal .ρ x) × (x < N T n → z < N T n)) (rowFrom T e * P T) ks (g .legal .falls x ys tries) i (omega arith) .1 top-below
+
+        onto : Onto T x (base + q)
+        unfolding Onto rowFrom
+        onto = rw (place-is, row-is, eb, digits-div row (let p : q < P T = rw eq way-place in p)) er
+
+        pub top-next : Next T holds n Q notes trail w q row base
+        top-next =
+            record {
+              good = g;
+              place = rw eq way-place;
+              base-is = eb;
+              opened = rw (top-is, y-is) (open-push (g .legal .ρ) (N T n) F (stack (P T) trail (w .top - 1)) x (wayAt T e m) (way-ranks .0) way-below open-way opened);
+              linked = rw top-is (onto, linked);
+              led = λ _. led;
+            }
+
+        pub next-same : resume (graphOf T holds n) (N T n) ((base + q) ∷ stack (P T) trail (w .top)) F (suc (w .steps)) ≡ comes T holds n notes trail w
+        unfolding comes
+        next-same =
+            rw (top-is, y-is)
+            (sym (resume-push (graphOf T holds n) (g .legal .ρ) (N T n) (g .legal .falls) (N T n) (g .legal .bound) (stack (P T) trail (w .top - 1)) F (w .steps) x ys (wayAt T e m) tries first
+            (bitsFrom-length notes (N T n) 0) way-below open-way))
 
     -- all its ways have failed: it fails
-    module _ (shut : firstOpen (bitsOf notes (N T n)) ys ≡ none) where
+    module _ (all : (m : ℕ) → m < length ks → bitAt notes (wayAt T e m) ≡ true) where
+      shut : firstOpen F ys ≡ none
+      unfolding wayAt
+      shut = shut-all F (rowFrom T e * P T) ks (λ m l. bitsOf-at notes (N T n) (wayAt T e m) (way-below m l) ∙ all m l)
+
       abbrev F′ : List Bool
       F′ = bitsOf (marked notes x) (N T n)
 
-      marked-is : F′ ≡ set (bitsOf notes (N T n)) x true
-      marked-is = bits-mark notes (N T n) x top-below (top-leaves .byte) top-out
+      marked-is : F′ ≡ set F x true
+      marked-is = bits-mark notes (N T n) x top-below top-byte top-out
 
-      marked-count : countTrue F′ ≡ suc (countTrue (bitsOf notes (N T n)))
-      marked-count = rw marked-is (count-mark (bitsOf notes (N T n)) x (rw (bitsFrom-length notes (N T n) 0) top-below) (opened .out .0))
+      marked-count : countTrue F′ ≡ suc (countTrue F)
+      marked-count = rw marked-is (count-mark F x (rw (bitsFrom-length notes (N T n) 0) top-below) (opened .out .0))
 
-      abbrev below-walk : Walk
-      below-walk = backTo (P T) trail w (w .top - 1)
+      marked-it : bitAt (marked notes x) x ≡ true
+      marked-it =
+          sym (bitsOf-at (marked notes x) (N T n) x top-below) ∙ ap (λ (l : List Bool). getD l x false) marked-is
+          ∙ getD-set-same F x true false (rw (bitsFrom-length notes (N T n) 0) top-below)
 
-      -- the pair below goes on with the way by which this one was reached
-      below-tried : (t : ℕ) → w .top - 1 ≡ t → 0 < (backTo (P T) trail w t) .top → (m : ℕ) → m < (backTo (P T) trail w t) .from
-          → bitAt notes (wayAt T (pairOf (backTo (P T) trail w t)) m) ≡ true
-      unfolding backTo spotted
-      below-tried zero e l m b = absurd (not-suc-le-zero l)
-      below-tried (suc t) e l m b = rw (div-add-mod' (pairIn (getD trail t 0)) (P T)) (g .tried t m (omega arith) b)
+      module _ (q row base : ℕ) where
+        abbrev under : Walk
+        under = walkAt (w .top - 1) (w .steps) q row base false
 
-      leave-good : below-walk .from < 2048 → Good T holds n Q (marked notes x) trail below-walk
-      unfolding marked
-      leave-good small =
-          let c = marked-count in
-          let s = g .steps in
-          let bt = back-top (P T) trail w (w .top - 1) in
-          let bs = back-steps (P T) trail w (w .top - 1) in
-          let a : All (Passing T holds n) (x ∷ stack trail (w .top - 1)) = rw top-is at (g .passing) in
-          record {
-            legal = g .legal;
-            asks = g .asks;
-            noted = simp length-set (g .noted);
-            trailed = g .trailed;
-            opened = rw (bt, marked-is) (open-pop (g .legal .ρ) (N T n) (bitsOf notes (N T n)) (stack trail (w .top - 1)) x opened);
-            linked = rw bt (linked-under T x (stack trail (w .top - 1)) linked);
-            passing = rw bt (a .1);
-            spot = back-spot (P T) trail w (g .legal .sized .some) (w .top - 1);
-            from-small = small;
-            from-tried = λ l m b. keeps-marked notes x _ (top-leaves .byte) top-out (below-tried (w .top - 1) refl l m b);
-            tried = λ k m l b. keeps-marked notes x _ (top-leaves .byte) top-out (g .tried k m (let c : suc k < w .top - 1 = rw bt at l in omega arith) b);
-            steps = omega arith;
-          }
+        leave-good : Good T holds n Q (marked notes x) trail under
+        unfolding marked
+        leave-good =
+            let c = marked-count in
+            let s = g .steps in
+            let a : All (Passing T holds n) (x ∷ stack (P T) trail (w .top - 1)) = rw top-is at (g .passing) in
+            record {
+              legal = g .legal;
+              asks = g .asks;
+              noted = simp length-set (g .noted);
+              trailed = g .trailed;
+              opened = rw marked-is (open-pop (g .legal .ρ) (N T n) F (stack (P T) trail (w .top - 1)) x opened);
+              linked = linked-under T x (stack (P T) trail (w .top - 1)) linked;
+              passing = a .1;
+              words = λ k l. g .words k (omega arith);
+              led = λ k l. led-keeps T notes (marked notes x) _ _ (g .led k (omega arith)) (keeps-marked notes x top-byte top-out);
+              steps = omega arith;
+            }
 
-      leave-same : comes T holds n (marked notes x) trail below-walk ≡ comes T holds n notes trail w
-      unfolding comes
-      leave-same =
-          rw (back-top (P T) trail w (w .top - 1), back-steps (P T) trail w (w .top - 1), top-is, marked-is)
-          (sym (resume-pop (graphOf T holds n) (g .legal .ρ) (N T n) (g .legal .falls) (N T n) (g .legal .bound) (stack trail (w .top - 1)) (bitsOf notes (N T n)) (w .steps) x ys tries shut))
+        -- the pair below had tried it last
+        leave-stands : Stands T (marked notes x) trail under
+        leave-stands = record { fresh = λ (d : false ≡ true). absurd (false≢true d); stuck = λ _ l. below (w .top - 1) refl l }
+          where
+            below : (t : ℕ) → w .top - 1 ≡ t → 0 < t → Stuck T (marked notes x) (getD trail (t - 1) 0)
+            below zero d l = absurd (not-suc-le-zero l)
+            below (suc t) d l =
+                let i : suc t - 1 ≡ t = omega arith in
+                let k : Led T notes (getD trail t 0) (pairIn (P T) (getD trail (suc t) 0)) = g .led t (omega arith) in
+                rw i (led-stuck T notes (marked notes x) (getD trail t 0) x (rw (← d) at k) (keeps-marked notes x top-byte top-out) marked-it)
 
-      pub leave-reached : below-walk .from < 2048 → Reached T holds n Q notes trail (comes T holds n notes trail w) (marked notes x) trail below-walk
-      unfolding marked
-      leave-reached small =
-          let b = top-below in
-          record {
-            good = leave-good small;
-            same = leave-same;
-            notes-long = length-set notes (x / 8) _;
-            trail-long = refl;
-            notes-beyond = λ z l. bit-keep notes x z (top-leaves .byte) top-out (λ (e : z ≡ x). omega arith);
-            trail-beyond = λ k l. refl;
-          }
+        pub leave-reached : Reached T holds n Q notes trail (comes T holds n notes trail w) (marked notes x) trail under
+        unfolding marked comes
+        leave-reached =
+            let b = top-below in
+            record {
+              good = leave-good;
+              stands = leave-stands;
+              same = rw (top-is, marked-is) (sym (resume-pop (graphOf T holds n) (g .legal .ρ) (N T n) (g .legal .falls) (N T n) (g .legal .bound) (stack (P T) trail (w .top - 1)) F (w .steps) x ys tries shut));
+              notes-long = length-set notes (x / 8) _;
+              trail-long = refl;
+              notes-beyond = λ z l. bit-keep notes x z top-byte top-out (λ (e : z ≡ x). omega arith);
+              trail-beyond = λ k l. refl;
+            }
 
-      pub leave-less : left (N T n) (marked notes x) below-walk < left (N T n) notes w
-      unfolding left
-      leave-less =
-          let r = good-room T holds n Q notes trail w g in
-          let c = marked-count in
-          let bt = back-top (P T) trail w (w .top - 1) in
-          omega arith
+        pub leave-less : left (N T n) (marked notes x) under < left (N T n) notes w
+        unfolding left
+        leave-less =
+            let r = good-room T holds n Q notes trail w g in
+            let c = marked-count in
+            omega arith

@@ -3,6 +3,5 @@ pub mod Ways
 pub mod Trails
 pub mod Going
 pub mod Trying
-pub mod Passed
-pub mod Forks
+pub mod Backing
 pub mod Whole

@@ -1,158 +1,230 @@
--- A pair is tried: it is open then, or it has failed and all else is as before. The ways of a fork are tried in order.
-use mathlib.Core.Path.{_≡_, refl, sym, _∙_, subst}
-use mathlib.Core.List.{List, _∷_, map}
-use mathlib.Core.Bool.{Bool, true, false, _&&_}
+-- A pair is tried: it is open then, or it has failed; and the last open pair tries its first way, or its next way, or fails.
+use mathlib.Core.Path.{_≡_, refl, sym, ap, _∙_, subst}
+use mathlib.Core.List.{List, _∷_}
+use mathlib.Core.Bool.{Bool, true, false, _&&_, false≢true}
 use mathlib.Core.Logic.{_≢_}
-use mathlib.Core.Option.{none, some}
-use Prim.Native.Nat.{ℕ, zero, suc, _+_, _-_, _*_, _≤_, _<_, suc-le-suc}
-use native.Mathlib.Nat.{mul-comm}
+use Prim.Native.Nat.{ℕ, zero, suc, _+_, _-_, _*_, _/_, _%_, _≤_, _<_, suc-le-suc}
+use native.Mathlib.Nat.{mul-comm, not-suc-le-zero, suc-mul}
 use native.Mathlib.Decide.{ℕ-discrete}
 use native.Mathlib.Omega.{arith}
 use lib.Arith.{digits-lt}
 use lib.Dec.{ltb}
-use lib.ListN.{getD}
-use borrow.Author.Tests.{ltb-true}
+use lib.ListN.{length, getD, set, length-set}
+use lib.Seq.{getD-set-same, getD-set-other}
+use borrow.Author.Tests.{ltb-true, ltb-false, lt-ltb, le-ltb}
 use Rattle.rules.specs.Report.{bitAt}
-use Rattle.rules.specs.Walk.{try, Outcome}
+use Rattle.rules.specs.Walk.{Outcome}
 use Rattle.rules.proofs.Level.{and-true}
-use Rattle.rules.proofs.Machine.{firstOpen, resume}
-use Rattle.rules.proofs.Notes.{marked, bitsOf, bit-keep}
+use Rattle.rules.proofs.Machine.{resume}
+use Rattle.rules.proofs.Notes.{marked, bitsOf}
 use Rattle.walk.specs.declared.Walk.{Walk}
-use Rattle.walk.specs.Tables.{Tables, P, N, span, graphOf, passesBy}
-use Rattle.walk.specs.Step.{Mem, mem, stack, pairOf, enteredBy, triedBy, backTo, Leaves}
-use Rattle.walk.specs.State.{Good, left, comes, Reached, Stepped}
-use Rattle.walk.proofs.Going.{reached-none, reached-on, Next, next-enters, open-reached, open-less, shut-reached, shut-less, shut-marked, top-leaves, leave-reached, leave-less}
+use Rattle.walk.specs.Tables.{Tables, P, N, second, leftFrom, waysOf, placeAt, graphOf, passesBy}
+use Rattle.walk.specs.Step.{Mem, mem, placeIn, rowIn, wayIn, pairIn, stack, walkAt, after, wentOn, enteredBy, triedBy, Tries}
+use Rattle.walk.specs.State.{takes, Word, rowFrom, wayAt, reach, Led, Stuck, Fresh, Good, left, rest, comes, Reached, Goes, Halts, Turned, Onward, Backward}
+use Rattle.walk.proofs.Ways.{left-none, left-some, ways-length, ways-first, ways-later, takes-row, takes-no-row}
+use Rattle.walk.proofs.Trails.{went-place, went-row, went-way, stack-same}
+use Rattle.walk.proofs.Going.{good-as, good-room, led-stuck, Next, next-enters, open-reached, open-less, shut-reached, shut-less, top-word, top-below, top-out, top-byte, top-row, top-passes, way-place, way-below, top-next, next-same, leave-reached, leave-less}
 
 -- ---- a pair is tried
 
--- it has failed: the walk stands where it stood, and no note is taken back
-pub record Stays (notes trail : List ℕ) (w : Walk) (y : ℕ) (notes′ trail′ : List ℕ) (r : Walk) : Type 0 where
-  pub top : r .top ≡ w .top
-  pub place : r .place ≡ w .place
-  pub row : r .row ≡ w .row
-  pub base : r .base ≡ w .base
-  pub it : bitAt notes′ y ≡ true
-  pub keeps : (z : ℕ) → bitAt notes z ≡ true → bitAt notes′ z ≡ true
-
-pub record Tried (T : Tables) (holds : ℕ → ℕ → Bool) (n : ℕ) (Q : Type 0) (notes trail : List ℕ) (w : Walk) (y : ℕ) (R : Outcome) (notes′ trail′ : List ℕ) (r : Walk) : Type 0 where
+-- where nothing is less, the pair had failed: the last try opened none, and the open pairs are as before
+pub record Tried (T : Tables) (holds : ℕ → ℕ → Bool) (n : ℕ) (Q : Type 0) (notes trail : List ℕ) (w : Walk) (R : Outcome) (notes′ trail′ : List ℕ) (r : Walk) : Type 0 where
   pub reached : Reached T holds n Q notes trail R notes′ trail′ r
-  pub opens : w .top < r .top → left (N T n) notes′ r < left (N T n) notes w
-  pub stays : r .top ≤ w .top → Stays notes trail w y notes′ trail′ r
   pub less : left (N T n) notes′ r ≤ left (N T n) notes w
+  pub shut : left (N T n) notes′ r ≡ left (N T n) notes w → (r .down ≡ false) × (r .top ≡ w .top) × (trail′ ≡ trail)
+  pub going : w .top ≤ r .top
 
-module _ (T : Tables) (holds : ℕ → ℕ → Bool) (n : ℕ) (Q : Type 0) (notes trail : List ℕ) (w : Walk) (q row base way : ℕ) (R : Outcome) (g : Good T holds n Q notes trail w)
-    (next : bitAt notes (base + q) ≡ false → Next T holds n Q notes trail w q row base way)
-    (fresh : bitAt notes (base + q) ≡ false → resume (graphOf T holds n) (N T n) ((base + q) ∷ stack trail (w .top)) (bitsOf notes (N T n)) (suc (w .steps)) ≡ R)
+module _ (T : Tables) (holds : ℕ → ℕ → Bool) (n : ℕ) (Q : Type 0) (notes trail : List ℕ) (w : Walk) (q row base : ℕ) (R : Outcome) (g : Good T holds n Q notes trail w)
+    (next : bitAt notes (base + q) ≡ false → Next T holds n Q notes trail w q row base)
+    (fresh : bitAt notes (base + q) ≡ false → resume (graphOf T holds n) (N T n) ((base + q) ∷ stack (P T) trail (w .top)) (bitsOf notes (N T n)) (suc (w .steps)) ≡ R)
+    (led : 0 < w .top → Led T notes (getD trail (w .top - 1) 0) (base + q))
     (stale : bitAt notes (base + q) ≡ true → comes T holds n notes trail w ≡ R) where
   abbrev passing : Bool
-  passing = passesBy holds n (getD (T .sort) q 0) (getD (T .letter) q 0) row
+  passing = passesBy holds n (getD (T .code) q 0) row
+
+  abbrev entry : ℕ
+  entry = getD (T .entry) q 0
 
   abbrev TriedTo : Mem → Type 0
-  TriedTo m = Tried T holds n Q notes trail w (base + q) R (m .notes) (m .trail) (m .walk)
+  TriedTo m = Tried T holds n Q notes trail w R (m .notes) (m .trail) (m .walk)
 
   to : (notes′ trail′ : List ℕ) (r : Walk) (S : Outcome) → S ≡ R → Reached T holds n Q notes trail S notes′ trail′ r → Reached T holds n Q notes trail R notes′ trail′ r
   to notes′ trail′ r S e h = rw e at h
 
-  entered : (p : Bool) → passing ≡ p → bitAt notes (base + q) ≡ false → TriedTo (enteredBy p (mem notes trail w) q row base way)
+  entered : (p : Bool) → passing ≡ p → bitAt notes (base + q) ≡ false → TriedTo (enteredBy p (mem notes trail w) q row base entry)
   unfolding enteredBy
   entered true ep eb =
-      let l = open-less T holds n Q notes trail w q row base way (next eb) ep in
+      let l = open-less T holds n Q notes trail w q row base (next eb) ep in
       record {
-        reached = to _ _ _ _ (fresh eb) (open-reached T holds n Q notes trail w q row base way (next eb) ep);
-        opens = λ _. l;
-        stays = λ h. absurd (omega arith);
+        reached = to _ _ _ _ (fresh eb) (open-reached T holds n Q notes trail w q row base (next eb) ep);
         less = omega arith;
+        shut = λ h. absurd (omega arith);
+        going = omega arith;
       }
   entered false ep eb =
-      let l = shut-less T holds n Q notes trail w q row base way (next eb) ep in
-      let en = next-enters T holds n Q notes trail w q row base way (next eb) in
+      let l = shut-less T holds n Q notes trail w q row base (next eb) ep in
       record {
-        reached = to _ _ _ _ (fresh eb) (shut-reached T holds n Q notes trail w q row base way (next eb) ep);
-        opens = λ h. absurd (omega arith);
-        stays = λ _. record {
-          top = refl;
-          place = refl;
-          row = refl;
-          base = refl;
-          it = shut-marked T holds n Q notes trail w q row base way (next eb) ep;
-          keeps = λ z e. elim (ℕ-discrete z (base + q)) [
-            | yes d ↦ rw d (shut-marked T holds n Q notes trail w q row base way (next eb) ep)
-            | no d ↦ bit-keep notes (base + q) z (en .byte) (en .out) d ∙ e
-          ];
-        };
+        reached = to _ _ _ _ (fresh eb) (shut-reached T holds n Q notes trail w q row base (next eb) ep);
         less = omega arith;
+        shut = λ h. absurd (omega arith);
+        going = omega arith;
       }
 
-  tried-by : (b : Bool) → bitAt notes (base + q) ≡ b → TriedTo (triedBy b passing (mem notes trail w) q row base way)
-  unfolding triedBy
+  tried-by : (b : Bool) → bitAt notes (base + q) ≡ b → TriedTo (triedBy b passing (mem notes trail w) q row base entry)
+  unfolding triedBy comes left
   tried-by true eb =
       record {
-        reached = to _ _ _ _ (stale eb) (reached-none T holds n Q notes trail w g);
-        opens = λ h. absurd (omega arith);
-        stays = λ _. record { top = refl; place = refl; row = refl; base = refl; it = eb; keeps = λ z e. e };
+        reached = record {
+          good = good-as T holds n Q notes trail (w .top) (w .steps) (w .place) (w .row) (w .base) (w .down) (w .place) (w .row) (w .base) false g;
+          stands = record { fresh = λ (d : false ≡ true). absurd (false≢true d); stuck = λ _ l. led-stuck T notes notes _ _ (led l) (λ z e. e) eb };
+          same = stale eb;
+          notes-long = refl;
+          trail-long = refl;
+          notes-beyond = λ z l. refl;
+          trail-beyond = λ k l. refl;
+        };
         less = omega arith;
+        shut = λ _. (refl, refl, refl);
+        going = omega arith;
       }
   tried-by false eb = entered passing refl eb
 
-  pub tried : (notes′ trail′ : List ℕ) (r : Walk) → mem notes′ trail′ r ≡ triedBy (bitAt notes (base + q)) passing (mem notes trail w) q row base way
-      → Tried T holds n Q notes trail w (base + q) R notes′ trail′ r
+  pub tried : (notes′ trail′ : List ℕ) (r : Walk) → mem notes′ trail′ r ≡ triedBy (bitAt notes (base + q)) passing (mem notes trail w) q row base entry
+      → Tried T holds n Q notes trail w R notes′ trail′ r
   tried notes′ trail′ r e = subst TriedTo (sym e) (tried-by (bitAt notes (base + q)) refl)
-
--- ---- the first open way
-
-module _ (F : List Bool) (w : List ℕ) (b : ℕ) where
-  abbrev InAll : ℕ → ℕ → Type 0
-  InAll from to = (k : ℕ) → from ≤ k → k < to → getD F (b + getD w k 0) false ≡ true
-
-  -- all ways have failed
-  pub shut-all : (m from : ℕ) → InAll from (from + m) → firstOpen F (map (λ k. b + k) (span w from m)) ≡ none
-  unfolding firstOpen span
-  shut-all zero from a = refl
-  shut-all (suc m) from a = rw (a from (omega arith) (omega arith)) (shut-all m (suc from) (λ k l h. a k (omega arith) (omega arith)))
-
-  -- those before way j have
-  pub first-at : (m from j : ℕ) → from ≤ j → j < from + m → InAll from j → getD F (b + getD w j 0) false ≡ false
-      → firstOpen F (map (λ k. b + k) (span w from m)) ≡ some (b + getD w j 0)
-  unfolding firstOpen span
-  first-at zero from j l h a o = absurd (omega arith)
-  first-at (suc m) from j l h a o = elim (ℕ-discrete from j) [
-    | yes e ↦ rw (e, o)
-    | no n ↦ later n (first-at m (suc from) j)
-  ]
-    where
-      later : (from ≡ j → ⊥) → (suc from ≤ j → j < suc from + m → InAll (suc from) j → getD F (b + getD w j 0) false ≡ false
-          → firstOpen F (map (λ k. b + k) (span w (suc from) m)) ≡ some (b + getD w j 0))
-          → firstOpen F (map (λ k. b + k) (span w from (suc m))) ≡ some (b + getD w j 0)
-      later n ih =
-          let d : from ≢ j = n in
-          rw (a from (omega arith) (omega arith)) (ih (omega arith) (omega arith) (λ k l h. a k (omega arith) h) o)
 
 pub pair-in : (P n q row base : ℕ) → base ≡ row * P → q < P → row ≤ n → base + q < P * suc n
 pair-in P n q row base eb h l = rw (eb, mul-comm P (suc n)) (digits-lt (suc-le-suc l) h)
 
-pub letter-in : (holds : ℕ → ℕ → Bool) (n k c i : ℕ) → k ≡ 1 → passesBy holds n k c i ≡ true → i < n
+pub letter-in : (holds : ℕ → ℕ → Bool) (n c i : ℕ) → c < 26 → passesBy holds n c i ≡ true → i < n
 unfolding passesBy
-letter-in holds n k c i e p = let d : (ltb i n && holds c i) ≡ true = rw e at p in ltb-true i n (and-true _ _ d .0)
+letter-in holds n c i e p = let d : (ltb i n && holds (c + 65) i) ≡ true = rw (lt-ltb c 26 e) at p in ltb-true i n (and-true _ _ d .0)
 
--- ---- all ways of the last open pair have failed
+-- ---- the last open pair tries its way m, where the ways before it have failed and the next way is the one behind it
 
-pub record Shut (T : Tables) (holds : ℕ → ℕ → Bool) (n : ℕ) (Q : Type 0) (n₁ t₁ : List ℕ) (w₁ : Walk) (notes trail : List ℕ) (w : Walk) : Type 0 where
-  pub reached : Reached T holds n Q n₁ t₁ (comes T holds n n₁ t₁ w₁) notes trail w
-  pub less : left (N T n) notes w ≤ left (N T n) n₁ w₁
-  pub going : 0 < w .top
-  pub ways : List ℕ
-  pub tries : graphOf T holds n (pairOf w) ≡ try ways
-  pub shut : firstOpen (bitsOf notes (N T n)) ways ≡ none
+module _ (T : Tables) (holds : ℕ → ℕ → Bool) (n : ℕ) (Q : Type 0) (notes trail : List ℕ) (w : Walk) (g : Good T holds n Q notes trail w) (going : 0 < w .top)
+    (more : getD (T .code) (placeIn (getD trail (w .top - 1) 0)) 0 ≤ 28) (m : ℕ) (inside : m < length (waysOf T (placeIn (getD trail (w .top - 1) 0))))
+    (reaches : reach T (getD trail (w .top - 1) 0) ≡ suc m) (before : (i : ℕ) → i < m → bitAt notes (wayAt T (getD trail (w .top - 1) 0) i) ≡ true)
+    (q row base : ℕ) (eq : q ≡ getD (waysOf T (placeIn (getD trail (w .top - 1) 0))) m 0) (er : row ≡ rowFrom T (getD trail (w .top - 1) 0)) (eb : base ≡ row * P T) where
+  abbrev e : ℕ
+  e = getD trail (w .top - 1) 0
 
-module _ (T : Tables) (holds : ℕ → ℕ → Bool) (n : ℕ) (Q : Type 0) (n₁ t₁ : List ℕ) (w₁ : Walk) (notes trail : List ℕ) (w : Walk) (s : Shut T holds n Q n₁ t₁ w₁ notes trail w) where
-  pub shut-leaves : Leaves notes trail (P T) w
-  shut-leaves = top-leaves T holds n Q notes trail w (s .reached .good) (s .going)
+  y-is : wayAt T e m ≡ base + q
+  unfolding wayAt
+  y-is = rw (eb, er, eq)
 
-  pub shut-stepped : (notes′ : List ℕ) (r : Walk) → (r ≡ backTo (P T) trail w (w .top - 1)) × (r .from < 2048) × (notes′ ≡ marked notes (pairOf w)) → Stepped T holds n Q n₁ t₁ w₁ notes′ trail r
-  shut-stepped notes′ r l =
-      let er = l .0 in
-      let en = l .2 in
-      let a = leave-reached T holds n Q notes trail w (s .reached .good) (s .going) (s .ways) (s .tries) (s .shut) (rw er at (l .1)) in
-      let b = leave-less T holds n Q notes trail w (s .reached .good) (s .going) (s .ways) (s .tries) (s .shut) in
-      let o = s .less in
-      rw (er, en) (record { reached = reached-on T holds n Q n₁ t₁ _ notes trail w _ trail _ (s .reached) a; less = omega arith })
+  led : Led T notes e (base + q)
+  led = record {
+    going = more;
+    tried = λ i l d. elim (ℕ-discrete i m) [
+      | yes z ↦ absurd (d (ap (wayAt T e) z ∙ y-is))
+      | no z ↦ let c : i ≢ m = z in before i (let k = reaches in omega arith)
+    ];
+  }
+
+  next : bitAt notes (base + q) ≡ false → Next T holds n Q notes trail w q row base
+  next o = top-next T holds n Q notes trail w g going more m inside before q row base eq er eb led o
+
+  pub turn-tries : Tries (T .code) (T .entry) Q notes trail w q row base
+  turn-tries =
+      let b : base + q < N T n = rw y-is at (way-below T holds n Q notes trail w g going more m inside) in
+      let no = g .noted in
+      let sm = g .legal .small in
+      record { small = omega arith; byte = omega arith; enters = λ o. next-enters T holds n Q notes trail w q row base (next o) }
+
+  pub turn-tried : (notes′ trail′ : List ℕ) (r : Walk)
+      → mem notes′ trail′ r ≡ triedBy (bitAt notes (base + q)) (passesBy holds n (getD (T .code) q 0) row) (mem notes trail w) q row base (getD (T .entry) q 0)
+      → Tried T holds n Q notes trail w (comes T holds n notes trail w) notes′ trail′ r
+  turn-tried =
+      tried T holds n Q notes trail w q row base (comes T holds n notes trail w) g next
+      (λ o. next-same T holds n Q notes trail w g going more m inside before q row base eq er eb led o) (λ _. led) (λ _. refl)
+
+-- ---- the first way of a pair that was just opened
+
+module _ (T : Tables) (holds : ℕ → ℕ → Bool) (n : ℕ) (Q : Type 0) (notes trail : List ℕ) (w : Walk) (h : Goes T holds n Q notes trail w) where
+  abbrev top : ℕ
+  top = getD trail (w .top - 1) 0
+
+  fresh : Fresh T trail w
+  fresh = h .state .stands .fresh (h .down)
+
+  abbrev good : Good T holds n Q notes trail w
+  good = h .state .good
+
+  pub on-place : w .place < P T
+  on-place = rw (← fresh .spot .place) (top-word T holds n Q notes trail w good (fresh .going) .place)
+
+  pub on-next : w .place < length (T .next)
+  on-next = rw (good .legal .sized .nexts) on-place
+
+  code-is : getD (T .code) (placeIn top) 0 ≤ 28
+  code-is = rw (fresh .spot .place) (h .going)
+
+  reach-one : reach T top ≡ 1
+  unfolding reach
+  reach-one = rw (fresh .way) (omega arith)
+
+  module _ (q : ℕ) (eq : q ≡ getD (T .next) (w .place) 0) (row base : ℕ) (er : row ≡ rowFrom T top) (eb : base ≡ row * P T) where
+    first-is : q ≡ getD (waysOf T (placeIn top)) 0 0
+    first-is = eq ∙ sym (ap (λ (k : ℕ). getD (T .next) k 0) (fresh .spot .place)) ∙ sym (ways-first T (placeIn top))
+
+    some-way : 0 < length (waysOf T (placeIn top))
+    some-way = rw (ways-length T (placeIn top)) (omega arith)
+
+    on-tries : Tries (T .code) (T .entry) Q notes trail w q row base
+    on-tries = turn-tries T holds n Q notes trail w good (fresh .going) code-is 0 some-way reach-one (λ i l. absurd (not-suc-le-zero l)) q row base first-is er eb
+
+    on-tried : (notes′ trail′ : List ℕ) (r : Walk)
+        → mem notes′ trail′ r ≡ triedBy (bitAt notes (base + q)) (passesBy holds n (getD (T .code) q 0) row) (mem notes trail w) q row base (getD (T .entry) q 0)
+        → Onward T holds n Q notes trail w notes′ trail′ r
+    on-tried notes′ trail′ r d =
+        let t = turn-tried T holds n Q notes trail w good (fresh .going) code-is 0 some-way reach-one (λ i l. absurd (not-suc-le-zero l)) q row base first-is er eb notes′ trail′ r d in
+        let f = fresh .going in
+        let k = t .going in
+        record { turned = record { reached = t .reached; less = t .less; shut = λ l. (t .shut l .0, t .shut l .1) }; going = omega arith }
+
+  base-is : w .base ≡ w .row * P T
+  base-is = fresh .spot .base
+
+  module _ (q : ℕ) (eq : q ≡ getD (T .next) (w .place) 0) (c : getD (T .code) (w .place) 0 < 26) where
+    row-ahead : w .row < n
+    row-ahead =
+        letter-in holds n (getD (T .code) (w .place) 0) (w .row) c
+        (rw (fresh .spot .place, fresh .spot .row) at (top-passes T holds n Q notes trail w good (fresh .going)))
+
+    pub on-row : w .row + 1 ≤ 4096
+    on-row = let a = row-ahead in let b = good .legal .rows in omega arith
+
+    ahead-is : w .base + P T ≡ (w .row + 1) * P T
+    ahead-is = let o : w .row + 1 ≡ suc (w .row) = omega arith in rw (o, suc-mul (w .row) (P T), base-is)
+
+    pub on-ahead : w .base + P T < 4294967296
+    on-ahead =
+        let b = pair-in (P T) n 0 (w .row + 1) (w .base + P T) ahead-is (good .legal .sized .some) (let a = row-ahead in omega arith) in
+        let s = good .legal .small in
+        omega arith
+
+    from-is : w .row + 1 ≡ rowFrom T top
+    unfolding rowFrom
+    from-is = rw (fresh .spot .place, fresh .spot .row, takes-row T holds n (w .place) (w .row) on-place c)
+
+    pub letter-tries : Tries (T .code) (T .entry) Q notes trail w q (w .row + 1) (w .base + P T)
+    letter-tries = on-tries q eq (w .row + 1) (w .base + P T) from-is ahead-is
+
+    pub letter-tried : (notes′ trail′ : List ℕ) (r : Walk)
+        → mem notes′ trail′ r ≡ triedBy (bitAt notes (w .base + P T + q)) (passesBy holds n (getD (T .code) q 0) (w .row + 1)) (mem notes trail w) q (w .row + 1) (w .base + P T) (getD (T .entry) q 0)
+        → Onward T holds n Q notes trail w notes′ trail′ r
+    letter-tried = on-tried q eq (w .row + 1) (w .base + P T) from-is ahead-is
+
+  module _ (q : ℕ) (eq : q ≡ getD (T .next) (w .place) 0) (c : 26 ≤ getD (T .code) (w .place) 0) where
+    same-row : w .row ≡ rowFrom T top
+    unfolding rowFrom
+    same-row = rw (fresh .spot .place, fresh .spot .row, takes-no-row T holds n (w .place) (w .row) on-place c) (omega arith)
+
+    pub other-tries : Tries (T .code) (T .entry) Q notes trail w q (w .row) (w .base)
+    other-tries = on-tries q eq (w .row) (w .base) same-row base-is
+
+    pub other-tried : (notes′ trail′ : List ℕ) (r : Walk)
+        → mem notes′ trail′ r ≡ triedBy (bitAt notes (w .base + q)) (passesBy holds n (getD (T .code) q 0) (w .row)) (mem notes trail w) q (w .row) (w .base) (getD (T .entry) q 0)
+        → Onward T holds n Q notes trail w notes′ trail′ r
+    other-tried = on-tried q eq (w .row) (w .base) same-row base-is

@@ -1,19 +1,21 @@
--- What the tables say of a pair: its ways, by the sort of its place.
-use mathlib.Core.Path.{_≡_, refl, ap, _∙_}
+-- What the tables say of a pair: its ways, by the code of its place.
+use mathlib.Core.Path.{_≡_, refl, ap, sym, _∙_}
 use mathlib.Core.List.{List, [], _∷_, map}
 use mathlib.Core.Bool.{Bool, true, false, true≢false}
-use Prim.Native.Nat.{ℕ, zero, suc, _+_, _-_, _*_, _/_, _%_, _≤_, _<_, suc-le-suc, zero-le}
+use Prim.Native.Nat.{ℕ, zero, suc, _+_, _-_, _*_, _/_, _%_, _≤_, _<_}
 use native.Mathlib.Nat.{le-of-suc-le-suc, not-suc-le-zero, add-zero}
+use mathlib.Core.Logic.{_≢_}
 use native.Mathlib.Decide.{ℕ-discrete}
 use native.Mathlib.Omega.{arith}
 use lib.Arith.{digits-div, digits-mod}
-use lib.Dec.{eqb}
+use lib.Dec.{ltb, eqb}
 use lib.ListN.{length, getD}
-use borrow.Author.Tests.{ne-eqb}
+use borrow.Author.Tests.{ne-eqb, eqb-true, eqb-false, lt-ltb, le-ltb, ltb-true, ltb-false}
+use Rattle.rules.specs.Basics.{pick}
 use Rattle.rules.specs.Places.{Place, pLetter, pCaret, pDollar, pFork, pEnd}
 use Rattle.rules.specs.Walk.{Ways, accept, try, waysAt, pairWays}
 use Rattle.rules.proofs.Walk.{All}
-use Rattle.walk.specs.Tables.{Tables, P, span, placeBy, placeAt, placesFrom, placesIn, graphOf, passesBy, Leads}
+use Rattle.walk.specs.Tables.{Tables, P, span, leftFrom, second, waysOf, placeBy, placeAt, placesFrom, placesIn, graphOf, passesBy, Sized, Leads}
 use Rattle.walk.specs.State.{takes}
 
 -- ---- the places
@@ -40,81 +42,125 @@ module _ (T : Tables) where
   unfolding placesIn
   in-at q h = let e : 0 + q ≡ q = omega arith in rw e at (from-at (P T) 0 q h)
 
--- each way of a span
-pub span-each : (Q : ℕ → Type 0) (w : List ℕ) (m j : ℕ) → All Q (span w j m) → (i : ℕ) → j ≤ i → i < j + m → Q (getD w i 0)
+-- ---- the ways of a place
+
+span-length : (w : List ℕ) (m j : ℕ) → length (span w j m) ≡ m
 unfolding span
-span-each Q w zero j a i l h = absurd (omega arith)
-span-each Q w (suc m) j a i l h = go (span-each Q w m (suc j) (a .1) i) (a .0)
-  where
-    split : (j i : ℕ) → j ≤ i → (j ≡ i → ⊥) → suc j ≤ i
-    split zero zero l n = absurd (n refl)
-    split zero (suc i) l n = suc-le-suc zero-le
-    split (suc j) zero l n = absurd (not-suc-le-zero l)
-    split (suc j) (suc i) l n = suc-le-suc (split j i (le-of-suc-le-suc l) (λ e. n (ap suc e)))
+span-length w zero j = refl
+span-length w (suc m) j = ap suc (span-length w m (suc j))
 
-    go : (suc j ≤ i → i < suc j + m → Q (getD w i 0)) → Q (getD w j 0) → Q (getD w i 0)
-    go f z = elim (ℕ-discrete j i) [
-      | yes e ↦ rw e at z
-      | no n ↦ f (split j i l n) (omega arith)
-    ]
+span-at : (w : List ℕ) (m j i : ℕ) → i < m → getD (span w j m) i 0 ≡ getD w (j + i) 0
+unfolding span
+span-at w zero j i h = absurd (not-suc-le-zero h)
+span-at w (suc m) j zero h = rw add-zero
+span-at w (suc m) j (suc i) h = let e : j + suc i ≡ suc j + i = omega arith in rw e (span-at w m (suc j) i (le-of-suc-le-suc h))
 
--- ---- by the sort
+pub left-none : (T : Tables) (q j : ℕ) → j ≡ 0 → leftFrom T q j ≡ 0
+unfolding leftFrom
+left-none T q j e = rw e
 
-module _ (holds : ℕ → ℕ → Bool) (n P c k : ℕ) (ks : List ℕ) (i : ℕ) where
+pub left-some : (T : Tables) (q j : ℕ) → 0 < j → leftFrom T q j ≡ getD (T .stop) q 0 - j
+unfolding leftFrom
+left-some T q j h = rw (ne-eqb j 0 (λ (e : j ≡ 0). omega arith))
+
+module _ (T : Tables) (q : ℕ) where
+  pub ways-length : length (waysOf T q) ≡ suc (leftFrom T q (second T q))
+  unfolding waysOf
+  ways-length = ap suc (span-length (T .ways) (leftFrom T q (second T q)) (second T q))
+
+  pub ways-first : getD (waysOf T q) 0 0 ≡ getD (T .next) q 0
+  unfolding waysOf
+  ways-first = refl
+
+  pub ways-later : (j m : ℕ) → j ≡ second T q + m → m < leftFrom T q (second T q) → getD (waysOf T q) (suc m) 0 ≡ getD (T .ways) j 0
+  unfolding waysOf
+  ways-later j m e h = rw e (span-at (T .ways) (leftFrom T q (second T q)) (second T q) m h)
+
+  -- a place without a second way leads to one place
+  pub ways-one : second T q ≡ 0 → waysOf T q ≡ getD (T .next) q 0 ∷ []
+  unfolding waysOf span
+  ways-one e = rw (left-none T q (second T q) e)
+
+pub each : (Q : ℕ → Type 0) (ks : List ℕ) → All Q ks → (m : ℕ) → m < length ks → Q (getD ks m 0)
+each Q [] a m h = absurd (not-suc-le-zero h)
+each Q (k ∷ ks) a zero h = a .0
+each Q (k ∷ ks) a (suc m) h = each Q ks (a .1) m (le-of-suc-le-suc h)
+
+-- ---- by the code
+
+module _ (holds : ℕ → ℕ → Bool) (n P k : ℕ) (ks : List ℕ) (i : ℕ) where
   abbrev At : ℕ → Ways
-  At s = waysAt holds n P (placeBy s c k ks) i
+  At c = waysAt holds n P (placeBy c k ks) i
 
   -- a place that does not pass tries nothing
-  by-shut : (s : ℕ) → passesBy holds n s c i ≡ false → At s ≡ try []
+  by-shut : (c : ℕ) → passesBy holds n c i ≡ false → At c ≡ try []
   unfolding placeBy waysAt passesBy
-  by-shut zero e = absurd (true≢false e)
-  by-shut (suc zero) e = rw e
-  by-shut (suc (suc zero)) e = rw e
-  by-shut (suc (suc (suc zero))) e = rw e
-  by-shut (suc (suc (suc (suc s)))) e = absurd (true≢false (rw (later s 1 (omega arith), later s 2 (omega arith), later s 3 (omega arith)) at e))
+  by-shut c e = low (ltb c 26) refl
     where
-      later : (s m : ℕ) → m < 4 → eqb (suc (suc (suc (suc s)))) m ≡ false
-      later s m h = ne-eqb (suc (suc (suc (suc s)))) m (λ (q : suc (suc (suc (suc s))) ≡ m). omega arith)
+      low : (b : Bool) → ltb c 26 ≡ b → At c ≡ try []
+      low true l = let d = rw l at e in rw (l, d)
+      low false l = caret (eqb c 26) refl
+        where
+          caret : (b : Bool) → eqb c 26 ≡ b → At c ≡ try []
+          caret true x = let d = rw (l, x) at e in rw (l, x, d)
+          caret false x = dollar (eqb c 27) refl
+            where
+              dollar : (b : Bool) → eqb c 27 ≡ b → At c ≡ try []
+              dollar true y = let d = rw (l, x, y) at e in rw (l, x, y, d)
+              dollar false y = let d : true ≡ false = rw (l, x, y) at e in absurd (true≢false d)
 
-  by-fork : At 0 ≡ try (map (λ k. i * P + k) ks)
-  unfolding placeBy waysAt
-  by-fork = refl
-
-  by-letter : passesBy holds n 1 c i ≡ true → At 1 ≡ try ((suc i * P + k) ∷ [])
+  by-letter : (c : ℕ) → c < 26 → passesBy holds n c i ≡ true → At c ≡ try ((suc i * P + k) ∷ [])
   unfolding placeBy waysAt passesBy
-  by-letter e = rw e
+  by-letter c l e = let d = rw (lt-ltb c 26 l) at e in rw (lt-ltb c 26 l, d)
 
-  by-anchor : (s : ℕ) → 1 < s → s < 4 → passesBy holds n s c i ≡ true → At s ≡ try ((i * P + k) ∷ [])
+  by-caret : (c : ℕ) → c ≡ 26 → passesBy holds n c i ≡ true → At c ≡ try ((i * P + k) ∷ [])
   unfolding placeBy waysAt passesBy
-  by-anchor zero a b e = absurd (omega arith)
-  by-anchor (suc zero) a b e = absurd (omega arith)
-  by-anchor (suc (suc zero)) a b e = rw e
-  by-anchor (suc (suc (suc zero))) a b e = rw e
-  by-anchor (suc (suc (suc (suc s)))) a b e = absurd (omega arith)
+  by-caret c l e = let d : eqb i 0 ≡ true = rw l at e in rw (l, d)
 
-  by-end : (s : ℕ) → 4 ≤ s → At s ≡ accept
+  by-dollar : (c : ℕ) → c ≡ 27 → passesBy holds n c i ≡ true → At c ≡ try ((i * P + k) ∷ [])
+  unfolding placeBy waysAt passesBy
+  by-dollar c l e = let d : eqb i n ≡ true = rw l at e in rw (l, d)
+
+  by-fork : (c : ℕ) → c ≡ 28 → At c ≡ try (map (λ k. i * P + k) ks)
   unfolding placeBy waysAt
-  by-end zero h = absurd (omega arith)
-  by-end (suc zero) h = absurd (omega arith)
-  by-end (suc (suc zero)) h = absurd (omega arith)
-  by-end (suc (suc (suc zero))) h = absurd (omega arith)
-  by-end (suc (suc (suc (suc s)))) h = refl
+  by-fork c l = rw l
 
-  leads-anchor : (s : ℕ) → 0 < s → s < 4 → Leads P (placeBy s c k ks) → k < P
+  by-end : (c : ℕ) → 28 < c → placeBy c k ks ≡ pEnd
   unfolding placeBy
-  leads-anchor zero a b l = absurd (omega arith)
-  leads-anchor (suc zero) a b l = l
-  leads-anchor (suc (suc zero)) a b l = l
-  leads-anchor (suc (suc (suc zero))) a b l = l
-  leads-anchor (suc (suc (suc (suc s)))) a b l = absurd (omega arith)
+  by-end c l =
+      rw (le-ltb c 26 (omega arith), ne-eqb c 26 (λ (e : c ≡ 26). omega arith), ne-eqb c 27 (λ (e : c ≡ 27). omega arith), ne-eqb c 28 (λ (e : c ≡ 28). omega arith))
 
-  takes-none : (s : ℕ) → (s ≡ 1 → ⊥) → takes (placeBy s c k ks) ≡ 0
+  by-low : (c : ℕ) → c < 26 → placeBy c k ks ≡ pLetter (c + 65) k
   unfolding placeBy
-  takes-none zero h = refl
-  takes-none (suc zero) h = absurd (h refl)
-  takes-none (suc (suc zero)) h = refl
-  takes-none (suc (suc (suc zero))) h = refl
-  takes-none (suc (suc (suc (suc s)))) h = refl
+  by-low c l = rw (lt-ltb c 26 l)
+
+  pub by-high : (c : ℕ) → 26 ≤ c → takes (placeBy c k ks) ≡ 0
+  unfolding placeBy
+  by-high c l = rw (le-ltb c 26 l) (caret (eqb c 26) (eqb c 27) (eqb c 28))
+    where
+      caret : (x y z : Bool) → takes (pick x (pCaret k) (pick y (pDollar k) (pick z (pFork ks) pEnd))) ≡ 0
+      caret true y z = refl
+      caret false true z = refl
+      caret false false true = refl
+      caret false false false = refl
+
+  -- a place before END leads on
+  by-leads : (c : ℕ) → c < 28 → Leads P (placeBy c k ks) → k < P
+  unfolding placeBy
+  by-leads c h l = low (ltb c 26) refl l
+    where
+      high : (x y z : Bool) → eqb c 26 ≡ x → eqb c 27 ≡ y → 26 ≤ c → Leads P (pick x (pCaret k) (pick y (pDollar k) (pick z (pFork ks) pEnd))) → k < P
+      high true y z a b m l = l
+      high false true z a b m l = l
+      high false false z a b m l = let u : c ≢ 26 = eqb-false c 26 a in let v : c ≢ 27 = eqb-false c 27 b in absurd (omega arith)
+
+      low : (b : Bool) → ltb c 26 ≡ b → Leads P (pick b (pLetter (c + 65) k) (pick (eqb c 26) (pCaret k) (pick (eqb c 27) (pDollar k) (pick (eqb c 28) (pFork ks) pEnd)))) → k < P
+      low true e l = l
+      low false e l = high (eqb c 26) (eqb c 27) (eqb c 28) refl refl (ltb-false c 26 e) l
+
+  by-leads-fork : (c : ℕ) → c ≡ 28 → Leads P (placeBy c k ks) → All (λ k. k < P) ks
+  unfolding placeBy
+  by-leads-fork c h l = let d : Leads P (placeBy 28 k ks) = rw h at l in d
 
 -- ---- the pair of a place q at row i
 
@@ -122,17 +168,11 @@ module _ (T : Tables) (holds : ℕ → ℕ → Bool) (n q i : ℕ) (place : q < 
   abbrev x : ℕ
   x = i * P T + q
 
-  abbrev sort : ℕ
-  sort = getD (T .sort) q 0
-
-  abbrev letter : ℕ
-  letter = getD (T .letter) q 0
+  abbrev code : ℕ
+  code = getD (T .code) q 0
 
   abbrev next : ℕ
   next = getD (T .next) q 0
-
-  abbrev ways : List ℕ
-  ways = span (T .ways) (getD (T .next) q 0) (getD (T .stop) q 0 - getD (T .next) q 0)
 
   pub pair-row : x / P T ≡ i
   pair-row = digits-div i place
@@ -144,42 +184,64 @@ module _ (T : Tables) (holds : ℕ → ℕ → Bool) (n q i : ℕ) (place : q < 
   unfolding graphOf pairWays
   graph-at = rw (in-length T, pair-row, pair-place, in-at T q place)
 
-  pub ways-shut : passesBy holds n sort letter i ≡ false → graphOf T holds n x ≡ try []
+  pub ways-shut : passesBy holds n code i ≡ false → graphOf T holds n x ≡ try []
   unfolding placeAt
-  ways-shut e = graph-at ∙ by-shut holds n (P T) letter next ways i sort e
+  ways-shut e = graph-at ∙ by-shut holds n (P T) next (waysOf T q) i code e
 
-  pub ways-fork : sort ≡ 0 → graphOf T holds n x ≡ try (map (λ k. i * P T + k) ways)
+  pub ways-end : 28 < code → graphOf T holds n x ≡ accept
+  unfolding placeAt waysAt
+  ways-end h = graph-at ∙ ap (λ (p : Place). waysAt holds n (P T) p i) (by-end holds n (P T) next (waysOf T q) i code h)
+
+  pub takes-row : code < 26 → takes (placeAt T q) ≡ 1
   unfolding placeAt
-  ways-fork s = graph-at ∙ ap (λ (z : ℕ). waysAt holds n (P T) (placeBy z letter next ways) i) s ∙ by-fork holds n (P T) letter next ways i
+  takes-row h = ap takes (by-low holds n (P T) next (waysOf T q) i code h)
 
-  pub ways-letter : sort ≡ 1 → passesBy holds n sort letter i ≡ true → graphOf T holds n x ≡ try ((suc i * P T + next) ∷ [])
+  pub takes-no-row : 26 ≤ code → takes (placeAt T q) ≡ 0
   unfolding placeAt
-  ways-letter s e = graph-at ∙ ap (λ (z : ℕ). waysAt holds n (P T) (placeBy z letter next ways) i) s ∙ by-letter holds n (P T) letter next ways i (rw s at e)
+  takes-no-row h = by-high holds n (P T) next (waysOf T q) i code h
 
-  pub ways-anchor : 1 < sort → sort < 4 → passesBy holds n sort letter i ≡ true → graphOf T holds n x ≡ try ((i * P T + next) ∷ [])
+  -- the places of all its ways
+  pub leads-each : Sized T → code ≤ 28 → Leads (P T) (placeAt T q) → (m : ℕ) → m < length (waysOf T q) → getD (waysOf T q) m 0 < P T
   unfolding placeAt
-  ways-anchor a b e = graph-at ∙ by-anchor holds n (P T) letter next ways i sort a b e
+  leads-each z h l m b = elim (ℕ-discrete code 28) [
+    | yes c ↦ each (λ k. k < P T) (waysOf T q) (by-leads-fork holds n (P T) next (waysOf T q) i code c l) m b
+    | no c ↦ let d : code ≢ 28 = c in each (λ k. k < P T) (waysOf T q) (rw (ways-one T q (z .one q place (omega arith))) (by-leads holds n (P T) next (waysOf T q) i code (omega arith) l, tt)) m b
+  ]
 
-  pub ways-end : 4 ≤ sort → graphOf T holds n x ≡ accept
-  unfolding placeAt
-  ways-end h = graph-at ∙ by-end holds n (P T) letter next ways i sort h
-
-  module _ (leads : Leads (P T) (placeAt T q)) where
-    pub leads-next : 0 < sort → sort < 4 → next < P T
+  module _ (z : Sized T) (p : passesBy holds n code i ≡ true) (h : code ≤ 28) where
+    -- a place that passes tries all its ways
+    pub ways-are : graphOf T holds n x ≡ try (map (λ k. (i + takes (placeAt T q)) * P T + k) (waysOf T q))
     unfolding placeAt
-    leads-next a b = leads-anchor holds n (P T) letter next ways i sort a b leads
+    ways-are = graph-at ∙ by-code (ltb code 26) refl
+      where
+        one : code < 28 → waysOf T q ≡ next ∷ []
+        one l = ways-one T q (z .one q place l)
 
-    pub leads-way : sort ≡ 0 → All (λ k. k < P T) ways
-    unfolding placeAt placeBy
-    leads-way s = let l : Leads (P T) (placeBy 0 letter next ways) = rw s at leads in l
+        anchor : 26 ≤ code → code < 28 → waysAt holds n (P T) (placeAt T q) i ≡ try ((i * P T + next) ∷ []) → waysAt holds n (P T) (placeAt T q) i ≡ try (map (λ k. (i + takes (placeAt T q)) * P T + k) (waysOf T q))
+        anchor l m e =
+            let t : i + takes (placeAt T q) ≡ i = let a = takes-no-row l in omega arith in
+            let r : try ((i * P T + next) ∷ []) ≡ try (map (λ k. (i + takes (placeAt T q)) * P T + k) (waysOf T q)) = rw (t, one m) in
+            e ∙ r
 
-  pub takes-row : sort ≡ 1 → takes (placeAt T q) ≡ 1
-  unfolding placeAt placeBy
-  takes-row s = rw s
-
-  pub takes-no-row : (sort ≡ 1 → ⊥) → takes (placeAt T q) ≡ 0
-  unfolding placeAt
-  takes-no-row s = takes-none holds n (P T) letter next ways i sort s
+        by-code : (b : Bool) → ltb code 26 ≡ b → waysAt holds n (P T) (placeAt T q) i ≡ try (map (λ k. (i + takes (placeAt T q)) * P T + k) (waysOf T q))
+        by-code true e =
+            let l = ltb-true code 26 e in
+            let t : i + takes (placeAt T q) ≡ suc i = let a = takes-row l in omega arith in
+            let r : try ((suc i * P T + next) ∷ []) ≡ try (map (λ k. (i + takes (placeAt T q)) * P T + k) (waysOf T q)) = rw (t, one (omega arith)) in
+            by-letter holds n (P T) next (waysOf T q) i code l p ∙ r
+        by-code false e = let l = ltb-false code 26 e in elim (ℕ-discrete code 26) [
+          | yes c ↦ anchor l (omega arith) (by-caret holds n (P T) next (waysOf T q) i code c p)
+          | no c ↦ elim (ℕ-discrete code 27) [
+            | yes d ↦ anchor l (omega arith) (by-dollar holds n (P T) next (waysOf T q) i code d p)
+            | no d ↦ fork (omega arith)
+          ]
+        ]
+          where
+            fork : code ≡ 28 → waysAt holds n (P T) (placeAt T q) i ≡ try (map (λ k. (i + takes (placeAt T q)) * P T + k) (waysOf T q))
+            fork f =
+                let t : i + takes (placeAt T q) ≡ i = let a = takes-no-row (omega arith) in omega arith in
+                let r : try (map (λ k. i * P T + k) (waysOf T q)) ≡ try (map (λ k. (i + takes (placeAt T q)) * P T + k) (waysOf T q)) = rw t in
+                by-fork holds n (P T) next (waysOf T q) i code f ∙ r
 
 pub takes-one : (p : Place) → takes p ≤ 1
 takes-one (pLetter c k) = omega arith

@@ -2,7 +2,7 @@
 use mathlib.Core.Path.{_≡_}
 use mathlib.Core.List.{List, [], _∷_}
 use mathlib.Core.Bool.{Bool, true, false}
-use Prim.Native.Nat.{ℕ, suc, _+_, _-_, _*_, _/_, _%_, _≤_, _<_}
+use Prim.Native.Nat.{ℕ, zero, suc, _+_, _-_, _*_, _/_, _%_, _≤_, _<_}
 use lib.ListN.{length, getD}
 use Rattle.rules.specs.Places.{Place, pLetter, pCaret, pDollar, pFork, pEnd}
 use Rattle.rules.specs.Report.{bitAt}
@@ -11,8 +11,8 @@ use Rattle.rules.proofs.Machine.{Open, resume}
 use Rattle.rules.proofs.Notes.{bitsOf}
 use Rattle.rules.proofs.Walk.{All}
 use Rattle.walk.specs.declared.Walk.{Walk}
-use Rattle.walk.specs.Tables.{Tables, P, N, Sized, Legal, placeAt, graphOf, passesBy}
-use Rattle.walk.specs.Step.{pairIn, wayIn, stack, outcomeBy}
+use Rattle.walk.specs.Tables.{Tables, P, N, Sized, Legal, second, leftFrom, waysOf, placeAt, graphOf, passesBy}
+use Rattle.walk.specs.Step.{placeIn, rowIn, wayIn, pairIn, stack, outcomeBy}
 
 -- the rows that a place takes
 abbrev pub takes : Place → ℕ
@@ -36,79 +36,153 @@ Linked T (x ∷ (y ∷ ys)) = Onto T y x × Linked T (y ∷ ys)
 -- the pair x passes
 unfoldable pub Passing : Tables → (ℕ → ℕ → Bool) → ℕ → ℕ → Type 0
 unfolding passesBy
-Passing T holds n x = passesBy holds n (getD (T .sort) (x % P T) 0) (getD (T .letter) (x % P T) 0) (x / P T) ≡ true
+Passing T holds n x = passesBy holds n (getD (T .code) (x % P T) 0) (x / P T) ≡ true
 
--- the walk is at the pair x
-pub record Spot (P : ℕ) (w : Walk) (x : ℕ) : Type 0 where
-  pub pair : w .base + w .place ≡ x
-  pub place : w .place < P
+-- a number of the trail: its place is one, and its way lies behind the first way of a fork
+pub record Word (T : Tables) (e : ℕ) : Type 0 where
+  pub place : placeIn e < P T
+  pub some : 0 < wayIn e → 0 < second T (placeIn e)
+  pub behind : 0 < wayIn e → second T (placeIn e) ≤ wayIn e
+  pub before : 0 < wayIn e → wayIn e < getD (T .stop) (placeIn e) 0
+
+-- the walk stands at the pair that e stands for
+pub record Spot (P : ℕ) (w : Walk) (e : ℕ) : Type 0 where
+  pub place : placeIn e ≡ w .place
+  pub row : rowIn e ≡ w .row
   pub base : w .base ≡ w .row * P
 
--- the trail's first `top` numbers are pairs each of which led to the next, and the walk is at the last of them
+-- the trail's first `top` numbers are pairs each of which led to the next, and the walk stands at the last of them
 pub record OnPath (T : Tables) (trail : List ℕ) (w : Walk) : Type 0 where
   pub sized : Sized T
   pub room : w .top ≤ length trail
-  pub linked : Linked T (stack trail (w .top))
-  pub spot : 0 < w .top → Spot (P T) w (pairIn (getD trail (w .top - 1) 0))
+  pub words : (k : ℕ) → k < w .top → Word T (getD trail k 0)
+  pub linked : Linked T (stack (P T) trail (w .top))
+  pub spot : 0 < w .top → Spot (P T) w (getD trail (w .top - 1) 0)
 
--- the pair of way m of a fork's pair x
+-- the row of the pairs to which the pair of e leads, and the pair of its way m
+unfoldable pub rowFrom : Tables → ℕ → ℕ
+rowFrom T e = rowIn e + takes (placeAt T (placeIn e))
+
 unfoldable pub wayAt : Tables → ℕ → ℕ → ℕ
-wayAt T x m = x / P T * P T + getD (T .ways) (getD (T .next) (x % P T) 0 + m) 0
+wayAt T e m = rowFrom T e * P T + getD (waysOf T (placeIn e)) m 0
 
--- the open pairs have not failed, each led to the one above it, all pass; the walk is at the last of them; the ways of a pair before the one by which the next open
--- pair was reached, and those before `from`, have failed; the steps cannot run over
+-- how many ways the pair of e has tried, where all but those from its next way on are
+unfoldable pub reach : Tables → ℕ → ℕ
+reach T e = suc (leftFrom T (placeIn e) (second T (placeIn e))) - leftFrom T (placeIn e) (wayIn e)
+
+-- the pair of e, which is no END, has tried its ways before the next one: each has failed, but for the pair y
+pub record Led (T : Tables) (notes : List ℕ) (e y : ℕ) : Type 0 where
+  pub going : getD (T .code) (placeIn e) 0 ≤ 28
+  pub tried : (m : ℕ) → m < reach T e → (wayAt T e m ≡ y → ⊥) → bitAt notes (wayAt T e m) ≡ true
+
+-- all of them have failed
+pub record Stuck (T : Tables) (notes : List ℕ) (e : ℕ) : Type 0 where
+  pub going : getD (T .code) (placeIn e) 0 ≤ 28
+  pub tried : (m : ℕ) → m < reach T e → bitAt notes (wayAt T e m) ≡ true
+
+-- the last open pair has tried no way yet, and the walk stands at it
+pub record Fresh (T : Tables) (trail : List ℕ) (w : Walk) : Type 0 where
+  pub going : 0 < w .top
+  pub spot : Spot (P T) w (getD trail (w .top - 1) 0)
+  pub way : wayIn (getD trail (w .top - 1) 0) ≡ second T (placeIn (getD trail (w .top - 1) 0))
+
+-- the open pairs have not failed, each led to the one above it, all pass, and the ways of each before the one that led on have failed; the steps cannot run over
 pub record Good (T : Tables) (holds : ℕ → ℕ → Bool) (n : ℕ) (Q : Type 0) (notes trail : List ℕ) (w : Walk) : Type 0 where
   pub legal : Legal T holds n
   pub asks : Q
   pub noted : N T n ≤ 8 * length notes
   pub trailed : N T n ≤ length trail
-  pub opened : Open (legal .ρ) (N T n) (bitsOf notes (N T n)) (stack trail (w .top))
-  pub linked : Linked T (stack trail (w .top))
-  pub passing : All (Passing T holds n) (stack trail (w .top))
-  pub spot : 0 < w .top → Spot (P T) w (pairIn (getD trail (w .top - 1) 0))
-  pub from-small : w .from < 2048
-  pub from-tried : 0 < w .top → (m : ℕ) → m < w .from → bitAt notes (wayAt T (w .base + w .place) m) ≡ true
-  pub tried : (k m : ℕ) → suc k < w .top → m < wayIn (getD trail (suc k) 0) → bitAt notes (wayAt T (pairIn (getD trail k 0)) m) ≡ true
+  pub opened : Open (legal .ρ) (N T n) (bitsOf notes (N T n)) (stack (P T) trail (w .top))
+  pub linked : Linked T (stack (P T) trail (w .top))
+  pub passing : All (Passing T holds n) (stack (P T) trail (w .top))
+  pub words : (k : ℕ) → k < w .top → Word T (getD trail k 0)
+  pub led : (k : ℕ) → suc k < w .top → Led T notes (getD trail k 0) (pairIn (P T) (getD trail (suc k) 0))
   pub steps : w .steps + N T n < 18446744073709551616 + (countTrue (bitsOf notes (N T n)) + w .top)
 
--- a pair is open, and it is of this sort or sorts
-pub record Goes (T : Tables) (holds : ℕ → ℕ → Bool) (n : ℕ) (Q : Type 0) (notes trail : List ℕ) (w : Walk) (Sort : ℕ → Type 0) : Type 0 where
-  pub good : Good T holds n Q notes trail w
-  pub going : 0 < w .top
-  pub sort : Sort (getD (T .sort) (w .place) 0)
+-- the last open pair has just been opened, or the ways that it has tried have failed
+pub record Stands (T : Tables) (notes trail : List ℕ) (w : Walk) : Type 0 where
+  pub fresh : w .down ≡ true → Fresh T trail w
+  pub stuck : w .down ≡ false → 0 < w .top → Stuck T notes (getD trail (w .top - 1) 0)
 
--- the last open pair is a letter or anchor, and this is the row (with its row times P) of the pair that it leads to
-pub record Passes (T : Tables) (holds : ℕ → ℕ → Bool) (n : ℕ) (Q : Type 0) (notes trail : List ℕ) (w : Walk) (row base : ℕ) : Type 0 where
-  pub goes : Goes T holds n Q notes trail w (λ s. (0 < s) × (s ≤ 3))
-  pub row-is : row ≡ w .row + takes (placeAt T (w .place))
-  pub base-is : base ≡ row * P T
-
--- how much is left to do
+-- how much is left to do: pairs to enter and leave; and the ways that the last open pair has left
 unfoldable pub left : ℕ → List ℕ → Walk → ℕ
 left N notes w = 2 * (N - countTrue (bitsOf notes N)) - w .top
 
+unfoldable pub restAt : Tables → List ℕ → ℕ → ℕ
+restAt T trail zero = 0
+restAt T trail (suc t) = leftFrom T (placeIn (getD trail t 0)) (wayIn (getD trail t 0))
+
+abbrev pub rest : Tables → List ℕ → Walk → ℕ
+rest T trail w = restAt T trail (w .top)
+
 -- what the state comes to by the recursive walk
 unfoldable pub comes : Tables → (ℕ → ℕ → Bool) → ℕ → List ℕ → List ℕ → Walk → Outcome
-comes T holds n notes trail w = resume (graphOf T holds n) (N T n) (stack trail (w .top)) (bitsOf notes (N T n)) (w .steps)
+comes T holds n notes trail w = resume (graphOf T holds n) (N T n) (stack (P T) trail (w .top)) (bitsOf notes (N T n)) (w .steps)
 
 -- the walk has come from the buffers n₁ and t₁ to this state, which comes to the outcome R; nothing beyond the pairs is changed
 pub record Reached (T : Tables) (holds : ℕ → ℕ → Bool) (n : ℕ) (Q : Type 0) (n₁ t₁ : List ℕ) (R : Outcome) (notes trail : List ℕ) (w : Walk) : Type 0 where
   pub good : Good T holds n Q notes trail w
+  pub stands : Stands T notes trail w
   pub same : comes T holds n notes trail w ≡ R
   pub notes-long : length notes ≡ length n₁
   pub trail-long : length trail ≡ length t₁
   pub notes-beyond : (z : ℕ) → N T n ≤ z → bitAt notes z ≡ bitAt n₁ z
   pub trail-beyond : (k : ℕ) → N T n ≤ k → getD trail k 0 ≡ getD t₁ k 0
 
--- one step or more: the state comes to what it came to before, and less is left
-pub record Stepped (T : Tables) (holds : ℕ → ℕ → Bool) (n : ℕ) (Q : Type 0) (n₁ t₁ : List ℕ) (w₁ : Walk) (notes trail : List ℕ) (w : Walk) : Type 0 where
+-- a state of the walk
+pub record State (T : Tables) (holds : ℕ → ℕ → Bool) (n : ℕ) (Q : Type 0) (notes trail : List ℕ) (w : Walk) : Type 0 where
+  pub good : Good T holds n Q notes trail w
+  pub stands : Stands T notes trail w
+
+-- the last open pair was just opened, and is no END
+pub record Goes (T : Tables) (holds : ℕ → ℕ → Bool) (n : ℕ) (Q : Type 0) (notes trail : List ℕ) (w : Walk) : Type 0 where
+  pub state : State T holds n Q notes trail w
+  pub down : w .down ≡ true
+  pub going : getD (T .code) (w .place) 0 ≤ 28
+
+-- a pair is open, and the last try opened none
+pub record Halts (T : Tables) (holds : ℕ → ℕ → Bool) (n : ℕ) (Q : Type 0) (notes trail : List ℕ) (w : Walk) : Type 0 where
+  pub state : State T holds n Q notes trail w
+  pub down : w .down ≡ false
+  pub going : 0 < w .top
+
+-- one try: the state comes to what it came to before; less is left, or else the try opened none
+pub record Turned (T : Tables) (holds : ℕ → ℕ → Bool) (n : ℕ) (Q : Type 0) (n₁ t₁ : List ℕ) (w₁ : Walk) (notes trail : List ℕ) (w : Walk) : Type 0 where
+  pub reached : Reached T holds n Q n₁ t₁ (comes T holds n n₁ t₁ w₁) notes trail w
+  pub less : left (N T n) notes w ≤ left (N T n) n₁ w₁
+  pub shut : left (N T n) notes w ≡ left (N T n) n₁ w₁ → (w .down ≡ false) × (w .top ≡ w₁ .top)
+
+-- a try from the last open pair keeps it open
+pub record Onward (T : Tables) (holds : ℕ → ℕ → Bool) (n : ℕ) (Q : Type 0) (n₁ t₁ : List ℕ) (w₁ : Walk) (notes trail : List ℕ) (w : Walk) : Type 0 where
+  pub turned : Turned T holds n Q n₁ t₁ w₁ notes trail w
+  pub going : 0 < w .top
+
+-- the last open pair goes on to its next way or fails: where nothing else is less, one way less is left
+pub record Backward (T : Tables) (holds : ℕ → ℕ → Bool) (n : ℕ) (Q : Type 0) (n₁ t₁ : List ℕ) (w₁ : Walk) (notes trail : List ℕ) (w : Walk) : Type 0 where
+  pub turned : Turned T holds n Q n₁ t₁ w₁ notes trail w
+  pub fewer : left (N T n) notes w ≡ left (N T n) n₁ w₁ → rest T trail w < rest T t₁ w₁
+
+-- all tries that open a pair: the last try opened none, or END is on top
+pub record Descended (T : Tables) (holds : ℕ → ℕ → Bool) (n : ℕ) (Q : Type 0) (n₁ t₁ : List ℕ) (w₁ : Walk) (notes trail : List ℕ) (w : Walk) : Type 0 where
+  pub reached : Reached T holds n Q n₁ t₁ (comes T holds n n₁ t₁ w₁) notes trail w
+  pub less : left (N T n) notes w ≤ left (N T n) n₁ w₁
+  pub going : 0 < w₁ .top → 0 < w .top
+  pub last : w .down ≡ true → 28 < getD (T .code) (w .place) 0
+
+-- back until a pair is opened or none is open: less is left
+pub record Retreated (T : Tables) (holds : ℕ → ℕ → Bool) (n : ℕ) (Q : Type 0) (n₁ t₁ : List ℕ) (w₁ : Walk) (notes trail : List ℕ) (w : Walk) : Type 0 where
   pub reached : Reached T holds n Q n₁ t₁ (comes T holds n n₁ t₁ w₁) notes trail w
   pub less : left (N T n) notes w < left (N T n) n₁ w₁
 
--- all steps: no pair is open, or END is on top
+-- the walk stands at END, which is on top
+pub record Ends (T : Tables) (trail : List ℕ) (w : Walk) : Type 0 where
+  pub spot : Spot (P T) w (getD trail (w .top - 1) 0)
+  pub end : 28 < getD (T .code) (w .place) 0
+
+-- all tries: no pair is open, or END is on top
 pub record Ran (T : Tables) (holds : ℕ → ℕ → Bool) (n : ℕ) (Q : Type 0) (n₁ t₁ : List ℕ) (w₁ : Walk) (notes trail : List ℕ) (w : Walk) : Type 0 where
   pub reached : Reached T holds n Q n₁ t₁ (comes T holds n n₁ t₁ w₁) notes trail w
-  pub last : 0 < w .top → 4 ≤ getD (T .sort) (w .place) 0
+  pub last : 0 < w .top → Ends T trail w
 
 -- what an attempt at row i asks, with s steps before it
 pub record Ready (T : Tables) (holds : ℕ → ℕ → Bool) (n : ℕ) (Q : Type 0) (notes trail : List ℕ) (i s : ℕ) : Type 0 where
@@ -125,6 +199,6 @@ attemptBy T holds n F s i = enterUnless (getD F (i * P T) false) (inside (graphO
 
 -- what an attempt leaves: its result is the definition's; with a path, the trail's first `top` numbers are the path and the walk is at END
 pub record Done (T : Tables) (holds : ℕ → ℕ → Bool) (n : ℕ) (Q : Type 0) (n₁ t₁ : List ℕ) (i s : ℕ) (notes trail : List ℕ) (w : Walk) : Type 0 where
-  pub same : attemptBy T holds n (bitsOf n₁ (N T n)) s i ≡ outcomeBy (w .top) trail (bitsOf notes (N T n)) (w .steps)
+  pub same : attemptBy T holds n (bitsOf n₁ (N T n)) s i ≡ outcomeBy (P T) (w .top) trail (bitsOf notes (N T n)) (w .steps)
   pub reached : Reached T holds n Q n₁ t₁ (attemptBy T holds n (bitsOf n₁ (N T n)) s i) notes trail w
-  pub last : 0 < w .top → 4 ≤ getD (T .sort) (w .place) 0
+  pub last : 0 < w .top → Ends T trail w

@@ -1,12 +1,13 @@
--- The walk's memory, and what its small functions do to it: a pair is entered, tried, or left as failed.
--- The trail's first `top` numbers are the open pairs; the walk stands at the last of them, whose row times P is `base`. A number of the trail holds a pair in its
--- low 21 bits and above them the way by which the pair was reached (0 for a fork's first), so that a fork goes on where it was left.
+-- The walk's memory, and what its small functions do to it: a pair is entered or tried, and the last open pair goes on to its next way.
+-- The trail's first `top` numbers stand for the open pairs. A number holds a pair's place in its low 8 bits, its row in the 13 bits above, and above them the index of the
+-- way that the pair tries next (0: none is left), so that it goes on where it was left. Where the last try opened a pair (`down`), the walk stands at that pair.
 use mathlib.Core.Path.{_≡_}
 use mathlib.Core.List.{List, [], _∷_, reverseAux}
 use mathlib.Core.Bool.{Bool, true, false}
-use Prim.Native.Nat.{ℕ, zero, suc, _+_, _-_, _*_, _/_, _%_, _≤_, _<_}
+use Prim.Native.Nat.{ℕ, zero, suc, _+_, _*_, _/_, _%_, _<_}
+use lib.Dec.{ltb}
 use lib.ListN.{length, getD, set}
-use Rattle.rules.specs.Basics.{isLetter}
+use Rattle.rules.specs.Basics.{pick}
 use Rattle.rules.specs.Report.{bitAt}
 use Rattle.rules.specs.Walk.{Outcome, found, failed}
 use Rattle.rules.proofs.Notes.{marked}
@@ -20,92 +21,77 @@ pub record Mem : Type 0 where
 abbrev pub mem : List ℕ → List ℕ → Walk → Mem
 mem n t w = record { notes = n; trail = t; walk = w }
 
-abbrev pub walkAt : ℕ → ℕ → ℕ → ℕ → ℕ → ℕ → Walk
-walkAt top steps place row base from = record { top = top; steps = steps; place = place; row = row; base = base; from = from }
+abbrev pub walkAt : ℕ → ℕ → ℕ → ℕ → ℕ → Bool → Walk
+walkAt top steps place row base down = record { top = top; steps = steps; place = place; row = row; base = base; down = down }
 
--- a pair and the low 11 bits of its way as a number of the trail, and both read back
-abbrev pub entryOf : ℕ → ℕ → ℕ
-entryOf y way = y + way % 2048 * 2097152
+-- a number of the trail: its place, its row, its next way, and the pair of place and row where there are P places
+abbrev pub placeIn : ℕ → ℕ
+placeIn e = e % 256
 
-abbrev pub pairIn : ℕ → ℕ
-pairIn e = e % 2097152
+abbrev pub rowIn : ℕ → ℕ
+rowIn e = e / 256 % 8192
 
 abbrev pub wayIn : ℕ → ℕ
 wayIn e = e / 2097152
 
--- the open pairs, the last entered first
-unfoldable pub stack : List ℕ → ℕ → List ℕ
-stack trail zero = []
-stack trail (suc t) = pairIn (getD trail t 0) ∷ stack trail t
+abbrev pub pairIn : ℕ → ℕ → ℕ
+pairIn P e = rowIn e * P + placeIn e
 
--- the open pair on top
+-- the open pairs, the last entered first
+unfoldable pub stack : ℕ → List ℕ → ℕ → List ℕ
+stack P trail zero = []
+stack P trail (suc t) = pairIn P (getD trail t 0) ∷ stack P trail t
+
+-- the open pair at which the walk stands
 abbrev pub pairOf : Walk → ℕ
 pairOf w = w .base + w .place
 
--- The pair of place q at a row is entered, which is one step. If it passes it is open; a letter or anchor that does not pass fails at once.
+-- the way behind way j, where the ways stop before index `stop`; 0 for none
+unfoldable pub after : ℕ → ℕ → ℕ
+after stop j = pick (ltb (j + 1) stop) (j + 1) 0
+
+-- a number of the trail whose pair tries its next way: the way behind that one is next
+abbrev pub wentOn : ℕ → ℕ → ℕ
+wentOn stop e = e % 2097152 + after stop (wayIn e) * 2097152
+
+-- The pair of place q at a row is entered, which is one step. If it passes it is open, with v on the trail for its place and its ways; a letter or anchor that does not pass
+-- fails at once.
 unfoldable pub enteredBy : Bool → Mem → ℕ → ℕ → ℕ → ℕ → Mem
-enteredBy true m q row base way = mem (m .notes) (set (m .trail) (m .walk .top) (entryOf (base + q) way)) (walkAt (m .walk .top + 1) (m .walk .steps + 1) q row base 0)
-enteredBy false m q row base way = mem (marked (m .notes) (base + q)) (m .trail) (walkAt (m .walk .top) (m .walk .steps + 1) (m .walk .place) (m .walk .row) (m .walk .base) (m .walk .from))
+enteredBy true m q row base v = mem (m .notes) (set (m .trail) (m .walk .top) (row * 256 + v)) (walkAt (m .walk .top + 1) (m .walk .steps + 1) q row base true)
+enteredBy false m q row base v =
+    mem (marked (m .notes) (base + q)) (m .trail) (walkAt (m .walk .top) (m .walk .steps + 1) (m .walk .place) (m .walk .row) (m .walk .base) false)
 
 -- the pair is tried: one that has failed (the first Boolean) is not entered
 unfoldable pub triedBy : Bool → Bool → Mem → ℕ → ℕ → ℕ → ℕ → Mem
 unfolding enteredBy
-triedBy true p m q row base way = m
-triedBy false p m q row base way = enteredBy p m q row base way
-
--- the walk at the pair x
-unfoldable pub spotted : ℕ → ℕ → ℕ → ℕ → ℕ → Walk
-spotted P t s x from = walkAt t s (x % P) (x / P) (x / P * P) from
-
--- the walk with t open pairs, where a pair above them is left: it goes on with the way by which that pair was reached
-unfoldable pub backTo : ℕ → List ℕ → Walk → ℕ → Walk
-unfolding spotted
-backTo P trail w zero = walkAt 0 (w .steps) (w .place) (w .row) (w .base) 0
-backTo P trail w (suc t) = spotted P (suc t) (w .steps) (pairIn (getD trail t 0)) (wayIn (getD trail (suc t) 0))
+triedBy true p m q row base v = mem (m .notes) (m .trail) (walkAt (m .walk .top) (m .walk .steps) (m .walk .place) (m .walk .row) (m .walk .base) false)
+triedBy false p m q row base v = enteredBy p m q row base v
 
 -- the attempt's result in memory: no open pair, or the open pairs are the path
-unfoldable pub outcomeBy : ℕ → List ℕ → List Bool → ℕ → Outcome
+unfoldable pub outcomeBy : ℕ → ℕ → List ℕ → List Bool → ℕ → Outcome
 unfolding stack
-outcomeBy zero trail F s = failed F s
-outcomeBy (suc t) trail F s = found (reverseAux (stack trail (suc t)) []) F s
+outcomeBy P zero trail F s = failed F s
+outcomeBy P (suc t) trail F s = found (reverseAux (stack P trail (suc t)) []) F s
 
 -- ---- what the small functions require
 
 -- a place of the tables, where Q is what the test of a letter asks
-pub record Known (so le : List ℕ) (Q : Type 0) (q : ℕ) : Type 0 where
+pub record Known (co : List ℕ) (Q : Type 0) (q : ℕ) : Type 0 where
   pub asks : Q
-  pub sort : q < length so
-  pub letters : q < length le
-  pub letter : getD so q 0 ≡ 1 → isLetter (getD le q 0) ≡ true
+  pub place : q < length co
 
 -- the pair of place q has not failed, and there is room for it
-pub record Enters (so le : List ℕ) (Q : Type 0) (notes trail : List ℕ) (w : Walk) (q base : ℕ) : Type 0 where
-  pub known : Known so le Q q
+pub record Enters (co en : List ℕ) (Q : Type 0) (notes trail : List ℕ) (w : Walk) (q row base : ℕ) : Type 0 where
+  pub known : Known co Q q
+  pub entry : q < length en
   pub small : base + q < 2097152
+  pub word : row * 256 + getD en q 0 < 4294967296
   pub byte : (base + q) / 8 < length notes
   pub out : bitAt notes (base + q) ≡ false
   pub room : w .top < length trail
   pub steps : w .steps + 1 < 18446744073709551616
 
-pub record Tries (so le : List ℕ) (Q : Type 0) (notes trail : List ℕ) (w : Walk) (q base : ℕ) : Type 0 where
+pub record Tries (co en : List ℕ) (Q : Type 0) (notes trail : List ℕ) (w : Walk) (q row base : ℕ) : Type 0 where
   pub small : base + q < 2097152
   pub byte : (base + q) / 8 < length notes
-  pub enters : bitAt notes (base + q) ≡ false → Enters so le Q notes trail w q base
-
--- x is at the row of w or at the one before
-pub record Under (p : ℕ) (w : Walk) (x : ℕ) : Type 0 where
-  pub some : 0 < p
-  pub base : w .base ≡ w .row * p
-  pub row : x / p ≤ w .row
-  pub before : w .row ≤ x / p + 1
-
-pub record Backs (trail : List ℕ) (p : ℕ) (w : Walk) : Type 0 where
-  pub room : w .top ≤ length trail
-  pub going : 0 < w .top
-  pub under : 1 < w .top → Under p w (pairIn (getD trail (w .top - 2) 0))
-
-pub record Leaves (notes trail : List ℕ) (p : ℕ) (w : Walk) : Type 0 where
-  pub small : w .base + w .place < 4294967296
-  pub byte : (w .base + w .place) / 8 < length notes
-  pub out : bitAt notes (w .base + w .place) ≡ false
-  pub backs : Backs trail p w
+  pub enters : bitAt notes (base + q) ≡ false → Enters co en Q notes trail w q row base

@@ -4,16 +4,15 @@
 ghost use mathlib.Core.Path.{_≡_};
 ghost use mathlib.Core.Bool.{true, false};
 ghost use Prim.Native.Nat.{_+_, _-_, _*_, _/_, _%_, _<_, _≤_};
-ghost use lib.ListN.{length, getD};
-ghost use Rattle.rules.specs.Basics.{isLetter};
+ghost use lib.ListN.{length, getD, set};
 ghost use Rattle.rules.specs.Report.{bitAt};
 ghost use Rattle.rules.proofs.Notes.{marked};
 ghost use Rattle.walk.specs.Tables.{tables, passesBy};
 ghost use Rattle.walk.specs.Letters.{holdsIn, Lettered};
-ghost use Rattle.walk.specs.Step.{mem, enteredBy, triedBy, backTo, Known, Enters, Tries, Backs, Leaves};
-ghost use Rattle.walk.specs.State.{Good, Goes, Passes, Stepped, Ran, Ready, Done};
+ghost use Rattle.walk.specs.Step.{mem, after, wentOn, enteredBy, triedBy, Known, Enters, Tries};
+ghost use Rattle.walk.specs.State.{State, Goes, Halts, Onward, Backward, Descended, Retreated, Ran, Ready, Done};
 
-// Where a walk is: how many pairs are open, the steps so far, the last open pair's place and row, its row times P, and the way from which it goes on.
+// Where a walk is: how many pairs are open, the steps so far, and whether the last try opened a pair; if so, that pair's place and row, and its row times P.
 #[repr(C)]
 pub struct Walk {
     pub top: usize,
@@ -21,7 +20,7 @@ pub struct Walk {
     pub place: usize,
     pub row: usize,
     pub base: usize,
-    pub from: usize,
+    pub down: bool,
 }
 
 // A 16-bit number, without a proof of the cast at the caller.
@@ -60,7 +59,7 @@ fn index(x: u8) -> usize
     x as usize
 }
 
-// Whether the letter c holds at the row.
+// Whether the letter of code c holds at the row.
 fn holds(
     rows: &[i32],
     columns: usize,
@@ -72,15 +71,16 @@ fn holds(
     c: u8,
     row: usize,
 ) -> bool
-    requires { ⌜ (row < n) × (isLetter c ≡ true) × Lettered (now cells) (now offsets) (now counts) (now rows) columns n ⌝ }
-    ensures { λ r. ⌜ r ≡ holdsIn (now (rows .entry)) columns (now (cells .entry)) (now (offsets .entry)) (now (constants .entry)) (now (counts .entry)) c row ⌝ }
+    requires { ⌜ (row < n) × (c < 26) × Lettered (now cells) (now offsets) (now counts) (now rows) columns n ⌝ }
+    ensures { λ r. ⌜ r ≡ holdsIn (now (rows .entry)) columns (now (cells .entry)) (now (offsets .entry)) (now (constants .entry)) (now (counts .entry)) (c + 65)
+        row ⌝ }
 {
     letters::letter_holds(
         cells,
         offsets,
         constants,
         counts,
-        index(c) - 65,
+        index(c),
         rows,
         columns,
         n,
@@ -91,8 +91,7 @@ fn holds(
 
 // Whether place q passes at the row.
 fn passes(
-    sort: &[u8],
-    letter: &[u8],
+    code: &[u8],
     rows: &[i32],
     columns: usize,
     n: usize,
@@ -103,31 +102,21 @@ fn passes(
     q: usize,
     row: usize,
 ) -> bool
-    requires { ⌜ Known (now sort) (now letter) (Lettered (now cells) (now offsets) (now counts) (now rows) columns n) q ⌝ }
-    ensures { λ r. ⌜ r ≡ passesBy (holdsIn (now (rows .entry)) columns (now (cells .entry)) (now (offsets .entry)) (now (constants .entry)) (now (counts .entry))) n
-        (getD (now (sort .entry)) q 0) (getD (now (letter .entry)) q 0) row ⌝ }
+    requires { ⌜ Known (now code) (Lettered (now cells) (now offsets) (now counts) (now rows) columns n) q ⌝ }
+    ensures { λ r. ⌜ r ≡ passesBy (holdsIn (now (rows .entry)) columns (now (cells .entry)) (now (offsets .entry)) (now (constants .entry)) (now (counts .entry)))
+        n (getD (now (code .entry)) q 0) row ⌝ }
 {
-    let k = sort[q];
-    if k == 1 {
+    let c = code[q];
+    if c < 26 {
         if row < n {
-            return holds(
-                rows,
-                columns,
-                n,
-                cells,
-                offsets,
-                constants,
-                counts,
-                letter[q],
-                row,
-            );
+            return holds(rows, columns, n, cells, offsets, constants, counts, c, row);
         }
         return false;
     }
-    if k == 2 {
+    if c == 26 {
         return row == 0;
     }
-    if k == 3 {
+    if c == 27 {
         return row == n;
     }
     true
@@ -135,8 +124,8 @@ fn passes(
 
 // The pair of place q at the row is entered: one step, counted here and nowhere else. A letter or anchor that does not pass fails at once.
 fn enter(
-    sort: &[u8],
-    letter: &[u8],
+    code: &[u8],
+    entry: &[u32],
     rows: &[i32],
     columns: usize,
     n: usize,
@@ -150,18 +139,16 @@ fn enter(
     q: usize,
     row: usize,
     base: usize,
-    way: usize,
 ) -> Walk
-    requires { ⌜ Enters (now sort) (now letter) (Lettered (now cells) (now offsets) (now counts) (now rows) columns n) (now notes) (now trail) w q base ⌝ }
-    ensures { λ r. ⌜ mem (now (notes .exit)) (now (trail .exit)) r ≡ enteredBy (passesBy
-        (holdsIn (now (rows .entry)) columns (now (cells .entry)) (now (offsets .entry)) (now (constants .entry)) (now (counts .entry))) n
-        (getD (now (sort .entry)) q 0) (getD (now (letter .entry)) q 0) row) (mem (now (notes .entry)) (now (trail .entry)) w) q row base way ⌝ }
+    requires { ⌜ Enters (now code) (now entry) (Lettered (now cells) (now offsets) (now counts) (now rows) columns n) (now notes) (now trail) w q row base ⌝ }
+    ensures { λ r. ⌜ mem (now (notes .exit)) (now (trail .exit)) r ≡ enteredBy (passesBy (holdsIn (now (rows .entry)) columns (now (cells .entry)) (now (offsets
+        .entry)) (now (constants .entry)) (now (counts .entry))) n (getD (now (code .entry)) q 0) row) (mem (now (notes .entry)) (now (trail .entry)) w) q row base
+        (getD (now (entry .entry)) q 0) ⌝ }
 {
     let steps = w.steps + 1;
     let top = w.top;
     if passes(
-        sort,
-        letter,
+        code,
         rows,
         columns,
         n,
@@ -172,7 +159,7 @@ fn enter(
         q,
         row,
     ) {
-        trail[top] = (base + q + way % 2048 * 2097152) as u32;
+        trail[top] = (row * 256 + wide32(entry[q])) as u32;
         let opened = top + 1;
         return Walk {
             top: opened,
@@ -180,7 +167,7 @@ fn enter(
             place: q,
             row,
             base,
-            from: 0,
+            down: true,
         };
     }
     mark(notes, base + q);
@@ -190,14 +177,14 @@ fn enter(
         place: w.place,
         row: w.row,
         base: w.base,
-        from: w.from,
+        down: false,
     }
 }
 
 // The pair of place q at the row is tried: it is entered unless it has failed.
 fn try_pair(
-    sort: &[u8],
-    letter: &[u8],
+    code: &[u8],
+    entry: &[u32],
     rows: &[i32],
     columns: usize,
     n: usize,
@@ -211,19 +198,25 @@ fn try_pair(
     q: usize,
     row: usize,
     base: usize,
-    way: usize,
 ) -> Walk
-    requires { ⌜ Tries (now sort) (now letter) (Lettered (now cells) (now offsets) (now counts) (now rows) columns n) (now notes) (now trail) w q base ⌝ }
-    ensures { λ r. ⌜ mem (now (notes .exit)) (now (trail .exit)) r ≡ triedBy (bitAt (now (notes .entry)) (base + q)) (passesBy
-        (holdsIn (now (rows .entry)) columns (now (cells .entry)) (now (offsets .entry)) (now (constants .entry)) (now (counts .entry))) n
-        (getD (now (sort .entry)) q 0) (getD (now (letter .entry)) q 0) row) (mem (now (notes .entry)) (now (trail .entry)) w) q row base way ⌝ }
+    requires { ⌜ Tries (now code) (now entry) (Lettered (now cells) (now offsets) (now counts) (now rows) columns n) (now notes) (now trail) w q row base ⌝ }
+    ensures { λ r. ⌜ mem (now (notes .exit)) (now (trail .exit)) r ≡ triedBy (bitAt (now (notes .entry)) (base + q)) (passesBy (holdsIn (now (rows .entry)) columns
+        (now (cells .entry)) (now (offsets .entry)) (now (constants .entry)) (now (counts .entry))) n (getD (now (code .entry)) q 0) row) (mem (now (notes .entry))
+        (now (trail .entry)) w) q row base (getD (now (entry .entry)) q 0) ⌝ }
 {
     if failed(notes, base + q) {
-        return w;
+        return Walk {
+            top: w.top,
+            steps: w.steps,
+            place: w.place,
+            row: w.row,
+            base: w.base,
+            down: false,
+        };
     }
     enter(
-        sort,
-        letter,
+        code,
+        entry,
         rows,
         columns,
         n,
@@ -237,68 +230,14 @@ fn try_pair(
         q,
         row,
         base,
-        way,
     )
 }
 
-// The walk at the open pair below the last; it goes on with the way by which the last was reached.
-pub fn back(trail: &[u32], p: usize, w: Walk) -> Walk
-    requires { ⌜ Backs (now trail) p w ⌝ }
-    ensures { λ r. ⌜ (r ≡ backTo p (now (trail .entry)) w (w .top - 1)) × (r .from < 2048) ⌝ }
-{
-    let top = w.top - 1;
-    let base = w.base;
-    let row = w.row;
-    if top == 0 {
-        return Walk {
-            top: 0,
-            steps: w.steps,
-            place: w.place,
-            row,
-            base,
-            from: 0,
-        };
-    }
-    let from = wide32(trail[top]) / 2097152;
-    let x = wide32(trail[top - 1]) % 2097152;
-    if x < base {
-        let under = base - p;
-        let place = x - under;
-        let before = row - 1;
-        return Walk {
-            top,
-            steps: w.steps,
-            place,
-            row: before,
-            base: under,
-            from,
-        };
-    }
-    let place = x - base;
-    Walk {
-        top,
-        steps: w.steps,
-        place,
-        row,
-        base,
-        from,
-    }
-}
-
-// The last open pair fails.
-fn leave(notes: &mut [u8], trail: &[u32], p: usize, w: Walk) -> Walk
-    requires { ⌜ Leaves (now notes) (now trail) p w ⌝ }
-    ensures { λ r. ⌜ (r ≡ backTo p (now (trail .entry)) w (w .top - 1)) × (r .from < 2048) × (now (notes .exit) ≡ marked (now (notes .entry)) (w .base + w .place)) ⌝ }
-{
-    mark(notes, w.base + w.place);
-    back(trail, p, w)
-}
-
-// The last open pair, a letter or anchor, tries the one pair that it leads to, at this row; where that fails, it fails.
-fn pass(
-    sort: &[u8],
-    letter: &[u8],
+// The last open pair, which was just opened, tries the first place that it leads to.
+fn onward(
+    code: &[u8],
     next: &[u16],
+    entry: &[u32],
     stop: &[u16],
     ways: &[u16],
     rows: &[i32],
@@ -311,20 +250,39 @@ fn pass(
     notes: &mut [u8],
     trail: &mut [u32],
     w: Walk,
-    row: usize,
-    base: usize,
 ) -> Walk
-    requires { ⌜ Passes (tables (now sort) (now letter) (now next) (now stop) (now ways)) (holdsIn (now rows) columns (now cells) (now offsets) (now constants)
-        (now counts)) n (Lettered (now cells) (now offsets) (now counts) (now rows) columns n) (now notes) (now trail) w row base ⌝ }
-    ensures { λ r. ⌜ Stepped (tables (now (sort .entry)) (now (letter .entry)) (now (next .entry)) (now (stop .entry)) (now (ways .entry))) (holdsIn (now (rows .entry))
-        columns (now (cells .entry)) (now (offsets .entry)) (now (constants .entry)) (now (counts .entry))) n (Lettered (now (cells .entry)) (now (offsets .entry))
-        (now (counts .entry)) (now (rows .entry)) columns n) (now (notes .entry)) (now (trail .entry)) w (now (notes .exit)) (now (trail .exit)) r ⌝ }
+    requires { ⌜ Goes (tables (now code) (now next) (now entry) (now stop) (now ways)) (holdsIn (now rows) columns (now cells) (now offsets) (now constants) (now
+        counts)) n (Lettered (now cells) (now offsets) (now counts) (now rows) columns n) (now notes) (now trail) w ⌝ }
+    ensures { λ r. ⌜ Onward (tables (now (code .entry)) (now (next .entry)) (now (entry .entry)) (now (stop .entry)) (now (ways .entry))) (holdsIn (now (rows
+        .entry)) columns (now (cells .entry)) (now (offsets .entry)) (now (constants .entry)) (now (counts .entry))) n (Lettered (now (cells .entry)) (now (offsets
+        .entry)) (now (counts .entry)) (now (rows .entry)) columns n) (now (notes .entry)) (now (trail .entry)) w (now (notes .exit)) (now (trail .exit)) r ⌝ }
 {
     let place = w.place;
     let q = wide(next[place]);
-    let v = try_pair(
-        sort,
-        letter,
+    let row = w.row;
+    let base = w.base;
+    if code[place] < 26 {
+        return try_pair(
+            code,
+            entry,
+            rows,
+            columns,
+            n,
+            cells,
+            offsets,
+            constants,
+            counts,
+            notes,
+            trail,
+            w,
+            q,
+            row + 1,
+            base + code.len(),
+        );
+    }
+    try_pair(
+        code,
+        entry,
         rows,
         columns,
         n,
@@ -338,19 +296,14 @@ fn pass(
         q,
         row,
         base,
-        0,
-    );
-    if w.top < v.top {
-        return v;
-    }
-    leave(notes, trail, sort.len(), v)
+    )
 }
 
-// The last open pair, a fork, tries the pairs of its ways in order until one is open; where all fail, it fails.
-fn fork(
-    sort: &[u8],
-    letter: &[u8],
+// On from the last open pair while tries open pairs, up to END.
+fn descend(
+    code: &[u8],
     next: &[u16],
+    entry: &[u32],
     stop: &[u16],
     ways: &[u16],
     rows: &[i32],
@@ -364,22 +317,24 @@ fn fork(
     trail: &mut [u32],
     from: Walk,
 ) -> Walk
-    requires { ⌜ Goes (tables (now sort) (now letter) (now next) (now stop) (now ways)) (holdsIn (now rows) columns (now cells) (now offsets) (now constants)
-        (now counts)) n (Lettered (now cells) (now offsets) (now counts) (now rows) columns n) (now notes) (now trail) from (λ s. s ≡ 0) ⌝ }
-    ensures { λ r. ⌜ Stepped (tables (now (sort .entry)) (now (letter .entry)) (now (next .entry)) (now (stop .entry)) (now (ways .entry))) (holdsIn (now (rows .entry))
-        columns (now (cells .entry)) (now (offsets .entry)) (now (constants .entry)) (now (counts .entry))) n (Lettered (now (cells .entry)) (now (offsets .entry))
-        (now (counts .entry)) (now (rows .entry)) columns n) (now (notes .entry)) (now (trail .entry)) from (now (notes .exit)) (now (trail .exit)) r ⌝ }
+    requires { ⌜ State (tables (now code) (now next) (now entry) (now stop) (now ways)) (holdsIn (now rows) columns (now cells) (now offsets) (now constants) (now
+        counts)) n (Lettered (now cells) (now offsets) (now counts) (now rows) columns n) (now notes) (now trail) from ⌝ }
+    ensures { λ r. ⌜ Descended (tables (now (code .entry)) (now (next .entry)) (now (entry .entry)) (now (stop .entry)) (now (ways .entry))) (holdsIn (now (rows
+        .entry)) columns (now (cells .entry)) (now (offsets .entry)) (now (constants .entry)) (now (counts .entry))) n (Lettered (now (cells .entry)) (now (offsets
+        .entry)) (now (counts .entry)) (now (rows .entry)) columns n) (now (notes .entry)) (now (trail .entry)) from (now (notes .exit)) (now (trail .exit)) r ⌝ }
 {
-    let place = from.place;
-    let begin = wide(next[place]);
-    let end = wide(stop[place]);
-    let top = from.top;
-    let mut j = begin + from.from;
     let mut w = from;
-    while j < end {
-        w = try_pair(
-            sort,
-            letter,
+    while w.down {
+        let q = w.place;
+        if code[q] > 28 {
+            return w;
+        }
+        w = onward(
+            code,
+            next,
+            entry,
+            stop,
+            ways,
             rows,
             columns,
             n,
@@ -390,24 +345,36 @@ fn fork(
             notes,
             trail,
             w,
-            wide(ways[j]),
-            w.row,
-            w.base,
-            j - begin,
         );
-        if top < w.top {
-            return w;
-        }
-        j += 1;
     }
-    leave(notes, trail, sort.len(), w)
+    w
 }
 
-// One step or more from the last open pair, which is no END.
-fn step(
-    sort: &[u8],
-    letter: &[u8],
+// The way behind way j, where the ways stop before index `stop`; 0 for none.
+fn way_after(stop: usize, j: usize) -> usize
+    requires { ⌜ (j < 65536) × (stop ≤ 2048) ⌝ }
+    ensures { λ r. ⌜ (r ≡ after stop j) × (r < 2048) ⌝ }
+{
+    if j + 1 < stop {
+        return j + 1;
+    }
+    0
+}
+
+// The open pair at index `at`, which tries its next way, goes on to the way behind that one.
+fn go_on(trail: &mut [u32], at: usize, stop: usize)
+    requires { ⌜ (at < length (now trail)) × (stop ≤ 2048) ⌝ }
+    ensures { λ _. ⌜ now (trail .exit) ≡ set (now (trail .entry)) at (wentOn stop (getD (now (trail .entry)) at 0)) ⌝ }
+{
+    let e = wide32(trail[at]);
+    trail[at] = (e % 2097152 + way_after(stop, e / 2097152) * 2097152) as u32;
+}
+
+// The last open pair tries its next way; where none is left, it fails.
+fn back(
+    code: &[u8],
     next: &[u16],
+    entry: &[u32],
     stop: &[u16],
     ways: &[u16],
     rows: &[i32],
@@ -421,61 +388,33 @@ fn step(
     trail: &mut [u32],
     w: Walk,
 ) -> Walk
-    requires { ⌜ Goes (tables (now sort) (now letter) (now next) (now stop) (now ways)) (holdsIn (now rows) columns (now cells) (now offsets) (now constants)
-        (now counts)) n (Lettered (now cells) (now offsets) (now counts) (now rows) columns n) (now notes) (now trail) w (λ s. s ≤ 3) ⌝ }
-    ensures { λ r. ⌜ Stepped (tables (now (sort .entry)) (now (letter .entry)) (now (next .entry)) (now (stop .entry)) (now (ways .entry))) (holdsIn (now (rows .entry))
-        columns (now (cells .entry)) (now (offsets .entry)) (now (constants .entry)) (now (counts .entry))) n (Lettered (now (cells .entry)) (now (offsets .entry))
-        (now (counts .entry)) (now (rows .entry)) columns n) (now (notes .entry)) (now (trail .entry)) w (now (notes .exit)) (now (trail .exit)) r ⌝ }
+    requires { ⌜ Halts (tables (now code) (now next) (now entry) (now stop) (now ways)) (holdsIn (now rows) columns (now cells) (now offsets) (now constants) (now
+        counts)) n (Lettered (now cells) (now offsets) (now counts) (now rows) columns n) (now notes) (now trail) w ⌝ }
+    ensures { λ r. ⌜ Backward (tables (now (code .entry)) (now (next .entry)) (now (entry .entry)) (now (stop .entry)) (now (ways .entry))) (holdsIn (now (rows
+        .entry)) columns (now (cells .entry)) (now (offsets .entry)) (now (constants .entry)) (now (counts .entry))) n (Lettered (now (cells .entry)) (now (offsets
+        .entry)) (now (counts .entry)) (now (rows .entry)) columns n) (now (notes .entry)) (now (trail .entry)) w (now (notes .exit)) (now (trail .exit)) r ⌝ }
 {
-    let q = w.place;
-    let row = w.row;
-    let base = w.base;
-    if sort[q] == 0 {
-        return fork(
-            sort,
-            letter,
-            next,
-            stop,
-            ways,
-            rows,
-            columns,
-            n,
-            cells,
-            offsets,
-            constants,
-            counts,
-            notes,
-            trail,
-            w,
-        );
+    let at = w.top - 1;
+    let e = wide32(trail[at]);
+    let q = e % 256;
+    let row = e / 256 % 8192;
+    let base = row * code.len();
+    let j = e / 2097152;
+    if j == 0 {
+        mark(notes, base + q);
+        return Walk {
+            top: at,
+            steps: w.steps,
+            place: q,
+            row,
+            base,
+            down: false,
+        };
     }
-    if sort[q] == 1 {
-        return pass(
-            sort,
-            letter,
-            next,
-            stop,
-            ways,
-            rows,
-            columns,
-            n,
-            cells,
-            offsets,
-            constants,
-            counts,
-            notes,
-            trail,
-            w,
-            row + 1,
-            base + sort.len(),
-        );
-    }
-    pass(
-        sort,
-        letter,
-        next,
-        stop,
-        ways,
+    go_on(trail, at, wide(stop[q]));
+    try_pair(
+        code,
+        entry,
         rows,
         columns,
         n,
@@ -486,16 +425,67 @@ fn step(
         notes,
         trail,
         w,
+        wide(ways[j]),
         row,
         base,
     )
+}
+
+// Back along the open pairs until a try opens one, or none is open.
+fn retreat(
+    code: &[u8],
+    next: &[u16],
+    entry: &[u32],
+    stop: &[u16],
+    ways: &[u16],
+    rows: &[i32],
+    columns: usize,
+    n: usize,
+    cells: &[u16; 832],
+    offsets: &[i8; 416],
+    constants: &[i32; 208],
+    counts: &[u8; 26],
+    notes: &mut [u8],
+    trail: &mut [u32],
+    from: Walk,
+) -> Walk
+    requires { ⌜ Halts (tables (now code) (now next) (now entry) (now stop) (now ways)) (holdsIn (now rows) columns (now cells) (now offsets) (now constants) (now
+        counts)) n (Lettered (now cells) (now offsets) (now counts) (now rows) columns n) (now notes) (now trail) from ⌝ }
+    ensures { λ r. ⌜ Retreated (tables (now (code .entry)) (now (next .entry)) (now (entry .entry)) (now (stop .entry)) (now (ways .entry))) (holdsIn (now (rows
+        .entry)) columns (now (cells .entry)) (now (offsets .entry)) (now (constants .entry)) (now (counts .entry))) n (Lettered (now (cells .entry)) (now (offsets
+        .entry)) (now (counts .entry)) (now (rows .entry)) columns n) (now (notes .entry)) (now (trail .entry)) from (now (notes .exit)) (now (trail .exit)) r ⌝ }
+{
+    let mut w = from;
+    while w.top > 0 {
+        if w.down {
+            return w;
+        }
+        w = back(
+            code,
+            next,
+            entry,
+            stop,
+            ways,
+            rows,
+            columns,
+            n,
+            cells,
+            offsets,
+            constants,
+            counts,
+            notes,
+            trail,
+            w,
+        );
+    }
+    w
 }
 
 // The walk from w on, until no pair is open or END is on top.
 fn run(
-    sort: &[u8],
-    letter: &[u8],
+    code: &[u8],
     next: &[u16],
+    entry: &[u32],
     stop: &[u16],
     ways: &[u16],
     rows: &[i32],
@@ -509,22 +499,38 @@ fn run(
     trail: &mut [u32],
     from: Walk,
 ) -> Walk
-    requires { ⌜ Good (tables (now sort) (now letter) (now next) (now stop) (now ways)) (holdsIn (now rows) columns (now cells) (now offsets) (now constants)
-        (now counts)) n (Lettered (now cells) (now offsets) (now counts) (now rows) columns n) (now notes) (now trail) from ⌝ }
-    ensures { λ r. ⌜ Ran (tables (now (sort .entry)) (now (letter .entry)) (now (next .entry)) (now (stop .entry)) (now (ways .entry))) (holdsIn (now (rows .entry))
+    requires { ⌜ State (tables (now code) (now next) (now entry) (now stop) (now ways)) (holdsIn (now rows) columns (now cells) (now offsets) (now constants) (now
+        counts)) n (Lettered (now cells) (now offsets) (now counts) (now rows) columns n) (now notes) (now trail) from ⌝ }
+    ensures { λ r. ⌜ Ran (tables (now (code .entry)) (now (next .entry)) (now (entry .entry)) (now (stop .entry)) (now (ways .entry))) (holdsIn (now (rows .entry))
         columns (now (cells .entry)) (now (offsets .entry)) (now (constants .entry)) (now (counts .entry))) n (Lettered (now (cells .entry)) (now (offsets .entry))
         (now (counts .entry)) (now (rows .entry)) columns n) (now (notes .entry)) (now (trail .entry)) from (now (notes .exit)) (now (trail .exit)) r ⌝ }
 {
     let mut w = from;
     while w.top > 0 {
-        let q = w.place;
-        if sort[q] > 3 {
+        w = descend(
+            code,
+            next,
+            entry,
+            stop,
+            ways,
+            rows,
+            columns,
+            n,
+            cells,
+            offsets,
+            constants,
+            counts,
+            notes,
+            trail,
+            w,
+        );
+        if w.down {
             return w;
         }
-        w = step(
-            sort,
-            letter,
+        w = retreat(
+            code,
             next,
+            entry,
             stop,
             ways,
             rows,
@@ -544,9 +550,9 @@ fn run(
 
 // One attempt: it tries the pair of the first place and the row. With a path, `top` is its length and the trail holds it.
 pub fn attempt(
-    sort: &[u8],
-    letter: &[u8],
+    code: &[u8],
     next: &[u16],
+    entry: &[u32],
     stop: &[u16],
     ways: &[u16],
     rows: &[i32],
@@ -561,24 +567,25 @@ pub fn attempt(
     row: usize,
     steps: usize,
 ) -> Walk
-    requires { ⌜ Ready (tables (now sort) (now letter) (now next) (now stop) (now ways)) (holdsIn (now rows) columns (now cells) (now offsets) (now constants)
-        (now counts)) n (Lettered (now cells) (now offsets) (now counts) (now rows) columns n) (now notes) (now trail) row steps ⌝ }
-    ensures { λ r. ⌜ Done (tables (now (sort .entry)) (now (letter .entry)) (now (next .entry)) (now (stop .entry)) (now (ways .entry))) (holdsIn (now (rows .entry))
-        columns (now (cells .entry)) (now (offsets .entry)) (now (constants .entry)) (now (counts .entry))) n (Lettered (now (cells .entry)) (now (offsets .entry))
-        (now (counts .entry)) (now (rows .entry)) columns n) (now (notes .entry)) (now (trail .entry)) row steps (now (notes .exit)) (now (trail .exit)) r ⌝ }
+    requires { ⌜ Ready (tables (now code) (now next) (now entry) (now stop) (now ways)) (holdsIn (now rows) columns (now cells) (now offsets) (now constants) (now
+        counts)) n (Lettered (now cells) (now offsets) (now counts) (now rows) columns n) (now notes) (now trail) row steps ⌝ }
+    ensures { λ r. ⌜ Done (tables (now (code .entry)) (now (next .entry)) (now (entry .entry)) (now (stop .entry)) (now (ways .entry))) (holdsIn (now (rows
+        .entry)) columns (now (cells .entry)) (now (offsets .entry)) (now (constants .entry)) (now (counts .entry))) n (Lettered (now (cells .entry)) (now (offsets
+        .entry)) (now (counts .entry)) (now (rows .entry)) columns n) (now (notes .entry)) (now (trail .entry)) row steps (now (notes .exit)) (now (trail .exit)) r
+        ⌝ }
 {
-    let base = row * sort.len();
+    let base = row * code.len();
     let start = Walk {
         top: 0,
         steps,
         place: 0,
         row,
         base,
-        from: 0,
+        down: false,
     };
     let w = try_pair(
-        sort,
-        letter,
+        code,
+        entry,
         rows,
         columns,
         n,
@@ -592,12 +599,11 @@ pub fn attempt(
         0,
         row,
         base,
-        0,
     );
     run(
-        sort,
-        letter,
+        code,
         next,
+        entry,
         stop,
         ways,
         rows,

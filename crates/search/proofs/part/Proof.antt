@@ -8,10 +8,10 @@ use Rattle.search.proofs.part.Lts as lts
 use Rattle.search.proofs.put_place.Reads as put-place-reads
 
 abbrev Inv-loop : tie.InvT-loop
-Inv-loop table p sort₀ letter₀ next₀ stop₀ q₀ sort letter next stop q = Going table p sort₀ letter₀ next₀ stop₀ sort letter next stop q
+Inv-loop table p code₀ next₀ entry₀ stop₀ q₀ code next entry stop q = Going table p code₀ next₀ entry₀ stop₀ code next entry stop q
 
 abbrev μ-loop : tie.MeasureT-loop
-μ-loop table p sort₀ letter₀ next₀ stop₀ q₀ sort letter next stop q = p - q
+μ-loop table p code₀ next₀ entry₀ stop₀ q₀ code next entry stop q = p - q
 
 -- src/lib.rt:52:5
 loop-holds : tie.Need-loop-holds Inv-loop μ-loop

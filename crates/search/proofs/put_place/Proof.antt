@@ -1,135 +1,173 @@
+use Rattle.search.proofs.Parting.{put-is, put-entry}
 use mathlib.Core.Path.{refl}
 use borrow.Author.Needs.{needs}
 use Rattle.search.proofs.put_place.Statement.{statement}
 use Rattle.search.proofs.put_place.Tie as tie
 use Rattle.search.proofs.put_place.Reads as reads
 use Rattle.search.proofs.put_place.Lts as lts
-use Rattle.search.proofs.low_byte.Reads as low-byte-reads
-use Rattle.search.proofs.sort_of.Reads as sort-of-reads
+use Rattle.search.proofs.code_of.Reads as code-of-reads
+use Rattle.search.proofs.first_of.Reads as first-of-reads
+use Rattle.search.proofs.second_of.Reads as second-of-reads
+use Rattle.search.proofs.wide.Reads as wide-reads
 
--- src/lib.rt:32:14
+-- src/lib.rt:74:14
 mul-at : tie.Need-mul-at
 mul-at c = search needs
 
--- src/lib.rt:33:23
-mul-sort-of : tie.Need-mul-sort-of
-mul-sort-of c = search needs
+-- src/lib.rt:75:16
+mul-sort : tie.Need-mul-sort
+mul-sort c = search needs
 
--- src/lib.rt:33:23
-shared-slice-read-sort-of : tie.Need-shared-slice-read-sort-of
-shared-slice-read-sort-of c = search needs
+-- src/lib.rt:75:16
+shared-slice-read-sort : tie.Need-shared-slice-read-sort
+shared-slice-read-sort c = search needs
 
--- src/lib.rt:33:15
-sort-of-requires : tie.Need-sort-of-requires
-sort-of-requires c κs = search needs
+-- src/lib.rt:76:19
+add-k : tie.Need-add-k
+add-k c = search needs
 
--- src/lib.rt:33:5
-slice-write-sort : tie.Need-slice-write-sort
-slice-write-sort c = search needs
+-- src/lib.rt:76:13
+mul-k : tie.Need-mul-k
+mul-k c = search needs
 
--- src/lib.rt:34:32
-add-low-byte : tie.Need-add-low-byte
-add-low-byte c = search needs
+-- src/lib.rt:76:13
+shared-slice-read-k : tie.Need-shared-slice-read-k
+shared-slice-read-k c = search needs
 
--- src/lib.rt:34:26
-mul-low-byte : tie.Need-mul-low-byte
-mul-low-byte c = search needs
+-- src/lib.rt:77:19
+add-e : tie.Need-add-e
+add-e c = search needs
 
--- src/lib.rt:34:26
-shared-slice-read-low-byte : tie.Need-shared-slice-read-low-byte
-shared-slice-read-low-byte c = search needs
+-- src/lib.rt:77:13
+mul-e : tie.Need-mul-e
+mul-e c = search needs
 
--- src/lib.rt:34:17
-low-byte-requires : tie.Need-low-byte-requires
-low-byte-requires c κs = search needs
+-- src/lib.rt:77:13
+shared-slice-read-e : tie.Need-shared-slice-read-e
+shared-slice-read-e c = search needs
 
--- src/lib.rt:34:5
-slice-write-letter : tie.Need-slice-write-letter
-slice-write-letter c = search needs
+-- src/lib.rt:78:35
+add-code-of : tie.Need-add-code-of
+add-code-of c = search needs
 
--- src/lib.rt:35:21
-add-next : tie.Need-add-next
-add-next c = search needs
+-- src/lib.rt:78:29
+mul-code-of : tie.Need-mul-code-of
+mul-code-of c = search needs
 
--- src/lib.rt:35:15
+-- src/lib.rt:78:29
+shared-slice-read-code-of : tie.Need-shared-slice-read-code-of
+shared-slice-read-code-of c = search needs
+
+-- src/lib.rt:78:15
+code-of-requires : tie.Need-code-of-requires
+code-of-requires c κs = search needs
+
+-- src/lib.rt:78:5
+slice-write-code : tie.Need-slice-write-code
+slice-write-code c = search needs
+
+-- src/lib.rt:79:15
+first-of-requires : tie.Need-first-of-requires
+first-of-requires c κs = search needs
+
+-- src/lib.rt:79:5
 mul-next : tie.Need-mul-next
 mul-next c = search needs
 
--- src/lib.rt:35:15
-shared-slice-read-next : tie.Need-shared-slice-read-next
-shared-slice-read-next c = search needs
-
--- src/lib.rt:35:5
-mul-next-2 : tie.Need-mul-next-2
-mul-next-2 c = search needs
-
--- src/lib.rt:35:5
+-- src/lib.rt:79:5
 slice-write-next : tie.Need-slice-write-next
 slice-write-next c = search needs
 
--- src/lib.rt:36:21
-add-stop : tie.Need-add-stop
-add-stop c = search needs
+-- src/lib.rt:80:37
+wide-requires : tie.Need-wide-requires
+wide-requires c κs = search needs
 
--- src/lib.rt:36:15
+-- src/lib.rt:80:46
+wide-requires-2 : tie.Need-wide-requires-2
+wide-requires-2 c κs = search needs
+
+-- src/lib.rt:80:21
+second-of-requires : tie.Need-second-of-requires
+second-of-requires c κs = search needs
+
+-- src/lib.rt:80:21
+mul-entry : tie.Need-mul-entry
+mul-entry c = search needs
+
+-- src/lib.rt:80:17
+add-entry : tie.Need-add-entry
+add-entry c = search needs
+
+-- src/lib.rt:80:16
+cast-entry : tie.Need-cast-entry
+cast-entry c = search needs
+
+-- src/lib.rt:80:5
+mul-entry-2 : tie.Need-mul-entry-2
+mul-entry-2 c = search needs
+
+-- src/lib.rt:80:5
+slice-write-entry : tie.Need-slice-write-entry
+slice-write-entry c = search needs
+
+-- src/lib.rt:81:5
 mul-stop : tie.Need-mul-stop
 mul-stop c = search needs
 
--- src/lib.rt:36:15
-shared-slice-read-stop : tie.Need-shared-slice-read-stop
-shared-slice-read-stop c = search needs
-
--- src/lib.rt:36:5
-mul-stop-2 : tie.Need-mul-stop-2
-mul-stop-2 c = search needs
-
--- src/lib.rt:36:5
+-- src/lib.rt:81:5
 slice-write-stop : tie.Need-slice-write-stop
 slice-write-stop c = search needs
 
--- src/lib.rt:21:1
+-- src/lib.rt:63:1
 same-length : tie.Need-same-length
 same-length c = search needs
 
--- src/lib.rt:21:1
+-- src/lib.rt:63:1
 same-length-2 : tie.Need-same-length-2
 same-length-2 c = search needs
 
--- src/lib.rt:21:1
+-- src/lib.rt:63:1
 same-length-3 : tie.Need-same-length-3
 same-length-3 c = search needs
 
--- src/lib.rt:21:1
+-- src/lib.rt:63:1
 same-length-4 : tie.Need-same-length-4
 same-length-4 c = search needs
 
--- src/lib.rt:21:1
+-- src/lib.rt:63:1
 returns : tie.Need-returns
-returns c = (cc, cc, refl, refl)
+returns c = (put-is (denote.Ref.now (c .before .before .before .before .before .before .before .before .before .before .before .before .before .before .args .code)) _ _ _ (c .before .before .before .before .code-of .ensures), put-is (denote.Ref.now (c .before .before .before .before .before .before .before .before .before .before .before .before .before .before .args .next)) _ _ _ (c .before .before .before .first-of .ensures), put-entry (denote.Ref.now (c .before .before .before .before .before .before .before .before .before .before .before .before .before .before .args .entry)) _ _ _ _ _ _ _ (c .before .before .wide .ensures .0) (c .before .wide2 .ensures .0) (c .second-of .ensures .0), refl)
 
 pub put-place-spec : {M : Type 1} → statement M
 put-place-spec =
     tie.close
     (tie.spec
     mul-at
-    mul-sort-of
-    shared-slice-read-sort-of
-    sort-of-requires
-    slice-write-sort
-    add-low-byte
-    mul-low-byte
-    shared-slice-read-low-byte
-    low-byte-requires
-    slice-write-letter
-    add-next
+    mul-sort
+    shared-slice-read-sort
+    add-k
+    mul-k
+    shared-slice-read-k
+    add-e
+    mul-e
+    shared-slice-read-e
+    add-code-of
+    mul-code-of
+    shared-slice-read-code-of
+    code-of-requires
+    slice-write-code
+    first-of-requires
     mul-next
-    shared-slice-read-next
-    mul-next-2
     slice-write-next
-    add-stop
+    wide-requires
+    wide-requires-2
+    second-of-requires
+    mul-entry
+    add-entry
+    cast-entry
+    mul-entry-2
+    slice-write-entry
     mul-stop
-    shared-slice-read-stop
-    mul-stop-2
     slice-write-stop
     same-length
     same-length-2

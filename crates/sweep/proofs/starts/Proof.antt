@@ -9,11 +9,11 @@ use Rattle.sweep.proofs.starts.Statement.{statement}
 use Rattle.sweep.proofs.starts.Tie as tie
 
 abbrev Inv-loop : tie.InvT-loop
-Inv-loop sort letter next stop ways rows columns n cells offsets constants counts ms count mode notes₀ trail₀ numbers₀ labels₀ i₀ notes trail numbers labels i =
-    SoFar (asked (tables sort letter next stop ways) (holdsIn rows columns cells offsets constants counts) n mode (tableOf columns rows) (measuresIn ms count)) (Lettered cells offsets counts rows columns n) ms count rows columns notes₀ trail₀ numbers₀ labels₀ notes trail numbers labels i
+Inv-loop code next entry stop ways rows columns n cells offsets constants counts ms count mode notes₀ trail₀ numbers₀ labels₀ i₀ notes trail numbers labels i =
+    SoFar (asked (tables code next entry stop ways) (holdsIn rows columns cells offsets constants counts) n mode (tableOf columns rows) (measuresIn ms count)) (Lettered cells offsets counts rows columns n) ms count rows columns notes₀ trail₀ numbers₀ labels₀ notes trail numbers labels i
 
 abbrev μ-loop : tie.MeasureT-loop
-μ-loop sort letter next stop ways rows columns n cells offsets constants counts ms count mode notes₀ trail₀ numbers₀ labels₀ i₀ notes trail numbers labels i =
+μ-loop code next entry stop ways rows columns n cells offsets constants counts ms count mode notes₀ trail₀ numbers₀ labels₀ i₀ notes trail numbers labels i =
     n - i .row
 
 loop-holds : tie.Need-loop-holds Inv-loop μ-loop

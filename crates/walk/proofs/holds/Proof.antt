@@ -1,25 +1,28 @@
+use Rattle.walk.proofs.Small.{letter-base, letter-room, letter-is}
 use native.Mathlib.Omega.{arith}
-use Rattle.walk.proofs.Small.{letter-low, letter-base, letter-room, letter-is}
 use borrow.Author.Needs.{needs}
 use Rattle.walk.proofs.holds.Statement.{statement}
 use Rattle.walk.proofs.holds.Tie as tie
+use Rattle.walk.proofs.holds.Reads as reads
+use Rattle.walk.proofs.holds.Lts as lts
+use Rattle.letters.proofs.letter_holds.Reads as letter-holds-reads
+use Rattle.walk.proofs.index.Reads as index-reads
 
+-- src/lib.rt:83:9
 index-requires : tie.Need-index-requires
 index-requires c κs = search needs
 
-sub-letter-holds : tie.Need-sub-letter-holds
-sub-letter-holds c = letter-low _ _ _ _ _ _ _ _ (c .before .pre) _ (c .index .ensures .0)
-
+-- src/lib.rt:88:9
 mul-letter-holds : tie.Need-mul-letter-holds
 mul-letter-holds c = omega (arith, letter-base _ _ _ _ _ _ _ _ (c .before .pre))
 
+-- src/lib.rt:78:5
 letter-holds-requires : tie.Need-letter-holds-requires
 letter-holds-requires c κs = letter-room _ _ _ _ _ _ _ _ (c .before .pre) _ (c .index .ensures .0)
 
+-- src/lib.rt:63:1
 returns : tie.Need-returns
 returns c = letter-is _ _ _ _ _ _ _ _ _ _ (c .before .index .ensures .0) (c .letter-holds .ensures)
 
 pub holds-spec : {M : Type 1} → statement M
-holds-spec =
-    tie.close
-    (tie.spec index-requires sub-letter-holds mul-letter-holds letter-holds-requires returns)
+holds-spec = tie.close (tie.spec index-requires mul-letter-holds letter-holds-requires returns)

@@ -1,49 +1,64 @@
-use native.Mathlib.Omega.{arith}
+use Rattle.walk.proofs.Whole.{run-state, run-end, run-found, run-halts, run-more, run-less}
+use Rattle.walk.proofs.Going.{reached-none}
+use Rattle.walk.specs.Letters.{holdsIn, Lettered}
 use Rattle.walk.specs.State.{left, comes, Reached}
 use Rattle.walk.specs.Tables.{tables, N}
-use Rattle.walk.specs.Letters.{holdsIn, Lettered}
-use Rattle.walk.proofs.Going.{reached-none}
-use Rattle.walk.proofs.Whole.{run-place, run-goes, run-found, run-end, run-more}
 use Rattle.walk.proofs.run.Statement.{statement}
 use Rattle.walk.proofs.run.Tie as tie
+use Rattle.walk.proofs.run.Reads as reads
+use Rattle.walk.proofs.run.Lts as lts
+use Rattle.walk.proofs.descend.Reads as descend-reads
+use Rattle.walk.proofs.retreat.Reads as retreat-reads
 
 abbrev Inv-loop : tie.InvT-loop
-Inv-loop sort letter next stop ways rows columns n cells offsets constants counts notes₀ trail₀ w₀ notes trail w =
-    Reached (tables sort letter next stop ways) (holdsIn rows columns cells offsets constants counts) n (Lettered cells offsets counts rows columns n) notes₀ trail₀ (comes (tables sort letter next stop ways) (holdsIn rows columns cells offsets constants counts) n notes₀ trail₀ w₀) notes trail w
+Inv-loop code next entry stop ways rows columns n cells offsets constants counts notes₀ trail₀ w₀ notes trail w =
+    Reached (tables code next entry stop ways) (holdsIn rows columns cells offsets constants counts) n (Lettered cells offsets counts rows columns n) notes₀ trail₀ (comes (tables code next entry stop ways) (holdsIn rows columns cells offsets constants counts) n notes₀ trail₀ w₀) notes trail w
 
 abbrev μ-loop : tie.MeasureT-loop
-μ-loop sort letter next stop ways rows columns n cells offsets constants counts notes₀ trail₀ w₀ notes trail w = left (N (tables sort letter next stop ways) n) notes w
+μ-loop code next entry stop ways rows columns n cells offsets constants counts notes₀ trail₀ w₀ notes trail w =
+    left (N (tables code next entry stop ways) n) notes w
 
+-- src/lib.rt:509:5
 loop-holds : tie.Need-loop-holds Inv-loop μ-loop
 loop-holds c = reached-none _ _ _ _ _ _ _ (c .before .before .before .before .before .before .before .pre)
 
-shared-slice-read-if2 : tie.Need-shared-slice-read-if2 Inv-loop μ-loop
-shared-slice-read-if2 c = run-place _ _ _ _ _ _ _ _ _ _ (c .before .before .before .loop .inv) (c .before .if1 .taken)
+-- src/lib.rt:510:9
+descend-requires : tie.Need-descend-requires Inv-loop μ-loop
+descend-requires c κs = run-state _ _ _ _ _ _ _ _ _ _ (c .before .before .before .before .loop .inv)
 
+-- src/lib.rt:528:13
 same-length : tie.Need-same-length Inv-loop μ-loop
-same-length c = (c .before .before .before .before .loop .inv .notes-long)
+same-length c = run-found _ _ _ _ _ _ _ _ _ _ (c .before .before .before .before .before .before .before .before .before .before .loop .inv) _ _ _ (c .before .before .before .before .before .descend .ensures) (c .if2 .taken) .reached .notes-long
 
+-- src/lib.rt:528:13
 same-length-2 : tie.Need-same-length-2 Inv-loop μ-loop
-same-length-2 c = (c .before .before .before .before .loop .inv .trail-long)
+same-length-2 c = run-found _ _ _ _ _ _ _ _ _ _ (c .before .before .before .before .before .before .before .before .before .before .loop .inv) _ _ _ (c .before .before .before .before .before .descend .ensures) (c .if2 .taken) .reached .trail-long
 
+-- src/lib.rt:528:13
 returns : tie.Need-returns Inv-loop μ-loop
-returns c = run-found _ _ _ _ _ _ _ _ _ _ (c .before .before .before .before .loop .inv) (omega (arith, (c .if2 .taken)))
+returns c = run-found _ _ _ _ _ _ _ _ _ _ (c .before .before .before .before .before .before .before .before .before .before .loop .inv) _ _ _ (c .before .before .before .before .before .descend .ensures) (c .if2 .taken)
 
-step-requires : tie.Need-step-requires Inv-loop μ-loop
-step-requires c κs = run-goes _ _ _ _ _ _ _ _ _ _ (c .before .before .before .before .before .before .loop .inv) (c .before .before .before .before .if1 .taken) (omega (arith, (c .before .before .if2 .left)))
+-- src/lib.rt:530:9
+retreat-requires : tie.Need-retreat-requires Inv-loop μ-loop
+retreat-requires c κs = run-halts _ _ _ _ _ _ _ _ _ _ (c .before .before .before .before .before .before .before .before .before .before .before .before .loop .inv) _ _ _ (c .before .before .before .before .before .before .before .descend .ensures) (c .before .before .before .before .before .before .before .before .before .before .if1 .taken) (c .before .before .if2 .left)
 
+-- src/lib.rt:509:5
 loop-less : tie.Need-loop-less Inv-loop μ-loop
-loop-less c = (c .before .before .before .before .step .ensures .less)
+loop-less c = run-less _ _ _ _ _ _ _ _ _ _ (c .before .before .before .before .before .before .before .before .before .before .before .before .before .before .before .before .before .loop .inv) _ _ _ (c .before .before .before .before .before .before .before .before .before .before .before .before .descend .ensures) _ _ _ (c .before .before .before .before .retreat .ensures)
 
+-- src/lib.rt:509:5
 loop-again : tie.Need-loop-again Inv-loop μ-loop
-loop-again c = run-more _ _ _ _ _ _ _ _ _ _ (c .before .before .before .before .before .before .before .before .before .before .before .loop .inv) _ _ _ (c .before .before .before .before .step .ensures)
+loop-again c = run-more _ _ _ _ _ _ _ _ _ _ (c .before .before .before .before .before .before .before .before .before .before .before .before .before .before .before .before .before .loop .inv) _ _ _ (c .before .before .before .before .before .before .before .before .before .before .before .before .descend .ensures) _ _ _ (c .before .before .before .before .retreat .ensures)
 
+-- src/lib.rt:485:1
 same-length-3 : tie.Need-same-length-3 Inv-loop μ-loop
 same-length-3 c = (c .before .before .loop .inv .notes-long)
 
+-- src/lib.rt:485:1
 same-length-4 : tie.Need-same-length-4 Inv-loop μ-loop
 same-length-4 c = (c .before .before .loop .inv .trail-long)
 
+-- src/lib.rt:485:1
 returns-2 : tie.Need-returns-2 Inv-loop μ-loop
 returns-2 c = run-end _ _ _ _ _ _ _ _ _ _ (c .before .before .loop .inv) (c .if1 .left)
 
@@ -54,11 +69,11 @@ run-spec =
     Inv-loop
     μ-loop
     loop-holds
-    shared-slice-read-if2
+    descend-requires
     same-length
     same-length-2
     returns
-    step-requires
+    retreat-requires
     loop-less
     loop-again
     same-length-3

@@ -1,0 +1,141 @@
+-- Every fork of a pattern's places has a way.
+use mathlib.Core.Path.{_≡_, refl}
+use mathlib.Core.Bool.{Bool, true, false}
+use mathlib.Core.List.{List, [], _∷_, _++_}
+use mathlib.Core.Option.{Option, none, some}
+use Prim.Native.Nat.{ℕ, zero, suc, _+_, _-_, _<_}
+use native.Mathlib.Nat.{le-of-suc-le-suc, not-suc-le-zero}
+use native.Mathlib.Omega.{arith}
+use lib.ListN.{length, getD}
+use Rattle.rules.specs.Basics.{has}
+use Rattle.rules.specs.Language.{lower, upper, Rank, pattern, branch, factor, primary, Tree, one, more, last, next, bare, times, letter, caret, dollar, empty, group}
+use Rattle.rules.specs.Places.{Unrolled, uLetter, uCaret, uDollar, uEmpty, uSeq, uAlt, uOpt, uStar, Branches, uNil, uCons, copies, options, behind, repeated, UnrolledAt, forked, unrolled, unroll, size, startOf, startsOf, waysInTurn, code, codes, Place, pLetter, pCaret, pDollar, pFork, pEnd, places}
+use Rattle.rules.proofs.Counting.{forked-more}
+use Rattle.rules.proofs.Distinct.{fresh, distinct, thinPlace, thinned, thinned-at, thinned-length}
+
+abbrev pub Wayed : Place → Type 0
+Wayed (pLetter c k) = Unit {0}
+Wayed (pCaret k) = Unit {0}
+Wayed (pDollar k) = Unit {0}
+Wayed (pFork ks) = 0 < length ks
+Wayed pEnd = Unit {0}
+
+abbrev Some : Branches → Type 0
+Some uNil = 0 < 0
+Some (uCons t ts) = Unit {0}
+
+-- every alternation of an unrolled part has a branch
+unfoldable mutual
+  WayedIn : Unrolled → Type 0
+  WayedIn (uLetter c) = Unit {0}
+  WayedIn uCaret = Unit {0}
+  WayedIn uDollar = Unit {0}
+  WayedIn uEmpty = Unit {0}
+  WayedIn (uSeq a b) = WayedIn a × WayedIn b
+  WayedIn (uAlt ts) = Some ts × WayedAll ts
+  WayedIn (uOpt lazy t) = WayedIn t
+  WayedIn (uStar lazy t) = WayedIn t
+
+  WayedAll : Branches → Type 0
+  WayedAll uNil = Unit {0}
+  WayedAll (uCons t ts) = WayedIn t × WayedAll ts
+
+abbrev Every : List Place → Type 0
+Every [] = Unit {0}
+Every (p ∷ ps) = Wayed p × Every ps
+
+every-append : (ps qs : List Place) → Every ps → Every qs → Every (ps ++ qs)
+every-append [] qs a b = b
+every-append (p ∷ ps) qs a b = (a .0, every-append ps qs (a .1) b)
+
+every-at : (ps : List Place) → Every ps → (q : ℕ) → q < length ps → Wayed (getD ps q (pFork []))
+every-at [] a q h = absurd (not-suc-le-zero h)
+every-at (p ∷ ps) a zero h = a .0
+every-at (p ∷ ps) a (suc q) h = every-at ps (a .1) q (le-of-suc-le-suc h)
+
+starts-some : (ts : Branches) (b k : ℕ) → Some ts → 0 < length (startsOf ts b k)
+unfolding startsOf
+starts-some uNil b k s = absurd (not-suc-le-zero s)
+starts-some (uCons t ts) b k s = omega arith
+
+turn-some : (lazy : Bool) (a b : ℕ) → 0 < length (waysInTurn lazy a b)
+turn-some true a b = omega arith
+turn-some false a b = omega arith
+
+mutual
+  unfolding WayedIn code
+
+  code-wayed : (t : Unrolled) (b k : ℕ) → WayedIn t → Every (code t b k)
+  code-wayed (uLetter c) b k s = (tt, tt)
+  code-wayed uCaret b k s = (tt, tt)
+  code-wayed uDollar b k s = (tt, tt)
+  code-wayed uEmpty b k s = tt
+  code-wayed (uSeq x y) b k s = every-append (code x b (startOf y (b + size x) k)) (code y (b + size x) k) (code-wayed x b (startOf y (b + size x) k) (s .0)) (code-wayed y (b + size x) k (s .1))
+  code-wayed (uAlt ts) b k s = (starts-some ts (suc b) k (s .0), codes-wayed ts (suc b) k (s .1))
+  code-wayed (uOpt lazy t) b k s = (turn-some lazy (startOf t (suc b) k) k, code-wayed t (suc b) k s)
+  code-wayed (uStar lazy t) b k s = (turn-some lazy (startOf t (suc b) b) k, code-wayed t (suc b) b s)
+
+  codes-wayed : (ts : Branches) (b k : ℕ) → WayedAll ts → Every (codes ts b k)
+  codes-wayed uNil b k s = tt
+  codes-wayed (uCons t ts) b k s = every-append (code t b k) (codes ts (b + size t) k) (code-wayed t b k (s .0)) (codes-wayed ts (b + size t) k (s .1))
+
+copies-wayed : (m : ℕ) (t r : Unrolled) → WayedIn t → WayedIn r → WayedIn (copies m t r)
+unfolding copies WayedIn
+copies-wayed zero t r a b = b
+copies-wayed (suc m) t r a b = (a, copies-wayed m t r a b)
+
+options-wayed : (m : ℕ) (lazy : Bool) (t : Unrolled) → WayedIn t → WayedIn (options m lazy t)
+unfolding options WayedIn
+options-wayed zero lazy t a = tt
+options-wayed (suc m) lazy t a = (a, options-wayed m lazy t a)
+
+behind-wayed : (hi : Option ℕ) (lo : ℕ) (lazy : Bool) (t : Unrolled) → WayedIn t → WayedIn (behind hi lo lazy t)
+unfolding behind WayedIn
+behind-wayed none lo lazy t a = a
+behind-wayed (some hi) lo lazy t a = options-wayed (hi - lo) lazy t a
+
+abbrev WayedAt : (k : Rank) → UnrolledAt k → Type 0
+WayedAt pattern ts = WayedAll ts
+WayedAt branch t = WayedIn t
+WayedAt factor t = WayedIn t
+WayedAt primary t = WayedIn t
+
+forked-wayed : (p : Tree pattern) → WayedAll (unrolled p) → WayedIn (forked (unrolled p))
+unfolding unrolled forked WayedIn
+forked-wayed (one b) s = s .0
+forked-wayed (more b p) s = rw (forked-more b p) (tt, s)
+
+unrolled-wayed : {k : Rank} (t : Tree k) → WayedAt k (unrolled t)
+unfolding unrolled WayedIn repeated
+unrolled-wayed (one b) = (unrolled-wayed b, tt)
+unrolled-wayed (more b p) = (unrolled-wayed b, unrolled-wayed p)
+unrolled-wayed (last f) = unrolled-wayed f
+unrolled-wayed (next f b) = (unrolled-wayed f, unrolled-wayed b)
+unrolled-wayed (bare x) = unrolled-wayed x
+unrolled-wayed (times x f z) =
+    copies-wayed (lower f) (unrolled x) (behind (upper f) (lower f) z (unrolled x)) (unrolled-wayed x) (behind-wayed (upper f) (lower f) z (unrolled x) (unrolled-wayed x))
+unrolled-wayed (letter c) = tt
+unrolled-wayed caret = tt
+unrolled-wayed dollar = tt
+unrolled-wayed empty = tt
+unrolled-wayed (group p) = forked-wayed p (unrolled-wayed p)
+
+distinct-some : (ks : List ℕ) → 0 < length ks → 0 < length (distinct ks)
+unfolding fresh has
+distinct-some [] h = h
+distinct-some (k ∷ ks) h = omega arith
+
+thin-wayed : (p : Place) → Wayed p → Wayed (thinPlace p)
+unfolding thinPlace
+thin-wayed (pLetter c k) s = s
+thin-wayed (pCaret k) s = s
+thin-wayed (pDollar k) s = s
+thin-wayed (pFork ks) s = distinct-some ks s
+thin-wayed pEnd s = s
+
+pub thinned-wayed : (p : Tree pattern) (q : ℕ) → q < length (places (unroll p)) → Wayed (getD (thinned (places (unroll p))) q (pFork []))
+unfolding places unroll
+thinned-wayed p q h =
+    rw (thinned-at (places (unroll p)) q)
+    (thin-wayed (getD (places (unroll p)) q (pFork []))
+    (every-at (places (unroll p)) (every-append (code (unroll p) 0 (size (unroll p))) (pEnd ∷ []) (code-wayed (unroll p) 0 (size (unroll p)) (forked-wayed p (unrolled-wayed p))) (tt, tt)) q h))
