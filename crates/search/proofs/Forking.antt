@@ -1,5 +1,4 @@
 -- Every fork of a pattern's places has a way.
-use mathlib.Core.Path.{_≡_, refl}
 use mathlib.Core.Bool.{Bool, true, false}
 use mathlib.Core.List.{List, [], _∷_, _++_}
 use mathlib.Core.Option.{Option, none, some}
@@ -11,7 +10,7 @@ use Rattle.rules.specs.Basics.{has}
 use Rattle.rules.specs.Language.{lower, upper, Rank, pattern, branch, factor, primary, Tree, one, more, last, next, bare, times, letter, caret, dollar, empty, group}
 use Rattle.rules.specs.Places.{Unrolled, uLetter, uCaret, uDollar, uEmpty, uSeq, uAlt, uOpt, uStar, Branches, uNil, uCons, copies, options, behind, repeated, UnrolledAt, forked, unrolled, unroll, size, startOf, startsOf, waysInTurn, code, codes, Place, pLetter, pCaret, pDollar, pFork, pEnd, places}
 use Rattle.rules.proofs.Counting.{forked-more}
-use Rattle.rules.proofs.Distinct.{fresh, distinct, thinPlace, thinned, thinned-at, thinned-length}
+use Rattle.rules.proofs.Distinct.{fresh, distinct, thinPlace, thinned, thinned-at}
 
 abbrev pub Wayed : Place → Type 0
 Wayed (pLetter c k) = Unit {0}

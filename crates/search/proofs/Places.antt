@@ -1,5 +1,5 @@
 -- The tables that are spread hold the places of the pattern, each fork's ways once; and so the walk may go over them.
-use mathlib.Core.Path.{_≡_, refl, ap, ap₂, sym, _∙_}
+use mathlib.Core.Path.{_≡_, refl, ap, sym, _∙_}
 use mathlib.Core.Bool.{Bool, true, false}
 use mathlib.Core.List.{List, [], _∷_}
 use Prim.Native.Nat.{ℕ, zero, suc, _+_, _-_, _*_, _%_, _≤_, _<_}
@@ -12,16 +12,14 @@ use borrow.Author.Tests.{ltb-true, ltb-false, lt-ltb, ne-eqb, eqb-true}
 use Rattle.rules.specs.Basics.{pick}
 use Rattle.rules.specs.Language.{Tree, pattern, emptyLoop}
 use Rattle.rules.specs.Places.{Place, pLetter, pCaret, pDollar, pFork, pEnd, unroll, places, placesOf}
-use Rattle.rules.specs.Walk.{pairs, pairWays}
+use Rattle.rules.specs.Walk.{pairs}
 use Rattle.rules.proofs.Bounds.{Lettered}
 use Rattle.rules.proofs.Counting.{legal-unroll, places-counted}
 use Rattle.rules.proofs.Distinct.{thinned, thinned-length}
 use Rattle.rules.proofs.PatternWalk.{top}
 use Rattle.rules.proofs.Rank.{rank}
 use Rattle.rules.proofs.ThinPlaces.{Leads, Spelt, thinned-leads, thinned-falls, thinned-spelt}
-use Rattle.rules.proofs.Walk.{Falls}
 use Rattle.places.specs.Tables as F
-use Rattle.places.specs.Emitting.{Tabled}
 use Rattle.walk.specs.Step.{after}
 use Rattle.walk.specs.Tables as W
 use Rattle.walk.proofs.Ways.{in-length, in-at}

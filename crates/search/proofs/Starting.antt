@@ -152,24 +152,24 @@ module _ (q nodes : List ℕ) (top p : ℕ) (rows : List ℤ) (columns n : ℕ) 
           stops = omega (arith, few-places);
         }
 
-    module _ (so₀ le₀ ne₀ st₀ so le ne st : List ℕ) (d : Parted table p so₀ le₀ ne₀ st₀ so le ne st) (ls : length so ≡ 256) (ll : length le ≡ 256) (ln : length ne ≡ 256) (lt : length st ≡ 256) where
+    module _ (co₀ ne₀ en₀ st₀ co ne en st : List ℕ) (d : Parted table p co₀ ne₀ en₀ st₀ co ne en st) (lc : length co ≡ 256) (ln : length ne ≡ 256) (le : length en ≡ 256) (ls : length st ≡ 256) where
       abbrev g : emptyLoop (a .tree) ≡ false
       g = a .no-loop
 
       abbrev T : W.Tables
-      T = cut table p so₀ le₀ ne₀ st₀ so le ne st d (omega (arith, few-places)) (omega (arith, few-places)) (omega (arith, few-places)) (omega (arith, few-places)) few-places
+      T = cut table p co₀ ne₀ en₀ st₀ co ne en st d (omega (arith, few-places)) (omega (arith, few-places)) (omega (arith, few-places)) (omega (arith, few-places)) few-places
 
       T-count : W.P T ≡ p
-      T-count = cut-count table p so₀ le₀ ne₀ st₀ so le ne st d (omega (arith, few-places)) (omega (arith, few-places)) (omega (arith, few-places)) (omega (arith, few-places)) few-places
+      T-count = cut-count table p co₀ ne₀ en₀ st₀ co ne en st d (omega (arith, few-places)) (omega (arith, few-places)) (omega (arith, few-places)) (omega (arith, few-places)) few-places
 
       T-places : W.placesIn T ≡ thinned (places (unroll (a .tree)))
       T-places =
-          cut-places table p so₀ le₀ ne₀ st₀ so le ne st d (omega (arith, few-places)) (omega (arith, few-places)) (omega (arith, few-places)) (omega (arith, few-places)) few-places (a .tree) g the-lettered
+          cut-places table p co₀ ne₀ en₀ st₀ co ne en st d (omega (arith, few-places)) (omega (arith, few-places)) (omega (arith, few-places)) (omega (arith, few-places)) few-places (a .tree) g the-lettered
           (a .places-are) (b .is)
 
       T-legal : W.Legal T (holdsIn rows columns cells offsets constants counts) n
       T-legal =
-          legal-tables table p so₀ le₀ ne₀ st₀ so le ne st d (omega (arith, few-places)) (omega (arith, few-places)) (omega (arith, few-places)) (omega (arith, few-places)) few-places (a .tree) g the-lettered
+          legal-tables table p co₀ ne₀ en₀ st₀ co ne en st d (omega (arith, few-places)) (omega (arith, few-places)) (omega (arith, few-places)) (omega (arith, few-places)) few-places (a .tree) g the-lettered
           (a .places-are) (b .is) (omega (arith, a .places-are, some-place)) (omega arith) (λ q h. omega (arith, stop-low q h)) (holdsIn rows columns cells offsets constants counts) n few-pairs (a .most)
 
       T-found : (nums labs : ℕ)
@@ -209,10 +209,10 @@ module _ (q nodes : List ℕ) (top p : ℕ) (rows : List ℤ) (columns n : ℕ) 
   may-part table₀ table end f e co ne en st lc ln le ls = let b = f (may-unroll table₀ e) in may-spread table₀ table end b (b .len ∙ e) co ne en st lc ln le ls
 
   pub may-run : (table₀ table : List ℕ) (end : ℕ) → ((h : Unrolling nodes top p table₀) → Tabled (h .tree) p table₀ table end) → length table₀ ≡ 1792
-      → (so₀ le₀ ne₀ st₀ so le ne st : List ℕ) → Parted table p so₀ le₀ ne₀ st₀ so le ne st → length so₀ ≡ 256 → length le₀ ≡ 256 → length ne₀ ≡ 256 → length st₀ ≡ 256
-      → Runs q (W.tables (take (p - 0) (drop 0 so)) (take (p - 0) (drop 0 le)) (take (p - 0) (drop 0 ne)) (take (p - 0) (drop 0 st)) table) rows columns n cells offsets constants counts ms count mode notes trail
+      → (co₀ ne₀ en₀ st₀ co ne en st : List ℕ) → Parted table p co₀ ne₀ en₀ st₀ co ne en st → length co₀ ≡ 256 → length ne₀ ≡ 256 → length en₀ ≡ 256 → length st₀ ≡ 256
+      → Runs q (W.tables (take (p - 0) (drop 0 co)) (take (p - 0) (drop 0 ne)) (take (p - 0) (drop 0 en)) (take (p - 0) (drop 0 st)) table) rows columns n cells offsets constants counts ms count mode notes trail
   unfolding may-unroll
-  may-run table₀ table end f e so₀ le₀ ne₀ st₀ so le ne st d ls ll ln lt =
+  may-run table₀ table end f e co₀ ne₀ en₀ st₀ co ne en st d lc ln le ls =
       let b = f (may-unroll table₀ e) in
       let z : p - 0 ≡ p = omega arith in
-      rw z (runs table₀ table end b (b .len ∙ e) so₀ le₀ ne₀ st₀ so le ne st d (d .codes .long ∙ ls) (d .nexts .long ∙ ll) (d .entries .long ∙ ln) (d .stops .long ∙ lt))
+      rw z (runs table₀ table end b (b .len ∙ e) co₀ ne₀ en₀ st₀ co ne en st d (d .codes .long ∙ lc) (d .nexts .long ∙ ln) (d .entries .long ∙ le) (d .stops .long ∙ ls))

@@ -1,5 +1,5 @@
 -- The last open pair tries its next way, or fails where none is left.
-use mathlib.Core.Path.{_≡_, refl, sym, ap, _∙_, subst}
+use mathlib.Core.Path.{_≡_, refl, sym, ap, _∙_}
 use mathlib.Core.List.{List}
 use mathlib.Core.Bool.{Bool, true, false}
 use mathlib.Core.Logic.{_≢_}
@@ -10,14 +10,14 @@ use native.Mathlib.Omega.{arith}
 use lib.Dec.{ltb}
 use lib.ListN.{length, getD, set, length-set}
 use lib.Seq.{getD-set-same, getD-set-other}
-use borrow.Author.Tests.{ltb-true, ltb-false, lt-ltb, le-ltb}
+use borrow.Author.Tests.{ltb-true, ltb-false}
 use Rattle.rules.specs.Basics.{pick}
 use Rattle.rules.specs.Report.{bitAt}
-use Rattle.rules.proofs.Notes.{marked, bitsOf}
+use Rattle.rules.proofs.Notes.{marked}
 use Rattle.walk.specs.declared.Walk.{Walk}
-use Rattle.walk.specs.Tables.{Tables, P, N, second, leftFrom, waysOf, placeAt, passesBy}
+use Rattle.walk.specs.Tables.{Tables, P, N, second, leftFrom, waysOf, passesBy}
 use Rattle.walk.specs.Step.{mem, placeIn, rowIn, wayIn, pairIn, stack, walkAt, after, wentOn, triedBy, Tries}
-use Rattle.walk.specs.State.{takes, Word, rowFrom, wayAt, reach, Led, Stuck, Good, left, restAt, rest, comes, Halts, Backward}
+use Rattle.walk.specs.State.{Word, rowFrom, wayAt, reach, Led, Stuck, Good, left, restAt, rest, comes, Halts, Backward}
 use Rattle.walk.proofs.Ways.{left-none, left-some, ways-length, ways-later, takes-no-row}
 use Rattle.walk.proofs.Trails.{went-place, went-row, went-way, stack-same}
 use Rattle.walk.proofs.Going.{good-room, top-word, top-below, top-out, top-byte, leave-reached, leave-less}

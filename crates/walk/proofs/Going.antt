@@ -13,14 +13,14 @@ use lib.Arith.{digits-div}
 use lib.ListN.{length, getD, set, length-set}
 use lib.Seq.{getD-set-same, getD-set-other}
 use Rattle.rules.specs.Report.{bitAt}
-use Rattle.rules.specs.Walk.{Ways, accept, try, Outcome, found, countTrue}
+use Rattle.rules.specs.Walk.{accept, try, Outcome, found, countTrue}
 use Rattle.rules.proofs.Machine.{firstOpen, resume, resume-accept, resume-pop, resume-push, Open, open-room, open-push, open-pop}
 use Rattle.rules.proofs.Notes.{marked, bitsOf, bitsOf-at, bitsFrom-length, bits-mark, bit-keep}
-use Rattle.rules.proofs.Walk.{All, Out, count-mark}
+use Rattle.rules.proofs.Walk.{All, count-mark}
 use Rattle.walk.specs.declared.Walk.{Walk}
-use Rattle.walk.specs.Tables.{Tables, P, N, second, waysOf, placeAt, graphOf, passesBy}
+use Rattle.walk.specs.Tables.{Tables, P, N, second, waysOf, graphOf, passesBy}
 use Rattle.walk.specs.Step.{placeIn, rowIn, wayIn, pairIn, stack, walkAt, outcomeBy, Enters}
-use Rattle.walk.specs.State.{takes, Onto, Linked, Passing, Word, rowFrom, wayAt, reach, Led, Stuck, Good, Stands, State, left, comes, Reached}
+use Rattle.walk.specs.State.{Onto, Linked, Passing, Word, rowFrom, wayAt, Led, Stuck, Good, Stands, State, left, comes, Reached}
 use Rattle.walk.proofs.Ways.{pair-row, pair-place, ways-shut, ways-end, ways-are, leads-each}
 use Rattle.walk.proofs.Trails.{word-row, word-place, entry-place, entry-row, entry-way, stack-length, stack-push, stack-top, linked-under}
 

@@ -3,27 +3,25 @@ use mathlib.Core.Path.{_≡_, refl, sym, ap, _∙_, subst}
 use mathlib.Core.List.{List, _∷_}
 use mathlib.Core.Bool.{Bool, true, false, _&&_, false≢true}
 use mathlib.Core.Logic.{_≢_}
-use Prim.Native.Nat.{ℕ, zero, suc, _+_, _-_, _*_, _/_, _%_, _≤_, _<_, suc-le-suc}
+use Prim.Native.Nat.{ℕ, suc, _+_, _-_, _*_, _≤_, _<_, suc-le-suc}
 use native.Mathlib.Nat.{mul-comm, not-suc-le-zero, suc-mul}
 use native.Mathlib.Decide.{ℕ-discrete}
 use native.Mathlib.Omega.{arith}
 use lib.Arith.{digits-lt}
 use lib.Dec.{ltb}
-use lib.ListN.{length, getD, set, length-set}
-use lib.Seq.{getD-set-same, getD-set-other}
-use borrow.Author.Tests.{ltb-true, ltb-false, lt-ltb, le-ltb}
+use lib.ListN.{length, getD}
+use borrow.Author.Tests.{ltb-true, lt-ltb}
 use Rattle.rules.specs.Report.{bitAt}
 use Rattle.rules.specs.Walk.{Outcome}
 use Rattle.rules.proofs.Level.{and-true}
 use Rattle.rules.proofs.Machine.{resume}
-use Rattle.rules.proofs.Notes.{marked, bitsOf}
+use Rattle.rules.proofs.Notes.{bitsOf}
 use Rattle.walk.specs.declared.Walk.{Walk}
-use Rattle.walk.specs.Tables.{Tables, P, N, second, leftFrom, waysOf, placeAt, graphOf, passesBy}
-use Rattle.walk.specs.Step.{Mem, mem, placeIn, rowIn, wayIn, pairIn, stack, walkAt, after, wentOn, enteredBy, triedBy, Tries}
-use Rattle.walk.specs.State.{takes, Word, rowFrom, wayAt, reach, Led, Stuck, Fresh, Good, left, rest, comes, Reached, Goes, Halts, Turned, Onward, Backward}
-use Rattle.walk.proofs.Ways.{left-none, left-some, ways-length, ways-first, ways-later, takes-row, takes-no-row}
-use Rattle.walk.proofs.Trails.{went-place, went-row, went-way, stack-same}
-use Rattle.walk.proofs.Going.{good-as, good-room, led-stuck, Next, next-enters, open-reached, open-less, shut-reached, shut-less, top-word, top-below, top-out, top-byte, top-row, top-passes, way-place, way-below, top-next, next-same, leave-reached, leave-less}
+use Rattle.walk.specs.Tables.{Tables, P, N, waysOf, graphOf, passesBy}
+use Rattle.walk.specs.Step.{Mem, mem, placeIn, stack, enteredBy, triedBy, Tries}
+use Rattle.walk.specs.State.{rowFrom, wayAt, reach, Led, Fresh, Good, left, comes, Reached, Goes, Onward}
+use Rattle.walk.proofs.Ways.{ways-length, ways-first, takes-row, takes-no-row}
+use Rattle.walk.proofs.Going.{good-as, led-stuck, Next, next-enters, open-reached, open-less, shut-reached, shut-less, top-word, top-passes, way-below, top-next, next-same}
 
 -- ---- a pair is tried
 

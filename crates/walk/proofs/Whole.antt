@@ -1,25 +1,24 @@
 -- The loops: on while tries open pairs, back until one does, and both in turn; and the attempt, from the pair that it tries to its result.
 use mathlib.Core.Path.{_≡_, refl, sym, ap, _∙_}
 use mathlib.Core.List.{List, _∷_}
-use mathlib.Core.Bool.{Bool, true, false, true≢false, false≢true}
+use mathlib.Core.Bool.{Bool, true, false, true≢false}
 use mathlib.Core.Logic.{_≢_}
 use Prim.Native.Nat.{ℕ, zero, suc, _+_, _-_, _*_, _≤_, _<_}
 use native.Mathlib.Nat.{not-suc-le-zero}
 use native.Mathlib.Decide.{ℕ-discrete}
 use native.Mathlib.Omega.{arith}
-use lib.ListN.{length, getD}
+use lib.ListN.{getD}
 use Rattle.rules.specs.Basics.{pick}
 use Rattle.rules.specs.Report.{bitAt}
 use Rattle.rules.proofs.Machine.{resume, resume-one}
 use Rattle.rules.proofs.Notes.{bitsOf, bitsOf-at}
 use Rattle.walk.specs.declared.Walk.{Walk}
-use Rattle.walk.specs.Tables.{Tables, P, N, second, leftFrom, graphOf, passesBy}
+use Rattle.walk.specs.Tables.{Tables, P, N, graphOf, passesBy}
 use Rattle.walk.specs.Step.{mem, placeIn, wayIn, stack, walkAt, triedBy, outcomeBy, Tries}
 use Rattle.walk.specs.State.{Word, Good, State, Goes, Halts, left, restAt, rest, comes, Reached, Turned, Onward, Backward, Descended, Retreated, Ends, Ran, Ready, attemptBy, Done}
 use Rattle.walk.proofs.Ways.{left-none, left-some}
 use Rattle.walk.proofs.Going.{reached-none, reached-on, Next, next-enters, top-word, top-end}
 use Rattle.walk.proofs.Trying.{Tried, tried, pair-in}
-use Rattle.walk.proofs.Backing.{rest-top}
 
 pub state-of : (T : Tables) (holds : ℕ → ℕ → Bool) (n : ℕ) (Q : Type 0) (n₁ t₁ notes trail : List ℕ) (w₁ w : Walk)
     → Reached T holds n Q n₁ t₁ (comes T holds n n₁ t₁ w₁) notes trail w → State T holds n Q notes trail w

@@ -396,22 +396,22 @@ fn back(
 {
     let at = w.top - 1;
     let e = wide32(trail[at]);
-    let q = e % 256;
+    let place = e % 256;
     let row = e / 256 % 8192;
     let base = row * code.len();
     let j = e / 2097152;
     if j == 0 {
-        mark(notes, base + q);
+        mark(notes, base + place);
         return Walk {
             top: at,
             steps: w.steps,
-            place: q,
+            place,
             row,
             base,
             down: false,
         };
     }
-    go_on(trail, at, wide(stop[q]));
+    go_on(trail, at, wide(stop[place]));
     try_pair(
         code,
         entry,
@@ -524,7 +524,8 @@ fn run(
             trail,
             w,
         );
-        if w.down {
+        let found = w.down;
+        if found {
             return w;
         }
         w = retreat(
