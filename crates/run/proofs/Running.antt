@@ -28,7 +28,7 @@ use Rattle.text.specs.Put.{Put}
 use Rattle.text.specs.Report.{reportText}
 use Rattle.text.proofs.Inputs.{Parted, parted, printed-input}
 use Rattle.text.proofs.Writing.{put-long}
-use Rattle.run.specs.Run.{Ran, Counted, Found}
+use Rattle.run.specs.Run.{Ran, Counted, Found, Said}
 use Rattle.run.proofs.Joined.{room-accepts, no-query-answer, search-numbers, search-printed}
 
 -- ---- the measures
@@ -128,6 +128,9 @@ module _ (s : List ℕ) (i : Input) (given : i ≡ inputOf s) where
 module _ (s l m : List ℕ) (b : ℕ) (r : Ran s l m b) where
   pub ran-within : b ≤ length m
   ran-within = let p = r .text in omega (arith, put-long l 0 (printed s) m b p)
+
+  pub ran-said : Said b
+  ran-said = let e = r .text .ends in record { input = s; is = omega (arith, e) }
 
   pub ran-long : b ≡ length (take b m)
   ran-long = let w = ran-within in simp length-take (omega arith)

@@ -16,6 +16,11 @@ pub record Ran (input before after : List ℕ) (behind : ℕ) : Type 0 where
   pub text : Put before 0 (printed input) after behind
   pub enough : (s : List ℕ) → take 36867 s ≡ input → printed s ≡ printed input
 
+-- r bytes are what the program prints of some input
+pub record Said (r : ℕ) : Type 0 where
+  pub input : List ℕ
+  pub is : r ≡ length (printed input)
+
 -- k is the number of measures, for a query with no answer 1 to 9
 pub record Counted (q : List ℕ) (k : ℕ) : Type 0 where
   pub is : queryAnswer q ≡ 0 → k ≡ length (parts q .measures)

@@ -1,6 +1,6 @@
--- `on_streams` is safe: what `run` wrote lies within the buffer.
+-- `on_streams` hands on what `run` wrote, which lies within the buffer.
 use borrow.Author.Needs.{needs}
-use Rattle.run.proofs.Running.{ran-within, ran-long}
+use Rattle.run.proofs.Running.{ran-within, ran-long, ran-said}
 use Rattle.run.proofs.streams.on_streams.Statement.{statement}
 use Rattle.run.proofs.streams.on_streams.Tie as tie
 
@@ -32,7 +32,7 @@ write-all-requires : tie.Need-write-all-requires
 write-all-requires c κs = search needs
 
 returns : tie.Need-returns
-returns c = search needs
+returns c = ran-said _ _ _ _ (c .before .before .before .run .ensures)
 
 pub on-streams-spec : {M : Type 1} → statement M
 on-streams-spec =
