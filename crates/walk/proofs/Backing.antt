@@ -1,7 +1,7 @@
 -- The last open pair tries its next way, or fails where none is left.
 use mathlib.Core.Path.{_≡_, refl, sym, ap, _∙_}
 use mathlib.Core.List.{List}
-use mathlib.Core.Bool.{Bool, true, false}
+use mathlib.Core.Bool.{Bool, true, false, not}
 use mathlib.Core.Logic.{_≢_}
 use Prim.Native.Nat.{ℕ, zero, suc, _+_, _-_, _*_, _/_, _%_, _≤_, _<_}
 use native.Mathlib.Nat.{not-suc-le-zero}
@@ -15,13 +15,13 @@ use Rattle.rules.specs.Basics.{pick}
 use Rattle.rules.specs.Report.{bitAt}
 use Rattle.rules.proofs.Notes.{marked}
 use Rattle.walk.specs.declared.Walk.{Walk}
-use Rattle.walk.specs.Tables.{Tables, P, N, second, leftFrom, waysOf, passesBy}
-use Rattle.walk.specs.Step.{mem, placeIn, rowIn, wayIn, pairIn, stack, walkAt, after, wentOn, triedBy, Tries}
-use Rattle.walk.specs.State.{Word, rowFrom, wayAt, reach, Led, Stuck, Good, left, restAt, rest, comes, Halts, Backward}
+use Rattle.walk.specs.Tables.{Tables, P, N, second, leftFrom, waysOf}
+use Rattle.walk.specs.Step.{placeIn, rowIn, wayIn, pairIn, stack, walkAt, tryAt, after, wentOn, Noted}
+use Rattle.walk.specs.State.{Word, rowFrom, wayAt, reach, Led, Stuck, Good, left, restAt, rest, resumed, comes, Reached, Halts, Backward}
 use Rattle.walk.proofs.Ways.{left-none, left-some, ways-length, ways-later, takes-no-row}
 use Rattle.walk.proofs.Trails.{went-place, went-row, went-way, stack-same}
-use Rattle.walk.proofs.Going.{good-room, top-word, top-below, top-out, top-byte, leave-reached, leave-less}
-use Rattle.walk.proofs.Trying.{Tried, turn-tries, turn-tried}
+use Rattle.walk.proofs.Going.{good-room, comes-idle, top-word, top-below, top-out, top-byte, leave-reached, leave-less}
+use Rattle.walk.proofs.Trying.{turn-noted, turn-tried}
 
 -- ---- the way behind a way
 
@@ -41,6 +41,14 @@ after-some stop j h = go (ltb (j + 1) stop) refl h
     go true e h = (refl, ltb-true (j + 1) stop e)
     go false e h = absurd (not-suc-le-zero h)
 
+after-zero : (stop j : ℕ) → after stop j ≡ 0 → stop ≤ j + 1
+unfolding after
+after-zero stop j h = go (ltb (j + 1) stop) refl h
+  where
+    go : (b : Bool) → ltb (j + 1) stop ≡ b → pick b (j + 1) 0 ≡ 0 → stop ≤ j + 1
+    go true e h = absurd (omega arith)
+    go false e h = ltb-false (j + 1) stop e
+
 left-after : (T : Tables) (q j : ℕ) → leftFrom T q (after (getD (T .stop) q 0) j) ≡ getD (T .stop) q 0 - j - 1
 unfolding after
 left-after T q j = go (ltb (j + 1) (getD (T .stop) q 0)) refl
@@ -59,7 +67,7 @@ module _ (T : Tables) (holds : ℕ → ℕ → Bool) (n : ℕ) (Q : Type 0) (not
   e = getD trail (w .top - 1) 0
 
   abbrev g : Good T holds n Q notes trail w
-  g = h .state .good
+  g = h .idle .state .good
 
   abbrev q : ℕ
   q = placeIn e
@@ -68,7 +76,10 @@ module _ (T : Tables) (holds : ℕ → ℕ → Bool) (n : ℕ) (Q : Type 0) (not
   j = wayIn e
 
   stuck : Stuck T notes e
-  stuck = h .state .stands .stuck (h .down) (h .going)
+  stuck = h .idle .state .stands .stuck (h .idle .down) (h .idle .found) (h .going)
+
+  comes-is : resumed T holds n notes trail w ≡ comes T holds n notes trail w
+  comes-is = sym (comes-idle T holds n notes trail w (h .idle .down))
 
   word : Word T e
   word = top-word T holds n Q notes trail w g (h .going)
@@ -82,6 +93,9 @@ module _ (T : Tables) (holds : ℕ → ℕ → Bool) (n : ℕ) (Q : Type 0) (not
   pub back-at : w .top - 1 < length trail
   back-at = let r = top-room in let t = g .trailed in let k = h .going in omega arith
 
+  pub back-put : (a : ℕ) → a < 2048 → (w .top - 1 < length trail) × (a < 2048)
+  back-put a l = (back-at, l)
+
   -- ---- it fails
 
   module _ (u : ℕ) (eu : u ≡ e) where
@@ -94,25 +108,28 @@ module _ (T : Tables) (holds : ℕ → ℕ → Bool) (n : ℕ) (Q : Type 0) (not
     pub back-marks : ((u / 256 % 8192 * P T + u % 256) / 8 < length notes) × (bitAt notes (u / 256 % 8192 * P T + u % 256) ≡ false)
     back-marks = rw eu (top-byte T holds n Q notes trail w g (h .going), top-out T holds n Q notes trail w g (h .going))
 
-  all-tried : j ≡ 0 → (m : ℕ) → m < length (waysOf T q) → bitAt notes (wayAt T e m) ≡ true
-  unfolding reach
-  all-tried z m l = stuck .tried m (rw (left-none T q j z) (let k : m < suc (leftFrom T q (second T q)) = rw (ways-length T q) at l in omega arith))
-
-  popped : j ≡ 0 → (x r b : ℕ) → Backward T holds n Q notes trail w (marked notes (rowIn e * P T + q)) trail (walkAt (w .top - 1) (w .steps) x r b false)
-  popped z x r b =
-      let l = leave-less T holds n Q notes trail w g (h .going) (stuck .going) (all-tried z) x r b in
+  popped : ((m : ℕ) → m < length (waysOf T q) → bitAt notes (wayAt T e m) ≡ true) → (x r b : ℕ)
+      → Backward T holds n Q notes trail w (marked notes (rowIn e * P T + q)) trail (walkAt (w .top - 1) (w .steps) x r b false false)
+  popped all x r b =
+      let l = leave-less T holds n Q notes trail w g (h .going) (stuck .going) all x r b in
       record {
-        turned = record {
-          reached = leave-reached T holds n Q notes trail w g (h .going) (stuck .going) (all-tried z) x r b;
-          less = omega arith;
-          shut = λ c. absurd (omega arith);
-        };
+        reached = rw comes-is at (leave-reached T holds n Q notes trail w g (h .going) (stuck .going) all x r b);
+        found = refl;
+        less = omega arith;
         fewer = λ c. absurd (omega arith);
       }
 
-  pub back-popped : (u : ℕ) → u ≡ e → u / 2097152 ≡ 0 → (notes′ : List ℕ) → notes′ ≡ marked notes (u / 256 % 8192 * P T + u % 256)
-      → Backward T holds n Q notes trail w notes′ trail (walkAt (w .top - 1) (w .steps) (u % 256) (u / 256 % 8192) (u / 256 % 8192 * P T) false)
-  back-popped u eu z notes′ en = rw en (rw eu (popped (rw eu at z) q (rowIn e) (rowIn e * P T)))
+  none-left : j ≡ 0 → (m : ℕ) → m < length (waysOf T q) → bitAt notes (wayAt T e m) ≡ true
+  unfolding reach
+  none-left z m l = stuck .tried m (rw (left-none T q j z) (let k : m < suc (leftFrom T q (second T q)) = rw (ways-length T q) at l in omega arith))
+
+  module _ (u : ℕ) (eu : u ≡ e) (notes′ : List ℕ) (en : notes′ ≡ marked notes (u / 256 % 8192 * P T + u % 256)) where
+    as-read : Backward T holds n Q notes trail w (marked notes (rowIn e * P T + q)) trail (walkAt (w .top - 1) (w .steps) q (rowIn e) (rowIn e * P T) false false)
+        → Backward T holds n Q notes trail w notes′ trail (walkAt (w .top - 1) (w .steps) (u % 256) (u / 256 % 8192) (u / 256 % 8192 * P T) false false)
+    as-read b = rw en (rw eu b)
+
+    pub back-none : u / 2097152 ≤ 0 → Backward T holds n Q notes trail w notes′ trail (walkAt (w .top - 1) (w .steps) (u % 256) (u / 256 % 8192) (u / 256 % 8192 * P T) false false)
+    back-none z = as-read (popped (none-left (let d : u / 2097152 ≡ 0 = omega arith in rw eu at d)) q (rowIn e) (rowIn e * P T))
 
   -- ---- it tries its next way
 
@@ -139,7 +156,7 @@ module _ (T : Tables) (holds : ℕ → ℕ → Bool) (n : ℕ) (Q : Type 0) (not
     way-in = let a = stop-in in let b = word .before some in omega arith
 
     abbrev v : ℕ
-    v = wentOn stop e
+    v = wentOn (after stop j) e
 
     v-place : placeIn v ≡ q
     v-place = went-place e (after stop j) (after-small stop j stop-small)
@@ -222,9 +239,9 @@ module _ (T : Tables) (holds : ℕ → ℕ → Bool) (n : ℕ) (Q : Type 0) (not
           steps = g .steps;
         }
 
-    went-comes : comes T holds n notes trail₂ w ≡ comes T holds n notes trail w
-    unfolding comes
-    went-comes = rw stack-is
+    went-resumed : resumed T holds n notes trail₂ w ≡ resumed T holds n notes trail w
+    unfolding resumed
+    went-resumed = rw stack-is
 
     abbrev m : ℕ
     m = suc (j - first)
@@ -251,58 +268,83 @@ module _ (T : Tables) (holds : ℕ → ℕ → Bool) (n : ℕ) (Q : Type 0) (not
         go true d = let o = g .legal .sized .one q place (ltb-true (getD (T .code) q 0) 28 d) in let s = has-second in absurd (omega arith)
         go false d = let l = ltb-false (getD (T .code) q 0) 28 d in omega arith
 
+    row-here : rowIn e ≡ rowFrom T e
+    unfolding rowFrom
+    row-here = rw (takes-no-row T holds n q (rowIn e) place fork) (omega arith)
+
     row-from : rowIn e ≡ rowFrom T (getD trail₂ (w .top - 1) 0)
     unfolding rowFrom
     row-from = rw (on-top, v-place, v-row, takes-no-row T holds n q (rowIn e) place fork) (omega arith)
 
     module _ (k : ℕ) (ek : k ≡ getD (T .ways) j 0) where
-      way-is : k ≡ getD (waysOf T (placeIn (getD trail₂ (w .top - 1) 0))) m 0
-      way-is =
+      way-here : k ≡ getD (waysOf T q) m 0
+      way-here =
           let a = word .behind some in
           let b = word .before some in
           let l : j - first < leftFrom T q first = rw (left-some T q first has-second) (omega arith) in
           let d : j ≡ first + (j - first) = omega arith in
-          rw (on-top, v-place) (ek ∙ sym (ways-later T q j (j - first) d l))
+          ek ∙ sym (ways-later T q j (j - first) d l)
 
-      next-tries : Tries (T .code) (T .entry) Q notes trail₂ w k (rowIn e) (rowIn e * P T)
-      next-tries = turn-tries T holds n Q notes trail₂ w went-good (h .going) code-is m inside reaches before k (rowIn e) (rowIn e * P T) way-is row-from refl
+      way-is : k ≡ getD (waysOf T (placeIn (getD trail₂ (w .top - 1) 0))) m 0
+      way-is = rw (on-top, v-place) way-here
 
-      next-tried : (notes′ trail′ : List ℕ) (r : Walk)
-          → mem notes′ trail′ r ≡ triedBy (bitAt notes (rowIn e * P T + k)) (passesBy holds n (getD (T .code) k 0) (rowIn e)) (mem notes trail₂ w) k (rowIn e) (rowIn e * P T) (getD (T .entry) k 0)
-          → Backward T holds n Q notes trail w notes′ trail′ r
-      next-tried notes′ trail′ r d =
-          let t : Tried T holds n Q notes trail₂ w (comes T holds n notes trail₂ w) notes′ trail′ r =
-          turn-tried T holds n Q notes trail₂ w went-good (h .going) code-is m inside reaches before k (rowIn e) (rowIn e * P T) way-is row-from refl notes′ trail′ r d in
+      way-noted : Noted notes (rowIn e * P T + k)
+      way-noted = turn-noted T holds n Q notes trail₂ w went-good (h .going) code-is m inside reaches before k (rowIn e) (rowIn e * P T) way-is row-from refl
+
+      -- the pair of the way is tried
+      way-tried : Backward T holds n Q notes trail w notes trail₂ (tryAt notes (w .top) (w .steps) k (rowIn e) (rowIn e * P T))
+      unfolding left
+      way-tried =
+          let t : Reached T holds n Q notes trail₂ (resumed T holds n notes trail₂ w) notes trail₂ (tryAt notes (w .top) (w .steps) k (rowIn e) (rowIn e * P T)) =
+          turn-tried T holds n Q notes trail₂ w went-good (h .going) code-is m inside reaches before k (rowIn e) (rowIn e * P T) way-is row-from refl in
           let o = top-room in
           let gg = h .going in
           record {
-            turned = record {
-              reached = record {
-                good = t .reached .good;
-                stands = t .reached .stands;
-                same = t .reached .same ∙ went-comes;
-                notes-long = t .reached .notes-long;
-                trail-long = t .reached .trail-long ∙ length-set trail (w .top - 1) v;
-                notes-beyond = t .reached .notes-beyond;
-                trail-beyond = λ i l. t .reached .trail-beyond i l ∙ getD-set-other trail (w .top - 1) i v 0 (λ (z : i ≡ w .top - 1). omega arith);
-              };
-              less = t .less;
-              shut = λ l. (t .shut l .0, t .shut l .1);
+            reached = record {
+              good = t .good;
+              stands = t .stands;
+              same = t .same ∙ went-resumed ∙ comes-is;
+              notes-long = refl;
+              trail-long = length-set trail (w .top - 1) v;
+              notes-beyond = λ z l. refl;
+              trail-beyond = λ i l. getD-set-other trail (w .top - 1) i v 0 (λ (z : i ≡ w .top - 1). omega arith);
             };
-            fewer = λ l. fewer (t .shut l);
+            found = refl;
+            less = omega arith;
+            fewer = λ _. fewer;
           }
         where
-          fewer : (r .down ≡ false) × (r .top ≡ w .top) × (trail′ ≡ trail₂) → rest T trail′ r < rest T trail w
-          fewer s =
+          fewer : restAt T trail₂ (w .top) < restAt T trail (w .top)
+          fewer =
               let b = word .before some in
               let a : restAt T trail₂ (w .top) ≡ stop - j - 1 = rest-top T trail₂ (w .top) (h .going) ∙ rw (on-top, v-place, v-way) (left-after T q j) in
               let c : restAt T trail (w .top) ≡ stop - j = rest-top T trail (w .top) (h .going) ∙ left-some T q j some in
-              rw (s .1, s .2, a, c) (omega arith)
+              rw (a, c) (omega arith)
+
+      -- it was the last way, and its pair has failed: so have all
+      all-left : after stop j ≡ 0 → bitAt notes (rowIn e * P T + k) ≡ true → (i : ℕ) → i < length (waysOf T q) → bitAt notes (wayAt T e i) ≡ true
+      unfolding wayAt
+      all-left z o i l = elim (ℕ-discrete i m) [
+        | yes d ↦ rw d last
+        | no d ↦
+            let c : i ≢ m = d in
+            let a = word .behind some in
+            let b = word .before some in
+            let s = after-zero stop j z in
+            let t : i < suc (stop - first) = rw (ways-length T q, left-some T q first has-second) at l in
+            stuck .tried i (rw reach-e (omega arith))
+      ]
+        where
+          pair-is : wayAt T e m ≡ rowIn e * P T + k
+          pair-is = rw (row-here, way-here)
+
+          last : bitAt notes (wayAt T e m) ≡ true
+          last = rw pair-is o
 
   -- as the code reads it
-  module _ (u : ℕ) (eu : u ≡ e) (nz : u / 2097152 ≡ 0 → ⊥) where
+  module _ (u : ℕ) (eu : u ≡ e) (nz : 0 < u / 2097152) where
     some-way : 0 < j
-    some-way = let d : u / 2097152 ≢ 0 = nz in rw eu at (let l : 0 < u / 2097152 = omega arith in l)
+    some-way = rw eu at nz
 
     pub back-place : u % 256 < length (T .stop)
     back-place = rw (eu, g .legal .sized .stops) (word .place)
@@ -311,17 +353,27 @@ module _ (T : Tables) (holds : ℕ → ℕ → Bool) (n : ℕ) (Q : Type 0) (not
     back-way = rw eu (way-in some-way)
 
     module _ (s : ℕ) (es : s ≡ getD (T .stop) (u % 256) 0) where
-      pub back-on : (w .top - 1 < length trail) × (s ≤ 2048)
-      back-on = (back-at, rw (es, eu) (stop-small some-way))
+      pub back-stop : (u / 2097152 < 65536) × (s ≤ 2048)
+      back-stop =
+          let a = stop-in some-way in
+          let b = g .legal .sized .ways in
+          let c = way-in some-way in
+          (rw eu (omega arith), rw (es, eu) (stop-small some-way))
 
-      module _ (t : List ℕ) (et : t ≡ set trail (w .top - 1) (wentOn s (getD trail (w .top - 1) 0))) (k : ℕ) (ek : k ≡ getD (T .ways) (u / 2097152) 0) where
-        trail-is : t ≡ trail₂ some-way
-        trail-is = et ∙ rw (es, eu)
+      module _ (k : ℕ) (ek : k ≡ getD (T .ways) (u / 2097152) 0) where
+        pub back-noted : Noted notes (u / 256 % 8192 * P T + k)
+        back-noted = rw eu (way-noted some-way k (rw eu at ek))
 
-        pub back-tries : Tries (T .code) (T .entry) Q notes t w k (u / 256 % 8192) (u / 256 % 8192 * P T)
-        back-tries = rw (trail-is, eu) (next-tries some-way k (rw eu at ek))
+        module _ (a : ℕ) (ea : a ≡ after s (u / 2097152)) (f : Bool) (ef : f ≡ bitAt notes (u / 256 % 8192 * P T + k)) where
+          pub back-tried : (t : List ℕ) → t ≡ set trail (w .top - 1) (wentOn a u) → (d : Bool) → not f ≡ d
+              → Backward T holds n Q notes trail w notes t (walkAt (w .top) (w .steps) k (u / 256 % 8192) (u / 256 % 8192 * P T) d false)
+          back-tried t et d ed =
+              let b : set trail (w .top - 1) (wentOn a u) ≡ trail₂ some-way = rw (ea, es, eu) in
+              let x : Backward T holds n Q notes trail w notes (trail₂ some-way) (tryAt notes (w .top) (w .steps) k (rowIn e) (rowIn e * P T)) = way-tried some-way k (rw eu at ek) in
+              rw (et, b, ← ed, ef, eu) x
 
-        pub back-tried : (notes′ trail′ : List ℕ) (r : Walk)
-            → mem notes′ trail′ r ≡ triedBy (bitAt notes (u / 256 % 8192 * P T + k)) (passesBy holds n (getD (T .code) k 0) (u / 256 % 8192)) (mem notes t w) k (u / 256 % 8192) (u / 256 % 8192 * P T) (getD (T .entry) k 0)
-            → Backward T holds n Q notes trail w notes′ trail′ r
-        back-tried notes′ trail′ r d = next-tried some-way k (rw eu at ek) notes′ trail′ r (rw (trail-is, eu) at d)
+          pub back-last : f ≡ true → a ≤ 0 → (notes′ : List ℕ) → notes′ ≡ marked notes (u / 256 % 8192 * P T + u % 256)
+              → Backward T holds n Q notes trail w notes′ trail (walkAt (w .top - 1) (w .steps) (u % 256) (u / 256 % 8192) (u / 256 % 8192 * P T) false false)
+          back-last t z notes′ en =
+              as-read u eu notes′ en
+              (popped (all-left some-way k (rw eu at ek) (let y : a ≡ 0 = omega arith in let x : after (getD (T .stop) (u % 256) 0) (u / 2097152) ≡ 0 = rw (← es, ← ea) y in rw eu at x) (rw eu at (sym ef ∙ t))) q (rowIn e) (rowIn e * P T))

@@ -1,4 +1,4 @@
--- An attempt that goes on: entering a pair and leaving one keep what holds of it (`Good`, `Stands`), the state comes to what it came to before, and less is left.
+-- An attempt that goes on: opening a pair and leaving one keep what holds of it (`Good`, `Stands`), the state comes to what it came to before, and less is left.
 use mathlib.Core.Path.{_≡_, refl, sym, ap, _∙_}
 use mathlib.Core.List.{List, [], _∷_, reverseAux, map}
 use mathlib.Core.Bool.{Bool, true, false, false≢true, true≢false}
@@ -19,8 +19,8 @@ use Rattle.rules.proofs.Notes.{marked, bitsOf, bitsOf-at, bitsFrom-length, bits
 use Rattle.rules.proofs.Walk.{All, count-mark}
 use Rattle.walk.specs.declared.Walk.{Walk}
 use Rattle.walk.specs.Tables.{Tables, P, N, second, waysOf, graphOf, passesBy}
-use Rattle.walk.specs.Step.{placeIn, rowIn, wayIn, pairIn, stack, walkAt, outcomeBy, Enters}
-use Rattle.walk.specs.State.{Onto, Linked, Passing, Word, rowFrom, wayAt, Led, Stuck, Good, Stands, State, left, comes, Reached}
+use Rattle.walk.specs.Step.{placeIn, rowIn, wayIn, pairIn, stack, walkAt, outcomeBy}
+use Rattle.walk.specs.State.{Onto, Linked, Passing, Word, rowFrom, wayAt, Led, Stuck, Good, Next, Ends, Stands, State, left, resumed, entering, comes, Reached}
 use Rattle.walk.proofs.Ways.{pair-row, pair-place, ways-shut, ways-end, ways-are, leads-each}
 use Rattle.walk.proofs.Trails.{word-row, word-place, entry-place, entry-row, entry-way, stack-length, stack-push, stack-top, linked-under}
 
@@ -36,9 +36,9 @@ good-room T holds n Q notes trail w g =
     rw (stack-length (P T) trail (w .top)) at (open-room (g .legal .ρ) (N T n) (bitsOf notes (N T n)) (stack (P T) trail (w .top)) (bitsFrom-length notes (N T n) 0) (g .opened))
 
 -- it is one of the open pairs and the steps alone
-pub good-as : (T : Tables) (holds : ℕ → ℕ → Bool) (n : ℕ) (Q : Type 0) (notes trail : List ℕ) (t s q r b : ℕ) (d : Bool) (q′ r′ b′ : ℕ) (d′ : Bool)
-    → Good T holds n Q notes trail (walkAt t s q r b d) → Good T holds n Q notes trail (walkAt t s q′ r′ b′ d′)
-good-as T holds n Q notes trail t s q r b d q′ r′ b′ d′ g =
+unfoldable pub good-as : (T : Tables) (holds : ℕ → ℕ → Bool) (n : ℕ) (Q : Type 0) (notes trail : List ℕ) (t s q r b : ℕ) (d f : Bool) (q′ r′ b′ : ℕ) (d′ f′ : Bool)
+    → Good T holds n Q notes trail (walkAt t s q r b d f) → Good T holds n Q notes trail (walkAt t s q′ r′ b′ d′ f′)
+good-as T holds n Q notes trail t s q r b d f q′ r′ b′ d′ f′ g =
     record {
       legal = g .legal;
       asks = g .asks;
@@ -51,6 +51,16 @@ good-as T holds n Q notes trail t s q r b d q′ r′ b′ d′ g =
       led = g .led;
       steps = g .steps;
     }
+
+-- what a state comes to, where no pair is to be entered, and where one is
+pub comes-idle : (T : Tables) (holds : ℕ → ℕ → Bool) (n : ℕ) (notes trail : List ℕ) (w : Walk) → w .down ≡ false → comes T holds n notes trail w ≡ resumed T holds n notes trail w
+unfolding comes
+comes-idle T holds n notes trail w d = rw d
+
+pub comes-next : (T : Tables) (holds : ℕ → ℕ → Bool) (n : ℕ) (notes trail : List ℕ) (w : Walk) → w .down ≡ true
+    → comes T holds n notes trail w ≡ entering T holds n notes trail w (w .base + w .place)
+unfolding comes
+comes-next T holds n notes trail w d = rw d
 
 -- a state comes to itself
 pub reached-none : (T : Tables) (holds : ℕ → ℕ → Bool) (n : ℕ) (Q : Type 0) (notes trail : List ℕ) (w : Walk) → State T holds n Q notes trail w
@@ -94,15 +104,6 @@ module _ (T : Tables) (notes notes′ : List ℕ) (e y : ℕ) (l : Led T notes e
 
 -- ---- a pair is entered
 
--- the pair of place q at a row is the next to be entered
-pub record Next (T : Tables) (holds : ℕ → ℕ → Bool) (n : ℕ) (Q : Type 0) (notes trail : List ℕ) (w : Walk) (q row base : ℕ) : Type 0 where
-  pub good : Good T holds n Q notes trail w
-  pub place : q < P T
-  pub base-is : base ≡ row * P T
-  pub opened : Open (good .legal .ρ) (N T n) (bitsOf notes (N T n)) ((base + q) ∷ stack (P T) trail (w .top))
-  pub linked : Linked T ((base + q) ∷ stack (P T) trail (w .top))
-  pub led : 0 < w .top → Led T notes (getD trail (w .top - 1) 0) (base + q)
-
 module _ (T : Tables) (holds : ℕ → ℕ → Bool) (n : ℕ) (Q : Type 0) (notes trail : List ℕ) (w : Walk) (q row base : ℕ) (h : Next T holds n Q notes trail w q row base) where
   abbrev y : ℕ
   y = base + q
@@ -115,7 +116,7 @@ module _ (T : Tables) (holds : ℕ → ℕ → Bool) (n : ℕ) (Q : Type 0) (not
 
   -- what it comes to once the pair is entered
   abbrev then : Outcome
-  then = resume (graphOf T holds n) (N T n) (y ∷ stack (P T) trail (w .top)) G (suc (w .steps))
+  then = entering T holds n notes trail w y
 
   abbrev passing : Bool
   passing = passesBy holds n (getD (T .code) q 0) row
@@ -123,18 +124,18 @@ module _ (T : Tables) (holds : ℕ → ℕ → Bool) (n : ℕ) (Q : Type 0) (not
   below : y < N T n
   below = h .opened .pairs .0
 
-  row-le : row ≤ n
-  row-le =
+  pub next-row : row ≤ n
+  next-row =
       let l : y < suc n * P T = rw (mul-comm (suc n) (P T)) below in
       let k : y / P T < suc n = div-lt-iff-lt-mul (h .good .legal .sized .some) .1 l in
       let d : y / P T ≡ row = rw (h .base-is) (digits-div row (h .place)) in
       omega arith
 
-  few : row ≤ 4096
-  few = let a = row-le in let b = h .good .legal .rows in omega arith
+  pub next-few : row ≤ 4096
+  next-few = let a = next-row in let b = h .good .legal .rows in omega arith
 
-  out : bitAt notes y ≡ false
-  out = sym (bitsOf-at notes (N T n) y below) ∙ h .opened .out .0
+  pub next-out : bitAt notes y ≡ false
+  next-out = sym (bitsOf-at notes (N T n) y below) ∙ h .opened .out .0
 
   room : w .top + 1 + countTrue G ≤ N T n
   room =
@@ -154,51 +155,47 @@ module _ (T : Tables) (holds : ℕ → ℕ → Bool) (n : ℕ) (Q : Type 0) (not
         omega arith
   ]
 
-  pub next-enters : Enters (T .code) (T .entry) Q notes trail w q row base
-  next-enters =
-      let g = h .good in
-      let z = g .legal .sized in
-      let b = below in
-      let r = room in
-      let no = g .noted in
-      let tr = g .trailed in
-      let sm = g .legal .small in
-      let st = g .steps in
+  pub next-noted : (y < 2097152) × (y / 8 < length notes)
+  next-noted = let b = below in let no = h .good .noted in let sm = h .good .legal .small in (omega arith, omega arith)
+
+  pub next-room : w .top < length trail
+  next-room = let r = room in let tr = h .good .trailed in omega arith
+
+  pub next-small : w .top < 2097152
+  next-small = let r = room in let sm = h .good .legal .small in omega arith
+
+  pub next-steps : w .steps + 1 < 18446744073709551616
+  next-steps = let r = room in let st = h .good .steps in omega arith
+
+  pub next-word : row * 256 + getD (T .entry) q 0 < 4294967296
+  next-word =
+      let z = h .good .legal .sized in
       let se = second-small in
       let en = z .entry q (h .place) in
-      let f = few in
+      let f = next-few in
       let p = h .place in
       let pf = z .few in
-      record {
-        known = record { asks = g .asks; place = h .place };
-        entry = rw (z .entries) (h .place);
-        small = omega arith;
-        word = omega arith;
-        byte = omega arith;
-        out = out;
-        room = omega arith;
-        steps = omega arith;
-      }
+      omega arith
 
   keeps : (z : ℕ) → bitAt notes z ≡ true → bitAt (marked notes y) z ≡ true
-  keeps = keeps-marked notes y (next-enters .byte) out
+  keeps = keeps-marked notes y (next-noted .1) next-out
 
   -- it passes
   module _ (p : passing ≡ true) where
-    v-place : placeIn v ≡ q
-    v-place = entry-place T (h .good .legal .sized) q row (h .place) few
+    pub v-place : placeIn v ≡ q
+    v-place = entry-place T (h .good .legal .sized) q row (h .place) next-few
 
-    v-row : rowIn v ≡ row
-    v-row = entry-row T (h .good .legal .sized) q row (h .place) few
+    pub v-row : rowIn v ≡ row
+    v-row = entry-row T (h .good .legal .sized) q row (h .place) next-few
 
-    v-way : wayIn v ≡ second T q
-    v-way = entry-way T (h .good .legal .sized) q row (h .place) few
+    pub v-way : wayIn v ≡ second T q
+    v-way = entry-way T (h .good .legal .sized) q row (h .place) next-few
 
     pair-is : pairIn (P T) v ≡ y
     pair-is = rw (v-place, v-row, h .base-is)
 
     stack-is : stack (P T) (set trail (w .top) v) (w .top + 1) ≡ y ∷ stack (P T) trail (w .top)
-    stack-is = stack-push (P T) trail (w .top) v (next-enters .room) ∙ ap (λ (z : ℕ). z ∷ stack (P T) trail (w .top)) pair-is
+    stack-is = stack-push (P T) trail (w .top) v next-room ∙ ap (λ (z : ℕ). z ∷ stack (P T) trail (w .top)) pair-is
 
     y-passes : Passing T holds n y
     unfolding Passing
@@ -215,7 +212,7 @@ module _ (T : Tables) (holds : ℕ → ℕ → Bool) (n : ℕ) (Q : Type 0) (not
 
     open-words : (k : ℕ) → k < w .top + 1 → Word T (getD (set trail (w .top) v) k 0)
     open-words k l = elim (ℕ-discrete k (w .top)) [
-      | yes e ↦ rw (e, getD-set-same trail (w .top) v 0 (next-enters .room)) v-word
+      | yes e ↦ rw (e, getD-set-same trail (w .top) v 0 next-room) v-word
       | no d ↦ let c : k ≢ w .top = d in rw (getD-set-other trail (w .top) k v 0 d) (h .good .words k (omega arith))
     ]
 
@@ -230,10 +227,10 @@ module _ (T : Tables) (holds : ℕ → ℕ → Bool) (n : ℕ) (Q : Type 0) (not
         last : suc k ≡ w .top → Led T notes (getD trail k 0) (pairIn (P T) (getD (set trail (w .top) v) (suc k) 0))
         last e =
             let i : w .top - 1 ≡ k = omega arith in
-            rw (e, getD-set-same trail (w .top) v 0 (next-enters .room), pair-is) (rw i at (h .led (omega arith)))
+            rw (e, getD-set-same trail (w .top) v 0 next-room, pair-is) (rw i at (h .led (omega arith)))
 
-    open-good : Good T holds n Q notes (set trail (w .top) v) (walkAt (w .top + 1) (w .steps + 1) q row base true)
-    open-good =
+    pub open-good : (d f : Bool) → Good T holds n Q notes (set trail (w .top) v) (walkAt (w .top + 1) (w .steps + 1) q row base d f)
+    open-good d f =
         let g = h .good in
         let r = room in
         let s = g .steps in
@@ -250,35 +247,43 @@ module _ (T : Tables) (holds : ℕ → ℕ → Bool) (n : ℕ) (Q : Type 0) (not
           steps = omega arith;
         }
 
-    open-stands : Stands T notes (set trail (w .top) v) (walkAt (w .top + 1) (w .steps + 1) q row base true)
-    open-stands =
-        let o : w .top + 1 - 1 ≡ w .top = omega arith in
-        record {
-          fresh = λ _. record {
-            going = omega arith;
-            spot = rw (o, getD-set-same trail (w .top) v 0 (next-enters .room)) (record { place = v-place; row = v-row; base = h .base-is });
-            way = rw (o, getD-set-same trail (w .top) v 0 (next-enters .room), v-place, v-way);
-          };
-          stuck = λ (d : true ≡ false). absurd (true≢false d);
-        }
+    pub open-top : getD (set trail (w .top) v) (w .top + 1 - 1) 0 ≡ v
+    open-top = let o : w .top + 1 - 1 ≡ w .top = omega arith in rw (o, getD-set-same trail (w .top) v 0 next-room)
 
-    pub open-reached : Reached T holds n Q notes trail then notes (set trail (w .top) v) (walkAt (w .top + 1) (w .steps + 1) q row base true)
-    unfolding comes
-    open-reached =
-        let r = room in
+    pub open-resumed : (d f : Bool) → resumed T holds n notes (set trail (w .top) v) (walkAt (w .top + 1) (w .steps + 1) q row base d f) ≡ then
+    unfolding resumed entering
+    open-resumed d f = rw (stack-is, add-one (w .steps))
+
+    -- as it was before, but for the trail at the new pair
+    pub open-reached : (r : Walk) → Good T holds n Q notes (set trail (w .top) v) r → Stands T holds n Q notes (set trail (w .top) v) r
+        → comes T holds n notes (set trail (w .top) v) r ≡ then → Reached T holds n Q notes trail then notes (set trail (w .top) v) r
+    open-reached r good stands same =
+        let a = room in
         record {
-          good = open-good;
-          stands = open-stands;
-          same = rw (stack-is, add-one (w .steps));
+          good = good;
+          stands = stands;
+          same = same;
           notes-long = refl;
           trail-long = length-set trail (w .top) v;
           notes-beyond = λ z l. refl;
           trail-beyond = λ k l. getD-set-other trail (w .top) k v 0 (λ (e : k ≡ w .top). omega arith);
         }
 
-    pub open-less : left (N T n) notes (walkAt (w .top + 1) (w .steps + 1) q row base true) < left (N T n) notes w
+    -- END is open
+    pub open-end : 28 < getD (T .code) q 0 → Reached T holds n Q notes trail then notes (set trail (w .top) v) (walkAt (w .top + 1) (w .steps + 1) q row base false true)
+    open-end l = open-reached (walkAt (w .top + 1) (w .steps + 1) q row base false true) (open-good false true) stands (comes-idle T holds n notes _ _ refl ∙ open-resumed false true)
+      where
+        stands : Stands T holds n Q notes (set trail (w .top) v) (walkAt (w .top + 1) (w .steps + 1) q row base false true)
+        stands =
+            record {
+              next = λ (d : false ≡ true). absurd (false≢true d);
+              stuck = λ _ (d : true ≡ false). absurd (true≢false d);
+              ends = λ _. record { spot = rw open-top (record { place = v-place; row = v-row; base = h .base-is }); end = l };
+            }
+
+    pub open-less : (k r b : ℕ) (d f : Bool) → left (N T n) notes (walkAt (w .top + 1) (w .steps + 1) k r b d f) < left (N T n) notes w
     unfolding left
-    open-less = let r = room in omega arith
+    open-less k r b d f = let a = room in omega arith
 
   -- it does not pass
   module _ (p : passing ≡ false) where
@@ -286,7 +291,7 @@ module _ (T : Tables) (holds : ℕ → ℕ → Bool) (n : ℕ) (Q : Type 0) (not
     G′ = bitsOf (marked notes y) (N T n)
 
     bits-is : G′ ≡ set G y true
-    bits-is = bits-mark notes (N T n) y below (next-enters .byte) out
+    bits-is = bits-mark notes (N T n) y below (next-noted .1) next-out
 
     count-is : countTrue G′ ≡ suc (countTrue G)
     count-is = rw bits-is (count-mark G y (rw (bitsFrom-length notes (N T n) 0) below) (h .opened .out .0))
@@ -296,7 +301,7 @@ module _ (T : Tables) (holds : ℕ → ℕ → Bool) (n : ℕ) (Q : Type 0) (not
         sym (bitsOf-at (marked notes y) (N T n) y below) ∙ ap (λ (l : List Bool). getD l y false) bits-is
         ∙ getD-set-same G y true false (rw (bitsFrom-length notes (N T n) 0) below)
 
-    shut-good : Good T holds n Q (marked notes y) trail (walkAt (w .top) (w .steps + 1) (w .place) (w .row) (w .base) false)
+    shut-good : Good T holds n Q (marked notes y) trail (walkAt (w .top) (w .steps + 1) (w .place) (w .row) (w .base) false false)
     unfolding marked
     shut-good =
         let g = h .good in
@@ -316,33 +321,33 @@ module _ (T : Tables) (holds : ℕ → ℕ → Bool) (n : ℕ) (Q : Type 0) (not
           steps = omega arith;
         }
 
-    shut-stands : Stands T (marked notes y) trail (walkAt (w .top) (w .steps + 1) (w .place) (w .row) (w .base) false)
-    shut-stands = record { fresh = λ (d : false ≡ true). absurd (false≢true d); stuck = λ _ l. led-stuck T notes (marked notes y) _ _ (h .led l) keeps shut-marked }
+    shut-stands : Stands T holds n Q (marked notes y) trail (walkAt (w .top) (w .steps + 1) (w .place) (w .row) (w .base) false false)
+    shut-stands = record { next = λ (d : false ≡ true). absurd (false≢true d); ends = λ (d : false ≡ true). absurd (false≢true d); stuck = λ _ _ l. led-stuck T notes (marked notes y) _ _ (h .led l) keeps shut-marked }
 
     nothing : graphOf T holds n y ≡ try []
     nothing = rw (h .base-is) (ways-shut T holds n q row (h .place) p)
 
-    shut-same : comes T holds n (marked notes y) trail (walkAt (w .top) (w .steps + 1) (w .place) (w .row) (w .base) false) ≡ then
-    unfolding comes firstOpen
+    shut-same : resumed T holds n (marked notes y) trail (walkAt (w .top) (w .steps + 1) (w .place) (w .row) (w .base) false false) ≡ then
+    unfolding resumed entering firstOpen
     shut-same =
         rw (bits-is, add-one (w .steps))
         (sym (resume-pop (graphOf T holds n) (h .good .legal .ρ) (N T n) (h .good .legal .falls) (N T n) (h .good .legal .bound) (stack (P T) trail (w .top)) G (suc (w .steps)) y [] nothing refl))
 
-    pub shut-reached : Reached T holds n Q notes trail then (marked notes y) trail (walkAt (w .top) (w .steps + 1) (w .place) (w .row) (w .base) false)
+    pub shut-reached : Reached T holds n Q notes trail then (marked notes y) trail (walkAt (w .top) (w .steps + 1) (w .place) (w .row) (w .base) false false)
     unfolding marked
     shut-reached =
         let b = below in
         record {
           good = shut-good;
           stands = shut-stands;
-          same = shut-same;
+          same = comes-idle T holds n _ _ _ refl ∙ shut-same;
           notes-long = length-set notes (y / 8) _;
           trail-long = refl;
-          notes-beyond = λ z l. bit-keep notes y z (next-enters .byte) out (λ (e : z ≡ y). omega arith);
+          notes-beyond = λ z l. bit-keep notes y z (next-noted .1) next-out (λ (e : z ≡ y). omega arith);
           trail-beyond = λ k l. refl;
         }
 
-    pub shut-less : left (N T n) (marked notes y) (walkAt (w .top) (w .steps + 1) (w .place) (w .row) (w .base) false) < left (N T n) notes w
+    pub shut-less : left (N T n) (marked notes y) (walkAt (w .top) (w .steps + 1) (w .place) (w .row) (w .base) false false) < left (N T n) notes w
     unfolding left
     shut-less = let r = room in let c = count-is in omega arith
 
@@ -420,8 +425,8 @@ module _ (T : Tables) (holds : ℕ → ℕ → Bool) (n : ℕ) (Q : Type 0) (not
       rw (row-is, place-is) at (a .0)
 
   -- END is on top: the open pairs are the path
-  pub top-end : 28 < getD (T .code) (placeIn e) 0 → comes T holds n notes trail w ≡ outcomeBy (P T) (w .top) trail (bitsOf notes (N T n)) (w .steps)
-  unfolding comes
+  pub top-end : 28 < getD (T .code) (placeIn e) 0 → resumed T holds n notes trail w ≡ outcomeBy (P T) (w .top) trail (bitsOf notes (N T n)) (w .steps)
+  unfolding resumed
   top-end h =
       let d : graphOf T holds n x ≡ accept = ways-end T holds n (placeIn e) (rowIn e) (top-word .place) h in
       let a : resume (graphOf T holds n) (N T n) (stack (P T) trail (w .top)) F (w .steps) ≡ found (reverseAux (stack (P T) trail (w .top)) []) F (w .steps) =
@@ -483,8 +488,8 @@ module _ (T : Tables) (holds : ℕ → ℕ → Bool) (n : ℕ) (Q : Type 0) (not
               led = λ _. led;
             }
 
-        pub next-same : resume (graphOf T holds n) (N T n) ((base + q) ∷ stack (P T) trail (w .top)) F (suc (w .steps)) ≡ comes T holds n notes trail w
-        unfolding comes
+        pub next-same : entering T holds n notes trail w (base + q) ≡ resumed T holds n notes trail w
+        unfolding resumed entering
         next-same =
             rw (top-is, y-is)
             (sym (resume-push (graphOf T holds n) (g .legal .ρ) (N T n) (g .legal .falls) (N T n) (g .legal .bound) (stack (P T) trail (w .top - 1)) F (w .steps) x ys (wayAt T e m) tries first
@@ -512,7 +517,7 @@ module _ (T : Tables) (holds : ℕ → ℕ → Bool) (n : ℕ) (Q : Type 0) (not
 
       module _ (q row base : ℕ) where
         abbrev under : Walk
-        under = walkAt (w .top - 1) (w .steps) q row base false
+        under = walkAt (w .top - 1) (w .steps) q row base false false
 
         leave-good : Good T holds n Q (marked notes x) trail under
         unfolding marked
@@ -534,8 +539,9 @@ module _ (T : Tables) (holds : ℕ → ℕ → Bool) (n : ℕ) (Q : Type 0) (not
             }
 
         -- the pair below had tried it last
-        leave-stands : Stands T (marked notes x) trail under
-        leave-stands = record { fresh = λ (d : false ≡ true). absurd (false≢true d); stuck = λ _ l. below (w .top - 1) refl l }
+        leave-stands : Stands T holds n Q (marked notes x) trail under
+        leave-stands =
+            record { next = λ (d : false ≡ true). absurd (false≢true d); ends = λ (d : false ≡ true). absurd (false≢true d); stuck = λ _ _ l. below (w .top - 1) refl l }
           where
             below : (t : ℕ) → w .top - 1 ≡ t → 0 < t → Stuck T (marked notes x) (getD trail (t - 1) 0)
             below zero d l = absurd (not-suc-le-zero l)
@@ -544,14 +550,20 @@ module _ (T : Tables) (holds : ℕ → ℕ → Bool) (n : ℕ) (Q : Type 0) (not
                 let k : Led T notes (getD trail t 0) (pairIn (P T) (getD trail (suc t) 0)) = g .led t (omega arith) in
                 rw i (led-stuck T notes (marked notes x) (getD trail t 0) x (rw (← d) at k) (keeps-marked notes x top-byte top-out) marked-it)
 
-        pub leave-reached : Reached T holds n Q notes trail (comes T holds n notes trail w) (marked notes x) trail under
-        unfolding marked comes
+        leave-same : resumed T holds n (marked notes x) trail under ≡ resumed T holds n notes trail w
+        unfolding resumed
+        leave-same =
+            rw (top-is, marked-is)
+            (sym (resume-pop (graphOf T holds n) (g .legal .ρ) (N T n) (g .legal .falls) (N T n) (g .legal .bound) (stack (P T) trail (w .top - 1)) F (w .steps) x ys tries shut))
+
+        pub leave-reached : Reached T holds n Q notes trail (resumed T holds n notes trail w) (marked notes x) trail under
+        unfolding marked
         leave-reached =
             let b = top-below in
             record {
               good = leave-good;
               stands = leave-stands;
-              same = rw (top-is, marked-is) (sym (resume-pop (graphOf T holds n) (g .legal .ρ) (N T n) (g .legal .falls) (N T n) (g .legal .bound) (stack (P T) trail (w .top - 1)) F (w .steps) x ys tries shut));
+              same = comes-idle T holds n _ _ _ refl ∙ leave-same;
               notes-long = length-set notes (x / 8) _;
               trail-long = refl;
               notes-beyond = λ z l. bit-keep notes x z top-byte top-out (λ (e : z ≡ x). omega arith);

@@ -1,13 +1,13 @@
 -- What the small functions do, one law for each way through their code: a letter's range, a place that passes, a pair entered or tried, and the way behind a way.
 use mathlib.Core.Path.{_≡_, refl, sym, _∙_}
 use mathlib.Core.List.{List}
-use mathlib.Core.Bool.{Bool, true, false}
+use mathlib.Core.Bool.{Bool, true, false, not}
 use Prim.Native.Nat.{ℕ, _+_, _-_, _*_, _/_, _%_, _≤_, _<_}
 use native.Mathlib.Nat.{mul-le-mul}
 use native.Mathlib.Omega.{arith}
 use lib.Dec.{eqb}
 use lib.IntN.{ℤ}
-use lib.ListN.{getD, set}
+use lib.ListN.{length, getD, set}
 use borrow.Author.Tests.{ne-eqb, lt-ltb, le-ltb}
 use Rattle.rules.specs.Report.{bitAt}
 use Rattle.rules.specs.Rows.{tableOf, holds}
@@ -17,7 +17,8 @@ use Rattle.letters.specs.Letters.{At, LetterRoom}
 use Rattle.walk.specs.declared.Walk.{Walk}
 use Rattle.walk.specs.Letters.{holdsIn, Lettered}
 use Rattle.walk.specs.Tables.{passesBy}
-use Rattle.walk.specs.Step.{mem, walkAt, after, wentOn, enteredBy, triedBy, Enters, Tries}
+use Rattle.walk.specs.Step.{mem, walkAt, tryAt, after, openedBy, enteredBy, Noted, Enters}
+use Rattle.walk.proofs.Trying.{letter-in}
 
 -- ---- a letter
 
@@ -61,32 +62,40 @@ module _ (holds : ℕ → ℕ → Bool) (n c i : ℕ) where
   unfolding passesBy
   passes-any l a b = rw (le-ltb c 26 l, ne-eqb c 26 a, ne-eqb c 27 b)
 
--- ---- a pair is entered, and tried
+  pub passes-fork : c ≡ 28 → true ≡ passesBy holds n c i
+  unfolding passesBy
+  passes-fork e = rw e
 
-module _ (notes trail : List ℕ) (w : Walk) (q row base v : ℕ) (b p : Bool) (e : b ≡ p) where
-  pub entered-open : (u : ℕ) → u ≡ v → b ≡ true
-      → mem notes (set trail (w .top) (row * 256 + u)) (walkAt (w .top + 1) (w .steps + 1) q row base true) ≡ enteredBy p (mem notes trail w) q row base v
-  unfolding enteredBy
-  entered-open u x t = rw (sym e ∙ t, x)
+pub shut-of : (b : Bool) → not b ≡ true → b ≡ false
+shut-of true e = sym e
+shut-of false e = refl
 
-  pub entered-shut : (notes′ : List ℕ) → b ≡ false → notes′ ≡ marked notes (base + q)
-      → mem notes′ trail (walkAt (w .top) (w .steps + 1) (w .place) (w .row) (w .base) false) ≡ enteredBy p (mem notes trail w) q row base v
-  unfolding enteredBy
-  entered-shut notes′ t m = rw (sym e ∙ t, m)
+pub open-of : (b : Bool) → not b ≡ false → b ≡ true
+open-of true e = refl
+open-of false e = sym e
 
-pub tries-enters : (co en : List ℕ) (Q : Type 0) (notes trail : List ℕ) (w : Walk) (q row base : ℕ) (f : Bool) → f ≡ bitAt notes (base + q) → Tries co en Q notes trail w q row base → f ≡ false
-    → Enters co en Q notes trail w q row base
-tries-enters co en Q notes trail w q row base f e h t = h .enters (sym e ∙ t)
+-- ---- a pair is tried, and entered
 
-module _ (notes trail : List ℕ) (w : Walk) (q row base v : ℕ) (p : Bool) (f : Bool) (e : f ≡ bitAt notes (base + q)) where
-  pub tried-failed : f ≡ true → mem notes trail (walkAt (w .top) (w .steps) (w .place) (w .row) (w .base) false) ≡ triedBy (bitAt notes (base + q)) p (mem notes trail w) q row base v
-  unfolding triedBy
-  tried-failed t = rw (sym e ∙ t)
+pub tried-is : (notes : List ℕ) (top steps q row base : ℕ) (f : Bool) → f ≡ bitAt notes (base + q) → walkAt top steps q row base (not f) false ≡ tryAt notes top steps q row base
+tried-is notes top steps q row base f e = rw e
 
-  pub tried-entered : (notes′ trail′ : List ℕ) (r : Walk) → f ≡ false → mem notes′ trail′ r ≡ enteredBy p (mem notes trail w) q row base v
-      → mem notes′ trail′ r ≡ triedBy (bitAt notes (base + q)) p (mem notes trail w) q row base v
-  unfolding triedBy
-  tried-entered notes′ trail′ r t m = rw (sym e ∙ t) m
+module _ (notes trail : List ℕ) (w : Walk) (c v k P : ℕ) (p : Bool) (trail′ : List ℕ) (et : trail′ ≡ set trail (w .top) (w .row * 256 + v)) (r : Walk) where
+  pub entered-letter : true ≡ p → c < 26 → (x : ℕ) → x ≡ k → r ≡ tryAt notes (w .top + 1) (w .steps + 1) x (w .row + 1) (w .base + P) → mem notes trail′ r ≡ enteredBy p (mem notes trail w) c v k P
+  unfolding enteredBy openedBy
+  entered-letter e l x ex er = rw (← e, et, er, ex, lt-ltb c 26 l)
+
+  pub entered-other : true ≡ p → 26 ≤ c → c ≤ 28 → (x : ℕ) → x ≡ k → r ≡ tryAt notes (w .top + 1) (w .steps + 1) x (w .row) (w .base) → mem notes trail′ r ≡ enteredBy p (mem notes trail w) c v k P
+  unfolding enteredBy openedBy
+  entered-other e l m x ex er = rw (← e, et, er, ex, le-ltb c 26 l, le-ltb 28 c m)
+
+  pub entered-end : true ≡ p → 28 < c → r ≡ walkAt (w .top + 1) (w .steps + 1) (w .place) (w .row) (w .base) false true → mem notes trail′ r ≡ enteredBy p (mem notes trail w) c v k P
+  unfolding enteredBy openedBy
+  entered-end e l er = rw (← e, et, er, le-ltb c 26 (let z : 26 ≤ c = omega arith in z), lt-ltb 28 c l)
+
+pub entered-shut : (notes trail : List ℕ) (w : Walk) (c v k P : ℕ) (p : Bool) (notes′ : List ℕ) (r : Walk) → false ≡ p → notes′ ≡ marked notes (w .base + w .place)
+    → r ≡ walkAt (w .top) (w .steps + 1) (w .place) (w .row) (w .base) false false → mem notes′ trail r ≡ enteredBy p (mem notes trail w) c v k P
+unfolding enteredBy
+entered-shut notes trail w c v k P p notes′ r e m er = rw (← e, m, er)
 
 -- ---- the way behind a way
 
@@ -98,5 +107,41 @@ pub after-none : (stop j : ℕ) → stop ≤ j + 1 → (0 ≡ after stop j) × (
 unfolding after
 after-none stop j h = (rw (le-ltb (j + 1) stop h), omega arith)
 
-pub went-on : (trail : List ℕ) (at stop u a : ℕ) → u ≡ getD trail at 0 → a ≡ after stop (u / 2097152) → set trail at (u % 2097152 + a * 2097152) ≡ set trail at (wentOn stop (getD trail at 0))
-went-on trail at stop u a eu ea = rw (ea, eu)
+pub pushed-is : (trail : List ℕ) (top row u v : ℕ) → u ≡ v → set trail top (row * 256 + u) ≡ set trail top (row * 256 + v)
+pushed-is trail top row u v e = rw e
+
+-- ---- what `enter` needs and does, one law for each way through its code
+
+module _ (co ne en : List ℕ) (n : ℕ) (Q : Type 0) (notes trail : List ℕ) (w : Walk) (h : Enters co ne en n Q notes trail w) (x : ℕ) (ex : x ≡ getD ne (w .place) 0) where
+  pub fork-noted : getD co (w .place) 0 ≡ 28 → Noted notes (w .base + x)
+  fork-noted e = rw ex (h .other (omega arith) (omega arith))
+
+  pub anchor-noted : 26 ≤ getD co (w .place) 0 → getD co (w .place) 0 ≤ 28 → Noted notes (w .base + x)
+  anchor-noted l m = rw ex (h .other l m)
+
+  pub letter-noted : (holds : ℕ → ℕ → Bool) (r : Bool) → getD co (w .place) 0 < 26 → r ≡ passesBy holds n (getD co (w .place) 0) (w .row) → r ≡ true → Noted notes (w .base + length co + x)
+  letter-noted holds r l e t = rw ex (h .letter l (letter-in holds n (getD co (w .place) 0) (w .row) l (sym e ∙ t)))
+
+module _ (holds : ℕ → ℕ → Bool) (n : ℕ) (notes trail : List ℕ) (w : Walk) (c v k P : ℕ) where
+  abbrev passing : Bool
+  passing = passesBy holds n c (w .row)
+
+  pub enter-fork : (trail′ : List ℕ) (r : Walk) (x : ℕ) → trail′ ≡ set trail (w .top) (w .row * 256 + v) → c ≡ 28 → x ≡ k → r ≡ tryAt notes (w .top + 1) (w .steps + 1) x (w .row) (w .base)
+      → mem notes trail′ r ≡ enteredBy passing (mem notes trail w) c v k P
+  enter-fork trail′ r x et e ex er = entered-other notes trail w c v k P passing trail′ et r (passes-fork holds n c (w .row) e) (omega arith) (omega arith) x ex er
+
+  pub enter-letter : (p : Bool) (trail′ : List ℕ) (r : Walk) (x : ℕ) → p ≡ passing → p ≡ true → trail′ ≡ set trail (w .top) (w .row * 256 + v) → c < 26 → x ≡ k
+      → r ≡ tryAt notes (w .top + 1) (w .steps + 1) x (w .row + 1) (w .base + P) → mem notes trail′ r ≡ enteredBy passing (mem notes trail w) c v k P
+  enter-letter p trail′ r x ep t et l ex er = entered-letter notes trail w c v k P passing trail′ et r (sym t ∙ ep) l x ex er
+
+  pub enter-shut : (p : Bool) (notes′ : List ℕ) (r : Walk) → p ≡ passing → p ≡ false → notes′ ≡ marked notes (w .base + w .place)
+      → r ≡ walkAt (w .top) (w .steps + 1) (w .place) (w .row) (w .base) false false → mem notes′ trail r ≡ enteredBy passing (mem notes trail w) c v k P
+  enter-shut p notes′ r ep t en er = entered-shut notes trail w c v k P passing notes′ r (sym t ∙ ep) en er
+
+  pub enter-end : (p : Bool) (trail′ : List ℕ) → p ≡ passing → p ≡ true → trail′ ≡ set trail (w .top) (w .row * 256 + v) → 28 < c
+      → mem notes trail′ (walkAt (w .top + 1) (w .steps + 1) (w .place) (w .row) (w .base) false true) ≡ enteredBy passing (mem notes trail w) c v k P
+  enter-end p trail′ ep t et l = entered-end notes trail w c v k P passing trail′ et _ (sym t ∙ ep) l refl
+
+  pub enter-anchor : (p : Bool) (trail′ : List ℕ) (r : Walk) (x : ℕ) → p ≡ passing → p ≡ true → trail′ ≡ set trail (w .top) (w .row * 256 + v) → 26 ≤ c → c ≤ 28 → x ≡ k
+      → r ≡ tryAt notes (w .top + 1) (w .steps + 1) x (w .row) (w .base) → mem notes trail′ r ≡ enteredBy passing (mem notes trail w) c v k P
+  enter-anchor p trail′ r x ep t et l m ex er = entered-other notes trail w c v k P passing trail′ et r (sym t ∙ ep) l m x ex er

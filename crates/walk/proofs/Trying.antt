@@ -1,95 +1,26 @@
--- A pair is tried: it is open then, or it has failed; and the last open pair tries its first way, or its next way, or fails.
+-- The last open pair tries a way, and the walk's pair is entered: it is open then, and tries its first way, or it is END, or it has failed.
 use mathlib.Core.Path.{_≡_, refl, sym, ap, _∙_, subst}
 use mathlib.Core.List.{List, _∷_}
-use mathlib.Core.Bool.{Bool, true, false, _&&_, false≢true}
+use mathlib.Core.Bool.{Bool, true, false, not, _&&_, false≢true}
 use mathlib.Core.Logic.{_≢_}
-use Prim.Native.Nat.{ℕ, suc, _+_, _-_, _*_, _≤_, _<_, suc-le-suc}
+use Prim.Native.Nat.{ℕ, suc, _+_, _-_, _*_, _/_, _≤_, _<_, suc-le-suc}
 use native.Mathlib.Nat.{mul-comm, not-suc-le-zero, suc-mul}
 use native.Mathlib.Decide.{ℕ-discrete}
 use native.Mathlib.Omega.{arith}
 use lib.Arith.{digits-lt}
 use lib.Dec.{ltb}
-use lib.ListN.{length, getD}
-use borrow.Author.Tests.{ltb-true, lt-ltb}
+use lib.ListN.{length, getD, set}
+use borrow.Author.Tests.{ltb-true, ltb-false, lt-ltb}
+use Rattle.rules.specs.Basics.{pick}
 use Rattle.rules.specs.Report.{bitAt}
 use Rattle.rules.specs.Walk.{Outcome}
 use Rattle.rules.proofs.Level.{and-true}
-use Rattle.rules.proofs.Machine.{resume}
-use Rattle.rules.proofs.Notes.{bitsOf}
 use Rattle.walk.specs.declared.Walk.{Walk}
-use Rattle.walk.specs.Tables.{Tables, P, N, waysOf, graphOf, passesBy}
-use Rattle.walk.specs.Step.{Mem, mem, placeIn, stack, enteredBy, triedBy, Tries}
-use Rattle.walk.specs.State.{rowFrom, wayAt, reach, Led, Fresh, Good, left, comes, Reached, Goes, Onward}
-use Rattle.walk.proofs.Ways.{ways-length, ways-first, takes-row, takes-no-row}
-use Rattle.walk.proofs.Going.{good-as, led-stuck, Next, next-enters, open-reached, open-less, shut-reached, shut-less, top-word, top-passes, way-below, top-next, next-same}
-
--- ---- a pair is tried
-
--- where nothing is less, the pair had failed: the last try opened none, and the open pairs are as before
-pub record Tried (T : Tables) (holds : ℕ → ℕ → Bool) (n : ℕ) (Q : Type 0) (notes trail : List ℕ) (w : Walk) (R : Outcome) (notes′ trail′ : List ℕ) (r : Walk) : Type 0 where
-  pub reached : Reached T holds n Q notes trail R notes′ trail′ r
-  pub less : left (N T n) notes′ r ≤ left (N T n) notes w
-  pub shut : left (N T n) notes′ r ≡ left (N T n) notes w → (r .down ≡ false) × (r .top ≡ w .top) × (trail′ ≡ trail)
-  pub going : w .top ≤ r .top
-
-module _ (T : Tables) (holds : ℕ → ℕ → Bool) (n : ℕ) (Q : Type 0) (notes trail : List ℕ) (w : Walk) (q row base : ℕ) (R : Outcome) (g : Good T holds n Q notes trail w)
-    (next : bitAt notes (base + q) ≡ false → Next T holds n Q notes trail w q row base)
-    (fresh : bitAt notes (base + q) ≡ false → resume (graphOf T holds n) (N T n) ((base + q) ∷ stack (P T) trail (w .top)) (bitsOf notes (N T n)) (suc (w .steps)) ≡ R)
-    (led : 0 < w .top → Led T notes (getD trail (w .top - 1) 0) (base + q))
-    (stale : bitAt notes (base + q) ≡ true → comes T holds n notes trail w ≡ R) where
-  abbrev passing : Bool
-  passing = passesBy holds n (getD (T .code) q 0) row
-
-  abbrev entry : ℕ
-  entry = getD (T .entry) q 0
-
-  abbrev TriedTo : Mem → Type 0
-  TriedTo m = Tried T holds n Q notes trail w R (m .notes) (m .trail) (m .walk)
-
-  to : (notes′ trail′ : List ℕ) (r : Walk) (S : Outcome) → S ≡ R → Reached T holds n Q notes trail S notes′ trail′ r → Reached T holds n Q notes trail R notes′ trail′ r
-  to notes′ trail′ r S e h = rw e at h
-
-  entered : (p : Bool) → passing ≡ p → bitAt notes (base + q) ≡ false → TriedTo (enteredBy p (mem notes trail w) q row base entry)
-  unfolding enteredBy
-  entered true ep eb =
-      let l = open-less T holds n Q notes trail w q row base (next eb) ep in
-      record {
-        reached = to _ _ _ _ (fresh eb) (open-reached T holds n Q notes trail w q row base (next eb) ep);
-        less = omega arith;
-        shut = λ h. absurd (omega arith);
-        going = omega arith;
-      }
-  entered false ep eb =
-      let l = shut-less T holds n Q notes trail w q row base (next eb) ep in
-      record {
-        reached = to _ _ _ _ (fresh eb) (shut-reached T holds n Q notes trail w q row base (next eb) ep);
-        less = omega arith;
-        shut = λ h. absurd (omega arith);
-        going = omega arith;
-      }
-
-  tried-by : (b : Bool) → bitAt notes (base + q) ≡ b → TriedTo (triedBy b passing (mem notes trail w) q row base entry)
-  unfolding triedBy comes left
-  tried-by true eb =
-      record {
-        reached = record {
-          good = good-as T holds n Q notes trail (w .top) (w .steps) (w .place) (w .row) (w .base) (w .down) (w .place) (w .row) (w .base) false g;
-          stands = record { fresh = λ (d : false ≡ true). absurd (false≢true d); stuck = λ _ l. led-stuck T notes notes _ _ (led l) (λ z e. e) eb };
-          same = stale eb;
-          notes-long = refl;
-          trail-long = refl;
-          notes-beyond = λ z l. refl;
-          trail-beyond = λ k l. refl;
-        };
-        less = omega arith;
-        shut = λ _. (refl, refl, refl);
-        going = omega arith;
-      }
-  tried-by false eb = entered passing refl eb
-
-  pub tried : (notes′ trail′ : List ℕ) (r : Walk) → mem notes′ trail′ r ≡ triedBy (bitAt notes (base + q)) passing (mem notes trail w) q row base entry
-      → Tried T holds n Q notes trail w R notes′ trail′ r
-  tried notes′ trail′ r e = subst TriedTo (sym e) (tried-by (bitAt notes (base + q)) refl)
+use Rattle.walk.specs.Tables.{Tables, P, N, second, waysOf, passesBy}
+use Rattle.walk.specs.Step.{Mem, mem, placeIn, walkAt, tryAt, openedBy, enteredBy, Noted, Enters}
+use Rattle.walk.specs.State.{rowFrom, wayAt, reach, Led, Good, Next, Stands, left, resumed, entering, comes, Reached, Goes, Onward}
+use Rattle.walk.proofs.Ways.{ways-length, ways-first, takes-row, takes-no-row, leads-each}
+use Rattle.walk.proofs.Going.{good-as, comes-idle, comes-next, led-stuck, next-few, next-noted, next-out, next-room, next-small, next-steps, next-word, next-row, v-place, v-row, v-way, open-good, open-top, open-resumed, open-reached, open-end, open-less, shut-reached, shut-less, way-below, top-next, next-same}
 
 pub pair-in : (P n q row base : ℕ) → base ≡ row * P → q < P → row ≤ n → base + q < P * suc n
 pair-in P n q row base eb h l = rw (eb, mul-comm P (suc n)) (digits-lt (suc-le-suc l) h)
@@ -97,6 +28,20 @@ pair-in P n q row base eb h l = rw (eb, mul-comm P (suc n)) (digits-lt (suc-le-s
 pub letter-in : (holds : ℕ → ℕ → Bool) (n c i : ℕ) → c < 26 → passesBy holds n c i ≡ true → i < n
 unfolding passesBy
 letter-in holds n c i e p = let d : (ltb i n && holds (c + 65) i) ≡ true = rw (lt-ltb c 26 e) at p in ltb-true i n (and-true _ _ d .0)
+
+-- the next pair is one of the open pairs and the steps alone
+next-as : (T : Tables) (holds : ℕ → ℕ → Bool) (n : ℕ) (Q : Type 0) (notes trail : List ℕ) (w : Walk) (q row base x r b : ℕ) (d f : Bool) → Next T holds n Q notes trail w q row base
+    → Next T holds n Q notes trail (walkAt (w .top) (w .steps) x r b d f) q row base
+unfolding good-as
+next-as T holds n Q notes trail w q row base x r b d f h =
+    record {
+      good = good-as T holds n Q notes trail (w .top) (w .steps) (w .place) (w .row) (w .base) (w .down) (w .found) x r b d f (h .good);
+      place = h .place;
+      base-is = h .base-is;
+      opened = h .opened;
+      linked = h .linked;
+      led = h .led;
+    }
 
 -- ---- the last open pair tries its way m, where the ways before it have failed and the next way is the one behind it
 
@@ -120,109 +65,184 @@ module _ (T : Tables) (holds : ℕ → ℕ → Bool) (n : ℕ) (Q : Type 0) (not
     ];
   }
 
-  next : bitAt notes (base + q) ≡ false → Next T holds n Q notes trail w q row base
-  next o = top-next T holds n Q notes trail w g going more m inside before q row base eq er eb led o
-
-  pub turn-tries : Tries (T .code) (T .entry) Q notes trail w q row base
-  turn-tries =
+  pub turn-noted : Noted notes (base + q)
+  turn-noted =
       let b : base + q < N T n = rw y-is at (way-below T holds n Q notes trail w g going more m inside) in
       let no = g .noted in
       let sm = g .legal .small in
-      record { small = omega arith; byte = omega arith; enters = λ o. next-enters T holds n Q notes trail w q row base (next o) }
+      (omega arith, omega arith)
 
-  pub turn-tried : (notes′ trail′ : List ℕ) (r : Walk)
-      → mem notes′ trail′ r ≡ triedBy (bitAt notes (base + q)) (passesBy holds n (getD (T .code) q 0) row) (mem notes trail w) q row base (getD (T .entry) q 0)
-      → Tried T holds n Q notes trail w (comes T holds n notes trail w) notes′ trail′ r
+  abbrev State-of : Bool → Walk
+  State-of b = walkAt (w .top) (w .steps) q row base (not b) false
+
+  good : (b : Bool) → Good T holds n Q notes trail (State-of b)
+  good b = good-as T holds n Q notes trail (w .top) (w .steps) (w .place) (w .row) (w .base) (w .down) (w .found) q row base (not b) false g
+
+  -- the pair has failed, or it is the next to be entered
+  stands : (b : Bool) → bitAt notes (base + q) ≡ b → Stands T holds n Q notes trail (State-of b)
+  stands true eb =
+      record {
+        next = λ (d : false ≡ true). absurd (false≢true d);
+        stuck = λ _ _ _. led-stuck T notes notes e (base + q) led (λ z h. h) eb;
+        ends = λ (d : false ≡ true). absurd (false≢true d);
+      }
+  stands false o =
+      record {
+        next = λ _. next-as T holds n Q notes trail w q row base q row base true false (top-next T holds n Q notes trail w g going more m inside before q row base eq er eb led o);
+        stuck = λ (d : true ≡ false). absurd (false≢true (sym d));
+        ends = λ (d : false ≡ true). absurd (false≢true d);
+      }
+
+  same : (b : Bool) → bitAt notes (base + q) ≡ b → comes T holds n notes trail (State-of b) ≡ resumed T holds n notes trail w
+  unfolding resumed entering
+  same true o = comes-idle T holds n notes trail (State-of true) refl
+  same false o = comes-next T holds n notes trail (State-of false) refl ∙ next-same T holds n Q notes trail w g going more m inside before q row base eq er eb led o
+
+  pub turn-tried : Reached T holds n Q notes trail (resumed T holds n notes trail w) notes trail (tryAt notes (w .top) (w .steps) q row base)
   turn-tried =
-      tried T holds n Q notes trail w q row base (comes T holds n notes trail w) g next
-      (λ o. next-same T holds n Q notes trail w g going more m inside before q row base eq er eb led o) (λ _. led) (λ _. refl)
+      record {
+        good = good (bitAt notes (base + q));
+        stands = stands (bitAt notes (base + q)) refl;
+        same = same (bitAt notes (base + q)) refl;
+        notes-long = refl;
+        trail-long = refl;
+        notes-beyond = λ z l. refl;
+        trail-beyond = λ k l. refl;
+      }
 
--- ---- the first way of a pair that was just opened
+-- ---- the walk's pair is entered
 
 module _ (T : Tables) (holds : ℕ → ℕ → Bool) (n : ℕ) (Q : Type 0) (notes trail : List ℕ) (w : Walk) (h : Goes T holds n Q notes trail w) where
-  abbrev top : ℕ
-  top = getD trail (w .top - 1) 0
+  abbrev q : ℕ
+  q = w .place
 
-  fresh : Fresh T trail w
-  fresh = h .state .stands .fresh (h .down)
+  abbrev c : ℕ
+  c = getD (T .code) q 0
 
-  abbrev good : Good T holds n Q notes trail w
-  good = h .state .good
+  abbrev k : ℕ
+  k = getD (T .next) q 0
 
-  pub on-place : w .place < P T
-  on-place = rw (← fresh .spot .place) (top-word T holds n Q notes trail w good (fresh .going) .place)
+  abbrev v : ℕ
+  v = w .row * 256 + getD (T .entry) q 0
 
-  pub on-next : w .place < length (T .next)
-  on-next = rw (good .legal .sized .nexts) on-place
+  abbrev passing : Bool
+  passing = passesBy holds n c (w .row)
 
-  code-is : getD (T .code) (placeIn top) 0 ≤ 28
-  code-is = rw (fresh .spot .place) (h .going)
+  nx : Next T holds n Q notes trail w q (w .row) (w .base)
+  nx = h .state .stands .next (h .down)
 
-  reach-one : reach T top ≡ 1
-  unfolding reach
-  reach-one = rw (fresh .way) (omega arith)
+  some-way : 0 < length (waysOf T q)
+  some-way = rw (ways-length T q) (omega arith)
 
-  module _ (q : ℕ) (eq : q ≡ getD (T .next) (w .place) 0) (row base : ℕ) (er : row ≡ rowFrom T top) (eb : base ≡ row * P T) where
-    first-is : q ≡ getD (waysOf T (placeIn top)) 0 0
-    first-is = eq ∙ sym (ap (λ (k : ℕ). getD (T .next) k 0) (fresh .spot .place)) ∙ sym (ways-first T (placeIn top))
+  first-place : c ≤ 28 → k < P T
+  first-place l = rw (ways-first T q) at (leads-each T holds n q (w .row) (nx .place) (nx .good .legal .sized) l (nx .good .legal .leads q (nx .place)) 0 some-way)
 
-    some-way : 0 < length (waysOf T (placeIn top))
-    some-way = rw (ways-length T (placeIn top)) (omega arith)
+  ahead-is : w .base + P T ≡ (w .row + 1) * P T
+  ahead-is = let o : w .row + 1 ≡ suc (w .row) = omega arith in rw (o, suc-mul (w .row) (P T), nx .base-is)
 
-    on-tries : Tries (T .code) (T .entry) Q notes trail w q row base
-    on-tries = turn-tries T holds n Q notes trail w good (fresh .going) code-is 0 some-way reach-one (λ i l. absurd (not-suc-le-zero l)) q row base first-is er eb
+  noted : (x : ℕ) → x < N T n → Noted notes x
+  noted x l = let no = nx .good .noted in let sm = nx .good .legal .small in (omega arith, omega arith)
 
-    on-tried : (notes′ trail′ : List ℕ) (r : Walk)
-        → mem notes′ trail′ r ≡ triedBy (bitAt notes (base + q)) (passesBy holds n (getD (T .code) q 0) row) (mem notes trail w) q row base (getD (T .entry) q 0)
-        → Onward T holds n Q notes trail w notes′ trail′ r
-    on-tried notes′ trail′ r d =
-        let t = turn-tried T holds n Q notes trail w good (fresh .going) code-is 0 some-way reach-one (λ i l. absurd (not-suc-le-zero l)) q row base first-is er eb notes′ trail′ r d in
-        let f = fresh .going in
-        let k = t .going in
-        record { turned = record { reached = t .reached; less = t .less; shut = λ l. (t .shut l .0, t .shut l .1) }; going = omega arith }
+  pub goes-enters : Enters (T .code) (T .next) (T .entry) n Q notes trail w
+  goes-enters =
+      let z = nx .good .legal .sized in
+      record {
+        asks = nx .good .asks;
+        place = nx .place;
+        next = rw (z .nexts) (nx .place);
+        entry = rw (z .entries) (nx .place);
+        row = next-few T holds n Q notes trail w q (w .row) (w .base) nx;
+        noted = next-noted T holds n Q notes trail w q (w .row) (w .base) nx;
+        out = next-out T holds n Q notes trail w q (w .row) (w .base) nx;
+        word = next-word T holds n Q notes trail w q (w .row) (w .base) nx;
+        room = next-room T holds n Q notes trail w q (w .row) (w .base) nx;
+        small = next-small T holds n Q notes trail w q (w .row) (w .base) nx;
+        steps = next-steps T holds n Q notes trail w q (w .row) (w .base) nx;
+        letter = λ l r. noted (w .base + P T + k) (pair-in (P T) n k (w .row + 1) (w .base + P T) ahead-is (first-place (omega arith)) (omega arith));
+        other = λ _ l. noted (w .base + k) (pair-in (P T) n k (w .row) (w .base) (nx .base-is) (first-place l) (next-row T holds n Q notes trail w q (w .row) (w .base) nx));
+      }
 
-  base-is : w .base ≡ w .row * P T
-  base-is = fresh .spot .base
+  abbrev OnTo : Mem → Type 0
+  OnTo m = Onward T holds n Q notes trail w (m .notes) (m .trail) (m .walk)
 
-  module _ (q : ℕ) (eq : q ≡ getD (T .next) (w .place) 0) (c : getD (T .code) (w .place) 0 < 26) where
-    row-ahead : w .row < n
-    row-ahead =
-        letter-in holds n (getD (T .code) (w .place) 0) (w .row) c
-        (rw (fresh .spot .place, fresh .spot .row) at (top-passes T holds n Q notes trail w good (fresh .going)))
+  comes-is : entering T holds n notes trail w (w .base + q) ≡ comes T holds n notes trail w
+  comes-is = sym (comes-next T holds n notes trail w (h .down))
 
-    pub on-row : w .row + 1 ≤ 4096
-    on-row = let a = row-ahead in let b = good .legal .rows in omega arith
+  to : (notes′ trail′ : List ℕ) (r : Walk) → Reached T holds n Q notes trail (entering T holds n notes trail w (w .base + q)) notes′ trail′ r
+      → Reached T holds n Q notes trail (comes T holds n notes trail w) notes′ trail′ r
+  to notes′ trail′ r a = rw comes-is at a
 
-    ahead-is : w .base + P T ≡ (w .row + 1) * P T
-    ahead-is = let o : w .row + 1 ≡ suc (w .row) = omega arith in rw (o, suc-mul (w .row) (P T), base-is)
+  -- it is open, and tries its first way
+  module _ (p : passing ≡ true) (l : c ≤ 28) (row base : ℕ) (er : row ≡ rowFrom T v) (eb : base ≡ row * P T) where
+    abbrev trail₁ : List ℕ
+    trail₁ = set trail (w .top) v
 
-    pub on-ahead : w .base + P T < 4294967296
-    on-ahead =
-        let b = pair-in (P T) n 0 (w .row + 1) (w .base + P T) ahead-is (good .legal .sized .some) (let a = row-ahead in omega arith) in
-        let s = good .legal .small in
-        omega arith
+    abbrev w₁ : Walk
+    w₁ = walkAt (w .top + 1) (w .steps + 1) q (w .row) (w .base) false false
 
-    from-is : w .row + 1 ≡ rowFrom T top
-    unfolding rowFrom
-    from-is = rw (fresh .spot .place, fresh .spot .row, takes-row T holds n (w .place) (w .row) on-place c)
+    top-is : getD trail₁ (w .top + 1 - 1) 0 ≡ v
+    top-is = open-top T holds n Q notes trail w q (w .row) (w .base) nx p
 
-    pub letter-tries : Tries (T .code) (T .entry) Q notes trail w q (w .row + 1) (w .base + P T)
-    letter-tries = on-tries q eq (w .row + 1) (w .base + P T) from-is ahead-is
+    place-is : placeIn (getD trail₁ (w .top + 1 - 1) 0) ≡ q
+    place-is = rw top-is (v-place T holds n Q notes trail w q (w .row) (w .base) nx p)
 
-    pub letter-tried : (notes′ trail′ : List ℕ) (r : Walk)
-        → mem notes′ trail′ r ≡ triedBy (bitAt notes (w .base + P T + q)) (passesBy holds n (getD (T .code) q 0) (w .row + 1)) (mem notes trail w) q (w .row + 1) (w .base + P T) (getD (T .entry) q 0)
-        → Onward T holds n Q notes trail w notes′ trail′ r
-    letter-tried = on-tried q eq (w .row + 1) (w .base + P T) from-is ahead-is
+    reach-one : reach T (getD trail₁ (w .top + 1 - 1) 0) ≡ 1
+    unfolding reach
+    reach-one = rw (top-is, v-place T holds n Q notes trail w q (w .row) (w .base) nx p, v-way T holds n Q notes trail w q (w .row) (w .base) nx p) (omega arith)
 
-  module _ (q : ℕ) (eq : q ≡ getD (T .next) (w .place) 0) (c : 26 ≤ getD (T .code) (w .place) 0) where
-    same-row : w .row ≡ rowFrom T top
-    unfolding rowFrom
-    same-row = rw (fresh .spot .place, fresh .spot .row, takes-no-row T holds n (w .place) (w .row) on-place c) (omega arith)
+    first-tried : Reached T holds n Q notes trail₁ (resumed T holds n notes trail₁ w₁) notes trail₁ (tryAt notes (w .top + 1) (w .steps + 1) k row base)
+    first-tried =
+        turn-tried T holds n Q notes trail₁ w₁ (open-good T holds n Q notes trail w q (w .row) (w .base) nx p false false) (omega arith) (rw place-is l) 0 (rw place-is some-way) reach-one
+        (λ i b. absurd (not-suc-le-zero b)) k row base (rw place-is (sym (ways-first T q))) (rw top-is er) eb
 
-    pub other-tries : Tries (T .code) (T .entry) Q notes trail w q (w .row) (w .base)
-    other-tries = on-tries q eq (w .row) (w .base) same-row base-is
+    onward : OnTo (mem notes trail₁ (tryAt notes (w .top + 1) (w .steps + 1) k row base))
+    onward =
+        record {
+          reached = to _ _ _
+              (open-reached T holds n Q notes trail w q (w .row) (w .base) nx p _ (first-tried .good) (first-tried .stands)
+              (first-tried .same ∙ open-resumed T holds n Q notes trail w q (w .row) (w .base) nx p false false));
+          less = open-less T holds n Q notes trail w q (w .row) (w .base) nx p k row base _ false;
+        }
 
-    pub other-tried : (notes′ trail′ : List ℕ) (r : Walk)
-        → mem notes′ trail′ r ≡ triedBy (bitAt notes (w .base + q)) (passesBy holds n (getD (T .code) q 0) (w .row)) (mem notes trail w) q (w .row) (w .base) (getD (T .entry) q 0)
-        → Onward T holds n Q notes trail w notes′ trail′ r
-    other-tried = on-tried q eq (w .row) (w .base) same-row base-is
+  -- a letter
+  row-ahead : passing ≡ true → c < 26 → w .row + 1 ≡ rowFrom T v
+  unfolding rowFrom
+  row-ahead p l =
+      rw (v-place T holds n Q notes trail w q (w .row) (w .base) nx p, v-row T holds n Q notes trail w q (w .row) (w .base) nx p, takes-row T holds n q (w .row) (nx .place) l)
+
+  row-same : passing ≡ true → 26 ≤ c → w .row ≡ rowFrom T v
+  unfolding rowFrom
+  row-same p l =
+      rw (v-place T holds n Q notes trail w q (w .row) (w .base) nx p, v-row T holds n Q notes trail w q (w .row) (w .base) nx p, takes-no-row T holds n q (w .row) (nx .place) l)
+      (omega arith)
+
+  opened : passing ≡ true → OnTo (mem notes (set trail (w .top) v) (openedBy c k (P T) notes w))
+  unfolding openedBy
+  opened p = go (ltb c 26) refl (ltb 28 c) refl
+    where
+      go : (a : Bool) → ltb c 26 ≡ a → (b : Bool) → ltb 28 c ≡ b
+          → OnTo (mem notes (set trail (w .top) v) (pick a (tryAt notes (w .top + 1) (w .steps + 1) k (w .row + 1) (w .base + P T))
+          (pick b (walkAt (w .top + 1) (w .steps + 1) q (w .row) (w .base) false true) (tryAt notes (w .top + 1) (w .steps + 1) k (w .row) (w .base)))))
+      go true ea b eb = let l = ltb-true c 26 ea in onward p (omega arith) (w .row + 1) (w .base + P T) (row-ahead p l) ahead-is
+      go false ea true eb =
+          record {
+            reached = to _ _ _ (open-end T holds n Q notes trail w q (w .row) (w .base) nx p (ltb-true 28 c eb));
+            less = open-less T holds n Q notes trail w q (w .row) (w .base) nx p q (w .row) (w .base) false true;
+          }
+      go false ea false eb =
+          let l = ltb-false c 26 ea in
+          let m = ltb-false 28 c eb in
+          onward p (omega arith) (w .row) (w .base) (row-same p (omega arith)) (nx .base-is)
+
+  entered : (p : Bool) → passing ≡ p → OnTo (enteredBy p (mem notes trail w) c (getD (T .entry) q 0) k (P T))
+  unfolding enteredBy
+  entered true p = opened p
+  entered false p =
+      record {
+        reached = to _ _ _ (shut-reached T holds n Q notes trail w q (w .row) (w .base) nx p);
+        less = shut-less T holds n Q notes trail w q (w .row) (w .base) nx p;
+      }
+
+  pub goes-on : (notes′ trail′ : List ℕ) (r : Walk) → mem notes′ trail′ r ≡ enteredBy passing (mem notes trail w) c (getD (T .entry) q 0) k (P T)
+      → Onward T holds n Q notes trail w notes′ trail′ r
+  goes-on notes′ trail′ r e = subst OnTo (sym e) (entered passing refl)

@@ -1,125 +1,107 @@
--- The loops: on while tries open pairs, back until one does, and both in turn; and the attempt, from the pair that it tries to its result.
+-- The loops: on while a pair is to be entered, back until one is, and both in turn; and the attempt, from the pair that it tries to its result.
 use mathlib.Core.Path.{_≡_, refl, sym, ap, _∙_}
 use mathlib.Core.List.{List, _∷_}
-use mathlib.Core.Bool.{Bool, true, false, true≢false}
+use mathlib.Core.Bool.{Bool, true, false, not, true≢false}
 use mathlib.Core.Logic.{_≢_}
 use Prim.Native.Nat.{ℕ, zero, suc, _+_, _-_, _*_, _≤_, _<_}
 use native.Mathlib.Nat.{not-suc-le-zero}
 use native.Mathlib.Decide.{ℕ-discrete}
 use native.Mathlib.Omega.{arith}
 use lib.ListN.{getD}
-use Rattle.rules.specs.Basics.{pick}
 use Rattle.rules.specs.Report.{bitAt}
 use Rattle.rules.proofs.Machine.{resume, resume-one}
 use Rattle.rules.proofs.Notes.{bitsOf, bitsOf-at}
 use Rattle.walk.specs.declared.Walk.{Walk}
 use Rattle.walk.specs.Tables.{Tables, P, N, graphOf, passesBy}
-use Rattle.walk.specs.Step.{mem, placeIn, wayIn, stack, walkAt, triedBy, outcomeBy, Tries}
-use Rattle.walk.specs.State.{Word, Good, State, Goes, Halts, left, restAt, rest, comes, Reached, Turned, Onward, Backward, Descended, Retreated, Ends, Ran, Ready, attemptBy, Done}
+use Rattle.walk.specs.Step.{mem, placeIn, wayIn, stack, walkAt, tryAt, enteredBy, outcomeBy, Noted, Enters}
+use Rattle.walk.specs.State.{Word, Good, Next, Ends, Stands, State, Goes, Idle, Halts, Moves, left, restAt, rest, resumed, entering, comes, Reached, Onward, Backward, Descended, Retreated, Ran, Ready, attemptBy, Done}
 use Rattle.walk.proofs.Ways.{left-none, left-some}
-use Rattle.walk.proofs.Going.{reached-none, reached-on, Next, next-enters, top-word, top-end}
-use Rattle.walk.proofs.Trying.{Tried, tried, pair-in}
+use Rattle.walk.proofs.Going.{comes-idle, reached-none, reached-on, top-end}
+use Rattle.walk.proofs.Trying.{pair-in, goes-enters, goes-on}
 
 pub state-of : (T : Tables) (holds : ℕ → ℕ → Bool) (n : ℕ) (Q : Type 0) (n₁ t₁ notes trail : List ℕ) (w₁ w : Walk)
     → Reached T holds n Q n₁ t₁ (comes T holds n n₁ t₁ w₁) notes trail w → State T holds n Q notes trail w
 state-of T holds n Q n₁ t₁ notes trail w₁ w r = record { good = r .good; stands = r .stands }
 
--- ---- on while tries open pairs
+-- ---- on while a pair is to be entered
 
 pub record Descending (T : Tables) (holds : ℕ → ℕ → Bool) (n : ℕ) (Q : Type 0) (n₁ t₁ : List ℕ) (w₁ : Walk) (notes trail : List ℕ) (w : Walk) : Type 0 where
   pub reached : Reached T holds n Q n₁ t₁ (comes T holds n n₁ t₁ w₁) notes trail w
   pub less : left (N T n) notes w ≤ left (N T n) n₁ w₁
-  pub going : 0 < w₁ .top → 0 < w .top
+  pub start : left (N T n) notes w ≡ left (N T n) n₁ w₁ → w .down ≡ true
 
--- what is left, and one more while the last try opened a pair
-abbrev pub ahead : ℕ → List ℕ → Walk → ℕ
-ahead N notes w = 2 * left N notes w + pick (w .down) 1 0
-
-pub on-none : (T : Tables) (holds : ℕ → ℕ → Bool) (n : ℕ) (Q : Type 0) (n₁ t₁ : List ℕ) (w₁ : Walk) → State T holds n Q n₁ t₁ w₁ → Descending T holds n Q n₁ t₁ w₁ n₁ t₁ w₁
-on-none T holds n Q n₁ t₁ w₁ s = record { reached = reached-none T holds n Q n₁ t₁ w₁ s; less = omega arith; going = λ l. l }
+pub on-none : (T : Tables) (holds : ℕ → ℕ → Bool) (n : ℕ) (Q : Type 0) (n₁ t₁ : List ℕ) (w₁ : Walk) → Goes T holds n Q n₁ t₁ w₁ → Descending T holds n Q n₁ t₁ w₁ n₁ t₁ w₁
+on-none T holds n Q n₁ t₁ w₁ s = record { reached = reached-none T holds n Q n₁ t₁ w₁ (s .state); less = omega arith; start = λ _. s .down }
 
 module _ (T : Tables) (holds : ℕ → ℕ → Bool) (n : ℕ) (Q : Type 0) (n₁ t₁ : List ℕ) (w₁ : Walk) (notes trail : List ℕ) (w : Walk) (h : Descending T holds n Q n₁ t₁ w₁ notes trail w) where
   pub on-end : w .down ≡ false → Descended T holds n Q n₁ t₁ w₁ notes trail w
-  on-end d = record { reached = h .reached; less = h .less; going = h .going; last = λ e. absurd (true≢false (sym e ∙ d)) }
+  on-end d =
+      let c : left (N T n) notes w ≢ left (N T n) n₁ w₁ = λ z. true≢false (sym (h .start z) ∙ d) in
+      let l = h .less in
+      record { reached = h .reached; less = omega arith; down = d }
 
   module _ (d : w .down ≡ true) where
-    pub on-reads : w .place < P T
-    on-reads =
-        let f = h .reached .stands .fresh d in
-        rw (← f .spot .place) (top-word T holds n Q notes trail w (h .reached .good) (f .going) .place)
+    goes : Goes T holds n Q notes trail w
+    goes = record { state = state-of T holds n Q n₁ t₁ notes trail w₁ w (h .reached); down = d }
 
-    pub on-found : 28 < getD (T .code) (w .place) 0 → Descended T holds n Q n₁ t₁ w₁ notes trail w
-    on-found l = record { reached = h .reached; less = h .less; going = h .going; last = λ _. l }
+    pub on-enters : Enters (T .code) (T .next) (T .entry) n Q notes trail w
+    on-enters = goes-enters T holds n Q notes trail w goes
 
-    pub on-goes : getD (T .code) (w .place) 0 ≤ 28 → Goes T holds n Q notes trail w
-    on-goes l = record { state = state-of T holds n Q n₁ t₁ notes trail w₁ w (h .reached); down = d; going = l }
+    module _ (notes′ trail′ : List ℕ) (r : Walk)
+        (e : mem notes′ trail′ r ≡ enteredBy (passesBy holds n (getD (T .code) (w .place) 0) (w .row)) (mem notes trail w) (getD (T .code) (w .place) 0) (getD (T .entry) (w .place) 0)
+        (getD (T .next) (w .place) 0) (P T)) where
+      onward : Onward T holds n Q notes trail w notes′ trail′ r
+      onward = goes-on T holds n Q notes trail w goes notes′ trail′ r e
 
-    module _ (notes′ trail′ : List ℕ) (r : Walk) (o : Onward T holds n Q notes trail w notes′ trail′ r) where
+      pub on-less : left (N T n) notes′ r < left (N T n) notes w
+      on-less = onward .less
+
       pub on-more : Descending T holds n Q n₁ t₁ w₁ notes′ trail′ r
       on-more =
           let a = h .less in
-          let b = o .turned .less in
-          record { reached = reached-on T holds n Q n₁ t₁ _ notes trail w notes′ trail′ r (h .reached) (o .turned .reached); less = omega arith; going = λ _. o .going }
+          let b = onward .less in
+          record {
+            reached = reached-on T holds n Q n₁ t₁ _ notes trail w notes′ trail′ r (h .reached) (onward .reached);
+            less = omega arith;
+            start = λ z. absurd (omega arith);
+          }
 
-      pub on-less : ahead (N T n) notes′ r < ahead (N T n) notes w
-      on-less = up (go (r .down) refl)
-        where
-          up : 2 * left (N T n) notes′ r + pick (r .down) 1 0 < 2 * left (N T n) notes w + 1 → ahead (N T n) notes′ r < ahead (N T n) notes w
-          up l = let e : _≡_ {A = ℕ} (pick (w .down) 1 0) 1 = ap (λ (b : Bool). pick {A = ℕ} b 1 0) d in omega arith
-
-          go : (b : Bool) → r .down ≡ b → 2 * left (N T n) notes′ r + pick b 1 0 < 2 * left (N T n) notes w + 1
-          go true e = elim (ℕ-discrete (left (N T n) notes′ r) (left (N T n) notes w)) [
-            | yes z ↦ absurd (true≢false (sym e ∙ o .turned .shut z .0))
-            | no z ↦ let c : left (N T n) notes′ r ≢ left (N T n) notes w = z in let l = o .turned .less in omega arith
-          ]
-          go false e = let l = o .turned .less in omega arith
-
--- ---- back until one opens a pair
+-- ---- back until one is to be entered
 
 pub record Retreating (T : Tables) (holds : ℕ → ℕ → Bool) (n : ℕ) (Q : Type 0) (n₁ t₁ : List ℕ) (w₁ : Walk) (notes trail : List ℕ) (w : Walk) : Type 0 where
-  pub turned : Turned T holds n Q n₁ t₁ w₁ notes trail w
-  pub start : 0 < w₁ .top
+  pub reached : Reached T holds n Q n₁ t₁ (comes T holds n n₁ t₁ w₁) notes trail w
+  pub found : w .found ≡ false
+  pub less : left (N T n) notes w ≤ left (N T n) n₁ w₁
 
 -- what is left, and below it the ways that the last open pair has left
 abbrev pub behind : Tables → ℕ → List ℕ → List ℕ → Walk → ℕ
 behind T n notes trail w = 4096 * left (N T n) notes w + rest T trail w
 
-pub off-none : (T : Tables) (holds : ℕ → ℕ → Bool) (n : ℕ) (Q : Type 0) (n₁ t₁ : List ℕ) (w₁ : Walk) → Halts T holds n Q n₁ t₁ w₁ → Retreating T holds n Q n₁ t₁ w₁ n₁ t₁ w₁
-off-none T holds n Q n₁ t₁ w₁ s =
-    record { turned = record { reached = reached-none T holds n Q n₁ t₁ w₁ (s .state); less = omega arith; shut = λ _. (s .down, refl) }; start = s .going }
+pub off-none : (T : Tables) (holds : ℕ → ℕ → Bool) (n : ℕ) (Q : Type 0) (n₁ t₁ : List ℕ) (w₁ : Walk) → Idle T holds n Q n₁ t₁ w₁ → Retreating T holds n Q n₁ t₁ w₁ n₁ t₁ w₁
+off-none T holds n Q n₁ t₁ w₁ s = record { reached = reached-none T holds n Q n₁ t₁ w₁ (s .state); found = s .found; less = omega arith }
 
 module _ (T : Tables) (holds : ℕ → ℕ → Bool) (n : ℕ) (Q : Type 0) (n₁ t₁ : List ℕ) (w₁ : Walk) (notes trail : List ℕ) (w : Walk) (h : Retreating T holds n Q n₁ t₁ w₁ notes trail w) where
-  less-or : (left (N T n) notes w ≡ left (N T n) n₁ w₁ → ⊥) → Retreated T holds n Q n₁ t₁ w₁ notes trail w
-  less-or d = let c : left (N T n) notes w ≢ left (N T n) n₁ w₁ = d in let l = h .turned .less in record { reached = h .turned .reached; less = omega arith }
-
-  pub off-opened : w .down ≡ true → Retreated T holds n Q n₁ t₁ w₁ notes trail w
-  off-opened d = less-or (λ z. true≢false (sym d ∙ h .turned .shut z .0))
+  pub off-down : w .down ≡ true → Retreated T holds n Q n₁ t₁ w₁ notes trail w
+  off-down d = record { reached = h .reached; less = h .less; still = λ e. absurd (true≢false (sym d ∙ e)) }
 
   pub off-end : w .top ≤ 0 → Retreated T holds n Q n₁ t₁ w₁ notes trail w
-  off-end l = less-or (λ z. let e = h .turned .shut z .1 in let s = h .start in absurd (omega arith))
+  off-end l = record { reached = h .reached; less = h .less; still = λ _. omega arith }
 
   pub off-halts : 0 < w .top → w .down ≡ false → Halts T holds n Q notes trail w
-  off-halts l d = record { state = state-of T holds n Q n₁ t₁ notes trail w₁ w (h .turned .reached); down = d; going = l }
+  off-halts l d = record { idle = record { state = state-of T holds n Q n₁ t₁ notes trail w₁ w (h .reached); down = d; found = h .found }; going = l }
 
   module _ (notes′ trail′ : List ℕ) (r : Walk) (o : Backward T holds n Q notes trail w notes′ trail′ r) where
     pub off-more : Retreating T holds n Q n₁ t₁ w₁ notes′ trail′ r
     off-more =
-        let a = h .turned .less in
-        let b = o .turned .less in
-        record {
-          turned = record {
-            reached = reached-on T holds n Q n₁ t₁ _ notes trail w notes′ trail′ r (h .turned .reached) (o .turned .reached);
-            less = omega arith;
-            shut = λ z. (o .turned .shut (omega arith) .0, o .turned .shut (omega arith) .1 ∙ h .turned .shut (omega arith) .1);
-          };
-          start = h .start;
-        }
+        let a = h .less in
+        let b = o .less in
+        record { reached = reached-on T holds n Q n₁ t₁ _ notes trail w notes′ trail′ r (h .reached) (o .reached); found = o .found; less = omega arith }
 
     few : (t : ℕ) → r .top ≡ t → restAt T trail′ t ≤ 2048
     unfolding restAt
     few zero e = omega arith
     few (suc t) e =
-        let g = o .turned .reached .good in
+        let g = o .reached .good in
         let d : Word T (getD trail′ t 0) = g .words t (omega arith) in
         elim (ℕ-discrete (wayIn (getD trail′ t 0)) 0) [
           | yes z ↦ rw (left-none T (placeIn (getD trail′ t 0)) (wayIn (getD trail′ t 0)) z) (omega arith)
@@ -134,32 +116,38 @@ module _ (T : Tables) (holds : ℕ → ℕ → Bool) (n : ℕ) (Q : Type 0) (n�
     pub off-less : behind T n notes′ trail′ r < behind T n notes trail w
     off-less = elim (ℕ-discrete (left (N T n) notes′ r) (left (N T n) notes w)) [
       | yes z ↦ let f = o .fewer z in omega arith
-      | no z ↦ let c : left (N T n) notes′ r ≢ left (N T n) notes w = z in let l = o .turned .less in let f = few (r .top) refl in omega arith
+      | no z ↦ let c : left (N T n) notes′ r ≢ left (N T n) notes w = z in let l = o .less in let f = few (r .top) refl in omega arith
     ]
 
 -- ---- both in turn
 
-module _ (T : Tables) (holds : ℕ → ℕ → Bool) (n : ℕ) (Q : Type 0) (n₁ t₁ : List ℕ) (w₁ : Walk) (notes trail : List ℕ) (w : Walk)
-    (h : Reached T holds n Q n₁ t₁ (comes T holds n n₁ t₁ w₁) notes trail w) where
-  pub run-state : State T holds n Q notes trail w
-  run-state = state-of T holds n Q n₁ t₁ notes trail w₁ w h
+pub record Running (T : Tables) (holds : ℕ → ℕ → Bool) (n : ℕ) (Q : Type 0) (n₁ t₁ : List ℕ) (w₁ : Walk) (notes trail : List ℕ) (w : Walk) : Type 0 where
+  pub reached : Reached T holds n Q n₁ t₁ (comes T holds n n₁ t₁ w₁) notes trail w
+  pub still : w .down ≡ false → w .top ≡ 0
 
-  pub run-end : w .top ≤ 0 → Ran T holds n Q n₁ t₁ w₁ notes trail w
-  run-end l = record { reached = h; last = λ g. absurd (omega arith) }
+pub run-none : (T : Tables) (holds : ℕ → ℕ → Bool) (n : ℕ) (Q : Type 0) (n₁ t₁ : List ℕ) (w₁ : Walk) → Moves T holds n Q n₁ t₁ w₁ → Running T holds n Q n₁ t₁ w₁ n₁ t₁ w₁
+run-none T holds n Q n₁ t₁ w₁ s = record { reached = reached-none T holds n Q n₁ t₁ w₁ (s .state); still = s .still }
+
+module _ (T : Tables) (holds : ℕ → ℕ → Bool) (n : ℕ) (Q : Type 0) (n₁ t₁ : List ℕ) (w₁ : Walk) (notes trail : List ℕ) (w : Walk) (h : Running T holds n Q n₁ t₁ w₁ notes trail w) where
+  pub run-goes : w .down ≡ true → Goes T holds n Q notes trail w
+  run-goes d = record { state = state-of T holds n Q n₁ t₁ notes trail w₁ w (h .reached); down = d }
+
+  pub run-end : w .down ≡ false → Ran T holds n Q n₁ t₁ w₁ notes trail w
+  run-end d = record { reached = h .reached; down = d; last = λ l. let z = h .still d in absurd (omega arith) }
 
   module _ (n₂ t₂ : List ℕ) (w₂ : Walk) (d : Descended T holds n Q notes trail w n₂ t₂ w₂) where
     on : Reached T holds n Q n₁ t₁ (comes T holds n n₁ t₁ w₁) n₂ t₂ w₂
-    on = reached-on T holds n Q n₁ t₁ _ notes trail w n₂ t₂ w₂ h (d .reached)
+    on = reached-on T holds n Q n₁ t₁ _ notes trail w n₂ t₂ w₂ (h .reached) (d .reached)
 
-    pub run-found : w₂ .down ≡ true → Ran T holds n Q n₁ t₁ w₁ n₂ t₂ w₂
-    run-found e = record { reached = on; last = λ _. record { spot = d .reached .stands .fresh e .spot; end = d .last e } }
+    pub run-found : w₂ .found ≡ true → Ran T holds n Q n₁ t₁ w₁ n₂ t₂ w₂
+    run-found e = record { reached = on; down = d .down; last = λ _. d .reached .stands .ends e }
 
-    pub run-halts : 0 < w .top → w₂ .down ≡ false → Halts T holds n Q n₂ t₂ w₂
-    run-halts l e = record { state = state-of T holds n Q notes trail n₂ t₂ w w₂ (d .reached); down = e; going = d .going l }
+    pub run-idle : w₂ .found ≡ false → Idle T holds n Q n₂ t₂ w₂
+    run-idle e = record { state = state-of T holds n Q notes trail n₂ t₂ w w₂ (d .reached); down = d .down; found = e }
 
     module _ (notes′ trail′ : List ℕ) (r : Walk) (b : Retreated T holds n Q n₂ t₂ w₂ notes′ trail′ r) where
-      pub run-more : Reached T holds n Q n₁ t₁ (comes T holds n n₁ t₁ w₁) notes′ trail′ r
-      run-more = reached-on T holds n Q n₁ t₁ _ n₂ t₂ w₂ notes′ trail′ r on (b .reached)
+      pub run-more : Running T holds n Q n₁ t₁ w₁ notes′ trail′ r
+      run-more = record { reached = reached-on T holds n Q n₁ t₁ _ n₂ t₂ w₂ notes′ trail′ r on (b .reached); still = b .still }
 
       pub run-less : left (N T n) notes′ r < left (N T n) notes w
       run-less = let x = b .less in let y = d .less in omega arith
@@ -168,8 +156,8 @@ module _ (T : Tables) (holds : ℕ → ℕ → Bool) (n : ℕ) (Q : Type 0) (n�
 
 -- no pair is open, or END is on top
 comes-out : (T : Tables) (holds : ℕ → ℕ → Bool) (n : ℕ) (Q : Type 0) (notes trail : List ℕ) (w : Walk) → Good T holds n Q notes trail w → (0 < w .top → Ends T trail w)
-    → comes T holds n notes trail w ≡ outcomeBy (P T) (w .top) trail (bitsOf notes (N T n)) (w .steps)
-unfolding comes stack resume outcomeBy
+    → resumed T holds n notes trail w ≡ outcomeBy (P T) (w .top) trail (bitsOf notes (N T n)) (w .steps)
+unfolding resumed stack resume outcomeBy
 comes-out T holds n Q notes trail w g last = go (w .top) refl
   where
     none : (t : ℕ) → t ≡ 0 → resume (graphOf T holds n) (N T n) (stack (P T) trail t) (bitsOf notes (N T n)) (w .steps) ≡ outcomeBy (P T) t trail (bitsOf notes (N T n)) (w .steps)
@@ -180,9 +168,6 @@ comes-out T holds n Q notes trail w g last = go (w .top) refl
     go (suc t) e = let l : 0 < w .top = omega arith in top-end T holds n Q notes trail w g l (rw (last l .spot .place) (last l .end))
 
 module _ (T : Tables) (holds : ℕ → ℕ → Bool) (n : ℕ) (Q : Type 0) (notes trail : List ℕ) (i s : ℕ) (h : Ready T holds n Q notes trail i s) where
-  abbrev start : Walk
-  start = walkAt 0 s 0 i (i * P T) false
-
   abbrev F : List Bool
   F = bitsOf notes (N T n)
 
@@ -192,9 +177,12 @@ module _ (T : Tables) (holds : ℕ → ℕ → Bool) (n : ℕ) (Q : Type 0) (not
   pub first-fits : i * P T < 18446744073709551616
   first-fits = let b = first-below in let m = h .legal .small in omega arith
 
-  start-good : Good T holds n Q notes trail start
+  pub first-noted : Noted notes (i * P T + 0)
+  first-noted = let b = first-below in let no = h .noted in let sm = h .legal .small in (omega arith, omega arith)
+
+  first-good : (d : Bool) → Good T holds n Q notes trail (walkAt 0 s 0 i (i * P T) d false)
   unfolding stack
-  start-good =
+  first-good d =
       let a = h .steps in
       record {
         legal = h .legal;
@@ -209,11 +197,11 @@ module _ (T : Tables) (holds : ℕ → ℕ → Bool) (n : ℕ) (Q : Type 0) (not
         steps = omega arith;
       }
 
-  next-first : bitAt notes (i * P T + 0) ≡ false → Next T holds n Q notes trail start 0 i (i * P T)
+  first-next : bitAt notes (i * P T + 0) ≡ false → Next T holds n Q notes trail (walkAt 0 s 0 i (i * P T) true false) 0 i (i * P T)
   unfolding stack
-  next-first o =
+  first-next o =
       record {
-        good = start-good;
+        good = first-good true;
         place = h .legal .sized .some;
         base-is = refl;
         opened = record { rising = (tt, tt); out = (bitsOf-at notes (N T n) (i * P T + 0) first-below ∙ o, tt); pairs = (first-below, tt) };
@@ -221,37 +209,44 @@ module _ (T : Tables) (holds : ℕ → ℕ → Bool) (n : ℕ) (Q : Type 0) (not
         led = λ l. absurd (not-suc-le-zero l);
       }
 
-  pub first-tries : Tries (T .code) (T .entry) Q notes trail start 0 i (i * P T)
-  first-tries =
-      let b = first-below in
-      let no = h .noted in
-      let sm = h .legal .small in
-      record { small = omega arith; byte = omega arith; enters = λ o. next-enters T holds n Q notes trail start 0 i (i * P T) (next-first o) }
+  bit-is : (b : Bool) → bitAt notes (i * P T + 0) ≡ b → getD F (i * P T) false ≡ b
+  bit-is b o = let z : i * P T + 0 ≡ i * P T = omega arith in rw z at (bitsOf-at notes (N T n) (i * P T + 0) first-below ∙ o)
 
-  fresh : bitAt notes (i * P T + 0) ≡ false → resume (graphOf T holds n) (N T n) ((i * P T + 0) ∷ stack (P T) trail 0) F (suc s) ≡ attemptBy T holds n F s i
-  unfolding stack
-  fresh o =
+  first-stands : (b : Bool) → bitAt notes (i * P T + 0) ≡ b → Stands T holds n Q notes trail (walkAt 0 s 0 i (i * P T) (not b) false)
+  first-stands true o =
+      record { next = λ (d : false ≡ true). absurd (true≢false (sym d)); stuck = λ _ _ l. absurd (not-suc-le-zero l); ends = λ (d : false ≡ true). absurd (true≢false (sym d)) }
+  first-stands false o =
+      record { next = λ _. first-next o; stuck = λ (d : true ≡ false). absurd (true≢false d); ends = λ (d : false ≡ true). absurd (true≢false (sym d)) }
+
+  first-same : (b : Bool) → bitAt notes (i * P T + 0) ≡ b → comes T holds n notes trail (walkAt 0 s 0 i (i * P T) (not b) false) ≡ attemptBy T holds n F s i
+  unfolding comes resumed entering stack resume
+  first-same true o = rw (bit-is true o)
+  first-same false o =
       let z : i * P T + 0 ≡ i * P T = omega arith in
-      let b : getD F (i * P T) false ≡ false = rw z at (bitsOf-at notes (N T n) (i * P T + 0) first-below ∙ o) in
-      rw (z, b) (resume-one (graphOf T holds n) (N T n) F (suc s) (i * P T))
+      rw (z, bit-is false o) (resume-one (graphOf T holds n) (N T n) F (suc s) (i * P T))
 
-  stale : bitAt notes (i * P T + 0) ≡ true → comes T holds n notes trail start ≡ attemptBy T holds n F s i
-  unfolding comes stack resume
-  stale o =
-      let z : i * P T + 0 ≡ i * P T = omega arith in
-      let b : getD F (i * P T) false ≡ true = rw z at (bitsOf-at notes (N T n) (i * P T + 0) first-below ∙ o) in
-      rw b
+  module _ (v : Walk) (e : v ≡ tryAt notes 0 s 0 i (i * P T)) where
+    first-reached : Reached T holds n Q notes trail (attemptBy T holds n F s i) notes trail v
+    first-reached =
+        rw e (record {
+          good = first-good (not (bitAt notes (i * P T + 0)));
+          stands = first-stands (bitAt notes (i * P T + 0)) refl;
+          same = first-same (bitAt notes (i * P T + 0)) refl;
+          notes-long = refl;
+          trail-long = refl;
+          notes-beyond = λ z l. refl;
+          trail-beyond = λ k l. refl;
+        })
 
-  module _ (n₁ t₁ : List ℕ) (v : Walk)
-      (e : mem n₁ t₁ v ≡ triedBy (bitAt notes (i * P T + 0)) (passesBy holds n (getD (T .code) 0 0) i) (mem notes trail start) 0 i (i * P T) (getD (T .entry) 0 0)) where
-    first-tried : Tried T holds n Q notes trail start (attemptBy T holds n F s i) n₁ t₁ v
-    first-tried = tried T holds n Q notes trail start 0 i (i * P T) (attemptBy T holds n F s i) start-good next-first fresh (λ l. absurd (not-suc-le-zero l)) stale n₁ t₁ v e
+    pub first-moves : Moves T holds n Q notes trail v
+    first-moves = record { state = record { good = first-reached .good; stands = first-reached .stands }; still = λ _. rw e refl }
 
-    pub first-state : State T holds n Q n₁ t₁ v
-    first-state = record { good = first-tried .reached .good; stands = first-tried .reached .stands }
-
-    pub attempt-done : (notes′ trail′ : List ℕ) (r : Walk) → Ran T holds n Q n₁ t₁ v notes′ trail′ r → Done T holds n Q notes trail i s notes′ trail′ r
+    pub attempt-done : (notes′ trail′ : List ℕ) (r : Walk) → Ran T holds n Q notes trail v notes′ trail′ r → Done T holds n Q notes trail i s notes′ trail′ r
     attempt-done notes′ trail′ r d =
         let a : Reached T holds n Q notes trail (attemptBy T holds n F s i) notes′ trail′ r =
-        reached-on T holds n Q notes trail _ n₁ t₁ v notes′ trail′ r (first-tried .reached) (d .reached) in
-        record { same = sym (a .same) ∙ comes-out T holds n Q notes′ trail′ r (a .good) (d .last); reached = a; last = d .last }
+        reached-on T holds n Q notes trail _ notes trail v notes′ trail′ r first-reached (d .reached) in
+        record {
+          same = sym (a .same) ∙ comes-idle T holds n notes′ trail′ r (d .down) ∙ comes-out T holds n Q notes′ trail′ r (a .good) (d .last);
+          reached = a;
+          last = d .last;
+        }

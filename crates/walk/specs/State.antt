@@ -1,6 +1,7 @@
 -- What holds of notes, trail and walk while an attempt goes on, what a part of it comes to, and what an attempt asks and leaves.
 use mathlib.Core.Path.{_≡_}
 use mathlib.Core.List.{List, [], _∷_}
+use Rattle.rules.specs.Basics.{pick}
 use mathlib.Core.Bool.{Bool, true, false}
 use Prim.Native.Nat.{ℕ, zero, suc, _+_, _-_, _*_, _/_, _%_, _≤_, _<_}
 use lib.ListN.{length, getD}
@@ -12,7 +13,7 @@ use Rattle.rules.proofs.Notes.{bitsOf}
 use Rattle.rules.proofs.Walk.{All}
 use Rattle.walk.specs.declared.Walk.{Walk}
 use Rattle.walk.specs.Tables.{Tables, P, N, Sized, Legal, second, leftFrom, waysOf, placeAt, graphOf, passesBy}
-use Rattle.walk.specs.Step.{placeIn, rowIn, wayIn, pairIn, stack, outcomeBy}
+use Rattle.walk.specs.Step.{placeIn, rowIn, wayIn, pairIn, stack, pairOf, outcomeBy}
 
 -- the rows that a place takes
 abbrev pub takes : Place → ℕ
@@ -80,12 +81,6 @@ pub record Stuck (T : Tables) (notes : List ℕ) (e : ℕ) : Type 0 where
   pub going : getD (T .code) (placeIn e) 0 ≤ 28
   pub tried : (m : ℕ) → m < reach T e → bitAt notes (wayAt T e m) ≡ true
 
--- the last open pair has tried no way yet, and the walk stands at it
-pub record Fresh (T : Tables) (trail : List ℕ) (w : Walk) : Type 0 where
-  pub going : 0 < w .top
-  pub spot : Spot (P T) w (getD trail (w .top - 1) 0)
-  pub way : wayIn (getD trail (w .top - 1) 0) ≡ second T (placeIn (getD trail (w .top - 1) 0))
-
 -- the open pairs have not failed, each led to the one above it, all pass, and the ways of each before the one that led on have failed; the steps cannot run over
 pub record Good (T : Tables) (holds : ℕ → ℕ → Bool) (n : ℕ) (Q : Type 0) (notes trail : List ℕ) (w : Walk) : Type 0 where
   pub legal : Legal T holds n
@@ -99,10 +94,25 @@ pub record Good (T : Tables) (holds : ℕ → ℕ → Bool) (n : ℕ) (Q : Type 
   pub led : (k : ℕ) → suc k < w .top → Led T notes (getD trail k 0) (pairIn (P T) (getD trail (suc k) 0))
   pub steps : w .steps + N T n < 18446744073709551616 + (countTrue (bitsOf notes (N T n)) + w .top)
 
--- the last open pair has just been opened, or the ways that it has tried have failed
-pub record Stands (T : Tables) (notes trail : List ℕ) (w : Walk) : Type 0 where
-  pub fresh : w .down ≡ true → Fresh T trail w
-  pub stuck : w .down ≡ false → 0 < w .top → Stuck T notes (getD trail (w .top - 1) 0)
+-- the pair of place q at a row is the next to be entered: it has not failed, and the last open pair leads to it
+pub record Next (T : Tables) (holds : ℕ → ℕ → Bool) (n : ℕ) (Q : Type 0) (notes trail : List ℕ) (w : Walk) (q row base : ℕ) : Type 0 where
+  pub good : Good T holds n Q notes trail w
+  pub place : q < P T
+  pub base-is : base ≡ row * P T
+  pub opened : Open (good .legal .ρ) (N T n) (bitsOf notes (N T n)) ((base + q) ∷ stack (P T) trail (w .top))
+  pub linked : Linked T ((base + q) ∷ stack (P T) trail (w .top))
+  pub led : 0 < w .top → Led T notes (getD trail (w .top - 1) 0) (base + q)
+
+-- the walk stands at END, which is on top
+pub record Ends (T : Tables) (trail : List ℕ) (w : Walk) : Type 0 where
+  pub spot : Spot (P T) w (getD trail (w .top - 1) 0)
+  pub end : 28 < getD (T .code) (w .place) 0
+
+-- the walk's pair is the next to be entered, or it is END, or the ways that the last open pair has tried have failed
+pub record Stands (T : Tables) (holds : ℕ → ℕ → Bool) (n : ℕ) (Q : Type 0) (notes trail : List ℕ) (w : Walk) : Type 0 where
+  pub next : w .down ≡ true → Next T holds n Q notes trail w (w .place) (w .row) (w .base)
+  pub stuck : w .down ≡ false → w .found ≡ false → 0 < w .top → Stuck T notes (getD trail (w .top - 1) 0)
+  pub ends : w .found ≡ true → Ends T trail w
 
 -- how much is left to do: pairs to enter and leave; and the ways that the last open pair has left
 unfoldable pub left : ℕ → List ℕ → Walk → ℕ
@@ -115,14 +125,23 @@ restAt T trail (suc t) = leftFrom T (placeIn (getD trail t 0)) (wayIn (getD trai
 abbrev pub rest : Tables → List ℕ → Walk → ℕ
 rest T trail w = restAt T trail (w .top)
 
--- what the state comes to by the recursive walk
+-- what the open pairs come to by the recursive walk
+unfoldable pub resumed : Tables → (ℕ → ℕ → Bool) → ℕ → List ℕ → List ℕ → Walk → Outcome
+resumed T holds n notes trail w = resume (graphOf T holds n) (N T n) (stack (P T) trail (w .top)) (bitsOf notes (N T n)) (w .steps)
+
+-- what they come to once the pair x is entered
+unfoldable pub entering : Tables → (ℕ → ℕ → Bool) → ℕ → List ℕ → List ℕ → Walk → ℕ → Outcome
+entering T holds n notes trail w x = resume (graphOf T holds n) (N T n) (x ∷ stack (P T) trail (w .top)) (bitsOf notes (N T n)) (suc (w .steps))
+
+-- what the state comes to
 unfoldable pub comes : Tables → (ℕ → ℕ → Bool) → ℕ → List ℕ → List ℕ → Walk → Outcome
-comes T holds n notes trail w = resume (graphOf T holds n) (N T n) (stack (P T) trail (w .top)) (bitsOf notes (N T n)) (w .steps)
+unfolding resumed entering
+comes T holds n notes trail w = pick (w .down) (entering T holds n notes trail w (pairOf w)) (resumed T holds n notes trail w)
 
 -- the walk has come from the buffers n₁ and t₁ to this state, which comes to the outcome R; nothing beyond the pairs is changed
 pub record Reached (T : Tables) (holds : ℕ → ℕ → Bool) (n : ℕ) (Q : Type 0) (n₁ t₁ : List ℕ) (R : Outcome) (notes trail : List ℕ) (w : Walk) : Type 0 where
   pub good : Good T holds n Q notes trail w
-  pub stands : Stands T notes trail w
+  pub stands : Stands T holds n Q notes trail w
   pub same : comes T holds n notes trail w ≡ R
   pub notes-long : length notes ≡ length n₁
   pub trail-long : length trail ≡ length t₁
@@ -132,56 +151,57 @@ pub record Reached (T : Tables) (holds : ℕ → ℕ → Bool) (n : ℕ) (Q : Ty
 -- a state of the walk
 pub record State (T : Tables) (holds : ℕ → ℕ → Bool) (n : ℕ) (Q : Type 0) (notes trail : List ℕ) (w : Walk) : Type 0 where
   pub good : Good T holds n Q notes trail w
-  pub stands : Stands T notes trail w
+  pub stands : Stands T holds n Q notes trail w
 
--- the last open pair was just opened, and is no END
+-- a pair is to be entered
 pub record Goes (T : Tables) (holds : ℕ → ℕ → Bool) (n : ℕ) (Q : Type 0) (notes trail : List ℕ) (w : Walk) : Type 0 where
   pub state : State T holds n Q notes trail w
   pub down : w .down ≡ true
-  pub going : getD (T .code) (w .place) 0 ≤ 28
 
--- a pair is open, and the last try opened none
-pub record Halts (T : Tables) (holds : ℕ → ℕ → Bool) (n : ℕ) (Q : Type 0) (notes trail : List ℕ) (w : Walk) : Type 0 where
+-- no pair is to be entered, and END is not open
+pub record Idle (T : Tables) (holds : ℕ → ℕ → Bool) (n : ℕ) (Q : Type 0) (notes trail : List ℕ) (w : Walk) : Type 0 where
   pub state : State T holds n Q notes trail w
   pub down : w .down ≡ false
+  pub found : w .found ≡ false
+
+-- and a pair is open
+pub record Halts (T : Tables) (holds : ℕ → ℕ → Bool) (n : ℕ) (Q : Type 0) (notes trail : List ℕ) (w : Walk) : Type 0 where
+  pub idle : Idle T holds n Q notes trail w
   pub going : 0 < w .top
 
--- one try: the state comes to what it came to before; less is left, or else the try opened none
-pub record Turned (T : Tables) (holds : ℕ → ℕ → Bool) (n : ℕ) (Q : Type 0) (n₁ t₁ : List ℕ) (w₁ : Walk) (notes trail : List ℕ) (w : Walk) : Type 0 where
-  pub reached : Reached T holds n Q n₁ t₁ (comes T holds n n₁ t₁ w₁) notes trail w
-  pub less : left (N T n) notes w ≤ left (N T n) n₁ w₁
-  pub shut : left (N T n) notes w ≡ left (N T n) n₁ w₁ → (w .down ≡ false) × (w .top ≡ w₁ .top)
+-- a pair is to be entered, or none is open
+pub record Moves (T : Tables) (holds : ℕ → ℕ → Bool) (n : ℕ) (Q : Type 0) (notes trail : List ℕ) (w : Walk) : Type 0 where
+  pub state : State T holds n Q notes trail w
+  pub still : w .down ≡ false → w .top ≡ 0
 
--- a try from the last open pair keeps it open
+-- a pair was entered: the state comes to what it came to before, and less is left
 pub record Onward (T : Tables) (holds : ℕ → ℕ → Bool) (n : ℕ) (Q : Type 0) (n₁ t₁ : List ℕ) (w₁ : Walk) (notes trail : List ℕ) (w : Walk) : Type 0 where
-  pub turned : Turned T holds n Q n₁ t₁ w₁ notes trail w
-  pub going : 0 < w .top
-
--- the last open pair goes on to its next way or fails: where nothing else is less, one way less is left
-pub record Backward (T : Tables) (holds : ℕ → ℕ → Bool) (n : ℕ) (Q : Type 0) (n₁ t₁ : List ℕ) (w₁ : Walk) (notes trail : List ℕ) (w : Walk) : Type 0 where
-  pub turned : Turned T holds n Q n₁ t₁ w₁ notes trail w
-  pub fewer : left (N T n) notes w ≡ left (N T n) n₁ w₁ → rest T trail w < rest T t₁ w₁
-
--- all tries that open a pair: the last try opened none, or END is on top
-pub record Descended (T : Tables) (holds : ℕ → ℕ → Bool) (n : ℕ) (Q : Type 0) (n₁ t₁ : List ℕ) (w₁ : Walk) (notes trail : List ℕ) (w : Walk) : Type 0 where
-  pub reached : Reached T holds n Q n₁ t₁ (comes T holds n n₁ t₁ w₁) notes trail w
-  pub less : left (N T n) notes w ≤ left (N T n) n₁ w₁
-  pub going : 0 < w₁ .top → 0 < w .top
-  pub last : w .down ≡ true → 28 < getD (T .code) (w .place) 0
-
--- back until a pair is opened or none is open: less is left
-pub record Retreated (T : Tables) (holds : ℕ → ℕ → Bool) (n : ℕ) (Q : Type 0) (n₁ t₁ : List ℕ) (w₁ : Walk) (notes trail : List ℕ) (w : Walk) : Type 0 where
   pub reached : Reached T holds n Q n₁ t₁ (comes T holds n n₁ t₁ w₁) notes trail w
   pub less : left (N T n) notes w < left (N T n) n₁ w₁
 
--- the walk stands at END, which is on top
-pub record Ends (T : Tables) (trail : List ℕ) (w : Walk) : Type 0 where
-  pub spot : Spot (P T) w (getD trail (w .top - 1) 0)
-  pub end : 28 < getD (T .code) (w .place) 0
+-- the last open pair went on to its next way or failed: less is left, or else one way less
+pub record Backward (T : Tables) (holds : ℕ → ℕ → Bool) (n : ℕ) (Q : Type 0) (n₁ t₁ : List ℕ) (w₁ : Walk) (notes trail : List ℕ) (w : Walk) : Type 0 where
+  pub reached : Reached T holds n Q n₁ t₁ (comes T holds n n₁ t₁ w₁) notes trail w
+  pub found : w .found ≡ false
+  pub less : left (N T n) notes w ≤ left (N T n) n₁ w₁
+  pub fewer : left (N T n) notes w ≡ left (N T n) n₁ w₁ → rest T trail w < rest T t₁ w₁
 
--- all tries: no pair is open, or END is on top
+-- all pairs were entered that were to be entered in turn
+pub record Descended (T : Tables) (holds : ℕ → ℕ → Bool) (n : ℕ) (Q : Type 0) (n₁ t₁ : List ℕ) (w₁ : Walk) (notes trail : List ℕ) (w : Walk) : Type 0 where
+  pub reached : Reached T holds n Q n₁ t₁ (comes T holds n n₁ t₁ w₁) notes trail w
+  pub less : left (N T n) notes w < left (N T n) n₁ w₁
+  pub down : w .down ≡ false
+
+-- back until a pair is to be entered or none is open
+pub record Retreated (T : Tables) (holds : ℕ → ℕ → Bool) (n : ℕ) (Q : Type 0) (n₁ t₁ : List ℕ) (w₁ : Walk) (notes trail : List ℕ) (w : Walk) : Type 0 where
+  pub reached : Reached T holds n Q n₁ t₁ (comes T holds n n₁ t₁ w₁) notes trail w
+  pub less : left (N T n) notes w ≤ left (N T n) n₁ w₁
+  pub still : w .down ≡ false → w .top ≡ 0
+
+-- the walk is over: no pair is open, or END is on top
 pub record Ran (T : Tables) (holds : ℕ → ℕ → Bool) (n : ℕ) (Q : Type 0) (n₁ t₁ : List ℕ) (w₁ : Walk) (notes trail : List ℕ) (w : Walk) : Type 0 where
   pub reached : Reached T holds n Q n₁ t₁ (comes T holds n n₁ t₁ w₁) notes trail w
+  pub down : w .down ≡ false
   pub last : 0 < w .top → Ends T trail w
 
 -- what an attempt at row i asks, with s steps before it

@@ -1,10 +1,10 @@
--- The walk's memory, and what its small functions do to it: a pair is entered or tried, and the last open pair goes on to its next way.
+-- The walk's memory, and what its small functions do to it: a pair is tried or entered, and the last open pair goes on to its next way.
 -- The trail's first `top` numbers stand for the open pairs. A number holds a pair's place in its low 8 bits, its row in the 13 bits above, and above them the index of the
--- way that the pair tries next (0: none is left), so that it goes on where it was left. Where the last try opened a pair (`down`), the walk stands at that pair.
+-- way that the pair tries next (0: none is left), so that it goes on where it was left. The walk stands at the pair that was tried last.
 use mathlib.Core.Path.{_≡_}
 use mathlib.Core.List.{List, [], _∷_, reverseAux}
-use mathlib.Core.Bool.{Bool, true, false}
-use Prim.Native.Nat.{ℕ, zero, suc, _+_, _*_, _/_, _%_, _<_}
+use mathlib.Core.Bool.{Bool, true, false, not}
+use Prim.Native.Nat.{ℕ, zero, suc, _+_, _*_, _/_, _%_, _≤_, _<_}
 use lib.Dec.{ltb}
 use lib.ListN.{length, getD, set}
 use Rattle.rules.specs.Basics.{pick}
@@ -21,8 +21,12 @@ pub record Mem : Type 0 where
 abbrev pub mem : List ℕ → List ℕ → Walk → Mem
 mem n t w = record { notes = n; trail = t; walk = w }
 
-abbrev pub walkAt : ℕ → ℕ → ℕ → ℕ → ℕ → Bool → Walk
-walkAt top steps place row base down = record { top = top; steps = steps; place = place; row = row; base = base; down = down }
+abbrev pub walkAt : ℕ → ℕ → ℕ → ℕ → ℕ → Bool → Bool → Walk
+walkAt top steps place row base down end = record { top = top; steps = steps; place = place; row = row; base = base; down = down; found = end }
+
+-- the pair of place q at a row is tried: it is to be entered unless it has failed
+abbrev pub tryAt : List ℕ → ℕ → ℕ → ℕ → ℕ → ℕ → Walk
+tryAt notes top steps q row base = walkAt top steps q row base (not (bitAt notes (base + q))) false
 
 -- a number of the trail: its place, its row, its next way, and the pair of place and row where there are P places
 abbrev pub placeIn : ℕ → ℕ
@@ -42,7 +46,7 @@ unfoldable pub stack : ℕ → List ℕ → ℕ → List ℕ
 stack P trail zero = []
 stack P trail (suc t) = pairIn P (getD trail t 0) ∷ stack P trail t
 
--- the open pair at which the walk stands
+-- the pair at which the walk stands
 abbrev pub pairOf : Walk → ℕ
 pairOf w = w .base + w .place
 
@@ -50,22 +54,22 @@ pairOf w = w .base + w .place
 unfoldable pub after : ℕ → ℕ → ℕ
 after stop j = pick (ltb (j + 1) stop) (j + 1) 0
 
--- a number of the trail whose pair tries its next way: the way behind that one is next
+-- a number of the trail, with way j as the next of its pair
 abbrev pub wentOn : ℕ → ℕ → ℕ
-wentOn stop e = e % 2097152 + after stop (wayIn e) * 2097152
+wentOn j e = e % 2097152 + j * 2097152
 
--- The pair of place q at a row is entered, which is one step. If it passes it is open, with v on the trail for its place and its ways; a letter or anchor that does not pass
--- fails at once.
+-- The pair of w is open, by a place of code c whose first place is k: a letter tries the pair of k at the next row, END succeeds, any other place tries the pair of k at the same row.
+unfoldable pub openedBy : ℕ → ℕ → ℕ → List ℕ → Walk → Walk
+openedBy c k P notes w =
+    pick (ltb c 26) (tryAt notes (w .top + 1) (w .steps + 1) k (w .row + 1) (w .base + P))
+    (pick (ltb 28 c) (walkAt (w .top + 1) (w .steps + 1) (w .place) (w .row) (w .base) false true) (tryAt notes (w .top + 1) (w .steps + 1) k (w .row) (w .base)))
+
+-- The pair of the walk is entered, which is one step. If it passes it is open, with v on the trail for its place and its ways; a letter or anchor that does not pass fails at once.
 unfoldable pub enteredBy : Bool → Mem → ℕ → ℕ → ℕ → ℕ → Mem
-enteredBy true m q row base v = mem (m .notes) (set (m .trail) (m .walk .top) (row * 256 + v)) (walkAt (m .walk .top + 1) (m .walk .steps + 1) q row base true)
-enteredBy false m q row base v =
-    mem (marked (m .notes) (base + q)) (m .trail) (walkAt (m .walk .top) (m .walk .steps + 1) (m .walk .place) (m .walk .row) (m .walk .base) false)
-
--- the pair is tried: one that has failed (the first Boolean) is not entered
-unfoldable pub triedBy : Bool → Bool → Mem → ℕ → ℕ → ℕ → ℕ → Mem
-unfolding enteredBy
-triedBy true p m q row base v = mem (m .notes) (m .trail) (walkAt (m .walk .top) (m .walk .steps) (m .walk .place) (m .walk .row) (m .walk .base) false)
-triedBy false p m q row base v = enteredBy p m q row base v
+unfolding openedBy
+enteredBy true m c v k P = mem (m .notes) (set (m .trail) (m .walk .top) (m .walk .row * 256 + v)) (openedBy c k P (m .notes) (m .walk))
+enteredBy false m c v k P =
+    mem (marked (m .notes) (pairOf (m .walk))) (m .trail) (walkAt (m .walk .top) (m .walk .steps + 1) (m .walk .place) (m .walk .row) (m .walk .base) false false)
 
 -- the attempt's result in memory: no open pair, or the open pairs are the path
 unfoldable pub outcomeBy : ℕ → ℕ → List ℕ → List Bool → ℕ → Outcome
@@ -73,25 +77,24 @@ unfolding stack
 outcomeBy P zero trail F s = failed F s
 outcomeBy P (suc t) trail F s = found (reverseAux (stack P trail (suc t)) []) F s
 
--- ---- what the small functions require
+-- ---- what entering a pair requires
 
--- a place of the tables, where Q is what the test of a letter asks
-pub record Known (co : List ℕ) (Q : Type 0) (q : ℕ) : Type 0 where
+-- a pair that can be tried: it has a note
+abbrev pub Noted : List ℕ → ℕ → Type 0
+Noted notes x = (x < 2097152) × (x / 8 < length notes)
+
+-- the pair of the walk has not failed, there is room for it, and the pair that it leads to first can be tried; Q is what the test of a letter asks
+pub record Enters (co ne en : List ℕ) (n : ℕ) (Q : Type 0) (notes trail : List ℕ) (w : Walk) : Type 0 where
   pub asks : Q
-  pub place : q < length co
-
--- the pair of place q has not failed, and there is room for it
-pub record Enters (co en : List ℕ) (Q : Type 0) (notes trail : List ℕ) (w : Walk) (q row base : ℕ) : Type 0 where
-  pub known : Known co Q q
-  pub entry : q < length en
-  pub small : base + q < 2097152
-  pub word : row * 256 + getD en q 0 < 4294967296
-  pub byte : (base + q) / 8 < length notes
-  pub out : bitAt notes (base + q) ≡ false
+  pub place : w .place < length co
+  pub next : w .place < length ne
+  pub entry : w .place < length en
+  pub row : w .row ≤ 4096
+  pub noted : Noted notes (w .base + w .place)
+  pub out : bitAt notes (w .base + w .place) ≡ false
+  pub word : w .row * 256 + getD en (w .place) 0 < 4294967296
   pub room : w .top < length trail
+  pub small : w .top < 2097152
   pub steps : w .steps + 1 < 18446744073709551616
-
-pub record Tries (co en : List ℕ) (Q : Type 0) (notes trail : List ℕ) (w : Walk) (q row base : ℕ) : Type 0 where
-  pub small : base + q < 2097152
-  pub byte : (base + q) / 8 < length notes
-  pub enters : bitAt notes (base + q) ≡ false → Enters co en Q notes trail w q row base
+  pub letter : getD co (w .place) 0 < 26 → w .row < n → Noted notes (w .base + length co + getD ne (w .place) 0)
+  pub other : 26 ≤ getD co (w .place) 0 → getD co (w .place) 0 ≤ 28 → Noted notes (w .base + getD ne (w .place) 0)

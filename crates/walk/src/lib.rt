@@ -1,18 +1,19 @@
 // One attempt of the counted walk, over flat tables of places, lent notes (a bit for each pair: it has failed) and a lent trail (the open pairs).
-// A pair is the number row * P + place. Pairs are entered in one function only, `enter`, which counts the entry. No pair is entered that has
-// failed, so an attempt takes no more steps than there are pairs. The promise is `Done` (specs/State): the result is the definition's.
+// A pair is the number row * P + place. Pairs are entered in one function only, `enter`, which counts the entry, and it is called in one place. No pair
+// is entered that has failed, so an attempt takes no more steps than there are pairs. The promise is `Done` (specs/State): the result is the definition's.
 ghost use mathlib.Core.Path.{_≡_};
-ghost use mathlib.Core.Bool.{true, false};
-ghost use Prim.Native.Nat.{_+_, _-_, _*_, _/_, _%_, _<_, _≤_};
+ghost use mathlib.Core.Bool.{Bool, true, false};
+ghost use Prim.Native.Nat.{ℕ, _+_, _-_, _*_, _/_, _%_, _<_, _≤_};
 ghost use lib.ListN.{length, getD, set};
 ghost use Rattle.rules.specs.Report.{bitAt};
 ghost use Rattle.rules.proofs.Notes.{marked};
 ghost use Rattle.walk.specs.Tables.{tables, passesBy};
 ghost use Rattle.walk.specs.Letters.{holdsIn, Lettered};
-ghost use Rattle.walk.specs.Step.{mem, after, wentOn, enteredBy, triedBy, Known, Enters, Tries};
-ghost use Rattle.walk.specs.State.{State, Goes, Halts, Onward, Backward, Descended, Retreated, Ran, Ready, Done};
+ghost use Rattle.walk.specs.Step.{mem, walkAt, tryAt, after, wentOn, enteredBy, Enters};
+ghost use Rattle.walk.specs.State.{State, Goes, Halts, Onward, Backward, Descended, Idle, Retreated, Moves, Ran, Ready, Done};
 
-// Where a walk is: how many pairs are open, the steps so far, and whether the last try opened a pair; if so, that pair's place and row, and its row times P.
+// Where a walk is: how many pairs are open, and the steps so far; the pair that was tried last, by its place, its row and its row times P; whether that pair
+// is to be entered (`down`), and whether it is END and open (`found`).
 #[repr(C)]
 pub struct Walk {
     pub top: usize,
@@ -21,6 +22,7 @@ pub struct Walk {
     pub row: usize,
     pub base: usize,
     pub down: bool,
+    pub found: bool,
 }
 
 // A 16-bit number, without a proof of the cast at the caller.
@@ -89,9 +91,8 @@ fn holds(
     )
 }
 
-// Whether place q passes at the row.
-fn passes(
-    code: &[u8],
+// Whether the letter of code c passes at the row: there is a row, and it holds there.
+fn letter_passes(
     rows: &[i32],
     columns: usize,
     n: usize,
@@ -99,20 +100,24 @@ fn passes(
     offsets: &[i8; 416],
     constants: &[i32; 208],
     counts: &[u8; 26],
-    q: usize,
+    c: u8,
     row: usize,
 ) -> bool
-    requires { ⌜ Known (now code) (Lettered (now cells) (now offsets) (now counts) (now rows) columns n) q ⌝ }
-    ensures { λ r. ⌜ r ≡ passesBy (holdsIn (now (rows .entry)) columns (now (cells .entry)) (now (offsets .entry)) (now (constants .entry)) (now (counts .entry)))
-        n (getD (now (code .entry)) q 0) row ⌝ }
+    requires { ⌜ (c < 26) × Lettered (now cells) (now offsets) (now counts) (now rows) columns n ⌝ }
+    ensures { λ r. ⌜ r ≡ passesBy (holdsIn (now (rows .entry)) columns (now (cells .entry)) (now (offsets .entry)) (now (constants .entry)) (now (counts
+        .entry))) n c row ⌝ }
 {
-    let c = code[q];
-    if c < 26 {
-        if row < n {
-            return holds(rows, columns, n, cells, offsets, constants, counts, c, row);
-        }
-        return false;
+    if row < n {
+        return holds(rows, columns, n, cells, offsets, constants, counts, c, row);
     }
+    false
+}
+
+// Whether an anchor of code c passes at the row, or another place that is no letter, which always passes.
+fn anchor_passes(n: usize, c: u8, row: usize) -> bool
+    requires { ⌜ 26 ≤ c ⌝ }
+    ensures { λ r. ⌜ ((holds : ℕ → ℕ → Bool) → r ≡ passesBy holds n c row) ⌝ }
+{
     if c == 26 {
         return row == 0;
     }
@@ -122,124 +127,55 @@ fn passes(
     true
 }
 
-// The pair of place q at the row is entered: one step, counted here and nowhere else. A letter or anchor that does not pass fails at once.
-fn enter(
-    code: &[u8],
-    entry: &[u32],
-    rows: &[i32],
-    columns: usize,
-    n: usize,
-    cells: &[u16; 832],
-    offsets: &[i8; 416],
-    constants: &[i32; 208],
-    counts: &[u8; 26],
-    notes: &mut [u8],
-    trail: &mut [u32],
-    w: Walk,
-    q: usize,
-    row: usize,
-    base: usize,
-) -> Walk
-    requires { ⌜ Enters (now code) (now entry) (Lettered (now cells) (now offsets) (now counts) (now rows) columns n) (now notes) (now trail) w q row base ⌝ }
-    ensures { λ r. ⌜ mem (now (notes .exit)) (now (trail .exit)) r ≡ enteredBy (passesBy (holdsIn (now (rows .entry)) columns (now (cells .entry)) (now (offsets
-        .entry)) (now (constants .entry)) (now (counts .entry))) n (getD (now (code .entry)) q 0) row) (mem (now (notes .entry)) (now (trail .entry)) w) q row base
-        (getD (now (entry .entry)) q 0) ⌝ }
+// The pair is tried: it is to be entered unless it has failed.
+fn tried(notes: &[u8], top: usize, steps: usize, place: usize, row: usize, base: usize) -> Walk
+    requires { ⌜ (base + place < 2097152) × ((base + place) / 8 < length (now notes)) ⌝ }
+    ensures { λ r. ⌜ r ≡ tryAt (now (notes .entry)) top steps place row base ⌝ }
 {
-    let steps = w.steps + 1;
-    let top = w.top;
-    if passes(
-        code,
-        rows,
-        columns,
-        n,
-        cells,
-        offsets,
-        constants,
-        counts,
-        q,
-        row,
-    ) {
-        trail[top] = (row * 256 + wide32(entry[q])) as u32;
-        let opened = top + 1;
-        return Walk {
-            top: opened,
-            steps,
-            place: q,
-            row,
-            base,
-            down: true,
-        };
-    }
-    mark(notes, base + q);
+    let shut = failed(notes, base + place);
     Walk {
         top,
+        steps,
+        place,
+        row,
+        base,
+        down: !shut,
+        found: false,
+    }
+}
+
+// The pair at a row of the place whose entry is v is open.
+fn push(trail: &mut [u32], top: usize, row: usize, v: u32)
+    requires { ⌜ (top < length (now trail)) × (row * 256 + v < 4294967296) ⌝ }
+    ensures { λ _. ⌜ now (trail .exit) ≡ set (now (trail .entry)) top (row * 256 + v) ⌝ }
+{
+    trail[top] = (row * 256 + wide32(v)) as u32;
+}
+
+// The pair of w, which was entered with this step, fails.
+fn fails(notes: &mut [u8], w: Walk, steps: usize) -> Walk
+    requires { ⌜ (w .base + w .place < 2097152) × ((w .base + w .place) / 8 < length (now notes)) × (bitAt (now notes) (w .base + w .place) ≡ false) ⌝ }
+    ensures { λ r. ⌜ (now (notes .exit) ≡ marked (now (notes .entry)) (w .base + w .place)) × (r ≡ walkAt (w .top) steps (w .place) (w .row) (w .base) false
+        false) ⌝ }
+{
+    mark(notes, w.base + w.place);
+    Walk {
+        top: w.top,
         steps,
         place: w.place,
         row: w.row,
         base: w.base,
         down: false,
+        found: false,
     }
 }
 
-// The pair of place q at the row is tried: it is entered unless it has failed.
-fn try_pair(
-    code: &[u8],
-    entry: &[u32],
-    rows: &[i32],
-    columns: usize,
-    n: usize,
-    cells: &[u16; 832],
-    offsets: &[i8; 416],
-    constants: &[i32; 208],
-    counts: &[u8; 26],
-    notes: &mut [u8],
-    trail: &mut [u32],
-    w: Walk,
-    q: usize,
-    row: usize,
-    base: usize,
-) -> Walk
-    requires { ⌜ Tries (now code) (now entry) (Lettered (now cells) (now offsets) (now counts) (now rows) columns n) (now notes) (now trail) w q row base ⌝ }
-    ensures { λ r. ⌜ mem (now (notes .exit)) (now (trail .exit)) r ≡ triedBy (bitAt (now (notes .entry)) (base + q)) (passesBy (holdsIn (now (rows .entry)) columns
-        (now (cells .entry)) (now (offsets .entry)) (now (constants .entry)) (now (counts .entry))) n (getD (now (code .entry)) q 0) row) (mem (now (notes .entry))
-        (now (trail .entry)) w) q row base (getD (now (entry .entry)) q 0) ⌝ }
-{
-    if failed(notes, base + q) {
-        return Walk {
-            top: w.top,
-            steps: w.steps,
-            place: w.place,
-            row: w.row,
-            base: w.base,
-            down: false,
-        };
-    }
-    enter(
-        code,
-        entry,
-        rows,
-        columns,
-        n,
-        cells,
-        offsets,
-        constants,
-        counts,
-        notes,
-        trail,
-        w,
-        q,
-        row,
-        base,
-    )
-}
-
-// The last open pair, which was just opened, tries the first place that it leads to.
-fn onward(
+// The pair of w is entered: one step, counted here and nowhere else. A letter or anchor that does not pass fails at once; any other pair is open, and tries
+// the first place that it leads to, but for END, which leads nowhere.
+fn enter(
     code: &[u8],
     next: &[u16],
     entry: &[u32],
-    stop: &[u16],
-    ways: &[u16],
     rows: &[i32],
     columns: usize,
     n: usize,
@@ -251,55 +187,55 @@ fn onward(
     trail: &mut [u32],
     w: Walk,
 ) -> Walk
-    requires { ⌜ Goes (tables (now code) (now next) (now entry) (now stop) (now ways)) (holdsIn (now rows) columns (now cells) (now offsets) (now constants) (now
-        counts)) n (Lettered (now cells) (now offsets) (now counts) (now rows) columns n) (now notes) (now trail) w ⌝ }
-    ensures { λ r. ⌜ Onward (tables (now (code .entry)) (now (next .entry)) (now (entry .entry)) (now (stop .entry)) (now (ways .entry))) (holdsIn (now (rows
-        .entry)) columns (now (cells .entry)) (now (offsets .entry)) (now (constants .entry)) (now (counts .entry))) n (Lettered (now (cells .entry)) (now (offsets
-        .entry)) (now (counts .entry)) (now (rows .entry)) columns n) (now (notes .entry)) (now (trail .entry)) w (now (notes .exit)) (now (trail .exit)) r ⌝ }
+    requires { ⌜ Enters (now code) (now next) (now entry) n (Lettered (now cells) (now offsets) (now counts) (now rows) columns n) (now notes) (now trail) w ⌝ }
+    ensures { λ r. ⌜ mem (now (notes .exit)) (now (trail .exit)) r ≡ enteredBy (passesBy (holdsIn (now (rows .entry)) columns (now (cells .entry)) (now
+        (offsets .entry)) (now (constants .entry)) (now (counts .entry))) n (getD (now (code .entry)) (w .place) 0) (w .row)) (mem (now (notes .entry)) (now
+        (trail .entry)) w) (getD (now (code .entry)) (w .place) 0) (getD (now (entry .entry)) (w .place) 0) (getD (now (next .entry)) (w .place) 0) (length
+        (now (code .entry))) ⌝ }
 {
-    let place = w.place;
-    let q = wide(next[place]);
+    let steps = w.steps + 1;
+    let top = w.top;
+    let q = w.place;
     let row = w.row;
     let base = w.base;
-    if code[place] < 26 {
-        return try_pair(
-            code,
-            entry,
-            rows,
-            columns,
-            n,
-            cells,
-            offsets,
-            constants,
-            counts,
-            notes,
-            trail,
-            w,
-            q,
-            row + 1,
-            base + code.len(),
-        );
+    let c = code[q];
+    if c == 28 {
+        push(trail, top, row, entry[q]);
+        return tried(notes, top + 1, steps, wide(next[q]), row, base);
     }
-    try_pair(
-        code,
-        entry,
-        rows,
-        columns,
-        n,
-        cells,
-        offsets,
-        constants,
-        counts,
-        notes,
-        trail,
-        w,
-        q,
-        row,
-        base,
-    )
+    if c < 26 {
+        if letter_passes(rows, columns, n, cells, offsets, constants, counts, c, row) {
+            push(trail, top, row, entry[q]);
+            return tried(
+                notes,
+                top + 1,
+                steps,
+                wide(next[q]),
+                row + 1,
+                base + code.len(),
+            );
+        }
+        return fails(notes, w, steps);
+    }
+    if !anchor_passes(n, c, row) {
+        return fails(notes, w, steps);
+    }
+    push(trail, top, row, entry[q]);
+    if c > 28 {
+        return Walk {
+            top: top + 1,
+            steps,
+            place: q,
+            row,
+            base,
+            down: false,
+            found: true,
+        };
+    }
+    tried(notes, top + 1, steps, wide(next[q]), row, base)
 }
 
-// On from the last open pair while tries open pairs, up to END.
+// On while there is a pair to be entered.
 fn descend(
     code: &[u8],
     next: &[u16],
@@ -317,24 +253,19 @@ fn descend(
     trail: &mut [u32],
     from: Walk,
 ) -> Walk
-    requires { ⌜ State (tables (now code) (now next) (now entry) (now stop) (now ways)) (holdsIn (now rows) columns (now cells) (now offsets) (now constants) (now
-        counts)) n (Lettered (now cells) (now offsets) (now counts) (now rows) columns n) (now notes) (now trail) from ⌝ }
-    ensures { λ r. ⌜ Descended (tables (now (code .entry)) (now (next .entry)) (now (entry .entry)) (now (stop .entry)) (now (ways .entry))) (holdsIn (now (rows
-        .entry)) columns (now (cells .entry)) (now (offsets .entry)) (now (constants .entry)) (now (counts .entry))) n (Lettered (now (cells .entry)) (now (offsets
-        .entry)) (now (counts .entry)) (now (rows .entry)) columns n) (now (notes .entry)) (now (trail .entry)) from (now (notes .exit)) (now (trail .exit)) r ⌝ }
+    requires { ⌜ Goes (tables (now code) (now next) (now entry) (now stop) (now ways)) (holdsIn (now rows) columns (now cells) (now offsets) (now constants)
+        (now counts)) n (Lettered (now cells) (now offsets) (now counts) (now rows) columns n) (now notes) (now trail) from ⌝ }
+    ensures { λ r. ⌜ Descended (tables (now (code .entry)) (now (next .entry)) (now (entry .entry)) (now (stop .entry)) (now (ways .entry))) (holdsIn (now
+        (rows .entry)) columns (now (cells .entry)) (now (offsets .entry)) (now (constants .entry)) (now (counts .entry))) n (Lettered (now (cells .entry))
+        (now (offsets .entry)) (now (counts .entry)) (now (rows .entry)) columns n) (now (notes .entry)) (now (trail .entry)) from (now (notes .exit)) (now
+        (trail .exit)) r ⌝ }
 {
     let mut w = from;
     while w.down {
-        let q = w.place;
-        if code[q] > 28 {
-            return w;
-        }
-        w = onward(
+        w = enter(
             code,
             next,
             entry,
-            stop,
-            ways,
             rows,
             columns,
             n,
@@ -361,16 +292,15 @@ fn way_after(stop: usize, j: usize) -> usize
     0
 }
 
-// The open pair at index `at`, which tries its next way, goes on to the way behind that one.
-fn go_on(trail: &mut [u32], at: usize, stop: usize)
-    requires { ⌜ (at < length (now trail)) × (stop ≤ 2048) ⌝ }
-    ensures { λ _. ⌜ now (trail .exit) ≡ set (now (trail .entry)) at (wentOn stop (getD (now (trail .entry)) at 0)) ⌝ }
+// The open pair at index `at`, whose number is e, has way j next.
+fn put_way(trail: &mut [u32], at: usize, e: usize, j: usize)
+    requires { ⌜ (at < length (now trail)) × (j < 2048) ⌝ }
+    ensures { λ _. ⌜ now (trail .exit) ≡ set (now (trail .entry)) at (wentOn j e) ⌝ }
 {
-    let e = wide32(trail[at]);
-    trail[at] = (e % 2097152 + way_after(stop, e / 2097152) * 2097152) as u32;
+    trail[at] = (e % 2097152 + j * 2097152) as u32;
 }
 
-// The last open pair tries its next way; where none is left, it fails.
+// The last open pair tries its next way. Where no way is left, or the last one has failed, the pair fails.
 fn back(
     code: &[u8],
     next: &[u16],
@@ -388,11 +318,12 @@ fn back(
     trail: &mut [u32],
     w: Walk,
 ) -> Walk
-    requires { ⌜ Halts (tables (now code) (now next) (now entry) (now stop) (now ways)) (holdsIn (now rows) columns (now cells) (now offsets) (now constants) (now
-        counts)) n (Lettered (now cells) (now offsets) (now counts) (now rows) columns n) (now notes) (now trail) w ⌝ }
-    ensures { λ r. ⌜ Backward (tables (now (code .entry)) (now (next .entry)) (now (entry .entry)) (now (stop .entry)) (now (ways .entry))) (holdsIn (now (rows
-        .entry)) columns (now (cells .entry)) (now (offsets .entry)) (now (constants .entry)) (now (counts .entry))) n (Lettered (now (cells .entry)) (now (offsets
-        .entry)) (now (counts .entry)) (now (rows .entry)) columns n) (now (notes .entry)) (now (trail .entry)) w (now (notes .exit)) (now (trail .exit)) r ⌝ }
+    requires { ⌜ Halts (tables (now code) (now next) (now entry) (now stop) (now ways)) (holdsIn (now rows) columns (now cells) (now offsets) (now constants)
+        (now counts)) n (Lettered (now cells) (now offsets) (now counts) (now rows) columns n) (now notes) (now trail) w ⌝ }
+    ensures { λ r. ⌜ Backward (tables (now (code .entry)) (now (next .entry)) (now (entry .entry)) (now (stop .entry)) (now (ways .entry))) (holdsIn (now
+        (rows .entry)) columns (now (cells .entry)) (now (offsets .entry)) (now (constants .entry)) (now (counts .entry))) n (Lettered (now (cells .entry))
+        (now (offsets .entry)) (now (counts .entry)) (now (rows .entry)) columns n) (now (notes .entry)) (now (trail .entry)) w (now (notes .exit)) (now
+        (trail .exit)) r ⌝ }
 {
     let at = w.top - 1;
     let e = wide32(trail[at]);
@@ -400,38 +331,47 @@ fn back(
     let row = e / 256 % 8192;
     let base = row * code.len();
     let j = e / 2097152;
-    if j == 0 {
-        mark(notes, base + place);
-        return Walk {
-            top: at,
-            steps: w.steps,
-            place,
-            row,
-            base,
-            down: false,
-        };
+    if j > 0 {
+        let q = wide(ways[j]);
+        let k = way_after(wide(stop[place]), j);
+        if !failed(notes, base + q) {
+            put_way(trail, at, e, k);
+            return Walk {
+                top: w.top,
+                steps: w.steps,
+                place: q,
+                row,
+                base,
+                down: true,
+                found: false,
+            };
+        }
+        if k > 0 {
+            put_way(trail, at, e, k);
+            return Walk {
+                top: w.top,
+                steps: w.steps,
+                place: q,
+                row,
+                base,
+                down: false,
+                found: false,
+            };
+        }
     }
-    go_on(trail, at, wide(stop[place]));
-    try_pair(
-        code,
-        entry,
-        rows,
-        columns,
-        n,
-        cells,
-        offsets,
-        constants,
-        counts,
-        notes,
-        trail,
-        w,
-        wide(ways[j]),
+    mark(notes, base + place);
+    Walk {
+        top: at,
+        steps: w.steps,
+        place,
         row,
         base,
-    )
+        down: false,
+        found: false,
+    }
 }
 
-// Back along the open pairs until a try opens one, or none is open.
+// Back along the open pairs until there is a pair to be entered, or none is open.
 fn retreat(
     code: &[u8],
     next: &[u16],
@@ -449,11 +389,12 @@ fn retreat(
     trail: &mut [u32],
     from: Walk,
 ) -> Walk
-    requires { ⌜ Halts (tables (now code) (now next) (now entry) (now stop) (now ways)) (holdsIn (now rows) columns (now cells) (now offsets) (now constants) (now
-        counts)) n (Lettered (now cells) (now offsets) (now counts) (now rows) columns n) (now notes) (now trail) from ⌝ }
-    ensures { λ r. ⌜ Retreated (tables (now (code .entry)) (now (next .entry)) (now (entry .entry)) (now (stop .entry)) (now (ways .entry))) (holdsIn (now (rows
-        .entry)) columns (now (cells .entry)) (now (offsets .entry)) (now (constants .entry)) (now (counts .entry))) n (Lettered (now (cells .entry)) (now (offsets
-        .entry)) (now (counts .entry)) (now (rows .entry)) columns n) (now (notes .entry)) (now (trail .entry)) from (now (notes .exit)) (now (trail .exit)) r ⌝ }
+    requires { ⌜ Idle (tables (now code) (now next) (now entry) (now stop) (now ways)) (holdsIn (now rows) columns (now cells) (now offsets) (now constants)
+        (now counts)) n (Lettered (now cells) (now offsets) (now counts) (now rows) columns n) (now notes) (now trail) from ⌝ }
+    ensures { λ r. ⌜ Retreated (tables (now (code .entry)) (now (next .entry)) (now (entry .entry)) (now (stop .entry)) (now (ways .entry))) (holdsIn (now
+        (rows .entry)) columns (now (cells .entry)) (now (offsets .entry)) (now (constants .entry)) (now (counts .entry))) n (Lettered (now (cells .entry))
+        (now (offsets .entry)) (now (counts .entry)) (now (rows .entry)) columns n) (now (notes .entry)) (now (trail .entry)) from (now (notes .exit)) (now
+        (trail .exit)) r ⌝ }
 {
     let mut w = from;
     while w.top > 0 {
@@ -481,7 +422,7 @@ fn retreat(
     w
 }
 
-// The walk from w on, until no pair is open or END is on top.
+// The walk from w on, until no pair is to be entered, or END is open.
 fn run(
     code: &[u8],
     next: &[u16],
@@ -499,14 +440,15 @@ fn run(
     trail: &mut [u32],
     from: Walk,
 ) -> Walk
-    requires { ⌜ State (tables (now code) (now next) (now entry) (now stop) (now ways)) (holdsIn (now rows) columns (now cells) (now offsets) (now constants) (now
-        counts)) n (Lettered (now cells) (now offsets) (now counts) (now rows) columns n) (now notes) (now trail) from ⌝ }
-    ensures { λ r. ⌜ Ran (tables (now (code .entry)) (now (next .entry)) (now (entry .entry)) (now (stop .entry)) (now (ways .entry))) (holdsIn (now (rows .entry))
-        columns (now (cells .entry)) (now (offsets .entry)) (now (constants .entry)) (now (counts .entry))) n (Lettered (now (cells .entry)) (now (offsets .entry))
-        (now (counts .entry)) (now (rows .entry)) columns n) (now (notes .entry)) (now (trail .entry)) from (now (notes .exit)) (now (trail .exit)) r ⌝ }
+    requires { ⌜ Moves (tables (now code) (now next) (now entry) (now stop) (now ways)) (holdsIn (now rows) columns (now cells) (now offsets) (now constants)
+        (now counts)) n (Lettered (now cells) (now offsets) (now counts) (now rows) columns n) (now notes) (now trail) from ⌝ }
+    ensures { λ r. ⌜ Ran (tables (now (code .entry)) (now (next .entry)) (now (entry .entry)) (now (stop .entry)) (now (ways .entry))) (holdsIn (now (rows
+        .entry)) columns (now (cells .entry)) (now (offsets .entry)) (now (constants .entry)) (now (counts .entry))) n (Lettered (now (cells .entry)) (now
+        (offsets .entry)) (now (counts .entry)) (now (rows .entry)) columns n) (now (notes .entry)) (now (trail .entry)) from (now (notes .exit)) (now (trail
+        .exit)) r ⌝ }
 {
     let mut w = from;
-    while w.top > 0 {
+    while w.down {
         w = descend(
             code,
             next,
@@ -524,7 +466,7 @@ fn run(
             trail,
             w,
         );
-        let found = w.down;
+        let found = w.found;
         if found {
             return w;
         }
@@ -568,39 +510,15 @@ pub fn attempt(
     row: usize,
     steps: usize,
 ) -> Walk
-    requires { ⌜ Ready (tables (now code) (now next) (now entry) (now stop) (now ways)) (holdsIn (now rows) columns (now cells) (now offsets) (now constants) (now
-        counts)) n (Lettered (now cells) (now offsets) (now counts) (now rows) columns n) (now notes) (now trail) row steps ⌝ }
+    requires { ⌜ Ready (tables (now code) (now next) (now entry) (now stop) (now ways)) (holdsIn (now rows) columns (now cells) (now offsets) (now constants)
+        (now counts)) n (Lettered (now cells) (now offsets) (now counts) (now rows) columns n) (now notes) (now trail) row steps ⌝ }
     ensures { λ r. ⌜ Done (tables (now (code .entry)) (now (next .entry)) (now (entry .entry)) (now (stop .entry)) (now (ways .entry))) (holdsIn (now (rows
-        .entry)) columns (now (cells .entry)) (now (offsets .entry)) (now (constants .entry)) (now (counts .entry))) n (Lettered (now (cells .entry)) (now (offsets
-        .entry)) (now (counts .entry)) (now (rows .entry)) columns n) (now (notes .entry)) (now (trail .entry)) row steps (now (notes .exit)) (now (trail .exit)) r
-        ⌝ }
+        .entry)) columns (now (cells .entry)) (now (offsets .entry)) (now (constants .entry)) (now (counts .entry))) n (Lettered (now (cells .entry)) (now
+        (offsets .entry)) (now (counts .entry)) (now (rows .entry)) columns n) (now (notes .entry)) (now (trail .entry)) row steps (now (notes .exit)) (now
+        (trail .exit)) r ⌝ }
 {
     let base = row * code.len();
-    let start = Walk {
-        top: 0,
-        steps,
-        place: 0,
-        row,
-        base,
-        down: false,
-    };
-    let w = try_pair(
-        code,
-        entry,
-        rows,
-        columns,
-        n,
-        cells,
-        offsets,
-        constants,
-        counts,
-        notes,
-        trail,
-        start,
-        0,
-        row,
-        base,
-    );
+    let start = tried(notes, 0, steps, 0, row, base);
     run(
         code,
         next,
@@ -616,6 +534,6 @@ pub fn attempt(
         counts,
         notes,
         trail,
-        w,
+        start,
     )
 }

@@ -1,6 +1,6 @@
-use Rattle.walk.proofs.Whole.{Retreating, behind, off-none, off-opened, off-end, off-halts, off-more, off-less}
+use Rattle.walk.proofs.Whole.{Retreating, behind, off-none, off-down, off-end, off-halts, off-more, off-less}
 use Rattle.walk.specs.Letters.{holdsIn, Lettered}
-use Rattle.walk.specs.Tables.{tables}
+use Rattle.walk.specs.Tables.{tables, N}
 use Rattle.walk.proofs.retreat.Statement.{statement}
 use Rattle.walk.proofs.retreat.Tie as tie
 use Rattle.walk.proofs.retreat.Reads as reads
@@ -15,43 +15,43 @@ abbrev μ-loop : tie.MeasureT-loop
 μ-loop code next entry stop ways rows columns n cells offsets constants counts notes₀ trail₀ w₀ notes trail w =
     behind (tables code next entry stop ways) n notes trail w
 
--- src/lib.rt:459:5
+-- src/lib.rt:385:5
 loop-holds : tie.Need-loop-holds Inv-loop μ-loop
 loop-holds c = off-none _ _ _ _ _ _ _ (c .before .before .before .before .before .before .before .pre)
 
--- src/lib.rt:461:13
+-- src/lib.rt:387:13
 same-length : tie.Need-same-length Inv-loop μ-loop
-same-length c = (c .before .before .before .loop .inv .turned .reached .notes-long)
+same-length c = c .before .before .before .loop .inv .reached .notes-long
 
--- src/lib.rt:461:13
+-- src/lib.rt:387:13
 same-length-2 : tie.Need-same-length-2 Inv-loop μ-loop
-same-length-2 c = (c .before .before .before .loop .inv .turned .reached .trail-long)
+same-length-2 c = c .before .before .before .loop .inv .reached .trail-long
 
--- src/lib.rt:461:13
+-- src/lib.rt:387:13
 returns : tie.Need-returns Inv-loop μ-loop
-returns c = off-opened _ _ _ _ _ _ _ _ _ _ (c .before .before .before .loop .inv) (c .if2 .taken)
+returns c = off-down _ _ _ _ _ _ _ _ _ _ (c .before .before .before .loop .inv) (c .if2 .taken)
 
--- src/lib.rt:463:9
+-- src/lib.rt:389:9
 back-requires : tie.Need-back-requires Inv-loop μ-loop
 back-requires c κs = off-halts _ _ _ _ _ _ _ _ _ _ (c .before .before .before .before .before .loop .inv) (c .before .before .before .if1 .taken) (c .before .before .if2 .left)
 
--- src/lib.rt:459:5
+-- src/lib.rt:385:5
 loop-less : tie.Need-loop-less Inv-loop μ-loop
 loop-less c = off-less _ _ _ _ _ _ _ _ _ _ (c .before .before .before .before .before .before .before .before .before .before .loop .inv) _ _ _ (c .before .before .before .before .back .ensures)
 
--- src/lib.rt:459:5
+-- src/lib.rt:385:5
 loop-again : tie.Need-loop-again Inv-loop μ-loop
 loop-again c = off-more _ _ _ _ _ _ _ _ _ _ (c .before .before .before .before .before .before .before .before .before .before .loop .inv) _ _ _ (c .before .before .before .before .back .ensures)
 
--- src/lib.rt:435:1
+-- src/lib.rt:364:1
 same-length-3 : tie.Need-same-length-3 Inv-loop μ-loop
-same-length-3 c = (c .before .before .loop .inv .turned .reached .notes-long)
+same-length-3 c = c .before .before .loop .inv .reached .notes-long
 
--- src/lib.rt:435:1
+-- src/lib.rt:364:1
 same-length-4 : tie.Need-same-length-4 Inv-loop μ-loop
-same-length-4 c = (c .before .before .loop .inv .turned .reached .trail-long)
+same-length-4 c = c .before .before .loop .inv .reached .trail-long
 
--- src/lib.rt:435:1
+-- src/lib.rt:364:1
 returns-2 : tie.Need-returns-2 Inv-loop μ-loop
 returns-2 c = off-end _ _ _ _ _ _ _ _ _ _ (c .before .before .loop .inv) (c .if1 .left)
 

@@ -1,7 +1,6 @@
-use Rattle.walk.proofs.Whole.{run-state, run-end, run-found, run-halts, run-more, run-less}
-use Rattle.walk.proofs.Going.{reached-none}
+use Rattle.walk.proofs.Whole.{Running, run-none, run-goes, run-end, run-found, run-idle, run-more, run-less}
+use Rattle.walk.specs.State.{left}
 use Rattle.walk.specs.Letters.{holdsIn, Lettered}
-use Rattle.walk.specs.State.{left, comes, Reached}
 use Rattle.walk.specs.Tables.{tables, N}
 use Rattle.walk.proofs.run.Statement.{statement}
 use Rattle.walk.proofs.run.Tie as tie
@@ -12,55 +11,55 @@ use Rattle.walk.proofs.retreat.Reads as retreat-reads
 
 abbrev Inv-loop : tie.InvT-loop
 Inv-loop code next entry stop ways rows columns n cells offsets constants counts notes₀ trail₀ w₀ notes trail w =
-    Reached (tables code next entry stop ways) (holdsIn rows columns cells offsets constants counts) n (Lettered cells offsets counts rows columns n) notes₀ trail₀ (comes (tables code next entry stop ways) (holdsIn rows columns cells offsets constants counts) n notes₀ trail₀ w₀) notes trail w
+    Running (tables code next entry stop ways) (holdsIn rows columns cells offsets constants counts) n (Lettered cells offsets counts rows columns n) notes₀ trail₀ w₀ notes trail w
 
 abbrev μ-loop : tie.MeasureT-loop
 μ-loop code next entry stop ways rows columns n cells offsets constants counts notes₀ trail₀ w₀ notes trail w =
     left (N (tables code next entry stop ways) n) notes w
 
--- src/lib.rt:509:5
+-- src/lib.rt:432:5
 loop-holds : tie.Need-loop-holds Inv-loop μ-loop
-loop-holds c = reached-none _ _ _ _ _ _ _ (c .before .before .before .before .before .before .before .pre)
+loop-holds c = run-none _ _ _ _ _ _ _ (c .before .before .before .before .before .before .before .pre)
 
--- src/lib.rt:510:9
+-- src/lib.rt:433:9
 descend-requires : tie.Need-descend-requires Inv-loop μ-loop
-descend-requires c κs = run-state _ _ _ _ _ _ _ _ _ _ (c .before .before .before .before .loop .inv)
+descend-requires c κs = run-goes _ _ _ _ _ _ _ _ _ _ (c .before .before .before .loop .inv) (c .before .before .loop-test .taken)
 
--- src/lib.rt:528:13
+-- src/lib.rt:452:13
 same-length : tie.Need-same-length Inv-loop μ-loop
-same-length c = run-found _ _ _ _ _ _ _ _ _ _ (c .before .before .before .before .before .before .before .before .before .before .loop .inv) _ _ _ (c .before .before .before .before .before .descend .ensures) (c .if2 .taken) .reached .notes-long
+same-length c = run-found _ _ _ _ _ _ _ _ _ _ (c .before .before .before .before .before .before .before .before .before .loop .inv) _ _ _ (c .before .before .before .before .before .descend .ensures) (c .if1 .taken) .reached .notes-long
 
--- src/lib.rt:528:13
+-- src/lib.rt:452:13
 same-length-2 : tie.Need-same-length-2 Inv-loop μ-loop
-same-length-2 c = run-found _ _ _ _ _ _ _ _ _ _ (c .before .before .before .before .before .before .before .before .before .before .loop .inv) _ _ _ (c .before .before .before .before .before .descend .ensures) (c .if2 .taken) .reached .trail-long
+same-length-2 c = run-found _ _ _ _ _ _ _ _ _ _ (c .before .before .before .before .before .before .before .before .before .loop .inv) _ _ _ (c .before .before .before .before .before .descend .ensures) (c .if1 .taken) .reached .trail-long
 
--- src/lib.rt:528:13
+-- src/lib.rt:452:13
 returns : tie.Need-returns Inv-loop μ-loop
-returns c = run-found _ _ _ _ _ _ _ _ _ _ (c .before .before .before .before .before .before .before .before .before .before .loop .inv) _ _ _ (c .before .before .before .before .before .descend .ensures) (c .if2 .taken)
+returns c = run-found _ _ _ _ _ _ _ _ _ _ (c .before .before .before .before .before .before .before .before .before .loop .inv) _ _ _ (c .before .before .before .before .before .descend .ensures) (c .if1 .taken)
 
--- src/lib.rt:530:9
+-- src/lib.rt:454:9
 retreat-requires : tie.Need-retreat-requires Inv-loop μ-loop
-retreat-requires c κs = run-halts _ _ _ _ _ _ _ _ _ _ (c .before .before .before .before .before .before .before .before .before .before .before .before .loop .inv) _ _ _ (c .before .before .before .before .before .before .before .descend .ensures) (c .before .before .before .before .before .before .before .before .before .before .if1 .taken) (c .before .before .if2 .left)
+retreat-requires c κs = run-idle _ _ _ _ _ _ _ _ _ _ (c .before .before .before .before .before .before .before .before .before .before .before .loop .inv) _ _ _ (c .before .before .before .before .before .before .before .descend .ensures) (c .before .before .if1 .left)
 
--- src/lib.rt:509:5
+-- src/lib.rt:432:5
 loop-less : tie.Need-loop-less Inv-loop μ-loop
-loop-less c = run-less _ _ _ _ _ _ _ _ _ _ (c .before .before .before .before .before .before .before .before .before .before .before .before .before .before .before .before .before .loop .inv) _ _ _ (c .before .before .before .before .before .before .before .before .before .before .before .before .descend .ensures) _ _ _ (c .before .before .before .before .retreat .ensures)
+loop-less c = run-less _ _ _ _ _ _ _ _ _ _ (c .before .before .before .before .before .before .before .before .before .before .before .before .before .before .before .before .loop .inv) _ _ _ (c .before .before .before .before .before .before .before .before .before .before .before .before .descend .ensures) _ _ _ (c .before .before .before .before .retreat .ensures)
 
--- src/lib.rt:509:5
+-- src/lib.rt:432:5
 loop-again : tie.Need-loop-again Inv-loop μ-loop
-loop-again c = run-more _ _ _ _ _ _ _ _ _ _ (c .before .before .before .before .before .before .before .before .before .before .before .before .before .before .before .before .before .loop .inv) _ _ _ (c .before .before .before .before .before .before .before .before .before .before .before .before .descend .ensures) _ _ _ (c .before .before .before .before .retreat .ensures)
+loop-again c = run-more _ _ _ _ _ _ _ _ _ _ (c .before .before .before .before .before .before .before .before .before .before .before .before .before .before .before .before .loop .inv) _ _ _ (c .before .before .before .before .before .before .before .before .before .before .before .before .descend .ensures) _ _ _ (c .before .before .before .before .retreat .ensures)
 
--- src/lib.rt:485:1
+-- src/lib.rt:411:1
 same-length-3 : tie.Need-same-length-3 Inv-loop μ-loop
-same-length-3 c = (c .before .before .loop .inv .notes-long)
+same-length-3 c = c .before .loop .inv .reached .notes-long
 
--- src/lib.rt:485:1
+-- src/lib.rt:411:1
 same-length-4 : tie.Need-same-length-4 Inv-loop μ-loop
-same-length-4 c = (c .before .before .loop .inv .trail-long)
+same-length-4 c = c .before .loop .inv .reached .trail-long
 
--- src/lib.rt:485:1
+-- src/lib.rt:411:1
 returns-2 : tie.Need-returns-2 Inv-loop μ-loop
-returns-2 c = run-end _ _ _ _ _ _ _ _ _ _ (c .before .before .loop .inv) (c .if1 .left)
+returns-2 c = run-end _ _ _ _ _ _ _ _ _ _ (c .before .loop .inv) (c .loop-test .left)
 
 pub run-spec : {M : Type 1} → statement M
 run-spec =
