@@ -30,7 +30,7 @@ byte-held o = toZ w64 (ofZ w64 (toZ w8 (ofZ w8 o)))
 pub byte-fits : (o : ℤ) → SFits w8 o → SFits w64 (toZ w8 (ofZ w8 o))
 byte-fits o f = subst (SFits w64) (sym (toZ-ofZ f)) (sfits-widen tt f)
 
-byte-is : (o : ℤ) → SFits w8 o → byte-held o ≡ o
+pub byte-is : (o : ℤ) → SFits w8 o → byte-held o ≡ o
 byte-is o f = ap (λ (z : ℤ). toZ w64 (ofZ w64 z)) (toZ-ofZ f) ∙ toZ-ofZ (sfits-widen tt f)
 
 index-is : (k : ℕ) → k < 9223372036854775808 → toZ w64 k ≡ pos k

@@ -127,7 +127,7 @@ module _ (t : Table) (row columns : ℕ) (cells : List ℕ) (offsets numbers : L
   unfolding holds cellsFrom tabulate every
   holding-none = record { upto = omega arith; is = refl }
 
-  next-one : (k : ℕ) → holds t row (cellsFrom columns cells offsets numbers g (suc k)) ≡ (holds t row (cellsFrom columns cells offsets numbers g k) && met t row (cellAt columns cells offsets numbers (g + k)))
+  pub next-one : (k : ℕ) → holds t row (cellsFrom columns cells offsets numbers g (suc k)) ≡ (holds t row (cellsFrom columns cells offsets numbers g k) && met t row (cellAt columns cells offsets numbers (g + k)))
   unfolding holds cellsFrom
   next-one k = one-more (met t row) (λ i. cellAt columns cells offsets numbers (g + i)) k
 

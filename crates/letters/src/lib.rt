@@ -1,13 +1,17 @@
 // Whether a letter holds at a row, over a query's decoded comparisons: the search asks this for every letter place that it enters.
 // A comparison costs no product: where an entry lies follows from the index of the row's first entry and the decoded spot. Sums are exact in 64 bits.
+// A letter of exactly one comparison has a test in a table that is made before the search (specs/Tests): one range for the row, one interval for what it reads.
 ghost use mathlib.Core.Path.{_≡_};
 ghost use mathlib.Core.Bool.{true, false, _&&_, _||_};
-ghost use Prim.Native.Nat.{_+_, _*_, _-_, _≤_, _<_};
-ghost use lib.IntN.{ℤ, pos, _+ℤ_};
+ghost use Prim.Native.Nat.{_+_, _*_, _-_, _≤_, _<_, max};
+ghost use lib.Dec.{ltb};
+ghost use lib.IntN.{ℤ, pos, _+ℤ_, _-ℤ_};
 ghost use lib.Signed.{ltZ, leZ, mag};
 ghost use lib.ListN.{getD};
 ghost use Rattle.rules.specs.Rows.{tableOf, compares, met, holds};
 ghost use Rattle.decode.specs.Layout.{cellAt, cellsFrom};
+ghost use Rattle.letters.specs.Tests.{sortOf, raised, lowOf, widthOf, backOf, aheadOf, backBoth, aheadBoth, Tested, Untested, TestRoom};
+ghost use Rattle.letters.specs.Tests.{within, setSeven, LowAt, BackAt, AheadAt, PutRoom, PutTest};
 ghost use Rattle.letters.specs.Letters.{there, EntryThere, rightMet, RightRoom, CellRoom, LetterRoom};
 
 // Numbers as wider ones.
@@ -165,8 +169,8 @@ fn cell_met(
     )
 }
 
-// Whether letter l (0 for A) holds at a row, whose first entry is at index base. Stops at the first comparison that is not met.
-pub fn letter_holds(
+// A letter by its comparisons, at a row whose first entry is at index base. Stops at the first comparison that is not met.
+fn several_hold(
     cells: &[u16; 832],
     offsets: &[i8; 416],
     numbers: &[i32; 208],
@@ -192,4 +196,303 @@ pub fn letter_holds(
         k += 1;
     }
     true
+}
+
+// ---- the table of tests
+
+fn word(x: u16) -> u64
+    ensures { λ r. ⌜ (r ≡ x) × (r < 65536) ⌝ }
+{
+    x as u64
+}
+
+fn larger(a: u64, b: u64) -> u64
+    ensures { λ r. ⌜ r ≡ max a b ⌝ }
+{
+    if a < b { b } else { a }
+}
+
+// The difference, or 0 where that is below 0.
+fn left_over(n: usize, gone: u64) -> u64
+    ensures { λ r. ⌜ r ≡ n - gone ⌝ }
+{
+    if gone < n as u64 { n as u64 - gone } else { 0 }
+}
+
+// A number plus 2^33: no number that a comparison meets is then below 0.
+fn raise(d: i64) -> u64
+    requires { ⌜ mag d < 8589934592 ⌝ }
+    ensures { λ r. ⌜ r ≡ raised d ⌝ }
+{
+    (d + 8589934592) as u64
+}
+
+fn raise_number(number: i32) -> u64
+    ensures { λ r. ⌜ (r ≡ raised number) × (0 < r) × (r < 17179869184) ⌝ }
+{
+    raise(long(number))
+}
+
+fn sort_of(kind: usize) -> u64
+    ensures { λ r. ⌜ r ≡ sortOf kind ⌝ }
+{
+    if kind == 1 { 1 } else { 2 }
+}
+
+// The interval of an operator and a number, raised.
+fn low_of(op: usize, x: u64) -> u64
+    requires { ⌜ x < 17179869184 ⌝ }
+    ensures { λ r. ⌜ r ≡ lowOf op x ⌝ }
+{
+    if op == 1 {
+        return x;
+    }
+    if op == 2 {
+        return x + 1;
+    }
+    if op == 3 {
+        return 0;
+    }
+    if op == 4 {
+        return 0;
+    }
+    if op == 5 {
+        return x + 1;
+    }
+    x
+}
+
+fn width_of(op: usize, x: u64) -> u64
+    requires { ⌜ (0 < x) × (x < 17179869184) ⌝ }
+    ensures { λ r. ⌜ r ≡ widthOf op x ⌝ }
+{
+    if op == 1 {
+        return 0;
+    }
+    if op == 2 {
+        return 18446744073709551614;
+    }
+    if op == 3 {
+        return x - 1;
+    }
+    if op == 4 {
+        return x;
+    }
+    if op == 5 {
+        return 18446744073709551614 - x;
+    }
+    18446744073709551615 - x
+}
+
+// How many rows back, and how many ahead, an offset reads.
+fn back_of(offset: i8) -> u64
+    ensures { λ r. ⌜ (r ≡ backOf offset) × (r ≤ 128) ⌝ }
+{
+    if offset < 0 {
+        return (0 - offset as i64) as u64;
+    }
+    0
+}
+
+fn ahead_of(offset: i8) -> u64
+    ensures { λ r. ⌜ (r ≡ aheadOf offset) × (r ≤ 127) ⌝ }
+{
+    if offset < 0 {
+        return 0;
+    }
+    offset as u64
+}
+
+// The same of a comparison.
+fn back_both(kind: usize, left: i8, right: i8) -> u64
+    ensures { λ r. ⌜ (r ≡ backBoth kind left right) × (r ≤ 128) ⌝ }
+{
+    if kind != 1 {
+        return back_of(left);
+    }
+    larger(back_of(left), back_of(right))
+}
+
+fn ahead_both(kind: usize, left: i8, right: i8) -> u64
+    ensures { λ r. ⌜ (r ≡ aheadBoth kind left right) × (r ≤ 127) ⌝ }
+{
+    if kind != 1 {
+        return ahead_of(left);
+    }
+    larger(ahead_of(left), ahead_of(right))
+}
+
+// The words of comparison number g.
+fn sort_at(cells: &[u16; 832], g: usize) -> u64
+    requires { ⌜ g < 208 ⌝ }
+    ensures { λ r. ⌜ r ≡ sortOf (getD (now (cells .entry)) (g * 4 + 3) 0) ⌝ }
+{
+    sort_of(wide(cells[g * 4 + 3]))
+}
+
+fn low_at(cells: &[u16; 832], numbers: &[i32; 208], g: usize) -> u64
+    requires { ⌜ g < 208 ⌝ }
+    ensures { λ r. ⌜ LowAt (now (cells .entry)) (now (numbers .entry)) g r ⌝ }
+{
+    low_of(wide(cells[g * 4 + 2]), raise_number(numbers[g]))
+}
+
+fn width_at(cells: &[u16; 832], numbers: &[i32; 208], g: usize) -> u64
+    requires { ⌜ g < 208 ⌝ }
+    ensures { λ r. ⌜ r ≡ widthOf (getD (now (cells .entry)) (g * 4 + 2) 0) (raised (getD (now (numbers .entry)) g (pos 0))) ⌝ }
+{
+    width_of(wide(cells[g * 4 + 2]), raise_number(numbers[g]))
+}
+
+fn back_at(cells: &[u16; 832], offsets: &[i8; 416], g: usize) -> u64
+    requires { ⌜ g < 208 ⌝ }
+    ensures { λ r. ⌜ BackAt (now (cells .entry)) (now (offsets .entry)) g r ⌝ }
+{
+    back_both(wide(cells[g * 4 + 3]), offsets[g * 2], offsets[g * 2 + 1])
+}
+
+fn ahead_at(cells: &[u16; 832], offsets: &[i8; 416], g: usize) -> u64
+    requires { ⌜ g < 208 ⌝ }
+    ensures { λ r. ⌜ AheadAt (now (cells .entry)) (now (offsets .entry)) g r ⌝ }
+{
+    ahead_both(wide(cells[g * 4 + 3]), offsets[g * 2], offsets[g * 2 + 1])
+}
+
+fn put_words(
+    tests: &mut [u64; 208],
+    at: usize,
+    a: u64,
+    b: u64,
+    c: u64,
+    d: u64,
+    e: u64,
+    f: u64,
+    g: u64,
+)
+    requires { ⌜ at < 202 ⌝ }
+    ensures { λ r. ⌜ now (tests .exit) ≡ setSeven (now (tests .entry)) at a b c d e f g ⌝ }
+{
+    tests[at] = a;
+    tests[at + 1] = b;
+    tests[at + 2] = c;
+    tests[at + 3] = d;
+    tests[at + 4] = e;
+    tests[at + 5] = f;
+    tests[at + 6] = g;
+}
+
+// The test of letter l, if it has exactly one comparison.
+fn put_test(
+    cells: &[u16; 832],
+    offsets: &[i8; 416],
+    numbers: &[i32; 208],
+    counts: &[u8; 26],
+    n: usize,
+    l: usize,
+    tests: &mut [u64; 208],
+)
+    requires { ⌜ PutRoom l (now tests) ⌝ }
+    ensures { λ r. ⌜ PutTest (now (cells .entry)) (now (offsets .entry)) (now (numbers .entry)) (now (counts .entry)) n l (now (tests .entry)) (now (tests .exit)) ⌝ }
+{
+    if byte(counts[l]) != 1 {
+        return;
+    }
+    let g = l * 8;
+    let back = back_at(cells, offsets, g);
+    let rest = left_over(n, back + ahead_at(cells, offsets, g));
+    put_words(
+        tests,
+        g,
+        sort_at(cells, g),
+        word(cells[g * 4]),
+        word(cells[g * 4 + 1]),
+        low_at(cells, numbers, g),
+        width_at(cells, numbers, g),
+        back,
+        rest,
+    );
+}
+
+// The tests of all letters, over a query's decoded comparisons and n rows.
+pub fn prepare(
+    cells: &[u16; 832],
+    offsets: &[i8; 416],
+    numbers: &[i32; 208],
+    counts: &[u8; 26],
+    n: usize,
+    tests: &mut [u64; 208],
+)
+    requires { ⌜ Untested (now tests) ⌝ }
+    ensures { λ r. ⌜ Tested (now (cells .entry)) (now (offsets .entry)) (now (numbers .entry)) (now (counts .entry)) n (now (tests .exit)) ⌝ }
+{
+    let mut l = 0;
+    while l < 26 {
+        put_test(cells, offsets, numbers, counts, n, l, tests);
+        l += 1;
+    }
+}
+
+// ---- the test of a letter
+
+fn difference(a: i64, b: i64) -> i64
+    requires { ⌜ (mag a < 2147483648) × (mag b < 2147483648) ⌝ }
+    ensures { λ r. ⌜ (r ≡ a -ℤ b) × (mag r < 4294967296) ⌝ }
+{
+    a - b
+}
+
+// Whether a number, raised, lies in an interval that wraps at 2^64.
+fn inside(d: i64, low: u64, width: u64) -> bool
+    requires { ⌜ mag d < 4294967296 ⌝ }
+    ensures { λ r. ⌜ r ≡ within (raised d) low width ⌝ }
+{
+    std::num::wrapping_sub_u64(raise(d), low) <= width
+}
+
+// Whether letter l (0 for A) holds at a row, whose first entry is at index base. At position n, behind the last row, no letter holds.
+pub fn letter_holds(
+    tests: &[u64; 208],
+    cells: &[u16; 832],
+    offsets: &[i8; 416],
+    numbers: &[i32; 208],
+    counts: &[u8; 26],
+    l: usize,
+    rows: &[i32],
+    columns: usize,
+    n: usize,
+    row: usize,
+    base: usize,
+) -> bool
+    requires { ⌜ TestRoom (now tests) (now cells) (now offsets) (now numbers) (now counts) l (now rows) columns n row base ⌝ }
+    ensures { λ r. ⌜ r ≡ (ltb row n && holds (tableOf columns (now (rows .entry))) row
+        (cellsFrom columns (now (cells .entry)) (now (offsets .entry)) (now (numbers .entry)) (l * 8) (getD (now (counts .entry)) l 0))) ⌝ }
+{
+    let at = l * 8;
+    let sort = tests[at];
+    if sort == 0 {
+        if row < n {
+            return several_hold(
+                cells,
+                offsets,
+                numbers,
+                counts,
+                l,
+                rows,
+                columns,
+                n,
+                row,
+                base,
+            );
+        }
+        return false;
+    }
+    if std::num::wrapping_sub_u64(row as u64, tests[at + 5]) >= tests[at + 6] {
+        return false;
+    }
+    let a = entry_at(rows, columns, base, tests[at + 1] as usize);
+    if sort == 1 {
+        let b = entry_at(rows, columns, base, tests[at + 2] as usize);
+        return inside(difference(a, b), tests[at + 3], tests[at + 4]);
+    }
+    inside(a, tests[at + 3], tests[at + 4])
 }

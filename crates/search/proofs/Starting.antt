@@ -30,7 +30,7 @@ use Rattle.rules.proofs.SameLetters.{search-agrees}
 use Rattle.rules.proofs.ThinPlaces.{Spelt, thinned-spelt}
 use Rattle.decode.specs.Layout.{Decoded, cellsFrom, measureIn, measuresIn}
 use Rattle.places.specs.Emitting.{Unrolling, Tabled}
-use Rattle.walk.specs.Letters as L
+use Rattle.letters.specs.Tests.{Tested, Letters}
 use Rattle.walk.specs.Letters.{holdsIn}
 use Rattle.walk.specs.Tables as W
 use Rattle.sweep.specs.Asked as S
@@ -120,9 +120,10 @@ module _ (q nodes : List ℕ) (top p : ℕ) (rows : List ℤ) (columns n : ℕ) 
   the-measured : Measured ms count rows columns n
   the-measured = record { few = omega (arith, a .count-is, a .decoded .few); few-rows = a .most; there = omega (arith, a .all); long = omega (arith, a .long, a .count-is, a .decoded .few); columned = column-fits }
 
-  the-letters : L.Lettered cells offsets counts rows columns n
-  the-letters =
+  the-letters : (tests : List ℕ) → Tested cells offsets constants counts n tests → Letters tests cells offsets constants counts rows columns n
+  the-letters tests t =
       record {
+        tested = t;
         some = omega (arith, a .columns-are, a .decoded .some);
         few = omega (arith, a .columns-are, a .decoded .most);
         most = a .most;
@@ -152,7 +153,8 @@ module _ (q nodes : List ℕ) (top p : ℕ) (rows : List ℤ) (columns n : ℕ) 
           stops = omega (arith, few-places);
         }
 
-    module _ (co₀ ne₀ en₀ st₀ co ne en st : List ℕ) (d : Parted table p co₀ ne₀ en₀ st₀ co ne en st) (lc : length co ≡ 256) (ln : length ne ≡ 256) (le : length en ≡ 256) (ls : length st ≡ 256) where
+    module _ (co₀ ne₀ en₀ st₀ co ne en st : List ℕ) (d : Parted table p co₀ ne₀ en₀ st₀ co ne en st) (lc : length co ≡ 256) (ln : length ne ≡ 256) (le : length en ≡ 256) (ls : length st ≡ 256)
+        (tests : List ℕ) (t : Tested cells offsets constants counts n tests) where
       abbrev g : emptyLoop (a .tree) ≡ false
       g = a .no-loop
 
@@ -192,10 +194,10 @@ module _ (q nodes : List ℕ) (top p : ℕ) (rows : List ℤ) (columns n : ℕ) 
           ∙ ap₂ (λ (x y : ℕ). pairs x y) (a .places-are ∙ sym (places-counted (a .tree)) ∙ ap length (sym the-places)) the-rows
           ∙ sym (rw the-places (walk-kept (unroll (a .tree)) (legal-unroll (a .tree) g) (letterHolds (taskOf q rows)) (taskOf q rows .table .n) (taskOf q rows .mode) (fits nums labs (taskOf q rows .measures))))
 
-      pub runs : Runs q T rows columns n cells offsets constants counts ms count mode notes trail
+      pub runs : Runs q T rows columns n tests cells offsets constants counts ms count mode notes trail
       runs =
           record {
-            searches = record { measured = the-measured; legal = T-legal; asks = the-letters; noted = rw T-count (a .noted); trailed = rw T-count (a .trailed) };
+            searches = record { measured = the-measured; legal = T-legal; asks = the-letters tests t; noted = rw T-count (a .noted); trailed = rw T-count (a .trailed) };
             found = T-found;
             numbered = λ k xs. rw (T-places, the-table, the-measures, the-places) (numbers-thin (taskOf q rows .table) (taskOf q rows .measures) (places (unroll (a .tree))) k xs);
             labelled = λ xs. rw (T-places, the-places) (labels-of-thin (places (unroll (a .tree))) xs);
@@ -210,9 +212,10 @@ module _ (q nodes : List ℕ) (top p : ℕ) (rows : List ℤ) (columns n : ℕ) 
 
   pub may-run : (table₀ table : List ℕ) (end : ℕ) → ((h : Unrolling nodes top p table₀) → Tabled (h .tree) p table₀ table end) → length table₀ ≡ 1792
       → (co₀ ne₀ en₀ st₀ co ne en st : List ℕ) → Parted table p co₀ ne₀ en₀ st₀ co ne en st → length co₀ ≡ 256 → length ne₀ ≡ 256 → length en₀ ≡ 256 → length st₀ ≡ 256
-      → Runs q (W.tables (take (p - 0) (drop 0 co)) (take (p - 0) (drop 0 ne)) (take (p - 0) (drop 0 en)) (take (p - 0) (drop 0 st)) table) rows columns n cells offsets constants counts ms count mode notes trail
+      → (tests : List ℕ) → Tested cells offsets constants counts n tests
+      → Runs q (W.tables (take (p - 0) (drop 0 co)) (take (p - 0) (drop 0 ne)) (take (p - 0) (drop 0 en)) (take (p - 0) (drop 0 st)) table) rows columns n tests cells offsets constants counts ms count mode notes trail
   unfolding may-unroll
-  may-run table₀ table end f e co₀ ne₀ en₀ st₀ co ne en st d lc ln le ls =
+  may-run table₀ table end f e co₀ ne₀ en₀ st₀ co ne en st d lc ln le ls tests t =
       let b = f (may-unroll table₀ e) in
       let z : p - 0 ≡ p = omega arith in
-      rw z (runs table₀ table end b (b .len ∙ e) co₀ ne₀ en₀ st₀ co ne en st d (d .codes .long ∙ lc) (d .nexts .long ∙ ln) (d .entries .long ∙ le) (d .stops .long ∙ ls))
+      rw z (runs table₀ table end b (b .len ∙ e) co₀ ne₀ en₀ st₀ co ne en st d (d .codes .long ∙ lc) (d .nexts .long ∙ ln) (d .entries .long ∙ le) (d .stops .long ∙ ls) tests t)

@@ -21,7 +21,8 @@ use Rattle.decode.specs.declared.Parts.{Parts}
 use Rattle.rules.specs.Search.{Match}
 use Rattle.rules.specs.Report.{numbersOf, labelsOf}
 use Rattle.walk.specs.Tables.{Tables, N, placesIn}
-use Rattle.walk.specs.Letters.{holdsIn, Lettered}
+use Rattle.letters.specs.Tests.{Letters}
+use Rattle.walk.specs.Letters.{holdsIn}
 use Rattle.sweep.specs.Asked as S
 use Rattle.sweep.specs.Asked.{asked}
 use Rattle.sweep.specs.Searched.{Searches}
@@ -72,8 +73,8 @@ pub record Walks (q nodes : List ℕ) (top places : ℕ) (rows : List ℤ) (colu
   pub trailed : pairs places n ≤ length trail
 
 -- what all starts over tables ask: legal tables, letters and measures that can be read, working room; and that they stand for the query's search
-pub record Runs (q : List ℕ) (T : Tables) (rows : List ℤ) (columns n : ℕ) (cells : List ℕ) (offsets constants : List ℤ) (counts ms : List ℕ) (count : ℕ) (mode : Bool) (notes trail : List ℕ) : Type 0 where
-  pub searches : Searches (asked T (holdsIn rows columns cells offsets constants counts) n mode (tableOf columns rows) (measuresIn ms count)) (Lettered cells offsets counts rows columns n) ms count rows columns notes trail
+pub record Runs (q : List ℕ) (T : Tables) (rows : List ℤ) (columns n : ℕ) (tests cells : List ℕ) (offsets constants : List ℤ) (counts ms : List ℕ) (count : ℕ) (mode : Bool) (notes trail : List ℕ) : Type 0 where
+  pub searches : Searches (asked T (holdsIn rows columns cells offsets constants counts) n mode (tableOf columns rows) (measuresIn ms count)) (Letters tests cells offsets constants counts rows columns n) ms count rows columns notes trail
   pub found : (nums labs : ℕ) → S.searchOf (asked T (holdsIn rows columns cells offsets constants counts) n mode (tableOf columns rows) (measuresIn ms count)) nums labs ≡ walked (taskOf q rows) nums labs
   pub numbered : (k : ℕ) (xs : List Match) → numbersOf (tableOf columns rows) (measuresIn ms count) (placesIn T) k xs ≡ numbersOf (taskOf q rows .table) (taskOf q rows .measures) (taskOf q rows .places) k xs
   pub labelled : (xs : List Match) → labelsOf (placesIn T) xs ≡ labelsOf (taskOf q rows .places) xs

@@ -152,6 +152,7 @@ fn run_tables(
     rows: &[i32],
     columns: usize,
     n: usize,
+    tests: &[u64; 208],
     cells: &[u16; 832],
     offsets: &[i8; 416],
     constants: &[i32; 208],
@@ -164,7 +165,7 @@ fn run_tables(
     numbers: &mut [i64],
     labels: &mut [u8],
 ) -> Outcome
-    requires { ⌜ Runs (now query) (tables (now code) (now next) (now entry) (now stop) (now table)) (now rows) columns n (now cells) (now offsets) (now constants) (now counts) (now ms) count mode (now notes) (now trail) ⌝ }
+    requires { ⌜ Runs (now query) (tables (now code) (now next) (now entry) (now stop) (now table)) (now rows) columns n (now tests) (now cells) (now offsets) (now constants) (now counts) (now ms) count mode (now notes) (now trail) ⌝ }
     ensures { λ r. ⌜ memory r (now (notes .exit)) (now (trail .exit)) (now (numbers .exit)) (now (labels .exit)) ≡ ended (now (query .entry)) (now (rows .entry)) (lent (now (notes .entry)) (now (trail .entry)) (now (numbers .entry)) (now (labels .entry))) ⌝ }
 {
     let s = sweep::search(
@@ -176,6 +177,7 @@ fn run_tables(
         rows,
         columns,
         n,
+        tests,
         cells,
         offsets,
         constants,
@@ -222,6 +224,8 @@ fn walk_all(
     let mut entry = [0u32; 256];
     let mut stop = [0u16; 256];
     part(&table, places, &mut code, &mut next, &mut entry, &mut stop);
+    let mut tests = [0u64; 208];
+    letters::prepare(cells, offsets, constants, counts, n, &mut tests);
     run_tables(
         query,
         &code[0..places],
@@ -232,6 +236,7 @@ fn walk_all(
         rows,
         columns,
         n,
+        &tests,
         cells,
         offsets,
         constants,

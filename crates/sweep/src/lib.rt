@@ -8,7 +8,8 @@ ghost use Rattle.rules.specs.Basics.{wrote};
 ghost use Rattle.rules.specs.Search.{nextStart};
 ghost use Rattle.walk.specs.Step.{placeIn};
 ghost use Rattle.walk.specs.Tables.{tables};
-ghost use Rattle.walk.specs.Letters.{holdsIn, Lettered};
+ghost use Rattle.letters.specs.Tests.{Letters};
+ghost use Rattle.walk.specs.Letters.{holdsIn};
 ghost use Rattle.sweep.specs.Asked.{asked, labelsOn, pathOn};
 ghost use mathlib.Core.Option.{some};
 ghost use Rattle.rules.specs.Rows.{tableOf};
@@ -59,9 +60,9 @@ fn put_labels(
     end: usize,
 )
     requires { ⌜ Labels (tables (now code) (now next) (now entry) (now stop) (now ways)) (now trail) (now labels) top end ⌝ }
-    ensures { λ _. ⌜ now (labels .exit) ≡ wrote (now (labels .entry)) (end - length
-        (labelsOn (tables (now (code .entry)) (now (next .entry)) (now (entry .entry)) (now (stop .entry)) (now (ways .entry))) (now (trail .entry)) top))
-        (labelsOn (tables (now (code .entry)) (now (next .entry)) (now (entry .entry)) (now (stop .entry)) (now (ways .entry))) (now (trail .entry)) top) ⌝ }
+    ensures { λ _. ⌜ now (labels .exit) ≡ wrote (now (labels .entry)) (end - length (labelsOn (tables (now (code .entry)) (now (next .entry)) (now (entry
+        .entry)) (now (stop .entry)) (now (ways .entry))) (now (trail .entry)) top)) (labelsOn (tables (now (code .entry)) (now (next .entry)) (now (entry
+        .entry)) (now (stop .entry)) (now (ways .entry))) (now (trail .entry)) top) ⌝ }
 {
     let mut k = top;
     let mut e = end;
@@ -105,10 +106,9 @@ fn write_match(
     w: Walk,
 ) -> Sweep
     requires { ⌜ Reports (tables (now code) (now next) (now entry) (now stop) (now ways)) n (now ms) count (now rows) columns (now trail) (now labels) i w ⌝ }
-    ensures { λ r. ⌜ ((holds : ℕ → ℕ → Bool) → Told (asked
-        (tables (now (code .entry)) (now (next .entry)) (now (entry .entry)) (now (stop .entry)) (now (ways .entry))) holds n mode
-        (tableOf columns (now (rows .entry))) (measuresIn (now (ms .entry)) count)) (some (pathOn (length (now (code .entry))) (now (trail .entry)) (w .top))) i (w .steps) (now (numbers .entry))
-        (now (numbers .exit)) (now (labels .entry)) (now (labels .exit)) r) ⌝ }
+    ensures { λ r. ⌜ ((holds : ℕ → ℕ → Bool) → Told (asked (tables (now (code .entry)) (now (next .entry)) (now (entry .entry)) (now (stop .entry)) (now (ways
+        .entry))) holds n mode (tableOf columns (now (rows .entry))) (measuresIn (now (ms .entry)) count)) (some (pathOn (length (now (code .entry))) (now
+        (trail .entry)) (w .top))) i (w .steps) (now (numbers .entry)) (now (numbers .exit)) (now (labels .entry)) (now (labels .exit)) r) ⌝ }
 {
     let row = i.row;
     let behind = w.row;
@@ -156,6 +156,7 @@ fn visit(
     rows: &[i32],
     columns: usize,
     n: usize,
+    tests: &[u64; 208],
     cells: &[u16; 832],
     offsets: &[i8; 416],
     constants: &[i32; 208],
@@ -169,13 +170,13 @@ fn visit(
     labels: &mut [u8],
     i: Sweep,
 ) -> Sweep
-    requires { ⌜ Visits (asked (tables (now code) (now next) (now entry) (now stop) (now ways))
-        (holdsIn (now rows) columns (now cells) (now offsets) (now constants) (now counts)) n mode (tableOf columns (now rows)) (measuresIn (now ms) count)) (Lettered
-        (now cells) (now offsets) (now counts) (now rows) columns n) (now ms) count (now rows) columns (now notes) (now trail) (now labels) i ⌝ }
-    ensures { λ r. ⌜ Visited (asked (tables (now (code .entry)) (now (next .entry)) (now (entry .entry)) (now (stop .entry)) (now (ways .entry)))
-        (holdsIn (now (rows .entry)) columns (now (cells .entry)) (now (offsets .entry)) (now (constants .entry)) (now (counts .entry))) n mode
-        (tableOf columns (now (rows .entry))) (measuresIn (now (ms .entry)) count)) (now (notes .entry)) (now (notes .exit)) (now (trail .entry)) (now (trail .exit))
-        (now (numbers .entry)) (now (numbers .exit)) (now (labels .entry)) (now (labels .exit)) i r ⌝ }
+    requires { ⌜ Visits (asked (tables (now code) (now next) (now entry) (now stop) (now ways)) (holdsIn (now rows) columns (now cells) (now offsets) (now
+        constants) (now counts)) n mode (tableOf columns (now rows)) (measuresIn (now ms) count)) (Letters (now tests) (now cells) (now offsets) (now
+        constants) (now counts) (now rows) columns n) (now ms) count (now rows) columns (now notes) (now trail) (now labels) i ⌝ }
+    ensures { λ r. ⌜ Visited (asked (tables (now (code .entry)) (now (next .entry)) (now (entry .entry)) (now (stop .entry)) (now (ways .entry))) (holdsIn
+        (now (rows .entry)) columns (now (cells .entry)) (now (offsets .entry)) (now (constants .entry)) (now (counts .entry))) n mode (tableOf columns (now
+        (rows .entry))) (measuresIn (now (ms .entry)) count)) (now (notes .entry)) (now (notes .exit)) (now (trail .entry)) (now (trail .exit)) (now (numbers
+        .entry)) (now (numbers .exit)) (now (labels .entry)) (now (labels .exit)) i r ⌝ }
 {
     let row = i.row;
     let w = walk::attempt(
@@ -187,6 +188,7 @@ fn visit(
         rows,
         columns,
         n,
+        tests,
         cells,
         offsets,
         constants,
@@ -236,6 +238,7 @@ fn starts(
     rows: &[i32],
     columns: usize,
     n: usize,
+    tests: &[u64; 208],
     cells: &[u16; 832],
     offsets: &[i8; 416],
     constants: &[i32; 208],
@@ -248,13 +251,13 @@ fn starts(
     numbers: &mut [i64],
     labels: &mut [u8],
 ) -> Sweep
-    requires { ⌜ Starts (asked (tables (now code) (now next) (now entry) (now stop) (now ways))
-        (holdsIn (now rows) columns (now cells) (now offsets) (now constants) (now counts)) n mode (tableOf columns (now rows)) (measuresIn (now ms) count)) (Lettered
-        (now cells) (now offsets) (now counts) (now rows) columns n) (now ms) count (now rows) columns (now notes) (now trail) ⌝ }
-    ensures { λ r. ⌜ Searched (asked (tables (now (code .entry)) (now (next .entry)) (now (entry .entry)) (now (stop .entry)) (now (ways .entry)))
-        (holdsIn (now (rows .entry)) columns (now (cells .entry)) (now (offsets .entry)) (now (constants .entry)) (now (counts .entry))) n mode
-        (tableOf columns (now (rows .entry))) (measuresIn (now (ms .entry)) count)) (now (notes .entry)) (now (trail .entry)) (now (numbers .entry)) (now
-        (labels .entry)) (now (notes .exit)) (now (trail .exit)) (now (numbers .exit)) (now (labels .exit)) r ⌝ }
+    requires { ⌜ Starts (asked (tables (now code) (now next) (now entry) (now stop) (now ways)) (holdsIn (now rows) columns (now cells) (now offsets) (now
+        constants) (now counts)) n mode (tableOf columns (now rows)) (measuresIn (now ms) count)) (Letters (now tests) (now cells) (now offsets) (now
+        constants) (now counts) (now rows) columns n) (now ms) count (now rows) columns (now notes) (now trail) ⌝ }
+    ensures { λ r. ⌜ Searched (asked (tables (now (code .entry)) (now (next .entry)) (now (entry .entry)) (now (stop .entry)) (now (ways .entry))) (holdsIn
+        (now (rows .entry)) columns (now (cells .entry)) (now (offsets .entry)) (now (constants .entry)) (now (counts .entry))) n mode (tableOf columns (now
+        (rows .entry))) (measuresIn (now (ms .entry)) count)) (now (notes .entry)) (now (trail .entry)) (now (numbers .entry)) (now (labels .entry)) (now
+        (notes .exit)) (now (trail .exit)) (now (numbers .exit)) (now (labels .exit)) r ⌝ }
 {
     let mut i = Sweep {
         full: false,
@@ -273,6 +276,7 @@ fn starts(
             rows,
             columns,
             n,
+            tests,
             cells,
             offsets,
             constants,
@@ -324,6 +328,7 @@ pub fn search(
     rows: &[i32],
     columns: usize,
     n: usize,
+    tests: &[u64; 208],
     cells: &[u16; 832],
     offsets: &[i8; 416],
     constants: &[i32; 208],
@@ -336,13 +341,13 @@ pub fn search(
     numbers: &mut [i64],
     labels: &mut [u8],
 ) -> Sweep
-    requires { ⌜ Searches (asked (tables (now code) (now next) (now entry) (now stop) (now ways))
-        (holdsIn (now rows) columns (now cells) (now offsets) (now constants) (now counts)) n mode (tableOf columns (now rows)) (measuresIn (now ms) count)) (Lettered
-        (now cells) (now offsets) (now counts) (now rows) columns n) (now ms) count (now rows) columns (now notes) (now trail) ⌝ }
-    ensures { λ r. ⌜ Answered (asked (tables (now (code .entry)) (now (next .entry)) (now (entry .entry)) (now (stop .entry)) (now (ways .entry)))
-        (holdsIn (now (rows .entry)) columns (now (cells .entry)) (now (offsets .entry)) (now (constants .entry)) (now (counts .entry))) n mode
-        (tableOf columns (now (rows .entry))) (measuresIn (now (ms .entry)) count)) (now (notes .entry)) (now (trail .entry)) (now (numbers .entry)) (now
-        (labels .entry)) (now (notes .exit)) (now (trail .exit)) (now (numbers .exit)) (now (labels .exit)) r ⌝ }
+    requires { ⌜ Searches (asked (tables (now code) (now next) (now entry) (now stop) (now ways)) (holdsIn (now rows) columns (now cells) (now offsets) (now
+        constants) (now counts)) n mode (tableOf columns (now rows)) (measuresIn (now ms) count)) (Letters (now tests) (now cells) (now offsets) (now
+        constants) (now counts) (now rows) columns n) (now ms) count (now rows) columns (now notes) (now trail) ⌝ }
+    ensures { λ r. ⌜ Answered (asked (tables (now (code .entry)) (now (next .entry)) (now (entry .entry)) (now (stop .entry)) (now (ways .entry))) (holdsIn
+        (now (rows .entry)) columns (now (cells .entry)) (now (offsets .entry)) (now (constants .entry)) (now (counts .entry))) n mode (tableOf columns (now
+        (rows .entry))) (measuresIn (now (ms .entry)) count)) (now (notes .entry)) (now (trail .entry)) (now (numbers .entry)) (now (labels .entry)) (now
+        (notes .exit)) (now (trail .exit)) (now (numbers .exit)) (now (labels .exit)) r ⌝ }
 {
     let pairs = code.len() * (n + 1);
     zero_bytes(notes, (pairs + 7) / 8);
@@ -355,6 +360,7 @@ pub fn search(
         rows,
         columns,
         n,
+        tests,
         cells,
         offsets,
         constants,

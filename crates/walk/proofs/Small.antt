@@ -1,11 +1,11 @@
--- What the small functions do, one law for each way through their code: a letter's range, a place that passes, a pair entered or tried, and the way behind a way.
+-- What the small functions do, one law for each way through their code: a letter, a place that passes, a pair entered or tried, and the way behind a way.
 use mathlib.Core.Path.{_≡_, refl, sym, _∙_}
 use mathlib.Core.List.{List}
-use mathlib.Core.Bool.{Bool, true, false, not}
+use mathlib.Core.Bool.{Bool, true, false, not, _&&_}
 use Prim.Native.Nat.{ℕ, _+_, _-_, _*_, _/_, _%_, _≤_, _<_}
 use native.Mathlib.Nat.{mul-le-mul}
 use native.Mathlib.Omega.{arith}
-use lib.Dec.{eqb}
+use lib.Dec.{eqb, ltb}
 use lib.IntN.{ℤ}
 use lib.ListN.{length, getD, set}
 use borrow.Author.Tests.{ne-eqb, lt-ltb, le-ltb}
@@ -13,43 +13,31 @@ use Rattle.rules.specs.Report.{bitAt}
 use Rattle.rules.specs.Rows.{tableOf, holds}
 use Rattle.rules.proofs.Notes.{marked}
 use Rattle.decode.specs.Layout.{cellsFrom}
-use Rattle.letters.specs.Letters.{At, LetterRoom}
+use Rattle.letters.specs.Tests.{Letters, TestRoom}
 use Rattle.walk.specs.declared.Walk.{Walk}
-use Rattle.walk.specs.Letters.{holdsIn, Lettered}
+use Rattle.walk.specs.Letters.{holdsIn}
 use Rattle.walk.specs.Tables.{passesBy}
 use Rattle.walk.specs.Step.{mem, walkAt, tryAt, after, openedBy, enteredBy, Noted, Enters}
 use Rattle.walk.proofs.Trying.{letter-in}
 
 -- ---- a letter
 
-module _ (cells : List ℕ) (offsets : List ℤ) (counts : List ℕ) (rows : List ℤ) (columns n c row : ℕ) (h : (row < n) × (c < 26) × Lettered cells offsets counts rows columns n) where
-  letter-at : At rows columns n row (row * columns)
-  letter-at = let l = h .2 in record { some = l .some; few = l .few; most = l .most; all = l .all; is-row = h .0; first = refl }
-
+module _ (tests cells : List ℕ) (offsets constants : List ℤ) (counts : List ℕ) (rows : List ℤ) (columns n c row : ℕ)
+    (h : (row ≤ n) × (c < 26) × Letters tests cells offsets constants counts rows columns n) where
   pub letter-base : row * columns ≤ 4096 * 8
   letter-base = let l = h .2 in let a = h .0 in let m = l .most in mul-le-mul (let z : row ≤ 4096 = omega arith in z) (l .few)
 
-  pub letter-room : (i : ℕ) → i ≡ c → LetterRoom cells offsets counts i rows columns n row (row * columns)
-  letter-room i e =
-      let k : i < 26 = rw e (h .1) in
-      record { at = letter-at; letter = k; few = h .2 .counted i k; spots = λ j l. h .2 .spots i j k l }
+  pub letter-room : (i : ℕ) → i ≡ c → TestRoom tests cells offsets constants counts i rows columns n row (row * columns)
+  letter-room i e = record { letters = h .2; letter = rw e (h .1); upto = h .0; first = refl }
 
-pub letter-is : (rows : List ℤ) (columns : ℕ) (cells : List ℕ) (offsets constants : List ℤ) (counts : List ℕ) (c i row : ℕ) (r : Bool) → i ≡ c
-    → r ≡ holds (tableOf columns rows) row (cellsFrom columns cells offsets constants (i * 8) (getD counts i 0)) → r ≡ holdsIn rows columns cells offsets constants counts (c + 65) row
-unfolding holdsIn
-letter-is rows columns cells offsets constants counts c i row r e h = let z : c + 65 - 65 ≡ i = omega arith in rw z h
+  pub letter-is : (i : ℕ) (r : Bool) → i ≡ c → r ≡ (ltb row n && holds (tableOf columns rows) row (cellsFrom columns cells offsets constants (i * 8) (getD counts i 0)))
+      → r ≡ passesBy (holdsIn rows columns cells offsets constants counts) n c row
+  unfolding holdsIn passesBy
+  letter-is i r e d = let z : c + 65 - 65 ≡ i = omega arith in rw (lt-ltb c 26 (h .1), z) d
 
 -- ---- a place passes
 
 module _ (holds : ℕ → ℕ → Bool) (n c i : ℕ) where
-  pub passes-letter : (r : Bool) → c < 26 → i < n → r ≡ holds (c + 65) i → r ≡ passesBy holds n c i
-  unfolding passesBy
-  passes-letter r e l h = rw (lt-ltb c 26 e, lt-ltb i n l) h
-
-  pub passes-late : c < 26 → n ≤ i → false ≡ passesBy holds n c i
-  unfolding passesBy
-  passes-late e l = rw (lt-ltb c 26 e, le-ltb i n l)
-
   pub passes-caret : c ≡ 26 → eqb i 0 ≡ passesBy holds n c i
   unfolding passesBy
   passes-caret e = rw e

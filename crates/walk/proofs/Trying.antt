@@ -151,7 +151,8 @@ module _ (T : Tables) (holds : ℕ → ℕ → Bool) (n : ℕ) (Q : Type 0) (not
         place = nx .place;
         next = rw (z .nexts) (nx .place);
         entry = rw (z .entries) (nx .place);
-        row = next-few T holds n Q notes trail w q (w .row) (w .base) nx;
+        row = next-row T holds n Q notes trail w q (w .row) (w .base) nx;
+        few = next-few T holds n Q notes trail w q (w .row) (w .base) nx;
         noted = next-noted T holds n Q notes trail w q (w .row) (w .base) nx;
         out = next-out T holds n Q notes trail w q (w .row) (w .base) nx;
         word = next-word T holds n Q notes trail w q (w .row) (w .base) nx;

@@ -89,7 +89,8 @@ pub record Enters (co ne en : List ℕ) (n : ℕ) (Q : Type 0) (notes trail : Li
   pub place : w .place < length co
   pub next : w .place < length ne
   pub entry : w .place < length en
-  pub row : w .row ≤ 4096
+  pub row : w .row ≤ n
+  pub few : w .row ≤ 4096
   pub noted : Noted notes (w .base + w .place)
   pub out : bitAt notes (w .base + w .place) ≡ false
   pub word : w .row * 256 + getD en (w .place) 0 < 4294967296

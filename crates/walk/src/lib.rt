@@ -8,7 +8,8 @@ ghost use lib.ListN.{length, getD, set};
 ghost use Rattle.rules.specs.Report.{bitAt};
 ghost use Rattle.rules.proofs.Notes.{marked};
 ghost use Rattle.walk.specs.Tables.{tables, passesBy};
-ghost use Rattle.walk.specs.Letters.{holdsIn, Lettered};
+ghost use Rattle.letters.specs.Tests.{Letters};
+ghost use Rattle.walk.specs.Letters.{holdsIn};
 ghost use Rattle.walk.specs.Step.{mem, walkAt, tryAt, after, wentOn, enteredBy, Enters};
 ghost use Rattle.walk.specs.State.{State, Goes, Halts, Onward, Backward, Descended, Idle, Retreated, Moves, Ran, Ready, Done};
 
@@ -61,11 +62,12 @@ fn index(x: u8) -> usize
     x as usize
 }
 
-// Whether the letter of code c holds at the row.
-fn holds(
+// Whether the letter of code c passes at the row: there is a row, and it holds there.
+fn letter_passes(
     rows: &[i32],
     columns: usize,
     n: usize,
+    tests: &[u64; 208],
     cells: &[u16; 832],
     offsets: &[i8; 416],
     constants: &[i32; 208],
@@ -73,11 +75,12 @@ fn holds(
     c: u8,
     row: usize,
 ) -> bool
-    requires { ⌜ (row < n) × (c < 26) × Lettered (now cells) (now offsets) (now counts) (now rows) columns n ⌝ }
-    ensures { λ r. ⌜ r ≡ holdsIn (now (rows .entry)) columns (now (cells .entry)) (now (offsets .entry)) (now (constants .entry)) (now (counts .entry)) (c + 65)
-        row ⌝ }
+    requires { ⌜ (row ≤ n) × (c < 26) × Letters (now tests) (now cells) (now offsets) (now constants) (now counts) (now rows) columns n ⌝ }
+    ensures { λ r. ⌜ r ≡ passesBy (holdsIn (now (rows .entry)) columns (now (cells .entry)) (now (offsets .entry)) (now (constants .entry)) (now (counts
+        .entry))) n c row ⌝ }
 {
     letters::letter_holds(
+        tests,
         cells,
         offsets,
         constants,
@@ -89,28 +92,6 @@ fn holds(
         row,
         row * columns,
     )
-}
-
-// Whether the letter of code c passes at the row: there is a row, and it holds there.
-fn letter_passes(
-    rows: &[i32],
-    columns: usize,
-    n: usize,
-    cells: &[u16; 832],
-    offsets: &[i8; 416],
-    constants: &[i32; 208],
-    counts: &[u8; 26],
-    c: u8,
-    row: usize,
-) -> bool
-    requires { ⌜ (c < 26) × Lettered (now cells) (now offsets) (now counts) (now rows) columns n ⌝ }
-    ensures { λ r. ⌜ r ≡ passesBy (holdsIn (now (rows .entry)) columns (now (cells .entry)) (now (offsets .entry)) (now (constants .entry)) (now (counts
-        .entry))) n c row ⌝ }
-{
-    if row < n {
-        return holds(rows, columns, n, cells, offsets, constants, counts, c, row);
-    }
-    false
 }
 
 // Whether an anchor of code c passes at the row, or another place that is no letter, which always passes.
@@ -179,6 +160,7 @@ fn enter(
     rows: &[i32],
     columns: usize,
     n: usize,
+    tests: &[u64; 208],
     cells: &[u16; 832],
     offsets: &[i8; 416],
     constants: &[i32; 208],
@@ -187,7 +169,8 @@ fn enter(
     trail: &mut [u32],
     w: Walk,
 ) -> Walk
-    requires { ⌜ Enters (now code) (now next) (now entry) n (Lettered (now cells) (now offsets) (now counts) (now rows) columns n) (now notes) (now trail) w ⌝ }
+    requires { ⌜ Enters (now code) (now next) (now entry) n (Letters (now tests) (now cells) (now offsets) (now constants) (now counts) (now rows) columns n)
+        (now notes) (now trail) w ⌝ }
     ensures { λ r. ⌜ mem (now (notes .exit)) (now (trail .exit)) r ≡ enteredBy (passesBy (holdsIn (now (rows .entry)) columns (now (cells .entry)) (now
         (offsets .entry)) (now (constants .entry)) (now (counts .entry))) n (getD (now (code .entry)) (w .place) 0) (w .row)) (mem (now (notes .entry)) (now
         (trail .entry)) w) (getD (now (code .entry)) (w .place) 0) (getD (now (entry .entry)) (w .place) 0) (getD (now (next .entry)) (w .place) 0) (length
@@ -204,7 +187,18 @@ fn enter(
         return tried(notes, top + 1, steps, wide(next[q]), row, base);
     }
     if c < 26 {
-        if letter_passes(rows, columns, n, cells, offsets, constants, counts, c, row) {
+        if letter_passes(
+            rows,
+            columns,
+            n,
+            tests,
+            cells,
+            offsets,
+            constants,
+            counts,
+            c,
+            row,
+        ) {
             push(trail, top, row, entry[q]);
             return tried(
                 notes,
@@ -222,8 +216,9 @@ fn enter(
     }
     push(trail, top, row, entry[q]);
     if c > 28 {
+        let opened = top + 1;
         return Walk {
-            top: top + 1,
+            top: opened,
             steps,
             place: q,
             row,
@@ -245,6 +240,7 @@ fn descend(
     rows: &[i32],
     columns: usize,
     n: usize,
+    tests: &[u64; 208],
     cells: &[u16; 832],
     offsets: &[i8; 416],
     constants: &[i32; 208],
@@ -254,11 +250,11 @@ fn descend(
     from: Walk,
 ) -> Walk
     requires { ⌜ Goes (tables (now code) (now next) (now entry) (now stop) (now ways)) (holdsIn (now rows) columns (now cells) (now offsets) (now constants)
-        (now counts)) n (Lettered (now cells) (now offsets) (now counts) (now rows) columns n) (now notes) (now trail) from ⌝ }
+        (now counts)) n (Letters (now tests) (now cells) (now offsets) (now constants) (now counts) (now rows) columns n) (now notes) (now trail) from ⌝ }
     ensures { λ r. ⌜ Descended (tables (now (code .entry)) (now (next .entry)) (now (entry .entry)) (now (stop .entry)) (now (ways .entry))) (holdsIn (now
-        (rows .entry)) columns (now (cells .entry)) (now (offsets .entry)) (now (constants .entry)) (now (counts .entry))) n (Lettered (now (cells .entry))
-        (now (offsets .entry)) (now (counts .entry)) (now (rows .entry)) columns n) (now (notes .entry)) (now (trail .entry)) from (now (notes .exit)) (now
-        (trail .exit)) r ⌝ }
+        (rows .entry)) columns (now (cells .entry)) (now (offsets .entry)) (now (constants .entry)) (now (counts .entry))) n (Letters (now (tests .entry))
+        (now (cells .entry)) (now (offsets .entry)) (now (constants .entry)) (now (counts .entry)) (now (rows .entry)) columns n) (now (notes .entry)) (now
+        (trail .entry)) from (now (notes .exit)) (now (trail .exit)) r ⌝ }
 {
     let mut w = from;
     while w.down {
@@ -269,6 +265,7 @@ fn descend(
             rows,
             columns,
             n,
+            tests,
             cells,
             offsets,
             constants,
@@ -310,6 +307,7 @@ fn back(
     rows: &[i32],
     columns: usize,
     n: usize,
+    tests: &[u64; 208],
     cells: &[u16; 832],
     offsets: &[i8; 416],
     constants: &[i32; 208],
@@ -319,11 +317,11 @@ fn back(
     w: Walk,
 ) -> Walk
     requires { ⌜ Halts (tables (now code) (now next) (now entry) (now stop) (now ways)) (holdsIn (now rows) columns (now cells) (now offsets) (now constants)
-        (now counts)) n (Lettered (now cells) (now offsets) (now counts) (now rows) columns n) (now notes) (now trail) w ⌝ }
+        (now counts)) n (Letters (now tests) (now cells) (now offsets) (now constants) (now counts) (now rows) columns n) (now notes) (now trail) w ⌝ }
     ensures { λ r. ⌜ Backward (tables (now (code .entry)) (now (next .entry)) (now (entry .entry)) (now (stop .entry)) (now (ways .entry))) (holdsIn (now
-        (rows .entry)) columns (now (cells .entry)) (now (offsets .entry)) (now (constants .entry)) (now (counts .entry))) n (Lettered (now (cells .entry))
-        (now (offsets .entry)) (now (counts .entry)) (now (rows .entry)) columns n) (now (notes .entry)) (now (trail .entry)) w (now (notes .exit)) (now
-        (trail .exit)) r ⌝ }
+        (rows .entry)) columns (now (cells .entry)) (now (offsets .entry)) (now (constants .entry)) (now (counts .entry))) n (Letters (now (tests .entry))
+        (now (cells .entry)) (now (offsets .entry)) (now (constants .entry)) (now (counts .entry)) (now (rows .entry)) columns n) (now (notes .entry)) (now
+        (trail .entry)) w (now (notes .exit)) (now (trail .exit)) r ⌝ }
 {
     let at = w.top - 1;
     let e = wide32(trail[at]);
@@ -381,6 +379,7 @@ fn retreat(
     rows: &[i32],
     columns: usize,
     n: usize,
+    tests: &[u64; 208],
     cells: &[u16; 832],
     offsets: &[i8; 416],
     constants: &[i32; 208],
@@ -390,11 +389,11 @@ fn retreat(
     from: Walk,
 ) -> Walk
     requires { ⌜ Idle (tables (now code) (now next) (now entry) (now stop) (now ways)) (holdsIn (now rows) columns (now cells) (now offsets) (now constants)
-        (now counts)) n (Lettered (now cells) (now offsets) (now counts) (now rows) columns n) (now notes) (now trail) from ⌝ }
+        (now counts)) n (Letters (now tests) (now cells) (now offsets) (now constants) (now counts) (now rows) columns n) (now notes) (now trail) from ⌝ }
     ensures { λ r. ⌜ Retreated (tables (now (code .entry)) (now (next .entry)) (now (entry .entry)) (now (stop .entry)) (now (ways .entry))) (holdsIn (now
-        (rows .entry)) columns (now (cells .entry)) (now (offsets .entry)) (now (constants .entry)) (now (counts .entry))) n (Lettered (now (cells .entry))
-        (now (offsets .entry)) (now (counts .entry)) (now (rows .entry)) columns n) (now (notes .entry)) (now (trail .entry)) from (now (notes .exit)) (now
-        (trail .exit)) r ⌝ }
+        (rows .entry)) columns (now (cells .entry)) (now (offsets .entry)) (now (constants .entry)) (now (counts .entry))) n (Letters (now (tests .entry))
+        (now (cells .entry)) (now (offsets .entry)) (now (constants .entry)) (now (counts .entry)) (now (rows .entry)) columns n) (now (notes .entry)) (now
+        (trail .entry)) from (now (notes .exit)) (now (trail .exit)) r ⌝ }
 {
     let mut w = from;
     while w.top > 0 {
@@ -410,6 +409,7 @@ fn retreat(
             rows,
             columns,
             n,
+            tests,
             cells,
             offsets,
             constants,
@@ -432,6 +432,7 @@ fn run(
     rows: &[i32],
     columns: usize,
     n: usize,
+    tests: &[u64; 208],
     cells: &[u16; 832],
     offsets: &[i8; 416],
     constants: &[i32; 208],
@@ -441,11 +442,11 @@ fn run(
     from: Walk,
 ) -> Walk
     requires { ⌜ Moves (tables (now code) (now next) (now entry) (now stop) (now ways)) (holdsIn (now rows) columns (now cells) (now offsets) (now constants)
-        (now counts)) n (Lettered (now cells) (now offsets) (now counts) (now rows) columns n) (now notes) (now trail) from ⌝ }
+        (now counts)) n (Letters (now tests) (now cells) (now offsets) (now constants) (now counts) (now rows) columns n) (now notes) (now trail) from ⌝ }
     ensures { λ r. ⌜ Ran (tables (now (code .entry)) (now (next .entry)) (now (entry .entry)) (now (stop .entry)) (now (ways .entry))) (holdsIn (now (rows
-        .entry)) columns (now (cells .entry)) (now (offsets .entry)) (now (constants .entry)) (now (counts .entry))) n (Lettered (now (cells .entry)) (now
-        (offsets .entry)) (now (counts .entry)) (now (rows .entry)) columns n) (now (notes .entry)) (now (trail .entry)) from (now (notes .exit)) (now (trail
-        .exit)) r ⌝ }
+        .entry)) columns (now (cells .entry)) (now (offsets .entry)) (now (constants .entry)) (now (counts .entry))) n (Letters (now (tests .entry)) (now
+        (cells .entry)) (now (offsets .entry)) (now (constants .entry)) (now (counts .entry)) (now (rows .entry)) columns n) (now (notes .entry)) (now (trail
+        .entry)) from (now (notes .exit)) (now (trail .exit)) r ⌝ }
 {
     let mut w = from;
     while w.down {
@@ -458,6 +459,7 @@ fn run(
             rows,
             columns,
             n,
+            tests,
             cells,
             offsets,
             constants,
@@ -479,6 +481,7 @@ fn run(
             rows,
             columns,
             n,
+            tests,
             cells,
             offsets,
             constants,
@@ -501,6 +504,7 @@ pub fn attempt(
     rows: &[i32],
     columns: usize,
     n: usize,
+    tests: &[u64; 208],
     cells: &[u16; 832],
     offsets: &[i8; 416],
     constants: &[i32; 208],
@@ -511,11 +515,11 @@ pub fn attempt(
     steps: usize,
 ) -> Walk
     requires { ⌜ Ready (tables (now code) (now next) (now entry) (now stop) (now ways)) (holdsIn (now rows) columns (now cells) (now offsets) (now constants)
-        (now counts)) n (Lettered (now cells) (now offsets) (now counts) (now rows) columns n) (now notes) (now trail) row steps ⌝ }
+        (now counts)) n (Letters (now tests) (now cells) (now offsets) (now constants) (now counts) (now rows) columns n) (now notes) (now trail) row steps ⌝ }
     ensures { λ r. ⌜ Done (tables (now (code .entry)) (now (next .entry)) (now (entry .entry)) (now (stop .entry)) (now (ways .entry))) (holdsIn (now (rows
-        .entry)) columns (now (cells .entry)) (now (offsets .entry)) (now (constants .entry)) (now (counts .entry))) n (Lettered (now (cells .entry)) (now
-        (offsets .entry)) (now (counts .entry)) (now (rows .entry)) columns n) (now (notes .entry)) (now (trail .entry)) row steps (now (notes .exit)) (now
-        (trail .exit)) r ⌝ }
+        .entry)) columns (now (cells .entry)) (now (offsets .entry)) (now (constants .entry)) (now (counts .entry))) n (Letters (now (tests .entry)) (now
+        (cells .entry)) (now (offsets .entry)) (now (constants .entry)) (now (counts .entry)) (now (rows .entry)) columns n) (now (notes .entry)) (now (trail
+        .entry)) row steps (now (notes .exit)) (now (trail .exit)) r ⌝ }
 {
     let base = row * code.len();
     let start = tried(notes, 0, steps, 0, row, base);
@@ -528,6 +532,7 @@ pub fn attempt(
         rows,
         columns,
         n,
+        tests,
         cells,
         offsets,
         constants,

@@ -3,17 +3,18 @@ use Rattle.sweep.specs.Asked.{asked}
 use Rattle.decode.specs.Layout.{measuresIn}
 use Rattle.rules.specs.Rows.{tableOf}
 use Rattle.walk.specs.Tables.{tables}
-use Rattle.walk.specs.Letters.{holdsIn, Lettered}
+use Rattle.letters.specs.Tests.{Letters}
+use Rattle.walk.specs.Letters.{holdsIn}
 use Rattle.sweep.proofs.Sofar.{SoFar, so-none, so-numbers, so-labels, so-visits, so-more, so-less, so-all}
 use Rattle.sweep.proofs.starts.Statement.{statement}
 use Rattle.sweep.proofs.starts.Tie as tie
 
 abbrev Inv-loop : tie.InvT-loop
-Inv-loop code next entry stop ways rows columns n cells offsets constants counts ms count mode notes₀ trail₀ numbers₀ labels₀ i₀ notes trail numbers labels i =
-    SoFar (asked (tables code next entry stop ways) (holdsIn rows columns cells offsets constants counts) n mode (tableOf columns rows) (measuresIn ms count)) (Lettered cells offsets counts rows columns n) ms count rows columns notes₀ trail₀ numbers₀ labels₀ notes trail numbers labels i
+Inv-loop code next entry stop ways rows columns n tests cells offsets constants counts ms count mode notes₀ trail₀ numbers₀ labels₀ i₀ notes trail numbers labels i =
+    SoFar (asked (tables code next entry stop ways) (holdsIn rows columns cells offsets constants counts) n mode (tableOf columns rows) (measuresIn ms count)) (Letters tests cells offsets constants counts rows columns n) ms count rows columns notes₀ trail₀ numbers₀ labels₀ notes trail numbers labels i
 
 abbrev μ-loop : tie.MeasureT-loop
-μ-loop code next entry stop ways rows columns n cells offsets constants counts ms count mode notes₀ trail₀ numbers₀ labels₀ i₀ notes trail numbers labels i =
+μ-loop code next entry stop ways rows columns n tests cells offsets constants counts ms count mode notes₀ trail₀ numbers₀ labels₀ i₀ notes trail numbers labels i =
     n - i .row
 
 loop-holds : tie.Need-loop-holds Inv-loop μ-loop

@@ -161,8 +161,8 @@ push-requires-3 : tie.Need-push-requires-3
 push-requires-3 c κs = search needs
 
 -- src/lib.rt:223:18
-add-t62 : tie.Need-add-t62
-add-t62 c = search needs
+add-opened : tie.Need-add-opened
+add-opened c = search needs
 
 -- src/lib.rt:222:9
 same-length-7 : tie.Need-same-length-7
@@ -245,7 +245,7 @@ enter-spec =
     mul-push-3
     shared-slice-read-push-3
     push-requires-3
-    add-t62
+    add-opened
     same-length-7
     returns-5
     add-tried-5

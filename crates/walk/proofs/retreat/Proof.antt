@@ -1,5 +1,6 @@
 use Rattle.walk.proofs.Whole.{Retreating, behind, off-none, off-down, off-end, off-halts, off-more, off-less}
-use Rattle.walk.specs.Letters.{holdsIn, Lettered}
+use Rattle.letters.specs.Tests.{Letters}
+use Rattle.walk.specs.Letters.{holdsIn}
 use Rattle.walk.specs.Tables.{tables, N}
 use Rattle.walk.proofs.retreat.Statement.{statement}
 use Rattle.walk.proofs.retreat.Tie as tie
@@ -8,11 +9,11 @@ use Rattle.walk.proofs.retreat.Lts as lts
 use Rattle.walk.proofs.back.Reads as back-reads
 
 abbrev Inv-loop : tie.InvT-loop
-Inv-loop code next entry stop ways rows columns n cells offsets constants counts notes₀ trail₀ w₀ notes trail w =
-    Retreating (tables code next entry stop ways) (holdsIn rows columns cells offsets constants counts) n (Lettered cells offsets counts rows columns n) notes₀ trail₀ w₀ notes trail w
+Inv-loop code next entry stop ways rows columns n tests cells offsets constants counts notes₀ trail₀ w₀ notes trail w =
+    Retreating (tables code next entry stop ways) (holdsIn rows columns cells offsets constants counts) n (Letters tests cells offsets constants counts rows columns n) notes₀ trail₀ w₀ notes trail w
 
 abbrev μ-loop : tie.MeasureT-loop
-μ-loop code next entry stop ways rows columns n cells offsets constants counts notes₀ trail₀ w₀ notes trail w =
+μ-loop code next entry stop ways rows columns n tests cells offsets constants counts notes₀ trail₀ w₀ notes trail w =
     behind (tables code next entry stop ways) n notes trail w
 
 -- src/lib.rt:385:5

@@ -1,6 +1,7 @@
 use Rattle.walk.proofs.Whole.{Running, run-none, run-goes, run-end, run-found, run-idle, run-more, run-less}
 use Rattle.walk.specs.State.{left}
-use Rattle.walk.specs.Letters.{holdsIn, Lettered}
+use Rattle.letters.specs.Tests.{Letters}
+use Rattle.walk.specs.Letters.{holdsIn}
 use Rattle.walk.specs.Tables.{tables, N}
 use Rattle.walk.proofs.run.Statement.{statement}
 use Rattle.walk.proofs.run.Tie as tie
@@ -10,11 +11,11 @@ use Rattle.walk.proofs.descend.Reads as descend-reads
 use Rattle.walk.proofs.retreat.Reads as retreat-reads
 
 abbrev Inv-loop : tie.InvT-loop
-Inv-loop code next entry stop ways rows columns n cells offsets constants counts notes₀ trail₀ w₀ notes trail w =
-    Running (tables code next entry stop ways) (holdsIn rows columns cells offsets constants counts) n (Lettered cells offsets counts rows columns n) notes₀ trail₀ w₀ notes trail w
+Inv-loop code next entry stop ways rows columns n tests cells offsets constants counts notes₀ trail₀ w₀ notes trail w =
+    Running (tables code next entry stop ways) (holdsIn rows columns cells offsets constants counts) n (Letters tests cells offsets constants counts rows columns n) notes₀ trail₀ w₀ notes trail w
 
 abbrev μ-loop : tie.MeasureT-loop
-μ-loop code next entry stop ways rows columns n cells offsets constants counts notes₀ trail₀ w₀ notes trail w =
+μ-loop code next entry stop ways rows columns n tests cells offsets constants counts notes₀ trail₀ w₀ notes trail w =
     left (N (tables code next entry stop ways) n) notes w
 
 -- src/lib.rt:432:5
