@@ -30,7 +30,7 @@ use Rattle.room.specs.declared.Query.{Query}
 use Rattle.room.specs.declared.Size.{Size}
 use Rattle.decode.specs.Layout.{measureIn, measuresIn, Fits, Decoded}
 use Rattle.decode.specs.Layout.{Room}
-use Rattle.room.specs.Reading.{knownIn, foreignIn, queryAnswer, refusal, JudgeRoom, JudgedParts, Space, Whole, Asked, asRoom}
+use Rattle.room.specs.Reading.{knownIn, foreignIn, queryAnswer, refusal, JudgeRoom, JudgedParts, Nodes, Space, Whole, Asked, asRoom}
 
 -- ---- letters
 
@@ -277,6 +277,13 @@ module _ (s room room′ measures : List ℕ) (p : Parts) (j : JudgeRoom s room 
 
 -- ---- reading a query
 
+-- room for every query, and for those of at most 96 bytes
+pub all-nodes : (s room : List ℕ) → length room ≡ 4096 → Nodes s room
+all-nodes s room l = record { enough = λ k a b. omega arith }
+
+pub few-nodes : (s room : List ℕ) → length s ≤ 96 → length room ≡ 1536 → Nodes s room
+few-nodes s room h l = record { enough = λ k a b. omega arith }
+
 module _ (s cells₀ : List ℕ) (offsets₀ numbers₀ : List ℤ) (measures₀ : List ℕ) where
   -- answers 1 to 3
   pub first-answers : (room cells : List ℕ) (offsets numbers : List ℤ) (counts measures : List ℕ) (a : ℕ) (r : Query) → a ≡ firstAnswer s → (a ≡ 0 → ⊥) → r ≡ refusal a
@@ -286,12 +293,12 @@ module _ (s cells₀ : List ℕ) (offsets₀ numbers₀ : List ℤ) (measures₀
       record { answer = x ∙ e ∙ first-is s (λ z. d (e ∙ z)); good = λ z. absurd (d (sym x ∙ z)) }
 
   -- what decoding asks
-  pub may-decode : (room : List ℕ) (a : ℕ) → Space room cells₀ offsets₀ numbers₀ measures₀ → a ≡ firstAnswer s → a ≡ 0 → Room s cells₀ offsets₀ numbers₀ measures₀
+  pub may-decode : (room : List ℕ) (a : ℕ) → Space s room cells₀ offsets₀ numbers₀ measures₀ → a ≡ firstAnswer s → a ≡ 0 → Room s cells₀ offsets₀ numbers₀ measures₀
   may-decode room a p e z = record { clean = sym e ∙ z; sized = p .sized; long = p .long }
 
   -- and judging
   pub may-judge : (room cells : List ℕ) (offsets numbers : List ℤ) (counts measures : List ℕ) (p : Parts) (a : ℕ)
-      → Decoded s cells₀ offsets₀ numbers₀ measures₀ cells offsets numbers counts measures p → 4096 ≤ length room → a ≡ firstAnswer s → a ≡ 0 → JudgeRoom s room measures p
+      → Decoded s cells₀ offsets₀ numbers₀ measures₀ cells offsets numbers counts measures p → Nodes s room → a ≡ firstAnswer s → a ≡ 0 → JudgeRoom s room measures p
   unfolding parts
   may-judge room cells offsets numbers counts measures p a d l e z =
       record {
@@ -302,7 +309,7 @@ module _ (s cells₀ : List ℕ) (offsets₀ numbers₀ : List ℤ) (measures₀
         few = d .few;
         fit = d .fit;
         measured = d .measured;
-        space = l;
+        space = l .enough (p .len) (d .short) (let i = d .inside in omega arith);
       }
 
   -- all of them

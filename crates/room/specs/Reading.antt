@@ -4,7 +4,7 @@ use mathlib.Core.Path.{_≡_}
 use mathlib.Core.Bool.{Bool, not, _||_}
 use mathlib.Core.List.{List}
 use mathlib.Core.Option.{Option, some}
-use Prim.Native.Nat.{ℕ, _+_, _≤_, _<_}
+use Prim.Native.Nat.{ℕ, _+_, _*_, _≤_, _<_}
 use lib.Dec.{eqb}
 use lib.IntN.{ℤ}
 use lib.ListN.{length, take, drop}
@@ -47,7 +47,7 @@ pub record JudgeRoom (s room measures : List ℕ) (p : Parts) : Type 0 where
   pub few : p .measures ≤ 8
   pub fit : (k : ℕ) → k < p .measures → Fits (p .columns) (measureIn measures k)
   pub measured : measuresIn measures (p .measures) ≡ parts s .measures
-  pub space : 4096 ≤ length room
+  pub space : 16 * p .len ≤ length room
 
 -- what it leaves
 pub record GoodParts (s room : List ℕ) (p : Parts) (r : Query) : Type 0 where
@@ -69,9 +69,13 @@ pub record Whole (s : List ℕ) (cells₀ : List ℕ) (offsets₀ numbers₀ : L
   pub decoded : Decoded s cells₀ offsets₀ numbers₀ measures₀ cells offsets numbers counts measures parts
   pub good : GoodParts s room parts r
 
--- what reading a query is lent: words for the tree of a text of 256 bytes, and the arrays whole
-pub record Space (room cells : List ℕ) (offsets numbers : List ℤ) (measures : List ℕ) : Type 0 where
-  pub nodes : 4096 ≤ length room
+-- words for the tree of any text that the query can hold, which is at most 256 bytes long
+pub record Nodes (s room : List ℕ) : Type 0 where
+  pub enough : (k : ℕ) → k ≤ 256 → k ≤ length s → 16 * k ≤ length room
+
+-- what reading a query is lent: such words, and the arrays whole
+pub record Space (s room cells : List ℕ) (offsets numbers : List ℤ) (measures : List ℕ) : Type 0 where
+  pub nodes : Nodes s room
   pub sized : Sized cells offsets numbers
   pub long : length measures ≡ 24
 

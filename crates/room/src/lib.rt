@@ -103,7 +103,7 @@ pub fn read_query(
     counts: &mut [u8; 26],
     measures: &mut [u8; 24],
 ) -> Query
-    requires { ⌜ Space (now room) (now cells) (now offsets) (now numbers) (now measures) ⌝ }
+    requires { ⌜ Space (now s) (now room) (now cells) (now offsets) (now numbers) (now measures) ⌝ }
     ensures { λ r. ⌜ Asked (now (s .entry)) (now (cells .entry)) (now (offsets .entry)) (now (numbers .entry)) (now (measures .entry)) (now (room .exit)) (now (cells .exit)) (now (offsets .exit)) (now (numbers .exit)) (now (counts .exit)) (now (measures .exit)) r ⌝ }
 {
     let first = query::first_answer(s);

@@ -7,6 +7,7 @@ ghost use mathlib.Core.Bool.{Bool, true, false};
 ghost use lib.Dec.{eqb};
 ghost use Rattle.rules.specs.Basics.{pick};
 ghost use Rattle.walk.specs.Tables.{tables};
+ghost use Rattle.room.specs.Reading.{Nodes};
 ghost use Rattle.search.specs.Promise.{lent, memory, refusal, ended, Promised, Walks, Runs};
 ghost use Rattle.search.specs.Spread.{codeBy, firstBy, secondBy, codeOf, nextOf, entryOf, stopOf, Place, Parts, Parted};
 
@@ -251,8 +252,9 @@ fn walk_all(
     )
 }
 
-// The search.
-pub fn search(
+// The search, with room for the tree of the query's pattern.
+fn search_in(
+    nodes: &mut [u16],
     query: &[u8],
     rows: &[i32],
     notes: &mut [u8],
@@ -260,9 +262,9 @@ pub fn search(
     numbers: &mut [i64],
     labels: &mut [u8],
 ) -> Outcome
+    requires { ⌜ Nodes (now query) (now nodes) ⌝ }
     ensures { λ r. ⌜ Promised (now (query .entry)) (now (rows .entry)) (lent (now (notes .entry)) (now (trail .entry)) (now (numbers .entry)) (now (labels .entry))) (memory r (now (notes .exit)) (now (trail .exit)) (now (numbers .exit)) (now (labels .exit))) ⌝ }
 {
-    let mut nodes = [0u16; 4096];
     let mut cells = [0u16; 832];
     let mut offsets = [0i8; 416];
     let mut constants = [0i32; 208];
@@ -270,7 +272,7 @@ pub fn search(
     let mut measures = [0u8; 24];
     let q = room::read_query(
         query,
-        &mut nodes,
+        nodes,
         &mut cells,
         &mut offsets,
         &mut constants,
@@ -298,7 +300,7 @@ pub fn search(
     }
     walk_all(
         query,
-        &nodes,
+        nodes,
         q.top,
         q.places,
         rows,
@@ -316,4 +318,23 @@ pub fn search(
         numbers,
         labels,
     )
+}
+
+// The search. A short query gets a small room for its tree, since clearing a large one takes longer than the search of a few rows.
+pub fn search(
+    query: &[u8],
+    rows: &[i32],
+    notes: &mut [u8],
+    trail: &mut [u32],
+    numbers: &mut [i64],
+    labels: &mut [u8],
+) -> Outcome
+    ensures { λ r. ⌜ Promised (now (query .entry)) (now (rows .entry)) (lent (now (notes .entry)) (now (trail .entry)) (now (numbers .entry)) (now (labels .entry))) (memory r (now (notes .exit)) (now (trail .exit)) (now (numbers .exit)) (now (labels .exit))) ⌝ }
+{
+    if query.len() <= 96 {
+        let mut nodes = [0u16; 1536];
+        return search_in(&mut nodes, query, rows, notes, trail, numbers, labels);
+    }
+    let mut nodes = [0u16; 4096];
+    search_in(&mut nodes, query, rows, notes, trail, numbers, labels)
 }
