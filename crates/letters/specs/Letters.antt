@@ -11,6 +11,10 @@ use Rattle.rules.specs.Basics.{pick}
 use Rattle.rules.specs.Rows.{Table, entryAt, plusNumber, metBy}
 use Rattle.decode.specs.Layout.{SpotFor, Spots}
 
+-- 1 where the test is true
+unfoldable pub flagOf : Bool → ℕ
+flagOf t = pick t 1 0
+
 -- a signed row number is that of one of n rows
 unfoldable pub there : ℕ → ℤ → Bool
 there n (pos k) = ltb k n

@@ -2,7 +2,7 @@
 // A comparison costs no product: where an entry lies follows from the index of the row's first entry and the decoded spot. Sums are exact in 64 bits.
 // A letter of exactly one comparison has a test in a table that is made before the search (specs/Tests): one range for the row, one interval for what it reads.
 ghost use mathlib.Core.Path.{_≡_};
-ghost use mathlib.Core.Bool.{true, false, _&&_, _||_};
+ghost use mathlib.Core.Bool.{true, false, _&&_};
 ghost use Prim.Native.Nat.{_+_, _*_, _-_, _≤_, _<_, max};
 ghost use lib.Dec.{ltb};
 ghost use lib.IntN.{ℤ, pos, _+ℤ_, _-ℤ_};
@@ -12,7 +12,7 @@ ghost use Rattle.rules.specs.Rows.{tableOf, compares, met, holds};
 ghost use Rattle.decode.specs.Layout.{cellAt, cellsFrom};
 ghost use Rattle.letters.specs.Tests.{sortOf, raised, lowOf, widthOf, backOf, aheadOf, backBoth, aheadBoth, Tested, Untested, TestRoom};
 ghost use Rattle.letters.specs.Tests.{within, setSeven, LowAt, BackAt, AheadAt, PutRoom, PutTest};
-ghost use Rattle.letters.specs.Letters.{there, EntryThere, rightMet, RightRoom, CellRoom, LetterRoom};
+ghost use Rattle.letters.specs.Letters.{flagOf, there, EntryThere, rightMet, RightRoom, CellRoom, LetterRoom};
 
 // Numbers as wider ones.
 fn long(x: i32) -> i64
@@ -33,18 +33,6 @@ fn wide(x: u16) -> usize
     x as usize
 }
 
-fn both(a: bool, b: bool) -> bool
-    ensures { λ r. ⌜ r ≡ (a && b) ⌝ }
-{
-    if a { b } else { false }
-}
-
-fn either(a: bool, b: bool) -> bool
-    ensures { λ r. ⌜ r ≡ (a || b) ⌝ }
-{
-    if a { true } else { b }
-}
-
 fn less(a: i64, b: i64) -> bool
     ensures { λ r. ⌜ r ≡ ltZ a b ⌝ }
 {
@@ -57,26 +45,21 @@ fn at_most(a: i64, b: i64) -> bool
     a <= b
 }
 
-// The six operators.
+fn flag(x: bool) -> usize
+    ensures { λ r. ⌜ (r ≡ flagOf x) × (r ≤ 1) ⌝ }
+{
+    x as usize
+}
+
+// The operators 0 to 6 as bits of one number, three for each: whether it is met where a is below b, equal to b, above b.
 fn compare(operator: usize, a: i64, b: i64) -> bool
     ensures { λ r. ⌜ r ≡ compares operator a b ⌝ }
 {
-    if operator == 1 {
-        return both(at_most(a, b), at_most(b, a));
+    if operator > 6 {
+        return at_most(b, a);
     }
-    if operator == 2 {
-        return either(less(a, b), less(b, a));
-    }
-    if operator == 3 {
-        return less(a, b);
-    }
-    if operator == 4 {
-        return at_most(a, b);
-    }
-    if operator == 5 {
-        return less(b, a);
-    }
-    at_most(b, a)
+    let side = flag(at_most(b, a)) + flag(less(b, a));
+    (1717078usize >> (operator * 3 + side)) % 2 == 1
 }
 
 // A signed byte moves a row index back or forward: whether there is a row.
