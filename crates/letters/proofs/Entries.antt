@@ -19,7 +19,7 @@ use Rattle.rules.specs.Rows.{tableOf, entry, entryAt}
 use Rattle.rules.proofs.Choice.{clash}
 use Rattle.rules.proofs.Signed.{sum-fits, read-back}
 use Rattle.decode.specs.Layout.{SpotFor}
-use Rattle.letters.specs.Letters.{there, At, EntryThere}
+use Rattle.letters.specs.Letters.{there, At, EntryThere, FarBack, spotIndex}
 
 -- ---- a signed byte moves a row index
 
@@ -88,6 +88,9 @@ module _ (rows : List ℤ) (columns n row base : ℕ) (h : At rows columns n row
       let z = h .some in
       omega arith
 
+  rows-few : length rows ≤ 32768
+  rows-few = let a : n * columns ≤ 4096 * 8 = mul-le-mul (h .most) (h .few) in let b = h .all in omega arith
+
   module _ (spot : ℕ) (offset : ℤ) (s : SpotFor columns spot offset) where
     column : ℕ
     column = spot % columns
@@ -145,6 +148,27 @@ module _ (rows : List ℤ) (columns n row base : ℕ) (h : At rows columns n row
     pub spot-entry : there n (pos row +ℤ offset) ≡ true → entryAt (tableOf columns rows) (pos row +ℤ offset) (spot % columns) ≡ some (getD rows (base + spot - columns * 64) (pos 0))
     unfolding column
     spot-entry t = let r = row-of n (pos row +ℤ offset) t in found-entry (r .0) (r .1) (r .2)
+
+    -- the entry's index, counted from 64 rows before the row's first entry
+    module _ (from : ℕ) (f : FarBack columns base from) (t : there n (pos row +ℤ offset) ≡ true) where
+      pub spot-index : spotIndex from spot ≡ base + spot - columns * 64
+      unfolding spotIndex
+      spot-index =
+          let r = row-of n (pos row +ℤ offset) t in
+          let a = index (r .0) (r .1) (r .2) in
+          let b = inside (r .0) (r .1) (r .2) in
+          let c = rows-few in
+          let d = base-small in
+          let e = f .is in
+          let g = f .fits in
+          let m = h .few in
+          omega arith
+
+      pub spot-there : spotIndex from spot < length rows
+      spot-there =
+          let r = row-of n (pos row +ℤ offset) t in
+          let b = inside (r .0) (r .1) (r .2) in
+          rw spot-index (let i = index-is-that (r .0) (r .1) (r .2) in omega arith)
 
     -- the row is not there
     nothing : (z : ℤ) → there n z ≡ false → entryAt (tableOf columns rows) z (spot % columns) ≡ none

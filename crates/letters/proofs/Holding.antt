@@ -3,21 +3,22 @@ use mathlib.Core.Path.{_≡_, refl, sym, ap, _∙_}
 use mathlib.Core.Bool.{Bool, true, false, not, _&&_, and-true, and-assoc}
 use mathlib.Core.List.{List, [], _∷_, _++_}
 use mathlib.Core.Option.{none, some}
-use Prim.Native.Nat.{ℕ, zero, suc, _+_, _*_, _-_, _%_, _≤_, _<_}
+use Prim.Native.Nat.{ℕ, zero, suc, _+_, _*_, _-_, _%_, _^_, _≤_, _<_}
 use native.Mathlib.Omega.{arith}
 use native.Mathlib.Numerals.{add-one}
 use lib.IntN.{ℤ, pos, _+ℤ_}
 use lib.Signed.{mag}
-use lib.ListN.{getD}
+use lib.ListN.{length, getD}
 use mir.Syntax.{w8, w32, w64}
 use mir.Val.{SFits, toZ, ofZ}
 use mir.Facts.{toZ-ofZ}
+use lib.Dec.{eqb}
 use borrow.Author.Tests.{eq-eqb, ne-eqb, not-true, not-false}
 use Rattle.rules.specs.Basics.{every, tabulate}
 use Rattle.rules.specs.Rows.{Comparison, Table, tableOf, entryAt, compares, plusNumber, rightSide, metBy, met, holds}
 use Rattle.rules.proofs.Signed.{sum-fits, read-back}
 use Rattle.decode.specs.Layout.{cellAt, cellsFrom}
-use Rattle.letters.specs.Letters.{there, EntryThere, rightMet, RightRoom, CellRoom, LetterRoom}
+use Rattle.letters.specs.Letters.{there, EntryThere, rightMet, RightRoom, CellRoom, LetterRoom, spotIndex, readMet, Reads, allRead}
 use Rattle.letters.proofs.Entries.{spot-inside, spot-entry, no-entry}
 
 abbrev held : ℤ → ℤ
@@ -99,16 +100,16 @@ module _ (cells : List ℕ) (offsets numbers : List ℤ) (g : ℕ) (rows : List 
       → RightRoom rows columns n row base y (held8 (getD offsets (g * 2 + 1) (pos 0)))
   cell-right y f ey w = record { at = room .at; short = w; spot-for = rw (toZ-ofZ f, ey) (room .spots .right) }
 
--- ---- a letter: the loop over its comparisons
+-- ---- a loop over comparisons, up to the first that is not met
 
-module _ (f : Comparison → Bool) where
-  every-last : (xs : List Comparison) (x : Comparison) → every f (xs ++ x ∷ []) ≡ (every f xs && f x)
+module _ {A : Type 0} (f : A → Bool) where
+  every-last : (xs : List A) (x : A) → every f (xs ++ x ∷ []) ≡ (every f xs && f x)
   unfolding every
   every-last [] x = and-true (f x)
   every-last (y ∷ xs) x = ap (λ (t : Bool). f y && t) (every-last xs x) ∙ sym (and-assoc (f y) (every f xs) (f x))
 
-  module _ (g : ℕ → Comparison) where
-    one-more : (k : ℕ) → every f (tabulate (suc k) g) ≡ (every f (tabulate k g) && f (g k))
+  module _ (g : ℕ → A) where
+    pub one-more : (k : ℕ) → every f (tabulate (suc k) g) ≡ (every f (tabulate k g) && f (g k))
     unfolding tabulate
     one-more k = every-last (tabulate k g) (g k)
 
@@ -117,44 +118,120 @@ module _ (f : Comparison → Bool) where
     stays (suc d) k e =
         ap (λ (i : ℕ). every f (tabulate i g)) (let q : suc d + k ≡ suc (d + k) = omega arith in q) ∙ one-more (d + k) ∙ ap (λ (u : Bool). u && f (g (d + k))) (stays d k e)
 
--- the first k comparisons are met
+    none-yet : every f (tabulate 0 g) ≡ true
+    unfolding tabulate every
+    none-yet = refl
+
+    -- the first k are met, and one more is or is not
+    module _ (k : ℕ) (met : every f (tabulate k g) ≡ true) (r : Bool) (is : r ≡ f (g k)) where
+      next-met : not r ≡ false → every f (tabulate (k + 1) g) ≡ true
+      next-met u = ap (λ (i : ℕ). every f (tabulate i g)) (add-one k) ∙ one-more k ∙ ap (λ (x : Bool). x && f (g k)) met ∙ sym is ∙ not-false r u
+
+      next-unmet : (count : ℕ) → k < count → not r ≡ true → false ≡ every f (tabulate count g)
+      next-unmet count l u =
+          let m : every f (tabulate (suc k) g) ≡ false = one-more k ∙ ap (λ (x : Bool). x && f (g k)) met ∙ sym is ∙ not-true r u in
+          sym (ap (λ (i : ℕ). every f (tabulate i g)) (let q : count ≡ (count - suc k) + suc k = omega arith in q) ∙ stays (count - suc k) (suc k) m)
+
+-- the same tests give the same
+pub every-same : {A B : Type 0} (f : A → Bool) (g : ℕ → A) (f' : B → Bool) (g' : ℕ → B) (count : ℕ) → ((k : ℕ) → k < count → f (g k) ≡ f' (g' k))
+    → every f (tabulate count g) ≡ every f' (tabulate count g')
+every-same f g f' g' zero h = none-yet f g ∙ sym (none-yet f' g')
+every-same f g f' g' (suc k) h =
+    one-more f g k ∙ ap (λ (t : Bool). t && f (g k)) (every-same f g f' g' k (λ i l. h i (omega arith)))
+    ∙ ap (λ (t : Bool). every f' (tabulate k g') && t) (h k (omega arith)) ∙ sym (one-more f' g' k)
+
+-- the first k comparisons of a letter are met
 pub record Holding (t : Table) (row columns : ℕ) (cells : List ℕ) (offsets numbers : List ℤ) (g count k : ℕ) : Type 0 where
   pub upto : k ≤ count
   pub is : holds t row (cellsFrom columns cells offsets numbers g k) ≡ true
 
 module _ (t : Table) (row columns : ℕ) (cells : List ℕ) (offsets numbers : List ℤ) (g count : ℕ) where
+  abbrev nth : ℕ → Comparison
+  nth k = cellAt columns cells offsets numbers (g + k)
+
   pub holding-none : Holding t row columns cells offsets numbers g count 0
-  unfolding holds cellsFrom tabulate every
-  holding-none = record { upto = omega arith; is = refl }
+  unfolding holds cellsFrom
+  holding-none = record { upto = omega arith; is = none-yet (met t row) nth }
 
   pub next-one : (k : ℕ) → holds t row (cellsFrom columns cells offsets numbers g (suc k)) ≡ (holds t row (cellsFrom columns cells offsets numbers g k) && met t row (cellAt columns cells offsets numbers (g + k)))
   unfolding holds cellsFrom
-  next-one k = one-more (met t row) (λ i. cellAt columns cells offsets numbers (g + i)) k
+  next-one k = one-more (met t row) nth k
 
   module _ (k : ℕ) (h : Holding t row columns cells offsets numbers g count k) where
     pub holding-more : (r : Bool) → k < count → r ≡ met t row (cellAt columns cells offsets numbers (g + k)) → not r ≡ false
         → Holding t row columns cells offsets numbers g count (k + 1)
-    holding-more r l e u = record {
-      upto = omega arith;
-      is = ap (λ (i : ℕ). holds t row (cellsFrom columns cells offsets numbers g i)) (add-one k) ∙ next-one k
-          ∙ ap (λ (x : Bool). x && met t row (cellAt columns cells offsets numbers (g + k))) (h .is) ∙ sym e ∙ not-false r u;
-    }
-
-    stop : (r : Bool) → k < count → r ≡ met t row (cellAt columns cells offsets numbers (g + k)) → not r ≡ true
-        → false ≡ holds t row (cellsFrom columns cells offsets numbers g count)
     unfolding holds cellsFrom
-    stop r l e u =
-        let m : every (met t row) (tabulate (suc k) (λ i. cellAt columns cells offsets numbers (g + i))) ≡ false =
-        next-one k ∙ ap (λ (x : Bool). x && met t row (cellAt columns cells offsets numbers (g + k))) (h .is) ∙ sym e ∙ not-true r u in
-        sym (ap (λ (i : ℕ). every (met t row) (tabulate i (λ j. cellAt columns cells offsets numbers (g + j)))) (let q : count ≡ (count - suc k) + suc k = omega arith in q)
-        ∙ stays (met t row) (λ i. cellAt columns cells offsets numbers (g + i)) (count - suc k) (suc k) m)
+    holding-more r l e u = record { upto = omega arith; is = next-met (met t row) nth k (h .is) r e u }
 
     pub holding-stop : (r : Bool) (all : ℕ) → k < count → r ≡ met t row (cellAt columns cells offsets numbers (g + k)) → not r ≡ true → count ≡ all
         → false ≡ holds t row (cellsFrom columns cells offsets numbers g all)
-    holding-stop r all l e u q = stop r l e u ∙ ap (λ (i : ℕ). holds t row (cellsFrom columns cells offsets numbers g i)) q
+    unfolding holds cellsFrom
+    holding-stop r all l e u q = next-unmet (met t row) nth k (h .is) r e all (omega arith) u
 
     pub holding-all : (all : ℕ) → count ≤ k → count ≡ all → true ≡ holds t row (cellsFrom columns cells offsets numbers g all)
     holding-all all l q = sym (h .is) ∙ ap (λ (i : ℕ). holds t row (cellsFrom columns cells offsets numbers g i)) (let e : k ≡ all = let u = h .upto in omega arith in e)
+
+-- the first k comparisons all of whose rows are there are met
+pub record Reading (cells : List ℕ) (numbers rows : List ℤ) (from g count k : ℕ) : Type 0 where
+  pub upto : k ≤ count
+  pub is : allRead cells numbers rows from g k ≡ true
+
+module _ (cells : List ℕ) (numbers rows : List ℤ) (from g count : ℕ) where
+  abbrev number : ℕ → ℕ
+  number k = g + k
+
+  pub reading-none : Reading cells numbers rows from g count 0
+  unfolding allRead
+  reading-none = record { upto = omega arith; is = none-yet (readMet cells numbers rows from) number }
+
+  module _ (k : ℕ) (h : Reading cells numbers rows from g count k) where
+    pub reading-more : (r : Bool) → k < count → r ≡ readMet cells numbers rows from (g + k) → not r ≡ false → Reading cells numbers rows from g count (k + 1)
+    unfolding allRead
+    reading-more r l e u = record { upto = omega arith; is = next-met (readMet cells numbers rows from) number k (h .is) r e u }
+
+    pub reading-stop : (r : Bool) → k < count → r ≡ readMet cells numbers rows from (g + k) → not r ≡ true → false ≡ allRead cells numbers rows from g count
+    unfolding allRead
+    reading-stop r l e u = next-unmet (readMet cells numbers rows from) number k (h .is) r e count l u
+
+    pub reading-all : count ≤ k → true ≡ allRead cells numbers rows from g count
+    reading-all l = sym (h .is) ∙ ap (λ (i : ℕ). allRead cells numbers rows from g i) (let e : k ≡ count = let u = h .upto in omega arith in e)
+
+-- one comparison all of whose rows are there
+pub sum-wraps : (from spot r : ℕ) → r ≡ (from + spot) % 2 ^ 64 → r ≡ spotIndex from spot
+unfolding spotIndex
+sum-wraps from spot r e = e
+
+pub sum-inside : (from spot r long : ℕ) → r ≡ (from + spot) % 2 ^ 64 → spotIndex from spot < long → r < long
+sum-inside from spot r long e h = let q = sum-wraps from spot r e in omega arith
+
+module _ (cells : List ℕ) (rows : List ℤ) (from g : ℕ) (there : Reads cells rows from g) where
+  pub left-inside : (x : ℕ) → x ≡ getD cells (g * 4) 0 → spotIndex from x < length rows
+  left-inside x e = rw e (there .left)
+
+  pub right-inside : (kind y : ℕ) → kind ≡ getD cells (g * 4 + 3) 0 → kind ≡ 1 → y ≡ getD cells (g * 4 + 1) 0 → spotIndex from y < length rows
+  right-inside kind y e h q = rw q (there .right (sym e ∙ h))
+
+module _ (cells : List ℕ) (numbers rows : List ℤ) (from g op x : ℕ) (is-op : op ≡ getD cells (g * 4 + 2) 0) (is-x : x ≡ getD cells (g * 4) 0)
+    (a : ℤ) (is-a : a ≡ getD rows (spotIndex from x) (pos 0)) (few-a : mag a < 2147483648) (fn : SFits w32 (getD numbers g (pos 0))) (kind : ℕ) (is-kind : kind ≡ getD cells (g * 4 + 3) 0) (r : Bool) where
+  a-is : held a ≡ getD rows (spotIndex from (getD cells (g * 4) 0)) (pos 0)
+  a-is = small a few-a ∙ is-a ∙ ap (λ (i : ℕ). getD rows (spotIndex from i) (pos 0)) is-x
+
+  pub read-constant : (w : ℤ) → (kind ≡ 1 → ⊥) → w ≡ held32 (getD numbers g (pos 0)) → mag w < 2147483648 → r ≡ compares op (held a) (held w) → r ≡ readMet cells numbers rows from g
+  unfolding readMet
+  read-constant w h ew gw e =
+      let k : eqb (getD cells (g * 4 + 3) 0) 1 ≡ false = ne-eqb (getD cells (g * 4 + 3) 0) 1 (λ q. h (is-kind ∙ q)) in
+      e ∙ rw (k, a-is, is-op) (ap (compares (getD cells (g * 4 + 2) 0) (getD rows (spotIndex from (getD cells (g * 4) 0)) (pos 0))) (small w gw ∙ ew ∙ toZ-ofZ fn))
+
+  pub read-column : (y : ℕ) (b u : ℤ) → kind ≡ 1 → y ≡ getD cells (g * 4 + 1) 0 → b ≡ getD rows (spotIndex from y) (pos 0) → mag b < 2147483648 → u ≡ held b +ℤ held32 (getD numbers g (pos 0))
+      → r ≡ compares op (held a) (held u) → r ≡ readMet cells numbers rows from g
+  unfolding readMet
+  read-column y b u h ey eb gb eu e =
+      let k : eqb (getD cells (g * 4 + 3) 0) 1 ≡ true = eq-eqb (getD cells (g * 4 + 3) 0) 1 (sym is-kind ∙ h) in
+      let fm : mag (getD numbers g (pos 0)) < 2147483648 = fn .sfits in
+      let w : u ≡ b +ℤ getD numbers g (pos 0) = eu ∙ ap (λ (z : ℤ). z +ℤ held32 (getD numbers g (pos 0))) (small b gb) ∙ ap (λ (z : ℤ). b +ℤ z) (toZ-ofZ fn) in
+      let v : held u ≡ b +ℤ getD numbers g (pos 0) = ap held w ∙ toZ-ofZ (sum-fits b (getD numbers g (pos 0)) 2147483648 2147483648 gb fm (omega arith)) in
+      let z : b ≡ getD rows (spotIndex from (getD cells (g * 4 + 1) 0)) (pos 0) = eb ∙ ap (λ (i : ℕ). getD rows (spotIndex from i) (pos 0)) ey in
+      e ∙ rw (k, a-is, is-op) (ap (compares (getD cells (g * 4 + 2) 0) (getD rows (spotIndex from (getD cells (g * 4) 0)) (pos 0))) (v ∙ ap (λ (q : ℤ). q +ℤ getD numbers g (pos 0)) z))
 
 pub letter-cell : (cells : List ℕ) (offsets : List ℤ) (counts : List ℕ) (l : ℕ) (rows : List ℤ) (columns n row base : ℕ) → LetterRoom cells offsets counts l rows columns n row base
     → (count k : ℕ) → count ≡ getD counts l 0 → k < count → CellRoom cells offsets (l * 8 + k) rows columns n row base

@@ -1,8 +1,9 @@
--- The table of tests in the making: seven words written, and the loop over the letters.
-use mathlib.Core.Path.{_≡_, sym, ap, _∙_}
-use mathlib.Core.List.{List}
-use Prim.Native.Nat.{ℕ, _+_, _*_, _-_, _≤_, _<_}
+-- The table of tests in the making: the words of a letter written, and the loop over the letters.
+use mathlib.Core.Path.{_≡_, refl, sym, ap, _∙_}
+use mathlib.Core.List.{List, [], _∷_}
+use Prim.Native.Nat.{ℕ, zero, suc, _+_, _*_, _-_, _≤_, _<_, max}
 use native.Mathlib.Omega.{arith}
+use native.Mathlib.Numerals.{add-one}
 use lib.Dec.{eqb}
 use lib.IntN.{ℤ, pos}
 use lib.Signed.{mag}
@@ -11,10 +12,10 @@ use lib.Seq.{getD-set-same, getD-set-other}
 use mir.Syntax.{w8, w32}
 use mir.Val.{toZ, ofZ}
 use mir.Facts.{toZ-ofZ}
-use borrow.Author.Tests.{eqb-true, eqb-false}
+use borrow.Author.Tests.{eq-eqb, ne-eqb, eqb-true, eqb-false}
 use Rattle.rules.proofs.Choice.{decided}
-use Rattle.letters.specs.Tests.{sortOf, raised, lowOf, widthOf, backBoth, aheadBoth, Words, Alone, Tested, Untested, setSeven}
-use Rattle.letters.specs.Tests.{LowAt, BackAt, AheadAt, PutRoom, PutTest}
+use Rattle.letters.specs.Tests.{sortOf, raised, lowOf, widthOf, backBoth, aheadBoth, backAt, aheadAt, most, mostBack, mostAhead, rowsLeft, wordsOf, Tested, Preparable}
+use Rattle.letters.specs.Tests.{setSeven, setRange, LowAt, PutRoom, PutTest}
 
 -- ---- seven words
 
@@ -90,6 +91,26 @@ module _ (l : List ℕ) (at a b c d e f g : ℕ) where
     unfolding setSeven
     seven-6 = getD-set-same s6 (at + 6) g 0 (simp length-set (omega arith))
 
+-- ---- the range alone
+
+module _ (l : List ℕ) (at f g : ℕ) where
+  pub range-other : (j : ℕ) → (j ≡ at + 5 → ⊥) → (j ≡ at + 6 → ⊥) → getD (setRange l at f g) j 0 ≡ getD l j 0
+  unfolding setRange
+  range-other j h k = getD-set-other (set l (at + 5) f) (at + 6) j g 0 k ∙ getD-set-other l (at + 5) j f 0 h
+
+  pub range-long : length (setRange l at f g) ≡ length l
+  unfolding setRange
+  range-long = simp length-set
+
+  module _ (room : at + 6 < length l) where
+    pub range-5 : getD (setRange l at f g) (at + 5) 0 ≡ f
+    unfolding setRange
+    range-5 = getD-set-other (set l (at + 5) f) (at + 6) (at + 5) g 0 (λ q. omega arith) ∙ getD-set-same l (at + 5) f 0 (omega arith)
+
+    pub range-6 : getD (setRange l at f g) (at + 6) 0 ≡ g
+    unfolding setRange
+    range-6 = getD-set-same (set l (at + 5) f) (at + 6) g 0 (simp length-set (omega arith))
+
 -- ---- the words of a comparison
 
 module _ (cells : List ℕ) (numbers : List ℤ) (g op x r : ℕ) (is-op : op ≡ getD cells (g * 4 + 2) 0) (short : mag (getD numbers g (pos 0)) < 2147483648)
@@ -111,120 +132,228 @@ module _ (cells : List ℕ) (offsets : List ℤ) (g kind r : ℕ) (is-kind : kin
   right-held : toZ w8 (ofZ w8 (getD offsets (g * 2 + 1) (pos 0))) ≡ getD offsets (g * 2 + 1) (pos 0)
   right-held = toZ-ofZ (record { sfits = fp })
 
-  pub back-at : r ≡ backBoth kind (toZ w8 (ofZ w8 (getD offsets (g * 2) (pos 0)))) (toZ w8 (ofZ w8 (getD offsets (g * 2 + 1) (pos 0)))) → r ≤ 128 → BackAt cells offsets g r
-  back-at e h = record { is = e ∙ rw (is-kind, left-held, right-held); short = h }
+  pub back-at : r ≡ backBoth kind (toZ w8 (ofZ w8 (getD offsets (g * 2) (pos 0)))) (toZ w8 (ofZ w8 (getD offsets (g * 2 + 1) (pos 0)))) → r ≡ backAt cells offsets g
+  unfolding backAt
+  back-at e = e ∙ rw (is-kind, left-held, right-held)
 
-  pub ahead-at : r ≡ aheadBoth kind (toZ w8 (ofZ w8 (getD offsets (g * 2) (pos 0)))) (toZ w8 (ofZ w8 (getD offsets (g * 2 + 1) (pos 0)))) → r ≤ 127 → AheadAt cells offsets g r
-  ahead-at e h = record { is = e ∙ rw (is-kind, left-held, right-held); short = h }
+  pub ahead-at : r ≡ aheadBoth kind (toZ w8 (ofZ w8 (getD offsets (g * 2) (pos 0)))) (toZ w8 (ofZ w8 (getD offsets (g * 2 + 1) (pos 0)))) → r ≡ aheadAt cells offsets g
+  unfolding aheadAt
+  ahead-at e = e ∙ rw (is-kind, left-held, right-held)
 
--- ---- the test of a letter that has one comparison
+-- ---- the most of several numbers, none above b
 
-module _ (cells : List ℕ) (offsets numbers : List ℤ) (counts : List ℕ) (n l : ℕ) (tests₀ tests : List ℕ) (put : PutRoom l tests₀) where
-  module _ (count : ℕ) (is-count : count ≡ getD counts l 0) (one : count ≡ 1)
-      (sort left right low width back ahead rest : ℕ) (is-sort : sort ≡ sortOf (getD cells (l * 8 * 4 + 3) 0))
-      (is-left : left ≡ getD cells (l * 8 * 4) 0) (left-few : left < 65536) (is-right : right ≡ getD cells (l * 8 * 4 + 1) 0) (right-few : right < 65536)
-      (is-low : LowAt cells numbers (l * 8) low) (is-width : width ≡ widthOf (getD cells (l * 8 * 4 + 2) 0) (raised (getD numbers (l * 8) (pos 0))))
-      (is-back : BackAt cells offsets (l * 8) back) (is-ahead : AheadAt cells offsets (l * 8) ahead) (is-rest : rest ≡ n - (back + ahead))
-      (is : tests ≡ setSeven tests₀ (l * 8) sort left right low width back rest) where
-    room : l * 8 + 6 < length tests₀
-    room = let a = put .letter in let b = put .long in omega arith
+-- m is the most of the first k of `count`
+pub record Most (f : ℕ → ℕ) (b count m k : ℕ) : Type 0 where
+  pub upto : k ≤ count
+  pub is : m ≡ most f k
+  pub few : m ≤ b
 
-    word-1 : getD tests (l * 8 + 1) 0 ≡ left
-    word-1 = ap (λ (t : List ℕ). getD t (l * 8 + 1) 0) is ∙ seven-1 tests₀ (l * 8) sort left right low width back rest room
+module _ (f : ℕ → ℕ) (b count : ℕ) where
+  pub most-none : Most f b count 0 0
+  unfolding most
+  most-none = record { upto = omega arith; is = refl; few = omega arith }
 
-    word-2 : getD tests (l * 8 + 2) 0 ≡ right
-    word-2 = ap (λ (t : List ℕ). getD t (l * 8 + 2) 0) is ∙ seven-2 tests₀ (l * 8) sort left right low width back rest room
-
-    word-5 : getD tests (l * 8 + 5) 0 ≡ back
-    word-5 = ap (λ (t : List ℕ). getD t (l * 8 + 5) 0) is ∙ seven-5 tests₀ (l * 8) sort left right low width back rest room
-
-    is-words : Words cells offsets numbers n (l * 8) tests (l * 8)
-    is-words = record {
-      sort = ap (λ (t : List ℕ). getD t (l * 8) 0) is ∙ seven-0 tests₀ (l * 8) sort left right low width back rest room ∙ is-sort;
-      left = word-1 ∙ is-left;
-      right = word-2 ∙ is-right;
-      low = ap (λ (t : List ℕ). getD t (l * 8 + 3) 0) is ∙ seven-3 tests₀ (l * 8) sort left right low width back rest room ∙ is-low .is;
-      width = ap (λ (t : List ℕ). getD t (l * 8 + 4) 0) is ∙ seven-4 tests₀ (l * 8) sort left right low width back rest room ∙ is-width;
-      first = word-5 ∙ is-back .is;
-      rows = ap (λ (t : List ℕ). getD t (l * 8 + 6) 0) is ∙ seven-6 tests₀ (l * 8) sort left right low width back rest room ∙ is-rest
-          ∙ ap (λ (k : ℕ). n - (k + ahead)) (sym word-5) ∙ ap (λ (k : ℕ). n - (getD tests (l * 8 + 5) 0 + k)) (is-ahead .is);
-      left-short = rw word-1 left-few;
-      right-short = rw word-2 right-few;
-      back-short = rw word-5 (is-back .short);
-      number-short = is-low .short;
+  module _ (m k : ℕ) (h : Most f b count m k) where
+    pub most-more : (x next : ℕ) → k < count → x ≡ f k → x ≤ b → next ≡ max m x → Most f b count next (k + 1)
+    unfolding most
+    most-more x next l e g q = record {
+      upto = omega arith;
+      is = q ∙ rw (h .is, e) refl ∙ ap (most f) (sym (add-one k));
+      few = let u = h .few in omega arith;
     }
 
-    apart : (m i : ℕ) → (m ≡ l → ⊥) → i < 8 → (k : ℕ) → k < 7 → m * 8 + i ≡ l * 8 + k → ⊥
-    apart m i h g k f e = h (omega arith)
+    pub most-all : count ≤ k → m ≡ most f count
+    most-all l = h .is ∙ ap (most f) (let e : k ≡ count = let u = h .upto in omega arith in e)
 
-    pub test-made : PutTest cells offsets numbers counts n l tests₀ tests
-    test-made = record {
-      long = ap length is ∙ seven-long tests₀ (l * 8) sort left right low width back rest;
-      made = λ h. record { one = sym is-count ∙ one; words = is-words };
-      kept = λ m i h g. ap (λ (t : List ℕ). getD t (m * 8 + i) 0) is ∙ seven-other tests₀ (l * 8) sort left right low width back rest (m * 8 + i) (apart m i h g);
-    }
+-- none of them is above it
+pub most-above : (f : ℕ → ℕ) (count k : ℕ) → k < count → f k ≤ most f count
+unfolding most
+most-above f zero k h = absurd (omega arith)
+most-above f (suc c) k h =
+    decided (eqb k c)
+    (λ e. let q = eqb-true k c e in rw q (omega arith))
+    (λ e. let q = eqb-false k c e in let b = most-above f c k (earlier c k h q) in omega arith)
+  where
+    earlier : (c k : ℕ) → k < suc c → (k ≡ c → ⊥) → k < c
+    earlier c k h q = omega arith
+
+-- ---- the words of a letter
+
+-- a number below 8 is one of eight
+pub one-of-eight : (F : ℕ → Type 0) → F 0 → F 1 → F 2 → F 3 → F 4 → F 5 → F 6 → F 7 → (i : ℕ) → i < 8 → F i
+one-of-eight F a b c d e f g h zero l = a
+one-of-eight F a b c d e f g h (suc zero) l = b
+one-of-eight F a b c d e f g h (suc (suc zero)) l = c
+one-of-eight F a b c d e f g h (suc (suc (suc zero))) l = d
+one-of-eight F a b c d e f g h (suc (suc (suc (suc zero)))) l = e
+one-of-eight F a b c d e f g h (suc (suc (suc (suc (suc zero))))) l = f
+one-of-eight F a b c d e f g h (suc (suc (suc (suc (suc (suc zero)))))) l = g
+one-of-eight F a b c d e f g h (suc (suc (suc (suc (suc (suc (suc zero))))))) l = h
+one-of-eight F a b c d e f g h (suc (suc (suc (suc (suc (suc (suc (suc i)))))))) l = absurd (omega arith)
+
+module _ (cells : List ℕ) (offsets numbers : List ℤ) (n g count : ℕ) where
+  pub words-none : count ≡ 0 → wordsOf cells offsets numbers n g count ≡ 0 ∷ 0 ∷ 0 ∷ 0 ∷ 0 ∷ 0 ∷ 0 ∷ 0 ∷ []
+  unfolding wordsOf
+  words-none h = simp (eq-eqb count 0 h)
+
+  pub words-one : count ≡ 1
+      → wordsOf cells offsets numbers n g count
+      ≡ sortOf (getD cells (g * 4 + 3) 0) ∷ getD cells (g * 4) 0 ∷ getD cells (g * 4 + 1) 0
+      ∷ lowOf (getD cells (g * 4 + 2) 0) (raised (getD numbers g (pos 0))) ∷ widthOf (getD cells (g * 4 + 2) 0) (raised (getD numbers g (pos 0)))
+      ∷ mostBack cells offsets g count ∷ rowsLeft cells offsets n g count ∷ 0 ∷ []
+  unfolding wordsOf
+  words-one h = simp (ne-eqb count 0 (λ e. omega arith), eq-eqb count 1 h)
+
+  pub words-several : (count ≡ 0 → ⊥) → (count ≡ 1 → ⊥)
+      → wordsOf cells offsets numbers n g count ≡ 0 ∷ 0 ∷ 0 ∷ 0 ∷ 0 ∷ mostBack cells offsets g count ∷ rowsLeft cells offsets n g count ∷ 0 ∷ []
+  unfolding wordsOf
+  words-several h k = simp (ne-eqb count 0 h, ne-eqb count 1 k)
+
+module _ (cells : List ℕ) (offsets numbers : List ℤ) (counts : List ℕ) (n l : ℕ) (tests₀ tests : List ℕ) (put : PutRoom counts l tests₀) (count : ℕ) (is-count : count ≡ getD counts l 0) where
+  room : l * 8 + 6 < length tests₀
+  room = let a = put .letter in let b = put .long in omega arith
+
+  abbrev Is : ℕ → Type 0
+  Is i = getD tests (l * 8 + i) 0 ≡ getD (wordsOf cells offsets numbers n (l * 8) count) i 0
+
+  -- the words as the promise has them
+  counted : ((i : ℕ) → i < 8 → Is i) → (i : ℕ) → i < 8 → getD tests (l * 8 + i) 0 ≡ getD (wordsOf cells offsets numbers n (l * 8) (getD counts l 0)) i 0
+  counted f i h = f i h ∙ ap (λ (k : ℕ). getD (wordsOf cells offsets numbers n (l * 8) k) i 0) is-count
+
+  pub test-none : count ≡ 0 → tests ≡ tests₀ → PutTest cells offsets numbers counts n l tests₀ tests
+  test-none h is = record {
+    long = ap length is;
+    made = counted (λ i f. ap (λ (t : List ℕ). getD t (l * 8 + i) 0) is ∙ put .none i f ∙ sym (ap (λ (t : List ℕ). getD t i 0) (words-none cells offsets numbers n (l * 8) count h) ∙ zeros i f));
+    short = λ e. absurd (omega arith);
+    kept = λ m i k f. ap (λ (t : List ℕ). getD t (m * 8 + i) 0) is;
+  }
+    where
+      zeros : (i : ℕ) → i < 8 → _≡_ {A = ℕ} (getD (0 ∷ 0 ∷ 0 ∷ 0 ∷ 0 ∷ 0 ∷ 0 ∷ 0 ∷ []) i 0) 0
+      zeros = one-of-eight (λ i. _≡_ {A = ℕ} (getD (0 ∷ 0 ∷ 0 ∷ 0 ∷ 0 ∷ 0 ∷ 0 ∷ 0 ∷ []) i 0) 0) refl refl refl refl refl refl refl refl
+
+  module _ (back ahead rest : ℕ) (is-back : back ≡ mostBack cells offsets (l * 8) count) (is-ahead : ahead ≡ mostAhead cells offsets (l * 8) count) (is-rest : rest ≡ n - (back + ahead)) where
+    rest-is : rest ≡ rowsLeft cells offsets n (l * 8) count
+    unfolding rowsLeft
+    rest-is = is-rest ∙ rw (is-back, is-ahead) refl
+
+    module _ (some : count ≡ 0 → ⊥) (more : count ≡ 1 → ⊥) (is : tests ≡ setRange tests₀ (l * 8) back rest) where
+      word-is : (i w : ℕ) → getD tests (l * 8 + i) 0 ≡ w → w ≡ getD (0 ∷ 0 ∷ 0 ∷ 0 ∷ 0 ∷ mostBack cells offsets (l * 8) count ∷ rowsLeft cells offsets n (l * 8) count ∷ 0 ∷ []) i 0 → Is i
+      word-is i w e f = e ∙ f ∙ sym (ap (λ (t : List ℕ). getD t i 0) (words-several cells offsets numbers n (l * 8) count some more))
+
+      other : (i : ℕ) → i < 8 → (i ≡ 5 → ⊥) → (i ≡ 6 → ⊥) → getD tests (l * 8 + i) 0 ≡ 0
+      other i h a b =
+          ap (λ (t : List ℕ). getD t (l * 8 + i) 0) is ∙ range-other tests₀ (l * 8) back rest (l * 8 + i) (λ q. a (omega arith)) (λ q. b (omega arith))
+          ∙ put .none i h
+
+      words-made : (i : ℕ) → i < 8 → Is i
+      words-made =
+          one-of-eight Is
+          (word-is 0 0 (other 0 (omega arith) (λ q. omega arith) (λ q. omega arith)) refl)
+          (word-is 1 0 (other 1 (omega arith) (λ q. omega arith) (λ q. omega arith)) refl)
+          (word-is 2 0 (other 2 (omega arith) (λ q. omega arith) (λ q. omega arith)) refl)
+          (word-is 3 0 (other 3 (omega arith) (λ q. omega arith) (λ q. omega arith)) refl)
+          (word-is 4 0 (other 4 (omega arith) (λ q. omega arith) (λ q. omega arith)) refl)
+          (word-is 5 back (ap (λ (t : List ℕ). getD t (l * 8 + 5) 0) is ∙ range-5 tests₀ (l * 8) back rest room) is-back)
+          (word-is 6 rest (ap (λ (t : List ℕ). getD t (l * 8 + 6) 0) is ∙ range-6 tests₀ (l * 8) back rest room) rest-is)
+          (word-is 7 0 (other 7 (omega arith) (λ q. omega arith) (λ q. omega arith)) refl)
+
+      pub test-several : PutTest cells offsets numbers counts n l tests₀ tests
+      test-several = record {
+        long = ap length is ∙ range-long tests₀ (l * 8) back rest;
+        made = counted words-made;
+        short = λ e. absurd (more (is-count ∙ e));
+        kept = λ m i h f. ap (λ (t : List ℕ). getD t (m * 8 + i) 0) is ∙ range-other tests₀ (l * 8) back rest (m * 8 + i) (λ q. h (omega arith)) (λ q. h (omega arith));
+      }
+
+    module _ (one : count ≡ 1) (sort left right low width : ℕ) (is-sort : sort ≡ sortOf (getD cells (l * 8 * 4 + 3) 0))
+        (is-left : left ≡ getD cells (l * 8 * 4) 0) (is-right : right ≡ getD cells (l * 8 * 4 + 1) 0)
+        (is-low : LowAt cells numbers (l * 8) low) (is-width : width ≡ widthOf (getD cells (l * 8 * 4 + 2) 0) (raised (getD numbers (l * 8) (pos 0))))
+        (is : tests ≡ setSeven tests₀ (l * 8) sort left right low width back rest) where
+      one-is : (i w : ℕ) → getD (setSeven tests₀ (l * 8) sort left right low width back rest) (l * 8 + i) 0 ≡ w
+          → w ≡ getD (sortOf (getD cells (l * 8 * 4 + 3) 0) ∷ getD cells (l * 8 * 4) 0 ∷ getD cells (l * 8 * 4 + 1) 0
+          ∷ lowOf (getD cells (l * 8 * 4 + 2) 0) (raised (getD numbers (l * 8) (pos 0))) ∷ widthOf (getD cells (l * 8 * 4 + 2) 0) (raised (getD numbers (l * 8) (pos 0)))
+          ∷ mostBack cells offsets (l * 8) count ∷ rowsLeft cells offsets n (l * 8) count ∷ 0 ∷ []) i 0 → Is i
+      one-is i w e f = ap (λ (t : List ℕ). getD t (l * 8 + i) 0) is ∙ e ∙ f ∙ sym (ap (λ (t : List ℕ). getD t i 0) (words-one cells offsets numbers n (l * 8) count one))
+
+      apart : (m i : ℕ) → (m ≡ l → ⊥) → i < 8 → (k : ℕ) → k < 7 → m * 8 + i ≡ l * 8 + k → ⊥
+      apart m i h g k f e = h (omega arith)
+
+      last : (k : ℕ) → k < 7 → l * 8 + 7 ≡ l * 8 + k → ⊥
+      last k f e = omega arith
+
+      all-made : (i : ℕ) → i < 8 → Is i
+      all-made =
+          one-of-eight Is
+          (one-is 0 sort
+          (ap (λ (j : ℕ). getD (setSeven tests₀ (l * 8) sort left right low width back rest) j 0) (let e : l * 8 + 0 ≡ l * 8 = omega arith in e)
+          ∙ seven-0 tests₀ (l * 8) sort left right low width back rest room) is-sort)
+          (one-is 1 left (seven-1 tests₀ (l * 8) sort left right low width back rest room) is-left)
+          (one-is 2 right (seven-2 tests₀ (l * 8) sort left right low width back rest room) is-right)
+          (one-is 3 low (seven-3 tests₀ (l * 8) sort left right low width back rest room) (is-low .is))
+          (one-is 4 width (seven-4 tests₀ (l * 8) sort left right low width back rest room) is-width)
+          (one-is 5 back (seven-5 tests₀ (l * 8) sort left right low width back rest room) is-back)
+          (one-is 6 rest (seven-6 tests₀ (l * 8) sort left right low width back rest room) rest-is)
+          (one-is 7 0 (seven-other tests₀ (l * 8) sort left right low width back rest (l * 8 + 7) last ∙ put .none 7 (omega arith)) refl)
+
+      pub test-one : PutTest cells offsets numbers counts n l tests₀ tests
+      test-one = record {
+        long = ap length is ∙ seven-long tests₀ (l * 8) sort left right low width back rest;
+        made = counted all-made;
+        short = λ e. is-low .short;
+        kept = λ m i h g. ap (λ (t : List ℕ). getD t (m * 8 + i) 0) is ∙ seven-other tests₀ (l * 8) sort left right low width back rest (m * 8 + i) (apart m i h g);
+      }
 
 -- ---- the loop over the letters
 
--- the letters below l are done, and those from l on have no test yet
+-- the letters below l have their words, and those from l on have none yet
 pub record Preparing (cells : List ℕ) (offsets numbers : List ℤ) (counts : List ℕ) (n : ℕ) (tests : List ℕ) (l : ℕ) : Type 0 where
   pub long : length tests ≡ 208
   pub upto : l ≤ 26
-  pub done : (m : ℕ) → m < l → (getD tests (m * 8) 0 ≡ 0 → ⊥) → Alone cells offsets numbers counts n tests m
-  pub rest : (m : ℕ) → l ≤ m → m < 26 → getD tests (m * 8) 0 ≡ 0
+  pub done : (m i : ℕ) → m < l → i < 8 → getD tests (m * 8 + i) 0 ≡ getD (wordsOf cells offsets numbers n (m * 8) (getD counts m 0)) i 0
+  pub short : (m : ℕ) → m < l → getD counts m 0 ≡ 1 → mag (getD numbers (m * 8) (pos 0)) < 2147483648
+  pub rest : (m i : ℕ) → l ≤ m → m < 26 → i < 8 → getD tests (m * 8 + i) 0 ≡ 0
+  pub few : (m : ℕ) → m < 26 → getD counts m 0 ≤ 8
 
 module _ (cells : List ℕ) (offsets numbers : List ℤ) (counts : List ℕ) (n : ℕ) where
-  pub preparing-none : (tests : List ℕ) → Untested tests → Preparing cells offsets numbers counts n tests 0
-  preparing-none tests u = record { long = u .long; upto = omega arith; done = λ m h. absurd (omega arith); rest = λ m h g. u .letter m g }
-
-  words-kept : (tests₀ tests : List ℕ) (g at : ℕ) → ((i : ℕ) → i < 8 → getD tests (at + i) 0 ≡ getD tests₀ (at + i) 0) → getD tests at 0 ≡ getD tests₀ at 0
-      → Words cells offsets numbers n g tests₀ at → Words cells offsets numbers n g tests at
-  words-kept tests₀ tests g at h z w = record {
-    sort = z ∙ w .sort;
-    left = h 1 (omega arith) ∙ w .left;
-    right = h 2 (omega arith) ∙ w .right;
-    low = h 3 (omega arith) ∙ w .low;
-    width = h 4 (omega arith) ∙ w .width;
-    first = h 5 (omega arith) ∙ w .first;
-    rows = h 6 (omega arith) ∙ w .rows
-        ∙ ap (λ (k : ℕ). n - (k + aheadBoth (getD cells (g * 4 + 3) 0) (getD offsets (g * 2) (pos 0)) (getD offsets (g * 2 + 1) (pos 0)))) (sym (h 5 (omega arith)));
-    left-short = rw (h 1 (omega arith)) (w .left-short);
-    right-short = rw (h 2 (omega arith)) (w .right-short);
-    back-short = rw (h 5 (omega arith)) (w .back-short);
-    number-short = w .number-short;
+  pub preparing-none : (tests : List ℕ) → Preparable counts tests → Preparing cells offsets numbers counts n tests 0
+  preparing-none tests u = record {
+    long = u .long;
+    upto = omega arith;
+    done = λ m i h. absurd (omega arith);
+    short = λ m h. absurd (omega arith);
+    rest = λ m i h g f. u .none (m * 8 + i) (omega arith);
+    few = u .few;
   }
 
   module _ (tests₀ tests : List ℕ) (l : ℕ) (p : Preparing cells offsets numbers counts n tests₀ l) where
-    pub preparing-room : l < 26 → PutRoom l tests₀
-    preparing-room h = record { long = p .long; letter = h; none = p .rest l (omega arith) h }
+    pub preparing-room : l < 26 → PutRoom counts l tests₀
+    preparing-room h = record { long = p .long; letter = h; few = p .few l h; none = λ i f. p .rest l i (omega arith) h f }
 
     module _ (h : l < 26) (u : PutTest cells offsets numbers counts n l tests₀ tests) where
-      zero-kept : (m : ℕ) → (m ≡ l → ⊥) → getD tests (m * 8) 0 ≡ getD tests₀ (m * 8) 0
-      zero-kept m k =
-          ap (λ (i : ℕ). getD tests i 0) (let e : m * 8 ≡ m * 8 + 0 = omega arith in e) ∙ u .kept m 0 k (omega arith)
-          ∙ ap (λ (i : ℕ). getD tests₀ i 0) (let e : m * 8 + 0 ≡ m * 8 = omega arith in e)
+      below : (m : ℕ) → m < l + 1 → (m ≡ l → ⊥) → m < l
+      below m f k = omega arith
 
-      earlier : (m : ℕ) → (m ≡ l → ⊥) → m < l → (getD tests (m * 8) 0 ≡ 0 → ⊥) → Alone cells offsets numbers counts n tests m
-      earlier m k f s =
-          let a = p .done m f (λ e. s (zero-kept m k ∙ e)) in
-          record { one = a .one; words = words-kept tests₀ tests (m * 8) (m * 8) (λ i q. u .kept m i k q) (zero-kept m k) (a .words) }
-
-      now-done : (m : ℕ) → m < l + 1 → (getD tests (m * 8) 0 ≡ 0 → ⊥) → Alone cells offsets numbers counts n tests m
-      now-done m f s =
+      now-done : (m i : ℕ) → m < l + 1 → i < 8 → getD tests (m * 8 + i) 0 ≡ getD (wordsOf cells offsets numbers n (m * 8) (getD counts m 0)) i 0
+      now-done m i f g =
           decided (eqb m l)
-          (λ e. let q : m ≡ l = eqb-true m l e in rw q (u .made (rw q at s)))
-          (λ e. let k = eqb-false m l e in earlier m k (below k) s)
-        where
-          below : (m ≡ l → ⊥) → m < l
-          below k = omega arith
+          (λ e. let q : m ≡ l = eqb-true m l e in rw q (u .made i g))
+          (λ e. let k = eqb-false m l e in u .kept m i k g ∙ p .done m i (below m f k) g)
+
+      now-short : (m : ℕ) → m < l + 1 → getD counts m 0 ≡ 1 → mag (getD numbers (m * 8) (pos 0)) < 2147483648
+      now-short m f o =
+          decided (eqb m l)
+          (λ e. let q : m ≡ l = eqb-true m l e in rw q (u .short (rw q at o)))
+          (λ e. p .short m (below m f (eqb-false m l e)) o)
 
       pub preparing-more : Preparing cells offsets numbers counts n tests (l + 1)
       preparing-more = record {
         long = u .long ∙ p .long;
         upto = omega arith;
         done = now-done;
-        rest = λ m f g. zero-kept m (λ e. omega arith) ∙ p .rest m (omega arith) g;
+        short = now-short;
+        rest = λ m i f g k. u .kept m i (λ e. omega arith) k ∙ p .rest m i (omega arith) g k;
+        few = p .few;
       }
 
     pub preparing-all : 26 ≤ l → Tested cells offsets numbers counts n tests₀
-    preparing-all h = record { letter = λ m f s. p .done m (omega arith) s }
+    preparing-all h = record { long = p .long; words = λ m i f g. p .done m i (omega arith) g; short = λ m f o. p .short m (omega arith) o }

@@ -104,13 +104,3 @@ pub reach-there : (n row : ℕ) (o : ℤ) → backOf o ≤ row → row + aheadOf
 unfolding backOf aheadOf there
 reach-there n row (pos k) h g = lt-ltb (row + k) n g
 reach-there n row (negsuc k) h g = simp (le-ltb row (suc k) h) (lt-ltb (row - suc k) n (omega arith))
-
-pub reach-before : (n row : ℕ) (o : ℤ) → row < backOf o → there n (pos row +ℤ o) ≡ false
-unfolding backOf there
-reach-before n row (pos k) h = absurd (omega arith)
-reach-before n row (negsuc k) h = simp (lt-ltb row (suc k) h)
-
-pub reach-behind : (n row : ℕ) (o : ℤ) → row < n → n ≤ row + aheadOf o → there n (pos row +ℤ o) ≡ false
-unfolding aheadOf there
-reach-behind n row (pos k) h g = le-ltb (row + k) n g
-reach-behind n row (negsuc k) h g = absurd (omega arith)

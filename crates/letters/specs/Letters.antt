@@ -7,8 +7,8 @@ use Prim.Native.Nat.{ℕ, _+_, _*_, _-_, _%_, _≤_, _<_}
 use lib.Dec.{ltb, eqb}
 use lib.IntN.{ℤ, pos, negsuc, _+ℤ_}
 use lib.ListN.{length, getD}
-use Rattle.rules.specs.Basics.{pick}
-use Rattle.rules.specs.Rows.{Table, entryAt, plusNumber, metBy}
+use Rattle.rules.specs.Basics.{pick, every, tabulate}
+use Rattle.rules.specs.Rows.{Table, entryAt, compares, plusNumber, metBy}
 use Rattle.decode.specs.Layout.{SpotFor, Spots}
 
 -- 1 where the test is true
@@ -59,3 +59,36 @@ pub record LetterRoom (cells : List ℕ) (offsets : List ℤ) (counts : List ℕ
   pub letter : l < 26
   pub few : getD counts l 0 ≤ 8
   pub spots : (k : ℕ) → k < getD counts l 0 → Spots columns cells offsets (l * 8 + k)
+
+-- ---- comparisons all of whose rows are there
+
+-- The index 64 rows before base, where spot 0 lies. It wraps at 2 ^ 64 where that is before the first entry.
+pub record FarBack (columns base from : ℕ) : Type 0 where
+  pub is : (from + columns * 64) % 18446744073709551616 ≡ base
+  pub fits : from < 18446744073709551616
+
+-- where the entry at a spot lies
+unfoldable pub spotIndex : ℕ → ℕ → ℕ
+spotIndex from spot = (from + spot) % 18446744073709551616
+
+-- comparison number g: its left entry against its number, or against its right entry plus the number
+unfoldable pub readMet : List ℕ → List ℤ → List ℤ → ℕ → ℕ → Bool
+unfolding spotIndex
+readMet cells numbers rows from g =
+    compares (getD cells (g * 4 + 2) 0) (getD rows (spotIndex from (getD cells (g * 4) 0)) (pos 0))
+    (pick (eqb (getD cells (g * 4 + 3) 0) 1) (getD rows (spotIndex from (getD cells (g * 4 + 1) 0)) (pos 0) +ℤ getD numbers g (pos 0)) (getD numbers g (pos 0)))
+
+-- the entries that it reads are there
+pub record Reads (cells : List ℕ) (rows : List ℤ) (from g : ℕ) : Type 0 where
+  pub room : g < 208
+  pub left : spotIndex from (getD cells (g * 4) 0) < length rows
+  pub right : getD cells (g * 4 + 3) 0 ≡ 1 → spotIndex from (getD cells (g * 4 + 1) 0) < length rows
+
+-- the `count` comparisons from number g on
+unfoldable pub allRead : List ℕ → List ℤ → List ℤ → ℕ → ℕ → ℕ → Bool
+unfolding every tabulate readMet
+allRead cells numbers rows from g count = every (readMet cells numbers rows from) (tabulate count (λ k. g + k))
+
+pub record AllReads (cells : List ℕ) (rows : List ℤ) (from g count : ℕ) : Type 0 where
+  pub room : g + count ≤ 208
+  pub each : (k : ℕ) → k < count → Reads cells rows from (g + k)

@@ -1,10 +1,10 @@
--- The table of tests: before a search, each letter that has exactly one comparison gets seven words that say all that its test needs.
--- The words of letter l stand from 8 * l on: 0 the sort of test, 1 the left spot, 2 the right spot, 3 and 4 an interval, 5 and 6 a range of rows.
--- A letter whose word 0 is 0 has no such test: it is tested by its comparisons.
+-- The table of tests: before a search, each letter that has comparisons gets the range of rows at which all rows that it reads are there, and a letter that has
+-- exactly one gets all that its test needs. The words of letter l stand from 8 * l on: 0 the sort of test, 1 the left spot, 2 the right spot, 3 and 4 an interval, 5
+-- and 6 the range. A letter whose word 0 is 0 is tested by its comparisons.
 use mathlib.Core.Path.{_≡_}
 use mathlib.Core.Bool.{Bool}
-use mathlib.Core.List.{List}
-use Prim.Native.Nat.{ℕ, suc, _+_, _*_, _-_, _≤_, _<_, max}
+use mathlib.Core.List.{List, [], _∷_}
+use Prim.Native.Nat.{ℕ, zero, suc, _+_, _*_, _-_, _≤_, _<_, max}
 use lib.Dec.{leb, eqb}
 use lib.IntN.{ℤ, pos, negsuc}
 use lib.Signed.{mag}
@@ -46,7 +46,7 @@ unfoldable pub aheadOf : ℤ → ℕ
 aheadOf (pos k) = k
 aheadOf (negsuc k) = 0
 
--- The same of a comparison. The right offset counts only where the right side has a column.
+-- The same of both sides of a comparison. The right offset counts only where the right side has a column.
 unfoldable pub backBoth : ℕ → ℤ → ℤ → ℕ
 unfolding backOf
 backBoth kind left right = pick (eqb kind 1) (max (backOf left) (backOf right)) (backOf left)
@@ -55,37 +55,58 @@ unfoldable pub aheadBoth : ℕ → ℤ → ℤ → ℕ
 unfolding aheadOf
 aheadBoth kind left right = pick (eqb kind 1) (max (aheadOf left) (aheadOf right)) (aheadOf left)
 
+-- How many rows back, and ahead, comparison number g reads.
+unfoldable pub backAt : List ℕ → List ℤ → ℕ → ℕ
+unfolding backBoth
+backAt cells offsets g = backBoth (getD cells (g * 4 + 3) 0) (getD offsets (g * 2) (pos 0)) (getD offsets (g * 2 + 1) (pos 0))
+
+unfoldable pub aheadAt : List ℕ → List ℤ → ℕ → ℕ
+unfolding aheadBoth
+aheadAt cells offsets g = aheadBoth (getD cells (g * 4 + 3) 0) (getD offsets (g * 2) (pos 0)) (getD offsets (g * 2 + 1) (pos 0))
+
+-- The most of f 0 to f (k - 1), or 0; and so the most rows that any of `count` comparisons from number g on reads back, and ahead.
+unfoldable pub most : (ℕ → ℕ) → ℕ → ℕ
+most f zero = 0
+most f (suc k) = max (most f k) (f k)
+
+unfoldable pub mostBack : List ℕ → List ℤ → ℕ → ℕ → ℕ
+unfolding most backAt
+mostBack cells offsets g count = most (λ k. backAt cells offsets (g + k)) count
+
+unfoldable pub mostAhead : List ℕ → List ℤ → ℕ → ℕ → ℕ
+unfolding most aheadAt
+mostAhead cells offsets g count = most (λ k. aheadAt cells offsets (g + k)) count
+
 -- ---- the table
 
--- The words from `at` on are those of comparison number g over n rows; the last four fields say what the arrays' types say of its numbers.
--- Word 5 is the first row from which it reads no row before row 0, and word 6 how many rows from there on have all rows that it reads.
-pub record Words (cells : List ℕ) (offsets numbers : List ℤ) (n g : ℕ) (tests : List ℕ) (at : ℕ) : Type 0 where
-  pub sort : getD tests at 0 ≡ sortOf (getD cells (g * 4 + 3) 0)
-  pub left : getD tests (at + 1) 0 ≡ getD cells (g * 4) 0
-  pub right : getD tests (at + 2) 0 ≡ getD cells (g * 4 + 1) 0
-  pub low : getD tests (at + 3) 0 ≡ lowOf (getD cells (g * 4 + 2) 0) (raised (getD numbers g (pos 0)))
-  pub width : getD tests (at + 4) 0 ≡ widthOf (getD cells (g * 4 + 2) 0) (raised (getD numbers g (pos 0)))
-  pub first : getD tests (at + 5) 0 ≡ backBoth (getD cells (g * 4 + 3) 0) (getD offsets (g * 2) (pos 0)) (getD offsets (g * 2 + 1) (pos 0))
-  pub rows : getD tests (at + 6) 0
-      ≡ n - (getD tests (at + 5) 0 + aheadBoth (getD cells (g * 4 + 3) 0) (getD offsets (g * 2) (pos 0)) (getD offsets (g * 2 + 1) (pos 0)))
-  pub left-short : getD tests (at + 1) 0 < 65536
-  pub right-short : getD tests (at + 2) 0 < 65536
-  pub back-short : getD tests (at + 5) 0 ≤ 128
-  pub number-short : mag (getD numbers g (pos 0)) < 2147483648
+-- Word 5 is the first row from which `count` comparisons from number g on read no row before row 0: that many rows they read back. Word 6: how many of n rows, from
+-- there on, have all rows that they read.
+unfoldable pub rowsLeft : List ℕ → List ℤ → ℕ → ℕ → ℕ → ℕ
+unfolding mostBack mostAhead
+rowsLeft cells offsets n g count = n - (mostBack cells offsets g count + mostAhead cells offsets g count)
 
--- Letter l has one comparison, and its words are that one's.
-pub record Alone (cells : List ℕ) (offsets numbers : List ℤ) (counts : List ℕ) (n : ℕ) (tests : List ℕ) (l : ℕ) : Type 0 where
-  pub one : getD counts l 0 ≡ 1
-  pub words : Words cells offsets numbers n (l * 8) tests (l * 8)
+-- The eight words of a letter whose `count` comparisons stand from number g on: zeros without a comparison, all with one, and the range of rows alone with several.
+unfoldable pub wordsOf : List ℕ → List ℤ → List ℤ → ℕ → ℕ → ℕ → List ℕ
+unfolding sortOf lowOf widthOf raised mostBack rowsLeft
+wordsOf cells offsets numbers n g count =
+    pick (eqb count 0) (0 ∷ 0 ∷ 0 ∷ 0 ∷ 0 ∷ 0 ∷ 0 ∷ 0 ∷ [])
+    (pick (eqb count 1)
+    (sortOf (getD cells (g * 4 + 3) 0) ∷ getD cells (g * 4) 0 ∷ getD cells (g * 4 + 1) 0
+    ∷ lowOf (getD cells (g * 4 + 2) 0) (raised (getD numbers g (pos 0))) ∷ widthOf (getD cells (g * 4 + 2) 0) (raised (getD numbers g (pos 0)))
+    ∷ mostBack cells offsets g count ∷ rowsLeft cells offsets n g count ∷ 0 ∷ [])
+    (0 ∷ 0 ∷ 0 ∷ 0 ∷ 0 ∷ mostBack cells offsets g count ∷ rowsLeft cells offsets n g count ∷ 0 ∷ []))
 
--- Each letter has no test, or that of its one comparison.
+-- The table holds the words of every letter; the last field says what the type of `numbers` says of the number of a letter with one comparison.
 pub record Tested (cells : List ℕ) (offsets numbers : List ℤ) (counts : List ℕ) (n : ℕ) (tests : List ℕ) : Type 0 where
-  pub letter : (l : ℕ) → l < 26 → (getD tests (l * 8) 0 ≡ 0 → ⊥) → Alone cells offsets numbers counts n tests l
-
--- The table has room for 26 letters, and no letter has a test.
-pub record Untested (tests : List ℕ) : Type 0 where
   pub long : length tests ≡ 208
-  pub letter : (l : ℕ) → l < 26 → getD tests (l * 8) 0 ≡ 0
+  pub words : (l i : ℕ) → l < 26 → i < 8 → getD tests (l * 8 + i) 0 ≡ getD (wordsOf cells offsets numbers n (l * 8) (getD counts l 0)) i 0
+  pub short : (l : ℕ) → l < 26 → getD counts l 0 ≡ 1 → mag (getD numbers (l * 8) (pos 0)) < 2147483648
+
+-- The table has room for 26 letters and holds zeros, and no letter has more than 8 comparisons.
+pub record Preparable (counts tests : List ℕ) : Type 0 where
+  pub long : length tests ≡ 208
+  pub none : (i : ℕ) → i < 208 → getD tests i 0 ≡ 0
+  pub few : (l : ℕ) → l < 26 → getD counts l 0 ≤ 8
 
 -- ---- what the test of a letter needs
 
@@ -112,31 +133,28 @@ pub record TestRoom (tests cells : List ℕ) (offsets numbers : List ℤ) (count
 unfoldable pub within : ℕ → ℕ → ℕ → Bool
 within x low width = leb (pick (leb low x) (x - low) (18446744073709551616 + x - low)) width
 
--- Words 3, 5 and the rows ahead of comparison number g, with what its arrays' types say of their size.
+-- Word 3 of comparison number g, with what the type of `numbers` says of its number.
 pub record LowAt (cells : List ℕ) (numbers : List ℤ) (g r : ℕ) : Type 0 where
   pub is : r ≡ lowOf (getD cells (g * 4 + 2) 0) (raised (getD numbers g (pos 0)))
   pub short : mag (getD numbers g (pos 0)) < 2147483648
 
-pub record BackAt (cells : List ℕ) (offsets : List ℤ) (g r : ℕ) : Type 0 where
-  pub is : r ≡ backBoth (getD cells (g * 4 + 3) 0) (getD offsets (g * 2) (pos 0)) (getD offsets (g * 2 + 1) (pos 0))
-  pub short : r ≤ 128
-
-pub record AheadAt (cells : List ℕ) (offsets : List ℤ) (g r : ℕ) : Type 0 where
-  pub is : r ≡ aheadBoth (getD cells (g * 4 + 3) 0) (getD offsets (g * 2) (pos 0)) (getD offsets (g * 2 + 1) (pos 0))
-  pub short : r ≤ 127
-
--- Seven words, from `at` on.
+-- Seven words, from `at` on; and words 5 and 6 alone.
 unfoldable pub setSeven : List ℕ → ℕ → ℕ → ℕ → ℕ → ℕ → ℕ → ℕ → ℕ → List ℕ
 setSeven tests at a b c d e f g = set (set (set (set (set (set (set tests at a) (at + 1) b) (at + 2) c) (at + 3) d) (at + 4) e) (at + 5) f) (at + 6) g
 
--- Letter l has no test yet.
-pub record PutRoom (l : ℕ) (tests : List ℕ) : Type 0 where
+unfoldable pub setRange : List ℕ → ℕ → ℕ → ℕ → List ℕ
+setRange tests at f g = set (set tests (at + 5) f) (at + 6) g
+
+-- Letter l, of at most 8 comparisons, has no words yet.
+pub record PutRoom (counts : List ℕ) (l : ℕ) (tests : List ℕ) : Type 0 where
   pub long : length tests ≡ 208
   pub letter : l < 26
-  pub none : getD tests (l * 8) 0 ≡ 0
+  pub few : getD counts l 0 ≤ 8
+  pub none : (i : ℕ) → i < 8 → getD tests (l * 8 + i) 0 ≡ 0
 
--- What making the test of letter l leaves: its words, if it has one comparison, and the words of the other letters.
+-- What making the words of letter l leaves: those, and the words of the other letters as they were.
 pub record PutTest (cells : List ℕ) (offsets numbers : List ℤ) (counts : List ℕ) (n l : ℕ) (tests₀ tests : List ℕ) : Type 0 where
   pub long : length tests ≡ length tests₀
-  pub made : (getD tests (l * 8) 0 ≡ 0 → ⊥) → Alone cells offsets numbers counts n tests l
+  pub made : (i : ℕ) → i < 8 → getD tests (l * 8 + i) 0 ≡ getD (wordsOf cells offsets numbers n (l * 8) (getD counts l 0)) i 0
+  pub short : getD counts l 0 ≡ 1 → mag (getD numbers (l * 8) (pos 0)) < 2147483648
   pub kept : (m i : ℕ) → (m ≡ l → ⊥) → i < 8 → getD tests (m * 8 + i) 0 ≡ getD tests₀ (m * 8 + i) 0

@@ -1,18 +1,19 @@
 // Whether a letter holds at a row, over a query's decoded comparisons: the search asks this for every letter place that it enters.
-// A comparison costs no product: where an entry lies follows from the index of the row's first entry and the decoded spot. Sums are exact in 64 bits.
-// A letter of exactly one comparison has a test in a table that is made before the search (specs/Tests): one range for the row, one interval for what it reads.
+// A table made before the search (specs/Tests) has for each letter the range of rows at which all rows that it reads are there, and for a letter of exactly
+// one comparison an interval for what it reads. In the range no row is asked for; outside, near the ends of the partition, each comparison moves the row
+// index by its signed bytes and looks. A comparison costs no product: an entry's index follows from that of the row's first entry and the decoded spot.
 ghost use mathlib.Core.Path.{_≡_};
 ghost use mathlib.Core.Bool.{true, false, _&&_};
 ghost use Prim.Native.Nat.{_+_, _*_, _-_, _≤_, _<_, max};
 ghost use lib.Dec.{ltb};
 ghost use lib.IntN.{ℤ, pos, _+ℤ_, _-ℤ_};
 ghost use lib.Signed.{ltZ, leZ, mag};
-ghost use lib.ListN.{getD};
+ghost use lib.ListN.{length, getD};
 ghost use Rattle.rules.specs.Rows.{tableOf, compares, met, holds};
 ghost use Rattle.decode.specs.Layout.{cellAt, cellsFrom};
-ghost use Rattle.letters.specs.Tests.{sortOf, raised, lowOf, widthOf, backOf, aheadOf, backBoth, aheadBoth, Tested, Untested, TestRoom};
-ghost use Rattle.letters.specs.Tests.{within, setSeven, LowAt, BackAt, AheadAt, PutRoom, PutTest};
-ghost use Rattle.letters.specs.Letters.{flagOf, there, EntryThere, rightMet, RightRoom, CellRoom, LetterRoom};
+ghost use Rattle.letters.specs.Tests.{sortOf, raised, lowOf, widthOf, backOf, aheadOf, backBoth, aheadBoth, backAt, aheadAt, mostBack, mostAhead};
+ghost use Rattle.letters.specs.Tests.{within, setSeven, setRange, LowAt, PutRoom, PutTest, Preparable, Tested, TestRoom};
+ghost use Rattle.letters.specs.Letters.{flagOf, there, EntryThere, rightMet, RightRoom, CellRoom, LetterRoom, spotIndex, readMet, Reads, allRead, AllReads, FarBack};
 
 // Numbers as wider ones.
 fn long(x: i32) -> i64
@@ -181,6 +182,60 @@ fn several_hold(
     true
 }
 
+// ---- comparisons all of whose rows are there
+
+// The index 64 rows before the entry at base, which wraps below 0: that of spot 0.
+fn far_back(columns: usize, base: usize) -> u64
+    requires { ⌜ columns ≤ 8 ⌝ }
+    ensures { λ r. ⌜ FarBack columns base r ⌝ }
+{
+    std::num::wrapping_sub_u64(base as u64, columns as u64 * 64)
+}
+
+// The entry at a spot that is there.
+fn entry_from(rows: &[i32], from: u64, spot: u64) -> i64
+    requires { ⌜ spotIndex from spot < length (now rows) ⌝ }
+    ensures { λ r. ⌜ (r ≡ getD (now (rows .entry)) (spotIndex from spot) (pos 0)) × (mag r < 2147483648) ⌝ }
+{
+    long(rows[std::num::wrapping_add_u64(from, spot) as usize])
+}
+
+// Comparison number g.
+fn read_met(cells: &[u16; 832], numbers: &[i32; 208], g: usize, rows: &[i32], from: u64) -> bool
+    requires { ⌜ Reads (now cells) (now rows) from g ⌝ }
+    ensures { λ r. ⌜ r ≡ readMet (now (cells .entry)) (now (numbers .entry)) (now (rows .entry)) from g ⌝ }
+{
+    let at = g * 4;
+    let a = entry_from(rows, from, word(cells[at]));
+    if wide(cells[at + 3]) != 1 {
+        return compare(wide(cells[at + 2]), a, long(numbers[g]));
+    }
+    let b = entry_from(rows, from, word(cells[at + 1]));
+    compare(wide(cells[at + 2]), a, plus_number(b, numbers[g]))
+}
+
+// The `count` comparisons from number g on, up to the first that is not met.
+fn all_met(
+    cells: &[u16; 832],
+    numbers: &[i32; 208],
+    g: usize,
+    count: usize,
+    rows: &[i32],
+    from: u64,
+) -> bool
+    requires { ⌜ AllReads (now cells) (now rows) from g count ⌝ }
+    ensures { λ r. ⌜ r ≡ allRead (now (cells .entry)) (now (numbers .entry)) (now (rows .entry)) from g count ⌝ }
+{
+    let mut k = 0;
+    while k < count {
+        if !read_met(cells, numbers, g + k, rows, from) {
+            return false;
+        }
+        k += 1;
+    }
+    true
+}
+
 // ---- the table of tests
 
 fn word(x: u16) -> u64
@@ -329,16 +384,43 @@ fn width_at(cells: &[u16; 832], numbers: &[i32; 208], g: usize) -> u64
 
 fn back_at(cells: &[u16; 832], offsets: &[i8; 416], g: usize) -> u64
     requires { ⌜ g < 208 ⌝ }
-    ensures { λ r. ⌜ BackAt (now (cells .entry)) (now (offsets .entry)) g r ⌝ }
+    ensures { λ r. ⌜ (r ≡ backAt (now (cells .entry)) (now (offsets .entry)) g) × (r ≤ 128) ⌝ }
 {
     back_both(wide(cells[g * 4 + 3]), offsets[g * 2], offsets[g * 2 + 1])
 }
 
 fn ahead_at(cells: &[u16; 832], offsets: &[i8; 416], g: usize) -> u64
     requires { ⌜ g < 208 ⌝ }
-    ensures { λ r. ⌜ AheadAt (now (cells .entry)) (now (offsets .entry)) g r ⌝ }
+    ensures { λ r. ⌜ (r ≡ aheadAt (now (cells .entry)) (now (offsets .entry)) g) × (r ≤ 127) ⌝ }
 {
     ahead_both(wide(cells[g * 4 + 3]), offsets[g * 2], offsets[g * 2 + 1])
+}
+
+// How many rows back, and ahead, the `count` comparisons from number g on read at the most.
+fn most_back(cells: &[u16; 832], offsets: &[i8; 416], g: usize, count: usize) -> u64
+    requires { ⌜ g + count ≤ 208 ⌝ }
+    ensures { λ r. ⌜ (r ≡ mostBack (now (cells .entry)) (now (offsets .entry)) g count) × (r ≤ 128) ⌝ }
+{
+    let mut most = 0;
+    let mut k = 0;
+    while k < count {
+        most = larger(most, back_at(cells, offsets, g + k));
+        k += 1;
+    }
+    most
+}
+
+fn most_ahead(cells: &[u16; 832], offsets: &[i8; 416], g: usize, count: usize) -> u64
+    requires { ⌜ g + count ≤ 208 ⌝ }
+    ensures { λ r. ⌜ (r ≡ mostAhead (now (cells .entry)) (now (offsets .entry)) g count) × (r ≤ 127) ⌝ }
+{
+    let mut most = 0;
+    let mut k = 0;
+    while k < count {
+        most = larger(most, ahead_at(cells, offsets, g + k));
+        k += 1;
+    }
+    most
 }
 
 fn put_words(
@@ -364,7 +446,16 @@ fn put_words(
     tests[at + 6] = g;
 }
 
-// The test of letter l, if it has exactly one comparison.
+// The range of rows alone: words 5 and 6.
+fn put_range(tests: &mut [u64; 208], at: usize, back: u64, rest: u64)
+    requires { ⌜ at < 202 ⌝ }
+    ensures { λ r. ⌜ now (tests .exit) ≡ setRange (now (tests .entry)) at back rest ⌝ }
+{
+    tests[at + 5] = back;
+    tests[at + 6] = rest;
+}
+
+// The words of letter l: none without comparisons, the range alone with several.
 fn put_test(
     cells: &[u16; 832],
     offsets: &[i8; 416],
@@ -374,15 +465,20 @@ fn put_test(
     l: usize,
     tests: &mut [u64; 208],
 )
-    requires { ⌜ PutRoom l (now tests) ⌝ }
+    requires { ⌜ PutRoom (now counts) l (now tests) ⌝ }
     ensures { λ r. ⌜ PutTest (now (cells .entry)) (now (offsets .entry)) (now (numbers .entry)) (now (counts .entry)) n l (now (tests .entry)) (now (tests .exit)) ⌝ }
 {
-    if byte(counts[l]) != 1 {
+    let count = byte(counts[l]);
+    if count == 0 {
         return;
     }
     let g = l * 8;
-    let back = back_at(cells, offsets, g);
-    let rest = left_over(n, back + ahead_at(cells, offsets, g));
+    let back = most_back(cells, offsets, g, count);
+    let rest = left_over(n, back + most_ahead(cells, offsets, g, count));
+    if count != 1 {
+        put_range(tests, g, back, rest);
+        return;
+    }
     put_words(
         tests,
         g,
@@ -405,7 +501,7 @@ pub fn prepare(
     n: usize,
     tests: &mut [u64; 208],
 )
-    requires { ⌜ Untested (now tests) ⌝ }
+    requires { ⌜ Preparable (now counts) (now tests) ⌝ }
     ensures { λ r. ⌜ Tested (now (cells .entry)) (now (offsets .entry)) (now (numbers .entry)) (now (counts .entry)) n (now (tests .exit)) ⌝ }
 {
     let mut l = 0;
@@ -451,8 +547,7 @@ pub fn letter_holds(
         (cellsFrom columns (now (cells .entry)) (now (offsets .entry)) (now (numbers .entry)) (l * 8) (getD (now (counts .entry)) l 0))) ⌝ }
 {
     let at = l * 8;
-    let sort = tests[at];
-    if sort == 0 {
+    if std::num::wrapping_sub_u64(row as u64, tests[at + 5]) >= tests[at + 6] {
         if row < n {
             return several_hold(
                 cells,
@@ -469,12 +564,14 @@ pub fn letter_holds(
         }
         return false;
     }
-    if std::num::wrapping_sub_u64(row as u64, tests[at + 5]) >= tests[at + 6] {
-        return false;
+    let from = far_back(columns, base);
+    let sort = tests[at];
+    if sort == 0 {
+        return all_met(cells, numbers, at, byte(counts[l]), rows, from);
     }
-    let a = entry_at(rows, columns, base, tests[at + 1] as usize);
+    let a = entry_from(rows, from, tests[at + 1]);
     if sort == 1 {
-        let b = entry_at(rows, columns, base, tests[at + 2] as usize);
+        let b = entry_from(rows, from, tests[at + 2]);
         return inside(difference(a, b), tests[at + 3], tests[at + 4]);
     }
     inside(a, tests[at + 3], tests[at + 4])

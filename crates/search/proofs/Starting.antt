@@ -9,7 +9,7 @@ use native.Mathlib.Omega.{arith}
 use lib.Dec.{eqb, ltb}
 use borrow.Author.Tests.{ltb-true}
 use lib.IntN.{ℤ}
-use lib.ListN.{length, getD, take, drop}
+use lib.ListN.{length, getD, take, drop, replicate}
 use Rattle.rules.specs.Basics.{inRange, isLetter}
 use Rattle.rules.specs.Rows.{Table, Comparison, tableOf, holds}
 use Rattle.rules.specs.Query.{Measure, functionFits, columnsOf, textOf, parts}
@@ -30,7 +30,8 @@ use Rattle.rules.proofs.SameLetters.{search-agrees}
 use Rattle.rules.proofs.ThinPlaces.{Spelt, thinned-spelt}
 use Rattle.decode.specs.Layout.{Decoded, cellsFrom, measureIn, measuresIn}
 use Rattle.places.specs.Emitting.{Unrolling, Tabled}
-use Rattle.letters.specs.Tests.{Tested, Letters}
+use Rattle.letters.specs.Tests.{Tested, Preparable, Letters}
+use Rattle.letters.proofs.Uses.{preparable, letters-room}
 use Rattle.walk.specs.Letters.{holdsIn}
 use Rattle.walk.specs.Tables as W
 use Rattle.sweep.specs.Asked as S
@@ -122,15 +123,12 @@ module _ (q nodes : List ℕ) (top p : ℕ) (rows : List ℤ) (columns n : ℕ) 
 
   the-letters : (tests : List ℕ) → Tested cells offsets constants counts n tests → Letters tests cells offsets constants counts rows columns n
   the-letters tests t =
-      record {
-        tested = t;
-        some = omega (arith, a .columns-are, a .decoded .some);
-        few = omega (arith, a .columns-are, a .decoded .most);
-        most = a .most;
-        all = a .all;
-        counted = λ l h. a .decoded .letters l h .few;
-        spots = λ l k h i. rw (a .columns-are) (a .decoded .letters l h .spots k i);
-      }
+      let e : length rows ≡ n * a .parts .columns = a .all ∙ ap (λ (k : ℕ). n * k) (a .columns-are) in
+      rw (a .columns-are)
+      (letters-room q (a .cells₀) (a .offsets₀) (a .numbers₀) (a .measures₀) cells offsets constants counts ms (a .parts) (a .decoded) rows n tests (a .most) e t)
+
+  pub may-prepare : Preparable counts (replicate 208 0)
+  may-prepare = preparable q (a .cells₀) (a .offsets₀) (a .numbers₀) (a .measures₀) cells offsets constants counts ms (a .parts) (a .decoded)
 
   module _ (table₀ table : List ℕ) (end : ℕ) (b : Tabled (a .tree) p table₀ table end) (long : length table ≡ 1792) where
     pub few-places : p ≤ 256

@@ -1,7 +1,6 @@
 -- `letters::put_test` meets its contract by the laws of Putting.
-use native.Mathlib.Omega.{arith}
+use Rattle.letters.proofs.Putting.{test-none, test-several, test-one}
 use borrow.Author.Needs.{needs}
-use Rattle.letters.proofs.Putting.{test-made}
 use Rattle.letters.proofs.put_test.Statement.{statement}
 use Rattle.letters.proofs.put_test.Tie as tie
 
@@ -12,22 +11,28 @@ byte-requires : tie.Need-byte-requires
 byte-requires c κs = search needs
 
 returns : tie.Need-returns
-returns c = search needs
+returns c = search (needs, test-none)
 
 mul-g : tie.Need-mul-g
 mul-g c = search needs
 
-back-at-requires : tie.Need-back-at-requires
-back-at-requires c κs = search needs
+most-back-requires : tie.Need-most-back-requires
+most-back-requires c κs = search needs
 
-ahead-at-requires : tie.Need-ahead-at-requires
-ahead-at-requires c κs = search needs
+most-ahead-requires : tie.Need-most-ahead-requires
+most-ahead-requires c κs = search needs
 
 add-left-over : tie.Need-add-left-over
 add-left-over c = search needs
 
 left-over-requires : tie.Need-left-over-requires
 left-over-requires c κs = search needs
+
+put-range-requires : tie.Need-put-range-requires
+put-range-requires c κs = search needs
+
+returns-2 : tie.Need-returns-2
+returns-2 c = search (needs, test-several)
 
 sort-at-requires : tie.Need-sort-at-requires
 sort-at-requires c κs = search needs
@@ -68,20 +73,8 @@ width-at-requires c κs = search needs
 put-words-requires : tie.Need-put-words-requires
 put-words-requires c κs = search needs
 
-returns-2 : tie.Need-returns-2
-returns-2 c =
-    let low = c .before .before in
-    let right = low .before in
-    let left = right .before .before in
-    let sort = left .before .before in
-    let rest = sort .before .before in
-    let ahead = rest .before in
-    let back = ahead .before in
-    let one = back .before in
-    let count = one .before in
-    test-made _ _ _ _ _ _ _ _ (count .before .before .pre) _ (count .byte .ensures .0) (omega (arith, one .if1 .left)) _ _ _ _ _ _ _ _ (sort .sort-at .ensures)
-    (left .word .ensures .0) (left .word .ensures .1) (right .word2 .ensures .0) (right .word2 .ensures .1) (low .low-at .ensures) (c .before .width-at .ensures)
-    (back .back-at .ensures) (ahead .ahead-at .ensures) (rest .left-over .ensures) (c .put-words .ensures)
+returns-3 : tie.Need-returns-3
+returns-3 c = search (needs, test-one)
 
 pub put-test-spec : {M : Type 1} → statement M
 put-test-spec =
@@ -91,10 +84,12 @@ put-test-spec =
     byte-requires
     returns
     mul-g
-    back-at-requires
-    ahead-at-requires
+    most-back-requires
+    most-ahead-requires
     add-left-over
     left-over-requires
+    put-range-requires
+    returns-2
     sort-at-requires
     mul-word
     mul-word-2
@@ -108,4 +103,4 @@ put-test-spec =
     low-at-requires
     width-at-requires
     put-words-requires
-    returns-2)
+    returns-3)

@@ -1,5 +1,4 @@
-use Rattle.letters.proofs.Uses.{no-tests}
-use Rattle.search.proofs.Starting.{may-unroll, may-part, may-run}
+use Rattle.search.proofs.Starting.{may-unroll, may-part, may-prepare, may-run}
 use lib.ListN.{length-replicate}
 use Prim.Native.Nat.{ℕ}
 use borrow.Author.Needs.{needs}
@@ -46,7 +45,7 @@ part-requires c κs = may-part _ _ _ _ _ _ _ _ _ _ _ _ _ _ _ _ (c .before .befor
 
 -- src/lib.rt:228:5
 prepare-requires : tie.Need-prepare-requires
-prepare-requires c κs = no-tests
+prepare-requires c κs = search (needs, may-prepare)
 
 -- src/lib.rt:231:9
 sub-run-tables : tie.Need-sub-run-tables

@@ -1,0 +1,54 @@
+-- `letters::most_ahead` meets its contract by the laws of Putting. The invariant is `Most`: the most of the first k comparisons; the count left falls.
+use Prim.Native.Nat.{_+_, _-_}
+use native.Mathlib.Omega.{arith}
+use Rattle.letters.specs.Tests.{aheadAt, mostAhead}
+use Rattle.letters.proofs.Putting.{Most, most-none, most-more, most-all}
+use borrow.Author.Needs.{needs}
+use Rattle.letters.proofs.most_ahead.Statement.{statement}
+use Rattle.letters.proofs.most_ahead.Tie as tie
+
+abbrev Inv-loop : tie.InvT-loop
+Inv-loop cells offsets g count most₀ k₀ most k = Most (λ i. aheadAt cells offsets (g + i)) 127 count most k
+
+abbrev μ-loop : tie.MeasureT-loop
+μ-loop cells offsets g count most₀ k₀ most k = count - k
+
+loop-holds : tie.Need-loop-holds Inv-loop μ-loop
+loop-holds c = most-none _ _ _
+
+add-ahead-at : tie.Need-add-ahead-at Inv-loop μ-loop
+add-ahead-at c = search needs
+
+ahead-at-requires : tie.Need-ahead-at-requires Inv-loop μ-loop
+ahead-at-requires c κs = search needs
+
+larger-requires : tie.Need-larger-requires Inv-loop μ-loop
+larger-requires c κs = search needs
+
+add-k : tie.Need-add-k Inv-loop μ-loop
+add-k c = search needs
+
+loop-less : tie.Need-loop-less Inv-loop μ-loop
+loop-less c = omega arith
+
+loop-again : tie.Need-loop-again Inv-loop μ-loop
+loop-again c = search (needs, most-more)
+
+returns : tie.Need-returns Inv-loop μ-loop
+unfolding mostAhead
+returns c = (search (needs, most-all), search needs)
+
+pub most-ahead-spec : {M : Type 1} → statement M
+most-ahead-spec =
+    tie.close
+    (tie.spec
+    Inv-loop
+    μ-loop
+    loop-holds
+    add-ahead-at
+    ahead-at-requires
+    larger-requires
+    add-k
+    loop-less
+    loop-again
+    returns)
