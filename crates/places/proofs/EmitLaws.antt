@@ -23,7 +23,6 @@ use Rattle.pattern.specs.declared.nodes.Node.{Node}
 use Rattle.pattern.specs.Held.{body, lowOf, highestOf, lazyOf, Top, At}
 use Rattle.pattern.proofs.ByNode.{Bounded, IsAnchor, FactorAt, GroupAt, as-any, as-seq, as-alt, as-letter, as-anchor, as-empty, as-group, at-in, seq-left, seq-right, alt-left, alt-right, group-left, top-places}
 use Rattle.places.specs.Emitting.{putWords, putPlace, wayCount, waysIn, putPlaces, Fitting, Emitted, choicePlaces, Choosing, forkPlaces, Forking, treePlaces, branchPlaces, bodyPlaces, turns, turnPlaces, Emitting, Branching, Bodying, Turning, WholeSize, BodySize, anchorSort}
-use Rattle.places.specs.declared.Spot.{Spot}
 use Rattle.places.proofs.TableLaws.{fit-left, fit-right, emitted-two, emitted-none, places-length}
 use Rattle.places.proofs.CodeLaws.{tree-length, branch-length, body-length, turn-length, seq-places, branch-more, branch-one, alt-places, factor-places, factor-size, turn-copy, turn-none, turn-option, turn-star}
 
@@ -146,27 +145,24 @@ module _ (s : List ℕ) (i : ℕ) (n : Node) (en : n ≡ nodeAt s i) where
 
 -- ---- two parts
 
-module _ (T : List ℕ) (at : Spot) (k : ℕ) (whole xs : List Place) (Q : ℕ → List Place) (v : ℕ) (ew : whole ≡ xs ++ Q v) (ev : v ≡ at .place + length xs) where
-  part-left : (j : ℕ) → j ≤ 256 → Fitting T at k whole → Fitting T at j xs
-  part-left j h f = fit-left T at k xs (Q v) j h (subst (Fitting T at k) ew f)
+module _ (T : List ℕ) (b w k : ℕ) (whole xs : List Place) (Q : ℕ → List Place) (v : ℕ) (ew : whole ≡ xs ++ Q v) (ev : v ≡ b + length xs) where
+  part-left : (j : ℕ) → j ≤ 256 → Fitting T b w k whole → Fitting T b w j xs
+  part-left j h f = fit-left T b w k xs (Q v) j h (subst (Fitting T b w k) ew f)
 
-  module _ (T1 : List ℕ) (r : Spot) (d : Emitted T T1 at r xs) where
-    part-here : r .place ≡ v
-    part-here = d .place ∙ sym ev
+  module _ (T1 : List ℕ) (r : ℕ) (d : Emitted T T1 b w r xs) where
+    part-right : Fitting T b w k whole → Fitting T1 v r k (Q v)
+    part-right f = fit-right T b w k xs (Q v) T1 v r ev d (subst (Fitting T b w k) ew f)
 
-    part-right : Fitting T at k whole → Fitting T1 r k (Q (r .place))
-    part-right f = subst (λ (x : ℕ). Fitting T1 r k (Q x)) (sym part-here) (fit-right T at k xs (Q v) T1 r d (subst (Fitting T at k) ew f))
+    part-both : (T2 : List ℕ) (q : ℕ) → Emitted T1 T2 v r q (Q v) → Emitted T T2 b w q whole
+    part-both T2 q g = subst (Emitted T T2 b w q) (sym ew) (emitted-two T T1 T2 b w v r q xs (Q v) ev d g)
 
-    part-both : (T2 : List ℕ) (q : Spot) → Emitted T1 T2 r q (Q (r .place)) → Emitted T T2 at q whole
-    part-both T2 q g = subst (Emitted T T2 at q) (sym ew) (emitted-two T T1 T2 at r q xs (Q v) d (subst (λ (x : ℕ). Emitted T1 T2 r q (Q x)) part-here g))
-
-pub emitted-length : (T exit : List ℕ) (at r : Spot) (pl : List Place) → Emitted T exit at r pl → length exit ≡ length T
-emitted-length T exit at r pl d = ap length (d .is) ∙ places-length T (at .place) (at .way) pl
+pub emitted-length : (T exit : List ℕ) (b w r : ℕ) (pl : List Place) → Emitted T exit b w r pl → length exit ≡ length T
+emitted-length T exit b w r pl d = ap length (d .is) ∙ places-length T b w pl
 
 -- a list of no places is put by doing nothing
-nothing-put : (T : List ℕ) (at : Spot) (pl : List Place) → length pl ≡ 0 → Emitted T T at at pl
-nothing-put T at [] e = emitted-none T at
-nothing-put T at (p ∷ pl) e = absurd (omega arith)
+nothing-put : (T : List ℕ) (b w : ℕ) (pl : List Place) → length pl ≡ 0 → Emitted T T b w w pl
+nothing-put T b w [] e = emitted-none T b w
+nothing-put T b w (p ∷ pl) e = absurd (omega arith)
 
 no-list : (pl : List Place) → length pl ≡ 0 → pl ≡ []
 no-list [] e = refl
@@ -178,28 +174,28 @@ low-pick false k b h g = g
 
 -- ---- emit
 
-module _ (s : List ℕ) (i : ℕ) (n : Node) (en : n ≡ nodeAt s i) (T : List ℕ) (at : Spot) (k : ℕ) where
-  emit-at : Emitting s i T at k → At s i
+module _ (s : List ℕ) (i : ℕ) (n : Node) (en : n ≡ nodeAt s i) (T : List ℕ) (b w k : ℕ) where
+  emit-at : Emitting s i T b w k → At s i
   emit-at h = record { tree = h .tree; is = h .top }
 
   -- the places of the top node are those of the tree, which end by 256
-  exact : (p : Tree pattern) → Top p i s → Fitting T at k (treePlaces p (at .place) k) → (n .places ≡ placeCount p) × (at .place + (fork p + placeCount p) ≤ 256)
+  exact : (p : Tree pattern) → Top p i s → Fitting T b w k (treePlaces p b k) → (n .places ≡ placeCount p) × (b + (fork p + placeCount p) ≤ 256)
   exact p t f =
       let a : n .places ≡ min (placeCount p) 257 = ap (λ (y : Node). y .places) en ∙ top-places s i p t in
-      let l = tree-length p (at .place) k in
+      let l = tree-length p b k in
       let g = f .place in
       (omega arith, omega arith)
 
-  pub emit-end : Emitting s i T at k → Fits-in w64 (at .place + n .places)
+  pub emit-end : Emitting s i T b w k → Fits-in w64 (b + n .places)
   emit-end h = let x = exact (h .tree) (h .top) (h .fits) in record { fits = omega (arith, x .0, x .1) }
 
   -- no places
-  pub emit-none : (n .sort ≡ Alternation → ⊥) → at .place + n .places ≡ at .place → (h : Emitting s i T at k) → Emitted T T at at (treePlaces (h .tree) (at .place) k)
+  pub emit-none : (n .sort ≡ Alternation → ⊥) → b + n .places ≡ b → (h : Emitting s i T b w k) → Emitted T T b w w (treePlaces (h .tree) b k)
   unfolding fork
   emit-none na e h =
       let f : fork (h .tree) ≡ 0 = as-any s i n en (λ p. fork p ≡ 0) (λ F q. refl) (λ f b q. refl) (λ b p q. absurd (na (q .sort))) (h .tree) (h .top) in
       let x = exact (h .tree) (h .top) (h .fits) in
-      nothing-put T at (treePlaces (h .tree) (at .place) k) (omega (arith, x .0, tree-length (h .tree) (at .place) k))
+      nothing-put T b w (treePlaces (h .tree) b k) (omega (arith, x .0, tree-length (h .tree) b k))
 
   -- a sequence
   module _ (e : n .sort ≡ Sequence) (m : ℕ) (em : m ≡ (nodeAt s (n .left)) .places) where
@@ -208,158 +204,161 @@ module _ (s : List ℕ) (i : ℕ) (n : Node) (en : n ≡ nodeAt s i) (T : List �
       rest : Tree branch
       left-top : Top (one (last first)) (n .left) s
       right-top : Top (one rest) (n .right) s
-      split : treePlaces p (at .place) k ≡ treePlaces (one (last first)) (at .place) nx ++ treePlaces (one rest) (at .place + m) k
-      long : at .place + m ≡ at .place + length (treePlaces (one (last first)) (at .place) nx)
-      low : at .place + m ≤ 256
+      split : treePlaces p b k ≡ treePlaces (one (last first)) b nx ++ treePlaces (one rest) (b + m) k
+      long : b + m ≡ b + length (treePlaces (one (last first)) b nx)
+      low : b + m ≤ 256
 
-    seq-parts : (nx : ℕ) → nx ≡ pick (eqb (at .place + m) (at .place + n .places)) k (at .place + m) → (p : Tree pattern) → Top p i s
-        → Fitting T at k (treePlaces p (at .place) k) → SeqParts nx p
+    seq-parts : (nx : ℕ) → nx ≡ pick (eqb (b + m) (b + n .places)) k (b + m) → (p : Tree pattern) → Top p i s
+        → Fitting T b w k (treePlaces p b k) → SeqParts nx p
     unfolding placeCount fork
     seq-parts nx ex p t f =
-        as-seq s i n en (λ p. (n .places ≡ placeCount p) × (at .place + (fork p + placeCount p) ≤ 256) → SeqParts nx p) e
-        (λ f b q x.
+        as-seq s i n en (λ p. (n .places ≡ placeCount p) × (b + (fork p + placeCount p) ≤ 256) → SeqParts nx p) e
+        (λ f g q x.
         let d = top-places s (n .left) (one (last f)) (q .left) in
         let y = x .1 in
         let c : m ≡ placeCount f = omega arith in
-        let l = tree-length (one (last f)) (at .place) nx in
+        let l = tree-length (one (last f)) b nx in
         record {
           first = f;
-          rest = b;
+          rest = g;
           left-top = q .left;
           right-top = q .right;
-          split = seq-places f b (at .place) k m (at .place + n .places) nx c (ap (λ (v : ℕ). at .place + v) (x .0)) ex;
+          split = seq-places f g b k m (b + n .places) nx c (ap (λ (v : ℕ). b + v) (x .0)) ex;
           long = omega arith;
           low = omega arith;
         })
         p t (exact p t f)
 
-    pub seq-left-in : Emitting s i T at k → 8 * n .left + 8 ≤ length s
+    pub seq-left-in : Emitting s i T b w k → 8 * n .left + 8 ≤ length s
     seq-left-in h = at-in s (n .left) ((seq-left s i n en ((nodeAt s i) .height) refl (emit-at h) e) .1)
 
-    pub seq-mid : Emitting s i T at k → Fits-in w64 (at .place + m)
+    pub seq-mid : Emitting s i T b w k → Fits-in w64 (b + m)
     seq-mid h = let x = seq-parts _ refl (h .tree) (h .top) (h .fits) in record { fits = omega (arith, x .low) }
 
     -- the first part has no places
-    module _ (z : at .place + m ≡ at .place) (h : Emitting s i T at k) where
-      skipped : SeqParts (pick (eqb (at .place + m) (at .place + n .places)) k (at .place + m)) (h .tree)
+    module _ (z : b + m ≡ b) (h : Emitting s i T b w k) where
+      skipped : SeqParts (pick (eqb (b + m) (b + n .places)) k (b + m)) (h .tree)
       skipped = seq-parts _ refl (h .tree) (h .top) (h .fits)
 
-      rest-only : treePlaces (h .tree) (at .place) k ≡ treePlaces (one (skipped .rest)) (at .place) k
+      rest-only : treePlaces (h .tree) b k ≡ treePlaces (one (skipped .rest)) b k
       rest-only =
-          let e1 : treePlaces (one (last (skipped .first))) (at .place) (pick (eqb (at .place + m) (at .place + n .places)) k (at .place + m)) ≡ [] = no-list _
+          let e1 : treePlaces (one (last (skipped .first))) b (pick (eqb (b + m) (b + n .places)) k (b + m)) ≡ [] = no-list _
           (omega (arith, skipped .long)) in
-          skipped .split ∙ ap (λ (xs : List Place). xs ++ treePlaces (one (skipped .rest)) (at .place + m) k) e1
+          skipped .split ∙ ap (λ (xs : List Place). xs ++ treePlaces (one (skipped .rest)) (b + m) k) e1
           ∙ ap (λ (v : ℕ). treePlaces (one (skipped .rest)) v k) z
 
-      skip-emitting : Emitting s (n .right) T at k
-      skip-emitting = record { tree = one (skipped .rest); top = skipped .right-top; fits = subst (Fitting T at k) rest-only (h .fits) }
+      skip-emitting : Emitting s (n .right) T b w k
+      skip-emitting = record { tree = one (skipped .rest); top = skipped .right-top; fits = subst (Fitting T b w k) rest-only (h .fits) }
 
-      pub seq-skip : (u : ℕ) → emitM s i ≡ u → (emitM s (n .right) < u) × Emitting s (n .right) T at k
+      pub seq-skip : (u : ℕ) → emitM s i ≡ u → (emitM s (n .right) < u) × Emitting s (n .right) T b w k
       unfolding emitM
       seq-skip u eu = (omega (arith, (seq-right s i n en ((nodeAt s i) .height) refl (emit-at h) e) .0, alt-small ((nodeAt s (n .right)) .sort)), skip-emitting)
 
-      pub seq-skipped : (T2 : List ℕ) (q : Spot) → ((g : Emitting s (n .right) T at k) → Emitted T T2 at q (treePlaces (g .tree) (at .place) k))
-          → Emitted T T2 at q (treePlaces (h .tree) (at .place) k)
+      pub seq-skipped : (T2 : List ℕ) (q : ℕ) → ((g : Emitting s (n .right) T b w k) → Emitted T T2 b w q (treePlaces (g .tree) b k))
+          → Emitted T T2 b w q (treePlaces (h .tree) b k)
       unfolding skip-emitting
-      seq-skipped T2 q g = subst (Emitted T T2 at q) (sym rest-only) (g skip-emitting)
+      seq-skipped T2 q g = subst (Emitted T T2 b w q) (sym rest-only) (g skip-emitting)
 
-    module _ (nx : ℕ) (ex : nx ≡ pick (eqb (at .place + m) (at .place + n .places)) k (at .place + m)) (h : Emitting s i T at k) where
+    module _ (nx : ℕ) (ex : nx ≡ pick (eqb (b + m) (b + n .places)) k (b + m)) (h : Emitting s i T b w k) where
       seq : SeqParts nx (h .tree)
       seq = seq-parts nx ex (h .tree) (h .top) (h .fits)
 
-      first-emitting : Emitting s (n .left) T at nx
+      first-emitting : Emitting s (n .left) T b w nx
       first-emitting =
           record {
             tree = one (last (seq .first));
             top = seq .left-top;
-            fits = part-left T at k (treePlaces (h .tree) (at .place) k) (treePlaces (one (last (seq .first))) (at .place) nx) (λ v. treePlaces (one (seq .rest)) v k)
-                (at .place + m) (seq .split) (seq .long)
-                nx (rw ex (low-pick (eqb (at .place + m) (at .place + n .places)) k (at .place + m) (h .fits .behind) (seq .low))) (h .fits);
+            fits = part-left T b w k (treePlaces (h .tree) b k) (treePlaces (one (last (seq .first))) b nx) (λ v. treePlaces (one (seq .rest)) v k)
+                (b + m) (seq .split) (seq .long)
+                nx (rw ex (low-pick (eqb (b + m) (b + n .places)) k (b + m) (h .fits .behind) (seq .low))) (h .fits);
           }
 
-      pub seq-first : (u : ℕ) → emitM s i ≡ u → (emitM s (n .left) < u) × Emitting s (n .left) T at nx
+      pub seq-first : (u : ℕ) → emitM s i ≡ u → (emitM s (n .left) < u) × Emitting s (n .left) T b w nx
       unfolding emitM
       seq-first u eu = (omega (arith, (seq-left s i n en ((nodeAt s i) .height) refl (emit-at h) e) .0, alt-small ((nodeAt s (n .left)) .sort)), first-emitting)
 
-      module _ (T1 : List ℕ) (r : Spot) (d : (g : Emitting s (n .left) T at nx) → Emitted T T1 at r (treePlaces (g .tree) (at .place) nx)) where
-        first-done : Emitted T T1 at r (treePlaces (one (last (seq .first))) (at .place) nx)
+      module _ (T1 : List ℕ) (r : ℕ) (d : (g : Emitting s (n .left) T b w nx) → Emitted T T1 b w r (treePlaces (g .tree) b nx)) where
+        first-done : Emitted T T1 b w r (treePlaces (one (last (seq .first))) b nx)
         unfolding first-emitting
         first-done = d first-emitting
 
-        second-emitting : Emitting s (n .right) T1 r k
+        second-emitting : Emitting s (n .right) T1 (b + m) r k
         second-emitting =
             record {
               tree = one (seq .rest);
               top = seq .right-top;
-              fits = part-right T at k (treePlaces (h .tree) (at .place) k) (treePlaces (one (last (seq .first))) (at .place) nx) (λ v. treePlaces (one (seq .rest)) v k)
-                  (at .place + m) (seq .split) (seq .long) T1 r first-done (h .fits);
+              fits = part-right T b w k (treePlaces (h .tree) b k) (treePlaces (one (last (seq .first))) b nx) (λ v. treePlaces (one (seq .rest)) v k)
+                  (b + m) (seq .split) (seq .long) T1 r first-done (h .fits);
             }
 
-        pub seq-second : (u : ℕ) → emitM s i ≡ u → (emitM s (n .right) < u) × Emitting s (n .right) T1 r k
+        pub seq-second : (u : ℕ) → emitM s i ≡ u → (emitM s (n .right) < u) × Emitting s (n .right) T1 (b + m) r k
         unfolding emitM
         seq-second u eu = (omega (arith, (seq-right s i n en ((nodeAt s i) .height) refl (emit-at h) e) .0, alt-small ((nodeAt s (n .right)) .sort)), second-emitting)
 
-        pub seq-done : (T2 : List ℕ) (q : Spot) → ((g : Emitting s (n .right) T1 r k) → Emitted T1 T2 r q (treePlaces (g .tree) (r .place) k))
-            → Emitted T T2 at q (treePlaces (h .tree) (at .place) k)
+        pub seq-done : (T2 : List ℕ) (q : ℕ) → ((g : Emitting s (n .right) T1 (b + m) r k) → Emitted T1 T2 (b + m) r q (treePlaces (g .tree) (b + m) k))
+            → Emitted T T2 b w q (treePlaces (h .tree) b k)
         unfolding second-emitting
         seq-done T2 q g =
-            part-both T at k (treePlaces (h .tree) (at .place) k) (treePlaces (one (last (seq .first))) (at .place) nx) (λ v. treePlaces (one (seq .rest)) v k) (at .place + m)
+            part-both T b w k (treePlaces (h .tree) b k) (treePlaces (one (last (seq .first))) b nx) (λ v. treePlaces (one (seq .rest)) v k) (b + m)
             (seq .split) (seq .long) T1 r first-done T2 q (g second-emitting)
 
   -- an alternation
   module _ (e : n .sort ≡ Alternation) where
     record AltParts (p : Tree pattern) : Type 0 where
-      split : treePlaces p (at .place) k ≡ forkPlaces p (at .place) k ++ branchPlaces p (at .place + 1) k
-      room : at .place + 1 + sizes (unrolled p) ≤ 256
+      split : treePlaces p b k ≡ forkPlaces p b k ++ branchPlaces p (b + 1) k
+      room : b + 1 + sizes (unrolled p) ≤ 256
 
-    alt-parts : (p : Tree pattern) → Top p i s → Fitting T at k (treePlaces p (at .place) k) → AltParts p
+    alt-parts : (p : Tree pattern) → Top p i s → Fitting T b w k (treePlaces p b k) → AltParts p
     unfolding placeCount fork
     alt-parts p t f =
-        as-alt s i n en (λ p. (n .places ≡ placeCount p) × (at .place + (fork p + placeCount p) ≤ 256) → AltParts p) e
-        (λ b p q x. let y = x .1 in let z : sizes (unrolled (more b p)) ≡ placeCount (more b p) = unrolled-size (more b p) in record
-        { split = alt-places b p (at .place) k; room = omega arith })
+        as-alt s i n en (λ p. (n .places ≡ placeCount p) × (b + (fork p + placeCount p) ≤ 256) → AltParts p) e
+        (λ g p q x. let y = x .1 in let z : sizes (unrolled (more g p)) ≡ placeCount (more g p) = unrolled-size (more g p) in record
+        { split = alt-places g p b k; room = omega arith })
         p t (exact p t f)
 
-    module _ (h : Emitting s i T at k) where
+    module _ (h : Emitting s i T b w k) where
       alt : AltParts (h .tree)
       alt = alt-parts (h .tree) (h .top) (h .fits)
 
-      one-long : at .place + 1 ≡ at .place + length (forkPlaces (h .tree) (at .place) k)
+      pub alt-first : Fits-in w64 (b + 1)
+      alt-first = record { fits = omega (arith, h .fits .place) }
+
+      one-long : b + 1 ≡ b + length (forkPlaces (h .tree) b k)
       one-long = omega arith
 
-      pub alt-forking : Forking s i T at k
+      pub alt-forking : Forking s i T b w k
       alt-forking =
           record {
             tree = h .tree;
             top = h .top;
-            fits = part-left T at k (treePlaces (h .tree) (at .place) k) (forkPlaces (h .tree) (at .place) k) (λ v. branchPlaces (h .tree) v k) (at .place + 1) (alt .split)
+            fits = part-left T b w k (treePlaces (h .tree) b k) (forkPlaces (h .tree) b k) (λ v. branchPlaces (h .tree) v k) (b + 1) (alt .split)
                 one-long k (h .fits .behind) (h .fits);
             room = alt .room;
           }
 
-      module _ (T1 : List ℕ) (r : Spot) (d : (g : Forking s i T at k) → Emitted T T1 at r (forkPlaces (g .tree) (at .place) k)) where
-        fork-done : Emitted T T1 at r (forkPlaces (h .tree) (at .place) k)
+      module _ (T1 : List ℕ) (r : ℕ) (d : (g : Forking s i T b w k) → Emitted T T1 b w r (forkPlaces (g .tree) b k)) where
+        fork-done : Emitted T T1 b w r (forkPlaces (h .tree) b k)
         unfolding alt-forking
         fork-done = d alt-forking
 
-        inside-branching : Branching s i T1 r k
+        inside-branching : Branching s i T1 (b + 1) r k
         inside-branching =
             record {
               tree = h .tree;
               top = h .top;
-              fits = part-right T at k (treePlaces (h .tree) (at .place) k) (forkPlaces (h .tree) (at .place) k) (λ v. branchPlaces (h .tree) v k) (at .place + 1) (alt .split)
+              fits = part-right T b w k (treePlaces (h .tree) b k) (forkPlaces (h .tree) b k) (λ v. branchPlaces (h .tree) v k) (b + 1) (alt .split)
                   one-long T1 r fork-done (h .fits);
             }
 
-        pub alt-inside : (u : ℕ) → emitM s i ≡ u → (branchM s i < u) × Branching s i T1 r k
+        pub alt-inside : (u : ℕ) → emitM s i ≡ u → (branchM s i < u) × Branching s i T1 (b + 1) r k
         unfolding emitM branchM
-        alt-inside u eu = let b : altBit ((nodeAt s i) .sort) ≡ 2 = ap altBit (ap (λ (y : Node). y .sort) (sym en) ∙ e) in (omega arith, inside-branching)
+        alt-inside u eu = let two : altBit ((nodeAt s i) .sort) ≡ 2 = ap altBit (ap (λ (y : Node). y .sort) (sym en) ∙ e) in (omega arith, inside-branching)
 
-        pub alt-done : (T2 : List ℕ) (q : Spot) → ((g : Branching s i T1 r k) → Emitted T1 T2 r q (branchPlaces (g .tree) (r .place) k))
-            → Emitted T T2 at q (treePlaces (h .tree) (at .place) k)
+        pub alt-done : (T2 : List ℕ) (q : ℕ) → ((g : Branching s i T1 (b + 1) r k) → Emitted T1 T2 (b + 1) r q (branchPlaces (g .tree) (b + 1) k))
+            → Emitted T T2 b w q (treePlaces (h .tree) b k)
         unfolding inside-branching
         alt-done T2 q g =
-            part-both T at k (treePlaces (h .tree) (at .place) k) (forkPlaces (h .tree) (at .place) k) (λ v. branchPlaces (h .tree) v k) (at .place + 1) (alt .split) one-long T1
+            part-both T b w k (treePlaces (h .tree) b k) (forkPlaces (h .tree) b k) (λ v. branchPlaces (h .tree) v k) (b + 1) (alt .split) one-long T1
             r fork-done T2 q (g inside-branching)
 
   -- a factor
@@ -372,13 +371,13 @@ module _ (s : List ℕ) (i : ℕ) (n : Node) (en : n ≡ nodeAt s i) (T : List �
     factor-of : (p : Tree pattern) → Top p i s → FactorOf p
     factor-of = as-any s i n en FactorOf (λ F q. record { of = F; is = refl; seen = q }) (λ f b q. absurd (ns (q .sort))) (λ b p q. absurd (na (q .sort)))
 
-    pub emit-node : Emitting s i T at k → At s i
+    pub emit-node : Emitting s i T b w k → At s i
     emit-node h = emit-at h
 
-    pub turn-order : Emitting s i T at k → n .low ≤ n .high
+    pub turn-order : Emitting s i T b w k → n .low ≤ n .high
     turn-order h = let F = factor-of (h .tree) (h .top) in F .seen .order .in-order
 
-    module _ (c : ℕ) (hc : BodySize s i c) (m : ℕ) (em : m ≡ pick (eqb (n .high) 100) 100 (n .high - n .low)) (h : Emitting s i T at k) where
+    module _ (c : ℕ) (hc : BodySize s i c) (m : ℕ) (em : m ≡ pick (eqb (n .high) 100) 100 (n .high - n .low)) (h : Emitting s i T b w k) where
       F : FactorOf (h .tree)
       F = factor-of (h .tree) (h .top)
 
@@ -389,8 +388,8 @@ module _ (s : List ℕ) (i : ℕ) (n : Node) (en : n ≡ nodeAt s i) (T : List �
       more-is = em ∙ ap (λ (v : ℕ). pick (eqb v 100) 100 (v - n .low)) (F .seen .high) ∙ ap (λ (v : ℕ). pick (eqb (highestOf (F .of)) 100) 100 (highestOf (F .of) - v))
           (F .seen .low)
 
-      same-places : treePlaces (h .tree) (at .place) k ≡ turnPlaces (n .low) m (F .of) (at .place) k
-      same-places = ap (λ (p : Tree pattern). treePlaces p (at .place) k) (F .is) ∙ factor-places (F .of) (at .place) k (n .low) m (F .seen .bounds) (F .seen .low) more-is
+      same-places : treePlaces (h .tree) b k ≡ turnPlaces (n .low) m (F .of) b k
+      same-places = ap (λ (p : Tree pattern). treePlaces p b k) (F .is) ∙ factor-places (F .of) b k (n .low) m (F .seen .bounds) (F .seen .low) more-is
 
       factor-count : (n .places ≡ placeCount (F .of)) × (placeCount (F .of) ≤ 256)
       unfolding placeCount
@@ -406,260 +405,283 @@ module _ (s : List ℕ) (i : ℕ) (n : Node) (en : n ≡ nodeAt s i) (T : List �
           low true = omega arith
           low false = omega (arith, F .seen .order .high-small)
 
-      turning : Turning s i c (n .low) m (at .place + n .places) T at k
+      turning : Turning s i c (n .low) m (b + n .places) T b w k
       turning =
           let z : size (unrolled (body (F .of))) ≡ placeCount (body (F .of)) = unrolled-size (body (F .of)) in
           record {
             of = F .of;
             top = factor-top;
             each = hc (F .of) factor-top (factor-count .1) ∙ sym z;
-            ends = ap (λ (v : ℕ). at .place + v) (factor-count .0 ∙ sym (factor-size (F .of) (n .low) m (F .seen .bounds) (F .seen .low) more-is));
+            ends = ap (λ (v : ℕ). b + v) (factor-count .0 ∙ sym (factor-size (F .of) (n .low) m (F .seen .bounds) (F .seen .low) more-is));
             few = (F .seen .order .low-small, more-small);
-            fits = subst (Fitting T at k) same-places (h .fits);
+            fits = subst (Fitting T b w k) same-places (h .fits);
           }
 
-      pub turn-first : (u : ℕ) → emitM s i ≡ u → (roundM s i (n .low) m < u) × Turning s i c (n .low) m (at .place + n .places) T at k
+      pub turn-first : (u : ℕ) → emitM s i ≡ u → (roundM s i (n .low) m < u) × Turning s i c (n .low) m (b + n .places) T b w k
       unfolding emitM roundM
       turn-first u eu = (omega (arith, F .seen .order .low-small, more-small), turning)
 
-      pub turn-done : (T2 : List ℕ) (q : Spot) → ((g : Turning s i c (n .low) m (at .place + n .places) T at k)
-          → Emitted T T2 at q (turnPlaces (n .low) m (g .of) (at .place) k)) → Emitted T T2 at q (treePlaces (h .tree) (at .place) k)
+      pub turn-done : (T2 : List ℕ) (q : ℕ) → ((g : Turning s i c (n .low) m (b + n .places) T b w k)
+          → Emitted T T2 b w q (turnPlaces (n .low) m (g .of) b k)) → Emitted T T2 b w q (treePlaces (h .tree) b k)
       unfolding turning
-      turn-done T2 q g = subst (Emitted T T2 at q) (sym same-places) (g turning)
+      turn-done T2 q g = subst (Emitted T T2 b w q) (sym same-places) (g turning)
 
-pub emit-in : (s : List ℕ) (i : ℕ) (T : List ℕ) (at : Spot) (k : ℕ) → Emitting s i T at k → 8 * i + 8 ≤ length s
-emit-in s i T at k h = at-in s i (record { tree = h .tree; is = h .top })
+pub emit-in : (s : List ℕ) (i : ℕ) (T : List ℕ) (b w k : ℕ) → Emitting s i T b w k → 8 * i + 8 ≤ length s
+emit-in s i T b w k h = at-in s i (record { tree = h .tree; is = h .top })
 
 -- ---- branches
 
-pub branches-in : (s : List ℕ) (i : ℕ) (T : List ℕ) (at : Spot) (k : ℕ) → Branching s i T at k → 8 * i + 8 ≤ length s
-branches-in s i T at k h = at-in s i (record { tree = h .tree; is = h .top })
+pub branches-in : (s : List ℕ) (i : ℕ) (T : List ℕ) (b w k : ℕ) → Branching s i T b w k → 8 * i + 8 ≤ length s
+branches-in s i T b w k h = at-in s i (record { tree = h .tree; is = h .top })
 
-module _ (s : List ℕ) (i : ℕ) (n : Node) (en : n ≡ nodeAt s i) (T : List ℕ) (at : Spot) (k : ℕ) where
-  branching-at : Branching s i T at k → At s i
+module _ (s : List ℕ) (i : ℕ) (n : Node) (en : n ≡ nodeAt s i) (T : List ℕ) (b w k : ℕ) where
+  branching-at : Branching s i T b w k → At s i
   branching-at h = record { tree = h .tree; is = h .top }
 
   -- no places
-  pub branches-none : n .places ≡ 0 → (h : Branching s i T at k) → Emitted T T at at (branchPlaces (h .tree) (at .place) k)
+  pub branches-none : n .places ≡ 0 → (h : Branching s i T b w k) → Emitted T T b w w (branchPlaces (h .tree) b k)
   branches-none e h =
       let a : n .places ≡ min (placeCount (h .tree)) 257 = ap (λ (y : Node). y .places) en ∙ top-places s i (h .tree) (h .top) in
-      nothing-put T at (branchPlaces (h .tree) (at .place) k) (omega (arith, branch-length (h .tree) (at .place) k))
+      nothing-put T b w (branchPlaces (h .tree) b k) (omega (arith, branch-length (h .tree) b k))
 
-  module _ (e : n .sort ≡ Alternation) where
+  module _ (e : n .sort ≡ Alternation) (m : ℕ) (em : m ≡ (nodeAt s (n .left)) .places) where
     record BranchParts (p : Tree pattern) : Type 0 where
       first : Tree branch
       rest : Tree pattern
       left-top : Top (one first) (n .left) s
       right-top : Top rest (n .right) s
-      split : branchPlaces p (at .place) k ≡ treePlaces (one first) (at .place) k ++ branchPlaces rest (at .place + placeCount first) k
-      long : at .place + placeCount first ≡ at .place + length (treePlaces (one first) (at .place) k)
+      split : branchPlaces p b k ≡ treePlaces (one first) b k ++ branchPlaces rest (b + m) k
+      long : b + m ≡ b + length (treePlaces (one first) b k)
+      low : b + m ≤ 256
 
-    branch-parts : (p : Tree pattern) → Top p i s → BranchParts p
+    branch-parts : (p : Tree pattern) → Top p i s → Fitting T b w k (branchPlaces p b k) → BranchParts p
     unfolding placeCount fork
     branch-parts =
-        as-alt s i n en BranchParts e λ b p q.
-        let l = tree-length (one b) (at .place) k in
-        record { first = b; rest = p; left-top = q .left; right-top = q .right; split = branch-more b p (at .place) k (at .place + placeCount b) refl; long = omega arith }
+        as-alt s i n en (λ p. Fitting T b w k (branchPlaces p b k) → BranchParts p) e λ g p q f.
+        let d = top-places s (n .left) (one g) (q .left) in
+        let y = branch-length (more g p) b k in
+        let z = f .place in
+        let c : m ≡ placeCount g = omega arith in
+        let l = tree-length (one g) b k in
+        record {
+          first = g;
+          rest = p;
+          left-top = q .left;
+          right-top = q .right;
+          split = branch-more g p b k (b + m) (ap (λ (v : ℕ). b + v) c);
+          long = omega arith;
+          low = omega arith;
+        }
 
-    module _ (h : Branching s i T at k) where
+    pub branch-left-in : Branching s i T b w k → 8 * n .left + 8 ≤ length s
+    branch-left-in h = at-in s (n .left) ((alt-left s i n en ((nodeAt s i) .height) refl (branching-at h) e) .1)
+
+    pub branch-mid : Branching s i T b w k → Fits-in w64 (b + m)
+    branch-mid h = record { fits = omega (arith, (branch-parts (h .tree) (h .top) (h .fits)) .low) }
+
+    module _ (h : Branching s i T b w k) where
       parts : BranchParts (h .tree)
-      parts = branch-parts (h .tree) (h .top)
+      parts = branch-parts (h .tree) (h .top) (h .fits)
 
-      branch-emitting : Emitting s (n .left) T at k
+      branch-emitting : Emitting s (n .left) T b w k
       branch-emitting =
           record {
             tree = one (parts .first);
             top = parts .left-top;
-            fits = part-left T at k (branchPlaces (h .tree) (at .place) k) (treePlaces (one (parts .first)) (at .place) k) (λ v. branchPlaces (parts .rest) v k)
-                (at .place + placeCount (parts .first)) (parts .split) (parts .long)
+            fits = part-left T b w k (branchPlaces (h .tree) b k) (treePlaces (one (parts .first)) b k) (λ v. branchPlaces (parts .rest) v k)
+                (b + m) (parts .split) (parts .long)
                 k (h .fits .behind) (h .fits);
           }
 
-      pub branch-first : (u : ℕ) → branchM s i ≡ u → (emitM s (n .left) < u) × Emitting s (n .left) T at k
+      pub branch-first : (u : ℕ) → branchM s i ≡ u → (emitM s (n .left) < u) × Emitting s (n .left) T b w k
       unfolding emitM branchM
       branch-first u eu = (omega (arith, (alt-left s i n en ((nodeAt s i) .height) refl (branching-at h) e) .0, alt-small ((nodeAt s (n .left)) .sort)), branch-emitting)
 
-      module _ (T1 : List ℕ) (r : Spot) (d : (g : Emitting s (n .left) T at k) → Emitted T T1 at r (treePlaces (g .tree) (at .place) k)) where
-        branch-put : Emitted T T1 at r (treePlaces (one (parts .first)) (at .place) k)
+      module _ (T1 : List ℕ) (r : ℕ) (d : (g : Emitting s (n .left) T b w k) → Emitted T T1 b w r (treePlaces (g .tree) b k)) where
+        branch-put : Emitted T T1 b w r (treePlaces (one (parts .first)) b k)
         unfolding branch-emitting
         branch-put = d branch-emitting
 
-        rest-branching : Branching s (n .right) T1 r k
+        rest-branching : Branching s (n .right) T1 (b + m) r k
         rest-branching =
             record {
               tree = parts .rest;
               top = parts .right-top;
-              fits = part-right T at k (branchPlaces (h .tree) (at .place) k) (treePlaces (one (parts .first)) (at .place) k) (λ v. branchPlaces (parts .rest) v k)
-                  (at .place + placeCount (parts .first)) (parts .split) (parts .long) T1 r branch-put (h .fits);
+              fits = part-right T b w k (branchPlaces (h .tree) b k) (treePlaces (one (parts .first)) b k) (λ v. branchPlaces (parts .rest) v k)
+                  (b + m) (parts .split) (parts .long) T1 r branch-put (h .fits);
             }
 
-        pub branch-second : (u : ℕ) → branchM s i ≡ u → (branchM s (n .right) < u) × Branching s (n .right) T1 r k
+        pub branch-second : (u : ℕ) → branchM s i ≡ u → (branchM s (n .right) < u) × Branching s (n .right) T1 (b + m) r k
         unfolding branchM
         branch-second u eu = (omega (arith, (alt-right s i n en ((nodeAt s i) .height) refl (branching-at h) e) .0), rest-branching)
 
-        pub branch-done : (T2 : List ℕ) (q : Spot) → ((g : Branching s (n .right) T1 r k) → Emitted T1 T2 r q (branchPlaces (g .tree) (r .place) k))
-            → Emitted T T2 at q (branchPlaces (h .tree) (at .place) k)
+        pub branch-done : (T2 : List ℕ) (q : ℕ) → ((g : Branching s (n .right) T1 (b + m) r k) → Emitted T1 T2 (b + m) r q (branchPlaces (g .tree) (b + m) k))
+            → Emitted T T2 b w q (branchPlaces (h .tree) b k)
         unfolding rest-branching
         branch-done T2 q g =
-            part-both T at k (branchPlaces (h .tree) (at .place) k) (treePlaces (one (parts .first)) (at .place) k) (λ v. branchPlaces (parts .rest) v k)
-            (at .place + placeCount (parts .first)) (parts .split) (parts .long) T1 r branch-put T2 q (g rest-branching)
+            part-both T b w k (branchPlaces (h .tree) b k) (treePlaces (one (parts .first)) b k) (λ v. branchPlaces (parts .rest) v k)
+            (b + m) (parts .split) (parts .long) T1 r branch-put T2 q (g rest-branching)
 
   module _ (e : n .sort ≡ Alternation → ⊥) where
-    single : (p : Tree pattern) → Top p i s → branchPlaces p (at .place) k ≡ treePlaces p (at .place) k
-    single = as-any s i n en (λ p. branchPlaces p (at .place) k ≡ treePlaces p (at .place) k) (λ F q. branch-one (last F) (at .place) k)
-        (λ f b q. branch-one (next f b) (at .place) k) (λ b p q. absurd (e (q .sort)))
+    single : (p : Tree pattern) → Top p i s → branchPlaces p b k ≡ treePlaces p b k
+    single = as-any s i n en (λ p. branchPlaces p b k ≡ treePlaces p b k) (λ F q. branch-one (last F) b k)
+        (λ f g q. branch-one (next f g) b k) (λ b p q. absurd (e (q .sort)))
 
-    module _ (h : Branching s i T at k) where
-      single-emitting : Emitting s i T at k
-      single-emitting = record { tree = h .tree; top = h .top; fits = subst (Fitting T at k) (single (h .tree) (h .top)) (h .fits) }
+    module _ (h : Branching s i T b w k) where
+      single-emitting : Emitting s i T b w k
+      single-emitting = record { tree = h .tree; top = h .top; fits = subst (Fitting T b w k) (single (h .tree) (h .top)) (h .fits) }
 
-      pub single-first : (u : ℕ) → branchM s i ≡ u → (emitM s i < u) × Emitting s i T at k
+      pub single-first : (u : ℕ) → branchM s i ≡ u → (emitM s i < u) × Emitting s i T b w k
       unfolding emitM branchM
       single-first u eu = (omega (arith, not-alt-bit ((nodeAt s i) .sort) (λ j. e (ap (λ (y : Node). y .sort) en ∙ j))), single-emitting)
 
-      pub single-done : (T2 : List ℕ) (q : Spot) → ((g : Emitting s i T at k) → Emitted T T2 at q (treePlaces (g .tree) (at .place) k))
-          → Emitted T T2 at q (branchPlaces (h .tree) (at .place) k)
+      pub single-done : (T2 : List ℕ) (q : ℕ) → ((g : Emitting s i T b w k) → Emitted T T2 b w q (treePlaces (g .tree) b k))
+          → Emitted T T2 b w q (branchPlaces (h .tree) b k)
       unfolding single-emitting
-      single-done T2 q g = subst (Emitted T T2 at q) (sym (single (h .tree) (h .top))) (g single-emitting)
+      single-done T2 q g = subst (Emitted T T2 b w q) (sym (single (h .tree) (h .top))) (g single-emitting)
 
 -- ---- rounds
 
-module _ (s : List ℕ) (i c n m end : ℕ) (T : List ℕ) (at : Spot) (k : ℕ) where
-  pub round-in : Turning s i c n m end T at k → 8 * i + 8 ≤ length s
+module _ (s : List ℕ) (i c n m end : ℕ) (T : List ℕ) (b w k : ℕ) where
+  pub round-in : Turning s i c n m end T b w k → 8 * i + 8 ≤ length s
   round-in h = at-in s i (record { tree = one (last (h .of)); is = h .top })
 
   -- a body's places
-  body-places : (h : Turning s i c n m end T at k) (b j : ℕ) → length (bodyPlaces (h .of) b j) ≡ c
-  body-places h b j = let z : size (unrolled (body (h .of))) ≡ placeCount (body (h .of)) = unrolled-size (body (h .of)) in body-length (h .of) b j ∙ sym z ∙ sym (h .each)
+  body-places : (h : Turning s i c n m end T b w k) (v j : ℕ) → length (bodyPlaces (h .of) v j) ≡ c
+  body-places h v j = let z : size (unrolled (body (h .of))) ≡ placeCount (body (h .of)) = unrolled-size (body (h .of)) in body-length (h .of) v j ∙ sym z ∙ sym (h .each)
 
   -- a copy
   module _ (pos : 0 < n) where
     suc-pred : n ≡ suc (n - 1)
     suc-pred = omega arith
 
-    module _ (nx : ℕ) (ex : nx ≡ pick (eqb (at .place + c) end) k (at .place + c)) (h : Turning s i c n m end T at k) where
-      copy-split : turnPlaces n m (h .of) (at .place) k ≡ bodyPlaces (h .of) (at .place) nx ++ turnPlaces (n - 1) m (h .of) (at .place + c) k
-      copy-split = turn-copy (h .of) c (at .place) k end (h .each) n (n - 1) m nx suc-pred (h .ends) ex
+    module _ (nx : ℕ) (ex : nx ≡ pick (eqb (b + c) end) k (b + c)) (h : Turning s i c n m end T b w k) where
+      copy-split : turnPlaces n m (h .of) b k ≡ bodyPlaces (h .of) b nx ++ turnPlaces (n - 1) m (h .of) (b + c) k
+      copy-split = turn-copy (h .of) c b k end (h .each) n (n - 1) m nx suc-pred (h .ends) ex
 
-      copy-long : at .place + c ≡ at .place + length (bodyPlaces (h .of) (at .place) nx)
-      copy-long = ap (λ (v : ℕ). at .place + v) (sym (body-places h (at .place) nx))
+      copy-long : b + c ≡ b + length (bodyPlaces (h .of) b nx)
+      copy-long = ap (λ (v : ℕ). b + v) (sym (body-places h b nx))
 
-      copy-low : at .place + c ≤ 256
-      copy-low = let f : Fitting T at k (bodyPlaces (h .of) (at .place) nx ++ turnPlaces (n - 1) m (h .of) (at .place + c) k) = subst (Fitting T at k) copy-split (h .fits) in
-          let g = fit-left T at k (bodyPlaces (h .of) (at .place) nx) (turnPlaces (n - 1) m (h .of) (at .place + c) k) k (h .fits .behind) f in omega (arith, g .place, copy-long)
+      copy-low : b + c ≤ 256
+      copy-low = let f : Fitting T b w k (bodyPlaces (h .of) b nx ++ turnPlaces (n - 1) m (h .of) (b + c) k) = subst (Fitting T b w k) copy-split (h .fits) in
+          let g = fit-left T b w k (bodyPlaces (h .of) b nx) (turnPlaces (n - 1) m (h .of) (b + c) k) k (h .fits .behind) f in omega (arith, g .place, copy-long)
 
-      copy-bodying : Bodying s i T at nx
+      copy-bodying : Bodying s i T b w nx
       copy-bodying =
           record {
             of = h .of;
             top = h .top;
-            fits = part-left T at k (turnPlaces n m (h .of) (at .place) k) (bodyPlaces (h .of) (at .place) nx) (λ v. turnPlaces (n - 1) m (h .of) v k) (at .place + c) copy-split
+            fits = part-left T b w k (turnPlaces n m (h .of) b k) (bodyPlaces (h .of) b nx) (λ v. turnPlaces (n - 1) m (h .of) v k) (b + c) copy-split
                 copy-long
-                nx (rw ex (low-pick (eqb (at .place + c) end) k (at .place + c) (h .fits .behind) copy-low)) (h .fits);
+                nx (rw ex (low-pick (eqb (b + c) end) k (b + c) (h .fits .behind) copy-low)) (h .fits);
           }
 
-      pub copy-first : (u : ℕ) → roundM s i n m ≡ u → (bodyM s i < u) × Bodying s i T at nx
+      pub copy-first : (u : ℕ) → roundM s i n m ≡ u → (bodyM s i < u) × Bodying s i T b w nx
       unfolding roundM bodyM
       copy-first u eu = (omega arith, copy-bodying)
 
-      module _ (T1 : List ℕ) (r : Spot) (d : (g : Bodying s i T at nx) → Emitted T T1 at r (bodyPlaces (g .of) (at .place) nx)) where
-        copy-put : Emitted T T1 at r (bodyPlaces (h .of) (at .place) nx)
+      module _ (T1 : List ℕ) (r : ℕ) (d : (g : Bodying s i T b w nx) → Emitted T T1 b w r (bodyPlaces (g .of) b nx)) where
+        copy-put : Emitted T T1 b w r (bodyPlaces (h .of) b nx)
         unfolding copy-bodying
         copy-put = d copy-bodying
 
-        copy-turning : Turning s i c (n - 1) m end T1 r k
+        copy-turning : Turning s i c (n - 1) m end T1 (b + c) r k
         copy-turning =
-            let f = part-right T at k (turnPlaces n m (h .of) (at .place) k) (bodyPlaces (h .of) (at .place) nx) (λ v. turnPlaces (n - 1) m (h .of) v k) (at .place + c)
+            let f = part-right T b w k (turnPlaces n m (h .of) b k) (bodyPlaces (h .of) b nx) (λ v. turnPlaces (n - 1) m (h .of) v k) (b + c)
             copy-split copy-long T1 r copy-put (h .fits) in
-            let l1 = turn-length n m (h .of) (at .place) k in
-            let l2 = turn-length (n - 1) m (h .of) (at .place + c) k in
-            let l3 : length (turnPlaces n m (h .of) (at .place) k) ≡ length (bodyPlaces (h .of) (at .place) nx) + length (turnPlaces (n - 1) m (h .of) (at .place + c) k) = ap
-            length copy-split ∙ length-append (bodyPlaces (h .of) (at .place) nx) _ in
+            let l1 = turn-length n m (h .of) b k in
+            let l2 = turn-length (n - 1) m (h .of) (b + c) k in
+            let l3 : length (turnPlaces n m (h .of) b k) ≡ length (bodyPlaces (h .of) b nx) + length (turnPlaces (n - 1) m (h .of) (b + c) k) = ap
+            length copy-split ∙ length-append (bodyPlaces (h .of) b nx) _ in
             record {
               of = h .of;
               top = h .top;
               each = h .each;
-              ends = omega (arith, h .ends, body-places h (at .place) nx, copy-put .place);
+              ends = omega (arith, h .ends, body-places h b nx);
               few = (omega (arith, h .few .0), h .few .1);
               fits = f;
             }
 
-        pub copy-again : (u : ℕ) → roundM s i n m ≡ u → (roundM s i (n - 1) m < u) × Turning s i c (n - 1) m end T1 r k
+        pub copy-again : (u : ℕ) → roundM s i n m ≡ u → (roundM s i (n - 1) m < u) × Turning s i c (n - 1) m end T1 (b + c) r k
         unfolding roundM
         copy-again u eu = (omega arith, copy-turning)
 
-        pub copy-done : (T2 : List ℕ) (q : Spot) → ((g : Turning s i c (n - 1) m end T1 r k) → Emitted T1 T2 r q (turnPlaces (n - 1) m (g .of) (r .place) k))
-            → Emitted T T2 at q (turnPlaces n m (h .of) (at .place) k)
+        pub copy-done : (T2 : List ℕ) (q : ℕ) → ((g : Turning s i c (n - 1) m end T1 (b + c) r k) → Emitted T1 T2 (b + c) r q (turnPlaces (n - 1) m (g .of) (b + c) k))
+            → Emitted T T2 b w q (turnPlaces n m (h .of) b k)
         unfolding copy-turning
         copy-done T2 q g =
-            part-both T at k (turnPlaces n m (h .of) (at .place) k) (bodyPlaces (h .of) (at .place) nx) (λ v. turnPlaces (n - 1) m (h .of) v k) (at .place + c) copy-split
+            part-both T b w k (turnPlaces n m (h .of) b k) (bodyPlaces (h .of) b nx) (λ v. turnPlaces (n - 1) m (h .of) v k) (b + c) copy-split
             copy-long T1 r copy-put T2 q (g copy-turning)
 
-    pub copy-fits : Turning s i c n m end T at k → Fits-in w64 (at .place + c)
+    pub copy-fits : Turning s i c n m end T b w k → Fits-in w64 (b + c)
     copy-fits h = record { fits = omega (arith, copy-low _ refl h) }
 
-    pub copy-less : Turning s i c n m end T at k → 1 ≤ n
+    pub copy-less : Turning s i c n m end T b w k → 1 ≤ n
     copy-less h = omega arith
 
   -- nothing is left
-  pub none-done : n ≤ 0 → m ≡ 0 → (h : Turning s i c n m end T at k) → Emitted T T at at (turnPlaces n m (h .of) (at .place) k)
+  pub none-done : n ≤ 0 → m ≡ 0 → (h : Turning s i c n m end T b w k) → Emitted T T b w w (turnPlaces n m (h .of) b k)
   none-done l e h =
       let z : n ≡ 0 = omega arith in
-      subst (Emitted T T at at) (sym (ap (λ (v : ℕ). turnPlaces v m (h .of) (at .place) k) z ∙ ap (λ (v : ℕ). turnPlaces 0 v (h .of) (at .place) k) e
-      ∙ turn-none (h .of) c (at .place) k end (h .each))) (emitted-none T at)
+      subst (Emitted T T b w w) (sym (ap (λ (v : ℕ). turnPlaces v m (h .of) b k) z ∙ ap (λ (v : ℕ). turnPlaces 0 v (h .of) b k) e
+      ∙ turn-none (h .of) c b k end (h .each))) (emitted-none T b w)
 
   -- the node says whether the quantifier is reluctant
   node-lazy : (node : Node) → node ≡ nodeAt s i → (F : Tree factor) → Top (one (last F)) i s → node .lazy ≡ lazyOf F
   node-lazy node en F t = as-any s i node en (OnFactor (λ G. node .lazy ≡ lazyOf G)) (λ G q. q .lazy) (λ f b q. tt) (λ b p q. tt) (one (last F)) t
 
+  -- the place behind a fork
+  pub first-fits : Turning s i c n m end T b w k → Fits-in w64 (b + 1)
+  first-fits h = record { fits = omega (arith, h .fits .place) }
+
   -- a fork, and what stands behind it
   module _ (F : Tree factor) (lazy : Bool) (el : lazy ≡ lazyOf F) (co : ℕ) (Q : ℕ → List Place) (whole : List Place)
-      (ew : whole ≡ choicePlaces (lazyOf F) co k ++ Q (at .place + 1)) where
-    whole-lazy : whole ≡ choicePlaces lazy co k ++ Q (at .place + 1)
-    whole-lazy = ew ∙ ap (λ (z : Bool). choicePlaces z co k ++ Q (at .place + 1)) (sym el)
+      (ew : whole ≡ choicePlaces (lazyOf F) co k ++ Q (b + 1)) where
+    whole-lazy : whole ≡ choicePlaces lazy co k ++ Q (b + 1)
+    whole-lazy = ew ∙ ap (λ (z : Bool). choicePlaces z co k ++ Q (b + 1)) (sym el)
 
-    one-more : at .place + 1 ≡ at .place + length (choicePlaces lazy co k)
+    one-more : b + 1 ≡ b + length (choicePlaces lazy co k)
     one-more = omega arith
 
-    choose : co ≤ 256 → Fitting T at k whole → Choosing T at lazy co k
-    choose l f = record { fits = part-left T at k whole (choicePlaces lazy co k) Q (at .place + 1) whole-lazy one-more k (f .behind) f; copied = l }
+    choose : co ≤ 256 → Fitting T b w k whole → Choosing T b w lazy co k
+    choose l f = record { fits = part-left T b w k whole (choicePlaces lazy co k) Q (b + 1) whole-lazy one-more k (f .behind) f; copied = l }
 
-    chosen : Fitting T at k whole → (T1 : List ℕ) (r : Spot) → Emitted T T1 at r (choicePlaces lazy co k) → Fitting T1 r k (Q (r .place))
-    chosen f T1 r d = part-right T at k whole (choicePlaces lazy co k) Q (at .place + 1) whole-lazy one-more T1 r d f
+    chosen : Fitting T b w k whole → (T1 : List ℕ) (r : ℕ) → Emitted T T1 b w r (choicePlaces lazy co k) → Fitting T1 (b + 1) r k (Q (b + 1))
+    chosen f T1 r d = part-right T b w k whole (choicePlaces lazy co k) Q (b + 1) whole-lazy one-more T1 r d f
 
-    chosen-done : (T1 T2 : List ℕ) (r q : Spot) → Emitted T T1 at r (choicePlaces lazy co k) → Emitted T1 T2 r q (Q (r .place)) → Emitted T T2 at q whole
-    chosen-done T1 T2 r q d g = part-both T at k whole (choicePlaces lazy co k) Q (at .place + 1) whole-lazy one-more T1 r d T2 q g
+    chosen-done : (T1 T2 : List ℕ) (r q : ℕ) → Emitted T T1 b w r (choicePlaces lazy co k) → Emitted T1 T2 (b + 1) r q (Q (b + 1)) → Emitted T T2 b w q whole
+    chosen-done T1 T2 r q d g = part-both T b w k whole (choicePlaces lazy co k) Q (b + 1) whole-lazy one-more T1 r d T2 q g
 
   -- places that begin with a fork leave room for it
-  fork-low : (z : Bool) (co : ℕ) (ys : List Place) → Fitting T at k (choicePlaces z co k ++ ys) → at .place + 1 + length ys ≤ 256
+  fork-low : (z : Bool) (co : ℕ) (ys : List Place) → Fitting T b w k (choicePlaces z co k ++ ys) → b + 1 + length ys ≤ 256
   fork-low z co ys f = omega (arith, f .place, length-append (choicePlaces z co k) ys)
 
   -- a fork and a copy that leads back to it
   module _ (l : n ≤ 0) (e : m ≡ 100) (node : Node) (en : node ≡ nodeAt s i) where
-    all-star : (h : Turning s i c n m end T at k) → turnPlaces n m (h .of) (at .place) k ≡ turnPlaces 0 100 (h .of) (at .place) k
-    all-star h = ap (λ (v : ℕ). turnPlaces v m (h .of) (at .place) k) (let z : n ≡ 0 = omega arith in z) ∙ ap (λ (v : ℕ). turnPlaces 0 v (h .of) (at .place) k) e
+    all-star : (h : Turning s i c n m end T b w k) → turnPlaces n m (h .of) b k ≡ turnPlaces 0 100 (h .of) b k
+    all-star h = ap (λ (v : ℕ). turnPlaces v m (h .of) b k) (let z : n ≡ 0 = omega arith in z) ∙ ap (λ (v : ℕ). turnPlaces 0 v (h .of) b k) e
 
-    star-ends : (h : Turning s i c n m end T at k) → end ≡ at .place + size (turns 0 100 (lazyOf (h .of)) (unrolled (body (h .of))))
+    star-ends : (h : Turning s i c n m end T b w k) → end ≡ b + size (turns 0 100 (lazyOf (h .of)) (unrolled (body (h .of))))
     star-ends h =
-        h .ends ∙ ap (λ (v : ℕ). at .place + size (turns v m (lazyOf (h .of)) (unrolled (body (h .of))))) (let z : n ≡ 0 = omega arith in z)
-        ∙ ap (λ (v : ℕ). at .place + size (turns 0 v (lazyOf (h .of)) (unrolled (body (h .of))))) e
+        h .ends ∙ ap (λ (v : ℕ). b + size (turns v m (lazyOf (h .of)) (unrolled (body (h .of))))) (let z : n ≡ 0 = omega arith in z)
+        ∙ ap (λ (v : ℕ). b + size (turns 0 v (lazyOf (h .of)) (unrolled (body (h .of))))) e
 
-    module _ (co : ℕ) (ec : co ≡ pick (eqb (at .place + 1) end) (at .place) (at .place + 1)) (h : Turning s i c n m end T at k) where
-      star-split : turnPlaces n m (h .of) (at .place) k ≡ choicePlaces (lazyOf (h .of)) co k ++ bodyPlaces (h .of) (at .place + 1) (at .place)
-      star-split = all-star h ∙ turn-star (h .of) c (at .place) k end (h .each) co (star-ends h) ec
+    module _ (co : ℕ) (ec : co ≡ pick (eqb (b + 1) end) b (b + 1)) (h : Turning s i c n m end T b w k) where
+      star-split : turnPlaces n m (h .of) b k ≡ choicePlaces (lazyOf (h .of)) co k ++ bodyPlaces (h .of) (b + 1) b
+      star-split = all-star h ∙ turn-star (h .of) c b k end (h .each) co (star-ends h) ec
 
-      star-low : at .place + 1 ≤ 256
-      star-low = omega (arith, fork-low (lazyOf (h .of)) co (bodyPlaces (h .of) (at .place + 1) (at .place)) (subst (Fitting T at k) star-split (h .fits)))
+      star-low : b + 1 ≤ 256
+      star-low = omega (arith, fork-low (lazyOf (h .of)) co (bodyPlaces (h .of) (b + 1) b) (subst (Fitting T b w k) star-split (h .fits)))
 
-      pub star-choose : Choosing T at (node .lazy) co k
+      pub star-choose : Choosing T b w (node .lazy) co k
       star-choose =
-          choose (h .of) (node .lazy) (node-lazy node en (h .of) (h .top)) co (λ v. bodyPlaces (h .of) v (at .place)) (turnPlaces n m (h .of) (at .place) k) star-split
-          (rw ec (low-pick (eqb (at .place + 1) end) (at .place) (at .place + 1) (omega (arith, star-low)) star-low)) (h .fits)
+          choose (h .of) (node .lazy) (node-lazy node en (h .of) (h .top)) co (λ v. bodyPlaces (h .of) v b) (turnPlaces n m (h .of) b k) star-split
+          (rw ec (low-pick (eqb (b + 1) end) b (b + 1) (omega (arith, star-low)) star-low)) (h .fits)
 
-      module _ (T1 : List ℕ) (r : Spot) (d : Emitted T T1 at r (choicePlaces (node .lazy) co k)) where
-        star-bodying : Bodying s i T1 r (at .place)
+      module _ (T1 : List ℕ) (r : ℕ) (d : Emitted T T1 b w r (choicePlaces (node .lazy) co k)) where
+        star-bodying : Bodying s i T1 (b + 1) r b
         star-bodying =
-            let f = chosen (h .of) (node .lazy) (node-lazy node en (h .of) (h .top)) co (λ v. bodyPlaces (h .of) v (at .place)) (turnPlaces n m (h .of) (at .place) k) star-split
+            let f = chosen (h .of) (node .lazy) (node-lazy node en (h .of) (h .top)) co (λ v. bodyPlaces (h .of) v b) (turnPlaces n m (h .of) b k) star-split
             (h .fits) T1 r d in
             record {
               of = h .of;
@@ -675,164 +697,155 @@ module _ (s : List ℕ) (i c n m end : ℕ) (T : List ℕ) (at : Spot) (k : ℕ)
               };
             }
 
-        pub star-body : (u : ℕ) → roundM s i n m ≡ u → (bodyM s i < u) × Bodying s i T1 r (at .place)
+        pub star-body : (u : ℕ) → roundM s i n m ≡ u → (bodyM s i < u) × Bodying s i T1 (b + 1) r b
         unfolding roundM bodyM
         star-body u eu = (omega arith, star-bodying)
 
-        pub star-done : (T2 : List ℕ) (q : Spot) → ((g : Bodying s i T1 r (at .place)) → Emitted T1 T2 r q (bodyPlaces (g .of) (r .place) (at .place)))
-            → Emitted T T2 at q (turnPlaces n m (h .of) (at .place) k)
+        pub star-done : (T2 : List ℕ) (q : ℕ) → ((g : Bodying s i T1 (b + 1) r b) → Emitted T1 T2 (b + 1) r q (bodyPlaces (g .of) (b + 1) b))
+            → Emitted T T2 b w q (turnPlaces n m (h .of) b k)
         unfolding star-bodying
         star-done T2 q g =
-            chosen-done (h .of) (node .lazy) (node-lazy node en (h .of) (h .top)) co (λ v. bodyPlaces (h .of) v (at .place)) (turnPlaces n m (h .of) (at .place) k) star-split T1
+            chosen-done (h .of) (node .lazy) (node-lazy node en (h .of) (h .top)) co (λ v. bodyPlaces (h .of) v b) (turnPlaces n m (h .of) b k) star-split T1
             T2 r q d (g star-bodying)
-
-    pub star-fits : Turning s i c n m end T at k → Fits-in w64 (at .place + 1)
-    star-fits h = record { fits = omega (arith, star-low _ refl h) }
 
   -- a fork and a copy, and then fewer
   module _ (l : n ≤ 0) (e0 : m ≡ 0 → ⊥) (e100 : m ≡ 100 → ⊥) (node : Node) (en : node ≡ nodeAt s i) where
-    suc-more : (h : Turning s i c n m end T at k) → (m ≡ suc (m - 1)) × (m - 1 < 99)
+    suc-more : (h : Turning s i c n m end T b w k) → (m ≡ suc (m - 1)) × (m - 1 < 99)
     suc-more h = (omega (arith, e0), omega (arith, e0, e100, h .few .1))
 
-    all-options : (h : Turning s i c n m end T at k) → turnPlaces n m (h .of) (at .place) k ≡ turnPlaces 0 (suc (m - 1)) (h .of) (at .place) k
-    all-options h = ap (λ (v : ℕ). turnPlaces v m (h .of) (at .place) k) (let z : n ≡ 0 = omega arith in z) ∙ ap (λ (v : ℕ). turnPlaces 0 v (h .of) (at .place) k) (suc-more h .0)
+    all-options : (h : Turning s i c n m end T b w k) → turnPlaces n m (h .of) b k ≡ turnPlaces 0 (suc (m - 1)) (h .of) b k
+    all-options h = ap (λ (v : ℕ). turnPlaces v m (h .of) b k) (let z : n ≡ 0 = omega arith in z) ∙ ap (λ (v : ℕ). turnPlaces 0 v (h .of) b k) (suc-more h .0)
 
-    option-ends : (h : Turning s i c n m end T at k) → end ≡ at .place + size (turns 0 (suc (m - 1)) (lazyOf (h .of)) (unrolled (body (h .of))))
+    option-ends : (h : Turning s i c n m end T b w k) → end ≡ b + size (turns 0 (suc (m - 1)) (lazyOf (h .of)) (unrolled (body (h .of))))
     option-ends h =
-        h .ends ∙ ap (λ (v : ℕ). at .place + size (turns v m (lazyOf (h .of)) (unrolled (body (h .of))))) (let z : n ≡ 0 = omega arith in z)
-        ∙ ap (λ (v : ℕ). at .place + size (turns 0 v (lazyOf (h .of)) (unrolled (body (h .of))))) (suc-more h .0)
+        h .ends ∙ ap (λ (v : ℕ). b + size (turns v m (lazyOf (h .of)) (unrolled (body (h .of))))) (let z : n ≡ 0 = omega arith in z)
+        ∙ ap (λ (v : ℕ). b + size (turns 0 v (lazyOf (h .of)) (unrolled (body (h .of))))) (suc-more h .0)
 
-    module _ (co : ℕ) (ec : co ≡ pick (eqb (at .place + 1) end) k (at .place + 1)) (h : Turning s i c n m end T at k) where
+    module _ (co : ℕ) (ec : co ≡ pick (eqb (b + 1) end) k (b + 1)) (h : Turning s i c n m end T b w k) where
       -- the copy and the rest, from the place v on
       behindFork : ℕ → ℕ → List Place
       behindFork nx v = bodyPlaces (h .of) v nx ++ turnPlaces 0 (m - 1) (h .of) (v + c) k
 
-      option-split : (nx : ℕ) → nx ≡ pick (eqb (at .place + 1 + c) end) k (at .place + 1 + c)
-          → turnPlaces n m (h .of) (at .place) k ≡ choicePlaces (lazyOf (h .of)) co k ++ behindFork nx (at .place + 1)
+      option-split : (nx : ℕ) → nx ≡ pick (eqb (b + 1 + c) end) k (b + 1 + c)
+          → turnPlaces n m (h .of) b k ≡ choicePlaces (lazyOf (h .of)) co k ++ behindFork nx (b + 1)
       unfolding behindFork
-      option-split nx ex = all-options h ∙ turn-option (h .of) c (at .place) k end (h .each) (m - 1) co nx (suc-more h .1) (option-ends h) ec ex
+      option-split nx ex = all-options h ∙ turn-option (h .of) c b k end (h .each) (m - 1) co nx (suc-more h .1) (option-ends h) ec ex
 
-      option-lengths : (nx : ℕ) → nx ≡ pick (eqb (at .place + 1 + c) end) k (at .place + 1 + c)
-          → length (turnPlaces n m (h .of) (at .place) k) ≡ 1 + (c + length (turnPlaces 0 (m - 1) (h .of) (at .place + 1 + c) k))
+      option-lengths : (nx : ℕ) → nx ≡ pick (eqb (b + 1 + c) end) k (b + 1 + c)
+          → length (turnPlaces n m (h .of) b k) ≡ 1 + (c + length (turnPlaces 0 (m - 1) (h .of) (b + 1 + c) k))
       unfolding behindFork
       option-lengths nx ex =
-          ap length (option-split nx ex) ∙ length-append (choicePlaces (lazyOf (h .of)) co k) (behindFork nx (at .place + 1))
-          ∙ ap (λ (v : ℕ). 1 + v) (length-append (bodyPlaces (h .of) (at .place + 1) nx) (turnPlaces 0 (m - 1) (h .of) (at .place + 1 + c) k)
-          ∙ ap (λ (v : ℕ). v + length (turnPlaces 0 (m - 1) (h .of) (at .place + 1 + c) k)) (body-places h (at .place + 1) nx))
+          ap length (option-split nx ex) ∙ length-append (choicePlaces (lazyOf (h .of)) co k) (behindFork nx (b + 1))
+          ∙ ap (λ (v : ℕ). 1 + v) (length-append (bodyPlaces (h .of) (b + 1) nx) (turnPlaces 0 (m - 1) (h .of) (b + 1 + c) k)
+          ∙ ap (λ (v : ℕ). v + length (turnPlaces 0 (m - 1) (h .of) (b + 1 + c) k)) (body-places h (b + 1) nx))
 
-      option-low : at .place + 1 + c ≤ 256
+      option-low : b + 1 + c ≤ 256
       unfolding behindFork
       option-low =
-          let nx : ℕ = pick (eqb (at .place + 1 + c) end) k (at .place + 1 + c) in
-          let f = fork-low (lazyOf (h .of)) co (behindFork nx (at .place + 1)) (subst (Fitting T at k) (option-split nx refl) (h .fits)) in
-          omega (arith, f, length-append (bodyPlaces (h .of) (at .place + 1) nx) (turnPlaces 0 (m - 1) (h .of) (at .place + 1 + c) k), body-places h (at .place + 1) nx)
+          let nx : ℕ = pick (eqb (b + 1 + c) end) k (b + 1 + c) in
+          let f = fork-low (lazyOf (h .of)) co (behindFork nx (b + 1)) (subst (Fitting T b w k) (option-split nx refl) (h .fits)) in
+          omega (arith, f, length-append (bodyPlaces (h .of) (b + 1) nx) (turnPlaces 0 (m - 1) (h .of) (b + 1 + c) k), body-places h (b + 1) nx)
 
-      pub option-choose : Choosing T at (node .lazy) co k
+      pub option-choose : Choosing T b w (node .lazy) co k
       option-choose =
-          choose (h .of) (node .lazy) (node-lazy node en (h .of) (h .top)) co (behindFork (pick (eqb (at .place + 1 + c) end) k (at .place + 1 + c)))
-          (turnPlaces n m (h .of) (at .place) k) (option-split _ refl)
-          (rw ec (low-pick (eqb (at .place + 1) end) k (at .place + 1) (h .fits .behind) (omega (arith, option-low)))) (h .fits)
+          choose (h .of) (node .lazy) (node-lazy node en (h .of) (h .top)) co (behindFork (pick (eqb (b + 1 + c) end) k (b + 1 + c)))
+          (turnPlaces n m (h .of) b k) (option-split _ refl)
+          (rw ec (low-pick (eqb (b + 1) end) k (b + 1) (h .fits .behind) (omega (arith, option-low)))) (h .fits)
 
-      module _ (T1 : List ℕ) (r : Spot) (d : Emitted T T1 at r (choicePlaces (node .lazy) co k)) (nx : ℕ) (ex : nx ≡ pick (eqb (at .place + 1 + c) end) k (at .place + 1 + c))
+      module _ (T1 : List ℕ) (r : ℕ) (d : Emitted T T1 b w r (choicePlaces (node .lazy) co k)) (nx : ℕ) (ex : nx ≡ pick (eqb (b + 1 + c) end) k (b + 1 + c))
         where
-          inside-fits : Fitting T1 r k (bodyPlaces (h .of) (r .place) nx ++ turnPlaces 0 (m - 1) (h .of) (r .place + c) k)
+          inside-fits : Fitting T1 (b + 1) r k (bodyPlaces (h .of) (b + 1) nx ++ turnPlaces 0 (m - 1) (h .of) (b + 1 + c) k)
           unfolding behindFork
-          inside-fits = chosen (h .of) (node .lazy) (node-lazy node en (h .of) (h .top)) co (behindFork nx) (turnPlaces n m (h .of) (at .place) k) (option-split nx ex) (h .fits)
+          inside-fits = chosen (h .of) (node .lazy) (node-lazy node en (h .of) (h .top)) co (behindFork nx) (turnPlaces n m (h .of) b k) (option-split nx ex) (h .fits)
               T1 r d
 
-          option-long : r .place + c ≡ r .place + length (bodyPlaces (h .of) (r .place) nx)
-          option-long = ap (λ (v : ℕ). r .place + v) (sym (body-places h (r .place) nx))
+          option-long : b + 1 + c ≡ b + 1 + length (bodyPlaces (h .of) (b + 1) nx)
+          option-long = ap (λ (v : ℕ). b + 1 + v) (sym (body-places h (b + 1) nx))
 
-          option-bodying : Bodying s i T1 r nx
+          option-bodying : Bodying s i T1 (b + 1) r nx
           option-bodying =
               record {
                 of = h .of;
                 top = h .top;
-                fits = fit-left T1 r k (bodyPlaces (h .of) (r .place) nx) (turnPlaces 0 (m - 1) (h .of) (r .place + c) k) nx
-                    (rw ex (low-pick (eqb (at .place + 1 + c) end) k (at .place + 1 + c) (h .fits .behind) option-low)) inside-fits;
+                fits = fit-left T1 (b + 1) r k (bodyPlaces (h .of) (b + 1) nx) (turnPlaces 0 (m - 1) (h .of) (b + 1 + c) k) nx
+                    (rw ex (low-pick (eqb (b + 1 + c) end) k (b + 1 + c) (h .fits .behind) option-low)) inside-fits;
               }
 
-          pub option-body : (u : ℕ) → roundM s i n m ≡ u → (bodyM s i < u) × Bodying s i T1 r nx
+          pub option-body : (u : ℕ) → roundM s i n m ≡ u → (bodyM s i < u) × Bodying s i T1 (b + 1) r nx
           unfolding roundM bodyM
           option-body u eu = (omega arith, option-bodying)
 
-          module _ (T2 : List ℕ) (q : Spot) (g : (b : Bodying s i T1 r nx) → Emitted T1 T2 r q (bodyPlaces (b .of) (r .place) nx)) where
-            option-put : Emitted T1 T2 r q (bodyPlaces (h .of) (r .place) nx)
+          module _ (T2 : List ℕ) (q : ℕ) (g : (t : Bodying s i T1 (b + 1) r nx) → Emitted T1 T2 (b + 1) r q (bodyPlaces (t .of) (b + 1) nx)) where
+            option-put : Emitted T1 T2 (b + 1) r q (bodyPlaces (h .of) (b + 1) nx)
             unfolding option-bodying
             option-put = g option-bodying
 
-            option-turning : Turning s i c 0 (m - 1) end T2 q k
+            option-turning : Turning s i c 0 (m - 1) end T2 (b + 1 + c) q k
             option-turning =
-                let f = part-right T1 r k (bodyPlaces (h .of) (r .place) nx ++ turnPlaces 0 (m - 1) (h .of) (r .place + c) k) (bodyPlaces (h .of) (r .place) nx)
-                (λ v. turnPlaces 0 (m - 1) (h .of) v k) (r .place + c) refl option-long T2 q option-put inside-fits in
-                let l1 = turn-length n m (h .of) (at .place) k in
-                let l2 = turn-length 0 (m - 1) (h .of) (at .place + 1 + c) k in
+                let f = part-right T1 (b + 1) r k (bodyPlaces (h .of) (b + 1) nx ++ turnPlaces 0 (m - 1) (h .of) (b + 1 + c) k) (bodyPlaces (h .of) (b + 1) nx)
+                (λ v. turnPlaces 0 (m - 1) (h .of) v k) (b + 1 + c) refl option-long T2 q option-put inside-fits in
+                let l1 = turn-length n m (h .of) b k in
+                let l2 = turn-length 0 (m - 1) (h .of) (b + 1 + c) k in
                 let l3 = option-lengths nx ex in
                 record {
                   of = h .of;
                   top = h .top;
                   each = h .each;
-                  ends = omega (arith, h .ends, body-places h (r .place) nx, option-put .place, d .place);
+                  ends = omega (arith, h .ends, body-places h (b + 1) nx);
                   few = (omega arith, omega (arith, h .few .1));
                   fits = f;
                 }
 
-            pub option-again : (u : ℕ) → roundM s i n m ≡ u → (roundM s i 0 (m - 1) < u) × Turning s i c 0 (m - 1) end T2 q k
+            pub option-again : (u : ℕ) → roundM s i n m ≡ u → (roundM s i 0 (m - 1) < u) × Turning s i c 0 (m - 1) end T2 (b + 1 + c) q k
             unfolding roundM
             option-again u eu = (omega (arith, suc-more h .0), option-turning)
 
-            pub option-done : (T3 : List ℕ) (z : Spot) → ((b : Turning s i c 0 (m - 1) end T2 q k) → Emitted T2 T3 q z (turnPlaces 0 (m - 1) (b .of) (q .place) k))
-                → Emitted T T3 at z (turnPlaces n m (h .of) (at .place) k)
+            pub option-done : (T3 : List ℕ) (z : ℕ) → ((t : Turning s i c 0 (m - 1) end T2 (b + 1 + c) q k) → Emitted T2 T3 (b + 1 + c) q z (turnPlaces 0 (m - 1) (t .of) (b + 1 + c) k))
+                → Emitted T T3 b w z (turnPlaces n m (h .of) b k)
             unfolding option-turning behindFork
-            option-done T3 z b =
-                chosen-done (h .of) (node .lazy) (node-lazy node en (h .of) (h .top)) co (behindFork nx) (turnPlaces n m (h .of) (at .place) k) (option-split nx ex) T1 T3 r z d
-                (part-both T1 r k (bodyPlaces (h .of) (r .place) nx ++ turnPlaces 0 (m - 1) (h .of) (r .place + c) k) (bodyPlaces (h .of) (r .place) nx)
-                (λ v. turnPlaces 0 (m - 1) (h .of) v k) (r .place + c) refl option-long T2 q option-put T3 z (b option-turning))
+            option-done T3 z t =
+                chosen-done (h .of) (node .lazy) (node-lazy node en (h .of) (h .top)) co (behindFork nx) (turnPlaces n m (h .of) b k) (option-split nx ex) T1 T3 r z d
+                (part-both T1 (b + 1) r k (bodyPlaces (h .of) (b + 1) nx ++ turnPlaces 0 (m - 1) (h .of) (b + 1 + c) k) (bodyPlaces (h .of) (b + 1) nx)
+                (λ v. turnPlaces 0 (m - 1) (h .of) v k) (b + 1 + c) refl option-long T2 q option-put T3 z (t option-turning))
 
-    pub option-fits : Turning s i c n m end T at k → Fits-in w64 (at .place + 1)
-    option-fits h = record { fits = omega (arith, option-low _ refl h) }
-
-    pub option-more : Turning s i c n m end T at k → Fits-in w64 (at .place + 1 + c)
+    pub option-more : Turning s i c n m end T b w k → Fits-in w64 (b + 1 + c)
     option-more h = record { fits = omega (arith, option-low _ refl h) }
 
-    pub option-less : Turning s i c n m end T at k → 1 ≤ m
+    pub option-less : Turning s i c n m end T b w k → 1 ≤ m
     option-less h = omega (arith, suc-more h .0)
 
 -- ---- body
 
-pub body-in : (s : List ℕ) (i : ℕ) (T : List ℕ) (at : Spot) (k : ℕ) → Bodying s i T at k → 8 * i + 8 ≤ length s
-body-in s i T at k h = at-in s i (record { tree = one (last (h .of)); is = h .top })
+pub body-in : (s : List ℕ) (i : ℕ) (T : List ℕ) (b w k : ℕ) → Bodying s i T b w k → 8 * i + 8 ≤ length s
+body-in s i T b w k h = at-in s i (record { tree = one (last (h .of)); is = h .top })
 
 -- the one place of a letter or an anchor
-simple-put : (T T1 : List ℕ) (at r : Spot) (p : Place) (a b c : ℕ) → wayCount p ≡ 0 → putPlace T (at .place) (at .way) p ≡ putWords T (at .place) a b c 0
-    → (r ≡ record { place = at .place + 1; way = at .way }) × (T1 ≡ putWords T (at .place) a b c 0) → Emitted T T1 at r (p ∷ [])
+simple-put : (T T1 : List ℕ) (b w r : ℕ) (p : Place) (a l c : ℕ) → wayCount p ≡ 0 → putPlace T b w p ≡ putWords T b a l c 0
+    → (r ≡ w) × (T1 ≡ putWords T b a l c 0) → Emitted T T1 b w r (p ∷ [])
 unfolding putPlaces waysIn
-simple-put T T1 at r p a b c ew ep d =
-    let x : r .place ≡ at .place + 1 = ap (λ (y : Spot). y .place) (d .0) in
-    let y : r .way ≡ at .way = ap (λ (y : Spot). y .way) (d .0) in
-    record { is = d .1 ∙ sym ep; place = omega arith; way = omega arith }
+simple-put T T1 b w r p a l c ew ep d = record { is = d .1 ∙ sym ep; way = omega (arith, d .0) }
 
-module _ (s : List ℕ) (i : ℕ) (n : Node) (en : n ≡ nodeAt s i) (T : List ℕ) (at : Spot) (k : ℕ) where
-  one-fits : (p : Place) → Fitting T at k (p ∷ []) → (4 * at .place + 4 ≤ length T) × (k < 65536) × (at .place < 65536)
-  one-fits p f = let a = f .place in let b = f .long in let c = f .behind in (omega arith, omega arith, omega arith)
+module _ (s : List ℕ) (i : ℕ) (n : Node) (en : n ≡ nodeAt s i) (T : List ℕ) (b w k : ℕ) where
+  one-fits : (p : Place) → Fitting T b w k (p ∷ []) → (4 * b + 4 ≤ length T) × (k < 65536)
+  one-fits p f = (omega (arith, f .place, f .long), omega (arith, f .behind))
 
-  module _ (a : ℕ) (e : n .sort ≡ Letter a) (h : Bodying s i T at k) where
-    is-letter : bodyPlaces (h .of) (at .place) k ≡ pLetter a k ∷ []
+  module _ (a : ℕ) (e : n .sort ≡ Letter a) (h : Bodying s i T b w k) where
+    is-letter : bodyPlaces (h .of) b k ≡ pLetter a k ∷ []
     unfolding unrolled code thinned thinPlace
     is-letter =
-        ap (λ (x : Tree primary). thinned (code (unrolled x) (at .place) k))
+        ap (λ (x : Tree primary). thinned (code (unrolled x) b k))
         (as-letter s i n en (OnFactor (λ G. body G ≡ letter a)) a e (λ G q j. j) (one (last (h .of))) (h .top))
 
-    pub letter-words : (4 * at .place + 4 ≤ length T) × (k < 65536) × (at .place < 65536)
-    letter-words = one-fits (pLetter a k) (subst (Fitting T at k) is-letter (h .fits))
+    pub letter-words : (4 * b + 4 ≤ length T) × (k < 65536)
+    letter-words = one-fits (pLetter a k) (subst (Fitting T b w k) is-letter (h .fits))
 
-    pub letter-done : (v : ℕ) (T1 : List ℕ) (r : Spot) → v ≡ a → (r ≡ record { place = at .place + 1; way = at .way }) × (T1 ≡ putWords T (at .place) 1 v k 0)
-        → Emitted T T1 at r (bodyPlaces (h .of) (at .place) k)
+    pub letter-done : (v : ℕ) (T1 : List ℕ) (r : ℕ) → v ≡ a → (r ≡ w) × (T1 ≡ putWords T b 1 v k 0)
+        → Emitted T T1 b w r (bodyPlaces (h .of) b k)
     unfolding putPlace wayCount
     letter-done v T1 r ev d =
-        subst (Emitted T T1 at r) (sym is-letter) (simple-put T T1 at r (pLetter a k) 1 a k refl refl (d .0, d .1 ∙ ap (λ (x : ℕ). putWords T (at .place) 1 x k 0) ev))
+        subst (Emitted T T1 b w r) (sym is-letter) (simple-put T T1 b w r (pLetter a k) 1 a k refl refl (d .0, d .1 ∙ ap (λ (x : ℕ). putWords T b 1 x k 0) ev))
 
-  module _ (a : ℕ) (e : n .sort ≡ Anchor a) (h : Bodying s i T at k) where
+  module _ (a : ℕ) (e : n .sort ≡ Anchor a) (h : Bodying s i T b w k) where
     abbrev AnchorIs : Tree factor → Type 0
     AnchorIs G = IsAnchor (body G) a
 
@@ -841,8 +854,8 @@ module _ (s : List ℕ) (i : ℕ) (n : Node) (en : n ≡ nodeAt s i) (T : List �
 
     record AnchorPlace : Type 0 where
       place : Place
-      is : bodyPlaces (h .of) (at .place) k ≡ place ∷ []
-      words : putPlace T (at .place) (at .way) place ≡ putWords T (at .place) (anchorSort a) 0 k 0
+      is : bodyPlaces (h .of) b k ≡ place ∷ []
+      words : putPlace T b w place ≡ putWords T b (anchorSort a) 0 k 0
       ways : wayCount place ≡ 0
 
     anchor-place : AnchorPlace
@@ -853,60 +866,60 @@ module _ (s : List ℕ) (i : ℕ) (n : Node) (en : n ≡ nodeAt s i) (T : List �
         go (inl j) =
             record {
               place = pCaret k;
-              is = ap (λ (x : Tree primary). thinned (code (unrolled x) (at .place) k)) (j .0);
-              words = sym (ap (λ (x : ℕ). putWords T (at .place) (anchorSort x) 0 k 0) (j .1));
+              is = ap (λ (x : Tree primary). thinned (code (unrolled x) b k)) (j .0);
+              words = sym (ap (λ (x : ℕ). putWords T b (anchorSort x) 0 k 0) (j .1));
               ways = refl;
             }
         go (inr j) =
             record {
               place = pDollar k;
-              is = ap (λ (x : Tree primary). thinned (code (unrolled x) (at .place) k)) (j .0);
-              words = sym (ap (λ (x : ℕ). putWords T (at .place) (anchorSort x) 0 k 0) (j .1));
+              is = ap (λ (x : Tree primary). thinned (code (unrolled x) b k)) (j .0);
+              words = sym (ap (λ (x : ℕ). putWords T b (anchorSort x) 0 k 0) (j .1));
               ways = refl;
             }
 
-    pub anchor-words : (4 * at .place + 4 ≤ length T) × (k < 65536) × (at .place < 65536)
-    anchor-words = one-fits (anchor-place .place) (subst (Fitting T at k) (anchor-place .is) (h .fits))
+    pub anchor-words : (4 * b + 4 ≤ length T) × (k < 65536)
+    anchor-words = one-fits (anchor-place .place) (subst (Fitting T b w k) (anchor-place .is) (h .fits))
 
-    pub anchor-done : (v : ℕ) (T1 : List ℕ) (r : Spot) → v ≡ anchorSort a → (r ≡ record { place = at .place + 1; way = at .way }) × (T1 ≡ putWords T (at .place) v 0 k 0)
-        → Emitted T T1 at r (bodyPlaces (h .of) (at .place) k)
+    pub anchor-done : (v : ℕ) (T1 : List ℕ) (r : ℕ) → v ≡ anchorSort a → (r ≡ w) × (T1 ≡ putWords T b v 0 k 0)
+        → Emitted T T1 b w r (bodyPlaces (h .of) b k)
     anchor-done v T1 r ev d =
-        subst (Emitted T T1 at r) (sym (anchor-place .is))
-        (simple-put T T1 at r (anchor-place .place) (anchorSort a) 0 k (anchor-place .ways) (anchor-place .words)
-        (d .0, d .1 ∙ ap (λ (x : ℕ). putWords T (at .place) x 0 k 0) ev))
+        subst (Emitted T T1 b w r) (sym (anchor-place .is))
+        (simple-put T T1 b w r (anchor-place .place) (anchorSort a) 0 k (anchor-place .ways) (anchor-place .words)
+        (d .0, d .1 ∙ ap (λ (x : ℕ). putWords T b x 0 k 0) ev))
 
-  pub empty-done : n .sort ≡ Empty → (h : Bodying s i T at k) → Emitted T T at at (bodyPlaces (h .of) (at .place) k)
+  pub empty-done : n .sort ≡ Empty → (h : Bodying s i T b w k) → Emitted T T b w w (bodyPlaces (h .of) b k)
   unfolding unrolled code thinned
   empty-done e h =
-      subst (Emitted T T at at)
-      (sym (ap (λ (x : Tree primary). thinned (code (unrolled x) (at .place) k)) (as-empty s i n en (OnFactor (λ G. body G ≡ empty)) e (λ G q j. j) (one (last (h .of)))
-      (h .top)))) (emitted-none T at)
+      subst (Emitted T T b w w)
+      (sym (ap (λ (x : Tree primary). thinned (code (unrolled x) b k)) (as-empty s i n en (OnFactor (λ G. body G ≡ empty)) e (λ G q j. j) (one (last (h .of)))
+      (h .top)))) (emitted-none T b w)
 
-  pub sequence-done : n .sort ≡ Sequence → (h : Bodying s i T at k) → Emitted T T at at (bodyPlaces (h .of) (at .place) k)
+  pub sequence-done : n .sort ≡ Sequence → (h : Bodying s i T b w k) → Emitted T T b w w (bodyPlaces (h .of) b k)
   sequence-done e h = absurd (as-seq s i n en (OnFactor (λ G. ⊥)) e (λ f b q. tt) (one (last (h .of))) (h .top))
 
-  pub alternation-done : n .sort ≡ Alternation → (h : Bodying s i T at k) → Emitted T T at at (bodyPlaces (h .of) (at .place) k)
+  pub alternation-done : n .sort ≡ Alternation → (h : Bodying s i T b w k) → Emitted T T b w w (bodyPlaces (h .of) b k)
   alternation-done e h = absurd (as-alt s i n en (OnFactor (λ G. ⊥)) e (λ b p q. tt) (one (last (h .of))) (h .top))
 
-  module _ (e : n .sort ≡ Group) (h : Bodying s i T at k) where
+  module _ (e : n .sort ≡ Group) (h : Bodying s i T b w k) where
     inner : (p : Tree pattern) × GroupAt s n (h .of) p
     inner = as-group s i n en (OnFactor (λ G. (p : Tree pattern) × GroupAt s n G p)) e (λ G q p g. (p, g)) (one (last (h .of))) (h .top)
 
-    is-group : bodyPlaces (h .of) (at .place) k ≡ treePlaces (inner .0) (at .place) k
+    is-group : bodyPlaces (h .of) b k ≡ treePlaces (inner .0) b k
     unfolding unrolled unroll
-    is-group = ap (λ (x : Tree primary). thinned (code (unrolled x) (at .place) k)) (inner .1 .is)
+    is-group = ap (λ (x : Tree primary). thinned (code (unrolled x) b k)) (inner .1 .is)
 
-    group-emitting : Emitting s (n .left) T at k
-    group-emitting = record { tree = inner .0; top = inner .1 .inside; fits = subst (Fitting T at k) is-group (h .fits) }
+    group-emitting : Emitting s (n .left) T b w k
+    group-emitting = record { tree = inner .0; top = inner .1 .inside; fits = subst (Fitting T b w k) is-group (h .fits) }
 
-    pub group-first : (u : ℕ) → bodyM s i ≡ u → (emitM s (n .left) < u) × Emitting s (n .left) T at k
+    pub group-first : (u : ℕ) → bodyM s i ≡ u → (emitM s (n .left) < u) × Emitting s (n .left) T b w k
     unfolding emitM bodyM
     group-first u eu = (
       omega (arith, (group-left s i n en ((nodeAt s i) .height) refl (record { tree = one (last (h .of)); is = h .top }) e) .0, alt-small ((nodeAt s (n .left)) .sort)),
       group-emitting,
     )
 
-    pub group-done : (T2 : List ℕ) (q : Spot) → ((g : Emitting s (n .left) T at k) → Emitted T T2 at q (treePlaces (g .tree) (at .place) k))
-        → Emitted T T2 at q (bodyPlaces (h .of) (at .place) k)
+    pub group-done : (T2 : List ℕ) (q : ℕ) → ((g : Emitting s (n .left) T b w k) → Emitted T T2 b w q (treePlaces (g .tree) b k))
+        → Emitted T T2 b w q (bodyPlaces (h .of) b k)
     unfolding group-emitting
-    group-done T2 q g = subst (Emitted T T2 at q) (sym is-group) (g group-emitting)
+    group-done T2 q g = subst (Emitted T T2 b w q) (sym is-group) (g group-emitting)

@@ -25,24 +25,23 @@ use Rattle.pattern.specs.Held.{Top, At}
 use Rattle.pattern.proofs.ByNode.{as-any, as-alt, at-in, alt-left, alt-right, top-places}
 use Rattle.places.specs.Tables.{span}
 use Rattle.places.specs.Emitting.{putWays, putWords, putPlace, wayCount, waysIn, putPlaces, Fitting, Emitted, WayPut, WayNeeds, newStarts, Starting, Started, twoPlaces, TwoWays, choicePlaces, Choosing, forkPlaces, Forking}
-use Rattle.places.specs.declared.Spot.{Spot}
 use Rattle.places.proofs.TableLaws.{ways-length}
 use Rattle.places.proofs.WayLaws.{AfterWay, after-way, start-end, start-by-size}
 
 -- ---- a place that is put
 
 -- a fork whose ways are put, and then its words
-pub fork-put : (T T1 T2 : List ℕ) (at : Spot) (ks : List ℕ) (to : ℕ) → T1 ≡ putWays T (at .way) ks → to ≡ at .way + length ks → T2 ≡ putWords T1 (at .place) 0 0 (at .way) to
-    → Emitted T T2 at (record { place = at .place + 1; way = to }) (pFork ks ∷ [])
+pub fork-put : (T T1 T2 : List ℕ) (b w : ℕ) (ks : List ℕ) (to : ℕ) → T1 ≡ putWays T w ks → to ≡ w + length ks → T2 ≡ putWords T1 b 0 0 w to
+    → Emitted T T2 b w to (pFork ks ∷ [])
 unfolding putPlaces putPlace waysIn wayCount
-fork-put T T1 T2 at ks to e1 e2 e3 =
-    record { is = e3 ∙ rw (e1, e2) refl; place = omega arith; way = omega arith }
+fork-put T T1 T2 b w ks to e1 e2 e3 =
+    record { is = e3 ∙ rw (e1, e2) refl; way = omega arith }
 
 -- the words of a fork fit
-pub fork-words : (T T1 : List ℕ) (at : Spot) (k : ℕ) (ks : List ℕ) (to : ℕ) → Fitting T at k (pFork ks ∷ []) → length T1 ≡ length T → to ≡ at .way + length ks
-    → (4 * at .place + 4 ≤ length T1) × (at .way < 65536) × (to < 65536)
+pub fork-words : (T T1 : List ℕ) (b w k : ℕ) (ks : List ℕ) (to : ℕ) → Fitting T b w k (pFork ks ∷ []) → length T1 ≡ length T → to ≡ w + length ks
+    → (4 * b + 4 ≤ length T1) × (w < 65536) × (to < 65536)
 unfolding waysIn wayCount
-fork-words T T1 at k ks to f l e = let a = f .place in let b = f .long in let c = f .way in let d = f .small in (omega arith, omega arith, omega arith)
+fork-words T T1 b w k ks to f l e = (omega (arith, f .place, f .long), omega (arith, f .way, f .small), omega (arith, f .way, f .small))
 
 -- one that is not among those seen is new
 one-new : (seen : List ℕ) (y : ℕ) (ys : List ℕ) → has y seen ≡ false → 1 ≤ length (fresh seen (y ∷ ys))
@@ -55,11 +54,11 @@ span-none T w = ap (span T w) (let e : w - w ≡ 0 = omega arith in e)
 
 -- ---- two ways
 
-module _ (T : List ℕ) (at : Spot) (x y : ℕ) (h : TwoWays T at x y) where
-  pub two-first : WayNeeds T (at .way) (at .way) x
+module _ (T : List ℕ) (b w x y : ℕ) (h : TwoWays T b w x y) where
+  pub two-first : WayNeeds T w w x
   unfolding waysIn wayCount has
   two-first =
-      let f = h .fits in let a = f .way in let b = f .small in
+      let f = h .fits in let a = f .way in let z = f .small in
       record {
         order = omega arith;
         inside = omega arith;
@@ -68,17 +67,17 @@ module _ (T : List ℕ) (at : Spot) (x y : ℕ) (h : TwoWays T at x y) where
         low = f .behind;
       }
 
-  module _ (T1 : List ℕ) (r1 : ℕ) (p : WayPut T T1 (at .way) (at .way) x r1) where
-    after : AfterWay T (at .way) (at .way) x (y ∷ []) T1 r1 two-first p
-    after = after-way T (at .way) (at .way) x (y ∷ []) T1 r1 two-first p
+  module _ (T1 : List ℕ) (r1 : ℕ) (p : WayPut T T1 w w x r1) where
+    after : AfterWay T w w x (y ∷ []) T1 r1 two-first p
+    after = after-way T w w x (y ∷ []) T1 r1 two-first p
 
-    all-ways : fresh (span T (at .way) (at .way - at .way)) (x ∷ y ∷ []) ≡ distinct (x ∷ y ∷ [])
-    all-ways = ap (λ (s : List ℕ). fresh s (x ∷ y ∷ [])) (span-none T (at .way))
+    all-ways : fresh (span T w (w - w)) (x ∷ y ∷ []) ≡ distinct (x ∷ y ∷ [])
+    all-ways = ap (λ (s : List ℕ). fresh s (x ∷ y ∷ [])) (span-none T w)
 
-    sum : r1 + length (fresh (span T1 (at .way) (r1 - at .way)) (y ∷ [])) ≡ at .way + length (distinct (x ∷ y ∷ []))
-    sum = ap (λ (s : List ℕ). r1 + length s) (sym (after .seen)) ∙ after .count ∙ ap (λ (s : List ℕ). at .way + length s) all-ways
+    sum : r1 + length (fresh (span T1 w (r1 - w)) (y ∷ [])) ≡ w + length (distinct (x ∷ y ∷ []))
+    sum = ap (λ (s : List ℕ). r1 + length s) (sym (after .seen)) ∙ after .count ∙ ap (λ (s : List ℕ). w + length s) all-ways
 
-    pub two-second : WayNeeds T1 (at .way) r1 y
+    pub two-second : WayNeeds T1 w r1 y
     unfolding waysIn wayCount
     two-second =
         let f = h .fits in let a = f .way in let l = after .len in let s = sum in
@@ -86,56 +85,56 @@ module _ (T : List ℕ) (at : Spot) (x y : ℕ) (h : TwoWays T at x y) where
           order = after .order;
           inside = omega arith;
           small = omega (arith, f .small);
-          fits = λ e. (let n = one-new (span T1 (at .way) (r1 - at .way)) y [] e in omega arith);
+          fits = λ e. (let n = one-new (span T1 w (r1 - w)) y [] e in omega arith);
           low = h .second;
         }
 
-    module _ (T2 : List ℕ) (to : ℕ) (q : WayPut T1 T2 (at .way) r1 y to) where
-      then : AfterWay T1 (at .way) r1 y [] T2 to two-second q
-      then = after-way T1 (at .way) r1 y [] T2 to two-second q
+    module _ (T2 : List ℕ) (to : ℕ) (q : WayPut T1 T2 w r1 y to) where
+      then : AfterWay T1 w r1 y [] T2 to two-second q
+      then = after-way T1 w r1 y [] T2 to two-second q
 
       pub two-length : length T2 ≡ length T
       two-length = then .len ∙ after .len
 
-      two-put : T2 ≡ putWays T (at .way) (distinct (x ∷ y ∷ []))
+      two-put : T2 ≡ putWays T w (distinct (x ∷ y ∷ []))
       unfolding fresh putWays
       two-put =
           ap (putWays T2 to) (sym (then .seen)) ∙ then .put
-          ∙ ap (putWays T1 r1) (sym (after .seen)) ∙ after .put ∙ ap (putWays T (at .way)) all-ways
+          ∙ ap (putWays T1 r1) (sym (after .seen)) ∙ after .put ∙ ap (putWays T w) all-ways
 
-      two-count : to ≡ at .way + length (distinct (x ∷ y ∷ []))
+      two-count : to ≡ w + length (distinct (x ∷ y ∷ []))
       unfolding fresh
       two-count =
-          let a : to ≡ to + length (fresh (span T2 (at .way) (to - at .way)) []) = omega arith in
+          let a : to ≡ to + length (fresh (span T2 w (to - w)) []) = omega arith in
           a ∙ ap (λ (s : List ℕ). to + length s) (sym (then .seen)) ∙ then .count ∙ sum
 
-      pub two-words : (4 * at .place + 4 ≤ length T2) × (at .way < 65536) × (to < 65536)
-      two-words = fork-words T T2 at x (distinct (x ∷ y ∷ [])) to (h .fits) two-length two-count
+      pub two-words : (4 * b + 4 ≤ length T2) × (w < 65536) × (to < 65536)
+      two-words = fork-words T T2 b w x (distinct (x ∷ y ∷ [])) to (h .fits) two-length two-count
 
-      pub two-done : (T3 : List ℕ) → T3 ≡ putWords T2 (at .place) 0 0 (at .way) to → Emitted T T3 at (record { place = at .place + 1; way = to }) (twoPlaces x y)
-      two-done T3 e = fork-put T T2 T3 at (distinct (x ∷ y ∷ [])) to two-put two-count e
+      pub two-done : (T3 : List ℕ) → T3 ≡ putWords T2 b 0 0 w to → Emitted T T3 b w to (twoPlaces x y)
+      two-done T3 e = fork-put T T2 T3 b w (distinct (x ∷ y ∷ [])) to two-put two-count e
 
 -- ---- a copy and leaving
 
-module _ (T : List ℕ) (at : Spot) (lazy : Bool) (copy leave : ℕ) where
-  refit : (k j : ℕ) (pl : List Place) → Fitting T at k pl → j ≤ 256 → Fitting T at j pl
+module _ (T : List ℕ) (b w : ℕ) (lazy : Bool) (copy leave : ℕ) where
+  refit : (k j : ℕ) (pl : List Place) → Fitting T b w k pl → j ≤ 256 → Fitting T b w j pl
   refit k j pl f h = record { long = f .long; small = f .small; place = f .place; low = f .low; way = f .way; behind = h }
 
-  pub lazy-needs : Choosing T at lazy copy leave → lazy ≡ true → TwoWays T at leave copy
-  lazy-needs h e = record { fits = subst (λ (z : Bool). Fitting T at leave (choicePlaces z copy leave)) e (h .fits); second = h .copied }
+  pub lazy-needs : Choosing T b w lazy copy leave → lazy ≡ true → TwoWays T b w leave copy
+  lazy-needs h e = record { fits = subst (λ (z : Bool). Fitting T b w leave (choicePlaces z copy leave)) e (h .fits); second = h .copied }
 
-  pub lazy-done : (T2 : List ℕ) (r : Spot) → lazy ≡ true → Emitted T T2 at r (twoPlaces leave copy) → Emitted T T2 at r (choicePlaces lazy copy leave)
+  pub lazy-done : (T2 : List ℕ) (r : ℕ) → lazy ≡ true → Emitted T T2 b w r (twoPlaces leave copy) → Emitted T T2 b w r (choicePlaces lazy copy leave)
   lazy-done T2 r e d = rw e d
 
-  pub greedy-needs : Choosing T at lazy copy leave → lazy ≡ false → TwoWays T at copy leave
+  pub greedy-needs : Choosing T b w lazy copy leave → lazy ≡ false → TwoWays T b w copy leave
   greedy-needs h e =
       record {
-        fits = refit leave copy (twoPlaces copy leave) (subst (λ (z : Bool). Fitting T at leave (choicePlaces z copy leave)) e (h .fits)) (h .copied);
+        fits = refit leave copy (twoPlaces copy leave) (subst (λ (z : Bool). Fitting T b w leave (choicePlaces z copy leave)) e (h .fits)) (h .copied);
         second = h .fits
             .behind;
       }
 
-  pub greedy-done : (T2 : List ℕ) (r : Spot) → lazy ≡ false → Emitted T T2 at r (twoPlaces copy leave) → Emitted T T2 at r (choicePlaces lazy copy leave)
+  pub greedy-done : (T2 : List ℕ) (r : ℕ) → lazy ≡ false → Emitted T T2 b w r (twoPlaces copy leave) → Emitted T T2 b w r (choicePlaces lazy copy leave)
   greedy-done T2 r e d = rw e d
 
 -- ---- the ways of an alternation
@@ -342,11 +341,11 @@ module _ (s : List ℕ) (i : ℕ) (n : Node) (en : n ≡ nodeAt s i) (T : List �
 
 -- ---- the fork of an alternation
 
-module _ (s : List ℕ) (i : ℕ) (T : List ℕ) (at : Spot) (k : ℕ) (h : Forking s i T at k) where
-  starts-all : newStarts T (at .way) (at .way) (h .tree) (at .place + 1) k ≡ distinct (startsOf (unrolled (h .tree)) (at .place + 1) k)
-  starts-all = ap (λ (v : List ℕ). fresh v (startsOf (unrolled (h .tree)) (at .place + 1) k)) (span-none T (at .way))
+module _ (s : List ℕ) (i : ℕ) (T : List ℕ) (b w k : ℕ) (h : Forking s i T b w k) where
+  starts-all : newStarts T w w (h .tree) (b + 1) k ≡ distinct (startsOf (unrolled (h .tree)) (b + 1) k)
+  starts-all = ap (λ (v : List ℕ). fresh v (startsOf (unrolled (h .tree)) (b + 1) k)) (span-none T w)
 
-  pub fork-starting : Starting s i T (at .way) (at .way) (at .place + 1) k
+  pub fork-starting : Starting s i T w w (b + 1) k
   unfolding waysIn wayCount
   fork-starting =
       let f = h .fits in let a = f .way in
@@ -355,26 +354,26 @@ module _ (s : List ℕ) (i : ℕ) (T : List ℕ) (at : Spot) (k : ℕ) (h : Fork
         top = h .top;
         order = omega arith;
         small = f .small;
-        way = subst (λ (ks : List ℕ). at .way + length ks ≤ length T) (sym starts-all) (omega arith);
+        way = subst (λ (ks : List ℕ). w + length ks ≤ length T) (sym starts-all) (omega arith);
         place = h .room;
         behind = f .behind;
       }
 
-  module _ (T1 : List ℕ) (to : ℕ) (d : (g : Starting s i T (at .way) (at .way) (at .place + 1) k) → Started s i T (at .way) (at .way) (at .place + 1) k T1 to g) where
-    ways-put : T1 ≡ putWays T (at .way) (distinct (startsOf (unrolled (h .tree)) (at .place + 1) k))
+  module _ (T1 : List ℕ) (to : ℕ) (d : (g : Starting s i T w w (b + 1) k) → Started s i T w w (b + 1) k T1 to g) where
+    ways-put : T1 ≡ putWays T w (distinct (startsOf (unrolled (h .tree)) (b + 1) k))
     unfolding fork-starting
-    ways-put = (d fork-starting) .is ∙ ap (putWays T (at .way)) starts-all
+    ways-put = (d fork-starting) .is ∙ ap (putWays T w) starts-all
 
-    ways-count : to ≡ at .way + length (distinct (startsOf (unrolled (h .tree)) (at .place + 1) k))
+    ways-count : to ≡ w + length (distinct (startsOf (unrolled (h .tree)) (b + 1) k))
     unfolding fork-starting
-    ways-count = (d fork-starting) .way ∙ ap (λ (ks : List ℕ). at .way + length ks) starts-all
+    ways-count = (d fork-starting) .way ∙ ap (λ (ks : List ℕ). w + length ks) starts-all
 
-    pub forking-words : (4 * at .place + 4 ≤ length T1) × (at .way < 65536) × (to < 65536)
-    forking-words = fork-words T T1 at k (distinct (startsOf (unrolled (h .tree)) (at .place + 1) k)) to (h .fits) (ap length ways-put ∙ ways-length T (at .way) _) ways-count
+    pub forking-words : (4 * b + 4 ≤ length T1) × (w < 65536) × (to < 65536)
+    forking-words = fork-words T T1 b w k (distinct (startsOf (unrolled (h .tree)) (b + 1) k)) to (h .fits) (ap length ways-put ∙ ways-length T w _) ways-count
 
-    pub forking-done : (T2 : List ℕ) → T2 ≡ putWords T1 (at .place) 0 0 (at .way) to → Emitted T T2 at (record { place = at .place + 1; way = to })
-        (forkPlaces (h .tree) (at .place) k)
-    forking-done T2 e = fork-put T T1 T2 at (distinct (startsOf (unrolled (h .tree)) (at .place + 1) k)) to ways-put ways-count e
+    pub forking-done : (T2 : List ℕ) → T2 ≡ putWords T1 b 0 0 w to → Emitted T T2 b w to
+        (forkPlaces (h .tree) b k)
+    forking-done T2 e = fork-put T T1 T2 b w (distinct (startsOf (unrolled (h .tree)) (b + 1) k)) to ways-put ways-count e
 
 -- ---- sorts that are not these
 

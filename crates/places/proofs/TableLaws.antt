@@ -9,7 +9,6 @@ use lib.Seq.{getD-set-same, getD-set-other}
 use Rattle.rules.specs.Places.{Place, pLetter, pCaret, pDollar, pFork, pEnd}
 use Rattle.places.specs.Tables.{span, placeBy, placeIn, placesFrom}
 use Rattle.places.specs.Emitting.{putWays, putWords, putPlace, wayCount, waysIn, putPlaces, Fitting, Emitted}
-use Rattle.places.specs.declared.Spot.{Spot}
 
 -- ---- lengths
 
@@ -65,8 +64,8 @@ places-append T q w (p ∷ ps) rs =
 
 -- ---- what is put, in two parts
 
-module _ (T : List ℕ) (at : Spot) (k : ℕ) (xs ys : List Place) where
-  pub fit-left : (j : ℕ) → j ≤ 256 → Fitting T at k (xs ++ ys) → Fitting T at j xs
+module _ (T : List ℕ) (b w k : ℕ) (xs ys : List Place) where
+  pub fit-left : (j : ℕ) → j ≤ 256 → Fitting T b w k (xs ++ ys) → Fitting T b w j xs
   fit-left j h f =
       record {
         long = f .long;
@@ -77,30 +76,30 @@ module _ (T : List ℕ) (at : Spot) (k : ℕ) (xs ys : List Place) where
         behind = h;
       }
 
-  pub fit-right : (T1 : List ℕ) (r : Spot) → Emitted T T1 at r xs → Fitting T at k (xs ++ ys) → Fitting T1 r k ys
-  fit-right T1 r e f =
-      let l : length T1 ≡ length T = ap length (e .is) ∙ places-length T (at .place) (at .way) xs in
+  -- the second part begins at place v
+  pub fit-right : (T1 : List ℕ) (v r : ℕ) → v ≡ b + length xs → Emitted T T1 b w r xs → Fitting T b w k (xs ++ ys) → Fitting T1 v r k ys
+  fit-right T1 v r ev e f =
+      let l : length T1 ≡ length T = ap length (e .is) ∙ places-length T b w xs in
       record {
         long = omega (arith, f .long);
         small = omega (arith, f .small);
-        place = omega (arith, f .place, length-append xs ys, e .place);
+        place = omega (arith, f .place, length-append xs ys);
         low = omega (arith, f .low, e .way);
         way = omega (arith, f .way, waysIn-append xs ys, e .way);
         behind = f .behind;
       }
 
-pub emitted-two : (T T1 T2 : List ℕ) (at r q : Spot) (xs ys : List Place) → Emitted T T1 at r xs → Emitted T1 T2 r q ys → Emitted T T2 at q (xs ++ ys)
-emitted-two T T1 T2 at r q xs ys a b =
+pub emitted-two : (T T1 T2 : List ℕ) (b w v r q : ℕ) (xs ys : List Place) → v ≡ b + length xs → Emitted T T1 b w r xs → Emitted T1 T2 v r q ys → Emitted T T2 b w q (xs ++ ys)
+emitted-two T T1 T2 b w v r q xs ys ev x y =
     record {
-      is = b .is ∙ ap (λ (U : List ℕ). putPlaces U (r .place) (r .way) ys) (a .is) ∙ ap (λ (v : ℕ). putPlaces (putPlaces T (at .place) (at .way) xs) v (r .way) ys) (a .place)
-          ∙ ap (λ (v : ℕ). putPlaces (putPlaces T (at .place) (at .way) xs) (at .place + length xs) v ys) (a .way) ∙ sym (places-append T (at .place) (at .way) xs ys);
-      place = omega (arith, a .place, b .place, length-append xs ys);
-      way = omega (arith, a .way, b .way, waysIn-append xs ys);
+      is = y .is ∙ ap (λ (U : List ℕ). putPlaces U v r ys) (x .is) ∙ ap (λ (u : ℕ). putPlaces (putPlaces T b w xs) u r ys) ev
+          ∙ ap (λ (u : ℕ). putPlaces (putPlaces T b w xs) (b + length xs) u ys) (x .way) ∙ sym (places-append T b w xs ys);
+      way = omega (arith, x .way, y .way, waysIn-append xs ys);
     }
 
-pub emitted-none : (T : List ℕ) (at : Spot) → Emitted T T at at []
+pub emitted-none : (T : List ℕ) (b w : ℕ) → Emitted T T b w w []
 unfolding putPlaces waysIn
-emitted-none T at = record { is = refl; place = omega arith; way = omega arith }
+emitted-none T b w = record { is = refl; way = omega arith }
 
 -- ---- words that are as they were
 

@@ -9,13 +9,9 @@ use Rattle.rules.proofs.Counting.{unroll-size}
 use Rattle.rules.proofs.Distinct.{thinPlace, thinned, thinned-append}
 use Rattle.places.specs.Tables.{placesFrom, tabled}
 use Rattle.places.specs.Emitting.{putWords, putPlace, wayCount, waysIn, putPlaces, Emitted, treePlaces, Emitting, Unrolling, Tabled}
-use Rattle.places.specs.declared.Spot.{Spot}
 use Rattle.places.proofs.TableLaws.{places-append, waysIn-append, places-length, words-length, places-back, places-kept, places-stop}
 use Rattle.places.proofs.WayLaws.{all-few}
 use Rattle.places.proofs.CodeLaws.{tree-length}
-
-abbrev first : Spot
-first = record { place = 0; way = 1024 }
 
 module _ (s : List ℕ) (top P : ℕ) (T : List ℕ) where
   pub some-place : Unrolling s top P T → 1 ≤ P
@@ -32,7 +28,7 @@ module _ (s : List ℕ) (top P : ℕ) (T : List ℕ) where
     few : waysIn (treePlaces (h .tree) 0 (P - 1)) ≤ 3 * (P - 1)
     few = omega (arith, all-few (unroll (h .tree)) 0 (P - 1), last-place)
 
-    pub unroll-emitting : Emitting s top T first (P - 1)
+    pub unroll-emitting : Emitting s top T 0 1024 (P - 1)
     unroll-emitting =
         record {
           tree = h .tree;
@@ -52,22 +48,22 @@ module _ (s : List ℕ) (top P : ℕ) (T : List ℕ) where
     unfolding places thinned thinPlace
     all = thinned-append (code (unroll (h .tree)) 0 (size (unroll (h .tree)))) (pEnd ∷ []) ∙ ap (λ (k : ℕ). thinned (code (unroll (h .tree)) 0 k) ++ (pEnd ∷ [])) last-place
 
-    module _ (T1 : List ℕ) (r : Spot) (d : (g : Emitting s top T first (P - 1)) → Emitted T T1 first r (treePlaces (g .tree) 0 (P - 1))) where
-      put : Emitted T T1 first r (treePlaces (h .tree) 0 (P - 1))
+    module _ (T1 : List ℕ) (r : ℕ) (d : (g : Emitting s top T 0 1024 (P - 1)) → Emitted T T1 0 1024 r (treePlaces (g .tree) 0 (P - 1))) where
+      put : Emitted T T1 0 1024 r (treePlaces (h .tree) 0 (P - 1))
       unfolding unroll-emitting
       put = d unroll-emitting
 
       same : length T1 ≡ length T
       same = ap length (put .is) ∙ places-length T 0 1024 (treePlaces (h .tree) 0 (P - 1))
 
-      pub end-words : (4 * r .place + 4 ≤ length T1) × (0 < 65536) × (0 < 65536)
-      end-words = (omega (arith, put .place, long, h .few, h .long, same, some-place h), omega arith, omega arith)
+      pub end-words : (4 * (P - 1) + 4 ≤ length T1) × (0 < 65536) × (0 < 65536)
+      end-words = (omega (arith, h .few, h .long, same, some-place h), omega arith, omega arith)
 
-      module _ (T2 : List ℕ) (e : T2 ≡ putWords T1 (r .place) 4 0 0 0) where
+      module _ (T2 : List ℕ) (e : T2 ≡ putWords T1 (P - 1) 4 0 0 0) where
         both : T2 ≡ putPlaces T 0 1024 (treePlaces (h .tree) 0 (P - 1) ++ (pEnd ∷ []))
         unfolding putPlaces putPlace
-        both = e ∙ ap (λ (U : List ℕ). putWords U (r .place) 4 0 0 0) (put .is) ∙ ap (λ (q : ℕ). putWords (putPlaces T 0 1024 (treePlaces (h .tree) 0 (P - 1))) q 4 0 0 0)
-            (put .place)
+        both = e ∙ ap (λ (U : List ℕ). putWords U (P - 1) 4 0 0 0) (put .is) ∙ ap (λ (q : ℕ). putWords (putPlaces T 0 1024 (treePlaces (h .tree) 0 (P - 1))) q 4 0 0 0)
+            (let z : P - 1 ≡ 0 + length (treePlaces (h .tree) 0 (P - 1)) = omega (arith, long) in z)
             ∙ sym (places-append T 0 1024 (treePlaces (h .tree) 0 (P - 1)) (pEnd ∷ []))
 
         ways-all : waysIn (treePlaces (h .tree) 0 (P - 1) ++ (pEnd ∷ [])) ≡ waysIn (treePlaces (h .tree) 0 (P - 1))
@@ -78,15 +74,15 @@ module _ (s : List ℕ) (top P : ℕ) (T : List ℕ) where
         long-all = omega (arith, length-append (treePlaces (h .tree) 0 (P - 1)) (pEnd ∷ []), long, some-place h)
 
         pub unroll-length : length T2 ≡ length T
-        unroll-length = ap length e ∙ words-length T1 (r .place) 4 0 0 0 ∙ same
+        unroll-length = ap length e ∙ words-length T1 (P - 1) 4 0 0 0 ∙ same
 
-        pub unroll-done : Tabled (h .tree) P T T2 (r .way)
+        pub unroll-done : Tabled (h .tree) P T T2 r
         unfolding tabled
         unroll-done =
             let pl : List Place = treePlaces (h .tree) 0 (P - 1) ++ (pEnd ∷ []) in
             let back : placesFrom (putPlaces T 0 1024 pl) 0 (length pl) ≡ pl = places-back T 0 1024 pl (omega (arith, long-all, h .few))
             (omega (arith, ways-all, few, h .long)) in
-            let end : r .way ≡ 1024 + waysIn pl = omega (arith, put .way, ways-all) in
+            let end : r ≡ 1024 + waysIn pl = omega (arith, put .way, ways-all) in
             record {
               is = ap (λ (U : List ℕ). placesFrom U 0 P) both ∙ ap (λ (m : ℕ). placesFrom (putPlaces T 0 1024 pl) 0 m) (sym long-all) ∙ back ∙ sym all;
               stop = λ q l. rw (both, end) (places-stop T 0 1024 pl (omega (arith, long-all, h .few)) (omega (arith, ways-all, few, h .long)) q (omega arith)

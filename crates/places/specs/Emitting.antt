@@ -11,7 +11,6 @@ use Rattle.rules.specs.Places.{Unrolled, uStar, copies, options, unrolled, unro
 use Rattle.rules.proofs.Distinct.{fresh, distinct, thinned}
 use Rattle.pattern.specs.Held.{body, lazyOf, Top}
 use Rattle.places.specs.Tables.{span, tabled}
-use Rattle.places.specs.declared.Spot.{Spot}
 
 -- ---- the table with places
 
@@ -53,20 +52,19 @@ putPlaces T q w (p ∷ ps) = putPlaces (putPlace T q w p) (suc q) (w + wayCount 
 
 -- ---- what is put where
 
--- the table has room for these places, and all numbers fit their words; k is the place behind them
-pub record Fitting (T : List ℕ) (at : Spot) (k : ℕ) (pl : List Place) : Type 0 where
+-- the table has room for these places from place b on and for their ways from word w on, and all numbers fit their words; k is the place behind them
+pub record Fitting (T : List ℕ) (b w k : ℕ) (pl : List Place) : Type 0 where
   pub long : 1024 ≤ length T
   pub small : length T < 65536
-  pub place : at .place + length pl ≤ 256
-  pub low : 1024 ≤ at .way
-  pub way : at .way + waysIn pl ≤ length T
+  pub place : b + length pl ≤ 256
+  pub low : 1024 ≤ w
+  pub way : w + waysIn pl ≤ length T
   pub behind : k ≤ 256
 
--- these places were put, and r is where the next place and the next way go
-pub record Emitted (T exit : List ℕ) (at r : Spot) (pl : List Place) : Type 0 where
-  pub is : exit ≡ putPlaces T (at .place) (at .way) pl
-  pub place : r .place ≡ at .place + length pl
-  pub way : r .way ≡ at .way + waysIn pl
+-- these places were put from place b on, their ways from word w on, and r is the word behind the last way
+pub record Emitted (T exit : List ℕ) (b w r : ℕ) (pl : List Place) : Type 0 where
+  pub is : exit ≡ putPlaces T b w pl
+  pub way : r ≡ w + waysIn pl
 
 -- ---- a fork's ways
 
@@ -103,27 +101,27 @@ pub record Started (s : List ℕ) (i : ℕ) (T : List ℕ) (from to b k : ℕ) (
 abbrev pub twoPlaces : ℕ → ℕ → List Place
 twoPlaces x y = pFork (distinct (x ∷ y ∷ [])) ∷ []
 
-pub record TwoWays (T : List ℕ) (at : Spot) (x y : ℕ) : Type 0 where
-  pub fits : Fitting T at x (twoPlaces x y)
+pub record TwoWays (T : List ℕ) (b w x y : ℕ) : Type 0 where
+  pub fits : Fitting T b w x (twoPlaces x y)
   pub second : y ≤ 256
 
 -- a fork between a copy and leaving
 abbrev pub choicePlaces : Bool → ℕ → ℕ → List Place
 choicePlaces lazy copy leave = pFork (distinct (waysInTurn lazy copy leave)) ∷ []
 
-pub record Choosing (T : List ℕ) (at : Spot) (lazy : Bool) (copy leave : ℕ) : Type 0 where
-  pub fits : Fitting T at leave (choicePlaces lazy copy leave)
+pub record Choosing (T : List ℕ) (b w : ℕ) (lazy : Bool) (copy leave : ℕ) : Type 0 where
+  pub fits : Fitting T b w leave (choicePlaces lazy copy leave)
   pub copied : copy ≤ 256
 
 -- the fork of an alternation, as the one place at b
 abbrev pub forkPlaces : Tree pattern → ℕ → ℕ → List Place
 forkPlaces p b k = pFork (distinct (startsOf (unrolled p) (b + 1) k)) ∷ []
 
-pub record Forking (s : List ℕ) (i : ℕ) (T : List ℕ) (at : Spot) (k : ℕ) : Type 0 where
+pub record Forking (s : List ℕ) (i : ℕ) (T : List ℕ) (b w k : ℕ) : Type 0 where
   pub tree : Tree pattern
   pub top : Top tree i s
-  pub fits : Fitting T at k (forkPlaces tree (at .place) k)
-  pub room : at .place + 1 + sizes (unrolled tree) ≤ 256
+  pub fits : Fitting T b w k (forkPlaces tree b k)
+  pub room : b + 1 + sizes (unrolled tree) ≤ 256
 
 -- ---- a tree's places
 
@@ -146,29 +144,29 @@ turns n m lazy t = copies n t (pick (eqb m 100) (uStar lazy t) (options m lazy t
 abbrev pub turnPlaces : ℕ → ℕ → Tree factor → ℕ → ℕ → List Place
 turnPlaces n m F b k = thinned (code (turns n m (lazyOf F) (unrolled (body F))) b k)
 
-pub record Emitting (s : List ℕ) (i : ℕ) (T : List ℕ) (at : Spot) (k : ℕ) : Type 0 where
+pub record Emitting (s : List ℕ) (i : ℕ) (T : List ℕ) (b w k : ℕ) : Type 0 where
   pub tree : Tree pattern
   pub top : Top tree i s
-  pub fits : Fitting T at k (treePlaces tree (at .place) k)
+  pub fits : Fitting T b w k (treePlaces tree b k)
 
-pub record Branching (s : List ℕ) (i : ℕ) (T : List ℕ) (at : Spot) (k : ℕ) : Type 0 where
+pub record Branching (s : List ℕ) (i : ℕ) (T : List ℕ) (b w k : ℕ) : Type 0 where
   pub tree : Tree pattern
   pub top : Top tree i s
-  pub fits : Fitting T at k (branchPlaces tree (at .place) k)
+  pub fits : Fitting T b w k (branchPlaces tree b k)
 
-pub record Bodying (s : List ℕ) (i : ℕ) (T : List ℕ) (at : Spot) (k : ℕ) : Type 0 where
+pub record Bodying (s : List ℕ) (i : ℕ) (T : List ℕ) (b w k : ℕ) : Type 0 where
   pub of : Tree factor
   pub top : Top (one (last of)) i s
-  pub fits : Fitting T at k (bodyPlaces of (at .place) k)
+  pub fits : Fitting T b w k (bodyPlaces of b k)
 
 -- c: the places of a body; end: the number behind the last place
-pub record Turning (s : List ℕ) (i c n m end : ℕ) (T : List ℕ) (at : Spot) (k : ℕ) : Type 0 where
+pub record Turning (s : List ℕ) (i c n m end : ℕ) (T : List ℕ) (b w k : ℕ) : Type 0 where
   pub of : Tree factor
   pub top : Top (one (last of)) i s
   pub each : c ≡ size (unrolled (body of))
-  pub ends : end ≡ at .place + size (turns n m (lazyOf of) (unrolled (body of)))
+  pub ends : end ≡ b + size (turns n m (lazyOf of) (unrolled (body of)))
   pub few : (n ≤ 99) × (m ≤ 100)
-  pub fits : Fitting T at k (turnPlaces n m of (at .place) k)
+  pub fits : Fitting T b w k (turnPlaces n m of b k)
 
 -- r is the number of places of whatever tree has its top at i, if it has at most 256
 abbrev pub WholeSize : List ℕ → ℕ → ℕ → Type 0

@@ -16,12 +16,6 @@ ghost use Rattle.places.specs.Tables.{span};
 ghost use Rattle.places.specs.Emitting.{putWords, Emitted, WayPut, WayNeeds, Starting, Started, TwoWays, twoPlaces, Choosing, choicePlaces, forkPlaces, Forking, anchorSort};
 ghost use Rattle.places.specs.Emitting.{treePlaces, branchPlaces, bodyPlaces, turnPlaces, Emitting, Branching, Bodying, Turning, WholeSize, BodySize, Unrolling, Tabled};
 
-// Where the next place and the next way go.
-pub struct Spot {
-    pub place: usize,
-    pub way: usize,
-}
-
 fn wide(x: u16) -> usize
     ensures { λ r. ⌜ (r ≡ x) × (r < 65536) ⌝ }
 {
@@ -106,46 +100,36 @@ fn fork_ways(
     put_way(table, from, to, start_at(b, b + n.places, k))
 }
 
-// The fork of an alternation.
-fn branch_fork(room: &[u16], i: usize, table: &mut [u16], at: Spot, k: usize) -> Spot
-    requires { ⌜ Forking (now room) i (now table) at k ⌝ }
-    ensures { λ r. ⌜ ((h : Forking (now (room .entry)) i (now (table .entry)) at k) → Emitted (now (table .entry)) (now (table .exit)) at r (forkPlaces (h .tree) (at .place) k)) ⌝ }
+// The fork of an alternation, as place b, its ways from word w on. Returns the word behind the last way, as all functions do that put places.
+fn branch_fork(room: &[u16], i: usize, table: &mut [u16], b: usize, w: usize, k: usize) -> usize
+    requires { ⌜ Forking (now room) i (now table) b w k ⌝ }
+    ensures { λ r. ⌜ ((h : Forking (now (room .entry)) i (now (table .entry)) b w k) → Emitted (now (table .entry)) (now (table .exit)) b w r (forkPlaces (h .tree) b k)) ⌝ }
 {
-    let b = at.place;
-    let w = at.way;
     let to = fork_ways(room, i, table, w, w, b + 1, k);
     put_words(table, b, 0, 0, w, to);
-    Spot {
-        place: b + 1,
-        way: to,
-    }
+    to
 }
 
 // A fork with two ways, or with one if they are the same.
-fn two_ways(table: &mut [u16], at: Spot, x: usize, y: usize) -> Spot
-    requires { ⌜ TwoWays (now table) at x y ⌝ }
-    ensures { λ r. ⌜ Emitted (now (table .entry)) (now (table .exit)) at r (twoPlaces x y) ⌝ }
+fn two_ways(table: &mut [u16], b: usize, w: usize, x: usize, y: usize) -> usize
+    requires { ⌜ TwoWays (now table) b w x y ⌝ }
+    ensures { λ r. ⌜ Emitted (now (table .entry)) (now (table .exit)) b w r (twoPlaces x y) ⌝ }
 {
-    let b = at.place;
-    let w = at.way;
     let next = put_way(table, w, w, x);
     let to = put_way(table, w, next, y);
     put_words(table, b, 0, 0, w, to);
-    Spot {
-        place: b + 1,
-        way: to,
-    }
+    to
 }
 
 // A fork between a copy and leaving.
-fn fork(table: &mut [u16], at: Spot, lazy: bool, copy: usize, leave: usize) -> Spot
-    requires { ⌜ Choosing (now table) at lazy copy leave ⌝ }
-    ensures { λ r. ⌜ Emitted (now (table .entry)) (now (table .exit)) at r (choicePlaces lazy copy leave) ⌝ }
+fn fork(table: &mut [u16], b: usize, w: usize, lazy: bool, copy: usize, leave: usize) -> usize
+    requires { ⌜ Choosing (now table) b w lazy copy leave ⌝ }
+    ensures { λ r. ⌜ Emitted (now (table .entry)) (now (table .exit)) b w r (choicePlaces lazy copy leave) ⌝ }
 {
     if lazy {
-        return two_ways(table, at, leave, copy);
+        return two_ways(table, b, w, leave, copy);
     }
-    two_ways(table, at, copy, leave)
+    two_ways(table, b, w, copy, leave)
 }
 
 // How many times a fork and a copy stand behind the copies; 100 if the quantifier is unbounded.
@@ -206,69 +190,66 @@ fn anchor_sort(c: u8) -> u16
     3
 }
 
-// A letter's or an anchor's place.
-fn put_simple(table: &mut [u16], at: Spot, sort: u16, letter: u16, k: usize) -> Spot
-    requires { ⌜ (4 * at .place + 4 ≤ length (now table)) × (k < 65536) × (at .place < 65536) ⌝ }
-    ensures { λ r. ⌜ (r ≡ record { place = at .place + 1; way = at .way }) × (now (table .exit) ≡ putWords (now (table .entry)) (at .place) sort letter k 0) ⌝ }
+// A letter's or an anchor's place, which has no ways.
+fn put_simple(table: &mut [u16], b: usize, w: usize, sort: u16, letter: u16, k: usize) -> usize
+    requires { ⌜ (4 * b + 4 ≤ length (now table)) × (k < 65536) ⌝ }
+    ensures { λ r. ⌜ (r ≡ w) × (now (table .exit) ≡ putWords (now (table .entry)) b sort letter k 0) ⌝ }
 {
-    let q = at.place;
-    put_words(table, q, sort, letter, k, 0);
-    Spot {
-        place: q + 1,
-        way: at.way,
-    }
+    put_words(table, b, sort, letter, k, 0);
+    w
 }
 
-// The tree at i, its places numbered from at.place on, where k is the place behind it. A part without places is not walked over.
-fn emit(room: &[u16], i: usize, table: &mut [u16], at: Spot, k: usize) -> Spot
-    requires { ⌜ Emitting (now room) i (now table) at k ⌝ }
-    ensures { λ r. ⌜ ((h : Emitting (now (room .entry)) i (now (table .entry)) at k) → Emitted (now (table .entry)) (now (table .exit)) at r (treePlaces (h .tree) (at .place) k)) ⌝ }
+// The tree at i, its places numbered from b on and their ways from word w on, where k is the place behind it. A part without places is not walked
+// over.
+fn emit(room: &[u16], i: usize, table: &mut [u16], b: usize, w: usize, k: usize) -> usize
+    requires { ⌜ Emitting (now room) i (now table) b w k ⌝ }
+    ensures { λ r. ⌜ ((h : Emitting (now (room .entry)) i (now (table .entry)) b w k) → Emitted (now (table .entry)) (now (table .exit)) b w r (treePlaces (h .tree) b k)) ⌝ }
 {
     let n = node_at(room, i);
     let sort = n.sort;
     let left = n.left;
     let right = n.right;
-    let b = at.place;
     let end = b + n.places;
     if let Sort::Alternation = sort {
-        let inside = branch_fork(room, i, table, at, k);
-        return branches(room, i, table, inside, k);
+        let inside = branch_fork(room, i, table, b, w, k);
+        return branches(room, i, table, b + 1, inside, k);
     }
     if end == b {
-        return at;
+        return w;
     }
     if let Sort::Sequence = sort {
         let mid = b + places_at(room, left);
         if mid == b {
-            return emit(room, right, table, at, k);
+            return emit(room, right, table, b, w, k);
         }
         let next = start_at(mid, end, k);
-        let then = emit(room, left, table, at, next);
-        return emit(room, right, table, then, k);
+        let then = emit(room, left, table, b, w, next);
+        return emit(room, right, table, mid, then, k);
     }
     let c = body_size(room, i);
     let low = n.low;
     let m = turns_behind(low, n.high);
-    rounds(room, i, c, low, m, end, table, at, k)
+    rounds(room, i, c, low, m, end, table, b, w, k)
 }
 
 // The branches of the pattern at i; the fork of an alternation is there already.
-fn branches(room: &[u16], i: usize, table: &mut [u16], at: Spot, k: usize) -> Spot
-    requires { ⌜ Branching (now room) i (now table) at k ⌝ }
-    ensures { λ r. ⌜ ((h : Branching (now (room .entry)) i (now (table .entry)) at k) → Emitted (now (table .entry)) (now (table .exit)) at r (branchPlaces (h .tree) (at .place) k)) ⌝ }
+fn branches(room: &[u16], i: usize, table: &mut [u16], b: usize, w: usize, k: usize) -> usize
+    requires { ⌜ Branching (now room) i (now table) b w k ⌝ }
+    ensures { λ r. ⌜ ((h : Branching (now (room .entry)) i (now (table .entry)) b w k) → Emitted (now (table .entry)) (now (table .exit)) b w r (branchPlaces (h .tree) b k)) ⌝ }
 {
     let n = node_at(room, i);
     let sort = n.sort;
     let left = n.left;
     let right = n.right;
     if n.places == 0 {
-        return at;
+        return w;
     }
     if let Sort::Alternation = sort {
-        let then = emit(room, left, table, at, k);
-        return branches(room, right, table, then, k);
+        let then = emit(room, left, table, b, w, k);
+        let rest = b + places_at(room, left);
+        return branches(room, right, table, rest, then, k);
     }
-    emit(room, i, table, at, k)
+    emit(room, i, table, b, w, k)
 }
 
 // The body of the factor at i with c places: n copies, then m times a fork and a copy, or for m = 100 a fork and a copy that leads back to it.
@@ -281,50 +262,53 @@ fn rounds(
     m: usize,
     end: usize,
     table: &mut [u16],
-    at: Spot,
+    b: usize,
+    w: usize,
     k: usize,
-) -> Spot
-    requires { ⌜ Turning (now room) i c n m end (now table) at k ⌝ }
-    ensures { λ r. ⌜ ((h : Turning (now (room .entry)) i c n m end (now (table .entry)) at k) → Emitted (now (table .entry)) (now (table .exit)) at r (turnPlaces n m (h .of) (at .place) k)) ⌝ }
+) -> usize
+    requires { ⌜ Turning (now room) i c n m end (now table) b w k ⌝ }
+    ensures { λ r. ⌜ ((h : Turning (now (room .entry)) i c n m end (now (table .entry)) b w k) → Emitted (now (table .entry)) (now (table .exit)) b w r (turnPlaces n m (h .of) b k)) ⌝ }
 {
-    let b = at.place;
     if 0 < n {
-        let next = start_at(b + c, end, k);
-        let then = body(room, i, table, at, next);
-        return rounds(room, i, c, n - 1, m, end, table, then, k);
+        let rest = b + c;
+        let next = start_at(rest, end, k);
+        let then = body(room, i, table, b, w, next);
+        return rounds(room, i, c, n - 1, m, end, table, rest, then, k);
     }
     if m == 0 {
-        return at;
+        return w;
     }
     let node = node_at(room, i);
     let lazy = node.lazy;
+    let first = b + 1;
     if m == 100 {
-        let copy = start_at(b + 1, end, b);
-        let inside = fork(table, at, lazy, copy, k);
-        return body(room, i, table, inside, b);
+        let copy = start_at(first, end, b);
+        let inside = fork(table, b, w, lazy, copy, k);
+        return body(room, i, table, first, inside, b);
     }
-    let copy = start_at(b + 1, end, k);
-    let inside = fork(table, at, lazy, copy, k);
-    let next = start_at(b + 1 + c, end, k);
-    let then = body(room, i, table, inside, next);
-    rounds(room, i, c, 0, m - 1, end, table, then, k)
+    let copy = start_at(first, end, k);
+    let inside = fork(table, b, w, lazy, copy, k);
+    let rest = first + c;
+    let next = start_at(rest, end, k);
+    let then = body(room, i, table, first, inside, next);
+    rounds(room, i, c, 0, m - 1, end, table, rest, then, k)
 }
 
 // The body of the factor at i, once.
-fn body(room: &[u16], i: usize, table: &mut [u16], at: Spot, k: usize) -> Spot
-    requires { ⌜ Bodying (now room) i (now table) at k ⌝ }
-    ensures { λ r. ⌜ ((h : Bodying (now (room .entry)) i (now (table .entry)) at k) → Emitted (now (table .entry)) (now (table .exit)) at r (bodyPlaces (h .of) (at .place) k)) ⌝ }
+fn body(room: &[u16], i: usize, table: &mut [u16], b: usize, w: usize, k: usize) -> usize
+    requires { ⌜ Bodying (now room) i (now table) b w k ⌝ }
+    ensures { λ r. ⌜ ((h : Bodying (now (room .entry)) i (now (table .entry)) b w k) → Emitted (now (table .entry)) (now (table .exit)) b w r (bodyPlaces (h .of) b k)) ⌝ }
 {
     let n = node_at(room, i);
     let sort = n.sort;
     let left = n.left;
     match sort {
-        Sort::Letter(c) => put_simple(table, at, 1, short(c), k),
-        Sort::Anchor(c) => put_simple(table, at, anchor_sort(c), 0, k),
-        Sort::Empty => at,
-        Sort::Sequence => at,
-        Sort::Alternation => at,
-        Sort::Group => emit(room, left, table, at, k),
+        Sort::Letter(c) => put_simple(table, b, w, 1, short(c), k),
+        Sort::Anchor(c) => put_simple(table, b, w, anchor_sort(c), 0, k),
+        Sort::Empty => w,
+        Sort::Sequence => w,
+        Sort::Alternation => w,
+        Sort::Group => emit(room, left, table, b, w, k),
     }
 }
 
@@ -334,11 +318,8 @@ pub fn unroll(room: &[u16], top: usize, places: usize, table: &mut [u16]) -> usi
     requires { ⌜ Unrolling (now room) top places (now table) ⌝ }
     ensures { λ r. ⌜ ((h : Unrolling (now (room .entry)) top places (now (table .entry))) → Tabled (h .tree) places (now (table .entry)) (now (table .exit)) r) ⌝ }
 {
-    let at = Spot {
-        place: 0,
-        way: 1024,
-    };
-    let end = emit(room, top, table, at, places - 1);
-    put_words(table, end.place, 4, 0, 0, 0);
-    end.way
+    let last = places - 1;
+    let to = emit(room, top, table, 0, 1024, last);
+    put_words(table, last, 4, 0, 0, 0);
+    to
 }

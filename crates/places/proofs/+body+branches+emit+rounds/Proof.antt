@@ -1,7 +1,7 @@
 -- The functions `body`, `branches`, `emit`, `rounds` of places, which call each other, meet their contracts.
 -- The measure: first the node's height, then the function and the rounds left (EmitLaws, measures). Laws: ForkLaws, EmitLaws.
 use Rattle.places.proofs.ForkLaws.{not-sequence, not-alternation}
-use Rattle.places.proofs.EmitLaws.{emitM, branchM, roundM, bodyM, emitted-length, emit-in, emit-end, emit-none, seq-left-in, seq-mid, seq-skip, seq-skipped, seq-first, seq-second, seq-done, alt-forking, alt-inside, alt-done, emit-node, turn-order, turn-first, turn-done, branches-in, branches-none, branch-first, branch-second, branch-done, single-first, single-done, round-in, copy-first, copy-again, copy-done, copy-fits, copy-less, none-done, star-choose, star-body, star-done, star-fits, option-choose, option-body, option-again, option-done, option-fits, option-more, option-less, body-in, letter-words, letter-done, anchor-words, anchor-done, empty-done, sequence-done, alternation-done, group-first, group-done}
+use Rattle.places.proofs.EmitLaws.{emitM, branchM, roundM, bodyM, emitted-length, emit-in, emit-end, emit-none, seq-left-in, seq-mid, seq-skip, seq-skipped, seq-first, seq-second, seq-done, alt-forking, alt-first, alt-inside, alt-done, emit-node, turn-order, turn-first, turn-done, branches-in, branches-none, branch-left-in, branch-mid, branch-first, branch-second, branch-done, single-first, single-done, round-in, first-fits, copy-first, copy-again, copy-done, copy-fits, copy-less, none-done, star-choose, star-body, star-done, option-choose, option-body, option-again, option-done, option-more, option-less, body-in, letter-words, letter-done, anchor-words, anchor-done, empty-done, sequence-done, alternation-done, group-first, group-done}
 use mathlib.Core.Path.{refl}
 use borrow.Author.Needs.{needs}
 use Prim.Native.Nat.{ℕ, _<_}
@@ -81,7 +81,7 @@ body-node-at-requires : (t : ℕ) → body-lts.Need-node-at-requires (
   emit-below t,
   emit.Post,
 ) (body-at t) body.Post
-body-node-at-requires t c κs = body-in _ _ _ _ _ (c .before .before .pre .1)
+body-node-at-requires t c κs = body-in _ _ _ _ _ _ (c .before .before .pre .1)
 
 body-enum-known-sort : (t : ℕ) → body-lts.Need-enum-known-sort (
   node-at-reads.Asked,
@@ -123,7 +123,7 @@ body-put-simple-requires : (t : ℕ) → body-lts.Need-put-simple-requires (
   emit-below t,
   emit.Post,
 ) (body-at t) body.Post
-body-put-simple-requires t c κs = letter-words _ _ _ (c .before .before .before .before .before .node-at .ensures) _ _ _ _ (c .before .before .before .sort .given .1)
+body-put-simple-requires t c κs = letter-words _ _ _ (c .before .before .before .before .before .node-at .ensures) _ _ _ _ _ (c .before .before .before .sort .given .1)
     (c .before .before .before .before .before .before .before .before .pre .1)
 
 body-enum-known-sort-2 : (t : ℕ) → body-lts.Need-enum-known-sort-2 (
@@ -166,7 +166,7 @@ body-put-simple-requires-2 : (t : ℕ) → body-lts.Need-put-simple-requires-2 (
   emit-below t,
   emit.Post,
 ) (body-at t) body.Post
-body-put-simple-requires-2 t c κs = anchor-words _ _ _ (c .before .before .before .before .before .node-at .ensures) _ _ _ _ (c .before .before .before .sort2 .given .1)
+body-put-simple-requires-2 t c κs = anchor-words _ _ _ (c .before .before .before .before .before .node-at .ensures) _ _ _ _ _ (c .before .before .before .sort2 .given .1)
     (c .before .before .before .before .before .before .before .before .pre .1)
 
 body-enum-told : (t : ℕ) → body-lts.Need-enum-told (
@@ -237,7 +237,7 @@ body-emit-requires : (t : ℕ) → body-lts.Need-emit-requires (
   emit-below t,
   emit.Post,
 ) (body-at t) body.Post
-body-emit-requires t c κs = group-first _ _ _ (c .before .before .before .node-at .ensures) _ _ _ (c .before .enum-told4 .given .1)
+body-emit-requires t c κs = group-first _ _ _ (c .before .before .before .node-at .ensures) _ _ _ _ (c .before .enum-told4 .given .1)
     (c .before .before .before .before .before .before .pre .1) _ (c .before .before .before .before .before .before .pre .0)
 
 body-same-length : (t : ℕ) → body-lts.Need-same-length (
@@ -252,7 +252,7 @@ body-same-length : (t : ℕ) → body-lts.Need-same-length (
   emit-below t,
   emit.Post,
 ) (body-at t) body.Post
-body-same-length t c = emitted-length _ _ _ _ _ (letter-done _ _ _ (c .before .before .before .before .before .before .before .before .node-at .ensures) _ _ _ _
+body-same-length t c = emitted-length _ _ _ _ _ _ (letter-done _ _ _ (c .before .before .before .before .before .before .before .before .node-at .ensures) _ _ _ _ _
     (c .before .before .before .before .before .before .sort .given .1) (c .before .before .before .before .before .before .before .before .before .before .before .pre .1) _ _ _
     (c .before .before .before .short .ensures) (c .before .before .put-simple .ensures))
 
@@ -268,7 +268,7 @@ body-returns : (t : ℕ) → body-lts.Need-returns (
   emit-below t,
   emit.Post,
 ) (body-at t) body.Post
-body-returns t c = λ h. letter-done _ _ _ (c .before .before .before .before .before .before .before .before .node-at .ensures) _ _ _ _
+body-returns t c = λ h. letter-done _ _ _ (c .before .before .before .before .before .before .before .before .node-at .ensures) _ _ _ _ _
     (c .before .before .before .before .before .before .sort .given .1) h _ _ _ (c .before .before .before .short .ensures) (c .before .before .put-simple .ensures)
 
 body-same-length-2 : (t : ℕ) → body-lts.Need-same-length-2 (
@@ -283,7 +283,7 @@ body-same-length-2 : (t : ℕ) → body-lts.Need-same-length-2 (
   emit-below t,
   emit.Post,
 ) (body-at t) body.Post
-body-same-length-2 t c = emitted-length _ _ _ _ _ (anchor-done _ _ _ (c .before .before .before .before .before .before .before .before .node-at .ensures) _ _ _ _
+body-same-length-2 t c = emitted-length _ _ _ _ _ _ (anchor-done _ _ _ (c .before .before .before .before .before .before .before .before .node-at .ensures) _ _ _ _ _
     (c .before .before .before .before .before .before .sort2 .given .1) (c .before .before .before .before .before .before .before .before .before .before .before .pre .1) _ _
     _ (c .before .before .before .anchor-sort .ensures) (c .before .before .put-simple2 .ensures))
 
@@ -299,7 +299,7 @@ body-returns-2 : (t : ℕ) → body-lts.Need-returns-2 (
   emit-below t,
   emit.Post,
 ) (body-at t) body.Post
-body-returns-2 t c = λ h. anchor-done _ _ _ (c .before .before .before .before .before .before .before .before .node-at .ensures) _ _ _ _
+body-returns-2 t c = λ h. anchor-done _ _ _ (c .before .before .before .before .before .before .before .before .node-at .ensures) _ _ _ _ _
     (c .before .before .before .before .before .before .sort2 .given .1) h _ _ _ (c .before .before .before .anchor-sort .ensures) (c .before .before .put-simple2 .ensures)
 
 body-returns-3 : (t : ℕ) → body-lts.Need-returns-3 (
@@ -314,7 +314,7 @@ body-returns-3 : (t : ℕ) → body-lts.Need-returns-3 (
   emit-below t,
   emit.Post,
 ) (body-at t) body.Post
-body-returns-3 t c = λ h. empty-done _ _ _ (c .before .before .node-at .ensures) _ _ _ (c .enum-told .given .1) h
+body-returns-3 t c = λ h. empty-done _ _ _ (c .before .before .node-at .ensures) _ _ _ _ (c .enum-told .given .1) h
 
 body-returns-4 : (t : ℕ) → body-lts.Need-returns-4 (
   node-at-reads.Asked,
@@ -328,7 +328,7 @@ body-returns-4 : (t : ℕ) → body-lts.Need-returns-4 (
   emit-below t,
   emit.Post,
 ) (body-at t) body.Post
-body-returns-4 t c = λ h. sequence-done _ _ _ (c .before .before .node-at .ensures) _ _ _ (c .enum-told2 .given .1) h
+body-returns-4 t c = λ h. sequence-done _ _ _ (c .before .before .node-at .ensures) _ _ _ _ (c .enum-told2 .given .1) h
 
 body-returns-5 : (t : ℕ) → body-lts.Need-returns-5 (
   node-at-reads.Asked,
@@ -342,7 +342,7 @@ body-returns-5 : (t : ℕ) → body-lts.Need-returns-5 (
   emit-below t,
   emit.Post,
 ) (body-at t) body.Post
-body-returns-5 t c = λ h. alternation-done _ _ _ (c .before .before .node-at .ensures) _ _ _ (c .enum-told3 .given .1) h
+body-returns-5 t c = λ h. alternation-done _ _ _ (c .before .before .node-at .ensures) _ _ _ _ (c .enum-told3 .given .1) h
 
 body-same-length-3 : (t : ℕ) → body-lts.Need-same-length-3 (
   node-at-reads.Asked,
@@ -356,7 +356,7 @@ body-same-length-3 : (t : ℕ) → body-lts.Need-same-length-3 (
   emit-below t,
   emit.Post,
 ) (body-at t) body.Post
-body-same-length-3 t c = emitted-length _ _ _ _ _ (group-done _ _ _ (c .before .before .before .before .before .before .node-at .ensures) _ _ _
+body-same-length-3 t c = emitted-length _ _ _ _ _ _ (group-done _ _ _ (c .before .before .before .before .before .before .node-at .ensures) _ _ _ _
     (c .before .before .before .before .enum-told4 .given .1) (c .before .before .before .before .before .before .before .before .before .pre .1) _ _
     (c .before .before .emit .ensures))
 
@@ -372,7 +372,7 @@ body-returns-6 : (t : ℕ) → body-lts.Need-returns-6 (
   emit-below t,
   emit.Post,
 ) (body-at t) body.Post
-body-returns-6 t c = λ h. group-done _ _ _ (c .before .before .before .before .before .before .node-at .ensures) _ _ _ (c .before .before .before .before .enum-told4 .given .1)
+body-returns-6 t c = λ h. group-done _ _ _ (c .before .before .before .before .before .before .node-at .ensures) _ _ _ _ (c .before .before .before .before .enum-told4 .given .1)
     h _ _ (c .before .before .emit .ensures)
 
 branches-node-at-requires : (t : ℕ) → branches-lts.Need-node-at-requires (
@@ -380,26 +380,32 @@ branches-node-at-requires : (t : ℕ) → branches-lts.Need-node-at-requires (
   node-at-reads.Learnt,
   emit-below t,
   emit.Post,
+  places-at-reads.Asked,
+  places-at-reads.Learnt,
   branches-below t,
   branches.Post,
 ) (branches-at t) branches.Post
-branches-node-at-requires t c κs = branches-in _ _ _ _ _ (c .before .before .pre .1)
+branches-node-at-requires t c κs = branches-in _ _ _ _ _ _ (c .before .before .pre .1)
 
 branches-returns : (t : ℕ) → branches-lts.Need-returns (
   node-at-reads.Asked,
   node-at-reads.Learnt,
   emit-below t,
   emit.Post,
+  places-at-reads.Asked,
+  places-at-reads.Learnt,
   branches-below t,
   branches.Post,
 ) (branches-at t) branches.Post
-branches-returns t c = λ h. branches-none _ _ _ (c .before .before .node-at .ensures) _ _ _ (c .if1 .taken) h
+branches-returns t c = λ h. branches-none _ _ _ (c .before .before .node-at .ensures) _ _ _ _ (c .if1 .taken) h
 
 branches-enum-told : (t : ℕ) → branches-lts.Need-enum-told (
   node-at-reads.Asked,
   node-at-reads.Learnt,
   emit-below t,
   emit.Post,
+  places-at-reads.Asked,
+  places-at-reads.Learnt,
   branches-below t,
   branches.Post,
 ) (branches-at t) branches.Post
@@ -410,47 +416,84 @@ branches-emit-requires : (t : ℕ) → branches-lts.Need-emit-requires (
   node-at-reads.Learnt,
   emit-below t,
   emit.Post,
+  places-at-reads.Asked,
+  places-at-reads.Learnt,
   branches-below t,
   branches.Post,
 ) (branches-at t) branches.Post
-branches-emit-requires t c κs = branch-first _ _ _ (c .before .before .before .before .before .node-at .ensures) _ _ _ (c .before .enum-told .given .1)
+branches-emit-requires t c κs = branch-first _ _ _ (c .before .before .before .before .before .node-at .ensures) _ _ _ _ (c .before .enum-told .given .1) _ refl
     (c .before .before .before .before .before .before .before .before .pre .1) _ (c .before .before .before .before .before .before .before .before .pre .0)
+
+branches-places-at-requires : (t : ℕ) → branches-lts.Need-places-at-requires (
+  node-at-reads.Asked,
+  node-at-reads.Learnt,
+  emit-below t,
+  emit.Post,
+  places-at-reads.Asked,
+  places-at-reads.Learnt,
+  branches-below t,
+  branches.Post,
+) (branches-at t) branches.Post
+branches-places-at-requires t c κs = branch-left-in _ _ _ (c .before .before .before .before .before .before .before .before .node-at .ensures) _ _ _ _
+    (c .before .before .before .before .enum-told .given .1) _ refl (c .before .before .before .before .before .before .before .before .before .before .before .pre .1)
+
+branches-add-rest : (t : ℕ) → branches-lts.Need-add-rest (
+  node-at-reads.Asked,
+  node-at-reads.Learnt,
+  emit-below t,
+  emit.Post,
+  places-at-reads.Asked,
+  places-at-reads.Learnt,
+  branches-below t,
+  branches.Post,
+) (branches-at t) branches.Post
+branches-add-rest t c = branch-mid _ _ _ (c .before .before .before .before .before .before .before .before .before .node-at .ensures) _ _ _ _
+    (c .before .before .before .before .before .enum-told .given .1) _ (c .places-at .ensures)
+    (c .before .before .before .before .before .before .before .before .before .before .before .before .pre .1)
 
 branches-branches-requires : (t : ℕ) → branches-lts.Need-branches-requires (
   node-at-reads.Asked,
   node-at-reads.Learnt,
   emit-below t,
   emit.Post,
+  places-at-reads.Asked,
+  places-at-reads.Learnt,
   branches-below t,
   branches.Post,
 ) (branches-at t) branches.Post
-branches-branches-requires t c κs = branch-second _ _ _ (c .before .before .before .before .before .before .before .before .before .node-at .ensures) _ _ _
-    (c .before .before .before .before .before .enum-told .given .1) (c .before .before .before .before .before .before .before .before .before .before .before .before .pre .1)
-    _ _ (c .before .before .before .emit .ensures) _ (c .before .before .before .before .before .before .before .before .before .before .before .before .pre .0)
+branches-branches-requires t c κs = branch-second _ _ _ (c .before .before .before .before .before .before .before .before .before .before .node-at .ensures) _ _ _ _
+    (c .before .before .before .before .before .before .enum-told .given .1) _ (c .before .places-at .ensures)
+    (c .before .before .before .before .before .before .before .before .before .before .before .before .before .pre .1) _ _ (c .before .before .before .before .emit .ensures) _
+    (c .before .before .before .before .before .before .before .before .before .before .before .before .before .pre .0)
 
 branches-same-length : (t : ℕ) → branches-lts.Need-same-length (
   node-at-reads.Asked,
   node-at-reads.Learnt,
   emit-below t,
   emit.Post,
+  places-at-reads.Asked,
+  places-at-reads.Learnt,
   branches-below t,
   branches.Post,
 ) (branches-at t) branches.Post
-branches-same-length t c = emitted-length _ _ _ _ _ (branch-done _ _ _ (c .before .before .before .before .before .before .before .before .before .before .before .before
-    .node-at .ensures) _ _ _ (c .before .before .before .before .before .before .before .before .enum-told .given .1)
-    (c .before .before .before .before .before .before .before .before .before .before .before .before .before .before .before .pre .1) _ _
-    (c .before .before .before .before .before .before .emit .ensures) _ _ (c .before .before .branches .ensures))
+branches-same-length t c = emitted-length _ _ _ _ _ _ (branch-done _ _ _ (c .before .before .before .before .before .before .before .before .before .before .before .before .before .node-at .ensures) _ _ _ _
+    (c .before .before .before .before .before .before .before .before .before .enum-told .given .1) _ (c .before .before .before .before .places-at .ensures)
+    (c .before .before .before .before .before .before .before .before .before .before .before .before .before .before .before .before .pre .1) _ _ (c .before .before .before .before .before .before .before .emit .ensures) _ _
+    (c .before .before .branches .ensures))
 
 branches-returns-2 : (t : ℕ) → branches-lts.Need-returns-2 (
   node-at-reads.Asked,
   node-at-reads.Learnt,
   emit-below t,
   emit.Post,
+  places-at-reads.Asked,
+  places-at-reads.Learnt,
   branches-below t,
   branches.Post,
 ) (branches-at t) branches.Post
-branches-returns-2 t c = λ h. branch-done _ _ _ (c .before .before .before .before .before .before .before .before .before .before .before .before .node-at .ensures) _ _ _
-    (c .before .before .before .before .before .before .before .before .enum-told .given .1) h _ _ (c .before .before .before .before .before .before .emit .ensures) _ _
+branches-returns-2 t c = λ h. branch-done _ _ _ (c .before .before .before .before .before .before .before .before .before .before .before .before .before .node-at .ensures) _ _ _ _
+    (c .before .before .before .before .before .before .before .before .before .enum-told .given .1) _ (c .before .before .before .before .places-at .ensures)
+    h _ _ (c .before .before .before .before .before .before .before .emit .ensures) _ _
     (c .before .before .branches .ensures)
 
 branches-emit-requires-2 : (t : ℕ) → branches-lts.Need-emit-requires-2 (
@@ -458,10 +501,12 @@ branches-emit-requires-2 : (t : ℕ) → branches-lts.Need-emit-requires-2 (
   node-at-reads.Learnt,
   emit-below t,
   emit.Post,
+  places-at-reads.Asked,
+  places-at-reads.Learnt,
   branches-below t,
   branches.Post,
 ) (branches-at t) branches.Post
-branches-emit-requires-2 t c κs = single-first _ _ _ (c .before .before .before .before .node-at .ensures) _ _ _ (not-alternation _ (c .before .match .keys2))
+branches-emit-requires-2 t c κs = single-first _ _ _ (c .before .before .before .before .node-at .ensures) _ _ _ _ (not-alternation _ (c .before .match .keys2))
     (c .before .before .before .before .before .before .before .pre .1) _ (c .before .before .before .before .before .before .before .pre .0)
 
 branches-same-length-2 : (t : ℕ) → branches-lts.Need-same-length-2 (
@@ -469,10 +514,12 @@ branches-same-length-2 : (t : ℕ) → branches-lts.Need-same-length-2 (
   node-at-reads.Learnt,
   emit-below t,
   emit.Post,
+  places-at-reads.Asked,
+  places-at-reads.Learnt,
   branches-below t,
   branches.Post,
 ) (branches-at t) branches.Post
-branches-same-length-2 t c = emitted-length _ _ _ _ _ (single-done _ _ _ (c .before .before .before .before .before .before .before .node-at .ensures) _ _ _
+branches-same-length-2 t c = emitted-length _ _ _ _ _ _ (single-done _ _ _ (c .before .before .before .before .before .before .before .node-at .ensures) _ _ _ _
     (not-alternation _ (c .before .before .before .before .match .keys2)) (c .before .before .before .before .before .before .before .before .before .before .pre .1) _ _
     (c .before .before .emit2 .ensures))
 
@@ -481,10 +528,12 @@ branches-returns-3 : (t : ℕ) → branches-lts.Need-returns-3 (
   node-at-reads.Learnt,
   emit-below t,
   emit.Post,
+  places-at-reads.Asked,
+  places-at-reads.Learnt,
   branches-below t,
   branches.Post,
 ) (branches-at t) branches.Post
-branches-returns-3 t c = λ h. single-done _ _ _ (c .before .before .before .before .before .before .before .node-at .ensures) _ _ _
+branches-returns-3 t c = λ h. single-done _ _ _ (c .before .before .before .before .before .before .before .node-at .ensures) _ _ _ _
     (not-alternation _ (c .before .before .before .before .match .keys2)) h _ _ (c .before .before .emit2 .ensures)
 
 emit-node-at-requires : (t : ℕ) → emit-lts.Need-node-at-requires (
@@ -507,7 +556,7 @@ emit-node-at-requires : (t : ℕ) → emit-lts.Need-node-at-requires (
   rounds-below t,
   rounds.Post,
 ) (emit-at t) emit.Post
-emit-node-at-requires t c κs = emit-in _ _ _ _ _ (c .before .before .pre .1)
+emit-node-at-requires t c κs = emit-in _ _ _ _ _ _ (c .before .before .pre .1)
 
 emit-add-end : (t : ℕ) → emit-lts.Need-add-end (
   node-at-reads.Asked,
@@ -529,7 +578,7 @@ emit-add-end : (t : ℕ) → emit-lts.Need-add-end (
   rounds-below t,
   rounds.Post,
 ) (emit-at t) emit.Post
-emit-add-end t c = emit-end _ _ _ (c .before .node-at .ensures) _ _ _ (c .before .before .before .before .pre .1)
+emit-add-end t c = emit-end _ _ _ (c .before .node-at .ensures) _ _ _ _ (c .before .before .before .before .pre .1)
 
 emit-enum-told : (t : ℕ) → emit-lts.Need-enum-told (
   node-at-reads.Asked,
@@ -573,8 +622,31 @@ emit-branch-fork-requires : (t : ℕ) → emit-lts.Need-branch-fork-requires (
   rounds-below t,
   rounds.Post,
 ) (emit-at t) emit.Post
-emit-branch-fork-requires t c κs = alt-forking _ _ _ (c .before .before .before .before .node-at .ensures) _ _ _ (c .before .enum-told .given .1)
+emit-branch-fork-requires t c κs = alt-forking _ _ _ (c .before .before .before .before .node-at .ensures) _ _ _ _ (c .before .enum-told .given .1)
     (c .before .before .before .before .before .before .before .pre .1)
+
+emit-add-branches : (t : ℕ) → emit-lts.Need-add-branches (
+  node-at-reads.Asked,
+  node-at-reads.Learnt,
+  branch-fork-reads.Asked,
+  branch-fork-reads.Learnt,
+  branches-below t,
+  branches.Post,
+  places-at-reads.Asked,
+  places-at-reads.Learnt,
+  emit-below t,
+  emit.Post,
+  start-at-reads.Asked,
+  start-at-reads.Learnt,
+  body-size-reads.Asked,
+  body-size-reads.Learnt,
+  turns-behind-reads.Asked,
+  turns-behind-reads.Learnt,
+  rounds-below t,
+  rounds.Post,
+) (emit-at t) emit.Post
+emit-add-branches t c = alt-first _ _ _ (c .before .before .before .before .before .before .before .before .node-at .ensures) _ _ _ _
+    (c .before .before .before .before .before .enum-told .given .1) (c .before .before .before .before .before .before .before .before .before .before .before .pre .1)
 
 emit-branches-requires : (t : ℕ) → emit-lts.Need-branches-requires (
   node-at-reads.Asked,
@@ -596,7 +668,7 @@ emit-branches-requires : (t : ℕ) → emit-lts.Need-branches-requires (
   rounds-below t,
   rounds.Post,
 ) (emit-at t) emit.Post
-emit-branches-requires t c κs = alt-inside _ _ _ (c .before .before .before .before .before .before .before .before .node-at .ensures) _ _ _
+emit-branches-requires t c κs = alt-inside _ _ _ (c .before .before .before .before .before .before .before .before .node-at .ensures) _ _ _ _
     (c .before .before .before .before .before .enum-told .given .1) (c .before .before .before .before .before .before .before .before .before .before .before .pre .1) _ _
     (c .before .before .before .branch-fork .ensures) _ (c .before .before .before .before .before .before .before .before .before .before .before .pre .0)
 
@@ -620,8 +692,8 @@ emit-same-length : (t : ℕ) → emit-lts.Need-same-length (
   rounds-below t,
   rounds.Post,
 ) (emit-at t) emit.Post
-emit-same-length t c = emitted-length _ _ _ _ _ (alt-done _ _ _ (c .before .before .before .before .before .before .before .before .before .before .before .node-at .ensures) _ _
-    _ (c .before .before .before .before .before .before .before .before .enum-told .given .1)
+emit-same-length t c = emitted-length _ _ _ _ _ _ (alt-done _ _ _ (c .before .before .before .before .before .before .before .before .before .before .before .node-at .ensures) _ _
+    _ _ (c .before .before .before .before .before .before .before .before .enum-told .given .1)
     (c .before .before .before .before .before .before .before .before .before .before .before .before .before .before .pre .1) _ _
     (c .before .before .before .before .before .before .branch-fork .ensures) _ _ (c .before .before .branches .ensures))
 
@@ -645,7 +717,7 @@ emit-returns : (t : ℕ) → emit-lts.Need-returns (
   rounds-below t,
   rounds.Post,
 ) (emit-at t) emit.Post
-emit-returns t c = λ h. alt-done _ _ _ (c .before .before .before .before .before .before .before .before .before .before .before .node-at .ensures) _ _ _
+emit-returns t c = λ h. alt-done _ _ _ (c .before .before .before .before .before .before .before .before .before .before .before .node-at .ensures) _ _ _ _
     (c .before .before .before .before .before .before .before .before .enum-told .given .1) h _ _ (c .before .before .before .before .before .before .branch-fork .ensures) _ _
     (c .before .before .branches .ensures)
 
@@ -669,7 +741,7 @@ emit-returns-2 : (t : ℕ) → emit-lts.Need-returns-2 (
   rounds-below t,
   rounds.Post,
 ) (emit-at t) emit.Post
-emit-returns-2 t c = λ h. emit-none _ _ _ (c .before .before .before .node-at .ensures) _ _ _ (not-alternation _ (c .before .match .keys2)) (c .if1 .taken) h
+emit-returns-2 t c = λ h. emit-none _ _ _ (c .before .before .before .node-at .ensures) _ _ _ _ (not-alternation _ (c .before .match .keys2)) (c .if1 .taken) h
 
 emit-enum-told-2 : (t : ℕ) → emit-lts.Need-enum-told-2 (
   node-at-reads.Asked,
@@ -713,7 +785,7 @@ emit-places-at-requires : (t : ℕ) → emit-lts.Need-places-at-requires (
   rounds-below t,
   rounds.Post,
 ) (emit-at t) emit.Post
-emit-places-at-requires t c κs = seq-left-in _ _ _ (c .before .before .before .before .before .node-at .ensures) _ _ _ (c .enum-told2 .given .1) _ refl
+emit-places-at-requires t c κs = seq-left-in _ _ _ (c .before .before .before .before .before .node-at .ensures) _ _ _ _ (c .enum-told2 .given .1) _ refl
     (c .before .before .before .before .before .before .before .before .pre .1)
 
 emit-add-mid : (t : ℕ) → emit-lts.Need-add-mid (
@@ -736,7 +808,7 @@ emit-add-mid : (t : ℕ) → emit-lts.Need-add-mid (
   rounds-below t,
   rounds.Post,
 ) (emit-at t) emit.Post
-emit-add-mid t c = seq-mid _ _ _ (c .before .before .before .before .before .before .node-at .ensures) _ _ _ (c .before .enum-told2 .given .1) _ (c .places-at .ensures)
+emit-add-mid t c = seq-mid _ _ _ (c .before .before .before .before .before .before .node-at .ensures) _ _ _ _ (c .before .enum-told2 .given .1) _ (c .places-at .ensures)
     (c .before .before .before .before .before .before .before .before .before .pre .1)
 
 emit-emit-requires : (t : ℕ) → emit-lts.Need-emit-requires (
@@ -759,7 +831,7 @@ emit-emit-requires : (t : ℕ) → emit-lts.Need-emit-requires (
   rounds-below t,
   rounds.Post,
 ) (emit-at t) emit.Post
-emit-emit-requires t c κs = seq-skip _ _ _ (c .before .before .before .before .before .before .before .before .node-at .ensures) _ _ _
+emit-emit-requires t c κs = seq-skip _ _ _ (c .before .before .before .before .before .before .before .before .node-at .ensures) _ _ _ _
     (c .before .before .before .enum-told2 .given .1) _ (c .before .before .places-at .ensures) (c .before .if2 .taken)
     (c .before .before .before .before .before .before .before .before .before .before .before .pre .1) _
     (c .before .before .before .before .before .before .before .before .before .before .before .pre .0)
@@ -784,8 +856,8 @@ emit-same-length-2 : (t : ℕ) → emit-lts.Need-same-length-2 (
   rounds-below t,
   rounds.Post,
 ) (emit-at t) emit.Post
-emit-same-length-2 t c = emitted-length _ _ _ _ _ (seq-skipped _ _ _ (c .before .before .before .before .before .before .before .before .before .before .before .node-at
-    .ensures) _ _ _ (c .before .before .before .before .before .before .enum-told2 .given .1) _ (c .before .before .before .before .before .places-at .ensures)
+emit-same-length-2 t c = emitted-length _ _ _ _ _ _ (seq-skipped _ _ _ (c .before .before .before .before .before .before .before .before .before .before .before .node-at
+    .ensures) _ _ _ _ (c .before .before .before .before .before .before .enum-told2 .given .1) _ (c .before .before .before .before .before .places-at .ensures)
     (c .before .before .before .before .if2 .taken) (c .before .before .before .before .before .before .before .before .before .before .before .before .before .before .pre .1) _
     _ (c .before .before .emit .ensures))
 
@@ -809,7 +881,7 @@ emit-returns-3 : (t : ℕ) → emit-lts.Need-returns-3 (
   rounds-below t,
   rounds.Post,
 ) (emit-at t) emit.Post
-emit-returns-3 t c = λ h. seq-skipped _ _ _ (c .before .before .before .before .before .before .before .before .before .before .before .node-at .ensures) _ _ _
+emit-returns-3 t c = λ h. seq-skipped _ _ _ (c .before .before .before .before .before .before .before .before .before .before .before .node-at .ensures) _ _ _ _
     (c .before .before .before .before .before .before .enum-told2 .given .1) _ (c .before .before .before .before .before .places-at .ensures)
     (c .before .before .before .before .if2 .taken) h _ _ (c .before .before .emit .ensures)
 
@@ -855,7 +927,7 @@ emit-emit-requires-2 : (t : ℕ) → emit-lts.Need-emit-requires-2 (
   rounds-below t,
   rounds.Post,
 ) (emit-at t) emit.Post
-emit-emit-requires-2 t c κs = seq-first _ _ _ (c .before .before .before .before .before .before .before .before .before .node-at .ensures) _ _ _
+emit-emit-requires-2 t c κs = seq-first _ _ _ (c .before .before .before .before .before .before .before .before .before .node-at .ensures) _ _ _ _
     (c .before .before .before .before .enum-told2 .given .1) _ (c .before .before .before .places-at .ensures) _ (c .before .start-at .ensures)
     (c .before .before .before .before .before .before .before .before .before .before .before .before .pre .1) _
     (c .before .before .before .before .before .before .before .before .before .before .before .before .pre .0)
@@ -881,7 +953,7 @@ emit-emit-requires-3 : (t : ℕ) → emit-lts.Need-emit-requires-3 (
   rounds.Post,
 ) (emit-at t) emit.Post
 emit-emit-requires-3 t c κs = seq-second _ _ _ (c .before .before .before .before .before .before .before .before .before .before .before .before .before .node-at .ensures) _ _
-    _ (c .before .before .before .before .before .before .before .before .enum-told2 .given .1) _ (c .before .before .before .before .before .before .before .places-at .ensures)
+    _ _ (c .before .before .before .before .before .before .before .before .enum-told2 .given .1) _ (c .before .before .before .before .before .before .before .places-at .ensures)
     _ (c .before .before .before .before .before .start-at .ensures) (c .before .before .before .before .before .before .before .before .before .before .before .before .before
     .before .before .before .pre .1) _ _ (c .before .before .before .emit2 .ensures) _ (c .before .before .before .before .before .before .before .before .before .before .before
     .before .before .before .before .before .pre .0)
@@ -906,8 +978,8 @@ emit-same-length-3 : (t : ℕ) → emit-lts.Need-same-length-3 (
   rounds-below t,
   rounds.Post,
 ) (emit-at t) emit.Post
-emit-same-length-3 t c = emitted-length _ _ _ _ _ (seq-done _ _ _ (c .before .before .before .before .before .before .before .before .before .before .before .before .before
-    .before .before .before .node-at .ensures) _ _ _ (c .before .before .before .before .before .before .before .before .before .before .before .enum-told2 .given .1) _
+emit-same-length-3 t c = emitted-length _ _ _ _ _ _ (seq-done _ _ _ (c .before .before .before .before .before .before .before .before .before .before .before .before .before
+    .before .before .before .node-at .ensures) _ _ _ _ (c .before .before .before .before .before .before .before .before .before .before .before .enum-told2 .given .1) _
     (c .before .before .before .before .before .before .before .before .before .before .places-at .ensures) _
     (c .before .before .before .before .before .before .before .before .start-at .ensures) (c .before .before .before .before .before .before .before .before .before .before
     .before .before .before .before .before .before .before .before .before .pre .1) _ _ (c .before .before .before .before .before .before .emit2 .ensures) _ _
@@ -934,7 +1006,7 @@ emit-returns-4 : (t : ℕ) → emit-lts.Need-returns-4 (
   rounds.Post,
 ) (emit-at t) emit.Post
 emit-returns-4 t c = λ h. seq-done _ _ _ (c .before .before .before .before .before .before .before .before .before .before .before .before .before .before .before .before
-    .node-at .ensures) _ _ _ (c .before .before .before .before .before .before .before .before .before .before .before .enum-told2 .given .1) _
+    .node-at .ensures) _ _ _ _ (c .before .before .before .before .before .before .before .before .before .before .before .enum-told2 .given .1) _
     (c .before .before .before .before .before .before .before .before .before .before .places-at .ensures) _
     (c .before .before .before .before .before .before .before .before .start-at .ensures) h _ _ (c .before .before .before .before .before .before .emit2 .ensures) _ _
     (c .before .before .emit3 .ensures)
@@ -959,7 +1031,7 @@ emit-body-size-requires : (t : ℕ) → emit-lts.Need-body-size-requires (
   rounds-below t,
   rounds.Post,
 ) (emit-at t) emit.Post
-emit-body-size-requires t c κs = emit-node _ _ _ (c .before .before .before .before .node-at .ensures) _ _ _ (not-sequence _ (c .match2 .keys2))
+emit-body-size-requires t c κs = emit-node _ _ _ (c .before .before .before .before .node-at .ensures) _ _ _ _ (not-sequence _ (c .match2 .keys2))
     (not-alternation _ (c .before .before .match .keys2)) (c .before .before .before .before .before .before .before .pre .1)
 
 emit-turns-behind-requires : (t : ℕ) → emit-lts.Need-turns-behind-requires (
@@ -982,7 +1054,7 @@ emit-turns-behind-requires : (t : ℕ) → emit-lts.Need-turns-behind-requires (
   rounds-below t,
   rounds.Post,
 ) (emit-at t) emit.Post
-emit-turns-behind-requires t c κs = turn-order _ _ _ (c .before .before .before .before .before .node-at .ensures) _ _ _ (not-sequence _ (c .before .match2 .keys2))
+emit-turns-behind-requires t c κs = turn-order _ _ _ (c .before .before .before .before .before .node-at .ensures) _ _ _ _ (not-sequence _ (c .before .match2 .keys2))
     (not-alternation _ (c .before .before .before .match .keys2)) (c .before .before .before .before .before .before .before .before .pre .1)
 
 emit-rounds-requires : (t : ℕ) → emit-lts.Need-rounds-requires (
@@ -1005,7 +1077,7 @@ emit-rounds-requires : (t : ℕ) → emit-lts.Need-rounds-requires (
   rounds-below t,
   rounds.Post,
 ) (emit-at t) emit.Post
-emit-rounds-requires t c κs = turn-first _ _ _ (c .before .before .before .before .before .before .before .node-at .ensures) _ _ _
+emit-rounds-requires t c κs = turn-first _ _ _ (c .before .before .before .before .before .before .before .node-at .ensures) _ _ _ _
     (not-sequence _ (c .before .before .before .match2 .keys2)) (not-alternation _ (c .before .before .before .before .before .match .keys2)) _
     (c .before .before .body-size .ensures) _ (c .before .turns-behind .ensures) (c .before .before .before .before .before .before .before .before .before .before .pre .1) _
     (c .before .before .before .before .before .before .before .before .before .before .pre .0)
@@ -1030,7 +1102,7 @@ emit-same-length-4 : (t : ℕ) → emit-lts.Need-same-length-4 (
   rounds-below t,
   rounds.Post,
 ) (emit-at t) emit.Post
-emit-same-length-4 t c = emitted-length _ _ _ _ _ (turn-done _ _ _ (c .before .before .before .before .before .before .before .before .before .before .node-at .ensures) _ _ _
+emit-same-length-4 t c = emitted-length _ _ _ _ _ _ (turn-done _ _ _ (c .before .before .before .before .before .before .before .before .before .before .node-at .ensures) _ _ _ _
     (not-sequence _ (c .before .before .before .before .before .before .match2 .keys2)) (not-alternation _
     (c .before .before .before .before .before .before .before .before .match .keys2)) _ (c .before .before .before .before .before .body-size .ensures) _
     (c .before .before .before .before .turns-behind .ensures) (c .before .before .before .before .before .before .before .before .before .before .before .before .before .pre
@@ -1056,12 +1128,12 @@ emit-returns-5 : (t : ℕ) → emit-lts.Need-returns-5 (
   rounds-below t,
   rounds.Post,
 ) (emit-at t) emit.Post
-emit-returns-5 t c = λ h. turn-done _ _ _ (c .before .before .before .before .before .before .before .before .before .before .node-at .ensures) _ _ _
+emit-returns-5 t c = λ h. turn-done _ _ _ (c .before .before .before .before .before .before .before .before .before .before .node-at .ensures) _ _ _ _
     (not-sequence _ (c .before .before .before .before .before .before .match2 .keys2)) (not-alternation _
     (c .before .before .before .before .before .before .before .before .match .keys2)) _ (c .before .before .before .before .before .body-size .ensures) _
     (c .before .before .before .before .turns-behind .ensures) h _ _ (c .before .before .rounds .ensures)
 
-rounds-add-start-at : (t : ℕ) → rounds-lts.Need-add-start-at (
+rounds-add-rest : (t : ℕ) → rounds-lts.Need-add-rest (
   start-at-reads.Asked,
   start-at-reads.Learnt,
   body-below t,
@@ -1073,7 +1145,7 @@ rounds-add-start-at : (t : ℕ) → rounds-lts.Need-add-start-at (
   fork-reads.Asked,
   fork-reads.Learnt,
 ) (rounds-at t) rounds.Post
-rounds-add-start-at t c = copy-fits _ _ _ _ _ _ _ _ _ (c .if1 .taken) (c .before .before .before .pre .1)
+rounds-add-rest t c = copy-fits _ _ _ _ _ _ _ _ _ _ (c .if1 .taken) (c .before .before .before .pre .1)
 
 rounds-start-at-requires : (t : ℕ) → rounds-lts.Need-start-at-requires (
   start-at-reads.Asked,
@@ -1101,7 +1173,7 @@ rounds-body-requires : (t : ℕ) → rounds-lts.Need-body-requires (
   fork-reads.Asked,
   fork-reads.Learnt,
 ) (rounds-at t) rounds.Post
-rounds-body-requires t c κs = copy-first _ _ _ _ _ _ _ _ _ (c .before .before .if1 .taken) _ (c .before .start-at .ensures) (c .before .before .before .before .before .pre .1) _
+rounds-body-requires t c κs = copy-first _ _ _ _ _ _ _ _ _ _ (c .before .before .if1 .taken) _ (c .before .start-at .ensures) (c .before .before .before .before .before .pre .1) _
     (c .before .before .before .before .before .pre .0)
 
 rounds-sub-rounds : (t : ℕ) → rounds-lts.Need-sub-rounds (
@@ -1116,7 +1188,7 @@ rounds-sub-rounds : (t : ℕ) → rounds-lts.Need-sub-rounds (
   fork-reads.Asked,
   fork-reads.Learnt,
 ) (rounds-at t) rounds.Post
-rounds-sub-rounds t c = copy-less _ _ _ _ _ _ _ _ _ (c .before .before .before .before .before .if1 .taken)
+rounds-sub-rounds t c = copy-less _ _ _ _ _ _ _ _ _ _ (c .before .before .before .before .before .if1 .taken)
     (c .before .before .before .before .before .before .before .before .pre .1)
 
 rounds-rounds-requires : (t : ℕ) → rounds-lts.Need-rounds-requires (
@@ -1131,7 +1203,7 @@ rounds-rounds-requires : (t : ℕ) → rounds-lts.Need-rounds-requires (
   fork-reads.Asked,
   fork-reads.Learnt,
 ) (rounds-at t) rounds.Post
-rounds-rounds-requires t c κs = copy-again _ _ _ _ _ _ _ _ _ (c .before .before .before .before .before .before .if1 .taken) _
+rounds-rounds-requires t c κs = copy-again _ _ _ _ _ _ _ _ _ _ (c .before .before .before .before .before .before .if1 .taken) _
     (c .before .before .before .before .before .start-at .ensures) (c .before .before .before .before .before .before .before .before .before .pre .1) _ _
     (c .before .before .before .body .ensures) _ (c .before .before .before .before .before .before .before .before .before .pre .0)
 
@@ -1147,7 +1219,7 @@ rounds-same-length : (t : ℕ) → rounds-lts.Need-same-length (
   fork-reads.Asked,
   fork-reads.Learnt,
 ) (rounds-at t) rounds.Post
-rounds-same-length t c = emitted-length _ _ _ _ _ (copy-done _ _ _ _ _ _ _ _ _ (c .before .before .before .before .before .before .before .before .before .if1 .taken) _
+rounds-same-length t c = emitted-length _ _ _ _ _ _ (copy-done _ _ _ _ _ _ _ _ _ _ (c .before .before .before .before .before .before .before .before .before .if1 .taken) _
     (c .before .before .before .before .before .before .before .before .start-at .ensures) (c .before .before .before .before .before .before .before .before .before .before
     .before .before .pre .1) _ _ (c .before .before .before .before .before .before .body .ensures) _ _ (c .before .before .rounds .ensures))
 
@@ -1163,7 +1235,7 @@ rounds-returns : (t : ℕ) → rounds-lts.Need-returns (
   fork-reads.Asked,
   fork-reads.Learnt,
 ) (rounds-at t) rounds.Post
-rounds-returns t c = λ h. copy-done _ _ _ _ _ _ _ _ _ (c .before .before .before .before .before .before .before .before .before .if1 .taken) _
+rounds-returns t c = λ h. copy-done _ _ _ _ _ _ _ _ _ _ (c .before .before .before .before .before .before .before .before .before .if1 .taken) _
     (c .before .before .before .before .before .before .before .before .start-at .ensures) h _ _ (c .before .before .before .before .before .before .body .ensures) _ _
     (c .before .before .rounds .ensures)
 
@@ -1179,7 +1251,7 @@ rounds-returns-2 : (t : ℕ) → rounds-lts.Need-returns-2 (
   fork-reads.Asked,
   fork-reads.Learnt,
 ) (rounds-at t) rounds.Post
-rounds-returns-2 t c = λ h. none-done _ _ _ _ _ _ _ _ _ (c .before .if1 .left) (c .if2 .taken) h
+rounds-returns-2 t c = λ h. none-done _ _ _ _ _ _ _ _ _ _ (c .before .if1 .left) (c .if2 .taken) h
 
 rounds-node-at-requires : (t : ℕ) → rounds-lts.Need-node-at-requires (
   start-at-reads.Asked,
@@ -1193,9 +1265,9 @@ rounds-node-at-requires : (t : ℕ) → rounds-lts.Need-node-at-requires (
   fork-reads.Asked,
   fork-reads.Learnt,
 ) (rounds-at t) rounds.Post
-rounds-node-at-requires t c κs = round-in _ _ _ _ _ _ _ _ _ (c .before .before .before .before .pre .1)
+rounds-node-at-requires t c κs = round-in _ _ _ _ _ _ _ _ _ _ (c .before .before .before .before .pre .1)
 
-rounds-add-start-at-2 : (t : ℕ) → rounds-lts.Need-add-start-at-2 (
+rounds-add-first : (t : ℕ) → rounds-lts.Need-add-first (
   start-at-reads.Asked,
   start-at-reads.Learnt,
   body-below t,
@@ -1207,8 +1279,7 @@ rounds-add-start-at-2 : (t : ℕ) → rounds-lts.Need-add-start-at-2 (
   fork-reads.Asked,
   fork-reads.Learnt,
 ) (rounds-at t) rounds.Post
-rounds-add-start-at-2 t c = star-fits _ _ _ _ _ _ _ _ _ (c .before .before .before .if1 .left) (c .if3 .taken) _ (c .before .node-at .ensures)
-    (c .before .before .before .before .before .before .pre .1)
+rounds-add-first t c = first-fits _ _ _ _ _ _ _ _ _ _ (c .before .before .before .before .before .pre .1)
 
 rounds-start-at-requires-2 : (t : ℕ) → rounds-lts.Need-start-at-requires-2 (
   start-at-reads.Asked,
@@ -1236,7 +1307,7 @@ rounds-fork-requires : (t : ℕ) → rounds-lts.Need-fork-requires (
   fork-reads.Asked,
   fork-reads.Learnt,
 ) (rounds-at t) rounds.Post
-rounds-fork-requires t c κs = star-choose _ _ _ _ _ _ _ _ _ (c .before .before .before .before .before .if1 .left) (c .before .before .if3 .taken) _
+rounds-fork-requires t c κs = star-choose _ _ _ _ _ _ _ _ _ _ (c .before .before .before .before .before .if1 .left) (c .before .before .if3 .taken) _
     (c .before .before .before .node-at .ensures) _ (c .before .start-at2 .ensures) (c .before .before .before .before .before .before .before .before .pre .1)
 
 rounds-body-requires-2 : (t : ℕ) → rounds-lts.Need-body-requires-2 (
@@ -1251,7 +1322,7 @@ rounds-body-requires-2 : (t : ℕ) → rounds-lts.Need-body-requires-2 (
   fork-reads.Asked,
   fork-reads.Learnt,
 ) (rounds-at t) rounds.Post
-rounds-body-requires-2 t c κs = star-body _ _ _ _ _ _ _ _ _ (c .before .before .before .before .before .before .before .before .before .if1 .left)
+rounds-body-requires-2 t c κs = star-body _ _ _ _ _ _ _ _ _ _ (c .before .before .before .before .before .before .before .before .before .if1 .left)
     (c .before .before .before .before .before .before .if3 .taken) _ (c .before .before .before .before .before .before .before .node-at .ensures) _
     (c .before .before .before .before .before .start-at2 .ensures) (c .before .before .before .before .before .before .before .before .before .before .before .before .pre .1) _
     _ (c .before .before .before .fork .ensures) _ (c .before .before .before .before .before .before .before .before .before .before .before .before .pre .0)
@@ -1268,7 +1339,7 @@ rounds-same-length-2 : (t : ℕ) → rounds-lts.Need-same-length-2 (
   fork-reads.Asked,
   fork-reads.Learnt,
 ) (rounds-at t) rounds.Post
-rounds-same-length-2 t c = emitted-length _ _ _ _ _ (star-done _ _ _ _ _ _ _ _ _ (c .before .before .before .before .before .before .before .before .before .before .before
+rounds-same-length-2 t c = emitted-length _ _ _ _ _ _ (star-done _ _ _ _ _ _ _ _ _ _ (c .before .before .before .before .before .before .before .before .before .before .before
     .before .if1 .left) (c .before .before .before .before .before .before .before .before .before .if3 .taken) _
     (c .before .before .before .before .before .before .before .before .before .before .node-at .ensures) _
     (c .before .before .before .before .before .before .before .before .start-at2 .ensures)
@@ -1287,26 +1358,11 @@ rounds-returns-3 : (t : ℕ) → rounds-lts.Need-returns-3 (
   fork-reads.Asked,
   fork-reads.Learnt,
 ) (rounds-at t) rounds.Post
-rounds-returns-3 t c = λ h. star-done _ _ _ _ _ _ _ _ _ (c .before .before .before .before .before .before .before .before .before .before .before .before .if1 .left)
+rounds-returns-3 t c = λ h. star-done _ _ _ _ _ _ _ _ _ _ (c .before .before .before .before .before .before .before .before .before .before .before .before .if1 .left)
     (c .before .before .before .before .before .before .before .before .before .if3 .taken) _
     (c .before .before .before .before .before .before .before .before .before .before .node-at .ensures) _
     (c .before .before .before .before .before .before .before .before .start-at2 .ensures) h _ _ (c .before .before .before .before .before .before .fork .ensures) _ _
     (c .before .before .body2 .ensures)
-
-rounds-add-start-at-3 : (t : ℕ) → rounds-lts.Need-add-start-at-3 (
-  start-at-reads.Asked,
-  start-at-reads.Learnt,
-  body-below t,
-  body.Post,
-  rounds-below t,
-  rounds.Post,
-  node-at-reads.Asked,
-  node-at-reads.Learnt,
-  fork-reads.Asked,
-  fork-reads.Learnt,
-) (rounds-at t) rounds.Post
-rounds-add-start-at-3 t c = option-fits _ _ _ _ _ _ _ _ _ (c .before .before .before .if1 .left) (c .before .before .if2 .left) (c .if3 .left) _ (c .before .node-at .ensures)
-    (c .before .before .before .before .before .before .pre .1)
 
 rounds-start-at-requires-3 : (t : ℕ) → rounds-lts.Need-start-at-requires-3 (
   start-at-reads.Asked,
@@ -1334,11 +1390,11 @@ rounds-fork-requires-2 : (t : ℕ) → rounds-lts.Need-fork-requires-2 (
   fork-reads.Asked,
   fork-reads.Learnt,
 ) (rounds-at t) rounds.Post
-rounds-fork-requires-2 t c κs = option-choose _ _ _ _ _ _ _ _ _ (c .before .before .before .before .before .if1 .left) (c .before .before .before .before .if2 .left)
+rounds-fork-requires-2 t c κs = option-choose _ _ _ _ _ _ _ _ _ _ (c .before .before .before .before .before .if1 .left) (c .before .before .before .before .if2 .left)
     (c .before .before .if3 .left) _ (c .before .before .before .node-at .ensures) _ (c .before .start-at3 .ensures)
     (c .before .before .before .before .before .before .before .before .pre .1)
 
-rounds-add-start-at-4 : (t : ℕ) → rounds-lts.Need-add-start-at-4 (
+rounds-add-rest-2 : (t : ℕ) → rounds-lts.Need-add-rest-2 (
   start-at-reads.Asked,
   start-at-reads.Learnt,
   body-below t,
@@ -1350,23 +1406,7 @@ rounds-add-start-at-4 : (t : ℕ) → rounds-lts.Need-add-start-at-4 (
   fork-reads.Asked,
   fork-reads.Learnt,
 ) (rounds-at t) rounds.Post
-rounds-add-start-at-4 t c = option-fits _ _ _ _ _ _ _ _ _ (c .before .before .before .before .before .before .before .before .if1 .left)
-    (c .before .before .before .before .before .before .before .if2 .left) (c .before .before .before .before .before .if3 .left) _
-    (c .before .before .before .before .before .before .node-at .ensures) (c .before .before .before .before .before .before .before .before .before .before .before .pre .1)
-
-rounds-add-start-at-5 : (t : ℕ) → rounds-lts.Need-add-start-at-5 (
-  start-at-reads.Asked,
-  start-at-reads.Learnt,
-  body-below t,
-  body.Post,
-  rounds-below t,
-  rounds.Post,
-  node-at-reads.Asked,
-  node-at-reads.Learnt,
-  fork-reads.Asked,
-  fork-reads.Learnt,
-) (rounds-at t) rounds.Post
-rounds-add-start-at-5 t c = option-more _ _ _ _ _ _ _ _ _ (c .before .before .before .before .before .before .before .before .if1 .left)
+rounds-add-rest-2 t c = option-more _ _ _ _ _ _ _ _ _ _ (c .before .before .before .before .before .before .before .before .if1 .left)
     (c .before .before .before .before .before .before .before .if2 .left) (c .before .before .before .before .before .if3 .left) _
     (c .before .before .before .before .before .before .node-at .ensures) (c .before .before .before .before .before .before .before .before .before .before .before .pre .1)
 
@@ -1396,7 +1436,7 @@ rounds-body-requires-3 : (t : ℕ) → rounds-lts.Need-body-requires-3 (
   fork-reads.Asked,
   fork-reads.Learnt,
 ) (rounds-at t) rounds.Post
-rounds-body-requires-3 t c κs = option-body _ _ _ _ _ _ _ _ _ (c .before .before .before .before .before .before .before .before .before .before .if1 .left)
+rounds-body-requires-3 t c κs = option-body _ _ _ _ _ _ _ _ _ _ (c .before .before .before .before .before .before .before .before .before .before .if1 .left)
     (c .before .before .before .before .before .before .before .before .before .if2 .left) (c .before .before .before .before .before .before .before .if3 .left) _
     (c .before .before .before .before .before .before .before .before .node-at .ensures) _ (c .before .before .before .before .before .before .start-at3 .ensures)
     (c .before .before .before .before .before .before .before .before .before .before .before .before .before .pre .1) _ _ (c .before .before .before .before .fork2 .ensures) _
@@ -1414,7 +1454,7 @@ rounds-sub-rounds-2 : (t : ℕ) → rounds-lts.Need-sub-rounds-2 (
   fork-reads.Asked,
   fork-reads.Learnt,
 ) (rounds-at t) rounds.Post
-rounds-sub-rounds-2 t c = option-less _ _ _ _ _ _ _ _ _ (c .before .before .before .before .before .before .before .before .before .before .before .before .before .if1 .left)
+rounds-sub-rounds-2 t c = option-less _ _ _ _ _ _ _ _ _ _ (c .before .before .before .before .before .before .before .before .before .before .before .before .before .if1 .left)
     (c .before .before .before .before .before .before .before .before .before .before .before .before .if2 .left)
     (c .before .before .before .before .before .before .before .before .before .before .if3 .left) _
     (c .before .before .before .before .before .before .before .before .before .before .before .node-at .ensures)
@@ -1432,7 +1472,7 @@ rounds-rounds-requires-2 : (t : ℕ) → rounds-lts.Need-rounds-requires-2 (
   fork-reads.Asked,
   fork-reads.Learnt,
 ) (rounds-at t) rounds.Post
-rounds-rounds-requires-2 t c κs = option-again _ _ _ _ _ _ _ _ _ (c .before .before .before .before .before .before .before .before .before .before .before .before .before
+rounds-rounds-requires-2 t c κs = option-again _ _ _ _ _ _ _ _ _ _ (c .before .before .before .before .before .before .before .before .before .before .before .before .before
     .before .if1 .left) (c .before .before .before .before .before .before .before .before .before .before .before .before .before .if2 .left)
     (c .before .before .before .before .before .before .before .before .before .before .before .if3 .left) _
     (c .before .before .before .before .before .before .before .before .before .before .before .before .node-at .ensures) _
@@ -1454,7 +1494,7 @@ rounds-same-length-3 : (t : ℕ) → rounds-lts.Need-same-length-3 (
   fork-reads.Asked,
   fork-reads.Learnt,
 ) (rounds-at t) rounds.Post
-rounds-same-length-3 t c = emitted-length _ _ _ _ _ (option-done _ _ _ _ _ _ _ _ _ (c .before .before .before .before .before .before .before .before .before .before .before
+rounds-same-length-3 t c = emitted-length _ _ _ _ _ _ (option-done _ _ _ _ _ _ _ _ _ _ (c .before .before .before .before .before .before .before .before .before .before .before
     .before .before .before .before .before .before .if1 .left) (c .before .before .before .before .before .before .before .before .before .before .before .before .before
     .before .before .before .if2 .left) (c .before .before .before .before .before .before .before .before .before .before .before .before .before .before .if3 .left) _
     (c .before .before .before .before .before .before .before .before .before .before .before .before .before .before .before .node-at .ensures) _
@@ -1476,7 +1516,7 @@ rounds-returns-4 : (t : ℕ) → rounds-lts.Need-returns-4 (
   fork-reads.Asked,
   fork-reads.Learnt,
 ) (rounds-at t) rounds.Post
-rounds-returns-4 t c = λ h. option-done _ _ _ _ _ _ _ _ _ (c .before .before .before .before .before .before .before .before .before .before .before .before .before .before
+rounds-returns-4 t c = λ h. option-done _ _ _ _ _ _ _ _ _ _ (c .before .before .before .before .before .before .before .before .before .before .before .before .before .before
     .before .before .before .if1 .left) (c .before .before .before .before .before .before .before .before .before .before .before .before .before .before .before .before .if2
     .left) (c .before .before .before .before .before .before .before .before .before .before .before .before .before .before .if3 .left) _
     (c .before .before .before .before .before .before .before .before .before .before .before .before .before .before .before .node-at .ensures) _
@@ -1526,6 +1566,8 @@ pub +body+branches+emit+rounds-spec : {M : Type 1} → statement M
       node-at-reads.Learnt,
       emit-below t,
       emit.Post,
+      places-at-reads.Asked,
+      places-at-reads.Learnt,
       branches-below t,
       branches.Post,
     )
@@ -1535,6 +1577,8 @@ pub +body+branches+emit+rounds-spec : {M : Type 1} → statement M
     (branches-returns t)
     (branches-enum-told t)
     (branches-emit-requires t)
+    (branches-places-at-requires t)
+    (branches-add-rest t)
     (branches-branches-requires t)
     (branches-same-length t)
     (branches-returns-2 t)
@@ -1567,6 +1611,7 @@ pub +body+branches+emit+rounds-spec : {M : Type 1} → statement M
     (emit-add-end t)
     (emit-enum-told t)
     (emit-branch-fork-requires t)
+    (emit-add-branches t)
     (emit-branches-requires t)
     (emit-same-length t)
     (emit-returns t)
@@ -1601,7 +1646,7 @@ pub +body+branches+emit+rounds-spec : {M : Type 1} → statement M
     )
     (rounds-at t)
     rounds.Post
-    (rounds-add-start-at t)
+    (rounds-add-rest t)
     (rounds-start-at-requires t)
     (rounds-body-requires t)
     (rounds-sub-rounds t)
@@ -1610,17 +1655,15 @@ pub +body+branches+emit+rounds-spec : {M : Type 1} → statement M
     (rounds-returns t)
     (rounds-returns-2 t)
     (rounds-node-at-requires t)
-    (rounds-add-start-at-2 t)
+    (rounds-add-first t)
     (rounds-start-at-requires-2 t)
     (rounds-fork-requires t)
     (rounds-body-requires-2 t)
     (rounds-same-length-2 t)
     (rounds-returns-3 t)
-    (rounds-add-start-at-3 t)
     (rounds-start-at-requires-3 t)
     (rounds-fork-requires-2 t)
-    (rounds-add-start-at-4 t)
-    (rounds-add-start-at-5 t)
+    (rounds-add-rest-2 t)
     (rounds-start-at-requires-4 t)
     (rounds-body-requires-3 t)
     (rounds-sub-rounds-2 t)

@@ -3,8 +3,8 @@ use Rattle.places.proofs.UnrollLaws.{some-place, unroll-emitting, end-w
 use Rattle.places.proofs.unroll.Statement.{statement}
 use Rattle.places.proofs.unroll.Tie as tie
 
-sub-emit : tie.Need-sub-emit
-sub-emit c = some-place _ _ _ _ (c .before .before .before .pre)
+sub-last : tie.Need-sub-last
+sub-last c = some-place _ _ _ _ (c .before .before .pre)
 
 emit-requires : tie.Need-emit-requires
 emit-requires c κs = unroll-emitting _ _ _ _ (c .before .before .before .pre)
@@ -20,4 +20,4 @@ returns : tie.Need-returns
 returns c = λ h. unroll-done _ _ _ _ h _ _ (c .before .before .before .before .before .before .emit .ensures) _ (c .before .before .put-words .ensures)
 
 pub unroll-spec : {M : Type 1} → statement M
-unroll-spec = tie.close (tie.spec sub-emit emit-requires put-words-requires same-length returns)
+unroll-spec = tie.close (tie.spec sub-last emit-requires put-words-requires same-length returns)
