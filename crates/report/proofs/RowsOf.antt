@@ -1,4 +1,5 @@
--- The rows of a measure by the labels of a match: how many there are, the first and the last of them, and what SUM, MIN and MAX give from the first on.
+-- The rows of a measure by the labels of a match: how many there are, the first and the last of them, which numbers are taken for LAST, and what SUM, MIN
+-- and MAX give from the first on.
 use mathlib.Core.Path.{_≡_, refl, sym, ap, _∙_}
 use mathlib.Core.Bool.{Bool, true, false, not}
 use mathlib.Core.List.{List, [], _∷_, _++_}
@@ -12,7 +13,7 @@ use lib.IntN.{ℤ, pos}
 use lib.Signed.{mag}
 use lib.ListN.{length, getD, take, drop, drop-of-length-le, length-drop}
 use lib.Seq.{drop-cons}
-use borrow.Author.Tests.{eq-eqb, ne-eqb, ltb-true, ltb-false}
+use borrow.Author.Tests.{eq-eqb, ne-eqb, ltb-true, ltb-false, lt-ltb, le-ltb}
 use Rattle.rules.specs.Basics.{pick, keep}
 use Rattle.rules.specs.Rows.{Table, entry}
 use Rattle.rules.specs.Report.{values, joined, joinAll, overSome, resultOf, measured, twoOf}
@@ -21,7 +22,7 @@ use Rattle.report.specs.declared.Outcome.{Outcome}
 use Rattle.report.specs.declared.Outcome.the-variants.{Null, Number}
 use Rattle.report.specs.declared.Found.{Found}
 use Rattle.report.specs.declared.Found.the-variants.{At, Nothing}
-use Rattle.report.specs.Measures.{measureBy, numbersFor, isOf, countOf, NoneIn, FirstAt, IsFirst, LastAt, Inside, Readable}
+use Rattle.report.specs.Measures.{measureBy, numbersFor, isOf, countOf, NoneIn, meansLast, FirstAt, IsFirst, LastAt, IsLast, Inside, Readable}
 use Rattle.report.proofs.Joins.{held}
 
 -- ---- is a row one of them
@@ -112,29 +113,67 @@ module _ (letter : ℕ) (ls : List ℕ) where
   unfolding IsFirst
   no-first found h e = rw e at h
 
-  -- the loop that seeks the last: none lies behind index i, which is not before `at`
-  pub record Backing (at i : ℕ) : Type 0 where
-    pub from : at ≤ i
-    pub upto : i < length ls
-    pub no-row : NoneIn letter ls (i + 1) (length ls)
+  -- the loop that seeks the last: none lies from index i on
+  pub record Backing (i : ℕ) : Type 0 where
+    pub upto : i ≤ length ls
+    pub no-row : NoneIn letter ls i (length ls)
 
-  pub back-none : (at : ℕ) → at < length ls → Backing at (length ls - 1)
-  back-none at h = record { from = omega arith; upto = omega arith; no-row = λ k a b. absurd (omega arith) }
+  pub back-none : Backing (length ls)
+  back-none = record { upto = omega arith; no-row = λ k a b. absurd (omega arith) }
 
-  pub back-on : (at i : ℕ) (t : Bool) → Backing at i → at < i → t ≡ isOf letter (getD ls i 0) → t ≡ false → Backing at (i - 1)
-  back-on at i t h l e q = record { from = omega arith; upto = omega (arith, h .upto); no-row = λ k a b. go k a b (ltb i k) refl }
+  pub back-on : (i : ℕ) (t : Bool) → Backing i → t ≡ isOf letter (getD ls (i - 1) 0) → t ≡ false → Backing (i - 1)
+  back-on i t h e q = record { upto = omega (arith, h .upto); no-row = λ k a b. go k a b (ltb k i) refl }
     where
-      go : (k : ℕ) → i - 1 + 1 ≤ k → k < length ls → (u : Bool) → ltb i k ≡ u → isOf letter (getD ls k 0) ≡ false
-      go k a b true z = h .no-row k (let y = ltb-true i k z in omega arith) b
-      go k a b false z = let y : k ≡ i = omega (arith, ltb-false i k z) in rw y (sym e ∙ q)
+      go : (k : ℕ) → i - 1 ≤ k → k < length ls → (u : Bool) → ltb k i ≡ u → isOf letter (getD ls k 0) ≡ false
+      go k a b true z = let y : k ≡ i - 1 = omega (arith, ltb-true k i z) in rw y (sym e ∙ q)
+      go k a b false z = h .no-row k (ltb-false k i z) b
 
-  pub last-here : (at i : ℕ) (t : Bool) → Backing at i → t ≡ isOf letter (getD ls i 0) → t ≡ true → LastAt letter ls i
-  last-here at i t h e q = record { inside = h .upto; is-of = sym e ∙ q; none-behind = h .no-row }
+  pub last-here : (i : ℕ) (t : Bool) → Backing i → 0 < i → t ≡ isOf letter (getD ls (i - 1) 0) → t ≡ true → IsLast letter ls (At (i - 1))
+  unfolding IsLast
+  last-here i t h l e q = record { inside = omega (arith, h .upto); is-of = sym e ∙ q; none-behind = λ k a b. h .no-row k (omega arith) b }
 
-  pub last-left : (at i : ℕ) → Backing at i → i ≤ at → isOf letter (getD ls at 0) ≡ true → LastAt letter ls at
-  last-left at i h l e =
-      let q : i ≡ at = omega (arith, h .from) in
-      record { inside = omega (arith, h .upto); is-of = e; none-behind = λ k a b. h .no-row k (omega arith) b }
+  pub last-nowhere : (i : ℕ) → Backing i → i ≤ 0 → IsLast letter ls Nothing
+  unfolding IsLast
+  last-nowhere i h l = λ k a b. h .no-row k (omega arith) b
+
+  pub last-at : (found : Found) (i : ℕ) → IsLast letter ls found → found ≡ At i → LastAt letter ls i
+  unfolding IsLast
+  last-at found i h e = rw e at h
+
+  pub last-inside : (found : Found) (i : ℕ) → IsLast letter ls found → found ≡ At i → i < length ls
+  last-inside found i h e = last-at found i h e .inside
+
+  no-last : (found : Found) → IsLast letter ls found → found ≡ Nothing → NoneIn letter ls 0 (length ls)
+  unfolding IsLast
+  no-last found h e = rw e at h
+
+-- ---- the numbers that are taken for LAST
+
+pub low-last : (f : ℕ) → f < 1 → true ≡ meansLast f
+unfolding meansLast
+low-last f h = simp (lt-ltb f 1 h)
+
+pub high-last : (f : ℕ) → 1 ≤ f → ltb 5 f ≡ meansLast f
+unfolding meansLast
+high-last f h = simp (le-ltb f 1 h)
+
+last-not : (f k : ℕ) → meansLast f ≡ true → 1 ≤ k → k ≤ 5 → f ≡ k → ⊥
+last-not f k h a b e =
+    let p = high-last f (omega arith) in
+    let q = ltb-true 5 f (p ∙ h) in
+    omega arith
+
+-- the numbers of the other five
+module _ (f : ℕ) (t : Bool) (e : t ≡ meansLast f) (q : t ≡ false) where
+  pub others-from : 1 ≤ f
+  others-from = go (ltb f 1) refl
+    where
+      go : (u : Bool) → ltb f 1 ≡ u → 1 ≤ f
+      go true z = let w : true ≡ false = low-last f (ltb-true f 1 z) ∙ sym e ∙ q in let y : _≡_ {A = ℕ} 0 1 = cc in absurd (omega arith)
+      go false z = ltb-false f 1 z
+
+  pub others-upto : f ≤ 5
+  others-upto = ltb-false 5 f (high-last f others-from ∙ sym e ∙ q)
 
 -- ---- the entries of a measure's rows
 
@@ -197,10 +236,14 @@ module _ (t : Table) (f letter column : ℕ) where
   front-stays e a [] = refl
   front-stays e a (x ∷ xs) = let j : joined f a x ≡ a = rw e in ap (λ (v : ℤ). joinAll f v xs) j ∙ front-stays e a xs
 
-  module _ (h2 : f ≡ 2 → ⊥) (h3 : f ≡ 3 → ⊥) (h4 : f ≡ 4 → ⊥) (h5 : f ≡ 5 → ⊥) where
+  module _ (h : meansLast f ≡ true) where
+    other : (k : ℕ) → 1 ≤ k → k ≤ 5 → eqb f k ≡ false
+    other k l u = ne-eqb f k (last-not f k h l u)
+
     back-stays : (a : ℤ) (xs : List ℤ) (x : ℤ) → joinAll f a (xs ++ (x ∷ [])) ≡ x
     unfolding joinAll joined
-    back-stays a [] x = simp (ne-eqb f 2 h2, ne-eqb f 3 h3, ne-eqb f 4 h4, ne-eqb f 5 h5)
+    back-stays a [] x = simp
+        (other 2 (omega arith) (omega arith), other 3 (omega arith) (omega arith), other 4 (omega arith) (omega arith), other 5 (omega arith) (omega arith))
     back-stays a (y ∷ xs) x = back-stays (joined f a y) xs x
 
     over-back : (xs : List ℤ) (x : ℤ) → overSome f (xs ++ (x ∷ [])) ≡ some x
@@ -245,16 +288,26 @@ module _ (t : Table) (f letter column : ℕ) where
     unfolding twoOf numbersFor
     gives r h e = sym (over h ∙ ap twoOf e)
 
-    pub gives-first : (at : ℕ) (r : ℤ) → f ≡ 5 → FirstAt letter ls at → r ≡ entry t (first + at) column → mag r < 2147483648 → numbersFor (Number (held r)) ≡ two
-    gives-first at r e h q g = gives (held r) (λ w. omega arith) (over-first at h e ∙ ap some (sym (read-back r (omega arith) ∙ q)))
-
-    pub gives-last : (at : ℕ) (r : ℤ) → (f ≡ 1 → ⊥) → (f ≡ 2 → ⊥) → (f ≡ 3 → ⊥) → (f ≡ 4 → ⊥) → (f ≡ 5 → ⊥) → LastAt letter ls at
+    -- the number that the other four leave is FIRST's
+    pub gives-first : (at : ℕ) (r : ℤ) → 1 ≤ f → f ≤ 5 → (f ≡ 1 → ⊥) → (f ≡ 2 → ⊥) → (f ≡ 3 → ⊥) → (f ≡ 4 → ⊥) → FirstAt letter ls at
         → r ≡ entry t (first + at) column → mag r < 2147483648
         → numbersFor (Number (held r)) ≡ two
-    gives-last at r h1 h2 h3 h4 h5 h q g =
+    gives-first at r l u h1 h2 h3 h4 h q g =
+        let e : f ≡ 5 = omega arith in
+        gives (held r) h1 (over-first at h e ∙ ap some (sym (read-back r (omega arith) ∙ q)))
+
+    pub last-null : (found : Found) → meansLast f ≡ true → IsLast letter ls found → found ≡ Nothing → numbersFor Null ≡ two
+    unfolding numbersFor twoOf overSome
+    last-null found n h e = sym (over (last-not f 1 n (omega arith) (omega arith))
+        ∙ ap (λ (v : List ℤ). twoOf (overSome f v)) (entries-none first ls (no-last letter ls found h e)))
+
+    pub gives-last : (at : ℕ) (r : ℤ) → meansLast f ≡ true → LastAt letter ls at → r ≡ entry t (first + at) column → mag r < 2147483648
+        → numbersFor (Number (held r)) ≡ two
+    gives-last at r n h q g =
         let e : entries first ls ≡ entries first (take at ls) ++ (entry t (first + at) column ∷ []) =
         entries-last first ls at (h .inside) (h .is-of) (λ k a b. h .none-behind k (omega arith) b) in
-        gives (held r) h1 (ap (overSome f) e ∙ over-back h2 h3 h4 h5 (entries first (take at ls)) (entry t (first + at) column) ∙ ap some (sym (read-back r (omega arith) ∙ q)))
+        gives (held r) (last-not f 1 n (omega arith) (omega arith))
+        (ap (overSome f) e ∙ over-back n (entries first (take at ls)) (entry t (first + at) column) ∙ ap some (sym (read-back r (omega arith) ∙ q)))
 
     pub gives-joined : (k : ℕ) (r : ℤ) → mag r < 9223372036854775808 → f ≡ k → (k ≡ 1 → ⊥) → overSome k (values t (measureBy k letter column) first ls) ≡ some r
         → numbersFor (Number (held r)) ≡ two
@@ -326,3 +379,9 @@ module _ (rows : List ℤ) (columns first long column : ℕ) (h : Readable rows 
 pub same-column : (t : Table) (first : ℕ) (ls : List ℕ) (f letter column index : ℕ) (r : Outcome) → index ≡ column
     → numbersFor r ≡ twoOf (measured t first ls (measureBy f letter index)) → numbersFor r ≡ twoOf (measured t first ls (measureBy f letter column))
 same-column t first ls f letter column index r e q = q ∙ ap (λ (c : ℕ). twoOf (measured t first ls (measureBy f letter c))) e
+
+-- what is LAST's result is that of each number that is taken for it
+pub as-last : (t : Table) (first : ℕ) (ls : List ℕ) (f letter column index : ℕ) (r : Outcome) (b : Bool) → b ≡ meansLast f → b ≡ true → index ≡ column
+    → ((g : ℕ) → meansLast g ≡ true → numbersFor r ≡ twoOf (measured t first ls (measureBy g letter index)))
+    → numbersFor r ≡ twoOf (measured t first ls (measureBy f letter column))
+as-last t first ls f letter column index r b e q i h = same-column t first ls f letter column index r i (h f (sym e ∙ q))

@@ -4,7 +4,7 @@ use mathlib.Core.Path.{_≡_}
 use mathlib.Core.Bool.{Bool, true, false, _||_}
 use mathlib.Core.List.{List, [], _∷_}
 use Prim.Native.Nat.{ℕ, _+_, _*_, _≤_, _<_}
-use lib.Dec.{eqb}
+use lib.Dec.{eqb, ltb}
 use lib.IntN.{ℤ, pos}
 use lib.ListN.{length, getD}
 use Rattle.rules.specs.Basics.{pick, tabulate}
@@ -22,6 +22,10 @@ measureBy function letter column = record { function = function; letter = letter
 unfoldable pub numbersFor : Outcome → List ℤ
 numbersFor Null = pos 0 ∷ pos 0 ∷ []
 numbersFor (Number v) = pos 1 ∷ v ∷ []
+
+-- a function's number that is taken for LAST: `joined` takes every number for it that is none of the other five
+unfoldable pub meansLast : ℕ → Bool
+meansLast f = ltb f 1 || ltb 5 f
 
 -- ---- the rows of a measure
 
@@ -53,6 +57,10 @@ pub record LastAt (letter : ℕ) (ls : List ℕ) (i : ℕ) : Type 0 where
   pub inside : i < length ls
   pub is-of : isOf letter (getD ls i 0) ≡ true
   pub none-behind : NoneIn letter ls (i + 1) (length ls)
+
+unfoldable pub IsLast : ℕ → List ℕ → Found → Type 0
+IsLast letter ls Nothing = NoneIn letter ls 0 (length ls)
+IsLast letter ls (At i) = LastAt letter ls i
 
 -- ---- what the code may read and write
 

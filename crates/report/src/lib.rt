@@ -9,14 +9,14 @@ ghost use mathlib.Core.Option.{none, some};
 ghost use Prim.Native.Nat.{ℕ, _+_, _*_, _≤_, _<_};
 ghost use lib.IntN.{ℤ, pos, _+ℤ_};
 ghost use lib.Signed.{mag};
-ghost use lib.ListN.{length, getD, drop};
+ghost use lib.ListN.{length, drop};
 ghost use Rattle.rules.specs.Basics.{pick, wrote};
 ghost use Rattle.rules.specs.Rows.{tableOf, entry};
 ghost use Rattle.rules.specs.Query as Q;
 ghost use Rattle.decode.specs.Layout.{measureIn, measuresIn};
 ghost use Rattle.decode.specs.Steps.{measureOf};
 ghost use Rattle.rules.specs.Report.{joined, values, overSome, resultOf, measured, twoOf, measureNumbers, matchNumbers, fits};
-ghost use Rattle.report.specs.Measures.{measureBy, numbersFor, isOf, countOf, FirstAt, IsFirst, LastAt, Inside, Readable, Reportable, Appendable};
+ghost use Rattle.report.specs.Measures.{measureBy, numbersFor, isOf, countOf, meansLast, FirstAt, IsFirst, IsLast, Inside, Readable, Reportable, Appendable};
 
 // A byte as an index.
 fn wide(x: u8) -> usize
@@ -68,19 +68,18 @@ fn first_of(letter: u8, labels: &[u8]) -> Found
     Found::Nothing
 }
 
-// The last row of a measure, sought from the end; `at` is one of its rows.
-fn last_of(letter: u8, labels: &[u8], at: usize) -> usize
-    requires { ⌜ (at < length (now labels)) × (isOf letter (getD (now labels) at 0) ≡ true) ⌝ }
-    ensures { λ r. ⌜ LastAt letter (now (labels .entry)) r ⌝ }
+// The last row of a measure, sought from the end.
+fn last_of(letter: u8, labels: &[u8]) -> Found
+    ensures { λ r. ⌜ IsLast letter (now (labels .entry)) r ⌝ }
 {
-    let mut i = labels.len() - 1;
-    while at < i {
-        if is_of(letter, labels[i]) {
-            return i;
-        }
+    let mut i = labels.len();
+    while 0 < i {
         i -= 1;
+        if is_of(letter, labels[i]) {
+            return Found::At(i);
+        }
     }
-    at
+    Found::Nothing
 }
 
 // How many rows a measure has from index `at` on.
@@ -207,7 +206,7 @@ fn of_no_rows(function: u8) -> Outcome
     Outcome::Null
 }
 
-// A measure that has rows, of which `at` is the first.
+// A measure other than LAST that has rows, of which `at` is the first.
 fn measure_from(
     function: u8,
     letter: u8,
@@ -218,7 +217,7 @@ fn measure_from(
     labels: &[u8],
     at: usize,
 ) -> Outcome
-    requires { ⌜ Readable (now rows) columns first (length (now labels)) column × FirstAt letter (now labels) at ⌝ }
+    requires { ⌜ (1 ≤ function) × (function ≤ 5) × Readable (now rows) columns first (length (now labels)) column × FirstAt letter (now labels) at ⌝ }
     ensures { λ r. ⌜ numbersFor r ≡ twoOf (measured (tableOf columns (now (rows .entry))) first (now (labels .entry)) (measureBy function letter column)) ⌝ }
 {
     if function == Measure::COUNT {
@@ -260,10 +259,35 @@ fn measure_from(
             at,
         ));
     }
-    if function == Measure::FIRST {
-        return Outcome::Number(entry_at(rows, columns, first + at, column));
+    Outcome::Number(entry_at(rows, columns, first + at, column))
+}
+
+// Whether a function's number is taken for LAST: the definition takes every number for it that is none of the other five.
+fn means_last(function: u8) -> bool
+    ensures { λ r. ⌜ r ≡ meansLast function ⌝ }
+{
+    if function < Measure::COUNT {
+        return true;
     }
-    let last = last_of(letter, labels, at);
+    Measure::FIRST < function
+}
+
+// LAST over the rows of a match: the first of them is not sought.
+fn last_measure(
+    letter: u8,
+    column: usize,
+    rows: &[i32],
+    columns: usize,
+    first: usize,
+    labels: &[u8],
+) -> Outcome
+    requires { ⌜ Readable (now rows) columns first (length (now labels)) column ⌝ }
+    ensures { λ r. ⌜ ((function : ℕ) → meansLast function ≡ true
+        → numbersFor r ≡ twoOf (measured (tableOf columns (now (rows .entry))) first (now (labels .entry)) (measureBy function letter column))) ⌝ }
+{
+    let Found::At(last) = last_of(letter, labels) else {
+        return Outcome::Null;
+    };
     Outcome::Number(entry_at(rows, columns, first + last, column))
 }
 
@@ -272,6 +296,9 @@ fn measure_of(m: Measure, rows: &[i32], columns: usize, first: usize, labels: &[
     requires { ⌜ Readable (now rows) columns first (length (now labels)) (m .column) ⌝ }
     ensures { λ r. ⌜ numbersFor r ≡ twoOf (measured (tableOf columns (now (rows .entry))) first (now (labels .entry)) (measureOf m)) ⌝ }
 {
+    if means_last(m.function) {
+        return last_measure(m.letter, wide(m.column), rows, columns, first, labels);
+    }
     let Found::At(at) = first_of(m.letter, labels) else {
         return of_no_rows(m.function);
     };

@@ -1,5 +1,5 @@
 use native.Mathlib.Omega.{arith}
-use Rattle.report.proofs.RowsOf.{gives-count, gives-joined, gives-first, gives-last, row-inside, row-small}
+use Rattle.report.proofs.RowsOf.{gives-count, gives-joined, gives-first, row-inside, row-small}
 use borrow.Author.Needs.{needs}
 use Rattle.report.proofs.measure_from.Statement.{statement}
 use Rattle.report.proofs.measure_from.Tie as tie
@@ -11,7 +11,7 @@ as-number-requires : tie.Need-as-number-requires
 as-number-requires c κs = search needs
 
 returns : tie.Need-returns
-returns c = gives-count _ _ _ _ _ _ _ (c .before .before .before .before .pre .1) _ _ (c .before .before .if1 .taken)
+returns c = gives-count _ _ _ _ _ _ _ (c .before .before .before .before .pre .3) _ _ (c .before .before .if1 .taken)
     (c .before .count-of .ensures .0) (c .as-number .ensures) (omega arith)
 
 joined-from-requires : tie.Need-joined-from-requires
@@ -35,8 +35,7 @@ returns-4 c = gives-joined _ _ _ _ _ _ 4 _ (c .joined-from3 .ok) (c .before .if4
 add-entry-at : tie.Need-add-entry-at
 add-entry-at c = omega (
   arith,
-  row-small _ _ _ _ _ (c .before .before .before .before .before .before .pre .0) _
-      (c .before .before .before .before .before .before .pre .1 .inside),
+  row-small _ _ _ _ _ (c .before .before .before .before .before .pre .2) _ (c .before .before .before .before .before .pre .3 .inside),
 )
 
 entry-at-requires : tie.Need-entry-at-requires
@@ -44,18 +43,6 @@ entry-at-requires c κs = search (needs, row-inside)
 
 returns-5 : tie.Need-returns-5
 returns-5 c = search (needs, gives-first)
-
-last-of-requires : tie.Need-last-of-requires
-last-of-requires c κs = search needs
-
-add-entry-at-2 : tie.Need-add-entry-at-2
-add-entry-at-2 c = omega (arith, row-small _ _ _ _ _ (c .before .before .before .before .before .before .before .pre .0) _ (c .last-of .ensures .inside))
-
-entry-at-requires-2 : tie.Need-entry-at-requires-2
-entry-at-requires-2 c κs = search (needs, row-inside)
-
-returns-6 : tie.Need-returns-6
-returns-6 c = search (needs, gives-last)
 
 pub measure-from-spec : {M : Type 1} → statement M
 measure-from-spec =
@@ -72,8 +59,4 @@ measure-from-spec =
     returns-4
     add-entry-at
     entry-at-requires
-    returns-5
-    last-of-requires
-    add-entry-at-2
-    entry-at-requires-2
-    returns-6)
+    returns-5)
