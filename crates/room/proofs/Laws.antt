@@ -3,7 +3,7 @@ use mathlib.Core.Path.{_≡_, refl, ap, ap₂, sym, _∙_}
 use mathlib.Core.Bool.{Bool, true, false, not, _&&_, _||_}
 use mathlib.Core.List.{List, [], _∷_, _++_}
 use Prim.Native.Nat.{ℕ, zero, suc, _+_, _-_, _/_, _%_, _≤_, _<_}
-use lib.ListN.{length, take, drop}
+use lib.ListN.{length, take, drop, length-take, length-drop}
 use native.Mathlib.Nat.{not-suc-le-zero}
 use native.Mathlib.Numerals.{add-one}
 use native.Mathlib.Omega.{arith}
@@ -277,13 +277,6 @@ module _ (s room room′ measures : List ℕ) (p : Parts) (j : JudgeRoom s room 
 
 -- ---- reading a query
 
--- room for every query, and for those of at most 96 bytes
-pub all-nodes : (s room : List ℕ) → length room ≡ 4096 → Nodes s room
-all-nodes s room l = record { enough = λ k a b. omega arith }
-
-pub few-nodes : (s room : List ℕ) → length s ≤ 96 → length room ≡ 1536 → Nodes s room
-few-nodes s room h l = record { enough = λ k a b. omega arith }
-
 module _ (s cells₀ : List ℕ) (offsets₀ numbers₀ : List ℤ) (measures₀ : List ℕ) where
   -- answers 1 to 3
   pub first-answers : (room cells : List ℕ) (offsets numbers : List ℤ) (counts measures : List ℕ) (a : ℕ) (r : Query) → a ≡ firstAnswer s → (a ≡ 0 → ⊥) → r ≡ refusal a
@@ -309,7 +302,7 @@ module _ (s cells₀ : List ℕ) (offsets₀ numbers₀ : List ℤ) (measures₀
         few = d .few;
         fit = d .fit;
         measured = d .measured;
-        space = l .enough (p .len) (d .short) (let i = d .inside in omega arith);
+        space = let i = d .inside in let q : length (textOf s) ≡ p .len = ap length (sym (d .text)) ∙ simp (length-take, length-drop) (omega arith) in omega (arith, l .enough (sym e ∙ z));
       }
 
   -- all of them

@@ -1,14 +1,14 @@
 -- What reading a query leaves: its answer 1 to 9 by the rules' tests, and where it is 0 the pattern's tree, the comparisons and the measures in the lent
 -- arrays; and how much to lend.
 use mathlib.Core.Path.{_≡_}
-use mathlib.Core.Bool.{Bool, not, _||_}
+use mathlib.Core.Bool.{Bool, not, _&&_, _||_}
 use mathlib.Core.List.{List}
 use mathlib.Core.Option.{Option, some}
 use Prim.Native.Nat.{ℕ, _+_, _*_, _≤_, _<_}
-use lib.Dec.{eqb}
+use lib.Dec.{eqb, leb}
 use lib.IntN.{ℤ}
 use lib.ListN.{length, take, drop}
-use Rattle.rules.specs.Basics.{every, has}
+use Rattle.rules.specs.Basics.{every, has, le16}
 use Rattle.rules.specs.Query.{Measure, textOf, parts}
 use Rattle.query.specs.Read.{firstAnswer}
 use Rattle.rules.specs.Language.{Tree, pattern}
@@ -69,9 +69,19 @@ pub record Whole (s : List ℕ) (cells₀ : List ℕ) (offsets₀ numbers₀ : L
   pub decoded : Decoded s cells₀ offsets₀ numbers₀ measures₀ cells offsets numbers counts measures parts
   pub good : GoodParts s room parts r
 
--- words for the tree of any text that the query can hold, which is at most 256 bytes long
+-- words for the pattern's tree: 16 for each byte of its text, where the query has no answer 1 to 3
 pub record Nodes (s room : List ℕ) : Type 0 where
-  pub enough : (k : ℕ) → k ≤ 256 → k ≤ length s → 16 * k ≤ length room
+  pub enough : firstAnswer s ≡ 0 → 16 * length (textOf s) ≤ length room
+
+-- the length of the pattern's text, as it stands in bytes 6 and 7: behind a first record of 6 bytes, as the second record begins
+unfoldable pub textLength : List ℕ → ℕ
+unfolding le16
+textLength s = le16 s 6
+
+-- there are such bytes, and they say at most 16
+unfoldable pub shortText : List ℕ → Bool
+unfolding textLength
+shortText s = leb 8 (length s) && leb (textLength s) 16
 
 -- what reading a query is lent: such words, and the arrays whole
 pub record Space (s room cells : List ℕ) (offsets numbers : List ℤ) (measures : List ℕ) : Type 0 where

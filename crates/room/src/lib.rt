@@ -1,5 +1,6 @@
-// A query read whole: its answer 1 to 9 or 0, the tree of its pattern in lent words, its comparisons and measures in lent arrays (`read_query`); and
-// how much a caller has to lend for it on some rows (`room`). For all bytes and rows; the promises are equations with document 01's definitions.
+// A query read whole: its answer 1 to 9 or 0, the tree of its pattern in lent words, its comparisons and measures in lent arrays (`read_query`); whether its
+// text is short, by which a caller chooses the words for the tree (`text_is_short`); and how much a caller has to lend for it on some rows (`room`). For all
+// bytes and rows; the promises are equations with document 01's definitions.
 use decode::Parts;
 ghost use mathlib.Core.Path.{_≡_};
 ghost use mathlib.Core.List.{List};
@@ -7,7 +8,7 @@ ghost use Prim.Native.Nat.{ℕ, _≤_, _<_};
 ghost use lib.IntN.{ℤ};
 ghost use lib.ListN.{length};
 ghost use Rattle.rules.specs.Answers.{roomOf};
-ghost use Rattle.room.specs.Reading.{knownIn, foreignIn, refusal, JudgeRoom, JudgedParts, Space, Asked, asRoom};
+ghost use Rattle.room.specs.Reading.{knownIn, foreignIn, refusal, JudgeRoom, JudgedParts, Nodes, Space, Asked, asRoom, shortText};
 
 // What a query asks: its answer 1 to 9, or 0; where it is 0, P, the top node of its pattern's tree, and its parts.
 pub struct Query {
@@ -124,11 +125,24 @@ fn no_room(answer: usize) -> Size
     }
 }
 
-// How much a query needs on these rows.
-pub fn room(query: &[u8], rows: &[i32]) -> Size
+// Whether the pattern's text is short: in a query with no answer 1 to 3 the first record has 6 bytes, so that bytes 6 and 7 are the text's length.
+pub fn text_is_short(query: &[u8]) -> bool
+    ensures { λ r. ⌜ r ≡ shortText (now (query .entry)) ⌝ }
+{
+    if query.len() < 8 {
+        return false;
+    }
+    if query[7] != 0 {
+        return false;
+    }
+    query[6] <= 16
+}
+
+// How much a query needs on these rows, with room for the tree of its pattern.
+fn room_in(nodes: &mut [u16], query: &[u8], rows: &[i32]) -> Size
+    requires { ⌜ Nodes (now query) (now nodes) ⌝ }
     ensures { λ r. ⌜ asRoom r ≡ roomOf (now (query .entry)) (now (rows .entry)) ⌝ }
 {
-    let mut nodes = [0u16; 4096];
     let mut cells = [0u16; 832];
     let mut offsets = [0i8; 416];
     let mut numbers = [0i32; 208];
@@ -136,7 +150,7 @@ pub fn room(query: &[u8], rows: &[i32]) -> Size
     let mut measures = [0u8; 24];
     let q = read_query(
         query,
-        &mut nodes,
+        nodes,
         &mut cells,
         &mut offsets,
         &mut numbers,
@@ -160,4 +174,16 @@ pub fn room(query: &[u8], rows: &[i32]) -> Size
         places: q.places,
         rows: n,
     }
+}
+
+// How much a query needs on these rows. A short text gets a small room for its tree, since clearing a large one takes time.
+pub fn room(query: &[u8], rows: &[i32]) -> Size
+    ensures { λ r. ⌜ asRoom r ≡ roomOf (now (query .entry)) (now (rows .entry)) ⌝ }
+{
+    if text_is_short(query) {
+        let mut nodes = [0u16; 256];
+        return room_in(&mut nodes, query, rows);
+    }
+    let mut nodes = [0u16; 4096];
+    room_in(&mut nodes, query, rows)
 }

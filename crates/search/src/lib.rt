@@ -320,7 +320,7 @@ fn search_in(
     )
 }
 
-// The search. A short query gets a small room for its tree, since clearing a large one takes longer than the search of a few rows.
+// The search. A short text gets a small room for its tree, since clearing a large one takes longer than the search of a few rows.
 pub fn search(
     query: &[u8],
     rows: &[i32],
@@ -331,8 +331,8 @@ pub fn search(
 ) -> Outcome
     ensures { λ r. ⌜ Promised (now (query .entry)) (now (rows .entry)) (lent (now (notes .entry)) (now (trail .entry)) (now (numbers .entry)) (now (labels .entry))) (memory r (now (notes .exit)) (now (trail .exit)) (now (numbers .exit)) (now (labels .exit))) ⌝ }
 {
-    if query.len() <= 96 {
-        let mut nodes = [0u16; 1536];
+    if room::text_is_short(query) {
+        let mut nodes = [0u16; 256];
         return search_in(&mut nodes, query, rows, notes, trail, numbers, labels);
     }
     let mut nodes = [0u16; 4096];

@@ -1,5 +1,6 @@
 -- `measures_of` counts the measures that reading the query found.
 use borrow.Author.Needs.{needs}
+use Rattle.room.proofs.Short.{all-nodes}
 use Rattle.run.proofs.Running.{measures-counted}
 use Rattle.run.proofs.measures_of.Statement.{statement}
 use Rattle.run.proofs.measures_of.Tie as tie
@@ -8,7 +9,7 @@ slice-aggregate-read-query : tie.Need-slice-aggregate-read-query
 slice-aggregate-read-query c = search needs
 
 read-query-requires : tie.Need-read-query-requires
-read-query-requires c κs = search needs
+read-query-requires c κs = search (needs, all-nodes)
 
 returns : tie.Need-returns
 returns c = search (needs, measures-counted)
