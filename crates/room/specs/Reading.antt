@@ -73,7 +73,7 @@ pub record Whole (s : List ℕ) (cells₀ : List ℕ) (offsets₀ numbers₀ : L
 pub record Nodes (s room : List ℕ) : Type 0 where
   pub enough : firstAnswer s ≡ 0 → 16 * length (textOf s) ≤ length room
 
--- the length of the pattern's text, as it stands in bytes 6 and 7: behind a first record of 6 bytes, as the second record begins
+-- the length of the pattern's text, as bytes 6 and 7 say it: in a query with no answer 1 to 3 the first record has 6 bytes, and the second begins with its body's length
 unfoldable pub textLength : List ℕ → ℕ
 unfolding le16
 textLength s = le16 s 6
