@@ -16,11 +16,11 @@ use Rattle.rules.specs.Report.{bitAt}
 use Rattle.rules.proofs.Notes.{marked}
 use Rattle.walk.specs.declared.Walk.{Walk}
 use Rattle.walk.specs.Tables.{Tables, P, N, second, leftFrom, waysOf}
-use Rattle.walk.specs.Step.{placeIn, rowIn, wayIn, pairIn, stack, walkAt, tryAt, after, wentOn, Noted}
+use Rattle.walk.specs.Step.{oneUnless, placeIn, rowIn, wayIn, pairIn, stack, walkAt, tryAt, after, wentOn, Noted}
 use Rattle.walk.specs.State.{Word, rowFrom, wayAt, reach, Led, Stuck, Good, left, restAt, rest, resumed, comes, Reached, Halts, Backward}
 use Rattle.walk.proofs.Ways.{left-none, left-some, ways-length, ways-later, takes-no-row}
 use Rattle.walk.proofs.Trails.{went-place, went-row, went-way, stack-same}
-use Rattle.walk.proofs.Going.{good-room, comes-idle, top-word, top-below, top-out, top-byte, leave-reached, leave-less}
+use Rattle.walk.proofs.Going.{never, good-room, comes-idle, top-word, top-below, top-out, top-byte, leave-reached, leave-less}
 use Rattle.walk.proofs.Trying.{turn-noted, turn-tried}
 
 -- ---- the way behind a way
@@ -109,12 +109,12 @@ module _ (T : Tables) (holds : ℕ → ℕ → Bool) (n : ℕ) (Q : Type 0) (not
     back-marks = rw eu (top-byte T holds n Q notes trail w g (h .going), top-out T holds n Q notes trail w g (h .going))
 
   popped : ((m : ℕ) → m < length (waysOf T q) → bitAt notes (wayAt T e m) ≡ true) → (x r b : ℕ)
-      → Backward T holds n Q notes trail w (marked notes (rowIn e * P T + q)) trail (walkAt (w .top - 1) (w .steps) x r b false false)
+      → Backward T holds n Q notes trail w (marked notes (rowIn e * P T + q)) trail (walkAt (w .top - 1) (w .steps) x r b 0 0)
   popped all x r b =
       let l = leave-less T holds n Q notes trail w g (h .going) (stuck .going) all x r b in
       record {
         reached = rw comes-is at (leave-reached T holds n Q notes trail w g (h .going) (stuck .going) all x r b);
-        found = refl;
+        found = never;
         less = omega arith;
         fewer = λ c. absurd (omega arith);
       }
@@ -124,11 +124,11 @@ module _ (T : Tables) (holds : ℕ → ℕ → Bool) (n : ℕ) (Q : Type 0) (not
   none-left z m l = stuck .tried m (rw (left-none T q j z) (let k : m < suc (leftFrom T q (second T q)) = rw (ways-length T q) at l in omega arith))
 
   module _ (u : ℕ) (eu : u ≡ e) (notes′ : List ℕ) (en : notes′ ≡ marked notes (u / 256 % 8192 * P T + u % 256)) where
-    as-read : Backward T holds n Q notes trail w (marked notes (rowIn e * P T + q)) trail (walkAt (w .top - 1) (w .steps) q (rowIn e) (rowIn e * P T) false false)
-        → Backward T holds n Q notes trail w notes′ trail (walkAt (w .top - 1) (w .steps) (u % 256) (u / 256 % 8192) (u / 256 % 8192 * P T) false false)
+    as-read : Backward T holds n Q notes trail w (marked notes (rowIn e * P T + q)) trail (walkAt (w .top - 1) (w .steps) q (rowIn e) (rowIn e * P T) 0 0)
+        → Backward T holds n Q notes trail w notes′ trail (walkAt (w .top - 1) (w .steps) (u % 256) (u / 256 % 8192) (u / 256 % 8192 * P T) 0 0)
     as-read b = rw en (rw eu b)
 
-    pub back-none : u / 2097152 ≤ 0 → Backward T holds n Q notes trail w notes′ trail (walkAt (w .top - 1) (w .steps) (u % 256) (u / 256 % 8192) (u / 256 % 8192 * P T) false false)
+    pub back-none : u / 2097152 ≤ 0 → Backward T holds n Q notes trail w notes′ trail (walkAt (w .top - 1) (w .steps) (u % 256) (u / 256 % 8192) (u / 256 % 8192 * P T) 0 0)
     back-none z = as-read (popped (none-left (let d : u / 2097152 ≡ 0 = omega arith in rw eu at d)) q (rowIn e) (rowIn e * P T))
 
   -- ---- it tries its next way
@@ -309,7 +309,7 @@ module _ (T : Tables) (holds : ℕ → ℕ → Bool) (n : ℕ) (Q : Type 0) (not
               notes-beyond = λ z l. refl;
               trail-beyond = λ i l. getD-set-other trail (w .top - 1) i v 0 (λ (z : i ≡ w .top - 1). omega arith);
             };
-            found = refl;
+            found = never;
             less = omega arith;
             fewer = λ _. fewer;
           }
@@ -365,15 +365,15 @@ module _ (T : Tables) (holds : ℕ → ℕ → Bool) (n : ℕ) (Q : Type 0) (not
         back-noted = rw eu (way-noted some-way k (rw eu at ek))
 
         module _ (a : ℕ) (ea : a ≡ after s (u / 2097152)) (f : Bool) (ef : f ≡ bitAt notes (u / 256 % 8192 * P T + k)) where
-          pub back-tried : (t : List ℕ) → t ≡ set trail (w .top - 1) (wentOn a u) → (d : Bool) → not f ≡ d
-              → Backward T holds n Q notes trail w notes t (walkAt (w .top) (w .steps) k (u / 256 % 8192) (u / 256 % 8192 * P T) d false)
+          pub back-tried : (t : List ℕ) → t ≡ set trail (w .top - 1) (wentOn a u) → (d : ℕ) → oneUnless f ≡ d
+              → Backward T holds n Q notes trail w notes t (walkAt (w .top) (w .steps) k (u / 256 % 8192) (u / 256 % 8192 * P T) d 0)
           back-tried t et d ed =
               let b : set trail (w .top - 1) (wentOn a u) ≡ trail₂ some-way = rw (ea, es, eu) in
               let x : Backward T holds n Q notes trail w notes (trail₂ some-way) (tryAt notes (w .top) (w .steps) k (rowIn e) (rowIn e * P T)) = way-tried some-way k (rw eu at ek) in
               rw (et, b, ← ed, ef, eu) x
 
           pub back-last : f ≡ true → a ≤ 0 → (notes′ : List ℕ) → notes′ ≡ marked notes (u / 256 % 8192 * P T + u % 256)
-              → Backward T holds n Q notes trail w notes′ trail (walkAt (w .top - 1) (w .steps) (u % 256) (u / 256 % 8192) (u / 256 % 8192 * P T) false false)
+              → Backward T holds n Q notes trail w notes′ trail (walkAt (w .top - 1) (w .steps) (u % 256) (u / 256 % 8192) (u / 256 % 8192 * P T) 0 0)
           back-last t z notes′ en =
               as-read u eu notes′ en
               (popped (all-left some-way k (rw eu at ek) (let y : a ≡ 0 = omega arith in let x : after (getD (T .stop) (u % 256) 0) (u / 2097152) ≡ 0 = rw (← es, ← ea) y in rw eu at x) (rw eu at (sym ef ∙ t))) q (rowIn e) (rowIn e * P T))

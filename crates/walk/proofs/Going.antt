@@ -1,7 +1,7 @@
 -- An attempt that goes on: opening a pair and leaving one keep what holds of it (`Good`, `Stands`), the state comes to what it came to before, and less is left.
 use mathlib.Core.Path.{_≡_, refl, sym, ap, _∙_}
 use mathlib.Core.List.{List, [], _∷_, reverseAux, map}
-use mathlib.Core.Bool.{Bool, true, false, false≢true, true≢false}
+use mathlib.Core.Bool.{Bool, true, false, false≢true}
 use mathlib.Core.Logic.{_≢_}
 use mathlib.Core.Option.{none, some}
 use Prim.Native.Nat.{ℕ, zero, suc, _+_, _-_, _*_, _/_, _%_, _≤_, _<_}
@@ -10,6 +10,7 @@ use native.Mathlib.Numerals.{add-one}
 use native.Mathlib.Decide.{ℕ-discrete}
 use native.Mathlib.Omega.{arith}
 use lib.Arith.{digits-div}
+use borrow.Author.Tests.{eq-eqb, ne-eqb}
 use lib.ListN.{length, getD, set, length-set}
 use lib.Seq.{getD-set-same, getD-set-other}
 use Rattle.rules.specs.Report.{bitAt}
@@ -36,7 +37,7 @@ good-room T holds n Q notes trail w g =
     rw (stack-length (P T) trail (w .top)) at (open-room (g .legal .ρ) (N T n) (bitsOf notes (N T n)) (stack (P T) trail (w .top)) (bitsFrom-length notes (N T n) 0) (g .opened))
 
 -- it is one of the open pairs and the steps alone
-unfoldable pub good-as : (T : Tables) (holds : ℕ → ℕ → Bool) (n : ℕ) (Q : Type 0) (notes trail : List ℕ) (t s q r b : ℕ) (d f : Bool) (q′ r′ b′ : ℕ) (d′ f′ : Bool)
+unfoldable pub good-as : (T : Tables) (holds : ℕ → ℕ → Bool) (n : ℕ) (Q : Type 0) (notes trail : List ℕ) (t s q r b : ℕ) (d f : ℕ) (q′ r′ b′ : ℕ) (d′ f′ : ℕ)
     → Good T holds n Q notes trail (walkAt t s q r b d f) → Good T holds n Q notes trail (walkAt t s q′ r′ b′ d′ f′)
 good-as T holds n Q notes trail t s q r b d f q′ r′ b′ d′ f′ g =
     record {
@@ -52,15 +53,19 @@ good-as T holds n Q notes trail t s q r b d f q′ r′ b′ d′ f′ g =
       steps = g .steps;
     }
 
--- what a state comes to, where no pair is to be entered, and where one is
-pub comes-idle : (T : Tables) (holds : ℕ → ℕ → Bool) (n : ℕ) (notes trail : List ℕ) (w : Walk) → w .down ≡ false → comes T holds n notes trail w ≡ resumed T holds n notes trail w
-unfolding comes
-comes-idle T holds n notes trail w d = rw d
+-- the walk's 0 is not 1
+pub never : _≡_ {A = ℕ} 0 1 → ⊥
+never e = omega arith
 
-pub comes-next : (T : Tables) (holds : ℕ → ℕ → Bool) (n : ℕ) (notes trail : List ℕ) (w : Walk) → w .down ≡ true
+-- what a state comes to, where no pair is to be entered, and where one is
+pub comes-idle : (T : Tables) (holds : ℕ → ℕ → Bool) (n : ℕ) (notes trail : List ℕ) (w : Walk) → (w .down ≡ 1 → ⊥) → comes T holds n notes trail w ≡ resumed T holds n notes trail w
+unfolding comes
+comes-idle T holds n notes trail w d = rw (ne-eqb (w .down) 1 d)
+
+pub comes-next : (T : Tables) (holds : ℕ → ℕ → Bool) (n : ℕ) (notes trail : List ℕ) (w : Walk) → w .down ≡ 1
     → comes T holds n notes trail w ≡ entering T holds n notes trail w (w .base + w .place)
 unfolding comes
-comes-next T holds n notes trail w d = rw d
+comes-next T holds n notes trail w d = rw (eq-eqb (w .down) 1 d)
 
 -- a state comes to itself
 pub reached-none : (T : Tables) (holds : ℕ → ℕ → Bool) (n : ℕ) (Q : Type 0) (notes trail : List ℕ) (w : Walk) → State T holds n Q notes trail w
@@ -229,7 +234,7 @@ module _ (T : Tables) (holds : ℕ → ℕ → Bool) (n : ℕ) (Q : Type 0) (not
             let i : w .top - 1 ≡ k = omega arith in
             rw (e, getD-set-same trail (w .top) v 0 next-room, pair-is) (rw i at (h .led (omega arith)))
 
-    pub open-good : (d f : Bool) → Good T holds n Q notes (set trail (w .top) v) (walkAt (w .top + 1) (w .steps + 1) q row base d f)
+    pub open-good : (d f : ℕ) → Good T holds n Q notes (set trail (w .top) v) (walkAt (w .top + 1) (w .steps + 1) q row base d f)
     open-good d f =
         let g = h .good in
         let r = room in
@@ -250,7 +255,7 @@ module _ (T : Tables) (holds : ℕ → ℕ → Bool) (n : ℕ) (Q : Type 0) (not
     pub open-top : getD (set trail (w .top) v) (w .top + 1 - 1) 0 ≡ v
     open-top = let o : w .top + 1 - 1 ≡ w .top = omega arith in rw (o, getD-set-same trail (w .top) v 0 next-room)
 
-    pub open-resumed : (d f : Bool) → resumed T holds n notes (set trail (w .top) v) (walkAt (w .top + 1) (w .steps + 1) q row base d f) ≡ then
+    pub open-resumed : (d f : ℕ) → resumed T holds n notes (set trail (w .top) v) (walkAt (w .top + 1) (w .steps + 1) q row base d f) ≡ then
     unfolding resumed entering
     open-resumed d f = rw (stack-is, add-one (w .steps))
 
@@ -270,18 +275,18 @@ module _ (T : Tables) (holds : ℕ → ℕ → Bool) (n : ℕ) (Q : Type 0) (not
         }
 
     -- END is open
-    pub open-end : 28 < getD (T .code) q 0 → Reached T holds n Q notes trail then notes (set trail (w .top) v) (walkAt (w .top + 1) (w .steps + 1) q row base false true)
-    open-end l = open-reached (walkAt (w .top + 1) (w .steps + 1) q row base false true) (open-good false true) stands (comes-idle T holds n notes _ _ refl ∙ open-resumed false true)
+    pub open-end : 28 < getD (T .code) q 0 → Reached T holds n Q notes trail then notes (set trail (w .top) v) (walkAt (w .top + 1) (w .steps + 1) q row base 0 1)
+    open-end l = open-reached (walkAt (w .top + 1) (w .steps + 1) q row base 0 1) (open-good 0 1) stands (comes-idle T holds n notes _ _ never ∙ open-resumed 0 1)
       where
-        stands : Stands T holds n Q notes (set trail (w .top) v) (walkAt (w .top + 1) (w .steps + 1) q row base false true)
+        stands : Stands T holds n Q notes (set trail (w .top) v) (walkAt (w .top + 1) (w .steps + 1) q row base 0 1)
         stands =
             record {
-              next = λ (d : false ≡ true). absurd (false≢true d);
-              stuck = λ _ (d : true ≡ false). absurd (true≢false d);
+              next = λ d. absurd (never d);
+              stuck = λ _ d. absurd (d refl);
               ends = λ _. record { spot = rw open-top (record { place = v-place; row = v-row; base = h .base-is }); end = l };
             }
 
-    pub open-less : (k r b : ℕ) (d f : Bool) → left (N T n) notes (walkAt (w .top + 1) (w .steps + 1) k r b d f) < left (N T n) notes w
+    pub open-less : (k r b : ℕ) (d f : ℕ) → left (N T n) notes (walkAt (w .top + 1) (w .steps + 1) k r b d f) < left (N T n) notes w
     unfolding left
     open-less k r b d f = let a = room in omega arith
 
@@ -301,7 +306,7 @@ module _ (T : Tables) (holds : ℕ → ℕ → Bool) (n : ℕ) (Q : Type 0) (not
         sym (bitsOf-at (marked notes y) (N T n) y below) ∙ ap (λ (l : List Bool). getD l y false) bits-is
         ∙ getD-set-same G y true false (rw (bitsFrom-length notes (N T n) 0) below)
 
-    shut-good : Good T holds n Q (marked notes y) trail (walkAt (w .top) (w .steps + 1) (w .place) (w .row) (w .base) false false)
+    shut-good : Good T holds n Q (marked notes y) trail (walkAt (w .top) (w .steps + 1) (w .place) (w .row) (w .base) 0 0)
     unfolding marked
     shut-good =
         let g = h .good in
@@ -321,33 +326,33 @@ module _ (T : Tables) (holds : ℕ → ℕ → Bool) (n : ℕ) (Q : Type 0) (not
           steps = omega arith;
         }
 
-    shut-stands : Stands T holds n Q (marked notes y) trail (walkAt (w .top) (w .steps + 1) (w .place) (w .row) (w .base) false false)
-    shut-stands = record { next = λ (d : false ≡ true). absurd (false≢true d); ends = λ (d : false ≡ true). absurd (false≢true d); stuck = λ _ _ l. led-stuck T notes (marked notes y) _ _ (h .led l) keeps shut-marked }
+    shut-stands : Stands T holds n Q (marked notes y) trail (walkAt (w .top) (w .steps + 1) (w .place) (w .row) (w .base) 0 0)
+    shut-stands = record { next = λ d. absurd (never d); ends = λ d. absurd (never d); stuck = λ _ _ l. led-stuck T notes (marked notes y) _ _ (h .led l) keeps shut-marked }
 
     nothing : graphOf T holds n y ≡ try []
     nothing = rw (h .base-is) (ways-shut T holds n q row (h .place) p)
 
-    shut-same : resumed T holds n (marked notes y) trail (walkAt (w .top) (w .steps + 1) (w .place) (w .row) (w .base) false false) ≡ then
+    shut-same : resumed T holds n (marked notes y) trail (walkAt (w .top) (w .steps + 1) (w .place) (w .row) (w .base) 0 0) ≡ then
     unfolding resumed entering firstOpen
     shut-same =
         rw (bits-is, add-one (w .steps))
         (sym (resume-pop (graphOf T holds n) (h .good .legal .ρ) (N T n) (h .good .legal .falls) (N T n) (h .good .legal .bound) (stack (P T) trail (w .top)) G (suc (w .steps)) y [] nothing refl))
 
-    pub shut-reached : Reached T holds n Q notes trail then (marked notes y) trail (walkAt (w .top) (w .steps + 1) (w .place) (w .row) (w .base) false false)
+    pub shut-reached : Reached T holds n Q notes trail then (marked notes y) trail (walkAt (w .top) (w .steps + 1) (w .place) (w .row) (w .base) 0 0)
     unfolding marked
     shut-reached =
         let b = below in
         record {
           good = shut-good;
           stands = shut-stands;
-          same = comes-idle T holds n _ _ _ refl ∙ shut-same;
+          same = comes-idle T holds n _ _ _ never ∙ shut-same;
           notes-long = length-set notes (y / 8) _;
           trail-long = refl;
           notes-beyond = λ z l. bit-keep notes y z (next-noted .1) next-out (λ (e : z ≡ y). omega arith);
           trail-beyond = λ k l. refl;
         }
 
-    pub shut-less : left (N T n) (marked notes y) (walkAt (w .top) (w .steps + 1) (w .place) (w .row) (w .base) false false) < left (N T n) notes w
+    pub shut-less : left (N T n) (marked notes y) (walkAt (w .top) (w .steps + 1) (w .place) (w .row) (w .base) 0 0) < left (N T n) notes w
     unfolding left
     shut-less = let r = room in let c = count-is in omega arith
 
@@ -517,7 +522,7 @@ module _ (T : Tables) (holds : ℕ → ℕ → Bool) (n : ℕ) (Q : Type 0) (not
 
       module _ (q row base : ℕ) where
         abbrev under : Walk
-        under = walkAt (w .top - 1) (w .steps) q row base false false
+        under = walkAt (w .top - 1) (w .steps) q row base 0 0
 
         leave-good : Good T holds n Q (marked notes x) trail under
         unfolding marked
@@ -541,7 +546,7 @@ module _ (T : Tables) (holds : ℕ → ℕ → Bool) (n : ℕ) (Q : Type 0) (not
         -- the pair below had tried it last
         leave-stands : Stands T holds n Q (marked notes x) trail under
         leave-stands =
-            record { next = λ (d : false ≡ true). absurd (false≢true d); ends = λ (d : false ≡ true). absurd (false≢true d); stuck = λ _ _ l. below (w .top - 1) refl l }
+            record { next = λ d. absurd (never d); ends = λ d. absurd (never d); stuck = λ _ _ l. below (w .top - 1) refl l }
           where
             below : (t : ℕ) → w .top - 1 ≡ t → 0 < t → Stuck T (marked notes x) (getD trail (t - 1) 0)
             below zero d l = absurd (not-suc-le-zero l)
@@ -563,7 +568,7 @@ module _ (T : Tables) (holds : ℕ → ℕ → Bool) (n : ℕ) (Q : Type 0) (not
             record {
               good = leave-good;
               stands = leave-stands;
-              same = comes-idle T holds n _ _ _ refl ∙ leave-same;
+              same = comes-idle T holds n _ _ _ never ∙ leave-same;
               notes-long = length-set notes (x / 8) _;
               trail-long = refl;
               notes-beyond = λ z l. bit-keep notes x z top-byte top-out (λ (e : z ≡ x). omega arith);

@@ -1,7 +1,7 @@
 -- What the small functions do, one law for each way through their code: a letter, a place that passes, a pair entered or tried, and the way behind a way.
 use mathlib.Core.Path.{_≡_, refl, sym, _∙_}
 use mathlib.Core.List.{List}
-use mathlib.Core.Bool.{Bool, true, false, not, _&&_}
+use mathlib.Core.Bool.{Bool, true, false, not, _&&_, false≢true, true≢false}
 use Prim.Native.Nat.{ℕ, _+_, _-_, _*_, _/_, _%_, _≤_, _<_}
 use native.Mathlib.Nat.{mul-le-mul}
 use native.Mathlib.Omega.{arith}
@@ -17,7 +17,7 @@ use Rattle.letters.specs.Tests.{Letters, TestRoom}
 use Rattle.walk.specs.declared.Walk.{Walk}
 use Rattle.walk.specs.Letters.{holdsIn}
 use Rattle.walk.specs.Tables.{passesBy}
-use Rattle.walk.specs.Step.{mem, walkAt, tryAt, after, openedBy, enteredBy, Noted, Enters}
+use Rattle.walk.specs.Step.{oneUnless, mem, walkAt, tryAt, after, openedBy, enteredBy, Noted, Enters}
 use Rattle.walk.proofs.Trying.{letter-in}
 
 -- ---- a letter
@@ -64,8 +64,18 @@ open-of false e = sym e
 
 -- ---- a pair is tried, and entered
 
-pub tried-is : (notes : List ℕ) (top steps q row base : ℕ) (f : Bool) → f ≡ bitAt notes (base + q) → walkAt top steps q row base (not f) false ≡ tryAt notes top steps q row base
-tried-is notes top steps q row base f e = rw e
+pub is-one : (f : Bool) → not f ≡ true → oneUnless f ≡ 1
+unfolding oneUnless
+is-one true e = absurd (false≢true e)
+is-one false e = refl
+
+pub is-zero : (f : Bool) → not f ≡ false → oneUnless f ≡ 0
+unfolding oneUnless
+is-zero true e = refl
+is-zero false e = absurd (true≢false e)
+
+pub tried-is : (notes : List ℕ) (top steps q row base : ℕ) (f : Bool) (d : ℕ) → f ≡ bitAt notes (base + q) → d ≡ oneUnless f → walkAt top steps q row base d 0 ≡ tryAt notes top steps q row base
+tried-is notes top steps q row base f d e g = rw (g, e)
 
 module _ (notes trail : List ℕ) (w : Walk) (c v k P : ℕ) (p : Bool) (trail′ : List ℕ) (et : trail′ ≡ set trail (w .top) (w .row * 256 + v)) (r : Walk) where
   pub entered-letter : true ≡ p → c < 26 → (x : ℕ) → x ≡ k → r ≡ tryAt notes (w .top + 1) (w .steps + 1) x (w .row + 1) (w .base + P) → mem notes trail′ r ≡ enteredBy p (mem notes trail w) c v k P
@@ -76,12 +86,12 @@ module _ (notes trail : List ℕ) (w : Walk) (c v k P : ℕ) (p : Bool) (trail�
   unfolding enteredBy openedBy
   entered-other e l m x ex er = rw (← e, et, er, ex, le-ltb c 26 l, le-ltb 28 c m)
 
-  pub entered-end : true ≡ p → 28 < c → r ≡ walkAt (w .top + 1) (w .steps + 1) (w .place) (w .row) (w .base) false true → mem notes trail′ r ≡ enteredBy p (mem notes trail w) c v k P
+  pub entered-end : true ≡ p → 28 < c → r ≡ walkAt (w .top + 1) (w .steps + 1) (w .place) (w .row) (w .base) 0 1 → mem notes trail′ r ≡ enteredBy p (mem notes trail w) c v k P
   unfolding enteredBy openedBy
   entered-end e l er = rw (← e, et, er, le-ltb c 26 (let z : 26 ≤ c = omega arith in z), lt-ltb 28 c l)
 
 pub entered-shut : (notes trail : List ℕ) (w : Walk) (c v k P : ℕ) (p : Bool) (notes′ : List ℕ) (r : Walk) → false ≡ p → notes′ ≡ marked notes (w .base + w .place)
-    → r ≡ walkAt (w .top) (w .steps + 1) (w .place) (w .row) (w .base) false false → mem notes′ trail r ≡ enteredBy p (mem notes trail w) c v k P
+    → r ≡ walkAt (w .top) (w .steps + 1) (w .place) (w .row) (w .base) 0 0 → mem notes′ trail r ≡ enteredBy p (mem notes trail w) c v k P
 unfolding enteredBy
 entered-shut notes trail w c v k P p notes′ r e m er = rw (← e, m, er)
 
@@ -123,11 +133,11 @@ module _ (holds : ℕ → ℕ → Bool) (n : ℕ) (notes trail : List ℕ) (w : 
   enter-letter p trail′ r x ep t et l ex er = entered-letter notes trail w c v k P passing trail′ et r (sym t ∙ ep) l x ex er
 
   pub enter-shut : (p : Bool) (notes′ : List ℕ) (r : Walk) → p ≡ passing → p ≡ false → notes′ ≡ marked notes (w .base + w .place)
-      → r ≡ walkAt (w .top) (w .steps + 1) (w .place) (w .row) (w .base) false false → mem notes′ trail r ≡ enteredBy passing (mem notes trail w) c v k P
+      → r ≡ walkAt (w .top) (w .steps + 1) (w .place) (w .row) (w .base) 0 0 → mem notes′ trail r ≡ enteredBy passing (mem notes trail w) c v k P
   enter-shut p notes′ r ep t en er = entered-shut notes trail w c v k P passing notes′ r (sym t ∙ ep) en er
 
   pub enter-end : (p : Bool) (trail′ : List ℕ) → p ≡ passing → p ≡ true → trail′ ≡ set trail (w .top) (w .row * 256 + v) → 28 < c
-      → mem notes trail′ (walkAt (w .top + 1) (w .steps + 1) (w .place) (w .row) (w .base) false true) ≡ enteredBy passing (mem notes trail w) c v k P
+      → mem notes trail′ (walkAt (w .top + 1) (w .steps + 1) (w .place) (w .row) (w .base) 0 1) ≡ enteredBy passing (mem notes trail w) c v k P
   enter-end p trail′ ep t et l = entered-end notes trail w c v k P passing trail′ et _ (sym t ∙ ep) l refl
 
   pub enter-anchor : (p : Bool) (trail′ : List ℕ) (r : Walk) (x : ℕ) → p ≡ passing → p ≡ true → trail′ ≡ set trail (w .top) (w .row * 256 + v) → 26 ≤ c → c ≤ 28 → x ≡ k

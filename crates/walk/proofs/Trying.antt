@@ -1,7 +1,7 @@
 -- The last open pair tries a way, and the walk's pair is entered: it is open then, and tries its first way, or it is END, or it has failed.
 use mathlib.Core.Path.{_≡_, refl, sym, ap, _∙_, subst}
 use mathlib.Core.List.{List, _∷_}
-use mathlib.Core.Bool.{Bool, true, false, not, _&&_, false≢true}
+use mathlib.Core.Bool.{Bool, true, false, _&&_}
 use mathlib.Core.Logic.{_≢_}
 use Prim.Native.Nat.{ℕ, suc, _+_, _-_, _*_, _/_, _≤_, _<_, suc-le-suc}
 use native.Mathlib.Nat.{mul-comm, not-suc-le-zero, suc-mul}
@@ -17,10 +17,10 @@ use Rattle.rules.specs.Walk.{Outcome}
 use Rattle.rules.proofs.Level.{and-true}
 use Rattle.walk.specs.declared.Walk.{Walk}
 use Rattle.walk.specs.Tables.{Tables, P, N, second, waysOf, passesBy}
-use Rattle.walk.specs.Step.{Mem, mem, placeIn, walkAt, tryAt, openedBy, enteredBy, Noted, Enters}
+use Rattle.walk.specs.Step.{Mem, mem, placeIn, walkAt, oneUnless, tryAt, openedBy, enteredBy, Noted, Enters}
 use Rattle.walk.specs.State.{rowFrom, wayAt, reach, Led, Good, Next, Stands, left, resumed, entering, comes, Reached, Goes, Onward}
 use Rattle.walk.proofs.Ways.{ways-length, ways-first, takes-row, takes-no-row, leads-each}
-use Rattle.walk.proofs.Going.{good-as, comes-idle, comes-next, led-stuck, next-few, next-noted, next-out, next-room, next-small, next-steps, next-word, next-row, v-place, v-row, v-way, open-good, open-top, open-resumed, open-reached, open-end, open-less, shut-reached, shut-less, way-below, top-next, next-same}
+use Rattle.walk.proofs.Going.{good-as, never, comes-idle, comes-next, led-stuck, next-few, next-noted, next-out, next-room, next-small, next-steps, next-word, next-row, v-place, v-row, v-way, open-good, open-top, open-resumed, open-reached, open-end, open-less, shut-reached, shut-less, way-below, top-next, next-same}
 
 pub pair-in : (P n q row base : ℕ) → base ≡ row * P → q < P → row ≤ n → base + q < P * suc n
 pair-in P n q row base eb h l = rw (eb, mul-comm P (suc n)) (digits-lt (suc-le-suc l) h)
@@ -30,7 +30,7 @@ unfolding passesBy
 letter-in holds n c i e p = let d : (ltb i n && holds (c + 65) i) ≡ true = rw (lt-ltb c 26 e) at p in ltb-true i n (and-true _ _ d .0)
 
 -- the next pair is one of the open pairs and the steps alone
-next-as : (T : Tables) (holds : ℕ → ℕ → Bool) (n : ℕ) (Q : Type 0) (notes trail : List ℕ) (w : Walk) (q row base x r b : ℕ) (d f : Bool) → Next T holds n Q notes trail w q row base
+next-as : (T : Tables) (holds : ℕ → ℕ → Bool) (n : ℕ) (Q : Type 0) (notes trail : List ℕ) (w : Walk) (q row base x r b d f : ℕ) → Next T holds n Q notes trail w q row base
     → Next T holds n Q notes trail (walkAt (w .top) (w .steps) x r b d f) q row base
 unfolding good-as
 next-as T holds n Q notes trail w q row base x r b d f h =
@@ -73,29 +73,30 @@ module _ (T : Tables) (holds : ℕ → ℕ → Bool) (n : ℕ) (Q : Type 0) (not
       (omega arith, omega arith)
 
   abbrev State-of : Bool → Walk
-  State-of b = walkAt (w .top) (w .steps) q row base (not b) false
+  State-of b = walkAt (w .top) (w .steps) q row base (oneUnless b) 0
 
   good : (b : Bool) → Good T holds n Q notes trail (State-of b)
-  good b = good-as T holds n Q notes trail (w .top) (w .steps) (w .place) (w .row) (w .base) (w .down) (w .found) q row base (not b) false g
+  good b = good-as T holds n Q notes trail (w .top) (w .steps) (w .place) (w .row) (w .base) (w .down) (w .found) q row base (oneUnless b) 0 g
 
   -- the pair has failed, or it is the next to be entered
   stands : (b : Bool) → bitAt notes (base + q) ≡ b → Stands T holds n Q notes trail (State-of b)
+  unfolding oneUnless
   stands true eb =
       record {
-        next = λ (d : false ≡ true). absurd (false≢true d);
+        next = λ d. absurd (never d);
         stuck = λ _ _ _. led-stuck T notes notes e (base + q) led (λ z h. h) eb;
-        ends = λ (d : false ≡ true). absurd (false≢true d);
+        ends = λ d. absurd (never d);
       }
   stands false o =
       record {
-        next = λ _. next-as T holds n Q notes trail w q row base q row base true false (top-next T holds n Q notes trail w g going more m inside before q row base eq er eb led o);
-        stuck = λ (d : true ≡ false). absurd (false≢true (sym d));
-        ends = λ (d : false ≡ true). absurd (false≢true d);
+        next = λ _. next-as T holds n Q notes trail w q row base q row base 1 0 (top-next T holds n Q notes trail w g going more m inside before q row base eq er eb led o);
+        stuck = λ d. absurd (d refl);
+        ends = λ d. absurd (never d);
       }
 
   same : (b : Bool) → bitAt notes (base + q) ≡ b → comes T holds n notes trail (State-of b) ≡ resumed T holds n notes trail w
-  unfolding resumed entering
-  same true o = comes-idle T holds n notes trail (State-of true) refl
+  unfolding resumed entering oneUnless
+  same true o = comes-idle T holds n notes trail (State-of true) never
   same false o = comes-next T holds n notes trail (State-of false) refl ∙ next-same T holds n Q notes trail w g going more m inside before q row base eq er eb led o
 
   pub turn-tried : Reached T holds n Q notes trail (resumed T holds n notes trail w) notes trail (tryAt notes (w .top) (w .steps) q row base)
@@ -179,7 +180,7 @@ module _ (T : Tables) (holds : ℕ → ℕ → Bool) (n : ℕ) (Q : Type 0) (not
     trail₁ = set trail (w .top) v
 
     abbrev w₁ : Walk
-    w₁ = walkAt (w .top + 1) (w .steps + 1) q (w .row) (w .base) false false
+    w₁ = walkAt (w .top + 1) (w .steps + 1) q (w .row) (w .base) 0 0
 
     top-is : getD trail₁ (w .top + 1 - 1) 0 ≡ v
     top-is = open-top T holds n Q notes trail w q (w .row) (w .base) nx p
@@ -193,7 +194,7 @@ module _ (T : Tables) (holds : ℕ → ℕ → Bool) (n : ℕ) (Q : Type 0) (not
 
     first-tried : Reached T holds n Q notes trail₁ (resumed T holds n notes trail₁ w₁) notes trail₁ (tryAt notes (w .top + 1) (w .steps + 1) k row base)
     first-tried =
-        turn-tried T holds n Q notes trail₁ w₁ (open-good T holds n Q notes trail w q (w .row) (w .base) nx p false false) (omega arith) (rw place-is l) 0 (rw place-is some-way) reach-one
+        turn-tried T holds n Q notes trail₁ w₁ (open-good T holds n Q notes trail w q (w .row) (w .base) nx p 0 0) (omega arith) (rw place-is l) 0 (rw place-is some-way) reach-one
         (λ i b. absurd (not-suc-le-zero b)) k row base (rw place-is (sym (ways-first T q))) (rw top-is er) eb
 
     onward : OnTo (mem notes trail₁ (tryAt notes (w .top + 1) (w .steps + 1) k row base))
@@ -201,8 +202,8 @@ module _ (T : Tables) (holds : ℕ → ℕ → Bool) (n : ℕ) (Q : Type 0) (not
         record {
           reached = to _ _ _
               (open-reached T holds n Q notes trail w q (w .row) (w .base) nx p _ (first-tried .good) (first-tried .stands)
-              (first-tried .same ∙ open-resumed T holds n Q notes trail w q (w .row) (w .base) nx p false false));
-          less = open-less T holds n Q notes trail w q (w .row) (w .base) nx p k row base _ false;
+              (first-tried .same ∙ open-resumed T holds n Q notes trail w q (w .row) (w .base) nx p 0 0));
+          less = open-less T holds n Q notes trail w q (w .row) (w .base) nx p k row base _ 0;
         }
 
   -- a letter
@@ -223,12 +224,12 @@ module _ (T : Tables) (holds : ℕ → ℕ → Bool) (n : ℕ) (Q : Type 0) (not
     where
       go : (a : Bool) → ltb c 26 ≡ a → (b : Bool) → ltb 28 c ≡ b
           → OnTo (mem notes (set trail (w .top) v) (pick a (tryAt notes (w .top + 1) (w .steps + 1) k (w .row + 1) (w .base + P T))
-          (pick b (walkAt (w .top + 1) (w .steps + 1) q (w .row) (w .base) false true) (tryAt notes (w .top + 1) (w .steps + 1) k (w .row) (w .base)))))
+          (pick b (walkAt (w .top + 1) (w .steps + 1) q (w .row) (w .base) 0 1) (tryAt notes (w .top + 1) (w .steps + 1) k (w .row) (w .base)))))
       go true ea b eb = let l = ltb-true c 26 ea in onward p (omega arith) (w .row + 1) (w .base + P T) (row-ahead p l) ahead-is
       go false ea true eb =
           record {
             reached = to _ _ _ (open-end T holds n Q notes trail w q (w .row) (w .base) nx p (ltb-true 28 c eb));
-            less = open-less T holds n Q notes trail w q (w .row) (w .base) nx p q (w .row) (w .base) false true;
+            less = open-less T holds n Q notes trail w q (w .row) (w .base) nx p q (w .row) (w .base) 0 1;
           }
       go false ea false eb =
           let l = ltb-false c 26 ea in

@@ -1,7 +1,7 @@
 -- The loops: on while a pair is to be entered, back until one is, and both in turn; and the attempt, from the pair that it tries to its result.
 use mathlib.Core.Path.{_≡_, refl, sym, ap, _∙_}
 use mathlib.Core.List.{List, _∷_}
-use mathlib.Core.Bool.{Bool, true, false, not, true≢false}
+use mathlib.Core.Bool.{Bool, true, false}
 use mathlib.Core.Logic.{_≢_}
 use Prim.Native.Nat.{ℕ, zero, suc, _+_, _-_, _*_, _≤_, _<_}
 use native.Mathlib.Nat.{not-suc-le-zero}
@@ -13,10 +13,10 @@ use Rattle.rules.proofs.Machine.{resume, resume-one}
 use Rattle.rules.proofs.Notes.{bitsOf, bitsOf-at}
 use Rattle.walk.specs.declared.Walk.{Walk}
 use Rattle.walk.specs.Tables.{Tables, P, N, graphOf, passesBy}
-use Rattle.walk.specs.Step.{mem, placeIn, wayIn, stack, walkAt, tryAt, enteredBy, outcomeBy, Noted, Enters}
+use Rattle.walk.specs.Step.{oneUnless, mem, placeIn, wayIn, stack, walkAt, tryAt, enteredBy, outcomeBy, Noted, Enters}
 use Rattle.walk.specs.State.{Word, Good, Next, Ends, Stands, State, Goes, Idle, Halts, Moves, left, restAt, rest, resumed, entering, comes, Reached, Onward, Backward, Descended, Retreated, Ran, Ready, attemptBy, Done}
 use Rattle.walk.proofs.Ways.{left-none, left-some}
-use Rattle.walk.proofs.Going.{comes-idle, reached-none, reached-on, top-end}
+use Rattle.walk.proofs.Going.{never, comes-idle, reached-none, reached-on, top-end}
 use Rattle.walk.proofs.Trying.{pair-in, goes-enters, goes-on}
 
 pub state-of : (T : Tables) (holds : ℕ → ℕ → Bool) (n : ℕ) (Q : Type 0) (n₁ t₁ notes trail : List ℕ) (w₁ w : Walk)
@@ -28,19 +28,19 @@ state-of T holds n Q n₁ t₁ notes trail w₁ w r = record { good = r .good; s
 pub record Descending (T : Tables) (holds : ℕ → ℕ → Bool) (n : ℕ) (Q : Type 0) (n₁ t₁ : List ℕ) (w₁ : Walk) (notes trail : List ℕ) (w : Walk) : Type 0 where
   pub reached : Reached T holds n Q n₁ t₁ (comes T holds n n₁ t₁ w₁) notes trail w
   pub less : left (N T n) notes w ≤ left (N T n) n₁ w₁
-  pub start : left (N T n) notes w ≡ left (N T n) n₁ w₁ → w .down ≡ true
+  pub start : left (N T n) notes w ≡ left (N T n) n₁ w₁ → w .down ≡ 1
 
 pub on-none : (T : Tables) (holds : ℕ → ℕ → Bool) (n : ℕ) (Q : Type 0) (n₁ t₁ : List ℕ) (w₁ : Walk) → Goes T holds n Q n₁ t₁ w₁ → Descending T holds n Q n₁ t₁ w₁ n₁ t₁ w₁
 on-none T holds n Q n₁ t₁ w₁ s = record { reached = reached-none T holds n Q n₁ t₁ w₁ (s .state); less = omega arith; start = λ _. s .down }
 
 module _ (T : Tables) (holds : ℕ → ℕ → Bool) (n : ℕ) (Q : Type 0) (n₁ t₁ : List ℕ) (w₁ : Walk) (notes trail : List ℕ) (w : Walk) (h : Descending T holds n Q n₁ t₁ w₁ notes trail w) where
-  pub on-end : w .down ≡ false → Descended T holds n Q n₁ t₁ w₁ notes trail w
+  pub on-end : (w .down ≡ 1 → ⊥) → Descended T holds n Q n₁ t₁ w₁ notes trail w
   on-end d =
-      let c : left (N T n) notes w ≢ left (N T n) n₁ w₁ = λ z. true≢false (sym (h .start z) ∙ d) in
+      let c : left (N T n) notes w ≢ left (N T n) n₁ w₁ = λ z. d (h .start z) in
       let l = h .less in
       record { reached = h .reached; less = omega arith; down = d }
 
-  module _ (d : w .down ≡ true) where
+  module _ (d : w .down ≡ 1) where
     goes : Goes T holds n Q notes trail w
     goes = record { state = state-of T holds n Q n₁ t₁ notes trail w₁ w (h .reached); down = d }
 
@@ -70,7 +70,7 @@ module _ (T : Tables) (holds : ℕ → ℕ → Bool) (n : ℕ) (Q : Type 0) (n�
 
 pub record Retreating (T : Tables) (holds : ℕ → ℕ → Bool) (n : ℕ) (Q : Type 0) (n₁ t₁ : List ℕ) (w₁ : Walk) (notes trail : List ℕ) (w : Walk) : Type 0 where
   pub reached : Reached T holds n Q n₁ t₁ (comes T holds n n₁ t₁ w₁) notes trail w
-  pub found : w .found ≡ false
+  pub found : w .found ≡ 1 → ⊥
   pub less : left (N T n) notes w ≤ left (N T n) n₁ w₁
 
 -- what is left, and below it the ways that the last open pair has left
@@ -81,13 +81,13 @@ pub off-none : (T : Tables) (holds : ℕ → ℕ → Bool) (n : ℕ) (Q : Type 0
 off-none T holds n Q n₁ t₁ w₁ s = record { reached = reached-none T holds n Q n₁ t₁ w₁ (s .state); found = s .found; less = omega arith }
 
 module _ (T : Tables) (holds : ℕ → ℕ → Bool) (n : ℕ) (Q : Type 0) (n₁ t₁ : List ℕ) (w₁ : Walk) (notes trail : List ℕ) (w : Walk) (h : Retreating T holds n Q n₁ t₁ w₁ notes trail w) where
-  pub off-down : w .down ≡ true → Retreated T holds n Q n₁ t₁ w₁ notes trail w
-  off-down d = record { reached = h .reached; less = h .less; still = λ e. absurd (true≢false (sym d ∙ e)) }
+  pub off-down : w .down ≡ 1 → Retreated T holds n Q n₁ t₁ w₁ notes trail w
+  off-down d = record { reached = h .reached; less = h .less; still = λ e. absurd (e d) }
 
   pub off-end : w .top ≤ 0 → Retreated T holds n Q n₁ t₁ w₁ notes trail w
   off-end l = record { reached = h .reached; less = h .less; still = λ _. omega arith }
 
-  pub off-halts : 0 < w .top → w .down ≡ false → Halts T holds n Q notes trail w
+  pub off-halts : 0 < w .top → (w .down ≡ 1 → ⊥) → Halts T holds n Q notes trail w
   off-halts l d = record { idle = record { state = state-of T holds n Q n₁ t₁ notes trail w₁ w (h .reached); down = d; found = h .found }; going = l }
 
   module _ (notes′ trail′ : List ℕ) (r : Walk) (o : Backward T holds n Q notes trail w notes′ trail′ r) where
@@ -123,26 +123,26 @@ module _ (T : Tables) (holds : ℕ → ℕ → Bool) (n : ℕ) (Q : Type 0) (n�
 
 pub record Running (T : Tables) (holds : ℕ → ℕ → Bool) (n : ℕ) (Q : Type 0) (n₁ t₁ : List ℕ) (w₁ : Walk) (notes trail : List ℕ) (w : Walk) : Type 0 where
   pub reached : Reached T holds n Q n₁ t₁ (comes T holds n n₁ t₁ w₁) notes trail w
-  pub still : w .down ≡ false → w .top ≡ 0
+  pub still : (w .down ≡ 1 → ⊥) → w .top ≡ 0
 
 pub run-none : (T : Tables) (holds : ℕ → ℕ → Bool) (n : ℕ) (Q : Type 0) (n₁ t₁ : List ℕ) (w₁ : Walk) → Moves T holds n Q n₁ t₁ w₁ → Running T holds n Q n₁ t₁ w₁ n₁ t₁ w₁
 run-none T holds n Q n₁ t₁ w₁ s = record { reached = reached-none T holds n Q n₁ t₁ w₁ (s .state); still = s .still }
 
 module _ (T : Tables) (holds : ℕ → ℕ → Bool) (n : ℕ) (Q : Type 0) (n₁ t₁ : List ℕ) (w₁ : Walk) (notes trail : List ℕ) (w : Walk) (h : Running T holds n Q n₁ t₁ w₁ notes trail w) where
-  pub run-goes : w .down ≡ true → Goes T holds n Q notes trail w
+  pub run-goes : w .down ≡ 1 → Goes T holds n Q notes trail w
   run-goes d = record { state = state-of T holds n Q n₁ t₁ notes trail w₁ w (h .reached); down = d }
 
-  pub run-end : w .down ≡ false → Ran T holds n Q n₁ t₁ w₁ notes trail w
+  pub run-end : (w .down ≡ 1 → ⊥) → Ran T holds n Q n₁ t₁ w₁ notes trail w
   run-end d = record { reached = h .reached; down = d; last = λ l. let z = h .still d in absurd (omega arith) }
 
   module _ (n₂ t₂ : List ℕ) (w₂ : Walk) (d : Descended T holds n Q notes trail w n₂ t₂ w₂) where
     on : Reached T holds n Q n₁ t₁ (comes T holds n n₁ t₁ w₁) n₂ t₂ w₂
     on = reached-on T holds n Q n₁ t₁ _ notes trail w n₂ t₂ w₂ (h .reached) (d .reached)
 
-    pub run-found : w₂ .found ≡ true → Ran T holds n Q n₁ t₁ w₁ n₂ t₂ w₂
+    pub run-found : w₂ .found ≡ 1 → Ran T holds n Q n₁ t₁ w₁ n₂ t₂ w₂
     run-found e = record { reached = on; down = d .down; last = λ _. d .reached .stands .ends e }
 
-    pub run-idle : w₂ .found ≡ false → Idle T holds n Q n₂ t₂ w₂
+    pub run-idle : (w₂ .found ≡ 1 → ⊥) → Idle T holds n Q n₂ t₂ w₂
     run-idle e = record { state = state-of T holds n Q notes trail n₂ t₂ w w₂ (d .reached); down = d .down; found = e }
 
     module _ (notes′ trail′ : List ℕ) (r : Walk) (b : Retreated T holds n Q n₂ t₂ w₂ notes′ trail′ r) where
@@ -180,7 +180,7 @@ module _ (T : Tables) (holds : ℕ → ℕ → Bool) (n : ℕ) (Q : Type 0) (not
   pub first-noted : Noted notes (i * P T + 0)
   first-noted = let b = first-below in let no = h .noted in let sm = h .legal .small in (omega arith, omega arith)
 
-  first-good : (d : Bool) → Good T holds n Q notes trail (walkAt 0 s 0 i (i * P T) d false)
+  first-good : (d : ℕ) → Good T holds n Q notes trail (walkAt 0 s 0 i (i * P T) d 0)
   unfolding stack
   first-good d =
       let a = h .steps in
@@ -197,11 +197,11 @@ module _ (T : Tables) (holds : ℕ → ℕ → Bool) (n : ℕ) (Q : Type 0) (not
         steps = omega arith;
       }
 
-  first-next : bitAt notes (i * P T + 0) ≡ false → Next T holds n Q notes trail (walkAt 0 s 0 i (i * P T) true false) 0 i (i * P T)
+  first-next : bitAt notes (i * P T + 0) ≡ false → Next T holds n Q notes trail (walkAt 0 s 0 i (i * P T) 1 0) 0 i (i * P T)
   unfolding stack
   first-next o =
       record {
-        good = first-good true;
+        good = first-good 1;
         place = h .legal .sized .some;
         base-is = refl;
         opened = record { rising = (tt, tt); out = (bitsOf-at notes (N T n) (i * P T + 0) first-below ∙ o, tt); pairs = (first-below, tt) };
@@ -212,14 +212,13 @@ module _ (T : Tables) (holds : ℕ → ℕ → Bool) (n : ℕ) (Q : Type 0) (not
   bit-is : (b : Bool) → bitAt notes (i * P T + 0) ≡ b → getD F (i * P T) false ≡ b
   bit-is b o = let z : i * P T + 0 ≡ i * P T = omega arith in rw z at (bitsOf-at notes (N T n) (i * P T + 0) first-below ∙ o)
 
-  first-stands : (b : Bool) → bitAt notes (i * P T + 0) ≡ b → Stands T holds n Q notes trail (walkAt 0 s 0 i (i * P T) (not b) false)
-  first-stands true o =
-      record { next = λ (d : false ≡ true). absurd (true≢false (sym d)); stuck = λ _ _ l. absurd (not-suc-le-zero l); ends = λ (d : false ≡ true). absurd (true≢false (sym d)) }
-  first-stands false o =
-      record { next = λ _. first-next o; stuck = λ (d : true ≡ false). absurd (true≢false d); ends = λ (d : false ≡ true). absurd (true≢false (sym d)) }
+  first-stands : (b : Bool) → bitAt notes (i * P T + 0) ≡ b → Stands T holds n Q notes trail (walkAt 0 s 0 i (i * P T) (oneUnless b) 0)
+  unfolding oneUnless
+  first-stands true o = record { next = λ d. absurd (never d); stuck = λ _ _ l. absurd (not-suc-le-zero l); ends = λ d. absurd (never d) }
+  first-stands false o = record { next = λ _. first-next o; stuck = λ d. absurd (d refl); ends = λ d. absurd (never d) }
 
-  first-same : (b : Bool) → bitAt notes (i * P T + 0) ≡ b → comes T holds n notes trail (walkAt 0 s 0 i (i * P T) (not b) false) ≡ attemptBy T holds n F s i
-  unfolding comes resumed entering stack resume
+  first-same : (b : Bool) → bitAt notes (i * P T + 0) ≡ b → comes T holds n notes trail (walkAt 0 s 0 i (i * P T) (oneUnless b) 0) ≡ attemptBy T holds n F s i
+  unfolding comes resumed entering stack resume oneUnless
   first-same true o = rw (bit-is true o)
   first-same false o =
       let z : i * P T + 0 ≡ i * P T = omega arith in
@@ -229,7 +228,7 @@ module _ (T : Tables) (holds : ℕ → ℕ → Bool) (n : ℕ) (Q : Type 0) (not
     first-reached : Reached T holds n Q notes trail (attemptBy T holds n F s i) notes trail v
     first-reached =
         rw e (record {
-          good = first-good (not (bitAt notes (i * P T + 0)));
+          good = first-good (oneUnless (bitAt notes (i * P T + 0)));
           stands = first-stands (bitAt notes (i * P T + 0)) refl;
           same = first-same (bitAt notes (i * P T + 0)) refl;
           notes-long = refl;

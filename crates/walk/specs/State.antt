@@ -4,6 +4,7 @@ use mathlib.Core.List.{List, [], _∷_}
 use Rattle.rules.specs.Basics.{pick}
 use mathlib.Core.Bool.{Bool, true, false}
 use Prim.Native.Nat.{ℕ, zero, suc, _+_, _-_, _*_, _/_, _%_, _≤_, _<_}
+use lib.Dec.{eqb}
 use lib.ListN.{length, getD}
 use Rattle.rules.specs.Places.{Place, pLetter, pCaret, pDollar, pFork, pEnd}
 use Rattle.rules.specs.Report.{bitAt}
@@ -110,9 +111,9 @@ pub record Ends (T : Tables) (trail : List ℕ) (w : Walk) : Type 0 where
 
 -- the walk's pair is the next to be entered, or it is END, or the ways that the last open pair has tried have failed
 pub record Stands (T : Tables) (holds : ℕ → ℕ → Bool) (n : ℕ) (Q : Type 0) (notes trail : List ℕ) (w : Walk) : Type 0 where
-  pub next : w .down ≡ true → Next T holds n Q notes trail w (w .place) (w .row) (w .base)
-  pub stuck : w .down ≡ false → w .found ≡ false → 0 < w .top → Stuck T notes (getD trail (w .top - 1) 0)
-  pub ends : w .found ≡ true → Ends T trail w
+  pub next : w .down ≡ 1 → Next T holds n Q notes trail w (w .place) (w .row) (w .base)
+  pub stuck : (w .down ≡ 1 → ⊥) → (w .found ≡ 1 → ⊥) → 0 < w .top → Stuck T notes (getD trail (w .top - 1) 0)
+  pub ends : w .found ≡ 1 → Ends T trail w
 
 -- how much is left to do: pairs to enter and leave; and the ways that the last open pair has left
 unfoldable pub left : ℕ → List ℕ → Walk → ℕ
@@ -136,7 +137,7 @@ entering T holds n notes trail w x = resume (graphOf T holds n) (N T n) (x ∷ s
 -- what the state comes to
 unfoldable pub comes : Tables → (ℕ → ℕ → Bool) → ℕ → List ℕ → List ℕ → Walk → Outcome
 unfolding resumed entering
-comes T holds n notes trail w = pick (w .down) (entering T holds n notes trail w (pairOf w)) (resumed T holds n notes trail w)
+comes T holds n notes trail w = pick (eqb (w .down) 1) (entering T holds n notes trail w (pairOf w)) (resumed T holds n notes trail w)
 
 -- the walk has come from the buffers n₁ and t₁ to this state, which comes to the outcome R; nothing beyond the pairs is changed
 pub record Reached (T : Tables) (holds : ℕ → ℕ → Bool) (n : ℕ) (Q : Type 0) (n₁ t₁ : List ℕ) (R : Outcome) (notes trail : List ℕ) (w : Walk) : Type 0 where
@@ -156,13 +157,13 @@ pub record State (T : Tables) (holds : ℕ → ℕ → Bool) (n : ℕ) (Q : Type
 -- a pair is to be entered
 pub record Goes (T : Tables) (holds : ℕ → ℕ → Bool) (n : ℕ) (Q : Type 0) (notes trail : List ℕ) (w : Walk) : Type 0 where
   pub state : State T holds n Q notes trail w
-  pub down : w .down ≡ true
+  pub down : w .down ≡ 1
 
 -- no pair is to be entered, and END is not open
 pub record Idle (T : Tables) (holds : ℕ → ℕ → Bool) (n : ℕ) (Q : Type 0) (notes trail : List ℕ) (w : Walk) : Type 0 where
   pub state : State T holds n Q notes trail w
-  pub down : w .down ≡ false
-  pub found : w .found ≡ false
+  pub down : w .down ≡ 1 → ⊥
+  pub found : w .found ≡ 1 → ⊥
 
 -- and a pair is open
 pub record Halts (T : Tables) (holds : ℕ → ℕ → Bool) (n : ℕ) (Q : Type 0) (notes trail : List ℕ) (w : Walk) : Type 0 where
@@ -172,7 +173,7 @@ pub record Halts (T : Tables) (holds : ℕ → ℕ → Bool) (n : ℕ) (Q : Type
 -- a pair is to be entered, or none is open
 pub record Moves (T : Tables) (holds : ℕ → ℕ → Bool) (n : ℕ) (Q : Type 0) (notes trail : List ℕ) (w : Walk) : Type 0 where
   pub state : State T holds n Q notes trail w
-  pub still : w .down ≡ false → w .top ≡ 0
+  pub still : (w .down ≡ 1 → ⊥) → w .top ≡ 0
 
 -- a pair was entered: the state comes to what it came to before, and less is left
 pub record Onward (T : Tables) (holds : ℕ → ℕ → Bool) (n : ℕ) (Q : Type 0) (n₁ t₁ : List ℕ) (w₁ : Walk) (notes trail : List ℕ) (w : Walk) : Type 0 where
@@ -182,7 +183,7 @@ pub record Onward (T : Tables) (holds : ℕ → ℕ → Bool) (n : ℕ) (Q : Typ
 -- the last open pair went on to its next way or failed: less is left, or else one way less
 pub record Backward (T : Tables) (holds : ℕ → ℕ → Bool) (n : ℕ) (Q : Type 0) (n₁ t₁ : List ℕ) (w₁ : Walk) (notes trail : List ℕ) (w : Walk) : Type 0 where
   pub reached : Reached T holds n Q n₁ t₁ (comes T holds n n₁ t₁ w₁) notes trail w
-  pub found : w .found ≡ false
+  pub found : w .found ≡ 1 → ⊥
   pub less : left (N T n) notes w ≤ left (N T n) n₁ w₁
   pub fewer : left (N T n) notes w ≡ left (N T n) n₁ w₁ → rest T trail w < rest T t₁ w₁
 
@@ -190,18 +191,18 @@ pub record Backward (T : Tables) (holds : ℕ → ℕ → Bool) (n : ℕ) (Q : T
 pub record Descended (T : Tables) (holds : ℕ → ℕ → Bool) (n : ℕ) (Q : Type 0) (n₁ t₁ : List ℕ) (w₁ : Walk) (notes trail : List ℕ) (w : Walk) : Type 0 where
   pub reached : Reached T holds n Q n₁ t₁ (comes T holds n n₁ t₁ w₁) notes trail w
   pub less : left (N T n) notes w < left (N T n) n₁ w₁
-  pub down : w .down ≡ false
+  pub down : w .down ≡ 1 → ⊥
 
 -- back until a pair is to be entered or none is open
 pub record Retreated (T : Tables) (holds : ℕ → ℕ → Bool) (n : ℕ) (Q : Type 0) (n₁ t₁ : List ℕ) (w₁ : Walk) (notes trail : List ℕ) (w : Walk) : Type 0 where
   pub reached : Reached T holds n Q n₁ t₁ (comes T holds n n₁ t₁ w₁) notes trail w
   pub less : left (N T n) notes w ≤ left (N T n) n₁ w₁
-  pub still : w .down ≡ false → w .top ≡ 0
+  pub still : (w .down ≡ 1 → ⊥) → w .top ≡ 0
 
 -- the walk is over: no pair is open, or END is on top
 pub record Ran (T : Tables) (holds : ℕ → ℕ → Bool) (n : ℕ) (Q : Type 0) (n₁ t₁ : List ℕ) (w₁ : Walk) (notes trail : List ℕ) (w : Walk) : Type 0 where
   pub reached : Reached T holds n Q n₁ t₁ (comes T holds n n₁ t₁ w₁) notes trail w
-  pub down : w .down ≡ false
+  pub down : w .down ≡ 1 → ⊥
   pub last : 0 < w .top → Ends T trail w
 
 -- what an attempt at row i asks, with s steps before it

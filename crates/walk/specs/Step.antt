@@ -3,7 +3,7 @@
 -- way that the pair tries next (0: none is left), so that it goes on where it was left. The walk stands at the pair that was tried last.
 use mathlib.Core.Path.{_≡_}
 use mathlib.Core.List.{List, [], _∷_, reverseAux}
-use mathlib.Core.Bool.{Bool, true, false, not}
+use mathlib.Core.Bool.{Bool, true, false}
 use Prim.Native.Nat.{ℕ, zero, suc, _+_, _*_, _/_, _%_, _≤_, _<_}
 use lib.Dec.{ltb}
 use lib.ListN.{length, getD, set}
@@ -21,12 +21,15 @@ pub record Mem : Type 0 where
 abbrev pub mem : List ℕ → List ℕ → Walk → Mem
 mem n t w = record { notes = n; trail = t; walk = w }
 
-abbrev pub walkAt : ℕ → ℕ → ℕ → ℕ → ℕ → Bool → Bool → Walk
+abbrev pub walkAt : ℕ → ℕ → ℕ → ℕ → ℕ → ℕ → ℕ → Walk
 walkAt top steps place row base down end = record { top = top; steps = steps; place = place; row = row; base = base; down = down; found = end }
+
+unfoldable pub oneUnless : Bool → ℕ
+oneUnless t = pick t 0 1
 
 -- the pair of place q at a row is tried: it is to be entered unless it has failed
 abbrev pub tryAt : List ℕ → ℕ → ℕ → ℕ → ℕ → ℕ → Walk
-tryAt notes top steps q row base = walkAt top steps q row base (not (bitAt notes (base + q))) false
+tryAt notes top steps q row base = walkAt top steps q row base (oneUnless (bitAt notes (base + q))) 0
 
 -- a number of the trail: its place, its row, its next way, and the pair of place and row where there are P places
 abbrev pub placeIn : ℕ → ℕ
@@ -62,14 +65,14 @@ wentOn j e = e % 2097152 + j * 2097152
 unfoldable pub openedBy : ℕ → ℕ → ℕ → List ℕ → Walk → Walk
 openedBy c k P notes w =
     pick (ltb c 26) (tryAt notes (w .top + 1) (w .steps + 1) k (w .row + 1) (w .base + P))
-    (pick (ltb 28 c) (walkAt (w .top + 1) (w .steps + 1) (w .place) (w .row) (w .base) false true) (tryAt notes (w .top + 1) (w .steps + 1) k (w .row) (w .base)))
+    (pick (ltb 28 c) (walkAt (w .top + 1) (w .steps + 1) (w .place) (w .row) (w .base) 0 1) (tryAt notes (w .top + 1) (w .steps + 1) k (w .row) (w .base)))
 
 -- The pair of the walk is entered, which is one step. If it passes it is open, with v on the trail for its place and its ways; a letter or anchor that does not pass fails at once.
 unfoldable pub enteredBy : Bool → Mem → ℕ → ℕ → ℕ → ℕ → Mem
 unfolding openedBy
 enteredBy true m c v k P = mem (m .notes) (set (m .trail) (m .walk .top) (m .walk .row * 256 + v)) (openedBy c k P (m .notes) (m .walk))
 enteredBy false m c v k P =
-    mem (marked (m .notes) (pairOf (m .walk))) (m .trail) (walkAt (m .walk .top) (m .walk .steps + 1) (m .walk .place) (m .walk .row) (m .walk .base) false false)
+    mem (marked (m .notes) (pairOf (m .walk))) (m .trail) (walkAt (m .walk .top) (m .walk .steps + 1) (m .walk .place) (m .walk .row) (m .walk .base) 0 0)
 
 -- the attempt's result in memory: no open pair, or the open pairs are the path
 unfoldable pub outcomeBy : ℕ → ℕ → List ℕ → List Bool → ℕ → Outcome

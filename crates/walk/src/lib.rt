@@ -10,11 +10,11 @@ ghost use Rattle.rules.proofs.Notes.{marked};
 ghost use Rattle.walk.specs.Tables.{tables, passesBy};
 ghost use Rattle.letters.specs.Tests.{Letters};
 ghost use Rattle.walk.specs.Letters.{holdsIn};
-ghost use Rattle.walk.specs.Step.{mem, walkAt, tryAt, after, wentOn, enteredBy, Enters};
+ghost use Rattle.walk.specs.Step.{mem, walkAt, oneUnless, tryAt, after, wentOn, enteredBy, Enters};
 ghost use Rattle.walk.specs.State.{State, Goes, Halts, Onward, Backward, Descended, Idle, Retreated, Moves, Ran, Ready, Done};
 
-// Where a walk is: how many pairs are open, and the steps so far; the pair that was tried last, by its place, its row and its row times P; whether that pair
-// is to be entered (`down`), and whether it is END and open (`found`).
+// Where a walk is: how many pairs are open, and the steps so far; the pair that was tried last, by its place, its row and its row times P; 1 for `down` where
+// that pair is to be entered, and 1 for `found` where it is END and open, else 0. They are numbers, as a struct of whole words has no padding to be copied.
 #[repr(C)]
 pub struct Walk {
     pub top: usize,
@@ -22,8 +22,8 @@ pub struct Walk {
     pub place: usize,
     pub row: usize,
     pub base: usize,
-    pub down: bool,
-    pub found: bool,
+    pub down: usize,
+    pub found: usize,
 }
 
 // A 16-bit number, without a proof of the cast at the caller.
@@ -108,6 +108,12 @@ fn anchor_passes(n: usize, c: u8, row: usize) -> bool
     true
 }
 
+fn one_unless(is: bool) -> usize
+    ensures { λ r. ⌜ r ≡ oneUnless is ⌝ }
+{
+    if is { 0 } else { 1 }
+}
+
 // The pair is tried: it is to be entered unless it has failed.
 fn tried(notes: &[u8], top: usize, steps: usize, place: usize, row: usize, base: usize) -> Walk
     requires { ⌜ (base + place < 2097152) × ((base + place) / 8 < length (now notes)) ⌝ }
@@ -120,8 +126,8 @@ fn tried(notes: &[u8], top: usize, steps: usize, place: usize, row: usize, base:
         place,
         row,
         base,
-        down: !shut,
-        found: false,
+        down: one_unless(shut),
+        found: 0,
     }
 }
 
@@ -136,8 +142,7 @@ fn push(trail: &mut [u32], top: usize, row: usize, v: u32)
 // The pair of w, which was entered with this step, fails.
 fn fails(notes: &mut [u8], w: Walk, steps: usize) -> Walk
     requires { ⌜ (w .base + w .place < 2097152) × ((w .base + w .place) / 8 < length (now notes)) × (bitAt (now notes) (w .base + w .place) ≡ false) ⌝ }
-    ensures { λ r. ⌜ (now (notes .exit) ≡ marked (now (notes .entry)) (w .base + w .place)) × (r ≡ walkAt (w .top) steps (w .place) (w .row) (w .base) false
-        false) ⌝ }
+    ensures { λ r. ⌜ (now (notes .exit) ≡ marked (now (notes .entry)) (w .base + w .place)) × (r ≡ walkAt (w .top) steps (w .place) (w .row) (w .base) 0 0) ⌝ }
 {
     mark(notes, w.base + w.place);
     Walk {
@@ -146,8 +151,8 @@ fn fails(notes: &mut [u8], w: Walk, steps: usize) -> Walk
         place: w.place,
         row: w.row,
         base: w.base,
-        down: false,
-        found: false,
+        down: 0,
+        found: 0,
     }
 }
 
@@ -223,8 +228,8 @@ fn enter(
             place: q,
             row,
             base,
-            down: false,
-            found: true,
+            down: 0,
+            found: 1,
         };
     }
     tried(notes, top + 1, steps, wide(next[q]), row, base)
@@ -257,7 +262,7 @@ fn descend(
         (trail .entry)) from (now (notes .exit)) (now (trail .exit)) r ⌝ }
 {
     let mut w = from;
-    while w.down {
+    while w.down == 1 {
         w = enter(
             code,
             next,
@@ -340,8 +345,8 @@ fn back(
                 place: q,
                 row,
                 base,
-                down: true,
-                found: false,
+                down: 1,
+                found: 0,
             };
         }
         if k > 0 {
@@ -352,8 +357,8 @@ fn back(
                 place: q,
                 row,
                 base,
-                down: false,
-                found: false,
+                down: 0,
+                found: 0,
             };
         }
     }
@@ -364,8 +369,8 @@ fn back(
         place,
         row,
         base,
-        down: false,
-        found: false,
+        down: 0,
+        found: 0,
     }
 }
 
@@ -397,7 +402,7 @@ fn retreat(
 {
     let mut w = from;
     while w.top > 0 {
-        if w.down {
+        if w.down == 1 {
             return w;
         }
         w = back(
@@ -449,7 +454,7 @@ fn run(
         .entry)) from (now (notes .exit)) (now (trail .exit)) r ⌝ }
 {
     let mut w = from;
-    while w.down {
+    while w.down == 1 {
         w = descend(
             code,
             next,
@@ -469,7 +474,7 @@ fn run(
             w,
         );
         let found = w.found;
-        if found {
+        if found == 1 {
             return w;
         }
         w = retreat(

@@ -1,4 +1,4 @@
-use Rattle.walk.proofs.Small.{open-of}
+use Rattle.walk.proofs.Small.{open-of, is-one, is-zero}
 use Rattle.walk.proofs.Backing.{back-at, back-base, back-pair, back-marks, back-none, back-place, back-way, back-stop, back-noted, back-put, back-tried, back-last}
 use native.Mathlib.Omega.{arith}
 use mathlib.Core.Logic.{inl, inr}
@@ -84,7 +84,7 @@ same-length-2 c = search needs
 
 -- src/lib.rt:328:13
 returns : tie.Need-returns
-returns c = back-tried _ _ _ _ _ _ _ (c .before .before .before .before .before .before .before .before .before .before .before .before .before .before .before .before .before .before .before .before .before .before .before .pre) _ (c .before .before .before .before .before .before .before .before .before .before .before .before .before .wide32 .ensures .0) (c .before .before .before .before .before .before .before .before .before .before .before .before .if1 .taken) _ (c .before .before .before .before .before .before .before .before .wide2 .ensures .0) _ (c .before .before .before .before .before .before .before .before .before .before .wide .ensures .0) _ (c .before .before .before .before .before .before .before .way-after .ensures .0) _ (c .before .before .before .before .before .failed .ensures) _ (c .before .before .put-way .ensures) _ (c .before .before .before .before .if2 .taken)
+returns c = back-tried _ _ _ _ _ _ _ (c .before .before .before .before .before .before .before .before .before .before .before .before .before .before .before .before .before .before .before .before .before .before .before .pre) _ (c .before .before .before .before .before .before .before .before .before .before .before .before .before .wide32 .ensures .0) (c .before .before .before .before .before .before .before .before .before .before .before .before .if1 .taken) _ (c .before .before .before .before .before .before .before .before .wide2 .ensures .0) _ (c .before .before .before .before .before .before .before .before .before .before .wide .ensures .0) _ (c .before .before .before .before .before .before .before .way-after .ensures .0) _ (c .before .before .before .before .before .failed .ensures) _ (c .before .before .put-way .ensures) _ (is-one _ (c .before .before .before .before .if2 .taken))
 
 -- src/lib.rt:339:13
 put-way-requires-2 : tie.Need-put-way-requires-2
@@ -100,7 +100,7 @@ same-length-4 c = search needs
 
 -- src/lib.rt:340:13
 returns-2 : tie.Need-returns-2
-returns-2 c = back-tried _ _ _ _ _ _ _ (c .before .before .before .before .before .before .before .before .before .before .before .before .before .before .before .before .before .before .before .before .before .before .before .before .pre) _ (c .before .before .before .before .before .before .before .before .before .before .before .before .before .before .wide32 .ensures .0) (c .before .before .before .before .before .before .before .before .before .before .before .before .before .if1 .taken) _ (c .before .before .before .before .before .before .before .before .before .wide2 .ensures .0) _ (c .before .before .before .before .before .before .before .before .before .before .before .wide .ensures .0) _ (c .before .before .before .before .before .before .before .before .way-after .ensures .0) _ (c .before .before .before .before .before .before .failed .ensures) _ (c .before .before .put-way2 .ensures) _ (c .before .before .before .before .before .if2 .left)
+returns-2 c = back-tried _ _ _ _ _ _ _ (c .before .before .before .before .before .before .before .before .before .before .before .before .before .before .before .before .before .before .before .before .before .before .before .before .pre) _ (c .before .before .before .before .before .before .before .before .before .before .before .before .before .before .wide32 .ensures .0) (c .before .before .before .before .before .before .before .before .before .before .before .before .before .if1 .taken) _ (c .before .before .before .before .before .before .before .before .before .wide2 .ensures .0) _ (c .before .before .before .before .before .before .before .before .before .before .before .wide .ensures .0) _ (c .before .before .before .before .before .before .before .before .way-after .ensures .0) _ (c .before .before .before .before .before .before .failed .ensures) _ (c .before .before .put-way2 .ensures) _ (is-zero _ (c .before .before .before .before .before .if2 .left))
 
 -- src/lib.rt:351:17
 add-mark : tie.Need-add-mark

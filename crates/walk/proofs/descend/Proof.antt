@@ -1,3 +1,4 @@
+use borrow.Author.Needs.{needs}
 use Rattle.walk.proofs.Whole.{Descending, on-none, on-end, on-enters, on-more, on-less}
 use Rattle.walk.specs.State.{left}
 use Rattle.letters.specs.Tests.{Letters}
@@ -23,27 +24,27 @@ loop-holds c = on-none _ _ _ _ _ _ _ (c .before .before .before .before .before 
 
 -- src/lib.rt:258:9
 enter-requires : tie.Need-enter-requires Inv-loop μ-loop
-enter-requires c κs = on-enters _ _ _ _ _ _ _ _ _ _ (c .before .before .before .loop .inv) (c .before .before .loop-test .taken)
+enter-requires c κs = on-enters _ _ _ _ _ _ _ _ _ _ (c .before .before .before .before .loop .inv) (c .before .before .if1 .taken)
 
 -- src/lib.rt:257:5
 loop-less : tie.Need-loop-less Inv-loop μ-loop
-loop-less c = on-less _ _ _ _ _ _ _ _ _ _ (c .before .before .before .before .before .before .before .before .loop .inv) (c .before .before .before .before .before .before .before .loop-test .taken) _ _ _ (c .before .before .before .before .enter .ensures)
+loop-less c = search (needs, on-less)
 
 -- src/lib.rt:257:5
 loop-again : tie.Need-loop-again Inv-loop μ-loop
-loop-again c = on-more _ _ _ _ _ _ _ _ _ _ (c .before .before .before .before .before .before .before .before .loop .inv) (c .before .before .before .before .before .before .before .loop-test .taken) _ _ _ (c .before .before .before .before .enter .ensures)
+loop-again c = search (needs, on-more)
 
 -- src/lib.rt:236:1
 same-length : tie.Need-same-length Inv-loop μ-loop
-same-length c = c .before .loop .inv .reached .notes-long
+same-length c = search needs
 
 -- src/lib.rt:236:1
 same-length-2 : tie.Need-same-length-2 Inv-loop μ-loop
-same-length-2 c = c .before .loop .inv .reached .trail-long
+same-length-2 c = search needs
 
 -- src/lib.rt:236:1
 returns : tie.Need-returns Inv-loop μ-loop
-returns c = on-end _ _ _ _ _ _ _ _ _ _ (c .before .loop .inv) (c .loop-test .left)
+returns c = search (needs, on-end)
 
 pub descend-spec : {M : Type 1} → statement M
 descend-spec =

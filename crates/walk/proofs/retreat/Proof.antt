@@ -1,3 +1,4 @@
+use borrow.Author.Needs.{needs}
 use Rattle.walk.proofs.Whole.{Retreating, behind, off-none, off-down, off-end, off-halts, off-more, off-less}
 use Rattle.letters.specs.Tests.{Letters}
 use Rattle.walk.specs.Letters.{holdsIn}
@@ -22,27 +23,27 @@ loop-holds c = off-none _ _ _ _ _ _ _ (c .before .before .before .before .before
 
 -- src/lib.rt:387:13
 same-length : tie.Need-same-length Inv-loop μ-loop
-same-length c = c .before .before .before .loop .inv .reached .notes-long
+same-length c = search needs
 
 -- src/lib.rt:387:13
 same-length-2 : tie.Need-same-length-2 Inv-loop μ-loop
-same-length-2 c = c .before .before .before .loop .inv .reached .trail-long
+same-length-2 c = search needs
 
 -- src/lib.rt:387:13
 returns : tie.Need-returns Inv-loop μ-loop
-returns c = off-down _ _ _ _ _ _ _ _ _ _ (c .before .before .before .loop .inv) (c .if2 .taken)
+returns c = search (needs, off-down)
 
 -- src/lib.rt:389:9
 back-requires : tie.Need-back-requires Inv-loop μ-loop
-back-requires c κs = off-halts _ _ _ _ _ _ _ _ _ _ (c .before .before .before .before .before .loop .inv) (c .before .before .before .if1 .taken) (c .before .before .if2 .left)
+back-requires c κs = off-halts _ _ _ _ _ _ _ _ _ _ (c .before .before .before .before .before .before .loop .inv) (c .before .before .before .before .if1 .taken) (c .before .before .if2 .left)
 
 -- src/lib.rt:385:5
 loop-less : tie.Need-loop-less Inv-loop μ-loop
-loop-less c = off-less _ _ _ _ _ _ _ _ _ _ (c .before .before .before .before .before .before .before .before .before .before .loop .inv) _ _ _ (c .before .before .before .before .back .ensures)
+loop-less c = search (needs, off-less)
 
 -- src/lib.rt:385:5
 loop-again : tie.Need-loop-again Inv-loop μ-loop
-loop-again c = off-more _ _ _ _ _ _ _ _ _ _ (c .before .before .before .before .before .before .before .before .before .before .loop .inv) _ _ _ (c .before .before .before .before .back .ensures)
+loop-again c = search (needs, off-more)
 
 -- src/lib.rt:364:1
 same-length-3 : tie.Need-same-length-3 Inv-loop μ-loop

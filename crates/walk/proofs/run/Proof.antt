@@ -1,3 +1,4 @@
+use borrow.Author.Needs.{needs}
 use Rattle.walk.proofs.Whole.{Running, run-none, run-goes, run-end, run-found, run-idle, run-more, run-less}
 use Rattle.walk.specs.State.{left}
 use Rattle.letters.specs.Tests.{Letters}
@@ -24,43 +25,43 @@ loop-holds c = run-none _ _ _ _ _ _ _ (c .before .before .before .before .before
 
 -- src/lib.rt:433:9
 descend-requires : tie.Need-descend-requires Inv-loop μ-loop
-descend-requires c κs = run-goes _ _ _ _ _ _ _ _ _ _ (c .before .before .before .loop .inv) (c .before .before .loop-test .taken)
+descend-requires c κs = run-goes _ _ _ _ _ _ _ _ _ _ (c .before .before .before .before .loop .inv) (c .before .before .if1 .taken)
 
 -- src/lib.rt:452:13
 same-length : tie.Need-same-length Inv-loop μ-loop
-same-length c = run-found _ _ _ _ _ _ _ _ _ _ (c .before .before .before .before .before .before .before .before .before .loop .inv) _ _ _ (c .before .before .before .before .before .descend .ensures) (c .if1 .taken) .reached .notes-long
+same-length c = run-found _ _ _ _ _ _ _ _ _ _ (c .before .before .before .before .before .before .before .before .before .before .loop .inv) _ _ _ (c .before .before .before .before .before .descend .ensures) (c .if2 .taken) .reached .notes-long
 
 -- src/lib.rt:452:13
 same-length-2 : tie.Need-same-length-2 Inv-loop μ-loop
-same-length-2 c = run-found _ _ _ _ _ _ _ _ _ _ (c .before .before .before .before .before .before .before .before .before .loop .inv) _ _ _ (c .before .before .before .before .before .descend .ensures) (c .if1 .taken) .reached .trail-long
+same-length-2 c = run-found _ _ _ _ _ _ _ _ _ _ (c .before .before .before .before .before .before .before .before .before .before .loop .inv) _ _ _ (c .before .before .before .before .before .descend .ensures) (c .if2 .taken) .reached .trail-long
 
 -- src/lib.rt:452:13
 returns : tie.Need-returns Inv-loop μ-loop
-returns c = run-found _ _ _ _ _ _ _ _ _ _ (c .before .before .before .before .before .before .before .before .before .loop .inv) _ _ _ (c .before .before .before .before .before .descend .ensures) (c .if1 .taken)
+returns c = search (needs, run-found)
 
 -- src/lib.rt:454:9
 retreat-requires : tie.Need-retreat-requires Inv-loop μ-loop
-retreat-requires c κs = run-idle _ _ _ _ _ _ _ _ _ _ (c .before .before .before .before .before .before .before .before .before .before .before .loop .inv) _ _ _ (c .before .before .before .before .before .before .before .descend .ensures) (c .before .before .if1 .left)
+retreat-requires c κs = run-idle _ _ _ _ _ _ _ _ _ _ (c .before .before .before .before .before .before .before .before .before .before .before .before .loop .inv) _ _ _ (c .before .before .before .before .before .before .before .descend .ensures) (c .before .before .if2 .left)
 
 -- src/lib.rt:432:5
 loop-less : tie.Need-loop-less Inv-loop μ-loop
-loop-less c = run-less _ _ _ _ _ _ _ _ _ _ (c .before .before .before .before .before .before .before .before .before .before .before .before .before .before .before .before .loop .inv) _ _ _ (c .before .before .before .before .before .before .before .before .before .before .before .before .descend .ensures) _ _ _ (c .before .before .before .before .retreat .ensures)
+loop-less c = search (needs, run-less)
 
 -- src/lib.rt:432:5
 loop-again : tie.Need-loop-again Inv-loop μ-loop
-loop-again c = run-more _ _ _ _ _ _ _ _ _ _ (c .before .before .before .before .before .before .before .before .before .before .before .before .before .before .before .before .loop .inv) _ _ _ (c .before .before .before .before .before .before .before .before .before .before .before .before .descend .ensures) _ _ _ (c .before .before .before .before .retreat .ensures)
+loop-again c = run-more _ _ _ _ _ _ _ _ _ _ (c .before .before .before .before .before .before .before .before .before .before .before .before .before .before .before .before .before .loop .inv) _ _ _ (c .before .before .before .before .before .before .before .before .before .before .before .before .descend .ensures) _ _ _ (c .before .before .before .before .retreat .ensures)
 
 -- src/lib.rt:411:1
 same-length-3 : tie.Need-same-length-3 Inv-loop μ-loop
-same-length-3 c = c .before .loop .inv .reached .notes-long
+same-length-3 c = search needs
 
 -- src/lib.rt:411:1
 same-length-4 : tie.Need-same-length-4 Inv-loop μ-loop
-same-length-4 c = c .before .loop .inv .reached .trail-long
+same-length-4 c = search needs
 
 -- src/lib.rt:411:1
 returns-2 : tie.Need-returns-2 Inv-loop μ-loop
-returns-2 c = run-end _ _ _ _ _ _ _ _ _ _ (c .before .loop .inv) (c .loop-test .left)
+returns-2 c = search (needs, run-end)
 
 pub run-spec : {M : Type 1} → statement M
 run-spec =
