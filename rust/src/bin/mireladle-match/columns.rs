@@ -32,7 +32,7 @@ fn index_of(name: &str, names: &[String]) -> Option<usize> {
 }
 
 /// What is expected where a column stands, with all of them: `a column (c0 or time, c1 or "base number")`.
-fn one_of_the_columns(names: &[String]) -> String {
+pub fn one_of_the_columns(names: &[String]) -> String {
     let both = |(index, name): (usize, &String)| match index_named(name) {
         Some(_) => format!("c{index}"),
         None => format!("c{index} or {}", as_written(name)),

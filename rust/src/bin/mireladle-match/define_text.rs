@@ -3,7 +3,7 @@
 
 use mireladle::{col, Column, Comparison, Operand, Operator};
 
-use crate::columns::column;
+use crate::columns::{column, one_of_the_columns};
 use crate::fault::Fault;
 use crate::words::{Word, Words};
 
@@ -55,6 +55,10 @@ fn right_side(words: &mut Words, names: &[String]) -> Result<Operand, Fault> {
             words.pass_sign("+");
         }
         return Ok(Operand::from(number(words, negative)?));
+    }
+    if !matches!(words.peek(), Word::Name(_) | Word::Quoted(_)) {
+        let expected = format!("a whole number or {}", one_of_the_columns(names));
+        return Err(words.fault(expected));
     }
     let column = column_at_row(words, names)?;
     if words.pass_sign("+") {

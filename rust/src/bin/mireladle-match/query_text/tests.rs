@@ -245,11 +245,11 @@ fn faults_of_comparisons() {
     );
     assert_eq!(
         fault("A: c0 == 1"),
-        format!("2:8: expected {columns}, found `=`")
+        format!("2:8: expected a whole number or {columns}, found `=`")
     );
     assert_eq!(
         fault("A: c0 = "),
-        format!("2:8: expected {columns}, found the end of the line")
+        format!("2:8: expected a whole number or {columns}, found the end of the line")
     );
     assert_eq!(
         fault("A: c0 = B.c0"),
