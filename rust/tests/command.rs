@@ -311,7 +311,7 @@ fn a_program_that_refuses_or_says_something_else() {
     let refused = "refused 9: a measure names a letter that is not in the pattern\n";
     let (program, _) = stand_in("refuses", "refused 9\\n");
     assert_eq!(message(&program), (1, String::from(refused)));
-    let large = "/large.sh: expected the lines of a report, found `too large`\n";
+    let large = "/large.sh: too large: expected a query of at most 4,096 bytes, 8,192 entries and 16,000 pairs\n";
     let (program, _) = stand_in("large", "too large\\n");
     assert_eq!(message(&program), (2, String::from(large)));
     let missing = message("/no/such/program");

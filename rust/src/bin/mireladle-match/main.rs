@@ -274,6 +274,9 @@ fn search_by_program(
     searched.map_err(|failed| match failed {
         Failed::Refused(error) => refused(error),
         Failed::Run(error) => strange(error.to_string()),
+        Failed::TooLarge => strange(String::from(
+            "too large: expected a query of at most 4,096 bytes, 8,192 entries and 16,000 pairs",
+        )),
         Failed::Line(line) => strange(format!("expected the lines of a report, found `{line}`")),
     })
 }

@@ -14,6 +14,8 @@ pub enum Failed {
     Run(io::Error),
     /// It refused.
     Refused(Error),
+    /// The input is beyond what the program takes, which is less than what the library takes.
+    TooLarge,
     /// It printed a line that is not as it should be.
     Line(String),
 }
@@ -56,6 +58,7 @@ fn read(printed: &str, measures: usize) -> Result<Report, Failed> {
     let (answer, matches, steps) = match words[..] {
         ["matches", matches, "steps", steps] => (0, matches, steps),
         ["stopped", matches, "steps", steps] => (13, matches, steps),
+        ["too", "large"] => return Err(Failed::TooLarge),
         ["refused", number] => {
             let number = number.parse().map_err(|_| strange(head))?;
             return Err(Failed::Refused(Error::from_answer(number)));
@@ -141,9 +144,10 @@ mod tests {
             read("refused 7\n", 0),
             Err(Failed::Refused(Error::TooManyPlaces))
         ));
+        assert!(matches!(read("too large\n", 0), Err(Failed::TooLarge)));
         for strange in [
             "",
-            "too large\n",
+            "too\n",
             "matches 1 steps 3\n",
             "matches 1 steps 3\n1 0 2 A\n",
             "matches 1 steps 3\n1 0 1 A 5\n",
