@@ -199,13 +199,14 @@ fn refusals_have_number_and_words() {
     );
     refused(
         "refused-8",
-        "pattern: A\nA: a = 1\nA: a = 2",
-        "refused 8: a letter has two DEFINEs\n",
+        "pattern: A\nA: a = 1\nA: a = 2 # again\nA: a = 3",
+        "refused 8: a letter has two DEFINEs\n/refused-8.txt:3: A: a = 2\n",
     );
     refused(
         "refused-9",
         "pattern: A\nmeasures: COUNT(B)",
-        "refused 9: a measure names a letter that is not in the pattern\n",
+        "refused 9: a measure names a letter that is not in the pattern\n\
+         /refused-9.txt:2: measures: COUNT(B)\n",
     );
     let many = format!("a\n{}", "1\n".repeat(4097));
     let rows = failure("refused-10", "pattern: A", &many);
@@ -308,9 +309,12 @@ fn a_program_that_refuses_or_says_something_else() {
         let message = text(&output.stderr).replace(env!("CARGO_TARGET_TMPDIR"), "");
         (status(&output), message)
     };
-    let refused = "refused 9: a measure names a letter that is not in the pattern\n";
+    let refused = format!(
+        "refused 9: a measure names a letter that is not in the pattern\n{}:8: measures: {}\n",
+        files[0], "FIRST(O.time), LAST(C.time), LAST(base), LAST(patch), COUNT(R)"
+    );
     let (program, _) = stand_in("refuses", "refused 9\\n");
-    assert_eq!(message(&program), (1, String::from(refused)));
+    assert_eq!(message(&program), (1, refused));
     let large = "/large.sh: too large: expected a query of at most 4,096 bytes, 8,192 entries and 16,000 pairs\n";
     let (program, _) = stand_in("large", "too large\\n");
     assert_eq!(message(&program), (2, String::from(large)));

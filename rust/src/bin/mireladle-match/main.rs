@@ -26,7 +26,7 @@ use csv::Table;
 use fault::Fault;
 use print::Printed;
 use program::Failed;
-use query_text::QueryText;
+use query_text::{QueryText, Shown};
 
 const HELP: &str = "\
 mireladle-match: search rows of whole numbers for a row pattern (SQL's MATCH_RECOGNIZE)
@@ -87,10 +87,10 @@ enum Failure {
         text: String,
         fault: Fault,
     },
-    /// The library refused; for answers about the pattern its file, line and text go with it.
+    /// The library refused; the line that the answer is about, if it is about one, goes with it.
     Refused {
         error: Error,
-        pattern: Option<(PathBuf, usize, String)>,
+        line: Option<(PathBuf, Shown)>,
     },
     /// The program cannot be run, or what it printed is no report.
     Program { path: PathBuf, reason: String },
@@ -232,15 +232,17 @@ fn search(
     out: &mut impl Write,
 ) -> Result<(), Failure> {
     let refused = |error: Error| {
-        let about_pattern = matches!(error.number(), Some(4..=7));
-        let pattern = (
-            query_path.to_path_buf(),
-            text.pattern_line,
-            text.pattern.clone(),
-        );
+        let line = match error {
+            Error::TooDeep | Error::NotAPattern | Error::EmptyRepetition | Error::TooManyPlaces => {
+                Some(text.pattern.clone())
+            }
+            Error::DefinedTwice => text.defined_again.clone(),
+            Error::MeasureLetter => text.measures.clone(),
+            _ => None,
+        };
         Failure::Refused {
             error,
-            pattern: about_pattern.then_some(pattern),
+            line: line.map(|line| (query_path.to_path_buf(), line)),
         }
     };
     let columns = u8::try_from(table.names.len()).unwrap_or(u8::MAX);
@@ -309,19 +311,19 @@ impl Failure {
             Failure::Text { path, text, fault } => {
                 format!("{}:{fault}{}", path.display(), fault.marked(text))
             }
-            Failure::Refused { error, pattern } => refusal(*error, pattern.as_ref()),
+            Failure::Refused { error, line } => refusal(*error, line.as_ref()),
             Failure::Program { path, reason } => format!("{}: {reason}", path.display()),
             Failure::Output(error) => format!("the output cannot be written: {error}"),
         }
     }
 }
 
-fn refusal(error: Error, pattern: Option<&(PathBuf, usize, String)>) -> String {
+fn refusal(error: Error, line: Option<&(PathBuf, Shown)>) -> String {
     let number = error
         .number()
         .map_or(String::new(), |number| format!(" {number}"));
-    let place = pattern.map_or(String::new(), |(path, line, text)| {
-        format!("\n{}:{line}: pattern: {text}", path.display())
+    let place = line.map_or(String::new(), |(path, Shown { number, text })| {
+        format!("\n{}:{number}: {text}", path.display())
     });
     format!("refused{number}: {error}{place}")
 }

@@ -19,18 +19,28 @@ pub struct QueryText {
     pub builder: QueryBuilder,
     /// The measures as heads of a table.
     pub titles: Vec<String>,
-    /// The pattern's text and its line, to be shown when the library refuses it.
-    pub pattern: String,
-    pub pattern_line: usize,
+    /// Lines to be shown when the library refuses them: the pattern's, the first with a letter that an earlier line
+    /// defines, and the one with the measures.
+    pub pattern: Shown,
+    pub defined_again: Option<Shown>,
+    pub measures: Option<Shown>,
+}
+
+/// A line by its number, and as it stands there without its comment.
+#[derive(Clone, Debug, PartialEq, Eq)]
+pub struct Shown {
+    pub number: usize,
+    pub text: String,
 }
 
 /// The parts read so far.
 struct Reader<'a> {
     names: &'a [String],
-    pattern: Option<(String, usize)>,
+    pattern: Option<(String, Shown)>,
     defines: Vec<(char, Vec<Comparison>)>,
+    defined_again: Option<Shown>,
     skip: Option<Skip>,
-    measures: Option<Vec<(Measure, String)>>,
+    measures: Option<(Vec<(Measure, String)>, Shown)>,
 }
 
 /// One line without its comment, parted at the first colon.
@@ -48,6 +58,7 @@ pub fn read(text: &str, names: &[String]) -> Result<QueryText, Fault> {
         names,
         pattern: None,
         defines: Vec::new(),
+        defined_again: None,
         skip: None,
         measures: None,
     };
@@ -95,6 +106,13 @@ impl<'a> Line<'a> {
         Words::new(self.number, self.rest_column, self.rest)
     }
 
+    fn shown(&self) -> Shown {
+        Shown {
+            number: self.number,
+            text: format!("{}: {}", self.key, self.rest),
+        }
+    }
+
     fn key_fault(&self, expected: impl Into<String>) -> Fault {
         Fault::new(self.number, self.key_column, expected, shown(self.key))
     }
@@ -112,7 +130,8 @@ impl Reader<'_> {
             ("pattern", _) if self.pattern.is_none() => self.pattern = Some(pattern(line)?),
             ("skip", _) if self.skip.is_none() => self.skip = Some(skip(line)?),
             ("measures", _) if self.measures.is_none() => {
-                self.measures = Some(measures(&mut line.words(), self.names)?);
+                let measures = measures(&mut line.words(), self.names)?;
+                self.measures = Some((measures, line.shown()));
             }
             ("pattern" | "skip" | "measures", _) => {
                 return Err(line.key_fault(format!("one `{}:` line only", line.key)));
@@ -122,6 +141,10 @@ impl Reader<'_> {
             }
             (_, Some(letter)) => {
                 let comparisons = comparisons(&mut line.words(), self.names)?;
+                let again = self.defines.iter().any(|(defined, _)| *defined == letter);
+                if again && self.defined_again.is_none() {
+                    self.defined_again = Some(line.shown());
+                }
                 self.defines.push((letter, comparisons));
             }
             _ => return Err(line.key_fault(KEYS)),
@@ -130,7 +153,7 @@ impl Reader<'_> {
     }
 
     fn finish(self, lines: usize) -> Result<QueryText, Fault> {
-        let Some((pattern, pattern_line)) = self.pattern else {
+        let Some((text, pattern)) = self.pattern else {
             let behind = lines.saturating_add(1);
             return Err(Fault::new(
                 behind,
@@ -141,13 +164,14 @@ impl Reader<'_> {
         };
         let columns = u8::try_from(self.names.len()).unwrap_or(u8::MAX);
         let mut builder = Query::builder(columns)
-            .pattern(pattern.as_str())
+            .pattern(text)
             .skip(self.skip.unwrap_or_default());
         for (letter, comparisons) in self.defines {
             builder = builder.define(letter, comparisons);
         }
         let mut titles = Vec::new();
-        for (measure, title) in self.measures.unwrap_or_default() {
+        let (measures, measures_line) = self.measures.unzip();
+        for (measure, title) in measures.unwrap_or_default() {
             builder = builder.measure(measure);
             titles.push(title);
         }
@@ -155,15 +179,16 @@ impl Reader<'_> {
             builder,
             titles,
             pattern,
-            pattern_line,
+            defined_again: self.defined_again,
+            measures: measures_line,
         })
     }
 }
 
 /// The pattern's text as it stands: whether it is a pattern is for the library to say.
-fn pattern(line: &Line<'_>) -> Result<(String, usize), Fault> {
+fn pattern(line: &Line<'_>) -> Result<(String, Shown), Fault> {
     match line.rest.len() {
-        0..=LONGEST_PATTERN => Ok((String::from(line.rest), line.number)),
+        0..=LONGEST_PATTERN => Ok((String::from(line.rest), line.shown())),
         _ => Err(line.rest_fault("a pattern of at most 256 bytes")),
     }
 }

@@ -43,7 +43,14 @@ fn w1_is_read_into_its_bytes() {
         .measure(Measure::last(0).of('B'));
     assert_eq!(read.builder.to_bytes(), expected.to_bytes());
     assert_eq!(read.titles, ["COUNT(A)", "LAST(B.price)"]);
-    assert_eq!((read.pattern.as_str(), read.pattern_line), ("A+ B", 2));
+    let shown = |number, text: &str| Shown {
+        number,
+        text: String::from(text),
+    };
+    assert_eq!(read.pattern, shown(2, "pattern: A+ B"));
+    assert_eq!(read.defined_again, None);
+    let measures = shown(7, "measures: COUNT(A), LAST(B.price)");
+    assert_eq!(read.measures, Some(measures));
 }
 
 #[test]
