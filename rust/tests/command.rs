@@ -192,11 +192,16 @@ fn refusals_have_number_and_words() {
         "refused 4: more than 8 parentheses are open somewhere in the pattern\n\
          /refused-4.txt:2: pattern: (((((((((A)))))))))\n",
     );
-    refused(
-        "refused-5",
-        "pattern: A** # twice",
-        "refused 5: the text is outside the pattern language\n/refused-5.txt:1: pattern: A**\n",
-    );
+    let twice = failure("refused-5", "pattern: A** # twice", "a,b\n1,2\n");
+    let lines: Vec<&str> = twice.1.lines().collect();
+    let said = [
+        "refused 5: the text is outside the pattern language",
+        "/refused-5.txt:1: pattern: A**",
+    ];
+    assert_eq!((twice.0, &lines[..2]), (1, &said[..]));
+    // The mark stands under the second star, where the whole path is shown.
+    let shown = format!("{}{}", env!("CARGO_TARGET_TMPDIR"), lines[1]);
+    assert_eq!(lines[2..], [format!("{:>1$}", '^', shown.chars().count())]);
     refused(
         "refused-8",
         "pattern: A\nA: a = 1\nA: a = 2 # again\nA: a = 3",

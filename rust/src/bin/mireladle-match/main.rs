@@ -10,6 +10,7 @@ mod csv;
 mod define_text;
 mod fault;
 mod measure_text;
+mod pattern_text;
 mod print;
 mod program;
 mod query_text;
@@ -325,5 +326,21 @@ fn refusal(error: Error, line: Option<&(PathBuf, Shown)>) -> String {
     let place = line.map_or(String::new(), |(path, Shown { number, text })| {
         format!("\n{}:{number}: {text}", path.display())
     });
-    format!("refused{number}: {error}{place}")
+    let mark = match (error, line) {
+        (Error::NotAPattern, Some((path, shown))) => pattern_mark(path, shown),
+        _ => String::new(),
+    };
+    format!("refused{number}: {error}{place}{mark}")
+}
+
+/// A mark under the character of a shown pattern from which on it is none.
+fn pattern_mark(path: &Path, Shown { number, text }: &Shown) -> String {
+    let pattern = text.strip_prefix("pattern: ").unwrap_or("");
+    let Some(front) = pattern_text::front(pattern) else {
+        return String::new();
+    };
+    let before = text.chars().count().saturating_sub(pattern.chars().count());
+    let place = format!("{}:{number}: ", path.display()).chars().count();
+    let gap = " ".repeat(place.saturating_add(before).saturating_add(front));
+    format!("\n{gap}^")
 }
