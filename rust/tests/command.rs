@@ -269,6 +269,7 @@ fn the_command_line() {
         &["one", "two", "three"],
         &["--byte", "one", "two"],
         &["one", "two", "--program"],
+        &["--bytes", "--program", "three", "one", "two"],
     ] {
         let output = run(wrong);
         assert_eq!(

@@ -139,6 +139,11 @@ fn task(mut arguments: impl Iterator<Item = OsString>) -> Result<Task, Failure> 
             _ => paths.push(PathBuf::from(argument)),
         }
     }
+    if bytes && program.is_some() {
+        return Err(Failure::Usage(String::from(
+            "--bytes and --program exclude each other",
+        )));
+    }
     match <[PathBuf; 2]>::try_from(paths) {
         Ok([query, rows]) if bytes => Ok(Task::Bytes { query, rows }),
         Ok([query, rows]) => Ok(Task::Search {
