@@ -43,13 +43,17 @@ QUERY.txt  Lines in any order; # begins a comment.
              C: c1 = 3 AND c0 <= NEXT(c0, 2) + 5
              skip: past last row
              measures: COUNT(A), LAST(B.price), SUM(c1)
+           A pattern is made of letters A to Z, two of them parted by a space; ^ before
+           the first row and $ behind the last; () for nothing; branches with |, the
+           left one tried first; parentheses; and * + ? {n} {n,} {,m} {n,m} with bounds
+           up to 99, which take as many rows as they can, or as few with a ? behind.
            A letter holds at a row where all its comparisons are met; one without a
            line of its own holds at every row. A column is c0, c1 and so on, or its
            name in ROWS.csv, in double quotes where it has spaces. Comparisons are
            = <> < <= > >=, with a number, a column, or a column plus or minus a number.
            skip is `past last row` (also where the line is missing) or `to next row`.
-           Measures are COUNT, SUM, MIN, MAX, FIRST, LAST; over all rows of the match,
-           or over those with one letter.
+           Measures are COUNT, SUM, MIN, MAX, FIRST, LAST; over all rows of the match
+           (COUNT(*)), or over those with one letter. Over no rows, all but COUNT are null.
 
 --program PATH
            Search by running the program `mireladle` there, not by the linked library.
@@ -58,7 +62,8 @@ QUERY.txt  Lines in any order; # begins a comment.
 --help     Print this.
 
 It prints the matches, then the rows; 2:A beside a row says that match 2 labels it A.
-Rows count from 0. Exit status: 0 done, 1 the search refused, 2 wrong input.
+Rows count from 0. Exit status: 0 done, 1 the search refused, 2 wrong input. A report for
+which the program had no room is 0 too: it begins with `stopped for want of room`.
 ";
 
 /// What the command line asks for.
