@@ -16,9 +16,12 @@ pub(crate) const STOPPED: u64 = 13;
 pub enum Error {
     /// 1: the query's bytes break off inside a record.
     QueryCut,
-    /// 2: a record of the query is unknown, missing, repeated, misplaced or one too many.
+    /// 2: a record of the query is unknown, missing, repeated, misplaced or one too many. Of a query from a builder: it
+    /// has no pattern, more than 26 DEFINEs or more than 8 measures.
     WrongRecords,
-    /// 3: a record has the wrong length or a field outside its values.
+    /// 3: a record has the wrong length or a field outside its values. Of a query from a builder: it does not have 1 to 8
+    /// columns, names a column beyond them or a letter that is not `A` to `Z`, has a pattern of more than 256 bytes, a
+    /// DEFINE without 1 to 8 comparisons, an offset beyond 64 rows, or a `COUNT` of another column than 0.
     WrongField,
     /// 4: more than 8 parentheses are open somewhere in the pattern.
     TooDeep,
@@ -99,8 +102,15 @@ impl Error {
     fn words(self) -> &'static str {
         match self {
             Error::QueryCut => "the query breaks off inside a record",
-            Error::WrongRecords => "a record of the query is unknown, missing, repeated, misplaced or one too many",
-            Error::WrongField => "a record of the query has the wrong length or a field outside its values",
+            Error::WrongRecords => {
+                "a record of the query is unknown, missing, repeated, misplaced or one too many \
+                 (one pattern, at most 26 DEFINEs and 8 measures)"
+            }
+            Error::WrongField => {
+                "a record of the query has the wrong length or a field outside its values \
+                 (1 to 8 columns and none beyond them, 256 bytes of pattern, letters A to Z, \
+                 1 to 8 comparisons in a DEFINE, offsets up to 64)"
+            }
             Error::TooDeep => "more than 8 parentheses are open somewhere in the pattern",
             Error::NotAPattern => "the text is outside the pattern language",
             Error::EmptyRepetition => {
@@ -151,6 +161,13 @@ mod tests {
             .map(|number| Error::from_answer(number).to_string())
             .collect();
         assert_eq!(words.len(), 13);
+        // Whoever built the query from parts knows no records: the limits tell what to look for.
+        let (records, field) = (
+            Error::WrongRecords.to_string(),
+            Error::WrongField.to_string(),
+        );
+        assert!(records.ends_with(" (one pattern, at most 26 DEFINEs and 8 measures)"));
+        assert!(field.ends_with(" 1 to 8 comparisons in a DEFINE, offsets up to 64)"));
         let columns = Error::ColumnCount { query: 1, rows: 3 };
         assert_eq!(
             columns.to_string(),
