@@ -2,9 +2,13 @@
  * Mireladle: a verified search for SQL row patterns (MATCH_RECOGNIZE) over ordered rows of whole numbers.
  *
  * This is the whole C interface of libmireladle_c.a, for C11 and C++17 on x86-64 Linux. `rt staticlib mireladle_c`
- * builds the library, which needs nothing beside the C library. Every query, all rows and all buffers get an answer: a
- * caller checks nothing first. The functions allocate nothing, keep no pointer and no state between calls, and may run
- * on several threads at once as long as no thread writes into what another one lends.
+ * builds the library, which needs nothing beside the C library:
+ *
+ *     cc -std=c11 -Iinclude yours.c target/staticlib/libmireladle_c.a
+ *
+ * Every query, all rows and all buffers get an answer: a caller checks nothing first. The functions allocate nothing,
+ * keep no pointer and no state between calls, and may run on several threads at once as long as no thread writes into
+ * what another one lends. As measured, a call takes up to about 32 KiB of stack.
  */
 #ifndef MIRELADLE_H
 #define MIRELADLE_H
@@ -19,9 +23,9 @@ extern "C" {
 /* The words used below.
  *
  * Rows and positions count from 0. n is the number of rows. A position is a row or n, which lies behind the last row.
- * P is the number of places: the letters, anchors and forks of the pattern once its repetitions are written out, from
- * place 0 at its left end on, and one place END behind them. A pair is a place and a position. There are P * (n + 1)
- * pairs, and both working buffers are measured by that number; mireladle_room() tells it.
+ * P is the number of places: the letters, anchors and forks of the pattern once its repetitions are written out (A+ as
+ * A A*, for one), from place 0 at its left end on, and one place END behind them. A pair is a place and a position.
+ * There are P * (n + 1) pairs, and both working buffers are measured by that number; mireladle_room() tells it.
  */
 
 /* Limits. A query or rows beyond them are refused, so a buffer measured by them is always large enough. */
@@ -96,7 +100,8 @@ struct mireladle_room {
 };
 
 /*
- * Searches the rows for all matches of the query.
+ * Searches the rows for all matches of the query. A match is looked for from row 0 on, at one row after the other, but
+ * not behind the last row: so there is none without rows, and none of the pattern $ alone.
  *
  * Each buffer is a pointer to its first element and a length in elements. A pointer may be NULL where its length is 0,
  * and only there; otherwise it points to so many elements, aligned as their type asks. The four buffers that are
@@ -118,7 +123,8 @@ struct mireladle_room {
  *   answers 1 to 12   Nothing is changed.
  *   answers 0 and 13  numbers: for each match in turn its number (from 1), its first row (the row where it was tried if
  *                     it takes none), how many rows it takes, and for each measure two numbers: 1 and the result, or
- *                     0 and 0 for null. That is matches * MIRELADLE_MATCH_LENGTH(measures) numbers.
+ *                     0 and 0 for null; over no rows all but COUNT are null. That is
+ *                     matches * MIRELADLE_MATCH_LENGTH(measures) numbers.
  *                     labels: the letters, 'A' to 'Z', of the matches' rows, match behind match; no byte 0 ends them.
  *                     notes: bit (position * P + place), the lowest bit of a byte first, is 1 exactly if that pair
  *                     was entered and failed. Spare bits of the last byte used are 0.
@@ -165,13 +171,15 @@ struct mireladle_room mireladle_room(const uint8_t *query, size_t query_len, con
  * A comparison is: left column; left offset, a signed byte of -64 (64 rows back) to 64 (64 rows on); operator, 1 equal,
  * 2 unequal, 3 less, 4 at most, 5 greater, 6 at least; right kind, 0 a number, 1 a column plus a number; right column;
  * right offset; two reserved bytes; the number, signed, 4 bytes. With right kind 0 the right column and offset are 0.
- * The sum is exact. A comparison that looks at a row which is not there is not met, not even by "unequal". A letter
- * holds at a row where all its comparisons are met; a letter without DEFINE holds at every row.
+ * The sum is exact. An offset may lead out of the match, to any row handed over; a comparison that looks at a row which
+ * is not there is not met, not even by "unequal". A letter holds at a row where all its comparisons are met; a letter
+ * without DEFINE holds at every row. DEFINEs stand in any order, also for letters that the pattern does not have.
  *
  * A pattern is made of letters, ^ (before the first row), $ (behind the last row), () (nothing), sequences, branches
- * parted by |, parentheses, and the quantifiers * + ? {n} {n,} {,m} {n,m}, greedy, or reluctant with a ? directly
- * behind them. Bounds are 0 to 99, without leading zero; an upper bound is at least 1 and not below the lower one, and
- * n in {n} is at least 1. Spaces may stand between these, but not inside the braces, and have to stand between letters.
+ * parted by |, the left one tried first, parentheses, and the quantifiers * + ? {n} {n,} {,m} {n,m}, greedy, or
+ * reluctant with a ? directly behind them. No quantifier stands on another without parentheses, and no text or branch
+ * is empty. Bounds are 0 to 99, without leading zero; an upper bound is at least 1 and not below the lower one, and n
+ * in {n} is at least 1. Spaces may stand between these, but not inside the braces, and have to stand between letters.
  */
 
 #ifdef __cplusplus
