@@ -34,6 +34,11 @@
 //! # Ok::<(), mireladle::Error>(())
 //! ```
 //!
+//! # Linking
+//!
+//! The build looks for `libmireladle_c.a` in `../target/staticlib` beside this package, where `rt staticlib mireladle_c`
+//! puts it, or in the folder that the environment variable `MIRELADLE_LIB` names. It is for x86-64 Linux.
+//!
 //! # Promises
 //!
 //! No input makes this crate panic. A query or rows that the library refuses become an [`Error`] with the number and

@@ -54,9 +54,9 @@ impl QueryBuilder {
     /// The pattern's text, at most 256 bytes; a later one replaces an earlier one.
     ///
     /// It is made of letters `A` to `Z`, `^` (before the first row), `$` (behind the last row), `()` (nothing),
-    /// branches parted by `|`, parentheses up to 8 deep, and the quantifiers `*`, `+`, `?`, `{n}`, `{n,}`, `{,m}` and
-    /// `{n,m}`. These take as many rows as they can; with a `?` directly behind them, as few. Spaces may stand between
-    /// all these, and two letters must have one between them.
+    /// branches parted by `|`, the left one tried first, parentheses up to 8 deep, and the quantifiers `*`, `+`, `?`,
+    /// `{n}`, `{n,}`, `{,m}` and `{n,m}` with bounds up to 99. These take as many rows as they can; with a `?` directly
+    /// behind them, as few. Spaces may stand between all these, and two letters must have one between them.
     pub fn pattern(mut self, text: impl Into<String>) -> Self {
         self.pattern = Some(text.into());
         self
@@ -201,7 +201,8 @@ impl Query {
         self.places
     }
 
-    /// Searches rows for all matches, with room for all of them.
+    /// Searches rows for all matches, with room for all of them. A match is looked for at one row after the other, but
+    /// not behind the last: without rows there is none.
     ///
     /// # Errors
     ///
