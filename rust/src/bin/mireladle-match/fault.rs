@@ -67,7 +67,7 @@ impl fmt::Display for Marked<'_> {
         // A tab in front of the mark is kept, so that the mark stays under its place.
         let before = line.chars().take(self.fault.column.saturating_sub(1));
         let gap: String = before.map(|c| if c == '\t' { '\t' } else { ' ' }).collect();
-        write!(f, "\n    {line}\n    {gap}^")
+        write!(f, "\n    {}\n    {gap}^", visible(line))
     }
 }
 
@@ -77,15 +77,25 @@ pub fn column_of(line: &str, last: &str) -> usize {
     before.saturating_add(1)
 }
 
+/// A text with a mark for each control character but a tab, which would upset a screen.
+pub fn visible(text: &str) -> String {
+    let seen = |c: char| match c.is_control() && c != '\t' {
+        true => char::REPLACEMENT_CHARACTER,
+        false => c,
+    };
+    text.chars().map(seen).collect()
+}
+
 /// A piece of text as a fault shows it: quoted, and cut if it is long.
 pub fn shown(text: &str) -> String {
     const LONGEST: usize = 40;
     match text.chars().count() {
         0 => String::from("nothing"),
         length if length > LONGEST => {
-            format!("`{}...`", text.chars().take(LONGEST).collect::<String>())
+            let cut: String = text.chars().take(LONGEST).collect();
+            format!("`{}...`", visible(&cut))
         }
-        _ => format!("`{text}`"),
+        _ => format!("`{}`", visible(text)),
     }
 }
 
@@ -104,6 +114,19 @@ mod tests {
         assert_eq!(
             fault.marked("one\nA\t x\n").to_string(),
             "\n    A\t x\n     \t ^"
+        );
+    }
+
+    #[test]
+    fn a_control_character_does_not_reach_the_screen() {
+        let fault = Fault::new(1, 3, "this", shown("a\r\u{1B}[31m"));
+        assert_eq!(
+            fault.to_string(),
+            "1:3: expected this, found `a\u{FFFD}\u{FFFD}[31m`"
+        );
+        assert_eq!(
+            fault.marked("a\rb\0\n").to_string(),
+            "\n    a\u{FFFD}b\u{FFFD}\n      ^"
         );
     }
 

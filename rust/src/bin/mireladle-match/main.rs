@@ -24,7 +24,7 @@ use std::process::ExitCode;
 use mireladle::{Error, Query, Report, Rows};
 
 use csv::Table;
-use fault::Fault;
+use fault::{shown, visible, Fault};
 use print::Printed;
 use program::Failed;
 use query_text::{QueryText, Shown};
@@ -290,7 +290,10 @@ fn search_by_program(
         Failed::TooLarge => strange(String::from(
             "too large: expected a query of at most 4,096 bytes, 8,192 entries and 16,000 pairs",
         )),
-        Failed::Line(line) => strange(format!("expected the lines of a report, found `{line}`")),
+        Failed::Line(line) => strange(format!(
+            "expected the lines of a report, found {}",
+            shown(&line)
+        )),
     })
 }
 
@@ -334,7 +337,7 @@ fn refusal(error: Error, line: Option<&(PathBuf, Shown)>) -> String {
         .number()
         .map_or(String::new(), |number| format!(" {number}"));
     let place = line.map_or(String::new(), |(path, Shown { number, text })| {
-        format!("\n{}:{number}: {text}", path.display())
+        format!("\n{}:{number}: {}", path.display(), visible(text))
     });
     let mark = match (error, line) {
         (Error::NotAPattern, Some((path, shown))) => pattern_mark(path, shown),
