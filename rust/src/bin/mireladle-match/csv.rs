@@ -39,12 +39,11 @@ pub fn read(text: &str) -> Result<Table, Fault> {
     for (line, row) in lines {
         let fields = fields(line, row)?;
         if fields.len() < names.len() {
-            return Err(Fault::new(
-                line,
-                column_of(row, ""),
-                count(&names),
-                fields.len().to_string(),
-            ));
+            let found = match row.trim().is_empty() {
+                true => String::from("an empty line"),
+                false => fields.len().to_string(),
+            };
+            return Err(Fault::new(line, column_of(row, ""), count(&names), found));
         }
         for (index, field) in fields.iter().enumerate() {
             entries.push(entry(line, field, index, &names)?);
@@ -202,6 +201,10 @@ mod tests {
         assert_eq!(
             fault("a,b\n1"),
             "2:2: expected as many entries as there are names, 2, found 1"
+        );
+        assert_eq!(
+            fault("a,b\n1,2\n\n3,4"),
+            "3:1: expected as many entries as there are names, 2, found an empty line"
         );
         assert_eq!(
             fault("a,b\n1,2,3"),
