@@ -22,7 +22,10 @@ pub fn column(words: &mut Words, names: &[String]) -> Result<u8, Fault> {
     let index = index
         .filter(|index| *index < names.len())
         .and_then(|index| u8::try_from(index).ok());
-    let index = index.ok_or_else(|| words.fault(one_of_the_columns(names)))?;
+    let index = index.ok_or_else(|| match words.peek() {
+        Word::Other('"') => words.fault("a closing quote behind this one"),
+        _ => words.fault(one_of_the_columns(names)),
+    })?;
     words.pass();
     Ok(index)
 }

@@ -56,7 +56,10 @@ fn right_side(words: &mut Words, names: &[String]) -> Result<Operand, Fault> {
         }
         return Ok(Operand::from(number(words, negative)?));
     }
-    if !matches!(words.peek(), Word::Name(_) | Word::Quoted(_)) {
+    if !matches!(
+        words.peek(),
+        Word::Name(_) | Word::Quoted(_) | Word::Other('"')
+    ) {
         let expected = format!("a whole number or {}", one_of_the_columns(names));
         return Err(words.fault(expected));
     }

@@ -240,7 +240,7 @@ fn faults_of_comparisons() {
     );
     assert_eq!(
         fault("A: \"base number = 1"),
-        format!("2:4: expected {columns}, found '\"'")
+        "2:4: expected a closing quote behind this one, found '\"'"
     );
     assert_eq!(
         fault("A: 3 = c0"),
