@@ -1,42 +1,31 @@
 -- The room of every query is small: P is at most 256 and n at most 4,096, so that the pairs fit 64 bits.
 use mathlib.Core.Path.{_≡_, refl}
 use mathlib.Core.Bool.{Bool, true, false, not}
-use mathlib.Core.List.{List, [], _∷_}
-use Prim.Native.Nat.{ℕ, suc, _+_, _*_, _%_, _≤_}
+use mathlib.Core.List.{List, [], _∷_, _++_}
+use Prim.Native.Nat.{ℕ, _+_, _*_, _%_, _≤_}
 use native.Mathlib.Nat.{mul-le-mul}
 use native.Mathlib.Omega.{arith}
 use lib.Dec.{eqb, ltb}
 use lib.IntN.{ℤ}
-use lib.ListN.{length}
+use lib.ListN.{length, getD}
 use borrow.Author.Tests.{ltb-false, eqb-true}
 use Rattle.rules.specs.Basics.{pick}
-use Rattle.rules.specs.Answers.{tooDeep, treeIn, noTree, hasEmptyLoop, P, tooMany, foreign, badRows, lowest, queryTests, roomAnswer, roomOf, Room}
-use Rattle.rules.specs.Query.{cut, misplaced, unfit, doubled, columnsOf}
+use Rattle.rules.specs.Answers.{treeIn, P, tooMany, badRows, queryTests, roomAnswer, roomOf, Room}
+use Rattle.rules.specs.Query.{columnsOf}
 use Rattle.rules.specs.Rows.{tableOf}
 use Rattle.rules.proofs.Level.{or-false}
+use Rattle.rules.proofs.Lowest.{none-true}
 
 pub record Small (r : Room) : Type 0 where
   pub places : r .places ≤ 256
   pub rows : r .rows ≤ 4096
 
--- where the lowest of the tests that is true has no number, the first is not true, and so on
-next : (k : ℕ) (b : Bool) (bs : List Bool) → lowest (suc k) (b ∷ bs) ≡ 0 → (b ≡ false) × (lowest (suc (suc k)) bs ≡ 0)
-unfolding lowest
-next k true bs e = absurd (omega arith)
-next k false bs e = (refl, e)
-
-seven : (a b c d e f : Bool) (rest : List Bool) → lowest 1 (a ∷ b ∷ c ∷ d ∷ e ∷ f ∷ rest) ≡ 0 → lowest 7 rest ≡ 0
-seven a b c d e f rest z =
-    next 5 f _ (next 4 e _ (next 3 d _ (next 2 c _ (next 1 b _ (next 0 a _ z .1) .1) .1) .1) .1) .1
-
-no-test : (a b c d e f g h i j : Bool) → lowest 1 (a ∷ b ∷ c ∷ d ∷ e ∷ f ∷ g ∷ h ∷ i ∷ j ∷ []) ≡ 0 → (g ≡ false) × (j ≡ false)
-no-test a b c d e f g h i j z =
-    let y = next 6 g _ (seven a b c d e f _ z) in
-    (y .0, next 9 j _ (next 8 i _ (next 7 h _ (y .1) .1) .1) .0)
-
+-- where the room's answer is 0, the tests for answers 7 and 10 are not true
 clear : (q : List ℕ) (rows : List ℤ) → roomAnswer q (badRows q rows) ≡ 0 → (tooMany (treeIn q) ≡ false) × (badRows q rows ≡ false)
 unfolding roomAnswer queryTests
-clear q rows = no-test (cut q) (misplaced q) (unfit q) (tooDeep q) (noTree (treeIn q)) (hasEmptyLoop (treeIn q)) (tooMany (treeIn q)) (doubled q) (foreign q) (badRows q rows)
+clear q rows e =
+    let no : (i : ℕ) → getD (queryTests q ++ (badRows q rows ∷ [])) i false ≡ false = none-true 1 (queryTests q ++ (badRows q rows ∷ [])) (omega arith) e in
+    (no 6, no 9)
 
 few-places : (q : List ℕ) → tooMany (treeIn q) ≡ false → P (treeIn q) ≤ 256
 unfolding tooMany

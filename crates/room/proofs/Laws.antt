@@ -10,17 +10,18 @@ use native.Mathlib.Omega.{arith}
 use lib.Dec.{eqb, ltb}
 use lib.IntN.{ℤ}
 use borrow.Author.Tests.{ltb-true, ltb-false, lt-ltb, le-ltb, ne-eqb, not-true, not-false}
-use mathlib.Core.Logic.{_⊎_, inl, inr}
-use mathlib.Core.Option.{Option, none, some}
+use mathlib.Core.Option.{some}
 use Rattle.rules.specs.Basics.{pick, inRange, isLetter, every, has, tabulate}
 use Rattle.rules.specs.Query.{Measure, functionFits, cut, misplaced, unfit, doubled, columnsOf, textOf, parts}
 use Rattle.rules.specs.Language.{Tree, pattern, letters, Written}
-use Rattle.rules.specs.Answers.{deep, tooDeep, treeIn, noTree, hasEmptyLoop, tooMany, P, lettersIn, foreign, lowest, queryTests, badRows, roomAnswer, roomOf}
+use Rattle.rules.specs.Answers.{tooDeep, treeIn, noTree, hasEmptyLoop, tooMany, P, lettersIn, foreign, lowest, queryTests, badRows, roomAnswer, roomOf}
 use Rattle.rules.specs.Answers as A
 use Rattle.rules.specs.Rows.{tableOf}
+use Rattle.rules.proofs.Accepted.{tree-of}
 use Rattle.rules.proofs.Bounds.{letters-of-text}
 use Rattle.rules.proofs.Choice.{clash, and-left, and-right}
 use Rattle.rules.proofs.Grammar.{tree-exactly}
+use Rattle.rules.proofs.Lowest.{lowest-before, lowest-after, none-true}
 use Rattle.query.specs.Read.{firstAnswer}
 use Rattle.rules.specs.Reader.{treeOf}
 use Rattle.decode.specs.declared.Parts.{Parts}
@@ -108,73 +109,36 @@ module _ (text measures : List ℕ) (count : ℕ) where
 
 -- ---- the answer from its parts
 
--- the first of three tests that is true, or else what follows
-abbrev three : Bool → Bool → Bool → ℕ → ℕ
-three a b c n = pick a 1 (pick b 2 (pick c 3 n))
+-- the tests for answers 1 to 3, and those for 4 to 9
+abbrev firstTests : List ℕ → List Bool
+firstTests s = cut s ∷ misplaced s ∷ unfit s ∷ []
+
+abbrev laterTests : List ℕ → List Bool
+laterTests s = tooDeep s ∷ noTree (treeIn s) ∷ hasEmptyLoop (treeIn s) ∷ tooMany (treeIn s) ∷ doubled s ∷ foreign s ∷ []
 
 -- with no answer 1 to 3, the answer is the lowest of 4 to 9
-pub later : (s : List ℕ) → firstAnswer s ≡ 0
-    → queryAnswer s ≡ lowest 4 (tooDeep s ∷ noTree (treeIn s) ∷ hasEmptyLoop (treeIn s) ∷ tooMany (treeIn s) ∷ doubled s ∷ foreign s ∷ [])
-unfolding queryAnswer queryTests firstAnswer
-later s e = go (cut s) (misplaced s) (unfit s) e
-  where
-    rest : List Bool
-    rest = tooDeep s ∷ noTree (treeIn s) ∷ hasEmptyLoop (treeIn s) ∷ tooMany (treeIn s) ∷ doubled s ∷ foreign s ∷ []
-
-    go : (a b c : Bool) → three a b c 0 ≡ 0 → lowest 1 (a ∷ b ∷ c ∷ rest) ≡ lowest 4 rest
-    go true b c q = absurd (omega arith)
-    go false true c q = absurd (omega arith)
-    go false false true q = absurd (omega arith)
-    go false false false q = refl
+later : (s : List ℕ) → firstAnswer s ≡ 0 → queryAnswer s ≡ lowest 4 (laterTests s)
+unfolding queryAnswer queryTests firstAnswer lowest
+later s e = lowest-after 1 (firstTests s) (laterTests s) (omega arith) e
 
 -- an answer 1 to 3 is the query's
 pub first-is : (s : List ℕ) → (firstAnswer s ≡ 0 → ⊥) → firstAnswer s ≡ queryAnswer s
 unfolding queryAnswer queryTests firstAnswer lowest
-first-is s d = go (cut s) (misplaced s) (unfit s) d
-  where
-    go : (a b c : Bool) → (three a b c 0 ≡ 0 → ⊥)
-        → three a b c 0 ≡ three a b c (lowest 4 (tooDeep s ∷ noTree (treeIn s) ∷ hasEmptyLoop (treeIn s) ∷ tooMany (treeIn s) ∷ doubled s ∷ foreign s ∷ []))
-    go true b c q = refl
-    go false true c q = refl
-    go false false true q = refl
-    go false false false q = absurd (q refl)
+first-is s d = sym (lowest-before 1 (firstTests s) (laterTests s) d)
 
 -- by the pattern's answer: where it is 4 to 7 it is the query's, and where it is 0 DEFINEs and measures decide
 pub by-text : (s : List ℕ) → firstAnswer s ≡ 0 → (textAnswer (textOf s) ≡ 0 → ⊥) → textAnswer (textOf s) ≡ queryAnswer s
-unfolding textAnswer textTests tooDeep treeIn lowest
-by-text s e d = go (tooDeep s) (noTree (treeIn s)) (hasEmptyLoop (treeIn s)) (tooMany (treeIn s)) d ∙ sym (later s e)
-  where
-    go : (a b c t : Bool) → (lowest 4 (a ∷ b ∷ c ∷ t ∷ []) ≡ 0 → ⊥) → lowest 4 (a ∷ b ∷ c ∷ t ∷ []) ≡ lowest 4 (a ∷ b ∷ c ∷ t ∷ doubled s ∷ foreign s ∷ [])
-    go true b c t q = refl
-    go false true c t q = refl
-    go false false true t q = refl
-    go false false false true q = refl
-    go false false false false q = absurd (q refl)
+unfolding textAnswer textTests tooDeep treeIn
+by-text s e d = sym (later s e ∙ lowest-before 4 (textTests (textOf s)) (doubled s ∷ foreign s ∷ []) d)
 
 pub by-parts : (s : List ℕ) → firstAnswer s ≡ 0 → textAnswer (textOf s) ≡ 0 → queryAnswer s ≡ pick (doubled s) 8 (pick (foreign s) 9 0)
 unfolding textAnswer textTests tooDeep treeIn lowest
-by-parts s e d = later s e ∙ go (tooDeep s) (noTree (treeIn s)) (hasEmptyLoop (treeIn s)) (tooMany (treeIn s)) d
-  where
-    go : (a b c t : Bool) → lowest 4 (a ∷ b ∷ c ∷ t ∷ []) ≡ 0 → lowest 4 (a ∷ b ∷ c ∷ t ∷ doubled s ∷ foreign s ∷ []) ≡ pick (doubled s) 8 (pick (foreign s) 9 0)
-    go true b c t q = absurd (omega arith)
-    go false true c t q = absurd (omega arith)
-    go false false true t q = absurd (omega arith)
-    go false false false true q = absurd (omega arith)
-    go false false false false q = refl
+by-parts s e d = later s e ∙ lowest-after 4 (textTests (textOf s)) (doubled s ∷ foreign s ∷ []) (omega arith) d
 
 -- a text whose answer is 0 has a tree
 pub has-tree : (s : List ℕ) → textAnswer (textOf s) ≡ 0 → (p : Tree pattern) × (treeIn s ≡ some p)
-unfolding textAnswer textTests lowest treeIn
-has-tree s d = tree (treeIn s) (go (deep 0 0 (textOf s)) (noTree (treeIn s)) (hasEmptyLoop (treeIn s)) (tooMany (treeIn s)) d)
-  where
-    go : (a b c t : Bool) → lowest 4 (a ∷ b ∷ c ∷ t ∷ []) ≡ 0 → b ≡ false
-    go true b c t q = absurd (omega arith)
-    go false true c t q = absurd (omega arith)
-    go false false c t q = refl
-
-    tree : (t : Option (Tree pattern)) → noTree t ≡ false → (p : Tree pattern) × (t ≡ some p)
-    tree none q = absurd (let z : _≡_ {A = ℕ} 0 1 = ap (λ (b : Bool). pick b 0 1) q in omega arith)
-    tree (some p) q = (p, refl)
+unfolding textAnswer textTests treeIn
+has-tree s d = tree-of (treeIn s) (none-true 4 (textTests (textOf s)) (omega arith) d 1)
 
 -- ---- measures' letters
 
@@ -314,33 +278,14 @@ module _ (s cells₀ : List ℕ) (offsets₀ numbers₀ : List ℤ) (measures₀
 
 -- ---- how much to lend
 
-lowest-not : (k : ℕ) (bs : List Bool) → 1 ≤ k → (lowest k bs ≡ 0) ⊎ (1 ≤ lowest k bs)
-unfolding lowest
-lowest-not k [] h = inl refl
-lowest-not k (true ∷ bs) h = inr h
-lowest-not k (false ∷ bs) h = lowest-not (suc k) bs (omega arith)
-
--- one test more, behind others
-lowest-none : (k : ℕ) (bs : List Bool) (b : Bool) → 1 ≤ k → lowest k bs ≡ 0 → lowest k (bs ++ (b ∷ [])) ≡ pick b (k + length bs) 0
-unfolding lowest
-lowest-none k [] b h e = let q : k + 0 ≡ k = omega arith in rw q
-lowest-none k (true ∷ bs) b h e = absurd (omega arith)
-lowest-none k (false ∷ bs) b h e = let q : k + suc (length bs) ≡ suc k + length bs = omega arith in rw q (lowest-none (suc k) bs b (omega arith) e)
-
-lowest-some : (k : ℕ) (bs : List Bool) (b : Bool) → (lowest k bs ≡ 0 → ⊥) → lowest k (bs ++ (b ∷ [])) ≡ lowest k bs
-unfolding lowest
-lowest-some k [] b d = absurd (d refl)
-lowest-some k (true ∷ bs) b d = refl
-lowest-some k (false ∷ bs) b d = lowest-some (suc k) bs b d
-
 -- the room's answer by the query's and the rows'
 room-refused : (q : List ℕ) (bad : Bool) → (queryAnswer q ≡ 0 → ⊥) → roomAnswer q bad ≡ queryAnswer q
 unfolding roomAnswer queryAnswer
-room-refused q bad d = lowest-some 1 (queryTests q) bad d
+room-refused q bad d = lowest-before 1 (queryTests q) (bad ∷ []) d
 
 room-by-rows : (q : List ℕ) (bad : Bool) → queryAnswer q ≡ 0 → roomAnswer q bad ≡ pick bad 10 0
-unfolding roomAnswer queryAnswer queryTests
-room-by-rows q bad e = lowest-none 1 (queryTests q) bad (omega arith) e
+unfolding roomAnswer queryAnswer queryTests lowest
+room-by-rows q bad e = lowest-after 1 (queryTests q) (bad ∷ []) (omega arith) e
 
 module _ (q cells₀ : List ℕ) (offsets₀ numbers₀ : List ℤ) (measures₀ room cells : List ℕ) (offsets numbers : List ℤ) (counts measures : List ℕ) (r : Query)
     (a : Asked q cells₀ offsets₀ numbers₀ measures₀ room cells offsets numbers counts measures r) (rows : List ℤ) where

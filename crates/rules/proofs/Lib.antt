@@ -35,6 +35,7 @@ pub mod QueryFuel
 pub mod Notes
 pub mod Noted
 pub mod NotesWritten
+pub mod Lowest
 pub mod Accepted
 pub mod Limits
 pub mod Appended

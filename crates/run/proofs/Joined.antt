@@ -1,7 +1,7 @@
 -- What joins the program's text to the search: which of the three texts a query and its row bytes get, by the answer that asks no lent buffer and by the
 -- number of pairs; that the search is then accepted; and that the report of its promise is the text asked for, in the room that is lent.
 use mathlib.Core.Path.{_≡_, refl, sym, ap, _∙_}
-use mathlib.Core.Bool.{Bool, true, false, not, _||_, true≢false}
+use mathlib.Core.Bool.{Bool, true, false, not, _||_}
 use mathlib.Core.List.{List, [], _∷_, _++_}
 use Prim.Native.Nat.{ℕ, zero, suc, _+_, _*_, _%_, _/_, _≤_, _<_}
 use native.Mathlib.Nat.{mul-le-mul}
@@ -9,7 +9,7 @@ use native.Mathlib.Numerals.{add-one}
 use native.Mathlib.Omega.{arith}
 use lib.Dec.{ltb, eqb}
 use lib.IntN.{ℤ}
-use lib.ListN.{length, getD, take, drop, length-append}
+use lib.ListN.{length, take, drop, length-append}
 use lib.Seq.{take-append-seam}
 use mir.Syntax.{w64}
 use mir.Val.{Fits}
@@ -22,7 +22,9 @@ use Rattle.rules.specs.Report.{bytesFor, numbersOf, labelsOf}
 use Rattle.rules.specs.Answers.{P, treeIn, tooMany, badRows, Task, taskOf, walked, Buffers, pairsOf, shortNotes, shortTrail, stopped, lowest, queryTests, answerBy, answerOf, roomAnswer, Room, roomOf, reportOf, walkReport, walkOf, Memory, accepted, searchOf}
 use Rattle.rules.specs.Program.{refusedText, tooLarge, searchText, rowsOf, printedFor}
 use Rattle.rules.proofs.Lists.{length-wrote}
-use Rattle.rules.proofs.Accepted.{Accepted, answer-is}
+use Rattle.rules.proofs.Accepted.{Accepted, done-or-stopped, answer-is}
+use Rattle.rules.proofs.Level.{or-false}
+use Rattle.rules.proofs.Lowest.{lowest-after, none-before, none-true, lowest-wider}
 use Rattle.rules.proofs.Limits.{limits, numbers-long}
 use Rattle.room.specs.declared.Size.{Size}
 use Rattle.room.specs.Reading.{asRoom}
@@ -31,48 +33,7 @@ use Rattle.text.specs.Report.{reportText}
 use Rattle.text.proofs.Printed.{report-printed}
 use Rattle.run.specs.Run.{Found}
 
--- ---- the lowest test that is true
-
--- none of the first is true: the others are numbered on
-lowest-skip : (k : ℕ) (bs cs : List Bool) → 0 < k → lowest k bs ≡ 0 → lowest k (bs ++ cs) ≡ lowest (k + length bs) cs
-unfolding lowest
-lowest-skip k [] cs h e = ap (λ (j : ℕ). lowest j cs) (let z : k ≡ k + 0 = omega arith in z)
-lowest-skip k (true ∷ bs) cs h e = absurd (omega arith)
-lowest-skip k (false ∷ bs) cs h e = lowest-skip (suc k) bs cs (omega arith) e ∙ ap (λ (j : ℕ). lowest j cs) (let z : suc k + length bs ≡ k + suc (length bs) = omega arith in z)
-
-lowest-none : (k : ℕ) (bs : List Bool) (b : Bool) → 0 < k → lowest k (bs ++ (b ∷ [])) ≡ 0 → (lowest k bs ≡ 0) × (b ≡ false)
-unfolding lowest
-lowest-none k [] true h e = absurd (omega arith)
-lowest-none k [] false h e = (refl, refl)
-lowest-none k (true ∷ bs) b h e = absurd (omega arith)
-lowest-none k (false ∷ bs) b h e = lowest-none (suc k) bs b (omega arith) e
-
--- then each of them is not
-none-true : (k : ℕ) (bs : List Bool) → 0 < k → lowest k bs ≡ 0 → (i : ℕ) → getD bs i false ≡ false
-unfolding lowest
-none-true k [] h e i = refl
-none-true k (true ∷ bs) h e i = absurd (omega arith)
-none-true k (false ∷ bs) h e zero = refl
-none-true k (false ∷ bs) h e (suc i) = none-true (suc k) bs (omega arith) e i
-
--- where some test is true, it does not matter that the last is widened
-lowest-wider : (k : ℕ) (bs : List Bool) (a b : Bool) → (lowest k (bs ++ (b ∷ [])) ≡ 0 → ⊥) → lowest k (bs ++ ((a || b) ∷ [])) ≡ lowest k (bs ++ (b ∷ []))
-unfolding lowest
-lowest-wider k [] true true d = refl
-lowest-wider k [] false b d = refl
-lowest-wider k [] true false d = absurd (d refl)
-lowest-wider k (true ∷ bs) a b d = refl
-lowest-wider k (false ∷ bs) a b d = lowest-wider (suc k) bs a b d
-
-or-none : (a b : Bool) → (a || b) ≡ false → b ≡ false
-or-none true b e = absurd (true≢false e)
-or-none false b e = e
-
--- the answer behind nine tests that are not true
-done-or-stopped : (s : Bool) → inRange 1 12 (lowest 10 (false ∷ false ∷ false ∷ s ∷ [])) ≡ false
-unfolding lowest inRange
-done-or-stopped true = refl
-done-or-stopped false = refl
+-- ---- what is lent is enough
 
 module _ (q : List ℕ) (rows : List ℤ) (lent : Buffers) (h : pairsOf q rows ≤ 16000) where
   enough-notes : 2000 ≤ length (lent .notes) → shortNotes q rows lent ≡ false
@@ -88,11 +49,11 @@ module _ (q : List ℕ) (rows : List ℤ) (lent : Buffers) (h : pairsOf q rows �
 module _ (q : List ℕ) (rows : List ℤ) (none : roomAnswer q (badRows q rows) ≡ 0) where
   pub no-query-answer : lowest 1 (queryTests q) ≡ 0
   unfolding roomAnswer
-  no-query-answer = lowest-none 1 (queryTests q) (badRows q rows) (omega arith) none .0
+  no-query-answer = none-before 1 (queryTests q) (badRows q rows ∷ []) (λ lo hi. omega arith)
 
   whole-rows : badRows q rows ≡ false
-  unfolding roomAnswer
-  whole-rows = lowest-none 1 (queryTests q) (badRows q rows) (omega arith) none .1
+  unfolding roomAnswer queryTests
+  whole-rows = none-true 1 (queryTests q ++ (badRows q rows ∷ [])) (omega arith) none 9
 
   few-places : P (treeIn q) ≤ 256
   unfolding queryTests tooMany
@@ -100,16 +61,16 @@ module _ (q : List ℕ) (rows : List ℤ) (none : roomAnswer q (badRows q rows) 
 
   few-rows : tableOf (columnsOf q) rows .n ≤ 4096
   unfolding badRows
-  few-rows = ltb-false _ _ (or-none (not (eqb (length rows % columnsOf q) 0)) _ whole-rows)
+  few-rows = ltb-false _ _ (or-false (not (eqb (length rows % columnsOf q) 0)) _ whole-rows .1)
 
   -- with notes of 2,000 bytes and a trail of 16,000 numbers the search is accepted
   pub room-accepts : (lent : Buffers) → 2000 ≤ length (lent .notes) → 16000 ≤ length (lent .trail) → pairsOf q rows ≤ 16000 → Accepted q rows lent
-  unfolding answerOf answerBy queryTests
+  unfolding answerOf answerBy queryTests lowest
   room-accepts lent hn ht h =
       let n : shortNotes q rows lent ≡ false = enough-notes q rows lent h hn in
       let t : shortTrail q rows lent ≡ false = enough-trail q rows lent h ht in
       let rest : List Bool = badRows q rows ∷ shortNotes q rows lent ∷ shortTrail q rows lent ∷ stopped (walkOf q rows lent) ∷ [] in
-      let k = lowest-skip 1 (queryTests q) rest (omega arith) no-query-answer in
+      let k = lowest-after 1 (queryTests q) rest (omega arith) no-query-answer in
       ap (inRange 1 12) k ∙ rw (whole-rows, n, t) (done-or-stopped (stopped (walkOf q rows lent)))
 
 -- ---- the ways of a query with its row bytes r: their whole numbers are the first k of an array, and z is what `room` says of the query and of these
@@ -191,7 +152,7 @@ module _ (q r : List ℕ) (l array : List ℤ) (k : ℕ) (filled : array ≡ wro
     pub query-ragged : (o m : List ℕ) (b : ℕ) → (length r % 4 ≡ 0 → ⊥) → Put o 0 (refusedText 10) m b → Put o 0 (printedFor q r) m b
     unfolding roomAnswer queryTests lowest
     query-ragged o m b d p =
-        let w : roomAnswer q bad ≡ 10 = rw (ne-eqb (length r % 4) 0 d) (lowest-skip 1 (queryTests q) (true ∷ []) (omega arith) (no-query-answer q rows no-answer)) in
+        let w : roomAnswer q bad ≡ 10 = rw (ne-eqb (length r % 4) 0 d) (lowest-after 1 (queryTests q) (true ∷ []) (omega arith) (no-query-answer q rows no-answer)) in
         rw (prints, w) p
 
     module _ (w : length r % 4 ≡ 0) where

@@ -1,7 +1,7 @@
 -- The search's answers: one law for each way through `search`. The answer is the lowest of the rules' thirteen tests.
 use mathlib.Core.Path.{_≡_, refl, ap, ap₂, sym, _∙_}
 use mathlib.Core.Bool.{Bool, true, false, not, _&&_, _||_, true≢false}
-use mathlib.Core.List.{List, [], _∷_, _++_}
+use mathlib.Core.List.{List, [], _∷_}
 use mathlib.Core.Option.{Option, none, some}
 use Prim.Native.Nat.{ℕ, zero, suc, _+_, _-_, _*_, _/_, _%_, _≤_, _<_}
 use native.Mathlib.Nat.{mul-le-mul, div-add-mod'}
@@ -13,43 +13,21 @@ use lib.ListN.{length, getD}
 use borrow.Author.Tests.{lt-ltb, le-ltb, le-leb, ltb-false, ne-eqb, eq-eqb}
 use Rattle.rules.specs.Basics.{pick, inRange}
 use Rattle.rules.specs.Rows.{tableOf}
-use Rattle.rules.specs.Query.{cut, misplaced, unfit, doubled, columnsOf, parts}
+use Rattle.rules.specs.Query.{columnsOf, parts}
 use Rattle.rules.specs.Language.{Tree, pattern, emptyLoop}
 use Rattle.rules.specs.Places.{placesOf}
 use Rattle.rules.specs.Walk.{pairs}
 use Rattle.rules.specs.Report.{bytesFor}
-use Rattle.rules.specs.Answers.{tooDeep, treeIn, noTree, hasEmptyLoop, P, tooMany, foreign, badRows, Buffers, Memory, taskOf, pairsOf, shortNotes, shortTrail, stopped, lowest, queryTests, answerBy, answerOf, walkOf, walkReport, reportOf, refused, accepted, searchOf}
+use Rattle.rules.specs.Answers.{treeIn, hasEmptyLoop, P, tooMany, badRows, Buffers, Memory, taskOf, pairsOf, shortNotes, shortTrail, stopped, lowest, queryTests, answerBy, answerOf, walkOf, walkReport, reportOf, refused, accepted, searchOf}
+use Rattle.rules.proofs.Accepted.{done-or-stopped}
 use Rattle.rules.proofs.Demands.{demands}
+use Rattle.rules.proofs.Lowest.{lowest-range, lowest-before, lowest-after, none-true}
 use Rattle.room.specs.Reading.{queryAnswer, GoodParts, Whole, Asked}
 use Rattle.room.specs.declared.Query.{Query}
 use Rattle.search.specs.declared.Outcome.{Outcome}
 use Rattle.search.specs.Promise.{lent, memory, refusal, ended, Promised, Walks}
 
--- ---- the lowest of tests
-
-lowest-after : (k : ℕ) (bs cs : List Bool) → 1 ≤ k → lowest k bs ≡ 0 → lowest k (bs ++ cs) ≡ lowest (k + length bs) cs
-unfolding lowest
-lowest-after k [] cs h e = let q : k + 0 ≡ k = omega arith in rw q
-lowest-after k (true ∷ bs) cs h e = absurd (omega arith)
-lowest-after k (false ∷ bs) cs h e = let q : k + suc (length bs) ≡ suc k + length bs = omega arith in rw q (lowest-after (suc k) bs cs (omega arith) e)
-
-lowest-before : (k : ℕ) (bs cs : List Bool) → (lowest k bs ≡ 0 → ⊥) → lowest k (bs ++ cs) ≡ lowest k bs
-unfolding lowest
-lowest-before k [] cs d = absurd (d refl)
-lowest-before k (true ∷ bs) cs d = refl
-lowest-before k (false ∷ bs) cs d = lowest-before (suc k) bs cs d
-
-lowest-range : (k : ℕ) (bs : List Bool) → (lowest k bs ≡ 0 → ⊥) → (k ≤ lowest k bs) × (lowest k bs < k + length bs)
-unfolding lowest
-lowest-range k [] d = absurd (d refl)
-lowest-range k (true ∷ bs) d = (omega arith, omega arith)
-lowest-range k (false ∷ bs) d = let r = lowest-range (suc k) bs d in (omega (arith, r .0), omega (arith, r .1))
-
--- neither 0 nor 13 is a refusal
-outside : (b : Bool) → inRange 1 12 (pick b 13 0) ≡ false
-unfolding inRange
-outside true = refl
-outside false = refl
+-- ---- the answers
 
 module _ (q : List ℕ) (rows : List ℤ) (notes trail : List ℕ) (numbers : List ℤ) (labels : List ℕ) where
   abbrev before : Buffers
@@ -100,7 +78,7 @@ module _ (q : List ℕ) (rows : List ℤ) (notes trail : List ℕ) (numbers : Li
     unfolding lowest searchOf ended walkReport
     search-ended f g h m e =
         let x : answerOf q rows before ≡ pick (stopped (walkOf q rows before)) 13 0 = the-answer-after z ∙ rw (f, g, h) in
-        let y : inRange 1 12 (answerOf q rows before) ≡ false = ap (inRange 1 12) x ∙ outside (stopped (walkOf q rows before)) in
+        let y : inRange 1 12 (answerOf q rows before) ≡ false = ap (inRange 1 12) x ∙ done-or-stopped (stopped (walkOf q rows before)) in
         record { whole = e ∙ sym (rw y (ap (λ (n : ℕ). accepted (reportOf n (taskOf q rows) before (walkOf q rows before)) (walkOf q rows before .state) before) x)); demands = demands q rows before }
 
 -- ---- what reading gives
@@ -111,18 +89,10 @@ pub record ClearQuery (q : List ℕ) : Type 0 where
   pub many : tooMany (treeIn q) ≡ false
 
 pub clear-query : (q : List ℕ) → queryAnswer q ≡ 0 → ClearQuery q
-unfolding queryAnswer queryTests lowest
-clear-query q e = go (cut q) (misplaced q) (unfit q) (tooDeep q) (noTree (treeIn q)) (hasEmptyLoop (treeIn q)) (tooMany (treeIn q)) refl refl e
-  where
-    go : (a b c d f g h : Bool) → hasEmptyLoop (treeIn q) ≡ g → tooMany (treeIn q) ≡ h → lowest 1 (a ∷ b ∷ c ∷ d ∷ f ∷ g ∷ h ∷ doubled q ∷ foreign q ∷ []) ≡ 0 → ClearQuery q
-    go true b c d f g h x y z = absurd (omega arith)
-    go false true c d f g h x y z = absurd (omega arith)
-    go false false true d f g h x y z = absurd (omega arith)
-    go false false false true f g h x y z = absurd (omega arith)
-    go false false false false true g h x y z = absurd (omega arith)
-    go false false false false false true h x y z = absurd (omega arith)
-    go false false false false false false true x y z = absurd (omega arith)
-    go false false false false false false false x y z = record { loop = x; many = y }
+unfolding queryAnswer queryTests
+clear-query q e =
+    let no : (i : ℕ) → getD (queryTests q) i false ≡ false = none-true 1 (queryTests q) (omega arith) e in
+    record { loop = no 5; many = no 6 }
 
 module _ (q cells₀ : List ℕ) (offsets₀ numbers₀ : List ℤ) (measures₀ room cells : List ℕ) (offsets constants : List ℤ) (counts measures : List ℕ) (r : Query)
     (a : Asked q cells₀ offsets₀ numbers₀ measures₀ room cells offsets constants counts measures r) (z : r .answer ≡ 0) (rows : List ℤ) where
