@@ -5,9 +5,9 @@ mod common;
 
 use common::*;
 use reference::generate::damage::{damage, damage_twice};
-use reference::generate::draft::{self, Numbers, MIDDLE, SMALL};
-use reference::generate::scramble::scrambled;
-use reference::generate::{mix, stdin, texts, Random};
+use reference::generate::draft::{self, Draft, Numbers, MIDDLE, SMALL};
+use reference::generate::scramble::{every_byte, scrambled};
+use reference::generate::{limits, mix, stdin, texts, Random};
 use reference::pattern;
 use reference::program::program;
 use reference::search;
@@ -120,4 +120,27 @@ fn scrambled_queries_are_refused_in_many_ways_or_accepted() {
     for answer in [0, 1, 2, 3, 5, 8, 9, 10] {
         assert!(answers[answer] > 20, "{answers:?}");
     }
+}
+
+#[test]
+fn every_byte_at_every_value() {
+    let query = Draft::new(1, b"A", Vec::new()).query();
+    let made: BTreeSet<Vec<u8>> = every_byte(query.clone()).collect();
+    // The query itself, and all that differ from it in one byte.
+    assert_eq!(made.len(), 1 + 255 * query.len());
+    assert!(made.contains(&query));
+}
+
+#[test]
+fn the_largest_searches_are_accepted() {
+    let mut places = BTreeSet::new();
+    for draft in limits::of_large_searches() {
+        let (answer, p, n) = search::room(&draft.query(), &draft.rows);
+        assert_eq!((answer, n), (0, 4096));
+        places.insert(p);
+    }
+    assert!(places.contains(&256));
+    let most = limits::with_most_records();
+    assert_eq!(search::room(&most.query(), &most.rows).0, 0);
+    assert_eq!(most.needs()[3], 32);
 }

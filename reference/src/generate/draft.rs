@@ -328,7 +328,8 @@ pub enum Numbers {
     Extreme,
 }
 
-const EXTREME: [i32; 9] = [
+/// At the ends and about the middle, and two whose four bytes all differ.
+const EXTREME: [i32; 11] = [
     i32::MIN,
     i32::MIN + 1,
     i32::MIN / 2,
@@ -338,6 +339,8 @@ const EXTREME: [i32; 9] = [
     i32::MAX / 2,
     i32::MAX - 1,
     i32::MAX,
+    0x0102_0304,
+    -0x0102_0304,
 ];
 
 fn number(random: &mut Random, numbers: Numbers) -> i32 {

@@ -79,8 +79,14 @@ pub fn limit_texts() -> Vec<Vec<u8>> {
         limit.push([&b"A|".repeat((length - 1) / 2), &b"A"[..]].concat());
         limit.push([&b"x".repeat(length - 9), &b"(".repeat(9)[..]].concat());
     }
-    let ways = [&b"(("[..], &b"()|".repeat(81), b"()){85}){3}"].concat();
-    limit.push(ways);
+    // A tree of about two nodes to a byte, in texts and queries of many lengths.
+    for length in (64..=248).step_by(8) {
+        limit.push(b"^".repeat(length));
+    }
+    // Forks with many ways, all but one or two of which are the same.
+    limit.push([&b"(("[..], &b"()|".repeat(81), b"()){85}){3}"].concat());
+    limit.push([&b"("[..], &b"()|".repeat(81), b"A){99}"].concat());
+    limit.push([&b"(A"[..], &b"|()".repeat(81), b"){99}"].concat());
     limit
 }
 
@@ -106,7 +112,35 @@ fn of_records() -> Vec<Draft> {
         let rows = (0..4 * i32::from(columns.max(1))).collect();
         drafts.push(Draft::new(columns, b"A+", rows).measure(2, b'A', columns.saturating_sub(1)));
     }
+    drafts.push(with_most_records());
     drafts
+}
+
+/// The most of all: 256 bytes of text, 26 DEFINEs of 8 comparisons, 8 measures and
+/// 8 columns. Column 0 says which letter holds; the other comparisons hold where
+/// they read exactly what they should, up to 64 rows to either side.
+pub fn with_most_records() -> Draft {
+    let letters: Vec<String> = (b'A'..=b'Z').map(|it| char::from(it).to_string()).collect();
+    let mut text = format!("({})+", letters.join("|")).into_bytes();
+    text.resize(256, b' ');
+    let entry = |row: i32, column: i32| match column {
+        0 => row % 26,
+        _ => 1_000 * row + column,
+    };
+    let rows = (0..160).flat_map(|row| (0..8).map(move |column| entry(row, column)));
+    let mut draft = Draft::new(8, &text, rows.collect());
+    let offsets = [-64, 64, -1, 1, 0, 63, -63];
+    for index in 0..26 {
+        let mut comparisons = vec![with_number(0, 0, 1, index.into())];
+        for (column, offset) in (1..8).zip(offsets) {
+            let more = entry(offset.into(), column.into()) - entry(0, 7);
+            comparisons.push(with_column((column, offset), 1, (7, 0), more));
+        }
+        draft = draft.define(b'A' + index, &comparisons);
+    }
+    (0..8).fold(draft, |draft, column| {
+        draft.measure(6 - column % 5, b'Z' - column, column)
+    })
 }
 
 fn with_defines(count: u8) -> Draft {
@@ -116,7 +150,8 @@ fn with_defines(count: u8) -> Draft {
     })
 }
 
-/// Every offset from -65 to 65, left and right, on rows on both sides of it.
+/// Every offset from -65 to 65, left, right and on both sides, on rows on both
+/// sides of it.
 fn of_offsets() -> Vec<Draft> {
     let mut drafts = Vec::new();
     for offset in -65..=65i8 {
@@ -127,8 +162,21 @@ fn of_offsets() -> Vec<Draft> {
             drafts.push(Draft::new(1, b"A", rows.clone()).define(b'A', &[left]));
             drafts.push(Draft::new(1, b"A", rows).define(b'A', &[right]));
         }
+        drafts.push(on_both_sides(offset));
     }
     drafts
+}
+
+/// Letters of one and of two comparisons that read the last of 8 columns so many
+/// rows back and ahead, and hold where they read exactly those entries.
+fn on_both_sides(offset: i8) -> Draft {
+    let ahead = 8 * i32::from(offset);
+    let both = with_column((7, offset), 1, (7, -offset), 2 * ahead);
+    let left = with_column((7, offset), 1, (0, 0), ahead + 7);
+    let right = with_column((0, 0), 1, (7, -offset), ahead - 7);
+    Draft::new(8, b"(A B)+", (0..8 * 132).collect())
+        .define(b'A', &[both])
+        .define(b'B', &[left, right])
 }
 
 /// Numbers of rows, and rows that are not whole.
@@ -144,12 +192,13 @@ fn of_rows() -> Vec<Draft> {
     drafts
 }
 
-/// The largest searches: pairs, matches with eight measures, labels.
-fn of_large_searches() -> Vec<Draft> {
+/// The largest searches: pairs, matches with eight measures, labels. None is
+/// refused.
+pub fn of_large_searches() -> Vec<Draft> {
     let mut drafts = vec![
         Draft::new(1, b"(A{51}){5}", ones(4096)),
-        Draft::new(1, b"(A|A){84,} B", ones(4096)).define(b'B', &[with_number(0, 0, 1, 0)]),
-        Draft::new(1, b"(A*){99} (A*){28} A $", ones(4096)),
+        Draft::new(1, b"(A|A){83,} B B", ones(4096)).define(b'B', &[with_number(0, 0, 1, 0)]),
+        Draft::new(1, b"(A*){99} (A*){27} A A $", ones(4096)),
         Draft::new(1, b"A*", ones(4096)),
         Draft::new(1, b"A*", ones(4096)).to_next_row(),
     ];

@@ -19,6 +19,18 @@ pub fn scrambled(random: &mut Random, query: &[u8]) -> Vec<u8> {
     bytes
 }
 
+/// The query with each of its bytes in turn at each value.
+pub fn every_byte(query: Vec<u8>) -> impl Iterator<Item = Vec<u8>> {
+    (0..query.len()).flat_map(move |at| {
+        let query = query.clone();
+        (0..=255).map(move |value| {
+            let mut bytes = query.clone();
+            bytes[at] = value;
+            bytes
+        })
+    })
+}
+
 /// Values at which some field or letter begins or ends.
 const EDGES: [u8; 20] = [
     0, 1, 2, 5, 6, 7, 8, 9, b' ', b'(', b')', b'*', b'?', b'A', b'B', b'Z', b'|', 64, 192, 255,

@@ -5,6 +5,10 @@
 use crate::engine::{Engine, Four, Reference};
 use crate::lent::Lent;
 use reference::generate::Input;
+use std::sync::atomic::{AtomicUsize, Ordering};
+
+/// How many calls were begun, for who watches that they come to their end.
+pub static CALLS: AtomicUsize = AtomicUsize::new(0);
 
 #[derive(Clone, Copy, Debug, PartialEq, Eq)]
 pub enum Call {
@@ -26,6 +30,7 @@ impl Case {
     }
 
     fn run_on(&self, engine: &dyn Engine, mut lent: Lent) -> (Four, Lent) {
+        CALLS.fetch_add(1, Ordering::Relaxed);
         let returned = match self.call {
             Call::Search => engine.search(&mut lent),
             Call::Room => engine.room(&mut lent),

@@ -154,7 +154,7 @@ const fn judges(name: &'static str, about: &'static str, wrong: fn(&mut Four, &L
     }
 }
 
-pub const FAULTS: [Fault; 51] = [
+pub const FAULTS: [Fault; 52] = [
     ends("label", "the last label is another letter", |search| {
         if let Some(last) = (search.returned[2] as usize).checked_sub(1) {
             search.lent.labels.items_mut()[last] ^= 1;
@@ -522,6 +522,11 @@ pub const FAULTS: [Fault; 51] = [
                 }
             });
         },
+    ),
+    reads(
+        "number-bytes",
+        "the middle bytes of a comparison's number are swapped",
+        |query, _| change_comparisons(query, |bytes| bytes.swap(9, 10)),
     ),
     reads(
         "greatest-entry",

@@ -12,7 +12,9 @@
 //!   compare --list             the names of streams and faults
 //! In front of these, --show prints every case before it is run.
 //!
-//! The last line is `N passed, M failed`: comparisons, and faults found.
+//! The last line is `N passed, M failed`: comparisons, and faults found. Where a
+//! call does not end, that is said and the run is ended; where one ends the whole
+//! process, --show tells the case.
 
 mod case;
 #[cfg_attr(any(test, not(mireladle)), allow(dead_code))]
@@ -27,12 +29,14 @@ mod streams;
 #[cfg(test)]
 mod tests;
 
-use case::Case;
+use case::{Case, CALLS};
 use engine::Engine;
 use faults::{Fault, Faulty, FAULTS};
 use std::path::Path;
 use std::process::ExitCode;
-use std::time::Instant;
+use std::sync::atomic::Ordering;
+use std::sync::Mutex;
+use std::time::{Duration, Instant};
 use streams::{Cases, Stream, STREAMS};
 
 /// The seed of the gate.
@@ -43,6 +47,11 @@ const PRINTED: usize = 3;
 const UNSEEN: usize = 3_000;
 /// How many standard inputs the program gets in the gate.
 const STDINS: usize = 4_000;
+
+/// How long a call may take; the longest of the gate takes a part of a second.
+const LONGEST: Duration = Duration::from_secs(60);
+/// The stream and the number in it of the case that is run.
+static AT: Mutex<(&str, usize)> = Mutex::new(("", 0));
 
 struct Counts {
     passed: usize,
@@ -59,6 +68,7 @@ fn main() -> ExitCode {
         println!("0 passed, 1 failed");
         return ExitCode::FAILURE;
     };
+    std::thread::spawn(watch);
     let mut run = Run {
         product: &*product,
         show,
@@ -76,6 +86,22 @@ fn main() -> ExitCode {
     match failed {
         0 => ExitCode::SUCCESS,
         _ => ExitCode::FAILURE,
+    }
+}
+
+/// Ends the run where a call does not come to its end.
+fn watch() {
+    let mut before = 0;
+    loop {
+        std::thread::sleep(LONGEST);
+        let calls = CALLS.load(Ordering::Relaxed);
+        if calls > 0 && calls == before {
+            let (name, number) = AT.lock().map_or(("", 0), |at| *at);
+            println!("NO END in stream {name}, number {number}: --show prints the case");
+            println!("0 passed, 1 failed");
+            std::process::exit(1);
+        }
+        before = calls;
     }
 }
 
@@ -151,10 +177,13 @@ impl Run<'_> {
         names.iter().all(known)
     }
 
-    fn stream(&mut self, name: &str, cases: Cases, count: usize) {
+    fn stream(&mut self, name: &'static str, cases: Cases, count: usize) {
         let start = Instant::now();
         let (mut passed, mut failed) = (0, 0);
         for (number, case) in cases.take(count).enumerate() {
+            if let Ok(mut at) = AT.lock() {
+                *at = (name, number);
+            }
             if self.show {
                 println!("{name}, number {number}\n{}", readable::describe(&case));
             }

@@ -5,8 +5,10 @@
 
 use crate::case::{Call, Case};
 use reference::generate::damage::damage_twice;
-use reference::generate::draft::{self, Draft, Input, Numbers, Room, LARGE, MIDDLE, SMALL};
-use reference::generate::scramble::scrambled;
+use reference::generate::draft::{
+    self, with_column, with_number, Draft, Input, Numbers, Room, LARGE, MIDDLE, SMALL,
+};
+use reference::generate::scramble::{every_byte, scrambled};
 use reference::generate::{limits, mix, texts, Random};
 
 pub type Cases = Box<dyn Iterator<Item = Case>>;
@@ -43,7 +45,7 @@ const fn random(
     }
 }
 
-pub const STREAMS: [Stream; 18] = [
+pub const STREAMS: [Stream; 19] = [
     listed(
         "texts",
         "room: every text of up to 5 bytes over two alphabets",
@@ -124,6 +126,11 @@ pub const STREAMS: [Stream; 18] = [
         "queries with bytes flipped, cut and moved, and records swapped",
         80_000,
         scrambled_queries,
+    ),
+    listed(
+        "bytes",
+        "each byte of some queries at each value",
+        every_byte_value,
     ),
     random(
         "judged",
@@ -332,6 +339,43 @@ fn scrambled_queries(seed: u64) -> Cases {
         input.trail += random.pick(&[0, 0, 1, 64]);
         input
     })
+}
+
+/// Queries that hold every token of the language, every kind of record and both
+/// right sides of a comparison, and numbers whose bytes all differ.
+fn every_byte_value(seed: u64) -> Cases {
+    let number = 0x0102_0304;
+    let rows = vec![number, 1, number + 1, 2, number, 3, 0x0103_0204, 3];
+    let texts: [&[u8]; 5] = [
+        b"A{12}? | B*",
+        b"(A{,9}|B+?) $",
+        b"^A{1,23}(())??",
+        b" A{2,}  Z",
+        b"",
+    ];
+    let plain = texts.map(|text| Draft::new(2, text, rows.clone()));
+    let full = Draft::new(2, b"A+ B", rows)
+        .define(b'A', &[with_number(0, 0, 1, number)])
+        .define(
+            b'B',
+            &[
+                with_column((0, -1), 4, (1, 1), number),
+                with_number(1, 0, 6, 1),
+            ],
+        )
+        .measure(1, b'A', 0)
+        .measure(2, b'B', 1);
+    let drafts = plain.into_iter().chain([full.clone(), full.to_next_row()]);
+    let inputs = drafts.flat_map(|draft| {
+        let whole = draft.finish();
+        every_byte(draft.query()).map(move |query| Input {
+            query,
+            notes: 160,
+            trail: 1_280,
+            ..whole.clone()
+        })
+    });
+    searches(seed, inputs)
 }
 
 fn judged(seed: u64) -> Cases {
