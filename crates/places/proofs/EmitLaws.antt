@@ -690,7 +690,6 @@ module _ (s : List ℕ) (i c n m end : ℕ) (T : List ℕ) (b w k : ℕ) where
                 long = f .long;
                 small = f .small;
                 place = f .place;
-                low = f .low;
                 way = f .way;
                 behind = omega
                     (arith, star-low);

@@ -118,7 +118,7 @@ module _ (T : List ℕ) (b w x y : ℕ) (h : TwoWays T b w x y) where
 
 module _ (T : List ℕ) (b w : ℕ) (lazy : Bool) (copy leave : ℕ) where
   refit : (k j : ℕ) (pl : List Place) → Fitting T b w k pl → j ≤ 256 → Fitting T b w j pl
-  refit k j pl f h = record { long = f .long; small = f .small; place = f .place; low = f .low; way = f .way; behind = h }
+  refit k j pl f h = record { long = f .long; small = f .small; place = f .place; way = f .way; behind = h }
 
   pub lazy-needs : Choosing T b w lazy copy leave → lazy ≡ true → TwoWays T b w leave copy
   lazy-needs h e = record { fits = subst (λ (z : Bool). Fitting T b w leave (choicePlaces z copy leave)) e (h .fits); second = h .copied }

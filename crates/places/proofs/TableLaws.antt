@@ -68,10 +68,9 @@ module _ (T : List ℕ) (b w k : ℕ) (xs ys : List Place) where
   pub fit-left : (j : ℕ) → j ≤ 256 → Fitting T b w k (xs ++ ys) → Fitting T b w j xs
   fit-left j h f =
       record {
-        long = f .long;
+        long = omega (arith, f .long, length-append xs ys);
         small = f .small;
         place = omega (arith, f .place, length-append xs ys);
-        low = f .low;
         way = omega (arith, f .way, waysIn-append xs ys);
         behind = h;
       }
@@ -81,10 +80,9 @@ module _ (T : List ℕ) (b w k : ℕ) (xs ys : List Place) where
   fit-right T1 v r ev e f =
       let l : length T1 ≡ length T = ap length (e .is) ∙ places-length T b w xs in
       record {
-        long = omega (arith, f .long);
+        long = omega (arith, f .long, length-append xs ys);
         small = omega (arith, f .small);
         place = omega (arith, f .place, length-append xs ys);
-        low = omega (arith, f .low, e .way);
         way = omega (arith, f .way, waysIn-append xs ys, e .way);
         behind = f .behind;
       }

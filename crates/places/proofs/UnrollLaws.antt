@@ -28,16 +28,15 @@ module _ (s : List ℕ) (top P : ℕ) (T : List ℕ) where
     few : waysIn (treePlaces (h .tree) 0 (P - 1)) ≤ 3 * (P - 1)
     few = omega (arith, all-few (unroll (h .tree)) 0 (P - 1), last-place)
 
-    pub unroll-emitting : Emitting s top T 0 1024 (P - 1)
+    pub unroll-emitting : Emitting s top T 0 (4 * P) (P - 1)
     unroll-emitting =
         record {
           tree = h .tree;
           top = h .is;
           fits = record {
-            long = omega (arith, h .long);
+            long = omega (arith, long, h .long);
             small = h .small;
             place = omega (arith, long, h .few);
-            low = omega arith;
             way = omega (arith, few, h .long);
             behind =
                 omega (arith, h .few);
@@ -48,23 +47,23 @@ module _ (s : List ℕ) (top P : ℕ) (T : List ℕ) where
     unfolding places thinned thinPlace
     all = thinned-append (code (unroll (h .tree)) 0 (size (unroll (h .tree)))) (pEnd ∷ []) ∙ ap (λ (k : ℕ). thinned (code (unroll (h .tree)) 0 k) ++ (pEnd ∷ [])) last-place
 
-    module _ (T1 : List ℕ) (r : ℕ) (d : (g : Emitting s top T 0 1024 (P - 1)) → Emitted T T1 0 1024 r (treePlaces (g .tree) 0 (P - 1))) where
-      put : Emitted T T1 0 1024 r (treePlaces (h .tree) 0 (P - 1))
+    module _ (T1 : List ℕ) (r : ℕ) (d : (g : Emitting s top T 0 (4 * P) (P - 1)) → Emitted T T1 0 (4 * P) r (treePlaces (g .tree) 0 (P - 1))) where
+      put : Emitted T T1 0 (4 * P) r (treePlaces (h .tree) 0 (P - 1))
       unfolding unroll-emitting
       put = d unroll-emitting
 
       same : length T1 ≡ length T
-      same = ap length (put .is) ∙ places-length T 0 1024 (treePlaces (h .tree) 0 (P - 1))
+      same = ap length (put .is) ∙ places-length T 0 (4 * P) (treePlaces (h .tree) 0 (P - 1))
 
       pub end-words : (4 * (P - 1) + 4 ≤ length T1) × (0 < 65536) × (0 < 65536)
       end-words = (omega (arith, h .few, h .long, same, some-place h), omega arith, omega arith)
 
       module _ (T2 : List ℕ) (e : T2 ≡ putWords T1 (P - 1) 4 0 0 0) where
-        both : T2 ≡ putPlaces T 0 1024 (treePlaces (h .tree) 0 (P - 1) ++ (pEnd ∷ []))
+        both : T2 ≡ putPlaces T 0 (4 * P) (treePlaces (h .tree) 0 (P - 1) ++ (pEnd ∷ []))
         unfolding putPlaces putPlace
-        both = e ∙ ap (λ (U : List ℕ). putWords U (P - 1) 4 0 0 0) (put .is) ∙ ap (λ (q : ℕ). putWords (putPlaces T 0 1024 (treePlaces (h .tree) 0 (P - 1))) q 4 0 0 0)
+        both = e ∙ ap (λ (U : List ℕ). putWords U (P - 1) 4 0 0 0) (put .is) ∙ ap (λ (q : ℕ). putWords (putPlaces T 0 (4 * P) (treePlaces (h .tree) 0 (P - 1))) q 4 0 0 0)
             (let z : P - 1 ≡ 0 + length (treePlaces (h .tree) 0 (P - 1)) = omega (arith, long) in z)
-            ∙ sym (places-append T 0 1024 (treePlaces (h .tree) 0 (P - 1)) (pEnd ∷ []))
+            ∙ sym (places-append T 0 (4 * P) (treePlaces (h .tree) 0 (P - 1)) (pEnd ∷ []))
 
         ways-all : waysIn (treePlaces (h .tree) 0 (P - 1) ++ (pEnd ∷ [])) ≡ waysIn (treePlaces (h .tree) 0 (P - 1))
         unfolding waysIn wayCount
@@ -80,14 +79,14 @@ module _ (s : List ℕ) (top P : ℕ) (T : List ℕ) where
         unfolding tabled
         unroll-done =
             let pl : List Place = treePlaces (h .tree) 0 (P - 1) ++ (pEnd ∷ []) in
-            let back : placesFrom (putPlaces T 0 1024 pl) 0 (length pl) ≡ pl = places-back T 0 1024 pl (omega (arith, long-all, h .few))
+            let back : placesFrom (putPlaces T 0 (4 * P) pl) 0 (length pl) ≡ pl = places-back T 0 (4 * P) pl (omega (arith, long-all, h .few))
             (omega (arith, ways-all, few, h .long)) in
-            let end : r ≡ 1024 + waysIn pl = omega (arith, put .way, ways-all) in
+            let end : r ≡ 4 * P + waysIn pl = omega (arith, put .way, ways-all) in
             record {
-              is = ap (λ (U : List ℕ). placesFrom U 0 P) both ∙ ap (λ (m : ℕ). placesFrom (putPlaces T 0 1024 pl) 0 m) (sym long-all) ∙ back ∙ sym all;
-              stop = λ q l. rw (both, end) (places-stop T 0 1024 pl (omega (arith, long-all, h .few)) (omega (arith, ways-all, few, h .long)) q (omega arith)
+              is = ap (λ (U : List ℕ). placesFrom U 0 P) both ∙ ap (λ (m : ℕ). placesFrom (putPlaces T 0 (4 * P) pl) 0 m) (sym long-all) ∙ back ∙ sym all;
+              stop = λ q l. rw (both, end) (places-stop T 0 (4 * P) pl (omega (arith, long-all, h .few)) (omega (arith, ways-all, few, h .long)) q (omega arith)
                   (omega (arith, long-all)));
               few = (omega arith, omega (arith, ways-all, few));
-              kept = λ j l. ap (λ (U : List ℕ). getD U j 0) both ∙ places-kept T 0 1024 pl j (λ a b. omega (arith, long-all, h .few, end)) (λ a b. omega (arith, end));
+              kept = λ j l. ap (λ (U : List ℕ). getD U j 0) both ∙ places-kept T 0 (4 * P) pl j (λ a b. omega (arith, long-all, h .few, end)) (λ a b. omega (arith, end));
               len = unroll-length;
             }

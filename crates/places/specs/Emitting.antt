@@ -54,10 +54,9 @@ putPlaces T q w (p ∷ ps) = putPlaces (putPlace T q w p) (suc q) (w + wayCount 
 
 -- the table has room for these places from place b on and for their ways from word w on, and all numbers fit their words; k is the place behind them
 pub record Fitting (T : List ℕ) (b w k : ℕ) (pl : List Place) : Type 0 where
-  pub long : 1024 ≤ length T
+  pub long : 4 * (b + length pl) ≤ length T
   pub small : length T < 65536
   pub place : b + length pl ≤ 256
-  pub low : 1024 ≤ w
   pub way : w + waysIn pl ≤ length T
   pub behind : k ≤ 256
 
@@ -181,19 +180,19 @@ anchorSort c = pick (eqb c 94) 2 3
 
 -- ---- the whole
 
--- room for 256 places and for three ways to a place
+-- room for four words and three ways to a place
 pub record Unrolling (s : List ℕ) (top P : ℕ) (T : List ℕ) : Type 0 where
   pub tree : Tree pattern
   pub is : Top tree top s
   pub count : P ≡ placesOf tree
   pub few : P ≤ 256
-  pub long : 1024 + 3 * P ≤ length T
+  pub long : 7 * P ≤ length T
   pub small : length T < 65536
 
 -- The table holds the places of the tree, each fork's ways once; a fork's ways stop before the word r; from there on no word is changed.
 pub record Tabled (p : Tree pattern) (P : ℕ) (T exit : List ℕ) (r : ℕ) : Type 0 where
   pub is : tabled exit P ≡ thinned (places (unroll p))
   pub stop : (q : ℕ) → q < P → getD exit (4 * q + 3) 0 ≤ r
-  pub few : (1024 ≤ r) × (r ≤ 1024 + 3 * P)
+  pub few : (4 * P ≤ r) × (r ≤ 7 * P)
   pub kept : (j : ℕ) → r ≤ j → getD exit j 0 ≡ getD T j 0
   pub len : length exit ≡ length T

@@ -1,4 +1,4 @@
--- Places kept as words of one table: four words to a place, and behind the words of 256 places the ways of all forks. Of place q, word 4q is its
+-- Places kept as words of one table: four words to a place, and behind the words of all places the ways of all forks. Of place q, word 4q is its
 -- sort (0 fork, 1 letter, 2 `^`, 3 `$`, 4 END), word 4q + 1 its letter, word 4q + 2 its next place, of a fork the word where its ways begin, and
 -- word 4q + 3 of a fork the word where its ways stop.
 use mathlib.Core.List.{List, [], _∷_}

@@ -312,14 +312,14 @@ fn body(room: &[u16], i: usize, table: &mut [u16], b: usize, w: usize, k: usize)
     }
 }
 
-// Unrolls the tree whose top is a node: its P places, END the last, go into the table's first words, and their ways behind word 1024. Returns
+// Unrolls the tree whose top is a node: its P places, END the last, go into the table's first words, and their ways behind them. Returns
 // the word behind the last way.
 pub fn unroll(room: &[u16], top: usize, places: usize, table: &mut [u16]) -> usize
     requires { ⌜ Unrolling (now room) top places (now table) ⌝ }
     ensures { λ r. ⌜ ((h : Unrolling (now (room .entry)) top places (now (table .entry))) → Tabled (h .tree) places (now (table .entry)) (now (table .exit)) r) ⌝ }
 {
     let last = places - 1;
-    let to = emit(room, top, table, 0, 1024, last);
+    let to = emit(room, top, table, 0, 4 * places, last);
     put_words(table, last, 4, 0, 0, 0);
     to
 }

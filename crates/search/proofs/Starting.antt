@@ -9,7 +9,7 @@ use native.Mathlib.Omega.{arith}
 use lib.Dec.{eqb, ltb}
 use borrow.Author.Tests.{ltb-true}
 use lib.IntN.{ℤ}
-use lib.ListN.{length, getD, take, drop, replicate}
+use lib.ListN.{length, getD, take, drop, replicate, length-replicate}
 use Rattle.rules.specs.Basics.{inRange, isLetter}
 use Rattle.rules.specs.Rows.{Table, Comparison, tableOf, holds}
 use Rattle.rules.specs.Query.{Measure, functionFits, columnsOf, textOf, parts}
@@ -39,7 +39,7 @@ use Rattle.sweep.specs.Asked.{asked}
 use Rattle.sweep.specs.Found.{Measured}
 use Rattle.sweep.specs.Searched.{Searches}
 use Rattle.search.specs.Spread.{Parts, Parted}
-use Rattle.search.specs.Promise.{Walks, Runs}
+use Rattle.search.specs.Promise.{TableRoom, Walks, WalksIn, Runs}
 use Rattle.search.proofs.Places.{begin-before, cut, cut-count, cut-places, legal-tables}
 use Rattle.search.proofs.Ending.{numbers-thin, labels-of-thin}
 
@@ -50,12 +50,28 @@ third-part f l c columns e =
     let r : Bool = ltb c columns && (not (eqb f 1) || eqb c 0) in
     and-left (ltb c columns) (not (eqb f 1) || eqb c 0) (and-right (eqb l 0 || isLetter l) r (and-right (inRange 1 6 f) ((eqb l 0 || isLetter l) && r) e))
 
+-- a table of the same length is room for as many places; and tables of zeros are
+room-kept : (p : ℕ) (table₀ table : List ℕ) → length table ≡ length table₀ → TableRoom p table₀ → TableRoom p table
+room-kept p table₀ table e r = record { long = omega (arith, r .long); few = omega (arith, r .few) }
+
+small-table : (p : ℕ) → p ≤ 32 → TableRoom p (replicate 224 0)
+small-table p h = let e = length-replicate {A = ℕ} 224 0 in record { long = omega arith; few = omega arith }
+
+large-table : (p : ℕ) → p ≤ 256 → TableRoom p (replicate 1792 0)
+large-table p h = let e = length-replicate {A = ℕ} 1792 0 in record { long = omega arith; few = omega arith }
+
 module _ (q nodes : List ℕ) (top p : ℕ) (rows : List ℤ) (columns n : ℕ) (cells : List ℕ) (offsets constants : List ℤ) (counts ms : List ℕ) (count : ℕ) (mode : Bool) (notes trail : List ℕ)
     (a : Walks q nodes top p rows columns n cells offsets constants counts ms count mode notes trail) where
   -- unrolling
-  unfoldable pub may-unroll : (table : List ℕ) → length table ≡ 1792 → Unrolling nodes top p table
+  unfoldable pub may-unroll : (table : List ℕ) → TableRoom p table → Unrolling nodes top p table
   may-unroll table e =
-      record { tree = a .tree; is = a .held; count = a .places-are; few = omega (arith, a .few, a .places-are); long = omega (arith, a .few, a .places-are); small = omega arith }
+      record { tree = a .tree; is = a .held; count = a .places-are; few = omega (arith, a .few, a .places-are); long = e .long; small = omega (arith, e .few) }
+
+  pub in-small : p ≤ 32 → WalksIn (replicate 224 0) q nodes top p rows columns n cells offsets constants counts ms count mode notes trail
+  in-small h = record { room = small-table p h; walks = a }
+
+  pub in-large : WalksIn (replicate 1792 0) q nodes top p rows columns n cells offsets constants counts ms count mode notes trail
+  in-large = record { room = large-table p (omega (arith, a .few, a .places-are)); walks = a }
 
   -- ---- the task
 
@@ -130,20 +146,20 @@ module _ (q nodes : List ℕ) (top p : ℕ) (rows : List ℤ) (columns n : ℕ) 
   pub may-prepare : Preparable counts (replicate 208 0)
   may-prepare = preparable q (a .cells₀) (a .offsets₀) (a .numbers₀) (a .measures₀) cells offsets constants counts ms (a .parts) (a .decoded)
 
-  module _ (table₀ table : List ℕ) (end : ℕ) (b : Tabled (a .tree) p table₀ table end) (long : length table ≡ 1792) where
+  module _ (table₀ table : List ℕ) (end : ℕ) (b : Tabled (a .tree) p table₀ table end) (room : TableRoom p table) where
     pub few-places : p ≤ 256
     few-places = omega (arith, a .few, a .places-are)
 
-    stop-low : (q : ℕ) → q < p → getD table (4 * q + 3) 0 ≤ 1792
-    stop-low q h = omega (arith, b .stop q h, b .few .1, few-places)
+    stop-low : (q : ℕ) → q < p → getD table (4 * q + 3) 0 ≤ length table
+    stop-low q h = omega (arith, b .stop q h, b .few .1, room .long)
 
     -- spreading
     pub may-spread : (co ne en st : List ℕ) → length co ≡ 256 → length ne ≡ 256 → length en ≡ 256 → length st ≡ 256 → Parts table p co ne en st
     may-spread co ne en st lc ln le ls =
         record {
-          table = omega (arith, few-places);
+          table = omega (arith, room .long);
           begin = λ q h z. omega (arith, begin-before table p (a .tree) (a .places-are) (b .is) q h z, stop-low q h);
-          stop = λ q h. omega (arith, stop-low q h);
+          stop = λ q h. omega (arith, stop-low q h, room .few);
           few = few-places;
           codes = omega (arith, few-places);
           nexts = omega (arith, few-places);
@@ -170,7 +186,7 @@ module _ (q nodes : List ℕ) (top p : ℕ) (rows : List ℤ) (columns n : ℕ) 
       T-legal : W.Legal T (holdsIn rows columns cells offsets constants counts) n
       T-legal =
           legal-tables table p co₀ ne₀ en₀ st₀ co ne en st d (omega (arith, few-places)) (omega (arith, few-places)) (omega (arith, few-places)) (omega (arith, few-places)) few-places (a .tree) g the-lettered
-          (a .places-are) (b .is) (omega (arith, a .places-are, some-place)) (omega arith) (λ q h. omega (arith, stop-low q h)) (holdsIn rows columns cells offsets constants counts) n few-pairs (a .most)
+          (a .places-are) (b .is) (omega (arith, a .places-are, some-place)) (omega (arith, room .few)) (λ q h. omega (arith, stop-low q h)) (holdsIn rows columns cells offsets constants counts) n few-pairs (a .most)
 
       T-found : (nums labs : ℕ)
           → S.searchOf (asked T (holdsIn rows columns cells offsets constants counts) n mode (tableOf columns rows) (measuresIn ms count)) nums labs ≡ walked (taskOf q rows) nums labs
@@ -203,12 +219,18 @@ module _ (q nodes : List ℕ) (top p : ℕ) (rows : List ℤ) (columns n : ℕ) 
           }
 
   -- as the code spreads its arrays
-  pub may-part : (table₀ table : List ℕ) (end : ℕ) → ((h : Unrolling nodes top p table₀) → Tabled (h .tree) p table₀ table end) → length table₀ ≡ 1792
+  pub may-keep : (table₀ table : List ℕ) (end : ℕ) → ((h : Unrolling nodes top p table₀) → Tabled (h .tree) p table₀ table end) → TableRoom p table₀ → length table ≡ length table₀
+  may-keep table₀ table end f e = f (may-unroll table₀ e) .len
+
+  pub may-cut : p ≤ 256
+  may-cut = omega (arith, a .few, a .places-are)
+
+  pub may-part : (table₀ table : List ℕ) (end : ℕ) → ((h : Unrolling nodes top p table₀) → Tabled (h .tree) p table₀ table end) → TableRoom p table₀
       → (co ne en st : List ℕ) → length co ≡ 256 → length ne ≡ 256 → length en ≡ 256 → length st ≡ 256 → Parts table p co ne en st
   unfolding may-unroll
-  may-part table₀ table end f e co ne en st lc ln le ls = let b = f (may-unroll table₀ e) in may-spread table₀ table end b (b .len ∙ e) co ne en st lc ln le ls
+  may-part table₀ table end f e co ne en st lc ln le ls = let b = f (may-unroll table₀ e) in may-spread table₀ table end b (room-kept p table₀ table (b .len) e) co ne en st lc ln le ls
 
-  pub may-run : (table₀ table : List ℕ) (end : ℕ) → ((h : Unrolling nodes top p table₀) → Tabled (h .tree) p table₀ table end) → length table₀ ≡ 1792
+  pub may-run : (table₀ table : List ℕ) (end : ℕ) → ((h : Unrolling nodes top p table₀) → Tabled (h .tree) p table₀ table end) → TableRoom p table₀
       → (co₀ ne₀ en₀ st₀ co ne en st : List ℕ) → Parted table p co₀ ne₀ en₀ st₀ co ne en st → length co₀ ≡ 256 → length ne₀ ≡ 256 → length en₀ ≡ 256 → length st₀ ≡ 256
       → (tests : List ℕ) → Tested cells offsets constants counts n tests
       → Runs q (W.tables (take (p - 0) (drop 0 co)) (take (p - 0) (drop 0 ne)) (take (p - 0) (drop 0 en)) (take (p - 0) (drop 0 st)) table) rows columns n tests cells offsets constants counts ms count mode notes trail
@@ -216,4 +238,4 @@ module _ (q nodes : List ℕ) (top p : ℕ) (rows : List ℤ) (columns n : ℕ) 
   may-run table₀ table end f e co₀ ne₀ en₀ st₀ co ne en st d lc ln le ls tests t =
       let b = f (may-unroll table₀ e) in
       let z : p - 0 ≡ p = omega arith in
-      rw z (runs table₀ table end b (b .len ∙ e) co₀ ne₀ en₀ st₀ co ne en st d (d .codes .long ∙ lc) (d .nexts .long ∙ ln) (d .entries .long ∙ le) (d .stops .long ∙ ls) tests t)
+      rw z (runs table₀ table end b (room-kept p table₀ table (b .len) e) co₀ ne₀ en₀ st₀ co ne en st d (d .codes .long ∙ lc) (d .nexts .long ∙ ln) (d .entries .long ∙ le) (d .stops .long ∙ ls) tests t)

@@ -49,6 +49,11 @@ unfoldable pub ended : List ℕ → List ℤ → Buffers → Memory
 unfolding accepted reportOf stopped walkOf taskOf
 ended q rows before = accepted (reportOf (pick (stopped (walkOf q rows before)) 13 0) (taskOf q rows) before (walkOf q rows before)) (walkOf q rows before .state) before
 
+-- a table for the places of a pattern, four words and three ways to each; its words have few enough indices for a number of the trail
+pub record TableRoom (p : ℕ) (table : List ℕ) : Type 0 where
+  pub long : 7 * p ≤ length table
+  pub few : length table ≤ 1792
+
 -- what walking asks: a query with no answer 1 to 9 in the lent arrays, whole rows, and working room
 pub record Walks (q nodes : List ℕ) (top places : ℕ) (rows : List ℤ) (columns n : ℕ) (cells : List ℕ) (offsets constants : List ℤ) (counts ms : List ℕ) (count : ℕ) (mode : Bool) (notes trail : List ℕ) : Type 0 where
   pub tree : Tree pattern
@@ -71,6 +76,11 @@ pub record Walks (q nodes : List ℕ) (top places : ℕ) (rows : List ℤ) (colu
   pub all : length rows ≡ n * columns
   pub noted : pairs places n ≤ 8 * length notes
   pub trailed : pairs places n ≤ length trail
+
+-- and a table for the places
+pub record WalksIn (table q nodes : List ℕ) (top places : ℕ) (rows : List ℤ) (columns n : ℕ) (cells : List ℕ) (offsets constants : List ℤ) (counts ms : List ℕ) (count : ℕ) (mode : Bool) (notes trail : List ℕ) : Type 0 where
+  pub room : TableRoom places table
+  pub walks : Walks q nodes top places rows columns n cells offsets constants counts ms count mode notes trail
 
 -- what all starts over tables ask: legal tables, letters and measures that can be read, working room; and that they stand for the query's search
 pub record Runs (q : List ℕ) (T : Tables) (rows : List ℤ) (columns n : ℕ) (tests cells : List ℕ) (offsets constants : List ℤ) (counts ms : List ℕ) (count : ℕ) (mode : Bool) (notes trail : List ℕ) : Type 0 where

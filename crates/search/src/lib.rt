@@ -8,7 +8,7 @@ ghost use lib.Dec.{eqb};
 ghost use Rattle.rules.specs.Basics.{pick};
 ghost use Rattle.walk.specs.Tables.{tables};
 ghost use Rattle.room.specs.Reading.{Nodes};
-ghost use Rattle.search.specs.Promise.{lent, memory, refusal, ended, Promised, Walks, Runs};
+ghost use Rattle.search.specs.Promise.{lent, memory, refusal, ended, Promised, Walks, WalksIn, Runs};
 ghost use Rattle.search.specs.Spread.{codeBy, firstBy, secondBy, codeOf, nextOf, entryOf, stopOf, Place, Parts, Parted};
 
 fn wide(x: u16) -> usize
@@ -194,7 +194,65 @@ fn run_tables(
     finished(s)
 }
 
-// The walk over an accepted query: its pattern unrolled into tables, then all starts.
+// The walk over an accepted query: its pattern unrolled into the table and from there into tables for the walk, then all starts.
+fn walk_in(
+    table: &mut [u16],
+    query: &[u8],
+    nodes: &[u16],
+    top: usize,
+    places: usize,
+    rows: &[i32],
+    columns: usize,
+    n: usize,
+    cells: &[u16; 832],
+    offsets: &[i8; 416],
+    constants: &[i32; 208],
+    counts: &[u8; 26],
+    ms: &[u8; 24],
+    count: usize,
+    mode: bool,
+    notes: &mut [u8],
+    trail: &mut [u32],
+    numbers: &mut [i64],
+    labels: &mut [u8],
+) -> Outcome
+    requires { ⌜ WalksIn (now table) (now query) (now nodes) top places (now rows) columns n (now cells) (now offsets) (now constants) (now counts) (now ms) count mode (now notes) (now trail) ⌝ }
+    ensures { λ r. ⌜ memory r (now (notes .exit)) (now (trail .exit)) (now (numbers .exit)) (now (labels .exit)) ≡ ended (now (query .entry)) (now (rows .entry)) (lent (now (notes .entry)) (now (trail .entry)) (now (numbers .entry)) (now (labels .entry))) ⌝ }
+{
+    let _end = places::unroll(nodes, top, places, table);
+    let mut code = [0u8; 256];
+    let mut next = [0u16; 256];
+    let mut entry = [0u32; 256];
+    let mut stop = [0u16; 256];
+    part(table, places, &mut code, &mut next, &mut entry, &mut stop);
+    let mut tests = [0u64; 208];
+    letters::prepare(cells, offsets, constants, counts, n, &mut tests);
+    run_tables(
+        query,
+        &code[0..places],
+        &next[0..places],
+        &entry[0..places],
+        &stop[0..places],
+        table,
+        rows,
+        columns,
+        n,
+        &tests,
+        cells,
+        offsets,
+        constants,
+        counts,
+        ms,
+        count,
+        mode,
+        notes,
+        trail,
+        numbers,
+        labels,
+    )
+}
+
+// The walk over an accepted query. Few places get a small table, since clearing a large one takes longer than a walk over some rows.
 fn walk_all(
     query: &[u8],
     nodes: &[u16],
@@ -218,26 +276,40 @@ fn walk_all(
     requires { ⌜ Walks (now query) (now nodes) top places (now rows) columns n (now cells) (now offsets) (now constants) (now counts) (now ms) count mode (now notes) (now trail) ⌝ }
     ensures { λ r. ⌜ memory r (now (notes .exit)) (now (trail .exit)) (now (numbers .exit)) (now (labels .exit)) ≡ ended (now (query .entry)) (now (rows .entry)) (lent (now (notes .entry)) (now (trail .entry)) (now (numbers .entry)) (now (labels .entry))) ⌝ }
 {
+    if places <= 32 {
+        let mut table = [0u16; 224];
+        return walk_in(
+            &mut table,
+            query,
+            nodes,
+            top,
+            places,
+            rows,
+            columns,
+            n,
+            cells,
+            offsets,
+            constants,
+            counts,
+            ms,
+            count,
+            mode,
+            notes,
+            trail,
+            numbers,
+            labels,
+        );
+    }
     let mut table = [0u16; 1792];
-    let _end = places::unroll(nodes, top, places, &mut table);
-    let mut code = [0u8; 256];
-    let mut next = [0u16; 256];
-    let mut entry = [0u32; 256];
-    let mut stop = [0u16; 256];
-    part(&table, places, &mut code, &mut next, &mut entry, &mut stop);
-    let mut tests = [0u64; 208];
-    letters::prepare(cells, offsets, constants, counts, n, &mut tests);
-    run_tables(
+    walk_in(
+        &mut table,
         query,
-        &code[0..places],
-        &next[0..places],
-        &entry[0..places],
-        &stop[0..places],
-        &table,
+        nodes,
+        top,
+        places,
         rows,
         columns,
         n,
-        &tests,
         cells,
         offsets,
         constants,
