@@ -1,3 +1,4 @@
+-- `report::last_measure` meets its contract by the laws of RowsOf.
 use native.Mathlib.Omega.{arith}
 use borrow.Author.Needs.{needs}
 use Rattle.report.proofs.RowsOf.{last-null, last-at, last-inside, gives-last, row-inside, row-small}

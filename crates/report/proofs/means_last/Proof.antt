@@ -1,3 +1,4 @@
+-- `report::means_last` meets its contract by the laws of RowsOf.
 use borrow.Author.Needs.{needs}
 use Rattle.report.proofs.RowsOf.{low-last, high-last}
 use Rattle.report.proofs.means_last.Statement.{statement}

@@ -1,3 +1,4 @@
+-- `search::walk_in` meets its contract by the laws of Starting.
 use Rattle.search.proofs.Starting.{may-unroll, may-keep, may-cut, may-part, may-prepare, may-run}
 use lib.ListN.{length-replicate}
 use Prim.Native.Nat.{ℕ}
