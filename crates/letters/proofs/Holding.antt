@@ -18,7 +18,7 @@ use Rattle.rules.specs.Basics.{every, tabulate}
 use Rattle.rules.specs.Rows.{Comparison, Table, tableOf, entryAt, compares, plusNumber, rightSide, metBy, met, holds}
 use Rattle.rules.proofs.Signed.{sum-fits, read-back}
 use Rattle.decode.specs.Layout.{cellAt, cellsFrom}
-use Rattle.letters.specs.Letters.{there, EntryThere, rightMet, RightRoom, CellRoom, LetterRoom, spotIndex, readMet, Reads, allRead}
+use Rattle.letters.specs.Letters.{there, EntryThere, rightMet, RightRoom, CellRoom, CellsRoom, spotIndex, readMet, Reads, allRead}
 use Rattle.letters.proofs.Entries.{spot-inside, spot-entry, no-entry}
 
 abbrev held : ℤ → ℤ
@@ -100,7 +100,7 @@ module _ (cells : List ℕ) (offsets numbers : List ℤ) (g : ℕ) (rows : List 
       → RightRoom rows columns n row base y (held8 (getD offsets (g * 2 + 1) (pos 0)))
   cell-right y f ey w = record { at = room .at; short = w; spot-for = rw (toZ-ofZ f, ey) (room .spots .right) }
 
--- ---- a loop over comparisons, up to the first that is not met
+-- ---- comparisons in order, up to the first that is not met
 
 module _ {A : Type 0} (f : A → Bool) where
   every-last : (xs : List A) (x : A) → every f (xs ++ x ∷ []) ≡ (every f xs && f x)
@@ -140,38 +140,39 @@ every-same f g f' g' (suc k) h =
     one-more f g k ∙ ap (λ (t : Bool). t && f (g k)) (every-same f g f' g' k (λ i l. h i (omega arith)))
     ∙ ap (λ (t : Bool). every f' (tabulate k g') && t) (h k (omega arith)) ∙ sym (one-more f' g' k)
 
--- the first k comparisons of a letter are met
-pub record Holding (t : Table) (row columns : ℕ) (cells : List ℕ) (offsets numbers : List ℤ) (g count k : ℕ) : Type 0 where
-  pub upto : k ≤ count
-  pub is : holds t row (cellsFrom columns cells offsets numbers g k) ≡ true
+-- ---- the first `count` comparisons from number g on, by the recursion: the last one is judged where those before it are met
 
-module _ (t : Table) (row columns : ℕ) (cells : List ℕ) (offsets numbers : List ℤ) (g count : ℕ) where
+module _ (t : Table) (row columns : ℕ) (cells : List ℕ) (offsets numbers : List ℤ) (count g : ℕ) where
   abbrev nth : ℕ → Comparison
   nth k = cellAt columns cells offsets numbers (g + k)
 
-  pub holding-none : Holding t row columns cells offsets numbers g count 0
+  pub none-hold : count ≡ 0 → true ≡ holds t row (cellsFrom columns cells offsets numbers g count)
   unfolding holds cellsFrom
-  holding-none = record { upto = omega arith; is = none-yet (met t row) nth }
+  none-hold h = rw h (sym (none-yet (met t row) nth))
 
-  pub next-one : (k : ℕ) → holds t row (cellsFrom columns cells offsets numbers g (suc k)) ≡ (holds t row (cellsFrom columns cells offsets numbers g k) && met t row (cellAt columns cells offsets numbers (g + k)))
-  unfolding holds cellsFrom
-  next-one k = one-more (met t row) nth k
-
-  module _ (k : ℕ) (h : Holding t row columns cells offsets numbers g count k) where
-    pub holding-more : (r : Bool) → k < count → r ≡ met t row (cellAt columns cells offsets numbers (g + k)) → not r ≡ false
-        → Holding t row columns cells offsets numbers g count (k + 1)
+  module _ (some : count ≡ 0 → ⊥) (r : Bool) (before : r ≡ holds t row (cellsFrom columns cells offsets numbers g (count - 1))) where
+    with-last : holds t row (cellsFrom columns cells offsets numbers g count) ≡ (r && met t row (nth (count - 1)))
     unfolding holds cellsFrom
-    holding-more r l e u = record { upto = omega arith; is = next-met (met t row) nth k (h .is) r e u }
+    with-last =
+        ap (λ (i : ℕ). every (met t row) (tabulate i nth)) (let e : count ≡ suc (count - 1) = omega arith in e) ∙ one-more (met t row) nth (count - 1)
+        ∙ ap (λ (x : Bool). x && met t row (nth (count - 1))) (sym before)
 
-    pub holding-stop : (r : Bool) (all : ℕ) → k < count → r ≡ met t row (cellAt columns cells offsets numbers (g + k)) → not r ≡ true → count ≡ all
-        → false ≡ holds t row (cellsFrom columns cells offsets numbers g all)
-    unfolding holds cellsFrom
-    holding-stop r all l e u q = next-unmet (met t row) nth k (h .is) r e all (omega arith) u
+    pub before-unmet : not r ≡ true → false ≡ holds t row (cellsFrom columns cells offsets numbers g count)
+    before-unmet u = sym (with-last ∙ ap (λ (x : Bool). x && met t row (nth (count - 1))) (not-true r u))
 
-    pub holding-all : (all : ℕ) → count ≤ k → count ≡ all → true ≡ holds t row (cellsFrom columns cells offsets numbers g all)
-    holding-all all l q = sym (h .is) ∙ ap (λ (i : ℕ). holds t row (cellsFrom columns cells offsets numbers g i)) (let e : k ≡ all = let u = h .upto in omega arith in e)
+    pub last-decides : (s : Bool) → not r ≡ false → s ≡ met t row (cellAt columns cells offsets numbers (g + (count - 1))) → s ≡ holds t row (cellsFrom columns cells offsets numbers g count)
+    last-decides s u e = e ∙ sym (with-last ∙ ap (λ (x : Bool). x && met t row (nth (count - 1))) (not-false r u))
 
--- the first k comparisons all of whose rows are there are met
+module _ (cells : List ℕ) (offsets : List ℤ) (count g : ℕ) (rows : List ℤ) (columns n row base : ℕ) (all : CellsRoom cells offsets count g rows columns n row base) (some : count ≡ 0 → ⊥) where
+  pub room-before : CellsRoom cells offsets (count - 1) g rows columns n row base
+  room-before = record { at = all .at; room = let a = all .room in omega arith; spots = λ k h. all .spots k (omega arith) }
+
+  pub room-last : CellRoom cells offsets (g + (count - 1)) rows columns n row base
+  room-last = record { at = all .at; room = let a = all .room in omega arith; spots = all .spots (count - 1) (omega arith) }
+
+-- ---- comparisons all of whose rows are there, by the loop
+
+-- the first k are met
 pub record Reading (cells : List ℕ) (numbers rows : List ℤ) (from g count k : ℕ) : Type 0 where
   pub upto : k ≤ count
   pub is : allRead cells numbers rows from g k ≡ true
@@ -232,10 +233,3 @@ module _ (cells : List ℕ) (numbers rows : List ℤ) (from g op x : ℕ) (is-op
       let v : held u ≡ b +ℤ getD numbers g (pos 0) = ap held w ∙ toZ-ofZ (sum-fits b (getD numbers g (pos 0)) 2147483648 2147483648 gb fm (omega arith)) in
       let z : b ≡ getD rows (spotIndex from (getD cells (g * 4 + 1) 0)) (pos 0) = eb ∙ ap (λ (i : ℕ). getD rows (spotIndex from i) (pos 0)) ey in
       e ∙ rw (k, a-is, is-op) (ap (compares (getD cells (g * 4 + 2) 0) (getD rows (spotIndex from (getD cells (g * 4) 0)) (pos 0))) (v ∙ ap (λ (q : ℤ). q +ℤ getD numbers g (pos 0)) z))
-
-pub letter-cell : (cells : List ℕ) (offsets : List ℤ) (counts : List ℕ) (l : ℕ) (rows : List ℤ) (columns n row base : ℕ) → LetterRoom cells offsets counts l rows columns n row base
-    → (count k : ℕ) → count ≡ getD counts l 0 → k < count → CellRoom cells offsets (l * 8 + k) rows columns n row base
-letter-cell cells offsets counts l rows columns n row base r count k e h =
-    let a = r .letter in
-    let b = r .few in
-    record { at = r .at; room = omega arith; spots = r .spots k (omega arith) }

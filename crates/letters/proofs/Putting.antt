@@ -192,22 +192,18 @@ one-of-eight F a b c d e f g h (suc (suc (suc (suc (suc (suc (suc zero))))))) l 
 one-of-eight F a b c d e f g h (suc (suc (suc (suc (suc (suc (suc (suc i)))))))) l = absurd (omega arith)
 
 module _ (cells : List ℕ) (offsets numbers : List ℤ) (n g count : ℕ) where
-  pub words-none : count ≡ 0 → wordsOf cells offsets numbers n g count ≡ 0 ∷ 0 ∷ 0 ∷ 0 ∷ 0 ∷ 0 ∷ 0 ∷ 0 ∷ []
-  unfolding wordsOf
-  words-none h = simp (eq-eqb count 0 h)
-
   pub words-one : count ≡ 1
       → wordsOf cells offsets numbers n g count
       ≡ sortOf (getD cells (g * 4 + 3) 0) ∷ getD cells (g * 4) 0 ∷ getD cells (g * 4 + 1) 0
       ∷ lowOf (getD cells (g * 4 + 2) 0) (raised (getD numbers g (pos 0))) ∷ widthOf (getD cells (g * 4 + 2) 0) (raised (getD numbers g (pos 0)))
       ∷ mostBack cells offsets g count ∷ rowsLeft cells offsets n g count ∷ 0 ∷ []
   unfolding wordsOf
-  words-one h = simp (ne-eqb count 0 (λ e. omega arith), eq-eqb count 1 h)
+  words-one h = simp (eq-eqb count 1 h)
 
-  pub words-several : (count ≡ 0 → ⊥) → (count ≡ 1 → ⊥)
+  pub words-other : (count ≡ 1 → ⊥)
       → wordsOf cells offsets numbers n g count ≡ 0 ∷ 0 ∷ 0 ∷ 0 ∷ 0 ∷ mostBack cells offsets g count ∷ rowsLeft cells offsets n g count ∷ 0 ∷ []
   unfolding wordsOf
-  words-several h k = simp (ne-eqb count 0 h, ne-eqb count 1 k)
+  words-other h = simp (ne-eqb count 1 h)
 
 module _ (cells : List ℕ) (offsets numbers : List ℤ) (counts : List ℕ) (n l : ℕ) (tests₀ tests : List ℕ) (put : PutRoom counts l tests₀) (count : ℕ) (is-count : count ≡ getD counts l 0) where
   room : l * 8 + 6 < length tests₀
@@ -220,25 +216,14 @@ module _ (cells : List ℕ) (offsets numbers : List ℤ) (counts : List ℕ) (n 
   counted : ((i : ℕ) → i < 8 → Is i) → (i : ℕ) → i < 8 → getD tests (l * 8 + i) 0 ≡ getD (wordsOf cells offsets numbers n (l * 8) (getD counts l 0)) i 0
   counted f i h = f i h ∙ ap (λ (k : ℕ). getD (wordsOf cells offsets numbers n (l * 8) k) i 0) is-count
 
-  pub test-none : count ≡ 0 → tests ≡ tests₀ → PutTest cells offsets numbers counts n l tests₀ tests
-  test-none h is = record {
-    long = ap length is;
-    made = counted (λ i f. ap (λ (t : List ℕ). getD t (l * 8 + i) 0) is ∙ put .none i f ∙ sym (ap (λ (t : List ℕ). getD t i 0) (words-none cells offsets numbers n (l * 8) count h) ∙ zeros i f));
-    short = λ e. absurd (omega arith);
-    kept = λ m i k f. ap (λ (t : List ℕ). getD t (m * 8 + i) 0) is;
-  }
-    where
-      zeros : (i : ℕ) → i < 8 → _≡_ {A = ℕ} (getD (0 ∷ 0 ∷ 0 ∷ 0 ∷ 0 ∷ 0 ∷ 0 ∷ 0 ∷ []) i 0) 0
-      zeros = one-of-eight (λ i. _≡_ {A = ℕ} (getD (0 ∷ 0 ∷ 0 ∷ 0 ∷ 0 ∷ 0 ∷ 0 ∷ 0 ∷ []) i 0) 0) refl refl refl refl refl refl refl refl
-
   module _ (back ahead rest : ℕ) (is-back : back ≡ mostBack cells offsets (l * 8) count) (is-ahead : ahead ≡ mostAhead cells offsets (l * 8) count) (is-rest : rest ≡ n - (back + ahead)) where
     rest-is : rest ≡ rowsLeft cells offsets n (l * 8) count
     unfolding rowsLeft
     rest-is = is-rest ∙ rw (is-back, is-ahead) refl
 
-    module _ (some : count ≡ 0 → ⊥) (more : count ≡ 1 → ⊥) (is : tests ≡ setRange tests₀ (l * 8) back rest) where
+    module _ (not-one : count ≡ 1 → ⊥) (is : tests ≡ setRange tests₀ (l * 8) back rest) where
       word-is : (i w : ℕ) → getD tests (l * 8 + i) 0 ≡ w → w ≡ getD (0 ∷ 0 ∷ 0 ∷ 0 ∷ 0 ∷ mostBack cells offsets (l * 8) count ∷ rowsLeft cells offsets n (l * 8) count ∷ 0 ∷ []) i 0 → Is i
-      word-is i w e f = e ∙ f ∙ sym (ap (λ (t : List ℕ). getD t i 0) (words-several cells offsets numbers n (l * 8) count some more))
+      word-is i w e f = e ∙ f ∙ sym (ap (λ (t : List ℕ). getD t i 0) (words-other cells offsets numbers n (l * 8) count not-one))
 
       other : (i : ℕ) → i < 8 → (i ≡ 5 → ⊥) → (i ≡ 6 → ⊥) → getD tests (l * 8 + i) 0 ≡ 0
       other i h a b =
@@ -257,11 +242,11 @@ module _ (cells : List ℕ) (offsets numbers : List ℤ) (counts : List ℕ) (n 
           (word-is 6 rest (ap (λ (t : List ℕ). getD t (l * 8 + 6) 0) is ∙ range-6 tests₀ (l * 8) back rest room) rest-is)
           (word-is 7 0 (other 7 (omega arith) (λ q. omega arith) (λ q. omega arith)) refl)
 
-      pub test-several : PutTest cells offsets numbers counts n l tests₀ tests
-      test-several = record {
+      pub test-range : PutTest cells offsets numbers counts n l tests₀ tests
+      test-range = record {
         long = ap length is ∙ range-long tests₀ (l * 8) back rest;
         made = counted words-made;
-        short = λ e. absurd (more (is-count ∙ e));
+        short = λ e. absurd (not-one (is-count ∙ e));
         kept = λ m i h f. ap (λ (t : List ℕ). getD t (m * 8 + i) 0) is ∙ range-other tests₀ (l * 8) back rest (m * 8 + i) (λ q. h (omega arith)) (λ q. h (omega arith));
       }
 

@@ -17,12 +17,12 @@ use Rattle.rules.specs.Rows.{tableOf, entryAt, compares, plusNumber, rightSide,
 use Rattle.rules.proofs.Choice.{decided}
 use Rattle.rules.proofs.Signed.{read-back}
 use Rattle.decode.specs.Layout.{cellAt, cellsFrom, Spots}
-use Rattle.letters.specs.Letters.{there, At, LetterRoom, FarBack, spotIndex, readMet, Reads, allRead, AllReads}
+use Rattle.letters.specs.Letters.{there, At, CellsRoom, FarBack, spotIndex, readMet, Reads, allRead, AllReads}
 use Rattle.letters.specs.Tests.{sortOf, raised, lowOf, widthOf, backOf, aheadOf, backBoth, aheadBoth, backAt, aheadAt, mostBack, mostAhead, rowsLeft, wordsOf, within, TestRoom}
 use Rattle.letters.proofs.Entries.{spot-entry, spot-index, spot-there}
-use Rattle.letters.proofs.Holding.{next-one, every-same}
+use Rattle.letters.proofs.Holding.{every-same}
 use Rattle.letters.proofs.Intervals.{number-is, column-is}
-use Rattle.letters.proofs.Putting.{most-above, words-none, words-one, words-several}
+use Rattle.letters.proofs.Putting.{most-above, words-one, words-other}
 use Rattle.letters.proofs.Reaching.{reach-there}
 
 -- ---- the rows that a comparison reads
@@ -104,12 +104,15 @@ module _ (tests cells : List ℕ) (offsets numbers : List ℤ) (counts : List �
   at-row : row < n → At rows columns n row base
   at-row h = let r = room .letters in record { some = r .some; few = r .few; most = r .most; all = r .all; is-row = h; first = room .first }
 
-  pub several-room : row < n → LetterRoom cells offsets counts l rows columns n row base
-  several-room h = let r = room .letters in record { at = at-row h; letter = room .letter; few = r .counted l (room .letter); spots = λ k g. r .spots l k (room .letter) g }
+  pub several-room : (count : ℕ) → row < n → count ≡ getD counts l 0 → CellsRoom cells offsets count (l * 8) rows columns n row base
+  several-room count h e =
+      let f = room .letter in
+      let c = room .letters .counted l (room .letter) in
+      record { at = at-row h; room = omega arith; spots = λ k g. room .letters .spots l k (room .letter) (omega arith) }
 
-  pub several-is : (r : Bool) → row < n → r ≡ holds (tableOf columns rows) row (cellsFrom columns cells offsets numbers (l * 8) (getD counts l 0))
+  pub several-is : (r : Bool) (count : ℕ) → row < n → count ≡ getD counts l 0 → r ≡ holds (tableOf columns rows) row (cellsFrom columns cells offsets numbers (l * 8) count)
       → r ≡ (ltb row n && holds (tableOf columns rows) row (cellsFrom columns cells offsets numbers (l * 8) (getD counts l 0)))
-  several-is r h e = rw (lt-ltb row n h) e
+  several-is r count h q e = rw (lt-ltb row n h) (e ∙ ap (λ (k : ℕ). holds (tableOf columns rows) row (cellsFrom columns cells offsets numbers (l * 8) k)) q)
 
   pub behind-last : n ≤ row → false ≡ (ltb row n && holds (tableOf columns rows) row (cellsFrom columns cells offsets numbers (l * 8) (getD counts l 0)))
   behind-last h = rw (le-ltb row n h) refl
@@ -119,24 +122,19 @@ module _ (tests cells : List ℕ) (offsets numbers : List ℤ) (counts : List �
     word : (i : ℕ) → i < 8 → getD tests (l * 8 + i) 0 ≡ getD (wordsOf cells offsets numbers n (l * 8) (getD counts l 0)) i 0
     word i h = room .letters .tested .words l i (room .letter) h
 
-    some-count : getD counts l 0 ≡ 0 → ⊥
-    some-count e =
-        let z : getD tests (l * 8 + 6) 0 ≡ 0 = word 6 (omega arith) ∙ ap (λ (ws : List ℕ). getD ws 6 0) (words-none cells offsets numbers n (l * 8) (getD counts l 0) e) in
-        omega arith
-
     word-5 : getD tests (l * 8 + 5) 0 ≡ mostBack cells offsets (l * 8) (getD counts l 0)
     word-5 =
         word 5 (omega arith)
         ∙ decided (eqb (getD counts l 0) 1)
         (λ e. ap (λ (ws : List ℕ). getD ws 5 0) (words-one cells offsets numbers n (l * 8) (getD counts l 0) (eqb-true (getD counts l 0) 1 e)))
-        (λ e. ap (λ (ws : List ℕ). getD ws 5 0) (words-several cells offsets numbers n (l * 8) (getD counts l 0) some-count (eqb-false (getD counts l 0) 1 e)))
+        (λ e. ap (λ (ws : List ℕ). getD ws 5 0) (words-other cells offsets numbers n (l * 8) (getD counts l 0) (eqb-false (getD counts l 0) 1 e)))
 
     word-6 : getD tests (l * 8 + 6) 0 ≡ rowsLeft cells offsets n (l * 8) (getD counts l 0)
     word-6 =
         word 6 (omega arith)
         ∙ decided (eqb (getD counts l 0) 1)
         (λ e. ap (λ (ws : List ℕ). getD ws 6 0) (words-one cells offsets numbers n (l * 8) (getD counts l 0) (eqb-true (getD counts l 0) 1 e)))
-        (λ e. ap (λ (ws : List ℕ). getD ws 6 0) (words-several cells offsets numbers n (l * 8) (getD counts l 0) some-count (eqb-false (getD counts l 0) 1 e)))
+        (λ e. ap (λ (ws : List ℕ). getD ws 6 0) (words-other cells offsets numbers n (l * 8) (getD counts l 0) (eqb-false (getD counts l 0) 1 e)))
 
     most-back : mostBack cells offsets (l * 8) (getD counts l 0) ≤ row
     unfolding rowsLeft
@@ -186,7 +184,7 @@ module _ (tests cells : List ℕ) (offsets numbers : List ℤ) (counts : List �
         one : getD counts l 0 ≡ 1
         one =
             decided (eqb (getD counts l 0) 1) (λ e. eqb-true (getD counts l 0) 1 e)
-            (λ e. absurd (tested (word-0 ∙ ap (λ (ws : List ℕ). getD ws 0 0) (words-several cells offsets numbers n (l * 8) (getD counts l 0) some-count (eqb-false (getD counts l 0) 1 e)))))
+            (λ e. absurd (tested (word-0 ∙ ap (λ (ws : List ℕ). getD ws 0 0) (words-other cells offsets numbers n (l * 8) (getD counts l 0) (eqb-false (getD counts l 0) 1 e)))))
 
         sort-is : getD tests (l * 8) 0 ≡ sortOf (getD cells (l * 8 * 4 + 3) 0)
         sort-is = word-0 ∙ ap (λ (ws : List ℕ). getD ws 0 0) (words-one cells offsets numbers n (l * 8) (getD counts l 0) one)

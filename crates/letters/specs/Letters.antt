@@ -53,12 +53,11 @@ pub record CellRoom (cells : List ℕ) (offsets : List ℤ) (g : ℕ) (rows : Li
   pub room : g < 208
   pub spots : Spots columns cells offsets g
 
--- the arrays hold the comparisons of letter l, as a decoded query's do
-pub record LetterRoom (cells : List ℕ) (offsets : List ℤ) (counts : List ℕ) (l : ℕ) (rows : List ℤ) (columns n row base : ℕ) : Type 0 where
+-- the arrays hold `count` comparisons from number g on, as a decoded query's do
+pub record CellsRoom (cells : List ℕ) (offsets : List ℤ) (count g : ℕ) (rows : List ℤ) (columns n row base : ℕ) : Type 0 where
   pub at : At rows columns n row base
-  pub letter : l < 26
-  pub few : getD counts l 0 ≤ 8
-  pub spots : (k : ℕ) → k < getD counts l 0 → Spots columns cells offsets (l * 8 + k)
+  pub room : g + count ≤ 208
+  pub spots : (k : ℕ) → k < count → Spots columns cells offsets (g + k)
 
 -- ---- comparisons all of whose rows are there
 

@@ -1,6 +1,6 @@
--- The table of tests: before a search, each letter that has comparisons gets the range of rows at which all rows that it reads are there, and a letter that has
--- exactly one gets all that its test needs. The words of letter l stand from 8 * l on: 0 the sort of test, 1 the left spot, 2 the right spot, 3 and 4 an interval, 5
--- and 6 the range. A letter whose word 0 is 0 is tested by its comparisons.
+-- The table of tests: before a search, each letter gets the range of rows at which all rows that it reads are there (all rows, if it has no comparison), and a letter
+-- that has exactly one comparison gets all that its test needs. The words of letter l stand from 8 * l on: 0 the sort of test, 1 the left spot, 2 the right spot, 3 and 4
+-- an interval, 5 and 6 the range. A letter whose word 0 is 0 is tested by its comparisons.
 use mathlib.Core.Path.{_≡_}
 use mathlib.Core.Bool.{Bool}
 use mathlib.Core.List.{List, [], _∷_}
@@ -85,16 +85,15 @@ unfoldable pub rowsLeft : List ℕ → List ℤ → ℕ → ℕ → ℕ → ℕ
 unfolding mostBack mostAhead
 rowsLeft cells offsets n g count = n - (mostBack cells offsets g count + mostAhead cells offsets g count)
 
--- The eight words of a letter whose `count` comparisons stand from number g on: zeros without a comparison, all with one, and the range of rows alone with several.
+-- The eight words of a letter whose `count` comparisons stand from number g on: all with exactly one comparison, else the range of rows alone.
 unfoldable pub wordsOf : List ℕ → List ℤ → List ℤ → ℕ → ℕ → ℕ → List ℕ
 unfolding sortOf lowOf widthOf raised mostBack rowsLeft
 wordsOf cells offsets numbers n g count =
-    pick (eqb count 0) (0 ∷ 0 ∷ 0 ∷ 0 ∷ 0 ∷ 0 ∷ 0 ∷ 0 ∷ [])
-    (pick (eqb count 1)
+    pick (eqb count 1)
     (sortOf (getD cells (g * 4 + 3) 0) ∷ getD cells (g * 4) 0 ∷ getD cells (g * 4 + 1) 0
     ∷ lowOf (getD cells (g * 4 + 2) 0) (raised (getD numbers g (pos 0))) ∷ widthOf (getD cells (g * 4 + 2) 0) (raised (getD numbers g (pos 0)))
     ∷ mostBack cells offsets g count ∷ rowsLeft cells offsets n g count ∷ 0 ∷ [])
-    (0 ∷ 0 ∷ 0 ∷ 0 ∷ 0 ∷ mostBack cells offsets g count ∷ rowsLeft cells offsets n g count ∷ 0 ∷ []))
+    (0 ∷ 0 ∷ 0 ∷ 0 ∷ 0 ∷ mostBack cells offsets g count ∷ rowsLeft cells offsets n g count ∷ 0 ∷ [])
 
 -- The table holds the words of every letter; the last field says what the type of `numbers` says of the number of a letter with one comparison.
 pub record Tested (cells : List ℕ) (offsets numbers : List ℤ) (counts : List ℕ) (n : ℕ) (tests : List ℕ) : Type 0 where

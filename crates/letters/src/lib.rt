@@ -13,7 +13,7 @@ ghost use Rattle.rules.specs.Rows.{tableOf, compares, met, holds};
 ghost use Rattle.decode.specs.Layout.{cellAt, cellsFrom};
 ghost use Rattle.letters.specs.Tests.{sortOf, raised, lowOf, widthOf, backOf, aheadOf, backBoth, aheadBoth, backAt, aheadAt, mostBack, mostAhead};
 ghost use Rattle.letters.specs.Tests.{within, setSeven, setRange, LowAt, PutRoom, PutTest, Preparable, Tested, TestRoom};
-ghost use Rattle.letters.specs.Letters.{flagOf, there, EntryThere, rightMet, RightRoom, CellRoom, LetterRoom, spotIndex, readMet, Reads, allRead, AllReads, FarBack};
+ghost use Rattle.letters.specs.Letters.{flagOf, there, EntryThere, rightMet, RightRoom, CellRoom, CellsRoom, spotIndex, readMet, Reads, allRead, AllReads, FarBack};
 
 // Numbers as wider ones.
 fn long(x: i32) -> i64
@@ -153,33 +153,32 @@ fn cell_met(
     )
 }
 
-// A letter by its comparisons, at a row whose first entry is at index base. Stops at the first comparison that is not met.
+// The first `count` comparisons from number g on, at a row whose first entry is at index base: judged in order, up to the first that is not met.
+// A recursion, at most 8 deep for a letter, whose call is not its last step: so it stays a call of its own, which keeps it out of the walk's loop.
 fn several_hold(
     cells: &[u16; 832],
     offsets: &[i8; 416],
     numbers: &[i32; 208],
-    counts: &[u8; 26],
-    l: usize,
+    count: usize,
+    g: usize,
     rows: &[i32],
     columns: usize,
     n: usize,
     row: usize,
     base: usize,
 ) -> bool
-    requires { ⌜ LetterRoom (now cells) (now offsets) (now counts) l (now rows) columns n row base ⌝ }
+    requires { ⌜ CellsRoom (now cells) (now offsets) count g (now rows) columns n row base ⌝ }
     ensures { λ r. ⌜ r ≡ holds (tableOf columns (now (rows .entry))) row
-        (cellsFrom columns (now (cells .entry)) (now (offsets .entry)) (now (numbers .entry)) (l * 8) (getD (now (counts .entry)) l 0)) ⌝ }
+        (cellsFrom columns (now (cells .entry)) (now (offsets .entry)) (now (numbers .entry)) g count) ⌝ }
 {
-    let count = byte(counts[l]);
-    let g = l * 8;
-    let mut k = 0;
-    while k < count {
-        if !cell_met(cells, offsets, numbers, g + k, rows, columns, n, row, base) {
-            return false;
-        }
-        k += 1;
+    if count == 0 {
+        return true;
     }
-    true
+    let k = count - 1;
+    if !several_hold(cells, offsets, numbers, k, g, rows, columns, n, row, base) {
+        return false;
+    }
+    cell_met(cells, offsets, numbers, g + k, rows, columns, n, row, base)
 }
 
 // ---- comparisons all of whose rows are there
@@ -455,7 +454,7 @@ fn put_range(tests: &mut [u64; 208], at: usize, back: u64, rest: u64)
     tests[at + 6] = rest;
 }
 
-// The words of letter l: none without comparisons, the range alone with several.
+// The words of letter l: all with exactly one comparison, else the range alone.
 fn put_test(
     cells: &[u16; 832],
     offsets: &[i8; 416],
@@ -469,9 +468,6 @@ fn put_test(
     ensures { λ r. ⌜ PutTest (now (cells .entry)) (now (offsets .entry)) (now (numbers .entry)) (now (counts .entry)) n l (now (tests .entry)) (now (tests .exit)) ⌝ }
 {
     let count = byte(counts[l]);
-    if count == 0 {
-        return;
-    }
     let g = l * 8;
     let back = most_back(cells, offsets, g, count);
     let rest = left_over(n, back + most_ahead(cells, offsets, g, count));
@@ -553,8 +549,8 @@ pub fn letter_holds(
                 cells,
                 offsets,
                 numbers,
-                counts,
-                l,
+                byte(counts[l]),
+                at,
                 rows,
                 columns,
                 n,

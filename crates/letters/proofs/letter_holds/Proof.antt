@@ -30,6 +30,12 @@ mul-if1 c = search needs
 element-copy-out-if1 : tie.Need-element-copy-out-if1
 element-copy-out-if1 c = search needs
 
+element-copy-out-byte : tie.Need-element-copy-out-byte
+element-copy-out-byte c = search needs
+
+byte-requires : tie.Need-byte-requires
+byte-requires c κs = search needs
+
 several-hold-requires : tie.Need-several-hold-requires
 several-hold-requires c κs = search (needs, several-room)
 
@@ -48,11 +54,11 @@ mul-sort c = search needs
 element-copy-out-sort : tie.Need-element-copy-out-sort
 element-copy-out-sort c = search needs
 
-element-copy-out-byte : tie.Need-element-copy-out-byte
-element-copy-out-byte c = search needs
+element-copy-out-byte-2 : tie.Need-element-copy-out-byte-2
+element-copy-out-byte-2 c = search needs
 
-byte-requires : tie.Need-byte-requires
-byte-requires c κs = search needs
+byte-requires-2 : tie.Need-byte-requires-2
+byte-requires-2 c κs = search needs
 
 all-met-requires : tie.Need-all-met-requires
 all-met-requires c κs = search (needs, all-there)
@@ -156,14 +162,16 @@ letter-holds-spec =
     add-if1
     mul-if1
     element-copy-out-if1
+    element-copy-out-byte
+    byte-requires
     several-hold-requires
     returns
     returns-2
     far-back-requires
     mul-sort
     element-copy-out-sort
-    element-copy-out-byte
-    byte-requires
+    element-copy-out-byte-2
+    byte-requires-2
     all-met-requires
     returns-3
     add-entry-from

@@ -1,5 +1,5 @@
 -- `letters::put_test` meets its contract by the laws of Putting.
-use Rattle.letters.proofs.Putting.{test-none, test-several, test-one}
+use Rattle.letters.proofs.Putting.{test-range, test-one}
 use borrow.Author.Needs.{needs}
 use Rattle.letters.proofs.put_test.Statement.{statement}
 use Rattle.letters.proofs.put_test.Tie as tie
@@ -9,9 +9,6 @@ element-copy-out-byte c = search needs
 
 byte-requires : tie.Need-byte-requires
 byte-requires c κs = search needs
-
-returns : tie.Need-returns
-returns c = search (needs, test-none)
 
 mul-g : tie.Need-mul-g
 mul-g c = search needs
@@ -31,8 +28,8 @@ left-over-requires c κs = search needs
 put-range-requires : tie.Need-put-range-requires
 put-range-requires c κs = search needs
 
-returns-2 : tie.Need-returns-2
-returns-2 c = search (needs, test-several)
+returns : tie.Need-returns
+returns c = search (needs, test-range)
 
 sort-at-requires : tie.Need-sort-at-requires
 sort-at-requires c κs = search needs
@@ -73,8 +70,8 @@ width-at-requires c κs = search needs
 put-words-requires : tie.Need-put-words-requires
 put-words-requires c κs = search needs
 
-returns-3 : tie.Need-returns-3
-returns-3 c = search (needs, test-one)
+returns-2 : tie.Need-returns-2
+returns-2 c = search (needs, test-one)
 
 pub put-test-spec : {M : Type 1} → statement M
 put-test-spec =
@@ -82,14 +79,13 @@ put-test-spec =
     (tie.spec
     element-copy-out-byte
     byte-requires
-    returns
     mul-g
     most-back-requires
     most-ahead-requires
     add-left-over
     left-over-requires
     put-range-requires
-    returns-2
+    returns
     sort-at-requires
     mul-word
     mul-word-2
@@ -103,4 +99,4 @@ put-test-spec =
     low-at-requires
     width-at-requires
     put-words-requires
-    returns-3)
+    returns-2)

@@ -1,0 +1,100 @@
+-- `letters::several_hold`, which calls itself, meets its contract by the laws of Holding. The measure: how many comparisons there are.
+use Rattle.letters.proofs.Holding.{none-hold, before-unmet, last-decides, room-before, room-last}
+use borrow.Author.Needs.{needs}
+use Prim.Native.Nat.{ℕ, _<_}
+use borrow.Fn.Kinds.{In}
+use borrow.Fn.PlainCycle.{Measures, is, falls, and}
+use Rattle.letters.proofs.several_hold.Reads as several-hold
+use Rattle.letters.proofs.several_hold.Kinds as several-hold-kinds
+use Rattle.letters.proofs.+several_hold.Lts-several_hold as several-hold-lts
+use Rattle.letters.proofs.cell_met.Reads as cell-met-reads
+use Rattle.letters.proofs.+several_hold.{statement}
+use Rattle.letters.proofs.+several_hold.Tie.{close}
+
+abbrev μ-several-hold : Measures 4 several-hold-kinds.ps ℕ
+μ-several-hold κs a = a .1 .1 .1 .0
+
+abbrev several-hold-at : ℕ → In 4 several-hold-kinds.ps
+several-hold-at t =
+    and 4 several-hold-kinds.ps (is 4 several-hold-kinds.ps μ-several-hold t) several-hold.Pre
+
+abbrev several-hold-below : ℕ → In 4 several-hold-kinds.ps
+several-hold-below t =
+    and
+    4
+    several-hold-kinds.ps
+    (falls 4 several-hold-kinds.ps _<_ μ-several-hold t)
+    several-hold.Pre
+
+several-hold-returns : (t : ℕ) → several-hold-lts.Need-returns (
+  several-hold-below t,
+  several-hold.Post,
+  cell-met-reads.Asked,
+  cell-met-reads.Learnt,
+) (several-hold-at t) several-hold.Post
+several-hold-returns t c = search (needs, none-hold)
+
+several-hold-sub-k : (t : ℕ) → several-hold-lts.Need-sub-k (
+  several-hold-below t,
+  several-hold.Post,
+  cell-met-reads.Asked,
+  cell-met-reads.Learnt,
+) (several-hold-at t) several-hold.Post
+several-hold-sub-k t c = search needs
+
+several-hold-several-hold-requires : (t : ℕ) → several-hold-lts.Need-several-hold-requires (
+  several-hold-below t,
+  several-hold.Post,
+  cell-met-reads.Asked,
+  cell-met-reads.Learnt,
+) (several-hold-at t) several-hold.Post
+several-hold-several-hold-requires t c κs = search (needs, room-before)
+
+several-hold-returns-2 : (t : ℕ) → several-hold-lts.Need-returns-2 (
+  several-hold-below t,
+  several-hold.Post,
+  cell-met-reads.Asked,
+  cell-met-reads.Learnt,
+) (several-hold-at t) several-hold.Post
+several-hold-returns-2 t c = search (needs, before-unmet)
+
+several-hold-add-cell-met : (t : ℕ) → several-hold-lts.Need-add-cell-met (
+  several-hold-below t,
+  several-hold.Post,
+  cell-met-reads.Asked,
+  cell-met-reads.Learnt,
+) (several-hold-at t) several-hold.Post
+several-hold-add-cell-met t c = search needs
+
+several-hold-cell-met-requires : (t : ℕ) → several-hold-lts.Need-cell-met-requires (
+  several-hold-below t,
+  several-hold.Post,
+  cell-met-reads.Asked,
+  cell-met-reads.Learnt,
+) (several-hold-at t) several-hold.Post
+several-hold-cell-met-requires t c κs = search (needs, room-last)
+
+several-hold-returns-3 : (t : ℕ) → several-hold-lts.Need-returns-3 (
+  several-hold-below t,
+  several-hold.Post,
+  cell-met-reads.Asked,
+  cell-met-reads.Learnt,
+) (several-hold-at t) several-hold.Post
+several-hold-returns-3 t c = search (needs, last-decides)
+
+pub +several-hold-spec : {M : Type 1} → statement M
++several-hold-spec = close μ-several-hold λ t. several-hold-lts.spec (
+  several-hold-below t,
+  several-hold.Post,
+  cell-met-reads.Asked,
+  cell-met-reads.Learnt,
+)
+    (several-hold-at t)
+    several-hold.Post
+    (several-hold-returns t)
+    (several-hold-sub-k t)
+    (several-hold-several-hold-requires t)
+    (several-hold-returns-2 t)
+    (several-hold-add-cell-met t)
+    (several-hold-cell-met-requires t)
+    (several-hold-returns-3 t)
