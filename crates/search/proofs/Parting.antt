@@ -8,7 +8,7 @@ use native.Mathlib.Omega.{arith}
 use lib.Dec.{ltb, eqb}
 use lib.ListN.{length, getD, set, length-set}
 use lib.Seq.{getD-set-same, getD-set-other}
-use borrow.Author.Tests.{ltb-true, ltb-false, lt-ltb, le-ltb, ne-eqb}
+use borrow.Author.Tests.{ltb-true, ltb-false, lt-ltb, le-ltb, eq-eqb, ne-eqb}
 use Rattle.rules.specs.Basics.{pick}
 use Rattle.search.specs.Spread.{Filled, codeBy, firstBy, secondBy, codeOf, nextOf, entryOf, stopOf, Place, Parts, Parted}
 
@@ -64,25 +64,30 @@ module _ (T : List ℕ) (p : ℕ) (co ne en st : List ℕ) where
 
 -- ---- what is put
 
-pub code-fork : (s c : ℕ) → s ≡ 0 → 28 ≡ codeBy s c
-unfolding codeBy
-code-fork s c e = rw e
+module _ (s c k q : ℕ) where
+  pub code-near : s ≡ 0 → k ≡ q + 1 → 28 ≡ codeBy s c k q
+  unfolding codeBy
+  code-near e d = rw (e, eq-eqb k (q + 1) d)
 
-pub code-letter : (s c : ℕ) → s ≡ 1 → (c % 256 + 191) % 256 ≡ codeBy s c
-unfolding codeBy
-code-letter s c e = rw e
+  pub code-far : s ≡ 0 → (k ≡ q + 1 → ⊥) → 29 ≡ codeBy s c k q
+  unfolding codeBy
+  code-far e d = rw (e, ne-eqb k (q + 1) d)
 
-pub code-caret : (s c : ℕ) → s ≡ 2 → 26 ≡ codeBy s c
-unfolding codeBy
-code-caret s c e = rw e
+  pub code-letter : s ≡ 1 → (c % 256 + 191) % 256 ≡ codeBy s c k q
+  unfolding codeBy
+  code-letter e = rw e
 
-pub code-dollar : (s c : ℕ) → s ≡ 3 → 27 ≡ codeBy s c
-unfolding codeBy
-code-dollar s c e = rw e
+  pub code-caret : s ≡ 2 → 26 ≡ codeBy s c k q
+  unfolding codeBy
+  code-caret e = rw e
 
-pub code-end : (s c : ℕ) → (s ≡ 0 → ⊥) → (s ≡ 1 → ⊥) → (s ≡ 2 → ⊥) → (s ≡ 3 → ⊥) → 29 ≡ codeBy s c
-unfolding codeBy
-code-end s c x y z w = rw (ne-eqb s 0 x, ne-eqb s 1 y, ne-eqb s 2 z, ne-eqb s 3 w)
+  pub code-dollar : s ≡ 3 → 27 ≡ codeBy s c k q
+  unfolding codeBy
+  code-dollar e = rw e
+
+  pub code-end : (s ≡ 0 → ⊥) → (s ≡ 1 → ⊥) → (s ≡ 2 → ⊥) → (s ≡ 3 → ⊥) → 30 ≡ codeBy s c k q
+  unfolding codeBy
+  code-end x y z w = rw (ne-eqb s 0 x, ne-eqb s 1 y, ne-eqb s 2 z, ne-eqb s 3 w)
 
 pub first-fork : (T : List ℕ) (s k j : ℕ) → j ≡ k → s ≡ 0 → getD T j 0 ≡ firstBy T s k
 unfolding firstBy
@@ -110,6 +115,9 @@ second-other s k e d = (rw (ne-eqb s 0 d), omega arith)
 
 pub put-entry : (l : List ℕ) (q s k e a b r : ℕ) → a ≡ k → b ≡ e → r ≡ secondBy s a b → set l q (q + r * 2097152) ≡ set l q (q + secondBy s k e * 2097152)
 put-entry l q s k e a b r ea eb er = rw (er, ea, eb)
+
+pub put-code : (l : List ℕ) (q s c k j f r : ℕ) → j ≡ k → k ≡ f → r ≡ codeBy s c j q → set l q r ≡ set l q (codeBy s c f q)
+put-code l q s c k j f r ej ek er = rw (er, ej, ek)
 
 pub put-is : (l : List ℕ) (q a b : ℕ) → a ≡ b → set l q a ≡ set l q b
 put-is l q a b e = rw e

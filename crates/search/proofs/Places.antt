@@ -63,15 +63,29 @@ fork-ways T k e h = go (ltb (k + 1) e) refl
         let a : F.span T (suc k) (e - k - 1) ≡ [] = ap (F.span T (suc k)) m in
         sym (span-first T k e h ∙ ap (λ (l : List ℕ). getD T k 0 ∷ l) a)
 
+-- a fork's code is 28 or 29
+fork-code : (c f q : ℕ) (s : ℕ) → s ≡ 0 → (28 ≤ codeBy s c f q) × (codeBy s c f q ≤ 29)
+unfolding codeBy
+fork-code c f q s e = rw e (go (eqb f (q + 1)))
+  where
+    go : (b : Bool) → (28 ≤ pick b 28 29) × (pick b 28 29 ≤ 29)
+    go true = (omega arith, omega arith)
+    go false = (omega arith, omega arith)
+
+both-forks : (k : ℕ) (ks : List ℕ) (b : Bool) → W.placeBy (pick b 28 29) k ks ≡ pFork ks
+unfolding W.placeBy
+both-forks k ks true = refl
+both-forks k ks false = refl
+
 -- the code, the first place and the ways give the same place
-module _ (T : List ℕ) (c k e : ℕ) where
+module _ (T : List ℕ) (c k e q : ℕ) where
   abbrev ways : ℕ → List ℕ
   ways s = firstBy T s k ∷ W.span T (secondBy s k e) (many e (secondBy s k e))
 
   pub place-same : (s : ℕ) → Spelt (F.placeBy s c k (F.span T k (e - k))) → Wayed (F.placeBy s c k (F.span T k (e - k)))
-      → W.placeBy (codeBy s c) (firstBy T s k) (ways s) ≡ F.placeBy s c k (F.span T k (e - k))
+      → W.placeBy (codeBy s c (firstBy T s k) q) (firstBy T s k) (ways s) ≡ F.placeBy s c k (F.span T k (e - k))
   unfolding W.placeBy F.placeBy codeBy firstBy secondBy
-  place-same zero l w = ap pFork (fork-ways T k e (let d : length (F.span T k (e - k)) ≡ e - k = span-length T (e - k) k in omega arith))
+  place-same zero l w = both-forks _ _ (eqb (getD T k 0) (q + 1)) ∙ ap pFork (fork-ways T k e (let d : length (F.span T k (e - k)) ≡ e - k = span-length T (e - k) k in omega arith))
   place-same (suc zero) l w =
       let d : (c % 256 + 191) % 256 + 65 ≡ c = omega arith in
       let b : ltb ((c % 256 + 191) % 256) 26 ≡ true = lt-ltb ((c % 256 + 191) % 256) 26 (omega arith) in
@@ -105,9 +119,26 @@ second-is s k e h = go (eqb s 0) refl (ltb (k + 1) e) refl h
     go true x false y h = absurd (not-suc-le-zero h)
     go false x d y h = absurd (not-suc-le-zero h)
 
-code-is-fork : (s c : ℕ) → s ≡ 0 → codeBy s c ≡ 28
-unfolding codeBy
-code-is-fork s c e = rw e
+-- only a fork that tries the place behind it first has code 28
+near-is : (s c k f q : ℕ) (ks : List ℕ) → Spelt (F.placeBy s c k ks) → codeBy s c f q ≡ 28 → f ≡ q + 1
+unfolding F.placeBy codeBy
+near-is zero c k f q ks l h = go (eqb f (q + 1)) refl h
+  where
+    go : (b : Bool) → eqb f (q + 1) ≡ b → _≡_ {A = ℕ} (pick b 28 29) 28 → f ≡ q + 1
+    go true y d = eqb-true f (q + 1) y
+    go false y d = absurd (omega arith)
+near-is (suc zero) c k f q ks l h = let d : (c % 256 + 191) % 256 ≡ 28 = h in absurd (omega arith)
+near-is (suc (suc zero)) c k f q ks l h = let d : _≡_ {A = ℕ} 26 28 = h in absurd (omega arith)
+near-is (suc (suc (suc zero))) c k f q ks l h = let d : _≡_ {A = ℕ} 27 28 = h in absurd (omega arith)
+near-is (suc (suc (suc (suc m)))) c k f q ks l h =
+    let d : _≡_ {A = ℕ} 30 28 =
+    rw (
+      ne-eqb (suc (suc (suc (suc m)))) 0 (λ (z : suc (suc (suc (suc m))) ≡ 0). omega arith),
+      ne-eqb (suc (suc (suc (suc m)))) 1 (λ (z : suc (suc (suc (suc m))) ≡ 1). omega arith),
+      ne-eqb (suc (suc (suc (suc m)))) 2 (λ (z : suc (suc (suc (suc m))) ≡ 2). omega arith),
+      ne-eqb (suc (suc (suc (suc m)))) 3 (λ (z : suc (suc (suc (suc m))) ≡ 3). omega arith),
+    ) at h in
+    absurd (omega arith)
 
 -- ---- the packed table
 
@@ -192,7 +223,7 @@ module _ (table : List ℕ) (p : ℕ) (co₀ ne₀ en₀ st₀ co ne en st : Lis
   unfolding W.placeAt F.placeIn
   cut-at q h l w =
       rw (at-code q h, ways-at q h, at-next q h)
-      (place-same table (letterOf table q) (beginOf table q) (stopOf table q) (sortOf table q) (open-place Spelt table q l) (open-place Wayed table q w))
+      (place-same table (letterOf table q) (beginOf table q) (stopOf table q) q (sortOf table q) (open-place Spelt table q l) (open-place Wayed table q w))
 
   -- ---- against the unrolled pattern
 
@@ -222,15 +253,19 @@ module _ (table : List ℕ) (p : ℕ) (co₀ ne₀ en₀ st₀ co ne en st : Lis
             stops = length-take-le p st ht ∙ sym cut-count;
             ways = short;
             entry = λ q h. let k = below q h in rw (at-entry q k) (omega arith);
+            near = λ q h z. let k = below q h in rw (at-next q k) (near q k (rw (at-code q k) at z));
             one = λ q h z. one q (below q h) z;
             back = λ q h z. let k = below q h in rw (at-second q k, at-stop q k) (second-is (sortOf table q) (beginOf table q) (stopOf table q) (rw (at-second q k) at z) .1);
             stop = λ q h z. let k = below q h in rw (at-stop q k) (inside q k);
           }
         where
+          near : (q : ℕ) → q < p → codeOf table q ≡ 28 → nextOf table q ≡ q + 1
+          near q k z = near-is (sortOf table q) (letterOf table q) (beginOf table q) (nextOf table q) q _ (open-place Spelt table q (spelt-at table p t c e l q k)) z
+
           none : (q : ℕ) (b : Bool) → ltb 0 (second q) ≡ b → codeOf table q < 28 → second q ≡ 0
           none q true x z =
               let f = second-is (sortOf table q) (beginOf table q) (stopOf table q) (ltb-true 0 (second q) x) .0 in
-              let v = code-is-fork (sortOf table q) (letterOf table q) f in
+              let v = fork-code (letterOf table q) (nextOf table q) q (sortOf table q) f .0 in
               absurd (omega arith)
           none q false x z = let v = ltb-false 0 (second q) x in omega arith
 

@@ -25,24 +25,25 @@ beginOf T q = getD T (4 * q + 2) 0
 abbrev pub stopOf : List ℕ → ℕ → ℕ
 stopOf T q = getD T (4 * q + 3) 0
 
--- a place's code by its sort and letter: a letter's byte less 65
-unfoldable pub codeBy : ℕ → ℕ → ℕ
-codeBy s c = pick (eqb s 0) 28 (pick (eqb s 1) ((c % 256 + 191) % 256) (pick (eqb s 2) 26 (pick (eqb s 3) 27 29)))
-
 -- the place that is tried first: of a fork, its first way
 unfoldable pub firstBy : List ℕ → ℕ → ℕ → ℕ
 firstBy T s k = pick (eqb s 0) (getD T k 0) k
+
+-- the code of place q by its sort, its letter and the place k that it tries first: a letter's byte less 65; 28 for a fork that tries the place behind it first, 29 for any
+-- other fork
+unfoldable pub codeBy : ℕ → ℕ → ℕ → ℕ → ℕ
+codeBy s c k q = pick (eqb s 0) (pick (eqb k (q + 1)) 28 29) (pick (eqb s 1) ((c % 256 + 191) % 256) (pick (eqb s 2) 26 (pick (eqb s 3) 27 30)))
 
 -- the index of a fork's second way; 0 for none
 unfoldable pub secondBy : ℕ → ℕ → ℕ → ℕ
 unfolding after
 secondBy s k e = pick (eqb s 0) (after e k) 0
 
-abbrev pub codeOf : List ℕ → ℕ → ℕ
-codeOf T q = codeBy (sortOf T q) (letterOf T q)
-
 abbrev pub nextOf : List ℕ → ℕ → ℕ
 nextOf T q = firstBy T (sortOf T q) (beginOf T q)
+
+abbrev pub codeOf : List ℕ → ℕ → ℕ
+codeOf T q = codeBy (sortOf T q) (letterOf T q) (nextOf T q) q
 
 abbrev pub entryOf : List ℕ → ℕ → ℕ
 entryOf T q = q + secondBy (sortOf T q) (beginOf T q) (stopOf T q) * 2097152

@@ -17,12 +17,16 @@ fn wide(x: u16) -> usize
     x as usize
 }
 
-// The code of a place of this sort and letter.
-fn code_of(sort: u16, letter: u16) -> u8
-    ensures { λ r. ⌜ r ≡ codeBy sort letter ⌝ }
+// The code of place q, of this sort and letter, which tries place k first.
+fn code_of(sort: u16, letter: u16, k: usize, q: usize) -> u8
+    requires { ⌜ q < 256 ⌝ }
+    ensures { λ r. ⌜ r ≡ codeBy sort letter k q ⌝ }
 {
     if sort == 0 {
-        return 28;
+        if k == q + 1 {
+            return 28;
+        }
+        return 29;
     }
     if sort == 1 {
         return ((letter % 256 + 191) % 256) as u8;
@@ -33,7 +37,7 @@ fn code_of(sort: u16, letter: u16) -> u8
     if sort == 3 {
         return 27;
     }
-    29
+    30
 }
 
 // The place that is tried first from a place of this sort whose next place, or whose first way's word, is k.
@@ -76,8 +80,9 @@ fn put_place(
     let sort = table[at];
     let k = table[at + 2];
     let e = table[at + 3];
-    code[q] = code_of(sort, table[at + 1]);
-    next[q] = first_of(table, sort, k);
+    let first = first_of(table, sort, k);
+    code[q] = code_of(sort, table[at + 1], wide(first), q);
+    next[q] = first;
     entry[q] = (q + second_of(sort, wide(k), wide(e)) * 2097152) as u32;
     stop[q] = e;
 }

@@ -85,7 +85,7 @@ label-of c k ks vs false false false false = refl
 
 label-at : (T : Tables) (q : ℕ) (vs : List ℕ) → labelOf (placeAt T q) vs ≡ labelBy (getD (T .code) q 0) vs
 unfolding placeAt placeBy labelBy
-label-at T q vs = label-of _ (getD (T .next) q 0) (waysOf T q) vs (ltb (getD (T .code) q 0) 26) (eqb (getD (T .code) q 0) 26) (eqb (getD (T .code) q 0) 27) (eqb (getD (T .code) q 0) 28)
+label-at T q vs = label-of _ (getD (T .next) q 0) (waysOf T q) vs (ltb (getD (T .code) q 0) 26) (eqb (getD (T .code) q 0) 26) (eqb (getD (T .code) q 0) 27) (ltb (getD (T .code) q 0) 30)
 
 up-cons : (pl : List Place) (x : ℕ) (xs vs : List ℕ) → labelsUp pl (x ∷ xs) vs ≡ labelsUp pl xs (labelOf (getD pl (x % length pl) (pFork [])) vs)
 unfolding labelsUp

@@ -35,7 +35,7 @@ last-up : (d x : ℕ) (p xs : List ℕ) → lastOf d (reverseAux xs (x ∷ p)) �
 last-up d x p [] = refl
 last-up d x p (y ∷ xs) = last-up d y (x ∷ p) xs
 
-takes-end : (T : Tables) (q : ℕ) → 28 < getD (T .code) q 0 → takes (placeAt T q) ≡ 0
+takes-end : (T : Tables) (q : ℕ) → 29 < getD (T .code) q 0 → takes (placeAt T q) ≡ 0
 unfolding placeAt
 takes-end T q h = by-high (λ _ _. true) 0 (P T) (getD (T .next) q 0) (waysOf T q) 0 (getD (T .code) q 0) (omega arith)
 

@@ -84,7 +84,7 @@ pub record Reports (T : Tables) (n : ℕ) (ms : List ℕ) (count : ℕ) (rows : 
   pub measured : Measured ms count rows columns n
   pub path : OnPath T trail w
   pub going : 0 < w .top
-  pub last : 28 < getD (T .code) (w .place) 0
+  pub last : 29 < getD (T .code) (w .place) 0
   pub bottom : pairIn (P T) (getD trail 0 0) ≡ i .row * P T
   pub row : i .row < n
   pub behind : w .row ≤ n

@@ -246,7 +246,7 @@ module _ (T : Tables) (holds : ℕ → ℕ → Bool) (n : ℕ) (Q : Type 0) (not
     abbrev m : ℕ
     m = suc (j - first)
 
-    code-is : getD (T .code) (placeIn (getD trail₂ (w .top - 1) 0)) 0 ≤ 28
+    code-is : getD (T .code) (placeIn (getD trail₂ (w .top - 1) 0)) 0 ≤ 29
     code-is = rw (on-top, v-place) (stuck .going)
 
     inside : m < length (waysOf T (placeIn (getD trail₂ (w .top - 1) 0)))

@@ -22,7 +22,7 @@ use Rattle.walk.specs.declared.Walk.{Walk}
 use Rattle.walk.specs.Tables.{Tables, P, N, second, waysOf, graphOf, passesBy}
 use Rattle.walk.specs.Step.{placeIn, rowIn, wayIn, pairIn, stack, walkAt, outcomeBy}
 use Rattle.walk.specs.State.{Onto, Linked, Passing, Word, rowFrom, wayAt, Led, Stuck, Good, Next, Ends, Stands, State, left, resumed, entering, comes, Reached}
-use Rattle.walk.proofs.Ways.{pair-row, pair-place, ways-shut, ways-end, ways-are, leads-each}
+use Rattle.walk.proofs.Ways.{pair-row, pair-place, ways-end, ways-are, leads-each}
 use Rattle.walk.proofs.Trails.{word-row, word-place, entry-place, entry-row, entry-way, stack-length, stack-push, stack-top, linked-under}
 
 pub path-is : (P : ℕ) (trail : List ℕ) (F : List Bool) (s t : ℕ) → 0 < t → found (reverseAux (stack P trail t) []) F s ≡ outcomeBy P t trail F s
@@ -275,7 +275,7 @@ module _ (T : Tables) (holds : ℕ → ℕ → Bool) (n : ℕ) (Q : Type 0) (not
         }
 
     -- END is open
-    pub open-end : 28 < getD (T .code) q 0 → Reached T holds n Q notes trail then notes (set trail (w .top) v) (walkAt (w .top + 1) (w .steps + 1) q row base 0 1)
+    pub open-end : 29 < getD (T .code) q 0 → Reached T holds n Q notes trail then notes (set trail (w .top) v) (walkAt (w .top + 1) (w .steps + 1) q row base 0 1)
     open-end l = open-reached (walkAt (w .top + 1) (w .steps + 1) q row base 0 1) (open-good 0 1) stands (comes-idle T holds n notes _ _ never ∙ open-resumed 0 1)
       where
         stands : Stands T holds n Q notes (set trail (w .top) v) (walkAt (w .top + 1) (w .steps + 1) q row base 0 1)
@@ -290,8 +290,8 @@ module _ (T : Tables) (holds : ℕ → ℕ → Bool) (n : ℕ) (Q : Type 0) (not
     unfolding left
     open-less k r b d f = let a = room in omega arith
 
-  -- it does not pass
-  module _ (p : passing ≡ false) where
+  -- no way of it is open
+  module _ (ys : List ℕ) (tries : graphOf T holds n y ≡ try ys) (closed : firstOpen G ys ≡ none) where
     abbrev G′ : List Bool
     G′ = bitsOf (marked notes y) (N T n)
 
@@ -329,14 +329,11 @@ module _ (T : Tables) (holds : ℕ → ℕ → Bool) (n : ℕ) (Q : Type 0) (not
     shut-stands : Stands T holds n Q (marked notes y) trail (walkAt (w .top) (w .steps + 1) (w .place) (w .row) (w .base) 0 0)
     shut-stands = record { next = λ d. absurd (never d); ends = λ d. absurd (never d); stuck = λ _ _ l. led-stuck T notes (marked notes y) _ _ (h .led l) keeps shut-marked }
 
-    nothing : graphOf T holds n y ≡ try []
-    nothing = rw (h .base-is) (ways-shut T holds n q row (h .place) p)
-
     shut-same : resumed T holds n (marked notes y) trail (walkAt (w .top) (w .steps + 1) (w .place) (w .row) (w .base) 0 0) ≡ then
-    unfolding resumed entering firstOpen
+    unfolding resumed entering
     shut-same =
         rw (bits-is, add-one (w .steps))
-        (sym (resume-pop (graphOf T holds n) (h .good .legal .ρ) (N T n) (h .good .legal .falls) (N T n) (h .good .legal .bound) (stack (P T) trail (w .top)) G (suc (w .steps)) y [] nothing refl))
+        (sym (resume-pop (graphOf T holds n) (h .good .legal .ρ) (N T n) (h .good .legal .falls) (N T n) (h .good .legal .bound) (stack (P T) trail (w .top)) G (suc (w .steps)) y ys tries closed))
 
     pub shut-reached : Reached T holds n Q notes trail then (marked notes y) trail (walkAt (w .top) (w .steps + 1) (w .place) (w .row) (w .base) 0 0)
     unfolding marked
@@ -430,7 +427,7 @@ module _ (T : Tables) (holds : ℕ → ℕ → Bool) (n : ℕ) (Q : Type 0) (not
       rw (row-is, place-is) at (a .0)
 
   -- END is on top: the open pairs are the path
-  pub top-end : 28 < getD (T .code) (placeIn e) 0 → resumed T holds n notes trail w ≡ outcomeBy (P T) (w .top) trail (bitsOf notes (N T n)) (w .steps)
+  pub top-end : 29 < getD (T .code) (placeIn e) 0 → resumed T holds n notes trail w ≡ outcomeBy (P T) (w .top) trail (bitsOf notes (N T n)) (w .steps)
   unfolding resumed
   top-end h =
       let d : graphOf T holds n x ≡ accept = ways-end T holds n (placeIn e) (rowIn e) (top-word .place) h in
@@ -438,7 +435,7 @@ module _ (T : Tables) (holds : ℕ → ℕ → Bool) (n : ℕ) (Q : Type 0) (not
       rw top-is (resume-accept (graphOf T holds n) (g .legal .ρ) (N T n) (g .legal .falls) (N T n) (g .legal .bound) (stack (P T) trail (w .top - 1)) F (w .steps) x d) in
       a ∙ path-is (P T) trail F (w .steps) (w .top) going
 
-  module _ (more : getD (T .code) (placeIn e) 0 ≤ 28) where
+  module _ (more : getD (T .code) (placeIn e) 0 ≤ 29) where
     abbrev ks : List ℕ
     ks = waysOf T (placeIn e)
 

@@ -17,7 +17,7 @@ use Rattle.letters.specs.Tests.{Letters, TestRoom}
 use Rattle.walk.specs.declared.Walk.{Walk}
 use Rattle.walk.specs.Letters.{holdsIn}
 use Rattle.walk.specs.Tables.{passesBy}
-use Rattle.walk.specs.Step.{oneUnless, mem, walkAt, tryAt, after, openedBy, enteredBy, Noted, Enters}
+use Rattle.walk.specs.Step.{oneUnless, mem, walkAt, tryAt, after, opens, openedBy, openIf, enteredBy, Noted, Enters}
 use Rattle.walk.proofs.Trying.{letter-in}
 
 -- ---- a letter
@@ -78,22 +78,29 @@ pub tried-is : (notes : List ℕ) (top steps q row base : ℕ) (f : Bool) (d : �
 tried-is notes top steps q row base f d e g = rw (g, e)
 
 module _ (notes trail : List ℕ) (w : Walk) (c v k P : ℕ) (p : Bool) (trail′ : List ℕ) (et : trail′ ≡ set trail (w .top) (w .row * 256 + v)) (r : Walk) where
-  pub entered-letter : true ≡ p → c < 26 → (x : ℕ) → x ≡ k → r ≡ tryAt notes (w .top + 1) (w .steps + 1) x (w .row + 1) (w .base + P) → mem notes trail′ r ≡ enteredBy p (mem notes trail w) c v k P
-  unfolding enteredBy openedBy
-  entered-letter e l x ex er = rw (← e, et, er, ex, lt-ltb c 26 l)
+  pub entered-letter : true ≡ p → c < 26 → (x : ℕ) → x ≡ k → bitAt notes (w .base + P + x) ≡ false → r ≡ walkAt (w .top + 1) (w .steps + 1) x (w .row + 1) (w .base + P) 1 0
+      → mem notes trail′ r ≡ enteredBy p (mem notes trail w) c v k P
+  unfolding enteredBy opens openIf openedBy oneUnless
+  entered-letter e l x ex o er = let b : bitAt notes (w .base + P + k) ≡ false = rw ex at o in rw (← e, lt-ltb c 26 l, b, et, er, ex, lt-ltb c 26 l, b)
 
-  pub entered-other : true ≡ p → 26 ≤ c → c ≤ 28 → (x : ℕ) → x ≡ k → r ≡ tryAt notes (w .top + 1) (w .steps + 1) x (w .row) (w .base) → mem notes trail′ r ≡ enteredBy p (mem notes trail w) c v k P
-  unfolding enteredBy openedBy
-  entered-other e l m x ex er = rw (← e, et, er, ex, le-ltb c 26 l, le-ltb 28 c m)
+  pub entered-other : true ≡ p → 26 ≤ c → c ≤ 29 → (x : ℕ) → x ≡ k → r ≡ tryAt notes (w .top + 1) (w .steps + 1) x (w .row) (w .base) → mem notes trail′ r ≡ enteredBy p (mem notes trail w) c v k P
+  unfolding enteredBy opens openIf openedBy
+  entered-other e l m x ex er = rw (← e, le-ltb c 26 l, et, er, ex, le-ltb c 26 l, le-ltb 29 c m)
 
-  pub entered-end : true ≡ p → 28 < c → r ≡ walkAt (w .top + 1) (w .steps + 1) (w .place) (w .row) (w .base) 0 1 → mem notes trail′ r ≡ enteredBy p (mem notes trail w) c v k P
-  unfolding enteredBy openedBy
-  entered-end e l er = rw (← e, et, er, le-ltb c 26 (let z : 26 ≤ c = omega arith in z), lt-ltb 28 c l)
+  pub entered-end : true ≡ p → 29 < c → r ≡ walkAt (w .top + 1) (w .steps + 1) (w .place) (w .row) (w .base) 0 1 → mem notes trail′ r ≡ enteredBy p (mem notes trail w) c v k P
+  unfolding enteredBy opens openIf openedBy
+  entered-end e l er = let z : 26 ≤ c = omega arith in rw (← e, le-ltb c 26 z, et, er, le-ltb c 26 z, lt-ltb 29 c l)
 
-pub entered-shut : (notes trail : List ℕ) (w : Walk) (c v k P : ℕ) (p : Bool) (notes′ : List ℕ) (r : Walk) → false ≡ p → notes′ ≡ marked notes (w .base + w .place)
-    → r ≡ walkAt (w .top) (w .steps + 1) (w .place) (w .row) (w .base) 0 0 → mem notes′ trail r ≡ enteredBy p (mem notes trail w) c v k P
-unfolding enteredBy
-entered-shut notes trail w c v k P p notes′ r e m er = rw (← e, m, er)
+-- it fails at once
+module _ (notes trail : List ℕ) (w : Walk) (c v k P : ℕ) (p : Bool) (notes′ : List ℕ) (en : notes′ ≡ marked notes (w .base + w .place)) (r : Walk)
+    (er : r ≡ walkAt (w .top) (w .steps + 1) (w .place) (w .row) (w .base) 0 0) where
+  pub entered-shut : false ≡ p → mem notes′ trail r ≡ enteredBy p (mem notes trail w) c v k P
+  unfolding enteredBy opens openIf
+  entered-shut e = rw (← e, en, er)
+
+  pub entered-stuck : true ≡ p → c < 26 → (x : ℕ) → x ≡ k → bitAt notes (w .base + P + x) ≡ true → mem notes′ trail r ≡ enteredBy p (mem notes trail w) c v k P
+  unfolding enteredBy opens openIf
+  entered-stuck e l x ex o = let b : bitAt notes (w .base + P + k) ≡ true = rw ex at o in rw (← e, lt-ltb c 26 l, b, en, er)
 
 -- ---- the way behind a way
 
@@ -110,36 +117,41 @@ pushed-is trail top row u v e = rw e
 
 -- ---- what `enter` needs and does, one law for each way through its code
 
-module _ (co ne en : List ℕ) (n : ℕ) (Q : Type 0) (notes trail : List ℕ) (w : Walk) (h : Enters co ne en n Q notes trail w) (x : ℕ) (ex : x ≡ getD ne (w .place) 0) where
-  pub fork-noted : getD co (w .place) 0 ≡ 28 → Noted notes (w .base + x)
-  fork-noted e = rw ex (h .other (omega arith) (omega arith))
+pub fork-noted : (co ne en : List ℕ) (n : ℕ) (Q : Type 0) (notes trail : List ℕ) (w : Walk) → Enters co ne en n Q notes trail w → getD co (w .place) 0 ≡ 28 → Noted notes (w .base + (w .place + 1))
+fork-noted co ne en n Q notes trail w h e = rw (h .near e) at (h .other (omega arith) (omega arith))
 
-  pub anchor-noted : 26 ≤ getD co (w .place) 0 → getD co (w .place) 0 ≤ 28 → Noted notes (w .base + x)
+module _ (co ne en : List ℕ) (n : ℕ) (Q : Type 0) (notes trail : List ℕ) (w : Walk) (h : Enters co ne en n Q notes trail w) (x : ℕ) (ex : x ≡ getD ne (w .place) 0) where
+  pub anchor-noted : 26 ≤ getD co (w .place) 0 → getD co (w .place) 0 ≤ 29 → Noted notes (w .base + x)
   anchor-noted l m = rw ex (h .other l m)
 
-  pub letter-noted : (holds : ℕ → ℕ → Bool) (r : Bool) → getD co (w .place) 0 < 26 → r ≡ passesBy holds n (getD co (w .place) 0) (w .row) → r ≡ true → Noted notes (w .base + length co + x)
-  letter-noted holds r l e t = rw ex (h .letter l (letter-in holds n (getD co (w .place) 0) (w .row) l (sym e ∙ t)))
+  pub letter-noted : (holds : ℕ → ℕ → Bool) (r : Bool) → getD co (w .place) 0 < 26 → r ≡ passesBy holds n (getD co (w .place) 0) (w .row) → not r ≡ false → Noted notes (w .base + length co + x)
+  letter-noted holds r l e t = rw ex (h .letter l (letter-in holds n (getD co (w .place) 0) (w .row) l (sym e ∙ open-of r t)))
 
 module _ (holds : ℕ → ℕ → Bool) (n : ℕ) (notes trail : List ℕ) (w : Walk) (c v k P : ℕ) where
   abbrev passing : Bool
   passing = passesBy holds n c (w .row)
 
-  pub enter-fork : (trail′ : List ℕ) (r : Walk) (x : ℕ) → trail′ ≡ set trail (w .top) (w .row * 256 + v) → c ≡ 28 → x ≡ k → r ≡ tryAt notes (w .top + 1) (w .steps + 1) x (w .row) (w .base)
-      → mem notes trail′ r ≡ enteredBy passing (mem notes trail w) c v k P
-  enter-fork trail′ r x et e ex er = entered-other notes trail w c v k P passing trail′ et r (passes-fork holds n c (w .row) e) (omega arith) (omega arith) x ex er
+  pub enter-fork : (trail′ : List ℕ) (r : Walk) → trail′ ≡ set trail (w .top) (w .row * 256 + v) → c ≡ 28 → (c ≡ 28 → k ≡ w .place + 1)
+      → r ≡ tryAt notes (w .top + 1) (w .steps + 1) (w .place + 1) (w .row) (w .base) → mem notes trail′ r ≡ enteredBy passing (mem notes trail w) c v k P
+  enter-fork trail′ r et e near er =
+      entered-other notes trail w c v k P passing trail′ et r (passes-fork holds n c (w .row) e) (omega arith) (omega arith) (w .place + 1) (sym (near e)) er
 
-  pub enter-letter : (p : Bool) (trail′ : List ℕ) (r : Walk) (x : ℕ) → p ≡ passing → p ≡ true → trail′ ≡ set trail (w .top) (w .row * 256 + v) → c < 26 → x ≡ k
-      → r ≡ tryAt notes (w .top + 1) (w .steps + 1) x (w .row + 1) (w .base + P) → mem notes trail′ r ≡ enteredBy passing (mem notes trail w) c v k P
-  enter-letter p trail′ r x ep t et l ex er = entered-letter notes trail w c v k P passing trail′ et r (sym t ∙ ep) l x ex er
+  pub enter-letter : (p : Bool) (trail′ : List ℕ) (x : ℕ) (f : Bool) → p ≡ passing → not p ≡ false → trail′ ≡ set trail (w .top) (w .row * 256 + v) → c < 26 → x ≡ k
+      → f ≡ bitAt notes (w .base + P + x) → f ≡ false → mem notes trail′ (walkAt (w .top + 1) (w .steps + 1) x (w .row + 1) (w .base + P) 1 0) ≡ enteredBy passing (mem notes trail w) c v k P
+  enter-letter p trail′ x f ep t et l ex ef o = entered-letter notes trail w c v k P passing trail′ et _ (sym (open-of p t) ∙ ep) l x ex (sym ef ∙ o) refl
 
-  pub enter-shut : (p : Bool) (notes′ : List ℕ) (r : Walk) → p ≡ passing → p ≡ false → notes′ ≡ marked notes (w .base + w .place)
+  pub enter-shut : (p : Bool) (notes′ : List ℕ) (r : Walk) → p ≡ passing → not p ≡ true → notes′ ≡ marked notes (w .base + w .place)
       → r ≡ walkAt (w .top) (w .steps + 1) (w .place) (w .row) (w .base) 0 0 → mem notes′ trail r ≡ enteredBy passing (mem notes trail w) c v k P
-  enter-shut p notes′ r ep t en er = entered-shut notes trail w c v k P passing notes′ r (sym t ∙ ep) en er
+  enter-shut p notes′ r ep t en er = entered-shut notes trail w c v k P passing notes′ en r er (sym (shut-of p t) ∙ ep)
 
-  pub enter-end : (p : Bool) (trail′ : List ℕ) → p ≡ passing → p ≡ true → trail′ ≡ set trail (w .top) (w .row * 256 + v) → 28 < c
+  pub enter-stuck : (p : Bool) (notes′ : List ℕ) (r : Walk) (x : ℕ) (f : Bool) → p ≡ passing → not p ≡ false → c < 26 → x ≡ k → f ≡ bitAt notes (w .base + P + x) → f ≡ true
+      → notes′ ≡ marked notes (w .base + w .place) → r ≡ walkAt (w .top) (w .steps + 1) (w .place) (w .row) (w .base) 0 0 → mem notes′ trail r ≡ enteredBy passing (mem notes trail w) c v k P
+  enter-stuck p notes′ r x f ep t l ex ef o en er = entered-stuck notes trail w c v k P passing notes′ en r er (sym (open-of p t) ∙ ep) l x ex (sym ef ∙ o)
+
+  pub enter-end : (p : Bool) (trail′ : List ℕ) → p ≡ passing → not p ≡ false → trail′ ≡ set trail (w .top) (w .row * 256 + v) → 29 < c
       → mem notes trail′ (walkAt (w .top + 1) (w .steps + 1) (w .place) (w .row) (w .base) 0 1) ≡ enteredBy passing (mem notes trail w) c v k P
-  enter-end p trail′ ep t et l = entered-end notes trail w c v k P passing trail′ et _ (sym t ∙ ep) l refl
+  enter-end p trail′ ep t et l = entered-end notes trail w c v k P passing trail′ et _ (sym (open-of p t) ∙ ep) l refl
 
-  pub enter-anchor : (p : Bool) (trail′ : List ℕ) (r : Walk) (x : ℕ) → p ≡ passing → p ≡ true → trail′ ≡ set trail (w .top) (w .row * 256 + v) → 26 ≤ c → c ≤ 28 → x ≡ k
+  pub enter-anchor : (p : Bool) (trail′ : List ℕ) (r : Walk) (x : ℕ) → p ≡ passing → not p ≡ false → trail′ ≡ set trail (w .top) (w .row * 256 + v) → 26 ≤ c → c ≤ 29 → x ≡ k
       → r ≡ tryAt notes (w .top + 1) (w .steps + 1) x (w .row) (w .base) → mem notes trail′ r ≡ enteredBy passing (mem notes trail w) c v k P
-  enter-anchor p trail′ r x ep t et l m ex er = entered-other notes trail w c v k P passing trail′ et r (sym t ∙ ep) l m x ex er
+  enter-anchor p trail′ r x ep t et l m ex er = entered-other notes trail w c v k P passing trail′ et r (sym (open-of p t) ∙ ep) l m x ex er

@@ -1,7 +1,8 @@
 -- The last open pair tries a way, and the walk's pair is entered: it is open then, and tries its first way, or it is END, or it has failed.
 use mathlib.Core.Path.{_≡_, refl, sym, ap, _∙_, subst}
-use mathlib.Core.List.{List, _∷_}
-use mathlib.Core.Bool.{Bool, true, false, _&&_}
+use mathlib.Core.List.{List, [], _∷_}
+use mathlib.Core.Bool.{Bool, true, false, not, _&&_}
+use mathlib.Core.Option.{none}
 use mathlib.Core.Logic.{_≢_}
 use Prim.Native.Nat.{ℕ, suc, _+_, _-_, _*_, _/_, _≤_, _<_, suc-le-suc}
 use native.Mathlib.Nat.{mul-comm, not-suc-le-zero, suc-mul}
@@ -13,13 +14,15 @@ use lib.ListN.{length, getD, set}
 use borrow.Author.Tests.{ltb-true, ltb-false, lt-ltb}
 use Rattle.rules.specs.Basics.{pick}
 use Rattle.rules.specs.Report.{bitAt}
-use Rattle.rules.specs.Walk.{Outcome}
+use Rattle.rules.specs.Walk.{try, Outcome}
+use Rattle.rules.proofs.Machine.{firstOpen}
+use Rattle.rules.proofs.Notes.{bitsOf, bitsOf-at}
 use Rattle.rules.proofs.Level.{and-true}
 use Rattle.walk.specs.declared.Walk.{Walk}
-use Rattle.walk.specs.Tables.{Tables, P, N, second, waysOf, passesBy}
-use Rattle.walk.specs.Step.{Mem, mem, placeIn, walkAt, oneUnless, tryAt, openedBy, enteredBy, Noted, Enters}
+use Rattle.walk.specs.Tables.{Tables, P, N, second, waysOf, graphOf, passesBy}
+use Rattle.walk.specs.Step.{Mem, mem, placeIn, walkAt, oneUnless, tryAt, opens, openedBy, openIf, enteredBy, Noted, Enters}
 use Rattle.walk.specs.State.{rowFrom, wayAt, reach, Led, Good, Next, Stands, left, resumed, entering, comes, Reached, Goes, Onward}
-use Rattle.walk.proofs.Ways.{ways-length, ways-first, takes-row, takes-no-row, leads-each}
+use Rattle.walk.proofs.Ways.{ways-length, ways-first, ways-shut, ways-letter, takes-row, takes-no-row, leads-each}
 use Rattle.walk.proofs.Going.{good-as, never, comes-idle, comes-next, led-stuck, next-few, next-noted, next-out, next-room, next-small, next-steps, next-word, next-row, v-place, v-row, v-way, open-good, open-top, open-resumed, open-reached, open-end, open-less, shut-reached, shut-less, way-below, top-next, next-same}
 
 pub pair-in : (P n q row base : ℕ) → base ≡ row * P → q < P → row ≤ n → base + q < P * suc n
@@ -46,7 +49,7 @@ next-as T holds n Q notes trail w q row base x r b d f h =
 -- ---- the last open pair tries its way m, where the ways before it have failed and the next way is the one behind it
 
 module _ (T : Tables) (holds : ℕ → ℕ → Bool) (n : ℕ) (Q : Type 0) (notes trail : List ℕ) (w : Walk) (g : Good T holds n Q notes trail w) (going : 0 < w .top)
-    (more : getD (T .code) (placeIn (getD trail (w .top - 1) 0)) 0 ≤ 28) (m : ℕ) (inside : m < length (waysOf T (placeIn (getD trail (w .top - 1) 0))))
+    (more : getD (T .code) (placeIn (getD trail (w .top - 1) 0)) 0 ≤ 29) (m : ℕ) (inside : m < length (waysOf T (placeIn (getD trail (w .top - 1) 0))))
     (reaches : reach T (getD trail (w .top - 1) 0) ≡ suc m) (before : (i : ℕ) → i < m → bitAt notes (wayAt T (getD trail (w .top - 1) 0) i) ≡ true)
     (q row base : ℕ) (eq : q ≡ getD (waysOf T (placeIn (getD trail (w .top - 1) 0))) m 0) (er : row ≡ rowFrom T (getD trail (w .top - 1) 0)) (eb : base ≡ row * P T) where
   abbrev e : ℕ
@@ -135,7 +138,7 @@ module _ (T : Tables) (holds : ℕ → ℕ → Bool) (n : ℕ) (Q : Type 0) (not
   some-way : 0 < length (waysOf T q)
   some-way = rw (ways-length T q) (omega arith)
 
-  first-place : c ≤ 28 → k < P T
+  first-place : c ≤ 29 → k < P T
   first-place l = rw (ways-first T q) at (leads-each T holds n q (w .row) (nx .place) (nx .good .legal .sized) l (nx .good .legal .leads q (nx .place)) 0 some-way)
 
   ahead-is : w .base + P T ≡ (w .row + 1) * P T
@@ -160,6 +163,7 @@ module _ (T : Tables) (holds : ℕ → ℕ → Bool) (n : ℕ) (Q : Type 0) (not
         room = next-room T holds n Q notes trail w q (w .row) (w .base) nx;
         small = next-small T holds n Q notes trail w q (w .row) (w .base) nx;
         steps = next-steps T holds n Q notes trail w q (w .row) (w .base) nx;
+        near = λ e. z .near q (nx .place) e;
         letter = λ l r. noted (w .base + P T + k) (pair-in (P T) n k (w .row + 1) (w .base + P T) ahead-is (first-place (omega arith)) (omega arith));
         other = λ _ l. noted (w .base + k) (pair-in (P T) n k (w .row) (w .base) (nx .base-is) (first-place l) (next-row T holds n Q notes trail w q (w .row) (w .base) nx));
       }
@@ -175,7 +179,7 @@ module _ (T : Tables) (holds : ℕ → ℕ → Bool) (n : ℕ) (Q : Type 0) (not
   to notes′ trail′ r a = rw comes-is at a
 
   -- it is open, and tries its first way
-  module _ (p : passing ≡ true) (l : c ≤ 28) (row base : ℕ) (er : row ≡ rowFrom T v) (eb : base ≡ row * P T) where
+  module _ (p : passing ≡ true) (l : c ≤ 29) (row base : ℕ) (er : row ≡ rowFrom T v) (eb : base ≡ row * P T) where
     abbrev trail₁ : List ℕ
     trail₁ = set trail (w .top) v
 
@@ -220,31 +224,52 @@ module _ (T : Tables) (holds : ℕ → ℕ → Bool) (n : ℕ) (Q : Type 0) (not
 
   opened : passing ≡ true → OnTo (mem notes (set trail (w .top) v) (openedBy c k (P T) notes w))
   unfolding openedBy
-  opened p = go (ltb c 26) refl (ltb 28 c) refl
+  opened p = go (ltb c 26) refl (ltb 29 c) refl
     where
-      go : (a : Bool) → ltb c 26 ≡ a → (b : Bool) → ltb 28 c ≡ b
+      go : (a : Bool) → ltb c 26 ≡ a → (b : Bool) → ltb 29 c ≡ b
           → OnTo (mem notes (set trail (w .top) v) (pick a (tryAt notes (w .top + 1) (w .steps + 1) k (w .row + 1) (w .base + P T))
           (pick b (walkAt (w .top + 1) (w .steps + 1) q (w .row) (w .base) 0 1) (tryAt notes (w .top + 1) (w .steps + 1) k (w .row) (w .base)))))
       go true ea b eb = let l = ltb-true c 26 ea in onward p (omega arith) (w .row + 1) (w .base + P T) (row-ahead p l) ahead-is
       go false ea true eb =
           record {
-            reached = to _ _ _ (open-end T holds n Q notes trail w q (w .row) (w .base) nx p (ltb-true 28 c eb));
+            reached = to _ _ _ (open-end T holds n Q notes trail w q (w .row) (w .base) nx p (ltb-true 29 c eb));
             less = open-less T holds n Q notes trail w q (w .row) (w .base) nx p q (w .row) (w .base) 0 1;
           }
       go false ea false eb =
           let l = ltb-false c 26 ea in
-          let m = ltb-false 28 c eb in
+          let m = ltb-false 29 c eb in
           onward p (omega arith) (w .row) (w .base) (row-same p (omega arith)) (nx .base-is)
 
-  entered : (p : Bool) → passing ≡ p → OnTo (enteredBy p (mem notes trail w) c (getD (T .entry) q 0) k (P T))
-  unfolding enteredBy
-  entered true p = opened p
-  entered false p =
+  -- it fails at once, where none of its ways is open: it does not pass and has none, or it is a letter whose one pair has failed
+  shuts : (ys : List ℕ) → graphOf T holds n (w .base + q) ≡ try ys → firstOpen (bitsOf notes (N T n)) ys ≡ none → OnTo (openIf false (mem notes trail w) c (getD (T .entry) q 0) k (P T))
+  unfolding openIf
+  shuts ys t e =
       record {
-        reached = to _ _ _ (shut-reached T holds n Q notes trail w q (w .row) (w .base) nx p);
-        less = shut-less T holds n Q notes trail w q (w .row) (w .base) nx p;
+        reached = to _ _ _ (shut-reached T holds n Q notes trail w q (w .row) (w .base) nx ys t e);
+        less = shut-less T holds n Q notes trail w q (w .row) (w .base) nx ys t e;
       }
+
+  shut-none : passing ≡ false → OnTo (openIf false (mem notes trail w) c (getD (T .entry) q 0) k (P T))
+  unfolding firstOpen
+  shut-none p = shuts [] (rw (nx .base-is) (ways-shut T holds n q (w .row) (nx .place) p)) refl
+
+  shut-one : passing ≡ true → c < 26 → bitAt notes (w .base + P T + k) ≡ true → OnTo (openIf false (mem notes trail w) c (getD (T .entry) q 0) k (P T))
+  unfolding firstOpen
+  shut-one p l e =
+      let r = letter-in holds n c (w .row) l p in
+      let b : w .base + P T + k < N T n = pair-in (P T) n k (w .row + 1) (w .base + P T) ahead-is (first-place (omega arith)) (omega arith) in
+      let o : w .row + 1 ≡ suc (w .row) = omega arith in
+      shuts ((w .base + P T + k) ∷ []) (rw (ahead-is, o, nx .base-is) (ways-letter T holds n q (w .row) (nx .place) l p)) (rw (bitsOf-at notes (N T n) (w .base + P T + k) b, e))
+
+  entered : (p : Bool) → passing ≡ p → (a : Bool) → ltb c 26 ≡ a → (b : Bool) → bitAt notes (w .base + P T + k) ≡ b
+      → OnTo (openIf (p && not (a && b)) (mem notes trail w) c (getD (T .entry) q 0) k (P T))
+  unfolding openIf
+  entered true ep true ea true eb = shut-one ep (ltb-true c 26 ea) eb
+  entered true ep true ea false eb = opened ep
+  entered true ep false ea b eb = opened ep
+  entered false ep a ea b eb = shut-none ep
 
   pub goes-on : (notes′ trail′ : List ℕ) (r : Walk) → mem notes′ trail′ r ≡ enteredBy passing (mem notes trail w) c (getD (T .entry) q 0) k (P T)
       → Onward T holds n Q notes trail w notes′ trail′ r
-  goes-on notes′ trail′ r e = subst OnTo (sym e) (entered passing refl)
+  unfolding enteredBy opens
+  goes-on notes′ trail′ r e = subst OnTo (sym e) (entered passing refl (ltb c 26) refl (bitAt notes (w .base + P T + k)) refl)

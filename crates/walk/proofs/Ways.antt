@@ -121,14 +121,19 @@ module _ (holds : ℕ → ℕ → Bool) (n P k : ℕ) (ks : List ℕ) (i : ℕ) 
   unfolding placeBy waysAt passesBy
   by-dollar c l e = let d : eqb i n ≡ true = rw l at e in rw (l, d)
 
-  by-fork : (c : ℕ) → c ≡ 28 → At c ≡ try (map (λ k. i * P + k) ks)
-  unfolding placeBy waysAt
-  by-fork c l = rw l
+  is-fork : (c : ℕ) → 28 ≤ c → c ≤ 29 → placeBy c k ks ≡ pFork ks
+  unfolding placeBy
+  is-fork c l m =
+      rw (le-ltb c 26 (omega arith), ne-eqb c 26 (λ (e : c ≡ 26). omega arith), ne-eqb c 27 (λ (e : c ≡ 27). omega arith), lt-ltb c 30 (let z : c < 30 = omega arith in z))
 
-  by-end : (c : ℕ) → 28 < c → placeBy c k ks ≡ pEnd
+  by-fork : (c : ℕ) → 28 ≤ c → c ≤ 29 → At c ≡ try (map (λ k. i * P + k) ks)
+  unfolding waysAt
+  by-fork c l m = rw (is-fork c l m)
+
+  by-end : (c : ℕ) → 29 < c → placeBy c k ks ≡ pEnd
   unfolding placeBy
   by-end c l =
-      rw (le-ltb c 26 (omega arith), ne-eqb c 26 (λ (e : c ≡ 26). omega arith), ne-eqb c 27 (λ (e : c ≡ 27). omega arith), ne-eqb c 28 (λ (e : c ≡ 28). omega arith))
+      rw (le-ltb c 26 (omega arith), ne-eqb c 26 (λ (e : c ≡ 26). omega arith), ne-eqb c 27 (λ (e : c ≡ 27). omega arith), le-ltb c 30 (let z : 30 ≤ c = omega arith in z))
 
   by-low : (c : ℕ) → c < 26 → placeBy c k ks ≡ pLetter (c + 65) k
   unfolding placeBy
@@ -136,7 +141,7 @@ module _ (holds : ℕ → ℕ → Bool) (n P k : ℕ) (ks : List ℕ) (i : ℕ) 
 
   pub by-high : (c : ℕ) → 26 ≤ c → takes (placeBy c k ks) ≡ 0
   unfolding placeBy
-  by-high c l = rw (le-ltb c 26 l) (caret (eqb c 26) (eqb c 27) (eqb c 28))
+  by-high c l = rw (le-ltb c 26 l) (caret (eqb c 26) (eqb c 27) (ltb c 30))
     where
       caret : (x y z : Bool) → takes (pick x (pCaret k) (pick y (pDollar k) (pick z (pFork ks) pEnd))) ≡ 0
       caret true y z = refl
@@ -144,7 +149,7 @@ module _ (holds : ℕ → ℕ → Bool) (n P k : ℕ) (ks : List ℕ) (i : ℕ) 
       caret false false true = refl
       caret false false false = refl
 
-  -- a place before END leads on
+  -- a place before the forks leads on
   by-leads : (c : ℕ) → c < 28 → Leads P (placeBy c k ks) → k < P
   unfolding placeBy
   by-leads c h l = low (ltb c 26) refl l
@@ -154,13 +159,12 @@ module _ (holds : ℕ → ℕ → Bool) (n P k : ℕ) (ks : List ℕ) (i : ℕ) 
       high false true z a b m l = l
       high false false z a b m l = let u : c ≢ 26 = eqb-false c 26 a in let v : c ≢ 27 = eqb-false c 27 b in absurd (omega arith)
 
-      low : (b : Bool) → ltb c 26 ≡ b → Leads P (pick b (pLetter (c + 65) k) (pick (eqb c 26) (pCaret k) (pick (eqb c 27) (pDollar k) (pick (eqb c 28) (pFork ks) pEnd)))) → k < P
+      low : (b : Bool) → ltb c 26 ≡ b → Leads P (pick b (pLetter (c + 65) k) (pick (eqb c 26) (pCaret k) (pick (eqb c 27) (pDollar k) (pick (ltb c 30) (pFork ks) pEnd)))) → k < P
       low true e l = l
-      low false e l = high (eqb c 26) (eqb c 27) (eqb c 28) refl refl (ltb-false c 26 e) l
+      low false e l = high (eqb c 26) (eqb c 27) (ltb c 30) refl refl (ltb-false c 26 e) l
 
-  by-leads-fork : (c : ℕ) → c ≡ 28 → Leads P (placeBy c k ks) → All (λ k. k < P) ks
-  unfolding placeBy
-  by-leads-fork c h l = let d : Leads P (placeBy 28 k ks) = rw h at l in d
+  by-leads-fork : (c : ℕ) → 28 ≤ c → c ≤ 29 → Leads P (placeBy c k ks) → All (λ k. k < P) ks
+  by-leads-fork c h m l = let d : Leads P (pFork ks) = rw (is-fork c h m) at l in d
 
 -- ---- the pair of a place q at row i
 
@@ -188,7 +192,12 @@ module _ (T : Tables) (holds : ℕ → ℕ → Bool) (n q i : ℕ) (place : q < 
   unfolding placeAt
   ways-shut e = graph-at ∙ by-shut holds n (P T) next (waysOf T q) i code e
 
-  pub ways-end : 28 < code → graphOf T holds n x ≡ accept
+  -- a letter that passes leads to one pair
+  pub ways-letter : code < 26 → passesBy holds n code i ≡ true → graphOf T holds n x ≡ try ((suc i * P T + next) ∷ [])
+  unfolding placeAt
+  ways-letter l p = graph-at ∙ by-letter holds n (P T) next (waysOf T q) i code l p
+
+  pub ways-end : 29 < code → graphOf T holds n x ≡ accept
   unfolding placeAt waysAt
   ways-end h = graph-at ∙ ap (λ (p : Place). waysAt holds n (P T) p i) (by-end holds n (P T) next (waysOf T q) i code h)
 
@@ -201,14 +210,17 @@ module _ (T : Tables) (holds : ℕ → ℕ → Bool) (n q i : ℕ) (place : q < 
   takes-no-row h = by-high holds n (P T) next (waysOf T q) i code h
 
   -- the places of all its ways
-  pub leads-each : Sized T → code ≤ 28 → Leads (P T) (placeAt T q) → (m : ℕ) → m < length (waysOf T q) → getD (waysOf T q) m 0 < P T
+  pub leads-each : Sized T → code ≤ 29 → Leads (P T) (placeAt T q) → (m : ℕ) → m < length (waysOf T q) → getD (waysOf T q) m 0 < P T
   unfolding placeAt
-  leads-each z h l m b = elim (ℕ-discrete code 28) [
-    | yes c ↦ each (λ k. k < P T) (waysOf T q) (by-leads-fork holds n (P T) next (waysOf T q) i code c l) m b
-    | no c ↦ let d : code ≢ 28 = c in each (λ k. k < P T) (waysOf T q) (rw (ways-one T q (z .one q place (omega arith))) (by-leads holds n (P T) next (waysOf T q) i code (omega arith) l, tt)) m b
-  ]
+  leads-each z h l m b = go (ltb code 28) refl
+    where
+      go : (t : Bool) → ltb code 28 ≡ t → getD (waysOf T q) m 0 < P T
+      go true e =
+          let c = ltb-true code 28 e in
+          each (λ k. k < P T) (waysOf T q) (rw (ways-one T q (z .one q place c)) (by-leads holds n (P T) next (waysOf T q) i code c l, tt)) m b
+      go false e = each (λ k. k < P T) (waysOf T q) (by-leads-fork holds n (P T) next (waysOf T q) i code (ltb-false code 28 e) h l) m b
 
-  module _ (z : Sized T) (p : passesBy holds n code i ≡ true) (h : code ≤ 28) where
+  module _ (z : Sized T) (p : passesBy holds n code i ≡ true) (h : code ≤ 29) where
     -- a place that passes tries all its ways
     pub ways-are : graphOf T holds n x ≡ try (map (λ k. (i + takes (placeAt T q)) * P T + k) (waysOf T q))
     unfolding placeAt
@@ -237,11 +249,11 @@ module _ (T : Tables) (holds : ℕ → ℕ → Bool) (n q i : ℕ) (place : q < 
           ]
         ]
           where
-            fork : code ≡ 28 → waysAt holds n (P T) (placeAt T q) i ≡ try (map (λ k. (i + takes (placeAt T q)) * P T + k) (waysOf T q))
+            fork : 28 ≤ code → waysAt holds n (P T) (placeAt T q) i ≡ try (map (λ k. (i + takes (placeAt T q)) * P T + k) (waysOf T q))
             fork f =
                 let t : i + takes (placeAt T q) ≡ i = let a = takes-no-row (omega arith) in omega arith in
                 let r : try (map (λ k. i * P T + k) (waysOf T q)) ≡ try (map (λ k. (i + takes (placeAt T q)) * P T + k) (waysOf T q)) = rw t in
-                by-fork holds n (P T) next (waysOf T q) i code f ∙ r
+                by-fork holds n (P T) next (waysOf T q) i code f h ∙ r
 
 pub takes-one : (p : Place) → takes p ≤ 1
 takes-one (pLetter c k) = omega arith

@@ -74,12 +74,12 @@ reach T e = suc (leftFrom T (placeIn e) (second T (placeIn e))) - leftFrom T (pl
 
 -- the pair of e, which is no END, has tried its ways before the next one: each has failed, but for the pair y
 pub record Led (T : Tables) (notes : List ℕ) (e y : ℕ) : Type 0 where
-  pub going : getD (T .code) (placeIn e) 0 ≤ 28
+  pub going : getD (T .code) (placeIn e) 0 ≤ 29
   pub tried : (m : ℕ) → m < reach T e → (wayAt T e m ≡ y → ⊥) → bitAt notes (wayAt T e m) ≡ true
 
 -- all of them have failed
 pub record Stuck (T : Tables) (notes : List ℕ) (e : ℕ) : Type 0 where
-  pub going : getD (T .code) (placeIn e) 0 ≤ 28
+  pub going : getD (T .code) (placeIn e) 0 ≤ 29
   pub tried : (m : ℕ) → m < reach T e → bitAt notes (wayAt T e m) ≡ true
 
 -- the open pairs have not failed, each led to the one above it, all pass, and the ways of each before the one that led on have failed; the steps cannot run over
@@ -107,7 +107,7 @@ pub record Next (T : Tables) (holds : ℕ → ℕ → Bool) (n : ℕ) (Q : Type 
 -- the walk stands at END, which is on top
 pub record Ends (T : Tables) (trail : List ℕ) (w : Walk) : Type 0 where
   pub spot : Spot (P T) w (getD trail (w .top - 1) 0)
-  pub end : 28 < getD (T .code) (w .place) 0
+  pub end : 29 < getD (T .code) (w .place) 0
 
 -- the walk's pair is the next to be entered, or it is END, or the ways that the last open pair has tried have failed
 pub record Stands (T : Tables) (holds : ℕ → ℕ → Bool) (n : ℕ) (Q : Type 0) (notes trail : List ℕ) (w : Walk) : Type 0 where

@@ -3,7 +3,7 @@
 -- way that the pair tries next (0: none is left), so that it goes on where it was left. The walk stands at the pair that was tried last.
 use mathlib.Core.Path.{_≡_}
 use mathlib.Core.List.{List, [], _∷_, reverseAux}
-use mathlib.Core.Bool.{Bool, true, false}
+use mathlib.Core.Bool.{Bool, true, false, not, _&&_}
 use Prim.Native.Nat.{ℕ, zero, suc, _+_, _*_, _/_, _%_, _≤_, _<_}
 use lib.Dec.{ltb}
 use lib.ListN.{length, getD, set}
@@ -61,18 +61,27 @@ after stop j = pick (ltb (j + 1) stop) (j + 1) 0
 abbrev pub wentOn : ℕ → ℕ → ℕ
 wentOn j e = e % 2097152 + j * 2097152
 
+-- A pair that is entered is open if it passes, but for a letter's whose one next pair, that of place k, has failed: it fails at once.
+unfoldable pub opens : Bool → ℕ → ℕ → ℕ → List ℕ → Walk → Bool
+opens passes c k P notes w = passes && not (ltb c 26 && bitAt notes (w .base + P + k))
+
 -- The pair of w is open, by a place of code c whose first place is k: a letter tries the pair of k at the next row, END succeeds, any other place tries the pair of k at the same row.
 unfoldable pub openedBy : ℕ → ℕ → ℕ → List ℕ → Walk → Walk
 openedBy c k P notes w =
     pick (ltb c 26) (tryAt notes (w .top + 1) (w .steps + 1) k (w .row + 1) (w .base + P))
-    (pick (ltb 28 c) (walkAt (w .top + 1) (w .steps + 1) (w .place) (w .row) (w .base) 0 1) (tryAt notes (w .top + 1) (w .steps + 1) k (w .row) (w .base)))
+    (pick (ltb 29 c) (walkAt (w .top + 1) (w .steps + 1) (w .place) (w .row) (w .base) 0 1) (tryAt notes (w .top + 1) (w .steps + 1) k (w .row) (w .base)))
 
--- The pair of the walk is entered, which is one step. If it passes it is open, with v on the trail for its place and its ways; a letter or anchor that does not pass fails at once.
-unfoldable pub enteredBy : Bool → Mem → ℕ → ℕ → ℕ → ℕ → Mem
+-- The pair is open, with v on the trail for its place and its ways, or it fails at once.
+unfoldable pub openIf : Bool → Mem → ℕ → ℕ → ℕ → ℕ → Mem
 unfolding openedBy
-enteredBy true m c v k P = mem (m .notes) (set (m .trail) (m .walk .top) (m .walk .row * 256 + v)) (openedBy c k P (m .notes) (m .walk))
-enteredBy false m c v k P =
+openIf true m c v k P = mem (m .notes) (set (m .trail) (m .walk .top) (m .walk .row * 256 + v)) (openedBy c k P (m .notes) (m .walk))
+openIf false m c v k P =
     mem (marked (m .notes) (pairOf (m .walk))) (m .trail) (walkAt (m .walk .top) (m .walk .steps + 1) (m .walk .place) (m .walk .row) (m .walk .base) 0 0)
+
+-- The pair of the walk is entered, which is one step.
+unfoldable pub enteredBy : Bool → Mem → ℕ → ℕ → ℕ → ℕ → Mem
+unfolding opens openIf
+enteredBy passes m c v k P = openIf (opens passes c k P (m .notes) (m .walk)) m c v k P
 
 -- the attempt's result in memory: no open pair, or the open pairs are the path
 unfoldable pub outcomeBy : ℕ → ℕ → List ℕ → List Bool → ℕ → Outcome
@@ -86,7 +95,8 @@ outcomeBy P (suc t) trail F s = found (reverseAux (stack P trail (suc t)) []) F 
 abbrev pub Noted : List ℕ → ℕ → Type 0
 Noted notes x = (x < 2097152) × (x / 8 < length notes)
 
--- the pair of the walk has not failed, there is room for it, and the pair that it leads to first can be tried; Q is what the test of a letter asks
+-- the pair of the walk has not failed, there is room for it, and the pair that it leads to first can be tried; a fork of code 28 leads first to the place behind it; Q is
+-- what the test of a letter asks
 pub record Enters (co ne en : List ℕ) (n : ℕ) (Q : Type 0) (notes trail : List ℕ) (w : Walk) : Type 0 where
   pub asks : Q
   pub place : w .place < length co
@@ -101,4 +111,5 @@ pub record Enters (co ne en : List ℕ) (n : ℕ) (Q : Type 0) (notes trail : Li
   pub small : w .top < 2097152
   pub steps : w .steps + 1 < 18446744073709551616
   pub letter : getD co (w .place) 0 < 26 → w .row < n → Noted notes (w .base + length co + getD ne (w .place) 0)
-  pub other : 26 ≤ getD co (w .place) 0 → getD co (w .place) 0 ≤ 28 → Noted notes (w .base + getD ne (w .place) 0)
+  pub near : getD co (w .place) 0 ≡ 28 → getD ne (w .place) 0 ≡ w .place + 1
+  pub other : 26 ≤ getD co (w .place) 0 → getD co (w .place) 0 ≤ 29 → Noted notes (w .base + getD ne (w .place) 0)

@@ -1,6 +1,6 @@
 -- The places of a pattern as flat tables of numbers, the graph of the pairs that they stand for, and what the tables keep to.
--- Of each place: its code (0 to 25 the letters A to Z, 26 `^`, 27 `$`, 28 a fork, any other END); the place that is tried first from it; its entry, which is its number and,
--- above 21 bits, the index of a fork's second way in the table of ways (0 for none); and, of a fork, where its ways stop.
+-- Of each place: its code (0 to 25 the letters A to Z, 26 `^`, 27 `$`, 28 a fork that tries the place behind it first, 29 any other fork, any other END); the place that is
+-- tried first from it; its entry, which is its number and, above 21 bits, the index of a fork's second way in the table of ways (0 for none); and, of a fork, where its ways stop.
 use mathlib.Core.Path.{_≡_}
 use mathlib.Core.List.{List, [], _∷_}
 use mathlib.Core.Bool.{Bool, true, _&&_}
@@ -50,7 +50,7 @@ waysOf T q = getD (T .next) q 0 ∷ span (T .ways) (second T q) (leftFrom T q (s
 
 -- a place by its code, the place that is tried first and all places that it leads to
 unfoldable pub placeBy : ℕ → ℕ → List ℕ → Place
-placeBy c k ks = pick (ltb c 26) (pLetter (c + 65) k) (pick (eqb c 26) (pCaret k) (pick (eqb c 27) (pDollar k) (pick (eqb c 28) (pFork ks) pEnd)))
+placeBy c k ks = pick (ltb c 26) (pLetter (c + 65) k) (pick (eqb c 26) (pCaret k) (pick (eqb c 27) (pDollar k) (pick (ltb c 30) (pFork ks) pEnd)))
 
 -- place q of the tables
 unfoldable pub placeAt : Tables → ℕ → Place
@@ -85,6 +85,7 @@ pub record Sized (T : Tables) : Type 0 where
   pub stops : length (T .stop) ≡ P T
   pub ways : length (T .ways) ≤ 2048
   pub entry : (q : ℕ) → q < P T → getD (T .entry) q 0 % 2097152 ≡ q
+  pub near : (q : ℕ) → q < P T → getD (T .code) q 0 ≡ 28 → getD (T .next) q 0 ≡ q + 1
   pub one : (q : ℕ) → q < P T → getD (T .code) q 0 < 28 → second T q ≡ 0
   pub back : (q : ℕ) → q < P T → 0 < second T q → second T q < getD (T .stop) q 0
   pub stop : (q : ℕ) → q < P T → 0 < second T q → getD (T .stop) q 0 ≤ length (T .ways)

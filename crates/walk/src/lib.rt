@@ -156,8 +156,9 @@ fn fails(notes: &mut [u8], w: Walk, steps: usize) -> Walk
     }
 }
 
-// The pair of w is entered: one step, counted here and nowhere else. A letter or anchor that does not pass fails at once; any other pair is open, and tries
-// the first place that it leads to, but for END, which leads nowhere.
+// The pair of w is entered: one step, counted here and nowhere else. A letter or anchor that does not pass fails at once, and so does a letter whose next pair
+// has failed, so that it is not put on the trail only to be taken back. Any other pair is open, and tries the first place that it leads to, but for END, which
+// leads nowhere. A fork that leads first to the place behind it has a code of its own, since then the walk need not wait for a table to tell the place.
 fn enter(
     code: &[u8],
     next: &[u16],
@@ -189,10 +190,10 @@ fn enter(
     let c = code[q];
     if c == 28 {
         push(trail, top, row, entry[q]);
-        return tried(notes, top + 1, steps, wide(next[q]), row, base);
+        return tried(notes, top + 1, steps, q + 1, row, base);
     }
     if c < 26 {
-        if letter_passes(
+        if !letter_passes(
             rows,
             columns,
             n,
@@ -204,23 +205,29 @@ fn enter(
             c,
             row,
         ) {
-            push(trail, top, row, entry[q]);
-            return tried(
-                notes,
-                top + 1,
-                steps,
-                wide(next[q]),
-                row + 1,
-                base + code.len(),
-            );
+            return fails(notes, w, steps);
         }
-        return fails(notes, w, steps);
+        let k = wide(next[q]);
+        let ahead = base + code.len();
+        if failed(notes, ahead + k) {
+            return fails(notes, w, steps);
+        }
+        push(trail, top, row, entry[q]);
+        return Walk {
+            top: top + 1,
+            steps,
+            place: k,
+            row: row + 1,
+            base: ahead,
+            down: 1,
+            found: 0,
+        };
     }
     if !anchor_passes(n, c, row) {
         return fails(notes, w, steps);
     }
     push(trail, top, row, entry[q]);
-    if c > 28 {
+    if c > 29 {
         let opened = top + 1;
         return Walk {
             top: opened,
