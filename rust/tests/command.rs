@@ -307,6 +307,15 @@ fn a_program_searches_in_the_place_of_the_library() {
 }
 
 #[test]
+fn a_report_that_is_not_whole_has_a_status_of_its_own() {
+    let files = [example("release.txt"), example("release.csv")];
+    let (program, _) = stand_in("stops", "stopped 0 steps 3\\n");
+    let output = run(&["--program", &program, &files[0], &files[1]]);
+    assert_eq!((status(&output), text(&output.stderr)), (3, ""));
+    assert!(text(&output.stdout).starts_with("stopped for want of room: "));
+}
+
+#[test]
 fn a_program_that_refuses_or_says_something_else() {
     let files = [example("release.txt"), example("release.csv")];
     let message = |program: &str| {

@@ -1,6 +1,7 @@
 //! mireladle-match: searches the rows of a CSV file for a query that is written as readable text, and prints the
 //! matches and the labelled rows. It promises a message with a place for every text that it cannot read, the number
-//! and the reason of every refusal, and an exit status: 0 done, 1 refused, 2 wrong input. It never panics.
+//! and the reason of every refusal, and an exit status: 0 done, 1 refused, 2 wrong input, 3 stopped for want of room,
+//! so that a script cannot take a part of a report for the whole. It never panics.
 
 #![deny(unsafe_code)]
 #![cfg_attr(test, allow(clippy::restriction))]
@@ -21,7 +22,7 @@ use std::io::{self, BufWriter, Write};
 use std::path::{Path, PathBuf};
 use std::process::ExitCode;
 
-use mireladle::{Error, Query, Report, Rows};
+use mireladle::{Ending, Error, Query, Report, Rows};
 
 use csv::Table;
 use fault::{shown, visible, Fault};
@@ -62,9 +63,12 @@ QUERY.txt  Lines in any order; # begins a comment.
 --help     Print this.
 
 It prints the matches, then the rows; 2:A beside a row says that match 2 labels it A.
-Rows count from 0. Exit status: 0 done, 1 the search refused, 2 wrong input. A report for
-which the program had no room is 0 too: it begins with `stopped for want of room`.
+Rows count from 0. Exit status: 0 done, 1 the search refused, 2 wrong input, 3 the program
+had no room for the whole report: it begins with `stopped for want of room`.
 ";
+
+/// The exit status where a report is not whole.
+const STOPPED: u8 = 3;
 
 /// What the command line asks for.
 enum Task {
@@ -107,8 +111,9 @@ enum Failure {
 fn main() -> ExitCode {
     let mut out = BufWriter::new(io::stdout().lock());
     let done = task(std::env::args_os().skip(1)).and_then(|task| run(&task, &mut out));
-    match done.and_then(|()| out.flush().map_err(Failure::Output)) {
-        Ok(()) => ExitCode::SUCCESS,
+    match done.and_then(|ending| out.flush().map(|()| ending).map_err(Failure::Output)) {
+        Ok(Ending::Done) => ExitCode::SUCCESS,
+        Ok(_) => ExitCode::from(STOPPED),
         // Whoever reads the output has had enough of it.
         Err(Failure::Output(error)) if error.kind() == io::ErrorKind::BrokenPipe => {
             ExitCode::SUCCESS
@@ -165,9 +170,11 @@ fn task(mut arguments: impl Iterator<Item = OsString>) -> Result<Task, Failure> 
     }
 }
 
-fn run(task: &Task, out: &mut impl Write) -> Result<(), Failure> {
+/// Runs a task, and tells how its search ended; one that searches nothing is done.
+fn run(task: &Task, out: &mut impl Write) -> Result<Ending, Failure> {
+    let written = |result: io::Result<()>| result.map(|()| Ending::Done).map_err(Failure::Output);
     match task {
-        Task::Help => out.write_all(HELP.as_bytes()).map_err(Failure::Output),
+        Task::Help => written(out.write_all(HELP.as_bytes())),
         Task::Search {
             program,
             query,
@@ -178,8 +185,7 @@ fn run(task: &Task, out: &mut impl Write) -> Result<(), Failure> {
         }
         Task::Bytes { query, rows } => {
             let (text, table) = read_both(query, rows)?;
-            out.write_all(&program_input(&text, &table))
-                .map_err(Failure::Output)
+            written(out.write_all(&program_input(&text, &table)))
         }
     }
 }
@@ -241,7 +247,7 @@ fn search(
     query_path: &Path,
     program: Option<&Path>,
     out: &mut impl Write,
-) -> Result<(), Failure> {
+) -> Result<Ending, Failure> {
     let refused = |error: Error| {
         let line = match error {
             Error::TooDeep | Error::NotAPattern | Error::EmptyRepetition | Error::TooManyPlaces => {
@@ -270,7 +276,8 @@ fn search(
         names: &table.names,
         titles: &text.titles,
     };
-    printed.write(out).map_err(Failure::Output)
+    printed.write(out).map_err(Failure::Output)?;
+    Ok(report.ending())
 }
 
 fn search_by_program(
