@@ -288,6 +288,11 @@ module _ (cells : List ℕ) (offsets numbers : List ℤ) (counts : List ℕ) (n 
         kept = λ m i h g. ap (λ (t : List ℕ). getD t (m * 8 + i) 0) is ∙ seven-other tests₀ (l * 8) sort left right low width back rest (m * 8 + i) (apart m i h g);
       }
 
+  -- a letter without comparisons reads its own row alone
+  pub test-free : count ≡ 0 → tests ≡ setRange tests₀ (l * 8) 0 n → PutTest cells offsets numbers counts n l tests₀ tests
+  unfolding mostBack mostAhead most
+  test-free z is = test-range 0 0 n (rw z refl) (rw z refl) (omega arith) (λ (o : count ≡ 1). omega arith) is
+
 -- ---- the loop over the letters
 
 -- the letters below l have their words, and those from l on have none yet

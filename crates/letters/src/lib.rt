@@ -454,7 +454,7 @@ fn put_range(tests: &mut [u64; 208], at: usize, back: u64, rest: u64)
     tests[at + 6] = rest;
 }
 
-// The words of letter l: all with exactly one comparison, else the range alone.
+// The words of letter l: all with exactly one comparison, else the range alone, which is all rows without a comparison.
 fn put_test(
     cells: &[u16; 832],
     offsets: &[i8; 416],
@@ -469,6 +469,10 @@ fn put_test(
 {
     let count = byte(counts[l]);
     let g = l * 8;
+    if count == 0 {
+        put_range(tests, g, 0, n as u64);
+        return;
+    }
     let back = most_back(cells, offsets, g, count);
     let rest = left_over(n, back + most_ahead(cells, offsets, g, count));
     if count != 1 {
