@@ -4,7 +4,7 @@ use mathlib.Core.Bool.{Bool, true, false, _&&_, _||_, true≢false}
 use mathlib.Core.List.{List, [], _∷_}
 use mathlib.Core.Logic.{inl, inr}
 use mathlib.Core.Option.{Option, none, some}
-use Prim.Native.Nat.{ℕ, suc, _+_, _-_, _≤_, _<_}
+use Prim.Native.Nat.{ℕ, suc, _+_, _*_, _-_, _≤_, _<_}
 use native.Mathlib.Omega.{arith}
 use mir.Val.{Fits as Fits-in}
 use mir.Syntax.{w64}
@@ -18,6 +18,7 @@ use Rattle.rules.specs.Reader.{treeOf}
 use Rattle.rules.specs.Places.{fork, placesOf}
 use Rattle.rules.specs.Answers.{deep, noTree, hasEmptyLoop, tooMany, P, lowest}
 use Rattle.pattern.specs.Nodes.{nodeAt}
+use Rattle.pattern.specs.declared.nodes.Sort.{Sort}
 use Rattle.pattern.specs.declared.nodes.Sort.the-variants.{Letter, Anchor, Empty, Sequence, Alternation, Group}
 use Rattle.pattern.specs.declared.nodes.Node.{Node}
 use Rattle.pattern.specs.declared.Step.{Step}
@@ -160,6 +161,18 @@ module _ (s : List ℕ) (i : ℕ) (n : Node) (en : n ≡ nodeAt s i) where
   loop-group-rest t r e eh f o h = as-group s i n en (λ p. r ≡ emptyLoop p) e (λ F q p g.
       let z : nullable p ≡ false = sym (f p (g .inside)) ∙ o in h p (g .inside) ∙ sym (loop-inside true F q p g (eq-eqb (n .high) 100 eh)
       ∙ ap (λ (b : Bool). (true && b) || emptyLoop p) z))
+
+-- a letter by its sort alone
+pub loop-letter-at : (s : List ℕ) (i : ℕ) (k : Sort) → k ≡ (nodeAt s i) .sort → (a : ℕ) → k ≡ Letter a → EmptyLoop s i false
+loop-letter-at s i k ek a e = loop-letter s i (nodeAt s i) refl a (sym ek ∙ e)
+
+-- ---- the measure of the two functions that look for empty loops: twice the height, and one more for the one that looks at a node first
+
+pub twice : {A : Type 0} {h k : ℕ} (t : ℕ) → 2 * k ≡ t → (h < k) × A → (2 * h + 1 < t) × A
+twice t e p = (omega arith, p .1)
+
+pub one-less : (h t : ℕ) → 2 * h + 1 ≡ t → 2 * h < t
+one-less h t e = omega arith
 
 -- ---- depth of parentheses
 

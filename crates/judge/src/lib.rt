@@ -2,6 +2,7 @@
 // recurse over the tree's nodes; the node's height falls.
 use pattern::nodes::Sort;
 use pattern::nodes::node_at;
+use pattern::nodes::sort_at;
 use pattern::read_text;
 ghost use mathlib.Core.Path.{_≡_};
 ghost use mathlib.Core.Bool.{true, false};
@@ -69,29 +70,41 @@ fn has_empty_loop(room: &[u16], i: usize) -> bool
         Sort::Anchor(_) => high == 100,
         Sort::Empty => high == 100,
         Sort::Sequence => {
-            if has_empty_loop(room, left) {
+            if loop_at(room, left) {
                 true
             } else {
-                has_empty_loop(room, right)
+                loop_at(room, right)
             }
         }
         Sort::Alternation => {
-            if has_empty_loop(room, left) {
+            if loop_at(room, left) {
                 true
             } else {
-                has_empty_loop(room, right)
+                loop_at(room, right)
             }
         }
         Sort::Group => {
             if high != 100 {
-                return has_empty_loop(room, left);
+                return loop_at(room, left);
             }
             if can_be_empty(room, left) {
                 return true;
             }
-            has_empty_loop(room, left)
+            loop_at(room, left)
         }
     }
+}
+
+// The same of a part of a tree. Most parts are letters, which are not worth a call.
+fn loop_at(room: &[u16], i: usize) -> bool
+    requires { ⌜ At (now room) i ⌝ }
+    ensures { λ r. ⌜ EmptyLoop (now (room .entry)) i r ⌝ }
+{
+    let sort = sort_at(room, i);
+    if let Sort::Letter(_) = sort {
+        return false;
+    }
+    has_empty_loop(room, i)
 }
 
 // Parentheses opened and closed so far. Their difference may be negative.

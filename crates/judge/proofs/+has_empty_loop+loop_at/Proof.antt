@@ -1,36 +1,58 @@
--- `judge::has_empty_loop`, which calls itself, meets its contract.
--- The measure: the node's height. Laws: pattern's ByNode, Laws.
+-- `judge::has_empty_loop` and `judge::loop_at`, which call each other, meet their contracts.
+-- The measure: twice the node's height, and one more for `loop_at`, which looks at a node first. Laws: pattern's ByNode, Laws.
+use mathlib.Core.Path.{refl}
 use Rattle.pattern.proofs.ByNode.{at-in, seq-left, seq-right, alt-left, alt-right, group-left}
-use Rattle.judge.proofs.Laws.{loop-letter, loop-anchor, loop-empty, loop-seq, loop-seq-second, loop-alt, loop-alt-second, loop-group, loop-group-null, loop-group-rest, group-inside}
+use Rattle.judge.proofs.Laws.{twice, one-less, loop-letter-at, loop-letter, loop-anchor, loop-empty, loop-seq, loop-seq-second, loop-alt, loop-alt-second, loop-group, loop-group-null, loop-group-rest, group-inside}
 use Rattle.pattern.specs.Nodes.{nodeAt}
 use borrow.Author.Needs.{needs}
-use Prim.Native.Nat.{ℕ, _<_}
+use Prim.Native.Nat.{ℕ, _+_, _*_, _<_}
 use borrow.Fn.Kinds.{In}
 use borrow.Fn.PlainCycle.{Measures, is, falls, and}
 use Rattle.judge.proofs.has_empty_loop.Reads as has-empty-loop
 use Rattle.judge.proofs.has_empty_loop.Kinds as has-empty-loop-kinds
-use Rattle.judge.proofs.+has_empty_loop.Lts-has_empty_loop as has-empty-loop-lts
+use Rattle.judge.proofs.+has_empty_loop+loop_at.Lts-has_empty_loop as has-empty-loop-lts
+use Rattle.judge.proofs.loop_at.Reads as loop-at
+use Rattle.judge.proofs.loop_at.Kinds as loop-at-kinds
+use Rattle.judge.proofs.+has_empty_loop+loop_at.Lts-loop_at as loop-at-lts
 use Rattle.judge.proofs.can_be_empty.Reads as can-be-empty-reads
 use Rattle.pattern.proofs.nodes.node_at.Reads as node-at-reads
-use Rattle.judge.proofs.+has_empty_loop.{statement}
-use Rattle.judge.proofs.+has_empty_loop.Tie.{close}
+use Rattle.pattern.proofs.nodes.sort_at.Reads as sort-at-reads
+use Rattle.judge.proofs.+has_empty_loop+loop_at.{statement}
+use Rattle.judge.proofs.+has_empty_loop+loop_at.Tie.{close}
 
 abbrev μ-has-empty-loop : Measures 1 has-empty-loop-kinds.ps ℕ
-μ-has-empty-loop κs a = (nodeAt (a .0 .now) (a .1 .0)) .height
+μ-has-empty-loop κs a = 2 * (nodeAt (a .0 .now) (a .1 .0)) .height
+
+abbrev μ-loop-at : Measures 1 loop-at-kinds.ps ℕ
+μ-loop-at κs a = 2 * (nodeAt (a .0 .now) (a .1 .0)) .height + 1
 
 abbrev has-empty-loop-at : ℕ → In 1 has-empty-loop-kinds.ps
 has-empty-loop-at t =
-    and 1 has-empty-loop-kinds.ps (is 1 has-empty-loop-kinds.ps μ-has-empty-loop t) has-empty-loop.Pre
+    and
+    1
+    has-empty-loop-kinds.ps
+    (is 1 has-empty-loop-kinds.ps μ-has-empty-loop t)
+    has-empty-loop.Pre
 
 abbrev has-empty-loop-below : ℕ → In 1 has-empty-loop-kinds.ps
 has-empty-loop-below t =
-    and 1 has-empty-loop-kinds.ps (falls 1 has-empty-loop-kinds.ps _<_ μ-has-empty-loop t) has-empty-loop.Pre
+    and
+    1
+    has-empty-loop-kinds.ps
+    (falls 1 has-empty-loop-kinds.ps _<_ μ-has-empty-loop t)
+    has-empty-loop.Pre
+
+abbrev loop-at-at : ℕ → In 1 loop-at-kinds.ps
+loop-at-at t = and 1 loop-at-kinds.ps (is 1 loop-at-kinds.ps μ-loop-at t) loop-at.Pre
+
+abbrev loop-at-below : ℕ → In 1 loop-at-kinds.ps
+loop-at-below t = and 1 loop-at-kinds.ps (falls 1 loop-at-kinds.ps _<_ μ-loop-at t) loop-at.Pre
 
 has-empty-loop-node-at-requires : (t : ℕ) → has-empty-loop-lts.Need-node-at-requires (
   node-at-reads.Asked,
   node-at-reads.Learnt,
-  has-empty-loop-below t,
-  has-empty-loop.Post,
+  loop-at-below t,
+  loop-at.Post,
   can-be-empty-reads.Asked,
   can-be-empty-reads.Learnt,
 ) (has-empty-loop-at t) has-empty-loop.Post
@@ -39,8 +61,8 @@ has-empty-loop-node-at-requires t c κs = search (needs, at-in)
 has-empty-loop-enum-told : (t : ℕ) → has-empty-loop-lts.Need-enum-told (
   node-at-reads.Asked,
   node-at-reads.Learnt,
-  has-empty-loop-below t,
-  has-empty-loop.Post,
+  loop-at-below t,
+  loop-at.Post,
   can-be-empty-reads.Asked,
   can-be-empty-reads.Learnt,
 ) (has-empty-loop-at t) has-empty-loop.Post
@@ -49,8 +71,8 @@ has-empty-loop-enum-told t c = search needs
 has-empty-loop-enum-told-2 : (t : ℕ) → has-empty-loop-lts.Need-enum-told-2 (
   node-at-reads.Asked,
   node-at-reads.Learnt,
-  has-empty-loop-below t,
-  has-empty-loop.Post,
+  loop-at-below t,
+  loop-at.Post,
   can-be-empty-reads.Asked,
   can-be-empty-reads.Learnt,
 ) (has-empty-loop-at t) has-empty-loop.Post
@@ -59,8 +81,8 @@ has-empty-loop-enum-told-2 t c = search needs
 has-empty-loop-enum-told-3 : (t : ℕ) → has-empty-loop-lts.Need-enum-told-3 (
   node-at-reads.Asked,
   node-at-reads.Learnt,
-  has-empty-loop-below t,
-  has-empty-loop.Post,
+  loop-at-below t,
+  loop-at.Post,
   can-be-empty-reads.Asked,
   can-be-empty-reads.Learnt,
 ) (has-empty-loop-at t) has-empty-loop.Post
@@ -69,93 +91,88 @@ has-empty-loop-enum-told-3 t c = search needs
 has-empty-loop-enum-told-4 : (t : ℕ) → has-empty-loop-lts.Need-enum-told-4 (
   node-at-reads.Asked,
   node-at-reads.Learnt,
-  has-empty-loop-below t,
-  has-empty-loop.Post,
+  loop-at-below t,
+  loop-at.Post,
   can-be-empty-reads.Asked,
   can-be-empty-reads.Learnt,
 ) (has-empty-loop-at t) has-empty-loop.Post
 has-empty-loop-enum-told-4 t c = search needs
 
-has-empty-loop-has-empty-loop-requires : (t : ℕ) → has-empty-loop-lts.Need-has-empty-loop-requires (
+has-empty-loop-loop-at-requires : (t : ℕ) → has-empty-loop-lts.Need-loop-at-requires (
   node-at-reads.Asked,
   node-at-reads.Learnt,
-  has-empty-loop-below t,
-  has-empty-loop.Post,
+  loop-at-below t,
+  loop-at.Post,
   can-be-empty-reads.Asked,
   can-be-empty-reads.Learnt,
 ) (has-empty-loop-at t) has-empty-loop.Post
-has-empty-loop-has-empty-loop-requires t c κs = seq-left _ _ _ (c .before .before .node-at .ensures) _ (c .before .before .before .before .pre .0)
-    (c .before .before .before .before .pre .1) (c .enum-told4 .given .1)
+has-empty-loop-loop-at-requires t c κs = twice _ (c .before .before .before .before .pre .0) (seq-left _ _ _ (c .before .before .node-at .ensures) _ refl (c .before .before .before .before .pre .1) (c .enum-told4 .given .1))
 
-has-empty-loop-has-empty-loop-requires-2 : (t : ℕ) → has-empty-loop-lts.Need-has-empty-loop-requires-2 (
+has-empty-loop-loop-at-requires-2 : (t : ℕ) → has-empty-loop-lts.Need-loop-at-requires-2 (
   node-at-reads.Asked,
   node-at-reads.Learnt,
-  has-empty-loop-below t,
-  has-empty-loop.Post,
+  loop-at-below t,
+  loop-at.Post,
   can-be-empty-reads.Asked,
   can-be-empty-reads.Learnt,
 ) (has-empty-loop-at t) has-empty-loop.Post
-has-empty-loop-has-empty-loop-requires-2 t c κs = seq-right _ _ _ (c .before .before .before .before .node-at .ensures) _
-    (c .before .before .before .before .before .before .pre .0) (c .before .before .before .before .before .before .pre .1) (c .before .before .enum-told4 .given .1)
+has-empty-loop-loop-at-requires-2 t c κs = twice _ (c .before .before .before .before .before .before .pre .0) (seq-right _ _ _ (c .before .before .before .before .node-at .ensures) _ refl (c .before .before .before .before .before .before .pre .1) (c .before .before .enum-told4 .given .1))
 
 has-empty-loop-enum-told-5 : (t : ℕ) → has-empty-loop-lts.Need-enum-told-5 (
   node-at-reads.Asked,
   node-at-reads.Learnt,
-  has-empty-loop-below t,
-  has-empty-loop.Post,
+  loop-at-below t,
+  loop-at.Post,
   can-be-empty-reads.Asked,
   can-be-empty-reads.Learnt,
 ) (has-empty-loop-at t) has-empty-loop.Post
 has-empty-loop-enum-told-5 t c = search needs
 
-has-empty-loop-has-empty-loop-requires-3 : (t : ℕ) → has-empty-loop-lts.Need-has-empty-loop-requires-3 (
+has-empty-loop-loop-at-requires-3 : (t : ℕ) → has-empty-loop-lts.Need-loop-at-requires-3 (
   node-at-reads.Asked,
   node-at-reads.Learnt,
-  has-empty-loop-below t,
-  has-empty-loop.Post,
+  loop-at-below t,
+  loop-at.Post,
   can-be-empty-reads.Asked,
   can-be-empty-reads.Learnt,
 ) (has-empty-loop-at t) has-empty-loop.Post
-has-empty-loop-has-empty-loop-requires-3 t c κs = alt-left _ _ _ (c .before .before .node-at .ensures) _ (c .before .before .before .before .pre .0)
-    (c .before .before .before .before .pre .1) (c .enum-told5 .given .1)
+has-empty-loop-loop-at-requires-3 t c κs = twice _ (c .before .before .before .before .pre .0) (alt-left _ _ _ (c .before .before .node-at .ensures) _ refl (c .before .before .before .before .pre .1) (c .enum-told5 .given .1))
 
-has-empty-loop-has-empty-loop-requires-4 : (t : ℕ) → has-empty-loop-lts.Need-has-empty-loop-requires-4 (
+has-empty-loop-loop-at-requires-4 : (t : ℕ) → has-empty-loop-lts.Need-loop-at-requires-4 (
   node-at-reads.Asked,
   node-at-reads.Learnt,
-  has-empty-loop-below t,
-  has-empty-loop.Post,
+  loop-at-below t,
+  loop-at.Post,
   can-be-empty-reads.Asked,
   can-be-empty-reads.Learnt,
 ) (has-empty-loop-at t) has-empty-loop.Post
-has-empty-loop-has-empty-loop-requires-4 t c κs = alt-right _ _ _ (c .before .before .before .before .node-at .ensures) _
-    (c .before .before .before .before .before .before .pre .0) (c .before .before .before .before .before .before .pre .1) (c .before .before .enum-told5 .given .1)
+has-empty-loop-loop-at-requires-4 t c κs = twice _ (c .before .before .before .before .before .before .pre .0) (alt-right _ _ _ (c .before .before .before .before .node-at .ensures) _ refl (c .before .before .before .before .before .before .pre .1) (c .before .before .enum-told5 .given .1))
 
 has-empty-loop-enum-told-6 : (t : ℕ) → has-empty-loop-lts.Need-enum-told-6 (
   node-at-reads.Asked,
   node-at-reads.Learnt,
-  has-empty-loop-below t,
-  has-empty-loop.Post,
+  loop-at-below t,
+  loop-at.Post,
   can-be-empty-reads.Asked,
   can-be-empty-reads.Learnt,
 ) (has-empty-loop-at t) has-empty-loop.Post
 has-empty-loop-enum-told-6 t c = search needs
 
-has-empty-loop-has-empty-loop-requires-5 : (t : ℕ) → has-empty-loop-lts.Need-has-empty-loop-requires-5 (
+has-empty-loop-loop-at-requires-5 : (t : ℕ) → has-empty-loop-lts.Need-loop-at-requires-5 (
   node-at-reads.Asked,
   node-at-reads.Learnt,
-  has-empty-loop-below t,
-  has-empty-loop.Post,
+  loop-at-below t,
+  loop-at.Post,
   can-be-empty-reads.Asked,
   can-be-empty-reads.Learnt,
 ) (has-empty-loop-at t) has-empty-loop.Post
-has-empty-loop-has-empty-loop-requires-5 t c κs = group-left _ _ _ (c .before .before .before .node-at .ensures) _ (c .before .before .before .before .before .pre .0)
-    (c .before .before .before .before .before .pre .1) (c .before .enum-told6 .given .1)
+has-empty-loop-loop-at-requires-5 t c κs = twice _ (c .before .before .before .before .before .pre .0) (group-left _ _ _ (c .before .before .before .node-at .ensures) _ refl (c .before .before .before .before .before .pre .1) (c .before .enum-told6 .given .1))
 
 has-empty-loop-returns : (t : ℕ) → has-empty-loop-lts.Need-returns (
   node-at-reads.Asked,
   node-at-reads.Learnt,
-  has-empty-loop-below t,
-  has-empty-loop.Post,
+  loop-at-below t,
+  loop-at.Post,
   can-be-empty-reads.Asked,
   can-be-empty-reads.Learnt,
 ) (has-empty-loop-at t) has-empty-loop.Post
@@ -164,8 +181,8 @@ has-empty-loop-returns t c = search (needs, loop-group)
 has-empty-loop-can-be-empty-requires : (t : ℕ) → has-empty-loop-lts.Need-can-be-empty-requires (
   node-at-reads.Asked,
   node-at-reads.Learnt,
-  has-empty-loop-below t,
-  has-empty-loop.Post,
+  loop-at-below t,
+  loop-at.Post,
   can-be-empty-reads.Asked,
   can-be-empty-reads.Learnt,
 ) (has-empty-loop-at t) has-empty-loop.Post
@@ -174,30 +191,28 @@ has-empty-loop-can-be-empty-requires t c κs = search (needs, group-inside)
 has-empty-loop-returns-2 : (t : ℕ) → has-empty-loop-lts.Need-returns-2 (
   node-at-reads.Asked,
   node-at-reads.Learnt,
-  has-empty-loop-below t,
-  has-empty-loop.Post,
+  loop-at-below t,
+  loop-at.Post,
   can-be-empty-reads.Asked,
   can-be-empty-reads.Learnt,
 ) (has-empty-loop-at t) has-empty-loop.Post
 has-empty-loop-returns-2 t c = search (needs, loop-group-null)
 
-has-empty-loop-has-empty-loop-requires-6 : (t : ℕ) → has-empty-loop-lts.Need-has-empty-loop-requires-6 (
+has-empty-loop-loop-at-requires-6 : (t : ℕ) → has-empty-loop-lts.Need-loop-at-requires-6 (
   node-at-reads.Asked,
   node-at-reads.Learnt,
-  has-empty-loop-below t,
-  has-empty-loop.Post,
+  loop-at-below t,
+  loop-at.Post,
   can-be-empty-reads.Asked,
   can-be-empty-reads.Learnt,
 ) (has-empty-loop-at t) has-empty-loop.Post
-has-empty-loop-has-empty-loop-requires-6 t c κs = group-left _ _ _ (c .before .before .before .before .before .node-at .ensures) _
-    (c .before .before .before .before .before .before .before .pre .0) (c .before .before .before .before .before .before .before .pre .1)
-    (c .before .before .before .enum-told6 .given .1)
+has-empty-loop-loop-at-requires-6 t c κs = twice _ (c .before .before .before .before .before .before .before .pre .0) (group-left _ _ _ (c .before .before .before .before .before .node-at .ensures) _ refl (c .before .before .before .before .before .before .before .pre .1) (c .before .before .before .enum-told6 .given .1))
 
 has-empty-loop-returns-3 : (t : ℕ) → has-empty-loop-lts.Need-returns-3 (
   node-at-reads.Asked,
   node-at-reads.Learnt,
-  has-empty-loop-below t,
-  has-empty-loop.Post,
+  loop-at-below t,
+  loop-at.Post,
   can-be-empty-reads.Asked,
   can-be-empty-reads.Learnt,
 ) (has-empty-loop-at t) has-empty-loop.Post
@@ -206,8 +221,8 @@ has-empty-loop-returns-3 t c = search (needs, loop-letter)
 has-empty-loop-returns-4 : (t : ℕ) → has-empty-loop-lts.Need-returns-4 (
   node-at-reads.Asked,
   node-at-reads.Learnt,
-  has-empty-loop-below t,
-  has-empty-loop.Post,
+  loop-at-below t,
+  loop-at.Post,
   can-be-empty-reads.Asked,
   can-be-empty-reads.Learnt,
 ) (has-empty-loop-at t) has-empty-loop.Post
@@ -216,8 +231,8 @@ has-empty-loop-returns-4 t c = search (needs, loop-anchor)
 has-empty-loop-returns-5 : (t : ℕ) → has-empty-loop-lts.Need-returns-5 (
   node-at-reads.Asked,
   node-at-reads.Learnt,
-  has-empty-loop-below t,
-  has-empty-loop.Post,
+  loop-at-below t,
+  loop-at.Post,
   can-be-empty-reads.Asked,
   can-be-empty-reads.Learnt,
 ) (has-empty-loop-at t) has-empty-loop.Post
@@ -226,8 +241,8 @@ has-empty-loop-returns-5 t c = search (needs, loop-empty)
 has-empty-loop-returns-6 : (t : ℕ) → has-empty-loop-lts.Need-returns-6 (
   node-at-reads.Asked,
   node-at-reads.Learnt,
-  has-empty-loop-below t,
-  has-empty-loop.Post,
+  loop-at-below t,
+  loop-at.Post,
   can-be-empty-reads.Asked,
   can-be-empty-reads.Learnt,
 ) (has-empty-loop-at t) has-empty-loop.Post
@@ -236,8 +251,8 @@ has-empty-loop-returns-6 t c = search (needs, loop-seq)
 has-empty-loop-returns-7 : (t : ℕ) → has-empty-loop-lts.Need-returns-7 (
   node-at-reads.Asked,
   node-at-reads.Learnt,
-  has-empty-loop-below t,
-  has-empty-loop.Post,
+  loop-at-below t,
+  loop-at.Post,
   can-be-empty-reads.Asked,
   can-be-empty-reads.Learnt,
 ) (has-empty-loop-at t) has-empty-loop.Post
@@ -246,8 +261,8 @@ has-empty-loop-returns-7 t c = search (needs, loop-seq-second)
 has-empty-loop-returns-8 : (t : ℕ) → has-empty-loop-lts.Need-returns-8 (
   node-at-reads.Asked,
   node-at-reads.Learnt,
-  has-empty-loop-below t,
-  has-empty-loop.Post,
+  loop-at-below t,
+  loop-at.Post,
   can-be-empty-reads.Asked,
   can-be-empty-reads.Learnt,
 ) (has-empty-loop-at t) has-empty-loop.Post
@@ -256,8 +271,8 @@ has-empty-loop-returns-8 t c = search (needs, loop-alt)
 has-empty-loop-returns-9 : (t : ℕ) → has-empty-loop-lts.Need-returns-9 (
   node-at-reads.Asked,
   node-at-reads.Learnt,
-  has-empty-loop-below t,
-  has-empty-loop.Post,
+  loop-at-below t,
+  loop-at.Post,
   can-be-empty-reads.Asked,
   can-be-empty-reads.Learnt,
 ) (has-empty-loop-at t) has-empty-loop.Post
@@ -266,19 +281,59 @@ has-empty-loop-returns-9 t c = search (needs, loop-alt-second)
 has-empty-loop-returns-10 : (t : ℕ) → has-empty-loop-lts.Need-returns-10 (
   node-at-reads.Asked,
   node-at-reads.Learnt,
-  has-empty-loop-below t,
-  has-empty-loop.Post,
+  loop-at-below t,
+  loop-at.Post,
   can-be-empty-reads.Asked,
   can-be-empty-reads.Learnt,
 ) (has-empty-loop-at t) has-empty-loop.Post
 has-empty-loop-returns-10 t c = search (needs, loop-group-rest)
 
-pub +has-empty-loop-spec : {M : Type 1} → statement M
-+has-empty-loop-spec = close μ-has-empty-loop λ t. has-empty-loop-lts.spec (
-  node-at-reads.Asked,
-  node-at-reads.Learnt,
+loop-at-sort-at-requires : (t : ℕ) → loop-at-lts.Need-sort-at-requires (
+  sort-at-reads.Asked,
+  sort-at-reads.Learnt,
   has-empty-loop-below t,
   has-empty-loop.Post,
+) (loop-at-at t) loop-at.Post
+loop-at-sort-at-requires t c κs = search (needs, at-in)
+
+loop-at-enum-told : (t : ℕ) → loop-at-lts.Need-enum-told (
+  sort-at-reads.Asked,
+  sort-at-reads.Learnt,
+  has-empty-loop-below t,
+  has-empty-loop.Post,
+) (loop-at-at t) loop-at.Post
+loop-at-enum-told t c = search needs
+
+loop-at-returns : (t : ℕ) → loop-at-lts.Need-returns (
+  sort-at-reads.Asked,
+  sort-at-reads.Learnt,
+  has-empty-loop-below t,
+  has-empty-loop.Post,
+) (loop-at-at t) loop-at.Post
+loop-at-returns t c = search (needs, loop-letter-at)
+
+loop-at-has-empty-loop-requires : (t : ℕ) → loop-at-lts.Need-has-empty-loop-requires (
+  sort-at-reads.Asked,
+  sort-at-reads.Learnt,
+  has-empty-loop-below t,
+  has-empty-loop.Post,
+) (loop-at-at t) loop-at.Post
+loop-at-has-empty-loop-requires t c κs = search (needs, one-less)
+
+loop-at-returns-2 : (t : ℕ) → loop-at-lts.Need-returns-2 (
+  sort-at-reads.Asked,
+  sort-at-reads.Learnt,
+  has-empty-loop-below t,
+  has-empty-loop.Post,
+) (loop-at-at t) loop-at.Post
+loop-at-returns-2 t c = search needs
+
+pub +has-empty-loop+loop-at-spec : {M : Type 1} → statement M
++has-empty-loop+loop-at-spec = close μ-has-empty-loop μ-loop-at (λ t. has-empty-loop-lts.spec (
+  node-at-reads.Asked,
+  node-at-reads.Learnt,
+  loop-at-below t,
+  loop-at.Post,
   can-be-empty-reads.Asked,
   can-be-empty-reads.Learnt,
 )
@@ -289,17 +344,17 @@ pub +has-empty-loop-spec : {M : Type 1} → statement M
     (has-empty-loop-enum-told-2 t)
     (has-empty-loop-enum-told-3 t)
     (has-empty-loop-enum-told-4 t)
-    (has-empty-loop-has-empty-loop-requires t)
-    (has-empty-loop-has-empty-loop-requires-2 t)
+    (has-empty-loop-loop-at-requires t)
+    (has-empty-loop-loop-at-requires-2 t)
     (has-empty-loop-enum-told-5 t)
-    (has-empty-loop-has-empty-loop-requires-3 t)
-    (has-empty-loop-has-empty-loop-requires-4 t)
+    (has-empty-loop-loop-at-requires-3 t)
+    (has-empty-loop-loop-at-requires-4 t)
     (has-empty-loop-enum-told-6 t)
-    (has-empty-loop-has-empty-loop-requires-5 t)
+    (has-empty-loop-loop-at-requires-5 t)
     (has-empty-loop-returns t)
     (has-empty-loop-can-be-empty-requires t)
     (has-empty-loop-returns-2 t)
-    (has-empty-loop-has-empty-loop-requires-6 t)
+    (has-empty-loop-loop-at-requires-6 t)
     (has-empty-loop-returns-3 t)
     (has-empty-loop-returns-4 t)
     (has-empty-loop-returns-5 t)
@@ -307,4 +362,13 @@ pub +has-empty-loop-spec : {M : Type 1} → statement M
     (has-empty-loop-returns-7 t)
     (has-empty-loop-returns-8 t)
     (has-empty-loop-returns-9 t)
-    (has-empty-loop-returns-10 t)
+    (has-empty-loop-returns-10 t))
+    λ t. loop-at-lts.spec
+    (sort-at-reads.Asked, sort-at-reads.Learnt, has-empty-loop-below t, has-empty-loop.Post)
+    (loop-at-at t)
+    loop-at.Post
+    (loop-at-sort-at-requires t)
+    (loop-at-enum-told t)
+    (loop-at-returns t)
+    (loop-at-has-empty-loop-requires t)
+    (loop-at-returns-2 t)
