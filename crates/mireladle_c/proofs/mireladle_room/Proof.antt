@@ -1,3 +1,4 @@
+-- `mireladle_c::mireladle_room` meets its contract by the laws of Small.
 use native.Mathlib.Omega.{arith}
 use borrow.Author.Needs.{needs}
 use Rattle.mireladle_c.proofs.Small.{pairs-fit}

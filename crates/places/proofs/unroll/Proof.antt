@@ -1,3 +1,4 @@
+-- `places::unroll` meets its contract by the laws of UnrollLaws.
 use Rattle.places.proofs.UnrollLaws.{some-place, unroll-emitting, end-words, unroll-length, unroll-done}
 use Rattle.places.proofs.unroll.Statement.{statement}
 use Rattle.places.proofs.unroll.Tie as tie

@@ -1,3 +1,4 @@
+-- `report::as_number` meets its contract by the laws of Joins.
 use native.Mathlib.Omega.{arith}
 use Rattle.report.proofs.Joins.{pos-held}
 use borrow.Author.Needs.{needs}

@@ -1,3 +1,4 @@
+-- `report::entry_at` meets its contract by the laws of Joins.
 use Rattle.report.proofs.Joins.{entry-is}
 use borrow.Author.Needs.{needs}
 use Rattle.report.proofs.entry_at.Statement.{statement}

@@ -1,3 +1,4 @@
+-- `report::first_of` meets its contract by the laws of RowsOf. The invariant and the measure of its loop come first.
 use Rattle.report.proofs.RowsOf.{Seeking, seek-none, seek-on, first-here, first-nowhere}
 use Prim.Native.Nat.{_-_}
 use lib.ListN.{length}

@@ -1,3 +1,4 @@
+-- `report::fits_whole` meets its contract by the laws of Numbers.
 use native.Mathlib.Omega.{arith}
 use Rattle.report.proofs.Numbers.{room-small, no-room, fits-if}
 use borrow.Author.Needs.{needs}

@@ -1,3 +1,4 @@
+-- `report::is_of` meets its contract by the laws of RowsOf.
 use borrow.Author.Needs.{needs}
 use Rattle.report.proofs.RowsOf.{all-rows, own-rows}
 use Rattle.report.proofs.is_of.Statement.{statement}

@@ -1,3 +1,4 @@
+-- `report::join` meets its contract by the laws of Joins.
 use borrow.Author.Needs.{needs}
 use Rattle.report.proofs.Joins.{join-fits, join-sum, min-new, min-old, max-new, max-old}
 use Rattle.report.proofs.join.Statement.{statement}

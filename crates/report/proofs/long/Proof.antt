@@ -1,3 +1,4 @@
+-- `report::long` meets its contract by the laws of Joins.
 use Rattle.report.proofs.Joins.{wide-fits, wide-is}
 use Rattle.report.proofs.long.Statement.{statement}
 use Rattle.report.proofs.long.Tie as tie

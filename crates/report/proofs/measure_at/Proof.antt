@@ -1,3 +1,4 @@
+-- `report::measure_at` meets its contract by the laws of Numbers.
 use Rattle.report.proofs.Numbers.{measure-is}
 use borrow.Author.Needs.{needs}
 use Rattle.report.proofs.measure_at.Statement.{statement}

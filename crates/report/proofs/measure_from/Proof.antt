@@ -1,3 +1,4 @@
+-- `report::measure_from` meets its contract by the laws of RowsOf.
 use native.Mathlib.Omega.{arith}
 use Rattle.report.proofs.RowsOf.{gives-count, gives-joined, gives-first, row-inside, row-small}
 use borrow.Author.Needs.{needs}

@@ -1,3 +1,4 @@
+-- `report::measure_of` meets its contract by the laws of RowsOf.
 use Rattle.report.proofs.RowsOf.{others-from, others-upto, as-last, gives-none, first-at, same-column}
 use borrow.Author.Needs.{needs}
 use Rattle.report.proofs.measure_of.Statement.{statement}

@@ -1,3 +1,4 @@
+-- `report::of_no_rows` meets its contract by the laws of RowsOf.
 use borrow.Author.Needs.{needs}
 use Rattle.report.proofs.RowsOf.{none-counted, none-null}
 use Rattle.report.proofs.of_no_rows.Statement.{statement}

@@ -1,3 +1,4 @@
+-- `report::put_match` meets its contract by the laws of Numbers.
 use native.Mathlib.Omega.{arith}
 use Rattle.report.proofs.Numbers.{match-is}
 use borrow.Author.Needs.{needs}

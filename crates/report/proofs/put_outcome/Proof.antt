@@ -1,3 +1,4 @@
+-- `report::put_outcome` meets its contract by the laws of Numbers.
 use Rattle.report.proofs.Numbers.{put-null, put-number}
 use borrow.Author.Needs.{needs}
 use Rattle.report.proofs.put_outcome.Statement.{statement}

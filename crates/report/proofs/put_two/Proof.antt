@@ -1,3 +1,4 @@
+-- `report::put_two` meets its contract by the laws of Numbers.
 use lib.ListN.{length-set}
 use native.Mathlib.Omega.{arith}
 use Rattle.report.proofs.Numbers.{two}

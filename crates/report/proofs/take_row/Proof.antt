@@ -1,3 +1,4 @@
+-- `report::take_row` meets its contract by the laws of Joins.
 use Rattle.report.proofs.Joins.{passed-over, taken}
 use borrow.Author.Needs.{needs}
 use Rattle.report.proofs.take_row.Statement.{statement}

@@ -1,3 +1,4 @@
+-- `room::is_known` meets its contract by the laws of Laws.
 use borrow.Author.Needs.{needs}
 use Rattle.room.proofs.Laws.{letter-free, letter-looked}
 use Rattle.room.proofs.is_known.Statement.{statement}

@@ -1,3 +1,4 @@
+-- `room::judge_parts` meets its contract by the laws of Laws.
 use borrow.Author.Needs.{needs}
 use Rattle.room.proofs.Laws.{text-answers, defines-answer, measures-answer, no-answer}
 use Rattle.room.proofs.judge_parts.Statement.{statement}

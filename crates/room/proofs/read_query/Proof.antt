@@ -1,3 +1,4 @@
+-- `room::read_query` meets its contract by the laws of Laws.
 use borrow.Author.Needs.{needs}
 use Rattle.decode.specs.Layout.{Room}
 use Rattle.room.proofs.Laws.{first-answers, may-decode, may-judge, all-answers}

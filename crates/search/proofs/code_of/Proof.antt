@@ -1,3 +1,4 @@
+-- `search::code_of` meets its contract by the laws of Parting.
 use Rattle.search.proofs.Parting.{code-near, code-far, code-letter, code-caret, code-dollar, code-end}
 use borrow.Author.Needs.{needs}
 use Rattle.search.proofs.code_of.Statement.{statement}

@@ -1,3 +1,4 @@
+-- `search::finished` meets its contract by the laws of Ending.
 use borrow.Author.Needs.{needs}
 use Rattle.search.proofs.Ending.{outcome-stopped, outcome-done}
 use Rattle.search.proofs.finished.Statement.{statement}

@@ -1,3 +1,4 @@
+-- `search::first_of` meets its contract by the laws of Parting.
 use Rattle.search.proofs.Parting.{first-fork, first-other}
 use native.Mathlib.Omega.{arith}
 use borrow.Author.Needs.{needs}

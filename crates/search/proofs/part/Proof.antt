@@ -1,3 +1,4 @@
+-- `search::part` meets its contract by the laws of Parting. The invariant and the measure of its loop come first.
 use borrow.Author.Needs.{needs}
 use Prim.Native.Nat.{_-_}
 use Rattle.search.proofs.Parting.{Going, part-none, part-room, part-more, part-all}

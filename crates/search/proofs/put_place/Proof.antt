@@ -1,3 +1,4 @@
+-- `search::put_place` meets its contract by the laws of Parting.
 use Rattle.search.proofs.Parting.{put-code, put-is, put-entry}
 use mathlib.Core.Path.{refl}
 use borrow.Author.Needs.{needs}

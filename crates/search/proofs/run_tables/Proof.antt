@@ -1,3 +1,4 @@
+-- `search::run_tables` meets its contract by the laws of Ending.
 use borrow.Author.Needs.{needs}
 use Rattle.search.proofs.Ending.{run-ended}
 use Rattle.search.proofs.run_tables.Statement.{statement}

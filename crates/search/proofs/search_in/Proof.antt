@@ -1,3 +1,4 @@
+-- `search::search_in` meets its contract by the laws of Answering.
 use Prim.Native.Nat.{ℕ}
 use mathlib.Core.List.{[]}
 use native.Mathlib.Omega.{arith}

@@ -1,3 +1,4 @@
+-- `search::second_of` meets its contract by the laws of Parting.
 use Rattle.search.proofs.Parting.{second-some, second-none, second-other}
 use borrow.Author.Needs.{needs}
 use Rattle.search.proofs.second_of.Statement.{statement}

@@ -1,3 +1,4 @@
+-- `sweep::next_row` meets its contract by the laws of Labelled.
 use Rattle.sweep.proofs.Labelled.{next-one, next-behind, next-up}
 use borrow.Author.Needs.{needs}
 use Rattle.sweep.proofs.next_row.Statement.{statement}

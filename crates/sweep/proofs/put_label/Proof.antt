@@ -1,3 +1,4 @@
+-- `sweep::put_label` meets its contract by the laws of Labelled.
 use Rattle.sweep.proofs.Labelled.{puts-some, put-letter, put-other}
 use native.Mathlib.Omega.{arith}
 use mathlib.Core.Path.{refl}

@@ -1,3 +1,4 @@
+-- `sweep::put_labels` meets its contract by the laws of Labelled. The invariant and the measure of its loop come first.
 use Rattle.sweep.proofs.Labelled.{Labelling, labelling-none, labelling-long, labelling-all, labelling-read, labelling-puts, labelling-more}
 use Rattle.walk.specs.Tables.{tables}
 use native.Mathlib.Omega.{arith}

@@ -1,3 +1,4 @@
+-- `sweep::search` meets its contract by the laws of Clearing.
 use native.Mathlib.Omega.{arith}
 use Rattle.sweep.proofs.Clearing.{rows-fit, pairs-fit, bytes-fit, words-fit, cleared-starts, search-done}
 use borrow.Author.Needs.{needs}

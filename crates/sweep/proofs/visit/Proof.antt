@@ -1,3 +1,4 @@
+-- `sweep::visit` meets its contract by the laws of Visiting.
 use native.Mathlib.Omega.{arith}
 use Rattle.sweep.proofs.Visiting.{visit-ready, visit-row, visit-none, visit-reports, visit-found}
 use borrow.Author.Needs.{needs}

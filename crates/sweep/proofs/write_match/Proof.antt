@@ -1,3 +1,4 @@
+-- `sweep::write_match` meets its contract by the laws of Telling.
 use mathlib.Core.Path.{refl}
 use native.Mathlib.Omega.{arith}
 use Rattle.sweep.proofs.Telling.{tell-row, tell-at, tell-labels, tell-end, tell-appends, tell-fits, tell-full}

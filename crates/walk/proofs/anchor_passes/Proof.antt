@@ -1,3 +1,4 @@
+-- `walk::anchor_passes` meets its contract by the laws of Small.
 use Rattle.walk.proofs.Small.{passes-caret, passes-dollar, passes-any}
 use Rattle.walk.proofs.anchor_passes.Statement.{statement}
 use Rattle.walk.proofs.anchor_passes.Tie as tie

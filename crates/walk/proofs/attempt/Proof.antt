@@ -1,3 +1,4 @@
+-- `walk::attempt` meets its contract by the laws of Whole.
 use Rattle.walk.proofs.Whole.{first-fits, first-noted, first-moves, attempt-done}
 use native.Mathlib.Omega.{arith}
 use borrow.Author.Needs.{needs}

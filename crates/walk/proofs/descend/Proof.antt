@@ -1,3 +1,4 @@
+-- `walk::descend` meets its contract by the laws of Whole. The invariant and the measure of its loop come first.
 use borrow.Author.Needs.{needs}
 use Rattle.walk.proofs.Whole.{Descending, on-none, on-end, on-enters, on-more, on-less}
 use Rattle.walk.specs.State.{left}

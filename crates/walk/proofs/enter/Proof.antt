@@ -1,3 +1,4 @@
+-- `walk::enter` meets its contract by the laws of Small.
 use native.Mathlib.Omega.{arith}
 use Rattle.walk.proofs.Small.{fork-noted, letter-noted, anchor-noted, enter-fork, enter-letter, enter-shut, enter-stuck, enter-end, enter-anchor}
 use borrow.Author.Needs.{needs}

@@ -1,3 +1,4 @@
+-- `walk::failed` meets its contract by the laws of rules' Notes.
 use Rattle.rules.proofs.Notes.{bitAt-code}
 use borrow.Author.Needs.{needs}
 use Rattle.walk.proofs.failed.Statement.{statement}

@@ -1,3 +1,4 @@
+-- `walk::letter_passes` meets its contract by the laws of Small.
 use Rattle.walk.proofs.Small.{letter-base, letter-room, letter-is}
 use native.Mathlib.Omega.{arith}
 use borrow.Author.Needs.{needs}

@@ -1,3 +1,4 @@
+-- `walk::mark` meets its contract by the laws of rules' Notes.
 use native.Mathlib.Omega.{arith}
 use Prim.Native.Nat.{_/_}
 use Rattle.rules.proofs.Notes.{mark-fits, mark-code}

@@ -1,3 +1,4 @@
+-- `walk::push` meets its contract by the laws of Small.
 use Rattle.walk.proofs.Small.{pushed-is}
 use borrow.Author.Needs.{needs}
 use Rattle.walk.proofs.push.Statement.{statement}

@@ -1,3 +1,4 @@
+-- `walk::run` meets its contract by the laws of Whole. The invariant and the measure of its loop come first.
 use borrow.Author.Needs.{needs}
 use Rattle.walk.proofs.Whole.{Running, run-none, run-goes, run-end, run-found, run-idle, run-more, run-less}
 use Rattle.walk.specs.State.{left}

@@ -1,3 +1,4 @@
+-- `walk::way_after` meets its contract by the laws of Small.
 use Rattle.walk.proofs.Small.{after-more, after-none}
 use borrow.Author.Needs.{needs}
 use Rattle.walk.proofs.way_after.Statement.{statement}
