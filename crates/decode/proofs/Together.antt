@@ -4,20 +4,21 @@ use mathlib.Core.Path.{_≡_, refl, sym, ap, _∙_}
 use mathlib.Core.List.{List, _∷_}
 use Prim.Native.Nat.{ℕ, _+_, _-_, _≤_, _<_}
 use native.Mathlib.Omega.{arith}
-use lib.IntN.{ℤ}
 use lib.ListN.{length, getD, take, drop}
 use borrow.Author.Tests.{eq-eqb, ne-eqb}
 use Rattle.query.specs.declared.Read.{Read}
 use Rattle.query.specs.declared.Read.the-variants.{Record as Whole, Cut}
-use Rattle.rules.specs.Query.{Record, records, field, firstOfKind, columnsOf, textOf, comparisonsFrom, measuresFrom, parts}
+use Rattle.rules.specs.Query.{Record, records, field, firstOfKind, columnsOf, defined, textOf, comparisonsFrom, measuresFrom, parts}
 use Rattle.query.specs.Read.{recordOf, recordsAt, readAt, firstAnswer}
 use Rattle.query.proofs.Reading.{found, read-more, field-first}
 use Rattle.query.proofs.Order.{columns-at}
 use Rattle.decode.specs.Layout.{Room, Decoded}
+use Rattle.decode.specs.declared.Behind.{Behind}
 use Rattle.decode.specs.declared.Head.{Head}
 use Rattle.decode.specs.declared.Tail.{Tail}
 use Rattle.decode.specs.Steps.{Ahead, HeadOf, TailRoom, TailOf, PutDefines, MeasuresRoom, PutMeasures}
 use Rattle.decode.proofs.Going.{at-start, before-end, not-cut, this-fits, shape-next, text-next, skip-next, shape-says, text-says, skip-says}
+use Rattle.decode.proofs.Defines.{not-define}
 
 -- ---- a record of another kind in front
 
@@ -102,6 +103,11 @@ module _ (s : List ℕ) (clean : firstAnswer s ≡ 0) where
           skip-is = sym (ap (firstOfKind 4) both-records ∙ other-first s k1 b1 m1 both 4 (not-first 4 (omega arith))
               ∙ other-first s k2 b2 m2 (recordsAt s n2) 4 (not-second 4 (omega arith)))
 
+          all-are : defined s (recordsAt s n2) ≡ defined s (records s)
+          unfolding both
+          all-are = sym (ap (defined s) both-records ∙ not-define s (recordOf k1 b1 m1) both (not-first 3 (omega arith))
+              ∙ not-define s (recordOf k2 b2 m2) (recordsAt s n2) (not-second 3 (omega arith)))
+
           letters-are : (letter : ℕ) → comparisonsFrom s (recordsAt s n2) letter ≡ comparisonsFrom s (records s) letter
           unfolding both
           letters-are letter =
@@ -129,6 +135,7 @@ module _ (s : List ℕ) (clean : firstAnswer s ≡ 0) where
                 short = text-says s (columnsOf s) k2 b2 m2 (this-fits s 1 0 n1 (shape .1) r2 k2 b2 m2 n2 e2 q2) (text .0);
                 ahead = text .1;
                 skip = skip-is;
+                all = all-are;
                 letters = letters-are;
                 measures = measures-are;
               }
@@ -173,27 +180,25 @@ module _ (s : List ℕ) (at : ℕ) (measures₀ : List ℕ) (room : TailRoom s a
 
 -- ---- all
 
-module _ (s cells₀ : List ℕ) (offsets₀ numbers₀ : List ℤ) (measures₀ : List ℕ) (room : Room s cells₀ offsets₀ numbers₀ measures₀) (h : Head) (f : HeadOf s h) where
-  module _ (cells : List ℕ) (offsets numbers : List ℤ) (counts : List ℕ) (at : ℕ) (d : PutDefines s (h .next) (h .columns) cells₀ offsets₀ numbers₀ cells offsets numbers counts at) where
-    pub decoded : (measures : List ℕ) (t : Tail) → TailOf s at measures₀ measures t
-        → Decoded s cells₀ offsets₀ numbers₀ measures₀ cells offsets numbers counts measures (record { columns = h .columns; start = h .start; len = h .len; skip = t .skip; measures = t .measures })
-    unfolding parts
-    decoded measures t g = record {
-      sized = d .sized;
-      counted = d .counted;
-      long = g .long;
-      columns = f .columns;
-      some = f .some;
-      most = f .most;
-      text = f .text;
-      inside = f .inside;
-      short = f .short;
-      skip = g .skip ∙ ap (λ (x : Record). field s x 0) (d .skip ∙ f .skip);
-      mode = g .mode;
-      letters = λ l w. rw (← f .letters (65 + l)) (d .letters l w);
-      free = d .free;
-      measured = g .is ∙ d .measures ∙ f .measures;
-      few = g .few;
-      fit = λ k w. rw (f .columns) (g .fit k w);
-      rest = g .rest;
-    }
+module _ (s measures₀ : List ℕ) (room : Room s measures₀) (h : Head) (f : HeadOf s h) (defines : List ℕ) (v : Behind) (d : PutDefines s (h .next) defines v) where
+  pub decoded : (measures : List ℕ) (t : Tail) → TailOf s (v .at) measures₀ measures t
+      → Decoded s measures₀ defines measures (record { columns = h .columns; start = h .start; len = h .len; skip = t .skip; measures = t .measures; twice = v .twice })
+  unfolding parts
+  decoded measures t g = record {
+    counted = d .counted;
+    long = g .long;
+    columns = f .columns;
+    some = f .some;
+    most = f .most;
+    text = f .text;
+    inside = f .inside;
+    short = f .short;
+    skip = g .skip ∙ ap (λ (x : Record). field s x 0) (d .skip ∙ f .skip);
+    mode = g .mode;
+    letters = λ l w. rw (f .columns, ← f .letters (65 + l)) (d .letters l w);
+    measured = g .is ∙ d .measures ∙ f .measures;
+    few = g .few;
+    fit = λ k w. rw (f .columns) (g .fit k w);
+    rest = g .rest;
+    doubled = d .doubled;
+  }

@@ -1,64 +1,50 @@
--- How the lent arrays hold a query's comparisons and measures, and what they hold once a query is decoded.
--- A letter l (0 for A) has room for 8 comparisons: number g = 8 * l + k is its comparison k. Number g has four numbers of `cells` from 4 * g on (left
--- spot, right spot, operator, right kind), two signed bytes of `offsets` from 2 * g on (left, right), and numbers[g]. A spot says where an entry lies that
--- the comparison reads, counted in entries from 64 rows before the row on: (64 + offset) * columns + column. So the search needs no product to find it.
--- `counts` has how many comparisons each letter has. A measure is three bytes: function, letter, column.
+-- What the lent arrays hold once a query is decoded, and which parts of the query that is.
+-- Comparisons are not copied: they stay in the query's bytes, 12 for each. For a letter l (0 for A) defines[l] is the index at which the body of its
+-- DEFINE starts in the query, or 0 where it has none; no body starts at 0, since a record's header of 4 bytes stands before it. A body is the
+-- letter's byte, the count of its comparisons, and the comparisons. A measure is three bytes: function, letter, column.
+-- Promised (`Decoded`): each letter's DEFINE has the letter's comparisons, and all the bytes that a search reads of it are there and fit; the first
+-- measures and the numbers are the query's; the rest of `measures` is as it was; and it is told whether a letter has two DEFINEs, of which the first counts.
 use mathlib.Core.Path.{_≡_}
 use mathlib.Core.Bool.{true}
-use mathlib.Core.List.{List}
-use Prim.Native.Nat.{ℕ, _+_, _*_, _-_, _/_, _%_, _≤_, _<_}
-use lib.IntN.{ℤ, pos, _+ℤ_}
+use mathlib.Core.List.{List, []}
+use Prim.Native.Nat.{ℕ, _+_, _*_, _≤_, _<_}
+use lib.Dec.{eqb}
 use lib.ListN.{length, getD, take, drop}
-use Rattle.rules.specs.Basics.{tabulate}
+use Rattle.rules.specs.Basics.{pick, tabulate}
 use Rattle.rules.specs.Rows.{Comparison}
-use Rattle.rules.specs.Query.{Measure, functionFits, parts}
+use Rattle.rules.specs.Query.{Measure, comparisonAt, comparisonFits, functionFits, doubled, parts}
 use Rattle.query.specs.Read.{firstAnswer}
 use Rattle.decode.specs.declared.Parts.{Parts}
 
--- the arrays have room for 26 letters of 8 comparisons
-pub record Sized (cells : List ℕ) (offsets numbers : List ℤ) : Type 0 where
-  pub fours : length cells ≡ 832
-  pub twos : length offsets ≡ 416
-  pub ones : length numbers ≡ 208
+-- ---- DEFINEs
 
--- the comparison with this number, read back
-unfoldable pub cellAt : ℕ → List ℕ → List ℤ → List ℤ → ℕ → Comparison
-cellAt columns cells offsets numbers g =
-    record {
-      left = getD cells (g * 4) 0 % columns;
-      leftOffset = getD offsets (g * 2) (pos 0);
-      operator = getD cells (g * 4 + 2) 0;
-      rightKind = getD cells (g * 4 + 3) 0;
-      right = getD cells (g * 4 + 1) 0 % columns;
-      rightOffset = getD offsets (g * 2 + 1) (pos 0);
-      number = getD numbers g (pos 0);
-    }
+-- `count` comparisons in the bytes from index p on, 12 for each
+unfoldable pub comparisonsAt : List ℕ → ℕ → ℕ → List Comparison
+unfolding tabulate comparisonAt
+comparisonsAt s p count = tabulate count (λ k. comparisonAt s (p + k * 12))
 
--- `count` comparisons from number g on
-unfoldable pub cellsFrom : ℕ → List ℕ → List ℤ → List ℤ → ℕ → ℕ → List Comparison
-unfolding tabulate cellAt
-cellsFrom columns cells offsets numbers g count = tabulate count (λ k. cellAt columns cells offsets numbers (g + k))
+-- the comparisons of the DEFINE whose body starts at index d; none where d is 0
+unfoldable pub definedAt : List ℕ → ℕ → List Comparison
+unfolding comparisonsAt
+definedAt s d = pick (eqb d 0) [] (comparisonsAt s (d + 2) (getD s (d + 1) 0))
 
--- a spot is for this offset
-abbrev pub SpotFor : ℕ → ℕ → ℤ → Type 0
-SpotFor columns spot offset = pos (spot / columns) ≡ pos 64 +ℤ offset
+-- `count` comparisons stand from index p on, and their fields fit
+pub record Stand (s : List ℕ) (columns p count : ℕ) : Type 0 where
+  pub there : p + count * 12 ≤ length s
+  pub fits : (k : ℕ) → k < count → comparisonFits s columns (p + k * 12) ≡ true
 
--- both spots of comparison number g are for its offsets
-pub record Spots (columns : ℕ) (cells : List ℕ) (offsets : List ℤ) (g : ℕ) : Type 0 where
-  pub left : SpotFor columns (getD cells (g * 4) 0) (getD offsets (g * 2) (pos 0))
-  pub right : SpotFor columns (getD cells (g * 4 + 1) 0) (getD offsets (g * 2 + 1) (pos 0))
+-- the body of a DEFINE starts at index d: its letter, its count of 1 to 8, and so many comparisons
+pub record Body (s : List ℕ) (columns d : ℕ) : Type 0 where
+  pub one : 1 ≤ getD s (d + 1) 0
+  pub few : getD s (d + 1) 0 ≤ 8
+  pub stand : Stand s columns (d + 2) (getD s (d + 1) 0)
 
--- `count` comparisons stand in the room of letter l, and they are these
-pub record Letter (columns : ℕ) (cells : List ℕ) (offsets numbers : List ℤ) (l count : ℕ) (cs : List Comparison) : Type 0 where
-  pub is : cellsFrom columns cells offsets numbers (l * 8) count ≡ cs
-  pub few : count ≤ 8
-  pub spots : (k : ℕ) → k < count → Spots columns cells offsets (l * 8 + k)
+-- the DEFINE at d is that of a letter with these comparisons
+pub record Letter (s : List ℕ) (columns d : ℕ) (cs : List Comparison) : Type 0 where
+  pub is : definedAt s d ≡ cs
+  pub body : (d ≡ 0 → ⊥) → Body s columns d
 
--- the arrays hold at number g what they held before
-pub record Untouched (cells₀ : List ℕ) (offsets₀ numbers₀ : List ℤ) (cells : List ℕ) (offsets numbers : List ℤ) (g : ℕ) : Type 0 where
-  pub in-cells : (i : ℕ) → i < 4 → getD cells (g * 4 + i) 0 ≡ getD cells₀ (g * 4 + i) 0
-  pub in-offsets : (i : ℕ) → i < 2 → getD offsets (g * 2 + i) (pos 0) ≡ getD offsets₀ (g * 2 + i) (pos 0)
-  pub in-numbers : getD numbers g (pos 0) ≡ getD numbers₀ g (pos 0)
+-- ---- measures
 
 -- measure number k
 unfoldable pub measureIn : List ℕ → ℕ → Measure
@@ -73,17 +59,16 @@ measuresIn measures count = tabulate count (measureIn measures)
 abbrev pub Fits : ℕ → Measure → Type 0
 Fits columns m = functionFits columns (m .function) (m .letter) (m .column) ≡ true
 
--- a query with no answer 1 to 3, and room for its parts
-pub record Room (s cells : List ℕ) (offsets numbers : List ℤ) (measures : List ℕ) : Type 0 where
+-- ---- all
+
+-- a query with no answer 1 to 3, and room for its measures
+pub record Room (s measures : List ℕ) : Type 0 where
   pub clean : firstAnswer s ≡ 0
-  pub sized : Sized cells offsets numbers
   pub long : length measures ≡ 24
 
--- What decoding leaves: the numbers of `p` and the arrays are the query's parts, and what they do not need is as it was.
-pub record Decoded (s : List ℕ) (cells₀ : List ℕ) (offsets₀ numbers₀ : List ℤ) (measures₀ : List ℕ)
-    (cells : List ℕ) (offsets numbers : List ℤ) (counts measures : List ℕ) (p : Parts) : Type 0 where
-  pub sized : Sized cells offsets numbers
-  pub counted : length counts ≡ 26
+-- What decoding leaves: the numbers of `p` and the arrays are the query's parts, and what the measures do not need is as it was.
+pub record Decoded (s measures₀ defines measures : List ℕ) (p : Parts) : Type 0 where
+  pub counted : length defines ≡ 26
   pub long : length measures ≡ 24
   pub columns : p .columns ≡ parts s .columns
   pub some : 1 ≤ p .columns
@@ -93,9 +78,9 @@ pub record Decoded (s : List ℕ) (cells₀ : List ℕ) (offsets₀ numbers₀ :
   pub short : p .len ≤ 256
   pub skip : p .skip ≡ parts s .skip
   pub mode : p .skip ≤ 1
-  pub letters : (l : ℕ) → l < 26 → Letter (p .columns) cells offsets numbers l (getD counts l 0) (parts s .comparisons (65 + l))
-  pub free : (l k : ℕ) → l < 26 → getD counts l 0 ≤ k → k < 8 → Untouched cells₀ offsets₀ numbers₀ cells offsets numbers (l * 8 + k)
+  pub letters : (l : ℕ) → l < 26 → Letter s (p .columns) (getD defines l 0) (parts s .comparisons (65 + l))
   pub measured : measuresIn measures (p .measures) ≡ parts s .measures
   pub few : p .measures ≤ 8
   pub fit : (k : ℕ) → k < p .measures → Fits (p .columns) (measureIn measures k)
   pub rest : (j : ℕ) → p .measures * 3 ≤ j → getD measures j 0 ≡ getD measures₀ j 0
+  pub doubled : p .twice ≡ doubled s

@@ -1,16 +1,15 @@
--- What the steps of decoding need and leave: a comparison, the comparisons of a DEFINE, a DEFINE, all DEFINEs, all measures.
+-- What the steps of decoding need and leave: a DEFINE, all DEFINEs, all measures, and the records before and behind the DEFINEs.
 use mathlib.Core.Path.{_≡_}
-use mathlib.Core.Bool.{true}
+use mathlib.Core.Bool.{Bool, true, false}
 use mathlib.Core.List.{List}
 use Prim.Native.Nat.{ℕ, _+_, _*_, _-_, _≤_, _<_}
-use lib.Dec.{ltb}
-use lib.IntN.{ℤ, pos}
 use lib.ListN.{length, getD, set, take, drop}
-use Rattle.rules.specs.Basics.{pick, every, le32, signed8, signed32}
-use Rattle.rules.specs.Query.{Measure, records, kinds, field, firstOfKind, offsetFits, comparisonFits, recordFits, columnsOf, textOf, comparisonAt, comparisonsFrom, measuresFrom}
+use Rattle.rules.specs.Basics.{every}
+use Rattle.rules.specs.Query.{Measure, records, kinds, field, firstOfKind, recordFits, columnsOf, defined, doubled, textOf, comparisonsFrom, measuresFrom}
 use Rattle.query.specs.Read.{recordsAt, restOf}
-use Rattle.decode.specs.Layout.{Sized, cellAt, Spots, Letter, Untouched, measureIn, measuresIn, Fits}
+use Rattle.decode.specs.Layout.{Letter, measureIn, measuresIn, Fits}
 use Rattle.decode.specs.declared.Measure.{Measure as Three}
+use Rattle.decode.specs.declared.Behind.{Behind}
 use Rattle.decode.specs.declared.Head.{Head}
 use Rattle.decode.specs.declared.Tail.{Tail}
 
@@ -20,100 +19,38 @@ pub record Ahead (s : List ℕ) (stage left at : ℕ) : Type 0 where
   pub order : restOf stage left (kinds (recordsAt s at)) ≡ true
   pub fits : every (recordFits s (columnsOf s)) (recordsAt s at) ≡ true
 
--- the spot of an entry, by the offset's byte: row 64 moved by the signed byte, and there the column
-unfoldable pub spotOf : ℕ → ℕ → ℕ → ℕ
-spotOf columns offset column = pick (ltb offset 128) (64 + offset) (offset - 192) * columns + column
-
-pub record SpotFits (columns offset column : ℕ) : Type 0 where
-  pub most : columns ≤ 8
-  pub inside : column < columns
-  pub near : offsetFits offset ≡ true
-  pub byte : offset < 256
-
--- four numbers, and two, from an index on
-unfoldable pub setFour : List ℕ → ℕ → ℕ → ℕ → ℕ → ℕ → List ℕ
-setFour l at a b c d = set (set (set (set l at a) (at + 1) b) (at + 2) c) (at + 3) d
-
-unfoldable pub setTwo : List ℤ → ℕ → ℤ → ℤ → List ℤ
-setTwo l at a b = set (set l at a) (at + 1) b
-
-unfoldable pub setThree : List ℕ → ℕ → ℕ → ℕ → ℕ → List ℕ
-setThree l at a b c = set (set (set l at a) (at + 1) b) (at + 2) c
-
--- the comparison in the 12 bytes from index p on, as number g
-pub record CellRoom (s : List ℕ) (p columns g : ℕ) : Type 0 where
-  pub there : p + 12 ≤ length s
-  pub room : g < 208
-  pub most : columns ≤ 8
-  pub fits : comparisonFits s columns p ≡ true
-
-pub record PutCell (s : List ℕ) (p columns g : ℕ) (cells₀ : List ℕ) (offsets₀ numbers₀ : List ℤ) (cells : List ℕ) (offsets numbers : List ℤ) : Type 0 where
-  pub in-cells : cells ≡ setFour cells₀ (g * 4) (spotOf columns (getD s (p + 1) 0) (getD s p 0)) (spotOf columns (getD s (p + 5) 0) (getD s (p + 4) 0))
-      (getD s (p + 2) 0) (getD s (p + 3) 0)
-  pub in-offsets : offsets ≡ setTwo offsets₀ (g * 2) (signed8 (getD s (p + 1) 0)) (signed8 (getD s (p + 5) 0))
-  pub in-numbers : numbers ≡ set numbers₀ g (signed32 (le32 s (p + 8)))
-  pub left-byte : getD s (p + 1) 0 < 256
-  pub right-byte : getD s (p + 5) 0 < 256
-
--- `count` comparisons from index p on, as numbers g, g + 1, ..
-pub record CellsRoom (s : List ℕ) (p count columns g : ℕ) (cells : List ℕ) (offsets numbers : List ℤ) : Type 0 where
-  pub sized : Sized cells offsets numbers
-  pub there : p + count * 12 ≤ length s
-  pub room : g + count ≤ 208
-  pub most : columns ≤ 8
-  pub fits : (k : ℕ) → k < count → comparisonFits s columns (p + k * 12) ≡ true
-
--- the list has as many elements as before, and those before an index and from another on are as they were
-pub record Kept {A : Type 0} (d : A) (l₀ l : List A) (from to : ℕ) : Type 0 where
-  pub long : length l ≡ length l₀
-  pub before : (j : ℕ) → j < from → getD l j d ≡ getD l₀ j d
-  pub behind : (j : ℕ) → to ≤ j → getD l j d ≡ getD l₀ j d
-
-pub record PutCells (s : List ℕ) (p count columns g : ℕ) (cells₀ : List ℕ) (offsets₀ numbers₀ : List ℤ) (cells : List ℕ) (offsets numbers : List ℤ) : Type 0 where
-  pub each : (k : ℕ) → k < count → cellAt columns cells offsets numbers (g + k) ≡ comparisonAt s (p + k * 12)
-  pub spots : (k : ℕ) → k < count → Spots columns cells offsets (g + k)
-  pub in-cells : Kept 0 cells₀ cells (g * 4) ((g + count) * 4)
-  pub in-offsets : Kept (pos 0) offsets₀ offsets (g * 2) ((g + count) * 2)
-  pub in-numbers : Kept (pos 0) numbers₀ numbers g (g + count)
-
--- a DEFINE whose body starts at this index: the comparisons go to the room of its letter, if that is free
-pub record DefineRoom (s : List ℕ) (start columns : ℕ) (cells : List ℕ) (offsets numbers : List ℤ) : Type 0 where
-  pub sized : Sized cells offsets numbers
+-- a DEFINE whose body starts at this index: its letter is one of A to Z
+pub record DefineRoom (s : List ℕ) (start : ℕ) : Type 0 where
+  pub there : start < length s
   pub low : 65 ≤ getD s start 0
   pub high : getD s start 0 ≤ 90
-  pub one : 1 ≤ getD s (start + 1) 0
-  pub few : getD s (start + 1) 0 ≤ 8
-  pub there : start + 2 + getD s (start + 1) 0 * 12 ≤ length s
-  pub most : columns ≤ 8
-  pub fits : (k : ℕ) → k < getD s (start + 1) 0 → comparisonFits s columns (start + 2 + k * 12) ≡ true
 
-pub record PutDefine (s : List ℕ) (start columns : ℕ) (cells₀ : List ℕ) (offsets₀ numbers₀ : List ℤ) (counts₀ : List ℕ)
-    (cells : List ℕ) (offsets numbers : List ℤ) (counts : List ℕ) : Type 0 where
-  pub taken : (getD counts₀ (getD s start 0 - 65) 0 ≡ 0 → ⊥) → (cells ≡ cells₀) × (offsets ≡ offsets₀) × (numbers ≡ numbers₀) × (counts ≡ counts₀)
-  pub put : getD counts₀ (getD s start 0 - 65) 0 ≡ 0
-      → PutCells s (start + 2) (getD s (start + 1) 0) columns ((getD s start 0 - 65) * 8) cells₀ offsets₀ numbers₀ cells offsets numbers
-      × (counts ≡ set counts₀ (getD s start 0 - 65) (getD s (start + 1) 0))
+-- its index goes to the entry of its letter, if that is free; `before` says that it was not
+pub record PutDefine (s : List ℕ) (start : ℕ) (defines₀ defines : List ℕ) (before : Bool) : Type 0 where
+  pub taken : (getD defines₀ (getD s start 0 - 65) 0 ≡ 0 → ⊥) → (defines ≡ defines₀) × (before ≡ true)
+  pub put : getD defines₀ (getD s start 0 - 65) 0 ≡ 0 → (defines ≡ set defines₀ (getD s start 0 - 65) start) × (before ≡ false)
 
--- all DEFINEs, from an index on; r is the index of the skip
-pub record DefinesRoom (s : List ℕ) (from columns : ℕ) (cells : List ℕ) (offsets numbers : List ℤ) : Type 0 where
-  pub sized : Sized cells offsets numbers
+-- all DEFINEs, from an index on: they are those of the query
+pub record DefinesRoom (s : List ℕ) (from : ℕ) : Type 0 where
   pub ahead : Ahead s 2 26 from
-  pub shape : columns ≡ columnsOf s
-  pub most : columns ≤ 8
+  pub all : defined s (recordsAt s from) ≡ defined s (records s)
 
-pub record PutDefines (s : List ℕ) (from columns : ℕ) (cells₀ : List ℕ) (offsets₀ numbers₀ : List ℤ)
-    (cells : List ℕ) (offsets numbers : List ℤ) (counts : List ℕ) (r : ℕ) : Type 0 where
-  pub sized : Sized cells offsets numbers
-  pub counted : length counts ≡ 26
-  pub ahead : Ahead s 2 0 r
-  pub skip : firstOfKind 4 (recordsAt s r) ≡ firstOfKind 4 (recordsAt s from)
-  pub measures : measuresFrom s (recordsAt s r) ≡ measuresFrom s (recordsAt s from)
-  pub letters : (l : ℕ) → l < 26 → Letter columns cells offsets numbers l (getD counts l 0) (comparisonsFrom s (recordsAt s from) (65 + l))
-  pub free : (l k : ℕ) → l < 26 → getD counts l 0 ≤ k → k < 8 → Untouched cells₀ offsets₀ numbers₀ cells offsets numbers (l * 8 + k)
+-- behind them stands the skip
+pub record PutDefines (s : List ℕ) (from : ℕ) (defines : List ℕ) (r : Behind) : Type 0 where
+  pub counted : length defines ≡ 26
+  pub ahead : Ahead s 2 0 (r .at)
+  pub skip : firstOfKind 4 (recordsAt s (r .at)) ≡ firstOfKind 4 (recordsAt s from)
+  pub measures : measuresFrom s (recordsAt s (r .at)) ≡ measuresFrom s (recordsAt s from)
+  pub letters : (l : ℕ) → l < 26 → Letter s (columnsOf s) (getD defines l 0) (comparisonsFrom s (recordsAt s from) (65 + l))
+  pub doubled : r .twice ≡ doubled s
 
 -- the measure of three bytes
 abbrev pub measureOf : Three → Measure
 measureOf m = record { function = m .function; letter = m .letter; column = m .column }
+
+-- three numbers from an index on
+unfoldable pub setThree : List ℕ → ℕ → ℕ → ℕ → ℕ → List ℕ
+setThree l at a b c = set (set (set l at a) (at + 1) b) (at + 2) c
 
 -- all measures, from an index on; r is how many there are
 pub record MeasuresRoom (s : List ℕ) (from : ℕ) (measures : List ℕ) : Type 0 where
@@ -137,6 +74,7 @@ pub record HeadOf (s : List ℕ) (h : Head) : Type 0 where
   pub short : h .len ≤ 256
   pub ahead : Ahead s 2 26 (h .next)
   pub skip : firstOfKind 4 (recordsAt s (h .next)) ≡ firstOfKind 4 (records s)
+  pub all : defined s (recordsAt s (h .next)) ≡ defined s (records s)
   pub letters : (letter : ℕ) → comparisonsFrom s (recordsAt s (h .next)) letter ≡ comparisonsFrom s (records s) letter
   pub measures : measuresFrom s (recordsAt s (h .next)) ≡ measuresFrom s (records s)
 

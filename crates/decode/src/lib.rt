@@ -1,15 +1,16 @@
-// A query's parts decoded once, in one pass over its records, into lent arrays of numbers that a search reads for every letter it tries.
-// specs/Layout says how the arrays hold comparisons and measures, and what they hold afterwards (`Decoded`). A query comes here with no answer 1 to 3.
+// A query's parts decoded once, in one pass over its records: for each letter where its DEFINE stands in the query, the measures, a few numbers,
+// and whether a letter has two DEFINEs (answer 8).
+// Comparisons stay where they are, in the query's bytes, so a search reads the lent array of indices and then the query itself. specs/Layout says what
+// the arrays hold afterwards (`Decoded`). A query comes here with no answer 1 to 3.
 use query::Read;
 ghost use mathlib.Core.Path.{_≡_};
-ghost use Prim.Native.Nat.{_+_, _*_, _-_, _≤_, _<_};
+ghost use mathlib.Core.Bool.{_||_};
+ghost use Prim.Native.Nat.{_+_, _*_, _≤_, _<_};
 ghost use lib.ListN.{length, getD};
-ghost use Rattle.rules.specs.Basics.{le32, signed8, signed32};
 ghost use Rattle.rules.specs.Query.{measureAt};
 ghost use Rattle.query.specs.Read.{firstAnswer};
 ghost use Rattle.decode.specs.Layout.{measureIn, Room, Decoded};
-ghost use Rattle.decode.specs.Steps.{HeadOf, TailRoom, TailOf, MeasuresRoom, spotOf, SpotFits, setThree, CellRoom, PutCell, CellsRoom, PutCells};
-ghost use Rattle.decode.specs.Steps.{DefineRoom, PutDefine, DefinesRoom, PutDefines, measureOf, PutMeasures};
+ghost use Rattle.decode.specs.Steps.{HeadOf, TailRoom, TailOf, DefineRoom, PutDefine, DefinesRoom, PutDefines, setThree, measureOf, MeasuresRoom, PutMeasures};
 
 // A measure of the query: the number of its function, the letter of its rows or 0 for all rows, and its column.
 pub struct Measure {
@@ -43,13 +44,15 @@ impl Measure {
     }
 }
 
-// What a query says besides its letters and measures: the columns, where the pattern's text lies, the skip mode, and how many measures there are.
+// What a query says besides its letters and measures: the columns, where the pattern's text lies, the skip mode, how many measures there are, and whether
+// two DEFINEs are for one letter (answer 8).
 pub struct Parts {
     pub columns: usize,
     pub start: usize,
     pub len: usize,
     pub skip: usize,
     pub measures: usize,
+    pub twice: bool,
 }
 
 fn wide(x: u8) -> usize
@@ -65,153 +68,39 @@ fn byte(s: &[u8], at: usize) -> usize
     wide(s[at])
 }
 
-fn long(x: u8) -> u32
-    ensures { λ r. ⌜ (r ≡ x) × (r < 256) ⌝ }
-{
-    x as u32
-}
-
-// The word in four bytes, the lowest first.
-fn word_at(s: &[u8], at: usize) -> u32
-    requires { ⌜ at + 3 < length (now s) ⌝ }
-    ensures { λ r. ⌜ r ≡ le32 (now (s .entry)) at ⌝ }
-{
-    long(s[at]) + long(s[at + 1]) * 256 + long(s[at + 2]) * 65536 + long(s[at + 3]) * 16777216
-}
-
-// A byte, and a word, as a signed number in two's complement.
-fn signed_byte(b: u8) -> i8
-    ensures { λ r. ⌜ r ≡ signed8 b ⌝ }
-{
-    if b < 128 {
-        return b as i8;
-    }
-    -1 - ((255 - b) as i8)
-}
-
-fn signed_word(w: u32) -> i32
-    ensures { λ r. ⌜ r ≡ signed32 w ⌝ }
-{
-    if w < 2147483648 {
-        return w as i32;
-    }
-    -1 - ((4294967295 - w) as i32)
-}
-
-// The spot of an entry: row 64 moved by the offset's signed byte, and there the column.
-fn spot(columns: usize, offset: usize, column: usize) -> u16
-    requires { ⌜ SpotFits columns offset column ⌝ }
-    ensures { λ r. ⌜ r ≡ spotOf columns offset column ⌝ }
-{
-    if offset < 128 {
-        return ((64 + offset) * columns + column) as u16;
-    }
-    ((offset - 192) * columns + column) as u16
-}
-
-fn short(x: u8) -> u16
-    ensures { λ r. ⌜ r ≡ x ⌝ }
-{
-    x as u16
-}
-
-// The comparison in the 12 bytes from index p on, as number g.
-fn put_cell(
-    s: &[u8],
-    p: usize,
-    columns: usize,
-    cells: &mut [u16; 832],
-    offsets: &mut [i8; 416],
-    numbers: &mut [i32; 208],
-    g: usize,
-)
-    requires { ⌜ CellRoom (now s) p columns g ⌝ }
-    ensures { λ r. ⌜ PutCell (now (s .entry)) p columns g
-        (now (cells .entry)) (now (offsets .entry)) (now (numbers .entry))
-        (now (cells .exit)) (now (offsets .exit)) (now (numbers .exit)) ⌝ }
-{
-    let at = g * 4;
-    cells[at] = spot(columns, byte(s, p + 1), byte(s, p));
-    cells[at + 1] = spot(columns, byte(s, p + 5), byte(s, p + 4));
-    cells[at + 2] = short(s[p + 2]);
-    cells[at + 3] = short(s[p + 3]);
-    offsets[g * 2] = signed_byte(s[p + 1]);
-    offsets[g * 2 + 1] = signed_byte(s[p + 5]);
-    numbers[g] = signed_word(word_at(s, p + 8));
-}
-
-// The comparisons from index p on, as numbers g, g + 1, ..
-fn put_cells(
-    s: &[u8],
-    p: usize,
-    count: usize,
-    columns: usize,
-    cells: &mut [u16; 832],
-    offsets: &mut [i8; 416],
-    numbers: &mut [i32; 208],
-    g: usize,
-)
-    requires { ⌜ CellsRoom (now s) p count columns g (now cells) (now offsets) (now numbers) ⌝ }
-    ensures { λ r. ⌜ PutCells (now (s .entry)) p count columns g
-        (now (cells .entry)) (now (offsets .entry)) (now (numbers .entry))
-        (now (cells .exit)) (now (offsets .exit)) (now (numbers .exit)) ⌝ }
-{
-    let mut k = 0;
-    while k < count {
-        put_cell(s, p + k * 12, columns, cells, offsets, numbers, g + k);
-        k += 1;
-    }
-}
-
-// The DEFINE whose body starts at this index. The first DEFINE of a letter counts.
-fn put_define(
-    s: &[u8],
-    start: usize,
-    columns: usize,
-    cells: &mut [u16; 832],
-    offsets: &mut [i8; 416],
-    numbers: &mut [i32; 208],
-    counts: &mut [u8; 26],
-)
-    requires { ⌜ DefineRoom (now s) start columns (now cells) (now offsets) (now numbers) ⌝ }
-    ensures { λ r. ⌜ PutDefine (now (s .entry)) start columns
-        (now (cells .entry)) (now (offsets .entry)) (now (numbers .entry)) (now (counts .entry))
-        (now (cells .exit)) (now (offsets .exit)) (now (numbers .exit)) (now (counts .exit)) ⌝ }
+// The DEFINE whose body starts at this index; answers whether its letter had one before. The first DEFINE of a letter counts.
+fn put_define(s: &[u8], start: usize, defines: &mut [usize; 26]) -> bool
+    requires { ⌜ DefineRoom (now s) start ⌝ }
+    ensures { λ r. ⌜ PutDefine (now (s .entry)) start (now (defines .entry)) (now (defines .exit)) r ⌝ }
 {
     let l = byte(s, start) - 65;
-    if counts[l] != 0 {
-        return;
+    if defines[l] != 0 {
+        return true;
     }
-    put_cells(
-        s,
-        start + 2,
-        byte(s, start + 1),
-        columns,
-        cells,
-        offsets,
-        numbers,
-        l * 8,
-    );
-    counts[l] = s[start + 1];
+    defines[l] = start;
+    false
 }
 
-// The DEFINEs from an index on; answers the index of the skip behind them.
-fn put_defines(
-    s: &[u8],
-    from: usize,
-    columns: usize,
-    cells: &mut [u16; 832],
-    offsets: &mut [i8; 416],
-    numbers: &mut [i32; 208],
-    counts: &mut [u8; 26],
-) -> usize
-    requires { ⌜ DefinesRoom (now s) from columns (now cells) (now offsets) (now numbers) ⌝ }
-    ensures { λ r. ⌜ PutDefines (now (s .entry)) from columns
-        (now (cells .entry)) (now (offsets .entry)) (now (numbers .entry))
-        (now (cells .exit)) (now (offsets .exit)) (now (numbers .exit)) (now (counts .exit)) r ⌝ }
+fn either(a: bool, b: bool) -> bool
+    ensures { λ r. ⌜ r ≡ (a || b) ⌝ }
 {
-    *counts = [0u8; 26];
+    a | b
+}
+
+// What the pass over the DEFINEs finds: the index of the skip behind them, and whether two of them are for one letter.
+struct Behind {
+    at: usize,
+    twice: bool,
+}
+
+// The DEFINEs from an index on.
+fn put_defines(s: &[u8], from: usize, defines: &mut [usize; 26]) -> Behind
+    requires { ⌜ DefinesRoom (now s) from ⌝ }
+    ensures { λ r. ⌜ PutDefines (now (s .entry)) from (now (defines .exit)) r ⌝ }
+{
+    *defines = [0usize; 26];
     let mut at = from;
+    let mut twice = false;
     while at < s.len() {
         let Read::Record {
             kind,
@@ -220,15 +109,16 @@ fn put_defines(
             next,
         } = query::record_at(s, at)
         else {
-            return at;
+            return Behind { at, twice };
         };
         if kind != 3 {
-            return at;
+            return Behind { at, twice };
         }
-        put_define(s, start, columns, cells, offsets, numbers, counts);
+        let before = put_define(s, start, defines);
+        twice = either(twice, before);
         at = next;
     }
-    at
+    Behind { at, twice }
 }
 
 // Measure number k of the array.
@@ -364,29 +254,21 @@ fn read_tail(s: &[u8], at: usize, measures: &mut [u8; 24]) -> Tail
 }
 
 // All parts of a query. The records stand in order: the shape and the text, the DEFINEs, the skip and the measures.
-pub fn decode(
-    s: &[u8],
-    cells: &mut [u16; 832],
-    offsets: &mut [i8; 416],
-    numbers: &mut [i32; 208],
-    counts: &mut [u8; 26],
-    measures: &mut [u8; 24],
-) -> Parts
-    requires { ⌜ Room (now s) (now cells) (now offsets) (now numbers) (now measures) ⌝ }
-    ensures { λ r. ⌜ Decoded (now (s .entry))
-        (now (cells .entry)) (now (offsets .entry)) (now (numbers .entry)) (now (measures .entry))
-        (now (cells .exit)) (now (offsets .exit)) (now (numbers .exit)) (now (counts .exit)) (now (measures .exit)) r ⌝ }
+pub fn decode(s: &[u8], defines: &mut [usize; 26], measures: &mut [u8; 24]) -> Parts
+    requires { ⌜ Room (now s) (now measures) ⌝ }
+    ensures { λ r. ⌜ Decoded (now (s .entry)) (now (measures .entry)) (now (defines .exit)) (now (measures .exit)) r ⌝ }
 {
     let h = read_head(s);
-    let columns = h.columns;
     let next = h.next;
-    let behind = put_defines(s, next, columns, cells, offsets, numbers, counts);
-    let t = read_tail(s, behind, measures);
+    let behind = put_defines(s, next, defines);
+    let at = behind.at;
+    let t = read_tail(s, at, measures);
     Parts {
-        columns,
+        columns: h.columns,
         start: h.start,
         len: h.len,
         skip: t.skip,
         measures: t.measures,
+        twice: behind.twice,
     }
 }

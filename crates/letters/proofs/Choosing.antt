@@ -1,6 +1,6 @@
 -- The words of a comparison, by the ways through the functions that compute them.
 use mathlib.Core.Path.{_≡_, ap, _∙_}
-use Prim.Native.Nat.{ℕ, _+_, _-_, max}
+use Prim.Native.Nat.{ℕ, _+_, _*_, _-_, max}
 use native.Mathlib.Omega.{arith}
 use lib.IntN.{ℤ}
 use mir.Syntax.{w8}
@@ -9,13 +9,13 @@ use mir.Facts.{toZ-ofZ}
 use borrow.Author.Tests.{eq-eqb, ne-eqb}
 use Rattle.letters.specs.Tests.{sortOf, lowOf, widthOf, backOf, aheadOf, backBoth, aheadBoth}
 
-pub sort-column : (kind : ℕ) → kind ≡ 1 → 1 ≡ sortOf kind
+pub sort-column : (kind count : ℕ) → kind ≡ 1 → count * 2 - 1 ≡ sortOf kind count
 unfolding sortOf
-sort-column kind h = simp (eq-eqb kind 1 h)
+sort-column kind count h = simp (eq-eqb kind 1 h)
 
-pub sort-number : (kind : ℕ) → (kind ≡ 1 → ⊥) → 2 ≡ sortOf kind
+pub sort-number : (kind count : ℕ) → (kind ≡ 1 → ⊥) → count * 2 ≡ sortOf kind count
 unfolding sortOf
-sort-number kind h = simp (ne-eqb kind 1 h)
+sort-number kind count h = simp (ne-eqb kind 1 h)
 
 -- ---- the interval
 

@@ -18,8 +18,7 @@ use Rattle.rules.specs.Basics.{pick}
 use Rattle.rules.specs.Rows.{tableOf, entry, entryAt}
 use Rattle.rules.proofs.Choice.{clash}
 use Rattle.rules.proofs.Signed.{sum-fits, read-back}
-use Rattle.decode.specs.Layout.{SpotFor}
-use Rattle.letters.specs.Letters.{there, At, EntryThere, FarBack, spotIndex}
+use Rattle.letters.specs.Letters.{there, At, SpotFor, FarBack, spotIndex}
 
 -- ---- a signed byte moves a row index
 
@@ -137,21 +136,9 @@ module _ (rows : List ℤ) (columns n row base : ℕ) (h : At rows columns n row
           ∙ ap (λ (t : Bool). pick t (some (getD rows (k * columns + column) (pos 0))) none) a
           ∙ ap (λ (i : ℕ). some (getD rows i (pos 0))) (sym index-is-that)
 
-    -- the row is there
-    pub spot-inside : there n (pos row +ℤ offset) ≡ true → spot < 65536 → EntryThere rows columns base spot
-    spot-inside t w =
-        let r = row-of n (pos row +ℤ offset) t in
-        let a = index (r .0) (r .1) (r .2) in
-        let b = inside (r .0) (r .1) (r .2) in
-        record { few = h .few; small = base-small; short = w; behind = omega arith; inside = let i = index-is-that (r .0) (r .1) (r .2) in omega arith }
-
-    pub spot-entry : there n (pos row +ℤ offset) ≡ true → entryAt (tableOf columns rows) (pos row +ℤ offset) (spot % columns) ≡ some (getD rows (base + spot - columns * 64) (pos 0))
-    unfolding column
-    spot-entry t = let r = row-of n (pos row +ℤ offset) t in found-entry (r .0) (r .1) (r .2)
-
-    -- the entry's index, counted from 64 rows before the row's first entry
+    -- the row is there: its entry's index is counted from 64 rows before the row's first entry
     module _ (from : ℕ) (f : FarBack columns base from) (t : there n (pos row +ℤ offset) ≡ true) where
-      pub spot-index : spotIndex from spot ≡ base + spot - columns * 64
+      spot-index : spotIndex from spot ≡ base + spot - columns * 64
       unfolding spotIndex
       spot-index =
           let r = row-of n (pos row +ℤ offset) t in
@@ -170,14 +157,20 @@ module _ (rows : List ℤ) (columns n row base : ℕ) (h : At rows columns n row
           let b = inside (r .0) (r .1) (r .2) in
           rw spot-index (let i = index-is-that (r .0) (r .1) (r .2) in omega arith)
 
-    -- the row is not there
-    nothing : (z : ℤ) → there n z ≡ false → entryAt (tableOf columns rows) z (spot % columns) ≡ none
-    unfolding there entryAt tableOf entry
-    nothing (pos k) t = ap (λ (u : Bool). pick u (some (getD rows (k * columns + spot % columns) (pos 0))) none) (ap (ltb k) rows-are ∙ t)
-    nothing (negsuc k) t = refl
+      pub spot-entry : entryAt (tableOf columns rows) (pos row +ℤ offset) (spot % columns) ≡ some (getD rows (spotIndex from spot) (pos 0))
+      unfolding column
+      spot-entry =
+          let r = row-of n (pos row +ℤ offset) t in
+          found-entry (r .0) (r .1) (r .2) ∙ ap (λ (i : ℕ). some (getD rows i (pos 0))) (sym spot-index)
 
-    pub no-entry : there n (pos row +ℤ offset) ≡ false → entryAt (tableOf columns rows) (pos row +ℤ offset) (spot % columns) ≡ none
-    no-entry t = nothing (pos row +ℤ offset) t
+  -- the row is not there
+  nothing : (z : ℤ) (column : ℕ) → there n z ≡ false → entryAt (tableOf columns rows) z column ≡ none
+  unfolding there entryAt tableOf entry
+  nothing (pos k) column t = ap (λ (u : Bool). pick u (some (getD rows (k * columns + column) (pos 0))) none) (ap (ltb k) rows-are ∙ t)
+  nothing (negsuc k) column t = refl
+
+  pub no-entry : (offset : ℤ) (column : ℕ) → there n (pos row +ℤ offset) ≡ false → entryAt (tableOf columns rows) (pos row +ℤ offset) column ≡ none
+  no-entry offset column t = nothing (pos row +ℤ offset) column t
 
 -- ---- an entry plus a number
 

@@ -1,6 +1,7 @@
 pub mod Choosing
 pub mod Comparing
 pub mod Entries
+pub mod Fields
 pub mod Holding
 pub mod Intervals
 pub mod Putting

@@ -13,13 +13,16 @@ use mir.Syntax.{w8, w32}
 use mir.Val.{toZ, ofZ}
 use mir.Facts.{toZ-ofZ}
 use borrow.Author.Tests.{eq-eqb, ne-eqb, eqb-true, eqb-false}
+use Rattle.rules.specs.Basics.{signed8}
 use Rattle.rules.proofs.Choice.{decided}
-use Rattle.letters.specs.Tests.{sortOf, raised, lowOf, widthOf, backBoth, aheadBoth, backAt, aheadAt, most, mostBack, mostAhead, rowsLeft, wordsOf, Tested, Preparable}
-use Rattle.letters.specs.Tests.{setSeven, setRange, LowAt, PutRoom, PutTest}
+use Rattle.decode.specs.Layout.{Body}
+use Rattle.letters.specs.Letters.{Bytes, spotOf, leftSpot, rightSpot, numberAt}
+use Rattle.letters.specs.Tests.{sortOf, raised, lowOf, widthOf, backBoth, aheadBoth, backAt, aheadAt, most, mostBack, mostAhead, rowsLeft, wordsAt, wordsOf, Prepared, Preparable}
+use Rattle.letters.specs.Tests.{setEight, DefineRoom, PutRoom, PutTest}
 
--- ---- seven words
+-- ---- eight words
 
-module _ (l : List ℕ) (at a b c d e f g : ℕ) where
+module _ (l : List ℕ) (at a b c d e f g h : ℕ) where
   abbrev s1 : List ℕ
   s1 = set l at a
 
@@ -38,105 +41,66 @@ module _ (l : List ℕ) (at a b c d e f g : ℕ) where
   abbrev s6 : List ℕ
   s6 = set s5 (at + 5) f
 
-  pub seven-other : (j : ℕ) → ((k : ℕ) → k < 7 → j ≡ at + k → ⊥) → getD (setSeven l at a b c d e f g) j 0 ≡ getD l j 0
-  unfolding setSeven
-  seven-other j h =
-      getD-set-other s6 (at + 6) j g 0 (h 6 (omega arith)) ∙ getD-set-other s5 (at + 5) j f 0 (h 5 (omega arith)) ∙ getD-set-other s4 (at + 4) j e 0 (h 4 (omega arith))
-      ∙ getD-set-other s3 (at + 3) j d 0 (h 3 (omega arith)) ∙ getD-set-other s2 (at + 2) j c 0 (h 2 (omega arith)) ∙ getD-set-other s1 (at + 1) j b 0 (h 1 (omega arith))
-      ∙ getD-set-other l at j a 0 (λ q. h 0 (omega arith) (omega arith))
+  abbrev s7 : List ℕ
+  s7 = set s6 (at + 6) g
 
-  pub seven-long : length (setSeven l at a b c d e f g) ≡ length l
-  unfolding setSeven
-  seven-long = simp length-set
+  pub eight-other : (j : ℕ) → ((k : ℕ) → k < 8 → j ≡ at + k → ⊥) → getD (setEight l at a b c d e f g h) j 0 ≡ getD l j 0
+  unfolding setEight
+  eight-other j unlike =
+      getD-set-other s7 (at + 7) j h 0 (unlike 7 (omega arith)) ∙ getD-set-other s6 (at + 6) j g 0 (unlike 6 (omega arith)) ∙ getD-set-other s5 (at + 5) j f 0 (unlike 5 (omega arith)) ∙ getD-set-other s4 (at + 4) j e 0 (unlike 4 (omega arith)) ∙ getD-set-other s3 (at + 3) j d 0 (unlike 3 (omega arith)) ∙ getD-set-other s2 (at + 2) j c 0 (unlike 2 (omega arith)) ∙ getD-set-other s1 (at + 1) j b 0 (unlike 1 (omega arith)) ∙ getD-set-other l at j a 0 (λ q. unlike 0 (omega arith) (omega arith))
 
-  module _ (room : at + 6 < length l) where
-    pub seven-0 : getD (setSeven l at a b c d e f g) at 0 ≡ a
-    unfolding setSeven
-    seven-0 =
-        getD-set-other s6 (at + 6) at g 0 (λ q. omega arith) ∙ getD-set-other s5 (at + 5) at f 0 (λ q. omega arith) ∙ getD-set-other s4 (at + 4) at e 0 (λ q. omega arith)
-        ∙ getD-set-other s3 (at + 3) at d 0 (λ q. omega arith) ∙ getD-set-other s2 (at + 2) at c 0 (λ q. omega arith) ∙ getD-set-other s1 (at + 1) at b 0 (λ q. omega arith)
-        ∙ getD-set-same l at a 0 (omega arith)
+  pub eight-long : length (setEight l at a b c d e f g h) ≡ length l
+  unfolding setEight
+  eight-long = simp length-set
 
-    pub seven-1 : getD (setSeven l at a b c d e f g) (at + 1) 0 ≡ b
-    unfolding setSeven
-    seven-1 =
-        getD-set-other s6 (at + 6) (at + 1) g 0 (λ q. omega arith) ∙ getD-set-other s5 (at + 5) (at + 1) f 0 (λ q. omega arith)
-        ∙ getD-set-other s4 (at + 4) (at + 1) e 0 (λ q. omega arith) ∙ getD-set-other s3 (at + 3) (at + 1) d 0 (λ q. omega arith)
-        ∙ getD-set-other s2 (at + 2) (at + 1) c 0 (λ q. omega arith) ∙ getD-set-same s1 (at + 1) b 0 (simp length-set (omega arith))
+  module _ (room : at + 7 < length l) where
+    pub eight-0 : getD (setEight l at a b c d e f g h) at 0 ≡ a
+    unfolding setEight
+    eight-0 = getD-set-other s7 (at + 7) at h 0 (λ q. omega arith) ∙ getD-set-other s6 (at + 6) at g 0 (λ q. omega arith) ∙ getD-set-other s5 (at + 5) at f 0 (λ q. omega arith) ∙ getD-set-other s4 (at + 4) at e 0 (λ q. omega arith) ∙ getD-set-other s3 (at + 3) at d 0 (λ q. omega arith) ∙ getD-set-other s2 (at + 2) at c 0 (λ q. omega arith) ∙ getD-set-other s1 (at + 1) at b 0 (λ q. omega arith) ∙ getD-set-same l at a 0 (omega arith)
 
-    pub seven-2 : getD (setSeven l at a b c d e f g) (at + 2) 0 ≡ c
-    unfolding setSeven
-    seven-2 =
-        getD-set-other s6 (at + 6) (at + 2) g 0 (λ q. omega arith) ∙ getD-set-other s5 (at + 5) (at + 2) f 0 (λ q. omega arith)
-        ∙ getD-set-other s4 (at + 4) (at + 2) e 0 (λ q. omega arith) ∙ getD-set-other s3 (at + 3) (at + 2) d 0 (λ q. omega arith)
-        ∙ getD-set-same s2 (at + 2) c 0 (simp length-set (omega arith))
+    pub eight-1 : getD (setEight l at a b c d e f g h) (at + 1) 0 ≡ b
+    unfolding setEight
+    eight-1 = getD-set-other s7 (at + 7) (at + 1) h 0 (λ q. omega arith) ∙ getD-set-other s6 (at + 6) (at + 1) g 0 (λ q. omega arith) ∙ getD-set-other s5 (at + 5) (at + 1) f 0 (λ q. omega arith) ∙ getD-set-other s4 (at + 4) (at + 1) e 0 (λ q. omega arith) ∙ getD-set-other s3 (at + 3) (at + 1) d 0 (λ q. omega arith) ∙ getD-set-other s2 (at + 2) (at + 1) c 0 (λ q. omega arith) ∙ getD-set-same s1 (at + 1) b 0 (simp length-set (omega arith))
 
-    pub seven-3 : getD (setSeven l at a b c d e f g) (at + 3) 0 ≡ d
-    unfolding setSeven
-    seven-3 =
-        getD-set-other s6 (at + 6) (at + 3) g 0 (λ q. omega arith) ∙ getD-set-other s5 (at + 5) (at + 3) f 0 (λ q. omega arith)
-        ∙ getD-set-other s4 (at + 4) (at + 3) e 0 (λ q. omega arith) ∙ getD-set-same s3 (at + 3) d 0 (simp length-set (omega arith))
+    pub eight-2 : getD (setEight l at a b c d e f g h) (at + 2) 0 ≡ c
+    unfolding setEight
+    eight-2 = getD-set-other s7 (at + 7) (at + 2) h 0 (λ q. omega arith) ∙ getD-set-other s6 (at + 6) (at + 2) g 0 (λ q. omega arith) ∙ getD-set-other s5 (at + 5) (at + 2) f 0 (λ q. omega arith) ∙ getD-set-other s4 (at + 4) (at + 2) e 0 (λ q. omega arith) ∙ getD-set-other s3 (at + 3) (at + 2) d 0 (λ q. omega arith) ∙ getD-set-same s2 (at + 2) c 0 (simp length-set (omega arith))
 
-    pub seven-4 : getD (setSeven l at a b c d e f g) (at + 4) 0 ≡ e
-    unfolding setSeven
-    seven-4 =
-        getD-set-other s6 (at + 6) (at + 4) g 0 (λ q. omega arith) ∙ getD-set-other s5 (at + 5) (at + 4) f 0 (λ q. omega arith)
-        ∙ getD-set-same s4 (at + 4) e 0 (simp length-set (omega arith))
+    pub eight-3 : getD (setEight l at a b c d e f g h) (at + 3) 0 ≡ d
+    unfolding setEight
+    eight-3 = getD-set-other s7 (at + 7) (at + 3) h 0 (λ q. omega arith) ∙ getD-set-other s6 (at + 6) (at + 3) g 0 (λ q. omega arith) ∙ getD-set-other s5 (at + 5) (at + 3) f 0 (λ q. omega arith) ∙ getD-set-other s4 (at + 4) (at + 3) e 0 (λ q. omega arith) ∙ getD-set-same s3 (at + 3) d 0 (simp length-set (omega arith))
 
-    pub seven-5 : getD (setSeven l at a b c d e f g) (at + 5) 0 ≡ f
-    unfolding setSeven
-    seven-5 = getD-set-other s6 (at + 6) (at + 5) g 0 (λ q. omega arith) ∙ getD-set-same s5 (at + 5) f 0 (simp length-set (omega arith))
+    pub eight-4 : getD (setEight l at a b c d e f g h) (at + 4) 0 ≡ e
+    unfolding setEight
+    eight-4 = getD-set-other s7 (at + 7) (at + 4) h 0 (λ q. omega arith) ∙ getD-set-other s6 (at + 6) (at + 4) g 0 (λ q. omega arith) ∙ getD-set-other s5 (at + 5) (at + 4) f 0 (λ q. omega arith) ∙ getD-set-same s4 (at + 4) e 0 (simp length-set (omega arith))
 
-    pub seven-6 : getD (setSeven l at a b c d e f g) (at + 6) 0 ≡ g
-    unfolding setSeven
-    seven-6 = getD-set-same s6 (at + 6) g 0 (simp length-set (omega arith))
+    pub eight-5 : getD (setEight l at a b c d e f g h) (at + 5) 0 ≡ f
+    unfolding setEight
+    eight-5 = getD-set-other s7 (at + 7) (at + 5) h 0 (λ q. omega arith) ∙ getD-set-other s6 (at + 6) (at + 5) g 0 (λ q. omega arith) ∙ getD-set-same s5 (at + 5) f 0 (simp length-set (omega arith))
 
--- ---- the range alone
+    pub eight-6 : getD (setEight l at a b c d e f g h) (at + 6) 0 ≡ g
+    unfolding setEight
+    eight-6 = getD-set-other s7 (at + 7) (at + 6) h 0 (λ q. omega arith) ∙ getD-set-same s6 (at + 6) g 0 (simp length-set (omega arith))
 
-module _ (l : List ℕ) (at f g : ℕ) where
-  pub range-other : (j : ℕ) → (j ≡ at + 5 → ⊥) → (j ≡ at + 6 → ⊥) → getD (setRange l at f g) j 0 ≡ getD l j 0
-  unfolding setRange
-  range-other j h k = getD-set-other (set l (at + 5) f) (at + 6) j g 0 k ∙ getD-set-other l (at + 5) j f 0 h
+    pub eight-7 : getD (setEight l at a b c d e f g h) (at + 7) 0 ≡ h
+    unfolding setEight
+    eight-7 = getD-set-same s7 (at + 7) h 0 (simp length-set (omega arith))
 
-  pub range-long : length (setRange l at f g) ≡ length l
-  unfolding setRange
-  range-long = simp length-set
+-- ---- how far a comparison reads
 
-  module _ (room : at + 6 < length l) where
-    pub range-5 : getD (setRange l at f g) (at + 5) 0 ≡ f
-    unfolding setRange
-    range-5 = getD-set-other (set l (at + 5) f) (at + 6) (at + 5) g 0 (λ q. omega arith) ∙ getD-set-same l (at + 5) f 0 (omega arith)
+module _ (s : List ℕ) (p kind r : ℕ) (is-kind : kind ≡ getD s (p + 3) 0) (left right : ℤ) (is-left : left ≡ signed8 (getD s (p + 1) 0)) (few-left : mag left < 128)
+    (is-right : right ≡ signed8 (getD s (p + 5) 0)) (few-right : mag right < 128) where
+  left-held : toZ w8 (ofZ w8 left) ≡ signed8 (getD s (p + 1) 0)
+  left-held = toZ-ofZ {w = w8} (record { sfits = few-left }) ∙ is-left
 
-    pub range-6 : getD (setRange l at f g) (at + 6) 0 ≡ g
-    unfolding setRange
-    range-6 = getD-set-same (set l (at + 5) f) (at + 6) g 0 (simp length-set (omega arith))
+  right-held : toZ w8 (ofZ w8 right) ≡ signed8 (getD s (p + 5) 0)
+  right-held = toZ-ofZ {w = w8} (record { sfits = few-right }) ∙ is-right
 
--- ---- the words of a comparison
-
-module _ (cells : List ℕ) (numbers : List ℤ) (g op x r : ℕ) (is-op : op ≡ getD cells (g * 4 + 2) 0) (short : mag (getD numbers g (pos 0)) < 2147483648)
-    (is-x : x ≡ raised (toZ w32 (ofZ w32 (getD numbers g (pos 0))))) where
-  x-is : x ≡ raised (getD numbers g (pos 0))
-  x-is = is-x ∙ ap raised (toZ-ofZ {w = w32} (record { sfits = short }))
-
-  pub low-at : r ≡ lowOf op x → LowAt cells numbers g r
-  low-at e = record { is = e ∙ ap (λ (k : ℕ). lowOf k x) is-op ∙ ap (lowOf (getD cells (g * 4 + 2) 0)) x-is; short = short }
-
-  pub width-at : r ≡ widthOf op x → r ≡ widthOf (getD cells (g * 4 + 2) 0) (raised (getD numbers g (pos 0)))
-  width-at e = e ∙ ap (λ (k : ℕ). widthOf k x) is-op ∙ ap (widthOf (getD cells (g * 4 + 2) 0)) x-is
-
-module _ (cells : List ℕ) (offsets : List ℤ) (g kind r : ℕ) (is-kind : kind ≡ getD cells (g * 4 + 3) 0)
-    (fo : mag (getD offsets (g * 2) (pos 0)) < 128) (fp : mag (getD offsets (g * 2 + 1) (pos 0)) < 128) where
-  left-held : toZ w8 (ofZ w8 (getD offsets (g * 2) (pos 0))) ≡ getD offsets (g * 2) (pos 0)
-  left-held = toZ-ofZ (record { sfits = fo })
-
-  right-held : toZ w8 (ofZ w8 (getD offsets (g * 2 + 1) (pos 0))) ≡ getD offsets (g * 2 + 1) (pos 0)
-  right-held = toZ-ofZ (record { sfits = fp })
-
-  pub back-at : r ≡ backBoth kind (toZ w8 (ofZ w8 (getD offsets (g * 2) (pos 0)))) (toZ w8 (ofZ w8 (getD offsets (g * 2 + 1) (pos 0)))) → r ≡ backAt cells offsets g
+  pub back-at : r ≡ backBoth kind (toZ w8 (ofZ w8 left)) (toZ w8 (ofZ w8 right)) → r ≡ backAt s p
   unfolding backAt
   back-at e = e ∙ rw (is-kind, left-held, right-held)
 
-  pub ahead-at : r ≡ aheadBoth kind (toZ w8 (ofZ w8 (getD offsets (g * 2) (pos 0)))) (toZ w8 (ofZ w8 (getD offsets (g * 2 + 1) (pos 0)))) → r ≡ aheadAt cells offsets g
+  pub ahead-at : r ≡ aheadBoth kind (toZ w8 (ofZ w8 left)) (toZ w8 (ofZ w8 right)) → r ≡ aheadAt s p
   unfolding aheadAt
   ahead-at e = e ∙ rw (is-kind, left-held, right-held)
 
@@ -191,159 +155,139 @@ one-of-eight F a b c d e f g h (suc (suc (suc (suc (suc (suc zero)))))) l = g
 one-of-eight F a b c d e f g h (suc (suc (suc (suc (suc (suc (suc zero))))))) l = h
 one-of-eight F a b c d e f g h (suc (suc (suc (suc (suc (suc (suc (suc i)))))))) l = absurd (omega arith)
 
-module _ (cells : List ℕ) (offsets numbers : List ℤ) (n g count : ℕ) where
-  pub words-one : count ≡ 1
-      → wordsOf cells offsets numbers n g count
-      ≡ sortOf (getD cells (g * 4 + 3) 0) ∷ getD cells (g * 4) 0 ∷ getD cells (g * 4 + 1) 0
-      ∷ lowOf (getD cells (g * 4 + 2) 0) (raised (getD numbers g (pos 0))) ∷ widthOf (getD cells (g * 4 + 2) 0) (raised (getD numbers g (pos 0)))
-      ∷ mostBack cells offsets g count ∷ rowsLeft cells offsets n g count ∷ 0 ∷ []
+module _ (s : List ℕ) (columns n d : ℕ) where
+  pub words-none : d ≡ 0 → wordsOf s columns n d ≡ []
   unfolding wordsOf
-  words-one h = simp (eq-eqb count 1 h)
+  words-none h = simp (eq-eqb d 0 h)
 
-  pub words-other : (count ≡ 1 → ⊥)
-      → wordsOf cells offsets numbers n g count ≡ 0 ∷ 0 ∷ 0 ∷ 0 ∷ 0 ∷ mostBack cells offsets g count ∷ rowsLeft cells offsets n g count ∷ 0 ∷ []
+  pub words-some : (d ≡ 0 → ⊥) → wordsOf s columns n d ≡ wordsAt s columns n d (d + 2) (getD s (d + 1) 0)
   unfolding wordsOf
-  words-other h = simp (ne-eqb count 1 h)
+  words-some h = simp (ne-eqb d 0 h)
 
-module _ (cells : List ℕ) (offsets numbers : List ℤ) (counts : List ℕ) (n l : ℕ) (tests₀ tests : List ℕ) (put : PutRoom counts l tests₀) (count : ℕ) (is-count : count ≡ getD counts l 0) where
-  room : l * 8 + 6 < length tests₀
-  room = let a = put .letter in let b = put .long in omega arith
+module _ (s : List ℕ) (columns n l d : ℕ) (tests₀ : List ℕ) (put : PutRoom s columns l d tests₀) where
+  -- a letter without DEFINE keeps its zeros
+  pub test-none : d ≡ 0 → PutTest s columns n l d tests₀ tests₀
+  test-none z = record {
+    long = refl;
+    made = λ i h. put .none i h ∙ sym (ap (λ (ws : List ℕ). getD ws i 0) (words-none s columns n d z));
+    bytes = λ f. absurd (f z);
+    kept = λ m i f h. refl;
+  }
 
-  abbrev Is : ℕ → Type 0
-  Is i = getD tests (l * 8 + i) 0 ≡ getD (wordsOf cells offsets numbers n (l * 8) count) i 0
+  pub define-room : (d ≡ 0 → ⊥) → DefineRoom s columns l d tests₀
+  define-room h =
+      let b = put .body h in
+      record { few = put .few; long = put .long; letter = put .letter; one = b .one; most = b .few; there = b .stand .there; some = h }
 
-  -- the words as the promise has them
-  counted : ((i : ℕ) → i < 8 → Is i) → (i : ℕ) → i < 8 → getD tests (l * 8 + i) 0 ≡ getD (wordsOf cells offsets numbers n (l * 8) (getD counts l 0)) i 0
-  counted f i h = f i h ∙ ap (λ (k : ℕ). getD (wordsOf cells offsets numbers n (l * 8) k) i 0) is-count
+module _ (s : List ℕ) (columns n l d : ℕ) (tests₀ : List ℕ) (put : DefineRoom s columns l d tests₀) where
+  module _ (bytes : Bytes s) (tests : List ℕ) (count : ℕ) (is-count : count ≡ getD s (d + 1) 0)
+      (kind op x sort left right low width back ahead rest : ℕ) (is-kind : kind ≡ getD s (d + 2 + 3) 0) (is-op : op ≡ getD s (d + 2 + 2) 0)
+      (number : ℤ) (is-number : number ≡ numberAt s (d + 2)) (few-number : mag number < 2147483648) (is-x : x ≡ raised (toZ w32 (ofZ w32 number)))
+      (is-sort : sort ≡ sortOf kind count) (is-left : left ≡ leftSpot s columns (d + 2)) (is-right : right ≡ spotOf columns (getD s (d + 2 + 4 + 1) 0) (getD s (d + 2 + 4) 0))
+      (is-low : low ≡ lowOf op x) (is-width : width ≡ widthOf op x) (is-back : back ≡ mostBack s (d + 2) count) (is-ahead : ahead ≡ mostAhead s (d + 2) count) (is-rest : rest ≡ n - (back + ahead))
+      (is : tests ≡ setEight tests₀ (l * 8) sort left right low width back rest d) where
+    room : l * 8 + 7 < length tests₀
+    room = let a = put .letter in let b = put .long in omega arith
 
-  module _ (back ahead rest : ℕ) (is-back : back ≡ mostBack cells offsets (l * 8) count) (is-ahead : ahead ≡ mostAhead cells offsets (l * 8) count) (is-rest : rest ≡ n - (back + ahead)) where
-    rest-is : rest ≡ rowsLeft cells offsets n (l * 8) count
+    x-is : x ≡ raised (numberAt s (d + 2))
+    x-is = is-x ∙ ap raised (toZ-ofZ {w = w32} (record { sfits = few-number }) ∙ is-number)
+
+    rest-is : rest ≡ rowsLeft s n (d + 2) count
     unfolding rowsLeft
     rest-is = is-rest ∙ rw (is-back, is-ahead) refl
 
-    module _ (not-one : count ≡ 1 → ⊥) (is : tests ≡ setRange tests₀ (l * 8) back rest) where
-      word-is : (i w : ℕ) → getD tests (l * 8 + i) 0 ≡ w → w ≡ getD (0 ∷ 0 ∷ 0 ∷ 0 ∷ 0 ∷ mostBack cells offsets (l * 8) count ∷ rowsLeft cells offsets n (l * 8) count ∷ 0 ∷ []) i 0 → Is i
-      word-is i w e f = e ∙ f ∙ sym (ap (λ (t : List ℕ). getD t i 0) (words-other cells offsets numbers n (l * 8) count not-one))
+    right-is : right ≡ rightSpot s columns (d + 2)
+    right-is = is-right ∙ ap (λ (i : ℕ). spotOf columns (getD s i 0) (getD s (d + 2 + 4) 0)) (let q : d + 2 + 4 + 1 ≡ d + 2 + 5 = omega arith in q)
 
-      other : (i : ℕ) → i < 8 → (i ≡ 5 → ⊥) → (i ≡ 6 → ⊥) → getD tests (l * 8 + i) 0 ≡ 0
-      other i h a b =
-          ap (λ (t : List ℕ). getD t (l * 8 + i) 0) is ∙ range-other tests₀ (l * 8) back rest (l * 8 + i) (λ q. a (omega arith)) (λ q. b (omega arith))
-          ∙ put .none i h
+    abbrev Is : ℕ → Type 0
+    Is i = getD tests (l * 8 + i) 0 ≡ getD (wordsOf s columns n d) i 0
 
-      words-made : (i : ℕ) → i < 8 → Is i
-      words-made =
-          one-of-eight Is
-          (word-is 0 0 (other 0 (omega arith) (λ q. omega arith) (λ q. omega arith)) refl)
-          (word-is 1 0 (other 1 (omega arith) (λ q. omega arith) (λ q. omega arith)) refl)
-          (word-is 2 0 (other 2 (omega arith) (λ q. omega arith) (λ q. omega arith)) refl)
-          (word-is 3 0 (other 3 (omega arith) (λ q. omega arith) (λ q. omega arith)) refl)
-          (word-is 4 0 (other 4 (omega arith) (λ q. omega arith) (λ q. omega arith)) refl)
-          (word-is 5 back (ap (λ (t : List ℕ). getD t (l * 8 + 5) 0) is ∙ range-5 tests₀ (l * 8) back rest room) is-back)
-          (word-is 6 rest (ap (λ (t : List ℕ). getD t (l * 8 + 6) 0) is ∙ range-6 tests₀ (l * 8) back rest room) rest-is)
-          (word-is 7 0 (other 7 (omega arith) (λ q. omega arith) (λ q. omega arith)) refl)
+    words-are : wordsOf s columns n d ≡ wordsAt s columns n d (d + 2) count
+    words-are = words-some s columns n d (put .some) ∙ ap (wordsAt s columns n d (d + 2)) (sym is-count)
 
-      pub test-range : PutTest cells offsets numbers counts n l tests₀ tests
-      test-range = record {
-        long = ap length is ∙ range-long tests₀ (l * 8) back rest;
-        made = counted words-made;
-        short = λ e. absurd (not-one (is-count ∙ e));
-        kept = λ m i h f. ap (λ (t : List ℕ). getD t (m * 8 + i) 0) is ∙ range-other tests₀ (l * 8) back rest (m * 8 + i) (λ q. h (omega arith)) (λ q. h (omega arith));
-      }
+    word-is : (i w : ℕ) → getD (setEight tests₀ (l * 8) sort left right low width back rest d) (l * 8 + i) 0 ≡ w → w ≡ getD (wordsAt s columns n d (d + 2) count) i 0 → Is i
+    word-is i w e f = ap (λ (t : List ℕ). getD t (l * 8 + i) 0) is ∙ e ∙ f ∙ sym (ap (λ (ws : List ℕ). getD ws i 0) words-are)
 
-    module _ (one : count ≡ 1) (sort left right low width : ℕ) (is-sort : sort ≡ sortOf (getD cells (l * 8 * 4 + 3) 0))
-        (is-left : left ≡ getD cells (l * 8 * 4) 0) (is-right : right ≡ getD cells (l * 8 * 4 + 1) 0)
-        (is-low : LowAt cells numbers (l * 8) low) (is-width : width ≡ widthOf (getD cells (l * 8 * 4 + 2) 0) (raised (getD numbers (l * 8) (pos 0))))
-        (is : tests ≡ setSeven tests₀ (l * 8) sort left right low width back rest) where
-      one-is : (i w : ℕ) → getD (setSeven tests₀ (l * 8) sort left right low width back rest) (l * 8 + i) 0 ≡ w
-          → w ≡ getD (sortOf (getD cells (l * 8 * 4 + 3) 0) ∷ getD cells (l * 8 * 4) 0 ∷ getD cells (l * 8 * 4 + 1) 0
-          ∷ lowOf (getD cells (l * 8 * 4 + 2) 0) (raised (getD numbers (l * 8) (pos 0))) ∷ widthOf (getD cells (l * 8 * 4 + 2) 0) (raised (getD numbers (l * 8) (pos 0)))
-          ∷ mostBack cells offsets (l * 8) count ∷ rowsLeft cells offsets n (l * 8) count ∷ 0 ∷ []) i 0 → Is i
-      one-is i w e f = ap (λ (t : List ℕ). getD t (l * 8 + i) 0) is ∙ e ∙ f ∙ sym (ap (λ (t : List ℕ). getD t i 0) (words-one cells offsets numbers n (l * 8) count one))
+    all-made : (i : ℕ) → i < 8 → Is i
+    unfolding wordsAt
+    all-made =
+        one-of-eight Is
+        (word-is 0 sort
+        (ap (λ (j : ℕ). getD (setEight tests₀ (l * 8) sort left right low width back rest d) j 0) (let e : l * 8 + 0 ≡ l * 8 = omega arith in e)
+        ∙ eight-0 tests₀ (l * 8) sort left right low width back rest d room) (is-sort ∙ ap (λ (k : ℕ). sortOf k count) is-kind))
+        (word-is 1 left (eight-1 tests₀ (l * 8) sort left right low width back rest d room) is-left)
+        (word-is 2 right (eight-2 tests₀ (l * 8) sort left right low width back rest d room) right-is)
+        (word-is 3 low (eight-3 tests₀ (l * 8) sort left right low width back rest d room) (is-low ∙ ap (λ (k : ℕ). lowOf k x) is-op ∙ ap (lowOf (getD s (d + 2 + 2) 0)) x-is))
+        (word-is 4 width (eight-4 tests₀ (l * 8) sort left right low width back rest d room) (is-width ∙ ap (λ (k : ℕ). widthOf k x) is-op ∙ ap (widthOf (getD s (d + 2 + 2) 0)) x-is))
+        (word-is 5 back (eight-5 tests₀ (l * 8) sort left right low width back rest d room) is-back)
+        (word-is 6 rest (eight-6 tests₀ (l * 8) sort left right low width back rest d room) rest-is)
+        (word-is 7 d (eight-7 tests₀ (l * 8) sort left right low width back rest d room) refl)
 
-      apart : (m i : ℕ) → (m ≡ l → ⊥) → i < 8 → (k : ℕ) → k < 7 → m * 8 + i ≡ l * 8 + k → ⊥
-      apart m i h g k f e = h (omega arith)
+    apart : (m i : ℕ) → (m ≡ l → ⊥) → i < 8 → (k : ℕ) → k < 8 → m * 8 + i ≡ l * 8 + k → ⊥
+    apart m i h g k f e = h (omega arith)
 
-      last : (k : ℕ) → k < 7 → l * 8 + 7 ≡ l * 8 + k → ⊥
-      last k f e = omega arith
-
-      all-made : (i : ℕ) → i < 8 → Is i
-      all-made =
-          one-of-eight Is
-          (one-is 0 sort
-          (ap (λ (j : ℕ). getD (setSeven tests₀ (l * 8) sort left right low width back rest) j 0) (let e : l * 8 + 0 ≡ l * 8 = omega arith in e)
-          ∙ seven-0 tests₀ (l * 8) sort left right low width back rest room) is-sort)
-          (one-is 1 left (seven-1 tests₀ (l * 8) sort left right low width back rest room) is-left)
-          (one-is 2 right (seven-2 tests₀ (l * 8) sort left right low width back rest room) is-right)
-          (one-is 3 low (seven-3 tests₀ (l * 8) sort left right low width back rest room) (is-low .is))
-          (one-is 4 width (seven-4 tests₀ (l * 8) sort left right low width back rest room) is-width)
-          (one-is 5 back (seven-5 tests₀ (l * 8) sort left right low width back rest room) is-back)
-          (one-is 6 rest (seven-6 tests₀ (l * 8) sort left right low width back rest room) rest-is)
-          (one-is 7 0 (seven-other tests₀ (l * 8) sort left right low width back rest (l * 8 + 7) last ∙ put .none 7 (omega arith)) refl)
-
-      pub test-one : PutTest cells offsets numbers counts n l tests₀ tests
-      test-one = record {
-        long = ap length is ∙ seven-long tests₀ (l * 8) sort left right low width back rest;
-        made = counted all-made;
-        short = λ e. is-low .short;
-        kept = λ m i h g. ap (λ (t : List ℕ). getD t (m * 8 + i) 0) is ∙ seven-other tests₀ (l * 8) sort left right low width back rest (m * 8 + i) (apart m i h g);
-      }
-
-  -- a letter without comparisons reads its own row alone
-  pub test-free : count ≡ 0 → tests ≡ setRange tests₀ (l * 8) 0 n → PutTest cells offsets numbers counts n l tests₀ tests
-  unfolding mostBack mostAhead most
-  test-free z is = test-range 0 0 n (rw z refl) (rw z refl) (omega arith) (λ (o : count ≡ 1). omega arith) is
+    pub test-some : PutTest s columns n l d tests₀ tests
+    test-some = record {
+      long = ap length is ∙ eight-long tests₀ (l * 8) sort left right low width back rest d;
+      made = all-made;
+      bytes = λ f. bytes;
+      kept = λ m i h g. ap (λ (t : List ℕ). getD t (m * 8 + i) 0) is ∙ eight-other tests₀ (l * 8) sort left right low width back rest d (m * 8 + i) (apart m i h g);
+    }
 
 -- ---- the loop over the letters
 
 -- the letters below l have their words, and those from l on have none yet
-pub record Preparing (cells : List ℕ) (offsets numbers : List ℤ) (counts : List ℕ) (n : ℕ) (tests : List ℕ) (l : ℕ) : Type 0 where
+pub record Preparing (s : List ℕ) (columns n : ℕ) (defines tests : List ℕ) (l : ℕ) : Type 0 where
+  pub few : columns ≤ 8
   pub long : length tests ≡ 208
   pub upto : l ≤ 26
-  pub done : (m i : ℕ) → m < l → i < 8 → getD tests (m * 8 + i) 0 ≡ getD (wordsOf cells offsets numbers n (m * 8) (getD counts m 0)) i 0
-  pub short : (m : ℕ) → m < l → getD counts m 0 ≡ 1 → mag (getD numbers (m * 8) (pos 0)) < 2147483648
+  pub done : (m i : ℕ) → m < l → i < 8 → getD tests (m * 8 + i) 0 ≡ getD (wordsOf s columns n (getD defines m 0)) i 0
+  pub bytes : (m : ℕ) → m < l → (getD defines m 0 ≡ 0 → ⊥) → Bytes s
   pub rest : (m i : ℕ) → l ≤ m → m < 26 → i < 8 → getD tests (m * 8 + i) 0 ≡ 0
-  pub few : (m : ℕ) → m < 26 → getD counts m 0 ≤ 8
+  pub body : (m : ℕ) → m < 26 → (getD defines m 0 ≡ 0 → ⊥) → Body s columns (getD defines m 0)
 
-module _ (cells : List ℕ) (offsets numbers : List ℤ) (counts : List ℕ) (n : ℕ) where
-  pub preparing-none : (tests : List ℕ) → Preparable counts tests → Preparing cells offsets numbers counts n tests 0
+module _ (s : List ℕ) (columns n : ℕ) (defines : List ℕ) where
+  pub preparing-none : (tests : List ℕ) → Preparable s columns defines tests → Preparing s columns n defines tests 0
   preparing-none tests u = record {
+    few = u .few;
     long = u .long;
     upto = omega arith;
     done = λ m i h. absurd (omega arith);
-    short = λ m h. absurd (omega arith);
+    bytes = λ m h. absurd (omega arith);
     rest = λ m i h g f. u .none (m * 8 + i) (omega arith);
-    few = u .few;
+    body = u .body;
   }
 
-  module _ (tests₀ tests : List ℕ) (l : ℕ) (p : Preparing cells offsets numbers counts n tests₀ l) where
-    pub preparing-room : l < 26 → PutRoom counts l tests₀
-    preparing-room h = record { long = p .long; letter = h; few = p .few l h; none = λ i f. p .rest l i (omega arith) h f }
+  module _ (tests₀ tests : List ℕ) (l : ℕ) (p : Preparing s columns n defines tests₀ l) where
+    pub preparing-room : l < 26 → PutRoom s columns l (getD defines l 0) tests₀
+    preparing-room h = record { few = p .few; long = p .long; letter = h; none = λ i f. p .rest l i (omega arith) h f; body = p .body l h }
 
-    module _ (h : l < 26) (u : PutTest cells offsets numbers counts n l tests₀ tests) where
+    module _ (h : l < 26) (u : PutTest s columns n l (getD defines l 0) tests₀ tests) where
       below : (m : ℕ) → m < l + 1 → (m ≡ l → ⊥) → m < l
       below m f k = omega arith
 
-      now-done : (m i : ℕ) → m < l + 1 → i < 8 → getD tests (m * 8 + i) 0 ≡ getD (wordsOf cells offsets numbers n (m * 8) (getD counts m 0)) i 0
+      now-done : (m i : ℕ) → m < l + 1 → i < 8 → getD tests (m * 8 + i) 0 ≡ getD (wordsOf s columns n (getD defines m 0)) i 0
       now-done m i f g =
           decided (eqb m l)
           (λ e. let q : m ≡ l = eqb-true m l e in rw q (u .made i g))
           (λ e. let k = eqb-false m l e in u .kept m i k g ∙ p .done m i (below m f k) g)
 
-      now-short : (m : ℕ) → m < l + 1 → getD counts m 0 ≡ 1 → mag (getD numbers (m * 8) (pos 0)) < 2147483648
-      now-short m f o =
+      now-bytes : (m : ℕ) → m < l + 1 → (getD defines m 0 ≡ 0 → ⊥) → Bytes s
+      now-bytes m f o =
           decided (eqb m l)
-          (λ e. let q : m ≡ l = eqb-true m l e in rw q (u .short (rw q at o)))
-          (λ e. p .short m (below m f (eqb-false m l e)) o)
+          (λ e. let q : m ≡ l = eqb-true m l e in u .bytes (rw q at o))
+          (λ e. p .bytes m (below m f (eqb-false m l e)) o)
 
-      pub preparing-more : Preparing cells offsets numbers counts n tests (l + 1)
+      pub preparing-more : Preparing s columns n defines tests (l + 1)
       preparing-more = record {
+        few = p .few;
         long = u .long ∙ p .long;
         upto = omega arith;
         done = now-done;
-        short = now-short;
+        bytes = now-bytes;
         rest = λ m i f g k. u .kept m i (λ e. omega arith) k ∙ p .rest m i (omega arith) g k;
-        few = p .few;
+        body = p .body;
       }
 
-    pub preparing-all : 26 ≤ l → Tested cells offsets numbers counts n tests₀
-    preparing-all h = record { long = p .long; words = λ m i f g. p .done m i (omega arith) g; short = λ m f o. p .short m (omega arith) o }
+    pub preparing-all : 26 ≤ l → Prepared s columns n defines tests₀
+    preparing-all h = record { long = p .long; words = λ m i f g. p .done m i (omega arith) g; bytes = λ m f o. p .bytes m (omega arith) o }

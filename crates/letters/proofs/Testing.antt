@@ -1,9 +1,8 @@
 -- The test of a letter, by the ways through the code: by its comparisons, or, where all rows that it reads are there, by what it reads.
 use mathlib.Core.Path.{_≡_, refl, sym, ap, _∙_}
-use mathlib.Core.Bool.{Bool, true, false, _&&_, and-true}
-use mathlib.Core.List.{List}
-use mathlib.Core.Option.{Option, none, some}
-use Prim.Native.Nat.{ℕ, zero, suc, _+_, _*_, _-_, _%_, _≤_, _<_, max}
+use mathlib.Core.Bool.{Bool, true, false, not, _&&_, and-true, and-assoc}
+use mathlib.Core.List.{List, []}
+use Prim.Native.Nat.{ℕ, zero, suc, _+_, _*_, _-_, _/_, _%_, _≤_, _<_, max}
 use native.Mathlib.Omega.{arith}
 use lib.Dec.{ltb, eqb}
 use lib.IntN.{ℤ, pos, _+ℤ_, _-ℤ_}
@@ -11,18 +10,19 @@ use lib.Signed.{mag}
 use lib.ListN.{length, getD}
 use mir.Syntax.{w64}
 use mir.Val.{toZ, ofZ}
-use borrow.Author.Tests.{lt-ltb, le-ltb, eq-eqb, ne-eqb, eqb-true, eqb-false}
-use Rattle.rules.specs.Basics.{every, tabulate}
-use Rattle.rules.specs.Rows.{tableOf, entryAt, compares, plusNumber, rightSide, metBy, met, holds}
+use borrow.Author.Tests.{lt-ltb, le-ltb, eq-eqb, ne-eqb, eqb-true, eqb-false, not-true, not-false}
+use Rattle.rules.specs.Basics.{every, tabulate, signed8}
+use Rattle.rules.specs.Query.{comparisonAt}
+use Rattle.rules.specs.Rows.{Table, tableOf, compares, met, holds}
 use Rattle.rules.proofs.Choice.{decided}
 use Rattle.rules.proofs.Signed.{read-back}
-use Rattle.decode.specs.Layout.{cellAt, cellsFrom, Spots}
-use Rattle.letters.specs.Letters.{there, At, CellsRoom, FarBack, spotIndex, readMet, Reads, allRead, AllReads}
-use Rattle.letters.specs.Tests.{sortOf, raised, lowOf, widthOf, backOf, aheadOf, backBoth, aheadBoth, backAt, aheadAt, mostBack, mostAhead, rowsLeft, wordsOf, within, TestRoom}
-use Rattle.letters.proofs.Entries.{spot-entry, spot-index, spot-there}
-use Rattle.letters.proofs.Holding.{every-same}
+use Rattle.decode.specs.Layout.{comparisonsAt, definedAt, Body}
+use Rattle.letters.specs.Letters.{Bytes, there, At, leftSpot, rightSpot, numberAt, CellsRoom, FarBack, spotIndex, readMet, Reads, allRead, AllReads}
+use Rattle.letters.specs.Tests.{sortOf, raised, lowOf, widthOf, backOf, aheadOf, backBoth, aheadBoth, backAt, aheadAt, mostBack, mostAhead, rowsLeft, wordsAt, wordsOf, within, TestRoom}
+use Rattle.letters.proofs.Fields.{number-short}
+use Rattle.letters.proofs.Holding.{every-same, one-more, none-yet, reads-there, read-is}
 use Rattle.letters.proofs.Intervals.{number-is, column-is}
-use Rattle.letters.proofs.Putting.{most-above, words-one, words-other}
+use Rattle.letters.proofs.Putting.{most-above, words-none, words-some}
 use Rattle.letters.proofs.Reaching.{reach-there}
 
 -- ---- the rows that a comparison reads
@@ -46,221 +46,284 @@ module _ (kind : ℕ) (left right : ℤ) where
 
 -- ---- the sort of a test
 
-sort-one : (kind : ℕ) → sortOf kind ≡ 1 → kind ≡ 1
-unfolding sortOf
-sort-one kind e = decided (eqb kind 1) (λ q. eqb-true kind 1 q) (λ q. absurd (let z : 2 ≡ 1 = simp q at e in omega arith))
+module _ (kind count : ℕ) (some : 1 ≤ count) where
+  sort-odd : sortOf kind count % 2 ≡ 1 → kind ≡ 1
+  unfolding sortOf
+  sort-odd e = decided (eqb kind 1) (λ q. eqb-true kind 1 q) (λ q. absurd (let z : count * 2 % 2 ≡ 1 = simp q at e in omega arith))
 
-sort-two : (kind : ℕ) → (sortOf kind ≡ 1 → ⊥) → kind ≡ 1 → ⊥
-unfolding sortOf
-sort-two kind h k = h (simp (eq-eqb kind 1 k))
+  sort-even : (sortOf kind count % 2 ≡ 1 → ⊥) → kind ≡ 1 → ⊥
+  unfolding sortOf
+  sort-even h k = h (simp (eq-eqb kind 1 k) (omega arith))
 
--- ---- a comparison all of whose rows are there
+  sort-one : sortOf kind count < 3 → count ≡ 1
+  unfolding sortOf
+  sort-one h = decided (eqb kind 1) (λ q. let z : count * 2 - 1 < 3 = simp q at h in omega arith) (λ q. let z : count * 2 < 3 = simp q at h in omega arith)
 
-module _ (cells : List ℕ) (offsets numbers rows : List ℤ) (columns n row base : ℕ) (at : At rows columns n row base) (from : ℕ) (far : FarBack columns base from)
-    (g : ℕ) (spots : Spots columns cells offsets g) (back : backAt cells offsets g ≤ row) (ahead : row + aheadAt cells offsets g < n) where
-  left-reached : there n (pos row +ℤ getD offsets (g * 2) (pos 0)) ≡ true
-  unfolding backAt aheadAt
-  left-reached =
-      let x = back-left (getD cells (g * 4 + 3) 0) (getD offsets (g * 2) (pos 0)) (getD offsets (g * 2 + 1) (pos 0)) in
-      let y = ahead-left (getD cells (g * 4 + 3) 0) (getD offsets (g * 2) (pos 0)) (getD offsets (g * 2 + 1) (pos 0)) in
-      reach-there n row (getD offsets (g * 2) (pos 0)) (omega arith) (omega arith)
+  sort-some : 1 ≤ sortOf kind count
+  unfolding sortOf
+  sort-some = decided (eqb kind 1) (λ q. simp q (omega arith)) (λ q. simp q (omega arith))
 
-  right-reached : getD cells (g * 4 + 3) 0 ≡ 1 → there n (pos row +ℤ getD offsets (g * 2 + 1) (pos 0)) ≡ true
-  unfolding backAt aheadAt
-  right-reached k =
-      let x = back-right (getD cells (g * 4 + 3) 0) (getD offsets (g * 2) (pos 0)) (getD offsets (g * 2 + 1) (pos 0)) k in
-      let y = ahead-right (getD cells (g * 4 + 3) 0) (getD offsets (g * 2) (pos 0)) (getD offsets (g * 2 + 1) (pos 0)) k in
-      reach-there n row (getD offsets (g * 2 + 1) (pos 0)) (omega arith) (omega arith)
+  sort-behind : (sortOf kind count - 1) / 2 ≡ count - 1
+  unfolding sortOf
+  sort-behind = decided (eqb kind 1) (λ q. simp q (omega arith)) (λ q. simp q (omega arith))
 
-  reads-there : g < 208 → Reads cells rows from g
-  reads-there h = record {
-    room = h;
-    left = spot-there rows columns n row base at (getD cells (g * 4) 0) (getD offsets (g * 2) (pos 0)) (spots .left) from far left-reached;
-    right = λ k. spot-there rows columns n row base at (getD cells (g * 4 + 1) 0) (getD offsets (g * 2 + 1) (pos 0)) (spots .right) from far (right-reached k);
-  }
+-- ---- several comparisons, the first and those behind it
 
-  left-entry : entryAt (tableOf columns rows) (pos row +ℤ getD offsets (g * 2) (pos 0)) (getD cells (g * 4) 0 % columns) ≡ some (getD rows (spotIndex from (getD cells (g * 4) 0)) (pos 0))
-  left-entry =
-      spot-entry rows columns n row base at (getD cells (g * 4) 0) (getD offsets (g * 2) (pos 0)) (spots .left) left-reached
-      ∙ ap (λ (i : ℕ). some (getD rows i (pos 0))) (sym (spot-index rows columns n row base at (getD cells (g * 4) 0) (getD offsets (g * 2) (pos 0)) (spots .left) from far left-reached))
-
-  right-entry : getD cells (g * 4 + 3) 0 ≡ 1
-      → entryAt (tableOf columns rows) (pos row +ℤ getD offsets (g * 2 + 1) (pos 0)) (getD cells (g * 4 + 1) 0 % columns) ≡ some (getD rows (spotIndex from (getD cells (g * 4 + 1) 0)) (pos 0))
-  right-entry k =
-      spot-entry rows columns n row base at (getD cells (g * 4 + 1) 0) (getD offsets (g * 2 + 1) (pos 0)) (spots .right) (right-reached k)
-      ∙ ap (λ (i : ℕ). some (getD rows i (pos 0))) (sym (spot-index rows columns n row base at (getD cells (g * 4 + 1) 0) (getD offsets (g * 2 + 1) (pos 0)) (spots .right) from far (right-reached k)))
-
-  read-is : readMet cells numbers rows from g ≡ met (tableOf columns rows) row (cellAt columns cells offsets numbers g)
-  unfolding readMet met metBy rightSide plusNumber cellAt tableOf
-  read-is =
-      decided (eqb (getD cells (g * 4 + 3) 0) 1)
-      (λ e. let k = eqb-true (getD cells (g * 4 + 3) 0) 1 e in simp (e, left-entry, right-entry k))
-      (λ e. simp (e, left-entry))
+every-first : {A : Type 0} (f : A → Bool) (g : ℕ → A) (k : ℕ) → every f (tabulate (suc k) g) ≡ (f (g 0) && every f (tabulate k (λ i. g (suc i))))
+every-first f g zero = one-more f g 0 ∙ ap (λ (t : Bool). t && f (g 0)) (none-yet f g) ∙ sym (ap (λ (t : Bool). f (g 0) && t) (none-yet f (λ i. g (suc i))) ∙ and-true (f (g 0)))
+every-first f g (suc k) =
+    one-more f g (suc k) ∙ ap (λ (t : Bool). t && f (g (suc k))) (every-first f g k) ∙ and-assoc (f (g 0)) (every f (tabulate k (λ i. g (suc i)))) (f (g (suc k)))
+    ∙ ap (λ (t : Bool). f (g 0) && t) (sym (one-more f (λ i. g (suc i)) k))
 
 -- ---- a letter at a row
 
-module _ (tests cells : List ℕ) (offsets numbers : List ℤ) (counts : List ℕ) (l : ℕ) (rows : List ℤ) (columns n row base : ℕ)
-    (room : TestRoom tests cells offsets numbers counts l rows columns n row base) where
+module _ (tests s : List ℕ) (l : ℕ) (rows : List ℤ) (columns n row base : ℕ) (room : TestRoom tests s l rows columns n row base) where
+  -- where the body of its DEFINE starts
+  abbrev d : ℕ
+  d = getD tests (l * 8 + 7) 0
+
+  abbrev T : Table
+  T = tableOf columns rows
+
+  -- what the promise says of a result
+  abbrev Says : Bool → Type 0
+  Says t = t ≡ (ltb row n && holds T row (definedAt s d))
+
   at-row : row < n → At rows columns n row base
   at-row h = let r = room .letters in record { some = r .some; few = r .few; most = r .most; all = r .all; is-row = h; first = room .first }
 
-  pub several-room : (count : ℕ) → row < n → count ≡ getD counts l 0 → CellsRoom cells offsets count (l * 8) rows columns n row base
-  several-room count h e =
-      let f = room .letter in
-      let c = room .letters .counted l (room .letter) in
-      record { at = at-row h; room = omega arith; spots = λ k g. room .letters .spots l k (room .letter) (omega arith) }
-
-  pub several-is : (r : Bool) (count : ℕ) → row < n → count ≡ getD counts l 0 → r ≡ holds (tableOf columns rows) row (cellsFrom columns cells offsets numbers (l * 8) count)
-      → r ≡ (ltb row n && holds (tableOf columns rows) row (cellsFrom columns cells offsets numbers (l * 8) (getD counts l 0)))
-  several-is r count h q e = rw (lt-ltb row n h) (e ∙ ap (λ (k : ℕ). holds (tableOf columns rows) row (cellsFrom columns cells offsets numbers (l * 8) k)) q)
-
-  pub behind-last : n ≤ row → false ≡ (ltb row n && holds (tableOf columns rows) row (cellsFrom columns cells offsets numbers (l * 8) (getD counts l 0)))
+  pub behind-last : n ≤ row → Says false
   behind-last h = rw (le-ltb row n h) refl
+
+  pub free-holds : row < n → d ≡ 0 → Says true
+  unfolding definedAt holds every
+  free-holds h z = simp (lt-ltb row n h, eq-eqb d 0 z)
+
+  -- it has a DEFINE
+  module _ (some : d ≡ 0 → ⊥) where
+    abbrev count : ℕ
+    count = getD s (d + 1) 0
+
+    abbrev body : Body s columns d
+    body = room .letters .body l (room .letter) some
+
+    abbrev bytes : Bytes s
+    bytes = room .letters .bytes l (room .letter) some
+
+    defined-is : definedAt s d ≡ comparisonsAt s (d + 2) count
+    unfolding definedAt
+    defined-is = simp (ne-eqb d 0 some)
+
+    pub count-there : d + 14 ≤ length s
+    count-there = let a = body .one in let b = body .stand .there in omega arith
+
+    pub several-room : (c : ℕ) → row < n → c ≡ count → CellsRoom s c (d + 2) rows columns n row base
+    several-room c h e = record { at = at-row h; stand = rw e (body .stand) }
+
+    pub several-is : (c : ℕ) (t : Bool) → row < n → c ≡ count → t ≡ holds T row (comparisonsAt s (d + 2) c) → Says t
+    several-is c t h q e = rw (lt-ltb row n h) (e ∙ ap (λ (k : ℕ). holds T row (comparisonsAt s (d + 2) k)) q ∙ ap (holds T row) (sym defined-is))
 
   -- the range of rows: r is the row's distance from the first, and wraps where the row is before it
   module _ (r : ℕ) (from-first : (r + getD tests (l * 8 + 5) 0) % 18446744073709551616 ≡ row) (inside : r < getD tests (l * 8 + 6) 0) where
-    word : (i : ℕ) → i < 8 → getD tests (l * 8 + i) 0 ≡ getD (wordsOf cells offsets numbers n (l * 8) (getD counts l 0)) i 0
-    word i h = room .letters .tested .words l i (room .letter) h
+    word : (i : ℕ) → i < 8 → getD tests (l * 8 + i) 0 ≡ getD (wordsOf s columns n d) i 0
+    word i h = room .letters .words l i (room .letter) h
 
-    word-5 : getD tests (l * 8 + 5) 0 ≡ mostBack cells offsets (l * 8) (getD counts l 0)
-    word-5 =
-        word 5 (omega arith)
-        ∙ decided (eqb (getD counts l 0) 1)
-        (λ e. ap (λ (ws : List ℕ). getD ws 5 0) (words-one cells offsets numbers n (l * 8) (getD counts l 0) (eqb-true (getD counts l 0) 1 e)))
-        (λ e. ap (λ (ws : List ℕ). getD ws 5 0) (words-other cells offsets numbers n (l * 8) (getD counts l 0) (eqb-false (getD counts l 0) 1 e)))
+    pub defined : d ≡ 0 → ⊥
+    defined z =
+        let e : getD tests (l * 8 + 6) 0 ≡ 0 = word 6 (omega arith) ∙ ap (λ (ws : List ℕ). getD ws 6 0) (words-none s columns n d z) in
+        omega arith
 
-    word-6 : getD tests (l * 8 + 6) 0 ≡ rowsLeft cells offsets n (l * 8) (getD counts l 0)
-    word-6 =
-        word 6 (omega arith)
-        ∙ decided (eqb (getD counts l 0) 1)
-        (λ e. ap (λ (ws : List ℕ). getD ws 6 0) (words-one cells offsets numbers n (l * 8) (getD counts l 0) (eqb-true (getD counts l 0) 1 e)))
-        (λ e. ap (λ (ws : List ℕ). getD ws 6 0) (words-other cells offsets numbers n (l * 8) (getD counts l 0) (eqb-false (getD counts l 0) 1 e)))
+    abbrev many : ℕ
+    many = count defined
 
-    most-back : mostBack cells offsets (l * 8) (getD counts l 0) ≤ row
+    word-at : (i : ℕ) → i < 8 → getD tests (l * 8 + i) 0 ≡ getD (wordsAt s columns n d (d + 2) many) i 0
+    word-at i h = word i h ∙ ap (λ (ws : List ℕ). getD ws i 0) (words-some s columns n d defined)
+
+    word-5 : getD tests (l * 8 + 5) 0 ≡ mostBack s (d + 2) many
+    unfolding wordsAt
+    word-5 = word-at 5 (omega arith)
+
+    word-6 : getD tests (l * 8 + 6) 0 ≡ rowsLeft s n (d + 2) many
+    unfolding wordsAt
+    word-6 = word-at 6 (omega arith)
+
+    most-back : mostBack s (d + 2) many ≤ row
     unfolding rowsLeft
     most-back = let a = word-5 in let b = word-6 in let m = room .letters .most in omega arith
 
-    most-ahead : row + mostAhead cells offsets (l * 8) (getD counts l 0) < n
+    most-ahead : row + mostAhead s (d + 2) many < n
     unfolding rowsLeft
     most-ahead = let a = word-5 in let b = word-6 in let m = room .letters .most in omega arith
 
     is-row : row < n
     is-row = let a = most-ahead in omega arith
 
-    below-back : (k : ℕ) → k < getD counts l 0 → backAt cells offsets (l * 8 + k) ≤ row
+    below-back : (k : ℕ) → k < many → backAt s (d + 2 + k * 12) ≤ row
     unfolding mostBack
-    below-back k h = let a = most-above (λ i. backAt cells offsets (l * 8 + i)) (getD counts l 0) k h in let b = most-back in omega arith
+    below-back k h = let a = most-above (λ i. backAt s (d + 2 + i * 12)) many k h in let b = most-back in omega arith
 
-    below-ahead : (k : ℕ) → k < getD counts l 0 → row + aheadAt cells offsets (l * 8 + k) < n
+    below-ahead : (k : ℕ) → k < many → row + aheadAt s (d + 2 + k * 12) < n
     unfolding mostAhead
-    below-ahead k h = let a = most-above (λ i. aheadAt cells offsets (l * 8 + i)) (getD counts l 0) k h in let b = most-ahead in omega arith
+    below-ahead k h = let a = most-above (λ i. aheadAt s (d + 2 + i * 12)) many k h in let b = most-ahead in omega arith
+
+    -- the rows that a comparison reads are there
+    module _ (k : ℕ) (h : k < many) where
+      abbrev p : ℕ
+      p = d + 2 + k * 12
+
+      left-reached : there n (pos row +ℤ signed8 (getD s (p + 1) 0)) ≡ true
+      unfolding backAt aheadAt
+      left-reached =
+          let x = back-left (getD s (p + 3) 0) (signed8 (getD s (p + 1) 0)) (signed8 (getD s (p + 5) 0)) in
+          let y = ahead-left (getD s (p + 3) 0) (signed8 (getD s (p + 1) 0)) (signed8 (getD s (p + 5) 0)) in
+          let b = below-back k h in
+          let a = below-ahead k h in
+          reach-there n row (signed8 (getD s (p + 1) 0)) (omega arith) (omega arith)
+
+      right-reached : getD s (p + 3) 0 ≡ 1 → there n (pos row +ℤ signed8 (getD s (p + 5) 0)) ≡ true
+      unfolding backAt aheadAt
+      right-reached e =
+          let x = back-right (getD s (p + 3) 0) (signed8 (getD s (p + 1) 0)) (signed8 (getD s (p + 5) 0)) e in
+          let y = ahead-right (getD s (p + 3) 0) (signed8 (getD s (p + 1) 0)) (signed8 (getD s (p + 5) 0)) e in
+          let b = below-back k h in
+          let a = below-ahead k h in
+          reach-there n row (signed8 (getD s (p + 5) 0)) (omega arith) (omega arith)
 
     module _ (from : ℕ) (far : FarBack columns base from) where
-      pub all-there : (count : ℕ) → count ≡ getD counts l 0 → AllReads cells rows from (l * 8) count
-      all-there count e = record {
-        room = let f = room .letter in let c = room .letters .counted l (room .letter) in omega arith;
+      each-reads : (k : ℕ) → k < many → Reads s rows columns from (d + 2 + k * 12)
+      each-reads k h =
+          reads-there s rows columns n row base (at-row is-row) (d + 2 + k * 12) (body defined .stand .fits k h) (bytes defined) from far (left-reached k h) (right-reached k h)
+          (let a = body defined .stand .there in omega arith)
+
+      each-is : (k : ℕ) → k < many → readMet s rows columns from (d + 2 + k * 12) ≡ met T row (comparisonAt s (d + 2 + k * 12))
+      each-is k h = read-is s rows columns n row base (at-row is-row) (d + 2 + k * 12) (body defined .stand .fits k h) (bytes defined) from far (left-reached k h) (right-reached k h)
+
+      -- the first comparison
+      some-more : many ≡ suc (many - 1)
+      some-more = let a = body defined .one in omega arith
+
+      at-0 : d + 2 + 0 * 12 ≡ d + 2
+      at-0 = omega arith
+
+      first-reads : Reads s rows columns from (d + 2)
+      first-reads = let a = body defined .one in let z = each-reads 0 (omega arith) in rw at-0 at z
+
+      first-is : readMet s rows columns from (d + 2) ≡ met T row (comparisonAt s (d + 2 + 0 * 12))
+      first-is = ap (readMet s rows columns from) (sym at-0) ∙ each-is 0 (let a = body defined .one in omega arith)
+
+      -- those behind it
+      pub rest-reads : (x y : ℕ) → x ≡ d + 14 → y ≡ many - 1 → AllReads s rows columns from x y
+      rest-reads x y ex ey = record {
+        stand = let a = body defined .stand .there in let b = body defined .one in omega arith;
         each = λ k h.
-            let q : k < getD counts l 0 = omega arith in
-            let f = room .letter in
-            let c = room .letters .counted l (room .letter) in
-            reads-there cells offsets numbers rows columns n row base (at-row is-row) from far (l * 8 + k) (room .letters .spots l k (room .letter) q) (below-back k q) (below-ahead k q) (omega arith);
+            let e : x + k * 12 ≡ d + 2 + (suc k) * 12 = omega arith in
+            rw e (each-reads (suc k) (omega arith));
       }
 
-      all-is : allRead cells numbers rows from (l * 8) (getD counts l 0) ≡ holds (tableOf columns rows) row (cellsFrom columns cells offsets numbers (l * 8) (getD counts l 0))
-      unfolding allRead holds cellsFrom
-      all-is =
-          every-same (readMet cells numbers rows from) (λ k. l * 8 + k) (met (tableOf columns rows) row) (λ k. cellAt columns cells offsets numbers (l * 8 + k)) (getD counts l 0)
-          (λ k q. read-is cells offsets numbers rows columns n row base (at-row is-row) from far (l * 8 + k) (room .letters .spots l k (room .letter) q) (below-back k q) (below-ahead k q))
+      rest-is : allRead s rows columns from (d + 14) (many - 1) ≡ every (met T row) (tabulate (many - 1) (λ k. comparisonAt s (d + 2 + (suc k) * 12)))
+      unfolding allRead
+      rest-is =
+          every-same (readMet s rows columns from) (λ k. d + 14 + k * 12) (met T row) (λ k. comparisonAt s (d + 2 + (suc k) * 12)) (many - 1)
+          (λ k h. ap (readMet s rows columns from) (let e : d + 14 + k * 12 ≡ d + 2 + (suc k) * 12 = omega arith in e) ∙ each-is (suc k) (omega arith))
 
-      pub by-several : (t : Bool) (count : ℕ) → t ≡ allRead cells numbers rows from (l * 8) count → count ≡ getD counts l 0
-          → t ≡ (ltb row n && holds (tableOf columns rows) row (cellsFrom columns cells offsets numbers (l * 8) (getD counts l 0)))
-      by-several t count e q = rw (lt-ltb row n is-row) (e ∙ ap (allRead cells numbers rows from (l * 8)) q ∙ all-is)
+      whole : holds T row (definedAt s d) ≡ (readMet s rows columns from (d + 2) && allRead s rows columns from (d + 14) (many - 1))
+      unfolding holds comparisonsAt
+      whole =
+          ap (holds T row) (defined-is defined)
+          ∙ ap (λ (k : ℕ). every (met T row) (tabulate k (λ i. comparisonAt s (d + 2 + i * 12)))) some-more
+          ∙ every-first (met T row) (λ i. comparisonAt s (d + 2 + i * 12)) (many - 1)
+          ∙ ap (λ (t : Bool). t && every (met T row) (tabulate (many - 1) (λ k. comparisonAt s (d + 2 + (suc k) * 12)))) (sym first-is)
+          ∙ ap (λ (t : Bool). readMet s rows columns from (d + 2) && t) (sym rest-is)
 
-      -- the letter has one comparison
-      module _ (tested : getD tests (l * 8) 0 ≡ 0 → ⊥) where
-        word-0 : getD tests (l * 8) 0 ≡ getD (wordsOf cells offsets numbers n (l * 8) (getD counts l 0)) 0 0
-        word-0 = ap (λ (i : ℕ). getD tests i 0) (let e : l * 8 ≡ l * 8 + 0 = omega arith in e) ∙ word 0 (omega arith)
+      sort-is : getD tests (l * 8) 0 ≡ sortOf (getD s (d + 2 + 3) 0) many
+      unfolding wordsAt
+      sort-is = ap (λ (i : ℕ). getD tests i 0) (let e : l * 8 ≡ l * 8 + 0 = omega arith in e) ∙ word-at 0 (omega arith)
 
-        one : getD counts l 0 ≡ 1
-        one =
-            decided (eqb (getD counts l 0) 1) (λ e. eqb-true (getD counts l 0) 1 e)
-            (λ e. absurd (tested (word-0 ∙ ap (λ (ws : List ℕ). getD ws 0 0) (words-other cells offsets numbers n (l * 8) (getD counts l 0) (eqb-false (getD counts l 0) 1 e)))))
+      pub sort-least : 1 ≤ getD tests (l * 8) 0
+      sort-least = rw sort-is (sort-some (getD s (d + 2 + 3) 0) many (body defined .one))
 
-        sort-is : getD tests (l * 8) 0 ≡ sortOf (getD cells (l * 8 * 4 + 3) 0)
-        sort-is = word-0 ∙ ap (λ (ws : List ℕ). getD ws 0 0) (words-one cells offsets numbers n (l * 8) (getD counts l 0) one)
+      pub behind-first : (getD tests (l * 8) 0 - 1) / 2 ≡ many - 1
+      behind-first = rw sort-is (sort-behind (getD s (d + 2 + 3) 0) many (body defined .one))
 
-        left-is : getD tests (l * 8 + 1) 0 ≡ getD cells (l * 8 * 4) 0
-        left-is = word 1 (omega arith) ∙ ap (λ (ws : List ℕ). getD ws 1 0) (words-one cells offsets numbers n (l * 8) (getD counts l 0) one)
+      -- the first one is met or not
+      module _ (t : Bool) (is : t ≡ readMet s rows columns from (d + 2)) where
+        pub first-unmet : not t ≡ true → Says false
+        first-unmet u =
+            rw (lt-ltb row n is-row) (sym (whole ∙ ap (λ (x : Bool). x && allRead s rows columns from (d + 14) (many - 1)) (sym is ∙ not-true t u)))
 
-        right-is : getD tests (l * 8 + 2) 0 ≡ getD cells (l * 8 * 4 + 1) 0
-        right-is = word 2 (omega arith) ∙ ap (λ (ws : List ℕ). getD ws 2 0) (words-one cells offsets numbers n (l * 8) (getD counts l 0) one)
-
-        low-is : getD tests (l * 8 + 3) 0 ≡ lowOf (getD cells (l * 8 * 4 + 2) 0) (raised (getD numbers (l * 8) (pos 0)))
-        low-is = word 3 (omega arith) ∙ ap (λ (ws : List ℕ). getD ws 3 0) (words-one cells offsets numbers n (l * 8) (getD counts l 0) one)
-
-        width-is : getD tests (l * 8 + 4) 0 ≡ widthOf (getD cells (l * 8 * 4 + 2) 0) (raised (getD numbers (l * 8) (pos 0)))
-        width-is = word 4 (omega arith) ∙ ap (λ (ws : List ℕ). getD ws 4 0) (words-one cells offsets numbers n (l * 8) (getD counts l 0) one)
-
-        short : mag (getD numbers (l * 8) (pos 0)) < 2147483648
-        short = room .letters .tested .short l (room .letter) one
-
-        reads : Reads cells rows from (l * 8)
-        reads =
-            let f = one in
-            let z = all-there (getD counts l 0) refl .each 0 (omega arith) in
-            let e : l * 8 + 0 ≡ l * 8 = omega arith in
-            rw e at z
-
-        pub left-there : spotIndex from (getD tests (l * 8 + 1) 0) < length rows
-        left-there = rw left-is (reads .left)
-
-        -- it holds if what it reads is met
-        only : readMet cells numbers rows from (l * 8) ≡ holds (tableOf columns rows) row (cellsFrom columns cells offsets numbers (l * 8) (getD counts l 0))
+        pub only-first : not t ≡ false → getD tests (l * 8) 0 < 3 → Says true
         unfolding allRead every tabulate
-        only =
-            sym (ap (allRead cells numbers rows from (l * 8)) one ∙ and-true (readMet cells numbers rows from (l * 8 + 0))
-            ∙ ap (readMet cells numbers rows from) (let e : l * 8 + 0 ≡ l * 8 = omega arith in e))
-            ∙ all-is
+        only-first u h =
+            let o : many ≡ 1 = sort-one (getD s (d + 2 + 3) 0) many (body defined .one) (rw sort-is at h) in
+            rw (lt-ltb row n is-row)
+            (sym (whole ∙ ap (λ (x : Bool). x && allRead s rows columns from (d + 14) (many - 1)) (sym is ∙ not-false t u)
+            ∙ ap (allRead s rows columns from (d + 14)) (let e : many - 1 ≡ 0 = omega arith in e)))
 
-        module _ (column : getD tests (l * 8) 0 ≡ 1) where
-          is-column : getD cells (l * 8 * 4 + 3) 0 ≡ 1
-          is-column = sort-one (getD cells (l * 8 * 4 + 3) 0) (sym sort-is ∙ column)
+        pub and-rest : (x y : ℕ) (u : Bool) → not t ≡ false → x ≡ d + 14 → y ≡ (getD tests (l * 8) 0 - 1) / 2 → u ≡ allRead s rows columns from x y → Says u
+        and-rest x y u v ex ey e =
+            rw (lt-ltb row n is-row)
+            (e ∙ rw (ex, ey, behind-first) refl
+            ∙ sym (whole ∙ ap (λ (z : Bool). z && allRead s rows columns from (d + 14) (many - 1)) (sym is ∙ not-false t v)))
 
-          pub right-there : spotIndex from (getD tests (l * 8 + 2) 0) < length rows
-          right-there = rw right-is (reads .right is-column)
+      -- what the words of the first comparison say
+      left-is : getD tests (l * 8 + 1) 0 ≡ leftSpot s columns (d + 2)
+      unfolding wordsAt
+      left-is = word-at 1 (omega arith)
 
-          column-read : (a b : ℤ) → a ≡ getD rows (spotIndex from (getD tests (l * 8 + 1) 0)) (pos 0) → b ≡ getD rows (spotIndex from (getD tests (l * 8 + 2) 0)) (pos 0)
-              → readMet cells numbers rows from (l * 8) ≡ compares (getD cells (l * 8 * 4 + 2) 0) a (b +ℤ getD numbers (l * 8) (pos 0))
-          unfolding readMet
-          column-read a b ea eb =
-              simp (eq-eqb (getD cells (l * 8 * 4 + 3) 0) 1 is-column) (rw (ea, eb, left-is, right-is) refl)
+      right-is : getD tests (l * 8 + 2) 0 ≡ rightSpot s columns (d + 2)
+      unfolding wordsAt
+      right-is = word-at 2 (omega arith)
 
-          pub by-column : (a b d : ℤ) (t : Bool) → a ≡ getD rows (spotIndex from (getD tests (l * 8 + 1) 0)) (pos 0) → mag a < 2147483648
-              → b ≡ getD rows (spotIndex from (getD tests (l * 8 + 2) 0)) (pos 0) → mag b < 2147483648
-              → d ≡ toZ w64 (ofZ w64 a) -ℤ toZ w64 (ofZ w64 b) → mag d < 4294967296
-              → t ≡ within (raised (toZ w64 (ofZ w64 d))) (getD tests (l * 8 + 3) 0) (getD tests (l * 8 + 4) 0)
-              → t ≡ (ltb row n && holds (tableOf columns rows) row (cellsFrom columns cells offsets numbers (l * 8) (getD counts l 0)))
-          by-column a b d t ea ma eb mb ed md et =
-              let q : d ≡ a -ℤ b = ed ∙ ap (λ (z : ℤ). z -ℤ toZ w64 (ofZ w64 b)) (read-back a (omega arith)) ∙ ap (λ (z : ℤ). a -ℤ z) (read-back b (omega arith)) in
-              let p : toZ w64 (ofZ w64 d) ≡ a -ℤ b = read-back d (omega arith) ∙ q in
-              let k : mag (a -ℤ b) < 4294967296 = rw q at md in
-              rw (lt-ltb row n is-row)
-              (et ∙ rw (p, low-is, width-is) (column-is (getD cells (l * 8 * 4 + 2) 0) a b (getD numbers (l * 8) (pos 0)) ma mb short k)
-              ∙ sym (column-read a b ea eb) ∙ only)
+      low-is : getD tests (l * 8 + 3) 0 ≡ lowOf (getD s (d + 2 + 2) 0) (raised (numberAt s (d + 2)))
+      unfolding wordsAt
+      low-is = word-at 3 (omega arith)
 
-        module _ (number : getD tests (l * 8) 0 ≡ 1 → ⊥) where
-          is-number : getD cells (l * 8 * 4 + 3) 0 ≡ 1 → ⊥
-          is-number = sort-two (getD cells (l * 8 * 4 + 3) 0) (λ e. number (sort-is ∙ e))
+      width-is : getD tests (l * 8 + 4) 0 ≡ widthOf (getD s (d + 2 + 2) 0) (raised (numberAt s (d + 2)))
+      unfolding wordsAt
+      width-is = word-at 4 (omega arith)
 
-          number-read : (a : ℤ) → a ≡ getD rows (spotIndex from (getD tests (l * 8 + 1) 0)) (pos 0)
-              → readMet cells numbers rows from (l * 8) ≡ compares (getD cells (l * 8 * 4 + 2) 0) a (getD numbers (l * 8) (pos 0))
-          unfolding readMet
-          number-read a ea = simp (ne-eqb (getD cells (l * 8 * 4 + 3) 0) 1 is-number) (rw (ea, left-is) refl)
+      short : mag (numberAt s (d + 2)) < 2147483648
+      short = number-short s (bytes defined) (d + 2)
 
-          pub by-number : (a : ℤ) (t : Bool) → a ≡ getD rows (spotIndex from (getD tests (l * 8 + 1) 0)) (pos 0) → mag a < 2147483648
-              → t ≡ within (raised (toZ w64 (ofZ w64 a))) (getD tests (l * 8 + 3) 0) (getD tests (l * 8 + 4) 0)
-              → t ≡ (ltb row n && holds (tableOf columns rows) row (cellsFrom columns cells offsets numbers (l * 8) (getD counts l 0)))
-          by-number a t ea ma et =
-              rw (lt-ltb row n is-row)
-              (et ∙ rw (read-back a (omega arith), low-is, width-is) (number-is (getD cells (l * 8 * 4 + 2) 0) a (getD numbers (l * 8) (pos 0)) ma short)
-              ∙ sym (number-read a ea) ∙ only)
+      pub left-there : spotIndex from (getD tests (l * 8 + 1) 0) < length rows
+      left-there = rw left-is (first-reads .left)
+
+      module _ (odd : getD tests (l * 8) 0 % 2 ≡ 1) where
+        is-column : getD s (d + 2 + 3) 0 ≡ 1
+        is-column = sort-odd (getD s (d + 2 + 3) 0) many (body defined .one) (rw sort-is at odd)
+
+        pub right-there : spotIndex from (getD tests (l * 8 + 2) 0) < length rows
+        right-there = rw right-is (first-reads .right is-column)
+
+        column-read : (a b : ℤ) → a ≡ getD rows (spotIndex from (getD tests (l * 8 + 1) 0)) (pos 0) → b ≡ getD rows (spotIndex from (getD tests (l * 8 + 2) 0)) (pos 0)
+            → readMet s rows columns from (d + 2) ≡ compares (getD s (d + 2 + 2) 0) a (b +ℤ numberAt s (d + 2))
+        unfolding readMet
+        column-read a b ea eb = simp (eq-eqb (getD s (d + 2 + 3) 0) 1 is-column) (rw (ea, eb, left-is, right-is) refl)
+
+        pub by-column : (a b e : ℤ) (t : Bool) → a ≡ getD rows (spotIndex from (getD tests (l * 8 + 1) 0)) (pos 0) → mag a < 2147483648
+            → b ≡ getD rows (spotIndex from (getD tests (l * 8 + 2) 0)) (pos 0) → mag b < 2147483648
+            → e ≡ toZ w64 (ofZ w64 a) -ℤ toZ w64 (ofZ w64 b) → mag e < 4294967296
+            → t ≡ within (raised (toZ w64 (ofZ w64 e))) (getD tests (l * 8 + 3) 0) (getD tests (l * 8 + 4) 0)
+            → t ≡ readMet s rows columns from (d + 2)
+        by-column a b e t ea ma eb mb ed md et =
+            let q : e ≡ a -ℤ b = ed ∙ ap (λ (z : ℤ). z -ℤ toZ w64 (ofZ w64 b)) (read-back a (omega arith)) ∙ ap (λ (z : ℤ). a -ℤ z) (read-back b (omega arith)) in
+            let v : toZ w64 (ofZ w64 e) ≡ a -ℤ b = read-back e (omega arith) ∙ q in
+            let k : mag (a -ℤ b) < 4294967296 = rw q at md in
+            et ∙ rw (v, low-is, width-is) (column-is (getD s (d + 2 + 2) 0) a b (numberAt s (d + 2)) ma mb short k)
+            ∙ sym (column-read a b ea eb)
+
+      module _ (even : getD tests (l * 8) 0 % 2 ≡ 1 → ⊥) where
+        is-number : getD s (d + 2 + 3) 0 ≡ 1 → ⊥
+        is-number = sort-even (getD s (d + 2 + 3) 0) many (body defined .one) (λ e. even (rw sort-is e))
+
+        number-read : (a : ℤ) → a ≡ getD rows (spotIndex from (getD tests (l * 8 + 1) 0)) (pos 0)
+            → readMet s rows columns from (d + 2) ≡ compares (getD s (d + 2 + 2) 0) a (numberAt s (d + 2))
+        unfolding readMet
+        number-read a ea = simp (ne-eqb (getD s (d + 2 + 3) 0) 1 is-number) (rw (ea, left-is) refl)
+
+        pub by-number : (a : ℤ) (t : Bool) → a ≡ getD rows (spotIndex from (getD tests (l * 8 + 1) 0)) (pos 0) → mag a < 2147483648
+            → t ≡ within (raised (toZ w64 (ofZ w64 a))) (getD tests (l * 8 + 3) 0) (getD tests (l * 8 + 4) 0)
+            → t ≡ readMet s rows columns from (d + 2)
+        by-number a t ea ma et =
+            et ∙ rw (read-back a (omega arith), low-is, width-is) (number-is (getD s (d + 2 + 2) 0) a (numberAt s (d + 2)) ma short)
+            ∙ sym (number-read a ea)

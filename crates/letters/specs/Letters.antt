@@ -1,15 +1,15 @@
--- What the test of a letter needs of the rows and of the decoded arrays, and a comparison by its parts.
+-- What the test of a letter needs of the rows and of the query's bytes, and a comparison by what it reads.
 use mathlib.Core.Path.{_≡_}
-use mathlib.Core.Bool.{Bool, false}
+use mathlib.Core.Bool.{Bool, true, false}
 use mathlib.Core.List.{List}
-use mathlib.Core.Option.{some}
-use Prim.Native.Nat.{ℕ, _+_, _*_, _-_, _%_, _≤_, _<_}
+use Prim.Native.Nat.{ℕ, _+_, _*_, _-_, _/_, _%_, _≤_, _<_}
 use lib.Dec.{ltb, eqb}
 use lib.IntN.{ℤ, pos, negsuc, _+ℤ_}
 use lib.ListN.{length, getD}
-use Rattle.rules.specs.Basics.{pick, every, tabulate}
-use Rattle.rules.specs.Rows.{Table, entryAt, compares, plusNumber, metBy}
-use Rattle.decode.specs.Layout.{SpotFor, Spots}
+use Rattle.rules.specs.Basics.{pick, every, tabulate, le32, signed8, signed32}
+use Rattle.rules.specs.Query.{comparisonFits}
+use Rattle.rules.specs.Rows.{compares}
+use Rattle.decode.specs.Layout.{Stand}
 
 -- 1 where the test is true
 unfoldable pub flagOf : Bool → ℕ
@@ -29,37 +29,22 @@ pub record At (rows : List ℤ) (columns n row base : ℕ) : Type 0 where
   pub is-row : row < n
   pub first : base ≡ row * columns
 
--- the entry at a spot lies in the rows
-pub record EntryThere (rows : List ℤ) (columns base spot : ℕ) : Type 0 where
-  pub few : columns ≤ 8
-  pub small : base < 32768
-  pub short : spot < 65536
-  pub behind : columns * 64 ≤ base + spot
-  pub inside : base + spot - columns * 64 < length rows
+-- ---- spots: where an entry lies that a comparison reads, counted in entries from 64 rows before the row on
 
--- a comparison whose left entry is a, and whose right column is that of the spot
-unfoldable pub rightMet : Table → ℕ → ℕ → ℤ → ℕ → ℕ → ℤ → ℤ → Bool
-unfolding metBy plusNumber entryAt
-rightMet t row operator a kind spot offset number =
-    metBy operator (some a) (pick (eqb kind 1) (plusNumber number (entryAt t (pos row +ℤ offset) (spot % t .columns))) (some number))
+-- the spot of a column, by the offset's byte: row 64 moved by the offset, and there the column
+unfoldable pub spotOf : ℕ → ℕ → ℕ → ℕ
+spotOf columns offset column = (offset + 64) % 256 * columns + column
 
-pub record RightRoom (rows : List ℤ) (columns n row base spot : ℕ) (offset : ℤ) : Type 0 where
-  pub at : At rows columns n row base
-  pub short : spot < 65536
-  pub spot-for : SpotFor columns spot offset
+-- a spot is for this offset
+abbrev pub SpotFor : ℕ → ℕ → ℤ → Type 0
+SpotFor columns spot offset = pos (spot / columns) ≡ pos 64 +ℤ offset
 
-pub record CellRoom (cells : List ℕ) (offsets : List ℤ) (g : ℕ) (rows : List ℤ) (columns n row base : ℕ) : Type 0 where
-  pub at : At rows columns n row base
-  pub room : g < 208
-  pub spots : Spots columns cells offsets g
+-- the left and the right spot of the comparison at index p of the query
+abbrev pub leftSpot : List ℕ → ℕ → ℕ → ℕ
+leftSpot s columns p = spotOf columns (getD s (p + 1) 0) (getD s p 0)
 
--- the arrays hold `count` comparisons from number g on, as a decoded query's do
-pub record CellsRoom (cells : List ℕ) (offsets : List ℤ) (count g : ℕ) (rows : List ℤ) (columns n row base : ℕ) : Type 0 where
-  pub at : At rows columns n row base
-  pub room : g + count ≤ 208
-  pub spots : (k : ℕ) → k < count → Spots columns cells offsets (g + k)
-
--- ---- comparisons all of whose rows are there
+abbrev pub rightSpot : List ℕ → ℕ → ℕ → ℕ
+rightSpot s columns p = spotOf columns (getD s (p + 5) 0) (getD s (p + 4) 0)
 
 -- The index 64 rows before base, where spot 0 lies. It wraps at 2 ^ 64 where that is before the first entry.
 pub record FarBack (columns base from : ℕ) : Type 0 where
@@ -70,24 +55,53 @@ pub record FarBack (columns base from : ℕ) : Type 0 where
 unfoldable pub spotIndex : ℕ → ℕ → ℕ
 spotIndex from spot = (from + spot) % 18446744073709551616
 
--- comparison number g: its left entry against its number, or against its right entry plus the number
-unfoldable pub readMet : List ℕ → List ℤ → List ℤ → ℕ → ℕ → Bool
-unfolding spotIndex
-readMet cells numbers rows from g =
-    compares (getD cells (g * 4 + 2) 0) (getD rows (spotIndex from (getD cells (g * 4) 0)) (pos 0))
-    (pick (eqb (getD cells (g * 4 + 3) 0) 1) (getD rows (spotIndex from (getD cells (g * 4 + 1) 0)) (pos 0) +ℤ getD numbers g (pos 0)) (getD numbers g (pos 0)))
+-- ---- comparisons all of whose rows are there
 
--- the entries that it reads are there
-pub record Reads (cells : List ℕ) (rows : List ℤ) (from g : ℕ) : Type 0 where
-  pub room : g < 208
-  pub left : spotIndex from (getD cells (g * 4) 0) < length rows
-  pub right : getD cells (g * 4 + 3) 0 ≡ 1 → spotIndex from (getD cells (g * 4 + 1) 0) < length rows
+-- the number of the comparison at index p
+abbrev pub numberAt : List ℕ → ℕ → ℤ
+numberAt s p = signed32 (le32 s (p + 8))
 
--- the `count` comparisons from number g on
-unfoldable pub allRead : List ℕ → List ℤ → List ℤ → ℕ → ℕ → ℕ → Bool
+-- the comparison at index p: its left entry against its number, or against its right entry plus the number
+unfoldable pub readMet : List ℕ → List ℤ → ℕ → ℕ → ℕ → Bool
+unfolding spotIndex spotOf signed32 le32
+readMet s rows columns from p =
+    compares (getD s (p + 2) 0) (getD rows (spotIndex from (leftSpot s columns p)) (pos 0))
+    (pick (eqb (getD s (p + 3) 0) 1) (getD rows (spotIndex from (rightSpot s columns p)) (pos 0) +ℤ numberAt s p) (numberAt s p))
+
+-- it stands in the query, and the entries that it reads are there
+pub record Reads (s : List ℕ) (rows : List ℤ) (columns from p : ℕ) : Type 0 where
+  pub few : columns ≤ 8
+  pub stands : p + 12 ≤ length s
+  pub left : spotIndex from (leftSpot s columns p) < length rows
+  pub right : getD s (p + 3) 0 ≡ 1 → spotIndex from (rightSpot s columns p) < length rows
+
+-- the `count` comparisons from index p on
+unfoldable pub allRead : List ℕ → List ℤ → ℕ → ℕ → ℕ → ℕ → Bool
 unfolding every tabulate readMet
-allRead cells numbers rows from g count = every (readMet cells numbers rows from) (tabulate count (λ k. g + k))
+allRead s rows columns from p count = every (readMet s rows columns from) (tabulate count (λ k. p + k * 12))
 
-pub record AllReads (cells : List ℕ) (rows : List ℤ) (from g count : ℕ) : Type 0 where
-  pub room : g + count ≤ 208
-  pub each : (k : ℕ) → k < count → Reads cells rows from (g + k)
+pub record AllReads (s : List ℕ) (rows : List ℤ) (columns from p count : ℕ) : Type 0 where
+  pub stand : p + count * 12 ≤ length s
+  pub each : (k : ℕ) → k < count → Reads s rows columns from (p + k * 12)
+
+-- ---- comparisons at a row
+
+-- all bytes of the query are bytes, as its type says
+abbrev pub Bytes : List ℕ → Type 0
+Bytes s = (i : ℕ) → getD s i 0 < 256
+
+-- whether the row is there to which the signed byte at index i moves the row index
+pub record Side (s : List ℕ) (i row n : ℕ) (r : Bool) : Type 0 where
+  pub is : r ≡ there n (pos row +ℤ signed8 (getD s i 0))
+  pub bytes : Bytes s
+
+-- the comparison at index p stands in the query, and its fields fit
+pub record CellRoom (s : List ℕ) (p : ℕ) (rows : List ℤ) (columns n row base : ℕ) : Type 0 where
+  pub at : At rows columns n row base
+  pub stands : p + 12 ≤ length s
+  pub fits : comparisonFits s columns p ≡ true
+
+-- `count` of them from index p on
+pub record CellsRoom (s : List ℕ) (count p : ℕ) (rows : List ℤ) (columns n row base : ℕ) : Type 0 where
+  pub at : At rows columns n row base
+  pub stand : Stand s columns p count

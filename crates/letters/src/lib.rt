@@ -1,19 +1,21 @@
-// Whether a letter holds at a row, over a query's decoded comparisons: the search asks this for every letter place that it enters.
-// A table made before the search (specs/Tests) has for each letter the range of rows at which all rows that it reads are there, and for a letter of exactly
-// one comparison an interval for what it reads. In the range no row is asked for; outside, near the ends of the partition, each comparison moves the row
-// index by its signed bytes and looks. A comparison costs no product: an entry's index follows from that of the row's first entry and the decoded spot.
+// Whether a letter holds at a row, over a query's comparisons where they stand, 12 bytes each: the search asks this for every letter place that it enters.
+// A table made before the search (specs/Tests) has for each letter the range of rows at which all rows that it reads are there, an interval for what its first
+// comparison reads, and where its DEFINE stands. In the range no row is asked for; outside, near the ends of the partition, each comparison moves the row index
+// by its signed bytes and looks. The first comparison costs no product, as its entries are found by spots in the table; those behind it cost two.
 ghost use mathlib.Core.Path.{_≡_};
 ghost use mathlib.Core.Bool.{true, false, _&&_};
-ghost use Prim.Native.Nat.{_+_, _*_, _-_, _≤_, _<_, max};
+ghost use Prim.Native.Nat.{_+_, _*_, _-_, _/_, _≤_, _<_, max};
 ghost use lib.Dec.{ltb};
 ghost use lib.IntN.{ℤ, pos, _+ℤ_, _-ℤ_};
 ghost use lib.Signed.{ltZ, leZ, mag};
 ghost use lib.ListN.{length, getD};
+ghost use Rattle.rules.specs.Basics.{le32, signed8, signed32};
+ghost use Rattle.rules.specs.Query.{comparisonAt};
 ghost use Rattle.rules.specs.Rows.{tableOf, compares, met, holds};
-ghost use Rattle.decode.specs.Layout.{cellAt, cellsFrom};
+ghost use Rattle.decode.specs.Layout.{comparisonsAt, definedAt};
 ghost use Rattle.letters.specs.Tests.{sortOf, raised, lowOf, widthOf, backOf, aheadOf, backBoth, aheadBoth, backAt, aheadAt, mostBack, mostAhead};
-ghost use Rattle.letters.specs.Tests.{within, setSeven, setRange, LowAt, PutRoom, PutTest, Preparable, Tested, TestRoom};
-ghost use Rattle.letters.specs.Letters.{flagOf, there, EntryThere, rightMet, RightRoom, CellRoom, CellsRoom, spotIndex, readMet, Reads, allRead, AllReads, FarBack};
+ghost use Rattle.letters.specs.Tests.{within, setEight, DefineRoom, PutRoom, PutTest, Preparable, Prepared, TestRoom};
+ghost use Rattle.letters.specs.Letters.{flagOf, there, spotOf, spotIndex, readMet, Reads, allRead, AllReads, FarBack, Side, CellRoom, CellsRoom};
 
 // Numbers as wider ones.
 fn long(x: i32) -> i64
@@ -24,12 +26,6 @@ fn long(x: i32) -> i64
 
 fn byte(x: u8) -> usize
     ensures { λ r. ⌜ (r ≡ x) × (r < 256) ⌝ }
-{
-    x as usize
-}
-
-fn wide(x: u16) -> usize
-    ensures { λ r. ⌜ (r ≡ x) × (r < 65536) ⌝ }
 {
     x as usize
 }
@@ -75,14 +71,6 @@ fn row_there(row: usize, offset: i8, n: usize) -> bool
     to < n as i64
 }
 
-// The entry at a spot, as seen from the row whose first entry is at index base.
-fn entry_at(rows: &[i32], columns: usize, base: usize, spot: usize) -> i64
-    requires { ⌜ EntryThere (now rows) columns base spot ⌝ }
-    ensures { λ r. ⌜ (r ≡ getD (now (rows .entry)) (base + spot - columns * 64) (pos 0)) × (mag r < 2147483648) ⌝ }
-{
-    long(rows[base + spot - columns * 64])
-}
-
 // The sum of an entry and a number.
 fn plus_number(a: i64, number: i32) -> i64
     requires { ⌜ mag a < 2147483648 ⌝ }
@@ -91,94 +79,56 @@ fn plus_number(a: i64, number: i32) -> i64
     a + long(number)
 }
 
-// A comparison whose left entry is a.
-fn right_met(
-    rows: &[i32],
-    columns: usize,
-    n: usize,
-    row: usize,
-    base: usize,
-    a: i64,
-    operator: usize,
-    kind: usize,
-    spot: usize,
-    offset: i8,
-    number: i32,
-) -> bool
-    requires { ⌜ RightRoom (now rows) columns n row base spot offset ⌝ }
-    ensures { λ r. ⌜ r ≡ rightMet (tableOf columns (now (rows .entry))) row operator a kind spot offset number ⌝ }
+// ---- a comparison's fields, in the query
+
+fn part(x: u8) -> u32
+    ensures { λ r. ⌜ (r ≡ x) × (r < 256) ⌝ }
 {
-    if kind != 1 {
-        return compare(operator, a, long(number));
-    }
-    if !row_there(row, offset, n) {
-        return false;
-    }
-    let b = entry_at(rows, columns, base, spot);
-    compare(operator, a, plus_number(b, number))
+    x as u32
 }
 
-// Comparison number g at a row.
-fn cell_met(
-    cells: &[u16; 832],
-    offsets: &[i8; 416],
-    numbers: &[i32; 208],
-    g: usize,
-    rows: &[i32],
-    columns: usize,
-    n: usize,
-    row: usize,
-    base: usize,
-) -> bool
-    requires { ⌜ CellRoom (now cells) (now offsets) g (now rows) columns n row base ⌝ }
-    ensures { λ r. ⌜ r ≡ met (tableOf columns (now (rows .entry))) row (cellAt columns (now (cells .entry)) (now (offsets .entry)) (now (numbers .entry)) g) ⌝ }
+// The word in four bytes, the lowest first.
+fn word_at(s: &[u8], at: usize) -> u32
+    requires { ⌜ at + 3 < length (now s) ⌝ }
+    ensures { λ r. ⌜ r ≡ le32 (now (s .entry)) at ⌝ }
 {
-    let at = g * 4;
-    if !row_there(row, offsets[g * 2], n) {
-        return false;
-    }
-    let a = entry_at(rows, columns, base, wide(cells[at]));
-    right_met(
-        rows,
-        columns,
-        n,
-        row,
-        base,
-        a,
-        wide(cells[at + 2]),
-        wide(cells[at + 3]),
-        wide(cells[at + 1]),
-        offsets[g * 2 + 1],
-        numbers[g],
-    )
+    part(s[at]) + part(s[at + 1]) * 256 + part(s[at + 2]) * 65536 + part(s[at + 3]) * 16777216
 }
 
-// The first `count` comparisons from number g on, at a row whose first entry is at index base: judged in order, up to the first that is not met.
-// A recursion, at most 8 deep for a letter, whose call is not its last step: so it stays a call of its own, which keeps it out of the walk's loop.
-fn several_hold(
-    cells: &[u16; 832],
-    offsets: &[i8; 416],
-    numbers: &[i32; 208],
-    count: usize,
-    g: usize,
-    rows: &[i32],
-    columns: usize,
-    n: usize,
-    row: usize,
-    base: usize,
-) -> bool
-    requires { ⌜ CellsRoom (now cells) (now offsets) count g (now rows) columns n row base ⌝ }
-    ensures { λ r. ⌜ r ≡ holds (tableOf columns (now (rows .entry))) row
-        (cellsFrom columns (now (cells .entry)) (now (offsets .entry)) (now (numbers .entry)) g count) ⌝ }
+// A byte, and a word, as a signed number in two's complement.
+fn signed_byte(b: u8) -> i8
+    ensures { λ r. ⌜ (r ≡ signed8 b) × (mag r < 128) ⌝ }
 {
-    if count == 0 {
-        return true;
+    if b < 128 {
+        return b as i8;
     }
-    let k = count - 1;
-    if !several_hold(cells, offsets, numbers, k, g, rows, columns, n, row, base) {
-        return false;
+    -1 - ((255 - b) as i8)
+}
+
+fn signed_word(w: u32) -> i32
+    ensures { λ r. ⌜ (r ≡ signed32 w) × (mag r < 2147483648) ⌝ }
+{
+    if w < 2147483648 {
+        return w as i32;
     }
-    cell_met(cells, offsets, numbers, g + k, rows, columns, n, row, base)
+    -1 - ((4294967295 - w) as i32)
+}
+
+// The number of the comparison at index p.
+fn number_at(s: &[u8], p: usize) -> i32
+    requires { ⌜ p + 12 ≤ length (now s) ⌝ }
+    ensures { λ r. ⌜ (r ≡ signed32 (le32 (now (s .entry)) (p + 8))) × (mag r < 2147483648) ⌝ }
+{
+    signed_word(word_at(s, p + 8))
+}
+
+// The spot of the entry whose column is byte i of the query, and whose offset the byte behind it: row 64 moved by the offset, and there the column. The byte
+// is the offset modulo 256, so row 64 moved is a sum modulo 256.
+fn spot_at(s: &[u8], columns: usize, i: usize) -> u64
+    requires { ⌜ (columns ≤ 8) × (i + 1 < length (now s)) ⌝ }
+    ensures { λ r. ⌜ r ≡ spotOf columns (getD (now (s .entry)) (i + 1) 0) (getD (now (s .entry)) i 0) ⌝ }
+{
+    ((byte(s[i + 1]) + 64) % 256 * columns + byte(s[i])) as u64
 }
 
 // ---- comparisons all of whose rows are there
@@ -199,35 +149,28 @@ fn entry_from(rows: &[i32], from: u64, spot: u64) -> i64
     long(rows[std::num::wrapping_add_u64(from, spot) as usize])
 }
 
-// Comparison number g.
-fn read_met(cells: &[u16; 832], numbers: &[i32; 208], g: usize, rows: &[i32], from: u64) -> bool
-    requires { ⌜ Reads (now cells) (now rows) from g ⌝ }
-    ensures { λ r. ⌜ r ≡ readMet (now (cells .entry)) (now (numbers .entry)) (now (rows .entry)) from g ⌝ }
+// The comparison at index p.
+fn read_met(query: &[u8], p: usize, rows: &[i32], columns: usize, from: u64) -> bool
+    requires { ⌜ Reads (now query) (now rows) columns from p ⌝ }
+    ensures { λ r. ⌜ r ≡ readMet (now (query .entry)) (now (rows .entry)) columns from p ⌝ }
 {
-    let at = g * 4;
-    let a = entry_from(rows, from, word(cells[at]));
-    if wide(cells[at + 3]) != 1 {
-        return compare(wide(cells[at + 2]), a, long(numbers[g]));
+    let a = entry_from(rows, from, spot_at(query, columns, p));
+    let number = number_at(query, p);
+    if query[p + 3] != 1 {
+        return compare(byte(query[p + 2]), a, long(number));
     }
-    let b = entry_from(rows, from, word(cells[at + 1]));
-    compare(wide(cells[at + 2]), a, plus_number(b, numbers[g]))
+    let b = entry_from(rows, from, spot_at(query, columns, p + 4));
+    compare(byte(query[p + 2]), a, plus_number(b, number))
 }
 
-// The `count` comparisons from number g on, up to the first that is not met.
-fn all_met(
-    cells: &[u16; 832],
-    numbers: &[i32; 208],
-    g: usize,
-    count: usize,
-    rows: &[i32],
-    from: u64,
-) -> bool
-    requires { ⌜ AllReads (now cells) (now rows) from g count ⌝ }
-    ensures { λ r. ⌜ r ≡ allRead (now (cells .entry)) (now (numbers .entry)) (now (rows .entry)) from g count ⌝ }
+// The `count` comparisons from index p on, up to the first that is not met.
+fn all_met(query: &[u8], p: usize, count: usize, rows: &[i32], columns: usize, from: u64) -> bool
+    requires { ⌜ AllReads (now query) (now rows) columns from p count ⌝ }
+    ensures { λ r. ⌜ r ≡ allRead (now (query .entry)) (now (rows .entry)) columns from p count ⌝ }
 {
     let mut k = 0;
     while k < count {
-        if !read_met(cells, numbers, g + k, rows, from) {
+        if !read_met(query, p + k * 12, rows, columns, from) {
             return false;
         }
         k += 1;
@@ -235,13 +178,68 @@ fn all_met(
     true
 }
 
-// ---- the table of tests
+// ---- comparisons near the ends of the partition
 
-fn word(x: u16) -> u64
-    ensures { λ r. ⌜ (r ≡ x) × (r < 65536) ⌝ }
+// Whether the row is there to which the signed byte at index i of the query moves the row index.
+fn side_there(query: &[u8], i: usize, row: usize, n: usize) -> bool
+    requires { ⌜ (i < length (now query)) × (row < n) × (n ≤ 4096) ⌝ }
+    ensures { λ r. ⌜ Side (now (query .entry)) i row n r ⌝ }
 {
-    x as u64
+    row_there(row, signed_byte(query[i]), n)
 }
+
+// The comparison at index p, at a row whose first entry is at index base.
+fn cell_met(
+    query: &[u8],
+    p: usize,
+    rows: &[i32],
+    columns: usize,
+    n: usize,
+    row: usize,
+    base: usize,
+) -> bool
+    requires { ⌜ CellRoom (now query) p (now rows) columns n row base ⌝ }
+    ensures { λ r. ⌜ r ≡ met (tableOf columns (now (rows .entry))) row (comparisonAt (now (query .entry)) p) ⌝ }
+{
+    if !side_there(query, p + 1, row, n) {
+        return false;
+    }
+    let from = far_back(columns, base);
+    if query[p + 3] == 1 {
+        if !side_there(query, p + 5, row, n) {
+            return false;
+        }
+        return read_met(query, p, rows, columns, from);
+    }
+    read_met(query, p, rows, columns, from)
+}
+
+// The first `count` comparisons from index p on, at a row whose first entry is at index base: judged in order, up to the first that is not met.
+// A recursion, at most 8 deep for a letter, whose call is not its last step: so it stays a call of its own, which keeps it out of the walk's loop.
+fn several_hold(
+    query: &[u8],
+    count: usize,
+    p: usize,
+    rows: &[i32],
+    columns: usize,
+    n: usize,
+    row: usize,
+    base: usize,
+) -> bool
+    requires { ⌜ CellsRoom (now query) count p (now rows) columns n row base ⌝ }
+    ensures { λ r. ⌜ r ≡ holds (tableOf columns (now (rows .entry))) row (comparisonsAt (now (query .entry)) p count) ⌝ }
+{
+    if count == 0 {
+        return true;
+    }
+    let k = count - 1;
+    if !several_hold(query, k, p, rows, columns, n, row, base) {
+        return false;
+    }
+    cell_met(query, p + k * 12, rows, columns, n, row, base)
+}
+
+// ---- the table of tests
 
 fn larger(a: u64, b: u64) -> u64
     ensures { λ r. ⌜ r ≡ max a b ⌝ }
@@ -270,10 +268,15 @@ fn raise_number(number: i32) -> u64
     raise(long(number))
 }
 
-fn sort_of(kind: usize) -> u64
-    ensures { λ r. ⌜ r ≡ sortOf kind ⌝ }
+// Word 0: twice the comparisons, less 1 where the right side of the first has a column.
+fn sort_of(kind: usize, count: usize) -> u64
+    requires { ⌜ (1 ≤ count) × (count ≤ 8) ⌝ }
+    ensures { λ r. ⌜ r ≡ sortOf kind count ⌝ }
 {
-    if kind == 1 { 1 } else { 2 }
+    if kind == 1 {
+        return count as u64 * 2 - 1;
+    }
+    count as u64 * 2
 }
 
 // The interval of an operator and a number, raised.
@@ -359,64 +362,51 @@ fn ahead_both(kind: usize, left: i8, right: i8) -> u64
     larger(ahead_of(left), ahead_of(right))
 }
 
-// The words of comparison number g.
-fn sort_at(cells: &[u16; 832], g: usize) -> u64
-    requires { ⌜ g < 208 ⌝ }
-    ensures { λ r. ⌜ r ≡ sortOf (getD (now (cells .entry)) (g * 4 + 3) 0) ⌝ }
+// How many rows back, and ahead, the comparison at index p reads.
+fn back_at(query: &[u8], p: usize) -> u64
+    requires { ⌜ p + 12 ≤ length (now query) ⌝ }
+    ensures { λ r. ⌜ (r ≡ backAt (now (query .entry)) p) × (r ≤ 128) ⌝ }
 {
-    sort_of(wide(cells[g * 4 + 3]))
+    back_both(
+        byte(query[p + 3]),
+        signed_byte(query[p + 1]),
+        signed_byte(query[p + 5]),
+    )
 }
 
-fn low_at(cells: &[u16; 832], numbers: &[i32; 208], g: usize) -> u64
-    requires { ⌜ g < 208 ⌝ }
-    ensures { λ r. ⌜ LowAt (now (cells .entry)) (now (numbers .entry)) g r ⌝ }
+fn ahead_at(query: &[u8], p: usize) -> u64
+    requires { ⌜ p + 12 ≤ length (now query) ⌝ }
+    ensures { λ r. ⌜ (r ≡ aheadAt (now (query .entry)) p) × (r ≤ 127) ⌝ }
 {
-    low_of(wide(cells[g * 4 + 2]), raise_number(numbers[g]))
+    ahead_both(
+        byte(query[p + 3]),
+        signed_byte(query[p + 1]),
+        signed_byte(query[p + 5]),
+    )
 }
 
-fn width_at(cells: &[u16; 832], numbers: &[i32; 208], g: usize) -> u64
-    requires { ⌜ g < 208 ⌝ }
-    ensures { λ r. ⌜ r ≡ widthOf (getD (now (cells .entry)) (g * 4 + 2) 0) (raised (getD (now (numbers .entry)) g (pos 0))) ⌝ }
-{
-    width_of(wide(cells[g * 4 + 2]), raise_number(numbers[g]))
-}
-
-fn back_at(cells: &[u16; 832], offsets: &[i8; 416], g: usize) -> u64
-    requires { ⌜ g < 208 ⌝ }
-    ensures { λ r. ⌜ (r ≡ backAt (now (cells .entry)) (now (offsets .entry)) g) × (r ≤ 128) ⌝ }
-{
-    back_both(wide(cells[g * 4 + 3]), offsets[g * 2], offsets[g * 2 + 1])
-}
-
-fn ahead_at(cells: &[u16; 832], offsets: &[i8; 416], g: usize) -> u64
-    requires { ⌜ g < 208 ⌝ }
-    ensures { λ r. ⌜ (r ≡ aheadAt (now (cells .entry)) (now (offsets .entry)) g) × (r ≤ 127) ⌝ }
-{
-    ahead_both(wide(cells[g * 4 + 3]), offsets[g * 2], offsets[g * 2 + 1])
-}
-
-// How many rows back, and ahead, the `count` comparisons from number g on read at the most.
-fn most_back(cells: &[u16; 832], offsets: &[i8; 416], g: usize, count: usize) -> u64
-    requires { ⌜ g + count ≤ 208 ⌝ }
-    ensures { λ r. ⌜ (r ≡ mostBack (now (cells .entry)) (now (offsets .entry)) g count) × (r ≤ 128) ⌝ }
+// How many rows back, and ahead, the `count` comparisons from index p on read at the most.
+fn most_back(query: &[u8], p: usize, count: usize) -> u64
+    requires { ⌜ p + count * 12 ≤ length (now query) ⌝ }
+    ensures { λ r. ⌜ (r ≡ mostBack (now (query .entry)) p count) × (r ≤ 128) ⌝ }
 {
     let mut most = 0;
     let mut k = 0;
     while k < count {
-        most = larger(most, back_at(cells, offsets, g + k));
+        most = larger(most, back_at(query, p + k * 12));
         k += 1;
     }
     most
 }
 
-fn most_ahead(cells: &[u16; 832], offsets: &[i8; 416], g: usize, count: usize) -> u64
-    requires { ⌜ g + count ≤ 208 ⌝ }
-    ensures { λ r. ⌜ (r ≡ mostAhead (now (cells .entry)) (now (offsets .entry)) g count) × (r ≤ 127) ⌝ }
+fn most_ahead(query: &[u8], p: usize, count: usize) -> u64
+    requires { ⌜ p + count * 12 ≤ length (now query) ⌝ }
+    ensures { λ r. ⌜ (r ≡ mostAhead (now (query .entry)) p count) × (r ≤ 127) ⌝ }
 {
     let mut most = 0;
     let mut k = 0;
     while k < count {
-        most = larger(most, ahead_at(cells, offsets, g + k));
+        most = larger(most, ahead_at(query, p + k * 12));
         k += 1;
     }
     most
@@ -432,9 +422,10 @@ fn put_words(
     e: u64,
     f: u64,
     g: u64,
+    h: u64,
 )
-    requires { ⌜ at < 202 ⌝ }
-    ensures { λ r. ⌜ now (tests .exit) ≡ setSeven (now (tests .entry)) at a b c d e f g ⌝ }
+    requires { ⌜ at < 201 ⌝ }
+    ensures { λ r. ⌜ now (tests .exit) ≡ setEight (now (tests .entry)) at a b c d e f g h ⌝ }
 {
     tests[at] = a;
     tests[at + 1] = b;
@@ -443,70 +434,59 @@ fn put_words(
     tests[at + 4] = e;
     tests[at + 5] = f;
     tests[at + 6] = g;
+    tests[at + 7] = h;
 }
 
-// The range of rows alone: words 5 and 6.
-fn put_range(tests: &mut [u64; 208], at: usize, back: u64, rest: u64)
-    requires { ⌜ at < 202 ⌝ }
-    ensures { λ r. ⌜ now (tests .exit) ≡ setRange (now (tests .entry)) at back rest ⌝ }
+// The words of letter l, whose DEFINE's body starts at index d.
+fn put_define(query: &[u8], columns: usize, n: usize, l: usize, d: usize, tests: &mut [u64; 208])
+    requires { ⌜ DefineRoom (now query) columns l d (now tests) ⌝ }
+    ensures { λ r. ⌜ PutTest (now (query .entry)) columns n l d (now (tests .entry)) (now (tests .exit)) ⌝ }
 {
-    tests[at + 5] = back;
-    tests[at + 6] = rest;
-}
-
-// The words of letter l: all with exactly one comparison, else the range alone, which is all rows without a comparison.
-fn put_test(
-    cells: &[u16; 832],
-    offsets: &[i8; 416],
-    numbers: &[i32; 208],
-    counts: &[u8; 26],
-    n: usize,
-    l: usize,
-    tests: &mut [u64; 208],
-)
-    requires { ⌜ PutRoom (now counts) l (now tests) ⌝ }
-    ensures { λ r. ⌜ PutTest (now (cells .entry)) (now (offsets .entry)) (now (numbers .entry)) (now (counts .entry)) n l (now (tests .entry)) (now (tests .exit)) ⌝ }
-{
-    let count = byte(counts[l]);
-    let g = l * 8;
-    if count == 0 {
-        put_range(tests, g, 0, n as u64);
-        return;
-    }
-    let back = most_back(cells, offsets, g, count);
-    let rest = left_over(n, back + most_ahead(cells, offsets, g, count));
-    if count != 1 {
-        put_range(tests, g, back, rest);
-        return;
-    }
+    let count = byte(query[d + 1]);
+    let p = d + 2;
+    let op = byte(query[p + 2]);
+    let x = raise_number(number_at(query, p));
+    let back = most_back(query, p, count);
+    let ahead = most_ahead(query, p, count);
     put_words(
         tests,
-        g,
-        sort_at(cells, g),
-        word(cells[g * 4]),
-        word(cells[g * 4 + 1]),
-        low_at(cells, numbers, g),
-        width_at(cells, numbers, g),
+        l * 8,
+        sort_of(byte(query[p + 3]), count),
+        spot_at(query, columns, p),
+        spot_at(query, columns, p + 4),
+        low_of(op, x),
+        width_of(op, x),
         back,
-        rest,
+        left_over(n, back + ahead),
+        d as u64,
     );
 }
 
-// The tests of all letters, over a query's decoded comparisons and n rows.
+// The words of letter l; it has none where there is no DEFINE of it.
+fn put_test(query: &[u8], columns: usize, n: usize, l: usize, d: usize, tests: &mut [u64; 208])
+    requires { ⌜ PutRoom (now query) columns l d (now tests) ⌝ }
+    ensures { λ r. ⌜ PutTest (now (query .entry)) columns n l d (now (tests .entry)) (now (tests .exit)) ⌝ }
+{
+    if d == 0 {
+        return;
+    }
+    put_define(query, columns, n, l, d, tests);
+}
+
+// The tests of all letters, over a query's DEFINEs and n rows. A letter without DEFINE keeps its zeros.
 pub fn prepare(
-    cells: &[u16; 832],
-    offsets: &[i8; 416],
-    numbers: &[i32; 208],
-    counts: &[u8; 26],
+    query: &[u8],
+    columns: usize,
     n: usize,
+    defines: &[usize; 26],
     tests: &mut [u64; 208],
 )
-    requires { ⌜ Preparable (now counts) (now tests) ⌝ }
-    ensures { λ r. ⌜ Tested (now (cells .entry)) (now (offsets .entry)) (now (numbers .entry)) (now (counts .entry)) n (now (tests .exit)) ⌝ }
+    requires { ⌜ Preparable (now query) columns (now defines) (now tests) ⌝ }
+    ensures { λ r. ⌜ Prepared (now (query .entry)) columns n (now (defines .entry)) (now (tests .exit)) ⌝ }
 {
     let mut l = 0;
     while l < 26 {
-        put_test(cells, offsets, numbers, counts, n, l, tests);
+        put_test(query, columns, n, l, defines[l], tests);
         l += 1;
     }
 }
@@ -528,13 +508,10 @@ fn inside(d: i64, low: u64, width: u64) -> bool
     std::num::wrapping_sub_u64(raise(d), low) <= width
 }
 
-// Whether letter l (0 for A) holds at a row, whose first entry is at index base. At position n, behind the last row, no letter holds.
-pub fn letter_holds(
+// A letter near the ends of the partition, or at position n, behind the last row, where no letter holds.
+fn near_end(
     tests: &[u64; 208],
-    cells: &[u16; 832],
-    offsets: &[i8; 416],
-    numbers: &[i32; 208],
-    counts: &[u8; 26],
+    query: &[u8],
     l: usize,
     rows: &[i32],
     columns: usize,
@@ -542,37 +519,94 @@ pub fn letter_holds(
     row: usize,
     base: usize,
 ) -> bool
-    requires { ⌜ TestRoom (now tests) (now cells) (now offsets) (now numbers) (now counts) l (now rows) columns n row base ⌝ }
-    ensures { λ r. ⌜ r ≡ (ltb row n && holds (tableOf columns (now (rows .entry))) row
-        (cellsFrom columns (now (cells .entry)) (now (offsets .entry)) (now (numbers .entry)) (l * 8) (getD (now (counts .entry)) l 0))) ⌝ }
+    requires { ⌜ TestRoom (now tests) (now query) l (now rows) columns n row base ⌝ }
+    ensures { λ r. ⌜ r ≡ (ltb row n && holds (tableOf columns (now (rows .entry))) row (definedAt (now (query .entry)) (getD (now (tests .entry)) (l * 8 + 7) 0))) ⌝ }
+{
+    if row < n {
+        let d = tests[l * 8 + 7] as usize;
+        if d == 0 {
+            return true;
+        }
+        return several_hold(
+            query,
+            byte(query[d + 1]),
+            d + 2,
+            rows,
+            columns,
+            n,
+            row,
+            base,
+        );
+    }
+    false
+}
+
+// Where the second comparison stands of a DEFINE whose body starts at index d, and how many there are behind the first, by the sort.
+fn second(d: u64) -> usize
+    requires { ⌜ d < 9223372036854775808 ⌝ }
+    ensures { λ r. ⌜ r ≡ d + 14 ⌝ }
+{
+    d as usize + 14
+}
+
+fn behind_first(sort: u64) -> usize
+    requires { ⌜ 1 ≤ sort ⌝ }
+    ensures { λ r. ⌜ r ≡ (sort - 1) / 2 ⌝ }
+{
+    ((sort - 1) / 2) as usize
+}
+
+// Whether letter l (0 for A) holds at a row, whose first entry is at index base. The two ways to the comparisons behind the first are not one: joined, the test
+// of the first would be kept as a number and tested again.
+pub fn letter_holds(
+    tests: &[u64; 208],
+    query: &[u8],
+    l: usize,
+    rows: &[i32],
+    columns: usize,
+    n: usize,
+    row: usize,
+    base: usize,
+) -> bool
+    requires { ⌜ TestRoom (now tests) (now query) l (now rows) columns n row base ⌝ }
+    ensures { λ r. ⌜ r ≡ (ltb row n && holds (tableOf columns (now (rows .entry))) row (definedAt (now (query .entry)) (getD (now (tests .entry)) (l * 8 + 7) 0))) ⌝ }
 {
     let at = l * 8;
     if std::num::wrapping_sub_u64(row as u64, tests[at + 5]) >= tests[at + 6] {
-        if row < n {
-            return several_hold(
-                cells,
-                offsets,
-                numbers,
-                byte(counts[l]),
-                at,
-                rows,
-                columns,
-                n,
-                row,
-                base,
-            );
-        }
-        return false;
+        return near_end(tests, query, l, rows, columns, n, row, base);
     }
     let from = far_back(columns, base);
     let sort = tests[at];
-    if sort == 0 {
-        return all_met(cells, numbers, at, byte(counts[l]), rows, from);
-    }
     let a = entry_from(rows, from, tests[at + 1]);
-    if sort == 1 {
+    if sort % 2 == 1 {
         let b = entry_from(rows, from, tests[at + 2]);
-        return inside(difference(a, b), tests[at + 3], tests[at + 4]);
+        if !inside(difference(a, b), tests[at + 3], tests[at + 4]) {
+            return false;
+        }
+        if sort < 3 {
+            return true;
+        }
+        return all_met(
+            query,
+            second(tests[at + 7]),
+            behind_first(sort),
+            rows,
+            columns,
+            from,
+        );
     }
-    inside(a, tests[at + 3], tests[at + 4])
+    if !inside(a, tests[at + 3], tests[at + 4]) {
+        return false;
+    }
+    if sort < 3 {
+        return true;
+    }
+    all_met(
+        query,
+        second(tests[at + 7]),
+        behind_first(sort),
+        rows,
+        columns,
+        from,
+    )
 }

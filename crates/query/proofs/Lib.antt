@@ -2,4 +2,3 @@ pub mod Records
 pub mod Reading
 pub mod Order
 pub mod FieldRules
-pub mod Marks

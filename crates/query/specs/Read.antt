@@ -1,11 +1,11 @@
 -- What the reader answers, by document 01's definitions: the record at an index or Cut, what the kinds of the records that follow must be at
 -- each stage of their order, and the lowest of the answers 1, 2 and 3.
 use mathlib.Core.Path.{_≡_}
-use mathlib.Core.Bool.{Bool, true, false, _&&_}
+use mathlib.Core.Bool.{Bool, false}
 use mathlib.Core.List.{List, _∷_}
 use Prim.Native.Nat.{ℕ, _+_, _*_, _<_}
 use lib.Dec.{eqb}
-use lib.ListN.{length, getD, set}
+use lib.ListN.{length}
 use Rattle.rules.specs.Basics.{pick, le16}
 use Rattle.rules.specs.Query.{Record, wholeAt, nextAt, recordsFrom, oneOf, someOf, noneLeft, comparisonFits, cut, misplaced, unfit}
 use Rattle.query.specs.declared.Read.{Read}
@@ -47,12 +47,6 @@ pub record Follows (a' l' a l kind : ℕ) : Type 0 where
 unfoldable pub fitsAt : List ℕ → ℕ → ℕ → ℕ → Bool
 unfolding comparisonFits
 fitsAt s columns p k = comparisonFits s columns (p + k * 12)
-
--- a record's DEFINE, where it is one, marks its letter; `before` says whether that was marked already
-pub record Marked (s : List ℕ) (kind start : ℕ) (marks marks' : List Bool) (before : Bool) : Type 0 where
-  pub told : before ≡ (eqb kind 3 && getD marks (getD s start 0) false)
-  pub is : marks' ≡ pick (eqb kind 3) (set marks (getD s start 0) true) marks
-  pub byte : kind ≡ 3 → getD s start 0 < 256
 
 -- the lowest of the answers 1, 2 and 3 that applies, or 0
 unfoldable pub firstAnswer : List ℕ → ℕ

@@ -1,4 +1,4 @@
-// A query's bytes judged: answers 1, 2 and 3 in one pass over the records, answer 8 in another. Each record read answers Record or Cut.
+// A query's bytes judged: answers 1, 2 and 3 in one pass over the records. Each record read answers Record or Cut.
 // The promises are equations with document 01's tests over the whole query, for all byte strings; the rules for fields stand in fields.rt.
 mod fields;
 
@@ -8,8 +8,8 @@ ghost use Prim.Native.Nat.{_+_, _*_, _-_, _≤_, _<_};
 ghost use lib.ListN.{length, getD};
 ghost use lib.Dec.{eqb};
 ghost use Rattle.rules.specs.Basics.{pick, le16};
-ghost use Rattle.rules.specs.Query.{recordFits, doubled};
-ghost use Rattle.query.specs.Read.{readAt, recordOf, Follows, Marked, firstAnswer};
+ghost use Rattle.rules.specs.Query.{recordFits};
+ghost use Rattle.query.specs.Read.{readAt, recordOf, Follows, firstAnswer};
 
 // What stands at an index of the query: a whole record (its body starts at start and is len bytes long, and next is behind it), or Cut.
 pub enum Read {
@@ -122,7 +122,7 @@ fn after(stage: Stage, kind: usize) -> Stage
 
 // The byte at an index; 0 where there is none.
 fn byte_or_zero(s: &[u8], at: usize) -> usize
-    ensures { λ r. ⌜ (r ≡ getD (now (s .entry)) at 0) × (r < 256) ⌝ }
+    ensures { λ r. ⌜ r ≡ getD (now (s .entry)) at 0 ⌝ }
 {
     if at < s.len() { wide(s[at]) } else { 0 }
 }
@@ -180,41 +180,4 @@ pub fn first_answer(s: &[u8]) -> usize
         return 3;
     }
     0
-}
-
-// Whether a record is the DEFINE of a letter that is marked already; its letter is marked.
-fn marked_before(s: &[u8], kind: usize, start: usize, marks: &mut [bool; 256]) -> bool
-    ensures { λ r. ⌜ Marked (now (s .entry)) kind start (now (marks .entry)) (now (marks .exit)) r ⌝ }
-{
-    if kind != 3 {
-        return false;
-    }
-    let letter = byte_or_zero(s, start);
-    let before = marks[letter];
-    marks[letter] = true;
-    before
-}
-
-// Answer 8: the letters of the DEFINEs are marked in one pass.
-pub fn two_defines(s: &[u8]) -> bool
-    ensures { λ r. ⌜ r ≡ doubled (now (s .entry)) ⌝ }
-{
-    let mut marks = [false; 256];
-    let mut at = 0;
-    while at < s.len() {
-        let Read::Record {
-            kind,
-            start,
-            len: _,
-            next,
-        } = record_at(s, at)
-        else {
-            return false;
-        };
-        if marked_before(s, kind, start, &mut marks) {
-            return true;
-        }
-        at = next;
-    }
-    false
 }

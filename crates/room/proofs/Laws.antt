@@ -201,8 +201,8 @@ module _ (s room room′ measures : List ℕ) (p : Parts) (j : JudgeRoom s room 
     parts-answer = by-parts s (j .clean) (sym the-answer ∙ z)
 
     -- answer 8
-    pub defines-answer : (r : Query) (t : Bool) → t ≡ doubled s → t ≡ true → r ≡ refusal 8 → JudgedParts s room′ measures p r
-    defines-answer r t q d b = refused-is 8 r (λ x. omega arith) (sym (parts-answer ∙ ap (λ (u : Bool). pick u 8 (pick (foreign s) 9 0)) (sym q ∙ d))) b
+    pub defines-answer : (r : Query) → p .twice ≡ true → r ≡ refusal 8 → JudgedParts s room′ measures p r
+    defines-answer r d b = refused-is 8 r (λ x. omega arith) (sym (parts-answer ∙ ap (λ (u : Bool). pick u 8 (pick (foreign s) 9 0)) (sym (j .doubled) ∙ d))) b
 
     tree-is : (t : Tree pattern) × (treeIn s ≡ some t)
     tree-is = has-tree s (sym the-answer ∙ z)
@@ -212,21 +212,21 @@ module _ (s room room′ measures : List ℕ) (p : Parts) (j : JudgeRoom s room 
         foreign-is s measures (p .measures) (p .columns) (tree-is .0) (tree-is .1) (j .fit) (j .measured)
         ∙ ap (λ (t : List ℕ). foreignIn t measures (p .measures)) (sym the-text)
 
-    both : (t u : Bool) → t ≡ doubled s → t ≡ false → u ≡ foreignIn (take (e - p .start) (drop (p .start) s)) measures (p .measures) → queryAnswer s ≡ pick u 9 0
-    both t u q d f = parts-answer ∙ ap (λ (x : Bool). pick x 8 (pick (foreign s) 9 0)) (sym q ∙ d) ∙ ap (λ (x : Bool). pick x 9 0) (foreign-by ∙ sym f)
+    both : (u : Bool) → p .twice ≡ false → u ≡ foreignIn (take (e - p .start) (drop (p .start) s)) measures (p .measures) → queryAnswer s ≡ pick u 9 0
+    both u d f = parts-answer ∙ ap (λ (x : Bool). pick x 8 (pick (foreign s) 9 0)) (sym (j .doubled) ∙ d) ∙ ap (λ (x : Bool). pick x 9 0) (foreign-by ∙ sym f)
 
     -- answer 9
-    pub measures-answer : (r : Query) (t u : Bool) → t ≡ doubled s → t ≡ false → u ≡ foreignIn (take (e - p .start) (drop (p .start) s)) measures (p .measures) → u ≡ true
+    pub measures-answer : (r : Query) (u : Bool) → p .twice ≡ false → u ≡ foreignIn (take (e - p .start) (drop (p .start) s)) measures (p .measures) → u ≡ true
         → r ≡ refusal 9 → JudgedParts s room′ measures p r
-    measures-answer r t u q d f y b = refused-is 9 r (λ x. omega arith) (sym (both t u q d f ∙ ap (λ (x : Bool). pick x 9 0) y)) b
+    measures-answer r u d f y b = refused-is 9 r (λ x. omega arith) (sym (both u d f ∙ ap (λ (x : Bool). pick x 9 0) y)) b
 
     -- none of them
-    pub no-answer : (t u : Bool) → t ≡ doubled s → t ≡ false → u ≡ foreignIn (take (e - p .start) (drop (p .start) s)) measures (p .measures) → u ≡ false
+    pub no-answer : (u : Bool) → p .twice ≡ false → u ≡ foreignIn (take (e - p .start) (drop (p .start) s)) measures (p .measures) → u ≡ false
         → JudgedParts s room′ measures p (record { answer = 0; places = v .places; top = v .top; columns = p .columns; skip = p .skip; measures = p .measures })
     unfolding treeIn
-    no-answer t u q d f y =
+    no-answer u d f y =
         record {
-          answer = sym (both t u q d f ∙ ap (λ (x : Bool). pick x 9 0) y);
+          answer = sym (both u d f ∙ ap (λ (x : Bool). pick x 9 0) y);
           good =
               λ _. record {
                 tree = tree-is .0;
@@ -241,23 +241,23 @@ module _ (s room room′ measures : List ℕ) (p : Parts) (j : JudgeRoom s room 
 
 -- ---- reading a query
 
-module _ (s cells₀ : List ℕ) (offsets₀ numbers₀ : List ℤ) (measures₀ : List ℕ) where
+module _ (s measures₀ : List ℕ) where
   -- answers 1 to 3
-  pub first-answers : (room cells : List ℕ) (offsets numbers : List ℤ) (counts measures : List ℕ) (a : ℕ) (r : Query) → a ≡ firstAnswer s → (a ≡ 0 → ⊥) → r ≡ refusal a
-      → Asked s cells₀ offsets₀ numbers₀ measures₀ room cells offsets numbers counts measures r
-  first-answers room cells offsets numbers counts measures a r e d b =
+  pub first-answers : (room defines measures : List ℕ) (a : ℕ) (r : Query) → a ≡ firstAnswer s → (a ≡ 0 → ⊥) → r ≡ refusal a
+      → Asked s measures₀ room defines measures r
+  first-answers room defines measures a r e d b =
       let x : r .answer ≡ a = ap (λ (r : Query). r .answer) b in
       record { answer = x ∙ e ∙ first-is s (λ z. d (e ∙ z)); good = λ z. absurd (d (sym x ∙ z)) }
 
   -- what decoding asks
-  pub may-decode : (room : List ℕ) (a : ℕ) → Space s room cells₀ offsets₀ numbers₀ measures₀ → a ≡ firstAnswer s → a ≡ 0 → Room s cells₀ offsets₀ numbers₀ measures₀
-  may-decode room a p e z = record { clean = sym e ∙ z; sized = p .sized; long = p .long }
+  pub may-decode : (room : List ℕ) (a : ℕ) → Space s room measures₀ → a ≡ firstAnswer s → a ≡ 0 → Room s measures₀
+  may-decode room a p e z = record { clean = sym e ∙ z; long = p .long }
 
   -- and judging
-  pub may-judge : (room cells : List ℕ) (offsets numbers : List ℤ) (counts measures : List ℕ) (p : Parts) (a : ℕ)
-      → Decoded s cells₀ offsets₀ numbers₀ measures₀ cells offsets numbers counts measures p → Nodes s room → a ≡ firstAnswer s → a ≡ 0 → JudgeRoom s room measures p
+  pub may-judge : (room defines measures : List ℕ) (p : Parts) (a : ℕ)
+      → Decoded s measures₀ defines measures p → Nodes s room → a ≡ firstAnswer s → a ≡ 0 → JudgeRoom s room measures p
   unfolding parts
-  may-judge room cells offsets numbers counts measures p a d l e z =
+  may-judge room defines measures p a d l e z =
       record {
         clean = sym e ∙ z;
         text = d .text;
@@ -266,14 +266,15 @@ module _ (s cells₀ : List ℕ) (offsets₀ numbers₀ : List ℤ) (measures₀
         few = d .few;
         fit = d .fit;
         measured = d .measured;
+        doubled = d .doubled;
         space = let i = d .inside in let q : length (textOf s) ≡ p .len = ap length (sym (d .text)) ∙ simp (length-take, length-drop) (omega arith) in omega (arith, l .enough (sym e ∙ z));
       }
 
   -- all of them
-  pub all-answers : (room cells : List ℕ) (offsets numbers : List ℤ) (counts measures : List ℕ) (p : Parts) (r : Query)
-      → Decoded s cells₀ offsets₀ numbers₀ measures₀ cells offsets numbers counts measures p → JudgedParts s room measures p r
-      → Asked s cells₀ offsets₀ numbers₀ measures₀ room cells offsets numbers counts measures r
-  all-answers room cells offsets numbers counts measures p r d g =
+  pub all-answers : (room defines measures : List ℕ) (p : Parts) (r : Query)
+      → Decoded s measures₀ defines measures p → JudgedParts s room measures p r
+      → Asked s measures₀ room defines measures r
+  all-answers room defines measures p r d g =
       record { answer = g .answer; good = λ z. record { parts = p; decoded = d; good = g .good z } }
 
 -- ---- how much to lend
@@ -287,8 +288,8 @@ room-by-rows : (q : List ℕ) (bad : Bool) → queryAnswer q ≡ 0 → roomAnswe
 unfolding roomAnswer queryAnswer queryTests lowest
 room-by-rows q bad e = lowest-after 1 (queryTests q) (bad ∷ []) (omega arith) e
 
-module _ (q cells₀ : List ℕ) (offsets₀ numbers₀ : List ℤ) (measures₀ room cells : List ℕ) (offsets numbers : List ℤ) (counts measures : List ℕ) (r : Query)
-    (a : Asked q cells₀ offsets₀ numbers₀ measures₀ room cells offsets numbers counts measures r) (rows : List ℤ) where
+module _ (q measures₀ room defines measures : List ℕ) (r : Query)
+    (a : Asked q measures₀ room defines measures r) (rows : List ℤ) where
   abbrev refusedRoom : ℕ → A.Room
   refusedRoom n = record { answer = n; places = 0; rows = 0 }
 
@@ -301,7 +302,7 @@ module _ (q cells₀ : List ℕ) (offsets₀ numbers₀ : List ℤ) (measures₀
       ap asRoom e ∙ room-not (r .answer) d (room-refused q (badRows q rows) (λ z. d (a .answer ∙ z)) ∙ sym (a .answer))
 
   module _ (z : r .answer ≡ 0) where
-    abbrev whole : Whole q cells₀ offsets₀ numbers₀ measures₀ room cells offsets numbers counts measures r
+    abbrev whole : Whole q measures₀ room defines measures r
     whole = a .good z
 
     the-columns : r .columns ≡ columnsOf q

@@ -1,22 +1,20 @@
--- What reading a query leaves: its answer 1 to 9 by the rules' tests, and where it is 0 the pattern's tree, the comparisons and the measures in the lent
--- arrays; and how much to lend.
+-- What reading a query leaves: its answer 1 to 9 by the rules' tests, and where it is 0 the pattern's tree in the lent words, and in the lent arrays where
+-- the DEFINE of each letter stands in the query and the measures (decode's specs/Layout says how); and how much to lend.
 use mathlib.Core.Path.{_≡_}
 use mathlib.Core.Bool.{Bool, not, _&&_, _||_}
 use mathlib.Core.List.{List}
 use mathlib.Core.Option.{Option, some}
 use Prim.Native.Nat.{ℕ, _+_, _*_, _≤_, _<_}
 use lib.Dec.{eqb, leb}
-use lib.IntN.{ℤ}
 use lib.ListN.{length, take, drop}
 use Rattle.rules.specs.Basics.{every, has, le16}
-use Rattle.rules.specs.Query.{Measure, textOf, parts}
+use Rattle.rules.specs.Query.{Measure, doubled, textOf, parts}
 use Rattle.query.specs.Read.{firstAnswer}
 use Rattle.rules.specs.Language.{Tree, pattern}
 use Rattle.rules.specs.Answers as A
 use Rattle.rules.specs.Answers.{lowest, queryTests, treeIn, P}
 use Rattle.pattern.specs.Held.{Top}
 use Rattle.decode.specs.Layout.{measureIn, measuresIn, Fits, Decoded}
-use Rattle.decode.specs.Layout.{Sized}
 use Rattle.decode.specs.declared.Parts.{Parts}
 use Rattle.room.specs.declared.Query.{Query}
 use Rattle.room.specs.declared.Size.{Size}
@@ -38,7 +36,8 @@ queryAnswer s = lowest 1 (queryTests s)
 abbrev pub refusal : ℕ → Query
 refusal a = record { answer = a; places = 0; top = 0; columns = 0; skip = 0; measures = 0 }
 
--- what judging the parts asks: the query has no answer 1 to 3, the parts and measures are the query's, and there is room for the tree
+-- what judging the parts asks: the query has no answer 1 to 3, the parts and measures are the query's, it is told whether two DEFINEs are for one letter,
+-- and there is room for the tree
 pub record JudgeRoom (s room measures : List ℕ) (p : Parts) : Type 0 where
   pub clean : firstAnswer s ≡ 0
   pub text : take (p .len) (drop (p .start) s) ≡ textOf s
@@ -47,6 +46,7 @@ pub record JudgeRoom (s room measures : List ℕ) (p : Parts) : Type 0 where
   pub few : p .measures ≤ 8
   pub fit : (k : ℕ) → k < p .measures → Fits (p .columns) (measureIn measures k)
   pub measured : measuresIn measures (p .measures) ≡ parts s .measures
+  pub doubled : p .twice ≡ doubled s
   pub space : 16 * p .len ≤ length room
 
 -- what it leaves
@@ -64,9 +64,9 @@ pub record JudgedParts (s room measures : List ℕ) (p : Parts) (r : Query) : Ty
   pub good : r .answer ≡ 0 → GoodParts s room p r
 
 -- a query with no answer 1 to 9: its tree stands in the room, and its parts in the arrays
-pub record Whole (s : List ℕ) (cells₀ : List ℕ) (offsets₀ numbers₀ : List ℤ) (measures₀ : List ℕ) (room cells : List ℕ) (offsets numbers : List ℤ) (counts measures : List ℕ) (r : Query) : Type 0 where
+pub record Whole (s measures₀ room defines measures : List ℕ) (r : Query) : Type 0 where
   pub parts : Parts
-  pub decoded : Decoded s cells₀ offsets₀ numbers₀ measures₀ cells offsets numbers counts measures parts
+  pub decoded : Decoded s measures₀ defines measures parts
   pub good : GoodParts s room parts r
 
 -- words for the pattern's tree: 16 for each byte of its text, where the query has no answer 1 to 3
@@ -83,16 +83,15 @@ unfoldable pub shortText : List ℕ → Bool
 unfolding textLength
 shortText s = leb 8 (length s) && leb (textLength s) 16
 
--- what reading a query is lent: such words, and the arrays whole
-pub record Space (s room cells : List ℕ) (offsets numbers : List ℤ) (measures : List ℕ) : Type 0 where
+-- what reading a query is lent: such words, and room for the measures
+pub record Space (s room measures : List ℕ) : Type 0 where
   pub nodes : Nodes s room
-  pub sized : Sized cells offsets numbers
   pub long : length measures ≡ 24
 
 -- what `read_query` promises
-pub record Asked (s : List ℕ) (cells₀ : List ℕ) (offsets₀ numbers₀ : List ℤ) (measures₀ : List ℕ) (room cells : List ℕ) (offsets numbers : List ℤ) (counts measures : List ℕ) (r : Query) : Type 0 where
+pub record Asked (s measures₀ room defines measures : List ℕ) (r : Query) : Type 0 where
   pub answer : r .answer ≡ queryAnswer s
-  pub good : r .answer ≡ 0 → Whole s cells₀ offsets₀ numbers₀ measures₀ room cells offsets numbers counts measures r
+  pub good : r .answer ≡ 0 → Whole s measures₀ room defines measures r
 
 -- the room that a caller is told, as the rules have it
 abbrev pub asRoom : Size → A.Room

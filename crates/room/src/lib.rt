@@ -1,12 +1,10 @@
-// A query read whole: its answer 1 to 9 or 0, the tree of its pattern in lent words, its comparisons and measures in lent arrays (`read_query`); whether its
-// text is short, by which a caller chooses the words for the tree (`text_is_short`); and how much a caller has to lend for it on some rows (`room`). For all
-// bytes and rows; the promises are equations with document 01's definitions.
+// A query read whole: its answer 1 to 9 or 0, the tree of its pattern in lent words, and in lent arrays where the DEFINE of each letter stands in the query
+// and the measures (`read_query`); whether its text is short, by which a caller chooses the words for the tree (`text_is_short`); and how much a caller has
+// to lend for it on some rows (`room`). Comparisons stay in the query's bytes. For all bytes and rows; the promises are equations with document 01's
+// definitions.
 use decode::Parts;
 ghost use mathlib.Core.Path.{_≡_};
-ghost use mathlib.Core.List.{List};
-ghost use Prim.Native.Nat.{ℕ, _≤_, _<_};
-ghost use lib.IntN.{ℤ};
-ghost use lib.ListN.{length};
+ghost use Prim.Native.Nat.{_≤_};
 ghost use Rattle.rules.specs.Answers.{roomOf};
 ghost use Rattle.room.specs.Reading.{knownIn, foreignIn, refusal, JudgeRoom, JudgedParts, Nodes, Space, Asked, asRoom, shortText};
 
@@ -66,7 +64,8 @@ fn refused(answer: usize) -> Query
     }
 }
 
-// The pattern of a query with no answer 1 to 3 judged, then its DEFINEs and measures: answers 4 to 9.
+// The pattern of a query with no answer 1 to 3 judged, then its DEFINEs and measures: answers 4 to 9. Whether two DEFINEs are for one letter (8) was told
+// when the parts were decoded.
 fn judge_parts(s: &[u8], parts: Parts, room: &mut [u16], measures: &[u8; 24]) -> Query
     requires { ⌜ JudgeRoom (now s) (now room) (now measures) parts ⌝ }
     ensures { λ r. ⌜ JudgedParts (now (s .entry)) (now (room .exit)) (now (measures .entry)) parts r ⌝ }
@@ -78,7 +77,7 @@ fn judge_parts(s: &[u8], parts: Parts, room: &mut [u16], measures: &[u8; 24]) ->
     if answer != 0 {
         return refused(answer);
     }
-    if query::two_defines(s) {
+    if parts.twice {
         return refused(8);
     }
     if has_foreign(&s[start..end], measures, parts.measures) {
@@ -98,20 +97,17 @@ fn judge_parts(s: &[u8], parts: Parts, room: &mut [u16], measures: &[u8; 24]) ->
 pub fn read_query(
     s: &[u8],
     room: &mut [u16],
-    cells: &mut [u16; 832],
-    offsets: &mut [i8; 416],
-    numbers: &mut [i32; 208],
-    counts: &mut [u8; 26],
+    defines: &mut [usize; 26],
     measures: &mut [u8; 24],
 ) -> Query
-    requires { ⌜ Space (now s) (now room) (now cells) (now offsets) (now numbers) (now measures) ⌝ }
-    ensures { λ r. ⌜ Asked (now (s .entry)) (now (cells .entry)) (now (offsets .entry)) (now (numbers .entry)) (now (measures .entry)) (now (room .exit)) (now (cells .exit)) (now (offsets .exit)) (now (numbers .exit)) (now (counts .exit)) (now (measures .exit)) r ⌝ }
+    requires { ⌜ Space (now s) (now room) (now measures) ⌝ }
+    ensures { λ r. ⌜ Asked (now (s .entry)) (now (measures .entry)) (now (room .exit)) (now (defines .exit)) (now (measures .exit)) r ⌝ }
 {
     let first = query::first_answer(s);
     if first != 0 {
         return refused(first);
     }
-    let parts = decode::decode(s, cells, offsets, numbers, counts, measures);
+    let parts = decode::decode(s, defines, measures);
     judge_parts(s, parts, room, measures)
 }
 
@@ -143,20 +139,9 @@ fn room_in(nodes: &mut [u16], query: &[u8], rows: &[i32]) -> Size
     requires { ⌜ Nodes (now query) (now nodes) ⌝ }
     ensures { λ r. ⌜ asRoom r ≡ roomOf (now (query .entry)) (now (rows .entry)) ⌝ }
 {
-    let mut cells = [0u16; 832];
-    let mut offsets = [0i8; 416];
-    let mut numbers = [0i32; 208];
-    let mut counts = [0u8; 26];
+    let mut defines = [0usize; 26];
     let mut measures = [0u8; 24];
-    let q = read_query(
-        query,
-        nodes,
-        &mut cells,
-        &mut offsets,
-        &mut numbers,
-        &mut counts,
-        &mut measures,
-    );
+    let q = read_query(query, nodes, &mut defines, &mut measures);
     let answer = q.answer;
     if answer != 0 {
         return no_room(answer);

@@ -33,10 +33,10 @@ use Rattle.run.proofs.Joined.{room-accepts, no-query-answer, search-num
 
 -- ---- the measures
 
-pub measures-counted : (q cells₀ : List ℕ) (offsets₀ numbers₀ : List ℤ) (measures₀ room cells : List ℕ) (offsets numbers : List ℤ) (counts measures : List ℕ) (r : Query)
-    → Asked q cells₀ offsets₀ numbers₀ measures₀ room cells offsets numbers counts measures r → Counted q (r .measures)
+pub measures-counted : (q measures₀ room defines measures : List ℕ) (r : Query)
+    → Asked q measures₀ room defines measures r → Counted q (r .measures)
 unfolding measuresIn
-measures-counted q cells₀ offsets₀ numbers₀ measures₀ room cells offsets numbers counts measures r a =
+measures-counted q measures₀ room defines measures r a =
     record {
       is = λ z.
           let w = a .good (a .answer ∙ z) in

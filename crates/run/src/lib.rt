@@ -16,20 +16,9 @@ fn measures_of(query: &[u8]) -> usize
     ensures { λ r. ⌜ Counted (now (query .entry)) r ⌝ }
 {
     let mut nodes = [0u16; 4096];
-    let mut cells = [0u16; 832];
-    let mut offsets = [0i8; 416];
-    let mut constants = [0i32; 208];
-    let mut counts = [0u8; 26];
+    let mut defines = [0usize; 26];
     let mut measures = [0u8; 24];
-    let q = room::read_query(
-        query,
-        &mut nodes,
-        &mut cells,
-        &mut offsets,
-        &mut constants,
-        &mut counts,
-        &mut measures,
-    );
+    let q = room::read_query(query, &mut nodes, &mut defines, &mut measures);
     q.measures
 }
 

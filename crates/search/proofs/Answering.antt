@@ -94,9 +94,9 @@ clear-query q e =
     let no : (i : ℕ) → getD (queryTests q) i false ≡ false = none-true 1 (queryTests q) (omega arith) e in
     record { loop = no 5; many = no 6 }
 
-module _ (q cells₀ : List ℕ) (offsets₀ numbers₀ : List ℤ) (measures₀ room cells : List ℕ) (offsets constants : List ℤ) (counts measures : List ℕ) (r : Query)
-    (a : Asked q cells₀ offsets₀ numbers₀ measures₀ room cells offsets constants counts measures r) (z : r .answer ≡ 0) (rows : List ℤ) where
-  abbrev whole : Whole q cells₀ offsets₀ numbers₀ measures₀ room cells offsets constants counts measures r
+module _ (q measures₀ room defines measures : List ℕ) (r : Query)
+    (a : Asked q measures₀ room defines measures r) (z : r .answer ≡ 0) (rows : List ℤ) where
+  abbrev whole : Whole q measures₀ room defines measures r
   whole = a .good z
 
   pub no-answer : queryAnswer q ≡ 0
@@ -164,7 +164,7 @@ module _ (q cells₀ : List ℕ) (offsets₀ numbers₀ : List ℤ) (measures₀
     -- the walk may begin
     pub may-walk : length rows % r .columns ≡ 0 → length rows / r .columns ≤ 4096 → length measures ≡ 24 → (r .places * (length rows / r .columns + 1) + 7) / 8 ≤ length notes
         → r .places * (length rows / r .columns + 1) ≤ length trail
-        → Walks q room (r .top) (r .places) rows (r .columns) (length rows / r .columns) cells offsets constants counts measures (r .measures) (eqb (r .skip) 1) notes trail
+        → Walks q room (r .top) (r .places) rows (r .columns) (length rows / r .columns) defines measures (r .measures) (eqb (r .skip) 1) notes trail
     unfolding hasEmptyLoop P
     may-walk e h l f g =
         let n : ℕ = length rows / r .columns in
@@ -179,9 +179,6 @@ module _ (q cells₀ : List ℕ) (offsets₀ numbers₀ : List ℤ) (measures₀
           few = omega (arith, few-places, pl);
           places-are = pl;
           held = whole .good .top;
-          cells₀ = cells₀;
-          offsets₀ = offsets₀;
-          numbers₀ = numbers₀;
           measures₀ = measures₀;
           parts = whole .parts;
           decoded = whole .decoded;

@@ -47,14 +47,14 @@ labels-of-thin pl (x ∷ xs) = rw (labels-thin pl (x .path), labels-of-thin pl x
 
 -- ---- the end
 
-module _ (q : List ℕ) (T : Tables) (rows : List ℤ) (columns n : ℕ) (tests cells : List ℕ) (offsets constants : List ℤ) (counts ms : List ℕ) (count : ℕ) (mode : Bool) (notes trail : List ℕ)
-    (a : Runs q T rows columns n tests cells offsets constants counts ms count mode notes trail) (num : List ℤ) (lab notes′ trail′ : List ℕ) (num′ : List ℤ) (lab′ : List ℕ) (s : Sweep)
-    (g : Answered (asked T (holdsIn rows columns cells offsets constants counts) n mode (tableOf columns rows) (measuresIn ms count)) notes trail num lab notes′ trail′ num′ lab′ s) where
+module _ (q : List ℕ) (T : Tables) (rows : List ℤ) (columns n : ℕ) (tests ms : List ℕ) (count : ℕ) (mode : Bool) (notes trail : List ℕ)
+    (a : Runs q T rows columns n tests ms count mode notes trail) (num : List ℤ) (lab notes′ trail′ : List ℕ) (num′ : List ℤ) (lab′ : List ℕ) (s : Sweep)
+    (g : Answered (asked T (holdsIn rows columns q tests) n mode (tableOf columns rows) (measuresIn ms count)) notes trail num lab notes′ trail′ num′ lab′ s) where
   abbrev W : Swept Kept
   W = walked (taskOf q rows) (length num) (length lab)
 
   abbrev R : Swept Kept
-  R = S.searchOf (asked T (holdsIn rows columns cells offsets constants counts) n mode (tableOf columns rows) (measuresIn ms count)) (length num) (length lab)
+  R = S.searchOf (asked T (holdsIn rows columns q tests) n mode (tableOf columns rows) (measuresIn ms count)) (length num) (length lab)
 
   pub run-ended : (r : Outcome) → r ≡ record { answer = pick (s .full) 13 0; matches = s .matches; labels = s .labels; steps = s .steps }
       → memory r notes′ trail′ num′ lab′ ≡ ended q rows (lent notes trail num lab)

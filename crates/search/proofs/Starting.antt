@@ -28,10 +28,10 @@ use Rattle.rules.proofs.Grammar.{tree-exactly}
 use Rattle.rules.proofs.PatternWalk.{walk-kept}
 use Rattle.rules.proofs.SameLetters.{search-agrees}
 use Rattle.rules.proofs.ThinPlaces.{Spelt, thinned-spelt}
-use Rattle.decode.specs.Layout.{Decoded, cellsFrom, measureIn, measuresIn}
+use Rattle.decode.specs.Layout.{Decoded, Body, definedAt, measureIn, measuresIn}
 use Rattle.places.specs.Emitting.{Unrolling, Tabled}
-use Rattle.letters.specs.Tests.{Tested, Preparable, Letters}
-use Rattle.letters.proofs.Uses.{preparable, letters-room}
+use Rattle.letters.specs.Tests.{Prepared, Preparable, Letters}
+use Rattle.letters.proofs.Uses.{preparable, word-seven, letters-room}
 use Rattle.walk.specs.Letters.{holdsIn}
 use Rattle.walk.specs.Tables as W
 use Rattle.sweep.specs.Asked as S
@@ -60,17 +60,17 @@ small-table p h = let e = length-replicate {A = ℕ} 224 0 in record { long = om
 large-table : (p : ℕ) → p ≤ 256 → TableRoom p (replicate 1792 0)
 large-table p h = let e = length-replicate {A = ℕ} 1792 0 in record { long = omega arith; few = omega arith }
 
-module _ (q nodes : List ℕ) (top p : ℕ) (rows : List ℤ) (columns n : ℕ) (cells : List ℕ) (offsets constants : List ℤ) (counts ms : List ℕ) (count : ℕ) (mode : Bool) (notes trail : List ℕ)
-    (a : Walks q nodes top p rows columns n cells offsets constants counts ms count mode notes trail) where
+module _ (q nodes : List ℕ) (top p : ℕ) (rows : List ℤ) (columns n : ℕ) (defines ms : List ℕ) (count : ℕ) (mode : Bool) (notes trail : List ℕ)
+    (a : Walks q nodes top p rows columns n defines ms count mode notes trail) where
   -- unrolling
   unfoldable pub may-unroll : (table : List ℕ) → TableRoom p table → Unrolling nodes top p table
   may-unroll table e =
       record { tree = a .tree; is = a .held; count = a .places-are; few = omega (arith, a .few, a .places-are); long = e .long; small = omega (arith, e .few) }
 
-  pub in-small : p ≤ 32 → WalksIn (replicate 224 0) q nodes top p rows columns n cells offsets constants counts ms count mode notes trail
+  pub in-small : p ≤ 32 → WalksIn (replicate 224 0) q nodes top p rows columns n defines ms count mode notes trail
   in-small h = record { room = small-table p h; walks = a }
 
-  pub in-large : WalksIn (replicate 1792 0) q nodes top p rows columns n cells offsets constants counts ms count mode notes trail
+  pub in-large : WalksIn (replicate 1792 0) q nodes top p rows columns n defines ms count mode notes trail
   in-large = record { room = large-table p (omega (arith, a .few, a .places-are)); walks = a }
 
   -- ---- the task
@@ -101,15 +101,17 @@ module _ (q nodes : List ℕ) (top p : ℕ) (rows : List ℤ) (columns n : ℕ) 
   unfolding treeIn
   the-lettered = written-letters (tree-exactly (textOf q) (a .tree) .0 (a .has-tree))
 
-  -- letters by the arrays are letters by the query
-  letters-agree : (c : ℕ) → 65 ≤ c → c ≤ 90 → (i : ℕ) → holdsIn rows columns cells offsets constants counts c i ≡ letterHolds (taskOf q rows) c i
+  -- letters by the table of tests are letters by the query
+  the-body : (l : ℕ) → l < 26 → (getD defines l 0 ≡ 0 → ⊥) → Body q columns (getD defines l 0)
+  the-body l h f = rw (a .columns-are) (a .decoded .letters l h .body f)
+
+  letters-agree : (tests : List ℕ) → Prepared q columns n defines tests → (c : ℕ) → 65 ≤ c → c ≤ 90 → (i : ℕ) → holdsIn rows columns q tests c i ≡ letterHolds (taskOf q rows) c i
   unfolding holdsIn letterHolds taskOf parts
-  letters-agree c lo hi i =
+  letters-agree tests t c lo hi i =
       let l : c - 65 < 26 = omega arith in
       let e : 65 + (c - 65) ≡ c = omega arith in
-      let x : cellsFrom (a .parts .columns) cells offsets constants ((c - 65) * 8) (getD counts (c - 65) 0) ≡ parts q .comparisons (65 + (c - 65)) = a .decoded .letters (c - 65) l .is in
-      let y : cellsFrom columns cells offsets constants ((c - 65) * 8) (getD counts (c - 65) 0) ≡ taskOf q rows .comparisons c =
-      ap (λ (k : ℕ). cellsFrom k cells offsets constants ((c - 65) * 8) (getD counts (c - 65) 0)) (a .columns-are) ∙ x ∙ comparisons-at (65 + (c - 65)) c e in
+      let y : definedAt q (getD tests ((c - 65) * 8 + 7) 0) ≡ taskOf q rows .comparisons c =
+      ap (definedAt q) (word-seven q columns defines the-body n tests t (c - 65) l) ∙ a .decoded .letters (c - 65) l .is ∙ comparisons-at (65 + (c - 65)) c e in
       ap₂ (λ (t : Table) (cs : List Comparison). holds t i cs) the-table y
     where
       comparisons-at : (x y : ℕ) → x ≡ y → parts q .comparisons x ≡ taskOf q rows .comparisons y
@@ -137,14 +139,11 @@ module _ (q nodes : List ℕ) (top p : ℕ) (rows : List ℤ) (columns n : ℕ) 
   the-measured : Measured ms count rows columns n
   the-measured = record { few = omega (arith, a .count-is, a .decoded .few); few-rows = a .most; there = omega (arith, a .all); long = omega (arith, a .long, a .count-is, a .decoded .few); columned = column-fits }
 
-  the-letters : (tests : List ℕ) → Tested cells offsets constants counts n tests → Letters tests cells offsets constants counts rows columns n
-  the-letters tests t =
-      let e : length rows ≡ n * a .parts .columns = a .all ∙ ap (λ (k : ℕ). n * k) (a .columns-are) in
-      rw (a .columns-are)
-      (letters-room q (a .cells₀) (a .offsets₀) (a .numbers₀) (a .measures₀) cells offsets constants counts ms (a .parts) (a .decoded) rows n tests (a .most) e t)
+  the-letters : (tests : List ℕ) → Prepared q columns n defines tests → Letters tests q rows columns n
+  the-letters tests t = letters-room q columns defines the-body n tests t rows (omega (arith, a .columns-are, a .decoded .some)) (omega (arith, a .columns-are, a .decoded .most)) (a .most) (a .all)
 
-  pub may-prepare : Preparable counts (replicate 208 0)
-  may-prepare = preparable q (a .cells₀) (a .offsets₀) (a .numbers₀) (a .measures₀) cells offsets constants counts ms (a .parts) (a .decoded)
+  pub may-prepare : Preparable q columns defines (replicate 208 0)
+  may-prepare = preparable q columns defines the-body (omega (arith, a .columns-are, a .decoded .most))
 
   module _ (table₀ table : List ℕ) (end : ℕ) (b : Tabled (a .tree) p table₀ table end) (room : TableRoom p table) where
     pub few-places : p ≤ 256
@@ -168,7 +167,7 @@ module _ (q nodes : List ℕ) (top p : ℕ) (rows : List ℤ) (columns n : ℕ) 
         }
 
     module _ (co₀ ne₀ en₀ st₀ co ne en st : List ℕ) (d : Parted table p co₀ ne₀ en₀ st₀ co ne en st) (lc : length co ≡ 256) (ln : length ne ≡ 256) (le : length en ≡ 256) (ls : length st ≡ 256)
-        (tests : List ℕ) (t : Tested cells offsets constants counts n tests) where
+        (tests : List ℕ) (t : Prepared q columns n defines tests) where
       abbrev g : emptyLoop (a .tree) ≡ false
       g = a .no-loop
 
@@ -183,17 +182,17 @@ module _ (q nodes : List ℕ) (top p : ℕ) (rows : List ℤ) (columns n : ℕ) 
           cut-places table p co₀ ne₀ en₀ st₀ co ne en st d (omega (arith, few-places)) (omega (arith, few-places)) (omega (arith, few-places)) (omega (arith, few-places)) few-places (a .tree) g the-lettered
           (a .places-are) (b .is)
 
-      T-legal : W.Legal T (holdsIn rows columns cells offsets constants counts) n
+      T-legal : W.Legal T (holdsIn rows columns q tests) n
       T-legal =
           legal-tables table p co₀ ne₀ en₀ st₀ co ne en st d (omega (arith, few-places)) (omega (arith, few-places)) (omega (arith, few-places)) (omega (arith, few-places)) few-places (a .tree) g the-lettered
-          (a .places-are) (b .is) (omega (arith, a .places-are, some-place)) (omega (arith, room .few)) (λ q h. omega (arith, stop-low q h)) (holdsIn rows columns cells offsets constants counts) n few-pairs (a .most)
+          (a .places-are) (b .is) (omega (arith, a .places-are, some-place)) (omega (arith, room .few)) (λ q h. omega (arith, stop-low q h)) (holdsIn rows columns q tests) n few-pairs (a .most)
 
       T-found : (nums labs : ℕ)
-          → S.searchOf (asked T (holdsIn rows columns cells offsets constants counts) n mode (tableOf columns rows) (measuresIn ms count)) nums labs ≡ walked (taskOf q rows) nums labs
+          → S.searchOf (asked T (holdsIn rows columns q tests) n mode (tableOf columns rows) (measuresIn ms count)) nums labs ≡ walked (taskOf q rows) nums labs
       unfolding S.searchOf walked
       T-found nums labs =
           rw (T-places)
-          (search-agrees (holdsIn rows columns cells offsets constants counts) (letterHolds (taskOf q rows)) letters-agree n (thinned (places (unroll (a .tree)))) (thinned-spelt (a .tree) the-lettered) mode (fits nums labs (measuresIn ms count))
+          (search-agrees (holdsIn rows columns q tests) (letterHolds (taskOf q rows)) (letters-agree tests t) n (thinned (places (unroll (a .tree)))) (thinned-spelt (a .tree) the-lettered) mode (fits nums labs (measuresIn ms count))
           ∙ walk-thin (unroll (a .tree)) (legal-unroll (a .tree) g) (letterHolds (taskOf q rows)) n mode (fits nums labs (measuresIn ms count))
           ∙ same-search (places (unroll (a .tree))) (taskOf q rows .places) n (taskOf q rows .table .n) mode (taskOf q rows .mode) (measuresIn ms count) (taskOf q rows .measures) (sym the-places) the-rows the-mode the-measures)
         where
@@ -208,7 +207,7 @@ module _ (q nodes : List ℕ) (top p : ℕ) (rows : List ℤ) (columns n : ℕ) 
           ∙ ap₂ (λ (x y : ℕ). pairs x y) (a .places-are ∙ sym (places-counted (a .tree)) ∙ ap length (sym the-places)) the-rows
           ∙ sym (rw the-places (walk-kept (unroll (a .tree)) (legal-unroll (a .tree) g) (letterHolds (taskOf q rows)) (taskOf q rows .table .n) (taskOf q rows .mode) (fits nums labs (taskOf q rows .measures))))
 
-      pub runs : Runs q T rows columns n tests cells offsets constants counts ms count mode notes trail
+      pub runs : Runs q T rows columns n tests ms count mode notes trail
       runs =
           record {
             searches = record { measured = the-measured; legal = T-legal; asks = the-letters tests t; noted = rw T-count (a .noted); trailed = rw T-count (a .trailed) };
@@ -232,8 +231,8 @@ module _ (q nodes : List ℕ) (top p : ℕ) (rows : List ℤ) (columns n : ℕ) 
 
   pub may-run : (table₀ table : List ℕ) (end : ℕ) → ((h : Unrolling nodes top p table₀) → Tabled (h .tree) p table₀ table end) → TableRoom p table₀
       → (co₀ ne₀ en₀ st₀ co ne en st : List ℕ) → Parted table p co₀ ne₀ en₀ st₀ co ne en st → length co₀ ≡ 256 → length ne₀ ≡ 256 → length en₀ ≡ 256 → length st₀ ≡ 256
-      → (tests : List ℕ) → Tested cells offsets constants counts n tests
-      → Runs q (W.tables (take (p - 0) (drop 0 co)) (take (p - 0) (drop 0 ne)) (take (p - 0) (drop 0 en)) (take (p - 0) (drop 0 st)) table) rows columns n tests cells offsets constants counts ms count mode notes trail
+      → (tests : List ℕ) → Prepared q columns n defines tests
+      → Runs q (W.tables (take (p - 0) (drop 0 co)) (take (p - 0) (drop 0 ne)) (take (p - 0) (drop 0 en)) (take (p - 0) (drop 0 st)) table) rows columns n tests ms count mode notes trail
   unfolding may-unroll
   may-run table₀ table end f e co₀ ne₀ en₀ st₀ co ne en st d lc ln le ls tests t =
       let b = f (may-unroll table₀ e) in

@@ -55,19 +55,16 @@ pub record TableRoom (p : ℕ) (table : List ℕ) : Type 0 where
   pub few : length table ≤ 1792
 
 -- what walking asks: a query with no answer 1 to 9 in the lent arrays, whole rows, and working room
-pub record Walks (q nodes : List ℕ) (top places : ℕ) (rows : List ℤ) (columns n : ℕ) (cells : List ℕ) (offsets constants : List ℤ) (counts ms : List ℕ) (count : ℕ) (mode : Bool) (notes trail : List ℕ) : Type 0 where
+pub record Walks (q nodes : List ℕ) (top places : ℕ) (rows : List ℤ) (columns n : ℕ) (defines ms : List ℕ) (count : ℕ) (mode : Bool) (notes trail : List ℕ) : Type 0 where
   pub tree : Tree pattern
   pub has-tree : treeIn q ≡ some tree
   pub no-loop : emptyLoop tree ≡ false
   pub few : placesOf tree ≤ 256
   pub places-are : places ≡ placesOf tree
   pub held : Top tree top nodes
-  pub cells₀ : List ℕ
-  pub offsets₀ : List ℤ
-  pub numbers₀ : List ℤ
   pub measures₀ : List ℕ
   pub parts : Parts
-  pub decoded : Decoded q cells₀ offsets₀ numbers₀ measures₀ cells offsets constants counts ms parts
+  pub decoded : Decoded q measures₀ defines ms parts
   pub columns-are : columns ≡ parts .columns
   pub count-is : count ≡ parts .measures
   pub mode-is : mode ≡ eqb (parts .skip) 1
@@ -78,14 +75,14 @@ pub record Walks (q nodes : List ℕ) (top places : ℕ) (rows : List ℤ) (colu
   pub trailed : pairs places n ≤ length trail
 
 -- and a table for the places
-pub record WalksIn (table q nodes : List ℕ) (top places : ℕ) (rows : List ℤ) (columns n : ℕ) (cells : List ℕ) (offsets constants : List ℤ) (counts ms : List ℕ) (count : ℕ) (mode : Bool) (notes trail : List ℕ) : Type 0 where
+pub record WalksIn (table q nodes : List ℕ) (top places : ℕ) (rows : List ℤ) (columns n : ℕ) (defines ms : List ℕ) (count : ℕ) (mode : Bool) (notes trail : List ℕ) : Type 0 where
   pub room : TableRoom places table
-  pub walks : Walks q nodes top places rows columns n cells offsets constants counts ms count mode notes trail
+  pub walks : Walks q nodes top places rows columns n defines ms count mode notes trail
 
 -- what all starts over tables ask: legal tables, letters and measures that can be read, working room; and that they stand for the query's search
-pub record Runs (q : List ℕ) (T : Tables) (rows : List ℤ) (columns n : ℕ) (tests cells : List ℕ) (offsets constants : List ℤ) (counts ms : List ℕ) (count : ℕ) (mode : Bool) (notes trail : List ℕ) : Type 0 where
-  pub searches : Searches (asked T (holdsIn rows columns cells offsets constants counts) n mode (tableOf columns rows) (measuresIn ms count)) (Letters tests cells offsets constants counts rows columns n) ms count rows columns notes trail
-  pub found : (nums labs : ℕ) → S.searchOf (asked T (holdsIn rows columns cells offsets constants counts) n mode (tableOf columns rows) (measuresIn ms count)) nums labs ≡ walked (taskOf q rows) nums labs
+pub record Runs (q : List ℕ) (T : Tables) (rows : List ℤ) (columns n : ℕ) (tests ms : List ℕ) (count : ℕ) (mode : Bool) (notes trail : List ℕ) : Type 0 where
+  pub searches : Searches (asked T (holdsIn rows columns q tests) n mode (tableOf columns rows) (measuresIn ms count)) (Letters tests q rows columns n) ms count rows columns notes trail
+  pub found : (nums labs : ℕ) → S.searchOf (asked T (holdsIn rows columns q tests) n mode (tableOf columns rows) (measuresIn ms count)) nums labs ≡ walked (taskOf q rows) nums labs
   pub numbered : (k : ℕ) (xs : List Match) → numbersOf (tableOf columns rows) (measuresIn ms count) (placesIn T) k xs ≡ numbersOf (taskOf q rows .table) (taskOf q rows .measures) (taskOf q rows .places) k xs
   pub labelled : (xs : List Match) → labelsOf (placesIn T) xs ≡ labelsOf (taskOf q rows .places) xs
   pub counted : (nums labs : ℕ) → N T n ≡ length (walked (taskOf q rows) nums labs .state .0)

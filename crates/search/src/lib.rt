@@ -159,10 +159,6 @@ fn run_tables(
     columns: usize,
     n: usize,
     tests: &[u64; 208],
-    cells: &[u16; 832],
-    offsets: &[i8; 416],
-    constants: &[i32; 208],
-    counts: &[u8; 26],
     ms: &[u8],
     count: usize,
     mode: bool,
@@ -171,7 +167,7 @@ fn run_tables(
     numbers: &mut [i64],
     labels: &mut [u8],
 ) -> Outcome
-    requires { ⌜ Runs (now query) (tables (now code) (now next) (now entry) (now stop) (now table)) (now rows) columns n (now tests) (now cells) (now offsets) (now constants) (now counts) (now ms) count mode (now notes) (now trail) ⌝ }
+    requires { ⌜ Runs (now query) (tables (now code) (now next) (now entry) (now stop) (now table)) (now rows) columns n (now tests) (now ms) count mode (now notes) (now trail) ⌝ }
     ensures { λ r. ⌜ memory r (now (notes .exit)) (now (trail .exit)) (now (numbers .exit)) (now (labels .exit)) ≡ ended (now (query .entry)) (now (rows .entry)) (lent (now (notes .entry)) (now (trail .entry)) (now (numbers .entry)) (now (labels .entry))) ⌝ }
 {
     let s = sweep::search(
@@ -184,10 +180,7 @@ fn run_tables(
         columns,
         n,
         tests,
-        cells,
-        offsets,
-        constants,
-        counts,
+        query,
         ms,
         count,
         mode,
@@ -209,10 +202,7 @@ fn walk_in(
     rows: &[i32],
     columns: usize,
     n: usize,
-    cells: &[u16; 832],
-    offsets: &[i8; 416],
-    constants: &[i32; 208],
-    counts: &[u8; 26],
+    defines: &[usize; 26],
     ms: &[u8; 24],
     count: usize,
     mode: bool,
@@ -221,7 +211,7 @@ fn walk_in(
     numbers: &mut [i64],
     labels: &mut [u8],
 ) -> Outcome
-    requires { ⌜ WalksIn (now table) (now query) (now nodes) top places (now rows) columns n (now cells) (now offsets) (now constants) (now counts) (now ms) count mode (now notes) (now trail) ⌝ }
+    requires { ⌜ WalksIn (now table) (now query) (now nodes) top places (now rows) columns n (now defines) (now ms) count mode (now notes) (now trail) ⌝ }
     ensures { λ r. ⌜ memory r (now (notes .exit)) (now (trail .exit)) (now (numbers .exit)) (now (labels .exit)) ≡ ended (now (query .entry)) (now (rows .entry)) (lent (now (notes .entry)) (now (trail .entry)) (now (numbers .entry)) (now (labels .entry))) ⌝ }
 {
     let _end = places::unroll(nodes, top, places, table);
@@ -231,7 +221,7 @@ fn walk_in(
     let mut stop = [0u16; 256];
     part(table, places, &mut code, &mut next, &mut entry, &mut stop);
     let mut tests = [0u64; 208];
-    letters::prepare(cells, offsets, constants, counts, n, &mut tests);
+    letters::prepare(query, columns, n, defines, &mut tests);
     run_tables(
         query,
         &code[0..places],
@@ -243,10 +233,6 @@ fn walk_in(
         columns,
         n,
         &tests,
-        cells,
-        offsets,
-        constants,
-        counts,
         ms,
         count,
         mode,
@@ -266,10 +252,7 @@ fn walk_all(
     rows: &[i32],
     columns: usize,
     n: usize,
-    cells: &[u16; 832],
-    offsets: &[i8; 416],
-    constants: &[i32; 208],
-    counts: &[u8; 26],
+    defines: &[usize; 26],
     ms: &[u8; 24],
     count: usize,
     mode: bool,
@@ -278,7 +261,7 @@ fn walk_all(
     numbers: &mut [i64],
     labels: &mut [u8],
 ) -> Outcome
-    requires { ⌜ Walks (now query) (now nodes) top places (now rows) columns n (now cells) (now offsets) (now constants) (now counts) (now ms) count mode (now notes) (now trail) ⌝ }
+    requires { ⌜ Walks (now query) (now nodes) top places (now rows) columns n (now defines) (now ms) count mode (now notes) (now trail) ⌝ }
     ensures { λ r. ⌜ memory r (now (notes .exit)) (now (trail .exit)) (now (numbers .exit)) (now (labels .exit)) ≡ ended (now (query .entry)) (now (rows .entry)) (lent (now (notes .entry)) (now (trail .entry)) (now (numbers .entry)) (now (labels .entry))) ⌝ }
 {
     if places <= 32 {
@@ -292,10 +275,7 @@ fn walk_all(
             rows,
             columns,
             n,
-            cells,
-            offsets,
-            constants,
-            counts,
+            defines,
             ms,
             count,
             mode,
@@ -315,10 +295,7 @@ fn walk_all(
         rows,
         columns,
         n,
-        cells,
-        offsets,
-        constants,
-        counts,
+        defines,
         ms,
         count,
         mode,
@@ -342,20 +319,9 @@ fn search_in(
     requires { ⌜ Nodes (now query) (now nodes) ⌝ }
     ensures { λ r. ⌜ Promised (now (query .entry)) (now (rows .entry)) (lent (now (notes .entry)) (now (trail .entry)) (now (numbers .entry)) (now (labels .entry))) (memory r (now (notes .exit)) (now (trail .exit)) (now (numbers .exit)) (now (labels .exit))) ⌝ }
 {
-    let mut cells = [0u16; 832];
-    let mut offsets = [0i8; 416];
-    let mut constants = [0i32; 208];
-    let mut counts = [0u8; 26];
+    let mut defines = [0usize; 26];
     let mut measures = [0u8; 24];
-    let q = room::read_query(
-        query,
-        nodes,
-        &mut cells,
-        &mut offsets,
-        &mut constants,
-        &mut counts,
-        &mut measures,
-    );
+    let q = room::read_query(query, nodes, &mut defines, &mut measures);
     let answer = q.answer;
     if answer != 0 {
         return refused(answer);
@@ -383,10 +349,7 @@ fn search_in(
         rows,
         columns,
         n,
-        &cells,
-        &offsets,
-        &constants,
-        &counts,
+        &defines,
         &measures,
         q.measures,
         q.skip == 1,

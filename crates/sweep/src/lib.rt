@@ -157,10 +157,7 @@ fn visit(
     columns: usize,
     n: usize,
     tests: &[u64; 208],
-    cells: &[u16; 832],
-    offsets: &[i8; 416],
-    constants: &[i32; 208],
-    counts: &[u8; 26],
+    query: &[u8],
     ms: &[u8],
     count: usize,
     mode: bool,
@@ -170,11 +167,8 @@ fn visit(
     labels: &mut [u8],
     i: Sweep,
 ) -> Sweep
-    requires { ⌜ Visits (asked (tables (now code) (now next) (now entry) (now stop) (now ways)) (holdsIn (now rows) columns (now cells) (now offsets) (now
-        constants) (now counts)) n mode (tableOf columns (now rows)) (measuresIn (now ms) count)) (Letters (now tests) (now cells) (now offsets) (now
-        constants) (now counts) (now rows) columns n) (now ms) count (now rows) columns (now notes) (now trail) (now labels) i ⌝ }
-    ensures { λ r. ⌜ Visited (asked (tables (now (code .entry)) (now (next .entry)) (now (entry .entry)) (now (stop .entry)) (now (ways .entry))) (holdsIn
-        (now (rows .entry)) columns (now (cells .entry)) (now (offsets .entry)) (now (constants .entry)) (now (counts .entry))) n mode (tableOf columns (now
+    requires { ⌜ Visits (asked (tables (now code) (now next) (now entry) (now stop) (now ways)) (holdsIn (now rows) columns (now query) (now tests)) n mode (tableOf columns (now rows)) (measuresIn (now ms) count)) (Letters (now tests) (now query) (now rows) columns n) (now ms) count (now rows) columns (now notes) (now trail) (now labels) i ⌝ }
+    ensures { λ r. ⌜ Visited (asked (tables (now (code .entry)) (now (next .entry)) (now (entry .entry)) (now (stop .entry)) (now (ways .entry))) (holdsIn (now (rows .entry)) columns (now (query .entry)) (now (tests .entry))) n mode (tableOf columns (now
         (rows .entry))) (measuresIn (now (ms .entry)) count)) (now (notes .entry)) (now (notes .exit)) (now (trail .entry)) (now (trail .exit)) (now (numbers
         .entry)) (now (numbers .exit)) (now (labels .entry)) (now (labels .exit)) i r ⌝ }
 {
@@ -189,10 +183,7 @@ fn visit(
         columns,
         n,
         tests,
-        cells,
-        offsets,
-        constants,
-        counts,
+        query,
         notes,
         trail,
         row,
@@ -239,10 +230,7 @@ fn starts(
     columns: usize,
     n: usize,
     tests: &[u64; 208],
-    cells: &[u16; 832],
-    offsets: &[i8; 416],
-    constants: &[i32; 208],
-    counts: &[u8; 26],
+    query: &[u8],
     ms: &[u8],
     count: usize,
     mode: bool,
@@ -251,11 +239,8 @@ fn starts(
     numbers: &mut [i64],
     labels: &mut [u8],
 ) -> Sweep
-    requires { ⌜ Starts (asked (tables (now code) (now next) (now entry) (now stop) (now ways)) (holdsIn (now rows) columns (now cells) (now offsets) (now
-        constants) (now counts)) n mode (tableOf columns (now rows)) (measuresIn (now ms) count)) (Letters (now tests) (now cells) (now offsets) (now
-        constants) (now counts) (now rows) columns n) (now ms) count (now rows) columns (now notes) (now trail) ⌝ }
-    ensures { λ r. ⌜ Searched (asked (tables (now (code .entry)) (now (next .entry)) (now (entry .entry)) (now (stop .entry)) (now (ways .entry))) (holdsIn
-        (now (rows .entry)) columns (now (cells .entry)) (now (offsets .entry)) (now (constants .entry)) (now (counts .entry))) n mode (tableOf columns (now
+    requires { ⌜ Starts (asked (tables (now code) (now next) (now entry) (now stop) (now ways)) (holdsIn (now rows) columns (now query) (now tests)) n mode (tableOf columns (now rows)) (measuresIn (now ms) count)) (Letters (now tests) (now query) (now rows) columns n) (now ms) count (now rows) columns (now notes) (now trail) ⌝ }
+    ensures { λ r. ⌜ Searched (asked (tables (now (code .entry)) (now (next .entry)) (now (entry .entry)) (now (stop .entry)) (now (ways .entry))) (holdsIn (now (rows .entry)) columns (now (query .entry)) (now (tests .entry))) n mode (tableOf columns (now
         (rows .entry))) (measuresIn (now (ms .entry)) count)) (now (notes .entry)) (now (trail .entry)) (now (numbers .entry)) (now (labels .entry)) (now
         (notes .exit)) (now (trail .exit)) (now (numbers .exit)) (now (labels .exit)) r ⌝ }
 {
@@ -277,10 +262,7 @@ fn starts(
             columns,
             n,
             tests,
-            cells,
-            offsets,
-            constants,
-            counts,
+            query,
             ms,
             count,
             mode,
@@ -329,10 +311,7 @@ pub fn search(
     columns: usize,
     n: usize,
     tests: &[u64; 208],
-    cells: &[u16; 832],
-    offsets: &[i8; 416],
-    constants: &[i32; 208],
-    counts: &[u8; 26],
+    query: &[u8],
     ms: &[u8],
     count: usize,
     mode: bool,
@@ -341,11 +320,8 @@ pub fn search(
     numbers: &mut [i64],
     labels: &mut [u8],
 ) -> Sweep
-    requires { ⌜ Searches (asked (tables (now code) (now next) (now entry) (now stop) (now ways)) (holdsIn (now rows) columns (now cells) (now offsets) (now
-        constants) (now counts)) n mode (tableOf columns (now rows)) (measuresIn (now ms) count)) (Letters (now tests) (now cells) (now offsets) (now
-        constants) (now counts) (now rows) columns n) (now ms) count (now rows) columns (now notes) (now trail) ⌝ }
-    ensures { λ r. ⌜ Answered (asked (tables (now (code .entry)) (now (next .entry)) (now (entry .entry)) (now (stop .entry)) (now (ways .entry))) (holdsIn
-        (now (rows .entry)) columns (now (cells .entry)) (now (offsets .entry)) (now (constants .entry)) (now (counts .entry))) n mode (tableOf columns (now
+    requires { ⌜ Searches (asked (tables (now code) (now next) (now entry) (now stop) (now ways)) (holdsIn (now rows) columns (now query) (now tests)) n mode (tableOf columns (now rows)) (measuresIn (now ms) count)) (Letters (now tests) (now query) (now rows) columns n) (now ms) count (now rows) columns (now notes) (now trail) ⌝ }
+    ensures { λ r. ⌜ Answered (asked (tables (now (code .entry)) (now (next .entry)) (now (entry .entry)) (now (stop .entry)) (now (ways .entry))) (holdsIn (now (rows .entry)) columns (now (query .entry)) (now (tests .entry))) n mode (tableOf columns (now
         (rows .entry))) (measuresIn (now (ms .entry)) count)) (now (notes .entry)) (now (trail .entry)) (now (numbers .entry)) (now (labels .entry)) (now
         (notes .exit)) (now (trail .exit)) (now (numbers .exit)) (now (labels .exit)) r ⌝ }
 {
@@ -361,10 +337,7 @@ pub fn search(
         columns,
         n,
         tests,
-        cells,
-        offsets,
-        constants,
-        counts,
+        query,
         ms,
         count,
         mode,

@@ -12,7 +12,7 @@ use borrow.Author.Tests.{ne-eqb, lt-ltb, le-ltb}
 use Rattle.rules.specs.Report.{bitAt}
 use Rattle.rules.specs.Rows.{tableOf, holds}
 use Rattle.rules.proofs.Notes.{marked}
-use Rattle.decode.specs.Layout.{cellsFrom}
+use Rattle.decode.specs.Layout.{definedAt}
 use Rattle.letters.specs.Tests.{Letters, TestRoom}
 use Rattle.walk.specs.declared.Walk.{Walk}
 use Rattle.walk.specs.Letters.{holdsIn}
@@ -22,16 +22,16 @@ use Rattle.walk.proofs.Trying.{letter-in}
 
 -- ---- a letter
 
-module _ (tests cells : List ℕ) (offsets constants : List ℤ) (counts : List ℕ) (rows : List ℤ) (columns n c row : ℕ)
-    (h : (row ≤ n) × (c < 26) × Letters tests cells offsets constants counts rows columns n) where
+module _ (tests query : List ℕ) (rows : List ℤ) (columns n c row : ℕ)
+    (h : (row ≤ n) × (c < 26) × Letters tests query rows columns n) where
   pub letter-base : row * columns ≤ 4096 * 8
   letter-base = let l = h .2 in let a = h .0 in let m = l .most in mul-le-mul (let z : row ≤ 4096 = omega arith in z) (l .few)
 
-  pub letter-room : (i : ℕ) → i ≡ c → TestRoom tests cells offsets constants counts i rows columns n row (row * columns)
+  pub letter-room : (i : ℕ) → i ≡ c → TestRoom tests query i rows columns n row (row * columns)
   letter-room i e = record { letters = h .2; letter = rw e (h .1); upto = h .0; first = refl }
 
-  pub letter-is : (i : ℕ) (r : Bool) → i ≡ c → r ≡ (ltb row n && holds (tableOf columns rows) row (cellsFrom columns cells offsets constants (i * 8) (getD counts i 0)))
-      → r ≡ passesBy (holdsIn rows columns cells offsets constants counts) n c row
+  pub letter-is : (i : ℕ) (r : Bool) → i ≡ c → r ≡ (ltb row n && holds (tableOf columns rows) row (definedAt query (getD tests (i * 8 + 7) 0)))
+      → r ≡ passesBy (holdsIn rows columns query tests) n c row
   unfolding holdsIn passesBy
   letter-is i r e d = let z : c + 65 - 65 ≡ i = omega arith in rw (lt-ltb c 26 (h .1), z) d
 

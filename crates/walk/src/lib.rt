@@ -68,30 +68,14 @@ fn letter_passes(
     columns: usize,
     n: usize,
     tests: &[u64; 208],
-    cells: &[u16; 832],
-    offsets: &[i8; 416],
-    constants: &[i32; 208],
-    counts: &[u8; 26],
+    query: &[u8],
     c: u8,
     row: usize,
 ) -> bool
-    requires { ⌜ (row ≤ n) × (c < 26) × Letters (now tests) (now cells) (now offsets) (now constants) (now counts) (now rows) columns n ⌝ }
-    ensures { λ r. ⌜ r ≡ passesBy (holdsIn (now (rows .entry)) columns (now (cells .entry)) (now (offsets .entry)) (now (constants .entry)) (now (counts
-        .entry))) n c row ⌝ }
+    requires { ⌜ (row ≤ n) × (c < 26) × Letters (now tests) (now query) (now rows) columns n ⌝ }
+    ensures { λ r. ⌜ r ≡ passesBy (holdsIn (now (rows .entry)) columns (now (query .entry)) (now (tests .entry))) n c row ⌝ }
 {
-    letters::letter_holds(
-        tests,
-        cells,
-        offsets,
-        constants,
-        counts,
-        index(c),
-        rows,
-        columns,
-        n,
-        row,
-        row * columns,
-    )
+    letters::letter_holds(tests, query, index(c), rows, columns, n, row, row * columns)
 }
 
 // Whether an anchor of code c passes at the row, or another place that is no letter, which always passes.
@@ -167,18 +151,14 @@ fn enter(
     columns: usize,
     n: usize,
     tests: &[u64; 208],
-    cells: &[u16; 832],
-    offsets: &[i8; 416],
-    constants: &[i32; 208],
-    counts: &[u8; 26],
+    query: &[u8],
     notes: &mut [u8],
     trail: &mut [u32],
     w: Walk,
 ) -> Walk
-    requires { ⌜ Enters (now code) (now next) (now entry) n (Letters (now tests) (now cells) (now offsets) (now constants) (now counts) (now rows) columns n)
+    requires { ⌜ Enters (now code) (now next) (now entry) n (Letters (now tests) (now query) (now rows) columns n)
         (now notes) (now trail) w ⌝ }
-    ensures { λ r. ⌜ mem (now (notes .exit)) (now (trail .exit)) r ≡ enteredBy (passesBy (holdsIn (now (rows .entry)) columns (now (cells .entry)) (now
-        (offsets .entry)) (now (constants .entry)) (now (counts .entry))) n (getD (now (code .entry)) (w .place) 0) (w .row)) (mem (now (notes .entry)) (now
+    ensures { λ r. ⌜ mem (now (notes .exit)) (now (trail .exit)) r ≡ enteredBy (passesBy (holdsIn (now (rows .entry)) columns (now (query .entry)) (now (tests .entry))) n (getD (now (code .entry)) (w .place) 0) (w .row)) (mem (now (notes .entry)) (now
         (trail .entry)) w) (getD (now (code .entry)) (w .place) 0) (getD (now (entry .entry)) (w .place) 0) (getD (now (next .entry)) (w .place) 0) (length
         (now (code .entry))) ⌝ }
 {
@@ -193,18 +173,7 @@ fn enter(
         return tried(notes, top + 1, steps, q + 1, row, base);
     }
     if c < 26 {
-        if !letter_passes(
-            rows,
-            columns,
-            n,
-            tests,
-            cells,
-            offsets,
-            constants,
-            counts,
-            c,
-            row,
-        ) {
+        if !letter_passes(rows, columns, n, tests, query, c, row) {
             return fails(notes, w, steps);
         }
         let k = wide(next[q]);
@@ -253,19 +222,13 @@ fn descend(
     columns: usize,
     n: usize,
     tests: &[u64; 208],
-    cells: &[u16; 832],
-    offsets: &[i8; 416],
-    constants: &[i32; 208],
-    counts: &[u8; 26],
+    query: &[u8],
     notes: &mut [u8],
     trail: &mut [u32],
     from: Walk,
 ) -> Walk
-    requires { ⌜ Goes (tables (now code) (now next) (now entry) (now stop) (now ways)) (holdsIn (now rows) columns (now cells) (now offsets) (now constants)
-        (now counts)) n (Letters (now tests) (now cells) (now offsets) (now constants) (now counts) (now rows) columns n) (now notes) (now trail) from ⌝ }
-    ensures { λ r. ⌜ Descended (tables (now (code .entry)) (now (next .entry)) (now (entry .entry)) (now (stop .entry)) (now (ways .entry))) (holdsIn (now
-        (rows .entry)) columns (now (cells .entry)) (now (offsets .entry)) (now (constants .entry)) (now (counts .entry))) n (Letters (now (tests .entry))
-        (now (cells .entry)) (now (offsets .entry)) (now (constants .entry)) (now (counts .entry)) (now (rows .entry)) columns n) (now (notes .entry)) (now
+    requires { ⌜ Goes (tables (now code) (now next) (now entry) (now stop) (now ways)) (holdsIn (now rows) columns (now query) (now tests)) n (Letters (now tests) (now query) (now rows) columns n) (now notes) (now trail) from ⌝ }
+    ensures { λ r. ⌜ Descended (tables (now (code .entry)) (now (next .entry)) (now (entry .entry)) (now (stop .entry)) (now (ways .entry))) (holdsIn (now (rows .entry)) columns (now (query .entry)) (now (tests .entry))) n (Letters (now (tests .entry)) (now (query .entry)) (now (rows .entry)) columns n) (now (notes .entry)) (now
         (trail .entry)) from (now (notes .exit)) (now (trail .exit)) r ⌝ }
 {
     let mut w = from;
@@ -278,10 +241,7 @@ fn descend(
             columns,
             n,
             tests,
-            cells,
-            offsets,
-            constants,
-            counts,
+            query,
             notes,
             trail,
             w,
@@ -320,19 +280,13 @@ fn back(
     columns: usize,
     n: usize,
     tests: &[u64; 208],
-    cells: &[u16; 832],
-    offsets: &[i8; 416],
-    constants: &[i32; 208],
-    counts: &[u8; 26],
+    query: &[u8],
     notes: &mut [u8],
     trail: &mut [u32],
     w: Walk,
 ) -> Walk
-    requires { ⌜ Halts (tables (now code) (now next) (now entry) (now stop) (now ways)) (holdsIn (now rows) columns (now cells) (now offsets) (now constants)
-        (now counts)) n (Letters (now tests) (now cells) (now offsets) (now constants) (now counts) (now rows) columns n) (now notes) (now trail) w ⌝ }
-    ensures { λ r. ⌜ Backward (tables (now (code .entry)) (now (next .entry)) (now (entry .entry)) (now (stop .entry)) (now (ways .entry))) (holdsIn (now
-        (rows .entry)) columns (now (cells .entry)) (now (offsets .entry)) (now (constants .entry)) (now (counts .entry))) n (Letters (now (tests .entry))
-        (now (cells .entry)) (now (offsets .entry)) (now (constants .entry)) (now (counts .entry)) (now (rows .entry)) columns n) (now (notes .entry)) (now
+    requires { ⌜ Halts (tables (now code) (now next) (now entry) (now stop) (now ways)) (holdsIn (now rows) columns (now query) (now tests)) n (Letters (now tests) (now query) (now rows) columns n) (now notes) (now trail) w ⌝ }
+    ensures { λ r. ⌜ Backward (tables (now (code .entry)) (now (next .entry)) (now (entry .entry)) (now (stop .entry)) (now (ways .entry))) (holdsIn (now (rows .entry)) columns (now (query .entry)) (now (tests .entry))) n (Letters (now (tests .entry)) (now (query .entry)) (now (rows .entry)) columns n) (now (notes .entry)) (now
         (trail .entry)) w (now (notes .exit)) (now (trail .exit)) r ⌝ }
 {
     let at = w.top - 1;
@@ -392,19 +346,13 @@ fn retreat(
     columns: usize,
     n: usize,
     tests: &[u64; 208],
-    cells: &[u16; 832],
-    offsets: &[i8; 416],
-    constants: &[i32; 208],
-    counts: &[u8; 26],
+    query: &[u8],
     notes: &mut [u8],
     trail: &mut [u32],
     from: Walk,
 ) -> Walk
-    requires { ⌜ Idle (tables (now code) (now next) (now entry) (now stop) (now ways)) (holdsIn (now rows) columns (now cells) (now offsets) (now constants)
-        (now counts)) n (Letters (now tests) (now cells) (now offsets) (now constants) (now counts) (now rows) columns n) (now notes) (now trail) from ⌝ }
-    ensures { λ r. ⌜ Retreated (tables (now (code .entry)) (now (next .entry)) (now (entry .entry)) (now (stop .entry)) (now (ways .entry))) (holdsIn (now
-        (rows .entry)) columns (now (cells .entry)) (now (offsets .entry)) (now (constants .entry)) (now (counts .entry))) n (Letters (now (tests .entry))
-        (now (cells .entry)) (now (offsets .entry)) (now (constants .entry)) (now (counts .entry)) (now (rows .entry)) columns n) (now (notes .entry)) (now
+    requires { ⌜ Idle (tables (now code) (now next) (now entry) (now stop) (now ways)) (holdsIn (now rows) columns (now query) (now tests)) n (Letters (now tests) (now query) (now rows) columns n) (now notes) (now trail) from ⌝ }
+    ensures { λ r. ⌜ Retreated (tables (now (code .entry)) (now (next .entry)) (now (entry .entry)) (now (stop .entry)) (now (ways .entry))) (holdsIn (now (rows .entry)) columns (now (query .entry)) (now (tests .entry))) n (Letters (now (tests .entry)) (now (query .entry)) (now (rows .entry)) columns n) (now (notes .entry)) (now
         (trail .entry)) from (now (notes .exit)) (now (trail .exit)) r ⌝ }
 {
     let mut w = from;
@@ -422,10 +370,7 @@ fn retreat(
             columns,
             n,
             tests,
-            cells,
-            offsets,
-            constants,
-            counts,
+            query,
             notes,
             trail,
             w,
@@ -445,19 +390,13 @@ fn run(
     columns: usize,
     n: usize,
     tests: &[u64; 208],
-    cells: &[u16; 832],
-    offsets: &[i8; 416],
-    constants: &[i32; 208],
-    counts: &[u8; 26],
+    query: &[u8],
     notes: &mut [u8],
     trail: &mut [u32],
     from: Walk,
 ) -> Walk
-    requires { ⌜ Moves (tables (now code) (now next) (now entry) (now stop) (now ways)) (holdsIn (now rows) columns (now cells) (now offsets) (now constants)
-        (now counts)) n (Letters (now tests) (now cells) (now offsets) (now constants) (now counts) (now rows) columns n) (now notes) (now trail) from ⌝ }
-    ensures { λ r. ⌜ Ran (tables (now (code .entry)) (now (next .entry)) (now (entry .entry)) (now (stop .entry)) (now (ways .entry))) (holdsIn (now (rows
-        .entry)) columns (now (cells .entry)) (now (offsets .entry)) (now (constants .entry)) (now (counts .entry))) n (Letters (now (tests .entry)) (now
-        (cells .entry)) (now (offsets .entry)) (now (constants .entry)) (now (counts .entry)) (now (rows .entry)) columns n) (now (notes .entry)) (now (trail
+    requires { ⌜ Moves (tables (now code) (now next) (now entry) (now stop) (now ways)) (holdsIn (now rows) columns (now query) (now tests)) n (Letters (now tests) (now query) (now rows) columns n) (now notes) (now trail) from ⌝ }
+    ensures { λ r. ⌜ Ran (tables (now (code .entry)) (now (next .entry)) (now (entry .entry)) (now (stop .entry)) (now (ways .entry))) (holdsIn (now (rows .entry)) columns (now (query .entry)) (now (tests .entry))) n (Letters (now (tests .entry)) (now (query .entry)) (now (rows .entry)) columns n) (now (notes .entry)) (now (trail
         .entry)) from (now (notes .exit)) (now (trail .exit)) r ⌝ }
 {
     let mut w = from;
@@ -472,10 +411,7 @@ fn run(
             columns,
             n,
             tests,
-            cells,
-            offsets,
-            constants,
-            counts,
+            query,
             notes,
             trail,
             w,
@@ -494,10 +430,7 @@ fn run(
             columns,
             n,
             tests,
-            cells,
-            offsets,
-            constants,
-            counts,
+            query,
             notes,
             trail,
             w,
@@ -517,20 +450,14 @@ pub fn attempt(
     columns: usize,
     n: usize,
     tests: &[u64; 208],
-    cells: &[u16; 832],
-    offsets: &[i8; 416],
-    constants: &[i32; 208],
-    counts: &[u8; 26],
+    query: &[u8],
     notes: &mut [u8],
     trail: &mut [u32],
     row: usize,
     steps: usize,
 ) -> Walk
-    requires { ⌜ Ready (tables (now code) (now next) (now entry) (now stop) (now ways)) (holdsIn (now rows) columns (now cells) (now offsets) (now constants)
-        (now counts)) n (Letters (now tests) (now cells) (now offsets) (now constants) (now counts) (now rows) columns n) (now notes) (now trail) row steps ⌝ }
-    ensures { λ r. ⌜ Done (tables (now (code .entry)) (now (next .entry)) (now (entry .entry)) (now (stop .entry)) (now (ways .entry))) (holdsIn (now (rows
-        .entry)) columns (now (cells .entry)) (now (offsets .entry)) (now (constants .entry)) (now (counts .entry))) n (Letters (now (tests .entry)) (now
-        (cells .entry)) (now (offsets .entry)) (now (constants .entry)) (now (counts .entry)) (now (rows .entry)) columns n) (now (notes .entry)) (now (trail
+    requires { ⌜ Ready (tables (now code) (now next) (now entry) (now stop) (now ways)) (holdsIn (now rows) columns (now query) (now tests)) n (Letters (now tests) (now query) (now rows) columns n) (now notes) (now trail) row steps ⌝ }
+    ensures { λ r. ⌜ Done (tables (now (code .entry)) (now (next .entry)) (now (entry .entry)) (now (stop .entry)) (now (ways .entry))) (holdsIn (now (rows .entry)) columns (now (query .entry)) (now (tests .entry))) n (Letters (now (tests .entry)) (now (query .entry)) (now (rows .entry)) columns n) (now (notes .entry)) (now (trail
         .entry)) row steps (now (notes .exit)) (now (trail .exit)) r ⌝ }
 {
     let base = row * code.len();
@@ -545,10 +472,7 @@ pub fn attempt(
         columns,
         n,
         tests,
-        cells,
-        offsets,
-        constants,
-        counts,
+        query,
         notes,
         trail,
         start,

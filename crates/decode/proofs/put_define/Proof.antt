@@ -1,6 +1,6 @@
 -- `decode::put_define` meets its contract by the laws of Defines.
 use borrow.Author.Needs.{needs}
-use Rattle.decode.proofs.Defines.{define-taken, define-room, define-put}
+use Rattle.decode.proofs.Defines.{define-taken, define-put}
 use Rattle.decode.proofs.put_define.Statement.{statement}
 use Rattle.decode.proofs.put_define.Tie as tie
 
@@ -10,35 +10,20 @@ byte-requires c κs = search needs
 sub-l : tie.Need-sub-l
 sub-l c = search needs
 
+mul-if1 : tie.Need-mul-if1
+mul-if1 c = search needs
+
 element-copy-out-if1 : tie.Need-element-copy-out-if1
 element-copy-out-if1 c = search needs
 
 returns : tie.Need-returns
 returns c = search (needs, define-taken)
 
-add-put-cells : tie.Need-add-put-cells
-add-put-cells c = search needs
+mul-defines : tie.Need-mul-defines
+mul-defines c = search needs
 
-add-byte : tie.Need-add-byte
-add-byte c = search needs
-
-byte-requires-2 : tie.Need-byte-requires-2
-byte-requires-2 c κs = search needs
-
-mul-put-cells : tie.Need-mul-put-cells
-mul-put-cells c = search needs
-
-put-cells-requires : tie.Need-put-cells-requires
-put-cells-requires c κs = search (needs, define-room)
-
-add-counts : tie.Need-add-counts
-add-counts c = search needs
-
-shared-slice-read-counts : tie.Need-shared-slice-read-counts
-shared-slice-read-counts c = search needs
-
-element-write-counts : tie.Need-element-write-counts
-element-write-counts c = search needs
+element-write-defines : tie.Need-element-write-defines
+element-write-defines c = search needs
 
 returns-2 : tie.Need-returns-2
 returns-2 c = search (needs, define-put)
@@ -49,14 +34,9 @@ put-define-spec =
     (tie.spec
     byte-requires
     sub-l
+    mul-if1
     element-copy-out-if1
     returns
-    add-put-cells
-    add-byte
-    byte-requires-2
-    mul-put-cells
-    put-cells-requires
-    add-counts
-    shared-slice-read-counts
-    element-write-counts
+    mul-defines
+    element-write-defines
     returns-2)

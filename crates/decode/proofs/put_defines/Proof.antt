@@ -1,4 +1,4 @@
--- `decode::put_defines` meets its contract by the laws of Defines and Reading. The invariant is `Lettering`, of each letter's room; the bytes left fall.
+-- `decode::put_defines` meets its contract by the laws of Defines and Reading. The invariant is `Lettering`, of each letter's entry and of what was told of two; the bytes left fall.
 use Prim.Native.Nat.{_-_}
 use lib.ListN.{length}
 use borrow.Author.Needs.{needs}
@@ -8,10 +8,10 @@ use Rattle.decode.proofs.put_defines.Statement.{statement}
 use Rattle.decode.proofs.put_defines.Tie as tie
 
 abbrev Inv-loop : tie.InvT-loop
-Inv-loop s from columns cells₀ offsets₀ numbers₀ counts₀ at₀ cells offsets numbers counts at = Lettering s from columns cells₀ offsets₀ numbers₀ cells offsets numbers counts at
+Inv-loop s from defines₀ at₀ twice₀ defines at twice = Lettering s from defines at twice
 
 abbrev μ-loop : tie.MeasureT-loop
-μ-loop s from columns cells₀ offsets₀ numbers₀ counts₀ at₀ cells offsets numbers counts at = length s - at
+μ-loop s from defines₀ at₀ twice₀ defines at twice = length s - at
 
 loop-holds : tie.Need-loop-holds Inv-loop μ-loop
 loop-holds c = search (needs, lettering-none)
@@ -33,6 +33,9 @@ returns-2 c = search (needs, lettering-over)
 
 put-define-requires : tie.Need-put-define-requires Inv-loop μ-loop
 put-define-requires c κs = search (needs, lettering-room)
+
+either-requires : tie.Need-either-requires Inv-loop μ-loop
+either-requires c κs = search needs
 
 loop-less : tie.Need-loop-less Inv-loop μ-loop
 loop-less c = search (needs, fewer)
@@ -56,6 +59,7 @@ put-defines-spec =
     returns
     returns-2
     put-define-requires
+    either-requires
     loop-less
     loop-again
     returns-3)

@@ -1,6 +1,6 @@
 -- `letters::several_hold`, which calls itself, meets its contract by the laws of Holding. The measure: how many comparisons there are.
-use Rattle.letters.proofs.Holding.{none-hold, before-unmet, last-decides, room-before, room-last}
 use borrow.Author.Needs.{needs}
+use Rattle.letters.proofs.Holding.{none-hold, before-unmet, last-decides, room-before, room-last}
 use Prim.Native.Nat.{ℕ, _<_}
 use borrow.Fn.Kinds.{In}
 use borrow.Fn.PlainCycle.{Measures, is, falls, and}
@@ -11,19 +11,19 @@ use Rattle.letters.proofs.cell_met.Reads as cell-met-reads
 use Rattle.letters.proofs.+several_hold.{statement}
 use Rattle.letters.proofs.+several_hold.Tie.{close}
 
-abbrev μ-several-hold : Measures 4 several-hold-kinds.ps ℕ
-μ-several-hold κs a = a .1 .1 .1 .0
+abbrev μ-several-hold : Measures 2 several-hold-kinds.ps ℕ
+μ-several-hold κs a = a .1 .0
 
-abbrev several-hold-at : ℕ → In 4 several-hold-kinds.ps
+abbrev several-hold-at : ℕ → In 2 several-hold-kinds.ps
 several-hold-at t =
-    and 4 several-hold-kinds.ps (is 4 several-hold-kinds.ps μ-several-hold t) several-hold.Pre
+    and 2 several-hold-kinds.ps (is 2 several-hold-kinds.ps μ-several-hold t) several-hold.Pre
 
-abbrev several-hold-below : ℕ → In 4 several-hold-kinds.ps
+abbrev several-hold-below : ℕ → In 2 several-hold-kinds.ps
 several-hold-below t =
     and
-    4
+    2
     several-hold-kinds.ps
-    (falls 4 several-hold-kinds.ps _<_ μ-several-hold t)
+    (falls 2 several-hold-kinds.ps _<_ μ-several-hold t)
     several-hold.Pre
 
 several-hold-returns : (t : ℕ) → several-hold-lts.Need-returns (
@@ -57,6 +57,14 @@ several-hold-returns-2 : (t : ℕ) → several-hold-lts.Need-returns-2 (
   cell-met-reads.Learnt,
 ) (several-hold-at t) several-hold.Post
 several-hold-returns-2 t c = search (needs, before-unmet)
+
+several-hold-mul-cell-met : (t : ℕ) → several-hold-lts.Need-mul-cell-met (
+  several-hold-below t,
+  several-hold.Post,
+  cell-met-reads.Asked,
+  cell-met-reads.Learnt,
+) (several-hold-at t) several-hold.Post
+several-hold-mul-cell-met t c = search needs
 
 several-hold-add-cell-met : (t : ℕ) → several-hold-lts.Need-add-cell-met (
   several-hold-below t,
@@ -95,6 +103,7 @@ pub +several-hold-spec : {M : Type 1} → statement M
     (several-hold-sub-k t)
     (several-hold-several-hold-requires t)
     (several-hold-returns-2 t)
+    (several-hold-mul-cell-met t)
     (several-hold-add-cell-met t)
     (several-hold-cell-met-requires t)
     (several-hold-returns-3 t)

@@ -1,25 +1,28 @@
--- `letters::all_met` meets its contract by the laws of Holding. The invariant is `Reading`: the first k comparisons are met; the count left falls.
+-- `letters::all_met` meets its contract by the laws of Holding. The invariant is `Reading`: the first k are met; the count left falls.
+use borrow.Author.Needs.{needs}
 use Prim.Native.Nat.{_-_}
 use native.Mathlib.Omega.{arith}
 use Rattle.letters.proofs.Holding.{Reading, reading-none, reading-more, reading-stop, reading-all}
-use borrow.Author.Needs.{needs}
 use Rattle.letters.proofs.all_met.Statement.{statement}
 use Rattle.letters.proofs.all_met.Tie as tie
 
 abbrev Inv-loop : tie.InvT-loop
-Inv-loop cells numbers g count rows from k₀ k = Reading cells numbers rows from g count k
+Inv-loop query p count rows columns from k₀ k = Reading query rows columns from p count k
 
 abbrev μ-loop : tie.MeasureT-loop
-μ-loop cells numbers g count rows from k₀ k = count - k
+μ-loop query p count rows columns from k₀ k = count - k
 
 loop-holds : tie.Need-loop-holds Inv-loop μ-loop
-loop-holds c = reading-none _ _ _ _ _ _
+loop-holds c = search (needs, reading-none)
+
+mul-read-met : tie.Need-mul-read-met Inv-loop μ-loop
+mul-read-met c = search needs
 
 add-read-met : tie.Need-add-read-met Inv-loop μ-loop
 add-read-met c = search needs
 
 read-met-requires : tie.Need-read-met-requires Inv-loop μ-loop
-read-met-requires c κs = search (needs, c .before .before .pre .each)
+read-met-requires c κs = search (needs, c .before .before .before .pre .each)
 
 returns : tie.Need-returns Inv-loop μ-loop
 returns c = search (needs, reading-stop)
@@ -43,6 +46,7 @@ all-met-spec =
     Inv-loop
     μ-loop
     loop-holds
+    mul-read-met
     add-read-met
     read-met-requires
     returns

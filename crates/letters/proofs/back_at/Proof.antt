@@ -1,38 +1,35 @@
 -- `letters::back_at` meets its contract by the laws of Putting.
-use borrow.Author.Needs.{needs}
 use Rattle.letters.proofs.Putting.{back-at}
+use borrow.Author.Needs.{needs}
 use Rattle.letters.proofs.back_at.Statement.{statement}
 use Rattle.letters.proofs.back_at.Tie as tie
 
-mul-wide : tie.Need-mul-wide
-mul-wide c = search needs
+add-byte : tie.Need-add-byte
+add-byte c = search needs
 
-add-wide : tie.Need-add-wide
-add-wide c = search needs
+shared-slice-read-byte : tie.Need-shared-slice-read-byte
+shared-slice-read-byte c = search needs
 
-mul-wide-2 : tie.Need-mul-wide-2
-mul-wide-2 c = search needs
+byte-requires : tie.Need-byte-requires
+byte-requires c κs = search needs
 
-element-copy-out-wide : tie.Need-element-copy-out-wide
-element-copy-out-wide c = search needs
+add-signed-byte : tie.Need-add-signed-byte
+add-signed-byte c = search needs
 
-wide-requires : tie.Need-wide-requires
-wide-requires c κs = search needs
+shared-slice-read-signed-byte : tie.Need-shared-slice-read-signed-byte
+shared-slice-read-signed-byte c = search needs
 
-mul-back-both : tie.Need-mul-back-both
-mul-back-both c = search needs
+signed-byte-requires : tie.Need-signed-byte-requires
+signed-byte-requires c κs = search needs
 
-element-copy-out-back-both : tie.Need-element-copy-out-back-both
-element-copy-out-back-both c = search needs
+add-signed-byte-2 : tie.Need-add-signed-byte-2
+add-signed-byte-2 c = search needs
 
-mul-back-both-2 : tie.Need-mul-back-both-2
-mul-back-both-2 c = search needs
+shared-slice-read-signed-byte-2 : tie.Need-shared-slice-read-signed-byte-2
+shared-slice-read-signed-byte-2 c = search needs
 
-add-back-both : tie.Need-add-back-both
-add-back-both c = search needs
-
-element-copy-out-back-both-2 : tie.Need-element-copy-out-back-both-2
-element-copy-out-back-both-2 c = search needs
+signed-byte-requires-2 : tie.Need-signed-byte-requires-2
+signed-byte-requires-2 c κs = search needs
 
 back-both-requires : tie.Need-back-both-requires
 back-both-requires c κs = search needs
@@ -44,15 +41,14 @@ pub back-at-spec : {M : Type 1} → statement M
 back-at-spec =
     tie.close
     (tie.spec
-    mul-wide
-    add-wide
-    mul-wide-2
-    element-copy-out-wide
-    wide-requires
-    mul-back-both
-    element-copy-out-back-both
-    mul-back-both-2
-    add-back-both
-    element-copy-out-back-both-2
+    add-byte
+    shared-slice-read-byte
+    byte-requires
+    add-signed-byte
+    shared-slice-read-signed-byte
+    signed-byte-requires
+    add-signed-byte-2
+    shared-slice-read-signed-byte-2
+    signed-byte-requires-2
     back-both-requires
     returns)

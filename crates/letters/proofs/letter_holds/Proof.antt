@@ -1,7 +1,7 @@
 -- `letters::letter_holds` meets its contract by the laws of Testing.
 use native.Mathlib.Omega.{arith}
 use Rattle.rules.proofs.Signed.{read-back}
-use Rattle.letters.proofs.Testing.{several-room, several-is, behind-last, all-there, by-several, left-there, right-there, by-column, by-number}
+use Rattle.letters.proofs.Testing.{count-there, defined, left-there, right-there, by-column, by-number, first-unmet, only-first, rest-reads, behind-first, and-rest}
 use borrow.Author.Needs.{needs}
 use Rattle.letters.proofs.letter_holds.Statement.{statement}
 use Rattle.letters.proofs.letter_holds.Tie as tie
@@ -30,20 +30,11 @@ mul-if1 c = search needs
 element-copy-out-if1 : tie.Need-element-copy-out-if1
 element-copy-out-if1 c = search needs
 
-element-copy-out-byte : tie.Need-element-copy-out-byte
-element-copy-out-byte c = search needs
-
-byte-requires : tie.Need-byte-requires
-byte-requires c κs = search needs
-
-several-hold-requires : tie.Need-several-hold-requires
-several-hold-requires c κs = search (needs, several-room)
+near-end-requires : tie.Need-near-end-requires
+near-end-requires c κs = search needs
 
 returns : tie.Need-returns
-returns c = search (needs, several-is)
-
-returns-2 : tie.Need-returns-2
-returns-2 c = search (needs, behind-last)
+returns c = search needs
 
 far-back-requires : tie.Need-far-back-requires
 far-back-requires c κs = search needs
@@ -53,18 +44,6 @@ mul-sort c = search needs
 
 element-copy-out-sort : tie.Need-element-copy-out-sort
 element-copy-out-sort c = search needs
-
-element-copy-out-byte-2 : tie.Need-element-copy-out-byte-2
-element-copy-out-byte-2 c = search needs
-
-byte-requires-2 : tie.Need-byte-requires-2
-byte-requires-2 c κs = search needs
-
-all-met-requires : tie.Need-all-met-requires
-all-met-requires c κs = search (needs, all-there)
-
-returns-3 : tie.Need-returns-3
-returns-3 c = search (needs, by-several)
 
 add-entry-from : tie.Need-add-entry-from
 add-entry-from c = search needs
@@ -76,11 +55,7 @@ element-copy-out-entry-from : tie.Need-element-copy-out-entry-from
 element-copy-out-entry-from c = search needs
 
 entry-from-requires : tie.Need-entry-from-requires
-entry-from-requires c κs =
-    let f = c .before .before .before in
-    let w = f .before .before .before in
-    left-there _ _ _ _ _ _ _ _ _ _ _ (w .before .before .pre) (w .wrapping-sub-u64 .result) (w .wrapping-sub-u64 .ensures) (omega arith) (f .far-back .result) (f .far-back .ensures)
-    (c .before .if3 .left)
+entry-from-requires c κs = left-there _ _ _ _ _ _ _ _ (c .before .before .before .before .before .before .before .before .pre) (c .before .before .before .before .before .wrapping-sub-u64 .result) (c .before .before .before .before .before .wrapping-sub-u64 .ensures) (omega arith) (c .before .before .far-back .result) (c .before .before .far-back .ensures)
 
 add-entry-from-2 : tie.Need-add-entry-from-2
 add-entry-from-2 c = search needs
@@ -92,12 +67,7 @@ element-copy-out-entry-from-2 : tie.Need-element-copy-out-entry-from-2
 element-copy-out-entry-from-2 c = search needs
 
 entry-from-requires-2 : tie.Need-entry-from-requires-2
-entry-from-requires-2 c κs =
-    let i = c .before .before .before .before in
-    let f = i .before .before in
-    let w = f .before .before .before in
-    right-there _ _ _ _ _ _ _ _ _ _ _ (w .before .before .pre) (w .wrapping-sub-u64 .result) (w .wrapping-sub-u64 .ensures) (omega arith) (f .far-back .result) (f .far-back .ensures)
-    (i .if3 .left) (c .before .if4 .taken)
+entry-from-requires-2 c κs = right-there _ _ _ _ _ _ _ _ (c .before .before .before .before .before .before .before .before .before .before .before .pre) (c .before .before .before .before .before .before .before .before .wrapping-sub-u64 .result) (c .before .before .before .before .before .before .before .before .wrapping-sub-u64 .ensures) (omega arith) (c .before .before .before .before .before .far-back .result) (c .before .before .before .before .before .far-back .ensures) (c .before .if2 .taken)
 
 difference-requires : tie.Need-difference-requires
 difference-requires c κs = search needs
@@ -123,8 +93,32 @@ element-copy-out-inside-2 c = search needs
 inside-requires : tie.Need-inside-requires
 inside-requires c κs = search needs
 
+returns-2 : tie.Need-returns-2
+returns-2 c = first-unmet _ _ _ _ _ _ _ _ (c .before .before .before .before .before .before .before .before .before .before .before .before .before .before .before .before .before .pre) (c .before .before .before .before .before .before .before .before .before .before .before .before .before .before .wrapping-sub-u64 .result) (c .before .before .before .before .before .before .before .before .before .before .before .before .before .before .wrapping-sub-u64 .ensures) (omega arith) (c .before .before .before .before .before .before .before .before .before .before .before .far-back .result) (c .before .before .before .before .before .before .before .before .before .before .before .far-back .ensures) (c .before .inside .result) (search (needs, by-column _ _ _ _ _ _ _ _ (c .before .before .before .before .before .before .before .before .before .before .before .before .before .before .before .before .before .pre) (c .before .before .before .before .before .before .before .before .before .before .before .before .before .before .wrapping-sub-u64 .result) (c .before .before .before .before .before .before .before .before .before .before .before .before .before .before .wrapping-sub-u64 .ensures) (omega arith) (c .before .before .before .before .before .before .before .before .before .before .before .far-back .result) (c .before .before .before .before .before .before .before .before .before .before .before .far-back .ensures) (c .before .before .before .before .before .before .before .if2 .taken))) (search needs)
+
+returns-3 : tie.Need-returns-3
+returns-3 c = only-first _ _ _ _ _ _ _ _ (c .before .before .before .before .before .before .before .before .before .before .before .before .before .before .before .before .before .before .pre) (c .before .before .before .before .before .before .before .before .before .before .before .before .before .before .before .wrapping-sub-u64 .result) (c .before .before .before .before .before .before .before .before .before .before .before .before .before .before .before .wrapping-sub-u64 .ensures) (omega arith) (c .before .before .before .before .before .before .before .before .before .before .before .before .far-back .result) (c .before .before .before .before .before .before .before .before .before .before .before .before .far-back .ensures) (c .before .before .inside .result) (search (needs, by-column _ _ _ _ _ _ _ _ (c .before .before .before .before .before .before .before .before .before .before .before .before .before .before .before .before .before .before .pre) (c .before .before .before .before .before .before .before .before .before .before .before .before .before .before .before .wrapping-sub-u64 .result) (c .before .before .before .before .before .before .before .before .before .before .before .before .before .before .before .wrapping-sub-u64 .ensures) (omega arith) (c .before .before .before .before .before .before .before .before .before .before .before .before .far-back .result) (c .before .before .before .before .before .before .before .before .before .before .before .before .far-back .ensures) (c .before .before .before .before .before .before .before .before .if2 .taken))) (search needs) (search needs)
+
+add-second : tie.Need-add-second
+add-second c = search needs
+
+mul-second : tie.Need-mul-second
+mul-second c = search needs
+
+element-copy-out-second : tie.Need-element-copy-out-second
+element-copy-out-second c = search needs
+
+second-requires : tie.Need-second-requires
+second-requires c κs = omega (arith, count-there _ _ _ _ _ _ _ _ (c .before .before .before .before .before .before .before .before .before .before .before .before .before .before .before .before .before .before .before .pre) (defined _ _ _ _ _ _ _ _ (c .before .before .before .before .before .before .before .before .before .before .before .before .before .before .before .before .before .before .before .pre) (c .before .before .before .before .before .before .before .before .before .before .before .before .before .before .before .before .wrapping-sub-u64 .result) (c .before .before .before .before .before .before .before .before .before .before .before .before .before .before .before .before .wrapping-sub-u64 .ensures) (omega arith)))
+
+behind-first-requires : tie.Need-behind-first-requires
+behind-first-requires c κs = search needs
+
+all-met-requires : tie.Need-all-met-requires
+all-met-requires c κs = rest-reads _ _ _ _ _ _ _ _ (c .before .before .before .before .before .before .before .before .before .before .before .before .before .before .before .before .before .before .before .before .before .pre) (c .before .before .before .before .before .before .before .before .before .before .before .before .before .before .before .before .before .before .wrapping-sub-u64 .result) (c .before .before .before .before .before .before .before .before .before .before .before .before .before .before .before .before .before .before .wrapping-sub-u64 .ensures) (omega arith) (c .before .before .before .before .before .before .before .before .before .before .before .before .before .before .before .far-back .result) (c .before .before .before .before .before .before .before .before .before .before .before .before .before .before .before .far-back .ensures) (c .before .second .result) (c .behind-first .result) (search needs) (search (needs, behind-first _ _ _ _ _ _ _ _ (c .before .before .before .before .before .before .before .before .before .before .before .before .before .before .before .before .before .before .before .before .before .pre) (c .before .before .before .before .before .before .before .before .before .before .before .before .before .before .before .before .before .before .wrapping-sub-u64 .result) (c .before .before .before .before .before .before .before .before .before .before .before .before .before .before .before .before .before .before .wrapping-sub-u64 .ensures) (omega arith) (c .before .before .before .before .before .before .before .before .before .before .before .before .before .before .before .far-back .result) (c .before .before .before .before .before .before .before .before .before .before .before .before .before .before .before .far-back .ensures)))
+
 returns-4 : tie.Need-returns-4
-returns-4 c = search (needs, by-column)
+returns-4 c = and-rest _ _ _ _ _ _ _ _ (c .before .before .before .before .before .before .before .before .before .before .before .before .before .before .before .before .before .before .before .before .before .before .pre) (c .before .before .before .before .before .before .before .before .before .before .before .before .before .before .before .before .before .before .before .wrapping-sub-u64 .result) (c .before .before .before .before .before .before .before .before .before .before .before .before .before .before .before .before .before .before .before .wrapping-sub-u64 .ensures) (omega arith) (c .before .before .before .before .before .before .before .before .before .before .before .before .before .before .before .before .far-back .result) (c .before .before .before .before .before .before .before .before .before .before .before .before .before .before .before .before .far-back .ensures) (c .before .before .before .before .before .before .inside .result) (search (needs, by-column _ _ _ _ _ _ _ _ (c .before .before .before .before .before .before .before .before .before .before .before .before .before .before .before .before .before .before .before .before .before .before .pre) (c .before .before .before .before .before .before .before .before .before .before .before .before .before .before .before .before .before .before .before .wrapping-sub-u64 .result) (c .before .before .before .before .before .before .before .before .before .before .before .before .before .before .before .before .before .before .before .wrapping-sub-u64 .ensures) (omega arith) (c .before .before .before .before .before .before .before .before .before .before .before .before .before .before .before .before .far-back .result) (c .before .before .before .before .before .before .before .before .before .before .before .before .before .before .before .before .far-back .ensures) (c .before .before .before .before .before .before .before .before .before .before .before .before .if2 .taken))) (c .before .before .second .result) (c .before .behind-first .result) _ (search needs) (search needs) (search needs) (search needs)
 
 add-inside-3 : tie.Need-add-inside-3
 add-inside-3 c = search needs
@@ -148,7 +142,31 @@ inside-requires-2 : tie.Need-inside-requires-2
 inside-requires-2 c κs = rw (read-back (c .before .before .before .entry-from .result) (omega arith)) (omega arith)
 
 returns-5 : tie.Need-returns-5
-returns-5 c = search (needs, by-number)
+returns-5 c = first-unmet _ _ _ _ _ _ _ _ (c .before .before .before .before .before .before .before .before .before .before .before .before .before .before .pre) (c .before .before .before .before .before .before .before .before .before .before .before .wrapping-sub-u64 .result) (c .before .before .before .before .before .before .before .before .before .before .before .wrapping-sub-u64 .ensures) (omega arith) (c .before .before .before .before .before .before .before .before .far-back .result) (c .before .before .before .before .before .before .before .before .far-back .ensures) (c .before .inside2 .result) (search (needs, by-number _ _ _ _ _ _ _ _ (c .before .before .before .before .before .before .before .before .before .before .before .before .before .before .pre) (c .before .before .before .before .before .before .before .before .before .before .before .wrapping-sub-u64 .result) (c .before .before .before .before .before .before .before .before .before .before .before .wrapping-sub-u64 .ensures) (omega arith) (c .before .before .before .before .before .before .before .before .far-back .result) (c .before .before .before .before .before .before .before .before .far-back .ensures) (c .before .before .before .before .if2 .left))) (search needs)
+
+returns-6 : tie.Need-returns-6
+returns-6 c = only-first _ _ _ _ _ _ _ _ (c .before .before .before .before .before .before .before .before .before .before .before .before .before .before .before .pre) (c .before .before .before .before .before .before .before .before .before .before .before .before .wrapping-sub-u64 .result) (c .before .before .before .before .before .before .before .before .before .before .before .before .wrapping-sub-u64 .ensures) (omega arith) (c .before .before .before .before .before .before .before .before .before .far-back .result) (c .before .before .before .before .before .before .before .before .before .far-back .ensures) (c .before .before .inside2 .result) (search (needs, by-number _ _ _ _ _ _ _ _ (c .before .before .before .before .before .before .before .before .before .before .before .before .before .before .before .pre) (c .before .before .before .before .before .before .before .before .before .before .before .before .wrapping-sub-u64 .result) (c .before .before .before .before .before .before .before .before .before .before .before .before .wrapping-sub-u64 .ensures) (omega arith) (c .before .before .before .before .before .before .before .before .before .far-back .result) (c .before .before .before .before .before .before .before .before .before .far-back .ensures) (c .before .before .before .before .before .if2 .left))) (search needs) (search needs)
+
+add-second-2 : tie.Need-add-second-2
+add-second-2 c = search needs
+
+mul-second-2 : tie.Need-mul-second-2
+mul-second-2 c = search needs
+
+element-copy-out-second-2 : tie.Need-element-copy-out-second-2
+element-copy-out-second-2 c = search needs
+
+second-requires-2 : tie.Need-second-requires-2
+second-requires-2 c κs = omega (arith, count-there _ _ _ _ _ _ _ _ (c .before .before .before .before .before .before .before .before .before .before .before .before .before .before .before .before .pre) (defined _ _ _ _ _ _ _ _ (c .before .before .before .before .before .before .before .before .before .before .before .before .before .before .before .before .pre) (c .before .before .before .before .before .before .before .before .before .before .before .before .before .wrapping-sub-u64 .result) (c .before .before .before .before .before .before .before .before .before .before .before .before .before .wrapping-sub-u64 .ensures) (omega arith)))
+
+behind-first-requires-2 : tie.Need-behind-first-requires-2
+behind-first-requires-2 c κs = search needs
+
+all-met-requires-2 : tie.Need-all-met-requires-2
+all-met-requires-2 c κs = rest-reads _ _ _ _ _ _ _ _ (c .before .before .before .before .before .before .before .before .before .before .before .before .before .before .before .before .before .before .pre) (c .before .before .before .before .before .before .before .before .before .before .before .before .before .before .before .wrapping-sub-u64 .result) (c .before .before .before .before .before .before .before .before .before .before .before .before .before .before .before .wrapping-sub-u64 .ensures) (omega arith) (c .before .before .before .before .before .before .before .before .before .before .before .before .far-back .result) (c .before .before .before .before .before .before .before .before .before .before .before .before .far-back .ensures) (c .before .second2 .result) (c .behind-first2 .result) (search needs) (search (needs, behind-first _ _ _ _ _ _ _ _ (c .before .before .before .before .before .before .before .before .before .before .before .before .before .before .before .before .before .before .pre) (c .before .before .before .before .before .before .before .before .before .before .before .before .before .before .before .wrapping-sub-u64 .result) (c .before .before .before .before .before .before .before .before .before .before .before .before .before .before .before .wrapping-sub-u64 .ensures) (omega arith) (c .before .before .before .before .before .before .before .before .before .before .before .before .far-back .result) (c .before .before .before .before .before .before .before .before .before .before .before .before .far-back .ensures)))
+
+returns-7 : tie.Need-returns-7
+returns-7 c = and-rest _ _ _ _ _ _ _ _ (c .before .before .before .before .before .before .before .before .before .before .before .before .before .before .before .before .before .before .before .pre) (c .before .before .before .before .before .before .before .before .before .before .before .before .before .before .before .before .wrapping-sub-u64 .result) (c .before .before .before .before .before .before .before .before .before .before .before .before .before .before .before .before .wrapping-sub-u64 .ensures) (omega arith) (c .before .before .before .before .before .before .before .before .before .before .before .before .before .far-back .result) (c .before .before .before .before .before .before .before .before .before .before .before .before .before .far-back .ensures) (c .before .before .before .before .before .before .inside2 .result) (search (needs, by-number _ _ _ _ _ _ _ _ (c .before .before .before .before .before .before .before .before .before .before .before .before .before .before .before .before .before .before .before .pre) (c .before .before .before .before .before .before .before .before .before .before .before .before .before .before .before .before .wrapping-sub-u64 .result) (c .before .before .before .before .before .before .before .before .before .before .before .before .before .before .before .before .wrapping-sub-u64 .ensures) (omega arith) (c .before .before .before .before .before .before .before .before .before .before .before .before .before .far-back .result) (c .before .before .before .before .before .before .before .before .before .before .before .before .before .far-back .ensures) (c .before .before .before .before .before .before .before .before .before .if2 .left))) (c .before .before .second2 .result) (c .before .behind-first2 .result) _ (search needs) (search needs) (search needs) (search needs)
 
 pub letter-holds-spec : {M : Type 1} → statement M
 letter-holds-spec =
@@ -162,18 +180,11 @@ letter-holds-spec =
     add-if1
     mul-if1
     element-copy-out-if1
-    element-copy-out-byte
-    byte-requires
-    several-hold-requires
+    near-end-requires
     returns
-    returns-2
     far-back-requires
     mul-sort
     element-copy-out-sort
-    element-copy-out-byte-2
-    byte-requires-2
-    all-met-requires
-    returns-3
     add-entry-from
     mul-entry-from
     element-copy-out-entry-from
@@ -190,6 +201,14 @@ letter-holds-spec =
     mul-inside-2
     element-copy-out-inside-2
     inside-requires
+    returns-2
+    returns-3
+    add-second
+    mul-second
+    element-copy-out-second
+    second-requires
+    behind-first-requires
+    all-met-requires
     returns-4
     add-inside-3
     mul-inside-3
@@ -198,4 +217,12 @@ letter-holds-spec =
     mul-inside-4
     element-copy-out-inside-4
     inside-requires-2
-    returns-5)
+    returns-5
+    returns-6
+    add-second-2
+    mul-second-2
+    element-copy-out-second-2
+    second-requires-2
+    behind-first-requires-2
+    all-met-requires-2
+    returns-7)

@@ -1,20 +1,23 @@
 -- `letters::most_ahead` meets its contract by the laws of Putting. The invariant is `Most`: the most of the first k comparisons; the count left falls.
-use Prim.Native.Nat.{_+_, _-_}
+use borrow.Author.Needs.{needs}
+use Prim.Native.Nat.{_+_, _*_, _-_}
 use native.Mathlib.Omega.{arith}
 use Rattle.letters.specs.Tests.{aheadAt, mostAhead}
 use Rattle.letters.proofs.Putting.{Most, most-none, most-more, most-all}
-use borrow.Author.Needs.{needs}
 use Rattle.letters.proofs.most_ahead.Statement.{statement}
 use Rattle.letters.proofs.most_ahead.Tie as tie
 
 abbrev Inv-loop : tie.InvT-loop
-Inv-loop cells offsets g count most₀ k₀ most k = Most (λ i. aheadAt cells offsets (g + i)) 127 count most k
+Inv-loop query p count most₀ k₀ most k = Most (λ i. aheadAt query (p + i * 12)) 127 count most k
 
 abbrev μ-loop : tie.MeasureT-loop
-μ-loop cells offsets g count most₀ k₀ most k = count - k
+μ-loop query p count most₀ k₀ most k = count - k
 
 loop-holds : tie.Need-loop-holds Inv-loop μ-loop
 loop-holds c = most-none _ _ _
+
+mul-ahead-at : tie.Need-mul-ahead-at Inv-loop μ-loop
+mul-ahead-at c = search needs
 
 add-ahead-at : tie.Need-add-ahead-at Inv-loop μ-loop
 add-ahead-at c = search needs
@@ -45,6 +48,7 @@ most-ahead-spec =
     Inv-loop
     μ-loop
     loop-holds
+    mul-ahead-at
     add-ahead-at
     ahead-at-requires
     larger-requires

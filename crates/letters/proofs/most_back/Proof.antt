@@ -1,20 +1,23 @@
 -- `letters::most_back` meets its contract by the laws of Putting. The invariant is `Most`: the most of the first k comparisons; the count left falls.
-use Prim.Native.Nat.{_+_, _-_}
+use borrow.Author.Needs.{needs}
+use Prim.Native.Nat.{_+_, _*_, _-_}
 use native.Mathlib.Omega.{arith}
 use Rattle.letters.specs.Tests.{backAt, mostBack}
 use Rattle.letters.proofs.Putting.{Most, most-none, most-more, most-all}
-use borrow.Author.Needs.{needs}
 use Rattle.letters.proofs.most_back.Statement.{statement}
 use Rattle.letters.proofs.most_back.Tie as tie
 
 abbrev Inv-loop : tie.InvT-loop
-Inv-loop cells offsets g count most₀ k₀ most k = Most (λ i. backAt cells offsets (g + i)) 128 count most k
+Inv-loop query p count most₀ k₀ most k = Most (λ i. backAt query (p + i * 12)) 128 count most k
 
 abbrev μ-loop : tie.MeasureT-loop
-μ-loop cells offsets g count most₀ k₀ most k = count - k
+μ-loop query p count most₀ k₀ most k = count - k
 
 loop-holds : tie.Need-loop-holds Inv-loop μ-loop
 loop-holds c = most-none _ _ _
+
+mul-back-at : tie.Need-mul-back-at Inv-loop μ-loop
+mul-back-at c = search needs
 
 add-back-at : tie.Need-add-back-at Inv-loop μ-loop
 add-back-at c = search needs
@@ -45,6 +48,7 @@ most-back-spec =
     Inv-loop
     μ-loop
     loop-holds
+    mul-back-at
     add-back-at
     back-at-requires
     larger-requires

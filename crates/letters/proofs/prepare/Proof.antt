@@ -1,19 +1,25 @@
 -- `letters::prepare` meets its contract by the laws of Putting. The invariant is `Preparing`: the letters below l are done; the letters left fall.
+use borrow.Author.Needs.{needs}
 use Prim.Native.Nat.{_-_}
 use native.Mathlib.Omega.{arith}
-use borrow.Author.Needs.{needs}
 use Rattle.letters.proofs.Putting.{Preparing, preparing-none, preparing-room, preparing-more, preparing-all}
 use Rattle.letters.proofs.prepare.Statement.{statement}
 use Rattle.letters.proofs.prepare.Tie as tie
 
 abbrev Inv-loop : tie.InvT-loop
-Inv-loop cells offsets numbers counts n tests₀ l₀ tests l = Preparing cells offsets numbers counts n tests l
+Inv-loop query columns n defines tests₀ l₀ tests l = Preparing query columns n defines tests l
 
 abbrev μ-loop : tie.MeasureT-loop
-μ-loop cells offsets numbers counts n tests₀ l₀ tests l = 26 - l
+μ-loop query columns n defines tests₀ l₀ tests l = 26 - l
 
 loop-holds : tie.Need-loop-holds Inv-loop μ-loop
 loop-holds c = search (needs, preparing-none)
+
+mul-put-test : tie.Need-mul-put-test Inv-loop μ-loop
+mul-put-test c = search needs
+
+element-copy-out-put-test : tie.Need-element-copy-out-put-test Inv-loop μ-loop
+element-copy-out-put-test c = search needs
 
 put-test-requires : tie.Need-put-test-requires Inv-loop μ-loop
 put-test-requires c κs = search (needs, preparing-room)
@@ -33,4 +39,14 @@ returns c = search (needs, preparing-all)
 pub prepare-spec : {M : Type 1} → statement M
 prepare-spec =
     tie.close
-    (tie.spec Inv-loop μ-loop loop-holds put-test-requires add-l loop-less loop-again returns)
+    (tie.spec
+    Inv-loop
+    μ-loop
+    loop-holds
+    mul-put-test
+    element-copy-out-put-test
+    put-test-requires
+    add-l
+    loop-less
+    loop-again
+    returns)

@@ -1,7 +1,7 @@
 -- `letters::put_words` meets its contract.
 use mathlib.Core.Path.{refl}
+use Rattle.letters.specs.Tests.{setEight}
 use borrow.Author.Needs.{needs}
-use Rattle.letters.specs.Tests.{setSeven}
 use Rattle.letters.proofs.put_words.Statement.{statement}
 use Rattle.letters.proofs.put_words.Tie as tie
 
@@ -65,8 +65,17 @@ mul-tests-7 c = search needs
 element-write-tests-7 : tie.Need-element-write-tests-7
 element-write-tests-7 c = search needs
 
+add-tests-7 : tie.Need-add-tests-7
+add-tests-7 c = search needs
+
+mul-tests-8 : tie.Need-mul-tests-8
+mul-tests-8 c = search needs
+
+element-write-tests-8 : tie.Need-element-write-tests-8
+element-write-tests-8 c = search needs
+
 returns : tie.Need-returns
-unfolding setSeven
+unfolding setEight
 returns c = refl
 
 pub put-words-spec : {M : Type 1} → statement M
@@ -93,4 +102,7 @@ put-words-spec =
     add-tests-6
     mul-tests-7
     element-write-tests-7
+    add-tests-7
+    mul-tests-8
+    element-write-tests-8
     returns)

@@ -1,5 +1,4 @@
 -- `query::byte_or_zero` meets its contract by the laws of Reading.
-use native.Mathlib.Omega.{arith}
 use borrow.Author.Needs.{needs}
 use Rattle.query.proofs.Reading.{no-byte}
 use Rattle.query.proofs.byte_or_zero.Statement.{statement}
@@ -15,7 +14,7 @@ returns : tie.Need-returns
 returns c = search needs
 
 returns-2 : tie.Need-returns-2
-returns-2 c = (no-byte (c .before .before .args .s .now) (c .before .before .args .at) (omega arith), omega arith)
+returns-2 c = search (needs, no-byte)
 
 pub byte-or-zero-spec : {M : Type 1} → statement M
 byte-or-zero-spec = tie.close (tie.spec shared-slice-read-wide wide-requires returns returns-2)

@@ -1,6 +1,5 @@
 -- `room::read_query` meets its contract by the laws of Laws.
 use borrow.Author.Needs.{needs}
-use Rattle.decode.specs.Layout.{Room}
 use Rattle.room.proofs.Laws.{first-answers, may-decode, may-judge, all-answers}
 use Rattle.room.proofs.read_query.Statement.{statement}
 use Rattle.room.proofs.read_query.Tie as tie
@@ -11,31 +10,24 @@ use Rattle.query.proofs.first_answer.Reads as first-answer-reads
 use Rattle.room.proofs.judge_parts.Reads as judge-parts-reads
 use Rattle.room.proofs.refused.Reads as refused-reads
 
--- src/lib.rt:109:9
 first-answer-requires : tie.Need-first-answer-requires
 first-answer-requires c κs = search needs
 
--- src/lib.rt:111:9
 refused-requires : tie.Need-refused-requires
 refused-requires c κs = search needs
 
--- src/lib.rt:111:9
 returns : tie.Need-returns
 returns c = search (needs, first-answers)
 
--- src/lib.rt:113:9
 decode-requires : tie.Need-decode-requires
 decode-requires c κs = search (needs, may-decode)
 
--- src/lib.rt:114:5
 judge-parts-requires : tie.Need-judge-parts-requires
 judge-parts-requires c κs = search (needs, may-judge)
 
--- src/lib.rt:97:1
 same-length : tie.Need-same-length
 same-length c = search needs
 
--- src/lib.rt:97:1
 returns-2 : tie.Need-returns-2
 returns-2 c = search (needs, all-answers)
 

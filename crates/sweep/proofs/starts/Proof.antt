@@ -11,15 +11,15 @@ use Rattle.sweep.proofs.starts.Statement.{statement}
 use Rattle.sweep.proofs.starts.Tie as tie
 
 abbrev Inv-loop : tie.InvT-loop
-Inv-loop code next entry stop ways rows columns n tests cells offsets constants counts ms count mode notes₀ trail₀ numbers₀ labels₀ i₀ notes trail numbers labels i =
-    SoFar (asked (tables code next entry stop ways) (holdsIn rows columns cells offsets constants counts) n mode (tableOf columns rows) (measuresIn ms count)) (Letters tests cells offsets constants counts rows columns n) ms count rows columns notes₀ trail₀ numbers₀ labels₀ notes trail numbers labels i
+Inv-loop code next entry stop ways rows columns n tests query ms count mode notes₀ trail₀ numbers₀ labels₀ i₀ notes trail numbers labels i =
+    SoFar (asked (tables code next entry stop ways) (holdsIn rows columns query tests) n mode (tableOf columns rows) (measuresIn ms count)) (Letters tests query rows columns n) ms count rows columns notes₀ trail₀ numbers₀ labels₀ notes trail numbers labels i
 
 abbrev μ-loop : tie.MeasureT-loop
-μ-loop code next entry stop ways rows columns n tests cells offsets constants counts ms count mode notes₀ trail₀ numbers₀ labels₀ i₀ notes trail numbers labels i =
+μ-loop code next entry stop ways rows columns n tests query ms count mode notes₀ trail₀ numbers₀ labels₀ i₀ notes trail numbers labels i =
     n - i .row
 
 loop-holds : tie.Need-loop-holds Inv-loop μ-loop
-loop-holds c = so-none _ _ _ _ _ _ _ _ _ _ (c .before .before .before .before .before .before .before .before .before .pre)
+loop-holds c = so-none _ _ _ _ _ _ _ _ _ _ (c .before .before .before .before .before .before .before .before .before .before .pre)
 
 visit-requires : tie.Need-visit-requires Inv-loop μ-loop
 visit-requires c κs = so-visits _ _ _ _ _ _ _ _ _ _ _ _ _ _ _ (c .before .before .before .before .before .before .loop .inv) (c .before .before .before .before .if1 .taken)

@@ -12,16 +12,16 @@ use Rattle.walk.proofs.descend.Lts as lts
 use Rattle.walk.proofs.enter.Reads as enter-reads
 
 abbrev Inv-loop : tie.InvT-loop
-Inv-loop code next entry stop ways rows columns n tests cells offsets constants counts notes₀ trail₀ w₀ notes trail w =
-    Descending (tables code next entry stop ways) (holdsIn rows columns cells offsets constants counts) n (Letters tests cells offsets constants counts rows columns n) notes₀ trail₀ w₀ notes trail w
+Inv-loop code next entry stop ways rows columns n tests query notes₀ trail₀ w₀ notes trail w =
+    Descending (tables code next entry stop ways) (holdsIn rows columns query tests) n (Letters tests query rows columns n) notes₀ trail₀ w₀ notes trail w
 
 abbrev μ-loop : tie.MeasureT-loop
-μ-loop code next entry stop ways rows columns n tests cells offsets constants counts notes₀ trail₀ w₀ notes trail w =
+μ-loop code next entry stop ways rows columns n tests query notes₀ trail₀ w₀ notes trail w =
     left (N (tables code next entry stop ways) n) notes w
 
 -- src/lib.rt:257:5
 loop-holds : tie.Need-loop-holds Inv-loop μ-loop
-loop-holds c = on-none _ _ _ _ _ _ _ (c .before .before .before .before .before .before .before .pre)
+loop-holds c = on-none _ _ _ _ _ _ _ (c .before .before .before .before .before .before .before .before .pre)
 
 -- src/lib.rt:258:9
 enter-requires : tie.Need-enter-requires Inv-loop μ-loop

@@ -44,7 +44,7 @@ add-tried-2 c = search needs
 
 -- src/lib.rt:193:9
 tried-requires : tie.Need-tried-requires
-tried-requires c κs = fork-noted _ _ _ _ _ _ _ _ (c .before .before .before .before .before .before .before .before .before .before .before .before .before .before .pre) (c .before .before .before .before .before .before .if1 .taken)
+tried-requires c κs = fork-noted _ _ _ _ _ _ _ _ (c .before .before .before .before .before .before .before .before .before .before .before .before .before .before .before .pre) (c .before .before .before .before .before .before .if1 .taken)
 
 -- src/lib.rt:193:9
 same-length : tie.Need-same-length
@@ -56,7 +56,7 @@ same-length-2 c = search needs
 
 -- src/lib.rt:193:9
 returns : tie.Need-returns
-returns c = enter-fork _ _ _ _ _ _ _ _ _ _ _ (c .before .before .before .before .push .ensures) (c .before .before .before .before .before .before .before .if1 .taken) (c .before .before .before .before .before .before .before .before .before .before .before .before .before .before .before .pre .near) (c .tried .ensures)
+returns c = enter-fork _ _ _ _ _ _ _ _ _ _ _ (c .before .before .before .before .push .ensures) (c .before .before .before .before .before .before .before .if1 .taken) (c .before .before .before .before .before .before .before .before .before .before .before .before .before .before .before .before .pre .near) (c .tried .ensures)
 
 -- src/lib.rt:196:13
 letter-passes-requires : tie.Need-letter-passes-requires
@@ -96,7 +96,7 @@ add-failed c = search needs
 
 -- src/lib.rt:212:12
 failed-requires : tie.Need-failed-requires
-failed-requires c κs = letter-noted _ _ _ _ _ _ _ _ (c .before .before .before .before .before .before .before .before .before .before .before .before .before .before .pre) _ (c .before .wide .ensures .0) _ _ (c .before .before .before .before .before .if2 .taken) (c .before .before .before .before .letter-passes .ensures) (c .before .before .before .if3 .left) .1
+failed-requires c κs = letter-noted _ _ _ _ _ _ _ _ (c .before .before .before .before .before .before .before .before .before .before .before .before .before .before .before .pre) _ (c .before .wide .ensures .0) _ _ (c .before .before .before .before .before .if2 .taken) (c .before .before .before .before .letter-passes .ensures) (c .before .before .before .if3 .left) .1
 
 -- src/lib.rt:213:13
 fails-requires-2 : tie.Need-fails-requires-2
@@ -123,12 +123,12 @@ push-requires-2 : tie.Need-push-requires-2
 push-requires-2 c κs = search needs
 
 -- src/lib.rt:217:18
-add-t40 : tie.Need-add-t40
-add-t40 c = search needs
+add-t37 : tie.Need-add-t37
+add-t37 c = search needs
 
 -- src/lib.rt:220:18
-add-t53 : tie.Need-add-t53
-add-t53 c = search needs
+add-t50 : tie.Need-add-t50
+add-t50 c = search needs
 
 -- src/lib.rt:216:9
 same-length-5 : tie.Need-same-length-5
@@ -200,7 +200,7 @@ wide-requires-2 c κs = search needs
 
 -- src/lib.rt:242:5
 tried-requires-2 : tie.Need-tried-requires-2
-tried-requires-2 c κs = anchor-noted _ _ _ _ _ _ _ _ (c .before .before .before .before .before .before .before .before .before .before .before .before .before .before .before .before .before .before .before .before .pre) _ (c .wide2 .ensures .0) (c .before .before .before .before .before .before .before .before .before .before .before .if2 .left) (c .before .before .before .if6 .left)
+tried-requires-2 c κs = anchor-noted _ _ _ _ _ _ _ _ (c .before .before .before .before .before .before .before .before .before .before .before .before .before .before .before .before .before .before .before .before .before .pre) _ (c .wide2 .ensures .0) (c .before .before .before .before .before .before .before .before .before .before .before .if2 .left) (c .before .before .before .if6 .left)
 
 -- src/lib.rt:162:1
 same-length-9 : tie.Need-same-length-9
@@ -245,8 +245,8 @@ enter-spec =
     mul-push-2
     shared-slice-read-push-2
     push-requires-2
-    add-t40
-    add-t53
+    add-t37
+    add-t50
     same-length-5
     same-length-6
     returns-4

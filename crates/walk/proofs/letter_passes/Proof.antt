@@ -4,26 +4,18 @@ use native.Mathlib.Omega.{arith}
 use borrow.Author.Needs.{needs}
 use Rattle.walk.proofs.letter_passes.Statement.{statement}
 use Rattle.walk.proofs.letter_passes.Tie as tie
-use Rattle.walk.proofs.letter_passes.Reads as reads
-use Rattle.walk.proofs.letter_passes.Lts as lts
-use Rattle.letters.proofs.letter_holds.Reads as letter-holds-reads
-use Rattle.walk.proofs.index.Reads as index-reads
 
--- src/lib.rt:88:9
 index-requires : tie.Need-index-requires
 index-requires c κs = search needs
 
--- src/lib.rt:93:9
 mul-letter-holds : tie.Need-mul-letter-holds
-mul-letter-holds c = omega (arith, letter-base _ _ _ _ _ _ _ _ _ _ (c .before .pre))
+mul-letter-holds c = omega (arith, letter-base _ _ _ _ _ _ _ (c .before .before .pre))
 
--- src/lib.rt:82:5
 letter-holds-requires : tie.Need-letter-holds-requires
-letter-holds-requires c κs = letter-room _ _ _ _ _ _ _ _ _ _ (c .before .pre) _ (c .index .ensures .0)
+letter-holds-requires c κs = letter-room _ _ _ _ _ _ _ (c .before .before .pre) _ (c .index .ensures .0)
 
--- src/lib.rt:66:1
 returns : tie.Need-returns
-returns c = letter-is _ _ _ _ _ _ _ _ _ _ (c .before .before .pre) _ _ (c .before .index .ensures .0) (c .letter-holds .ensures)
+returns c = letter-is _ _ _ _ _ _ _ (c .before .before .before .pre) _ _ (c .before .index .ensures .0) (c .letter-holds .ensures)
 
 pub letter-passes-spec : {M : Type 1} → statement M
 letter-passes-spec =

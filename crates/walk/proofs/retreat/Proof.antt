@@ -11,16 +11,16 @@ use Rattle.walk.proofs.retreat.Lts as lts
 use Rattle.walk.proofs.back.Reads as back-reads
 
 abbrev Inv-loop : tie.InvT-loop
-Inv-loop code next entry stop ways rows columns n tests cells offsets constants counts notes₀ trail₀ w₀ notes trail w =
-    Retreating (tables code next entry stop ways) (holdsIn rows columns cells offsets constants counts) n (Letters tests cells offsets constants counts rows columns n) notes₀ trail₀ w₀ notes trail w
+Inv-loop code next entry stop ways rows columns n tests query notes₀ trail₀ w₀ notes trail w =
+    Retreating (tables code next entry stop ways) (holdsIn rows columns query tests) n (Letters tests query rows columns n) notes₀ trail₀ w₀ notes trail w
 
 abbrev μ-loop : tie.MeasureT-loop
-μ-loop code next entry stop ways rows columns n tests cells offsets constants counts notes₀ trail₀ w₀ notes trail w =
+μ-loop code next entry stop ways rows columns n tests query notes₀ trail₀ w₀ notes trail w =
     behind (tables code next entry stop ways) n notes trail w
 
 -- src/lib.rt:385:5
 loop-holds : tie.Need-loop-holds Inv-loop μ-loop
-loop-holds c = off-none _ _ _ _ _ _ _ (c .before .before .before .before .before .before .before .pre)
+loop-holds c = off-none _ _ _ _ _ _ _ (c .before .before .before .before .before .before .before .before .pre)
 
 -- src/lib.rt:387:13
 same-length : tie.Need-same-length Inv-loop μ-loop
