@@ -3,7 +3,7 @@
 use mathlib.Core.Path.{_≡_, refl, sym, ap, _∙_}
 use mathlib.Core.Bool.{Bool, true, false, _&&_, _||_}
 use mathlib.Core.List.{List, [], _∷_}
-use Prim.Native.Nat.{ℕ, zero, suc, _+_, _-_, _≤_, _<_}
+use Prim.Native.Nat.{ℕ, zero, suc, _+_, _-_, _≤_, _<_, max}
 use native.Mathlib.Omega.{arith}
 use lib.Dec.{eqb}
 use lib.ListN.{length, getD, set, length-set, replicate, length-replicate, getD-replicate}
@@ -106,7 +106,7 @@ pub record Slot (s : List ℕ) (from at l d : ℕ) : Type 0 where
   pub shut : (d ≡ 0 → ⊥) → definedAt s d ≡ comparisonsFrom s (recordsAt s from) (65 + l)
   pub body : (d ≡ 0 → ⊥) → Body s (columnsOf s) d
 
-pub record Lettering (s : List ℕ) (from : ℕ) (defines : List ℕ) (at : ℕ) (twice : Bool) : Type 0 where
+pub record Lettering (s : List ℕ) (from : ℕ) (defines : List ℕ) (at : ℕ) (twice : Bool) (letters : ℕ) : Type 0 where
   pub left : ℕ
   pub ahead : Ahead s 2 left at
   pub counted : length defines ≡ 26
@@ -114,6 +114,8 @@ pub record Lettering (s : List ℕ) (from : ℕ) (defines : List ℕ) (at : ℕ)
   pub measures : measuresFrom s (recordsAt s at) ≡ measuresFrom s (recordsAt s from)
   pub each : (l : ℕ) → l < 26 → Slot s from at l (getD defines l 0)
   pub told : Twice s defines at twice
+  pub upto : letters ≤ 26
+  pub free : (l : ℕ) → letters ≤ l → l < 26 → getD defines l 0 ≡ 0
 
 -- the DEFINE at d, and none at 0
 defined-here : (s : List ℕ) (k d m : ℕ) → 0 < d → definedAt s d ≡ comparisonsOf s (recordOf k d m)
@@ -125,7 +127,7 @@ unfolding definedAt
 not-defined s d e = simp (eq-eqb d 0 e)
 
 module _ (s : List ℕ) (from : ℕ) where
-  pub lettering-none : DefinesRoom s from → Lettering s from (replicate 26 0) from false
+  pub lettering-none : DefinesRoom s from → Lettering s from (replicate 26 0) from false 0
   lettering-none r = record {
     left = 26;
     ahead = r .ahead;
@@ -135,18 +137,20 @@ module _ (s : List ℕ) (from : ℕ) where
     each = λ l h. let z : getD {A = ℕ} (replicate 26 0) l 0 ≡ 0 = getD-replicate {A = ℕ} 26 l 0 0 h in
         record { open' = λ e. refl; shut = λ f. absurd (f z); body = λ f. absurd (f z) };
     told = twice-none s from (r .all);
+    upto = omega arith;
+    free = λ l g h. getD-replicate {A = ℕ} 26 l 0 0 h;
   }
 
-  module _ (defines : List ℕ) (at : ℕ) (twice : Bool) (h : Lettering s from defines at twice) where
+  module _ (defines : List ℕ) (at : ℕ) (twice : Bool) (letters : ℕ) (h : Lettering s from defines at twice letters) where
     lettering-inside : at < length s
     lettering-inside = before-end s 2 (h .left) at (h .ahead) (λ e. omega arith)
 
     -- the skip is still to come
-    pub lettering-end : length s ≤ at → PutDefines s from defines (record { at = at; twice = twice })
+    pub lettering-end : length s ≤ at → PutDefines s from defines (record { at = at; twice = twice; letters = letters })
     lettering-end w = absurd (let z = lettering-inside in omega arith)
 
     module _ (r : Read) (e : r ≡ readAt s at) where
-      pub lettering-cut : r ≡ Cut → PutDefines s from defines (record { at = at; twice = twice })
+      pub lettering-cut : r ≡ Cut → PutDefines s from defines (record { at = at; twice = twice; letters = letters })
       lettering-cut q = absurd (not-cut s 2 (h .left) at (h .ahead) r (λ w. omega arith) e q)
 
       module _ (k b m n : ℕ) (q : r ≡ Whole k b m n) where
@@ -235,8 +239,16 @@ module _ (s : List ℕ) (from : ℕ) where
           unfolding letter
           counted-on = by-entry (λ f. ap length (d .taken f .0) ∙ h .counted) (λ f. ap length (d .put f .0) ∙ length-set defines letter b ∙ h .counted)
 
-          pub lettering-more : (twice' : Bool) → twice' ≡ (twice || before) → Lettering s from defines' n twice'
-          lettering-more twice' et = record {
+          -- no entry is taken behind the largest letter
+          free-on : (letters' : ℕ) → letters' ≡ max letters (getD s b 0 - 64) → (l : ℕ) → letters' ≤ l → l < 26 → getD defines' l 0 ≡ 0
+          unfolding letter
+          free-on letters' el l g w =
+              let low = says k3 .low in
+              by-entry (λ f. ap (λ (x : List ℕ). getD x l 0) (d .taken f .0) ∙ h .free l (omega arith) w)
+              (λ f. ap (λ (x : List ℕ). getD x l 0) (d .put f .0) ∙ getD-set-other defines (getD s b 0 - 65) l b 0 (λ z. omega arith) ∙ h .free l (omega arith) w)
+
+          pub lettering-more : (twice' : Bool) (letters' : ℕ) → twice' ≡ (twice || before) → letters' ≡ max letters (getD s b 0 - 64) → Lettering s from defines' n twice' letters'
+          lettering-more twice' letters' et el = record {
             left = h .left - 1;
             ahead = define-next s 2 (h .left) at (h .ahead) r k b m n e q refl k3;
             counted = counted-on;
@@ -246,10 +258,12 @@ module _ (s : List ℕ) (from : ℕ) where
                 (λ f. slot-taken f l w)
                 (λ f. decided (eqb l letter) (λ t. let y = eqb-true l letter t in rw y (slot-same f)) (λ t. slot-other f l w (eqb-false l letter t)));
             told = twice-more s defines at r k b m n e q k3 (says k3 .low) (says k3 .high) not-first (h .counted) defines' before twice twice' d et (h .told);
+            upto = let y = says k3 .high in let z = h .upto in omega arith;
+            free = free-on letters' el;
           }
 
         -- the DEFINEs are over
-        pub lettering-over : (k ≡ 3 → ⊥) → PutDefines s from defines (record { at = at; twice = twice })
+        pub lettering-over : (k ≡ 3 → ⊥) → PutDefines s from defines (record { at = at; twice = twice; letters = letters })
         lettering-over f =
             let a = defines-over s 2 (h .left) at (h .ahead) r k b m n e q refl f in
             record {
@@ -264,4 +278,6 @@ module _ (s : List ℕ) (from : ℕ) where
                 body = o .body;
               };
               doubled = twice-over s defines at twice (h .told) (over s at a);
+              upto = h .upto;
+              free = h .free;
             }

@@ -182,7 +182,7 @@ module _ (s : List ℕ) (at : ℕ) (measures₀ : List ℕ) (room : TailRoom s a
 
 module _ (s measures₀ : List ℕ) (room : Room s measures₀) (h : Head) (f : HeadOf s h) (defines : List ℕ) (v : Behind) (d : PutDefines s (h .next) defines v) where
   pub decoded : (measures : List ℕ) (t : Tail) → TailOf s (v .at) measures₀ measures t
-      → Decoded s measures₀ defines measures (record { columns = h .columns; start = h .start; len = h .len; skip = t .skip; measures = t .measures; twice = v .twice })
+      → Decoded s measures₀ defines measures (record { columns = h .columns; start = h .start; len = h .len; skip = t .skip; measures = t .measures; twice = v .twice; letters = v .letters })
   unfolding parts
   decoded measures t g = record {
     counted = d .counted;
@@ -201,4 +201,6 @@ module _ (s measures₀ : List ℕ) (room : Room s measures₀) (h : Head) (f : 
     fit = λ k w. rw (f .columns) (g .fit k w);
     rest = g .rest;
     doubled = d .doubled;
+    upto = d .upto;
+    free = d .free;
   }

@@ -84,3 +84,5 @@ pub record Decoded (s measures₀ defines measures : List ℕ) (p : Parts) : Typ
   pub fit : (k : ℕ) → k < p .measures → Fits (p .columns) (measureIn measures k)
   pub rest : (j : ℕ) → p .measures * 3 ≤ j → getD measures j 0 ≡ getD measures₀ j 0
   pub doubled : p .twice ≡ doubled s
+  pub upto : p .letters ≤ 26
+  pub free : (l : ℕ) → p .letters ≤ l → l < 26 → getD defines l 0 ≡ 0

@@ -43,6 +43,8 @@ pub record PutDefines (s : List ℕ) (from : ℕ) (defines : List ℕ) (r : Behi
   pub measures : measuresFrom s (recordsAt s (r .at)) ≡ measuresFrom s (recordsAt s from)
   pub letters : (l : ℕ) → l < 26 → Letter s (columnsOf s) (getD defines l 0) (comparisonsFrom s (recordsAt s from) (65 + l))
   pub doubled : r .twice ≡ doubled s
+  pub upto : r .letters ≤ 26
+  pub free : (l : ℕ) → r .letters ≤ l → l < 26 → getD defines l 0 ≡ 0
 
 -- the measure of three bytes
 abbrev pub measureOf : Three → Measure

@@ -5,7 +5,7 @@
 use query::Read;
 ghost use mathlib.Core.Path.{_≡_};
 ghost use mathlib.Core.Bool.{_||_};
-ghost use Prim.Native.Nat.{_+_, _*_, _≤_, _<_};
+ghost use Prim.Native.Nat.{_+_, _*_, _-_, _≤_, _<_, max};
 ghost use lib.ListN.{length, getD};
 ghost use Rattle.rules.specs.Query.{measureAt};
 ghost use Rattle.query.specs.Read.{firstAnswer};
@@ -44,8 +44,8 @@ impl Measure {
     }
 }
 
-// What a query says besides its letters and measures: the columns, where the pattern's text lies, the skip mode, how many measures there are, and whether
-// two DEFINEs are for one letter (answer 8).
+// What a query says besides its letters and measures: the columns, where the pattern's text lies, the skip mode, how many measures there are, whether
+// two DEFINEs are for one letter (answer 8), and a number from which on no letter (0 for A) has a DEFINE.
 pub struct Parts {
     pub columns: usize,
     pub start: usize,
@@ -53,6 +53,7 @@ pub struct Parts {
     pub skip: usize,
     pub measures: usize,
     pub twice: bool,
+    pub letters: usize,
 }
 
 fn wide(x: u8) -> usize
@@ -87,10 +88,24 @@ fn either(a: bool, b: bool) -> bool
     a | b
 }
 
-// What the pass over the DEFINEs finds: the index of the skip behind them, and whether two of them are for one letter.
+// The larger of a number and that behind the letter of the DEFINE whose body starts at this index.
+fn past(s: &[u8], start: usize, letters: usize) -> usize
+    requires { ⌜ DefineRoom (now s) start ⌝ }
+    ensures { λ r. ⌜ r ≡ max letters (getD (now (s .entry)) start 0 - 64) ⌝ }
+{
+    let behind = byte(s, start) - 64;
+    if letters < behind {
+        return behind;
+    }
+    letters
+}
+
+// What the pass over the DEFINEs finds: the index of the skip behind them, whether two of them are for one letter, and a number from which on no letter has one,
+// so that the letters behind it need not be looked at.
 struct Behind {
     at: usize,
     twice: bool,
+    letters: usize,
 }
 
 // The DEFINEs from an index on.
@@ -101,6 +116,7 @@ fn put_defines(s: &[u8], from: usize, defines: &mut [usize; 26]) -> Behind
     *defines = [0usize; 26];
     let mut at = from;
     let mut twice = false;
+    let mut letters = 0;
     while at < s.len() {
         let Read::Record {
             kind,
@@ -109,16 +125,17 @@ fn put_defines(s: &[u8], from: usize, defines: &mut [usize; 26]) -> Behind
             next,
         } = query::record_at(s, at)
         else {
-            return Behind { at, twice };
+            return Behind { at, twice, letters };
         };
         if kind != 3 {
-            return Behind { at, twice };
+            return Behind { at, twice, letters };
         }
         let before = put_define(s, start, defines);
         twice = either(twice, before);
+        letters = past(s, start, letters);
         at = next;
     }
-    Behind { at, twice }
+    Behind { at, twice, letters }
 }
 
 // Measure number k of the array.
@@ -270,5 +287,6 @@ pub fn decode(s: &[u8], defines: &mut [usize; 26], measures: &mut [u8; 24]) -> P
         skip: t.skip,
         measures: t.measures,
         twice: behind.twice,
+        letters: behind.letters,
     }
 }

@@ -4,7 +4,7 @@ use mathlib.Core.List.{List, [], _∷_}
 use Prim.Native.Nat.{ℕ, zero, suc, _+_, _*_, _-_, _≤_, _<_, max}
 use native.Mathlib.Omega.{arith}
 use native.Mathlib.Numerals.{add-one}
-use lib.Dec.{eqb}
+use lib.Dec.{eqb, ltb}
 use lib.IntN.{ℤ, pos}
 use lib.Signed.{mag}
 use lib.ListN.{length, getD, set, length-set}
@@ -12,7 +12,7 @@ use lib.Seq.{getD-set-same, getD-set-other}
 use mir.Syntax.{w8, w32}
 use mir.Val.{toZ, ofZ}
 use mir.Facts.{toZ-ofZ}
-use borrow.Author.Tests.{eq-eqb, ne-eqb, eqb-true, eqb-false}
+use borrow.Author.Tests.{eq-eqb, ne-eqb, eqb-true, eqb-false, ltb-true, ltb-false}
 use Rattle.rules.specs.Basics.{signed8}
 use Rattle.rules.proofs.Choice.{decided}
 use Rattle.decode.specs.Layout.{Body}
@@ -237,8 +237,10 @@ module _ (s : List ℕ) (columns n l d : ℕ) (tests₀ : List ℕ) (put : Defin
 -- ---- the loop over the letters
 
 -- the letters below l have their words, and those from l on have none yet
-pub record Preparing (s : List ℕ) (columns n : ℕ) (defines tests : List ℕ) (l : ℕ) : Type 0 where
+pub record Preparing (s : List ℕ) (columns n : ℕ) (defines : List ℕ) (letters : ℕ) (tests : List ℕ) (l : ℕ) : Type 0 where
   pub few : columns ≤ 8
+  pub least : letters ≤ 26
+  pub free : (m : ℕ) → letters ≤ m → m < 26 → getD defines m 0 ≡ 0
   pub long : length tests ≡ 208
   pub upto : l ≤ 26
   pub done : (m i : ℕ) → m < l → i < 8 → getD tests (m * 8 + i) 0 ≡ getD (wordsOf s columns n (getD defines m 0)) i 0
@@ -246,10 +248,12 @@ pub record Preparing (s : List ℕ) (columns n : ℕ) (defines tests : List ℕ)
   pub rest : (m i : ℕ) → l ≤ m → m < 26 → i < 8 → getD tests (m * 8 + i) 0 ≡ 0
   pub body : (m : ℕ) → m < 26 → (getD defines m 0 ≡ 0 → ⊥) → Body s columns (getD defines m 0)
 
-module _ (s : List ℕ) (columns n : ℕ) (defines : List ℕ) where
-  pub preparing-none : (tests : List ℕ) → Preparable s columns defines tests → Preparing s columns n defines tests 0
+module _ (s : List ℕ) (columns n : ℕ) (defines : List ℕ) (letters : ℕ) where
+  pub preparing-none : (tests : List ℕ) → Preparable s columns defines letters tests → Preparing s columns n defines letters tests 0
   preparing-none tests u = record {
     few = u .few;
+    least = u .upto;
+    free = u .free;
     long = u .long;
     upto = omega arith;
     done = λ m i h. absurd (omega arith);
@@ -258,11 +262,13 @@ module _ (s : List ℕ) (columns n : ℕ) (defines : List ℕ) where
     body = u .body;
   }
 
-  module _ (tests₀ tests : List ℕ) (l : ℕ) (p : Preparing s columns n defines tests₀ l) where
-    pub preparing-room : l < 26 → PutRoom s columns l (getD defines l 0) tests₀
-    preparing-room h = record { few = p .few; long = p .long; letter = h; none = λ i f. p .rest l i (omega arith) h f; body = p .body l h }
+  module _ (tests₀ tests : List ℕ) (l : ℕ) (p : Preparing s columns n defines letters tests₀ l) where
+    pub preparing-room : l < letters → PutRoom s columns l (getD defines l 0) tests₀
+    preparing-room g =
+        let h : l < 26 = omega (arith, p .least) in
+        record { few = p .few; long = p .long; letter = h; none = λ i f. p .rest l i (omega arith) h f; body = p .body l h }
 
-    module _ (h : l < 26) (u : PutTest s columns n l (getD defines l 0) tests₀ tests) where
+    module _ (h : l < letters) (u : PutTest s columns n l (getD defines l 0) tests₀ tests) where
       below : (m : ℕ) → m < l + 1 → (m ≡ l → ⊥) → m < l
       below m f k = omega arith
 
@@ -278,16 +284,24 @@ module _ (s : List ℕ) (columns n : ℕ) (defines : List ℕ) where
           (λ e. let q : m ≡ l = eqb-true m l e in u .bytes (rw q at o))
           (λ e. p .bytes m (below m f (eqb-false m l e)) o)
 
-      pub preparing-more : Preparing s columns n defines tests (l + 1)
+      pub preparing-more : Preparing s columns n defines letters tests (l + 1)
       preparing-more = record {
         few = p .few;
+        least = p .least;
+        free = p .free;
         long = u .long ∙ p .long;
-        upto = omega arith;
+        upto = omega (arith, p .least);
         done = now-done;
         bytes = now-bytes;
         rest = λ m i f g k. u .kept m i (λ e. omega arith) k ∙ p .rest m i (omega arith) g k;
         body = p .body;
       }
 
-    pub preparing-all : 26 ≤ l → Prepared s columns n defines tests₀
-    preparing-all h = record { long = p .long; words = λ m i f g. p .done m i (omega arith) g; bytes = λ m f o. p .bytes m (omega arith) o }
+    -- behind the last letter that has a DEFINE all words are zeros
+    pub preparing-all : letters ≤ l → Prepared s columns n defines tests₀
+    preparing-all h = record {
+      long = p .long;
+      words = λ m i f g. decided (ltb m l) (λ t. p .done m i (ltb-true m l t) g)
+          (λ t. let k = ltb-false m l t in p .rest m i k f g ∙ sym (ap (λ (ws : List ℕ). getD ws i 0) (words-none s columns n (getD defines m 0) (p .free m (omega arith) f))));
+      bytes = λ m f o. decided (ltb m l) (λ t. p .bytes m (ltb-true m l t) o) (λ t. let k = ltb-false m l t in absurd (o (p .free m (omega arith) f)));
+    }

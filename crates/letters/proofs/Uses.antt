@@ -15,8 +15,8 @@ use Rattle.letters.specs.Tests.{wordsAt, wordsOf, Prepared, Preparable, 
 use Rattle.letters.proofs.Putting.{words-none, words-some}
 
 module _ (s : List ℕ) (columns : ℕ) (defines : List ℕ) (body : (l : ℕ) → l < 26 → (getD defines l 0 ≡ 0 → ⊥) → Body s columns (getD defines l 0)) where
-  pub preparable : columns ≤ 8 → Preparable s columns defines (replicate 208 0)
-  preparable few = record { few = few; long = length-replicate {A = ℕ} 208 0; none = λ i h. getD-replicate {A = ℕ} 208 i 0 0 h; body = body }
+  pub preparable : (letters : ℕ) → columns ≤ 8 → letters ≤ 26 → ((l : ℕ) → letters ≤ l → l < 26 → getD defines l 0 ≡ 0) → Preparable s columns defines letters (replicate 208 0)
+  preparable letters few upto free = record { few = few; upto = upto; free = free; long = length-replicate {A = ℕ} 208 0; none = λ i h. getD-replicate {A = ℕ} 208 i 0 0 h; body = body }
 
   module _ (n : ℕ) (tests : List ℕ) (p : Prepared s columns n defines tests) where
     last-word : (d : ℕ) → getD (wordsOf s columns n d) 7 0 ≡ d

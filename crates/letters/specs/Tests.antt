@@ -103,9 +103,11 @@ pub record Prepared (s : List ℕ) (columns n : ℕ) (defines tests : List ℕ) 
   pub words : (l i : ℕ) → l < 26 → i < 8 → getD tests (l * 8 + i) 0 ≡ getD (wordsOf s columns n (getD defines l 0)) i 0
   pub bytes : (l : ℕ) → l < 26 → (getD defines l 0 ≡ 0 → ⊥) → Bytes s
 
--- The table has room for 26 letters and holds zeros, and a DEFINE's body starts at each index that is not 0.
-pub record Preparable (s : List ℕ) (columns : ℕ) (defines tests : List ℕ) : Type 0 where
+-- The table has room for 26 letters and holds zeros, a DEFINE's body starts at each index that is not 0, and from a number on all indices are 0.
+pub record Preparable (s : List ℕ) (columns : ℕ) (defines : List ℕ) (letters : ℕ) (tests : List ℕ) : Type 0 where
   pub few : columns ≤ 8
+  pub upto : letters ≤ 26
+  pub free : (l : ℕ) → letters ≤ l → l < 26 → getD defines l 0 ≡ 0
   pub long : length tests ≡ 208
   pub none : (i : ℕ) → i < 208 → getD tests i 0 ≡ 0
   pub body : (l : ℕ) → l < 26 → (getD defines l 0 ≡ 0 → ⊥) → Body s columns (getD defines l 0)

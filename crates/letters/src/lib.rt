@@ -473,19 +473,20 @@ fn put_test(query: &[u8], columns: usize, n: usize, l: usize, d: usize, tests: &
     put_define(query, columns, n, l, d, tests);
 }
 
-// The tests of all letters, over a query's DEFINEs and n rows. A letter without DEFINE keeps its zeros.
+// The tests of all letters, over a query's DEFINEs and n rows, where no letter from number `letters` on has one. A letter without DEFINE keeps its zeros.
 pub fn prepare(
     query: &[u8],
     columns: usize,
     n: usize,
     defines: &[usize; 26],
+    letters: usize,
     tests: &mut [u64; 208],
 )
-    requires { ⌜ Preparable (now query) columns (now defines) (now tests) ⌝ }
+    requires { ⌜ Preparable (now query) columns (now defines) letters (now tests) ⌝ }
     ensures { λ r. ⌜ Prepared (now (query .entry)) columns n (now (defines .entry)) (now (tests .exit)) ⌝ }
 {
     let mut l = 0;
-    while l < 26 {
+    while l < letters {
         put_test(query, columns, n, l, defines[l], tests);
         l += 1;
     }

@@ -222,7 +222,7 @@ module _ (s room room′ measures : List ℕ) (p : Parts) (j : JudgeRoom s room 
 
     -- none of them
     pub no-answer : (u : Bool) → p .twice ≡ false → u ≡ foreignIn (take (e - p .start) (drop (p .start) s)) measures (p .measures) → u ≡ false
-        → JudgedParts s room′ measures p (record { answer = 0; places = v .places; top = v .top; columns = p .columns; skip = p .skip; measures = p .measures })
+        → JudgedParts s room′ measures p (record { answer = 0; places = v .places; top = v .top; columns = p .columns; skip = p .skip; measures = p .measures; letters = p .letters })
     unfolding treeIn
     no-answer u d f y =
         record {
@@ -236,6 +236,7 @@ module _ (s room room′ measures : List ℕ) (p : Parts) (j : JudgeRoom s room 
                 columns = refl;
                 skip = refl;
                 measured = refl;
+                letters = refl;
               };
         }
 

@@ -34,7 +34,7 @@ unfolding lowest queryTests
 queryAnswer s = lowest 1 (queryTests s)
 
 abbrev pub refusal : ℕ → Query
-refusal a = record { answer = a; places = 0; top = 0; columns = 0; skip = 0; measures = 0 }
+refusal a = record { answer = a; places = 0; top = 0; columns = 0; skip = 0; measures = 0; letters = 0 }
 
 -- what judging the parts asks: the query has no answer 1 to 3, the parts and measures are the query's, it is told whether two DEFINEs are for one letter,
 -- and there is room for the tree
@@ -58,6 +58,7 @@ pub record GoodParts (s room : List ℕ) (p : Parts) (r : Query) : Type 0 where
   pub columns : r .columns ≡ p .columns
   pub skip : r .skip ≡ p .skip
   pub measured : r .measures ≡ p .measures
+  pub letters : r .letters ≡ p .letters
 
 pub record JudgedParts (s room measures : List ℕ) (p : Parts) (r : Query) : Type 0 where
   pub answer : r .answer ≡ queryAnswer s

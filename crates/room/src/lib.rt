@@ -16,6 +16,7 @@ pub struct Query {
     pub columns: usize,
     pub skip: usize,
     pub measures: usize,
+    pub letters: usize,
 }
 
 // How much to lend: the answer 1 to 10, or 0 with P and n.
@@ -61,6 +62,7 @@ fn refused(answer: usize) -> Query
         columns: 0,
         skip: 0,
         measures: 0,
+        letters: 0,
     }
 }
 
@@ -90,6 +92,7 @@ fn judge_parts(s: &[u8], parts: Parts, room: &mut [u16], measures: &[u8; 24]) ->
         columns: parts.columns,
         skip: parts.skip,
         measures: parts.measures,
+        letters: parts.letters,
     }
 }
 

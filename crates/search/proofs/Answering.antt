@@ -164,7 +164,7 @@ module _ (q measures₀ room defines measures : List ℕ) (r : Query)
     -- the walk may begin
     pub may-walk : length rows % r .columns ≡ 0 → length rows / r .columns ≤ 4096 → length measures ≡ 24 → (r .places * (length rows / r .columns + 1) + 7) / 8 ≤ length notes
         → r .places * (length rows / r .columns + 1) ≤ length trail
-        → Walks q room (r .top) (r .places) rows (r .columns) (length rows / r .columns) defines measures (r .measures) (eqb (r .skip) 1) notes trail
+        → Walks q room (r .top) (r .places) rows (r .columns) (length rows / r .columns) defines (r .letters) measures (r .measures) (eqb (r .skip) 1) notes trail
     unfolding hasEmptyLoop P
     may-walk e h l f g =
         let n : ℕ = length rows / r .columns in
@@ -184,6 +184,7 @@ module _ (q measures₀ room defines measures : List ℕ) (r : Query)
           decoded = whole .decoded;
           columns-are = whole .good .columns;
           count-is = whole .good .measured;
+          letters-are = whole .good .letters;
           mode-is = ap (λ (k : ℕ). eqb k 1) (whole .good .skip);
           long = l;
           most = h;

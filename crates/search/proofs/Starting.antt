@@ -60,17 +60,17 @@ small-table p h = let e = length-replicate {A = ℕ} 224 0 in record { long = om
 large-table : (p : ℕ) → p ≤ 256 → TableRoom p (replicate 1792 0)
 large-table p h = let e = length-replicate {A = ℕ} 1792 0 in record { long = omega arith; few = omega arith }
 
-module _ (q nodes : List ℕ) (top p : ℕ) (rows : List ℤ) (columns n : ℕ) (defines ms : List ℕ) (count : ℕ) (mode : Bool) (notes trail : List ℕ)
-    (a : Walks q nodes top p rows columns n defines ms count mode notes trail) where
+module _ (q nodes : List ℕ) (top p : ℕ) (rows : List ℤ) (columns n : ℕ) (defines : List ℕ) (letters : ℕ) (ms : List ℕ) (count : ℕ) (mode : Bool) (notes trail : List ℕ)
+    (a : Walks q nodes top p rows columns n defines letters ms count mode notes trail) where
   -- unrolling
   unfoldable pub may-unroll : (table : List ℕ) → TableRoom p table → Unrolling nodes top p table
   may-unroll table e =
       record { tree = a .tree; is = a .held; count = a .places-are; few = omega (arith, a .few, a .places-are); long = e .long; small = omega (arith, e .few) }
 
-  pub in-small : p ≤ 32 → WalksIn (replicate 224 0) q nodes top p rows columns n defines ms count mode notes trail
+  pub in-small : p ≤ 32 → WalksIn (replicate 224 0) q nodes top p rows columns n defines letters ms count mode notes trail
   in-small h = record { room = small-table p h; walks = a }
 
-  pub in-large : WalksIn (replicate 1792 0) q nodes top p rows columns n defines ms count mode notes trail
+  pub in-large : WalksIn (replicate 1792 0) q nodes top p rows columns n defines letters ms count mode notes trail
   in-large = record { room = large-table p (omega (arith, a .few, a .places-are)); walks = a }
 
   -- ---- the task
@@ -142,8 +142,10 @@ module _ (q nodes : List ℕ) (top p : ℕ) (rows : List ℤ) (columns n : ℕ) 
   the-letters : (tests : List ℕ) → Prepared q columns n defines tests → Letters tests q rows columns n
   the-letters tests t = letters-room q columns defines the-body n tests t rows (omega (arith, a .columns-are, a .decoded .some)) (omega (arith, a .columns-are, a .decoded .most)) (a .most) (a .all)
 
-  pub may-prepare : Preparable q columns defines (replicate 208 0)
-  may-prepare = preparable q columns defines the-body (omega (arith, a .columns-are, a .decoded .most))
+  pub may-prepare : Preparable q columns defines letters (replicate 208 0)
+  may-prepare =
+      preparable q columns defines the-body letters (omega (arith, a .columns-are, a .decoded .most)) (omega (arith, a .letters-are, a .decoded .upto))
+      (λ l h w. a .decoded .free l (omega (arith, a .letters-are)) w)
 
   module _ (table₀ table : List ℕ) (end : ℕ) (b : Tabled (a .tree) p table₀ table end) (room : TableRoom p table) where
     pub few-places : p ≤ 256

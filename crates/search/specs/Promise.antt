@@ -55,7 +55,7 @@ pub record TableRoom (p : ℕ) (table : List ℕ) : Type 0 where
   pub few : length table ≤ 1792
 
 -- what walking asks: a query with no answer 1 to 9 in the lent arrays, whole rows, and working room
-pub record Walks (q nodes : List ℕ) (top places : ℕ) (rows : List ℤ) (columns n : ℕ) (defines ms : List ℕ) (count : ℕ) (mode : Bool) (notes trail : List ℕ) : Type 0 where
+pub record Walks (q nodes : List ℕ) (top places : ℕ) (rows : List ℤ) (columns n : ℕ) (defines : List ℕ) (letters : ℕ) (ms : List ℕ) (count : ℕ) (mode : Bool) (notes trail : List ℕ) : Type 0 where
   pub tree : Tree pattern
   pub has-tree : treeIn q ≡ some tree
   pub no-loop : emptyLoop tree ≡ false
@@ -67,6 +67,7 @@ pub record Walks (q nodes : List ℕ) (top places : ℕ) (rows : List ℤ) (colu
   pub decoded : Decoded q measures₀ defines ms parts
   pub columns-are : columns ≡ parts .columns
   pub count-is : count ≡ parts .measures
+  pub letters-are : letters ≡ parts .letters
   pub mode-is : mode ≡ eqb (parts .skip) 1
   pub long : length ms ≡ 24
   pub most : n ≤ 4096
@@ -75,9 +76,9 @@ pub record Walks (q nodes : List ℕ) (top places : ℕ) (rows : List ℤ) (colu
   pub trailed : pairs places n ≤ length trail
 
 -- and a table for the places
-pub record WalksIn (table q nodes : List ℕ) (top places : ℕ) (rows : List ℤ) (columns n : ℕ) (defines ms : List ℕ) (count : ℕ) (mode : Bool) (notes trail : List ℕ) : Type 0 where
+pub record WalksIn (table q nodes : List ℕ) (top places : ℕ) (rows : List ℤ) (columns n : ℕ) (defines : List ℕ) (letters : ℕ) (ms : List ℕ) (count : ℕ) (mode : Bool) (notes trail : List ℕ) : Type 0 where
   pub room : TableRoom places table
-  pub walks : Walks q nodes top places rows columns n defines ms count mode notes trail
+  pub walks : Walks q nodes top places rows columns n defines letters ms count mode notes trail
 
 -- what all starts over tables ask: legal tables, letters and measures that can be read, working room; and that they stand for the query's search
 pub record Runs (q : List ℕ) (T : Tables) (rows : List ℤ) (columns n : ℕ) (tests ms : List ℕ) (count : ℕ) (mode : Bool) (notes trail : List ℕ) : Type 0 where

@@ -203,6 +203,7 @@ fn walk_in(
     columns: usize,
     n: usize,
     defines: &[usize; 26],
+    letters: usize,
     ms: &[u8; 24],
     count: usize,
     mode: bool,
@@ -211,7 +212,7 @@ fn walk_in(
     numbers: &mut [i64],
     labels: &mut [u8],
 ) -> Outcome
-    requires { ⌜ WalksIn (now table) (now query) (now nodes) top places (now rows) columns n (now defines) (now ms) count mode (now notes) (now trail) ⌝ }
+    requires { ⌜ WalksIn (now table) (now query) (now nodes) top places (now rows) columns n (now defines) letters (now ms) count mode (now notes) (now trail) ⌝ }
     ensures { λ r. ⌜ memory r (now (notes .exit)) (now (trail .exit)) (now (numbers .exit)) (now (labels .exit)) ≡ ended (now (query .entry)) (now (rows .entry)) (lent (now (notes .entry)) (now (trail .entry)) (now (numbers .entry)) (now (labels .entry))) ⌝ }
 {
     let _end = places::unroll(nodes, top, places, table);
@@ -221,7 +222,7 @@ fn walk_in(
     let mut stop = [0u16; 256];
     part(table, places, &mut code, &mut next, &mut entry, &mut stop);
     let mut tests = [0u64; 208];
-    letters::prepare(query, columns, n, defines, &mut tests);
+    letters::prepare(query, columns, n, defines, letters, &mut tests);
     run_tables(
         query,
         &code[0..places],
@@ -253,6 +254,7 @@ fn walk_all(
     columns: usize,
     n: usize,
     defines: &[usize; 26],
+    letters: usize,
     ms: &[u8; 24],
     count: usize,
     mode: bool,
@@ -261,7 +263,7 @@ fn walk_all(
     numbers: &mut [i64],
     labels: &mut [u8],
 ) -> Outcome
-    requires { ⌜ Walks (now query) (now nodes) top places (now rows) columns n (now defines) (now ms) count mode (now notes) (now trail) ⌝ }
+    requires { ⌜ Walks (now query) (now nodes) top places (now rows) columns n (now defines) letters (now ms) count mode (now notes) (now trail) ⌝ }
     ensures { λ r. ⌜ memory r (now (notes .exit)) (now (trail .exit)) (now (numbers .exit)) (now (labels .exit)) ≡ ended (now (query .entry)) (now (rows .entry)) (lent (now (notes .entry)) (now (trail .entry)) (now (numbers .entry)) (now (labels .entry))) ⌝ }
 {
     if places <= 32 {
@@ -276,6 +278,7 @@ fn walk_all(
             columns,
             n,
             defines,
+            letters,
             ms,
             count,
             mode,
@@ -296,6 +299,7 @@ fn walk_all(
         columns,
         n,
         defines,
+        letters,
         ms,
         count,
         mode,
@@ -350,6 +354,7 @@ fn search_in(
         columns,
         n,
         &defines,
+        q.letters,
         &measures,
         q.measures,
         q.skip == 1,

@@ -1,4 +1,4 @@
--- `decode::put_defines` meets its contract by the laws of Defines and Reading. The invariant is `Lettering`, of each letter's entry and of what was told of two; the bytes left fall.
+-- `decode::put_defines` meets its contract by the laws of Defines and Reading. The invariant is `Lettering`, of each letter's entry, of what was told of two and of the largest letter; the bytes left fall.
 use Prim.Native.Nat.{_-_}
 use lib.ListN.{length}
 use borrow.Author.Needs.{needs}
@@ -8,10 +8,10 @@ use Rattle.decode.proofs.put_defines.Statement.{statement}
 use Rattle.decode.proofs.put_defines.Tie as tie
 
 abbrev Inv-loop : tie.InvT-loop
-Inv-loop s from defines₀ at₀ twice₀ defines at twice = Lettering s from defines at twice
+Inv-loop s from defines₀ at₀ twice₀ letters₀ defines at twice letters = Lettering s from defines at twice letters
 
 abbrev μ-loop : tie.MeasureT-loop
-μ-loop s from defines₀ at₀ twice₀ defines at twice = length s - at
+μ-loop s from defines₀ at₀ twice₀ letters₀ defines at twice letters = length s - at
 
 loop-holds : tie.Need-loop-holds Inv-loop μ-loop
 loop-holds c = search (needs, lettering-none)
@@ -37,6 +37,9 @@ put-define-requires c κs = search (needs, lettering-room)
 either-requires : tie.Need-either-requires Inv-loop μ-loop
 either-requires c κs = search needs
 
+past-requires : tie.Need-past-requires Inv-loop μ-loop
+past-requires c κs = search (needs, lettering-room)
+
 loop-less : tie.Need-loop-less Inv-loop μ-loop
 loop-less c = search (needs, fewer)
 
@@ -60,6 +63,7 @@ put-defines-spec =
     returns-2
     put-define-requires
     either-requires
+    past-requires
     loop-less
     loop-again
     returns-3)

@@ -7,10 +7,10 @@ use Rattle.letters.proofs.prepare.Statement.{statement}
 use Rattle.letters.proofs.prepare.Tie as tie
 
 abbrev Inv-loop : tie.InvT-loop
-Inv-loop query columns n defines tests₀ l₀ tests l = Preparing query columns n defines tests l
+Inv-loop query columns n defines letters tests₀ l₀ tests l = Preparing query columns n defines letters tests l
 
 abbrev μ-loop : tie.MeasureT-loop
-μ-loop query columns n defines tests₀ l₀ tests l = 26 - l
+μ-loop query columns n defines letters tests₀ l₀ tests l = letters - l
 
 loop-holds : tie.Need-loop-holds Inv-loop μ-loop
 loop-holds c = search (needs, preparing-none)

@@ -14,7 +14,7 @@ use Rattle.letters.proofs.prepare.Reads as prepare-reads
 
 -- src/lib.rt:222:9
 unroll-requires : tie.Need-unroll-requires
-unroll-requires c κs = may-unroll _ _ _ _ _ _ _ _ _ _ _ _ _ (c .before .before .before .before .before .before .before .pre .walks) _ (c .before .before .before .before .before .before .before .pre .room)
+unroll-requires c κs = may-unroll _ _ _ _ _ _ _ _ _ _ _ _ _ _ (c .before .before .before .before .before .before .before .pre .walks) _ (c .before .before .before .before .before .before .before .pre .room)
 
 -- src/lib.rt:227:25
 slice-aggregate-part : tie.Need-slice-aggregate-part
@@ -34,7 +34,7 @@ slice-aggregate-part-4 c = search needs
 
 -- src/lib.rt:227:5
 part-requires : tie.Need-part-requires
-part-requires c κs = may-part _ _ _ _ _ _ _ _ _ _ _ _ _ (c .before .before .before .before .before .before .before .before .before .before .before .before .before .before .before .pre .walks) _ _ _ (c .before .before .before .before .before .before .before .unroll .ensures) (c .before .before .before .before .before .before .before .before .before .before .before .before .before .before .before .pre .room) _ _ _ _ (length-replicate {A = ℕ} 256 0) (length-replicate {A = ℕ} 256 0) (length-replicate {A = ℕ} 256 0) (length-replicate {A = ℕ} 256 0)
+part-requires c κs = may-part _ _ _ _ _ _ _ _ _ _ _ _ _ _ (c .before .before .before .before .before .before .before .before .before .before .before .before .before .before .before .pre .walks) _ _ _ (c .before .before .before .before .before .before .before .unroll .ensures) (c .before .before .before .before .before .before .before .before .before .before .before .before .before .before .before .pre .room) _ _ _ _ (length-replicate {A = ℕ} 256 0) (length-replicate {A = ℕ} 256 0) (length-replicate {A = ℕ} 256 0) (length-replicate {A = ℕ} 256 0)
 
 -- src/lib.rt:229:5
 prepare-requires : tie.Need-prepare-requires
@@ -62,7 +62,7 @@ part-run-tables-start-2 c = search needs
 
 -- src/lib.rt:233:9
 part-run-tables-end-2 : tie.Need-part-run-tables-end-2
-part-run-tables-end-2 c = let h = may-cut _ _ _ _ _ _ _ _ _ _ _ _ _ (c .before .before .before .before .before .before .before .before .before .before .before .before .before .before .before .before .before .before .before .before .before .before .before .before .before .pre .walks) in search needs
+part-run-tables-end-2 c = let h = may-cut _ _ _ _ _ _ _ _ _ _ _ _ _ _ (c .before .before .before .before .before .before .before .before .before .before .before .before .before .before .before .before .before .before .before .before .before .before .before .before .before .pre .walks) in search needs
 
 -- src/lib.rt:234:9
 sub-run-tables-3 : tie.Need-sub-run-tables-3
@@ -74,7 +74,7 @@ part-run-tables-start-3 c = search needs
 
 -- src/lib.rt:234:9
 part-run-tables-end-3 : tie.Need-part-run-tables-end-3
-part-run-tables-end-3 c = let h = may-cut _ _ _ _ _ _ _ _ _ _ _ _ _ (c .before .before .before .before .before .before .before .before .before .before .before .before .before .before .before .before .before .before .before .before .before .before .before .before .before .before .before .pre .walks) in search needs
+part-run-tables-end-3 c = let h = may-cut _ _ _ _ _ _ _ _ _ _ _ _ _ _ (c .before .before .before .before .before .before .before .before .before .before .before .before .before .before .before .before .before .before .before .before .before .before .before .before .before .before .before .pre .walks) in search needs
 
 -- src/lib.rt:235:9
 sub-run-tables-4 : tie.Need-sub-run-tables-4
@@ -86,15 +86,15 @@ part-run-tables-start-4 c = search needs
 
 -- src/lib.rt:235:9
 part-run-tables-end-4 : tie.Need-part-run-tables-end-4
-part-run-tables-end-4 c = let h = may-cut _ _ _ _ _ _ _ _ _ _ _ _ _ (c .before .before .before .before .before .before .before .before .before .before .before .before .before .before .before .before .before .before .before .before .before .before .before .before .before .before .before .before .before .pre .walks) in search needs
+part-run-tables-end-4 c = let h = may-cut _ _ _ _ _ _ _ _ _ _ _ _ _ _ (c .before .before .before .before .before .before .before .before .before .before .before .before .before .before .before .before .before .before .before .before .before .before .before .before .before .before .before .before .before .pre .walks) in search needs
 
 -- src/lib.rt:230:5
 run-tables-requires : tie.Need-run-tables-requires
-run-tables-requires c κs = may-run _ _ _ _ _ _ _ _ _ _ _ _ _ (c .before .before .before .before .before .before .before .before .before .before .before .before .before .before .before .before .before .before .before .before .before .before .before .before .before .before .before .before .before .before .before .before .before .before .before .before .before .pre .walks) _ _ _ (c .before .before .before .before .before .before .before .before .before .before .before .before .before .before .before .before .before .before .before .before .before .before .before .before .before .before .before .before .before .unroll .ensures) (c .before .before .before .before .before .before .before .before .before .before .before .before .before .before .before .before .before .before .before .before .before .before .before .before .before .before .before .before .before .before .before .before .before .before .before .before .before .pre .room) _ _ _ _ _ _ _ _ (c .before .before .before .before .before .before .before .before .before .before .before .before .before .before .before .before .before .before .before .before .before .part .ensures) (length-replicate {A = ℕ} 256 0) (length-replicate {A = ℕ} 256 0) (length-replicate {A = ℕ} 256 0) (length-replicate {A = ℕ} 256 0) _ (c .before .before .before .before .before .before .before .before .before .before .before .before .before .before .before .prepare .ensures)
+run-tables-requires c κs = may-run _ _ _ _ _ _ _ _ _ _ _ _ _ _ (c .before .before .before .before .before .before .before .before .before .before .before .before .before .before .before .before .before .before .before .before .before .before .before .before .before .before .before .before .before .before .before .before .before .before .before .before .before .pre .walks) _ _ _ (c .before .before .before .before .before .before .before .before .before .before .before .before .before .before .before .before .before .before .before .before .before .before .before .before .before .before .before .before .before .unroll .ensures) (c .before .before .before .before .before .before .before .before .before .before .before .before .before .before .before .before .before .before .before .before .before .before .before .before .before .before .before .before .before .before .before .before .before .before .before .before .before .pre .room) _ _ _ _ _ _ _ _ (c .before .before .before .before .before .before .before .before .before .before .before .before .before .before .before .before .before .before .before .before .before .part .ensures) (length-replicate {A = ℕ} 256 0) (length-replicate {A = ℕ} 256 0) (length-replicate {A = ℕ} 256 0) (length-replicate {A = ℕ} 256 0) _ (c .before .before .before .before .before .before .before .before .before .before .before .before .before .before .before .prepare .ensures)
 
 -- src/lib.rt:198:1
 same-length : tie.Need-same-length
-same-length c = may-keep _ _ _ _ _ _ _ _ _ _ _ _ _ (c .before .before .before .before .before .before .before .before .before .before .before .before .before .before .before .before .before .before .before .before .before .before .before .before .before .before .before .before .before .before .before .before .before .before .before .before .before .before .before .before .before .before .before .before .before .pre .walks) _ _ _ (c .before .before .before .before .before .before .before .before .before .before .before .before .before .before .before .before .before .before .before .before .before .before .before .before .before .before .before .before .before .before .before .before .before .before .before .before .before .unroll .ensures) (c .before .before .before .before .before .before .before .before .before .before .before .before .before .before .before .before .before .before .before .before .before .before .before .before .before .before .before .before .before .before .before .before .before .before .before .before .before .before .before .before .before .before .before .before .before .pre .room)
+same-length c = may-keep _ _ _ _ _ _ _ _ _ _ _ _ _ _ (c .before .before .before .before .before .before .before .before .before .before .before .before .before .before .before .before .before .before .before .before .before .before .before .before .before .before .before .before .before .before .before .before .before .before .before .before .before .before .before .before .before .before .before .before .before .pre .walks) _ _ _ (c .before .before .before .before .before .before .before .before .before .before .before .before .before .before .before .before .before .before .before .before .before .before .before .before .before .before .before .before .before .before .before .before .before .before .before .before .before .unroll .ensures) (c .before .before .before .before .before .before .before .before .before .before .before .before .before .before .before .before .before .before .before .before .before .before .before .before .before .before .before .before .before .before .before .before .before .before .before .before .before .before .before .before .before .before .before .before .before .pre .room)
 
 -- src/lib.rt:198:1
 same-length-2 : tie.Need-same-length-2
