@@ -10,7 +10,7 @@ use lib.ListN.{length, getD, set, length-set}
 use lib.Seq.{getD-set-same, getD-set-other}
 use borrow.Author.Tests.{ltb-true, ltb-false, lt-ltb, le-ltb, eq-eqb, ne-eqb}
 use Rattle.rules.specs.Basics.{pick}
-use Rattle.search.specs.Spread.{Filled, codeBy, firstBy, secondBy, codeOf, nextOf, entryOf, stopOf, Place, Parts, Parted}
+use Rattle.search.specs.Spread.{Filled, codeBy, firstBy, secondBy, codeOf, nextOf, entryOf, stopOf, Spreads, Parts, Parted}
 
 filled-none : (l : List ℕ) (f : ℕ → ℕ) → Filled l l f 0
 filled-none l f = record { is = λ q h. absurd (not-suc-le-zero h); long = refl }
@@ -31,7 +31,7 @@ module _ (T : List ℕ) (p : ℕ) (co ne en st : List ℕ) where
   pub part-none : Going co ne en st 0
   part-none = record { within = omega arith; parted = record { codes = filled-none co (codeOf T); nexts = filled-none ne (nextOf T); entries = filled-none en (entryOf T); stops = filled-none st (stopOf T) } }
 
-  pub part-room : Parts T p co ne en st → (co′ ne′ en′ st′ : List ℕ) (q : ℕ) → Going co′ ne′ en′ st′ q → q < p → Place T q co′ ne′ en′ st′
+  pub part-room : Parts T p co ne en st → (co′ ne′ en′ st′ : List ℕ) (q : ℕ) → Going co′ ne′ en′ st′ q → q < p → Spreads T q co′ ne′ en′ st′
   part-room r co′ ne′ en′ st′ q g h =
       let a = g .parted in
       record {

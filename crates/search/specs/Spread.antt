@@ -56,7 +56,7 @@ pub record Parted (T : List ℕ) (k : ℕ) (co ne en st co′ ne′ en′ st′ 
   pub stops : Filled st st′ (stopOf T) k
 
 -- place q can be spread: its words are there, its ways too, and there is room
-pub record Place (T : List ℕ) (q : ℕ) (co ne en st : List ℕ) : Type 0 where
+pub record Spreads (T : List ℕ) (q : ℕ) (co ne en st : List ℕ) : Type 0 where
   pub table : 4 * q + 3 < length T
   pub begin : sortOf T q ≡ 0 → beginOf T q < length T
   pub stop : stopOf T q ≤ 2048

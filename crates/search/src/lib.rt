@@ -9,7 +9,7 @@ ghost use Rattle.rules.specs.Basics.{pick};
 ghost use Rattle.walk.specs.Tables.{tables};
 ghost use Rattle.room.specs.Reading.{Nodes};
 ghost use Rattle.search.specs.Promise.{lent, memory, refusal, ended, Promised, Walks, WalksIn, Runs};
-ghost use Rattle.search.specs.Spread.{codeBy, firstBy, secondBy, codeOf, nextOf, entryOf, stopOf, Place, Parts, Parted};
+ghost use Rattle.search.specs.Spread.{codeBy, firstBy, secondBy, codeOf, nextOf, entryOf, stopOf, Spreads, Parts, Parted};
 
 fn wide(x: u16) -> usize
     ensures { λ r. ⌜ (r ≡ x) × (r < 65536) ⌝ }
@@ -73,7 +73,7 @@ fn put_place(
     entry: &mut [u32],
     stop: &mut [u16],
 )
-    requires { ⌜ Place (now table) q (now code) (now next) (now entry) (now stop) ⌝ }
+    requires { ⌜ Spreads (now table) q (now code) (now next) (now entry) (now stop) ⌝ }
     ensures { λ _. ⌜ (now (code .exit) ≡ set (now (code .entry)) q (codeOf (now (table .entry)) q)) × (now (next .exit) ≡ set (now (next .entry)) q (nextOf (now (table .entry)) q)) × (now (entry .exit) ≡ set (now (entry .entry)) q (entryOf (now (table .entry)) q)) × (now (stop .exit) ≡ set (now (stop .entry)) q (stopOf (now (table .entry)) q)) ⌝ }
 {
     let at = 4 * q;
