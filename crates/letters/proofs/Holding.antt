@@ -20,7 +20,7 @@ use Rattle.rules.specs.Rows.{Comparison, Table, tableOf, entryAt, compares, plu
 use Rattle.rules.proofs.Choice.{decided}
 use Rattle.rules.proofs.Signed.{sum-fits, read-back}
 use Rattle.decode.specs.Layout.{comparisonsAt, Stand}
-use Rattle.letters.specs.Letters.{Bytes, there, At, FarBack, spotOf, leftSpot, rightSpot, numberAt, Side, CellRoom, CellsRoom, spotIndex, readMet, Reads, allRead, AllReads}
+use Rattle.letters.specs.Letters.{Bytes, there, At, FarBack, spotOf, leftSpot, rightSpot, numberAt, Side, ComparisonRoom, ComparisonsRoom, spotIndex, readMet, Reads, allRead, AllReads}
 use Rattle.letters.proofs.Entries.{spot-there, spot-entry, no-entry}
 use Rattle.letters.proofs.Fields.{left-for, left-column, right-for, right-column}
 
@@ -175,9 +175,9 @@ pub side-is : (s : List ℕ) (i row n : ℕ) (o : ℤ) (t : Bool) → o ≡ sign
 side-is s i row n o t is few e = e ∙ ap (λ (z : ℤ). there n (pos row +ℤ z)) (toZ-ofZ {w = w8} (record { sfits = few }) ∙ is)
 
 -- by the ways through the code
-module _ (s : List ℕ) (p : ℕ) (rows : List ℤ) (columns n row base : ℕ) (room : CellRoom s p rows columns n row base) (t : Bool) (left : Side s (p + 1) row n t) where
-  pub cell-missing : not t ≡ true → false ≡ met (tableOf columns rows) row (comparisonAt s p)
-  cell-missing q = unmet-left s rows columns n row base (room .at) p (room .fits) (left .bytes) (sym (left .is) ∙ not-true t q)
+module _ (s : List ℕ) (p : ℕ) (rows : List ℤ) (columns n row base : ℕ) (room : ComparisonRoom s p rows columns n row base) (t : Bool) (left : Side s (p + 1) row n t) where
+  pub left-missing : not t ≡ true → false ≡ met (tableOf columns rows) row (comparisonAt s p)
+  left-missing q = unmet-left s rows columns n row base (room .at) p (room .fits) (left .bytes) (sym (left .is) ∙ not-true t q)
 
   module _ (found : not t ≡ false) (from : ℕ) (far : FarBack columns base from) where
     left-found : there n (pos row +ℤ signed8 (getD s (p + 1) 0)) ≡ true
@@ -185,11 +185,11 @@ module _ (s : List ℕ) (p : ℕ) (rows : List ℤ) (columns n row base : ℕ) (
 
     -- its right side is a number
     module _ (number : getD s (p + 3) 0 ≡ 1 → ⊥) where
-      pub cell-reads : Reads s rows columns from p
-      cell-reads = reads-there s rows columns n row base (room .at) p (room .fits) (left .bytes) from far left-found (λ k. absurd (number k)) (room .stands)
+      pub left-reads : Reads s rows columns from p
+      left-reads = reads-there s rows columns n row base (room .at) p (room .fits) (left .bytes) from far left-found (λ k. absurd (number k)) (room .stands)
 
-      pub cell-is : (r : Bool) → r ≡ readMet s rows columns from p → r ≡ met (tableOf columns rows) row (comparisonAt s p)
-      cell-is r e = e ∙ read-is s rows columns n row base (room .at) p (room .fits) (left .bytes) from far left-found (λ k. absurd (number k))
+      pub left-met : (r : Bool) → r ≡ readMet s rows columns from p → r ≡ met (tableOf columns rows) row (comparisonAt s p)
+      left-met r e = e ∙ read-is s rows columns n row base (room .at) p (room .fits) (left .bytes) from far left-found (λ k. absurd (number k))
 
     -- its right side has a column
     module _ (column : getD s (p + 3) 0 ≡ 1) (u : Bool) (right : Side s (p + 5) row n u) where
@@ -203,8 +203,8 @@ module _ (s : List ℕ) (p : ℕ) (rows : List ℤ) (columns n row base : ℕ) (
         pub both-read : Reads s rows columns from p
         both-read = reads-there s rows columns n row base (room .at) p (room .fits) (left .bytes) from far left-found (λ k. right-found) (room .stands)
 
-        pub both-is : (r : Bool) → r ≡ readMet s rows columns from p → r ≡ met (tableOf columns rows) row (comparisonAt s p)
-        both-is r e = e ∙ read-is s rows columns n row base (room .at) p (room .fits) (left .bytes) from far left-found (λ k. right-found)
+        pub both-met : (r : Bool) → r ≡ readMet s rows columns from p → r ≡ met (tableOf columns rows) row (comparisonAt s p)
+        both-met r e = e ∙ read-is s rows columns n row base (room .at) p (room .fits) (left .bytes) from far left-found (λ k. right-found)
 
 -- ---- the first `count` comparisons from index p on, by the recursion: the last one is judged where those before it are met
 
@@ -229,11 +229,11 @@ module _ (t : Table) (row : ℕ) (s : List ℕ) (count p : ℕ) where
     pub last-decides : (l : Bool) → not r ≡ false → l ≡ met t row (comparisonAt s (p + (count - 1) * 12)) → l ≡ holds t row (comparisonsAt s p count)
     last-decides l u e = e ∙ sym (with-last ∙ ap (λ (x : Bool). x && met t row (nth (count - 1))) (not-false r u))
 
-module _ (s : List ℕ) (count p : ℕ) (rows : List ℤ) (columns n row base : ℕ) (all : CellsRoom s count p rows columns n row base) (some : count ≡ 0 → ⊥) where
-  pub room-before : CellsRoom s (count - 1) p rows columns n row base
+module _ (s : List ℕ) (count p : ℕ) (rows : List ℤ) (columns n row base : ℕ) (all : ComparisonsRoom s count p rows columns n row base) (some : count ≡ 0 → ⊥) where
+  pub room-before : ComparisonsRoom s (count - 1) p rows columns n row base
   room-before = record { at = all .at; stand = record { there = let a = all .stand .there in omega arith; fits = λ k h. all .stand .fits k (omega arith) } }
 
-  pub room-last : CellRoom s (p + (count - 1) * 12) rows columns n row base
+  pub room-last : ComparisonRoom s (p + (count - 1) * 12) rows columns n row base
   room-last = record { at = all .at; stands = let a = all .stand .there in omega arith; fits = all .stand .fits (count - 1) (omega arith) }
 
 -- ---- comparisons all of whose rows are there, by the loop

@@ -17,7 +17,7 @@ use Rattle.rules.specs.Rows.{Table, tableOf, compares, met, holds}
 use Rattle.rules.proofs.Choice.{decided}
 use Rattle.rules.proofs.Signed.{read-back}
 use Rattle.decode.specs.Layout.{comparisonsAt, definedAt, Body}
-use Rattle.letters.specs.Letters.{Bytes, there, At, leftSpot, rightSpot, numberAt, CellsRoom, FarBack, spotIndex, readMet, Reads, allRead, AllReads}
+use Rattle.letters.specs.Letters.{Bytes, there, At, leftSpot, rightSpot, numberAt, ComparisonsRoom, FarBack, spotIndex, readMet, Reads, allRead, AllReads}
 use Rattle.letters.specs.Tests.{sortOf, raised, lowOf, widthOf, backOf, aheadOf, backBoth, aheadBoth, backAt, aheadAt, mostBack, mostAhead, rowsLeft, wordsAt, wordsOf, within, TestRoom}
 use Rattle.letters.proofs.Fields.{number-short}
 use Rattle.letters.proofs.Holding.{every-same, one-more, none-yet, reads-there, read-is}
@@ -117,7 +117,7 @@ module _ (tests s : List ℕ) (l : ℕ) (rows : List ℤ) (columns n row base : 
     pub count-there : d + 14 ≤ length s
     count-there = let a = body .one in let b = body .stand .there in omega arith
 
-    pub several-room : (c : ℕ) → row < n → c ≡ count → CellsRoom s c (d + 2) rows columns n row base
+    pub several-room : (c : ℕ) → row < n → c ≡ count → ComparisonsRoom s c (d + 2) rows columns n row base
     several-room c h e = record { at = at-row h; stand = rw e (body .stand) }
 
     pub several-is : (c : ℕ) (t : Bool) → row < n → c ≡ count → t ≡ holds T row (comparisonsAt s (d + 2) c) → Says t

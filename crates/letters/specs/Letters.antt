@@ -96,12 +96,12 @@ pub record Side (s : List ℕ) (i row n : ℕ) (r : Bool) : Type 0 where
   pub bytes : Bytes s
 
 -- the comparison at index p stands in the query, and its fields fit
-pub record CellRoom (s : List ℕ) (p : ℕ) (rows : List ℤ) (columns n row base : ℕ) : Type 0 where
+pub record ComparisonRoom (s : List ℕ) (p : ℕ) (rows : List ℤ) (columns n row base : ℕ) : Type 0 where
   pub at : At rows columns n row base
   pub stands : p + 12 ≤ length s
   pub fits : comparisonFits s columns p ≡ true
 
 -- `count` of them from index p on
-pub record CellsRoom (s : List ℕ) (count p : ℕ) (rows : List ℤ) (columns n row base : ℕ) : Type 0 where
+pub record ComparisonsRoom (s : List ℕ) (count p : ℕ) (rows : List ℤ) (columns n row base : ℕ) : Type 0 where
   pub at : At rows columns n row base
   pub stand : Stand s columns p count

@@ -15,7 +15,7 @@ ghost use Rattle.rules.specs.Rows.{tableOf, compares, met, holds};
 ghost use Rattle.decode.specs.Layout.{comparisonsAt, definedAt};
 ghost use Rattle.letters.specs.Tests.{sortOf, raised, lowOf, widthOf, backOf, aheadOf, backBoth, aheadBoth, backAt, aheadAt, mostBack, mostAhead};
 ghost use Rattle.letters.specs.Tests.{within, setEight, DefineRoom, PutRoom, PutTest, Preparable, Prepared, TestRoom};
-ghost use Rattle.letters.specs.Letters.{flagOf, there, spotOf, spotIndex, readMet, Reads, allRead, AllReads, FarBack, Side, CellRoom, CellsRoom};
+ghost use Rattle.letters.specs.Letters.{flagOf, there, spotOf, spotIndex, readMet, Reads, allRead, AllReads, FarBack, Side, ComparisonRoom, ComparisonsRoom};
 
 // Numbers as wider ones.
 fn long(x: i32) -> i64
@@ -189,7 +189,7 @@ fn side_there(query: &[u8], i: usize, row: usize, n: usize) -> bool
 }
 
 // The comparison at index p, at a row whose first entry is at index base.
-fn cell_met(
+fn comparison_met(
     query: &[u8],
     p: usize,
     rows: &[i32],
@@ -198,7 +198,7 @@ fn cell_met(
     row: usize,
     base: usize,
 ) -> bool
-    requires { ⌜ CellRoom (now query) p (now rows) columns n row base ⌝ }
+    requires { ⌜ ComparisonRoom (now query) p (now rows) columns n row base ⌝ }
     ensures { λ r. ⌜ r ≡ met (tableOf columns (now (rows .entry))) row (comparisonAt (now (query .entry)) p) ⌝ }
 {
     if !side_there(query, p + 1, row, n) {
@@ -226,7 +226,7 @@ fn several_hold(
     row: usize,
     base: usize,
 ) -> bool
-    requires { ⌜ CellsRoom (now query) count p (now rows) columns n row base ⌝ }
+    requires { ⌜ ComparisonsRoom (now query) count p (now rows) columns n row base ⌝ }
     ensures { λ r. ⌜ r ≡ holds (tableOf columns (now (rows .entry))) row (comparisonsAt (now (query .entry)) p count) ⌝ }
 {
     if count == 0 {
@@ -236,7 +236,7 @@ fn several_hold(
     if !several_hold(query, k, p, rows, columns, n, row, base) {
         return false;
     }
-    cell_met(query, p + k * 12, rows, columns, n, row, base)
+    comparison_met(query, p + k * 12, rows, columns, n, row, base)
 }
 
 // ---- the table of tests

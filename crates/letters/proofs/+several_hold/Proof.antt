@@ -7,7 +7,7 @@ use borrow.Fn.PlainCycle.{Measures, is, falls, and}
 use Rattle.letters.proofs.several_hold.Reads as several-hold
 use Rattle.letters.proofs.several_hold.Kinds as several-hold-kinds
 use Rattle.letters.proofs.+several_hold.Lts-several_hold as several-hold-lts
-use Rattle.letters.proofs.cell_met.Reads as cell-met-reads
+use Rattle.letters.proofs.comparison_met.Reads as comparison-met-reads
 use Rattle.letters.proofs.+several_hold.{statement}
 use Rattle.letters.proofs.+several_hold.Tie.{close}
 
@@ -29,64 +29,64 @@ several-hold-below t =
 several-hold-returns : (t : ℕ) → several-hold-lts.Need-returns (
   several-hold-below t,
   several-hold.Post,
-  cell-met-reads.Asked,
-  cell-met-reads.Learnt,
+  comparison-met-reads.Asked,
+  comparison-met-reads.Learnt,
 ) (several-hold-at t) several-hold.Post
 several-hold-returns t c = search (needs, none-hold)
 
 several-hold-sub-k : (t : ℕ) → several-hold-lts.Need-sub-k (
   several-hold-below t,
   several-hold.Post,
-  cell-met-reads.Asked,
-  cell-met-reads.Learnt,
+  comparison-met-reads.Asked,
+  comparison-met-reads.Learnt,
 ) (several-hold-at t) several-hold.Post
 several-hold-sub-k t c = search needs
 
 several-hold-several-hold-requires : (t : ℕ) → several-hold-lts.Need-several-hold-requires (
   several-hold-below t,
   several-hold.Post,
-  cell-met-reads.Asked,
-  cell-met-reads.Learnt,
+  comparison-met-reads.Asked,
+  comparison-met-reads.Learnt,
 ) (several-hold-at t) several-hold.Post
 several-hold-several-hold-requires t c κs = search (needs, room-before)
 
 several-hold-returns-2 : (t : ℕ) → several-hold-lts.Need-returns-2 (
   several-hold-below t,
   several-hold.Post,
-  cell-met-reads.Asked,
-  cell-met-reads.Learnt,
+  comparison-met-reads.Asked,
+  comparison-met-reads.Learnt,
 ) (several-hold-at t) several-hold.Post
 several-hold-returns-2 t c = search (needs, before-unmet)
 
-several-hold-mul-cell-met : (t : ℕ) → several-hold-lts.Need-mul-cell-met (
+several-hold-mul-comparison-met : (t : ℕ) → several-hold-lts.Need-mul-comparison-met (
   several-hold-below t,
   several-hold.Post,
-  cell-met-reads.Asked,
-  cell-met-reads.Learnt,
+  comparison-met-reads.Asked,
+  comparison-met-reads.Learnt,
 ) (several-hold-at t) several-hold.Post
-several-hold-mul-cell-met t c = search needs
+several-hold-mul-comparison-met t c = search needs
 
-several-hold-add-cell-met : (t : ℕ) → several-hold-lts.Need-add-cell-met (
+several-hold-add-comparison-met : (t : ℕ) → several-hold-lts.Need-add-comparison-met (
   several-hold-below t,
   several-hold.Post,
-  cell-met-reads.Asked,
-  cell-met-reads.Learnt,
+  comparison-met-reads.Asked,
+  comparison-met-reads.Learnt,
 ) (several-hold-at t) several-hold.Post
-several-hold-add-cell-met t c = search needs
+several-hold-add-comparison-met t c = search needs
 
-several-hold-cell-met-requires : (t : ℕ) → several-hold-lts.Need-cell-met-requires (
+several-hold-comparison-met-requires : (t : ℕ) → several-hold-lts.Need-comparison-met-requires (
   several-hold-below t,
   several-hold.Post,
-  cell-met-reads.Asked,
-  cell-met-reads.Learnt,
+  comparison-met-reads.Asked,
+  comparison-met-reads.Learnt,
 ) (several-hold-at t) several-hold.Post
-several-hold-cell-met-requires t c κs = search (needs, room-last)
+several-hold-comparison-met-requires t c κs = search (needs, room-last)
 
 several-hold-returns-3 : (t : ℕ) → several-hold-lts.Need-returns-3 (
   several-hold-below t,
   several-hold.Post,
-  cell-met-reads.Asked,
-  cell-met-reads.Learnt,
+  comparison-met-reads.Asked,
+  comparison-met-reads.Learnt,
 ) (several-hold-at t) several-hold.Post
 several-hold-returns-3 t c = search (needs, last-decides)
 
@@ -94,8 +94,8 @@ pub +several-hold-spec : {M : Type 1} → statement M
 +several-hold-spec = close μ-several-hold λ t. several-hold-lts.spec (
   several-hold-below t,
   several-hold.Post,
-  cell-met-reads.Asked,
-  cell-met-reads.Learnt,
+  comparison-met-reads.Asked,
+  comparison-met-reads.Learnt,
 )
     (several-hold-at t)
     several-hold.Post
@@ -103,7 +103,7 @@ pub +several-hold-spec : {M : Type 1} → statement M
     (several-hold-sub-k t)
     (several-hold-several-hold-requires t)
     (several-hold-returns-2 t)
-    (several-hold-mul-cell-met t)
-    (several-hold-add-cell-met t)
-    (several-hold-cell-met-requires t)
+    (several-hold-mul-comparison-met t)
+    (several-hold-add-comparison-met t)
+    (several-hold-comparison-met-requires t)
     (several-hold-returns-3 t)

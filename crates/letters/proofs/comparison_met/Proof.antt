@@ -1,8 +1,8 @@
--- `letters::cell_met` meets its contract by the laws of Holding.
-use Rattle.letters.proofs.Holding.{cell-missing, cell-reads, cell-is, right-missing, both-read, both-is}
+-- `letters::comparison_met` meets its contract by the laws of Holding.
+use Rattle.letters.proofs.Holding.{left-missing, left-reads, left-met, right-missing, both-read, both-met}
 use borrow.Author.Needs.{needs}
-use Rattle.letters.proofs.cell_met.Statement.{statement}
-use Rattle.letters.proofs.cell_met.Tie as tie
+use Rattle.letters.proofs.comparison_met.Statement.{statement}
+use Rattle.letters.proofs.comparison_met.Tie as tie
 
 add-side-there : tie.Need-add-side-there
 add-side-there c = search needs
@@ -11,7 +11,7 @@ side-there-requires : tie.Need-side-there-requires
 side-there-requires c κs = search needs
 
 returns : tie.Need-returns
-returns c = search (needs, cell-missing)
+returns c = search (needs, left-missing)
 
 far-back-requires : tie.Need-far-back-requires
 far-back-requires c κs = search needs
@@ -35,16 +35,16 @@ read-met-requires : tie.Need-read-met-requires
 read-met-requires c κs = both-read _ _ _ _ _ _ _ (c .before .before .before .before .before .before .before .before .pre) _ (c .before .before .before .before .before .before .side-there .ensures) (search needs) _ (c .before .before .before .before .far-back .ensures) (search needs) _ (c .before .side-there2 .ensures) (search needs)
 
 returns-3 : tie.Need-returns-3
-returns-3 c = search (needs, both-is)
+returns-3 c = search (needs, both-met)
 
 read-met-requires-2 : tie.Need-read-met-requires-2
-read-met-requires-2 c κs = search (needs, cell-reads)
+read-met-requires-2 c κs = search (needs, left-reads)
 
 returns-4 : tie.Need-returns-4
-returns-4 c = search (needs, cell-is)
+returns-4 c = search (needs, left-met)
 
-pub cell-met-spec : {M : Type 1} → statement M
-cell-met-spec =
+pub comparison-met-spec : {M : Type 1} → statement M
+comparison-met-spec =
     tie.close
     (tie.spec
     add-side-there
