@@ -4,6 +4,7 @@
 -- letter's byte, the count of its comparisons, and the comparisons. A measure is three bytes: function, letter, column.
 -- Promised (`Decoded`): each letter's DEFINE has the letter's comparisons, and all the bytes that a search reads of it are there and fit; the first
 -- measures and the numbers are the query's; the rest of `measures` is as it was; and it is told whether a letter has two DEFINEs, of which the first counts.
+-- Left free, since no answer depends on it: `letters` may be any number up to 26 from which on no letter has a DEFINE; only the time that preparing the tests takes does.
 use mathlib.Core.Path.{_≡_}
 use mathlib.Core.Bool.{true}
 use mathlib.Core.List.{List, []}

@@ -8,7 +8,7 @@ ghost use Prim.Native.Nat.{_≤_};
 ghost use Rattle.rules.specs.Answers.{roomOf};
 ghost use Rattle.room.specs.Reading.{knownIn, foreignIn, refusal, JudgeRoom, JudgedParts, Nodes, Space, Asked, asRoom, shortText};
 
-// What a query asks: its answer 1 to 9, or 0; where it is 0, P, the top node of its pattern's tree, and its parts.
+// What a query asks: its answer 1 to 9, or 0; where it is 0, P, the top node of its pattern's tree, and its parts, with a number from which on no letter has a DEFINE.
 pub struct Query {
     pub answer: usize,
     pub places: usize,
