@@ -93,16 +93,9 @@ module _ (s : List ℕ) (bytes : Bytes s) where
   pub number-short : (p : ℕ) → mag (numberAt s p) < 2147483648
   number-short p = word-short (le32 s (p + 8)) (word-few (p + 8))
 
-  pub offset-short : (i : ℕ) → mag (signed8 (getD s i 0)) < 128
-  offset-short i = byte-short (getD s i 0) (bytes i)
-
 -- ---- spots
 
--- an offset's byte is up to 64, or from 192 on
-offset-low : (b : ℕ) → b < 128 → offsetFits b ≡ true → b ≤ 64
-unfolding offsetFits signed8
-offset-low b h e = leb-true b 64 (let z : (leZ (negsuc 63) (pos b) && leZ (pos b) (pos 64)) ≡ true = simp (lt-ltb b 128 h) at e in z)
-
+-- an offset's byte of 128 and more is one from 192 on
 offset-high : (b : ℕ) → 128 ≤ b → b < 256 → offsetFits b ≡ true → 192 ≤ b
 unfolding offsetFits signed8
 offset-high b h g e =

@@ -59,10 +59,6 @@ module _ (kind count : ℕ) (some : 1 ≤ count) where
   unfolding sortOf
   sort-one h = decided (eqb kind 1) (λ q. let z : count * 2 - 1 < 3 = simp q at h in omega arith) (λ q. let z : count * 2 < 3 = simp q at h in omega arith)
 
-  sort-some : 1 ≤ sortOf kind count
-  unfolding sortOf
-  sort-some = decided (eqb kind 1) (λ q. simp q (omega arith)) (λ q. simp q (omega arith))
-
   sort-behind : (sortOf kind count - 1) / 2 ≡ count - 1
   unfolding sortOf
   sort-behind = decided (eqb kind 1) (λ q. simp q (omega arith)) (λ q. simp q (omega arith))
@@ -238,9 +234,6 @@ module _ (tests s : List ℕ) (l : ℕ) (rows : List ℤ) (columns n row base : 
       sort-is : getD tests (l * 8) 0 ≡ sortOf (getD s (d + 2 + 3) 0) many
       unfolding wordsAt
       sort-is = ap (λ (i : ℕ). getD tests i 0) (let e : l * 8 ≡ l * 8 + 0 = omega arith in e) ∙ word-at 0 (omega arith)
-
-      pub sort-least : 1 ≤ getD tests (l * 8) 0
-      sort-least = rw sort-is (sort-some (getD s (d + 2 + 3) 0) many (body defined .one))
 
       pub behind-first : (getD tests (l * 8) 0 - 1) / 2 ≡ many - 1
       behind-first = rw sort-is (sort-behind (getD s (d + 2 + 3) 0) many (body defined .one))

@@ -4,23 +4,16 @@ use borrow.Author.Needs.{needs}
 use Rattle.mireladle_c.proofs.Small.{pairs-fit}
 use Rattle.mireladle_c.proofs.mireladle_room.Statement.{statement}
 use Rattle.mireladle_c.proofs.mireladle_room.Tie as tie
-use Rattle.mireladle_c.proofs.mireladle_room.Reads as reads
-use Rattle.mireladle_c.proofs.mireladle_room.Lts as lts
-use Rattle.room.proofs.room.Reads as room-reads
 
--- src/lib.rt:37:9
 room-requires : tie.Need-room-requires
 room-requires c κs = search needs
 
--- src/lib.rt:42:31
 add-t4 : tie.Need-add-t4
 add-t4 c = let h = pairs-fit _ _ _ (c .before .room .ensures) in omega (arith, h .0)
 
--- src/lib.rt:42:16
 mul-t5 : tie.Need-mul-t5
 mul-t5 c = let h = pairs-fit _ _ _ (c .before .before .room .ensures) in omega (arith, h .1)
 
--- src/lib.rt:33:1
 returns : tie.Need-returns
 returns c = search needs
 

@@ -4,10 +4,6 @@ use Prim.Native.Nat.{_-_}
 use Rattle.room.proofs.Laws.{Known, known-none, known-more, known-stop, known-all}
 use Rattle.room.proofs.has_foreign.Statement.{statement}
 use Rattle.room.proofs.has_foreign.Tie as tie
-use Rattle.room.proofs.has_foreign.Reads as reads
-use Rattle.room.proofs.has_foreign.Lts as lts
-use Rattle.decode.proofs.measure_at.Reads as measure-at-reads
-use Rattle.room.proofs.is_known.Reads as is-known-reads
 
 abbrev Inv-loop : tie.InvT-loop
 Inv-loop text measures count k₀ k = Known text measures count k
@@ -15,35 +11,27 @@ Inv-loop text measures count k₀ k = Known text measures count k
 abbrev μ-loop : tie.MeasureT-loop
 μ-loop text measures count k₀ k = count - k
 
--- src/lib.rt:45:5
 loop-holds : tie.Need-loop-holds Inv-loop μ-loop
 loop-holds c = search (needs, known-none)
 
--- src/lib.rt:46:13
 measure-at-requires : tie.Need-measure-at-requires Inv-loop μ-loop
 measure-at-requires c κs = search needs
 
--- src/lib.rt:47:13
 is-known-requires : tie.Need-is-known-requires Inv-loop μ-loop
 is-known-requires c κs = search needs
 
--- src/lib.rt:48:13
 returns : tie.Need-returns Inv-loop μ-loop
 returns c = search (needs, known-stop)
 
--- src/lib.rt:50:9
 add-k : tie.Need-add-k Inv-loop μ-loop
 add-k c = search needs
 
--- src/lib.rt:45:5
 loop-less : tie.Need-loop-less Inv-loop μ-loop
 loop-less c = search needs
 
--- src/lib.rt:45:5
 loop-again : tie.Need-loop-again Inv-loop μ-loop
 loop-again c = search (needs, known-more)
 
--- src/lib.rt:40:1
 returns-2 : tie.Need-returns-2 Inv-loop μ-loop
 returns-2 c = search (needs, known-all)
 

@@ -3,14 +3,10 @@ use borrow.Author.Needs.{needs}
 use Rattle.search.proofs.Ending.{outcome-stopped, outcome-done}
 use Rattle.search.proofs.finished.Statement.{statement}
 use Rattle.search.proofs.finished.Tie as tie
-use Rattle.search.proofs.finished.Reads as reads
-use Rattle.search.proofs.finished.Lts as lts
 
--- src/lib.rt:90:9
 returns : tie.Need-returns
 returns c = search (needs, outcome-stopped)
 
--- src/lib.rt:85:1
 returns-2 : tie.Need-returns-2
 returns-2 c = search (needs, outcome-done)
 

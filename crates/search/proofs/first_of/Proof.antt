@@ -4,27 +4,19 @@ use native.Mathlib.Omega.{arith}
 use borrow.Author.Needs.{needs}
 use Rattle.search.proofs.first_of.Statement.{statement}
 use Rattle.search.proofs.first_of.Tie as tie
-use Rattle.search.proofs.first_of.Reads as reads
-use Rattle.search.proofs.first_of.Lts as lts
-use Rattle.search.proofs.wide.Reads as wide-reads
 
--- src/lib.rt:44:22
 wide-requires : tie.Need-wide-requires
 wide-requires c κs = search needs
 
--- src/lib.rt:44:16
 mul-result : tie.Need-mul-result
 mul-result c = search needs
 
--- src/lib.rt:44:16
 shared-slice-read-result : tie.Need-shared-slice-read-result
 shared-slice-read-result c = omega (arith, ((c .before .before .before .before .pre)) (c .before .before .if1 .taken), (c .before .wide .ensures .0))
 
--- src/lib.rt:44:9
 returns : tie.Need-returns
 returns c = first-fork _ _ _ _ (c .before .wide .ensures .0) (c .before .before .if1 .taken)
 
--- src/lib.rt:39:1
 returns-2 : tie.Need-returns-2
 returns-2 c = first-other _ _ _ (c .if1 .left)
 

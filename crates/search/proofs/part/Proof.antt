@@ -4,9 +4,6 @@ use Prim.Native.Nat.{_-_}
 use Rattle.search.proofs.Parting.{Going, part-none, part-room, part-more, part-all}
 use Rattle.search.proofs.part.Statement.{statement}
 use Rattle.search.proofs.part.Tie as tie
-use Rattle.search.proofs.part.Reads as reads
-use Rattle.search.proofs.part.Lts as lts
-use Rattle.search.proofs.put_place.Reads as put-place-reads
 
 abbrev Inv-loop : tie.InvT-loop
 Inv-loop table p code₀ next₀ entry₀ stop₀ q₀ code next entry stop q = Going table p code₀ next₀ entry₀ stop₀ code next entry stop q
@@ -14,43 +11,33 @@ Inv-loop table p code₀ next₀ entry₀ stop₀ q₀ code next entry stop q = 
 abbrev μ-loop : tie.MeasureT-loop
 μ-loop table p code₀ next₀ entry₀ stop₀ q₀ code next entry stop q = p - q
 
--- src/lib.rt:52:5
 loop-holds : tie.Need-loop-holds Inv-loop μ-loop
 loop-holds c = search (needs, part-none)
 
--- src/lib.rt:53:9
 put-place-requires : tie.Need-put-place-requires Inv-loop μ-loop
 put-place-requires c κs = search (needs, part-room)
 
--- src/lib.rt:54:9
 add-q : tie.Need-add-q Inv-loop μ-loop
 add-q c = search needs
 
--- src/lib.rt:52:5
 loop-less : tie.Need-loop-less Inv-loop μ-loop
 loop-less c = search needs
 
--- src/lib.rt:52:5
 loop-again : tie.Need-loop-again Inv-loop μ-loop
 loop-again c = search (needs, part-more)
 
--- src/lib.rt:40:1
 same-length : tie.Need-same-length Inv-loop μ-loop
 same-length c = search needs
 
--- src/lib.rt:40:1
 same-length-2 : tie.Need-same-length-2 Inv-loop μ-loop
 same-length-2 c = search needs
 
--- src/lib.rt:40:1
 same-length-3 : tie.Need-same-length-3 Inv-loop μ-loop
 same-length-3 c = search needs
 
--- src/lib.rt:40:1
 same-length-4 : tie.Need-same-length-4 Inv-loop μ-loop
 same-length-4 c = search needs
 
--- src/lib.rt:40:1
 returns : tie.Need-returns Inv-loop μ-loop
 returns c = search (needs, part-all)
 

@@ -4,142 +4,103 @@ use mathlib.Core.Path.{refl}
 use borrow.Author.Needs.{needs}
 use Rattle.search.proofs.put_place.Statement.{statement}
 use Rattle.search.proofs.put_place.Tie as tie
-use Rattle.search.proofs.put_place.Reads as reads
-use Rattle.search.proofs.put_place.Lts as lts
-use Rattle.search.proofs.code_of.Reads as code-of-reads
-use Rattle.search.proofs.first_of.Reads as first-of-reads
-use Rattle.search.proofs.second_of.Reads as second-of-reads
-use Rattle.search.proofs.wide.Reads as wide-reads
 
--- src/lib.rt:79:14
 mul-at : tie.Need-mul-at
 mul-at c = search needs
 
--- src/lib.rt:80:16
 mul-sort : tie.Need-mul-sort
 mul-sort c = search needs
 
--- src/lib.rt:80:16
 shared-slice-read-sort : tie.Need-shared-slice-read-sort
 shared-slice-read-sort c = search needs
 
--- src/lib.rt:81:19
 add-k : tie.Need-add-k
 add-k c = search needs
 
--- src/lib.rt:81:13
 mul-k : tie.Need-mul-k
 mul-k c = search needs
 
--- src/lib.rt:81:13
 shared-slice-read-k : tie.Need-shared-slice-read-k
 shared-slice-read-k c = search needs
 
--- src/lib.rt:82:19
 add-e : tie.Need-add-e
 add-e c = search needs
 
--- src/lib.rt:82:13
 mul-e : tie.Need-mul-e
 mul-e c = search needs
 
--- src/lib.rt:82:13
 shared-slice-read-e : tie.Need-shared-slice-read-e
 shared-slice-read-e c = search needs
 
--- src/lib.rt:83:9
 first-of-requires : tie.Need-first-of-requires
 first-of-requires c κs = search needs
 
--- src/lib.rt:84:35
 add-code-of : tie.Need-add-code-of
 add-code-of c = search needs
 
--- src/lib.rt:84:29
 mul-code-of : tie.Need-mul-code-of
 mul-code-of c = search needs
 
--- src/lib.rt:84:29
 shared-slice-read-code-of : tie.Need-shared-slice-read-code-of
 shared-slice-read-code-of c = search needs
 
--- src/lib.rt:84:44
 wide-requires : tie.Need-wide-requires
 wide-requires c κs = search needs
 
--- src/lib.rt:84:15
 code-of-requires : tie.Need-code-of-requires
 code-of-requires c κs = search needs
 
--- src/lib.rt:84:5
 slice-write-code : tie.Need-slice-write-code
 slice-write-code c = search needs
 
--- src/lib.rt:85:5
 mul-next : tie.Need-mul-next
 mul-next c = search needs
 
--- src/lib.rt:85:5
 slice-write-next : tie.Need-slice-write-next
 slice-write-next c = search needs
 
--- src/lib.rt:86:37
 wide-requires-2 : tie.Need-wide-requires-2
 wide-requires-2 c κs = search needs
 
--- src/lib.rt:86:46
 wide-requires-3 : tie.Need-wide-requires-3
 wide-requires-3 c κs = search needs
 
--- src/lib.rt:86:21
 second-of-requires : tie.Need-second-of-requires
 second-of-requires c κs = search needs
 
--- src/lib.rt:86:21
 mul-entry : tie.Need-mul-entry
 mul-entry c = search needs
 
--- src/lib.rt:86:17
 add-entry : tie.Need-add-entry
 add-entry c = search needs
 
--- src/lib.rt:86:16
 cast-entry : tie.Need-cast-entry
 cast-entry c = search needs
 
--- src/lib.rt:86:5
 mul-entry-2 : tie.Need-mul-entry-2
 mul-entry-2 c = search needs
 
--- src/lib.rt:86:5
 slice-write-entry : tie.Need-slice-write-entry
 slice-write-entry c = search needs
 
--- src/lib.rt:87:5
 mul-stop : tie.Need-mul-stop
 mul-stop c = search needs
 
--- src/lib.rt:87:5
 slice-write-stop : tie.Need-slice-write-stop
 slice-write-stop c = search needs
 
--- src/lib.rt:68:1
 same-length : tie.Need-same-length
 same-length c = search needs
 
--- src/lib.rt:68:1
 same-length-2 : tie.Need-same-length-2
 same-length-2 c = search needs
 
--- src/lib.rt:68:1
 same-length-3 : tie.Need-same-length-3
 same-length-3 c = search needs
 
--- src/lib.rt:68:1
 same-length-4 : tie.Need-same-length-4
 same-length-4 c = search needs
 
--- src/lib.rt:68:1
 returns : tie.Need-returns
 returns c = (put-code (denote.Ref.now (c .before .before .before .before .before .before .before .before .before .before .before .before .before .before .before .args .code)) _ _ _ _ _ _ _ (c .before .before .before .before .wide .ensures .0) (c .before .before .before .before .before .before .first-of .ensures) (c .before .before .before .code-of .ensures), put-is (denote.Ref.now (c .before .before .before .before .before .before .before .before .before .before .before .before .before .before .before .args .next)) _ _ _ (c .before .before .before .before .before .before .first-of .ensures), put-entry (denote.Ref.now (c .before .before .before .before .before .before .before .before .before .before .before .before .before .before .before .args .entry)) _ _ _ _ _ _ _ (c .before .before .wide2 .ensures .0) (c .before .wide3 .ensures .0) (c .second-of .ensures .0), refl)
 

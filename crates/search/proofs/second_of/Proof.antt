@@ -3,26 +3,19 @@ use Rattle.search.proofs.Parting.{second-some, second-none, second-othe
 use borrow.Author.Needs.{needs}
 use Rattle.search.proofs.second_of.Statement.{statement}
 use Rattle.search.proofs.second_of.Tie as tie
-use Rattle.search.proofs.second_of.Reads as reads
-use Rattle.search.proofs.second_of.Lts as lts
 
--- src/lib.rt:55:12
 add-if2 : tie.Need-add-if2
 add-if2 c = search needs
 
--- src/lib.rt:56:20
 add-result : tie.Need-add-result
 add-result c = search needs
 
--- src/lib.rt:56:13
 returns : tie.Need-returns
 returns c = second-some _ _ _ (c .before .before .pre .1) (c .before .if1 .taken) (c .if2 .taken)
 
--- src/lib.rt:50:1
 returns-2 : tie.Need-returns-2
 returns-2 c = second-none _ _ _ (c .if2 .left)
 
--- src/lib.rt:50:1
 returns-3 : tie.Need-returns-3
 returns-3 c = second-other _ _ _ (c .if1 .left)
 

@@ -5,114 +5,82 @@ use Prim.Native.Nat.{ℕ}
 use borrow.Author.Needs.{needs}
 use Rattle.search.proofs.walk_in.Statement.{statement}
 use Rattle.search.proofs.walk_in.Tie as tie
-use Rattle.search.proofs.walk_in.Reads as reads
-use Rattle.search.proofs.walk_in.Lts as lts
-use Rattle.places.proofs.unroll.Reads as unroll-reads
-use Rattle.search.proofs.part.Reads as part-reads
-use Rattle.search.proofs.run_tables.Reads as run-tables-reads
-use Rattle.letters.proofs.prepare.Reads as prepare-reads
 
--- src/lib.rt:222:9
 unroll-requires : tie.Need-unroll-requires
 unroll-requires c κs = may-unroll _ _ _ _ _ _ _ _ _ _ _ _ _ _ (c .before .before .before .before .before .before .before .pre .walks) _ (c .before .before .before .before .before .before .before .pre .room)
 
--- src/lib.rt:227:25
 slice-aggregate-part : tie.Need-slice-aggregate-part
 slice-aggregate-part c = search needs
 
--- src/lib.rt:227:36
 slice-aggregate-part-2 : tie.Need-slice-aggregate-part-2
 slice-aggregate-part-2 c = search needs
 
--- src/lib.rt:227:47
 slice-aggregate-part-3 : tie.Need-slice-aggregate-part-3
 slice-aggregate-part-3 c = search needs
 
--- src/lib.rt:227:59
 slice-aggregate-part-4 : tie.Need-slice-aggregate-part-4
 slice-aggregate-part-4 c = search needs
 
--- src/lib.rt:227:5
 part-requires : tie.Need-part-requires
 part-requires c κs = may-part _ _ _ _ _ _ _ _ _ _ _ _ _ _ (c .before .before .before .before .before .before .before .before .before .before .before .before .before .before .before .pre .walks) _ _ _ (c .before .before .before .before .before .before .before .unroll .ensures) (c .before .before .before .before .before .before .before .before .before .before .before .before .before .before .before .pre .room) _ _ _ _ (length-replicate {A = ℕ} 256 0) (length-replicate {A = ℕ} 256 0) (length-replicate {A = ℕ} 256 0) (length-replicate {A = ℕ} 256 0)
 
--- src/lib.rt:229:5
 prepare-requires : tie.Need-prepare-requires
 prepare-requires c κs = search (needs, may-prepare)
 
--- src/lib.rt:232:9
 sub-run-tables : tie.Need-sub-run-tables
 sub-run-tables c = search needs
 
--- src/lib.rt:232:9
 part-run-tables-start : tie.Need-part-run-tables-start
 part-run-tables-start c = search needs
 
--- src/lib.rt:232:9
 part-run-tables-end : tie.Need-part-run-tables-end
 part-run-tables-end c = search (needs, may-cut)
 
--- src/lib.rt:233:9
 sub-run-tables-2 : tie.Need-sub-run-tables-2
 sub-run-tables-2 c = search needs
 
--- src/lib.rt:233:9
 part-run-tables-start-2 : tie.Need-part-run-tables-start-2
 part-run-tables-start-2 c = search needs
 
--- src/lib.rt:233:9
 part-run-tables-end-2 : tie.Need-part-run-tables-end-2
 part-run-tables-end-2 c = let h = may-cut _ _ _ _ _ _ _ _ _ _ _ _ _ _ (c .before .before .before .before .before .before .before .before .before .before .before .before .before .before .before .before .before .before .before .before .before .before .before .before .before .pre .walks) in search needs
 
--- src/lib.rt:234:9
 sub-run-tables-3 : tie.Need-sub-run-tables-3
 sub-run-tables-3 c = search needs
 
--- src/lib.rt:234:9
 part-run-tables-start-3 : tie.Need-part-run-tables-start-3
 part-run-tables-start-3 c = search needs
 
--- src/lib.rt:234:9
 part-run-tables-end-3 : tie.Need-part-run-tables-end-3
 part-run-tables-end-3 c = let h = may-cut _ _ _ _ _ _ _ _ _ _ _ _ _ _ (c .before .before .before .before .before .before .before .before .before .before .before .before .before .before .before .before .before .before .before .before .before .before .before .before .before .before .before .pre .walks) in search needs
 
--- src/lib.rt:235:9
 sub-run-tables-4 : tie.Need-sub-run-tables-4
 sub-run-tables-4 c = search needs
 
--- src/lib.rt:235:9
 part-run-tables-start-4 : tie.Need-part-run-tables-start-4
 part-run-tables-start-4 c = search needs
 
--- src/lib.rt:235:9
 part-run-tables-end-4 : tie.Need-part-run-tables-end-4
 part-run-tables-end-4 c = let h = may-cut _ _ _ _ _ _ _ _ _ _ _ _ _ _ (c .before .before .before .before .before .before .before .before .before .before .before .before .before .before .before .before .before .before .before .before .before .before .before .before .before .before .before .before .before .pre .walks) in search needs
 
--- src/lib.rt:230:5
 run-tables-requires : tie.Need-run-tables-requires
 run-tables-requires c κs = may-run _ _ _ _ _ _ _ _ _ _ _ _ _ _ (c .before .before .before .before .before .before .before .before .before .before .before .before .before .before .before .before .before .before .before .before .before .before .before .before .before .before .before .before .before .before .before .before .before .before .before .before .before .pre .walks) _ _ _ (c .before .before .before .before .before .before .before .before .before .before .before .before .before .before .before .before .before .before .before .before .before .before .before .before .before .before .before .before .before .unroll .ensures) (c .before .before .before .before .before .before .before .before .before .before .before .before .before .before .before .before .before .before .before .before .before .before .before .before .before .before .before .before .before .before .before .before .before .before .before .before .before .pre .room) _ _ _ _ _ _ _ _ (c .before .before .before .before .before .before .before .before .before .before .before .before .before .before .before .before .before .before .before .before .before .part .ensures) (length-replicate {A = ℕ} 256 0) (length-replicate {A = ℕ} 256 0) (length-replicate {A = ℕ} 256 0) (length-replicate {A = ℕ} 256 0) _ (c .before .before .before .before .before .before .before .before .before .before .before .before .before .before .before .prepare .ensures)
 
--- src/lib.rt:198:1
 same-length : tie.Need-same-length
 same-length c = may-keep _ _ _ _ _ _ _ _ _ _ _ _ _ _ (c .before .before .before .before .before .before .before .before .before .before .before .before .before .before .before .before .before .before .before .before .before .before .before .before .before .before .before .before .before .before .before .before .before .before .before .before .before .before .before .before .before .before .before .before .before .pre .walks) _ _ _ (c .before .before .before .before .before .before .before .before .before .before .before .before .before .before .before .before .before .before .before .before .before .before .before .before .before .before .before .before .before .before .before .before .before .before .before .before .before .unroll .ensures) (c .before .before .before .before .before .before .before .before .before .before .before .before .before .before .before .before .before .before .before .before .before .before .before .before .before .before .before .before .before .before .before .before .before .before .before .before .before .before .before .before .before .before .before .before .before .pre .room)
 
--- src/lib.rt:198:1
 same-length-2 : tie.Need-same-length-2
 same-length-2 c = search needs
 
--- src/lib.rt:198:1
 same-length-3 : tie.Need-same-length-3
 same-length-3 c = search needs
 
--- src/lib.rt:198:1
 same-length-4 : tie.Need-same-length-4
 same-length-4 c = search needs
 
--- src/lib.rt:198:1
 same-length-5 : tie.Need-same-length-5
 same-length-5 c = search needs
 
--- src/lib.rt:198:1
 returns : tie.Need-returns
 returns c = search needs
 

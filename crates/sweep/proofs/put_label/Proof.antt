@@ -5,42 +5,31 @@ use mathlib.Core.Path.{refl}
 use borrow.Author.Needs.{needs}
 use Rattle.sweep.proofs.put_label.Statement.{statement}
 use Rattle.sweep.proofs.put_label.Tie as tie
-use Rattle.sweep.proofs.put_label.Reads as reads
-use Rattle.sweep.proofs.put_label.Lts as lts
 
--- src/lib.rt:42:8
 shared-slice-read-if1 : tie.Need-shared-slice-read-if1
 shared-slice-read-if1 c = search needs
 
--- src/lib.rt:43:25
 shared-slice-read-labels : tie.Need-shared-slice-read-labels
 shared-slice-read-labels c = search needs
 
--- src/lib.rt:43:25
 add-labels : tie.Need-add-labels
 add-labels c = search needs
 
--- src/lib.rt:43:16
 sub-labels : tie.Need-sub-labels
 sub-labels c = omega (arith, puts-some _ _ _ _ (c .before .before .before .pre) (c .before .if1 .taken) .0)
 
--- src/lib.rt:43:9
 slice-write-labels : tie.Need-slice-write-labels
 slice-write-labels c = omega (arith, puts-some _ _ _ _ (c .before .before .before .pre) (c .before .if1 .taken))
 
--- src/lib.rt:44:16
 sub-result : tie.Need-sub-result
 sub-result c = omega (arith, puts-some _ _ _ _ (c .before .before .before .pre) (c .before .if1 .taken) .0)
 
--- src/lib.rt:44:9
 same-length : tie.Need-same-length
 same-length c = search needs
 
--- src/lib.rt:44:9
 returns : tie.Need-returns
 returns c = put-letter _ _ _ _ (c .before .if1 .taken) (puts-some _ _ _ _ (c .before .before .before .pre) (c .before .if1 .taken) .0) refl
 
--- src/lib.rt:38:1
 returns-2 : tie.Need-returns-2
 returns-2 c = put-other _ _ _ _ (c .if1 .left) refl
 

@@ -4,10 +4,6 @@ use Rattle.walk.specs.Tables.{tables}
 use native.Mathlib.Omega.{arith}
 use Rattle.sweep.proofs.put_labels.Statement.{statement}
 use Rattle.sweep.proofs.put_labels.Tie as tie
-use Rattle.sweep.proofs.put_labels.Reads as reads
-use Rattle.sweep.proofs.put_labels.Lts as lts
-use Rattle.sweep.proofs.place_of.Reads as place-of-reads
-use Rattle.sweep.proofs.put_label.Reads as put-label-reads
 
 abbrev Inv-loop : tie.InvT-loop
 Inv-loop code next entry stop ways trail labels₀ top end k₀ e₀ labels k e =
@@ -16,43 +12,33 @@ Inv-loop code next entry stop ways trail labels₀ top end k₀ e₀ labels k e 
 abbrev μ-loop : tie.MeasureT-loop
 μ-loop code next entry stop ways trail labels₀ top end k₀ e₀ labels k e = k
 
--- src/lib.rt:68:5
 loop-holds : tie.Need-loop-holds Inv-loop μ-loop
 loop-holds c = labelling-none _ _ _ _ _ (c .before .before .before .before .before .before .before .pre)
 
--- src/lib.rt:69:9
 sub-k : tie.Need-sub-k Inv-loop μ-loop
 sub-k c = omega arith
 
--- src/lib.rt:70:46
 mul-place-of : tie.Need-mul-place-of Inv-loop μ-loop
 mul-place-of c = omega (arith, labelling-read _ _ _ _ _ _ _ _ (c .before .before .loop .inv) (c .before .loop-test .taken))
 
--- src/lib.rt:70:46
 shared-slice-read-place-of : tie.Need-shared-slice-read-place-of Inv-loop μ-loop
 shared-slice-read-place-of c = labelling-read _ _ _ _ _ _ _ _ (c .before .before .before .loop .inv) (c .before .before .loop-test .taken)
 
--- src/lib.rt:70:37
 place-of-requires : tie.Need-place-of-requires Inv-loop μ-loop
 place-of-requires c κs = tt
 
--- src/lib.rt:70:9
 put-label-requires : tie.Need-put-label-requires Inv-loop μ-loop
 put-label-requires c κs = labelling-puts _ _ _ _ _ _ _ _ (c .before .before .before .before .loop .inv) (c .before .before .before .loop-test .taken) _ (c .place-of .ensures)
 
--- src/lib.rt:68:5
 loop-less : tie.Need-loop-less Inv-loop μ-loop
 loop-less c = omega arith
 
--- src/lib.rt:68:5
 loop-again : tie.Need-loop-again Inv-loop μ-loop
 loop-again c = labelling-more _ _ _ _ _ _ _ _ (c .before .before .before .before .before .before .before .loop .inv) (c .before .before .before .before .before .before .loop-test .taken) _ (c .before .before .before .place-of .ensures) _ _ (c .before .before .put-label .ensures)
 
--- src/lib.rt:50:1
 same-length : tie.Need-same-length Inv-loop μ-loop
 same-length c = labelling-long _ _ _ _ _ _ _ _ (c .before .loop .inv)
 
--- src/lib.rt:50:1
 returns : tie.Need-returns Inv-loop μ-loop
 returns c = labelling-all _ _ _ _ _ _ _ _ (c .before .loop .inv) (c .loop-test .left)
 

@@ -2,18 +2,13 @@
 use Rattle.walk.proofs.Small.{passes-caret, passes-dollar, passes-any}
 use Rattle.walk.proofs.anchor_passes.Statement.{statement}
 use Rattle.walk.proofs.anchor_passes.Tie as tie
-use Rattle.walk.proofs.anchor_passes.Reads as reads
-use Rattle.walk.proofs.anchor_passes.Lts as lts
 
--- src/lib.rt:121:9
 returns : tie.Need-returns
 returns c = λ h. passes-caret h _ _ _ (c .if1 .taken)
 
--- src/lib.rt:124:9
 returns-2 : tie.Need-returns-2
 returns-2 c = λ h. passes-dollar h _ _ _ (c .if2 .taken)
 
--- src/lib.rt:116:1
 returns-3 : tie.Need-returns-3
 returns-3 c = λ h. passes-any h _ _ _ (c .before .before .pre) (c .before .if1 .left) (c .if2 .left)
 

@@ -6,116 +6,82 @@ use mathlib.Core.Logic.{inl, inr}
 use borrow.Author.Needs.{needs}
 use Rattle.walk.proofs.back.Statement.{statement}
 use Rattle.walk.proofs.back.Tie as tie
-use Rattle.walk.proofs.back.Reads as reads
-use Rattle.walk.proofs.back.Lts as lts
-use Rattle.walk.proofs.failed.Reads as failed-reads
-use Rattle.walk.proofs.mark.Reads as mark-reads
-use Rattle.walk.proofs.put_way.Reads as put-way-reads
-use Rattle.walk.proofs.way_after.Reads as way-after-reads
-use Rattle.walk.proofs.wide.Reads as wide-reads
-use Rattle.walk.proofs.wide32.Reads as wide32-reads
 
--- src/lib.rt:317:14
 sub-at : tie.Need-sub-at
 sub-at c = search needs
 
--- src/lib.rt:318:20
 mul-wide32 : tie.Need-mul-wide32
 mul-wide32 c = omega (arith, back-at _ _ _ _ _ _ _ (c .before .before .before .before .before .before .before .before .before .pre))
 
--- src/lib.rt:318:20
 slice-read-wide32 : tie.Need-slice-read-wide32
 slice-read-wide32 c = back-at _ _ _ _ _ _ _ (c .before .before .before .before .before .before .before .before .before .before .pre)
 
--- src/lib.rt:318:9
 wide32-requires : tie.Need-wide32-requires
 wide32-requires c κs = search needs
 
--- src/lib.rt:321:16
 mul-base : tie.Need-mul-base
 mul-base c = omega (arith, back-base _ _ _ _ _ _ _ (c .before .before .before .before .before .before .before .before .before .before .before .pre) _ (c .wide32 .ensures .0))
 
--- src/lib.rt:324:22
 mul-wide : tie.Need-mul-wide
 mul-wide c = search needs
 
--- src/lib.rt:324:22
 shared-slice-read-wide : tie.Need-shared-slice-read-wide
 shared-slice-read-wide c = back-way _ _ _ _ _ _ _ (c .before .before .before .before .before .before .before .before .before .before .before .before .before .pre) _ (c .before .before .wide32 .ensures .0) (c .before .if1 .taken)
 
--- src/lib.rt:324:13
 wide-requires : tie.Need-wide-requires
 wide-requires c κs = search needs
 
--- src/lib.rt:325:32
 mul-wide-2 : tie.Need-mul-wide-2
 mul-wide-2 c = search needs
 
--- src/lib.rt:325:32
 shared-slice-read-wide-2 : tie.Need-shared-slice-read-wide-2
 shared-slice-read-wide-2 c = back-place _ _ _ _ _ _ _ (c .before .before .before .before .before .before .before .before .before .before .before .before .before .before .before .pre) _ (c .before .before .before .before .wide32 .ensures .0) (c .before .before .before .if1 .taken)
 
--- src/lib.rt:325:27
 wide-requires-2 : tie.Need-wide-requires-2
 wide-requires-2 c κs = search needs
 
--- src/lib.rt:325:13
 way-after-requires : tie.Need-way-after-requires
 way-after-requires c κs = back-stop _ _ _ _ _ _ _ (c .before .before .before .before .before .before .before .before .before .before .before .before .before .before .before .before .pre) _ (c .before .before .before .before .before .wide32 .ensures .0) (c .before .before .before .before .if1 .taken) _ (c .wide2 .ensures .0)
 
--- src/lib.rt:326:27
 add-failed : tie.Need-add-failed
 add-failed c = omega (arith, back-noted _ _ _ _ _ _ _ (c .before .before .before .before .before .before .before .before .before .before .before .before .before .before .before .before .before .before .pre) _ (c .before .before .before .before .before .before .before .wide32 .ensures .0) (c .before .before .before .before .before .before .if1 .taken) _ (c .before .before .wide2 .ensures .0) _ (c .before .before .before .before .wide .ensures .0) .0)
 
--- src/lib.rt:326:13
 failed-requires : tie.Need-failed-requires
 failed-requires c κs = back-noted _ _ _ _ _ _ _ (c .before .before .before .before .before .before .before .before .before .before .before .before .before .before .before .before .before .before .pre) _ (c .before .before .before .before .before .before .before .wide32 .ensures .0) (c .before .before .before .before .before .before .if1 .taken) _ (c .before .before .wide2 .ensures .0) _ (c .before .before .before .before .wide .ensures .0) .1
 
--- src/lib.rt:327:13
 put-way-requires : tie.Need-put-way-requires
 put-way-requires c κs = back-put _ _ _ _ _ _ _ (c .before .before .before .before .before .before .before .before .before .before .before .before .before .before .before .before .before .before .before .before .before .pre) _ (c .before .before .before .before .way-after .ensures .1)
 
--- src/lib.rt:328:13
 same-length : tie.Need-same-length
 same-length c = search needs
 
--- src/lib.rt:328:13
 same-length-2 : tie.Need-same-length-2
 same-length-2 c = search needs
 
--- src/lib.rt:328:13
 returns : tie.Need-returns
 returns c = back-tried _ _ _ _ _ _ _ (c .before .before .before .before .before .before .before .before .before .before .before .before .before .before .before .before .before .before .before .before .before .before .before .before .pre) _ (c .before .before .before .before .before .before .before .before .before .before .before .before .before .wide32 .ensures .0) (c .before .before .before .before .before .before .before .before .before .before .before .before .if1 .taken) _ (c .before .before .before .before .before .before .before .before .wide2 .ensures .0) _ (c .before .before .before .before .before .before .before .before .before .before .wide .ensures .0) _ (c .before .before .before .before .before .before .before .way-after .ensures .0) _ (c .before .before .before .before .before .failed .ensures) _ (c .before .before .put-way .ensures) _ (is-one _ (c .before .before .before .before .if2 .taken))
 
--- src/lib.rt:339:13
 put-way-requires-2 : tie.Need-put-way-requires-2
 put-way-requires-2 c κs = back-put _ _ _ _ _ _ _ (c .before .before .before .before .before .before .before .before .before .before .before .before .before .before .before .before .before .before .before .before .before .before .pre) _ (c .before .before .before .before .before .way-after .ensures .1)
 
--- src/lib.rt:340:13
 same-length-3 : tie.Need-same-length-3
 same-length-3 c = search needs
 
--- src/lib.rt:340:13
 same-length-4 : tie.Need-same-length-4
 same-length-4 c = search needs
 
--- src/lib.rt:340:13
 returns-2 : tie.Need-returns-2
 returns-2 c = back-tried _ _ _ _ _ _ _ (c .before .before .before .before .before .before .before .before .before .before .before .before .before .before .before .before .before .before .before .before .before .before .before .before .before .pre) _ (c .before .before .before .before .before .before .before .before .before .before .before .before .before .before .wide32 .ensures .0) (c .before .before .before .before .before .before .before .before .before .before .before .before .before .if1 .taken) _ (c .before .before .before .before .before .before .before .before .before .wide2 .ensures .0) _ (c .before .before .before .before .before .before .before .before .before .before .before .wide .ensures .0) _ (c .before .before .before .before .before .before .before .before .way-after .ensures .0) _ (c .before .before .before .before .before .before .failed .ensures) _ (c .before .before .put-way2 .ensures) _ (is-zero _ (c .before .before .before .before .before .if2 .left))
 
--- src/lib.rt:351:17
 add-mark : tie.Need-add-mark
 add-mark c = omega (arith, back-pair _ _ _ _ _ _ _ (c .before .before .before .before .before .before .before .before .before .before .before .before .before .pre) _ (c .before .before .wide32 .ensures .0))
 
--- src/lib.rt:351:5
 mark-requires : tie.Need-mark-requires
 mark-requires c κs = back-marks _ _ _ _ _ _ _ (c .before .before .before .before .before .before .before .before .before .before .before .before .before .pre) _ (c .before .before .wide32 .ensures .0)
 
--- src/lib.rt:297:1
 same-length-5 : tie.Need-same-length-5
 same-length-5 c = search needs
 
--- src/lib.rt:297:1
 returns-3 : tie.Need-returns-3
 returns-3 c = elim (c .before .before .before .before .if1 .came) [ inl t ↦ back-last _ _ _ _ _ _ _ (c .before .before .before .before .before .before .before .before .before .before .before .before .before .before .before .before .pre) _ (c .before .before .before .before .before .wide32 .ensures .0) (t .0 .taken) _ (t .4 .ensures .0) _ (t .2 .ensures .0) _ (t .5 .ensures .0) _ (t .7 .ensures) (open-of _ (t .8 .left)) (t .9 .left) _ (c .before .before .mark .ensures) | inr f ↦ back-none _ _ _ _ _ _ _ (c .before .before .before .before .before .before .before .before .before .before .before .before .before .before .before .before .pre) _ (c .before .before .before .before .before .wide32 .ensures .0) _ (c .before .before .mark .ensures) (f .left) ]
 

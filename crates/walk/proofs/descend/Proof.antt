@@ -7,9 +7,6 @@ use Rattle.walk.specs.Letters.{holdsIn}
 use Rattle.walk.specs.Tables.{tables, N}
 use Rattle.walk.proofs.descend.Statement.{statement}
 use Rattle.walk.proofs.descend.Tie as tie
-use Rattle.walk.proofs.descend.Reads as reads
-use Rattle.walk.proofs.descend.Lts as lts
-use Rattle.walk.proofs.enter.Reads as enter-reads
 
 abbrev Inv-loop : tie.InvT-loop
 Inv-loop code next entry stop ways rows columns n tests query notes₀ trail₀ w₀ notes trail w =
@@ -19,31 +16,24 @@ abbrev μ-loop : tie.MeasureT-loop
 μ-loop code next entry stop ways rows columns n tests query notes₀ trail₀ w₀ notes trail w =
     left (N (tables code next entry stop ways) n) notes w
 
--- src/lib.rt:257:5
 loop-holds : tie.Need-loop-holds Inv-loop μ-loop
 loop-holds c = on-none _ _ _ _ _ _ _ (c .before .before .before .before .before .before .before .before .pre)
 
--- src/lib.rt:258:9
 enter-requires : tie.Need-enter-requires Inv-loop μ-loop
 enter-requires c κs = on-enters _ _ _ _ _ _ _ _ _ _ (c .before .before .before .before .loop .inv) (c .before .before .if1 .taken)
 
--- src/lib.rt:257:5
 loop-less : tie.Need-loop-less Inv-loop μ-loop
 loop-less c = search (needs, on-less)
 
--- src/lib.rt:257:5
 loop-again : tie.Need-loop-again Inv-loop μ-loop
 loop-again c = search (needs, on-more)
 
--- src/lib.rt:236:1
 same-length : tie.Need-same-length Inv-loop μ-loop
 same-length c = search needs
 
--- src/lib.rt:236:1
 same-length-2 : tie.Need-same-length-2 Inv-loop μ-loop
 same-length-2 c = search needs
 
--- src/lib.rt:236:1
 returns : tie.Need-returns Inv-loop μ-loop
 returns c = search (needs, on-end)
 

@@ -4,213 +4,154 @@ use Rattle.walk.proofs.Small.{fork-noted, letter-noted, anchor-noted, e
 use borrow.Author.Needs.{needs}
 use Rattle.walk.proofs.enter.Statement.{statement}
 use Rattle.walk.proofs.enter.Tie as tie
-use Rattle.walk.proofs.enter.Reads as reads
-use Rattle.walk.proofs.enter.Lts as lts
-use Rattle.walk.proofs.anchor_passes.Reads as anchor-passes-reads
-use Rattle.walk.proofs.fails.Reads as fails-reads
-use Rattle.walk.proofs.letter_passes.Reads as letter-passes-reads
-use Rattle.walk.proofs.push.Reads as push-reads
-use Rattle.walk.proofs.tried.Reads as tried-reads
-use Rattle.walk.proofs.wide.Reads as wide-reads
-use Rattle.walk.proofs.failed.Reads as failed-reads
 
--- src/lib.rt:185:17
 add-steps : tie.Need-add-steps
 add-steps c = search needs
 
--- src/lib.rt:190:13
 shared-slice-read-c : tie.Need-shared-slice-read-c
 shared-slice-read-c c = search needs
 
--- src/lib.rt:192:31
 mul-push : tie.Need-mul-push
 mul-push c = search needs
 
--- src/lib.rt:192:31
 shared-slice-read-push : tie.Need-shared-slice-read-push
 shared-slice-read-push c = search needs
 
--- src/lib.rt:192:9
 push-requires : tie.Need-push-requires
 push-requires c κs = search needs
 
--- src/lib.rt:193:29
 add-tried : tie.Need-add-tried
 add-tried c = search needs
 
--- src/lib.rt:193:45
 add-tried-2 : tie.Need-add-tried-2
 add-tried-2 c = search needs
 
--- src/lib.rt:193:9
 tried-requires : tie.Need-tried-requires
 tried-requires c κs = fork-noted _ _ _ _ _ _ _ _ (c .before .before .before .before .before .before .before .before .before .before .before .before .before .before .before .pre) (c .before .before .before .before .before .before .if1 .taken)
 
--- src/lib.rt:193:9
 same-length : tie.Need-same-length
 same-length c = search needs
 
--- src/lib.rt:193:9
 same-length-2 : tie.Need-same-length-2
 same-length-2 c = search needs
 
--- src/lib.rt:193:9
 returns : tie.Need-returns
 returns c = enter-fork _ _ _ _ _ _ _ _ _ _ _ (c .before .before .before .before .push .ensures) (c .before .before .before .before .before .before .before .if1 .taken) (c .before .before .before .before .before .before .before .before .before .before .before .before .before .before .before .before .pre .near) (c .tried .ensures)
 
--- src/lib.rt:196:13
 letter-passes-requires : tie.Need-letter-passes-requires
 letter-passes-requires c κs = search needs
 
--- src/lib.rt:208:13
 fails-requires : tie.Need-fails-requires
 fails-requires c κs = search needs
 
--- src/lib.rt:208:13
 same-length-3 : tie.Need-same-length-3
 same-length-3 c = search needs
 
--- src/lib.rt:208:13
 returns-2 : tie.Need-returns-2
 returns-2 c = search (needs, enter-shut)
 
--- src/lib.rt:210:22
 mul-wide : tie.Need-mul-wide
 mul-wide c = search needs
 
--- src/lib.rt:210:22
 shared-slice-read-wide : tie.Need-shared-slice-read-wide
 shared-slice-read-wide c = search needs
 
--- src/lib.rt:210:13
 wide-requires : tie.Need-wide-requires
 wide-requires c κs = search needs
 
--- src/lib.rt:211:21
 add-ahead : tie.Need-add-ahead
 add-ahead c = search needs
 
--- src/lib.rt:212:26
 add-failed : tie.Need-add-failed
 add-failed c = search needs
 
--- src/lib.rt:212:12
 failed-requires : tie.Need-failed-requires
 failed-requires c κs = letter-noted _ _ _ _ _ _ _ _ (c .before .before .before .before .before .before .before .before .before .before .before .before .before .before .before .pre) _ (c .before .wide .ensures .0) _ _ (c .before .before .before .before .before .if2 .taken) (c .before .before .before .before .letter-passes .ensures) (c .before .before .before .if3 .left) .1
 
--- src/lib.rt:213:13
 fails-requires-2 : tie.Need-fails-requires-2
 fails-requires-2 c κs = search needs
 
--- src/lib.rt:213:13
 same-length-4 : tie.Need-same-length-4
 same-length-4 c = search needs
 
--- src/lib.rt:213:13
 returns-3 : tie.Need-returns-3
 returns-3 c = search (needs, enter-stuck)
 
--- src/lib.rt:215:31
 mul-push-2 : tie.Need-mul-push-2
 mul-push-2 c = search needs
 
--- src/lib.rt:215:31
 shared-slice-read-push-2 : tie.Need-shared-slice-read-push-2
 shared-slice-read-push-2 c = search needs
 
--- src/lib.rt:215:9
 push-requires-2 : tie.Need-push-requires-2
 push-requires-2 c κs = search needs
 
--- src/lib.rt:217:18
 add-t37 : tie.Need-add-t37
 add-t37 c = search needs
 
--- src/lib.rt:220:18
 add-t50 : tie.Need-add-t50
 add-t50 c = search needs
 
--- src/lib.rt:216:9
 same-length-5 : tie.Need-same-length-5
 same-length-5 c = search needs
 
--- src/lib.rt:216:9
 same-length-6 : tie.Need-same-length-6
 same-length-6 c = search needs
 
--- src/lib.rt:216:9
 returns-4 : tie.Need-returns-4
 returns-4 c = enter-letter _ _ _ _ _ _ _ _ _ _ _ _ _ (c .before .before .before .before .before .before .before .before .before .before .before .letter-passes .ensures) (c .before .before .before .before .before .before .before .before .before .before .if3 .left) (c .before .before .push2 .ensures) (c .before .before .before .before .before .before .before .before .before .before .before .before .if2 .taken) (c .before .before .before .before .before .before .before .before .wide .ensures .0) (c .before .before .before .before .before .before .failed .ensures) (c .before .before .before .before .before .if4 .left)
 
--- src/lib.rt:226:9
 anchor-passes-requires : tie.Need-anchor-passes-requires
 anchor-passes-requires c κs = search needs
 
--- src/lib.rt:227:9
 fails-requires-3 : tie.Need-fails-requires-3
 fails-requires-3 c κs = search needs
 
--- src/lib.rt:227:9
 same-length-7 : tie.Need-same-length-7
 same-length-7 c = search needs
 
--- src/lib.rt:227:9
 returns-5 : tie.Need-returns-5
 returns-5 c = enter-shut _ _ _ _ _ _ _ _ _ _ _ _ (c .before .before .before .before .before .anchor-passes .ensures _) (c .before .before .before .before .if5 .taken) (c .before .before .fails3 .ensures .0) (c .before .before .fails3 .ensures .1)
 
--- src/lib.rt:229:27
 mul-push-3 : tie.Need-mul-push-3
 mul-push-3 c = search needs
 
--- src/lib.rt:229:27
 shared-slice-read-push-3 : tie.Need-shared-slice-read-push-3
 shared-slice-read-push-3 c = search needs
 
--- src/lib.rt:229:5
 push-requires-3 : tie.Need-push-requires-3
 push-requires-3 c κs = search needs
 
--- src/lib.rt:231:22
 add-opened : tie.Need-add-opened
 add-opened c = search needs
 
--- src/lib.rt:232:9
 same-length-8 : tie.Need-same-length-8
 same-length-8 c = search needs
 
--- src/lib.rt:232:9
 returns-6 : tie.Need-returns-6
 returns-6 c = enter-end _ _ _ _ _ _ _ _ _ _ _ (c .before .before .before .before .before .before .before .anchor-passes .ensures _) (c .before .before .before .before .before .before .if5 .left) (c .before .before .before .push3 .ensures) (c .if6 .taken)
 
--- src/lib.rt:242:18
 add-tried-3 : tie.Need-add-tried-3
 add-tried-3 c = search needs
 
--- src/lib.rt:242:39
 mul-wide-2 : tie.Need-mul-wide-2
 mul-wide-2 c = search needs
 
--- src/lib.rt:242:39
 shared-slice-read-wide-2 : tie.Need-shared-slice-read-wide-2
 shared-slice-read-wide-2 c = search needs
 
--- src/lib.rt:242:34
 wide-requires-2 : tie.Need-wide-requires-2
 wide-requires-2 c κs = search needs
 
--- src/lib.rt:242:5
 tried-requires-2 : tie.Need-tried-requires-2
 tried-requires-2 c κs = anchor-noted _ _ _ _ _ _ _ _ (c .before .before .before .before .before .before .before .before .before .before .before .before .before .before .before .before .before .before .before .before .before .pre) _ (c .wide2 .ensures .0) (c .before .before .before .before .before .before .before .before .before .before .before .if2 .left) (c .before .before .before .if6 .left)
 
--- src/lib.rt:162:1
 same-length-9 : tie.Need-same-length-9
 same-length-9 c = search needs
 
--- src/lib.rt:162:1
 same-length-10 : tie.Need-same-length-10
 same-length-10 c = search needs
 
--- src/lib.rt:162:1
 returns-7 : tie.Need-returns-7
 returns-7 c = enter-anchor _ _ _ _ _ _ _ _ _ _ _ _ _ (c .before .before .before .before .before .before .before .before .before .before .before .anchor-passes .ensures _) (c .before .before .before .before .before .before .before .before .before .before .if5 .left) (c .before .before .before .before .before .before .before .push3 .ensures) (c .before .before .before .before .before .before .before .before .before .before .before .before .if2 .left) (c .before .before .before .before .if6 .left) (c .before .wide2 .ensures .0) (c .tried2 .ensures)
 

@@ -3,39 +3,28 @@ use Rattle.walk.proofs.Small.{pushed-is}
 use borrow.Author.Needs.{needs}
 use Rattle.walk.proofs.push.Statement.{statement}
 use Rattle.walk.proofs.push.Tie as tie
-use Rattle.walk.proofs.push.Reads as reads
-use Rattle.walk.proofs.push.Lts as lts
-use Rattle.walk.proofs.wide32.Reads as wide32-reads
 
--- src/lib.rt:151:19
 mul-trail : tie.Need-mul-trail
 mul-trail c = search needs
 
--- src/lib.rt:151:31
 wide32-requires : tie.Need-wide32-requires
 wide32-requires c κs = search needs
 
--- src/lib.rt:151:19
 add-trail : tie.Need-add-trail
 add-trail c = search needs
 
--- src/lib.rt:151:18
 cast-trail : tie.Need-cast-trail
 cast-trail c = search needs
 
--- src/lib.rt:151:5
 mul-trail-2 : tie.Need-mul-trail-2
 mul-trail-2 c = search needs
 
--- src/lib.rt:151:5
 slice-write-trail : tie.Need-slice-write-trail
 slice-write-trail c = search needs
 
--- src/lib.rt:147:1
 same-length : tie.Need-same-length
 same-length c = search needs
 
--- src/lib.rt:147:1
 returns : tie.Need-returns
 returns c = pushed-is (denote.Ref.now (c .before .before .args .trail)) _ _ _ _ (c .wide32 .ensures .0)
 

@@ -6,9 +6,6 @@ use Rattle.walk.specs.Letters.{holdsIn}
 use Rattle.walk.specs.Tables.{tables, N}
 use Rattle.walk.proofs.retreat.Statement.{statement}
 use Rattle.walk.proofs.retreat.Tie as tie
-use Rattle.walk.proofs.retreat.Reads as reads
-use Rattle.walk.proofs.retreat.Lts as lts
-use Rattle.walk.proofs.back.Reads as back-reads
 
 abbrev Inv-loop : tie.InvT-loop
 Inv-loop code next entry stop ways rows columns n tests query notes₀ trail₀ w₀ notes trail w =
@@ -18,43 +15,33 @@ abbrev μ-loop : tie.MeasureT-loop
 μ-loop code next entry stop ways rows columns n tests query notes₀ trail₀ w₀ notes trail w =
     behind (tables code next entry stop ways) n notes trail w
 
--- src/lib.rt:385:5
 loop-holds : tie.Need-loop-holds Inv-loop μ-loop
 loop-holds c = off-none _ _ _ _ _ _ _ (c .before .before .before .before .before .before .before .before .pre)
 
--- src/lib.rt:387:13
 same-length : tie.Need-same-length Inv-loop μ-loop
 same-length c = search needs
 
--- src/lib.rt:387:13
 same-length-2 : tie.Need-same-length-2 Inv-loop μ-loop
 same-length-2 c = search needs
 
--- src/lib.rt:387:13
 returns : tie.Need-returns Inv-loop μ-loop
 returns c = search (needs, off-down)
 
--- src/lib.rt:389:9
 back-requires : tie.Need-back-requires Inv-loop μ-loop
 back-requires c κs = off-halts _ _ _ _ _ _ _ _ _ _ (c .before .before .before .before .before .before .loop .inv) (c .before .before .before .before .if1 .taken) (c .before .before .if2 .left)
 
--- src/lib.rt:385:5
 loop-less : tie.Need-loop-less Inv-loop μ-loop
 loop-less c = search (needs, off-less)
 
--- src/lib.rt:385:5
 loop-again : tie.Need-loop-again Inv-loop μ-loop
 loop-again c = search (needs, off-more)
 
--- src/lib.rt:364:1
 same-length-3 : tie.Need-same-length-3 Inv-loop μ-loop
 same-length-3 c = c .before .before .loop .inv .reached .notes-long
 
--- src/lib.rt:364:1
 same-length-4 : tie.Need-same-length-4 Inv-loop μ-loop
 same-length-4 c = c .before .before .loop .inv .reached .trail-long
 
--- src/lib.rt:364:1
 returns-2 : tie.Need-returns-2 Inv-loop μ-loop
 returns-2 c = off-end _ _ _ _ _ _ _ _ _ _ (c .before .before .loop .inv) (c .if1 .left)
 

@@ -7,10 +7,6 @@ use Rattle.walk.specs.Letters.{holdsIn}
 use Rattle.walk.specs.Tables.{tables, N}
 use Rattle.walk.proofs.run.Statement.{statement}
 use Rattle.walk.proofs.run.Tie as tie
-use Rattle.walk.proofs.run.Reads as reads
-use Rattle.walk.proofs.run.Lts as lts
-use Rattle.walk.proofs.descend.Reads as descend-reads
-use Rattle.walk.proofs.retreat.Reads as retreat-reads
 
 abbrev Inv-loop : tie.InvT-loop
 Inv-loop code next entry stop ways rows columns n tests query notes₀ trail₀ w₀ notes trail w =
@@ -20,47 +16,36 @@ abbrev μ-loop : tie.MeasureT-loop
 μ-loop code next entry stop ways rows columns n tests query notes₀ trail₀ w₀ notes trail w =
     left (N (tables code next entry stop ways) n) notes w
 
--- src/lib.rt:432:5
 loop-holds : tie.Need-loop-holds Inv-loop μ-loop
 loop-holds c = run-none _ _ _ _ _ _ _ (c .before .before .before .before .before .before .before .before .pre)
 
--- src/lib.rt:433:9
 descend-requires : tie.Need-descend-requires Inv-loop μ-loop
 descend-requires c κs = run-goes _ _ _ _ _ _ _ _ _ _ (c .before .before .before .before .loop .inv) (c .before .before .if1 .taken)
 
--- src/lib.rt:452:13
 same-length : tie.Need-same-length Inv-loop μ-loop
 same-length c = run-found _ _ _ _ _ _ _ _ _ _ (c .before .before .before .before .before .before .before .before .before .before .loop .inv) _ _ _ (c .before .before .before .before .before .descend .ensures) (c .if2 .taken) .reached .notes-long
 
--- src/lib.rt:452:13
 same-length-2 : tie.Need-same-length-2 Inv-loop μ-loop
 same-length-2 c = run-found _ _ _ _ _ _ _ _ _ _ (c .before .before .before .before .before .before .before .before .before .before .loop .inv) _ _ _ (c .before .before .before .before .before .descend .ensures) (c .if2 .taken) .reached .trail-long
 
--- src/lib.rt:452:13
 returns : tie.Need-returns Inv-loop μ-loop
 returns c = search (needs, run-found)
 
--- src/lib.rt:454:9
 retreat-requires : tie.Need-retreat-requires Inv-loop μ-loop
 retreat-requires c κs = run-idle _ _ _ _ _ _ _ _ _ _ (c .before .before .before .before .before .before .before .before .before .before .before .before .loop .inv) _ _ _ (c .before .before .before .before .before .before .before .descend .ensures) (c .before .before .if2 .left)
 
--- src/lib.rt:432:5
 loop-less : tie.Need-loop-less Inv-loop μ-loop
 loop-less c = search (needs, run-less)
 
--- src/lib.rt:432:5
 loop-again : tie.Need-loop-again Inv-loop μ-loop
 loop-again c = run-more _ _ _ _ _ _ _ _ _ _ (c .before .before .before .before .before .before .before .before .before .before .before .before .before .before .before .before .before .loop .inv) _ _ _ (c .before .before .before .before .before .before .before .before .before .before .before .before .descend .ensures) _ _ _ (c .before .before .before .before .retreat .ensures)
 
--- src/lib.rt:411:1
 same-length-3 : tie.Need-same-length-3 Inv-loop μ-loop
 same-length-3 c = search needs
 
--- src/lib.rt:411:1
 same-length-4 : tie.Need-same-length-4 Inv-loop μ-loop
 same-length-4 c = search needs
 
--- src/lib.rt:411:1
 returns-2 : tie.Need-returns-2 Inv-loop μ-loop
 returns-2 c = search (needs, run-end)
 

@@ -3,22 +3,16 @@ use Rattle.walk.proofs.Small.{after-more, after-none}
 use borrow.Author.Needs.{needs}
 use Rattle.walk.proofs.way_after.Statement.{statement}
 use Rattle.walk.proofs.way_after.Tie as tie
-use Rattle.walk.proofs.way_after.Reads as reads
-use Rattle.walk.proofs.way_after.Lts as lts
 
--- src/lib.rt:358:8
 add-if1 : tie.Need-add-if1
 add-if1 c = search needs
 
--- src/lib.rt:359:16
 add-result : tie.Need-add-result
 add-result c = search needs
 
--- src/lib.rt:359:9
 returns : tie.Need-returns
 returns c = after-more _ _ ((c .before .pre .1)) ((c .if1 .taken))
 
--- src/lib.rt:354:1
 returns-2 : tie.Need-returns-2
 returns-2 c = after-none _ _ ((c .if1 .left))
 
