@@ -17,10 +17,10 @@ use Rattle.rules.specs.Language.{pattern, factor, primary, Tree, one, more, las
 use Rattle.rules.specs.Reader.{treeOf}
 use Rattle.rules.specs.Places.{fork, placesOf}
 use Rattle.rules.specs.Answers.{deep, noTree, hasEmptyLoop, tooMany, P, lowest}
-use Rattle.pattern.specs.Nodes.{nodeAt}
-use Rattle.pattern.specs.declared.nodes.Sort.{Sort}
-use Rattle.pattern.specs.declared.nodes.Sort.the-variants.{Letter, Anchor, Empty, Sequence, Alternation, Group}
-use Rattle.pattern.specs.declared.nodes.Node.{Node}
+use Rattle.nodes.specs.Nodes.{nodeAt}
+use Rattle.nodes.specs.declared.Sort.{Sort}
+use Rattle.nodes.specs.declared.Sort.the-variants.{Letter, Anchor, Empty, Sequence, Alternation, Group}
+use Rattle.nodes.specs.declared.Node.{Node}
 use Rattle.pattern.specs.declared.Step.{Step}
 use Rattle.pattern.specs.Written.{Fits, Parsed, ParsedAs, TextSays}
 use Rattle.pattern.specs.Held.{body, Top, At}

@@ -1,8 +1,8 @@
 // A pattern's text judged: answers 4, 5, 6 and 7 of document 01, the lowest that applies, and P. The can-take-no-row test and answer 6's test
 // recurse over the tree's nodes; the node's height falls.
-use pattern::nodes::Sort;
-use pattern::nodes::node_at;
-use pattern::nodes::sort_at;
+use nodes::Sort;
+use nodes::node_at;
+use nodes::sort_at;
 use pattern::read_text;
 ghost use mathlib.Core.Path.{_≡_};
 ghost use mathlib.Core.Bool.{true, false};

@@ -1,11 +1,1 @@
-pub mod Choosing
-pub mod Comparing
-pub mod Entries
-pub mod Fields
-pub mod Holding
-pub mod Intervals
-pub mod Putting
-pub mod Raising
-pub mod Reaching
 pub mod Testing
-pub mod Uses

@@ -17,13 +17,13 @@ use Rattle.rules.specs.Rows.{Table, tableOf, compares, met, holds}
 use Rattle.rules.proofs.Choice.{decided}
 use Rattle.rules.proofs.Signed.{read-back}
 use Rattle.decode.specs.Layout.{comparisonsAt, definedAt, Body}
-use Rattle.letters.specs.Letters.{Bytes, there, At, leftSpot, rightSpot, numberAt, ComparisonsRoom, FarBack, spotIndex, readMet, Reads, allRead, AllReads}
-use Rattle.letters.specs.Tests.{sortOf, raised, lowOf, widthOf, backOf, aheadOf, backBoth, aheadBoth, backAt, aheadAt, mostBack, mostAhead, rowsLeft, wordsAt, wordsOf, within, TestRoom}
-use Rattle.letters.proofs.Fields.{number-short}
-use Rattle.letters.proofs.Holding.{every-same, one-more, none-yet, reads-there, read-is}
-use Rattle.letters.proofs.Intervals.{number-is, column-is}
-use Rattle.letters.proofs.Putting.{most-above, words-none, words-some}
-use Rattle.letters.proofs.Reaching.{reach-there}
+use Rattle.comparisons.specs.Letters.{Bytes, there, At, leftSpot, rightSpot, numberAt, ComparisonsRoom, FarBack, spotIndex, readMet, Reads, allRead, AllReads}
+use Rattle.tests.specs.Tests.{sortOf, raised, lowOf, widthOf, backOf, aheadOf, backBoth, aheadBoth, backAt, aheadAt, mostBack, mostAhead, rowsLeft, wordsAt, wordsOf, within, TestRoom}
+use Rattle.comparisons.proofs.Fields.{number-short}
+use Rattle.comparisons.proofs.Holding.{every-same, one-more, none-yet, reads-there, read-is}
+use Rattle.tests.proofs.Intervals.{number-is, column-is}
+use Rattle.tests.proofs.Putting.{most-above, words-none, words-some}
+use Rattle.tests.proofs.Reaching.{reach-there}
 
 -- ---- the rows that a comparison reads
 

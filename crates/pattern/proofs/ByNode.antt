@@ -10,10 +10,10 @@ use lib.ListN.{length}
 use Rattle.rules.specs.Language.{lower, upper, InBounds, pattern, branch, factor, primary, Tree, one, more, last, next, bare, times, letter, caret, dollar, empty, group}
 use Rattle.rules.specs.Places.{roundPlaces, placeCount}
 use Rattle.rules.proofs.Counting.{cap-rounds}
-use Rattle.pattern.specs.Shows.{highOf}
-use Rattle.pattern.specs.Nodes.{nodeAt}
-use Rattle.pattern.specs.declared.nodes.Sort.the-variants.{Letter, Anchor, Empty, Sequence, Alternation, Group}
-use Rattle.pattern.specs.declared.nodes.Node.{Node}
+use Rattle.marks.specs.Shows.{highOf}
+use Rattle.nodes.specs.Nodes.{nodeAt}
+use Rattle.nodes.specs.declared.Sort.the-variants.{Letter, Anchor, Empty, Sequence, Alternation, Group}
+use Rattle.nodes.specs.declared.Node.{Node}
 use Rattle.pattern.specs.Written.{plain, withMark, nodeCount, height, own, InOrder}
 use Rattle.pattern.specs.Held.{body, lowOf, highestOf, lazyOf, Held, Top, At}
 use Rattle.pattern.proofs.RoundLaws.{form-order}

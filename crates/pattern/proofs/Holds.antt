@@ -8,16 +8,16 @@ use native.Mathlib.Omega.{arith}
 use lib.ListN.{length}
 use Rattle.rules.specs.Language.{Rank, pattern, branch, factor, primary, Tree, one, more, last, next, bare, times, letter, caret, dollar, empty, group}
 use Rattle.rules.specs.Places.{placeCount}
-use Rattle.pattern.specs.Nodes.{nodeAt, putNode}
-use Rattle.pattern.specs.declared.nodes.Sort.the-variants.{Sequence, Alternation}
-use Rattle.pattern.specs.declared.nodes.Node.{Node}
+use Rattle.nodes.specs.Nodes.{nodeAt, putNode}
+use Rattle.nodes.specs.declared.Sort.the-variants.{Sequence, Alternation}
+use Rattle.nodes.specs.declared.Node.{Node}
 use Rattle.pattern.specs.Written.{plain, withMark, nodeCount, height, own, written, Fits, Parsed, ParsedAs, TextSays}
 use Rattle.pattern.specs.Held.{Held, Top}
 use Rattle.pattern.specs.declared.Step.{Step}
 use Rattle.rules.specs.Reader.{treeOf}
 use Rattle.rules.proofs.GrammarSound.{found-written}
 use Rattle.rules.proofs.Bounds.{Bounds, Lettered, written-bounds, written-letters}
-use Rattle.pattern.proofs.Put.{SmallSort, read-put, node-other, put-length}
+use Rattle.nodes.proofs.Put.{SmallSort, read-put, node-other, put-length}
 
 pub factor-nodes : (f : Tree factor) → 1 ≤ nodeCount f
 unfolding nodeCount

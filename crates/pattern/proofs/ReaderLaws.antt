@@ -15,18 +15,18 @@ use Rattle.rules.specs.Basics.{isLetter}
 use Rattle.rules.specs.Places.{roundPlaces, fork, placeCount}
 use Rattle.rules.specs.Language.{Form, star, plus, opt, exactly, atLeast, atMost, between, lower, upper, InBounds, Rank, pattern, branch, factor, primary, Tree, one, more, last, next, bare, times, letter, caret, dollar, empty, group}
 use Rattle.rules.specs.Reader.{Reading, got, bad, peek, rest, skip, Marked, unmarked, broken, marked, quantifier, ended, under, altOn, altWith, seqOn, seqWith, timesOn, timesWith, closed, parted, simple, primaryOn, read, rankOf, depth, whole, treeOf}
-use Rattle.pattern.specs.Shows.{codeOf, highest, highOf, Shows}
-use Rattle.pattern.specs.declared.marks.Mark.{Mark}
-use Rattle.pattern.specs.declared.marks.Mark.the-variants.{Unmarked, Broken, Found}
-use Rattle.pattern.proofs.MarkLaws.{inside, rest-drop}
-use Rattle.pattern.specs.Nodes.{putNode, Small}
+use Rattle.marks.specs.Shows.{codeOf, highest, highOf, Shows}
+use Rattle.marks.specs.declared.Mark.{Mark}
+use Rattle.marks.specs.declared.Mark.the-variants.{Unmarked, Broken, Found}
+use Rattle.marks.proofs.MarkLaws.{inside, rest-drop}
+use Rattle.nodes.specs.Nodes.{putNode, Small}
 use Rattle.rules.proofs.GrammarSound.{pick-both, marked-in}
 use Rattle.rules.proofs.Counting.{cap-rounds}
 use Rattle.pattern.proofs.RoundLaws.{form-order, rounds-eq}
-use Rattle.pattern.proofs.Put.{put-other, put-length}
-use Rattle.pattern.specs.declared.nodes.Sort.{Sort}
-use Rattle.pattern.specs.declared.nodes.Sort.the-variants.{Letter, Anchor, Empty, Sequence, Alternation, Group}
-use Rattle.pattern.specs.declared.nodes.Node.{Node}
+use Rattle.nodes.proofs.Put.{put-other, put-length}
+use Rattle.nodes.specs.declared.Sort.{Sort}
+use Rattle.nodes.specs.declared.Sort.the-variants.{Letter, Anchor, Empty, Sequence, Alternation, Group}
+use Rattle.nodes.specs.declared.Node.{Node}
 use Rattle.pattern.specs.Written.{plain, withMark, nodeCount, height, own, written, forkOf, roundsOf, InOrder, Kept, Fits, Says, On, Reads, SaysHead, Wrote, HeadOn, SimpleSays, ReadsHead, Holding, FitsHead, stepTo, FinishedMark, FinishedAs, Finished, Joins, Joined, SkipTo, EmptyIs, ShutNeeds, Shut, ShutIs, ParsedAs, TextSays}
 use Rattle.pattern.specs.declared.Step.{Step}
 use Rattle.pattern.specs.declared.Head.{Head}

@@ -10,7 +10,7 @@ use borrow.Author.Tests.{eq-eqb, ne-eqb}
 use Rattle.rules.specs.Basics.{pick}
 use Rattle.rules.specs.Language.{Form, star, plus, opt, exactly, atLeast, atMost, between, lower, upper, InBounds, unbounded}
 use Rattle.rules.specs.Places.{roundPlaces}
-use Rattle.pattern.specs.Shows.{highest, highOf}
+use Rattle.marks.specs.Shows.{highest, highOf}
 use Rattle.pattern.specs.Written.{roundsOf, InOrder}
 
 pub form-order : (f : Form) → InBounds f → InOrder (lower f) (highOf f)

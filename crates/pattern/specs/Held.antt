@@ -6,9 +6,9 @@ use Prim.Native.Nat.{ℕ, _+_, _*_, _-_, _≤_, max, min}
 use lib.ListN.{length}
 use Rattle.rules.specs.Language.{lower, InBounds, Rank, pattern, factor, primary, Tree, one, more, last, next, bare, times, letter, caret, dollar, empty, group}
 use Rattle.rules.specs.Places.{placeCount}
-use Rattle.pattern.specs.Shows.{highOf}
-use Rattle.pattern.specs.Nodes.{nodeAt}
-use Rattle.pattern.specs.declared.nodes.Sort.the-variants.{Sequence, Alternation}
+use Rattle.marks.specs.Shows.{highOf}
+use Rattle.nodes.specs.Nodes.{nodeAt}
+use Rattle.nodes.specs.declared.Sort.the-variants.{Sequence, Alternation}
 use Rattle.pattern.specs.Written.{plain, withMark, nodeCount, height, own}
 
 -- a factor's primary, and its bounds, 1 and 1 without a quantifier

@@ -10,11 +10,11 @@ use Rattle.rules.specs.Basics.{pick}
 use Rattle.rules.specs.Language.{Form, lower, upper, Rank, pattern, branch, factor, primary, Tree, one, more, last, next, bare, times, letter, caret, dollar, empty, group}
 use Rattle.rules.specs.Reader.{Reading, got, bad, peek, skip, Marked, unmarked, broken, marked, quantifier, simple, read, depth, treeOf}
 use Rattle.rules.specs.Places.{roundPlaces, fork, placeCount}
-use Rattle.pattern.specs.Shows.{codeOf, highOf}
-use Rattle.pattern.specs.Nodes.{putNode, Small}
-use Rattle.pattern.specs.declared.nodes.Sort.{Sort}
-use Rattle.pattern.specs.declared.nodes.Sort.the-variants.{Letter, Anchor, Empty, Sequence, Alternation, Group}
-use Rattle.pattern.specs.declared.nodes.Node.{Node}
+use Rattle.marks.specs.Shows.{codeOf, highOf}
+use Rattle.nodes.specs.Nodes.{putNode, Small}
+use Rattle.nodes.specs.declared.Sort.{Sort}
+use Rattle.nodes.specs.declared.Sort.the-variants.{Letter, Anchor, Empty, Sequence, Alternation, Group}
+use Rattle.nodes.specs.declared.Node.{Node}
 use Rattle.pattern.specs.declared.Step.{Step}
 use Rattle.pattern.specs.declared.Head.{Head}
 

@@ -1,7 +1,5 @@
 // A pattern's text read into a tree: the four readers of the pattern language, in a cycle. The tree's nodes go into a lent room, each behind
 // its parts; `read_text` leaves there the nodes of the tree that the text has, or says that it has none.
-mod marks;
-pub mod nodes;
 
 use marks::Mark;
 use marks::is_letter;
@@ -16,7 +14,7 @@ ghost use Prim.Native.Nat.{ℕ, _+_, _*_, _-_, _≤_, _<_, max, min};
 ghost use mathlib.Core.Bool.{true, false};
 ghost use lib.ListN.{length};
 ghost use Rattle.rules.specs.Language.{Rank};
-ghost use Rattle.pattern.specs.Nodes.{putNode};
+ghost use Rattle.nodes.specs.Nodes.{putNode};
 ghost use Rattle.pattern.specs.Written.{plain, FitsHead, Finished, Joins, Joined, SkipTo, EmptyIs, ShutNeeds, ShutIs, Fits, Reads, ReadsHead, SimpleSays, Holding, TextSays, InOrder, roundsOf};
 
 // What a reader answers: whether it read, where it ended or stopped, how many nodes there are then (its own is the last), its height, its

@@ -13,7 +13,7 @@ use Rattle.rules.specs.Places.{Unrolled, uEmpty, uSeq, uAlt, uOpt, uStar, Branc
 use Rattle.rules.proofs.Rank.{code-length, codes-length}
 use Rattle.rules.proofs.Counting.{forked-more, forked-size, unrolled-size}
 use Rattle.rules.proofs.Distinct.{distinct, thinPlace, thinned, thinned-append, thinned-length}
-use Rattle.pattern.specs.Shows.{highest, highOf}
+use Rattle.marks.specs.Shows.{highest, highOf}
 use Rattle.pattern.specs.Held.{body, lowOf, highestOf, lazyOf}
 use Rattle.pattern.proofs.ByNode.{Bounded}
 use Rattle.places.specs.Emitting.{choicePlaces, forkPlaces, treePlaces, branchPlaces, bodyPlaces, turns, turnPlaces}

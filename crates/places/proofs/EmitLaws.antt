@@ -16,10 +16,10 @@ use Rattle.rules.specs.Language.{Form, star, plus, opt, exactly, atLeast, atMos
 use Rattle.rules.specs.Places.{unrolled, unroll, Place, pLetter, pCaret, pDollar, size, sizes, code, roundPlaces, fork, placeCount}
 use Rattle.rules.proofs.Counting.{unrolled-size}
 use Rattle.rules.proofs.Distinct.{thinPlace, thinned}
-use Rattle.pattern.specs.Nodes.{nodeAt}
-use Rattle.pattern.specs.declared.nodes.Sort.{Sort}
-use Rattle.pattern.specs.declared.nodes.Sort.the-variants.{Letter, Anchor, Empty, Sequence, Alternation, Group}
-use Rattle.pattern.specs.declared.nodes.Node.{Node}
+use Rattle.nodes.specs.Nodes.{nodeAt}
+use Rattle.nodes.specs.declared.Sort.{Sort}
+use Rattle.nodes.specs.declared.Sort.the-variants.{Letter, Anchor, Empty, Sequence, Alternation, Group}
+use Rattle.nodes.specs.declared.Node.{Node}
 use Rattle.pattern.specs.Held.{body, lowOf, highestOf, lazyOf, Top, At}
 use Rattle.pattern.proofs.ByNode.{Bounded, IsAnchor, FactorAt, GroupAt, as-any, as-seq, as-alt, as-letter, as-anchor, as-empty, as-group, at-in, seq-left, seq-right, alt-left, alt-right, group-left, top-places}
 use Rattle.places.specs.Emitting.{putWords, putPlace, wayCount, waysIn, putPlaces, Fitting, Emitted, choicePlaces, Choosing, forkPlaces, Forking, treePlaces, branchPlaces, bodyPlaces, turns, turnPlaces, Emitting, Branching, Bodying, Turning, WholeSize, BodySize, anchorSort}

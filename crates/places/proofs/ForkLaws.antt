@@ -16,11 +16,11 @@ use Rattle.rules.specs.Language.{pattern, branch, Tree, one, more, last, next}
 use Rattle.rules.specs.Places.{Unrolled, Branches, uNil, uCons, unrolled, Place, pFork, size, sizes, startOf, startsOf, placeCount}
 use Rattle.rules.proofs.Counting.{unrolled-size}
 use Rattle.rules.proofs.Distinct.{keepNew, fresh, distinct}
-use Rattle.pattern.specs.Nodes.{nodeAt}
-use Rattle.pattern.specs.declared.nodes.Sort.{Sort}
-use Rattle.pattern.specs.declared.nodes.Sort.the-variants.{Sequence, Alternation}
-use Rattle.pattern.specs.declared.nodes.Node.{Node}
-use Rattle.pattern.proofs.nodes.Sort.{the-type}
+use Rattle.nodes.specs.Nodes.{nodeAt}
+use Rattle.nodes.specs.declared.Sort.{Sort}
+use Rattle.nodes.specs.declared.Sort.the-variants.{Sequence, Alternation}
+use Rattle.nodes.specs.declared.Node.{Node}
+use Rattle.nodes.proofs.Sort.{the-type}
 use Rattle.pattern.specs.Held.{Top, At}
 use Rattle.pattern.proofs.ByNode.{as-any, as-alt, at-in, alt-left, alt-right, top-places}
 use Rattle.places.specs.Tables.{span}

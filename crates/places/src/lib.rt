@@ -1,9 +1,9 @@
 // A tree unrolled into its places: `unroll` puts them into a lent table of words, which an engine reads, by a recursion over the tree's nodes; the
 // node's height falls. Repeated ways of a fork are dropped.
-use pattern::nodes::Sort;
-use pattern::nodes::node_at;
-use pattern::nodes::places_at;
-use pattern::nodes::sort_at;
+use nodes::Sort;
+use nodes::node_at;
+use nodes::places_at;
+use nodes::sort_at;
 ghost use mathlib.Core.Path.{_≡_};
 ghost use mathlib.Core.Bool.{true, false};
 ghost use mathlib.Core.List.{List, [], _∷_};

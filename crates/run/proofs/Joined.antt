@@ -28,7 +28,7 @@ use Rattle.rules.proofs.Lowest.{lowest-after, none-before, none-true, lowest-wi
 use Rattle.rules.proofs.Limits.{limits, numbers-long}
 use Rattle.room.specs.declared.Size.{Size}
 use Rattle.room.specs.Reading.{asRoom}
-use Rattle.text.specs.Put.{Put}
+use Rattle.put.specs.Put.{Put}
 use Rattle.text.specs.Report.{reportText}
 use Rattle.text.proofs.Printed.{report-printed}
 use Rattle.run.specs.Run.{Found}

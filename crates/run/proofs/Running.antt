@@ -21,13 +21,13 @@ use Rattle.room.specs.declared.Query.{Query}
 use Rattle.room.specs.Reading.{queryAnswer, Asked}
 use Rattle.search.specs.declared.Outcome.{Outcome}
 use Rattle.search.specs.Promise.{lent, memory, Promised}
-use Rattle.text.specs.declared.input.Input.{Input}
-use Rattle.text.specs.declared.input.Input.the-variants.{Refused, TooLarge, Go}
-use Rattle.text.specs.Input.{inputOf, printedInput}
-use Rattle.text.specs.Put.{Put}
+use Rattle.input.specs.declared.Input.{Input}
+use Rattle.input.specs.declared.Input.the-variants.{Refused, TooLarge, Go}
+use Rattle.input.specs.Input.{inputOf, printedInput}
+use Rattle.put.specs.Put.{Put}
 use Rattle.text.specs.Report.{reportText}
-use Rattle.text.proofs.Inputs.{Parted, parted, printed-input}
-use Rattle.text.proofs.Writing.{put-long}
+use Rattle.input.proofs.Inputs.{Parted, parted, printed-input}
+use Rattle.put.proofs.Writing.{put-long}
 use Rattle.run.specs.Run.{Ran, Counted, Found, Said}
 use Rattle.run.proofs.Joined.{room-accepts, no-query-answer, search-numbers, search-printed}
 

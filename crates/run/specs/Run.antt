@@ -8,7 +8,7 @@ use Rattle.rules.specs.Query.{parts}
 use Rattle.rules.specs.Answers.{badRows, pairsOf, roomAnswer}
 use Rattle.rules.specs.Program.{printed}
 use Rattle.room.specs.Reading.{queryAnswer}
-use Rattle.text.specs.Put.{Put}
+use Rattle.put.specs.Put.{Put}
 
 -- The text is what the program prints of these bytes. They need be no more of its standard input than the first 36,867 bytes: it prints the same of any
 -- input that goes on behind them.

@@ -7,7 +7,7 @@ ghost use Prim.Native.Nat.{_≤_};
 ghost use lib.ListN.{length};
 ghost use Rattle.rules.specs.Answers.{taskOf, walked};
 ghost use Rattle.rules.specs.Program.{searchText, printedFor};
-ghost use Rattle.text.specs.Put.{Put};
+ghost use Rattle.put.specs.Put.{Put};
 ghost use Rattle.run.specs.Run.{Counted, Found, Ran};
 pub use streams::on_streams;
 
@@ -60,7 +60,7 @@ fn run_query(query: &[u8], bytes: &[u8], out: &mut [u8]) -> usize
     ensures { λ r. ⌜ Put (now (out .entry)) 0 (printedFor (now (query .entry)) (now (bytes .entry))) (now (out .exit)) r ⌝ }
 {
     let mut rows = [0i32; 8192];
-    let count = text::rows_of(bytes, &mut rows);
+    let count = input::rows_of(bytes, &mut rows);
     let size = room::room(query, &rows[..count]);
     let answer = size.answer;
     if answer != 0 {
@@ -81,10 +81,10 @@ pub fn run(input: &[u8], out: &mut [u8]) -> usize
     requires { ⌜ 245820 ≤ length (now out) ⌝ }
     ensures { λ r. ⌜ Ran (now (input .entry)) (now (out .entry)) (now (out .exit)) r ⌝ }
 {
-    let case = text::input_of(input);
+    let case = input::input_of(input);
     match case {
-        text::Input::Refused(answer) => text::put_refused(out, 0, answer),
-        text::Input::TooLarge => text::put_too_large(out, 0),
-        text::Input::Go { rows } => run_query(&input[2..rows], &input[rows..], out),
+        input::Input::Refused(answer) => text::put_refused(out, 0, answer),
+        input::Input::TooLarge => text::put_too_large(out, 0),
+        input::Input::Go { rows } => run_query(&input[2..rows], &input[rows..], out),
     }
 }

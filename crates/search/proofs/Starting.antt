@@ -30,8 +30,8 @@ use Rattle.rules.proofs.SameLetters.{search-agrees}
 use Rattle.rules.proofs.ThinPlaces.{Spelt, thinned-spelt}
 use Rattle.decode.specs.Layout.{Decoded, Body, definedAt, measureIn, measuresIn}
 use Rattle.places.specs.Emitting.{Unrolling, Tabled}
-use Rattle.letters.specs.Tests.{Prepared, Preparable, Letters}
-use Rattle.letters.proofs.Uses.{preparable, word-seven, letters-room}
+use Rattle.tests.specs.Tests.{Prepared, Preparable, Letters}
+use Rattle.tests.proofs.Uses.{preparable, word-seven, letters-room}
 use Rattle.walk.specs.Letters.{holdsIn}
 use Rattle.walk.specs.Tables as W
 use Rattle.sweep.specs.Asked as S

@@ -21,7 +21,7 @@ use Rattle.decode.specs.declared.Parts.{Parts}
 use Rattle.rules.specs.Search.{Match}
 use Rattle.rules.specs.Report.{numbersOf, labelsOf}
 use Rattle.walk.specs.Tables.{Tables, N, placesIn}
-use Rattle.letters.specs.Tests.{Letters}
+use Rattle.tests.specs.Tests.{Letters}
 use Rattle.walk.specs.Letters.{holdsIn}
 use Rattle.sweep.specs.Asked as S
 use Rattle.sweep.specs.Asked.{asked}

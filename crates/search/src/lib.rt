@@ -222,7 +222,7 @@ fn walk_in(
     let mut stop = [0u16; 256];
     part(table, places, &mut code, &mut next, &mut entry, &mut stop);
     let mut tests = [0u64; 208];
-    letters::prepare(query, columns, n, defines, letters, &mut tests);
+    tests::prepare(query, columns, n, defines, letters, &mut tests);
     run_tables(
         query,
         &code[0..places],

@@ -8,7 +8,7 @@ ghost use Rattle.rules.specs.Basics.{wrote};
 ghost use Rattle.rules.specs.Search.{nextStart};
 ghost use Rattle.walk.specs.Step.{placeIn};
 ghost use Rattle.walk.specs.Tables.{tables};
-ghost use Rattle.letters.specs.Tests.{Letters};
+ghost use Rattle.tests.specs.Tests.{Letters};
 ghost use Rattle.walk.specs.Letters.{holdsIn};
 ghost use Rattle.sweep.specs.Asked.{asked, labelsOn, pathOn};
 ghost use mathlib.Core.Option.{some};

@@ -16,11 +16,11 @@ use mir.Facts.{toZ-ofZ}
 use borrow.Author.Tests.{ltb-true, ltb-false, eq-eqb, ne-eqb}
 use Rattle.rules.specs.Basics.{pick, bytes}
 use Rattle.rules.specs.Program.{decimal, signedDecimal, labelsText, refusedText}
-use Rattle.text.specs.Put.{Put}
+use Rattle.put.specs.Put.{Put}
 use Rattle.text.specs.Report.{numberAt, headerText, fieldText, resultText, resultsText, lineText, linesText, reportText, reportRoom}
-use Rattle.text.proofs.Digits.{few-digits}
-use Rattle.text.proofs.Signed.{held, number-long}
-use Rattle.text.proofs.Writing.{put-long, put-both, Partly, partly-none, partly-from, partly-room, partly-more, partly-all}
+use Rattle.put.proofs.Digits.{few-digits}
+use Rattle.put.proofs.Signed.{held, number-long}
+use Rattle.put.proofs.Writing.{put-long, put-both, Partly, partly-none, partly-from, partly-room, partly-more, partly-all}
 
 -- ---- `refused N`
 

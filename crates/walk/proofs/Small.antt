@@ -13,7 +13,7 @@ use Rattle.rules.specs.Report.{bitAt}
 use Rattle.rules.specs.Rows.{tableOf, holds}
 use Rattle.rules.proofs.Notes.{marked}
 use Rattle.decode.specs.Layout.{definedAt}
-use Rattle.letters.specs.Tests.{Letters, TestRoom}
+use Rattle.tests.specs.Tests.{Letters, TestRoom}
 use Rattle.walk.specs.declared.Walk.{Walk}
 use Rattle.walk.specs.Letters.{holdsIn}
 use Rattle.walk.specs.Tables.{passesBy}

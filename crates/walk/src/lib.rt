@@ -8,7 +8,7 @@ ghost use lib.ListN.{length, getD, set};
 ghost use Rattle.rules.specs.Report.{bitAt};
 ghost use Rattle.rules.proofs.Notes.{marked};
 ghost use Rattle.walk.specs.Tables.{tables, passesBy};
-ghost use Rattle.letters.specs.Tests.{Letters};
+ghost use Rattle.tests.specs.Tests.{Letters};
 ghost use Rattle.walk.specs.Letters.{holdsIn};
 ghost use Rattle.walk.specs.Step.{mem, walkAt, oneUnless, tryAt, after, wentOn, enteredBy, Enters};
 ghost use Rattle.walk.specs.State.{State, Goes, Halts, Onward, Backward, Descended, Idle, Retreated, Moves, Ran, Ready, Done};

@@ -2,7 +2,7 @@
 -- The measure: the node's height. Laws: pattern's ByNode, Laws.
 use Rattle.pattern.proofs.ByNode.{at-in, seq-left, seq-right, alt-left, alt-right, group-left}
 use Rattle.judge.proofs.Laws.{null-zero, null-letter, null-anchor, null-empty, null-group, null-seq, null-seq-no, null-alt, null-alt-second}
-use Rattle.pattern.specs.Nodes.{nodeAt}
+use Rattle.nodes.specs.Nodes.{nodeAt}
 use borrow.Author.Needs.{needs}
 use Prim.Native.Nat.{ℕ, _<_}
 use borrow.Fn.Kinds.{In}
@@ -10,7 +10,7 @@ use borrow.Fn.PlainCycle.{Measures, is, falls, and}
 use Rattle.judge.proofs.can_be_empty.Reads as can-be-empty
 use Rattle.judge.proofs.can_be_empty.Kinds as can-be-empty-kinds
 use Rattle.judge.proofs.+can_be_empty.Lts-can_be_empty as can-be-empty-lts
-use Rattle.pattern.proofs.nodes.node_at.Reads as node-at-reads
+use Rattle.nodes.proofs.node_at.Reads as node-at-reads
 use Rattle.judge.proofs.+can_be_empty.{statement}
 use Rattle.judge.proofs.+can_be_empty.Tie.{close}
 

@@ -3,7 +3,7 @@
 use mathlib.Core.Path.{refl}
 use Rattle.pattern.proofs.ByNode.{at-in, seq-left, seq-right, alt-left, alt-right, group-left}
 use Rattle.judge.proofs.Laws.{twice, one-less, loop-letter-at, loop-letter, loop-anchor, loop-empty, loop-seq, loop-seq-second, loop-alt, loop-alt-second, loop-group, loop-group-null, loop-group-rest, group-inside}
-use Rattle.pattern.specs.Nodes.{nodeAt}
+use Rattle.nodes.specs.Nodes.{nodeAt}
 use borrow.Author.Needs.{needs}
 use Prim.Native.Nat.{ℕ, _+_, _*_, _<_}
 use borrow.Fn.Kinds.{In}
@@ -15,8 +15,8 @@ use Rattle.judge.proofs.loop_at.Reads as loop-at
 use Rattle.judge.proofs.loop_at.Kinds as loop-at-kinds
 use Rattle.judge.proofs.+has_empty_loop+loop_at.Lts-loop_at as loop-at-lts
 use Rattle.judge.proofs.can_be_empty.Reads as can-be-empty-reads
-use Rattle.pattern.proofs.nodes.node_at.Reads as node-at-reads
-use Rattle.pattern.proofs.nodes.sort_at.Reads as sort-at-reads
+use Rattle.nodes.proofs.node_at.Reads as node-at-reads
+use Rattle.nodes.proofs.sort_at.Reads as sort-at-reads
 use Rattle.judge.proofs.+has_empty_loop+loop_at.{statement}
 use Rattle.judge.proofs.+has_empty_loop+loop_at.Tie.{close}
 

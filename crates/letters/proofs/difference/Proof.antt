@@ -1,5 +1,5 @@
 -- `letters::difference` meets its contract by the laws of Raising.
-use Rattle.letters.proofs.Raising.{difference-fits, difference-is, difference-few}
+use Rattle.tests.proofs.Raising.{difference-fits, difference-is, difference-few}
 use Rattle.letters.proofs.difference.Statement.{statement}
 use Rattle.letters.proofs.difference.Tie as tie
 

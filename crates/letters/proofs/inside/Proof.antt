@@ -3,8 +3,8 @@ use mathlib.Core.Path.{ap, _∙_}
 use native.Mathlib.Omega.{arith}
 use borrow.Author.Needs.{needs}
 use Rattle.rules.proofs.Signed.{read-back}
-use Rattle.letters.specs.Tests.{raised}
-use Rattle.letters.proofs.Intervals.{wraps-within}
+use Rattle.tests.specs.Tests.{raised}
+use Rattle.tests.proofs.Intervals.{wraps-within}
 use Rattle.letters.proofs.inside.Statement.{statement}
 use Rattle.letters.proofs.inside.Tie as tie
 

@@ -21,7 +21,7 @@ use Rattle.pattern.proofs.+branch+factor+pattern+primary.Lts-pattern as
 use Rattle.pattern.proofs.primary.Reads as primary
 use Rattle.pattern.proofs.primary.Kinds as primary-kinds
 use Rattle.pattern.proofs.+branch+factor+pattern+primary.Lts-primary as primary-lts
-use Rattle.pattern.proofs.marks.peek.Reads as peek-reads
+use Rattle.marks.proofs.peek.Reads as peek-reads
 use Rattle.pattern.proofs.finish.Reads as finish-reads
 use Rattle.pattern.proofs.join.Reads as join-reads
 use Rattle.pattern.proofs.no_step.Reads as no-step-reads

@@ -19,8 +19,8 @@ use Rattle.places.proofs.+body+branches+emit+rounds.Lts-emit as emit-lt
 use Rattle.places.proofs.rounds.Reads as rounds
 use Rattle.places.proofs.rounds.Kinds as rounds-kinds
 use Rattle.places.proofs.+body+branches+emit+rounds.Lts-rounds as rounds-lts
-use Rattle.pattern.proofs.nodes.node_at.Reads as node-at-reads
-use Rattle.pattern.proofs.nodes.places_at.Reads as places-at-reads
+use Rattle.nodes.proofs.node_at.Reads as node-at-reads
+use Rattle.nodes.proofs.places_at.Reads as places-at-reads
 use Rattle.places.proofs.anchor_sort.Reads as anchor-sort-reads
 use Rattle.places.proofs.body_size.Reads as body-size-reads
 use Rattle.places.proofs.branch_fork.Reads as branch-fork-reads

@@ -1,7 +1,7 @@
 -- `places::fork_ways`, which calls itself, meets its contract.
 -- The measure: the node's height. Laws: ForkLaws.
 use Rattle.places.proofs.ForkLaws.{start-node, none-way, none-done, start-left, start-fits, start-way, start-again, start-more, last-fits, last-way, last-done, not-alternation, started-length}
-use Rattle.pattern.specs.Nodes.{nodeAt}
+use Rattle.nodes.specs.Nodes.{nodeAt}
 use mathlib.Core.Path.{refl}
 use borrow.Author.Needs.{needs}
 use Prim.Native.Nat.{ℕ, _<_}
@@ -10,8 +10,8 @@ use borrow.Fn.PlainCycle.{Measures, is, falls, and}
 use Rattle.places.proofs.fork_ways.Reads as fork-ways
 use Rattle.places.proofs.fork_ways.Kinds as fork-ways-kinds
 use Rattle.places.proofs.+fork_ways.Lts-fork_ways as fork-ways-lts
-use Rattle.pattern.proofs.nodes.node_at.Reads as node-at-reads
-use Rattle.pattern.proofs.nodes.places_at.Reads as places-at-reads
+use Rattle.nodes.proofs.node_at.Reads as node-at-reads
+use Rattle.nodes.proofs.places_at.Reads as places-at-reads
 use Rattle.places.proofs.put_way.Reads as put-way-reads
 use Rattle.places.proofs.start_at.Reads as start-at-reads
 use Rattle.places.proofs.+fork_ways.{statement}

@@ -2,7 +2,7 @@
 use borrow.Author.Needs.{needs}
 use Rattle.walk.proofs.Whole.{Descending, on-none, on-end, on-enters, on-more, on-less}
 use Rattle.walk.specs.State.{left}
-use Rattle.letters.specs.Tests.{Letters}
+use Rattle.tests.specs.Tests.{Letters}
 use Rattle.walk.specs.Letters.{holdsIn}
 use Rattle.walk.specs.Tables.{tables, N}
 use Rattle.walk.proofs.descend.Statement.{statement}

@@ -1,7 +1,7 @@
 -- `walk::retreat` meets its contract by the laws of Whole. The invariant and the measure of its loop come first.
 use borrow.Author.Needs.{needs}
 use Rattle.walk.proofs.Whole.{Retreating, behind, off-none, off-down, off-end, off-halts, off-more, off-less}
-use Rattle.letters.specs.Tests.{Letters}
+use Rattle.tests.specs.Tests.{Letters}
 use Rattle.walk.specs.Letters.{holdsIn}
 use Rattle.walk.specs.Tables.{tables, N}
 use Rattle.walk.proofs.retreat.Statement.{statement}

@@ -2,7 +2,7 @@
 use borrow.Author.Needs.{needs}
 use Rattle.walk.proofs.Whole.{Running, run-none, run-goes, run-end, run-found, run-idle, run-more, run-less}
 use Rattle.walk.specs.State.{left}
-use Rattle.letters.specs.Tests.{Letters}
+use Rattle.tests.specs.Tests.{Letters}
 use Rattle.walk.specs.Letters.{holdsIn}
 use Rattle.walk.specs.Tables.{tables, N}
 use Rattle.walk.proofs.run.Statement.{statement}

@@ -1,0 +1,28 @@
+-- `signed` is two's complement, by the laws of proofs/Inputs.
+use native.Mathlib.Omega.{arith}
+use borrow.Author.Needs.{needs}
+use Rattle.input.proofs.Inputs.{low, high, high-fits}
+use Rattle.input.proofs.signed.Statement.{statement}
+use Rattle.input.proofs.signed.Tie as tie
+
+cast-result : tie.Need-cast-result
+cast-result c = search needs
+
+sub-result : tie.Need-sub-result
+sub-result c = search needs
+
+cast-result-2 : tie.Need-cast-result-2
+cast-result-2 c = search needs
+
+sub-result-2 : tie.Need-sub-result-2
+sub-result-2 c = high-fits (c .before .args .w) (omega arith) (omega arith)
+
+returns : tie.Need-returns
+returns c = low _ (omega arith)
+
+returns-2 : tie.Need-returns-2
+returns-2 c = high (c .before .args .w) (omega arith) (omega arith)
+
+pub signed-spec : {M : Type 1} → statement M
+signed-spec =
+    tie.close (tie.spec cast-result sub-result cast-result-2 sub-result-2 returns returns-2)

@@ -1,0 +1,14 @@
+-- `marks::is_letter` meets its contract. Laws: MarkLaws.
+use Rattle.marks.proofs.MarkLaws.{letter-low, letter-high}
+use borrow.Author.Needs.{needs}
+use Rattle.marks.proofs.is_letter.Statement.{statement}
+use Rattle.marks.proofs.is_letter.Tie as tie
+
+returns : tie.Need-returns
+returns c = search (needs, letter-low)
+
+returns-2 : tie.Need-returns-2
+returns-2 c = search (needs, letter-high)
+
+pub is-letter-spec : {M : Type 1} → statement M
+is-letter-spec = tie.close (tie.spec returns returns-2)

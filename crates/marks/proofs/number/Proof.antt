@@ -1,0 +1,87 @@
+-- `marks::number` meets its contract. Laws: MarkLaws.
+use Rattle.marks.proofs.MarkLaws.{digits-from, number-none, number-one, number-zero, number-two}
+use borrow.Author.Tests.{not-true, not-false}
+use borrow.Author.Needs.{needs}
+use Rattle.marks.proofs.number.Statement.{statement}
+use Rattle.marks.proofs.number.Tie as tie
+
+peek-requires : tie.Need-peek-requires
+peek-requires c κs = search needs
+
+is-digit-requires : tie.Need-is-digit-requires
+is-digit-requires c κs = search needs
+
+returns : tie.Need-returns
+returns c = search (needs, number-none, not-true)
+
+add-peek : tie.Need-add-peek
+add-peek c = search needs
+
+peek-requires-2 : tie.Need-peek-requires-2
+peek-requires-2 c κs = search needs
+
+is-digit-requires-2 : tie.Need-is-digit-requires-2
+is-digit-requires-2 c κs = search needs
+
+wide-requires : tie.Need-wide-requires
+wide-requires c κs = search needs
+
+sub-t9 : tie.Need-sub-t9
+sub-t9 c = search (needs, digits-from, not-true, not-false)
+
+add-t10 : tie.Need-add-t10
+add-t10 c = search needs
+
+returns-2 : tie.Need-returns-2
+returns-2 c = search (needs, number-one, not-true, not-false)
+
+returns-3 : tie.Need-returns-3
+returns-3 c = search (needs, number-zero, not-false)
+
+wide-requires-2 : tie.Need-wide-requires-2
+wide-requires-2 c κs = search needs
+
+sub-t11 : tie.Need-sub-t11
+sub-t11 c = search (needs, digits-from, not-true, not-false)
+
+mul-t12 : tie.Need-mul-t12
+mul-t12 c = search needs
+
+wide-requires-3 : tie.Need-wide-requires-3
+wide-requires-3 c κs = search needs
+
+sub-t14 : tie.Need-sub-t14
+sub-t14 c = search (needs, digits-from, not-true, not-false)
+
+add-t15 : tie.Need-add-t15
+add-t15 c = search needs
+
+add-t16 : tie.Need-add-t16
+add-t16 c = search needs
+
+returns-4 : tie.Need-returns-4
+returns-4 c = search (needs, number-two, not-false)
+
+pub number-spec : {M : Type 1} → statement M
+number-spec =
+    tie.close
+    (tie.spec
+    peek-requires
+    is-digit-requires
+    returns
+    add-peek
+    peek-requires-2
+    is-digit-requires-2
+    wide-requires
+    sub-t9
+    add-t10
+    returns-2
+    returns-3
+    wide-requires-2
+    sub-t11
+    mul-t12
+    wide-requires-3
+    sub-t14
+    add-t15
+    add-t16
+    returns-4)

@@ -1,0 +1,27 @@
+-- `nodes::places_at` meets its contract. Laws: NodeLaws.
+use Rattle.nodes.proofs.NodeLaws.{places-read}
+use borrow.Author.Needs.{needs}
+use Rattle.nodes.proofs.places_at.Statement.{statement}
+use Rattle.nodes.proofs.places_at.Tie as tie
+
+mul-wide : tie.Need-mul-wide
+mul-wide c = search needs
+
+add-wide : tie.Need-add-wide
+add-wide c = search needs
+
+mul-wide-2 : tie.Need-mul-wide-2
+mul-wide-2 c = search needs
+
+shared-slice-read-wide : tie.Need-shared-slice-read-wide
+shared-slice-read-wide c = search needs
+
+wide-requires : tie.Need-wide-requires
+wide-requires c κs = search needs
+
+returns : tie.Need-returns
+returns c = search (needs, places-read)
+
+pub places-at-spec : {M : Type 1} → statement M
+places-at-spec =
+    tie.close (tie.spec mul-wide add-wide mul-wide-2 shared-slice-read-wide wide-requires returns)

@@ -1,0 +1,139 @@
+// A pattern's node, a struct by value, and nodes kept as words in a lent slice, eight to a node. What is put is read back, and other
+// words are unchanged.
+ghost use mathlib.Core.Path.{_≡_};
+ghost use Prim.Native.Nat.{ℕ, _+_, _*_, _-_, _≤_, _<_, _%_};
+ghost use lib.ListN.{length};
+ghost use Rattle.nodes.specs.Nodes.{nodeAt, putNode, sortOf, wordOf, bitOf, Small};
+
+pub enum Sort {
+    Letter(u8),
+    Anchor(u8),
+    Empty,
+    Sequence,
+    Alternation,
+    Group,
+}
+
+// form: 0 no quantifier, 1 `*`, 2 `+`, 3 `?`, 4 `{n}`, 5 `{n,}`, 6 `{,m}`, 7 `{n,m}`. lazy: it is reluctant.
+// low, high: its bounds, high 100 if it is unbounded; 1 and 1 without a quantifier.
+// left, right: the numbers of its parts' nodes. height: above that of each part.
+// places: how many places it unrolls to, counted up to 257; of an alternation without its fork.
+pub struct Node {
+    pub sort: Sort,
+    pub form: usize,
+    pub lazy: bool,
+    pub low: usize,
+    pub high: usize,
+    pub left: usize,
+    pub right: usize,
+    pub height: usize,
+    pub places: usize,
+}
+
+fn wide(x: u16) -> usize
+    ensures { λ r. ⌜ (r ≡ x) × (r < 65536) ⌝ }
+{
+    x as usize
+}
+
+fn byte_of(w: u16) -> u8
+    ensures { λ r. ⌜ r ≡ _%_ w 256 ⌝ }
+{
+    (w % 256) as u8
+}
+
+// The sort that a word says.
+fn sort_of(w: u16) -> Sort
+    ensures { λ r. ⌜ r ≡ sortOf w ⌝ }
+{
+    let b = byte_of(w);
+    match w / 256 {
+        0 => Sort::Letter(b),
+        1 => Sort::Anchor(b),
+        2 => Sort::Empty,
+        3 => Sort::Sequence,
+        4 => Sort::Alternation,
+        _ => Sort::Group,
+    }
+}
+
+fn word_of(s: Sort) -> u16
+    ensures { λ r. ⌜ r ≡ wordOf s ⌝ }
+{
+    match s {
+        Sort::Letter(b) => b as u16,
+        Sort::Anchor(b) => 256 + b as u16,
+        Sort::Empty => 512,
+        Sort::Sequence => 768,
+        Sort::Alternation => 1024,
+        Sort::Group => 1280,
+    }
+}
+
+fn bit_of(b: bool) -> usize
+    ensures { λ r. ⌜ (r ≡ bitOf b) × (r ≤ 1) ⌝ }
+{
+    if b { 1 } else { 0 }
+}
+
+// A form and its reluctant mark in one word.
+fn form_word(form: usize, lazy: bool) -> u16
+    requires { ⌜ form < 32768 ⌝ }
+    ensures { λ r. ⌜ r ≡ form * 2 + bitOf lazy ⌝ }
+{
+    (form * 2 + bit_of(lazy)) as u16
+}
+
+// The node at i.
+pub fn node_at(room: &[u16], i: usize) -> Node
+    requires { ⌜ 8 * i + 8 ≤ length (now room) ⌝ }
+    ensures { λ r. ⌜ r ≡ nodeAt (now (room .entry)) i ⌝ }
+{
+    let at = i * 8;
+    let word = room[at];
+    let sort = sort_of(word);
+    Node {
+        sort,
+        form: wide(room[at + 1] / 2),
+        lazy: room[at + 1] % 2 == 1,
+        low: wide(room[at + 2]),
+        high: wide(room[at + 3]),
+        left: wide(room[at + 4]),
+        right: wide(room[at + 5]),
+        height: wide(room[at + 6]),
+        places: wide(room[at + 7]),
+    }
+}
+
+// The sort of the node at i, and its places, without the other words.
+pub fn sort_at(room: &[u16], i: usize) -> Sort
+    requires { ⌜ 8 * i + 8 ≤ length (now room) ⌝ }
+    ensures { λ r. ⌜ r ≡ (nodeAt (now (room .entry)) i) .sort ⌝ }
+{
+    let word = room[i * 8];
+    sort_of(word)
+}
+
+pub fn places_at(room: &[u16], i: usize) -> usize
+    requires { ⌜ 8 * i + 8 ≤ length (now room) ⌝ }
+    ensures { λ r. ⌜ r ≡ (nodeAt (now (room .entry)) i) .places ⌝ }
+{
+    wide(room[i * 8 + 7])
+}
+
+// Puts a node at i.
+pub fn put_node(room: &mut [u16], i: usize, n: Node)
+    requires { ⌜ (8 * i + 8 ≤ length (now room)) × Small n ⌝ }
+    ensures { λ _. ⌜ now (room .exit) ≡ putNode (now (room .entry)) i n ⌝ }
+{
+    let at = i * 8;
+    let sort = n.sort;
+    room[at] = word_of(sort);
+    room[at + 1] = form_word(n.form, n.lazy);
+    room[at + 2] = n.low as u16;
+    room[at + 3] = n.high as u16;
+    room[at + 4] = n.left as u16;
+    room[at + 5] = n.right as u16;
+    room[at + 6] = n.height as u16;
+    room[at + 7] = n.places as u16;
+}
