@@ -14,8 +14,8 @@ use Rattle.rules.specs.Report.{matchNumbers, numbersOf, labelsOf, notesOf, zero
 use Rattle.rules.specs.Answers.{Buffers, taskOf, walked, walkOf, stopped, reportOf, accepted}
 use Rattle.rules.proofs.Distinct.{thinned, labels-thin}
 use Rattle.decode.specs.Layout.{measuresIn}
-use Rattle.walk.specs.Tables.{Tables, N}
-use Rattle.walk.specs.Letters.{holdsIn}
+use Rattle.pairs.specs.Tables.{Tables, N}
+use Rattle.pairs.specs.Letters.{holdsIn}
 use Rattle.sweep.specs.Asked as S
 use Rattle.sweep.specs.Asked.{asked}
 use Rattle.sweep.specs.Searched.{Answered}

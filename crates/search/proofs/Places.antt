@@ -20,9 +20,9 @@ use Rattle.rules.proofs.PatternWalk.{top}
 use Rattle.rules.proofs.Rank.{rank}
 use Rattle.rules.proofs.ThinPlaces.{Leads, Spelt, thinned-leads, thinned-falls, thinned-spelt}
 use Rattle.places.specs.Tables as F
-use Rattle.walk.specs.Step.{after}
-use Rattle.walk.specs.Tables as W
-use Rattle.walk.proofs.Ways.{in-length, in-at}
+use Rattle.pairs.specs.Step.{after}
+use Rattle.pairs.specs.Tables as W
+use Rattle.pairs.proofs.Ways.{in-length, in-at}
 use Rattle.search.specs.Spread.{sortOf, letterOf, beginOf, stopOf, codeBy, firstBy, secondBy, codeOf, nextOf, entryOf, Parted}
 use Rattle.search.proofs.Forking.{Wayed, thinned-wayed}
 

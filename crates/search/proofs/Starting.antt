@@ -32,8 +32,8 @@ use Rattle.decode.specs.Layout.{Decoded, Body, definedAt, measureIn, measuresIn
 use Rattle.places.specs.Emitting.{Unrolling, Tabled}
 use Rattle.tests.specs.Tests.{Prepared, Preparable, Letters}
 use Rattle.tests.proofs.Uses.{preparable, word-seven, letters-room}
-use Rattle.walk.specs.Letters.{holdsIn}
-use Rattle.walk.specs.Tables as W
+use Rattle.pairs.specs.Letters.{holdsIn}
+use Rattle.pairs.specs.Tables as W
 use Rattle.sweep.specs.Asked as S
 use Rattle.sweep.specs.Asked.{asked}
 use Rattle.sweep.specs.Found.{Measured}

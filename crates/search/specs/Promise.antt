@@ -20,9 +20,9 @@ use Rattle.decode.specs.Layout.{measuresIn, Decoded}
 use Rattle.decode.specs.declared.Parts.{Parts}
 use Rattle.rules.specs.Search.{Match}
 use Rattle.rules.specs.Report.{numbersOf, labelsOf}
-use Rattle.walk.specs.Tables.{Tables, N, placesIn}
+use Rattle.pairs.specs.Tables.{Tables, N, placesIn}
 use Rattle.tests.specs.Tests.{Letters}
-use Rattle.walk.specs.Letters.{holdsIn}
+use Rattle.pairs.specs.Letters.{holdsIn}
 use Rattle.sweep.specs.Asked as S
 use Rattle.sweep.specs.Asked.{asked}
 use Rattle.sweep.specs.Searched.{Searches}

@@ -5,7 +5,7 @@ use Prim.Native.Nat.{ℕ, _+_, _*_, _%_, _≤_, _<_}
 use lib.Dec.{eqb}
 use lib.ListN.{length, getD}
 use Rattle.rules.specs.Basics.{pick}
-use Rattle.walk.specs.Step.{after}
+use Rattle.pairs.specs.Step.{after}
 
 -- the first k entries of a table are these
 pub record Filled (l l′ : List ℕ) (f : ℕ → ℕ) (k : ℕ) : Type 0 where

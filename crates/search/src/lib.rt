@@ -6,7 +6,7 @@ ghost use lib.ListN.{length, getD, set};
 ghost use mathlib.Core.Bool.{Bool, true, false};
 ghost use lib.Dec.{eqb};
 ghost use Rattle.rules.specs.Basics.{pick};
-ghost use Rattle.walk.specs.Tables.{tables};
+ghost use Rattle.pairs.specs.Tables.{tables};
 ghost use Rattle.room.specs.Reading.{Nodes};
 ghost use Rattle.search.specs.Promise.{lent, memory, refusal, ended, Promised, Walks, WalksIn, Runs};
 ghost use Rattle.search.specs.Spread.{codeBy, firstBy, secondBy, codeOf, nextOf, entryOf, stopOf, Spreads, Parts, Parted};

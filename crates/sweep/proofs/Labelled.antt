@@ -12,11 +12,11 @@ use Rattle.rules.specs.Basics.{pick, wrote}
 use Rattle.rules.specs.Places.{Place, pLetter, pCaret, pDollar, pFork, pEnd}
 use Rattle.rules.specs.Search.{labels, labelOf, nextStart}
 use Rattle.rules.proofs.Appended.{wrote-none, length-wrote-at}
-use Rattle.walk.specs.Tables.{Tables, P, waysOf, placeBy, placeAt, placesIn}
-use Rattle.walk.specs.Step.{placeIn, pairIn, stack}
-use Rattle.walk.specs.State.{takes, Onto, Linked, Word}
-use Rattle.walk.proofs.Ways.{in-length, in-at}
-use Rattle.walk.proofs.Trails.{word-place}
+use Rattle.pairs.specs.Tables.{Tables, P, waysOf, placeBy, placeAt, placesIn}
+use Rattle.pairs.specs.Step.{placeIn, pairIn, stack}
+use Rattle.pairs.specs.State.{takes, Onto, Linked, Word}
+use Rattle.pairs.proofs.Ways.{in-length, in-at}
+use Rattle.pairs.proofs.Trails.{word-place}
 use Rattle.sweep.specs.Asked.{labelsOn}
 use Rattle.sweep.specs.Found.{ifLetter, labelBy, OneMore, PutsLabel, Labels}
 

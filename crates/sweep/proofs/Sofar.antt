@@ -18,8 +18,8 @@ use Rattle.rules.proofs.Appended.{wrote-none, wrote-on, length-wrote-at, number
 use Rattle.rules.proofs.Limits.{numbers-long}
 use Rattle.rules.proofs.Notes.{bitsOf}
 use Rattle.rules.proofs.Starts.{next-on}
-use Rattle.walk.specs.Tables.{N, graphOf}
-use Rattle.walk.proofs.Ways.{in-length}
+use Rattle.pairs.specs.Tables.{N, graphOf}
+use Rattle.pairs.proofs.Ways.{in-length}
 use Rattle.sweep.specs.declared.Sweep.{Sweep}
 use Rattle.sweep.specs.Asked.{Asked, pl, width, searchOf}
 use Rattle.sweep.specs.Found.{swept, Quiet, Written, ToldBy, Told, Visits, attemptAt, Visited}

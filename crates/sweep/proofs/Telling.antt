@@ -19,12 +19,12 @@ use Rattle.rules.proofs.Appended.{length-wrote-at, fits-room}
 use Rattle.rules.proofs.Lists.{length-tabulate}
 use Rattle.decode.specs.Layout.{measuresIn}
 use Rattle.report.specs.Measures.{Appendable}
-use Rattle.walk.specs.declared.Walk.{Walk}
-use Rattle.walk.specs.Tables.{Tables, P, waysOf, placeAt, placesIn}
-use Rattle.walk.specs.Step.{pairIn, stack, pairOf}
-use Rattle.walk.specs.State.{takes}
-use Rattle.walk.proofs.Ways.{in-length, by-high}
-use Rattle.walk.proofs.Trails.{path-top, path-linked, path-row, path-at}
+use Rattle.pairs.specs.declared.Walk.{Walk}
+use Rattle.pairs.specs.Tables.{Tables, P, waysOf, placeAt, placesIn}
+use Rattle.pairs.specs.Step.{pairIn, stack, pairOf}
+use Rattle.pairs.specs.State.{takes}
+use Rattle.pairs.proofs.Ways.{in-length, by-high}
+use Rattle.pairs.proofs.Trails.{path-top, path-linked, path-row, path-at}
 use Rattle.sweep.specs.declared.Sweep.{Sweep}
 use Rattle.sweep.specs.Asked.{asked, pathOn, labelsOn}
 use Rattle.sweep.specs.Found.{Labels, Told, Reports}

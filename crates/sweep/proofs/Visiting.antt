@@ -12,13 +12,13 @@ use Rattle.rules.specs.Search.{Kept, answered}
 use Rattle.rules.specs.Walk.{Ways, accept, try, Outcome, found, failed, close, tries, enterUnless, inside, insideBy, countTrue}
 use Rattle.rules.proofs.Notes.{bitsOf, bitsFrom-length}
 use Rattle.rules.proofs.Walk.{InsidePost, inside-post}
-use Rattle.walk.specs.declared.Walk.{Walk}
-use Rattle.walk.specs.Tables.{Tables, P, N, graphOf}
-use Rattle.walk.specs.Step.{pairIn, stack, outcomeBy}
-use Rattle.walk.specs.State.{Ready, Done}
-use Rattle.walk.proofs.Trails.{stack-length}
-use Rattle.walk.proofs.Trying.{pair-in}
-use Rattle.walk.proofs.Going.{good-room, top-row}
+use Rattle.pairs.specs.declared.Walk.{Walk}
+use Rattle.pairs.specs.Tables.{Tables, P, N, graphOf}
+use Rattle.pairs.specs.Step.{pairIn, stack, outcomeBy}
+use Rattle.pairs.specs.State.{Ready, Done}
+use Rattle.pairs.proofs.Trails.{stack-length}
+use Rattle.pairs.proofs.Trying.{pair-in}
+use Rattle.pairs.proofs.Going.{good-room, top-row}
 use Rattle.sweep.specs.declared.Sweep.{Sweep}
 use Rattle.sweep.specs.Asked.{Asked, pathOn}
 use Rattle.sweep.specs.Found.{Told, Reports, Visits, attemptAt, Visited}

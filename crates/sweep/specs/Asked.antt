@@ -8,8 +8,8 @@ use Rattle.rules.specs.Query.{Measure}
 use Rattle.rules.specs.Report.{fits}
 use Rattle.rules.specs.Rows.{Table}
 use Rattle.rules.specs.Search.{Swept, Kept, labels, walkSearch}
-use Rattle.walk.specs.Step.{stack}
-use Rattle.walk.specs.Tables.{Tables, P, placesIn}
+use Rattle.pairs.specs.Step.{stack}
+use Rattle.pairs.specs.Tables.{Tables, P, placesIn}
 
 -- the places in tables, when a letter holds at a row, the number of rows, the skip mode (to the next row), the rows, and the measures
 pub record Asked : Type 0 where

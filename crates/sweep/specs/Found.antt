@@ -11,10 +11,10 @@ use Rattle.rules.specs.Basics.{wrote}
 use Rattle.rules.specs.Report.{bitAt, matchNumbers, fits}
 use Rattle.rules.specs.Search.{Kept, answered, labels, nextStart, endOf}
 use Rattle.rules.proofs.Notes.{bitsOf}
-use Rattle.walk.specs.declared.Walk.{Walk}
-use Rattle.walk.specs.Tables.{Tables, P, N, Legal}
-use Rattle.walk.specs.Step.{pairIn}
-use Rattle.walk.specs.State.{Word, OnPath, attemptBy}
+use Rattle.pairs.specs.declared.Walk.{Walk}
+use Rattle.pairs.specs.Tables.{Tables, P, N, Legal}
+use Rattle.pairs.specs.Step.{pairIn}
+use Rattle.pairs.specs.State.{Word, OnPath, attemptBy}
 use Rattle.sweep.specs.declared.Sweep.{Sweep}
 use Rattle.sweep.specs.Asked.{Asked, pl, width, labelsOn}
 

@@ -10,7 +10,7 @@ use Rattle.rules.specs.Basics.{wrote}
 use Rattle.rules.specs.Report.{bitAt, numbersOf, labelsOf, notesOf, zeros}
 use Rattle.rules.specs.Search.{Swept, Kept}
 use Rattle.rules.proofs.Notes.{bitsOf}
-use Rattle.walk.specs.Tables.{N, Legal}
+use Rattle.pairs.specs.Tables.{N, Legal}
 use Rattle.sweep.specs.declared.Sweep.{Sweep}
 use Rattle.sweep.specs.Asked.{Asked, pl, searchOf}
 use Rattle.sweep.specs.Found.{Measured}

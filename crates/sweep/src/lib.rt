@@ -1,15 +1,15 @@
 // The whole search by the counted walk: all starts, each with one attempt; the matches written as they are found; and the buffers left as the report says.
-use walk::Walk;
+use pairs::Walk;
 ghost use mathlib.Core.Path.{_≡_};
 ghost use mathlib.Core.Bool.{Bool, true, false};
 ghost use Prim.Native.Nat.{ℕ, _+_, _-_, _*_, _/_, _<_, _≤_};
 ghost use lib.ListN.{length, getD};
 ghost use Rattle.rules.specs.Basics.{wrote};
 ghost use Rattle.rules.specs.Search.{nextStart};
-ghost use Rattle.walk.specs.Step.{placeIn};
-ghost use Rattle.walk.specs.Tables.{tables};
+ghost use Rattle.pairs.specs.Step.{placeIn};
+ghost use Rattle.pairs.specs.Tables.{tables};
 ghost use Rattle.tests.specs.Tests.{Letters};
-ghost use Rattle.walk.specs.Letters.{holdsIn};
+ghost use Rattle.pairs.specs.Letters.{holdsIn};
 ghost use Rattle.sweep.specs.Asked.{asked, labelsOn, pathOn};
 ghost use mathlib.Core.Option.{some};
 ghost use Rattle.rules.specs.Rows.{tableOf};

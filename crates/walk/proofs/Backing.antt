@@ -14,14 +14,14 @@ use borrow.Author.Tests.{ltb-true, ltb-false}
 use Rattle.rules.specs.Basics.{pick}
 use Rattle.rules.specs.Report.{bitAt}
 use Rattle.rules.proofs.Notes.{marked}
-use Rattle.walk.specs.declared.Walk.{Walk}
-use Rattle.walk.specs.Tables.{Tables, P, N, second, leftFrom, waysOf}
-use Rattle.walk.specs.Step.{oneUnless, placeIn, rowIn, wayIn, pairIn, stack, walkAt, tryAt, after, wentOn, Noted}
-use Rattle.walk.specs.State.{Word, rowFrom, wayAt, reach, Led, Stuck, Good, left, restAt, rest, resumed, comes, Reached, Halts, Backward}
-use Rattle.walk.proofs.Ways.{left-none, left-some, ways-length, ways-later, takes-no-row}
-use Rattle.walk.proofs.Trails.{went-place, went-row, went-way, stack-same}
-use Rattle.walk.proofs.Going.{never, good-room, comes-idle, top-word, top-below, top-out, top-byte, leave-reached, leave-less}
-use Rattle.walk.proofs.Trying.{turn-noted, turn-tried}
+use Rattle.pairs.specs.declared.Walk.{Walk}
+use Rattle.pairs.specs.Tables.{Tables, P, N, second, leftFrom, waysOf}
+use Rattle.pairs.specs.Step.{oneUnless, placeIn, rowIn, wayIn, pairIn, stack, walkAt, tryAt, after, wentOn, Noted}
+use Rattle.pairs.specs.State.{Word, rowFrom, wayAt, reach, Led, Stuck, Good, left, restAt, rest, resumed, comes, Reached, Halts, Backward}
+use Rattle.pairs.proofs.Ways.{left-none, left-some, ways-length, ways-later, takes-no-row}
+use Rattle.pairs.proofs.Trails.{went-place, went-row, went-way, stack-same}
+use Rattle.pairs.proofs.Going.{never, good-room, comes-idle, top-word, top-below, top-out, top-byte, leave-reached, leave-less}
+use Rattle.pairs.proofs.Trying.{turn-noted, turn-tried}
 
 -- ---- the way behind a way
 

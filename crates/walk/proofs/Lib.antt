@@ -1,7 +1,2 @@
-pub mod Small
-pub mod Ways
-pub mod Trails
-pub mod Going
-pub mod Trying
 pub mod Backing
 pub mod Whole

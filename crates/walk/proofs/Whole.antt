@@ -11,13 +11,13 @@ use lib.ListN.{getD}
 use Rattle.rules.specs.Report.{bitAt}
 use Rattle.rules.proofs.Machine.{resume, resume-one}
 use Rattle.rules.proofs.Notes.{bitsOf, bitsOf-at}
-use Rattle.walk.specs.declared.Walk.{Walk}
-use Rattle.walk.specs.Tables.{Tables, P, N, graphOf, passesBy}
-use Rattle.walk.specs.Step.{oneUnless, mem, placeIn, wayIn, stack, walkAt, tryAt, enteredBy, outcomeBy, Noted, Enters}
-use Rattle.walk.specs.State.{Word, Good, Next, Ends, Stands, State, Goes, Idle, Halts, Moves, left, restAt, rest, resumed, entering, comes, Reached, Onward, Backward, Descended, Retreated, Ran, Ready, attemptBy, Done}
-use Rattle.walk.proofs.Ways.{left-none, left-some}
-use Rattle.walk.proofs.Going.{never, comes-idle, reached-none, reached-on, top-end}
-use Rattle.walk.proofs.Trying.{pair-in, goes-enters, goes-on}
+use Rattle.pairs.specs.declared.Walk.{Walk}
+use Rattle.pairs.specs.Tables.{Tables, P, N, graphOf, passesBy}
+use Rattle.pairs.specs.Step.{oneUnless, mem, placeIn, wayIn, stack, walkAt, tryAt, enteredBy, outcomeBy, Noted, Enters}
+use Rattle.pairs.specs.State.{Word, Good, Next, Ends, Stands, State, Goes, Idle, Halts, Moves, left, restAt, rest, resumed, entering, comes, Reached, Onward, Backward, Descended, Retreated, Ran, Ready, attemptBy, Done}
+use Rattle.pairs.proofs.Ways.{left-none, left-some}
+use Rattle.pairs.proofs.Going.{never, comes-idle, reached-none, reached-on, top-end}
+use Rattle.pairs.proofs.Trying.{pair-in, goes-enters, goes-on}
 
 pub state-of : (T : Tables) (holds : ℕ → ℕ → Bool) (n : ℕ) (Q : Type 0) (n₁ t₁ notes trail : List ℕ) (w₁ w : Walk)
     → Reached T holds n Q n₁ t₁ (comes T holds n n₁ t₁ w₁) notes trail w → State T holds n Q notes trail w

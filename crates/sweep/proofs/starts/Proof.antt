@@ -3,9 +3,9 @@ use Prim.Native.Nat.{_-_}
 use Rattle.sweep.specs.Asked.{asked}
 use Rattle.decode.specs.Layout.{measuresIn}
 use Rattle.rules.specs.Rows.{tableOf}
-use Rattle.walk.specs.Tables.{tables}
+use Rattle.pairs.specs.Tables.{tables}
 use Rattle.tests.specs.Tests.{Letters}
-use Rattle.walk.specs.Letters.{holdsIn}
+use Rattle.pairs.specs.Letters.{holdsIn}
 use Rattle.sweep.proofs.Sofar.{SoFar, so-none, so-numbers, so-labels, so-visits, so-more, so-less, so-all}
 use Rattle.sweep.proofs.starts.Statement.{statement}
 use Rattle.sweep.proofs.starts.Tie as tie

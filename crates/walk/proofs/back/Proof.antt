@@ -1,5 +1,5 @@
 -- `walk::back` meets its contract by the laws of Small and Backing.
-use Rattle.walk.proofs.Small.{open-of, is-one, is-zero}
+use Rattle.pairs.proofs.Small.{open-of, is-one, is-zero}
 use Rattle.walk.proofs.Backing.{back-at, back-base, back-pair, back-marks, back-none, back-place, back-way, back-stop, back-noted, back-put, back-tried, back-last}
 use native.Mathlib.Omega.{arith}
 use mathlib.Core.Logic.{inl, inr}

@@ -1,10 +1,10 @@
 -- `walk::descend` meets its contract by the laws of Whole. The invariant and the measure of its loop come first.
 use borrow.Author.Needs.{needs}
 use Rattle.walk.proofs.Whole.{Descending, on-none, on-end, on-enters, on-more, on-less}
-use Rattle.walk.specs.State.{left}
+use Rattle.pairs.specs.State.{left}
 use Rattle.tests.specs.Tests.{Letters}
-use Rattle.walk.specs.Letters.{holdsIn}
-use Rattle.walk.specs.Tables.{tables, N}
+use Rattle.pairs.specs.Letters.{holdsIn}
+use Rattle.pairs.specs.Tables.{tables, N}
 use Rattle.walk.proofs.descend.Statement.{statement}
 use Rattle.walk.proofs.descend.Tie as tie
 

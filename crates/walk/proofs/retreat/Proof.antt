@@ -2,8 +2,8 @@
 use borrow.Author.Needs.{needs}
 use Rattle.walk.proofs.Whole.{Retreating, behind, off-none, off-down, off-end, off-halts, off-more, off-less}
 use Rattle.tests.specs.Tests.{Letters}
-use Rattle.walk.specs.Letters.{holdsIn}
-use Rattle.walk.specs.Tables.{tables, N}
+use Rattle.pairs.specs.Letters.{holdsIn}
+use Rattle.pairs.specs.Tables.{tables, N}
 use Rattle.walk.proofs.retreat.Statement.{statement}
 use Rattle.walk.proofs.retreat.Tie as tie
 

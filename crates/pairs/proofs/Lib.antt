@@ -1,0 +1,5 @@
+pub mod Small
+pub mod Ways
+pub mod Trails
+pub mod Going
+pub mod Trying

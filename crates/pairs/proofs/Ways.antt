@@ -1,0 +1,263 @@
+-- What the tables say of a pair: its ways, by the code of its place.
+use mathlib.Core.Path.{_≡_, refl, ap, _∙_}
+use mathlib.Core.List.{List, [], _∷_, map}
+use mathlib.Core.Bool.{Bool, true, false, true≢false}
+use Prim.Native.Nat.{ℕ, zero, suc, _+_, _-_, _*_, _/_, _%_, _≤_, _<_}
+use native.Mathlib.Nat.{le-of-suc-le-suc, not-suc-le-zero, add-zero}
+use mathlib.Core.Logic.{_≢_}
+use native.Mathlib.Decide.{ℕ-discrete}
+use native.Mathlib.Omega.{arith}
+use lib.Arith.{digits-div, digits-mod}
+use lib.Dec.{ltb, eqb}
+use lib.ListN.{length, getD}
+use borrow.Author.Tests.{ne-eqb, eqb-false, lt-ltb, le-ltb, ltb-true, ltb-false}
+use Rattle.rules.specs.Basics.{pick}
+use Rattle.rules.specs.Places.{Place, pLetter, pCaret, pDollar, pFork, pEnd}
+use Rattle.rules.specs.Walk.{Ways, accept, try, waysAt, pairWays}
+use Rattle.rules.proofs.Walk.{All}
+use Rattle.pairs.specs.Tables.{Tables, P, span, leftFrom, second, waysOf, placeBy, placeAt, placesFrom, placesIn, graphOf, passesBy, Sized, Leads}
+use Rattle.pairs.specs.State.{takes}
+
+-- ---- the places
+
+module _ (T : Tables) where
+  from-length : (m q : ℕ) → length (placesFrom T q m) ≡ m
+  unfolding placesFrom
+  from-length zero q = refl
+  from-length (suc m) q = ap suc (from-length m (suc q))
+
+  from-at : (m q i : ℕ) → i < m → getD (placesFrom T q m) i (pFork []) ≡ placeAt T (q + i)
+  unfolding placesFrom
+  from-at zero q i h = absurd (not-suc-le-zero h)
+  from-at (suc m) q zero h = rw add-zero
+  from-at (suc m) q (suc i) h =
+      let e : q + suc i ≡ suc q + i = omega arith in
+      rw e (from-at m (suc q) i (le-of-suc-le-suc h))
+
+  pub in-length : length (placesIn T) ≡ P T
+  unfolding placesIn
+  in-length = from-length (P T) 0
+
+  pub in-at : (q : ℕ) → q < P T → getD (placesIn T) q (pFork []) ≡ placeAt T q
+  unfolding placesIn
+  in-at q h = let e : 0 + q ≡ q = omega arith in rw e at (from-at (P T) 0 q h)
+
+-- ---- the ways of a place
+
+span-length : (w : List ℕ) (m j : ℕ) → length (span w j m) ≡ m
+unfolding span
+span-length w zero j = refl
+span-length w (suc m) j = ap suc (span-length w m (suc j))
+
+span-at : (w : List ℕ) (m j i : ℕ) → i < m → getD (span w j m) i 0 ≡ getD w (j + i) 0
+unfolding span
+span-at w zero j i h = absurd (not-suc-le-zero h)
+span-at w (suc m) j zero h = rw add-zero
+span-at w (suc m) j (suc i) h = let e : j + suc i ≡ suc j + i = omega arith in rw e (span-at w m (suc j) i (le-of-suc-le-suc h))
+
+pub left-none : (T : Tables) (q j : ℕ) → j ≡ 0 → leftFrom T q j ≡ 0
+unfolding leftFrom
+left-none T q j e = rw e
+
+pub left-some : (T : Tables) (q j : ℕ) → 0 < j → leftFrom T q j ≡ getD (T .stop) q 0 - j
+unfolding leftFrom
+left-some T q j h = rw (ne-eqb j 0 (λ (e : j ≡ 0). omega arith))
+
+module _ (T : Tables) (q : ℕ) where
+  pub ways-length : length (waysOf T q) ≡ suc (leftFrom T q (second T q))
+  unfolding waysOf
+  ways-length = ap suc (span-length (T .ways) (leftFrom T q (second T q)) (second T q))
+
+  pub ways-first : getD (waysOf T q) 0 0 ≡ getD (T .next) q 0
+  unfolding waysOf
+  ways-first = refl
+
+  pub ways-later : (j m : ℕ) → j ≡ second T q + m → m < leftFrom T q (second T q) → getD (waysOf T q) (suc m) 0 ≡ getD (T .ways) j 0
+  unfolding waysOf
+  ways-later j m e h = rw e (span-at (T .ways) (leftFrom T q (second T q)) (second T q) m h)
+
+  -- a place without a second way leads to one place
+  pub ways-one : second T q ≡ 0 → waysOf T q ≡ getD (T .next) q 0 ∷ []
+  unfolding waysOf span
+  ways-one e = rw (left-none T q (second T q) e)
+
+pub each : (Q : ℕ → Type 0) (ks : List ℕ) → All Q ks → (m : ℕ) → m < length ks → Q (getD ks m 0)
+each Q [] a m h = absurd (not-suc-le-zero h)
+each Q (k ∷ ks) a zero h = a .0
+each Q (k ∷ ks) a (suc m) h = each Q ks (a .1) m (le-of-suc-le-suc h)
+
+-- ---- by the code
+
+module _ (holds : ℕ → ℕ → Bool) (n P k : ℕ) (ks : List ℕ) (i : ℕ) where
+  abbrev At : ℕ → Ways
+  At c = waysAt holds n P (placeBy c k ks) i
+
+  -- a place that does not pass tries nothing
+  by-shut : (c : ℕ) → passesBy holds n c i ≡ false → At c ≡ try []
+  unfolding placeBy waysAt passesBy
+  by-shut c e = low (ltb c 26) refl
+    where
+      low : (b : Bool) → ltb c 26 ≡ b → At c ≡ try []
+      low true l = let d = rw l at e in rw (l, d)
+      low false l = caret (eqb c 26) refl
+        where
+          caret : (b : Bool) → eqb c 26 ≡ b → At c ≡ try []
+          caret true x = let d = rw (l, x) at e in rw (l, x, d)
+          caret false x = dollar (eqb c 27) refl
+            where
+              dollar : (b : Bool) → eqb c 27 ≡ b → At c ≡ try []
+              dollar true y = let d = rw (l, x, y) at e in rw (l, x, y, d)
+              dollar false y = let d : true ≡ false = rw (l, x, y) at e in absurd (true≢false d)
+
+  by-letter : (c : ℕ) → c < 26 → passesBy holds n c i ≡ true → At c ≡ try ((suc i * P + k) ∷ [])
+  unfolding placeBy waysAt passesBy
+  by-letter c l e = let d = rw (lt-ltb c 26 l) at e in rw (lt-ltb c 26 l, d)
+
+  by-caret : (c : ℕ) → c ≡ 26 → passesBy holds n c i ≡ true → At c ≡ try ((i * P + k) ∷ [])
+  unfolding placeBy waysAt passesBy
+  by-caret c l e = let d : eqb i 0 ≡ true = rw l at e in rw (l, d)
+
+  by-dollar : (c : ℕ) → c ≡ 27 → passesBy holds n c i ≡ true → At c ≡ try ((i * P + k) ∷ [])
+  unfolding placeBy waysAt passesBy
+  by-dollar c l e = let d : eqb i n ≡ true = rw l at e in rw (l, d)
+
+  is-fork : (c : ℕ) → 28 ≤ c → c ≤ 29 → placeBy c k ks ≡ pFork ks
+  unfolding placeBy
+  is-fork c l m =
+      rw (le-ltb c 26 (omega arith), ne-eqb c 26 (λ (e : c ≡ 26). omega arith), ne-eqb c 27 (λ (e : c ≡ 27). omega arith), lt-ltb c 30 (let z : c < 30 = omega arith in z))
+
+  by-fork : (c : ℕ) → 28 ≤ c → c ≤ 29 → At c ≡ try (map (λ k. i * P + k) ks)
+  unfolding waysAt
+  by-fork c l m = rw (is-fork c l m)
+
+  by-end : (c : ℕ) → 29 < c → placeBy c k ks ≡ pEnd
+  unfolding placeBy
+  by-end c l =
+      rw (le-ltb c 26 (omega arith), ne-eqb c 26 (λ (e : c ≡ 26). omega arith), ne-eqb c 27 (λ (e : c ≡ 27). omega arith), le-ltb c 30 (let z : 30 ≤ c = omega arith in z))
+
+  by-low : (c : ℕ) → c < 26 → placeBy c k ks ≡ pLetter (c + 65) k
+  unfolding placeBy
+  by-low c l = rw (lt-ltb c 26 l)
+
+  pub by-high : (c : ℕ) → 26 ≤ c → takes (placeBy c k ks) ≡ 0
+  unfolding placeBy
+  by-high c l = rw (le-ltb c 26 l) (caret (eqb c 26) (eqb c 27) (ltb c 30))
+    where
+      caret : (x y z : Bool) → takes (pick x (pCaret k) (pick y (pDollar k) (pick z (pFork ks) pEnd))) ≡ 0
+      caret true y z = refl
+      caret false true z = refl
+      caret false false true = refl
+      caret false false false = refl
+
+  -- a place before the forks leads on
+  by-leads : (c : ℕ) → c < 28 → Leads P (placeBy c k ks) → k < P
+  unfolding placeBy
+  by-leads c h l = low (ltb c 26) refl l
+    where
+      high : (x y z : Bool) → eqb c 26 ≡ x → eqb c 27 ≡ y → 26 ≤ c → Leads P (pick x (pCaret k) (pick y (pDollar k) (pick z (pFork ks) pEnd))) → k < P
+      high true y z a b m l = l
+      high false true z a b m l = l
+      high false false z a b m l = let u : c ≢ 26 = eqb-false c 26 a in let v : c ≢ 27 = eqb-false c 27 b in absurd (omega arith)
+
+      low : (b : Bool) → ltb c 26 ≡ b → Leads P (pick b (pLetter (c + 65) k) (pick (eqb c 26) (pCaret k) (pick (eqb c 27) (pDollar k) (pick (ltb c 30) (pFork ks) pEnd)))) → k < P
+      low true e l = l
+      low false e l = high (eqb c 26) (eqb c 27) (ltb c 30) refl refl (ltb-false c 26 e) l
+
+  by-leads-fork : (c : ℕ) → 28 ≤ c → c ≤ 29 → Leads P (placeBy c k ks) → All (λ k. k < P) ks
+  by-leads-fork c h m l = let d : Leads P (pFork ks) = rw (is-fork c h m) at l in d
+
+-- ---- the pair of a place q at row i
+
+module _ (T : Tables) (holds : ℕ → ℕ → Bool) (n q i : ℕ) (place : q < P T) where
+  abbrev x : ℕ
+  x = i * P T + q
+
+  abbrev code : ℕ
+  code = getD (T .code) q 0
+
+  abbrev next : ℕ
+  next = getD (T .next) q 0
+
+  pub pair-row : x / P T ≡ i
+  pair-row = digits-div i place
+
+  pub pair-place : x % P T ≡ q
+  pair-place = digits-mod i place
+
+  graph-at : graphOf T holds n x ≡ waysAt holds n (P T) (placeAt T q) i
+  unfolding graphOf pairWays
+  graph-at = rw (in-length T, pair-row, pair-place, in-at T q place)
+
+  pub ways-shut : passesBy holds n code i ≡ false → graphOf T holds n x ≡ try []
+  unfolding placeAt
+  ways-shut e = graph-at ∙ by-shut holds n (P T) next (waysOf T q) i code e
+
+  -- a letter that passes leads to one pair
+  pub ways-letter : code < 26 → passesBy holds n code i ≡ true → graphOf T holds n x ≡ try ((suc i * P T + next) ∷ [])
+  unfolding placeAt
+  ways-letter l p = graph-at ∙ by-letter holds n (P T) next (waysOf T q) i code l p
+
+  pub ways-end : 29 < code → graphOf T holds n x ≡ accept
+  unfolding placeAt waysAt
+  ways-end h = graph-at ∙ ap (λ (p : Place). waysAt holds n (P T) p i) (by-end holds n (P T) next (waysOf T q) i code h)
+
+  pub takes-row : code < 26 → takes (placeAt T q) ≡ 1
+  unfolding placeAt
+  takes-row h = ap takes (by-low holds n (P T) next (waysOf T q) i code h)
+
+  pub takes-no-row : 26 ≤ code → takes (placeAt T q) ≡ 0
+  unfolding placeAt
+  takes-no-row h = by-high holds n (P T) next (waysOf T q) i code h
+
+  -- the places of all its ways
+  pub leads-each : Sized T → code ≤ 29 → Leads (P T) (placeAt T q) → (m : ℕ) → m < length (waysOf T q) → getD (waysOf T q) m 0 < P T
+  unfolding placeAt
+  leads-each z h l m b = go (ltb code 28) refl
+    where
+      go : (t : Bool) → ltb code 28 ≡ t → getD (waysOf T q) m 0 < P T
+      go true e =
+          let c = ltb-true code 28 e in
+          each (λ k. k < P T) (waysOf T q) (rw (ways-one T q (z .one q place c)) (by-leads holds n (P T) next (waysOf T q) i code c l, tt)) m b
+      go false e = each (λ k. k < P T) (waysOf T q) (by-leads-fork holds n (P T) next (waysOf T q) i code (ltb-false code 28 e) h l) m b
+
+  module _ (z : Sized T) (p : passesBy holds n code i ≡ true) (h : code ≤ 29) where
+    -- a place that passes tries all its ways
+    pub ways-are : graphOf T holds n x ≡ try (map (λ k. (i + takes (placeAt T q)) * P T + k) (waysOf T q))
+    unfolding placeAt
+    ways-are = graph-at ∙ by-code (ltb code 26) refl
+      where
+        one : code < 28 → waysOf T q ≡ next ∷ []
+        one l = ways-one T q (z .one q place l)
+
+        anchor : 26 ≤ code → code < 28 → waysAt holds n (P T) (placeAt T q) i ≡ try ((i * P T + next) ∷ []) → waysAt holds n (P T) (placeAt T q) i ≡ try (map (λ k. (i + takes (placeAt T q)) * P T + k) (waysOf T q))
+        anchor l m e =
+            let t : i + takes (placeAt T q) ≡ i = let a = takes-no-row l in omega arith in
+            let r : try ((i * P T + next) ∷ []) ≡ try (map (λ k. (i + takes (placeAt T q)) * P T + k) (waysOf T q)) = rw (t, one m) in
+            e ∙ r
+
+        by-code : (b : Bool) → ltb code 26 ≡ b → waysAt holds n (P T) (placeAt T q) i ≡ try (map (λ k. (i + takes (placeAt T q)) * P T + k) (waysOf T q))
+        by-code true e =
+            let l = ltb-true code 26 e in
+            let t : i + takes (placeAt T q) ≡ suc i = let a = takes-row l in omega arith in
+            let r : try ((suc i * P T + next) ∷ []) ≡ try (map (λ k. (i + takes (placeAt T q)) * P T + k) (waysOf T q)) = rw (t, one (omega arith)) in
+            by-letter holds n (P T) next (waysOf T q) i code l p ∙ r
+        by-code false e = let l = ltb-false code 26 e in elim (ℕ-discrete code 26) [
+          | yes c ↦ anchor l (omega arith) (by-caret holds n (P T) next (waysOf T q) i code c p)
+          | no c ↦ elim (ℕ-discrete code 27) [
+            | yes d ↦ anchor l (omega arith) (by-dollar holds n (P T) next (waysOf T q) i code d p)
+            | no d ↦ fork (omega arith)
+          ]
+        ]
+          where
+            fork : 28 ≤ code → waysAt holds n (P T) (placeAt T q) i ≡ try (map (λ k. (i + takes (placeAt T q)) * P T + k) (waysOf T q))
+            fork f =
+                let t : i + takes (placeAt T q) ≡ i = let a = takes-no-row (omega arith) in omega arith in
+                let r : try (map (λ k. i * P T + k) (waysOf T q)) ≡ try (map (λ k. (i + takes (placeAt T q)) * P T + k) (waysOf T q)) = rw t in
+                by-fork holds n (P T) next (waysOf T q) i code f h ∙ r
+
+pub takes-one : (p : Place) → takes p ≤ 1
+takes-one (pLetter c k) = omega arith
+takes-one (pCaret k) = omega arith
+takes-one (pDollar k) = omega arith
+takes-one (pFork ks) = omega arith
+takes-one pEnd = omega arith
