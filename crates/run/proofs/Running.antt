@@ -19,8 +19,9 @@ use Rattle.rules.proofs.Lists.{length-tabulate}
 use Rattle.decode.specs.Layout.{measureIn, measuresIn}
 use Rattle.room.specs.declared.Query.{Query}
 use Rattle.room.specs.Reading.{queryAnswer, Asked}
-use Rattle.search.specs.declared.Outcome.{Outcome}
-use Rattle.search.specs.Promise.{lent, memory, Promised}
+use Rattle.outcome.specs.declared.Outcome.{Outcome}
+use Rattle.outcome.specs.Results.{lent, memory}
+use Rattle.search.specs.Promise.{Promised}
 use Rattle.input.specs.declared.Input.{Input}
 use Rattle.input.specs.declared.Input.the-variants.{Refused, TooLarge, Go}
 use Rattle.input.specs.Input.{inputOf, printedInput}

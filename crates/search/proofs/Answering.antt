@@ -24,8 +24,10 @@ use Rattle.rules.proofs.Demands.{demands}
 use Rattle.rules.proofs.Lowest.{lowest-range, lowest-before, lowest-after, none-true}
 use Rattle.room.specs.Reading.{queryAnswer, GoodParts, Whole, Asked}
 use Rattle.room.specs.declared.Query.{Query}
-use Rattle.search.specs.declared.Outcome.{Outcome}
-use Rattle.search.specs.Promise.{lent, memory, refusal, ended, Promised, Walks}
+use Rattle.outcome.specs.declared.Outcome.{Outcome}
+use Rattle.outcome.specs.Results.{lent, memory, refusal}
+use Rattle.starting.specs.Starts.{ended, Walks}
+use Rattle.search.specs.Promise.{Promised}
 
 -- ---- the answers
 

@@ -1,6 +1,1 @@
-pub mod Parting
-pub mod Forking
-pub mod Places
-pub mod Ending
-pub mod Starting
 pub mod Answering

@@ -1,0 +1,14 @@
+-- The outcome of a search that stopped, and of one that is done.
+use mathlib.Core.Path.{_≡_}
+use mathlib.Core.Bool.{true, false}
+use Rattle.rules.specs.Basics.{pick}
+use Rattle.sweep.specs.declared.Sweep.{Sweep}
+use Rattle.outcome.specs.declared.Outcome.{Outcome}
+
+pub outcome-stopped : (s : Sweep) → s .full ≡ true → _≡_ {A = Outcome} (record { answer = 13; matches = s .matches; labels = s .labels; steps = s .steps })
+    (record { answer = pick (s .full) 13 0; matches = s .matches; labels = s .labels; steps = s .steps })
+outcome-stopped s e = rw e
+
+pub outcome-done : (s : Sweep) → s .full ≡ false → _≡_ {A = Outcome} (record { answer = 0; matches = s .matches; labels = s .labels; steps = s .steps })
+    (record { answer = pick (s .full) 13 0; matches = s .matches; labels = s .labels; steps = s .steps })
+outcome-done s e = rw e
