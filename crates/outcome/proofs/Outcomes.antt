@@ -2,7 +2,7 @@
 use mathlib.Core.Path.{_≡_}
 use mathlib.Core.Bool.{true, false}
 use Rattle.rules.specs.Basics.{pick}
-use Rattle.sweep.specs.declared.Sweep.{Sweep}
+use Rattle.matches.specs.declared.Sweep.{Sweep}
 use Rattle.outcome.specs.declared.Outcome.{Outcome}
 
 pub outcome-stopped : (s : Sweep) → s .full ≡ true → _≡_ {A = Outcome} (record { answer = 13; matches = s .matches; labels = s .labels; steps = s .steps })

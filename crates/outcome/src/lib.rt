@@ -24,7 +24,7 @@ pub fn refused(answer: usize) -> Outcome
 }
 
 // Done or stopped, by what the walk over all starts came to.
-pub fn finished(s: sweep::Sweep) -> Outcome
+pub fn finished(s: matches::Sweep) -> Outcome
     ensures { λ r. ⌜ r ≡ record { answer = pick (s .full) 13 0; matches = s .matches; labels = s .labels; steps = s .steps } ⌝ }
 {
     let full = s.full;

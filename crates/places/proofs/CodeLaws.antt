@@ -16,8 +16,8 @@ use Rattle.rules.proofs.Distinct.{distinct, thinPlace, thinned, thinned-append,
 use Rattle.marks.specs.Shows.{highest, highOf}
 use Rattle.pattern.specs.Held.{body, lowOf, highestOf, lazyOf}
 use Rattle.pattern.proofs.ByNode.{Bounded}
-use Rattle.places.specs.Emitting.{choicePlaces, forkPlaces, treePlaces, branchPlaces, bodyPlaces, turns, turnPlaces}
-use Rattle.places.proofs.WayLaws.{start-by-size}
+use Rattle.forks.specs.Emitting.{choicePlaces, forkPlaces, treePlaces, branchPlaces, bodyPlaces, turns, turnPlaces}
+use Rattle.forks.proofs.WayLaws.{start-by-size}
 
 -- ---- parts of an unrolled pattern
 

@@ -22,8 +22,8 @@ use Rattle.nodes.specs.declared.Sort.the-variants.{Letter, Anchor, Empty, Seque
 use Rattle.nodes.specs.declared.Node.{Node}
 use Rattle.pattern.specs.Held.{body, lowOf, highestOf, lazyOf, Top, At}
 use Rattle.pattern.proofs.ByNode.{Bounded, IsAnchor, FactorAt, GroupAt, as-any, as-seq, as-alt, as-letter, as-anchor, as-empty, as-group, at-in, seq-left, seq-right, alt-left, alt-right, group-left, top-places}
-use Rattle.places.specs.Emitting.{putWords, putPlace, wayCount, waysIn, putPlaces, Fitting, Emitted, choicePlaces, Choosing, forkPlaces, Forking, treePlaces, branchPlaces, bodyPlaces, turns, turnPlaces, Emitting, Branching, Bodying, Turning, WholeSize, BodySize, anchorSort}
-use Rattle.places.proofs.TableLaws.{fit-left, fit-right, emitted-two, emitted-none, places-length}
+use Rattle.forks.specs.Emitting.{putWords, putPlace, wayCount, waysIn, putPlaces, Fitting, Emitted, choicePlaces, Choosing, forkPlaces, Forking, treePlaces, branchPlaces, bodyPlaces, turns, turnPlaces, Emitting, Branching, Bodying, Turning, WholeSize, BodySize, anchorSort}
+use Rattle.forks.proofs.TableLaws.{fit-left, fit-right, emitted-two, emitted-none, places-length}
 use Rattle.places.proofs.CodeLaws.{tree-length, branch-length, body-length, turn-length, seq-places, branch-more, branch-one, alt-places, factor-places, factor-size, turn-copy, turn-none, turn-option, turn-star}
 
 -- ---- measures

@@ -7,10 +7,10 @@ use lib.ListN.{length, getD, length-append}
 use Rattle.rules.specs.Places.{unroll, Place, pEnd, size, code, places, placesOf}
 use Rattle.rules.proofs.Counting.{unroll-size}
 use Rattle.rules.proofs.Distinct.{thinPlace, thinned, thinned-append}
-use Rattle.places.specs.Tables.{placesFrom, tabled}
-use Rattle.places.specs.Emitting.{putWords, putPlace, wayCount, waysIn, putPlaces, Emitted, treePlaces, Emitting, Unrolling, Tabled}
-use Rattle.places.proofs.TableLaws.{places-append, waysIn-append, places-length, words-length, places-back, places-kept, places-stop}
-use Rattle.places.proofs.WayLaws.{all-few}
+use Rattle.forks.specs.Tables.{placesFrom, tabled}
+use Rattle.forks.specs.Emitting.{putWords, putPlace, wayCount, waysIn, putPlaces, Emitted, treePlaces, Emitting, Unrolling, Tabled}
+use Rattle.forks.proofs.TableLaws.{places-append, waysIn-append, places-length, words-length, places-back, places-kept, places-stop}
+use Rattle.forks.proofs.WayLaws.{all-few}
 use Rattle.places.proofs.CodeLaws.{tree-length}
 
 module _ (s : List ℕ) (top P : ℕ) (T : List ℕ) where

@@ -1,3 +1,1 @@
-pub mod Joins
-pub mod RowsOf
 pub mod Numbers

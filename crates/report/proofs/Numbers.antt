@@ -22,11 +22,11 @@ use Rattle.rules.proofs.Lists.{length-tabulate}
 use Rattle.rules.proofs.Limits.{match-long}
 use Rattle.rules.proofs.Signed.{read-back}
 use Rattle.rules.proofs.Appended.{wrote-none, wrote-on, length-wrote-at}
-use Rattle.report.specs.declared.Outcome.{Outcome}
-use Rattle.report.specs.declared.Outcome.the-variants.{Null, Number}
-use Rattle.report.specs.Measures.{measureBy, numbersFor, Readable, Reportable}
+use Rattle.measures.specs.declared.Outcome.{Outcome}
+use Rattle.measures.specs.declared.Outcome.the-variants.{Null, Number}
+use Rattle.measures.specs.Measures.{measureBy, numbersFor, Readable, Reportable}
 use Rattle.decode.specs.Layout.{measureIn, measuresIn}
-use Rattle.report.proofs.Joins.{held}
+use Rattle.measures.proofs.Joins.{held}
 
 -- ---- two and three
 

@@ -26,10 +26,10 @@ use Rattle.rules.proofs.Accepted.{Accepted, done-or-stopped, answer-is}
 use Rattle.rules.proofs.Level.{or-false}
 use Rattle.rules.proofs.Lowest.{lowest-after, none-before, none-true, lowest-wider}
 use Rattle.rules.proofs.Limits.{limits, numbers-long}
-use Rattle.room.specs.declared.Size.{Size}
-use Rattle.room.specs.Reading.{asRoom}
+use Rattle.reading.specs.declared.Size.{Size}
+use Rattle.reading.specs.Reading.{asRoom}
 use Rattle.put.specs.Put.{Put}
-use Rattle.text.specs.Report.{reportText}
+use Rattle.header.specs.Report.{reportText}
 use Rattle.text.proofs.Printed.{report-printed}
 use Rattle.run.specs.Run.{Found}
 

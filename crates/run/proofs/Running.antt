@@ -17,8 +17,8 @@ use Rattle.rules.specs.Program.{refusedText, tooLarge, searchText, printedFor, 
 use Rattle.rules.proofs.Accepted.{Accepted}
 use Rattle.rules.proofs.Lists.{length-tabulate}
 use Rattle.decode.specs.Layout.{measureIn, measuresIn}
-use Rattle.room.specs.declared.Query.{Query}
-use Rattle.room.specs.Reading.{queryAnswer, Asked}
+use Rattle.reading.specs.declared.Query.{Query}
+use Rattle.reading.specs.Reading.{queryAnswer, Asked}
 use Rattle.outcome.specs.declared.Outcome.{Outcome}
 use Rattle.outcome.specs.Results.{lent, memory}
 use Rattle.search.specs.Promise.{Promised}
@@ -26,7 +26,7 @@ use Rattle.input.specs.declared.Input.{Input}
 use Rattle.input.specs.declared.Input.the-variants.{Refused, TooLarge, Go}
 use Rattle.input.specs.Input.{inputOf, printedInput}
 use Rattle.put.specs.Put.{Put}
-use Rattle.text.specs.Report.{reportText}
+use Rattle.header.specs.Report.{reportText}
 use Rattle.input.proofs.Inputs.{Parted, parted, printed-input}
 use Rattle.put.proofs.Writing.{put-long}
 use Rattle.run.specs.Run.{Ran, Counted, Found, Said}

@@ -7,7 +7,7 @@ use lib.ListN.{length, take}
 use Rattle.rules.specs.Query.{parts}
 use Rattle.rules.specs.Answers.{badRows, pairsOf, roomAnswer}
 use Rattle.rules.specs.Program.{printed}
-use Rattle.room.specs.Reading.{queryAnswer}
+use Rattle.reading.specs.Reading.{queryAnswer}
 use Rattle.put.specs.Put.{Put}
 
 -- The text is what the program prints of these bytes. They need be no more of its standard input than the first 36,867 bytes: it prints the same of any

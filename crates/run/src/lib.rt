@@ -64,14 +64,14 @@ fn run_query(query: &[u8], bytes: &[u8], out: &mut [u8]) -> usize
     let size = room::room(query, &rows[..count]);
     let answer = size.answer;
     if answer != 0 {
-        return text::put_refused(out, 0, answer as u64);
+        return header::put_refused(out, 0, answer as u64);
     }
     if bytes.len() % 4 != 0 {
-        return text::put_refused(out, 0, 10);
+        return header::put_refused(out, 0, 10);
     }
     let pairs = size.places * (size.rows + 1);
     if 16000 < pairs {
-        return text::put_too_large(out, 0);
+        return header::put_too_large(out, 0);
     }
     run_search(query, &rows[..count], out)
 }
@@ -83,8 +83,8 @@ pub fn run(input: &[u8], out: &mut [u8]) -> usize
 {
     let case = input::input_of(input);
     match case {
-        input::Input::Refused(answer) => text::put_refused(out, 0, answer),
-        input::Input::TooLarge => text::put_too_large(out, 0),
+        input::Input::Refused(answer) => header::put_refused(out, 0, answer),
+        input::Input::TooLarge => header::put_too_large(out, 0),
         input::Input::Go { rows } => run_query(&input[2..rows], &input[rows..], out),
     }
 }

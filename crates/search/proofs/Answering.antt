@@ -22,8 +22,8 @@ use Rattle.rules.specs.Answers.{treeIn, hasEmptyLoop, P, tooMany, badRows, Buff
 use Rattle.rules.proofs.Accepted.{done-or-stopped}
 use Rattle.rules.proofs.Demands.{demands}
 use Rattle.rules.proofs.Lowest.{lowest-range, lowest-before, lowest-after, none-true}
-use Rattle.room.specs.Reading.{queryAnswer, GoodParts, Whole, Asked}
-use Rattle.room.specs.declared.Query.{Query}
+use Rattle.reading.specs.Reading.{queryAnswer, GoodParts, Whole, Asked}
+use Rattle.reading.specs.declared.Query.{Query}
 use Rattle.outcome.specs.declared.Outcome.{Outcome}
 use Rattle.outcome.specs.Results.{lent, memory, refusal}
 use Rattle.starting.specs.Starts.{ended, Walks}

@@ -4,7 +4,7 @@ use outcome::refused;
 use outcome::Outcome;
 use starting::walk_all;
 ghost use mathlib.Core.Path.{_≡_};
-ghost use Rattle.room.specs.Reading.{Nodes};
+ghost use Rattle.reading.specs.Reading.{Nodes};
 ghost use Rattle.outcome.specs.Results.{lent, memory};
 ghost use Rattle.search.specs.Promise.{Promised};
 
@@ -74,7 +74,7 @@ pub fn search(
 ) -> Outcome
     ensures { λ r. ⌜ Promised (now (query .entry)) (now (rows .entry)) (lent (now (notes .entry)) (now (trail .entry)) (now (numbers .entry)) (now (labels .entry))) (memory r (now (notes .exit)) (now (trail .exit)) (now (numbers .exit)) (now (labels .exit))) ⌝ }
 {
-    if room::text_is_short(query) {
+    if reading::text_is_short(query) {
         let mut nodes = [0u16; 256];
         return search_in(&mut nodes, query, rows, notes, trail, numbers, labels);
     }

@@ -19,7 +19,7 @@ use Rattle.rules.proofs.Distinct.{thinned, thinned-length}
 use Rattle.rules.proofs.PatternWalk.{top}
 use Rattle.rules.proofs.Rank.{rank}
 use Rattle.rules.proofs.ThinPlaces.{Leads, Spelt, thinned-leads, thinned-falls, thinned-spelt}
-use Rattle.places.specs.Tables as F
+use Rattle.forks.specs.Tables as F
 use Rattle.pairs.specs.Step.{after}
 use Rattle.pairs.specs.Tables as W
 use Rattle.pairs.proofs.Ways.{in-length, in-at}

@@ -16,10 +16,10 @@ use Rattle.rules.proofs.Distinct.{thinned, labels-thin}
 use Rattle.decode.specs.Layout.{measuresIn}
 use Rattle.pairs.specs.Tables.{Tables, N}
 use Rattle.pairs.specs.Letters.{holdsIn}
-use Rattle.sweep.specs.Asked as S
-use Rattle.sweep.specs.Asked.{asked}
+use Rattle.matches.specs.Asked as S
+use Rattle.matches.specs.Asked.{asked}
 use Rattle.sweep.specs.Searched.{Answered}
-use Rattle.sweep.specs.declared.Sweep.{Sweep}
+use Rattle.matches.specs.declared.Sweep.{Sweep}
 use Rattle.outcome.specs.declared.Outcome.{Outcome}
 use Rattle.outcome.specs.Results.{lent, memory}
 use Rattle.starting.specs.Starts.{ended, Runs}

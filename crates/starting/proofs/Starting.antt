@@ -29,14 +29,14 @@ use Rattle.rules.proofs.PatternWalk.{walk-kept}
 use Rattle.rules.proofs.SameLetters.{search-agrees}
 use Rattle.rules.proofs.ThinPlaces.{Spelt, thinned-spelt}
 use Rattle.decode.specs.Layout.{Decoded, Body, definedAt, measureIn, measuresIn}
-use Rattle.places.specs.Emitting.{Unrolling, Tabled}
+use Rattle.forks.specs.Emitting.{Unrolling, Tabled}
 use Rattle.tests.specs.Tests.{Prepared, Preparable, Letters}
 use Rattle.tests.proofs.Uses.{preparable, word-seven, letters-room}
 use Rattle.pairs.specs.Letters.{holdsIn}
 use Rattle.pairs.specs.Tables as W
-use Rattle.sweep.specs.Asked as S
-use Rattle.sweep.specs.Asked.{asked}
-use Rattle.sweep.specs.Found.{Measured}
+use Rattle.matches.specs.Asked as S
+use Rattle.matches.specs.Asked.{asked}
+use Rattle.matches.specs.Found.{Measured}
 use Rattle.sweep.specs.Searched.{Searches}
 use Rattle.spread.specs.Spread.{Parts, Parted}
 use Rattle.starting.specs.Starts.{TableRoom, Walks, WalksIn, Runs}

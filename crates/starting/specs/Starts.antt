@@ -21,8 +21,8 @@ use Rattle.rules.specs.Report.{numbersOf, labelsOf}
 use Rattle.pairs.specs.Tables.{Tables, N, placesIn}
 use Rattle.tests.specs.Tests.{Letters}
 use Rattle.pairs.specs.Letters.{holdsIn}
-use Rattle.sweep.specs.Asked as S
-use Rattle.sweep.specs.Asked.{asked}
+use Rattle.matches.specs.Asked as S
+use Rattle.matches.specs.Asked.{asked}
 use Rattle.sweep.specs.Searched.{Searches}
 
 -- an accepted search as the definition ends it: done or stopped

@@ -16,8 +16,8 @@ use Rattle.rules.proofs.Lists.{front-wrote, beyond-wrote}
 use Rattle.rules.proofs.Notes.{bitsOf, bitsOf-at, bitsFrom-length}
 use Rattle.rules.proofs.NotesWritten.{wrote-over, notes-written}
 use Rattle.pairs.specs.Tables.{P, N}
-use Rattle.sweep.specs.declared.Sweep.{Sweep}
-use Rattle.sweep.specs.Asked.{Asked, searchOf}
+use Rattle.matches.specs.declared.Sweep.{Sweep}
+use Rattle.matches.specs.Asked.{Asked, searchOf}
 use Rattle.sweep.specs.Searched.{Searches, Starts, Searched, Answered}
 
 -- ---- zeros

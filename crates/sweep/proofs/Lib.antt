@@ -1,5 +1,3 @@
-pub mod Labelled
-pub mod Telling
 pub mod Visiting
 pub mod Sofar
 pub mod Clearing

@@ -20,9 +20,9 @@ use Rattle.rules.proofs.Notes.{bitsOf}
 use Rattle.rules.proofs.Starts.{next-on}
 use Rattle.pairs.specs.Tables.{N, graphOf}
 use Rattle.pairs.proofs.Ways.{in-length}
-use Rattle.sweep.specs.declared.Sweep.{Sweep}
-use Rattle.sweep.specs.Asked.{Asked, pl, width, searchOf}
-use Rattle.sweep.specs.Found.{swept, Quiet, Written, ToldBy, Told, Visits, attemptAt, Visited}
+use Rattle.matches.specs.declared.Sweep.{Sweep}
+use Rattle.matches.specs.Asked.{Asked, pl, width, searchOf}
+use Rattle.matches.specs.Found.{swept, Quiet, Written, ToldBy, Told, Visits, attemptAt, Visited}
 use Rattle.sweep.specs.Searched.{Searches, Starts, Searched}
 
 -- matches before

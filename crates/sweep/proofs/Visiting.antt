@@ -19,9 +19,9 @@ use Rattle.pairs.specs.State.{Ready, Done}
 use Rattle.pairs.proofs.Trails.{stack-length}
 use Rattle.pairs.proofs.Trying.{pair-in}
 use Rattle.pairs.proofs.Going.{good-room, top-row}
-use Rattle.sweep.specs.declared.Sweep.{Sweep}
-use Rattle.sweep.specs.Asked.{Asked, pathOn}
-use Rattle.sweep.specs.Found.{Told, Reports, Visits, attemptAt, Visited}
+use Rattle.matches.specs.declared.Sweep.{Sweep}
+use Rattle.matches.specs.Asked.{Asked, pathOn}
+use Rattle.matches.specs.Found.{Told, Reports, Visits, attemptAt, Visited}
 
 -- ---- a path begins where its attempt began
 

@@ -11,9 +11,9 @@ use Rattle.rules.specs.Report.{bitAt, numbersOf, labelsOf, notesOf, zeros}
 use Rattle.rules.specs.Search.{Swept, Kept}
 use Rattle.rules.proofs.Notes.{bitsOf}
 use Rattle.pairs.specs.Tables.{N, Legal}
-use Rattle.sweep.specs.declared.Sweep.{Sweep}
-use Rattle.sweep.specs.Asked.{Asked, pl, searchOf}
-use Rattle.sweep.specs.Found.{Measured}
+use Rattle.matches.specs.declared.Sweep.{Sweep}
+use Rattle.matches.specs.Asked.{Asked, pl, searchOf}
+use Rattle.matches.specs.Found.{Measured}
 
 -- what a search asks: legal tables, what the test of a letter asks (Q), measures that can be read, and working room
 pub record Searches (A : Asked) (Q : Type 0) (ms : List ℕ) (count : ℕ) (rows : List ℤ) (columns : ℕ) (notes trail : List ℕ) : Type 0 where

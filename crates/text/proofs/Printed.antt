@@ -16,7 +16,7 @@ use Rattle.rules.specs.Report.{measured, twoOf, measureNumbers, matchNumbers, n
 use Rattle.rules.specs.Answers.{Task, stopped}
 use Rattle.rules.specs.Program.{signedDecimal, measureText, measuresText, matchLine, matchLines, headerLine, searchText}
 use Rattle.rules.proofs.Limits.{match-long}
-use Rattle.text.specs.Report.{numberAt, headerText, resultsText, fieldText, lineText, linesText, reportText}
+use Rattle.header.specs.Report.{numberAt, headerText, resultsText, fieldText, lineText, linesText, reportText}
 
 pub results-printed : (t : Table) (row : ℕ) (ls : List ℕ) (ms : List Measure) (rest : List ℤ)
     → resultsText (length ms) (measureNumbers t row ls ms ++ rest) ≡ measuresText t row ls ms

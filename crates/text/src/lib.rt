@@ -1,59 +1,17 @@
 // The program's output as bytes: what it prints of a refused input, of one that is too large, and of a search's report. The report's text is a function
 // of the search's counts and report buffers alone (specs/Report), and takes at most 22 bytes for each number, one for each label and 60 more.
 // proofs/Printed says that after the search this is the text that document 01 asks for.
+use put::put_byte;
+use put::put_bytes;
+use put::put_signed;
+use put::size_of;
+use header::put_header;
 ghost use mathlib.Core.Path.{_≡_};
 ghost use Prim.Native.Nat.{_+_, _*_, _≤_, min};
 ghost use lib.ListN.{length, drop};
-ghost use Rattle.rules.specs.Basics.{pick, bytes};
-ghost use Rattle.rules.specs.Program.{labelsText, refusedText, tooLarge};
+ghost use Rattle.rules.specs.Program.{labelsText};
 ghost use Rattle.put.specs.Put.{Put};
-ghost use Rattle.text.specs.Report.{headerText, fieldText, resultText, resultsText, lineText, linesText, reportText, reportRoom};
-use put::put_byte;
-use put::put_bytes;
-use put::put_decimal;
-use put::put_signed;
-use put::size_of;
-
-// `refused N`
-pub fn put_refused(out: &mut [u8], at: usize, answer: u64) -> usize
-    requires { ⌜ at + 29 ≤ length (now out) ⌝ }
-    ensures { λ r. ⌜ Put (now (out .entry)) at (refusedText answer) (now (out .exit)) r ⌝ }
-{
-    let number = put_bytes(out, at, b"refused ");
-    let line = put_decimal(out, number, answer);
-    put_byte(out, line, 10)
-}
-
-// `too large`
-pub fn put_too_large(out: &mut [u8], at: usize) -> usize
-    requires { ⌜ at + 10 ≤ length (now out) ⌝ }
-    ensures { λ r. ⌜ Put (now (out .entry)) at tooLarge (now (out .exit)) r ⌝ }
-{
-    put_bytes(out, at, b"too large\n")
-}
-
-// `matches M steps S`, or `stopped M steps S`
-fn put_header(out: &mut [u8], at: usize, stopped: bool, matches: usize, steps: u64) -> usize
-    requires { ⌜ at + length (headerText stopped matches steps) ≤ length (now out) ⌝ }
-    ensures { λ r. ⌜ Put (now (out .entry)) at (headerText stopped matches steps) (now (out .exit)) r ⌝ }
-{
-    let count = put_outcome(out, at, stopped);
-    let word = put_decimal(out, count, matches as u64);
-    let number = put_bytes(out, word, b" steps ");
-    let line = put_decimal(out, number, steps);
-    put_byte(out, line, 10)
-}
-
-// The header's first word.
-fn put_outcome(out: &mut [u8], at: usize, stopped: bool) -> usize
-    requires { ⌜ at + 8 ≤ length (now out) ⌝ }
-    ensures { λ r. ⌜ Put (now (out .entry)) at (pick stopped (bytes "stopped ") (bytes "matches ")) (now (out .exit)) r ⌝ }
-{
-    if stopped {
-        return put_bytes(out, at, b"stopped ");
-    }
-    put_bytes(out, at, b"matches ")
-}
+ghost use Rattle.header.specs.Report.{fieldText, resultText, resultsText, lineText, linesText, reportText, reportRoom};
 
 // A number and one space.
 fn put_field(out: &mut [u8], at: usize, n: i64) -> usize

@@ -1,6 +1,6 @@
 -- The functions `body`, `branches`, `emit`, `rounds` of places, which call each other, meet their contracts.
 -- The measure: first the node's height, then the function and the rounds left (EmitLaws, measures). Laws: ForkLaws, EmitLaws.
-use Rattle.places.proofs.ForkLaws.{not-sequence, not-alternation}
+use Rattle.forks.proofs.ForkLaws.{not-sequence, not-alternation}
 use Rattle.places.proofs.EmitLaws.{emitM, branchM, roundM, bodyM, emitted-length, emit-in, emit-end, emit-none, seq-left-in, seq-mid, seq-skip, seq-skipped, seq-first, seq-second, seq-done, alt-forking, alt-first, alt-inside, alt-done, emit-node, turn-order, turn-first, turn-done, branches-in, branches-none, branch-left-in, branch-mid, branch-first, branch-second, branch-done, single-first, single-done, round-in, first-fits, copy-first, copy-again, copy-done, copy-fits, copy-less, none-done, star-choose, star-body, star-done, option-choose, option-body, option-again, option-done, option-more, option-less, body-in, letter-words, letter-done, anchor-words, anchor-done, empty-done, sequence-done, alternation-done, group-first, group-done}
 use mathlib.Core.Path.{refl}
 use borrow.Author.Needs.{needs}
@@ -23,11 +23,11 @@ use Rattle.nodes.proofs.node_at.Reads as node-at-reads
 use Rattle.nodes.proofs.places_at.Reads as places-at-reads
 use Rattle.places.proofs.anchor_sort.Reads as anchor-sort-reads
 use Rattle.places.proofs.body_size.Reads as body-size-reads
-use Rattle.places.proofs.branch_fork.Reads as branch-fork-reads
-use Rattle.places.proofs.fork.Reads as fork-reads
+use Rattle.forks.proofs.branch_fork.Reads as branch-fork-reads
+use Rattle.forks.proofs.fork.Reads as fork-reads
 use Rattle.places.proofs.put_simple.Reads as put-simple-reads
 use Rattle.places.proofs.short.Reads as short-reads
-use Rattle.places.proofs.start_at.Reads as start-at-reads
+use Rattle.forks.proofs.start_at.Reads as start-at-reads
 use Rattle.places.proofs.turns_behind.Reads as turns-behind-reads
 use Rattle.places.proofs.+body+branches+emit+rounds.{statement}
 use Rattle.places.proofs.+body+branches+emit+rounds.Tie.{close}

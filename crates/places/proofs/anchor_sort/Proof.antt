@@ -1,5 +1,5 @@
 -- `places::anchor_sort` meets its contract. Laws: WayLaws.
-use Rattle.places.proofs.WayLaws.{caret-sort, dollar-sort}
+use Rattle.forks.proofs.WayLaws.{caret-sort, dollar-sort}
 use Rattle.places.proofs.anchor_sort.Statement.{statement}
 use Rattle.places.proofs.anchor_sort.Tie as tie
 

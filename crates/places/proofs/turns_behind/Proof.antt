@@ -1,5 +1,5 @@
 -- `places::turns_behind` meets its contract. Laws: WayLaws.
-use Rattle.places.proofs.WayLaws.{turns-open, turns-shut}
+use Rattle.forks.proofs.WayLaws.{turns-open, turns-shut}
 use borrow.Author.Needs.{needs}
 use Rattle.places.proofs.turns_behind.Statement.{statement}
 use Rattle.places.proofs.turns_behind.Tie as tie

@@ -1,6 +1,6 @@
 -- `places::whole_size` meets its contract. Laws: EmitLaws, ForkLaws.
 use Rattle.places.proofs.EmitLaws.{whole-alt, whole-one, whole-fits, at-node}
-use Rattle.places.proofs.ForkLaws.{not-alternation}
+use Rattle.forks.proofs.ForkLaws.{not-alternation}
 use borrow.Author.Needs.{needs}
 use Rattle.places.proofs.whole_size.Statement.{statement}
 use Rattle.places.proofs.whole_size.Tie as tie

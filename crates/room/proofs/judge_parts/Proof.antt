@@ -1,13 +1,13 @@
 -- `room::judge_parts` meets its contract by the laws of Laws.
 use borrow.Author.Needs.{needs}
-use Rattle.room.proofs.Laws.{text-answers, defines-answer, measures-answer, no-answer}
+use Rattle.reading.proofs.Laws.{text-answers, defines-answer, measures-answer, no-answer}
 use Rattle.room.proofs.judge_parts.Statement.{statement}
 use Rattle.room.proofs.judge_parts.Tie as tie
 use Rattle.room.proofs.judge_parts.Reads as reads
 use Rattle.room.proofs.judge_parts.Lts as lts
 use Rattle.judge.proofs.judge.Reads as judge-reads
-use Rattle.room.proofs.has_foreign.Reads as has-foreign-reads
-use Rattle.room.proofs.refused.Reads as refused-reads
+use Rattle.reading.proofs.has_foreign.Reads as has-foreign-reads
+use Rattle.reading.proofs.refused.Reads as refused-reads
 
 add-end : tie.Need-add-end
 add-end c = search needs

@@ -1,6 +1,6 @@
 -- `room::read_query` meets its contract by the laws of Laws.
 use borrow.Author.Needs.{needs}
-use Rattle.room.proofs.Laws.{first-answers, may-decode, may-judge, all-answers}
+use Rattle.reading.proofs.Laws.{first-answers, may-decode, may-judge, all-answers}
 use Rattle.room.proofs.read_query.Statement.{statement}
 use Rattle.room.proofs.read_query.Tie as tie
 use Rattle.room.proofs.read_query.Reads as reads
@@ -8,7 +8,7 @@ use Rattle.room.proofs.read_query.Lts as lts
 use Rattle.decode.proofs.decode.Reads as decode-reads
 use Rattle.query.proofs.first_answer.Reads as first-answer-reads
 use Rattle.room.proofs.judge_parts.Reads as judge-parts-reads
-use Rattle.room.proofs.refused.Reads as refused-reads
+use Rattle.reading.proofs.refused.Reads as refused-reads
 
 first-answer-requires : tie.Need-first-answer-requires
 first-answer-requires c κs = search needs

@@ -1,6 +1,6 @@
 -- `room::room` meets its contract: either room is large enough for the tree.
 use borrow.Author.Needs.{needs}
-use Rattle.room.proofs.Short.{all-nodes, short-nodes}
+use Rattle.reading.proofs.Short.{all-nodes, short-nodes}
 use Rattle.room.proofs.room.Statement.{statement}
 use Rattle.room.proofs.room.Tie as tie
 

@@ -1,6 +1,6 @@
 -- `room::room_in` meets its contract: the answers 1 to 10 one after the other, then P and n.
 use borrow.Author.Needs.{needs}
-use Rattle.room.proofs.Laws.{query-refuses, some-column, ragged-refused, many-refused, room-given}
+use Rattle.reading.proofs.Laws.{query-refuses, some-column, ragged-refused, many-refused, room-given}
 use Rattle.room.proofs.room_in.Statement.{statement}
 use Rattle.room.proofs.room_in.Tie as tie
 

@@ -1,6 +1,6 @@
 -- `measures_of` counts the measures that reading the query found.
 use borrow.Author.Needs.{needs}
-use Rattle.room.proofs.Short.{all-nodes}
+use Rattle.reading.proofs.Short.{all-nodes}
 use Rattle.run.proofs.Running.{measures-counted}
 use Rattle.run.proofs.measures_of.Statement.{statement}
 use Rattle.run.proofs.measures_of.Tie as tie

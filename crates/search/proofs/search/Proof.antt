@@ -1,6 +1,6 @@
 -- `search::search` meets its contract: either room is large enough for the tree.
 use borrow.Author.Needs.{needs}
-use Rattle.room.proofs.Short.{all-nodes, short-nodes}
+use Rattle.reading.proofs.Short.{all-nodes, short-nodes}
 use Rattle.search.proofs.search.Statement.{statement}
 use Rattle.search.proofs.search.Tie as tie
 

@@ -1,6 +1,6 @@
 -- `put_field` writes a number and one space.
 use borrow.Author.Needs.{needs}
-use Rattle.text.proofs.Lines.{field-room, field-room-1, put-number}
+use Rattle.header.proofs.Lines.{field-room, field-room-1, put-number}
 use Rattle.text.proofs.put_field.Statement.{statement}
 use Rattle.text.proofs.put_field.Tie as tie
 

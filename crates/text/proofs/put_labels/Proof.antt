@@ -1,6 +1,6 @@
 -- `put_labels` writes the labels, or a `-`.
 use borrow.Author.Needs.{needs}
-use Rattle.text.proofs.Lines.{labels-none-room, put-no-labels, labels-room, put-some-labels}
+use Rattle.header.proofs.Lines.{labels-none-room, put-no-labels, labels-room, put-some-labels}
 use Rattle.text.proofs.put_labels.Statement.{statement}
 use Rattle.text.proofs.put_labels.Tie as tie
 

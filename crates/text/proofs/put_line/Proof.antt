@@ -1,7 +1,7 @@
 -- `put_line` writes a match's line piece by piece, by the laws of proofs/Lines.
 use native.Mathlib.Omega.{arith}
 use borrow.Author.Needs.{needs, sfits-of}
-use Rattle.text.proofs.Lines.{line-room, line-room-1, line-room-2, line-room-3, line-room-4, line-room-5, put-one-line}
+use Rattle.header.proofs.Lines.{line-room, line-room-1, line-room-2, line-room-3, line-room-4, line-room-5, put-one-line}
 use Rattle.text.proofs.put_line.Statement.{statement}
 use Rattle.text.proofs.put_line.Tie as tie
 

@@ -1,7 +1,7 @@
 -- `put_lines` writes the matches' lines: those left are as many as the loop has still to write (`Lined`).
 use native.Mathlib.Omega.{arith}
 use borrow.Author.Needs.{needs, sfits-of}
-use Rattle.text.proofs.Lines.{Lined, lines-none, lines-all, lines-inside, lines-room, lines-more}
+use Rattle.header.proofs.Lines.{Lined, lines-none, lines-all, lines-inside, lines-room, lines-more}
 use Rattle.text.proofs.put_lines.Statement.{statement}
 use Rattle.text.proofs.put_lines.Tie as tie
 

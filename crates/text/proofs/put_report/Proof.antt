@@ -1,6 +1,6 @@
 -- `put_report` writes the header and the lines.
 use borrow.Author.Needs.{needs}
-use Rattle.text.proofs.Lines.{report-room, report-room-1, put-whole}
+use Rattle.header.proofs.Lines.{report-room, report-room-1, put-whole}
 use Rattle.text.proofs.put_report.Statement.{statement}
 use Rattle.text.proofs.put_report.Tie as tie
 

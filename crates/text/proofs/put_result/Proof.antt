@@ -1,7 +1,7 @@
 -- `put_result` writes a measure's result, or `null`.
 use borrow.Author.Needs.{needs}
 use Rattle.rules.specs.Basics.{bytes}
-use Rattle.text.proofs.Lines.{null-room, put-null, result-room, put-some}
+use Rattle.header.proofs.Lines.{null-room, put-null, result-room, put-some}
 use Rattle.text.proofs.put_result.Statement.{statement}
 use Rattle.text.proofs.put_result.Tie as tie
 

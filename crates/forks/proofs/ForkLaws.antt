@@ -1,0 +1,388 @@
+-- Laws of the functions that put forks: each is one way through one function.
+use mathlib.Core.Path.{_≡_, refl, sym, ap, _∙_, subst}
+use mathlib.Core.Bool.{Bool, true, false, _||_}
+use mathlib.Core.List.{List, [], _∷_}
+use Prim.Native.Nat.{ℕ, _+_, _*_, _-_, _≤_, _<_, min}
+use native.Mathlib.Omega.{arith}
+use types.Run.{OneOf, miss}
+use denote.Enum.Declared.{tagOf}
+use mir.Val.{Fits as Fits-in}
+use mir.Syntax.{w64}
+use lib.Dec.{eqb}
+use lib.ListN.{length}
+use borrow.Author.Tests.{eq-eqb}
+use Rattle.rules.specs.Basics.{pick, has}
+use Rattle.rules.specs.Language.{pattern, branch, Tree, one, more, last, next}
+use Rattle.rules.specs.Places.{Unrolled, Branches, uNil, uCons, unrolled, Place, pFork, size, sizes, startOf, startsOf, placeCount}
+use Rattle.rules.proofs.Counting.{unrolled-size}
+use Rattle.rules.proofs.Distinct.{keepNew, fresh, distinct}
+use Rattle.nodes.specs.Nodes.{nodeAt}
+use Rattle.nodes.specs.declared.Sort.{Sort}
+use Rattle.nodes.specs.declared.Sort.the-variants.{Sequence, Alternation}
+use Rattle.nodes.specs.declared.Node.{Node}
+use Rattle.nodes.proofs.Sort.{the-type}
+use Rattle.pattern.specs.Held.{Top, At}
+use Rattle.pattern.proofs.ByNode.{as-any, as-alt, at-in, alt-left, alt-right, top-places}
+use Rattle.forks.specs.Tables.{span}
+use Rattle.forks.specs.Emitting.{putWays, putWords, putPlace, wayCount, waysIn, putPlaces, Fitting, Emitted, WayPut, WayNeeds, newStarts, Starting, Started, twoPlaces, TwoWays, choicePlaces, Choosing, forkPlaces, Forking}
+use Rattle.forks.proofs.TableLaws.{ways-length}
+use Rattle.forks.proofs.WayLaws.{AfterWay, after-way, start-end, start-by-size}
+
+-- ---- a place that is put
+
+-- a fork whose ways are put, and then its words
+pub fork-put : (T T1 T2 : List ℕ) (b w : ℕ) (ks : List ℕ) (to : ℕ) → T1 ≡ putWays T w ks → to ≡ w + length ks → T2 ≡ putWords T1 b 0 0 w to
+    → Emitted T T2 b w to (pFork ks ∷ [])
+unfolding putPlaces putPlace waysIn wayCount
+fork-put T T1 T2 b w ks to e1 e2 e3 =
+    record { is = e3 ∙ rw (e1, e2) refl; way = omega arith }
+
+-- the words of a fork fit
+pub fork-words : (T T1 : List ℕ) (b w k : ℕ) (ks : List ℕ) (to : ℕ) → Fitting T b w k (pFork ks ∷ []) → length T1 ≡ length T → to ≡ w + length ks
+    → (4 * b + 4 ≤ length T1) × (w < 65536) × (to < 65536)
+unfolding waysIn wayCount
+fork-words T T1 b w k ks to f l e = (omega (arith, f .place, f .long), omega (arith, f .way, f .small), omega (arith, f .way, f .small))
+
+-- one that is not among those seen is new
+one-new : (seen : List ℕ) (y : ℕ) (ys : List ℕ) → has y seen ≡ false → 1 ≤ length (fresh seen (y ∷ ys))
+unfolding fresh
+one-new seen y ys e = rw e (omega arith)
+
+span-none : (T : List ℕ) (w : ℕ) → span T w (w - w) ≡ []
+unfolding span
+span-none T w = ap (span T w) (let e : w - w ≡ 0 = omega arith in e)
+
+-- ---- two ways
+
+module _ (T : List ℕ) (b w x y : ℕ) (h : TwoWays T b w x y) where
+  pub two-first : WayNeeds T w w x
+  unfolding waysIn wayCount has
+  two-first =
+      let f = h .fits in let a = f .way in let z = f .small in
+      record {
+        order = omega arith;
+        inside = omega arith;
+        small = f .small;
+        fits = λ e. (let n = one-new [] x (y ∷ []) refl in omega arith);
+        low = f .behind;
+      }
+
+  module _ (T1 : List ℕ) (r1 : ℕ) (p : WayPut T T1 w w x r1) where
+    after : AfterWay T w w x (y ∷ []) T1 r1 two-first p
+    after = after-way T w w x (y ∷ []) T1 r1 two-first p
+
+    all-ways : fresh (span T w (w - w)) (x ∷ y ∷ []) ≡ distinct (x ∷ y ∷ [])
+    all-ways = ap (λ (s : List ℕ). fresh s (x ∷ y ∷ [])) (span-none T w)
+
+    sum : r1 + length (fresh (span T1 w (r1 - w)) (y ∷ [])) ≡ w + length (distinct (x ∷ y ∷ []))
+    sum = ap (λ (s : List ℕ). r1 + length s) (sym (after .seen)) ∙ after .count ∙ ap (λ (s : List ℕ). w + length s) all-ways
+
+    pub two-second : WayNeeds T1 w r1 y
+    unfolding waysIn wayCount
+    two-second =
+        let f = h .fits in let a = f .way in let l = after .len in let s = sum in
+        record {
+          order = after .order;
+          inside = omega arith;
+          small = omega (arith, f .small);
+          fits = λ e. (let n = one-new (span T1 w (r1 - w)) y [] e in omega arith);
+          low = h .second;
+        }
+
+    module _ (T2 : List ℕ) (to : ℕ) (q : WayPut T1 T2 w r1 y to) where
+      then : AfterWay T1 w r1 y [] T2 to two-second q
+      then = after-way T1 w r1 y [] T2 to two-second q
+
+      pub two-length : length T2 ≡ length T
+      two-length = then .len ∙ after .len
+
+      two-put : T2 ≡ putWays T w (distinct (x ∷ y ∷ []))
+      unfolding fresh putWays
+      two-put =
+          ap (putWays T2 to) (sym (then .seen)) ∙ then .put
+          ∙ ap (putWays T1 r1) (sym (after .seen)) ∙ after .put ∙ ap (putWays T w) all-ways
+
+      two-count : to ≡ w + length (distinct (x ∷ y ∷ []))
+      unfolding fresh
+      two-count =
+          let a : to ≡ to + length (fresh (span T2 w (to - w)) []) = omega arith in
+          a ∙ ap (λ (s : List ℕ). to + length s) (sym (then .seen)) ∙ then .count ∙ sum
+
+      pub two-words : (4 * b + 4 ≤ length T2) × (w < 65536) × (to < 65536)
+      two-words = fork-words T T2 b w x (distinct (x ∷ y ∷ [])) to (h .fits) two-length two-count
+
+      pub two-done : (T3 : List ℕ) → T3 ≡ putWords T2 b 0 0 w to → Emitted T T3 b w to (twoPlaces x y)
+      two-done T3 e = fork-put T T2 T3 b w (distinct (x ∷ y ∷ [])) to two-put two-count e
+
+-- ---- a copy and leaving
+
+module _ (T : List ℕ) (b w : ℕ) (lazy : Bool) (copy leave : ℕ) where
+  refit : (k j : ℕ) (pl : List Place) → Fitting T b w k pl → j ≤ 256 → Fitting T b w j pl
+  refit k j pl f h = record { long = f .long; small = f .small; place = f .place; way = f .way; behind = h }
+
+  pub lazy-needs : Choosing T b w lazy copy leave → lazy ≡ true → TwoWays T b w leave copy
+  lazy-needs h e = record { fits = subst (λ (z : Bool). Fitting T b w leave (choicePlaces z copy leave)) e (h .fits); second = h .copied }
+
+  pub lazy-done : (T2 : List ℕ) (r : ℕ) → lazy ≡ true → Emitted T T2 b w r (twoPlaces leave copy) → Emitted T T2 b w r (choicePlaces lazy copy leave)
+  lazy-done T2 r e d = rw e d
+
+  pub greedy-needs : Choosing T b w lazy copy leave → lazy ≡ false → TwoWays T b w copy leave
+  greedy-needs h e =
+      record {
+        fits = refit leave copy (twoPlaces copy leave) (subst (λ (z : Bool). Fitting T b w leave (choicePlaces z copy leave)) e (h .fits)) (h .copied);
+        second = h .fits
+            .behind;
+      }
+
+  pub greedy-done : (T2 : List ℕ) (r : ℕ) → lazy ≡ false → Emitted T T2 b w r (twoPlaces copy leave) → Emitted T T2 b w r (choicePlaces lazy copy leave)
+  greedy-done T2 r e d = rw e d
+
+-- ---- the ways of an alternation
+
+pub start-node : (s : List ℕ) (i : ℕ) (T : List ℕ) (from to b k : ℕ) → Starting s i T from to b k → 8 * i + 8 ≤ length s
+start-node s i T from to b k h = at-in s i (record { tree = h .tree; is = h .top })
+
+module _ (s : List ℕ) (i : ℕ) (n : Node) (en : n ≡ nodeAt s i) (T : List ℕ) (from to b k : ℕ) where
+  start-at-node : Starting s i T from to b k → At s i
+  start-at-node h = record { tree = h .tree; is = h .top }
+
+  module _ (e : n .sort ≡ Alternation) (m : ℕ) (em : m ≡ (nodeAt s (n .left)) .places) where
+    -- what is known of an alternation's branches
+    record Alt (p : Tree pattern) : Type 0 where
+      rest : Tree pattern
+      rest-top : Top rest (n .right) s
+      starts : startsOf (unrolled p) b k ≡ pick (eqb b (b + m)) k b ∷ startsOf (unrolled rest) (b + m) k
+      size-is : sizes (unrolled p) ≡ m + sizes (unrolled rest)
+
+    alt-facts : (p : Tree pattern) → Top p i s → b + sizes (unrolled p) ≤ 256 → Alt p
+    unfolding unrolled sizes startsOf placeCount
+    alt-facts = as-alt s i n en (λ p. b + sizes (unrolled p) ≤ 256 → Alt p) e λ x p q h.
+        let c : size (unrolled x) ≡ placeCount x = unrolled-size x in
+        let d = top-places s (n .left) (one x) (q .left) in
+        let z : size (unrolled x) ≡ m = omega arith in
+        record {
+          rest = p;
+          rest-top = q .right;
+          starts = ap (λ (v : ℕ). v ∷ startsOf (unrolled p) (b + size (unrolled x)) k) (start-by-size (unrolled x) b k)
+              ∙ ap (λ (v : ℕ). pick (eqb b (b + v)) k b ∷ startsOf (unrolled p) (b + v) k) z;
+          size-is = ap (λ (v : ℕ). v + sizes (unrolled p)) z;
+        }
+
+    module _ (h : Starting s i T from to b k) (y : ℕ) (ey : y ≡ pick (eqb b (b + m)) k b) where
+      alt : Alt (h .tree)
+      alt = alt-facts (h .tree) (h .top) (h .place)
+
+      low-start : (t : Bool) → pick t k b ≤ 256
+      low-start true = h .behind
+      low-start false = omega (arith, h .place)
+
+      new-list : newStarts T from to (h .tree) b k ≡ fresh (span T from (to - from)) (y ∷ startsOf (unrolled (alt .rest)) (b + m) k)
+      new-list = ap (fresh (span T from (to - from))) (alt .starts ∙ ap (λ (v : ℕ). v ∷ startsOf (unrolled (alt .rest)) (b + m) k) (sym ey))
+
+      pub start-way : WayNeeds T from to y
+      start-way =
+          let w : to + length (fresh (span T from (to - from)) (y ∷ startsOf (unrolled (alt .rest)) (b + m) k)) ≤ length T = subst (λ (ks : List ℕ). to + length ks ≤ length T)
+          new-list (h .way) in
+          record {
+            order = h .order;
+            inside = omega arith;
+            small = h .small;
+            fits = λ u. (let v = one-new (span T from (to - from)) y (startsOf (unrolled (alt .rest)) (b + m) k) u in omega arith);
+            low = rw ey (low-start (eqb b (b + m)));
+          }
+
+      module _ (T1 : List ℕ) (r1 : ℕ) (p : WayPut T T1 from to y r1) where
+        after2 : AfterWay T from to y (startsOf (unrolled (alt .rest)) (b + m) k) T1 r1 start-way p
+        after2 = after-way T from to y (startsOf (unrolled (alt .rest)) (b + m) k) T1 r1 start-way p
+
+        rest-list : r1 + length (newStarts T1 from r1 (alt .rest) (b + m) k) ≡ to + length (newStarts T from to (h .tree) b k)
+        rest-list = ap (λ (ks : List ℕ). r1 + length ks) (sym (after2 .seen)) ∙ after2 .count ∙ ap (λ (ks : List ℕ). to + length ks) (sym new-list)
+
+        next-start : Starting s (n .right) T1 from r1 (b + m) k
+        next-start =
+            let z = alt .size-is in let l = after2 .len in let q = rest-list in
+            record {
+              tree = alt .rest;
+              top = alt .rest-top;
+              order = after2 .order;
+              small = omega (arith, h .small);
+              way = omega (arith, h .way);
+              place = omega (arith, h .place);
+              behind = h .behind;
+            }
+
+        pub start-again : (u : ℕ) → (nodeAt s i) .height ≡ u → ((nodeAt s (n .right)) .height < u) × Starting s (n .right) T1 from r1 (b + m) k
+        start-again u eu = ((alt-right s i n en u eu (start-at-node h) e) .0, next-start)
+
+        pub start-more : (exit : List ℕ) (r : ℕ) → ((g : Starting s (n .right) T1 from r1 (b + m) k) → Started s (n .right) T1 from r1 (b + m) k exit r g)
+            → Started s i T from to b k exit r h
+        unfolding next-start
+        start-more exit r f =
+            let d = f next-start in
+            record {
+              is = d .is ∙ ap (putWays T1 r1) (sym (after2 .seen)) ∙ after2 .put ∙ ap (putWays T to) (sym new-list);
+              way = d .way ∙ rest-list;
+            }
+
+    pub start-left : Starting s i T from to b k → 8 * n .left + 8 ≤ length s
+    start-left h = at-in s (n .left) ((alt-left s i n en ((nodeAt s i) .height) refl (start-at-node h) e) .1)
+
+    pub start-fits : Starting s i T from to b k → Fits-in w64 (b + m)
+    start-fits h = let z = (alt-facts (h .tree) (h .top) (h .place)) .size-is in let g = h .place in record { fits = omega arith }
+
+  -- branches without places
+  module _ (e : n .places ≡ 0) where
+    same-starts : (ts : Branches) (c : ℕ) (S : List ℕ) → sizes ts ≡ 0 → has k S ≡ true → fresh S (startsOf ts c k) ≡ []
+    unfolding fresh startsOf sizes
+    same-starts uNil c S z h = refl
+    same-starts (uCons t ts) c S z h =
+        let x : size t ≡ 0 = omega arith in
+        let y : startOf t c k ≡ k = start-by-size t c k ∙ sym (start-end c (c + size t) k (omega arith)) in
+        ap (λ (v : ℕ). keepNew (has v S) v (fresh S (startsOf ts (c + size t) k)) (fresh (v ∷ S) (startsOf ts (c + size t) k))) y
+        ∙ ap (λ (b : Bool). keepNew b k (fresh S (startsOf ts (c + size t) k)) (fresh (k ∷ S) (startsOf ts (c + size t) k))) h
+        ∙ same-starts ts (c + size t) S (omega arith) h
+
+    one-start : (ts : Branches) (t : Unrolled) (S : List ℕ) → sizes (uCons t ts) ≡ 0 → fresh S (startsOf (uCons t ts) b k) ≡ fresh S (k ∷ [])
+    unfolding fresh startsOf sizes has
+    one-start ts t S z =
+        let x : size t ≡ 0 = omega arith in
+        let y : startOf t b k ≡ k = start-by-size t b k ∙ sym (start-end b (b + size t) k (omega arith)) in
+        ap (λ (v : ℕ). keepNew (has v S) v (fresh S (startsOf ts (b + size t) k)) (fresh (v ∷ S) (startsOf ts (b + size t) k))) y ∙ go (has k S) refl (omega arith)
+      where
+        go : (b2 : Bool) → has k S ≡ b2 → sizes ts ≡ 0 → keepNew b2 k (fresh S (startsOf ts (b + size t) k)) (fresh (k ∷ S) (startsOf ts (b + size t) k)) ≡ keepNew b2 k [] []
+        go true h w = same-starts ts (b + size t) S w h
+        go false h w = ap (λ (ks : List ℕ). k ∷ ks) (same-starts ts (b + size t) (k ∷ S) w (ap (λ (x : Bool). x || has k S) (eq-eqb k k refl)))
+
+    no-places : (p : Tree pattern) → n .places ≡ min (placeCount p) 257 → sizes (unrolled p) ≡ 0
+    no-places p d = let c : sizes (unrolled p) ≡ placeCount p = unrolled-size p in omega arith
+
+    some-branch : (p : Tree pattern) → n .places ≡ min (placeCount p) 257 → (S : List ℕ) → fresh S (startsOf (unrolled p) b k) ≡ fresh S (k ∷ [])
+    unfolding unrolled
+    some-branch (one x) d S = one-start uNil (unrolled x) S (no-places (one x) d)
+    some-branch (more x p) d S = one-start (unrolled p) (unrolled x) S (no-places (more x p) d)
+
+    module _ (h : Starting s i T from to b k) where
+      none-list : newStarts T from to (h .tree) b k ≡ fresh (span T from (to - from)) (k ∷ [])
+      none-list = some-branch (h .tree) (ap (λ (y : Node). y .places) en ∙ top-places s i (h .tree) (h .top)) (span T from (to - from))
+
+      pub none-way : WayNeeds T from to k
+      none-way =
+          let w : to + length (fresh (span T from (to - from)) (k ∷ [])) ≤ length T = subst (λ (ks : List ℕ). to + length ks ≤ length T) none-list (h .way) in
+          record {
+            order = h .order;
+            inside = omega arith;
+            small = h .small;
+            fits = λ u. (let v = one-new (span T from (to - from)) k [] u in omega arith);
+            low = h .behind;
+          }
+
+      pub none-done : (T1 : List ℕ) (r1 : ℕ) → WayPut T T1 from to k r1 → Started s i T from to b k T1 r1 h
+      unfolding putWays fresh
+      none-done T1 r1 p =
+          let d = after-way T from to k [] T1 r1 none-way p in
+          let c : r1 ≡ r1 + length (fresh (span T1 from (r1 - from)) []) = omega arith in
+          record {
+            is = ap (putWays T1 r1) (sym (d .seen)) ∙ d .put ∙ ap (putWays T to) (sym none-list);
+            way = c ∙ ap (λ (ks : List ℕ). r1 + length ks) (sym (d .seen)) ∙ d .count ∙ ap (λ (ks : List ℕ). to + length ks) (sym none-list);
+          }
+
+  -- the last branch
+  module _ (e : n .sort ≡ Alternation → ⊥) where
+    record Single (p : Tree pattern) : Type 0 where
+      starts : startsOf (unrolled p) b k ≡ pick (eqb b (b + n .places)) k b ∷ []
+      size-is : sizes (unrolled p) ≡ n .places
+
+    one-facts : (x : Tree branch) → n .places ≡ min (placeCount x) 257 → b + sizes (unrolled (one x)) ≤ 256 → Single (one x)
+    unfolding unrolled sizes startsOf
+    one-facts x d h =
+        let c : size (unrolled x) ≡ placeCount x = unrolled-size x in
+        let z : size (unrolled x) ≡ n .places = omega arith in
+        record {
+          starts = ap (λ (v : ℕ). v ∷ []) (start-by-size (unrolled x) b k) ∙ ap (λ (v : ℕ). pick (eqb b (b + v)) k b ∷ []) z;
+          size-is = omega arith;
+        }
+
+    single : (p : Tree pattern) → Top p i s → b + sizes (unrolled p) ≤ 256 → Single p
+    unfolding placeCount
+    single = as-any s i n en (λ p. b + sizes (unrolled p) ≤ 256 → Single p) (λ F q h. one-facts (last F) (q .places) h) (λ f x q h. one-facts (next f x) (q .places) h)
+        (λ x p q h. absurd (e (q .sort)))
+
+    module _ (h : Starting s i T from to b k) (y : ℕ) (ey : y ≡ pick (eqb b (b + n .places)) k b) where
+      low-last : (t : Bool) → pick t k b ≤ 256
+      low-last true = h .behind
+      low-last false = omega (arith, h .place)
+
+      last-list : newStarts T from to (h .tree) b k ≡ fresh (span T from (to - from)) (y ∷ [])
+      last-list = ap (fresh (span T from (to - from))) ((single (h .tree) (h .top) (h .place)) .starts ∙ ap (λ (v : ℕ). v ∷ []) (sym ey))
+
+      pub last-way : WayNeeds T from to y
+      last-way =
+          let w : to + length (fresh (span T from (to - from)) (y ∷ [])) ≤ length T = subst (λ (ks : List ℕ). to + length ks ≤ length T) last-list (h .way) in
+          record {
+            order = h .order;
+            inside = omega arith;
+            small = h .small;
+            fits = λ u. (let v = one-new (span T from (to - from)) y [] u in omega arith);
+            low = rw ey (low-last (eqb b (b + n .places)));
+          }
+
+      pub last-done : (T1 : List ℕ) (r1 : ℕ) → WayPut T T1 from to y r1 → Started s i T from to b k T1 r1 h
+      unfolding putWays fresh
+      last-done T1 r1 p =
+          let d = after-way T from to y [] T1 r1 last-way p in
+          let c : r1 ≡ r1 + length (fresh (span T1 from (r1 - from)) []) = omega arith in
+          record {
+            is = ap (putWays T1 r1) (sym (d .seen)) ∙ d .put ∙ ap (putWays T to) (sym last-list);
+            way = c ∙ ap (λ (ks : List ℕ). r1 + length ks) (sym (d .seen)) ∙ d .count ∙ ap (λ (ks : List ℕ). to + length ks) (sym last-list);
+          }
+
+    pub last-fits : Starting s i T from to b k → Fits-in w64 (b + n .places)
+    last-fits h = let z = (single (h .tree) (h .top) (h .place)) .size-is in let g = h .place in record { fits = omega arith }
+
+-- ---- the fork of an alternation
+
+module _ (s : List ℕ) (i : ℕ) (T : List ℕ) (b w k : ℕ) (h : Forking s i T b w k) where
+  starts-all : newStarts T w w (h .tree) (b + 1) k ≡ distinct (startsOf (unrolled (h .tree)) (b + 1) k)
+  starts-all = ap (λ (v : List ℕ). fresh v (startsOf (unrolled (h .tree)) (b + 1) k)) (span-none T w)
+
+  pub fork-starting : Starting s i T w w (b + 1) k
+  unfolding waysIn wayCount
+  fork-starting =
+      let f = h .fits in let a = f .way in
+      record {
+        tree = h .tree;
+        top = h .top;
+        order = omega arith;
+        small = f .small;
+        way = subst (λ (ks : List ℕ). w + length ks ≤ length T) (sym starts-all) (omega arith);
+        place = h .room;
+        behind = f .behind;
+      }
+
+  module _ (T1 : List ℕ) (to : ℕ) (d : (g : Starting s i T w w (b + 1) k) → Started s i T w w (b + 1) k T1 to g) where
+    ways-put : T1 ≡ putWays T w (distinct (startsOf (unrolled (h .tree)) (b + 1) k))
+    unfolding fork-starting
+    ways-put = (d fork-starting) .is ∙ ap (putWays T w) starts-all
+
+    ways-count : to ≡ w + length (distinct (startsOf (unrolled (h .tree)) (b + 1) k))
+    unfolding fork-starting
+    ways-count = (d fork-starting) .way ∙ ap (λ (ks : List ℕ). w + length ks) starts-all
+
+    pub forking-words : (4 * b + 4 ≤ length T1) × (w < 65536) × (to < 65536)
+    forking-words = fork-words T T1 b w k (distinct (startsOf (unrolled (h .tree)) (b + 1) k)) to (h .fits) (ap length ways-put ∙ ways-length T w _) ways-count
+
+    pub forking-done : (T2 : List ℕ) → T2 ≡ putWords T1 b 0 0 w to → Emitted T T2 b w to
+        (forkPlaces (h .tree) b k)
+    forking-done T2 e = fork-put T T1 T2 b w (distinct (startsOf (unrolled (h .tree)) (b + 1) k)) to ways-put ways-count e
+
+-- ---- sorts that are not these
+
+pub not-sequence : (k : Sort) → OneOf (0 ∷ 1 ∷ 2 ∷ 4 ∷ 5 ∷ []) (tagOf the-type k) → k ≡ Sequence → ⊥
+not-sequence k h e = miss (0 ∷ 1 ∷ 2 ∷ 4 ∷ 5 ∷ []) 3 tt (subst (λ (x : Sort). OneOf (0 ∷ 1 ∷ 2 ∷ 4 ∷ 5 ∷ []) (tagOf the-type x)) e h)
+
+pub not-alternation : (k : Sort) → OneOf (0 ∷ 1 ∷ 2 ∷ 3 ∷ 5 ∷ []) (tagOf the-type k) → k ≡ Alternation → ⊥
+not-alternation k h e = miss (0 ∷ 1 ∷ 2 ∷ 3 ∷ 5 ∷ []) 4 tt (subst (λ (x : Sort). OneOf (0 ∷ 1 ∷ 2 ∷ 3 ∷ 5 ∷ []) (tagOf the-type x)) e h)
+
+pub started-length : (s : List ℕ) (i : ℕ) (T : List ℕ) (from to b k : ℕ) (exit : List ℕ) (r : ℕ) (h : Starting s i T from to b k) → Started s i T from to b k exit r h
+    → length exit ≡ length T
+started-length s i T from to b k exit r h d = ap length (d .is) ∙ ways-length T to _

@@ -1,0 +1,173 @@
+-- The report of a path that is on the trail: its rows, whether its match fits, its labels and its numbers.
+use mathlib.Core.Path.{_≡_, refl, sym, ap, _∙_, subst}
+use mathlib.Core.List.{List, [], _∷_, _++_, reverseAux}
+use mathlib.Core.Bool.{Bool, true, false}
+use mathlib.Core.Option.{some}
+use Prim.Native.Nat.{ℕ, zero, suc, _+_, _-_, _*_, _/_, _%_, _≤_, _<_}
+use native.Mathlib.Nat.{add-zero, mul-le-mul, mul-le-mul-right, le-trans}
+use native.Mathlib.Omega.{arith}
+use lib.Arith.{digits-div}
+use lib.IntN.{ℤ}
+use lib.ListN.{length, getD, take, drop}
+use lib.Seq.{length-take-le, take-at, drop-at}
+use Rattle.rules.specs.Basics.{wrote}
+use Rattle.rules.specs.Query as Q
+use Rattle.rules.specs.Report.{fits, matchNumbers}
+use Rattle.rules.specs.Rows.{tableOf}
+use Rattle.rules.specs.Search.{labels, lastOf, endOf, nextStart}
+use Rattle.rules.proofs.Appended.{length-wrote-at, fits-room}
+use Rattle.rules.proofs.Lists.{length-tabulate}
+use Rattle.decode.specs.Layout.{measuresIn}
+use Rattle.measures.specs.Measures.{Appendable}
+use Rattle.pairs.specs.declared.Walk.{Walk}
+use Rattle.pairs.specs.Tables.{Tables, P, waysOf, placeAt, placesIn}
+use Rattle.pairs.specs.Step.{pairIn, stack, pairOf}
+use Rattle.pairs.specs.State.{takes}
+use Rattle.pairs.proofs.Ways.{in-length, by-high}
+use Rattle.pairs.proofs.Trails.{path-top, path-linked, path-row, path-at}
+use Rattle.matches.specs.declared.Sweep.{Sweep}
+use Rattle.matches.specs.Asked.{asked, pathOn, labelsOn}
+use Rattle.matches.specs.Found.{Labels, Told, Reports}
+use Rattle.matches.proofs.Labelled.{Ends, rows-taken}
+
+-- the last pair of a path
+last-up : (d x : ℕ) (p xs : List ℕ) → lastOf d (reverseAux xs (x ∷ p)) ≡ lastOf x p
+last-up d x p [] = refl
+last-up d x p (y ∷ xs) = last-up d y (x ∷ p) xs
+
+takes-end : (T : Tables) (q : ℕ) → 29 < getD (T .code) q 0 → takes (placeAt T q) ≡ 0
+unfolding placeAt
+takes-end T q h = by-high (λ _ _. true) 0 (P T) (getD (T .next) q 0) (waysOf T q) 0 (getD (T .code) q 0) (omega arith)
+
+ends-at : (T : Tables) (trail : List ℕ) (i : ℕ) → pairIn (P T) (getD trail 0 0) / P T ≡ i → (t : ℕ) → Ends T (stack (P T) trail (suc t)) i
+unfolding stack
+ends-at T trail i e zero = e
+ends-at T trail i e (suc t) = ends-at T trail i e t
+
+-- what was written, read again
+part-wrote : {A : Type 0} (d vs : List A) (at end : ℕ) → at + length vs ≤ length d → end ≡ at + length vs → take (end - at) (drop at (wrote d at vs)) ≡ vs
+unfolding wrote
+part-wrote d vs at end h e =
+    let k : end - at ≡ length vs = omega arith in
+    rw (k, drop-at (take at d) (vs ++ drop (at + length vs) d) at (length-take-le at d (omega arith)), take-at vs (drop (at + length vs) d) (length vs) refl)
+
+measures-count : (ms : List ℕ) (count : ℕ) → length (measuresIn ms count) ≡ count
+unfolding measuresIn
+measures-count ms count = length-tabulate count _
+
+module _ (T : Tables) (n : ℕ) (ms : List ℕ) (count : ℕ) (rows : List ℤ) (columns : ℕ) (trail labs : List ℕ) (i : Sweep) (w : Walk)
+    (h : Reports T n ms count rows columns trail labs i w) where
+  abbrev p : List ℕ
+  p = pathOn (P T) trail (w .top)
+
+  abbrev ls : List ℕ
+  ls = labels (placesIn T) p
+
+  abbrev taken : ℕ
+  taken = w .row - i .row
+
+  stack-is : stack (P T) trail (w .top) ≡ pairOf w ∷ stack (P T) trail (w .top - 1)
+  stack-is = path-top T trail w (h .path) (h .going)
+
+  ends : Ends T (pairOf w ∷ stack (P T) trail (w .top - 1)) (i .row)
+  ends =
+      let b : pairIn (P T) (getD trail 0 0) / P T ≡ i .row = rw (h .bottom) (rw add-zero at (digits-div (i .row) (h .path .sized .some))) in
+      let g = h .going in
+      let k : w .top ≡ suc (w .top - 1) = omega arith in
+      let e : Ends T (stack (P T) trail (suc (w .top - 1))) (i .row) = ends-at T trail (i .row) b (w .top - 1) in
+      let f : Ends T (stack (P T) trail (w .top)) (i .row) = subst (λ (t : ℕ). Ends T (stack (P T) trail t) (i .row)) (sym k) e in
+      rw stack-is at f
+
+  rows-are : i .row + length ls ≡ w .row
+  rows-are =
+      let r = rows-taken T (h .path .sized .some) (pairOf w) (stack (P T) trail (w .top - 1)) (i .row) (path-linked T trail w (h .path) (h .going)) ends in
+      let a = path-row T trail w (h .path) (h .going) in
+      let t : takes (placeAt T (pairOf w % P T)) ≡ 0 = rw (path-at T trail w (h .path) (h .going)) (takes-end T (w .place) (h .last)) in
+      rw stack-is (omega arith)
+
+  pub tell-at : i .matches * (3 + 2 * count) ≤ 4096 * 19
+  tell-at =
+      let m = h .measured in
+      let a = m .few in
+      let b = m .few-rows in
+      let c = h .few in
+      let d = h .row in
+      mul-le-mul (let z : i .matches ≤ 4096 = omega arith in z) (let z : 3 + 2 * count ≤ 19 = omega arith in z)
+
+  pub tell-row : i .row ≤ w .row
+  tell-row = let r = rows-are in omega arith
+
+  taken-is : length ls ≡ taken
+  taken-is = let r = rows-are in omega arith
+
+  on-is : labelsOn T trail (w .top) ≡ ls
+  unfolding labelsOn
+  on-is = refl
+
+  module _ (nums : ℕ) (r : Bool) (ef : (xs : List Q.Measure) (vs : List ℕ) → length xs ≡ count → length vs ≡ taken → r ≡ fits nums (length labs) xs (i .matches) (i .labels) vs) where
+    fits-is : r ≡ fits nums (length labs) (measuresIn ms count) (i .matches) (i .labels) ls
+    fits-is = ef (measuresIn ms count) ls (measures-count ms count) taken-is
+
+    module _ (et : r ≡ true) where
+      rooms : (i .matches * (3 + 2 * count) + (3 + 2 * count) ≤ nums) × (i .labels + taken ≤ length labs)
+      rooms = rw (measures-count ms count, taken-is) at (fits-room nums (length labs) (measuresIn ms count) (i .matches) (i .labels) ls (sym fits-is ∙ et))
+
+      pub tell-labels : Labels T trail labs (w .top) (i .labels + taken)
+      tell-labels = record { some = h .path .sized .some; trailed = h .path .room; words = h .path .words; end-room = rooms .1; enough = rw (on-is, taken-is) (omega arith) }
+
+      module _ (labs′ : List ℕ) (el : labs′ ≡ wrote labs (i .labels + taken - length (labelsOn T trail (w .top))) (labelsOn T trail (w .top))) where
+        written : labs′ ≡ wrote labs (i .labels) ls
+        written =
+            let k : i .labels + taken - length ls ≡ i .labels = let t = taken-is in omega arith in
+            rw k at (rw on-is at el)
+
+        pub tell-long : length labs′ ≡ length labs
+        tell-long = let t = taken-is in let b = rooms .1 in rw written (length-wrote-at labs (i .labels) ls (omega arith))
+
+        pub tell-end : i .labels + taken ≤ length labs′
+        tell-end = let b = rooms .1 in let l = tell-long in omega arith
+
+        part-is : take (i .labels + taken - i .labels) (drop (i .labels) labs′) ≡ ls
+        part-is = let t = taken-is in let b = rooms .1 in rw written (part-wrote labs ls (i .labels) (i .labels + taken) (omega arith) (omega arith))
+
+        pub tell-appends : (numbers : List ℤ) → nums ≡ length numbers
+            → Appendable numbers (i .matches * (3 + 2 * count)) (i .matches + 1) ms count rows columns (i .row) (length (take (i .labels + taken - i .labels) (drop (i .labels) labs′)))
+        tell-appends numbers en =
+            let m = h .measured in
+            let b = h .behind in
+            let f = m .few-rows in
+            let e = h .row in
+            let g = h .few in
+            let t = taken-is in
+            let r = rows-are in
+            rw (part-is, taken-is) (record {
+              few = omega arith;
+              there = le-trans (mul-le-mul-right columns (let z : i .row + taken ≤ n = omega arith in z)) (m .there);
+              room = rw (← en) (rooms .0);
+              measured = m .long;
+              columned = m .columned;
+              numbered = omega arith;
+              placed = omega arith;
+            })
+
+        next-is : (mode : Bool) → nextStart mode (i .row) (endOf (length (placesIn T)) p) ≡ nextStart mode (i .row) (w .row)
+        next-is mode =
+            let l : lastOf 0 p ≡ pairOf w = ap (λ (s : List ℕ). lastOf 0 (reverseAux s [])) stack-is ∙ last-up 0 (pairOf w) [] (stack (P T) trail (w .top - 1)) in
+            ap (nextStart mode (i .row)) (rw (l, in-length T) (path-row T trail w (h .path) (h .going)))
+
+        pub tell-fits : (numbers numbers′ : List ℤ) (mode : Bool) (nx : ℕ) → nums ≡ length numbers
+            → numbers′ ≡ wrote numbers (i .matches * (3 + 2 * count)) (matchNumbers (tableOf columns rows) (measuresIn ms count) (i .matches + 1) (i .row) (take (i .labels + taken - i .labels) (drop (i .labels) labs′)))
+            → nx ≡ nextStart mode (i .row) (w .row) → (holds : ℕ → ℕ → Bool)
+            → Told (asked T holds n mode (tableOf columns rows) (measuresIn ms count)) (some p) i (w .steps) numbers numbers′ labs labs′
+            (record { full = false; row = nx; matches = i .matches + 1; labels = i .labels + taken; steps = w .steps })
+        tell-fits numbers numbers′ mode nx en e ex holds =
+            rw (← en, sym fits-is ∙ et) (record {
+              numbers-is = rw (measures-count ms count) (rw part-is at e);
+              labels-is = written;
+              sweep-is = rw (taken-is, next-is mode, ex);
+            })
+
+    pub tell-full : (numbers : List ℤ) (mode : Bool) → nums ≡ length numbers → r ≡ false → (holds : ℕ → ℕ → Bool)
+        → Told (asked T holds n mode (tableOf columns rows) (measuresIn ms count)) (some p) i (w .steps) numbers numbers labs labs
+        (record { full = true; row = n; matches = i .matches; labels = i .labels; steps = w .steps })
+    tell-full numbers mode en et holds = rw (← en, sym fits-is ∙ et) (record { numbers-is = refl; labels-is = refl; sweep-is = refl })

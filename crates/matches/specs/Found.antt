@@ -1,0 +1,118 @@
+-- A path that was found: its labels, its report, and what one start of the search leaves.
+use mathlib.Core.Path.{_≡_}
+use mathlib.Core.List.{List, _∷_}
+use mathlib.Core.Bool.{Bool, true, false}
+use mathlib.Core.Option.{Option, none, some}
+use Prim.Native.Nat.{ℕ, _+_, _-_, _*_, _≤_, _<_}
+use lib.Dec.{ltb}
+use lib.IntN.{ℤ}
+use lib.ListN.{length, getD}
+use Rattle.rules.specs.Basics.{wrote}
+use Rattle.rules.specs.Report.{bitAt, matchNumbers, fits}
+use Rattle.rules.specs.Search.{Kept, answered, labels, nextStart, endOf}
+use Rattle.rules.proofs.Notes.{bitsOf}
+use Rattle.pairs.specs.declared.Walk.{Walk}
+use Rattle.pairs.specs.Tables.{Tables, P, N, Legal}
+use Rattle.pairs.specs.Step.{pairIn}
+use Rattle.pairs.specs.State.{Word, OnPath, attemptBy}
+use Rattle.matches.specs.declared.Sweep.{Sweep}
+use Rattle.matches.specs.Asked.{Asked, pl, width, labelsOn}
+
+-- ---- labels
+
+-- the label of a place, by its code, before others
+abbrev pub ifLetter : Bool → ℕ → List ℕ → List ℕ
+ifLetter true c vs = c ∷ vs
+ifLetter false c vs = vs
+
+unfoldable pub labelBy : ℕ → List ℕ → List ℕ
+labelBy c vs = ifLetter (ltb c 26) (c + 65) vs
+
+-- one label more, or none, before those that are written from index e on
+abbrev pub OneMore : List ℕ → List ℕ → ℕ → ℕ → ℕ → Type 0
+OneMore l l′ c e r = (d vs : List ℕ) → l ≡ wrote d e vs → e + length vs ≤ length d → (l′ ≡ wrote d r (labelBy c vs)) × (r + length (labelBy c vs) ≡ e + length vs)
+
+pub record PutsLabel (co labs : List ℕ) (q e : ℕ) : Type 0 where
+  pub place : q < length co
+  pub end : e ≤ length labs
+  pub room : getD co q 0 < 26 → 0 < e
+
+-- a path is on the trail, and there is room for its labels before index `end`
+pub record Labels (T : Tables) (trail labs : List ℕ) (top end : ℕ) : Type 0 where
+  pub some : 0 < P T
+  pub trailed : top ≤ length trail
+  pub words : (k : ℕ) → k < top → Word T (getD trail k 0)
+  pub end-room : end ≤ length labs
+  pub enough : length (labelsOn T trail top) ≤ end
+
+-- ---- the report of a path
+
+abbrev pub swept : Bool → ℕ → ℕ → ℕ → ℕ → Sweep
+swept full row m l s = record { full = full; row = row; matches = m; labels = l; steps = s }
+
+pub record Quiet (numbers numbers′ : List ℤ) (labs labs′ : List ℕ) (r : Sweep) (to : Sweep) : Type 0 where
+  pub numbers-is : numbers′ ≡ numbers
+  pub labels-is : labs′ ≡ labs
+  pub sweep-is : r ≡ to
+
+pub record Written (A : Asked) (p : List ℕ) (i : Sweep) (numbers numbers′ : List ℤ) (labs labs′ : List ℕ) (r : Sweep) (to : Sweep) : Type 0 where
+  pub numbers-is : numbers′ ≡ wrote numbers (i .matches * width A) (matchNumbers (A .rows) (A .measures) (i .matches + 1) (i .row) (labels (pl A) p))
+  pub labels-is : labs′ ≡ wrote labs (i .labels) (labels (pl A) p)
+  pub sweep-is : r ≡ to
+
+-- a path p found with s steps: its match is written and the search goes on, or it does not fit and the search is over
+abbrev pub ToldBy : Bool → Asked → List ℕ → Sweep → ℕ → List ℤ → List ℤ → List ℕ → List ℕ → Sweep → Type 0
+ToldBy true A p i s numbers numbers′ labs labs′ r =
+    Written A p i numbers numbers′ labs labs′ r (swept false (nextStart (A .mode) (i .row) (endOf (length (pl A)) p)) (i .matches + 1) (i .labels + length (labels (pl A) p)) s)
+ToldBy false A p i s numbers numbers′ labs labs′ r = Quiet numbers numbers′ labs labs′ r (swept true (A .n) (i .matches) (i .labels) s)
+
+abbrev pub Told : Asked → Option (List ℕ) → Sweep → ℕ → List ℤ → List ℤ → List ℕ → List ℕ → Sweep → Type 0
+Told A none i s numbers numbers′ labs labs′ r = Quiet numbers numbers′ labs labs′ r (swept false (i .row + 1) (i .matches) (i .labels) s)
+Told A (some p) i s numbers numbers′ labs labs′ r =
+    ToldBy (fits (length numbers) (length labs) (A .measures) (i .matches) (i .labels) (labels (pl A) p)) A p i s numbers numbers′ labs labs′ r
+
+-- the measures can be read from the rows
+pub record Measured (ms : List ℕ) (count : ℕ) (rows : List ℤ) (columns n : ℕ) : Type 0 where
+  pub few : count ≤ 8
+  pub few-rows : n ≤ 4096
+  pub there : n * columns ≤ length rows
+  pub long : count * 3 ≤ length ms
+  pub columned : (k : ℕ) → k < count → getD ms (k * 3 + 2) 0 < columns
+
+-- a path is on the trail, from the row of the start to END, and its report can be made
+pub record Reports (T : Tables) (n : ℕ) (ms : List ℕ) (count : ℕ) (rows : List ℤ) (columns : ℕ) (trail labs : List ℕ) (i : Sweep) (w : Walk) : Type 0 where
+  pub measured : Measured ms count rows columns n
+  pub path : OnPath T trail w
+  pub going : 0 < w .top
+  pub last : 29 < getD (T .code) (w .place) 0
+  pub bottom : pairIn (P T) (getD trail 0 0) ≡ i .row * P T
+  pub row : i .row < n
+  pub behind : w .row ≤ n
+  pub few : i .matches ≤ i .row
+  pub labels : i .labels ≤ length labs
+
+-- ---- one start
+
+pub record Visits (A : Asked) (Q : Type 0) (ms : List ℕ) (count : ℕ) (rows : List ℤ) (columns : ℕ) (notes trail labs : List ℕ) (i : Sweep) : Type 0 where
+  pub measured : Measured ms count rows columns (A .n)
+  pub legal : Legal (A .tables) (A .holds) (A .n)
+  pub asks : Q
+  pub noted : N (A .tables) (A .n) ≤ 8 * length notes
+  pub trailed : N (A .tables) (A .n) ≤ length trail
+  pub row : i .row < A .n
+  pub steps : i .steps + N (A .tables) (A .n) < 18446744073709551616
+  pub few : i .matches ≤ i .row
+  pub labels : i .labels ≤ length labs
+
+-- the attempt at a start by the definition, with the failed pairs F and s steps before it
+abbrev pub attemptAt : Asked → List Bool → ℕ → ℕ → Option (List ℕ) × Kept
+attemptAt A F s i = answered (attemptBy (A .tables) (A .holds) (A .n) F s i)
+
+pub record Visited (A : Asked) (notes notes′ trail trail′ : List ℕ) (numbers numbers′ : List ℤ) (labs labs′ : List ℕ) (i r : Sweep) : Type 0 where
+  pub kept : bitsOf notes′ (N (A .tables) (A .n)) ≡ (attemptAt A (bitsOf notes (N (A .tables) (A .n))) (i .steps) (i .row)) .1 .0
+  pub told : Told A ((attemptAt A (bitsOf notes (N (A .tables) (A .n))) (i .steps) (i .row)) .0) i ((attemptAt A (bitsOf notes (N (A .tables) (A .n))) (i .steps) (i .row)) .1 .1) numbers numbers′ labs labs′ r
+  pub notes-long : length notes′ ≡ length notes
+  pub trail-long : length trail′ ≡ length trail
+  pub notes-beyond : (z : ℕ) → N (A .tables) (A .n) ≤ z → bitAt notes′ z ≡ bitAt notes z
+  pub trail-beyond : (k : ℕ) → N (A .tables) (A .n) ≤ k → getD trail′ k 0 ≡ getD trail k 0
+  pub more : (attemptAt A (bitsOf notes (N (A .tables) (A .n))) (i .steps) (i .row)) .1 .1 ≤ i .steps + N (A .tables) (A .n)

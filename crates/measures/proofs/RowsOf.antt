@@ -1,0 +1,387 @@
+-- The rows of a measure by the labels of a match: how many there are, the first and the last of them, which numbers are taken for LAST, and what SUM, MIN
+-- and MAX give from the first on.
+use mathlib.Core.Path.{_≡_, refl, sym, ap, _∙_}
+use mathlib.Core.Bool.{Bool, true, false, not}
+use mathlib.Core.List.{List, [], _∷_, _++_}
+use mathlib.Core.Option.{none, some}
+use Prim.Native.Nat.{ℕ, zero, suc, _+_, _*_, _-_, _≤_, _<_}
+use native.Mathlib.Omega.{arith}
+use native.Mathlib.Numerals.{add-one}
+use native.Mathlib.Nat.{mul-le-mul, le-refl}
+use lib.Dec.{eqb, ltb}
+use lib.IntN.{ℤ, pos}
+use lib.Signed.{mag}
+use lib.ListN.{length, getD, take, drop, drop-of-length-le, length-drop}
+use lib.Seq.{drop-cons}
+use borrow.Author.Tests.{eq-eqb, ne-eqb, ltb-true, ltb-false, lt-ltb, le-ltb}
+use Rattle.rules.specs.Basics.{pick, keep}
+use Rattle.rules.specs.Rows.{Table, entry}
+use Rattle.rules.specs.Report.{values, joined, joinAll, overSome, resultOf, measured, twoOf}
+use Rattle.rules.proofs.Signed.{read-back}
+use Rattle.measures.specs.declared.Outcome.{Outcome}
+use Rattle.measures.specs.declared.Outcome.the-variants.{Null, Number}
+use Rattle.measures.specs.declared.Found.{Found}
+use Rattle.measures.specs.declared.Found.the-variants.{At, Nothing}
+use Rattle.measures.specs.Measures.{measureBy, numbersFor, isOf, countOf, NoneIn, meansLast, FirstAt, IsFirst, LastAt, IsLast, Inside, Readable}
+use Rattle.measures.proofs.Joins.{held}
+
+-- ---- is a row one of them
+
+pub all-rows : (letter label : ℕ) → letter ≡ 0 → true ≡ isOf letter label
+all-rows letter label e = simp (eq-eqb letter 0 e)
+
+pub own-rows : (letter label : ℕ) → (letter ≡ 0 → ⊥) → eqb label letter ≡ isOf letter label
+own-rows letter label e = simp (ne-eqb letter 0 e)
+
+-- ---- how many
+
+count-every : (letter : ℕ) (ls : List ℕ) → letter ≡ 0 → countOf letter ls ≡ length ls
+unfolding countOf
+count-every letter [] e = refl
+count-every letter (l ∷ ls) e = let q = count-every letter ls e in rw (← all-rows letter l e) (let s : 1 + countOf letter ls ≡ suc (length ls) = omega arith in s)
+
+-- over all rows there is nothing to count
+pub count-all : (letter : ℕ) (ls : List ℕ) (at : ℕ) → letter ≡ 0 → length ls - at ≡ countOf letter (drop at ls)
+count-all letter ls at e = sym (count-every letter (drop at ls) e ∙ length-drop at ls)
+
+-- the loop that counts: `count` rows from index `at` to below i
+pub record Counting (letter : ℕ) (ls : List ℕ) (at count i : ℕ) : Type 0 where
+  pub upto : i ≤ length ls
+  pub few : count ≤ i
+  pub left : count + countOf letter (drop i ls) ≡ countOf letter (drop at ls)
+
+module _ (letter : ℕ) (ls : List ℕ) (at : ℕ) where
+  pub count-none : at ≤ length ls → Counting letter ls at 0 at
+  count-none h = record { upto = h; few = omega arith; left = omega arith }
+
+  count-front : (i : ℕ) → i < length ls → countOf letter (drop i ls) ≡ pick (isOf letter (getD ls i 0)) 1 0 + countOf letter (drop (i + 1) ls)
+  unfolding countOf
+  count-front i l = ap (countOf letter) (drop-cons ls i 0 l) ∙ ap (λ (k : ℕ). pick (isOf letter (getD ls i 0)) 1 0 + countOf letter (drop k ls)) (sym (add-one i))
+
+  pub count-more : (count i one : ℕ) (t : Bool) → Counting letter ls at count i → i < length ls → t ≡ isOf letter (getD ls i 0)
+      → one ≡ pick t 1 0 → one ≤ 1 → Counting letter ls at (count + one) (i + 1)
+  count-more count i one t h l e o u =
+      let d = count-front i l in
+      let p : one ≡ pick (isOf letter (getD ls i 0)) 1 0 = o ∙ ap (λ (b : Bool). pick {A = ℕ} b 1 0) e in
+      record { upto = omega arith; few = omega (arith, h .few); left = omega (arith, h .left) }
+
+  pub count-done : (count i : ℕ) → Counting letter ls at count i → length ls ≤ i → count ≡ countOf letter (drop at ls)
+  unfolding countOf
+  count-done count i h l = let d : countOf letter (drop i ls) ≡ 0 = ap (countOf letter) (drop-of-length-le ls l) in omega (arith, h .left)
+
+-- ---- no rows
+
+pub none-counted : (f : ℕ) → f ≡ 1 → numbersFor (Number (pos 0)) ≡ twoOf (resultOf f [])
+unfolding numbersFor twoOf resultOf
+none-counted f e = simp (eq-eqb f 1 e)
+
+pub none-null : (f : ℕ) → (f ≡ 1 → ⊥) → numbersFor Null ≡ twoOf (resultOf f [])
+unfolding numbersFor twoOf resultOf overSome
+none-null f h = simp (ne-eqb f 1 h)
+
+-- ---- the first and the last
+
+-- the loop that seeks the first: none of the measure's rows lies below index j
+pub record Seeking (letter : ℕ) (ls : List ℕ) (j : ℕ) : Type 0 where
+  pub upto : j ≤ length ls
+  pub no-row : NoneIn letter ls 0 j
+
+module _ (letter : ℕ) (ls : List ℕ) where
+  pub seek-none : Seeking letter ls 0
+  seek-none = record { upto = omega arith; no-row = λ k a b. absurd (omega arith) }
+
+  pub seek-on : (j : ℕ) (t : Bool) → Seeking letter ls j → j < length ls → t ≡ isOf letter (getD ls j 0) → t ≡ false → Seeking letter ls (j + 1)
+  seek-on j t h l e q = record { upto = omega arith; no-row = λ k a b. go k b (ltb k j) refl }
+    where
+      go : (k : ℕ) → k < j + 1 → (u : Bool) → ltb k j ≡ u → isOf letter (getD ls k 0) ≡ false
+      go k b true z = h .no-row k (omega arith) (ltb-true k j z)
+      go k b false z = let y : k ≡ j = omega (arith, ltb-false k j z) in rw y (sym e ∙ q)
+
+  pub first-here : (j : ℕ) (t : Bool) → Seeking letter ls j → j < length ls → t ≡ isOf letter (getD ls j 0) → t ≡ true → IsFirst letter ls (At j)
+  unfolding IsFirst
+  first-here j t h l e q = record { inside = l; is-of = sym e ∙ q; none-before = h .no-row }
+
+  pub first-nowhere : (j : ℕ) → Seeking letter ls j → length ls ≤ j → IsFirst letter ls Nothing
+  unfolding IsFirst
+  first-nowhere j h l = λ k a b. h .no-row k a (omega arith)
+
+  pub first-at : (found : Found) (i : ℕ) → IsFirst letter ls found → found ≡ At i → FirstAt letter ls i
+  unfolding IsFirst
+  first-at found i h e = rw e at h
+
+  no-first : (found : Found) → IsFirst letter ls found → found ≡ Nothing → NoneIn letter ls 0 (length ls)
+  unfolding IsFirst
+  no-first found h e = rw e at h
+
+  -- the loop that seeks the last: none lies from index i on
+  pub record Backing (i : ℕ) : Type 0 where
+    pub upto : i ≤ length ls
+    pub no-row : NoneIn letter ls i (length ls)
+
+  pub back-none : Backing (length ls)
+  back-none = record { upto = omega arith; no-row = λ k a b. absurd (omega arith) }
+
+  pub back-on : (i : ℕ) (t : Bool) → Backing i → t ≡ isOf letter (getD ls (i - 1) 0) → t ≡ false → Backing (i - 1)
+  back-on i t h e q = record { upto = omega (arith, h .upto); no-row = λ k a b. go k a b (ltb k i) refl }
+    where
+      go : (k : ℕ) → i - 1 ≤ k → k < length ls → (u : Bool) → ltb k i ≡ u → isOf letter (getD ls k 0) ≡ false
+      go k a b true z = let y : k ≡ i - 1 = omega (arith, ltb-true k i z) in rw y (sym e ∙ q)
+      go k a b false z = h .no-row k (ltb-false k i z) b
+
+  pub last-here : (i : ℕ) (t : Bool) → Backing i → 0 < i → t ≡ isOf letter (getD ls (i - 1) 0) → t ≡ true → IsLast letter ls (At (i - 1))
+  unfolding IsLast
+  last-here i t h l e q = record { inside = omega (arith, h .upto); is-of = sym e ∙ q; none-behind = λ k a b. h .no-row k (omega arith) b }
+
+  pub last-nowhere : (i : ℕ) → Backing i → i ≤ 0 → IsLast letter ls Nothing
+  unfolding IsLast
+  last-nowhere i h l = λ k a b. h .no-row k (omega arith) b
+
+  pub last-at : (found : Found) (i : ℕ) → IsLast letter ls found → found ≡ At i → LastAt letter ls i
+  unfolding IsLast
+  last-at found i h e = rw e at h
+
+  pub last-inside : (found : Found) (i : ℕ) → IsLast letter ls found → found ≡ At i → i < length ls
+  last-inside found i h e = last-at found i h e .inside
+
+  no-last : (found : Found) → IsLast letter ls found → found ≡ Nothing → NoneIn letter ls 0 (length ls)
+  unfolding IsLast
+  no-last found h e = rw e at h
+
+-- ---- the numbers that are taken for LAST
+
+pub low-last : (f : ℕ) → f < 1 → true ≡ meansLast f
+unfolding meansLast
+low-last f h = simp (lt-ltb f 1 h)
+
+pub high-last : (f : ℕ) → 1 ≤ f → ltb 5 f ≡ meansLast f
+unfolding meansLast
+high-last f h = simp (le-ltb f 1 h)
+
+last-not : (f k : ℕ) → meansLast f ≡ true → 1 ≤ k → k ≤ 5 → f ≡ k → ⊥
+last-not f k h a b e =
+    let p = high-last f (omega arith) in
+    let q = ltb-true 5 f (p ∙ h) in
+    omega arith
+
+-- the numbers of the other five
+module _ (f : ℕ) (t : Bool) (e : t ≡ meansLast f) (q : t ≡ false) where
+  pub others-from : 1 ≤ f
+  others-from = go (ltb f 1) refl
+    where
+      go : (u : Bool) → ltb f 1 ≡ u → 1 ≤ f
+      go true z = let w : true ≡ false = low-last f (ltb-true f 1 z) ∙ sym e ∙ q in let y : _≡_ {A = ℕ} 0 1 = cc in absurd (omega arith)
+      go false z = ltb-false f 1 z
+
+  pub others-upto : f ≤ 5
+  others-upto = ltb-false 5 f (high-last f others-from ∙ sym e ∙ q)
+
+-- ---- the entries of a measure's rows
+
+module _ (t : Table) (f letter column : ℕ) where
+  abbrev entries : ℕ → List ℕ → List ℤ
+  entries = values t (measureBy f letter column)
+
+  length-keep : (u : Bool) (x : ℤ) (xs : List ℤ) → length (keep u x xs) ≡ pick u 1 0 + length xs
+  length-keep true x xs = omega arith
+  length-keep false x xs = omega arith
+
+  pub entries-counted : (row : ℕ) (ls : List ℕ) → length (entries row ls) ≡ countOf letter ls
+  unfolding values countOf
+  entries-counted row [] = refl
+  entries-counted row (l ∷ ls) = length-keep (isOf letter l) _ _ ∙ ap (λ (k : ℕ). pick (isOf letter l) 1 0 + k) (entries-counted (row + 1) ls)
+
+  entries-none : (row : ℕ) (ls : List ℕ) → NoneIn letter ls 0 (length ls) → entries row ls ≡ []
+  unfolding values
+  entries-none row [] h = refl
+  entries-none row (l ∷ ls) h =
+      let e : isOf letter l ≡ false = h 0 (omega arith) (omega arith) in
+      rw e (entries-none (row + 1) ls (λ k a b. h (suc k) (omega arith) (omega arith)))
+
+  entries-first : (row : ℕ) (ls : List ℕ) (i : ℕ) → i < length ls → isOf letter (getD ls i 0) ≡ true → NoneIn letter ls 0 i
+      → entries row ls ≡ entry t (row + i) column ∷ entries (row + suc i) (drop (suc i) ls)
+  unfolding values
+  entries-first row [] i h e g = absurd (omega arith)
+  entries-first row (l ∷ ls) zero h e g =
+      let a : row ≡ row + 0 = omega arith in
+      rw e (ap (λ (k : ℕ). entry t k column ∷ entries (row + 1) ls) a)
+  entries-first row (l ∷ ls) (suc i) h e g =
+      let z : isOf letter l ≡ false = g 0 (omega arith) (omega arith) in
+      let a : row + 1 + i ≡ row + suc i = omega arith in
+      let b : row + 1 + suc i ≡ row + suc (suc i) = omega arith in
+      rw z (entries-first (row + 1) ls i (omega arith) e (λ k c d. g (suc k) (omega arith) (omega arith))
+      ∙ ap (λ (k : ℕ). entry t k column ∷ entries (row + 1 + suc i) (drop (suc i) ls)) a ∙ ap (λ (k : ℕ). entry t (row + suc i) column ∷ entries k (drop (suc i) ls)) b)
+
+  entries-last : (row : ℕ) (ls : List ℕ) (i : ℕ) → i < length ls → isOf letter (getD ls i 0) ≡ true → NoneIn letter ls (suc i) (length ls)
+      → entries row ls ≡ entries row (take i ls) ++ (entry t (row + i) column ∷ [])
+  unfolding values
+  entries-last row [] i h e g = absurd (omega arith)
+  entries-last row (l ∷ ls) zero h e g =
+      let a : row ≡ row + 0 = omega arith in
+      let n : entries (row + 1) ls ≡ [] = entries-none (row + 1) ls (λ k c d. g (suc k) (omega arith) (omega arith)) in
+      rw e (ap (λ (v : List ℤ). entry t row column ∷ v) n ∙ ap (λ (k : ℕ). entry t k column ∷ []) a)
+  entries-last row (l ∷ ls) (suc i) h e g =
+      let a : row + 1 + i ≡ row + suc i = omega arith in
+      ap (keep (isOf letter l) (entry t row column)) (entries-last (row + 1) ls i (omega arith) e (λ k c d. g (suc k) (omega arith) (omega arith))
+      ∙ ap (λ (k : ℕ). entries (row + 1) (take i ls) ++ (entry t k column ∷ [])) a)
+      ∙ kept (isOf letter l) (entry t row column) (entries (row + 1) (take i ls)) (entry t (row + suc i) column ∷ [])
+    where
+      kept : (u : Bool) (x : ℤ) (xs ys : List ℤ) → keep u x (xs ++ ys) ≡ keep u x xs ++ ys
+      kept true x xs ys = refl
+      kept false x xs ys = refl
+
+  -- ---- the six functions
+
+  front-stays : (f ≡ 5) → (a : ℤ) (xs : List ℤ) → joinAll f a xs ≡ a
+  unfolding joinAll joined
+  front-stays e a [] = refl
+  front-stays e a (x ∷ xs) = let j : joined f a x ≡ a = rw e in ap (λ (v : ℤ). joinAll f v xs) j ∙ front-stays e a xs
+
+  module _ (h : meansLast f ≡ true) where
+    other : (k : ℕ) → 1 ≤ k → k ≤ 5 → eqb f k ≡ false
+    other k l u = ne-eqb f k (last-not f k h l u)
+
+    back-stays : (a : ℤ) (xs : List ℤ) (x : ℤ) → joinAll f a (xs ++ (x ∷ [])) ≡ x
+    unfolding joinAll joined
+    back-stays a [] x = simp
+        (other 2 (omega arith) (omega arith), other 3 (omega arith) (omega arith), other 4 (omega arith) (omega arith), other 5 (omega arith) (omega arith))
+    back-stays a (y ∷ xs) x = back-stays (joined f a y) xs x
+
+    over-back : (xs : List ℤ) (x : ℤ) → overSome f (xs ++ (x ∷ [])) ≡ some x
+    unfolding overSome joinAll
+    over-back [] x = refl
+    over-back (y ∷ xs) x = ap some (back-stays y xs x)
+
+  module _ (first : ℕ) (ls : List ℕ) where
+    abbrev two : List ℤ
+    two = twoOf (measured t first ls (measureBy f letter column))
+
+    over : (f ≡ 1 → ⊥) → two ≡ twoOf (overSome f (entries first ls))
+    unfolding measured resultOf
+    over h = simp (ne-eqb f 1 h)
+
+    pub gives-none : (found : Found) (r : Outcome) → IsFirst letter ls found → found ≡ Nothing → numbersFor r ≡ twoOf (resultOf f []) → numbersFor r ≡ two
+    unfolding measured
+    gives-none found r h e q = q ∙ ap (λ (v : List ℤ). twoOf (resultOf f v)) (sym (entries-none first ls (no-first letter ls found h e)))
+
+    count-from : (at : ℕ) → FirstAt letter ls at → countOf letter (drop at ls) ≡ length (entries first ls)
+    count-from at h =
+        let c : countOf letter (drop at ls) ≡ 1 + countOf letter (drop (at + 1) ls) = count-front letter ls at at (h .inside)
+        ∙ ap (λ (b : Bool). pick {A = ℕ} b 1 0 + countOf letter (drop (at + 1) ls)) (h .is-of) in
+        let d = entries-counted (first + suc at) (drop (suc at) ls) in
+        let e : length (entries first ls) ≡ suc (length (entries (first + suc at) (drop (suc at) ls))) =
+        ap length (entries-first first ls at (h .inside) (h .is-of) (h .none-before)) in
+        let g : countOf letter (drop (at + 1) ls) ≡ countOf letter (drop (suc at) ls) = ap (λ (k : ℕ). countOf letter (drop k ls)) (add-one at) in
+        omega arith
+
+    module _ (at : ℕ) (h : FirstAt letter ls at) where
+      pub gives-count : (k : ℕ) (r : ℤ) → f ≡ 1 → k ≡ countOf letter (drop at ls) → r ≡ pos k → k ≤ 4096 → numbersFor (Number (held r)) ≡ two
+      unfolding measured resultOf twoOf numbersFor
+      gives-count k r e q p g = simp (eq-eqb f 1 e) (ap (λ (v : ℤ). pos 1 ∷ v ∷ []) (ap held p ∙ read-back (pos k) (omega arith) ∙ ap pos (q ∙ count-from at h)))
+
+      over-first : f ≡ 5 → overSome f (entries first ls) ≡ some (entry t (first + at) column)
+      unfolding overSome
+      over-first e = rw (entries-first first ls at (h .inside) (h .is-of) (h .none-before))
+          (ap some (front-stays e (entry t (first + at) column) (entries (first + suc at) (drop (suc at) ls))))
+
+    -- a number that is the result
+    pub gives : (r : ℤ) → (f ≡ 1 → ⊥) → overSome f (entries first ls) ≡ some r → numbersFor (Number r) ≡ two
+    unfolding twoOf numbersFor
+    gives r h e = sym (over h ∙ ap twoOf e)
+
+    -- the number that the other four leave is FIRST's
+    pub gives-first : (at : ℕ) (r : ℤ) → 1 ≤ f → f ≤ 5 → (f ≡ 1 → ⊥) → (f ≡ 2 → ⊥) → (f ≡ 3 → ⊥) → (f ≡ 4 → ⊥) → FirstAt letter ls at
+        → r ≡ entry t (first + at) column → mag r < 2147483648
+        → numbersFor (Number (held r)) ≡ two
+    gives-first at r l u h1 h2 h3 h4 h q g =
+        let e : f ≡ 5 = omega arith in
+        gives (held r) h1 (over-first at h e ∙ ap some (sym (read-back r (omega arith) ∙ q)))
+
+    pub last-null : (found : Found) → meansLast f ≡ true → IsLast letter ls found → found ≡ Nothing → numbersFor Null ≡ two
+    unfolding numbersFor twoOf overSome
+    last-null found n h e = sym (over (last-not f 1 n (omega arith) (omega arith))
+        ∙ ap (λ (v : List ℤ). twoOf (overSome f v)) (entries-none first ls (no-last letter ls found h e)))
+
+    pub gives-last : (at : ℕ) (r : ℤ) → meansLast f ≡ true → LastAt letter ls at → r ≡ entry t (first + at) column → mag r < 2147483648
+        → numbersFor (Number (held r)) ≡ two
+    gives-last at r n h q g =
+        let e : entries first ls ≡ entries first (take at ls) ++ (entry t (first + at) column ∷ []) =
+        entries-last first ls at (h .inside) (h .is-of) (λ k a b. h .none-behind k (omega arith) b) in
+        gives (held r) (last-not f 1 n (omega arith) (omega arith))
+        (ap (overSome f) e ∙ over-back n (entries first (take at ls)) (entry t (first + at) column) ∙ ap some (sym (read-back r (omega arith) ∙ q)))
+
+    pub gives-joined : (k : ℕ) (r : ℤ) → mag r < 9223372036854775808 → f ≡ k → (k ≡ 1 → ⊥) → overSome k (values t (measureBy k letter column) first ls) ≡ some r
+        → numbersFor (Number (held r)) ≡ two
+    gives-joined k r s e h q =
+        gives (held r) (λ w. h (sym e ∙ w)) (ap (λ (i : ℕ). overSome i (values t (measureBy i letter column) first ls)) e ∙ q ∙ ap some (sym (read-back r s)))
+
+    -- ---- the loop of SUM, MIN and MAX: `value` is what the measure's rows among the first i give together
+
+    pub record Joining (value : ℤ) (i : ℕ) : Type 0 where
+      pub upto : i ≤ length ls
+      pub few : length ls ≤ 4096
+      pub small : mag value ≤ 2147483648 * i
+      pub goes : some (joinAll f value (entries (first + i) (drop i ls))) ≡ overSome f (entries first ls)
+
+    pub joining-first : (i : ℕ) (x : ℤ) → FirstAt letter ls i → length ls ≤ 4096 → x ≡ entry t (first + i) column → mag x < 2147483648 → Joining (held x) (i + 1)
+    unfolding overSome
+    joining-first i x w l q g =
+        let b : held x ≡ x = read-back x (omega arith) in
+        record {
+          upto = omega (arith, w .inside);
+          few = l;
+          small = rw b (omega arith);
+          goes = rw (entries-first first ls i (w .inside) (w .is-of) (w .none-before), b, q, add-one i);
+        }
+
+    pub joining-more : (value : ℤ) (i : ℕ) (r : ℤ) → Joining value i → i < length ls → r ≡ pick (isOf letter (getD ls i 0)) (joined f value (entry t (first + i) column)) value
+        → mag r ≤ mag value + 2147483648 → Joining (held r) (i + 1)
+    unfolding joinAll values
+    joining-more value i r h l e g =
+        let b : held r ≡ r = read-back r (omega (arith, h .upto, h .few, h .small)) in
+        let d : entries (first + i) (drop i ls) ≡ keep (isOf letter (getD ls i 0)) (entry t (first + i) column) (entries (first + i + 1) (drop (suc i) ls)) =
+        ap (entries (first + i)) (drop-cons ls i 0 l) in
+        let a : first + (i + 1) ≡ first + i + 1 = omega arith in
+        record {
+          upto = omega arith;
+          few = h .few;
+          small = rw b (omega (arith, h .small));
+          goes = rw (b, e, a, add-one i) (step (isOf letter (getD ls i 0)) (entries (first + i + 1) (drop (suc i) ls))
+              ∙ ap (λ (v : List ℤ). some (joinAll f value v)) (sym d) ∙ h .goes);
+        }
+      where
+        step : (u : Bool) (xs : List ℤ) → some (joinAll f (pick u (joined f value (entry t (first + i) column)) value) xs) ≡ some
+            (joinAll f value (keep u (entry t (first + i) column) xs))
+        step true xs = refl
+        step false xs = refl
+
+    pub joining-all : (value : ℤ) (i : ℕ) → Joining value i → length ls ≤ i → overSome f (entries first ls) ≡ some value
+    unfolding joinAll values
+    joining-all value i h l = rw (← h .goes) (ap (λ (v : List ℕ). some (joinAll f value (entries (first + i) v))) (drop-of-length-le ls l))
+
+    pub joining-fine : (value : ℤ) (i : ℕ) → Joining value i → mag value ≤ 8796093022208
+    joining-fine value i h = omega (arith, h .upto, h .few, h .small)
+
+-- ---- rows that are there
+
+module _ (rows : List ℤ) (columns first long column : ℕ) (h : Readable rows columns first long column) where
+  pub row-inside : (i : ℕ) → i < long → Inside rows columns (first + i) column
+  row-inside i l =
+      let m : (first + i + 1) * columns ≤ (first + long) * columns = mul-le-mul (let e : first + i + 1 ≤ first + long = omega arith in e) (le-refl columns) in
+      record { there = omega (arith, h .there); is-column = h .is-column }
+
+  pub row-small : (i : ℕ) → i < long → first + i < length rows
+  row-small i l =
+      let g = row-inside i l in
+      let m : (first + i + 1) * 1 ≤ (first + i + 1) * columns = mul-le-mul (le-refl (first + i + 1)) (let e : 1 ≤ columns = omega (arith, h .is-column) in e) in
+      omega (arith, g .there)
+
+-- a measure's column as an index is that column
+pub same-column : (t : Table) (first : ℕ) (ls : List ℕ) (f letter column index : ℕ) (r : Outcome) → index ≡ column
+    → numbersFor r ≡ twoOf (measured t first ls (measureBy f letter index)) → numbersFor r ≡ twoOf (measured t first ls (measureBy f letter column))
+same-column t first ls f letter column index r e q = q ∙ ap (λ (c : ℕ). twoOf (measured t first ls (measureBy f letter c))) e
+
+-- what is LAST's result is that of each number that is taken for it
+pub as-last : (t : Table) (first : ℕ) (ls : List ℕ) (f letter column index : ℕ) (r : Outcome) (b : Bool) → b ≡ meansLast f → b ≡ true → index ≡ column
+    → ((g : ℕ) → meansLast g ≡ true → numbersFor r ≡ twoOf (measured t first ls (measureBy g letter index)))
+    → numbersFor r ≡ twoOf (measured t first ls (measureBy f letter column))
+as-last t first ls f letter column index r b e q i h = same-column t first ls f letter column index r i (h f (sym e ∙ q))

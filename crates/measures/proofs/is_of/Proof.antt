@@ -1,0 +1,14 @@
+-- `measures::is_of` meets its contract by the laws of RowsOf.
+use borrow.Author.Needs.{needs}
+use Rattle.measures.proofs.RowsOf.{all-rows, own-rows}
+use Rattle.measures.proofs.is_of.Statement.{statement}
+use Rattle.measures.proofs.is_of.Tie as tie
+
+returns : tie.Need-returns
+returns c = search (needs, all-rows)
+
+returns-2 : tie.Need-returns-2
+returns-2 c = search (needs, own-rows)
+
+pub is-of-spec : {M : Type 1} → statement M
+is-of-spec = tie.close (tie.spec returns returns-2)

@@ -1,0 +1,58 @@
+-- `measures::measure_of` meets its contract by the laws of RowsOf.
+use Rattle.measures.proofs.RowsOf.{others-from, others-upto, as-last, gives-none, first-at, same-column}
+use borrow.Author.Needs.{needs}
+use Rattle.measures.proofs.measure_of.Statement.{statement}
+use Rattle.measures.proofs.measure_of.Tie as tie
+
+means-last-requires : tie.Need-means-last-requires
+means-last-requires c κs = search needs
+
+wide-requires : tie.Need-wide-requires
+wide-requires c κs = search needs
+
+last-measure-requires : tie.Need-last-measure-requires
+last-measure-requires c κs = search needs
+
+returns : tie.Need-returns
+returns c = search (needs, as-last)
+
+first-of-requires : tie.Need-first-of-requires
+first-of-requires c κs = search needs
+
+enum-known-at : tie.Need-enum-known-at
+enum-known-at c = search needs
+
+enum-told : tie.Need-enum-told
+enum-told c = search needs
+
+of-no-rows-requires : tie.Need-of-no-rows-requires
+of-no-rows-requires c κs = search needs
+
+returns-2 : tie.Need-returns-2
+returns-2 c = search (needs, gives-none)
+
+wide-requires-2 : tie.Need-wide-requires-2
+wide-requires-2 c κs = search needs
+
+measure-from-requires : tie.Need-measure-from-requires
+measure-from-requires c κs = search (needs, others-from, others-upto, first-at)
+
+returns-3 : tie.Need-returns-3
+returns-3 c = search (needs, same-column)
+
+pub measure-of-spec : {M : Type 1} → statement M
+measure-of-spec =
+    tie.close
+    (tie.spec
+    means-last-requires
+    wide-requires
+    last-measure-requires
+    returns
+    first-of-requires
+    enum-known-at
+    enum-told
+    of-no-rows-requires
+    returns-2
+    wide-requires-2
+    measure-from-requires
+    returns-3)

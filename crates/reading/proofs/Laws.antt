@@ -1,0 +1,340 @@
+-- One law for each way through the functions of this crate: measures whose letters are known, and the answer 1 to 9 from its parts.
+use mathlib.Core.Path.{_≡_, refl, ap, ap₂, sym, _∙_}
+use mathlib.Core.Bool.{Bool, true, false, not, _&&_, _||_}
+use mathlib.Core.List.{List, [], _∷_, _++_}
+use Prim.Native.Nat.{ℕ, zero, suc, _+_, _-_, _/_, _%_, _≤_, _<_}
+use lib.ListN.{length, take, drop, length-take, length-drop}
+use native.Mathlib.Nat.{not-suc-le-zero}
+use native.Mathlib.Numerals.{add-one}
+use native.Mathlib.Omega.{arith}
+use lib.Dec.{eqb, ltb}
+use lib.IntN.{ℤ}
+use borrow.Author.Tests.{ltb-true, ltb-false, lt-ltb, le-ltb, ne-eqb, not-true, not-false}
+use mathlib.Core.Option.{some}
+use Rattle.rules.specs.Basics.{pick, inRange, isLetter, every, has, tabulate}
+use Rattle.rules.specs.Query.{Measure, functionFits, cut, misplaced, unfit, doubled, columnsOf, textOf, parts}
+use Rattle.rules.specs.Language.{Tree, pattern, letters, Written}
+use Rattle.rules.specs.Answers.{tooDeep, treeIn, noTree, hasEmptyLoop, tooMany, P, lettersIn, foreign, lowest, queryTests, badRows, roomAnswer, roomOf}
+use Rattle.rules.specs.Answers as A
+use Rattle.rules.specs.Rows.{tableOf}
+use Rattle.rules.proofs.Accepted.{tree-of}
+use Rattle.rules.proofs.Bounds.{letters-of-text}
+use Rattle.rules.proofs.Choice.{clash, and-left, and-right}
+use Rattle.rules.proofs.Grammar.{tree-exactly}
+use Rattle.rules.proofs.Lowest.{lowest-before, lowest-after, none-true}
+use Rattle.query.specs.Read.{firstAnswer}
+use Rattle.rules.specs.Reader.{treeOf}
+use Rattle.decode.specs.declared.Parts.{Parts}
+use Rattle.judge.specs.declared.Verdict.{Verdict}
+use Rattle.judge.specs.Judged.{textTests, textAnswer, Judging}
+use Rattle.reading.specs.declared.Query.{Query}
+use Rattle.reading.specs.declared.Size.{Size}
+use Rattle.decode.specs.Layout.{measureIn, measuresIn, Fits, Decoded}
+use Rattle.decode.specs.Layout.{Room}
+use Rattle.reading.specs.Reading.{knownIn, foreignIn, queryAnswer, refusal, JudgeRoom, JudgedParts, Nodes, Space, Whole, Asked, asRoom}
+
+-- ---- letters
+
+pub letter-free : (text : List ℕ) (l : ℕ) → l ≡ 0 → true ≡ knownIn text l
+unfolding knownIn
+letter-free text l e = rw (e)
+
+pub letter-looked : (text : List ℕ) (l : ℕ) (r : Bool) → (l ≡ 0 → ⊥) → r ≡ has l text → r ≡ knownIn text l
+unfolding knownIn
+letter-looked text l r d e = rw (e, ne-eqb l 0 d)
+
+-- ---- the loop over the measures
+
+-- the first k measures' letters are known
+pub record Known (text measures : List ℕ) (count k : ℕ) : Type 0 where
+  pub within : k ≤ count
+  pub is : every (λ (m : Measure). knownIn text (m .letter)) (measuresIn measures k) ≡ true
+
+module _ {A : Type 0} (g : A → Bool) where
+  every-append : (xs ys : List A) → every g (xs ++ ys) ≡ (every g xs && every g ys)
+  unfolding every
+  every-append [] ys = refl
+  every-append (x ∷ xs) ys = go (every-append xs ys) (g x)
+    where
+      go : every g (xs ++ ys) ≡ (every g xs && every g ys) → (t : Bool) → (t && every g (xs ++ ys)) ≡ ((t && every g xs) && every g ys)
+      go ih true = ih
+      go ih false = refl
+
+  and-one : (t : Bool) → (t && true) ≡ t
+  and-one true = refl
+  and-one false = refl
+
+  -- one element more
+  every-more : (f : ℕ → A) (n : ℕ) → every g (tabulate (suc n) f) ≡ (every g (tabulate n f) && g (f n))
+  unfolding tabulate every
+  every-more f n = every-append (tabulate n f) (f n ∷ []) ∙ ap (λ (t : Bool). every g (tabulate n f) && t) (and-one (g (f n)))
+
+  and-none : (t : Bool) → (t && false) ≡ false
+  and-none true = refl
+  and-none false = refl
+
+  -- one element that is not so decides
+  every-stop : (f : ℕ → A) (n k : ℕ) → k < n → g (f k) ≡ false → every g (tabulate n f) ≡ false
+  every-stop f zero k h e = absurd (not-suc-le-zero h)
+  every-stop f (suc n) k h e = every-more f n ∙ go (λ l. every-stop f n k l e) (ltb k n) refl
+    where
+      go : (k < n → every g (tabulate n f) ≡ false) → (t : Bool) → ltb k n ≡ t → (every g (tabulate n f) && g (f n)) ≡ false
+      go ih true q = rw (ih (ltb-true k n q))
+      go ih false q =
+          let z : k ≡ n = omega (arith, ltb-false k n q) in
+          let w : g (f n) ≡ false = ap (λ (i : ℕ). g (f i)) (sym z) ∙ e in
+          rw w (and-none (every g (tabulate n f)))
+
+module _ (text measures : List ℕ) (count : ℕ) where
+  pub known-none : Known text measures count 0
+  unfolding every measuresIn tabulate
+  known-none = record { within = omega arith; is = refl }
+
+  pub known-more : (k : ℕ) (m : Measure) (r : Bool) → Known text measures count k → k < count → m ≡ measureIn measures k → r ≡ knownIn text (m .letter) → not r ≡ false
+      → Known text measures count (k + 1)
+  unfolding measuresIn
+  known-more k m r i h e q d =
+      let t : knownIn text (measureIn measures k .letter) ≡ true = ap (λ (m : Measure). knownIn text (m .letter)) (sym e) ∙ sym q ∙ not-false r d in
+      record { within = omega arith; is = rw (add-one, every-more (λ (m : Measure). knownIn text (m .letter)) (measureIn measures) k, i .is) t }
+
+  pub known-stop : (k : ℕ) (m : Measure) (r : Bool) → k < count → m ≡ measureIn measures k → r ≡ knownIn text (m .letter) → not r ≡ true → true ≡ foreignIn text measures count
+  unfolding foreignIn measuresIn
+  known-stop k m r h e q d =
+      let z : knownIn text (measureIn measures k .letter) ≡ false = ap (λ (m : Measure). knownIn text (m .letter)) (sym e) ∙ sym q ∙ not-true r d in
+      rw (every-stop (λ (m : Measure). knownIn text (m .letter)) (measureIn measures) count k h z)
+
+  pub known-all : (k : ℕ) → Known text measures count k → count ≤ k → false ≡ foreignIn text measures count
+  unfolding foreignIn
+  known-all k i h = let e : count ≡ k = omega (arith, i .within) in rw (e, i .is)
+
+-- ---- the answer from its parts
+
+-- the tests for answers 1 to 3, and those for 4 to 9
+abbrev firstTests : List ℕ → List Bool
+firstTests s = cut s ∷ misplaced s ∷ unfit s ∷ []
+
+abbrev laterTests : List ℕ → List Bool
+laterTests s = tooDeep s ∷ noTree (treeIn s) ∷ hasEmptyLoop (treeIn s) ∷ tooMany (treeIn s) ∷ doubled s ∷ foreign s ∷ []
+
+-- with no answer 1 to 3, the answer is the lowest of 4 to 9
+later : (s : List ℕ) → firstAnswer s ≡ 0 → queryAnswer s ≡ lowest 4 (laterTests s)
+unfolding queryAnswer queryTests firstAnswer lowest
+later s e = lowest-after 1 (firstTests s) (laterTests s) (omega arith) e
+
+-- an answer 1 to 3 is the query's
+pub first-is : (s : List ℕ) → (firstAnswer s ≡ 0 → ⊥) → firstAnswer s ≡ queryAnswer s
+unfolding queryAnswer queryTests firstAnswer lowest
+first-is s d = sym (lowest-before 1 (firstTests s) (laterTests s) d)
+
+-- by the pattern's answer: where it is 4 to 7 it is the query's, and where it is 0 DEFINEs and measures decide
+pub by-text : (s : List ℕ) → firstAnswer s ≡ 0 → (textAnswer (textOf s) ≡ 0 → ⊥) → textAnswer (textOf s) ≡ queryAnswer s
+unfolding textAnswer textTests tooDeep treeIn
+by-text s e d = sym (later s e ∙ lowest-before 4 (textTests (textOf s)) (doubled s ∷ foreign s ∷ []) d)
+
+pub by-parts : (s : List ℕ) → firstAnswer s ≡ 0 → textAnswer (textOf s) ≡ 0 → queryAnswer s ≡ pick (doubled s) 8 (pick (foreign s) 9 0)
+unfolding textAnswer textTests tooDeep treeIn lowest
+by-parts s e d = later s e ∙ lowest-after 4 (textTests (textOf s)) (doubled s ∷ foreign s ∷ []) (omega arith) d
+
+-- a text whose answer is 0 has a tree
+pub has-tree : (s : List ℕ) → textAnswer (textOf s) ≡ 0 → (p : Tree pattern) × (treeIn s ≡ some p)
+unfolding textAnswer textTests treeIn
+has-tree s d = tree-of (treeIn s) (none-true 4 (textTests (textOf s)) (omega arith) d 1)
+
+-- ---- measures' letters
+
+module _ {A : Type 0} (g h : A → Bool) where
+  -- two tests that agree on the first n
+  every-same : (f : ℕ → A) (n : ℕ) → ((k : ℕ) → k < n → g (f k) ≡ h (f k)) → every g (tabulate n f) ≡ every h (tabulate n f)
+  unfolding tabulate every
+  every-same f zero e = refl
+  every-same f (suc n) e =
+      let a : every g (tabulate n f) ≡ every h (tabulate n f) = every-same f n (λ k l. e k (omega arith)) in
+      let b : g (f n) ≡ h (f n) = e n (omega arith) in
+      every-more g f n ∙ ap₂ _&&_ a b ∙ sym (every-more h f n)
+
+-- a measure's letter is 0 or a letter
+letter-fits : (columns f l c : ℕ) → functionFits columns f l c ≡ true → (eqb l 0 || isLetter l) ≡ true
+unfolding functionFits
+letter-fits columns f l c e =
+    and-left (eqb l 0 || isLetter l) (ltb c columns && (not (eqb f 1) || eqb c 0)) (and-right (inRange 1 6 f) ((eqb l 0 || isLetter l) && (ltb c columns && (not (eqb f 1) || eqb c 0))) e)
+
+-- for such a letter, standing in the pattern is standing in its text
+letter-known : (p : Tree pattern) (text : List ℕ) (l : ℕ) → Written p text → (eqb l 0 || isLetter l) ≡ true → (eqb l 0 || has l (letters p)) ≡ knownIn text l
+unfolding knownIn
+letter-known p text l w e = rw (letters-of-text w l) (go (eqb l 0) (isLetter l) (has l text) e)
+  where
+    go : (a b c : Bool) → (a || b) ≡ true → (a || (b && c)) ≡ (a || c)
+    go true b c q = refl
+    go false true c q = refl
+    go false false c q = clash q
+
+-- answer 9 by the text
+pub foreign-is : (s measures : List ℕ) (count columns : ℕ) (p : Tree pattern) → treeIn s ≡ some p → ((k : ℕ) → k < count → Fits columns (measureIn measures k))
+    → measuresIn measures count ≡ parts s .measures → foreign s ≡ foreignIn (textOf s) measures count
+unfolding foreign foreignIn lettersIn treeIn measuresIn
+foreign-is s measures count columns p e f q =
+    let w : Written p (textOf s) = tree-exactly (textOf s) p .0 e in
+    rw (e, ← q) (ap not (every-same (λ (m : Measure). eqb (m .letter) 0 || has (m .letter) (letters p)) (λ (m : Measure). knownIn (textOf s) (m .letter)) (measureIn measures) count
+    (λ k l. letter-known p (textOf s) (measureIn measures k .letter) w (letter-fits columns (measureIn measures k .function) (measureIn measures k .letter) (measureIn measures k .column) (f k l)))))
+
+-- ---- judging the parts
+
+module _ (s room room′ measures : List ℕ) (p : Parts) (j : JudgeRoom s room measures p) (e : ℕ) (v : Verdict) (i : e ≡ p .start + p .len)
+    (g : Judging (take (e - p .start) (drop (p .start) s)) room room′ v) where
+  the-text : take (e - p .start) (drop (p .start) s) ≡ textOf s
+  the-text = let q : e - p .start ≡ p .len = omega arith in ap (λ (k : ℕ). take k (drop (p .start) s)) q ∙ j .text
+
+  the-answer : v .answer ≡ textAnswer (textOf s)
+  the-answer = g .answer ∙ ap textAnswer the-text
+
+  refused-is : (a : ℕ) (r : Query) → (a ≡ 0 → ⊥) → a ≡ queryAnswer s → r ≡ refusal a → JudgedParts s room′ measures p r
+  refused-is a r d q b =
+      let x : r .answer ≡ a = ap (λ (r : Query). r .answer) b in
+      record { answer = x ∙ q; good = λ z. absurd (d (sym x ∙ z)) }
+
+  -- answers 4 to 7
+  pub text-answers : (r : Query) → (v .answer ≡ 0 → ⊥) → r ≡ refusal (v .answer) → JudgedParts s room′ measures p r
+  text-answers r d b = refused-is (v .answer) r d (the-answer ∙ by-text s (j .clean) (λ z. d (the-answer ∙ z))) b
+
+  module _ (z : v .answer ≡ 0) where
+    parts-answer : queryAnswer s ≡ pick (doubled s) 8 (pick (foreign s) 9 0)
+    parts-answer = by-parts s (j .clean) (sym the-answer ∙ z)
+
+    -- answer 8
+    pub defines-answer : (r : Query) → p .twice ≡ true → r ≡ refusal 8 → JudgedParts s room′ measures p r
+    defines-answer r d b = refused-is 8 r (λ x. omega arith) (sym (parts-answer ∙ ap (λ (u : Bool). pick u 8 (pick (foreign s) 9 0)) (sym (j .doubled) ∙ d))) b
+
+    tree-is : (t : Tree pattern) × (treeIn s ≡ some t)
+    tree-is = has-tree s (sym the-answer ∙ z)
+
+    foreign-by : foreign s ≡ foreignIn (take (e - p .start) (drop (p .start) s)) measures (p .measures)
+    foreign-by =
+        foreign-is s measures (p .measures) (p .columns) (tree-is .0) (tree-is .1) (j .fit) (j .measured)
+        ∙ ap (λ (t : List ℕ). foreignIn t measures (p .measures)) (sym the-text)
+
+    both : (u : Bool) → p .twice ≡ false → u ≡ foreignIn (take (e - p .start) (drop (p .start) s)) measures (p .measures) → queryAnswer s ≡ pick u 9 0
+    both u d f = parts-answer ∙ ap (λ (x : Bool). pick x 8 (pick (foreign s) 9 0)) (sym (j .doubled) ∙ d) ∙ ap (λ (x : Bool). pick x 9 0) (foreign-by ∙ sym f)
+
+    -- answer 9
+    pub measures-answer : (r : Query) (u : Bool) → p .twice ≡ false → u ≡ foreignIn (take (e - p .start) (drop (p .start) s)) measures (p .measures) → u ≡ true
+        → r ≡ refusal 9 → JudgedParts s room′ measures p r
+    measures-answer r u d f y b = refused-is 9 r (λ x. omega arith) (sym (both u d f ∙ ap (λ (x : Bool). pick x 9 0) y)) b
+
+    -- none of them
+    pub no-answer : (u : Bool) → p .twice ≡ false → u ≡ foreignIn (take (e - p .start) (drop (p .start) s)) measures (p .measures) → u ≡ false
+        → JudgedParts s room′ measures p (record { answer = 0; places = v .places; top = v .top; columns = p .columns; skip = p .skip; measures = p .measures; letters = p .letters })
+    unfolding treeIn
+    no-answer u d f y =
+        record {
+          answer = sym (both u d f ∙ ap (λ (x : Bool). pick x 9 0) y);
+          good =
+              λ _. record {
+                tree = tree-is .0;
+                is = tree-is .1;
+                places = g .places ∙ ap (λ (a : ℕ). pick (eqb a 0) (P (treeOf (take (e - p .start) (drop (p .start) s)))) 0) z ∙ ap (λ (t : List ℕ). P (treeOf t)) the-text;
+                top = g .top z (tree-is .0) (ap treeOf the-text ∙ tree-is .1);
+                columns = refl;
+                skip = refl;
+                measured = refl;
+                letters = refl;
+              };
+        }
+
+-- ---- reading a query
+
+module _ (s measures₀ : List ℕ) where
+  -- answers 1 to 3
+  pub first-answers : (room defines measures : List ℕ) (a : ℕ) (r : Query) → a ≡ firstAnswer s → (a ≡ 0 → ⊥) → r ≡ refusal a
+      → Asked s measures₀ room defines measures r
+  first-answers room defines measures a r e d b =
+      let x : r .answer ≡ a = ap (λ (r : Query). r .answer) b in
+      record { answer = x ∙ e ∙ first-is s (λ z. d (e ∙ z)); good = λ z. absurd (d (sym x ∙ z)) }
+
+  -- what decoding asks
+  pub may-decode : (room : List ℕ) (a : ℕ) → Space s room measures₀ → a ≡ firstAnswer s → a ≡ 0 → Room s measures₀
+  may-decode room a p e z = record { clean = sym e ∙ z; long = p .long }
+
+  -- and judging
+  pub may-judge : (room defines measures : List ℕ) (p : Parts) (a : ℕ)
+      → Decoded s measures₀ defines measures p → Nodes s room → a ≡ firstAnswer s → a ≡ 0 → JudgeRoom s room measures p
+  unfolding parts
+  may-judge room defines measures p a d l e z =
+      record {
+        clean = sym e ∙ z;
+        text = d .text;
+        inside = d .inside;
+        short = d .short;
+        few = d .few;
+        fit = d .fit;
+        measured = d .measured;
+        doubled = d .doubled;
+        space = let i = d .inside in let q : length (textOf s) ≡ p .len = ap length (sym (d .text)) ∙ simp (length-take, length-drop) (omega arith) in omega (arith, l .enough (sym e ∙ z));
+      }
+
+  -- all of them
+  pub all-answers : (room defines measures : List ℕ) (p : Parts) (r : Query)
+      → Decoded s measures₀ defines measures p → JudgedParts s room measures p r
+      → Asked s measures₀ room defines measures r
+  all-answers room defines measures p r d g =
+      record { answer = g .answer; good = λ z. record { parts = p; decoded = d; good = g .good z } }
+
+-- ---- how much to lend
+
+-- the room's answer by the query's and the rows'
+room-refused : (q : List ℕ) (bad : Bool) → (queryAnswer q ≡ 0 → ⊥) → roomAnswer q bad ≡ queryAnswer q
+unfolding roomAnswer queryAnswer
+room-refused q bad d = lowest-before 1 (queryTests q) (bad ∷ []) d
+
+room-by-rows : (q : List ℕ) (bad : Bool) → queryAnswer q ≡ 0 → roomAnswer q bad ≡ pick bad 10 0
+unfolding roomAnswer queryAnswer queryTests lowest
+room-by-rows q bad e = lowest-after 1 (queryTests q) (bad ∷ []) (omega arith) e
+
+module _ (q measures₀ room defines measures : List ℕ) (r : Query)
+    (a : Asked q measures₀ room defines measures r) (rows : List ℤ) where
+  abbrev refusedRoom : ℕ → A.Room
+  refusedRoom n = record { answer = n; places = 0; rows = 0 }
+
+  room-not : (n : ℕ) → (n ≡ 0 → ⊥) → roomAnswer q (badRows q rows) ≡ n → refusedRoom n ≡ roomOf q rows
+  unfolding roomOf
+  room-not n d e = rw (e, ne-eqb n 0 d)
+
+  pub query-refuses : (x : Size) → (r .answer ≡ 0 → ⊥) → x ≡ record { answer = r .answer; places = 0; rows = 0 } → asRoom x ≡ roomOf q rows
+  query-refuses x d e =
+      ap asRoom e ∙ room-not (r .answer) d (room-refused q (badRows q rows) (λ z. d (a .answer ∙ z)) ∙ sym (a .answer))
+
+  module _ (z : r .answer ≡ 0) where
+    abbrev whole : Whole q measures₀ room defines measures r
+    whole = a .good z
+
+    the-columns : r .columns ≡ columnsOf q
+    unfolding parts
+    the-columns = whole .good .columns ∙ whole .decoded .columns
+
+    pub some-column : 1 ≤ r .columns
+    some-column = omega (arith, whole .decoded .some, whole .good .columns)
+
+    rows-answer : roomAnswer q (badRows q rows) ≡ pick (badRows q rows) 10 0
+    rows-answer = room-by-rows q (badRows q rows) (sym (a .answer) ∙ z)
+
+    ten : badRows q rows ≡ true → refusedRoom 10 ≡ roomOf q rows
+    ten t = room-not 10 (λ e. omega arith) (rows-answer ∙ ap (λ (b : Bool). pick b 10 0) t)
+
+    pub ragged-refused : (x : Size) → (length rows % r .columns ≡ 0 → ⊥) → x ≡ record { answer = 10; places = 0; rows = 0 } → asRoom x ≡ roomOf q rows
+    unfolding badRows
+    ragged-refused x d i = ap asRoom i ∙ ten (rw (← the-columns, ne-eqb (length rows % r .columns) 0 d))
+
+    pub many-refused : (x : Size) → 4096 < length rows / r .columns → x ≡ record { answer = 10; places = 0; rows = 0 } → asRoom x ≡ roomOf q rows
+    unfolding badRows tableOf
+    many-refused x h i = ap asRoom i ∙ ten (rw (← the-columns, lt-ltb 4096 (length rows / r .columns) h) (or-true (not (eqb (length rows % r .columns) 0))))
+      where
+        or-true : (b : Bool) → (b || true) ≡ true
+        or-true true = refl
+        or-true false = refl
+
+    pub room-given : length rows % r .columns ≡ 0 → length rows / r .columns ≤ 4096
+        → asRoom (record { answer = 0; places = r .places; rows = length rows / r .columns }) ≡ roomOf q rows
+    unfolding badRows tableOf roomOf
+    room-given e h =
+        let b : badRows q rows ≡ false = rw (← the-columns, e, le-ltb 4096 (length rows / r .columns) h) in
+        let x : roomAnswer q (badRows q rows) ≡ 0 = rows-answer ∙ ap (λ (b : Bool). pick b 10 0) b in
+        rw (x, ← the-columns, ← (whole .good .places))
