@@ -1,5 +1,6 @@
 -- Laws of the module nodes: a word's sort, a node read, a node put.
 use mathlib.Core.Path.{_≡_, refl}
+use mathlib.Core.Bool.{Bool}
 use mathlib.Core.List.{List}
 use Prim.Native.Nat.{ℕ, _+_, _*_, _/_, _%_}
 use lib.Dec.{eqb}
@@ -35,12 +36,12 @@ module _ (w : ℕ) where
   unfolding sortOf
   sort-group a b c d e = simp (ne-eqb _ _ a, ne-eqb _ _ b, ne-eqb _ _ c, ne-eqb _ _ d, ne-eqb _ _ e)
 
-pub node-read : (s : List ℕ) (i : ℕ) (k : Sort) (f a b c d h p : ℕ) → k ≡ sortOf (getD s (i * 8) 0) → f ≡ getD s (i * 8 + 1) 0 / 2 → a ≡ getD s (i * 8 + 2) 0
-    → b ≡ getD s (i * 8 + 3) 0 → c ≡ getD s (i * 8 + 4) 0
+pub node-read : (s : List ℕ) (i : ℕ) (k : Sort) (f : ℕ) (z : Bool) (a b c d h p : ℕ) → k ≡ (nodeAt s i) .sort → f ≡ getD s (i * 8 + 1) 0 / 2
+    → z ≡ eqb (getD s (i * 8 + 1) 0 % 2) 1 → a ≡ getD s (i * 8 + 2) 0 → b ≡ getD s (i * 8 + 3) 0 → c ≡ getD s (i * 8 + 4) 0
     → d ≡ getD s (i * 8 + 5) 0 → h ≡ getD s (i * 8 + 6) 0 → p ≡ getD s (i * 8 + 7) 0
-    → _≡_ {A = Node} (record { sort = k; form = f; lazy = eqb (getD s (i * 8 + 1) 0 % 2) 1; low = a; high = b; left = c; right = d; height = h; places = p }) (nodeAt s i)
+    → _≡_ {A = Node} (record { sort = k; form = f; lazy = z; low = a; high = b; left = c; right = d; height = h; places = p }) (nodeAt s i)
 unfolding nodeAt
-node-read s i k f a b c d h p e1 e2 e3 e4 e5 e6 e7 e8 = rw (e1, e2, e3, e4, e5, e6, e7, e8) refl
+node-read s i k f z a b c d h p e1 e2 e3 e4 e5 e6 e7 e8 e9 = rw (e1, e2, e3, e4, e5, e6, e7, e8, e9) refl
 
 pub sort-read : (s : List ℕ) (i : ℕ) (k : Sort) → k ≡ sortOf (getD s (i * 8) 0) → k ≡ (nodeAt s i) .sort
 unfolding nodeAt

@@ -1,8 +1,9 @@
 // A pattern's node, a struct by value, and nodes kept as words in a lent slice, eight to a node. What is put is read back, and other
 // words are unchanged.
 ghost use mathlib.Core.Path.{_≡_};
-ghost use Prim.Native.Nat.{ℕ, _+_, _*_, _-_, _≤_, _<_, _%_};
-ghost use lib.ListN.{length};
+ghost use Prim.Native.Nat.{ℕ, _+_, _*_, _-_, _≤_, _<_, _/_, _%_};
+ghost use lib.Dec.{eqb};
+ghost use lib.ListN.{length, getD};
 ghost use Rattle.nodes.specs.Nodes.{nodeAt, putNode, sortOf, wordOf, bitOf, Small};
 
 pub enum Sort {
@@ -84,27 +85,6 @@ fn form_word(form: usize, lazy: bool) -> u16
     (form * 2 + bit_of(lazy)) as u16
 }
 
-// The node at i.
-pub fn node_at(room: &[u16], i: usize) -> Node
-    requires { ⌜ 8 * i + 8 ≤ length (now room) ⌝ }
-    ensures { λ r. ⌜ r ≡ nodeAt (now (room .entry)) i ⌝ }
-{
-    let at = i * 8;
-    let word = room[at];
-    let sort = sort_of(word);
-    Node {
-        sort,
-        form: wide(room[at + 1] / 2),
-        lazy: room[at + 1] % 2 == 1,
-        low: wide(room[at + 2]),
-        high: wide(room[at + 3]),
-        left: wide(room[at + 4]),
-        right: wide(room[at + 5]),
-        height: wide(room[at + 6]),
-        places: wide(room[at + 7]),
-    }
-}
-
 // The sort of the node at i, and its places, without the other words.
 pub fn sort_at(room: &[u16], i: usize) -> Sort
     requires { ⌜ 8 * i + 8 ≤ length (now room) ⌝ }
@@ -119,6 +99,47 @@ pub fn places_at(room: &[u16], i: usize) -> usize
     ensures { λ r. ⌜ r ≡ (nodeAt (now (room .entry)) i) .places ⌝ }
 {
     wide(room[i * 8 + 7])
+}
+
+// Number k of the node at i.
+fn number_at(room: &[u16], i: usize, k: usize) -> usize
+    requires { ⌜ (8 * i + 8 ≤ length (now room)) × (k < 8) ⌝ }
+    ensures { λ r. ⌜ r ≡ getD (now (room .entry)) (i * 8 + k) 0 ⌝ }
+{
+    wide(room[i * 8 + k])
+}
+
+fn form_at(room: &[u16], i: usize) -> usize
+    requires { ⌜ 8 * i + 8 ≤ length (now room) ⌝ }
+    ensures { λ r. ⌜ r ≡ getD (now (room .entry)) (i * 8 + 1) 0 / 2 ⌝ }
+{
+    wide(room[i * 8 + 1] / 2)
+}
+
+fn lazy_at(room: &[u16], i: usize) -> bool
+    requires { ⌜ 8 * i + 8 ≤ length (now room) ⌝ }
+    ensures { λ r. ⌜ r ≡ eqb (_%_ (getD (now (room .entry)) (i * 8 + 1) 0) 2) 1 ⌝ }
+{
+    room[i * 8 + 1] % 2 == 1
+}
+
+// The node at i.
+pub fn node_at(room: &[u16], i: usize) -> Node
+    requires { ⌜ 8 * i + 8 ≤ length (now room) ⌝ }
+    ensures { λ r. ⌜ r ≡ nodeAt (now (room .entry)) i ⌝ }
+{
+    let sort = sort_at(room, i);
+    Node {
+        sort,
+        form: form_at(room, i),
+        lazy: lazy_at(room, i),
+        low: number_at(room, i, 2),
+        high: number_at(room, i, 3),
+        left: number_at(room, i, 4),
+        right: number_at(room, i, 5),
+        height: number_at(room, i, 6),
+        places: number_at(room, i, 7),
+    }
 }
 
 // Puts a node at i.

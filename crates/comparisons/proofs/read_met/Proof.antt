@@ -1,4 +1,5 @@
 -- `comparisons::read_met` meets its contract by the laws of Holding.
+use native.Mathlib.Omega.{arith}
 use borrow.Author.Needs.{needs}
 use Rattle.comparisons.proofs.Holding.{left-inside, right-inside, read-constant, read-column}
 use Rattle.comparisons.proofs.read_met.Statement.{statement}
@@ -14,16 +15,16 @@ number-at-requires : tie.Need-number-at-requires
 number-at-requires c κs = search needs
 
 add-if1 : tie.Need-add-if1
-add-if1 c = search needs
+add-if1 c = omega arith
 
 shared-slice-read-if1 : tie.Need-shared-slice-read-if1
-shared-slice-read-if1 c = search needs
+shared-slice-read-if1 c = omega arith
 
 add-byte : tie.Need-add-byte
-add-byte c = search needs
+add-byte c = omega arith
 
 shared-slice-read-byte : tie.Need-shared-slice-read-byte
-shared-slice-read-byte c = search needs
+shared-slice-read-byte c = omega arith
 
 byte-requires : tie.Need-byte-requires
 byte-requires c κs = search needs
@@ -38,7 +39,7 @@ returns : tie.Need-returns
 returns c = search (needs, read-constant)
 
 add-spot-at : tie.Need-add-spot-at
-add-spot-at c = search needs
+add-spot-at c = omega arith
 
 spot-at-requires-2 : tie.Need-spot-at-requires-2
 spot-at-requires-2 c κs = search needs
@@ -47,10 +48,10 @@ entry-from-requires-2 : tie.Need-entry-from-requires-2
 entry-from-requires-2 c κs = right-inside _ _ _ _ _ (c .before .before .before .before .before .before .before .pre) _ (search needs) (search needs)
 
 add-byte-2 : tie.Need-add-byte-2
-add-byte-2 c = search needs
+add-byte-2 c = omega arith
 
 shared-slice-read-byte-2 : tie.Need-shared-slice-read-byte-2
-shared-slice-read-byte-2 c = search needs
+shared-slice-read-byte-2 c = omega arith
 
 byte-requires-2 : tie.Need-byte-requires-2
 byte-requires-2 c κs = search needs

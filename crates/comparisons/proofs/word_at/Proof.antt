@@ -1,59 +1,60 @@
 -- `comparisons::word_at` meets its contract.
+use native.Mathlib.Omega.{arith}
 use Rattle.rules.specs.Basics.{le32}
 use borrow.Author.Needs.{needs}
 use Rattle.comparisons.proofs.word_at.Statement.{statement}
 use Rattle.comparisons.proofs.word_at.Tie as tie
 
 shared-slice-read-part : tie.Need-shared-slice-read-part
-shared-slice-read-part c = search needs
+shared-slice-read-part c = omega arith
 
 part-requires : tie.Need-part-requires
 part-requires c κs = search needs
 
 add-part : tie.Need-add-part
-add-part c = search needs
+add-part c = omega arith
 
 shared-slice-read-part-2 : tie.Need-shared-slice-read-part-2
-shared-slice-read-part-2 c = search needs
+shared-slice-read-part-2 c = omega arith
 
 part-requires-2 : tie.Need-part-requires-2
 part-requires-2 c κs = search needs
 
 mul-result : tie.Need-mul-result
-mul-result c = search needs
+mul-result c = omega arith
 
 add-result : tie.Need-add-result
-add-result c = search needs
+add-result c = omega arith
 
 add-part-2 : tie.Need-add-part-2
-add-part-2 c = search needs
+add-part-2 c = omega arith
 
 shared-slice-read-part-3 : tie.Need-shared-slice-read-part-3
-shared-slice-read-part-3 c = search needs
+shared-slice-read-part-3 c = omega arith
 
 part-requires-3 : tie.Need-part-requires-3
 part-requires-3 c κs = search needs
 
 mul-result-2 : tie.Need-mul-result-2
-mul-result-2 c = search needs
+mul-result-2 c = omega arith
 
 add-result-2 : tie.Need-add-result-2
-add-result-2 c = search needs
+add-result-2 c = omega arith
 
 add-part-3 : tie.Need-add-part-3
-add-part-3 c = search needs
+add-part-3 c = omega arith
 
 shared-slice-read-part-4 : tie.Need-shared-slice-read-part-4
-shared-slice-read-part-4 c = search needs
+shared-slice-read-part-4 c = omega arith
 
 part-requires-4 : tie.Need-part-requires-4
 part-requires-4 c κs = search needs
 
 mul-result-3 : tie.Need-mul-result-3
-mul-result-3 c = search needs
+mul-result-3 c = omega arith
 
 add-result-3 : tie.Need-add-result-3
-add-result-3 c = search needs
+add-result-3 c = omega arith
 
 returns : tie.Need-returns
 unfolding le32

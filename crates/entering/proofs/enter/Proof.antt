@@ -6,34 +6,34 @@ use Rattle.entering.proofs.enter.Statement.{statement}
 use Rattle.entering.proofs.enter.Tie as tie
 
 add-steps : tie.Need-add-steps
-add-steps c = search needs
+add-steps c = omega arith
 
 shared-slice-read-c : tie.Need-shared-slice-read-c
-shared-slice-read-c c = search needs
+shared-slice-read-c c = omega arith
 
 mul-push : tie.Need-mul-push
-mul-push c = search needs
+mul-push c = omega arith
 
 shared-slice-read-push : tie.Need-shared-slice-read-push
-shared-slice-read-push c = search needs
+shared-slice-read-push c = omega arith
 
 push-requires : tie.Need-push-requires
 push-requires c κs = search needs
 
 add-tried : tie.Need-add-tried
-add-tried c = search needs
+add-tried c = omega arith
 
 add-tried-2 : tie.Need-add-tried-2
-add-tried-2 c = search needs
+add-tried-2 c = omega arith
 
 tried-requires : tie.Need-tried-requires
 tried-requires c κs = fork-noted _ _ _ _ _ _ _ _ (c .before .before .before .before .before .before .before .before .before .before .before .before .before .before .before .pre) (c .before .before .before .before .before .before .if1 .taken)
 
 same-length : tie.Need-same-length
-same-length c = search needs
+same-length c = omega arith
 
 same-length-2 : tie.Need-same-length-2
-same-length-2 c = search needs
+same-length-2 c = omega arith
 
 returns : tie.Need-returns
 returns c = enter-fork _ _ _ _ _ _ _ _ _ _ _ (c .before .before .before .before .push .ensures) (c .before .before .before .before .before .before .before .if1 .taken) (c .before .before .before .before .before .before .before .before .before .before .before .before .before .before .before .before .pre .near) (c .tried .ensures)
@@ -45,25 +45,25 @@ fails-requires : tie.Need-fails-requires
 fails-requires c κs = search needs
 
 same-length-3 : tie.Need-same-length-3
-same-length-3 c = search needs
+same-length-3 c = omega arith
 
 returns-2 : tie.Need-returns-2
 returns-2 c = search (needs, enter-shut)
 
 mul-wide : tie.Need-mul-wide
-mul-wide c = search needs
+mul-wide c = omega arith
 
 shared-slice-read-wide : tie.Need-shared-slice-read-wide
-shared-slice-read-wide c = search needs
+shared-slice-read-wide c = omega arith
 
 wide-requires : tie.Need-wide-requires
 wide-requires c κs = search needs
 
 add-ahead : tie.Need-add-ahead
-add-ahead c = search needs
+add-ahead c = omega arith
 
 add-failed : tie.Need-add-failed
-add-failed c = search needs
+add-failed c = omega arith
 
 failed-requires : tie.Need-failed-requires
 failed-requires c κs = letter-noted _ _ _ _ _ _ _ _ (c .before .before .before .before .before .before .before .before .before .before .before .before .before .before .before .pre) _ (c .before .wide .ensures .0) _ _ (c .before .before .before .before .before .if2 .taken) (c .before .before .before .before .letter-passes .ensures) (c .before .before .before .if3 .left) .1
@@ -72,31 +72,31 @@ fails-requires-2 : tie.Need-fails-requires-2
 fails-requires-2 c κs = search needs
 
 same-length-4 : tie.Need-same-length-4
-same-length-4 c = search needs
+same-length-4 c = omega arith
 
 returns-3 : tie.Need-returns-3
 returns-3 c = search (needs, enter-stuck)
 
 mul-push-2 : tie.Need-mul-push-2
-mul-push-2 c = search needs
+mul-push-2 c = omega arith
 
 shared-slice-read-push-2 : tie.Need-shared-slice-read-push-2
-shared-slice-read-push-2 c = search needs
+shared-slice-read-push-2 c = omega arith
 
 push-requires-2 : tie.Need-push-requires-2
 push-requires-2 c κs = search needs
 
 add-t37 : tie.Need-add-t37
-add-t37 c = search needs
+add-t37 c = omega arith
 
 add-t50 : tie.Need-add-t50
-add-t50 c = search needs
+add-t50 c = omega arith
 
 same-length-5 : tie.Need-same-length-5
-same-length-5 c = search needs
+same-length-5 c = omega arith
 
 same-length-6 : tie.Need-same-length-6
-same-length-6 c = search needs
+same-length-6 c = omega arith
 
 returns-4 : tie.Need-returns-4
 returns-4 c = enter-letter _ _ _ _ _ _ _ _ _ _ _ _ _ (c .before .before .before .before .before .before .before .before .before .before .before .letter-passes .ensures) (c .before .before .before .before .before .before .before .before .before .before .if3 .left) (c .before .before .push2 .ensures) (c .before .before .before .before .before .before .before .before .before .before .before .before .if2 .taken) (c .before .before .before .before .before .before .before .before .wide .ensures .0) (c .before .before .before .before .before .before .failed .ensures) (c .before .before .before .before .before .if4 .left)
@@ -108,37 +108,37 @@ fails-requires-3 : tie.Need-fails-requires-3
 fails-requires-3 c κs = search needs
 
 same-length-7 : tie.Need-same-length-7
-same-length-7 c = search needs
+same-length-7 c = omega arith
 
 returns-5 : tie.Need-returns-5
 returns-5 c = enter-shut _ _ _ _ _ _ _ _ _ _ _ _ (c .before .before .before .before .before .anchor-passes .ensures _) (c .before .before .before .before .if5 .taken) (c .before .before .fails3 .ensures .0) (c .before .before .fails3 .ensures .1)
 
 mul-push-3 : tie.Need-mul-push-3
-mul-push-3 c = search needs
+mul-push-3 c = omega arith
 
 shared-slice-read-push-3 : tie.Need-shared-slice-read-push-3
-shared-slice-read-push-3 c = search needs
+shared-slice-read-push-3 c = omega arith
 
 push-requires-3 : tie.Need-push-requires-3
 push-requires-3 c κs = search needs
 
 add-opened : tie.Need-add-opened
-add-opened c = search needs
+add-opened c = omega arith
 
 same-length-8 : tie.Need-same-length-8
-same-length-8 c = search needs
+same-length-8 c = omega arith
 
 returns-6 : tie.Need-returns-6
 returns-6 c = enter-end _ _ _ _ _ _ _ _ _ _ _ (c .before .before .before .before .before .before .before .anchor-passes .ensures _) (c .before .before .before .before .before .before .if5 .left) (c .before .before .before .push3 .ensures) (c .if6 .taken)
 
 add-tried-3 : tie.Need-add-tried-3
-add-tried-3 c = search needs
+add-tried-3 c = omega arith
 
 mul-wide-2 : tie.Need-mul-wide-2
-mul-wide-2 c = search needs
+mul-wide-2 c = omega arith
 
 shared-slice-read-wide-2 : tie.Need-shared-slice-read-wide-2
-shared-slice-read-wide-2 c = search needs
+shared-slice-read-wide-2 c = omega arith
 
 wide-requires-2 : tie.Need-wide-requires-2
 wide-requires-2 c κs = search needs
@@ -147,10 +147,10 @@ tried-requires-2 : tie.Need-tried-requires-2
 tried-requires-2 c κs = anchor-noted _ _ _ _ _ _ _ _ (c .before .before .before .before .before .before .before .before .before .before .before .before .before .before .before .before .before .before .before .before .before .pre) _ (c .wide2 .ensures .0) (c .before .before .before .before .before .before .before .before .before .before .before .if2 .left) (c .before .before .before .if6 .left)
 
 same-length-9 : tie.Need-same-length-9
-same-length-9 c = search needs
+same-length-9 c = omega arith
 
 same-length-10 : tie.Need-same-length-10
-same-length-10 c = search needs
+same-length-10 c = omega arith
 
 returns-7 : tie.Need-returns-7
 returns-7 c = enter-anchor _ _ _ _ _ _ _ _ _ _ _ _ _ (c .before .before .before .before .before .before .before .before .before .before .before .anchor-passes .ensures _) (c .before .before .before .before .before .before .before .before .before .before .if5 .left) (c .before .before .before .before .before .before .before .push3 .ensures) (c .before .before .before .before .before .before .before .before .before .before .before .before .if2 .left) (c .before .before .before .before .if6 .left) (c .before .wide2 .ensures .0) (c .tried2 .ensures)

@@ -7,43 +7,43 @@ use Rattle.forks.proofs.put_words.Statement.{statement}
 use Rattle.forks.proofs.put_words.Tie as tie
 
 mul-at : tie.Need-mul-at
-mul-at c = search needs
+mul-at c = omega arith
 
 mul-table : tie.Need-mul-table
-mul-table c = search needs
+mul-table c = omega arith
 
 slice-write-table : tie.Need-slice-write-table
-slice-write-table c = search needs
+slice-write-table c = omega arith
 
 add-table : tie.Need-add-table
-add-table c = search needs
+add-table c = omega arith
 
 mul-table-2 : tie.Need-mul-table-2
-mul-table-2 c = search needs
+mul-table-2 c = omega arith
 
 slice-write-table-2 : tie.Need-slice-write-table-2
 slice-write-table-2 c = simp length-set (omega arith)
 
 cast-table : tie.Need-cast-table
-cast-table c = search needs
+cast-table c = omega arith
 
 add-table-2 : tie.Need-add-table-2
-add-table-2 c = search needs
+add-table-2 c = omega arith
 
 mul-table-3 : tie.Need-mul-table-3
-mul-table-3 c = search needs
+mul-table-3 c = omega arith
 
 slice-write-table-3 : tie.Need-slice-write-table-3
 slice-write-table-3 c = simp length-set (omega arith)
 
 cast-table-2 : tie.Need-cast-table-2
-cast-table-2 c = search needs
+cast-table-2 c = omega arith
 
 add-table-3 : tie.Need-add-table-3
-add-table-3 c = search needs
+add-table-3 c = omega arith
 
 mul-table-4 : tie.Need-mul-table-4
-mul-table-4 c = search needs
+mul-table-4 c = omega arith
 
 slice-write-table-4 : tie.Need-slice-write-table-4
 slice-write-table-4 c = simp length-set (omega arith)

@@ -1,59 +1,60 @@
 -- `le32_at` is the number in four bytes.
+use native.Mathlib.Omega.{arith}
 use borrow.Author.Needs.{needs}
 use Rattle.rules.specs.Basics.{le32}
 use Rattle.input.proofs.le32_at.Statement.{statement}
 use Rattle.input.proofs.le32_at.Tie as tie
 
 shared-slice-read-wide32 : tie.Need-shared-slice-read-wide32
-shared-slice-read-wide32 c = search needs
+shared-slice-read-wide32 c = omega arith
 
 wide32-requires : tie.Need-wide32-requires
 wide32-requires c κs = search needs
 
 add-wide32 : tie.Need-add-wide32
-add-wide32 c = search needs
+add-wide32 c = omega arith
 
 shared-slice-read-wide32-2 : tie.Need-shared-slice-read-wide32-2
-shared-slice-read-wide32-2 c = search needs
+shared-slice-read-wide32-2 c = omega arith
 
 wide32-requires-2 : tie.Need-wide32-requires-2
 wide32-requires-2 c κs = search needs
 
 mul-result : tie.Need-mul-result
-mul-result c = search needs
+mul-result c = omega arith
 
 add-result : tie.Need-add-result
-add-result c = search needs
+add-result c = omega arith
 
 add-wide32-2 : tie.Need-add-wide32-2
-add-wide32-2 c = search needs
+add-wide32-2 c = omega arith
 
 shared-slice-read-wide32-3 : tie.Need-shared-slice-read-wide32-3
-shared-slice-read-wide32-3 c = search needs
+shared-slice-read-wide32-3 c = omega arith
 
 wide32-requires-3 : tie.Need-wide32-requires-3
 wide32-requires-3 c κs = search needs
 
 mul-result-2 : tie.Need-mul-result-2
-mul-result-2 c = search needs
+mul-result-2 c = omega arith
 
 add-result-2 : tie.Need-add-result-2
-add-result-2 c = search needs
+add-result-2 c = omega arith
 
 add-wide32-3 : tie.Need-add-wide32-3
-add-wide32-3 c = search needs
+add-wide32-3 c = omega arith
 
 shared-slice-read-wide32-4 : tie.Need-shared-slice-read-wide32-4
-shared-slice-read-wide32-4 c = search needs
+shared-slice-read-wide32-4 c = omega arith
 
 wide32-requires-4 : tie.Need-wide32-requires-4
 wide32-requires-4 c κs = search needs
 
 mul-result-3 : tie.Need-mul-result-3
-mul-result-3 c = search needs
+mul-result-3 c = omega arith
 
 add-result-3 : tie.Need-add-result-3
-add-result-3 c = search needs
+add-result-3 c = omega arith
 
 returns : tie.Need-returns
 unfolding le32

@@ -1,4 +1,5 @@
 -- `marks::number` meets its contract. Laws: MarkLaws.
+use native.Mathlib.Omega.{arith}
 use Rattle.marks.proofs.MarkLaws.{digits-from, number-none, number-one, number-zero, number-two}
 use borrow.Author.Tests.{not-true, not-false}
 use borrow.Author.Needs.{needs}
@@ -15,7 +16,7 @@ returns : tie.Need-returns
 returns c = search (needs, number-none, not-true)
 
 add-peek : tie.Need-add-peek
-add-peek c = search needs
+add-peek c = omega arith
 
 peek-requires-2 : tie.Need-peek-requires-2
 peek-requires-2 c κs = search needs
@@ -30,7 +31,7 @@ sub-t9 : tie.Need-sub-t9
 sub-t9 c = search (needs, digits-from, not-true, not-false)
 
 add-t10 : tie.Need-add-t10
-add-t10 c = search needs
+add-t10 c = omega arith
 
 returns-2 : tie.Need-returns-2
 returns-2 c = search (needs, number-one, not-true, not-false)
@@ -45,7 +46,7 @@ sub-t11 : tie.Need-sub-t11
 sub-t11 c = search (needs, digits-from, not-true, not-false)
 
 mul-t12 : tie.Need-mul-t12
-mul-t12 c = search needs
+mul-t12 c = omega arith
 
 wide-requires-3 : tie.Need-wide-requires-3
 wide-requires-3 c κs = search needs
@@ -54,10 +55,10 @@ sub-t14 : tie.Need-sub-t14
 sub-t14 c = search (needs, digits-from, not-true, not-false)
 
 add-t15 : tie.Need-add-t15
-add-t15 c = search needs
+add-t15 c = omega arith
 
 add-t16 : tie.Need-add-t16
-add-t16 c = search needs
+add-t16 c = omega arith
 
 returns-4 : tie.Need-returns-4
 returns-4 c = search (needs, number-two, not-false)

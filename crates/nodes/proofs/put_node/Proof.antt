@@ -7,97 +7,97 @@ use Rattle.nodes.proofs.put_node.Statement.{statement}
 use Rattle.nodes.proofs.put_node.Tie as tie
 
 mul-at : tie.Need-mul-at
-mul-at c = search needs
+mul-at c = omega arith
 
 word-of-requires : tie.Need-word-of-requires
 word-of-requires c κs = search needs
 
 mul-room : tie.Need-mul-room
-mul-room c = search needs
+mul-room c = omega arith
 
 slice-write-room : tie.Need-slice-write-room
-slice-write-room c = search needs
+slice-write-room c = omega arith
 
 form-word-requires : tie.Need-form-word-requires
 form-word-requires c κs = search needs
 
 add-room : tie.Need-add-room
-add-room c = search needs
+add-room c = omega arith
 
 mul-room-2 : tie.Need-mul-room-2
-mul-room-2 c = search needs
+mul-room-2 c = omega arith
 
 slice-write-room-2 : tie.Need-slice-write-room-2
 slice-write-room-2 c = simp length-set (omega arith)
 
 cast-room : tie.Need-cast-room
-cast-room c = search needs
+cast-room c = omega arith
 
 add-room-2 : tie.Need-add-room-2
-add-room-2 c = search needs
+add-room-2 c = omega arith
 
 mul-room-3 : tie.Need-mul-room-3
-mul-room-3 c = search needs
+mul-room-3 c = omega arith
 
 slice-write-room-3 : tie.Need-slice-write-room-3
 slice-write-room-3 c = simp length-set (omega arith)
 
 cast-room-2 : tie.Need-cast-room-2
-cast-room-2 c = search needs
+cast-room-2 c = omega arith
 
 add-room-3 : tie.Need-add-room-3
-add-room-3 c = search needs
+add-room-3 c = omega arith
 
 mul-room-4 : tie.Need-mul-room-4
-mul-room-4 c = search needs
+mul-room-4 c = omega arith
 
 slice-write-room-4 : tie.Need-slice-write-room-4
 slice-write-room-4 c = simp length-set (omega arith)
 
 cast-room-3 : tie.Need-cast-room-3
-cast-room-3 c = search needs
+cast-room-3 c = omega arith
 
 add-room-4 : tie.Need-add-room-4
-add-room-4 c = search needs
+add-room-4 c = omega arith
 
 mul-room-5 : tie.Need-mul-room-5
-mul-room-5 c = search needs
+mul-room-5 c = omega arith
 
 slice-write-room-5 : tie.Need-slice-write-room-5
 slice-write-room-5 c = simp length-set (omega arith)
 
 cast-room-4 : tie.Need-cast-room-4
-cast-room-4 c = search needs
+cast-room-4 c = omega arith
 
 add-room-5 : tie.Need-add-room-5
-add-room-5 c = search needs
+add-room-5 c = omega arith
 
 mul-room-6 : tie.Need-mul-room-6
-mul-room-6 c = search needs
+mul-room-6 c = omega arith
 
 slice-write-room-6 : tie.Need-slice-write-room-6
 slice-write-room-6 c = simp length-set (omega arith)
 
 cast-room-5 : tie.Need-cast-room-5
-cast-room-5 c = search needs
+cast-room-5 c = omega arith
 
 add-room-6 : tie.Need-add-room-6
-add-room-6 c = search needs
+add-room-6 c = omega arith
 
 mul-room-7 : tie.Need-mul-room-7
-mul-room-7 c = search needs
+mul-room-7 c = omega arith
 
 slice-write-room-7 : tie.Need-slice-write-room-7
 slice-write-room-7 c = simp length-set (omega arith)
 
 cast-room-6 : tie.Need-cast-room-6
-cast-room-6 c = search needs
+cast-room-6 c = omega arith
 
 add-room-7 : tie.Need-add-room-7
-add-room-7 c = search needs
+add-room-7 c = omega arith
 
 mul-room-8 : tie.Need-mul-room-8
-mul-room-8 c = search needs
+mul-room-8 c = omega arith
 
 slice-write-room-8 : tie.Need-slice-write-room-8
 slice-write-room-8 c = simp length-set (omega arith)

@@ -1,4 +1,5 @@
 -- `nodes::word_of` meets its contract.
+use native.Mathlib.Omega.{arith}
 use mathlib.Core.Path.{ap, sym}
 use Rattle.nodes.specs.Nodes.{wordOf}
 use borrow.Author.Needs.{needs}
@@ -9,16 +10,16 @@ enum-known-s : tie.Need-enum-known-s
 enum-known-s c = search needs
 
 cast-result : tie.Need-cast-result
-cast-result c = search needs
+cast-result c = omega arith
 
 enum-known-s-2 : tie.Need-enum-known-s-2
 enum-known-s-2 c = search needs
 
 cast-result-2 : tie.Need-cast-result-2
-cast-result-2 c = search needs
+cast-result-2 c = omega arith
 
 add-result : tie.Need-add-result
-add-result c = search needs
+add-result c = omega arith
 
 enum-told : tie.Need-enum-told
 enum-told c = search needs

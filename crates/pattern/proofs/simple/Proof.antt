@@ -1,4 +1,5 @@
 -- `pattern::simple` meets its contract. Laws: ReaderLaws.
+use native.Mathlib.Omega.{arith}
 use Rattle.pattern.proofs.ReaderLaws.{simple-caret, simple-dollar, simple-letter, simple-other, simple-touch, letter-next, next-in}
 use borrow.Author.Tests.{not-true, not-false}
 use borrow.Author.Needs.{needs}
@@ -9,7 +10,7 @@ peek-requires : tie.Need-peek-requires
 peek-requires c κs = search needs
 
 add-skip : tie.Need-add-skip
-add-skip c = search needs
+add-skip c = omega arith
 
 skip-requires : tie.Need-skip-requires
 skip-requires c κs = search (needs, next-in)
@@ -21,7 +22,7 @@ returns : tie.Need-returns
 returns c = simple-caret _ _ _ _ (c .before .before .before .peek .ensures) _ _ (c .before .before .if1 .taken) (c .before .skip .ensures) (c .plain-node .ensures)
 
 add-skip-2 : tie.Need-add-skip-2
-add-skip-2 c = search needs
+add-skip-2 c = omega arith
 
 skip-requires-2 : tie.Need-skip-requires-2
 skip-requires-2 c κs = search (needs, next-in)
@@ -42,7 +43,7 @@ returns-3 : tie.Need-returns-3
 returns-3 c = simple-other _ _ _ _ (c .before .before .before .before .before .peek .ensures) _ _ (c .before .before .before .before .if1 .left) (c .before .before .before .if2 .left) (c .before .before .is-letter .ensures) (not-true _ (c .before .if3 .taken)) (c .no-head .ensures)
 
 add-peek : tie.Need-add-peek
-add-peek c = search needs
+add-peek c = omega arith
 
 peek-requires-2 : tie.Need-peek-requires-2
 peek-requires-2 c κs = search needs
@@ -57,7 +58,7 @@ returns-4 : tie.Need-returns-4
 returns-4 c = simple-touch _ _ _ _ (c .before .before .before .before .before .before .before .before .peek .ensures) _ _ _ _ (c .before .before .before .before .before .before .before .if1 .left) (c .before .before .before .before .before .before .if2 .left) (c .before .before .before .before .before .is-letter .ensures) (not-false _ (c .before .before .before .before .if3 .left)) (c .before .before .before .peek2 .ensures) (c .before .before .is-letter2 .ensures) (c .before .if4 .taken) (c .no-head2 .ensures)
 
 add-skip-3 : tie.Need-add-skip-3
-add-skip-3 c = search needs
+add-skip-3 c = omega arith
 
 skip-requires-3 : tie.Need-skip-requires-3
 skip-requires-3 c κs = search (needs, letter-next, not-true, not-false)

@@ -1,4 +1,5 @@
 -- `room::judge_parts` meets its contract by the laws of Laws.
+use native.Mathlib.Omega.{arith}
 use borrow.Author.Needs.{needs}
 use Rattle.reading.proofs.Laws.{text-answers, defines-answer, measures-answer, no-answer}
 use Rattle.room.proofs.judge_parts.Statement.{statement}
@@ -10,10 +11,10 @@ use Rattle.reading.proofs.has_foreign.Reads as has-foreign-reads
 use Rattle.reading.proofs.refused.Reads as refused-reads
 
 add-end : tie.Need-add-end
-add-end c = search needs
+add-end c = omega arith
 
 sub-judge : tie.Need-sub-judge
-sub-judge c = search needs
+sub-judge c = omega arith
 
 part-judge-start : tie.Need-part-judge-start
 part-judge-start c = search needs
@@ -43,7 +44,7 @@ returns-2 : tie.Need-returns-2
 returns-2 c = search (needs, defines-answer)
 
 sub-has-foreign : tie.Need-sub-has-foreign
-sub-has-foreign c = search needs
+sub-has-foreign c = omega arith
 
 part-has-foreign-start : tie.Need-part-has-foreign-start
 part-has-foreign-start c = search needs

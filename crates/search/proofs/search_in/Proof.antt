@@ -45,7 +45,7 @@ returns-3 : tie.Need-returns-3
 returns-3 c = rows-refused _ _ _ _ _ _ (no-answer _ _ _ _ _ _ (c .before .before .before .before .before .before .read-query .ensures) (c .before .before .before .if1 .left) []) (many-rows _ _ _ _ _ _ (c .before .before .before .before .before .before .read-query .ensures) (c .before .before .before .if1 .left) _ (c .before .if3 .taken)) _ (c .refused3 .ensures)
 
 add-pairs : tie.Need-add-pairs
-add-pairs c = search needs
+add-pairs c = omega arith
 
 mul-pairs : tie.Need-mul-pairs
 mul-pairs c = let h = pairs-fit _ _ _ _ _ _ (c .before .before .before .before .before .before .read-query .ensures) (c .before .before .before .if1 .left) [] _ (c .before .if3 .left) in omega (arith, h)

@@ -1,4 +1,5 @@
 -- `spread::put_place` meets its contract by the laws of Parting.
+use native.Mathlib.Omega.{arith}
 use Rattle.spread.proofs.Parting.{put-code, put-is, put-entry}
 use mathlib.Core.Path.{refl}
 use borrow.Author.Needs.{needs}
@@ -6,43 +7,43 @@ use Rattle.spread.proofs.put_place.Statement.{statement}
 use Rattle.spread.proofs.put_place.Tie as tie
 
 mul-at : tie.Need-mul-at
-mul-at c = search needs
+mul-at c = omega arith
 
 mul-sort : tie.Need-mul-sort
-mul-sort c = search needs
+mul-sort c = omega arith
 
 shared-slice-read-sort : tie.Need-shared-slice-read-sort
-shared-slice-read-sort c = search needs
+shared-slice-read-sort c = omega arith
 
 add-k : tie.Need-add-k
-add-k c = search needs
+add-k c = omega arith
 
 mul-k : tie.Need-mul-k
-mul-k c = search needs
+mul-k c = omega arith
 
 shared-slice-read-k : tie.Need-shared-slice-read-k
-shared-slice-read-k c = search needs
+shared-slice-read-k c = omega arith
 
 add-e : tie.Need-add-e
-add-e c = search needs
+add-e c = omega arith
 
 mul-e : tie.Need-mul-e
-mul-e c = search needs
+mul-e c = omega arith
 
 shared-slice-read-e : tie.Need-shared-slice-read-e
-shared-slice-read-e c = search needs
+shared-slice-read-e c = omega arith
 
 first-of-requires : tie.Need-first-of-requires
 first-of-requires c κs = search needs
 
 add-code-of : tie.Need-add-code-of
-add-code-of c = search needs
+add-code-of c = omega arith
 
 mul-code-of : tie.Need-mul-code-of
-mul-code-of c = search needs
+mul-code-of c = omega arith
 
 shared-slice-read-code-of : tie.Need-shared-slice-read-code-of
-shared-slice-read-code-of c = search needs
+shared-slice-read-code-of c = omega arith
 
 wide-requires : tie.Need-wide-requires
 wide-requires c κs = search needs
@@ -51,13 +52,13 @@ code-of-requires : tie.Need-code-of-requires
 code-of-requires c κs = search needs
 
 slice-write-code : tie.Need-slice-write-code
-slice-write-code c = search needs
+slice-write-code c = omega arith
 
 mul-next : tie.Need-mul-next
-mul-next c = search needs
+mul-next c = omega arith
 
 slice-write-next : tie.Need-slice-write-next
-slice-write-next c = search needs
+slice-write-next c = omega arith
 
 wide-requires-2 : tie.Need-wide-requires-2
 wide-requires-2 c κs = search needs
@@ -69,25 +70,25 @@ second-of-requires : tie.Need-second-of-requires
 second-of-requires c κs = search needs
 
 mul-entry : tie.Need-mul-entry
-mul-entry c = search needs
+mul-entry c = omega arith
 
 add-entry : tie.Need-add-entry
-add-entry c = search needs
+add-entry c = omega arith
 
 cast-entry : tie.Need-cast-entry
-cast-entry c = search needs
+cast-entry c = omega arith
 
 mul-entry-2 : tie.Need-mul-entry-2
-mul-entry-2 c = search needs
+mul-entry-2 c = omega arith
 
 slice-write-entry : tie.Need-slice-write-entry
-slice-write-entry c = search needs
+slice-write-entry c = omega arith
 
 mul-stop : tie.Need-mul-stop
-mul-stop c = search needs
+mul-stop c = omega arith
 
 slice-write-stop : tie.Need-slice-write-stop
-slice-write-stop c = search needs
+slice-write-stop c = omega arith
 
 same-length : tie.Need-same-length
 same-length c = search needs

@@ -1,4 +1,5 @@
 -- `starting::walk_in` meets its contract by the laws of Starting.
+use native.Mathlib.Omega.{arith}
 use Rattle.starting.proofs.Starting.{may-unroll, may-keep, may-cut, may-part, may-prepare, may-run}
 use lib.ListN.{length-replicate}
 use Prim.Native.Nat.{ℕ}
@@ -28,7 +29,7 @@ prepare-requires : tie.Need-prepare-requires
 prepare-requires c κs = search (needs, may-prepare)
 
 sub-run-tables : tie.Need-sub-run-tables
-sub-run-tables c = search needs
+sub-run-tables c = omega arith
 
 part-run-tables-start : tie.Need-part-run-tables-start
 part-run-tables-start c = search needs
@@ -37,7 +38,7 @@ part-run-tables-end : tie.Need-part-run-tables-end
 part-run-tables-end c = search (needs, may-cut)
 
 sub-run-tables-2 : tie.Need-sub-run-tables-2
-sub-run-tables-2 c = search needs
+sub-run-tables-2 c = omega arith
 
 part-run-tables-start-2 : tie.Need-part-run-tables-start-2
 part-run-tables-start-2 c = search needs
@@ -46,7 +47,7 @@ part-run-tables-end-2 : tie.Need-part-run-tables-end-2
 part-run-tables-end-2 c = let h = may-cut _ _ _ _ _ _ _ _ _ _ _ _ _ _ (c .before .before .before .before .before .before .before .before .before .before .before .before .before .before .before .before .before .before .before .before .before .before .before .before .before .pre .walks) in search needs
 
 sub-run-tables-3 : tie.Need-sub-run-tables-3
-sub-run-tables-3 c = search needs
+sub-run-tables-3 c = omega arith
 
 part-run-tables-start-3 : tie.Need-part-run-tables-start-3
 part-run-tables-start-3 c = search needs
@@ -55,7 +56,7 @@ part-run-tables-end-3 : tie.Need-part-run-tables-end-3
 part-run-tables-end-3 c = let h = may-cut _ _ _ _ _ _ _ _ _ _ _ _ _ _ (c .before .before .before .before .before .before .before .before .before .before .before .before .before .before .before .before .before .before .before .before .before .before .before .before .before .before .before .pre .walks) in search needs
 
 sub-run-tables-4 : tie.Need-sub-run-tables-4
-sub-run-tables-4 c = search needs
+sub-run-tables-4 c = omega arith
 
 part-run-tables-start-4 : tie.Need-part-run-tables-start-4
 part-run-tables-start-4 c = search needs

@@ -6,22 +6,22 @@ use Rattle.tests.proofs.put_define.Statement.{statement}
 use Rattle.tests.proofs.put_define.Tie as tie
 
 add-byte : tie.Need-add-byte
-add-byte c = search needs
+add-byte c = omega arith
 
 shared-slice-read-byte : tie.Need-shared-slice-read-byte
-shared-slice-read-byte c = search needs
+shared-slice-read-byte c = omega arith
 
 byte-requires : tie.Need-byte-requires
 byte-requires c κs = search needs
 
 add-p : tie.Need-add-p
-add-p c = search needs
+add-p c = omega arith
 
 add-byte-2 : tie.Need-add-byte-2
-add-byte-2 c = search needs
+add-byte-2 c = omega arith
 
 shared-slice-read-byte-2 : tie.Need-shared-slice-read-byte-2
-shared-slice-read-byte-2 c = search needs
+shared-slice-read-byte-2 c = omega arith
 
 byte-requires-2 : tie.Need-byte-requires-2
 byte-requires-2 c κs = search needs
@@ -39,13 +39,13 @@ most-ahead-requires : tie.Need-most-ahead-requires
 most-ahead-requires c κs = search needs
 
 mul-put-words : tie.Need-mul-put-words
-mul-put-words c = search needs
+mul-put-words c = omega arith
 
 add-byte-3 : tie.Need-add-byte-3
-add-byte-3 c = search needs
+add-byte-3 c = omega arith
 
 shared-slice-read-byte-3 : tie.Need-shared-slice-read-byte-3
-shared-slice-read-byte-3 c = search needs
+shared-slice-read-byte-3 c = omega arith
 
 byte-requires-3 : tie.Need-byte-requires-3
 byte-requires-3 c κs = search needs
@@ -57,7 +57,7 @@ spot-at-requires : tie.Need-spot-at-requires
 spot-at-requires c κs = search needs
 
 add-spot-at : tie.Need-add-spot-at
-add-spot-at c = search needs
+add-spot-at c = omega arith
 
 spot-at-requires-2 : tie.Need-spot-at-requires-2
 spot-at-requires-2 c κs = search needs
@@ -69,7 +69,7 @@ width-of-requires : tie.Need-width-of-requires
 width-of-requires c κs = search needs
 
 add-left-over : tie.Need-add-left-over
-add-left-over c = search needs
+add-left-over c = omega arith
 
 left-over-requires : tie.Need-left-over-requires
 left-over-requires c κs = search needs

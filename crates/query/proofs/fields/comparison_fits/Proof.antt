@@ -1,4 +1,5 @@
 -- `query::fields::comparison_fits` meets its contract by the laws of FieldRules.
+use native.Mathlib.Omega.{arith}
 use borrow.Author.Needs.{needs}
 use Rattle.query.proofs.FieldRules.{comparison-is}
 use Rattle.query.proofs.fields.comparison_fits.Statement.{statement}
@@ -8,13 +9,13 @@ byte-requires : tie.Need-byte-requires
 byte-requires c κs = search needs
 
 add-byte : tie.Need-add-byte
-add-byte c = search needs
+add-byte c = omega arith
 
 byte-requires-2 : tie.Need-byte-requires-2
 byte-requires-2 c κs = search needs
 
 add-byte-2 : tie.Need-add-byte-2
-add-byte-2 c = search needs
+add-byte-2 c = omega arith
 
 byte-requires-3 : tie.Need-byte-requires-3
 byte-requires-3 c κs = search needs
@@ -23,19 +24,19 @@ left-fits-requires : tie.Need-left-fits-requires
 left-fits-requires c κs = search needs
 
 add-byte-3 : tie.Need-add-byte-3
-add-byte-3 c = search needs
+add-byte-3 c = omega arith
 
 byte-requires-4 : tie.Need-byte-requires-4
 byte-requires-4 c κs = search needs
 
 add-byte-4 : tie.Need-add-byte-4
-add-byte-4 c = search needs
+add-byte-4 c = omega arith
 
 byte-requires-5 : tie.Need-byte-requires-5
 byte-requires-5 c κs = search needs
 
 add-byte-5 : tie.Need-add-byte-5
-add-byte-5 c = search needs
+add-byte-5 c = omega arith
 
 byte-requires-6 : tie.Need-byte-requires-6
 byte-requires-6 c κs = search needs
@@ -44,7 +45,7 @@ right-fits-requires : tie.Need-right-fits-requires
 right-fits-requires c κs = search needs
 
 add-byte-6 : tie.Need-add-byte-6
-add-byte-6 c = search needs
+add-byte-6 c = omega arith
 
 byte-requires-7 : tie.Need-byte-requires-7
 byte-requires-7 c κs = search needs
@@ -53,7 +54,7 @@ same-requires : tie.Need-same-requires
 same-requires c κs = search needs
 
 add-byte-7 : tie.Need-add-byte-7
-add-byte-7 c = search needs
+add-byte-7 c = omega arith
 
 byte-requires-8 : tie.Need-byte-requires-8
 byte-requires-8 c κs = search needs
