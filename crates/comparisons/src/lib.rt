@@ -158,7 +158,14 @@ fn read_met(query: &[u8], p: usize, rows: &[i32], columns: usize, from: u64) -> 
 }
 
 // The `count` comparisons from index p on, up to the first that is not met.
-pub fn all_met(query: &[u8], p: usize, count: usize, rows: &[i32], columns: usize, from: u64) -> bool
+pub fn all_met(
+    query: &[u8],
+    p: usize,
+    count: usize,
+    rows: &[i32],
+    columns: usize,
+    from: u64,
+) -> bool
     requires { ⌜ AllReads (now query) (now rows) columns from p count ⌝ }
     ensures { λ r. ⌜ r ≡ allRead (now (query .entry)) (now (rows .entry)) columns from p count ⌝ }
 {

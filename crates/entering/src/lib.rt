@@ -1,12 +1,12 @@
 // A pair is entered, in one function only, `enter`, which counts the entry.
-use pairs::wide;
-use pairs::failed;
-use pairs::index;
-use pairs::anchor_passes;
-use pairs::tried;
-use pairs::push;
-use pairs::fails;
 use pairs::Walk;
+use pairs::anchor_passes;
+use pairs::failed;
+use pairs::fails;
+use pairs::index;
+use pairs::push;
+use pairs::tried;
+use pairs::wide;
 ghost use mathlib.Core.Path.{_≡_};
 ghost use Prim.Native.Nat.{_<_, _≤_};
 ghost use lib.ListN.{length, getD};

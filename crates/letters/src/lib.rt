@@ -2,10 +2,10 @@
 // A table made before the search (specs/Tests) has for each letter the range of rows at which all rows that it reads are there, an interval for what its first
 // comparison reads, and where its DEFINE stands. In the range no row is asked for; outside, near the ends of the partition, each comparison moves the row index
 // by its signed bytes and looks. The first comparison costs no product, as its entries are found by spots in the table; those behind it cost two.
-use comparisons::byte;
-use comparisons::far_back;
-use comparisons::entry_from;
 use comparisons::all_met;
+use comparisons::byte;
+use comparisons::entry_from;
+use comparisons::far_back;
 use comparisons::several_hold;
 use tests::raise;
 ghost use mathlib.Core.Path.{_≡_};

@@ -1,13 +1,13 @@
 // A tree unrolled into its places: `unroll` puts them into a lent table of words, which an engine reads, by a recursion over the tree's nodes; the
 // node's height falls. Repeated ways of a fork are dropped.
+use forks::branch_fork;
+use forks::fork;
+use forks::put_words;
+use forks::start_at;
 use nodes::Sort;
 use nodes::node_at;
 use nodes::places_at;
 use nodes::sort_at;
-use forks::start_at;
-use forks::put_words;
-use forks::branch_fork;
-use forks::fork;
 ghost use mathlib.Core.Path.{_≡_};
 ghost use Prim.Native.Nat.{_+_, _*_, _-_, _≤_, _<_};
 ghost use lib.ListN.{length};

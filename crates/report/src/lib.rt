@@ -2,9 +2,9 @@
 // A match is appended whole or not at all: fits_whole says whether it fits. Sums are exact: 4,096 entries of 32 bits lie well within 64 bits.
 // A measure takes at most one pass over the labels of the match; over all rows, COUNT, FIRST and LAST take none.
 use decode::Measure;
+use measures::Outcome;
 use measures::as_number;
 use measures::measure_of;
-use measures::Outcome;
 ghost use mathlib.Core.Path.{_≡_};
 ghost use mathlib.Core.List.{List, [], _∷_};
 ghost use Prim.Native.Nat.{ℕ, _+_, _*_, _≤_};

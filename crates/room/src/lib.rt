@@ -3,12 +3,12 @@
 // to lend for it on some rows (`room`). Comparisons stay in the query's bytes. For all bytes and rows; the promises are equations with document 01's
 // definitions.
 use decode::Parts;
-use reading::has_foreign;
-use reading::refused;
-use reading::no_room;
-use reading::text_is_short;
 use reading::Query;
 use reading::Size;
+use reading::has_foreign;
+use reading::no_room;
+use reading::refused;
+use reading::text_is_short;
 ghost use mathlib.Core.Path.{_≡_};
 ghost use Rattle.rules.specs.Answers.{roomOf};
 ghost use Rattle.reading.specs.Reading.{JudgeRoom, JudgedParts, Nodes, Space, Asked, asRoom};

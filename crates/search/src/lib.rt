@@ -1,7 +1,7 @@
 // The whole search: answers 1 to 12 in front, then the walk over the unrolled pattern. Its promise, for every query, all rows and all lent buffers, is an
 // equation with document 01's definition, and the tender's demands with it (specs/Promise). Nothing is allocated; the tables lie on the stack.
-use outcome::refused;
 use outcome::Outcome;
+use outcome::refused;
 use starting::walk_all;
 ghost use mathlib.Core.Path.{_≡_};
 ghost use Rattle.reading.specs.Reading.{Nodes};

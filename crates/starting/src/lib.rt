@@ -1,7 +1,7 @@
 // The walk over an accepted query: its pattern unrolled into a table, from there into tables for the walk, then all starts. The tables lie on the stack.
-use spread::part;
-use outcome::finished;
 use outcome::Outcome;
+use outcome::finished;
+use spread::part;
 ghost use mathlib.Core.Path.{_≡_};
 ghost use Rattle.pairs.specs.Tables.{tables};
 ghost use Rattle.outcome.specs.Results.{lent, memory};

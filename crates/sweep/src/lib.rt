@@ -1,6 +1,6 @@
 // The whole search by the counted walk: all starts, each with one attempt; the matches written as they are found; and the buffers left as the report says.
-use matches::write_match;
 use matches::Sweep;
+use matches::write_match;
 ghost use mathlib.Core.Path.{_≡_};
 ghost use Prim.Native.Nat.{_≤_};
 ghost use lib.ListN.{length};

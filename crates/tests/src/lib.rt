@@ -1,9 +1,9 @@
 // The table of tests, made before the search: for each letter the range of rows at which all rows that it reads are there, an interval for what its first
 // comparison reads, and where its DEFINE stands.
-use comparisons::long;
 use comparisons::byte;
-use comparisons::signed_byte;
+use comparisons::long;
 use comparisons::number_at;
+use comparisons::signed_byte;
 use comparisons::spot_at;
 ghost use mathlib.Core.Path.{_≡_};
 ghost use Prim.Native.Nat.{_+_, _*_, _-_, _≤_, _<_, max};

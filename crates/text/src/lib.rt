@@ -1,11 +1,11 @@
 // The program's output as bytes: what it prints of a refused input, of one that is too large, and of a search's report. The report's text is a function
 // of the search's counts and report buffers alone (specs/Report), and takes at most 22 bytes for each number, one for each label and 60 more.
 // proofs/Printed says that after the search this is the text that document 01 asks for.
+use header::put_header;
 use put::put_byte;
 use put::put_bytes;
 use put::put_signed;
 use put::size_of;
-use header::put_header;
 ghost use mathlib.Core.Path.{_≡_};
 ghost use Prim.Native.Nat.{_+_, _*_, _≤_, min};
 ghost use lib.ListN.{length, drop};

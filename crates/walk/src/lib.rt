@@ -1,15 +1,15 @@
 // One attempt of the counted walk, over flat tables of places, lent notes (a bit for each pair: it has failed) and a lent trail (the open pairs).
 // A pair is the number row * P + place. Pairs are entered in one function only, `enter`, which counts the entry, and it is called in one place. No pair
 // is entered that has failed, so an attempt takes no more steps than there are pairs. The promise is `Done` (specs/State): the result is the definition's.
-use pairs::wide;
-use pairs::wide32;
+use entering::enter;
+use pairs::Walk;
 use pairs::failed;
 use pairs::mark;
+use pairs::put_way;
 use pairs::tried;
 use pairs::way_after;
-use pairs::put_way;
-use pairs::Walk;
-use entering::enter;
+use pairs::wide;
+use pairs::wide32;
 ghost use mathlib.Core.Path.{_≡_};
 ghost use Rattle.pairs.specs.Tables.{tables};
 ghost use Rattle.tests.specs.Tests.{Letters};
