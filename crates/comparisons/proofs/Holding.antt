@@ -19,7 +19,7 @@ use Rattle.rules.specs.Query.{comparisonFits, comparisonAt}
 use Rattle.rules.specs.Rows.{Comparison, Table, tableOf, entryAt, compares, plusNumber, rightSide, metBy, met, holds}
 use Rattle.rules.proofs.Choice.{decided}
 use Rattle.rules.proofs.Signed.{sum-fits, read-back}
-use Rattle.decode.specs.Layout.{comparisonsAt, Stand}
+use Rattle.define_list.specs.Defines.{comparisonsAt, Stand}
 use Rattle.comparisons.specs.Letters.{Bytes, there, At, FarBack, spotOf, leftSpot, rightSpot, numberAt, Side, ComparisonRoom, ComparisonsRoom, spotIndex, readMet, Reads, allRead, AllReads}
 use Rattle.comparisons.proofs.Entries.{spot-there, spot-entry, no-entry}
 use Rattle.comparisons.proofs.Fields.{left-for, left-column, right-for, right-column}

@@ -9,7 +9,7 @@ use lib.ListN.{length, getD}
 use Rattle.rules.specs.Basics.{pick, every, tabulate, le32, signed8, signed32}
 use Rattle.rules.specs.Query.{comparisonFits}
 use Rattle.rules.specs.Rows.{compares}
-use Rattle.decode.specs.Layout.{Stand}
+use Rattle.define_list.specs.Defines.{Stand}
 
 -- 1 where the test is true
 unfoldable pub flagOf : Bool → ℕ

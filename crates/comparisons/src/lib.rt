@@ -8,7 +8,7 @@ ghost use lib.ListN.{length, getD};
 ghost use Rattle.rules.specs.Basics.{le32, signed8, signed32};
 ghost use Rattle.rules.specs.Query.{comparisonAt};
 ghost use Rattle.rules.specs.Rows.{tableOf, compares, met, holds};
-ghost use Rattle.decode.specs.Layout.{comparisonsAt};
+ghost use Rattle.define_list.specs.Defines.{comparisonsAt};
 ghost use Rattle.comparisons.specs.Letters.{flagOf, there, spotOf, spotIndex, readMet, Reads, allRead, AllReads, FarBack, Side, ComparisonRoom, ComparisonsRoom};
 
 // Numbers as wider ones.

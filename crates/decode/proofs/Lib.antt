@@ -1,6 +1,1 @@
-pub mod Keeping
-pub mod Going
-pub mod Twice
-pub mod Defines
-pub mod Counting
 pub mod Together

@@ -6,19 +6,23 @@ use Prim.Native.Nat.{ℕ, _+_, _-_, _≤_, _<_}
 use native.Mathlib.Omega.{arith}
 use lib.ListN.{length, getD, take, drop}
 use borrow.Author.Tests.{eq-eqb, ne-eqb}
-use Rattle.query.specs.declared.Read.{Read}
-use Rattle.query.specs.declared.Read.the-variants.{Record as Whole, Cut}
+use Rattle.records.specs.declared.Read.{Read}
+use Rattle.records.specs.declared.Read.the-variants.{Record as Whole, Cut}
 use Rattle.rules.specs.Query.{Record, records, field, firstOfKind, columnsOf, defined, textOf, comparisonsFrom, measuresFrom, parts}
-use Rattle.query.specs.Read.{recordOf, recordsAt, readAt, firstAnswer}
-use Rattle.query.proofs.Reading.{found, read-more, field-first}
+use Rattle.records.specs.Read.{recordOf, recordsAt, readAt}
+use Rattle.query.specs.Order.{firstAnswer}
+use Rattle.records.proofs.Reading.{found, read-more, field-first}
 use Rattle.query.proofs.Order.{columns-at}
 use Rattle.decode.specs.Layout.{Room, Decoded}
-use Rattle.decode.specs.declared.Behind.{Behind}
+use Rattle.define_list.specs.declared.Behind.{Behind}
 use Rattle.decode.specs.declared.Head.{Head}
 use Rattle.decode.specs.declared.Tail.{Tail}
-use Rattle.decode.specs.Steps.{Ahead, HeadOf, TailRoom, TailOf, PutDefines, MeasuresRoom, PutMeasures}
-use Rattle.decode.proofs.Going.{at-start, before-end, not-cut, this-fits, shape-next, text-next, skip-next, shape-says, text-says, skip-says}
-use Rattle.decode.proofs.Defines.{not-define}
+use Rattle.query.specs.Ahead.{Ahead}
+use Rattle.decode.specs.Steps.{HeadOf, TailRoom, TailOf}
+use Rattle.define_list.specs.Defines.{PutDefines}
+use Rattle.measure_list.specs.Measures.{MeasuresRoom, PutMeasures}
+use Rattle.query.proofs.Going.{at-start, before-end, not-cut, this-fits, shape-next, text-next, skip-next, shape-says, text-says, skip-says}
+use Rattle.define_list.proofs.Defines.{not-define}
 
 -- ---- a record of another kind in front
 

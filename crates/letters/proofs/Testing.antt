@@ -16,7 +16,7 @@ use Rattle.rules.specs.Query.{comparisonAt}
 use Rattle.rules.specs.Rows.{Table, tableOf, compares, met, holds}
 use Rattle.rules.proofs.Choice.{decided}
 use Rattle.rules.proofs.Signed.{read-back}
-use Rattle.decode.specs.Layout.{comparisonsAt, definedAt, Body}
+use Rattle.define_list.specs.Defines.{comparisonsAt, definedAt, Body}
 use Rattle.comparisons.specs.Letters.{Bytes, there, At, leftSpot, rightSpot, numberAt, ComparisonsRoom, FarBack, spotIndex, readMet, Reads, allRead, AllReads}
 use Rattle.tests.specs.Tests.{sortOf, raised, lowOf, widthOf, backOf, aheadOf, backBoth, aheadBoth, backAt, aheadAt, mostBack, mostAhead, rowsLeft, wordsAt, wordsOf, within, TestRoom}
 use Rattle.comparisons.proofs.Fields.{number-short}

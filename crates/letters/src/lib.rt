@@ -16,7 +16,7 @@ ghost use lib.IntN.{ℤ, _-ℤ_};
 ghost use lib.Signed.{mag};
 ghost use lib.ListN.{getD};
 ghost use Rattle.rules.specs.Rows.{tableOf, holds};
-ghost use Rattle.decode.specs.Layout.{definedAt};
+ghost use Rattle.define_list.specs.Defines.{definedAt};
 ghost use Rattle.tests.specs.Tests.{raised};
 ghost use Rattle.tests.specs.Tests.{within, TestRoom};
 

@@ -17,7 +17,7 @@ use Rattle.rules.specs.Rows.{tableOf}
 use Rattle.rules.specs.Search.{labels, lastOf, endOf, nextStart}
 use Rattle.rules.proofs.Appended.{length-wrote-at, fits-room}
 use Rattle.rules.proofs.Lists.{length-tabulate}
-use Rattle.decode.specs.Layout.{measuresIn}
+use Rattle.measure_list.specs.Measures.{measuresIn}
 use Rattle.measures.specs.Measures.{Appendable}
 use Rattle.pairs.specs.declared.Walk.{Walk}
 use Rattle.pairs.specs.Tables.{Tables, P, waysOf, placeAt, placesIn}

@@ -11,7 +11,7 @@ ghost use Rattle.pairs.specs.Tables.{tables};
 ghost use Rattle.matches.specs.Asked.{asked, labelsOn, pathOn};
 ghost use mathlib.Core.Option.{some};
 ghost use Rattle.rules.specs.Rows.{tableOf};
-ghost use Rattle.decode.specs.Layout.{measuresIn};
+ghost use Rattle.measure_list.specs.Measures.{measuresIn};
 ghost use Rattle.matches.specs.Found.{OneMore, PutsLabel, Labels, Told, Reports};
 
 // A search under way: whether a match did not fit, the next start, the matches and labels written, and the steps.

@@ -1,5 +1,5 @@
 // A measure of one match: FIRST, LAST, MIN, MAX, SUM and COUNT over the rows with a label.
-use decode::Measure;
+use measure_list::Measure;
 ghost use mathlib.Core.Path.{_≡_};
 ghost use mathlib.Core.Bool.{true};
 ghost use mathlib.Core.List.{[]};
@@ -10,7 +10,7 @@ ghost use lib.Signed.{mag};
 ghost use lib.ListN.{length, drop};
 ghost use Rattle.rules.specs.Basics.{pick};
 ghost use Rattle.rules.specs.Rows.{tableOf, entry};
-ghost use Rattle.decode.specs.Steps.{measureOf};
+ghost use Rattle.measure_list.specs.Measures.{measureOf};
 ghost use Rattle.rules.specs.Report.{joined, values, overSome, resultOf, measured, twoOf};
 ghost use Rattle.measures.specs.Measures.{measureBy, numbersFor, isOf, countOf, meansLast, FirstAt, IsFirst, IsLast, Inside, Readable};
 

@@ -12,7 +12,7 @@ use borrow.Author.Tests.{ne-eqb, lt-ltb, le-ltb}
 use Rattle.rules.specs.Report.{bitAt}
 use Rattle.rules.specs.Rows.{tableOf, holds}
 use Rattle.rules.proofs.Notes.{marked}
-use Rattle.decode.specs.Layout.{definedAt}
+use Rattle.define_list.specs.Defines.{definedAt}
 use Rattle.tests.specs.Tests.{Letters, TestRoom}
 use Rattle.pairs.specs.declared.Walk.{Walk}
 use Rattle.pairs.specs.Letters.{holdsIn}

@@ -5,7 +5,7 @@ use Prim.Native.Nat.{ℕ, _+_, _-_, _*_}
 use lib.IntN.{ℤ}
 use lib.ListN.{getD}
 use Rattle.rules.specs.Rows.{tableOf, holds}
-use Rattle.decode.specs.Layout.{definedAt}
+use Rattle.define_list.specs.Defines.{definedAt}
 
 unfoldable pub holdsIn : List ℤ → ℕ → List ℕ → List ℕ → ℕ → ℕ → Bool
 unfolding holds definedAt

@@ -1,4 +1,2 @@
-pub mod Records
-pub mod Reading
 pub mod Order
-pub mod FieldRules
+pub mod Going

@@ -8,14 +8,15 @@ use native.Mathlib.Omega.{arith}
 use lib.Dec.{eqb}
 use lib.ListN.{length, getD}
 use borrow.Author.Tests.{eq-eqb, ne-eqb, eqb-true, eqb-false, not-true, not-false}
-use Rattle.query.specs.declared.Read.{Read}
-use Rattle.query.specs.declared.Read.the-variants.{Record as Whole, Cut}
+use Rattle.records.specs.declared.Read.{Read}
+use Rattle.records.specs.declared.Read.the-variants.{Record as Whole, Cut}
 use Rattle.rules.specs.Basics.{pick, every}
 use Rattle.rules.specs.Query.{Record, records, oneOf, someOf, noneLeft, inOrder, kinds, misplaced, firstOfKind, recordFits, columnsOf, unfit}
 use Rattle.rules.proofs.Choice.{decided}
-use Rattle.query.specs.Read.{recordsAt, recordOf, readAt, restOf, Follows, firstAnswer}
-use Rattle.query.proofs.Records.{records-end}
-use Rattle.query.proofs.Reading.{read-more, Along, along-none, along-more, along-cut, along-all, field-first}
+use Rattle.records.specs.Read.{recordsAt, recordOf, readAt}
+use Rattle.query.specs.Order.{restOf, Follows, firstAnswer}
+use Rattle.records.proofs.Records.{records-end}
+use Rattle.records.proofs.Reading.{read-more, Along, along-none, along-more, along-cut, along-all, field-first}
 
 -- ---- the order of kinds
 

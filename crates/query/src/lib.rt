@@ -1,7 +1,9 @@
 // A query's bytes judged: answers 1, 2 and 3 in one pass over the records. Each record read answers Record or Cut.
-// The promises are equations with document 01's tests over the whole query, for all byte strings; the rules for fields stand in fields.rt.
-mod fields;
-
+// The promises are equations with document 01's tests over the whole query, for all byte strings; records are read by the crate records, and the rules for
+// their fields stand in the crate fields.
+use records::Read;
+use records::record_at;
+use records::wide;
 ghost use mathlib.Core.Path.{_≡_};
 ghost use mathlib.Core.Bool.{true, false, _&&_};
 ghost use Prim.Native.Nat.{_+_, _*_, _-_, _≤_, _<_};
@@ -9,55 +11,8 @@ ghost use lib.ListN.{length, getD};
 ghost use lib.Dec.{eqb};
 ghost use Rattle.rules.specs.Basics.{pick, le16};
 ghost use Rattle.rules.specs.Query.{recordFits};
-ghost use Rattle.query.specs.Read.{readAt, recordOf, Follows, firstAnswer};
-
-// What stands at an index of the query: a whole record (its body starts at start and is len bytes long, and next is behind it), or Cut.
-pub enum Read {
-    Record {
-        kind: usize,
-        start: usize,
-        len: usize,
-        next: usize,
-    },
-    Cut,
-}
-
-// A byte as an index.
-pub(crate) fn wide(x: u8) -> usize
-    ensures { λ r. ⌜ (r ≡ x) × (r < 256) ⌝ }
-{
-    x as usize
-}
-
-// The number in two bytes, the lowest first.
-fn number_at(s: &[u8], at: usize) -> usize
-    requires { ⌜ at + 1 < length (now s) ⌝ }
-    ensures { λ r. ⌜ (r ≡ le16 (now (s .entry)) at) × (r < 65536) ⌝ }
-{
-    wide(s[at]) + wide(s[at + 1]) * 256
-}
-
-// The record at an index below the query's end.
-pub fn record_at(s: &[u8], at: usize) -> Read
-    requires { ⌜ at < length (now s) ⌝ }
-    ensures { λ r. ⌜ r ≡ readAt (now (s .entry)) at ⌝ }
-{
-    if s.len() - at < 4 {
-        return Read::Cut;
-    }
-    let len = number_at(s, at);
-    let start = at + 4;
-    if s.len() - start < len {
-        return Read::Cut;
-    }
-    let kind = number_at(s, at + 2);
-    Read::Record {
-        kind,
-        start,
-        len,
-        next: start + len,
-    }
-}
+ghost use Rattle.records.specs.Read.{readAt, recordOf};
+ghost use Rattle.query.specs.Order.{Follows, firstAnswer};
 
 // Where a pass stands in the order of kinds: it expects 0 the shape, 1 the text, 2 up to `left` DEFINEs and the skip, 3 up to `left`
 // measures; 4 is behind a kind out of order.

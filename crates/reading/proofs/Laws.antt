@@ -22,14 +22,15 @@ use Rattle.rules.proofs.Bounds.{letters-of-text}
 use Rattle.rules.proofs.Choice.{clash, and-left, and-right}
 use Rattle.rules.proofs.Grammar.{tree-exactly}
 use Rattle.rules.proofs.Lowest.{lowest-before, lowest-after, none-true}
-use Rattle.query.specs.Read.{firstAnswer}
+use Rattle.query.specs.Order.{firstAnswer}
 use Rattle.rules.specs.Reader.{treeOf}
 use Rattle.decode.specs.declared.Parts.{Parts}
 use Rattle.judge.specs.declared.Verdict.{Verdict}
 use Rattle.judge.specs.Judged.{textTests, textAnswer, Judging}
 use Rattle.reading.specs.declared.Query.{Query}
 use Rattle.reading.specs.declared.Size.{Size}
-use Rattle.decode.specs.Layout.{measureIn, measuresIn, Fits, Decoded}
+use Rattle.measure_list.specs.Measures.{measureIn, measuresIn, Fits}
+use Rattle.decode.specs.Layout.{Decoded}
 use Rattle.decode.specs.Layout.{Room}
 use Rattle.reading.specs.Reading.{knownIn, foreignIn, queryAnswer, refusal, JudgeRoom, JudgedParts, Nodes, Space, Whole, Asked, asRoom}
 

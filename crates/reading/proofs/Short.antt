@@ -11,9 +11,10 @@ use borrow.Author.Tests.{leb-true, le-leb, lt-leb}
 use Rattle.rules.specs.Basics.{le16}
 use Rattle.rules.specs.Query.{wholeAt, nextAt, columnsOf, textOf}
 use Rattle.rules.proofs.Choice.{decided, and-right}
-use Rattle.query.specs.Read.{readAt, firstAnswer}
-use Rattle.query.specs.declared.Read.the-variants.{Record as Whole, Cut}
-use Rattle.decode.proofs.Going.{at-start, this-fits, shape-next, shape-says}
+use Rattle.records.specs.Read.{readAt}
+use Rattle.query.specs.Order.{firstAnswer}
+use Rattle.records.specs.declared.Read.the-variants.{Record as Whole, Cut}
+use Rattle.query.proofs.Going.{at-start, this-fits, shape-next, shape-says}
 use Rattle.decode.proofs.Together.{first-whole, second-whole, head-is}
 use Rattle.decode.specs.Steps.{HeadOf}
 use Rattle.reading.specs.Reading.{Nodes, textLength, shortText}

@@ -9,12 +9,13 @@ use lib.Dec.{eqb, leb}
 use lib.ListN.{length, take, drop}
 use Rattle.rules.specs.Basics.{every, has, le16}
 use Rattle.rules.specs.Query.{Measure, doubled, textOf, parts}
-use Rattle.query.specs.Read.{firstAnswer}
+use Rattle.query.specs.Order.{firstAnswer}
 use Rattle.rules.specs.Language.{Tree, pattern}
 use Rattle.rules.specs.Answers as A
 use Rattle.rules.specs.Answers.{lowest, queryTests, treeIn, P}
 use Rattle.pattern.specs.Held.{Top}
-use Rattle.decode.specs.Layout.{measureIn, measuresIn, Fits, Decoded}
+use Rattle.measure_list.specs.Measures.{measureIn, measuresIn, Fits}
+use Rattle.decode.specs.Layout.{Decoded}
 use Rattle.decode.specs.declared.Parts.{Parts}
 use Rattle.reading.specs.declared.Query.{Query}
 use Rattle.reading.specs.declared.Size.{Size}

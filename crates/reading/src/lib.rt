@@ -38,7 +38,7 @@ pub fn has_foreign(text: &[u8], measures: &[u8; 24], count: usize) -> bool
 {
     let mut k = 0;
     while k < count {
-        let m = decode::measure_at(measures, k);
+        let m = measure_list::measure_at(measures, k);
         if !is_known(text, m.letter) {
             return true;
         }

@@ -25,7 +25,7 @@ use Rattle.rules.proofs.Appended.{wrote-none, wrote-on, length-wrote-at}
 use Rattle.measures.specs.declared.Outcome.{Outcome}
 use Rattle.measures.specs.declared.Outcome.the-variants.{Null, Number}
 use Rattle.measures.specs.Measures.{measureBy, numbersFor, Readable, Reportable}
-use Rattle.decode.specs.Layout.{measureIn, measuresIn}
+use Rattle.measure_list.specs.Measures.{measureIn, measuresIn}
 use Rattle.measures.proofs.Joins.{held}
 
 -- ---- two and three

@@ -1,7 +1,7 @@
 // The report of a match: six measures over its rows, and the numbers that it appends behind those of the matches before it.
 // A match is appended whole or not at all: fits_whole says whether it fits. Sums are exact: 4,096 entries of 32 bits lie well within 64 bits.
 // A measure takes at most one pass over the labels of the match; over all rows, COUNT, FIRST and LAST take none.
-use decode::Measure;
+use measure_list::Measure;
 use measures::Outcome;
 use measures::as_number;
 use measures::measure_of;
@@ -13,8 +13,8 @@ ghost use lib.ListN.{length};
 ghost use Rattle.rules.specs.Basics.{wrote};
 ghost use Rattle.rules.specs.Rows.{tableOf, entry};
 ghost use Rattle.rules.specs.Query as Q;
-ghost use Rattle.decode.specs.Layout.{measureIn, measuresIn};
-ghost use Rattle.decode.specs.Steps.{measureOf};
+ghost use Rattle.measure_list.specs.Measures.{measureIn, measuresIn};
+ghost use Rattle.measure_list.specs.Measures.{measureOf};
 ghost use Rattle.rules.specs.Report.{measureNumbers, matchNumbers, fits};
 ghost use Rattle.measures.specs.Measures.{numbersFor, Reportable, Appendable};
 

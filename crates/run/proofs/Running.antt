@@ -16,7 +16,7 @@ use Rattle.rules.specs.Answers.{taskOf, walked, Buffers, Memory, searchOf}
 use Rattle.rules.specs.Program.{refusedText, tooLarge, searchText, printedFor, printed}
 use Rattle.rules.proofs.Accepted.{Accepted}
 use Rattle.rules.proofs.Lists.{length-tabulate}
-use Rattle.decode.specs.Layout.{measureIn, measuresIn}
+use Rattle.measure_list.specs.Measures.{measureIn, measuresIn}
 use Rattle.reading.specs.declared.Query.{Query}
 use Rattle.reading.specs.Reading.{queryAnswer, Asked}
 use Rattle.outcome.specs.declared.Outcome.{Outcome}

@@ -13,7 +13,7 @@ use Rattle.rules.specs.Search.{Match, Swept, Kept, labels}
 use Rattle.rules.specs.Report.{matchNumbers, numbersOf, labelsOf, notesOf, zeros}
 use Rattle.rules.specs.Answers.{Buffers, taskOf, walked, walkOf, stopped, reportOf, accepted}
 use Rattle.rules.proofs.Distinct.{thinned, labels-thin}
-use Rattle.decode.specs.Layout.{measuresIn}
+use Rattle.measure_list.specs.Measures.{measuresIn}
 use Rattle.pairs.specs.Tables.{Tables, N}
 use Rattle.pairs.specs.Letters.{holdsIn}
 use Rattle.matches.specs.Asked as S

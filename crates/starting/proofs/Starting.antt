@@ -28,7 +28,9 @@ use Rattle.rules.proofs.Grammar.{tree-exactly}
 use Rattle.rules.proofs.PatternWalk.{walk-kept}
 use Rattle.rules.proofs.SameLetters.{search-agrees}
 use Rattle.rules.proofs.ThinPlaces.{Spelt, thinned-spelt}
-use Rattle.decode.specs.Layout.{Decoded, Body, definedAt, measureIn, measuresIn}
+use Rattle.decode.specs.Layout.{Decoded}
+use Rattle.define_list.specs.Defines.{Body, definedAt}
+use Rattle.measure_list.specs.Measures.{measureIn, measuresIn}
 use Rattle.forks.specs.Emitting.{Unrolling, Tabled}
 use Rattle.tests.specs.Tests.{Prepared, Preparable, Letters}
 use Rattle.tests.proofs.Uses.{preparable, word-seven, letters-room}

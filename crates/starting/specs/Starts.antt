@@ -14,7 +14,8 @@ use Rattle.rules.specs.Rows.{tableOf}
 use Rattle.rules.specs.Walk.{pairs}
 use Rattle.rules.specs.Answers.{Buffers, Memory, taskOf, treeIn, walked, walkOf, stopped, reportOf, accepted, searchOf}
 use Rattle.pattern.specs.Held.{Top}
-use Rattle.decode.specs.Layout.{measuresIn, Decoded}
+use Rattle.measure_list.specs.Measures.{measuresIn}
+use Rattle.decode.specs.Layout.{Decoded}
 use Rattle.decode.specs.declared.Parts.{Parts}
 use Rattle.rules.specs.Search.{Match}
 use Rattle.rules.specs.Report.{numbersOf, labelsOf}

@@ -10,7 +10,7 @@ ghost use Rattle.tests.specs.Tests.{Letters};
 ghost use Rattle.pairs.specs.Letters.{holdsIn};
 ghost use Rattle.matches.specs.Asked.{asked};
 ghost use Rattle.rules.specs.Rows.{tableOf};
-ghost use Rattle.decode.specs.Layout.{measuresIn};
+ghost use Rattle.measure_list.specs.Measures.{measuresIn};
 ghost use Rattle.sweep.specs.Searched.{Starts, Searched, Searches, Answered};
 ghost use Rattle.rules.specs.Report.{zeros};
 ghost use Rattle.matches.specs.Found.{Visits, Visited};

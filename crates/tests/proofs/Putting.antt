@@ -15,7 +15,7 @@ use mir.Facts.{toZ-ofZ}
 use borrow.Author.Tests.{eq-eqb, ne-eqb, eqb-true, eqb-false, ltb-true, ltb-false}
 use Rattle.rules.specs.Basics.{signed8}
 use Rattle.rules.proofs.Choice.{decided}
-use Rattle.decode.specs.Layout.{Body}
+use Rattle.define_list.specs.Defines.{Body}
 use Rattle.comparisons.specs.Letters.{Bytes, spotOf, leftSpot, rightSpot, numberAt}
 use Rattle.tests.specs.Tests.{sortOf, raised, lowOf, widthOf, backBoth, aheadBoth, backAt, aheadAt, most, mostBack, mostAhead, rowsLeft, wordsAt, wordsOf, Prepared, Preparable}
 use Rattle.tests.specs.Tests.{setEight, DefineRoom, PutRoom, PutTest}

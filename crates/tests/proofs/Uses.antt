@@ -9,7 +9,7 @@ use lib.IntN.{ℤ}
 use lib.ListN.{length, getD, replicate, length-replicate, getD-replicate}
 use borrow.Author.Tests.{eqb-true, eqb-false}
 use Rattle.rules.proofs.Choice.{decided}
-use Rattle.decode.specs.Layout.{Body}
+use Rattle.define_list.specs.Defines.{Body}
 use Rattle.comparisons.specs.Letters.{Bytes}
 use Rattle.tests.specs.Tests.{wordsAt, wordsOf, Prepared, Preparable, Letters}
 use Rattle.tests.proofs.Putting.{words-none, words-some}

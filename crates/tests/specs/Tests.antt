@@ -9,7 +9,7 @@ use lib.Dec.{leb, eqb}
 use lib.IntN.{ℤ, pos, negsuc}
 use lib.ListN.{length, getD, set}
 use Rattle.rules.specs.Basics.{pick, signed8, signed32, le32}
-use Rattle.decode.specs.Layout.{Body}
+use Rattle.define_list.specs.Defines.{Body}
 use Rattle.comparisons.specs.Letters.{leftSpot, rightSpot, numberAt, spotOf, Bytes}
 
 -- ---- the words of a DEFINE

@@ -1,6 +1,6 @@
 -- `query::byte_or_zero` meets its contract by the laws of Reading.
 use borrow.Author.Needs.{needs}
-use Rattle.query.proofs.Reading.{no-byte}
+use Rattle.records.proofs.Reading.{no-byte}
 use Rattle.query.proofs.byte_or_zero.Statement.{statement}
 use Rattle.query.proofs.byte_or_zero.Tie as tie
 

@@ -3,7 +3,7 @@ use Prim.Native.Nat.{_-_}
 use lib.ListN.{length}
 use borrow.Author.Needs.{needs}
 use Rattle.query.proofs.Order.{Judged, judged-none, judged-more, judged-cut, judged-2, judged-3, judged-0}
-use Rattle.query.proofs.Reading.{fewer, body-inside}
+use Rattle.records.proofs.Reading.{fewer, body-inside}
 use Rattle.query.proofs.first_answer.Statement.{statement}
 use Rattle.query.proofs.first_answer.Tie as tie
 

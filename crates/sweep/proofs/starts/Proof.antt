@@ -1,7 +1,7 @@
 -- `sweep::starts` meets its contract by the laws of Sofar. The invariant and the measure of its loop come first.
 use Prim.Native.Nat.{_-_}
 use Rattle.matches.specs.Asked.{asked}
-use Rattle.decode.specs.Layout.{measuresIn}
+use Rattle.measure_list.specs.Measures.{measuresIn}
 use Rattle.rules.specs.Rows.{tableOf}
 use Rattle.pairs.specs.Tables.{tables}
 use Rattle.tests.specs.Tests.{Letters}

@@ -1,0 +1,207 @@
+// The rules for the fields of each kind of record (document 01, "Rows and query records"), which answer 3 is about. Every function equals the
+// definition of its name; what is tested is short, so all parts of a test are computed and joined by both and either.
+use records::byte;
+ghost use mathlib.Core.Path.{_≡_};
+ghost use mathlib.Core.Bool.{true, false, not, _&&_, _||_};
+ghost use Prim.Native.Nat.{_+_, _*_, _≤_, _<_};
+ghost use lib.ListN.{length, getD};
+ghost use lib.Dec.{ltb, leb, eqb};
+ghost use Rattle.rules.specs.Basics.{inRange, everyBelow};
+ghost use Rattle.rules.specs.Query.{offsetFits, shapeFits, leftFits, rightFits, comparisonFits, defineFits, skipFits, functionFits, measureFits, recordFits};
+ghost use Rattle.records.specs.Read.{recordOf};
+ghost use Rattle.fields.specs.Fields.{fitsAt};
+
+fn both(a: bool, b: bool) -> bool
+    ensures { λ r. ⌜ r ≡ (a && b) ⌝ }
+{
+    if a { b } else { false }
+}
+
+fn either(a: bool, b: bool) -> bool
+    ensures { λ r. ⌜ r ≡ (a || b) ⌝ }
+{
+    if a { true } else { b }
+}
+
+fn same(a: usize, b: usize) -> bool
+    ensures { λ r. ⌜ r ≡ eqb a b ⌝ }
+{
+    a == b
+}
+
+fn less(a: usize, b: usize) -> bool
+    ensures { λ r. ⌜ r ≡ ltb a b ⌝ }
+{
+    a < b
+}
+
+fn at_most(a: usize, b: usize) -> bool
+    ensures { λ r. ⌜ r ≡ leb a b ⌝ }
+{
+    a <= b
+}
+
+fn within(lo: usize, hi: usize, x: usize) -> bool
+    ensures { λ r. ⌜ r ≡ inRange lo hi x ⌝ }
+{
+    both(at_most(lo, x), at_most(x, hi))
+}
+
+// An offset byte from -64 to 64.
+fn offset_fits(b: usize) -> bool
+    requires { ⌜ b < 256 ⌝ }
+    ensures { λ r. ⌜ r ≡ offsetFits b ⌝ }
+{
+    if b < 128 {
+        return b <= 64;
+    }
+    192 <= b
+}
+
+// The right side of a comparison.
+fn right_fits(columns: usize, kind: usize, column: usize, offset: usize) -> bool
+    requires { ⌜ offset < 256 ⌝ }
+    ensures { λ r. ⌜ r ≡ rightFits columns kind column offset ⌝ }
+{
+    if kind == 0 {
+        return both(same(column, 0), same(offset, 0));
+    }
+    both(
+        same(kind, 1),
+        both(less(column, columns), offset_fits(offset)),
+    )
+}
+
+// The left side of a comparison, and its operator.
+fn left_fits(columns: usize, column: usize, offset: usize, operator: usize) -> bool
+    requires { ⌜ offset < 256 ⌝ }
+    ensures { λ r. ⌜ r ≡ leftFits columns column offset operator ⌝ }
+{
+    both(
+        less(column, columns),
+        both(offset_fits(offset), within(1, 6, operator)),
+    )
+}
+
+// The 12 bytes of a comparison.
+fn comparison_fits(s: &[u8], columns: usize, p: usize) -> bool
+    requires { ⌜ p + 12 ≤ length (now s) ⌝ }
+    ensures { λ r. ⌜ r ≡ comparisonFits (now (s .entry)) columns p ⌝ }
+{
+    let left = left_fits(columns, byte(s, p), byte(s, p + 1), byte(s, p + 2));
+    let right = right_fits(columns, byte(s, p + 3), byte(s, p + 4), byte(s, p + 5));
+    let reserved = both(same(byte(s, p + 6), 0), same(byte(s, p + 7), 0));
+    both(left, both(right, reserved))
+}
+
+// The comparisons of a DEFINE, from p on.
+fn comparisons_fit(s: &[u8], columns: usize, p: usize, count: usize) -> bool
+    requires { ⌜ p + count * 12 ≤ length (now s) ⌝ }
+    ensures { λ r. ⌜ r ≡ everyBelow count (fitsAt (now (s .entry)) columns p) ⌝ }
+{
+    let mut k = 0;
+    while k < count {
+        if !comparison_fits(s, columns, p + k * 12) {
+            return false;
+        }
+        k += 1;
+    }
+    true
+}
+
+// Kind 1: columns 1 to 8, a reserved byte.
+fn shape_fits(s: &[u8], start: usize, len: usize) -> bool
+    requires { ⌜ start + len ≤ length (now s) ⌝ }
+    ensures { λ r. ⌜ r ≡ shapeFits (now (s .entry)) (recordOf 1 start len) ⌝ }
+{
+    if len != 2 {
+        return false;
+    }
+    both(within(1, 8, byte(s, start)), same(byte(s, start + 1), 0))
+}
+
+// Kind 3: a letter, a count of 1 to 8, and the comparisons.
+fn define_fits(s: &[u8], columns: usize, start: usize, len: usize) -> bool
+    requires { ⌜ start + len ≤ length (now s) ⌝ }
+    ensures { λ r. ⌜ r ≡ defineFits (now (s .entry)) columns (recordOf 3 start len) ⌝ }
+{
+    if len < 2 {
+        return false;
+    }
+    let count = byte(s, start + 1);
+    if len != 2 + count * 12 {
+        return false;
+    }
+    let letter = within(65, 90, byte(s, start));
+    let counted = within(1, 8, count);
+    let compared = comparisons_fit(s, columns, start + 2, count);
+    both(letter, both(counted, compared))
+}
+
+// Kind 4: 0 or 1, a reserved byte.
+fn skip_fits(s: &[u8], start: usize, len: usize) -> bool
+    requires { ⌜ start + len ≤ length (now s) ⌝ }
+    ensures { λ r. ⌜ r ≡ skipFits (now (s .entry)) (recordOf 4 start len) ⌝ }
+{
+    if len != 2 {
+        return false;
+    }
+    both(at_most(byte(s, start), 1), same(byte(s, start + 1), 0))
+}
+
+fn negated(a: bool) -> bool
+    ensures { λ r. ⌜ r ≡ not a ⌝ }
+{
+    !a
+}
+
+// A measure's function, letter and column; COUNT, function 1, has column 0.
+fn function_fits(columns: usize, function: usize, letter: usize, column: usize) -> bool
+    ensures { λ r. ⌜ r ≡ functionFits columns function letter column ⌝ }
+{
+    let known = within(1, 6, function);
+    let lettered = either(same(letter, 0), within(65, 90, letter));
+    let inside = less(column, columns);
+    let counting = either(negated(same(function, 1)), same(column, 0));
+    both(known, both(lettered, both(inside, counting)))
+}
+
+// Kind 5: those, and a reserved byte.
+fn measure_fits(s: &[u8], columns: usize, start: usize, len: usize) -> bool
+    requires { ⌜ start + len ≤ length (now s) ⌝ }
+    ensures { λ r. ⌜ r ≡ measureFits (now (s .entry)) columns (recordOf 5 start len) ⌝ }
+{
+    if len != 4 {
+        return false;
+    }
+    let good = function_fits(
+        columns,
+        byte(s, start),
+        byte(s, start + 1),
+        byte(s, start + 2),
+    );
+    both(good, same(byte(s, start + 3), 0))
+}
+
+// The fields of one record.
+pub fn record_fits(s: &[u8], columns: usize, kind: usize, start: usize, len: usize) -> bool
+    requires { ⌜ start + len ≤ length (now s) ⌝ }
+    ensures { λ r. ⌜ r ≡ recordFits (now (s .entry)) columns (recordOf kind start len) ⌝ }
+{
+    if kind == 1 {
+        return shape_fits(s, start, len);
+    }
+    if kind == 2 {
+        return len <= 256;
+    }
+    if kind == 3 {
+        return define_fits(s, columns, start, len);
+    }
+    if kind == 4 {
+        return skip_fits(s, start, len);
+    }
+    if kind == 5 {
+        return measure_fits(s, columns, start, len);
+    }
+    true
+}
