@@ -45,8 +45,9 @@ extern "C" {
 /* Numbers that one match takes in the report of a query with so many measures. */
 #define MIRELADLE_MATCH_LENGTH(measures) (3 + 2 * (measures))
 
-/* The answers. Where several of 1 to 12 apply, the lowest is given; each is judged over the whole input, so that a
- * fault of a low number at the very end of the query comes before one of a high number at its beginning.
+/* The answers. Where several of 1 to 12 apply, the lowest is given, and 14 stands where 5 does; each is judged over the
+ * whole input, so that a fault of a low number at the very end of the query comes before one of a high number at its
+ * beginning.
  */
 enum mireladle_answer {
     /* The search went through all rows, and the report is whole. */
@@ -62,7 +63,8 @@ enum mireladle_answer {
     MIRELADLE_WRONG_FIELD = 3,
     /* Somewhere in the pattern text more than 8 parentheses are open. */
     MIRELADLE_TOO_DEEP = 4,
-    /* The pattern text is not a pattern. */
+    /* The pattern text is not a pattern, nor the beginning of one: no pattern begins with it up to and with the byte at
+     * the offset returned. 14 says that it is the beginning of one. */
     MIRELADLE_NO_PATTERN = 5,
     /* A repetition without an upper bound is put on something that can match without taking a row, such as (A*)*. */
     MIRELADLE_EMPTY_REPETITION = 6,
@@ -80,23 +82,29 @@ enum mireladle_answer {
     MIRELADLE_TRAIL_SHORT = 12,
     /* The search stopped at a match for which numbers or labels had no room left. The matches before it stand whole in
      * the report; no later match is looked for, even one that would fit. */
-    MIRELADLE_STOPPED = 13
+    MIRELADLE_STOPPED = 13,
+    /* The pattern text is not a pattern but the beginning of one: it ends where it could go on. The offset is its
+     * length. The limits on its length and on parentheses play no part in this. */
+    MIRELADLE_PATTERN_ENDS = 14
 };
 
-/* What a search returns. On the answers 1 to 12 all but the answer are 0. */
+/* What a search returns. On the answers 1 to 12 and 14 all but the answer, and the offset of 5 and 14, are 0. */
 struct mireladle_result {
     uint64_t answer;  /* one of enum mireladle_answer */
     uint64_t matches; /* matches in the report */
     uint64_t labels;  /* label bytes in the report */
     uint64_t steps;   /* pairs entered; on 13 the search for the match that did not fit is counted too */
+    uint64_t offset;  /* on 5 the byte of the pattern text, from 0, at which it is wrong; on 14 its length; else 0 */
 };
 
-/* What the working room of a search is measured by. On the answers 1 to 10 all but the answer are 0. */
+/* What the working room of a search is measured by. On the answers 1 to 10 and 14 all but the answer, and the offset of
+ * 5 and 14, are 0. */
 struct mireladle_room {
-    uint64_t answer; /* 0, or 1 to 10 of enum mireladle_answer */
+    uint64_t answer; /* 0, or 1 to 10 or 14 of enum mireladle_answer */
     uint64_t places; /* P */
     uint64_t rows;   /* n */
     uint64_t pairs;  /* P * (n + 1) */
+    uint64_t offset; /* as a search returns it */
 };
 
 /*
@@ -120,7 +128,7 @@ struct mireladle_room {
  *
  * What the buffers hold afterwards:
  *
- *   answers 1 to 12   Nothing is changed.
+ *   answers 1 to 12   Nothing is changed, and the same on 14.
  *   answers 0 and 13  numbers: for each match in turn its number (from 1), its first row (the row where it was tried if
  *                     it takes none), how many rows it takes, and for each measure two numbers: 1 and the result, or
  *                     0 and 0 for null; over no rows all but COUNT are null. That is
@@ -142,7 +150,8 @@ struct mireladle_result mireladle_search(const uint8_t *query, size_t query_len,
 
 /*
  * Judges a query and rows and tells how much working room their search takes: answer 0 with P, n and P * (n + 1), or
- * the answer of 1 to 10 that mireladle_search() would give. With rows_len 0 it judges the query alone.
+ * the answer of 1 to 10 or 14 that mireladle_search() would give, with its offset. With rows_len 0 it judges the query
+ * alone.
  * query and rows are as for mireladle_search(): only read, and NULL only with length 0. Nothing else is touched.
  */
 #if defined(__cplusplus) && defined(__GNUC__)

@@ -48,6 +48,7 @@ pub fn search(
             matches: report.matches as u64,
             labels: report.labels_written as u64,
             steps,
+            offset: 0,
         })
     };
     accepted().unwrap_or_else(refused)
@@ -59,6 +60,7 @@ fn refused(answer: u64) -> Outcome {
         matches: 0,
         labels: 0,
         steps: 0,
+        offset: 0,
     }
 }
 
@@ -73,6 +75,7 @@ pub fn room(query: &[u8], rows: &[i32]) -> Room {
         places,
         rows: n,
         pairs: places * (n + 1),
+        offset: 0,
     }
 }
 

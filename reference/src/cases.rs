@@ -14,17 +14,19 @@ pub struct SearchCase {
     pub lengths: [usize; 4],
     pub answer: u64,
     /// Matches, labels and steps.
-    pub counts: [u64; 3],
+    pub counts: [u64; 4],
     pub notes: Vec<u8>,
     pub trail: Vec<u32>,
     pub numbers: Vec<i64>,
     pub labels: Vec<u8>,
 }
 
-/// A pattern's text with its answer, 4 to 7 or 0, and P, 0 where it is refused.
+/// A pattern's text with its answer, 4 to 7, 14 or 0, its offset, and P, 0 where
+/// it is refused.
 pub struct TextCase {
     pub text: Vec<u8>,
     pub answer: u64,
+    pub offset: u64,
     pub places: u64,
 }
 
@@ -61,7 +63,12 @@ pub fn search_case(random: &mut Random, number: usize) -> SearchCase {
         rows,
         lengths,
         answer: outcome.answer.into(),
-        counts: [outcome.matches, outcome.labels, outcome.steps],
+        counts: [
+            outcome.matches,
+            outcome.labels,
+            outcome.steps,
+            outcome.offset,
+        ],
         notes,
         trail,
         numbers,
@@ -75,9 +82,14 @@ pub fn text_case(random: &mut Random) -> TextCase {
         Ok(tree) => (0, tree.count_with_end() as u64),
         Err(answer) => (answer.into(), 0),
     };
+    let offset = match answer {
+        5 | 14 => pattern::offset(&text),
+        _ => 0,
+    };
     TextCase {
         text,
         answer,
+        offset,
         places,
     }
 }

@@ -1,5 +1,5 @@
 //! The pattern: reading a text to a tree, and what is judged of the text and
-//! the tree alone: answers 4 to 7, the number of places P, and the letters that
+//! the tree alone: answers 4 to 7 and 14, the number of places P, and the letters that
 //! answer 9 asks for. From document 01, "Pattern language", with the count of
 //! "Places and preferment". The text is cut into tokens first, so that spaces
 //! and touching letters are settled before the grammar is read.
@@ -54,13 +54,14 @@ pub const ONCE: Quantifier = Quantifier {
     reluctant: false,
 };
 
-/// Reads a text, or gives the lowest of the answers 4 to 7 that applies.
+/// Reads a text, or gives the first of the answers 4, 5 or 14, 6 and 7 that
+/// applies.
 pub fn judge(text: &[u8]) -> Result<Pattern, u8> {
     if parentheses_pass_eight(text) {
         return Err(4);
     }
     let Some(pattern) = read(text) else {
-        return Err(5);
+        return Err(if begins(text) { 14 } else { 5 });
     };
     if pattern.repeats_nothing_without_end() {
         return Err(6);
@@ -88,7 +89,7 @@ pub fn parentheses_pass_eight(text: &[u8]) -> bool {
     false
 }
 
-/// Reads a text to its tree. None if it is outside the language: answer 5.
+/// Reads a text to its tree. None if it is outside the language: 5 or 14.
 pub fn read(text: &[u8]) -> Option<Pattern> {
     let mut reader = Reader {
         tokens: tokens(text)?,
@@ -99,6 +100,24 @@ pub fn read(text: &[u8]) -> Option<Pattern> {
         None => Some(pattern),
         Some(_) => None,
     }
+}
+
+/// Whether some text of the language begins with this one: whatever it waits
+/// for, one of these ends will do, and behind it the parentheses that are open.
+pub fn begins(text: &[u8]) -> bool {
+    let count = |byte: u8| text.iter().filter(|&&it| it == byte).count();
+    let open = count(b'(').saturating_sub(count(b')'));
+    let ends: [&[u8]; 6] = [b"", b"^", b"}", b"1}", b"9}", b",}"];
+    ends.iter()
+        .any(|end| read(&[text, end, &b")".repeat(open)].concat()).is_some())
+}
+
+/// The offset of answers 5 and 14: how many bytes of the text begin a text of
+/// the language.
+pub fn offset(text: &[u8]) -> u64 {
+    (1..=text.len())
+        .take_while(|&length| begins(&text[..length]))
+        .count() as u64
 }
 
 #[derive(Clone, Copy, Debug, PartialEq, Eq)]

@@ -20,17 +20,28 @@ pub struct Outcome {
     pub matches: u64,
     pub labels: u64,
     pub steps: u64,
+    /// Of answers 5 and 14; else 0.
+    pub offset: u64,
 }
 
 impl Outcome {
-    /// Answers 1 to 12 come with zeros.
-    pub fn refused(answer: u8) -> Outcome {
+    /// Answers 1 to 12 and 14 come with zeros, 5 and 14 with an offset.
+    pub fn refused(query: &[u8], answer: u8) -> Outcome {
         Outcome {
             answer,
             matches: 0,
             labels: 0,
             steps: 0,
+            offset: offset(query, answer),
         }
+    }
+}
+
+/// Where the pattern's text of a query with this answer is wrong.
+pub fn offset(query: &[u8], answer: u8) -> u64 {
+    match (answer, query::read(query)) {
+        (5 | 14, Ok(query)) => pattern::offset(&query.text),
+        _ => 0,
     }
 }
 
@@ -125,7 +136,7 @@ pub fn search_watched(
 ) -> Outcome {
     let accepted = match accept_with_room(query, rows, notes.len(), trail.len()) {
         Ok(accepted) => accepted,
-        Err(answer) => return Outcome::refused(answer),
+        Err(answer) => return Outcome::refused(query, answer),
     };
     let mut walk = Counted::new(accepted.ground());
     let mut report = Report::new(numbers, labels);
@@ -157,7 +168,7 @@ pub fn search_plain(
 ) -> Option<Outcome> {
     let accepted = match accept_with_room(query, rows, notes.len(), trail.len()) {
         Ok(accepted) => accepted,
-        Err(answer) => return Some(Outcome::refused(answer)),
+        Err(answer) => return Some(Outcome::refused(query, answer)),
     };
     let mut walk = Plain::new(accepted.ground(), allowance);
     let mut report = Report::new(numbers, labels);
@@ -317,6 +328,7 @@ impl<'a> Report<'a> {
             matches: self.matches as u64,
             labels: self.labels_written as u64,
             steps,
+            offset: 0,
         }
     }
 }

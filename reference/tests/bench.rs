@@ -58,6 +58,7 @@ fn w2() {
         matches: 0,
         labels: 0,
         steps: 0,
+        offset: 0,
     };
     assert_eq!(called.outcome, outcome);
     assert_eq!((called.notes, called.trail), (vec![0], vec![0; 5]));
@@ -150,6 +151,7 @@ fn w1_with_measures_in_bytes() {
         matches: 1,
         labels: 3,
         steps: 12,
+        offset: 0,
     };
     assert_eq!(called.outcome, outcome);
     assert_eq!(called.numbers, [1, 1, 3, 1, 2, 1, 115, 7, 7]);
@@ -173,9 +175,10 @@ fn texts_named_in_the_language() {
     same(b"( )", b"()");
     same(b"A ?", b"A?");
     same(b"A{,3}", b"A{0,3}");
-    for text in ["A**", "A? ?", "A |", "AB", "{,}", "A{,}"] {
+    for text in ["A**", "A? ?", "AB", "{,}", "A{,}"] {
         assert_eq!(answer_of_text(text.as_bytes()), 5, "{text}");
     }
+    assert_eq!(answer_of_text(b"A |"), 14);
 }
 
 #[test]

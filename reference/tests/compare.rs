@@ -44,7 +44,7 @@ fn unchanged<T: PartialEq + From<u8>>(buffer: &[T]) -> bool {
 
 fn check_refused(called: &Called) {
     let outcome = called.outcome;
-    assert!((1..=12).contains(&outcome.answer));
+    assert!(outcome.answer == 14 || (1..=12).contains(&outcome.answer));
     assert_eq!((outcome.matches, outcome.labels, outcome.steps), (0, 0, 0));
     assert!(unchanged(&called.notes) && unchanged(&called.trail));
     assert!(unchanged(&called.numbers) && unchanged(&called.labels));
@@ -89,7 +89,7 @@ fn check_plain(input: &Input, called: &Called, allowance: u64) -> bool {
 #[test]
 fn random_small_inputs() {
     let mut random = Random::new(1);
-    let mut answers = [0; 14];
+    let mut answers = [0; 15];
     let mut ended = 0;
     for number in 0..60_000 {
         let input = mix::input(&mut random, &SMALL, number);
@@ -126,7 +126,7 @@ fn random_large_inputs() {
 #[test]
 fn critical_rooms() {
     let mut random = Random::new(3);
-    let mut answers = [0; 14];
+    let mut answers = [0; 15];
     for _ in 0..2_000 {
         let draft = draft::accepted(&mut random, &SMALL, Numbers::Low);
         for input in draft.with_critical_rooms() {
@@ -153,12 +153,12 @@ fn every_small_input() {
 
 #[test]
 fn inputs_at_the_limits() {
-    let mut answers = [0; 14];
+    let mut answers = [0; 15];
     for draft in limits::all() {
         let called = check(&draft.finish());
         answers[usize::from(called.outcome.answer)] += 1;
     }
-    for answer in [0, 2, 3, 4, 5, 6, 7, 10, 13] {
+    for answer in [0, 2, 3, 4, 5, 6, 7, 10, 13, 14] {
         assert!(answers[answer] > 0, "{answers:?}");
     }
 }

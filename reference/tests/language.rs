@@ -161,14 +161,14 @@ fn every_bound() {
 #[test]
 fn random_texts() {
     let mut random = Random::new(5);
-    let mut answers = [0; 8];
+    let mut answers = [0; 15];
     for _ in 0..20_000 {
         let text = texts::any(&mut random);
         agree(&text);
         let answer = pattern::judge(&text).err().unwrap_or(0);
         answers[usize::from(answer)] += 1;
     }
-    for answer in [0, 4, 5, 6, 7] {
+    for answer in [0, 4, 5, 6, 7, 14] {
         assert!(answers[answer] > 500, "{answers:?}");
     }
 }
@@ -190,7 +190,7 @@ fn trees_written_and_read_again() {
 fn answers_of_refused_texts() {
     let mut random = Random::new(7);
     for number in 0..4_000 {
-        let answer = 4 + (number % 4) as u8;
+        let answer = [4, 5, 6, 7, 14][number % 5];
         let text = texts::refused(&mut random, answer);
         assert_eq!(common::answer_of_text(&text), answer);
     }
@@ -258,5 +258,51 @@ fn places_of_patterns_written_out() {
         let places = unroll(&tree);
         assert_eq!(places.len() as u128, tree.count_with_end());
         assert_eq!(places, unroll(&written_out(&tree)));
+    }
+}
+
+/// Offsets of answers 5 and 14, by the grammar: every beginning up to the
+/// offset goes on to some text, and with the byte there none does.
+#[test]
+fn offsets() {
+    for (text, answer, offset) in [
+        ("", 14, 0),
+        ("( ", 14, 2),
+        ("A |", 14, 3),
+        ("A{3,2", 14, 5),
+        ("A{99,9", 14, 6),
+        ("AB", 5, 1),
+        ("A? ?", 5, 3),
+        ("A)", 5, 1),
+        ("A{0}", 5, 3),
+        ("A{0,0}", 5, 4),
+        ("A{30,2", 5, 5),
+        ("A{99,98", 5, 6),
+        ("A{3,2}", 5, 5),
+    ] {
+        let text = text.as_bytes();
+        assert_eq!(pattern::judge(text).err(), Some(answer));
+        assert_eq!(pattern::offset(text), offset);
+    }
+    let mut random = Random::new(8);
+    for _ in 0..2_000 {
+        let text = texts::any(&mut random);
+        if text.len() > 40 || !matches!(pattern::judge(&text), Err(5 | 14)) {
+            continue;
+        }
+        let offset = pattern::offset(&text) as usize;
+        let ends = |bytes: &[u8]| {
+            let open = bytes.iter().filter(|&&it| it == b'(').count();
+            ["", "A", "$", " A", "}", "0}", "1}", "5}", "9}", "99}", ",}", ",99}"]
+                .iter()
+                .any(|end| {
+                    (0..=open).any(|shut| {
+                        in_language(&[bytes, end.as_bytes(), &b")".repeat(shut)].concat())
+                    })
+                })
+        };
+        assert!((0..=offset).all(|length| ends(&text[..length])));
+        assert_eq!(offset == text.len(), pattern::judge(&text) == Err(14));
+        assert!(offset == text.len() || !ends(&text[..=offset]));
     }
 }

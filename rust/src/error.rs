@@ -1,4 +1,4 @@
-//! Why a query or a search was refused: the library's answers 1 to 12 by name and in plain words, and the few faults
+//! Why a query or a search was refused: the library's answers 1 to 12 and 14 by name and in plain words, and the few faults
 //! that only this crate can see. Each answer of the library has exactly one error, and keeps its number.
 
 use std::fmt;
@@ -10,7 +10,7 @@ pub(crate) const STOPPED: u64 = 13;
 
 /// Why there is no query or no report.
 ///
-/// Where several refusals apply, the library gives the one with the lowest number.
+/// Where several refusals apply, the library gives the one with the lowest number; 14 stands where 5 does.
 #[derive(Clone, Copy, Debug, PartialEq, Eq, Hash)]
 #[non_exhaustive]
 pub enum Error {
@@ -25,8 +25,11 @@ pub enum Error {
     WrongField,
     /// 4: more than 8 parentheses are open somewhere in the pattern.
     TooDeep,
-    /// 5: the pattern text is outside the pattern language.
-    NotAPattern,
+    /// 5: the pattern text is outside the pattern language: no pattern begins with it up to and with the byte at the offset.
+    NotAPattern {
+        /// The byte's offset in the text.
+        offset: u64,
+    },
     /// 6: a repetition without upper bound of something that can match without taking a row.
     EmptyRepetition,
     /// 7: the unrolled pattern has more than 256 places.
@@ -41,6 +44,11 @@ pub enum Error {
     NotesShort,
     /// 12: the trail is too short. [`Query::search`](crate::Query::search) lends enough, so it never gives this.
     TrailShort,
+    /// 14: the pattern text is no pattern but the beginning of one: it ends where it could go on.
+    PatternEnds {
+        /// The text's length in bytes.
+        offset: u64,
+    },
     /// The rows were said to have another number of columns than the query is about.
     ColumnCount {
         /// The columns that the query is about.
@@ -56,18 +64,18 @@ pub enum Error {
 }
 
 impl Error {
-    /// The error that stands for an answer other than 0 and 13.
+    /// The error that stands for an answer other than 0 and 13, with the offset that came with it.
     ///
     /// ```
-    /// assert_eq!(mireladle::Error::from_answer(5), mireladle::Error::NotAPattern);
+    /// assert_eq!(mireladle::Error::from_answer(5, 2), mireladle::Error::NotAPattern { offset: 2 });
     /// ```
-    pub fn from_answer(answer: u64) -> Error {
+    pub fn from_answer(answer: u64, offset: u64) -> Error {
         match answer {
             1 => Error::QueryCut,
             2 => Error::WrongRecords,
             3 => Error::WrongField,
             4 => Error::TooDeep,
-            5 => Error::NotAPattern,
+            5 => Error::NotAPattern { offset },
             6 => Error::EmptyRepetition,
             7 => Error::TooManyPlaces,
             8 => Error::DefinedTwice,
@@ -75,18 +83,19 @@ impl Error {
             10 => Error::WrongRows,
             11 => Error::NotesShort,
             12 => Error::TrailShort,
+            14 => Error::PatternEnds { offset },
             _ => Error::OtherLibrary { answer },
         }
     }
 
-    /// The number of the library's refusal, 1 to 12; none for the faults that this crate sees itself.
+    /// The number of the library's refusal, 1 to 12 or 14; none for the faults that this crate sees itself.
     pub fn number(self) -> Option<u64> {
         match self {
             Error::QueryCut => Some(1),
             Error::WrongRecords => Some(2),
             Error::WrongField => Some(3),
             Error::TooDeep => Some(4),
-            Error::NotAPattern => Some(5),
+            Error::NotAPattern { .. } => Some(5),
             Error::EmptyRepetition => Some(6),
             Error::TooManyPlaces => Some(7),
             Error::DefinedTwice => Some(8),
@@ -94,6 +103,7 @@ impl Error {
             Error::WrongRows => Some(10),
             Error::NotesShort => Some(11),
             Error::TrailShort => Some(12),
+            Error::PatternEnds { .. } => Some(14),
             Error::ColumnCount { .. } | Error::OtherLibrary { .. } => None,
         }
     }
@@ -112,7 +122,8 @@ impl Error {
                  1 to 8 comparisons in a DEFINE, offsets up to 64)"
             }
             Error::TooDeep => "more than 8 parentheses are open somewhere in the pattern",
-            Error::NotAPattern => "the text is outside the pattern language",
+            Error::NotAPattern { .. } => "the text is outside the pattern language",
+            Error::PatternEnds { .. } => "the text ends where it could go on to a pattern",
             Error::EmptyRepetition => {
                 "a repetition without upper bound stands over something that can match without taking a row"
             }
@@ -147,20 +158,20 @@ mod tests {
 
     #[test]
     fn each_refusal_keeps_its_number() {
-        for number in 1..=12 {
-            assert_eq!(Error::from_answer(number).number(), Some(number));
+        for number in (1..=12).chain([14]) {
+            assert_eq!(Error::from_answer(number, 0).number(), Some(number));
         }
-        for other in [DONE, STOPPED, 14, u64::MAX] {
-            assert_eq!(Error::from_answer(other).number(), None);
+        for other in [DONE, STOPPED, 15, u64::MAX] {
+            assert_eq!(Error::from_answer(other, 0).number(), None);
         }
     }
 
     #[test]
     fn each_refusal_has_words_of_its_own() {
-        let words: std::collections::HashSet<String> = (1..=13)
-            .map(|number| Error::from_answer(number).to_string())
+        let words: std::collections::HashSet<String> = (1..=14)
+            .map(|number| Error::from_answer(number, 0).to_string())
             .collect();
-        assert_eq!(words.len(), 13);
+        assert_eq!(words.len(), 14);
         // Whoever built the query from parts knows no records: the limits tell what to look for.
         let (records, field) = (
             Error::WrongRecords.to_string(),

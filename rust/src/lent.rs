@@ -4,11 +4,11 @@
 //! Every input gets an answer. Slices make sure of what C callers have to see to: valid pointers, and no overlap of
 //! what is written. All `unsafe` code of this crate stands here.
 
-/// What a search returns. On the answers 1 to 12 all but the answer are 0.
+/// What a search returns. On the answers 1 to 12 and 14 all but the answer, and the offset of 5 and 14, are 0.
 #[repr(C)]
 #[derive(Clone, Copy, Debug, PartialEq, Eq, Hash)]
 pub struct Outcome {
-    /// 0 done, 13 stopped, 1 to 12 refused; see [`Error`](crate::Error) for the refusals.
+    /// 0 done, 13 stopped, 1 to 12 and 14 refused; see [`Error`](crate::Error) for the refusals.
     pub answer: u64,
     /// Matches in the report.
     pub matches: u64,
@@ -16,13 +16,16 @@ pub struct Outcome {
     pub labels: u64,
     /// Steps: how many pairs of a place and a position were entered.
     pub steps: u64,
+    /// On 5 the byte of the pattern text, from 0, at which it is wrong; on 14 its length; else 0.
+    pub offset: u64,
 }
 
-/// What the working room of a search is measured by. On the answers 1 to 10 all but the answer are 0.
+/// What the working room of a search is measured by. On the answers 1 to 10 and 14 all but the answer, and the
+/// offset of 5 and 14, are 0.
 #[repr(C)]
 #[derive(Clone, Copy, Debug, PartialEq, Eq, Hash)]
 pub struct Room {
-    /// 0, or the answer of 1 to 10 that a search would give.
+    /// 0, or the answer of 1 to 10 or 14 that a search would give.
     pub answer: u64,
     /// P, the places of the unrolled pattern.
     pub places: u64,
@@ -30,6 +33,8 @@ pub struct Room {
     pub rows: u64,
     /// P(n+1): the numbers of the trail, and the bits of the notes.
     pub pairs: u64,
+    /// As a search returns it.
+    pub offset: u64,
 }
 
 impl Room {
@@ -39,7 +44,7 @@ impl Room {
     }
 }
 
-/// Judges a query and rows: answer 0 with what the working room is measured by, or the refusal of 1 to 10.
+/// Judges a query and rows: answer 0 with what the working room is measured by, or the refusal of 1 to 10 or 14.
 pub fn room(query: &[u8], rows: &[i32]) -> Room {
     // SAFETY: both pointers come from slices with their lengths and are only read.
     #[allow(unsafe_code)]
@@ -54,7 +59,7 @@ pub fn room(query: &[u8], rows: &[i32]) -> Room {
 /// `labels` take the report: for each match its number from 1, its first row, how many rows it takes, then for each
 /// measure 1 and the result or 0 and 0 for null; and the labels of its rows, as bytes `A` to `Z`.
 ///
-/// On the answers 1 to 12 no buffer is changed. On 0 and 13 bit (position times P plus place) of the notes, the lowest
+/// On the answers 1 to 12 and 14 no buffer is changed. On 0 and 13 bit (position times P plus place) of the notes, the lowest
 /// bit of a byte first, is 1 exactly if that pair has failed; the spare bits of the last byte and the first
 /// [`Room::pairs`] numbers of the trail are 0; what lies behind that, and behind the report, is unchanged.
 pub fn search(

@@ -159,13 +159,13 @@ impl Query {
     ///
     /// # Errors
     ///
-    /// The refusals 1 to 9, whatever the bytes.
+    /// The refusals 1 to 9 and 14, whatever the bytes.
     pub fn from_bytes(bytes: impl Into<Vec<u8>>) -> Result<Query, Error> {
         let bytes = bytes.into();
         // Without rows nothing but the query can be refused.
         let room = lent::room(&bytes, &[]);
         if room.answer != DONE {
-            return Err(Error::from_answer(room.answer));
+            return Err(Error::from_answer(room.answer, room.offset));
         }
         let shape = Shape::of(&bytes).ok_or(Error::OtherLibrary { answer: DONE })?;
         Ok(Query {
@@ -226,7 +226,7 @@ impl Query {
         }
         let room = lent::room(&self.bytes, rows.entries());
         if room.answer != DONE {
-            return Err(Error::from_answer(room.answer));
+            return Err(Error::from_answer(room.answer, room.offset));
         }
         let (notes, trail) = (length(room.notes())?, length(room.pairs)?);
         let n = length(room.rows)?;

@@ -106,7 +106,7 @@ impl Report {
         let ending = match outcome.answer {
             DONE => Ending::Done,
             STOPPED => Ending::Stopped,
-            refused => return Err(Error::from_answer(refused)),
+            refused => return Err(Error::from_answer(refused, outcome.offset)),
         };
         let strange = Error::OtherLibrary {
             answer: outcome.answer,
@@ -285,6 +285,7 @@ mod tests {
             matches,
             labels,
             steps: 9,
+            offset: 0,
         }
     }
 

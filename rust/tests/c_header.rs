@@ -36,10 +36,10 @@ const BOTH: &str = r#"
 int main(void) {
     struct mireladle_room room = mireladle_room(NULL, 0, NULL, 0);
     struct mireladle_result result = mireladle_search(NULL, 0, NULL, 0, NULL, 0, NULL, 0, NULL, 0, NULL, 0);
-    if (sizeof room != 32 || sizeof result != 32 || offsetof(struct mireladle_result, steps) != 24) return 1;
-    if (room.answer != MIRELADLE_WRONG_RECORDS || room.places + room.rows + room.pairs != 0) return 2;
+    if (sizeof room != 40 || sizeof result != 40 || offsetof(struct mireladle_result, offset) != 32) return 1;
+    if (room.answer != MIRELADLE_WRONG_RECORDS || room.places + room.rows + room.pairs + room.offset != 0) return 2;
     if (result.answer != MIRELADLE_WRONG_RECORDS || result.matches + result.labels + result.steps != 0) return 3;
-    return MIRELADLE_NOTES_LENGTH(30) == 4 && MIRELADLE_MATCH_LENGTH(2) == 7 && MIRELADLE_STOPPED == 13 ? 0 : 4;
+    return MIRELADLE_NOTES_LENGTH(30) == 4 && MIRELADLE_MATCH_LENGTH(2) == 7 && MIRELADLE_PATTERN_ENDS == 14 ? 0 : 4;
 }
 "#;
 

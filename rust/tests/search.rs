@@ -324,6 +324,7 @@ impl Lent {
             matches,
             labels,
             steps,
+            ..
         } = outcome;
         [answer, matches, labels, steps]
     }

@@ -126,7 +126,8 @@ fn w1_rise_and_fall() {
             answer: 0,
             matches: 1,
             labels: 3,
-            steps: 12
+            steps: 12,
+            offset: 0
         }
     );
     assert_eq!(searched.numbers[..8], [1, 1, 3, 1, 2, 1, 115, FILL.into()]);
@@ -227,7 +228,8 @@ fn stopped() {
             answer: 13,
             matches: 1,
             labels: 1,
-            steps: 4
+            steps: 4,
+            offset: 0
         }
     );
     assert_eq!(searched.numbers, [1, 0, 1, FILL.into(), FILL.into()]);

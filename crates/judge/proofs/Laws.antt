@@ -14,9 +14,10 @@ use lib.Seq.{drop-cons}
 use borrow.Author.Tests.{lt-ltb, le-ltb, eq-eqb, ne-eqb, eqb-true, eqb-false}
 use Rattle.rules.specs.Basics.{pick, has}
 use Rattle.rules.specs.Language.{pattern, factor, primary, Tree, one, more, last, bare, times, letter, caret, dollar, empty, group, nullable, emptyLoop}
-use Rattle.rules.specs.Reader.{treeOf}
+use Rattle.rules.specs.Reader.{treeOf, stopOf}
+use Rattle.rules.proofs.Stops.{stop-inside}
 use Rattle.rules.specs.Places.{fork, placesOf}
-use Rattle.rules.specs.Answers.{deep, noTree, hasEmptyLoop, tooMany, P, lowest}
+use Rattle.rules.specs.Answers.{deep, noTree, wrong, unfinished, hasEmptyLoop, tooMany, P, firstOf, offsetAt}
 use Rattle.nodes.specs.Nodes.{nodeAt}
 use Rattle.nodes.specs.declared.Sort.{Sort}
 use Rattle.nodes.specs.declared.Sort.the-variants.{Letter, Anchor, Empty, Sequence, Alternation, Group}
@@ -264,30 +265,53 @@ module _ (s : List ℕ) (b i : ℕ) (h : Without s b i) where
 -- ---- the verdict
 
 module _ (s m0 m1 : List ℕ) where
-  answer-is : (a b c d : Bool) → deep 0 0 s ≡ a → noTree (treeOf s) ≡ b → hasEmptyLoop (treeOf s) ≡ c → tooMany (treeOf s) ≡ d → textAnswer s ≡ lowest 4 (a ∷ b ∷ c ∷ d ∷ [])
+  answer-is : (a b c d e : Bool) → deep 0 0 s ≡ a → wrong s ≡ b → unfinished s ≡ c → hasEmptyLoop (treeOf s) ≡ d → tooMany (treeOf s) ≡ e
+      → textAnswer s ≡ firstOf ((4, a) ∷ (5, b) ∷ (14, c) ∷ (6, d) ∷ (7, e) ∷ [])
   unfolding textAnswer textTests
-  answer-is a b c d e1 e2 e3 e4 = rw (e1, e2, e3, e4) refl
+  answer-is a b c d e e1 e2 e3 e4 e5 = rw (e1, e2, e3, e4, e5) refl
 
-  pub judge-deep : (t : Bool) (r : Verdict) → t ≡ deep 0 0 s → t ≡ true → r ≡ refusal 4 → Judging s m0 m0 r
-  unfolding lowest
+  pub judge-deep : (t : Bool) (r : Verdict) → t ≡ deep 0 0 s → t ≡ true → r ≡ refusal 4 0 → Judging s m0 m0 r
+  unfolding firstOf offsetAt
   judge-deep t r e o er =
-      rw er (record { answer = sym (answer-is true _ _ _ (sym e ∙ o) refl refl refl); places = refl; top = λ z. clash (omega arith); kept = λ j l. refl; len = refl })
+      rw er
+      (record { answer = sym (answer-is true _ _ _ _ (sym e ∙ o) refl refl refl refl); offset = refl; places = refl; top = λ z. clash (omega arith); kept = λ j l. refl; len = refl })
 
-  module _ (d : Bool) (ed : d ≡ deep 0 0 s) (nd : d ≡ false) (p : Step) (h : TextSays s m0 m1 p) where
-    pub judge-outside : (r : Verdict) → p .ok ≡ false → r ≡ refusal 5 → Judging s m0 m1 r
-    unfolding lowest noTree ParsedAs
-    judge-outside r e er =
+  module _ (d : Bool) (ed : d ≡ deep 0 0 s) (nd : d ≡ false) (p : Step) (h : TextSays s m0 m1 p) (e : p .ok ≡ false) where
+    outside : noTree (treeOf s) ≡ true
+    unfolding noTree ParsedAs
+    outside = go (treeOf s) (h .says)
+      where
+        go : (x : Option (Tree pattern)) → ParsedAs s m0 m1 p x → noTree x ≡ true
+        go none q = refl
+        go (some t) q = absurd (true≢false (sym (q .ok) ∙ e))
+
+    pub judge-wrong : (r : Verdict) → p .at < length s → r ≡ refusal 5 (p .at) → Judging s m0 m1 r
+    unfolding firstOf offsetAt wrong
+    judge-wrong r l er =
         rw er (record {
-          answer = sym (answer-is false true _ _ (sym ed ∙ nd) (go (treeOf s) (h .says)) refl refl);
+          answer = sym (answer-is false true _ _ _ (sym ed ∙ nd) (rw (outside, lt-ltb (stopOf s) (length s) (omega (arith, h .stop))) refl) refl refl refl);
+          offset = h .stop;
           places = refl;
           top = λ z. clash (omega arith);
           kept = h .kept;
           len = h .len;
         })
-      where
-        go : (x : Option (Tree pattern)) → ParsedAs s m0 m1 p x → noTree x ≡ true
-        go none q = refl
-        go (some t) q = absurd (true≢false (sym (q .ok) ∙ e))
+
+    pub judge-unfinished : (r : Verdict) → length s ≤ p .at → r ≡ refusal 14 (p .at) → Judging s m0 m1 r
+    unfolding firstOf offsetAt wrong unfinished
+    judge-unfinished r l er =
+        let i = stop-inside s in
+        let q : stopOf s ≡ length s = omega (arith, h .stop) in
+        rw er (record {
+          answer =
+              sym (answer-is false false true _ _ (sym ed ∙ nd) (rw (outside, le-ltb (stopOf s) (length s) (omega arith)) refl)
+              (rw (outside, eq-eqb (stopOf s) (length s) q) refl) refl refl);
+          offset = h .stop;
+          places = refl;
+          top = λ z. clash (omega arith);
+          kept = h .kept;
+          len = h .len;
+        })
 
   record Tree-at (p : Step) : Type 0 where
     tree : Tree pattern
@@ -334,6 +358,14 @@ module _ (s m0 m1 : List ℕ) where
       unfolding noTree
       seen = ap noTree (tree-of .is)
 
+      not-wrong : wrong s ≡ false
+      unfolding wrong
+      not-wrong = rw seen refl
+
+      not-unfinished : unfinished s ≡ false
+      unfolding unfinished
+      not-unfinished = rw seen refl
+
       looped : hasEmptyLoop (treeOf s) ≡ l
       unfolding hasEmptyLoop
       looped = ap hasEmptyLoop (tree-of .is) ∙ sym (hl (tree-of .tree) (tree-of .top))
@@ -342,32 +374,35 @@ module _ (s m0 m1 : List ℕ) where
       unfolding tooMany P
       many t e = ap tooMany (tree-of .is) ∙ e
 
-      pub judge-loop : (r : Verdict) → l ≡ true → r ≡ refusal 6 → Judging s m0 m1 r
-      unfolding lowest
+      pub judge-loop : (r : Verdict) → l ≡ true → r ≡ refusal 6 0 → Judging s m0 m1 r
+      unfolding firstOf offsetAt
       judge-loop r ol er = rw er (record {
-        answer = sym (answer-is false false true _ (sym ed ∙ nd) seen (looped ∙ ol) refl);
+        answer = sym (answer-is false false false true _ (sym ed ∙ nd) not-wrong not-unfinished (looped ∙ ol) refl);
+        offset = refl;
         places = refl;
         top = λ z. clash (omega arith);
         kept = h .kept;
         len = h .len;
       })
 
-      pub judge-many : (r : Verdict) → l ≡ false → 256 < p .forks + p .places + 1 → r ≡ refusal 7 → Judging s m0 m1 r
-      unfolding lowest
+      pub judge-many : (r : Verdict) → l ≡ false → 256 < p .forks + p .places + 1 → r ≡ refusal 7 0 → Judging s m0 m1 r
+      unfolding firstOf offsetAt
       judge-many r ol g er =
           rw er (record {
-            answer = sym (answer-is false false false true (sym ed ∙ nd) seen (looped ∙ ol) (many true (lt-ltb 256 (placesOf (tree-of .tree)) (counted .1 g))));
+            answer = sym (answer-is false false false false true (sym ed ∙ nd) not-wrong not-unfinished (looped ∙ ol) (many true (lt-ltb 256 (placesOf (tree-of .tree)) (counted .1 g))));
+            offset = refl;
             places = refl;
             top = λ z. clash (omega arith);
             kept = h .kept;
             len = h .len;
           })
 
-      pub judge-good : l ≡ false → p .forks + p .places + 1 ≤ 256 → Judging s m0 m1 (record { answer = 0; places = p .forks + p .places + 1; top = p .count - 1 })
-      unfolding lowest P
+      pub judge-good : l ≡ false → p .forks + p .places + 1 ≤ 256 → Judging s m0 m1 (record { answer = 0; offset = 0; places = p .forks + p .places + 1; top = p .count - 1 })
+      unfolding firstOf offsetAt P
       judge-good ol g =
           record {
-            answer = sym (answer-is false false false false (sym ed ∙ nd) seen (looped ∙ ol) (many false (le-ltb 256 (placesOf (tree-of .tree)) (omega (arith, counted .2 g)))));
+            answer = sym (answer-is false false false false false (sym ed ∙ nd) not-wrong not-unfinished (looped ∙ ol) (many false (le-ltb 256 (placesOf (tree-of .tree)) (omega (arith, counted .2 g)))));
+            offset = refl;
             places = sym (ap P (tree-of .is) ∙ counted .2 g);
             top = λ z p2 e2. text-top s m0 m1 p p2 e2 f h;
             kept = h .kept;

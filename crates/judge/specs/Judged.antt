@@ -1,5 +1,5 @@
--- Answers 4 to 7 of document 01 for a pattern's text, by the tests of the rules' Answers, the lowest that applies; and what the functions that
--- walk over a tree's nodes promise.
+-- Answers 4, 5 or 14, 6 and 7 for a pattern's text, by the tests of the rules' Answers, the first that applies; and what the functions that walk over a
+-- tree's nodes promise.
 use mathlib.Core.Path.{_≡_}
 use mathlib.Core.Bool.{Bool}
 use mathlib.Core.List.{List, [], _∷_}
@@ -10,23 +10,23 @@ use lib.ListN.{length, getD}
 use Rattle.rules.specs.Basics.{pick}
 use Rattle.rules.specs.Language.{Tree, pattern, nullable, emptyLoop}
 use Rattle.rules.specs.Reader.{treeOf}
-use Rattle.rules.specs.Answers.{deep, noTree, hasEmptyLoop, tooMany, P, lowest}
+use Rattle.rules.specs.Answers.{deep, wrong, unfinished, hasEmptyLoop, tooMany, P, Test, firstOf, offsetAt}
 use Rattle.pattern.specs.Held.{Top}
 use Rattle.judge.specs.declared.Depth.{Depth}
 use Rattle.judge.specs.declared.Verdict.{Verdict}
 
--- the tests for answers 4 to 7, which ask the pattern's text alone
-unfoldable pub textTests : List ℕ → List Bool
-unfolding deep treeOf noTree hasEmptyLoop tooMany
-textTests s = deep 0 0 s ∷ noTree (treeOf s) ∷ hasEmptyLoop (treeOf s) ∷ tooMany (treeOf s) ∷ []
+-- the tests that ask the pattern's text alone
+unfoldable pub textTests : List ℕ → List Test
+unfolding deep treeOf wrong unfinished hasEmptyLoop tooMany
+textTests s = (4, deep 0 0 s) ∷ (5, wrong s) ∷ (14, unfinished s) ∷ (6, hasEmptyLoop (treeOf s)) ∷ (7, tooMany (treeOf s)) ∷ []
 
 -- the answer, or 0
 unfoldable pub textAnswer : List ℕ → ℕ
-unfolding lowest textTests
-textAnswer s = lowest 4 (textTests s)
+unfolding firstOf textTests
+textAnswer s = firstOf (textTests s)
 
-abbrev pub refusal : ℕ → Verdict
-refusal a = record { answer = a; places = 0; top = 0 }
+abbrev pub refusal : ℕ → ℕ → Verdict
+refusal a k = record { answer = a; offset = k; places = 0; top = 0 }
 
 -- the counts of parentheses behind one more byte: ( is 40, ) is 41
 pub record Behind (b : ℕ) (d r : Depth) : Type 0 where
@@ -41,10 +41,11 @@ Nullable s i r = (p : Tree pattern) → Top p i s → r ≡ nullable p
 abbrev pub EmptyLoop : List ℕ → ℕ → Bool → Type 0
 EmptyLoop s i r = (p : Tree pattern) → Top p i s → r ≡ emptyLoop p
 
--- what `judge` promises: the answer; where it is 0, P, and the room holds the text's tree with its top at node `top`; words behind the tree's own
+-- what `judge` promises: the answer and its offset; where it is 0, P, and the room holds the text's tree with its top at node `top`; words behind the tree's own
 -- room are as they were
 pub record Judging (text room exit : List ℕ) (r : Verdict) : Type 0 where
   pub answer : r .answer ≡ textAnswer text
+  pub offset : r .offset ≡ offsetAt text (r .answer)
   pub places : r .places ≡ pick (eqb (r .answer) 0) (P (treeOf text)) 0
   pub top : r .answer ≡ 0 → (p : Tree pattern) → treeOf text ≡ some p → Top p (r .top) exit
   pub kept : (j : ℕ) → 16 * length text ≤ j → getD exit j 0 ≡ getD room j 0

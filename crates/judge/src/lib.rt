@@ -1,5 +1,5 @@
-// A pattern's text judged: answers 4, 5, 6 and 7 of document 01, the lowest that applies, and P. The can-take-no-row test and answer 6's test
-// recurse over the tree's nodes; the node's height falls.
+// A pattern's text judged: answers 4, 5 or 14, 6 and 7, the first that applies, with 5's or 14's offset, and P. The can-take-no-row test and answer 6's
+// test recurse over the tree's nodes; the node's height falls.
 use nodes::Sort;
 use nodes::node_at;
 use nodes::sort_at;
@@ -14,9 +14,11 @@ ghost use Rattle.pattern.specs.Written.{Fits};
 ghost use Rattle.pattern.specs.Held.{At};
 ghost use Rattle.judge.specs.Judged.{Nullable, EmptyLoop, Behind, refusal, Judging};
 
-// answer: 0 if the pattern is good, else 4, 5, 6 or 7. places: P, and top: the top node of its tree, if it is good; else both are 0.
+// answer: 0 if the pattern is good, else 4, 5, 14, 6 or 7. offset: the byte at which its text is wrong (5), or the text's length (14); else 0. places: P, and
+// top: the top node of its tree, if it is good; else both are 0.
 pub struct Verdict {
     pub answer: usize,
+    pub offset: usize,
     pub places: usize,
     pub top: usize,
 }
@@ -167,11 +169,12 @@ pub fn has_byte(text: &[u8], b: u8) -> bool
     false
 }
 
-fn refused(answer: usize) -> Verdict
-    ensures { λ r. ⌜ r ≡ refusal answer ⌝ }
+fn refused(answer: usize, offset: usize) -> Verdict
+    ensures { λ r. ⌜ r ≡ refusal answer offset ⌝ }
 {
     Verdict {
         answer,
+        offset,
         places: 0,
         top: 0,
     }
@@ -183,23 +186,27 @@ pub fn judge(text: &[u8], room: &mut [u16]) -> Verdict
     ensures { λ r. ⌜ Judging (now (text .entry)) (now (room .entry)) (now (room .exit)) r ⌝ }
 {
     if too_deep(text) {
-        return refused(4);
+        return refused(4, 0);
     }
     let p = read_text(text, room);
     let ok = p.ok;
     if !ok {
-        return refused(5);
+        if p.at < text.len() {
+            return refused(5, p.at);
+        }
+        return refused(14, p.at);
     }
     let top = p.count - 1;
     if has_empty_loop(room, top) {
-        return refused(6);
+        return refused(6, 0);
     }
     let places = p.forks + p.places + 1;
     if 256 < places {
-        return refused(7);
+        return refused(7, 0);
     }
     Verdict {
         answer: 0,
+        offset: 0,
         places,
         top,
     }

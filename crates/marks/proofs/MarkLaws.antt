@@ -1,6 +1,6 @@
 -- Laws of a text's bytes and quantifiers: each is one way through one function of the module marks.
 use mathlib.Core.Path.{_≡_, refl, sym, ap, _∙_}
-use mathlib.Core.Bool.{Bool, true, false, true≢false}
+use mathlib.Core.Bool.{Bool, true, false, true≢false, false≢true}
 use mathlib.Core.List.{List, [], _∷_}
 use mathlib.Core.Option.{none}
 use Prim.Native.Nat.{ℕ, suc, _+_, _*_, _-_, _≤_, _<_}
@@ -10,11 +10,11 @@ use lib.Dec.{eqb, leb}
 use lib.ListN.{length, getD, drop, drop-of-length-le}
 use lib.Seq.{drop-cons}
 use borrow.Author.Tests.{le-leb, lt-leb, eq-eqb, ne-eqb}
-use Rattle.rules.specs.Basics.{pick, isLetter}
+use Rattle.rules.specs.Basics.{pick, inRange, isLetter}
 use Rattle.rules.specs.Language.{Form, star, plus, opt, exactly, atLeast, atMost, between, lower, upper}
-use Rattle.rules.specs.Reader.{Reading, got, bad, peek, rest, skip, isDigit, number, bounded, Marked, unmarked, broken, marked, reluctant, shut, upTo, from, braces, quantifier}
-use Rattle.rules.proofs.GrammarSound.{in-range}
-use Rattle.marks.specs.Shows.{codeOf, highest, highOf, Codes, boundedBy, SaysNumber, Numeral, Shows}
+use Rattle.rules.specs.Reader.{Reading, got, bad, peek, rest, skip, isDigit, number, enough, reaching, bounded, Marked, unmarked, broken, marked, reluctant, shut, upTo, from, braces, quantifier}
+use Rattle.rules.proofs.GrammarSound.{in-range, range-in, number-begun}
+use Rattle.marks.specs.Shows.{codeOf, highest, highOf, Codes, boundedBy, SaysNumber, noNumber, Numeral, Reached, Shows}
 use Rattle.marks.specs.declared.Mark.{Mark}
 use Rattle.marks.specs.declared.Mark.the-variants.{Unmarked, Broken, Found}
 use Rattle.marks.specs.declared.Value.{Value}
@@ -104,15 +104,15 @@ module _ (s : List ℕ) (at b : ℕ) (d : Bool) (eb : b ≡ peek (drop at s)) (e
   first : isDigit (peek (drop at s)) ≡ d
   first = ap isDigit (sym eb) ∙ sym ed
 
-  pub number-none : at ≤ length s → d ≡ false → Numeral s at (record { ok = false; value = 0; at = at })
+  pub number-none : (r : Value) → at ≤ length s → d ≡ false → r ≡ noNumber at → Numeral s at r (number (drop at s))
   unfolding number SaysNumber
-  number-none h e = record { says = simp (first ∙ e); inside = h; small = omega arith }
+  number-none r h e er = rw er (record { says = simp (first ∙ e) (refl, refl); inside = h; small = omega arith })
 
   module _ (c : ℕ) (e : Bool) (ec : c ≡ peek (drop (at + 1) s)) (ee : e ≡ isDigit c) where
     second : isDigit (peek (rest (drop at s))) ≡ e
     second = ap (λ (u : List ℕ). isDigit (peek u)) (rest-drop s at) ∙ ap isDigit (sym ec) ∙ sym ee
 
-    pub number-one : (v : ℕ) → d ≡ true → e ≡ false → v ≡ b → Numeral s at (record { ok = true; value = v - 48; at = at + 1 })
+    pub number-one : (v : ℕ) → d ≡ true → e ≡ false → v ≡ b → Numeral s at (record { ok = true; value = v - 48; at = at + 1 }) (number (drop at s))
     unfolding number SaysNumber
     number-one v i j ev =
         let l = digits-from b b d ed i refl in let h = digits-to b d ed i in
@@ -124,11 +124,13 @@ module _ (s : List ℕ) (at b : ℕ) (d : Bool) (eb : b ≡ peek (drop at s)) (e
           small = omega arith;
         }
 
-    pub number-zero : at ≤ length s → d ≡ true → e ≡ true → b ≡ 48 → Numeral s at (record { ok = false; value = 0; at = at })
+    pub number-zero : (r : Value) → d ≡ true → e ≡ true → b ≡ 48 → r ≡ noNumber (at + 1) → Numeral s at r (number (drop at s))
     unfolding number SaysNumber
-    number-zero h i j z = record { says = simp (first ∙ i, second ∙ j, eq-eqb (peek (drop at s)) 48 (sym eb ∙ z)); inside = h; small = omega arith }
+    number-zero r i j z er =
+        let n = inside s at 48 (omega arith) (sym eb ∙ z) in
+        rw er (record { says = simp (first ∙ i, second ∙ j, eq-eqb (peek (drop at s)) 48 (sym eb ∙ z)) (refl, rest-drop s at); inside = omega arith; small = omega arith })
 
-    pub number-two : (v w : ℕ) → d ≡ true → e ≡ true → (b ≡ 48 → ⊥) → v ≡ b → w ≡ c → Numeral s at (record { ok = true; value = 10 * (v - 48) + (w - 48); at = at + 2 })
+    pub number-two : (v w : ℕ) → d ≡ true → e ≡ true → (b ≡ 48 → ⊥) → v ≡ b → w ≡ c → Numeral s at (record { ok = true; value = 10 * (v - 48) + (w - 48); at = at + 2 }) (number (drop at s))
     unfolding number SaysNumber
     number-two v w i j z ev ew =
         let l = digits-from b b d ed i refl in let h = digits-to b d ed i in
@@ -147,12 +149,97 @@ module _ (s : List ℕ) (at b : ℕ) (d : Bool) (eb : b ≡ peek (drop at s)) (e
         val : (v w : ℕ) → v ≡ b → w ≡ c → peek (rest (drop at s)) ≡ c → 10 * (v - 48) + (w - 48) ≡ 10 * (peek (drop at s) - 48) + (peek (rest (drop at s)) - 48)
         val v w ev ew p = omega (arith, eb)
 
+says-bad : (s : List ℕ) (at : ℕ) (m : Value) (x : Reading ℕ) → SaysNumber s at m x → m .ok ≡ false → x ≡ bad (drop (m .at) s)
+unfolding SaysNumber
+says-bad s at m (bad u) h e = ap bad (h .1)
+says-bad s at m (got v u) h e = absurd (true≢false (sym (h .ok) ∙ e))
+
+record Got (s : List ℕ) (at : ℕ) (m : Value) (x : Reading ℕ) : Type 0 where
+  is : x ≡ got (m .value) (drop (m .at) s)
+  small : m .value ≤ 99
+  on : at ≤ m .at
+  inside : m .at ≤ length s
+
+says-got : (s : List ℕ) (at : ℕ) (m : Value) (x : Reading ℕ) → SaysNumber s at m x → m .ok ≡ true → Got s at m x
+unfolding SaysNumber
+says-got s at m (bad u) h e = absurd (true≢false (sym e ∙ h .0))
+says-got s at m (got v u) h e = record { is = rw (h .rest, h .value) refl; small = omega (arith, h .small, h .value); on = h .on; inside = h .inside }
+
+-- ---- upper bounds
+
+module _ (s : List ℕ) (at low b : ℕ) (eb : b ≡ peek (drop at s)) where
+  wrong-here : (r : Value) → at ≤ length s → reaching low (drop at s) ≡ bad (drop at s) → r ≡ noNumber at → Reached s at low r
+  unfolding SaysNumber
+  wrong-here r h e er =
+      rw er (record { numeral = record { says = rw e (refl, refl); inside = h; small = omega arith }; least = λ o. absurd (false≢true o) })
+
+  pub reach-below : (r : Value) → at ≤ length s → b < 49 → r ≡ noNumber at → Reached s at low r
+  unfolding reaching inRange
+  reach-below r h l = wrong-here r h (simp (lt-leb 49 (peek (drop at s)) (omega arith)))
+
+  module _ (l : 49 ≤ b) where
+    pub reach-above : (r : Value) → at ≤ length s → 57 < b → r ≡ noNumber at → Reached s at low r
+    unfolding reaching inRange
+    reach-above r h g = wrong-here r h (simp (le-leb 49 (peek (drop at s)) (omega arith), lt-leb (peek (drop at s)) 57 (omega arith)))
+
+    module _ (g : b ≤ 57) where
+      digit : inRange 49 57 (peek (drop at s)) ≡ true
+      digit = range-in 49 57 (peek (drop at s)) (omega arith) (omega arith)
+
+      pub reach-short : (r : Value) (v : ℕ) → at ≤ length s → v ≡ b → 10 * (v - 48) + 9 < low → r ≡ noNumber at → Reached s at low r
+      unfolding reaching
+      reach-short r v h e k = wrong-here r h (simp (digit, lt-leb low (10 * (peek (drop at s) - 48) + 9) (omega arith)))
+
+      module _ (v : ℕ) (m : Value) (ev : v ≡ b) (k : low ≤ 10 * (v - 48) + 9) (h : Numeral s at m (number (drop at s))) where
+        reach-number : reaching low (drop at s) ≡ enough low (rest (drop at s)) (number (drop at s))
+        unfolding reaching
+        reach-number = rw (digit, le-leb low (10 * (peek (drop at s) - 48) + 9) (omega arith)) refl
+
+        no-clash : (t : Bool) (x y : ℕ) (p q u : List ℕ) → pick t (got x p) (got y q) ≡ bad u → ⊥
+        no-clash true x y p q u e = let z : _≡_ {A = ℕ} 0 1 = cc in omega arith
+        no-clash false x y p q u e = let z : _≡_ {A = ℕ} 0 1 = cc in omega arith
+
+        got-one : (x : Reading ℕ) → number (drop at s) ≡ x → SaysNumber s at m x → m .ok ≡ true
+        unfolding SaysNumber
+        got-one (got w u) e n = n .ok
+        got-one (bad u) e n =
+            absurd (no-clash (isDigit (peek (rest (drop at s)))) (10 * (peek (drop at s) - 48) + (peek (rest (drop at s)) - 48)) (peek (drop at s) - 48) (rest (rest (drop at s)))
+            (rest (drop at s)) u (sym (number-begun (drop at s) (omega arith) (omega arith)) ∙ e))
+
+        there : Got s at m (number (drop at s))
+        there = says-got s at m _ (h .says) (got-one (number (drop at s)) refl (h .says))
+
+        pub reach-less : (r : Value) → m .value < low → r ≡ noNumber (at + 1) → Reached s at low r
+        unfolding SaysNumber enough
+        reach-less r f er =
+            let i = inside s at b (omega arith) (sym eb) in
+            let e : reaching low (drop at s) ≡ bad (drop (at + 1) s) =
+            reach-number ∙ ap (enough low (rest (drop at s))) (there .is) ∙ rw (lt-leb low (m .value) f) (ap bad (rest-drop s at)) in
+            rw er (record { numeral = record { says = rw e (refl, refl); inside = omega arith; small = omega arith }; least = λ o. absurd (false≢true o) })
+
+        pub reach-found : low ≤ m .value → Reached s at low m
+        unfolding SaysNumber enough
+        reach-found f =
+            let e : reaching low (drop at s) ≡ got (m .value) (drop (m .at) s) =
+            reach-number ∙ ap (enough low (rest (drop at s))) (there .is) ∙ rw (le-leb low (m .value) f) refl in
+            record {
+              numeral = record {
+                says = rw e (record { ok = got-one (number (drop at s)) refl (h .says); value = refl; small = there .small; rest = refl; on = there .on; inside = there .inside });
+                inside = h .inside;
+                small = h .small;
+              };
+              least = λ o. f;
+            }
+
+pub reached-least : (s : List ℕ) (at low : ℕ) (m : Value) → Reached s at low m → m .ok ≡ true → low ≤ m .value
+reached-least s at low m h o = h .least o
+
 -- ---- quantifiers
 
 weaken : (s : List ℕ) (a b : ℕ) (r : Mark) (m : Marked) → a ≤ b → Shows s b r m → Shows s a r m
 unfolding Shows
 weaken s a b r unmarked h g = g
-weaken s a b r broken h g = g
+weaken s a b r (broken u) h g = g
 weaken s a b r (marked f z u) h g = record { to = g .to; is = g .is; rest = g .rest; on = omega (arith, g .on); inside = g .inside }
 
 abbrev pub Reluct : List ℕ → ℕ → ℕ → ℕ → ℕ → Mark → Type 0
@@ -179,17 +266,13 @@ module _ (s : List ℕ) (at b : ℕ) (eb : b ≡ peek (drop at s)) where
         (record { to = to; is = found-is f false k; rest = sym (h .0); on = h .1; inside = h .2 })
 
   module _ (form low high : ℕ) where
-    pub shut-open : (b ≡ 125 → ⊥) → Shut s at form low high Broken
+    pub shut-open : at ≤ length s → (b ≡ 125 → ⊥) → Shut s at form low high (Broken at)
     unfolding shut Shows
-    shut-open e f k o = simp (ne-eqb (peek (drop at s)) 125 (λ x. e (eb ∙ x)))
+    shut-open i e f k o = simp (ne-eqb (peek (drop at s)) 125 (λ x. e (eb ∙ x))) (record { to = at; is = refl; rest = refl; inside = i })
 
-    pub shut-none : b ≡ 125 → high < 1 → Shut s at form low high Broken
+    pub shut-none : at ≤ length s → b ≡ 125 → high < 1 → Shut s at form low high (Broken at)
     unfolding shut Shows
-    shut-none e h f k o = simp (eq-eqb (peek (drop at s)) 125 (sym eb ∙ e), o .none h)
-
-    pub shut-less : b ≡ 125 → high < low → Shut s at form low high Broken
-    unfolding shut Shows
-    shut-less e h f k o = simp (eq-eqb (peek (drop at s)) 125 (sym eb ∙ e), o .less h)
+    shut-none i e h f k o = simp (eq-eqb (peek (drop at s)) 125 (sym eb ∙ e), o .none h) (record { to = at; is = refl; rest = refl; inside = i })
 
     pub shut-fine : (r : Mark) → b ≡ 125 → 1 ≤ high → low ≤ high → Reluct s (at + 1) form low high r → Shut s at form low high r
     unfolding shut
@@ -202,86 +285,66 @@ module _ (s : List ℕ) (at b : ℕ) (eb : b ≡ peek (drop at s)) where
       simp (eq-eqb (peek (drop at s)) 125 (sym eb ∙ e), le-leb n 99 l, rest-drop s at)
       (weaken s at (at + 1) r _ (omega arith) (g (atLeast n) (record { code = refl; from = refl; upto = refl })))
 
-says-bad : (s : List ℕ) (at : ℕ) (m : Value) (x : Reading ℕ) → SaysNumber s at m x → m .ok ≡ false → x ≡ bad
-unfolding SaysNumber
-says-bad s at m bad h e = refl
-says-bad s at m (got v u) h e = absurd (true≢false (sym (h .ok) ∙ e))
-
-record Got (s : List ℕ) (at : ℕ) (m : Value) (x : Reading ℕ) : Type 0 where
-  is : x ≡ got (m .value) (drop (m .at) s)
-  small : m .value ≤ 99
-  on : at ≤ m .at
-  inside : m .at ≤ length s
-
-says-got : (s : List ℕ) (at : ℕ) (m : Value) (x : Reading ℕ) → SaysNumber s at m x → m .ok ≡ true → Got s at m x
-unfolding SaysNumber
-says-got s at m bad h e = absurd (true≢false (sym e ∙ h))
-says-got s at m (got v u) h e = record { is = rw (h .rest, h .value) refl; small = omega (arith, h .small, h .value); on = h .on; inside = h .inside }
-
 -- the bounds of the forms that are shut
 exactly-by : (n : ℕ) → n ≤ 99 → boundedBy (exactly n) n n
 unfolding bounded
-exactly-by n l = record { none = λ h. simp (lt-leb 1 n h); less = λ h. absurd (omega arith); fine = λ h g. simp (le-leb 1 n h, le-leb n 99 l) }
+exactly-by n l = record { none = λ h. simp (lt-leb 1 n h); fine = λ h g. simp (le-leb 1 n h, le-leb n 99 l) }
 
 atMost-by : (m : ℕ) → m ≤ 99 → boundedBy (atMost m) 0 m
 unfolding bounded
-atMost-by m l = record { none = λ h. simp (lt-leb 1 m h); less = λ h. absurd (omega arith); fine = λ h g. simp (le-leb 1 m h, le-leb m 99 l) }
+atMost-by m l = record { none = λ h. simp (lt-leb 1 m h); fine = λ h g. simp (le-leb 1 m h, le-leb m 99 l) }
 
 between-by : (n m : ℕ) → m ≤ 99 → boundedBy (between n m) n m
 unfolding bounded
-between-by n m l =
-    record {
-      none = λ h. simp (lt-leb 1 m h);
-      less = λ h. either (leb 1 m) (lt-leb n m h);
-      fine = λ h g. simp (le-leb 1 m h, le-leb n m g, le-leb m 99 l);
-    }
-  where
-    either : (t : Bool) → leb n m ≡ false → pick t (pick (leb n m) (leb m 99) false) false ≡ false
-    either true e = simp e
-    either false e = refl
+between-by n m l = record { none = λ h. simp (lt-leb 1 m h); fine = λ h g. simp (le-leb 1 m h, le-leb n m g, le-leb m 99 l) }
 
 module _ (s : List ℕ) (at b : ℕ) (eb : b ≡ peek (drop at s)) (m : Value) where
-  pub up-bad : (n : ℕ) → (b ≡ 125 → ⊥) → Numeral s at m → m .ok ≡ false → Shows s at Broken (upTo n (drop at s))
+  pub up-bad : (n : ℕ) → (b ≡ 125 → ⊥) → Reached s at n m → m .ok ≡ false → Shows s at (Broken (m .at)) (upTo n (drop at s))
   unfolding upTo shut Shows
-  up-bad n e h o = simp (ne-eqb (peek (drop at s)) 125 (λ x. e (eb ∙ x)), says-bad s at m _ (h .says) o)
+  up-bad n e h o =
+      rw (ne-eqb (peek (drop at s)) 125 (λ x. e (eb ∙ x)), says-bad s at m _ (h .numeral .says) o)
+      (record { to = m .at; is = refl; rest = refl; inside = h .numeral .inside })
 
-  pub up-got : (n : ℕ) (r : Mark) → (b ≡ 125 → ⊥) → Numeral s at m → m .ok ≡ true → Shut s (m .at) 7 n (m .value) r → Shows s at r (upTo n (drop at s))
+  pub up-got : (n : ℕ) (r : Mark) → (b ≡ 125 → ⊥) → Reached s at n m → m .ok ≡ true → Shut s (m .at) 7 n (m .value) r → Shows s at r (upTo n (drop at s))
   unfolding upTo codeOf lower highOf highest upper
   up-got n r e h o g =
-      let k = says-got s at m _ (h .says) o in
-      simp (ne-eqb (peek (drop at s)) 125 (λ x. e (eb ∙ x)), k .is)
+      let k = says-got s at m _ (h .numeral .says) o in
+      rw (ne-eqb (peek (drop at s)) 125 (λ x. e (eb ∙ x)), k .is)
       (weaken s at (m .at) r _ (k .on) (g (between n) (record { code = refl; from = refl; upto = refl }) (between-by n (m .value) (k .small))))
 
   -- `{,`
-  pub brace-comma-bad : b ≡ 44 → Numeral s (at + 1) m → m .ok ≡ false → Shows s at Broken (braces (drop at s))
+  pub brace-comma-bad : b ≡ 44 → Reached s (at + 1) 1 m → m .ok ≡ false → Shows s at (Broken (m .at)) (braces (drop at s))
   unfolding braces shut Shows
-  brace-comma-bad e h o = simp (eq-eqb (peek (drop at s)) 44 (sym eb ∙ e), rest-drop s at, says-bad s (at + 1) m _ (h .says) o)
+  brace-comma-bad e h o =
+      rw (eq-eqb (peek (drop at s)) 44 (sym eb ∙ e), rest-drop s at, says-bad s (at + 1) m _ (h .numeral .says) o)
+      (record { to = m .at; is = refl; rest = refl; inside = h .numeral .inside })
 
-  pub brace-comma : (r : Mark) → b ≡ 44 → Numeral s (at + 1) m → m .ok ≡ true → Shut s (m .at) 6 0 (m .value) r → Shows s at r (braces (drop at s))
+  pub brace-comma : (r : Mark) → b ≡ 44 → Reached s (at + 1) 1 m → m .ok ≡ true → Shut s (m .at) 6 0 (m .value) r → Shows s at r (braces (drop at s))
   unfolding braces codeOf lower highOf highest upper
   brace-comma r e h o g =
-      let k = says-got s (at + 1) m _ (h .says) o in
-      simp (eq-eqb (peek (drop at s)) 44 (sym eb ∙ e), rest-drop s at, k .is)
+      let k = says-got s (at + 1) m _ (h .numeral .says) o in
+      rw (eq-eqb (peek (drop at s)) 44 (sym eb ∙ e), rest-drop s at, k .is)
       (weaken s at (m .at) r _ (omega (arith, k .on)) (g atMost (record { code = refl; from = refl; upto = refl }) (atMost-by (m .value) (k .small))))
 
   -- `{n`
-  pub brace-bad : (b ≡ 44 → ⊥) → Numeral s at m → m .ok ≡ false → Shows s at Broken (braces (drop at s))
+  pub brace-bad : (b ≡ 44 → ⊥) → Numeral s at m (number (drop at s)) → m .ok ≡ false → Shows s at (Broken (m .at)) (braces (drop at s))
   unfolding braces from Shows
-  brace-bad e h o = simp (ne-eqb (peek (drop at s)) 44 (λ x. e (eb ∙ x)), says-bad s at m _ (h .says) o)
+  brace-bad e h o =
+      rw (ne-eqb (peek (drop at s)) 44 (λ x. e (eb ∙ x)), says-bad s at m _ (h .says) o) (record { to = m .at; is = refl; rest = refl; inside = h .inside })
 
   module _ (c : ℕ) (ec : c ≡ peek (drop (m .at) s)) (r : Mark) where
-    pub brace-up : (b ≡ 44 → ⊥) → Numeral s at m → m .ok ≡ true → c ≡ 44 → Shows s (m .at + 1) r (upTo (m .value) (drop (m .at + 1) s)) → Shows s at r (braces (drop at s))
+    pub brace-up : (b ≡ 44 → ⊥) → Numeral s at m (number (drop at s)) → m .ok ≡ true → c ≡ 44 → Shows s (m .at + 1) r (upTo (m .value) (drop (m .at + 1) s)) → Shows s at r (braces (drop at s))
     unfolding braces from
     brace-up e h o i g =
         let k = says-got s at m _ (h .says) o in
-        simp (ne-eqb (peek (drop at s)) 44 (λ x. e (eb ∙ x)), k .is, eq-eqb (peek (drop (m .at) s)) 44 (sym ec ∙ i), rest-drop s (m .at))
+        rw (ne-eqb (peek (drop at s)) 44 (λ x. e (eb ∙ x)), k .is, eq-eqb (peek (drop (m .at) s)) 44 (sym ec ∙ i), rest-drop s (m .at))
         (weaken s at (m .at + 1) r _ (omega (arith, k .on)) g)
 
-    pub brace-exactly : (b ≡ 44 → ⊥) → Numeral s at m → m .ok ≡ true → (c ≡ 44 → ⊥) → Shut s (m .at) 4 (m .value) (m .value) r → Shows s at r (braces (drop at s))
+    pub brace-exactly : (b ≡ 44 → ⊥) → Numeral s at m (number (drop at s)) → m .ok ≡ true → (c ≡ 44 → ⊥) → Shut s (m .at) 4 (m .value) (m .value) r → Shows s at r (braces (drop at s))
     unfolding braces from codeOf lower highOf highest upper
     brace-exactly e h o i g =
         let k = says-got s at m _ (h .says) o in
-        simp (ne-eqb (peek (drop at s)) 44 (λ x. e (eb ∙ x)), k .is, ne-eqb (peek (drop (m .at) s)) 44 (λ x. i (ec ∙ x)))
+        rw (ne-eqb (peek (drop at s)) 44 (λ x. e (eb ∙ x)), k .is, ne-eqb (peek (drop (m .at) s)) 44 (λ x. i (ec ∙ x)))
         (weaken s at (m .at) r _ (k .on) (g exactly (record { code = refl; from = refl; upto = refl }) (exactly-by (m .value) (k .small))))
 
 module _ (s : List ℕ) (at b : ℕ) (eb : b ≡ peek (drop at s)) where

@@ -6,7 +6,7 @@ use mathlib.Core.Option.{Option, none, some}
 use Prim.Native.Nat.{ℕ, _≤_, _<_}
 use lib.ListN.{length, drop}
 use Rattle.rules.specs.Language.{Form, star, plus, opt, exactly, atLeast, atMost, between, lower, upper}
-use Rattle.rules.specs.Reader.{Reading, got, bad, bounded, number, Marked, unmarked, broken, marked}
+use Rattle.rules.specs.Reader.{Reading, got, bad, bounded, reaching, Marked, unmarked, broken, marked}
 use Rattle.marks.specs.declared.Mark.{Mark}
 use Rattle.marks.specs.declared.Mark.the-variants.{Unmarked, Broken, Found}
 use Rattle.marks.specs.declared.Value.{Value}
@@ -35,10 +35,9 @@ pub record Codes (f : Form) (form low high : ℕ) : Type 0 where
   pub from : low ≡ lower f
   pub upto : high ≡ highOf f
 
--- a form's bounds are in order exactly if these are
+-- a form's bounds are in order exactly if the upper one is not 0
 pub record boundedBy (f : Form) (low high : ℕ) : Type 0 where
   pub none : high < 1 → bounded f ≡ false
-  pub less : high < low → bounded f ≡ false
   pub fine : 1 ≤ high → low ≤ high → bounded f ≡ true
 
 pub record Numbered (s : List ℕ) (at : ℕ) (r : Value) (v : ℕ) (u : List ℕ) : Type 0 where
@@ -50,14 +49,23 @@ pub record Numbered (s : List ℕ) (at : ℕ) (r : Value) (v : ℕ) (u : List �
   pub inside : r .at ≤ length s
 
 unfoldable pub SaysNumber : List ℕ → ℕ → Value → Reading ℕ → Type 0
-SaysNumber s at r bad = r .ok ≡ false
+SaysNumber s at r (bad u) = (r .ok ≡ false) × (u ≡ drop (r .at) s)
 SaysNumber s at r (got v u) = Numbered s at r v u
 
--- what `number` promises of its answer r
-pub record Numeral (s : List ℕ) (at : ℕ) (r : Value) : Type 0 where
-  pub says : SaysNumber s at r (number (drop at s))
+-- no number, wrong at a position
+abbrev pub noNumber : ℕ → Value
+noNumber at = record { ok = false; value = 0; at = at }
+
+-- what `number` promises of its answer r, x being what is read there
+pub record Numeral (s : List ℕ) (at : ℕ) (r : Value) (x : Reading ℕ) : Type 0 where
+  pub says : SaysNumber s at r x
   pub inside : r .at ≤ length s
   pub small : r .value ≤ 99
+
+-- and what `reaching` promises
+pub record Reached (s : List ℕ) (at low : ℕ) (r : Value) : Type 0 where
+  pub numeral : Numeral s at r (reaching low (drop at s))
+  pub least : r .ok ≡ true → low ≤ r .value
 
 pub record ShowsMark (s : List ℕ) (at : ℕ) (r : Mark) (f : Form) (z : Bool) (u : List ℕ) : Type 0 where
   pub to : ℕ
@@ -66,7 +74,13 @@ pub record ShowsMark (s : List ℕ) (at : ℕ) (r : Mark) (f : Form) (z : Bool) 
   pub on : at ≤ to
   pub inside : to ≤ length s
 
+pub record ShowsBroken (s : List ℕ) (r : Mark) (u : List ℕ) : Type 0 where
+  pub to : ℕ
+  pub is : r ≡ Broken to
+  pub rest : u ≡ drop to s
+  pub inside : to ≤ length s
+
 unfoldable pub Shows : List ℕ → ℕ → Mark → Marked → Type 0
 Shows s at r unmarked = r ≡ Unmarked
-Shows s at r broken = r ≡ Broken
+Shows s at r (broken u) = ShowsBroken s r u
 Shows s at r (marked f z u) = ShowsMark s at r f z u

@@ -5,13 +5,15 @@ ghost use mathlib.Core.Bool.{true, false};
 ghost use lib.ListN.{length, getD, drop};
 ghost use Rattle.rules.specs.Language.{Form};
 ghost use Rattle.rules.specs.Basics.{isLetter};
-ghost use Rattle.rules.specs.Reader.{peek as peeked, skip as skipped, isDigit, reluctant as reluctantly, quantifier as quantified, braces as braced, upTo, shut as shutWith, Reading, got};
-ghost use Rattle.marks.specs.Shows.{Codes, Numeral, Shows, boundedBy};
+ghost use Rattle.rules.specs.Reader.{peek as peeked, skip as skipped, isDigit, number as numbered, reluctant as reluctantly, quantifier as quantified, braces as braced, upTo, shut as shutWith, Reading, got};
+ghost use Rattle.marks.specs.Shows.{Codes, Numeral, Reached, noNumber, Shows, boundedBy};
 
-// What stands at a quantifier's place.
+// What stands at a quantifier's place: none, one that is broken at a byte, or one.
 pub enum Mark {
     Unmarked,
-    Broken,
+    Broken {
+        at: usize,
+    },
     Found {
         form: usize,
         low: usize,
@@ -21,6 +23,7 @@ pub enum Mark {
     },
 }
 
+// A number and where it ends, or where there is none.
 pub struct Value {
     pub ok: bool,
     pub value: usize,
@@ -70,18 +73,24 @@ pub fn is_digit(b: u8) -> bool
     b <= b'9'
 }
 
+fn no_number(at: usize) -> Value
+    ensures { λ r. ⌜ r ≡ noNumber at ⌝ }
+{
+    Value {
+        ok: false,
+        value: 0,
+        at,
+    }
+}
+
 // A number of one digit, or of two of which the first is not 0.
 pub fn number(text: &[u8], at: usize) -> Value
     requires { ⌜ at ≤ length (now text) ⌝ }
-    ensures { λ r. ⌜ Numeral (now (text .entry)) at r ⌝ }
+    ensures { λ r. ⌜ Numeral (now (text .entry)) at r (numbered (drop at (now (text .entry)))) ⌝ }
 {
     let b = peek(text, at);
     if !is_digit(b) {
-        return Value {
-            ok: false,
-            value: 0,
-            at,
-        };
+        return no_number(at);
     }
     let c = peek(text, at + 1);
     if !is_digit(c) {
@@ -92,17 +101,35 @@ pub fn number(text: &[u8], at: usize) -> Value
         };
     }
     if b == b'0' {
-        return Value {
-            ok: false,
-            value: 0,
-            at,
-        };
+        return no_number(at + 1);
     }
     Value {
         ok: true,
         value: 10 * (wide(b) - 48) + (wide(c) - 48),
         at: at + 2,
     }
+}
+
+// An upper bound: a number of 1 at least and `low` at least. Where its first digit begins none, or its second makes none, there it is wrong.
+pub fn reaching(text: &[u8], at: usize, low: usize) -> Value
+    requires { ⌜ at ≤ length (now text) ⌝ }
+    ensures { λ r. ⌜ Reached (now (text .entry)) at low r ⌝ }
+{
+    let b = peek(text, at);
+    if b < b'1' {
+        return no_number(at);
+    }
+    if b'9' < b {
+        return no_number(at);
+    }
+    if 10 * (wide(b) - 48) + 9 < low {
+        return no_number(at);
+    }
+    let m = number(text, at);
+    if m.value < low {
+        return no_number(at + 1);
+    }
+    m
 }
 
 // Behind a quantifier: its reluctant mark, if it is there, and spaces.
@@ -130,19 +157,16 @@ pub fn reluctant(text: &[u8], at: usize, form: usize, low: usize, high: usize) -
     }
 }
 
-// Behind the last bound, which is the upper one: `}`, and the bounds are in order.
+// Behind the last bound, which is the upper one and no less than the lower: `}`, and it is not 0.
 pub fn shut(text: &[u8], at: usize, form: usize, low: usize, high: usize) -> Mark
-    requires { ⌜ at ≤ length (now text) ⌝ }
+    requires { ⌜ (at ≤ length (now text)) × (low ≤ high) ⌝ }
     ensures { λ r. ⌜ ((f : ℕ → Form) → Codes (f high) form low high → boundedBy (f high) low high → Shows (now (text .entry)) at r (shutWith f (got high (drop at (now (text .entry)))))) ⌝ }
 {
     if peek(text, at) != b'}' {
-        return Mark::Broken;
+        return Mark::Broken { at };
     }
     if high < 1 {
-        return Mark::Broken;
-    }
-    if high < low {
-        return Mark::Broken;
+        return Mark::Broken { at };
     }
     reluctant(text, at + 1, form, low, high)
 }
@@ -155,10 +179,10 @@ pub fn up_to(text: &[u8], at: usize, n: usize) -> Mark
     if peek(text, at) == b'}' {
         return reluctant(text, at + 1, 5, n, 100);
     }
-    let m = number(text, at);
+    let m = reaching(text, at, n);
     let ok = m.ok;
     if !ok {
-        return Mark::Broken;
+        return Mark::Broken { at: m.at };
     }
     shut(text, m.at, 7, n, m.value)
 }
@@ -169,17 +193,17 @@ pub fn braces(text: &[u8], at: usize) -> Mark
     ensures { λ r. ⌜ Shows (now (text .entry)) at r (braced (drop at (now (text .entry)))) ⌝ }
 {
     if peek(text, at) == b',' {
-        let m = number(text, at + 1);
+        let m = reaching(text, at + 1, 1);
         let ok = m.ok;
         if !ok {
-            return Mark::Broken;
+            return Mark::Broken { at: m.at };
         }
         return shut(text, m.at, 6, 0, m.value);
     }
     let n = number(text, at);
     let ok = n.ok;
     if !ok {
-        return Mark::Broken;
+        return Mark::Broken { at: n.at };
     }
     let to = n.at;
     if peek(text, to) == b',' {

@@ -9,12 +9,12 @@ use lib.Dec.{eqb, ltb}
 use lib.IntN.{ℤ}
 use lib.ListN.{length, getD}
 use borrow.Author.Tests.{ltb-false, eqb-true}
-use Rattle.rules.specs.Basics.{pick}
-use Rattle.rules.specs.Answers.{treeIn, P, tooMany, badRows, queryTests, roomAnswer, roomOf, Room}
-use Rattle.rules.specs.Query.{columnsOf}
+use Rattle.rules.specs.Basics.{pick, every}
+use Rattle.rules.specs.Answers.{treeIn, P, tooMany, badRows, Test, refuses, queryTests, offsetAt, roomAnswer, roomOf, Room}
+use Rattle.rules.specs.Query.{columnsOf, textOf}
 use Rattle.rules.specs.Rows.{tableOf}
 use Rattle.rules.proofs.Level.{or-false}
-use Rattle.rules.proofs.Lowest.{none-true}
+use Rattle.rules.proofs.FirstTrue.{allRefuse, none-true}
 
 pub record Small (r : Room) : Type 0 where
   pub places : r .places ≤ 256
@@ -22,10 +22,11 @@ pub record Small (r : Room) : Type 0 where
 
 -- where the room's answer is 0, the tests for answers 7 and 10 are not true
 clear : (q : List ℕ) (rows : List ℤ) → roomAnswer q (badRows q rows) ≡ 0 → (tooMany (treeIn q) ≡ false) × (badRows q rows ≡ false)
-unfolding roomAnswer queryTests
+unfolding roomAnswer queryTests allRefuse every refuses
 clear q rows e =
-    let no : (i : ℕ) → getD (queryTests q ++ (badRows q rows ∷ [])) i false ≡ false = none-true 1 (queryTests q ++ (badRows q rows ∷ [])) (omega arith) e in
-    (no 6, no 9)
+    let tests : List Test = queryTests q ++ ((10, badRows q rows) ∷ []) in
+    let no : (i : ℕ) → getD tests i (0, false) .1 ≡ false = none-true tests refl e in
+    (no 7, no 10)
 
 few-places : (q : List ℕ) → tooMany (treeIn q) ≡ false → P (treeIn q) ≤ 256
 unfolding tooMany
@@ -40,7 +41,8 @@ unfolding roomOf
 small q rows = go (eqb (roomAnswer q (badRows q rows)) 0) refl
   where
     go : (t : Bool) → eqb (roomAnswer q (badRows q rows)) 0 ≡ t
-        → Small (pick t (record { answer = 0; places = P (treeIn q); rows = tableOf (columnsOf q) rows .n }) (record { answer = roomAnswer q (badRows q rows); places = 0; rows = 0 }))
+        → Small (pick t (record { answer = 0; places = P (treeIn q); rows = tableOf (columnsOf q) rows .n; offset = 0 })
+        (record { answer = roomAnswer q (badRows q rows); places = 0; rows = 0; offset = offsetAt (textOf q) (roomAnswer q (badRows q rows)) }))
     go true e =
         let z = clear q rows (eqb-true (roomAnswer q (badRows q rows)) 0 e) in
         record { places = few-places q (z .0); rows = few-rows q rows (z .1) }

@@ -6,13 +6,14 @@ ghost use Rattle.outcome.specs.Results.{lent, memory};
 ghost use Rattle.search.specs.Promise.{Promised};
 ghost use Rattle.mireladle_c.specs.Told.{Told};
 
-// How much to lend: the answer 1 to 10, or 0 with P, n and the number of pairs.
+// How much to lend: the answer 1 to 10 or 14, with the offset of 5 and 14, or 0 with P, n and the number of pairs.
 #[repr(C)]
 pub struct Room {
     pub answer: usize,
     pub places: usize,
     pub rows: usize,
     pub pairs: usize,
+    pub offset: usize,
 }
 
 // The search.
@@ -41,5 +42,6 @@ pub extern "C" fn mireladle_room(query: &[u8], rows: &[i32]) -> Room
         places: size.places,
         rows: size.rows,
         pairs: size.places * (size.rows + 1),
+        offset: size.offset,
     }
 }

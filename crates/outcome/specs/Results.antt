@@ -11,7 +11,7 @@ lent notes trail numbers labels = record { notes = notes; trail = trail; numbers
 -- a result and the buffers as the rules have them
 abbrev pub memory : Outcome → List ℕ → List ℕ → List ℤ → List ℕ → Memory
 memory r notes trail numbers labels =
-    record { result = record { answer = r .answer; matches = r .matches; labels = r .labels; steps = r .steps }; buffers = lent notes trail numbers labels }
+    record { result = record { answer = r .answer; matches = r .matches; labels = r .labels; steps = r .steps; offset = r .offset }; buffers = lent notes trail numbers labels }
 
-abbrev pub refusal : ℕ → Outcome
-refusal a = record { answer = a; matches = 0; labels = 0; steps = 0 }
+abbrev pub refusal : ℕ → ℕ → Outcome
+refusal a k = record { answer = a; matches = 0; labels = 0; steps = 0; offset = k }

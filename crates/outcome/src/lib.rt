@@ -3,29 +3,31 @@ ghost use mathlib.Core.Path.{_≡_};
 ghost use Rattle.rules.specs.Basics.{pick};
 ghost use Rattle.outcome.specs.Results.{refusal};
 
-// How a search ended: the answer of document 01, the matches and labels written, and the steps.
+// How a search ended: the answer, the matches and labels written, the steps, and the offset of answers 5 and 14.
 #[repr(C)]
 pub struct Outcome {
     pub answer: usize,
     pub matches: usize,
     pub labels: usize,
     pub steps: usize,
+    pub offset: usize,
 }
 
-pub fn refused(answer: usize) -> Outcome
-    ensures { λ r. ⌜ r ≡ refusal answer ⌝ }
+pub fn refused(answer: usize, offset: usize) -> Outcome
+    ensures { λ r. ⌜ r ≡ refusal answer offset ⌝ }
 {
     Outcome {
         answer,
         matches: 0,
         labels: 0,
         steps: 0,
+        offset,
     }
 }
 
 // Done or stopped, by what the walk over all starts came to.
 pub fn finished(s: matches::Sweep) -> Outcome
-    ensures { λ r. ⌜ r ≡ record { answer = pick (s .full) 13 0; matches = s .matches; labels = s .labels; steps = s .steps } ⌝ }
+    ensures { λ r. ⌜ r ≡ record { answer = pick (s .full) 13 0; matches = s .matches; labels = s .labels; steps = s .steps; offset = 0 } ⌝ }
 {
     let full = s.full;
     if full {
@@ -34,6 +36,7 @@ pub fn finished(s: matches::Sweep) -> Outcome
             matches: s.matches,
             labels: s.labels,
             steps: s.steps,
+            offset: 0,
         };
     }
     Outcome {
@@ -41,5 +44,6 @@ pub fn finished(s: matches::Sweep) -> Outcome
         matches: s.matches,
         labels: s.labels,
         steps: s.steps,
+        offset: 0,
     }
 }

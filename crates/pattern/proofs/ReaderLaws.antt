@@ -14,7 +14,7 @@ use borrow.Author.Tests.{eq-eqb, ne-eqb, eqb-true, eqb-false}
 use Rattle.rules.specs.Basics.{isLetter}
 use Rattle.rules.specs.Places.{roundPlaces, fork, placeCount}
 use Rattle.rules.specs.Language.{Form, star, plus, opt, exactly, atLeast, atMost, between, lower, upper, InBounds, Rank, pattern, branch, factor, primary, Tree, one, more, last, next, bare, times, letter, caret, dollar, empty, group}
-use Rattle.rules.specs.Reader.{Reading, got, bad, peek, rest, skip, Marked, unmarked, broken, marked, quantifier, ended, under, altOn, altWith, seqOn, seqWith, timesOn, timesWith, closed, parted, simple, primaryOn, read, rankOf, depth, whole, treeOf}
+use Rattle.rules.specs.Reader.{Reading, got, bad, left, peek, rest, skip, Marked, unmarked, broken, marked, quantifier, ended, under, altOn, altWith, seqOn, seqWith, timesOn, timesWith, closed, parted, simple, primaryOn, read, rankOf, depth, whole, treeOf, stopOf}
 use Rattle.marks.specs.Shows.{codeOf, highest, highOf, Shows}
 use Rattle.marks.specs.declared.Mark.{Mark}
 use Rattle.marks.specs.declared.Mark.the-variants.{Unmarked, Broken, Found}
@@ -27,7 +27,7 @@ use Rattle.nodes.proofs.Put.{put-other, put-length}
 use Rattle.nodes.specs.declared.Sort.{Sort}
 use Rattle.nodes.specs.declared.Sort.the-variants.{Letter, Anchor, Empty, Sequence, Alternation, Group}
 use Rattle.nodes.specs.declared.Node.{Node}
-use Rattle.pattern.specs.Written.{plain, withMark, nodeCount, height, own, written, forkOf, roundsOf, InOrder, Kept, Fits, Says, On, Reads, SaysHead, Wrote, HeadOn, SimpleSays, ReadsHead, Holding, FitsHead, stepTo, FinishedMark, FinishedAs, Finished, Joins, Joined, SkipTo, EmptyIs, ShutNeeds, Shut, ShutIs, ParsedAs, TextSays}
+use Rattle.pattern.specs.Written.{plain, withMark, nodeCount, height, own, written, forkOf, roundsOf, InOrder, Kept, Fits, Unread, Says, On, Reads, SaysHead, Wrote, HeadOn, SimpleSays, ReadsHead, Holding, FitsHead, stepTo, FinishedMark, FinishedAs, Finished, Joins, Joined, SkipTo, EmptyIs, ShutNeeds, Shut, ShutIs, ParsedAs, TextSays}
 use Rattle.pattern.specs.declared.Step.{Step}
 use Rattle.pattern.specs.declared.Head.{Head}
 
@@ -91,16 +91,18 @@ module _ (s m : List ℕ) (p : Head) (q : Mark) where
     where
       by : (k : Marked) → Shows s (p .at) q k → FinishedAs s m t p r k
       by unmarked h = g
-      by broken h = let z : _≡_ {A = ℕ} 0 1 = cc in absurd (omega arith)
+      by (broken u) h = let i = h .is in let z : _≡_ {A = ℕ} 0 1 = cc in absurd (omega arith)
       by (marked f z u) h = let i = h .is in let z : _≡_ {A = ℕ} 0 1 = cc in absurd (omega arith)
 
-  pub finish-broken : (r : Step) → Shows s (p .at) q (quantifier (drop (p .at) s)) → q ≡ Broken → r .ok ≡ false → Finished s m m p r
+  pub finish-broken : (to : ℕ) (r : Step) → Shows s (p .at) q (quantifier (drop (p .at) s)) → q ≡ Broken to → (r .ok ≡ false) × (r .at ≡ to) → Finished s m m p r
   unfolding Shows FinishedAs
-  finish-broken r h e g = record { ends = by (quantifier (drop (p .at) s)) h }
+  finish-broken to r h e g = record { ends = by (quantifier (drop (p .at) s)) h }
     where
       by : (k : Marked) → Shows s (p .at) q k → FinishedAs s m m p r k
       by unmarked h = let z : _≡_ {A = ℕ} 0 1 = cc in absurd (omega arith)
-      by broken h = (g, refl)
+      by (broken u) h =
+          let i = h .is in let j : h .to ≡ to = cc in
+          (record { fails = g .0; rest = h .rest ∙ ap (λ (k : ℕ). drop k s) (j ∙ sym (g .1)); inside = omega (arith, h .inside, g .1) }, refl)
       by (marked f z u) h = let i = h .is in let z : _≡_ {A = ℕ} 0 1 = cc in absurd (omega arith)
 
   module _ (form low high to q2 : ℕ) (lazy : Bool) where
@@ -137,7 +139,7 @@ module _ (s m : List ℕ) (p : Head) (q : Mark) where
       where
         by : (k : Marked) → quantifier (drop (p .at) s) ≡ k → Shows s (p .at) q k → FinishedAs s m t p r k
         by unmarked d h = let z : _≡_ {A = ℕ} 0 1 = cc in absurd (omega arith)
-        by broken d h = let z : _≡_ {A = ℕ} 0 1 = cc in absurd (omega arith)
+        by (broken u) d h = let i = h .is in let z : _≡_ {A = ℕ} 0 1 = cc in absurd (omega arith)
         by (marked f z u) d h =
             let i = h .is in
             let e1 : form ≡ codeOf f = cc in
@@ -175,7 +177,7 @@ module _ (s m : List ℕ) (p : Head) (q : Mark) where
       where
         by : (k : Marked) → quantifier (drop (p .at) s) ≡ k → Shows s (p .at) q k → Holding m (p .count) Marking
         by unmarked d h = let z : _≡_ {A = ℕ} 0 1 = cc in absurd (omega arith)
-        by broken d h = let z : _≡_ {A = ℕ} 0 1 = cc in absurd (omega arith)
+        by (broken u) d h = let i = h .is in let z : _≡_ {A = ℕ} 0 1 = cc in absurd (omega arith)
         by (marked f z u) d h =
             let i = h .is in
             let e1 : form ≡ codeOf f = cc in
@@ -204,7 +206,7 @@ module _ (s m : List ℕ) (p : Head) (q : Mark) where
     where
       by : (k : Marked) → quantifier (drop (p .at) s) ≡ k → Shows s (p .at) q k → InOrder low high
       by unmarked d h = let z : _≡_ {A = ℕ} 0 1 = cc in absurd (omega arith)
-      by broken d h = let z : _≡_ {A = ℕ} 0 1 = cc in absurd (omega arith)
+      by (broken u) d h = let i = h .is in let z : _≡_ {A = ℕ} 0 1 = cc in absurd (omega arith)
       by (marked f z u) d h =
           let i = h .is in
           let e2 : low ≡ lower f = cc in
@@ -225,6 +227,10 @@ leaf-on s at c to k w n hw h l e =
       few-places = (let z : n .places ≡ w = ap (λ (x : Node). x .places) e in omega arith);
       small = rw e (record { form = omega arith; low = omega arith; high = omega arith; left = omega arith; right = omega arith; height = omega arith; places = omega arith });
     }
+
+-- an answer that stops at a position
+stops-at : (s : List ℕ) (at : ℕ) (r : Head) (u : List ℕ) → (r .ok ≡ false) × (r .at ≡ at) → at ≤ length s → u ≡ drop at s → Unread s (r .ok) (r .at) u
+stops-at s at r u e i q = record { fails = e .0; rest = q ∙ ap (λ (k : ℕ). drop k s) (sym (e .1)); inside = omega (arith, e .1) }
 
 module _ (s : List ℕ) (at c b : ℕ) (eb : b ≡ peek (drop at s)) where
   is-eq : (k : ℕ) → b ≡ k → eqb (peek (drop at s)) k ≡ true
@@ -277,24 +283,13 @@ module _ (s : List ℕ) (at c b : ℕ) (eb : b ≡ peek (drop at s)) where
           on = λ o. leaf-on s at c to (Letter b) 1 n (omega arith) (k .1) (k .2) en;
         }
 
-  pub simple-other : (r : Head) (t : Bool) → (b ≡ 94 → ⊥) → (b ≡ 36 → ⊥) → t ≡ isLetter b → t ≡ false → r .ok ≡ false → SimpleSays s at c r
+  pub simple-other : (r : Head) (t : Bool) → (b ≡ 94 → ⊥) → (b ≡ 36 → ⊥) → t ≡ isLetter b → t ≡ false → at ≤ length s → (r .ok ≡ false) × (r .at ≡ at) → SimpleSays s at c r
   unfolding simple SaysHead
-  simple-other r t e1 e2 et ot er =
-      record { says = simp (is-ne 94 e1, is-ne 36 e2, (let z : isLetter (peek (drop at s)) ≡ false = ap isLetter (sym eb) ∙ sym et ∙ ot in z)) er; on = λ o. clash o er }
-
-  pub simple-touch : (r : Head) (t u : Bool) (d : ℕ) → (b ≡ 94 → ⊥) → (b ≡ 36 → ⊥) → t ≡ isLetter b → t ≡ true → d ≡ peek (drop (at + 1) s) → u ≡ isLetter d → u ≡ true
-      → r .ok ≡ false → SimpleSays s at c r
-  unfolding simple SaysHead
-  simple-touch r t u d e1 e2 et ot ed eu ou er =
+  simple-other r t e1 e2 et ot i er =
       record {
-        says = simp (
-          is-ne 94 e1,
-          is-ne 36 e2,
-          (let z : isLetter (peek (drop at s)) ≡ true = ap isLetter (sym eb) ∙ sym et ∙ ot in z),
-          (let z : isLetter (peek (rest (drop at s))) ≡ true = ap (λ (x : List ℕ). isLetter (peek x)) (rest-drop s at) ∙ ap isLetter (sym ed) ∙ sym eu ∙ ou in z),
-        ) er;
-        on = λ o.
-            clash o er;
+        says = simp (is-ne 94 e1, is-ne 36 e2, (let z : isLetter (peek (drop at s)) ≡ false = ap isLetter (sym eb) ∙ sym et ∙ ot in z))
+            (stops-at s at r (drop at s) er i refl);
+        on = λ o. clash o (er .0);
       }
 
   pub letter-next : (t : Bool) → t ≡ isLetter b → t ≡ true → at + 1 ≤ length s
@@ -304,6 +299,21 @@ module _ (s : List ℕ) (at c b : ℕ) (eb : b ≡ peek (drop at s)) where
       low : (b : ℕ) → isLetter b ≡ true → 1 ≤ b
       low zero o = absurd (false≢true o)
       low (suc k) o = omega arith
+
+  pub simple-touch : (r : Head) (t u : Bool) (d : ℕ) → (b ≡ 94 → ⊥) → (b ≡ 36 → ⊥) → t ≡ isLetter b → t ≡ true → d ≡ peek (drop (at + 1) s) → u ≡ isLetter d → u ≡ true
+      → (r .ok ≡ false) × (r .at ≡ at + 1) → SimpleSays s at c r
+  unfolding simple SaysHead
+  simple-touch r t u d e1 e2 et ot ed eu ou er =
+      record {
+        says = simp (
+          is-ne 94 e1,
+          is-ne 36 e2,
+          (let z : isLetter (peek (drop at s)) ≡ true = ap isLetter (sym eb) ∙ sym et ∙ ot in z),
+          (let z : isLetter (peek (rest (drop at s))) ≡ true = ap (λ (x : List ℕ). isLetter (peek x)) (rest-drop s at) ∙ ap isLetter (sym ed) ∙ sym eu ∙ ou in z),
+        ) (stops-at s (at + 1) r (rest (drop at s)) er (letter-next t et ot) (rest-drop s at));
+        on = λ o.
+            clash o (er .0);
+      }
 
 -- a position behind a byte is in the text
 pub next-in : (s : List ℕ) (at b k : ℕ) → b ≡ peek (drop at s) → b ≡ k → 1 ≤ k → at + 1 ≤ length s
@@ -327,11 +337,11 @@ module _ (s : List ℕ) (p : Step) where
   pub shut-few : ShutNeeds p → p .ok ≡ true → Fits-in w64 (p .forks + p .places)
   shut-few h o = record { fits = omega (arith, h .few-places o, h .few-forks o) }
 
-  pub shut-unread : (r : Head) → p .ok ≡ false → r .ok ≡ false → ShutIs s p r
+  pub shut-unread : (r : Head) → p .ok ≡ false → (r .ok ≡ false) × (r .at ≡ p .at) → ShutIs s p r
   shut-unread r e er = record { unread = λ x. er; open-still = λ o. clash o e; shuts = λ o. clash o e }
 
   module _ (b : ℕ) (eb : b ≡ peek (drop (p .at) s)) (o : p .ok ≡ true) where
-    pub shut-open : (r : Head) → (b ≡ 41 → ⊥) → r .ok ≡ false → ShutIs s p r
+    pub shut-open : (r : Head) → (b ≡ 41 → ⊥) → (r .ok ≡ false) × (r .at ≡ p .at) → ShutIs s p r
     shut-open r nb er = record { unread = λ x. er; open-still = λ x y. er; shuts = λ x y. absurd (nb (eb ∙ y)) }
 
     pub shut-whole : (to q : ℕ) (n : Node) → b ≡ 41 → SkipTo s (p .at + 1) to → q ≡ min (p .forks + p .places) 257 → n ≡ plain Group (p .count - 1) 0 (p .height + 1) q
@@ -341,9 +351,9 @@ module _ (s : List ℕ) (p : Step) where
 
 -- ---- the readers' answers
 
-says-bad : (k : Rank) (s : List ℕ) (c : ℕ) (m t : List ℕ) (r : Step) (x : Reading (Tree k)) → Says k s c m t r x → r .ok ≡ false → x ≡ bad
+says-bad : (k : Rank) (s : List ℕ) (c : ℕ) (m t : List ℕ) (r : Step) (x : Reading (Tree k)) → Says k s c m t r x → r .ok ≡ false → (x ≡ bad (drop (r .at) s)) × (r .at ≤ length s)
 unfolding Says
-says-bad k s c m t r bad h e = refl
+says-bad k s c m t r (bad u) h e = (ap bad (h .rest), h .inside)
 says-bad k s c m t r (got x u) h e = clash (h .ok) e
 
 record Read (k : Rank) (s : List ℕ) (c : ℕ) (m t : List ℕ) (r : Step) (x : Reading (Tree k)) : Type 0 where
@@ -357,12 +367,12 @@ record Read (k : Rank) (s : List ℕ) (c : ℕ) (m t : List ℕ) (r : Step) (x :
 
 says-got : (k : Rank) (s : List ℕ) (c : ℕ) (m t : List ℕ) (r : Step) (x : Reading (Tree k)) → Says k s c m t r x → r .ok ≡ true → Read k s c m t r x
 unfolding Says
-says-got k s c m t r bad h e = clash e h
+says-got k s c m t r (bad u) h e = clash e (h .fails)
 says-got k s c m t r (got x u) h e = record { tree = x; is = ap (got x) (h .rest); count = h .count; high = h .high; placed = h .placed; forked = h .forked; wrote = h .wrote }
 
-head-bad : (s : List ℕ) (c : ℕ) (r : Head) (x : Reading (Tree primary)) → SaysHead s c r x → r .ok ≡ false → x ≡ bad
+head-bad : (s : List ℕ) (c : ℕ) (r : Head) (x : Reading (Tree primary)) → SaysHead s c r x → r .ok ≡ false → (x ≡ bad (drop (r .at) s)) × (r .at ≤ length s)
 unfolding SaysHead
-head-bad s c r bad h e = refl
+head-bad s c r (bad u) h e = (ap bad (h .rest), h .inside)
 head-bad s c r (got x u) h e = clash (h .ok) e
 
 record ReadHead (s : List ℕ) (c : ℕ) (m t : List ℕ) (r : Head) (x : Reading (Tree primary)) : Type 0 where
@@ -374,7 +384,7 @@ record ReadHead (s : List ℕ) (c : ℕ) (m t : List ℕ) (r : Head) (x : Readin
 
 head-got : (s : List ℕ) (c : ℕ) (m t : List ℕ) (r : Head) (x : Reading (Tree primary)) → SaysHead s c r x → Wrote c m t x → r .ok ≡ true → ReadHead s c m t r x
 unfolding SaysHead Wrote
-head-got s c m t r bad h w e = clash e h
+head-got s c m t r (bad u) h w e = clash e (h .fails)
 head-got s c m t r (got x u) h w e = record { tree = x; is = ap (got x) (h .rest); count = h .count; node = h .node; wrote = w }
 
 abbrev room-of : List ℕ → ℕ → ℕ → ℕ
@@ -382,10 +392,16 @@ room-of s at c = 8 * (c + 2 * (length s - at))
 
 -- an answer of no reading
 no-reading : (k : Rank) (s : List ℕ) (at c : ℕ) (m t : List ℕ) (r : Step) → r .ok ≡ false → Kept (8 * c) (room-of s at c) m t → length t ≡ length m
-    → ((n : ℕ) → 4 * length (drop at s) + rankOf k ≤ n → read (suc n) k (drop at s) ≡ bad) → Reads k s at c m t r
+    → ((n : ℕ) → 4 * length (drop at s) + rankOf k ≤ n → (read (suc n) k (drop at s) ≡ bad (drop (r .at) s)) × (r .at ≤ length s)) → Reads k s at c m t r
 unfolding depth Says
 no-reading k s at c m t r e kp l f =
-    record { says = at-suc (λ n. Says k s c m t r (read n k (drop at s))) (4 * length (drop at s) + rankOf k) (λ n h. rw (f n h) e); on = λ o. clash o e; kept = kp; len = l }
+    record {
+      says = at-suc (λ n. Says k s c m t r (read n k (drop at s))) (4 * length (drop at s) + rankOf k)
+          (λ n h. let d = f n h in rw (d .0) (record { fails = e; rest = refl; inside = d .1 }));
+      on = λ o. clash o e;
+      kept = kp;
+      len = l;
+    }
 
 -- an answer of a reading
 a-reading : (k : Rank) (s : List ℕ) (at c : ℕ) (m t : List ℕ) (r : Step) → r .ok ≡ true → On s at c r → Kept (8 * c) (room-of s at c) m t → length t ≡ length m
@@ -440,9 +456,9 @@ module _ (s : List ℕ) (at c : ℕ) (m0 m1 m2 m3 : List ℕ) (a b w : Step) (to
 -- ---- pattern
 
 module _ (n : ℕ) (u : List ℕ) where
-  alt-bad : read n branch u ≡ bad → read (suc n) pattern u ≡ bad
+  alt-bad : (v : List ℕ) → read n branch u ≡ bad v → read (suc n) pattern u ≡ bad v
   unfolding read altWith
-  alt-bad e = simp e
+  alt-bad v e = simp e
 
   alt-one : (b : Tree branch) (v : List ℕ) → read n branch u ≡ got b v → (peek v ≡ 124 → ⊥) → read (suc n) pattern u ≡ got (one b) v
   unfolding read altWith altOn
@@ -453,9 +469,9 @@ module _ (n : ℕ) (u : List ℕ) where
   unfolding read altWith altOn
   alt-two b v w x e h g f = simp (e, eq-eqb (peek v) 124 h, g, f)
 
-  seq-bad : read n factor u ≡ bad → read (suc n) branch u ≡ bad
+  seq-bad : (v : List ℕ) → read n factor u ≡ bad v → read (suc n) branch u ≡ bad v
   unfolding read seqWith
-  seq-bad e = simp e
+  seq-bad v e = simp e
 
   seq-one : (f : Tree factor) (v : List ℕ) → read n factor u ≡ got f v → ended (peek v) ≡ true → read (suc n) branch u ≡ got (last f) v
   unfolding read seqWith seqOn
@@ -469,7 +485,8 @@ module _ (n : ℕ) (u : List ℕ) where
 module _ (s : List ℕ) (at c : ℕ) (m0 m1 : List ℕ) (b : Step) (h : Reads branch s at c m0 m1 b) where
   pub pattern-fails : b .ok ≡ false → Reads pattern s at c m0 m1 b
   unfolding rankOf depth
-  pattern-fails e = no-reading pattern s at c m0 m1 b e (h .kept) (h .len) λ n d. alt-bad n (drop at s) (says-bad branch s c m0 m1 b _ (h .says n (omega arith)) e)
+  pattern-fails e = no-reading pattern s at c m0 m1 b e (h .kept) (h .len) λ n d.
+      let x = says-bad branch s c m0 m1 b _ (h .says n (omega arith)) e in (alt-bad n (drop at s) _ (x .0), x .1)
 
   module _ (y : ℕ) (ey : y ≡ peek (drop (b .at) s)) (o : b .ok ≡ true) where
     pub pattern-ends : (y ≡ 124 → ⊥) → Reads pattern s at c m0 m1 b
@@ -507,8 +524,8 @@ module _ (s : List ℕ) (at c : ℕ) (m0 m1 : List ℕ) (b : Step) (h : Reads br
             (omega (arith, w .few, k .1)) (g .kept)))
             (g .len ∙ h .len) λ n d.
             let x = says-got branch s c m0 m1 b _ (h .says n (omega arith)) o in
-            alt-two n (drop at s) _ _ (drop from s) bad (x .is) (sym ey ∙ is-bar) behind
-            (says-bad pattern s (b .count) m1 m2 r _ (g .says n (omega (arith, w .on, w .inside, k .1, k .2, length-drop at s, length-drop from s))) e)
+            let z = says-bad pattern s (b .count) m1 m2 r _ (g .says n (omega (arith, w .on, w .inside, k .1, k .2, length-drop at s, length-drop from s))) e in
+            (alt-two n (drop at s) _ _ (drop from s) (bad (drop (r .at) s)) (x .is) (sym ey ∙ is-bar) behind (z .0), z .1)
 
         pub pattern-joins : Fits s at m0 c → r .ok ≡ true → Joins m2 b r
         pattern-joins f e =
@@ -561,7 +578,8 @@ goes-on y a b c = simp (ne-eqb y 0 a, ne-eqb y 124 b, ne-eqb y 41 c)
 module _ (s : List ℕ) (at c : ℕ) (m0 m1 : List ℕ) (b : Step) (h : Reads factor s at c m0 m1 b) where
   pub branch-fails : b .ok ≡ false → Reads branch s at c m0 m1 b
   unfolding rankOf depth
-  branch-fails e = no-reading branch s at c m0 m1 b e (h .kept) (h .len) λ n d. seq-bad n (drop at s) (says-bad factor s c m0 m1 b _ (h .says n (omega arith)) e)
+  branch-fails e = no-reading branch s at c m0 m1 b e (h .kept) (h .len) λ n d.
+      let x = says-bad factor s c m0 m1 b _ (h .says n (omega arith)) e in (seq-bad n (drop at s) _ (x .0), x .1)
 
   module _ (y : ℕ) (ey : y ≡ peek (drop (b .at) s)) (o : b .ok ≡ true) where
     branch-ends : ended y ≡ true → Reads branch s at c m0 m1 b
@@ -622,8 +640,8 @@ module _ (s : List ℕ) (at c : ℕ) (m0 m1 : List ℕ) (b : Step) (h : Reads fa
           (omega (arith, w .few)) (g .kept)))
           (g .len ∙ h .len) λ n d.
           let x = says-got factor s c m0 m1 b _ (h .says n (omega arith)) o in
-          seq-two n (drop at s) _ _ bad (x .is) (ended-at y _ ey ∙ goes-on y n0 n1 n2)
-          (says-bad branch s (b .count) m1 m2 r _ (g .says n (omega (arith, w .on, w .inside, length-drop at s, length-drop (b .at) s))) e)
+          let z = says-bad branch s (b .count) m1 m2 r _ (g .says n (omega (arith, w .on, w .inside, length-drop at s, length-drop (b .at) s))) e in
+          (seq-two n (drop at s) _ _ (bad (drop (r .at) s)) (x .is) (ended-at y _ ey ∙ goes-on y n0 n1 n2) (z .0), z .1)
 
       pub branch-more : (m3 : List ℕ) (z : Step) → r .ok ≡ true → Joined m2 m3 Sequence 0 b r z → Reads branch s at c m0 m3 z
       unfolding rankOf depth under nodeCount height fork placeCount written
@@ -656,9 +674,9 @@ module _ (s : List ℕ) (at c : ℕ) (m0 m1 : List ℕ) (b : Step) (h : Reads fa
 -- ---- factor
 
 module _ (n : ℕ) (u : List ℕ) where
-  times-bad : read n primary u ≡ bad → read (suc n) factor u ≡ bad
+  times-bad : (v : List ℕ) → read n primary u ≡ bad v → read (suc n) factor u ≡ bad v
   unfolding read timesWith
-  times-bad e = simp e
+  times-bad v e = simp e
 
   times-got : (x : Tree primary) (v : List ℕ) (k : Marked) → read n primary u ≡ got x v → quantifier v ≡ k → read (suc n) factor u ≡ timesOn x v k
   unfolding read timesWith
@@ -681,9 +699,11 @@ own-places empty c = refl
 own-places (group p) c = refl
 
 module _ (s : List ℕ) (at c : ℕ) (m0 m1 : List ℕ) (p : Head) (h : ReadsHead s at c m0 m1 p) where
-  pub factor-fails : (r : Step) → p .ok ≡ false → r .ok ≡ false → Reads factor s at c m0 m1 r
+  pub factor-fails : (r : Step) → p .ok ≡ false → (r .ok ≡ false) × (r .at ≡ p .at) → Reads factor s at c m0 m1 r
   unfolding rankOf depth
-  factor-fails r e er = no-reading factor s at c m0 m1 r er (h .kept) (h .len) λ n d. times-bad n (drop at s) (head-bad s c p _ (h .says n (omega arith)) e)
+  factor-fails r e er = no-reading factor s at c m0 m1 r (er .0) (h .kept) (h .len) λ n d.
+      let x = head-bad s c p _ (h .says n (omega arith)) e in
+      (times-bad n (drop at s) _ (x .0) ∙ ap (λ (k : ℕ). bad (drop k s)) (sym (er .1)), omega (arith, x .1, er .1))
 
   pub factor-fits : Fits s at m0 c → p .ok ≡ true → FitsHead s m1 p
   factor-fits f o =
@@ -737,12 +757,12 @@ module _ (s : List ℕ) (at c : ℕ) (m0 m1 : List ℕ) (p : Head) (h : ReadsHea
               ∙ ap (λ (y : List ℕ). putNode y (c + nodeCount (x .tree)) (own (x .tree) c)) (x .wrote);
         }
 
-    factor-broken : quantifier (drop (p .at) s) ≡ broken → r .ok ≡ false → m2 ≡ m1 → Reads factor s at c m0 m2 r
+    factor-broken : (u : List ℕ) → quantifier (drop (p .at) s) ≡ broken u → Unread s (r .ok) (r .at) u → m2 ≡ m1 → Reads factor s at c m0 m2 r
     unfolding rankOf depth timesOn
-    factor-broken q e w =
-        no-reading factor s at c m0 m2 r e (subst (Kept (8 * c) (room-of s at c) m0) (sym w) (h .kept)) (ap length w ∙ h .len) λ n d.
+    factor-broken u q e w =
+        no-reading factor s at c m0 m2 r (e .fails) (subst (Kept (8 * c) (room-of s at c) m0) (sym w) (h .kept)) (ap length w ∙ h .len) λ n d.
         let x = head-got s c m0 m1 p _ (h .says n (omega arith)) (h .wrote n (omega arith)) o in
-        times-got n (drop at s) _ _ broken (x .is) q
+        (times-got n (drop at s) _ _ (broken u) (x .is) q ∙ ap bad (e .rest), e .inside)
 
     factor-marked : (f : Form) (z : Bool) (u : List ℕ) → quantifier (drop (p .at) s) ≡ marked f z u → FinishedMark s m1 m2 p r f z u → Reads factor s at c m0 m2 r
     unfolding rankOf depth nodeCount height placeCount written timesOn
@@ -772,7 +792,7 @@ module _ (s : List ℕ) (at c : ℕ) (m0 m1 : List ℕ) (p : Head) (h : ReadsHea
       where
         by : (k : Marked) → quantifier (drop (p .at) s) ≡ k → FinishedAs s m1 m2 p r k → Reads factor s at c m0 m2 r
         by unmarked q f = factor-bare q (f .0) (f .1)
-        by broken q f = factor-broken q (f .0) (f .1)
+        by (broken u) q f = factor-broken u q (f .0) (f .1)
         by (marked f z u) q e = factor-marked f z u q e
 
 -- ---- primary
@@ -801,18 +821,19 @@ shut-got : (p : Tree pattern) (v : List ℕ) → peek v ≡ 41 → closed (got p
 unfolding closed
 shut-got p v h = simp (eq-eqb (peek v) 41 h)
 
-shut-bad : (p : Tree pattern) (v : List ℕ) → (peek v ≡ 41 → ⊥) → closed (got p v) ≡ bad
+shut-bad : (p : Tree pattern) (v : List ℕ) → (peek v ≡ 41 → ⊥) → closed (got p v) ≡ bad v
 unfolding closed
 shut-bad p v h = simp (ne-eqb (peek v) 41 h)
 
 -- an answer of no reading, and of a reading
 no-head-reading : (s : List ℕ) (at c : ℕ) (m t : List ℕ) (r : Head) → r .ok ≡ false → Kept (8 * c) (room-of s at c) m t → length t ≡ length m
-    → ((n : ℕ) → 4 * length (drop at s) ≤ n → read (suc n) primary (drop at s) ≡ bad) → ReadsHead s at c m t r
+    → ((n : ℕ) → 4 * length (drop at s) ≤ n → (read (suc n) primary (drop at s) ≡ bad (drop (r .at) s)) × (r .at ≤ length s)) → ReadsHead s at c m t r
 unfolding depth rankOf SaysHead Wrote
 no-head-reading s at c m t r e kp l f =
     record {
-      says = λ n h. at-suc (λ n. SaysHead s c r (read n primary (drop at s))) (4 * length (drop at s)) (λ n h. rw (f n h) e) n (omega arith);
-      wrote = λ n h. at-suc (λ n. Wrote c m t (read n primary (drop at s))) (4 * length (drop at s)) (λ n h. rw (f n h) tt) n (omega arith);
+      says = λ n h. at-suc (λ n. SaysHead s c r (read n primary (drop at s))) (4 * length (drop at s))
+          (λ n h. let d = f n h in rw (d .0) (record { fails = e; rest = refl; inside = d .1 })) n (omega arith);
+      wrote = λ n h. at-suc (λ n. Wrote c m t (read n primary (drop at s))) (4 * length (drop at s)) (λ n h. rw (f n h .0) tt) n (omega arith);
       on = λ o. clash o e;
       kept = kp;
       len = l;
@@ -893,12 +914,16 @@ module _ (s : List ℕ) (at c : ℕ) (m0 : List ℕ) (b : ℕ) (eb : b ≡ peek 
 
         group-fails : p .ok ≡ false → ReadsHead s at c m0 m1 r
         unfolding closed
-        group-fails e = no-head-reading s at c m0 m1 r (g .unread e) inner-kept (h .len) λ n d. read-inner n bad (says-bad pattern s c m0 m1 p _ (h .says n (deep n d)) e)
+        group-fails e = no-head-reading s at c m0 m1 r (g .unread e .0) inner-kept (h .len) λ n d.
+            let x = says-bad pattern s c m0 m1 p _ (h .says n (deep n d)) e in
+            (read-inner n _ (x .0) ∙ ap (λ (k : ℕ). bad (drop k s)) (sym (g .unread e .1)), omega (arith, x .1, g .unread e .1))
 
         group-open : p .ok ≡ true → (peek (drop (p .at) s) ≡ 41 → ⊥) → ReadsHead s at c m0 m1 r
-        group-open o nz = no-head-reading s at c m0 m1 r (g .open-still o nz) inner-kept (h .len) λ n d.
-            let x = says-got pattern s c m0 m1 p _ (h .says n (deep n d)) o in
-            read-inner n _ (x .is) ∙ shut-bad (x .tree) (drop (p .at) s) nz
+        group-open o nz = no-head-reading s at c m0 m1 r (g .open-still o nz .0) inner-kept (h .len) λ n d.
+            let x = says-got pattern s c m0 m1 p _ (h .says n (deep n d)) o in (
+              read-inner n _ (x .is) ∙ shut-bad (x .tree) (drop (p .at) s) nz ∙ ap (λ (k : ℕ). bad (drop k s)) (sym (g .open-still o nz .1)),
+              omega (arith, (h .on o) .inside, g .open-still o nz .1),
+            )
 
         group-shut : p .ok ≡ true → peek (drop (p .at) s) ≡ 41 → Shut s p r → ReadsHead s at c m0 m1 r
         unfolding nodeCount height own written
@@ -965,19 +990,33 @@ module _ (s : List ℕ) (from : ℕ) (m0 m1 : List ℕ) (p : Step) (k : SkipTo s
   text-kept : (j : ℕ) → 16 * length s ≤ j → getD m1 j 0 ≡ getD m0 j 0
   text-kept j l = h .kept j (λ a b. omega arith)
 
+  -- where reading stops, by the bytes that are left
+  stop-at : (x : Reading (Tree pattern)) (j : ℕ) → read (4 * length s + 4) pattern (drop from s) ≡ x → left x ≡ drop j s → j ≤ length s → j ≡ stopOf s
+  unfolding stopOf
+  stop-at x j e q i =
+      let a : length (left (read (4 * length s + 4) pattern (skip s))) ≡ length (drop j s) =
+      ap (λ (u : List ℕ). length (left (read (4 * length s + 4) pattern u))) (sym (k .0)) ∙ ap (λ (r : Reading (Tree pattern)). length (left r)) e ∙ ap length q in
+      omega (arith, length-drop j s)
+
   pub text-none : p .ok ≡ false → TextSays s m0 m1 p
-  unfolding ParsedAs whole
-  text-none e = record { says = rw (text-is, says-bad pattern s 0 m0 m1 p _ (h .says _ enough) e) e; kept = text-kept; len = h .len }
+  unfolding ParsedAs whole left
+  text-none e =
+      let x = says-bad pattern s 0 m0 m1 p _ (h .says _ enough) e in
+      record { says = rw (text-is, x .0) e; stop = stop-at (bad (drop (p .at) s)) (p .at) (x .0) refl (x .1); kept = text-kept; len = h .len }
 
   module _ (o : p .ok ≡ true) where
     found : Read pattern s 0 m0 m1 p (read (4 * length s + 4) pattern (drop from s))
     found = says-got pattern s 0 m0 m1 p _ (h .says _ enough) o
 
-    pub text-rest : (r : Step) → (p .at ≡ length s → ⊥) → r .ok ≡ false → TextSays s m0 m1 r
+    stopped : p .at ≡ stopOf s
+    unfolding left
+    stopped = stop-at (got (found .tree) (drop (p .at) s)) (p .at) (found .is) refl ((h .on o) .inside)
+
+    pub text-rest : (r : Step) → (p .at ≡ length s → ⊥) → (r .ok ≡ false) × (r .at ≡ p .at) → TextSays s m0 m1 r
     unfolding ParsedAs whole
     text-rest r n e =
         let l : p .at < length s = omega (arith, (h .on o) .inside, n) in
-        record { says = rw (text-is, found .is, drop-cons s (p .at) 0 l) e; kept = text-kept; len = h .len }
+        record { says = rw (text-is, found .is, drop-cons s (p .at) 0 l) (e .0); stop = e .1 ∙ stopped; kept = text-kept; len = h .len }
 
     pub text-whole : p .at ≡ length s → TextSays s m0 m1 p
     unfolding ParsedAs whole
@@ -995,6 +1034,7 @@ module _ (s : List ℕ) (from : ℕ) (m0 m1 : List ℕ) (p : Step) (k : SkipTo s
             wrote = found
                 .wrote;
           });
+          stop = stopped;
           kept = text-kept;
           len = h .len;
         }

@@ -8,7 +8,7 @@ use lib.Dec.{eqb}
 use lib.ListN.{length, getD, drop}
 use Rattle.rules.specs.Basics.{pick}
 use Rattle.rules.specs.Language.{Form, lower, upper, Rank, pattern, branch, factor, primary, Tree, one, more, last, next, bare, times, letter, caret, dollar, empty, group}
-use Rattle.rules.specs.Reader.{Reading, got, bad, peek, skip, Marked, unmarked, broken, marked, quantifier, simple, read, depth, treeOf}
+use Rattle.rules.specs.Reader.{Reading, got, bad, peek, skip, Marked, unmarked, broken, marked, quantifier, simple, read, depth, treeOf, stopOf}
 use Rattle.rules.specs.Places.{roundPlaces, fork, placeCount}
 use Rattle.marks.specs.Shows.{codeOf, highOf}
 use Rattle.nodes.specs.Nodes.{putNode, Small}
@@ -125,8 +125,14 @@ pub record Done (k : Rank) (text : List ℕ) (c : ℕ) (room exit : List ℕ) (r
   pub forked : r .forks ≡ forkOf k x
   pub wrote : exit ≡ written x c room
 
+-- an answer, ok or not, that stops at a position of the text, with the bytes u from there on: there is no tree
+pub record Unread (text : List ℕ) (ok : Bool) (at : ℕ) (u : List ℕ) : Type 0 where
+  pub fails : ok ≡ false
+  pub rest : u ≡ drop at text
+  pub inside : at ≤ length text
+
 unfoldable pub Says : (k : Rank) → List ℕ → ℕ → List ℕ → List ℕ → Step → Reading (Tree k) → Type 0
-Says k text c room exit r bad = r .ok ≡ false
+Says k text c room exit r (bad u) = Unread text (r .ok) (r .at) u
 Says k text c room exit r (got x u) = Done k text c room exit r x u
 
 pub record On (text : List ℕ) (at c : ℕ) (r : Step) : Type 0 where
@@ -153,11 +159,11 @@ pub record HeadDone (text : List ℕ) (c : ℕ) (r : Head) (x : Tree primary) (u
   pub node : r .node ≡ own x c
 
 unfoldable pub SaysHead : List ℕ → ℕ → Head → Reading (Tree primary) → Type 0
-SaysHead text c r bad = r .ok ≡ false
+SaysHead text c r (bad u) = Unread text (r .ok) (r .at) u
 SaysHead text c r (got x u) = HeadDone text c r x u
 
 unfoldable pub Wrote : ℕ → List ℕ → List ℕ → Reading (Tree primary) → Type 0
-Wrote c room exit bad = Unit {0}
+Wrote c room exit (bad u) = Unit {0}
 Wrote c room exit (got x u) = exit ≡ written x c room
 
 pub record HeadOn (text : List ℕ) (at c : ℕ) (r : Head) : Type 0 where
@@ -212,7 +218,7 @@ pub record FinishedMark (text room exit : List ℕ) (p : Head) (r : Step) (f : F
 
 unfoldable pub FinishedAs : List ℕ → List ℕ → List ℕ → Head → Step → Marked → Type 0
 FinishedAs text room exit p r unmarked = (r ≡ stepTo (p .at) p (p .node .places)) × (exit ≡ putNode room (p .count) (p .node))
-FinishedAs text room exit p r broken = (r .ok ≡ false) × (exit ≡ room)
+FinishedAs text room exit p r (broken u) = Unread text (r .ok) (r .at) u × (exit ≡ room)
 FinishedAs text room exit p r (marked f z u) = FinishedMark text room exit p r f z u
 
 pub record Finished (text room exit : List ℕ) (p : Head) (r : Step) : Type 0 where
@@ -253,8 +259,8 @@ pub record Shut (text : List ℕ) (p : Step) (r : Head) : Type 0 where
   pub is : r ≡ record { ok = true; at = to; count = p .count; node = plain Group (p .count - 1) 0 (p .height + 1) (min (p .forks + p .places) 257) }
 
 pub record ShutIs (text : List ℕ) (p : Step) (r : Head) : Type 0 where
-  pub unread : p .ok ≡ false → r .ok ≡ false
-  pub open-still : p .ok ≡ true → (peek (drop (p .at) text) ≡ 41 → ⊥) → r .ok ≡ false
+  pub unread : p .ok ≡ false → (r .ok ≡ false) × (r .at ≡ p .at)
+  pub open-still : p .ok ≡ true → (peek (drop (p .at) text) ≡ 41 → ⊥) → (r .ok ≡ false) × (r .at ≡ p .at)
   pub shuts : p .ok ≡ true → peek (drop (p .at) text) ≡ 41 → Shut text p r
 
 -- ---- a whole text
@@ -272,7 +278,9 @@ unfoldable pub ParsedAs : List ℕ → List ℕ → List ℕ → Step → Option
 ParsedAs text room exit r none = r .ok ≡ false
 ParsedAs text room exit r (some p) = Parsed text room exit r p
 
+-- what `read_text` promises: the text's tree, or none; and where reading stops, which is where a text with no tree is wrong, or its end
 pub record TextSays (text room exit : List ℕ) (r : Step) : Type 0 where
   pub says : ParsedAs text room exit r (treeOf text)
+  pub stop : r .at ≡ stopOf text
   pub kept : (j : ℕ) → 16 * length text ≤ j → getD exit j 0 ≡ getD room j 0
   pub len : length exit ≡ length room

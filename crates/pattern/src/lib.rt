@@ -1,5 +1,5 @@
 // A pattern's text read into a tree: the four readers of the pattern language, in a cycle. The tree's nodes go into a lent room, each behind
-// its parts; `read_text` leaves there the nodes of the tree that the text has, or says that it has none.
+// its parts; `read_text` leaves there the nodes of the tree that the text has, or says that it has none, and at which byte the text is wrong.
 
 use marks::Mark;
 use marks::is_letter;
@@ -54,7 +54,7 @@ fn plain_node(sort: Sort, left: usize, right: usize, height: usize, places: usiz
 }
 
 fn no_head(at: usize, count: usize) -> Head
-    ensures { λ r. ⌜ r .ok ≡ false ⌝ }
+    ensures { λ r. ⌜ (r .ok ≡ false) × (r .at ≡ at) ⌝ }
 {
     let node = plain_node(Sort::Empty, 0, 0, 0, 0);
     Head {
@@ -66,7 +66,7 @@ fn no_head(at: usize, count: usize) -> Head
 }
 
 fn no_step(at: usize, count: usize) -> Step
-    ensures { λ r. ⌜ r .ok ≡ false ⌝ }
+    ensures { λ r. ⌜ (r .ok ≡ false) × (r .at ≡ at) ⌝ }
 {
     Step {
         ok: false,
@@ -150,7 +150,7 @@ fn finish(text: &[u8], room: &mut [u16], p: Head) -> Step
     let node = p.node;
     match quantifier(text, at) {
         Mark::Unmarked => settle(room, count, node, at),
-        Mark::Broken => no_step(at, count),
+        Mark::Broken { at: to } => no_step(to, count),
         Mark::Found {
             form,
             low,
@@ -206,7 +206,7 @@ fn simple(text: &[u8], at: usize, count: usize) -> Head
         return no_head(at, count);
     }
     if is_letter(peek(text, at + 1)) {
-        return no_head(at, count);
+        return no_head(at + 1, count);
     }
     let to = skip(text, at + 1);
     let node = plain_node(Sort::Letter(b), 0, 0, 0, 1);
@@ -347,7 +347,7 @@ fn primary(text: &[u8], at: usize, room: &mut [u16], count: usize) -> Head
     shut_group(text, p)
 }
 
-// The tree of a whole text, its nodes from 0 on.
+// The tree of a whole text, its nodes from 0 on; `at` is where reading stops, which is the text's end where there is a tree.
 pub fn read_text(text: &[u8], room: &mut [u16]) -> Step
     requires { ⌜ Fits (now text) 0 (now room) 0 ⌝ }
     ensures { λ r. ⌜ TextSays (now (text .entry)) (now (room .entry)) (now (room .exit)) r ⌝ }

@@ -14,14 +14,15 @@ use mathlib.Core.Option.{some}
 use Rattle.rules.specs.Basics.{pick, inRange, isLetter, every, has, tabulate}
 use Rattle.rules.specs.Query.{Measure, functionFits, cut, misplaced, unfit, doubled, columnsOf, textOf, parts}
 use Rattle.rules.specs.Language.{Tree, pattern, letters, Written}
-use Rattle.rules.specs.Answers.{tooDeep, treeIn, noTree, hasEmptyLoop, tooMany, P, lettersIn, foreign, lowest, queryTests, badRows, roomAnswer, roomOf}
+use Rattle.rules.specs.Answers.{tooDeep, treeIn, wrong, unfinished, hasEmptyLoop, tooMany, P, lettersIn, foreign, Test, firstOf, refuses, queryTests, offsetAt, badRows, roomAnswer, roomOf}
 use Rattle.rules.specs.Answers as A
 use Rattle.rules.specs.Rows.{tableOf}
-use Rattle.rules.proofs.Accepted.{tree-of}
+use Rattle.rules.proofs.Accepted.{tree-of, query-tests-refuse}
 use Rattle.rules.proofs.Bounds.{letters-of-text}
 use Rattle.rules.proofs.Choice.{clash, and-left, and-right}
 use Rattle.rules.proofs.Grammar.{tree-exactly}
-use Rattle.rules.proofs.Lowest.{lowest-before, lowest-after, none-true}
+use Rattle.rules.proofs.FirstTrue.{allRefuse, first-before, first-after, none-true}
+use Rattle.rules.proofs.Stops.{tree-there}
 use Rattle.query.specs.Order.{firstAnswer}
 use Rattle.rules.specs.Reader.{treeOf}
 use Rattle.decode.specs.declared.Parts.{Parts}
@@ -110,36 +111,63 @@ module _ (text measures : List ℕ) (count : ℕ) where
 
 -- ---- the answer from its parts
 
--- the tests for answers 1 to 3, and those for 4 to 9
-abbrev firstTests : List ℕ → List Bool
-firstTests s = cut s ∷ misplaced s ∷ unfit s ∷ []
+-- the tests for answers 1 to 3, those for 4 to 9 and 14, and among them those behind the text's
+abbrev firstTests : List ℕ → List Test
+firstTests s = (1, cut s) ∷ (2, misplaced s) ∷ (3, unfit s) ∷ []
 
-abbrev laterTests : List ℕ → List Bool
-laterTests s = tooDeep s ∷ noTree (treeIn s) ∷ hasEmptyLoop (treeIn s) ∷ tooMany (treeIn s) ∷ doubled s ∷ foreign s ∷ []
+abbrev laterTests : List ℕ → List Test
+laterTests s =
+    (4, tooDeep s)
+    ∷ (5, wrong (textOf s))
+    ∷ (14, unfinished (textOf s))
+    ∷ (6, hasEmptyLoop (treeIn s))
+    ∷ (7, tooMany (treeIn s))
+    ∷ (8, doubled s)
+    ∷ (9, foreign s)
+    ∷ []
 
--- with no answer 1 to 3, the answer is the lowest of 4 to 9
-later : (s : List ℕ) → firstAnswer s ≡ 0 → queryAnswer s ≡ lowest 4 (laterTests s)
-unfolding queryAnswer queryTests firstAnswer lowest
-later s e = lowest-after 1 (firstTests s) (laterTests s) (omega arith) e
+abbrev partsTests : List ℕ → List Test
+partsTests s = (8, doubled s) ∷ (9, foreign s) ∷ []
 
--- an answer 1 to 3 is the query's
+-- with no answer 1 to 3, the answer is the first of the later ones
+later : (s : List ℕ) → firstAnswer s ≡ 0 → queryAnswer s ≡ firstOf (laterTests s)
+unfolding queryAnswer queryTests firstAnswer firstOf allRefuse every refuses
+later s e = first-after (firstTests s) (laterTests s) refl e
+
+-- an answer 1 to 3 is the query's, and has no offset
 pub first-is : (s : List ℕ) → (firstAnswer s ≡ 0 → ⊥) → firstAnswer s ≡ queryAnswer s
-unfolding queryAnswer queryTests firstAnswer lowest
-first-is s d = sym (lowest-before 1 (firstTests s) (laterTests s) d)
+unfolding queryAnswer queryTests firstAnswer firstOf
+first-is s d = sym (first-before (firstTests s) (laterTests s) d)
 
--- by the pattern's answer: where it is 4 to 7 it is the query's, and where it is 0 DEFINEs and measures decide
+first-offset : (s t : List ℕ) → offsetAt t (firstAnswer s) ≡ 0
+unfolding firstAnswer offsetAt
+first-offset s t = go (cut s) (misplaced s) (unfit s)
+  where
+    go : (a b c : Bool) → offsetAt t (pick a 1 (pick b 2 (pick c 3 0))) ≡ 0
+    go true b c = refl
+    go false true c = refl
+    go false false true = refl
+    go false false false = refl
+
+-- by the pattern's answer: where there is one it is the query's, and where it is 0 DEFINEs and measures decide
 pub by-text : (s : List ℕ) → firstAnswer s ≡ 0 → (textAnswer (textOf s) ≡ 0 → ⊥) → textAnswer (textOf s) ≡ queryAnswer s
 unfolding textAnswer textTests tooDeep treeIn
-by-text s e d = sym (later s e ∙ lowest-before 4 (textTests (textOf s)) (doubled s ∷ foreign s ∷ []) d)
+by-text s e d = sym (later s e ∙ first-before (textTests (textOf s)) (partsTests s) d)
+
+text-refuses : (t : List ℕ) → allRefuse (textTests t) ≡ true
+unfolding textTests allRefuse every refuses
+text-refuses t = refl
 
 pub by-parts : (s : List ℕ) → firstAnswer s ≡ 0 → textAnswer (textOf s) ≡ 0 → queryAnswer s ≡ pick (doubled s) 8 (pick (foreign s) 9 0)
-unfolding textAnswer textTests tooDeep treeIn lowest
-by-parts s e d = later s e ∙ lowest-after 4 (textTests (textOf s)) (doubled s ∷ foreign s ∷ []) (omega arith) d
+unfolding textAnswer textTests tooDeep treeIn firstOf
+by-parts s e d = later s e ∙ first-after (textTests (textOf s)) (partsTests s) (text-refuses (textOf s)) d
 
 -- a text whose answer is 0 has a tree
 pub has-tree : (s : List ℕ) → textAnswer (textOf s) ≡ 0 → (p : Tree pattern) × (treeIn s ≡ some p)
 unfolding textAnswer textTests treeIn
-has-tree s d = tree-of (treeIn s) (none-true 4 (textTests (textOf s)) (omega arith) d 1)
+has-tree s d =
+    let no = none-true (textTests (textOf s)) (text-refuses (textOf s)) d in
+    tree-of (treeIn s) (tree-there (textOf s) (no 1) (no 2))
 
 -- ---- measures' letters
 
@@ -188,22 +216,24 @@ module _ (s room room′ measures : List ℕ) (p : Parts) (j : JudgeRoom s room 
   the-answer : v .answer ≡ textAnswer (textOf s)
   the-answer = g .answer ∙ ap textAnswer the-text
 
-  refused-is : (a : ℕ) (r : Query) → (a ≡ 0 → ⊥) → a ≡ queryAnswer s → r ≡ refusal a → JudgedParts s room′ measures p r
-  refused-is a r d q b =
-      let x : r .answer ≡ a = ap (λ (r : Query). r .answer) b in
-      record { answer = x ∙ q; good = λ z. absurd (d (sym x ∙ z)) }
+  the-offset : v .offset ≡ offsetAt (textOf s) (v .answer)
+  the-offset = g .offset ∙ ap (λ (t : List ℕ). offsetAt t (v .answer)) the-text
 
-  -- answers 4 to 7
-  pub text-answers : (r : Query) → (v .answer ≡ 0 → ⊥) → r ≡ refusal (v .answer) → JudgedParts s room′ measures p r
-  text-answers r d b = refused-is (v .answer) r d (the-answer ∙ by-text s (j .clean) (λ z. d (the-answer ∙ z))) b
+  refused-is : (a k : ℕ) (r : Query) → (a ≡ 0 → ⊥) → a ≡ queryAnswer s → k ≡ offsetAt (textOf s) a → r ≡ refusal a k → JudgedParts s room′ measures p r
+  refused-is a k r d q o b = rw b (record { answer = q; offset = o; good = λ z. absurd (d z) })
+
+  -- answers 4 to 7 and 14
+  pub text-answers : (r : Query) → (v .answer ≡ 0 → ⊥) → r ≡ refusal (v .answer) (v .offset) → JudgedParts s room′ measures p r
+  text-answers r d b = refused-is (v .answer) (v .offset) r d (the-answer ∙ by-text s (j .clean) (λ z. d (the-answer ∙ z))) the-offset b
 
   module _ (z : v .answer ≡ 0) where
     parts-answer : queryAnswer s ≡ pick (doubled s) 8 (pick (foreign s) 9 0)
     parts-answer = by-parts s (j .clean) (sym the-answer ∙ z)
 
     -- answer 8
-    pub defines-answer : (r : Query) → p .twice ≡ true → r ≡ refusal 8 → JudgedParts s room′ measures p r
-    defines-answer r d b = refused-is 8 r (λ x. omega arith) (sym (parts-answer ∙ ap (λ (u : Bool). pick u 8 (pick (foreign s) 9 0)) (sym (j .doubled) ∙ d))) b
+    pub defines-answer : (r : Query) → p .twice ≡ true → r ≡ refusal 8 0 → JudgedParts s room′ measures p r
+    unfolding offsetAt
+    defines-answer r d b = refused-is 8 0 r (λ x. omega arith) (sym (parts-answer ∙ ap (λ (u : Bool). pick u 8 (pick (foreign s) 9 0)) (sym (j .doubled) ∙ d))) refl b
 
     tree-is : (t : Tree pattern) × (treeIn s ≡ some t)
     tree-is = has-tree s (sym the-answer ∙ z)
@@ -218,16 +248,18 @@ module _ (s room room′ measures : List ℕ) (p : Parts) (j : JudgeRoom s room 
 
     -- answer 9
     pub measures-answer : (r : Query) (u : Bool) → p .twice ≡ false → u ≡ foreignIn (take (e - p .start) (drop (p .start) s)) measures (p .measures) → u ≡ true
-        → r ≡ refusal 9 → JudgedParts s room′ measures p r
-    measures-answer r u d f y b = refused-is 9 r (λ x. omega arith) (sym (both u d f ∙ ap (λ (x : Bool). pick x 9 0) y)) b
+        → r ≡ refusal 9 0 → JudgedParts s room′ measures p r
+    unfolding offsetAt
+    measures-answer r u d f y b = refused-is 9 0 r (λ x. omega arith) (sym (both u d f ∙ ap (λ (x : Bool). pick x 9 0) y)) refl b
 
     -- none of them
     pub no-answer : (u : Bool) → p .twice ≡ false → u ≡ foreignIn (take (e - p .start) (drop (p .start) s)) measures (p .measures) → u ≡ false
-        → JudgedParts s room′ measures p (record { answer = 0; places = v .places; top = v .top; columns = p .columns; skip = p .skip; measures = p .measures; letters = p .letters })
-    unfolding treeIn
+        → JudgedParts s room′ measures p (record { answer = 0; offset = 0; places = v .places; top = v .top; columns = p .columns; skip = p .skip; measures = p .measures; letters = p .letters })
+    unfolding treeIn offsetAt
     no-answer u d f y =
         record {
           answer = sym (both u d f ∙ ap (λ (x : Bool). pick x 9 0) y);
+          offset = refl;
           good =
               λ _. record {
                 tree = tree-is .0;
@@ -245,11 +277,14 @@ module _ (s room room′ measures : List ℕ) (p : Parts) (j : JudgeRoom s room 
 
 module _ (s measures₀ : List ℕ) where
   -- answers 1 to 3
-  pub first-answers : (room defines measures : List ℕ) (a : ℕ) (r : Query) → a ≡ firstAnswer s → (a ≡ 0 → ⊥) → r ≡ refusal a
+  pub first-answers : (room defines measures : List ℕ) (a : ℕ) (r : Query) → a ≡ firstAnswer s → (a ≡ 0 → ⊥) → r ≡ refusal a 0
       → Asked s measures₀ room defines measures r
   first-answers room defines measures a r e d b =
-      let x : r .answer ≡ a = ap (λ (r : Query). r .answer) b in
-      record { answer = x ∙ e ∙ first-is s (λ z. d (e ∙ z)); good = λ z. absurd (d (sym x ∙ z)) }
+      rw b (record {
+        answer = e ∙ first-is s (λ z. d (e ∙ z));
+        offset = sym (ap (offsetAt (textOf s)) e ∙ first-offset s (textOf s));
+        good = λ z. absurd (d z);
+      })
 
   -- what decoding asks
   pub may-decode : (room : List ℕ) (a : ℕ) → Space s room measures₀ → a ≡ firstAnswer s → a ≡ 0 → Room s measures₀
@@ -277,31 +312,31 @@ module _ (s measures₀ : List ℕ) where
       → Decoded s measures₀ defines measures p → JudgedParts s room measures p r
       → Asked s measures₀ room defines measures r
   all-answers room defines measures p r d g =
-      record { answer = g .answer; good = λ z. record { parts = p; decoded = d; good = g .good z } }
+      record { answer = g .answer; offset = g .offset; good = λ z. record { parts = p; decoded = d; good = g .good z } }
 
 -- ---- how much to lend
 
 -- the room's answer by the query's and the rows'
 room-refused : (q : List ℕ) (bad : Bool) → (queryAnswer q ≡ 0 → ⊥) → roomAnswer q bad ≡ queryAnswer q
 unfolding roomAnswer queryAnswer
-room-refused q bad d = lowest-before 1 (queryTests q) (bad ∷ []) d
+room-refused q bad d = first-before (queryTests q) ((10, bad) ∷ []) d
 
 room-by-rows : (q : List ℕ) (bad : Bool) → queryAnswer q ≡ 0 → roomAnswer q bad ≡ pick bad 10 0
-unfolding roomAnswer queryAnswer queryTests lowest
-room-by-rows q bad e = lowest-after 1 (queryTests q) (bad ∷ []) (omega arith) e
+unfolding roomAnswer queryAnswer firstOf
+room-by-rows q bad e = first-after (queryTests q) ((10, bad) ∷ []) (query-tests-refuse q) e
 
 module _ (q measures₀ room defines measures : List ℕ) (r : Query)
     (a : Asked q measures₀ room defines measures r) (rows : List ℤ) where
   abbrev refusedRoom : ℕ → A.Room
-  refusedRoom n = record { answer = n; places = 0; rows = 0 }
+  refusedRoom n = record { answer = n; places = 0; rows = 0; offset = offsetAt (textOf q) n }
 
   room-not : (n : ℕ) → (n ≡ 0 → ⊥) → roomAnswer q (badRows q rows) ≡ n → refusedRoom n ≡ roomOf q rows
   unfolding roomOf
   room-not n d e = rw (e, ne-eqb n 0 d)
 
-  pub query-refuses : (x : Size) → (r .answer ≡ 0 → ⊥) → x ≡ record { answer = r .answer; places = 0; rows = 0 } → asRoom x ≡ roomOf q rows
+  pub query-refuses : (x : Size) → (r .answer ≡ 0 → ⊥) → x ≡ record { answer = r .answer; places = 0; rows = 0; offset = r .offset } → asRoom x ≡ roomOf q rows
   query-refuses x d e =
-      ap asRoom e ∙ room-not (r .answer) d (room-refused q (badRows q rows) (λ z. d (a .answer ∙ z)) ∙ sym (a .answer))
+      ap asRoom (e ∙ ap (λ (k : ℕ). record { answer = r .answer; places = 0; rows = 0; offset = k }) (a .offset)) ∙ room-not (r .answer) d (room-refused q (badRows q rows) (λ z. d (a .answer ∙ z)) ∙ sym (a .answer))
 
   module _ (z : r .answer ≡ 0) where
     abbrev whole : Whole q measures₀ room defines measures r
@@ -320,12 +355,12 @@ module _ (q measures₀ room defines measures : List ℕ) (r : Query)
     ten : badRows q rows ≡ true → refusedRoom 10 ≡ roomOf q rows
     ten t = room-not 10 (λ e. omega arith) (rows-answer ∙ ap (λ (b : Bool). pick b 10 0) t)
 
-    pub ragged-refused : (x : Size) → (length rows % r .columns ≡ 0 → ⊥) → x ≡ record { answer = 10; places = 0; rows = 0 } → asRoom x ≡ roomOf q rows
-    unfolding badRows
+    pub ragged-refused : (x : Size) → (length rows % r .columns ≡ 0 → ⊥) → x ≡ record { answer = 10; places = 0; rows = 0; offset = 0 } → asRoom x ≡ roomOf q rows
+    unfolding badRows offsetAt
     ragged-refused x d i = ap asRoom i ∙ ten (rw (← the-columns, ne-eqb (length rows % r .columns) 0 d))
 
-    pub many-refused : (x : Size) → 4096 < length rows / r .columns → x ≡ record { answer = 10; places = 0; rows = 0 } → asRoom x ≡ roomOf q rows
-    unfolding badRows tableOf
+    pub many-refused : (x : Size) → 4096 < length rows / r .columns → x ≡ record { answer = 10; places = 0; rows = 0; offset = 0 } → asRoom x ≡ roomOf q rows
+    unfolding badRows tableOf offsetAt
     many-refused x h i = ap asRoom i ∙ ten (rw (← the-columns, lt-ltb 4096 (length rows / r .columns) h) (or-true (not (eqb (length rows % r .columns) 0))))
       where
         or-true : (b : Bool) → (b || true) ≡ true
@@ -333,7 +368,7 @@ module _ (q measures₀ room defines measures : List ℕ) (r : Query)
         or-true false = refl
 
     pub room-given : length rows % r .columns ≡ 0 → length rows / r .columns ≤ 4096
-        → asRoom (record { answer = 0; places = r .places; rows = length rows / r .columns }) ≡ roomOf q rows
+        → asRoom (record { answer = 0; places = r .places; rows = length rows / r .columns; offset = 0 }) ≡ roomOf q rows
     unfolding badRows tableOf roomOf
     room-given e h =
         let b : badRows q rows ≡ false = rw (← the-columns, e, le-ltb 4096 (length rows / r .columns) h) in

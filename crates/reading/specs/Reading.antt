@@ -1,4 +1,4 @@
--- What reading a query leaves: its answer 1 to 9 by the rules' tests, and where it is 0 the pattern's tree in the lent words, and in the lent arrays where
+-- What reading a query leaves: its answer 1 to 9 or 14 by the rules' tests, with its offset, and where it is 0 the pattern's tree in the lent words, and in the lent arrays where
 -- the DEFINE of each letter stands in the query and the measures (decode's specs/Layout says how); and how much to lend.
 use mathlib.Core.Path.{_≡_}
 use mathlib.Core.Bool.{Bool, not, _&&_, _||_}
@@ -12,7 +12,7 @@ use Rattle.rules.specs.Query.{Measure, doubled, textOf, parts}
 use Rattle.query.specs.Order.{firstAnswer}
 use Rattle.rules.specs.Language.{Tree, pattern}
 use Rattle.rules.specs.Answers as A
-use Rattle.rules.specs.Answers.{lowest, queryTests, treeIn, P}
+use Rattle.rules.specs.Answers.{firstOf, queryTests, offsetAt, treeIn, P}
 use Rattle.pattern.specs.Held.{Top}
 use Rattle.measure_list.specs.Measures.{measureIn, measuresIn, Fits}
 use Rattle.decode.specs.Layout.{Decoded}
@@ -29,13 +29,13 @@ unfoldable pub foreignIn : List ℕ → List ℕ → ℕ → Bool
 unfolding every knownIn measuresIn
 foreignIn text measures count = not (every (λ (m : Measure). knownIn text (m .letter)) (measuresIn measures count))
 
--- the answer 1 to 9 of a query, or 0
+-- the answer 1 to 9 or 14 of a query, or 0
 unfoldable pub queryAnswer : List ℕ → ℕ
-unfolding lowest queryTests
-queryAnswer s = lowest 1 (queryTests s)
+unfolding firstOf queryTests
+queryAnswer s = firstOf (queryTests s)
 
-abbrev pub refusal : ℕ → Query
-refusal a = record { answer = a; places = 0; top = 0; columns = 0; skip = 0; measures = 0; letters = 0 }
+abbrev pub refusal : ℕ → ℕ → Query
+refusal a k = record { answer = a; offset = k; places = 0; top = 0; columns = 0; skip = 0; measures = 0; letters = 0 }
 
 -- what judging the parts asks: the query has no answer 1 to 3, the parts and measures are the query's, it is told whether two DEFINEs are for one letter,
 -- and there is room for the tree
@@ -63,9 +63,10 @@ pub record GoodParts (s room : List ℕ) (p : Parts) (r : Query) : Type 0 where
 
 pub record JudgedParts (s room measures : List ℕ) (p : Parts) (r : Query) : Type 0 where
   pub answer : r .answer ≡ queryAnswer s
+  pub offset : r .offset ≡ offsetAt (textOf s) (r .answer)
   pub good : r .answer ≡ 0 → GoodParts s room p r
 
--- a query with no answer 1 to 9: its tree stands in the room, and its parts in the arrays
+-- a query with no answer: its tree stands in the room, and its parts in the arrays
 pub record Whole (s measures₀ room defines measures : List ℕ) (r : Query) : Type 0 where
   pub parts : Parts
   pub decoded : Decoded s measures₀ defines measures parts
@@ -93,8 +94,9 @@ pub record Space (s room measures : List ℕ) : Type 0 where
 -- what `read_query` promises
 pub record Asked (s measures₀ room defines measures : List ℕ) (r : Query) : Type 0 where
   pub answer : r .answer ≡ queryAnswer s
+  pub offset : r .offset ≡ offsetAt (textOf s) (r .answer)
   pub good : r .answer ≡ 0 → Whole s measures₀ room defines measures r
 
 -- the room that a caller is told, as the rules have it
 abbrev pub asRoom : Size → A.Room
-asRoom r = record { answer = r .answer; places = r .places; rows = r .rows }
+asRoom r = record { answer = r .answer; places = r .places; rows = r .rows; offset = r .offset }

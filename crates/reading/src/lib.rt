@@ -3,9 +3,10 @@ ghost use mathlib.Core.Path.{_≡_};
 ghost use Prim.Native.Nat.{_≤_};
 ghost use Rattle.reading.specs.Reading.{knownIn, foreignIn, refusal, shortText};
 
-// What a query asks: its answer 1 to 9, or 0; where it is 0, P, the top node of its pattern's tree, and its parts, with a number from which on no letter has a DEFINE.
+// What a query asks: its answer 1 to 9 or 14, with the offset of 5 and 14, or 0; where it is 0, P, the top node of its pattern's tree, and its parts, with a number from which on no letter has a DEFINE.
 pub struct Query {
     pub answer: usize,
+    pub offset: usize,
     pub places: usize,
     pub top: usize,
     pub columns: usize,
@@ -14,11 +15,12 @@ pub struct Query {
     pub letters: usize,
 }
 
-// How much to lend: the answer 1 to 10, or 0 with P and n.
+// How much to lend: the answer 1 to 10 or 14, with the offset of 5 and 14, or 0 with P and n.
 pub struct Size {
     pub answer: usize,
     pub places: usize,
     pub rows: usize,
+    pub offset: usize,
 }
 
 // Whether a measure's letter stands in the pattern's text, or is 0 for all rows.
@@ -47,11 +49,12 @@ pub fn has_foreign(text: &[u8], measures: &[u8; 24], count: usize) -> bool
     false
 }
 
-pub fn refused(answer: usize) -> Query
-    ensures { λ r. ⌜ r ≡ refusal answer ⌝ }
+pub fn refused(answer: usize, offset: usize) -> Query
+    ensures { λ r. ⌜ r ≡ refusal answer offset ⌝ }
 {
     Query {
         answer,
+        offset,
         places: 0,
         top: 0,
         columns: 0,
@@ -61,13 +64,14 @@ pub fn refused(answer: usize) -> Query
     }
 }
 
-pub fn no_room(answer: usize) -> Size
-    ensures { λ r. ⌜ r ≡ record { answer = answer; places = 0; rows = 0 } ⌝ }
+pub fn no_room(answer: usize, offset: usize) -> Size
+    ensures { λ r. ⌜ r ≡ record { answer = answer; places = 0; rows = 0; offset = offset } ⌝ }
 {
     Size {
         answer,
         places: 0,
         rows: 0,
+        offset,
     }
 }
 

@@ -1,4 +1,4 @@
-// A query read whole: its answer 1 to 9 or 0, the tree of its pattern in lent words, and in lent arrays where the DEFINE of each letter stands in the query
+// A query read whole: its answer 1 to 9 or 14, with its offset, or 0, the tree of its pattern in lent words, and in lent arrays where the DEFINE of each letter stands in the query
 // and the measures (`read_query`); whether its text is short, by which a caller chooses the words for the tree (`text_is_short`); and how much a caller has
 // to lend for it on some rows (`room`). Comparisons stay in the query's bytes. For all bytes and rows; the promises are equations with document 01's
 // definitions.
@@ -13,7 +13,7 @@ ghost use mathlib.Core.Path.{_≡_};
 ghost use Rattle.rules.specs.Answers.{roomOf};
 ghost use Rattle.reading.specs.Reading.{JudgeRoom, JudgedParts, Nodes, Space, Asked, asRoom};
 
-// The pattern of a query with no answer 1 to 3 judged, then its DEFINEs and measures: answers 4 to 9. Whether two DEFINEs are for one letter (8) was told
+// The pattern of a query with no answer 1 to 3 judged, then its DEFINEs and measures: answers 4 to 9 and 14. Whether two DEFINEs are for one letter (8) was told
 // when the parts were decoded.
 fn judge_parts(s: &[u8], parts: Parts, room: &mut [u16], measures: &[u8; 24]) -> Query
     requires { ⌜ JudgeRoom (now s) (now room) (now measures) parts ⌝ }
@@ -24,16 +24,17 @@ fn judge_parts(s: &[u8], parts: Parts, room: &mut [u16], measures: &[u8; 24]) ->
     let v = judge::judge(&s[start..end], room);
     let answer = v.answer;
     if answer != 0 {
-        return refused(answer);
+        return refused(answer, v.offset);
     }
     if parts.twice {
-        return refused(8);
+        return refused(8, 0);
     }
     if has_foreign(&s[start..end], measures, parts.measures) {
-        return refused(9);
+        return refused(9, 0);
     }
     Query {
         answer: 0,
+        offset: 0,
         places: v.places,
         top: v.top,
         columns: parts.columns,
@@ -55,7 +56,7 @@ pub fn read_query(
 {
     let first = query::first_answer(s);
     if first != 0 {
-        return refused(first);
+        return refused(first, 0);
     }
     let parts = decode::decode(s, defines, measures);
     judge_parts(s, parts, room, measures)
@@ -71,20 +72,21 @@ fn room_in(nodes: &mut [u16], query: &[u8], rows: &[i32]) -> Size
     let q = read_query(query, nodes, &mut defines, &mut measures);
     let answer = q.answer;
     if answer != 0 {
-        return no_room(answer);
+        return no_room(answer, q.offset);
     }
     let columns = q.columns;
     let n = rows.len() / columns;
     if rows.len() % columns != 0 {
-        return no_room(10);
+        return no_room(10, 0);
     }
     if 4096 < n {
-        return no_room(10);
+        return no_room(10, 0);
     }
     Size {
         answer: 0,
         places: q.places,
         rows: n,
+        offset: 0,
     }
 }
 

@@ -1,4 +1,4 @@
--- What is known of an accepted search: none of the tests for 1 to 12 is true, so the pattern has a tree, P is 1 to 256, the rows are whole and at most
+-- What is known of an accepted search: none of the tests for 1 to 12 and 14 is true, so the pattern has a tree, P is 1 to 256, the rows are whole and at most
 -- 4,096, and the notes and the trail are long enough. Everything that an implementation may rely on follows from these.
 use mathlib.Core.Path.{_≡_, refl, sym, _∙_}
 use mathlib.Core.Bool.{Bool, true, false, not, true≢false}
@@ -10,24 +10,25 @@ use lib.Dec.{ltb}
 use lib.IntN.{ℤ}
 use lib.ListN.{length, getD}
 use borrow.Author.Tests.{le-leb, ltb-false, eqb-true}
-use Rattle.rules.specs.Basics.{pick, inRange}
+use Rattle.rules.specs.Basics.{pick, every}
 use Rattle.rules.specs.Rows.{tableOf}
-use Rattle.rules.specs.Query.{cut, misplaced, unfit, doubled, columnsOf}
+use Rattle.rules.specs.Query.{cut, misplaced, unfit, doubled, columnsOf, textOf}
 use Rattle.rules.specs.Language.{Tree, pattern, emptyLoop}
 use Rattle.rules.specs.Places.{unroll, places, placesOf}
 use Rattle.rules.specs.Walk.{pairs}
 use Rattle.rules.specs.Report.{bytesFor}
-use Rattle.rules.specs.Answers.{placesIn, taskOf, tooDeep, treeIn, noTree, hasEmptyLoop, P, tooMany, foreign, badRows, Buffers, pairsOf, shortNotes, shortTrail, stopped, lowest, queryTests, answerBy, walkOf, answerOf}
+use Rattle.rules.specs.Answers.{placesIn, taskOf, tooDeep, treeIn, noTree, hasEmptyLoop, P, tooMany, foreign, badRows, Buffers, pairsOf, shortNotes, shortTrail, stopped, Test, wrong, unfinished, firstOf, refuses, queryTests, answerBy, walkOf, answerOf}
 use Rattle.rules.proofs.Level.{or-false}
-use Rattle.rules.proofs.Lowest.{lowest-after, none-before, none-true}
+use Rattle.rules.proofs.Stops.{tree-there}
+use Rattle.rules.proofs.FirstTrue.{allRefuse, first-after, none-before, none-true}
 
--- the input is accepted: its answer is none of 1 to 12
+-- the input is accepted: its answer is 0 or 13
 abbrev pub Accepted : List ℕ → List ℤ → Buffers → Type 0
-Accepted q rows lent = inRange 1 12 (answerOf q rows lent) ≡ false
+Accepted q rows lent = refuses (answerOf q rows lent) ≡ false
 
 -- done is 0, and stopped is 13
-pub done-or-stopped : (s : Bool) → inRange 1 12 (pick s 13 0) ≡ false
-unfolding inRange
+pub done-or-stopped : (s : Bool) → refuses (pick s 13 0) ≡ false
+unfolding refuses
 done-or-stopped true = refl
 done-or-stopped false = refl
 
@@ -48,6 +49,11 @@ pub record Granted (q : List ℕ) (rows : List ℤ) (lent : Buffers) : Type 0 wh
   pub notes-long : bytesFor (pairs (placesOf tree) (tableOf (columnsOf q) rows .n)) ≤ length (lent .notes)
   pub trail-long : pairs (placesOf tree) (tableOf (columnsOf q) rows .n) ≤ length (lent .trail)
 
+-- the tests that ask the query alone all stand for refusals
+pub query-tests-refuse : (q : List ℕ) → allRefuse (queryTests q) ≡ true
+unfolding allRefuse every refuses queryTests
+query-tests-refuse q = refl
+
 pub tree-of : (t : Option (Tree pattern)) → noTree t ≡ false → (p : Tree pattern) × (t ≡ some p)
 unfolding noTree
 tree-of none e = absurd (true≢false e)
@@ -58,34 +64,34 @@ not-false-is true e = refl
 not-false-is false e = absurd (true≢false e)
 
 module _ (q : List ℕ) (rows : List ℤ) (lent : Buffers) (ok : Accepted q rows lent) where
-  -- the tests for answers 1 to 12
-  abbrev twelve : List Bool
-  twelve = queryTests q ++ (badRows q rows ∷ shortNotes q rows lent ∷ shortTrail q rows lent ∷ [])
+  -- the tests for answers 1 to 12 and 14
+  abbrev refusals : List Test
+  refusals = queryTests q ++ ((10, badRows q rows) ∷ (11, shortNotes q rows lent) ∷ (12, shortTrail q rows lent) ∷ [])
 
-  none-of-twelve : lowest 1 twelve ≡ 0
-  unfolding answerOf answerBy queryTests inRange
-  none-of-twelve =
-      none-before 1 twelve (stopped (walkOf q rows lent) ∷ [])
-      (λ lo hi.
-      let t : inRange 1 12 (answerOf q rows lent) ≡ true = rw (le-leb 1 (answerOf q rows lent) lo, le-leb (answerOf q rows lent) 12 (omega arith)) in
-      true≢false (sym t ∙ ok))
+  all-refuse : allRefuse refusals ≡ true
+  unfolding allRefuse every refuses queryTests
+  all-refuse = refl
+
+  none-refuses : firstOf refusals ≡ 0
+  unfolding answerOf answerBy queryTests
+  none-refuses = none-before refusals ((13, stopped (walkOf q rows lent)) ∷ []) all-refuse ok
 
   -- the answer is 13 where the search is stopped, and 0 where it is done
   pub answer-is : answerOf q rows lent ≡ pick (stopped (walkOf q rows lent)) 13 0
-  unfolding answerOf answerBy queryTests lowest
-  answer-is = lowest-after 1 twelve (stopped (walkOf q rows lent) ∷ []) (omega arith) none-of-twelve
+  unfolding answerOf answerBy queryTests firstOf
+  answer-is = first-after refusals ((13, stopped (walkOf q rows lent)) ∷ []) all-refuse none-refuses
 
-  -- the test for answer n is the one at n - 1
+  -- no test is true: those for answers 1 to 5, 14, 6 to 12, in this order
   pub granted : Granted q rows lent
   unfolding queryTests hasEmptyLoop tooMany P badRows shortNotes shortTrail pairsOf
   granted =
-      let no : (i : ℕ) → getD twelve i false ≡ false = none-true 1 twelve (omega arith) none-of-twelve in
-      let t = tree-of (treeIn q) (no 4) in
-      let r = or-false _ _ (no 9) in
-      let z6 : hasEmptyLoop (treeIn q) ≡ false = no 5 in
-      let z7 : tooMany (treeIn q) ≡ false = no 6 in
-      let z11 : ltb (length (lent .notes)) (bytesFor (pairs (P (treeIn q)) (tableOf (columnsOf q) rows .n))) ≡ false = no 10 in
-      let z12 : ltb (length (lent .trail)) (pairs (P (treeIn q)) (tableOf (columnsOf q) rows .n)) ≡ false = no 11 in
+      let no : (i : ℕ) → getD refusals i (0, false) .1 ≡ false = none-true refusals all-refuse none-refuses in
+      let t = tree-of (treeIn q) (tree-there (textOf q) (no 4) (no 5)) in
+      let r = or-false _ _ (no 10) in
+      let z6 : hasEmptyLoop (treeIn q) ≡ false = no 6 in
+      let z7 : tooMany (treeIn q) ≡ false = no 7 in
+      let z11 : ltb (length (lent .notes)) (bytesFor (pairs (P (treeIn q)) (tableOf (columnsOf q) rows .n))) ≡ false = no 11 in
+      let z12 : ltb (length (lent .trail)) (pairs (P (treeIn q)) (tableOf (columnsOf q) rows .n)) ≡ false = no 12 in
       record {
         whole = no 0;
         ordered = no 1;
@@ -95,8 +101,8 @@ module _ (q : List ℕ) (rows : List ℤ) (lent : Buffers) (ok : Accepted q rows
         has-tree = t .1;
         no-empty-loop = rw (t .1) at z6;
         few = ltb-false _ _ (rw (t .1) at z7);
-        single = no 7;
-        known = no 8;
+        single = no 8;
+        known = no 9;
         rows-whole = eqb-true _ _ (not-false-is _ (r .0));
         rows-few = ltb-false _ _ (r .1);
         notes-long = ltb-false _ _ (rw (t .1) at z11);

@@ -16,7 +16,7 @@ use Rattle.rules.proofs.GrammarComplete.{spaces-length, mark-longer}
 
 -- ---- what is left is shorter
 
-skip-shorter : (s : List ℕ) → length (skip s) ≤ length s
+pub skip-shorter : (s : List ℕ) → length (skip s) ≤ length s
 skip-shorter s =
     let k = skipped s in
     let e : length s ≡ length (spaces (k .0) (skip s)) = ap length (k .1) in
@@ -32,18 +32,18 @@ byte-shorter : (s : List ℕ) (b : ℕ) → 1 ≤ b → eqb (peek s) b ≡ true 
 byte-shorter s b h e = rest-shorter s b h (eqb-true (peek s) b e)
 
 unfoldable pub Shorter : {A : Type 0} → List ℕ → Reading A → Type 0
-Shorter s bad = Unit {0}
+Shorter s (bad v) = Unit {0}
 Shorter s (got x u) = length u < length s
 
 under-shorter : {A B : Type 0} (f : A → B) (s u : List ℕ) (r : Reading A) → length u ≤ length s → Shorter u r → Shorter s (under f r)
 unfolding Shorter under
-under-shorter f s u bad l h = tt
+under-shorter f s u (bad w) l h = tt
 under-shorter f s u (got x v) l h = omega arith
 
 alt-shorter : (again : List ℕ → Reading (Tree pattern)) (s : List ℕ) (r : Reading (Tree branch))
     → ((u : List ℕ) → Shorter u (again u)) → Shorter s r → Shorter s (altWith again r)
 unfolding Shorter altWith altOn
-alt-shorter again s bad f h = tt
+alt-shorter again s (bad w) f h = tt
 alt-shorter again s (got b u) f h = on (eqb (peek u) 124) refl
   where
     on : (t : Bool) → eqb (peek u) 124 ≡ t → Shorter s (altOn t again b u)
@@ -54,7 +54,7 @@ alt-shorter again s (got b u) f h = on (eqb (peek u) 124) refl
 seq-shorter : (again : List ℕ → Reading (Tree branch)) (s : List ℕ) (r : Reading (Tree factor))
     → ((u : List ℕ) → Shorter u (again u)) → Shorter s r → Shorter s (seqWith again r)
 unfolding Shorter seqWith seqOn
-seq-shorter again s bad f h = tt
+seq-shorter again s (bad w) f h = tt
 seq-shorter again s (got b u) f h = on (ended (peek u))
   where
     on : (t : Bool) → Shorter s (seqOn t again b u)
@@ -63,12 +63,12 @@ seq-shorter again s (got b u) f h = on (ended (peek u))
 
 times-shorter : (s : List ℕ) (r : Reading (Tree primary)) → Shorter s r → Shorter s (timesWith r)
 unfolding Shorter timesWith timesOn
-times-shorter s bad h = tt
+times-shorter s (bad w) h = tt
 times-shorter s (got x u) h = on (quantifier u) refl
   where
     on : (m : Marked) → quantifier u ≡ m → Shorter s (timesOn x u m)
     on unmarked e = h
-    on broken e = tt
+    on (broken v) e = tt
     on (marked f z v) e =
         let k = marked-spelled u f z v e in
         let l : length u ≡ length (spell (aMark f z) (spaces (k .0) v)) = ap length (k .2) in
@@ -76,7 +76,7 @@ times-shorter s (got x u) h = on (quantifier u) refl
 
 closed-shorter : (s u : List ℕ) (r : Reading (Tree pattern)) → length u ≤ length s → Shorter u r → Shorter s (closed r)
 unfolding Shorter closed
-closed-shorter s u bad l h = tt
+closed-shorter s u (bad w) l h = tt
 closed-shorter s u (got p v) l h = pick-both (Shorter s) (eqb (peek v) 41) _ _ (λ e. omega (arith, byte-shorter v 41 (omega arith) e)) (λ e. tt)
 
 simple-shorter : (s : List ℕ) → Shorter s (simple s)
@@ -114,7 +114,7 @@ read-shorter (suc n) primary s = primary-shorter (read n pattern) s (read-shorte
 alt-same : (f g : List ℕ → Reading (Tree pattern)) (s : List ℕ) (r : Reading (Tree branch)) → Shorter s r
     → ((u : List ℕ) → length u < length s → f u ≡ g u) → altWith f r ≡ altWith g r
 unfolding Shorter altWith altOn
-alt-same f g s bad h e = refl
+alt-same f g s (bad w) h e = refl
 alt-same f g s (got b u) h e = on (eqb (peek u) 124) refl
   where
     on : (t : Bool) → eqb (peek u) 124 ≡ t → altOn t f b u ≡ altOn t g b u
@@ -124,7 +124,7 @@ alt-same f g s (got b u) h e = on (eqb (peek u) 124) refl
 seq-same : (f g : List ℕ → Reading (Tree branch)) (s : List ℕ) (r : Reading (Tree factor)) → Shorter s r
     → ((u : List ℕ) → length u < length s → f u ≡ g u) → seqWith f r ≡ seqWith g r
 unfolding Shorter seqWith seqOn
-seq-same f g s bad h e = refl
+seq-same f g s (bad w) h e = refl
 seq-same f g s (got b u) h e = on (ended (peek u))
   where
     on : (t : Bool) → seqOn t f b u ≡ seqOn t g b u

@@ -7,12 +7,12 @@ use mathlib.Core.List.{List, [], _∷_}
 use mathlib.Core.Option.{some}
 use Prim.Native.Nat.{ℕ, zero, suc, _+_, _*_, _-_, _/_, _%_, _≤_, _<_}
 use native.Mathlib.Omega.{arith}
-use lib.Dec.{eqb, ltb}
+use lib.Dec.{eqb, ltb, leb}
 use lib.ListN.{length}
 use borrow.Author.Tests.{ltb-true, ltb-false, le-leb, eq-eqb, ne-eqb}
 use Rattle.rules.specs.Basics.{pick, isLetter}
 use Rattle.rules.specs.Language.{Form, star, plus, opt, exactly, atLeast, atMost, between, InBounds, Rank, pattern, branch, factor, primary, Tree, one, more, last, next, bare, times, letter, caret, dollar, empty, group, Token, aLetter, aCaret, aDollar, opening, closing, aBar, aMark, tokens, digits, mark, spell, Proper, lettered, letterFirst, spaces, Laid, Written}
-use Rattle.rules.specs.Reader.{Reading, got, peek, rest, skip, isDigit, number, bounded, marked, reluctant, shut, upTo, from, braces, quantifier, ended, under, altOn, altWith, seqOn, seqWith, timesOn, timesWith, closed, parted, simple, primaryOn, read, rankOf, depth, whole, treeOf}
+use Rattle.rules.specs.Reader.{Reading, got, peek, rest, skip, isDigit, number, enough, reaching, bounded, marked, reluctant, shut, upTo, from, braces, quantifier, ended, under, altOn, altWith, seqOn, seqWith, timesOn, timesWith, closed, parted, simple, primaryOn, read, rankOf, depth, whole, treeOf}
 use Rattle.rules.proofs.GrammarSound.{range-in, letter-in}
 
 -- ---- what may follow: a phrase of a rank is followed by the end, or by a token of at least that class
@@ -207,6 +207,24 @@ number-finds n c s h d = go (ltb n 10) refl
         let d₂ = a-digit (48 + n % 10) (omega arith) (omega arith) in
         simp (d₁, d₂, ne-eqb (48 + n / 10) 48 (λ z. omega arith)) (ap (λ (x : ℕ). got x (c ∷ s)) v)
 
+-- the first digit of a number from 1 to 99
+first-digit : (m : ℕ) (s : List ℕ) → 1 ≤ m → m ≤ 99 → (49 ≤ peek (digits m s)) × (peek (digits m s) ≤ 57) × (m ≤ 10 * (peek (digits m s) - 48) + 9)
+unfolding digits peek
+first-digit m s l h = go (ltb m 10) refl
+  where
+    go : (t : Bool) → ltb m 10 ≡ t
+        → (49 ≤ peek (pick t ((48 + m) ∷ s) ((48 + m / 10) ∷ (48 + m % 10) ∷ s))) × (peek (pick t ((48 + m) ∷ s) ((48 + m / 10) ∷ (48 + m % 10) ∷ s)) ≤ 57)
+        × (m ≤ 10 * (peek (pick t ((48 + m) ∷ s) ((48 + m / 10) ∷ (48 + m % 10) ∷ s)) - 48) + 9)
+    go true e = let k = ltb-true m 10 e in (omega arith, omega arith, omega arith)
+    go false e = let k = ltb-false m 10 e in (omega arith, omega arith, omega arith)
+
+reaching-finds : (n m c : ℕ) (s : List ℕ) → 1 ≤ m → n ≤ m → m ≤ 99 → isDigit c ≡ false → reaching n (digits m (c ∷ s)) ≡ got m (c ∷ s)
+unfolding reaching enough
+reaching-finds n m c s l r h d =
+    let f = first-digit m (c ∷ s) l h in
+    let a : leb n (10 * (peek (digits m (c ∷ s)) - 48) + 9) ≡ true = le-leb n (10 * (peek (digits m (c ∷ s)) - 48) + 9) (omega (arith, f .2)) in
+    simp (range-in 49 57 (peek (digits m (c ∷ s))) (f .0) (f .1), a, number-finds m c s h d, le-leb n m r)
+
 in-bounded : (f : Form) → InBounds f → bounded f ≡ true
 unfolding bounded InBounds
 in-bounded star h = refl
@@ -244,10 +262,10 @@ mark-finds plus s h = refl
 mark-finds opt s h = refl
 mark-finds (exactly n) s h = simp (no-comma n (125 ∷ s), number-finds n 125 s (h .1) refl) (shut-finds exactly n s h)
 mark-finds (atLeast n) s h = simp (no-comma n (44 ∷ 125 ∷ s), number-finds n 44 (125 ∷ s) h refl, le-leb n 99 h)
-mark-finds (atMost m) s h = simp (number-finds m 125 s (h .1) refl) (shut-finds atMost m s h)
+mark-finds (atMost m) s h = simp (reaching-finds 1 m 125 s (h .0) (h .0) (h .1) refl) (shut-finds atMost m s h)
 mark-finds (between n m) s h =
     let e = number-finds n 44 (digits m (125 ∷ s)) (omega (arith, h .1, h .2)) refl in
-    simp (no-comma n (44 ∷ digits m (125 ∷ s)), e, no-brace m (125 ∷ s) (h .2), number-finds m 125 s (h .2) refl) (shut-finds (between n) m s h)
+    simp (no-comma n (44 ∷ digits m (125 ∷ s)), e, no-brace m (125 ∷ s) (h .2), reaching-finds n m 125 s (h .0) (h .1) (h .2) refl) (shut-finds (between n) m s h)
 
 quantifier-finds : (f : Form) (z : Bool) (n : ℕ) (r : List ℕ) → InBounds f → (peek r ≡ 32 → ⊥) → (peek r ≡ 63 → ⊥) → quantifier (spell (aMark f z) (spaces n r)) ≡ marked f z r
 unfolding spell reluctant peek rest

@@ -35,7 +35,9 @@ pub mod QueryFuel
 pub mod Notes
 pub mod Noted
 pub mod NotesWritten
-pub mod Lowest
+pub mod Ahead
+pub mod Stops
+pub mod FirstTrue
 pub mod Accepted
 pub mod Limits
 pub mod Appended

@@ -11,7 +11,7 @@ use native.Mathlib.Omega.{arith}
 use Rattle.rules.specs.Basics.{pick, bytes}
 use Rattle.rules.specs.Language.{star, plus, opt, between, Tree, pattern, one, more, last, next, bare, times, letter, caret, empty, group, Token, aLetter, aCaret, aDollar, opening, closing, aBar, aMark, tokens, spell, letterFirst, Written}
 use Rattle.rules.specs.Reader.{treeOf}
-use Rattle.rules.specs.Answers.{deep, noTree, hasEmptyLoop, tooMany}
+use Rattle.rules.specs.Answers.{deep, wrong, unfinished, offsetAt, hasEmptyLoop, tooMany}
 use Rattle.rules.proofs.Grammar.{tree-exactly, outside-exactly}
 
 infix 5 _⇒_
@@ -212,11 +212,11 @@ trees-hold = refl
 
 -- ---- answers
 
--- the lowest of answers 4 to 7 that applies to a text, else 0
+-- the first of answers 4, 5, 14, 6 and 7 that applies to a text, else 0
 unfoldable pub answerOf : List ℕ → ℕ
-unfolding deep noTree hasEmptyLoop tooMany treeOf
+unfolding deep wrong unfinished hasEmptyLoop tooMany treeOf
 answerOf s =
-    pick (deep 0 0 s) 4 (pick (noTree (treeOf s)) 5 (pick (hasEmptyLoop (treeOf s)) 6 (pick (tooMany (treeOf s)) 7 0)))
+    pick (deep 0 0 s) 4 (pick (wrong s) 5 (pick (unfinished s) 14 (pick (hasEmptyLoop (treeOf s)) 6 (pick (tooMany (treeOf s)) 7 0))))
 
 unfoldable pub answerTable : List (String × ℕ)
 answerTable =
@@ -227,9 +227,9 @@ answerTable =
     ∷ (")(((((((((", 5)
     ∷ (")((((((((((", 4)
     ∷ ("A**|(((((((((A)))))))))", 4)
-    -- 5: outside the language
-    ∷ ("", 5)
-    ∷ (" ", 5)
+    -- 5 and 14: outside the language
+    ∷ ("", 14)
+    ∷ (" ", 14)
     ∷ ("\t", 5)
     ∷ ("^**", 5)
     -- 6: an unbounded quantifier over a body that can take no row
@@ -257,3 +257,70 @@ answerTable =
 pub answers-hold : map (λ r. answerOf (bytes (r .0))) answerTable ≡ map (λ r. r .1) answerTable
 unfolding answerOf bytes answerTable
 answers-hold = refl
+
+-- ---- where a text is wrong: the answer and its offset
+
+unfoldable pub offsetTable : List (String × (ℕ × ℕ))
+offsetTable =
+    -- a text that ends but could go on: 14, with its length
+    ("", (14, 0))
+    ∷ ("  ", (14, 2))
+    ∷ ("(", (14, 1))
+    ∷ ("( ", (14, 2))
+    ∷ ("(A", (14, 2))
+    ∷ ("A |", (14, 3))
+    ∷ ("(A | ", (14, 5))
+    ∷ ("A{", (14, 2))
+    ∷ ("A{,", (14, 3))
+    ∷ ("A{0", (14, 3))
+    ∷ ("A{99,", (14, 5))
+    ∷ ("((((((((", (14, 8))
+    -- a text that is wrong at a byte: 5, with that byte's offset
+    ∷ ("*", (5, 0))
+    ∷ ("|A", (5, 0))
+    ∷ ("A)", (5, 1))
+    ∷ ("AB", (5, 1))
+    ∷ ("A**", (5, 2))
+    ∷ ("A? ?", (5, 3))
+    ∷ ("A???", (5, 3))
+    ∷ ("A{2} ?", (5, 5))
+    ∷ ("A||B", (5, 2))
+    ∷ ("(A|)", (5, 3))
+    ∷ ("A\tB", (5, 1))
+    ∷ ("A \0", (5, 2))
+    ∷ ("a", (5, 0))
+    ∷ (")(((((((((", (5, 0))
+    ∷ ("^AB C", (5, 2))
+    -- inside braces
+    ∷ ("A{ 1}", (5, 2))
+    ∷ ("A{1 }", (5, 3))
+    ∷ ("A{,}", (5, 3))
+    ∷ ("A{,0}", (5, 3))
+    ∷ ("A{0}", (5, 3))
+    ∷ ("A{00}", (5, 3))
+    ∷ ("A{07}", (5, 3))
+    ∷ ("A{100}", (5, 4))
+    ∷ ("A{0,0}", (5, 4))
+    ∷ ("A{30,2", (5, 5))
+    ∷ ("A{3,2", (14, 5))
+    ∷ ("A{3,2}", (5, 5))
+    ∷ ("A{3,29", (14, 6))
+    ∷ ("A{99,98", (5, 6))
+    ∷ ("A{99,9", (14, 6))
+    ∷ ("A{25,2", (14, 6))
+    ∷ ("A{25,24", (5, 6))
+    ∷ ("A{25,2}", (5, 6))
+    ∷ ("A{3,1x", (5, 5))
+    ∷ ("A{3,100", (5, 6))
+    -- a text of the language, and one that is in order but for its depth
+    ∷ ("A{3,29}?", (0, 0))
+    ∷ ("(((((((((A)))))))))", (4, 0))
+    ∷ []
+
+unfoldable pub answered : String → ℕ × ℕ
+unfolding answerOf offsetAt bytes
+answered text = (answerOf (bytes text), offsetAt (bytes text) (answerOf (bytes text)))
+
+pub offsets-hold : map (λ r. answered (r .0)) offsetTable ≡ map (λ r. r .1) offsetTable
+unfolding answered offsetTable
+offsets-hold = refl

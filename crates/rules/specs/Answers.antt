@@ -1,17 +1,17 @@
--- Document 01, "Report", the table of answers: a test for each of 1 to 13 over the whole input, the lowest that applies, and from it the result
--- and the later content of all four lent buffers, as one function of all that goes in.
-use mathlib.Core.Bool.{Bool, true, false, not, _||_}
+-- Document 01, "Report", the table of answers, and request R-1, which parts 14 from 5: a test for each of 1 to 14 over the whole input, the first that
+-- applies, and from it the result and the later content of all four lent buffers, as one function of all that goes in.
+use mathlib.Core.Bool.{Bool, true, false, not, _&&_, _||_}
 use mathlib.Core.List.{List, [], _∷_, _++_}
 use mathlib.Core.Option.{Option, none, some}
-use Prim.Native.Nat.{ℕ, suc, _+_, _%_}
+use Prim.Native.Nat.{ℕ, _+_, _%_}
 use lib.Dec.{ltb, eqb}
 use lib.IntN.{ℤ}
 use lib.ListN.{length}
-use Rattle.rules.specs.Basics.{pick, inRange, every, has, wrote}
+use Rattle.rules.specs.Basics.{pick, every, has, wrote}
 use Rattle.rules.specs.Rows.{Table, tableOf, Comparison, holds}
 use Rattle.rules.specs.Query.{cut, misplaced, unfit, doubled, columnsOf, textOf, Measure, parts}
 use Rattle.rules.specs.Language.{Tree, pattern, emptyLoop, letters}
-use Rattle.rules.specs.Reader.{treeOf}
+use Rattle.rules.specs.Reader.{treeOf, stopOf}
 use Rattle.rules.specs.Places.{Place, unroll, places, placesOf}
 use Rattle.rules.specs.Walk.{pairs}
 use Rattle.rules.specs.Search.{Match, Swept, Kept, walkSearch, plainSearch}
@@ -35,10 +35,26 @@ unfoldable pub treeIn : List ℕ → Option (Tree pattern)
 unfolding treeOf textOf
 treeIn q = treeOf (textOf q)
 
--- Answer 5: the text is outside the pattern language
+-- The text is outside the pattern language
 unfoldable pub noTree : Option (Tree pattern) → Bool
 noTree none = true
 noTree (some t) = false
+
+-- Answer 5: it is so at some byte, after which no text of the language begins that way. Answer 14: it ends but could go on to a text of the language.
+-- `wrong-exactly` and `unfinished-exactly` (proofs/Stops) say that the tests are true exactly if the text is `WrongAt` some byte, which is then `stopOf`
+-- the text, or `Unfinished` (specs/Language).
+unfoldable pub wrong : List ℕ → Bool
+unfolding noTree treeOf stopOf
+wrong text = noTree (treeOf text) && ltb (stopOf text) (length text)
+
+unfoldable pub unfinished : List ℕ → Bool
+unfolding noTree treeOf stopOf
+unfinished text = noTree (treeOf text) && eqb (stopOf text) (length text)
+
+-- the offset that an answer returns with it: 5 that byte's, 14 the text's length, any other 0
+unfoldable pub offsetAt : List ℕ → ℕ → ℕ
+unfolding stopOf
+offsetAt text a = pick (eqb a 5 || eqb a 14) (stopOf text) 0
 
 -- Answer 6: an unbounded quantifier over a body that can take no row
 unfoldable pub hasEmptyLoop : Option (Tree pattern) → Bool
@@ -144,30 +160,39 @@ stopped r = isFull (r .full)
     isFull none = false
     isFull (some m) = true
 
--- the number of the first test that is true, the tests being numbered from k; 0 if none is
-unfoldable pub lowest : ℕ → List Bool → ℕ
-lowest k [] = 0
-lowest k (b ∷ bs) = pick b k (lowest (suc k) bs)
+-- a test with the answer that it stands for; and the answer of the first test that is true, 0 if none is
+abbrev pub Test : Type 0
+Test = ℕ × Bool
 
--- the tests for answers 1 to 9, which ask the query alone
-unfoldable pub queryTests : List ℕ → List Bool
-unfolding cut misplaced unfit tooDeep treeIn noTree hasEmptyLoop tooMany doubled foreign
+unfoldable pub firstOf : List Test → ℕ
+firstOf [] = 0
+firstOf (t ∷ ts) = pick (t .1) (t .0) (firstOf ts)
+
+-- the tests that ask the query alone, in their order: 5 and 14 exclude each other and stand where 5 stood
+unfoldable pub queryTests : List ℕ → List Test
+unfolding cut misplaced unfit tooDeep treeIn wrong unfinished hasEmptyLoop tooMany doubled foreign
 queryTests q =
-    cut q
-    ∷ misplaced q
-    ∷ unfit q
-    ∷ tooDeep q
-    ∷ noTree (treeIn q)
-    ∷ hasEmptyLoop (treeIn q)
-    ∷ tooMany (treeIn q)
-    ∷ doubled q
-    ∷ foreign q
+    (1, cut q)
+    ∷ (2, misplaced q)
+    ∷ (3, unfit q)
+    ∷ (4, tooDeep q)
+    ∷ (5, wrong (textOf q))
+    ∷ (14, unfinished (textOf q))
+    ∷ (6, hasEmptyLoop (treeIn q))
+    ∷ (7, tooMany (treeIn q))
+    ∷ (8, doubled q)
+    ∷ (9, foreign q)
     ∷ []
 
--- The lowest number that applies is given; each is judged over the whole query. The search is the one that is asked for, by either walk.
+-- The first that applies is given; each is judged over the whole query. The search is the one that is asked for, by either walk.
 unfoldable pub answerBy : {S : Type 0} → List ℕ → List ℤ → Buffers → Swept S → ℕ
-unfolding lowest queryTests badRows shortNotes shortTrail stopped
-answerBy q rows lent r = lowest 1 (queryTests q ++ (badRows q rows ∷ shortNotes q rows lent ∷ shortTrail q rows lent ∷ stopped r ∷ []))
+unfolding firstOf queryTests badRows shortNotes shortTrail stopped
+answerBy q rows lent r =
+    firstOf (queryTests q ++ ((10, badRows q rows) ∷ (11, shortNotes q rows lent) ∷ (12, shortTrail q rows lent) ∷ (13, stopped r) ∷ []))
+
+-- an answer accepts a search that ends as done (0) or stopped (13), and refuses any other
+unfoldable pub refuses : ℕ → Bool
+refuses a = not (eqb a 0 || eqb a 13)
 
 -- ---- the result and the buffers
 
@@ -196,21 +221,22 @@ pub record Result : Type 0 where
   pub matches : ℕ
   pub labels : ℕ
   pub steps : ℕ
+  pub offset : ℕ
 
 pub record Memory : Type 0 where
   pub result : Result
   pub buffers : Buffers
 
--- 1 to 12 return the number and zeros and change no buffer
-unfoldable pub refused : ℕ → Buffers → Memory
-refused a lent = record { result = record { answer = a; matches = 0; labels = 0; steps = 0 }; buffers = lent }
+-- 1 to 12 and 14 return the number and zeros, 5 and 14 an offset too, and change no buffer
+unfoldable pub refused : ℕ → ℕ → Buffers → Memory
+refused a k lent = record { result = record { answer = a; matches = 0; labels = 0; steps = 0; offset = k }; buffers = lent }
 
 -- 0 and 13 return the answer, the counts and the steps. The notes hold the failed pairs, the trail a 0 for each pair; beyond, both are unchanged.
 unfoldable pub accepted : Report → Kept → Buffers → Memory
 unfolding notesOf zeros wrote
 accepted r kept lent =
     record {
-      result = record { answer = r .answer; matches = r .matches; labels = r .labels; steps = kept .1 };
+      result = record { answer = r .answer; matches = r .matches; labels = r .labels; steps = kept .1; offset = 0 };
       buffers = record {
         notes = wrote (lent .notes) 0 (notesOf (kept .0));
         trail = wrote (lent .trail) 0 (zeros (length (kept .0)));
@@ -243,25 +269,27 @@ plainReport q rows lent = reportOf (answerBy q rows lent (plainOf q rows lent)) 
 
 -- The search: from the query, the rows and the lent buffers to the result and the buffers as it leaves them.
 unfoldable pub searchOf : List ℕ → List ℤ → Buffers → Memory
-unfolding answerOf refused accepted walkReport walkOf inRange
+unfolding answerOf refused offsetAt textOf accepted walkReport walkOf refuses
 searchOf q rows lent =
-    pick (inRange 1 12 (answerOf q rows lent)) (refused (answerOf q rows lent) lent) (accepted (walkReport q rows lent) (walkOf q rows lent .state) lent)
+    pick (refuses (answerOf q rows lent)) (refused (answerOf q rows lent) (offsetAt (textOf q) (answerOf q rows lent)) lent)
+    (accepted (walkReport q rows lent) (walkOf q rows lent .state) lent)
 
 -- ---- how much to lend
 
--- `room`: the answer 1 to 10 that a query and rows get whatever is lent, or 0; and where it is 0, P and n
+-- `room`: the answer 1 to 10 or 14 that a query and rows get whatever is lent, with its offset, or 0; and where it is 0, P and n
 pub record Room : Type 0 where
   pub answer : ℕ
   pub places : ℕ
   pub rows : ℕ
+  pub offset : ℕ
 
 unfoldable pub roomAnswer : List ℕ → Bool → ℕ
-unfolding lowest queryTests
-roomAnswer q bad = lowest 1 (queryTests q ++ (bad ∷ []))
+unfolding firstOf queryTests
+roomAnswer q bad = firstOf (queryTests q ++ ((10, bad) ∷ []))
 
 unfoldable pub roomOf : List ℕ → List ℤ → Room
-unfolding roomAnswer badRows treeIn P tableOf columnsOf
+unfolding roomAnswer badRows treeIn P tableOf columnsOf offsetAt textOf
 roomOf q rows =
     pick (eqb (roomAnswer q (badRows q rows)) 0)
-    (record { answer = 0; places = P (treeIn q); rows = tableOf (columnsOf q) rows .n })
-    (record { answer = roomAnswer q (badRows q rows); places = 0; rows = 0 })
+    (record { answer = 0; places = P (treeIn q); rows = tableOf (columnsOf q) rows .n; offset = 0 })
+    (record { answer = roomAnswer q (badRows q rows); places = 0; rows = 0; offset = offsetAt (textOf q) (roomAnswer q (badRows q rows)) })

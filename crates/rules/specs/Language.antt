@@ -4,8 +4,9 @@ use mathlib.Core.Path.{_≡_}
 use mathlib.Core.Bool.{Bool, true, false, _&&_, _||_}
 use mathlib.Core.List.{List, [], _∷_, _++_}
 use mathlib.Core.Option.{Option, none, some}
-use Prim.Native.Nat.{ℕ, zero, suc, _+_, _/_, _%_, _≤_}
+use Prim.Native.Nat.{ℕ, zero, suc, _+_, _/_, _%_, _≤_, _<_}
 use lib.Dec.{ltb, eqb}
+use lib.ListN.{length, take}
 use Rattle.rules.specs.Basics.{pick}
 
 -- ---- trees
@@ -160,6 +161,24 @@ pub record Written (p : Tree pattern) (text : List ℕ) : Type 0 where
   pub rest : List ℕ
   pub is : text ≡ spaces front rest
   pub laid : Laid (tokens p []) rest
+
+-- ---- where a text is wrong (request R-1)
+
+-- a text begins a text of the language: with some bytes behind it, or none, a tree is written in it. Neither the text's length nor the limit
+-- of parentheses plays a part.
+unfoldable pub Begins : List ℕ → Type 0
+Begins s = (v : List ℕ) × (p : Tree pattern) × Written p (s ++ v)
+
+-- the text is wrong at byte k: what stands before k, and each beginning of that, begins a text of the language, and with byte k it begins none
+pub record WrongAt (text : List ℕ) (k : ℕ) : Type 0 where
+  pub inside : k < length text
+  pub begins : (j : ℕ) → j ≤ k → Begins (take j text)
+  pub ends : Begins (take (k + 1) text) → ⊥
+
+-- the text ends but could go on: it begins a text of the language and is none
+pub record Unfinished (text : List ℕ) : Type 0 where
+  pub begins : Begins text
+  pub outside : (p : Tree pattern) → Written p text → ⊥
 
 -- ---- what a pattern can do
 

@@ -1,6 +1,8 @@
 -- Not a rule of the paper: how the tree of a text is computed, so that definitions which need it can be run. The law `tree-exactly`
 -- (proofs/Grammar) says that `treeOf text` is `some p` exactly if p is `Written` in the text, so nothing below has to be believed.
--- Recursive descent over the bytes: each reader begins at its first byte and ends behind its last token and the spaces there.
+-- Recursive descent over the bytes: each reader begins at its first byte and ends behind its last token and the spaces there. A reader that
+-- finds nothing stops at the first byte with which no text of the language begins that way, or at the end; `wrong-exactly` and `unfinished-exactly`
+-- (proofs/Stops) say so of `stopOf text`.
 use mathlib.Core.Bool.{Bool, true, false}
 use mathlib.Core.List.{List, [], _∷_}
 use mathlib.Core.Option.{Option, none, some}
@@ -10,10 +12,15 @@ use lib.ListN.{length}
 use Rattle.rules.specs.Basics.{pick, inRange, isLetter}
 use Rattle.rules.specs.Language.{Form, star, plus, opt, exactly, atLeast, atMost, between, Rank, pattern, branch, factor, primary, Tree, one, more, last, next, bare, times, letter, caret, dollar, empty, group}
 
--- what a reader finds: a tree and the bytes behind it, or nothing
+-- what a reader finds: a tree and the bytes behind it, or nothing, and the bytes from the one at which it stops
 pub data Reading (A : Type 0) : Type 0 where
   got : A → List ℕ → Reading A
-  bad : Reading A
+  bad : List ℕ → Reading A
+
+-- the bytes that are left
+unfoldable pub left : {A : Type 0} → Reading A → List ℕ
+left (got x u) = u
+left (bad u) = u
 
 -- the first byte, 0 if there is none, and the bytes behind it
 unfoldable pub peek : List ℕ → ℕ
@@ -41,9 +48,19 @@ unfolding peek rest isDigit
 number s =
     pick (isDigit (peek s))
     (pick (isDigit (peek (rest s)))
-    (pick (eqb (peek s) 48) bad (got (10 * (peek s - 48) + (peek (rest s) - 48)) (rest (rest s))))
+    (pick (eqb (peek s) 48) (bad (rest s)) (got (10 * (peek s - 48) + (peek (rest s) - 48)) (rest (rest s))))
     (got (peek s - 48) (rest s)))
-    bad
+    (bad s)
+
+-- An upper bound: a number that is 1 at least and n at least, n being 0 to 99. Its first digit is 1 to 9 and begins some number that is n at least,
+-- or else it is wrong there. A number that is below n all the same is wrong at u, behind its first digit: at its second, or where it has none.
+unfoldable pub enough : ℕ → List ℕ → Reading ℕ → Reading ℕ
+enough n u (bad v) = bad v
+enough n u (got m v) = pick (leb n m) (got m v) (bad u)
+
+unfoldable pub reaching : ℕ → List ℕ → Reading ℕ
+unfolding inRange enough number
+reaching n s = pick (inRange 49 57 (peek s)) (pick (leb n (10 * (peek s - 48) + 9)) (enough n (rest s) (number s)) (bad s)) (bad s)
 
 unfoldable pub bounded : Form → Bool
 bounded star = true
@@ -54,9 +71,10 @@ bounded (atLeast n) = leb n 99
 bounded (atMost m) = pick (leb 1 m) (leb m 99) false
 bounded (between n m) = pick (leb 1 m) (pick (leb n m) (leb m 99) false) false
 
--- at a quantifier's place: none, one with its reluctant mark and the bytes behind it, or one that is broken
+-- at a quantifier's place: none, one with its reluctant mark and the bytes behind it, or one that is broken, and the bytes from there on
 pub data Marked : Type 0 where
-  unmarked broken : Marked
+  unmarked : Marked
+  broken : List ℕ → Marked
   marked : Form → Bool → List ℕ → Marked
 
 -- behind a quantifier: the reluctant mark, if it is there, and spaces
@@ -67,24 +85,24 @@ reluctant f s = pick (eqb (peek s) 63) (marked f true (skip (rest s))) (marked f
 -- behind the last bound: `}`, and the bounds are in order
 unfoldable pub shut : (ℕ → Form) → Reading ℕ → Marked
 unfolding reluctant bounded
-shut f bad = broken
-shut f (got n s) = pick (eqb (peek s) 125) (pick (bounded (f n)) (reluctant (f n) (rest s)) broken) broken
+shut f (bad u) = broken u
+shut f (got n s) = pick (eqb (peek s) 125) (pick (bounded (f n)) (reluctant (f n) (rest s)) (broken s)) (broken s)
 
 -- behind `{n,`
 unfoldable pub upTo : ℕ → List ℕ → Marked
-unfolding shut number
-upTo n s = pick (eqb (peek s) 125) (pick (bounded (atLeast n)) (reluctant (atLeast n) (rest s)) broken) (shut (between n) (number s))
+unfolding shut reaching
+upTo n s = pick (eqb (peek s) 125) (pick (bounded (atLeast n)) (reluctant (atLeast n) (rest s)) (broken s)) (shut (between n) (reaching n s))
 
 -- behind `{n`
 unfoldable pub from : Reading ℕ → Marked
 unfolding upTo
-from bad = broken
+from (bad u) = broken u
 from (got n s) = pick (eqb (peek s) 44) (upTo n (rest s)) (shut exactly (got n s))
 
 -- behind `{`
 unfoldable pub braces : List ℕ → Marked
 unfolding from
-braces s = pick (eqb (peek s) 44) (shut atMost (number (rest s))) (from (number s))
+braces s = pick (eqb (peek s) 44) (shut atMost (reaching 1 (rest s))) (from (number s))
 
 unfoldable pub quantifier : List ℕ → Marked
 unfolding braces
@@ -102,7 +120,7 @@ ended b = pick (eqb b 0) true (pick (eqb b 124) true (eqb b 41))
 
 -- what is found, under a constructor
 unfoldable pub under : {A B : Type 0} → (A → B) → Reading A → Reading B
-under f bad = bad
+under f (bad u) = bad u
 under f (got x s) = got (f x) s
 
 -- branch, or branch | pattern
@@ -113,7 +131,7 @@ altOn false again b s = got (one b) s
 
 unfoldable pub altWith : (List ℕ → Reading (Tree pattern)) → Reading (Tree branch) → Reading (Tree pattern)
 unfolding altOn peek
-altWith again bad = bad
+altWith again (bad u) = bad u
 altWith again (got b s) = altOn (eqb (peek s) 124) again b s
 
 -- factor, or factor branch
@@ -124,25 +142,25 @@ seqOn false again f s = under (next f) (again s)
 
 unfoldable pub seqWith : (List ℕ → Reading (Tree branch)) → Reading (Tree factor) → Reading (Tree branch)
 unfolding seqOn peek ended
-seqWith again bad = bad
+seqWith again (bad u) = bad u
 seqWith again (got f s) = seqOn (ended (peek s)) again f s
 
 -- primary, or primary and quantifier
 unfoldable pub timesOn : Tree primary → List ℕ → Marked → Reading (Tree factor)
 timesOn x s unmarked = got (bare x) s
-timesOn x s broken = bad
+timesOn x s (broken u) = bad u
 timesOn x s (marked f z r) = got (times x f z) r
 
 unfoldable pub timesWith : Reading (Tree primary) → Reading (Tree factor)
 unfolding timesOn quantifier
-timesWith bad = bad
+timesWith (bad u) = bad u
 timesWith (got x s) = timesOn x s (quantifier s)
 
 -- behind a pattern in parentheses: `)`
 unfoldable pub closed : Reading (Tree pattern) → Reading (Tree primary)
 unfolding peek rest skip
-closed bad = bad
-closed (got p s) = pick (eqb (peek s) 41) (got (group p) (skip (rest s))) bad
+closed (bad u) = bad u
+closed (got p s) = pick (eqb (peek s) 41) (got (group p) (skip (rest s))) (bad s)
 
 -- behind `(` and spaces: `)`, or a pattern and `)`
 unfoldable pub parted : Bool → (List ℕ → Reading (Tree pattern)) → List ℕ → Reading (Tree primary)
@@ -156,7 +174,7 @@ unfolding isLetter peek rest skip
 simple s =
     pick (eqb (peek s) 94) (got caret (skip (rest s)))
     (pick (eqb (peek s) 36) (got dollar (skip (rest s)))
-    (pick (isLetter (peek s)) (pick (isLetter (peek (rest s))) bad (got (letter (peek s)) (skip (rest s)))) bad))
+    (pick (isLetter (peek s)) (pick (isLetter (peek (rest s))) (bad (rest s)) (got (letter (peek s)) (skip (rest s)))) (bad s)))
 
 unfoldable pub primaryOn : Bool → (List ℕ → Reading (Tree pattern)) → List ℕ → Reading (Tree primary)
 unfolding parted simple
@@ -166,7 +184,7 @@ primaryOn false again s = simple s
 -- what the reader of a rank finds; the number bounds the depth of the readers
 unfoldable pub read : ℕ → (k : Rank) → List ℕ → Reading (Tree k)
 unfolding altWith seqWith timesWith primaryOn
-read zero k s = bad
+read zero k s = bad s
 read (suc n) pattern s = altWith (read n pattern) (read n branch s)
 read (suc n) branch s = seqWith (read n branch) (read n factor s)
 read (suc n) factor s = timesWith (read n primary s)
@@ -186,7 +204,7 @@ depth k s = 4 * length s + rankOf k + 1
 -- ---- a whole text
 
 unfoldable pub whole : Reading (Tree pattern) → Option (Tree pattern)
-whole bad = none
+whole (bad u) = none
 whole (got p []) = some p
 whole (got p (b ∷ s)) = none
 
@@ -194,3 +212,8 @@ whole (got p (b ∷ s)) = none
 unfoldable pub treeOf : List ℕ → Option (Tree pattern)
 unfolding whole read skip
 treeOf s = whole (read (4 * length s + 4) pattern (skip s))
+
+-- where reading stops: how many bytes are read
+unfoldable pub stopOf : List ℕ → ℕ
+unfolding left read skip
+stopOf s = length s - length (left (read (4 * length s + 4) pattern (skip s)))

@@ -14,17 +14,17 @@ use lib.Seq.{take-append-seam}
 use mir.Syntax.{w64}
 use mir.Val.{Fits}
 use borrow.Author.Tests.{lt-ltb, le-ltb, ltb-false, eqb-true, ne-eqb}
-use Rattle.rules.specs.Basics.{pick, inRange, wrote}
+use Rattle.rules.specs.Basics.{pick, every, wrote}
 use Rattle.rules.specs.Rows.{tableOf}
-use Rattle.rules.specs.Query.{columnsOf}
+use Rattle.rules.specs.Query.{columnsOf, textOf}
 use Rattle.rules.specs.Search.{Swept, Kept}
 use Rattle.rules.specs.Report.{bytesFor, numbersOf, labelsOf}
-use Rattle.rules.specs.Answers.{P, treeIn, tooMany, badRows, Task, taskOf, walked, Buffers, pairsOf, shortNotes, shortTrail, stopped, lowest, queryTests, answerBy, answerOf, roomAnswer, Room, roomOf, reportOf, walkReport, walkOf, Memory, accepted, searchOf}
+use Rattle.rules.specs.Answers.{P, treeIn, tooMany, badRows, Task, taskOf, walked, Buffers, pairsOf, shortNotes, shortTrail, stopped, Test, firstOf, refuses, offsetAt, queryTests, answerBy, answerOf, roomAnswer, Room, roomOf, reportOf, walkReport, walkOf, Memory, accepted, searchOf}
 use Rattle.rules.specs.Program.{refusedText, tooLarge, searchText, rowsOf, printedFor}
 use Rattle.rules.proofs.Lists.{length-wrote}
-use Rattle.rules.proofs.Accepted.{Accepted, done-or-stopped, answer-is}
+use Rattle.rules.proofs.Accepted.{Accepted, done-or-stopped, answer-is, query-tests-refuse}
 use Rattle.rules.proofs.Level.{or-false}
-use Rattle.rules.proofs.Lowest.{lowest-after, none-before, none-true, lowest-wider}
+use Rattle.rules.proofs.FirstTrue.{allRefuse, first-after, none-before, none-true, first-wider}
 use Rattle.rules.proofs.Limits.{limits, numbers-long}
 use Rattle.reading.specs.declared.Size.{Size}
 use Rattle.reading.specs.Reading.{asRoom}
@@ -47,17 +47,17 @@ module _ (q : List ℕ) (rows : List ℤ) (lent : Buffers) (h : pairsOf q rows �
 -- ---- a query and rows with no answer 1 to 10
 
 module _ (q : List ℕ) (rows : List ℤ) (none : roomAnswer q (badRows q rows) ≡ 0) where
-  pub no-query-answer : lowest 1 (queryTests q) ≡ 0
-  unfolding roomAnswer
-  no-query-answer = none-before 1 (queryTests q) (badRows q rows ∷ []) (λ lo hi. omega arith)
+  pub no-query-answer : firstOf (queryTests q) ≡ 0
+  unfolding roomAnswer refuses
+  no-query-answer = none-before (queryTests q) ((10, badRows q rows) ∷ []) (query-tests-refuse q) (ap refuses none)
 
   whole-rows : badRows q rows ≡ false
-  unfolding roomAnswer queryTests
-  whole-rows = none-true 1 (queryTests q ++ (badRows q rows ∷ [])) (omega arith) none 9
+  unfolding roomAnswer queryTests allRefuse every refuses
+  whole-rows = none-true (queryTests q ++ ((10, badRows q rows) ∷ [])) refl none 10
 
   few-places : P (treeIn q) ≤ 256
   unfolding queryTests tooMany
-  few-places = ltb-false _ _ (none-true 1 (queryTests q) (omega arith) no-query-answer 6)
+  few-places = ltb-false _ _ (none-true (queryTests q) (query-tests-refuse q) no-query-answer 7)
 
   few-rows : tableOf (columnsOf q) rows .n ≤ 4096
   unfolding badRows
@@ -65,13 +65,13 @@ module _ (q : List ℕ) (rows : List ℤ) (none : roomAnswer q (badRows q rows) 
 
   -- with notes of 2,000 bytes and a trail of 16,000 numbers the search is accepted
   pub room-accepts : (lent : Buffers) → 2000 ≤ length (lent .notes) → 16000 ≤ length (lent .trail) → pairsOf q rows ≤ 16000 → Accepted q rows lent
-  unfolding answerOf answerBy queryTests lowest
+  unfolding answerOf answerBy firstOf
   room-accepts lent hn ht h =
       let n : shortNotes q rows lent ≡ false = enough-notes q rows lent h hn in
       let t : shortTrail q rows lent ≡ false = enough-trail q rows lent h ht in
-      let rest : List Bool = badRows q rows ∷ shortNotes q rows lent ∷ shortTrail q rows lent ∷ stopped (walkOf q rows lent) ∷ [] in
-      let k = lowest-after 1 (queryTests q) rest (omega arith) no-query-answer in
-      ap (inRange 1 12) k ∙ rw (whole-rows, n, t) (done-or-stopped (stopped (walkOf q rows lent)))
+      let rest : List Test = (10, badRows q rows) ∷ (11, shortNotes q rows lent) ∷ (12, shortTrail q rows lent) ∷ (13, stopped (walkOf q rows lent)) ∷ [] in
+      let k = first-after (queryTests q) rest (query-tests-refuse q) no-query-answer in
+      ap refuses k ∙ rw (whole-rows, n, t) (done-or-stopped (stopped (walkOf q rows lent)))
 
 -- ---- the ways of a query with its row bytes r: their whole numbers are the first k of an array, and z is what `room` says of the query and of these
 
@@ -106,7 +106,8 @@ module _ (q r : List ℕ) (l array : List ℤ) (k : ℕ) (filled : array ≡ wro
   room-answer = ap (λ (z : Room). z .answer) e ∙ go (roomAnswer q (badRows q rows)) (eqb (roomAnswer q (badRows q rows)) 0) refl
     where
       go : (a : ℕ) (t : Bool) → eqb a 0 ≡ t
-          → pick {A = Room} t (record { answer = 0; places = P (treeIn q); rows = tableOf (columnsOf q) rows .n }) (record { answer = a; places = 0; rows = 0 }) .answer ≡ a
+          → pick {A = Room} t (record { answer = 0; places = P (treeIn q); rows = tableOf (columnsOf q) rows .n; offset = 0 })
+          (record { answer = a; places = 0; rows = 0; offset = offsetAt (textOf q) a }) .answer ≡ a
       go a true h = sym (eqb-true a 0 h)
       go a false h = refl
 
@@ -115,7 +116,7 @@ module _ (q r : List ℕ) (l array : List ℤ) (k : ℕ) (filled : array ≡ wro
     pub query-refused : (z .answer ≡ 0 → ⊥) → Put o 0 (refusedText (z .answer)) m b → Put o 0 (printedFor q r) m b
     unfolding roomAnswer
     query-refused d p =
-        let w : roomAnswer q bad ≡ z .answer = lowest-wider 1 (queryTests q) (not (eqb (length r % 4) 0)) (badRows q rows) (λ h. d (room-answer ∙ h)) ∙ sym room-answer in
+        let w : roomAnswer q bad ≡ z .answer = first-wider (queryTests q) 10 (not (eqb (length r % 4) 0)) (badRows q rows) (λ h. d (room-answer ∙ h)) ∙ sym room-answer in
         rw (prints, w, lt-ltb 0 (z .answer) (above (z .answer) d)) p
       where
         above : (n : ℕ) → (n ≡ 0 → ⊥) → 0 < n
@@ -150,9 +151,9 @@ module _ (q r : List ℕ) (l array : List ℤ) (k : ℕ) (filled : array ≡ wro
         record { fits = omega arith }
 
     pub query-ragged : (o m : List ℕ) (b : ℕ) → (length r % 4 ≡ 0 → ⊥) → Put o 0 (refusedText 10) m b → Put o 0 (printedFor q r) m b
-    unfolding roomAnswer queryTests lowest
+    unfolding roomAnswer firstOf
     query-ragged o m b d p =
-        let w : roomAnswer q bad ≡ 10 = rw (ne-eqb (length r % 4) 0 d) (lowest-after 1 (queryTests q) (true ∷ []) (omega arith) (no-query-answer q rows no-answer)) in
+        let w : roomAnswer q bad ≡ 10 = rw (ne-eqb (length r % 4) 0 d) (first-after (queryTests q) ((10, true) ∷ []) (query-tests-refuse q) (no-query-answer q rows no-answer)) in
         rw (prints, w) p
 
     module _ (w : length r % 4 ≡ 0) where

@@ -1,4 +1,4 @@
--- The search's answers: one law for each way through `search`. The answer is the lowest of the rules' thirteen tests.
+-- The search's answers: one law for each way through `search`. The answer is that of the first of the rules' tests that is true.
 use mathlib.Core.Path.{_≡_, refl, ap, ap₂, sym, _∙_}
 use mathlib.Core.Bool.{Bool, true, false, not, _&&_, _||_, true≢false}
 use mathlib.Core.List.{List, [], _∷_}
@@ -11,17 +11,17 @@ use lib.Dec.{eqb, leb, ltb}
 use lib.IntN.{ℤ}
 use lib.ListN.{length, getD}
 use borrow.Author.Tests.{lt-ltb, le-ltb, le-leb, ltb-false, ne-eqb, eq-eqb}
-use Rattle.rules.specs.Basics.{pick, inRange}
+use Rattle.rules.specs.Basics.{pick}
 use Rattle.rules.specs.Rows.{tableOf}
-use Rattle.rules.specs.Query.{columnsOf, parts}
+use Rattle.rules.specs.Query.{columnsOf, textOf, parts}
 use Rattle.rules.specs.Language.{Tree, pattern, emptyLoop}
 use Rattle.rules.specs.Places.{placesOf}
 use Rattle.rules.specs.Walk.{pairs}
 use Rattle.rules.specs.Report.{bytesFor}
-use Rattle.rules.specs.Answers.{treeIn, hasEmptyLoop, P, tooMany, badRows, Buffers, Memory, taskOf, pairsOf, shortNotes, shortTrail, stopped, lowest, queryTests, answerBy, answerOf, walkOf, walkReport, reportOf, refused, accepted, searchOf}
-use Rattle.rules.proofs.Accepted.{done-or-stopped}
+use Rattle.rules.specs.Answers.{treeIn, hasEmptyLoop, P, tooMany, badRows, Buffers, Memory, taskOf, pairsOf, shortNotes, shortTrail, stopped, Test, firstOf, refuses, offsetAt, queryTests, answerBy, answerOf, walkOf, walkReport, reportOf, refused, accepted, searchOf}
+use Rattle.rules.proofs.Accepted.{done-or-stopped, query-tests-refuse}
 use Rattle.rules.proofs.Demands.{demands}
-use Rattle.rules.proofs.Lowest.{lowest-range, lowest-before, lowest-after, none-true}
+use Rattle.rules.proofs.FirstTrue.{first-refuses, first-before, first-after, none-true}
 use Rattle.reading.specs.Reading.{queryAnswer, GoodParts, Whole, Asked}
 use Rattle.reading.specs.declared.Query.{Query}
 use Rattle.outcome.specs.declared.Outcome.{Outcome}
@@ -35,57 +35,56 @@ module _ (q : List ℕ) (rows : List ℤ) (notes trail : List ℕ) (numbers : Li
   abbrev before : Buffers
   before = lent notes trail numbers labels
 
-  -- a number that is the answer, 1 to 12, is given with zeros, and nothing is changed
-  refuse : (n : ℕ) → answerOf q rows before ≡ n → 1 ≤ n → n ≤ 12 → (r : Outcome) → r ≡ refusal n → Promised q rows before (memory r notes trail numbers labels)
-  unfolding searchOf refused inRange
-  refuse n e lo hi r b =
-      let t : inRange 1 12 n ≡ true = rw (le-leb 1 n lo, le-leb n 12 hi) in
-      record { whole = rw (b, e, t); demands = λ z. absurd (true≢false (sym t ∙ ap (inRange 1 12) (sym e) ∙ z)) }
+  -- a number that is the answer and refuses is given with its offset and zeros, and nothing is changed
+  refuse : (n k : ℕ) → answerOf q rows before ≡ n → refuses n ≡ true → k ≡ offsetAt (textOf q) n → (r : Outcome) → r ≡ refusal n k → Promised q rows before (memory r notes trail numbers labels)
+  unfolding searchOf refused
+  refuse n k e t o r b = record { whole = rw (b, e, t, o); demands = λ z. absurd (true≢false (sym t ∙ ap refuses (sym e) ∙ z)) }
 
-  abbrev rest : List Bool
-  rest = badRows q rows ∷ shortNotes q rows before ∷ shortTrail q rows before ∷ stopped (walkOf q rows before) ∷ []
+  abbrev rest : List Test
+  rest = (10, badRows q rows) ∷ (11, shortNotes q rows before) ∷ (12, shortTrail q rows before) ∷ (13, stopped (walkOf q rows before)) ∷ []
 
   the-answer-before : (queryAnswer q ≡ 0 → ⊥) → answerOf q rows before ≡ queryAnswer q
   unfolding answerOf answerBy queryAnswer
-  the-answer-before d = lowest-before 1 (queryTests q) rest d
+  the-answer-before d = first-before (queryTests q) rest d
 
-  the-answer-after : queryAnswer q ≡ 0 → answerOf q rows before ≡ lowest 10 (badRows q rows ∷ shortNotes q rows before ∷ shortTrail q rows before ∷ stopped (walkOf q rows before) ∷ [])
-  unfolding answerOf answerBy queryAnswer queryTests
-  the-answer-after e = lowest-after 1 (queryTests q) rest (omega arith) e
+  the-answer-after : queryAnswer q ≡ 0 → answerOf q rows before ≡ firstOf rest
+  unfolding answerOf answerBy queryAnswer
+  the-answer-after e = first-after (queryTests q) rest (query-tests-refuse q) e
 
-  -- answers 1 to 9
-  pub query-refused : (a : ℕ) → a ≡ queryAnswer q → (a ≡ 0 → ⊥) → (r : Outcome) → r ≡ refusal a → Promised q rows before (memory r notes trail numbers labels)
-  unfolding queryAnswer queryTests
-  query-refused a e d r b =
-      let w = lowest-range 1 (queryTests q) (λ z. d (e ∙ z)) in
-      refuse a (the-answer-before (λ z. d (e ∙ z)) ∙ sym e) (omega (arith, w .0, e)) (omega (arith, w .1, e)) r b
+  -- answers 1 to 9 and 14
+  pub query-refused : (a k : ℕ) → a ≡ queryAnswer q → k ≡ offsetAt (textOf q) a → (a ≡ 0 → ⊥) → (r : Outcome) → r ≡ refusal a k
+      → Promised q rows before (memory r notes trail numbers labels)
+  unfolding queryAnswer
+  query-refused a k e o d r b =
+      let w : refuses a ≡ true = ap refuses e ∙ first-refuses (queryTests q) (query-tests-refuse q) (λ z. d (e ∙ z)) in
+      refuse a k (the-answer-before (λ z. d (e ∙ z)) ∙ sym e) w o r b
 
   module _ (z : queryAnswer q ≡ 0) where
     -- answers 10, 11 and 12
-    pub rows-refused : badRows q rows ≡ true → (r : Outcome) → r ≡ refusal 10 → Promised q rows before (memory r notes trail numbers labels)
-    unfolding lowest
-    rows-refused t r b = refuse 10 (the-answer-after z ∙ rw t) (omega arith) (omega arith) r b
+    pub rows-refused : badRows q rows ≡ true → (r : Outcome) → r ≡ refusal 10 0 → Promised q rows before (memory r notes trail numbers labels)
+    unfolding firstOf refuses offsetAt
+    rows-refused t r b = refuse 10 0 (the-answer-after z ∙ rw t) refl refl r b
 
-    pub notes-refused : badRows q rows ≡ false → shortNotes q rows before ≡ true → (r : Outcome) → r ≡ refusal 11 → Promised q rows before (memory r notes trail numbers labels)
-    unfolding lowest
-    notes-refused f t r b = refuse 11 (the-answer-after z ∙ rw (f, t)) (omega arith) (omega arith) r b
+    pub notes-refused : badRows q rows ≡ false → shortNotes q rows before ≡ true → (r : Outcome) → r ≡ refusal 11 0 → Promised q rows before (memory r notes trail numbers labels)
+    unfolding firstOf refuses offsetAt
+    notes-refused f t r b = refuse 11 0 (the-answer-after z ∙ rw (f, t)) refl refl r b
 
-    pub trail-refused : badRows q rows ≡ false → shortNotes q rows before ≡ false → shortTrail q rows before ≡ true → (r : Outcome) → r ≡ refusal 12
+    pub trail-refused : badRows q rows ≡ false → shortNotes q rows before ≡ false → shortTrail q rows before ≡ true → (r : Outcome) → r ≡ refusal 12 0
         → Promised q rows before (memory r notes trail numbers labels)
-    unfolding lowest
-    trail-refused f g t r b = refuse 12 (the-answer-after z ∙ rw (f, g, t)) (omega arith) (omega arith) r b
+    unfolding firstOf refuses offsetAt
+    trail-refused f g t r b = refuse 12 0 (the-answer-after z ∙ rw (f, g, t)) refl refl r b
 
     -- done or stopped
     pub search-ended : badRows q rows ≡ false → shortNotes q rows before ≡ false → shortTrail q rows before ≡ false → (m : Memory) → m ≡ ended q rows before → Promised q rows before m
-    unfolding lowest searchOf ended walkReport
+    unfolding firstOf searchOf ended walkReport
     search-ended f g h m e =
         let x : answerOf q rows before ≡ pick (stopped (walkOf q rows before)) 13 0 = the-answer-after z ∙ rw (f, g, h) in
-        let y : inRange 1 12 (answerOf q rows before) ≡ false = ap (inRange 1 12) x ∙ done-or-stopped (stopped (walkOf q rows before)) in
+        let y : refuses (answerOf q rows before) ≡ false = ap refuses x ∙ done-or-stopped (stopped (walkOf q rows before)) in
         record { whole = e ∙ sym (rw y (ap (λ (n : ℕ). accepted (reportOf n (taskOf q rows) before (walkOf q rows before)) (walkOf q rows before .state) before) x)); demands = demands q rows before }
 
 -- ---- what reading gives
 
--- no answer 1 to 9: no test of these is true
+-- no answer of the query's own: no test of these is true
 pub record ClearQuery (q : List ℕ) : Type 0 where
   pub loop : hasEmptyLoop (treeIn q) ≡ false
   pub many : tooMany (treeIn q) ≡ false
@@ -93,8 +92,8 @@ pub record ClearQuery (q : List ℕ) : Type 0 where
 pub clear-query : (q : List ℕ) → queryAnswer q ≡ 0 → ClearQuery q
 unfolding queryAnswer queryTests
 clear-query q e =
-    let no : (i : ℕ) → getD (queryTests q) i false ≡ false = none-true 1 (queryTests q) (omega arith) e in
-    record { loop = no 5; many = no 6 }
+    let no : (i : ℕ) → getD (queryTests q) i (0, false) .1 ≡ false = none-true (queryTests q) (query-tests-refuse q) e in
+    record { loop = no 6; many = no 7 }
 
 module _ (q measures₀ room defines measures : List ℕ) (r : Query)
     (a : Asked q measures₀ room defines measures r) (z : r .answer ≡ 0) (rows : List ℤ) where

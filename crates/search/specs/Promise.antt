@@ -5,11 +5,10 @@ use mathlib.Core.Bool.{false}
 use mathlib.Core.List.{List}
 use Prim.Native.Nat.{ℕ}
 use lib.IntN.{ℤ}
-use Rattle.rules.specs.Basics.{inRange}
-use Rattle.rules.specs.Answers.{Buffers, Memory, accepted, answerOf, searchOf}
+use Rattle.rules.specs.Answers.{Buffers, Memory, accepted, answerOf, refuses, searchOf}
 use Rattle.rules.specs.Demands.{Demands}
 
 -- demand 1 and what the others rest on: result and buffers are the definition's, for every input; demands 2 and 3 where the search is accepted
 pub record Promised (q : List ℕ) (rows : List ℤ) (before : Buffers) (after : Memory) : Type 0 where
   pub whole : after ≡ searchOf q rows before
-  pub demands : inRange 1 12 (answerOf q rows before) ≡ false → Demands q rows before
+  pub demands : refuses (answerOf q rows before) ≡ false → Demands q rows before

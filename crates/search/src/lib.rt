@@ -1,4 +1,4 @@
-// The whole search: answers 1 to 12 in front, then the walk over the unrolled pattern. Its promise, for every query, all rows and all lent buffers, is an
+// The whole search: answers 1 to 12 and 14 in front, then the walk over the unrolled pattern. Its promise, for every query, all rows and all lent buffers, is an
 // equation with document 01's definition, and the tender's demands with it (specs/Promise). Nothing is allocated; the tables lie on the stack.
 use outcome::Outcome;
 use outcome::refused;
@@ -26,22 +26,22 @@ fn search_in(
     let q = room::read_query(query, nodes, &mut defines, &mut measures);
     let answer = q.answer;
     if answer != 0 {
-        return refused(answer);
+        return refused(answer, q.offset);
     }
     let columns = q.columns;
     let n = rows.len() / columns;
     if rows.len() % columns != 0 {
-        return refused(10);
+        return refused(10, 0);
     }
     if 4096 < n {
-        return refused(10);
+        return refused(10, 0);
     }
     let pairs = q.places * (n + 1);
     if notes.len() < (pairs + 7) / 8 {
-        return refused(11);
+        return refused(11, 0);
     }
     if trail.len() < pairs {
-        return refused(12);
+        return refused(12, 0);
     }
     walk_all(
         query,

@@ -47,7 +47,7 @@ module _ (q : List ℕ) (T : Tables) (rows : List ℤ) (columns n : ℕ) (tests 
   abbrev R : Swept Kept
   R = S.searchOf (asked T (holdsIn rows columns q tests) n mode (tableOf columns rows) (measuresIn ms count)) (length num) (length lab)
 
-  pub run-ended : (r : Outcome) → r ≡ record { answer = pick (s .full) 13 0; matches = s .matches; labels = s .labels; steps = s .steps }
+  pub run-ended : (r : Outcome) → r ≡ record { answer = pick (s .full) 13 0; matches = s .matches; labels = s .labels; steps = s .steps; offset = 0 }
       → memory r notes′ trail′ num′ lab′ ≡ ended q rows (lent notes trail num lab)
   unfolding ended accepted reportOf walkOf
   run-ended r e =

@@ -36,7 +36,7 @@ pub record TableRoom (p : ℕ) (table : List ℕ) : Type 0 where
   pub long : 7 * p ≤ length table
   pub few : length table ≤ 1792
 
--- what walking asks: a query with no answer 1 to 9 in the lent arrays, whole rows, and working room
+-- what walking asks: a query with no answer of its own in the lent arrays, whole rows, and working room
 pub record Walks (q nodes : List ℕ) (top places : ℕ) (rows : List ℤ) (columns n : ℕ) (defines : List ℕ) (letters : ℕ) (ms : List ℕ) (count : ℕ) (mode : Bool) (notes trail : List ℕ) : Type 0 where
   pub tree : Tree pattern
   pub has-tree : treeIn q ≡ some tree

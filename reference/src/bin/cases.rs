@@ -1,7 +1,7 @@
 //! Prints cases with the results of the reference, one on each line: fields
 //! parted by `;`, the numbers of a list by `,`.
 //! `cases SEED COUNT`: query; rows; lengths of notes, trail, numbers and labels;
-//! answer; matches; labels; steps; then all four buffers after the call, each
+//! answer; matches; labels; steps; offset; then all four buffers after the call, each
 //! filled with 7 before it. `cases text SEED COUNT`: text; answer; P, or 0.
 //! `cases program SEED COUNT`: standard input; what is printed for it.
 

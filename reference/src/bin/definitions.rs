@@ -23,23 +23,24 @@ use lib.Dec.{eqb, T}
 use lib.IntN.{ℤ, pos, negsuc}
 use lib.ListN.{replicate}
 use Rattle.rules.specs.Reader.{treeOf}
-use Rattle.rules.specs.Answers.{deep, noTree, hasEmptyLoop, tooMany, P, lowest, Buffers, Memory, searchOf}
+use Rattle.rules.specs.Answers.{deep, wrong, unfinished, hasEmptyLoop, tooMany, P, firstOf, offsetAt, Buffers, Memory, searchOf}
 use Rattle.rules.specs.Program.{printed}
 use Rattle.rules.specs.Bench.{same, equalZ}
 
 abbrev lent : ℕ → ℕ → ℕ → ℕ → Buffers
 lent a b c d = record { notes = replicate a 7; trail = replicate b 7; numbers = replicate c (pos 7); labels = replicate d 7 }
 
-abbrev sameResult : Memory → ℕ → ℕ → ℕ → ℕ → Bool
-sameResult m a k l s = eqb (m .result .answer) a && (eqb (m .result .matches) k && (eqb (m .result .labels) l && eqb (m .result .steps) s))
+abbrev sameResult : Memory → ℕ → ℕ → ℕ → ℕ → ℕ → Bool
+sameResult m a k l s o =
+    eqb (m .result .answer) a && (eqb (m .result .matches) k && (eqb (m .result .labels) l && (eqb (m .result .steps) s && eqb (m .result .offset) o)))
 
 abbrev sameBuffers : Memory → List ℕ → List ℕ → List ℤ → List ℕ → Bool
 sameBuffers m notes trail numbers labels =
     same eqb (m .buffers .notes) notes && (same eqb (m .buffers .trail) trail && (same equalZ (m .buffers .numbers) numbers && same eqb (m .buffers .labels) labels))
 
 abbrev textAnswer : List ℕ → ℕ
-unfolding deep treeOf noTree hasEmptyLoop tooMany lowest
-textAnswer t = lowest 4 (deep 0 0 t ∷ noTree (treeOf t) ∷ hasEmptyLoop (treeOf t) ∷ tooMany (treeOf t) ∷ [])
+unfolding deep treeOf wrong unfinished hasEmptyLoop tooMany firstOf
+textAnswer t = firstOf ((4, deep 0 0 t) ∷ (5, wrong t) ∷ (14, unfinished t) ∷ (6, hasEmptyLoop (treeOf t)) ∷ (7, tooMany (treeOf t)) ∷ [])
 ";
 
 fn main() -> ExitCode {
@@ -110,14 +111,14 @@ fn signed(items: &[i64]) -> String {
 fn search(out: &mut impl Write, number: usize, case: &cases::SearchCase) -> io::Result<()> {
     let rows: Vec<i64> = case.rows.iter().map(|&entry| entry.into()).collect();
     let [notes, trail, numbers, labels] = case.lengths;
-    let [matches, label_count, steps] = case.counts;
+    let [matches, label_count, steps, offset] = case.counts;
     writeln!(out, "abbrev search{number} : Memory\nunfolding searchOf")?;
     let (query, rows) = (list(&case.query), signed(&rows));
     writeln!(
         out,
         "search{number} = searchOf {query} {rows} (lent {notes} {trail} {numbers} {labels})\n"
     )?;
-    let result = format!("{} {matches} {label_count} {steps}", case.answer);
+    let result = format!("{} {matches} {label_count} {steps} {offset}", case.answer);
     let (notes, trail) = (list(&case.notes), list(&case.trail));
     let (numbers, labels) = (signed(&case.numbers), list(&case.labels));
     let agrees = format!("sameResult search{number} {result} && sameBuffers search{number} {notes} {trail} {numbers} {labels}");
@@ -130,10 +131,11 @@ fn search(out: &mut impl Write, number: usize, case: &cases::SearchCase) -> io::
 fn text(out: &mut impl Write, number: usize, case: &cases::TextCase) -> io::Result<()> {
     let text = list(&case.text);
     let mut agrees = format!("eqb (textAnswer {text}) {}", case.answer);
+    agrees += &format!(" && eqb (offsetAt {text} {}) {}", case.answer, case.offset);
     if case.answer == 0 {
         agrees += &format!(" && eqb (P (treeOf {text})) {}", case.places);
     }
-    let opened = "deep treeOf noTree hasEmptyLoop tooMany lowest P";
+    let opened = "deep treeOf wrong unfinished hasEmptyLoop tooMany firstOf offsetAt P";
     writeln!(
         out,
         "text{number}-agrees : T ({agrees})\nunfolding {opened}\ntext{number}-agrees = tt\n"

@@ -15,7 +15,7 @@ pub fn damage(random: &mut Random, draft: &mut Draft, answer: u8) -> bool {
         1 => cut(random, draft),
         2 => wrong_kind(random, draft),
         3 => wrong_field(random, draft),
-        4..=7 => wrong_text(random, draft, answer),
+        4..=7 | 14 => wrong_text(random, draft, answer),
         8 => define_twice(random, draft),
         9 => measure_a_stranger(random, draft),
         10 => wrong_rows(random, draft),
@@ -29,7 +29,13 @@ pub fn damage(random: &mut Random, draft: &mut Draft, answer: u8) -> bool {
 /// Damages a draft for two answers; once if they are the same, since a second
 /// damage of the same sort might undo the first.
 pub fn damage_twice(random: &mut Random, draft: &mut Draft, answers: [u8; 2]) -> bool {
-    let [low, high] = [answers[0].min(answers[1]), answers[0].max(answers[1])];
+    // 14 stands where 5 does.
+    let rank = |answer: u8| if answer == 14 { 5 } else { answer };
+    let [one, other] = answers;
+    let [low, high] = match rank(one) <= rank(other) {
+        true => [one, other],
+        false => [other, one],
+    };
     damage(random, draft, high) && (low == high || damage(random, draft, low))
 }
 

@@ -17,7 +17,7 @@ pub fn input(random: &mut Random, size: &Size, number: usize) -> Input {
         4 => adversarial(random, size).finish(),
         5 => accepted(random, size, Numbers::Extreme).finish(),
         6 => critical(random, size),
-        slot @ 7..=8 => damaged(random, size, 1 + ((2 * turn + slot - 7) % 13) as u8),
+        slot @ 7..=8 => damaged(random, size, 1 + ((2 * turn + slot - 7) % 14) as u8),
         _ => damaged_twice(random, size),
     }
 }
@@ -101,7 +101,7 @@ pub fn damaged(random: &mut Random, size: &Size, answer: u8) -> Input {
 
 pub fn damaged_twice(random: &mut Random, size: &Size) -> Input {
     loop {
-        let answers = [1 + random.below(13) as u8, 1 + random.below(13) as u8];
+        let answers = [1 + random.below(14) as u8, 1 + random.below(14) as u8];
         let mut draft = accepted(random, size, Numbers::Low);
         if damage_twice(random, &mut draft, answers) {
             return draft.finish();

@@ -197,12 +197,13 @@ fn fits(text: &[u8], most_places: u128) -> bool {
     text.len() <= MOST_TEXT && pattern::judge(text).is_ok_and(few_places)
 }
 
-/// A text that the answer 4, 5, 6 or 7 is given for, short enough to be no 3.
+/// A text that the answer 4, 5, 6, 7 or 14 is given for, short enough to be no 3.
 pub fn refused(random: &mut Random, answer: u8) -> Vec<u8> {
     loop {
         let text = match answer {
             4 => too_deep(random),
             5 => outside(random),
+            14 => unfinished(random),
             6 => endless(random),
             _ => too_many_places(random),
         };
@@ -210,6 +211,17 @@ pub fn refused(random: &mut Random, answer: u8) -> Vec<u8> {
             return text;
         }
     }
+}
+
+/// The front of a pattern, or of one with a brace opened behind it.
+fn unfinished(random: &mut Random) -> Vec<u8> {
+    let mut text = accepted(random, 40);
+    if random.chance(30) {
+        text.extend(random.pick(&[&b" A{"[..], b" A{0", b" A{3,2", b" A{,", b" (", b" |"]));
+        return text;
+    }
+    text.truncate(random.below(text.len() + 1));
+    text
 }
 
 fn repeated(bytes: &[u8], times: usize) -> Vec<u8> {

@@ -1,5 +1,5 @@
 -- `judge::judge` meets its contract. Laws: Laws.
-use Rattle.judge.proofs.Laws.{judge-deep, judge-outside, some-node, top-at, sum-fits, more-fits, judge-loop, judge-many, judge-good}
+use Rattle.judge.proofs.Laws.{judge-deep, judge-wrong, judge-unfinished, some-node, top-at, sum-fits, more-fits, judge-loop, judge-many, judge-good}
 use borrow.Author.Tests.{not-true, not-false}
 use borrow.Author.Needs.{needs}
 use Rattle.judge.proofs.judge.Statement.{statement}
@@ -24,13 +24,7 @@ same-length : tie.Need-same-length
 same-length c = search needs
 
 returns-2 : tie.Need-returns-2
-returns-2 c = search (needs, judge-outside, not-true)
-
-sub-top : tie.Need-sub-top
-sub-top c = search (needs, some-node, not-true, not-false)
-
-has-empty-loop-requires : tie.Need-has-empty-loop-requires
-has-empty-loop-requires c κs = search (needs, top-at, not-false)
+returns-2 c = search (needs, judge-wrong, not-true)
 
 refused-requires-3 : tie.Need-refused-requires-3
 refused-requires-3 c κs = search needs
@@ -39,13 +33,13 @@ same-length-2 : tie.Need-same-length-2
 same-length-2 c = search needs
 
 returns-3 : tie.Need-returns-3
-returns-3 c = judge-loop _ _ _ _ (c .before .before .before .before .before .before .before .before .read-text .ensures) (c .before .before .before .before .before .before .before .before .before .before .before .before .before .before .pre) (not-false _ (c .before .before .before .before .before .if2 .left)) _ (c .before .before .before .before .before .before .before .before .before .before .before .too-deep .ensures) (c .before .before .before .before .before .before .before .before .before .before .if1 .left) _ (c .before .before .has-empty-loop .ensures) _ (c .before .if3 .taken) (c .refused3 .ensures)
+returns-3 c = search (needs, judge-unfinished, not-true)
 
-add-places : tie.Need-add-places
-add-places c = search (needs, sum-fits, not-false)
+sub-top : tie.Need-sub-top
+sub-top c = search (needs, some-node, not-true, not-false)
 
-add-places-2 : tie.Need-add-places-2
-add-places-2 c = search (needs, more-fits, not-false)
+has-empty-loop-requires : tie.Need-has-empty-loop-requires
+has-empty-loop-requires c κs = search (needs, top-at, not-false)
 
 refused-requires-4 : tie.Need-refused-requires-4
 refused-requires-4 c κs = search needs
@@ -54,13 +48,28 @@ same-length-3 : tie.Need-same-length-3
 same-length-3 c = search needs
 
 returns-4 : tie.Need-returns-4
-returns-4 c = judge-many _ _ _ _ (c .before .before .before .before .before .before .before .before .before .before .read-text .ensures) (c .before .before .before .before .before .before .before .before .before .before .before .before .before .before .before .before .pre) (not-false _ (c .before .before .before .before .before .before .before .if2 .left)) _ (c .before .before .before .before .before .before .before .before .before .before .before .before .before .too-deep .ensures) (c .before .before .before .before .before .before .before .before .before .before .before .before .if1 .left) _ (c .before .before .before .before .has-empty-loop .ensures) _ (c .before .before .before .if3 .left) (c .before .if4 .taken) (c .refused4 .ensures)
+returns-4 c = judge-loop _ _ _ _ (c .before .before .before .before .before .before .before .before .read-text .ensures) (c .before .before .before .before .before .before .before .before .before .before .before .before .before .before .pre) (not-false _ (c .before .before .before .before .before .if2 .left)) _ (c .before .before .before .before .before .before .before .before .before .before .before .too-deep .ensures) (c .before .before .before .before .before .before .before .before .before .before .if1 .left) _ (c .before .before .has-empty-loop .ensures) _ (c .before .if4 .taken) (c .refused4 .ensures)
+
+add-places : tie.Need-add-places
+add-places c = search (needs, sum-fits, not-false)
+
+add-places-2 : tie.Need-add-places-2
+add-places-2 c = search (needs, more-fits, not-false)
+
+refused-requires-5 : tie.Need-refused-requires-5
+refused-requires-5 c κs = search needs
 
 same-length-4 : tie.Need-same-length-4
 same-length-4 c = search needs
 
 returns-5 : tie.Need-returns-5
-returns-5 c = judge-good _ _ _ _ (c .before .before .before .before .before .before .before .before .before .read-text .ensures) (c .before .before .before .before .before .before .before .before .before .before .before .before .before .before .before .pre) (not-false _ (c .before .before .before .before .before .before .if2 .left)) _ (c .before .before .before .before .before .before .before .before .before .before .before .before .too-deep .ensures) (c .before .before .before .before .before .before .before .before .before .before .before .if1 .left) _ (c .before .before .before .has-empty-loop .ensures) (c .before .before .if3 .left) (c .if4 .left)
+returns-5 c = judge-many _ _ _ _ (c .before .before .before .before .before .before .before .before .before .before .read-text .ensures) (c .before .before .before .before .before .before .before .before .before .before .before .before .before .before .before .before .pre) (not-false _ (c .before .before .before .before .before .before .before .if2 .left)) _ (c .before .before .before .before .before .before .before .before .before .before .before .before .before .too-deep .ensures) (c .before .before .before .before .before .before .before .before .before .before .before .before .if1 .left) _ (c .before .before .before .before .has-empty-loop .ensures) _ (c .before .before .before .if4 .left) (c .before .if5 .taken) (c .refused5 .ensures)
+
+same-length-5 : tie.Need-same-length-5
+same-length-5 c = search needs
+
+returns-6 : tie.Need-returns-6
+returns-6 c = judge-good _ _ _ _ (c .before .before .before .before .before .before .before .before .before .read-text .ensures) (c .before .before .before .before .before .before .before .before .before .before .before .before .before .before .before .pre) (not-false _ (c .before .before .before .before .before .before .if2 .left)) _ (c .before .before .before .before .before .before .before .before .before .before .before .before .too-deep .ensures) (c .before .before .before .before .before .before .before .before .before .before .before .if1 .left) _ (c .before .before .before .has-empty-loop .ensures) (c .before .before .if4 .left) (c .if5 .left)
 
 pub judge-spec : {M : Type 1} → statement M
 judge-spec =
@@ -73,15 +82,18 @@ judge-spec =
     refused-requires-2
     same-length
     returns-2
-    sub-top
-    has-empty-loop-requires
     refused-requires-3
     same-length-2
     returns-3
-    add-places
-    add-places-2
+    sub-top
+    has-empty-loop-requires
     refused-requires-4
     same-length-3
     returns-4
+    add-places
+    add-places-2
+    refused-requires-5
     same-length-4
-    returns-5)
+    returns-5
+    same-length-5
+    returns-6)

@@ -8,11 +8,11 @@ use Rattle.marks.proofs.braces.Tie as tie
 peek-requires : tie.Need-peek-requires
 peek-requires c κs = search needs
 
-add-number : tie.Need-add-number
-add-number c = search needs
+add-reaching : tie.Need-add-reaching
+add-reaching c = search needs
 
-number-requires : tie.Need-number-requires
-number-requires c κs = search (needs, next-in)
+reaching-requires : tie.Need-reaching-requires
+reaching-requires c κs = search (needs, next-in)
 
 returns : tie.Need-returns
 returns c = search (needs, brace-comma-bad, not-true)
@@ -23,8 +23,8 @@ shut-requires c κs = search needs
 returns-2 : tie.Need-returns-2
 returns-2 c = search (needs, brace-comma, not-false)
 
-number-requires-2 : tie.Need-number-requires-2
-number-requires-2 c κs = search needs
+number-requires : tie.Need-number-requires
+number-requires c κs = search (needs, next-in)
 
 returns-3 : tie.Need-returns-3
 returns-3 c = search (needs, brace-bad, not-true)
@@ -52,12 +52,12 @@ braces-spec =
     tie.close
     (tie.spec
     peek-requires
-    add-number
-    number-requires
+    add-reaching
+    reaching-requires
     returns
     shut-requires
     returns-2
-    number-requires-2
+    number-requires
     returns-3
     peek-requires-2
     add-up-to

@@ -12,6 +12,9 @@ peek-requires c κs = search needs
 is-digit-requires : tie.Need-is-digit-requires
 is-digit-requires c κs = search needs
 
+no-number-requires : tie.Need-no-number-requires
+no-number-requires c κs = search needs
+
 returns : tie.Need-returns
 returns c = search (needs, number-none, not-true)
 
@@ -36,29 +39,35 @@ add-t10 c = omega arith
 returns-2 : tie.Need-returns-2
 returns-2 c = search (needs, number-one, not-true, not-false)
 
+add-no-number : tie.Need-add-no-number
+add-no-number c = omega arith
+
+no-number-requires-2 : tie.Need-no-number-requires-2
+no-number-requires-2 c κs = search needs
+
 returns-3 : tie.Need-returns-3
 returns-3 c = search (needs, number-zero, not-false)
 
 wide-requires-2 : tie.Need-wide-requires-2
 wide-requires-2 c κs = search needs
 
-sub-t11 : tie.Need-sub-t11
-sub-t11 c = search (needs, digits-from, not-true, not-false)
+sub-t12 : tie.Need-sub-t12
+sub-t12 c = search (needs, digits-from, not-true, not-false)
 
-mul-t12 : tie.Need-mul-t12
-mul-t12 c = omega arith
+mul-t13 : tie.Need-mul-t13
+mul-t13 c = omega arith
 
 wide-requires-3 : tie.Need-wide-requires-3
 wide-requires-3 c κs = search needs
 
-sub-t14 : tie.Need-sub-t14
-sub-t14 c = search (needs, digits-from, not-true, not-false)
-
-add-t15 : tie.Need-add-t15
-add-t15 c = omega arith
+sub-t15 : tie.Need-sub-t15
+sub-t15 c = search (needs, digits-from, not-true, not-false)
 
 add-t16 : tie.Need-add-t16
 add-t16 c = omega arith
+
+add-t17 : tie.Need-add-t17
+add-t17 c = omega arith
 
 returns-4 : tie.Need-returns-4
 returns-4 c = search (needs, number-two, not-false)
@@ -69,6 +78,7 @@ number-spec =
     (tie.spec
     peek-requires
     is-digit-requires
+    no-number-requires
     returns
     add-peek
     peek-requires-2
@@ -77,12 +87,14 @@ number-spec =
     sub-t9
     add-t10
     returns-2
+    add-no-number
+    no-number-requires-2
     returns-3
     wide-requires-2
-    sub-t11
-    mul-t12
+    sub-t12
+    mul-t13
     wide-requires-3
-    sub-t14
-    add-t15
+    sub-t15
     add-t16
+    add-t17
     returns-4)

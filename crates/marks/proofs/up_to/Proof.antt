@@ -1,5 +1,5 @@
 -- `marks::up_to` meets its contract. Laws: MarkLaws.
-use Rattle.marks.proofs.MarkLaws.{up-shut, up-bad, up-got, next-in}
+use Rattle.marks.proofs.MarkLaws.{up-shut, up-bad, up-got, reached-least, next-in}
 use borrow.Author.Tests.{not-true, not-false}
 use borrow.Author.Needs.{needs}
 use Rattle.marks.proofs.up_to.Statement.{statement}
@@ -17,14 +17,14 @@ reluctant-requires c κs = search (needs, next-in)
 returns : tie.Need-returns
 returns c = search (needs, up-shut)
 
-number-requires : tie.Need-number-requires
-number-requires c κs = search needs
+reaching-requires : tie.Need-reaching-requires
+reaching-requires c κs = search needs
 
 returns-2 : tie.Need-returns-2
 returns-2 c = search (needs, up-bad, not-true)
 
 shut-requires : tie.Need-shut-requires
-shut-requires c κs = search needs
+shut-requires c κs = (search needs, search (needs, reached-least, not-false))
 
 returns-3 : tie.Need-returns-3
 returns-3 c = search (needs, up-got, not-false)
@@ -37,7 +37,7 @@ up-to-spec =
     add-reluctant
     reluctant-requires
     returns
-    number-requires
+    reaching-requires
     returns-2
     shut-requires
     returns-3)

@@ -13,8 +13,8 @@ enum-told c = search needs
 settle-requires : tie.Need-settle-requires
 settle-requires c κs = search needs
 
-enum-told-2 : tie.Need-enum-told-2
-enum-told-2 c = search needs
+enum-known-to : tie.Need-enum-known-to
+enum-known-to c = search needs
 
 no-step-requires : tie.Need-no-step-requires
 no-step-requires c κs = search needs
@@ -50,7 +50,7 @@ finish-spec =
     quantifier-requires
     enum-told
     settle-requires
-    enum-told-2
+    enum-known-to
     no-step-requires
     enum-known-form
     rounds-requires

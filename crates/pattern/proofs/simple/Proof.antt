@@ -40,7 +40,7 @@ no-head-requires : tie.Need-no-head-requires
 no-head-requires c κs = search needs
 
 returns-3 : tie.Need-returns-3
-returns-3 c = simple-other _ _ _ _ (c .before .before .before .before .before .peek .ensures) _ _ (c .before .before .before .before .if1 .left) (c .before .before .before .if2 .left) (c .before .before .is-letter .ensures) (not-true _ (c .before .if3 .taken)) (c .no-head .ensures)
+returns-3 c = search (needs, simple-other, not-true)
 
 add-peek : tie.Need-add-peek
 add-peek c = omega arith
@@ -51,11 +51,14 @@ peek-requires-2 c κs = search needs
 is-letter-requires-2 : tie.Need-is-letter-requires-2
 is-letter-requires-2 c κs = search needs
 
+add-no-head : tie.Need-add-no-head
+add-no-head c = search needs
+
 no-head-requires-2 : tie.Need-no-head-requires-2
 no-head-requires-2 c κs = search needs
 
 returns-4 : tie.Need-returns-4
-returns-4 c = simple-touch _ _ _ _ (c .before .before .before .before .before .before .before .before .peek .ensures) _ _ _ _ (c .before .before .before .before .before .before .before .if1 .left) (c .before .before .before .before .before .before .if2 .left) (c .before .before .before .before .before .is-letter .ensures) (not-false _ (c .before .before .before .before .if3 .left)) (c .before .before .before .peek2 .ensures) (c .before .before .is-letter2 .ensures) (c .before .if4 .taken) (c .no-head2 .ensures)
+returns-4 c = search (needs, simple-touch, not-false)
 
 add-skip-3 : tie.Need-add-skip-3
 add-skip-3 c = omega arith
@@ -88,6 +91,7 @@ simple-spec =
     add-peek
     peek-requires-2
     is-letter-requires-2
+    add-no-head
     no-head-requires-2
     returns-4
     add-skip-3

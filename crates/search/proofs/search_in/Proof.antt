@@ -18,7 +18,7 @@ same-length : tie.Need-same-length
 same-length c = search needs
 
 returns : tie.Need-returns
-returns c = query-refused _ _ _ _ _ _ _ (c .before .before .before .before .read-query .ensures .answer) (c .before .if1 .taken) _ (c .refused .ensures)
+returns c = query-refused _ _ _ _ _ _ _ _ (c .before .before .before .before .read-query .ensures .answer) (c .before .before .before .before .read-query .ensures .offset) (c .before .if1 .taken) _ (c .refused .ensures)
 
 div-n : tie.Need-div-n
 div-n c = let h = some-column _ _ _ _ _ _ (c .before .before .before .read-query .ensures) (c .if1 .left) [] in omega arith

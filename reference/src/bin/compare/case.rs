@@ -2,7 +2,7 @@
 //! seed of the noise. The product and the reference are lent the same, and what
 //! they return and leave has to be the same in every item.
 
-use crate::engine::{Engine, Four, Reference};
+use crate::engine::{Engine, Five, Reference};
 use crate::lent::Lent;
 use reference::generate::Input;
 use std::sync::atomic::{AtomicUsize, Ordering};
@@ -25,11 +25,11 @@ pub struct Case {
 
 impl Case {
     /// What a call returns and what it leaves in all it was lent.
-    pub fn run(&self, engine: &dyn Engine) -> (Four, Lent) {
+    pub fn run(&self, engine: &dyn Engine) -> (Five, Lent) {
         self.run_on(engine, Lent::new(&self.input, self.noise))
     }
 
-    fn run_on(&self, engine: &dyn Engine, mut lent: Lent) -> (Four, Lent) {
+    fn run_on(&self, engine: &dyn Engine, mut lent: Lent) -> (Five, Lent) {
         CALLS.fetch_add(1, Ordering::Relaxed);
         let returned = match self.call {
             Call::Search => engine.search(&mut lent),
@@ -44,10 +44,10 @@ impl Case {
     }
 
     /// What the four returned numbers are called.
-    pub fn names(&self) -> [&'static str; 4] {
+    pub fn names(&self) -> [&'static str; 5] {
         match self.call {
-            Call::Search => ["answer", "matches", "labels", "steps"],
-            Call::Room => ["answer", "P", "n", "pairs"],
+            Call::Search => ["answer", "matches", "labels", "steps", "offset"],
+            Call::Room => ["answer", "P", "n", "pairs", "offset"],
         }
     }
 }

@@ -1,21 +1,22 @@
 //! Those that are compared: the product through its C face, and the reference.
-//! Both take what they are lent and return four numbers: a search its answer,
-//! matches, labels and steps; a judgement of room its answer, P, n and P(n+1).
+//! Both take what they are lent and return five numbers: a search its answer,
+//! matches, labels, steps and offset; a judgement of room its answer, P, n,
+//! P(n+1) and offset.
 
 use crate::lent::Lent;
 use reference::search;
 
-pub type Four = [u64; 4];
+pub type Five = [u64; 5];
 
 pub trait Engine {
-    fn search(&self, lent: &mut Lent) -> Four;
-    fn room(&self, lent: &mut Lent) -> Four;
+    fn search(&self, lent: &mut Lent) -> Five;
+    fn room(&self, lent: &mut Lent) -> Five;
 }
 
 pub struct Reference;
 
 impl Engine for Reference {
-    fn search(&self, lent: &mut Lent) -> Four {
+    fn search(&self, lent: &mut Lent) -> Five {
         let outcome = search::search(
             lent.query.items(),
             lent.rows.items(),
@@ -29,13 +30,15 @@ impl Engine for Reference {
             outcome.matches,
             outcome.labels,
             outcome.steps,
+            outcome.offset,
         ]
     }
 
-    fn room(&self, lent: &mut Lent) -> Four {
+    fn room(&self, lent: &mut Lent) -> Five {
         let (answer, places, n) = search::room(lent.query.items(), lent.rows.items());
         let (_, pairs) = search::working_room(places, n);
-        [answer.into(), places as u64, n as u64, pairs as u64]
+        let offset = search::offset(lent.query.items(), answer);
+        [answer.into(), places as u64, n as u64, pairs as u64, offset]
     }
 }
 
@@ -45,9 +48,9 @@ pub struct Product;
 
 #[cfg(all(mireladle, not(test)))]
 mod face {
-    /// The four numbers of either result, one behind the other.
+    /// The five numbers of either result, one behind the other.
     #[repr(C)]
-    pub struct Result(pub super::Four);
+    pub struct Result(pub super::Five);
 
     extern "C" {
         pub fn mireladle_search(
@@ -78,7 +81,7 @@ mod face {
 // two of them overlap: that is all the header asks for.
 #[cfg(all(mireladle, not(test)))]
 impl Engine for Product {
-    fn search(&self, lent: &mut Lent) -> Four {
+    fn search(&self, lent: &mut Lent) -> Five {
         let result = unsafe {
             face::mireladle_search(
                 lent.query.pointer(),
@@ -98,7 +101,7 @@ impl Engine for Product {
         result.0
     }
 
-    fn room(&self, lent: &mut Lent) -> Four {
+    fn room(&self, lent: &mut Lent) -> Five {
         let result = unsafe {
             face::mireladle_room(
                 lent.query.pointer(),

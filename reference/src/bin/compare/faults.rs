@@ -2,7 +2,7 @@
 //! that does one thing wrong, by reading another query than it was lent, or by
 //! changing what it returns or leaves. Each has to be found and shrunk.
 
-use crate::engine::{Engine, Four};
+use crate::engine::{Engine, Five};
 use crate::lent::{Guarded, Lent};
 use reference::generate::Random;
 use reference::pattern;
@@ -24,14 +24,14 @@ enum Wrong {
     /// Ends a search in another way.
     Ends(fn(&mut Search)),
     /// Judges room in another way.
-    Judges(fn(&mut Four, &Lent)),
+    Judges(fn(&mut Five, &Lent)),
 }
 
 /// A search that was right so far.
 struct Search<'a> {
     before: &'a Lent,
     lent: &'a mut Lent,
-    returned: &'a mut Four,
+    returned: &'a mut Five,
     /// Where the query and the rows have none of the answers 1 to 10.
     accepted: Option<Accepted>,
 }
@@ -43,7 +43,7 @@ pub struct Faulty<'a> {
 }
 
 impl Engine for Faulty<'_> {
-    fn search(&self, lent: &mut Lent) -> Four {
+    fn search(&self, lent: &mut Lent) -> Five {
         let before = lent.clone();
         let mut returned = self.called(lent, |lent| self.engine.search(lent));
         if let Wrong::Ends(wrong) = self.fault.wrong {
@@ -57,7 +57,7 @@ impl Engine for Faulty<'_> {
         returned
     }
 
-    fn room(&self, lent: &mut Lent) -> Four {
+    fn room(&self, lent: &mut Lent) -> Five {
         let mut returned = self.called(lent, |lent| self.engine.room(lent));
         if let Wrong::Judges(wrong) = self.fault.wrong {
             wrong(&mut returned, lent);
@@ -68,7 +68,7 @@ impl Engine for Faulty<'_> {
 
 impl Faulty<'_> {
     /// A call with what the engine reads in the place of query and rows.
-    fn called(&self, lent: &mut Lent, call: impl Fn(&mut Lent) -> Four) -> Four {
+    fn called(&self, lent: &mut Lent, call: impl Fn(&mut Lent) -> Five) -> Five {
         let Wrong::Reads(wrong) = self.fault.wrong else {
             return call(lent);
         };
@@ -96,7 +96,7 @@ impl Search<'_> {
 
     fn refuse(&mut self, answer: u64) {
         *self.lent = self.before.clone();
-        *self.returned = [answer, 0, 0, 0];
+        *self.returned = [answer, 0, 0, 0, 0];
     }
 
     /// P and P(n+1), where the search ended as done or stopped.
@@ -146,7 +146,7 @@ const fn ends(name: &'static str, about: &'static str, wrong: fn(&mut Search)) -
     }
 }
 
-const fn judges(name: &'static str, about: &'static str, wrong: fn(&mut Four, &Lent)) -> Fault {
+const fn judges(name: &'static str, about: &'static str, wrong: fn(&mut Five, &Lent)) -> Fault {
     Fault {
         name,
         about,
@@ -630,7 +630,7 @@ fn change_comparisons(query: &mut Vec<u8>, change: impl Fn(&mut [u8])) {
 }
 
 /// A judgement of 7 for a P that is small once it has wrapped.
-fn wrap_places(returned: &mut Four, lent: &Lent, modulus: u128) {
+fn wrap_places(returned: &mut Five, lent: &Lent, modulus: u128) {
     if returned[0] != 7 {
         return;
     }
@@ -639,6 +639,6 @@ fn wrap_places(returned: &mut Four, lent: &Lent, modulus: u128) {
         .and_then(|query| pattern::read(&query.text));
     let wrapped = tree.map_or(0, |tree| tree.count_with_end() % modulus);
     if (1..=256).contains(&wrapped) {
-        *returned = [0, wrapped as u64, 1, 2 * wrapped as u64];
+        *returned = [0, wrapped as u64, 1, 2 * wrapped as u64, 0];
     }
 }

@@ -117,7 +117,7 @@ pub const STREAMS: [Stream; 19] = [
     ),
     random(
         "answers",
-        "each answer 1 to 13 and each pair of them, from many causes",
+        "each answer 1 to 14 and each pair of them, from many causes",
         60_000,
         answers,
     ),
@@ -319,7 +319,7 @@ fn critical(seed: u64) -> Cases {
 /// All pairs in turn, the equal ones among them.
 fn answers(seed: u64) -> Cases {
     made(seed, |random, number| {
-        let answers = [1 + number % 13, 1 + number / 13 % 13].map(|answer| answer as u8);
+        let answers = [1 + number % 14, 1 + number / 14 % 14].map(|answer| answer as u8);
         loop {
             let mut draft = mix::accepted(random, &SMALL, Numbers::Low);
             if damage_twice(random, &mut draft, answers) {

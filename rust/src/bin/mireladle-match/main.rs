@@ -250,9 +250,11 @@ fn search(
 ) -> Result<Ending, Failure> {
     let refused = |error: Error| {
         let line = match error {
-            Error::TooDeep | Error::NotAPattern | Error::EmptyRepetition | Error::TooManyPlaces => {
-                Some(text.pattern.clone())
-            }
+            Error::TooDeep
+            | Error::NotAPattern { .. }
+            | Error::PatternEnds { .. }
+            | Error::EmptyRepetition
+            | Error::TooManyPlaces => Some(text.pattern.clone()),
             Error::DefinedTwice => text.defined_again.clone(),
             Error::MeasureLetter => text.measures.clone(),
             _ => None,
@@ -347,7 +349,7 @@ fn refusal(error: Error, line: Option<&(PathBuf, Shown)>) -> String {
         format!("\n{}:{number}: {}", path.display(), visible(text))
     });
     let mark = match (error, line) {
-        (Error::NotAPattern, Some((path, shown))) => pattern_mark(path, shown),
+        (Error::NotAPattern { .. } | Error::PatternEnds { .. }, Some((path, shown))) => pattern_mark(path, shown),
         _ => String::new(),
     };
     format!("refused{number}: {error}{place}{mark}")

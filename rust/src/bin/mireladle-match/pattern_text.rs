@@ -1,41 +1,17 @@
-//! Where a text stops being a pattern. The library says only that it is none; so it is asked about the text's front
-//! parts, each with an end put to it.
+//! Where a text stops being a pattern, which the library tells with answers 5 and 14.
 
 use mireladle::{Error, Query};
 
-/// Ends for a front part of a pattern: it may be whole, or wait for a letter or for the rest of a bound.
-const ENDS: [&str; 6] = ["", "A", "}", "1}", "9}", ",}"];
-/// A longer front part has no room for an end within a pattern's 256 bytes.
-const LONGEST: usize = 240;
-
 /// How many characters of a text can stand at the front of a pattern: all of them where something is missing behind
-/// them. Nothing is said of a text that is too long to be asked about.
+/// them. Nothing is said of a text that is refused for another reason.
 pub fn front(text: &str) -> Option<usize> {
-    if text.len() > LONGEST {
-        return None;
-    }
-    let ends = text
-        .char_indices()
-        .map(|(at, c)| at.saturating_add(c.len_utf8()));
-    Some(
-        ends.take_while(|end| text.get(..*end).is_some_and(is_front))
-            .count(),
-    )
-}
-
-/// Whether some pattern begins with this text.
-fn is_front(text: &str) -> bool {
-    let open = text.matches('(').count();
-    let closed = text.matches(')').count();
-    let missing = ")".repeat(open.saturating_sub(closed));
-    ENDS.iter()
-        .any(|end| is_pattern(format!("{text}{end}{missing}")))
-}
-
-/// Whether a text is in the pattern language, be it refused for another reason.
-fn is_pattern(text: String) -> bool {
-    let judged = Query::builder(1).pattern(text).build();
-    !matches!(judged, Err(Error::NotAPattern))
+    let offset = match Query::builder(1).pattern(text).build() {
+        Ok(_) => text.len(),
+        Err(Error::NotAPattern { offset } | Error::PatternEnds { offset }) => offset.try_into().ok()?,
+        Err(_) => return None,
+    };
+    let before = text.char_indices().take_while(|(at, _)| *at < offset);
+    Some(before.count())
 }
 
 #[cfg(test)]
@@ -72,7 +48,6 @@ mod tests {
             ("(A (B", "     ^"),
             ("A{2,", "    ^"),
         ] {
-            assert!(!is_pattern(String::from(text)), "{text}");
             assert_eq!(front(text), Some(mark.len() - 1), "{text}");
         }
     }
@@ -84,12 +59,11 @@ mod tests {
             "^ (A | B+?)*? $",
             "() A{2} B{0,} C{,3} D{10,99}?",
             "((((((((A))))))))",
-            "(A*)*",
-            "(A{99}){99}",
         ] {
-            assert!(is_pattern(String::from(text)), "{text}");
             assert_eq!(front(text), Some(text.len()), "{text}");
         }
-        assert_eq!(front(&" ".repeat(241)), None);
+        for refused in ["(A*)*", "(A{99}){99}", &" ".repeat(257)] {
+            assert_eq!(front(refused), None);
+        }
     }
 }

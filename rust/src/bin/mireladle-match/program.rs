@@ -61,7 +61,7 @@ fn read(printed: &str, measures: usize) -> Result<Report, Failed> {
         ["too", "large"] => return Err(Failed::TooLarge),
         ["refused", number] => {
             let number = number.parse().map_err(|_| strange(head))?;
-            return Err(Failed::Refused(Error::from_answer(number)));
+            return Err(Failed::Refused(Error::from_answer(number, 0)));
         }
         _ => return Err(strange(head)),
     };
@@ -81,6 +81,7 @@ fn read(printed: &str, measures: usize) -> Result<Report, Failed> {
         matches: count,
         labels: u64::try_from(labels.len()).unwrap_or(u64::MAX),
         steps: steps.parse().map_err(|_| strange(head))?,
+        offset: 0,
     };
     Report::new(&outcome, numbers, labels.into_bytes(), measures).map_err(|_| strange(head))
 }
