@@ -1,18 +1,15 @@
--- Answers 4, 5 or 14, 6 and 7 for a pattern's text, by the tests of the rules' Answers, the first that applies; and what the functions that walk over a
--- tree's nodes promise.
+-- Answers 4, 5 or 14, 6 and 7 for a pattern's text, by the tests of the rules' Answers, the first that applies; and what `judge` promises.
 use mathlib.Core.Path.{_≡_}
-use mathlib.Core.Bool.{Bool}
 use mathlib.Core.List.{List, [], _∷_}
 use mathlib.Core.Option.{some}
-use Prim.Native.Nat.{ℕ, _+_, _*_, _≤_}
+use Prim.Native.Nat.{ℕ, _*_, _≤_}
 use lib.Dec.{eqb}
 use lib.ListN.{length, getD}
 use Rattle.rules.specs.Basics.{pick}
-use Rattle.rules.specs.Language.{Tree, pattern, nullable, emptyLoop}
+use Rattle.rules.specs.Language.{Tree, pattern}
 use Rattle.rules.specs.Reader.{treeOf}
 use Rattle.rules.specs.Answers.{deep, wrong, unfinished, hasEmptyLoop, tooMany, P, Test, firstOf, offsetAt}
 use Rattle.pattern.specs.Held.{Top}
-use Rattle.judge.specs.declared.Depth.{Depth}
 use Rattle.judge.specs.declared.Verdict.{Verdict}
 
 -- the tests that ask the pattern's text alone
@@ -27,19 +24,6 @@ textAnswer s = firstOf (textTests s)
 
 abbrev pub refusal : ℕ → ℕ → Verdict
 refusal a k = record { answer = a; offset = k; places = 0; top = 0 }
-
--- the counts of parentheses behind one more byte: ( is 40, ) is 41
-pub record Behind (b : ℕ) (d r : Depth) : Type 0 where
-  pub open-counted : b ≡ 40 → (r .opened ≡ d .opened + 1) × (r .closed ≡ d .closed)
-  pub shut-counted : b ≡ 41 → (r .opened ≡ d .opened) × (r .closed ≡ d .closed + 1)
-  pub others : (b ≡ 40 → ⊥) → (b ≡ 41 → ⊥) → (r .opened ≡ d .opened) × (r .closed ≡ d .closed)
-
--- r is right for whatever tree has its top at i
-abbrev pub Nullable : List ℕ → ℕ → Bool → Type 0
-Nullable s i r = (p : Tree pattern) → Top p i s → r ≡ nullable p
-
-abbrev pub EmptyLoop : List ℕ → ℕ → Bool → Type 0
-EmptyLoop s i r = (p : Tree pattern) → Top p i s → r ≡ emptyLoop p
 
 -- what `judge` promises: the answer and its offset; where it is 0, P, and the room holds the text's tree with its top at node `top`; words behind the tree's own
 -- room are as they were

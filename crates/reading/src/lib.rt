@@ -30,7 +30,7 @@ fn is_known(text: &[u8], letter: u8) -> bool
     if letter == 0 {
         return true;
     }
-    judge::has_byte(text, letter)
+    scan::has_byte(text, letter)
 }
 
 // Whether some measure's letter does not stand in the pattern's text.

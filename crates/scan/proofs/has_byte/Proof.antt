@@ -1,10 +1,10 @@
--- `judge::has_byte` meets its contract. Laws: Laws.
-use Rattle.judge.proofs.Laws.{Without, without-none, without-end, without-found, without-more}
+-- `scan::has_byte` meets its contract. Laws: Laws.
+use Rattle.scan.proofs.Laws.{Without, without-none, without-end, without-found, without-more}
 use lib.ListN.{length}
 use Prim.Native.Nat.{_-_}
 use borrow.Author.Needs.{needs}
-use Rattle.judge.proofs.has_byte.Statement.{statement}
-use Rattle.judge.proofs.has_byte.Tie as tie
+use Rattle.scan.proofs.has_byte.Statement.{statement}
+use Rattle.scan.proofs.has_byte.Tie as tie
 
 abbrev Inv-loop : tie.InvT-loop
 Inv-loop text b i₀ i = Without text b i

@@ -1,18 +1,18 @@
--- `judge::can_be_empty`, which calls itself, meets its contract.
+-- `loops::can_be_empty`, which calls itself, meets its contract.
 -- The measure: the node's height. Laws: pattern's ByNode, Laws.
 use Rattle.pattern.proofs.ByNode.{at-in, seq-left, seq-right, alt-left, alt-right, group-left}
-use Rattle.judge.proofs.Laws.{null-zero, null-letter, null-anchor, null-empty, null-group, null-seq, null-seq-no, null-alt, null-alt-second}
+use Rattle.loops.proofs.Laws.{null-zero, null-letter, null-anchor, null-empty, null-group, null-seq, null-seq-no, null-alt, null-alt-second}
 use Rattle.nodes.specs.Nodes.{nodeAt}
 use borrow.Author.Needs.{needs}
 use Prim.Native.Nat.{ℕ, _<_}
 use borrow.Fn.Kinds.{In}
 use borrow.Fn.PlainCycle.{Measures, is, falls, and}
-use Rattle.judge.proofs.can_be_empty.Reads as can-be-empty
-use Rattle.judge.proofs.can_be_empty.Kinds as can-be-empty-kinds
-use Rattle.judge.proofs.+can_be_empty.Lts-can_be_empty as can-be-empty-lts
+use Rattle.loops.proofs.can_be_empty.Reads as can-be-empty
+use Rattle.loops.proofs.can_be_empty.Kinds as can-be-empty-kinds
+use Rattle.loops.proofs.+can_be_empty.Lts-can_be_empty as can-be-empty-lts
 use Rattle.nodes.proofs.node_at.Reads as node-at-reads
-use Rattle.judge.proofs.+can_be_empty.{statement}
-use Rattle.judge.proofs.+can_be_empty.Tie.{close}
+use Rattle.loops.proofs.+can_be_empty.{statement}
+use Rattle.loops.proofs.+can_be_empty.Tie.{close}
 
 abbrev μ-can-be-empty : Measures 1 can-be-empty-kinds.ps ℕ
 μ-can-be-empty κs a = (nodeAt (a .0 .now) (a .1 .0)) .height

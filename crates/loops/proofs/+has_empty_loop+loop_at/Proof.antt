@@ -1,24 +1,24 @@
--- `judge::has_empty_loop` and `judge::loop_at`, which call each other, meet their contracts.
+-- `loops::has_empty_loop` and `loops::loop_at`, which call each other, meet their contracts.
 -- The measure: twice the node's height, and one more for `loop_at`, which looks at a node first. Laws: pattern's ByNode, Laws.
 use mathlib.Core.Path.{refl}
 use Rattle.pattern.proofs.ByNode.{at-in, seq-left, seq-right, alt-left, alt-right, group-left}
-use Rattle.judge.proofs.Laws.{twice, one-less, loop-letter-at, loop-letter, loop-anchor, loop-empty, loop-seq, loop-seq-second, loop-alt, loop-alt-second, loop-group, loop-group-null, loop-group-rest, group-inside}
+use Rattle.loops.proofs.Laws.{twice, one-less, loop-letter-at, loop-letter, loop-anchor, loop-empty, loop-seq, loop-seq-second, loop-alt, loop-alt-second, loop-group, loop-group-null, loop-group-rest, group-inside}
 use Rattle.nodes.specs.Nodes.{nodeAt}
 use borrow.Author.Needs.{needs}
 use Prim.Native.Nat.{ℕ, _+_, _*_, _<_}
 use borrow.Fn.Kinds.{In}
 use borrow.Fn.PlainCycle.{Measures, is, falls, and}
-use Rattle.judge.proofs.has_empty_loop.Reads as has-empty-loop
-use Rattle.judge.proofs.has_empty_loop.Kinds as has-empty-loop-kinds
-use Rattle.judge.proofs.+has_empty_loop+loop_at.Lts-has_empty_loop as has-empty-loop-lts
-use Rattle.judge.proofs.loop_at.Reads as loop-at
-use Rattle.judge.proofs.loop_at.Kinds as loop-at-kinds
-use Rattle.judge.proofs.+has_empty_loop+loop_at.Lts-loop_at as loop-at-lts
-use Rattle.judge.proofs.can_be_empty.Reads as can-be-empty-reads
+use Rattle.loops.proofs.has_empty_loop.Reads as has-empty-loop
+use Rattle.loops.proofs.has_empty_loop.Kinds as has-empty-loop-kinds
+use Rattle.loops.proofs.+has_empty_loop+loop_at.Lts-has_empty_loop as has-empty-loop-lts
+use Rattle.loops.proofs.loop_at.Reads as loop-at
+use Rattle.loops.proofs.loop_at.Kinds as loop-at-kinds
+use Rattle.loops.proofs.+has_empty_loop+loop_at.Lts-loop_at as loop-at-lts
+use Rattle.loops.proofs.can_be_empty.Reads as can-be-empty-reads
 use Rattle.nodes.proofs.node_at.Reads as node-at-reads
 use Rattle.nodes.proofs.sort_at.Reads as sort-at-reads
-use Rattle.judge.proofs.+has_empty_loop+loop_at.{statement}
-use Rattle.judge.proofs.+has_empty_loop+loop_at.Tie.{close}
+use Rattle.loops.proofs.+has_empty_loop+loop_at.{statement}
+use Rattle.loops.proofs.+has_empty_loop+loop_at.Tie.{close}
 
 abbrev μ-has-empty-loop : Measures 1 has-empty-loop-kinds.ps ℕ
 μ-has-empty-loop κs a = 2 * (nodeAt (a .0 .now) (a .1 .0)) .height

@@ -1,0 +1,96 @@
+// Can take no row, and answer 6: whether a pattern's tree has an unbounded quantifier over a body that can take no row. Both recurse over the tree's
+// nodes; the node's height falls. The promises are equations with document 01's tests on the tree (specs/Loops).
+use nodes::Sort;
+use nodes::node_at;
+use nodes::sort_at;
+ghost use mathlib.Core.Path.{_≡_};
+ghost use mathlib.Core.Bool.{true, false};
+ghost use Prim.Native.Nat.{ℕ, _+_, _*_, _-_, _≤_, _<_};
+ghost use Rattle.pattern.specs.Held.{At};
+ghost use Rattle.loops.specs.Loops.{Nullable, EmptyLoop};
+
+// Whether the tree at i can take no row.
+fn can_be_empty(room: &[u16], i: usize) -> bool
+    requires { ⌜ At (now room) i ⌝ }
+    ensures { λ r. ⌜ Nullable (now (room .entry)) i r ⌝ }
+{
+    let n = node_at(room, i);
+    let sort = n.sort;
+    let left = n.left;
+    let right = n.right;
+    if n.low == 0 {
+        return true;
+    }
+    match sort {
+        Sort::Letter(_) => false,
+        Sort::Anchor(_) => true,
+        Sort::Empty => true,
+        Sort::Sequence => {
+            if can_be_empty(room, left) {
+                can_be_empty(room, right)
+            } else {
+                false
+            }
+        }
+        Sort::Alternation => {
+            if can_be_empty(room, left) {
+                true
+            } else {
+                can_be_empty(room, right)
+            }
+        }
+        Sort::Group => can_be_empty(room, left),
+    }
+}
+
+// Whether the tree at i has an unbounded quantifier over a body that can take no row.
+pub fn has_empty_loop(room: &[u16], i: usize) -> bool
+    requires { ⌜ At (now room) i ⌝ }
+    ensures { λ r. ⌜ EmptyLoop (now (room .entry)) i r ⌝ }
+{
+    let n = node_at(room, i);
+    let sort = n.sort;
+    let left = n.left;
+    let right = n.right;
+    let high = n.high;
+    match sort {
+        Sort::Letter(_) => false,
+        Sort::Anchor(_) => high == 100,
+        Sort::Empty => high == 100,
+        Sort::Sequence => {
+            if loop_at(room, left) {
+                true
+            } else {
+                loop_at(room, right)
+            }
+        }
+        Sort::Alternation => {
+            if loop_at(room, left) {
+                true
+            } else {
+                loop_at(room, right)
+            }
+        }
+        Sort::Group => {
+            if high != 100 {
+                return loop_at(room, left);
+            }
+            if can_be_empty(room, left) {
+                return true;
+            }
+            loop_at(room, left)
+        }
+    }
+}
+
+// The same of a part of a tree. Most parts are letters, which are not worth a call.
+fn loop_at(room: &[u16], i: usize) -> bool
+    requires { ⌜ At (now room) i ⌝ }
+    ensures { λ r. ⌜ EmptyLoop (now (room .entry)) i r ⌝ }
+{
+    let sort = sort_at(room, i);
+    if let Sort::Letter(_) = sort {
+        return false;
+    }
+    has_empty_loop(room, i)
+}
