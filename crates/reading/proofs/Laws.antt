@@ -24,6 +24,7 @@ use Rattle.rules.proofs.Grammar.{tree-exactly}
 use Rattle.rules.proofs.FirstTrue.{allRefuse, first-before, first-after, none-true}
 use Rattle.rules.proofs.Stops.{tree-there}
 use Rattle.query.specs.Order.{firstAnswer}
+use Rattle.sizes.specs.Sizes.{badCount}
 use Rattle.rules.specs.Reader.{treeOf}
 use Rattle.decode.specs.declared.Parts.{Parts}
 use Rattle.judge.specs.declared.Verdict.{Verdict}
@@ -355,22 +356,18 @@ module _ (q measures₀ room defines measures : List ℕ) (r : Query)
     ten : badRows q rows ≡ true → refusedRoom 10 ≡ roomOf q rows
     ten t = room-not 10 (λ e. omega arith) (rows-answer ∙ ap (λ (b : Bool). pick b 10 0) t)
 
-    pub ragged-refused : (x : Size) → (length rows % r .columns ≡ 0 → ⊥) → x ≡ record { answer = 10; places = 0; rows = 0; offset = 0 } → asRoom x ≡ roomOf q rows
-    unfolding badRows offsetAt
-    ragged-refused x d i = ap asRoom i ∙ ten (rw (← the-columns, ne-eqb (length rows % r .columns) 0 d))
+    -- answer 10 by numbers
+    pub bad-rows : badRows q rows ≡ badCount (length rows) (r .columns)
+    unfolding badRows badCount tableOf
+    bad-rows = rw (← the-columns)
 
-    pub many-refused : (x : Size) → 4096 < length rows / r .columns → x ≡ record { answer = 10; places = 0; rows = 0; offset = 0 } → asRoom x ≡ roomOf q rows
-    unfolding badRows tableOf offsetAt
-    many-refused x h i = ap asRoom i ∙ ten (rw (← the-columns, lt-ltb 4096 (length rows / r .columns) h) (or-true (not (eqb (length rows % r .columns) 0))))
-      where
-        or-true : (b : Bool) → (b || true) ≡ true
-        or-true true = refl
-        or-true false = refl
+    pub rows-refused : (x : Size) (t : Bool) → t ≡ badCount (length rows) (r .columns) → t ≡ true → x ≡ record { answer = 10; places = 0; rows = 0; offset = 0 } → asRoom x ≡ roomOf q rows
+    unfolding offsetAt
+    rows-refused x t e f i = ap asRoom i ∙ ten (bad-rows ∙ sym e ∙ f)
 
-    pub room-given : length rows % r .columns ≡ 0 → length rows / r .columns ≤ 4096
+    pub room-given : (t : Bool) → t ≡ badCount (length rows) (r .columns) → t ≡ false
         → asRoom (record { answer = 0; places = r .places; rows = length rows / r .columns; offset = 0 }) ≡ roomOf q rows
-    unfolding badRows tableOf roomOf
-    room-given e h =
-        let b : badRows q rows ≡ false = rw (← the-columns, e, le-ltb 4096 (length rows / r .columns) h) in
-        let x : roomAnswer q (badRows q rows) ≡ 0 = rows-answer ∙ ap (λ (b : Bool). pick b 10 0) b in
+    unfolding tableOf roomOf
+    room-given t e f =
+        let x : roomAnswer q (badRows q rows) ≡ 0 = rows-answer ∙ ap (λ (b : Bool). pick b 10 0) (bad-rows ∙ sym e ∙ f) in
         rw (x, ← the-columns, ← (whole .good .places))

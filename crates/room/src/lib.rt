@@ -75,13 +75,10 @@ fn room_in(nodes: &mut [u16], query: &[u8], rows: &[i32]) -> Size
         return no_room(answer, q.offset);
     }
     let columns = q.columns;
+    if sizes::bad_rows(rows.len(), columns) {
+        return no_room(10, 0);
+    }
     let n = rows.len() / columns;
-    if rows.len() % columns != 0 {
-        return no_room(10, 0);
-    }
-    if 4096 < n {
-        return no_room(10, 0);
-    }
     Size {
         answer: 0,
         places: q.places,

@@ -10,7 +10,9 @@ use native.Mathlib.Omega.{arith}
 use lib.Dec.{eqb, leb, ltb}
 use lib.IntN.{ℤ}
 use lib.ListN.{length, getD}
-use borrow.Author.Tests.{lt-ltb, le-ltb, le-leb, ltb-false, ne-eqb, eq-eqb}
+use mir.Syntax.{w64}
+use mir.Val.{Fits}
+use borrow.Author.Tests.{le-ltb, ltb-false, eqb-true, not-false}
 use Rattle.rules.specs.Basics.{pick}
 use Rattle.rules.specs.Rows.{tableOf}
 use Rattle.rules.specs.Query.{columnsOf, textOf, parts}
@@ -22,7 +24,10 @@ use Rattle.rules.specs.Answers.{treeIn, hasEmptyLoop, P, tooMany, badRows, Buff
 use Rattle.rules.proofs.Accepted.{done-or-stopped, query-tests-refuse}
 use Rattle.rules.proofs.Demands.{demands}
 use Rattle.rules.proofs.FirstTrue.{first-refuses, first-before, first-after, none-true}
+use Rattle.rules.proofs.Level.{or-false}
+use Rattle.sizes.specs.Sizes.{badCount, shortFor}
 use Rattle.reading.specs.Reading.{queryAnswer, GoodParts, Whole, Asked}
+use Rattle.reading.proofs.Laws.{bad-rows}
 use Rattle.reading.specs.declared.Query.{Query}
 use Rattle.outcome.specs.declared.Outcome.{Outcome}
 use Rattle.outcome.specs.Results.{lent, memory, refusal}
@@ -60,19 +65,25 @@ module _ (q : List ℕ) (rows : List ℤ) (notes trail : List ℕ) (numbers : Li
       refuse a k (the-answer-before (λ z. d (e ∙ z)) ∙ sym e) w o r b
 
   module _ (z : queryAnswer q ≡ 0) where
-    -- answers 10, 11 and 12
+    -- answer 10
     pub rows-refused : badRows q rows ≡ true → (r : Outcome) → r ≡ refusal 10 0 → Promised q rows before (memory r notes trail numbers labels)
     unfolding firstOf refuses offsetAt
     rows-refused t r b = refuse 10 0 (the-answer-after z ∙ rw t) refl refl r b
 
-    pub notes-refused : badRows q rows ≡ false → shortNotes q rows before ≡ true → (r : Outcome) → r ≡ refusal 11 0 → Promised q rows before (memory r notes trail numbers labels)
-    unfolding firstOf refuses offsetAt
-    notes-refused f t r b = refuse 11 0 (the-answer-after z ∙ rw (f, t)) refl refl r b
+    -- answers 11 and 12
+    the-room : badRows q rows ≡ false → answerOf q rows before ≡ pick (shortNotes q rows before) 11 (pick (shortTrail q rows before) 12 (pick (stopped (walkOf q rows before)) 13 0))
+    unfolding firstOf
+    the-room f = the-answer-after z ∙ rw f
 
-    pub trail-refused : badRows q rows ≡ false → shortNotes q rows before ≡ false → shortTrail q rows before ≡ true → (r : Outcome) → r ≡ refusal 12 0
+    pub room-refused : badRows q rows ≡ false → (s : ℕ) → s ≡ pick (shortNotes q rows before) 11 (pick (shortTrail q rows before) 12 0) → (s ≡ 0 → ⊥) → (r : Outcome) → r ≡ refusal s 0
         → Promised q rows before (memory r notes trail numbers labels)
-    unfolding firstOf refuses offsetAt
-    trail-refused f g t r b = refuse 12 0 (the-answer-after z ∙ rw (f, g, t)) refl refl r b
+    unfolding refuses offsetAt
+    room-refused f s e d r b = go (shortNotes q rows before) (shortTrail q rows before) refl refl
+      where
+        go : (u v : Bool) → shortNotes q rows before ≡ u → shortTrail q rows before ≡ v → Promised q rows before (memory r notes trail numbers labels)
+        go true v eu ev = refuse 11 0 (the-room f ∙ rw eu) refl refl r (b ∙ ap (λ (k : ℕ). refusal k 0) (e ∙ rw eu))
+        go false true eu ev = refuse 12 0 (the-room f ∙ rw (eu, ev)) refl refl r (b ∙ ap (λ (k : ℕ). refusal k 0) (e ∙ rw (eu, ev)))
+        go false false eu ev = absurd (d (e ∙ rw (eu, ev)))
 
     -- done or stopped
     pub search-ended : badRows q rows ≡ false → shortNotes q rows before ≡ false → shortTrail q rows before ≡ false → (m : Memory) → m ≡ ended q rows before → Promised q rows before m
@@ -95,101 +106,128 @@ clear-query q e =
     let no : (i : ℕ) → getD (queryTests q) i (0, false) .1 ≡ false = none-true (queryTests q) (query-tests-refuse q) e in
     record { loop = no 6; many = no 7 }
 
-module _ (q measures₀ room defines measures : List ℕ) (r : Query)
-    (a : Asked q measures₀ room defines measures r) (z : r .answer ≡ 0) (rows : List ℤ) where
-  abbrev whole : Whole q measures₀ room defines measures r
-  whole = a .good z
-
-  pub no-answer : queryAnswer q ≡ 0
-  no-answer = sym (a .answer) ∙ z
-
-  the-columns : r .columns ≡ columnsOf q
-  unfolding parts
-  the-columns = whole .good .columns ∙ whole .decoded .columns
-
-  pub some-column : 1 ≤ r .columns
-  some-column = omega (arith, whole .decoded .some, whole .good .columns)
-
-  the-tree : P (treeIn q) ≡ placesOf (whole .good .tree)
-  unfolding P
-  the-tree = ap P (whole .good .is)
-
-  -- the measures' array keeps its length
-  pub kept-long : length measures₀ ≡ 24 → length measures ≡ 24
-  kept-long e = whole .decoded .long
-
-  pub few-places : r .places ≤ 256
+-- an accepted query has at most 256 places, and so many entries that make good rows at most 1,048,832 pairs
+module _ (q measures₀ room defines measures : List ℕ) (r : Query) (a : Asked q measures₀ room defines measures r) (z : r .answer ≡ 0) where
+  few-places : r .places ≤ 256
   unfolding tooMany
-  few-places = omega (arith, whole .good .places, ltb-false 256 (P (treeIn q)) (clear-query q no-answer .many))
+  few-places = omega (arith, a .good z .good .places, ltb-false 256 (P (treeIn q)) (clear-query q (sym (a .answer) ∙ z) .many))
 
-  pub pairs-fit : (n : ℕ) → n ≤ 4096 → r .places * (n + 1) ≤ 1048832
-  pairs-fit n h = let k : r .places * (n + 1) ≤ 256 * 4097 = mul-le-mul few-places (let g : n + 1 ≤ 4097 = omega arith in g) in omega arith
+  module _ (entries : ℕ) (t : Bool) (et : t ≡ badCount entries (r .columns)) (f : t ≡ false) where
+    few-rows : (entries % r .columns ≡ 0) × (entries / r .columns ≤ 4096)
+    unfolding badCount
+    few-rows =
+        let g = or-false (not (eqb (entries % r .columns) 0)) (ltb 4096 (entries / r .columns)) (sym et ∙ f) in
+        (eqb-true (entries % r .columns) 0 (not-false (eqb (entries % r .columns) 0) (g .0)), ltb-false 4096 (entries / r .columns) (g .1))
 
-  pub ragged : (length rows % r .columns ≡ 0 → ⊥) → badRows q rows ≡ true
-  unfolding badRows
-  ragged d = rw (← the-columns, ne-eqb (length rows % r .columns) 0 d)
+    pairs-most : r .places * (entries / r .columns + 1) ≤ 1048832
+    pairs-most =
+        let k : r .places * (entries / r .columns + 1) ≤ 256 * 4097 = mul-le-mul few-places (let g : entries / r .columns + 1 ≤ 4097 = omega (arith, few-rows .1) in g) in
+        omega arith
 
-  or-true : (b : Bool) → (b || true) ≡ true
-  or-true true = refl
-  or-true false = refl
+    -- the number of pairs can be computed
+    pub rows-fit : Fits w64 (entries / r .columns + 1)
+    rows-fit = record { fits = omega (arith, few-rows .1) }
 
-  pub many-rows : 4096 < length rows / r .columns → badRows q rows ≡ true
-  unfolding badRows tableOf
-  many-rows h = rw (← the-columns, lt-ltb 4096 (length rows / r .columns) h) (or-true (not (eqb (length rows % r .columns) 0)))
+    pub pairs-fit : Fits w64 (r .places * (entries / r .columns + 1))
+    pairs-fit = record { fits = omega (arith, pairs-most) }
 
-  pub good-rows : length rows % r .columns ≡ 0 → length rows / r .columns ≤ 4096 → badRows q rows ≡ false
-  unfolding badRows tableOf
-  good-rows e h = rw (← the-columns, e, le-ltb 4096 (length rows / r .columns) h)
+    pub pairs-few : (p : ℕ) → p ≡ r .places * (entries / r .columns + 1) → p ≤ 1048832
+    pairs-few p e = omega (arith, pairs-most, e)
 
-  the-pairs : pairsOf q rows ≡ r .places * (length rows / r .columns + 1)
-  unfolding pairsOf tableOf
-  the-pairs = rw (← the-columns, ← (whole .good .places), add-one)
+module _ (q measures₀ room defines measures : List ℕ) (r : Query) (a : Asked q measures₀ room defines measures r) (rows : List ℤ)
+    (notes trail : List ℕ) (numbers : List ℤ) (labels : List ℕ) where
+  abbrev buffers : Buffers
+  buffers = lent notes trail numbers labels
 
-  module _ (notes trail : List ℕ) (numbers : List ℤ) (labels : List ℕ) where
-    pub short-notes : length notes < (r .places * (length rows / r .columns + 1) + 7) / 8 → shortNotes q rows (lent notes trail numbers labels) ≡ true
-    unfolding shortNotes bytesFor
-    short-notes h = rw the-pairs (lt-ltb (length notes) ((r .places * (length rows / r .columns + 1) + 7) / 8) h)
+  abbrev n : ℕ
+  n = length rows / r .columns
 
-    pub long-notes : (r .places * (length rows / r .columns + 1) + 7) / 8 ≤ length notes → shortNotes q rows (lent notes trail numbers labels) ≡ false
-    unfolding shortNotes bytesFor
-    long-notes h = rw the-pairs (le-ltb (length notes) ((r .places * (length rows / r .columns + 1) + 7) / 8) h)
+  -- the query has an answer of its own
+  pub search-refuses : (r .answer ≡ 0 → ⊥) → (o : Outcome) → o ≡ refusal (r .answer) (r .offset) → Promised q rows buffers (memory o notes trail numbers labels)
+  search-refuses d o b = query-refused q rows notes trail numbers labels (r .answer) (r .offset) (a .answer) (a .offset) d o b
 
-    pub short-trail : length trail < r .places * (length rows / r .columns + 1) → shortTrail q rows (lent notes trail numbers labels) ≡ true
-    unfolding shortTrail
-    short-trail h = rw the-pairs (lt-ltb (length trail) (r .places * (length rows / r .columns + 1)) h)
+  module _ (z : r .answer ≡ 0) where
+    abbrev whole : Whole q measures₀ room defines measures r
+    whole = a .good z
 
-    pub long-trail : r .places * (length rows / r .columns + 1) ≤ length trail → shortTrail q rows (lent notes trail numbers labels) ≡ false
-    unfolding shortTrail
-    long-trail h = rw the-pairs (le-ltb (length trail) (r .places * (length rows / r .columns + 1)) h)
+    no-answer : queryAnswer q ≡ 0
+    no-answer = sym (a .answer) ∙ z
 
-    -- the walk may begin
-    pub may-walk : length rows % r .columns ≡ 0 → length rows / r .columns ≤ 4096 → length measures ≡ 24 → (r .places * (length rows / r .columns + 1) + 7) / 8 ≤ length notes
-        → r .places * (length rows / r .columns + 1) ≤ length trail
-        → Walks q room (r .top) (r .places) rows (r .columns) (length rows / r .columns) defines (r .letters) measures (r .measures) (eqb (r .skip) 1) notes trail
-    unfolding hasEmptyLoop P
-    may-walk e h l f g =
-        let n : ℕ = length rows / r .columns in
-        let s : n + 1 ≡ suc n = add-one n in
-        let d : n * r .columns + length rows % r .columns ≡ length rows = div-add-mod' (length rows) (r .columns) in
-        let pl : r .places ≡ placesOf (whole .good .tree) = whole .good .places ∙ the-tree in
-        let f′ : (r .places * suc n + 7) / 8 ≤ length notes = rw (← s) f in
-        record {
-          tree = whole .good .tree;
-          has-tree = whole .good .is;
-          no-loop = sym (ap hasEmptyLoop (whole .good .is)) ∙ clear-query q no-answer .loop;
-          few = omega (arith, few-places, pl);
-          places-are = pl;
-          held = whole .good .top;
-          measures₀ = measures₀;
-          parts = whole .parts;
-          decoded = whole .decoded;
-          columns-are = whole .good .columns;
-          count-is = whole .good .measured;
-          letters-are = whole .good .letters;
-          mode-is = ap (λ (k : ℕ). eqb k 1) (whole .good .skip);
-          long = l;
-          most = h;
-          all = omega (arith, d, e);
-          noted = omega (arith, f′);
-          trailed = rw (← s) g;
-        }
+    the-columns : r .columns ≡ columnsOf q
+    unfolding parts
+    the-columns = whole .good .columns ∙ whole .decoded .columns
+
+    module _ (t : Bool) (et : t ≡ badCount (length rows) (r .columns)) where
+      the-rows : badRows q rows ≡ t
+      the-rows = bad-rows q measures₀ room defines measures r a rows z ∙ sym et
+
+      -- answer 10
+      pub search-rows : t ≡ true → (o : Outcome) → o ≡ refusal 10 0 → Promised q rows buffers (memory o notes trail numbers labels)
+      search-rows f o b = rows-refused q rows notes trail numbers labels no-answer (the-rows ∙ f) o b
+
+      module _ (f : t ≡ false) where
+        the-pairs : pairsOf q rows ≡ r .places * (n + 1)
+        unfolding pairsOf tableOf
+        the-pairs = rw (← the-columns, ← (whole .good .places), add-one)
+
+        -- answers 11 and 12 by numbers
+        module _ (p : ℕ) (ep : p ≡ r .places * (n + 1)) (s : ℕ) (es : s ≡ shortFor p (length notes) (length trail)) where
+          the-short : s ≡ pick (shortNotes q rows buffers) 11 (pick (shortTrail q rows buffers) 12 0)
+          unfolding shortFor shortNotes shortTrail
+          the-short = es ∙ rw (ep, the-pairs)
+
+          pub search-short : (s ≡ 0 → ⊥) → (o : Outcome) → o ≡ refusal s 0 → Promised q rows buffers (memory o notes trail numbers labels)
+          search-short d o b = room-refused q rows notes trail numbers labels no-answer (the-rows ∙ f) s the-short d o b
+
+          module _ (es0 : s ≡ 0) where
+            both-long : (bytesFor p ≤ length notes) × (p ≤ length trail)
+            unfolding shortFor
+            both-long = go (ltb (length notes) (bytesFor p)) (ltb (length trail) p) refl refl (sym es ∙ es0)
+              where
+                go : (u v : Bool) → ltb (length notes) (bytesFor p) ≡ u → ltb (length trail) p ≡ v → _≡_ {A = ℕ} (pick u 11 (pick v 12 0)) 0 → (bytesFor p ≤ length notes) × (p ≤ length trail)
+                go true v eu ev e = absurd (omega arith)
+                go false true eu ev e = absurd (omega arith)
+                go false false eu ev e = (ltb-false (length notes) (bytesFor p) eu, ltb-false (length trail) p ev)
+
+            no-short : (shortNotes q rows buffers ≡ false) × (shortTrail q rows buffers ≡ false)
+            unfolding shortNotes shortTrail
+            no-short = (
+              rw (the-pairs, ← ep) (le-ltb (length notes) (bytesFor p) (both-long .0)),
+              rw (the-pairs, ← ep) (le-ltb (length trail) p (both-long .1)),
+            )
+
+            -- the walk may begin
+            pub search-walks : length measures₀ ≡ 24
+                → Walks q room (r .top) (r .places) rows (r .columns) n defines (r .letters) measures (r .measures) (eqb (r .skip) 1) notes trail
+            unfolding hasEmptyLoop P bytesFor
+            search-walks l =
+                let s : n + 1 ≡ suc n = add-one n in
+                let w = few-rows q measures₀ room defines measures r a z (length rows) t et f in
+                let d : n * r .columns + length rows % r .columns ≡ length rows = div-add-mod' (length rows) (r .columns) in
+                let pl : r .places ≡ placesOf (whole .good .tree) = whole .good .places ∙ ap P (whole .good .is) in
+                let pp : p ≡ r .places * suc n = rw (← s) ep in
+                let f′ : (r .places * suc n + 7) / 8 ≤ length notes = rw (← pp) (both-long .0) in
+                record {
+                  tree = whole .good .tree;
+                  has-tree = whole .good .is;
+                  no-loop = sym (ap hasEmptyLoop (whole .good .is)) ∙ clear-query q no-answer .loop;
+                  few = omega (arith, few-places q measures₀ room defines measures r a z, pl);
+                  places-are = pl;
+                  held = whole .good .top;
+                  measures₀ = measures₀;
+                  parts = whole .parts;
+                  decoded = whole .decoded;
+                  columns-are = whole .good .columns;
+                  count-is = whole .good .measured;
+                  letters-are = whole .good .letters;
+                  mode-is = ap (λ (k : ℕ). eqb k 1) (whole .good .skip);
+                  long = whole .decoded .long;
+                  most = w .1;
+                  all = omega (arith, d, w .0);
+                  noted = omega (arith, f′);
+                  trailed = rw (← pp) (both-long .1);
+                }
+
+            -- done or stopped
+            pub search-ends : (m : Memory) → m ≡ ended q rows buffers → Promised q rows buffers m
+            search-ends m e = search-ended q rows notes trail numbers labels no-answer (the-rows ∙ f) (no-short .0) (no-short .1) m e

@@ -29,19 +29,14 @@ fn search_in(
         return refused(answer, q.offset);
     }
     let columns = q.columns;
+    if sizes::bad_rows(rows.len(), columns) {
+        return refused(10, 0);
+    }
     let n = rows.len() / columns;
-    if rows.len() % columns != 0 {
-        return refused(10, 0);
-    }
-    if 4096 < n {
-        return refused(10, 0);
-    }
     let pairs = q.places * (n + 1);
-    if notes.len() < (pairs + 7) / 8 {
-        return refused(11, 0);
-    }
-    if trail.len() < pairs {
-        return refused(12, 0);
+    let short = sizes::short_room(pairs, notes.len(), trail.len());
+    if short != 0 {
+        return refused(short, 0);
     }
     walk_all(
         query,
