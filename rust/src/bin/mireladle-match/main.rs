@@ -349,7 +349,9 @@ fn refusal(error: Error, line: Option<&(PathBuf, Shown)>) -> String {
         format!("\n{}:{number}: {}", path.display(), visible(text))
     });
     let mark = match (error, line) {
-        (Error::NotAPattern { .. } | Error::PatternEnds { .. }, Some((path, shown))) => pattern_mark(path, shown),
+        (Error::NotAPattern { .. } | Error::PatternEnds { .. }, Some((path, shown))) => {
+            pattern_mark(path, shown)
+        }
         _ => String::new(),
     };
     format!("refused{number}: {error}{place}{mark}")

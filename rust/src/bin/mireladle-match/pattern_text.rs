@@ -7,7 +7,9 @@ use mireladle::{Error, Query};
 pub fn front(text: &str) -> Option<usize> {
     let offset = match Query::builder(1).pattern(text).build() {
         Ok(_) => text.len(),
-        Err(Error::NotAPattern { offset } | Error::PatternEnds { offset }) => offset.try_into().ok()?,
+        Err(Error::NotAPattern { offset } | Error::PatternEnds { offset }) => {
+            offset.try_into().ok()?
+        }
         Err(_) => return None,
     };
     let before = text.char_indices().take_while(|(at, _)| *at < offset);
