@@ -1,7 +1,9 @@
-//! mireladle-match: searches the rows of a CSV file for a query that is written as readable text, and prints the
-//! matches and the labelled rows. It promises a message with a place for every text that it cannot read, the number
-//! and the reason of every refusal, and an exit status: 0 done, 1 refused, 2 wrong input, 3 stopped for want of room,
-//! so that a script cannot take a part of a report for the whole. It never panics.
+//! mireladle-match: searches the rows of a CSV file for a query that is written as readable text,
+//! and prints the matches and the labelled rows. It promises a message with a place for every text
+//! that it cannot read, the number and the reason of every refusal, and an exit status: 0 done, 1
+//! refused, 2 wrong input or an output that cannot be written, 3 stopped for want of room, 141 where
+//! the reader of the output left early, so that a script cannot take a part of a report for the
+//! whole. It never panics. Tested in tests/command.rs and tests/output.rs.
 
 #![deny(unsafe_code)]
 #![cfg_attr(test, allow(clippy::restriction))]
@@ -9,8 +11,10 @@
 mod columns;
 mod csv;
 mod define_text;
+mod failure;
 mod fault;
 mod measure_text;
+mod output;
 mod pattern_text;
 mod print;
 mod program;
@@ -25,10 +29,12 @@ use std::process::ExitCode;
 use mireladle::{Ending, Error, Query, Report, Rows};
 
 use csv::Table;
-use fault::{shown, visible, Fault};
+use failure::{Failure, STOPPED};
+use fault::{shown, Fault};
+use output::Output;
 use print::Printed;
 use program::Failed;
-use query_text::{QueryText, Shown};
+use query_text::QueryText;
 
 const HELP: &str = "\
 mireladle-match: search rows of whole numbers for a row pattern (SQL's MATCH_RECOGNIZE)
@@ -63,12 +69,10 @@ QUERY.txt  Lines in any order; # begins a comment.
 --help     Print this.
 
 It prints the matches, then the rows; 2:A beside a row says that match 2 labels it A.
-Rows count from 0. Exit status: 0 done, 1 the search refused, 2 wrong input, 3 the program
-had no room for the whole report: it begins with `stopped for want of room`.
+Rows count from 0. Exit status: 0 done, 1 the search refused, 2 wrong input or an output
+that cannot be written, 3 the program had no room for the whole report, which begins with
+`stopped for want of room`, 141 the reader of the output left before its end.
 ";
-
-/// The exit status where a report is not whole.
-const STOPPED: u8 = 3;
 
 /// What the command line asks for.
 enum Task {
@@ -85,45 +89,31 @@ enum Task {
     },
 }
 
-/// Why there is no result.
-enum Failure {
-    /// The command line is not as it should be.
-    Usage(String),
-    /// A file cannot be read.
-    File { path: PathBuf, error: io::Error },
-    /// A text is not as it should be.
-    Text {
-        path: PathBuf,
-        text: String,
-        fault: Fault,
-    },
-    /// The library refused; the line that the answer is about, if it is about one, goes with it.
-    Refused {
-        error: Error,
-        line: Option<(PathBuf, Shown)>,
-    },
-    /// The program cannot be run, or what it printed is no report.
-    Program { path: PathBuf, reason: String },
-    /// The output cannot be written.
-    Output(io::Error),
-}
-
 fn main() -> ExitCode {
-    let mut out = BufWriter::new(io::stdout().lock());
-    let done = task(std::env::args_os().skip(1)).and_then(|task| run(&task, &mut out));
-    match done.and_then(|ending| out.flush().map(|()| ending).map_err(Failure::Output)) {
+    match task(std::env::args_os().skip(1)).and_then(|task| run_whole(&task)) {
         Ok(Ending::Done) => ExitCode::SUCCESS,
         Ok(_) => ExitCode::from(STOPPED),
-        // Whoever reads the output has had enough of it.
-        Err(Failure::Output(error)) if error.kind() == io::ErrorKind::BrokenPipe => {
-            ExitCode::SUCCESS
-        }
         Err(failure) => {
-            // Should this not be written either, the exit status still tells.
-            let _ = writeln!(io::stderr(), "{}", failure.message());
+            if let Some(message) = failure.message() {
+                // Should this not be written either, the exit status still tells.
+                let _ = writeln!(io::stderr(), "{message}");
+            }
             ExitCode::from(failure.status())
         }
     }
+}
+
+/// Runs a task and sees to it that all of its output is written.
+fn run_whole(task: &Task) -> Result<Ending, Failure> {
+    let mut out = BufWriter::new(Output::new().map_err(unwritten(Ending::Done))?);
+    let ending = run(task, &mut out)?;
+    out.flush().map_err(unwritten(ending))?;
+    Ok(ending)
+}
+
+/// The failure of an output that cannot be written, by the ending of the search that it tells of.
+fn unwritten(ending: Ending) -> impl Fn(io::Error) -> Failure {
+    move |error| Failure::Output { error, ending }
 }
 
 /// Reads the command line.
@@ -172,9 +162,12 @@ fn task(mut arguments: impl Iterator<Item = OsString>) -> Result<Task, Failure> 
 
 /// Runs a task, and tells how its search ended; one that searches nothing is done.
 fn run(task: &Task, out: &mut impl Write) -> Result<Ending, Failure> {
-    let written = |result: io::Result<()>| result.map(|()| Ending::Done).map_err(Failure::Output);
+    let mut write = |bytes: &[u8]| {
+        let written = out.write_all(bytes).map_err(unwritten(Ending::Done));
+        written.map(|()| Ending::Done)
+    };
     match task {
-        Task::Help => written(out.write_all(HELP.as_bytes())),
+        Task::Help => write(HELP.as_bytes()),
         Task::Search {
             program,
             query,
@@ -185,7 +178,7 @@ fn run(task: &Task, out: &mut impl Write) -> Result<Ending, Failure> {
         }
         Task::Bytes { query, rows } => {
             let (text, table) = read_both(query, rows)?;
-            written(out.write_all(&program_input(&text, &table)))
+            write(&program_input(&text, &table))
         }
     }
 }
@@ -278,8 +271,9 @@ fn search(
         names: &table.names,
         titles: &text.titles,
     };
-    printed.write(out).map_err(Failure::Output)?;
-    Ok(report.ending())
+    let ending = report.ending();
+    printed.write(out).map_err(unwritten(ending))?;
+    Ok(ending)
 }
 
 fn search_by_program(
@@ -315,56 +309,4 @@ fn program_input(text: &QueryText, table: &Table) -> Vec<u8> {
     bytes.extend_from_slice(&query);
     bytes.extend(table.entries.iter().flat_map(|entry| entry.to_le_bytes()));
     bytes
-}
-
-impl Failure {
-    fn status(&self) -> u8 {
-        match self {
-            Failure::Refused { .. } => 1,
-            _ => 2,
-        }
-    }
-
-    fn message(&self) -> String {
-        match self {
-            Failure::Usage(reason) => {
-                format!("{reason}\nusage: mireladle-match [--bytes | --program PATH] QUERY.txt ROWS.csv (--help tells more)")
-            }
-            Failure::File { path, error } => format!("{}: {error}", path.display()),
-            Failure::Text { path, text, fault } => {
-                format!("{}:{fault}{}", path.display(), fault.marked(text))
-            }
-            Failure::Refused { error, line } => refusal(*error, line.as_ref()),
-            Failure::Program { path, reason } => format!("{}: {reason}", path.display()),
-            Failure::Output(error) => format!("the output cannot be written: {error}"),
-        }
-    }
-}
-
-fn refusal(error: Error, line: Option<&(PathBuf, Shown)>) -> String {
-    let number = error
-        .number()
-        .map_or(String::new(), |number| format!(" {number}"));
-    let place = line.map_or(String::new(), |(path, Shown { number, text })| {
-        format!("\n{}:{number}: {}", path.display(), visible(text))
-    });
-    let mark = match (error, line) {
-        (Error::NotAPattern { .. } | Error::PatternEnds { .. }, Some((path, shown))) => {
-            pattern_mark(path, shown)
-        }
-        _ => String::new(),
-    };
-    format!("refused{number}: {error}{place}{mark}")
-}
-
-/// A mark under the character of a shown pattern from which on it is none.
-fn pattern_mark(path: &Path, Shown { number, text }: &Shown) -> String {
-    let pattern = text.strip_prefix("pattern: ").unwrap_or("");
-    let Some(front) = pattern_text::front(pattern) else {
-        return String::new();
-    };
-    let before = text.chars().count().saturating_sub(pattern.chars().count());
-    let place = format!("{}:{number}: ", path.display()).chars().count();
-    let gap = " ".repeat(place.saturating_add(before).saturating_add(front));
-    format!("\n{gap}^")
 }
