@@ -132,6 +132,41 @@ fn each_row_has_its_own_label() {
     assert!(printed.ends_with(labels), "{printed}");
 }
 
+/// Names with an escape sequence, a tab, and one that turns the direction of writing.
+#[test]
+fn control_characters_of_the_data_do_not_reach_the_screen() {
+    let rows = file(
+        "control.csv",
+        "\"a\u{1B}[31m\",\"b\tc\u{9B}\",d\u{202E}\n1,2,3\n",
+    );
+    let query = file("control.txt", "pattern: A\nmeasures: LAST(A.c0), SUM(c1)");
+    let output = run(&[&query, &rows]);
+    let expected = "\
+1 match in 2 steps
+
+match  first row  rows  LAST(A.a\u{FFFD}[31m)  SUM(b\u{FFFD}c\u{FFFD})  labels
+    1          0     1               1          2  A
+
+row  a\u{FFFD}[31m  b\u{FFFD}c\u{FFFD}  d\u{FFFD}  match:label
+  0       1     2   3  1:A
+";
+    assert_eq!((status(&output), text(&output.stdout)), (0, expected));
+    let wrong = file("control-wrong.txt", "pattern: A\nA: x = 1");
+    for output in [
+        run(&[&wrong, &rows]),
+        run(&["--\u{1B}[31m", &query, &rows]),
+        run(&["no\u{1B}[31m", &rows]),
+    ] {
+        let message = text(&output.stderr);
+        let upsets = |c: char| c.is_control() && !"\n\t".contains(c) || c == '\u{202E}';
+        assert!(
+            status(&output) == 2 && message.contains("[31m"),
+            "{message:?}"
+        );
+        assert!(!message.contains(upsets), "{message:?}");
+    }
+}
+
 #[test]
 fn no_match_and_no_rows() {
     let query = file("none.txt", "pattern: A\nA: c0 > 5");

@@ -1,5 +1,6 @@
-//! What is wrong in a text that was read: the line, the column, what was expected there and what was found instead.
-//! Lines and columns count from 1, columns in characters.
+//! What is wrong in a text that was read: the line, the column, what was expected there and what was
+//! found instead. Lines and columns count from 1, columns in characters. Nothing that is shown of a
+//! text can upset a screen: see [`visible`].
 
 use std::fmt;
 
@@ -41,6 +42,8 @@ impl fmt::Display for Fault {
             expected,
             found,
         } = self;
+        // What was expected can name columns, whose names are part of the input.
+        let (expected, found) = (visible(expected), visible(found));
         write!(f, "{line}:{column}: expected {expected}, found {found}")
     }
 }
@@ -77,13 +80,20 @@ pub fn column_of(line: &str, last: &str) -> usize {
     before.saturating_add(1)
 }
 
-/// A text with a mark for each control character but a tab, which would upset a screen.
+/// A text with a mark for each character that would upset a screen. A tab is left.
 pub fn visible(text: &str) -> String {
-    let seen = |c: char| match c.is_control() && c != '\t' {
+    let seen = |c: char| match upsets(c) && c != '\t' {
         true => char::REPLACEMENT_CHARACTER,
         false => c,
     };
     text.chars().map(seen).collect()
+}
+
+/// Whether a character steers a screen: control characters, and those that turn the direction of
+/// writing or part lines.
+fn upsets(c: char) -> bool {
+    let turns = matches!(c, '\u{61C}' | '\u{200E}' | '\u{200F}' | '\u{2028}'..='\u{202E}' | '\u{2066}'..='\u{2069}');
+    c.is_control() || turns
 }
 
 /// A piece of text as a fault shows it: quoted, and cut if it is long.
@@ -125,8 +135,13 @@ mod tests {
             "1:3: expected this, found `a\u{FFFD}\u{FFFD}[31m`"
         );
         assert_eq!(
-            fault.marked("a\rb\0\n").to_string(),
+            fault.marked("a\u{7}b\0\n").to_string(),
             "\n    a\u{FFFD}b\u{FFFD}\n      ^"
+        );
+        let named = Fault::new(1, 1, "a column (c0 or \u{1B}[2J)", "\u{202E}");
+        assert_eq!(
+            named.to_string(),
+            "1:1: expected a column (c0 or \u{FFFD}[2J), found \u{FFFD}"
         );
     }
 

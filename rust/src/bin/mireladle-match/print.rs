@@ -1,9 +1,13 @@
-//! What the command prints of a report: the matches as a table, then all rows with their labels beside them. A row that
-//! lies in several matches has a label for each, so that every label stands with the number of its match.
+//! What the command prints of a report: the matches as a table, then all rows with their labels
+//! beside them. A row that lies in several matches has a label for each, so that every label stands
+//! with the number of its match. Names come from the input and are shown without anything that would
+//! upset a screen. Tested in tests/command.rs.
 
 use std::io::{self, Write};
 
 use mireladle::{Ending, Match, Report, Rows};
+
+use crate::fault::visible;
 
 /// What is printed: a report, the rows it is about, and how their columns and the measures are called.
 pub struct Printed<'a> {
@@ -44,7 +48,7 @@ impl Printed<'_> {
 
     fn match_lines(&self) -> Vec<Vec<String>> {
         let mut head: Vec<String> = ["match", "first row", "rows"].map(String::from).to_vec();
-        head.extend(self.titles.iter().cloned());
+        head.extend(self.titles.iter().map(|title| shown_name(title)));
         head.push(String::from("labels"));
         let lines = self.report.matches().map(|found| match_line(&found));
         std::iter::once(head).chain(lines).collect()
@@ -52,7 +56,7 @@ impl Printed<'_> {
 
     fn row_lines(&self) -> Vec<Vec<String>> {
         let mut head = vec![String::from("row")];
-        head.extend(self.names.iter().cloned());
+        head.extend(self.names.iter().map(|name| shown_name(name)));
         head.push(String::from("match:label"));
         let labels = self.labels_of_rows();
         let lines = self
@@ -83,6 +87,11 @@ impl Printed<'_> {
         }
         labels
     }
+}
+
+/// A name as a table shows it: a tab would move what stands behind it.
+fn shown_name(name: &str) -> String {
+    visible(name).replace('\t', "\u{FFFD}")
 }
 
 fn match_line(found: &Match<'_>) -> Vec<String> {
