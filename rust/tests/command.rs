@@ -167,6 +167,36 @@ row  a\u{FFFD}[31m  b\u{FFFD}c\u{FFFD}  d\u{FFFD}  match:label
     }
 }
 
+/// CR LF, and CR alone, as LF: in the rows and in the query.
+#[test]
+fn every_line_end_is_read() {
+    let read = |name: &str| std::fs::read_to_string(example(name)).unwrap();
+    let expected = run(&[&example("release.txt"), &example("release.csv")]);
+    for (name, end) in [("crlf", "\r\n"), ("cr", "\r")] {
+        let query = file(
+            &format!("{name}.txt"),
+            read("release.txt").replace('\n', end),
+        );
+        let rows = file(
+            &format!("{name}.csv"),
+            read("release.csv").replace('\n', end),
+        );
+        let output = run(&[&query, &rows]);
+        assert_eq!(
+            (status(&output), text(&output.stdout)),
+            (0, text(&expected.stdout)),
+            "{name}"
+        );
+    }
+    let wrong = failure("cr-wrong", "pattern: A", "a\r1\rx\r2\r");
+    let number = "a whole number from -2147483648 to 2147483647";
+    let message = format!("/cr-wrong.csv:3:1: expected {number}, found `x`\n    x\n    ^\n");
+    assert_eq!(wrong, (2, message));
+    let binary = file("cr-binary.csv", b"a\r1\r\xFF");
+    let message = run(&[&example("release.txt"), &binary]).stderr;
+    assert!(text(&message).contains("cr-binary.csv:3:1: expected text in UTF-8"));
+}
+
 #[test]
 fn no_match_and_no_rows() {
     let query = file("none.txt", "pattern: A\nA: c0 > 5");

@@ -1,9 +1,11 @@
-//! Rows from comma-separated text. The first line names the columns, and has to: a first row that is read as names, or
-//! names as a row, would shift every label. Every other line is a row of whole numbers of 32 bits. Fields may be
-//! quoted, lines may end in CR LF, and empty lines may stand behind the last row only.
+//! Rows from comma-separated text. The first line names the columns, and has to: a first row that is
+//! read as names, or names as a row, would shift every label. Every other line is a row of whole
+//! numbers of 32 bits. Fields may be quoted, but not go over a line end; empty lines may stand behind
+//! the last row only.
 
 use crate::columns::index_named;
 use crate::fault::{column_of, shown, Fault};
+use crate::lines::lines;
 use crate::words::{is_name_start, quoted};
 
 /// The most columns that rows can have.
@@ -25,7 +27,7 @@ struct Field {
 
 /// Reads a whole text.
 pub fn read(text: &str) -> Result<Table, Fault> {
-    let mut lines = (1..).zip(text.trim_end().lines());
+    let mut lines = (1..).zip(lines(text.trim_end()));
     let Some((line, header)) = lines.next() else {
         return Err(Fault::new(
             1,
@@ -153,6 +155,26 @@ mod tests {
         assert_eq!(
             read("a\n-2147483648\n2147483647").unwrap().entries,
             [i32::MIN, i32::MAX]
+        );
+    }
+
+    #[test]
+    fn every_line_end_parts_rows() {
+        let table = read("a,b\n1,2\n3,4\n").unwrap();
+        for text in [
+            "a,b\r1,2\r3,4\r",
+            "a,b\r\n1,2\r\n3,4",
+            "a,b\r1,2\n3,4\r\n\r",
+        ] {
+            assert_eq!(read(text).as_ref(), Ok(&table), "{text:?}");
+        }
+        assert_eq!(
+            fault("a\r1\rx\r"),
+            format!("3:1: expected {NUMBER}, found `x`")
+        );
+        assert_eq!(
+            fault("\"a\rb\""),
+            "1:1: expected a closing quote, found the end of the line"
         );
     }
 

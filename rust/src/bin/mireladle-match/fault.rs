@@ -4,6 +4,8 @@
 
 use std::fmt;
 
+use crate::lines::lines;
+
 /// One fault. Reading stops at the first.
 #[derive(Clone, Debug, PartialEq, Eq)]
 pub struct Fault {
@@ -59,11 +61,8 @@ const LONGEST_SHOWN: usize = 160;
 
 impl fmt::Display for Marked<'_> {
     fn fmt(&self, f: &mut fmt::Formatter<'_>) -> fmt::Result {
-        let line = self
-            .text
-            .lines()
-            .nth(self.fault.line.saturating_sub(1))
-            .unwrap_or("");
+        let number = self.fault.line.saturating_sub(1);
+        let line = lines(self.text).nth(number).unwrap_or("");
         if line.trim().is_empty() || line.chars().count() > LONGEST_SHOWN {
             return Ok(());
         }

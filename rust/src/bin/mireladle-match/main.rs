@@ -13,6 +13,7 @@ mod csv;
 mod define_text;
 mod failure;
 mod fault;
+mod lines;
 mod measure_text;
 mod output;
 mod pattern_text;
@@ -31,6 +32,7 @@ use mireladle::{Ending, Error, Query, Report, Rows};
 use csv::Table;
 use failure::{Failure, STOPPED};
 use fault::{shown, Fault};
+use lines::lines;
 use output::Output;
 use print::Printed;
 use program::Failed;
@@ -219,15 +221,10 @@ fn read_with<T>(path: &Path, reader: impl Fn(&str) -> Result<T, Fault>) -> Resul
 
 /// The fault of bytes that are text up to some byte only.
 fn not_text(bytes: &[u8], valid: usize) -> Fault {
-    let before = String::from_utf8_lossy(bytes.get(..valid).unwrap_or(&[]));
-    let line = before.matches('\n').count().saturating_add(1);
-    let column = before
-        .rsplit('\n')
-        .next()
-        .unwrap_or("")
-        .chars()
-        .count()
-        .saturating_add(1);
+    // With one more character the byte's line is there, also where it begins with the byte.
+    let front = String::from_utf8_lossy(bytes.get(..valid).unwrap_or(&[])) + "?";
+    let line = lines(&front).count();
+    let column = lines(&front).last().unwrap_or("").chars().count();
     let found = bytes
         .get(valid)
         .map_or(String::new(), |byte| format!("the byte {byte:#04X}"));

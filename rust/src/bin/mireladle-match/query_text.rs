@@ -6,6 +6,7 @@ use mireladle::{Comparison, Measure, Query, QueryBuilder, Skip};
 
 use crate::define_text::comparisons;
 use crate::fault::{column_of, shown, Fault};
+use crate::lines::lines;
 use crate::measure_text::measures;
 use crate::words::{letter, Words};
 
@@ -62,15 +63,15 @@ pub fn read(text: &str, names: &[String]) -> Result<QueryText, Fault> {
         skip: None,
         measures: None,
     };
-    let mut lines: usize = 0;
-    for (number, text) in (1..).zip(text.lines()) {
-        lines = number;
+    let mut last: usize = 0;
+    for (number, text) in (1..).zip(lines(text)) {
+        last = number;
         let text = without_comment(text);
         if !text.trim().is_empty() {
             reader.line(&Line::new(number, text)?)?;
         }
     }
-    reader.finish(lines)
+    reader.finish(last)
 }
 
 /// The part of a line in front of its comment. A `#` in double quotes begins none.
@@ -152,9 +153,9 @@ impl Reader<'_> {
         Ok(())
     }
 
-    fn finish(self, lines: usize) -> Result<QueryText, Fault> {
+    fn finish(self, last: usize) -> Result<QueryText, Fault> {
         let Some((text, pattern)) = self.pattern else {
-            let behind = lines.saturating_add(1);
+            let behind = last.saturating_add(1);
             return Err(Fault::new(
                 behind,
                 1,

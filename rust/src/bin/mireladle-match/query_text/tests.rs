@@ -97,6 +97,23 @@ fn lines_stand_in_any_order() {
 }
 
 #[test]
+fn every_line_end_ends_a_line() {
+    let text = "# W1\npattern: A # one\nA: c0 = 1\n\nmeasures: COUNT(A)\n";
+    let expected = read(text, &names()).unwrap();
+    for end in ["\r\n", "\r"] {
+        assert_eq!(
+            read(&text.replace('\n', end), &names()),
+            Ok(expected.clone()),
+            "{end:?}"
+        );
+    }
+    assert_eq!(
+        read("# W1\rhello\r", &names()).unwrap_err().to_string(),
+        format!("2:1: expected {KEYS}, found `hello`")
+    );
+}
+
+#[test]
 fn measures_of_every_form() {
     let read = read(
         "pattern: A\nmeasures: count(*), COUNT(A.*), Min(A.event), MAX(c0), first(\"base number\")",
@@ -412,10 +429,10 @@ fn no_text_is_too_odd() {
         }
         if let Err(fault) = read(&text, &names()) {
             assert!(
-                fault.line >= 1 && fault.line <= text.lines().count() + 1,
+                fault.line >= 1 && fault.line <= lines(&text).count() + 1,
                 "{text:?}"
             );
-            let line = text.lines().nth(fault.line - 1).unwrap_or("");
+            let line = lines(&text).nth(fault.line - 1).unwrap_or("");
             assert!(
                 fault.column >= 1 && fault.column <= line.chars().count() + 1,
                 "{text:?} {fault}"
