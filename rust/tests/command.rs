@@ -167,6 +167,28 @@ row  a\u{FFFD}[31m  b\u{FFFD}c\u{FFFD}  d\u{FFFD}  match:label
     }
 }
 
+/// Names of two wide characters, of a letter with a mark of its own, and with an emoji.
+#[test]
+fn wide_characters_keep_the_tables_in_line() {
+    let rows = file(
+        "wide.csv",
+        "\u{4FA1}\u{683C},ve\u{301}lo,\"x\u{1F600}\",d\n1,2,3,4\n",
+    );
+    let query = file("wide.txt", "pattern: A\nmeasures: LAST(c0), LAST(c1)");
+    let output = run(&[&query, &rows]);
+    // On a screen the entries stand under the last column of their names, as they do here.
+    let expected = "\
+1 match in 2 steps
+
+match  first row  rows  LAST(\u{4FA1}\u{683C})  LAST(ve\u{301}lo)  labels
+    1          0     1           1           2  A
+
+row  \u{4FA1}\u{683C}  ve\u{301}lo  x\u{1F600}  d  match:label
+  0     1     2    3  4  1:A
+";
+    assert_eq!((status(&output), text(&output.stdout)), (0, expected));
+}
+
 /// CR LF, and CR alone, as LF: in the rows and in the query.
 #[test]
 fn every_line_end_is_read() {

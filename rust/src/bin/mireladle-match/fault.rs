@@ -5,6 +5,7 @@
 use std::fmt;
 
 use crate::lines::lines;
+use crate::width::of_character;
 
 /// One fault. Reading stops at the first.
 #[derive(Clone, Debug, PartialEq, Eq)]
@@ -66,11 +67,20 @@ impl fmt::Display for Marked<'_> {
         if line.trim().is_empty() || line.chars().count() > LONGEST_SHOWN {
             return Ok(());
         }
-        // A tab in front of the mark is kept, so that the mark stays under its place.
-        let before = line.chars().take(self.fault.column.saturating_sub(1));
-        let gap: String = before.map(|c| if c == '\t' { '\t' } else { ' ' }).collect();
-        write!(f, "\n    {}\n    {gap}^", visible(line))
+        let before = self.fault.column.saturating_sub(1);
+        let shown = visible(line);
+        write!(f, "\n    {shown}\n    {}^", gap(&shown, before))
     }
+}
+
+/// As much space as the first characters of a shown line take. A tab is kept, so that what follows
+/// the space stays under its place.
+fn gap(line: &str, characters: usize) -> String {
+    let space = |c: char| match c {
+        '\t' => String::from(c),
+        _ => " ".repeat(of_character(c)),
+    };
+    line.chars().take(characters).map(space).collect()
 }
 
 /// The column at which the last part of a line begins.
@@ -123,6 +133,11 @@ mod tests {
         assert_eq!(
             fault.marked("one\nA\t x\n").to_string(),
             "\n    A\t x\n     \t ^"
+        );
+        // A wide character takes two columns, a combining mark none.
+        assert_eq!(
+            fault.marked("one\n\u{4FA1}e\u{301}x\n").to_string(),
+            "\n    \u{4FA1}e\u{301}x\n       ^"
         );
     }
 

@@ -20,6 +20,7 @@ mod pattern_text;
 mod print;
 mod program;
 mod query_text;
+mod width;
 mod words;
 
 use std::ffi::OsString;

@@ -8,6 +8,7 @@ use std::io::{self, Write};
 use mireladle::{Ending, Match, Report, Rows};
 
 use crate::fault::visible;
+use crate::width::width;
 
 /// What is printed: a report, the rows it is about, and how their columns and the measures are called.
 pub struct Printed<'a> {
@@ -117,13 +118,13 @@ fn write_table(out: &mut impl Write, lines: &[Vec<String>]) -> io::Result<()> {
     let widths = widths(lines);
     for line in lines {
         let mut text = String::new();
-        for (index, (cell, width)) in line.iter().zip(&widths).enumerate() {
+        for (index, (cell, column)) in line.iter().zip(&widths).enumerate() {
             let gap = if index == 0 { "" } else { "  " };
             let last = index.saturating_add(1) == line.len();
             let space = if last {
                 0
             } else {
-                width.saturating_sub(cell.chars().count())
+                column.saturating_sub(width(cell))
             };
             text.push_str(&format!("{gap}{:space$}{cell}", ""));
         }
@@ -136,8 +137,8 @@ fn widths(lines: &[Vec<String>]) -> Vec<usize> {
     let mut widths = Vec::new();
     for line in lines {
         widths.resize(line.len().max(widths.len()), 0);
-        for (width, cell) in widths.iter_mut().zip(line) {
-            *width = cell.chars().count().max(*width);
+        for (column, cell) in widths.iter_mut().zip(line) {
+            *column = width(cell).max(*column);
         }
     }
     widths
