@@ -368,13 +368,26 @@ fn the_command_line() {
     }
 }
 
-/// A script in the place of the program: it keeps what it reads in a file and prints what it is told to.
+/// A script in the place of the program. A shell writes it: a file that this process has open for
+/// writing could be handed to a process that another test starts, and would be too busy to be run.
+fn script(name: &str, lines: &str) -> String {
+    let path = format!("{}/{name}.sh", env!("CARGO_TARGET_TMPDIR"));
+    let made = Command::new("sh")
+        .args([
+            "-c",
+            r##"printf '#!/bin/sh\n%s\n' "$1" > "$0" && chmod 755 "$0""##,
+            &path,
+            lines,
+        ])
+        .status();
+    assert!(made.unwrap().success());
+    path
+}
+
+/// A script that keeps what it reads in a file and prints what it is told to.
 fn stand_in(name: &str, prints: &str) -> (String, String) {
-    use std::os::unix::fs::PermissionsExt;
     let input = file(&format!("{name}.input"), "");
-    let script = format!("#!/bin/sh\ncat > '{input}'\nprintf '{prints}'\n");
-    let path = file(&format!("{name}.sh"), script);
-    std::fs::set_permissions(&path, std::fs::Permissions::from_mode(0o755)).unwrap();
+    let path = script(name, &format!("cat > '{input}'\nprintf '{prints}'"));
     (path, input)
 }
 
@@ -422,4 +435,57 @@ fn a_program_that_refuses_or_says_something_else() {
     assert_eq!(message(&program), (2, String::from(large)));
     let missing = message("/no/such/program");
     assert!(missing.0 == 2 && missing.1.starts_with("/no/such/program: "));
+}
+
+/// Real processes whose report is not whole, or that say something beside it.
+#[test]
+fn a_program_whose_report_is_not_whole() {
+    let files = [
+        &example("rising-falling.txt"),
+        &example("rising-falling.csv"),
+    ];
+    let message = |name: &str, lines: &str| {
+        let program = script(name, &format!("cat > /dev/null\n{lines}"));
+        let output = run(&["--program", &program, files[0], files[1]]);
+        assert_eq!((status(&output), text(&output.stdout)), (2, ""), "{name}");
+        text(&output.stderr).replace(env!("CARGO_TARGET_TMPDIR"), "")
+    };
+    let head = "printf 'matches 1 steps 12\\n'";
+    // 115 without its last digit is a number too.
+    assert_eq!(
+        message("cut-line", &format!("{head}; printf '1 1 3 AAB 2 11'")),
+        "/cut-line.sh: the report is cut: no line end behind `1 1 3 AAB 2 11`\n"
+    );
+    assert_eq!(
+        message("cut-end", &format!("{head}; printf '1 1 3 AAB 2 115'")),
+        "/cut-end.sh: the report is cut: no line end behind `1 1 3 AAB 2 115`\n"
+    );
+    assert_eq!(
+        message("cut-lines", head),
+        "/cut-lines.sh: the report is cut: matches told 1, printed 0\n"
+    );
+    assert_eq!(
+        message("cut-all", ":"),
+        "/cut-all.sh: the report is cut: nothing was printed\n"
+    );
+    assert_eq!(
+        message("cut-answer", "printf 'refused 1'"),
+        "/cut-answer.sh: the report is cut: no line end behind `refused 1`\n"
+    );
+    let whole = format!("{head}; printf '1 1 3 AAB 2 115\\n'");
+    assert_eq!(
+        message(
+            "says",
+            &format!("{whole}; printf 'no room \\033[31m\\non it' >&2")
+        ),
+        "/says.sh: no report counts beside its message:\n    no room \u{FFFD}[31m\n    on it\n"
+    );
+    assert_eq!(
+        message("says-only", "echo 'the input cannot be read' >&2"),
+        "/says-only.sh: no report counts beside its message:\n    the input cannot be read\n"
+    );
+    assert_eq!(
+        message("fails", &format!("{whole}; echo why >&2; exit 4")),
+        "/fails.sh: ended with exit status: 4\n    why\n"
+    );
 }

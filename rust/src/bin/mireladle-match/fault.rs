@@ -58,7 +58,7 @@ pub struct Marked<'a> {
 }
 
 /// A longer line is not shown: its mark would be lost on a screen.
-const LONGEST_SHOWN: usize = 160;
+pub const LONGEST_SHOWN: usize = 160;
 
 impl fmt::Display for Marked<'_> {
     fn fmt(&self, f: &mut fmt::Formatter<'_>) -> fmt::Result {

@@ -32,7 +32,7 @@ use mireladle::{Ending, Error, Query, Report, Rows};
 
 use csv::Table;
 use failure::{Failure, STOPPED};
-use fault::{shown, Fault};
+use fault::Fault;
 use lines::lines;
 use output::Output;
 use print::Printed;
@@ -223,7 +223,8 @@ fn read_with<T>(path: &Path, reader: impl Fn(&str) -> Result<T, Fault>) -> Resul
 /// The fault of bytes that are text up to some byte only.
 fn not_text(bytes: &[u8], valid: usize) -> Fault {
     // With one more character the byte's line is there, also where it begins with the byte.
-    let front = String::from_utf8_lossy(bytes.get(..valid).unwrap_or(&[])) + "?";
+    let before = String::from_utf8_lossy(bytes.get(..valid).unwrap_or(&[]));
+    let front = format!("{before}?");
     let line = lines(&front).count();
     let column = lines(&front).last().unwrap_or("").chars().count();
     let found = bytes
@@ -280,21 +281,13 @@ fn search_by_program(
     table: &Table,
     refused: impl Fn(Error) -> Failure,
 ) -> Result<Report, Failure> {
-    let strange = |reason: String| Failure::Program {
-        path: path.to_path_buf(),
-        reason,
-    };
     let searched = program::search(path, program_input(text, table), text.titles.len());
     searched.map_err(|failed| match failed {
         Failed::Refused(error) => refused(error),
-        Failed::Run(error) => strange(error.to_string()),
-        Failed::TooLarge => strange(String::from(
-            "too large: expected a query of at most 4,096 bytes, 8,192 entries and 16,000 pairs",
-        )),
-        Failed::Line(line) => strange(format!(
-            "expected the lines of a report, found {}",
-            shown(&line)
-        )),
+        other => Failure::Program {
+            path: path.to_path_buf(),
+            reason: other.reason(),
+        },
     })
 }
 

@@ -1,39 +1,75 @@
-//! Searches by running the program `mireladle` in the place of the library: the query and the rows go to its standard
-//! input, and the lines that it prints are read back into a report. Lines that are not as they should be are told.
+//! Searches by running the program `mireladle` in the place of the library: the query and the rows go
+//! to its standard input, and the lines that it prints are read back into a report. The program's exit
+//! status is always 0, so what it printed has to tell: a report counts only where it is whole, each
+//! line of it with its line end, and where nothing was written to standard error. Anything else is
+//! told. Weakness: a program that never ends is waited for. Tested here and in tests/command.rs.
 
 use std::io::{self, ErrorKind, Write};
 use std::path::Path;
-use std::process::{Command, Stdio};
+use std::process::{Command, Output, Stdio};
+use std::str::FromStr;
 
 use mireladle::lent::Outcome;
 use mireladle::{Error, Report};
+
+use crate::fault::{shown, visible, LONGEST_SHOWN};
+use crate::lines::lines;
 
 /// Why the program gave no report.
 pub enum Failed {
     /// It could not be run to its end.
     Run(io::Error),
+    /// It wrote this to standard error.
+    Said(String),
     /// It refused.
     Refused(Error),
     /// The input is beyond what the program takes, which is less than what the library takes.
     TooLarge,
+    /// What it printed ends too early: what is missing.
+    Cut(String),
     /// It printed a line that is not as it should be.
     Line(String),
 }
 
-/// Runs the program on an input and reads the report of a query with so many measures.
-pub fn search(path: &Path, input: Vec<u8>, measures: usize) -> Result<Report, Failed> {
-    let printed = run(path, input).map_err(Failed::Run)?;
-    read(&String::from_utf8_lossy(&printed), measures)
+impl Failed {
+    /// The reason in words; a refusal has its own.
+    pub fn reason(&self) -> String {
+        match self {
+            Failed::Run(error) => error.to_string(),
+            Failed::Said(message) => format!("no report counts beside its message:{message}"),
+            Failed::Refused(error) => error.to_string(),
+            Failed::TooLarge => String::from(
+                "too large: expected a query of at most 4,096 bytes, 8,192 entries and 16,000 pairs",
+            ),
+            Failed::Cut(missing) => format!("the report is cut: {missing}"),
+            Failed::Line(line) => format!("expected the lines of a report, found {}", shown(line)),
+        }
+    }
 }
 
-fn run(path: &Path, input: Vec<u8>) -> io::Result<Vec<u8>> {
+/// Runs the program on an input and reads the report of a query with so many measures.
+pub fn search(path: &Path, input: Vec<u8>, measures: usize) -> Result<Report, Failed> {
+    let output = run(path, input).map_err(Failed::Run)?;
+    let message = said(&String::from_utf8_lossy(&output.stderr));
+    if !output.status.success() {
+        let ended = format!("ended with {}{message}", output.status);
+        return Err(Failed::Run(io::Error::other(ended)));
+    }
+    match output.stderr.is_empty() {
+        true => read(&String::from_utf8_lossy(&output.stdout), measures),
+        false => Err(Failed::Said(message)),
+    }
+}
+
+fn run(path: &Path, input: Vec<u8>) -> io::Result<Output> {
     let mut child = Command::new(path)
         .stdin(Stdio::piped())
         .stdout(Stdio::piped())
+        .stderr(Stdio::piped())
         .spawn()?;
     let into = child.stdin.take();
-    // Written beside the reading, so that neither has to wait for the other. A program that has seen enough may stop
-    // reading; what it prints then tells.
+    // Written beside the reading, so that neither has to wait for the other. A program that has seen
+    // enough may stop reading; what it prints then tells.
     let writer = std::thread::spawn(move || match into.map(|mut into| into.write_all(&input)) {
         Some(Err(error)) if error.kind() != ErrorKind::BrokenPipe => Err(error),
         _ => Ok(()),
@@ -43,67 +79,123 @@ fn run(path: &Path, input: Vec<u8>) -> io::Result<Vec<u8>> {
         Ok(written) => written?,
         Err(_) => return Err(io::Error::other("the input could not be written")),
     }
-    match output.status.success() {
-        true => Ok(output.stdout),
-        false => Err(io::Error::other(format!("ended with {}", output.status))),
-    }
+    Ok(output)
+}
+
+/// What the program wrote to standard error, each line on a line of its own, and not too much of it.
+fn said(text: &str) -> String {
+    const MOST_LINES: usize = 10;
+    let line = |line: &str| {
+        let front: String = line.chars().take(LONGEST_SHOWN).collect();
+        format!("\n    {}", visible(&front))
+    };
+    lines(text).take(MOST_LINES).map(line).collect()
 }
 
 /// Reads the printed lines.
 fn read(printed: &str, measures: usize) -> Result<Report, Failed> {
-    let mut lines = printed.lines();
-    let head = lines.next().unwrap_or("");
-    let strange = |line: &str| Failed::Line(String::from(line));
-    let words: Vec<&str> = head.split(' ').collect();
+    let mut lines = whole_lines(printed)?;
+    let first = lines.next().unwrap_or("");
+    let head = head(first)?;
+    let (mut numbers, mut labels) = (Vec::new(), String::new());
+    let mut matches: u64 = 0;
+    for line in lines {
+        matches = matches.saturating_add(1);
+        let of_match = match_line(line, matches, measures).filter(|_| matches <= head.matches);
+        let (of_match, of_rows) = of_match.ok_or_else(|| strange(line))?;
+        numbers.extend(of_match);
+        labels.push_str(of_rows);
+    }
+    if matches < head.matches {
+        let missing = format!("matches told {}, printed {matches}", head.matches);
+        return Err(Failed::Cut(missing));
+    }
+    let outcome = Outcome {
+        labels: u64::try_from(labels.len()).unwrap_or(u64::MAX),
+        ..head
+    };
+    Report::new(&outcome, numbers, labels.into_bytes(), measures).map_err(|_| strange(first))
+}
+
+/// The lines, where each has its line end. A refusal has one line.
+fn whole_lines(printed: &str) -> Result<impl Iterator<Item = &str>, Failed> {
+    if printed.is_empty() {
+        return Err(Failed::Cut(String::from("nothing was printed")));
+    }
+    let Some(whole) = printed.strip_suffix('\n') else {
+        let last = printed.rsplit('\n').next().unwrap_or("");
+        let missing = format!("no line end behind {}", shown(last));
+        return Err(Failed::Cut(missing));
+    };
+    match whole.split_once('\n') {
+        Some((refused, behind)) if head(refused).is_err() => {
+            Err(strange(&format!("{refused} {behind}")))
+        }
+        _ => Ok(whole.split('\n')),
+    }
+}
+
+/// The first line: answer, matches and steps of a report, or why there is none.
+fn head(line: &str) -> Result<Outcome, Failed> {
+    let words: Vec<&str> = line.split(' ').collect();
     let (answer, matches, steps) = match words[..] {
         ["matches", matches, "steps", steps] => (0, matches, steps),
         ["stopped", matches, "steps", steps] => (13, matches, steps),
         ["too", "large"] => return Err(Failed::TooLarge),
-        ["refused", number] => {
-            let number = number.parse().map_err(|_| strange(head))?;
-            return Err(Failed::Refused(Error::from_answer(number, 0)));
+        ["refused", answer] => {
+            let answer = number(answer).ok_or_else(|| strange(line))?;
+            return Err(Failed::Refused(Error::from_answer(answer, 0)));
         }
-        _ => return Err(strange(head)),
+        _ => return Err(strange(line)),
     };
-    let (mut numbers, mut labels) = (Vec::new(), String::new());
-    let mut count: u64 = 0;
-    for line in lines {
-        let (of_match, of_rows) = match_line(line, measures).ok_or_else(|| strange(line))?;
-        numbers.extend(of_match);
-        labels.push_str(of_rows);
-        count = count.saturating_add(1);
-    }
-    if matches.parse() != Ok(count) {
-        return Err(strange(head));
-    }
-    let outcome = Outcome {
+    Ok(Outcome {
         answer,
-        matches: count,
-        labels: u64::try_from(labels.len()).unwrap_or(u64::MAX),
-        steps: steps.parse().map_err(|_| strange(head))?,
+        matches: number(matches).ok_or_else(|| strange(line))?,
+        labels: 0,
+        steps: number(steps).ok_or_else(|| strange(line))?,
         offset: 0,
-    };
-    Report::new(&outcome, numbers, labels.into_bytes(), measures).map_err(|_| strange(head))
+    })
 }
 
-/// The report numbers of a match, and its labels: number, first row, rows taken, labels or `-`, then so many measures.
-fn match_line(line: &str, measures: usize) -> Option<(Vec<i64>, &str)> {
+fn strange(line: &str) -> Failed {
+    Failed::Line(String::from(line))
+}
+
+/// A number as the program prints it: digits, with a `-` in front if it is negative.
+fn number<T: FromStr>(word: &str) -> Option<T> {
+    match word.starts_with('+') {
+        true => None,
+        false => word.parse().ok(),
+    }
+}
+
+/// The report numbers of the match with this number, and its labels: number, first row, rows taken,
+/// labels or `-`, then so many measures.
+fn match_line(line: &str, matches: u64, measures: usize) -> Option<(Vec<i64>, &str)> {
     let mut words = line.split(' ');
-    let mut numbers = Vec::new();
+    let mut numbers: Vec<i64> = Vec::new();
     for _ in 0..3 {
-        numbers.push(words.next()?.parse().ok()?);
+        numbers.push(number(words.next()?)?);
     }
     let labels = match words.next()? {
         "-" => "",
+        "" => return None,
         labels => labels,
     };
     for _ in 0..measures {
         match words.next()? {
             "null" => numbers.extend([0, 0]),
-            result => numbers.extend([1, result.parse().ok()?]),
+            result => numbers.extend([1, number(result)?]),
         }
     }
-    words.next().is_none().then_some((numbers, labels))
+    let [told, _, taken, ..] = numbers[..] else {
+        return None;
+    };
+    let numbered = u64::try_from(told) == Ok(matches);
+    let labelled = usize::try_from(taken) == Ok(labels.len());
+    let letters = labels.bytes().all(|label| label.is_ascii_uppercase());
+    let ends = words.next().is_none();
+    (numbered && labelled && letters && ends).then_some((numbers, labels))
 }
 
 #[cfg(test)]
@@ -147,18 +239,52 @@ mod tests {
         ));
         assert!(matches!(read("too large\n", 0), Err(Failed::TooLarge)));
         for strange in [
-            "",
             "too\n",
-            "matches 1 steps 3\n",
+            "too large\nor not\n",
+            "refused 7\n\n",
+            "refused +7\n",
+            "matches 0 steps 3\n\n",
             "matches 1 steps 3\n1 0 2 A\n",
             "matches 1 steps 3\n1 0 1 A 5\n",
             "matches 1 steps 3\n1 0 1 A\n2 1 1 A\n",
+            "matches 1 steps 3\n2 0 1 A\n",
+            "matches 1 steps 3\n1 0 1 a\n",
+            "matches 1 steps 3\n1 0 0 \n",
+            "matches 1 steps 3\n1 0 1 A\r\n",
+            "matches 2 steps 3\n1 0 1 AA\n2 0 1 \n",
             "matches x steps 3\n",
+            "matches 0 steps x\n",
         ] {
             assert!(
                 matches!(read(strange, 0), Err(Failed::Line(_))),
                 "{strange}"
             );
         }
+    }
+
+    /// Every front of a report but the whole is told as cut, or at least not taken for a report.
+    #[test]
+    fn every_cut_is_told() {
+        let whole = "matches 2 steps 12\n1 1 3 AAB 2 -115\n2 4 0 - 0 null\n";
+        assert!(read(whole, 2).is_ok());
+        for end in 0..whole.len() {
+            let cut = read(&whole[..end], 2);
+            assert!(matches!(cut, Err(Failed::Cut(_))), "{end}");
+        }
+        let stopped = "stopped 1 steps 12\n1 1 3 AAB\n";
+        for end in 0..stopped.len() {
+            let cut = read(&stopped[..end], 0);
+            assert!(matches!(cut, Err(Failed::Cut(_))), "{end}");
+        }
+        for cut in ["refused 1", "too large", "matches 0 steps 1"] {
+            assert!(matches!(read(cut, 0), Err(Failed::Cut(_))), "{cut}");
+        }
+    }
+
+    #[test]
+    fn a_message_is_shown_line_by_line() {
+        assert_eq!(said(""), "");
+        assert_eq!(said("a\u{1B}[2J\nb"), "\n    a\u{FFFD}[2J\n    b");
+        assert_eq!(said(&"x\n".repeat(99)).lines().count(), 1 + 10);
     }
 }
