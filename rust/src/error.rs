@@ -1,7 +1,11 @@
-//! Why a query or a search was refused: the library's answers 1 to 12 and 14 by name and in plain words, and the few faults
-//! that only this crate can see. Each answer of the library has exactly one error, and keeps its number.
+//! Why a query or a search was refused: the library's answers 1 to 12 and 14 by name and in plain
+//! words, and the few faults that only this crate can see. Each answer of the library has exactly one
+//! error, and keeps its number. Of a pattern that is wrong the place is told, and what could stand
+//! there.
 
 use std::fmt;
+
+use crate::expected::Expected;
 
 /// The answer of a search that went through all rows.
 pub(crate) const DONE: u64 = 0;
@@ -25,10 +29,13 @@ pub enum Error {
     WrongField,
     /// 4: more than 8 parentheses are open somewhere in the pattern.
     TooDeep,
-    /// 5: the pattern text is outside the pattern language: no pattern begins with it up to and with the byte at the offset.
+    /// 5: the pattern text is outside the pattern language: no pattern begins with it up to and with
+    /// the byte at the offset.
     NotAPattern {
-        /// The byte's offset in the text.
+        /// The byte's offset in the text, from 0.
         offset: u64,
+        /// What could stand there, where it is known: see [`Expected::behind`].
+        expected: Option<Expected>,
     },
     /// 6: a repetition without upper bound of something that can match without taking a row.
     EmptyRepetition,
@@ -48,6 +55,8 @@ pub enum Error {
     PatternEnds {
         /// The text's length in bytes.
         offset: u64,
+        /// What could stand behind it, where it is known: see [`Expected::behind`].
+        expected: Option<Expected>,
     },
     /// The rows were said to have another number of columns than the query is about.
     ColumnCount {
@@ -64,10 +73,14 @@ pub enum Error {
 }
 
 impl Error {
-    /// The error that stands for an answer other than 0 and 13, with the offset that came with it.
+    /// The error that stands for an answer other than 0 and 13, with the offset that came with it. It
+    /// does not know what was expected, since it does not know the pattern's text.
     ///
     /// ```
-    /// assert_eq!(mireladle::Error::from_answer(5, 2), mireladle::Error::NotAPattern { offset: 2 });
+    /// use mireladle::Error;
+    ///
+    /// let error = Error::from_answer(5, 2);
+    /// assert_eq!(error, Error::NotAPattern { offset: 2, expected: None });
     /// ```
     pub fn from_answer(answer: u64, offset: u64) -> Error {
         match answer {
@@ -75,7 +88,10 @@ impl Error {
             2 => Error::WrongRecords,
             3 => Error::WrongField,
             4 => Error::TooDeep,
-            5 => Error::NotAPattern { offset },
+            5 => Error::NotAPattern {
+                offset,
+                expected: None,
+            },
             6 => Error::EmptyRepetition,
             7 => Error::TooManyPlaces,
             8 => Error::DefinedTwice,
@@ -83,7 +99,10 @@ impl Error {
             10 => Error::WrongRows,
             11 => Error::NotesShort,
             12 => Error::TrailShort,
-            14 => Error::PatternEnds { offset },
+            14 => Error::PatternEnds {
+                offset,
+                expected: None,
+            },
             _ => Error::OtherLibrary { answer },
         }
     }
@@ -122,8 +141,8 @@ impl Error {
                  1 to 8 comparisons in a DEFINE, offsets up to 64)"
             }
             Error::TooDeep => "more than 8 parentheses are open somewhere in the pattern",
-            Error::NotAPattern { .. } => "the text is outside the pattern language",
-            Error::PatternEnds { .. } => "the text ends where it could go on to a pattern",
+            Error::NotAPattern { .. } => "the pattern text is wrong",
+            Error::PatternEnds { .. } => "the pattern text ends where it could go on to a pattern",
             Error::EmptyRepetition => {
                 "a repetition without upper bound stands over something that can match without taking a row"
             }
@@ -145,8 +164,24 @@ impl fmt::Display for Error {
         match self {
             Error::ColumnCount { query, rows } => write!(f, " ({rows}, not {query})"),
             Error::OtherLibrary { answer } => write!(f, " (answer {answer})"),
+            Error::NotAPattern { offset, expected } => {
+                write!(f, " at byte {offset}, counted from 0")?;
+                write_expected(f, expected)
+            }
+            Error::PatternEnds { offset, expected } => {
+                write!(f, ", behind {offset} byte")?;
+                f.write_str(if *offset == 1 { "" } else { "s" })?;
+                write_expected(f, expected)
+            }
             _ => Ok(()),
         }
+    }
+}
+
+fn write_expected(f: &mut fmt::Formatter<'_>, expected: &Option<Expected>) -> fmt::Result {
+    match expected {
+        Some(expected) => write!(f, ": expected {expected}"),
+        None => Ok(()),
     }
 }
 

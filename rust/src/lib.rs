@@ -51,6 +51,7 @@
 
 mod comparison;
 mod error;
+mod expected;
 pub mod lent;
 mod measure;
 mod query;
@@ -59,6 +60,7 @@ mod rows;
 
 pub use comparison::{col, Column, Comparison, Operand, Operator, Sum};
 pub use error::Error;
+pub use expected::Expected;
 pub use measure::{Function, Measure};
 pub use query::{Query, QueryBuilder, Skip};
 pub use report::{Ending, Match, Matches, Report, ReportRoom};

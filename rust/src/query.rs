@@ -4,6 +4,7 @@
 
 use crate::comparison::Comparison;
 use crate::error::{Error, DONE};
+use crate::expected::Expected;
 use crate::lent;
 use crate::measure::{letter_byte, Measure};
 use crate::report::{Report, ReportRoom};
@@ -110,7 +111,7 @@ impl QueryBuilder {
     ///
     /// # Errors
     ///
-    /// The refusals 2 to 9; a pattern that was never given is a missing record, so 2.
+    /// The refusals 2 to 9 and 14; a pattern that was never given is a missing record, so 2.
     pub fn build(&self) -> Result<Query, Error> {
         Query::from_bytes(self.to_bytes())
     }
@@ -123,6 +124,48 @@ fn append(bytes: &mut Vec<u8>, kind: u16, body: &[u8]) {
     bytes.extend_from_slice(&length.to_le_bytes());
     bytes.extend_from_slice(&kind.to_le_bytes());
     bytes.extend_from_slice(body);
+}
+
+/// The bytes of a query with this pattern and nothing else to be refused for.
+pub(crate) fn pattern_alone(text: &[u8]) -> Vec<u8> {
+    let mut bytes = Vec::new();
+    append(&mut bytes, SHAPE, &[1, 0]);
+    append(&mut bytes, PATTERN, text);
+    append(&mut bytes, SKIP, &[Skip::PastLastRow.number(), 0]);
+    bytes
+}
+
+/// An error about a query, with what was expected where its pattern is wrong or ends.
+fn with_expected(error: Error, query: &[u8]) -> Error {
+    let at = |offset: u64| {
+        let (_, text) = records(query).find(|(kind, _)| *kind == PATTERN)?;
+        Expected::behind(text.get(..usize::try_from(offset).ok()?)?)
+    };
+    match error {
+        Error::NotAPattern { offset, .. } => Error::NotAPattern {
+            offset,
+            expected: at(offset),
+        },
+        Error::PatternEnds { offset, .. } => Error::PatternEnds {
+            offset,
+            expected: at(offset),
+        },
+        other => other,
+    }
+}
+
+/// The kinds and bodies of a query's records, up to one that is cut.
+fn records(query: &[u8]) -> impl Iterator<Item = (u16, &[u8])> {
+    let mut left = query;
+    std::iter::from_fn(move || {
+        let [l0, l1, k0, k1, behind @ ..] = left else {
+            return None;
+        };
+        let length = usize::from(u16::from_le_bytes([*l0, *l1]));
+        let body = behind.get(..length)?;
+        left = behind.get(length..)?;
+        Some((u16::from_le_bytes([*k0, *k1]), body))
+    })
 }
 
 /// The body of a DEFINE. More comparisons than a byte can count become 255, which is too many as well.
@@ -165,7 +208,10 @@ impl Query {
         // Without rows nothing but the query can be refused.
         let room = lent::room(&bytes, &[]);
         if room.answer != DONE {
-            return Err(Error::from_answer(room.answer, room.offset));
+            return Err(with_expected(
+                Error::from_answer(room.answer, room.offset),
+                &bytes,
+            ));
         }
         let shape = Shape::of(&bytes).ok_or(Error::OtherLibrary { answer: DONE })?;
         Ok(Query {
@@ -267,12 +313,8 @@ impl Shape {
     /// Reads the shape from an accepted query; none if it was wrongly accepted.
     fn of(query: &[u8]) -> Option<Shape> {
         let (mut columns, mut skip, mut measures) = (None, None, 0_usize);
-        let mut left = query;
-        while let [l0, l1, k0, k1, behind @ ..] = left {
-            let length = usize::from(u16::from_le_bytes([*l0, *l1]));
-            let body = behind.get(..length)?;
-            left = behind.get(length..)?;
-            match u16::from_le_bytes([*k0, *k1]) {
+        for (kind, body) in records(query) {
+            match kind {
                 SHAPE => columns = body.first().copied(),
                 SKIP => skip = body.first().copied(),
                 MEASURE => measures = measures.saturating_add(1),

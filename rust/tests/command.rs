@@ -279,16 +279,27 @@ fn refusals_have_number_and_words() {
         "refused 4: more than 8 parentheses are open somewhere in the pattern\n\
          /refused-4.txt:2: pattern: (((((((((A)))))))))\n",
     );
-    let twice = failure("refused-5", "pattern: A** # twice", "a,b\n1,2\n");
-    let lines: Vec<&str> = twice.1.lines().collect();
-    let said = [
-        "refused 5: the text is outside the pattern language",
-        "/refused-5.txt:1: pattern: A**",
-    ];
-    assert_eq!((twice.0, &lines[..2]), (1, &said[..]));
-    // The mark stands under the second star, where the whole path is shown.
-    let shown = format!("{}{}", env!("CARGO_TARGET_TMPDIR"), lines[1]);
-    assert_eq!(lines[2..], [format!("{:>1$}", '^', shown.chars().count())]);
+    refused(
+        "refused-5",
+        "pattern: A** # twice",
+        "refused 5: the pattern text is wrong at byte 2, counted from 0\n\
+         /refused-5.txt:1:12: expected a letter A to Z, `$`, `(`, `?`, `^`, `|`, a space or the end, \
+         found `*`\n    pattern: A** # twice\n               ^\n",
+    );
+    refused(
+        "refused-5-tab",
+        "A: a = 1\n  pattern: (\u{9}A |",
+        "refused 5: the pattern text is wrong at byte 1, counted from 0\n\
+         /refused-5-tab.txt:2:13: expected a letter A to Z, `$`, `(`, `)`, `^` or a space, \
+         found the byte 0x09\n      pattern: (\u{9}A |\n                ^\n",
+    );
+    refused(
+        "refused-14",
+        "A: a = 1\npattern: A | # B",
+        "refused 14: the pattern text ends where it could go on to a pattern, behind 3 bytes\n\
+         /refused-14.txt:2:13: expected a letter A to Z, `$`, `(`, `^` or a space, \
+         found the end of the pattern\n    pattern: A | # B\n                ^\n",
+    );
     refused(
         "refused-8",
         "pattern: A\nA: a = 1\nA: a = 2 # again\nA: a = 3",
@@ -430,6 +441,13 @@ fn a_program_that_refuses_or_says_something_else() {
     );
     let (program, _) = stand_in("refuses", "refused 9\\n");
     assert_eq!(message(&program), (1, refused));
+    // The program tells no place: the library that is linked does.
+    let (program, _) = stand_in("refuses-14", "refused 14\\n");
+    let query = file("refuses-14.txt", "pattern: (A");
+    let output = run(&["--program", &program, &query, &files[1]]);
+    let place = "/refuses-14.txt:1:12: expected `$`, `(`, `)`, `*`, ";
+    assert_eq!(status(&output), 1);
+    assert!(text(&output.stderr).contains(place), "{output:?}");
     let large = "/large.sh: too large: expected a query of at most 4,096 bytes, 8,192 entries and 16,000 pairs\n";
     let (program, _) = stand_in("large", "too large\\n");
     assert_eq!(message(&program), (2, String::from(large)));

@@ -217,6 +217,74 @@ fn every_refusal_by_its_number() {
     }
 }
 
+/// Where a text is wrong or ends, and what could stand there.
+#[test]
+fn wrong_patterns_tell_what_was_expected() {
+    let begin = "a letter A to Z, `$`, `(`, `^` or a space";
+    let behind_a = "`$`, `(`, `*`, `+`, `?`, `^`, `{`, `|`, a space or the end";
+    let behind_star = "a letter A to Z, `$`, `(`, `?`, `^`, `|`, a space or the end";
+    let in_group = "`$`, `(`, `)`, `*`, `+`, `?`, `^`, `{`, `|` or a space";
+    for (text, number, offset, expected) in [
+        ("AB", 5, 1, behind_a),
+        ("A**", 5, 2, behind_star),
+        ("A{30,2", 5, 5, "a digit 3 to 9 or `}`"),
+        ("A{3,2", 14, 5, "a digit 0 to 9"),
+        ("A{0,0", 5, 4, "a digit 1 to 9 or `}`"),
+        ("A{0}", 5, 3, "`,`"),
+        ("A{99,98", 5, 6, "`9`"),
+        ("(A", 14, 2, in_group),
+        ("", 14, 0, begin),
+        (" ", 14, 1, begin),
+        ("A |", 14, 3, begin),
+        ("\u{E9}", 5, 0, begin),
+    ] {
+        let error = free(text).build().unwrap_err();
+        let (Error::NotAPattern {
+            offset: at,
+            expected: Some(set),
+        }
+        | Error::PatternEnds {
+            offset: at,
+            expected: Some(set),
+        }) = error
+        else {
+            panic!("{text:?}: {error:?}");
+        };
+        assert_eq!((error.number(), at), (Some(number), offset), "{text:?}");
+        assert_eq!(set.to_string(), expected, "{text:?}");
+        let message = error.to_string();
+        assert!(
+            message.ends_with(&format!(": expected {expected}")),
+            "{message}"
+        );
+        // Each byte of the set can stand there, and no other.
+        let front = &text[..usize::try_from(offset).unwrap()];
+        for byte in 0..128_u8 {
+            let longer = free(&format!("{front}{}", char::from(byte))).build();
+            let wrong = longer.is_err_and(|error| error.number() == Some(5));
+            assert_eq!(set.contains(byte), !wrong, "{text:?} {byte}");
+        }
+        assert_eq!(set.end(), free(front).build().is_ok(), "{text:?}");
+    }
+    let error = |text: &str| free(text).build().unwrap_err().to_string();
+    assert_eq!(
+        error("A{0}"),
+        "the pattern text is wrong at byte 3, counted from 0: expected `,`"
+    );
+    assert_eq!(
+        error("A{3,2"),
+        "the pattern text ends where it could go on to a pattern, behind 5 bytes: \
+         expected a digit 0 to 9"
+    );
+    // The limits hide nothing but what could stand behind 256 bytes.
+    let full = "A ".repeat(127) + "A|";
+    let ends = Error::PatternEnds {
+        offset: 256,
+        expected: None,
+    };
+    assert_eq!(free(&full).build(), Err(ends));
+}
+
 #[test]
 fn rows_that_are_refused() {
     let query = Query::builder(2).pattern("A").build().unwrap();

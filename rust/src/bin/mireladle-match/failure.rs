@@ -6,7 +6,7 @@ use std::path::{Path, PathBuf};
 
 use mireladle::{Ending, Error};
 
-use crate::fault::{visible, Fault};
+use crate::fault::{mark, visible, Fault};
 use crate::pattern_text;
 use crate::query_text::Shown;
 
@@ -36,7 +36,7 @@ pub enum Failure {
     /// The library refused; the line that the answer is about, if it is about one, goes with it.
     Refused {
         error: Error,
-        line: Option<(PathBuf, Shown)>,
+        line: Option<(PathBuf, Box<Shown>)>,
     },
     /// The program cannot be run, or what it printed is no report.
     Program { path: PathBuf, reason: String },
@@ -82,30 +82,42 @@ fn named(path: &Path) -> String {
     visible(&path.display().to_string())
 }
 
-fn refusal(error: Error, line: Option<&(PathBuf, Shown)>) -> String {
-    let number = error
-        .number()
-        .map_or(String::new(), |number| format!(" {number}"));
-    let place = line.map_or(String::new(), |(path, Shown { number, text })| {
-        format!("\n{}:{number}: {}", named(path), visible(text))
+fn refusal(error: Error, line: Option<&(PathBuf, Box<Shown>)>) -> String {
+    let number = error.number();
+    let refused = number.map_or(String::from("refused"), |number| {
+        format!("refused {number}")
     });
-    let mark = match (error, line) {
-        (Error::NotAPattern { .. } | Error::PatternEnds { .. }, Some((path, shown))) => {
-            pattern_mark(path, shown)
-        }
-        _ => String::new(),
+    let Some((path, shown)) = line else {
+        return format!("{refused}: {error}");
     };
-    format!("refused{number}: {error}{place}{mark}")
+    let path = named(path);
+    let wrong = match error {
+        Error::NotAPattern { .. } | Error::PatternEnds { .. } => pattern_text::wrong(shown),
+        _ => None,
+    };
+    match wrong {
+        Some((error, fault)) => {
+            let mark = mark(&shown.line, fault.column);
+            format!("{refused}: {}\n{path}:{fault}{mark}", short(error))
+        }
+        None => {
+            let text = visible(&format!("{}: {}", shown.key, shown.rest));
+            format!("{refused}: {error}\n{path}:{}: {text}", shown.number)
+        }
+    }
 }
 
-/// A mark under the character of a shown pattern from which on it is none.
-fn pattern_mark(path: &Path, Shown { number, text }: &Shown) -> String {
-    let pattern = text.strip_prefix("pattern: ").unwrap_or("");
-    let Some(front) = pattern_text::front(pattern) else {
-        return String::new();
-    };
-    let before = text.chars().count().saturating_sub(pattern.chars().count());
-    let place = format!("{}:{number}: ", named(path)).chars().count();
-    let gap = " ".repeat(place.saturating_add(before).saturating_add(front));
-    format!("\n{gap}^")
+/// The error without what was expected, which stands with its place.
+fn short(error: Error) -> Error {
+    match error {
+        Error::NotAPattern { offset, .. } => Error::NotAPattern {
+            offset,
+            expected: None,
+        },
+        Error::PatternEnds { offset, .. } => Error::PatternEnds {
+            offset,
+            expected: None,
+        },
+        other => other,
+    }
 }

@@ -57,20 +57,46 @@ pub struct Marked<'a> {
     text: &'a str,
 }
 
-/// A longer line is not shown: its mark would be lost on a screen.
-pub const LONGEST_SHOWN: usize = 160;
-
 impl fmt::Display for Marked<'_> {
     fn fmt(&self, f: &mut fmt::Formatter<'_>) -> fmt::Result {
         let number = self.fault.line.saturating_sub(1);
         let line = lines(self.text).nth(number).unwrap_or("");
-        if line.trim().is_empty() || line.chars().count() > LONGEST_SHOWN {
-            return Ok(());
-        }
-        let before = self.fault.column.saturating_sub(1);
-        let shown = visible(line);
-        write!(f, "\n    {shown}\n    {}^", gap(&shown, before))
+        f.write_str(&mark(line, self.fault.column))
     }
+}
+
+/// Of a longer line a part is shown: on a screen the mark would be lost.
+pub const LONGEST_SHOWN: usize = 160;
+/// Characters before and behind the mark in such a part.
+const AROUND: usize = 60;
+
+/// A line on a line of its own, with a mark under the column below it; nothing of an empty line.
+pub fn mark(line: &str, column: usize) -> String {
+    if line.trim().is_empty() {
+        return String::new();
+    }
+    let before = column.saturating_sub(1);
+    let (shown, before) = match line.chars().count() > LONGEST_SHOWN {
+        true => part(line, before),
+        false => (visible(line), before),
+    };
+    format!("\n    {shown}\n    {}^", gap(&shown, before))
+}
+
+/// The part of a line around a character, and how many characters of it stand before that one.
+fn part(line: &str, before: usize) -> (String, usize) {
+    const LEFT_OUT: &str = "...";
+    let from = before.saturating_sub(AROUND);
+    let to = before.saturating_add(AROUND);
+    let first = if from > 0 { LEFT_OUT } else { "" };
+    let last = if to < line.chars().count() {
+        LEFT_OUT
+    } else {
+        ""
+    };
+    let inside: String = line.chars().take(to).skip(from).collect();
+    let before = before.saturating_sub(from).saturating_add(first.len());
+    (format!("{first}{}{last}", visible(&inside)), before)
 }
 
 /// As much space as the first characters of a shown line take. A tab is kept, so that what follows
@@ -172,6 +198,18 @@ mod tests {
             Fault::new(0, 0, "", "").marked("one").to_string(),
             "\n    one\n    ^"
         );
+    }
+
+    #[test]
+    fn of_a_long_line_a_part_is_shown() {
+        let line = "x".repeat(100) + "!" + &"y".repeat(100);
+        let (x, y) = ("x".repeat(60), "y".repeat(59));
+        let gap = " ".repeat(4 + 3 + 60);
+        assert_eq!(mark(&line, 101), format!("\n    ...{x}!{y}...\n{gap}^"));
+        let begin = mark(&line, 1);
+        assert_eq!(begin, format!("\n    {x}...\n    ^"));
+        let end = mark(&line, 202);
+        assert_eq!(end, format!("\n    ...{}\n{gap}^", "y".repeat(60)));
     }
 
     #[test]

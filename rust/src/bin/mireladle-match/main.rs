@@ -253,7 +253,7 @@ fn search(
         };
         Failure::Refused {
             error,
-            line: line.map(|line| (query_path.to_path_buf(), line)),
+            line: line.map(|line| (query_path.to_path_buf(), Box::new(line))),
         }
     };
     let columns = u8::try_from(table.names.len()).unwrap_or(u8::MAX);

@@ -27,11 +27,15 @@ pub struct QueryText {
     pub measures: Option<Shown>,
 }
 
-/// A line by its number, and as it stands there without its comment.
+/// A line that can be shown: its number, the line as it stands, and what stands before and behind
+/// its colon, without a comment; the part behind begins at the column.
 #[derive(Clone, Debug, PartialEq, Eq)]
 pub struct Shown {
     pub number: usize,
-    pub text: String,
+    pub line: String,
+    pub key: String,
+    pub rest: String,
+    pub column: usize,
 }
 
 /// The parts read so far.
@@ -44,9 +48,10 @@ struct Reader<'a> {
     measures: Option<(Vec<(Measure, String)>, Shown)>,
 }
 
-/// One line without its comment, parted at the first colon.
+/// One line, and its parts before and behind the first colon, without its comment.
 struct Line<'a> {
     number: usize,
+    whole: &'a str,
     key: &'a str,
     key_column: usize,
     rest: &'a str,
@@ -64,11 +69,10 @@ pub fn read(text: &str, names: &[String]) -> Result<QueryText, Fault> {
         measures: None,
     };
     let mut last: usize = 0;
-    for (number, text) in (1..).zip(lines(text)) {
+    for (number, line) in (1..).zip(lines(text)) {
         last = number;
-        let text = without_comment(text);
-        if !text.trim().is_empty() {
-            reader.line(&Line::new(number, text)?)?;
+        if !without_comment(line).trim().is_empty() {
+            reader.line(&Line::new(number, line)?)?;
         }
     }
     reader.finish(last)
@@ -85,7 +89,8 @@ fn without_comment(line: &str) -> &str {
 }
 
 impl<'a> Line<'a> {
-    fn new(number: usize, text: &'a str) -> Result<Line<'a>, Fault> {
+    fn new(number: usize, whole: &'a str) -> Result<Line<'a>, Fault> {
+        let text = without_comment(whole);
         let key_column = column_of(text, text.trim_start());
         match text.split_once(':') {
             Some((key, rest)) => {
@@ -93,6 +98,7 @@ impl<'a> Line<'a> {
                 let rest_column = column_of(text, rest);
                 Ok(Line {
                     number,
+                    whole,
                     key: key.trim(),
                     key_column,
                     rest: rest.trim_end(),
@@ -110,7 +116,10 @@ impl<'a> Line<'a> {
     fn shown(&self) -> Shown {
         Shown {
             number: self.number,
-            text: format!("{}: {}", self.key, self.rest),
+            line: String::from(self.whole),
+            key: String::from(self.key),
+            rest: String::from(self.rest),
+            column: self.rest_column,
         }
     }
 

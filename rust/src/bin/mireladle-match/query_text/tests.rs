@@ -43,14 +43,30 @@ fn w1_is_read_into_its_bytes() {
         .measure(Measure::last(0).of('B'));
     assert_eq!(read.builder.to_bytes(), expected.to_bytes());
     assert_eq!(read.titles, ["COUNT(A)", "LAST(B.price)"]);
-    let shown = |number, text: &str| Shown {
+    let shown = |number, key: &str, rest: &str| Shown {
         number,
-        text: String::from(text),
+        line: format!("{key}: {rest}"),
+        key: String::from(key),
+        rest: String::from(rest),
+        column: key.len() + 3,
     };
-    assert_eq!(read.pattern, shown(2, "pattern: A+ B"));
+    assert_eq!(read.pattern, shown(2, "pattern", "A+ B"));
     assert_eq!(read.defined_again, None);
-    let measures = shown(7, "measures: COUNT(A), LAST(B.price)");
+    let measures = shown(7, "measures", "COUNT(A), LAST(B.price)");
     assert_eq!(read.measures, Some(measures));
+}
+
+#[test]
+fn a_shown_line_is_whole_and_its_parts_are_not() {
+    let read = read("# W1\n pattern :  A**  # twice", &names()).unwrap();
+    let expected = Shown {
+        number: 2,
+        line: String::from(" pattern :  A**  # twice"),
+        key: String::from("pattern"),
+        rest: String::from("A**"),
+        column: 13,
+    };
+    assert_eq!(read.pattern, expected);
 }
 
 #[test]
