@@ -107,6 +107,12 @@ struct mireladle_room {
     uint64_t offset; /* as a search returns it */
 };
 
+/* The structs under names of one word. A function has the name of the second struct, so that C++
+ * takes `mireladle_room` alone for the function, and the struct has to be written as
+ * `struct mireladle_room` or as `mireladle_room_t`. */
+typedef struct mireladle_result mireladle_result_t;
+typedef struct mireladle_room mireladle_room_t;
+
 /*
  * Searches the rows for all matches of the query. A match is looked for from row 0 on, at one row after the other, but
  * not behind the last row: so there is none without rows, and none of the pattern $ alone.
