@@ -360,6 +360,29 @@ fn the_largest_report_fits() {
     );
 }
 
+/// The query of the README whose search to the next row takes longest, and one whose steps come
+/// within a hundredth of the bound.
+#[test]
+fn steps_to_the_next_row_are_bounded() {
+    let n: u64 = 400;
+    let entries = vec![0; usize::try_from(n).unwrap()];
+    let all = |pattern: &str, places: u64| {
+        let query = free(pattern).skip(Skip::ToNextRow).build().unwrap();
+        let report = query.search(Rows::new(&entries, 1)).unwrap();
+        assert_eq!(query.places(), places);
+        assert_eq!(report.len(), entries.len());
+        assert!(report
+            .matches()
+            .all(|found| found.rows().end == entries.len()));
+        report.steps()
+    };
+    let bound = |places: u64| places * n * (n + 3) / 2;
+    let longest = all("(($|()){99}($|()){27}A)*", 255);
+    assert!(longest > bound(255) / 2 && longest <= bound(255));
+    let most = all("((()?){99}(()?){99}(()?){55}A)*", 256);
+    assert!(most > bound(256) / 100 * 99 && most <= bound(256));
+}
+
 /// The buffers that W1 is lent, with what they hold before and after a search.
 struct Lent {
     notes: Vec<u8>,
