@@ -65,3 +65,8 @@ pub use measure::{Function, Measure};
 pub use query::{Query, QueryBuilder, Skip};
 pub use report::{Ending, Match, Matches, Report, ReportRoom};
 pub use rows::Rows;
+
+/// The README's Rust, built and run as a test, so that it stays true.
+#[cfg(doctest)]
+#[doc = include_str!("../../README.md")]
+struct Readme;

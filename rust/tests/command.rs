@@ -317,6 +317,23 @@ fn refusals_have_number_and_words() {
     assert!(rows.1.starts_with("refused 10: "), "{}", rows.1);
 }
 
+/// What the README shows of the command is what it does.
+#[test]
+fn the_readme_is_true() {
+    let readme = include_str!("../../README.md");
+    let (status, message) = failure("query", "pattern: A{30,2}", "a\n1\n");
+    assert_eq!(status, 1);
+    let message = message.replace("/query.txt", "query.txt");
+    assert!(
+        readme.contains(&format!("```text\n{message}```")),
+        "{message}"
+    );
+    let query = std::fs::read_to_string(example("release.txt")).unwrap();
+    let plain = |line: &&str| !line.starts_with('#');
+    let query: Vec<&str> = query.lines().filter(plain).collect();
+    assert!(readme.contains(&format!("```text\n{}\n```", query.join("\n"))));
+}
+
 #[test]
 fn wrong_input_has_a_place_and_what_was_expected() {
     let wrong = |name: &str, query: &str, rows: &str, expected: &str| {
