@@ -465,6 +465,10 @@ fn a_program_that_refuses_or_says_something_else() {
     let place = "/refuses-14.txt:1:12: expected `$`, `(`, `)`, `*`, ";
     assert_eq!(status(&output), 1);
     assert!(text(&output.stderr).contains(place), "{output:?}");
+    let (program, _) = stand_in("refuses-5", "refused 5\\n");
+    let differ = "refused 5: the program refuses the pattern, the linked library does not\n";
+    let said = message(&program);
+    assert!(said.0 == 1 && said.1.starts_with(differ), "{said:?}");
     let large = "/large.sh: too large: expected a query of at most 4,096 bytes, 8,192 entries and 16,000 pairs\n";
     let (program, _) = stand_in("large", "too large\\n");
     assert_eq!(message(&program), (2, String::from(large)));

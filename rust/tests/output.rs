@@ -105,13 +105,13 @@ fn a_reader_that_has_enough_is_no_success() {
 
 #[test]
 fn a_stopped_search_stays_stopped() {
-    let program = file(
-        "stopped-head.sh",
-        "#!/bin/sh\ncat > /dev/null\nprintf 'stopped 0 steps 3\\n'\n",
-    );
+    // The shell writes the program: a file that this process has open for writing could be handed to
+    // a process that another test starts, and would be too busy to be run.
+    let program = format!("{}/stopped-head.sh", env!("CARGO_TARGET_TMPDIR"));
     let line = format!(
-        r#"chmod +x '{program}'
-        "$match" --program '{program}' "$query" "$rows" | head -1; echo "${{PIPESTATUS[0]}}""#
+        r##"printf '#!/bin/sh\ncat > /dev/null\necho stopped 0 steps 3\n' > '{program}'
+        chmod 755 '{program}'
+        "$match" --program '{program}' "$query" "$rows" | head -1; echo "${{PIPESTATUS[0]}}""##
     );
     let expected = "stopped for want of room: no match in 3 steps\n3\n";
     let output = shell("stopped-head", 4096, &line);

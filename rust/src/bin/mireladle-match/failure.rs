@@ -102,8 +102,23 @@ fn refusal(error: Error, line: Option<&(PathBuf, Box<Shown>)>) -> String {
         }
         None => {
             let text = visible(&format!("{}: {}", shown.key, shown.rest));
-            format!("{refused}: {error}\n{path}:{}: {text}", shown.number)
+            format!(
+                "{refused}: {}\n{path}:{}: {text}",
+                reason(error),
+                shown.number
+            )
         }
+    }
+}
+
+/// The reason of a refusal whose place is not known. Of a pattern's text the linked library knows it,
+/// so here a program of another version refused.
+fn reason(error: Error) -> String {
+    match error {
+        Error::NotAPattern { .. } | Error::PatternEnds { .. } => {
+            String::from("the program refuses the pattern, the linked library does not")
+        }
+        other => other.to_string(),
     }
 }
 
