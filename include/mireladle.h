@@ -145,13 +145,13 @@ typedef struct mireladle_room mireladle_room_t;
  *                     trail: the first P * (n + 1) numbers are 0.
  *                     Whatever lies behind that, in each of the four, is unchanged.
  *
- * The steps are bounded, whatever the rows: with skip past last row by 2 * P * (n + 1), with skip to
- * the next row by P * n * (n + 3) / 2, since a row that lies in many matches is gone through for each
- * of them. At n = 4,096 the longest searches that were found took 25 milliseconds past last row (254
- * letters of 8 comparisons each, all met, and one that never holds: no match) and 4.5 seconds to the
- * next row (a repeated group of 126 times `$` or nothing, and a letter that holds at every row: P is
- * 255, and each of 4,096 matches reaches to the last row), on one core of an AMD EPYC. A search cannot
- * be broken off; less room for labels makes it stop earlier, with answer 13.
+ * The steps are bounded, whatever the rows: with skip past last row by 2 * P * (n + 1), with skip
+ * to the next row by P * n * (n + 3) / 2, since a row that lies in many matches is gone through for
+ * each of them. At n = 4,096 the longest searches that were found took 25 milliseconds past last
+ * row (254 letters of 8 comparisons each, all met, and one that never holds: no match) and 4.5
+ * seconds to the next row (a repeated group of 126 times `$` or nothing, and a letter that holds at
+ * every row: P is 255, and each of 4,096 matches reaches to the last row), on one core of an AMD
+ * EPYC. A search cannot be broken off; less room for labels makes it stop earlier, with answer 13.
  */
 struct mireladle_result mireladle_search(const uint8_t *query, size_t query_len,
                                          const int32_t *rows, size_t rows_len,

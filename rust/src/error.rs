@@ -1,7 +1,7 @@
 //! Why a query or a search was refused: the library's answers 1 to 12 and 14 by name and in plain
-//! words, and the few faults that only this crate can see. Each answer of the library has exactly one
-//! error, and keeps its number. Of a pattern that is wrong the place is told, and what could stand
-//! there.
+//! words, and the few faults that only this crate can see. Each answer of the library has exactly
+//! one error, and keeps its number. Of a pattern that is wrong the place is told, and what could
+//! stand there.
 
 use std::fmt;
 
@@ -29,8 +29,8 @@ pub enum Error {
     WrongField,
     /// 4: more than 8 parentheses are open somewhere in the pattern.
     TooDeep,
-    /// 5: the pattern text is outside the pattern language: no pattern begins with it up to and with
-    /// the byte at the offset.
+    /// 5: the pattern text is outside the pattern language: no pattern begins with it up to and
+    /// with the byte at the offset.
     NotAPattern {
         /// The byte's offset in the text, from 0.
         offset: u64,
@@ -73,8 +73,8 @@ pub enum Error {
 }
 
 impl Error {
-    /// The error that stands for an answer other than 0 and 13, with the offset that came with it. It
-    /// does not know what was expected, since it does not know the pattern's text.
+    /// The error that stands for an answer other than 0 and 13, with the offset that came with it.
+    /// It does not know what was expected, since it does not know the pattern's text.
     ///
     /// ```
     /// use mireladle::Error;

@@ -1,7 +1,7 @@
-//! What can stand behind the front of a pattern's text: the bytes after which some pattern can still
-//! begin with it, and whether the front is a pattern itself. Nothing is known here of the pattern
-//! language: each byte is tried, and the library says whether it can stand there. Tested here over
-//! all short texts, and in tests/search.rs.
+//! What can stand behind the front of a pattern's text: the bytes after which some pattern can
+//! still begin with it, and whether the front is a pattern itself. Each byte is tried, and the
+//! library says whether it can stand there: all that is known here of the pattern language is that
+//! parentheses make groups. Tested here over all short fronts, and in tests/search.rs.
 
 use std::fmt;
 
@@ -9,11 +9,12 @@ use crate::error::DONE;
 use crate::lent;
 use crate::query::pattern_alone;
 
-/// The bytes that can stand behind the front of a pattern's text, and whether the text can end there.
+/// The bytes that can stand behind the front of a pattern's text, and whether the text can end
+/// there.
 ///
 /// It is what [`Error::NotAPattern`](crate::Error::NotAPattern) and
-/// [`Error::PatternEnds`](crate::Error::PatternEnds) tell of the place where a text is wrong or ends.
-/// Displayed, it is a part of a sentence: ``a digit 3 to 9 or `}` ``.
+/// [`Error::PatternEnds`](crate::Error::PatternEnds) tell of the place where a text is wrong or
+/// ends. Displayed, it is a part of a sentence: ``a digit 3 to 9 or `}` ``.
 ///
 /// ```
 /// use mireladle::Expected;
@@ -53,8 +54,8 @@ fn judge(text: &[u8]) -> Judged {
 }
 
 impl Expected {
-    /// What can stand behind the front of a pattern's text. The limits on the length of a text and on
-    /// its open parentheses play no part in that: `(` can stand behind eight of them.
+    /// What can stand behind the front of a pattern's text. The limits on the length of a text and
+    /// on its open parentheses play no part in that: `(` can stand behind eight of them.
     ///
     /// There is none where no pattern begins with the front, and where the library cannot be asked:
     /// the front has more than 256 bytes or more than 8 parentheses open somewhere, or it has 256
@@ -164,7 +165,7 @@ fn in_words(byte: u8) -> String {
 }
 
 impl fmt::Display for Expected {
-    /// Letters and digits first, a space and the end last: `` a letter A to Z, `(`, a space or the end``.
+    /// Letters and digits first, then signs, a space, and the end.
     fn fmt(&self, f: &mut fmt::Formatter<'_>) -> fmt::Result {
         let mut words = self.runs(b'A'..=b'Z', "a letter");
         words.extend(self.runs(b'0'..=b'9', "a digit"));

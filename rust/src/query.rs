@@ -242,8 +242,8 @@ impl Query {
     }
 
     /// P: the places of the unrolled pattern, at most 256. A search of n rows takes at most 2P(n+1)
-    /// steps where it skips past the last row, and at most Pn(n+3)/2 where it skips to the next row:
-    /// that can be seconds, see the README.
+    /// steps where it skips past the last row, and at most Pn(n+3)/2 where it skips to the next
+    /// row: that can be seconds, see the README.
     pub fn places(&self) -> u64 {
         self.places
     }

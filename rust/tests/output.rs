@@ -105,8 +105,8 @@ fn a_reader_that_has_enough_is_no_success() {
 
 #[test]
 fn a_stopped_search_stays_stopped() {
-    // The shell writes the program: a file that this process has open for writing could be handed to
-    // a process that another test starts, and would be too busy to be run.
+    // The shell writes the program: a file that this process has open for writing could be handed
+    // to a process that another test starts, and would be too busy to be run.
     let program = format!("{}/stopped-head.sh", env!("CARGO_TARGET_TMPDIR"));
     let line = format!(
         r##"printf '#!/bin/sh\ncat > /dev/null\necho stopped 0 steps 3\n' > '{program}'

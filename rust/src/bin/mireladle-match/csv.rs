@@ -1,7 +1,7 @@
-//! Rows from comma-separated text. The first line names the columns, and has to: a first row that is
-//! read as names, or names as a row, would shift every label. Every other line is a row of whole
-//! numbers of 32 bits. Fields may be quoted, but not go over a line end; empty lines may stand behind
-//! the last row only.
+//! Rows from comma-separated text. The first line names the columns, and has to: a first row that
+//! is read as names, or names as a row, would shift every label. Every other line is a row of whole
+//! numbers of 32 bits. Fields may be quoted, but not go over a line end; empty lines may stand
+//! behind the last row only.
 
 use crate::columns::index_named;
 use crate::fault::{column_of, shown, Fault};

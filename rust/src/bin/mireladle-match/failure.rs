@@ -111,8 +111,8 @@ fn refusal(error: Error, line: Option<&(PathBuf, Box<Shown>)>) -> String {
     }
 }
 
-/// The reason of a refusal whose place is not known. Of a pattern's text the linked library knows it,
-/// so here a program of another version refused.
+/// The reason of a refusal whose place is not known. Of a pattern's text the linked library knows
+/// it, so here a program of another version refused.
 fn reason(error: Error) -> String {
     match error {
         Error::NotAPattern { .. } | Error::PatternEnds { .. } => {

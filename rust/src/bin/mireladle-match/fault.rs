@@ -1,6 +1,6 @@
-//! What is wrong in a text that was read: the line, the column, what was expected there and what was
-//! found instead. Lines and columns count from 1, columns in characters. Nothing that is shown of a
-//! text can upset a screen: see [`visible`].
+//! What is wrong in a text that was read: the line, the column, what was expected there and what
+//! was found instead. Lines and columns count from 1, columns in characters. Nothing that is shown
+//! of a text can upset a screen: see [`visible`].
 
 use std::fmt;
 

@@ -1,9 +1,9 @@
 //! mireladle-match: searches the rows of a CSV file for a query that is written as readable text,
 //! and prints the matches and the labelled rows. It promises a message with a place for every text
 //! that it cannot read, the number and the reason of every refusal, and an exit status: 0 done, 1
-//! refused, 2 wrong input or an output that cannot be written, 3 stopped for want of room, 141 where
-//! the reader of the output left early, so that a script cannot take a part of a report for the
-//! whole. It never panics. Tested in tests/command.rs and tests/output.rs.
+//! refused, 2 wrong input or an output that cannot be written, 3 stopped for want of room, 141
+//! where the reader of the output left early, so that a script cannot take a part of a report for
+//! the whole. It never panics. Tested in tests/command.rs and tests/output.rs.
 
 #![deny(unsafe_code)]
 #![cfg_attr(test, allow(clippy::restriction))]

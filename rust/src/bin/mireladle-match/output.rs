@@ -9,8 +9,8 @@
 //!   Python's `subprocess.DEVNULL` is opened for reading and writing too, and is no closed output.
 //!   So the descriptor is looked at earlier, by a function that the system's start calls first.
 //!
-//! Its weakness: where /proc is not mounted, and on other systems than Linux, a closed output is not
-//! noticed. Tested in tests/output.rs.
+//! Its weakness: where /proc is not mounted, and on other systems than Linux, a closed output is
+//! not noticed. Tested in tests/output.rs.
 
 use std::fs::{symlink_metadata, File};
 use std::io::{self, ErrorKind, Write};

@@ -31,7 +31,8 @@ pub fn wrong(line: &Shown) -> Option<(Error, Fault)> {
     Some((error, Fault::new(line.number, column, expected, found)))
 }
 
-/// A character so that it can be seen which one it is: other scripts have letters that look like ours.
+/// A character so that it can be seen which one it is: other scripts have letters that look like
+/// ours.
 fn in_words(c: char) -> String {
     let code = u32::from(c);
     match c {

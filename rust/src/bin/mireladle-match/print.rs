@@ -1,7 +1,7 @@
 //! What the command prints of a report: the matches as a table, then all rows with their labels
 //! beside them. A row that lies in several matches has a label for each, so that every label stands
-//! with the number of its match. Names come from the input and are shown without anything that would
-//! upset a screen. Tested in tests/command.rs.
+//! with the number of its match. Names come from the input and are shown without anything that
+//! would upset a screen. Tested in tests/command.rs.
 
 use std::io::{self, Write};
 

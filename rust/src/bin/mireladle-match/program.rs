@@ -1,8 +1,9 @@
-//! Searches by running the program `mireladle` in the place of the library: the query and the rows go
-//! to its standard input, and the lines that it prints are read back into a report. The program's exit
-//! status is always 0, so what it printed has to tell: a report counts only where it is whole, each
-//! line of it with its line end, and where nothing was written to standard error. Anything else is
-//! told. Weakness: a program that never ends is waited for. Tested here and in tests/command.rs.
+//! Searches by running the program `mireladle` in the place of the library: the query and the rows
+//! go to its standard input, and the lines that it prints are read back into a report. The
+//! program's exit status is always 0, so what it printed has to tell: a report counts only where it
+//! is whole, each line of it with its line end, and where nothing was written to standard error.
+//! Anything else is told. Weakness: a program that never ends is waited for. Tested here and in
+//! tests/command.rs.
 
 use std::io::{self, ErrorKind, Write};
 use std::path::Path;
@@ -68,8 +69,8 @@ fn run(path: &Path, input: Vec<u8>) -> io::Result<Output> {
         .stderr(Stdio::piped())
         .spawn()?;
     let into = child.stdin.take();
-    // Written beside the reading, so that neither has to wait for the other. A program that has seen
-    // enough may stop reading; what it prints then tells.
+    // Written beside the reading, so that neither has to wait for the other. A program that has
+    // seen enough may stop reading; what it prints then tells.
     let writer = std::thread::spawn(move || match into.map(|mut into| into.write_all(&input)) {
         Some(Err(error)) if error.kind() != ErrorKind::BrokenPipe => Err(error),
         _ => Ok(()),
@@ -82,7 +83,8 @@ fn run(path: &Path, input: Vec<u8>) -> io::Result<Output> {
     Ok(output)
 }
 
-/// What the program wrote to standard error, each line on a line of its own, and not too much of it.
+/// What the program wrote to standard error, each line on a line of its own, and not too much of
+/// it.
 fn said(text: &str) -> String {
     const MOST_LINES: usize = 10;
     let line = |line: &str| {
