@@ -102,12 +102,25 @@ pub fn read(text: &[u8]) -> Option<Pattern> {
     }
 }
 
-/// Whether some text of the language begins with this one: whatever it waits
-/// for, one of these ends will do, and behind it the parentheses that are open.
+/// Whether some text of the language begins with this one. If one of these four ends, and behind
+/// it a `)` for each parenthesis that is open, makes a text of the language, that text begins so.
+/// If a text of the language begins so, one of them will do, by where this one stops:
+/// - Between two tokens, at the start or at the end: `^`. A factor may begin at each of these
+///   places: at the start, behind `(` and `|`, and behind a factor. Unlike a letter, `^` may touch
+///   what is before it. Behind a factor the branch and the pattern may end, and then each `)`
+///   makes a factor of what it closes.
+/// - Inside a quantifier in braces, the one token of more bytes, but for the mark `?`, without
+///   which it is whole as well. Each of these ends makes it whole, so that each `)` may follow:
+///   `,}` behind `{0`; `}` behind any other `{n`, behind `{n,` and behind an upper bound that is
+///   large enough; `9}` behind `{`, `{,` and an upper bound of one digit that is too small yet,
+///   as that is the largest it can become. One of two digits, or a 0, becomes no other.
+///
+/// Parentheses are counted by bytes: where one stands inside braces, or closes what is not open,
+/// no text of the language begins so, and none of the ends helps.
 pub fn begins(text: &[u8]) -> bool {
     let count = |byte: u8| text.iter().filter(|&&it| it == byte).count();
     let open = count(b'(').saturating_sub(count(b')'));
-    let ends: [&[u8]; 6] = [b"", b"^", b"}", b"1}", b"9}", b",}"];
+    let ends: [&[u8]; 4] = [b"^", b"}", b"9}", b",}"];
     ends.iter()
         .any(|end| read(&[text, end, &b")".repeat(open)].concat()).is_some())
 }

@@ -1,6 +1,9 @@
 //! The reader of texts against the grammar of document 01 written down once
 //! more, as a question about every way to cut a text in two; on all small texts
 //! over several alphabets and on random ones. And trees written and read again.
+//! Which texts could go on (answer 14, and the offset of 5) is compared with a
+//! search through all continuations up to a length, for all small texts; what
+//! needs a longer one is left to random texts and to the reason at `begins`.
 
 mod common;
 
@@ -293,16 +296,120 @@ fn offsets() {
         let offset = pattern::offset(&text) as usize;
         let ends = |bytes: &[u8]| {
             let open = bytes.iter().filter(|&&it| it == b'(').count();
-            ["", "A", "$", " A", "}", "0}", "1}", "5}", "9}", "99}", ",}", ",99}"]
-                .iter()
-                .any(|end| {
-                    (0..=open).any(|shut| {
-                        in_language(&[bytes, end.as_bytes(), &b")".repeat(shut)].concat())
-                    })
-                })
+            [
+                "", "A", "$", " A", "}", "0}", "1}", "5}", "9}", "99}", ",}", ",99}",
+            ]
+            .iter()
+            .any(|end| {
+                (0..=open)
+                    .any(|shut| in_language(&[bytes, end.as_bytes(), &b")".repeat(shut)].concat()))
+            })
         };
         assert!((0..=offset).all(|length| ends(&text[..length])));
         assert_eq!(offset == text.len(), pattern::judge(&text) == Err(14));
         assert!(offset == text.len() || !ends(&text[..=offset]));
+    }
+}
+
+/// All texts over an alphabet behind a front, up to a number of bytes.
+struct Continued {
+    front: &'static [u8],
+    alphabet: &'static [u8],
+    /// Texts of up to so many bytes are checked,
+    checked: usize,
+    /// by all their continuations up to so many bytes in all.
+    whole: usize,
+}
+
+impl Continued {
+    /// Whether the text is the beginning of one of the language, itself or any that is not too
+    /// long. Where it is short enough, that is what `begins`, `judge` and `offset` have to say.
+    fn goes_on(&self, text: &mut Vec<u8>) -> bool {
+        let inside = pattern::read(text).is_some();
+        let mut found = inside;
+        let mut going = Vec::new();
+        if text.len() < self.front.len() + self.whole {
+            for &byte in self.alphabet {
+                text.push(byte);
+                let goes_on = self.goes_on(text);
+                text.pop();
+                found |= goes_on;
+                going.push(goes_on);
+            }
+        }
+        if text.len() <= self.front.len() + self.checked {
+            let shown = text.escape_ascii();
+            assert_eq!(pattern::begins(text), found, "{shown}");
+            let answer = pattern::judge(text).err();
+            assert_eq!(answer == Some(14), found && !inside, "{shown}");
+            assert_eq!(answer == Some(5), !found, "{shown}");
+            if text.len() < self.front.len() + self.checked {
+                self.check_offsets(text, found, &going);
+            }
+        }
+        found
+    }
+
+    /// With one byte more: the offset is the whole length if that goes on; this text's length if
+    /// the byte is the first that is wrong; else where this text was wrong already.
+    fn check_offsets(&self, text: &mut Vec<u8>, found: bool, going: &[bool]) {
+        let before = pattern::offset(text);
+        let length = text.len() as u64;
+        for (&byte, &goes_on) in self.alphabet.iter().zip(going) {
+            let offset = match (found, goes_on) {
+                (_, true) => length + 1,
+                (true, false) => length,
+                (false, false) => before,
+            };
+            text.push(byte);
+            assert_eq!(pattern::offset(text), offset, "{}", text.escape_ascii());
+            text.pop();
+        }
+    }
+}
+
+/// Texts of 4 bytes need at most 4 more: `((((` and `((A{` do. Behind `A{` 2 are needed at most.
+/// Were the continuations too short, a text that begins one of the language would not be found.
+#[test]
+fn every_continuation() {
+    for (front, alphabet, checked, whole) in [
+        (&b""[..], &b"AB ()|?"[..], 4, 8),
+        (b"", b"A({1,})", 4, 8),
+        (b"", b"A ^(*)|{9}", 3, 6),
+        (b"", b"AZ $+?{},0a\t\0\xFF()|", 2, 5),
+        (b"A{", b"0123456789,}?", 4, 6),
+        (b"(A{9", b"089,}) ?", 4, 7),
+        (b"A{30,", b"0123456789,}?A ", 3, 4),
+    ] {
+        let every = Continued {
+            front,
+            alphabet,
+            checked,
+            whole,
+        };
+        assert!(every.goes_on(&mut front.to_vec()));
+    }
+}
+
+/// What no text of the language begins with, none begins with one byte more either. If this holds
+/// of all texts, `begins` is right for all: it holds of every text of the language, and so of all
+/// their beginnings. Here it is asked of random texts, cut behind the byte that is wrong.
+#[test]
+fn no_byte_mends_a_text() {
+    let mut random = Random::new(9);
+    let mut asked = 0;
+    while asked < 1_000 {
+        let text = texts::any(&mut random);
+        assert!(pattern::read(&text).is_none() || pattern::begins(&text));
+        let offset = pattern::offset(&text) as usize;
+        let Some(wrong) = text.get(..=offset) else {
+            continue;
+        };
+        let mut longer = [wrong, b"?"].concat();
+        for byte in 0..=255 {
+            longer[offset + 1] = byte;
+            assert!(!pattern::begins(&longer), "{}", longer.escape_ascii());
+        }
+        asked += 1;
     }
 }
