@@ -1,9 +1,10 @@
 //! Inputs for comparing programs: made by a deterministic generator from a seed,
 //! or listed in full. Accepted queries of all shapes, damaged ones for each
-//! answer of the table in document 01 and for pairs of answers, ones at the
-//! limits it states, and rooms of every critical length.
+//! answer of the table in document 01 and for pairs of answers, texts that go
+//! wrong at each byte, inputs at the limits, and rooms of every critical length.
 //! The right results are not stored here: `search` and `program` give them.
 
+pub mod beginnings;
 pub mod damage;
 pub mod draft;
 pub mod limits;

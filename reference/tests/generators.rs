@@ -7,7 +7,7 @@ use common::*;
 use reference::generate::damage::{damage, damage_twice};
 use reference::generate::draft::{self, Draft, Numbers, MIDDLE, SMALL};
 use reference::generate::scramble::{every_byte, scrambled};
-use reference::generate::{limits, mix, stdin, texts, Random};
+use reference::generate::{beginnings, limits, mix, stdin, texts, Random};
 use reference::pattern;
 use reference::program::program;
 use reference::search;
@@ -143,4 +143,64 @@ fn the_largest_searches_are_accepted() {
     let most = limits::with_most_records();
     assert_eq!(search::room(&most.query(), &most.rows).0, 0);
     assert_eq!(most.needs()[3], 32);
+}
+
+#[test]
+fn every_beginning_with_a_byte_changed() {
+    let mut random = Random::new(10);
+    let mut answers = [0; 15];
+    for _ in 0..100 {
+        let good = beginnings::good(&mut random);
+        assert!(pattern::read(&good).is_some());
+        let made: Vec<Vec<u8>> = beginnings::with_a_byte_changed(good.clone()).collect();
+        // Each beginning, and as many changes as it has bytes times those of the list.
+        let (count, bytes) = (good.len() + 1, good.len() * (good.len() + 1) / 2);
+        assert_eq!(made.len(), count + bytes * beginnings::CHANGED.len());
+        assert!((0..count).all(|length| made.contains(&good[..length].to_vec())));
+        for text in made {
+            answers[usize::from(answer_of_text(&text))] += 1;
+        }
+    }
+    for answer in [0, 5, 6, 14] {
+        assert!(answers[answer] > 500, "{answers:?}");
+    }
+}
+
+/// The answers with their offsets that braces bring, by how many bytes before the end.
+#[test]
+fn braces_of_all_sorts() {
+    let made: BTreeSet<Vec<u8>> = beginnings::braces().collect();
+    for text in [
+        "A{30,2", "A{3,2", "A{0}", "A{99,98", "A{,0", "A{07", "A{100",
+    ] {
+        assert!(made.contains(text.as_bytes()), "{text}");
+    }
+    let mut before_the_end = [0; 6];
+    let mut answers = [0; 15];
+    for text in made {
+        let answer = answer_of_text(&text);
+        answers[usize::from(answer)] += 1;
+        if answer == 5 {
+            before_the_end[text.len() - 1 - pattern::offset(&text) as usize] += 1;
+        }
+    }
+    assert!(answers[0] > 4_000 && answers[14] > 4_000, "{answers:?}");
+    assert!(
+        before_the_end.iter().all(|&count| count > 30),
+        "{before_the_end:?}"
+    );
+}
+
+/// Both sides of each limit: 8 and 9 deep, 256 and 257 bytes.
+#[test]
+fn texts_deep_and_long() {
+    let mut answers = [[0; 15]; 2];
+    for text in beginnings::deep_and_long() {
+        let answer = answer_of_text(&text);
+        answers[usize::from(text.len() >= 256)][usize::from(answer)] += 1;
+        assert_eq!(answer == 3, text.len() == 257);
+    }
+    for answer in [0, 4, 5, 6, 7, 14] {
+        assert!(answers.iter().all(|by| by[answer] > 3), "{answers:?}");
+    }
 }

@@ -9,7 +9,8 @@ use reference::generate::draft::{
     self, with_column, with_number, Draft, Input, Numbers, Room, LARGE, MIDDLE, SMALL,
 };
 use reference::generate::scramble::{every_byte, scrambled};
-use reference::generate::{limits, mix, texts, Random};
+use reference::generate::{beginnings, limits, mix, texts, Random};
+use std::collections::HashSet;
 
 pub type Cases = Box<dyn Iterator<Item = Case>>;
 
@@ -45,7 +46,7 @@ const fn random(
     }
 }
 
-pub const STREAMS: [Stream; 19] = [
+pub const STREAMS: [Stream; 22] = [
     listed(
         "texts",
         "room: every text of up to 5 bytes over two alphabets",
@@ -138,6 +139,22 @@ pub const STREAMS: [Stream; 19] = [
         80_000,
         judged,
     ),
+    random(
+        "beginnings",
+        "room, some searches: every beginning of good texts, with a byte changed",
+        600_000,
+        every_beginning,
+    ),
+    listed(
+        "braces",
+        "room, some searches: every small text behind `A{`, and every two bounds",
+        every_brace,
+    ),
+    listed(
+        "deep-and-long",
+        "room and searches: texts wrong or unfinished, 9 deep, or of 256 and 257 bytes",
+        deep_and_long,
+    ),
 ];
 
 /// Cases of one call, each with a noise of its own.
@@ -155,15 +172,30 @@ fn searches(seed: u64, inputs: impl Iterator<Item = Input> + 'static) -> Cases {
 }
 
 fn rooms(seed: u64, drafts: impl Iterator<Item = Draft> + 'static) -> Cases {
-    let inputs = drafts.map(|draft| Input {
-        query: draft.query(),
-        rows: draft.rows,
-        notes: 0,
-        trail: 0,
-        numbers: 0,
-        labels: 0,
-    });
-    calls(Call::Room, seed, inputs)
+    calls(Call::Room, seed, drafts.map(|draft| to_judge(&draft)))
+}
+
+/// Judging room takes query and rows alone.
+fn to_judge(draft: &Draft) -> Input {
+    draft.with_lengths([0; 4])
+}
+
+/// One in so many of the texts below is searched, not judged alone. It has no factor with the
+/// sizes of the alphabets that these texts are made of, so that each byte gets its turn.
+const SEARCHED: usize = 11;
+
+/// Judges room for texts on two rows, and searches some of them.
+fn rooms_and_searches(seed: u64, texts: impl Iterator<Item = Vec<u8>> + 'static) -> Cases {
+    let mut random = Random::new(seed);
+    Box::new(texts.enumerate().map(move |(number, text)| {
+        let draft = Draft::new(1, &text, vec![1, 2]);
+        let (call, input) = match number % SEARCHED {
+            0 => (Call::Search, draft.finish()),
+            _ => (Call::Room, to_judge(&draft)),
+        };
+        let noise = random.draw();
+        Case { call, input, noise }
+    }))
 }
 
 /// Searches of inputs that are made one by one from a number and a generator.
@@ -394,4 +426,25 @@ fn judged(seed: u64) -> Cases {
         draft
     });
     rooms(seed, drafts)
+}
+
+/// No good text is taken twice.
+fn every_beginning(seed: u64) -> Cases {
+    let mut random = Random::new(seed);
+    let mut taken = HashSet::new();
+    let good = (0..)
+        .map(move |_| beginnings::good(&mut random))
+        .filter(move |text| taken.insert(text.clone()));
+    rooms_and_searches(seed, good.flat_map(beginnings::with_a_byte_changed))
+}
+
+fn every_brace(seed: u64) -> Cases {
+    rooms_and_searches(seed, beginnings::braces())
+}
+
+fn deep_and_long(seed: u64) -> Cases {
+    let draft = |text: Vec<u8>| Draft::new(1, &text, vec![1, 2]);
+    let whole = beginnings::deep_and_long().map(move |text| draft(text).finish());
+    let judged = rooms(seed, beginnings::deep_and_long().map(draft));
+    Box::new(judged.chain(searches(seed, whole)))
 }
