@@ -7,7 +7,7 @@ use crate::lent::{Guarded, Lent};
 use reference::generate::Random;
 use reference::pattern;
 use reference::query::{
-    self, COMPARISON_BYTES, DEFINE, FIRST, MEASURE, MIN, SHAPE, SKIP, SUM, TEXT,
+    self, COMPARISON_BYTES, DEFINE, FIRST, MEASURE, MIN, MOST_TEXT, SHAPE, SKIP, SUM, TEXT,
 };
 use reference::readings;
 use reference::search::{self, Accepted, DONE, STOPPED};
@@ -25,6 +25,8 @@ enum Wrong {
     Ends(fn(&mut Search)),
     /// Judges room in another way.
     Judges(fn(&mut Five, &Lent)),
+    /// Tells of a pattern's text in another way, by either call, where 1 to 3 do not apply.
+    Tells(fn(&mut Five, &[u8])),
 }
 
 /// A search that was right so far.
@@ -54,6 +56,7 @@ impl Engine for Faulty<'_> {
                 accepted: search::accept(before.query.items(), before.rows.items()).ok(),
             });
         }
+        self.told(&mut returned, &before);
         returned
     }
 
@@ -62,6 +65,7 @@ impl Engine for Faulty<'_> {
         if let Wrong::Judges(wrong) = self.fault.wrong {
             wrong(&mut returned, lent);
         }
+        self.told(&mut returned, lent);
         returned
     }
 }
@@ -82,6 +86,17 @@ impl Faulty<'_> {
         lent.query = query;
         lent.rows = rows;
         returned
+    }
+}
+
+impl Faulty<'_> {
+    fn told(&self, returned: &mut Five, lent: &Lent) {
+        let Wrong::Tells(wrong) = self.fault.wrong else {
+            return;
+        };
+        if let Ok(query) = query::read(lent.query.items()) {
+            wrong(returned, &query.text);
+        }
     }
 }
 
@@ -154,7 +169,15 @@ const fn judges(name: &'static str, about: &'static str, wrong: fn(&mut Five, &L
     }
 }
 
-pub const FAULTS: [Fault; 52] = [
+const fn tells(name: &'static str, about: &'static str, wrong: fn(&mut Five, &[u8])) -> Fault {
+    Fault {
+        name,
+        about,
+        wrong: Wrong::Tells(wrong),
+    }
+}
+
+pub const FAULTS: [Fault; 68] = [
     ends("label", "the last label is another letter", |search| {
         if let Some(last) = (search.returned[2] as usize).checked_sub(1) {
             search.lent.labels.items_mut()[last] ^= 1;
@@ -600,7 +623,148 @@ pub const FAULTS: [Fault; 52] = [
             wrap_places(returned, lent, 1 << 32);
         },
     ),
+    tells(
+        "offset-far",
+        "the offset of 5 and 14 is one too far",
+        |returned, _| returned[4] += u64::from(tells_where(returned)),
+    ),
+    tells(
+        "offset-near",
+        "the offset of 5 and 14 is one too near",
+        |returned, _| returned[4] = returned[4].saturating_sub(1),
+    ),
+    tells(
+        "offset-token",
+        "a 5 inside braces tells where they begin",
+        |returned, text| {
+            if let (WRONG, Some(brace)) = (returned[0], open_brace(returned, text)) {
+                returned[4] = brace as u64;
+            }
+        },
+    ),
+    tells(
+        "offset-spaces",
+        "the offset of 14 leaves out the spaces at the end",
+        |returned, text| {
+            if returned[0] == UNFINISHED {
+                let last = text.iter().rposition(|&byte| byte != b' ');
+                returned[4] = last.map_or(0, |last| last as u64 + 1);
+            }
+        },
+    ),
+    tells("wrong-as-14", "5 is told as 14", |returned, text| {
+        if returned[0] == WRONG {
+            *returned = unfinished(text);
+        }
+    }),
+    tells(
+        "last-byte-as-14",
+        "5 at the text's last byte is told as 14",
+        |returned, text| {
+            if returned[0] == WRONG && returned[4] + 1 == text.len() as u64 {
+                *returned = unfinished(text);
+            }
+        },
+    ),
+    tells("unfinished-as-5", "14 is told as 5", |returned, _| {
+        if returned[0] == UNFINISHED {
+            returned[0] = WRONG;
+        }
+    }),
+    tells(
+        "open-bound-as-5",
+        "an upper bound that is too small yet is told as 5",
+        |returned, text| {
+            if let (UNFINISHED, Some(brace)) = (returned[0], open_brace(returned, text)) {
+                let whole = [&text[brace..], b"}"].concat();
+                let last = text[text.len() - 1];
+                let small = last.is_ascii_digit() && text[brace..].contains(&b',');
+                if small && pattern::read(&[b"A", &whole[..]].concat()).is_none() {
+                    *returned = [WRONG, 0, 0, 0, text.len() as u64 - 1];
+                }
+            }
+        },
+    ),
+    tells(
+        "late-bound",
+        "an upper bound below the lower is told behind it",
+        |returned, text| {
+            let at = returned[4] as usize;
+            if let (WRONG, Some(brace)) = (returned[0], open_brace(returned, text)) {
+                let upper = text[brace..at].contains(&b',') && text[at].is_ascii_digit();
+                if upper && at + 1 == text.len() {
+                    *returned = unfinished(text);
+                } else if upper {
+                    returned[4] += 1;
+                }
+            }
+        },
+    ),
+    tells(
+        "full-as-5",
+        "14 is told as 5 where 256 bytes have no room for the rest",
+        |returned, text| {
+            if returned[0] == UNFINISHED && text.len() == MOST_TEXT {
+                returned[0] = WRONG;
+            }
+        },
+    ),
+    tells("wrong-first", "5 comes before 4", |returned, text| {
+        if returned[0] == DEEP && !pattern::begins(text) {
+            *returned = [WRONG, 0, 0, 0, pattern::offset(text)];
+        }
+    }),
+    tells("unfinished-first", "14 comes before 4", |returned, text| {
+        if returned[0] == DEEP && pattern::begins(text) && pattern::read(text).is_none() {
+            *returned = unfinished(text);
+        }
+    }),
+    tells(
+        "offset-deep",
+        "4 tells where the ninth parenthesis stands",
+        |returned, text| {
+            if returned[0] == DEEP {
+                let deep = |&at: &usize| pattern::parentheses_pass_eight(&text[..=at]);
+                returned[4] = (0..text.len()).find(deep).unwrap_or(0) as u64;
+            }
+        },
+    ),
+    tells(
+        "offset-other",
+        "every other answer has the text's length as offset",
+        |returned, text| {
+            if !tells_where(returned) {
+                returned[4] = text.len() as u64;
+            }
+        },
+    ),
+    ends("search-offset", "a search tells no offset", |search| {
+        search.returned[4] = 0
+    }),
+    judges("room-offset", "room tells no offset", |returned, _| {
+        returned[4] = 0;
+    }),
 ];
+
+const DEEP: u64 = 4;
+const WRONG: u64 = 5;
+const UNFINISHED: u64 = 14;
+
+fn tells_where(returned: &Five) -> bool {
+    matches!(returned[0], WRONG | UNFINISHED)
+}
+
+/// As 14 is returned for a text.
+fn unfinished(text: &[u8]) -> Five {
+    [UNFINISHED, 0, 0, 0, text.len() as u64]
+}
+
+/// Where the braces begin that are open at the offset.
+fn open_brace(returned: &Five, text: &[u8]) -> Option<usize> {
+    let before = &text[..returned[4] as usize];
+    let brace = before.iter().rposition(|&byte| byte == b'{')?;
+    (!before[brace..].contains(&b'}')).then_some(brace)
+}
 
 fn change_bodies(query: &mut Vec<u8>, kind: u16, change: impl Fn(&mut Vec<u8>)) {
     let Some(records) = query::records(query) else {
