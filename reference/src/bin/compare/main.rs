@@ -9,6 +9,7 @@
 //!   compare --fault NAME..     the faults of these names, or all, with their shrunk cases
 //!   compare --program PATH [SEED COUNT]
 //!                              the program there, on so many standard inputs
+//!   compare --texts N          every text of up to N bytes over 15 signs, N at most 9
 //!   compare --list             the names of streams and faults
 //! In front of these, --show prints every case before it is run.
 //!
@@ -19,6 +20,7 @@
 mod case;
 #[cfg_attr(any(test, not(mireladle)), allow(dead_code))]
 mod engine;
+mod every;
 mod faults;
 #[cfg_attr(any(test, not(mireladle)), allow(dead_code))]
 mod lent;
@@ -78,7 +80,7 @@ fn main() -> ExitCode {
         },
     };
     if !run.words(&words) {
-        eprintln!("compare [--show] [SEED COUNT NAME.. | --only NAME.. | --fault NAME.. | --program PATH [SEED COUNT] | --list]");
+        eprintln!("compare [--show] [SEED COUNT NAME.. | --only NAME.. | --fault NAME.. | --program PATH [SEED COUNT] | --texts N | --list]");
         return ExitCode::from(2);
     }
     let Counts { passed, failed } = run.counts;
@@ -149,6 +151,13 @@ impl Run<'_> {
                 }
                 _ => false,
             },
+            ["--texts", longest] => match longest.parse() {
+                Ok(longest @ 0..=every::LONGEST) => {
+                    self.texts(longest, SEED);
+                    true
+                }
+                _ => false,
+            },
             [seed, count, names @ ..] => match (seed.parse(), count.parse()) {
                 (Ok(seed), Ok(count)) => self.streams(names, |stream: &Stream| {
                     stream.count.map(|_| (seed, Some(count)))
@@ -181,27 +190,37 @@ impl Run<'_> {
         let start = Instant::now();
         let (mut passed, mut failed) = (0, 0);
         for (number, case) in cases.take(count).enumerate() {
-            if let Ok(mut at) = AT.lock() {
-                *at = (name, number);
-            }
-            if self.show {
-                println!("{name}, number {number}\n{}", readable::describe(&case));
-            }
+            self.begin(name, number, || case.clone());
             if case.agrees(self.product) {
                 passed += 1;
                 continue;
             }
             failed += 1;
-            if failed <= PRINTED {
-                let small = shrink::shrink(self.product, &case);
-                let text = readable::difference(self.product, &small);
-                println!("DIFFERENCE in stream {name}, number {number}, shrunk to\n{text}");
-            }
+            self.differs(name, number, failed, &case);
         }
         let seconds = start.elapsed().as_secs_f64();
         println!("{name}: {passed} alike, {failed} different, {seconds:.1} s");
         self.counts.passed += passed;
-        self.counts.failed += failed;
+    }
+
+    /// Says which case is run next.
+    fn begin(&self, name: &'static str, number: usize, case: impl FnOnce() -> Case) {
+        if let Ok(mut at) = AT.lock() {
+            *at = (name, number);
+        }
+        if self.show {
+            println!("{name}, number {number}\n{}", readable::describe(&case()));
+        }
+    }
+
+    /// Counts a difference, so many of its stream by now, and prints the first of them.
+    fn differs(&mut self, name: &str, number: usize, so_many: usize, case: &Case) {
+        self.counts.failed += 1;
+        if so_many <= PRINTED {
+            let small = shrink::shrink(self.product, case);
+            let text = readable::difference(self.product, &small);
+            println!("DIFFERENCE in stream {name}, number {number}, shrunk to\n{text}");
+        }
     }
 
     fn program(&mut self, path: &Path, seed: u64, count: usize) {

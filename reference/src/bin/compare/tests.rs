@@ -4,6 +4,8 @@
 use super::*;
 use crate::case::Call;
 use crate::engine::Reference;
+use reference::generate::{texts, Random};
+use reference::pattern;
 
 #[test]
 fn the_reference_agrees_with_itself() {
@@ -39,8 +41,10 @@ fn a_large_case_becomes_small() {
         engine: &Reference,
         fault: fault.expect("a fault of that name"),
     };
+    let middle = STREAMS.iter().find(|stream| stream.name == "middle");
+    let middle = middle.expect("a stream of that name");
     let large = (0..)
-        .flat_map(|seed| (STREAMS[10].cases)(seed).take(20))
+        .flat_map(|seed| (middle.cases)(seed).take(20))
         .find(|case| case.input.rows.len() > 100 && !case.agrees(&faulty))
         .expect("a large case");
     let small = shrink::shrink(&faulty, &large);
@@ -65,4 +69,47 @@ fn streams_are_named_once() {
     let count = names.len();
     names.dedup();
     assert_eq!(names.len(), count);
+}
+
+/// The texts put in place are all there are, and the reference judges each of them.
+#[test]
+fn every_text_in_place() {
+    let mut run = Run {
+        product: &Reference,
+        show: false,
+        counts: Counts {
+            passed: 0,
+            failed: 0,
+        },
+    };
+    let mut random = Random::new(1);
+    for length in 0..=4 {
+        let mut answers = [0; 15];
+        let all = texts::every_text(every::ALPHABET, length);
+        for text in all.filter(|text| text.len() == length) {
+            answers[usize::from(pattern::judge(&text).err().unwrap_or(0))] += 1;
+        }
+        assert_eq!(run.texts_of(length, &mut random), answers);
+    }
+    assert_eq!((run.counts.passed, run.counts.failed), (54_241, 0));
+}
+
+#[test]
+fn a_fault_is_found_in_place() {
+    let fault = FAULTS.iter().find(|fault| fault.name == "offset-far");
+    let faulty = Faulty {
+        engine: &Reference,
+        fault: fault.expect("a fault of that name"),
+    };
+    let mut run = Run {
+        product: &faulty,
+        show: false,
+        counts: Counts {
+            passed: 0,
+            failed: 0,
+        },
+    };
+    run.texts(1, 1);
+    // Of the empty text and those of one byte only `A`, `B` and `^` are in the language.
+    assert_eq!((run.counts.passed, run.counts.failed), (3, 13));
 }
