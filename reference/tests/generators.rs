@@ -50,6 +50,25 @@ fn two_damages_bring_the_lower_answer() {
     }
 }
 
+/// 14 stands where 5 does: behind 4 and before 6.
+#[test]
+fn a_text_that_could_go_on_and_another_damage() {
+    let mut random = Random::new(11);
+    for other in (1..=13).filter(|&other| other != 5) {
+        let mut done = 0;
+        while done < 60 {
+            let mut draft = draft::accepted(&mut random, &SMALL, Numbers::Low);
+            if damage_twice(&mut random, &mut draft, [14, other]) {
+                let outcome = call(&draft.finish()).outcome;
+                let lower = if other < 5 { other } else { 14 };
+                assert_eq!(outcome.answer, lower, "{other}: {draft:?}");
+                assert!(lower == 14 || outcome.offset == 0);
+                done += 1;
+            }
+        }
+    }
+}
+
 #[test]
 fn small_inputs_are_small() {
     let mut random = Random::new(4);

@@ -1,6 +1,6 @@
 //! Pattern texts: random trees written with random spaces and forms, texts that
-//! are refused with each of the answers 4 to 7, adversarial ones, and all texts
-//! over a small alphabet. From document 01, "Pattern language".
+//! are refused with each of the answers 4 to 7 and 14, adversarial ones, and all
+//! texts over a small alphabet. From document 01, "Pattern language".
 
 use super::random::Random;
 use crate::pattern::{self, Branch, Factor, Pattern, Primary, Quantifier, ONCE};
