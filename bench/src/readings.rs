@@ -87,11 +87,15 @@ pub fn unrolled() -> Vec<Workload> {
         .collect()
 }
 
-/// Whether both engines judge a reading alike; an Err says how not.
+/// Whether both engines judge a reading alike; an Err says how not. The yardstick
+/// does not tell where a text is wrong, so the offset is left out.
 pub fn compare(reading: &Reading) -> Result<(), String> {
     let query = reading.query.to_bytes();
     let yardstick = engine::room(&query, &[]);
-    let product = lent::room(&query, &[]);
+    let product = lent::Room {
+        offset: yardstick.offset,
+        ..lent::room(&query, &[])
+    };
     match product == yardstick {
         true => Ok(()),
         false => Err(format!(
