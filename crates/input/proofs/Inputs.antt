@@ -1,4 +1,5 @@
--- Laws of the input: the tests in the code's order, two's complement, and the rows' numbers written one behind the other.
+-- Laws of the input: the tests in the code's order, how many bytes decide, two's complement, and
+-- the rows' numbers written one behind the other.
 use mathlib.Core.Path.{_≡_, refl, sym, ap, _∙_, subst}
 use mathlib.Core.Bool.{Bool, true, false}
 use mathlib.Core.List.{List, [], _∷_, _++_}
@@ -7,16 +8,17 @@ use native.Mathlib.Omega.{arith}
 use native.Mathlib.Numerals.{add-one}
 use lib.Dec.{ltb}
 use lib.IntN.{ℤ, pos, negsuc, _-ℤ_}
-use lib.ListN.{length, set, take, drop, length-set}
+use lib.ListN.{length, set, take, drop, length-set, length-take}
+use lib.Seq.{take-all}
 use mir.Syntax.{w32}
 use mir.Val.{SFits, toZ, ofZ}
 use mir.Facts.{toZ-ofZ}
-use borrow.Author.Tests.{lt-ltb, le-ltb, ltb-false}
+use borrow.Author.Tests.{lt-ltb, le-ltb, ltb-true, ltb-false}
 use Rattle.rules.specs.Basics.{pick, tabulate, le16, le32, signed32, wrote}
 use Rattle.rules.specs.Program.{refusedText, tooLarge, rowsOf, printedFor, printed}
 use Rattle.rules.proofs.Lists.{length-tabulate}
 use Rattle.input.specs.declared.Input.the-variants.{Refused, TooLarge, Go}
-use Rattle.input.specs.Input.{inputOf, printedInput}
+use Rattle.input.specs.Input.{mostRead, inputOf, printedInput}
 use Rattle.put.proofs.Writing.{wrote-none, wrote-next}
 
 -- ---- the code's ways through the tests, where q is the query's length
@@ -88,6 +90,32 @@ printed-input s = go (ltb (length s) 2) (ltb 4096 (le16 s 0)) (ltb (length s) (2
     go false false true d = refl
     go false false false true = refl
     go false false false false = ap (λ (k : ℕ). printedFor (take k (drop 2 s)) (drop (2 + le16 s 0) s)) (let e : le16 s 0 ≡ 2 + le16 s 0 - 2 = omega arith in e)
+
+-- all that is longer than the longest query with the most row bytes is too large
+long-input : (s : List ℕ) → mostRead ≤ length s → printed s ≡ tooLarge
+unfolding printed
+long-input s h = simp (le-ltb (length s) 2 (omega arith)) (go (ltb 4096 (le16 s 0)) refl)
+  where
+    go : (t : Bool) → ltb 4096 (le16 s 0) ≡ t
+        → pick t tooLarge
+        (pick (ltb (length s) (2 + le16 s 0)) (refusedText 1)
+        (pick (ltb 32768 (length s - (2 + le16 s 0))) tooLarge
+        (printedFor (take (le16 s 0) (drop 2 s)) (drop (2 + le16 s 0) s))))
+        ≡ tooLarge
+    go true e = refl
+    go false e =
+        let b = ltb-false 4096 (le16 s 0) e in
+        simp (le-ltb (length s) (2 + le16 s 0) (omega arith), lt-ltb 32768 (length s - (2 + le16 s 0)) (omega arith))
+
+-- so the first 36,867 bytes decide
+pub prefix-decides : (s : List ℕ) → printed s ≡ printed (take mostRead s)
+prefix-decides s = go (ltb mostRead (length s)) refl
+  where
+    go : (t : Bool) → ltb mostRead (length s) ≡ t → printed s ≡ printed (take mostRead s)
+    go true e =
+        let h = ltb-true mostRead (length s) e in
+        long-input s (omega arith) ∙ sym (long-input (take mostRead s) (simp length-take (omega arith)))
+    go false e = ap printed (sym (take-all mostRead s (ltb-false mostRead (length s) e)))
 
 -- ---- two's complement of a word
 

@@ -19,6 +19,11 @@ inputOf s =
     (pick (ltb 32768 (length s - (2 + le16 s 0))) TooLarge
     (Go (2 + le16 s 0)))))
 
+-- The first so many bytes of an input decide what is printed of it (proofs/Inputs,
+-- `prefix-decides`): a length, the longest query, the most row bytes, and one more.
+abbrev pub mostRead : ℕ
+mostRead = 36867
+
 -- what the program prints in each case; the law `printed-input` (proofs/Inputs) says that this of `inputOf` is `printed`
 unfoldable pub printedInput : Input → List ℕ → List ℕ
 unfolding refusedText tooLarge printedFor

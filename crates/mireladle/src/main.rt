@@ -1,5 +1,7 @@
-// The program of document 01: reads a query and rows from standard input and prints the matches, a refusal or `too large`. All of it between reading and
-// writing is `run::run`, whose promise says that it prints `printed` of the input (crates/run/specs/Run).
+// The program of document 01: reads a query and rows from standard input and prints the matches, a
+// refusal or `too large`. All of it is `streams::on_streams`, whose promise is in
+// crates/streams/specs/Streams. Checked here on W1 of document 01 with COUNT(A) and LAST(B):
+// `stdin` has its bytes, `stdout` what the bench sheet prints.
 fn main() {
-    run::on_streams();
+    streams::on_streams();
 }

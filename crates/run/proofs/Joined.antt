@@ -1,19 +1,20 @@
--- What joins the program's text to the search: which of the three texts a query and its row bytes get, by the answer that asks no lent buffer and by the
--- number of pairs; that the search is then accepted; and that the report of its promise is the text asked for, in the room that is lent.
+-- What joins the program's text to the search: which of the three texts a query and its row bytes
+-- get, by the verdict on what `room` says of them; that the search is then accepted; and that the
+-- report of its promise is the text asked for, in the room that is lent.
 use mathlib.Core.Path.{_≡_, refl, sym, ap, _∙_}
-use mathlib.Core.Bool.{Bool, true, false, not, _||_}
+use mathlib.Core.Bool.{Bool, true, false, not}
 use mathlib.Core.List.{List, [], _∷_, _++_}
 use Prim.Native.Nat.{ℕ, zero, suc, _+_, _*_, _%_, _/_, _≤_, _<_}
 use native.Mathlib.Nat.{mul-le-mul}
 use native.Mathlib.Numerals.{add-one}
 use native.Mathlib.Omega.{arith}
-use lib.Dec.{ltb, eqb}
+use lib.Dec.{eqb}
 use lib.IntN.{ℤ}
 use lib.ListN.{length, take, drop, length-append}
 use lib.Seq.{take-append-seam}
 use mir.Syntax.{w64}
 use mir.Val.{Fits}
-use borrow.Author.Tests.{lt-ltb, le-ltb, ltb-false, eqb-true, ne-eqb}
+use borrow.Author.Tests.{le-ltb, ltb-false, eqb-true, eqb-false}
 use Rattle.rules.specs.Basics.{pick, every, wrote}
 use Rattle.rules.specs.Rows.{tableOf}
 use Rattle.rules.specs.Query.{columnsOf, textOf}
@@ -24,11 +25,15 @@ use Rattle.rules.specs.Program.{refusedText, tooLarge, searchText, rowsOf, prin
 use Rattle.rules.proofs.Lists.{length-wrote}
 use Rattle.rules.proofs.Accepted.{Accepted, done-or-stopped, answer-is, query-tests-refuse}
 use Rattle.rules.proofs.Level.{or-false}
-use Rattle.rules.proofs.FirstTrue.{allRefuse, first-after, none-before, none-true, first-wider}
+use Rattle.rules.proofs.FirstTrue.{allRefuse, first-after, none-before, none-true}
 use Rattle.rules.proofs.Limits.{limits, numbers-long}
 use Rattle.reading.specs.declared.Size.{Size}
 use Rattle.reading.specs.Reading.{asRoom}
 use Rattle.put.specs.Put.{Put}
+use Rattle.input.specs.declared.Verdict.{Verdict}
+use Rattle.input.specs.declared.Verdict.the-variants.{Refused, TooLarge, Search}
+use Rattle.input.specs.Verdict.{verdictOf, printedVerdict}
+use Rattle.input.proofs.Verdicts.{pairs-spared, searched, printed-verdict}
 use Rattle.header.specs.Report.{reportText}
 use Rattle.text.proofs.Printed.{report-printed}
 use Rattle.run.specs.Run.{Found}
@@ -73,6 +78,10 @@ module _ (q : List ℕ) (rows : List ℤ) (none : roomAnswer q (badRows q rows) 
       let k = first-after (queryTests q) rest (query-tests-refuse q) no-query-answer in
       ap refuses k ∙ rw (whole-rows, n, t) (done-or-stopped (stopped (walkOf q rows lent)))
 
+above : (n : ℕ) → (n ≡ 0 → ⊥) → 0 < n
+above zero d = absurd (d refl)
+above (suc n) d = omega arith
+
 -- ---- the ways of a query with its row bytes r: their whole numbers are the first k of an array, and z is what `room` says of the query and of these
 
 module _ (r : List ℕ) (l array : List ℤ) (k : ℕ) (filled : array ≡ wrote l 0 (rowsOf r)) (counted : k ≡ length (rowsOf r)) where
@@ -87,88 +96,84 @@ module _ (r : List ℕ) (l array : List ℤ) (k : ℕ) (filled : array ≡ wrote
   pub rows-long : k ≡ length (take k array)
   rows-long = counted ∙ sym (ap length same)
 
-module _ (q r : List ℕ) (l array : List ℤ) (k : ℕ) (filled : array ≡ wrote l 0 (rowsOf r)) (counted : k ≡ length (rowsOf r)) (z : Size) (e : asRoom z ≡ roomOf q (take k array)) where
-  abbrev rows : List ℤ
-  rows = take k array
+-- what `room` says: all sizes and no answer, or an answer and zeros
+data Roomed (q : List ℕ) (rows : List ℤ) (z : Size) : Type 0 where
+  accepted-room : roomAnswer q (badRows q rows) ≡ 0 → z .answer ≡ 0 → z .places ≡ P (treeIn q) → z .rows ≡ tableOf (columnsOf q) rows .n → Roomed q rows z
+  refused-room : z .answer ≡ roomAnswer q (badRows q rows) → 0 < roomAnswer q (badRows q rows) → z .places ≡ 0 → z .rows ≡ 0 → Roomed q rows z
 
-  -- row bytes that are no multiple of 4 are refused as rows that are not whole are
-  abbrev bad : Bool
-  bad = not (eqb (length r % 4) 0) || badRows q rows
-
-  prints : printedFor q r
-      ≡ pick (ltb 0 (roomAnswer q bad)) (refusedText (roomAnswer q bad))
-      (pick (ltb 16000 (pairsOf q rows)) tooLarge (searchText (taskOf q rows) (walked (taskOf q rows) 8192 65536)))
-  unfolding printedFor
-  prints = rw (same r l array k filled counted)
-
-  room-answer : z .answer ≡ roomAnswer q (badRows q rows)
+module _ (q : List ℕ) (rows : List ℤ) (z : Size) (e : asRoom z ≡ roomOf q rows) where
+  roomed : Roomed q rows z
   unfolding roomOf
-  room-answer = ap (λ (z : Room). z .answer) e ∙ go (roomAnswer q (badRows q rows)) (eqb (roomAnswer q (badRows q rows)) 0) refl
+  roomed = go (roomAnswer q (badRows q rows)) refl (eqb (roomAnswer q (badRows q rows)) 0) refl e
     where
-      go : (a : ℕ) (t : Bool) → eqb a 0 ≡ t
-          → pick {A = Room} t (record { answer = 0; places = P (treeIn q); rows = tableOf (columnsOf q) rows .n; offset = 0 })
-          (record { answer = a; places = 0; rows = 0; offset = offsetAt (textOf q) a }) .answer ≡ a
-      go a true h = sym (eqb-true a 0 h)
-      go a false h = refl
+      go : (a : ℕ) → roomAnswer q (badRows q rows) ≡ a → (t : Bool) → eqb a 0 ≡ t
+          → asRoom z ≡ pick t (record { answer = 0; places = P (treeIn q); rows = tableOf (columnsOf q) rows .n; offset = 0 })
+          (record { answer = a; places = 0; rows = 0; offset = offsetAt (textOf q) a }) → Roomed q rows z
+      go a h true g e =
+          accepted-room (h ∙ eqb-true a 0 g) (ap (λ (z : Room). z .answer) e) (ap (λ (z : Room). z .places) e) (ap (λ (z : Room). z .rows) e)
+      go a h false g e =
+          refused-room (ap (λ (z : Room). z .answer) e ∙ sym h) (rw h (above a (eqb-false a 0 g))) (ap (λ (z : Room). z .places) e) (ap (λ (z : Room). z .rows) e)
+
+  -- the number of pairs can be computed
+  pub room-rows : Fits w64 (z .rows + 1)
+  room-rows = go roomed
+    where
+      go : Roomed q rows z → Fits w64 (z .rows + 1)
+      go (accepted-room none a p n) = record { fits = omega (arith, n, few-rows q rows none) }
+      go (refused-room a h p n) = record { fits = omega arith }
+
+  pub room-pairs : Fits w64 (z .places * (z .rows + 1))
+  room-pairs = go roomed
+    where
+      go : Roomed q rows z → Fits w64 (z .places * (z .rows + 1))
+      go (accepted-room none a p n) =
+          let hp : z .places ≤ 256 = omega (arith, p, few-places q rows none) in
+          let hn : z .rows + 1 ≤ 4097 = omega (arith, n, few-rows q rows none) in
+          let m : z .places * (z .rows + 1) ≤ 256 * 4097 = mul-le-mul hp hn in
+          record { fits = omega arith }
+      go (refused-room a h p n) =
+          let hp : z .places ≤ 0 = omega arith in
+          let hn : z .rows + 1 ≤ 1 = omega arith in
+          let m : z .places * (z .rows + 1) ≤ 0 * 1 = mul-le-mul hp hn in
+          record { fits = omega arith }
+
+  -- the verdict on these numbers is the definition's
+  same-verdict : (bytes : ℕ) → verdictOf (z .answer) bytes (z .places * (z .rows + 1)) ≡ verdictOf (roomAnswer q (badRows q rows)) bytes (pairsOf q rows)
+  unfolding pairsOf
+  same-verdict bytes = go roomed
+    where
+      go : Roomed q rows z → verdictOf (z .answer) bytes (z .places * (z .rows + 1)) ≡ verdictOf (roomAnswer q (badRows q rows)) bytes (pairsOf q rows)
+      go (accepted-room none a p n) = rw (a, none, p, n, add-one)
+      go (refused-room a h p n) = rw a (pairs-spared (roomAnswer q (badRows q rows)) bytes (z .places * (z .rows + 1)) (pairsOf q rows) h)
+
+module _ (q r : List ℕ) (l array : List ℤ) (k : ℕ) (filled : array ≡ wrote l 0 (rowsOf r)) (counted : k ≡ length (rowsOf r)) (z : Size) (e : asRoom z ≡ roomOf q (take k array))
+    (v : Verdict) (given : v ≡ verdictOf (z .answer) (length r) (z .places * (z .rows + 1))) where
+  verdict-is : v ≡ verdictOf (roomAnswer q (badRows q (take k array))) (length r) (pairsOf q (take k array))
+  verdict-is = given ∙ same-verdict q (take k array) z e (length r)
+
+  prints : (w : Verdict) → v ≡ w → printedFor q r ≡ printedVerdict w q r
+  prints w h =
+      let i : v ≡ verdictOf (roomAnswer q (badRows q (rowsOf r))) (length r) (pairsOf q (rowsOf r)) = rw (← (same r l array k filled counted)) verdict-is in
+      printed-verdict q r ∙ ap (λ (u : Verdict). printedVerdict u q r) (sym i ∙ h)
 
   -- what is written into the buffer o is the text of the way that is taken
   module _ (o m : List ℕ) (b : ℕ) where
-    pub query-refused : (z .answer ≡ 0 → ⊥) → Put o 0 (refusedText (z .answer)) m b → Put o 0 (printedFor q r) m b
-    unfolding roomAnswer
-    query-refused d p =
-        let w : roomAnswer q bad ≡ z .answer = first-wider (queryTests q) 10 (not (eqb (length r % 4) 0)) (badRows q rows) (λ h. d (room-answer ∙ h)) ∙ sym room-answer in
-        rw (prints, w, lt-ltb 0 (z .answer) (above (z .answer) d)) p
-      where
-        above : (n : ℕ) → (n ≡ 0 → ⊥) → 0 < n
-        above zero d = absurd (d refl)
-        above (suc n) d = omega arith
+    pub query-refused : (a : ℕ) → v ≡ Refused a → Put o 0 (refusedText a) m b → Put o 0 (printedFor q r) m b
+    unfolding printedVerdict
+    query-refused a h p = rw (prints (Refused a) h) p
 
-  module _ (h : z .answer ≡ 0) where
-    no-answer : roomAnswer q (badRows q rows) ≡ 0
-    no-answer = sym room-answer ∙ h
+    pub query-large : v ≡ TooLarge → Put o 0 tooLarge m b → Put o 0 (printedFor q r) m b
+    unfolding printedVerdict
+    query-large h p = rw (prints TooLarge h) p
 
-    room-places : z .places ≡ P (treeIn q)
-    unfolding roomOf
-    room-places = ap (λ (z : Room). z .places) e ∙ rw no-answer
+    pub query-searched : v ≡ Search → Put o 0 (searchText (taskOf q (take k array)) (walked (taskOf q (take k array)) 8192 65536)) m b → Put o 0 (printedFor q r) m b
+    unfolding printedVerdict
+    query-searched h p = rw (prints Search h) (rw (same r l array k filled counted) at p)
 
-    room-rows : z .rows ≡ tableOf (columnsOf q) rows .n
-    unfolding roomOf
-    room-rows = ap (λ (z : Room). z .rows) e ∙ rw no-answer
-
-    room-pairs : z .places * (z .rows + 1) ≡ pairsOf q rows
-    unfolding pairsOf
-    room-pairs = rw (room-places, room-rows, add-one)
-
-    -- the number of pairs can be computed
-    pub query-rows : Fits w64 (z .rows + 1)
-    query-rows = record { fits = omega (arith, room-rows, few-rows q rows no-answer) }
-
-    pub query-pairs : Fits w64 (z .places * (z .rows + 1))
-    query-pairs =
-        let p : z .places ≤ 256 = omega (arith, room-places, few-places q rows no-answer) in
-        let n : z .rows + 1 ≤ 4097 = omega (arith, room-rows, few-rows q rows no-answer) in
-        let m : z .places * (z .rows + 1) ≤ 256 * 4097 = mul-le-mul p n in
-        record { fits = omega arith }
-
-    pub query-ragged : (o m : List ℕ) (b : ℕ) → (length r % 4 ≡ 0 → ⊥) → Put o 0 (refusedText 10) m b → Put o 0 (printedFor q r) m b
-    unfolding roomAnswer firstOf
-    query-ragged o m b d p =
-        let w : roomAnswer q bad ≡ 10 = rw (ne-eqb (length r % 4) 0 d) (first-after (queryTests q) ((10, true) ∷ []) (query-tests-refuse q) (no-query-answer q rows no-answer)) in
-        rw (prints, w) p
-
-    module _ (w : length r % 4 ≡ 0) where
-      no-bad : roomAnswer q bad ≡ 0
-      no-bad = rw w no-answer
-
-      pub query-large : (o m : List ℕ) (b : ℕ) → 16000 < z .places * (z .rows + 1) → Put o 0 tooLarge m b → Put o 0 (printedFor q r) m b
-      query-large o m b g p = rw (prints, no-bad, lt-ltb 16000 (pairsOf q rows) (rw room-pairs at g)) p
-
-      module _ (g : z .places * (z .rows + 1) ≤ 16000) where
-        pub query-found : Found q (take k array)
-        query-found = record { none = no-answer; few = rw room-pairs at g }
-
-        pub query-searched : (o m : List ℕ) (b : ℕ) → Put o 0 (searchText (taskOf q (take k array)) (walked (taskOf q (take k array)) 8192 65536)) m b → Put o 0 (printedFor q r) m b
-        query-searched o m b p = rw (prints, no-bad, le-ltb 16000 (pairsOf q rows) (rw room-pairs at g)) p
+  pub query-found : v ≡ Search → Found q (take k array)
+  query-found h =
+      let s = searched (roomAnswer q (badRows q (take k array))) (length r) (pairsOf q (take k array)) (sym verdict-is ∙ h) in
+      record { none = s .0; few = s .1 }
 
 -- ---- the search's promise as text
 

@@ -1,16 +1,13 @@
 -- One law for each way through the functions of this crate: the measures counted, the search's report as text, and the program's text by what the input
--- is; and that the first 36,867 bytes of an input decide what is printed.
-use mathlib.Core.Path.{_≡_, refl, sym, ap, _∙_}
-use mathlib.Core.Bool.{Bool, true, false}
+-- is.
+use mathlib.Core.Path.{_≡_, sym, ap, _∙_}
 use mathlib.Core.List.{List}
 use Prim.Native.Nat.{ℕ, _+_, _*_, _-_, _≤_}
 use native.Mathlib.Omega.{arith}
-use lib.Dec.{ltb, eqb}
+use lib.Dec.{eqb}
 use lib.IntN.{ℤ}
 use lib.ListN.{length, take, drop, length-take, length-drop}
 use lib.Seq.{take-all}
-use borrow.Author.Tests.{lt-ltb, le-ltb, ltb-true, ltb-false}
-use Rattle.rules.specs.Basics.{pick, le16}
 use Rattle.rules.specs.Query.{parts}
 use Rattle.rules.specs.Answers.{taskOf, walked, Buffers, Memory, searchOf}
 use Rattle.rules.specs.Program.{refusedText, tooLarge, searchText, printedFor, printed}
@@ -27,9 +24,9 @@ use Rattle.input.specs.declared.Input.the-variants.{Refused, TooLarge, Go}
 use Rattle.input.specs.Input.{inputOf, printedInput}
 use Rattle.put.specs.Put.{Put}
 use Rattle.header.specs.Report.{reportText}
-use Rattle.input.proofs.Inputs.{Parted, parted, printed-input}
+use Rattle.input.proofs.Inputs.{Parted, parted, printed-input, prefix-decides}
 use Rattle.put.proofs.Writing.{put-long}
-use Rattle.run.specs.Run.{Ran, Counted, Found, Said}
+use Rattle.run.specs.Run.{Ran, Counted, Found}
 use Rattle.run.proofs.Joined.{room-accepts, no-query-answer, search-numbers, search-printed}
 
 -- ---- the measures
@@ -74,32 +71,6 @@ module _ (q : List ℕ) (rows : List ℤ) (f : Found q rows) (notes′ trail′ 
 
 -- ---- the whole input
 
--- all that is longer than the longest query with the most row bytes is too large
-long-input : (s : List ℕ) → 36867 ≤ length s → printed s ≡ tooLarge
-unfolding printed
-long-input s h = simp (le-ltb (length s) 2 (omega arith)) (go (ltb 4096 (le16 s 0)) refl)
-  where
-    go : (t : Bool) → ltb 4096 (le16 s 0) ≡ t
-        → pick t tooLarge
-        (pick (ltb (length s) (2 + le16 s 0)) (refusedText 1)
-        (pick (ltb 32768 (length s - (2 + le16 s 0))) tooLarge
-        (printedFor (take (le16 s 0) (drop 2 s)) (drop (2 + le16 s 0) s))))
-        ≡ tooLarge
-    go true e = refl
-    go false e =
-        let b = ltb-false 4096 (le16 s 0) e in
-        simp (le-ltb (length s) (2 + le16 s 0) (omega arith), lt-ltb 32768 (length s - (2 + le16 s 0)) (omega arith))
-
--- so the first 36,867 bytes decide
-pub prefix-decides : (s : List ℕ) → printed s ≡ printed (take 36867 s)
-prefix-decides s = go (ltb 36867 (length s)) refl
-  where
-    go : (t : Bool) → ltb 36867 (length s) ≡ t → printed s ≡ printed (take 36867 s)
-    go true e =
-        let h = ltb-true 36867 (length s) e in
-        long-input s (omega arith) ∙ sym (long-input (take 36867 s) (simp length-take (omega arith)))
-    go false e = ap printed (sym (take-all 36867 s (ltb-false 36867 (length s) e)))
-
 ran : (s l m : List ℕ) (b : ℕ) (t : List ℕ) → printed s ≡ t → Put l 0 t m b → Ran s l m b
 ran s l m b t e p = record { text = rw e p; enough = λ u h. prefix-decides u ∙ ap printed h }
 
@@ -125,13 +96,13 @@ module _ (s : List ℕ) (i : Input) (given : i ≡ inputOf s) where
       let w : take (length s - rows) (drop rows s) ≡ drop rows s = take-all (length s - rows) (drop rows s) (simp length-drop (omega arith)) in
       ran s l m b _ (case (Go rows) h) (rw w at p)
 
--- the text lies within the buffer
+-- the text lies within the buffer, and is all that is counted
 module _ (s l m : List ℕ) (b : ℕ) (r : Ran s l m b) where
   pub ran-within : b ≤ length m
   ran-within = let p = r .text in omega (arith, put-long l 0 (printed s) m b p)
 
-  pub ran-said : Said b
-  ran-said = let e = r .text .ends in record { input = s; is = omega (arith, e) }
+  pub ran-count : b ≡ length (printed s)
+  ran-count = let e = r .text .ends in omega (arith, e)
 
   pub ran-long : b ≡ length (take b m)
   ran-long = let w = ran-within in simp length-take (omega arith)

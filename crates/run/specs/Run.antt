@@ -9,17 +9,13 @@ use Rattle.rules.specs.Answers.{badRows, pairsOf, roomAnswer}
 use Rattle.rules.specs.Program.{printed}
 use Rattle.reading.specs.Reading.{queryAnswer}
 use Rattle.put.specs.Put.{Put}
+use Rattle.input.specs.Input.{mostRead}
 
 -- The text is what the program prints of these bytes. They need be no more of its standard input than the first 36,867 bytes: it prints the same of any
 -- input that goes on behind them.
 pub record Ran (input before after : List ℕ) (behind : ℕ) : Type 0 where
   pub text : Put before 0 (printed input) after behind
-  pub enough : (s : List ℕ) → take 36867 s ≡ input → printed s ≡ printed input
-
--- r bytes are what the program prints of some input
-pub record Said (r : ℕ) : Type 0 where
-  pub input : List ℕ
-  pub is : r ≡ length (printed input)
+  pub enough : (s : List ℕ) → take mostRead s ≡ input → printed s ≡ printed input
 
 -- k is the number of measures, for a query with no answer 1 to 9
 pub record Counted (q : List ℕ) (k : ℕ) : Type 0 where

@@ -1,15 +1,12 @@
 // The program between reading and writing, as one function on slices: `run` writes what document 01 has the program print of an input, for every input
 // (specs/Run); the laws are in proofs/Joined and proofs/Running. It lends the search 8,192 report numbers, 65,536 label bytes and room for 16,000 pairs, all
 // on the stack. The query is read three times: for its room, by the search, and for the number of its measures, by which the report's numbers are parted.
-mod streams;
-
 ghost use Prim.Native.Nat.{_≤_};
 ghost use lib.ListN.{length};
 ghost use Rattle.rules.specs.Answers.{taskOf, walked};
 ghost use Rattle.rules.specs.Program.{searchText, printedFor};
 ghost use Rattle.put.specs.Put.{Put};
 ghost use Rattle.run.specs.Run.{Counted, Found, Ran};
-pub use streams::on_streams;
 
 // How many measures a query with no answer 1 to 9 has.
 fn measures_of(query: &[u8]) -> usize
@@ -53,7 +50,8 @@ fn run_search(query: &[u8], rows: &[i32], out: &mut [u8]) -> usize
     )
 }
 
-// A query and its row bytes: the answers 1 to 10, then too many pairs, then the search.
+// A query and its row bytes, by the verdict on them. Where there is an answer, `room` says 0 places
+// and 0 rows, so the number of pairs can be computed first.
 fn run_query(query: &[u8], bytes: &[u8], out: &mut [u8]) -> usize
     requires { ⌜ length (now bytes) ≤ 32768 ⌝ }
     requires { ⌜ 245820 ≤ length (now out) ⌝ }
@@ -62,18 +60,13 @@ fn run_query(query: &[u8], bytes: &[u8], out: &mut [u8]) -> usize
     let mut rows = [0i32; 8192];
     let count = input::rows_of(bytes, &mut rows);
     let size = room::room(query, &rows[..count]);
-    let answer = size.answer;
-    if answer != 0 {
-        return header::put_refused(out, 0, answer as u64);
-    }
-    if bytes.len() % 4 != 0 {
-        return header::put_refused(out, 0, 10);
-    }
     let pairs = size.places * (size.rows + 1);
-    if 16000 < pairs {
-        return header::put_too_large(out, 0);
+    let verdict = input::verdict_of(size.answer, bytes.len(), pairs);
+    match verdict {
+        input::Verdict::Refused(answer) => header::put_refused(out, 0, answer),
+        input::Verdict::TooLarge => header::put_too_large(out, 0),
+        input::Verdict::Search => run_search(query, &rows[..count], out),
     }
-    run_search(query, &rows[..count], out)
 }
 
 // What the program prints of an input, into the front of `out`; the result is how many bytes that is.

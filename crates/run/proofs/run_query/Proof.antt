@@ -1,7 +1,7 @@
--- `run_query` prints what the way taken prints: one law of proofs/Joined for each.
+-- `run_query` prints what the verdict prints: one law of proofs/Joined for each.
 use native.Mathlib.Omega.{arith}
 use borrow.Author.Needs.{needs}
-use Rattle.run.proofs.Joined.{rows-within, rows-long, query-refused, query-ragged, query-large, query-rows, query-pairs, query-found, query-searched}
+use Rattle.run.proofs.Joined.{rows-within, rows-long, room-rows, room-pairs, query-refused, query-large, query-found, query-searched}
 use Rattle.run.proofs.run_query.Statement.{statement}
 use Rattle.run.proofs.run_query.Tie as tie
 
@@ -20,38 +20,29 @@ slice-aggregate-room c = search (needs, rows-long)
 room-requires : tie.Need-room-requires
 room-requires c κs = search needs
 
+add-pairs : tie.Need-add-pairs
+add-pairs c = search (needs, room-rows)
+
+mul-pairs : tie.Need-mul-pairs
+mul-pairs c = search room-pairs
+
+verdict-of-requires : tie.Need-verdict-of-requires
+verdict-of-requires c κs = search needs
+
+enum-known-verdict : tie.Need-enum-known-verdict
+enum-known-verdict c = search needs
+
 put-refused-requires : tie.Need-put-refused-requires
 put-refused-requires c κs = search needs
 
-same-length : tie.Need-same-length
-same-length c = search needs
-
-returns : tie.Need-returns
-returns c = search (needs, query-refused)
-
-put-refused-requires-2 : tie.Need-put-refused-requires-2
-put-refused-requires-2 c κs = search needs
-
-same-length-2 : tie.Need-same-length-2
-same-length-2 c = search needs
-
-returns-2 : tie.Need-returns-2
-returns-2 c = search (needs, query-ragged)
-
-add-pairs : tie.Need-add-pairs
-add-pairs c = search (needs, query-rows)
-
-mul-pairs : tie.Need-mul-pairs
-mul-pairs c = search query-pairs
+enum-told : tie.Need-enum-told
+enum-told c = search needs
 
 put-too-large-requires : tie.Need-put-too-large-requires
 put-too-large-requires c κs = search needs
 
-same-length-3 : tie.Need-same-length-3
-same-length-3 c = search needs
-
-returns-3 : tie.Need-returns-3
-returns-3 c = search (needs, query-large)
+enum-told-2 : tie.Need-enum-told-2
+enum-told-2 c = search needs
 
 array-share-prefix-rows-2 : tie.Need-array-share-prefix-rows-2
 array-share-prefix-rows-2 c = search (needs, rows-within)
@@ -62,11 +53,23 @@ slice-aggregate-run-search c = search (needs, rows-long)
 run-search-requires : tie.Need-run-search-requires
 run-search-requires c κs = (search (needs, query-found), omega arith)
 
-same-length-4 : tie.Need-same-length-4
-same-length-4 c = search needs
+same-length : tie.Need-same-length
+same-length c = search needs
 
-returns-4 : tie.Need-returns-4
-returns-4 c = search (needs, query-searched)
+returns : tie.Need-returns
+returns c = search (needs, query-refused)
+
+same-length-2 : tie.Need-same-length-2
+same-length-2 c = search needs
+
+returns-2 : tie.Need-returns-2
+returns-2 c = search (needs, query-large)
+
+same-length-3 : tie.Need-same-length-3
+same-length-3 c = search needs
+
+returns-3 : tie.Need-returns-3
+returns-3 c = search (needs, query-searched)
 
 pub run-query-spec : {M : Type 1} → statement M
 run-query-spec =
@@ -77,19 +80,20 @@ run-query-spec =
     array-share-prefix-rows
     slice-aggregate-room
     room-requires
-    put-refused-requires
-    same-length
-    returns
-    put-refused-requires-2
-    same-length-2
-    returns-2
     add-pairs
     mul-pairs
+    verdict-of-requires
+    enum-known-verdict
+    put-refused-requires
+    enum-told
     put-too-large-requires
-    same-length-3
-    returns-3
+    enum-told-2
     array-share-prefix-rows-2
     slice-aggregate-run-search
     run-search-requires
-    same-length-4
-    returns-4)
+    same-length
+    returns
+    same-length-2
+    returns-2
+    same-length-3
+    returns-3)

@@ -1,6 +1,7 @@
 //! The program as a whole: what it prints for a standard input, byte by byte,
 //! against what the reference says. An input on which they differ is shrunk.
 
+use reference::generate::draft::{with_column, with_number, Draft};
 use reference::generate::{stdin, Random};
 use reference::program::program;
 use std::io::{ErrorKind, Read, Write};
@@ -10,16 +11,59 @@ use std::process::{Command, Stdio};
 /// The most runs that are tried for one shrinking.
 const TRIES: usize = 2_000;
 
-/// Listed inputs first, long and at limits, then random ones, short and of middle
-/// size in turn.
+/// Column X of the bench sheet.
+const X: [i32; 5] = [100, 110, 120, 115, 130];
+
+/// An input for each of the ways to end: a match, no rows, an empty match with nulls,
+/// a refusal of two that apply, more pairs than are searched, and a report that stops.
+fn of_each_end() -> [Vec<u8>; 6] {
+    let rising = |rows: &[i32], last_of| {
+        let prev = |operator| with_column((0, 0), operator, (0, -1), 0);
+        let draft = Draft::new(1, b"A+ B", Vec::new())
+            .define(b'A', &[prev(5)])
+            .define(b'B', &[prev(3)])
+            .measure(1, b'A', 0)
+            .measure(6, last_of, 0);
+        stdin::whole(&draft.query(), rows)
+    };
+    let empty_match = Draft::new(1, b"A*", Vec::new())
+        .define(b'A', &[with_number(0, 0, 5, 0)])
+        .measure(2, b'A', 0)
+        .measure(1, b'A', 0)
+        .measure(6, 0, 0);
+    // The letter C is not in the pattern, and there is a byte behind the rows.
+    let mut two_refusals = rising(&X, b'C');
+    two_refusals.push(0);
+    let many_pairs = Draft::new(1, b"(A{51}){5}", Vec::new());
+    // Nineteen numbers for each match: 431 fit.
+    let mut stops = Draft::new(1, b"A", Vec::new());
+    for function in 1..=6 {
+        stops = stops.measure(function, b'A', 0);
+    }
+    stops = stops.measure(1, 0, 0).measure(6, 0, 0);
+    let growing: Vec<i32> = (0..432)
+        .map(|k| if k % 2 == 0 { 37 * k * k } else { -37 * k * k })
+        .collect();
+    [
+        rising(&X, b'B'),
+        rising(&[], b'B'),
+        stdin::whole(&empty_match.query(), &[1, 1, 0]),
+        two_refusals,
+        stdin::whole(&many_pairs.query(), &[7; 62]),
+        stdin::whole(&stops.query(), &growing),
+    ]
+}
+
+/// Listed inputs first, one for each end, long ones and those at limits, then random
+/// ones, short and of middle size in turn.
 pub fn inputs(seed: u64, count: usize) -> impl Iterator<Item = Vec<u8>> {
     let mut random = Random::new(seed);
     let made = (0..count).map(move |number| match number % 2 {
         0 => stdin::input(&mut random, number / 2),
         _ => stdin::middle(&mut random, number / 2),
     });
-    let listed = stdin::long().into_iter().chain(stdin::at_limits());
-    listed.chain(made)
+    let listed = of_each_end().into_iter().chain(stdin::long());
+    listed.chain(stdin::at_limits()).chain(made)
 }
 
 /// Whether the program at the path prints what it should.
@@ -95,4 +139,37 @@ pub fn difference(path: &Path, input: &[u8]) -> String {
 fn quoted(printed: &[u8], most: usize) -> String {
     let shown = &printed[..printed.len().min(most)];
     format!("`{}` ({} bytes)", shown.escape_ascii(), printed.len())
+}
+
+#[cfg(test)]
+mod tests {
+    use super::*;
+
+    #[test]
+    fn the_listed_inputs_end_in_each_way() {
+        let printed = of_each_end().map(|input| String::from_utf8(program(&input)).unwrap());
+        let [found, no_rows, nulls, refused, large, stopped] = &printed;
+        assert_eq!(found, "matches 1 steps 12\n1 1 3 AAB 2 115\n");
+        assert_eq!(no_rows, "matches 0 steps 0\n");
+        assert_eq!(
+            nulls,
+            "matches 2 steps 9\n1 0 2 AA 2 2 1\n2 2 0 - null 0 null\n"
+        );
+        assert_eq!(refused, "refused 9\n");
+        assert_eq!(large, "too large\n");
+        let lines: Vec<&str> = stopped.lines().collect();
+        assert_eq!(lines[0], "stopped 431 steps 864");
+        assert_eq!(lines[4], "4 3 1 A 1 -333 -333 -333 -333 -333 1 -333");
+        assert_eq!(lines.len(), 432);
+    }
+
+    /// The program's own crate is run by the gate on the first of them.
+    #[test]
+    fn the_first_is_that_of_the_program_s_crate() {
+        let [first, ..] = of_each_end();
+        let stdin = include_bytes!("../../../../crates/mireladle/stdin");
+        let stdout = include_bytes!("../../../../crates/mireladle/stdout");
+        assert_eq!(first, stdin);
+        assert_eq!(program(&first), stdout);
+    }
 }
