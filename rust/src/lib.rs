@@ -44,6 +44,11 @@
 //! No input makes this crate panic. A query or rows that the library refuses become an [`Error`] with the number and
 //! the reason of the refusal. What the library promises of its answers is proved with it; what this crate adds, the
 //! bytes of a query and the reading of a report, is tested.
+//!
+//! # Stack
+//!
+//! A thread with a small stack needs at least 128 KiB to search, or to build a query; see
+//! [`lent::STACK`].
 
 #![deny(missing_docs)]
 #![deny(unsafe_code)]
