@@ -356,16 +356,16 @@ unfolding Says
 says-bad k s c m t r (bad u) h e = (ap bad (h .rest), h .inside)
 says-bad k s c m t r (got x u) h e = clash (h .ok) e
 
-record Read (k : Rank) (s : List ℕ) (c : ℕ) (m t : List ℕ) (r : Step) (x : Reading (Tree k)) : Type 0 where
-  tree : Tree k
-  is : x ≡ got tree (drop (r .at) s)
-  count : r .count ≡ c + nodeCount tree
-  high : r .height ≡ height tree
-  placed : r .places ≡ min (placeCount tree) 257
-  forked : r .forks ≡ forkOf k tree
-  wrote : t ≡ written tree c m
+pub record Read (k : Rank) (s : List ℕ) (c : ℕ) (m t : List ℕ) (r : Step) (x : Reading (Tree k)) : Type 0 where
+  pub tree : Tree k
+  pub is : x ≡ got tree (drop (r .at) s)
+  pub count : r .count ≡ c + nodeCount tree
+  pub high : r .height ≡ height tree
+  pub placed : r .places ≡ min (placeCount tree) 257
+  pub forked : r .forks ≡ forkOf k tree
+  pub wrote : t ≡ written tree c m
 
-says-got : (k : Rank) (s : List ℕ) (c : ℕ) (m t : List ℕ) (r : Step) (x : Reading (Tree k)) → Says k s c m t r x → r .ok ≡ true → Read k s c m t r x
+pub says-got : (k : Rank) (s : List ℕ) (c : ℕ) (m t : List ℕ) (r : Step) (x : Reading (Tree k)) → Says k s c m t r x → r .ok ≡ true → Read k s c m t r x
 unfolding Says
 says-got k s c m t r (bad u) h e = clash e (h .fails)
 says-got k s c m t r (got x u) h e = record { tree = x; is = ap (got x) (h .rest); count = h .count; high = h .high; placed = h .placed; forked = h .forked; wrote = h .wrote }
@@ -507,13 +507,6 @@ module _ (s : List ℕ) (at c : ℕ) (m0 m1 : List ℕ) (b : Step) (h : Reads br
       behind : skip (rest (drop (b .at) s)) ≡ drop from s
       behind = ap skip (rest-drop s (b .at)) ∙ sym (k .0)
 
-      pub pattern-again : (u : ℕ) → 4 * (length s - at) + 3 ≡ u → Fits s at m0 c → (4 * (length s - from) + 3 < u) × Fits s from m1 (b .count)
-      pattern-again u e f =
-          let w = h .on o in (
-            omega (arith, w .on, w .inside, k .1, k .2),
-            record { in-text = k .2; fits = omega (arith, w .few, w .on, k .1, k .2, f .fits, h .len); small = omega (arith, w .few, w .on, k .1, k .2, f .small) },
-          )
-
       module _ (m2 : List ℕ) (r : Step) (g : Reads pattern s from (b .count) m1 m2 r) where
         pub pattern-more-fails : r .ok ≡ false → Reads pattern s at c m0 m2 r
         unfolding rankOf depth under
@@ -526,20 +519,6 @@ module _ (s : List ℕ) (at c : ℕ) (m0 m1 : List ℕ) (b : Step) (h : Reads br
             let x = says-got branch s c m0 m1 b _ (h .says n (omega arith)) o in
             let z = says-bad pattern s (b .count) m1 m2 r _ (g .says n (omega (arith, w .on, w .inside, k .1, k .2, length-drop at s, length-drop from s))) e in
             (alt-two n (drop at s) _ _ (drop from s) (bad (drop (r .at) s)) (x .is) (sym ey ∙ is-bar) behind (z .0), z .1)
-
-        pub pattern-joins : Fits s at m0 c → r .ok ≡ true → Joins m2 b r
-        pattern-joins f e =
-            let w = h .on o in let q = g .on e in
-            record {
-              fits = omega (arith, w .few, q .few, w .on, q .on, q .inside, k .1, f .fits, h .len, g .len);
-              few = omega (arith, w .few, q .few, w .on, q .on, q .inside, k .1, f .small);
-              left = omega (arith, w .some);
-              right = omega (arith, q .some);
-              low-left = omega (arith, w .low, w .few, w .inside, w .on, f .small);
-              low-right = omega (arith, q .low, q .few, q .inside, w .few, w .on, q .on, k .1, f .small);
-              few-left = w .few-places;
-              few-right = q .few-places;
-            }
 
         pub pattern-more : (m3 : List ℕ) (z : Step) → r .ok ≡ true → Joined m2 m3 Alternation 1 b r z → Reads pattern s at c m0 m3 z
         unfolding rankOf depth under nodeCount height fork placeCount written
@@ -571,10 +550,6 @@ module _ (s : List ℕ) (at c : ℕ) (m0 m1 : List ℕ) (b : Step) (h : Reads br
 ended-at : (y b : ℕ) → y ≡ b → ended b ≡ ended y
 ended-at y b e = ap ended (sym e)
 
-goes-on : (y : ℕ) → (y ≡ 0 → ⊥) → (y ≡ 124 → ⊥) → (y ≡ 41 → ⊥) → ended y ≡ false
-unfolding ended
-goes-on y a b c = simp (ne-eqb y 0 a, ne-eqb y 124 b, ne-eqb y 41 c)
-
 module _ (s : List ℕ) (at c : ℕ) (m0 m1 : List ℕ) (b : Step) (h : Reads factor s at c m0 m1 b) where
   pub branch-fails : b .ok ≡ false → Reads branch s at c m0 m1 b
   unfolding rankOf depth
@@ -582,7 +557,7 @@ module _ (s : List ℕ) (at c : ℕ) (m0 m1 : List ℕ) (b : Step) (h : Reads fa
       let x = says-bad factor s c m0 m1 b _ (h .says n (omega arith)) e in (seq-bad n (drop at s) _ (x .0), x .1)
 
   module _ (y : ℕ) (ey : y ≡ peek (drop (b .at) s)) (o : b .ok ≡ true) where
-    branch-ends : ended y ≡ true → Reads branch s at c m0 m1 b
+    pub branch-ends : ended y ≡ true → Reads branch s at c m0 m1 b
     unfolding rankOf depth nodeCount height fork placeCount written
     branch-ends ny = a-reading branch s at c m0 m1 b o (h .on o) (h .kept) (h .len) λ n d.
         let x = says-got factor s c m0 m1 b _ (h .says n (omega arith)) o in
@@ -596,41 +571,8 @@ module _ (s : List ℕ) (at c : ℕ) (m0 m1 : List ℕ) (b : Step) (h : Reads fa
           wrote = x .wrote;
         }
 
-    pub branch-ends-none : y ≡ 0 → Reads branch s at c m0 m1 b
-    unfolding ended
-    branch-ends-none e = branch-ends (ap ended e)
-
-    pub branch-ends-bar : y ≡ 124 → Reads branch s at c m0 m1 b
-    unfolding ended
-    branch-ends-bar e = branch-ends (ap ended e)
-
-    pub branch-ends-shut : y ≡ 41 → Reads branch s at c m0 m1 b
-    unfolding ended
-    branch-ends-shut e = branch-ends (ap ended e)
-
-  pub branch-again : (u : ℕ) → 4 * (length s - at) + 2 ≡ u → Fits s at m0 c → b .ok ≡ true → (4 * (length s - b .at) + 2 < u) × Fits s (b .at) m1 (b .count)
-  branch-again u e f o =
-      let w = h .on o in (
-        omega (arith, w .on, w .inside),
-        record { in-text = w .inside; fits = omega (arith, w .few, w .on, w .inside, f .fits, h .len); small = omega (arith, w .few, w .on, w .inside, f .small) },
-      )
-
   module _ (m2 : List ℕ) (r : Step) (g : Reads branch s (b .at) (b .count) m1 m2 r) where
-    pub branch-joins : Fits s at m0 c → b .ok ≡ true → r .ok ≡ true → Joins m2 b r
-    branch-joins f o e =
-        let w = h .on o in let q = g .on e in
-        record {
-          fits = omega (arith, w .few, q .few, w .on, q .on, q .inside, f .fits, h .len, g .len);
-          few = omega (arith, w .few, q .few, w .on, q .on, q .inside, f .small);
-          left = omega (arith, w .some);
-          right = omega (arith, q .some);
-          low-left = omega (arith, w .low, w .few, w .inside, w .on, f .small);
-          low-right = omega (arith, q .low, q .few, q .inside, w .few, w .on, q .on, f .small);
-          few-left = w .few-places;
-          few-right = q .few-places;
-        }
-
-    module _ (y : ℕ) (ey : y ≡ peek (drop (b .at) s)) (o : b .ok ≡ true) (n0 : y ≡ 0 → ⊥) (n1 : y ≡ 124 → ⊥) (n2 : y ≡ 41 → ⊥) where
+    module _ (y : ℕ) (ey : y ≡ peek (drop (b .at) s)) (o : b .ok ≡ true) (ne : ended y ≡ false) where
       pub branch-more-fails : r .ok ≡ false → Reads branch s at c m0 m2 r
       unfolding rankOf depth under
       branch-more-fails e =
@@ -641,7 +583,7 @@ module _ (s : List ℕ) (at c : ℕ) (m0 m1 : List ℕ) (b : Step) (h : Reads fa
           (g .len ∙ h .len) λ n d.
           let x = says-got factor s c m0 m1 b _ (h .says n (omega arith)) o in
           let z = says-bad branch s (b .count) m1 m2 r _ (g .says n (omega (arith, w .on, w .inside, length-drop at s, length-drop (b .at) s))) e in
-          (seq-two n (drop at s) _ _ (bad (drop (r .at) s)) (x .is) (ended-at y _ ey ∙ goes-on y n0 n1 n2) (z .0), z .1)
+          (seq-two n (drop at s) _ _ (bad (drop (r .at) s)) (x .is) (ended-at y _ ey ∙ ne) (z .0), z .1)
 
       pub branch-more : (m3 : List ℕ) (z : Step) → r .ok ≡ true → Joined m2 m3 Sequence 0 b r z → Reads branch s at c m0 m3 z
       unfolding rankOf depth under nodeCount height fork placeCount written
@@ -654,7 +596,7 @@ module _ (s : List ℕ) (at c : ℕ) (m0 m1 : List ℕ) (b : Step) (h : Reads fa
           let y = says-got branch s (b .count) m1 m2 r _ (g .says n (omega (arith, w .on, w .inside, length-drop at s, length-drop (b .at) s))) e in
           record {
             tree = next (x .tree) (y .tree);
-            is = seq-two n (drop at s) _ _ _ (x .is) (ended-at y0 _ ey ∙ goes-on y0 n0 n1 n2) (y .is)
+            is = seq-two n (drop at s) _ _ _ (x .is) (ended-at y0 _ ey ∙ ne) (y .is)
                 ∙ ap (λ (i : ℕ). got (next (x .tree) (y .tree)) (drop i s)) (sym (ap (λ (t : Step). t .at) (j .is)));
             count = ap (λ (t : Step). t .count) (j .is) ∙ (let e1 = x .count in let e2 = y .count in let e3 : r
                 .count + 1 ≡ c + (nodeCount (x .tree) + nodeCount (y .tree) + 1) = omega arith in e3);

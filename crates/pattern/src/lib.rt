@@ -8,14 +8,18 @@ use marks::quantifier;
 use marks::skip;
 use nodes::Node;
 use nodes::Sort;
+use nodes::node_at;
 use nodes::put_node;
 ghost use mathlib.Core.Path.{_≡_};
 ghost use Prim.Native.Nat.{ℕ, _+_, _*_, _-_, _≤_, _<_, max, min};
 ghost use mathlib.Core.Bool.{true, false};
 ghost use lib.ListN.{length};
-ghost use Rattle.rules.specs.Language.{Rank};
+ghost use Rattle.rules.specs.Language.{Rank, Tree};
+ghost use Rattle.rules.specs.Reader.{ended};
 ghost use Rattle.nodes.specs.Nodes.{putNode};
-ghost use Rattle.pattern.specs.Written.{plain, FitsHead, Finished, Joins, Joined, SkipTo, EmptyIs, ShutNeeds, ShutIs, Fits, Reads, ReadsHead, SimpleSays, Holding, TextSays, InOrder, roundsOf};
+ghost use Rattle.pattern.specs.Held.{Top, At};
+ghost use Rattle.pattern.specs.Chain.{Chained, JoinedAll};
+ghost use Rattle.pattern.specs.Written.{nodeCount, plain, FitsHead, Finished, Joins, Joined, SkipTo, EmptyIs, ShutNeeds, ShutIs, Fits, Reads, ReadsHead, SimpleSays, Holding, TextSays, InOrder, roundsOf};
 
 // What a reader answers: whether it read, where it ended or stopped, how many nodes there are then (its own is the last), its height, its
 // places counted up to 257, without the fork of an alternation, and 1 for that fork.
@@ -266,56 +270,106 @@ fn shut_group(text: &[u8], p: Step) -> Head
     }
 }
 
-// pattern: branch, or branch | pattern
+// Whether a branch ends before the byte y; 0 stands for the text's end.
+fn ends(y: u8) -> bool
+    ensures { λ r. ⌜ r ≡ ended y ⌝ }
+{
+    if y == 0 {
+        return true;
+    }
+    if y == b'|' {
+        return true;
+    }
+    y == b')'
+}
+
+// The first node of the tree at i: its parts' nodes stand before its own, the left part's first.
+fn first_node(room: &[u16], i: usize) -> usize
+    requires { ⌜ At (now room) i ⌝ }
+    ensures { λ r. ⌜ ((p : Tree Rank.pattern) → Top p i (now (room .entry)) → r + nodeCount p ≡ i + 1) ⌝ }
+{
+    let n = node_at(room, i);
+    let sort = n.sort;
+    let left = n.left;
+    match sort {
+        Sort::Letter(_) => i,
+        Sort::Anchor(_) => i,
+        Sort::Empty => i,
+        Sort::Sequence => first_node(room, left),
+        Sort::Alternation => first_node(room, left),
+        Sort::Group => first_node(room, left),
+    }
+}
+
+// The sequence (forks 0) or alternation (forks 1) of parts whose nodes stand from `first` up to `end`, and of one more part behind them: a node
+// for each, from the last on.
+fn chain(room: &mut [u16], sort: Sort, forks: usize, first: usize, end: usize, last: Step) -> Step
+    requires { ⌜ Chained (now room) first end last ⌝ }
+    ensures { λ r. ⌜ ((h : Chained (now (room .entry)) first end last) → JoinedAll sort forks (h .parts) end (now (room .entry)) last (now (room .exit)) r) ⌝ }
+{
+    let mut to = end;
+    let mut all = last;
+    while first < to {
+        let top = to - 1;
+        let n = node_at(room, top);
+        let part = Step {
+            ok: true,
+            at: 0,
+            count: to,
+            height: n.height,
+            places: n.places,
+            forks: 0,
+        };
+        let from = first_node(room, top);
+        all = join(room, sort, forks, part, all);
+        to = from;
+    }
+    all
+}
+
+// pattern: branch, or branch | pattern. As for a branch.
 fn pattern(text: &[u8], at: usize, room: &mut [u16], count: usize) -> Step
     requires { ⌜ Fits (now text) at (now room) count ⌝ }
     ensures { λ r. ⌜ Reads Rank.pattern (now (text .entry)) at count (now (room .entry)) (now (room .exit)) r ⌝ }
 {
-    let b = branch(text, at, room, count);
-    let ok = b.ok;
-    if !ok {
-        return b;
+    let mut from = at;
+    let mut end = count;
+    loop {
+        let b = branch(text, from, room, end);
+        let ok = b.ok;
+        if !ok {
+            return b;
+        }
+        let to = b.at;
+        if peek(text, to) != b'|' {
+            return chain(room, Sort::Alternation, 1, count, end, b);
+        }
+        from = after(text, to);
+        end = b.count;
     }
-    let to = b.at;
-    if peek(text, to) != b'|' {
-        return b;
-    }
-    let from = after(text, to);
-    let more = pattern(text, from, room, b.count);
-    let more_ok = more.ok;
-    if !more_ok {
-        return more;
-    }
-    join(room, Sort::Alternation, 1, b, more)
 }
 
-// branch: factor, or factor branch
+// branch: factor, or factor branch. A loop reads the factors, and another one joins them from the last on, so that a long sequence takes no
+// more stack than a short one.
 fn branch(text: &[u8], at: usize, room: &mut [u16], count: usize) -> Step
     requires { ⌜ Fits (now text) at (now room) count ⌝ }
     ensures { λ r. ⌜ Reads Rank.branch (now (text .entry)) at count (now (room .entry)) (now (room .exit)) r ⌝ }
 {
-    let f = factor(text, at, room, count);
-    let ok = f.ok;
-    if !ok {
-        return f;
+    let mut from = at;
+    let mut end = count;
+    loop {
+        let f = factor(text, from, room, end);
+        let ok = f.ok;
+        if !ok {
+            return f;
+        }
+        let to = f.at;
+        if ends(peek(text, to)) {
+            return chain(room, Sort::Sequence, 0, count, end, f);
+        }
+        from = to;
+        end = f.count;
     }
-    let to = f.at;
-    let y = peek(text, to);
-    if y == 0 {
-        return f;
-    }
-    if y == b'|' {
-        return f;
-    }
-    if y == b')' {
-        return f;
-    }
-    let more = branch(text, to, room, f.count);
-    let more_ok = more.ok;
-    if !more_ok {
-        return more;
-    }
-    join(room, Sort::Sequence, 0, f, more)
 }
 
 // factor: primary, and at most one quantifier

@@ -1,6 +1,9 @@
 -- The functions `branch`, `factor`, `pattern`, `primary` of pattern, which call each other, meet their contracts.
--- The measure: four times the bytes of text left, and a rank for each reader. Laws: ReaderLaws.
-use Rattle.pattern.proofs.ReaderLaws.{before-end, pattern-fails, pattern-ends, pattern-again, pattern-more-fails, pattern-joins, pattern-more, branch-fails, branch-ends-none, branch-ends-bar, branch-ends-shut, branch-again, branch-joins, branch-more-fails, branch-more, factor-fails, factor-fits, factor-ends, primary-simple, primary-empty, primary-again, primary-needs, primary-group}
+-- The measure: four times the bytes of text left, and a rank for each reader. Invariants of the loops over parts: Begun. Laws: ReaderLaws, ChainLaws.
+use Rattle.pattern.proofs.ReaderLaws.{before-end, factor-fails, factor-fits, factor-ends, primary-simple, primary-empty, primary-again, primary-needs, primary-group}
+use Rattle.pattern.proofs.ChainLaws.{Begun, begun-none, begun-fits, begun-length, begun-chained, branch-unread, branch-whole, branch-less, branch-again, pattern-unread, pattern-whole, pattern-less, pattern-again}
+use Rattle.nodes.specs.declared.Sort.the-variants.{Sequence, Alternation}
+use Rattle.rules.specs.Language as language
 use borrow.Author.Tests.{not-true, not-false}
 use native.Mathlib.Omega.{arith}
 use lib.ListN.{length}
@@ -22,15 +25,16 @@ use Rattle.pattern.proofs.primary.Reads as primary
 use Rattle.pattern.proofs.primary.Kinds as primary-kinds
 use Rattle.pattern.proofs.+branch+factor+pattern+primary.Lts-primary as primary-lts
 use Rattle.marks.proofs.peek.Reads as peek-reads
+use Rattle.pattern.proofs.after.Reads as after-reads
+use Rattle.pattern.proofs.chain.Reads as chain-reads
+use Rattle.pattern.proofs.empty_head.Reads as empty-head-reads
+use Rattle.pattern.proofs.ends.Reads as ends-reads
 use Rattle.pattern.proofs.finish.Reads as finish-reads
-use Rattle.pattern.proofs.join.Reads as join-reads
 use Rattle.pattern.proofs.no_step.Reads as no-step-reads
+use Rattle.pattern.proofs.shut_group.Reads as shut-group-reads
 use Rattle.pattern.proofs.simple.Reads as simple-reads
 use Rattle.pattern.proofs.+branch+factor+pattern+primary.{statement}
 use Rattle.pattern.proofs.+branch+factor+pattern+primary.Tie.{close}
-use Rattle.pattern.proofs.after.Reads as after-reads
-use Rattle.pattern.proofs.empty_head.Reads as empty-head-reads
-use Rattle.pattern.proofs.shut_group.Reads as shut-group-reads
 
 abbrev μ-branch : Measures 2 branch-kinds.ps ℕ
 μ-branch κs a = 4 * (length (a .0 .now) - a .1 .0) + 2
@@ -68,200 +72,156 @@ primary-at t = and 2 primary-kinds.ps (is 2 primary-kinds.ps μ-primary t) prima
 abbrev primary-below : ℕ → In 2 primary-kinds.ps
 primary-below t = and 2 primary-kinds.ps (falls 2 primary-kinds.ps _<_ μ-primary t) primary.Pre
 
+abbrev branch-Inv-loop : branch-lts.InvT-loop
+branch-Inv-loop text at room₀ count from₀ end₀ room from end = Begun language.branch text at count room₀ Sequence 0 from end room
+
+abbrev branch-μ-loop : branch-lts.MeasureT-loop
+branch-μ-loop text at room₀ count from₀ end₀ room from end = length text - from
+
+branch-loop-holds : (t : ℕ) → branch-lts.Need-loop-holds (
+  factor-below t,
+  factor.Post,
+  peek-reads.Asked,
+  peek-reads.Learnt,
+  ends-reads.Asked,
+  ends-reads.Learnt,
+  chain-reads.Asked,
+  chain-reads.Learnt,
+) (branch-at t) branch.Post branch-Inv-loop branch-μ-loop
+branch-loop-holds t c = begun-none _ _ _ _ _ _ _ (c .before .before .pre .1)
+
 branch-factor-requires : (t : ℕ) → branch-lts.Need-factor-requires (
   factor-below t,
   factor.Post,
   peek-reads.Asked,
   peek-reads.Learnt,
-  branch-below t,
-  branch.Post,
-  join-reads.Asked,
-  join-reads.Learnt,
-) (branch-at t) branch.Post
-branch-factor-requires t c κs = search needs
+  ends-reads.Asked,
+  ends-reads.Learnt,
+  chain-reads.Asked,
+  chain-reads.Learnt,
+) (branch-at t) branch.Post branch-Inv-loop branch-μ-loop
+branch-factor-requires t c κs = (
+  omega (arith, (c .before .loop .inv .on), (c .before .loop .inv .in-text), (c .before .before .before .before .pre .0)),
+  begun-fits
+      _ _ _ _ _ _ _ _ _ _ (c .before .loop .inv),
+)
 
 branch-same-length : (t : ℕ) → branch-lts.Need-same-length (
   factor-below t,
   factor.Post,
   peek-reads.Asked,
   peek-reads.Learnt,
-  branch-below t,
-  branch.Post,
-  join-reads.Asked,
-  join-reads.Learnt,
-) (branch-at t) branch.Post
-branch-same-length t c = search needs
+  ends-reads.Asked,
+  ends-reads.Learnt,
+  chain-reads.Asked,
+  chain-reads.Learnt,
+) (branch-at t) branch.Post branch-Inv-loop branch-μ-loop
+branch-same-length t c = begun-length _ _ _ _ _ _ _ _ _ _ (c .before .before .before .before .before .loop .inv) _ _ _ (c .before .before .before .factor .ensures)
 
 branch-returns : (t : ℕ) → branch-lts.Need-returns (
   factor-below t,
   factor.Post,
   peek-reads.Asked,
   peek-reads.Learnt,
-  branch-below t,
-  branch.Post,
-  join-reads.Asked,
-  join-reads.Learnt,
-) (branch-at t) branch.Post
-branch-returns t c = search (needs, branch-fails, not-true)
+  ends-reads.Asked,
+  ends-reads.Learnt,
+  chain-reads.Asked,
+  chain-reads.Learnt,
+) (branch-at t) branch.Post branch-Inv-loop branch-μ-loop
+branch-returns t c = branch-unread _ _ _ _ _ _ _ (c .before .before .before .before .before .loop .inv) _ _ (c .before .before .before .factor .ensures)
+    (not-true _ (c .if1 .taken))
 
 branch-peek-requires : (t : ℕ) → branch-lts.Need-peek-requires (
   factor-below t,
   factor.Post,
   peek-reads.Asked,
   peek-reads.Learnt,
-  branch-below t,
-  branch.Post,
-  join-reads.Asked,
-  join-reads.Learnt,
-) (branch-at t) branch.Post
+  ends-reads.Asked,
+  ends-reads.Learnt,
+  chain-reads.Asked,
+  chain-reads.Learnt,
+) (branch-at t) branch.Post branch-Inv-loop branch-μ-loop
 branch-peek-requires t c κs = search needs
+
+branch-ends-requires : (t : ℕ) → branch-lts.Need-ends-requires (
+  factor-below t,
+  factor.Post,
+  peek-reads.Asked,
+  peek-reads.Learnt,
+  ends-reads.Asked,
+  ends-reads.Learnt,
+  chain-reads.Asked,
+  chain-reads.Learnt,
+) (branch-at t) branch.Post branch-Inv-loop branch-μ-loop
+branch-ends-requires t c κs = search needs
+
+branch-chain-requires : (t : ℕ) → branch-lts.Need-chain-requires (
+  factor-below t,
+  factor.Post,
+  peek-reads.Asked,
+  peek-reads.Learnt,
+  ends-reads.Asked,
+  ends-reads.Learnt,
+  chain-reads.Asked,
+  chain-reads.Learnt,
+) (branch-at t) branch.Post branch-Inv-loop branch-μ-loop
+branch-chain-requires t c κs = begun-chained _ _ _ _ _ _ _ _ _ _ (c .before .before .before .before .before .before .before .before .before .loop .inv) _ _ _
+    (c .before .before .before .before .before .before .before .factor .ensures) (not-false _ (c .before .before .before .before .if1 .left))
 
 branch-same-length-2 : (t : ℕ) → branch-lts.Need-same-length-2 (
   factor-below t,
   factor.Post,
   peek-reads.Asked,
   peek-reads.Learnt,
-  branch-below t,
-  branch.Post,
-  join-reads.Asked,
-  join-reads.Learnt,
-) (branch-at t) branch.Post
-branch-same-length-2 t c = search needs
+  ends-reads.Asked,
+  ends-reads.Learnt,
+  chain-reads.Asked,
+  chain-reads.Learnt,
+) (branch-at t) branch.Post branch-Inv-loop branch-μ-loop
+branch-same-length-2 t c = search (needs, begun-length)
 
 branch-returns-2 : (t : ℕ) → branch-lts.Need-returns-2 (
   factor-below t,
   factor.Post,
   peek-reads.Asked,
   peek-reads.Learnt,
-  branch-below t,
-  branch.Post,
-  join-reads.Asked,
-  join-reads.Learnt,
-) (branch-at t) branch.Post
-branch-returns-2 t c = search (needs, branch-ends-none, not-false)
+  ends-reads.Asked,
+  ends-reads.Learnt,
+  chain-reads.Asked,
+  chain-reads.Learnt,
+) (branch-at t) branch.Post branch-Inv-loop branch-μ-loop
+branch-returns-2 t c = branch-whole _ _ _ _ _ _ _ (c .before .before .before .before .before .before .before .before .before .before .before .before .loop .inv) _ _
+    (c .before .before .before .before .before .before .before .before .before .before .factor .ensures)
+    (not-false _ (c .before .before .before .before .before .before .before .if1 .left)) _ (c .before .before .before .before .before .before .peek .ensures) _
+    (c .before .before .before .before .before .ends .ensures) (c .before .before .before .before .if2 .taken) _ _ (c .before .before .chain .ensures)
 
-branch-same-length-3 : (t : ℕ) → branch-lts.Need-same-length-3 (
+branch-loop-less : (t : ℕ) → branch-lts.Need-loop-less (
   factor-below t,
   factor.Post,
   peek-reads.Asked,
   peek-reads.Learnt,
-  branch-below t,
-  branch.Post,
-  join-reads.Asked,
-  join-reads.Learnt,
-) (branch-at t) branch.Post
-branch-same-length-3 t c = search needs
+  ends-reads.Asked,
+  ends-reads.Learnt,
+  chain-reads.Asked,
+  chain-reads.Learnt,
+) (branch-at t) branch.Post branch-Inv-loop branch-μ-loop
+branch-loop-less t c = branch-less _ _ _ _ _ _ _ (c .before .before .before .before .before .before .before .before .loop .inv) _ _
+    (c .before .before .before .before .before .before .factor .ensures) (not-false _ (c .before .before .before .if1 .left)) _ (c .before .before .peek .ensures) _
+    (c .before .ends .ensures)
 
-branch-returns-3 : (t : ℕ) → branch-lts.Need-returns-3 (
+branch-loop-again : (t : ℕ) → branch-lts.Need-loop-again (
   factor-below t,
   factor.Post,
   peek-reads.Asked,
   peek-reads.Learnt,
-  branch-below t,
-  branch.Post,
-  join-reads.Asked,
-  join-reads.Learnt,
-) (branch-at t) branch.Post
-branch-returns-3 t c = search (needs, branch-ends-bar, not-false)
-
-branch-same-length-4 : (t : ℕ) → branch-lts.Need-same-length-4 (
-  factor-below t,
-  factor.Post,
-  peek-reads.Asked,
-  peek-reads.Learnt,
-  branch-below t,
-  branch.Post,
-  join-reads.Asked,
-  join-reads.Learnt,
-) (branch-at t) branch.Post
-branch-same-length-4 t c = search needs
-
-branch-returns-4 : (t : ℕ) → branch-lts.Need-returns-4 (
-  factor-below t,
-  factor.Post,
-  peek-reads.Asked,
-  peek-reads.Learnt,
-  branch-below t,
-  branch.Post,
-  join-reads.Asked,
-  join-reads.Learnt,
-) (branch-at t) branch.Post
-branch-returns-4 t c = search (needs, branch-ends-shut, not-false)
-
-branch-branch-requires : (t : ℕ) → branch-lts.Need-branch-requires (
-  factor-below t,
-  factor.Post,
-  peek-reads.Asked,
-  peek-reads.Learnt,
-  branch-below t,
-  branch.Post,
-  join-reads.Asked,
-  join-reads.Learnt,
-) (branch-at t) branch.Post
-branch-branch-requires t c κs = branch-again _ _ _ _ _ _ (c .before .before .before .before .before .before .before .before .factor .ensures) _
-    (c .before .before .before .before .before .before .before .before .before .before .before .before .pre .0)
-    (c .before .before .before .before .before .before .before .before .before .before .before .before .pre .1)
-    (not-false _ (c .before .before .before .before .before .if1 .left))
-
-branch-same-length-5 : (t : ℕ) → branch-lts.Need-same-length-5 (
-  factor-below t,
-  factor.Post,
-  peek-reads.Asked,
-  peek-reads.Learnt,
-  branch-below t,
-  branch.Post,
-  join-reads.Asked,
-  join-reads.Learnt,
-) (branch-at t) branch.Post
-branch-same-length-5 t c = search needs
-
-branch-returns-5 : (t : ℕ) → branch-lts.Need-returns-5 (
-  factor-below t,
-  factor.Post,
-  peek-reads.Asked,
-  peek-reads.Learnt,
-  branch-below t,
-  branch.Post,
-  join-reads.Asked,
-  join-reads.Learnt,
-) (branch-at t) branch.Post
-branch-returns-5 t c = search (needs, branch-more-fails, not-true, not-false)
-
-branch-join-requires : (t : ℕ) → branch-lts.Need-join-requires (
-  factor-below t,
-  factor.Post,
-  peek-reads.Asked,
-  peek-reads.Learnt,
-  branch-below t,
-  branch.Post,
-  join-reads.Asked,
-  join-reads.Learnt,
-) (branch-at t) branch.Post
-branch-join-requires t c κs = search (needs, branch-joins, not-false)
-
-branch-same-length-6 : (t : ℕ) → branch-lts.Need-same-length-6 (
-  factor-below t,
-  factor.Post,
-  peek-reads.Asked,
-  peek-reads.Learnt,
-  branch-below t,
-  branch.Post,
-  join-reads.Asked,
-  join-reads.Learnt,
-) (branch-at t) branch.Post
-branch-same-length-6 t c = search needs
-
-branch-returns-6 : (t : ℕ) → branch-lts.Need-returns-6 (
-  factor-below t,
-  factor.Post,
-  peek-reads.Asked,
-  peek-reads.Learnt,
-  branch-below t,
-  branch.Post,
-  join-reads.Asked,
-  join-reads.Learnt,
-) (branch-at t) branch.Post
-branch-returns-6 t c = search (needs, branch-more, not-false)
+  ends-reads.Asked,
+  ends-reads.Learnt,
+  chain-reads.Asked,
+  chain-reads.Learnt,
+) (branch-at t) branch.Post branch-Inv-loop branch-μ-loop
+branch-loop-again t c = branch-again _ _ _ _ _ _ _ (c .before .before .before .before .before .before .before .before .loop .inv) _ _
+    (c .before .before .before .before .before .before .factor .ensures) (not-false _ (c .before .before .before .if1 .left)) _ (c .before .before .peek .ensures) _
+    (c .before .ends .ensures) (c .if2 .left)
 
 factor-primary-requires : (t : ℕ) → factor-lts.Need-primary-requires (
   primary-below t,
@@ -333,195 +293,155 @@ factor-returns-2 : (t : ℕ) → factor-lts.Need-returns-2 (
 ) (factor-at t) factor.Post
 factor-returns-2 t c = search (needs, factor-ends, not-false)
 
+abbrev pattern-Inv-loop : pattern-lts.InvT-loop
+pattern-Inv-loop text at room₀ count from₀ end₀ room from end = Begun language.pattern text at count room₀ Alternation 1 from end room
+
+abbrev pattern-μ-loop : pattern-lts.MeasureT-loop
+pattern-μ-loop text at room₀ count from₀ end₀ room from end = length text - from
+
+pattern-loop-holds : (t : ℕ) → pattern-lts.Need-loop-holds (
+  branch-below t,
+  branch.Post,
+  peek-reads.Asked,
+  peek-reads.Learnt,
+  chain-reads.Asked,
+  chain-reads.Learnt,
+  after-reads.Asked,
+  after-reads.Learnt,
+) (pattern-at t) pattern.Post pattern-Inv-loop pattern-μ-loop
+pattern-loop-holds t c = begun-none _ _ _ _ _ _ _ (c .before .before .pre .1)
+
 pattern-branch-requires : (t : ℕ) → pattern-lts.Need-branch-requires (
   branch-below t,
   branch.Post,
   peek-reads.Asked,
   peek-reads.Learnt,
+  chain-reads.Asked,
+  chain-reads.Learnt,
   after-reads.Asked,
   after-reads.Learnt,
-  pattern-below t,
-  pattern.Post,
-  join-reads.Asked,
-  join-reads.Learnt,
-) (pattern-at t) pattern.Post
-pattern-branch-requires t c κs = search needs
+) (pattern-at t) pattern.Post pattern-Inv-loop pattern-μ-loop
+pattern-branch-requires t c κs = (
+  omega (arith, (c .before .loop .inv .on), (c .before .loop .inv .in-text), (c .before .before .before .before .pre .0)),
+  begun-fits _ _ _ _ _ _ _ _ _ _ (c .before .loop .inv),
+)
 
 pattern-same-length : (t : ℕ) → pattern-lts.Need-same-length (
   branch-below t,
   branch.Post,
   peek-reads.Asked,
   peek-reads.Learnt,
+  chain-reads.Asked,
+  chain-reads.Learnt,
   after-reads.Asked,
   after-reads.Learnt,
-  pattern-below t,
-  pattern.Post,
-  join-reads.Asked,
-  join-reads.Learnt,
-) (pattern-at t) pattern.Post
-pattern-same-length t c = search needs
+) (pattern-at t) pattern.Post pattern-Inv-loop pattern-μ-loop
+pattern-same-length t c = begun-length _ _ _ _ _ _ _ _ _ _ (c .before .before .before .before .before .loop .inv) _ _ _ (c .before .before .before .branch .ensures)
 
 pattern-returns : (t : ℕ) → pattern-lts.Need-returns (
   branch-below t,
   branch.Post,
   peek-reads.Asked,
   peek-reads.Learnt,
+  chain-reads.Asked,
+  chain-reads.Learnt,
   after-reads.Asked,
   after-reads.Learnt,
-  pattern-below t,
-  pattern.Post,
-  join-reads.Asked,
-  join-reads.Learnt,
-) (pattern-at t) pattern.Post
-pattern-returns t c = search (needs, pattern-fails, not-true)
+) (pattern-at t) pattern.Post pattern-Inv-loop pattern-μ-loop
+pattern-returns t c = pattern-unread _ _ _ _ _ _ _ (c .before .before .before .before .before .loop .inv) _ _ (c .before .before .before .branch .ensures)
+    (not-true _ (c .if1 .taken))
 
 pattern-peek-requires : (t : ℕ) → pattern-lts.Need-peek-requires (
   branch-below t,
   branch.Post,
   peek-reads.Asked,
   peek-reads.Learnt,
+  chain-reads.Asked,
+  chain-reads.Learnt,
   after-reads.Asked,
   after-reads.Learnt,
-  pattern-below t,
-  pattern.Post,
-  join-reads.Asked,
-  join-reads.Learnt,
-) (pattern-at t) pattern.Post
+) (pattern-at t) pattern.Post pattern-Inv-loop pattern-μ-loop
 pattern-peek-requires t c κs = search needs
+
+pattern-chain-requires : (t : ℕ) → pattern-lts.Need-chain-requires (
+  branch-below t,
+  branch.Post,
+  peek-reads.Asked,
+  peek-reads.Learnt,
+  chain-reads.Asked,
+  chain-reads.Learnt,
+  after-reads.Asked,
+  after-reads.Learnt,
+) (pattern-at t) pattern.Post pattern-Inv-loop pattern-μ-loop
+pattern-chain-requires t c κs = begun-chained _ _ _ _ _ _ _ _ _ _ (c .before .before .before .before .before .before .before .before .loop .inv) _ _ _
+    (c .before .before .before .before .before .before .branch .ensures) (not-false _ (c .before .before .before .if1 .left))
 
 pattern-same-length-2 : (t : ℕ) → pattern-lts.Need-same-length-2 (
   branch-below t,
   branch.Post,
   peek-reads.Asked,
   peek-reads.Learnt,
+  chain-reads.Asked,
+  chain-reads.Learnt,
   after-reads.Asked,
   after-reads.Learnt,
-  pattern-below t,
-  pattern.Post,
-  join-reads.Asked,
-  join-reads.Learnt,
-) (pattern-at t) pattern.Post
-pattern-same-length-2 t c = search needs
+) (pattern-at t) pattern.Post pattern-Inv-loop pattern-μ-loop
+pattern-same-length-2 t c = search (needs, begun-length)
 
 pattern-returns-2 : (t : ℕ) → pattern-lts.Need-returns-2 (
   branch-below t,
   branch.Post,
   peek-reads.Asked,
   peek-reads.Learnt,
+  chain-reads.Asked,
+  chain-reads.Learnt,
   after-reads.Asked,
   after-reads.Learnt,
-  pattern-below t,
-  pattern.Post,
-  join-reads.Asked,
-  join-reads.Learnt,
-) (pattern-at t) pattern.Post
-pattern-returns-2 t c = search (needs, pattern-ends, not-false)
+) (pattern-at t) pattern.Post pattern-Inv-loop pattern-μ-loop
+pattern-returns-2 t c = pattern-whole _ _ _ _ _ _ _ (c .before .before .before .before .before .before .before .before .before .before .before .loop .inv) _ _
+    (c .before .before .before .before .before .before .before .before .before .branch .ensures)
+    (not-false _ (c .before .before .before .before .before .before .if1 .left)) _ (c .before .before .before .before .before .peek .ensures)
+    (c .before .before .before .before .if2 .taken) _ _ (c .before .before .chain .ensures)
 
 pattern-after-requires : (t : ℕ) → pattern-lts.Need-after-requires (
   branch-below t,
   branch.Post,
   peek-reads.Asked,
   peek-reads.Learnt,
+  chain-reads.Asked,
+  chain-reads.Learnt,
   after-reads.Asked,
   after-reads.Learnt,
-  pattern-below t,
-  pattern.Post,
-  join-reads.Asked,
-  join-reads.Learnt,
-) (pattern-at t) pattern.Post
+) (pattern-at t) pattern.Post pattern-Inv-loop pattern-μ-loop
 pattern-after-requires t c κs = before-end _ _ _ _ (c .before .peek .ensures) (c .if2 .left) (omega arith)
 
-pattern-pattern-requires : (t : ℕ) → pattern-lts.Need-pattern-requires (
+pattern-loop-less : (t : ℕ) → pattern-lts.Need-loop-less (
   branch-below t,
   branch.Post,
   peek-reads.Asked,
   peek-reads.Learnt,
+  chain-reads.Asked,
+  chain-reads.Learnt,
   after-reads.Asked,
   after-reads.Learnt,
-  pattern-below t,
-  pattern.Post,
-  join-reads.Asked,
-  join-reads.Learnt,
-) (pattern-at t) pattern.Post
-pattern-pattern-requires t c κs = pattern-again _ _ _ _ _ _ (c .before .before .before .before .before .before .before .branch .ensures) _
-    (c .before .before .before .peek .ensures) (not-false _ (c .before .before .before .before .if1 .left)) (c .before .before .if2 .left) _ (c .before .after .ensures) _
-    (c .before .before .before .before .before .before .before .before .before .before .before .pre .0)
-    (c .before .before .before .before .before .before .before .before .before .before .before .pre .1)
+) (pattern-at t) pattern.Post pattern-Inv-loop pattern-μ-loop
+pattern-loop-less t c = pattern-less _ _ _ _ _ _ _ (c .before .before .before .before .before .before .before .before .loop .inv) _ _
+    (c .before .before .before .before .before .before .branch .ensures) (not-false _ (c .before .before .before .if1 .left)) _ (c .before .before .peek .ensures) _
+    (c .after .ensures)
 
-pattern-same-length-3 : (t : ℕ) → pattern-lts.Need-same-length-3 (
+pattern-loop-again : (t : ℕ) → pattern-lts.Need-loop-again (
   branch-below t,
   branch.Post,
   peek-reads.Asked,
   peek-reads.Learnt,
+  chain-reads.Asked,
+  chain-reads.Learnt,
   after-reads.Asked,
   after-reads.Learnt,
-  pattern-below t,
-  pattern.Post,
-  join-reads.Asked,
-  join-reads.Learnt,
-) (pattern-at t) pattern.Post
-pattern-same-length-3 t c = search needs
-
-pattern-returns-3 : (t : ℕ) → pattern-lts.Need-returns-3 (
-  branch-below t,
-  branch.Post,
-  peek-reads.Asked,
-  peek-reads.Learnt,
-  after-reads.Asked,
-  after-reads.Learnt,
-  pattern-below t,
-  pattern.Post,
-  join-reads.Asked,
-  join-reads.Learnt,
-) (pattern-at t) pattern.Post
-pattern-returns-3 t c = search (needs, pattern-more-fails, not-true, not-false)
-
-pattern-join-requires : (t : ℕ) → pattern-lts.Need-join-requires (
-  branch-below t,
-  branch.Post,
-  peek-reads.Asked,
-  peek-reads.Learnt,
-  after-reads.Asked,
-  after-reads.Learnt,
-  pattern-below t,
-  pattern.Post,
-  join-reads.Asked,
-  join-reads.Learnt,
-) (pattern-at t) pattern.Post
-pattern-join-requires t c κs = pattern-joins _ _ _ _ _ _ (c .before .before .before .before .before .before .before .before .before .before .before .before .branch .ensures) _
-    (c .before .before .before .before .before .before .before .before .peek .ensures) (not-false _
-    (c .before .before .before .before .before .before .before .before .before .if1 .left)) (c .before .before .before .before .before .before .before .if2 .left) _
-    (c .before .before .before .before .before .before .after .ensures) _ _ (c .before .before .before .before .pattern .ensures)
-    (c .before .before .before .before .before .before .before .before .before .before .before .before .before .before .before .before .pre .1)
-    (not-false _ (c .before .if3 .left))
-
-pattern-same-length-4 : (t : ℕ) → pattern-lts.Need-same-length-4 (
-  branch-below t,
-  branch.Post,
-  peek-reads.Asked,
-  peek-reads.Learnt,
-  after-reads.Asked,
-  after-reads.Learnt,
-  pattern-below t,
-  pattern.Post,
-  join-reads.Asked,
-  join-reads.Learnt,
-) (pattern-at t) pattern.Post
-pattern-same-length-4 t c = search needs
-
-pattern-returns-4 : (t : ℕ) → pattern-lts.Need-returns-4 (
-  branch-below t,
-  branch.Post,
-  peek-reads.Asked,
-  peek-reads.Learnt,
-  after-reads.Asked,
-  after-reads.Learnt,
-  pattern-below t,
-  pattern.Post,
-  join-reads.Asked,
-  join-reads.Learnt,
-) (pattern-at t) pattern.Post
-pattern-returns-4 t c = search (needs, pattern-more, not-false)
+) (pattern-at t) pattern.Post pattern-Inv-loop pattern-μ-loop
+pattern-loop-again t c = pattern-again _ _ _ _ _ _ _ (c .before .before .before .before .before .before .before .before .loop .inv) _ _
+    (c .before .before .before .before .before .before .branch .ensures) (not-false _ (c .before .before .before .if1 .left)) _ (c .before .before .peek .ensures)
+    (c .before .if2 .left) _ (c .after .ensures)
 
 primary-peek-requires : (t : ℕ) → primary-lts.Need-peek-requires (
   peek-reads.Asked,
@@ -706,29 +626,26 @@ pub +branch+factor+pattern+primary-spec : {M : Type 1} → statement M
       factor.Post,
       peek-reads.Asked,
       peek-reads.Learnt,
-      branch-below t,
-      branch.Post,
-      join-reads.Asked,
-      join-reads.Learnt,
+      ends-reads.Asked,
+      ends-reads.Learnt,
+      chain-reads.Asked,
+      chain-reads.Learnt,
     )
     (branch-at t)
     branch.Post
+    branch-Inv-loop
+    branch-μ-loop
+    (branch-loop-holds t)
     (branch-factor-requires t)
     (branch-same-length t)
     (branch-returns t)
     (branch-peek-requires t)
+    (branch-ends-requires t)
+    (branch-chain-requires t)
     (branch-same-length-2 t)
     (branch-returns-2 t)
-    (branch-same-length-3 t)
-    (branch-returns-3 t)
-    (branch-same-length-4 t)
-    (branch-returns-4 t)
-    (branch-branch-requires t)
-    (branch-same-length-5 t)
-    (branch-returns-5 t)
-    (branch-join-requires t)
-    (branch-same-length-6 t)
-    (branch-returns-6 t))
+    (branch-loop-less t)
+    (branch-loop-again t))
     (λ t. factor-lts.spec (
       primary-below t,
       primary.Post,
@@ -751,28 +668,26 @@ pub +branch+factor+pattern+primary-spec : {M : Type 1} → statement M
       branch.Post,
       peek-reads.Asked,
       peek-reads.Learnt,
+      chain-reads.Asked,
+      chain-reads.Learnt,
       after-reads.Asked,
       after-reads.Learnt,
-      pattern-below t,
-      pattern.Post,
-      join-reads.Asked,
-      join-reads.Learnt,
     )
     (pattern-at t)
     pattern.Post
+    pattern-Inv-loop
+    pattern-μ-loop
+    (pattern-loop-holds t)
     (pattern-branch-requires t)
     (pattern-same-length t)
     (pattern-returns t)
     (pattern-peek-requires t)
+    (pattern-chain-requires t)
     (pattern-same-length-2 t)
     (pattern-returns-2 t)
     (pattern-after-requires t)
-    (pattern-pattern-requires t)
-    (pattern-same-length-3 t)
-    (pattern-returns-3 t)
-    (pattern-join-requires t)
-    (pattern-same-length-4 t)
-    (pattern-returns-4 t))
+    (pattern-loop-less t)
+    (pattern-loop-again t))
     λ t. primary-lts.spec (
       peek-reads.Asked,
       peek-reads.Learnt,
