@@ -164,10 +164,6 @@ nothing-put : (T : List ℕ) (b w : ℕ) (pl : List Place) → length pl ≡ 0 �
 nothing-put T b w [] e = emitted-none T b w
 nothing-put T b w (p ∷ pl) e = absurd (omega arith)
 
-no-list : (pl : List Place) → length pl ≡ 0 → pl ≡ []
-no-list [] e = refl
-no-list (p ∷ pl) e = absurd (omega arith)
-
 low-pick : (t : Bool) (k b : ℕ) → k ≤ 256 → b ≤ 256 → pick t k b ≤ 256
 low-pick true k b h g = h
 low-pick false k b h g = g
@@ -234,30 +230,6 @@ module _ (s : List ℕ) (i : ℕ) (n : Node) (en : n ≡ nodeAt s i) (T : List �
 
     pub seq-mid : Emitting s i T b w k → Fits-in w64 (b + m)
     seq-mid h = let x = seq-parts _ refl (h .tree) (h .top) (h .fits) in record { fits = omega (arith, x .low) }
-
-    -- the first part has no places
-    module _ (z : b + m ≡ b) (h : Emitting s i T b w k) where
-      skipped : SeqParts (pick (eqb (b + m) (b + n .places)) k (b + m)) (h .tree)
-      skipped = seq-parts _ refl (h .tree) (h .top) (h .fits)
-
-      rest-only : treePlaces (h .tree) b k ≡ treePlaces (one (skipped .rest)) b k
-      rest-only =
-          let e1 : treePlaces (one (last (skipped .first))) b (pick (eqb (b + m) (b + n .places)) k (b + m)) ≡ [] = no-list _
-          (omega (arith, skipped .long)) in
-          skipped .split ∙ ap (λ (xs : List Place). xs ++ treePlaces (one (skipped .rest)) (b + m) k) e1
-          ∙ ap (λ (v : ℕ). treePlaces (one (skipped .rest)) v k) z
-
-      skip-emitting : Emitting s (n .right) T b w k
-      skip-emitting = record { tree = one (skipped .rest); top = skipped .right-top; fits = subst (Fitting T b w k) rest-only (h .fits) }
-
-      pub seq-skip : (u : ℕ) → emitM s i ≡ u → (emitM s (n .right) < u) × Emitting s (n .right) T b w k
-      unfolding emitM
-      seq-skip u eu = (omega (arith, (seq-right s i n en ((nodeAt s i) .height) refl (emit-at h) e) .0, alt-small ((nodeAt s (n .right)) .sort)), skip-emitting)
-
-      pub seq-skipped : (T2 : List ℕ) (q : ℕ) → ((g : Emitting s (n .right) T b w k) → Emitted T T2 b w q (treePlaces (g .tree) b k))
-          → Emitted T T2 b w q (treePlaces (h .tree) b k)
-      unfolding skip-emitting
-      seq-skipped T2 q g = subst (Emitted T T2 b w q) (sym rest-only) (g skip-emitting)
 
     module _ (nx : ℕ) (ex : nx ≡ pick (eqb (b + m) (b + n .places)) k (b + m)) (h : Emitting s i T b w k) where
       seq : SeqParts nx (h .tree)
@@ -616,9 +588,6 @@ module _ (s : List ℕ) (i c n m end : ℕ) (T : List ℕ) (b w k : ℕ) where
     pub copy-fits : Turning s i c n m end T b w k → Fits-in w64 (b + c)
     copy-fits h = record { fits = omega (arith, copy-low _ refl h) }
 
-    pub copy-less : Turning s i c n m end T b w k → 1 ≤ n
-    copy-less h = omega arith
-
   -- nothing is left
   pub none-done : n ≤ 0 → m ≡ 0 → (h : Turning s i c n m end T b w k) → Emitted T T b w w (turnPlaces n m (h .of) b k)
   none-done l e h =
@@ -809,9 +778,6 @@ module _ (s : List ℕ) (i c n m end : ℕ) (T : List ℕ) (b w k : ℕ) where
 
     pub option-more : Turning s i c n m end T b w k → Fits-in w64 (b + 1 + c)
     option-more h = record { fits = omega (arith, option-low _ refl h) }
-
-    pub option-less : Turning s i c n m end T b w k → 1 ≤ m
-    option-less h = omega (arith, suc-more h .0)
 
 -- ---- body
 

@@ -1,3 +1,4 @@
 pub mod CodeLaws
 pub mod EmitLaws
 pub mod UnrollLaws
+pub mod LoopLaws

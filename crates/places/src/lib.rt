@@ -84,37 +84,40 @@ fn put_simple(table: &mut [u16], b: usize, w: usize, sort: u16, letter: u16, k: 
     w
 }
 
-// The tree at i, its places numbered from b on and their ways from word w on, where k is the place behind it. A part without places is not walked
-// over.
+// The tree at i, its places numbered from b on and their ways from word w on, where k is the place behind it. The parts of a sequence are walked
+// over by a loop, as are branches and rounds below: only parentheses take stack.
 fn emit(room: &[u16], i: usize, table: &mut [u16], b: usize, w: usize, k: usize) -> usize
     requires { ⌜ Emitting (now room) i (now table) b w k ⌝ }
     ensures { λ r. ⌜ ((h : Emitting (now (room .entry)) i (now (table .entry)) b w k) → Emitted (now (table .entry)) (now (table .exit)) b w r (treePlaces (h .tree) b k)) ⌝ }
 {
-    let n = node_at(room, i);
-    let sort = n.sort;
-    let left = n.left;
-    let right = n.right;
-    let end = b + n.places;
-    if let Sort::Alternation = sort {
-        let inside = branch_fork(room, i, table, b, w, k);
-        return branches(room, i, table, b + 1, inside, k);
-    }
-    if end == b {
-        return w;
-    }
-    if let Sort::Sequence = sort {
-        let mid = b + places_at(room, left);
-        if mid == b {
-            return emit(room, right, table, b, w, k);
+    let mut node = i;
+    let mut from = b;
+    let mut way = w;
+    loop {
+        let n = node_at(room, node);
+        let sort = n.sort;
+        let left = n.left;
+        let right = n.right;
+        let end = from + n.places;
+        if let Sort::Alternation = sort {
+            let inside = branch_fork(room, node, table, from, way, k);
+            return branches(room, node, table, from + 1, inside, k);
         }
+        if end == from {
+            return way;
+        }
+        let Sort::Sequence = sort else {
+            let c = body_size(room, node);
+            let low = n.low;
+            let m = turns_behind(low, n.high);
+            return rounds(room, node, c, low, m, end, table, from, way, k);
+        };
+        let mid = from + places_at(room, left);
         let next = start_at(mid, end, k);
-        let then = emit(room, left, table, b, w, next);
-        return emit(room, right, table, mid, then, k);
+        way = emit(room, left, table, from, way, next);
+        from = mid;
+        node = right;
     }
-    let c = body_size(room, i);
-    let low = n.low;
-    let m = turns_behind(low, n.high);
-    rounds(room, i, c, low, m, end, table, b, w, k)
 }
 
 // The branches of the pattern at i; the fork of an alternation is there already.
@@ -122,19 +125,25 @@ fn branches(room: &[u16], i: usize, table: &mut [u16], b: usize, w: usize, k: us
     requires { ⌜ Branching (now room) i (now table) b w k ⌝ }
     ensures { λ r. ⌜ ((h : Branching (now (room .entry)) i (now (table .entry)) b w k) → Emitted (now (table .entry)) (now (table .exit)) b w r (branchPlaces (h .tree) b k)) ⌝ }
 {
-    let n = node_at(room, i);
-    let sort = n.sort;
-    let left = n.left;
-    let right = n.right;
-    if n.places == 0 {
-        return w;
+    let mut node = i;
+    let mut from = b;
+    let mut way = w;
+    loop {
+        let n = node_at(room, node);
+        let sort = n.sort;
+        let left = n.left;
+        let right = n.right;
+        if n.places == 0 {
+            return way;
+        }
+        let Sort::Alternation = sort else {
+            return emit(room, node, table, from, way, k);
+        };
+        way = emit(room, left, table, from, way, k);
+        let rest = from + places_at(room, left);
+        from = rest;
+        node = right;
     }
-    if let Sort::Alternation = sort {
-        let then = emit(room, left, table, b, w, k);
-        let rest = b + places_at(room, left);
-        return branches(room, right, table, rest, then, k);
-    }
-    emit(room, i, table, b, w, k)
 }
 
 // The body of the factor at i with c places: n copies, then m times a fork and a copy, or for m = 100 a fork and a copy that leads back to it.
@@ -154,29 +163,38 @@ fn rounds(
     requires { ⌜ Turning (now room) i c n m end (now table) b w k ⌝ }
     ensures { λ r. ⌜ ((h : Turning (now (room .entry)) i c n m end (now (table .entry)) b w k) → Emitted (now (table .entry)) (now (table .exit)) b w r (turnPlaces n m (h .of) b k)) ⌝ }
 {
-    if 0 < n {
-        let rest = b + c;
+    let mut copies = n;
+    let mut forks = m;
+    let mut from = b;
+    let mut way = w;
+    loop {
+        if 0 < copies {
+            let rest = from + c;
+            let next = start_at(rest, end, k);
+            way = body(room, i, table, from, way, next);
+            from = rest;
+            copies = copies - 1;
+            continue;
+        }
+        if forks == 0 {
+            return way;
+        }
+        let node = node_at(room, i);
+        let lazy = node.lazy;
+        let first = from + 1;
+        if forks == 100 {
+            let copy = start_at(first, end, from);
+            let inside = fork(table, from, way, lazy, copy, k);
+            return body(room, i, table, first, inside, from);
+        }
+        let copy = start_at(first, end, k);
+        let inside = fork(table, from, way, lazy, copy, k);
+        let rest = first + c;
         let next = start_at(rest, end, k);
-        let then = body(room, i, table, b, w, next);
-        return rounds(room, i, c, n - 1, m, end, table, rest, then, k);
+        way = body(room, i, table, first, inside, next);
+        from = rest;
+        forks = forks - 1;
     }
-    if m == 0 {
-        return w;
-    }
-    let node = node_at(room, i);
-    let lazy = node.lazy;
-    let first = b + 1;
-    if m == 100 {
-        let copy = start_at(first, end, b);
-        let inside = fork(table, b, w, lazy, copy, k);
-        return body(room, i, table, first, inside, b);
-    }
-    let copy = start_at(first, end, k);
-    let inside = fork(table, b, w, lazy, copy, k);
-    let rest = first + c;
-    let next = start_at(rest, end, k);
-    let then = body(room, i, table, first, inside, next);
-    rounds(room, i, c, 0, m - 1, end, table, rest, then, k)
 }
 
 // The body of the factor at i, once.

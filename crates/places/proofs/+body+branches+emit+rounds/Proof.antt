@@ -1,10 +1,13 @@
 -- The functions `body`, `branches`, `emit`, `rounds` of places, which call each other, meet their contracts.
--- The measure: first the node's height, then the function and the rounds left (EmitLaws, measures). Laws: ForkLaws, EmitLaws.
+-- The measure: first the node's height, then the function and the rounds left (EmitLaws, measures). Invariants of the loops: EmitLeft, BranchesLeft,
+-- RoundsLeft. Laws: ForkLaws, EmitLaws, LoopLaws.
 use Rattle.forks.proofs.ForkLaws.{not-sequence, not-alternation}
-use Rattle.places.proofs.EmitLaws.{emitM, branchM, roundM, bodyM, emitted-length, emit-in, emit-end, emit-none, seq-left-in, seq-mid, seq-skip, seq-skipped, seq-first, seq-second, seq-done, alt-forking, alt-first, alt-inside, alt-done, emit-node, turn-order, turn-first, turn-done, branches-in, branches-none, branch-left-in, branch-mid, branch-first, branch-second, branch-done, single-first, single-done, round-in, first-fits, copy-first, copy-again, copy-done, copy-fits, copy-less, none-done, star-choose, star-body, star-done, option-choose, option-body, option-again, option-done, option-more, option-less, body-in, letter-words, letter-done, anchor-words, anchor-done, empty-done, sequence-done, alternation-done, group-first, group-done}
+use Rattle.places.proofs.EmitLaws.{emitM, branchM, roundM, bodyM, emitted-length, body-in, letter-words, letter-done, anchor-words, anchor-done, empty-done, sequence-done, alternation-done, group-first, group-done}
+use Rattle.places.proofs.LoopLaws.{EmitLeft, BranchesLeft, RoundsLeft, body-lower, branches-start, emit-starts, left-again, left-alt, left-alt-length, left-down, left-end, left-first, left-first-less, left-forking, left-in, left-inside, left-inside-less, left-mid, left-node, left-none, left-none-length, left-one, left-order, left-part-in, left-turned, left-turned-length, left-turning, left-turning-less, others-again, others-down, others-ended, others-ended-length, others-first, others-first-less, others-in, others-mid, others-none, others-none-length, others-part-in, others-single, others-single-less, rounds-copied, rounds-copy, rounds-copy-fits, rounds-first, rounds-in, rounds-none, rounds-none-length, rounds-option, rounds-option-body, rounds-option-fits, rounds-optioned, rounds-star, rounds-star-body, rounds-starred, rounds-starred-length, rounds-start}
 use mathlib.Core.Path.{refl}
+use native.Mathlib.Omega.{arith}
 use borrow.Author.Needs.{needs}
-use Prim.Native.Nat.{ℕ, _<_}
+use Prim.Native.Nat.{ℕ, _<_, _+_}
 use borrow.Fn.Kinds.{In}
 use borrow.Fn.PlainCycle.{Measures, is, falls, and}
 use Rattle.places.proofs.body.Reads as body
@@ -19,15 +22,15 @@ use Rattle.places.proofs.+body+branches+emit+rounds.Lts-emit as emit-lt
 use Rattle.places.proofs.rounds.Reads as rounds
 use Rattle.places.proofs.rounds.Kinds as rounds-kinds
 use Rattle.places.proofs.+body+branches+emit+rounds.Lts-rounds as rounds-lts
+use Rattle.forks.proofs.branch_fork.Reads as branch-fork-reads
+use Rattle.forks.proofs.fork.Reads as fork-reads
+use Rattle.forks.proofs.start_at.Reads as start-at-reads
 use Rattle.nodes.proofs.node_at.Reads as node-at-reads
 use Rattle.nodes.proofs.places_at.Reads as places-at-reads
 use Rattle.places.proofs.anchor_sort.Reads as anchor-sort-reads
 use Rattle.places.proofs.body_size.Reads as body-size-reads
-use Rattle.forks.proofs.branch_fork.Reads as branch-fork-reads
-use Rattle.forks.proofs.fork.Reads as fork-reads
 use Rattle.places.proofs.put_simple.Reads as put-simple-reads
 use Rattle.places.proofs.short.Reads as short-reads
-use Rattle.forks.proofs.start_at.Reads as start-at-reads
 use Rattle.places.proofs.turns_behind.Reads as turns-behind-reads
 use Rattle.places.proofs.+body+branches+emit+rounds.{statement}
 use Rattle.places.proofs.+body+branches+emit+rounds.Tie.{close}
@@ -123,7 +126,8 @@ body-put-simple-requires : (t : ℕ) → body-lts.Need-put-simple-requires (
   emit-below t,
   emit.Post,
 ) (body-at t) body.Post
-body-put-simple-requires t c κs = letter-words _ _ _ (c .before .before .before .before .before .node-at .ensures) _ _ _ _ _ (c .before .before .before .sort .given .1)
+body-put-simple-requires t c κs = letter-words _ _ _ (c .before .before .before .before .before .node-at .ensures) _ _ _ _ _
+    (c .before .before .before .sort .given .1)
     (c .before .before .before .before .before .before .before .before .pre .1)
 
 body-enum-known-sort-2 : (t : ℕ) → body-lts.Need-enum-known-sort-2 (
@@ -166,7 +170,8 @@ body-put-simple-requires-2 : (t : ℕ) → body-lts.Need-put-simple-requires-2 (
   emit-below t,
   emit.Post,
 ) (body-at t) body.Post
-body-put-simple-requires-2 t c κs = anchor-words _ _ _ (c .before .before .before .before .before .node-at .ensures) _ _ _ _ _ (c .before .before .before .sort2 .given .1)
+body-put-simple-requires-2 t c κs = anchor-words _ _ _ (c .before .before .before .before .before .node-at .ensures) _ _ _ _ _
+    (c .before .before .before .sort2 .given .1)
     (c .before .before .before .before .before .before .before .before .pre .1)
 
 body-enum-told : (t : ℕ) → body-lts.Need-enum-told (
@@ -253,7 +258,8 @@ body-same-length : (t : ℕ) → body-lts.Need-same-length (
   emit.Post,
 ) (body-at t) body.Post
 body-same-length t c = emitted-length _ _ _ _ _ _ (letter-done _ _ _ (c .before .before .before .before .before .before .before .before .node-at .ensures) _ _ _ _ _
-    (c .before .before .before .before .before .before .sort .given .1) (c .before .before .before .before .before .before .before .before .before .before .before .pre .1) _ _ _
+    (c .before .before .before .before .before .before .sort .given .1)
+    (c .before .before .before .before .before .before .before .before .before .before .before .pre .1) _ _ _
     (c .before .before .before .short .ensures) (c .before .before .put-simple .ensures))
 
 body-returns : (t : ℕ) → body-lts.Need-returns (
@@ -283,8 +289,10 @@ body-same-length-2 : (t : ℕ) → body-lts.Need-same-length-2 (
   emit-below t,
   emit.Post,
 ) (body-at t) body.Post
-body-same-length-2 t c = emitted-length _ _ _ _ _ _ (anchor-done _ _ _ (c .before .before .before .before .before .before .before .before .node-at .ensures) _ _ _ _ _
-    (c .before .before .before .before .before .before .sort2 .given .1) (c .before .before .before .before .before .before .before .before .before .before .before .pre .1) _ _
+body-same-length-2 t c = emitted-length _ _ _ _ _ _
+    (anchor-done _ _ _ (c .before .before .before .before .before .before .before .before .node-at .ensures) _ _ _ _ _
+    (c .before .before .before .before .before .before .sort2 .given .1)
+    (c .before .before .before .before .before .before .before .before .before .before .before .pre .1) _ _
     _ (c .before .before .before .anchor-sort .ensures) (c .before .before .put-simple2 .ensures))
 
 body-returns-2 : (t : ℕ) → body-lts.Need-returns-2 (
@@ -300,7 +308,8 @@ body-returns-2 : (t : ℕ) → body-lts.Need-returns-2 (
   emit.Post,
 ) (body-at t) body.Post
 body-returns-2 t c = λ h. anchor-done _ _ _ (c .before .before .before .before .before .before .before .before .node-at .ensures) _ _ _ _ _
-    (c .before .before .before .before .before .before .sort2 .given .1) h _ _ _ (c .before .before .before .anchor-sort .ensures) (c .before .before .put-simple2 .ensures)
+    (c .before .before .before .before .before .before .sort2 .given .1) h _ _ _ (c .before .before .before .anchor-sort .ensures)
+    (c .before .before .put-simple2 .ensures)
 
 body-returns-3 : (t : ℕ) → body-lts.Need-returns-3 (
   node-at-reads.Asked,
@@ -372,8 +381,25 @@ body-returns-6 : (t : ℕ) → body-lts.Need-returns-6 (
   emit-below t,
   emit.Post,
 ) (body-at t) body.Post
-body-returns-6 t c = λ h. group-done _ _ _ (c .before .before .before .before .before .before .node-at .ensures) _ _ _ _ (c .before .before .before .before .enum-told4 .given .1)
+body-returns-6 t c = λ h. group-done _ _ _ (c .before .before .before .before .before .before .node-at .ensures) _ _ _ _
+    (c .before .before .before .before .enum-told4 .given .1)
     h _ _ (c .before .before .emit .ensures)
+
+abbrev branches-Inv-loop : branches-lts.InvT-loop
+branches-Inv-loop room i table₀ b w k node₀ from₀ way₀ table node from way = BranchesLeft room i table₀ b w k node table from way
+
+abbrev branches-μ-loop : branches-lts.MeasureT-loop
+branches-μ-loop room i table₀ b w k node₀ from₀ way₀ table node from way = branchM room node
+
+branches-loop-holds : (t : ℕ) → branches-lts.Need-loop-holds (
+  node-at-reads.Asked,
+  node-at-reads.Learnt,
+  emit-below t,
+  emit.Post,
+  places-at-reads.Asked,
+  places-at-reads.Learnt,
+) (branches-at t) branches.Post branches-Inv-loop branches-μ-loop
+branches-loop-holds t c = branches-start _ _ _ _ _ _ (c .before .before .pre .1)
 
 branches-node-at-requires : (t : ℕ) → branches-lts.Need-node-at-requires (
   node-at-reads.Asked,
@@ -382,10 +408,19 @@ branches-node-at-requires : (t : ℕ) → branches-lts.Need-node-at-requires (
   emit.Post,
   places-at-reads.Asked,
   places-at-reads.Learnt,
-  branches-below t,
-  branches.Post,
-) (branches-at t) branches.Post
-branches-node-at-requires t c κs = branches-in _ _ _ _ _ _ (c .before .before .pre .1)
+) (branches-at t) branches.Post branches-Inv-loop branches-μ-loop
+branches-node-at-requires t c κs = others-in _ _ _ _ _ _ _ _ _ _ (c .loop .inv)
+
+branches-same-length : (t : ℕ) → branches-lts.Need-same-length (
+  node-at-reads.Asked,
+  node-at-reads.Learnt,
+  emit-below t,
+  emit.Post,
+  places-at-reads.Asked,
+  places-at-reads.Learnt,
+) (branches-at t) branches.Post branches-Inv-loop branches-μ-loop
+branches-same-length t c = others-none-length _ _ _ _ _ _ _ _ _ _ (c .before .before .before .loop .inv) _ (c .before .before .node-at .ensures) (c .if1 .taken)
+    (c .before .before .before .before .before .before .pre .1)
 
 branches-returns : (t : ℕ) → branches-lts.Need-returns (
   node-at-reads.Asked,
@@ -394,10 +429,8 @@ branches-returns : (t : ℕ) → branches-lts.Need-returns (
   emit.Post,
   places-at-reads.Asked,
   places-at-reads.Learnt,
-  branches-below t,
-  branches.Post,
-) (branches-at t) branches.Post
-branches-returns t c = λ h. branches-none _ _ _ (c .before .before .node-at .ensures) _ _ _ _ (c .if1 .taken) h
+) (branches-at t) branches.Post branches-Inv-loop branches-μ-loop
+branches-returns t c = λ h. others-none _ _ _ _ _ _ _ _ _ _ (c .before .before .before .loop .inv) _ (c .before .before .node-at .ensures) (c .if1 .taken) h
 
 branches-enum-told : (t : ℕ) → branches-lts.Need-enum-told (
   node-at-reads.Asked,
@@ -406,9 +439,7 @@ branches-enum-told : (t : ℕ) → branches-lts.Need-enum-told (
   emit.Post,
   places-at-reads.Asked,
   places-at-reads.Learnt,
-  branches-below t,
-  branches.Post,
-) (branches-at t) branches.Post
+) (branches-at t) branches.Post branches-Inv-loop branches-μ-loop
 branches-enum-told t c = search needs
 
 branches-emit-requires : (t : ℕ) → branches-lts.Need-emit-requires (
@@ -418,96 +449,14 @@ branches-emit-requires : (t : ℕ) → branches-lts.Need-emit-requires (
   emit.Post,
   places-at-reads.Asked,
   places-at-reads.Learnt,
-  branches-below t,
-  branches.Post,
-) (branches-at t) branches.Post
-branches-emit-requires t c κs = branch-first _ _ _ (c .before .before .before .before .before .node-at .ensures) _ _ _ _ (c .before .enum-told .given .1) _ refl
-    (c .before .before .before .before .before .before .before .before .pre .1) _ (c .before .before .before .before .before .before .before .before .pre .0)
-
-branches-places-at-requires : (t : ℕ) → branches-lts.Need-places-at-requires (
-  node-at-reads.Asked,
-  node-at-reads.Learnt,
-  emit-below t,
-  emit.Post,
-  places-at-reads.Asked,
-  places-at-reads.Learnt,
-  branches-below t,
-  branches.Post,
-) (branches-at t) branches.Post
-branches-places-at-requires t c κs = branch-left-in _ _ _ (c .before .before .before .before .before .before .before .before .node-at .ensures) _ _ _ _
-    (c .before .before .before .before .enum-told .given .1) _ refl (c .before .before .before .before .before .before .before .before .before .before .before .pre .1)
-
-branches-add-rest : (t : ℕ) → branches-lts.Need-add-rest (
-  node-at-reads.Asked,
-  node-at-reads.Learnt,
-  emit-below t,
-  emit.Post,
-  places-at-reads.Asked,
-  places-at-reads.Learnt,
-  branches-below t,
-  branches.Post,
-) (branches-at t) branches.Post
-branches-add-rest t c = branch-mid _ _ _ (c .before .before .before .before .before .before .before .before .before .node-at .ensures) _ _ _ _
-    (c .before .before .before .before .before .enum-told .given .1) _ (c .places-at .ensures)
-    (c .before .before .before .before .before .before .before .before .before .before .before .before .pre .1)
-
-branches-branches-requires : (t : ℕ) → branches-lts.Need-branches-requires (
-  node-at-reads.Asked,
-  node-at-reads.Learnt,
-  emit-below t,
-  emit.Post,
-  places-at-reads.Asked,
-  places-at-reads.Learnt,
-  branches-below t,
-  branches.Post,
-) (branches-at t) branches.Post
-branches-branches-requires t c κs = branch-second _ _ _ (c .before .before .before .before .before .before .before .before .before .before .node-at .ensures) _ _ _ _
-    (c .before .before .before .before .before .before .enum-told .given .1) _ (c .before .places-at .ensures)
-    (c .before .before .before .before .before .before .before .before .before .before .before .before .before .pre .1) _ _ (c .before .before .before .before .emit .ensures) _
-    (c .before .before .before .before .before .before .before .before .before .before .before .before .before .pre .0)
-
-branches-same-length : (t : ℕ) → branches-lts.Need-same-length (
-  node-at-reads.Asked,
-  node-at-reads.Learnt,
-  emit-below t,
-  emit.Post,
-  places-at-reads.Asked,
-  places-at-reads.Learnt,
-  branches-below t,
-  branches.Post,
-) (branches-at t) branches.Post
-branches-same-length t c = emitted-length _ _ _ _ _ _ (branch-done _ _ _ (c .before .before .before .before .before .before .before .before .before .before .before .before .before .node-at .ensures) _ _ _ _
-    (c .before .before .before .before .before .before .before .before .before .enum-told .given .1) _ (c .before .before .before .before .places-at .ensures)
-    (c .before .before .before .before .before .before .before .before .before .before .before .before .before .before .before .before .pre .1) _ _ (c .before .before .before .before .before .before .before .emit .ensures) _ _
-    (c .before .before .branches .ensures))
-
-branches-returns-2 : (t : ℕ) → branches-lts.Need-returns-2 (
-  node-at-reads.Asked,
-  node-at-reads.Learnt,
-  emit-below t,
-  emit.Post,
-  places-at-reads.Asked,
-  places-at-reads.Learnt,
-  branches-below t,
-  branches.Post,
-) (branches-at t) branches.Post
-branches-returns-2 t c = λ h. branch-done _ _ _ (c .before .before .before .before .before .before .before .before .before .before .before .before .before .node-at .ensures) _ _ _ _
-    (c .before .before .before .before .before .before .before .before .before .enum-told .given .1) _ (c .before .before .before .before .places-at .ensures)
-    h _ _ (c .before .before .before .before .before .before .before .emit .ensures) _ _
-    (c .before .before .branches .ensures)
-
-branches-emit-requires-2 : (t : ℕ) → branches-lts.Need-emit-requires-2 (
-  node-at-reads.Asked,
-  node-at-reads.Learnt,
-  emit-below t,
-  emit.Post,
-  places-at-reads.Asked,
-  places-at-reads.Learnt,
-  branches-below t,
-  branches.Post,
-) (branches-at t) branches.Post
-branches-emit-requires-2 t c κs = single-first _ _ _ (c .before .before .before .before .node-at .ensures) _ _ _ _ (not-alternation _ (c .before .match .keys2))
-    (c .before .before .before .before .before .before .before .pre .1) _ (c .before .before .before .before .before .before .before .pre .0)
+) (branches-at t) branches.Post branches-Inv-loop branches-μ-loop
+branches-emit-requires t c κs = (
+  others-single-less _ _ _ _ _ _ _ _ _ _ (c .before .before .before .before .before .loop .inv) _
+      (c .before .before .before .before .node-at .ensures) (not-alternation _ (c .before .match .keys2)) _ (c .before .before .before .before .before .before .before
+      .before .pre .0),
+  others-single _ _ _ _ _ _ _ _ _ _ (c .before .before .before .before .before .loop .inv) _ (c .before .before .before .before .node-at
+      .ensures) (not-alternation _ (c .before .match .keys2)),
+)
 
 branches-same-length-2 : (t : ℕ) → branches-lts.Need-same-length-2 (
   node-at-reads.Asked,
@@ -516,25 +465,113 @@ branches-same-length-2 : (t : ℕ) → branches-lts.Need-same-length-2 (
   emit.Post,
   places-at-reads.Asked,
   places-at-reads.Learnt,
-  branches-below t,
-  branches.Post,
-) (branches-at t) branches.Post
-branches-same-length-2 t c = emitted-length _ _ _ _ _ _ (single-done _ _ _ (c .before .before .before .before .before .before .before .node-at .ensures) _ _ _ _
-    (not-alternation _ (c .before .before .before .before .match .keys2)) (c .before .before .before .before .before .before .before .before .before .before .pre .1) _ _
-    (c .before .before .emit2 .ensures))
+) (branches-at t) branches.Post branches-Inv-loop branches-μ-loop
+branches-same-length-2 t c = others-ended-length _ _ _ _ _ _ _ _ _ _ (c .before .before .before .before .before .before .before .before .loop .inv) _
+    (c .before .before .before .before .before .before .before .node-at .ensures) (not-alternation _ (c .before .before .before .before .match .keys2)) _ _
+    (c .before .before .emit .ensures) (c .before .before .before .before .before .before .before .before .before .before .before .pre .1)
 
-branches-returns-3 : (t : ℕ) → branches-lts.Need-returns-3 (
+branches-returns-2 : (t : ℕ) → branches-lts.Need-returns-2 (
   node-at-reads.Asked,
   node-at-reads.Learnt,
   emit-below t,
   emit.Post,
   places-at-reads.Asked,
   places-at-reads.Learnt,
+) (branches-at t) branches.Post branches-Inv-loop branches-μ-loop
+branches-returns-2 t c = λ h. others-ended _ _ _ _ _ _ _ _ _ _ (c .before .before .before .before .before .before .before .before .loop .inv) _
+    (c .before .before .before .before .before .before .before .node-at .ensures) (not-alternation _ (c .before .before .before .before .match .keys2)) _ _
+    (c .before .before .emit .ensures) h
+
+branches-emit-requires-2 : (t : ℕ) → branches-lts.Need-emit-requires-2 (
+  node-at-reads.Asked,
+  node-at-reads.Learnt,
+  emit-below t,
+  emit.Post,
+  places-at-reads.Asked,
+  places-at-reads.Learnt,
+) (branches-at t) branches.Post branches-Inv-loop branches-μ-loop
+branches-emit-requires-2 t c κs = (
+  others-first-less _ _ _ _ _ _ _ _ _ _ (c .before .before .before .before .before .before .loop .inv) _
+      (c .before .before .before .before .before .node-at .ensures) (c .before .enum-told .given .1) _ (c .before .before .before .before .before .before .before
+      .before .before .pre .0),
+  others-first _ _ _ _ _ _ _ _ _ _ (c .before .before .before .before .before .before .loop .inv) _ (c .before .before .before .before
+      .before .node-at .ensures) (c .before .enum-told .given .1),
+)
+
+branches-places-at-requires : (t : ℕ) → branches-lts.Need-places-at-requires (
+  node-at-reads.Asked,
+  node-at-reads.Learnt,
+  emit-below t,
+  emit.Post,
+  places-at-reads.Asked,
+  places-at-reads.Learnt,
+) (branches-at t) branches.Post branches-Inv-loop branches-μ-loop
+branches-places-at-requires t c κs = others-part-in _ _ _ _ _ _ _ _ _ _ (c .before .before .before .before .before .before .before .before .before .loop .inv) _
+    (c .before .before .before .before .before .before .before .before .node-at .ensures) (c .before .before .before .before .enum-told .given .1)
+
+branches-add-rest : (t : ℕ) → branches-lts.Need-add-rest (
+  node-at-reads.Asked,
+  node-at-reads.Learnt,
+  emit-below t,
+  emit.Post,
+  places-at-reads.Asked,
+  places-at-reads.Learnt,
+) (branches-at t) branches.Post branches-Inv-loop branches-μ-loop
+branches-add-rest t c = others-mid _ _ _ _ _ _ _ _ _ _ (c .before .before .before .before .before .before .before .before .before .before .loop .inv) _
+    (c .before .before .before .before .before .before .before .before .before .node-at .ensures) (c .before .before .before .before .before .enum-told .given .1) _
+    (c .places-at .ensures)
+
+branches-loop-less : (t : ℕ) → branches-lts.Need-loop-less (
+  node-at-reads.Asked,
+  node-at-reads.Learnt,
+  emit-below t,
+  emit.Post,
+  places-at-reads.Asked,
+  places-at-reads.Learnt,
+) (branches-at t) branches.Post branches-Inv-loop branches-μ-loop
+branches-loop-less t c = others-down _ _ _ _ _ _ _ _ _ _ (c .before .before .before .before .before .before .before .before .before .before .loop .inv) _
+    (c .before .before .before .before .before .before .before .before .before .node-at .ensures) (c .before .before .before .before .before .enum-told .given .1) _
+    (c .places-at .ensures) _ _ (c .before .before .before .emit2 .ensures)
+
+branches-loop-again : (t : ℕ) → branches-lts.Need-loop-again (
+  node-at-reads.Asked,
+  node-at-reads.Learnt,
+  emit-below t,
+  emit.Post,
+  places-at-reads.Asked,
+  places-at-reads.Learnt,
+) (branches-at t) branches.Post branches-Inv-loop branches-μ-loop
+branches-loop-again t c = others-again _ _ _ _ _ _ _ _ _ _ (c .before .before .before .before .before .before .before .before .before .before .loop .inv) _
+    (c .before .before .before .before .before .before .before .before .before .node-at .ensures) (c .before .before .before .before .before .enum-told .given .1) _
+    (c .places-at .ensures) _ _ (c .before .before .before .emit2 .ensures)
+
+abbrev emit-Inv-loop : emit-lts.InvT-loop
+emit-Inv-loop room i table₀ b w k node₀ from₀ way₀ table node from way = EmitLeft room i table₀ b w k node table from way
+
+abbrev emit-μ-loop : emit-lts.MeasureT-loop
+emit-μ-loop room i table₀ b w k node₀ from₀ way₀ table node from way = emitM room node
+
+emit-loop-holds : (t : ℕ) → emit-lts.Need-loop-holds (
+  node-at-reads.Asked,
+  node-at-reads.Learnt,
+  branch-fork-reads.Asked,
+  branch-fork-reads.Learnt,
   branches-below t,
   branches.Post,
-) (branches-at t) branches.Post
-branches-returns-3 t c = λ h. single-done _ _ _ (c .before .before .before .before .before .before .before .node-at .ensures) _ _ _ _
-    (not-alternation _ (c .before .before .before .before .match .keys2)) h _ _ (c .before .before .emit2 .ensures)
+  body-size-reads.Asked,
+  body-size-reads.Learnt,
+  turns-behind-reads.Asked,
+  turns-behind-reads.Learnt,
+  rounds-below t,
+  rounds.Post,
+  places-at-reads.Asked,
+  places-at-reads.Learnt,
+  start-at-reads.Asked,
+  start-at-reads.Learnt,
+  emit-below t,
+  emit.Post,
+) (emit-at t) emit.Post emit-Inv-loop emit-μ-loop
+emit-loop-holds t c = emit-starts _ _ _ _ _ _ (c .before .before .pre .1)
 
 emit-node-at-requires : (t : ℕ) → emit-lts.Need-node-at-requires (
   node-at-reads.Asked,
@@ -543,20 +580,20 @@ emit-node-at-requires : (t : ℕ) → emit-lts.Need-node-at-requires (
   branch-fork-reads.Learnt,
   branches-below t,
   branches.Post,
-  places-at-reads.Asked,
-  places-at-reads.Learnt,
-  emit-below t,
-  emit.Post,
-  start-at-reads.Asked,
-  start-at-reads.Learnt,
   body-size-reads.Asked,
   body-size-reads.Learnt,
   turns-behind-reads.Asked,
   turns-behind-reads.Learnt,
   rounds-below t,
   rounds.Post,
-) (emit-at t) emit.Post
-emit-node-at-requires t c κs = emit-in _ _ _ _ _ _ (c .before .before .pre .1)
+  places-at-reads.Asked,
+  places-at-reads.Learnt,
+  start-at-reads.Asked,
+  start-at-reads.Learnt,
+  emit-below t,
+  emit.Post,
+) (emit-at t) emit.Post emit-Inv-loop emit-μ-loop
+emit-node-at-requires t c κs = left-in _ _ _ _ _ _ _ _ _ _ (c .loop .inv)
 
 emit-add-end : (t : ℕ) → emit-lts.Need-add-end (
   node-at-reads.Asked,
@@ -565,20 +602,20 @@ emit-add-end : (t : ℕ) → emit-lts.Need-add-end (
   branch-fork-reads.Learnt,
   branches-below t,
   branches.Post,
-  places-at-reads.Asked,
-  places-at-reads.Learnt,
-  emit-below t,
-  emit.Post,
-  start-at-reads.Asked,
-  start-at-reads.Learnt,
   body-size-reads.Asked,
   body-size-reads.Learnt,
   turns-behind-reads.Asked,
   turns-behind-reads.Learnt,
   rounds-below t,
   rounds.Post,
-) (emit-at t) emit.Post
-emit-add-end t c = emit-end _ _ _ (c .before .node-at .ensures) _ _ _ _ (c .before .before .before .before .pre .1)
+  places-at-reads.Asked,
+  places-at-reads.Learnt,
+  start-at-reads.Asked,
+  start-at-reads.Learnt,
+  emit-below t,
+  emit.Post,
+) (emit-at t) emit.Post emit-Inv-loop emit-μ-loop
+emit-add-end t c = left-end _ _ _ _ _ _ _ _ _ _ (c .before .before .loop .inv) _ (c .before .node-at .ensures)
 
 emit-enum-told : (t : ℕ) → emit-lts.Need-enum-told (
   node-at-reads.Asked,
@@ -587,19 +624,19 @@ emit-enum-told : (t : ℕ) → emit-lts.Need-enum-told (
   branch-fork-reads.Learnt,
   branches-below t,
   branches.Post,
-  places-at-reads.Asked,
-  places-at-reads.Learnt,
-  emit-below t,
-  emit.Post,
-  start-at-reads.Asked,
-  start-at-reads.Learnt,
   body-size-reads.Asked,
   body-size-reads.Learnt,
   turns-behind-reads.Asked,
   turns-behind-reads.Learnt,
   rounds-below t,
   rounds.Post,
-) (emit-at t) emit.Post
+  places-at-reads.Asked,
+  places-at-reads.Learnt,
+  start-at-reads.Asked,
+  start-at-reads.Learnt,
+  emit-below t,
+  emit.Post,
+) (emit-at t) emit.Post emit-Inv-loop emit-μ-loop
 emit-enum-told t c = search needs
 
 emit-branch-fork-requires : (t : ℕ) → emit-lts.Need-branch-fork-requires (
@@ -609,21 +646,21 @@ emit-branch-fork-requires : (t : ℕ) → emit-lts.Need-branch-fork-requires (
   branch-fork-reads.Learnt,
   branches-below t,
   branches.Post,
-  places-at-reads.Asked,
-  places-at-reads.Learnt,
-  emit-below t,
-  emit.Post,
-  start-at-reads.Asked,
-  start-at-reads.Learnt,
   body-size-reads.Asked,
   body-size-reads.Learnt,
   turns-behind-reads.Asked,
   turns-behind-reads.Learnt,
   rounds-below t,
   rounds.Post,
-) (emit-at t) emit.Post
-emit-branch-fork-requires t c κs = alt-forking _ _ _ (c .before .before .before .before .node-at .ensures) _ _ _ _ (c .before .enum-told .given .1)
-    (c .before .before .before .before .before .before .before .pre .1)
+  places-at-reads.Asked,
+  places-at-reads.Learnt,
+  start-at-reads.Asked,
+  start-at-reads.Learnt,
+  emit-below t,
+  emit.Post,
+) (emit-at t) emit.Post emit-Inv-loop emit-μ-loop
+emit-branch-fork-requires t c κs = left-forking _ _ _ _ _ _ _ _ _ _ (c .before .before .before .before .before .loop .inv) _
+    (c .before .before .before .before .node-at .ensures) (c .before .enum-told .given .1)
 
 emit-add-branches : (t : ℕ) → emit-lts.Need-add-branches (
   node-at-reads.Asked,
@@ -632,21 +669,21 @@ emit-add-branches : (t : ℕ) → emit-lts.Need-add-branches (
   branch-fork-reads.Learnt,
   branches-below t,
   branches.Post,
-  places-at-reads.Asked,
-  places-at-reads.Learnt,
-  emit-below t,
-  emit.Post,
-  start-at-reads.Asked,
-  start-at-reads.Learnt,
   body-size-reads.Asked,
   body-size-reads.Learnt,
   turns-behind-reads.Asked,
   turns-behind-reads.Learnt,
   rounds-below t,
   rounds.Post,
-) (emit-at t) emit.Post
-emit-add-branches t c = alt-first _ _ _ (c .before .before .before .before .before .before .before .before .node-at .ensures) _ _ _ _
-    (c .before .before .before .before .before .enum-told .given .1) (c .before .before .before .before .before .before .before .before .before .before .before .pre .1)
+  places-at-reads.Asked,
+  places-at-reads.Learnt,
+  start-at-reads.Asked,
+  start-at-reads.Learnt,
+  emit-below t,
+  emit.Post,
+) (emit-at t) emit.Post emit-Inv-loop emit-μ-loop
+emit-add-branches t c = left-one _ _ _ _ _ _ _ _ _ _ (c .before .before .before .before .before .before .before .before .before .loop .inv) _
+    (c .before .before .before .before .before .before .before .before .node-at .ensures) (c .before .before .before .before .before .enum-told .given .1)
 
 emit-branches-requires : (t : ℕ) → emit-lts.Need-branches-requires (
   node-at-reads.Asked,
@@ -655,22 +692,29 @@ emit-branches-requires : (t : ℕ) → emit-lts.Need-branches-requires (
   branch-fork-reads.Learnt,
   branches-below t,
   branches.Post,
-  places-at-reads.Asked,
-  places-at-reads.Learnt,
-  emit-below t,
-  emit.Post,
-  start-at-reads.Asked,
-  start-at-reads.Learnt,
   body-size-reads.Asked,
   body-size-reads.Learnt,
   turns-behind-reads.Asked,
   turns-behind-reads.Learnt,
   rounds-below t,
   rounds.Post,
-) (emit-at t) emit.Post
-emit-branches-requires t c κs = alt-inside _ _ _ (c .before .before .before .before .before .before .before .before .node-at .ensures) _ _ _ _
-    (c .before .before .before .before .before .enum-told .given .1) (c .before .before .before .before .before .before .before .before .before .before .before .pre .1) _ _
-    (c .before .before .before .branch-fork .ensures) _ (c .before .before .before .before .before .before .before .before .before .before .before .pre .0)
+  places-at-reads.Asked,
+  places-at-reads.Learnt,
+  start-at-reads.Asked,
+  start-at-reads.Learnt,
+  emit-below t,
+  emit.Post,
+) (emit-at t) emit.Post emit-Inv-loop emit-μ-loop
+emit-branches-requires t c κs = (
+  left-inside-less _ _ _ _ _ _ _ _ _ _ (c .before .before .before .before .before .before .before .before .before .loop .inv) _
+      (c .before .before .before .before .before .before .before .before .node-at .ensures) (c .before .before .before .before .before .enum-told .given .1) _ _
+      (c .before
+      .before .before .branch-fork .ensures) _ (c .before .before .before .before .before .before .before .before .before .before .before .before .pre .0),
+  left-inside _ _
+      _ _ _ _ _ _ _ _ (c .before .before .before .before .before .before .before .before .before .loop .inv) _
+      (c .before .before .before .before .before .before .before
+      .before .node-at .ensures) (c .before .before .before .before .before .enum-told .given .1) _ _ (c .before .before .before .branch-fork .ensures),
+)
 
 emit-same-length : (t : ℕ) → emit-lts.Need-same-length (
   node-at-reads.Asked,
@@ -679,23 +723,25 @@ emit-same-length : (t : ℕ) → emit-lts.Need-same-length (
   branch-fork-reads.Learnt,
   branches-below t,
   branches.Post,
-  places-at-reads.Asked,
-  places-at-reads.Learnt,
-  emit-below t,
-  emit.Post,
-  start-at-reads.Asked,
-  start-at-reads.Learnt,
   body-size-reads.Asked,
   body-size-reads.Learnt,
   turns-behind-reads.Asked,
   turns-behind-reads.Learnt,
   rounds-below t,
   rounds.Post,
-) (emit-at t) emit.Post
-emit-same-length t c = emitted-length _ _ _ _ _ _ (alt-done _ _ _ (c .before .before .before .before .before .before .before .before .before .before .before .node-at .ensures) _ _
-    _ _ (c .before .before .before .before .before .before .before .before .enum-told .given .1)
-    (c .before .before .before .before .before .before .before .before .before .before .before .before .before .before .pre .1) _ _
-    (c .before .before .before .before .before .before .branch-fork .ensures) _ _ (c .before .before .branches .ensures))
+  places-at-reads.Asked,
+  places-at-reads.Learnt,
+  start-at-reads.Asked,
+  start-at-reads.Learnt,
+  emit-below t,
+  emit.Post,
+) (emit-at t) emit.Post emit-Inv-loop emit-μ-loop
+emit-same-length t c = left-alt-length _ _ _ _ _ _ _ _ _ _
+    (c .before .before .before .before .before .before .before .before .before .before .before .before .loop .inv)
+    _ (c .before .before .before .before .before .before .before .before .before .before .before .node-at .ensures)
+    (c .before .before .before .before .before .before .before .before .enum-told .given .1) _ _
+    (c .before .before .before .before .before .before .branch-fork .ensures) _ _ (c .before .before .branches .ensures)
+    (c .before .before .before .before .before .before .before .before .before .before .before .before .before .before .before .pre .1)
 
 emit-returns : (t : ℕ) → emit-lts.Need-returns (
   node-at-reads.Asked,
@@ -704,137 +750,23 @@ emit-returns : (t : ℕ) → emit-lts.Need-returns (
   branch-fork-reads.Learnt,
   branches-below t,
   branches.Post,
-  places-at-reads.Asked,
-  places-at-reads.Learnt,
-  emit-below t,
-  emit.Post,
-  start-at-reads.Asked,
-  start-at-reads.Learnt,
   body-size-reads.Asked,
   body-size-reads.Learnt,
   turns-behind-reads.Asked,
   turns-behind-reads.Learnt,
   rounds-below t,
   rounds.Post,
-) (emit-at t) emit.Post
-emit-returns t c = λ h. alt-done _ _ _ (c .before .before .before .before .before .before .before .before .before .before .before .node-at .ensures) _ _ _ _
-    (c .before .before .before .before .before .before .before .before .enum-told .given .1) h _ _ (c .before .before .before .before .before .before .branch-fork .ensures) _ _
-    (c .before .before .branches .ensures)
-
-emit-returns-2 : (t : ℕ) → emit-lts.Need-returns-2 (
-  node-at-reads.Asked,
-  node-at-reads.Learnt,
-  branch-fork-reads.Asked,
-  branch-fork-reads.Learnt,
-  branches-below t,
-  branches.Post,
   places-at-reads.Asked,
   places-at-reads.Learnt,
-  emit-below t,
-  emit.Post,
   start-at-reads.Asked,
   start-at-reads.Learnt,
-  body-size-reads.Asked,
-  body-size-reads.Learnt,
-  turns-behind-reads.Asked,
-  turns-behind-reads.Learnt,
-  rounds-below t,
-  rounds.Post,
-) (emit-at t) emit.Post
-emit-returns-2 t c = λ h. emit-none _ _ _ (c .before .before .before .node-at .ensures) _ _ _ _ (not-alternation _ (c .before .match .keys2)) (c .if1 .taken) h
-
-emit-enum-told-2 : (t : ℕ) → emit-lts.Need-enum-told-2 (
-  node-at-reads.Asked,
-  node-at-reads.Learnt,
-  branch-fork-reads.Asked,
-  branch-fork-reads.Learnt,
-  branches-below t,
-  branches.Post,
-  places-at-reads.Asked,
-  places-at-reads.Learnt,
   emit-below t,
   emit.Post,
-  start-at-reads.Asked,
-  start-at-reads.Learnt,
-  body-size-reads.Asked,
-  body-size-reads.Learnt,
-  turns-behind-reads.Asked,
-  turns-behind-reads.Learnt,
-  rounds-below t,
-  rounds.Post,
-) (emit-at t) emit.Post
-emit-enum-told-2 t c = search needs
-
-emit-places-at-requires : (t : ℕ) → emit-lts.Need-places-at-requires (
-  node-at-reads.Asked,
-  node-at-reads.Learnt,
-  branch-fork-reads.Asked,
-  branch-fork-reads.Learnt,
-  branches-below t,
-  branches.Post,
-  places-at-reads.Asked,
-  places-at-reads.Learnt,
-  emit-below t,
-  emit.Post,
-  start-at-reads.Asked,
-  start-at-reads.Learnt,
-  body-size-reads.Asked,
-  body-size-reads.Learnt,
-  turns-behind-reads.Asked,
-  turns-behind-reads.Learnt,
-  rounds-below t,
-  rounds.Post,
-) (emit-at t) emit.Post
-emit-places-at-requires t c κs = seq-left-in _ _ _ (c .before .before .before .before .before .node-at .ensures) _ _ _ _ (c .enum-told2 .given .1) _ refl
-    (c .before .before .before .before .before .before .before .before .pre .1)
-
-emit-add-mid : (t : ℕ) → emit-lts.Need-add-mid (
-  node-at-reads.Asked,
-  node-at-reads.Learnt,
-  branch-fork-reads.Asked,
-  branch-fork-reads.Learnt,
-  branches-below t,
-  branches.Post,
-  places-at-reads.Asked,
-  places-at-reads.Learnt,
-  emit-below t,
-  emit.Post,
-  start-at-reads.Asked,
-  start-at-reads.Learnt,
-  body-size-reads.Asked,
-  body-size-reads.Learnt,
-  turns-behind-reads.Asked,
-  turns-behind-reads.Learnt,
-  rounds-below t,
-  rounds.Post,
-) (emit-at t) emit.Post
-emit-add-mid t c = seq-mid _ _ _ (c .before .before .before .before .before .before .node-at .ensures) _ _ _ _ (c .before .enum-told2 .given .1) _ (c .places-at .ensures)
-    (c .before .before .before .before .before .before .before .before .before .pre .1)
-
-emit-emit-requires : (t : ℕ) → emit-lts.Need-emit-requires (
-  node-at-reads.Asked,
-  node-at-reads.Learnt,
-  branch-fork-reads.Asked,
-  branch-fork-reads.Learnt,
-  branches-below t,
-  branches.Post,
-  places-at-reads.Asked,
-  places-at-reads.Learnt,
-  emit-below t,
-  emit.Post,
-  start-at-reads.Asked,
-  start-at-reads.Learnt,
-  body-size-reads.Asked,
-  body-size-reads.Learnt,
-  turns-behind-reads.Asked,
-  turns-behind-reads.Learnt,
-  rounds-below t,
-  rounds.Post,
-) (emit-at t) emit.Post
-emit-emit-requires t c κs = seq-skip _ _ _ (c .before .before .before .before .before .before .before .before .node-at .ensures) _ _ _ _
-    (c .before .before .before .enum-told2 .given .1) _ (c .before .before .places-at .ensures) (c .before .if2 .taken)
-    (c .before .before .before .before .before .before .before .before .before .before .before .pre .1) _
-    (c .before .before .before .before .before .before .before .before .before .before .before .pre .0)
+) (emit-at t) emit.Post emit-Inv-loop emit-μ-loop
+emit-returns t c = λ h. left-alt _ _ _ _ _ _ _ _ _ _ (c .before .before .before .before .before .before .before .before .before .before .before .before .loop .inv) _
+    (c .before .before .before .before .before .before .before .before .before .before .before .node-at .ensures)
+    (c .before .before .before .before .before .before .before .before .enum-told .given .1) _ _
+    (c .before .before .before .before .before .before .branch-fork .ensures) _ _ (c .before .before .branches .ensures) h
 
 emit-same-length-2 : (t : ℕ) → emit-lts.Need-same-length-2 (
   node-at-reads.Asked,
@@ -843,173 +775,66 @@ emit-same-length-2 : (t : ℕ) → emit-lts.Need-same-length-2 (
   branch-fork-reads.Learnt,
   branches-below t,
   branches.Post,
-  places-at-reads.Asked,
-  places-at-reads.Learnt,
-  emit-below t,
-  emit.Post,
-  start-at-reads.Asked,
-  start-at-reads.Learnt,
   body-size-reads.Asked,
   body-size-reads.Learnt,
   turns-behind-reads.Asked,
   turns-behind-reads.Learnt,
   rounds-below t,
   rounds.Post,
-) (emit-at t) emit.Post
-emit-same-length-2 t c = emitted-length _ _ _ _ _ _ (seq-skipped _ _ _ (c .before .before .before .before .before .before .before .before .before .before .before .node-at
-    .ensures) _ _ _ _ (c .before .before .before .before .before .before .enum-told2 .given .1) _ (c .before .before .before .before .before .places-at .ensures)
-    (c .before .before .before .before .if2 .taken) (c .before .before .before .before .before .before .before .before .before .before .before .before .before .before .pre .1) _
-    _ (c .before .before .emit .ensures))
+  places-at-reads.Asked,
+  places-at-reads.Learnt,
+  start-at-reads.Asked,
+  start-at-reads.Learnt,
+  emit-below t,
+  emit.Post,
+) (emit-at t) emit.Post emit-Inv-loop emit-μ-loop
+emit-same-length-2 t c = left-none-length _ _ _ _ _ _ _ _ _ _ (c .before .before .before .before .loop .inv) _ (c .before .before .before .node-at .ensures)
+    (not-alternation _ (c .before .match .keys2)) (c .if1 .taken) (c .before .before .before .before .before .before .before .pre .1)
 
-emit-returns-3 : (t : ℕ) → emit-lts.Need-returns-3 (
+emit-returns-2 : (t : ℕ) → emit-lts.Need-returns-2 (
   node-at-reads.Asked,
   node-at-reads.Learnt,
   branch-fork-reads.Asked,
   branch-fork-reads.Learnt,
   branches-below t,
   branches.Post,
-  places-at-reads.Asked,
-  places-at-reads.Learnt,
-  emit-below t,
-  emit.Post,
-  start-at-reads.Asked,
-  start-at-reads.Learnt,
   body-size-reads.Asked,
   body-size-reads.Learnt,
   turns-behind-reads.Asked,
   turns-behind-reads.Learnt,
   rounds-below t,
   rounds.Post,
-) (emit-at t) emit.Post
-emit-returns-3 t c = λ h. seq-skipped _ _ _ (c .before .before .before .before .before .before .before .before .before .before .before .node-at .ensures) _ _ _ _
-    (c .before .before .before .before .before .before .enum-told2 .given .1) _ (c .before .before .before .before .before .places-at .ensures)
-    (c .before .before .before .before .if2 .taken) h _ _ (c .before .before .emit .ensures)
+  places-at-reads.Asked,
+  places-at-reads.Learnt,
+  start-at-reads.Asked,
+  start-at-reads.Learnt,
+  emit-below t,
+  emit.Post,
+) (emit-at t) emit.Post emit-Inv-loop emit-μ-loop
+emit-returns-2 t c = λ h. left-none _ _ _ _ _ _ _ _ _ _ (c .before .before .before .before .loop .inv) _ (c .before .before .before .node-at .ensures)
+    (not-alternation _ (c .before .match .keys2)) (c .if1 .taken) h
 
-emit-start-at-requires : (t : ℕ) → emit-lts.Need-start-at-requires (
+emit-enum-told-2 : (t : ℕ) → emit-lts.Need-enum-told-2 (
   node-at-reads.Asked,
   node-at-reads.Learnt,
   branch-fork-reads.Asked,
   branch-fork-reads.Learnt,
   branches-below t,
   branches.Post,
-  places-at-reads.Asked,
-  places-at-reads.Learnt,
-  emit-below t,
-  emit.Post,
-  start-at-reads.Asked,
-  start-at-reads.Learnt,
   body-size-reads.Asked,
   body-size-reads.Learnt,
   turns-behind-reads.Asked,
   turns-behind-reads.Learnt,
   rounds-below t,
   rounds.Post,
-) (emit-at t) emit.Post
-emit-start-at-requires t c κs = search needs
-
-emit-emit-requires-2 : (t : ℕ) → emit-lts.Need-emit-requires-2 (
-  node-at-reads.Asked,
-  node-at-reads.Learnt,
-  branch-fork-reads.Asked,
-  branch-fork-reads.Learnt,
-  branches-below t,
-  branches.Post,
   places-at-reads.Asked,
   places-at-reads.Learnt,
-  emit-below t,
-  emit.Post,
   start-at-reads.Asked,
   start-at-reads.Learnt,
-  body-size-reads.Asked,
-  body-size-reads.Learnt,
-  turns-behind-reads.Asked,
-  turns-behind-reads.Learnt,
-  rounds-below t,
-  rounds.Post,
-) (emit-at t) emit.Post
-emit-emit-requires-2 t c κs = seq-first _ _ _ (c .before .before .before .before .before .before .before .before .before .node-at .ensures) _ _ _ _
-    (c .before .before .before .before .enum-told2 .given .1) _ (c .before .before .before .places-at .ensures) _ (c .before .start-at .ensures)
-    (c .before .before .before .before .before .before .before .before .before .before .before .before .pre .1) _
-    (c .before .before .before .before .before .before .before .before .before .before .before .before .pre .0)
-
-emit-emit-requires-3 : (t : ℕ) → emit-lts.Need-emit-requires-3 (
-  node-at-reads.Asked,
-  node-at-reads.Learnt,
-  branch-fork-reads.Asked,
-  branch-fork-reads.Learnt,
-  branches-below t,
-  branches.Post,
-  places-at-reads.Asked,
-  places-at-reads.Learnt,
   emit-below t,
   emit.Post,
-  start-at-reads.Asked,
-  start-at-reads.Learnt,
-  body-size-reads.Asked,
-  body-size-reads.Learnt,
-  turns-behind-reads.Asked,
-  turns-behind-reads.Learnt,
-  rounds-below t,
-  rounds.Post,
-) (emit-at t) emit.Post
-emit-emit-requires-3 t c κs = seq-second _ _ _ (c .before .before .before .before .before .before .before .before .before .before .before .before .before .node-at .ensures) _ _
-    _ _ (c .before .before .before .before .before .before .before .before .enum-told2 .given .1) _ (c .before .before .before .before .before .before .before .places-at .ensures)
-    _ (c .before .before .before .before .before .start-at .ensures) (c .before .before .before .before .before .before .before .before .before .before .before .before .before
-    .before .before .before .pre .1) _ _ (c .before .before .before .emit2 .ensures) _ (c .before .before .before .before .before .before .before .before .before .before .before
-    .before .before .before .before .before .pre .0)
-
-emit-same-length-3 : (t : ℕ) → emit-lts.Need-same-length-3 (
-  node-at-reads.Asked,
-  node-at-reads.Learnt,
-  branch-fork-reads.Asked,
-  branch-fork-reads.Learnt,
-  branches-below t,
-  branches.Post,
-  places-at-reads.Asked,
-  places-at-reads.Learnt,
-  emit-below t,
-  emit.Post,
-  start-at-reads.Asked,
-  start-at-reads.Learnt,
-  body-size-reads.Asked,
-  body-size-reads.Learnt,
-  turns-behind-reads.Asked,
-  turns-behind-reads.Learnt,
-  rounds-below t,
-  rounds.Post,
-) (emit-at t) emit.Post
-emit-same-length-3 t c = emitted-length _ _ _ _ _ _ (seq-done _ _ _ (c .before .before .before .before .before .before .before .before .before .before .before .before .before
-    .before .before .before .node-at .ensures) _ _ _ _ (c .before .before .before .before .before .before .before .before .before .before .before .enum-told2 .given .1) _
-    (c .before .before .before .before .before .before .before .before .before .before .places-at .ensures) _
-    (c .before .before .before .before .before .before .before .before .start-at .ensures) (c .before .before .before .before .before .before .before .before .before .before
-    .before .before .before .before .before .before .before .before .before .pre .1) _ _ (c .before .before .before .before .before .before .emit2 .ensures) _ _
-    (c .before .before .emit3 .ensures))
-
-emit-returns-4 : (t : ℕ) → emit-lts.Need-returns-4 (
-  node-at-reads.Asked,
-  node-at-reads.Learnt,
-  branch-fork-reads.Asked,
-  branch-fork-reads.Learnt,
-  branches-below t,
-  branches.Post,
-  places-at-reads.Asked,
-  places-at-reads.Learnt,
-  emit-below t,
-  emit.Post,
-  start-at-reads.Asked,
-  start-at-reads.Learnt,
-  body-size-reads.Asked,
-  body-size-reads.Learnt,
-  turns-behind-reads.Asked,
-  turns-behind-reads.Learnt,
-  rounds-below t,
-  rounds.Post,
-) (emit-at t) emit.Post
-emit-returns-4 t c = λ h. seq-done _ _ _ (c .before .before .before .before .before .before .before .before .before .before .before .before .before .before .before .before
-    .node-at .ensures) _ _ _ _ (c .before .before .before .before .before .before .before .before .before .before .before .enum-told2 .given .1) _
-    (c .before .before .before .before .before .before .before .before .before .before .places-at .ensures) _
-    (c .before .before .before .before .before .before .before .before .start-at .ensures) h _ _ (c .before .before .before .before .before .before .emit2 .ensures) _ _
-    (c .before .before .emit3 .ensures)
+) (emit-at t) emit.Post emit-Inv-loop emit-μ-loop
+emit-enum-told-2 t c = search needs
 
 emit-body-size-requires : (t : ℕ) → emit-lts.Need-body-size-requires (
   node-at-reads.Asked,
@@ -1018,21 +843,21 @@ emit-body-size-requires : (t : ℕ) → emit-lts.Need-body-size-requires (
   branch-fork-reads.Learnt,
   branches-below t,
   branches.Post,
-  places-at-reads.Asked,
-  places-at-reads.Learnt,
-  emit-below t,
-  emit.Post,
-  start-at-reads.Asked,
-  start-at-reads.Learnt,
   body-size-reads.Asked,
   body-size-reads.Learnt,
   turns-behind-reads.Asked,
   turns-behind-reads.Learnt,
   rounds-below t,
   rounds.Post,
-) (emit-at t) emit.Post
-emit-body-size-requires t c κs = emit-node _ _ _ (c .before .before .before .before .node-at .ensures) _ _ _ _ (not-sequence _ (c .match2 .keys2))
-    (not-alternation _ (c .before .before .match .keys2)) (c .before .before .before .before .before .before .before .pre .1)
+  places-at-reads.Asked,
+  places-at-reads.Learnt,
+  start-at-reads.Asked,
+  start-at-reads.Learnt,
+  emit-below t,
+  emit.Post,
+) (emit-at t) emit.Post emit-Inv-loop emit-μ-loop
+emit-body-size-requires t c κs = left-node _ _ _ _ _ _ _ _ _ _ (c .before .before .before .before .before .loop .inv) _
+    (c .before .before .before .before .node-at .ensures) (not-sequence _ (c .match2 .keys2)) (not-alternation _ (c .before .before .match .keys2))
 
 emit-turns-behind-requires : (t : ℕ) → emit-lts.Need-turns-behind-requires (
   node-at-reads.Asked,
@@ -1041,21 +866,22 @@ emit-turns-behind-requires : (t : ℕ) → emit-lts.Need-turns-behind-requires (
   branch-fork-reads.Learnt,
   branches-below t,
   branches.Post,
-  places-at-reads.Asked,
-  places-at-reads.Learnt,
-  emit-below t,
-  emit.Post,
-  start-at-reads.Asked,
-  start-at-reads.Learnt,
   body-size-reads.Asked,
   body-size-reads.Learnt,
   turns-behind-reads.Asked,
   turns-behind-reads.Learnt,
   rounds-below t,
   rounds.Post,
-) (emit-at t) emit.Post
-emit-turns-behind-requires t c κs = turn-order _ _ _ (c .before .before .before .before .before .node-at .ensures) _ _ _ _ (not-sequence _ (c .before .match2 .keys2))
-    (not-alternation _ (c .before .before .before .match .keys2)) (c .before .before .before .before .before .before .before .before .pre .1)
+  places-at-reads.Asked,
+  places-at-reads.Learnt,
+  start-at-reads.Asked,
+  start-at-reads.Learnt,
+  emit-below t,
+  emit.Post,
+) (emit-at t) emit.Post emit-Inv-loop emit-μ-loop
+emit-turns-behind-requires t c κs = left-order _ _ _ _ _ _ _ _ _ _ (c .before .before .before .before .before .before .loop .inv) _
+    (c .before .before .before .before .before .node-at .ensures) (not-sequence _ (c .before .match2 .keys2))
+    (not-alternation _ (c .before .before .before .match .keys2))
 
 emit-rounds-requires : (t : ℕ) → emit-lts.Need-rounds-requires (
   node-at-reads.Asked,
@@ -1064,101 +890,275 @@ emit-rounds-requires : (t : ℕ) → emit-lts.Need-rounds-requires (
   branch-fork-reads.Learnt,
   branches-below t,
   branches.Post,
-  places-at-reads.Asked,
-  places-at-reads.Learnt,
-  emit-below t,
-  emit.Post,
-  start-at-reads.Asked,
-  start-at-reads.Learnt,
   body-size-reads.Asked,
   body-size-reads.Learnt,
   turns-behind-reads.Asked,
   turns-behind-reads.Learnt,
   rounds-below t,
   rounds.Post,
-) (emit-at t) emit.Post
-emit-rounds-requires t c κs = turn-first _ _ _ (c .before .before .before .before .before .before .before .node-at .ensures) _ _ _ _
-    (not-sequence _ (c .before .before .before .match2 .keys2)) (not-alternation _ (c .before .before .before .before .before .match .keys2)) _
-    (c .before .before .body-size .ensures) _ (c .before .turns-behind .ensures) (c .before .before .before .before .before .before .before .before .before .before .pre .1) _
-    (c .before .before .before .before .before .before .before .before .before .before .pre .0)
+  places-at-reads.Asked,
+  places-at-reads.Learnt,
+  start-at-reads.Asked,
+  start-at-reads.Learnt,
+  emit-below t,
+  emit.Post,
+) (emit-at t) emit.Post emit-Inv-loop emit-μ-loop
+emit-rounds-requires t c κs = (
+  left-turning-less _ _ _ _ _ _ _ _ _ _ (c .before .before .before .before .before .before .before .before .loop .inv) _
+      (c .before .before .before .before .before .before .before .node-at .ensures) (not-sequence _ (c .before .before .before .match2 .keys2)) (not-alternation _
+      (c .before .before .before .before .before .match .keys2)) _ (c .before .before .body-size .ensures) _ (c .before .turns-behind .ensures) _ (c .before .before
+      .before .before .before .before .before .before .before .before .before .pre .0),
+  left-turning _ _ _ _ _ _ _ _ _ _ (c .before .before .before .before .before
+      .before .before .before .loop .inv) _ (c .before .before .before .before .before .before .before .node-at .ensures) (not-sequence _ (c .before .before .before
+      .match2 .keys2)) (not-alternation _ (c .before .before .before .before .before .match .keys2)) _ (c .before .before .body-size .ensures) _ (c .before
+      .turns-behind .ensures),
+)
 
-emit-same-length-4 : (t : ℕ) → emit-lts.Need-same-length-4 (
+emit-same-length-3 : (t : ℕ) → emit-lts.Need-same-length-3 (
   node-at-reads.Asked,
   node-at-reads.Learnt,
   branch-fork-reads.Asked,
   branch-fork-reads.Learnt,
   branches-below t,
   branches.Post,
-  places-at-reads.Asked,
-  places-at-reads.Learnt,
-  emit-below t,
-  emit.Post,
-  start-at-reads.Asked,
-  start-at-reads.Learnt,
   body-size-reads.Asked,
   body-size-reads.Learnt,
   turns-behind-reads.Asked,
   turns-behind-reads.Learnt,
   rounds-below t,
   rounds.Post,
-) (emit-at t) emit.Post
-emit-same-length-4 t c = emitted-length _ _ _ _ _ _ (turn-done _ _ _ (c .before .before .before .before .before .before .before .before .before .before .node-at .ensures) _ _ _ _
-    (not-sequence _ (c .before .before .before .before .before .before .match2 .keys2)) (not-alternation _
-    (c .before .before .before .before .before .before .before .before .match .keys2)) _ (c .before .before .before .before .before .body-size .ensures) _
-    (c .before .before .before .before .turns-behind .ensures) (c .before .before .before .before .before .before .before .before .before .before .before .before .before .pre
-    .1) _ _ (c .before .before .rounds .ensures))
+  places-at-reads.Asked,
+  places-at-reads.Learnt,
+  start-at-reads.Asked,
+  start-at-reads.Learnt,
+  emit-below t,
+  emit.Post,
+) (emit-at t) emit.Post emit-Inv-loop emit-μ-loop
+emit-same-length-3 t c = left-turned-length _ _ _ _ _ _ _ _ _ _
+    (c .before .before .before .before .before .before .before .before .before .before .before .loop .inv) _
+    (c .before .before .before .before .before .before .before .before .before .before .node-at .ensures)
+    (not-sequence _ (c .before .before .before .before .before .before .match2 .keys2))
+    (not-alternation _ (c .before .before .before .before .before .before .before .before .match .keys2)) _
+    (c .before .before .before .before .before .body-size .ensures) _ (c .before .before .before .before .turns-behind .ensures) _ _
+    (c .before .before .rounds .ensures)
+    (c .before .before .before .before .before .before .before .before .before .before .before .before .before .before .pre .1)
 
-emit-returns-5 : (t : ℕ) → emit-lts.Need-returns-5 (
+emit-returns-3 : (t : ℕ) → emit-lts.Need-returns-3 (
   node-at-reads.Asked,
   node-at-reads.Learnt,
   branch-fork-reads.Asked,
   branch-fork-reads.Learnt,
   branches-below t,
   branches.Post,
-  places-at-reads.Asked,
-  places-at-reads.Learnt,
-  emit-below t,
-  emit.Post,
-  start-at-reads.Asked,
-  start-at-reads.Learnt,
   body-size-reads.Asked,
   body-size-reads.Learnt,
   turns-behind-reads.Asked,
   turns-behind-reads.Learnt,
   rounds-below t,
   rounds.Post,
-) (emit-at t) emit.Post
-emit-returns-5 t c = λ h. turn-done _ _ _ (c .before .before .before .before .before .before .before .before .before .before .node-at .ensures) _ _ _ _
-    (not-sequence _ (c .before .before .before .before .before .before .match2 .keys2)) (not-alternation _
-    (c .before .before .before .before .before .before .before .before .match .keys2)) _ (c .before .before .before .before .before .body-size .ensures) _
-    (c .before .before .before .before .turns-behind .ensures) h _ _ (c .before .before .rounds .ensures)
+  places-at-reads.Asked,
+  places-at-reads.Learnt,
+  start-at-reads.Asked,
+  start-at-reads.Learnt,
+  emit-below t,
+  emit.Post,
+) (emit-at t) emit.Post emit-Inv-loop emit-μ-loop
+emit-returns-3 t c = λ h. left-turned _ _ _ _ _ _ _ _ _ _ (c .before .before .before .before .before .before .before .before .before .before .before .loop .inv) _
+    (c .before .before .before .before .before .before .before .before .before .before .node-at .ensures)
+    (not-sequence _ (c .before .before .before .before .before .before .match2 .keys2))
+    (not-alternation _ (c .before .before .before .before .before .before .before .before .match .keys2)) _
+    (c .before .before .before .before .before .body-size .ensures) _ (c .before .before .before .before .turns-behind .ensures) _ _
+    (c .before .before .rounds .ensures) h
+
+emit-places-at-requires : (t : ℕ) → emit-lts.Need-places-at-requires (
+  node-at-reads.Asked,
+  node-at-reads.Learnt,
+  branch-fork-reads.Asked,
+  branch-fork-reads.Learnt,
+  branches-below t,
+  branches.Post,
+  body-size-reads.Asked,
+  body-size-reads.Learnt,
+  turns-behind-reads.Asked,
+  turns-behind-reads.Learnt,
+  rounds-below t,
+  rounds.Post,
+  places-at-reads.Asked,
+  places-at-reads.Learnt,
+  start-at-reads.Asked,
+  start-at-reads.Learnt,
+  emit-below t,
+  emit.Post,
+) (emit-at t) emit.Post emit-Inv-loop emit-μ-loop
+emit-places-at-requires t c κs = left-part-in _ _ _ _ _ _ _ _ _ _ (c .before .before .before .before .before .before .loop .inv) _
+    (c .before .before .before .before .before .node-at .ensures) (c .enum-told2 .given .1)
+
+emit-add-mid : (t : ℕ) → emit-lts.Need-add-mid (
+  node-at-reads.Asked,
+  node-at-reads.Learnt,
+  branch-fork-reads.Asked,
+  branch-fork-reads.Learnt,
+  branches-below t,
+  branches.Post,
+  body-size-reads.Asked,
+  body-size-reads.Learnt,
+  turns-behind-reads.Asked,
+  turns-behind-reads.Learnt,
+  rounds-below t,
+  rounds.Post,
+  places-at-reads.Asked,
+  places-at-reads.Learnt,
+  start-at-reads.Asked,
+  start-at-reads.Learnt,
+  emit-below t,
+  emit.Post,
+) (emit-at t) emit.Post emit-Inv-loop emit-μ-loop
+emit-add-mid t c = left-mid _ _ _ _ _ _ _ _ _ _ (c .before .before .before .before .before .before .before .loop .inv) _
+    (c .before .before .before .before .before .before .node-at .ensures) (c .before .enum-told2 .given .1) _ (c .places-at .ensures)
+
+emit-start-at-requires : (t : ℕ) → emit-lts.Need-start-at-requires (
+  node-at-reads.Asked,
+  node-at-reads.Learnt,
+  branch-fork-reads.Asked,
+  branch-fork-reads.Learnt,
+  branches-below t,
+  branches.Post,
+  body-size-reads.Asked,
+  body-size-reads.Learnt,
+  turns-behind-reads.Asked,
+  turns-behind-reads.Learnt,
+  rounds-below t,
+  rounds.Post,
+  places-at-reads.Asked,
+  places-at-reads.Learnt,
+  start-at-reads.Asked,
+  start-at-reads.Learnt,
+  emit-below t,
+  emit.Post,
+) (emit-at t) emit.Post emit-Inv-loop emit-μ-loop
+emit-start-at-requires t c κs = search needs
+
+emit-emit-requires : (t : ℕ) → emit-lts.Need-emit-requires (
+  node-at-reads.Asked,
+  node-at-reads.Learnt,
+  branch-fork-reads.Asked,
+  branch-fork-reads.Learnt,
+  branches-below t,
+  branches.Post,
+  body-size-reads.Asked,
+  body-size-reads.Learnt,
+  turns-behind-reads.Asked,
+  turns-behind-reads.Learnt,
+  rounds-below t,
+  rounds.Post,
+  places-at-reads.Asked,
+  places-at-reads.Learnt,
+  start-at-reads.Asked,
+  start-at-reads.Learnt,
+  emit-below t,
+  emit.Post,
+) (emit-at t) emit.Post emit-Inv-loop emit-μ-loop
+emit-emit-requires t c κs = (
+  left-first-less _ _ _ _ _ _ _ _ _ _ (c .before .before .before .before .before .before .before .before .before .loop .inv) _
+      (c .before .before .before .before .before .before .before .before .node-at .ensures) (c .before .before .before .enum-told2 .given .1) _ (c .before .before
+      .places-at .ensures) _ (c .before .start-at .ensures) _ (c .before .before .before .before .before .before .before .before .before .before .before .before .pre
+      .0),
+  left-first _ _ _ _ _ _ _ _ _ _ (c .before .before .before .before .before .before .before .before .before .loop .inv) _ (c .before .before .before .before
+      .before .before .before .before .node-at .ensures) (c .before .before .before .enum-told2 .given .1) _ (c .before .before .places-at .ensures) _ (c .before
+      .start-at .ensures),
+)
+
+emit-loop-less : (t : ℕ) → emit-lts.Need-loop-less (
+  node-at-reads.Asked,
+  node-at-reads.Learnt,
+  branch-fork-reads.Asked,
+  branch-fork-reads.Learnt,
+  branches-below t,
+  branches.Post,
+  body-size-reads.Asked,
+  body-size-reads.Learnt,
+  turns-behind-reads.Asked,
+  turns-behind-reads.Learnt,
+  rounds-below t,
+  rounds.Post,
+  places-at-reads.Asked,
+  places-at-reads.Learnt,
+  start-at-reads.Asked,
+  start-at-reads.Learnt,
+  emit-below t,
+  emit.Post,
+) (emit-at t) emit.Post emit-Inv-loop emit-μ-loop
+emit-loop-less t c = left-down _ _ _ _ _ _ _ _ _ _ (c .before .before .before .before .before .before .before .before .before .before .before .before .loop .inv) _
+    (c .before .before .before .before .before .before .before .before .before .before .before .node-at .ensures)
+    (c .before .before .before .before .before .before .enum-told2 .given .1) _ (c .before .before .before .before .before .places-at .ensures) _
+    (c .before .before .before .before .start-at .ensures) _ _ (c .before .before .emit .ensures)
+
+emit-loop-again : (t : ℕ) → emit-lts.Need-loop-again (
+  node-at-reads.Asked,
+  node-at-reads.Learnt,
+  branch-fork-reads.Asked,
+  branch-fork-reads.Learnt,
+  branches-below t,
+  branches.Post,
+  body-size-reads.Asked,
+  body-size-reads.Learnt,
+  turns-behind-reads.Asked,
+  turns-behind-reads.Learnt,
+  rounds-below t,
+  rounds.Post,
+  places-at-reads.Asked,
+  places-at-reads.Learnt,
+  start-at-reads.Asked,
+  start-at-reads.Learnt,
+  emit-below t,
+  emit.Post,
+) (emit-at t) emit.Post emit-Inv-loop emit-μ-loop
+emit-loop-again t c = left-again _ _ _ _ _ _ _ _ _ _ (c .before .before .before .before .before .before .before .before .before .before .before .before .loop .inv)
+    _ (c .before .before .before .before .before .before .before .before .before .before .before .node-at .ensures)
+    (c .before .before .before .before .before .before .enum-told2 .given .1) _ (c .before .before .before .before .before .places-at .ensures) _
+    (c .before .before .before .before .start-at .ensures) _ _ (c .before .before .emit .ensures)
+
+abbrev rounds-Inv-loop : rounds-lts.InvT-loop
+rounds-Inv-loop room i c n m end table₀ b w k copies₀ forks₀ from₀ way₀ table copies forks from way = RoundsLeft room i c n m end table₀ b w k copies forks table
+    from way
+
+abbrev rounds-μ-loop : rounds-lts.MeasureT-loop
+rounds-μ-loop room i c n m end table₀ b w k copies₀ forks₀ from₀ way₀ table copies forks from way = copies + forks
+
+rounds-loop-holds : (t : ℕ) → rounds-lts.Need-loop-holds (
+  start-at-reads.Asked,
+  start-at-reads.Learnt,
+  body-below t,
+  body.Post,
+  node-at-reads.Asked,
+  node-at-reads.Learnt,
+  fork-reads.Asked,
+  fork-reads.Learnt,
+) (rounds-at t) rounds.Post rounds-Inv-loop rounds-μ-loop
+rounds-loop-holds t c = rounds-start _ _ _ _ _ _ _ _ _ _ (c .before .before .pre .1)
 
 rounds-add-rest : (t : ℕ) → rounds-lts.Need-add-rest (
   start-at-reads.Asked,
   start-at-reads.Learnt,
   body-below t,
   body.Post,
-  rounds-below t,
-  rounds.Post,
   node-at-reads.Asked,
   node-at-reads.Learnt,
   fork-reads.Asked,
   fork-reads.Learnt,
-) (rounds-at t) rounds.Post
-rounds-add-rest t c = copy-fits _ _ _ _ _ _ _ _ _ _ (c .if1 .taken) (c .before .before .before .pre .1)
+) (rounds-at t) rounds.Post rounds-Inv-loop rounds-μ-loop
+rounds-add-rest t c = rounds-copy-fits _ _ _ _ _ _ _ _ _ _ _ _ _ _ _ (c .before .loop .inv) (c .if1 .taken)
 
 rounds-start-at-requires : (t : ℕ) → rounds-lts.Need-start-at-requires (
   start-at-reads.Asked,
   start-at-reads.Learnt,
   body-below t,
   body.Post,
-  rounds-below t,
-  rounds.Post,
   node-at-reads.Asked,
   node-at-reads.Learnt,
   fork-reads.Asked,
   fork-reads.Learnt,
-) (rounds-at t) rounds.Post
+) (rounds-at t) rounds.Post rounds-Inv-loop rounds-μ-loop
 rounds-start-at-requires t c κs = search needs
 
 rounds-body-requires : (t : ℕ) → rounds-lts.Need-body-requires (
@@ -1166,133 +1166,113 @@ rounds-body-requires : (t : ℕ) → rounds-lts.Need-body-requires (
   start-at-reads.Learnt,
   body-below t,
   body.Post,
-  rounds-below t,
-  rounds.Post,
   node-at-reads.Asked,
   node-at-reads.Learnt,
   fork-reads.Asked,
   fork-reads.Learnt,
-) (rounds-at t) rounds.Post
-rounds-body-requires t c κs = copy-first _ _ _ _ _ _ _ _ _ _ (c .before .before .if1 .taken) _ (c .before .start-at .ensures) (c .before .before .before .before .before .pre .1) _
-    (c .before .before .before .before .before .pre .0)
+) (rounds-at t) rounds.Post rounds-Inv-loop rounds-μ-loop
+rounds-body-requires t c κs = (
+  body-lower _ _ _ _ _ (c .before .before .before .before .before .before .pre .0),
+  rounds-copy _ _ _ _ _ _ _ _ _ _ _ _ _ _ _
+      (c .before .before .before .loop .inv) (c .before .before .if1 .taken) _ (c .before .start-at .ensures),
+)
 
-rounds-sub-rounds : (t : ℕ) → rounds-lts.Need-sub-rounds (
+rounds-sub-copies : (t : ℕ) → rounds-lts.Need-sub-copies (
   start-at-reads.Asked,
   start-at-reads.Learnt,
   body-below t,
   body.Post,
-  rounds-below t,
-  rounds.Post,
   node-at-reads.Asked,
   node-at-reads.Learnt,
   fork-reads.Asked,
   fork-reads.Learnt,
-) (rounds-at t) rounds.Post
-rounds-sub-rounds t c = copy-less _ _ _ _ _ _ _ _ _ _ (c .before .before .before .before .before .if1 .taken)
-    (c .before .before .before .before .before .before .before .before .pre .1)
+) (rounds-at t) rounds.Post rounds-Inv-loop rounds-μ-loop
+rounds-sub-copies t c = omega (arith, (c .before .before .before .before .before .if1 .taken))
 
-rounds-rounds-requires : (t : ℕ) → rounds-lts.Need-rounds-requires (
+rounds-loop-less : (t : ℕ) → rounds-lts.Need-loop-less (
   start-at-reads.Asked,
   start-at-reads.Learnt,
   body-below t,
   body.Post,
-  rounds-below t,
-  rounds.Post,
   node-at-reads.Asked,
   node-at-reads.Learnt,
   fork-reads.Asked,
   fork-reads.Learnt,
-) (rounds-at t) rounds.Post
-rounds-rounds-requires t c κs = copy-again _ _ _ _ _ _ _ _ _ _ (c .before .before .before .before .before .before .if1 .taken) _
-    (c .before .before .before .before .before .start-at .ensures) (c .before .before .before .before .before .before .before .before .before .pre .1) _ _
-    (c .before .before .before .body .ensures) _ (c .before .before .before .before .before .before .before .before .before .pre .0)
+) (rounds-at t) rounds.Post rounds-Inv-loop rounds-μ-loop
+rounds-loop-less t c = omega (arith, (c .before .before .before .before .before .if1 .taken))
+
+rounds-loop-again : (t : ℕ) → rounds-lts.Need-loop-again (
+  start-at-reads.Asked,
+  start-at-reads.Learnt,
+  body-below t,
+  body.Post,
+  node-at-reads.Asked,
+  node-at-reads.Learnt,
+  fork-reads.Asked,
+  fork-reads.Learnt,
+) (rounds-at t) rounds.Post rounds-Inv-loop rounds-μ-loop
+rounds-loop-again t c = rounds-copied _ _ _ _ _ _ _ _ _ _ _ _ _ _ _ (c .before .before .before .before .before .before .loop .inv)
+    (c .before .before .before .before .before .if1 .taken) _ (c .before .before .before .before .start-at .ensures) _ _ (c .before .before .body .ensures)
 
 rounds-same-length : (t : ℕ) → rounds-lts.Need-same-length (
   start-at-reads.Asked,
   start-at-reads.Learnt,
   body-below t,
   body.Post,
-  rounds-below t,
-  rounds.Post,
   node-at-reads.Asked,
   node-at-reads.Learnt,
   fork-reads.Asked,
   fork-reads.Learnt,
-) (rounds-at t) rounds.Post
-rounds-same-length t c = emitted-length _ _ _ _ _ _ (copy-done _ _ _ _ _ _ _ _ _ _ (c .before .before .before .before .before .before .before .before .before .if1 .taken) _
-    (c .before .before .before .before .before .before .before .before .start-at .ensures) (c .before .before .before .before .before .before .before .before .before .before
-    .before .before .pre .1) _ _ (c .before .before .before .before .before .before .body .ensures) _ _ (c .before .before .rounds .ensures))
+) (rounds-at t) rounds.Post rounds-Inv-loop rounds-μ-loop
+rounds-same-length t c = rounds-none-length _ _ _ _ _ _ _ _ _ _ _ _ _ _ _ (c .before .before .loop .inv) (c .before .if1 .left) (c .if2 .taken)
+    (c .before .before .before .before .before .pre .1)
 
 rounds-returns : (t : ℕ) → rounds-lts.Need-returns (
   start-at-reads.Asked,
   start-at-reads.Learnt,
   body-below t,
   body.Post,
-  rounds-below t,
-  rounds.Post,
   node-at-reads.Asked,
   node-at-reads.Learnt,
   fork-reads.Asked,
   fork-reads.Learnt,
-) (rounds-at t) rounds.Post
-rounds-returns t c = λ h. copy-done _ _ _ _ _ _ _ _ _ _ (c .before .before .before .before .before .before .before .before .before .if1 .taken) _
-    (c .before .before .before .before .before .before .before .before .start-at .ensures) h _ _ (c .before .before .before .before .before .before .body .ensures) _ _
-    (c .before .before .rounds .ensures)
-
-rounds-returns-2 : (t : ℕ) → rounds-lts.Need-returns-2 (
-  start-at-reads.Asked,
-  start-at-reads.Learnt,
-  body-below t,
-  body.Post,
-  rounds-below t,
-  rounds.Post,
-  node-at-reads.Asked,
-  node-at-reads.Learnt,
-  fork-reads.Asked,
-  fork-reads.Learnt,
-) (rounds-at t) rounds.Post
-rounds-returns-2 t c = λ h. none-done _ _ _ _ _ _ _ _ _ _ (c .before .if1 .left) (c .if2 .taken) h
+) (rounds-at t) rounds.Post rounds-Inv-loop rounds-μ-loop
+rounds-returns t c = λ h. rounds-none _ _ _ _ _ _ _ _ _ _ _ _ _ _ _ (c .before .before .loop .inv) (c .before .if1 .left) (c .if2 .taken) h
 
 rounds-node-at-requires : (t : ℕ) → rounds-lts.Need-node-at-requires (
   start-at-reads.Asked,
   start-at-reads.Learnt,
   body-below t,
   body.Post,
-  rounds-below t,
-  rounds.Post,
   node-at-reads.Asked,
   node-at-reads.Learnt,
   fork-reads.Asked,
   fork-reads.Learnt,
-) (rounds-at t) rounds.Post
-rounds-node-at-requires t c κs = round-in _ _ _ _ _ _ _ _ _ _ (c .before .before .before .before .pre .1)
+) (rounds-at t) rounds.Post rounds-Inv-loop rounds-μ-loop
+rounds-node-at-requires t c κs = rounds-in _ _ _ _ _ _ _ _ _ _ _ _ _ _ _ (c .before .before .loop .inv)
 
 rounds-add-first : (t : ℕ) → rounds-lts.Need-add-first (
   start-at-reads.Asked,
   start-at-reads.Learnt,
   body-below t,
   body.Post,
-  rounds-below t,
-  rounds.Post,
   node-at-reads.Asked,
   node-at-reads.Learnt,
   fork-reads.Asked,
   fork-reads.Learnt,
-) (rounds-at t) rounds.Post
-rounds-add-first t c = first-fits _ _ _ _ _ _ _ _ _ _ (c .before .before .before .before .before .pre .1)
+) (rounds-at t) rounds.Post rounds-Inv-loop rounds-μ-loop
+rounds-add-first t c = rounds-first _ _ _ _ _ _ _ _ _ _ _ _ _ _ _ (c .before .before .before .loop .inv)
 
 rounds-start-at-requires-2 : (t : ℕ) → rounds-lts.Need-start-at-requires-2 (
   start-at-reads.Asked,
   start-at-reads.Learnt,
   body-below t,
   body.Post,
-  rounds-below t,
-  rounds.Post,
   node-at-reads.Asked,
   node-at-reads.Learnt,
   fork-reads.Asked,
   fork-reads.Learnt,
-) (rounds-at t) rounds.Post
+) (rounds-at t) rounds.Post rounds-Inv-loop rounds-μ-loop
 rounds-start-at-requires-2 t c κs = search needs
 
 rounds-fork-requires : (t : ℕ) → rounds-lts.Need-fork-requires (
@@ -1300,82 +1280,84 @@ rounds-fork-requires : (t : ℕ) → rounds-lts.Need-fork-requires (
   start-at-reads.Learnt,
   body-below t,
   body.Post,
-  rounds-below t,
-  rounds.Post,
   node-at-reads.Asked,
   node-at-reads.Learnt,
   fork-reads.Asked,
   fork-reads.Learnt,
-) (rounds-at t) rounds.Post
-rounds-fork-requires t c κs = star-choose _ _ _ _ _ _ _ _ _ _ (c .before .before .before .before .before .if1 .left) (c .before .before .if3 .taken) _
-    (c .before .before .before .node-at .ensures) _ (c .before .start-at2 .ensures) (c .before .before .before .before .before .before .before .before .pre .1)
+) (rounds-at t) rounds.Post rounds-Inv-loop rounds-μ-loop
+rounds-fork-requires t c κs = rounds-star _ _ _ _ _ _ _ _ _ _ _ _ _ _ _ (c .before .before .before .before .before .before .loop .inv)
+    (c .before .before .before .before .before .if1 .left) _ (c .before .before .before .node-at .ensures) (c .before .before .if3 .taken) _
+    (c .before .start-at2 .ensures)
 
 rounds-body-requires-2 : (t : ℕ) → rounds-lts.Need-body-requires-2 (
   start-at-reads.Asked,
   start-at-reads.Learnt,
   body-below t,
   body.Post,
-  rounds-below t,
-  rounds.Post,
   node-at-reads.Asked,
   node-at-reads.Learnt,
   fork-reads.Asked,
   fork-reads.Learnt,
-) (rounds-at t) rounds.Post
-rounds-body-requires-2 t c κs = star-body _ _ _ _ _ _ _ _ _ _ (c .before .before .before .before .before .before .before .before .before .if1 .left)
-    (c .before .before .before .before .before .before .if3 .taken) _ (c .before .before .before .before .before .before .before .node-at .ensures) _
-    (c .before .before .before .before .before .start-at2 .ensures) (c .before .before .before .before .before .before .before .before .before .before .before .before .pre .1) _
-    _ (c .before .before .before .fork .ensures) _ (c .before .before .before .before .before .before .before .before .before .before .before .before .pre .0)
+) (rounds-at t) rounds.Post rounds-Inv-loop rounds-μ-loop
+rounds-body-requires-2 t c κs = (
+  body-lower _ _ _ _ _
+      (c .before .before .before .before .before .before .before .before .before .before .before .before .before .pre .0),
+  rounds-star-body _ _ _ _ _ _ _ _ _ _ _ _ _ _ _
+      (c .before .before .before .before .before .before .before .before .before .before .loop .inv)
+      (c .before .before .before .before .before .before .before .before
+      .before .if1 .left) _ (c .before .before .before .before .before .before .before .node-at .ensures) (c .before .before .before .before .before .before .if3
+      .taken) _
+      (c .before .before .before .before .before .start-at2 .ensures) _ _ (c .before .before .before .fork .ensures),
+)
 
 rounds-same-length-2 : (t : ℕ) → rounds-lts.Need-same-length-2 (
   start-at-reads.Asked,
   start-at-reads.Learnt,
   body-below t,
   body.Post,
-  rounds-below t,
-  rounds.Post,
   node-at-reads.Asked,
   node-at-reads.Learnt,
   fork-reads.Asked,
   fork-reads.Learnt,
-) (rounds-at t) rounds.Post
-rounds-same-length-2 t c = emitted-length _ _ _ _ _ _ (star-done _ _ _ _ _ _ _ _ _ _ (c .before .before .before .before .before .before .before .before .before .before .before
-    .before .if1 .left) (c .before .before .before .before .before .before .before .before .before .if3 .taken) _
-    (c .before .before .before .before .before .before .before .before .before .before .node-at .ensures) _
-    (c .before .before .before .before .before .before .before .before .start-at2 .ensures)
-    (c .before .before .before .before .before .before .before .before .before .before .before .before .before .before .before .pre .1) _ _
-    (c .before .before .before .before .before .before .fork .ensures) _ _ (c .before .before .body2 .ensures))
+) (rounds-at t) rounds.Post rounds-Inv-loop rounds-μ-loop
+rounds-same-length-2 t c = rounds-starred-length _ _ _ _ _ _ _ _ _ _ _ _ _ _ _
+    (c .before .before .before .before .before .before .before .before .before .before .before .before .before .loop .inv)
+    (c .before .before .before .before .before .before .before .before .before .before .before .before .if1 .left) _
+    (c .before .before .before .before .before .before .before .before .before .before .node-at .ensures)
+    (c .before .before .before .before .before .before .before .before .before .if3 .taken) _
+    (c .before .before .before .before .before .before .before .before .start-at2 .ensures) _ _ (c .before .before .before .before .before .before .fork .ensures) _
+    _
+    (c .before .before .body2 .ensures)
+    (c .before .before .before .before .before .before .before .before .before .before .before .before .before .before .before .before .pre .1)
 
-rounds-returns-3 : (t : ℕ) → rounds-lts.Need-returns-3 (
+rounds-returns-2 : (t : ℕ) → rounds-lts.Need-returns-2 (
   start-at-reads.Asked,
   start-at-reads.Learnt,
   body-below t,
   body.Post,
-  rounds-below t,
-  rounds.Post,
   node-at-reads.Asked,
   node-at-reads.Learnt,
   fork-reads.Asked,
   fork-reads.Learnt,
-) (rounds-at t) rounds.Post
-rounds-returns-3 t c = λ h. star-done _ _ _ _ _ _ _ _ _ _ (c .before .before .before .before .before .before .before .before .before .before .before .before .if1 .left)
+) (rounds-at t) rounds.Post rounds-Inv-loop rounds-μ-loop
+rounds-returns-2 t c = λ h. rounds-starred _ _ _ _ _ _ _ _ _ _ _ _ _ _ _
+    (c .before .before .before .before .before .before .before .before .before .before .before .before .before .loop .inv)
+    (c .before .before .before .before .before .before .before .before .before .before .before .before .if1 .left) _
+    (c .before .before .before .before .before .before .before .before .before .before .node-at .ensures)
     (c .before .before .before .before .before .before .before .before .before .if3 .taken) _
-    (c .before .before .before .before .before .before .before .before .before .before .node-at .ensures) _
-    (c .before .before .before .before .before .before .before .before .start-at2 .ensures) h _ _ (c .before .before .before .before .before .before .fork .ensures) _ _
-    (c .before .before .body2 .ensures)
+    (c .before .before .before .before .before .before .before .before .start-at2 .ensures) _ _ (c .before .before .before .before .before .before .fork .ensures) _
+    _ (c .before .before .body2 .ensures) h
 
 rounds-start-at-requires-3 : (t : ℕ) → rounds-lts.Need-start-at-requires-3 (
   start-at-reads.Asked,
   start-at-reads.Learnt,
   body-below t,
   body.Post,
-  rounds-below t,
-  rounds.Post,
   node-at-reads.Asked,
   node-at-reads.Learnt,
   fork-reads.Asked,
   fork-reads.Learnt,
-) (rounds-at t) rounds.Post
+) (rounds-at t) rounds.Post rounds-Inv-loop rounds-μ-loop
 rounds-start-at-requires-3 t c κs = search needs
 
 rounds-fork-requires-2 : (t : ℕ) → rounds-lts.Need-fork-requires-2 (
@@ -1383,45 +1365,39 @@ rounds-fork-requires-2 : (t : ℕ) → rounds-lts.Need-fork-requires-2 (
   start-at-reads.Learnt,
   body-below t,
   body.Post,
-  rounds-below t,
-  rounds.Post,
   node-at-reads.Asked,
   node-at-reads.Learnt,
   fork-reads.Asked,
   fork-reads.Learnt,
-) (rounds-at t) rounds.Post
-rounds-fork-requires-2 t c κs = option-choose _ _ _ _ _ _ _ _ _ _ (c .before .before .before .before .before .if1 .left) (c .before .before .before .before .if2 .left)
-    (c .before .before .if3 .left) _ (c .before .before .before .node-at .ensures) _ (c .before .start-at3 .ensures)
-    (c .before .before .before .before .before .before .before .before .pre .1)
+) (rounds-at t) rounds.Post rounds-Inv-loop rounds-μ-loop
+rounds-fork-requires-2 t c κs = rounds-option _ _ _ _ _ _ _ _ _ _ _ _ _ _ _ (c .before .before .before .before .before .before .loop .inv)
+    (c .before .before .before .before .before .if1 .left) _ (c .before .before .before .node-at .ensures) (c .before .before .before .before .if2 .left)
+    (c .before .before .if3 .left) _ (c .before .start-at3 .ensures)
 
 rounds-add-rest-2 : (t : ℕ) → rounds-lts.Need-add-rest-2 (
   start-at-reads.Asked,
   start-at-reads.Learnt,
   body-below t,
   body.Post,
-  rounds-below t,
-  rounds.Post,
   node-at-reads.Asked,
   node-at-reads.Learnt,
   fork-reads.Asked,
   fork-reads.Learnt,
-) (rounds-at t) rounds.Post
-rounds-add-rest-2 t c = option-more _ _ _ _ _ _ _ _ _ _ (c .before .before .before .before .before .before .before .before .if1 .left)
-    (c .before .before .before .before .before .before .before .if2 .left) (c .before .before .before .before .before .if3 .left) _
-    (c .before .before .before .before .before .before .node-at .ensures) (c .before .before .before .before .before .before .before .before .before .before .before .pre .1)
+) (rounds-at t) rounds.Post rounds-Inv-loop rounds-μ-loop
+rounds-add-rest-2 t c = rounds-option-fits _ _ _ _ _ _ _ _ _ _ _ _ _ _ _ (c .before .before .before .before .before .before .before .before .before .loop .inv)
+    (c .before .before .before .before .before .before .before .before .if1 .left) _ (c .before .before .before .before .before .before .node-at .ensures)
+    (c .before .before .before .before .before .before .before .if2 .left) (c .before .before .before .before .before .if3 .left)
 
 rounds-start-at-requires-4 : (t : ℕ) → rounds-lts.Need-start-at-requires-4 (
   start-at-reads.Asked,
   start-at-reads.Learnt,
   body-below t,
   body.Post,
-  rounds-below t,
-  rounds.Post,
   node-at-reads.Asked,
   node-at-reads.Learnt,
   fork-reads.Asked,
   fork-reads.Learnt,
-) (rounds-at t) rounds.Post
+) (rounds-at t) rounds.Post rounds-Inv-loop rounds-μ-loop
 rounds-start-at-requires-4 t c κs = search needs
 
 rounds-body-requires-3 : (t : ℕ) → rounds-lts.Need-body-requires-3 (
@@ -1429,101 +1405,65 @@ rounds-body-requires-3 : (t : ℕ) → rounds-lts.Need-body-requires-3 (
   start-at-reads.Learnt,
   body-below t,
   body.Post,
-  rounds-below t,
-  rounds.Post,
   node-at-reads.Asked,
   node-at-reads.Learnt,
   fork-reads.Asked,
   fork-reads.Learnt,
-) (rounds-at t) rounds.Post
-rounds-body-requires-3 t c κs = option-body _ _ _ _ _ _ _ _ _ _ (c .before .before .before .before .before .before .before .before .before .before .if1 .left)
-    (c .before .before .before .before .before .before .before .before .before .if2 .left) (c .before .before .before .before .before .before .before .if3 .left) _
-    (c .before .before .before .before .before .before .before .before .node-at .ensures) _ (c .before .before .before .before .before .before .start-at3 .ensures)
-    (c .before .before .before .before .before .before .before .before .before .before .before .before .before .pre .1) _ _ (c .before .before .before .before .fork2 .ensures) _
-    (c .before .start-at4 .ensures) _ (c .before .before .before .before .before .before .before .before .before .before .before .before .before .pre .0)
+) (rounds-at t) rounds.Post rounds-Inv-loop rounds-μ-loop
+rounds-body-requires-3 t c κs = (
+  body-lower _ _ _ _ _
+      (c .before .before .before .before .before .before .before .before .before .before .before .before .before .before .pre .0),
+  rounds-option-body _ _ _ _ _ _ _ _ _ _ _
+      _ _ _ _ (c .before .before .before .before .before .before .before .before .before .before .before .loop .inv)
+      (c .before .before .before .before .before .before
+      .before .before .before .before .if1 .left) _ (c .before .before .before .before .before .before .before .before .node-at .ensures) (c .before .before .before
+      .before .before .before .before .before .before .if2 .left) (c .before .before .before .before .before .before .before .if3 .left) _ (c .before .before .before
+      .before .before .before .start-at3 .ensures) _ _ (c .before .before .before .before .fork2 .ensures) _ (c .before .start-at4 .ensures),
+)
 
-rounds-sub-rounds-2 : (t : ℕ) → rounds-lts.Need-sub-rounds-2 (
+rounds-sub-forks : (t : ℕ) → rounds-lts.Need-sub-forks (
   start-at-reads.Asked,
   start-at-reads.Learnt,
   body-below t,
   body.Post,
-  rounds-below t,
-  rounds.Post,
   node-at-reads.Asked,
   node-at-reads.Learnt,
   fork-reads.Asked,
   fork-reads.Learnt,
-) (rounds-at t) rounds.Post
-rounds-sub-rounds-2 t c = option-less _ _ _ _ _ _ _ _ _ _ (c .before .before .before .before .before .before .before .before .before .before .before .before .before .if1 .left)
+) (rounds-at t) rounds.Post rounds-Inv-loop rounds-μ-loop
+rounds-sub-forks t c = omega (arith, (c .before .before .before .before .before .before .before .before .before .before .before .before .if2 .left))
+
+rounds-loop-less-2 : (t : ℕ) → rounds-lts.Need-loop-less-2 (
+  start-at-reads.Asked,
+  start-at-reads.Learnt,
+  body-below t,
+  body.Post,
+  node-at-reads.Asked,
+  node-at-reads.Learnt,
+  fork-reads.Asked,
+  fork-reads.Learnt,
+) (rounds-at t) rounds.Post rounds-Inv-loop rounds-μ-loop
+rounds-loop-less-2 t c = omega (arith, (c .before .before .before .before .before .before .before .before .before .before .before .before .if2 .left))
+
+rounds-loop-again-2 : (t : ℕ) → rounds-lts.Need-loop-again-2 (
+  start-at-reads.Asked,
+  start-at-reads.Learnt,
+  body-below t,
+  body.Post,
+  node-at-reads.Asked,
+  node-at-reads.Learnt,
+  fork-reads.Asked,
+  fork-reads.Learnt,
+) (rounds-at t) rounds.Post rounds-Inv-loop rounds-μ-loop
+rounds-loop-again-2 t c = rounds-optioned _ _ _ _ _ _ _ _ _ _ _ _ _ _ _
+    (c .before .before .before .before .before .before .before .before .before .before .before .before .before .before .loop .inv)
+    (c .before .before .before .before .before .before .before .before .before .before .before .before .before .if1 .left) _
+    (c .before .before .before .before .before .before .before .before .before .before .before .node-at .ensures)
     (c .before .before .before .before .before .before .before .before .before .before .before .before .if2 .left)
     (c .before .before .before .before .before .before .before .before .before .before .if3 .left) _
-    (c .before .before .before .before .before .before .before .before .before .before .before .node-at .ensures)
-    (c .before .before .before .before .before .before .before .before .before .before .before .before .before .before .before .before .pre .1)
-
-rounds-rounds-requires-2 : (t : ℕ) → rounds-lts.Need-rounds-requires-2 (
-  start-at-reads.Asked,
-  start-at-reads.Learnt,
-  body-below t,
-  body.Post,
-  rounds-below t,
-  rounds.Post,
-  node-at-reads.Asked,
-  node-at-reads.Learnt,
-  fork-reads.Asked,
-  fork-reads.Learnt,
-) (rounds-at t) rounds.Post
-rounds-rounds-requires-2 t c κs = option-again _ _ _ _ _ _ _ _ _ _ (c .before .before .before .before .before .before .before .before .before .before .before .before .before
-    .before .if1 .left) (c .before .before .before .before .before .before .before .before .before .before .before .before .before .if2 .left)
-    (c .before .before .before .before .before .before .before .before .before .before .before .if3 .left) _
-    (c .before .before .before .before .before .before .before .before .before .before .before .before .node-at .ensures) _
-    (c .before .before .before .before .before .before .before .before .before .before .start-at3 .ensures)
-    (c .before .before .before .before .before .before .before .before .before .before .before .before .before .before .before .before .before .pre .1) _ _
-    (c .before .before .before .before .before .before .before .before .fork2 .ensures) _ (c .before .before .before .before .before .start-at4 .ensures) _ _
-    (c .before .before .before .body3 .ensures) _ (c .before .before .before .before .before .before .before .before .before .before .before .before .before .before .before
-    .before .before .pre .0)
-
-rounds-same-length-3 : (t : ℕ) → rounds-lts.Need-same-length-3 (
-  start-at-reads.Asked,
-  start-at-reads.Learnt,
-  body-below t,
-  body.Post,
-  rounds-below t,
-  rounds.Post,
-  node-at-reads.Asked,
-  node-at-reads.Learnt,
-  fork-reads.Asked,
-  fork-reads.Learnt,
-) (rounds-at t) rounds.Post
-rounds-same-length-3 t c = emitted-length _ _ _ _ _ _ (option-done _ _ _ _ _ _ _ _ _ _ (c .before .before .before .before .before .before .before .before .before .before .before
-    .before .before .before .before .before .before .if1 .left) (c .before .before .before .before .before .before .before .before .before .before .before .before .before
-    .before .before .before .if2 .left) (c .before .before .before .before .before .before .before .before .before .before .before .before .before .before .if3 .left) _
-    (c .before .before .before .before .before .before .before .before .before .before .before .before .before .before .before .node-at .ensures) _
-    (c .before .before .before .before .before .before .before .before .before .before .before .before .before .start-at3 .ensures)
-    (c .before .before .before .before .before .before .before .before .before .before .before .before .before .before .before .before .before .before .before .before .pre .1) _
-    _ (c .before .before .before .before .before .before .before .before .before .before .before .fork2 .ensures) _
-    (c .before .before .before .before .before .before .before .before .start-at4 .ensures) _ _ (c .before .before .before .before .before .before .body3 .ensures) _ _
-    (c .before .before .rounds2 .ensures))
-
-rounds-returns-4 : (t : ℕ) → rounds-lts.Need-returns-4 (
-  start-at-reads.Asked,
-  start-at-reads.Learnt,
-  body-below t,
-  body.Post,
-  rounds-below t,
-  rounds.Post,
-  node-at-reads.Asked,
-  node-at-reads.Learnt,
-  fork-reads.Asked,
-  fork-reads.Learnt,
-) (rounds-at t) rounds.Post
-rounds-returns-4 t c = λ h. option-done _ _ _ _ _ _ _ _ _ _ (c .before .before .before .before .before .before .before .before .before .before .before .before .before .before
-    .before .before .before .if1 .left) (c .before .before .before .before .before .before .before .before .before .before .before .before .before .before .before .before .if2
-    .left) (c .before .before .before .before .before .before .before .before .before .before .before .before .before .before .if3 .left) _
-    (c .before .before .before .before .before .before .before .before .before .before .before .before .before .before .before .node-at .ensures) _
-    (c .before .before .before .before .before .before .before .before .before .before .before .before .before .start-at3 .ensures) h _ _
-    (c .before .before .before .before .before .before .before .before .before .before .before .fork2 .ensures) _
-    (c .before .before .before .before .before .before .before .before .start-at4 .ensures) _ _ (c .before .before .before .before .before .before .body3 .ensures) _ _
-    (c .before .before .rounds2 .ensures)
+    (c .before .before .before .before .before .before .before .before .before .start-at3 .ensures) _ _
+    (c .before .before .before .before .before .before .before .fork2 .ensures) _ (c .before .before .before .before .start-at4 .ensures) _ _
+    (c .before .before .body3 .ensures)
 
 pub +body+branches+emit+rounds-spec : {M : Type 1} → statement M
 +body+branches+emit+rounds-spec = close μ-body μ-branches μ-emit μ-rounds (λ t. body-lts.spec (
@@ -1568,23 +1508,24 @@ pub +body+branches+emit+rounds-spec : {M : Type 1} → statement M
       emit.Post,
       places-at-reads.Asked,
       places-at-reads.Learnt,
-      branches-below t,
-      branches.Post,
     )
     (branches-at t)
     branches.Post
+    branches-Inv-loop
+    branches-μ-loop
+    (branches-loop-holds t)
     (branches-node-at-requires t)
+    (branches-same-length t)
     (branches-returns t)
     (branches-enum-told t)
     (branches-emit-requires t)
-    (branches-places-at-requires t)
-    (branches-add-rest t)
-    (branches-branches-requires t)
-    (branches-same-length t)
+    (branches-same-length-2 t)
     (branches-returns-2 t)
     (branches-emit-requires-2 t)
-    (branches-same-length-2 t)
-    (branches-returns-3 t))
+    (branches-places-at-requires t)
+    (branches-add-rest t)
+    (branches-loop-less t)
+    (branches-loop-again t))
     (λ t. emit-lts.spec (
       node-at-reads.Asked,
       node-at-reads.Learnt,
@@ -1592,21 +1533,24 @@ pub +body+branches+emit+rounds-spec : {M : Type 1} → statement M
       branch-fork-reads.Learnt,
       branches-below t,
       branches.Post,
-      places-at-reads.Asked,
-      places-at-reads.Learnt,
-      emit-below t,
-      emit.Post,
-      start-at-reads.Asked,
-      start-at-reads.Learnt,
       body-size-reads.Asked,
       body-size-reads.Learnt,
       turns-behind-reads.Asked,
       turns-behind-reads.Learnt,
       rounds-below t,
       rounds.Post,
+      places-at-reads.Asked,
+      places-at-reads.Learnt,
+      start-at-reads.Asked,
+      start-at-reads.Learnt,
+      emit-below t,
+      emit.Post,
     )
     (emit-at t)
     emit.Post
+    emit-Inv-loop
+    emit-μ-loop
+    (emit-loop-holds t)
     (emit-node-at-requires t)
     (emit-add-end t)
     (emit-enum-told t)
@@ -1615,30 +1559,25 @@ pub +body+branches+emit+rounds-spec : {M : Type 1} → statement M
     (emit-branches-requires t)
     (emit-same-length t)
     (emit-returns t)
+    (emit-same-length-2 t)
     (emit-returns-2 t)
     (emit-enum-told-2 t)
-    (emit-places-at-requires t)
-    (emit-add-mid t)
-    (emit-emit-requires t)
-    (emit-same-length-2 t)
-    (emit-returns-3 t)
-    (emit-start-at-requires t)
-    (emit-emit-requires-2 t)
-    (emit-emit-requires-3 t)
-    (emit-same-length-3 t)
-    (emit-returns-4 t)
     (emit-body-size-requires t)
     (emit-turns-behind-requires t)
     (emit-rounds-requires t)
-    (emit-same-length-4 t)
-    (emit-returns-5 t))
+    (emit-same-length-3 t)
+    (emit-returns-3 t)
+    (emit-places-at-requires t)
+    (emit-add-mid t)
+    (emit-start-at-requires t)
+    (emit-emit-requires t)
+    (emit-loop-less t)
+    (emit-loop-again t))
     λ t. rounds-lts.spec (
       start-at-reads.Asked,
       start-at-reads.Learnt,
       body-below t,
       body.Post,
-      rounds-below t,
-      rounds.Post,
       node-at-reads.Asked,
       node-at-reads.Learnt,
       fork-reads.Asked,
@@ -1646,27 +1585,29 @@ pub +body+branches+emit+rounds-spec : {M : Type 1} → statement M
     )
     (rounds-at t)
     rounds.Post
+    rounds-Inv-loop
+    rounds-μ-loop
+    (rounds-loop-holds t)
     (rounds-add-rest t)
     (rounds-start-at-requires t)
     (rounds-body-requires t)
-    (rounds-sub-rounds t)
-    (rounds-rounds-requires t)
+    (rounds-sub-copies t)
+    (rounds-loop-less t)
+    (rounds-loop-again t)
     (rounds-same-length t)
     (rounds-returns t)
-    (rounds-returns-2 t)
     (rounds-node-at-requires t)
     (rounds-add-first t)
     (rounds-start-at-requires-2 t)
     (rounds-fork-requires t)
     (rounds-body-requires-2 t)
     (rounds-same-length-2 t)
-    (rounds-returns-3 t)
+    (rounds-returns-2 t)
     (rounds-start-at-requires-3 t)
     (rounds-fork-requires-2 t)
     (rounds-add-rest-2 t)
     (rounds-start-at-requires-4 t)
     (rounds-body-requires-3 t)
-    (rounds-sub-rounds-2 t)
-    (rounds-rounds-requires-2 t)
-    (rounds-same-length-3 t)
-    (rounds-returns-4 t)
+    (rounds-sub-forks t)
+    (rounds-loop-less-2 t)
+    (rounds-loop-again-2 t)
