@@ -39,11 +39,10 @@ extern "C" {
 #define MIRELADLE_MAX_MEASURES 8
 #define MIRELADLE_MAX_OFFSET 64       /* rows that PREV or NEXT looks away */
 
-/* Bytes of stack that a call needs, 96 KiB. Measured, not proved: of some 60,000 queries the worst
- * took 80,624 (a refused text of 8 open parentheses and 248 anchors) and the worst accepted one
- * 78,848; A+ B takes 18,528. Long sequences take the most, some 270 bytes for each letter or anchor;
- * the number of rows makes no difference. */
-#define MIRELADLE_STACK 98304
+/* Bytes of stack that a call needs, 32 KiB. Measured, not proved: of some 60,000 queries the worst
+ * took 27,184 (120 branches in 8 parentheses); A+ B takes 18,048. The number of rows makes no
+ * difference. */
+#define MIRELADLE_STACK 32768
 
 /* Bytes of notes that a number of pairs calls for; the trail takes one number for each pair. */
 #define MIRELADLE_NOTES_LENGTH(pairs) (((pairs) + 7) / 8)

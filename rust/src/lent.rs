@@ -4,15 +4,15 @@
 //! Every input gets an answer. Slices make sure of what C callers have to see to: valid pointers, and no overlap of
 //! what is written. All `unsafe` code of this crate stands here.
 
-/// Bytes of stack that a call of [`search()`] or [`room()`] needs, 96 KiB; the C header's
-/// `MIRELADLE_STACK`. It is measured and not proved: the worst query that was found took 80,624, and
+/// Bytes of stack that a call of [`search()`] or [`room()`] needs, 32 KiB; the C header's
+/// `MIRELADLE_STACK`. It is measured and not proved: the worst query that was found took 27,184, and
 /// the rest is reserve.
 ///
 /// Threads of the standard library have 2 MiB. One that is given less by
-/// [`stack_size`](std::thread::Builder::stack_size) needs at least 128 KiB, since the thread and this
+/// [`stack_size`](std::thread::Builder::stack_size) needs at least 64 KiB, since the thread and this
 /// crate take some as well. With too little a long pattern overflows the stack, which ends the
 /// process.
-pub const STACK: usize = 98_304;
+pub const STACK: usize = 32_768;
 
 /// What a search returns. On the answers 1 to 12 and 14 all but the answer, and the offset of 5 and 14, are 0.
 #[repr(C)]

@@ -47,7 +47,7 @@
 //!
 //! # Stack
 //!
-//! A thread with a small stack needs at least 128 KiB to search, or to build a query; see
+//! A thread with a small stack needs at least 64 KiB to search, or to build a query; see
 //! [`lent::STACK`].
 
 #![deny(missing_docs)]
