@@ -9,11 +9,11 @@ use denote.Enum.Declared.{tagOf}
 use mir.Val.{Fits as Fits-in}
 use mir.Syntax.{w64}
 use lib.Dec.{eqb}
-use lib.ListN.{length}
-use borrow.Author.Tests.{eq-eqb}
+use lib.ListN.{length, getD}
+use borrow.Author.Tests.{eq-eqb, ne-eqb, eqb-true, eqb-false}
 use Rattle.rules.specs.Basics.{pick, has}
 use Rattle.rules.specs.Language.{pattern, branch, Tree, one, more, last, next}
-use Rattle.rules.specs.Places.{Unrolled, Branches, uNil, uCons, unrolled, Place, pFork, size, sizes, startOf, startsOf, placeCount}
+use Rattle.rules.specs.Places.{Unrolled, Branches, uNil, uCons, unrolled, pFork, size, sizes, startOf, startsOf, placeCount}
 use Rattle.rules.proofs.Counting.{unrolled-size}
 use Rattle.rules.proofs.Distinct.{keepNew, fresh, distinct}
 use Rattle.nodes.specs.Nodes.{nodeAt}
@@ -23,30 +23,60 @@ use Rattle.nodes.specs.declared.Node.{Node}
 use Rattle.nodes.proofs.Sort.{the-type}
 use Rattle.pattern.specs.Held.{Top, At}
 use Rattle.pattern.proofs.ByNode.{as-any, as-alt, at-in, alt-left, alt-right, top-places}
-use Rattle.forks.specs.Tables.{span}
-use Rattle.forks.specs.Emitting.{putWays, putWords, putPlace, wayCount, waysIn, putPlaces, Fitting, Emitted, WayPut, WayNeeds, newStarts, Starting, Started, twoPlaces, TwoWays, choicePlaces, Choosing, forkPlaces, Forking}
-use Rattle.forks.proofs.TableLaws.{ways-length}
+use Rattle.table.specs.Table.{span}
+use Rattle.forks.specs.Emitting.{putWays, putWords, forkCode, putPlace, putFork, ForkNeeds, wayCount, waysIn, putPlaces, Fitting, Emitted, WayPut, WayNeeds, newStarts, Starting, Started, twoPlaces, TwoWays, choicePlaces, Choosing, forkPlaces, Forking}
+use Rattle.forks.proofs.TableLaws.{ways-length, ways-first}
 use Rattle.forks.proofs.WayLaws.{AfterWay, after-way, start-end, start-by-size}
 
 -- ---- a place that is put
 
--- a fork whose ways are put, and then its words
-pub fork-put : (T T1 T2 : List ℕ) (b w : ℕ) (ks : List ℕ) (to : ℕ) → T1 ≡ putWays T w ks → to ≡ w + length ks → T2 ≡ putWords T1 b 0 0 w to
-    → Emitted T T2 b w to (pFork ks ∷ [])
-unfolding putPlaces putPlace waysIn wayCount
-fork-put T T1 T2 b w ks to e1 e2 e3 =
-    record { is = e3 ∙ rw (e1, e2) refl; way = omega arith }
+-- the words of a fork, whose first way is read
+pub fork-words : (T U : List ℕ) (b w to first code : ℕ) → (first ≡ getD T w 0) × (first < 65536) → (code ≡ forkCode first (b + 1)) × (code < 65536)
+    → U ≡ putWords T b code first w (to - w) → (to ≡ to) × (U ≡ putFork T b w to)
+fork-words T U b w to first code ef ec e = (refl, e ∙ rw (ec .0, ef .0) refl)
 
--- the words of a fork fit
-pub fork-words : (T T1 : List ℕ) (b w k : ℕ) (ks : List ℕ) (to : ℕ) → Fitting T b w k (pFork ks ∷ []) → length T1 ≡ length T → to ≡ w + length ks
-    → (4 * b + 4 ≤ length T1) × (w < 65536) × (to < 65536)
-unfolding waysIn wayCount
-fork-words T T1 b w k ks to f l e = (omega (arith, f .place, f .long), omega (arith, f .way, f .small), omega (arith, f .way, f .small))
+-- a fork whose ways are put, and then its words
+module _ (T T1 : List ℕ) (b w k : ℕ) (ks : List ℕ) (to : ℕ) (f : Fitting T b w k (pFork ks ∷ [])) (s : 0 < length ks) (e1 : T1 ≡ putWays T w ks) (e2 : to ≡ w + length ks) where
+  fork-length : length T1 ≡ length T
+  fork-length = ap length e1 ∙ ways-length T w ks
+
+  fork-room : w + length ks ≤ length T
+  unfolding waysIn wayCount
+  fork-room = omega (arith, f .way)
+
+  pub fork-needs : ForkNeeds T1 b w to
+  fork-needs =
+      record {
+        long = omega (arith, f .long, fork-length);
+        some = omega arith;
+        inside = omega (arith, fork-room, fork-length);
+        small = omega (arith, f .small, fork-length);
+      }
+
+  fork-first : getD T1 w 0 ≡ getD ks 0 0
+  fork-first = ap (λ (U : List ℕ). getD U w 0) e1 ∙ ways-first T w ks s fork-room
+
+  pub fork-put : (T2 : List ℕ) (r : ℕ) → (r ≡ to) × (T2 ≡ putFork T1 b w to) → Emitted T T2 b w r (pFork ks ∷ [])
+  unfolding putPlaces putPlace waysIn wayCount
+  fork-put T2 r d =
+      let m : to - w ≡ length ks = omega arith in
+      record { is = d .1 ∙ rw (fork-first, m, e1) refl; way = omega (arith, d .0) }
 
 -- one that is not among those seen is new
 one-new : (seen : List ℕ) (y : ℕ) (ys : List ℕ) → has y seen ≡ false → 1 ≤ length (fresh seen (y ∷ ys))
 unfolding fresh
 one-new seen y ys e = rw e (omega arith)
+
+pub distinct-some : (ks : List ℕ) → 0 < length ks → 0 < length (distinct ks)
+unfolding fresh has
+distinct-some [] h = h
+distinct-some (k ∷ ks) h = omega arith
+
+-- an alternation has a branch
+starts-some : (p : Tree pattern) (b k : ℕ) → 0 < length (startsOf (unrolled p) b k)
+unfolding unrolled startsOf
+starts-some (one x) b k = omega arith
+starts-some (more x p) b k = omega arith
 
 span-none : (T : List ℕ) (w : ℕ) → span T w (w - w) ≡ []
 unfolding span
@@ -93,9 +123,6 @@ module _ (T : List ℕ) (b w x y : ℕ) (h : TwoWays T b w x y) where
       then : AfterWay T1 w r1 y [] T2 to two-second q
       then = after-way T1 w r1 y [] T2 to two-second q
 
-      pub two-length : length T2 ≡ length T
-      two-length = then .len ∙ after .len
-
       two-put : T2 ≡ putWays T w (distinct (x ∷ y ∷ []))
       unfolding fresh putWays
       two-put =
@@ -108,31 +135,63 @@ module _ (T : List ℕ) (b w x y : ℕ) (h : TwoWays T b w x y) where
           let a : to ≡ to + length (fresh (span T2 w (to - w)) []) = omega arith in
           a ∙ ap (λ (s : List ℕ). to + length s) (sym (then .seen)) ∙ then .count ∙ sum
 
-      pub two-words : (4 * b + 4 ≤ length T2) × (w < 65536) × (to < 65536)
-      two-words = fork-words T T2 b w x (distinct (x ∷ y ∷ [])) to (h .fits) two-length two-count
+      pub two-needs : ForkNeeds T2 b w to
+      two-needs = fork-needs T T2 b w x (distinct (x ∷ y ∷ [])) to (h .fits) (distinct-some (x ∷ y ∷ []) (omega arith)) two-put two-count
 
-      pub two-done : (T3 : List ℕ) → T3 ≡ putWords T2 b 0 0 w to → Emitted T T3 b w to (twoPlaces x y)
-      two-done T3 e = fork-put T T2 T3 b w (distinct (x ∷ y ∷ [])) to two-put two-count e
+      pub two-done : (T3 : List ℕ) (r : ℕ) → (r ≡ to) × (T3 ≡ putFork T2 b w to) → Emitted T T3 b w r (twoPlaces x y)
+      two-done T3 r e = fork-put T T2 b w x (distinct (x ∷ y ∷ [])) to (h .fits) (distinct-some (x ∷ y ∷ []) (omega arith)) two-put two-count T3 r e
 
 -- ---- a copy and leaving
 
-module _ (T : List ℕ) (b w : ℕ) (lazy : Bool) (copy leave : ℕ) where
-  refit : (k j : ℕ) (pl : List Place) → Fitting T b w k pl → j ≤ 256 → Fitting T b w j pl
-  refit k j pl f h = record { long = f .long; small = f .small; place = f .place; way = f .way; behind = h }
+-- two ways are as many in either order
+either-order : (x y : ℕ) → length (distinct (x ∷ y ∷ [])) ≡ length (distinct (y ∷ x ∷ []))
+unfolding fresh has
+either-order x y = go (eqb x y) refl
+  where
+    go : (t : Bool) → eqb x y ≡ t → length (distinct (x ∷ y ∷ [])) ≡ length (distinct (y ∷ x ∷ []))
+    go true e = rw (eqb-true x y e)
+    go false e = rw (e, ne-eqb y x (λ z. eqb-false x y e (sym z)))
 
-  pub lazy-needs : Choosing T b w lazy copy leave → lazy ≡ true → TwoWays T b w leave copy
-  lazy-needs h e = record { fits = subst (λ (z : Bool). Fitting T b w leave (choicePlaces z copy leave)) e (h .fits); second = h .copied }
+module _ (T : List ℕ) (b w : ℕ) (lazy : Bool) (copy leave : ℕ) where
+  ways-fit : (z : Bool) → Fitting T b w leave (choicePlaces z copy leave) → w + length (distinct (copy ∷ leave ∷ [])) ≤ length T
+  unfolding waysIn wayCount
+  ways-fit true f = omega (arith, f .way, either-order leave copy)
+  ways-fit false f = omega (arith, f .way)
+
+  -- the two ways fit, whichever comes first
+  module _ (h : Choosing T b w lazy copy leave) where
+    pub greedy-needs : TwoWays T b w copy leave
+    unfolding waysIn wayCount
+    greedy-needs =
+        let f = h .fits in
+        record {
+          fits = record {
+            long = omega (arith, f .long);
+            small = f .small;
+            place = omega (arith, f .place);
+            way = omega (arith, ways-fit lazy f);
+            behind = h .copied;
+          };
+          second = f .behind;
+        }
+
+    pub lazy-needs : TwoWays T b w leave copy
+    unfolding waysIn wayCount
+    lazy-needs =
+        let f = h .fits in
+        record {
+          fits = record {
+            long = omega (arith, f .long);
+            small = f .small;
+            place = omega (arith, f .place);
+            way = omega (arith, ways-fit lazy f, either-order leave copy);
+            behind = f .behind;
+          };
+          second = h .copied;
+        }
 
   pub lazy-done : (T2 : List ℕ) (r : ℕ) → lazy ≡ true → Emitted T T2 b w r (twoPlaces leave copy) → Emitted T T2 b w r (choicePlaces lazy copy leave)
   lazy-done T2 r e d = rw e d
-
-  pub greedy-needs : Choosing T b w lazy copy leave → lazy ≡ false → TwoWays T b w copy leave
-  greedy-needs h e =
-      record {
-        fits = refit leave copy (twoPlaces copy leave) (subst (λ (z : Bool). Fitting T b w leave (choicePlaces z copy leave)) e (h .fits)) (h .copied);
-        second = h .fits
-            .behind;
-      }
 
   pub greedy-done : (T2 : List ℕ) (r : ℕ) → lazy ≡ false → Emitted T T2 b w r (twoPlaces copy leave) → Emitted T T2 b w r (choicePlaces lazy copy leave)
   greedy-done T2 r e d = rw e d
@@ -368,12 +427,14 @@ module _ (s : List ℕ) (i : ℕ) (T : List ℕ) (b w k : ℕ) (h : Forking s i 
     unfolding fork-starting
     ways-count = (d fork-starting) .way ∙ ap (λ (ks : List ℕ). w + length ks) starts-all
 
-    pub forking-words : (4 * b + 4 ≤ length T1) × (w < 65536) × (to < 65536)
-    forking-words = fork-words T T1 b w k (distinct (startsOf (unrolled (h .tree)) (b + 1) k)) to (h .fits) (ap length ways-put ∙ ways-length T w _) ways-count
+    ways-some : 0 < length (distinct (startsOf (unrolled (h .tree)) (b + 1) k))
+    ways-some = distinct-some (startsOf (unrolled (h .tree)) (b + 1) k) (starts-some (h .tree) (b + 1) k)
 
-    pub forking-done : (T2 : List ℕ) → T2 ≡ putWords T1 b 0 0 w to → Emitted T T2 b w to
-        (forkPlaces (h .tree) b k)
-    forking-done T2 e = fork-put T T1 T2 b w (distinct (startsOf (unrolled (h .tree)) (b + 1) k)) to ways-put ways-count e
+    pub forking-needs : ForkNeeds T1 b w to
+    forking-needs = fork-needs T T1 b w k (distinct (startsOf (unrolled (h .tree)) (b + 1) k)) to (h .fits) ways-some ways-put ways-count
+
+    pub forking-done : (T2 : List ℕ) (r : ℕ) → (r ≡ to) × (T2 ≡ putFork T1 b w to) → Emitted T T2 b w r (forkPlaces (h .tree) b k)
+    forking-done T2 r e = fork-put T T1 b w k (distinct (startsOf (unrolled (h .tree)) (b + 1) k)) to (h .fits) ways-some ways-put ways-count T2 r e
 
 -- ---- sorts that are not these
 

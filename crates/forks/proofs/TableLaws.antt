@@ -1,14 +1,67 @@
--- Places in a table: those that were put are read back, and other words are as they were.
+-- Places in a table, in the layout of crates/table: those that were put are read back, and keep to
+-- what the walk relies on; other words are as they were. A letter's place is read back only if its
+-- letter is A to Z, and a fork only if it has a way (`Sound`).
 use mathlib.Core.Path.{_≡_, refl, sym, ap, _∙_}
+use mathlib.Core.Bool.{Bool, true, false}
 use mathlib.Core.List.{List, [], _∷_, _++_}
-use Prim.Native.Nat.{ℕ, zero, suc, _+_, _*_, _-_, _≤_, _<_}
+use Prim.Native.Nat.{ℕ, zero, suc, _+_, _*_, _-_, _%_, _≤_, _<_}
 use native.Mathlib.Omega.{arith}
-use native.Mathlib.Decide.{decLt}
+use lib.Dec.{ltb, eqb}
 use lib.ListN.{length, getD, set, length-append, length-set}
 use lib.Seq.{getD-set-same, getD-set-other}
+use borrow.Author.Tests.{lt-ltb, eqb-true}
+use Rattle.rules.specs.Basics.{pick}
 use Rattle.rules.specs.Places.{Place, pLetter, pCaret, pDollar, pFork, pEnd}
-use Rattle.forks.specs.Tables.{span, placeBy, placeIn, placesFrom}
-use Rattle.forks.specs.Emitting.{putWays, putWords, putPlace, wayCount, waysIn, putPlaces, Fitting, Emitted}
+use Rattle.rules.proofs.ThinPlaces.{Spelt}
+use Rattle.table.specs.Table.{codeAt, firstAt, beginAt, countAt, span, waysOf, placeBy, placeAt, placesFrom}
+use Rattle.forks.specs.Emitting.{putWays, putWords, letterCode, forkCode, putPlace, wayCount, waysIn, putPlaces, Fitting, Emitted}
+
+-- ---- the words of a place
+
+abbrev waysFor : Place → List ℕ
+waysFor (pLetter c k) = []
+waysFor (pCaret k) = []
+waysFor (pDollar k) = []
+waysFor (pFork ks) = ks
+waysFor pEnd = []
+
+abbrev codeFor : ℕ → Place → ℕ
+codeFor q (pLetter c k) = letterCode c
+codeFor q (pCaret k) = 26
+codeFor q (pDollar k) = 27
+codeFor q (pFork ks) = forkCode (getD ks 0 0) (q + 1)
+codeFor q pEnd = 30
+
+abbrev firstFor : Place → ℕ
+firstFor (pLetter c k) = k
+firstFor (pCaret k) = k
+firstFor (pDollar k) = k
+firstFor (pFork ks) = getD ks 0 0
+firstFor pEnd = 0
+
+abbrev beginFor : ℕ → Place → ℕ
+beginFor w (pLetter c k) = 0
+beginFor w (pCaret k) = 0
+beginFor w (pDollar k) = 0
+beginFor w (pFork ks) = w
+beginFor w pEnd = 0
+
+place-is : (T : List ℕ) (q w : ℕ) (p : Place)
+    → putPlace T q w p ≡ putWords (putWays T w (waysFor p)) q (codeFor q p) (firstFor p) (beginFor w p) (length (waysFor p))
+unfolding putPlace putWays
+place-is T q w (pLetter c k) = refl
+place-is T q w (pCaret k) = refl
+place-is T q w (pDollar k) = refl
+place-is T q w (pFork ks) = refl
+place-is T q w pEnd = refl
+
+count-is : (p : Place) → wayCount p ≡ length (waysFor p)
+unfolding wayCount
+count-is (pLetter c k) = refl
+count-is (pCaret k) = refl
+count-is (pDollar k) = refl
+count-is (pFork ks) = refl
+count-is pEnd = refl
 
 -- ---- lengths
 
@@ -17,7 +70,8 @@ unfolding putWays
 ways-length T w [] = refl
 ways-length T w (k ∷ ks) = ways-length (set T w k) (suc w) ks ∙ length-set T w k
 
-pub words-are : (T : List ℕ) (q a b c d : ℕ) → set (set (set (set T (4 * q) a) (4 * q + 1) b) (4 * q + 2) c) (4 * q + 3) d ≡ putWords T q a b c d
+pub words-are : (T : List ℕ) (q a b c d : ℕ)
+    → set (set (set (set T (4 * q) a) (4 * q + 1) b) (4 * q + 2) c) (4 * q + 3) d ≡ putWords T q a b c d
 unfolding putWords
 words-are T q a b c d = refl
 
@@ -26,12 +80,7 @@ unfolding putWords
 words-length T q a b c d = simp length-set
 
 pub place-length : (T : List ℕ) (q w : ℕ) (p : Place) → length (putPlace T q w p) ≡ length T
-unfolding putPlace
-place-length T q w (pLetter c k) = words-length T q 1 c k 0
-place-length T q w (pCaret k) = words-length T q 2 0 k 0
-place-length T q w (pDollar k) = words-length T q 3 0 k 0
-place-length T q w (pFork ks) = words-length (putWays T w ks) q 0 0 w (w + length ks) ∙ ways-length T w ks
-place-length T q w pEnd = words-length T q 4 0 0 0
+place-length T q w p = ap length (place-is T q w p) ∙ words-length _ q _ _ _ _ ∙ ways-length T w (waysFor p)
 
 pub places-length : (T : List ℕ) (q w : ℕ) (ps : List Place) → length (putPlaces T q w ps) ≡ length T
 unfolding putPlaces
@@ -99,6 +148,9 @@ pub emitted-none : (T : List ℕ) (b w : ℕ) → Emitted T T b w w []
 unfolding putPlaces waysIn
 emitted-none T b w = record { is = refl; way = omega arith }
 
+pub emitted-length : (T exit : List ℕ) (b w r : ℕ) (pl : List Place) → Emitted T exit b w r pl → length exit ≡ length T
+emitted-length T exit b w r pl d = ap length (d .is) ∙ places-length T b w pl
+
 -- ---- words that are as they were
 
 words-kept : (T : List ℕ) (q a b c d j : ℕ) → (4 * q ≤ j → j < 4 * q + 4 → ⊥) → getD (putWords T q a b c d) j 0 ≡ getD T j 0
@@ -115,12 +167,9 @@ ways-kept T w [] j h = refl
 ways-kept T w (k ∷ ks) j h = ways-kept (set T w k) (suc w) ks j (λ a b. h (omega arith) (omega arith)) ∙ getD-set-other T w j k 0 (λ e. h (omega arith) (omega arith))
 
 place-kept : (T : List ℕ) (q w : ℕ) (p : Place) (j : ℕ) → (4 * q ≤ j → j < 4 * q + 4 → ⊥) → (w ≤ j → j < w + wayCount p → ⊥) → getD (putPlace T q w p) j 0 ≡ getD T j 0
-unfolding putPlace wayCount
-place-kept T q w (pLetter c k) j h g = words-kept T q 1 c k 0 j h
-place-kept T q w (pCaret k) j h g = words-kept T q 2 0 k 0 j h
-place-kept T q w (pDollar k) j h g = words-kept T q 3 0 k 0 j h
-place-kept T q w (pFork ks) j h g = words-kept (putWays T w ks) q 0 0 w (w + length ks) j h ∙ ways-kept T w ks j g
-place-kept T q w pEnd j h g = words-kept T q 4 0 0 0 j h
+place-kept T q w p j h g =
+    ap (λ (U : List ℕ). getD U j 0) (place-is T q w p) ∙ words-kept _ q _ _ _ _ j h
+    ∙ ways-kept T w (waysFor p) j (λ a b. g a (omega (arith, count-is p)))
 
 pub places-kept : (T : List ℕ) (q w : ℕ) (ps : List Place) (j : ℕ) → (4 * q ≤ j → j < 4 * (q + length ps) → ⊥) → (w ≤ j → j < w + waysIn ps → ⊥)
     → getD (putPlaces T q w ps) j 0 ≡ getD T j 0
@@ -144,11 +193,18 @@ span-put T w (k ∷ ks) h =
     let e : getD (putWays (set T w k) (suc w) ks) w 0 ≡ k = ways-kept (set T w k) (suc w) ks w (λ a b. omega arith) ∙ getD-set-same T w k 0 (omega arith) in
     λ i. e i ∷ span-put (set T w k) (suc w) ks (omega (arith, length-set T w k)) i
 
+-- the first way stands at word w
+pub ways-first : (T : List ℕ) (w : ℕ) (ks : List ℕ) → 0 < length ks → w + length ks ≤ length T → getD (putWays T w ks) w 0 ≡ getD ks 0 0
+unfolding putWays
+ways-first T w [] s h = absurd (omega arith)
+ways-first T w (k ∷ ks) s h =
+    ways-kept (set T w k) (suc w) ks w (λ a b. omega arith) ∙ getD-set-same T w k 0 (omega arith)
+
 record Words (U : List ℕ) (q a b c d : ℕ) : Type 0 where
-  sort : getD U (4 * q) 0 ≡ a
-  letter : getD U (4 * q + 1) 0 ≡ b
-  next : getD U (4 * q + 2) 0 ≡ c
-  stop : getD U (4 * q + 3) 0 ≡ d
+  code : codeAt U q ≡ a
+  first : firstAt U q ≡ b
+  begin : beginAt U q ≡ c
+  count : countAt U q ≡ d
 
 words-put : (T : List ℕ) (q a b c d : ℕ) → 4 * q + 4 ≤ length T → Words (putWords T q a b c d) q a b c d
 unfolding putWords
@@ -157,77 +213,154 @@ words-put T q a b c d h =
     let l2 = length-set (set T (4 * q) a) (4 * q + 1) b in
     let l3 = length-set (set (set T (4 * q) a) (4 * q + 1) b) (4 * q + 2) c in
     record {
-      sort = getD-set-other (set (set (set T (4 * q) a) (4 * q + 1) b) (4 * q + 2) c) (4 * q + 3) (4 * q) d 0 (λ e. omega arith)
+      code = getD-set-other (set (set (set T (4 * q) a) (4 * q + 1) b) (4 * q + 2) c) (4 * q + 3) (4 * q) d 0 (λ e. omega arith)
           ∙ getD-set-other (set (set T (4 * q) a) (4 * q + 1) b) (4 * q + 2) (4 * q) c 0 (λ e. omega arith)
           ∙ getD-set-other (set T (4 * q) a) (4 * q + 1) (4 * q) b 0 (λ e. omega arith)
           ∙ getD-set-same T (4 * q) a 0 (omega arith);
-      letter = getD-set-other (set (set (set T (4 * q) a) (4 * q + 1) b) (4 * q + 2) c) (4 * q + 3) (4 * q + 1) d 0 (λ e. omega arith)
+      first = getD-set-other (set (set (set T (4 * q) a) (4 * q + 1) b) (4 * q + 2) c) (4 * q + 3) (4 * q + 1) d 0 (λ e. omega arith)
           ∙ getD-set-other (set (set T (4 * q) a) (4 * q + 1) b) (4 * q + 2) (4 * q + 1) c 0 (λ e. omega arith)
           ∙ getD-set-same (set T (4 * q) a) (4 * q + 1) b 0 (omega arith);
-      next = getD-set-other (set (set (set T (4 * q) a) (4 * q + 1) b) (4 * q + 2) c) (4 * q + 3) (4 * q + 2) d 0 (λ e. omega arith)
+      begin = getD-set-other (set (set (set T (4 * q) a) (4 * q + 1) b) (4 * q + 2) c) (4 * q + 3) (4 * q + 2) d 0 (λ e. omega arith)
           ∙ getD-set-same (set (set T (4 * q) a) (4 * q + 1) b) (4 * q + 2) c 0 (omega arith);
-      stop = getD-set-same (set (set (set T (4 * q) a) (4 * q + 1) b) (4 * q + 2) c) (4 * q + 3) d 0 (omega arith);
+      count = getD-set-same (set (set (set T (4 * q) a) (4 * q + 1) b) (4 * q + 2) c) (4 * q + 3) d 0 (omega arith);
     }
-
--- a place by its words
-by-words : (U : List ℕ) (q a b c d : ℕ) → Words U q a b c d → placeIn U q ≡ placeBy a b c (span U c (d - c))
-unfolding placeIn
-by-words U q a b c d h = rw (h .sort, h .letter, h .next, h .stop) refl
 
 words-same : (T U : List ℕ) (q a b c d : ℕ) → ((j : ℕ) → 4 * q ≤ j → j < 4 * q + 4 → getD U j 0 ≡ getD T j 0) → Words T q a b c d → Words U q a b c d
 words-same T U q a b c d f h =
     record {
-      sort = f (4 * q) (omega arith) (omega arith) ∙ h .sort;
-      letter = f (4 * q + 1) (omega arith) (omega arith)
-          ∙ h .letter;
-      next = f (4 * q + 2) (omega arith) (omega arith) ∙ h .next;
-      stop = f (4 * q + 3) (omega arith) (omega arith) ∙ h .stop;
+      code = f (4 * q) (omega arith) (omega arith) ∙ h .code;
+      first = f (4 * q + 1) (omega arith) (omega arith) ∙ h .first;
+      begin = f (4 * q + 2) (omega arith) (omega arith) ∙ h .begin;
+      count = f (4 * q + 3) (omega arith) (omega arith) ∙ h .count;
     }
 
+-- a place by its words
+by-words : (U : List ℕ) (q a b c d : ℕ) → Words U q a b c d → placeAt U q ≡ placeBy a b (b ∷ span U (suc c) (d - 1))
+unfolding placeAt waysOf
+by-words U q a b c d h = rw (h .code, h .first, h .begin, h .count) refl
+
+-- ---- a place that is read back
+
+-- a fork has a way, and at most 256
+abbrev pub Wayed : Place → Type 0
+Wayed (pLetter c k) = Unit {0}
+Wayed (pCaret k) = Unit {0}
+Wayed (pDollar k) = Unit {0}
+Wayed (pFork ks) = (0 < length ks) × (length ks ≤ 256)
+Wayed pEnd = Unit {0}
+
+abbrev pub Sound : Place → Type 0
+Sound p = Spelt p × Wayed p
+
+-- what the walk relies on for place q, of this code, first place, begin and count; its ways end by r
+pub record Keeps (q r a b c d : ℕ) : Type 0 where
+  pub near : a ≡ 28 → b ≡ q + 1
+  pub one : a < 28 → d ≡ 0
+  pub end : 29 < a → d ≡ 0
+  pub many : d ≤ 256
+  pub ways : 0 < d → c + d ≤ r
+
+-- a place that keeps to this without ways
+keeps-one : (q r a b c : ℕ) → (a ≡ 28 → ⊥) → Keeps q r a b c 0
+keeps-one q r a b c h =
+    record { near = λ e. absurd (h e); one = λ e. refl; end = λ e. refl; many = omega arith; ways = λ e. absurd (omega arith) }
+
+keeps-fork : (q r k w m : ℕ) → m ≤ 256 → w + m ≤ r → Keeps q r (forkCode k (q + 1)) k w m
+keeps-fork q r k w m h l = go (eqb k (q + 1)) refl
+  where
+    go : (t : Bool) → eqb k (q + 1) ≡ t → Keeps q r (pick t 28 29) k w m
+    go true e =
+        record { near = λ u. eqb-true k (q + 1) e; one = λ u. absurd (omega arith); end = λ u. absurd (omega arith); many = h; ways = λ u. l }
+    go false e =
+        record { near = λ u. absurd (omega arith); one = λ u. absurd (omega arith); end = λ u. absurd (omega arith); many = h; ways = λ u. l }
+
+keeps : (q w r : ℕ) (p : Place) → Sound p → w + wayCount p ≤ r → Keeps q r (codeFor q p) (firstFor p) (beginFor w p) (length (waysFor p))
+unfolding wayCount
+keeps q w r (pLetter c k) s l = keeps-one q r (letterCode c) k 0 (λ e. omega (arith, s .0 .0, s .0 .1))
+keeps q w r (pCaret k) s l = keeps-one q r 26 k 0 (λ e. omega arith)
+keeps q w r (pDollar k) s l = keeps-one q r 27 k 0 (λ e. omega arith)
+keeps q w r (pFork ks) s l = keeps-fork q r (getD ks 0 0) w (length ks) (s .1 .1) l
+keeps q w r pEnd s l = keeps-one q r 30 0 0 (λ e. omega arith)
+
+-- the table has the place p at q
+pub record Back (U : List ℕ) (q r : ℕ) (p : Place) : Type 0 where
+  pub is : placeAt U q ≡ p
+  pub keeps-to : Keeps q r (codeAt U q) (firstAt U q) (beginAt U q) (countAt U q)
+
+by-letter : (c k : ℕ) (ks : List ℕ) → 65 ≤ c → c ≤ 90 → placeBy (letterCode c) k ks ≡ pLetter c k
+unfolding placeBy
+by-letter c k ks l h =
+    let d : (c + 191) % 256 + 65 ≡ c = omega arith in
+    let b : ltb ((c + 191) % 256) 26 ≡ true = lt-ltb ((c + 191) % 256) 26 (omega arith) in
+    rw (b, d)
+
+by-fork : (k : ℕ) (ks : List ℕ) (b : Bool) → placeBy (pick b 28 29) k ks ≡ pFork ks
+unfolding placeBy
+by-fork k ks true = refl
+by-fork k ks false = refl
+
+-- a fork's first way, and the ways from its second on
+all-ways : (T U : List ℕ) (w : ℕ) (ks : List ℕ) → 0 < length ks → w + length ks ≤ length T
+    → ((j : ℕ) → w ≤ j → j < w + length ks → getD U j 0 ≡ getD (putWays T w ks) j 0)
+    → (getD ks 0 0 ∷ span U (suc w) (length ks - 1)) ≡ ks
+unfolding putWays
+all-ways T U w [] s l f = absurd (omega arith)
+all-ways T U w (k ∷ ks) s l f =
+    let m : suc (length ks) - 1 ≡ length ks = omega arith in
+    ap (λ (n : ℕ). k ∷ span U (suc w) n) m
+    ∙ ap (λ (l : List ℕ). k ∷ l)
+    (span-same (putWays (set T w k) (suc w) ks) U (suc w) (length ks) (λ j a b. f j (omega arith) (omega arith))
+    ∙ span-put (set T w k) (suc w) ks (omega (arith, length-set T w k)))
+
 -- a place that was put is read back from any table that has its words and its ways
-place-back : (T U : List ℕ) (q w : ℕ) (p : Place) → 4 * q + 4 ≤ w → w + wayCount p ≤ length T → ((j : ℕ) → 4 * q ≤ j → j < 4 * q + 4 → getD U j 0 ≡ getD (putPlace T q w p) j 0)
-    → ((j : ℕ) → w ≤ j → j < w + wayCount p → getD U j 0 ≡ getD (putPlace T q w p) j 0) → placeIn U q ≡ p
-unfolding putPlace wayCount placeBy
-place-back T U q w (pLetter c k) h l f g = by-words U q 1 c k 0 (words-same _ U q 1 c k 0 f (words-put T q 1 c k 0 (omega arith)))
-place-back T U q w (pCaret k) h l f g = by-words U q 2 0 k 0 (words-same _ U q 2 0 k 0 f (words-put T q 2 0 k 0 (omega arith)))
-place-back T U q w (pDollar k) h l f g = by-words U q 3 0 k 0 (words-same _ U q 3 0 k 0 f (words-put T q 3 0 k 0 (omega arith)))
-place-back T U q w (pFork ks) h l f g =
-    by-words U q 0 0 w (w + length ks) (words-same _ U q 0 0 w (w + length ks) f (words-put (putWays T w ks) q 0 0 w (w + length ks) (omega (arith, ways-length T w ks))))
-    ∙ ap (λ (m : ℕ). pFork (span U w m)) (let e : w + length ks - w ≡ length ks = omega arith in e)
-    ∙ ap pFork (span-same (putWays T w ks) U w (length ks) (λ j a b. g j a b ∙ words-kept (putWays T w ks) q 0 0 w (w + length ks) j (λ c d. omega arith)) ∙ span-put T w ks l)
-place-back T U q w pEnd h l f g = by-words U q 4 0 0 0 (words-same _ U q 4 0 0 0 f (words-put T q 4 0 0 0 (omega arith)))
+module _ (T U : List ℕ) (q w : ℕ) (low : 4 * q + 4 ≤ w) where
+  place-back : (p : Place) → Sound p → w + wayCount p ≤ length T
+      → ((j : ℕ) → w ≤ j → j < w + wayCount p → getD U j 0 ≡ getD (putPlace T q w p) j 0)
+      → Words U q (codeFor q p) (firstFor p) (beginFor w p) (length (waysFor p)) → placeAt U q ≡ p
+  unfolding putPlace wayCount placeBy
+  place-back (pLetter c k) s l g h = by-words U q _ _ _ _ h ∙ by-letter c k _ (s .0 .0) (s .0 .1)
+  place-back (pCaret k) s l g h = by-words U q _ _ _ _ h
+  place-back (pDollar k) s l g h = by-words U q _ _ _ _ h
+  place-back (pFork ks) s l g h =
+      by-words U q _ _ _ _ h ∙ by-fork _ _ (eqb (getD ks 0 0) (q + 1))
+      ∙ ap pFork (all-ways T U w ks (s .1 .0) l (λ j a b. g j a b ∙ words-kept (putWays T w ks) q _ _ _ _ j (λ c d. omega arith)))
+  place-back pEnd s l g h = by-words U q _ _ _ _ h
+
+  one-back : (p : Place) (r : ℕ) → Sound p → w + wayCount p ≤ length T → w + wayCount p ≤ r
+      → ((j : ℕ) → 4 * q ≤ j → j < 4 * q + 4 → getD U j 0 ≡ getD (putPlace T q w p) j 0)
+      → ((j : ℕ) → w ≤ j → j < w + wayCount p → getD U j 0 ≡ getD (putPlace T q w p) j 0) → Back U q r p
+  one-back p r s l e f g =
+      let h : Words U q (codeFor q p) (firstFor p) (beginFor w p) (length (waysFor p)) =
+      words-same (putWords (putWays T w (waysFor p)) q (codeFor q p) (firstFor p) (beginFor w p) (length (waysFor p))) U q _ _ _ _
+      (λ j a b. f j a b ∙ ap (λ (X : List ℕ). getD X j 0) (place-is T q w p))
+      (words-put (putWays T w (waysFor p)) q _ _ _ _ (omega (arith, ways-length T w (waysFor p)))) in
+      record { is = place-back p s l g h; keeps-to = rw (h .code, h .first, h .begin, h .count) (keeps q w r p s e) }
 
 -- places that were put are read back
-pub places-back : (T : List ℕ) (q w : ℕ) (ps : List Place) → 4 * (q + length ps) ≤ w → w + waysIn ps ≤ length T → placesFrom (putPlaces T q w ps) q (length ps) ≡ ps
-unfolding placesFrom putPlaces waysIn
-places-back T q w [] h l = refl
-places-back T q w (p ∷ ps) h l =
-    let a : placeIn (putPlaces (putPlace T q w p) (suc q) (w + wayCount p) ps) q ≡ p =
-    place-back T (putPlaces (putPlace T q w p) (suc q) (w + wayCount p) ps) q w p (omega arith) (omega arith)
-    (λ j x y. places-kept (putPlace T q w p) (suc q) (w + wayCount p) ps j (λ c d. omega arith) (λ c d. omega arith))
-    (λ j x y. places-kept (putPlace T q w p) (suc q) (w + wayCount p) ps j (λ c d. omega arith) (λ c d. omega arith)) in
-    let b = places-back (putPlace T q w p) (suc q) (w + wayCount p) ps (omega arith) (omega (arith, place-length T q w p)) in
-    λ i. a i ∷ b i
-
--- ---- where ways stop
-
-place-stop : (T : List ℕ) (q w : ℕ) (p : Place) → 4 * q + 4 ≤ length T → getD (putPlace T q w p) (4 * q + 3) 0 ≤ w + wayCount p
-unfolding putPlace wayCount
-place-stop T q w (pLetter c k) h = omega (arith, (words-put T q 1 c k 0 h) .stop)
-place-stop T q w (pCaret k) h = omega (arith, (words-put T q 2 0 k 0 h) .stop)
-place-stop T q w (pDollar k) h = omega (arith, (words-put T q 3 0 k 0 h) .stop)
-place-stop T q w (pFork ks) h = omega (arith, (words-put (putWays T w ks) q 0 0 w (w + length ks) (omega (arith, ways-length T w ks))) .stop)
-place-stop T q w pEnd h = omega (arith, (words-put T q 4 0 0 0 h) .stop)
-
-pub places-stop : (T : List ℕ) (q w : ℕ) (ps : List Place) → 4 * (q + length ps) ≤ w → w + waysIn ps ≤ length T → (x : ℕ) → q ≤ x → x < q + length ps
-    → getD (putPlaces T q w ps) (4 * x + 3) 0 ≤ w + waysIn ps
+pub places-back : (T : List ℕ) (q w r : ℕ) (ps : List Place) → 4 * (q + length ps) ≤ w → w + waysIn ps ≤ length T → w + waysIn ps ≤ r
+    → ((i : ℕ) → i < length ps → Sound (getD ps i (pFork []))) → (i : ℕ) → i < length ps
+    → Back (putPlaces T q w ps) (q + i) r (getD ps i (pFork []))
 unfolding putPlaces waysIn
-places-stop T q w [] h l x a b = absurd (omega arith)
-places-stop T q w (p ∷ ps) h l x a b = elim (decLt q x) [
-  | yes g ↦ omega (arith, places-stop (putPlace T q w p) (suc q) (w + wayCount p) ps (omega arith) (omega (arith, place-length T q w p)) x g (omega arith))
-  | no g ↦
-      let e : x ≡ q = omega (arith, g) in
-      let k : getD (putPlaces (putPlace T q w p) (suc q) (w + wayCount p) ps) (4 * q + 3) 0 ≡ getD (putPlace T q w p) (4 * q + 3) 0 =
-      places-kept (putPlace T q w p) (suc q) (w + wayCount p) ps (4 * q + 3) (λ c d. omega arith) (λ c d. omega arith) in
-      rw e (omega (arith, k, place-stop T q w p (omega arith)))
-]
+places-back T q w r [] h l e s i b = absurd (omega arith)
+places-back T q w r (p ∷ ps) h l e s zero b =
+    let z : q + 0 ≡ q = omega arith in
+    rw z
+    (one-back T (putPlaces (putPlace T q w p) (suc q) (w + wayCount p) ps) q w (omega arith) p r (s 0 b) (omega arith) (omega arith)
+    (λ j x y. places-kept (putPlace T q w p) (suc q) (w + wayCount p) ps j (λ c d. omega arith) (λ c d. omega arith))
+    (λ j x y. places-kept (putPlace T q w p) (suc q) (w + wayCount p) ps j (λ c d. omega arith) (λ c d. omega arith)))
+places-back T q w r (p ∷ ps) h l e s (suc i) b =
+    let z : q + suc i ≡ suc q + i = omega arith in
+    rw z
+    (places-back (putPlace T q w p) (suc q) (w + wayCount p) r ps (omega arith) (omega (arith, place-length T q w p)) (omega arith)
+    (λ j c. s (suc j) (omega arith)) i (omega arith))
+
+-- so they are the table's places
+pub places-are : (U : List ℕ) (q : ℕ) (ps : List Place) → ((i : ℕ) → i < length ps → placeAt U (q + i) ≡ getD ps i (pFork []))
+    → placesFrom U q (length ps) ≡ ps
+unfolding placesFrom
+places-are U q [] f = refl
+places-are U q (p ∷ ps) f =
+    let z : q + 0 ≡ q = omega arith in
+    let a : placeAt U q ≡ p = rw z at (f 0 (omega arith)) in
+    let b = places-are U (suc q) ps (λ i h. (let y : suc q + i ≡ q + suc i = omega arith in rw y (f (suc i) (omega arith)))) in
+    λ i. a i ∷ b i

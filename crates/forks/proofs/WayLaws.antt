@@ -12,8 +12,8 @@ use Rattle.rules.specs.Basics.{pick, has}
 use Rattle.rules.specs.Places.{Unrolled, uLetter, uCaret, uDollar, uEmpty, uSeq, uAlt, uOpt, uStar, Branches, uNil, uCons, size, sizes, startOf, startsOf, waysInTurn, code, codes}
 use Rattle.rules.proofs.Bounds.{has-append}
 use Rattle.rules.proofs.Distinct.{keepNew, fresh, distinct, thinPlace, thinned, thinned-append}
-use Rattle.forks.specs.Tables.{span}
-use Rattle.forks.specs.Emitting.{putWays, wayCount, waysIn, WayPut, WayNeeds}
+use Rattle.table.specs.Table.{span}
+use Rattle.forks.specs.Emitting.{putWays, anchorCode, forkCode, wayCount, waysIn, WayPut, WayNeeds}
 use Rattle.forks.proofs.TableLaws.{waysIn-append}
 
 -- ---- the start of a part
@@ -189,7 +189,7 @@ none-less true false = omega arith
 none-less false b = omega arith
 
 -- the starts of branches, each once: one for each branch with places, and one for all others
-few-fresh : (ts : Branches) (b k : ℕ) (seen : List ℕ) → length (fresh seen (startsOf ts b k)) ≤ someOf ts + pick (has k seen) 0 1
+pub few-fresh : (ts : Branches) (b k : ℕ) (seen : List ℕ) → length (fresh seen (startsOf ts b k)) ≤ someOf ts + pick (has k seen) 0 1
 unfolding startsOf fresh someOf has
 few-fresh uNil b k seen = omega arith
 few-fresh (uCons t ts) b k seen = rw (start-by-size t b k) (go (eqb b (b + size t)) refl (few-fresh ts (b + size t) k))
@@ -212,7 +212,7 @@ few-fresh (uCons t ts) b k seen = rw (start-by-size t b k) (go (eqb b (b + size 
         some zero f = absurd (f refl)
         some (suc m) f = omega arith
 
-two-ways : (lazy : Bool) (a b : ℕ) → length (distinct (waysInTurn lazy a b)) ≤ 2
+pub two-ways : (lazy : Bool) (a b : ℕ) → length (distinct (waysInTurn lazy a b)) ≤ 2
 unfolding fresh has
 two-ways lazy a b = go lazy
   where
@@ -254,11 +254,17 @@ all-few t b k = omega (arith, few-ways t b k)
 
 -- ---- small choices
 
-pub caret-sort : (c : ℕ) → c ≡ 94 → _≡_ {A = ℕ} 2 (pick (eqb c 94) 2 3)
-caret-sort c e = sym (ap (λ (t : Bool). pick {A = ℕ} t 2 3) (eq-eqb c 94 e))
+pub caret-code : (c : ℕ) → c ≡ 94 → 26 ≡ anchorCode c
+caret-code c e = rw (eq-eqb c 94 e)
 
-pub dollar-sort : (c : ℕ) → (c ≡ 94 → ⊥) → _≡_ {A = ℕ} 3 (pick (eqb c 94) 2 3)
-dollar-sort c e = sym (ap (λ (t : Bool). pick {A = ℕ} t 2 3) (ne-eqb c 94 e))
+pub dollar-code : (c : ℕ) → (c ≡ 94 → ⊥) → 27 ≡ anchorCode c
+dollar-code c e = rw (ne-eqb c 94 e)
+
+pub near-code : (k q : ℕ) → k ≡ q → (28 ≡ forkCode k q) × (28 < 65536)
+near-code k q e = (rw (eq-eqb k q e), omega arith)
+
+pub far-code : (k q : ℕ) → (k ≡ q → ⊥) → (29 ≡ forkCode k q) × (29 < 65536)
+far-code k q e = (rw (ne-eqb k q e), omega arith)
 
 pub turns-open : (l h : ℕ) → h ≡ 100 → 100 ≡ pick (eqb h 100) 100 (h - l)
 turns-open l h e = sym (ap (λ (t : Bool). pick t 100 (h - l)) (eq-eqb h 100 e))

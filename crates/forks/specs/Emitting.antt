@@ -1,16 +1,19 @@
--- A table into which places are put one after another, and what the functions that unroll a tree need and promise.
+-- A table into which places are put one after another, in the layout of crates/table, and what the
+-- functions that unroll a tree need and promise. The tree's letters must be A to Z: any other letter
+-- would get the code of another place.
 use mathlib.Core.Path.{_≡_}
 use mathlib.Core.Bool.{Bool, true, false}
 use mathlib.Core.List.{List, [], _∷_}
-use Prim.Native.Nat.{ℕ, suc, _+_, _*_, _-_, _≤_, _<_}
+use Prim.Native.Nat.{ℕ, suc, _+_, _*_, _-_, _%_, _≤_, _<_}
 use lib.Dec.{eqb}
 use lib.ListN.{length, getD, set}
-use Rattle.rules.specs.Basics.{pick, has}
-use Rattle.rules.specs.Language.{pattern, factor, Tree, one, last}
+use Rattle.rules.specs.Basics.{pick, has, isLetter, every}
+use Rattle.rules.specs.Language.{pattern, factor, Tree, one, last, letters}
 use Rattle.rules.specs.Places.{Unrolled, uStar, copies, options, unrolled, unroll, Place, pLetter, pCaret, pDollar, pFork, pEnd, waysInTurn, size, sizes, startsOf, code, codes, places, fork, placeCount, placesOf}
 use Rattle.rules.proofs.Distinct.{fresh, distinct, thinned}
 use Rattle.pattern.specs.Held.{body, lazyOf, Top}
-use Rattle.forks.specs.Tables.{span, tabled}
+use Rattle.table.specs.Table.{span, placesIn}
+use Rattle.table.specs.Sized.{Sized}
 
 -- ---- the table with places
 
@@ -21,16 +24,30 @@ putWays T w (k ∷ ks) = putWays (set T w k) (suc w) ks
 
 -- the four words of place q
 unfoldable pub putWords : List ℕ → ℕ → ℕ → ℕ → ℕ → ℕ → List ℕ
-putWords T q sort letter next stop = set (set (set (set T (4 * q) sort) (4 * q + 1) letter) (4 * q + 2) next) (4 * q + 3) stop
+putWords T q code first begin count =
+    set (set (set (set T (4 * q) code) (4 * q + 1) first) (4 * q + 2) begin) (4 * q + 3) count
+
+-- the code of a letter's place, so that A is 0
+abbrev pub letterCode : ℕ → ℕ
+letterCode c = (c + 191) % 256
+
+-- the code of an anchor's place: ^ is 94
+abbrev pub anchorCode : ℕ → ℕ
+anchorCode c = pick (eqb c 94) 26 27
+
+-- the code of a fork by its first way and the place behind it
+abbrev pub forkCode : ℕ → ℕ → ℕ
+forkCode first behind = pick (eqb first behind) 28 29
 
 -- place q, the ways of a fork from word w on
 unfoldable pub putPlace : List ℕ → ℕ → ℕ → Place → List ℕ
 unfolding putWords putWays
-putPlace T q w (pLetter c k) = putWords T q 1 c k 0
-putPlace T q w (pCaret k) = putWords T q 2 0 k 0
-putPlace T q w (pDollar k) = putWords T q 3 0 k 0
-putPlace T q w (pFork ks) = putWords (putWays T w ks) q 0 0 w (w + length ks)
-putPlace T q w pEnd = putWords T q 4 0 0 0
+putPlace T q w (pLetter c k) = putWords T q (letterCode c) k 0 0
+putPlace T q w (pCaret k) = putWords T q 26 k 0 0
+putPlace T q w (pDollar k) = putWords T q 27 k 0 0
+putPlace T q w (pFork ks) =
+    putWords (putWays T w ks) q (forkCode (getD ks 0 0) (q + 1)) (getD ks 0 0) w (length ks)
+putPlace T q w pEnd = putWords T q 30 0 0 0
 
 unfoldable pub wayCount : Place → ℕ
 wayCount (pLetter c k) = 0
@@ -65,7 +82,25 @@ pub record Emitted (T exit : List ℕ) (b w r : ℕ) (pl : List Place) : Type 0 
   pub is : exit ≡ putPlaces T b w pl
   pub way : r ≡ w + waysIn pl
 
+-- place q has its words in the table, and each number fits its word
+pub record Wording (T : List ℕ) (q code first begin count : ℕ) : Type 0 where
+  pub long : 4 * q + 4 ≤ length T
+  pub code-fits : code < 65536
+  pub first-fits : first < 65536
+  pub begin-fits : begin < 65536
+  pub count-fits : count < 65536
+
 -- ---- a fork's ways
+
+-- the words of the fork at place q, whose ways stand from word w to word `to`
+abbrev pub putFork : List ℕ → ℕ → ℕ → ℕ → List ℕ
+putFork T q w to = putWords T q (forkCode (getD T w 0) (q + 1)) (getD T w 0) w (to - w)
+
+pub record ForkNeeds (T : List ℕ) (q w to : ℕ) : Type 0 where
+  pub long : 4 * q + 4 ≤ length T
+  pub some : w < to
+  pub inside : to ≤ length T
+  pub small : length T < 65536
 
 -- a way is put unless it stands in the words from `from` to `to`
 pub record WayPut (T exit : List ℕ) (from to y r : ℕ) : Type 0 where
@@ -158,11 +193,12 @@ pub record Bodying (s : List ℕ) (i : ℕ) (T : List ℕ) (b w k : ℕ) : Type 
   pub top : Top (one (last of)) i s
   pub fits : Fitting T b w k (bodyPlaces of b k)
 
--- c: the places of a body; end: the number behind the last place
-pub record Turning (s : List ℕ) (i c n m end : ℕ) (T : List ℕ) (b w k : ℕ) : Type 0 where
+-- c: the places of a body; lazy: the quantifier is reluctant; end: the number behind the last place
+pub record Turning (s : List ℕ) (i c : ℕ) (lazy : Bool) (n m end : ℕ) (T : List ℕ) (b w k : ℕ) : Type 0 where
   pub of : Tree factor
   pub top : Top (one (last of)) i s
   pub each : c ≡ size (unrolled (body of))
+  pub reluctant : lazy ≡ lazyOf of
   pub ends : end ≡ b + size (turns n m (lazyOf of) (unrolled (body of)))
   pub few : (n ≤ 99) × (m ≤ 100)
   pub fits : Fitting T b w k (turnPlaces n m of b k)
@@ -174,25 +210,23 @@ WholeSize s i r = (p : Tree pattern) → Top p i s → placeCount p ≤ 256 → 
 abbrev pub BodySize : List ℕ → ℕ → ℕ → Type 0
 BodySize s i r = (F : Tree factor) → Top (one (last F)) i s → placeCount F ≤ 256 → r ≡ placeCount (body F)
 
--- the sort of an anchor's place: ^ is 94
-abbrev pub anchorSort : ℕ → ℕ
-anchorSort c = pick (eqb c 94) 2 3
-
 -- ---- the whole
 
 -- room for four words and three ways to a place
 pub record Unrolling (s : List ℕ) (top P : ℕ) (T : List ℕ) : Type 0 where
   pub tree : Tree pattern
   pub is : Top tree top s
+  pub spelt : every isLetter (letters tree) ≡ true
   pub count : P ≡ placesOf tree
   pub few : P ≤ 256
   pub long : 7 * P ≤ length T
   pub small : length T < 65536
 
--- The table holds the places of the tree, each fork's ways once; a fork's ways stop before the word r; from there on no word is changed.
+-- The table holds the places of the tree, each fork's ways once, and keeps to what the walk relies on;
+-- the ways end before the word r, and from there on no word is changed.
 pub record Tabled (p : Tree pattern) (P : ℕ) (T exit : List ℕ) (r : ℕ) : Type 0 where
-  pub is : tabled exit P ≡ thinned (places (unroll p))
-  pub stop : (q : ℕ) → q < P → getD exit (4 * q + 3) 0 ≤ r
+  pub is : placesIn exit P ≡ thinned (places (unroll p))
+  pub sized : Sized exit P
   pub few : (4 * P ≤ r) × (r ≤ 7 * P)
   pub kept : (j : ℕ) → r ≤ j → getD exit j 0 ≡ getD T j 0
   pub len : length exit ≡ length T

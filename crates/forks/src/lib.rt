@@ -1,20 +1,22 @@
-// Words of the table of places, and the ways of a fork, each once.
+// The words of the table of places, in the layout that crates/table reads, and the ways of a fork.
+// Promise: a fork has each of its ways once, in the order in which they are tried, and its code says
+// whether the first of them is the place behind it. Weakness: a way is looked for among all ways of
+// its fork, so a fork of m ways costs m * m / 2 comparisons.
 use nodes::Sort;
 use nodes::node_at;
 use nodes::places_at;
+use table::FORK;
+use table::NEAR_FORK;
+use table::WORDS;
+use table::word_at;
 ghost use mathlib.Core.Path.{_≡_};
 ghost use Prim.Native.Nat.{_+_, _*_, _-_, _≤_, _<_};
 ghost use lib.ListN.{length};
 ghost use lib.Dec.{eqb};
 ghost use Rattle.rules.specs.Basics.{pick, has};
-ghost use Rattle.forks.specs.Tables.{span};
-ghost use Rattle.forks.specs.Emitting.{putWords, Emitted, WayPut, WayNeeds, Starting, Started, TwoWays, twoPlaces, Choosing, choicePlaces, forkPlaces, Forking};
-
-fn wide(x: u16) -> usize
-    ensures { λ r. ⌜ (r ≡ x) × (r < 65536) ⌝ }
-{
-    x as usize
-}
+ghost use Rattle.table.specs.Table.{span};
+ghost use Rattle.forks.specs.Emitting.{putWords, forkCode, putFork, Wording, ForkNeeds, Emitted, WayPut, WayNeeds};
+ghost use Rattle.forks.specs.Emitting.{Starting, Started, TwoWays, twoPlaces, Choosing, choicePlaces, forkPlaces, Forking};
 
 // Where a part begins whose places are numbered from b up to end, if k is the place behind it.
 pub fn start_at(b: usize, end: usize, k: usize) -> usize
@@ -27,15 +29,46 @@ pub fn start_at(b: usize, end: usize, k: usize) -> usize
 }
 
 // The words of place q.
-pub fn put_words(table: &mut [u16], q: usize, sort: u16, letter: u16, next: usize, stop: usize)
-    requires { ⌜ (4 * q + 4 ≤ length (now table)) × (next < 65536) × (stop < 65536) ⌝ }
-    ensures { λ _. ⌜ now (table .exit) ≡ putWords (now (table .entry)) q sort letter next stop ⌝ }
+fn put_words(table: &mut [u16], q: usize, code: usize, first: usize, begin: usize, count: usize)
+    requires { ⌜ Wording (now table) q code first begin count ⌝ }
+    ensures { λ _. ⌜ now (table .exit) ≡ putWords (now (table .entry)) q code first begin count ⌝ }
 {
-    let at = 4 * q;
-    table[at] = sort;
-    table[at + 1] = letter;
-    table[at + 2] = next as u16;
-    table[at + 3] = stop as u16;
+    let at = WORDS * q;
+    table[at] = code as u16;
+    table[at + 1] = first as u16;
+    table[at + 2] = begin as u16;
+    table[at + 3] = count as u16;
+}
+
+// Place b without ways: a letter, an anchor or END, which leads to place k. Returns the word behind
+// the last way, here w, as all functions do that put places.
+pub fn put_place(table: &mut [u16], b: usize, w: usize, code: usize, k: usize) -> usize
+    requires { ⌜ Wording (now table) b code k 0 0 ⌝ }
+    ensures { λ r. ⌜ (r ≡ w) × (now (table .exit) ≡ putWords (now (table .entry)) b code k 0 0) ⌝ }
+{
+    put_words(table, b, code, k, 0, 0);
+    w
+}
+
+// The code of a fork by its first way and the place behind it.
+fn fork_code(first: usize, behind: usize) -> usize
+    ensures { λ r. ⌜ (r ≡ forkCode first behind) × (r < 65536) ⌝ }
+{
+    if first == behind {
+        return NEAR_FORK;
+    }
+    FORK
+}
+
+// The words of the fork at place b, whose ways stand from word w to word `to`.
+fn put_fork(table: &mut [u16], b: usize, w: usize, to: usize) -> usize
+    requires { ⌜ ForkNeeds (now table) b w to ⌝ }
+    ensures { λ r. ⌜ (r ≡ to) × (now (table .exit) ≡ putFork (now (table .entry)) b w to) ⌝ }
+{
+    let first = word_at(table, w);
+    let code = fork_code(first, b + 1);
+    put_words(table, b, code, first, w, to - w);
+    to
 }
 
 // Whether y stands in the words from `from` to `to`.
@@ -45,7 +78,7 @@ fn among(table: &[u16], from: usize, to: usize, y: usize) -> bool
 {
     let mut j = from;
     while j < to {
-        if wide(table[j]) == y {
+        if word_at(table, j) == y {
             return true;
         }
         j = j + 1;
@@ -65,8 +98,8 @@ fn put_way(table: &mut [u16], from: usize, to: usize, y: usize) -> usize
     to + 1
 }
 
-// The ways of an alternation's fork: where its branches begin, from the one at i on, whose places are numbered from b on. Branches without places
-// all begin behind it.
+// The ways of an alternation's fork: where its branches begin, from the one at i on, whose places are
+// numbered from b on. Branches without places all begin behind it.
 fn fork_ways(
     room: &[u16],
     i: usize,
@@ -94,14 +127,13 @@ fn fork_ways(
     put_way(table, from, to, start_at(b, b + n.places, k))
 }
 
-// The fork of an alternation, as place b, its ways from word w on. Returns the word behind the last way, as all functions do that put places.
+// The fork of an alternation, as place b, its ways from word w on.
 pub fn branch_fork(room: &[u16], i: usize, table: &mut [u16], b: usize, w: usize, k: usize) -> usize
     requires { ⌜ Forking (now room) i (now table) b w k ⌝ }
     ensures { λ r. ⌜ ((h : Forking (now (room .entry)) i (now (table .entry)) b w k) → Emitted (now (table .entry)) (now (table .exit)) b w r (forkPlaces (h .tree) b k)) ⌝ }
 {
     let to = fork_ways(room, i, table, w, w, b + 1, k);
-    put_words(table, b, 0, 0, w, to);
-    to
+    put_fork(table, b, w, to)
 }
 
 // A fork with two ways, or with one if they are the same.
@@ -109,10 +141,9 @@ fn two_ways(table: &mut [u16], b: usize, w: usize, x: usize, y: usize) -> usize
     requires { ⌜ TwoWays (now table) b w x y ⌝ }
     ensures { λ r. ⌜ Emitted (now (table .entry)) (now (table .exit)) b w r (twoPlaces x y) ⌝ }
 {
-    let next = put_way(table, w, w, x);
-    let to = put_way(table, w, next, y);
-    put_words(table, b, 0, 0, w, to);
-    to
+    let one = put_way(table, w, w, x);
+    let both = put_way(table, w, one, y);
+    put_fork(table, b, w, both)
 }
 
 // A fork between a copy and leaving.

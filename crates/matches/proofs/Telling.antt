@@ -20,7 +20,8 @@ use Rattle.rules.proofs.Lists.{length-tabulate}
 use Rattle.measure_list.specs.Measures.{measuresIn}
 use Rattle.measures.specs.Measures.{Appendable}
 use Rattle.pairs.specs.declared.Walk.{Walk}
-use Rattle.pairs.specs.Tables.{Tables, P, waysOf, placeAt, placesIn}
+use Rattle.pairs.specs.Layout.{Layout, P}
+use Rattle.table.specs.Table.{waysOf, placeAt, placesIn, codeAt, firstAt}
 use Rattle.pairs.specs.Step.{pairIn, stack, pairOf}
 use Rattle.pairs.specs.State.{takes}
 use Rattle.pairs.proofs.Ways.{in-length, by-high}
@@ -35,11 +36,11 @@ last-up : (d x : ℕ) (p xs : List ℕ) → lastOf d (reverseAux xs (x ∷ p)) �
 last-up d x p [] = refl
 last-up d x p (y ∷ xs) = last-up d y (x ∷ p) xs
 
-takes-end : (T : Tables) (q : ℕ) → 29 < getD (T .code) q 0 → takes (placeAt T q) ≡ 0
+takes-end : (T : Layout) (q : ℕ) → 29 < codeAt (T .words) q → takes (placeAt (T .words) q) ≡ 0
 unfolding placeAt
-takes-end T q h = by-high (λ _ _. true) 0 (P T) (getD (T .next) q 0) (waysOf T q) 0 (getD (T .code) q 0) (omega arith)
+takes-end T q h = by-high (λ _ _. true) 0 (P T) (firstAt (T .words) q) (waysOf (T .words) q) 0 (codeAt (T .words) q) (omega arith)
 
-ends-at : (T : Tables) (trail : List ℕ) (i : ℕ) → pairIn (P T) (getD trail 0 0) / P T ≡ i → (t : ℕ) → Ends T (stack (P T) trail (suc t)) i
+ends-at : (T : Layout) (trail : List ℕ) (i : ℕ) → pairIn (P T) (getD trail 0 0) / P T ≡ i → (t : ℕ) → Ends T (stack (P T) trail (suc t)) i
 unfolding stack
 ends-at T trail i e zero = e
 ends-at T trail i e (suc t) = ends-at T trail i e t
@@ -55,13 +56,13 @@ measures-count : (ms : List ℕ) (count : ℕ) → length (measuresIn ms count) 
 unfolding measuresIn
 measures-count ms count = length-tabulate count _
 
-module _ (T : Tables) (n : ℕ) (ms : List ℕ) (count : ℕ) (rows : List ℤ) (columns : ℕ) (trail labs : List ℕ) (i : Sweep) (w : Walk)
+module _ (T : Layout) (n : ℕ) (ms : List ℕ) (count : ℕ) (rows : List ℤ) (columns : ℕ) (trail labs : List ℕ) (i : Sweep) (w : Walk)
     (h : Reports T n ms count rows columns trail labs i w) where
   abbrev p : List ℕ
   p = pathOn (P T) trail (w .top)
 
   abbrev ls : List ℕ
-  ls = labels (placesIn T) p
+  ls = labels (placesIn (T .words) (P T)) p
 
   abbrev taken : ℕ
   taken = w .row - i .row
@@ -82,7 +83,7 @@ module _ (T : Tables) (n : ℕ) (ms : List ℕ) (count : ℕ) (rows : List ℤ) 
   rows-are =
       let r = rows-taken T (h .path .sized .some) (pairOf w) (stack (P T) trail (w .top - 1)) (i .row) (path-linked T trail w (h .path) (h .going)) ends in
       let a = path-row T trail w (h .path) (h .going) in
-      let t : takes (placeAt T (pairOf w % P T)) ≡ 0 = rw (path-at T trail w (h .path) (h .going)) (takes-end T (w .place) (h .last)) in
+      let t : takes (placeAt (T .words) (pairOf w % P T)) ≡ 0 = rw (path-at T trail w (h .path) (h .going)) (takes-end T (w .place) (h .last)) in
       rw stack-is (omega arith)
 
   pub tell-at : i .matches * (3 + 2 * count) ≤ 4096 * 19
@@ -113,7 +114,7 @@ module _ (T : Tables) (n : ℕ) (ms : List ℕ) (count : ℕ) (rows : List ℤ) 
       rooms = rw (measures-count ms count, taken-is) at (fits-room nums (length labs) (measuresIn ms count) (i .matches) (i .labels) ls (sym fits-is ∙ et))
 
       pub tell-labels : Labels T trail labs (w .top) (i .labels + taken)
-      tell-labels = record { some = h .path .sized .some; trailed = h .path .room; words = h .path .words; end-room = rooms .1; enough = rw (on-is, taken-is) (omega arith) }
+      tell-labels = record { some = h .path .sized .some; long = h .path .sized .long; trailed = h .path .room; words = h .path .words; end-room = rooms .1; enough = rw (on-is, taken-is) (omega arith) }
 
       module _ (labs′ : List ℕ) (el : labs′ ≡ wrote labs (i .labels + taken - length (labelsOn T trail (w .top))) (labelsOn T trail (w .top))) where
         written : labs′ ≡ wrote labs (i .labels) ls
@@ -150,16 +151,16 @@ module _ (T : Tables) (n : ℕ) (ms : List ℕ) (count : ℕ) (rows : List ℤ) 
               placed = omega arith;
             })
 
-        next-is : (mode : Bool) → nextStart mode (i .row) (endOf (length (placesIn T)) p) ≡ nextStart mode (i .row) (w .row)
+        next-is : (mode : Bool) → nextStart mode (i .row) (endOf (length (placesIn (T .words) (P T))) p) ≡ nextStart mode (i .row) (w .row)
         next-is mode =
             let l : lastOf 0 p ≡ pairOf w = ap (λ (s : List ℕ). lastOf 0 (reverseAux s [])) stack-is ∙ last-up 0 (pairOf w) [] (stack (P T) trail (w .top - 1)) in
-            ap (nextStart mode (i .row)) (rw (l, in-length T) (path-row T trail w (h .path) (h .going)))
+            ap (nextStart mode (i .row)) (rw (l, in-length (T .words) (P T)) (path-row T trail w (h .path) (h .going)))
 
         pub tell-fits : (numbers numbers′ : List ℤ) (mode : Bool) (nx : ℕ) → nums ≡ length numbers
             → numbers′ ≡ wrote numbers (i .matches * (3 + 2 * count)) (matchNumbers (tableOf columns rows) (measuresIn ms count) (i .matches + 1) (i .row) (take (i .labels + taken - i .labels) (drop (i .labels) labs′)))
             → nx ≡ nextStart mode (i .row) (w .row) → (holds : ℕ → ℕ → Bool)
             → Told (asked T holds n mode (tableOf columns rows) (measuresIn ms count)) (some p) i (w .steps) numbers numbers′ labs labs′
-            (record { full = false; row = nx; matches = i .matches + 1; labels = i .labels + taken; steps = w .steps })
+            (record { end = 0; row = nx; matches = i .matches + 1; labels = i .labels + taken; steps = w .steps })
         tell-fits numbers numbers′ mode nx en e ex holds =
             rw (← en, sym fits-is ∙ et) (record {
               numbers-is = rw (measures-count ms count) (rw part-is at e);
@@ -169,5 +170,5 @@ module _ (T : Tables) (n : ℕ) (ms : List ℕ) (count : ℕ) (rows : List ℤ) 
 
     pub tell-full : (numbers : List ℤ) (mode : Bool) → nums ≡ length numbers → r ≡ false → (holds : ℕ → ℕ → Bool)
         → Told (asked T holds n mode (tableOf columns rows) (measuresIn ms count)) (some p) i (w .steps) numbers numbers labs labs
-        (record { full = true; row = n; matches = i .matches; labels = i .labels; steps = w .steps })
+        (record { end = 13; row = n; matches = i .matches; labels = i .labels; steps = w .steps })
     tell-full numbers mode en et holds = rw (← en, sym fits-is ∙ et) (record { numbers-is = refl; labels-is = refl; sweep-is = refl })

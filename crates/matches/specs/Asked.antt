@@ -1,5 +1,5 @@
 -- What a search is over, and the search that the definition makes of it.
-use mathlib.Core.Bool.{Bool}
+use mathlib.Core.Bool.{Bool, true, false}
 use mathlib.Core.List.{List, [], reverseAux}
 use Prim.Native.Nat.{ℕ, _+_, _*_}
 use lib.ListN.{length}
@@ -9,26 +9,34 @@ use Rattle.rules.specs.Report.{fits}
 use Rattle.rules.specs.Rows.{Table}
 use Rattle.rules.specs.Search.{Swept, Kept, labels, walkSearch}
 use Rattle.pairs.specs.Step.{stack}
-use Rattle.pairs.specs.Tables.{Tables, P, placesIn}
+use Rattle.pairs.specs.Layout.{Layout, P}
+use Rattle.table.specs.Table.{placesIn}
+use Rattle.matches.specs.declared.Skip.{Skip}
+use Rattle.matches.specs.declared.Skip.the-variants.{PastLastRow, ToNextRow}
 
--- the places in tables, when a letter holds at a row, the number of rows, the skip mode (to the next row), the rows, and the measures
+-- the layout of the places, when a letter holds at a row, the number of rows, the skip mode (to the next row), the rows, and the measures
 pub record Asked : Type 0 where
-  pub tables : Tables
+  pub layout : Layout
   pub holds : ℕ → ℕ → Bool
   pub n : ℕ
   pub mode : Bool
   pub rows : Table
   pub measures : List Measure
 
-abbrev pub asked : Tables → (ℕ → ℕ → Bool) → ℕ → Bool → Table → List Measure → Asked
-asked T holds n mode rows ms = record { tables = T; holds = holds; n = n; mode = mode; rows = rows; measures = ms }
+abbrev pub asked : Layout → (ℕ → ℕ → Bool) → ℕ → Bool → Table → List Measure → Asked
+asked T holds n mode rows ms = record { layout = T; holds = holds; n = n; mode = mode; rows = rows; measures = ms }
 
 abbrev pub pl : Asked → List Place
-pl A = placesIn (A .tables)
+pl A = placesIn (A .layout .words) (P (A .layout))
 
 -- how many numbers a match appends
 abbrev pub width : Asked → ℕ
 width A = 3 + 2 * length (A .measures)
+
+-- the skip mode as the rules have it: whether the search goes on at the next row
+unfoldable pub toNext : Skip → Bool
+toNext PastLastRow = false
+toNext ToNextRow = true
 
 -- the search by the counted walk, for so many report numbers and label bytes
 unfoldable pub searchOf : Asked → ℕ → ℕ → Swept Kept
@@ -39,6 +47,6 @@ searchOf A nums labs = walkSearch (A .holds) (A .n) (pl A) (A .mode) (fits nums 
 abbrev pub pathOn : ℕ → List ℕ → ℕ → List ℕ
 pathOn P trail top = reverseAux (stack P trail top) []
 
-unfoldable pub labelsOn : Tables → List ℕ → ℕ → List ℕ
+unfoldable pub labelsOn : Layout → List ℕ → ℕ → List ℕ
 unfolding labels placesIn stack
-labelsOn T trail top = labels (placesIn T) (pathOn (P T) trail top)
+labelsOn T trail top = labels (placesIn (T .words) (P T)) (pathOn (P T) trail top)

@@ -12,7 +12,8 @@ use Rattle.rules.specs.Report.{bitAt, matchNumbers, fits}
 use Rattle.rules.specs.Search.{Kept, answered, labels, nextStart, endOf}
 use Rattle.rules.proofs.Notes.{bitsOf}
 use Rattle.pairs.specs.declared.Walk.{Walk}
-use Rattle.pairs.specs.Tables.{Tables, P, N, Legal}
+use Rattle.pairs.specs.Layout.{Layout, P, N, Legal}
+use Rattle.table.specs.Table.{codeAt}
 use Rattle.pairs.specs.Step.{pairIn}
 use Rattle.pairs.specs.State.{Word, OnPath, attemptBy}
 use Rattle.matches.specs.declared.Sweep.{Sweep}
@@ -32,14 +33,15 @@ labelBy c vs = ifLetter (ltb c 26) (c + 65) vs
 abbrev pub OneMore : List ℕ → List ℕ → ℕ → ℕ → ℕ → Type 0
 OneMore l l′ c e r = (d vs : List ℕ) → l ≡ wrote d e vs → e + length vs ≤ length d → (l′ ≡ wrote d r (labelBy c vs)) × (r + length (labelBy c vs) ≡ e + length vs)
 
-pub record PutsLabel (co labs : List ℕ) (q e : ℕ) : Type 0 where
-  pub place : q < length co
+pub record PutsLabel (words labs : List ℕ) (q e : ℕ) : Type 0 where
+  pub place : 4 * q + 4 ≤ length words
   pub end : e ≤ length labs
-  pub room : getD co q 0 < 26 → 0 < e
+  pub room : codeAt words q < 26 → 0 < e
 
 -- a path is on the trail, and there is room for its labels before index `end`
-pub record Labels (T : Tables) (trail labs : List ℕ) (top end : ℕ) : Type 0 where
+pub record Labels (T : Layout) (trail labs : List ℕ) (top end : ℕ) : Type 0 where
   pub some : 0 < P T
+  pub long : 4 * P T ≤ length (T .words)
   pub trailed : top ≤ length trail
   pub words : (k : ℕ) → k < top → Word T (getD trail k 0)
   pub end-room : end ≤ length labs
@@ -47,8 +49,8 @@ pub record Labels (T : Tables) (trail labs : List ℕ) (top end : ℕ) : Type 0 
 
 -- ---- the report of a path
 
-abbrev pub swept : Bool → ℕ → ℕ → ℕ → ℕ → Sweep
-swept full row m l s = record { full = full; row = row; matches = m; labels = l; steps = s }
+abbrev pub swept : ℕ → ℕ → ℕ → ℕ → ℕ → Sweep
+swept end row m l s = record { end = end; row = row; matches = m; labels = l; steps = s }
 
 pub record Quiet (numbers numbers′ : List ℤ) (labs labs′ : List ℕ) (r : Sweep) (to : Sweep) : Type 0 where
   pub numbers-is : numbers′ ≡ numbers
@@ -63,11 +65,11 @@ pub record Written (A : Asked) (p : List ℕ) (i : Sweep) (numbers numbers′ : 
 -- a path p found with s steps: its match is written and the search goes on, or it does not fit and the search is over
 abbrev pub ToldBy : Bool → Asked → List ℕ → Sweep → ℕ → List ℤ → List ℤ → List ℕ → List ℕ → Sweep → Type 0
 ToldBy true A p i s numbers numbers′ labs labs′ r =
-    Written A p i numbers numbers′ labs labs′ r (swept false (nextStart (A .mode) (i .row) (endOf (length (pl A)) p)) (i .matches + 1) (i .labels + length (labels (pl A) p)) s)
-ToldBy false A p i s numbers numbers′ labs labs′ r = Quiet numbers numbers′ labs labs′ r (swept true (A .n) (i .matches) (i .labels) s)
+    Written A p i numbers numbers′ labs labs′ r (swept 0 (nextStart (A .mode) (i .row) (endOf (length (pl A)) p)) (i .matches + 1) (i .labels + length (labels (pl A) p)) s)
+ToldBy false A p i s numbers numbers′ labs labs′ r = Quiet numbers numbers′ labs labs′ r (swept 13 (A .n) (i .matches) (i .labels) s)
 
 abbrev pub Told : Asked → Option (List ℕ) → Sweep → ℕ → List ℤ → List ℤ → List ℕ → List ℕ → Sweep → Type 0
-Told A none i s numbers numbers′ labs labs′ r = Quiet numbers numbers′ labs labs′ r (swept false (i .row + 1) (i .matches) (i .labels) s)
+Told A none i s numbers numbers′ labs labs′ r = Quiet numbers numbers′ labs labs′ r (swept 0 (i .row + 1) (i .matches) (i .labels) s)
 Told A (some p) i s numbers numbers′ labs labs′ r =
     ToldBy (fits (length numbers) (length labs) (A .measures) (i .matches) (i .labels) (labels (pl A) p)) A p i s numbers numbers′ labs labs′ r
 
@@ -80,11 +82,11 @@ pub record Measured (ms : List ℕ) (count : ℕ) (rows : List ℤ) (columns n :
   pub columned : (k : ℕ) → k < count → getD ms (k * 3 + 2) 0 < columns
 
 -- a path is on the trail, from the row of the start to END, and its report can be made
-pub record Reports (T : Tables) (n : ℕ) (ms : List ℕ) (count : ℕ) (rows : List ℤ) (columns : ℕ) (trail labs : List ℕ) (i : Sweep) (w : Walk) : Type 0 where
+pub record Reports (T : Layout) (n : ℕ) (ms : List ℕ) (count : ℕ) (rows : List ℤ) (columns : ℕ) (trail labs : List ℕ) (i : Sweep) (w : Walk) : Type 0 where
   pub measured : Measured ms count rows columns n
   pub path : OnPath T trail w
   pub going : 0 < w .top
-  pub last : 29 < getD (T .code) (w .place) 0
+  pub last : 29 < codeAt (T .words) (w .place)
   pub bottom : pairIn (P T) (getD trail 0 0) ≡ i .row * P T
   pub row : i .row < n
   pub behind : w .row ≤ n
@@ -93,26 +95,25 @@ pub record Reports (T : Tables) (n : ℕ) (ms : List ℕ) (count : ℕ) (rows : 
 
 -- ---- one start
 
-pub record Visits (A : Asked) (Q : Type 0) (ms : List ℕ) (count : ℕ) (rows : List ℤ) (columns : ℕ) (notes trail labs : List ℕ) (i : Sweep) : Type 0 where
+pub record Visits (A : Asked) (ms : List ℕ) (count : ℕ) (rows : List ℤ) (columns : ℕ) (notes trail labs : List ℕ) (i : Sweep) : Type 0 where
   pub measured : Measured ms count rows columns (A .n)
-  pub legal : Legal (A .tables) (A .holds) (A .n)
-  pub asks : Q
-  pub noted : N (A .tables) (A .n) ≤ 8 * length notes
-  pub trailed : N (A .tables) (A .n) ≤ length trail
+  pub legal : Legal (A .layout) (A .holds) (A .n)
+  pub noted : N (A .layout) (A .n) ≤ 8 * length notes
+  pub trailed : N (A .layout) (A .n) ≤ length trail
   pub row : i .row < A .n
-  pub steps : i .steps + N (A .tables) (A .n) < 18446744073709551616
+  pub steps : i .steps + N (A .layout) (A .n) < 18446744073709551616
   pub few : i .matches ≤ i .row
   pub labels : i .labels ≤ length labs
 
 -- the attempt at a start by the definition, with the failed pairs F and s steps before it
 abbrev pub attemptAt : Asked → List Bool → ℕ → ℕ → Option (List ℕ) × Kept
-attemptAt A F s i = answered (attemptBy (A .tables) (A .holds) (A .n) F s i)
+attemptAt A F s i = answered (attemptBy (A .layout) (A .holds) (A .n) F s i)
 
 pub record Visited (A : Asked) (notes notes′ trail trail′ : List ℕ) (numbers numbers′ : List ℤ) (labs labs′ : List ℕ) (i r : Sweep) : Type 0 where
-  pub kept : bitsOf notes′ (N (A .tables) (A .n)) ≡ (attemptAt A (bitsOf notes (N (A .tables) (A .n))) (i .steps) (i .row)) .1 .0
-  pub told : Told A ((attemptAt A (bitsOf notes (N (A .tables) (A .n))) (i .steps) (i .row)) .0) i ((attemptAt A (bitsOf notes (N (A .tables) (A .n))) (i .steps) (i .row)) .1 .1) numbers numbers′ labs labs′ r
+  pub kept : bitsOf notes′ (N (A .layout) (A .n)) ≡ (attemptAt A (bitsOf notes (N (A .layout) (A .n))) (i .steps) (i .row)) .1 .0
+  pub told : Told A ((attemptAt A (bitsOf notes (N (A .layout) (A .n))) (i .steps) (i .row)) .0) i ((attemptAt A (bitsOf notes (N (A .layout) (A .n))) (i .steps) (i .row)) .1 .1) numbers numbers′ labs labs′ r
   pub notes-long : length notes′ ≡ length notes
   pub trail-long : length trail′ ≡ length trail
-  pub notes-beyond : (z : ℕ) → N (A .tables) (A .n) ≤ z → bitAt notes′ z ≡ bitAt notes z
-  pub trail-beyond : (k : ℕ) → N (A .tables) (A .n) ≤ k → getD trail′ k 0 ≡ getD trail k 0
-  pub more : (attemptAt A (bitsOf notes (N (A .tables) (A .n))) (i .steps) (i .row)) .1 .1 ≤ i .steps + N (A .tables) (A .n)
+  pub notes-beyond : (z : ℕ) → N (A .layout) (A .n) ≤ z → bitAt notes′ z ≡ bitAt notes z
+  pub trail-beyond : (k : ℕ) → N (A .layout) (A .n) ≤ k → getD trail′ k 0 ≡ getD trail k 0
+  pub more : (attemptAt A (bitsOf notes (N (A .layout) (A .n))) (i .steps) (i .row)) .1 .1 ≤ i .steps + N (A .layout) (A .n)

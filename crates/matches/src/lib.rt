@@ -1,43 +1,79 @@
-// A match written into the report: its labels off the trail, its numbers, and whether it fits.
+// A match written into the report: its labels off the trail, its numbers, and whether it fits; and where the search goes on behind it.
+use pairs::Extent;
 use pairs::Walk;
+use pairs::open_at;
+use pairs::place_of;
+use table::LETTERS;
+use table::code_at;
 ghost use mathlib.Core.Path.{_≡_};
 ghost use mathlib.Core.Bool.{Bool};
-ghost use Prim.Native.Nat.{ℕ, _+_, _-_, _<_};
-ghost use lib.ListN.{length, getD};
-ghost use Rattle.rules.specs.Basics.{wrote};
-ghost use Rattle.rules.specs.Search.{nextStart};
-ghost use Rattle.pairs.specs.Step.{placeIn};
-ghost use Rattle.pairs.specs.Tables.{tables};
-ghost use Rattle.matches.specs.Asked.{asked, labelsOn, pathOn};
 ghost use mathlib.Core.Option.{some};
+ghost use Prim.Native.Nat.{ℕ, _+_, _-_, _<_};
+ghost use lib.Dec.{eqb};
+ghost use lib.ListN.{length};
+ghost use Rattle.rules.specs.Basics.{wrote};
 ghost use Rattle.rules.specs.Rows.{tableOf};
+ghost use Rattle.rules.specs.Search.{nextStart};
 ghost use Rattle.measure_list.specs.Measures.{measuresIn};
+ghost use Rattle.table.specs.Table.{codeAt};
+ghost use Rattle.pairs.specs.Layout.{layout};
+ghost use Rattle.matches.specs.Asked.{asked, labelsOn, pathOn, toNext};
 ghost use Rattle.matches.specs.Found.{OneMore, PutsLabel, Labels, Told, Reports};
 
-// A search under way: whether a match did not fit, the next start, the matches and labels written, and the steps.
+// Where the search goes on behind a match with rows: behind its last row, or one row behind its first.
+pub enum Skip {
+    PastLastRow,
+    ToNextRow,
+}
+
+// The skip mode of a query's record: 1 is to the next row.
+pub fn skip_of(mode: usize) -> Skip
+    ensures { λ r. ⌜ toNext r ≡ eqb mode 1 ⌝ }
+{
+    if mode == 1 {
+        return Skip::ToNextRow;
+    }
+    Skip::PastLastRow
+}
+
+// What a search is asked beside its table of places: its extent, the number of measures, and where it goes on behind a match.
+pub struct Task {
+    pub size: Extent,
+    pub measures: usize,
+    pub skip: Skip,
+}
+
+// A search under way: how it ended, if it did; the next start, the matches and labels written, and the steps.
 #[repr(C)]
 pub struct Sweep {
-    pub full: bool,
+    pub end: usize,
     pub row: usize,
     pub matches: usize,
     pub labels: usize,
     pub steps: usize,
 }
 
-// The place of a number of the trail.
-fn place_of(e: u32) -> usize
-    ensures { λ r. ⌜ r ≡ placeIn e ⌝ }
+// How a search ends, by the answer of document 01: it is done, or the next match does not fit.
+pub const DONE: usize = 0;
+
+pub const FULL: usize = 13;
+
+// A code of a letter as its label.
+fn label_of(c: usize) -> u8
+    requires { ⌜ c < 26 ⌝ }
+    ensures { λ r. ⌜ r ≡ c + 65 ⌝ }
 {
-    (e % 256) as usize
+    (c + 65) as u8
 }
 
 // The label of the place q before index e, if it is a letter's.
-fn put_label(code: &[u8], labels: &mut [u8], q: usize, e: usize) -> usize
-    requires { ⌜ PutsLabel (now code) (now labels) q e ⌝ }
-    ensures { λ r. ⌜ OneMore (now (labels .entry)) (now (labels .exit)) (getD (now (code .entry)) q 0) e r ⌝ }
+fn put_label(words: &[u16], labels: &mut [u8], q: usize, e: usize) -> usize
+    requires { ⌜ PutsLabel (now words) (now labels) q e ⌝ }
+    ensures { λ r. ⌜ OneMore (now (labels .entry)) (now (labels .exit)) (codeAt (now (words .entry)) q) e r ⌝ }
 {
-    if code[q] < 26 {
-        labels[e - 1] = code[q] + 65;
+    let c = code_at(words, q);
+    if c < LETTERS {
+        labels[e - 1] = label_of(c);
         return e - 1;
     }
     e
@@ -45,67 +81,54 @@ fn put_label(code: &[u8], labels: &mut [u8], q: usize, e: usize) -> usize
 
 // The labels of the path on the trail, written before index `end` from the last to the first.
 fn put_labels(
-    code: &[u8],
-    next: &[u16],
-    entry: &[u32],
-    stop: &[u16],
-    ways: &[u16],
+    words: &[u16],
+    places: usize,
     trail: &[u32],
     labels: &mut [u8],
     top: usize,
     end: usize,
 )
-    requires { ⌜ Labels (tables (now code) (now next) (now entry) (now stop) (now ways)) (now trail) (now labels) top end ⌝ }
-    ensures { λ _. ⌜ now (labels .exit) ≡ wrote (now (labels .entry)) (end - length (labelsOn (tables (now (code .entry)) (now (next .entry)) (now (entry
-        .entry)) (now (stop .entry)) (now (ways .entry))) (now (trail .entry)) top)) (labelsOn (tables (now (code .entry)) (now (next .entry)) (now (entry
-        .entry)) (now (stop .entry)) (now (ways .entry))) (now (trail .entry)) top) ⌝ }
+    requires { ⌜ Labels (layout (now words) places) (now trail) (now labels) top end ⌝ }
+    ensures { λ _. ⌜ now (labels .exit) ≡ wrote (now (labels .entry)) (end - length (labelsOn (layout (now (words .entry)) places) (now (trail .entry)) top)) (labelsOn (layout (now (words .entry)) places) (now (trail .entry)) top) ⌝ }
 {
     let mut k = top;
     let mut e = end;
     while k > 0 {
         k -= 1;
-        e = put_label(code, labels, place_of(trail[k]), e);
+        e = put_label(words, labels, place_of(open_at(trail, k)), e);
     }
 }
 
-// Where the next attempt begins behind a match of the rows from `row` to below `behind`: at `behind`, or one row on.
-fn next_row(mode: bool, row: usize, behind: usize) -> usize
+// Where the next attempt begins behind a match of the rows from `row` to below `behind`; one row on where it has none.
+fn next_row(skip: Skip, row: usize, behind: usize) -> usize
     requires { ⌜ row + 1 < 18446744073709551616 ⌝ }
-    ensures { λ r. ⌜ r ≡ nextStart mode row behind ⌝ }
+    ensures { λ r. ⌜ r ≡ nextStart (toNext skip) row behind ⌝ }
 {
-    if mode {
-        return row + 1;
+    match skip {
+        Skip::ToNextRow => row + 1,
+        Skip::PastLastRow => { if row < behind { behind } else { row + 1 } }
     }
-    if row < behind {
-        return behind;
-    }
-    row + 1
 }
 
 // A path is on the trail: its match is written if it fits whole, and the search goes on; else the search is over.
 pub fn write_match(
-    code: &[u8],
-    next: &[u16],
-    entry: &[u32],
-    stop: &[u16],
-    ways: &[u16],
-    rows: &[i32],
-    columns: usize,
+    words: &[u16],
     ms: &[u8],
-    count: usize,
-    mode: bool,
-    n: usize,
+    rows: &[i32],
     trail: &[u32],
     numbers: &mut [i64],
     labels: &mut [u8],
+    task: Task,
     i: Sweep,
     w: Walk,
 ) -> Sweep
-    requires { ⌜ Reports (tables (now code) (now next) (now entry) (now stop) (now ways)) n (now ms) count (now rows) columns (now trail) (now labels) i w ⌝ }
-    ensures { λ r. ⌜ ((holds : ℕ → ℕ → Bool) → Told (asked (tables (now (code .entry)) (now (next .entry)) (now (entry .entry)) (now (stop .entry)) (now (ways
-        .entry))) holds n mode (tableOf columns (now (rows .entry))) (measuresIn (now (ms .entry)) count)) (some (pathOn (length (now (code .entry))) (now
+    requires { ⌜ Reports (layout (now words) (task .size .places)) (task .size .rows) (now ms) (task .measures) (now rows) (task .size .columns) (now trail) (now labels) i w ⌝ }
+    ensures { λ r. ⌜ ((holds : ℕ → ℕ → Bool) → Told (asked (layout (now (words .entry)) (task .size .places)) holds (task .size .rows) (toNext (task .skip)) (tableOf (task .size .columns) (now (rows .entry))) (measuresIn (now (ms .entry)) (task .measures))) (some (pathOn (task .size .places) (now
         (trail .entry)) (w .top))) i (w .steps) (now (numbers .entry)) (now (numbers .exit)) (now (labels .entry)) (now (labels .exit)) r) ⌝ }
 {
+    let size = task.size;
+    let count = task.measures;
+    let skip = task.skip;
     let row = i.row;
     let behind = w.row;
     let m = i.matches;
@@ -113,7 +136,7 @@ pub fn write_match(
     let taken = behind - row;
     if report::fits_whole(numbers.len(), labels.len(), count, m, l, taken) {
         let end = l + taken;
-        put_labels(code, next, entry, stop, ways, trail, labels, w.top, end);
+        put_labels(words, size.places, trail, labels, w.top, end);
         report::put_match(
             numbers,
             m * (3 + 2 * count),
@@ -121,21 +144,21 @@ pub fn write_match(
             ms,
             count,
             rows,
-            columns,
+            size.columns,
             row,
             &labels[l..end],
         );
         return Sweep {
-            full: false,
-            row: next_row(mode, row, behind),
+            end: DONE,
+            row: next_row(skip, row, behind),
             matches: m + 1,
             labels: end,
             steps: w.steps,
         };
     }
     Sweep {
-        full: true,
-        row: n,
+        end: FULL,
+        row: size.rows,
         matches: m,
         labels: l,
         steps: w.steps,

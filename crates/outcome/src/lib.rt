@@ -1,6 +1,5 @@
 // How a search ended: refused, done or stopped.
 ghost use mathlib.Core.Path.{_≡_};
-ghost use Rattle.rules.specs.Basics.{pick};
 ghost use Rattle.outcome.specs.Results.{refusal};
 
 // How a search ended: the answer, the matches and labels written, the steps, and the offset of answers 5 and 14.
@@ -25,22 +24,12 @@ pub fn refused(answer: usize, offset: usize) -> Outcome
     }
 }
 
-// Done or stopped, by what the walk over all starts came to.
+// Done or stopped, by what all starts came to.
 pub fn finished(s: matches::Sweep) -> Outcome
-    ensures { λ r. ⌜ r ≡ record { answer = pick (s .full) 13 0; matches = s .matches; labels = s .labels; steps = s .steps; offset = 0 } ⌝ }
+    ensures { λ r. ⌜ r ≡ record { answer = s .end; matches = s .matches; labels = s .labels; steps = s .steps; offset = 0 } ⌝ }
 {
-    let full = s.full;
-    if full {
-        return Outcome {
-            answer: 13,
-            matches: s.matches,
-            labels: s.labels,
-            steps: s.steps,
-            offset: 0,
-        };
-    }
     Outcome {
-        answer: 0,
+        answer: s.end,
         matches: s.matches,
         labels: s.labels,
         steps: s.steps,

@@ -19,11 +19,12 @@ use Rattle.rules.proofs.Machine.{firstOpen, resume, resume-accept, resume-pop, 
 use Rattle.rules.proofs.Notes.{marked, bitsOf, bitsOf-at, bitsFrom-length, bits-mark, bit-keep}
 use Rattle.rules.proofs.Walk.{All, count-mark}
 use Rattle.pairs.specs.declared.Walk.{Walk}
-use Rattle.pairs.specs.Tables.{Tables, P, N, second, waysOf, graphOf, passesBy}
-use Rattle.pairs.specs.Step.{placeIn, rowIn, wayIn, pairIn, stack, walkAt, outcomeBy}
+use Rattle.pairs.specs.Layout.{Layout, P, N, second, graphOf, passesBy, entryOf, mostPairs}
+use Rattle.table.specs.Table.{waysOf, codeAt}
+use Rattle.pairs.specs.Step.{oneUnless, placeIn, rowIn, wayIn, pairIn, stack, walkAt, outcomeBy}
 use Rattle.pairs.specs.State.{Onto, Linked, Passing, Word, rowFrom, wayAt, Led, Stuck, Good, Next, Ends, Stands, State, left, resumed, entering, comes, Reached}
-use Rattle.pairs.proofs.Ways.{pair-row, pair-place, ways-end, ways-are, leads-each}
-use Rattle.pairs.proofs.Trails.{word-row, word-place, entry-place, entry-row, entry-way, stack-length, stack-push, stack-top, linked-under}
+use Rattle.pairs.proofs.Ways.{second-is, pair-row, pair-place, ways-end, ways-are, leads-each}
+use Rattle.pairs.proofs.Trails.{second-most, word-row, word-place, entry-place, entry-row, entry-way, stack-length, stack-push, stack-top, linked-under}
 
 pub path-is : (P : ℕ) (trail : List ℕ) (F : List Bool) (s t : ℕ) → 0 < t → found (reverseAux (stack P trail t) []) F s ≡ outcomeBy P t trail F s
 unfolding outcomeBy
@@ -32,17 +33,16 @@ path-is P trail F s (suc t) h = refl
 
 -- ---- a good state
 
-pub good-room : (T : Tables) (holds : ℕ → ℕ → Bool) (n : ℕ) (Q : Type 0) (notes trail : List ℕ) (w : Walk) → Good T holds n Q notes trail w → w .top + countTrue (bitsOf notes (N T n)) ≤ N T n
-good-room T holds n Q notes trail w g =
+pub good-room : (T : Layout) (holds : ℕ → ℕ → Bool) (n : ℕ) (notes trail : List ℕ) (w : Walk) → Good T holds n notes trail w → w .top + countTrue (bitsOf notes (N T n)) ≤ N T n
+good-room T holds n notes trail w g =
     rw (stack-length (P T) trail (w .top)) at (open-room (g .legal .ρ) (N T n) (bitsOf notes (N T n)) (stack (P T) trail (w .top)) (bitsFrom-length notes (N T n) 0) (g .opened))
 
 -- it is one of the open pairs and the steps alone
-unfoldable pub good-as : (T : Tables) (holds : ℕ → ℕ → Bool) (n : ℕ) (Q : Type 0) (notes trail : List ℕ) (t s q r b : ℕ) (d f : ℕ) (q′ r′ b′ : ℕ) (d′ f′ : ℕ)
-    → Good T holds n Q notes trail (walkAt t s q r b d f) → Good T holds n Q notes trail (walkAt t s q′ r′ b′ d′ f′)
-good-as T holds n Q notes trail t s q r b d f q′ r′ b′ d′ f′ g =
+unfoldable pub good-as : (T : Layout) (holds : ℕ → ℕ → Bool) (n : ℕ) (notes trail : List ℕ) (t s q r b d q′ r′ b′ d′ : ℕ)
+    → Good T holds n notes trail (walkAt t s q r b d) → Good T holds n notes trail (walkAt t s q′ r′ b′ d′)
+good-as T holds n notes trail t s q r b d q′ r′ b′ d′ g =
     record {
       legal = g .legal;
-      asks = g .asks;
       noted = g .noted;
       trailed = g .trailed;
       opened = g .opened;
@@ -53,29 +53,44 @@ good-as T holds n Q notes trail t s q r b d f q′ r′ b′ d′ f′ g =
       steps = g .steps;
     }
 
--- the walk's 0 is not 1
+-- the statuses differ
 pub never : _≡_ {A = ℕ} 0 1 → ⊥
 never e = omega arith
 
--- what a state comes to, where no pair is to be entered, and where one is
-pub comes-idle : (T : Tables) (holds : ℕ → ℕ → Bool) (n : ℕ) (notes trail : List ℕ) (w : Walk) → (w .down ≡ 1 → ⊥) → comes T holds n notes trail w ≡ resumed T holds n notes trail w
-unfolding comes
-comes-idle T holds n notes trail w d = rw (ne-eqb (w .down) 1 d)
+pub zero-two : _≡_ {A = ℕ} 0 2 → ⊥
+zero-two e = omega arith
 
-pub comes-next : (T : Tables) (holds : ℕ → ℕ → Bool) (n : ℕ) (notes trail : List ℕ) (w : Walk) → w .down ≡ 1
+pub one-two : _≡_ {A = ℕ} 1 2 → ⊥
+one-two e = omega arith
+
+pub two-one : _≡_ {A = ℕ} 2 1 → ⊥
+two-one e = omega arith
+
+-- a pair that is tried is not END and open
+pub not-two : (b : Bool) → oneUnless b ≡ 2 → ⊥
+unfolding oneUnless
+not-two true e = zero-two e
+not-two false e = one-two e
+
+-- what a state comes to, where no pair is to be entered, and where one is
+pub comes-idle : (T : Layout) (holds : ℕ → ℕ → Bool) (n : ℕ) (notes trail : List ℕ) (w : Walk) → (w .status ≡ 1 → ⊥) → comes T holds n notes trail w ≡ resumed T holds n notes trail w
+unfolding comes
+comes-idle T holds n notes trail w d = rw (ne-eqb (w .status) 1 d)
+
+pub comes-next : (T : Layout) (holds : ℕ → ℕ → Bool) (n : ℕ) (notes trail : List ℕ) (w : Walk) → w .status ≡ 1
     → comes T holds n notes trail w ≡ entering T holds n notes trail w (w .base + w .place)
 unfolding comes
-comes-next T holds n notes trail w d = rw (eq-eqb (w .down) 1 d)
+comes-next T holds n notes trail w d = rw (eq-eqb (w .status) 1 d)
 
 -- a state comes to itself
-pub reached-none : (T : Tables) (holds : ℕ → ℕ → Bool) (n : ℕ) (Q : Type 0) (notes trail : List ℕ) (w : Walk) → State T holds n Q notes trail w
-    → Reached T holds n Q notes trail (comes T holds n notes trail w) notes trail w
-reached-none T holds n Q notes trail w s =
+pub reached-none : (T : Layout) (holds : ℕ → ℕ → Bool) (n : ℕ) (notes trail : List ℕ) (w : Walk) → State T holds n notes trail w
+    → Reached T holds n notes trail (comes T holds n notes trail w) notes trail w
+reached-none T holds n notes trail w s =
     record { good = s .good; stands = s .stands; same = refl; notes-long = refl; trail-long = refl; notes-beyond = λ z l. refl; trail-beyond = λ k l. refl }
 
 -- and on from a state that was reached
-module _ (T : Tables) (holds : ℕ → ℕ → Bool) (n : ℕ) (Q : Type 0) (n₁ t₁ : List ℕ) (R : Outcome) (n₂ t₂ : List ℕ) (w₂ : Walk) (notes trail : List ℕ) (w : Walk) where
-  pub reached-on : Reached T holds n Q n₁ t₁ R n₂ t₂ w₂ → Reached T holds n Q n₂ t₂ (comes T holds n n₂ t₂ w₂) notes trail w → Reached T holds n Q n₁ t₁ R notes trail w
+module _ (T : Layout) (holds : ℕ → ℕ → Bool) (n : ℕ) (n₁ t₁ : List ℕ) (R : Outcome) (n₂ t₂ : List ℕ) (w₂ : Walk) (notes trail : List ℕ) (w : Walk) where
+  pub reached-on : Reached T holds n n₁ t₁ R n₂ t₂ w₂ → Reached T holds n n₂ t₂ (comes T holds n n₂ t₂ w₂) notes trail w → Reached T holds n n₁ t₁ R notes trail w
   reached-on a b =
       record {
         good = b .good;
@@ -93,7 +108,7 @@ module _ (T : Tables) (holds : ℕ → ℕ → Bool) (n : ℕ) (Q : Type 0) (n�
 pub keeps-marked : (notes : List ℕ) (x : ℕ) → x / 8 < length notes → bitAt notes x ≡ false → (z : ℕ) → bitAt notes z ≡ true → bitAt (marked notes x) z ≡ true
 keeps-marked notes x l o z e = bit-keep notes x z l o (λ (q : z ≡ x). false≢true (sym o ∙ sym (ap (bitAt notes) q) ∙ e)) ∙ e
 
-module _ (T : Tables) (notes notes′ : List ℕ) (e y : ℕ) (l : Led T notes e y) (keeps : (z : ℕ) → bitAt notes z ≡ true → bitAt notes′ z ≡ true) where
+module _ (T : Layout) (notes notes′ : List ℕ) (e y : ℕ) (l : Led T notes e y) (keeps : (z : ℕ) → bitAt notes z ≡ true → bitAt notes′ z ≡ true) where
   pub led-keeps : Led T notes′ e y
   led-keeps = record { going = l .going; tried = λ m b d. keeps _ (l .tried m b d) }
 
@@ -109,7 +124,7 @@ module _ (T : Tables) (notes notes′ : List ℕ) (e y : ℕ) (l : Led T notes e
 
 -- ---- a pair is entered
 
-module _ (T : Tables) (holds : ℕ → ℕ → Bool) (n : ℕ) (Q : Type 0) (notes trail : List ℕ) (w : Walk) (q row base : ℕ) (h : Next T holds n Q notes trail w q row base) where
+module _ (T : Layout) (holds : ℕ → ℕ → Bool) (n : ℕ) (notes trail : List ℕ) (w : Walk) (q row base : ℕ) (h : Next T holds n notes trail w q row base) where
   abbrev y : ℕ
   y = base + q
 
@@ -117,14 +132,14 @@ module _ (T : Tables) (holds : ℕ → ℕ → Bool) (n : ℕ) (Q : Type 0) (not
   G = bitsOf notes (N T n)
 
   abbrev v : ℕ
-  v = row * 256 + getD (T .entry) q 0
+  v = row * 2048 + entryOf (T .words) q
 
   -- what it comes to once the pair is entered
   abbrev then : Outcome
   then = entering T holds n notes trail w y
 
   abbrev passing : Bool
-  passing = passesBy holds n (getD (T .code) q 0) row
+  passing = passesBy holds n (codeAt (T .words) q) row
 
   below : y < N T n
   below = h .opened .pairs .0
@@ -148,38 +163,25 @@ module _ (T : Tables) (holds : ℕ → ℕ → Bool) (n : ℕ) (Q : Type 0) (not
       let l = stack-length (P T) trail (w .top) in
       omega arith
 
-  second-small : second T q < 2048
-  second-small = elim (ℕ-discrete (second T q) 0) [
-    | yes e ↦ omega arith
-    | no d ↦
-        let c : second T q ≢ 0 = d in
-        let z = h .good .legal .sized in
-        let a = z .back q (h .place) (omega arith) in
-        let b = z .stop q (h .place) (omega arith) in
-        let m = z .ways in
-        omega arith
-  ]
-
-  pub next-noted : (y < 2097152) × (y / 8 < length notes)
+  pub next-noted : (y < mostPairs) × (y / 8 < length notes)
   next-noted = let b = below in let no = h .good .noted in let sm = h .good .legal .small in (omega arith, omega arith)
 
   pub next-room : w .top < length trail
   next-room = let r = room in let tr = h .good .trailed in omega arith
 
-  pub next-small : w .top < 2097152
+  pub next-small : w .top < mostPairs
   next-small = let r = room in let sm = h .good .legal .small in omega arith
 
   pub next-steps : w .steps + 1 < 18446744073709551616
   next-steps = let r = room in let st = h .good .steps in omega arith
 
-  pub next-word : row * 256 + getD (T .entry) q 0 < 4294967296
+  pub next-word : row * 2048 + entryOf (T .words) q < 4294967296
+  unfolding entryOf second
   next-word =
-      let z = h .good .legal .sized in
-      let se = second-small in
-      let en = z .entry q (h .place) in
+      let s = second-most T q in
       let f = next-few in
       let p = h .place in
-      let pf = z .few in
+      let pf = h .good .legal .sized .few in
       omega arith
 
   keeps : (z : ℕ) → bitAt notes z ≡ true → bitAt (marked notes y) z ≡ true
@@ -212,7 +214,7 @@ module _ (T : Tables) (holds : ℕ → ℕ → Bool) (n : ℕ) (Q : Type 0) (not
           place = rw v-place (h .place);
           some = λ l. rw v-place (rw v-way at l);
           behind = λ l. rw (v-place, v-way) (omega arith);
-          before = λ l. rw (v-place, v-way) (h .good .legal .sized .back q (h .place) (rw v-way at l));
+          before = λ l. let s = second-is T q (rw v-way at l) in rw (v-place, v-way) (omega (arith, s .0, s .1));
         }
 
     open-words : (k : ℕ) → k < w .top + 1 → Word T (getD (set trail (w .top) v) k 0)
@@ -234,14 +236,13 @@ module _ (T : Tables) (holds : ℕ → ℕ → Bool) (n : ℕ) (Q : Type 0) (not
             let i : w .top - 1 ≡ k = omega arith in
             rw (e, getD-set-same trail (w .top) v 0 next-room, pair-is) (rw i at (h .led (omega arith)))
 
-    pub open-good : (d f : ℕ) → Good T holds n Q notes (set trail (w .top) v) (walkAt (w .top + 1) (w .steps + 1) q row base d f)
-    open-good d f =
+    pub open-good : (d : ℕ) → Good T holds n notes (set trail (w .top) v) (walkAt (w .top + 1) (w .steps + 1) q row base d)
+    open-good d =
         let g = h .good in
         let r = room in
         let s = g .steps in
         record {
           legal = g .legal;
-          asks = g .asks;
           noted = g .noted;
           trailed = rw (length-set trail (w .top) v) (g .trailed);
           opened = rw stack-is (h .opened);
@@ -255,13 +256,13 @@ module _ (T : Tables) (holds : ℕ → ℕ → Bool) (n : ℕ) (Q : Type 0) (not
     pub open-top : getD (set trail (w .top) v) (w .top + 1 - 1) 0 ≡ v
     open-top = let o : w .top + 1 - 1 ≡ w .top = omega arith in rw (o, getD-set-same trail (w .top) v 0 next-room)
 
-    pub open-resumed : (d f : ℕ) → resumed T holds n notes (set trail (w .top) v) (walkAt (w .top + 1) (w .steps + 1) q row base d f) ≡ then
+    pub open-resumed : (d : ℕ) → resumed T holds n notes (set trail (w .top) v) (walkAt (w .top + 1) (w .steps + 1) q row base d) ≡ then
     unfolding resumed entering
-    open-resumed d f = rw (stack-is, add-one (w .steps))
+    open-resumed d = rw (stack-is, add-one (w .steps))
 
     -- as it was before, but for the trail at the new pair
-    pub open-reached : (r : Walk) → Good T holds n Q notes (set trail (w .top) v) r → Stands T holds n Q notes (set trail (w .top) v) r
-        → comes T holds n notes (set trail (w .top) v) r ≡ then → Reached T holds n Q notes trail then notes (set trail (w .top) v) r
+    pub open-reached : (r : Walk) → Good T holds n notes (set trail (w .top) v) r → Stands T holds n notes (set trail (w .top) v) r
+        → comes T holds n notes (set trail (w .top) v) r ≡ then → Reached T holds n notes trail then notes (set trail (w .top) v) r
     open-reached r good stands same =
         let a = room in
         record {
@@ -275,20 +276,20 @@ module _ (T : Tables) (holds : ℕ → ℕ → Bool) (n : ℕ) (Q : Type 0) (not
         }
 
     -- END is open
-    pub open-end : 29 < getD (T .code) q 0 → Reached T holds n Q notes trail then notes (set trail (w .top) v) (walkAt (w .top + 1) (w .steps + 1) q row base 0 1)
-    open-end l = open-reached (walkAt (w .top + 1) (w .steps + 1) q row base 0 1) (open-good 0 1) stands (comes-idle T holds n notes _ _ never ∙ open-resumed 0 1)
+    pub open-end : 29 < codeAt (T .words) q → Reached T holds n notes trail then notes (set trail (w .top) v) (walkAt (w .top + 1) (w .steps + 1) q row base 2)
+    open-end l = open-reached (walkAt (w .top + 1) (w .steps + 1) q row base 2) (open-good 2) stands (comes-idle T holds n notes _ _ two-one ∙ open-resumed 2)
       where
-        stands : Stands T holds n Q notes (set trail (w .top) v) (walkAt (w .top + 1) (w .steps + 1) q row base 0 1)
+        stands : Stands T holds n notes (set trail (w .top) v) (walkAt (w .top + 1) (w .steps + 1) q row base 2)
         stands =
             record {
-              next = λ d. absurd (never d);
+              next = λ d. absurd (two-one d);
               stuck = λ _ d. absurd (d refl);
               ends = λ _. record { spot = rw open-top (record { place = v-place; row = v-row; base = h .base-is }); end = l };
             }
 
-    pub open-less : (k r b : ℕ) (d f : ℕ) → left (N T n) notes (walkAt (w .top + 1) (w .steps + 1) k r b d f) < left (N T n) notes w
+    pub open-less : (k r b d : ℕ) → left (N T n) notes (walkAt (w .top + 1) (w .steps + 1) k r b d) < left (N T n) notes w
     unfolding left
-    open-less k r b d f = let a = room in omega arith
+    open-less k r b d = let a = room in omega arith
 
   -- no way of it is open
   module _ (ys : List ℕ) (tries : graphOf T holds n y ≡ try ys) (closed : firstOpen G ys ≡ none) where
@@ -306,7 +307,7 @@ module _ (T : Tables) (holds : ℕ → ℕ → Bool) (n : ℕ) (Q : Type 0) (not
         sym (bitsOf-at (marked notes y) (N T n) y below) ∙ ap (λ (l : List Bool). getD l y false) bits-is
         ∙ getD-set-same G y true false (rw (bitsFrom-length notes (N T n) 0) below)
 
-    shut-good : Good T holds n Q (marked notes y) trail (walkAt (w .top) (w .steps + 1) (w .place) (w .row) (w .base) 0 0)
+    shut-good : Good T holds n (marked notes y) trail (walkAt (w .top) (w .steps + 1) (w .place) (w .row) (w .base) 0)
     unfolding marked
     shut-good =
         let g = h .good in
@@ -315,7 +316,6 @@ module _ (T : Tables) (holds : ℕ → ℕ → Bool) (n : ℕ) (Q : Type 0) (not
         let s = g .steps in
         record {
           legal = g .legal;
-          asks = g .asks;
           noted = simp length-set (g .noted);
           trailed = g .trailed;
           opened = rw bits-is (open-pop (g .legal .ρ) (N T n) G (stack (P T) trail (w .top)) y (h .opened));
@@ -326,16 +326,16 @@ module _ (T : Tables) (holds : ℕ → ℕ → Bool) (n : ℕ) (Q : Type 0) (not
           steps = omega arith;
         }
 
-    shut-stands : Stands T holds n Q (marked notes y) trail (walkAt (w .top) (w .steps + 1) (w .place) (w .row) (w .base) 0 0)
-    shut-stands = record { next = λ d. absurd (never d); ends = λ d. absurd (never d); stuck = λ _ _ l. led-stuck T notes (marked notes y) _ _ (h .led l) keeps shut-marked }
+    shut-stands : Stands T holds n (marked notes y) trail (walkAt (w .top) (w .steps + 1) (w .place) (w .row) (w .base) 0)
+    shut-stands = record { next = λ d. absurd (never d); ends = λ d. absurd (zero-two d); stuck = λ _ _ l. led-stuck T notes (marked notes y) _ _ (h .led l) keeps shut-marked }
 
-    shut-same : resumed T holds n (marked notes y) trail (walkAt (w .top) (w .steps + 1) (w .place) (w .row) (w .base) 0 0) ≡ then
+    shut-same : resumed T holds n (marked notes y) trail (walkAt (w .top) (w .steps + 1) (w .place) (w .row) (w .base) 0) ≡ then
     unfolding resumed entering
     shut-same =
         rw (bits-is, add-one (w .steps))
         (sym (resume-pop (graphOf T holds n) (h .good .legal .ρ) (N T n) (h .good .legal .falls) (N T n) (h .good .legal .bound) (stack (P T) trail (w .top)) G (suc (w .steps)) y ys tries closed))
 
-    pub shut-reached : Reached T holds n Q notes trail then (marked notes y) trail (walkAt (w .top) (w .steps + 1) (w .place) (w .row) (w .base) 0 0)
+    pub shut-reached : Reached T holds n notes trail then (marked notes y) trail (walkAt (w .top) (w .steps + 1) (w .place) (w .row) (w .base) 0)
     unfolding marked
     shut-reached =
         let b = below in
@@ -349,7 +349,7 @@ module _ (T : Tables) (holds : ℕ → ℕ → Bool) (n : ℕ) (Q : Type 0) (not
           trail-beyond = λ k l. refl;
         }
 
-    pub shut-less : left (N T n) (marked notes y) (walkAt (w .top) (w .steps + 1) (w .place) (w .row) (w .base) 0 0) < left (N T n) notes w
+    pub shut-less : left (N T n) (marked notes y) (walkAt (w .top) (w .steps + 1) (w .place) (w .row) (w .base) 0) < left (N T n) notes w
     unfolding left
     shut-less = let r = room in let c = count-is in omega arith
 
@@ -376,7 +376,7 @@ each-map Q b (k ∷ ks) a (suc m) l = each-map Q b ks (a .1) m (le-of-suc-le-suc
 
 -- ---- the last open pair
 
-module _ (T : Tables) (holds : ℕ → ℕ → Bool) (n : ℕ) (Q : Type 0) (notes trail : List ℕ) (w : Walk) (g : Good T holds n Q notes trail w) (going : 0 < w .top) where
+module _ (T : Layout) (holds : ℕ → ℕ → Bool) (n : ℕ) (notes trail : List ℕ) (w : Walk) (g : Good T holds n notes trail w) (going : 0 < w .top) where
   abbrev e : ℕ
   e = getD trail (w .top - 1) 0
 
@@ -420,14 +420,14 @@ module _ (T : Tables) (holds : ℕ → ℕ → Bool) (n : ℕ) (Q : Type 0) (not
       rw row-is at (le-of-suc-le-suc q)
 
   -- the last open pair passes
-  pub top-passes : passesBy holds n (getD (T .code) (placeIn e) 0) (rowIn e) ≡ true
+  pub top-passes : passesBy holds n (codeAt (T .words) (placeIn e)) (rowIn e) ≡ true
   unfolding Passing
   top-passes =
       let a : All (Passing T holds n) (x ∷ stack (P T) trail (w .top - 1)) = rw top-is at (g .passing) in
       rw (row-is, place-is) at (a .0)
 
   -- END is on top: the open pairs are the path
-  pub top-end : 29 < getD (T .code) (placeIn e) 0 → resumed T holds n notes trail w ≡ outcomeBy (P T) (w .top) trail (bitsOf notes (N T n)) (w .steps)
+  pub top-end : 29 < codeAt (T .words) (placeIn e) → resumed T holds n notes trail w ≡ outcomeBy (P T) (w .top) trail (bitsOf notes (N T n)) (w .steps)
   unfolding resumed
   top-end h =
       let d : graphOf T holds n x ≡ accept = ways-end T holds n (placeIn e) (rowIn e) (top-word .place) h in
@@ -435,9 +435,9 @@ module _ (T : Tables) (holds : ℕ → ℕ → Bool) (n : ℕ) (Q : Type 0) (not
       rw top-is (resume-accept (graphOf T holds n) (g .legal .ρ) (N T n) (g .legal .falls) (N T n) (g .legal .bound) (stack (P T) trail (w .top - 1)) F (w .steps) x d) in
       a ∙ path-is (P T) trail F (w .steps) (w .top) going
 
-  module _ (more : getD (T .code) (placeIn e) 0 ≤ 29) where
+  module _ (more : codeAt (T .words) (placeIn e) ≤ 29) where
     abbrev ks : List ℕ
-    ks = waysOf T (placeIn e)
+    ks = waysOf (T .words) (placeIn e)
 
     abbrev ys : List ℕ
     ys = map (λ k. rowFrom T e * P T + k) ks
@@ -479,7 +479,7 @@ module _ (T : Tables) (holds : ℕ → ℕ → Bool) (n : ℕ) (Q : Type 0) (not
         unfolding Onto rowFrom
         onto = rw (place-is, row-is, eb, digits-div row (let p : q < P T = rw eq way-place in p)) er
 
-        pub top-next : Next T holds n Q notes trail w q row base
+        pub top-next : Next T holds n notes trail w q row base
         top-next =
             record {
               good = g;
@@ -519,9 +519,9 @@ module _ (T : Tables) (holds : ℕ → ℕ → Bool) (n : ℕ) (Q : Type 0) (not
 
       module _ (q row base : ℕ) where
         abbrev under : Walk
-        under = walkAt (w .top - 1) (w .steps) q row base 0 0
+        under = walkAt (w .top - 1) (w .steps) q row base 0
 
-        leave-good : Good T holds n Q (marked notes x) trail under
+        leave-good : Good T holds n (marked notes x) trail under
         unfolding marked
         leave-good =
             let c = marked-count in
@@ -529,7 +529,6 @@ module _ (T : Tables) (holds : ℕ → ℕ → Bool) (n : ℕ) (Q : Type 0) (not
             let a : All (Passing T holds n) (x ∷ stack (P T) trail (w .top - 1)) = rw top-is at (g .passing) in
             record {
               legal = g .legal;
-              asks = g .asks;
               noted = simp length-set (g .noted);
               trailed = g .trailed;
               opened = rw marked-is (open-pop (g .legal .ρ) (N T n) F (stack (P T) trail (w .top - 1)) x opened);
@@ -541,9 +540,9 @@ module _ (T : Tables) (holds : ℕ → ℕ → Bool) (n : ℕ) (Q : Type 0) (not
             }
 
         -- the pair below had tried it last
-        leave-stands : Stands T holds n Q (marked notes x) trail under
+        leave-stands : Stands T holds n (marked notes x) trail under
         leave-stands =
-            record { next = λ d. absurd (never d); ends = λ d. absurd (never d); stuck = λ _ _ l. below (w .top - 1) refl l }
+            record { next = λ d. absurd (never d); ends = λ d. absurd (zero-two d); stuck = λ _ _ l. below (w .top - 1) refl l }
           where
             below : (t : ℕ) → w .top - 1 ≡ t → 0 < t → Stuck T (marked notes x) (getD trail (t - 1) 0)
             below zero d l = absurd (not-suc-le-zero l)
@@ -558,7 +557,7 @@ module _ (T : Tables) (holds : ℕ → ℕ → Bool) (n : ℕ) (Q : Type 0) (not
             rw (top-is, marked-is)
             (sym (resume-pop (graphOf T holds n) (g .legal .ρ) (N T n) (g .legal .falls) (N T n) (g .legal .bound) (stack (P T) trail (w .top - 1)) F (w .steps) x ys tries shut))
 
-        pub leave-reached : Reached T holds n Q notes trail (resumed T holds n notes trail w) (marked notes x) trail under
+        pub leave-reached : Reached T holds n notes trail (resumed T holds n notes trail w) (marked notes x) trail under
         unfolding marked
         leave-reached =
             let b = top-below in
@@ -575,6 +574,6 @@ module _ (T : Tables) (holds : ℕ → ℕ → Bool) (n : ℕ) (Q : Type 0) (not
         pub leave-less : left (N T n) (marked notes x) under < left (N T n) notes w
         unfolding left
         leave-less =
-            let r = good-room T holds n Q notes trail w g in
+            let r = good-room T holds n notes trail w g in
             let c = marked-count in
             omega arith

@@ -1,5 +1,5 @@
 -- What the small functions do, one law for each way through their code: a letter, a place that passes, a pair entered or tried, and the way behind a way.
-use mathlib.Core.Path.{_≡_, refl, sym, _∙_}
+use mathlib.Core.Path.{_≡_, refl, sym, ap, _∙_}
 use mathlib.Core.List.{List}
 use mathlib.Core.Bool.{Bool, true, false, not, _&&_, false≢true, true≢false}
 use Prim.Native.Nat.{ℕ, _+_, _-_, _*_, _/_, _%_, _≤_, _<_}
@@ -16,7 +16,8 @@ use Rattle.define_list.specs.Defines.{definedAt}
 use Rattle.tests.specs.Tests.{Letters, TestRoom}
 use Rattle.pairs.specs.declared.Walk.{Walk}
 use Rattle.pairs.specs.Letters.{holdsIn}
-use Rattle.pairs.specs.Tables.{passesBy}
+use Rattle.table.specs.Table.{codeAt, firstAt, countAt}
+use Rattle.pairs.specs.Layout.{Layout, layout, P, entryOf, passesBy}
 use Rattle.pairs.specs.Step.{oneUnless, mem, walkAt, tryAt, after, opens, openedBy, openIf, enteredBy, Noted, Enters}
 use Rattle.pairs.proofs.Trying.{letter-in}
 
@@ -74,11 +75,11 @@ unfolding oneUnless
 is-zero true e = refl
 is-zero false e = absurd (true≢false e)
 
-pub tried-is : (notes : List ℕ) (top steps q row base : ℕ) (f : Bool) (d : ℕ) → f ≡ bitAt notes (base + q) → d ≡ oneUnless f → walkAt top steps q row base d 0 ≡ tryAt notes top steps q row base
+pub tried-is : (notes : List ℕ) (top steps q row base : ℕ) (f : Bool) (d : ℕ) → f ≡ bitAt notes (base + q) → d ≡ oneUnless f → walkAt top steps q row base d ≡ tryAt notes top steps q row base
 tried-is notes top steps q row base f d e g = rw (g, e)
 
-module _ (notes trail : List ℕ) (w : Walk) (c v k P : ℕ) (p : Bool) (trail′ : List ℕ) (et : trail′ ≡ set trail (w .top) (w .row * 256 + v)) (r : Walk) where
-  pub entered-letter : true ≡ p → c < 26 → (x : ℕ) → x ≡ k → bitAt notes (w .base + P + x) ≡ false → r ≡ walkAt (w .top + 1) (w .steps + 1) x (w .row + 1) (w .base + P) 1 0
+module _ (notes trail : List ℕ) (w : Walk) (c v k P : ℕ) (p : Bool) (trail′ : List ℕ) (et : trail′ ≡ set trail (w .top) (w .row * 2048 + v)) (r : Walk) where
+  pub entered-letter : true ≡ p → c < 26 → (x : ℕ) → x ≡ k → bitAt notes (w .base + P + x) ≡ false → r ≡ walkAt (w .top + 1) (w .steps + 1) x (w .row + 1) (w .base + P) 1
       → mem notes trail′ r ≡ enteredBy p (mem notes trail w) c v k P
   unfolding enteredBy opens openIf openedBy oneUnless
   entered-letter e l x ex o er = let b : bitAt notes (w .base + P + k) ≡ false = rw ex at o in rw (← e, lt-ltb c 26 l, b, et, er, ex, lt-ltb c 26 l, b)
@@ -87,13 +88,13 @@ module _ (notes trail : List ℕ) (w : Walk) (c v k P : ℕ) (p : Bool) (trail�
   unfolding enteredBy opens openIf openedBy
   entered-other e l m x ex er = rw (← e, le-ltb c 26 l, et, er, ex, le-ltb c 26 l, le-ltb 29 c m)
 
-  pub entered-end : true ≡ p → 29 < c → r ≡ walkAt (w .top + 1) (w .steps + 1) (w .place) (w .row) (w .base) 0 1 → mem notes trail′ r ≡ enteredBy p (mem notes trail w) c v k P
+  pub entered-end : true ≡ p → 29 < c → r ≡ walkAt (w .top + 1) (w .steps + 1) (w .place) (w .row) (w .base) 2 → mem notes trail′ r ≡ enteredBy p (mem notes trail w) c v k P
   unfolding enteredBy opens openIf openedBy
   entered-end e l er = let z : 26 ≤ c = omega arith in rw (← e, le-ltb c 26 z, et, er, le-ltb c 26 z, lt-ltb 29 c l)
 
 -- it fails at once
 module _ (notes trail : List ℕ) (w : Walk) (c v k P : ℕ) (p : Bool) (notes′ : List ℕ) (en : notes′ ≡ marked notes (w .base + w .place)) (r : Walk)
-    (er : r ≡ walkAt (w .top) (w .steps + 1) (w .place) (w .row) (w .base) 0 0) where
+    (er : r ≡ walkAt (w .top) (w .steps + 1) (w .place) (w .row) (w .base) 0) where
   pub entered-shut : false ≡ p → mem notes′ trail r ≡ enteredBy p (mem notes trail w) c v k P
   unfolding enteredBy opens openIf
   entered-shut e = rw (← e, en, er)
@@ -104,54 +105,107 @@ module _ (notes trail : List ℕ) (w : Walk) (c v k P : ℕ) (p : Bool) (notes�
 
 -- ---- the way behind a way
 
-pub after-more : (stop j : ℕ) → stop ≤ 2048 → j + 1 < stop → (j + 1 ≡ after stop j) × (j + 1 < 2048)
+pub after-more : (count j : ℕ) → count ≤ 256 → j + 1 < count → (j + 1 ≡ after count j) × (j + 1 < 256)
 unfolding after
-after-more stop j s h = (rw (lt-ltb (j + 1) stop h), omega arith)
+after-more count j s h = (rw (lt-ltb (j + 1) count h), omega arith)
 
-pub after-none : (stop j : ℕ) → stop ≤ j + 1 → (0 ≡ after stop j) × (0 < 2048)
+pub after-none : (count j : ℕ) → count ≤ j + 1 → (0 ≡ after count j) × (0 < 256)
 unfolding after
-after-none stop j h = (rw (le-ltb (j + 1) stop h), omega arith)
+after-none count j h = (rw (le-ltb (j + 1) count h), omega arith)
 
-pub pushed-is : (trail : List ℕ) (top row u v : ℕ) → u ≡ v → set trail top (row * 256 + u) ≡ set trail top (row * 256 + v)
-pushed-is trail top row u v e = rw e
+-- ---- what the trail holds of a place when it is entered
+
+pub entry-one : (words : List ℕ) (q : ℕ) → countAt words q ≤ 1 → q ≡ entryOf words q
+unfolding entryOf
+entry-one words q h = rw (le-ltb 1 (countAt words q) h) (omega arith)
+
+module _ (words : List ℕ) (q k : ℕ) (ek : k ≡ countAt words q) (few : q < 2048) where
+  pub entry-with : 1 < k → (q + 16777216 ≡ entryOf words q) × (q + 16777216 < 16779264)
+  unfolding entryOf
+  entry-with h = (rw (lt-ltb 1 (countAt words q) (omega (arith, ek, h))), omega arith)
+
+  pub entry-without : k ≤ 1 → (q ≡ entryOf words q) × (q < 16779264)
+  entry-without h = (entry-one words q (omega (arith, ek, h)), omega arith)
 
 -- ---- what `enter` needs and does, one law for each way through its code
 
-pub fork-noted : (co ne en : List ℕ) (n : ℕ) (Q : Type 0) (notes trail : List ℕ) (w : Walk) → Enters co ne en n Q notes trail w → getD co (w .place) 0 ≡ 28 → Noted notes (w .base + (w .place + 1))
-fork-noted co ne en n Q notes trail w h e = rw (h .near e) at (h .other (omega arith) (omega arith))
+module _ (T : Layout) (n : ℕ) (notes trail : List ℕ) (w : Walk) (h : Enters T n notes trail w) (c : ℕ) (ec : (c ≡ codeAt (T .words) (w .place)) × (c < 65536)) where
+  pub fork-noted : c ≡ 28 → Noted notes (w .base + (w .place + 1))
+  fork-noted e = let z : codeAt (T .words) (w .place) ≡ 28 = sym (ec .0) ∙ e in rw (h .near z) at (h .other (omega arith) (omega arith))
 
-module _ (co ne en : List ℕ) (n : ℕ) (Q : Type 0) (notes trail : List ℕ) (w : Walk) (h : Enters co ne en n Q notes trail w) (x : ℕ) (ex : x ≡ getD ne (w .place) 0) where
-  pub anchor-noted : 26 ≤ getD co (w .place) 0 → getD co (w .place) 0 ≤ 29 → Noted notes (w .base + x)
-  anchor-noted l m = rw ex (h .other l m)
+  module _ (x : ℕ) (ex : (x ≡ firstAt (T .words) (w .place)) × (x < 65536)) where
+    pub anchor-noted : 26 ≤ c → c ≤ 29 → Noted notes (w .base + x)
+    anchor-noted l m = rw (ex .0) (h .other (omega (arith, ec .0)) (omega (arith, ec .0)))
 
-  pub letter-noted : (holds : ℕ → ℕ → Bool) (r : Bool) → getD co (w .place) 0 < 26 → r ≡ passesBy holds n (getD co (w .place) 0) (w .row) → not r ≡ false → Noted notes (w .base + length co + x)
-  letter-noted holds r l e t = rw ex (h .letter l (letter-in holds n (getD co (w .place) 0) (w .row) l (sym e ∙ open-of r t)))
+    pub letter-noted : (holds : ℕ → ℕ → Bool) (r : Bool) → c < 26 → r ≡ passesBy holds n c (w .row) → not r ≡ false → Noted notes (w .base + P T + x)
+    letter-noted holds r l e t = rw (ex .0) (h .letter (omega (arith, ec .0)) (letter-in holds n c (w .row) l (sym e ∙ open-of r t)))
 
-module _ (holds : ℕ → ℕ → Bool) (n : ℕ) (notes trail : List ℕ) (w : Walk) (c v k P : ℕ) where
+module _ (holds : ℕ → ℕ → Bool) (n : ℕ) (words : List ℕ) (P : ℕ) (notes trail : List ℕ) (w : Walk) (h : Enters (layout words P) n notes trail w) where
+  abbrev code : ℕ
+  code = codeAt words (w .place)
+
+  abbrev entry : ℕ
+  entry = entryOf words (w .place)
+
   abbrev passing : Bool
-  passing = passesBy holds n c (w .row)
+  passing = passesBy holds n code (w .row)
 
-  pub enter-fork : (trail′ : List ℕ) (r : Walk) → trail′ ≡ set trail (w .top) (w .row * 256 + v) → c ≡ 28 → (c ≡ 28 → k ≡ w .place + 1)
-      → r ≡ tryAt notes (w .top + 1) (w .steps + 1) (w .place + 1) (w .row) (w .base) → mem notes trail′ r ≡ enteredBy passing (mem notes trail w) c v k P
-  enter-fork trail′ r et e near er =
-      entered-other notes trail w c v k P passing trail′ et r (passes-fork holds n c (w .row) e) (omega arith) (omega arith) (w .place + 1) (sym (near e)) er
+  -- what `enter` promises
+  abbrev pub EntersTo : List ℕ → List ℕ → Walk → Type 0
+  EntersTo notes′ trail′ r = mem notes′ trail′ r ≡ enteredBy passing (mem notes trail w) code entry (firstAt words (w .place)) P
 
-  pub enter-letter : (p : Bool) (trail′ : List ℕ) (x : ℕ) (f : Bool) → p ≡ passing → not p ≡ false → trail′ ≡ set trail (w .top) (w .row * 256 + v) → c < 26 → x ≡ k
-      → f ≡ bitAt notes (w .base + P + x) → f ≡ false → mem notes trail′ (walkAt (w .top + 1) (w .steps + 1) x (w .row + 1) (w .base + P) 1 0) ≡ enteredBy passing (mem notes trail w) c v k P
-  enter-letter p trail′ x f ep t et l ex ef o = entered-letter notes trail w c v k P passing trail′ et _ (sym (open-of p t) ∙ ep) l x ex (sym ef ∙ o) refl
+  abbrev Pushed : ℕ → List ℕ → Type 0
+  Pushed v trail′ = trail′ ≡ set trail (w .top) (w .row * 2048 + v)
 
-  pub enter-shut : (p : Bool) (notes′ : List ℕ) (r : Walk) → p ≡ passing → not p ≡ true → notes′ ≡ marked notes (w .base + w .place)
-      → r ≡ walkAt (w .top) (w .steps + 1) (w .place) (w .row) (w .base) 0 0 → mem notes′ trail r ≡ enteredBy passing (mem notes trail w) c v k P
-  enter-shut p notes′ r ep t en er = entered-shut notes trail w c v k P passing notes′ en r er (sym (shut-of p t) ∙ ep)
+  abbrev Fallen : List ℕ → Walk → Type 0
+  Fallen notes′ r = (notes′ ≡ marked notes (w .base + w .place)) × (r ≡ walkAt (w .top) (w .steps + 1) (w .place) (w .row) (w .base) 0)
 
-  pub enter-stuck : (p : Bool) (notes′ : List ℕ) (r : Walk) (x : ℕ) (f : Bool) → p ≡ passing → not p ≡ false → c < 26 → x ≡ k → f ≡ bitAt notes (w .base + P + x) → f ≡ true
-      → notes′ ≡ marked notes (w .base + w .place) → r ≡ walkAt (w .top) (w .steps + 1) (w .place) (w .row) (w .base) 0 0 → mem notes′ trail r ≡ enteredBy passing (mem notes trail w) c v k P
-  enter-stuck p notes′ r x f ep t l ex ef o en er = entered-stuck notes trail w c v k P passing notes′ en r er (sym (open-of p t) ∙ ep) l x ex (sym ef ∙ o)
+  module _ (c : ℕ) (ec : (c ≡ code) × (c < 65536)) where
+    as-code : c ≡ code
+    as-code = ec .0
 
-  pub enter-end : (p : Bool) (trail′ : List ℕ) → p ≡ passing → not p ≡ false → trail′ ≡ set trail (w .top) (w .row * 256 + v) → 29 < c
-      → mem notes trail′ (walkAt (w .top + 1) (w .steps + 1) (w .place) (w .row) (w .base) 0 1) ≡ enteredBy passing (mem notes trail w) c v k P
-  enter-end p trail′ ep t et l = entered-end notes trail w c v k P passing trail′ et _ (sym (open-of p t) ∙ ep) l refl
+    pushed : (v : ℕ) (trail′ : List ℕ) → v ≡ entry → Pushed v trail′ → trail′ ≡ set trail (w .top) (w .row * 2048 + entry)
+    pushed v trail′ ev et = et ∙ rw ev
 
-  pub enter-anchor : (p : Bool) (trail′ : List ℕ) (r : Walk) (x : ℕ) → p ≡ passing → not p ≡ false → trail′ ≡ set trail (w .top) (w .row * 256 + v) → 26 ≤ c → c ≤ 29 → x ≡ k
-      → r ≡ tryAt notes (w .top + 1) (w .steps + 1) x (w .row) (w .base) → mem notes trail′ r ≡ enteredBy passing (mem notes trail w) c v k P
-  enter-anchor p trail′ r x ep t et l m ex er = entered-other notes trail w c v k P passing trail′ et r (sym (open-of p t) ∙ ep) l m x ex er
+    pub enter-fork : c ≡ 28 → (v : ℕ) → (v ≡ entry) × (v < 16779264) → (trail′ : List ℕ) → Pushed v trail′ → (r : Walk)
+        → r ≡ tryAt notes (w .top + 1) (w .steps + 1) (w .place + 1) (w .row) (w .base) → EntersTo notes trail′ r
+    enter-fork e v ev trail′ et r er =
+        let z : code ≡ 28 = sym as-code ∙ e in
+        entered-other notes trail w code entry (firstAt words (w .place)) P passing trail′ (pushed v trail′ (ev .0) et) r (passes-fork holds n code (w .row) z) (omega arith) (omega arith)
+        (w .place + 1) (sym (h .near z)) er
+
+    module _ (p : Bool) (ep : p ≡ passesBy holds n c (w .row)) where
+      as-passing : p ≡ passing
+      as-passing = ep ∙ ap (λ (x : ℕ). passesBy holds n x (w .row)) as-code
+
+      -- it does not pass
+      pub enter-shut : not p ≡ true → (notes′ : List ℕ) (r : Walk) → Fallen notes′ r → EntersTo notes′ trail r
+      enter-shut t notes′ r f = entered-shut notes trail w code entry (firstAt words (w .place)) P passing notes′ (f .0) r (f .1) (sym (shut-of p t) ∙ as-passing)
+
+      module _ (t : not p ≡ false) where
+        passes : true ≡ passing
+        passes = sym (open-of p t) ∙ as-passing
+
+        -- a letter, whose next pair has failed or not
+        module _ (l : c < 26) (x : ℕ) (ex : (x ≡ firstAt words (w .place)) × (x < 65536)) (f : Bool) (ef : f ≡ bitAt notes (w .base + P + x)) where
+          low : code < 26
+          low = omega (arith, as-code, l)
+
+          pub enter-stuck : f ≡ true → (notes′ : List ℕ) (r : Walk) → Fallen notes′ r → EntersTo notes′ trail r
+          enter-stuck o notes′ r g = entered-stuck notes trail w code entry (firstAt words (w .place)) P passing notes′ (g .0) r (g .1) passes low x (ex .0) (sym ef ∙ o)
+
+          pub enter-letter : f ≡ false → (trail′ : List ℕ) → Pushed (w .place) trail′
+              → EntersTo notes trail′ (walkAt (w .top + 1) (w .steps + 1) x (w .row + 1) (w .base + P) 1)
+          enter-letter o trail′ et =
+              let v : w .place ≡ entry = entry-one words (w .place) (omega (arith, h .one (omega (arith, low)))) in
+              entered-letter notes trail w code entry (firstAt words (w .place)) P passing trail′ (pushed (w .place) trail′ v et) _ passes low x (ex .0) (sym ef ∙ o) refl
+
+        -- any other place that passes
+        module _ (v : ℕ) (ev : (v ≡ entry) × (v < 16779264)) (trail′ : List ℕ) (et : Pushed v trail′) where
+          pub enter-end : 29 < c → EntersTo notes trail′ (walkAt (w .top + 1) (w .steps + 1) (w .place) (w .row) (w .base) 2)
+          enter-end l = entered-end notes trail w code entry (firstAt words (w .place)) P passing trail′ (pushed v trail′ (ev .0) et) _ passes (omega (arith, as-code, l)) refl
+
+          pub enter-anchor : 26 ≤ c → c ≤ 29 → (x : ℕ) → (x ≡ firstAt words (w .place)) × (x < 65536) → (r : Walk) → r ≡ tryAt notes (w .top + 1) (w .steps + 1) x (w .row) (w .base)
+              → EntersTo notes trail′ r
+          enter-anchor l m x ex r er =
+              entered-other notes trail w code entry (firstAt words (w .place)) P passing trail′ (pushed v trail′ (ev .0) et) r passes (omega (arith, as-code, l)) (omega (arith, as-code, m)) x (ex .0) er

@@ -1,6 +1,10 @@
 -- The trail as a stack of open pairs.
 use mathlib.Core.Path.{_≡_, refl, sym, ap, _∙_}
 use mathlib.Core.List.{List, [], _∷_}
+use mathlib.Core.Bool.{Bool, true, false}
+use lib.Dec.{ltb}
+use Rattle.rules.specs.Basics.{pick}
+use Rattle.table.specs.Table.{countAt}
 use Prim.Native.Nat.{ℕ, zero, suc, _+_, _-_, _*_, _/_, _%_, _≤_, _<_}
 use native.Mathlib.Nat.{not-suc-le-zero}
 use native.Mathlib.Numerals.{add-one}
@@ -9,38 +13,50 @@ use lib.Arith.{digits-div, digits-mod}
 use lib.ListN.{length, getD, set}
 use lib.Seq.{getD-set-same, getD-set-other}
 use Rattle.pairs.specs.declared.Walk.{Walk}
-use Rattle.pairs.specs.Tables.{Tables, P, Sized, second}
+use Rattle.pairs.specs.Layout.{Layout, P, Sized, second, entryOf}
 use Rattle.pairs.specs.Step.{placeIn, rowIn, wayIn, pairIn, stack, pairOf}
 use Rattle.pairs.specs.State.{Linked, Word, Spot, OnPath}
 
 -- ---- a number of the trail
 
 -- a pair's row and place
-module _ (T : Tables) (e : ℕ) (h : placeIn e < P T) where
+module _ (T : Layout) (e : ℕ) (h : placeIn e < P T) where
   pub word-row : pairIn (P T) e / P T ≡ rowIn e
   word-row = digits-div (rowIn e) h
 
   pub word-place : pairIn (P T) e % P T ≡ placeIn e
   word-place = digits-mod (rowIn e) h
 
+-- a second way is way 1
+pub second-most : (T : Layout) (q : ℕ) → second T q ≤ 1
+unfolding second
+second-most T q = go (ltb 1 (countAt (T .words) q))
+  where
+    go : (b : Bool) → pick b 1 0 ≤ 1
+    go true = omega arith
+    go false = omega arith
+
 -- a place's entry at a row
-module _ (T : Tables) (z : Sized T) (q row : ℕ) (place : q < P T) (few : row ≤ 4096) where
+module _ (T : Layout) (z : Sized T) (q row : ℕ) (place : q < P T) (few : row ≤ 4096) where
   abbrev v : ℕ
-  v = row * 256 + getD (T .entry) q 0
+  v = row * 2048 + entryOf (T .words) q
 
   pub entry-place : placeIn v ≡ q
-  entry-place = let a = z .entry q place in let b = z .few in omega arith
+  unfolding entryOf second
+  entry-place = let b = z .few in let s = second-most T q in omega arith
 
   pub entry-row : rowIn v ≡ row
-  entry-row = let a = z .entry q place in let b = z .few in omega arith
+  unfolding entryOf second
+  entry-row = let b = z .few in let s = second-most T q in omega arith
 
   pub entry-way : wayIn v ≡ second T q
-  entry-way = let a = z .entry q place in let b = z .few in omega arith
+  unfolding entryOf second
+  entry-way = let b = z .few in let s = second-most T q in omega arith
 
--- a number whose pair goes on to another way, below 2,048
-module _ (e a : ℕ) (small : a < 2048) where
+-- a number whose pair goes on to another way, below 256
+module _ (e a : ℕ) (small : a < 256) where
   abbrev went : ℕ
-  went = e % 2097152 + a * 2097152
+  went = e % 16777216 + a * 16777216
 
   pub went-place : placeIn went ≡ placeIn e
   went-place = omega arith
@@ -81,7 +97,7 @@ module _ (P : ℕ) where
 
 -- ---- a path on the trail
 
-module _ (T : Tables) where
+module _ (T : Layout) where
   pub linked-under : (x : ℕ) (xs : List ℕ) → Linked T (x ∷ xs) → Linked T xs
   linked-under x [] l = tt
   linked-under x (z ∷ zs) l = l .1
@@ -89,7 +105,7 @@ module _ (T : Tables) where
 pub spot-pair : (P : ℕ) (w : Walk) (e : ℕ) → Spot P w e → pairIn P e ≡ pairOf w
 spot-pair P w e s = let b = s .base in rw (s .place, s .row, b)
 
-module _ (T : Tables) (trail : List ℕ) (w : Walk) (h : OnPath T trail w) (going : 0 < w .top) where
+module _ (T : Layout) (trail : List ℕ) (w : Walk) (h : OnPath T trail w) (going : 0 < w .top) where
   abbrev e : ℕ
   e = getD trail (w .top - 1) 0
 

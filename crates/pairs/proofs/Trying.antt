@@ -19,11 +19,12 @@ use Rattle.rules.proofs.Machine.{firstOpen}
 use Rattle.rules.proofs.Notes.{bitsOf, bitsOf-at}
 use Rattle.rules.proofs.Level.{and-true}
 use Rattle.pairs.specs.declared.Walk.{Walk}
-use Rattle.pairs.specs.Tables.{Tables, P, N, second, waysOf, graphOf, passesBy}
+use Rattle.pairs.specs.Layout.{Layout, P, N, second, graphOf, passesBy, entryOf}
+use Rattle.table.specs.Table.{waysOf, codeAt, firstAt}
 use Rattle.pairs.specs.Step.{Mem, mem, placeIn, walkAt, oneUnless, tryAt, opens, openedBy, openIf, enteredBy, Noted, Enters}
 use Rattle.pairs.specs.State.{rowFrom, wayAt, reach, Led, Good, Next, Stands, left, resumed, entering, comes, Reached, Goes, Onward}
 use Rattle.pairs.proofs.Ways.{ways-length, ways-first, ways-shut, ways-letter, takes-row, takes-no-row, leads-each}
-use Rattle.pairs.proofs.Going.{good-as, never, comes-idle, comes-next, led-stuck, next-few, next-noted, next-out, next-room, next-small, next-steps, next-word, next-row, v-place, v-row, v-way, open-good, open-top, open-resumed, open-reached, open-end, open-less, shut-reached, shut-less, way-below, top-next, next-same}
+use Rattle.pairs.proofs.Going.{good-as, never, zero-two, one-two, comes-idle, comes-next, led-stuck, next-few, next-noted, next-out, next-room, next-small, next-steps, next-word, next-row, v-place, v-row, v-way, open-good, open-top, open-resumed, open-reached, open-end, open-less, shut-reached, shut-less, way-below, top-next, next-same}
 
 pub pair-in : (P n q row base : ℕ) → base ≡ row * P → q < P → row ≤ n → base + q < P * suc n
 pair-in P n q row base eb h l = rw (eb, mul-comm P (suc n)) (digits-lt (suc-le-suc l) h)
@@ -33,12 +34,12 @@ unfolding passesBy
 letter-in holds n c i e p = let d : (ltb i n && holds (c + 65) i) ≡ true = rw (lt-ltb c 26 e) at p in ltb-true i n (and-true _ _ d .0)
 
 -- the next pair is one of the open pairs and the steps alone
-next-as : (T : Tables) (holds : ℕ → ℕ → Bool) (n : ℕ) (Q : Type 0) (notes trail : List ℕ) (w : Walk) (q row base x r b d f : ℕ) → Next T holds n Q notes trail w q row base
-    → Next T holds n Q notes trail (walkAt (w .top) (w .steps) x r b d f) q row base
+next-as : (T : Layout) (holds : ℕ → ℕ → Bool) (n : ℕ) (notes trail : List ℕ) (w : Walk) (q row base x r b d : ℕ) → Next T holds n notes trail w q row base
+    → Next T holds n notes trail (walkAt (w .top) (w .steps) x r b d) q row base
 unfolding good-as
-next-as T holds n Q notes trail w q row base x r b d f h =
+next-as T holds n notes trail w q row base x r b d h =
     record {
-      good = good-as T holds n Q notes trail (w .top) (w .steps) (w .place) (w .row) (w .base) (w .down) (w .found) x r b d f (h .good);
+      good = good-as T holds n notes trail (w .top) (w .steps) (w .place) (w .row) (w .base) (w .status) x r b d (h .good);
       place = h .place;
       base-is = h .base-is;
       opened = h .opened;
@@ -48,10 +49,10 @@ next-as T holds n Q notes trail w q row base x r b d f h =
 
 -- ---- the last open pair tries its way m, where the ways before it have failed and the next way is the one behind it
 
-module _ (T : Tables) (holds : ℕ → ℕ → Bool) (n : ℕ) (Q : Type 0) (notes trail : List ℕ) (w : Walk) (g : Good T holds n Q notes trail w) (going : 0 < w .top)
-    (more : getD (T .code) (placeIn (getD trail (w .top - 1) 0)) 0 ≤ 29) (m : ℕ) (inside : m < length (waysOf T (placeIn (getD trail (w .top - 1) 0))))
+module _ (T : Layout) (holds : ℕ → ℕ → Bool) (n : ℕ) (notes trail : List ℕ) (w : Walk) (g : Good T holds n notes trail w) (going : 0 < w .top)
+    (more : codeAt (T .words) (placeIn (getD trail (w .top - 1) 0)) ≤ 29) (m : ℕ) (inside : m < length (waysOf (T .words) (placeIn (getD trail (w .top - 1) 0))))
     (reaches : reach T (getD trail (w .top - 1) 0) ≡ suc m) (before : (i : ℕ) → i < m → bitAt notes (wayAt T (getD trail (w .top - 1) 0) i) ≡ true)
-    (q row base : ℕ) (eq : q ≡ getD (waysOf T (placeIn (getD trail (w .top - 1) 0))) m 0) (er : row ≡ rowFrom T (getD trail (w .top - 1) 0)) (eb : base ≡ row * P T) where
+    (q row base : ℕ) (eq : q ≡ getD (waysOf (T .words) (placeIn (getD trail (w .top - 1) 0))) m 0) (er : row ≡ rowFrom T (getD trail (w .top - 1) 0)) (eb : base ≡ row * P T) where
   abbrev e : ℕ
   e = getD trail (w .top - 1) 0
 
@@ -70,39 +71,39 @@ module _ (T : Tables) (holds : ℕ → ℕ → Bool) (n : ℕ) (Q : Type 0) (not
 
   pub turn-noted : Noted notes (base + q)
   turn-noted =
-      let b : base + q < N T n = rw y-is at (way-below T holds n Q notes trail w g going more m inside) in
+      let b : base + q < N T n = rw y-is at (way-below T holds n notes trail w g going more m inside) in
       let no = g .noted in
       let sm = g .legal .small in
       (omega arith, omega arith)
 
   abbrev State-of : Bool → Walk
-  State-of b = walkAt (w .top) (w .steps) q row base (oneUnless b) 0
+  State-of b = walkAt (w .top) (w .steps) q row base (oneUnless b)
 
-  good : (b : Bool) → Good T holds n Q notes trail (State-of b)
-  good b = good-as T holds n Q notes trail (w .top) (w .steps) (w .place) (w .row) (w .base) (w .down) (w .found) q row base (oneUnless b) 0 g
+  good : (b : Bool) → Good T holds n notes trail (State-of b)
+  good b = good-as T holds n notes trail (w .top) (w .steps) (w .place) (w .row) (w .base) (w .status) q row base (oneUnless b) g
 
   -- the pair has failed, or it is the next to be entered
-  stands : (b : Bool) → bitAt notes (base + q) ≡ b → Stands T holds n Q notes trail (State-of b)
+  stands : (b : Bool) → bitAt notes (base + q) ≡ b → Stands T holds n notes trail (State-of b)
   unfolding oneUnless
   stands true eb =
       record {
         next = λ d. absurd (never d);
         stuck = λ _ _ _. led-stuck T notes notes e (base + q) led (λ z h. h) eb;
-        ends = λ d. absurd (never d);
+        ends = λ d. absurd (zero-two d);
       }
   stands false o =
       record {
-        next = λ _. next-as T holds n Q notes trail w q row base q row base 1 0 (top-next T holds n Q notes trail w g going more m inside before q row base eq er eb led o);
+        next = λ _. next-as T holds n notes trail w q row base q row base 1 (top-next T holds n notes trail w g going more m inside before q row base eq er eb led o);
         stuck = λ d. absurd (d refl);
-        ends = λ d. absurd (never d);
+        ends = λ d. absurd (one-two d);
       }
 
   same : (b : Bool) → bitAt notes (base + q) ≡ b → comes T holds n notes trail (State-of b) ≡ resumed T holds n notes trail w
   unfolding resumed entering oneUnless
   same true o = comes-idle T holds n notes trail (State-of true) never
-  same false o = comes-next T holds n notes trail (State-of false) refl ∙ next-same T holds n Q notes trail w g going more m inside before q row base eq er eb led o
+  same false o = comes-next T holds n notes trail (State-of false) refl ∙ next-same T holds n notes trail w g going more m inside before q row base eq er eb led o
 
-  pub turn-tried : Reached T holds n Q notes trail (resumed T holds n notes trail w) notes trail (tryAt notes (w .top) (w .steps) q row base)
+  pub turn-tried : Reached T holds n notes trail (resumed T holds n notes trail w) notes trail (tryAt notes (w .top) (w .steps) q row base)
   turn-tried =
       record {
         good = good (bitAt notes (base + q));
@@ -116,26 +117,26 @@ module _ (T : Tables) (holds : ℕ → ℕ → Bool) (n : ℕ) (Q : Type 0) (not
 
 -- ---- the walk's pair is entered
 
-module _ (T : Tables) (holds : ℕ → ℕ → Bool) (n : ℕ) (Q : Type 0) (notes trail : List ℕ) (w : Walk) (h : Goes T holds n Q notes trail w) where
+module _ (T : Layout) (holds : ℕ → ℕ → Bool) (n : ℕ) (notes trail : List ℕ) (w : Walk) (h : Goes T holds n notes trail w) where
   abbrev q : ℕ
   q = w .place
 
   abbrev c : ℕ
-  c = getD (T .code) q 0
+  c = codeAt (T .words) q
 
   abbrev k : ℕ
-  k = getD (T .next) q 0
+  k = firstAt (T .words) q
 
   abbrev v : ℕ
-  v = w .row * 256 + getD (T .entry) q 0
+  v = w .row * 2048 + entryOf (T .words) q
 
   abbrev passing : Bool
   passing = passesBy holds n c (w .row)
 
-  nx : Next T holds n Q notes trail w q (w .row) (w .base)
+  nx : Next T holds n notes trail w q (w .row) (w .base)
   nx = h .state .stands .next (h .down)
 
-  some-way : 0 < length (waysOf T q)
+  some-way : 0 < length (waysOf (T .words) q)
   some-way = rw (ways-length T q) (omega arith)
 
   first-place : c ≤ 29 → k < P T
@@ -147,35 +148,35 @@ module _ (T : Tables) (holds : ℕ → ℕ → Bool) (n : ℕ) (Q : Type 0) (not
   noted : (x : ℕ) → x < N T n → Noted notes x
   noted x l = let no = nx .good .noted in let sm = nx .good .legal .small in (omega arith, omega arith)
 
-  pub goes-enters : Enters (T .code) (T .next) (T .entry) n Q notes trail w
+  pub goes-enters : Enters T n notes trail w
   goes-enters =
       let z = nx .good .legal .sized in
       record {
-        asks = nx .good .asks;
         place = nx .place;
-        next = rw (z .nexts) (nx .place);
-        entry = rw (z .entries) (nx .place);
-        row = next-row T holds n Q notes trail w q (w .row) (w .base) nx;
-        few = next-few T holds n Q notes trail w q (w .row) (w .base) nx;
-        noted = next-noted T holds n Q notes trail w q (w .row) (w .base) nx;
-        out = next-out T holds n Q notes trail w q (w .row) (w .base) nx;
-        word = next-word T holds n Q notes trail w q (w .row) (w .base) nx;
-        room = next-room T holds n Q notes trail w q (w .row) (w .base) nx;
-        small = next-small T holds n Q notes trail w q (w .row) (w .base) nx;
-        steps = next-steps T holds n Q notes trail w q (w .row) (w .base) nx;
+        words = let l = z .long in let p = nx .place in omega arith;
+        places = z .few;
+        one = z .one q (nx .place);
+        row = next-row T holds n notes trail w q (w .row) (w .base) nx;
+        few = next-few T holds n notes trail w q (w .row) (w .base) nx;
+        noted = next-noted T holds n notes trail w q (w .row) (w .base) nx;
+        out = next-out T holds n notes trail w q (w .row) (w .base) nx;
+        word = next-word T holds n notes trail w q (w .row) (w .base) nx;
+        room = next-room T holds n notes trail w q (w .row) (w .base) nx;
+        small = next-small T holds n notes trail w q (w .row) (w .base) nx;
+        steps = next-steps T holds n notes trail w q (w .row) (w .base) nx;
         near = λ e. z .near q (nx .place) e;
         letter = λ l r. noted (w .base + P T + k) (pair-in (P T) n k (w .row + 1) (w .base + P T) ahead-is (first-place (omega arith)) (omega arith));
-        other = λ _ l. noted (w .base + k) (pair-in (P T) n k (w .row) (w .base) (nx .base-is) (first-place l) (next-row T holds n Q notes trail w q (w .row) (w .base) nx));
+        other = λ _ l. noted (w .base + k) (pair-in (P T) n k (w .row) (w .base) (nx .base-is) (first-place l) (next-row T holds n notes trail w q (w .row) (w .base) nx));
       }
 
   abbrev OnTo : Mem → Type 0
-  OnTo m = Onward T holds n Q notes trail w (m .notes) (m .trail) (m .walk)
+  OnTo m = Onward T holds n notes trail w (m .notes) (m .trail) (m .walk)
 
   comes-is : entering T holds n notes trail w (w .base + q) ≡ comes T holds n notes trail w
   comes-is = sym (comes-next T holds n notes trail w (h .down))
 
-  to : (notes′ trail′ : List ℕ) (r : Walk) → Reached T holds n Q notes trail (entering T holds n notes trail w (w .base + q)) notes′ trail′ r
-      → Reached T holds n Q notes trail (comes T holds n notes trail w) notes′ trail′ r
+  to : (notes′ trail′ : List ℕ) (r : Walk) → Reached T holds n notes trail (entering T holds n notes trail w (w .base + q)) notes′ trail′ r
+      → Reached T holds n notes trail (comes T holds n notes trail w) notes′ trail′ r
   to notes′ trail′ r a = rw comes-is at a
 
   -- it is open, and tries its first way
@@ -184,42 +185,42 @@ module _ (T : Tables) (holds : ℕ → ℕ → Bool) (n : ℕ) (Q : Type 0) (not
     trail₁ = set trail (w .top) v
 
     abbrev w₁ : Walk
-    w₁ = walkAt (w .top + 1) (w .steps + 1) q (w .row) (w .base) 0 0
+    w₁ = walkAt (w .top + 1) (w .steps + 1) q (w .row) (w .base) 0
 
     top-is : getD trail₁ (w .top + 1 - 1) 0 ≡ v
-    top-is = open-top T holds n Q notes trail w q (w .row) (w .base) nx p
+    top-is = open-top T holds n notes trail w q (w .row) (w .base) nx p
 
     place-is : placeIn (getD trail₁ (w .top + 1 - 1) 0) ≡ q
-    place-is = rw top-is (v-place T holds n Q notes trail w q (w .row) (w .base) nx p)
+    place-is = rw top-is (v-place T holds n notes trail w q (w .row) (w .base) nx p)
 
     reach-one : reach T (getD trail₁ (w .top + 1 - 1) 0) ≡ 1
     unfolding reach
-    reach-one = rw (top-is, v-place T holds n Q notes trail w q (w .row) (w .base) nx p, v-way T holds n Q notes trail w q (w .row) (w .base) nx p) (omega arith)
+    reach-one = rw (top-is, v-place T holds n notes trail w q (w .row) (w .base) nx p, v-way T holds n notes trail w q (w .row) (w .base) nx p) (omega arith)
 
-    first-tried : Reached T holds n Q notes trail₁ (resumed T holds n notes trail₁ w₁) notes trail₁ (tryAt notes (w .top + 1) (w .steps + 1) k row base)
+    first-tried : Reached T holds n notes trail₁ (resumed T holds n notes trail₁ w₁) notes trail₁ (tryAt notes (w .top + 1) (w .steps + 1) k row base)
     first-tried =
-        turn-tried T holds n Q notes trail₁ w₁ (open-good T holds n Q notes trail w q (w .row) (w .base) nx p 0 0) (omega arith) (rw place-is l) 0 (rw place-is some-way) reach-one
+        turn-tried T holds n notes trail₁ w₁ (open-good T holds n notes trail w q (w .row) (w .base) nx p 0) (omega arith) (rw place-is l) 0 (rw place-is some-way) reach-one
         (λ i b. absurd (not-suc-le-zero b)) k row base (rw place-is (sym (ways-first T q))) (rw top-is er) eb
 
     onward : OnTo (mem notes trail₁ (tryAt notes (w .top + 1) (w .steps + 1) k row base))
     onward =
         record {
           reached = to _ _ _
-              (open-reached T holds n Q notes trail w q (w .row) (w .base) nx p _ (first-tried .good) (first-tried .stands)
-              (first-tried .same ∙ open-resumed T holds n Q notes trail w q (w .row) (w .base) nx p 0 0));
-          less = open-less T holds n Q notes trail w q (w .row) (w .base) nx p k row base _ 0;
+              (open-reached T holds n notes trail w q (w .row) (w .base) nx p _ (first-tried .good) (first-tried .stands)
+              (first-tried .same ∙ open-resumed T holds n notes trail w q (w .row) (w .base) nx p 0));
+          less = open-less T holds n notes trail w q (w .row) (w .base) nx p k row base _;
         }
 
   -- a letter
   row-ahead : passing ≡ true → c < 26 → w .row + 1 ≡ rowFrom T v
   unfolding rowFrom
   row-ahead p l =
-      rw (v-place T holds n Q notes trail w q (w .row) (w .base) nx p, v-row T holds n Q notes trail w q (w .row) (w .base) nx p, takes-row T holds n q (w .row) (nx .place) l)
+      rw (v-place T holds n notes trail w q (w .row) (w .base) nx p, v-row T holds n notes trail w q (w .row) (w .base) nx p, takes-row T holds n q (w .row) (nx .place) l)
 
   row-same : passing ≡ true → 26 ≤ c → w .row ≡ rowFrom T v
   unfolding rowFrom
   row-same p l =
-      rw (v-place T holds n Q notes trail w q (w .row) (w .base) nx p, v-row T holds n Q notes trail w q (w .row) (w .base) nx p, takes-no-row T holds n q (w .row) (nx .place) l)
+      rw (v-place T holds n notes trail w q (w .row) (w .base) nx p, v-row T holds n notes trail w q (w .row) (w .base) nx p, takes-no-row T holds n q (w .row) (nx .place) l)
       (omega arith)
 
   opened : passing ≡ true → OnTo (mem notes (set trail (w .top) v) (openedBy c k (P T) notes w))
@@ -228,12 +229,12 @@ module _ (T : Tables) (holds : ℕ → ℕ → Bool) (n : ℕ) (Q : Type 0) (not
     where
       go : (a : Bool) → ltb c 26 ≡ a → (b : Bool) → ltb 29 c ≡ b
           → OnTo (mem notes (set trail (w .top) v) (pick a (tryAt notes (w .top + 1) (w .steps + 1) k (w .row + 1) (w .base + P T))
-          (pick b (walkAt (w .top + 1) (w .steps + 1) q (w .row) (w .base) 0 1) (tryAt notes (w .top + 1) (w .steps + 1) k (w .row) (w .base)))))
+          (pick b (walkAt (w .top + 1) (w .steps + 1) q (w .row) (w .base) 2) (tryAt notes (w .top + 1) (w .steps + 1) k (w .row) (w .base)))))
       go true ea b eb = let l = ltb-true c 26 ea in onward p (omega arith) (w .row + 1) (w .base + P T) (row-ahead p l) ahead-is
       go false ea true eb =
           record {
-            reached = to _ _ _ (open-end T holds n Q notes trail w q (w .row) (w .base) nx p (ltb-true 29 c eb));
-            less = open-less T holds n Q notes trail w q (w .row) (w .base) nx p q (w .row) (w .base) 0 1;
+            reached = to _ _ _ (open-end T holds n notes trail w q (w .row) (w .base) nx p (ltb-true 29 c eb));
+            less = open-less T holds n notes trail w q (w .row) (w .base) nx p q (w .row) (w .base) 2;
           }
       go false ea false eb =
           let l = ltb-false c 26 ea in
@@ -241,19 +242,19 @@ module _ (T : Tables) (holds : ℕ → ℕ → Bool) (n : ℕ) (Q : Type 0) (not
           onward p (omega arith) (w .row) (w .base) (row-same p (omega arith)) (nx .base-is)
 
   -- it fails at once, where none of its ways is open: it does not pass and has none, or it is a letter whose one pair has failed
-  shuts : (ys : List ℕ) → graphOf T holds n (w .base + q) ≡ try ys → firstOpen (bitsOf notes (N T n)) ys ≡ none → OnTo (openIf false (mem notes trail w) c (getD (T .entry) q 0) k (P T))
+  shuts : (ys : List ℕ) → graphOf T holds n (w .base + q) ≡ try ys → firstOpen (bitsOf notes (N T n)) ys ≡ none → OnTo (openIf false (mem notes trail w) c (entryOf (T .words) q) k (P T))
   unfolding openIf
   shuts ys t e =
       record {
-        reached = to _ _ _ (shut-reached T holds n Q notes trail w q (w .row) (w .base) nx ys t e);
-        less = shut-less T holds n Q notes trail w q (w .row) (w .base) nx ys t e;
+        reached = to _ _ _ (shut-reached T holds n notes trail w q (w .row) (w .base) nx ys t e);
+        less = shut-less T holds n notes trail w q (w .row) (w .base) nx ys t e;
       }
 
-  shut-none : passing ≡ false → OnTo (openIf false (mem notes trail w) c (getD (T .entry) q 0) k (P T))
+  shut-none : passing ≡ false → OnTo (openIf false (mem notes trail w) c (entryOf (T .words) q) k (P T))
   unfolding firstOpen
   shut-none p = shuts [] (rw (nx .base-is) (ways-shut T holds n q (w .row) (nx .place) p)) refl
 
-  shut-one : passing ≡ true → c < 26 → bitAt notes (w .base + P T + k) ≡ true → OnTo (openIf false (mem notes trail w) c (getD (T .entry) q 0) k (P T))
+  shut-one : passing ≡ true → c < 26 → bitAt notes (w .base + P T + k) ≡ true → OnTo (openIf false (mem notes trail w) c (entryOf (T .words) q) k (P T))
   unfolding firstOpen
   shut-one p l e =
       let r = letter-in holds n c (w .row) l p in
@@ -262,14 +263,14 @@ module _ (T : Tables) (holds : ℕ → ℕ → Bool) (n : ℕ) (Q : Type 0) (not
       shuts ((w .base + P T + k) ∷ []) (rw (ahead-is, o, nx .base-is) (ways-letter T holds n q (w .row) (nx .place) l p)) (rw (bitsOf-at notes (N T n) (w .base + P T + k) b, e))
 
   entered : (p : Bool) → passing ≡ p → (a : Bool) → ltb c 26 ≡ a → (b : Bool) → bitAt notes (w .base + P T + k) ≡ b
-      → OnTo (openIf (p && not (a && b)) (mem notes trail w) c (getD (T .entry) q 0) k (P T))
+      → OnTo (openIf (p && not (a && b)) (mem notes trail w) c (entryOf (T .words) q) k (P T))
   unfolding openIf
   entered true ep true ea true eb = shut-one ep (ltb-true c 26 ea) eb
   entered true ep true ea false eb = opened ep
   entered true ep false ea b eb = opened ep
   entered false ep a ea b eb = shut-none ep
 
-  pub goes-on : (notes′ trail′ : List ℕ) (r : Walk) → mem notes′ trail′ r ≡ enteredBy passing (mem notes trail w) c (getD (T .entry) q 0) k (P T)
-      → Onward T holds n Q notes trail w notes′ trail′ r
+  pub goes-on : (notes′ trail′ : List ℕ) (r : Walk) → mem notes′ trail′ r ≡ enteredBy passing (mem notes trail w) c (entryOf (T .words) q) k (P T)
+      → Onward T holds n notes trail w notes′ trail′ r
   unfolding enteredBy opens
   goes-on notes′ trail′ r e = subst OnTo (sym e) (entered passing refl (ltb c 26) refl (bitAt notes (w .base + P T + k)) refl)

@@ -15,12 +15,13 @@ use Rattle.rules.specs.Basics.{pick}
 use Rattle.rules.specs.Places.{Place, pLetter, pCaret, pDollar, pFork, pEnd}
 use Rattle.rules.specs.Walk.{Ways, accept, try, waysAt, pairWays}
 use Rattle.rules.proofs.Walk.{All}
-use Rattle.pairs.specs.Tables.{Tables, P, span, leftFrom, second, waysOf, placeBy, placeAt, placesFrom, placesIn, graphOf, passesBy, Sized, Leads}
+use Rattle.pairs.specs.Layout.{Layout, P, leftFrom, second, graphOf, passesBy, Sized, Leads}
+use Rattle.table.specs.Table.{span, waysOf, placeBy, placeAt, placesFrom, placesIn, codeAt, firstAt, beginAt, countAt}
 use Rattle.pairs.specs.State.{takes}
 
 -- ---- the places
 
-module _ (T : Tables) where
+module _ (T : List ℕ) where
   from-length : (m q : ℕ) → length (placesFrom T q m) ≡ m
   unfolding placesFrom
   from-length zero q = refl
@@ -34,13 +35,13 @@ module _ (T : Tables) where
       let e : q + suc i ≡ suc q + i = omega arith in
       rw e (from-at m (suc q) i (le-of-suc-le-suc h))
 
-  pub in-length : length (placesIn T) ≡ P T
+  pub in-length : (P : ℕ) → length (placesIn T P) ≡ P
   unfolding placesIn
-  in-length = from-length (P T) 0
+  in-length P = from-length P 0
 
-  pub in-at : (q : ℕ) → q < P T → getD (placesIn T) q (pFork []) ≡ placeAt T q
+  pub in-at : (P q : ℕ) → q < P → getD (placesIn T P) q (pFork []) ≡ placeAt T q
   unfolding placesIn
-  in-at q h = let e : 0 + q ≡ q = omega arith in rw e at (from-at (P T) 0 q h)
+  in-at P q h = let e : 0 + q ≡ q = omega arith in rw e at (from-at P 0 q h)
 
 -- ---- the ways of a place
 
@@ -55,31 +56,58 @@ span-at w zero j i h = absurd (not-suc-le-zero h)
 span-at w (suc m) j zero h = rw add-zero
 span-at w (suc m) j (suc i) h = let e : j + suc i ≡ suc j + i = omega arith in rw e (span-at w m (suc j) i (le-of-suc-le-suc h))
 
-pub left-none : (T : Tables) (q j : ℕ) → j ≡ 0 → leftFrom T q j ≡ 0
+pub left-none : (T : Layout) (q j : ℕ) → j ≡ 0 → leftFrom T q j ≡ 0
 unfolding leftFrom
 left-none T q j e = rw e
 
-pub left-some : (T : Tables) (q j : ℕ) → 0 < j → leftFrom T q j ≡ getD (T .stop) q 0 - j
+pub left-some : (T : Layout) (q j : ℕ) → 0 < j → leftFrom T q j ≡ countAt (T .words) q - j
 unfolding leftFrom
 left-some T q j h = rw (ne-eqb j 0 (λ (e : j ≡ 0). omega arith))
 
-module _ (T : Tables) (q : ℕ) where
-  pub ways-length : length (waysOf T q) ≡ suc (leftFrom T q (second T q))
-  unfolding waysOf
-  ways-length = ap suc (span-length (T .ways) (leftFrom T q (second T q)) (second T q))
+second-none : (T : Layout) (q : ℕ) → countAt (T .words) q ≤ 1 → second T q ≡ 0
+unfolding second
+second-none T q h = rw (le-ltb 1 (countAt (T .words) q) h)
 
-  pub ways-first : getD (waysOf T q) 0 0 ≡ getD (T .next) q 0
+second-some : (T : Layout) (q : ℕ) → 1 < countAt (T .words) q → second T q ≡ 1
+unfolding second
+second-some T q h = rw (lt-ltb 1 (countAt (T .words) q) h)
+
+-- behind the first way there are as many as are left from the second on
+left-second : (T : Layout) (q : ℕ) → leftFrom T q (second T q) ≡ countAt (T .words) q - 1
+left-second T q = go (ltb 1 (countAt (T .words) q)) refl
+  where
+    go : (b : Bool) → ltb 1 (countAt (T .words) q) ≡ b → leftFrom T q (second T q) ≡ countAt (T .words) q - 1
+    go true e = let h = ltb-true 1 (countAt (T .words) q) e in rw (second-some T q h) (left-some T q 1 (omega arith))
+    go false e = let h = ltb-false 1 (countAt (T .words) q) e in rw (second-none T q h) (left-none T q 0 refl ∙ omega arith)
+
+module _ (T : Layout) (q : ℕ) where
+  pub ways-length : length (waysOf (T .words) q) ≡ suc (leftFrom T q (second T q))
+  unfolding waysOf
+  ways-length = rw (left-second T q) (ap suc (span-length (T .words) (countAt (T .words) q - 1) (suc (beginAt (T .words) q))))
+
+  pub ways-first : getD (waysOf (T .words) q) 0 0 ≡ firstAt (T .words) q
   unfolding waysOf
   ways-first = refl
 
-  pub ways-later : (j m : ℕ) → j ≡ second T q + m → m < leftFrom T q (second T q) → getD (waysOf T q) (suc m) 0 ≡ getD (T .ways) j 0
+  -- way m of a fork stands m words behind its first
+  pub ways-later : (m : ℕ) → suc m < countAt (T .words) q → getD (waysOf (T .words) q) (suc m) 0 ≡ getD (T .words) (beginAt (T .words) q + suc m) 0
   unfolding waysOf
-  ways-later j m e h = rw e (span-at (T .ways) (leftFrom T q (second T q)) (second T q) m h)
+  ways-later m h =
+      let e : beginAt (T .words) q + suc m ≡ suc (beginAt (T .words) q) + m = omega arith in
+      rw e (span-at (T .words) (countAt (T .words) q - 1) (suc (beginAt (T .words) q)) m (omega arith))
 
-  -- a place without a second way leads to one place
-  pub ways-one : second T q ≡ 0 → waysOf T q ≡ getD (T .next) q 0 ∷ []
+  -- a place that is no fork leads to one place
+  pub ways-one : countAt (T .words) q ≡ 0 → waysOf (T .words) q ≡ firstAt (T .words) q ∷ []
   unfolding waysOf span
-  ways-one e = rw (left-none T q (second T q) e)
+  ways-one e = rw e
+
+  -- what is second is way 1, and there are at least two ways then
+  pub second-is : 0 < second T q → (second T q ≡ 1) × (1 < countAt (T .words) q)
+  second-is s = go (ltb 1 (countAt (T .words) q)) refl
+    where
+      go : (b : Bool) → ltb 1 (countAt (T .words) q) ≡ b → (second T q ≡ 1) × (1 < countAt (T .words) q)
+      go true e = let h = ltb-true 1 (countAt (T .words) q) e in (second-some T q h, h)
+      go false e = let z = second-none T q (ltb-false 1 (countAt (T .words) q) e) in absurd (omega (arith, s, z))
 
 pub each : (Q : ℕ → Type 0) (ks : List ℕ) → All Q ks → (m : ℕ) → m < length ks → Q (getD ks m 0)
 each Q [] a m h = absurd (not-suc-le-zero h)
@@ -168,15 +196,15 @@ module _ (holds : ℕ → ℕ → Bool) (n P k : ℕ) (ks : List ℕ) (i : ℕ) 
 
 -- ---- the pair of a place q at row i
 
-module _ (T : Tables) (holds : ℕ → ℕ → Bool) (n q i : ℕ) (place : q < P T) where
+module _ (T : Layout) (holds : ℕ → ℕ → Bool) (n q i : ℕ) (place : q < P T) where
   abbrev x : ℕ
   x = i * P T + q
 
   abbrev code : ℕ
-  code = getD (T .code) q 0
+  code = codeAt (T .words) q
 
   abbrev next : ℕ
-  next = getD (T .next) q 0
+  next = firstAt (T .words) q
 
   pub pair-row : x / P T ≡ i
   pair-row = digits-div i place
@@ -184,76 +212,76 @@ module _ (T : Tables) (holds : ℕ → ℕ → Bool) (n q i : ℕ) (place : q < 
   pub pair-place : x % P T ≡ q
   pair-place = digits-mod i place
 
-  graph-at : graphOf T holds n x ≡ waysAt holds n (P T) (placeAt T q) i
+  graph-at : graphOf T holds n x ≡ waysAt holds n (P T) (placeAt (T .words) q) i
   unfolding graphOf pairWays
-  graph-at = rw (in-length T, pair-row, pair-place, in-at T q place)
+  graph-at = rw (in-length (T .words) (P T), pair-row, pair-place, in-at (T .words) (P T) q place)
 
   pub ways-shut : passesBy holds n code i ≡ false → graphOf T holds n x ≡ try []
   unfolding placeAt
-  ways-shut e = graph-at ∙ by-shut holds n (P T) next (waysOf T q) i code e
+  ways-shut e = graph-at ∙ by-shut holds n (P T) next (waysOf (T .words) q) i code e
 
   -- a letter that passes leads to one pair
   pub ways-letter : code < 26 → passesBy holds n code i ≡ true → graphOf T holds n x ≡ try ((suc i * P T + next) ∷ [])
   unfolding placeAt
-  ways-letter l p = graph-at ∙ by-letter holds n (P T) next (waysOf T q) i code l p
+  ways-letter l p = graph-at ∙ by-letter holds n (P T) next (waysOf (T .words) q) i code l p
 
   pub ways-end : 29 < code → graphOf T holds n x ≡ accept
   unfolding placeAt waysAt
-  ways-end h = graph-at ∙ ap (λ (p : Place). waysAt holds n (P T) p i) (by-end holds n (P T) next (waysOf T q) i code h)
+  ways-end h = graph-at ∙ ap (λ (p : Place). waysAt holds n (P T) p i) (by-end holds n (P T) next (waysOf (T .words) q) i code h)
 
-  pub takes-row : code < 26 → takes (placeAt T q) ≡ 1
+  pub takes-row : code < 26 → takes (placeAt (T .words) q) ≡ 1
   unfolding placeAt
-  takes-row h = ap takes (by-low holds n (P T) next (waysOf T q) i code h)
+  takes-row h = ap takes (by-low holds n (P T) next (waysOf (T .words) q) i code h)
 
-  pub takes-no-row : 26 ≤ code → takes (placeAt T q) ≡ 0
+  pub takes-no-row : 26 ≤ code → takes (placeAt (T .words) q) ≡ 0
   unfolding placeAt
-  takes-no-row h = by-high holds n (P T) next (waysOf T q) i code h
+  takes-no-row h = by-high holds n (P T) next (waysOf (T .words) q) i code h
 
   -- the places of all its ways
-  pub leads-each : Sized T → code ≤ 29 → Leads (P T) (placeAt T q) → (m : ℕ) → m < length (waysOf T q) → getD (waysOf T q) m 0 < P T
+  pub leads-each : Sized T → code ≤ 29 → Leads (P T) (placeAt (T .words) q) → (m : ℕ) → m < length (waysOf (T .words) q) → getD (waysOf (T .words) q) m 0 < P T
   unfolding placeAt
   leads-each z h l m b = go (ltb code 28) refl
     where
-      go : (t : Bool) → ltb code 28 ≡ t → getD (waysOf T q) m 0 < P T
+      go : (t : Bool) → ltb code 28 ≡ t → getD (waysOf (T .words) q) m 0 < P T
       go true e =
           let c = ltb-true code 28 e in
-          each (λ k. k < P T) (waysOf T q) (rw (ways-one T q (z .one q place c)) (by-leads holds n (P T) next (waysOf T q) i code c l, tt)) m b
-      go false e = each (λ k. k < P T) (waysOf T q) (by-leads-fork holds n (P T) next (waysOf T q) i code (ltb-false code 28 e) h l) m b
+          each (λ k. k < P T) (waysOf (T .words) q) (rw (ways-one T q (z .one q place c)) (by-leads holds n (P T) next (waysOf (T .words) q) i code c l, tt)) m b
+      go false e = each (λ k. k < P T) (waysOf (T .words) q) (by-leads-fork holds n (P T) next (waysOf (T .words) q) i code (ltb-false code 28 e) h l) m b
 
   module _ (z : Sized T) (p : passesBy holds n code i ≡ true) (h : code ≤ 29) where
     -- a place that passes tries all its ways
-    pub ways-are : graphOf T holds n x ≡ try (map (λ k. (i + takes (placeAt T q)) * P T + k) (waysOf T q))
+    pub ways-are : graphOf T holds n x ≡ try (map (λ k. (i + takes (placeAt (T .words) q)) * P T + k) (waysOf (T .words) q))
     unfolding placeAt
     ways-are = graph-at ∙ by-code (ltb code 26) refl
       where
-        one : code < 28 → waysOf T q ≡ next ∷ []
+        one : code < 28 → waysOf (T .words) q ≡ next ∷ []
         one l = ways-one T q (z .one q place l)
 
-        anchor : 26 ≤ code → code < 28 → waysAt holds n (P T) (placeAt T q) i ≡ try ((i * P T + next) ∷ []) → waysAt holds n (P T) (placeAt T q) i ≡ try (map (λ k. (i + takes (placeAt T q)) * P T + k) (waysOf T q))
+        anchor : 26 ≤ code → code < 28 → waysAt holds n (P T) (placeAt (T .words) q) i ≡ try ((i * P T + next) ∷ []) → waysAt holds n (P T) (placeAt (T .words) q) i ≡ try (map (λ k. (i + takes (placeAt (T .words) q)) * P T + k) (waysOf (T .words) q))
         anchor l m e =
-            let t : i + takes (placeAt T q) ≡ i = let a = takes-no-row l in omega arith in
-            let r : try ((i * P T + next) ∷ []) ≡ try (map (λ k. (i + takes (placeAt T q)) * P T + k) (waysOf T q)) = rw (t, one m) in
+            let t : i + takes (placeAt (T .words) q) ≡ i = let a = takes-no-row l in omega arith in
+            let r : try ((i * P T + next) ∷ []) ≡ try (map (λ k. (i + takes (placeAt (T .words) q)) * P T + k) (waysOf (T .words) q)) = rw (t, one m) in
             e ∙ r
 
-        by-code : (b : Bool) → ltb code 26 ≡ b → waysAt holds n (P T) (placeAt T q) i ≡ try (map (λ k. (i + takes (placeAt T q)) * P T + k) (waysOf T q))
+        by-code : (b : Bool) → ltb code 26 ≡ b → waysAt holds n (P T) (placeAt (T .words) q) i ≡ try (map (λ k. (i + takes (placeAt (T .words) q)) * P T + k) (waysOf (T .words) q))
         by-code true e =
             let l = ltb-true code 26 e in
-            let t : i + takes (placeAt T q) ≡ suc i = let a = takes-row l in omega arith in
-            let r : try ((suc i * P T + next) ∷ []) ≡ try (map (λ k. (i + takes (placeAt T q)) * P T + k) (waysOf T q)) = rw (t, one (omega arith)) in
-            by-letter holds n (P T) next (waysOf T q) i code l p ∙ r
+            let t : i + takes (placeAt (T .words) q) ≡ suc i = let a = takes-row l in omega arith in
+            let r : try ((suc i * P T + next) ∷ []) ≡ try (map (λ k. (i + takes (placeAt (T .words) q)) * P T + k) (waysOf (T .words) q)) = rw (t, one (omega arith)) in
+            by-letter holds n (P T) next (waysOf (T .words) q) i code l p ∙ r
         by-code false e = let l = ltb-false code 26 e in elim (ℕ-discrete code 26) [
-          | yes c ↦ anchor l (omega arith) (by-caret holds n (P T) next (waysOf T q) i code c p)
+          | yes c ↦ anchor l (omega arith) (by-caret holds n (P T) next (waysOf (T .words) q) i code c p)
           | no c ↦ elim (ℕ-discrete code 27) [
-            | yes d ↦ anchor l (omega arith) (by-dollar holds n (P T) next (waysOf T q) i code d p)
+            | yes d ↦ anchor l (omega arith) (by-dollar holds n (P T) next (waysOf (T .words) q) i code d p)
             | no d ↦ fork (omega arith)
           ]
         ]
           where
-            fork : 28 ≤ code → waysAt holds n (P T) (placeAt T q) i ≡ try (map (λ k. (i + takes (placeAt T q)) * P T + k) (waysOf T q))
+            fork : 28 ≤ code → waysAt holds n (P T) (placeAt (T .words) q) i ≡ try (map (λ k. (i + takes (placeAt (T .words) q)) * P T + k) (waysOf (T .words) q))
             fork f =
-                let t : i + takes (placeAt T q) ≡ i = let a = takes-no-row (omega arith) in omega arith in
-                let r : try (map (λ k. i * P T + k) (waysOf T q)) ≡ try (map (λ k. (i + takes (placeAt T q)) * P T + k) (waysOf T q)) = rw t in
-                by-fork holds n (P T) next (waysOf T q) i code f h ∙ r
+                let t : i + takes (placeAt (T .words) q) ≡ i = let a = takes-no-row (omega arith) in omega arith in
+                let r : try (map (λ k. i * P T + k) (waysOf (T .words) q)) ≡ try (map (λ k. (i + takes (placeAt (T .words) q)) * P T + k) (waysOf (T .words) q)) = rw t in
+                by-fork holds n (P T) next (waysOf (T .words) q) i code f h ∙ r
 
 pub takes-one : (p : Place) → takes p ≤ 1
 takes-one (pLetter c k) = omega arith

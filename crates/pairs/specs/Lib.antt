@@ -1,4 +1,4 @@
-pub mod Tables
+pub mod Layout
 pub mod Letters
 pub mod Step
 pub mod State

@@ -13,7 +13,8 @@ use Rattle.rules.proofs.Machine.{Open, resume}
 use Rattle.rules.proofs.Notes.{bitsOf}
 use Rattle.rules.proofs.Walk.{All}
 use Rattle.pairs.specs.declared.Walk.{Walk}
-use Rattle.pairs.specs.Tables.{Tables, P, N, Sized, Legal, second, leftFrom, waysOf, placeAt, graphOf, passesBy}
+use Rattle.pairs.specs.Layout.{Layout, P, N, Sized, Legal, second, leftFrom, graphOf, passesBy}
+use Rattle.table.specs.Table.{waysOf, placeAt, codeAt, countAt}
 use Rattle.pairs.specs.Step.{placeIn, rowIn, wayIn, pairIn, stack, pairOf, outcomeBy}
 
 -- the rows that a place takes
@@ -25,27 +26,27 @@ takes (pFork ks) = 0
 takes pEnd = 0
 
 -- the pair y is one position behind x where the place of x takes a row, or else at the same
-unfoldable pub Onto : Tables → ℕ → ℕ → Type 0
+unfoldable pub Onto : Layout → ℕ → ℕ → Type 0
 unfolding placeAt
-Onto T x y = y / P T ≡ x / P T + takes (placeAt T (x % P T))
+Onto T x y = y / P T ≡ x / P T + takes (placeAt (T .words) (x % P T))
 
 -- each open pair led to the one above it
-abbrev pub Linked : Tables → List ℕ → Type 0
+abbrev pub Linked : Layout → List ℕ → Type 0
 Linked T [] = Unit {0}
 Linked T (x ∷ []) = Unit {0}
 Linked T (x ∷ (y ∷ ys)) = Onto T y x × Linked T (y ∷ ys)
 
 -- the pair x passes
-unfoldable pub Passing : Tables → (ℕ → ℕ → Bool) → ℕ → ℕ → Type 0
+unfoldable pub Passing : Layout → (ℕ → ℕ → Bool) → ℕ → ℕ → Type 0
 unfolding passesBy
-Passing T holds n x = passesBy holds n (getD (T .code) (x % P T) 0) (x / P T) ≡ true
+Passing T holds n x = passesBy holds n (codeAt (T .words) (x % P T)) (x / P T) ≡ true
 
 -- a number of the trail: its place is one, and its way lies behind the first way of a fork
-pub record Word (T : Tables) (e : ℕ) : Type 0 where
+pub record Word (T : Layout) (e : ℕ) : Type 0 where
   pub place : placeIn e < P T
   pub some : 0 < wayIn e → 0 < second T (placeIn e)
   pub behind : 0 < wayIn e → second T (placeIn e) ≤ wayIn e
-  pub before : 0 < wayIn e → wayIn e < getD (T .stop) (placeIn e) 0
+  pub before : 0 < wayIn e → wayIn e < countAt (T .words) (placeIn e)
 
 -- the walk stands at the pair that e stands for
 pub record Spot (P : ℕ) (w : Walk) (e : ℕ) : Type 0 where
@@ -54,7 +55,7 @@ pub record Spot (P : ℕ) (w : Walk) (e : ℕ) : Type 0 where
   pub base : w .base ≡ w .row * P
 
 -- the trail's first `top` numbers are pairs each of which led to the next, and the walk stands at the last of them
-pub record OnPath (T : Tables) (trail : List ℕ) (w : Walk) : Type 0 where
+pub record OnPath (T : Layout) (trail : List ℕ) (w : Walk) : Type 0 where
   pub sized : Sized T
   pub room : w .top ≤ length trail
   pub words : (k : ℕ) → k < w .top → Word T (getD trail k 0)
@@ -62,30 +63,29 @@ pub record OnPath (T : Tables) (trail : List ℕ) (w : Walk) : Type 0 where
   pub spot : 0 < w .top → Spot (P T) w (getD trail (w .top - 1) 0)
 
 -- the row of the pairs to which the pair of e leads, and the pair of its way m
-unfoldable pub rowFrom : Tables → ℕ → ℕ
-rowFrom T e = rowIn e + takes (placeAt T (placeIn e))
+unfoldable pub rowFrom : Layout → ℕ → ℕ
+rowFrom T e = rowIn e + takes (placeAt (T .words) (placeIn e))
 
-unfoldable pub wayAt : Tables → ℕ → ℕ → ℕ
-wayAt T e m = rowFrom T e * P T + getD (waysOf T (placeIn e)) m 0
+unfoldable pub wayAt : Layout → ℕ → ℕ → ℕ
+wayAt T e m = rowFrom T e * P T + getD (waysOf (T .words) (placeIn e)) m 0
 
 -- how many ways the pair of e has tried, where all but those from its next way on are
-unfoldable pub reach : Tables → ℕ → ℕ
+unfoldable pub reach : Layout → ℕ → ℕ
 reach T e = suc (leftFrom T (placeIn e) (second T (placeIn e))) - leftFrom T (placeIn e) (wayIn e)
 
 -- the pair of e, which is no END, has tried its ways before the next one: each has failed, but for the pair y
-pub record Led (T : Tables) (notes : List ℕ) (e y : ℕ) : Type 0 where
-  pub going : getD (T .code) (placeIn e) 0 ≤ 29
+pub record Led (T : Layout) (notes : List ℕ) (e y : ℕ) : Type 0 where
+  pub going : codeAt (T .words) (placeIn e) ≤ 29
   pub tried : (m : ℕ) → m < reach T e → (wayAt T e m ≡ y → ⊥) → bitAt notes (wayAt T e m) ≡ true
 
 -- all of them have failed
-pub record Stuck (T : Tables) (notes : List ℕ) (e : ℕ) : Type 0 where
-  pub going : getD (T .code) (placeIn e) 0 ≤ 29
+pub record Stuck (T : Layout) (notes : List ℕ) (e : ℕ) : Type 0 where
+  pub going : codeAt (T .words) (placeIn e) ≤ 29
   pub tried : (m : ℕ) → m < reach T e → bitAt notes (wayAt T e m) ≡ true
 
 -- the open pairs have not failed, each led to the one above it, all pass, and the ways of each before the one that led on have failed; the steps cannot run over
-pub record Good (T : Tables) (holds : ℕ → ℕ → Bool) (n : ℕ) (Q : Type 0) (notes trail : List ℕ) (w : Walk) : Type 0 where
+pub record Good (T : Layout) (holds : ℕ → ℕ → Bool) (n : ℕ) (notes trail : List ℕ) (w : Walk) : Type 0 where
   pub legal : Legal T holds n
-  pub asks : Q
   pub noted : N T n ≤ 8 * length notes
   pub trailed : N T n ≤ length trail
   pub opened : Open (legal .ρ) (N T n) (bitsOf notes (N T n)) (stack (P T) trail (w .top))
@@ -96,8 +96,8 @@ pub record Good (T : Tables) (holds : ℕ → ℕ → Bool) (n : ℕ) (Q : Type 
   pub steps : w .steps + N T n < 18446744073709551616 + (countTrue (bitsOf notes (N T n)) + w .top)
 
 -- the pair of place q at a row is the next to be entered: it has not failed, and the last open pair leads to it
-pub record Next (T : Tables) (holds : ℕ → ℕ → Bool) (n : ℕ) (Q : Type 0) (notes trail : List ℕ) (w : Walk) (q row base : ℕ) : Type 0 where
-  pub good : Good T holds n Q notes trail w
+pub record Next (T : Layout) (holds : ℕ → ℕ → Bool) (n : ℕ) (notes trail : List ℕ) (w : Walk) (q row base : ℕ) : Type 0 where
+  pub good : Good T holds n notes trail w
   pub place : q < P T
   pub base-is : base ≡ row * P T
   pub opened : Open (good .legal .ρ) (N T n) (bitsOf notes (N T n)) ((base + q) ∷ stack (P T) trail (w .top))
@@ -105,44 +105,44 @@ pub record Next (T : Tables) (holds : ℕ → ℕ → Bool) (n : ℕ) (Q : Type 
   pub led : 0 < w .top → Led T notes (getD trail (w .top - 1) 0) (base + q)
 
 -- the walk stands at END, which is on top
-pub record Ends (T : Tables) (trail : List ℕ) (w : Walk) : Type 0 where
+pub record Ends (T : Layout) (trail : List ℕ) (w : Walk) : Type 0 where
   pub spot : Spot (P T) w (getD trail (w .top - 1) 0)
-  pub end : 29 < getD (T .code) (w .place) 0
+  pub end : 29 < codeAt (T .words) (w .place)
 
 -- the walk's pair is the next to be entered, or it is END, or the ways that the last open pair has tried have failed
-pub record Stands (T : Tables) (holds : ℕ → ℕ → Bool) (n : ℕ) (Q : Type 0) (notes trail : List ℕ) (w : Walk) : Type 0 where
-  pub next : w .down ≡ 1 → Next T holds n Q notes trail w (w .place) (w .row) (w .base)
-  pub stuck : (w .down ≡ 1 → ⊥) → (w .found ≡ 1 → ⊥) → 0 < w .top → Stuck T notes (getD trail (w .top - 1) 0)
-  pub ends : w .found ≡ 1 → Ends T trail w
+pub record Stands (T : Layout) (holds : ℕ → ℕ → Bool) (n : ℕ) (notes trail : List ℕ) (w : Walk) : Type 0 where
+  pub next : w .status ≡ 1 → Next T holds n notes trail w (w .place) (w .row) (w .base)
+  pub stuck : (w .status ≡ 1 → ⊥) → (w .status ≡ 2 → ⊥) → 0 < w .top → Stuck T notes (getD trail (w .top - 1) 0)
+  pub ends : w .status ≡ 2 → Ends T trail w
 
 -- how much is left to do: pairs to enter and leave; and the ways that the last open pair has left
 unfoldable pub left : ℕ → List ℕ → Walk → ℕ
 left N notes w = 2 * (N - countTrue (bitsOf notes N)) - w .top
 
-unfoldable pub restAt : Tables → List ℕ → ℕ → ℕ
+unfoldable pub restAt : Layout → List ℕ → ℕ → ℕ
 restAt T trail zero = 0
 restAt T trail (suc t) = leftFrom T (placeIn (getD trail t 0)) (wayIn (getD trail t 0))
 
-abbrev pub rest : Tables → List ℕ → Walk → ℕ
+abbrev pub rest : Layout → List ℕ → Walk → ℕ
 rest T trail w = restAt T trail (w .top)
 
 -- what the open pairs come to by the recursive walk
-unfoldable pub resumed : Tables → (ℕ → ℕ → Bool) → ℕ → List ℕ → List ℕ → Walk → Outcome
+unfoldable pub resumed : Layout → (ℕ → ℕ → Bool) → ℕ → List ℕ → List ℕ → Walk → Outcome
 resumed T holds n notes trail w = resume (graphOf T holds n) (N T n) (stack (P T) trail (w .top)) (bitsOf notes (N T n)) (w .steps)
 
 -- what they come to once the pair x is entered
-unfoldable pub entering : Tables → (ℕ → ℕ → Bool) → ℕ → List ℕ → List ℕ → Walk → ℕ → Outcome
+unfoldable pub entering : Layout → (ℕ → ℕ → Bool) → ℕ → List ℕ → List ℕ → Walk → ℕ → Outcome
 entering T holds n notes trail w x = resume (graphOf T holds n) (N T n) (x ∷ stack (P T) trail (w .top)) (bitsOf notes (N T n)) (suc (w .steps))
 
 -- what the state comes to
-unfoldable pub comes : Tables → (ℕ → ℕ → Bool) → ℕ → List ℕ → List ℕ → Walk → Outcome
+unfoldable pub comes : Layout → (ℕ → ℕ → Bool) → ℕ → List ℕ → List ℕ → Walk → Outcome
 unfolding resumed entering
-comes T holds n notes trail w = pick (eqb (w .down) 1) (entering T holds n notes trail w (pairOf w)) (resumed T holds n notes trail w)
+comes T holds n notes trail w = pick (eqb (w .status) 1) (entering T holds n notes trail w (pairOf w)) (resumed T holds n notes trail w)
 
 -- the walk has come from the buffers n₁ and t₁ to this state, which comes to the outcome R; nothing beyond the pairs is changed
-pub record Reached (T : Tables) (holds : ℕ → ℕ → Bool) (n : ℕ) (Q : Type 0) (n₁ t₁ : List ℕ) (R : Outcome) (notes trail : List ℕ) (w : Walk) : Type 0 where
-  pub good : Good T holds n Q notes trail w
-  pub stands : Stands T holds n Q notes trail w
+pub record Reached (T : Layout) (holds : ℕ → ℕ → Bool) (n : ℕ) (n₁ t₁ : List ℕ) (R : Outcome) (notes trail : List ℕ) (w : Walk) : Type 0 where
+  pub good : Good T holds n notes trail w
+  pub stands : Stands T holds n notes trail w
   pub same : comes T holds n notes trail w ≡ R
   pub notes-long : length notes ≡ length n₁
   pub trail-long : length trail ≡ length t₁
@@ -150,76 +150,84 @@ pub record Reached (T : Tables) (holds : ℕ → ℕ → Bool) (n : ℕ) (Q : Ty
   pub trail-beyond : (k : ℕ) → N T n ≤ k → getD trail k 0 ≡ getD t₁ k 0
 
 -- a state of the walk
-pub record State (T : Tables) (holds : ℕ → ℕ → Bool) (n : ℕ) (Q : Type 0) (notes trail : List ℕ) (w : Walk) : Type 0 where
-  pub good : Good T holds n Q notes trail w
-  pub stands : Stands T holds n Q notes trail w
+pub record State (T : Layout) (holds : ℕ → ℕ → Bool) (n : ℕ) (notes trail : List ℕ) (w : Walk) : Type 0 where
+  pub good : Good T holds n notes trail w
+  pub stands : Stands T holds n notes trail w
 
 -- a pair is to be entered
-pub record Goes (T : Tables) (holds : ℕ → ℕ → Bool) (n : ℕ) (Q : Type 0) (notes trail : List ℕ) (w : Walk) : Type 0 where
-  pub state : State T holds n Q notes trail w
-  pub down : w .down ≡ 1
+pub record Goes (T : Layout) (holds : ℕ → ℕ → Bool) (n : ℕ) (notes trail : List ℕ) (w : Walk) : Type 0 where
+  pub state : State T holds n notes trail w
+  pub down : w .status ≡ 1
 
 -- no pair is to be entered, and END is not open
-pub record Idle (T : Tables) (holds : ℕ → ℕ → Bool) (n : ℕ) (Q : Type 0) (notes trail : List ℕ) (w : Walk) : Type 0 where
-  pub state : State T holds n Q notes trail w
-  pub down : w .down ≡ 1 → ⊥
-  pub found : w .found ≡ 1 → ⊥
+pub record Idle (T : Layout) (holds : ℕ → ℕ → Bool) (n : ℕ) (notes trail : List ℕ) (w : Walk) : Type 0 where
+  pub state : State T holds n notes trail w
+  pub down : w .status ≡ 1 → ⊥
+  pub found : w .status ≡ 2 → ⊥
 
 -- and a pair is open
-pub record Halts (T : Tables) (holds : ℕ → ℕ → Bool) (n : ℕ) (Q : Type 0) (notes trail : List ℕ) (w : Walk) : Type 0 where
-  pub idle : Idle T holds n Q notes trail w
+pub record Halts (T : Layout) (holds : ℕ → ℕ → Bool) (n : ℕ) (notes trail : List ℕ) (w : Walk) : Type 0 where
+  pub idle : Idle T holds n notes trail w
   pub going : 0 < w .top
 
+-- both, whatever letters hold: going back does not ask
+pub record Idling (T : Layout) (n : ℕ) (notes trail : List ℕ) (w : Walk) : Type 0 where
+  pub holds : ℕ → ℕ → Bool
+  pub idle : Idle T holds n notes trail w
+
+pub record Halting (T : Layout) (n : ℕ) (notes trail : List ℕ) (w : Walk) : Type 0 where
+  pub holds : ℕ → ℕ → Bool
+  pub halts : Halts T holds n notes trail w
+
 -- a pair is to be entered, or none is open
-pub record Moves (T : Tables) (holds : ℕ → ℕ → Bool) (n : ℕ) (Q : Type 0) (notes trail : List ℕ) (w : Walk) : Type 0 where
-  pub state : State T holds n Q notes trail w
-  pub still : (w .down ≡ 1 → ⊥) → w .top ≡ 0
+pub record Moves (T : Layout) (holds : ℕ → ℕ → Bool) (n : ℕ) (notes trail : List ℕ) (w : Walk) : Type 0 where
+  pub state : State T holds n notes trail w
+  pub still : (w .status ≡ 1 → ⊥) → w .top ≡ 0
 
 -- a pair was entered: the state comes to what it came to before, and less is left
-pub record Onward (T : Tables) (holds : ℕ → ℕ → Bool) (n : ℕ) (Q : Type 0) (n₁ t₁ : List ℕ) (w₁ : Walk) (notes trail : List ℕ) (w : Walk) : Type 0 where
-  pub reached : Reached T holds n Q n₁ t₁ (comes T holds n n₁ t₁ w₁) notes trail w
+pub record Onward (T : Layout) (holds : ℕ → ℕ → Bool) (n : ℕ) (n₁ t₁ : List ℕ) (w₁ : Walk) (notes trail : List ℕ) (w : Walk) : Type 0 where
+  pub reached : Reached T holds n n₁ t₁ (comes T holds n n₁ t₁ w₁) notes trail w
   pub less : left (N T n) notes w < left (N T n) n₁ w₁
 
 -- the last open pair went on to its next way or failed: less is left, or else one way less
-pub record Backward (T : Tables) (holds : ℕ → ℕ → Bool) (n : ℕ) (Q : Type 0) (n₁ t₁ : List ℕ) (w₁ : Walk) (notes trail : List ℕ) (w : Walk) : Type 0 where
-  pub reached : Reached T holds n Q n₁ t₁ (comes T holds n n₁ t₁ w₁) notes trail w
-  pub found : w .found ≡ 1 → ⊥
+pub record Backward (T : Layout) (holds : ℕ → ℕ → Bool) (n : ℕ) (n₁ t₁ : List ℕ) (w₁ : Walk) (notes trail : List ℕ) (w : Walk) : Type 0 where
+  pub reached : Reached T holds n n₁ t₁ (comes T holds n n₁ t₁ w₁) notes trail w
+  pub found : w .status ≡ 2 → ⊥
   pub less : left (N T n) notes w ≤ left (N T n) n₁ w₁
   pub fewer : left (N T n) notes w ≡ left (N T n) n₁ w₁ → rest T trail w < rest T t₁ w₁
 
 -- all pairs were entered that were to be entered in turn
-pub record Descended (T : Tables) (holds : ℕ → ℕ → Bool) (n : ℕ) (Q : Type 0) (n₁ t₁ : List ℕ) (w₁ : Walk) (notes trail : List ℕ) (w : Walk) : Type 0 where
-  pub reached : Reached T holds n Q n₁ t₁ (comes T holds n n₁ t₁ w₁) notes trail w
+pub record Descended (T : Layout) (holds : ℕ → ℕ → Bool) (n : ℕ) (n₁ t₁ : List ℕ) (w₁ : Walk) (notes trail : List ℕ) (w : Walk) : Type 0 where
+  pub reached : Reached T holds n n₁ t₁ (comes T holds n n₁ t₁ w₁) notes trail w
   pub less : left (N T n) notes w < left (N T n) n₁ w₁
-  pub down : w .down ≡ 1 → ⊥
+  pub down : w .status ≡ 1 → ⊥
 
 -- back until a pair is to be entered or none is open
-pub record Retreated (T : Tables) (holds : ℕ → ℕ → Bool) (n : ℕ) (Q : Type 0) (n₁ t₁ : List ℕ) (w₁ : Walk) (notes trail : List ℕ) (w : Walk) : Type 0 where
-  pub reached : Reached T holds n Q n₁ t₁ (comes T holds n n₁ t₁ w₁) notes trail w
+pub record Retreated (T : Layout) (holds : ℕ → ℕ → Bool) (n : ℕ) (n₁ t₁ : List ℕ) (w₁ : Walk) (notes trail : List ℕ) (w : Walk) : Type 0 where
+  pub reached : Reached T holds n n₁ t₁ (comes T holds n n₁ t₁ w₁) notes trail w
   pub less : left (N T n) notes w ≤ left (N T n) n₁ w₁
-  pub still : (w .down ≡ 1 → ⊥) → w .top ≡ 0
+  pub still : (w .status ≡ 1 → ⊥) → w .top ≡ 0
 
 -- the walk is over: no pair is open, or END is on top
-pub record Ran (T : Tables) (holds : ℕ → ℕ → Bool) (n : ℕ) (Q : Type 0) (n₁ t₁ : List ℕ) (w₁ : Walk) (notes trail : List ℕ) (w : Walk) : Type 0 where
-  pub reached : Reached T holds n Q n₁ t₁ (comes T holds n n₁ t₁ w₁) notes trail w
-  pub down : w .down ≡ 1 → ⊥
+pub record Ran (T : Layout) (holds : ℕ → ℕ → Bool) (n : ℕ) (n₁ t₁ : List ℕ) (w₁ : Walk) (notes trail : List ℕ) (w : Walk) : Type 0 where
+  pub reached : Reached T holds n n₁ t₁ (comes T holds n n₁ t₁ w₁) notes trail w
+  pub down : w .status ≡ 1 → ⊥
   pub last : 0 < w .top → Ends T trail w
 
 -- what an attempt at row i asks, with s steps before it
-pub record Ready (T : Tables) (holds : ℕ → ℕ → Bool) (n : ℕ) (Q : Type 0) (notes trail : List ℕ) (i s : ℕ) : Type 0 where
+pub record Ready (T : Layout) (holds : ℕ → ℕ → Bool) (n : ℕ) (notes trail : List ℕ) (i s : ℕ) : Type 0 where
   pub legal : Legal T holds n
-  pub asks : Q
   pub noted : N T n ≤ 8 * length notes
   pub trailed : N T n ≤ length trail
   pub row : i < n
   pub steps : s + N T n < 18446744073709551616
 
 -- an attempt at row i by the definition, with the failed pairs F and s steps before it: it tries the pair of the first place and the start
-abbrev pub attemptBy : Tables → (ℕ → ℕ → Bool) → ℕ → List Bool → ℕ → ℕ → Outcome
+abbrev pub attemptBy : Layout → (ℕ → ℕ → Bool) → ℕ → List Bool → ℕ → ℕ → Outcome
 attemptBy T holds n F s i = enterUnless (getD F (i * P T) false) (inside (graphOf T holds n) (N T n)) F s (i * P T)
 
 -- what an attempt leaves: its result is the definition's; with a path, the trail's first `top` numbers are the path and the walk is at END
-pub record Done (T : Tables) (holds : ℕ → ℕ → Bool) (n : ℕ) (Q : Type 0) (n₁ t₁ : List ℕ) (i s : ℕ) (notes trail : List ℕ) (w : Walk) : Type 0 where
+pub record Done (T : Layout) (holds : ℕ → ℕ → Bool) (n : ℕ) (n₁ t₁ : List ℕ) (i s : ℕ) (notes trail : List ℕ) (w : Walk) : Type 0 where
   pub same : attemptBy T holds n (bitsOf n₁ (N T n)) s i ≡ outcomeBy (P T) (w .top) trail (bitsOf notes (N T n)) (w .steps)
-  pub reached : Reached T holds n Q n₁ t₁ (attemptBy T holds n (bitsOf n₁ (N T n)) s i) notes trail w
+  pub reached : Reached T holds n n₁ t₁ (attemptBy T holds n (bitsOf n₁ (N T n)) s i) notes trail w
   pub last : 0 < w .top → Ends T trail w

@@ -1,16 +1,25 @@
 // What an attempt of the counted walk does with one pair of a place and a row: the notes (a bit for each pair: it has failed), the trail (the open pairs), and
-// where the walk is then. A pair is the number row * P + place.
+// where the walk is then. A pair is the number row * P + place. This is the one file that knows how a pair is numbered in the notes and written on the trail.
+use table::count_at;
 ghost use mathlib.Core.Path.{_≡_};
 ghost use mathlib.Core.Bool.{Bool, false};
 ghost use Prim.Native.Nat.{ℕ, _+_, _*_, _/_, _<_, _≤_};
-ghost use lib.ListN.{length, set};
+ghost use lib.ListN.{length, set, getD};
 ghost use Rattle.rules.specs.Report.{bitAt};
 ghost use Rattle.rules.proofs.Notes.{marked};
-ghost use Rattle.pairs.specs.Tables.{passesBy};
-ghost use Rattle.pairs.specs.Step.{walkAt, oneUnless, tryAt, after, wentOn};
+ghost use Rattle.pairs.specs.Layout.{passesBy, entryOf, mostPairs};
+ghost use Rattle.pairs.specs.Step.{walkAt, oneUnless, tryAt, after, wentOn, placeIn, rowIn, wayIn};
 
-// Where a walk is: how many pairs are open, and the steps so far; the pair that was tried last, by its place, its row and its row times P; 1 for `down` where
-// that pair is to be entered, and 1 for `found` where it is END and open, else 0. They are numbers, as a struct of whole words has no padding to be copied.
+// How far a search reaches: the rows n, the columns of a row, and the places P.
+#[repr(C)]
+pub struct Extent {
+    pub rows: usize,
+    pub columns: usize,
+    pub places: usize,
+}
+
+// Where a walk is: how many pairs are open, and the steps so far; the pair that was tried last, by its place, its row and its row times P; and what is to be
+// done about that pair. All are numbers, as a struct of whole words has no padding to be copied.
 #[repr(C)]
 pub struct Walk {
     pub top: usize,
@@ -18,21 +27,57 @@ pub struct Walk {
     pub place: usize,
     pub row: usize,
     pub base: usize,
-    pub down: usize,
-    pub found: usize,
+    pub status: usize,
 }
 
-// A 16-bit number, without a proof of the cast at the caller.
-pub fn wide(x: u16) -> usize
-    ensures { λ r. ⌜ (r ≡ x) × (r < 65536) ⌝ }
-{
-    x as usize
-}
+// The statuses: the pair tried last has failed, or was left, so the walk goes back; it is to be entered; it is END, and open.
+pub const BACK: usize = 0;
 
-pub fn wide32(x: u32) -> usize
+pub const ENTER: usize = 1;
+
+pub const FOUND: usize = 2;
+
+// A number of the trail: its place in the low bits, its row above, and above that the way that is tried next.
+const ROW: usize = 2048;
+
+const ROWS: usize = 8192;
+
+const WAY: usize = 16777216;
+
+fn wide32(x: u32) -> usize
     ensures { λ r. ⌜ (r ≡ x) × (r < 4294967296) ⌝ }
 {
     x as usize
+}
+
+// The number at an index of the trail.
+pub fn open_at(trail: &[u32], at: usize) -> usize
+    requires { ⌜ at < length (now trail) ⌝ }
+    ensures { λ r. ⌜ (r ≡ getD (now (trail .entry)) at 0) × (r < 4294967296) ⌝ }
+{
+    wide32(trail[at])
+}
+
+// The place of a number of the trail.
+pub fn place_of(e: usize) -> usize
+    ensures { λ r. ⌜ (r ≡ placeIn e) × (r < 2048) ⌝ }
+{
+    e % ROW
+}
+
+// Its row.
+pub fn row_of(e: usize) -> usize
+    ensures { λ r. ⌜ (r ≡ rowIn e) × (r < 8192) ⌝ }
+{
+    e / ROW % ROWS
+}
+
+// The number, in its fork, of the way that its pair tries next; 0 where none is left.
+pub fn way_of(e: usize) -> usize
+    requires { ⌜ e < 4294967296 ⌝ }
+    ensures { λ r. ⌜ (r ≡ wayIn e) × (r < 256) ⌝ }
+{
+    e / WAY
 }
 
 // Whether pair x has failed.
@@ -51,22 +96,15 @@ pub fn mark(notes: &mut [u8], x: usize)
     notes[x / 8] = notes[x / 8] + (1 << (x % 8));
 }
 
-// A byte as an index.
-pub fn index(x: u8) -> usize
-    ensures { λ r. ⌜ (r ≡ x) × (r < 256) ⌝ }
-{
-    x as usize
-}
-
 // Whether an anchor of code c passes at the row, or another place that is no letter, which always passes.
-pub fn anchor_passes(n: usize, c: u8, row: usize) -> bool
+pub fn anchor_passes(n: usize, c: usize, row: usize) -> bool
     requires { ⌜ 26 ≤ c ⌝ }
     ensures { λ r. ⌜ ((holds : ℕ → ℕ → Bool) → r ≡ passesBy holds n c row) ⌝ }
 {
-    if c == 26 {
+    if c == table::CARET {
         return row == 0;
     }
-    if c == 27 {
+    if c == table::DOLLAR {
         return row == n;
     }
     true
@@ -75,12 +113,12 @@ pub fn anchor_passes(n: usize, c: u8, row: usize) -> bool
 fn one_unless(is: bool) -> usize
     ensures { λ r. ⌜ r ≡ oneUnless is ⌝ }
 {
-    if is { 0 } else { 1 }
+    if is { BACK } else { ENTER }
 }
 
 // The pair is tried: it is to be entered unless it has failed.
 pub fn tried(notes: &[u8], top: usize, steps: usize, place: usize, row: usize, base: usize) -> Walk
-    requires { ⌜ (base + place < 2097152) × ((base + place) / 8 < length (now notes)) ⌝ }
+    requires { ⌜ (base + place < mostPairs) × ((base + place) / 8 < length (now notes)) ⌝ }
     ensures { λ r. ⌜ r ≡ tryAt (now (notes .entry)) top steps place row base ⌝ }
 {
     let shut = failed(notes, base + place);
@@ -90,23 +128,33 @@ pub fn tried(notes: &[u8], top: usize, steps: usize, place: usize, row: usize, b
         place,
         row,
         base,
-        down: one_unless(shut),
-        found: 0,
+        status: one_unless(shut),
     }
 }
 
-// The pair at a row of the place whose entry is v is open.
-pub fn push(trail: &mut [u32], top: usize, row: usize, v: u32)
-    requires { ⌜ (top < length (now trail)) × (row * 256 + v < 4294967296) ⌝ }
-    ensures { λ _. ⌜ now (trail .exit) ≡ set (now (trail .entry)) top (row * 256 + v) ⌝ }
+// What the trail holds of place q when it is entered, but for its row: the place, and its second way where it has one.
+pub fn entry_at(words: &[u16], q: usize) -> usize
+    requires { ⌜ (4 * q + 4 ≤ length (now words)) × (q < 2048) ⌝ }
+    ensures { λ r. ⌜ (r ≡ entryOf (now (words .entry)) q) × (r < 16779264) ⌝ }
 {
-    trail[top] = (row * 256 + wide32(v)) as u32;
+    if 1 < count_at(words, q) {
+        return q + WAY;
+    }
+    q
+}
+
+// The pair at a row of the place whose entry is v is open.
+pub fn push(trail: &mut [u32], top: usize, row: usize, v: usize)
+    requires { ⌜ (top < length (now trail)) × (row * 2048 + v < 4294967296) ⌝ }
+    ensures { λ _. ⌜ now (trail .exit) ≡ set (now (trail .entry)) top (row * 2048 + v) ⌝ }
+{
+    trail[top] = (row * ROW + v) as u32;
 }
 
 // The pair of w, which was entered with this step, fails.
 pub fn fails(notes: &mut [u8], w: Walk, steps: usize) -> Walk
-    requires { ⌜ (w .base + w .place < 2097152) × ((w .base + w .place) / 8 < length (now notes)) × (bitAt (now notes) (w .base + w .place) ≡ false) ⌝ }
-    ensures { λ r. ⌜ (now (notes .exit) ≡ marked (now (notes .entry)) (w .base + w .place)) × (r ≡ walkAt (w .top) steps (w .place) (w .row) (w .base) 0 0) ⌝ }
+    requires { ⌜ (w .base + w .place < mostPairs) × ((w .base + w .place) / 8 < length (now notes)) × (bitAt (now notes) (w .base + w .place) ≡ false) ⌝ }
+    ensures { λ r. ⌜ (now (notes .exit) ≡ marked (now (notes .entry)) (w .base + w .place)) × (r ≡ walkAt (w .top) steps (w .place) (w .row) (w .base) 0) ⌝ }
 {
     mark(notes, w.base + w.place);
     Walk {
@@ -115,17 +163,16 @@ pub fn fails(notes: &mut [u8], w: Walk, steps: usize) -> Walk
         place: w.place,
         row: w.row,
         base: w.base,
-        down: 0,
-        found: 0,
+        status: BACK,
     }
 }
 
-// The way behind way j, where the ways stop before index `stop`; 0 for none.
-pub fn way_after(stop: usize, j: usize) -> usize
-    requires { ⌜ (j < 65536) × (stop ≤ 2048) ⌝ }
-    ensures { λ r. ⌜ (r ≡ after stop j) × (r < 2048) ⌝ }
+// The way behind way j of a fork with so many ways; 0 for none.
+pub fn way_after(count: usize, j: usize) -> usize
+    requires { ⌜ (j < 65536) × (count ≤ 256) ⌝ }
+    ensures { λ r. ⌜ (r ≡ after count j) × (r < 256) ⌝ }
 {
-    if j + 1 < stop {
+    if j + 1 < count {
         return j + 1;
     }
     0
@@ -133,8 +180,8 @@ pub fn way_after(stop: usize, j: usize) -> usize
 
 // The open pair at index `at`, whose number is e, has way j next.
 pub fn put_way(trail: &mut [u32], at: usize, e: usize, j: usize)
-    requires { ⌜ (at < length (now trail)) × (j < 2048) ⌝ }
+    requires { ⌜ (at < length (now trail)) × (j < 256) ⌝ }
     ensures { λ _. ⌜ now (trail .exit) ≡ set (now (trail .entry)) at (wentOn j e) ⌝ }
 {
-    trail[at] = (e % 2097152 + j * 2097152) as u32;
+    trail[at] = (e % WAY + j * WAY) as u32;
 }

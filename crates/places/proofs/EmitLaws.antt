@@ -22,8 +22,8 @@ use Rattle.nodes.specs.declared.Sort.the-variants.{Letter, Anchor, Empty, Seque
 use Rattle.nodes.specs.declared.Node.{Node}
 use Rattle.pattern.specs.Held.{body, lowOf, highestOf, lazyOf, Top, At}
 use Rattle.pattern.proofs.ByNode.{Bounded, IsAnchor, FactorAt, GroupAt, as-any, as-seq, as-alt, as-letter, as-anchor, as-empty, as-group, at-in, seq-left, seq-right, alt-left, alt-right, group-left, top-places}
-use Rattle.forks.specs.Emitting.{putWords, putPlace, wayCount, waysIn, putPlaces, Fitting, Emitted, choicePlaces, Choosing, forkPlaces, Forking, treePlaces, branchPlaces, bodyPlaces, turns, turnPlaces, Emitting, Branching, Bodying, Turning, WholeSize, BodySize, anchorSort}
-use Rattle.forks.proofs.TableLaws.{fit-left, fit-right, emitted-two, emitted-none, places-length}
+use Rattle.forks.specs.Emitting.{putWords, putPlace, wayCount, waysIn, putPlaces, Fitting, Emitted, choicePlaces, Choosing, forkPlaces, Forking, treePlaces, branchPlaces, bodyPlaces, turns, turnPlaces, Emitting, Branching, Bodying, Turning, WholeSize, BodySize, letterCode, anchorCode, Wording}
+use Rattle.forks.proofs.TableLaws.{fit-left, fit-right, emitted-two, emitted-none}
 use Rattle.places.proofs.CodeLaws.{tree-length, branch-length, body-length, turn-length, seq-places, branch-more, branch-one, alt-places, factor-places, factor-size, turn-copy, turn-none, turn-option, turn-star}
 
 -- ---- measures
@@ -77,8 +77,8 @@ module _ (s : List ℕ) (i c : ℕ) (k : Sort) (ec : c ≡ (nodeAt s i) .places)
       as-any s i (nodeAt s i) refl (λ p. placeCount p ≤ 256 → c ≡ fork p + placeCount p) (λ F q h. omega (arith, q .places, ec)) (λ f b q h. omega (arith, q .places, ec))
       (λ b p q h. absurd (e (ek ∙ q .sort)))
 
-pub whole-fits : (s : List ℕ) (i c : ℕ) → At s i → c ≡ (nodeAt s i) .places → Fits-in w64 (c + 1)
-whole-fits s i c a e = record { fits = omega (arith, e, top-places s i (a .tree) (a .is)) }
+pub whole-fits : (s : List ℕ) (i c : ℕ) → At s i → c ≡ (nodeAt s i) .places → (v : ℕ) → v ≤ c + 1 → Fits-in w64 v
+whole-fits s i c a e v h = record { fits = omega (arith, e, top-places s i (a .tree) (a .is)) }
 
 pub at-node : (s : List ℕ) (i : ℕ) → At s i → 8 * i + 8 ≤ length s
 at-node s i a = at-in s i a
@@ -155,9 +155,6 @@ module _ (T : List ℕ) (b w k : ℕ) (whole xs : List Place) (Q : ℕ → List 
 
     part-both : (T2 : List ℕ) (q : ℕ) → Emitted T1 T2 v r q (Q v) → Emitted T T2 b w q whole
     part-both T2 q g = subst (Emitted T T2 b w q) (sym ew) (emitted-two T T1 T2 b w v r q xs (Q v) ev d g)
-
-pub emitted-length : (T exit : List ℕ) (b w r : ℕ) (pl : List Place) → Emitted T exit b w r pl → length exit ≡ length T
-emitted-length T exit b w r pl d = ap length (d .is) ∙ places-length T b w pl
 
 -- a list of no places is put by doing nothing
 nothing-put : (T : List ℕ) (b w : ℕ) (pl : List Place) → length pl ≡ 0 → Emitted T T b w w pl
@@ -377,23 +374,24 @@ module _ (s : List ℕ) (i : ℕ) (n : Node) (en : n ≡ nodeAt s i) (T : List �
           low true = omega arith
           low false = omega (arith, F .seen .order .high-small)
 
-      turning : Turning s i c (n .low) m (b + n .places) T b w k
+      turning : Turning s i c (n .lazy) (n .low) m (b + n .places) T b w k
       turning =
           let z : size (unrolled (body (F .of))) ≡ placeCount (body (F .of)) = unrolled-size (body (F .of)) in
           record {
             of = F .of;
             top = factor-top;
             each = hc (F .of) factor-top (factor-count .1) ∙ sym z;
+            reluctant = F .seen .lazy;
             ends = ap (λ (v : ℕ). b + v) (factor-count .0 ∙ sym (factor-size (F .of) (n .low) m (F .seen .bounds) (F .seen .low) more-is));
             few = (F .seen .order .low-small, more-small);
             fits = subst (Fitting T b w k) same-places (h .fits);
           }
 
-      pub turn-first : (u : ℕ) → emitM s i ≡ u → (roundM s i (n .low) m < u) × Turning s i c (n .low) m (b + n .places) T b w k
+      pub turn-first : (u : ℕ) → emitM s i ≡ u → (roundM s i (n .low) m < u) × Turning s i c (n .lazy) (n .low) m (b + n .places) T b w k
       unfolding emitM roundM
       turn-first u eu = (omega (arith, F .seen .order .low-small, more-small), turning)
 
-      pub turn-done : (T2 : List ℕ) (q : ℕ) → ((g : Turning s i c (n .low) m (b + n .places) T b w k)
+      pub turn-done : (T2 : List ℕ) (q : ℕ) → ((g : Turning s i c (n .lazy) (n .low) m (b + n .places) T b w k)
           → Emitted T T2 b w q (turnPlaces (n .low) m (g .of) b k)) → Emitted T T2 b w q (treePlaces (h .tree) b k)
       unfolding turning
       turn-done T2 q g = subst (Emitted T T2 b w q) (sym same-places) (g turning)
@@ -514,12 +512,9 @@ module _ (s : List ℕ) (i : ℕ) (n : Node) (en : n ≡ nodeAt s i) (T : List �
 
 -- ---- rounds
 
-module _ (s : List ℕ) (i c n m end : ℕ) (T : List ℕ) (b w k : ℕ) where
-  pub round-in : Turning s i c n m end T b w k → 8 * i + 8 ≤ length s
-  round-in h = at-in s i (record { tree = one (last (h .of)); is = h .top })
-
+module _ (s : List ℕ) (i c : ℕ) (lazy : Bool) (n m end : ℕ) (T : List ℕ) (b w k : ℕ) where
   -- a body's places
-  body-places : (h : Turning s i c n m end T b w k) (v j : ℕ) → length (bodyPlaces (h .of) v j) ≡ c
+  body-places : (h : Turning s i c lazy n m end T b w k) (v j : ℕ) → length (bodyPlaces (h .of) v j) ≡ c
   body-places h v j = let z : size (unrolled (body (h .of))) ≡ placeCount (body (h .of)) = unrolled-size (body (h .of)) in body-length (h .of) v j ∙ sym z ∙ sym (h .each)
 
   -- a copy
@@ -527,7 +522,7 @@ module _ (s : List ℕ) (i c n m end : ℕ) (T : List ℕ) (b w k : ℕ) where
     suc-pred : n ≡ suc (n - 1)
     suc-pred = omega arith
 
-    module _ (nx : ℕ) (ex : nx ≡ pick (eqb (b + c) end) k (b + c)) (h : Turning s i c n m end T b w k) where
+    module _ (nx : ℕ) (ex : nx ≡ pick (eqb (b + c) end) k (b + c)) (h : Turning s i c lazy n m end T b w k) where
       copy-split : turnPlaces n m (h .of) b k ≡ bodyPlaces (h .of) b nx ++ turnPlaces (n - 1) m (h .of) (b + c) k
       copy-split = turn-copy (h .of) c b k end (h .each) n (n - 1) m nx suc-pred (h .ends) ex
 
@@ -557,7 +552,7 @@ module _ (s : List ℕ) (i c n m end : ℕ) (T : List ℕ) (b w k : ℕ) where
         unfolding copy-bodying
         copy-put = d copy-bodying
 
-        copy-turning : Turning s i c (n - 1) m end T1 (b + c) r k
+        copy-turning : Turning s i c lazy (n - 1) m end T1 (b + c) r k
         copy-turning =
             let f = part-right T b w k (turnPlaces n m (h .of) b k) (bodyPlaces (h .of) b nx) (λ v. turnPlaces (n - 1) m (h .of) v k) (b + c)
             copy-split copy-long T1 r copy-put (h .fits) in
@@ -569,42 +564,39 @@ module _ (s : List ℕ) (i c n m end : ℕ) (T : List ℕ) (b w k : ℕ) where
               of = h .of;
               top = h .top;
               each = h .each;
+              reluctant = h .reluctant;
               ends = omega (arith, h .ends, body-places h b nx);
               few = (omega (arith, h .few .0), h .few .1);
               fits = f;
             }
 
-        pub copy-again : (u : ℕ) → roundM s i n m ≡ u → (roundM s i (n - 1) m < u) × Turning s i c (n - 1) m end T1 (b + c) r k
+        pub copy-again : (u : ℕ) → roundM s i n m ≡ u → (roundM s i (n - 1) m < u) × Turning s i c lazy (n - 1) m end T1 (b + c) r k
         unfolding roundM
         copy-again u eu = (omega arith, copy-turning)
 
-        pub copy-done : (T2 : List ℕ) (q : ℕ) → ((g : Turning s i c (n - 1) m end T1 (b + c) r k) → Emitted T1 T2 (b + c) r q (turnPlaces (n - 1) m (g .of) (b + c) k))
+        pub copy-done : (T2 : List ℕ) (q : ℕ) → ((g : Turning s i c lazy (n - 1) m end T1 (b + c) r k) → Emitted T1 T2 (b + c) r q (turnPlaces (n - 1) m (g .of) (b + c) k))
             → Emitted T T2 b w q (turnPlaces n m (h .of) b k)
         unfolding copy-turning
         copy-done T2 q g =
             part-both T b w k (turnPlaces n m (h .of) b k) (bodyPlaces (h .of) b nx) (λ v. turnPlaces (n - 1) m (h .of) v k) (b + c) copy-split
             copy-long T1 r copy-put T2 q (g copy-turning)
 
-    pub copy-fits : Turning s i c n m end T b w k → Fits-in w64 (b + c)
+    pub copy-fits : Turning s i c lazy n m end T b w k → Fits-in w64 (b + c)
     copy-fits h = record { fits = omega (arith, copy-low _ refl h) }
 
   -- nothing is left
-  pub none-done : n ≤ 0 → m ≡ 0 → (h : Turning s i c n m end T b w k) → Emitted T T b w w (turnPlaces n m (h .of) b k)
+  pub none-done : n ≤ 0 → m ≡ 0 → (h : Turning s i c lazy n m end T b w k) → Emitted T T b w w (turnPlaces n m (h .of) b k)
   none-done l e h =
       let z : n ≡ 0 = omega arith in
       subst (Emitted T T b w w) (sym (ap (λ (v : ℕ). turnPlaces v m (h .of) b k) z ∙ ap (λ (v : ℕ). turnPlaces 0 v (h .of) b k) e
       ∙ turn-none (h .of) c b k end (h .each))) (emitted-none T b w)
 
-  -- the node says whether the quantifier is reluctant
-  node-lazy : (node : Node) → node ≡ nodeAt s i → (F : Tree factor) → Top (one (last F)) i s → node .lazy ≡ lazyOf F
-  node-lazy node en F t = as-any s i node en (OnFactor (λ G. node .lazy ≡ lazyOf G)) (λ G q. q .lazy) (λ f b q. tt) (λ b p q. tt) (one (last F)) t
-
   -- the place behind a fork
-  pub first-fits : Turning s i c n m end T b w k → Fits-in w64 (b + 1)
+  pub first-fits : Turning s i c lazy n m end T b w k → Fits-in w64 (b + 1)
   first-fits h = record { fits = omega (arith, h .fits .place) }
 
   -- a fork, and what stands behind it
-  module _ (F : Tree factor) (lazy : Bool) (el : lazy ≡ lazyOf F) (co : ℕ) (Q : ℕ → List Place) (whole : List Place)
+  module _ (F : Tree factor) (el : lazy ≡ lazyOf F) (co : ℕ) (Q : ℕ → List Place) (whole : List Place)
       (ew : whole ≡ choicePlaces (lazyOf F) co k ++ Q (b + 1)) where
     whole-lazy : whole ≡ choicePlaces lazy co k ++ Q (b + 1)
     whole-lazy = ew ∙ ap (λ (z : Bool). choicePlaces z co k ++ Q (b + 1)) (sym el)
@@ -626,31 +618,31 @@ module _ (s : List ℕ) (i c n m end : ℕ) (T : List ℕ) (b w k : ℕ) where
   fork-low z co ys f = omega (arith, f .place, length-append (choicePlaces z co k) ys)
 
   -- a fork and a copy that leads back to it
-  module _ (l : n ≤ 0) (e : m ≡ 100) (node : Node) (en : node ≡ nodeAt s i) where
-    all-star : (h : Turning s i c n m end T b w k) → turnPlaces n m (h .of) b k ≡ turnPlaces 0 100 (h .of) b k
+  module _ (l : n ≤ 0) (e : m ≡ 100) where
+    all-star : (h : Turning s i c lazy n m end T b w k) → turnPlaces n m (h .of) b k ≡ turnPlaces 0 100 (h .of) b k
     all-star h = ap (λ (v : ℕ). turnPlaces v m (h .of) b k) (let z : n ≡ 0 = omega arith in z) ∙ ap (λ (v : ℕ). turnPlaces 0 v (h .of) b k) e
 
-    star-ends : (h : Turning s i c n m end T b w k) → end ≡ b + size (turns 0 100 (lazyOf (h .of)) (unrolled (body (h .of))))
+    star-ends : (h : Turning s i c lazy n m end T b w k) → end ≡ b + size (turns 0 100 (lazyOf (h .of)) (unrolled (body (h .of))))
     star-ends h =
         h .ends ∙ ap (λ (v : ℕ). b + size (turns v m (lazyOf (h .of)) (unrolled (body (h .of))))) (let z : n ≡ 0 = omega arith in z)
         ∙ ap (λ (v : ℕ). b + size (turns 0 v (lazyOf (h .of)) (unrolled (body (h .of))))) e
 
-    module _ (co : ℕ) (ec : co ≡ pick (eqb (b + 1) end) b (b + 1)) (h : Turning s i c n m end T b w k) where
+    module _ (co : ℕ) (ec : co ≡ pick (eqb (b + 1) end) b (b + 1)) (h : Turning s i c lazy n m end T b w k) where
       star-split : turnPlaces n m (h .of) b k ≡ choicePlaces (lazyOf (h .of)) co k ++ bodyPlaces (h .of) (b + 1) b
       star-split = all-star h ∙ turn-star (h .of) c b k end (h .each) co (star-ends h) ec
 
       star-low : b + 1 ≤ 256
       star-low = omega (arith, fork-low (lazyOf (h .of)) co (bodyPlaces (h .of) (b + 1) b) (subst (Fitting T b w k) star-split (h .fits)))
 
-      pub star-choose : Choosing T b w (node .lazy) co k
+      pub star-choose : Choosing T b w lazy co k
       star-choose =
-          choose (h .of) (node .lazy) (node-lazy node en (h .of) (h .top)) co (λ v. bodyPlaces (h .of) v b) (turnPlaces n m (h .of) b k) star-split
+          choose (h .of) (h .reluctant) co (λ v. bodyPlaces (h .of) v b) (turnPlaces n m (h .of) b k) star-split
           (rw ec (low-pick (eqb (b + 1) end) b (b + 1) (omega (arith, star-low)) star-low)) (h .fits)
 
-      module _ (T1 : List ℕ) (r : ℕ) (d : Emitted T T1 b w r (choicePlaces (node .lazy) co k)) where
+      module _ (T1 : List ℕ) (r : ℕ) (d : Emitted T T1 b w r (choicePlaces lazy co k)) where
         star-bodying : Bodying s i T1 (b + 1) r b
         star-bodying =
-            let f = chosen (h .of) (node .lazy) (node-lazy node en (h .of) (h .top)) co (λ v. bodyPlaces (h .of) v b) (turnPlaces n m (h .of) b k) star-split
+            let f = chosen (h .of) (h .reluctant) co (λ v. bodyPlaces (h .of) v b) (turnPlaces n m (h .of) b k) star-split
             (h .fits) T1 r d in
             record {
               of = h .of;
@@ -673,23 +665,23 @@ module _ (s : List ℕ) (i c n m end : ℕ) (T : List ℕ) (b w k : ℕ) where
             → Emitted T T2 b w q (turnPlaces n m (h .of) b k)
         unfolding star-bodying
         star-done T2 q g =
-            chosen-done (h .of) (node .lazy) (node-lazy node en (h .of) (h .top)) co (λ v. bodyPlaces (h .of) v b) (turnPlaces n m (h .of) b k) star-split T1
+            chosen-done (h .of) (h .reluctant) co (λ v. bodyPlaces (h .of) v b) (turnPlaces n m (h .of) b k) star-split T1
             T2 r q d (g star-bodying)
 
   -- a fork and a copy, and then fewer
-  module _ (l : n ≤ 0) (e0 : m ≡ 0 → ⊥) (e100 : m ≡ 100 → ⊥) (node : Node) (en : node ≡ nodeAt s i) where
-    suc-more : (h : Turning s i c n m end T b w k) → (m ≡ suc (m - 1)) × (m - 1 < 99)
+  module _ (l : n ≤ 0) (e0 : m ≡ 0 → ⊥) (e100 : m ≡ 100 → ⊥) where
+    suc-more : (h : Turning s i c lazy n m end T b w k) → (m ≡ suc (m - 1)) × (m - 1 < 99)
     suc-more h = (omega (arith, e0), omega (arith, e0, e100, h .few .1))
 
-    all-options : (h : Turning s i c n m end T b w k) → turnPlaces n m (h .of) b k ≡ turnPlaces 0 (suc (m - 1)) (h .of) b k
+    all-options : (h : Turning s i c lazy n m end T b w k) → turnPlaces n m (h .of) b k ≡ turnPlaces 0 (suc (m - 1)) (h .of) b k
     all-options h = ap (λ (v : ℕ). turnPlaces v m (h .of) b k) (let z : n ≡ 0 = omega arith in z) ∙ ap (λ (v : ℕ). turnPlaces 0 v (h .of) b k) (suc-more h .0)
 
-    option-ends : (h : Turning s i c n m end T b w k) → end ≡ b + size (turns 0 (suc (m - 1)) (lazyOf (h .of)) (unrolled (body (h .of))))
+    option-ends : (h : Turning s i c lazy n m end T b w k) → end ≡ b + size (turns 0 (suc (m - 1)) (lazyOf (h .of)) (unrolled (body (h .of))))
     option-ends h =
         h .ends ∙ ap (λ (v : ℕ). b + size (turns v m (lazyOf (h .of)) (unrolled (body (h .of))))) (let z : n ≡ 0 = omega arith in z)
         ∙ ap (λ (v : ℕ). b + size (turns 0 v (lazyOf (h .of)) (unrolled (body (h .of))))) (suc-more h .0)
 
-    module _ (co : ℕ) (ec : co ≡ pick (eqb (b + 1) end) k (b + 1)) (h : Turning s i c n m end T b w k) where
+    module _ (co : ℕ) (ec : co ≡ pick (eqb (b + 1) end) k (b + 1)) (h : Turning s i c lazy n m end T b w k) where
       -- the copy and the rest, from the place v on
       behindFork : ℕ → ℕ → List Place
       behindFork nx v = bodyPlaces (h .of) v nx ++ turnPlaces 0 (m - 1) (h .of) (v + c) k
@@ -714,17 +706,17 @@ module _ (s : List ℕ) (i c n m end : ℕ) (T : List ℕ) (b w k : ℕ) where
           let f = fork-low (lazyOf (h .of)) co (behindFork nx (b + 1)) (subst (Fitting T b w k) (option-split nx refl) (h .fits)) in
           omega (arith, f, length-append (bodyPlaces (h .of) (b + 1) nx) (turnPlaces 0 (m - 1) (h .of) (b + 1 + c) k), body-places h (b + 1) nx)
 
-      pub option-choose : Choosing T b w (node .lazy) co k
+      pub option-choose : Choosing T b w lazy co k
       option-choose =
-          choose (h .of) (node .lazy) (node-lazy node en (h .of) (h .top)) co (behindFork (pick (eqb (b + 1 + c) end) k (b + 1 + c)))
+          choose (h .of) (h .reluctant) co (behindFork (pick (eqb (b + 1 + c) end) k (b + 1 + c)))
           (turnPlaces n m (h .of) b k) (option-split _ refl)
           (rw ec (low-pick (eqb (b + 1) end) k (b + 1) (h .fits .behind) (omega (arith, option-low)))) (h .fits)
 
-      module _ (T1 : List ℕ) (r : ℕ) (d : Emitted T T1 b w r (choicePlaces (node .lazy) co k)) (nx : ℕ) (ex : nx ≡ pick (eqb (b + 1 + c) end) k (b + 1 + c))
+      module _ (T1 : List ℕ) (r : ℕ) (d : Emitted T T1 b w r (choicePlaces lazy co k)) (nx : ℕ) (ex : nx ≡ pick (eqb (b + 1 + c) end) k (b + 1 + c))
         where
           inside-fits : Fitting T1 (b + 1) r k (bodyPlaces (h .of) (b + 1) nx ++ turnPlaces 0 (m - 1) (h .of) (b + 1 + c) k)
           unfolding behindFork
-          inside-fits = chosen (h .of) (node .lazy) (node-lazy node en (h .of) (h .top)) co (behindFork nx) (turnPlaces n m (h .of) b k) (option-split nx ex) (h .fits)
+          inside-fits = chosen (h .of) (h .reluctant) co (behindFork nx) (turnPlaces n m (h .of) b k) (option-split nx ex) (h .fits)
               T1 r d
 
           option-long : b + 1 + c ≡ b + 1 + length (bodyPlaces (h .of) (b + 1) nx)
@@ -748,7 +740,7 @@ module _ (s : List ℕ) (i c n m end : ℕ) (T : List ℕ) (b w k : ℕ) where
             unfolding option-bodying
             option-put = g option-bodying
 
-            option-turning : Turning s i c 0 (m - 1) end T2 (b + 1 + c) q k
+            option-turning : Turning s i c lazy 0 (m - 1) end T2 (b + 1 + c) q k
             option-turning =
                 let f = part-right T1 (b + 1) r k (bodyPlaces (h .of) (b + 1) nx ++ turnPlaces 0 (m - 1) (h .of) (b + 1 + c) k) (bodyPlaces (h .of) (b + 1) nx)
                 (λ v. turnPlaces 0 (m - 1) (h .of) v k) (b + 1 + c) refl option-long T2 q option-put inside-fits in
@@ -759,24 +751,25 @@ module _ (s : List ℕ) (i c n m end : ℕ) (T : List ℕ) (b w k : ℕ) where
                   of = h .of;
                   top = h .top;
                   each = h .each;
+                  reluctant = h .reluctant;
                   ends = omega (arith, h .ends, body-places h (b + 1) nx);
                   few = (omega arith, omega (arith, h .few .1));
                   fits = f;
                 }
 
-            pub option-again : (u : ℕ) → roundM s i n m ≡ u → (roundM s i 0 (m - 1) < u) × Turning s i c 0 (m - 1) end T2 (b + 1 + c) q k
+            pub option-again : (u : ℕ) → roundM s i n m ≡ u → (roundM s i 0 (m - 1) < u) × Turning s i c lazy 0 (m - 1) end T2 (b + 1 + c) q k
             unfolding roundM
             option-again u eu = (omega (arith, suc-more h .0), option-turning)
 
-            pub option-done : (T3 : List ℕ) (z : ℕ) → ((t : Turning s i c 0 (m - 1) end T2 (b + 1 + c) q k) → Emitted T2 T3 (b + 1 + c) q z (turnPlaces 0 (m - 1) (t .of) (b + 1 + c) k))
+            pub option-done : (T3 : List ℕ) (z : ℕ) → ((t : Turning s i c lazy 0 (m - 1) end T2 (b + 1 + c) q k) → Emitted T2 T3 (b + 1 + c) q z (turnPlaces 0 (m - 1) (t .of) (b + 1 + c) k))
                 → Emitted T T3 b w z (turnPlaces n m (h .of) b k)
             unfolding option-turning behindFork
             option-done T3 z t =
-                chosen-done (h .of) (node .lazy) (node-lazy node en (h .of) (h .top)) co (behindFork nx) (turnPlaces n m (h .of) b k) (option-split nx ex) T1 T3 r z d
+                chosen-done (h .of) (h .reluctant) co (behindFork nx) (turnPlaces n m (h .of) b k) (option-split nx ex) T1 T3 r z d
                 (part-both T1 (b + 1) r k (bodyPlaces (h .of) (b + 1) nx ++ turnPlaces 0 (m - 1) (h .of) (b + 1 + c) k) (bodyPlaces (h .of) (b + 1) nx)
                 (λ v. turnPlaces 0 (m - 1) (h .of) v k) (b + 1 + c) refl option-long T2 q option-put T3 z (t option-turning))
 
-    pub option-more : Turning s i c n m end T b w k → Fits-in w64 (b + 1 + c)
+    pub option-more : Turning s i c lazy n m end T b w k → Fits-in w64 (b + 1 + c)
     option-more h = record { fits = omega (arith, option-low _ refl h) }
 
 -- ---- body
@@ -785,32 +778,39 @@ pub body-in : (s : List ℕ) (i : ℕ) (T : List ℕ) (b w k : ℕ) → Bodying 
 body-in s i T b w k h = at-in s i (record { tree = one (last (h .of)); is = h .top })
 
 -- the one place of a letter or an anchor
-simple-put : (T T1 : List ℕ) (b w r : ℕ) (p : Place) (a l c : ℕ) → wayCount p ≡ 0 → putPlace T b w p ≡ putWords T b a l c 0
-    → (r ≡ w) × (T1 ≡ putWords T b a l c 0) → Emitted T T1 b w r (p ∷ [])
+simple-put : (T T1 : List ℕ) (b w r : ℕ) (p : Place) (v k : ℕ) → wayCount p ≡ 0 → putPlace T b w p ≡ putWords T b v k 0 0
+    → (r ≡ w) × (T1 ≡ putWords T b v k 0 0) → Emitted T T1 b w r (p ∷ [])
 unfolding putPlaces waysIn
-simple-put T T1 b w r p a l c ew ep d = record { is = d .1 ∙ sym ep; way = omega (arith, d .0) }
+simple-put T T1 b w r p v k ew ep d = record { is = d .1 ∙ sym ep; way = omega (arith, d .0) }
 
 module _ (s : List ℕ) (i : ℕ) (n : Node) (en : n ≡ nodeAt s i) (T : List ℕ) (b w k : ℕ) where
-  one-fits : (p : Place) → Fitting T b w k (p ∷ []) → (4 * b + 4 ≤ length T) × (k < 65536)
-  one-fits p f = (omega (arith, f .place, f .long), omega (arith, f .behind))
+  one-fits : (p : Place) → Fitting T b w k (p ∷ []) → (v : ℕ) → v < 65536 → Wording T b v k 0 0
+  one-fits p f v l =
+      record {
+        long = omega (arith, f .place, f .long);
+        code-fits = l;
+        first-fits = omega (arith, f .behind);
+        begin-fits = omega arith;
+        count-fits = omega arith;
+      }
 
-  module _ (a : ℕ) (e : n .sort ≡ Letter a) (h : Bodying s i T b w k) where
+  module _ (a : ℕ) (e : n .sort ≡ Letter a) (h : Bodying s i T b w k) (v : ℕ) (ev : (v ≡ letterCode a) × (v < 65536)) where
     is-letter : bodyPlaces (h .of) b k ≡ pLetter a k ∷ []
     unfolding unrolled code thinned thinPlace
     is-letter =
         ap (λ (x : Tree primary). thinned (code (unrolled x) b k))
         (as-letter s i n en (OnFactor (λ G. body G ≡ letter a)) a e (λ G q j. j) (one (last (h .of))) (h .top))
 
-    pub letter-words : (4 * b + 4 ≤ length T) × (k < 65536)
-    letter-words = one-fits (pLetter a k) (subst (Fitting T b w k) is-letter (h .fits))
+    pub letter-words : Wording T b v k 0 0
+    letter-words = one-fits (pLetter a k) (subst (Fitting T b w k) is-letter (h .fits)) v (ev .1)
 
-    pub letter-done : (v : ℕ) (T1 : List ℕ) (r : ℕ) → v ≡ a → (r ≡ w) × (T1 ≡ putWords T b 1 v k 0)
-        → Emitted T T1 b w r (bodyPlaces (h .of) b k)
+    pub letter-done : (T1 : List ℕ) (r : ℕ) → (r ≡ w) × (T1 ≡ putWords T b v k 0 0) → Emitted T T1 b w r (bodyPlaces (h .of) b k)
     unfolding putPlace wayCount
-    letter-done v T1 r ev d =
-        subst (Emitted T T1 b w r) (sym is-letter) (simple-put T T1 b w r (pLetter a k) 1 a k refl refl (d .0, d .1 ∙ ap (λ (x : ℕ). putWords T b 1 x k 0) ev))
+    letter-done T1 r d =
+        subst (Emitted T T1 b w r) (sym is-letter)
+        (simple-put T T1 b w r (pLetter a k) v k refl (sym (ap (λ (x : ℕ). putWords T b x k 0 0) (ev .0))) d)
 
-  module _ (a : ℕ) (e : n .sort ≡ Anchor a) (h : Bodying s i T b w k) where
+  module _ (a : ℕ) (e : n .sort ≡ Anchor a) (h : Bodying s i T b w k) (v : ℕ) (ev : (v ≡ anchorCode a) × (v < 65536)) where
     abbrev AnchorIs : Tree factor → Type 0
     AnchorIs G = IsAnchor (body G) a
 
@@ -820,7 +820,7 @@ module _ (s : List ℕ) (i : ℕ) (n : Node) (en : n ≡ nodeAt s i) (T : List �
     record AnchorPlace : Type 0 where
       place : Place
       is : bodyPlaces (h .of) b k ≡ place ∷ []
-      words : putPlace T b w place ≡ putWords T b (anchorSort a) 0 k 0
+      words : putPlace T b w place ≡ putWords T b v k 0 0
       ways : wayCount place ≡ 0
 
     anchor-place : AnchorPlace
@@ -832,26 +832,24 @@ module _ (s : List ℕ) (i : ℕ) (n : Node) (en : n ≡ nodeAt s i) (T : List �
             record {
               place = pCaret k;
               is = ap (λ (x : Tree primary). thinned (code (unrolled x) b k)) (j .0);
-              words = sym (ap (λ (x : ℕ). putWords T b (anchorSort x) 0 k 0) (j .1));
+              words = sym (ap (λ (x : ℕ). putWords T b x k 0 0) (ev .0 ∙ ap anchorCode (j .1)));
               ways = refl;
             }
         go (inr j) =
             record {
               place = pDollar k;
               is = ap (λ (x : Tree primary). thinned (code (unrolled x) b k)) (j .0);
-              words = sym (ap (λ (x : ℕ). putWords T b (anchorSort x) 0 k 0) (j .1));
+              words = sym (ap (λ (x : ℕ). putWords T b x k 0 0) (ev .0 ∙ ap anchorCode (j .1)));
               ways = refl;
             }
 
-    pub anchor-words : (4 * b + 4 ≤ length T) × (k < 65536)
-    anchor-words = one-fits (anchor-place .place) (subst (Fitting T b w k) (anchor-place .is) (h .fits))
+    pub anchor-words : Wording T b v k 0 0
+    anchor-words = one-fits (anchor-place .place) (subst (Fitting T b w k) (anchor-place .is) (h .fits)) v (ev .1)
 
-    pub anchor-done : (v : ℕ) (T1 : List ℕ) (r : ℕ) → v ≡ anchorSort a → (r ≡ w) × (T1 ≡ putWords T b v 0 k 0)
-        → Emitted T T1 b w r (bodyPlaces (h .of) b k)
-    anchor-done v T1 r ev d =
+    pub anchor-done : (T1 : List ℕ) (r : ℕ) → (r ≡ w) × (T1 ≡ putWords T b v k 0 0) → Emitted T T1 b w r (bodyPlaces (h .of) b k)
+    anchor-done T1 r d =
         subst (Emitted T T1 b w r) (sym (anchor-place .is))
-        (simple-put T T1 b w r (anchor-place .place) (anchorSort a) 0 k (anchor-place .ways) (anchor-place .words)
-        (d .0, d .1 ∙ ap (λ (x : ℕ). putWords T b x 0 k 0) ev))
+        (simple-put T T1 b w r (anchor-place .place) v k (anchor-place .ways) (anchor-place .words) d)
 
   pub empty-done : n .sort ≡ Empty → (h : Bodying s i T b w k) → Emitted T T b w w (bodyPlaces (h .of) b k)
   unfolding unrolled code thinned

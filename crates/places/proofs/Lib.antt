@@ -1,4 +1,7 @@
 pub mod CodeLaws
 pub mod EmitLaws
-pub mod UnrollLaws
 pub mod LoopLaws
+pub mod Spelling
+pub mod Forking
+pub mod UnrollLaws
+pub mod Legal

@@ -1,6 +1,7 @@
 -- Laws of the loops over the parts of a sequence, the branches of an alternation and the rounds of a factor: what is left to put is known, and
 -- putting it puts the whole. Each law is one way through one turn of a loop; those of a way without its loop are in EmitLaws.
-use mathlib.Core.Path.{_≡_, refl, sym, ap, _∙_, subst}
+use mathlib.Core.Path.{_≡_, refl, sym, subst}
+use mathlib.Core.Bool.{Bool}
 use mathlib.Core.List.{List}
 use Prim.Native.Nat.{ℕ, _+_, _*_, _-_, _≤_, _<_}
 use native.Mathlib.Omega.{arith}
@@ -14,7 +15,7 @@ use Rattle.nodes.specs.declared.Sort.the-variants.{Sequence, Alternation}
 use Rattle.nodes.specs.declared.Node.{Node}
 use Rattle.pattern.specs.Held.{At}
 use Rattle.forks.specs.Emitting.{Emitted, choicePlaces, Choosing, forkPlaces, Forking, treePlaces, branchPlaces, bodyPlaces, turnPlaces, Emitting, Branching, Bodying, Turning, BodySize}
-use Rattle.places.proofs.EmitLaws.{emitM, branchM, roundM, bodyM, emitted-length, emit-in, emit-end, emit-none, seq-left-in, seq-mid, seq-first, seq-second, seq-done, alt-forking, alt-first, alt-inside, alt-done, emit-node, turn-order, turn-first, turn-done, branches-in, branches-none, branch-left-in, branch-mid, branch-first, branch-second, branch-done, single-first, single-done, round-in, first-fits, copy-first, copy-again, copy-done, copy-fits, none-done, star-choose, star-body, star-done, option-choose, option-body, option-again, option-done, option-more}
+use Rattle.places.proofs.EmitLaws.{emitM, branchM, roundM, bodyM, emit-in, emit-end, emit-none, seq-left-in, seq-mid, seq-first, seq-second, seq-done, alt-forking, alt-first, alt-inside, alt-done, emit-node, turn-order, turn-first, turn-done, branches-in, branches-none, branch-left-in, branch-mid, branch-first, branch-second, branch-done, single-first, single-done, first-fits, copy-first, copy-again, copy-done, copy-fits, none-done, star-choose, star-body, star-done, option-choose, option-body, option-again, option-done, option-more}
 
 -- ---- emit
 
@@ -39,9 +40,6 @@ module _ (s : List ℕ) (i : ℕ) (T0 : List ℕ) (b0 w0 k j : ℕ) (T : List �
       pub left-none : Emitted T0 T b0 w0 w (treePlaces (h .tree) b0 k)
       left-none = L .so h T w (λ g. emit-none s j n en T b w k na e g)
 
-      pub left-none-length : length T ≡ length T0
-      left-none-length = emitted-length _ _ _ _ _ _ left-none
-
     -- an alternation
     module _ (e : n .sort ≡ Alternation) where
       pub left-forking : Forking s j T b w k
@@ -61,9 +59,6 @@ module _ (s : List ℕ) (i : ℕ) (T0 : List ℕ) (b0 w0 k j : ℕ) (T : List �
           pub left-alt : Emitted T0 T2 b0 w0 q (treePlaces (h .tree) b0 k)
           left-alt = L .so h T2 q (λ g. alt-done s j n en T b w k e g T1 r d T2 q f)
 
-          pub left-alt-length : length T2 ≡ length T0
-          left-alt-length = emitted-length _ _ _ _ _ _ left-alt
-
     -- a factor
     module _ (ns : n .sort ≡ Sequence → ⊥) (na : n .sort ≡ Alternation → ⊥) where
       pub left-node : At s j
@@ -73,19 +68,16 @@ module _ (s : List ℕ) (i : ℕ) (T0 : List ℕ) (b0 w0 k j : ℕ) (T : List �
       left-order = turn-order s j n en T b w k ns na (L .now)
 
       module _ (c : ℕ) (hc : BodySize s j c) (m : ℕ) (em : m ≡ pick (eqb (n .high) 100) 100 (n .high - n .low)) where
-        pub left-turning : Turning s j c (n .low) m (b + n .places) T b w k
+        pub left-turning : Turning s j c (n .lazy) (n .low) m (b + n .places) T b w k
         left-turning = turn-first s j n en T b w k ns na c hc m em (L .now) _ refl .1
 
         pub left-turning-less : (t : ℕ) → emitM s i ≡ t → roundM s j (n .low) m < t
         left-turning-less t et = omega (arith, turn-first s j n en T b w k ns na c hc m em (L .now) _ refl .0, L .less, et)
 
-        module _ (T2 : List ℕ) (q : ℕ) (f : (g : Turning s j c (n .low) m (b + n .places) T b w k) → Emitted T T2 b w q (turnPlaces (n .low) m (g .of) b k)) (h : Emitting s i T0 b0 w0 k)
+        module _ (T2 : List ℕ) (q : ℕ) (f : (g : Turning s j c (n .lazy) (n .low) m (b + n .places) T b w k) → Emitted T T2 b w q (turnPlaces (n .low) m (g .of) b k)) (h : Emitting s i T0 b0 w0 k)
           where
             pub left-turned : Emitted T0 T2 b0 w0 q (treePlaces (h .tree) b0 k)
             left-turned = L .so h T2 q (λ g. turn-done s j n en T b w k ns na c hc m em g T2 q f)
-
-            pub left-turned-length : length T2 ≡ length T0
-            left-turned-length = emitted-length _ _ _ _ _ _ left-turned
 
     -- a sequence
     module _ (e : n .sort ≡ Sequence) where
@@ -136,9 +128,6 @@ module _ (s : List ℕ) (i : ℕ) (T0 : List ℕ) (b0 w0 k j : ℕ) (T : List �
       pub others-none : Emitted T0 T b0 w0 w (branchPlaces (h .tree) b0 k)
       others-none = L .so h T w (λ g. branches-none s j n en T b w k e g)
 
-      pub others-none-length : length T ≡ length T0
-      others-none-length = emitted-length _ _ _ _ _ _ others-none
-
     -- the last one
     module _ (e : n .sort ≡ Alternation → ⊥) where
       pub others-single : Emitting s j T b w k
@@ -150,9 +139,6 @@ module _ (s : List ℕ) (i : ℕ) (T0 : List ℕ) (b0 w0 k j : ℕ) (T : List �
       module _ (T2 : List ℕ) (q : ℕ) (f : (g : Emitting s j T b w k) → Emitted T T2 b w q (treePlaces (g .tree) b k)) (h : Branching s i T0 b0 w0 k) where
         pub others-ended : Emitted T0 T2 b0 w0 q (branchPlaces (h .tree) b0 k)
         others-ended = L .so h T2 q (λ g. single-done s j n en T b w k e g T2 q f)
-
-        pub others-ended-length : length T2 ≡ length T0
-        others-ended-length = emitted-length _ _ _ _ _ _ others-ended
 
     -- one more
     module _ (e : n .sort ≡ Alternation) where
@@ -184,89 +170,79 @@ module _ (s : List ℕ) (i : ℕ) (T0 : List ℕ) (b0 w0 k j : ℕ) (T : List �
 
 -- ---- rounds
 
-pub record RoundsLeft (s : List ℕ) (i c n0 m0 end : ℕ) (T0 : List ℕ) (b0 w0 k n m : ℕ) (T : List ℕ) (b w : ℕ) : Type 0 where
-  pub now : Turning s i c n m end T b w k
-  pub so : (h : Turning s i c n0 m0 end T0 b0 w0 k) (T2 : List ℕ) (q : ℕ) → ((g : Turning s i c n m end T b w k) → Emitted T T2 b w q (turnPlaces n m (g .of) b k))
+pub record RoundsLeft (s : List ℕ) (i c : ℕ) (lazy : Bool) (n0 m0 end : ℕ) (T0 : List ℕ) (b0 w0 k n m : ℕ) (T : List ℕ) (b w : ℕ) : Type 0 where
+  pub now : Turning s i c lazy n m end T b w k
+  pub so : (h : Turning s i c lazy n0 m0 end T0 b0 w0 k) (T2 : List ℕ) (q : ℕ) → ((g : Turning s i c lazy n m end T b w k) → Emitted T T2 b w q (turnPlaces n m (g .of) b k))
       → Emitted T0 T2 b0 w0 q (turnPlaces n0 m0 (h .of) b0 k)
 
-pub rounds-start : (s : List ℕ) (i c n m end : ℕ) (T : List ℕ) (b w k : ℕ) → Turning s i c n m end T b w k → RoundsLeft s i c n m end T b w k n m T b w
-rounds-start s i c n m end T b w k h = record { now = h; so = λ h T2 q f. f h }
+pub rounds-start : (s : List ℕ) (i c : ℕ) (lazy : Bool) (n m end : ℕ) (T : List ℕ) (b w k : ℕ) → Turning s i c lazy n m end T b w k → RoundsLeft s i c lazy n m end T b w k n m T b w
+rounds-start s i c lazy n m end T b w k h = record { now = h; so = λ h T2 q f. f h }
 
 -- a body is less than its rounds
 pub body-lower : (s : List ℕ) (i n m t : ℕ) → roundM s i n m ≡ t → bodyM s i < t
 unfolding roundM bodyM
 body-lower s i n m t e = omega (arith, e)
 
-module _ (s : List ℕ) (i c n0 m0 end : ℕ) (T0 : List ℕ) (b0 w0 k n m : ℕ) (T : List ℕ) (b w : ℕ) (L : RoundsLeft s i c n0 m0 end T0 b0 w0 k n m T b w) where
-  pub rounds-in : 8 * i + 8 ≤ length s
-  rounds-in = round-in s i c n m end T b w k (L .now)
-
+module _ (s : List ℕ) (i c : ℕ) (lazy : Bool) (n0 m0 end : ℕ) (T0 : List ℕ) (b0 w0 k n m : ℕ) (T : List ℕ) (b w : ℕ) (L : RoundsLeft s i c lazy n0 m0 end T0 b0 w0 k n m T b w) where
   pub rounds-first : Fits-in w64 (b + 1)
-  rounds-first = first-fits s i c n m end T b w k (L .now)
+  rounds-first = first-fits s i c lazy n m end T b w k (L .now)
 
   -- a copy
   module _ (pos : 0 < n) where
     pub rounds-copy-fits : Fits-in w64 (b + c)
-    rounds-copy-fits = copy-fits s i c n m end T b w k pos (L .now)
+    rounds-copy-fits = copy-fits s i c lazy n m end T b w k pos (L .now)
 
     module _ (nx : ℕ) (ex : nx ≡ pick (eqb (b + c) end) k (b + c)) where
       pub rounds-copy : Bodying s i T b w nx
-      rounds-copy = copy-first s i c n m end T b w k pos nx ex (L .now) _ refl .1
+      rounds-copy = copy-first s i c lazy n m end T b w k pos nx ex (L .now) _ refl .1
 
       pub rounds-copied : (T1 : List ℕ) (r : ℕ) → ((g : Bodying s i T b w nx) → Emitted T T1 b w r (bodyPlaces (g .of) b nx))
-          → RoundsLeft s i c n0 m0 end T0 b0 w0 k (n - 1) m T1 (b + c) r
+          → RoundsLeft s i c lazy n0 m0 end T0 b0 w0 k (n - 1) m T1 (b + c) r
       rounds-copied T1 r d =
           record {
-            now = copy-again s i c n m end T b w k pos nx ex (L .now) T1 r d _ refl .1;
-            so = λ h T2 q f. L .so h T2 q (λ g. copy-done s i c n m end T b w k pos nx ex g T1 r d T2 q f);
+            now = copy-again s i c lazy n m end T b w k pos nx ex (L .now) T1 r d _ refl .1;
+            so = λ h T2 q f. L .so h T2 q (λ g. copy-done s i c lazy n m end T b w k pos nx ex g T1 r d T2 q f);
           }
 
   module _ (l : n ≤ 0) where
-    module _ (e : m ≡ 0) (h : Turning s i c n0 m0 end T0 b0 w0 k) where
+    module _ (e : m ≡ 0) (h : Turning s i c lazy n0 m0 end T0 b0 w0 k) where
       pub rounds-none : Emitted T0 T b0 w0 w (turnPlaces n0 m0 (h .of) b0 k)
-      rounds-none = L .so h T w (λ g. none-done s i c n m end T b w k l e g)
+      rounds-none = L .so h T w (λ g. none-done s i c lazy n m end T b w k l e g)
 
-      pub rounds-none-length : length T ≡ length T0
-      rounds-none-length = emitted-length _ _ _ _ _ _ rounds-none
+    -- a fork and a copy that leads back to it
+    module _ (e : m ≡ 100) (co : ℕ) (ec : co ≡ pick (eqb (b + 1) end) b (b + 1)) where
+      pub rounds-star : Choosing T b w lazy co k
+      rounds-star = star-choose s i c lazy n m end T b w k l e co ec (L .now)
 
-    module _ (node : Node) (en : node ≡ nodeAt s i) where
-      -- a fork and a copy that leads back to it
-      module _ (e : m ≡ 100) (co : ℕ) (ec : co ≡ pick (eqb (b + 1) end) b (b + 1)) where
-        pub rounds-star : Choosing T b w (node .lazy) co k
-        rounds-star = star-choose s i c n m end T b w k l e node en co ec (L .now)
+      module _ (T1 : List ℕ) (r : ℕ) (d : Emitted T T1 b w r (choicePlaces lazy co k)) where
+        pub rounds-star-body : Bodying s i T1 (b + 1) r b
+        rounds-star-body = star-body s i c lazy n m end T b w k l e co ec (L .now) T1 r d _ refl .1
 
-        module _ (T1 : List ℕ) (r : ℕ) (d : Emitted T T1 b w r (choicePlaces (node .lazy) co k)) where
-          pub rounds-star-body : Bodying s i T1 (b + 1) r b
-          rounds-star-body = star-body s i c n m end T b w k l e node en co ec (L .now) T1 r d _ refl .1
+        module _ (T2 : List ℕ) (q : ℕ) (f : (g : Bodying s i T1 (b + 1) r b) → Emitted T1 T2 (b + 1) r q (bodyPlaces (g .of) (b + 1) b)) (h : Turning s i c lazy n0 m0 end T0 b0 w0 k) where
+          pub rounds-starred : Emitted T0 T2 b0 w0 q (turnPlaces n0 m0 (h .of) b0 k)
+          rounds-starred = L .so h T2 q (λ g. star-done s i c lazy n m end T b w k l e co ec g T1 r d T2 q f)
 
-          module _ (T2 : List ℕ) (q : ℕ) (f : (g : Bodying s i T1 (b + 1) r b) → Emitted T1 T2 (b + 1) r q (bodyPlaces (g .of) (b + 1) b)) (h : Turning s i c n0 m0 end T0 b0 w0 k) where
-            pub rounds-starred : Emitted T0 T2 b0 w0 q (turnPlaces n0 m0 (h .of) b0 k)
-            rounds-starred = L .so h T2 q (λ g. star-done s i c n m end T b w k l e node en co ec g T1 r d T2 q f)
+    -- a fork and a copy, and then fewer
+    module _ (e0 : m ≡ 0 → ⊥) (e100 : m ≡ 100 → ⊥) where
+      pub rounds-option-fits : Fits-in w64 (b + 1 + c)
+      rounds-option-fits = option-more s i c lazy n m end T b w k l e0 e100 (L .now)
 
-            pub rounds-starred-length : length T2 ≡ length T0
-            rounds-starred-length = emitted-length _ _ _ _ _ _ rounds-starred
+      module _ (co : ℕ) (ec : co ≡ pick (eqb (b + 1) end) k (b + 1)) where
+        pub rounds-option : Choosing T b w lazy co k
+        rounds-option = option-choose s i c lazy n m end T b w k l e0 e100 co ec (L .now)
 
-      -- a fork and a copy, and then fewer
-      module _ (e0 : m ≡ 0 → ⊥) (e100 : m ≡ 100 → ⊥) where
-        pub rounds-option-fits : Fits-in w64 (b + 1 + c)
-        rounds-option-fits = option-more s i c n m end T b w k l e0 e100 node en (L .now)
+        module _ (T1 : List ℕ) (r : ℕ) (d : Emitted T T1 b w r (choicePlaces lazy co k)) (nx : ℕ) (ex : nx ≡ pick (eqb (b + 1 + c) end) k (b + 1 + c)) where
+          pub rounds-option-body : Bodying s i T1 (b + 1) r nx
+          rounds-option-body = option-body s i c lazy n m end T b w k l e0 e100 co ec (L .now) T1 r d nx ex _ refl .1
 
-        module _ (co : ℕ) (ec : co ≡ pick (eqb (b + 1) end) k (b + 1)) where
-          pub rounds-option : Choosing T b w (node .lazy) co k
-          rounds-option = option-choose s i c n m end T b w k l e0 e100 node en co ec (L .now)
+          module _ (T2 : List ℕ) (q : ℕ) (f : (g : Bodying s i T1 (b + 1) r nx) → Emitted T1 T2 (b + 1) r q (bodyPlaces (g .of) (b + 1) nx)) where
+            zero-left : n ≡ 0
+            zero-left = omega arith
 
-          module _ (T1 : List ℕ) (r : ℕ) (d : Emitted T T1 b w r (choicePlaces (node .lazy) co k)) (nx : ℕ) (ex : nx ≡ pick (eqb (b + 1 + c) end) k (b + 1 + c)) where
-            pub rounds-option-body : Bodying s i T1 (b + 1) r nx
-            rounds-option-body = option-body s i c n m end T b w k l e0 e100 node en co ec (L .now) T1 r d nx ex _ refl .1
-
-            module _ (T2 : List ℕ) (q : ℕ) (f : (g : Bodying s i T1 (b + 1) r nx) → Emitted T1 T2 (b + 1) r q (bodyPlaces (g .of) (b + 1) nx)) where
-              zero-left : n ≡ 0
-              zero-left = omega arith
-
-              pub rounds-optioned : RoundsLeft s i c n0 m0 end T0 b0 w0 k n (m - 1) T2 (b + 1 + c) q
-              rounds-optioned =
-                  subst (λ (v : ℕ). RoundsLeft s i c n0 m0 end T0 b0 w0 k v (m - 1) T2 (b + 1 + c) q) (sym zero-left)
-                  (record {
-                    now = option-again s i c n m end T b w k l e0 e100 node en co ec (L .now) T1 r d nx ex T2 q f _ refl .1;
-                    so = λ h T3 z t. L .so h T3 z (λ g. option-done s i c n m end T b w k l e0 e100 node en co ec g T1 r d nx ex T2 q f T3 z t);
-                  })
+            pub rounds-optioned : RoundsLeft s i c lazy n0 m0 end T0 b0 w0 k n (m - 1) T2 (b + 1 + c) q
+            rounds-optioned =
+                subst (λ (v : ℕ). RoundsLeft s i c lazy n0 m0 end T0 b0 w0 k v (m - 1) T2 (b + 1 + c) q) (sym zero-left)
+                (record {
+                  now = option-again s i c lazy n m end T b w k l e0 e100 co ec (L .now) T1 r d nx ex T2 q f _ refl .1;
+                  so = λ h T3 z t. L .so h T3 z (λ g. option-done s i c lazy n m end T b w k l e0 e100 co ec g T1 r d nx ex T2 q f T3 z t);
+                })

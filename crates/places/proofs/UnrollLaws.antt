@@ -1,17 +1,22 @@
--- Laws of `unroll`: the whole tree is put, and END behind it; what was put is read back.
-use mathlib.Core.Path.{_≡_, sym, ap, _∙_}
+-- Laws of `unroll`: the whole tree is put, and END behind it; what was put is read back, and keeps to
+-- what the walk relies on.
+use mathlib.Core.Path.{_≡_, refl, sym, ap, _∙_}
 use mathlib.Core.List.{List, [], _∷_, _++_}
 use Prim.Native.Nat.{ℕ, _+_, _*_, _-_, _≤_, _<_}
 use native.Mathlib.Omega.{arith}
 use lib.ListN.{length, getD, length-append}
-use Rattle.rules.specs.Places.{unroll, Place, pEnd, size, code, places, placesOf}
+use Rattle.rules.specs.Places.{unroll, Place, pFork, pEnd, size, code, places, placesOf}
 use Rattle.rules.proofs.Counting.{unroll-size}
 use Rattle.rules.proofs.Distinct.{thinPlace, thinned, thinned-append}
-use Rattle.forks.specs.Tables.{placesFrom, tabled}
-use Rattle.forks.specs.Emitting.{putWords, putPlace, wayCount, waysIn, putPlaces, Emitted, treePlaces, Emitting, Unrolling, Tabled}
-use Rattle.forks.proofs.TableLaws.{places-append, waysIn-append, places-length, words-length, places-back, places-kept, places-stop}
+use Rattle.rules.proofs.ThinPlaces.{thinned-spelt}
+use Rattle.table.specs.Table.{codeAt, firstAt, beginAt, countAt, placesFrom, placesIn}
+use Rattle.table.specs.Sized.{Sized}
+use Rattle.forks.specs.Emitting.{putWords, putPlace, wayCount, waysIn, putPlaces, Wording, Emitted, treePlaces, Emitting, Unrolling, Tabled}
+use Rattle.forks.proofs.TableLaws.{Sound, Keeps, Back, places-append, waysIn-append, places-length, words-length, places-back, places-are, places-kept}
 use Rattle.forks.proofs.WayLaws.{all-few}
 use Rattle.places.proofs.CodeLaws.{tree-length}
+use Rattle.places.proofs.Forking.{thinned-wayed}
+use Rattle.places.proofs.Spelling.{lettered}
 
 module _ (s : List ℕ) (top P : ℕ) (T : List ℕ) where
   pub some-place : Unrolling s top P T → 1 ≤ P
@@ -28,8 +33,8 @@ module _ (s : List ℕ) (top P : ℕ) (T : List ℕ) where
     few : waysIn (treePlaces (h .tree) 0 (P - 1)) ≤ 3 * (P - 1)
     few = omega (arith, all-few (unroll (h .tree)) 0 (P - 1), last-place)
 
-    pub unroll-emitting : Emitting s top T 0 (4 * P) (P - 1)
-    unroll-emitting =
+    pub unroll-emitting : (w : ℕ) → w ≡ 4 * P → Emitting s top T 0 w (P - 1)
+    unroll-emitting w ew =
         record {
           tree = h .tree;
           top = h .is;
@@ -47,46 +52,94 @@ module _ (s : List ℕ) (top P : ℕ) (T : List ℕ) where
     unfolding places thinned thinPlace
     all = thinned-append (code (unroll (h .tree)) 0 (size (unroll (h .tree)))) (pEnd ∷ []) ∙ ap (λ (k : ℕ). thinned (code (unroll (h .tree)) 0 k) ++ (pEnd ∷ [])) last-place
 
+    abbrev whole : List Place
+    whole = treePlaces (h .tree) 0 (P - 1) ++ (pEnd ∷ [])
+
+    -- every place can be read back
+    sound : (i : ℕ) → i < length whole → Sound (getD whole i (pFork []))
+    sound i l =
+        let m : i < length (thinned (places (unroll (h .tree)))) = rw all l in
+        rw (← all)
+        (thinned-spelt (h .tree) (lettered (h .tree) (h .spelt)) i, thinned-wayed (h .tree) (omega (arith, last-place, h .few)) i m)
+
     module _ (T1 : List ℕ) (r : ℕ) (d : (g : Emitting s top T 0 (4 * P) (P - 1)) → Emitted T T1 0 (4 * P) r (treePlaces (g .tree) 0 (P - 1))) where
       put : Emitted T T1 0 (4 * P) r (treePlaces (h .tree) 0 (P - 1))
       unfolding unroll-emitting
-      put = d unroll-emitting
+      put = d (unroll-emitting (4 * P) refl)
 
       same : length T1 ≡ length T
       same = ap length (put .is) ∙ places-length T 0 (4 * P) (treePlaces (h .tree) 0 (P - 1))
 
-      pub end-words : (4 * (P - 1) + 4 ≤ length T1) × (0 < 65536) × (0 < 65536)
-      end-words = (omega (arith, h .few, h .long, same, some-place h), omega arith, omega arith)
+      pub end-words : Wording T1 (P - 1) 30 0 0 0
+      end-words =
+          record {
+            long = omega (arith, h .few, h .long, same, some-place h);
+            code-fits = omega arith;
+            first-fits = omega arith;
+            begin-fits = omega arith;
+            count-fits = omega arith;
+          }
 
-      module _ (T2 : List ℕ) (e : T2 ≡ putWords T1 (P - 1) 4 0 0 0) where
-        both : T2 ≡ putPlaces T 0 (4 * P) (treePlaces (h .tree) 0 (P - 1) ++ (pEnd ∷ []))
+      module _ (T2 : List ℕ) (to : ℕ) (e : (to ≡ r) × (T2 ≡ putWords T1 (P - 1) 30 0 0 0)) where
+        both : T2 ≡ putPlaces T 0 (4 * P) whole
         unfolding putPlaces putPlace
-        both = e ∙ ap (λ (U : List ℕ). putWords U (P - 1) 4 0 0 0) (put .is) ∙ ap (λ (q : ℕ). putWords (putPlaces T 0 (4 * P) (treePlaces (h .tree) 0 (P - 1))) q 4 0 0 0)
+        both = e .1 ∙ ap (λ (U : List ℕ). putWords U (P - 1) 30 0 0 0) (put .is)
+            ∙ ap (λ (q : ℕ). putWords (putPlaces T 0 (4 * P) (treePlaces (h .tree) 0 (P - 1))) q 30 0 0 0)
             (let z : P - 1 ≡ 0 + length (treePlaces (h .tree) 0 (P - 1)) = omega (arith, long) in z)
             ∙ sym (places-append T 0 (4 * P) (treePlaces (h .tree) 0 (P - 1)) (pEnd ∷ []))
 
-        ways-all : waysIn (treePlaces (h .tree) 0 (P - 1) ++ (pEnd ∷ [])) ≡ waysIn (treePlaces (h .tree) 0 (P - 1))
+        ways-all : waysIn whole ≡ waysIn (treePlaces (h .tree) 0 (P - 1))
         unfolding waysIn wayCount
         ways-all = omega (arith, waysIn-append (treePlaces (h .tree) 0 (P - 1)) (pEnd ∷ []))
 
-        long-all : length (treePlaces (h .tree) 0 (P - 1) ++ (pEnd ∷ [])) ≡ P
+        long-all : length whole ≡ P
         long-all = omega (arith, length-append (treePlaces (h .tree) 0 (P - 1)) (pEnd ∷ []), long, some-place h)
 
         pub unroll-length : length T2 ≡ length T
-        unroll-length = ap length e ∙ words-length T1 (P - 1) 4 0 0 0 ∙ same
+        unroll-length = ap length (e .1) ∙ words-length T1 (P - 1) 30 0 0 0 ∙ same
 
-        pub unroll-done : Tabled (h .tree) P T T2 r
-        unfolding tabled
-        unroll-done =
-            let pl : List Place = treePlaces (h .tree) 0 (P - 1) ++ (pEnd ∷ []) in
-            let back : placesFrom (putPlaces T 0 (4 * P) pl) 0 (length pl) ≡ pl = places-back T 0 (4 * P) pl (omega (arith, long-all, h .few))
-            (omega (arith, ways-all, few, h .long)) in
-            let end : r ≡ 4 * P + waysIn pl = omega (arith, put .way, ways-all) in
+        -- the word behind the last way
+        end-way : to ≡ 4 * P + waysIn whole
+        end-way = omega (arith, put .way, ways-all, e .0)
+
+        -- each place is read back, and its ways end within the table
+        back : (q : ℕ) → q < P → Back T2 q (length T) (getD whole q (pFork []))
+        back q l =
+            let z : 0 + q ≡ q = omega arith in
+            let b : Back (putPlaces T 0 (4 * P) whole) (0 + q) (length T) (getD whole q (pFork [])) =
+            places-back T 0 (4 * P) (length T) whole (omega (arith, long-all)) (omega (arith, ways-all, few, h .long))
+            (omega (arith, ways-all, few, h .long)) sound q (omega (arith, long-all)) in
+            rw both (rw z at b)
+
+        keeps : (q : ℕ) → q < P → Keeps q (length T2) (codeAt T2 q) (firstAt T2 q) (beginAt T2 q) (countAt T2 q)
+        keeps q l = rw unroll-length (back q l .keeps-to)
+
+        unroll-sized : Sized T2 P
+        unroll-sized =
             record {
-              is = ap (λ (U : List ℕ). placesFrom U 0 P) both ∙ ap (λ (m : ℕ). placesFrom (putPlaces T 0 (4 * P) pl) 0 m) (sym long-all) ∙ back ∙ sym all;
-              stop = λ q l. rw (both, end) (places-stop T 0 (4 * P) pl (omega (arith, long-all, h .few)) (omega (arith, ways-all, few, h .long)) q (omega arith)
-                  (omega (arith, long-all)));
-              few = (omega arith, omega (arith, ways-all, few));
-              kept = λ j l. ap (λ (U : List ℕ). getD U j 0) both ∙ places-kept T 0 (4 * P) pl j (λ a b. omega (arith, long-all, h .few, end)) (λ a b. omega (arith, end));
+              some = some-place h;
+              few = h .few;
+              long = omega (arith, h .long, unroll-length);
+              near = λ q l. keeps q l .near;
+              one = λ q l. keeps q l .one;
+              end = λ q l. keeps q l .end;
+              many = λ q l. keeps q l .many;
+              ways = λ q l. keeps q l .ways;
+            }
+
+        unroll-places : placesIn T2 P ≡ whole
+        unfolding placesIn
+        unroll-places =
+            ap (λ (m : ℕ). placesFrom T2 0 m) (sym long-all)
+            ∙ places-are T2 0 whole (λ i l. (let z : 0 + i ≡ i = omega arith in rw z (back i (omega (arith, long-all)) .is)))
+
+        pub unroll-done : Tabled (h .tree) P T T2 to
+        unroll-done =
+            record {
+              is = unroll-places ∙ sym all;
+              sized = unroll-sized;
+              few = (omega (arith, end-way), omega (arith, end-way, ways-all, few));
+              kept = λ j l. ap (λ (U : List ℕ). getD U j 0) both
+                  ∙ places-kept T 0 (4 * P) whole j (λ a b. omega (arith, long-all, h .few, end-way)) (λ a b. omega (arith, end-way));
               len = unroll-length;
             }

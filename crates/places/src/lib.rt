@@ -1,21 +1,37 @@
-// A tree unrolled into its places: `unroll` puts them into a lent table of words, which an engine reads, by a recursion over the tree's nodes; the
-// node's height falls. Repeated ways of a fork are dropped.
+// A tree unrolled into its places: `unroll` puts them into a lent table of words, in the layout of
+// crates/table. Parts of a sequence, branches and rounds are walked over by loops; a pair of
+// parentheses is a call, whose node is lower, so calls nest as deep as parentheses do.
+// Promise: the table holds the tree's places, each fork's ways once, and keeps to what the walk relies
+// on. Weakness: a factor's body is unrolled once for each of its copies.
 use forks::branch_fork;
 use forks::fork;
-use forks::put_words;
+use forks::put_place;
 use forks::start_at;
 use nodes::Sort;
 use nodes::node_at;
 use nodes::places_at;
 use nodes::sort_at;
+use table::CARET;
+use table::DOLLAR;
+use table::END;
+use table::WORDS;
 ghost use mathlib.Core.Path.{_≡_};
-ghost use Prim.Native.Nat.{_+_, _*_, _-_, _≤_, _<_};
-ghost use lib.ListN.{length};
+ghost use Prim.Native.Nat.{_-_, _≤_, _<_};
 ghost use lib.Dec.{eqb};
 ghost use Rattle.rules.specs.Basics.{pick};
 ghost use Rattle.pattern.specs.Held.{At};
-ghost use Rattle.forks.specs.Emitting.{putWords, Emitted, anchorSort};
-ghost use Rattle.forks.specs.Emitting.{treePlaces, branchPlaces, bodyPlaces, turnPlaces, Emitting, Branching, Bodying, Turning, WholeSize, BodySize, Unrolling, Tabled};
+ghost use Rattle.forks.specs.Emitting.{Emitted, letterCode, anchorCode, treePlaces, branchPlaces, bodyPlaces, turnPlaces};
+ghost use Rattle.forks.specs.Emitting.{Emitting, Branching, Bodying, Turning, WholeSize, BodySize, Unrolling, Tabled};
+
+// A factor in its rounds: its node, the places of its body, whether it is reluctant, the number behind
+// its last place, and the place behind it.
+struct Factor {
+    node: usize,
+    body: usize,
+    lazy: bool,
+    end: usize,
+    behind: usize,
+}
 
 // How many times a fork and a copy stand behind the copies; 100 if the quantifier is unbounded.
 fn turns_behind(low: usize, high: usize) -> usize
@@ -59,33 +75,26 @@ fn body_size(room: &[u16], i: usize) -> usize
     }
 }
 
-fn short(c: u8) -> u16
-    ensures { λ r. ⌜ r ≡ c ⌝ }
+// The code of a letter's place: A is 0. The letters of a tree are A to Z.
+fn letter_code(c: u8) -> usize
+    ensures { λ r. ⌜ (r ≡ letterCode c) × (r < 65536) ⌝ }
 {
-    c as u16
+    (c as usize + 191) % 256
 }
 
-// The sort of an anchor's place.
-fn anchor_sort(c: u8) -> u16
-    ensures { λ r. ⌜ r ≡ anchorSort c ⌝ }
+// The code of an anchor's place.
+fn anchor_code(c: u8) -> usize
+    ensures { λ r. ⌜ (r ≡ anchorCode c) × (r < 65536) ⌝ }
 {
     if c == b'^' {
-        return 2;
+        return CARET;
     }
-    3
+    DOLLAR
 }
 
-// A letter's or an anchor's place, which has no ways.
-fn put_simple(table: &mut [u16], b: usize, w: usize, sort: u16, letter: u16, k: usize) -> usize
-    requires { ⌜ (4 * b + 4 ≤ length (now table)) × (k < 65536) ⌝ }
-    ensures { λ r. ⌜ (r ≡ w) × (now (table .exit) ≡ putWords (now (table .entry)) b sort letter k 0) ⌝ }
-{
-    put_words(table, b, sort, letter, k, 0);
-    w
-}
-
-// The tree at i, its places numbered from b on and their ways from word w on, where k is the place behind it. The parts of a sequence are walked
-// over by a loop, as are branches and rounds below: only parentheses take stack.
+// The tree at i, its places numbered from b on and their ways from word w on, where k is the place
+// behind it. The parts of a sequence are walked over by a loop, as are branches and rounds below: only
+// parentheses take stack.
 fn emit(room: &[u16], i: usize, table: &mut [u16], b: usize, w: usize, k: usize) -> usize
     requires { ⌜ Emitting (now room) i (now table) b w k ⌝ }
     ensures { λ r. ⌜ ((h : Emitting (now (room .entry)) i (now (table .entry)) b w k) → Emitted (now (table .entry)) (now (table .exit)) b w r (treePlaces (h .tree) b k)) ⌝ }
@@ -110,7 +119,14 @@ fn emit(room: &[u16], i: usize, table: &mut [u16], b: usize, w: usize, k: usize)
             let c = body_size(room, node);
             let low = n.low;
             let m = turns_behind(low, n.high);
-            return rounds(room, node, c, low, m, end, table, from, way, k);
+            let f = Factor {
+                node,
+                body: c,
+                lazy: n.lazy,
+                end,
+                behind: k,
+            };
+            return rounds(room, f, low, m, table, from, way);
         };
         let mid = from + places_at(room, left);
         let next = start_at(mid, end, k);
@@ -140,29 +156,31 @@ fn branches(room: &[u16], i: usize, table: &mut [u16], b: usize, w: usize, k: us
             return emit(room, node, table, from, way, k);
         };
         way = emit(room, left, table, from, way, k);
-        let rest = from + places_at(room, left);
-        from = rest;
+        let after = from + places_at(room, left);
+        from = after;
         node = right;
     }
 }
 
-// The body of the factor at i with c places: n copies, then m times a fork and a copy, or for m = 100 a fork and a copy that leads back to it.
-// Its places end before `end`.
+// The rounds of a factor: n copies of its body, then m times a fork and a copy, or for m = 100 a fork
+// and a copy that leads back to it.
 fn rounds(
     room: &[u16],
-    i: usize,
-    c: usize,
+    f: Factor,
     n: usize,
     m: usize,
-    end: usize,
     table: &mut [u16],
     b: usize,
     w: usize,
-    k: usize,
 ) -> usize
-    requires { ⌜ Turning (now room) i c n m end (now table) b w k ⌝ }
-    ensures { λ r. ⌜ ((h : Turning (now (room .entry)) i c n m end (now (table .entry)) b w k) → Emitted (now (table .entry)) (now (table .exit)) b w r (turnPlaces n m (h .of) b k)) ⌝ }
+    requires { ⌜ Turning (now room) (f .node) (f .body) (f .lazy) n m (f .end) (now table) b w (f .behind) ⌝ }
+    ensures { λ r. ⌜ ((h : Turning (now (room .entry)) (f .node) (f .body) (f .lazy) n m (f .end) (now (table .entry)) b w (f .behind)) → Emitted (now (table .entry)) (now (table .exit)) b w r (turnPlaces n m (h .of) b (f .behind))) ⌝ }
 {
+    let i = f.node;
+    let c = f.body;
+    let lazy = f.lazy;
+    let end = f.end;
+    let k = f.behind;
     let mut copies = n;
     let mut forks = m;
     let mut from = b;
@@ -179,8 +197,6 @@ fn rounds(
         if forks == 0 {
             return way;
         }
-        let node = node_at(room, i);
-        let lazy = node.lazy;
         let first = from + 1;
         if forks == 100 {
             let copy = start_at(first, end, from);
@@ -206,8 +222,8 @@ fn body(room: &[u16], i: usize, table: &mut [u16], b: usize, w: usize, k: usize)
     let sort = n.sort;
     let left = n.left;
     match sort {
-        Sort::Letter(c) => put_simple(table, b, w, 1, short(c), k),
-        Sort::Anchor(c) => put_simple(table, b, w, anchor_sort(c), 0, k),
+        Sort::Letter(c) => put_place(table, b, w, letter_code(c), k),
+        Sort::Anchor(c) => put_place(table, b, w, anchor_code(c), k),
         Sort::Empty => w,
         Sort::Sequence => w,
         Sort::Alternation => w,
@@ -215,14 +231,13 @@ fn body(room: &[u16], i: usize, table: &mut [u16], b: usize, w: usize, k: usize)
     }
 }
 
-// Unrolls the tree whose top is a node: its P places, END the last, go into the table's first words, and their ways behind them. Returns
-// the word behind the last way.
+// Unrolls the tree whose top is a node: its P places, END the last, go into the table's first words,
+// and their ways behind them. Returns the word behind the last way.
 pub fn unroll(room: &[u16], top: usize, places: usize, table: &mut [u16]) -> usize
     requires { ⌜ Unrolling (now room) top places (now table) ⌝ }
     ensures { λ r. ⌜ ((h : Unrolling (now (room .entry)) top places (now (table .entry))) → Tabled (h .tree) places (now (table .entry)) (now (table .exit)) r) ⌝ }
 {
     let last = places - 1;
-    let to = emit(room, top, table, 0, 4 * places, last);
-    put_words(table, last, 4, 0, 0, 0);
-    to
+    let to = emit(room, top, table, 0, WORDS * places, last);
+    put_place(table, last, to, END, 0)
 }

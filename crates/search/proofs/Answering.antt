@@ -32,7 +32,10 @@ use Rattle.reading.specs.declared.Query.{Query}
 use Rattle.outcome.specs.declared.Outcome.{Outcome}
 use Rattle.outcome.specs.Results.{lent, memory, refusal}
 use Rattle.starting.specs.Starts.{ended, Walks}
+use Rattle.matches.specs.Asked.{toNext}
+use Rattle.starting.specs.declared.Accepted.{Accepted}
 use Rattle.search.specs.Promise.{Promised}
+use Rattle.search.specs.Accepts.{AcceptedAs}
 
 -- ---- the answers
 
@@ -197,10 +200,9 @@ module _ (q measures₀ room defines measures : List ℕ) (r : Query) (a : Asked
             )
 
             -- the walk may begin
-            pub search-walks : length measures₀ ≡ 24
-                → Walks q room (r .top) (r .places) rows (r .columns) n defines (r .letters) measures (r .measures) (eqb (r .skip) 1) notes trail
+            walks : Walks q room (r .top) (r .places) rows (r .columns) n defines (r .letters) measures (r .measures) (eqb (r .skip) 1) notes trail
             unfolding hasEmptyLoop P bytesFor
-            search-walks l =
+            walks =
                 let s : n + 1 ≡ suc n = add-one n in
                 let w = few-rows q measures₀ room defines measures r a z (length rows) t et f in
                 let d : n * r .columns + length rows % r .columns ≡ length rows = div-add-mod' (length rows) (r .columns) in
@@ -227,6 +229,10 @@ module _ (q measures₀ room defines measures : List ℕ) (r : Query) (a : Asked
                   noted = omega (arith, f′);
                   trailed = rw (← pp) (both-long .1);
                 }
+
+            pub search-walks : (x : Accepted) → AcceptedAs r n x
+                → Walks q room (x .top) (x .task .size .places) rows (x .task .size .columns) (x .task .size .rows) defines (x .letters) measures (x .task .measures) (toNext (x .task .skip)) notes trail
+            search-walks x e = rw (e .top, e .places, e .columns, e .rows, e .letters, e .measures, e .skip) walks
 
             -- done or stopped
             pub search-ends : (m : Memory) → m ≡ ended q rows buffers → Promised q rows buffers m

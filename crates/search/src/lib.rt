@@ -1,12 +1,40 @@
 // The whole search: answers 1 to 12 and 14 in front, then the walk over the unrolled pattern. Its promise, for every query, all rows and all lent buffers, is an
 // equation with document 01's definition, and the tender's demands with it (specs/Promise). Nothing is allocated; the tables lie on the stack.
+use matches::Task;
+use matches::skip_of;
 use outcome::Outcome;
 use outcome::refused;
+use pairs::Extent;
+use reading::Query;
+use starting::Accepted;
 use starting::walk_all;
 ghost use mathlib.Core.Path.{_≡_};
 ghost use Rattle.reading.specs.Reading.{Nodes};
 ghost use Rattle.outcome.specs.Results.{lent, memory};
 ghost use Rattle.search.specs.Promise.{Promised};
+ghost use Rattle.search.specs.Accepts.{AcceptedAs};
+
+// What the search of an accepted query on n rows is asked.
+fn accepted(q: Query, n: usize) -> Accepted
+    ensures { λ r. ⌜ AcceptedAs q n r ⌝ }
+{
+    let size = Extent {
+        rows: n,
+        columns: q.columns,
+        places: q.places,
+    };
+    let skip = skip_of(q.skip);
+    let task = Task {
+        size,
+        measures: q.measures,
+        skip,
+    };
+    Accepted {
+        top: q.top,
+        letters: q.letters,
+        task,
+    }
+}
 
 // The search, with room for the tree of the query's pattern.
 fn search_in(
@@ -41,20 +69,14 @@ fn search_in(
     walk_all(
         query,
         nodes,
-        q.top,
-        q.places,
         rows,
-        columns,
-        n,
         &defines,
-        q.letters,
         &measures,
-        q.measures,
-        q.skip == 1,
         notes,
         trail,
         numbers,
         labels,
+        accepted(q, n),
     )
 }
 

@@ -14,7 +14,7 @@ use Rattle.rules.specs.Report.{matchNumbers, numbersOf, labelsOf, notesOf, zero
 use Rattle.rules.specs.Answers.{Buffers, taskOf, walked, walkOf, stopped, reportOf, accepted}
 use Rattle.rules.proofs.Distinct.{thinned, labels-thin}
 use Rattle.measure_list.specs.Measures.{measuresIn}
-use Rattle.pairs.specs.Tables.{Tables, N}
+use Rattle.pairs.specs.Layout.{Layout, N}
 use Rattle.pairs.specs.Letters.{holdsIn}
 use Rattle.matches.specs.Asked as S
 use Rattle.matches.specs.Asked.{asked}
@@ -38,7 +38,7 @@ labels-of-thin pl (x ∷ xs) = rw (labels-thin pl (x .path), labels-of-thin pl x
 
 -- ---- the end
 
-module _ (q : List ℕ) (T : Tables) (rows : List ℤ) (columns n : ℕ) (tests ms : List ℕ) (count : ℕ) (mode : Bool) (notes trail : List ℕ)
+module _ (q : List ℕ) (T : Layout) (rows : List ℤ) (columns n : ℕ) (tests ms : List ℕ) (count : ℕ) (mode : Bool) (notes trail : List ℕ)
     (a : Runs q T rows columns n tests ms count mode notes trail) (num : List ℤ) (lab notes′ trail′ : List ℕ) (num′ : List ℤ) (lab′ : List ℕ) (s : Sweep)
     (g : Answered (asked T (holdsIn rows columns q tests) n mode (tableOf columns rows) (measuresIn ms count)) notes trail num lab notes′ trail′ num′ lab′ s) where
   abbrev W : Swept Kept
@@ -47,12 +47,12 @@ module _ (q : List ℕ) (T : Tables) (rows : List ℤ) (columns n : ℕ) (tests 
   abbrev R : Swept Kept
   R = S.searchOf (asked T (holdsIn rows columns q tests) n mode (tableOf columns rows) (measuresIn ms count)) (length num) (length lab)
 
-  pub run-ended : (r : Outcome) → r ≡ record { answer = pick (s .full) 13 0; matches = s .matches; labels = s .labels; steps = s .steps; offset = 0 }
+  pub run-ended : (r : Outcome) → r ≡ record { answer = s .end; matches = s .matches; labels = s .labels; steps = s .steps; offset = 0 }
       → memory r notes′ trail′ num′ lab′ ≡ ended q rows (lent notes trail num lab)
   unfolding ended accepted reportOf walkOf
   run-ended r e =
       let f = a .found (length num) (length lab) in
-      let full : s .full ≡ stopped W = g .reported .full ∙ ap stopped f in
+      let end : s .end ≡ pick (stopped W) 13 0 = g .reported .end ∙ ap (λ (w : Swept Kept). pick (stopped w) 13 0) f in
       let m : s .matches ≡ length (W .matches) = g .reported .matches ∙ ap (λ (w : Swept Kept). length (w .matches)) f in
       let l : s .labels ≡ length (labelsOf (taskOf q rows .places) (W .matches)) =
       g .reported .labels ∙ ap length (a .labelled (R .matches)) ∙ ap (λ (w : Swept Kept). length (labelsOf (taskOf q rows .places) (w .matches))) f in
@@ -63,4 +63,4 @@ module _ (q : List ℕ) (T : Tables) (rows : List ℤ) (columns n : ℕ) (tests 
       g .reported .labels-is ∙ ap (wrote lab 0) (a .labelled (R .matches) ∙ ap (λ (w : Swept Kept). labelsOf (taskOf q rows .places) (w .matches)) f) in
       let no : notes′ ≡ wrote notes 0 (notesOf (W .state .0)) = g .notes-is ∙ ap (λ (w : Swept Kept). wrote notes 0 (notesOf (w .state .0))) f in
       let tr : trail′ ≡ wrote trail 0 (zeros (length (W .state .0))) = g .trail-is ∙ ap (λ (k : ℕ). wrote trail 0 (zeros k)) (a .counted (length num) (length lab)) in
-      rw (e, full, m, l, st, nu, la, no, tr)
+      rw (e, end, m, l, st, nu, la, no, tr)

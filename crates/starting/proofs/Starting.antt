@@ -14,7 +14,7 @@ use Rattle.rules.specs.Basics.{inRange, isLetter}
 use Rattle.rules.specs.Rows.{Table, Comparison, tableOf, holds}
 use Rattle.rules.specs.Query.{Measure, functionFits, columnsOf, textOf, parts}
 use Rattle.rules.specs.Language.{Tree, pattern, emptyLoop, Written}
-use Rattle.rules.specs.Places.{Place, pFork, unroll, places, placesOf}
+use Rattle.rules.specs.Places.{Place, pLetter, pCaret, pDollar, pFork, pEnd, unroll, places, placesOf}
 use Rattle.rules.specs.Walk.{pairs}
 use Rattle.rules.specs.Search.{Match, walkSearch}
 use Rattle.rules.specs.Report.{fits}
@@ -27,7 +27,9 @@ use Rattle.rules.proofs.Distinct.{thinned, thinned-at, walk-thin}
 use Rattle.rules.proofs.Grammar.{tree-exactly}
 use Rattle.rules.proofs.PatternWalk.{walk-kept}
 use Rattle.rules.proofs.SameLetters.{search-agrees}
-use Rattle.rules.proofs.ThinPlaces.{Spelt, thinned-spelt}
+use Rattle.rules.proofs.ThinPlaces.{Leads, Spelt, thinned-spelt}
+use Rattle.rules.proofs.Rank.{rank}
+use Rattle.table.specs.Table.{placeAt, placesIn}
 use Rattle.decode.specs.Layout.{Decoded}
 use Rattle.define_list.specs.Defines.{Body, definedAt}
 use Rattle.measure_list.specs.Measures.{measureIn, measuresIn}
@@ -35,14 +37,14 @@ use Rattle.forks.specs.Emitting.{Unrolling, Tabled}
 use Rattle.tests.specs.Tests.{Prepared, Preparable, Letters}
 use Rattle.tests.proofs.Uses.{preparable, word-seven, letters-room}
 use Rattle.pairs.specs.Letters.{holdsIn}
-use Rattle.pairs.specs.Tables as W
+use Rattle.pairs.specs.Layout as W
 use Rattle.matches.specs.Asked as S
 use Rattle.matches.specs.Asked.{asked}
 use Rattle.matches.specs.Found.{Measured}
 use Rattle.sweep.specs.Searched.{Searches}
-use Rattle.spread.specs.Spread.{Parts, Parted}
 use Rattle.starting.specs.Starts.{TableRoom, Walks, WalksIn, Runs}
-use Rattle.spread.proofs.Places.{begin-before, cut, cut-count, cut-places, legal-tables}
+use Rattle.places.proofs.Legal.{placed-leads, placed-falls, placed-bound}
+use Rattle.places.proofs.Spelling.{all-letters}
 use Rattle.starting.proofs.Ending.{numbers-thin, labels-of-thin}
 
 -- the column of a measure that fits lies below the columns
@@ -52,10 +54,15 @@ third-part f l c columns e =
     let r : Bool = ltb c columns && (not (eqb f 1) || eqb c 0) in
     and-left (ltb c columns) (not (eqb f 1) || eqb c 0) (and-right (eqb l 0 || isLetter l) r (and-right (inRange 1 6 f) ((eqb l 0 || isLetter l) && r) e))
 
--- a table of the same length is room for as many places; and tables of zeros are
-room-kept : (p : ℕ) (table₀ table : List ℕ) → length table ≡ length table₀ → TableRoom p table₀ → TableRoom p table
-room-kept p table₀ table e r = record { long = omega (arith, r .long); few = omega (arith, r .few) }
+-- the walk's word for where a place leads is the rules'
+same-leads : (P : ℕ) (p : Place) → Leads P p → W.Leads P p
+same-leads P (pLetter c k) l = l
+same-leads P (pCaret k) l = l
+same-leads P (pDollar k) l = l
+same-leads P (pFork ks) l = l
+same-leads P pEnd l = l
 
+-- tables of zeros have room
 small-table : (p : ℕ) → p ≤ 32 → TableRoom p (replicate 224 0)
 small-table p h = let e = length-replicate {A = ℕ} 224 0 in record { long = omega arith; few = omega arith }
 
@@ -64,10 +71,14 @@ large-table p h = let e = length-replicate {A = ℕ} 1792 0 in record { long = o
 
 module _ (q nodes : List ℕ) (top p : ℕ) (rows : List ℤ) (columns n : ℕ) (defines : List ℕ) (letters : ℕ) (ms : List ℕ) (count : ℕ) (mode : Bool) (notes trail : List ℕ)
     (a : Walks q nodes top p rows columns n defines letters ms count mode notes trail) where
+  pub the-lettered : Lettered (a .tree)
+  unfolding treeIn
+  the-lettered = written-letters (tree-exactly (textOf q) (a .tree) .0 (a .has-tree))
+
   -- unrolling
   unfoldable pub may-unroll : (table : List ℕ) → TableRoom p table → Unrolling nodes top p table
   may-unroll table e =
-      record { tree = a .tree; is = a .held; count = a .places-are; few = omega (arith, a .few, a .places-are); long = e .long; small = omega (arith, e .few) }
+      record { tree = a .tree; is = a .held; count = a .places-are; few = omega (arith, a .few, a .places-are); long = e .long; small = omega (arith, e .few); spelt = all-letters (a .tree) the-lettered }
 
   pub in-small : p ≤ 32 → WalksIn (replicate 224 0) q nodes top p rows columns n defines letters ms count mode notes trail
   in-small h = record { room = small-table p h; walks = a }
@@ -98,10 +109,6 @@ module _ (q nodes : List ℕ) (top p : ℕ) (rows : List ℤ) (columns n : ℕ) 
 
   the-places : taskOf q rows .places ≡ places (unroll (a .tree))
   the-places = places-are q rows (a .tree) (a .has-tree)
-
-  the-lettered : Lettered (a .tree)
-  unfolding treeIn
-  the-lettered = written-letters (tree-exactly (textOf q) (a .tree) .0 (a .has-tree))
 
   -- letters by the table of tests are letters by the query
   the-body : (l : ℕ) → l < 26 → (getD defines l 0 ≡ 0 → ⊥) → Body q columns (getD defines l 0)
@@ -149,96 +156,62 @@ module _ (q nodes : List ℕ) (top p : ℕ) (rows : List ℤ) (columns n : ℕ) 
       preparable q columns defines the-body letters (omega (arith, a .columns-are, a .decoded .most)) (omega (arith, a .letters-are, a .decoded .upto))
       (λ l h w. a .decoded .free l (omega (arith, a .letters-are)) w)
 
-  module _ (table₀ table : List ℕ) (end : ℕ) (b : Tabled (a .tree) p table₀ table end) (room : TableRoom p table) where
-    pub few-places : p ≤ 256
-    few-places = omega (arith, a .few, a .places-are)
+  module _ (table₀ table : List ℕ) (end : ℕ) (b : Tabled (a .tree) p table₀ table end) (tests : List ℕ) (t : Prepared q columns n defines tests) where
+    abbrev g : emptyLoop (a .tree) ≡ false
+    g = a .no-loop
 
-    stop-low : (q : ℕ) → q < p → getD table (4 * q + 3) 0 ≤ length table
-    stop-low q h = omega (arith, b .stop q h, b .few .1, room .long)
+    abbrev T : W.Layout
+    T = W.layout table p
 
-    -- spreading
-    pub may-spread : (co ne en st : List ℕ) → length co ≡ 256 → length ne ≡ 256 → length en ≡ 256 → length st ≡ 256 → Parts table p co ne en st
-    may-spread co ne en st lc ln le ls =
+    T-legal : W.Legal T (holdsIn rows columns q tests) n
+    unfolding W.graphOf
+    T-legal =
         record {
-          table = omega (arith, room .long);
-          begin = λ q h z. omega (arith, begin-before table p (a .tree) (a .places-are) (b .is) q h z, stop-low q h);
-          stop = λ q h. omega (arith, stop-low q h, room .few);
-          few = few-places;
-          codes = omega (arith, few-places);
-          nexts = omega (arith, few-places);
-          entries = omega (arith, few-places);
-          stops = omega (arith, few-places);
+          sized = b .sized;
+          leads = λ x h. same-leads p (placeAt table x) (placed-leads table p (a .tree) (a .places-are) (b .is) g x h);
+          ρ = rank (unroll (a .tree)) n;
+          falls = placed-falls table p (a .tree) (a .places-are) (b .is) g (holdsIn rows columns q tests) n;
+          bound = placed-bound table p (a .tree) (a .places-are) (b .is) g (holdsIn rows columns q tests) n;
+          small = few-pairs;
+          rows = a .most;
         }
 
-    module _ (co₀ ne₀ en₀ st₀ co ne en st : List ℕ) (d : Parted table p co₀ ne₀ en₀ st₀ co ne en st) (lc : length co ≡ 256) (ln : length ne ≡ 256) (le : length en ≡ 256) (ls : length st ≡ 256)
-        (tests : List ℕ) (t : Prepared q columns n defines tests) where
-      abbrev g : emptyLoop (a .tree) ≡ false
-      g = a .no-loop
+    T-found : (nums labs : ℕ)
+        → S.searchOf (asked T (holdsIn rows columns q tests) n mode (tableOf columns rows) (measuresIn ms count)) nums labs ≡ walked (taskOf q rows) nums labs
+    unfolding S.searchOf walked
+    T-found nums labs =
+        rw (b .is)
+        (search-agrees (holdsIn rows columns q tests) (letterHolds (taskOf q rows)) (letters-agree tests t) n (thinned (places (unroll (a .tree)))) (thinned-spelt (a .tree) the-lettered) mode (fits nums labs (measuresIn ms count))
+        ∙ walk-thin (unroll (a .tree)) (legal-unroll (a .tree) g) (letterHolds (taskOf q rows)) n mode (fits nums labs (measuresIn ms count))
+        ∙ same-search (places (unroll (a .tree))) (taskOf q rows .places) n (taskOf q rows .table .n) mode (taskOf q rows .mode) (measuresIn ms count) (taskOf q rows .measures) (sym the-places) the-rows the-mode the-measures)
+      where
+        same-search : (pl pl′ : List Place) (m m′ : ℕ) (o o′ : Bool) (x x′ : List Measure) → pl ≡ pl′ → m ≡ m′ → o ≡ o′ → x ≡ x′
+            → walkSearch (letterHolds (taskOf q rows)) m pl o (fits nums labs x) ≡ walkSearch (letterHolds (taskOf q rows)) m′ pl′ o′ (fits nums labs x′)
+        same-search pl pl′ m m′ o o′ x x′ e f h i = rw (e, f, h, i)
 
-      abbrev T : W.Tables
-      T = cut table p co₀ ne₀ en₀ st₀ co ne en st d (omega (arith, few-places)) (omega (arith, few-places)) (omega (arith, few-places)) (omega (arith, few-places)) few-places
+    T-counted : (nums labs : ℕ) → W.N T n ≡ length (walked (taskOf q rows) nums labs .state .0)
+    unfolding walked
+    T-counted nums labs =
+        ap₂ (λ (x y : ℕ). pairs x y) (a .places-are ∙ sym (places-counted (a .tree)) ∙ ap length (sym the-places)) the-rows
+        ∙ sym (rw the-places (walk-kept (unroll (a .tree)) (legal-unroll (a .tree) g) (letterHolds (taskOf q rows)) (taskOf q rows .table .n) (taskOf q rows .mode) (fits nums labs (taskOf q rows .measures))))
 
-      T-count : W.P T ≡ p
-      T-count = cut-count table p co₀ ne₀ en₀ st₀ co ne en st d (omega (arith, few-places)) (omega (arith, few-places)) (omega (arith, few-places)) (omega (arith, few-places)) few-places
+    runs : Runs q T rows columns n tests ms count mode notes trail
+    runs =
+        record {
+          asks = the-letters tests t;
+          searches = record { measured = the-measured; legal = T-legal; noted = a .noted; trailed = a .trailed };
+          found = T-found;
+          numbered = λ k xs. rw (b .is, the-table, the-measures, the-places) (numbers-thin (taskOf q rows .table) (taskOf q rows .measures) (places (unroll (a .tree))) k xs);
+          labelled = λ xs. rw (b .is, the-places) (labels-of-thin (places (unroll (a .tree))) xs);
+          counted = T-counted;
+        }
 
-      T-places : W.placesIn T ≡ thinned (places (unroll (a .tree)))
-      T-places =
-          cut-places table p co₀ ne₀ en₀ st₀ co ne en st d (omega (arith, few-places)) (omega (arith, few-places)) (omega (arith, few-places)) (omega (arith, few-places)) few-places (a .tree) g the-lettered
-          (a .places-are) (b .is)
+  -- as the code calls one after the other
+  module _ (table₀ table : List ℕ) (end : ℕ) (f : (h : Unrolling nodes top p table₀) → Tabled (h .tree) p table₀ table end) (e : TableRoom p table₀) where
+    pub may-keep : length table ≡ length table₀
+    may-keep = f (may-unroll table₀ e) .len
 
-      T-legal : W.Legal T (holdsIn rows columns q tests) n
-      T-legal =
-          legal-tables table p co₀ ne₀ en₀ st₀ co ne en st d (omega (arith, few-places)) (omega (arith, few-places)) (omega (arith, few-places)) (omega (arith, few-places)) few-places (a .tree) g the-lettered
-          (a .places-are) (b .is) (omega (arith, a .places-are, some-place)) (omega (arith, room .few)) (λ q h. omega (arith, stop-low q h)) (holdsIn rows columns q tests) n few-pairs (a .most)
-
-      T-found : (nums labs : ℕ)
-          → S.searchOf (asked T (holdsIn rows columns q tests) n mode (tableOf columns rows) (measuresIn ms count)) nums labs ≡ walked (taskOf q rows) nums labs
-      unfolding S.searchOf walked
-      T-found nums labs =
-          rw (T-places)
-          (search-agrees (holdsIn rows columns q tests) (letterHolds (taskOf q rows)) (letters-agree tests t) n (thinned (places (unroll (a .tree)))) (thinned-spelt (a .tree) the-lettered) mode (fits nums labs (measuresIn ms count))
-          ∙ walk-thin (unroll (a .tree)) (legal-unroll (a .tree) g) (letterHolds (taskOf q rows)) n mode (fits nums labs (measuresIn ms count))
-          ∙ same-search (places (unroll (a .tree))) (taskOf q rows .places) n (taskOf q rows .table .n) mode (taskOf q rows .mode) (measuresIn ms count) (taskOf q rows .measures) (sym the-places) the-rows the-mode the-measures)
-        where
-          same-search : (pl pl′ : List Place) (m m′ : ℕ) (o o′ : Bool) (x x′ : List Measure) → pl ≡ pl′ → m ≡ m′ → o ≡ o′ → x ≡ x′
-              → walkSearch (letterHolds (taskOf q rows)) m pl o (fits nums labs x) ≡ walkSearch (letterHolds (taskOf q rows)) m′ pl′ o′ (fits nums labs x′)
-          same-search pl pl′ m m′ o o′ x x′ e f h i = rw (e, f, h, i)
-
-      T-counted : (nums labs : ℕ) → W.N T n ≡ length (walked (taskOf q rows) nums labs .state .0)
-      unfolding walked
-      T-counted nums labs =
-          ap (λ (k : ℕ). pairs k n) T-count
-          ∙ ap₂ (λ (x y : ℕ). pairs x y) (a .places-are ∙ sym (places-counted (a .tree)) ∙ ap length (sym the-places)) the-rows
-          ∙ sym (rw the-places (walk-kept (unroll (a .tree)) (legal-unroll (a .tree) g) (letterHolds (taskOf q rows)) (taskOf q rows .table .n) (taskOf q rows .mode) (fits nums labs (taskOf q rows .measures))))
-
-      pub runs : Runs q T rows columns n tests ms count mode notes trail
-      runs =
-          record {
-            searches = record { measured = the-measured; legal = T-legal; asks = the-letters tests t; noted = rw T-count (a .noted); trailed = rw T-count (a .trailed) };
-            found = T-found;
-            numbered = λ k xs. rw (T-places, the-table, the-measures, the-places) (numbers-thin (taskOf q rows .table) (taskOf q rows .measures) (places (unroll (a .tree))) k xs);
-            labelled = λ xs. rw (T-places, the-places) (labels-of-thin (places (unroll (a .tree))) xs);
-            counted = T-counted;
-          }
-
-  -- as the code spreads its arrays
-  pub may-keep : (table₀ table : List ℕ) (end : ℕ) → ((h : Unrolling nodes top p table₀) → Tabled (h .tree) p table₀ table end) → TableRoom p table₀ → length table ≡ length table₀
-  may-keep table₀ table end f e = f (may-unroll table₀ e) .len
-
-  pub may-cut : p ≤ 256
-  may-cut = omega (arith, a .few, a .places-are)
-
-  pub may-part : (table₀ table : List ℕ) (end : ℕ) → ((h : Unrolling nodes top p table₀) → Tabled (h .tree) p table₀ table end) → TableRoom p table₀
-      → (co ne en st : List ℕ) → length co ≡ 256 → length ne ≡ 256 → length en ≡ 256 → length st ≡ 256 → Parts table p co ne en st
-  unfolding may-unroll
-  may-part table₀ table end f e co ne en st lc ln le ls = let b = f (may-unroll table₀ e) in may-spread table₀ table end b (room-kept p table₀ table (b .len) e) co ne en st lc ln le ls
-
-  pub may-run : (table₀ table : List ℕ) (end : ℕ) → ((h : Unrolling nodes top p table₀) → Tabled (h .tree) p table₀ table end) → TableRoom p table₀
-      → (co₀ ne₀ en₀ st₀ co ne en st : List ℕ) → Parted table p co₀ ne₀ en₀ st₀ co ne en st → length co₀ ≡ 256 → length ne₀ ≡ 256 → length en₀ ≡ 256 → length st₀ ≡ 256
-      → (tests : List ℕ) → Prepared q columns n defines tests
-      → Runs q (W.tables (take (p - 0) (drop 0 co)) (take (p - 0) (drop 0 ne)) (take (p - 0) (drop 0 en)) (take (p - 0) (drop 0 st)) table) rows columns n tests ms count mode notes trail
-  unfolding may-unroll
-  may-run table₀ table end f e co₀ ne₀ en₀ st₀ co ne en st d lc ln le ls tests t =
-      let b = f (may-unroll table₀ e) in
-      let z : p - 0 ≡ p = omega arith in
-      rw z (runs table₀ table end b (room-kept p table₀ table (b .len) e) co₀ ne₀ en₀ st₀ co ne en st d (d .codes .long ∙ lc) (d .nexts .long ∙ ln) (d .entries .long ∙ le) (d .stops .long ∙ ls) tests t)
+    module _ (tests : List ℕ) (t : Prepared q columns n defines tests) where
+      pub may-run : Runs q (W.layout table p) rows columns n tests ms count mode notes trail
+      unfolding may-unroll
+      may-run = runs table₀ table end (f (may-unroll table₀ e)) tests t

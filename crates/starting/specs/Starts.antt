@@ -19,7 +19,8 @@ use Rattle.decode.specs.Layout.{Decoded}
 use Rattle.decode.specs.declared.Parts.{Parts}
 use Rattle.rules.specs.Search.{Match}
 use Rattle.rules.specs.Report.{numbersOf, labelsOf}
-use Rattle.pairs.specs.Tables.{Tables, N, placesIn}
+use Rattle.pairs.specs.Layout.{Layout, P, N}
+use Rattle.table.specs.Table.{placesIn}
 use Rattle.tests.specs.Tests.{Letters}
 use Rattle.pairs.specs.Letters.{holdsIn}
 use Rattle.matches.specs.Asked as S
@@ -62,10 +63,11 @@ pub record WalksIn (table q nodes : List ℕ) (top places : ℕ) (rows : List �
   pub room : TableRoom places table
   pub walks : Walks q nodes top places rows columns n defines letters ms count mode notes trail
 
--- what all starts over tables ask: legal tables, letters and measures that can be read, working room; and that they stand for the query's search
-pub record Runs (q : List ℕ) (T : Tables) (rows : List ℤ) (columns n : ℕ) (tests ms : List ℕ) (count : ℕ) (mode : Bool) (notes trail : List ℕ) : Type 0 where
-  pub searches : Searches (asked T (holdsIn rows columns q tests) n mode (tableOf columns rows) (measuresIn ms count)) (Letters tests q rows columns n) ms count rows columns notes trail
+-- what all starts over a table ask: a legal table, letters and measures that can be read, working room; and that they stand for the query's search
+pub record Runs (q : List ℕ) (T : Layout) (rows : List ℤ) (columns n : ℕ) (tests ms : List ℕ) (count : ℕ) (mode : Bool) (notes trail : List ℕ) : Type 0 where
+  pub asks : Letters tests q rows columns n
+  pub searches : Searches (asked T (holdsIn rows columns q tests) n mode (tableOf columns rows) (measuresIn ms count)) ms count rows columns notes trail
   pub found : (nums labs : ℕ) → S.searchOf (asked T (holdsIn rows columns q tests) n mode (tableOf columns rows) (measuresIn ms count)) nums labs ≡ walked (taskOf q rows) nums labs
-  pub numbered : (k : ℕ) (xs : List Match) → numbersOf (tableOf columns rows) (measuresIn ms count) (placesIn T) k xs ≡ numbersOf (taskOf q rows .table) (taskOf q rows .measures) (taskOf q rows .places) k xs
-  pub labelled : (xs : List Match) → labelsOf (placesIn T) xs ≡ labelsOf (taskOf q rows .places) xs
+  pub numbered : (k : ℕ) (xs : List Match) → numbersOf (tableOf columns rows) (measuresIn ms count) (placesIn (T .words) (P T)) k xs ≡ numbersOf (taskOf q rows .table) (taskOf q rows .measures) (taskOf q rows .places) k xs
+  pub labelled : (xs : List Match) → labelsOf (placesIn (T .words) (P T)) xs ≡ labelsOf (taskOf q rows .places) xs
   pub counted : (nums labs : ℕ) → N T n ≡ length (walked (taskOf q rows) nums labs .state .0)

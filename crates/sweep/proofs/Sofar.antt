@@ -10,7 +10,7 @@ use lib.IntN.{ℤ}
 use lib.ListN.{length, getD, replicate, length-append}
 use borrow.Author.Tests.{lt-ltb, le-ltb}
 use Rattle.rules.specs.Answers.{stopped}
-use Rattle.rules.specs.Basics.{wrote}
+use Rattle.rules.specs.Basics.{pick, wrote}
 use Rattle.rules.specs.Report.{bitAt, matchNumbers, numbersOf, labelsOf, fits}
 use Rattle.rules.specs.Search.{Match, Swept, Plan, Kept, sweep, byFit, onAnswer, withMatch, walkAt, labels, endOf, nextStart, planOf, walkSearch}
 use Rattle.rules.specs.Walk.{pairs, firstAt, pairWays}
@@ -18,7 +18,7 @@ use Rattle.rules.proofs.Appended.{wrote-none, wrote-on, length-wrote-at, number
 use Rattle.rules.proofs.Limits.{numbers-long}
 use Rattle.rules.proofs.Notes.{bitsOf}
 use Rattle.rules.proofs.Starts.{next-on}
-use Rattle.pairs.specs.Tables.{N, graphOf}
+use Rattle.pairs.specs.Layout.{P, N, graphOf}
 use Rattle.pairs.proofs.Ways.{in-length}
 use Rattle.matches.specs.declared.Sweep.{Sweep}
 use Rattle.matches.specs.Asked.{Asked, pl, width, searchOf}
@@ -36,11 +36,11 @@ swp A nums labs k i m l kept =
     (planOf (pl A) (A .n) (A .mode) (fits nums labs (A .measures))) k i m l kept
 
 abbrev pub M : Asked → ℕ
-M A = N (A .tables) (A .n)
+M A = N (A .layout) (A .n)
 
-pub record SoFar (A : Asked) (Q : Type 0) (ms : List ℕ) (count : ℕ) (rows : List ℤ) (columns : ℕ) (n₁ t₁ : List ℕ) (num₁ : List ℤ) (lab₁ : List ℕ)
+pub record SoFar (A : Asked) (ms : List ℕ) (count : ℕ) (rows : List ℤ) (columns : ℕ) (n₁ t₁ : List ℕ) (num₁ : List ℤ) (lab₁ : List ℕ)
     (notes trail : List ℕ) (numbers : List ℤ) (labs : List ℕ) (i : Sweep) : Type 0 where
-  pub searches : Searches A Q ms count rows columns n₁ t₁
+  pub searches : Searches A ms count rows columns n₁ t₁
   pub notes-long : length notes ≡ length n₁
   pub trail-long : length trail ≡ length t₁
   pub notes-beyond : (z : ℕ) → M A ≤ z → bitAt notes z ≡ bitAt n₁ z
@@ -50,8 +50,10 @@ pub record SoFar (A : Asked) (Q : Type 0) (ms : List ℕ) (count : ℕ) (rows : 
   pub rest : Swept Kept
   pub enough : A .n ≤ i .row + fuel
   pub total : pre done rest ≡ searchOf A (length num₁) (length lab₁)
-  pub going : i .full ≡ false → rest ≡ swp A (length num₁) (length lab₁) fuel (i .row) (i .matches) (i .labels) (bitsOf notes (M A), i .steps)
-  pub over : i .full ≡ true → (i .row ≡ A .n) × ((t : Match) × (rest ≡ record { matches = []; full = some t; state = (bitsOf notes (M A), i .steps) }))
+  pub stop : Bool
+  pub end-is : i .end ≡ pick stop 13 0
+  pub going : stop ≡ false → rest ≡ swp A (length num₁) (length lab₁) fuel (i .row) (i .matches) (i .labels) (bitsOf notes (M A), i .steps)
+  pub over : stop ≡ true → (i .row ≡ A .n) × ((t : Match) × (rest ≡ record { matches = []; full = some t; state = (bitsOf notes (M A), i .steps) }))
   pub m-is : i .matches ≡ length done
   pub l-is : i .labels ≡ length (labelsOf (pl A) done)
   pub numbers-is : numbers ≡ wrote num₁ 0 (numbersOf (A .rows) (A .measures) (pl A) 0 done)
@@ -75,14 +77,14 @@ sweep-off att plan (suc k) i m l kept h = rw (le-ltb i (plan .n) h)
 one-more : (ms : List Match) (t : Match) (r : Swept Kept) → pre (ms ++ (t ∷ [])) r ≡ pre ms (withMatch t r)
 one-more ms t r = ap (λ (l : List Match). record { matches = l; full = r .full; state = r .state }) (append-assoc ms (t ∷ []) (r .matches))
 
-module _ (A : Asked) (Q : Type 0) (ms : List ℕ) (count : ℕ) (rows : List ℤ) (columns : ℕ) (n₁ t₁ : List ℕ) (num₁ : List ℤ) (lab₁ : List ℕ) where
+module _ (A : Asked) (ms : List ℕ) (count : ℕ) (rows : List ℤ) (columns : ℕ) (n₁ t₁ : List ℕ) (num₁ : List ℤ) (lab₁ : List ℕ) where
   abbrev sw : ℕ → ℕ → ℕ → ℕ → Kept → Swept Kept
   sw = swp A (length num₁) (length lab₁)
 
   abbrev fit : ℕ → ℕ → List ℕ → Bool
   fit = fits (length num₁) (length lab₁) (A .measures)
 
-  pub so-none : Starts A Q ms count rows columns n₁ t₁ → SoFar A Q ms count rows columns n₁ t₁ num₁ lab₁ n₁ t₁ num₁ lab₁ (record { full = false; row = 0; matches = 0; labels = 0; steps = 0 })
+  pub so-none : Starts A ms count rows columns n₁ t₁ → SoFar A ms count rows columns n₁ t₁ num₁ lab₁ n₁ t₁ num₁ lab₁ (record { end = 0; row = 0; matches = 0; labels = 0; steps = 0 })
   unfolding searchOf walkSearch numbersOf labelsOf
   so-none h =
       record {
@@ -96,7 +98,9 @@ module _ (A : Asked) (Q : Type 0) (ms : List ℕ) (count : ℕ) (rows : List ℤ
         rest = sw (A .n) 0 0 0 (replicate (pairs (length (pl A)) (A .n)) false, 0);
         enough = omega arith;
         total = refl;
-        going = λ _. rw (in-length (A .tables), h .none-failed);
+        stop = false;
+        end-is = refl;
+        going = λ _. rw (in-length (A .layout .words) (P (A .layout)), h .none-failed);
         over = λ e. absurd (false≢true e);
         m-is = refl;
         l-is = refl;
@@ -108,7 +112,7 @@ module _ (A : Asked) (Q : Type 0) (ms : List ℕ) (count : ℕ) (rows : List ℤ
         steps = omega arith;
       }
 
-  module _ (notes trail : List ℕ) (numbers : List ℤ) (labs : List ℕ) (i : Sweep) (h : SoFar A Q ms count rows columns n₁ t₁ num₁ lab₁ notes trail numbers labs i) where
+  module _ (notes trail : List ℕ) (numbers : List ℤ) (labs : List ℕ) (i : Sweep) (h : SoFar A ms count rows columns n₁ t₁ num₁ lab₁ notes trail numbers labs i) where
     abbrev F : List Bool
     F = bitsOf notes (M A)
 
@@ -132,12 +136,11 @@ module _ (A : Asked) (Q : Type 0) (ms : List ℕ) (count : ℕ) (rows : List ℤ
           let d = h .steps in
           omega arith
 
-      pub so-visits : Visits A Q ms count rows columns notes trail labs i
+      pub so-visits : Visits A ms count rows columns notes trail labs i
       so-visits =
           record {
             measured = h .searches .measured;
             legal = h .searches .legal;
-            asks = h .searches .asks;
             noted = rw (h .notes-long) (h .searches .noted);
             trailed = rw (h .trail-long) (h .searches .trailed);
             row = lt;
@@ -146,10 +149,10 @@ module _ (A : Asked) (Q : Type 0) (ms : List ℕ) (count : ℕ) (rows : List ℤ
             labels = rw so-labels (h .labs-le);
           }
 
-      not-full : i .full ≡ false
-      not-full = go (i .full) refl
+      not-full : h .stop ≡ false
+      not-full = go (h .stop) refl
         where
-          go : (b : Bool) → i .full ≡ b → i .full ≡ false
+          go : (b : Bool) → h .stop ≡ b → h .stop ≡ false
           go true e = absurd (let r = h .over e .0 in omega arith)
           go false e = e
 
@@ -161,7 +164,7 @@ module _ (A : Asked) (Q : Type 0) (ms : List ℕ) (count : ℕ) (rows : List ℤ
 
       att-same : defAtt ≡ att
       unfolding graphOf
-      att-same = rw (in-length (A .tables))
+      att-same = rw (in-length (A .layout .words) (P (A .layout)))
 
       abbrev plan : Plan
       plan = planOf (pl A) (A .n) (A .mode) fit
@@ -177,7 +180,7 @@ module _ (A : Asked) (Q : Type 0) (ms : List ℕ) (count : ℕ) (rows : List ℤ
 
       module _ (notes′ trail′ : List ℕ) (numbers′ : List ℤ) (labs′ : List ℕ) (r : Sweep) (v : Visited A notes notes′ trail trail′ numbers numbers′ labs labs′ i r) where
         abbrev Goal : Sweep → Type 0
-        Goal q = SoFar A Q ms count rows columns n₁ t₁ num₁ lab₁ notes′ trail′ numbers′ labs′ q
+        Goal q = SoFar A ms count rows columns n₁ t₁ num₁ lab₁ notes′ trail′ numbers′ labs′ q
 
         module _ (k : ℕ) (ek : h .fuel ≡ suc k) (F′ : List Bool) (s′ : ℕ) (eF : bitsOf notes′ (M A) ≡ F′) (ls : s′ ≤ i .steps + M A) where
           by-row : (j : ℕ) → suc (i .row) ≤ j → s′ ≤ j * M A
@@ -188,7 +191,7 @@ module _ (A : Asked) (Q : Type 0) (ms : List ℕ) (count : ℕ) (rows : List ℤ
               omega arith
 
           -- no match
-          quiet-on : att ≡ (none, (F′, s′)) → Quiet numbers numbers′ labs labs′ r (swept false (i .row + 1) (i .matches) (i .labels) s′) → Goal r
+          quiet-on : att ≡ (none, (F′, s′)) → Quiet numbers numbers′ labs labs′ r (swept 0 (i .row + 1) (i .matches) (i .labels) s′) → Goal r
           quiet-on ea q =
               let e : h .rest ≡ sw k (suc (i .row)) (i .matches) (i .labels) (F′, s′) =
               rest-is k ek ∙ ap (λ (a : Option (List ℕ) × Kept). onAnswer plan (sw k) (i .row) (i .matches) (i .labels) (a .0) (a .1)) ea in
@@ -206,6 +209,8 @@ module _ (A : Asked) (Q : Type 0) (ms : List ℕ) (count : ℕ) (rows : List ℤ
                 rest = h .rest;
                 enough = omega arith;
                 total = h .total;
+                stop = false;
+                end-is = refl;
                 going = λ _. rw (eF, o) e;
                 over = λ c. absurd (false≢true c);
                 m-is = h .m-is;
@@ -234,7 +239,7 @@ module _ (A : Asked) (Q : Type 0) (ms : List ℕ) (count : ℕ) (rows : List ℤ
                 ∙ ap (λ (c : Bool). byFit c t (F′, s′) (λ _. sw k nx (suc (i .matches)) (i .labels + length (labels (pl A) p)) (F′, s′))) eb
 
             -- a match that does not fit
-            full-on : fit (i .matches) (i .labels) (labels (pl A) p) ≡ false → Quiet numbers numbers′ labs labs′ r (swept true (A .n) (i .matches) (i .labels) s′) → Goal r
+            full-on : fit (i .matches) (i .labels) (labels (pl A) p) ≡ false → Quiet numbers numbers′ labs labs′ r (swept 13 (A .n) (i .matches) (i .labels) s′) → Goal r
             full-on eb q =
                 let fw = h .few in
                 subst (λ (z : Sweep). Goal z) (sym (q .sweep-is)) (record {
@@ -248,6 +253,8 @@ module _ (A : Asked) (Q : Type 0) (ms : List ℕ) (count : ℕ) (rows : List ℤ
                   rest = h .rest;
                   enough = omega arith;
                   total = h .total;
+                  stop = true;
+                  end-is = refl;
                   going = λ c. absurd (true≢false c);
                   over = λ _. (refl, (t, rw eF (rest-fit false eb)));
                   m-is = h .m-is;
@@ -262,7 +269,7 @@ module _ (A : Asked) (Q : Type 0) (ms : List ℕ) (count : ℕ) (rows : List ℤ
 
             -- a match that fits
             fit-on : fit (i .matches) (i .labels) (labels (pl A) p) ≡ true
-                → Written A p i numbers numbers′ labs labs′ r (swept false nx (i .matches + 1) (i .labels + length (labels (pl A) p)) s′) → Goal r
+                → Written A p i numbers numbers′ labs labs′ r (swept 0 nx (i .matches + 1) (i .labels + length (labels (pl A) p)) s′) → Goal r
             fit-on eb q =
                 let o : i .matches + 1 ≡ suc (i .matches) = omega arith in
                 let en = h .enough in
@@ -282,6 +289,8 @@ module _ (A : Asked) (Q : Type 0) (ms : List ℕ) (count : ℕ) (rows : List ℤ
                   rest = sw k nx (suc (i .matches)) (i .labels + length (labels (pl A) p)) (F′, s′);
                   enough = omega arith;
                   total = one-more (h .done) t (sw k nx (suc (i .matches)) (i .labels + length (labels (pl A) p)) (F′, s′)) ∙ ap (pre (h .done)) (sym (rest-fit true eb)) ∙ h .total;
+                  stop = false;
+                  end-is = refl;
                   going = λ _. rw (eF, o);
                   over = λ c. absurd (false≢true c);
                   m-is = simp length-append (omega arith);
@@ -294,7 +303,7 @@ module _ (A : Asked) (Q : Type 0) (ms : List ℕ) (count : ℕ) (rows : List ℤ
                   steps = by-row nx ge;
                 })
               where
-                numbers-at : Written A p i numbers numbers′ labs labs′ r (swept false nx (i .matches + 1) (i .labels + length (labels (pl A) p)) s′)
+                numbers-at : Written A p i numbers numbers′ labs labs′ r (swept 0 nx (i .matches + 1) (i .labels + length (labels (pl A) p)) s′)
                     → numbers′ ≡ wrote num₁ 0 (numbersOf (A .rows) (A .measures) (pl A) 0 (h .done ++ (t ∷ [])))
                 numbers-at q =
                     let vs : List ℤ = numbersOf (A .rows) (A .measures) (pl A) 0 (h .done) in
@@ -308,7 +317,7 @@ module _ (A : Asked) (Q : Type 0) (ms : List ℕ) (count : ℕ) (rows : List ℤ
                     ∙ ap (λ (z : ℕ). wrote num₁ 0 (vs ++ new z)) b
                     ∙ ap (wrote num₁ 0) (sym (numbers-on (A .rows) (A .measures) (pl A) 0 (h .done) t))
 
-                labels-at : Written A p i numbers numbers′ labs labs′ r (swept false nx (i .matches + 1) (i .labels + length (labels (pl A) p)) s′)
+                labels-at : Written A p i numbers numbers′ labs labs′ r (swept 0 nx (i .matches + 1) (i .labels + length (labels (pl A) p)) s′)
                     → labs′ ≡ wrote lab₁ 0 (labelsOf (pl A) (h .done ++ (t ∷ [])))
                 labels-at q =
                     let c = h .labs-le in
@@ -332,7 +341,7 @@ module _ (A : Asked) (Q : Type 0) (ms : List ℕ) (count : ℕ) (rows : List ℤ
         by-fuel zero e = absurd (let en = h .enough in omega arith)
         by-fuel (suc k) e = by-att k e (att .1 .0) (att .1 .1) (v .kept) (v .more) (att .0) refl (v .told)
 
-        pub so-more : SoFar A Q ms count rows columns n₁ t₁ num₁ lab₁ notes′ trail′ numbers′ labs′ r
+        pub so-more : SoFar A ms count rows columns n₁ t₁ num₁ lab₁ notes′ trail′ numbers′ labs′ r
         so-more = by-fuel (h .fuel) refl
 
         up-fit : (b : Bool) (p : List ℕ) (s : ℕ) → ToldBy b A p i s numbers numbers′ labs labs′ r → i .row < r .row
@@ -350,13 +359,13 @@ module _ (A : Asked) (Q : Type 0) (ms : List ℕ) (count : ℕ) (rows : List ℤ
     isFull none = false
     isFull (some t) = true
 
-    done-by : (o : Option Match) → h .rest ≡ record { matches = []; full = o; state = (F, i .steps) } → i .full ≡ isFull o → Searched A n₁ t₁ num₁ lab₁ notes trail numbers labs i
+    done-by : (o : Option Match) → h .rest ≡ record { matches = []; full = o; state = (F, i .steps) } → h .stop ≡ isFull o → Searched A n₁ t₁ num₁ lab₁ notes trail numbers labs i
     unfolding stopped
     done-by o er ef =
         let w : searchOf A (length num₁) (length lab₁) ≡ record { matches = h .done; full = o; state = (F, i .steps) } =
         sym (h .total) ∙ ap (pre (h .done)) er ∙ ap (λ (l : List Match). record { matches = l; full = o; state = (F, i .steps) }) (append-nil (h .done)) in
         record {
-          reported = rw w (record { full = ef ∙ full-is o; matches = h .m-is; labels = h .l-is; steps = refl; numbers-is = h .numbers-is; labels-is = h .labels-is });
+          reported = rw w (record { end = h .end-is ∙ ap (λ (b : Bool). pick b 13 0) (ef ∙ full-is o); matches = h .m-is; labels = h .l-is; steps = refl; numbers-is = h .numbers-is; labels-is = h .labels-is });
           kept = rw w;
           notes-long = h .notes-long;
           trail-long = h .trail-long;
@@ -370,9 +379,9 @@ module _ (A : Asked) (Q : Type 0) (ms : List ℕ) (count : ℕ) (rows : List ℤ
 
     pub so-all : A .n ≤ i .row → Searched A n₁ t₁ num₁ lab₁ notes trail numbers labs i
     unfolding planOf
-    so-all ge = go (i .full) refl
+    so-all ge = go (h .stop) refl
       where
-        go : (b : Bool) → i .full ≡ b → Searched A n₁ t₁ num₁ lab₁ notes trail numbers labs i
+        go : (b : Bool) → h .stop ≡ b → Searched A n₁ t₁ num₁ lab₁ notes trail numbers labs i
         go true e = done-by (some (h .over e .1 .0)) (h .over e .1 .1) e
         go false e =
             done-by none (h .going e ∙ sweep-off (walkAt (pairWays (A .holds) (A .n) (pl A)) (pairs (length (pl A)) (A .n)) (firstAt (length (pl A))))

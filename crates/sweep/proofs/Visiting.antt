@@ -13,7 +13,7 @@ use Rattle.rules.specs.Walk.{Ways, accept, try, Outcome, found, failed, close, 
 use Rattle.rules.proofs.Notes.{bitsOf, bitsFrom-length}
 use Rattle.rules.proofs.Walk.{InsidePost, inside-post}
 use Rattle.pairs.specs.declared.Walk.{Walk}
-use Rattle.pairs.specs.Tables.{Tables, P, N, graphOf}
+use Rattle.pairs.specs.Layout.{Layout, P, N, graphOf}
 use Rattle.pairs.specs.Step.{pairIn, stack, outcomeBy}
 use Rattle.pairs.specs.State.{Ready, Done}
 use Rattle.pairs.proofs.Trails.{stack-length}
@@ -88,12 +88,12 @@ module _ (P : ℕ) (ρ : ℕ → ℕ) (N : ℕ) (F : List Bool) (s x : ℕ) (tra
 
 -- ---- the start
 
-module _ (A : Asked) (Q : Type 0) (ms : List ℕ) (count : ℕ) (rows : List ℤ) (columns : ℕ) (notes trail labs : List ℕ) (i : Sweep) (h : Visits A Q ms count rows columns notes trail labs i) where
-  abbrev T : Tables
-  T = A .tables
+module _ (A : Asked) (ms : List ℕ) (count : ℕ) (rows : List ℤ) (columns : ℕ) (notes trail labs : List ℕ) (i : Sweep) (h : Visits A ms count rows columns notes trail labs i) where
+  abbrev T : Layout
+  T = A .layout
 
   abbrev M : ℕ
-  M = N (A .tables) (A .n)
+  M = N (A .layout) (A .n)
 
   abbrev F : List Bool
   F = bitsOf notes M
@@ -101,8 +101,8 @@ module _ (A : Asked) (Q : Type 0) (ms : List ℕ) (count : ℕ) (rows : List ℤ
   abbrev att : Option (List ℕ) × Kept
   att = attemptAt A F (i .steps) (i .row)
 
-  pub visit-ready : Ready T (A .holds) (A .n) Q notes trail (i .row) (i .steps)
-  visit-ready = record { legal = h .legal; asks = h .asks; noted = h .noted; trailed = h .trailed; row = h .row; steps = h .steps }
+  pub visit-ready : Ready T (A .holds) (A .n) notes trail (i .row) (i .steps)
+  visit-ready = record { legal = h .legal; noted = h .noted; trailed = h .trailed; row = h .row; steps = h .steps }
 
   pub visit-row : i .row + 1 < 4294967296
   visit-row = let a = h .row in let b = h .measured .few-rows in omega arith
@@ -110,7 +110,7 @@ module _ (A : Asked) (Q : Type 0) (ms : List ℕ) (count : ℕ) (rows : List ℤ
   first-below : i .row * P T < M
   first-below = let a = pair-in (P T) (A .n) 0 (i .row) (i .row * P T) refl (h .legal .sized .some) (let r = h .row in omega arith) in omega arith
 
-  module _ (notes₁ trail₁ : List ℕ) (w : Walk) (d : Done T (A .holds) (A .n) Q notes trail (i .row) (i .steps) notes₁ trail₁ w) where
+  module _ (notes₁ trail₁ : List ℕ) (w : Walk) (d : Done T (A .holds) (A .n) notes trail (i .row) (i .steps) notes₁ trail₁ w) where
     abbrev F₁ : List Bool
     F₁ = bitsOf notes₁ M
 
@@ -118,7 +118,7 @@ module _ (A : Asked) (Q : Type 0) (ms : List ℕ) (count : ℕ) (rows : List ℤ
     att-is = ap answered (d .same)
 
     room : w .top + countTrue F₁ ≤ M
-    room = good-room T (A .holds) (A .n) Q notes₁ trail₁ w (d .reached .good)
+    room = good-room T (A .holds) (A .n) notes₁ trail₁ w (d .reached .good)
 
     steps-more : w .steps ≤ i .steps + M
     steps-more = go (getD F (i .row * P T) false) refl (d .same)
@@ -130,7 +130,7 @@ module _ (A : Asked) (Q : Type 0) (ms : List ℕ) (count : ℕ) (rows : List ℤ
             steps-by (P T) (h .legal .ρ) M F (i .steps) (i .row * P T) trail₁ F₁ (w .steps) (w .top) room (rw e at p)
 
     pub visit-none : (numbers : List ℤ) → w .top ≡ 0
-        → Visited A notes notes₁ trail trail₁ numbers numbers labs labs i (record { full = false; row = i .row + 1; matches = i .matches; labels = i .labels; steps = w .steps })
+        → Visited A notes notes₁ trail trail₁ numbers numbers labs labs i (record { end = 0; row = i .row + 1; matches = i .matches; labels = i .labels; steps = w .steps })
     unfolding outcomeBy
     visit-none numbers t =
         let a : att ≡ (none, (F₁, w .steps)) = att-is ∙ ap (λ (k : ℕ). answered (outcomeBy (P T) k trail₁ F₁ (w .steps))) t in
@@ -165,7 +165,7 @@ module _ (A : Asked) (Q : Type 0) (ms : List ℕ) (count : ℕ) (rows : List ℤ
             last = d .last going .end;
             bottom = head-out (P T) trail₁ F₁ (w .steps) (i .row * P T) (w .top) going (rw (d .same) at (enter-head (getD F (i .row * P T) false) (graphOf T (A .holds) (A .n)) M F (i .steps) (i .row * P T)));
             row = h .row;
-            behind = rw (d .last going .spot .row) at (top-row T (A .holds) (A .n) Q notes₁ trail₁ w g going);
+            behind = rw (d .last going .spot .row) at (top-row T (A .holds) (A .n) notes₁ trail₁ w g going);
             few = h .few;
             labels = h .labels;
           }

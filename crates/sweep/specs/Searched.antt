@@ -6,31 +6,30 @@ use Prim.Native.Nat.{ℕ, _*_, _≤_}
 use lib.IntN.{ℤ}
 use lib.ListN.{length, getD, replicate}
 use Rattle.rules.specs.Answers.{stopped}
-use Rattle.rules.specs.Basics.{wrote}
+use Rattle.rules.specs.Basics.{pick, wrote}
 use Rattle.rules.specs.Report.{bitAt, numbersOf, labelsOf, notesOf, zeros}
 use Rattle.rules.specs.Search.{Swept, Kept}
 use Rattle.rules.proofs.Notes.{bitsOf}
-use Rattle.pairs.specs.Tables.{N, Legal}
+use Rattle.pairs.specs.Layout.{N, Legal}
 use Rattle.matches.specs.declared.Sweep.{Sweep}
 use Rattle.matches.specs.Asked.{Asked, pl, searchOf}
 use Rattle.matches.specs.Found.{Measured}
 
--- what a search asks: legal tables, what the test of a letter asks (Q), measures that can be read, and working room
-pub record Searches (A : Asked) (Q : Type 0) (ms : List ℕ) (count : ℕ) (rows : List ℤ) (columns : ℕ) (notes trail : List ℕ) : Type 0 where
+-- what a search asks: legal tables, measures that can be read, and working room
+pub record Searches (A : Asked) (ms : List ℕ) (count : ℕ) (rows : List ℤ) (columns : ℕ) (notes trail : List ℕ) : Type 0 where
   pub measured : Measured ms count rows columns (A .n)
-  pub legal : Legal (A .tables) (A .holds) (A .n)
-  pub asks : Q
-  pub noted : N (A .tables) (A .n) ≤ 8 * length notes
-  pub trailed : N (A .tables) (A .n) ≤ length trail
+  pub legal : Legal (A .layout) (A .holds) (A .n)
+  pub noted : N (A .layout) (A .n) ≤ 8 * length notes
+  pub trailed : N (A .layout) (A .n) ≤ length trail
 
 -- and the loop over the starts: no pair has failed
-pub record Starts (A : Asked) (Q : Type 0) (ms : List ℕ) (count : ℕ) (rows : List ℤ) (columns : ℕ) (notes trail : List ℕ) : Type 0 where
-  pub searches : Searches A Q ms count rows columns notes trail
-  pub none-failed : bitsOf notes (N (A .tables) (A .n)) ≡ replicate (N (A .tables) (A .n)) false
+pub record Starts (A : Asked) (ms : List ℕ) (count : ℕ) (rows : List ℤ) (columns : ℕ) (notes trail : List ℕ) : Type 0 where
+  pub searches : Searches A ms count rows columns notes trail
+  pub none-failed : bitsOf notes (N (A .layout) (A .n)) ≡ replicate (N (A .layout) (A .n)) false
 
 -- the counts and the report of the definition's search W
 pub record Reported (A : Asked) (W : Swept Kept) (num₁ : List ℤ) (lab₁ : List ℕ) (numbers : List ℤ) (labs : List ℕ) (r : Sweep) : Type 0 where
-  pub full : r .full ≡ stopped W
+  pub end : r .end ≡ pick (stopped W) 13 0
   pub matches : r .matches ≡ length (W .matches)
   pub labels : r .labels ≡ length (labelsOf (pl A) (W .matches))
   pub steps : r .steps ≡ W .state .1
@@ -40,14 +39,14 @@ pub record Reported (A : Asked) (W : Swept Kept) (num₁ : List ℤ) (lab₁ : L
 -- what the loop over the starts leaves
 pub record Searched (A : Asked) (n₁ t₁ : List ℕ) (num₁ : List ℤ) (lab₁ : List ℕ) (notes trail : List ℕ) (numbers : List ℤ) (labs : List ℕ) (r : Sweep) : Type 0 where
   pub reported : Reported A (searchOf A (length num₁) (length lab₁)) num₁ lab₁ numbers labs r
-  pub kept : bitsOf notes (N (A .tables) (A .n)) ≡ (searchOf A (length num₁) (length lab₁)) .state .0
+  pub kept : bitsOf notes (N (A .layout) (A .n)) ≡ (searchOf A (length num₁) (length lab₁)) .state .0
   pub notes-long : length notes ≡ length n₁
   pub trail-long : length trail ≡ length t₁
-  pub notes-beyond : (z : ℕ) → N (A .tables) (A .n) ≤ z → bitAt notes z ≡ bitAt n₁ z
-  pub trail-beyond : (k : ℕ) → N (A .tables) (A .n) ≤ k → getD trail k 0 ≡ getD t₁ k 0
+  pub notes-beyond : (z : ℕ) → N (A .layout) (A .n) ≤ z → bitAt notes z ≡ bitAt n₁ z
+  pub trail-beyond : (k : ℕ) → N (A .layout) (A .n) ≤ k → getD trail k 0 ≡ getD t₁ k 0
 
 -- What the search leaves: the report, the failed pairs in the notes, and zeros in the trail.
 pub record Answered (A : Asked) (n₀ t₀ : List ℕ) (num₀ : List ℤ) (lab₀ : List ℕ) (notes trail : List ℕ) (numbers : List ℤ) (labs : List ℕ) (r : Sweep) : Type 0 where
   pub reported : Reported A (searchOf A (length num₀) (length lab₀)) num₀ lab₀ numbers labs r
   pub notes-is : notes ≡ wrote n₀ 0 (notesOf ((searchOf A (length num₀) (length lab₀)) .state .0))
-  pub trail-is : trail ≡ wrote t₀ 0 (zeros (N (A .tables) (A .n)))
+  pub trail-is : trail ≡ wrote t₀ 0 (zeros (N (A .layout) (A .n)))

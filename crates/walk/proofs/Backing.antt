@@ -1,5 +1,5 @@
 -- The last open pair tries its next way, or fails where none is left.
-use mathlib.Core.Path.{_≡_, refl, sym, ap, _∙_}
+use mathlib.Core.Path.{_≡_, refl, sym, ap, ap₂, _∙_}
 use mathlib.Core.List.{List}
 use mathlib.Core.Bool.{Bool, true, false, not}
 use mathlib.Core.Logic.{_≢_}
@@ -15,21 +15,22 @@ use Rattle.rules.specs.Basics.{pick}
 use Rattle.rules.specs.Report.{bitAt}
 use Rattle.rules.proofs.Notes.{marked}
 use Rattle.pairs.specs.declared.Walk.{Walk}
-use Rattle.pairs.specs.Tables.{Tables, P, N, second, leftFrom, waysOf}
+use Rattle.pairs.specs.Layout.{Layout, P, N, second, leftFrom, mostPairs}
+use Rattle.table.specs.Table.{waysOf, codeAt, beginAt, countAt}
 use Rattle.pairs.specs.Step.{oneUnless, placeIn, rowIn, wayIn, pairIn, stack, walkAt, tryAt, after, wentOn, Noted}
 use Rattle.pairs.specs.State.{Word, rowFrom, wayAt, reach, Led, Stuck, Good, left, restAt, rest, resumed, comes, Reached, Halts, Backward}
-use Rattle.pairs.proofs.Ways.{left-none, left-some, ways-length, ways-later, takes-no-row}
+use Rattle.pairs.proofs.Ways.{left-none, left-some, ways-length, ways-later, second-is, takes-no-row}
 use Rattle.pairs.proofs.Trails.{went-place, went-row, went-way, stack-same}
-use Rattle.pairs.proofs.Going.{never, good-room, comes-idle, top-word, top-below, top-out, top-byte, leave-reached, leave-less}
+use Rattle.pairs.proofs.Going.{zero-two, not-two, good-room, comes-idle, top-word, top-below, top-out, top-byte, leave-reached, leave-less}
 use Rattle.pairs.proofs.Trying.{turn-noted, turn-tried}
 
 -- ---- the way behind a way
 
-after-small : (stop j : ℕ) → stop ≤ 2048 → after stop j < 2048
+after-small : (stop j : ℕ) → stop ≤ 256 → after stop j < 256
 unfolding after
 after-small stop j h = go (ltb (j + 1) stop) refl
   where
-    go : (b : Bool) → ltb (j + 1) stop ≡ b → pick b (j + 1) 0 < 2048
+    go : (b : Bool) → ltb (j + 1) stop ≡ b → pick b (j + 1) 0 < 256
     go true e = let l = ltb-true (j + 1) stop e in omega arith
     go false e = omega arith
 
@@ -49,24 +50,24 @@ after-zero stop j h = go (ltb (j + 1) stop) refl h
     go true e h = absurd (omega arith)
     go false e h = ltb-false (j + 1) stop e
 
-left-after : (T : Tables) (q j : ℕ) → leftFrom T q (after (getD (T .stop) q 0) j) ≡ getD (T .stop) q 0 - j - 1
+left-after : (T : Layout) (q j : ℕ) → leftFrom T q (after (countAt (T .words) q) j) ≡ countAt (T .words) q - j - 1
 unfolding after
-left-after T q j = go (ltb (j + 1) (getD (T .stop) q 0)) refl
+left-after T q j = go (ltb (j + 1) (countAt (T .words) q)) refl
   where
-    go : (b : Bool) → ltb (j + 1) (getD (T .stop) q 0) ≡ b → leftFrom T q (pick b (j + 1) 0) ≡ getD (T .stop) q 0 - j - 1
+    go : (b : Bool) → ltb (j + 1) (countAt (T .words) q) ≡ b → leftFrom T q (pick b (j + 1) 0) ≡ countAt (T .words) q - j - 1
     go true e = left-some T q (j + 1) (omega arith) ∙ omega arith
-    go false e = let l = ltb-false (j + 1) (getD (T .stop) q 0) e in left-none T q 0 refl ∙ omega arith
+    go false e = let l = ltb-false (j + 1) (countAt (T .words) q) e in left-none T q 0 refl ∙ omega arith
 
-pub rest-top : (T : Tables) (trail : List ℕ) (t : ℕ) → 0 < t → restAt T trail t ≡ leftFrom T (placeIn (getD trail (t - 1) 0)) (wayIn (getD trail (t - 1) 0))
+pub rest-top : (T : Layout) (trail : List ℕ) (t : ℕ) → 0 < t → restAt T trail t ≡ leftFrom T (placeIn (getD trail (t - 1) 0)) (wayIn (getD trail (t - 1) 0))
 unfolding restAt
 rest-top T trail zero h = absurd (not-suc-le-zero h)
 rest-top T trail (suc t) h = let i : suc t - 1 ≡ t = omega arith in rw i
 
-module _ (T : Tables) (holds : ℕ → ℕ → Bool) (n : ℕ) (Q : Type 0) (notes trail : List ℕ) (w : Walk) (h : Halts T holds n Q notes trail w) where
+module _ (T : Layout) (holds : ℕ → ℕ → Bool) (n : ℕ) (notes trail : List ℕ) (w : Walk) (h : Halts T holds n notes trail w) where
   abbrev e : ℕ
   e = getD trail (w .top - 1) 0
 
-  abbrev g : Good T holds n Q notes trail w
+  abbrev g : Good T holds n notes trail w
   g = h .idle .state .good
 
   abbrev q : ℕ
@@ -82,60 +83,42 @@ module _ (T : Tables) (holds : ℕ → ℕ → Bool) (n : ℕ) (Q : Type 0) (not
   comes-is = sym (comes-idle T holds n notes trail w (h .idle .down))
 
   word : Word T e
-  word = top-word T holds n Q notes trail w g (h .going)
+  word = top-word T holds n notes trail w g (h .going)
 
   below : rowIn e * P T + q < N T n
-  below = top-below T holds n Q notes trail w g (h .going)
+  below = top-below T holds n notes trail w g (h .going)
 
   top-room : w .top ≤ N T n
-  top-room = let r = good-room T holds n Q notes trail w g in omega arith
+  top-room = let r = good-room T holds n notes trail w g in omega arith
 
   pub back-at : w .top - 1 < length trail
   back-at = let r = top-room in let t = g .trailed in let k = h .going in omega arith
 
-  pub back-put : (a : ℕ) → a < 2048 → (w .top - 1 < length trail) × (a < 2048)
+  pub back-put : (a : ℕ) → a < 256 → (w .top - 1 < length trail) × (a < 256)
   back-put a l = (back-at, l)
 
   -- ---- it fails
 
-  module _ (u : ℕ) (eu : u ≡ e) where
-    pub back-base : u / 256 % 8192 * P T < 2097152
-    back-base = rw eu (let b = below in let s = g .legal .small in omega arith)
-
-    pub back-pair : u / 256 % 8192 * P T + u % 256 < 2097152
-    back-pair = rw eu (let b = below in let s = g .legal .small in omega arith)
-
-    pub back-marks : ((u / 256 % 8192 * P T + u % 256) / 8 < length notes) × (bitAt notes (u / 256 % 8192 * P T + u % 256) ≡ false)
-    back-marks = rw eu (top-byte T holds n Q notes trail w g (h .going), top-out T holds n Q notes trail w g (h .going))
-
-  popped : ((m : ℕ) → m < length (waysOf T q) → bitAt notes (wayAt T e m) ≡ true) → (x r b : ℕ)
-      → Backward T holds n Q notes trail w (marked notes (rowIn e * P T + q)) trail (walkAt (w .top - 1) (w .steps) x r b 0 0)
+  popped : ((m : ℕ) → m < length (waysOf (T .words) q) → bitAt notes (wayAt T e m) ≡ true) → (x r b : ℕ)
+      → Backward T holds n notes trail w (marked notes (rowIn e * P T + q)) trail (walkAt (w .top - 1) (w .steps) x r b 0)
   popped all x r b =
-      let l = leave-less T holds n Q notes trail w g (h .going) (stuck .going) all x r b in
+      let l = leave-less T holds n notes trail w g (h .going) (stuck .going) all x r b in
       record {
-        reached = rw comes-is at (leave-reached T holds n Q notes trail w g (h .going) (stuck .going) all x r b);
-        found = never;
+        reached = rw comes-is at (leave-reached T holds n notes trail w g (h .going) (stuck .going) all x r b);
+        found = zero-two;
         less = omega arith;
         fewer = λ c. absurd (omega arith);
       }
 
-  none-left : j ≡ 0 → (m : ℕ) → m < length (waysOf T q) → bitAt notes (wayAt T e m) ≡ true
+  none-left : j ≡ 0 → (m : ℕ) → m < length (waysOf (T .words) q) → bitAt notes (wayAt T e m) ≡ true
   unfolding reach
   none-left z m l = stuck .tried m (rw (left-none T q j z) (let k : m < suc (leftFrom T q (second T q)) = rw (ways-length T q) at l in omega arith))
-
-  module _ (u : ℕ) (eu : u ≡ e) (notes′ : List ℕ) (en : notes′ ≡ marked notes (u / 256 % 8192 * P T + u % 256)) where
-    as-read : Backward T holds n Q notes trail w (marked notes (rowIn e * P T + q)) trail (walkAt (w .top - 1) (w .steps) q (rowIn e) (rowIn e * P T) 0 0)
-        → Backward T holds n Q notes trail w notes′ trail (walkAt (w .top - 1) (w .steps) (u % 256) (u / 256 % 8192) (u / 256 % 8192 * P T) 0 0)
-    as-read b = rw en (rw eu b)
-
-    pub back-none : u / 2097152 ≤ 0 → Backward T holds n Q notes trail w notes′ trail (walkAt (w .top - 1) (w .steps) (u % 256) (u / 256 % 8192) (u / 256 % 8192 * P T) 0 0)
-    back-none z = as-read (popped (none-left (let d : u / 2097152 ≡ 0 = omega arith in rw eu at d)) q (rowIn e) (rowIn e * P T))
 
   -- ---- it tries its next way
 
   module _ (some : 0 < j) where
     abbrev stop : ℕ
-    stop = getD (T .stop) q 0
+    stop = countAt (T .words) q
 
     abbrev first : ℕ
     first = second T q
@@ -146,14 +129,14 @@ module _ (T : Tables) (holds : ℕ → ℕ → Bool) (n : ℕ) (Q : Type 0) (not
     has-second : 0 < first
     has-second = word .some some
 
-    stop-in : stop ≤ length (T .ways)
-    stop-in = g .legal .sized .stop q place has-second
+    first-is : first ≡ 1
+    first-is = second-is T q has-second .0
 
-    stop-small : stop ≤ 2048
-    stop-small = let a = stop-in in let b = g .legal .sized .ways in omega arith
+    stop-small : stop ≤ 256
+    stop-small = g .legal .sized .many q place
 
-    way-in : j < length (T .ways)
-    way-in = let a = stop-in in let b = word .before some in omega arith
+    way-in : beginAt (T .words) q + j < length (T .words)
+    way-in = let b = word .before some in let a = g .legal .sized .ways q place (omega arith) in omega arith
 
     abbrev v : ℕ
     v = wentOn (after stop j) e
@@ -224,11 +207,10 @@ module _ (T : Tables) (holds : ℕ → ℕ → Bool) (n : ℕ) (Q : Type 0) (not
           | no d ↦ ap (pairIn (P T)) (getD-set-other trail (w .top - 1) (suc k) v 0 d)
         ]
 
-    went-good : Good T holds n Q notes trail₂ w
+    went-good : Good T holds n notes trail₂ w
     went-good =
         record {
           legal = g .legal;
-          asks = g .asks;
           noted = g .noted;
           trailed = rw (length-set trail (w .top - 1) v) (g .trailed);
           opened = rw stack-is (g .opened);
@@ -246,10 +228,10 @@ module _ (T : Tables) (holds : ℕ → ℕ → Bool) (n : ℕ) (Q : Type 0) (not
     abbrev m : ℕ
     m = suc (j - first)
 
-    code-is : getD (T .code) (placeIn (getD trail₂ (w .top - 1) 0)) 0 ≤ 29
+    code-is : codeAt (T .words) (placeIn (getD trail₂ (w .top - 1) 0)) ≤ 29
     code-is = rw (on-top, v-place) (stuck .going)
 
-    inside : m < length (waysOf T (placeIn (getD trail₂ (w .top - 1) 0)))
+    inside : m < length (waysOf (T .words) (placeIn (getD trail₂ (w .top - 1) 0)))
     inside =
         let a = word .behind some in
         let b = word .before some in
@@ -261,12 +243,12 @@ module _ (T : Tables) (holds : ℕ → ℕ → Bool) (n : ℕ) (Q : Type 0) (not
     before : (i : ℕ) → i < m → bitAt notes (wayAt T (getD trail₂ (w .top - 1) 0) i) ≡ true
     before i l = rw (on-top, way-same i) (stuck .tried i (rw reach-e l))
 
-    fork : 26 ≤ getD (T .code) q 0
-    fork = go (ltb (getD (T .code) q 0) 28) refl
+    fork : 26 ≤ codeAt (T .words) q
+    fork = go (ltb (codeAt (T .words) q) 28) refl
       where
-        go : (b : Bool) → ltb (getD (T .code) q 0) 28 ≡ b → 26 ≤ getD (T .code) q 0
-        go true d = let o = g .legal .sized .one q place (ltb-true (getD (T .code) q 0) 28 d) in let s = has-second in absurd (omega arith)
-        go false d = let l = ltb-false (getD (T .code) q 0) 28 d in omega arith
+        go : (b : Bool) → ltb (codeAt (T .words) q) 28 ≡ b → 26 ≤ codeAt (T .words) q
+        go true d = let o = g .legal .sized .one q place (ltb-true (codeAt (T .words) q) 28 d) in let s = second-is T q has-second .1 in absurd (omega arith)
+        go false d = let l = ltb-false (codeAt (T .words) q) 28 d in omega arith
 
     row-here : rowIn e ≡ rowFrom T e
     unfolding rowFrom
@@ -276,27 +258,27 @@ module _ (T : Tables) (holds : ℕ → ℕ → Bool) (n : ℕ) (Q : Type 0) (not
     unfolding rowFrom
     row-from = rw (on-top, v-place, v-row, takes-no-row T holds n q (rowIn e) place fork) (omega arith)
 
-    module _ (k : ℕ) (ek : k ≡ getD (T .ways) j 0) where
-      way-here : k ≡ getD (waysOf T q) m 0
+    module _ (k : ℕ) (ek : k ≡ getD (T .words) (beginAt (T .words) q + j) 0) where
+      way-here : k ≡ getD (waysOf (T .words) q) m 0
       way-here =
           let a = word .behind some in
           let b = word .before some in
-          let l : j - first < leftFrom T q first = rw (left-some T q first has-second) (omega arith) in
-          let d : j ≡ first + (j - first) = omega arith in
-          ek ∙ sym (ways-later T q j (j - first) d l)
+          let o = first-is in
+          let d : j ≡ suc (j - first) = omega arith in
+          ek ∙ ap (λ (i : ℕ). getD (T .words) (beginAt (T .words) q + i) 0) d ∙ sym (ways-later T q (j - first) (omega arith))
 
-      way-is : k ≡ getD (waysOf T (placeIn (getD trail₂ (w .top - 1) 0))) m 0
+      way-is : k ≡ getD (waysOf (T .words) (placeIn (getD trail₂ (w .top - 1) 0))) m 0
       way-is = rw (on-top, v-place) way-here
 
       way-noted : Noted notes (rowIn e * P T + k)
-      way-noted = turn-noted T holds n Q notes trail₂ w went-good (h .going) code-is m inside reaches before k (rowIn e) (rowIn e * P T) way-is row-from refl
+      way-noted = turn-noted T holds n notes trail₂ w went-good (h .going) code-is m inside reaches before k (rowIn e) (rowIn e * P T) way-is row-from refl
 
       -- the pair of the way is tried
-      way-tried : Backward T holds n Q notes trail w notes trail₂ (tryAt notes (w .top) (w .steps) k (rowIn e) (rowIn e * P T))
+      way-tried : Backward T holds n notes trail w notes trail₂ (tryAt notes (w .top) (w .steps) k (rowIn e) (rowIn e * P T))
       unfolding left
       way-tried =
-          let t : Reached T holds n Q notes trail₂ (resumed T holds n notes trail₂ w) notes trail₂ (tryAt notes (w .top) (w .steps) k (rowIn e) (rowIn e * P T)) =
-          turn-tried T holds n Q notes trail₂ w went-good (h .going) code-is m inside reaches before k (rowIn e) (rowIn e * P T) way-is row-from refl in
+          let t : Reached T holds n notes trail₂ (resumed T holds n notes trail₂ w) notes trail₂ (tryAt notes (w .top) (w .steps) k (rowIn e) (rowIn e * P T)) =
+          turn-tried T holds n notes trail₂ w went-good (h .going) code-is m inside reaches before k (rowIn e) (rowIn e * P T) way-is row-from refl in
           let o = top-room in
           let gg = h .going in
           record {
@@ -309,7 +291,7 @@ module _ (T : Tables) (holds : ℕ → ℕ → Bool) (n : ℕ) (Q : Type 0) (not
               notes-beyond = λ z l. refl;
               trail-beyond = λ i l. getD-set-other trail (w .top - 1) i v 0 (λ (z : i ≡ w .top - 1). omega arith);
             };
-            found = never;
+            found = not-two (bitAt notes (rowIn e * P T + k));
             less = omega arith;
             fewer = λ _. fewer;
           }
@@ -322,7 +304,7 @@ module _ (T : Tables) (holds : ℕ → ℕ → Bool) (n : ℕ) (Q : Type 0) (not
               rw (a, c) (omega arith)
 
       -- it was the last way, and its pair has failed: so have all
-      all-left : after stop j ≡ 0 → bitAt notes (rowIn e * P T + k) ≡ true → (i : ℕ) → i < length (waysOf T q) → bitAt notes (wayAt T e i) ≡ true
+      all-left : after stop j ≡ 0 → bitAt notes (rowIn e * P T + k) ≡ true → (i : ℕ) → i < length (waysOf (T .words) q) → bitAt notes (wayAt T e i) ≡ true
       unfolding wayAt
       all-left z o i l = elim (ℕ-discrete i m) [
         | yes d ↦ rw d last
@@ -341,39 +323,75 @@ module _ (T : Tables) (holds : ℕ → ℕ → Bool) (n : ℕ) (Q : Type 0) (not
           last : bitAt notes (wayAt T e m) ≡ true
           last = rw pair-is o
 
-  -- as the code reads it
-  module _ (u : ℕ) (eu : u ≡ e) (nz : 0 < u / 2097152) where
-    some-way : 0 < j
-    some-way = rw eu at nz
+  -- ---- as the code reads it: the number u of the last open pair, its place p, its row r and its way v
 
-    pub back-place : u % 256 < length (T .stop)
-    back-place = rw (eu, g .legal .sized .stops) (word .place)
+  module _ (u : ℕ) (eu : (u ≡ e) × (u < 4294967296)) (p : ℕ) (ep : (p ≡ placeIn u) × (p < 2048)) (r : ℕ) (er : (r ≡ rowIn u) × (r < 8192)) where
+    p-is : p ≡ q
+    p-is = ep .0 ∙ ap (λ (x : ℕ). placeIn x) (eu .0)
 
-    pub back-way : u / 2097152 < length (T .ways)
-    back-way = rw eu (way-in some-way)
+    r-is : r ≡ rowIn e
+    r-is = er .0 ∙ ap (λ (x : ℕ). rowIn x) (eu .0)
 
-    module _ (s : ℕ) (es : s ≡ getD (T .stop) (u % 256) 0) where
-      pub back-stop : (u / 2097152 < 65536) × (s ≤ 2048)
-      back-stop =
-          let a = stop-in some-way in
-          let b = g .legal .sized .ways in
-          let c = way-in some-way in
-          (rw eu (omega arith), rw (es, eu) (stop-small some-way))
+    pub back-base : r * P T < mostPairs
+    back-base = rw r-is (let b = below in let s = g .legal .small in omega arith)
 
-      module _ (k : ℕ) (ek : k ≡ getD (T .ways) (u / 2097152) 0) where
-        pub back-noted : Noted notes (u / 256 % 8192 * P T + k)
-        back-noted = rw eu (way-noted some-way k (rw eu at ek))
+    pub back-pair : r * P T + p < mostPairs
+    back-pair = rw (p-is, r-is) (let b = below in let s = g .legal .small in omega arith)
 
-        module _ (a : ℕ) (ea : a ≡ after s (u / 2097152)) (f : Bool) (ef : f ≡ bitAt notes (u / 256 % 8192 * P T + k)) where
-          pub back-tried : (t : List ℕ) → t ≡ set trail (w .top - 1) (wentOn a u) → (d : ℕ) → oneUnless f ≡ d
-              → Backward T holds n Q notes trail w notes t (walkAt (w .top) (w .steps) k (u / 256 % 8192) (u / 256 % 8192 * P T) d 0)
-          back-tried t et d ed =
-              let b : set trail (w .top - 1) (wentOn a u) ≡ trail₂ some-way = rw (ea, es, eu) in
-              let x : Backward T holds n Q notes trail w notes (trail₂ some-way) (tryAt notes (w .top) (w .steps) k (rowIn e) (rowIn e * P T)) = way-tried some-way k (rw eu at ek) in
-              rw (et, b, ← ed, ef, eu) x
+    pub back-marks : ((r * P T + p) / 8 < length notes) × (bitAt notes (r * P T + p) ≡ false)
+    back-marks = rw (p-is, r-is) (top-byte T holds n notes trail w g (h .going), top-out T holds n notes trail w g (h .going))
 
-          pub back-last : f ≡ true → a ≤ 0 → (notes′ : List ℕ) → notes′ ≡ marked notes (u / 256 % 8192 * P T + u % 256)
-              → Backward T holds n Q notes trail w notes′ trail (walkAt (w .top - 1) (w .steps) (u % 256) (u / 256 % 8192) (u / 256 % 8192 * P T) 0 0)
-          back-last t z notes′ en =
-              as-read u eu notes′ en
-              (popped (all-left some-way k (rw eu at ek) (let y : a ≡ 0 = omega arith in let x : after (getD (T .stop) (u % 256) 0) (u / 2097152) ≡ 0 = rw (← es, ← ea) y in rw eu at x) (rw eu at (sym ef ∙ t))) q (rowIn e) (rowIn e * P T))
+    as-read : (notes′ : List ℕ) → notes′ ≡ marked notes (r * P T + p)
+        → Backward T holds n notes trail w (marked notes (rowIn e * P T + q)) trail (walkAt (w .top - 1) (w .steps) q (rowIn e) (rowIn e * P T) 0)
+        → Backward T holds n notes trail w notes′ trail (walkAt (w .top - 1) (w .steps) p r (r * P T) 0)
+    as-read notes′ en b = rw (en, p-is, r-is) b
+
+    module _ (v : ℕ) (ev : (v ≡ wayIn u) × (v < 256)) where
+      v-is : v ≡ j
+      v-is = ev .0 ∙ ap (λ (x : ℕ). wayIn x) (eu .0)
+
+      pub back-none : v ≤ 0 → (notes′ : List ℕ) → notes′ ≡ marked notes (r * P T + p) → Backward T holds n notes trail w notes′ trail (walkAt (w .top - 1) (w .steps) p r (r * P T) 0)
+      back-none z notes′ en = as-read notes′ en (popped (none-left (let d : v ≡ 0 = omega arith in sym v-is ∙ d)) q (rowIn e) (rowIn e * P T))
+
+      module _ (nz : 0 < v) where
+        some-way : 0 < j
+        some-way = rw v-is at nz
+
+        pub back-words : 4 * p + 4 ≤ length (T .words)
+        back-words = rw p-is (let a = word .place in let l = g .legal .sized .long in omega arith)
+
+        module _ (b : ℕ) (eb : (b ≡ beginAt (T .words) p) × (b < 65536)) where
+          b-is : b ≡ beginAt (T .words) q
+          b-is = eb .0 ∙ ap (λ (x : ℕ). beginAt (T .words) x) p-is
+
+          pub back-way : b + v < length (T .words)
+          back-way = rw (b-is, v-is) (way-in some-way)
+
+          module _ (k : ℕ) (ek : (k ≡ getD (T .words) (b + v) 0) × (k < 65536)) where
+            k-is : k ≡ getD (T .words) (beginAt (T .words) q + j) 0
+            k-is = ek .0 ∙ ap₂ (λ (x y : ℕ). getD (T .words) (x + y) 0) b-is v-is
+
+            pub back-noted : Noted notes (r * P T + k)
+            back-noted = rw r-is (way-noted some-way k k-is)
+
+            module _ (s : ℕ) (es : (s ≡ countAt (T .words) p) × (s < 65536)) where
+              s-is : s ≡ countAt (T .words) q
+              s-is = es .0 ∙ ap (λ (x : ℕ). countAt (T .words) x) p-is
+
+              pub back-stop : (v < 65536) × (s ≤ 256)
+              back-stop = (omega (arith, ev .1), rw s-is (stop-small some-way))
+
+              module _ (a : ℕ) (ea : (a ≡ after s v) × (a < 256)) (f : Bool) (ef : f ≡ bitAt notes (r * P T + k)) where
+                pub back-tried : (t : List ℕ) → t ≡ set trail (w .top - 1) (wentOn a u) → (d : ℕ) → oneUnless f ≡ d
+                    → Backward T holds n notes trail w notes t (walkAt (w .top) (w .steps) k r (r * P T) d)
+                back-tried t et d ed =
+                    let x : Backward T holds n notes trail w notes (trail₂ some-way) (tryAt notes (w .top) (w .steps) k (rowIn e) (rowIn e * P T)) = way-tried some-way k k-is in
+                    let c : t ≡ trail₂ some-way = et ∙ ap₂ (λ (y z : ℕ). set trail (w .top - 1) (wentOn y z)) (ea .0 ∙ ap₂ after s-is v-is) (eu .0) in
+                    rw (c, ← ed, ef, r-is) x
+
+                pub back-last : f ≡ true → a ≤ 0 → (notes′ : List ℕ) → notes′ ≡ marked notes (r * P T + p)
+                    → Backward T holds n notes trail w notes′ trail (walkAt (w .top - 1) (w .steps) p r (r * P T) 0)
+                back-last t z notes′ en =
+                    let y : after (countAt (T .words) q) j ≡ 0 = sym (ea .0 ∙ ap₂ after s-is v-is) ∙ omega (arith, z) in
+                    let o : bitAt notes (rowIn e * P T + k) ≡ true = rw r-is at (sym ef ∙ t) in
+                    as-read notes′ en (popped (all-left some-way k k-is y o) q (rowIn e) (rowIn e * P T))

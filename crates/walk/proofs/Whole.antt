@@ -12,90 +12,91 @@ use Rattle.rules.specs.Report.{bitAt}
 use Rattle.rules.proofs.Machine.{resume, resume-one}
 use Rattle.rules.proofs.Notes.{bitsOf, bitsOf-at}
 use Rattle.pairs.specs.declared.Walk.{Walk}
-use Rattle.pairs.specs.Tables.{Tables, P, N, graphOf, passesBy}
+use Rattle.pairs.specs.Layout.{Layout, P, N, graphOf, passesBy, entryOf}
+use Rattle.table.specs.Table.{codeAt, firstAt}
 use Rattle.pairs.specs.Step.{oneUnless, mem, placeIn, wayIn, stack, walkAt, tryAt, enteredBy, outcomeBy, Noted, Enters}
 use Rattle.pairs.specs.State.{Word, Good, Next, Ends, Stands, State, Goes, Idle, Halts, Moves, left, restAt, rest, resumed, entering, comes, Reached, Onward, Backward, Descended, Retreated, Ran, Ready, attemptBy, Done}
 use Rattle.pairs.proofs.Ways.{left-none, left-some}
-use Rattle.pairs.proofs.Going.{never, comes-idle, reached-none, reached-on, top-end}
+use Rattle.pairs.proofs.Going.{never, zero-two, one-two, comes-idle, reached-none, reached-on, top-end}
 use Rattle.pairs.proofs.Trying.{pair-in, goes-enters, goes-on}
 
-pub state-of : (T : Tables) (holds : ℕ → ℕ → Bool) (n : ℕ) (Q : Type 0) (n₁ t₁ notes trail : List ℕ) (w₁ w : Walk)
-    → Reached T holds n Q n₁ t₁ (comes T holds n n₁ t₁ w₁) notes trail w → State T holds n Q notes trail w
-state-of T holds n Q n₁ t₁ notes trail w₁ w r = record { good = r .good; stands = r .stands }
+pub state-of : (T : Layout) (holds : ℕ → ℕ → Bool) (n : ℕ) (n₁ t₁ notes trail : List ℕ) (w₁ w : Walk)
+    → Reached T holds n n₁ t₁ (comes T holds n n₁ t₁ w₁) notes trail w → State T holds n notes trail w
+state-of T holds n n₁ t₁ notes trail w₁ w r = record { good = r .good; stands = r .stands }
 
 -- ---- on while a pair is to be entered
 
-pub record Descending (T : Tables) (holds : ℕ → ℕ → Bool) (n : ℕ) (Q : Type 0) (n₁ t₁ : List ℕ) (w₁ : Walk) (notes trail : List ℕ) (w : Walk) : Type 0 where
-  pub reached : Reached T holds n Q n₁ t₁ (comes T holds n n₁ t₁ w₁) notes trail w
+pub record Descending (T : Layout) (holds : ℕ → ℕ → Bool) (n : ℕ) (n₁ t₁ : List ℕ) (w₁ : Walk) (notes trail : List ℕ) (w : Walk) : Type 0 where
+  pub reached : Reached T holds n n₁ t₁ (comes T holds n n₁ t₁ w₁) notes trail w
   pub less : left (N T n) notes w ≤ left (N T n) n₁ w₁
-  pub start : left (N T n) notes w ≡ left (N T n) n₁ w₁ → w .down ≡ 1
+  pub start : left (N T n) notes w ≡ left (N T n) n₁ w₁ → w .status ≡ 1
 
-pub on-none : (T : Tables) (holds : ℕ → ℕ → Bool) (n : ℕ) (Q : Type 0) (n₁ t₁ : List ℕ) (w₁ : Walk) → Goes T holds n Q n₁ t₁ w₁ → Descending T holds n Q n₁ t₁ w₁ n₁ t₁ w₁
-on-none T holds n Q n₁ t₁ w₁ s = record { reached = reached-none T holds n Q n₁ t₁ w₁ (s .state); less = omega arith; start = λ _. s .down }
+pub on-none : (T : Layout) (holds : ℕ → ℕ → Bool) (n : ℕ) (n₁ t₁ : List ℕ) (w₁ : Walk) → Goes T holds n n₁ t₁ w₁ → Descending T holds n n₁ t₁ w₁ n₁ t₁ w₁
+on-none T holds n n₁ t₁ w₁ s = record { reached = reached-none T holds n n₁ t₁ w₁ (s .state); less = omega arith; start = λ _. s .down }
 
-module _ (T : Tables) (holds : ℕ → ℕ → Bool) (n : ℕ) (Q : Type 0) (n₁ t₁ : List ℕ) (w₁ : Walk) (notes trail : List ℕ) (w : Walk) (h : Descending T holds n Q n₁ t₁ w₁ notes trail w) where
-  pub on-end : (w .down ≡ 1 → ⊥) → Descended T holds n Q n₁ t₁ w₁ notes trail w
+module _ (T : Layout) (holds : ℕ → ℕ → Bool) (n : ℕ) (n₁ t₁ : List ℕ) (w₁ : Walk) (notes trail : List ℕ) (w : Walk) (h : Descending T holds n n₁ t₁ w₁ notes trail w) where
+  pub on-end : (w .status ≡ 1 → ⊥) → Descended T holds n n₁ t₁ w₁ notes trail w
   on-end d =
       let c : left (N T n) notes w ≢ left (N T n) n₁ w₁ = λ z. d (h .start z) in
       let l = h .less in
       record { reached = h .reached; less = omega arith; down = d }
 
-  module _ (d : w .down ≡ 1) where
-    goes : Goes T holds n Q notes trail w
-    goes = record { state = state-of T holds n Q n₁ t₁ notes trail w₁ w (h .reached); down = d }
+  module _ (d : w .status ≡ 1) where
+    goes : Goes T holds n notes trail w
+    goes = record { state = state-of T holds n n₁ t₁ notes trail w₁ w (h .reached); down = d }
 
-    pub on-enters : Enters (T .code) (T .next) (T .entry) n Q notes trail w
-    on-enters = goes-enters T holds n Q notes trail w goes
+    pub on-enters : Enters T n notes trail w
+    on-enters = goes-enters T holds n notes trail w goes
 
     module _ (notes′ trail′ : List ℕ) (r : Walk)
-        (e : mem notes′ trail′ r ≡ enteredBy (passesBy holds n (getD (T .code) (w .place) 0) (w .row)) (mem notes trail w) (getD (T .code) (w .place) 0) (getD (T .entry) (w .place) 0)
-        (getD (T .next) (w .place) 0) (P T)) where
-      onward : Onward T holds n Q notes trail w notes′ trail′ r
-      onward = goes-on T holds n Q notes trail w goes notes′ trail′ r e
+        (e : mem notes′ trail′ r ≡ enteredBy (passesBy holds n (codeAt (T .words) (w .place)) (w .row)) (mem notes trail w) (codeAt (T .words) (w .place)) (entryOf (T .words) (w .place))
+        (firstAt (T .words) (w .place)) (P T)) where
+      onward : Onward T holds n notes trail w notes′ trail′ r
+      onward = goes-on T holds n notes trail w goes notes′ trail′ r e
 
       pub on-less : left (N T n) notes′ r < left (N T n) notes w
       on-less = onward .less
 
-      pub on-more : Descending T holds n Q n₁ t₁ w₁ notes′ trail′ r
+      pub on-more : Descending T holds n n₁ t₁ w₁ notes′ trail′ r
       on-more =
           let a = h .less in
           let b = onward .less in
           record {
-            reached = reached-on T holds n Q n₁ t₁ _ notes trail w notes′ trail′ r (h .reached) (onward .reached);
+            reached = reached-on T holds n n₁ t₁ _ notes trail w notes′ trail′ r (h .reached) (onward .reached);
             less = omega arith;
             start = λ z. absurd (omega arith);
           }
 
 -- ---- back until one is to be entered
 
-pub record Retreating (T : Tables) (holds : ℕ → ℕ → Bool) (n : ℕ) (Q : Type 0) (n₁ t₁ : List ℕ) (w₁ : Walk) (notes trail : List ℕ) (w : Walk) : Type 0 where
-  pub reached : Reached T holds n Q n₁ t₁ (comes T holds n n₁ t₁ w₁) notes trail w
-  pub found : w .found ≡ 1 → ⊥
+pub record Retreating (T : Layout) (holds : ℕ → ℕ → Bool) (n : ℕ) (n₁ t₁ : List ℕ) (w₁ : Walk) (notes trail : List ℕ) (w : Walk) : Type 0 where
+  pub reached : Reached T holds n n₁ t₁ (comes T holds n n₁ t₁ w₁) notes trail w
+  pub found : w .status ≡ 2 → ⊥
   pub less : left (N T n) notes w ≤ left (N T n) n₁ w₁
 
 -- what is left, and below it the ways that the last open pair has left
-abbrev pub behind : Tables → ℕ → List ℕ → List ℕ → Walk → ℕ
+abbrev pub behind : Layout → ℕ → List ℕ → List ℕ → Walk → ℕ
 behind T n notes trail w = 4096 * left (N T n) notes w + rest T trail w
 
-pub off-none : (T : Tables) (holds : ℕ → ℕ → Bool) (n : ℕ) (Q : Type 0) (n₁ t₁ : List ℕ) (w₁ : Walk) → Idle T holds n Q n₁ t₁ w₁ → Retreating T holds n Q n₁ t₁ w₁ n₁ t₁ w₁
-off-none T holds n Q n₁ t₁ w₁ s = record { reached = reached-none T holds n Q n₁ t₁ w₁ (s .state); found = s .found; less = omega arith }
+pub off-none : (T : Layout) (holds : ℕ → ℕ → Bool) (n : ℕ) (n₁ t₁ : List ℕ) (w₁ : Walk) → Idle T holds n n₁ t₁ w₁ → Retreating T holds n n₁ t₁ w₁ n₁ t₁ w₁
+off-none T holds n n₁ t₁ w₁ s = record { reached = reached-none T holds n n₁ t₁ w₁ (s .state); found = s .found; less = omega arith }
 
-module _ (T : Tables) (holds : ℕ → ℕ → Bool) (n : ℕ) (Q : Type 0) (n₁ t₁ : List ℕ) (w₁ : Walk) (notes trail : List ℕ) (w : Walk) (h : Retreating T holds n Q n₁ t₁ w₁ notes trail w) where
-  pub off-down : w .down ≡ 1 → Retreated T holds n Q n₁ t₁ w₁ notes trail w
+module _ (T : Layout) (holds : ℕ → ℕ → Bool) (n : ℕ) (n₁ t₁ : List ℕ) (w₁ : Walk) (notes trail : List ℕ) (w : Walk) (h : Retreating T holds n n₁ t₁ w₁ notes trail w) where
+  pub off-down : w .status ≡ 1 → Retreated T holds n n₁ t₁ w₁ notes trail w
   off-down d = record { reached = h .reached; less = h .less; still = λ e. absurd (e d) }
 
-  pub off-end : w .top ≤ 0 → Retreated T holds n Q n₁ t₁ w₁ notes trail w
+  pub off-end : w .top ≤ 0 → Retreated T holds n n₁ t₁ w₁ notes trail w
   off-end l = record { reached = h .reached; less = h .less; still = λ _. omega arith }
 
-  pub off-halts : 0 < w .top → (w .down ≡ 1 → ⊥) → Halts T holds n Q notes trail w
-  off-halts l d = record { idle = record { state = state-of T holds n Q n₁ t₁ notes trail w₁ w (h .reached); down = d; found = h .found }; going = l }
+  pub off-halts : 0 < w .top → (w .status ≡ 1 → ⊥) → Halts T holds n notes trail w
+  off-halts l d = record { idle = record { state = state-of T holds n n₁ t₁ notes trail w₁ w (h .reached); down = d; found = h .found }; going = l }
 
-  module _ (notes′ trail′ : List ℕ) (r : Walk) (o : Backward T holds n Q notes trail w notes′ trail′ r) where
-    pub off-more : Retreating T holds n Q n₁ t₁ w₁ notes′ trail′ r
+  module _ (notes′ trail′ : List ℕ) (r : Walk) (o : Backward T holds n notes trail w notes′ trail′ r) where
+    pub off-more : Retreating T holds n n₁ t₁ w₁ notes′ trail′ r
     off-more =
         let a = h .less in
         let b = o .less in
-        record { reached = reached-on T holds n Q n₁ t₁ _ notes trail w notes′ trail′ r (h .reached) (o .reached); found = o .found; less = omega arith }
+        record { reached = reached-on T holds n n₁ t₁ _ notes trail w notes′ trail′ r (h .reached) (o .reached); found = o .found; less = omega arith }
 
     few : (t : ℕ) → r .top ≡ t → restAt T trail′ t ≤ 2048
     unfolding restAt
@@ -108,8 +109,7 @@ module _ (T : Tables) (holds : ℕ → ℕ → Bool) (n : ℕ) (Q : Type 0) (n�
           | no z ↦
               let c : wayIn (getD trail′ t 0) ≢ 0 = z in
               let l : 0 < wayIn (getD trail′ t 0) = omega arith in
-              let a = g .legal .sized .stop (placeIn (getD trail′ t 0)) (d .place) (d .some l) in
-              let b = g .legal .sized .ways in
+              let a = g .legal .sized .many (placeIn (getD trail′ t 0)) (d .place) in
               rw (left-some T (placeIn (getD trail′ t 0)) (wayIn (getD trail′ t 0)) l) (omega arith)
         ]
 
@@ -121,33 +121,33 @@ module _ (T : Tables) (holds : ℕ → ℕ → Bool) (n : ℕ) (Q : Type 0) (n�
 
 -- ---- both in turn
 
-pub record Running (T : Tables) (holds : ℕ → ℕ → Bool) (n : ℕ) (Q : Type 0) (n₁ t₁ : List ℕ) (w₁ : Walk) (notes trail : List ℕ) (w : Walk) : Type 0 where
-  pub reached : Reached T holds n Q n₁ t₁ (comes T holds n n₁ t₁ w₁) notes trail w
-  pub still : (w .down ≡ 1 → ⊥) → w .top ≡ 0
+pub record Running (T : Layout) (holds : ℕ → ℕ → Bool) (n : ℕ) (n₁ t₁ : List ℕ) (w₁ : Walk) (notes trail : List ℕ) (w : Walk) : Type 0 where
+  pub reached : Reached T holds n n₁ t₁ (comes T holds n n₁ t₁ w₁) notes trail w
+  pub still : (w .status ≡ 1 → ⊥) → w .top ≡ 0
 
-pub run-none : (T : Tables) (holds : ℕ → ℕ → Bool) (n : ℕ) (Q : Type 0) (n₁ t₁ : List ℕ) (w₁ : Walk) → Moves T holds n Q n₁ t₁ w₁ → Running T holds n Q n₁ t₁ w₁ n₁ t₁ w₁
-run-none T holds n Q n₁ t₁ w₁ s = record { reached = reached-none T holds n Q n₁ t₁ w₁ (s .state); still = s .still }
+pub run-none : (T : Layout) (holds : ℕ → ℕ → Bool) (n : ℕ) (n₁ t₁ : List ℕ) (w₁ : Walk) → Moves T holds n n₁ t₁ w₁ → Running T holds n n₁ t₁ w₁ n₁ t₁ w₁
+run-none T holds n n₁ t₁ w₁ s = record { reached = reached-none T holds n n₁ t₁ w₁ (s .state); still = s .still }
 
-module _ (T : Tables) (holds : ℕ → ℕ → Bool) (n : ℕ) (Q : Type 0) (n₁ t₁ : List ℕ) (w₁ : Walk) (notes trail : List ℕ) (w : Walk) (h : Running T holds n Q n₁ t₁ w₁ notes trail w) where
-  pub run-goes : w .down ≡ 1 → Goes T holds n Q notes trail w
-  run-goes d = record { state = state-of T holds n Q n₁ t₁ notes trail w₁ w (h .reached); down = d }
+module _ (T : Layout) (holds : ℕ → ℕ → Bool) (n : ℕ) (n₁ t₁ : List ℕ) (w₁ : Walk) (notes trail : List ℕ) (w : Walk) (h : Running T holds n n₁ t₁ w₁ notes trail w) where
+  pub run-goes : w .status ≡ 1 → Goes T holds n notes trail w
+  run-goes d = record { state = state-of T holds n n₁ t₁ notes trail w₁ w (h .reached); down = d }
 
-  pub run-end : (w .down ≡ 1 → ⊥) → Ran T holds n Q n₁ t₁ w₁ notes trail w
+  pub run-end : (w .status ≡ 1 → ⊥) → Ran T holds n n₁ t₁ w₁ notes trail w
   run-end d = record { reached = h .reached; down = d; last = λ l. let z = h .still d in absurd (omega arith) }
 
-  module _ (n₂ t₂ : List ℕ) (w₂ : Walk) (d : Descended T holds n Q notes trail w n₂ t₂ w₂) where
-    on : Reached T holds n Q n₁ t₁ (comes T holds n n₁ t₁ w₁) n₂ t₂ w₂
-    on = reached-on T holds n Q n₁ t₁ _ notes trail w n₂ t₂ w₂ (h .reached) (d .reached)
+  module _ (n₂ t₂ : List ℕ) (w₂ : Walk) (d : Descended T holds n notes trail w n₂ t₂ w₂) where
+    on : Reached T holds n n₁ t₁ (comes T holds n n₁ t₁ w₁) n₂ t₂ w₂
+    on = reached-on T holds n n₁ t₁ _ notes trail w n₂ t₂ w₂ (h .reached) (d .reached)
 
-    pub run-found : w₂ .found ≡ 1 → Ran T holds n Q n₁ t₁ w₁ n₂ t₂ w₂
+    pub run-found : w₂ .status ≡ 2 → Ran T holds n n₁ t₁ w₁ n₂ t₂ w₂
     run-found e = record { reached = on; down = d .down; last = λ _. d .reached .stands .ends e }
 
-    pub run-idle : (w₂ .found ≡ 1 → ⊥) → Idle T holds n Q n₂ t₂ w₂
-    run-idle e = record { state = state-of T holds n Q notes trail n₂ t₂ w w₂ (d .reached); down = d .down; found = e }
+    pub run-idle : (w₂ .status ≡ 2 → ⊥) → Idle T holds n n₂ t₂ w₂
+    run-idle e = record { state = state-of T holds n notes trail n₂ t₂ w w₂ (d .reached); down = d .down; found = e }
 
-    module _ (notes′ trail′ : List ℕ) (r : Walk) (b : Retreated T holds n Q n₂ t₂ w₂ notes′ trail′ r) where
-      pub run-more : Running T holds n Q n₁ t₁ w₁ notes′ trail′ r
-      run-more = record { reached = reached-on T holds n Q n₁ t₁ _ n₂ t₂ w₂ notes′ trail′ r on (b .reached); still = b .still }
+    module _ (notes′ trail′ : List ℕ) (r : Walk) (b : Retreated T holds n n₂ t₂ w₂ notes′ trail′ r) where
+      pub run-more : Running T holds n n₁ t₁ w₁ notes′ trail′ r
+      run-more = record { reached = reached-on T holds n n₁ t₁ _ n₂ t₂ w₂ notes′ trail′ r on (b .reached); still = b .still }
 
       pub run-less : left (N T n) notes′ r < left (N T n) notes w
       run-less = let x = b .less in let y = d .less in omega arith
@@ -155,19 +155,19 @@ module _ (T : Tables) (holds : ℕ → ℕ → Bool) (n : ℕ) (Q : Type 0) (n�
 -- ---- the attempt
 
 -- no pair is open, or END is on top
-comes-out : (T : Tables) (holds : ℕ → ℕ → Bool) (n : ℕ) (Q : Type 0) (notes trail : List ℕ) (w : Walk) → Good T holds n Q notes trail w → (0 < w .top → Ends T trail w)
+comes-out : (T : Layout) (holds : ℕ → ℕ → Bool) (n : ℕ) (notes trail : List ℕ) (w : Walk) → Good T holds n notes trail w → (0 < w .top → Ends T trail w)
     → resumed T holds n notes trail w ≡ outcomeBy (P T) (w .top) trail (bitsOf notes (N T n)) (w .steps)
 unfolding resumed stack resume outcomeBy
-comes-out T holds n Q notes trail w g last = go (w .top) refl
+comes-out T holds n notes trail w g last = go (w .top) refl
   where
     none : (t : ℕ) → t ≡ 0 → resume (graphOf T holds n) (N T n) (stack (P T) trail t) (bitsOf notes (N T n)) (w .steps) ≡ outcomeBy (P T) t trail (bitsOf notes (N T n)) (w .steps)
     none t e = rw e
 
     go : (t : ℕ) → w .top ≡ t → resume (graphOf T holds n) (N T n) (stack (P T) trail (w .top)) (bitsOf notes (N T n)) (w .steps) ≡ outcomeBy (P T) (w .top) trail (bitsOf notes (N T n)) (w .steps)
     go zero e = none (w .top) e
-    go (suc t) e = let l : 0 < w .top = omega arith in top-end T holds n Q notes trail w g l (rw (last l .spot .place) (last l .end))
+    go (suc t) e = let l : 0 < w .top = omega arith in top-end T holds n notes trail w g l (rw (last l .spot .place) (last l .end))
 
-module _ (T : Tables) (holds : ℕ → ℕ → Bool) (n : ℕ) (Q : Type 0) (notes trail : List ℕ) (i s : ℕ) (h : Ready T holds n Q notes trail i s) where
+module _ (T : Layout) (holds : ℕ → ℕ → Bool) (n : ℕ) (notes trail : List ℕ) (i s : ℕ) (h : Ready T holds n notes trail i s) where
   abbrev F : List Bool
   F = bitsOf notes (N T n)
 
@@ -180,13 +180,12 @@ module _ (T : Tables) (holds : ℕ → ℕ → Bool) (n : ℕ) (Q : Type 0) (not
   pub first-noted : Noted notes (i * P T + 0)
   first-noted = let b = first-below in let no = h .noted in let sm = h .legal .small in (omega arith, omega arith)
 
-  first-good : (d : ℕ) → Good T holds n Q notes trail (walkAt 0 s 0 i (i * P T) d 0)
+  first-good : (d : ℕ) → Good T holds n notes trail (walkAt 0 s 0 i (i * P T) d)
   unfolding stack
   first-good d =
       let a = h .steps in
       record {
         legal = h .legal;
-        asks = h .asks;
         noted = h .noted;
         trailed = h .trailed;
         opened = record { rising = tt; out = tt; pairs = tt };
@@ -197,7 +196,7 @@ module _ (T : Tables) (holds : ℕ → ℕ → Bool) (n : ℕ) (Q : Type 0) (not
         steps = omega arith;
       }
 
-  first-next : bitAt notes (i * P T + 0) ≡ false → Next T holds n Q notes trail (walkAt 0 s 0 i (i * P T) 1 0) 0 i (i * P T)
+  first-next : bitAt notes (i * P T + 0) ≡ false → Next T holds n notes trail (walkAt 0 s 0 i (i * P T) 1) 0 i (i * P T)
   unfolding stack
   first-next o =
       record {
@@ -212,12 +211,12 @@ module _ (T : Tables) (holds : ℕ → ℕ → Bool) (n : ℕ) (Q : Type 0) (not
   bit-is : (b : Bool) → bitAt notes (i * P T + 0) ≡ b → getD F (i * P T) false ≡ b
   bit-is b o = let z : i * P T + 0 ≡ i * P T = omega arith in rw z at (bitsOf-at notes (N T n) (i * P T + 0) first-below ∙ o)
 
-  first-stands : (b : Bool) → bitAt notes (i * P T + 0) ≡ b → Stands T holds n Q notes trail (walkAt 0 s 0 i (i * P T) (oneUnless b) 0)
+  first-stands : (b : Bool) → bitAt notes (i * P T + 0) ≡ b → Stands T holds n notes trail (walkAt 0 s 0 i (i * P T) (oneUnless b))
   unfolding oneUnless
-  first-stands true o = record { next = λ d. absurd (never d); stuck = λ _ _ l. absurd (not-suc-le-zero l); ends = λ d. absurd (never d) }
-  first-stands false o = record { next = λ _. first-next o; stuck = λ d. absurd (d refl); ends = λ d. absurd (never d) }
+  first-stands true o = record { next = λ d. absurd (never d); stuck = λ _ _ l. absurd (not-suc-le-zero l); ends = λ d. absurd (zero-two d) }
+  first-stands false o = record { next = λ _. first-next o; stuck = λ d. absurd (d refl); ends = λ d. absurd (one-two d) }
 
-  first-same : (b : Bool) → bitAt notes (i * P T + 0) ≡ b → comes T holds n notes trail (walkAt 0 s 0 i (i * P T) (oneUnless b) 0) ≡ attemptBy T holds n F s i
+  first-same : (b : Bool) → bitAt notes (i * P T + 0) ≡ b → comes T holds n notes trail (walkAt 0 s 0 i (i * P T) (oneUnless b)) ≡ attemptBy T holds n F s i
   unfolding comes resumed entering stack resume oneUnless
   first-same true o = rw (bit-is true o)
   first-same false o =
@@ -225,7 +224,7 @@ module _ (T : Tables) (holds : ℕ → ℕ → Bool) (n : ℕ) (Q : Type 0) (not
       rw (z, bit-is false o) (resume-one (graphOf T holds n) (N T n) F (suc s) (i * P T))
 
   module _ (v : Walk) (e : v ≡ tryAt notes 0 s 0 i (i * P T)) where
-    first-reached : Reached T holds n Q notes trail (attemptBy T holds n F s i) notes trail v
+    first-reached : Reached T holds n notes trail (attemptBy T holds n F s i) notes trail v
     first-reached =
         rw e (record {
           good = first-good (oneUnless (bitAt notes (i * P T + 0)));
@@ -237,15 +236,15 @@ module _ (T : Tables) (holds : ℕ → ℕ → Bool) (n : ℕ) (Q : Type 0) (not
           trail-beyond = λ k l. refl;
         })
 
-    pub first-moves : Moves T holds n Q notes trail v
+    pub first-moves : Moves T holds n notes trail v
     first-moves = record { state = record { good = first-reached .good; stands = first-reached .stands }; still = λ _. rw e refl }
 
-    pub attempt-done : (notes′ trail′ : List ℕ) (r : Walk) → Ran T holds n Q notes trail v notes′ trail′ r → Done T holds n Q notes trail i s notes′ trail′ r
+    pub attempt-done : (notes′ trail′ : List ℕ) (r : Walk) → Ran T holds n notes trail v notes′ trail′ r → Done T holds n notes trail i s notes′ trail′ r
     attempt-done notes′ trail′ r d =
-        let a : Reached T holds n Q notes trail (attemptBy T holds n F s i) notes′ trail′ r =
-        reached-on T holds n Q notes trail _ notes trail v notes′ trail′ r first-reached (d .reached) in
+        let a : Reached T holds n notes trail (attemptBy T holds n F s i) notes′ trail′ r =
+        reached-on T holds n notes trail _ notes trail v notes′ trail′ r first-reached (d .reached) in
         record {
-          same = sym (a .same) ∙ comes-idle T holds n notes′ trail′ r (d .down) ∙ comes-out T holds n Q notes′ trail′ r (a .good) (d .last);
+          same = sym (a .same) ∙ comes-idle T holds n notes′ trail′ r (d .down) ∙ comes-out T holds n notes′ trail′ r (a .good) (d .last);
           reached = a;
           last = d .last;
         }

@@ -1,89 +1,70 @@
-// One attempt of the counted walk, over flat tables of places, lent notes (a bit for each pair: it has failed) and a lent trail (the open pairs).
+// One attempt of the counted walk, over the table of places, lent notes (a bit for each pair: it has failed) and a lent trail (the open pairs).
 // A pair is the number row * P + place. Pairs are entered in one function only, `enter`, which counts the entry, and it is called in one place. No pair
-// is entered that has failed, so an attempt takes no more steps than there are pairs. The promise is `Done` (specs/State): the result is the definition's.
+// is entered that has failed, so an attempt takes no more steps than there are pairs. An attempt is `begin`, which tries its first pair, and `go_on`, which
+// walks from a state on until no pair is to be entered or END is open. The promise is `Done` (crates/pairs/specs/State): the result is the definition's.
 use entering::enter;
+use pairs::BACK;
+use pairs::ENTER;
+use pairs::Extent;
+use pairs::FOUND;
 use pairs::Walk;
 use pairs::failed;
 use pairs::mark;
+use pairs::open_at;
+use pairs::place_of;
 use pairs::put_way;
+use pairs::row_of;
 use pairs::tried;
 use pairs::way_after;
-use pairs::wide;
-use pairs::wide32;
+use pairs::way_of;
+use table::begin_at;
+use table::count_at;
+use table::word_at;
 ghost use mathlib.Core.Path.{_≡_};
-ghost use Rattle.pairs.specs.Tables.{tables};
+ghost use Prim.Native.Nat.{_+_, _*_};
+ghost use Rattle.pairs.specs.Layout.{layout};
 ghost use Rattle.tests.specs.Tests.{Letters};
 ghost use Rattle.pairs.specs.Letters.{holdsIn};
-ghost use Rattle.pairs.specs.State.{Goes, Halts, Backward, Descended, Idle, Retreated, Moves, Ran, Ready, Done};
+ghost use Rattle.pairs.specs.Step.{Noted, tryAt};
+ghost use Rattle.pairs.specs.State.{Goes, Halting, Backward, Descended, Idling, Retreated, Moves, Ran};
 
 // On while there is a pair to be entered.
 fn descend(
-    code: &[u8],
-    next: &[u16],
-    entry: &[u32],
-    stop: &[u16],
-    ways: &[u16],
-    rows: &[i32],
-    columns: usize,
-    n: usize,
+    words: &[u16],
     tests: &[u64; 208],
     query: &[u8],
+    rows: &[i32],
     notes: &mut [u8],
     trail: &mut [u32],
+    size: Extent,
     from: Walk,
 ) -> Walk
-    requires { ⌜ Goes (tables (now code) (now next) (now entry) (now stop) (now ways)) (holdsIn (now rows) columns (now query) (now tests)) n (Letters (now tests) (now query) (now rows) columns n) (now notes) (now trail) from ⌝ }
-    ensures { λ r. ⌜ Descended (tables (now (code .entry)) (now (next .entry)) (now (entry .entry)) (now (stop .entry)) (now (ways .entry))) (holdsIn (now (rows .entry)) columns (now (query .entry)) (now (tests .entry))) n (Letters (now (tests .entry)) (now (query .entry)) (now (rows .entry)) columns n) (now (notes .entry)) (now
+    requires { ⌜ Letters (now tests) (now query) (now rows) (size .columns) (size .rows) × Goes (layout (now words) (size .places)) (holdsIn (now rows) (size .columns) (now query) (now tests)) (size .rows) (now notes) (now trail) from ⌝ }
+    ensures { λ r. ⌜ Descended (layout (now (words .entry)) (size .places)) (holdsIn (now (rows .entry)) (size .columns) (now (query .entry)) (now (tests .entry))) (size .rows) (now (notes .entry)) (now
         (trail .entry)) from (now (notes .exit)) (now (trail .exit)) r ⌝ }
 {
     let mut w = from;
-    while w.down == 1 {
-        w = enter(
-            code,
-            next,
-            entry,
-            rows,
-            columns,
-            n,
-            tests,
-            query,
-            notes,
-            trail,
-            w,
-        );
+    while w.status == ENTER {
+        w = enter(words, tests, query, rows, notes, trail, size, w);
     }
     w
 }
 
-// The last open pair tries its next way. Where no way is left, or the last one has failed, the pair fails.
-fn back(
-    code: &[u8],
-    next: &[u16],
-    entry: &[u32],
-    stop: &[u16],
-    ways: &[u16],
-    rows: &[i32],
-    columns: usize,
-    n: usize,
-    tests: &[u64; 208],
-    query: &[u8],
-    notes: &mut [u8],
-    trail: &mut [u32],
-    w: Walk,
-) -> Walk
-    requires { ⌜ Halts (tables (now code) (now next) (now entry) (now stop) (now ways)) (holdsIn (now rows) columns (now query) (now tests)) n (Letters (now tests) (now query) (now rows) columns n) (now notes) (now trail) w ⌝ }
-    ensures { λ r. ⌜ Backward (tables (now (code .entry)) (now (next .entry)) (now (entry .entry)) (now (stop .entry)) (now (ways .entry))) (holdsIn (now (rows .entry)) columns (now (query .entry)) (now (tests .entry))) n (Letters (now (tests .entry)) (now (query .entry)) (now (rows .entry)) columns n) (now (notes .entry)) (now
-        (trail .entry)) w (now (notes .exit)) (now (trail .exit)) r ⌝ }
+// The last open pair tries its next way. Where no way is left, or the last one has failed, the pair fails. Which letters hold plays no part here.
+fn back(words: &[u16], notes: &mut [u8], trail: &mut [u32], size: Extent, w: Walk) -> Walk
+    requires { ⌜ Halting (layout (now words) (size .places)) (size .rows) (now notes) (now trail) w ⌝ }
+    ensures { λ r. ⌜ ((h : Halting (layout (now (words .entry)) (size .places)) (size .rows) (now (notes .entry)) (now (trail .entry)) w)
+        → Backward (layout (now (words .entry)) (size .places)) (h .holds) (size .rows) (now (notes .entry)) (now (trail .entry)) w (now (notes .exit)) (now (trail .exit)) r) ⌝ }
 {
     let at = w.top - 1;
-    let e = wide32(trail[at]);
-    let place = e % 256;
-    let row = e / 256 % 8192;
-    let base = row * code.len();
-    let j = e / 2097152;
-    if j > 0 {
-        let q = wide(ways[j]);
-        let k = way_after(wide(stop[place]), j);
+    let e = open_at(trail, at);
+    let place = place_of(e);
+    let row = row_of(e);
+    let base = row * size.places;
+    let j = way_of(e);
+    if 0 < j {
+        let q = word_at(words, begin_at(words, place) + j);
+        let k = way_after(count_at(words, place), j);
         if !failed(notes, base + q) {
             put_way(trail, at, e, k);
             return Walk {
@@ -92,11 +73,10 @@ fn back(
                 place: q,
                 row,
                 base,
-                down: 1,
-                found: 0,
+                status: ENTER,
             };
         }
-        if k > 0 {
+        if 0 < k {
             put_way(trail, at, e, k);
             return Walk {
                 top: w.top,
@@ -104,8 +84,7 @@ fn back(
                 place: q,
                 row,
                 base,
-                down: 0,
-                found: 0,
+                status: BACK,
             };
         }
     }
@@ -116,151 +95,57 @@ fn back(
         place,
         row,
         base,
-        down: 0,
-        found: 0,
+        status: BACK,
     }
 }
 
 // Back along the open pairs until there is a pair to be entered, or none is open.
-fn retreat(
-    code: &[u8],
-    next: &[u16],
-    entry: &[u32],
-    stop: &[u16],
-    ways: &[u16],
-    rows: &[i32],
-    columns: usize,
-    n: usize,
-    tests: &[u64; 208],
-    query: &[u8],
-    notes: &mut [u8],
-    trail: &mut [u32],
-    from: Walk,
-) -> Walk
-    requires { ⌜ Idle (tables (now code) (now next) (now entry) (now stop) (now ways)) (holdsIn (now rows) columns (now query) (now tests)) n (Letters (now tests) (now query) (now rows) columns n) (now notes) (now trail) from ⌝ }
-    ensures { λ r. ⌜ Retreated (tables (now (code .entry)) (now (next .entry)) (now (entry .entry)) (now (stop .entry)) (now (ways .entry))) (holdsIn (now (rows .entry)) columns (now (query .entry)) (now (tests .entry))) n (Letters (now (tests .entry)) (now (query .entry)) (now (rows .entry)) columns n) (now (notes .entry)) (now
-        (trail .entry)) from (now (notes .exit)) (now (trail .exit)) r ⌝ }
+fn retreat(words: &[u16], notes: &mut [u8], trail: &mut [u32], size: Extent, from: Walk) -> Walk
+    requires { ⌜ Idling (layout (now words) (size .places)) (size .rows) (now notes) (now trail) from ⌝ }
+    ensures { λ r. ⌜ ((h : Idling (layout (now (words .entry)) (size .places)) (size .rows) (now (notes .entry)) (now (trail .entry)) from)
+        → Retreated (layout (now (words .entry)) (size .places)) (h .holds) (size .rows) (now (notes .entry)) (now (trail .entry)) from (now (notes .exit)) (now (trail .exit)) r) ⌝ }
 {
     let mut w = from;
-    while w.top > 0 {
-        if w.down == 1 {
+    while 0 < w.top {
+        if w.status == ENTER {
             return w;
         }
-        w = back(
-            code,
-            next,
-            entry,
-            stop,
-            ways,
-            rows,
-            columns,
-            n,
-            tests,
-            query,
-            notes,
-            trail,
-            w,
-        );
+        w = back(words, notes, trail, size, w);
     }
     w
 }
 
-// The walk from w on, until no pair is to be entered, or END is open.
-fn run(
-    code: &[u8],
-    next: &[u16],
-    entry: &[u32],
-    stop: &[u16],
-    ways: &[u16],
-    rows: &[i32],
-    columns: usize,
-    n: usize,
+// The walk from a state on, until no pair is to be entered, or END is open.
+pub fn go_on(
+    words: &[u16],
     tests: &[u64; 208],
     query: &[u8],
+    rows: &[i32],
     notes: &mut [u8],
     trail: &mut [u32],
+    size: Extent,
     from: Walk,
 ) -> Walk
-    requires { ⌜ Moves (tables (now code) (now next) (now entry) (now stop) (now ways)) (holdsIn (now rows) columns (now query) (now tests)) n (Letters (now tests) (now query) (now rows) columns n) (now notes) (now trail) from ⌝ }
-    ensures { λ r. ⌜ Ran (tables (now (code .entry)) (now (next .entry)) (now (entry .entry)) (now (stop .entry)) (now (ways .entry))) (holdsIn (now (rows .entry)) columns (now (query .entry)) (now (tests .entry))) n (Letters (now (tests .entry)) (now (query .entry)) (now (rows .entry)) columns n) (now (notes .entry)) (now (trail
+    requires { ⌜ Letters (now tests) (now query) (now rows) (size .columns) (size .rows) × Moves (layout (now words) (size .places)) (holdsIn (now rows) (size .columns) (now query) (now tests)) (size .rows) (now notes) (now trail) from ⌝ }
+    ensures { λ r. ⌜ Ran (layout (now (words .entry)) (size .places)) (holdsIn (now (rows .entry)) (size .columns) (now (query .entry)) (now (tests .entry))) (size .rows) (now (notes .entry)) (now (trail
         .entry)) from (now (notes .exit)) (now (trail .exit)) r ⌝ }
 {
     let mut w = from;
-    while w.down == 1 {
-        w = descend(
-            code,
-            next,
-            entry,
-            stop,
-            ways,
-            rows,
-            columns,
-            n,
-            tests,
-            query,
-            notes,
-            trail,
-            w,
-        );
-        let found = w.found;
-        if found == 1 {
+    while w.status == ENTER {
+        w = descend(words, tests, query, rows, notes, trail, size, w);
+        let status = w.status;
+        if status == FOUND {
             return w;
         }
-        w = retreat(
-            code,
-            next,
-            entry,
-            stop,
-            ways,
-            rows,
-            columns,
-            n,
-            tests,
-            query,
-            notes,
-            trail,
-            w,
-        );
+        w = retreat(words, notes, trail, size, w);
     }
     w
 }
 
-// One attempt: it tries the pair of the first place and the row. With a path, `top` is its length and the trail holds it.
-pub fn attempt(
-    code: &[u8],
-    next: &[u16],
-    entry: &[u32],
-    stop: &[u16],
-    ways: &[u16],
-    rows: &[i32],
-    columns: usize,
-    n: usize,
-    tests: &[u64; 208],
-    query: &[u8],
-    notes: &mut [u8],
-    trail: &mut [u32],
-    row: usize,
-    steps: usize,
-) -> Walk
-    requires { ⌜ Ready (tables (now code) (now next) (now entry) (now stop) (now ways)) (holdsIn (now rows) columns (now query) (now tests)) n (Letters (now tests) (now query) (now rows) columns n) (now notes) (now trail) row steps ⌝ }
-    ensures { λ r. ⌜ Done (tables (now (code .entry)) (now (next .entry)) (now (entry .entry)) (now (stop .entry)) (now (ways .entry))) (holdsIn (now (rows .entry)) columns (now (query .entry)) (now (tests .entry))) n (Letters (now (tests .entry)) (now (query .entry)) (now (rows .entry)) columns n) (now (notes .entry)) (now (trail
-        .entry)) row steps (now (notes .exit)) (now (trail .exit)) r ⌝ }
+// An attempt begins: it tries the pair of the first place and the row.
+pub fn begin(notes: &[u8], places: usize, row: usize, steps: usize) -> Walk
+    requires { ⌜ Noted (now notes) (row * places + 0) ⌝ }
+    ensures { λ r. ⌜ r ≡ tryAt (now (notes .entry)) 0 steps 0 row (row * places) ⌝ }
 {
-    let base = row * code.len();
-    let start = tried(notes, 0, steps, 0, row, base);
-    run(
-        code,
-        next,
-        entry,
-        stop,
-        ways,
-        rows,
-        columns,
-        n,
-        tests,
-        query,
-        notes,
-        trail,
-        start,
-    )
+    tried(notes, 0, steps, 0, row, row * places)
 }

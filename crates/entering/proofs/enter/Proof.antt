@@ -8,14 +8,11 @@ use Rattle.entering.proofs.enter.Tie as tie
 add-steps : tie.Need-add-steps
 add-steps c = omega arith
 
-shared-slice-read-c : tie.Need-shared-slice-read-c
-shared-slice-read-c c = omega arith
+code-at-requires : tie.Need-code-at-requires
+code-at-requires c κs = search needs
 
-mul-push : tie.Need-mul-push
-mul-push c = omega arith
-
-shared-slice-read-push : tie.Need-shared-slice-read-push
-shared-slice-read-push c = omega arith
+entry-at-requires : tie.Need-entry-at-requires
+entry-at-requires c κs = (omega arith, omega arith)
 
 push-requires : tie.Need-push-requires
 push-requires c κs = search needs
@@ -27,7 +24,7 @@ add-tried-2 : tie.Need-add-tried-2
 add-tried-2 c = omega arith
 
 tried-requires : tie.Need-tried-requires
-tried-requires c κs = fork-noted _ _ _ _ _ _ _ _ (c .before .before .before .before .before .before .before .before .before .before .before .before .before .before .before .pre) (c .before .before .before .before .before .before .if1 .taken)
+tried-requires c κs = fork-noted _ _ _ _ _ (c .before .before .before .before .before .before .before .before .before .before .before .before .before .pre .1) _ (c .before .before .before .before .before .before .before .code-at .ensures) (c .before .before .before .before .before .before .if1 .taken)
 
 same-length : tie.Need-same-length
 same-length c = omega arith
@@ -36,7 +33,7 @@ same-length-2 : tie.Need-same-length-2
 same-length-2 c = omega arith
 
 returns : tie.Need-returns
-returns c = enter-fork _ _ _ _ _ _ _ _ _ _ _ (c .before .before .before .before .push .ensures) (c .before .before .before .before .before .before .before .if1 .taken) (c .before .before .before .before .before .before .before .before .before .before .before .before .before .before .before .before .pre .near) (c .tried .ensures)
+returns c = enter-fork _ _ _ _ _ _ _ (c .before .before .before .before .before .before .before .before .before .before .before .before .before .before .pre .1) _ (c .before .before .before .before .before .before .before .before .code-at .ensures) (c .before .before .before .before .before .before .before .if1 .taken) _ (c .before .before .before .before .before .entry-at .ensures) _ (c .before .before .before .before .push .ensures) _ (c .tried .ensures)
 
 letter-passes-requires : tie.Need-letter-passes-requires
 letter-passes-requires c κs = search needs
@@ -48,16 +45,10 @@ same-length-3 : tie.Need-same-length-3
 same-length-3 c = omega arith
 
 returns-2 : tie.Need-returns-2
-returns-2 c = search (needs, enter-shut)
+returns-2 c = enter-shut _ _ _ _ _ _ _ (c .before .before .before .before .before .before .before .before .before .before .before .before .before .before .pre .1) _ (c .before .before .before .before .before .before .before .before .code-at .ensures) _ (c .before .before .before .before .before .letter-passes .ensures) (c .before .before .before .before .if3 .taken) _ _ (c .before .before .fails .ensures)
 
-mul-wide : tie.Need-mul-wide
-mul-wide c = omega arith
-
-shared-slice-read-wide : tie.Need-shared-slice-read-wide
-shared-slice-read-wide c = omega arith
-
-wide-requires : tie.Need-wide-requires
-wide-requires c κs = search needs
+first-at-requires : tie.Need-first-at-requires
+first-at-requires c κs = search needs
 
 add-ahead : tie.Need-add-ahead
 add-ahead c = omega arith
@@ -66,7 +57,7 @@ add-failed : tie.Need-add-failed
 add-failed c = omega arith
 
 failed-requires : tie.Need-failed-requires
-failed-requires c κs = letter-noted _ _ _ _ _ _ _ _ (c .before .before .before .before .before .before .before .before .before .before .before .before .before .before .before .pre) _ (c .before .wide .ensures .0) _ _ (c .before .before .before .before .before .if2 .taken) (c .before .before .before .before .letter-passes .ensures) (c .before .before .before .if3 .left) .1
+failed-requires c κs = letter-noted _ _ _ _ _ (c .before .before .before .before .before .before .before .before .before .before .before .before .before .pre .1) _ (c .before .before .before .before .before .before .before .code-at .ensures) _ (c .before .before .first-at .ensures) _ _ (c .before .before .before .before .before .if2 .taken) (c .before .before .before .before .letter-passes .ensures) (c .before .before .before .if3 .left) .1
 
 fails-requires-2 : tie.Need-fails-requires-2
 fails-requires-2 c κs = search needs
@@ -75,22 +66,16 @@ same-length-4 : tie.Need-same-length-4
 same-length-4 c = omega arith
 
 returns-3 : tie.Need-returns-3
-returns-3 c = search (needs, enter-stuck)
-
-mul-push-2 : tie.Need-mul-push-2
-mul-push-2 c = omega arith
-
-shared-slice-read-push-2 : tie.Need-shared-slice-read-push-2
-shared-slice-read-push-2 c = omega arith
+returns-3 c = enter-stuck _ _ _ _ _ _ _ (c .before .before .before .before .before .before .before .before .before .before .before .before .before .before .before .before .before .before .before .pre .1) _ (c .before .before .before .before .before .before .before .before .before .before .before .before .before .code-at .ensures) _ (c .before .before .before .before .before .before .before .before .before .before .letter-passes .ensures) (c .before .before .before .before .before .before .before .before .before .if3 .left) (c .before .before .before .before .before .before .before .before .before .before .before .if2 .taken) _ (c .before .before .before .before .before .before .before .before .first-at .ensures) _ (c .before .before .before .before .before .failed .ensures) (c .before .before .before .before .if4 .taken) _ _ (c .before .before .fails2 .ensures)
 
 push-requires-2 : tie.Need-push-requires-2
 push-requires-2 c κs = search needs
 
-add-t37 : tie.Need-add-t37
-add-t37 c = omega arith
+add-t33 : tie.Need-add-t33
+add-t33 c = omega arith
 
-add-t50 : tie.Need-add-t50
-add-t50 c = omega arith
+add-t39 : tie.Need-add-t39
+add-t39 c = omega arith
 
 same-length-5 : tie.Need-same-length-5
 same-length-5 c = omega arith
@@ -99,7 +84,7 @@ same-length-6 : tie.Need-same-length-6
 same-length-6 c = omega arith
 
 returns-4 : tie.Need-returns-4
-returns-4 c = enter-letter _ _ _ _ _ _ _ _ _ _ _ _ _ (c .before .before .before .before .before .before .before .before .before .before .before .letter-passes .ensures) (c .before .before .before .before .before .before .before .before .before .before .if3 .left) (c .before .before .push2 .ensures) (c .before .before .before .before .before .before .before .before .before .before .before .before .if2 .taken) (c .before .before .before .before .before .before .before .before .wide .ensures .0) (c .before .before .before .before .before .before .failed .ensures) (c .before .before .before .before .before .if4 .left)
+returns-4 c = enter-letter _ _ _ _ _ _ _ (c .before .before .before .before .before .before .before .before .before .before .before .before .before .before .before .before .before .before .before .pre .1) _ (c .before .before .before .before .before .before .before .before .before .before .before .before .before .code-at .ensures) _ (c .before .before .before .before .before .before .before .before .before .before .letter-passes .ensures) (c .before .before .before .before .before .before .before .before .before .if3 .left) (c .before .before .before .before .before .before .before .before .before .before .before .if2 .taken) _ (c .before .before .before .before .before .before .before .before .first-at .ensures) _ (c .before .before .before .before .before .failed .ensures) (c .before .before .before .before .if4 .left) _ (c .before .before .push2 .ensures)
 
 anchor-passes-requires : tie.Need-anchor-passes-requires
 anchor-passes-requires c κs = search needs
@@ -111,13 +96,10 @@ same-length-7 : tie.Need-same-length-7
 same-length-7 c = omega arith
 
 returns-5 : tie.Need-returns-5
-returns-5 c = enter-shut _ _ _ _ _ _ _ _ _ _ _ _ (c .before .before .before .before .before .anchor-passes .ensures _) (c .before .before .before .before .if5 .taken) (c .before .before .fails3 .ensures .0) (c .before .before .fails3 .ensures .1)
+returns-5 c = enter-shut _ _ _ _ _ _ _ (c .before .before .before .before .before .before .before .before .before .before .before .before .before .before .pre .1) _ (c .before .before .before .before .before .before .before .before .code-at .ensures) _ ((c .before .before .before .before .before .anchor-passes .ensures) _) (c .before .before .before .before .if5 .taken) _ _ (c .before .before .fails3 .ensures)
 
-mul-push-3 : tie.Need-mul-push-3
-mul-push-3 c = omega arith
-
-shared-slice-read-push-3 : tie.Need-shared-slice-read-push-3
-shared-slice-read-push-3 c = omega arith
+entry-at-requires-2 : tie.Need-entry-at-requires-2
+entry-at-requires-2 c κs = (omega arith, omega arith)
 
 push-requires-3 : tie.Need-push-requires-3
 push-requires-3 c κs = search needs
@@ -129,22 +111,16 @@ same-length-8 : tie.Need-same-length-8
 same-length-8 c = omega arith
 
 returns-6 : tie.Need-returns-6
-returns-6 c = enter-end _ _ _ _ _ _ _ _ _ _ _ (c .before .before .before .before .before .before .before .anchor-passes .ensures _) (c .before .before .before .before .before .before .if5 .left) (c .before .before .before .push3 .ensures) (c .if6 .taken)
+returns-6 c = enter-end _ _ _ _ _ _ _ (c .before .before .before .before .before .before .before .before .before .before .before .before .before .before .before .before .pre .1) _ (c .before .before .before .before .before .before .before .before .before .before .code-at .ensures) _ ((c .before .before .before .before .before .before .before .anchor-passes .ensures) _) (c .before .before .before .before .before .before .if5 .left) _ (c .before .before .before .before .entry-at2 .ensures) _ (c .before .before .before .push3 .ensures) (c .if6 .taken)
 
 add-tried-3 : tie.Need-add-tried-3
 add-tried-3 c = omega arith
 
-mul-wide-2 : tie.Need-mul-wide-2
-mul-wide-2 c = omega arith
-
-shared-slice-read-wide-2 : tie.Need-shared-slice-read-wide-2
-shared-slice-read-wide-2 c = omega arith
-
-wide-requires-2 : tie.Need-wide-requires-2
-wide-requires-2 c κs = search needs
+first-at-requires-2 : tie.Need-first-at-requires-2
+first-at-requires-2 c κs = search needs
 
 tried-requires-2 : tie.Need-tried-requires-2
-tried-requires-2 c κs = anchor-noted _ _ _ _ _ _ _ _ (c .before .before .before .before .before .before .before .before .before .before .before .before .before .before .before .before .before .before .before .before .before .pre) _ (c .wide2 .ensures .0) (c .before .before .before .before .before .before .before .before .before .before .before .if2 .left) (c .before .before .before .if6 .left)
+tried-requires-2 c κs = anchor-noted _ _ _ _ _ (c .before .before .before .before .before .before .before .before .before .before .before .before .before .before .before .before .before .before .pre .1) _ (c .before .before .before .before .before .before .before .before .before .before .before .before .code-at .ensures) _ (c .first-at2 .ensures) (c .before .before .before .before .before .before .before .before .before .before .if2 .left) (c .before .before .if6 .left)
 
 same-length-9 : tie.Need-same-length-9
 same-length-9 c = omega arith
@@ -153,16 +129,15 @@ same-length-10 : tie.Need-same-length-10
 same-length-10 c = omega arith
 
 returns-7 : tie.Need-returns-7
-returns-7 c = enter-anchor _ _ _ _ _ _ _ _ _ _ _ _ _ (c .before .before .before .before .before .before .before .before .before .before .before .anchor-passes .ensures _) (c .before .before .before .before .before .before .before .before .before .before .if5 .left) (c .before .before .before .before .before .before .before .push3 .ensures) (c .before .before .before .before .before .before .before .before .before .before .before .before .if2 .left) (c .before .before .before .before .if6 .left) (c .before .wide2 .ensures .0) (c .tried2 .ensures)
+returns-7 c = enter-anchor _ _ _ _ _ _ _ (c .before .before .before .before .before .before .before .before .before .before .before .before .before .before .before .before .before .before .before .pre .1) _ (c .before .before .before .before .before .before .before .before .before .before .before .before .before .code-at .ensures) _ ((c .before .before .before .before .before .before .before .before .before .before .anchor-passes .ensures) _) (c .before .before .before .before .before .before .before .before .before .if5 .left) _ (c .before .before .before .before .before .before .before .entry-at2 .ensures) _ (c .before .before .before .before .before .before .push3 .ensures) (c .before .before .before .before .before .before .before .before .before .before .before .if2 .left) (c .before .before .before .if6 .left) _ (c .before .first-at2 .ensures) _ (c .tried2 .ensures)
 
 pub enter-spec : {M : Type 1} → statement M
 enter-spec =
     tie.close
     (tie.spec
     add-steps
-    shared-slice-read-c
-    mul-push
-    shared-slice-read-push
+    code-at-requires
+    entry-at-requires
     push-requires
     add-tried
     add-tried-2
@@ -174,20 +149,16 @@ enter-spec =
     fails-requires
     same-length-3
     returns-2
-    mul-wide
-    shared-slice-read-wide
-    wide-requires
+    first-at-requires
     add-ahead
     add-failed
     failed-requires
     fails-requires-2
     same-length-4
     returns-3
-    mul-push-2
-    shared-slice-read-push-2
     push-requires-2
-    add-t37
-    add-t50
+    add-t33
+    add-t39
     same-length-5
     same-length-6
     returns-4
@@ -195,16 +166,13 @@ enter-spec =
     fails-requires-3
     same-length-7
     returns-5
-    mul-push-3
-    shared-slice-read-push-3
+    entry-at-requires-2
     push-requires-3
     add-opened
     same-length-8
     returns-6
     add-tried-3
-    mul-wide-2
-    shared-slice-read-wide-2
-    wide-requires-2
+    first-at-requires-2
     tried-requires-2
     same-length-9
     same-length-10

@@ -1,4 +1,4 @@
--- `forks::among` meets its contract. Laws: WayLaws.
+use native.Mathlib.Omega.{arith}
 use Rattle.forks.proofs.WayLaws.{Looked, looked-none, looked-end, looked-found, looked-more}
 use Prim.Native.Nat.{_-_}
 use borrow.Author.Needs.{needs}
@@ -14,26 +14,20 @@ abbrev μ-loop : tie.MeasureT-loop
 loop-holds : tie.Need-loop-holds Inv-loop μ-loop
 loop-holds c = search (needs, looked-none)
 
-mul-wide : tie.Need-mul-wide Inv-loop μ-loop
-mul-wide c = search needs
-
-shared-slice-read-wide : tie.Need-shared-slice-read-wide Inv-loop μ-loop
-shared-slice-read-wide c = search needs
-
-wide-requires : tie.Need-wide-requires Inv-loop μ-loop
-wide-requires c κs = search needs
+word-at-requires : tie.Need-word-at-requires Inv-loop μ-loop
+word-at-requires c κs = search needs
 
 returns : tie.Need-returns Inv-loop μ-loop
 returns c = search (needs, looked-found)
 
 add-j : tie.Need-add-j Inv-loop μ-loop
-add-j c = search needs
+add-j c = omega arith
 
 loop-less : tie.Need-loop-less Inv-loop μ-loop
 loop-less c = search needs
 
 loop-again : tie.Need-loop-again Inv-loop μ-loop
-loop-again c = looked-more _ _ _ _ _ (c .before .before .before .before .loop .inv) _ (c .before .before .before .loop-test .taken) (c .before .wide .ensures) (c .if1 .left)
+loop-again c = looked-more _ _ _ _ _ (c .before .before .before .loop .inv) _ (c .before .before .loop-test .taken) (c .before .word-at .ensures) (c .if1 .left)
 
 returns-2 : tie.Need-returns-2 Inv-loop μ-loop
 returns-2 c = search (needs, looked-end)
@@ -45,9 +39,7 @@ among-spec =
     Inv-loop
     μ-loop
     loop-holds
-    mul-wide
-    shared-slice-read-wide
-    wide-requires
+    word-at-requires
     returns
     add-j
     loop-less

@@ -1,4 +1,5 @@
 -- `forks::put_way` meets its contract. Laws: WayLaws.
+use native.Mathlib.Omega.{arith}
 use Rattle.forks.proofs.WayLaws.{way-old, way-new, way-fits}
 use borrow.Author.Needs.{needs}
 use Rattle.forks.proofs.put_way.Statement.{statement}
@@ -8,22 +9,22 @@ among-requires : tie.Need-among-requires
 among-requires c κs = search needs
 
 same-length : tie.Need-same-length
-same-length c = search needs
+same-length c = omega arith
 
 returns : tie.Need-returns
 returns c = way-old _ _ _ _ _ (c .before .among .ensures) (c .if1 .taken)
 
 cast-table : tie.Need-cast-table
-cast-table c = search needs
+cast-table c = omega arith
 
 mul-table : tie.Need-mul-table
-mul-table c = search needs
+mul-table c = omega arith
 
 slice-write-table : tie.Need-slice-write-table
 slice-write-table c = way-fits _ _ _ _ _ (c .before .among .ensures) (c .before .before .before .before .pre) (c .if1 .left)
 
 add-result : tie.Need-add-result
-add-result c = search needs
+add-result c = omega arith
 
 same-length-2 : tie.Need-same-length-2
 same-length-2 c = search needs

@@ -1,6 +1,6 @@
 -- `places::turns_behind` meets its contract. Laws: WayLaws.
+use native.Mathlib.Omega.{arith}
 use Rattle.forks.proofs.WayLaws.{turns-open, turns-shut}
-use borrow.Author.Needs.{needs}
 use Rattle.places.proofs.turns_behind.Statement.{statement}
 use Rattle.places.proofs.turns_behind.Tie as tie
 
@@ -8,7 +8,7 @@ returns : tie.Need-returns
 returns c = turns-open _ _ (c .if1 .taken)
 
 sub-result : tie.Need-sub-result
-sub-result c = search needs
+sub-result c = omega arith
 
 returns-2 : tie.Need-returns-2
 returns-2 c = turns-shut _ _ (c .if1 .left)

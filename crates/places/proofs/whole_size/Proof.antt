@@ -1,6 +1,7 @@
 -- `places::whole_size` meets its contract. Laws: EmitLaws, ForkLaws.
 use Rattle.places.proofs.EmitLaws.{whole-alt, whole-one, whole-fits, at-node}
 use Rattle.forks.proofs.ForkLaws.{not-alternation}
+use native.Mathlib.Omega.{arith}
 use borrow.Author.Needs.{needs}
 use Rattle.places.proofs.whole_size.Statement.{statement}
 use Rattle.places.proofs.whole_size.Tie as tie
@@ -15,7 +16,8 @@ enum-told : tie.Need-enum-told
 enum-told c = search needs
 
 add-result : tie.Need-add-result
-add-result c = whole-fits _ _ _ (c .before .before .before .before .before .pre) (c .before .before .before .places-at .ensures)
+add-result c = whole-fits _ _ _ (c .before .before .before .before .before .pre) (c .before .before .before .places-at .ensures) _
+    (omega arith)
 
 returns : tie.Need-returns
 returns c = whole-alt _ _ _ _ (c .before .before .before .places-at .ensures) (c .before .before .sort-at .ensures) (c .enum-told .given .1)

@@ -1,11 +1,10 @@
 -- `search::search_in` meets its contract by the laws of Answering.
-use Prim.Native.Nat.{ℕ}
-use mathlib.Core.List.{[]}
 use mathlib.Core.Path.{refl}
-use lib.ListN.{length-replicate}
-use borrow.Author.Needs.{needs}
+use mathlib.Core.List.{[]}
 use Rattle.reading.proofs.Laws.{some-column}
 use Rattle.search.proofs.Answering.{search-refuses, search-rows, rows-fit, pairs-fit, pairs-few, search-short, search-walks, search-ends}
+use native.Mathlib.Omega.{arith}
+use borrow.Author.Needs.{needs}
 use Rattle.search.proofs.search_in.Statement.{statement}
 use Rattle.search.proofs.search_in.Tie as tie
 
@@ -54,11 +53,14 @@ same-length-3 c = search needs
 returns-3 : tie.Need-returns-3
 returns-3 c = search (needs, search-short)
 
+accepted-requires : tie.Need-accepted-requires
+accepted-requires c κs = search needs
+
 walk-all-requires : tie.Need-walk-all-requires
-walk-all-requires c κs = search-walks _ _ _ _ _ _ (c .before .before .before .before .before .before .before .before .before .before .before .before .before .before .before .before .read-query .ensures) _ _ _ [] [] (c .before .before .before .before .before .before .before .before .before .before .before .before .before .if1 .left) _ (c .before .before .before .before .before .before .before .before .before .before .before .before .bad-rows .ensures) (c .before .before .before .before .before .before .before .before .before .before .before .if2 .left) _ refl _ (c .before .before .before .before .before .before .before .before .before .short-room .ensures) (c .before .before .before .before .before .before .before .before .if3 .left) (length-replicate {A = ℕ} 24 0)
+walk-all-requires c κs = search-walks _ _ _ _ _ _ (c .before .before .before .before .before .before .before .before .before .before .before .before .before .before .before .before .read-query .ensures) _ _ _ [] [] (c .before .before .before .before .before .before .before .before .before .before .before .before .before .if1 .left) _ (c .before .before .before .before .before .before .before .before .before .before .before .before .bad-rows .ensures) (c .before .before .before .before .before .before .before .before .before .before .before .if2 .left) _ refl _ (c .before .before .before .before .before .before .before .before .before .short-room .ensures) (c .before .before .before .before .before .before .before .before .if3 .left) _ (c .accepted .ensures)
 
 same-length-4 : tie.Need-same-length-4
-same-length-4 c = c .before .before .before .before .before .before .before .before .before .before .before .before .before .before .before .before .before .before .before .before .before .before .before .nodes .given
+same-length-4 c = (c .before .before .before .before .before .before .before .before .before .before .before .before .before .before .before .before .before .before .before .before .before .before .before .nodes .given)
 
 same-length-5 : tie.Need-same-length-5
 same-length-5 c = search needs
@@ -94,6 +96,7 @@ search-in-spec =
     refused-requires-3
     same-length-3
     returns-3
+    accepted-requires
     walk-all-requires
     same-length-4
     same-length-5

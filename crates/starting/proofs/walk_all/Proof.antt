@@ -1,4 +1,4 @@
--- `starting::walk_all` meets its contract: both tables have room for the places.
+-- `starting::walk_all` meets its contract : both tables have room for the places.
 use Rattle.starting.proofs.Starting.{in-small, in-large}
 use borrow.Author.Needs.{needs}
 use Rattle.starting.proofs.walk_all.Statement.{statement}
@@ -8,7 +8,7 @@ slice-aggregate-walk-in : tie.Need-slice-aggregate-walk-in
 slice-aggregate-walk-in c = search needs
 
 walk-in-requires : tie.Need-walk-in-requires
-walk-in-requires c κs = search (needs, in-small)
+walk-in-requires c κs = in-small _ _ _ _ _ _ _ _ _ _ _ _ _ _ (c .before .before .before .before .before .before .before .before .before .before .before .before .before .before .pre) (c .before .before .before .before .before .if1 .taken)
 
 same-length : tie.Need-same-length
 same-length c = search needs
@@ -29,7 +29,7 @@ slice-aggregate-walk-in-2 : tie.Need-slice-aggregate-walk-in-2
 slice-aggregate-walk-in-2 c = search needs
 
 walk-in-requires-2 : tie.Need-walk-in-requires-2
-walk-in-requires-2 c κs = search (needs, in-large)
+walk-in-requires-2 c κs = in-large _ _ _ _ _ _ _ _ _ _ _ _ _ _ (c .before .before .before .before .before .before .before .before .before .before .before .before .before .before .pre)
 
 same-length-5 : tie.Need-same-length-5
 same-length-5 c = search needs

@@ -1,0 +1,13 @@
+-- `forks::fork_code` meets its contract. Laws: WayLaws.
+use Rattle.forks.proofs.WayLaws.{near-code, far-code}
+use Rattle.forks.proofs.fork_code.Statement.{statement}
+use Rattle.forks.proofs.fork_code.Tie as tie
+
+returns : tie.Need-returns
+returns c = near-code _ _ (c .if1 .taken)
+
+returns-2 : tie.Need-returns-2
+returns-2 c = far-code _ _ (c .if1 .left)
+
+pub fork-code-spec : {M : Type 1} → statement M
+fork-code-spec = tie.close (tie.spec returns returns-2)

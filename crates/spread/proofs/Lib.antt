@@ -1,3 +1,0 @@
-pub mod Parting
-pub mod Forking
-pub mod Places

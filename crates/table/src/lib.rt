@@ -1,0 +1,69 @@
+// The words of the table of places, each read by a function of its name: code, first place, where a fork's ways begin, and how many they are. The layout is
+// told in specs/Table; who reads the table names these functions, so that the layout can change here alone.
+ghost use mathlib.Core.Path.{_≡_};
+ghost use Prim.Native.Nat.{_+_, _*_, _≤_, _<_};
+ghost use lib.ListN.{length, getD};
+ghost use Rattle.table.specs.Table.{codeAt, firstAt, beginAt, countAt};
+
+// The words of a place.
+pub const WORDS: usize = 4;
+
+// The codes of places: below LETTERS the letters A to Z, then these.
+pub const LETTERS: usize = 26;
+
+pub const CARET: usize = 26;
+
+pub const DOLLAR: usize = 27;
+
+// A fork that tries the place behind it first, so that the walk knows that place without a look at the table.
+pub const NEAR_FORK: usize = 28;
+
+pub const FORK: usize = 29;
+
+pub const END: usize = 30;
+
+fn wide(x: u16) -> usize
+    ensures { λ r. ⌜ (r ≡ x) × (r < 65536) ⌝ }
+{
+    x as usize
+}
+
+// The word at an index.
+pub fn word_at(table: &[u16], at: usize) -> usize
+    requires { ⌜ at < length (now table) ⌝ }
+    ensures { λ r. ⌜ (r ≡ getD (now (table .entry)) at 0) × (r < 65536) ⌝ }
+{
+    wide(table[at])
+}
+
+// The code of place q.
+pub fn code_at(table: &[u16], q: usize) -> usize
+    requires { ⌜ 4 * q + 4 ≤ length (now table) ⌝ }
+    ensures { λ r. ⌜ (r ≡ codeAt (now (table .entry)) q) × (r < 65536) ⌝ }
+{
+    wide(table[WORDS * q])
+}
+
+// The place that is tried first from place q.
+pub fn first_at(table: &[u16], q: usize) -> usize
+    requires { ⌜ 4 * q + 4 ≤ length (now table) ⌝ }
+    ensures { λ r. ⌜ (r ≡ firstAt (now (table .entry)) q) × (r < 65536) ⌝ }
+{
+    wide(table[WORDS * q + 1])
+}
+
+// The word at which the ways of the fork at place q begin.
+pub fn begin_at(table: &[u16], q: usize) -> usize
+    requires { ⌜ 4 * q + 4 ≤ length (now table) ⌝ }
+    ensures { λ r. ⌜ (r ≡ beginAt (now (table .entry)) q) × (r < 65536) ⌝ }
+{
+    wide(table[WORDS * q + 2])
+}
+
+// How many ways the fork at place q has; 0 for any other place.
+pub fn count_at(table: &[u16], q: usize) -> usize
+    requires { ⌜ 4 * q + 4 ≤ length (now table) ⌝ }
+    ensures { λ r. ⌜ (r ≡ countAt (now (table .entry)) q) × (r < 65536) ⌝ }
+{
+    wide(table[WORDS * q + 3])
+}
