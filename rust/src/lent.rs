@@ -5,7 +5,7 @@
 //! what is written. All `unsafe` code of this crate stands here.
 
 /// Bytes of stack that a call of [`search()`] or [`room()`] needs, 32 KiB; the C header's
-/// `MIRELADLE_STACK`. It is measured and not proved: the worst query that was found took 27,184, and
+/// `MIRELADLE_STACK`. It is measured and not proved: the worst query that was found took 29,264, and
 /// the rest is reserve.
 ///
 /// Threads of the standard library have 2 MiB. One that is given less by

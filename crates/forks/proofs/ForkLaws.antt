@@ -24,16 +24,23 @@ use Rattle.nodes.proofs.Sort.{the-type}
 use Rattle.pattern.specs.Held.{Top, At}
 use Rattle.pattern.proofs.ByNode.{as-any, as-alt, at-in, alt-left, alt-right, top-places}
 use Rattle.table.specs.Table.{span}
-use Rattle.forks.specs.Emitting.{putWays, putWords, forkCode, putPlace, putFork, ForkNeeds, wayCount, waysIn, putPlaces, Fitting, Emitted, WayPut, WayNeeds, newStarts, Starting, Started, twoPlaces, TwoWays, choicePlaces, Choosing, forkPlaces, Forking}
-use Rattle.forks.proofs.TableLaws.{ways-length, ways-first}
+use Rattle.forks.specs.Emitting.{putWays, putWords, forkCode, laterWord, putPlace, putFork, ForkNeeds, wayCount, waysIn, putPlaces, Fitting, Emitted, WayPut, WayNeeds, newStarts, Starting, Started, twoPlaces, TwoWays, choicePlaces, Choosing, forkPlaces, Forking}
+use Rattle.forks.proofs.TableLaws.{ways-length, ways-first, later-read}
 use Rattle.forks.proofs.WayLaws.{AfterWay, after-way, start-end, start-by-size}
 
 -- ---- a place that is put
 
+-- the later word of a fork
+pub later-two : (y w c v : ℕ) → c ≡ 2 → (v ≡ y) × (v < 65536) → (v ≡ laterWord y w c) × (v < 65536)
+later-two y w c v e ev = (ev .0 ∙ rw (eq-eqb c 2 e), ev .1)
+
+pub later-more : (y w c : ℕ) → (c ≡ 2 → ⊥) → w < 65536 → (w ≡ laterWord y w c) × (w < 65536)
+later-more y w c e h = (rw (ne-eqb c 2 e), h)
+
 -- the words of a fork, whose first way is read
-pub fork-words : (T U : List ℕ) (b w to first code : ℕ) → (first ≡ getD T w 0) × (first < 65536) → (code ≡ forkCode first (b + 1)) × (code < 65536)
-    → U ≡ putWords T b code first w (to - w) → (to ≡ to) × (U ≡ putFork T b w to)
-fork-words T U b w to first code ef ec e = (refl, e ∙ rw (ec .0, ef .0) refl)
+pub fork-words : (T U : List ℕ) (b w to first code later : ℕ) → (first ≡ getD T w 0) × (first < 65536) → (code ≡ forkCode first (b + 1)) × (code < 65536)
+    → (later ≡ laterWord (getD T (w + 1) 0) w (to - w)) × (later < 65536) → U ≡ putWords T b code first later (to - w) → (to ≡ to) × (U ≡ putFork T b w to)
+fork-words T U b w to first code later ef ec el e = (refl, e ∙ rw (el .0, ec .0, ef .0) refl)
 
 -- a fork whose ways are put, and then its words
 module _ (T T1 : List ℕ) (b w k : ℕ) (ks : List ℕ) (to : ℕ) (f : Fitting T b w k (pFork ks ∷ [])) (s : 0 < length ks) (e1 : T1 ≡ putWays T w ks) (e2 : to ≡ w + length ks) where
@@ -56,11 +63,14 @@ module _ (T T1 : List ℕ) (b w k : ℕ) (ks : List ℕ) (to : ℕ) (f : Fitting
   fork-first : getD T1 w 0 ≡ getD ks 0 0
   fork-first = ap (λ (U : List ℕ). getD U w 0) e1 ∙ ways-first T w ks s fork-room
 
+  fork-later : laterWord (getD T1 (w + 1) 0) w (length ks) ≡ laterWord (getD ks 1 0) w (length ks)
+  fork-later = ap (λ (U : List ℕ). laterWord (getD U (w + 1) 0) w (length ks)) e1 ∙ later-read T w ks fork-room
+
   pub fork-put : (T2 : List ℕ) (r : ℕ) → (r ≡ to) × (T2 ≡ putFork T1 b w to) → Emitted T T2 b w r (pFork ks ∷ [])
   unfolding putPlaces putPlace waysIn wayCount
   fork-put T2 r d =
       let m : to - w ≡ length ks = omega arith in
-      record { is = d .1 ∙ rw (fork-first, m, e1) refl; way = omega (arith, d .0) }
+      record { is = d .1 ∙ rw (fork-first, m, fork-later, e1) refl; way = omega (arith, d .0) }
 
 -- one that is not among those seen is new
 one-new : (seen : List ℕ) (y : ℕ) (ys : List ℕ) → has y seen ≡ false → 1 ≤ length (fresh seen (y ∷ ys))

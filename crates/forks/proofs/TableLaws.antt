@@ -9,12 +9,12 @@ use native.Mathlib.Omega.{arith}
 use lib.Dec.{ltb, eqb}
 use lib.ListN.{length, getD, set, length-append, length-set}
 use lib.Seq.{getD-set-same, getD-set-other}
-use borrow.Author.Tests.{lt-ltb, eqb-true}
+use borrow.Author.Tests.{lt-ltb, ne-eqb, eqb-true}
 use Rattle.rules.specs.Basics.{pick}
 use Rattle.rules.specs.Places.{Place, pLetter, pCaret, pDollar, pFork, pEnd}
 use Rattle.rules.proofs.ThinPlaces.{Spelt}
-use Rattle.table.specs.Table.{codeAt, firstAt, beginAt, countAt, span, waysOf, placeBy, placeAt, placesFrom}
-use Rattle.forks.specs.Emitting.{putWays, putWords, letterCode, forkCode, putPlace, wayCount, waysIn, putPlaces, Fitting, Emitted}
+use Rattle.table.specs.Table.{codeAt, firstAt, laterAt, countAt, span, laterBy, laterWays, waysOf, placeBy, placeAt, placesFrom}
+use Rattle.forks.specs.Emitting.{putWays, putWords, letterCode, forkCode, laterWord, putPlace, wayCount, waysIn, putPlaces, Fitting, Emitted}
 
 -- ---- the words of a place
 
@@ -39,15 +39,15 @@ firstFor (pDollar k) = k
 firstFor (pFork ks) = getD ks 0 0
 firstFor pEnd = 0
 
-abbrev beginFor : ℕ → Place → ℕ
-beginFor w (pLetter c k) = 0
-beginFor w (pCaret k) = 0
-beginFor w (pDollar k) = 0
-beginFor w (pFork ks) = w
-beginFor w pEnd = 0
+abbrev laterFor : ℕ → Place → ℕ
+laterFor w (pLetter c k) = 0
+laterFor w (pCaret k) = 0
+laterFor w (pDollar k) = 0
+laterFor w (pFork ks) = laterWord (getD ks 1 0) w (length ks)
+laterFor w pEnd = 0
 
 place-is : (T : List ℕ) (q w : ℕ) (p : Place)
-    → putPlace T q w p ≡ putWords (putWays T w (waysFor p)) q (codeFor q p) (firstFor p) (beginFor w p) (length (waysFor p))
+    → putPlace T q w p ≡ putWords (putWays T w (waysFor p)) q (codeFor q p) (firstFor p) (laterFor w p) (length (waysFor p))
 unfolding putPlace putWays
 place-is T q w (pLetter c k) = refl
 place-is T q w (pCaret k) = refl
@@ -200,10 +200,27 @@ ways-first T w [] s h = absurd (omega arith)
 ways-first T w (k ∷ ks) s h =
     ways-kept (set T w k) (suc w) ks w (λ a b. omega arith) ∙ getD-set-same T w k 0 (omega arith)
 
+-- the second way stands at word w + 1
+ways-second : (T : List ℕ) (w : ℕ) (ks : List ℕ) → 1 < length ks → w + length ks ≤ length T → getD (putWays T w ks) (w + 1) 0 ≡ getD ks 1 0
+unfolding putWays
+ways-second T w [] s h = absurd (omega arith)
+ways-second T w (k ∷ ks) s h =
+    let e : w + 1 ≡ suc w = omega arith in
+    rw e (ways-first (set T w k) (suc w) ks (omega arith) (omega (arith, length-set T w k)))
+
+-- so the later word of a fork is read off its ways
+pub later-read : (T : List ℕ) (w : ℕ) (ks : List ℕ) → w + length ks ≤ length T
+    → laterWord (getD (putWays T w ks) (w + 1) 0) w (length ks) ≡ laterWord (getD ks 1 0) w (length ks)
+later-read T w ks h = go (eqb (length ks) 2) refl
+  where
+    go : (t : Bool) → eqb (length ks) 2 ≡ t → pick t (getD (putWays T w ks) (w + 1) 0) w ≡ pick t (getD ks 1 0) w
+    go true e = let d = eqb-true (length ks) 2 e in ways-second T w ks (omega arith) h
+    go false e = refl
+
 record Words (U : List ℕ) (q a b c d : ℕ) : Type 0 where
   code : codeAt U q ≡ a
   first : firstAt U q ≡ b
-  begin : beginAt U q ≡ c
+  later : laterAt U q ≡ c
   count : countAt U q ≡ d
 
 words-put : (T : List ℕ) (q a b c d : ℕ) → 4 * q + 4 ≤ length T → Words (putWords T q a b c d) q a b c d
@@ -220,7 +237,7 @@ words-put T q a b c d h =
       first = getD-set-other (set (set (set T (4 * q) a) (4 * q + 1) b) (4 * q + 2) c) (4 * q + 3) (4 * q + 1) d 0 (λ e. omega arith)
           ∙ getD-set-other (set (set T (4 * q) a) (4 * q + 1) b) (4 * q + 2) (4 * q + 1) c 0 (λ e. omega arith)
           ∙ getD-set-same (set T (4 * q) a) (4 * q + 1) b 0 (omega arith);
-      begin = getD-set-other (set (set (set T (4 * q) a) (4 * q + 1) b) (4 * q + 2) c) (4 * q + 3) (4 * q + 2) d 0 (λ e. omega arith)
+      later = getD-set-other (set (set (set T (4 * q) a) (4 * q + 1) b) (4 * q + 2) c) (4 * q + 3) (4 * q + 2) d 0 (λ e. omega arith)
           ∙ getD-set-same (set (set T (4 * q) a) (4 * q + 1) b) (4 * q + 2) c 0 (omega arith);
       count = getD-set-same (set (set (set T (4 * q) a) (4 * q + 1) b) (4 * q + 2) c) (4 * q + 3) d 0 (omega arith);
     }
@@ -230,14 +247,14 @@ words-same T U q a b c d f h =
     record {
       code = f (4 * q) (omega arith) (omega arith) ∙ h .code;
       first = f (4 * q + 1) (omega arith) (omega arith) ∙ h .first;
-      begin = f (4 * q + 2) (omega arith) (omega arith) ∙ h .begin;
+      later = f (4 * q + 2) (omega arith) (omega arith) ∙ h .later;
       count = f (4 * q + 3) (omega arith) (omega arith) ∙ h .count;
     }
 
 -- a place by its words
-by-words : (U : List ℕ) (q a b c d : ℕ) → Words U q a b c d → placeAt U q ≡ placeBy a b (b ∷ span U (suc c) (d - 1))
+by-words : (U : List ℕ) (q a b c d : ℕ) → Words U q a b c d → placeAt U q ≡ placeBy a b (b ∷ laterWays U c d 1 (d - 1))
 unfolding placeAt waysOf
-by-words U q a b c d h = rw (h .code, h .first, h .begin, h .count) refl
+by-words U q a b c d h = rw (h .code, h .first, h .later, h .count) refl
 
 -- ---- a place that is read back
 
@@ -252,40 +269,43 @@ Wayed pEnd = Unit {0}
 abbrev pub Sound : Place → Type 0
 Sound p = Spelt p × Wayed p
 
--- what the walk relies on for place q, of this code, first place, begin and count; its ways end by r
+-- what the walk relies on for place q, of this code, first place, later word and count; its ways end by r
 pub record Keeps (q r a b c d : ℕ) : Type 0 where
   pub near : a ≡ 28 → b ≡ q + 1
   pub one : a < 28 → d ≡ 0
   pub end : 29 < a → d ≡ 0
   pub many : d ≤ 256
-  pub ways : 0 < d → c + d ≤ r
+  pub ways : 2 < d → c + d ≤ r
 
 -- a place that keeps to this without ways
 keeps-one : (q r a b c : ℕ) → (a ≡ 28 → ⊥) → Keeps q r a b c 0
 keeps-one q r a b c h =
     record { near = λ e. absurd (h e); one = λ e. refl; end = λ e. refl; many = omega arith; ways = λ e. absurd (omega arith) }
 
-keeps-fork : (q r k w m : ℕ) → m ≤ 256 → w + m ≤ r → Keeps q r (forkCode k (q + 1)) k w m
-keeps-fork q r k w m h l = go (eqb k (q + 1)) refl
+keeps-fork : (q r k y w m : ℕ) → m ≤ 256 → w + m ≤ r → Keeps q r (forkCode k (q + 1)) k (laterWord y w m) m
+keeps-fork q r k y w m h l = go (eqb k (q + 1)) refl
   where
-    go : (t : Bool) → eqb k (q + 1) ≡ t → Keeps q r (pick t 28 29) k w m
-    go true e =
-        record { near = λ u. eqb-true k (q + 1) e; one = λ u. absurd (omega arith); end = λ u. absurd (omega arith); many = h; ways = λ u. l }
-    go false e =
-        record { near = λ u. absurd (omega arith); one = λ u. absurd (omega arith); end = λ u. absurd (omega arith); many = h; ways = λ u. l }
+    begins : 2 < m → laterWord y w m + m ≤ r
+    begins u = rw (ne-eqb m 2 (λ (e : m ≡ 2). omega arith)) l
 
-keeps : (q w r : ℕ) (p : Place) → Sound p → w + wayCount p ≤ r → Keeps q r (codeFor q p) (firstFor p) (beginFor w p) (length (waysFor p))
+    go : (t : Bool) → eqb k (q + 1) ≡ t → Keeps q r (pick t 28 29) k (laterWord y w m) m
+    go true e =
+        record { near = λ u. eqb-true k (q + 1) e; one = λ u. absurd (omega arith); end = λ u. absurd (omega arith); many = h; ways = begins }
+    go false e =
+        record { near = λ u. absurd (omega arith); one = λ u. absurd (omega arith); end = λ u. absurd (omega arith); many = h; ways = begins }
+
+keeps : (q w r : ℕ) (p : Place) → Sound p → w + wayCount p ≤ r → Keeps q r (codeFor q p) (firstFor p) (laterFor w p) (length (waysFor p))
 unfolding wayCount
 keeps q w r (pLetter c k) s l = keeps-one q r (letterCode c) k 0 (λ e. omega (arith, s .0 .0, s .0 .1))
 keeps q w r (pCaret k) s l = keeps-one q r 26 k 0 (λ e. omega arith)
 keeps q w r (pDollar k) s l = keeps-one q r 27 k 0 (λ e. omega arith)
-keeps q w r (pFork ks) s l = keeps-fork q r (getD ks 0 0) w (length ks) (s .1 .1) l
+keeps q w r (pFork ks) s l = keeps-fork q r (getD ks 0 0) (getD ks 1 0) w (length ks) (s .1 .1) l
 keeps q w r pEnd s l = keeps-one q r 30 0 0 (λ e. omega arith)
 
 -- the table has the place p at q
 pub record Back (U : List ℕ) (q r : ℕ) (p : Place) : Type 0 where
   pub is : placeAt U q ≡ p
-  pub keeps-to : Keeps q r (codeAt U q) (firstAt U q) (beginAt U q) (countAt U q)
+  pub keeps-to : Keeps q r (codeAt U q) (firstAt U q) (laterAt U q) (countAt U q)
 
 by-letter : (c k : ℕ) (ks : List ℕ) → 65 ≤ c → c ≤ 90 → placeBy (letterCode c) k ks ≡ pLetter c k
 unfolding placeBy
@@ -299,24 +319,39 @@ unfolding placeBy
 by-fork k ks true = refl
 by-fork k ks false = refl
 
+-- the later ways of a fork whose ways begin at word w, if it has not two
+later-span : (U : List ℕ) (w c j m : ℕ) → eqb c 2 ≡ false → laterWays U w c j m ≡ span U (w + j) m
+unfolding laterWays laterBy span
+later-span U w c j zero e = refl
+later-span U w c j (suc m) e =
+    let z : w + suc j ≡ suc (w + j) = omega arith in
+    let h : laterBy U w c j ≡ getD U (w + j) 0 = rw e in
+    let t : laterWays U w c (suc j) m ≡ span U (suc (w + j)) m = later-span U w c (suc j) m e ∙ ap (λ (i : ℕ). span U i m) z in
+    λ i. h i ∷ t i
+
 -- a fork's first way, and the ways from its second on
 all-ways : (T U : List ℕ) (w : ℕ) (ks : List ℕ) → 0 < length ks → w + length ks ≤ length T
     → ((j : ℕ) → w ≤ j → j < w + length ks → getD U j 0 ≡ getD (putWays T w ks) j 0)
-    → (getD ks 0 0 ∷ span U (suc w) (length ks - 1)) ≡ ks
-unfolding putWays
+    → (getD ks 0 0 ∷ laterWays U (laterWord (getD ks 1 0) w (length ks)) (length ks) 1 (length ks - 1)) ≡ ks
+unfolding putWays laterWays laterBy
 all-ways T U w [] s l f = absurd (omega arith)
-all-ways T U w (k ∷ ks) s l f =
-    let m : suc (length ks) - 1 ≡ length ks = omega arith in
-    ap (λ (n : ℕ). k ∷ span U (suc w) n) m
-    ∙ ap (λ (l : List ℕ). k ∷ l)
-    (span-same (putWays (set T w k) (suc w) ks) U (suc w) (length ks) (λ j a b. f j (omega arith) (omega arith))
-    ∙ span-put (set T w k) (suc w) ks (omega (arith, length-set T w k)))
+all-ways T U w (k ∷ []) s l f = refl
+all-ways T U w (k ∷ y ∷ []) s l f = refl
+all-ways T U w (k ∷ y ∷ x ∷ ks) s l f =
+    let n : eqb (suc (suc (suc (length ks)))) 2 ≡ false = ne-eqb (suc (suc (suc (length ks)))) 2 (λ (e : suc (suc (suc (length ks))) ≡ 2). omega arith) in
+    let m : suc (suc (suc (length ks))) - 1 ≡ suc (suc (length ks)) = omega arith in
+    let z : w + 1 ≡ suc w = omega arith in
+    let r : laterWays U w (suc (suc (suc (length ks)))) 1 (suc (suc (length ks))) ≡ span U (suc w) (suc (suc (length ks))) = later-span U w (suc (suc (suc (length ks)))) 1 (suc (suc (length ks))) n ∙ ap (λ (i : ℕ). span U i (suc (suc (length ks)))) z in
+    rw (n, m, r)
+    (ap (λ (l : List ℕ). k ∷ l)
+    (span-same (putWays (set T w k) (suc w) (y ∷ x ∷ ks)) U (suc w) (length (y ∷ x ∷ ks)) (λ j a b. f j (omega arith) (omega arith))
+    ∙ span-put (set T w k) (suc w) (y ∷ x ∷ ks) (omega (arith, length-set T w k))))
 
 -- a place that was put is read back from any table that has its words and its ways
 module _ (T U : List ℕ) (q w : ℕ) (low : 4 * q + 4 ≤ w) where
   place-back : (p : Place) → Sound p → w + wayCount p ≤ length T
       → ((j : ℕ) → w ≤ j → j < w + wayCount p → getD U j 0 ≡ getD (putPlace T q w p) j 0)
-      → Words U q (codeFor q p) (firstFor p) (beginFor w p) (length (waysFor p)) → placeAt U q ≡ p
+      → Words U q (codeFor q p) (firstFor p) (laterFor w p) (length (waysFor p)) → placeAt U q ≡ p
   unfolding putPlace wayCount placeBy
   place-back (pLetter c k) s l g h = by-words U q _ _ _ _ h ∙ by-letter c k _ (s .0 .0) (s .0 .1)
   place-back (pCaret k) s l g h = by-words U q _ _ _ _ h
@@ -330,11 +365,11 @@ module _ (T U : List ℕ) (q w : ℕ) (low : 4 * q + 4 ≤ w) where
       → ((j : ℕ) → 4 * q ≤ j → j < 4 * q + 4 → getD U j 0 ≡ getD (putPlace T q w p) j 0)
       → ((j : ℕ) → w ≤ j → j < w + wayCount p → getD U j 0 ≡ getD (putPlace T q w p) j 0) → Back U q r p
   one-back p r s l e f g =
-      let h : Words U q (codeFor q p) (firstFor p) (beginFor w p) (length (waysFor p)) =
-      words-same (putWords (putWays T w (waysFor p)) q (codeFor q p) (firstFor p) (beginFor w p) (length (waysFor p))) U q _ _ _ _
+      let h : Words U q (codeFor q p) (firstFor p) (laterFor w p) (length (waysFor p)) =
+      words-same (putWords (putWays T w (waysFor p)) q (codeFor q p) (firstFor p) (laterFor w p) (length (waysFor p))) U q _ _ _ _
       (λ j a b. f j a b ∙ ap (λ (X : List ℕ). getD X j 0) (place-is T q w p))
       (words-put (putWays T w (waysFor p)) q _ _ _ _ (omega (arith, ways-length T w (waysFor p)))) in
-      record { is = place-back p s l g h; keeps-to = rw (h .code, h .first, h .begin, h .count) (keeps q w r p s e) }
+      record { is = place-back p s l g h; keeps-to = rw (h .code, h .first, h .later, h .count) (keeps q w r p s e) }
 
 -- places that were put are read back
 pub places-back : (T : List ℕ) (q w r : ℕ) (ps : List Place) → 4 * (q + length ps) ≤ w → w + waysIn ps ≤ length T → w + waysIn ps ≤ r

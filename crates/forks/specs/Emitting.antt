@@ -24,8 +24,8 @@ putWays T w (k ∷ ks) = putWays (set T w k) (suc w) ks
 
 -- the four words of place q
 unfoldable pub putWords : List ℕ → ℕ → ℕ → ℕ → ℕ → ℕ → List ℕ
-putWords T q code first begin count =
-    set (set (set (set T (4 * q) code) (4 * q + 1) first) (4 * q + 2) begin) (4 * q + 3) count
+putWords T q code first later count =
+    set (set (set (set T (4 * q) code) (4 * q + 1) first) (4 * q + 2) later) (4 * q + 3) count
 
 -- the code of a letter's place, so that A is 0
 abbrev pub letterCode : ℕ → ℕ
@@ -39,6 +39,10 @@ anchorCode c = pick (eqb c 94) 26 27
 abbrev pub forkCode : ℕ → ℕ → ℕ
 forkCode first behind = pick (eqb first behind) 28 29
 
+-- the later word of a fork: its second way if it has two, else the word at which its ways begin
+abbrev pub laterWord : ℕ → ℕ → ℕ → ℕ
+laterWord second begin count = pick (eqb count 2) second begin
+
 -- place q, the ways of a fork from word w on
 unfoldable pub putPlace : List ℕ → ℕ → ℕ → Place → List ℕ
 unfolding putWords putWays
@@ -46,7 +50,7 @@ putPlace T q w (pLetter c k) = putWords T q (letterCode c) k 0 0
 putPlace T q w (pCaret k) = putWords T q 26 k 0 0
 putPlace T q w (pDollar k) = putWords T q 27 k 0 0
 putPlace T q w (pFork ks) =
-    putWords (putWays T w ks) q (forkCode (getD ks 0 0) (q + 1)) (getD ks 0 0) w (length ks)
+    putWords (putWays T w ks) q (forkCode (getD ks 0 0) (q + 1)) (getD ks 0 0) (laterWord (getD ks 1 0) w (length ks)) (length ks)
 putPlace T q w pEnd = putWords T q 30 0 0 0
 
 unfoldable pub wayCount : Place → ℕ
@@ -83,18 +87,19 @@ pub record Emitted (T exit : List ℕ) (b w r : ℕ) (pl : List Place) : Type 0 
   pub way : r ≡ w + waysIn pl
 
 -- place q has its words in the table, and each number fits its word
-pub record Wording (T : List ℕ) (q code first begin count : ℕ) : Type 0 where
+pub record Wording (T : List ℕ) (q code first later count : ℕ) : Type 0 where
   pub long : 4 * q + 4 ≤ length T
   pub code-fits : code < 65536
   pub first-fits : first < 65536
-  pub begin-fits : begin < 65536
+  pub later-fits : later < 65536
   pub count-fits : count < 65536
 
 -- ---- a fork's ways
 
 -- the words of the fork at place q, whose ways stand from word w to word `to`
 abbrev pub putFork : List ℕ → ℕ → ℕ → ℕ → List ℕ
-putFork T q w to = putWords T q (forkCode (getD T w 0) (q + 1)) (getD T w 0) w (to - w)
+putFork T q w to =
+    putWords T q (forkCode (getD T w 0) (q + 1)) (getD T w 0) (laterWord (getD T (w + 1) 0) w (to - w)) (to - w)
 
 pub record ForkNeeds (T : List ℕ) (q w to : ℕ) : Type 0 where
   pub long : 4 * q + 4 ≤ length T

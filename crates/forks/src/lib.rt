@@ -7,15 +7,16 @@ use nodes::node_at;
 use nodes::places_at;
 use table::FORK;
 use table::NEAR_FORK;
+use table::TWO_WAYS;
 use table::WORDS;
 use table::word_at;
 ghost use mathlib.Core.Path.{_≡_};
 ghost use Prim.Native.Nat.{_+_, _*_, _-_, _≤_, _<_};
-ghost use lib.ListN.{length};
+ghost use lib.ListN.{length, getD};
 ghost use lib.Dec.{eqb};
 ghost use Rattle.rules.specs.Basics.{pick, has};
 ghost use Rattle.table.specs.Table.{span};
-ghost use Rattle.forks.specs.Emitting.{putWords, forkCode, putFork, Wording, ForkNeeds, Emitted, WayPut, WayNeeds};
+ghost use Rattle.forks.specs.Emitting.{putWords, forkCode, laterWord, putFork, Wording, ForkNeeds, Emitted, WayPut, WayNeeds};
 ghost use Rattle.forks.specs.Emitting.{Starting, Started, TwoWays, twoPlaces, Choosing, choicePlaces, forkPlaces, Forking};
 
 // Where a part begins whose places are numbered from b up to end, if k is the place behind it.
@@ -29,14 +30,14 @@ pub fn start_at(b: usize, end: usize, k: usize) -> usize
 }
 
 // The words of place q.
-fn put_words(table: &mut [u16], q: usize, code: usize, first: usize, begin: usize, count: usize)
-    requires { ⌜ Wording (now table) q code first begin count ⌝ }
-    ensures { λ _. ⌜ now (table .exit) ≡ putWords (now (table .entry)) q code first begin count ⌝ }
+fn put_words(table: &mut [u16], q: usize, code: usize, first: usize, later: usize, count: usize)
+    requires { ⌜ Wording (now table) q code first later count ⌝ }
+    ensures { λ _. ⌜ now (table .exit) ≡ putWords (now (table .entry)) q code first later count ⌝ }
 {
     let at = WORDS * q;
     table[at] = code as u16;
     table[at + 1] = first as u16;
-    table[at + 2] = begin as u16;
+    table[at + 2] = later as u16;
     table[at + 3] = count as u16;
 }
 
@@ -60,6 +61,17 @@ fn fork_code(first: usize, behind: usize) -> usize
     FORK
 }
 
+// The later word of a fork whose ways, so many, stand from word w on: two ways are told without them.
+fn later_word(table: &[u16], w: usize, count: usize) -> usize
+    requires { ⌜ (w < 65536) × (count ≡ 2 → w + 1 < length (now table)) ⌝ }
+    ensures { λ r. ⌜ (r ≡ laterWord (getD (now (table .entry)) (w + 1) 0) w count) × (r < 65536) ⌝ }
+{
+    if count == TWO_WAYS {
+        return word_at(table, w + 1);
+    }
+    w
+}
+
 // The words of the fork at place b, whose ways stand from word w to word `to`.
 fn put_fork(table: &mut [u16], b: usize, w: usize, to: usize) -> usize
     requires { ⌜ ForkNeeds (now table) b w to ⌝ }
@@ -67,7 +79,9 @@ fn put_fork(table: &mut [u16], b: usize, w: usize, to: usize) -> usize
 {
     let first = word_at(table, w);
     let code = fork_code(first, b + 1);
-    put_words(table, b, code, first, w, to - w);
+    let count = to - w;
+    let later = later_word(table, w, count);
+    put_words(table, b, code, first, later, count);
     to
 }
 

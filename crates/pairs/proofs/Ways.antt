@@ -1,5 +1,5 @@
 -- What the tables say of a pair: its ways, by the code of its place.
-use mathlib.Core.Path.{_≡_, refl, ap, _∙_}
+use mathlib.Core.Path.{_≡_, refl, sym, ap, _∙_}
 use mathlib.Core.List.{List, [], _∷_, map}
 use mathlib.Core.Bool.{Bool, true, false, true≢false}
 use Prim.Native.Nat.{ℕ, zero, suc, _+_, _-_, _*_, _/_, _%_, _≤_, _<_}
@@ -16,7 +16,7 @@ use Rattle.rules.specs.Places.{Place, pLetter, pCaret, pDollar, pFork, pEnd}
 use Rattle.rules.specs.Walk.{Ways, accept, try, waysAt, pairWays}
 use Rattle.rules.proofs.Walk.{All}
 use Rattle.pairs.specs.Layout.{Layout, P, leftFrom, second, graphOf, passesBy, Sized, Leads}
-use Rattle.table.specs.Table.{span, waysOf, placeBy, placeAt, placesFrom, placesIn, codeAt, firstAt, beginAt, countAt}
+use Rattle.table.specs.Table.{laterBy, laterWay, laterWays, waysOf, placeBy, placeAt, placesFrom, placesIn, codeAt, firstAt, laterAt, countAt}
 use Rattle.pairs.specs.State.{takes}
 
 -- ---- the places
@@ -45,16 +45,16 @@ module _ (T : List ℕ) where
 
 -- ---- the ways of a place
 
-span-length : (w : List ℕ) (m j : ℕ) → length (span w j m) ≡ m
-unfolding span
-span-length w zero j = refl
-span-length w (suc m) j = ap suc (span-length w m (suc j))
+later-length : (w : List ℕ) (l c m j : ℕ) → length (laterWays w l c j m) ≡ m
+unfolding laterWays
+later-length w l c zero j = refl
+later-length w l c (suc m) j = ap suc (later-length w l c m (suc j))
 
-span-at : (w : List ℕ) (m j i : ℕ) → i < m → getD (span w j m) i 0 ≡ getD w (j + i) 0
-unfolding span
-span-at w zero j i h = absurd (not-suc-le-zero h)
-span-at w (suc m) j zero h = rw add-zero
-span-at w (suc m) j (suc i) h = let e : j + suc i ≡ suc j + i = omega arith in rw e (span-at w m (suc j) i (le-of-suc-le-suc h))
+later-at : (w : List ℕ) (l c m j i : ℕ) → i < m → getD (laterWays w l c j m) i 0 ≡ laterBy w l c (j + i)
+unfolding laterWays
+later-at w l c zero j i h = absurd (not-suc-le-zero h)
+later-at w l c (suc m) j zero h = rw add-zero
+later-at w l c (suc m) j (suc i) h = let e : j + suc i ≡ suc j + i = omega arith in rw e (later-at w l c m (suc j) i (le-of-suc-le-suc h))
 
 pub left-none : (T : Layout) (q j : ℕ) → j ≡ 0 → leftFrom T q j ≡ 0
 unfolding leftFrom
@@ -83,22 +83,23 @@ left-second T q = go (ltb 1 (countAt (T .words) q)) refl
 module _ (T : Layout) (q : ℕ) where
   pub ways-length : length (waysOf (T .words) q) ≡ suc (leftFrom T q (second T q))
   unfolding waysOf
-  ways-length = rw (left-second T q) (ap suc (span-length (T .words) (countAt (T .words) q - 1) (suc (beginAt (T .words) q))))
+  ways-length = rw (left-second T q) (ap suc (later-length (T .words) (laterAt (T .words) q) (countAt (T .words) q) (countAt (T .words) q - 1) 1))
 
   pub ways-first : getD (waysOf (T .words) q) 0 0 ≡ firstAt (T .words) q
   unfolding waysOf
   ways-first = refl
 
-  -- way m of a fork stands m words behind its first
-  pub ways-later : (m : ℕ) → suc m < countAt (T .words) q → getD (waysOf (T .words) q) (suc m) 0 ≡ getD (T .words) (beginAt (T .words) q + suc m) 0
-  unfolding waysOf
+  -- the ways behind the first, by their numbers
+  pub ways-later : (m : ℕ) → suc m < countAt (T .words) q → getD (waysOf (T .words) q) (suc m) 0 ≡ laterWay (T .words) q (suc m)
+  unfolding waysOf laterWay
   ways-later m h =
-      let e : beginAt (T .words) q + suc m ≡ suc (beginAt (T .words) q) + m = omega arith in
-      rw e (span-at (T .words) (countAt (T .words) q - 1) (suc (beginAt (T .words) q)) m (omega arith))
+      let e : suc m ≡ 1 + m = omega arith in
+      later-at (T .words) (laterAt (T .words) q) (countAt (T .words) q) (countAt (T .words) q - 1) 1 m (omega arith)
+      ∙ ap (λ (i : ℕ). laterBy (T .words) (laterAt (T .words) q) (countAt (T .words) q) i) (sym e)
 
   -- a place that is no fork leads to one place
   pub ways-one : countAt (T .words) q ≡ 0 → waysOf (T .words) q ≡ firstAt (T .words) q ∷ []
-  unfolding waysOf span
+  unfolding waysOf laterWays
   ways-one e = rw e
 
   -- what is second is way 1, and there are at least two ways then

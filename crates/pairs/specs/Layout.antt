@@ -9,7 +9,7 @@ use Rattle.rules.specs.Basics.{pick}
 use Rattle.rules.specs.Places.{Place, pLetter, pCaret, pDollar, pFork, pEnd}
 use Rattle.rules.specs.Walk.{Ways, pairs, pairWays}
 use Rattle.rules.proofs.Walk.{All, Falls}
-use Rattle.table.specs.Table.{codeAt, firstAt, beginAt, countAt, waysOf, placeAt, placesIn}
+use Rattle.table.specs.Table.{codeAt, firstAt, laterAt, countAt, waysOf, placeAt, placesIn}
 use Rattle.table.specs.Sized as S
 
 pub record Layout : Type 0 where

@@ -790,7 +790,7 @@ module _ (s : List ℕ) (i : ℕ) (n : Node) (en : n ≡ nodeAt s i) (T : List �
         long = omega (arith, f .place, f .long);
         code-fits = l;
         first-fits = omega (arith, f .behind);
-        begin-fits = omega arith;
+        later-fits = omega arith;
         count-fits = omega arith;
       }
 

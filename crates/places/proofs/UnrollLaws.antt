@@ -9,7 +9,7 @@ use Rattle.rules.specs.Places.{unroll, Place, pFork, pEnd, size, code, places, 
 use Rattle.rules.proofs.Counting.{unroll-size}
 use Rattle.rules.proofs.Distinct.{thinPlace, thinned, thinned-append}
 use Rattle.rules.proofs.ThinPlaces.{thinned-spelt}
-use Rattle.table.specs.Table.{codeAt, firstAt, beginAt, countAt, placesFrom, placesIn}
+use Rattle.table.specs.Table.{codeAt, firstAt, laterAt, countAt, placesFrom, placesIn}
 use Rattle.table.specs.Sized.{Sized}
 use Rattle.forks.specs.Emitting.{putWords, putPlace, wayCount, waysIn, putPlaces, Wording, Emitted, treePlaces, Emitting, Unrolling, Tabled}
 use Rattle.forks.proofs.TableLaws.{Sound, Keeps, Back, places-append, waysIn-append, places-length, words-length, places-back, places-are, places-kept}
@@ -76,7 +76,7 @@ module _ (s : List ℕ) (top P : ℕ) (T : List ℕ) where
             long = omega (arith, h .few, h .long, same, some-place h);
             code-fits = omega arith;
             first-fits = omega arith;
-            begin-fits = omega arith;
+            later-fits = omega arith;
             count-fits = omega arith;
           }
 
@@ -111,7 +111,7 @@ module _ (s : List ℕ) (top P : ℕ) (T : List ℕ) where
             (omega (arith, ways-all, few, h .long)) sound q (omega (arith, long-all)) in
             rw both (rw z at b)
 
-        keeps : (q : ℕ) → q < P → Keeps q (length T2) (codeAt T2 q) (firstAt T2 q) (beginAt T2 q) (countAt T2 q)
+        keeps : (q : ℕ) → q < P → Keeps q (length T2) (codeAt T2 q) (firstAt T2 q) (laterAt T2 q) (countAt T2 q)
         keeps q l = rw unroll-length (back q l .keeps-to)
 
         unroll-sized : Sized T2 P

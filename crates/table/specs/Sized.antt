@@ -1,9 +1,10 @@
 -- What a table of P places keeps to: the walk relies on it, and unrolling grants it.
 use mathlib.Core.Path.{_≡_}
+use mathlib.Core.Logic.{_≢_}
 use mathlib.Core.List.{List}
 use Prim.Native.Nat.{ℕ, _+_, _*_, _≤_, _<_}
 use lib.ListN.{length}
-use Rattle.table.specs.Table.{codeAt, firstAt, beginAt, countAt}
+use Rattle.table.specs.Table.{codeAt, firstAt, laterAt, countAt}
 
 -- the most places of a pattern, and the most ways of a fork
 abbrev pub mostPlaces : ℕ
@@ -20,4 +21,10 @@ pub record Sized (T : List ℕ) (P : ℕ) : Type 0 where
   pub one : (q : ℕ) → q < P → codeAt T q < 28 → countAt T q ≡ 0
   pub end : (q : ℕ) → q < P → 29 < codeAt T q → countAt T q ≡ 0
   pub many : (q : ℕ) → q < P → countAt T q ≤ mostWays
-  pub ways : (q : ℕ) → q < P → 0 < countAt T q → beginAt T q + countAt T q ≤ length T
+  pub ways : (q : ℕ) → q < P → 2 < countAt T q → laterAt T q + countAt T q ≤ length T
+
+-- place q has its words, and a later way j can be read: it is there, or the fork has two ways and tells the second by itself
+pub record LaterIn (T : List ℕ) (q j : ℕ) : Type 0 where
+  pub place : 4 * q + 4 ≤ length T
+  pub small : j < 256
+  pub there : countAt T q ≢ 2 → laterAt T q + j < length T

@@ -1,9 +1,10 @@
-// The words of the table of places, each read by a function of its name: code, first place, where a fork's ways begin, and how many they are. The layout is
+// The words of the table of places, each read by a function of its name: code, first place, a fork's later ways, and how many they are. The layout is
 // told in specs/Table; who reads the table names these functions, so that the layout can change here alone.
 ghost use mathlib.Core.Path.{_≡_};
 ghost use Prim.Native.Nat.{_+_, _*_, _≤_, _<_};
 ghost use lib.ListN.{length, getD};
-ghost use Rattle.table.specs.Table.{codeAt, firstAt, beginAt, countAt};
+ghost use Rattle.table.specs.Table.{codeAt, firstAt, laterAt, countAt, laterWay};
+ghost use Rattle.table.specs.Sized.{LaterIn};
 
 // The words of a place.
 pub const WORDS: usize = 4;
@@ -21,6 +22,9 @@ pub const NEAR_FORK: usize = 28;
 pub const FORK: usize = 29;
 
 pub const END: usize = 30;
+
+// How many ways a fork has that tells its second by itself.
+pub const TWO_WAYS: usize = 2;
 
 fn wide(x: u16) -> usize
     ensures { λ r. ⌜ (r ≡ x) × (r < 65536) ⌝ }
@@ -52,10 +56,10 @@ pub fn first_at(table: &[u16], q: usize) -> usize
     wide(table[WORDS * q + 1])
 }
 
-// The word at which the ways of the fork at place q begin.
-pub fn begin_at(table: &[u16], q: usize) -> usize
+// Of a fork of two ways at place q the second, of one with more the word at which its ways begin.
+pub fn later_at(table: &[u16], q: usize) -> usize
     requires { ⌜ 4 * q + 4 ≤ length (now table) ⌝ }
-    ensures { λ r. ⌜ (r ≡ beginAt (now (table .entry)) q) × (r < 65536) ⌝ }
+    ensures { λ r. ⌜ (r ≡ laterAt (now (table .entry)) q) × (r < 65536) ⌝ }
 {
     wide(table[WORDS * q + 2])
 }
@@ -66,4 +70,16 @@ pub fn count_at(table: &[u16], q: usize) -> usize
     ensures { λ r. ⌜ (r ≡ countAt (now (table .entry)) q) × (r < 65536) ⌝ }
 {
     wide(table[WORDS * q + 3])
+}
+
+// Way j of the fork at place q, from its second on, which is way 1.
+pub fn later_way(table: &[u16], q: usize, j: usize) -> usize
+    requires { ⌜ LaterIn (now table) q j ⌝ }
+    ensures { λ r. ⌜ (r ≡ laterWay (now (table .entry)) q j) × (r < 65536) ⌝ }
+{
+    let later = later_at(table, q);
+    if count_at(table, q) == TWO_WAYS {
+        return later;
+    }
+    word_at(table, later + j)
 }

@@ -16,7 +16,8 @@ use Rattle.rules.specs.Report.{bitAt}
 use Rattle.rules.proofs.Notes.{marked}
 use Rattle.pairs.specs.declared.Walk.{Walk}
 use Rattle.pairs.specs.Layout.{Layout, P, N, second, leftFrom, mostPairs}
-use Rattle.table.specs.Table.{waysOf, codeAt, beginAt, countAt}
+use Rattle.table.specs.Table.{waysOf, codeAt, laterAt, countAt, laterWay}
+use Rattle.table.specs.Sized.{LaterIn}
 use Rattle.pairs.specs.Step.{oneUnless, placeIn, rowIn, wayIn, pairIn, stack, walkAt, tryAt, after, wentOn, Noted}
 use Rattle.pairs.specs.State.{Word, rowFrom, wayAt, reach, Led, Stuck, Good, left, restAt, rest, resumed, comes, Reached, Halts, Backward}
 use Rattle.pairs.proofs.Ways.{left-none, left-some, ways-length, ways-later, second-is, takes-no-row}
@@ -135,8 +136,18 @@ module _ (T : Layout) (holds : ℕ → ℕ → Bool) (n : ℕ) (notes trail : Li
     stop-small : stop ≤ 256
     stop-small = g .legal .sized .many q place
 
-    way-in : beginAt (T .words) q + j < length (T .words)
-    way-in = let b = word .before some in let a = g .legal .sized .ways q place (omega arith) in omega arith
+    later-in : LaterIn (T .words) q j
+    later-in =
+        record {
+          place = let l = g .legal .sized .long in omega (arith, place);
+          small = let b = word .before some in omega (arith, stop-small);
+          there = λ two.
+              let b = word .before some in
+              let s = second-is T q has-second .1 in
+              let n : countAt (T .words) q ≢ 2 = two in
+              let a = g .legal .sized .ways q place (omega arith) in
+              omega arith;
+        }
 
     abbrev v : ℕ
     v = wentOn (after stop j) e
@@ -258,14 +269,14 @@ module _ (T : Layout) (holds : ℕ → ℕ → Bool) (n : ℕ) (notes trail : Li
     unfolding rowFrom
     row-from = rw (on-top, v-place, v-row, takes-no-row T holds n q (rowIn e) place fork) (omega arith)
 
-    module _ (k : ℕ) (ek : k ≡ getD (T .words) (beginAt (T .words) q + j) 0) where
+    module _ (k : ℕ) (ek : k ≡ laterWay (T .words) q j) where
       way-here : k ≡ getD (waysOf (T .words) q) m 0
       way-here =
           let a = word .behind some in
           let b = word .before some in
           let o = first-is in
           let d : j ≡ suc (j - first) = omega arith in
-          ek ∙ ap (λ (i : ℕ). getD (T .words) (beginAt (T .words) q + i) 0) d ∙ sym (ways-later T q (j - first) (omega arith))
+          ek ∙ ap (λ (i : ℕ). laterWay (T .words) q i) d ∙ sym (ways-later T q (j - first) (omega arith))
 
       way-is : k ≡ getD (waysOf (T .words) (placeIn (getD trail₂ (w .top - 1) 0))) m 0
       way-is = rw (on-top, v-place) way-here
@@ -360,38 +371,34 @@ module _ (T : Layout) (holds : ℕ → ℕ → Bool) (n : ℕ) (notes trail : Li
         pub back-words : 4 * p + 4 ≤ length (T .words)
         back-words = rw p-is (let a = word .place in let l = g .legal .sized .long in omega arith)
 
-        module _ (b : ℕ) (eb : (b ≡ beginAt (T .words) p) × (b < 65536)) where
-          b-is : b ≡ beginAt (T .words) q
-          b-is = eb .0 ∙ ap (λ (x : ℕ). beginAt (T .words) x) p-is
+        pub back-later : LaterIn (T .words) p v
+        back-later = rw (p-is, v-is) (later-in some-way)
 
-          pub back-way : b + v < length (T .words)
-          back-way = rw (b-is, v-is) (way-in some-way)
+        module _ (k : ℕ) (ek : (k ≡ laterWay (T .words) p v) × (k < 65536)) where
+          k-is : k ≡ laterWay (T .words) q j
+          k-is = ek .0 ∙ ap₂ (λ (x y : ℕ). laterWay (T .words) x y) p-is v-is
 
-          module _ (k : ℕ) (ek : (k ≡ getD (T .words) (b + v) 0) × (k < 65536)) where
-            k-is : k ≡ getD (T .words) (beginAt (T .words) q + j) 0
-            k-is = ek .0 ∙ ap₂ (λ (x y : ℕ). getD (T .words) (x + y) 0) b-is v-is
+          pub back-noted : Noted notes (r * P T + k)
+          back-noted = rw r-is (way-noted some-way k k-is)
 
-            pub back-noted : Noted notes (r * P T + k)
-            back-noted = rw r-is (way-noted some-way k k-is)
+          module _ (s : ℕ) (es : (s ≡ countAt (T .words) p) × (s < 65536)) where
+            s-is : s ≡ countAt (T .words) q
+            s-is = es .0 ∙ ap (λ (x : ℕ). countAt (T .words) x) p-is
 
-            module _ (s : ℕ) (es : (s ≡ countAt (T .words) p) × (s < 65536)) where
-              s-is : s ≡ countAt (T .words) q
-              s-is = es .0 ∙ ap (λ (x : ℕ). countAt (T .words) x) p-is
+            pub back-stop : (v < 65536) × (s ≤ 256)
+            back-stop = (omega (arith, ev .1), rw s-is (stop-small some-way))
 
-              pub back-stop : (v < 65536) × (s ≤ 256)
-              back-stop = (omega (arith, ev .1), rw s-is (stop-small some-way))
+            module _ (a : ℕ) (ea : (a ≡ after s v) × (a < 256)) (f : Bool) (ef : f ≡ bitAt notes (r * P T + k)) where
+              pub back-tried : (t : List ℕ) → t ≡ set trail (w .top - 1) (wentOn a u) → (d : ℕ) → oneUnless f ≡ d
+                  → Backward T holds n notes trail w notes t (walkAt (w .top) (w .steps) k r (r * P T) d)
+              back-tried t et d ed =
+                  let x : Backward T holds n notes trail w notes (trail₂ some-way) (tryAt notes (w .top) (w .steps) k (rowIn e) (rowIn e * P T)) = way-tried some-way k k-is in
+                  let c : t ≡ trail₂ some-way = et ∙ ap₂ (λ (y z : ℕ). set trail (w .top - 1) (wentOn y z)) (ea .0 ∙ ap₂ after s-is v-is) (eu .0) in
+                  rw (c, ← ed, ef, r-is) x
 
-              module _ (a : ℕ) (ea : (a ≡ after s v) × (a < 256)) (f : Bool) (ef : f ≡ bitAt notes (r * P T + k)) where
-                pub back-tried : (t : List ℕ) → t ≡ set trail (w .top - 1) (wentOn a u) → (d : ℕ) → oneUnless f ≡ d
-                    → Backward T holds n notes trail w notes t (walkAt (w .top) (w .steps) k r (r * P T) d)
-                back-tried t et d ed =
-                    let x : Backward T holds n notes trail w notes (trail₂ some-way) (tryAt notes (w .top) (w .steps) k (rowIn e) (rowIn e * P T)) = way-tried some-way k k-is in
-                    let c : t ≡ trail₂ some-way = et ∙ ap₂ (λ (y z : ℕ). set trail (w .top - 1) (wentOn y z)) (ea .0 ∙ ap₂ after s-is v-is) (eu .0) in
-                    rw (c, ← ed, ef, r-is) x
-
-                pub back-last : f ≡ true → a ≤ 0 → (notes′ : List ℕ) → notes′ ≡ marked notes (r * P T + p)
-                    → Backward T holds n notes trail w notes′ trail (walkAt (w .top - 1) (w .steps) p r (r * P T) 0)
-                back-last t z notes′ en =
-                    let y : after (countAt (T .words) q) j ≡ 0 = sym (ea .0 ∙ ap₂ after s-is v-is) ∙ omega (arith, z) in
-                    let o : bitAt notes (rowIn e * P T + k) ≡ true = rw r-is at (sym ef ∙ t) in
-                    as-read notes′ en (popped (all-left some-way k k-is y o) q (rowIn e) (rowIn e * P T))
+              pub back-last : f ≡ true → a ≤ 0 → (notes′ : List ℕ) → notes′ ≡ marked notes (r * P T + p)
+                  → Backward T holds n notes trail w notes′ trail (walkAt (w .top - 1) (w .steps) p r (r * P T) 0)
+              back-last t z notes′ en =
+                  let y : after (countAt (T .words) q) j ≡ 0 = sym (ea .0 ∙ ap₂ after s-is v-is) ∙ omega (arith, z) in
+                  let o : bitAt notes (rowIn e * P T + k) ≡ true = rw r-is at (sym ef ∙ t) in
+                  as-read notes′ en (popped (all-left some-way k k-is y o) q (rowIn e) (rowIn e * P T))

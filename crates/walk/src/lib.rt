@@ -17,9 +17,8 @@ use pairs::row_of;
 use pairs::tried;
 use pairs::way_after;
 use pairs::way_of;
-use table::begin_at;
 use table::count_at;
-use table::word_at;
+use table::later_way;
 ghost use mathlib.Core.Path.{_≡_};
 ghost use Prim.Native.Nat.{_+_, _*_};
 ghost use Rattle.pairs.specs.Layout.{layout};
@@ -63,7 +62,7 @@ fn back(words: &[u16], notes: &mut [u8], trail: &mut [u32], size: Extent, w: Wal
     let base = row * size.places;
     let j = way_of(e);
     if 0 < j {
-        let q = word_at(words, begin_at(words, place) + j);
+        let q = later_way(words, place, j);
         let k = way_after(count_at(words, place), j);
         if !failed(notes, base + q) {
             put_way(trail, at, e, k);

@@ -14,8 +14,11 @@ add-fork-code c = omega arith
 fork-code-requires : tie.Need-fork-code-requires
 fork-code-requires c κs = search needs
 
-sub-put-words : tie.Need-sub-put-words
-sub-put-words c = omega arith
+sub-count : tie.Need-sub-count
+sub-count c = omega arith
+
+later-word-requires : tie.Need-later-word-requires
+later-word-requires c κs = (omega arith, λ e. omega arith)
 
 put-words-requires : tie.Need-put-words-requires
 put-words-requires c κs = search needs
@@ -24,7 +27,9 @@ same-length : tie.Need-same-length
 same-length c = omega arith
 
 returns : tie.Need-returns
-returns c = fork-words _ _ _ _ _ _ _ (c .before .before .before .before .before .word-at .ensures) (c .before .before .before .before .fork-code .ensures) (c .before .before .put-words .ensures)
+returns c =
+    fork-words _ _ _ _ _ _ _ _ (c .before .before .before .before .before .before .before .word-at .ensures) (c .before .before .before .before .before .before .fork-code .ensures)
+    (c .before .before .before .before .later-word .ensures) (c .before .before .put-words .ensures)
 
 pub put-fork-spec : {M : Type 1} → statement M
 put-fork-spec =
@@ -33,7 +38,8 @@ put-fork-spec =
     word-at-requires
     add-fork-code
     fork-code-requires
-    sub-put-words
+    sub-count
+    later-word-requires
     put-words-requires
     same-length
     returns)

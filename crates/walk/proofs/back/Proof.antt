@@ -2,7 +2,7 @@
 use native.Mathlib.Omega.{arith}
 use mathlib.Core.Logic.{inl, inr}
 use Rattle.pairs.proofs.Small.{is-one, is-zero, open-of}
-use Rattle.walk.proofs.Backing.{back-at, back-base, back-pair, back-marks, back-none, back-words, back-way, back-noted, back-stop, back-put, back-tried, back-last}
+use Rattle.walk.proofs.Backing.{back-at, back-base, back-pair, back-marks, back-none, back-words, back-later, back-noted, back-stop, back-put, back-tried, back-last}
 use borrow.Author.Needs.{needs}
 use Rattle.walk.proofs.back.Statement.{statement}
 use Rattle.walk.proofs.back.Tie as tie
@@ -25,29 +25,23 @@ mul-base c = omega (arith, back-base _ _ _ _ _ _ (c .before .before .before .bef
 way-of-requires : tie.Need-way-of-requires
 way-of-requires c κs = search needs
 
-begin-at-requires : tie.Need-begin-at-requires
-begin-at-requires c κs = back-words _ _ _ _ _ _ (c .before .before .before .before .before .before .before .before .before .before .before .pre .halts) _ (c .before .before .before .before .before .open-at .ensures) _ (c .before .before .before .before .place-of .ensures) _ (c .before .before .before .row-of .ensures) _ (c .before .way-of .ensures) (c .if1 .taken)
-
-add-word-at : tie.Need-add-word-at
-add-word-at c = omega arith
-
-word-at-requires : tie.Need-word-at-requires
-word-at-requires c κs = back-way _ _ _ _ _ _ (c .before .before .before .before .before .before .before .before .before .before .before .before .pre .halts) _ (c .before .before .before .before .before .before .open-at .ensures) _ (c .before .before .before .before .before .place-of .ensures) _ (c .before .before .before .before .row-of .ensures) _ (c .before .before .way-of .ensures) (c .before .if1 .taken) _ (c .begin-at .ensures)
+later-way-requires : tie.Need-later-way-requires
+later-way-requires c κs = back-later _ _ _ _ _ _ (c .before .before .before .before .before .before .before .before .before .before .before .pre .halts) _ (c .before .before .before .before .before .open-at .ensures) _ (c .before .before .before .before .place-of .ensures) _ (c .before .before .before .row-of .ensures) _ (c .before .way-of .ensures) (c .if1 .taken)
 
 count-at-requires : tie.Need-count-at-requires
-count-at-requires c κs = back-words _ _ _ _ _ _ (c .before .before .before .before .before .before .before .before .before .before .before .before .before .pre .halts) _ (c .before .before .before .before .before .before .before .open-at .ensures) _ (c .before .before .before .before .before .before .place-of .ensures) _ (c .before .before .before .before .before .row-of .ensures) _ (c .before .before .before .way-of .ensures) (c .before .before .if1 .taken)
+count-at-requires c κs = back-words _ _ _ _ _ _ (c .before .before .before .before .before .before .before .before .before .before .before .before .pre .halts) _ (c .before .before .before .before .before .before .open-at .ensures) _ (c .before .before .before .before .before .place-of .ensures) _ (c .before .before .before .before .row-of .ensures) _ (c .before .before .way-of .ensures) (c .before .if1 .taken)
 
 way-after-requires : tie.Need-way-after-requires
-way-after-requires c κs = back-stop _ _ _ _ _ _ (c .before .before .before .before .before .before .before .before .before .before .before .before .before .before .pre .halts) _ (c .before .before .before .before .before .before .before .before .open-at .ensures) _ (c .before .before .before .before .before .before .before .place-of .ensures) _ (c .before .before .before .before .before .before .row-of .ensures) _ (c .before .before .before .before .way-of .ensures) (c .before .before .before .if1 .taken) _ (c .before .before .begin-at .ensures) _ (c .before .word-at .ensures) _ (c .count-at .ensures)
+way-after-requires c κs = back-stop _ _ _ _ _ _ (c .before .before .before .before .before .before .before .before .before .before .before .before .before .pre .halts) _ (c .before .before .before .before .before .before .before .open-at .ensures) _ (c .before .before .before .before .before .before .place-of .ensures) _ (c .before .before .before .before .before .row-of .ensures) _ (c .before .before .before .way-of .ensures) (c .before .before .if1 .taken) _ (c .before .later-way .ensures) _ (c .count-at .ensures)
 
 add-failed : tie.Need-add-failed
-add-failed c = omega (arith, back-noted _ _ _ _ _ _ (c .before .before .before .before .before .before .before .before .before .before .before .before .before .before .before .before .pre .halts) _ (c .before .before .before .before .before .before .before .before .before .before .open-at .ensures) _ (c .before .before .before .before .before .before .before .before .before .place-of .ensures) _ (c .before .before .before .before .before .before .before .before .row-of .ensures) _ (c .before .before .before .before .before .before .way-of .ensures) (c .before .before .before .before .before .if1 .taken) _ (c .before .before .before .before .begin-at .ensures) _ (c .before .before .before .word-at .ensures) .0)
+add-failed c = omega (arith, back-noted _ _ _ _ _ _ (c .before .before .before .before .before .before .before .before .before .before .before .before .before .before .before .pre .halts) _ (c .before .before .before .before .before .before .before .before .before .open-at .ensures) _ (c .before .before .before .before .before .before .before .before .place-of .ensures) _ (c .before .before .before .before .before .before .before .row-of .ensures) _ (c .before .before .before .before .before .way-of .ensures) (c .before .before .before .before .if1 .taken) _ (c .before .before .before .later-way .ensures) .0)
 
 failed-requires : tie.Need-failed-requires
-failed-requires c κs = back-noted _ _ _ _ _ _ (c .before .before .before .before .before .before .before .before .before .before .before .before .before .before .before .before .pre .halts) _ (c .before .before .before .before .before .before .before .before .before .before .open-at .ensures) _ (c .before .before .before .before .before .before .before .before .before .place-of .ensures) _ (c .before .before .before .before .before .before .before .before .row-of .ensures) _ (c .before .before .before .before .before .before .way-of .ensures) (c .before .before .before .before .before .if1 .taken) _ (c .before .before .before .before .begin-at .ensures) _ (c .before .before .before .word-at .ensures) .1
+failed-requires c κs = back-noted _ _ _ _ _ _ (c .before .before .before .before .before .before .before .before .before .before .before .before .before .before .before .pre .halts) _ (c .before .before .before .before .before .before .before .before .before .open-at .ensures) _ (c .before .before .before .before .before .before .before .before .place-of .ensures) _ (c .before .before .before .before .before .before .before .row-of .ensures) _ (c .before .before .before .before .before .way-of .ensures) (c .before .before .before .before .if1 .taken) _ (c .before .before .before .later-way .ensures) .1
 
 put-way-requires : tie.Need-put-way-requires
-put-way-requires c κs = back-put _ _ _ _ _ _ (c .before .before .before .before .before .before .before .before .before .before .before .before .before .before .before .before .before .before .before .pre .halts) _ (c .before .before .before .before .way-after .ensures .1)
+put-way-requires c κs = back-put _ _ _ _ _ _ (c .before .before .before .before .before .before .before .before .before .before .before .before .before .before .before .before .before .before .pre .halts) _ (c .before .before .before .before .way-after .ensures .1)
 
 same-length : tie.Need-same-length
 same-length c = omega arith
@@ -56,10 +50,10 @@ same-length-2 : tie.Need-same-length-2
 same-length-2 c = omega arith
 
 returns : tie.Need-returns
-returns c = λ h. back-tried _ _ _ _ _ _ (h .halts) _ (c .before .before .before .before .before .before .before .before .before .before .before .before .before .before .before .before .open-at .ensures) _ (c .before .before .before .before .before .before .before .before .before .before .before .before .before .before .before .place-of .ensures) _ (c .before .before .before .before .before .before .before .before .before .before .before .before .before .before .row-of .ensures) _ (c .before .before .before .before .before .before .before .before .before .before .before .before .way-of .ensures) (c .before .before .before .before .before .before .before .before .before .before .before .if1 .taken) _ (c .before .before .before .before .before .before .before .before .before .before .begin-at .ensures) _ (c .before .before .before .before .before .before .before .before .before .word-at .ensures) _ (c .before .before .before .before .before .before .before .before .count-at .ensures) _ (c .before .before .before .before .before .before .before .way-after .ensures) _ (c .before .before .before .before .before .failed .ensures) _ (c .before .before .put-way .ensures) _ (is-one _ (c .before .before .before .before .if2 .taken))
+returns c = λ h. back-tried _ _ _ _ _ _ (h .halts) _ (c .before .before .before .before .before .before .before .before .before .before .before .before .before .before .before .open-at .ensures) _ (c .before .before .before .before .before .before .before .before .before .before .before .before .before .before .place-of .ensures) _ (c .before .before .before .before .before .before .before .before .before .before .before .before .before .row-of .ensures) _ (c .before .before .before .before .before .before .before .before .before .before .before .way-of .ensures) (c .before .before .before .before .before .before .before .before .before .before .if1 .taken) _ (c .before .before .before .before .before .before .before .before .before .later-way .ensures) _ (c .before .before .before .before .before .before .before .before .count-at .ensures) _ (c .before .before .before .before .before .before .before .way-after .ensures) _ (c .before .before .before .before .before .failed .ensures) _ (c .before .before .put-way .ensures) _ (is-one _ (c .before .before .before .before .if2 .taken))
 
 put-way-requires-2 : tie.Need-put-way-requires-2
-put-way-requires-2 c κs = back-put _ _ _ _ _ _ (c .before .before .before .before .before .before .before .before .before .before .before .before .before .before .before .before .before .before .before .before .pre .halts) _ (c .before .before .before .before .before .way-after .ensures .1)
+put-way-requires-2 c κs = back-put _ _ _ _ _ _ (c .before .before .before .before .before .before .before .before .before .before .before .before .before .before .before .before .before .before .before .pre .halts) _ (c .before .before .before .before .before .way-after .ensures .1)
 
 same-length-3 : tie.Need-same-length-3
 same-length-3 c = omega arith
@@ -68,7 +62,7 @@ same-length-4 : tie.Need-same-length-4
 same-length-4 c = omega arith
 
 returns-2 : tie.Need-returns-2
-returns-2 c = λ h. back-tried _ _ _ _ _ _ (h .halts) _ (c .before .before .before .before .before .before .before .before .before .before .before .before .before .before .before .before .before .open-at .ensures) _ (c .before .before .before .before .before .before .before .before .before .before .before .before .before .before .before .before .place-of .ensures) _ (c .before .before .before .before .before .before .before .before .before .before .before .before .before .before .before .row-of .ensures) _ (c .before .before .before .before .before .before .before .before .before .before .before .before .before .way-of .ensures) (c .before .before .before .before .before .before .before .before .before .before .before .before .if1 .taken) _ (c .before .before .before .before .before .before .before .before .before .before .before .begin-at .ensures) _ (c .before .before .before .before .before .before .before .before .before .before .word-at .ensures) _ (c .before .before .before .before .before .before .before .before .before .count-at .ensures) _ (c .before .before .before .before .before .before .before .before .way-after .ensures) _ (c .before .before .before .before .before .before .failed .ensures) _ (c .before .before .put-way2 .ensures) _ (is-zero _ (c .before .before .before .before .before .if2 .left))
+returns-2 c = λ h. back-tried _ _ _ _ _ _ (h .halts) _ (c .before .before .before .before .before .before .before .before .before .before .before .before .before .before .before .before .open-at .ensures) _ (c .before .before .before .before .before .before .before .before .before .before .before .before .before .before .before .place-of .ensures) _ (c .before .before .before .before .before .before .before .before .before .before .before .before .before .before .row-of .ensures) _ (c .before .before .before .before .before .before .before .before .before .before .before .before .way-of .ensures) (c .before .before .before .before .before .before .before .before .before .before .before .if1 .taken) _ (c .before .before .before .before .before .before .before .before .before .before .later-way .ensures) _ (c .before .before .before .before .before .before .before .before .before .count-at .ensures) _ (c .before .before .before .before .before .before .before .before .way-after .ensures) _ (c .before .before .before .before .before .before .failed .ensures) _ (c .before .before .put-way2 .ensures) _ (is-zero _ (c .before .before .before .before .before .if2 .left))
 
 add-mark : tie.Need-add-mark
 add-mark c = omega (arith, back-pair _ _ _ _ _ _ (c .before .before .before .before .before .before .before .before .before .before .before .before .pre .halts) _ (c .before .before .before .before .before .before .open-at .ensures) _ (c .before .before .before .before .before .place-of .ensures) _ (c .before .before .before .before .row-of .ensures))
@@ -83,7 +77,7 @@ same-length-6 : tie.Need-same-length-6
 same-length-6 c = omega arith
 
 returns-3 : tie.Need-returns-3
-returns-3 c = λ h. elim (c .before .before .before .before .if1 .came) [ inl t ↦ back-last _ _ _ _ _ _ (h .halts) _ (c .before .before .before .before .before .before .before .before .before .open-at .ensures) _ (c .before .before .before .before .before .before .before .before .place-of .ensures) _ (c .before .before .before .before .before .before .before .row-of .ensures) _ (c .before .before .before .before .before .way-of .ensures) (t .0 .taken) _ (t .1 .ensures) _ (t .2 .ensures) _ (t .3 .ensures) _ (t .4 .ensures) _ (t .6 .ensures) (open-of _ (t .7 .left)) (t .8 .left) _ (c .before .before .mark .ensures) | inr f ↦ back-none _ _ _ _ _ _ (h .halts) _ (c .before .before .before .before .before .before .before .before .before .open-at .ensures) _ (c .before .before .before .before .before .before .before .before .place-of .ensures) _ (c .before .before .before .before .before .before .before .row-of .ensures) _ (c .before .before .before .before .before .way-of .ensures) (f .left) _ (c .before .before .mark .ensures) ]
+returns-3 c = λ h. elim (c .before .before .before .before .if1 .came) [ inl t ↦ back-last _ _ _ _ _ _ (h .halts) _ (c .before .before .before .before .before .before .before .before .before .open-at .ensures) _ (c .before .before .before .before .before .before .before .before .place-of .ensures) _ (c .before .before .before .before .before .before .before .row-of .ensures) _ (c .before .before .before .before .before .way-of .ensures) (t .0 .taken) _ (t .1 .ensures) _ (t .2 .ensures) _ (t .3 .ensures) _ (t .5 .ensures) (open-of _ (t .6 .left)) (t .7 .left) _ (c .before .before .mark .ensures) | inr f ↦ back-none _ _ _ _ _ _ (h .halts) _ (c .before .before .before .before .before .before .before .before .before .open-at .ensures) _ (c .before .before .before .before .before .before .before .before .place-of .ensures) _ (c .before .before .before .before .before .before .before .row-of .ensures) _ (c .before .before .before .before .before .way-of .ensures) (f .left) _ (c .before .before .mark .ensures) ]
 
 pub back-spec : {M : Type 1} → statement M
 back-spec =
@@ -95,9 +89,7 @@ back-spec =
     row-of-requires
     mul-base
     way-of-requires
-    begin-at-requires
-    add-word-at
-    word-at-requires
+    later-way-requires
     count-at-requires
     way-after-requires
     add-failed
