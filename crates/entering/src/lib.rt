@@ -7,6 +7,7 @@ use pairs::anchor_passes;
 use pairs::entry_at;
 use pairs::failed;
 use pairs::fails;
+use pairs::fork_entry;
 use pairs::push;
 use pairs::tried;
 use table::FORK;
@@ -49,7 +50,7 @@ fn letter_passes(
 
 // The pair of w is entered: one step, counted here and nowhere else. A letter or anchor that does not pass fails at once, and so does a letter whose next pair
 // has failed, so that it is not put on the trail only to be taken back. Any other pair is open, and tries the first place that it leads to, but for END, which
-// leads nowhere. A fork that leads first to the place behind it has a code of its own, since then the walk need not wait for a table to tell the place.
+// leads nowhere. A fork of two ways or more that leads first to the place behind it has a code of its own, since then the walk need not wait for a table to tell the place.
 pub fn enter(
     words: &[u16],
     tests: &[u64; 208],
@@ -71,7 +72,7 @@ pub fn enter(
     let base = w.base;
     let c = code_at(words, q);
     if c == NEAR_FORK {
-        push(trail, top, row, entry_at(words, q));
+        push(trail, top, row, fork_entry(q));
         return tried(notes, top + 1, steps, q + 1, row, base);
     }
     if c < LETTERS {

@@ -38,7 +38,7 @@ pub later-more : (y w c : ℕ) → (c ≡ 2 → ⊥) → w < 65536 → (w ≡ la
 later-more y w c e h = (rw (ne-eqb c 2 e), h)
 
 -- the words of a fork, whose first way is read
-pub fork-words : (T U : List ℕ) (b w to first code later : ℕ) → (first ≡ getD T w 0) × (first < 65536) → (code ≡ forkCode first (b + 1)) × (code < 65536)
+pub fork-words : (T U : List ℕ) (b w to first code later : ℕ) → (first ≡ getD T w 0) × (first < 65536) → (code ≡ forkCode first (b + 1) (to - w)) × (code < 65536)
     → (later ≡ laterWord (getD T (w + 1) 0) w (to - w)) × (later < 65536) → U ≡ putWords T b code first later (to - w) → (to ≡ to) × (U ≡ putFork T b w to)
 fork-words T U b w to first code later ef ec el e = (refl, e ∙ rw (el .0, ec .0, ef .0) refl)
 

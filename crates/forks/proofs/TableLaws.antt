@@ -9,7 +9,7 @@ use native.Mathlib.Omega.{arith}
 use lib.Dec.{ltb, eqb}
 use lib.ListN.{length, getD, set, length-append, length-set}
 use lib.Seq.{getD-set-same, getD-set-other}
-use borrow.Author.Tests.{lt-ltb, ne-eqb, eqb-true}
+use borrow.Author.Tests.{lt-ltb, ltb-true, ne-eqb, eqb-true}
 use Rattle.rules.specs.Basics.{pick}
 use Rattle.rules.specs.Places.{Place, pLetter, pCaret, pDollar, pFork, pEnd}
 use Rattle.rules.proofs.ThinPlaces.{Spelt}
@@ -29,7 +29,7 @@ abbrev codeFor : ℕ → Place → ℕ
 codeFor q (pLetter c k) = letterCode c
 codeFor q (pCaret k) = 26
 codeFor q (pDollar k) = 27
-codeFor q (pFork ks) = forkCode (getD ks 0 0) (q + 1)
+codeFor q (pFork ks) = forkCode (getD ks 0 0) (q + 1) (length ks)
 codeFor q pEnd = 30
 
 abbrev firstFor : Place → ℕ
@@ -271,7 +271,7 @@ Sound p = Spelt p × Wayed p
 
 -- what the walk relies on for place q, of this code, first place, later word and count; its ways end by r
 pub record Keeps (q r a b c d : ℕ) : Type 0 where
-  pub near : a ≡ 28 → b ≡ q + 1
+  pub near : a ≡ 28 → (b ≡ q + 1) × (1 < d)
   pub one : a < 28 → d ≡ 0
   pub end : 29 < a → d ≡ 0
   pub many : d ≤ 256
@@ -282,17 +282,20 @@ keeps-one : (q r a b c : ℕ) → (a ≡ 28 → ⊥) → Keeps q r a b c 0
 keeps-one q r a b c h =
     record { near = λ e. absurd (h e); one = λ e. refl; end = λ e. refl; many = omega arith; ways = λ e. absurd (omega arith) }
 
-keeps-fork : (q r k y w m : ℕ) → m ≤ 256 → w + m ≤ r → Keeps q r (forkCode k (q + 1)) k (laterWord y w m) m
-keeps-fork q r k y w m h l = go (eqb k (q + 1)) refl
+keeps-fork : (q r k y w m : ℕ) → m ≤ 256 → w + m ≤ r → Keeps q r (forkCode k (q + 1) m) k (laterWord y w m) m
+keeps-fork q r k y w m h l = go (ltb 1 m) (eqb k (q + 1)) refl refl
   where
     begins : 2 < m → laterWord y w m + m ≤ r
     begins u = rw (ne-eqb m 2 (λ (e : m ≡ 2). omega arith)) l
 
-    go : (t : Bool) → eqb k (q + 1) ≡ t → Keeps q r (pick t 28 29) k (laterWord y w m) m
-    go true e =
-        record { near = λ u. eqb-true k (q + 1) e; one = λ u. absurd (omega arith); end = λ u. absurd (omega arith); many = h; ways = begins }
-    go false e =
-        record { near = λ u. absurd (omega arith); one = λ u. absurd (omega arith); end = λ u. absurd (omega arith); many = h; ways = begins }
+    far : Keeps q r 29 k (laterWord y w m) m
+    far = record { near = λ u. absurd (omega arith); one = λ u. absurd (omega arith); end = λ u. absurd (omega arith); many = h; ways = begins }
+
+    go : (s t : Bool) → ltb 1 m ≡ s → eqb k (q + 1) ≡ t → Keeps q r (pick s (pick t 28 29) 29) k (laterWord y w m) m
+    go true true d e =
+        record { near = λ u. (eqb-true k (q + 1) e, ltb-true 1 m d); one = λ u. absurd (omega arith); end = λ u. absurd (omega arith); many = h; ways = begins }
+    go true false d e = far
+    go false t d e = far
 
 keeps : (q w r : ℕ) (p : Place) → Sound p → w + wayCount p ≤ r → Keeps q r (codeFor q p) (firstFor p) (laterFor w p) (length (waysFor p))
 unfolding wayCount
@@ -314,10 +317,11 @@ by-letter c k ks l h =
     let b : ltb ((c + 191) % 256) 26 ≡ true = lt-ltb ((c + 191) % 256) 26 (omega arith) in
     rw (b, d)
 
-by-fork : (k : ℕ) (ks : List ℕ) (b : Bool) → placeBy (pick b 28 29) k ks ≡ pFork ks
+by-fork : (k : ℕ) (ks : List ℕ) (a b : Bool) → placeBy (pick a (pick b 28 29) 29) k ks ≡ pFork ks
 unfolding placeBy
-by-fork k ks true = refl
-by-fork k ks false = refl
+by-fork k ks true true = refl
+by-fork k ks true false = refl
+by-fork k ks false b = refl
 
 -- the later ways of a fork whose ways begin at word w, if it has not two
 later-span : (U : List ℕ) (w c j m : ℕ) → eqb c 2 ≡ false → laterWays U w c j m ≡ span U (w + j) m
@@ -357,7 +361,7 @@ module _ (T U : List ℕ) (q w : ℕ) (low : 4 * q + 4 ≤ w) where
   place-back (pCaret k) s l g h = by-words U q _ _ _ _ h
   place-back (pDollar k) s l g h = by-words U q _ _ _ _ h
   place-back (pFork ks) s l g h =
-      by-words U q _ _ _ _ h ∙ by-fork _ _ (eqb (getD ks 0 0) (q + 1))
+      by-words U q _ _ _ _ h ∙ by-fork _ _ (ltb 1 (length ks)) (eqb (getD ks 0 0) (q + 1))
       ∙ ap pFork (all-ways T U w ks (s .1 .0) l (λ j a b. g j a b ∙ words-kept (putWays T w ks) q _ _ _ _ j (λ c d. omega arith)))
   place-back pEnd s l g h = by-words U q _ _ _ _ h
 

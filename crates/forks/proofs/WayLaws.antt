@@ -4,10 +4,10 @@ use mathlib.Core.Bool.{Bool, true, false, _||_, or-comm, true≢false}
 use mathlib.Core.List.{List, [], _∷_, _++_}
 use Prim.Native.Nat.{ℕ, zero, suc, _+_, _*_, _-_, _≤_, _<_, min}
 use native.Mathlib.Omega.{arith}
-use lib.Dec.{eqb}
+use lib.Dec.{eqb, ltb}
 use lib.ListN.{length, getD, set, length-set}
 use lib.Seq.{getD-set-same, getD-set-other}
-use borrow.Author.Tests.{eq-eqb, ne-eqb, eqb-true, eqb-false}
+use borrow.Author.Tests.{eq-eqb, ne-eqb, eqb-true, eqb-false, lt-ltb, le-ltb}
 use Rattle.rules.specs.Basics.{pick, has}
 use Rattle.rules.specs.Places.{Unrolled, uLetter, uCaret, uDollar, uEmpty, uSeq, uAlt, uOpt, uStar, Branches, uNil, uCons, size, sizes, startOf, startsOf, waysInTurn, code, codes}
 use Rattle.rules.proofs.Bounds.{has-append}
@@ -260,11 +260,14 @@ caret-code c e = rw (eq-eqb c 94 e)
 pub dollar-code : (c : ℕ) → (c ≡ 94 → ⊥) → 27 ≡ anchorCode c
 dollar-code c e = rw (ne-eqb c 94 e)
 
-pub near-code : (k q : ℕ) → k ≡ q → (28 ≡ forkCode k q) × (28 < 65536)
-near-code k q e = (rw (eq-eqb k q e), omega arith)
+pub one-code : (x m : ℕ) → m < 2 → (29 ≡ pick (ltb 1 m) x 29) × (29 < 65536)
+one-code x m h = (rw (le-ltb 1 m (omega arith)), omega arith)
 
-pub far-code : (k q : ℕ) → (k ≡ q → ⊥) → (29 ≡ forkCode k q) × (29 < 65536)
-far-code k q e = (rw (ne-eqb k q e), omega arith)
+pub near-code : (k q m : ℕ) → 2 ≤ m → k ≡ q → (28 ≡ forkCode k q m) × (28 < 65536)
+near-code k q m h e = (rw (lt-ltb 1 m (omega arith), eq-eqb k q e), omega arith)
+
+pub far-code : (k q m : ℕ) → 2 ≤ m → (k ≡ q → ⊥) → (29 ≡ forkCode k q m) × (29 < 65536)
+far-code k q m h e = (rw (lt-ltb 1 m (omega arith), ne-eqb k q e), omega arith)
 
 pub turns-open : (l h : ℕ) → h ≡ 100 → 100 ≡ pick (eqb h 100) 100 (h - l)
 turns-open l h e = sym (ap (λ (t : Bool). pick t 100 (h - l)) (eq-eqb h 100 e))

@@ -5,7 +5,7 @@ use mathlib.Core.Path.{_≡_}
 use mathlib.Core.Bool.{Bool, true, false}
 use mathlib.Core.List.{List, [], _∷_}
 use Prim.Native.Nat.{ℕ, suc, _+_, _*_, _-_, _%_, _≤_, _<_}
-use lib.Dec.{eqb}
+use lib.Dec.{eqb, ltb}
 use lib.ListN.{length, getD, set}
 use Rattle.rules.specs.Basics.{pick, has, isLetter, every}
 use Rattle.rules.specs.Language.{pattern, factor, Tree, one, last, letters}
@@ -35,9 +35,9 @@ letterCode c = (c + 191) % 256
 abbrev pub anchorCode : ℕ → ℕ
 anchorCode c = pick (eqb c 94) 26 27
 
--- the code of a fork by its first way and the place behind it
-abbrev pub forkCode : ℕ → ℕ → ℕ
-forkCode first behind = pick (eqb first behind) 28 29
+-- the code of a fork by its first way, the place behind it and how many ways it has
+abbrev pub forkCode : ℕ → ℕ → ℕ → ℕ
+forkCode first behind count = pick (ltb 1 count) (pick (eqb first behind) 28 29) 29
 
 -- the later word of a fork: its second way if it has two, else the word at which its ways begin
 abbrev pub laterWord : ℕ → ℕ → ℕ → ℕ
@@ -50,7 +50,7 @@ putPlace T q w (pLetter c k) = putWords T q (letterCode c) k 0 0
 putPlace T q w (pCaret k) = putWords T q 26 k 0 0
 putPlace T q w (pDollar k) = putWords T q 27 k 0 0
 putPlace T q w (pFork ks) =
-    putWords (putWays T w ks) q (forkCode (getD ks 0 0) (q + 1)) (getD ks 0 0) (laterWord (getD ks 1 0) w (length ks)) (length ks)
+    putWords (putWays T w ks) q (forkCode (getD ks 0 0) (q + 1) (length ks)) (getD ks 0 0) (laterWord (getD ks 1 0) w (length ks)) (length ks)
 putPlace T q w pEnd = putWords T q 30 0 0 0
 
 unfoldable pub wayCount : Place → ℕ
@@ -99,7 +99,7 @@ pub record Wording (T : List ℕ) (q code first later count : ℕ) : Type 0 wher
 -- the words of the fork at place q, whose ways stand from word w to word `to`
 abbrev pub putFork : List ℕ → ℕ → ℕ → ℕ → List ℕ
 putFork T q w to =
-    putWords T q (forkCode (getD T w 0) (q + 1)) (getD T w 0) (laterWord (getD T (w + 1) 0) w (to - w)) (to - w)
+    putWords T q (forkCode (getD T w 0) (q + 1) (to - w)) (getD T w 0) (laterWord (getD T (w + 1) 0) w (to - w)) (to - w)
 
 pub record ForkNeeds (T : List ℕ) (q w to : ℕ) : Type 0 where
   pub long : 4 * q + 4 ≤ length T

@@ -51,10 +51,14 @@ pub fn put_place(table: &mut [u16], b: usize, w: usize, code: usize, k: usize) -
     w
 }
 
-// The code of a fork by its first way and the place behind it.
-fn fork_code(first: usize, behind: usize) -> usize
-    ensures { λ r. ⌜ (r ≡ forkCode first behind) × (r < 65536) ⌝ }
+// The code of a fork by its first way, the place behind it and how many ways it has. A near fork has
+// a second way, so that the walk need not ask for it.
+fn fork_code(first: usize, behind: usize, count: usize) -> usize
+    ensures { λ r. ⌜ (r ≡ forkCode first behind count) × (r < 65536) ⌝ }
 {
+    if count < TWO_WAYS {
+        return FORK;
+    }
     if first == behind {
         return NEAR_FORK;
     }
@@ -78,8 +82,8 @@ fn put_fork(table: &mut [u16], b: usize, w: usize, to: usize) -> usize
     ensures { λ r. ⌜ (r ≡ to) × (now (table .exit) ≡ putFork (now (table .entry)) b w to) ⌝ }
 {
     let first = word_at(table, w);
-    let code = fork_code(first, b + 1);
     let count = to - w;
+    let code = fork_code(first, b + 1, count);
     let later = later_word(table, w, count);
     put_words(table, b, code, first, later, count);
     to

@@ -119,10 +119,13 @@ pub entry-one : (words : List ℕ) (q : ℕ) → countAt words q ≤ 1 → q ≡
 unfolding entryOf
 entry-one words q h = rw (le-ltb 1 (countAt words q) h) (omega arith)
 
+entry-two : (words : List ℕ) (q : ℕ) → 1 < countAt words q → q + 16777216 ≡ entryOf words q
+unfolding entryOf
+entry-two words q h = rw (lt-ltb 1 (countAt words q) h)
+
 module _ (words : List ℕ) (q k : ℕ) (ek : k ≡ countAt words q) (few : q < 2048) where
   pub entry-with : 1 < k → (q + 16777216 ≡ entryOf words q) × (q + 16777216 < 16779264)
-  unfolding entryOf
-  entry-with h = (rw (lt-ltb 1 (countAt words q) (omega (arith, ek, h))), omega arith)
+  entry-with h = (entry-two words q (omega (arith, ek, h)), omega arith)
 
   pub entry-without : k ≤ 1 → (q ≡ entryOf words q) × (q < 16779264)
   entry-without h = (entry-one words q (omega (arith, ek, h)), omega arith)
@@ -131,7 +134,7 @@ module _ (words : List ℕ) (q k : ℕ) (ek : k ≡ countAt words q) (few : q < 
 
 module _ (T : Layout) (n : ℕ) (notes trail : List ℕ) (w : Walk) (h : Enters T n notes trail w) (c : ℕ) (ec : (c ≡ codeAt (T .words) (w .place)) × (c < 65536)) where
   pub fork-noted : c ≡ 28 → Noted notes (w .base + (w .place + 1))
-  fork-noted e = let z : codeAt (T .words) (w .place) ≡ 28 = sym (ec .0) ∙ e in rw (h .near z) at (h .other (omega arith) (omega arith))
+  fork-noted e = let z : codeAt (T .words) (w .place) ≡ 28 = sym (ec .0) ∙ e in rw (h .near z .0) at (h .other (omega arith) (omega arith))
 
   module _ (x : ℕ) (ex : (x ≡ firstAt (T .words) (w .place)) × (x < 65536)) where
     pub anchor-noted : 26 ≤ c → c ≤ 29 → Noted notes (w .base + x)
@@ -167,12 +170,13 @@ module _ (holds : ℕ → ℕ → Bool) (n : ℕ) (words : List ℕ) (P : ℕ) (
     pushed : (v : ℕ) (trail′ : List ℕ) → v ≡ entry → Pushed v trail′ → trail′ ≡ set trail (w .top) (w .row * 2048 + entry)
     pushed v trail′ ev et = et ∙ rw ev
 
-    pub enter-fork : c ≡ 28 → (v : ℕ) → (v ≡ entry) × (v < 16779264) → (trail′ : List ℕ) → Pushed v trail′ → (r : Walk)
+    pub enter-fork : c ≡ 28 → (v : ℕ) → v ≡ w .place + 16777216 → (trail′ : List ℕ) → Pushed v trail′ → (r : Walk)
         → r ≡ tryAt notes (w .top + 1) (w .steps + 1) (w .place + 1) (w .row) (w .base) → EntersTo notes trail′ r
     enter-fork e v ev trail′ et r er =
         let z : code ≡ 28 = sym as-code ∙ e in
-        entered-other notes trail w code entry (firstAt words (w .place)) P passing trail′ (pushed v trail′ (ev .0) et) r (passes-fork holds n code (w .row) z) (omega arith) (omega arith)
-        (w .place + 1) (sym (h .near z)) er
+        let u : v ≡ entry = ev ∙ entry-two words (w .place) (h .near z .1) in
+        entered-other notes trail w code entry (firstAt words (w .place)) P passing trail′ (pushed v trail′ u et) r (passes-fork holds n code (w .row) z) (omega arith) (omega arith)
+        (w .place + 1) (sym (h .near z .0)) er
 
     module _ (p : Bool) (ep : p ≡ passesBy holds n c (w .row)) where
       as-passing : p ≡ passing

@@ -99,7 +99,7 @@ outcomeBy P (suc t) trail F s = found (reverseAux (stack P trail (suc t)) []) F 
 abbrev pub Noted : List ℕ → ℕ → Type 0
 Noted notes x = (x < mostPairs) × (x / 8 < length notes)
 
--- the pair of the walk has not failed, there is room for it, and the pair that it leads to first can be tried; a fork of code 28 leads first to the place behind it
+-- the pair of the walk has not failed, there is room for it, and the pair that it leads to first can be tried; a fork of code 28 leads first to the place behind it, and has a second way
 pub record Enters (T : Layout) (n : ℕ) (notes trail : List ℕ) (w : Walk) : Type 0 where
   pub place : w .place < P T
   pub words : 4 * w .place + 4 ≤ length (T .words)
@@ -114,5 +114,5 @@ pub record Enters (T : Layout) (n : ℕ) (notes trail : List ℕ) (w : Walk) : T
   pub steps : w .steps + 1 < 18446744073709551616
   pub one : codeAt (T .words) (w .place) < 28 → countAt (T .words) (w .place) ≡ 0
   pub letter : codeAt (T .words) (w .place) < 26 → w .row < n → Noted notes (w .base + P T + firstAt (T .words) (w .place))
-  pub near : codeAt (T .words) (w .place) ≡ 28 → firstAt (T .words) (w .place) ≡ w .place + 1
+  pub near : codeAt (T .words) (w .place) ≡ 28 → (firstAt (T .words) (w .place) ≡ w .place + 1) × (1 < countAt (T .words) (w .place))
   pub other : 26 ≤ codeAt (T .words) (w .place) → codeAt (T .words) (w .place) ≤ 29 → Noted notes (w .base + firstAt (T .words) (w .place))

@@ -143,6 +143,14 @@ pub fn entry_at(words: &[u16], q: usize) -> usize
     q
 }
 
+// The same of a place of which it is known that it has a second way.
+pub fn fork_entry(q: usize) -> usize
+    requires { ⌜ q < 2048 ⌝ }
+    ensures { λ r. ⌜ r ≡ q + 16777216 ⌝ }
+{
+    q + WAY
+}
+
 // The pair at a row of the place whose entry is v is open.
 pub fn push(trail: &mut [u32], top: usize, row: usize, v: usize)
     requires { ⌜ (top < length (now trail)) × (row * 2048 + v < 4294967296) ⌝ }

@@ -17,7 +17,7 @@ pub record Sized (T : List ℕ) (P : ℕ) : Type 0 where
   pub some : 0 < P
   pub few : P ≤ mostPlaces
   pub long : 4 * P ≤ length T
-  pub near : (q : ℕ) → q < P → codeAt T q ≡ 28 → firstAt T q ≡ q + 1
+  pub near : (q : ℕ) → q < P → codeAt T q ≡ 28 → (firstAt T q ≡ q + 1) × (1 < countAt T q)
   pub one : (q : ℕ) → q < P → codeAt T q < 28 → countAt T q ≡ 0
   pub end : (q : ℕ) → q < P → 29 < codeAt T q → countAt T q ≡ 0
   pub many : (q : ℕ) → q < P → countAt T q ≤ mostWays

@@ -1,5 +1,5 @@
 -- The places of a pattern as words of one table, written once when a query is prepared and read by the walk and the report. Place q has four words:
---   4q      its code: 0 to 25 the letters A to Z, 26 `^`, 27 `$`, 28 a fork that tries the place behind it first, 29 any other fork, 30 END
+--   4q      its code: 0 to 25 the letters A to Z, 26 `^`, 27 `$`, 28 a fork of two ways or more that tries the place behind it first, 29 any other fork, 30 END
 --   4q + 1  the place that is tried first from it; of a fork, its first way
 --   4q + 2  of a fork with two ways, its second; of one with more, the word at which its ways begin
 --   4q + 3  of a fork, how many ways it has; 0 for any other place

@@ -16,7 +16,7 @@ pub const CARET: usize = 26;
 
 pub const DOLLAR: usize = 27;
 
-// A fork that tries the place behind it first, so that the walk knows that place without a look at the table.
+// A fork of two ways or more that tries the place behind it first, so that the walk knows that place, and that there is a second way, by the code alone.
 pub const NEAR_FORK: usize = 28;
 
 pub const FORK: usize = 29;

@@ -11,8 +11,8 @@ add-steps c = omega arith
 code-at-requires : tie.Need-code-at-requires
 code-at-requires c κs = search needs
 
-entry-at-requires : tie.Need-entry-at-requires
-entry-at-requires c κs = (omega arith, omega arith)
+fork-entry-requires : tie.Need-fork-entry-requires
+fork-entry-requires c κs = omega arith
 
 push-requires : tie.Need-push-requires
 push-requires c κs = search needs
@@ -33,7 +33,7 @@ same-length-2 : tie.Need-same-length-2
 same-length-2 c = omega arith
 
 returns : tie.Need-returns
-returns c = enter-fork _ _ _ _ _ _ _ (c .before .before .before .before .before .before .before .before .before .before .before .before .before .before .pre .1) _ (c .before .before .before .before .before .before .before .before .code-at .ensures) (c .before .before .before .before .before .before .before .if1 .taken) _ (c .before .before .before .before .before .entry-at .ensures) _ (c .before .before .before .before .push .ensures) _ (c .tried .ensures)
+returns c = enter-fork _ _ _ _ _ _ _ (c .before .before .before .before .before .before .before .before .before .before .before .before .before .before .pre .1) _ (c .before .before .before .before .before .before .before .before .code-at .ensures) (c .before .before .before .before .before .before .before .if1 .taken) _ (c .before .before .before .before .before .fork-entry .ensures) _ (c .before .before .before .before .push .ensures) _ (c .tried .ensures)
 
 letter-passes-requires : tie.Need-letter-passes-requires
 letter-passes-requires c κs = search needs
@@ -98,8 +98,8 @@ same-length-7 c = omega arith
 returns-5 : tie.Need-returns-5
 returns-5 c = enter-shut _ _ _ _ _ _ _ (c .before .before .before .before .before .before .before .before .before .before .before .before .before .before .pre .1) _ (c .before .before .before .before .before .before .before .before .code-at .ensures) _ ((c .before .before .before .before .before .anchor-passes .ensures) _) (c .before .before .before .before .if5 .taken) _ _ (c .before .before .fails3 .ensures)
 
-entry-at-requires-2 : tie.Need-entry-at-requires-2
-entry-at-requires-2 c κs = (omega arith, omega arith)
+entry-at-requires : tie.Need-entry-at-requires
+entry-at-requires c κs = (omega arith, omega arith)
 
 push-requires-3 : tie.Need-push-requires-3
 push-requires-3 c κs = search needs
@@ -111,7 +111,7 @@ same-length-8 : tie.Need-same-length-8
 same-length-8 c = omega arith
 
 returns-6 : tie.Need-returns-6
-returns-6 c = enter-end _ _ _ _ _ _ _ (c .before .before .before .before .before .before .before .before .before .before .before .before .before .before .before .before .pre .1) _ (c .before .before .before .before .before .before .before .before .before .before .code-at .ensures) _ ((c .before .before .before .before .before .before .before .anchor-passes .ensures) _) (c .before .before .before .before .before .before .if5 .left) _ (c .before .before .before .before .entry-at2 .ensures) _ (c .before .before .before .push3 .ensures) (c .if6 .taken)
+returns-6 c = enter-end _ _ _ _ _ _ _ (c .before .before .before .before .before .before .before .before .before .before .before .before .before .before .before .before .pre .1) _ (c .before .before .before .before .before .before .before .before .before .before .code-at .ensures) _ ((c .before .before .before .before .before .before .before .anchor-passes .ensures) _) (c .before .before .before .before .before .before .if5 .left) _ (c .before .before .before .before .entry-at .ensures) _ (c .before .before .before .push3 .ensures) (c .if6 .taken)
 
 add-tried-3 : tie.Need-add-tried-3
 add-tried-3 c = omega arith
@@ -129,7 +129,7 @@ same-length-10 : tie.Need-same-length-10
 same-length-10 c = omega arith
 
 returns-7 : tie.Need-returns-7
-returns-7 c = enter-anchor _ _ _ _ _ _ _ (c .before .before .before .before .before .before .before .before .before .before .before .before .before .before .before .before .before .before .before .pre .1) _ (c .before .before .before .before .before .before .before .before .before .before .before .before .before .code-at .ensures) _ ((c .before .before .before .before .before .before .before .before .before .before .anchor-passes .ensures) _) (c .before .before .before .before .before .before .before .before .before .if5 .left) _ (c .before .before .before .before .before .before .before .entry-at2 .ensures) _ (c .before .before .before .before .before .before .push3 .ensures) (c .before .before .before .before .before .before .before .before .before .before .before .if2 .left) (c .before .before .before .if6 .left) _ (c .before .first-at2 .ensures) _ (c .tried2 .ensures)
+returns-7 c = enter-anchor _ _ _ _ _ _ _ (c .before .before .before .before .before .before .before .before .before .before .before .before .before .before .before .before .before .before .before .pre .1) _ (c .before .before .before .before .before .before .before .before .before .before .before .before .before .code-at .ensures) _ ((c .before .before .before .before .before .before .before .before .before .before .anchor-passes .ensures) _) (c .before .before .before .before .before .before .before .before .before .if5 .left) _ (c .before .before .before .before .before .before .before .entry-at .ensures) _ (c .before .before .before .before .before .before .push3 .ensures) (c .before .before .before .before .before .before .before .before .before .before .before .if2 .left) (c .before .before .before .if6 .left) _ (c .before .first-at2 .ensures) _ (c .tried2 .ensures)
 
 pub enter-spec : {M : Type 1} → statement M
 enter-spec =
@@ -137,7 +137,7 @@ enter-spec =
     (tie.spec
     add-steps
     code-at-requires
-    entry-at-requires
+    fork-entry-requires
     push-requires
     add-tried
     add-tried-2
@@ -166,7 +166,7 @@ enter-spec =
     fails-requires-3
     same-length-7
     returns-5
-    entry-at-requires-2
+    entry-at-requires
     push-requires-3
     add-opened
     same-length-8

@@ -8,14 +8,14 @@ use Rattle.forks.proofs.put_fork.Tie as tie
 word-at-requires : tie.Need-word-at-requires
 word-at-requires c κs = search needs
 
+sub-count : tie.Need-sub-count
+sub-count c = omega arith
+
 add-fork-code : tie.Need-add-fork-code
 add-fork-code c = omega arith
 
 fork-code-requires : tie.Need-fork-code-requires
 fork-code-requires c κs = search needs
-
-sub-count : tie.Need-sub-count
-sub-count c = omega arith
 
 later-word-requires : tie.Need-later-word-requires
 later-word-requires c κs = (omega arith, λ e. omega arith)
@@ -36,9 +36,9 @@ put-fork-spec =
     tie.close
     (tie.spec
     word-at-requires
+    sub-count
     add-fork-code
     fork-code-requires
-    sub-count
     later-word-requires
     put-words-requires
     same-length
