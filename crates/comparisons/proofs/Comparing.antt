@@ -1,5 +1,5 @@
--- The operators, by the two ways through `compare`: those above 6 by one test, the others by the bits of one number.
-use mathlib.Core.Path.{_≡_, refl, sym, ap, _∙_}
+-- The operators by the bits of one number, as `compare` reads them.
+use mathlib.Core.Path.{_≡_, refl, ap, _∙_}
 use mathlib.Core.Bool.{Bool, true, false, not, _&&_, _||_}
 use Prim.Native.Nat.{ℕ, zero, suc, _+_, _*_, _/_, _%_, _^_, _≤_, _<_}
 use native.Mathlib.Omega.{arith}
@@ -9,11 +9,11 @@ use lib.Signed.{ltZ, leZ}
 use mir.Syntax.{w64}
 use mir.Val.{SFits, toZ, ofZ, boolByte}
 use mir.Facts.{toZ-ofZ}
-use borrow.Author.Tests.{ne-eqb, lt-ltb, le-ltb, le-leb, lt-leb, ltb-true, ltb-false}
+use borrow.Author.Tests.{le-leb, lt-leb, ltb-true, ltb-false}
 use Rattle.rules.specs.Basics.{pick}
 use Rattle.rules.specs.Rows.{compares}
 use Rattle.rules.proofs.Choice.{decided, clash}
-use Rattle.comparisons.specs.Letters.{flagOf}
+use Rattle.comparisons.specs.Spots.{flagOf}
 
 -- ---- a test as a number
 
@@ -63,7 +63,7 @@ lt-le (negsuc a) (negsuc b) e = let l = ltb-true b a e in le-leb b a (omega arit
 -- t: a is at least b; u: a is above b
 unfoldable bit : ℕ → Bool → Bool → Bool
 unfolding flagOf
-bit op t u = eqb (1717078 / 2 ^ (op * 3 + (flagOf t + flagOf u)) % 2) 1
+bit op t u = eqb (14299990 / 2 ^ (op * 3 + (flagOf t + flagOf u)) % 2) 1
 
 unfoldable said : ℕ → Bool → Bool → Bool
 said op t u =
@@ -76,22 +76,23 @@ three op e f g true false h = f
 three op e f g false true h = clash (h refl)
 three op e f g false false h = g
 
-seven : (op : ℕ) → op ≤ 6 → (t u : Bool) → (u ≡ true → t ≡ true) → bit op t u ≡ said op t u
+eight : (op : ℕ) → op < 8 → (t u : Bool) → (u ≡ true → t ≡ true) → bit op t u ≡ said op t u
 unfolding bit said
-seven zero h = three 0 refl refl refl
-seven (suc zero) h = three 1 refl refl refl
-seven (suc (suc zero)) h = three 2 refl refl refl
-seven (suc (suc (suc zero))) h = three 3 refl refl refl
-seven (suc (suc (suc (suc zero)))) h = three 4 refl refl refl
-seven (suc (suc (suc (suc (suc zero))))) h = three 5 refl refl refl
-seven (suc (suc (suc (suc (suc (suc zero)))))) h = three 6 refl refl refl
-seven (suc (suc (suc (suc (suc (suc (suc k))))))) h = absurd (omega arith)
+eight zero h = three 0 refl refl refl
+eight (suc zero) h = three 1 refl refl refl
+eight (suc (suc zero)) h = three 2 refl refl refl
+eight (suc (suc (suc zero))) h = three 3 refl refl refl
+eight (suc (suc (suc (suc zero)))) h = three 4 refl refl refl
+eight (suc (suc (suc (suc (suc zero))))) h = three 5 refl refl refl
+eight (suc (suc (suc (suc (suc (suc zero)))))) h = three 6 refl refl refl
+eight (suc (suc (suc (suc (suc (suc (suc zero))))))) h = three 7 refl refl refl
+eight (suc (suc (suc (suc (suc (suc (suc (suc k)))))))) h = absurd (omega arith)
 
 said-is : (op : ℕ) (a b : ℤ) → said op (leZ b a) (ltZ b a) ≡ compares op a b
 unfolding said compares
 said-is op a b = rw (le-not a b, lt-not a b) refl
 
--- ---- the ways through the code
+-- ---- the way through the code
 
 -- what 64 bits hold of a number; the tests are of that
 abbrev held : ℤ → ℤ
@@ -104,16 +105,10 @@ module _ (op : ℕ) (a b : ℤ) (fa : SFits w64 a) (fb : SFits w64 b) where
   lt-ba : ltZ (held b) (held a) ≡ ltZ b a
   lt-ba = rw (toZ-ofZ fa, toZ-ofZ fb)
 
-  pub above-six : (r : Bool) → 6 < op → r ≡ leZ (held b) (held a) → r ≡ compares op a b
-  unfolding compares
-  above-six r h e =
-      simp (ne-eqb op 1 (λ q. omega arith), ne-eqb op 2 (λ q. omega arith), ne-eqb op 3 (λ q. omega arith), ne-eqb op 4 (λ q. omega arith), ne-eqb op 5 (λ q. omega arith))
-      (e ∙ le-ba)
-
-  pub by-bits : (t u : Bool) (x y : ℕ) → op ≤ 6 → t ≡ leZ (held b) (held a) → x ≡ flagOf t → u ≡ ltZ (held b) (held a) → y ≡ flagOf u
-      → eqb (1717078 / 2 ^ (op * 3 + (x + y)) % 2) 1 ≡ compares op a b
+  pub by-bits : (t u : Bool) (x y : ℕ) → op < 8 → t ≡ leZ (held b) (held a) → x ≡ flagOf t → u ≡ ltZ (held b) (held a) → y ≡ flagOf u
+      → eqb (14299990 / 2 ^ (op * 3 + (x + y)) % 2) 1 ≡ compares op a b
   unfolding bit
   by-bits t u x y h et ex eu ey =
-      ap (λ (k : ℕ). eqb (1717078 / 2 ^ (op * 3 + (k + y)) % 2) 1) (ex ∙ ap flagOf (et ∙ le-ba))
-      ∙ ap (λ (k : ℕ). eqb (1717078 / 2 ^ (op * 3 + (flagOf (leZ b a) + k)) % 2) 1) (ey ∙ ap flagOf (eu ∙ lt-ba))
-      ∙ seven op h (leZ b a) (ltZ b a) (lt-le b a) ∙ said-is op a b
+      ap (λ (k : ℕ). eqb (14299990 / 2 ^ (op * 3 + (k + y)) % 2) 1) (ex ∙ ap flagOf (et ∙ le-ba))
+      ∙ ap (λ (k : ℕ). eqb (14299990 / 2 ^ (op * 3 + (flagOf (leZ b a) + k)) % 2) 1) (ey ∙ ap flagOf (eu ∙ lt-ba))
+      ∙ eight op h (leZ b a) (ltZ b a) (lt-le b a) ∙ said-is op a b

@@ -1,186 +1,125 @@
--- Rows that a signed byte leads to, and the entries there: the byte's sum with a row index is exact, and a spot's entry lies in the moved row.
-use mathlib.Core.Path.{_≡_, refl, sym, ap, _∙_, subst}
-use mathlib.Core.Bool.{Bool, true, false}
+-- The entry at a spot of a row: its index is below the length of the rows exactly if the row that
+-- is read is one of the partition, and then it is that row's entry.
+use mathlib.Core.Path.{_≡_, sym, ap, _∙_}
+use mathlib.Core.Bool.{false}
 use mathlib.Core.List.{List}
-use mathlib.Core.Option.{none, some}
+use mathlib.Core.Option.{some}
 use Prim.Native.Nat.{ℕ, suc, _+_, _*_, _-_, _/_, _%_, _≤_, _<_}
 use native.Mathlib.Omega.{arith}
 use native.Mathlib.Nat.{mul-le-mul, le-refl, suc-mul, add-mul, mod-lt, div-add-mod', mul-div-cancel}
 use lib.Dec.{ltb}
-use lib.IntN.{ℤ, pos, negsuc, _+ℤ_, +ℤ-assoc, +ℤ-comm}
-use lib.Signed.{mag, ltZ}
-use lib.ListN.{length, getD}
-use mir.Syntax.{w8, w32, w64}
-use mir.Val.{SFits, toZ, ofZ}
-use mir.Facts.{toZ-ofZ, sfits-widen}
-use borrow.Author.Tests.{lt-ltb, ltb-true}
-use Rattle.rules.specs.Basics.{pick}
+use lib.IntN.{ℤ, pos, negsuc, _+ℤ_, +ℤ-assoc}
+use lib.ListN.{length}
+use borrow.Author.Tests.{lt-ltb, le-ltb, ltb-true, ltb-false}
 use Rattle.rules.specs.Rows.{tableOf, entry, entryAt}
-use Rattle.rules.proofs.Choice.{clash}
-use Rattle.rules.proofs.Signed.{sum-fits, read-back}
-use Rattle.comparisons.specs.Letters.{there, At, SpotFor, FarBack, spotIndex}
+use Rattle.rules.proofs.Choice.{decided}
+use Rattle.table.specs.Tests.{offsetOf, columnOf}
+use Rattle.comparisons.specs.Spots.{FarBack, spotIndex, entryFrom}
 
--- ---- a signed byte moves a row index
+-- the rows are n whole ones, at most 4,096; this row is one of them; `from` is 64 rows before it
+pub record At (rows : List ℤ) (columns n row from : ℕ) : Type 0 where
+  pub some : 1 ≤ columns
+  pub few : columns ≤ 8
+  pub most : n ≤ 4096
+  pub all : length rows ≡ n * columns
+  pub is-row : row < n
+  pub far : FarBack columns (row * columns) from
 
--- what 64 bits hold of a signed byte
-abbrev byte-held : ℤ → ℤ
-byte-held o = toZ w64 (ofZ w64 (toZ w8 (ofZ w8 o)))
+-- an entry of row k is among those of n rows exactly if k is below n
+row-below : (columns n k column : ℕ) → column < columns → ltb (k * columns + column) (n * columns) ≡ ltb k n
+row-below columns n k column h =
+    decided (ltb k n)
+    (λ t. let l = ltb-true k n t in
+    let a : suc k * columns ≤ n * columns = mul-le-mul l (le-refl columns) in
+    let b : suc k * columns ≡ k * columns + columns = suc-mul k columns in
+    lt-ltb (k * columns + column) (n * columns) (omega arith) ∙ sym t)
+    (λ t. let l = ltb-false k n t in
+    let a : n * columns ≤ k * columns = mul-le-mul l (le-refl columns) in
+    le-ltb (k * columns + column) (n * columns) (omega arith) ∙ sym t)
 
-pub byte-fits : (o : ℤ) → SFits w8 o → SFits w64 (toZ w8 (ofZ w8 o))
-byte-fits o f = subst (SFits w64) (sym (toZ-ofZ f)) (sfits-widen tt f)
-
-pub byte-is : (o : ℤ) → SFits w8 o → byte-held o ≡ o
-byte-is o f = ap (λ (z : ℤ). toZ w64 (ofZ w64 z)) (toZ-ofZ f) ∙ toZ-ofZ (sfits-widen tt f)
-
-index-is : (k : ℕ) → k < 9223372036854775808 → toZ w64 k ≡ pos k
-index-is k h = simp (lt-ltb k 9223372036854775808 h)
-
-module _ (row n : ℕ) (o : ℤ) (h : row < n) (m : n ≤ 4096) (f : SFits w8 o) where
-  sum-is : toZ w64 row +ℤ byte-held o ≡ pos row +ℤ o
-  sum-is = ap (λ (z : ℤ). z +ℤ byte-held o) (index-is row (omega arith)) ∙ ap (λ (z : ℤ). pos row +ℤ z) (byte-is o f)
-
-  moved-fits : SFits w64 (pos row +ℤ o)
-  moved-fits = sum-fits (pos row) o 4096 128 (omega arith) (f .sfits) (omega arith)
-
-  pub to-fits : SFits w64 (toZ w64 row +ℤ byte-held o)
-  to-fits = subst (SFits w64) (sym sum-is) moved-fits
-
-  to-is : toZ w64 (ofZ w64 (toZ w64 row +ℤ byte-held o)) ≡ pos row +ℤ o
-  to-is = toZ-ofZ to-fits ∙ sum-is
-
-  before-first : (z : ℤ) → ltZ z (pos 0) ≡ true → there n z ≡ false
-  unfolding there
-  before-first (pos k) e = absurd (let y = ltb-true k 0 e in omega arith)
-  before-first (negsuc k) e = refl
-
-  not-before : (z : ℤ) → ltZ z (pos 0) ≡ false → ltZ z (pos n) ≡ there n z
-  unfolding there
-  not-before (pos k) e = refl
-  not-before (negsuc k) e = clash (sym e)
-
-  pub there-no : ltZ (toZ w64 (ofZ w64 (toZ w64 row +ℤ byte-held o))) (toZ w64 0) ≡ true → false ≡ there n (pos row +ℤ o)
-  there-no e = sym (before-first (pos row +ℤ o) (ap (λ (z : ℤ). ltZ z (toZ w64 0)) (sym to-is) ∙ e))
-
-  pub there-is : ltZ (toZ w64 (ofZ w64 (toZ w64 row +ℤ byte-held o))) (toZ w64 0) ≡ false → ltZ (toZ w64 (ofZ w64 (toZ w64 row +ℤ byte-held o))) (toZ w64 n) ≡ there n (pos row +ℤ o)
-  there-is e =
-      ap (λ (z : ℤ). ltZ z (toZ w64 n)) to-is ∙ ap (λ (z : ℤ). ltZ (pos row +ℤ o) z) (index-is n (omega arith))
-      ∙ not-before (pos row +ℤ o) (ap (λ (z : ℤ). ltZ z (toZ w64 0)) (sym to-is) ∙ e)
-
--- ---- the entry at a spot
-
--- a row that is there has a number
-row-of : (n : ℕ) (z : ℤ) → there n z ≡ true → (k : ℕ) × (z ≡ pos k) × (k < n)
-unfolding there
-row-of n (pos k) e = (k, refl, ltb-true k n e)
-row-of n (negsuc k) e = clash e
-
-module _ (rows : List ℤ) (columns n row base : ℕ) (h : At rows columns n row base) where
-  -- the table of these rows has n of them
+module _ (rows : List ℤ) (columns n row from : ℕ) (at : At rows columns n row from) (spot : ℕ) (word : spot < 65536) where
   rows-are : length rows / columns ≡ n
-  rows-are = ap (λ (k : ℕ). k / columns) (h .all) ∙ mul-div-cancel n (let y : 0 < columns = let z = h .some in omega arith in y)
-
-  base-small : base < 32768
-  base-small =
-      let f = h .first in
-      let a : suc row * columns ≤ 4096 * 8 = mul-le-mul (let r = h .is-row in let m = h .most in let y : suc row ≤ 4096 = omega arith in y) (h .few) in
-      let b : suc row * columns ≡ row * columns + columns = suc-mul row columns in
-      let z = h .some in
-      omega arith
+  rows-are = ap (λ (k : ℕ). k / columns) (at .all) ∙ mul-div-cancel n (let y : 0 < columns = let z = at .some in omega arith in y)
 
   rows-few : length rows ≤ 32768
-  rows-few = let a : n * columns ≤ 4096 * 8 = mul-le-mul (h .most) (h .few) in let b = h .all in omega arith
+  rows-few = let a : n * columns ≤ 4096 * 8 = mul-le-mul (at .most) (at .few) in let b = at .all in omega arith
 
-  module _ (spot : ℕ) (offset : ℤ) (s : SpotFor columns spot offset) where
-    column : ℕ
-    column = spot % columns
+  base-few : row * columns ≤ 32768
+  base-few =
+      let r : row ≤ 4096 = let i = at .is-row in let m = at .most in omega arith in
+      let a : row * columns ≤ 4096 * 8 = mul-le-mul r (at .few) in
+      omega arith
 
-    module _ (k : ℕ) (e : pos row +ℤ offset ≡ pos k) (q : k < n) where
-      -- row 64 moved, and the row moved, are as far from one another as the row and row 64
-      apart : row + spot / columns ≡ 64 + k
-      apart =
-          let z : pos (row + spot / columns) ≡ pos (64 + k) =
-          ap (λ (u : ℤ). pos row +ℤ u) s ∙ sym (+ℤ-assoc (pos row) (pos 64) offset) ∙ ap (λ (u : ℤ). u +ℤ offset) (+ℤ-comm (pos row) (pos 64))
-          ∙ +ℤ-assoc (pos 64) (pos row) offset ∙ ap (λ (u : ℤ). pos 64 +ℤ u) e in
-          cc
+  -- the row that is read, 64 rows further on
+  abbrev ahead : ℕ
+  ahead = row + spot / columns
 
-      index : base + spot ≡ 64 * columns + (k * columns + column)
-      unfolding column
-      index =
-          let a : base ≡ row * columns = h .first in
-          let b : spot / columns * columns + spot % columns ≡ spot = div-add-mod' spot columns in
-          let c : (row + spot / columns) * columns ≡ row * columns + spot / columns * columns = add-mul row (spot / columns) columns in
-          let d : (64 + k) * columns ≡ 64 * columns + k * columns = add-mul 64 k columns in
-          let g : (row + spot / columns) * columns ≡ (64 + k) * columns = ap (λ (i : ℕ). i * columns) apart in
-          omega arith
+  column-below : columnOf columns spot < columns
+  unfolding columnOf
+  column-below = mod-lt spot (let y : 0 < columns = let z = at .some in omega arith in y)
 
-      column-below : column < columns
-      unfolding column
-      column-below = mod-lt spot (let y : 0 < columns = let z = h .some in omega arith in y)
+  index-ahead : row * columns + spot ≡ ahead * columns + columnOf columns spot
+  unfolding columnOf
+  index-ahead =
+      let b : spot / columns * columns + spot % columns ≡ spot = div-add-mod' spot columns in
+      let c : (row + spot / columns) * columns ≡ row * columns + spot / columns * columns = add-mul row (spot / columns) columns in
+      omega arith
 
-      inside : k * columns + column < length rows
-      inside =
-          let a : suc k * columns ≤ n * columns = mul-le-mul q (le-refl columns) in
-          let b : suc k * columns ≡ k * columns + columns = suc-mul k columns in
-          let c = column-below in
-          let d = h .all in
-          omega arith
+  row-ahead : pos row +ℤ offsetOf columns spot ≡ pos ahead +ℤ negsuc 63
+  unfolding offsetOf
+  row-ahead = sym (+ℤ-assoc (pos row) (pos (spot / columns)) (negsuc 63))
 
-      index-is-that : base + spot - columns * 64 ≡ k * columns + column
-      index-is-that = let a = index in omega arith
+  -- before the first row
+  module _ (h : ahead < 64) where
+    low : row * columns + spot < columns * 64
+    low =
+        let a : suc ahead * columns ≤ 64 * columns = mul-le-mul h (le-refl columns) in
+        let b : suc ahead * columns ≡ ahead * columns + columns = suc-mul ahead columns in
+        let c = index-ahead in
+        let d = column-below in
+        omega arith
 
-      found-entry : entryAt (tableOf columns rows) (pos row +ℤ offset) column ≡ some (getD rows (base + spot - columns * 64) (pos 0))
-      unfolding entryAt tableOf entry
-      found-entry =
-          let a : ltb k (length rows / columns) ≡ true = ap (ltb k) rows-are ∙ lt-ltb k n q in
-          ap (λ (u : ℤ). entryAt (tableOf columns rows) u column) e
-          ∙ ap (λ (t : Bool). pick t (some (getD rows (k * columns + column) (pos 0))) none) a
-          ∙ ap (λ (i : ℕ). some (getD rows i (pos 0))) (sym index-is-that)
+    far-off : length rows ≤ spotIndex from spot
+    unfolding spotIndex
+    far-off =
+        let a = low in
+        let b = rows-few in
+        let c = base-few in
+        let d = at .far .is in
+        let e = at .far .fits in
+        let f = at .few in
+        omega arith
 
-    -- the row is there: its entry's index is counted from 64 rows before the row's first entry
-    module _ (from : ℕ) (f : FarBack columns base from) (t : there n (pos row +ℤ offset) ≡ true) where
-      spot-index : spotIndex from spot ≡ base + spot - columns * 64
-      unfolding spotIndex
-      spot-index =
-          let r = row-of n (pos row +ℤ offset) t in
-          let a = index (r .0) (r .1) (r .2) in
-          let b = inside (r .0) (r .1) (r .2) in
-          let c = rows-few in
-          let d = base-small in
-          let e = f .is in
-          let g = f .fits in
-          let m = h .few in
-          omega arith
+    before-first : entryFrom rows (spotIndex from spot) ≡ entryAt (tableOf columns rows) (pos row +ℤ offsetOf columns spot) (columnOf columns spot)
+    unfolding entryFrom entryAt
+    before-first =
+        let a : ltb (spotIndex from spot) (length rows) ≡ false = le-ltb (spotIndex from spot) (length rows) far-off in
+        rw (a, row-ahead) (simp (lt-ltb ahead 64 h))
 
-      pub spot-there : spotIndex from spot < length rows
-      spot-there =
-          let r = row-of n (pos row +ℤ offset) t in
-          let b = inside (r .0) (r .1) (r .2) in
-          rw spot-index (let i = index-is-that (r .0) (r .1) (r .2) in omega arith)
+  -- at the first row, or behind it
+  module _ (h : 64 ≤ ahead) where
+    index-is : spotIndex from spot ≡ (ahead - 64) * columns + columnOf columns spot
+    unfolding spotIndex
+    index-is =
+        let a = index-ahead in
+        let b : (ahead - 64 + 64) * columns ≡ (ahead - 64) * columns + 64 * columns = add-mul (ahead - 64) 64 columns in
+        let g : (ahead - 64 + 64) * columns ≡ ahead * columns = ap (λ (i : ℕ). i * columns) (let e : ahead - 64 + 64 ≡ ahead = omega arith in e) in
+        let c = base-few in
+        let d = at .far .is in
+        let e = at .far .fits in
+        let f = at .few in
+        omega arith
 
-      pub spot-entry : entryAt (tableOf columns rows) (pos row +ℤ offset) (spot % columns) ≡ some (getD rows (spotIndex from spot) (pos 0))
-      unfolding column
-      spot-entry =
-          let r = row-of n (pos row +ℤ offset) t in
-          found-entry (r .0) (r .1) (r .2) ∙ ap (λ (i : ℕ). some (getD rows i (pos 0))) (sym spot-index)
+    there-is : ltb (spotIndex from spot) (length rows) ≡ ltb (ahead - 64) (length rows / columns)
+    there-is = rw (index-is, rows-are, at .all) (row-below columns n (ahead - 64) (columnOf columns spot) column-below)
 
-  -- the row is not there
-  nothing : (z : ℤ) (column : ℕ) → there n z ≡ false → entryAt (tableOf columns rows) z column ≡ none
-  unfolding there entryAt tableOf entry
-  nothing (pos k) column t = ap (λ (u : Bool). pick u (some (getD rows (k * columns + column) (pos 0))) none) (ap (ltb k) rows-are ∙ t)
-  nothing (negsuc k) column t = refl
+    from-first : entryFrom rows (spotIndex from spot) ≡ entryAt (tableOf columns rows) (pos row +ℤ offsetOf columns spot) (columnOf columns spot)
+    unfolding entryFrom entryAt entry tableOf
+    from-first =
+        rw (there-is, index-is, row-ahead) (simp (le-ltb ahead 64 h))
 
-  pub no-entry : (offset : ℤ) (column : ℕ) → there n (pos row +ℤ offset) ≡ false → entryAt (tableOf columns rows) (pos row +ℤ offset) column ≡ none
-  no-entry offset column t = nothing (pos row +ℤ offset) column t
-
--- ---- an entry plus a number
-
-small : (z : ℤ) → mag z < 2147483648 → toZ w64 (ofZ w64 z) ≡ z
-small z h = read-back z (omega arith)
-
-pub plus-fits : (a w : ℤ) → mag a < 2147483648 → mag w < 2147483648 → SFits w64 (toZ w64 (ofZ w64 a) +ℤ toZ w64 (ofZ w64 w))
-plus-fits a w h g = rw (small a h, small w g) (sum-fits a w 2147483648 2147483648 h g (omega arith))
-
-pub plus-is : (a w number : ℤ) → mag a < 2147483648 → mag w < 2147483648 → SFits w32 number → w ≡ toZ w32 (ofZ w32 number)
-    → toZ w64 (ofZ w64 (toZ w64 (ofZ w64 a) +ℤ toZ w64 (ofZ w64 w))) ≡ a +ℤ number
-plus-is a w number h g f e =
-    toZ-ofZ (plus-fits a w h g) ∙ ap (λ (x : ℤ). x +ℤ toZ w64 (ofZ w64 w)) (small a h) ∙ ap (λ (x : ℤ). a +ℤ x) (small w g ∙ e ∙ toZ-ofZ f)
+  pub entry-is : entryFrom rows (spotIndex from spot) ≡ entryAt (tableOf columns rows) (pos row +ℤ offsetOf columns spot) (columnOf columns spot)
+  entry-is =
+      decided (ltb ahead 64)
+      (λ t. before-first (ltb-true ahead 64 t))
+      (λ t. from-first (ltb-false ahead 64 t))

@@ -1,4 +1,3 @@
 pub mod Comparing
 pub mod Entries
-pub mod Fields
-pub mod Holding
+pub mod Reading

@@ -6,7 +6,8 @@ use lib.ListN.{length, getD, take, drop}
 use Rattle.rules.specs.Query.{records, field, firstOfKind, columnsOf, defined, textOf, comparisonsFrom, measuresFrom}
 use Rattle.records.specs.Read.{recordsAt}
 use Rattle.query.specs.Ahead.{Ahead}
-use Rattle.measure_list.specs.Measures.{measureIn, measuresIn, Fits}
+use Rattle.measure_list.specs.Measures.{Fits}
+use Rattle.table.specs.Measures.{measureIn, measuresIn}
 use Rattle.decode.specs.declared.Head.{Head}
 use Rattle.decode.specs.declared.Tail.{Tail}
 
@@ -33,7 +34,7 @@ pub record TailOf (s : List ℕ) (at : ℕ) (measures₀ measures : List ℕ) (t
   pub long : length measures ≡ 24
   pub skip : t .skip ≡ field s (firstOfKind 4 (recordsAt s at)) 0
   pub mode : t .skip ≤ 1
-  pub is : measuresIn measures (t .measures) ≡ measuresFrom s (recordsAt s at)
+  pub is : measuresIn measures 0 (t .measures) ≡ measuresFrom s (recordsAt s at)
   pub few : t .measures ≤ 8
-  pub fit : (k : ℕ) → k < t .measures → Fits (columnsOf s) (measureIn measures k)
+  pub fit : (k : ℕ) → k < t .measures → Fits (columnsOf s) (measureIn measures 0 k)
   pub rest : (j : ℕ) → t .measures * 3 ≤ j → getD measures j 0 ≡ getD measures₀ j 0

@@ -1,6 +1,6 @@
 // A pair is entered, in one function only, `enter`, which counts the entry.
+use letters::letter_holds;
 use pairs::ENTER;
-use pairs::Extent;
 use pairs::FOUND;
 use pairs::Walk;
 use pairs::anchor_passes;
@@ -10,6 +10,7 @@ use pairs::fails;
 use pairs::fork_entry;
 use pairs::push;
 use pairs::tried;
+use table::Extent;
 use table::FORK;
 use table::LETTERS;
 use table::NEAR_FORK;
@@ -18,78 +19,59 @@ use table::first_at;
 ghost use mathlib.Core.Path.{_≡_};
 ghost use Prim.Native.Nat.{_<_, _≤_};
 ghost use Rattle.table.specs.Table.{codeAt, firstAt};
-ghost use Rattle.pairs.specs.Layout.{layout, passesBy, entryOf};
-ghost use Rattle.tests.specs.Tests.{Letters};
-ghost use Rattle.pairs.specs.Letters.{holdsIn};
+ghost use Rattle.pairs.specs.Layout.{layoutOf, lettersOf, Tested, passesBy, entryOf};
 ghost use Rattle.pairs.specs.Step.{mem, enteredBy, Enters};
 
 // Whether the letter of code c passes at the row: there is a row, and it holds there.
-fn letter_passes(
-    tests: &[u64; 208],
-    query: &[u8],
-    rows: &[i32],
-    size: Extent,
-    c: usize,
-    row: usize,
-) -> bool
-    requires { ⌜ (row ≤ size .rows) × (c < 26) × Letters (now tests) (now query) (now rows) (size .columns) (size .rows) ⌝ }
-    ensures { λ r. ⌜ r ≡ passesBy (holdsIn (now (rows .entry)) (size .columns) (now (query .entry)) (now (tests .entry))) (size .rows) c row ⌝ }
+fn letter_passes(table: &[u16], rows: &[i32], size: Extent, c: usize, row: usize) -> bool
+    requires { ⌜ (row ≤ size .rows) × (c < 26) × Tested (now table) (now rows) size ⌝ }
+    ensures { λ r. ⌜ r ≡ passesBy (lettersOf (now (table .entry)) (now (rows .entry)) size) (size .rows) c row ⌝ }
 {
-    let columns = size.columns;
-    letters::letter_holds(
-        tests,
-        query,
-        c,
-        rows,
-        columns,
-        size.rows,
-        row,
-        row * columns,
-    )
+    letter_holds(table, rows, size, c, row)
 }
 
 // The pair of w is entered: one step, counted here and nowhere else. A letter or anchor that does not pass fails at once, and so does a letter whose next pair
 // has failed, so that it is not put on the trail only to be taken back. Any other pair is open, and tries the first place that it leads to, but for END, which
 // leads nowhere. A fork of two ways or more that leads first to the place behind it has a code of its own, since then the walk need not wait for a table to tell the place.
 pub fn enter(
-    words: &[u16],
-    tests: &[u64; 208],
-    query: &[u8],
+    table: &[u16],
     rows: &[i32],
     notes: &mut [u8],
     trail: &mut [u32],
     size: Extent,
     w: Walk,
 ) -> Walk
-    requires { ⌜ Letters (now tests) (now query) (now rows) (size .columns) (size .rows) × Enters (layout (now words) (size .places)) (size .rows) (now notes) (now trail) w ⌝ }
-    ensures { λ r. ⌜ mem (now (notes .exit)) (now (trail .exit)) r ≡ enteredBy (passesBy (holdsIn (now (rows .entry)) (size .columns) (now (query .entry)) (now (tests .entry))) (size .rows) (codeAt (now (words .entry)) (w .place)) (w .row)) (mem (now (notes .entry)) (now
-        (trail .entry)) w) (codeAt (now (words .entry)) (w .place)) (entryOf (now (words .entry)) (w .place)) (firstAt (now (words .entry)) (w .place)) (size .places) ⌝ }
+    requires { ⌜ Tested (now table) (now rows) size × Enters (layoutOf (now table) size) (size .rows) (now notes) (now trail) w ⌝ }
+    ensures { λ r. ⌜ mem (now (notes .exit)) (now (trail .exit)) r ≡ enteredBy (passesBy (lettersOf (now (table .entry)) (now (rows .entry)) size) (size .rows) (codeAt (now (table .entry)) (w .place)) (w .row)) (mem (now (notes .entry)) (now
+        (trail .entry)) w) (codeAt (now (table .entry)) (w .place)) (entryOf (now (table .entry)) (w .place)) (firstAt (now (table .entry)) (w .place)) (size .places) ⌝ }
 {
     let steps = w.steps + 1;
     let top = w.top;
     let q = w.place;
     let row = w.row;
     let base = w.base;
-    let c = code_at(words, q);
+    let c = code_at(table, q);
     if c == NEAR_FORK {
         push(trail, top, row, fork_entry(q));
         return tried(notes, top + 1, steps, q + 1, row, base);
     }
     if c < LETTERS {
-        if !letter_passes(tests, query, rows, size, c, row) {
+        if !letter_passes(table, rows, size, c, row) {
             return fails(notes, w, steps);
         }
-        let k = first_at(words, q);
+        let k = first_at(table, q);
         let ahead = base + size.places;
         if failed(notes, ahead + k) {
             return fails(notes, w, steps);
         }
         push(trail, top, row, q);
+        let opened = top + 1;
+        let next = row + 1;
         return Walk {
-            top: top + 1,
+            top: opened,
             steps,
             place: k,
-            row: row + 1,
+            row: next,
             base: ahead,
             status: ENTER,
         };
@@ -97,7 +79,7 @@ pub fn enter(
     if !anchor_passes(size.rows, c, row) {
         return fails(notes, w, steps);
     }
-    push(trail, top, row, entry_at(words, q));
+    push(trail, top, row, entry_at(table, q));
     if FORK < c {
         let opened = top + 1;
         return Walk {
@@ -109,5 +91,5 @@ pub fn enter(
             status: FOUND,
         };
     }
-    tried(notes, top + 1, steps, first_at(words, q), row, base)
+    tried(notes, top + 1, steps, first_at(table, q), row, base)
 }

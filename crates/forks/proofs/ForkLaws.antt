@@ -15,7 +15,7 @@ use Rattle.rules.specs.Basics.{pick, has}
 use Rattle.rules.specs.Language.{pattern, branch, Tree, one, more, last, next}
 use Rattle.rules.specs.Places.{Unrolled, Branches, uNil, uCons, unrolled, pFork, size, sizes, startOf, startsOf, placeCount}
 use Rattle.rules.proofs.Counting.{unrolled-size}
-use Rattle.rules.proofs.Distinct.{keepNew, fresh, distinct}
+use Rattle.rules.specs.Working.{distinct, fresh, keepNew}
 use Rattle.nodes.specs.Nodes.{nodeAt}
 use Rattle.nodes.specs.declared.Sort.{Sort}
 use Rattle.nodes.specs.declared.Sort.the-variants.{Sequence, Alternation}
@@ -206,9 +206,17 @@ module _ (T : List ℕ) (b w : ℕ) (lazy : Bool) (copy leave : ℕ) where
   pub greedy-done : (T2 : List ℕ) (r : ℕ) → lazy ≡ false → Emitted T T2 b w r (twoPlaces copy leave) → Emitted T T2 b w r (choicePlaces lazy copy leave)
   greedy-done T2 r e d = rw e d
 
+-- ---- sorts that are not these
+
+pub not-sequence : (k : Sort) → OneOf (0 ∷ 1 ∷ 2 ∷ 4 ∷ 5 ∷ []) (tagOf the-type k) → k ≡ Sequence → ⊥
+not-sequence k h e = miss (0 ∷ 1 ∷ 2 ∷ 4 ∷ 5 ∷ []) 3 tt (subst (λ (x : Sort). OneOf (0 ∷ 1 ∷ 2 ∷ 4 ∷ 5 ∷ []) (tagOf the-type x)) e h)
+
+pub not-alternation : (k : Sort) → OneOf (0 ∷ 1 ∷ 2 ∷ 3 ∷ 5 ∷ []) (tagOf the-type k) → k ≡ Alternation → ⊥
+not-alternation k h e = miss (0 ∷ 1 ∷ 2 ∷ 3 ∷ 5 ∷ []) 4 tt (subst (λ (x : Sort). OneOf (0 ∷ 1 ∷ 2 ∷ 3 ∷ 5 ∷ []) (tagOf the-type x)) e h)
+
 -- ---- the ways of an alternation
 
-pub start-node : (s : List ℕ) (i : ℕ) (T : List ℕ) (from to b k : ℕ) → Starting s i T from to b k → 8 * i + 8 ≤ length s
+start-node : (s : List ℕ) (i : ℕ) (T : List ℕ) (from to b k : ℕ) → Starting s i T from to b k → 8 * i + 8 ≤ length s
 start-node s i T from to b k h = at-in s i (record { tree = h .tree; is = h .top })
 
 module _ (s : List ℕ) (i : ℕ) (n : Node) (en : n ≡ nodeAt s i) (T : List ℕ) (from to b k : ℕ) where
@@ -248,7 +256,7 @@ module _ (s : List ℕ) (i : ℕ) (n : Node) (en : n ≡ nodeAt s i) (T : List �
       new-list : newStarts T from to (h .tree) b k ≡ fresh (span T from (to - from)) (y ∷ startsOf (unrolled (alt .rest)) (b + m) k)
       new-list = ap (fresh (span T from (to - from))) (alt .starts ∙ ap (λ (v : ℕ). v ∷ startsOf (unrolled (alt .rest)) (b + m) k) (sym ey))
 
-      pub start-way : WayNeeds T from to y
+      start-way : WayNeeds T from to y
       start-way =
           let w : to + length (fresh (span T from (to - from)) (y ∷ startsOf (unrolled (alt .rest)) (b + m) k)) ≤ length T = subst (λ (ks : List ℕ). to + length ks ≤ length T)
           new-list (h .way) in
@@ -280,10 +288,7 @@ module _ (s : List ℕ) (i : ℕ) (n : Node) (en : n ≡ nodeAt s i) (T : List �
               behind = h .behind;
             }
 
-        pub start-again : (u : ℕ) → (nodeAt s i) .height ≡ u → ((nodeAt s (n .right)) .height < u) × Starting s (n .right) T1 from r1 (b + m) k
-        start-again u eu = ((alt-right s i n en u eu (start-at-node h) e) .0, next-start)
-
-        pub start-more : (exit : List ℕ) (r : ℕ) → ((g : Starting s (n .right) T1 from r1 (b + m) k) → Started s (n .right) T1 from r1 (b + m) k exit r g)
+        start-more : (exit : List ℕ) (r : ℕ) → ((g : Starting s (n .right) T1 from r1 (b + m) k) → Started s (n .right) T1 from r1 (b + m) k exit r g)
             → Started s i T from to b k exit r h
         unfolding next-start
         start-more exit r f =
@@ -293,10 +298,10 @@ module _ (s : List ℕ) (i : ℕ) (n : Node) (en : n ≡ nodeAt s i) (T : List �
               way = d .way ∙ rest-list;
             }
 
-    pub start-left : Starting s i T from to b k → 8 * n .left + 8 ≤ length s
+    start-left : Starting s i T from to b k → 8 * n .left + 8 ≤ length s
     start-left h = at-in s (n .left) ((alt-left s i n en ((nodeAt s i) .height) refl (start-at-node h) e) .1)
 
-    pub start-fits : Starting s i T from to b k → Fits-in w64 (b + m)
+    start-fits : Starting s i T from to b k → Fits-in w64 (b + m)
     start-fits h = let z = (alt-facts (h .tree) (h .top) (h .place)) .size-is in let g = h .place in record { fits = omega arith }
 
   -- branches without places
@@ -334,7 +339,7 @@ module _ (s : List ℕ) (i : ℕ) (n : Node) (en : n ≡ nodeAt s i) (T : List �
       none-list : newStarts T from to (h .tree) b k ≡ fresh (span T from (to - from)) (k ∷ [])
       none-list = some-branch (h .tree) (ap (λ (y : Node). y .places) en ∙ top-places s i (h .tree) (h .top)) (span T from (to - from))
 
-      pub none-way : WayNeeds T from to k
+      none-way : WayNeeds T from to k
       none-way =
           let w : to + length (fresh (span T from (to - from)) (k ∷ [])) ≤ length T = subst (λ (ks : List ℕ). to + length ks ≤ length T) none-list (h .way) in
           record {
@@ -345,7 +350,7 @@ module _ (s : List ℕ) (i : ℕ) (n : Node) (en : n ≡ nodeAt s i) (T : List �
             low = h .behind;
           }
 
-      pub none-done : (T1 : List ℕ) (r1 : ℕ) → WayPut T T1 from to k r1 → Started s i T from to b k T1 r1 h
+      none-done : (T1 : List ℕ) (r1 : ℕ) → WayPut T T1 from to k r1 → Started s i T from to b k T1 r1 h
       unfolding putWays fresh
       none-done T1 r1 p =
           let d = after-way T from to k [] T1 r1 none-way p in
@@ -384,7 +389,7 @@ module _ (s : List ℕ) (i : ℕ) (n : Node) (en : n ≡ nodeAt s i) (T : List �
       last-list : newStarts T from to (h .tree) b k ≡ fresh (span T from (to - from)) (y ∷ [])
       last-list = ap (fresh (span T from (to - from))) ((single (h .tree) (h .top) (h .place)) .starts ∙ ap (λ (v : ℕ). v ∷ []) (sym ey))
 
-      pub last-way : WayNeeds T from to y
+      last-way : WayNeeds T from to y
       last-way =
           let w : to + length (fresh (span T from (to - from)) (y ∷ [])) ≤ length T = subst (λ (ks : List ℕ). to + length ks ≤ length T) last-list (h .way) in
           record {
@@ -395,7 +400,7 @@ module _ (s : List ℕ) (i : ℕ) (n : Node) (en : n ≡ nodeAt s i) (T : List �
             low = rw ey (low-last (eqb b (b + n .places)));
           }
 
-      pub last-done : (T1 : List ℕ) (r1 : ℕ) → WayPut T T1 from to y r1 → Started s i T from to b k T1 r1 h
+      last-done : (T1 : List ℕ) (r1 : ℕ) → WayPut T T1 from to y r1 → Started s i T from to b k T1 r1 h
       unfolding putWays fresh
       last-done T1 r1 p =
           let d = after-way T from to y [] T1 r1 last-way p in
@@ -405,8 +410,70 @@ module _ (s : List ℕ) (i : ℕ) (n : Node) (en : n ≡ nodeAt s i) (T : List �
             way = c ∙ ap (λ (ks : List ℕ). r1 + length ks) (sym (d .seen)) ∙ d .count ∙ ap (λ (ks : List ℕ). to + length ks) (sym last-list);
           }
 
-    pub last-fits : Starting s i T from to b k → Fits-in w64 (b + n .places)
+    last-fits : Starting s i T from to b k → Fits-in w64 (b + n .places)
     last-fits h = let z = (single (h .tree) (h .top) (h .place)) .size-is in let g = h .place in record { fits = omega arith }
+
+-- ---- the loop over the branches
+
+-- The loop is at node j: putting the ways of the branches from there on, the first of which has its
+-- places from b on, puts all ways.
+pub record WaysLeft (s : List ℕ) (i : ℕ) (T0 : List ℕ) (from to0 b0 k j : ℕ) (T : List ℕ) (to b : ℕ) : Type 0 where
+  pub now : Starting s j T from to b k
+  pub so : (h : Starting s i T0 from to0 b0 k) (T2 : List ℕ) (r : ℕ) → ((g : Starting s j T from to b k) → Started s j T from to b k T2 r g) → Started s i T0 from to0 b0 k T2 r h
+
+pub ways-start : (s : List ℕ) (i : ℕ) (T : List ℕ) (from to b k : ℕ) → Starting s i T from to b k → WaysLeft s i T from to b k i T to b
+ways-start s i T from to b k h = record { now = h; so = λ h T2 r f. f h }
+
+module _ (s : List ℕ) (i : ℕ) (T0 : List ℕ) (from to0 b0 k j : ℕ) (T : List ℕ) (to b : ℕ) (L : WaysLeft s i T0 from to0 b0 k j T to b) where
+  pub ways-in : 8 * j + 8 ≤ length s
+  ways-in = start-node s j T from to b k (L .now)
+
+  module _ (n : Node) (en : n ≡ nodeAt s j) where
+    -- branches without places
+    module _ (e : n .places ≡ 0) where
+      pub ways-none : WayNeeds T from to k
+      ways-none = none-way s j n en T from to b k e (L .now)
+
+      pub ways-no-more : (T1 : List ℕ) (r : ℕ) → WayPut T T1 from to k r → (h : Starting s i T0 from to0 b0 k) → Started s i T0 from to0 b0 k T1 r h
+      ways-no-more T1 r p h = L .so h T1 r (λ g. none-done s j n en T from to b k e g T1 r p)
+
+    -- the last branch
+    module _ (o : OneOf (0 ∷ 1 ∷ 2 ∷ 3 ∷ 5 ∷ []) (tagOf the-type (n .sort))) where
+      na : n .sort ≡ Alternation → ⊥
+      na = not-alternation (n .sort) o
+
+      pub ways-last-fits : Fits-in w64 (b + n .places)
+      ways-last-fits = last-fits s j n en T from to b k na (L .now)
+
+      module _ (y : ℕ) (ey : y ≡ pick (eqb b (b + n .places)) k b) where
+        pub ways-last : WayNeeds T from to y
+        ways-last = last-way s j n en T from to b k na (L .now) y ey
+
+        pub ways-all : (T1 : List ℕ) (r : ℕ) → WayPut T T1 from to y r → (h : Starting s i T0 from to0 b0 k) → Started s i T0 from to0 b0 k T1 r h
+        ways-all T1 r p h = L .so h T1 r (λ g. last-done s j n en T from to b k na g y ey T1 r p)
+
+    -- a branch, and others behind it
+    module _ (e : n .sort ≡ Alternation) where
+      pub ways-left : 8 * n .left + 8 ≤ length s
+      ways-left = start-left s j n en T from to b k e _ refl (L .now)
+
+      pub ways-down : (nodeAt s (n .right)) .height < (nodeAt s j) .height
+      ways-down = (alt-right s j n en _ refl (start-at-node s j n en T from to b k (L .now)) e) .0
+
+      module _ (m : ℕ) (em : m ≡ (nodeAt s (n .left)) .places) where
+        pub ways-fits : Fits-in w64 (b + m)
+        ways-fits = start-fits s j n en T from to b k e m em (L .now)
+
+        module _ (y : ℕ) (ey : y ≡ pick (eqb b (b + m)) k b) where
+          pub ways-one : WayNeeds T from to y
+          ways-one = start-way s j n en T from to b k e m em (L .now) y ey
+
+          pub ways-again : (T1 : List ℕ) (r1 : ℕ) → WayPut T T1 from to y r1 → WaysLeft s i T0 from to0 b0 k (n .right) T1 r1 (b + m)
+          ways-again T1 r1 p =
+              record {
+                now = next-start s j n en T from to b k e m em (L .now) y ey T1 r1 p;
+                so = λ h T2 r f. L .so h T2 r (λ g. start-more s j n en T from to b k e m em g y ey T1 r1 p T2 r f);
+              }
 
 -- ---- the fork of an alternation
 
@@ -445,14 +512,6 @@ module _ (s : List ℕ) (i : ℕ) (T : List ℕ) (b w k : ℕ) (h : Forking s i 
 
     pub forking-done : (T2 : List ℕ) (r : ℕ) → (r ≡ to) × (T2 ≡ putFork T1 b w to) → Emitted T T2 b w r (forkPlaces (h .tree) b k)
     forking-done T2 r e = fork-put T T1 b w k (distinct (startsOf (unrolled (h .tree)) (b + 1) k)) to (h .fits) ways-some ways-put ways-count T2 r e
-
--- ---- sorts that are not these
-
-pub not-sequence : (k : Sort) → OneOf (0 ∷ 1 ∷ 2 ∷ 4 ∷ 5 ∷ []) (tagOf the-type k) → k ≡ Sequence → ⊥
-not-sequence k h e = miss (0 ∷ 1 ∷ 2 ∷ 4 ∷ 5 ∷ []) 3 tt (subst (λ (x : Sort). OneOf (0 ∷ 1 ∷ 2 ∷ 4 ∷ 5 ∷ []) (tagOf the-type x)) e h)
-
-pub not-alternation : (k : Sort) → OneOf (0 ∷ 1 ∷ 2 ∷ 3 ∷ 5 ∷ []) (tagOf the-type k) → k ≡ Alternation → ⊥
-not-alternation k h e = miss (0 ∷ 1 ∷ 2 ∷ 3 ∷ 5 ∷ []) 4 tt (subst (λ (x : Sort). OneOf (0 ∷ 1 ∷ 2 ∷ 3 ∷ 5 ∷ []) (tagOf the-type x)) e h)
 
 pub started-length : (s : List ℕ) (i : ℕ) (T : List ℕ) (from to b k : ℕ) (exit : List ℕ) (r : ℕ) (h : Starting s i T from to b k) → Started s i T from to b k exit r h
     → length exit ≡ length T

@@ -10,7 +10,7 @@ use lib.ListN.{length, getD, set}
 use Rattle.rules.specs.Basics.{pick, has, isLetter, every}
 use Rattle.rules.specs.Language.{pattern, factor, Tree, one, last, letters}
 use Rattle.rules.specs.Places.{Unrolled, uStar, copies, options, unrolled, unroll, Place, pLetter, pCaret, pDollar, pFork, pEnd, waysInTurn, size, sizes, startsOf, code, codes, places, fork, placeCount, placesOf}
-use Rattle.rules.proofs.Distinct.{fresh, distinct, thinned}
+use Rattle.rules.specs.Working.{distinct, fresh, thinned}
 use Rattle.pattern.specs.Held.{body, lazyOf, Top}
 use Rattle.table.specs.Table.{span, placesIn}
 use Rattle.table.specs.Sized.{Sized}

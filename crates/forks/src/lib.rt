@@ -116,8 +116,9 @@ fn put_way(table: &mut [u16], from: usize, to: usize, y: usize) -> usize
     to + 1
 }
 
-// The ways of an alternation's fork: where its branches begin, from the one at i on, whose places are
-// numbered from b on. Branches without places all begin behind it.
+// The ways of an alternation's fork: where its branches begin, from the one at i on, whose places
+// are numbered from b on. Branches without places all begin behind it. The loop goes from branch to
+// branch: that at `node` has its places from `place` on, and the next way goes to `word`.
 fn fork_ways(
     room: &[u16],
     i: usize,
@@ -130,19 +131,25 @@ fn fork_ways(
     requires { ⌜ Starting (now room) i (now table) from to b k ⌝ }
     ensures { λ r. ⌜ ((h : Starting (now (room .entry)) i (now (table .entry)) from to b k) → Started (now (room .entry)) i (now (table .entry)) from to b k (now (table .exit)) r h) ⌝ }
 {
-    let n = node_at(room, i);
-    let sort = n.sort;
-    let left = n.left;
-    let right = n.right;
-    if n.places == 0 {
-        return put_way(table, from, to, k);
+    let mut node = i;
+    let mut place = b;
+    let mut word = to;
+    loop {
+        let n = node_at(room, node);
+        let sort = n.sort;
+        let left = n.left;
+        let right = n.right;
+        if n.places == 0 {
+            return put_way(table, from, word, k);
+        }
+        let Sort::Alternation = sort else {
+            return put_way(table, from, word, start_at(place, place + n.places, k));
+        };
+        let end = place + places_at(room, left);
+        word = put_way(table, from, word, start_at(place, end, k));
+        place = end;
+        node = right;
     }
-    if let Sort::Alternation = sort {
-        let end = b + places_at(room, left);
-        let next = put_way(table, from, to, start_at(b, end, k));
-        return fork_ways(room, right, table, from, next, end, k);
-    }
-    put_way(table, from, to, start_at(b, b + n.places, k))
 }
 
 // The fork of an alternation, as place b, its ways from word w on.

@@ -1,18 +1,15 @@
--- Laws of the input: the tests in the code's order, how many bytes decide, two's complement, and
--- the rows' numbers written one behind the other.
-use mathlib.Core.Path.{_≡_, refl, sym, ap, _∙_, subst}
+-- Laws of the input: the tests in the code's order, how many bytes decide, and the rows'
+-- numbers written one behind the other.
+use mathlib.Core.Path.{_≡_, refl, sym, ap, _∙_}
 use mathlib.Core.Bool.{Bool, true, false}
 use mathlib.Core.List.{List, [], _∷_, _++_}
-use Prim.Native.Nat.{ℕ, zero, suc, _+_, _*_, _-_, _/_, _≤_, _<_}
+use Prim.Native.Nat.{ℕ, _+_, _*_, _-_, _/_, _≤_, _<_}
 use native.Mathlib.Omega.{arith}
 use native.Mathlib.Numerals.{add-one}
 use lib.Dec.{ltb}
-use lib.IntN.{ℤ, pos, negsuc, _-ℤ_}
+use lib.IntN.{ℤ}
 use lib.ListN.{length, set, take, drop, length-set, length-take}
 use lib.Seq.{take-all}
-use mir.Syntax.{w32}
-use mir.Val.{SFits, toZ, ofZ}
-use mir.Facts.{toZ-ofZ}
 use borrow.Author.Tests.{lt-ltb, le-ltb, ltb-true, ltb-false}
 use Rattle.rules.specs.Basics.{pick, tabulate, le16, le32, signed32, wrote}
 use Rattle.rules.specs.Program.{refusedText, tooLarge, rowsOf, printedFor, printed}
@@ -116,33 +113,6 @@ prefix-decides s = go (ltb mostRead (length s)) refl
         let h = ltb-true mostRead (length s) e in
         long-input s (omega arith) ∙ sym (long-input (take mostRead s) (simp length-take (omega arith)))
     go false e = ap printed (sym (take-all mostRead s (ltb-false mostRead (length s) e)))
-
--- ---- two's complement of a word
-
-pub low : (w : ℕ) → w < 2147483648 → toZ w32 w ≡ signed32 w
-unfolding signed32
-low w h = simp (lt-ltb w 2147483648 h)
-
-minus : (k : ℕ) → negsuc 0 -ℤ pos k ≡ negsuc k
-minus zero = refl
-minus (suc j) = ap negsuc (let e : suc (0 + j) ≡ suc j = omega arith in e)
-
-small-is : (k : ℕ) → k < 2147483648 → toZ w32 k ≡ pos k
-small-is k h = simp (lt-ltb k 2147483648 h)
-
-module _ (w : ℕ) (h : 2147483648 ≤ w) (b : w < 4294967296) where
-  taken : negsuc 0 -ℤ toZ w32 (4294967295 - w) ≡ negsuc (4294967295 - w)
-  taken = ap (λ (z : ℤ). negsuc 0 -ℤ z) (small-is (4294967295 - w) (omega arith)) ∙ minus (4294967295 - w)
-
-  fits : SFits w32 (negsuc (4294967295 - w))
-  fits = record { sfits = omega arith }
-
-  pub high-fits : SFits w32 (negsuc 0 -ℤ toZ w32 (4294967295 - w))
-  high-fits = subst (SFits w32) (sym taken) fits
-
-  pub high : toZ w32 (ofZ w32 (negsuc 0 -ℤ toZ w32 (4294967295 - w))) ≡ signed32 w
-  unfolding signed32
-  high = ap (λ (z : ℤ). toZ w32 (ofZ w32 z)) taken ∙ toZ-ofZ fits ∙ simp (le-ltb w 2147483648 h)
 
 -- ---- the rows: the first k numbers are written
 

@@ -3,10 +3,13 @@
 // is to be printed once the query and the rows are judged (specs/Verdict), both in the order of
 // document 01. proofs/Inputs and proofs/Verdicts say what is then known, and that the program
 // prints what each case prints.
+use numbers::le16_at;
+use numbers::le32_at;
+use numbers::signed_word;
 ghost use mathlib.Core.Path.{_≡_};
-ghost use Prim.Native.Nat.{_+_, _/_, _≤_, _<_};
+ghost use Prim.Native.Nat.{_/_, _≤_};
 ghost use lib.ListN.{length};
-ghost use Rattle.rules.specs.Basics.{le16, le32, signed32, wrote};
+ghost use Rattle.rules.specs.Basics.{wrote};
 ghost use Rattle.rules.specs.Program.{rowsOf};
 ghost use Rattle.input.specs.Input.{inputOf};
 ghost use Rattle.input.specs.Verdict.{verdictOf};
@@ -34,48 +37,6 @@ pub enum Verdict {
     Refused(u64),
     TooLarge,
     Search,
-}
-
-fn wide(b: u8) -> usize
-    ensures { λ r. ⌜ (r ≡ b) × (r < 256) ⌝ }
-{
-    b as usize
-}
-
-fn wide32(b: u8) -> u32
-    ensures { λ r. ⌜ (r ≡ b) × (r < 256) ⌝ }
-{
-    b as u32
-}
-
-// The number in two bytes, lowest first.
-fn le16_at(s: &[u8], at: usize) -> usize
-    requires { ⌜ at + 1 < length (now s) ⌝ }
-    ensures { λ r. ⌜ (r ≡ le16 (now (s .entry)) at) × (r < 65536) ⌝ }
-{
-    wide(s[at]) + wide(s[at + 1]) * 256
-}
-
-// The number in four bytes, lowest first.
-fn le32_at(s: &[u8], at: usize) -> u32
-    requires { ⌜ at + 3 < length (now s) ⌝ }
-    ensures { λ r. ⌜ r ≡ le32 (now (s .entry)) at ⌝ }
-{
-    wide32(s[at])
-        + wide32(s[at + 1]) * 256
-        + wide32(s[at + 2]) * 65536
-        + wide32(s[at + 3]) * 16777216
-}
-
-// A word as a signed number, in two's complement.
-fn signed(w: u32) -> i32
-    ensures { λ r. ⌜ r ≡ signed32 w ⌝ }
-{
-    if w < 2147483648 {
-        w as i32
-    } else {
-        -1 - ((4294967295 - w) as i32)
-    }
 }
 
 // The lengths judged in the paper's order. The row bytes are judged by their number alone: whether they are whole numbers is answer 10's to say.
@@ -125,7 +86,7 @@ pub fn rows_of(bytes: &[u8], rows: &mut [i32]) -> usize
     let count = bytes.len() / 4;
     let mut k = 0;
     while k < count {
-        rows[k] = signed(le32_at(bytes, 4 * k));
+        rows[k] = signed_word(le32_at(bytes, 4 * k));
         k += 1;
     }
     count

@@ -1,139 +1,86 @@
-// Whether a letter holds at a row, over a query's comparisons where they stand, 12 bytes each: the search asks this for every letter place that it enters.
-// A table made before the search (specs/Tests) has for each letter the range of rows at which all rows that it reads are there, an interval for what its first
-// comparison reads, and where its DEFINE stands. In the range no row is asked for; outside, near the ends of the partition, each comparison moves the row index
-// by its signed bytes and looks. The first comparison costs no product, as its entries are found by spots in the table; those behind it cost two.
-use comparisons::all_met;
-use comparisons::byte;
-use comparisons::entry_from;
+// Whether a letter holds at a row: the search asks this for every letter place that it enters.
+// It reads the words of the letter in the table of the prepared query (specs/Tests of the crate
+// table). The first comparison stands among them as an interval, so that most letters need one test
+// of a number and nothing else; those behind it are looked at only where it is met.
+// Promise: no letter holds at position n, behind the last row; at a row the answer is `holds` of
+// the rules, of the comparisons that the words tell. Weakness: the comparisons behind the first
+// stand in another part of the table, and are judged in the order of the query.
+use comparisons::entry;
 use comparisons::far_back;
-use comparisons::several_hold;
-use tests::raise;
+use comparisons::first_unmet;
+use comparisons::index_at;
+use intervals::difference;
+use intervals::inside_at;
+use table::Extent;
+use table::word_at;
 ghost use mathlib.Core.Path.{_≡_};
 ghost use mathlib.Core.Bool.{_&&_};
-ghost use Prim.Native.Nat.{_+_, _*_, _-_, _/_, _≤_, _<_};
+ghost use Prim.Native.Nat.{_+_, _≤_, _<_};
 ghost use lib.Dec.{ltb};
-ghost use lib.IntN.{ℤ, _-ℤ_};
-ghost use lib.Signed.{mag};
-ghost use lib.ListN.{getD};
+ghost use lib.ListN.{length};
 ghost use Rattle.rules.specs.Rows.{tableOf, holds};
-ghost use Rattle.define_list.specs.Defines.{definedAt};
-ghost use Rattle.tests.specs.Tests.{raised};
-ghost use Rattle.tests.specs.Tests.{within, TestRoom};
+ghost use Rattle.table.specs.Tests.{testAt, definedIn, First, Letters};
+ghost use Rattle.comparisons.specs.Spots.{readMet};
 
-fn difference(a: i64, b: i64) -> i64
-    requires { ⌜ (mag a < 2147483648) × (mag b < 2147483648) ⌝ }
-    ensures { λ r. ⌜ (r ≡ a -ℤ b) × (mag r < 4294967296) ⌝ }
-{
-    a - b
-}
+// The words of a letter, and which of them are what: where the comparisons behind the first stand,
+// the spots of the first one, its right kind and its interval.
+const LETTER: usize = 16;
 
-// Whether a number, raised, lies in an interval that wraps at 2^64.
-fn inside(d: i64, low: u64, width: u64) -> bool
-    requires { ⌜ mag d < 4294967296 ⌝ }
-    ensures { λ r. ⌜ r ≡ within (raised d) low width ⌝ }
-{
-    std::num::wrapping_sub_u64(raise(d), low) <= width
-}
+const MORE: usize = 1;
 
-// A letter near the ends of the partition, or at position n, behind the last row, where no letter holds.
-fn near_end(
-    tests: &[u64; 208],
-    query: &[u8],
-    l: usize,
-    rows: &[i32],
-    columns: usize,
-    n: usize,
-    row: usize,
-    base: usize,
-) -> bool
-    requires { ⌜ TestRoom (now tests) (now query) l (now rows) columns n row base ⌝ }
-    ensures { λ r. ⌜ r ≡ (ltb row n && holds (tableOf columns (now (rows .entry))) row (definedAt (now (query .entry)) (getD (now (tests .entry)) (l * 8 + 7) 0))) ⌝ }
-{
-    if row < n {
-        let d = tests[l * 8 + 7] as usize;
-        if d == 0 {
-            return true;
-        }
-        return several_hold(
-            query,
-            byte(query[d + 1]),
-            d + 2,
-            rows,
-            columns,
-            n,
-            row,
-            base,
-        );
-    }
-    false
-}
+const LEFT: usize = 3;
 
-// Where the second comparison stands of a DEFINE whose body starts at index d, and how many there are behind the first, by the sort.
-fn second(d: u64) -> usize
-    requires { ⌜ d < 9223372036854775808 ⌝ }
-    ensures { λ r. ⌜ r ≡ d + 14 ⌝ }
-{
-    d as usize + 14
-}
+const RIGHT: usize = 4;
 
-fn behind_first(sort: u64) -> usize
-    requires { ⌜ 1 ≤ sort ⌝ }
-    ensures { λ r. ⌜ r ≡ (sort - 1) / 2 ⌝ }
-{
-    ((sort - 1) / 2) as usize
-}
+const KIND: usize = 7;
 
-// Whether letter l (0 for A) holds at a row, whose first entry is at index base. The two ways to the comparisons behind the first are not one: joined, the test
-// of the first would be kept as a number and tested again.
-pub fn letter_holds(
-    tests: &[u64; 208],
-    query: &[u8],
-    l: usize,
-    rows: &[i32],
-    columns: usize,
-    n: usize,
-    row: usize,
-    base: usize,
-) -> bool
-    requires { ⌜ TestRoom (now tests) (now query) l (now rows) columns n row base ⌝ }
-    ensures { λ r. ⌜ r ≡ (ltb row n && holds (tableOf columns (now (rows .entry))) row (definedAt (now (query .entry)) (getD (now (tests .entry)) (l * 8 + 7) 0))) ⌝ }
+const INTERVAL: usize = 8;
+
+// The right kind of a comparison whose right side has a column.
+const COLUMN: usize = 1;
+
+// Whether the first comparison is met, of the letter whose words begin at word `at`, at the row to
+// whose first entry `from` belongs.
+fn first_met(table: &[u16], at: usize, rows: &[i32], from: u64) -> bool
+    requires { ⌜ (at + 16 ≤ length (now table)) × First (now table) at ⌝ }
+    ensures { λ r. ⌜ r ≡ readMet (now (table .entry)) (now (rows .entry)) from (at + 2) ⌝ }
 {
-    let at = l * 8;
-    if std::num::wrapping_sub_u64(row as u64, tests[at + 5]) >= tests[at + 6] {
-        return near_end(tests, query, l, rows, columns, n, row, base);
-    }
-    let from = far_back(columns, base);
-    let sort = tests[at];
-    let a = entry_from(rows, from, tests[at + 1]);
-    if sort % 2 == 1 {
-        let b = entry_from(rows, from, tests[at + 2]);
-        if !inside(difference(a, b), tests[at + 3], tests[at + 4]) {
-            return false;
-        }
-        if sort < 3 {
-            return true;
-        }
-        return all_met(
-            query,
-            second(tests[at + 7]),
-            behind_first(sort),
-            rows,
-            columns,
-            from,
-        );
-    }
-    if !inside(a, tests[at + 3], tests[at + 4]) {
+    let left = index_at(table, at + LEFT, from);
+    if left >= rows.len() {
         return false;
     }
-    if sort < 3 {
+    let a = entry(rows, left);
+    if word_at(table, at + KIND) == COLUMN {
+        let right = index_at(table, at + RIGHT, from);
+        if right >= rows.len() {
+            return false;
+        }
+        let b = entry(rows, right);
+        return inside_at(table, at + INTERVAL, difference(a, b));
+    }
+    inside_at(table, at + INTERVAL, a)
+}
+
+// Whether letter l (0 for A) holds at a row.
+pub fn letter_holds(table: &[u16], rows: &[i32], size: Extent, l: usize, row: usize) -> bool
+    requires { ⌜ (row ≤ size .rows) × (l < 26) × Letters (now table) (size .tests) (now rows) (size .columns) (size .rows) ⌝ }
+    ensures { λ r. ⌜ r ≡ (ltb row (size .rows) && holds (tableOf (size .columns) (now (rows .entry))) row (definedIn (now (table .entry)) (size .columns) (testAt (size .tests) l))) ⌝ }
+{
+    if row >= size.rows {
+        return false;
+    }
+    let at = size.tests + l * LETTER;
+    let count = word_at(table, at);
+    if count == 0 {
         return true;
     }
-    all_met(
-        query,
-        second(tests[at + 7]),
-        behind_first(sort),
-        rows,
-        columns,
-        from,
-    )
+    let from = far_back(size.columns, row * size.columns);
+    if !first_met(table, at, rows, from) {
+        return false;
+    }
+    if count == 1 {
+        return true;
+    }
+    let more = count - 1;
+    first_unmet(table, word_at(table, at + MORE), more, rows, from) == more
 }

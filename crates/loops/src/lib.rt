@@ -1,5 +1,8 @@
-// Can take no row, and answer 6: whether a pattern's tree has an unbounded quantifier over a body that can take no row. Both recurse over the tree's
-// nodes; the node's height falls. The promises are equations with document 01's tests on the tree (specs/Loops).
+// Can take no row, and answer 6: whether a pattern's tree has an unbounded quantifier over a body
+// that can take no row. Each function walks by a loop along right parts and into parentheses. A
+// call is made for a left part only, a branch of an alternation or a factor of a sequence. So a
+// level of parentheses takes two calls at most, and parts and branches, however many, take no
+// stack. The promises are equations with document 01's tests on the tree (specs/Loops).
 use nodes::Sort;
 use nodes::node_at;
 use nodes::sort_at;
@@ -14,32 +17,36 @@ fn can_be_empty(room: &[u16], i: usize) -> bool
     requires { ⌜ At (now room) i ⌝ }
     ensures { λ r. ⌜ Nullable (now (room .entry)) i r ⌝ }
 {
-    let n = node_at(room, i);
-    let sort = n.sort;
-    let left = n.left;
-    let right = n.right;
-    if n.low == 0 {
-        return true;
-    }
-    match sort {
-        Sort::Letter(_) => false,
-        Sort::Anchor(_) => true,
-        Sort::Empty => true,
-        Sort::Sequence => {
-            if can_be_empty(room, left) {
-                can_be_empty(room, right)
-            } else {
-                false
+    let mut node = i;
+    loop {
+        let n = node_at(room, node);
+        let sort = n.sort;
+        let left = n.left;
+        let right = n.right;
+        if n.low == 0 {
+            return true;
+        }
+        match sort {
+            Sort::Letter(_) => return false,
+            Sort::Anchor(_) => return true,
+            Sort::Empty => return true,
+            Sort::Sequence => {
+                if can_be_empty(room, left) {
+                    node = right;
+                    continue;
+                }
+                return false;
+            }
+            Sort::Alternation => {
+                if can_be_empty(room, left) {
+                    return true;
+                }
+                node = right;
+            }
+            Sort::Group => {
+                node = left;
             }
         }
-        Sort::Alternation => {
-            if can_be_empty(room, left) {
-                true
-            } else {
-                can_be_empty(room, right)
-            }
-        }
-        Sort::Group => can_be_empty(room, left),
     }
 }
 
@@ -48,37 +55,39 @@ pub fn has_empty_loop(room: &[u16], i: usize) -> bool
     requires { ⌜ At (now room) i ⌝ }
     ensures { λ r. ⌜ EmptyLoop (now (room .entry)) i r ⌝ }
 {
-    let n = node_at(room, i);
-    let sort = n.sort;
-    let left = n.left;
-    let right = n.right;
-    let high = n.high;
-    match sort {
-        Sort::Letter(_) => false,
-        Sort::Anchor(_) => high == 100,
-        Sort::Empty => high == 100,
-        Sort::Sequence => {
-            if loop_at(room, left) {
-                true
-            } else {
-                loop_at(room, right)
+    let mut node = i;
+    loop {
+        let n = node_at(room, node);
+        let sort = n.sort;
+        let left = n.left;
+        let right = n.right;
+        let high = n.high;
+        match sort {
+            Sort::Letter(_) => return false,
+            Sort::Anchor(_) => return high == 100,
+            Sort::Empty => return high == 100,
+            Sort::Sequence => {
+                if loop_at(room, left) {
+                    return true;
+                }
+                node = right;
             }
-        }
-        Sort::Alternation => {
-            if loop_at(room, left) {
-                true
-            } else {
-                loop_at(room, right)
+            Sort::Alternation => {
+                if loop_at(room, left) {
+                    return true;
+                }
+                node = right;
             }
-        }
-        Sort::Group => {
-            if high != 100 {
-                return loop_at(room, left);
+            Sort::Group => {
+                if high != 100 {
+                    node = left;
+                    continue;
+                }
+                if can_be_empty(room, left) {
+                    return true;
+                }
+                node = left;
             }
-            if can_be_empty(room, left) {
-                return true;
-            }
-            loop_at(room, left)
         }
     }
 }

@@ -1,4 +1,5 @@
 // The bytes of a pattern's text: a byte, spaces, numbers, quantifiers.
+use numbers::wide8;
 ghost use mathlib.Core.Path.{_≡_};
 ghost use Prim.Native.Nat.{ℕ, _+_, _*_, _-_, _≤_, _<_};
 ghost use mathlib.Core.Bool.{true, false};
@@ -28,12 +29,6 @@ pub struct Value {
     pub ok: bool,
     pub value: usize,
     pub at: usize,
-}
-
-fn wide(x: u8) -> usize
-    ensures { λ r. ⌜ (r ≡ x) × (r < 256) ⌝ }
-{
-    x as usize
 }
 
 // The byte at a position, 0 behind the end.
@@ -96,7 +91,7 @@ pub fn number(text: &[u8], at: usize) -> Value
     if !is_digit(c) {
         return Value {
             ok: true,
-            value: wide(b) - 48,
+            value: wide8(b) - 48,
             at: at + 1,
         };
     }
@@ -105,7 +100,7 @@ pub fn number(text: &[u8], at: usize) -> Value
     }
     Value {
         ok: true,
-        value: 10 * (wide(b) - 48) + (wide(c) - 48),
+        value: 10 * (wide8(b) - 48) + (wide8(c) - 48),
         at: at + 2,
     }
 }
@@ -122,7 +117,7 @@ pub fn reaching(text: &[u8], at: usize, low: usize) -> Value
     if b'9' < b {
         return no_number(at);
     }
-    if 10 * (wide(b) - 48) + 9 < low {
+    if 10 * (wide8(b) - 48) + 9 < low {
         return no_number(at);
     }
     let m = number(text, at);

@@ -17,17 +17,18 @@ use Rattle.rules.specs.Rows.{tableOf}
 use Rattle.rules.specs.Search.{labels, lastOf, endOf, nextStart}
 use Rattle.rules.proofs.Appended.{length-wrote-at, fits-room}
 use Rattle.rules.proofs.Lists.{length-tabulate}
-use Rattle.measure_list.specs.Measures.{measuresIn}
+use Rattle.table.specs.Measures.{measuresIn}
 use Rattle.measures.specs.Measures.{Appendable}
 use Rattle.pairs.specs.declared.Walk.{Walk}
-use Rattle.pairs.specs.Layout.{Layout, P}
+use Rattle.pairs.specs.Layout.{Layout, P, layoutOf}
 use Rattle.table.specs.Table.{waysOf, placeAt, placesIn, codeAt, firstAt}
 use Rattle.pairs.specs.Step.{pairIn, stack, pairOf}
 use Rattle.pairs.specs.State.{takes}
 use Rattle.pairs.proofs.Ways.{in-length, by-high}
 use Rattle.pairs.proofs.Trails.{path-top, path-linked, path-row, path-at}
 use Rattle.matches.specs.declared.Sweep.{Sweep}
-use Rattle.matches.specs.Asked.{asked, pathOn, labelsOn}
+use Rattle.matches.specs.declared.Task.{Task}
+use Rattle.matches.specs.Asked.{askedOf, toNext, pathOn, labelsOn}
 use Rattle.matches.specs.Found.{Labels, Told, Reports}
 use Rattle.matches.proofs.Labelled.{Ends, rows-taken}
 
@@ -52,12 +53,26 @@ part-wrote d vs at end h e =
     let k : end - at ≡ length vs = omega arith in
     rw (k, drop-at (take at d) (vs ++ drop (at + length vs) d) at (length-take-le at d (omega arith)), take-at vs (drop (at + length vs) d) (length vs) refl)
 
-measures-count : (ms : List ℕ) (count : ℕ) → length (measuresIn ms count) ≡ count
+measures-count : (T : List ℕ) (at count : ℕ) → length (measuresIn T at count) ≡ count
 unfolding measuresIn
-measures-count ms count = length-tabulate count _
+measures-count T at count = length-tabulate count _
 
-module _ (T : Layout) (n : ℕ) (ms : List ℕ) (count : ℕ) (rows : List ℤ) (columns : ℕ) (trail labs : List ℕ) (i : Sweep) (w : Walk)
-    (h : Reports T n ms count rows columns trail labs i w) where
+module _ (W : List ℕ) (rows : List ℤ) (task : Task) (trail labs : List ℕ) (i : Sweep) (w : Walk) (h : Reports W rows task trail labs i w) where
+  abbrev T : Layout
+  T = layoutOf W (task .size)
+
+  abbrev n : ℕ
+  n = task .size .rows
+
+  abbrev count : ℕ
+  count = task .count
+
+  abbrev columns : ℕ
+  columns = task .size .columns
+
+  abbrev ms : List Q.Measure
+  ms = measuresIn W (task .measures) count
+
   abbrev p : List ℕ
   p = pathOn (P T) trail (w .top)
 
@@ -106,12 +121,12 @@ module _ (T : Layout) (n : ℕ) (ms : List ℕ) (count : ℕ) (rows : List ℤ) 
   on-is = refl
 
   module _ (nums : ℕ) (r : Bool) (ef : (xs : List Q.Measure) (vs : List ℕ) → length xs ≡ count → length vs ≡ taken → r ≡ fits nums (length labs) xs (i .matches) (i .labels) vs) where
-    fits-is : r ≡ fits nums (length labs) (measuresIn ms count) (i .matches) (i .labels) ls
-    fits-is = ef (measuresIn ms count) ls (measures-count ms count) taken-is
+    fits-is : r ≡ fits nums (length labs) ms (i .matches) (i .labels) ls
+    fits-is = ef ms ls (measures-count W (task .measures) count) taken-is
 
     module _ (et : r ≡ true) where
       rooms : (i .matches * (3 + 2 * count) + (3 + 2 * count) ≤ nums) × (i .labels + taken ≤ length labs)
-      rooms = rw (measures-count ms count, taken-is) at (fits-room nums (length labs) (measuresIn ms count) (i .matches) (i .labels) ls (sym fits-is ∙ et))
+      rooms = rw (measures-count W (task .measures) count, taken-is) at (fits-room nums (length labs) ms (i .matches) (i .labels) ls (sym fits-is ∙ et))
 
       pub tell-labels : Labels T trail labs (w .top) (i .labels + taken)
       tell-labels = record { some = h .path .sized .some; long = h .path .sized .long; trailed = h .path .room; words = h .path .words; end-room = rooms .1; enough = rw (on-is, taken-is) (omega arith) }
@@ -132,7 +147,7 @@ module _ (T : Layout) (n : ℕ) (ms : List ℕ) (count : ℕ) (rows : List ℤ) 
         part-is = let t = taken-is in let b = rooms .1 in rw written (part-wrote labs ls (i .labels) (i .labels + taken) (omega arith) (omega arith))
 
         pub tell-appends : (numbers : List ℤ) → nums ≡ length numbers
-            → Appendable numbers (i .matches * (3 + 2 * count)) (i .matches + 1) ms count rows columns (i .row) (length (take (i .labels + taken - i .labels) (drop (i .labels) labs′)))
+            → Appendable numbers (i .matches * (3 + 2 * count)) (i .matches + 1) W (task .measures) count rows columns (i .row) (length (take (i .labels + taken - i .labels) (drop (i .labels) labs′)))
         tell-appends numbers en =
             let m = h .measured in
             let b = h .behind in
@@ -145,8 +160,7 @@ module _ (T : Layout) (n : ℕ) (ms : List ℕ) (count : ℕ) (rows : List ℤ) 
               few = omega arith;
               there = le-trans (mul-le-mul-right columns (let z : i .row + taken ≤ n = omega arith in z)) (m .there);
               room = rw (← en) (rooms .0);
-              measured = m .long;
-              columned = m .columned;
+              measured = m .measurable;
               numbered = omega arith;
               placed = omega arith;
             })
@@ -156,19 +170,19 @@ module _ (T : Layout) (n : ℕ) (ms : List ℕ) (count : ℕ) (rows : List ℤ) 
             let l : lastOf 0 p ≡ pairOf w = ap (λ (s : List ℕ). lastOf 0 (reverseAux s [])) stack-is ∙ last-up 0 (pairOf w) [] (stack (P T) trail (w .top - 1)) in
             ap (nextStart mode (i .row)) (rw (l, in-length (T .words) (P T)) (path-row T trail w (h .path) (h .going)))
 
-        pub tell-fits : (numbers numbers′ : List ℤ) (mode : Bool) (nx : ℕ) → nums ≡ length numbers
-            → numbers′ ≡ wrote numbers (i .matches * (3 + 2 * count)) (matchNumbers (tableOf columns rows) (measuresIn ms count) (i .matches + 1) (i .row) (take (i .labels + taken - i .labels) (drop (i .labels) labs′)))
-            → nx ≡ nextStart mode (i .row) (w .row) → (holds : ℕ → ℕ → Bool)
-            → Told (asked T holds n mode (tableOf columns rows) (measuresIn ms count)) (some p) i (w .steps) numbers numbers′ labs labs′
+        pub tell-fits : (numbers numbers′ : List ℤ) (nx : ℕ) → nums ≡ length numbers
+            → numbers′ ≡ wrote numbers (i .matches * (3 + 2 * count)) (matchNumbers (tableOf columns rows) ms (i .matches + 1) (i .row) (take (i .labels + taken - i .labels) (drop (i .labels) labs′)))
+            → nx ≡ nextStart (toNext (task .skip)) (i .row) (w .row)
+            → Told (askedOf W rows task) (some p) i (w .steps) numbers numbers′ labs labs′
             (record { end = 0; row = nx; matches = i .matches + 1; labels = i .labels + taken; steps = w .steps })
-        tell-fits numbers numbers′ mode nx en e ex holds =
+        tell-fits numbers numbers′ nx en e ex =
             rw (← en, sym fits-is ∙ et) (record {
-              numbers-is = rw (measures-count ms count) (rw part-is at e);
+              numbers-is = rw (measures-count W (task .measures) count) (rw part-is at e);
               labels-is = written;
-              sweep-is = rw (taken-is, next-is mode, ex);
+              sweep-is = rw (taken-is, next-is (toNext (task .skip)), ex);
             })
 
-    pub tell-full : (numbers : List ℤ) (mode : Bool) → nums ≡ length numbers → r ≡ false → (holds : ℕ → ℕ → Bool)
-        → Told (asked T holds n mode (tableOf columns rows) (measuresIn ms count)) (some p) i (w .steps) numbers numbers labs labs
+    pub tell-full : (numbers : List ℤ) → nums ≡ length numbers → r ≡ false
+        → Told (askedOf W rows task) (some p) i (w .steps) numbers numbers labs labs
         (record { end = 13; row = n; matches = i .matches; labels = i .labels; steps = w .steps })
-    tell-full numbers mode en et holds = rw (← en, sym fits-is ∙ et) (record { numbers-is = refl; labels-is = refl; sweep-is = refl })
+    tell-full numbers en et = rw (← en, sym fits-is ∙ et) (record { numbers-is = refl; labels-is = refl; sweep-is = refl })

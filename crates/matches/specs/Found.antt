@@ -10,13 +10,15 @@ use lib.ListN.{length, getD}
 use Rattle.rules.specs.Basics.{wrote}
 use Rattle.rules.specs.Report.{bitAt, matchNumbers, fits}
 use Rattle.rules.specs.Search.{Kept, answered, labels, nextStart, endOf}
-use Rattle.rules.proofs.Notes.{bitsOf}
+use Rattle.rules.specs.Working.{bitsOf}
+use Rattle.measure_list.specs.Measures.{Measurable}
 use Rattle.pairs.specs.declared.Walk.{Walk}
-use Rattle.pairs.specs.Layout.{Layout, P, N, Legal}
+use Rattle.pairs.specs.Layout.{Layout, P, N, Legal, layoutOf, lettersOf, Tested}
 use Rattle.table.specs.Table.{codeAt}
 use Rattle.pairs.specs.Step.{pairIn}
 use Rattle.pairs.specs.State.{Word, OnPath, attemptBy}
 use Rattle.matches.specs.declared.Sweep.{Sweep}
+use Rattle.matches.specs.declared.Task.{Task}
 use Rattle.matches.specs.Asked.{Asked, pl, width, labelsOn}
 
 -- ---- labels
@@ -73,35 +75,40 @@ Told A none i s numbers numbers′ labs labs′ r = Quiet numbers numbers′ lab
 Told A (some p) i s numbers numbers′ labs labs′ r =
     ToldBy (fits (length numbers) (length labs) (A .measures) (i .matches) (i .labels) (labels (pl A) p)) A p i s numbers numbers′ labs labs′ r
 
--- the measures can be read from the rows
-pub record Measured (ms : List ℕ) (count : ℕ) (rows : List ℤ) (columns n : ℕ) : Type 0 where
-  pub few : count ≤ 8
-  pub few-rows : n ≤ 4096
-  pub there : n * columns ≤ length rows
-  pub long : count * 3 ≤ length ms
-  pub columned : (k : ℕ) → k < count → getD ms (k * 3 + 2) 0 < columns
+-- the measures in the table can be read from the rows
+pub record Measured (T : List ℕ) (rows : List ℤ) (task : Task) : Type 0 where
+  pub few : task .count ≤ 8
+  pub few-rows : task .size .rows ≤ 4096
+  pub there : task .size .rows * task .size .columns ≤ length rows
+  pub measurable : Measurable T (task .measures) (task .count) (task .size .columns)
 
 -- a path is on the trail, from the row of the start to END, and its report can be made
-pub record Reports (T : Layout) (n : ℕ) (ms : List ℕ) (count : ℕ) (rows : List ℤ) (columns : ℕ) (trail labs : List ℕ) (i : Sweep) (w : Walk) : Type 0 where
-  pub measured : Measured ms count rows columns n
-  pub path : OnPath T trail w
+pub record Reports (T : List ℕ) (rows : List ℤ) (task : Task) (trail labs : List ℕ) (i : Sweep) (w : Walk) : Type 0 where
+  pub measured : Measured T rows task
+  pub path : OnPath (layoutOf T (task .size)) trail w
   pub going : 0 < w .top
-  pub last : 29 < codeAt (T .words) (w .place)
-  pub bottom : pairIn (P T) (getD trail 0 0) ≡ i .row * P T
-  pub row : i .row < n
-  pub behind : w .row ≤ n
+  pub last : 29 < codeAt T (w .place)
+  pub bottom : pairIn (task .size .places) (getD trail 0 0) ≡ i .row * task .size .places
+  pub row : i .row < task .size .rows
+  pub behind : w .row ≤ task .size .rows
   pub few : i .matches ≤ i .row
   pub labels : i .labels ≤ length labs
 
 -- ---- one start
 
-pub record Visits (A : Asked) (ms : List ℕ) (count : ℕ) (rows : List ℤ) (columns : ℕ) (notes trail labs : List ℕ) (i : Sweep) : Type 0 where
-  pub measured : Measured ms count rows columns (A .n)
-  pub legal : Legal (A .layout) (A .holds) (A .n)
-  pub noted : N (A .layout) (A .n) ≤ 8 * length notes
-  pub trailed : N (A .layout) (A .n) ≤ length trail
-  pub row : i .row < A .n
-  pub steps : i .steps + N (A .layout) (A .n) < 18446744073709551616
+-- what a search over a prepared query asks: letters and measures that can be read, a legal table, and working room
+pub record Searches (T : List ℕ) (rows : List ℤ) (task : Task) (notes trail : List ℕ) : Type 0 where
+  pub letters : Tested T rows (task .size)
+  pub measured : Measured T rows task
+  pub legal : Legal (layoutOf T (task .size)) (lettersOf T rows (task .size)) (task .size .rows)
+  pub noted : N (layoutOf T (task .size)) (task .size .rows) ≤ 8 * length notes
+  pub trailed : N (layoutOf T (task .size)) (task .size .rows) ≤ length trail
+
+-- and a start
+pub record Visits (T : List ℕ) (rows : List ℤ) (task : Task) (notes trail labs : List ℕ) (i : Sweep) : Type 0 where
+  pub searches : Searches T rows task notes trail
+  pub row : i .row < task .size .rows
+  pub steps : i .steps + N (layoutOf T (task .size)) (task .size .rows) < 18446744073709551616
   pub few : i .matches ≤ i .row
   pub labels : i .labels ≤ length labs
 

@@ -1,8 +1,11 @@
 // A match written into the report: its labels off the trail, its numbers, and whether it fits; and where the search goes on behind it.
-use pairs::Extent;
 use pairs::Walk;
 use pairs::open_at;
 use pairs::place_of;
+use report::Measures;
+use report::fits_whole;
+use report::put_match;
+use table::Extent;
 use table::LETTERS;
 use table::code_at;
 ghost use mathlib.Core.Path.{_≡_};
@@ -12,12 +15,10 @@ ghost use Prim.Native.Nat.{ℕ, _+_, _-_, _<_};
 ghost use lib.Dec.{eqb};
 ghost use lib.ListN.{length};
 ghost use Rattle.rules.specs.Basics.{wrote};
-ghost use Rattle.rules.specs.Rows.{tableOf};
 ghost use Rattle.rules.specs.Search.{nextStart};
-ghost use Rattle.measure_list.specs.Measures.{measuresIn};
 ghost use Rattle.table.specs.Table.{codeAt};
 ghost use Rattle.pairs.specs.Layout.{layout};
-ghost use Rattle.matches.specs.Asked.{asked, labelsOn, pathOn, toNext};
+ghost use Rattle.matches.specs.Asked.{askedOf, labelsOn, pathOn, toNext};
 ghost use Rattle.matches.specs.Found.{OneMore, PutsLabel, Labels, Told, Reports};
 
 // Where the search goes on behind a match with rows: behind its last row, or one row behind its first.
@@ -36,10 +37,11 @@ pub fn skip_of(mode: usize) -> Skip
     Skip::PastLastRow
 }
 
-// What a search is asked beside its table of places: its extent, the number of measures, and where it goes on behind a match.
+// What a search is asked beside its table: its extent, the word of the table at which the measures begin, how many they are, and where it goes on behind a match.
 pub struct Task {
     pub size: Extent,
     pub measures: usize,
+    pub count: usize,
     pub skip: Skip,
 }
 
@@ -67,11 +69,11 @@ fn label_of(c: usize) -> u8
 }
 
 // The label of the place q before index e, if it is a letter's.
-fn put_label(words: &[u16], labels: &mut [u8], q: usize, e: usize) -> usize
-    requires { ⌜ PutsLabel (now words) (now labels) q e ⌝ }
-    ensures { λ r. ⌜ OneMore (now (labels .entry)) (now (labels .exit)) (codeAt (now (words .entry)) q) e r ⌝ }
+fn put_label(table: &[u16], labels: &mut [u8], q: usize, e: usize) -> usize
+    requires { ⌜ PutsLabel (now table) (now labels) q e ⌝ }
+    ensures { λ r. ⌜ OneMore (now (labels .entry)) (now (labels .exit)) (codeAt (now (table .entry)) q) e r ⌝ }
 {
-    let c = code_at(words, q);
+    let c = code_at(table, q);
     if c < LETTERS {
         labels[e - 1] = label_of(c);
         return e - 1;
@@ -81,21 +83,21 @@ fn put_label(words: &[u16], labels: &mut [u8], q: usize, e: usize) -> usize
 
 // The labels of the path on the trail, written before index `end` from the last to the first.
 fn put_labels(
-    words: &[u16],
+    table: &[u16],
     places: usize,
     trail: &[u32],
     labels: &mut [u8],
     top: usize,
     end: usize,
 )
-    requires { ⌜ Labels (layout (now words) places) (now trail) (now labels) top end ⌝ }
-    ensures { λ _. ⌜ now (labels .exit) ≡ wrote (now (labels .entry)) (end - length (labelsOn (layout (now (words .entry)) places) (now (trail .entry)) top)) (labelsOn (layout (now (words .entry)) places) (now (trail .entry)) top) ⌝ }
+    requires { ⌜ Labels (layout (now table) places) (now trail) (now labels) top end ⌝ }
+    ensures { λ _. ⌜ now (labels .exit) ≡ wrote (now (labels .entry)) (end - length (labelsOn (layout (now (table .entry)) places) (now (trail .entry)) top)) (labelsOn (layout (now (table .entry)) places) (now (trail .entry)) top) ⌝ }
 {
     let mut k = top;
     let mut e = end;
     while k > 0 {
         k -= 1;
-        e = put_label(words, labels, place_of(open_at(trail, k)), e);
+        e = put_label(table, labels, place_of(open_at(trail, k)), e);
     }
 }
 
@@ -112,8 +114,7 @@ fn next_row(skip: Skip, row: usize, behind: usize) -> usize
 
 // A path is on the trail: its match is written if it fits whole, and the search goes on; else the search is over.
 pub fn write_match(
-    words: &[u16],
-    ms: &[u8],
+    table: &[u16],
     rows: &[i32],
     trail: &[u32],
     numbers: &mut [i64],
@@ -122,29 +123,32 @@ pub fn write_match(
     i: Sweep,
     w: Walk,
 ) -> Sweep
-    requires { ⌜ Reports (layout (now words) (task .size .places)) (task .size .rows) (now ms) (task .measures) (now rows) (task .size .columns) (now trail) (now labels) i w ⌝ }
-    ensures { λ r. ⌜ ((holds : ℕ → ℕ → Bool) → Told (asked (layout (now (words .entry)) (task .size .places)) holds (task .size .rows) (toNext (task .skip)) (tableOf (task .size .columns) (now (rows .entry))) (measuresIn (now (ms .entry)) (task .measures))) (some (pathOn (task .size .places) (now
-        (trail .entry)) (w .top))) i (w .steps) (now (numbers .entry)) (now (numbers .exit)) (now (labels .entry)) (now (labels .exit)) r) ⌝ }
+    requires { ⌜ Reports (now table) (now rows) task (now trail) (now labels) i w ⌝ }
+    ensures { λ r. ⌜ Told (askedOf (now (table .entry)) (now (rows .entry)) task) (some (pathOn (task .size .places) (now (trail .entry)) (w .top))) i (w .steps) (now (numbers .entry)) (now (numbers .exit)) (now (labels .entry)) (now (labels .exit)) r ⌝ }
 {
     let size = task.size;
-    let count = task.measures;
+    let count = task.count;
     let skip = task.skip;
     let row = i.row;
     let behind = w.row;
     let m = i.matches;
     let l = i.labels;
     let taken = behind - row;
-    if report::fits_whole(numbers.len(), labels.len(), count, m, l, taken) {
+    if fits_whole(numbers.len(), labels.len(), count, m, l, taken) {
         let end = l + taken;
-        put_labels(words, size.places, trail, labels, w.top, end);
-        report::put_match(
+        put_labels(table, size.places, trail, labels, w.top, end);
+        let measures = Measures {
+            at: task.measures,
+            count,
+            columns: size.columns,
+        };
+        put_match(
             numbers,
             m * (3 + 2 * count),
             m + 1,
-            ms,
-            count,
+            table,
+            measures,
             rows,
-            size.columns,
             row,
             &labels[l..end],
         );

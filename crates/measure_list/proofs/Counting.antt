@@ -16,51 +16,20 @@ use Rattle.rules.proofs.Choice.{decided}
 use Rattle.records.specs.Read.{recordsAt, readAt}
 use Rattle.records.proofs.Records.{records-end}
 use Rattle.records.proofs.Reading.{found, read-more, read-cut}
-use Rattle.measure_list.specs.Measures.{measureIn, measuresIn, Fits}
+use Rattle.table.specs.Measures.{measureIn, measuresIn}
 use Rattle.query.specs.Ahead.{Ahead}
-use Rattle.measure_list.specs.Measures.{setThree, measureOf, MeasuresRoom, PutMeasures}
+use Rattle.measure_list.specs.Measures.{Fits, setThree, measureOf, MeasuresRoom, PutMeasures}
 use Rattle.measure_list.specs.declared.Measure.{Measure as Three}
-use Rattle.measure_list.proofs.Keeping.{kept-three, three-0, three-1, three-2}
+use Rattle.measure_list.proofs.Keeping.{kept-three}
+use Rattle.measure_list.proofs.OneMeasure.{measure-old, measure-new, measures-more}
 use Rattle.query.proofs.Going.{this-fits, measure-next, measure-says}
-
-tabulate-same : (n : ℕ) (f g : ℕ → Measure) → ((k : ℕ) → k < n → f k ≡ g k) → tabulate n f ≡ tabulate n g
-unfolding tabulate
-tabulate-same zero f g h = refl
-tabulate-same (suc n) f g h =
-    ap (λ (x : List Measure). x ++ (f n ∷ [])) (tabulate-same n f g (λ k q. h k (omega arith))) ∙ ap (λ (x : Measure). tabulate n g ++ (x ∷ [])) (h n (omega arith))
-
--- ---- one measure
-
-module _ (measures : List ℕ) (k a b c : ℕ) where
-  pub measure-old : (j : ℕ) → j < k → measureIn (setThree measures (k * 3) a b c) j ≡ measureIn measures j
-  unfolding measureIn
-  measure-old j h =
-      let t = kept-three measures (k * 3) a b c in
-      let e0 = t .before (j * 3) (omega arith) in
-      let e1 = t .before (j * 3 + 1) (omega arith) in
-      let e2 = t .before (j * 3 + 2) (omega arith) in
-      rw (e0, e1, e2)
-
-  module _ (h : k * 3 + 3 ≤ length measures) where
-    pub measure-new : measureIn (setThree measures (k * 3) a b c) k ≡ record { function = a; letter = b; column = c }
-    unfolding measureIn
-    measure-new = rw (three-0 measures (k * 3) a b c h, three-1 measures (k * 3) a b c h, three-2 measures (k * 3) a b c h)
-
-    pub measures-more : measuresIn (setThree measures (k * 3) a b c) (k + 1) ≡ measuresIn measures k ++ (record { function = a; letter = b; column = c } ∷ [])
-    unfolding measuresIn tabulate
-    measures-more =
-        ap (λ (i : ℕ). tabulate i (measureIn (setThree measures (k * 3) a b c))) (add-one k)
-        ∙ ap (λ (x : List Measure). x ++ (measureIn (setThree measures (k * 3) a b c) k ∷ [])) (tabulate-same k (measureIn (setThree measures (k * 3) a b c)) (measureIn measures) measure-old)
-        ∙ ap (λ (x : Measure). tabulate k (measureIn measures) ++ (x ∷ [])) measure-new
-
--- ---- the pass
 
 pub record Counting (s : List ℕ) (from : ℕ) (measures₀ measures : List ℕ) (at count : ℕ) : Type 0 where
   pub long : length measures ≡ 24
   pub few : count ≤ 8
   pub ahead : Ahead s 3 (8 - count) at
-  pub is : measuresIn measures count ++ measuresFrom s (recordsAt s at) ≡ measuresFrom s (recordsAt s from)
-  pub fit : (k : ℕ) → k < count → Fits (columnsOf s) (measureIn measures k)
+  pub is : measuresIn measures 0 count ++ measuresFrom s (recordsAt s at) ≡ measuresFrom s (recordsAt s from)
+  pub fit : (k : ℕ) → k < count → Fits (columnsOf s) (measureIn measures 0 k)
   pub rest : (j : ℕ) → count * 3 ≤ j → getD measures j 0 ≡ getD measures₀ j 0
 
 module _ (s : List ℕ) (from : ℕ) (measures₀ : List ℕ) where
@@ -73,7 +42,7 @@ module _ (s : List ℕ) (from : ℕ) (measures₀ : List ℕ) where
     unfolding measuresFrom
     ended e = record {
       long = h .long;
-      is = sym (append-nil (measuresIn measures count)) ∙ ap (λ (x : List Record). measuresIn measures count ++ measuresFrom s x) (sym e) ∙ h .is;
+      is = sym (append-nil (measuresIn measures 0 count)) ∙ ap (λ (x : List Record). measuresIn measures 0 count ++ measuresFrom s x) (sym e) ∙ h .is;
       few = h .few;
       fit = h .fit;
       rest = h .rest;
@@ -103,29 +72,33 @@ module _ (s : List ℕ) (from : ℕ) (measures₀ : List ℕ) where
         unfolding measuresFrom
         front = ap (measuresFrom s) (read-more s at r k b m n e q) ∙ ap (λ (t : Bool). keep t (measureAt s b) (measuresFrom s (recordsAt s n))) (eq-eqb k 5 (next .0))
 
-        module _ (v : Three) (ev : measureOf v ≡ measureAt s b) (measures' : List ℕ) (em : measures' ≡ setThree measures (count * 3) (v .function) (v .letter) (v .column)) where
+        module _ (v : Three) (ev : measureOf v ≡ measureAt s b) (measures' : List ℕ) (em₀ : measures' ≡ setThree measures (count * 3) (v .function) (v .letter) (v .column)) where
+          put : measures' ≡ setThree measures (0 + count * 3) (v .function) (v .letter) (v .column)
+          put = em₀ ∙ ap (λ (i : ℕ). setThree measures i (v .function) (v .letter) (v .column)) (let e : count * 3 ≡ 0 + count * 3 = omega arith in e)
+
           pub counting-more : Counting s from measures₀ measures' n (count + 1)
           unfolding measureAt
           counting-more =
               let lg = h .long in
               let cr = counting-room in
-              let t = kept-three measures (count * 3) (v .function) (v .letter) (v .column) in
-              let fit3 : count * 3 + 3 ≤ length measures = omega arith in
-              let new : measureIn measures' count ≡ measureAt s b = ap (λ (u : List ℕ). measureIn u count) em
-              ∙ measure-new measures count (v .function) (v .letter) (v .column) fit3 ∙ ev in
-              let more : measuresIn measures' (count + 1) ≡ measuresIn measures count ++ (measureAt s b ∷ []) =
-              ap (λ (u : List ℕ). measuresIn u (count + 1)) em ∙ measures-more measures count (v .function) (v .letter) (v .column) fit3
-              ∙ ap (λ (u : Measure). measuresIn measures count ++ (u ∷ [])) ev in
+              let t = kept-three measures (0 + count * 3) (v .function) (v .letter) (v .column) in
+              let em : measures' ≡ setThree measures (0 + count * 3) (v .function) (v .letter) (v .column) = put in
+              let fit3 : 0 + count * 3 + 3 ≤ length measures = omega arith in
+              let new : measureIn measures' 0 count ≡ measureAt s b = ap (λ (u : List ℕ). measureIn u 0 count) em
+              ∙ measure-new measures 0 count (v .function) (v .letter) (v .column) fit3 ∙ ev in
+              let more : measuresIn measures' 0 (count + 1) ≡ measuresIn measures 0 count ++ (measureAt s b ∷ []) =
+              ap (λ (u : List ℕ). measuresIn u 0 (count + 1)) em ∙ measures-more measures 0 count (v .function) (v .letter) (v .column) fit3
+              ∙ ap (λ (u : Measure). measuresIn measures 0 count ++ (u ∷ [])) ev in
               record {
                 long = ap length em ∙ t .long ∙ lg;
                 few = omega arith;
                 ahead = let i : 8 - (count + 1) ≡ 8 - count - 1 = omega arith in rw i (next .2);
                 is =
                     ap (λ (u : List Measure). u ++ measuresFrom s (recordsAt s n)) more
-                    ∙ append-assoc (measuresIn measures count) (measureAt s b ∷ []) (measuresFrom s (recordsAt s n))
-                    ∙ ap (λ (u : List Measure). measuresIn measures count ++ u) (sym front) ∙ h .is;
+                    ∙ append-assoc (measuresIn measures 0 count) (measureAt s b ∷ []) (measuresFrom s (recordsAt s n))
+                    ∙ ap (λ (u : List Measure). measuresIn measures 0 count ++ u) (sym front) ∙ h .is;
                 fit = λ j g. decided (ltb j count)
-                    (λ w. let i = ltb-true j count w in rw em (rw (measure-old measures count (v .function) (v .letter) (v .column) j i) (h .fit j i)))
+                    (λ w. let i = ltb-true j count w in rw em (rw (measure-old measures 0 count (v .function) (v .letter) (v .column) j i) (h .fit j i)))
                     (λ w. let i : j ≡ count = let u = ltb-false j count w in omega arith in rw (i, new) (says .1));
                 rest = λ j g. ap (λ (u : List ℕ). getD u j 0) em ∙ t .behind j (omega arith) ∙ h .rest j (omega arith);
               }

@@ -61,3 +61,9 @@ module _ (l : List ℕ) (at a b c : ℕ) where
     pub three-2 : getD (setThree l at a b c) (at + 2) 0 ≡ c
     unfolding setThree one two
     three-2 = let e = two-long in getD-set-same two (at + 2) c 0 (omega arith)
+
+-- three words that are three bytes, stored
+pub words-put : (l : List ℕ) (at a b c x y z : ℕ) → (x ≡ a) × (x < 256) → (y ≡ b) × (y < 256) → (z ≡ c) × (z < 256)
+    → (set (set (set l at x) (at + 1) y) (at + 2) z ≡ setThree l at a b c) × (a < 256) × (b < 256) × (c < 256)
+unfolding setThree
+words-put l at a b c x y z p q r = (rw (p .0, q .0, r .0), rw (p .0) at (p .1), rw (q .0) at (q .1), rw (r .0) at (r .1))

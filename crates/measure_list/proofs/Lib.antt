@@ -1,2 +1,4 @@
 pub mod Keeping
+pub mod OneMeasure
 pub mod Counting
+pub mod Tabling

@@ -1,23 +1,15 @@
--- The measures of a query in a lent array, three bytes each: function, letter, column.
+-- The measures of a query in a lent array, three bytes each: function, letter, column. The array is
+-- read as the words of a table are, from index 0 on (crates/table/specs/Measures).
 use mathlib.Core.Path.{_≡_}
 use mathlib.Core.Bool.{true}
 use mathlib.Core.List.{List}
 use Prim.Native.Nat.{ℕ, _+_, _*_, _≤_, _<_}
 use lib.ListN.{length, getD, set}
-use Rattle.rules.specs.Basics.{tabulate}
 use Rattle.rules.specs.Query.{Measure, functionFits, columnsOf, measuresFrom}
 use Rattle.records.specs.Read.{recordsAt}
 use Rattle.query.specs.Ahead.{Ahead}
+use Rattle.table.specs.Measures.{measureIn, measuresIn}
 use Rattle.measure_list.specs.declared.Measure.{Measure as Three}
-
--- measure number k
-unfoldable pub measureIn : List ℕ → ℕ → Measure
-measureIn measures k = record { function = getD measures (k * 3) 0; letter = getD measures (k * 3 + 1) 0; column = getD measures (k * 3 + 2) 0 }
-
--- the first `count` measures
-unfoldable pub measuresIn : List ℕ → ℕ → List Measure
-unfolding tabulate measureIn
-measuresIn measures count = tabulate count (measureIn measures)
 
 -- a measure's function, letter and column are within their values
 abbrev pub Fits : ℕ → Measure → Type 0
@@ -38,7 +30,24 @@ pub record MeasuresRoom (s : List ℕ) (from : ℕ) (measures : List ℕ) : Type
 
 pub record PutMeasures (s : List ℕ) (from : ℕ) (measures₀ measures : List ℕ) (r : ℕ) : Type 0 where
   pub long : length measures ≡ 24
-  pub is : measuresIn measures r ≡ measuresFrom s (recordsAt s from)
+  pub is : measuresIn measures 0 r ≡ measuresFrom s (recordsAt s from)
   pub few : r ≤ 8
-  pub fit : (k : ℕ) → k < r → Fits (columnsOf s) (measureIn measures k)
+  pub fit : (k : ℕ) → k < r → Fits (columnsOf s) (measureIn measures 0 k)
   pub rest : (j : ℕ) → r * 3 ≤ j → getD measures j 0 ≡ getD measures₀ j 0
+
+-- the first `count` measures are words of the table T from word `at` on, each below 256; the words
+-- before them and behind them are those of T₀
+pub record Tabled (measures : List ℕ) (count : ℕ) (T₀ T : List ℕ) (at : ℕ) : Type 0 where
+  pub long : length T ≡ length T₀
+  pub is : measuresIn T at count ≡ measuresIn measures 0 count
+  pub each : (k : ℕ) → k < count → measureIn T at k ≡ measureIn measures 0 k
+  pub bytes : (j : ℕ) → at ≤ j → j < at + count * 3 → getD T j 0 < 256
+  pub before : (j : ℕ) → j < at → getD T j 0 ≡ getD T₀ j 0
+  pub behind : (j : ℕ) → at + count * 3 ≤ j → getD T j 0 ≡ getD T₀ j 0
+
+-- the `count` measures from word `at` of the table T on can be read: their words are there, each is
+-- below 256, and each measure's function, letter and column are within their values
+pub record Measurable (T : List ℕ) (at count columns : ℕ) : Type 0 where
+  pub inside : at + count * 3 ≤ length T
+  pub bytes : (j : ℕ) → at ≤ j → j < at + count * 3 → getD T j 0 < 256
+  pub fit : (k : ℕ) → k < count → Fits columns (measureIn T at k)

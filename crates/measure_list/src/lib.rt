@@ -1,12 +1,14 @@
-// The measures of a query: the type Measure, and a lent array of three bytes for each of up to 8. A query comes here with no answer 1 to 3. What the array
-// holds afterwards: specs/Measures, `PutMeasures`.
+// The measures of a query: the type Measure, a lent array of three bytes for each of up to 8, and
+// the same measures as words of a table. A query comes here with no answer 1 to 3. What the array
+// and the table hold afterwards: specs/Measures, `PutMeasures` and `Tabled`.
 use records::Read;
 use records::record_at;
 ghost use mathlib.Core.Path.{_≡_};
 ghost use Prim.Native.Nat.{_+_, _*_, _≤_, _<_};
 ghost use lib.ListN.{length};
 ghost use Rattle.rules.specs.Query.{measureAt};
-ghost use Rattle.measure_list.specs.Measures.{measureIn, measureOf, setThree, MeasuresRoom, PutMeasures};
+ghost use Rattle.table.specs.Measures.{measureIn};
+ghost use Rattle.measure_list.specs.Measures.{measureOf, setThree, MeasuresRoom, PutMeasures, Tabled};
 
 // A measure of the query: the number of its function, the letter of its rows or 0 for all rows, and its column.
 pub struct Measure {
@@ -43,7 +45,7 @@ impl Measure {
 // Measure number k of the array.
 pub fn measure_at(measures: &[u8; 24], k: usize) -> Measure
     requires { ⌜ k < 8 ⌝ }
-    ensures { λ r. ⌜ measureOf r ≡ measureIn (now (measures .entry)) k ⌝ }
+    ensures { λ r. ⌜ measureOf r ≡ measureIn (now (measures .entry)) 0 k ⌝ }
 {
     let at = k * 3;
     Measure::make(measures[at], measures[at + 1], measures[at + 2])
@@ -89,4 +91,33 @@ pub fn put_measures(s: &[u8], from: usize, measures: &mut [u8; 24]) -> usize
         at = next;
     }
     count
+}
+
+// A byte as a word.
+fn word(x: u8) -> u16
+    ensures { λ r. ⌜ (r ≡ x) × (r < 256) ⌝ }
+{
+    x as u16
+}
+
+fn put_words(m: Measure, table: &mut [u16], at: usize)
+    requires { ⌜ at + 3 ≤ length (now table) ⌝ }
+    ensures { λ r. ⌜ (now (table .exit) ≡ setThree (now (table .entry)) at (m .function) (m .letter) (m .column))
+        × (m .function < 256) × (m .letter < 256) × (m .column < 256) ⌝ }
+{
+    table[at] = word(m.function);
+    table[at + 1] = word(m.letter);
+    table[at + 2] = word(m.column);
+}
+
+// The first `count` measures of the array as words of a table, from word `at` on.
+pub fn put_in_table(measures: &[u8; 24], count: usize, table: &mut [u16], at: usize)
+    requires { ⌜ (count ≤ 8) × (at + 24 ≤ length (now table)) ⌝ }
+    ensures { λ r. ⌜ Tabled (now (measures .entry)) count (now (table .entry)) (now (table .exit)) at ⌝ }
+{
+    let mut k = 0;
+    while k < count {
+        put_words(measure_at(measures, k), table, at + k * 3);
+        k += 1;
+    }
 }

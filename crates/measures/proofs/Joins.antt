@@ -10,22 +10,16 @@ use lib.ListN.{getD}
 use mathlib.Core.List.{List}
 use mir.Syntax.{w32, w64}
 use mir.Val.{SFits, toZ, ofZ}
-use mir.Facts.{toZ-ofZ, sfits-widen}
+use mir.Facts.{toZ-ofZ}
 use borrow.Author.Tests.{eq-eqb, ne-eqb, not-true, not-false, lt-ltb}
 use Rattle.rules.specs.Basics.{pick}
 use Rattle.rules.specs.Rows.{tableOf, entry}
 use Rattle.rules.specs.Report.{joined}
-use Rattle.rules.proofs.Signed.{mag-add, sum-fits, read-back, widened}
+use Rattle.rules.proofs.Signed.{mag-add, sum-fits, read-back}
 
 -- what a local of 64 bits holds
 abbrev pub held : ℤ → ℤ
 held z = toZ w64 (ofZ w64 z)
-
-pub wide-fits : (x : ℤ) → SFits w32 x → SFits w64 (toZ w32 (ofZ w32 x))
-wide-fits x f = rw (toZ-ofZ f) (sfits-widen tt f)
-
-pub wide-is : (x : ℤ) → SFits w32 x → (held (toZ w32 (ofZ w32 x)) ≡ x) × (mag (held (toZ w32 (ofZ w32 x))) < 2147483648)
-wide-is x f = rw (widened x f) (refl, f .sfits)
 
 -- the entry that was read
 pub entry-is : (rows : List ℤ) (columns row column : ℕ) (r : ℤ) → mag (getD rows (row * columns + column) (pos 0)) < 2147483648

@@ -1,5 +1,5 @@
--- The rows of a measure by the labels of a match: how many there are, the first and the last of them, which numbers are taken for LAST, and what SUM, MIN
--- and MAX give from the first on.
+-- The rows of a measure by the labels of a match: how many there are, the first and the last of them,
+-- and what SUM, MIN and MAX give from the first on.
 use mathlib.Core.Path.{_≡_, refl, sym, ap, _∙_}
 use mathlib.Core.Bool.{Bool, true, false, not}
 use mathlib.Core.List.{List, [], _∷_, _++_}
@@ -18,11 +18,11 @@ use Rattle.rules.specs.Basics.{pick, keep}
 use Rattle.rules.specs.Rows.{Table, entry}
 use Rattle.rules.specs.Report.{values, joined, joinAll, overSome, resultOf, measured, twoOf}
 use Rattle.rules.proofs.Signed.{read-back}
-use Rattle.measures.specs.declared.Outcome.{Outcome}
-use Rattle.measures.specs.declared.Outcome.the-variants.{Null, Number}
+use Rattle.measures.specs.declared.Value.{Value}
+use Rattle.measures.specs.declared.Value.the-variants.{Null, Number}
 use Rattle.measures.specs.declared.Found.{Found}
 use Rattle.measures.specs.declared.Found.the-variants.{At, Nothing}
-use Rattle.measures.specs.Measures.{measureBy, numbersFor, isOf, countOf, NoneIn, meansLast, FirstAt, IsFirst, LastAt, IsLast, Inside, Readable}
+use Rattle.measures.specs.Measures.{measureBy, numbersFor, isOf, countOf, NoneIn, FirstAt, IsFirst, LastAt, IsLast, Inside, Readable}
 use Rattle.measures.proofs.Joins.{held}
 
 -- ---- is a row one of them
@@ -147,34 +147,6 @@ module _ (letter : ℕ) (ls : List ℕ) where
   unfolding IsLast
   no-last found h e = rw e at h
 
--- ---- the numbers that are taken for LAST
-
-pub low-last : (f : ℕ) → f < 1 → true ≡ meansLast f
-unfolding meansLast
-low-last f h = simp (lt-ltb f 1 h)
-
-pub high-last : (f : ℕ) → 1 ≤ f → ltb 5 f ≡ meansLast f
-unfolding meansLast
-high-last f h = simp (le-ltb f 1 h)
-
-last-not : (f k : ℕ) → meansLast f ≡ true → 1 ≤ k → k ≤ 5 → f ≡ k → ⊥
-last-not f k h a b e =
-    let p = high-last f (omega arith) in
-    let q = ltb-true 5 f (p ∙ h) in
-    omega arith
-
--- the numbers of the other five
-module _ (f : ℕ) (t : Bool) (e : t ≡ meansLast f) (q : t ≡ false) where
-  pub others-from : 1 ≤ f
-  others-from = go (ltb f 1) refl
-    where
-      go : (u : Bool) → ltb f 1 ≡ u → 1 ≤ f
-      go true z = let w : true ≡ false = low-last f (ltb-true f 1 z) ∙ sym e ∙ q in let y : _≡_ {A = ℕ} 0 1 = cc in absurd (omega arith)
-      go false z = ltb-false f 1 z
-
-  pub others-upto : f ≤ 5
-  others-upto = ltb-false 5 f (high-last f others-from ∙ sym e ∙ q)
-
 -- ---- the entries of a measure's rows
 
 module _ (t : Table) (f letter column : ℕ) where
@@ -236,14 +208,14 @@ module _ (t : Table) (f letter column : ℕ) where
   front-stays e a [] = refl
   front-stays e a (x ∷ xs) = let j : joined f a x ≡ a = rw e in ap (λ (v : ℤ). joinAll f v xs) j ∙ front-stays e a xs
 
-  module _ (h : meansLast f ≡ true) where
-    other : (k : ℕ) → 1 ≤ k → k ≤ 5 → eqb f k ≡ false
-    other k l u = ne-eqb f k (last-not f k h l u)
+  module _ (h : f ≡ 6) where
+    other : (k : ℕ) → k ≤ 5 → eqb f k ≡ false
+    other k u = ne-eqb f k (λ e. omega arith)
 
     back-stays : (a : ℤ) (xs : List ℤ) (x : ℤ) → joinAll f a (xs ++ (x ∷ [])) ≡ x
     unfolding joinAll joined
     back-stays a [] x = simp
-        (other 2 (omega arith) (omega arith), other 3 (omega arith) (omega arith), other 4 (omega arith) (omega arith), other 5 (omega arith) (omega arith))
+        (other 2 (omega arith), other 3 (omega arith), other 4 (omega arith), other 5 (omega arith))
     back-stays a (y ∷ xs) x = back-stays (joined f a y) xs x
 
     over-back : (xs : List ℤ) (x : ℤ) → overSome f (xs ++ (x ∷ [])) ≡ some x
@@ -259,7 +231,7 @@ module _ (t : Table) (f letter column : ℕ) where
     unfolding measured resultOf
     over h = simp (ne-eqb f 1 h)
 
-    pub gives-none : (found : Found) (r : Outcome) → IsFirst letter ls found → found ≡ Nothing → numbersFor r ≡ twoOf (resultOf f []) → numbersFor r ≡ two
+    pub gives-none : (found : Found) (r : Value) → IsFirst letter ls found → found ≡ Nothing → numbersFor r ≡ twoOf (resultOf f []) → numbersFor r ≡ two
     unfolding measured
     gives-none found r h e q = q ∙ ap (λ (v : List ℤ). twoOf (resultOf f v)) (sym (entries-none first ls (no-first letter ls found h e)))
 
@@ -296,17 +268,17 @@ module _ (t : Table) (f letter column : ℕ) where
         let e : f ≡ 5 = omega arith in
         gives (held r) h1 (over-first at h e ∙ ap some (sym (read-back r (omega arith) ∙ q)))
 
-    pub last-null : (found : Found) → meansLast f ≡ true → IsLast letter ls found → found ≡ Nothing → numbersFor Null ≡ two
+    pub last-null : (found : Found) → f ≡ 6 → IsLast letter ls found → found ≡ Nothing → numbersFor Null ≡ two
     unfolding numbersFor twoOf overSome
-    last-null found n h e = sym (over (last-not f 1 n (omega arith) (omega arith))
+    last-null found n h e = sym (over (λ w. omega arith)
         ∙ ap (λ (v : List ℤ). twoOf (overSome f v)) (entries-none first ls (no-last letter ls found h e)))
 
-    pub gives-last : (at : ℕ) (r : ℤ) → meansLast f ≡ true → LastAt letter ls at → r ≡ entry t (first + at) column → mag r < 2147483648
+    pub gives-last : (at : ℕ) (r : ℤ) → f ≡ 6 → LastAt letter ls at → r ≡ entry t (first + at) column → mag r < 2147483648
         → numbersFor (Number (held r)) ≡ two
     gives-last at r n h q g =
         let e : entries first ls ≡ entries first (take at ls) ++ (entry t (first + at) column ∷ []) =
         entries-last first ls at (h .inside) (h .is-of) (λ k a b. h .none-behind k (omega arith) b) in
-        gives (held r) (last-not f 1 n (omega arith) (omega arith))
+        gives (held r) (λ w. omega arith)
         (ap (overSome f) e ∙ over-back n (entries first (take at ls)) (entry t (first + at) column) ∙ ap some (sym (read-back r (omega arith) ∙ q)))
 
     pub gives-joined : (k : ℕ) (r : ℤ) → mag r < 9223372036854775808 → f ≡ k → (k ≡ 1 → ⊥) → overSome k (values t (measureBy k letter column) first ls) ≡ some r
@@ -376,12 +348,11 @@ module _ (rows : List ℤ) (columns first long column : ℕ) (h : Readable rows 
       omega (arith, g .there)
 
 -- a measure's column as an index is that column
-pub same-column : (t : Table) (first : ℕ) (ls : List ℕ) (f letter column index : ℕ) (r : Outcome) → index ≡ column
+pub same-column : (t : Table) (first : ℕ) (ls : List ℕ) (f letter column index : ℕ) (r : Value) → index ≡ column
     → numbersFor r ≡ twoOf (measured t first ls (measureBy f letter index)) → numbersFor r ≡ twoOf (measured t first ls (measureBy f letter column))
 same-column t first ls f letter column index r e q = q ∙ ap (λ (c : ℕ). twoOf (measured t first ls (measureBy f letter c))) e
 
--- what is LAST's result is that of each number that is taken for it
-pub as-last : (t : Table) (first : ℕ) (ls : List ℕ) (f letter column index : ℕ) (r : Outcome) (b : Bool) → b ≡ meansLast f → b ≡ true → index ≡ column
-    → ((g : ℕ) → meansLast g ≡ true → numbersFor r ≡ twoOf (measured t first ls (measureBy g letter index)))
-    → numbersFor r ≡ twoOf (measured t first ls (measureBy f letter column))
-as-last t first ls f letter column index r b e q i h = same-column t first ls f letter column index r i (h f (sym e ∙ q))
+pub as-last : (t : Table) (first : ℕ) (ls : List ℕ) (f letter column index : ℕ) (r : Value) → f ≡ 6 → index ≡ column
+    → numbersFor r ≡ twoOf (measured t first ls (measureBy 6 letter index)) → numbersFor r ≡ twoOf (measured t first ls (measureBy f letter column))
+as-last t first ls f letter column index r e i q =
+    same-column t first ls f letter column index r i (q ∙ ap (λ (g : ℕ). twoOf (measured t first ls (measureBy g letter index))) (sym e))

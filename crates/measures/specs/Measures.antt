@@ -1,16 +1,18 @@
--- What the code of measures and matches works with: the measures in flat bytes, document 01's numbers for each case of an outcome, the first and the
--- last row with a letter, and when a match's rows can be read and its numbers written.
+-- What the code of measures and matches works with: document 01's numbers for each case of a
+-- measure's value, the first and the last row with a letter, and when a match's rows can be read and
+-- its numbers written.
 use mathlib.Core.Path.{_≡_}
 use mathlib.Core.Bool.{Bool, true, false, _||_}
 use mathlib.Core.List.{List, [], _∷_}
 use Prim.Native.Nat.{ℕ, _+_, _*_, _≤_, _<_}
-use lib.Dec.{eqb, ltb}
+use lib.Dec.{eqb}
 use lib.IntN.{ℤ, pos}
 use lib.ListN.{length, getD}
-use Rattle.rules.specs.Basics.{pick, tabulate}
+use Rattle.rules.specs.Basics.{pick}
 use Rattle.rules.specs.Query as Q
-use Rattle.measures.specs.declared.Outcome.{Outcome}
-use Rattle.measures.specs.declared.Outcome.the-variants.{Null, Number}
+use Rattle.measure_list.specs.Measures.{Measurable}
+use Rattle.measures.specs.declared.Value.{Value}
+use Rattle.measures.specs.declared.Value.the-variants.{Null, Number}
 use Rattle.measures.specs.declared.Found.{Found}
 use Rattle.measures.specs.declared.Found.the-variants.{At, Nothing}
 
@@ -18,14 +20,10 @@ use Rattle.measures.specs.declared.Found.the-variants.{At, Nothing}
 abbrev pub measureBy : ℕ → ℕ → ℕ → Q.Measure
 measureBy function letter column = record { function = function; letter = letter; column = column }
 
--- document 01's numbers for an outcome: 0 and 0 for null, 1 and the result for a number
-unfoldable pub numbersFor : Outcome → List ℤ
+-- document 01's numbers for a measure's value: 0 and 0 for null, 1 and the result for a number
+unfoldable pub numbersFor : Value → List ℤ
 numbersFor Null = pos 0 ∷ pos 0 ∷ []
 numbersFor (Number v) = pos 1 ∷ v ∷ []
-
--- a function's number that is taken for LAST: `joined` takes every number for it that is none of the other five
-unfoldable pub meansLast : ℕ → Bool
-meansLast f = ltb f 1 || ltb 5 f
 
 -- ---- the rows of a measure
 
@@ -75,20 +73,27 @@ pub record Readable (rows : List ℤ) (columns first long column : ℕ) : Type 0
   pub there : (first + long) * columns ≤ length rows
   pub is-column : column < columns
 
--- `count` measures can be read over these rows, and there is room for what they give
-pub record Reportable (numbers : List ℤ) (at : ℕ) (ms : List ℕ) (count : ℕ) (rows : List ℤ) (columns first long : ℕ) : Type 0 where
+-- the three words from index `at` on are there, and are bytes
+pub record ThreeBytes (T : List ℕ) (at : ℕ) : Type 0 where
+  pub inside : at + 3 ≤ length T
+  pub byte-0 : getD T at 0 < 256
+  pub byte-1 : getD T (at + 1) 0 < 256
+  pub byte-2 : getD T (at + 2) 0 < 256
+
+-- the `count` measures from word `words` of the table T on can be read over these rows, and there is
+-- room for what they give
+pub record Reportable (numbers : List ℤ) (at : ℕ) (T : List ℕ) (words count : ℕ) (rows : List ℤ) (columns first long : ℕ) : Type 0 where
   pub few : long ≤ 4096
   pub there : (first + long) * columns ≤ length rows
   pub room : at + count * 2 ≤ length numbers
-  pub measured : count * 3 ≤ length ms
-  pub columned : (k : ℕ) → k < count → getD ms (k * 3 + 2) 0 < columns
+  pub measured : Measurable T words count columns
 
--- match number `number` can be appended: its rows and its measures can be read, and there is room for its numbers
-pub record Appendable (numbers : List ℤ) (at number : ℕ) (ms : List ℕ) (count : ℕ) (rows : List ℤ) (columns first long : ℕ) : Type 0 where
+-- match number `number` can be appended: its rows and its measures can be read, and there is room for
+-- its numbers
+pub record Appendable (numbers : List ℤ) (at number : ℕ) (T : List ℕ) (words count : ℕ) (rows : List ℤ) (columns first long : ℕ) : Type 0 where
   pub few : long ≤ 4096
   pub there : (first + long) * columns ≤ length rows
   pub room : at + (3 + 2 * count) ≤ length numbers
-  pub measured : count * 3 ≤ length ms
-  pub columned : (k : ℕ) → k < count → getD ms (k * 3 + 2) 0 < columns
+  pub measured : Measurable T words count columns
   pub numbered : number ≤ 4096
   pub placed : first ≤ 4096

@@ -1,28 +1,22 @@
 // A measure of one match: FIRST, LAST, MIN, MAX, SUM and COUNT over the rows with a label.
 use measure_list::Measure;
+use numbers::long;
+use numbers::wide8;
 ghost use mathlib.Core.Path.{_≡_};
-ghost use mathlib.Core.Bool.{true};
 ghost use mathlib.Core.List.{[]};
 ghost use mathlib.Core.Option.{some};
-ghost use Prim.Native.Nat.{ℕ, _+_, _≤_, _<_};
-ghost use lib.IntN.{ℤ, pos, _+ℤ_};
+ghost use Prim.Native.Nat.{_+_, _≤_, _<_};
+ghost use lib.IntN.{pos, _+ℤ_};
 ghost use lib.Signed.{mag};
 ghost use lib.ListN.{length, drop};
 ghost use Rattle.rules.specs.Basics.{pick};
 ghost use Rattle.rules.specs.Rows.{tableOf, entry};
 ghost use Rattle.measure_list.specs.Measures.{measureOf};
 ghost use Rattle.rules.specs.Report.{joined, values, overSome, resultOf, measured, twoOf};
-ghost use Rattle.measures.specs.Measures.{measureBy, numbersFor, isOf, countOf, meansLast, FirstAt, IsFirst, IsLast, Inside, Readable};
+ghost use Rattle.measures.specs.Measures.{measureBy, numbersFor, isOf, countOf, FirstAt, IsFirst, IsLast, Inside, Readable};
 
-// A byte as an index.
-fn wide(x: u8) -> usize
-    ensures { λ r. ⌜ (r ≡ x) × (r < 256) ⌝ }
-{
-    x as usize
-}
-
-// What a measure gives.
-pub enum Outcome {
+// A measure's value.
+pub enum Value {
     Null,
     Number(i64),
 }
@@ -93,13 +87,6 @@ fn count_of(letter: u8, labels: &[u8], at: usize) -> usize
         i += 1;
     }
     count
-}
-
-// An entry of the rows, as a number of 64 bits.
-fn long(x: i32) -> i64
-    ensures { λ r. ⌜ (r ≡ x) × (mag r < 2147483648) ⌝ }
-{
-    x as i64
 }
 
 // The entry of a row that is there.
@@ -193,13 +180,13 @@ pub fn as_number(count: usize) -> i64
 }
 
 // COUNT of no rows is 0; the others are null.
-fn of_no_rows(function: u8) -> Outcome
+fn of_no_rows(function: u8) -> Value
     ensures { λ r. ⌜ numbersFor r ≡ twoOf (resultOf function []) ⌝ }
 {
     if function == Measure::COUNT {
-        return Outcome::Number(0);
+        return Value::Number(0);
     }
-    Outcome::Null
+    Value::Null
 }
 
 // A measure other than LAST that has rows, of which `at` is the first.
@@ -212,15 +199,15 @@ fn measure_from(
     first: usize,
     labels: &[u8],
     at: usize,
-) -> Outcome
+) -> Value
     requires { ⌜ (1 ≤ function) × (function ≤ 5) × Readable (now rows) columns first (length (now labels)) column × FirstAt letter (now labels) at ⌝ }
     ensures { λ r. ⌜ numbersFor r ≡ twoOf (measured (tableOf columns (now (rows .entry))) first (now (labels .entry)) (measureBy function letter column)) ⌝ }
 {
     if function == Measure::COUNT {
-        return Outcome::Number(as_number(count_of(letter, labels, at)));
+        return Value::Number(as_number(count_of(letter, labels, at)));
     }
     if function == Measure::SUM {
-        return Outcome::Number(joined_from(
+        return Value::Number(joined_from(
             Measure::SUM,
             letter,
             column,
@@ -232,7 +219,7 @@ fn measure_from(
         ));
     }
     if function == Measure::MIN {
-        return Outcome::Number(joined_from(
+        return Value::Number(joined_from(
             Measure::MIN,
             letter,
             column,
@@ -244,7 +231,7 @@ fn measure_from(
         ));
     }
     if function == Measure::MAX {
-        return Outcome::Number(joined_from(
+        return Value::Number(joined_from(
             Measure::MAX,
             letter,
             column,
@@ -255,17 +242,7 @@ fn measure_from(
             at,
         ));
     }
-    Outcome::Number(entry_at(rows, columns, first + at, column))
-}
-
-// Whether a function's number is taken for LAST: the definition takes every number for it that is none of the other five.
-fn means_last(function: u8) -> bool
-    ensures { λ r. ⌜ r ≡ meansLast function ⌝ }
-{
-    if function < Measure::COUNT {
-        return true;
-    }
-    Measure::FIRST < function
+    Value::Number(entry_at(rows, columns, first + at, column))
 }
 
 // LAST over the rows of a match: the first of them is not sought.
@@ -276,24 +253,23 @@ fn last_measure(
     columns: usize,
     first: usize,
     labels: &[u8],
-) -> Outcome
+) -> Value
     requires { ⌜ Readable (now rows) columns first (length (now labels)) column ⌝ }
-    ensures { λ r. ⌜ ((function : ℕ) → meansLast function ≡ true
-        → numbersFor r ≡ twoOf (measured (tableOf columns (now (rows .entry))) first (now (labels .entry)) (measureBy function letter column))) ⌝ }
+    ensures { λ r. ⌜ numbersFor r ≡ twoOf (measured (tableOf columns (now (rows .entry))) first (now (labels .entry)) (measureBy 6 letter column)) ⌝ }
 {
     let Found::At(last) = last_of(letter, labels) else {
-        return Outcome::Null;
+        return Value::Null;
     };
-    Outcome::Number(entry_at(rows, columns, first + last, column))
+    Value::Number(entry_at(rows, columns, first + last, column))
 }
 
 // A measure over the rows of a match: the labels are of the rows from `first` on.
-pub fn measure_of(m: Measure, rows: &[i32], columns: usize, first: usize, labels: &[u8]) -> Outcome
-    requires { ⌜ Readable (now rows) columns first (length (now labels)) (m .column) ⌝ }
+pub fn measure_of(m: Measure, rows: &[i32], columns: usize, first: usize, labels: &[u8]) -> Value
+    requires { ⌜ (1 ≤ m .function) × (m .function ≤ 6) × Readable (now rows) columns first (length (now labels)) (m .column) ⌝ }
     ensures { λ r. ⌜ numbersFor r ≡ twoOf (measured (tableOf columns (now (rows .entry))) first (now (labels .entry)) (measureOf m)) ⌝ }
 {
-    if means_last(m.function) {
-        return last_measure(m.letter, wide(m.column), rows, columns, first, labels);
+    if m.function == Measure::LAST {
+        return last_measure(m.letter, wide8(m.column), rows, columns, first, labels);
     }
     let Found::At(at) = first_of(m.letter, labels) else {
         return of_no_rows(m.function);
@@ -301,7 +277,7 @@ pub fn measure_of(m: Measure, rows: &[i32], columns: usize, first: usize, labels
     measure_from(
         m.function,
         m.letter,
-        wide(m.column),
+        wide8(m.column),
         rows,
         columns,
         first,

@@ -1,5 +1,6 @@
 // A pattern's node, a struct by value, and nodes kept as words in a lent slice, eight to a node. What is put is read back, and other
 // words are unchanged.
+use numbers::wide16;
 ghost use mathlib.Core.Path.{_≡_};
 ghost use Prim.Native.Nat.{ℕ, _+_, _*_, _-_, _≤_, _<_, _/_, _%_};
 ghost use lib.Dec.{eqb};
@@ -29,12 +30,6 @@ pub struct Node {
     pub right: usize,
     pub height: usize,
     pub places: usize,
-}
-
-fn wide(x: u16) -> usize
-    ensures { λ r. ⌜ (r ≡ x) × (r < 65536) ⌝ }
-{
-    x as usize
 }
 
 fn byte_of(w: u16) -> u8
@@ -98,7 +93,7 @@ pub fn places_at(room: &[u16], i: usize) -> usize
     requires { ⌜ 8 * i + 8 ≤ length (now room) ⌝ }
     ensures { λ r. ⌜ r ≡ (nodeAt (now (room .entry)) i) .places ⌝ }
 {
-    wide(room[i * 8 + 7])
+    wide16(room[i * 8 + 7])
 }
 
 // Number k of the node at i.
@@ -106,14 +101,14 @@ fn number_at(room: &[u16], i: usize, k: usize) -> usize
     requires { ⌜ (8 * i + 8 ≤ length (now room)) × (k < 8) ⌝ }
     ensures { λ r. ⌜ r ≡ getD (now (room .entry)) (i * 8 + k) 0 ⌝ }
 {
-    wide(room[i * 8 + k])
+    wide16(room[i * 8 + k])
 }
 
 fn form_at(room: &[u16], i: usize) -> usize
     requires { ⌜ 8 * i + 8 ≤ length (now room) ⌝ }
     ensures { λ r. ⌜ r ≡ getD (now (room .entry)) (i * 8 + 1) 0 / 2 ⌝ }
 {
-    wide(room[i * 8 + 1] / 2)
+    wide16(room[i * 8 + 1] / 2)
 }
 
 fn lazy_at(room: &[u16], i: usize) -> bool

@@ -15,9 +15,10 @@ use lib.ListN.{length, getD, set, length-set}
 use lib.Seq.{getD-set-same, getD-set-other}
 use Rattle.rules.specs.Report.{bitAt}
 use Rattle.rules.specs.Walk.{accept, try, Outcome, found, countTrue}
-use Rattle.rules.proofs.Machine.{firstOpen, resume, resume-accept, resume-pop, resume-push, Open, open-room, open-push, open-pop}
-use Rattle.rules.proofs.Notes.{marked, bitsOf, bitsOf-at, bitsFrom-length, bits-mark, bit-keep}
-use Rattle.rules.proofs.Walk.{All, count-mark}
+use Rattle.rules.proofs.Machine.{firstOpen, resume-accept, resume-pop, resume-push, open-room, open-push, open-pop}
+use Rattle.rules.specs.Working.{All, Open, bitsOf, marked, resume}
+use Rattle.rules.proofs.Notes.{bitsOf-at, bitsFrom-length, bits-mark, bit-keep}
+use Rattle.rules.proofs.Walk.{count-mark}
 use Rattle.pairs.specs.declared.Walk.{Walk}
 use Rattle.pairs.specs.Layout.{Layout, P, N, second, graphOf, passesBy, entryOf, mostPairs}
 use Rattle.table.specs.Table.{waysOf, codeAt}

@@ -3,7 +3,6 @@ use mathlib.Core.Path.{_≡_, refl, sym, ap, _∙_}
 use mathlib.Core.List.{List}
 use mathlib.Core.Bool.{Bool, true, false, not, _&&_, false≢true, true≢false}
 use Prim.Native.Nat.{ℕ, _+_, _-_, _*_, _/_, _%_, _≤_, _<_}
-use native.Mathlib.Nat.{mul-le-mul}
 use native.Mathlib.Omega.{arith}
 use lib.Dec.{eqb, ltb}
 use lib.IntN.{ℤ}
@@ -11,30 +10,20 @@ use lib.ListN.{length, getD, set}
 use borrow.Author.Tests.{ne-eqb, lt-ltb, le-ltb}
 use Rattle.rules.specs.Report.{bitAt}
 use Rattle.rules.specs.Rows.{tableOf, holds}
-use Rattle.rules.proofs.Notes.{marked}
-use Rattle.define_list.specs.Defines.{definedAt}
-use Rattle.tests.specs.Tests.{Letters, TestRoom}
+use Rattle.rules.specs.Working.{marked}
+use Rattle.table.specs.Tests.{testAt, definedIn, holdsIn}
 use Rattle.pairs.specs.declared.Walk.{Walk}
-use Rattle.pairs.specs.Letters.{holdsIn}
 use Rattle.table.specs.Table.{codeAt, firstAt, countAt}
-use Rattle.pairs.specs.Layout.{Layout, layout, P, entryOf, passesBy}
+use Rattle.pairs.specs.Layout.{Layout, layout, P, entryOf, passesBy, mostPairs}
 use Rattle.pairs.specs.Step.{oneUnless, mem, walkAt, tryAt, after, opens, openedBy, openIf, enteredBy, Noted, Enters}
 use Rattle.pairs.proofs.Trying.{letter-in}
 
 -- ---- a letter
 
-module _ (tests query : List ℕ) (rows : List ℤ) (columns n c row : ℕ)
-    (h : (row ≤ n) × (c < 26) × Letters tests query rows columns n) where
-  pub letter-base : row * columns ≤ 4096 * 8
-  letter-base = let l = h .2 in let a = h .0 in let m = l .most in mul-le-mul (let z : row ≤ 4096 = omega arith in z) (l .few)
-
-  pub letter-room : (i : ℕ) → i ≡ c → TestRoom tests query i rows columns n row (row * columns)
-  letter-room i e = record { letters = h .2; letter = rw e (h .1); upto = h .0; first = refl }
-
-  pub letter-is : (i : ℕ) (r : Bool) → i ≡ c → r ≡ (ltb row n && holds (tableOf columns rows) row (definedAt query (getD tests (i * 8 + 7) 0)))
-      → r ≡ passesBy (holdsIn rows columns query tests) n c row
-  unfolding holdsIn passesBy
-  letter-is i r e d = let z : c + 65 - 65 ≡ i = omega arith in rw (lt-ltb c 26 (h .1), z) d
+pub letter-is : (T : List ℕ) (tests columns : ℕ) (rows : List ℤ) (n c row : ℕ) (r : Bool) → c < 26
+    → r ≡ (ltb row n && holds (tableOf columns rows) row (definedIn T columns (testAt tests c))) → r ≡ passesBy (holdsIn T tests columns rows) n c row
+unfolding holdsIn passesBy
+letter-is T tests columns rows n c row r h d = let z : c + 65 - 65 ≡ c = omega arith in rw (lt-ltb c 26 h, z) d
 
 -- ---- a place passes
 
@@ -132,16 +121,28 @@ module _ (words : List ℕ) (q k : ℕ) (ek : k ≡ countAt words q) (few : q < 
 
 -- ---- what `enter` needs and does, one law for each way through its code
 
-module _ (T : Layout) (n : ℕ) (notes trail : List ℕ) (w : Walk) (h : Enters T n notes trail w) (c : ℕ) (ec : (c ≡ codeAt (T .words) (w .place)) × (c < 65536)) where
-  pub fork-noted : c ≡ 28 → Noted notes (w .base + (w .place + 1))
-  fork-noted e = let z : codeAt (T .words) (w .place) ≡ 28 = sym (ec .0) ∙ e in rw (h .near z .0) at (h .other (omega arith) (omega arith))
+module _ (n : ℕ) (words : List ℕ) (P : ℕ) (notes trail : List ℕ) (w : Walk) (h : Enters (layout words P) n notes trail w) (c : ℕ) (ec : (c ≡ codeAt words (w .place)) × (c < 65536)) where
+  fork-noted : c ≡ 28 → Noted notes (w .base + (w .place + 1))
+  fork-noted e = let z : codeAt words (w .place) ≡ 28 = sym (ec .0) ∙ e in rw (h .near z .0) at (h .other (omega arith) (omega arith))
 
-  module _ (x : ℕ) (ex : (x ≡ firstAt (T .words) (w .place)) × (x < 65536)) where
-    pub anchor-noted : 26 ≤ c → c ≤ 29 → Noted notes (w .base + x)
+  pub fork-small : c ≡ 28 → w .base + (w .place + 1) < mostPairs
+  fork-small e = fork-noted e .0
+
+  pub fork-inside : c ≡ 28 → (w .base + (w .place + 1)) / 8 < length notes
+  fork-inside e = fork-noted e .1
+
+  module _ (x : ℕ) (ex : (x ≡ firstAt words (w .place)) × (x < 65536)) where
+    anchor-noted : 26 ≤ c → c ≤ 29 → Noted notes (w .base + x)
     anchor-noted l m = rw (ex .0) (h .other (omega (arith, ec .0)) (omega (arith, ec .0)))
 
-    pub letter-noted : (holds : ℕ → ℕ → Bool) (r : Bool) → c < 26 → r ≡ passesBy holds n c (w .row) → not r ≡ false → Noted notes (w .base + P T + x)
-    letter-noted holds r l e t = rw (ex .0) (h .letter (omega (arith, ec .0)) (letter-in holds n c (w .row) l (sym e ∙ open-of r t)))
+    pub anchor-small : 26 ≤ c → c ≤ 29 → w .base + x < mostPairs
+    anchor-small l m = anchor-noted l m .0
+
+    pub anchor-inside : 26 ≤ c → c ≤ 29 → (w .base + x) / 8 < length notes
+    anchor-inside l m = anchor-noted l m .1
+
+    pub letter-inside : (holds : ℕ → ℕ → Bool) (r : Bool) → c < 26 → r ≡ passesBy holds n c (w .row) → not r ≡ false → (w .base + P + x) / 8 < length notes
+    letter-inside holds r l e t = let a : Noted notes (w .base + P + x) = rw (ex .0) (h .letter (omega (arith, ec .0)) (letter-in holds n c (w .row) l (sym e ∙ open-of r t))) in a .1
 
 module _ (holds : ℕ → ℕ → Bool) (n : ℕ) (words : List ℕ) (P : ℕ) (notes trail : List ℕ) (w : Walk) (h : Enters (layout words P) n notes trail w) where
   abbrev code : ℕ
@@ -204,12 +205,16 @@ module _ (holds : ℕ → ℕ → Bool) (n : ℕ) (words : List ℕ) (P : ℕ) (
               let v : w .place ≡ entry = entry-one words (w .place) (omega (arith, h .one (omega (arith, low)))) in
               entered-letter notes trail w code entry (firstAt words (w .place)) P passing trail′ (pushed (w .place) trail′ v et) _ passes low x (ex .0) (sym ef ∙ o) refl
 
-        -- any other place that passes
-        module _ (v : ℕ) (ev : (v ≡ entry) × (v < 16779264)) (trail′ : List ℕ) (et : Pushed v trail′) where
-          pub enter-end : 29 < c → EntersTo notes trail′ (walkAt (w .top + 1) (w .steps + 1) (w .place) (w .row) (w .base) 2)
-          enter-end l = entered-end notes trail w code entry (firstAt words (w .place)) P passing trail′ (pushed v trail′ (ev .0) et) _ passes (omega (arith, as-code, l)) refl
+    -- any other place, of which it is told whether it passes, whatever letters hold
+    module _ (p : Bool) (ea : (holds : ℕ → ℕ → Bool) → p ≡ passesBy holds n c (w .row)) where
+      pub anchor-shut : not p ≡ true → (notes′ : List ℕ) (r : Walk) → Fallen notes′ r → EntersTo notes′ trail r
+      anchor-shut = enter-shut p (ea holds)
 
-          pub enter-anchor : 26 ≤ c → c ≤ 29 → (x : ℕ) → (x ≡ firstAt words (w .place)) × (x < 65536) → (r : Walk) → r ≡ tryAt notes (w .top + 1) (w .steps + 1) x (w .row) (w .base)
-              → EntersTo notes trail′ r
-          enter-anchor l m x ex r er =
-              entered-other notes trail w code entry (firstAt words (w .place)) P passing trail′ (pushed v trail′ (ev .0) et) r passes (omega (arith, as-code, l)) (omega (arith, as-code, m)) x (ex .0) er
+      module _ (t : not p ≡ false) (v : ℕ) (ev : (v ≡ entry) × (v < 16779264)) (trail′ : List ℕ) (et : Pushed v trail′) where
+        pub enter-end : 29 < c → EntersTo notes trail′ (walkAt (w .top + 1) (w .steps + 1) (w .place) (w .row) (w .base) 2)
+        enter-end l = entered-end notes trail w code entry (firstAt words (w .place)) P passing trail′ (pushed v trail′ (ev .0) et) _ (passes p (ea holds) t) (omega (arith, as-code, l)) refl
+
+        pub enter-anchor : 26 ≤ c → c ≤ 29 → (x : ℕ) → (x ≡ firstAt words (w .place)) × (x < 65536) → (r : Walk) → r ≡ tryAt notes (w .top + 1) (w .steps + 1) x (w .row) (w .base)
+            → EntersTo notes trail′ r
+        enter-anchor l m x ex r er =
+            entered-other notes trail w code entry (firstAt words (w .place)) P passing trail′ (pushed v trail′ (ev .0) et) r (passes p (ea holds) t) (omega (arith, as-code, l)) (omega (arith, as-code, m)) x (ex .0) er

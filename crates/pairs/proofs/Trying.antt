@@ -16,7 +16,8 @@ use Rattle.rules.specs.Basics.{pick}
 use Rattle.rules.specs.Report.{bitAt}
 use Rattle.rules.specs.Walk.{try, Outcome}
 use Rattle.rules.proofs.Machine.{firstOpen}
-use Rattle.rules.proofs.Notes.{bitsOf, bitsOf-at}
+use Rattle.rules.proofs.Notes.{bitsOf-at}
+use Rattle.rules.specs.Working.{bitsOf}
 use Rattle.rules.proofs.Level.{and-true}
 use Rattle.pairs.specs.declared.Walk.{Walk}
 use Rattle.pairs.specs.Layout.{Layout, P, N, second, graphOf, passesBy, entryOf}

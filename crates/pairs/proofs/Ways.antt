@@ -14,7 +14,7 @@ use borrow.Author.Tests.{ne-eqb, eqb-false, lt-ltb, le-ltb, ltb-true, ltb-false}
 use Rattle.rules.specs.Basics.{pick}
 use Rattle.rules.specs.Places.{Place, pLetter, pCaret, pDollar, pFork, pEnd}
 use Rattle.rules.specs.Walk.{Ways, accept, try, waysAt, pairWays}
-use Rattle.rules.proofs.Walk.{All}
+use Rattle.rules.specs.Working.{All}
 use Rattle.pairs.specs.Layout.{Layout, P, leftFrom, second, graphOf, passesBy, Sized, Leads}
 use Rattle.table.specs.Table.{laterBy, laterWay, laterWays, waysOf, placeBy, placeAt, placesFrom, placesIn, codeAt, firstAt, laterAt, countAt}
 use Rattle.pairs.specs.State.{takes}

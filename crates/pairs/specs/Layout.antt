@@ -2,15 +2,18 @@
 -- the walk relies on.
 use mathlib.Core.Path.{_≡_}
 use mathlib.Core.List.{List}
+use lib.IntN.{ℤ}
 use mathlib.Core.Bool.{Bool, true, _&&_}
 use Prim.Native.Nat.{ℕ, _+_, _-_, _*_, _≤_, _<_}
 use lib.Dec.{ltb, eqb}
 use Rattle.rules.specs.Basics.{pick}
 use Rattle.rules.specs.Places.{Place, pLetter, pCaret, pDollar, pFork, pEnd}
 use Rattle.rules.specs.Walk.{Ways, pairs, pairWays}
-use Rattle.rules.proofs.Walk.{All, Falls}
+use Rattle.rules.specs.Working.{All, Falls}
 use Rattle.table.specs.Table.{codeAt, firstAt, laterAt, countAt, waysOf, placeAt, placesIn}
 use Rattle.table.specs.Sized as S
+use Rattle.table.specs.Tests.{Letters, holdsIn}
+use Rattle.table.specs.declared.Extent.{Extent}
 
 pub record Layout : Type 0 where
   pub words : List ℕ
@@ -18,6 +21,22 @@ pub record Layout : Type 0 where
 
 abbrev pub layout : List ℕ → ℕ → Layout
 layout ws P = record { words = ws; places = P }
+
+-- ---- a prepared query by its table T and the extent of its search
+
+-- its places
+abbrev pub layoutOf : List ℕ → Extent → Layout
+layoutOf T size = layout T (size .places)
+
+-- which letters hold at a row
+abbrev pub lettersOf : List ℕ → List ℤ → Extent → ℕ → ℕ → Bool
+lettersOf T rows size = holdsIn T (size .tests) (size .columns) rows
+
+-- its letters can be tested
+abbrev pub Tested : List ℕ → List ℤ → Extent → Type 0
+Tested T rows size = Letters T (size .tests) rows (size .columns) (size .rows)
+
+-- ---- its pairs
 
 -- how many places
 abbrev pub P : Layout → ℕ

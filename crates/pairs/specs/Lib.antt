@@ -1,4 +1,3 @@
 pub mod Layout
-pub mod Letters
 pub mod Step
 pub mod State

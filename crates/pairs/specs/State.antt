@@ -9,9 +9,7 @@ use lib.ListN.{length, getD}
 use Rattle.rules.specs.Places.{Place, pLetter, pCaret, pDollar, pFork, pEnd}
 use Rattle.rules.specs.Report.{bitAt}
 use Rattle.rules.specs.Walk.{Outcome, enterUnless, inside, countTrue}
-use Rattle.rules.proofs.Machine.{Open, resume}
-use Rattle.rules.proofs.Notes.{bitsOf}
-use Rattle.rules.proofs.Walk.{All}
+use Rattle.rules.specs.Working.{All, Open, bitsOf, resume}
 use Rattle.pairs.specs.declared.Walk.{Walk}
 use Rattle.pairs.specs.Layout.{Layout, P, N, Sized, Legal, second, leftFrom, graphOf, passesBy}
 use Rattle.table.specs.Table.{waysOf, placeAt, codeAt, countAt}

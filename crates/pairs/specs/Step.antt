@@ -11,7 +11,7 @@ use lib.ListN.{length, getD, set}
 use Rattle.rules.specs.Basics.{pick}
 use Rattle.rules.specs.Report.{bitAt}
 use Rattle.rules.specs.Walk.{Outcome, found, failed}
-use Rattle.rules.proofs.Notes.{marked}
+use Rattle.rules.specs.Working.{marked}
 use Rattle.table.specs.Table.{codeAt, firstAt, countAt}
 use Rattle.table.specs.Sized.{mostPlaces}
 use Rattle.pairs.specs.declared.Walk.{Walk}

@@ -1,22 +1,15 @@
 // What an attempt of the counted walk does with one pair of a place and a row: the notes (a bit for each pair: it has failed), the trail (the open pairs), and
 // where the walk is then. A pair is the number row * P + place. This is the one file that knows how a pair is numbered in the notes and written on the trail.
+use numbers::wide32;
 use table::count_at;
 ghost use mathlib.Core.Path.{_≡_};
 ghost use mathlib.Core.Bool.{Bool, false};
 ghost use Prim.Native.Nat.{ℕ, _+_, _*_, _/_, _<_, _≤_};
 ghost use lib.ListN.{length, set, getD};
 ghost use Rattle.rules.specs.Report.{bitAt};
-ghost use Rattle.rules.proofs.Notes.{marked};
+ghost use Rattle.rules.specs.Working.{marked};
 ghost use Rattle.pairs.specs.Layout.{passesBy, entryOf, mostPairs};
 ghost use Rattle.pairs.specs.Step.{walkAt, oneUnless, tryAt, after, wentOn, placeIn, rowIn, wayIn};
-
-// How far a search reaches: the rows n, the columns of a row, and the places P.
-#[repr(C)]
-pub struct Extent {
-    pub rows: usize,
-    pub columns: usize,
-    pub places: usize,
-}
 
 // Where a walk is: how many pairs are open, and the steps so far; the pair that was tried last, by its place, its row and its row times P; and what is to be
 // done about that pair. All are numbers, as a struct of whole words has no padding to be copied.
@@ -43,12 +36,6 @@ const ROW: usize = 2048;
 const ROWS: usize = 8192;
 
 const WAY: usize = 16777216;
-
-fn wide32(x: u32) -> usize
-    ensures { λ r. ⌜ (r ≡ x) × (r < 4294967296) ⌝ }
-{
-    x as usize
-}
 
 // The number at an index of the trail.
 pub fn open_at(trail: &[u32], at: usize) -> usize

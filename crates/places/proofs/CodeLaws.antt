@@ -12,7 +12,8 @@ use Rattle.rules.specs.Language.{Form, star, plus, opt, exactly, atLeast, atMos
 use Rattle.rules.specs.Places.{Unrolled, uEmpty, uSeq, uAlt, uOpt, uStar, Branches, copies, options, behind, repeated, forked, unrolled, unroll, Place, pFork, waysInTurn, size, startOf, startsOf, code, codes, fork, placeCount}
 use Rattle.rules.proofs.Rank.{code-length, codes-length}
 use Rattle.rules.proofs.Counting.{forked-more, forked-size, unrolled-size}
-use Rattle.rules.proofs.Distinct.{distinct, thinPlace, thinned, thinned-append, thinned-length}
+use Rattle.rules.proofs.Distinct.{thinned-append, thinned-length}
+use Rattle.rules.specs.Working.{distinct, thinPlace, thinned}
 use Rattle.marks.specs.Shows.{highest, highOf}
 use Rattle.pattern.specs.Held.{body, lowOf, highestOf, lazyOf}
 use Rattle.pattern.proofs.ByNode.{Bounded}

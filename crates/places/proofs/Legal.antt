@@ -11,11 +11,10 @@ use Rattle.rules.specs.Language.{Tree, pattern, emptyLoop}
 use Rattle.rules.specs.Places.{Place, pFork, unroll, places, placesOf}
 use Rattle.rules.specs.Walk.{pairs, pairWays}
 use Rattle.rules.proofs.Counting.{legal-unroll, places-counted}
-use Rattle.rules.proofs.Distinct.{thinned}
+use Rattle.rules.specs.Working.{Falls, thinned}
 use Rattle.rules.proofs.PatternWalk.{top}
 use Rattle.rules.proofs.Rank.{rank}
 use Rattle.rules.proofs.ThinPlaces.{Leads, thinned-leads, thinned-falls}
-use Rattle.rules.proofs.Walk.{Falls}
 use Rattle.table.specs.Table.{placeAt, placesFrom, placesIn}
 
 -- ---- the places of a table

@@ -1,9 +1,9 @@
 // A query's bytes judged: answers 1, 2 and 3 in one pass over the records. Each record read answers Record or Cut.
 // The promises are equations with document 01's tests over the whole query, for all byte strings; records are read by the crate records, and the rules for
 // their fields stand in the crate fields.
+use numbers::wide8;
 use records::Read;
 use records::record_at;
-use records::wide;
 ghost use mathlib.Core.Path.{_≡_};
 ghost use mathlib.Core.Bool.{true, false, _&&_};
 ghost use Prim.Native.Nat.{_+_, _*_, _-_, _≤_, _<_};
@@ -79,7 +79,7 @@ fn after(stage: Stage, kind: usize) -> Stage
 fn byte_or_zero(s: &[u8], at: usize) -> usize
     ensures { λ r. ⌜ r ≡ getD (now (s .entry)) at 0 ⌝ }
 {
-    if at < s.len() { wide(s[at]) } else { 0 }
+    if at < s.len() { wide8(s[at]) } else { 0 }
 }
 
 // The columns that a record's fields are judged by: those of the record itself where it is the first, else those known before it.

@@ -31,7 +31,8 @@ use Rattle.judge.specs.declared.Verdict.{Verdict}
 use Rattle.judge.specs.Judged.{textTests, textAnswer, Judging}
 use Rattle.reading.specs.declared.Query.{Query}
 use Rattle.reading.specs.declared.Size.{Size}
-use Rattle.measure_list.specs.Measures.{measureIn, measuresIn, Fits}
+use Rattle.measure_list.specs.Measures.{Fits}
+use Rattle.table.specs.Measures.{measureIn, measuresIn}
 use Rattle.decode.specs.Layout.{Decoded}
 use Rattle.decode.specs.Layout.{Room}
 use Rattle.reading.specs.Reading.{knownIn, foreignIn, queryAnswer, refusal, JudgeRoom, JudgedParts, Nodes, Space, Whole, Asked, asRoom}
@@ -51,7 +52,7 @@ letter-looked text l r d e = rw (e, ne-eqb l 0 d)
 -- the first k measures' letters are known
 pub record Known (text measures : List ℕ) (count k : ℕ) : Type 0 where
   pub within : k ≤ count
-  pub is : every (λ (m : Measure). knownIn text (m .letter)) (measuresIn measures k) ≡ true
+  pub is : every (λ (m : Measure). knownIn text (m .letter)) (measuresIn measures 0 k) ≡ true
 
 module _ {A : Type 0} (g : A → Bool) where
   every-append : (xs ys : List A) → every g (xs ++ ys) ≡ (every g xs && every g ys)
@@ -93,18 +94,18 @@ module _ (text measures : List ℕ) (count : ℕ) where
   unfolding every measuresIn tabulate
   known-none = record { within = omega arith; is = refl }
 
-  pub known-more : (k : ℕ) (m : Measure) (r : Bool) → Known text measures count k → k < count → m ≡ measureIn measures k → r ≡ knownIn text (m .letter) → not r ≡ false
+  pub known-more : (k : ℕ) (m : Measure) (r : Bool) → Known text measures count k → k < count → m ≡ measureIn measures 0 k → r ≡ knownIn text (m .letter) → not r ≡ false
       → Known text measures count (k + 1)
   unfolding measuresIn
   known-more k m r i h e q d =
-      let t : knownIn text (measureIn measures k .letter) ≡ true = ap (λ (m : Measure). knownIn text (m .letter)) (sym e) ∙ sym q ∙ not-false r d in
-      record { within = omega arith; is = rw (add-one, every-more (λ (m : Measure). knownIn text (m .letter)) (measureIn measures) k, i .is) t }
+      let t : knownIn text (measureIn measures 0 k .letter) ≡ true = ap (λ (m : Measure). knownIn text (m .letter)) (sym e) ∙ sym q ∙ not-false r d in
+      record { within = omega arith; is = rw (add-one, every-more (λ (m : Measure). knownIn text (m .letter)) (measureIn measures 0) k, i .is) t }
 
-  pub known-stop : (k : ℕ) (m : Measure) (r : Bool) → k < count → m ≡ measureIn measures k → r ≡ knownIn text (m .letter) → not r ≡ true → true ≡ foreignIn text measures count
+  pub known-stop : (k : ℕ) (m : Measure) (r : Bool) → k < count → m ≡ measureIn measures 0 k → r ≡ knownIn text (m .letter) → not r ≡ true → true ≡ foreignIn text measures count
   unfolding foreignIn measuresIn
   known-stop k m r h e q d =
-      let z : knownIn text (measureIn measures k .letter) ≡ false = ap (λ (m : Measure). knownIn text (m .letter)) (sym e) ∙ sym q ∙ not-true r d in
-      rw (every-stop (λ (m : Measure). knownIn text (m .letter)) (measureIn measures) count k h z)
+      let z : knownIn text (measureIn measures 0 k .letter) ≡ false = ap (λ (m : Measure). knownIn text (m .letter)) (sym e) ∙ sym q ∙ not-true r d in
+      rw (every-stop (λ (m : Measure). knownIn text (m .letter)) (measureIn measures 0) count k h z)
 
   pub known-all : (k : ℕ) → Known text measures count k → count ≤ k → false ≡ foreignIn text measures count
   unfolding foreignIn
@@ -199,13 +200,13 @@ letter-known p text l w e = rw (letters-of-text w l) (go (eqb l 0) (isLetter l) 
     go false false c q = clash q
 
 -- answer 9 by the text
-pub foreign-is : (s measures : List ℕ) (count columns : ℕ) (p : Tree pattern) → treeIn s ≡ some p → ((k : ℕ) → k < count → Fits columns (measureIn measures k))
-    → measuresIn measures count ≡ parts s .measures → foreign s ≡ foreignIn (textOf s) measures count
+pub foreign-is : (s measures : List ℕ) (count columns : ℕ) (p : Tree pattern) → treeIn s ≡ some p → ((k : ℕ) → k < count → Fits columns (measureIn measures 0 k))
+    → measuresIn measures 0 count ≡ parts s .measures → foreign s ≡ foreignIn (textOf s) measures count
 unfolding foreign foreignIn lettersIn treeIn measuresIn
 foreign-is s measures count columns p e f q =
     let w : Written p (textOf s) = tree-exactly (textOf s) p .0 e in
-    rw (e, ← q) (ap not (every-same (λ (m : Measure). eqb (m .letter) 0 || has (m .letter) (letters p)) (λ (m : Measure). knownIn (textOf s) (m .letter)) (measureIn measures) count
-    (λ k l. letter-known p (textOf s) (measureIn measures k .letter) w (letter-fits columns (measureIn measures k .function) (measureIn measures k .letter) (measureIn measures k .column) (f k l)))))
+    rw (e, ← q) (ap not (every-same (λ (m : Measure). eqb (m .letter) 0 || has (m .letter) (letters p)) (λ (m : Measure). knownIn (textOf s) (m .letter)) (measureIn measures 0) count
+    (λ k l. letter-known p (textOf s) (measureIn measures 0 k .letter) w (letter-fits columns (measureIn measures 0 k .function) (measureIn measures 0 k .letter) (measureIn measures 0 k .column) (f k l)))))
 
 -- ---- judging the parts
 

@@ -14,7 +14,8 @@ use Rattle.rules.specs.Language.{Tree, pattern}
 use Rattle.rules.specs.Answers as A
 use Rattle.rules.specs.Answers.{firstOf, queryTests, offsetAt, treeIn, P}
 use Rattle.pattern.specs.Held.{Top}
-use Rattle.measure_list.specs.Measures.{measureIn, measuresIn, Fits}
+use Rattle.measure_list.specs.Measures.{Fits}
+use Rattle.table.specs.Measures.{measureIn, measuresIn}
 use Rattle.decode.specs.Layout.{Decoded}
 use Rattle.decode.specs.declared.Parts.{Parts}
 use Rattle.reading.specs.declared.Query.{Query}
@@ -27,7 +28,7 @@ knownIn text letter = eqb letter 0 || has letter text
 
 unfoldable pub foreignIn : List ℕ → List ℕ → ℕ → Bool
 unfolding every knownIn measuresIn
-foreignIn text measures count = not (every (λ (m : Measure). knownIn text (m .letter)) (measuresIn measures count))
+foreignIn text measures count = not (every (λ (m : Measure). knownIn text (m .letter)) (measuresIn measures 0 count))
 
 -- the answer 1 to 9 or 14 of a query, or 0
 unfoldable pub queryAnswer : List ℕ → ℕ
@@ -45,8 +46,8 @@ pub record JudgeRoom (s room measures : List ℕ) (p : Parts) : Type 0 where
   pub inside : p .start + p .len ≤ length s
   pub short : p .len ≤ 256
   pub few : p .measures ≤ 8
-  pub fit : (k : ℕ) → k < p .measures → Fits (p .columns) (measureIn measures k)
-  pub measured : measuresIn measures (p .measures) ≡ parts s .measures
+  pub fit : (k : ℕ) → k < p .measures → Fits (p .columns) (measureIn measures 0 k)
+  pub measured : measuresIn measures 0 (p .measures) ≡ parts s .measures
   pub doubled : p .twice ≡ doubled s
   pub space : 16 * p .len ≤ length room
 

@@ -1,9 +1,10 @@
 // A query's bytes as records: each record read answers an enum, Record or Cut.
 // The promise is an equation with document 01's definition, at every index inside the query.
+use numbers::le16_at;
+use numbers::wide8;
 ghost use mathlib.Core.Path.{_≡_};
 ghost use Prim.Native.Nat.{_+_, _*_, _-_, _<_};
 ghost use lib.ListN.{length, getD};
-ghost use Rattle.rules.specs.Basics.{le16};
 ghost use Rattle.records.specs.Read.{readAt};
 
 // What stands at an index of the query: a whole record (its body starts at start and is len bytes long, and next is behind it), or Cut.
@@ -17,27 +18,12 @@ pub enum Read {
     Cut,
 }
 
-// A byte as an index.
-pub fn wide(x: u8) -> usize
-    ensures { λ r. ⌜ (r ≡ x) × (r < 256) ⌝ }
-{
-    x as usize
-}
-
 // The byte at an index of the query.
 pub fn byte(s: &[u8], at: usize) -> usize
     requires { ⌜ at < length (now s) ⌝ }
     ensures { λ r. ⌜ (r ≡ getD (now (s .entry)) at 0) × (r < 256) ⌝ }
 {
-    wide(s[at])
-}
-
-// The number in two bytes, the lowest first.
-fn number_at(s: &[u8], at: usize) -> usize
-    requires { ⌜ at + 1 < length (now s) ⌝ }
-    ensures { λ r. ⌜ (r ≡ le16 (now (s .entry)) at) × (r < 65536) ⌝ }
-{
-    wide(s[at]) + wide(s[at + 1]) * 256
+    wide8(s[at])
 }
 
 // The record at an index below the query's end.
@@ -48,12 +34,12 @@ pub fn record_at(s: &[u8], at: usize) -> Read
     if s.len() - at < 4 {
         return Read::Cut;
     }
-    let len = number_at(s, at);
+    let len = le16_at(s, at);
     let start = at + 4;
     if s.len() - start < len {
         return Read::Cut;
     }
-    let kind = number_at(s, at + 2);
+    let kind = le16_at(s, at + 2);
     Read::Record {
         kind,
         start,

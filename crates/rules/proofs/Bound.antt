@@ -14,7 +14,8 @@ use Rattle.rules.specs.Search.{pathPairs, Match, Plan, below, byFit, onA
 use Rattle.rules.specs.Walk.{IsPath, here, there, Ways, try, countTrue, orNext, firstOf, onto, plain, plainBy}
 use Rattle.rules.proofs.Plain.{plain-path, plain-down, Sound}
 use Rattle.rules.proofs.Swept.{Counted, walk-is-plain, walk-counted}
-use Rattle.rules.proofs.Walk.{All, All-map, All-append, All-at, Out, Falls, Apart, room, out-of-not-in}
+use Rattle.rules.proofs.Walk.{All-map, All-append, All-at, Apart, room, out-of-not-in}
+use Rattle.rules.specs.Working.{All, Falls, Out}
 
 -- ---- a pair that has a path does not fail
 

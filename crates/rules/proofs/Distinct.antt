@@ -18,20 +18,8 @@ use Rattle.rules.specs.Walk.{Ways, accept, try, Outcome, found, failed, 
 use Rattle.rules.proofs.Level.{legal}
 use Rattle.rules.proofs.Rank.{rank}
 use Rattle.rules.proofs.PatternWalk.{falls, top, starts}
-use Rattle.rules.proofs.Walk.{All, All-map, In, Out, Grew, Falls, InsidePost, inside-post}
-
-abbrev pub keepNew : Bool → ℕ → List ℕ → List ℕ → List ℕ
-keepNew true y old new = old
-keepNew false y old new = y ∷ new
-
--- each of ys once, where it first stands, and none that was seen
-unfoldable pub fresh : List ℕ → List ℕ → List ℕ
-unfolding has
-fresh seen [] = []
-fresh seen (y ∷ ys) = keepNew (has y seen) y (fresh seen ys) (fresh (y ∷ seen) ys)
-
-abbrev pub distinct : List ℕ → List ℕ
-distinct ys = fresh [] ys
+use Rattle.rules.proofs.Walk.{All-map, Grew, InsidePost, inside-post}
+use Rattle.rules.specs.Working.{All, Falls, In, Out, distinct, fresh, keepNew, thinPlace, thinned}
 
 abbrev pub thin : Ways → Ways
 thin accept = accept
@@ -177,20 +165,6 @@ module _ (ways : ℕ → Ways) (ρ : ℕ → ℕ) (N : ℕ) (falls : Falls ways 
           ∙ same-answer (sweep thinnedOne plan k) (sweep one plan k) ih i m l (one i st .0) (one i st .1) (a .1)
 
 -- ---- places
-
--- a fork with each way once
-unfoldable pub thinPlace : Place → Place
-unfolding fresh
-thinPlace (pLetter c k) = pLetter c k
-thinPlace (pCaret k) = pCaret k
-thinPlace (pDollar k) = pDollar k
-thinPlace (pFork ks) = pFork (distinct ks)
-thinPlace pEnd = pEnd
-
-unfoldable pub thinned : List Place → List Place
-unfolding thinPlace
-thinned [] = []
-thinned (p ∷ ps) = thinPlace p ∷ thinned ps
 
 pub thinned-append : (ps qs : List Place) → thinned (ps ++ qs) ≡ thinned ps ++ thinned qs
 unfolding thinned

@@ -14,7 +14,8 @@ use Rattle.rules.specs.Search.{Swept, Plan, below, byFit, onAnswer, swee
 use Rattle.rules.specs.Walk.{Ways, accept, try, Outcome, found, failed, orElse, close, enterUnless, tries, inside, insideBy, countTrue}
 use Rattle.rules.proofs.Bound.{path-apart, path-pairs, path-closed}
 use Rattle.rules.proofs.Plain.{plain-path, Sound, InsideSound, inside-sound}
-use Rattle.rules.proofs.Walk.{All, All-map, All-map₂, In, Out, mark-in, count-mark, count-le, out-mark, Apart, Falls, InsidePost, inside-post}
+use Rattle.rules.proofs.Walk.{All-map, All-map₂, mark-in, count-mark, count-le, out-mark, Apart, InsidePost, inside-post}
+use Rattle.rules.specs.Working.{All, Falls, In, Out}
 
 -- ---- what fails in an attempt lies where its pairs lie
 

@@ -19,7 +19,8 @@ use Rattle.rules.proofs.Machine.{inside-fuel}
 use Rattle.rules.proofs.PatternWalk.{falls, top}
 use Rattle.rules.proofs.Rank.{rank}
 use Rattle.rules.proofs.Starts.{next-on}
-use Rattle.rules.proofs.Walk.{All-at, Falls}
+use Rattle.rules.proofs.Walk.{All-at}
+use Rattle.rules.specs.Working.{Falls}
 
 -- ---- paths
 

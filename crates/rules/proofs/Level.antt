@@ -7,7 +7,8 @@ use Prim.Native.Nat.{ℕ, suc, _+_, _≤_, max}
 use native.Mathlib.Omega.{arith}
 use borrow.Author.Tests.{not-true}
 use Rattle.rules.specs.Places.{Unrolled, uLetter, uCaret, uDollar, uEmpty, uSeq, uAlt, uOpt, uStar, Branches, uNil, uCons, size, sizes}
-use Rattle.rules.proofs.Walk.{All, All-map, All-append}
+use Rattle.rules.proofs.Walk.{All-map, All-append}
+use Rattle.rules.specs.Working.{All}
 
 -- can take no row
 unfoldable mutual

@@ -10,7 +10,8 @@ use native.Mathlib.Nat.{le-trans, not-suc-le-zero}
 use native.Mathlib.Omega.{arith}
 use lib.ListN.{length, getD, set}
 use Rattle.rules.specs.Walk.{Ways, accept, try, Outcome, found, failed, orElse, close, enterUnless, tries, inside, insideBy, countTrue}
-use Rattle.rules.proofs.Walk.{All, All-map, In, Out, Falls, InsidePost, inside-post, Rising, rising-apart, All-map₂, out-mark, room}
+use Rattle.rules.proofs.Walk.{All-map, InsidePost, inside-post, rising-apart, All-map₂, out-mark, room}
+use Rattle.rules.specs.Working.{All, Falls, In, Open, Out, Rising, lift, resume}
 
 -- ---- the walk's fuel
 
@@ -92,16 +93,6 @@ module _ (f : List Bool → ℕ → ℕ → Outcome) where
 
 -- ---- a state's result
 
--- the open pairs below lead the path
-abbrev pub lift : List ℕ → Outcome → Outcome
-lift st (found p F s) = found (reverseAux st p) F s
-lift st (failed F s) = failed F s
-
--- what the recursive walk makes of a state: the last open pair goes on, and if it fails, the one below
-unfoldable pub resume : (ℕ → Ways) → ℕ → List ℕ → List Bool → ℕ → Outcome
-resume ways K [] F s = failed F s
-resume ways K (x ∷ st) F s = orElse (lift st (inside ways K F s x)) (λ F′ s′. resume ways K st F′ s′)
-
 -- an attempt begins with its first pair open
 pub resume-one : (ways : ℕ → Ways) (K : ℕ) (F : List Bool) (s x : ℕ) → resume ways K (x ∷ []) F s ≡ inside ways K F s x
 unfolding resume
@@ -152,11 +143,6 @@ module _ (ways : ℕ → Ways) (ρ : ℕ → ℕ) (N : ℕ) (falls : Falls ways 
       go (failed F′ s′) = rw (inside-try F′ s′ x ys e)
 
 -- ---- what holds of the open pairs: they rank one below the other, none has failed, all are pairs
-
-pub record Open (ρ : ℕ → ℕ) (N : ℕ) (F : List Bool) (st : List ℕ) : Type 0 where
-  pub rising : Rising ρ st
-  pub out : All (Out F) st
-  pub pairs : All (λ z. z < N) st
 
 module _ (ρ : ℕ → ℕ) (N : ℕ) where
   -- the trail has room

@@ -14,7 +14,7 @@ use Rattle.rules.proofs.Bound.{plain-complete}
 use Rattle.rules.proofs.Level.{legal}
 use Rattle.rules.proofs.PatternWalk.{top, falls, walk-plain}
 use Rattle.rules.proofs.Rank.{rank}
-use Rattle.rules.proofs.Walk.{In}
+use Rattle.rules.specs.Working.{In}
 
 module _ (t : Unrolled) (g : legal t ≡ true) (holds : ℕ → ℕ → Bool) (n : ℕ) where
   -- from a pair that has a path plain backtracking finds one

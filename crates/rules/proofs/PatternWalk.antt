@@ -19,7 +19,8 @@ use Rattle.rules.proofs.Plain.{Sound}
 use Rattle.rules.proofs.Rank.{rank, places-length, pattern-falls, pattern-top, Edge, edges-at, levelsIn, places-edges}
 use Rattle.rules.proofs.Starts.{next-on, next-past}
 use Rattle.rules.proofs.Swept.{Alike, Counted, walk-is-plain, walk-counted}
-use Rattle.rules.proofs.Walk.{All, All-map, In, Falls}
+use Rattle.rules.proofs.Walk.{All-map}
+use Rattle.rules.specs.Working.{All, Falls, In}
 
 -- ---- no pair has failed at first
 

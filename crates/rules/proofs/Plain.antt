@@ -9,7 +9,8 @@ use native.Mathlib.Nat.{le-trans, not-suc-le-zero}
 use native.Mathlib.Omega.{arith}
 use lib.ListN.{getD, set}
 use Rattle.rules.specs.Walk.{IsPath, here, there, Ways, accept, try, Outcome, found, failed, orElse, close, enterUnless, tries, inside, insideBy, orNext, firstOf, onto, plain, plainBy}
-use Rattle.rules.proofs.Walk.{All, All-map, In, mark-in, Falls}
+use Rattle.rules.proofs.Walk.{All-map, mark-in}
+use Rattle.rules.specs.Working.{All, Falls, In}
 
 pub firstOf-none : (f : ℕ → Option (List ℕ)) (y : ℕ) (ys : List ℕ) → f y ≡ none → firstOf f (y ∷ ys) ≡ firstOf f ys
 unfolding firstOf

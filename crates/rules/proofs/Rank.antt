@@ -14,7 +14,8 @@ use borrow.Author.Tests.{not-true, ltb-true}
 use Rattle.rules.specs.Places.{Unrolled, uLetter, uCaret, uDollar, uEmpty, uSeq, uAlt, uOpt, uStar, Branches, uNil, uCons, size, sizes, startOf, startsOf, code, codes, waysInTurn, Place, pLetter, pCaret, pDollar, pFork, pEnd, places}
 use Rattle.rules.specs.Walk.{Ways, accept, try, passIf, waysAt, pairWays}
 use Rattle.rules.proofs.Level.{skips, legal, allLegal, level, highest, levels, levelsOf, and-true, level-same, levels-low}
-use Rattle.rules.proofs.Walk.{All, All-map, All-append, Falls}
+use Rattle.rules.proofs.Walk.{All-map, All-append}
+use Rattle.rules.specs.Working.{All, Falls}
 
 -- ---- lengths
 

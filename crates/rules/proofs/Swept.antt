@@ -11,7 +11,8 @@ use borrow.Author.Tests.{ltb-true}
 use Rattle.rules.specs.Search.{pathPairs, Match, Swept, Plan, below, byFit, onAnswer, sweep, foundIn, Kept, answered, walkAt, plainAt}
 use Rattle.rules.specs.Walk.{Ways, Outcome, found, failed, enterUnless, inside, countTrue, plain}
 use Rattle.rules.proofs.Plain.{Sound, InsideSound, inside-sound}
-use Rattle.rules.proofs.Walk.{Falls, InsidePost, inside-post}
+use Rattle.rules.proofs.Walk.{InsidePost, inside-post}
+use Rattle.rules.specs.Working.{Falls}
 
 -- ---- two ways to make attempts that answer alike give the same search
 

@@ -12,11 +12,12 @@ use Rattle.rules.specs.Places.{Unrolled, uLetter, uCaret, uDollar, uEmpt
 use Rattle.rules.specs.Walk.{Ways, accept, try, pairs, pairWays}
 use Rattle.rules.proofs.Bounds.{Lettered}
 use Rattle.rules.proofs.Counting.{forked-more, legal-unroll}
-use Rattle.rules.proofs.Distinct.{fresh, distinct, thin, thinPlace, thinned, fresh-all, thinned-length, thinned-at, thin-pairs}
+use Rattle.rules.proofs.Distinct.{thin, fresh-all, thinned-length, thinned-at, thin-pairs}
+use Rattle.rules.specs.Working.{All, Falls, distinct, fresh, thinPlace, thinned}
 use Rattle.rules.proofs.Level.{legal}
 use Rattle.rules.proofs.PatternWalk.{falls, top}
 use Rattle.rules.proofs.Rank.{rank, Edge, edges-at, levelsIn, places-edges, places-length}
-use Rattle.rules.proofs.Walk.{All, All-map, Falls}
+use Rattle.rules.proofs.Walk.{All-map}
 
 -- ---- where a place leads
 

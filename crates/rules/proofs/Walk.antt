@@ -9,10 +9,7 @@ use native.Mathlib.Omega.{arith}
 use lib.ListN.{length, getD, set, length-set}
 use lib.Seq.{getD-set-same, getD-set-other}
 use Rattle.rules.specs.Walk.{Ways, accept, try, Outcome, found, failed, orElse, close, enterUnless, tries, inside, insideBy, countTrue}
-
-abbrev pub All : (ℕ → Type 0) → List ℕ → Type 0
-All P [] = Unit {0}
-All P (y ∷ ys) = P y × All P ys
+use Rattle.rules.specs.Working.{All, In, Out, Rising, Falls}
 
 pub All-map : {P Q : ℕ → Type 0} → ((y : ℕ) → P y → Q y) → (ys : List ℕ) → All P ys → All Q ys
 All-map f [] a = tt
@@ -25,12 +22,6 @@ All-append P (x ∷ xs) ys a b = (a .0, All-append P xs ys (a .1) b)
 pub All-at : (P : ℕ → Type 0) {y : ℕ} {ys : List ℕ} → List·Memᴰ y ys → All P ys → P y
 All-at P (List·Memᴰ·head e) a = rw e (a .0)
 All-at P (List·Memᴰ·tail m) a = All-at P m (a .1)
-
-abbrev pub In : List Bool → ℕ → Type 0
-In F z = getD F z false ≡ true
-
-abbrev pub Out : List Bool → ℕ → Type 0
-Out F z = getD F z false ≡ false
 
 -- ---- marking
 
@@ -87,11 +78,6 @@ Apart (x ∷ xs) = All (λ z. z ≢ x) xs × Apart xs
 pub All-map₂ : {P Q R : ℕ → Type 0} → ((y : ℕ) → P y → Q y → R y) → (ys : List ℕ) → All P ys → All Q ys → All R ys
 All-map₂ f [] a b = tt
 All-map₂ f (y ∷ ys) a b = (f y (a .0) (b .0), All-map₂ f ys (a .1) (b .1))
-
--- each ranks below those behind it
-abbrev pub Rising : (ℕ → ℕ) → List ℕ → Type 0
-Rising ρ [] = Unit {0}
-Rising ρ (x ∷ xs) = All (λ z. ρ x < ρ z) xs × Rising ρ xs
 
 pub rising-apart : (ρ : ℕ → ℕ) (xs : List ℕ) → Rising ρ xs → Apart xs
 rising-apart ρ [] r = tt
@@ -216,10 +202,6 @@ module _ (ways : ℕ → Ways) (ρ : ℕ → ℕ) (N : ℕ) where
         it = getD-set-same F′ x true false l;
         sum = omega (arith, t .sum, count-mark F′ x l (still-out F F′ x o (t .grew)));
       }
-
--- every way leads below, and from one of the N pairs to another
-abbrev pub Falls : (ℕ → Ways) → (ℕ → ℕ) → ℕ → Type 0
-Falls ways ρ N = (x : ℕ) (ys : List ℕ) → ways x ≡ try ys → All (λ y. (ρ y < ρ x) × (x < N → y < N)) ys
 
 module _ (ways : ℕ → Ways) (ρ : ℕ → ℕ) (N : ℕ) (falls : Falls ways ρ N) where
   pub inside-post : (k : ℕ) → InsideAt ways ρ N k

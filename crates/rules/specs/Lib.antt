@@ -14,3 +14,4 @@ pub mod Answers
 pub mod Program
 pub mod Demands
 pub mod Bench
+pub mod Working

@@ -13,7 +13,7 @@ use Rattle.rules.specs.Answers.{taskOf, walked, Buffers, Memory, searchOf}
 use Rattle.rules.specs.Program.{refusedText, tooLarge, searchText, printedFor, printed}
 use Rattle.rules.proofs.Accepted.{Accepted}
 use Rattle.rules.proofs.Lists.{length-tabulate}
-use Rattle.measure_list.specs.Measures.{measureIn, measuresIn}
+use Rattle.table.specs.Measures.{measureIn, measuresIn}
 use Rattle.reading.specs.declared.Query.{Query}
 use Rattle.reading.specs.Reading.{queryAnswer, Asked}
 use Rattle.outcome.specs.declared.Outcome.{Outcome}
@@ -38,7 +38,7 @@ measures-counted q measures₀ room defines measures r a =
     record {
       is = λ z.
           let w = a .good (a .answer ∙ z) in
-          w .good .measured ∙ sym (length-tabulate (w .parts .measures) (measureIn measures)) ∙ ap length (w .decoded .measured);
+          w .good .measured ∙ sym (length-tabulate (w .parts .measures) (measureIn measures 0)) ∙ ap length (w .decoded .measured);
     }
 
 -- ---- the search's report: r and the buffers without a stroke are what the search leaves of those with one, and k is the number of measures

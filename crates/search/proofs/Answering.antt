@@ -1,41 +1,35 @@
--- The search's answers: one law for each way through `search`. The answer is that of the first of the rules' tests that is true.
-use mathlib.Core.Path.{_≡_, refl, ap, ap₂, sym, _∙_}
-use mathlib.Core.Bool.{Bool, true, false, not, _&&_, _||_, true≢false}
+-- The search's answers: one law for each way through `run`. The answer is that of the first of the rules' tests that is true.
+use mathlib.Core.Path.{_≡_, refl, ap, sym, _∙_}
+use mathlib.Core.Bool.{Bool, true, false, not, true≢false}
 use mathlib.Core.List.{List, [], _∷_}
-use mathlib.Core.Option.{Option, none, some}
-use Prim.Native.Nat.{ℕ, zero, suc, _+_, _-_, _*_, _/_, _%_, _≤_, _<_}
+use Prim.Native.Nat.{ℕ, zero, suc, _+_, _*_, _/_, _%_, _≤_, _<_}
 use native.Mathlib.Nat.{mul-le-mul, div-add-mod'}
 use native.Mathlib.Numerals.{add-one}
 use native.Mathlib.Omega.{arith}
-use lib.Dec.{eqb, leb, ltb}
+use lib.Dec.{eqb, ltb}
 use lib.IntN.{ℤ}
-use lib.ListN.{length, getD}
+use lib.ListN.{length}
 use mir.Syntax.{w64}
 use mir.Val.{Fits}
 use borrow.Author.Tests.{le-ltb, ltb-false, eqb-true, not-false}
 use Rattle.rules.specs.Basics.{pick}
 use Rattle.rules.specs.Rows.{tableOf}
 use Rattle.rules.specs.Query.{columnsOf, textOf, parts}
-use Rattle.rules.specs.Language.{Tree, pattern, emptyLoop}
-use Rattle.rules.specs.Places.{placesOf}
-use Rattle.rules.specs.Walk.{pairs}
 use Rattle.rules.specs.Report.{bytesFor}
-use Rattle.rules.specs.Answers.{treeIn, hasEmptyLoop, P, tooMany, badRows, Buffers, Memory, taskOf, pairsOf, shortNotes, shortTrail, stopped, Test, firstOf, refuses, offsetAt, queryTests, answerBy, answerOf, walkOf, walkReport, reportOf, refused, accepted, searchOf}
+use Rattle.rules.specs.Answers.{treeIn, P, badRows, Buffers, Memory, taskOf, pairsOf, shortNotes, shortTrail, stopped, Test, firstOf, refuses, offsetAt, queryTests, answerBy, answerOf, walkOf, walkReport, reportOf, refused, accepted, searchOf}
 use Rattle.rules.proofs.Accepted.{done-or-stopped, query-tests-refuse}
 use Rattle.rules.proofs.Demands.{demands}
-use Rattle.rules.proofs.FirstTrue.{first-refuses, first-before, first-after, none-true}
+use Rattle.rules.proofs.FirstTrue.{first-refuses, first-before, first-after}
 use Rattle.rules.proofs.Level.{or-false}
 use Rattle.sizes.specs.Sizes.{badCount, shortFor}
-use Rattle.reading.specs.Reading.{queryAnswer, GoodParts, Whole, Asked}
-use Rattle.reading.proofs.Laws.{bad-rows}
-use Rattle.reading.specs.declared.Query.{Query}
+use Rattle.reading.specs.Reading.{queryAnswer}
 use Rattle.outcome.specs.declared.Outcome.{Outcome}
 use Rattle.outcome.specs.Results.{lent, memory, refusal}
-use Rattle.starting.specs.Starts.{ended, Walks}
-use Rattle.matches.specs.Asked.{toNext}
-use Rattle.starting.specs.declared.Accepted.{Accepted}
+use Rattle.prepared.specs.Ready.{Ready, Given, PreparedAs}
+use Rattle.prepared.specs.declared.Prepared.{Prepared}
+use Rattle.starting.specs.Starts.{ended, Fed, Walks}
 use Rattle.search.specs.Promise.{Promised}
-use Rattle.search.specs.Accepts.{AcceptedAs}
+use Rattle.search.specs.Runs.{Runs}
 
 -- ---- the answers
 
@@ -96,144 +90,136 @@ module _ (q : List ℕ) (rows : List ℤ) (notes trail : List ℕ) (numbers : Li
         let y : refuses (answerOf q rows before) ≡ false = ap refuses x ∙ done-or-stopped (stopped (walkOf q rows before)) in
         record { whole = e ∙ sym (rw y (ap (λ (n : ℕ). accepted (reportOf n (taskOf q rows) before (walkOf q rows before)) (walkOf q rows before .state) before) x)); demands = demands q rows before }
 
--- ---- what reading gives
+-- ---- what a prepared query gives
 
--- no answer of the query's own: no test of these is true
-pub record ClearQuery (q : List ℕ) : Type 0 where
-  pub loop : hasEmptyLoop (treeIn q) ≡ false
-  pub many : tooMany (treeIn q) ≡ false
+-- so many entries that make good rows of so many columns, and their pairs with up to 256 places
+module _ (columns places entries : ℕ) (t : Bool) (et : t ≡ badCount entries columns) (f : t ≡ false) where
+  few-rows : (entries % columns ≡ 0) × (entries / columns ≤ 4096)
+  unfolding badCount
+  few-rows =
+      let g = or-false (not (eqb (entries % columns) 0)) (ltb 4096 (entries / columns)) (sym et ∙ f) in
+      (eqb-true (entries % columns) 0 (not-false (eqb (entries % columns) 0) (g .0)), ltb-false 4096 (entries / columns) (g .1))
 
-pub clear-query : (q : List ℕ) → queryAnswer q ≡ 0 → ClearQuery q
-unfolding queryAnswer queryTests
-clear-query q e =
-    let no : (i : ℕ) → getD (queryTests q) i (0, false) .1 ≡ false = none-true (queryTests q) (query-tests-refuse q) e in
-    record { loop = no 6; many = no 7 }
+  pairs-most : places ≤ 256 → places * (entries / columns + 1) ≤ 1048832
+  pairs-most few =
+      let k : places * (entries / columns + 1) ≤ 256 * 4097 = mul-le-mul few (let g : entries / columns + 1 ≤ 4097 = omega (arith, few-rows .1) in g) in
+      omega arith
 
--- an accepted query has at most 256 places, and so many entries that make good rows at most 1,048,832 pairs
-module _ (q measures₀ room defines measures : List ℕ) (r : Query) (a : Asked q measures₀ room defines measures r) (z : r .answer ≡ 0) where
-  few-places : r .places ≤ 256
-  unfolding tooMany
-  few-places = omega (arith, a .good z .good .places, ltb-false 256 (P (treeIn q)) (clear-query q (sym (a .answer) ∙ z) .many))
+module _ (T : List ℕ) (p : Prepared) (a : Runs T p) (z : p .answer ≡ 0) where
+  pub some-column : 1 ≤ p .columns
+  some-column = a .given .ready z .some-columns
 
-  module _ (entries : ℕ) (t : Bool) (et : t ≡ badCount entries (r .columns)) (f : t ≡ false) where
-    few-rows : (entries % r .columns ≡ 0) × (entries / r .columns ≤ 4096)
-    unfolding badCount
-    few-rows =
-        let g = or-false (not (eqb (entries % r .columns) 0)) (ltb 4096 (entries / r .columns)) (sym et ∙ f) in
-        (eqb-true (entries % r .columns) 0 (not-false (eqb (entries % r .columns) 0) (g .0)), ltb-false 4096 (entries / r .columns) (g .1))
+  few-places : p .places ≤ 256
+  few-places = a .given .ready z .few
 
-    pairs-most : r .places * (entries / r .columns + 1) ≤ 1048832
-    pairs-most =
-        let k : r .places * (entries / r .columns + 1) ≤ 256 * 4097 = mul-le-mul few-places (let g : entries / r .columns + 1 ≤ 4097 = omega (arith, few-rows .1) in g) in
-        omega arith
-
+  module _ (entries : ℕ) (t : Bool) (et : t ≡ badCount entries (p .columns)) (f : t ≡ false) where
     -- the number of pairs can be computed
-    pub rows-fit : Fits w64 (entries / r .columns + 1)
-    rows-fit = record { fits = omega (arith, few-rows .1) }
+    pub rows-fit : Fits w64 (entries / p .columns + 1)
+    rows-fit = record { fits = omega (arith, few-rows (p .columns) (p .places) entries t et f .1) }
 
-    pub pairs-fit : Fits w64 (r .places * (entries / r .columns + 1))
-    pairs-fit = record { fits = omega (arith, pairs-most) }
+    pub pairs-fit : Fits w64 (p .places * (entries / p .columns + 1))
+    pairs-fit = record { fits = omega (arith, pairs-most (p .columns) (p .places) entries t et f few-places) }
 
-    pub pairs-few : (p : ℕ) → p ≡ r .places * (entries / r .columns + 1) → p ≤ 1048832
-    pairs-few p e = omega (arith, pairs-most, e)
+    pub pairs-few : (k : ℕ) → k ≡ p .places * (entries / p .columns + 1) → k ≤ 1048832
+    pairs-few k e = omega (arith, pairs-most (p .columns) (p .places) entries t et f few-places, e)
 
-module _ (q measures₀ room defines measures : List ℕ) (r : Query) (a : Asked q measures₀ room defines measures r) (rows : List ℤ)
-    (notes trail : List ℕ) (numbers : List ℤ) (labels : List ℕ) where
+module _ (T : List ℕ) (p : Prepared) (rows : List ℤ) (notes trail : List ℕ) (numbers : List ℤ) (labels : List ℕ) where
   abbrev buffers : Buffers
   buffers = lent notes trail numbers labels
 
   abbrev n : ℕ
-  n = length rows / r .columns
+  n = length rows / p .columns
 
   -- the query has an answer of its own
-  pub search-refuses : (r .answer ≡ 0 → ⊥) → (o : Outcome) → o ≡ refusal (r .answer) (r .offset) → Promised q rows buffers (memory o notes trail numbers labels)
-  search-refuses d o b = query-refused q rows notes trail numbers labels (r .answer) (r .offset) (a .answer) (a .offset) d o b
+  pub run-refuses : (p .answer ≡ 0 → ⊥) → (o : Outcome) → o ≡ refusal (p .answer) (p .offset)
+      → (q : List ℕ) → Given q T p → Promised q rows buffers (memory o notes trail numbers labels)
+  run-refuses d o b q g = query-refused q rows notes trail numbers labels (p .answer) (p .offset) (g .refused d .0) (g .refused d .1) d o b
 
-  module _ (z : r .answer ≡ 0) where
-    abbrev whole : Whole q measures₀ room defines measures r
-    whole = a .good z
-
-    no-answer : queryAnswer q ≡ 0
-    no-answer = sym (a .answer) ∙ z
-
-    the-columns : r .columns ≡ columnsOf q
+  module _ (z : p .answer ≡ 0) (t : Bool) (et : t ≡ badCount (length rows) (p .columns)) where
+    the-columns : (q : List ℕ) → Given q T p → p .columns ≡ columnsOf q
     unfolding parts
-    the-columns = whole .good .columns ∙ whole .decoded .columns
+    the-columns q g = g .ready z .columns-are
 
-    module _ (t : Bool) (et : t ≡ badCount (length rows) (r .columns)) where
-      the-rows : badRows q rows ≡ t
-      the-rows = bad-rows q measures₀ room defines measures r a rows z ∙ sym et
+    the-rows : (q : List ℕ) → Given q T p → badRows q rows ≡ t
+    unfolding badRows badCount tableOf
+    the-rows q g = rw (← the-columns q g) (sym et)
 
-      -- answer 10
-      pub search-rows : t ≡ true → (o : Outcome) → o ≡ refusal 10 0 → Promised q rows buffers (memory o notes trail numbers labels)
-      search-rows f o b = rows-refused q rows notes trail numbers labels no-answer (the-rows ∙ f) o b
+    -- answer 10
+    pub run-rows : t ≡ true → (o : Outcome) → o ≡ refusal 10 0 → (q : List ℕ) → Given q T p → Promised q rows buffers (memory o notes trail numbers labels)
+    run-rows f o b q g = rows-refused q rows notes trail numbers labels (g .ready z .none) (the-rows q g ∙ f) o b
 
-      module _ (f : t ≡ false) where
-        the-pairs : pairsOf q rows ≡ r .places * (n + 1)
-        unfolding pairsOf tableOf
-        the-pairs = rw (← the-columns, ← (whole .good .places), add-one)
+    module _ (f : t ≡ false) where
+      the-places : (q : List ℕ) → Given q T p → p .places ≡ P (treeIn q)
+      unfolding P
+      the-places q g = g .ready z .places-are ∙ ap P (sym (g .ready z .has-tree))
 
-        -- answers 11 and 12 by numbers
-        module _ (p : ℕ) (ep : p ≡ r .places * (n + 1)) (s : ℕ) (es : s ≡ shortFor p (length notes) (length trail)) where
-          the-short : s ≡ pick (shortNotes q rows buffers) 11 (pick (shortTrail q rows buffers) 12 0)
-          unfolding shortFor shortNotes shortTrail
-          the-short = es ∙ rw (ep, the-pairs)
+      the-pairs : (q : List ℕ) → Given q T p → pairsOf q rows ≡ p .places * (n + 1)
+      unfolding pairsOf tableOf
+      the-pairs q g = rw (← the-columns q g, ← the-places q g, add-one)
 
-          pub search-short : (s ≡ 0 → ⊥) → (o : Outcome) → o ≡ refusal s 0 → Promised q rows buffers (memory o notes trail numbers labels)
-          search-short d o b = room-refused q rows notes trail numbers labels no-answer (the-rows ∙ f) s the-short d o b
+      -- answers 11 and 12 by numbers
+      module _ (k : ℕ) (ek : k ≡ p .places * (n + 1)) (s : ℕ) (es : s ≡ shortFor k (length notes) (length trail)) where
+        the-short : (q : List ℕ) → Given q T p → s ≡ pick (shortNotes q rows buffers) 11 (pick (shortTrail q rows buffers) 12 0)
+        unfolding shortFor shortNotes shortTrail
+        the-short q g = es ∙ rw (ek, the-pairs q g)
 
-          module _ (es0 : s ≡ 0) where
-            both-long : (bytesFor p ≤ length notes) × (p ≤ length trail)
-            unfolding shortFor
-            both-long = go (ltb (length notes) (bytesFor p)) (ltb (length trail) p) refl refl (sym es ∙ es0)
-              where
-                go : (u v : Bool) → ltb (length notes) (bytesFor p) ≡ u → ltb (length trail) p ≡ v → _≡_ {A = ℕ} (pick u 11 (pick v 12 0)) 0 → (bytesFor p ≤ length notes) × (p ≤ length trail)
-                go true v eu ev e = absurd (omega arith)
-                go false true eu ev e = absurd (omega arith)
-                go false false eu ev e = (ltb-false (length notes) (bytesFor p) eu, ltb-false (length trail) p ev)
+        pub run-short : (s ≡ 0 → ⊥) → (o : Outcome) → o ≡ refusal s 0 → (q : List ℕ) → Given q T p → Promised q rows buffers (memory o notes trail numbers labels)
+        run-short d o b q g = room-refused q rows notes trail numbers labels (g .ready z .none) (the-rows q g ∙ f) s (the-short q g) d o b
 
-            no-short : (shortNotes q rows buffers ≡ false) × (shortTrail q rows buffers ≡ false)
-            unfolding shortNotes shortTrail
-            no-short = (
-              rw (the-pairs, ← ep) (le-ltb (length notes) (bytesFor p) (both-long .0)),
-              rw (the-pairs, ← ep) (le-ltb (length trail) p (both-long .1)),
-            )
+        module _ (es0 : s ≡ 0) where
+          both-long : (bytesFor k ≤ length notes) × (k ≤ length trail)
+          unfolding shortFor
+          both-long = go (ltb (length notes) (bytesFor k)) (ltb (length trail) k) refl refl (sym es ∙ es0)
+            where
+              go : (u v : Bool) → ltb (length notes) (bytesFor k) ≡ u → ltb (length trail) k ≡ v → _≡_ {A = ℕ} (pick u 11 (pick v 12 0)) 0 → (bytesFor k ≤ length notes) × (k ≤ length trail)
+              go true v eu ev e = absurd (omega arith)
+              go false true eu ev e = absurd (omega arith)
+              go false false eu ev e = (ltb-false (length notes) (bytesFor k) eu, ltb-false (length trail) k ev)
 
-            -- the walk may begin
-            walks : Walks q room (r .top) (r .places) rows (r .columns) n defines (r .letters) measures (r .measures) (eqb (r .skip) 1) notes trail
-            unfolding hasEmptyLoop P bytesFor
-            walks =
-                let s : n + 1 ≡ suc n = add-one n in
-                let w = few-rows q measures₀ room defines measures r a z (length rows) t et f in
-                let d : n * r .columns + length rows % r .columns ≡ length rows = div-add-mod' (length rows) (r .columns) in
-                let pl : r .places ≡ placesOf (whole .good .tree) = whole .good .places ∙ ap P (whole .good .is) in
-                let pp : p ≡ r .places * suc n = rw (← s) ep in
-                let f′ : (r .places * suc n + 7) / 8 ≤ length notes = rw (← pp) (both-long .0) in
-                record {
-                  tree = whole .good .tree;
-                  has-tree = whole .good .is;
-                  no-loop = sym (ap hasEmptyLoop (whole .good .is)) ∙ clear-query q no-answer .loop;
-                  few = omega (arith, few-places q measures₀ room defines measures r a z, pl);
-                  places-are = pl;
-                  held = whole .good .top;
-                  measures₀ = measures₀;
-                  parts = whole .parts;
-                  decoded = whole .decoded;
-                  columns-are = whole .good .columns;
-                  count-is = whole .good .measured;
-                  letters-are = whole .good .letters;
-                  mode-is = ap (λ (k : ℕ). eqb k 1) (whole .good .skip);
-                  long = whole .decoded .long;
-                  most = w .1;
-                  all = omega (arith, d, w .0);
-                  noted = omega (arith, f′);
-                  trailed = rw (← pp) (both-long .1);
-                }
+          no-short : (q : List ℕ) → Given q T p → (shortNotes q rows buffers ≡ false) × (shortTrail q rows buffers ≡ false)
+          unfolding shortNotes shortTrail
+          no-short q g = (
+            rw (the-pairs q g, ← ek) (le-ltb (length notes) (bytesFor k) (both-long .0)),
+            rw (the-pairs q g, ← ek) (le-ltb (length trail) k (both-long .1)),
+          )
 
-            pub search-walks : (x : Accepted) → AcceptedAs r n x
-                → Walks q room (x .top) (x .task .size .places) rows (x .task .size .columns) (x .task .size .rows) defines (x .letters) measures (x .task .measures) (toNext (x .task .skip)) notes trail
-            search-walks x e = rw (e .top, e .places, e .columns, e .rows, e .letters, e .measures, e .skip) walks
+          -- the walk may begin
+          pub run-walks : Runs T p → Walks T p n rows notes trail
+          unfolding bytesFor
+          run-walks a =
+              let s : n + 1 ≡ suc n = add-one n in
+              let w = few-rows (p .columns) (p .places) (length rows) t et f in
+              let d : n * p .columns + length rows % p .columns ≡ length rows = div-add-mod' (length rows) (p .columns) in
+              let pp : k ≡ p .places * suc n = rw (← s) ek in
+              let f′ : (p .places * suc n + 7) / 8 ≤ length notes = rw (← pp) (both-long .0) in
+              record {
+                query = a .query;
+                ready = a .given .ready z;
+                fed = record { most = w .1; all = omega (arith, d, w .0); noted = omega (arith, f′); trailed = rw (← pp) (both-long .1) };
+              }
 
-            -- done or stopped
-            pub search-ends : (m : Memory) → m ≡ ended q rows buffers → Promised q rows buffers m
-            search-ends m e = search-ended q rows notes trail numbers labels no-answer (the-rows ∙ f) (no-short .0) (no-short .1) m e
+          -- done or stopped
+          pub run-ends : (m : Memory) → ((q : List ℕ) → Ready q T p → m ≡ ended q rows buffers) → (q : List ℕ) → Given q T p → Promised q rows buffers m
+          run-ends m e q g =
+              search-ended q rows notes trail numbers labels (g .ready z .none) (the-rows q g ∙ f) (no-short q g .0) (no-short q g .1) m (e q (g .ready z))
+
+-- ---- prepared, then run
+
+module _ (q T T′ : List ℕ) (p : Prepared) (h : PreparedAs q T T′ p) where
+  module _ (d : p .answer ≡ 255 → ⊥) where
+    pub may-run : Runs T′ p
+    may-run = record { query = q; given = h .given d }
+
+    pub has-run : (rows : List ℤ) (before : Buffers) (m : Memory) → ((q : List ℕ) → Given q T′ p → Promised q rows before m) → Promised q rows before m
+    has-run rows before m e = e q (h .given d)
+
+  -- a table of 3,142 words is enough
+  module _ (long : length T ≡ 3142) where
+    enough : p .answer ≡ 255 → ⊥
+    enough e = let z = h .no-room e (omega arith) in absurd (omega arith)
+
+    pub may-run-large : Runs T′ p
+    may-run-large = may-run enough
+
+    pub has-run-large : (rows : List ℤ) (before : Buffers) (m : Memory) → ((q : List ℕ) → Given q T′ p → Promised q rows before m) → Promised q rows before m
+    has-run-large = has-run enough

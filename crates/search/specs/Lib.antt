@@ -1,2 +1,2 @@
 pub mod Promise
-pub mod Accepts
+pub mod Runs

@@ -1,44 +1,56 @@
-// The whole search: answers 1 to 12 and 14 in front, then the walk over the unrolled pattern. Its promise, for every query, all rows and all lent buffers, is an
-// equation with document 01's definition, and the tender's demands with it (specs/Promise). Nothing is allocated; the tables lie on the stack.
-use matches::Task;
-use matches::skip_of;
+// The whole search: a query is prepared, then run over its rows. `run` takes a prepared query and can
+// be called for many rows; `search` does both. The promise of both, for every query, all rows and all
+// lent buffers, is an equation with document 01's definition, and the tender's demands with it
+// (specs/Promise). Nothing is allocated; the table lies on the stack. Weakness: `run` trusts its
+// table, so only a query that `prepare` wrote may be handed to it.
 use outcome::Outcome;
 use outcome::refused;
-use pairs::Extent;
-use reading::Query;
-use starting::Accepted;
-use starting::walk_all;
+use prepared::NO_ROOM;
+use prepared::Prepared;
+use prepared::prepare;
+use sizes::bad_rows;
+use sizes::short_room;
+use starting::walk_prepared;
 ghost use mathlib.Core.Path.{_≡_};
-ghost use Rattle.reading.specs.Reading.{Nodes};
+ghost use mathlib.Core.List.{List};
+ghost use Prim.Native.Nat.{ℕ};
 ghost use Rattle.outcome.specs.Results.{lent, memory};
+ghost use Rattle.prepared.specs.Ready.{Given};
 ghost use Rattle.search.specs.Promise.{Promised};
-ghost use Rattle.search.specs.Accepts.{AcceptedAs};
+ghost use Rattle.search.specs.Runs.{Runs};
 
-// What the search of an accepted query on n rows is asked.
-fn accepted(q: Query, n: usize) -> Accepted
-    ensures { λ r. ⌜ AcceptedAs q n r ⌝ }
+// The search of a prepared query: its own answer, then answers 10 to 12, then the walk.
+pub fn run(
+    table: &[u16],
+    p: Prepared,
+    rows: &[i32],
+    notes: &mut [u8],
+    trail: &mut [u32],
+    numbers: &mut [i64],
+    labels: &mut [u8],
+) -> Outcome
+    requires { ⌜ Runs (now table) p ⌝ }
+    ensures { λ r. ⌜ ((q : List ℕ) → Given q (now (table .entry)) p → Promised q (now (rows .entry)) (lent (now (notes .entry)) (now (trail .entry)) (now (numbers .entry)) (now (labels .entry))) (memory r (now (notes .exit)) (now (trail .exit)) (now (numbers .exit)) (now (labels .exit)))) ⌝ }
 {
-    let size = Extent {
-        rows: n,
-        columns: q.columns,
-        places: q.places,
-    };
-    let skip = skip_of(q.skip);
-    let task = Task {
-        size,
-        measures: q.measures,
-        skip,
-    };
-    Accepted {
-        top: q.top,
-        letters: q.letters,
-        task,
+    let answer = p.answer;
+    if answer != 0 {
+        return refused(answer, p.offset);
     }
+    let columns = p.columns;
+    if bad_rows(rows.len(), columns) {
+        return refused(10, 0);
+    }
+    let n = rows.len() / columns;
+    let pairs = p.places * (n + 1);
+    let short = short_room(pairs, notes.len(), trail.len());
+    if short != 0 {
+        return refused(short, 0);
+    }
+    walk_prepared(table, p, n, rows, notes, trail, numbers, labels)
 }
 
-// The search, with room for the tree of the query's pattern.
-fn search_in(
-    nodes: &mut [u16],
+// The search of a query for which a small table is too short.
+fn search_large(
     query: &[u8],
     rows: &[i32],
     notes: &mut [u8],
@@ -46,41 +58,15 @@ fn search_in(
     numbers: &mut [i64],
     labels: &mut [u8],
 ) -> Outcome
-    requires { ⌜ Nodes (now query) (now nodes) ⌝ }
     ensures { λ r. ⌜ Promised (now (query .entry)) (now (rows .entry)) (lent (now (notes .entry)) (now (trail .entry)) (now (numbers .entry)) (now (labels .entry))) (memory r (now (notes .exit)) (now (trail .exit)) (now (numbers .exit)) (now (labels .exit))) ⌝ }
 {
-    let mut defines = [0usize; 26];
-    let mut measures = [0u8; 24];
-    let q = room::read_query(query, nodes, &mut defines, &mut measures);
-    let answer = q.answer;
-    if answer != 0 {
-        return refused(answer, q.offset);
-    }
-    let columns = q.columns;
-    if sizes::bad_rows(rows.len(), columns) {
-        return refused(10, 0);
-    }
-    let n = rows.len() / columns;
-    let pairs = q.places * (n + 1);
-    let short = sizes::short_room(pairs, notes.len(), trail.len());
-    if short != 0 {
-        return refused(short, 0);
-    }
-    walk_all(
-        query,
-        nodes,
-        rows,
-        &defines,
-        &measures,
-        notes,
-        trail,
-        numbers,
-        labels,
-        accepted(q, n),
-    )
+    let mut table = [0u16; 3142];
+    let p = prepare(query, &mut table);
+    run(&table, p, rows, notes, trail, numbers, labels)
 }
 
-// The search. A short text gets a small room for its tree, since clearing a large one takes longer than the search of a few rows.
+// The search. A small table is tried first: it is enough for most queries, and clearing a large one
+// takes longer than the search of a few rows.
 pub fn search(
     query: &[u8],
     rows: &[i32],
@@ -91,10 +77,11 @@ pub fn search(
 ) -> Outcome
     ensures { λ r. ⌜ Promised (now (query .entry)) (now (rows .entry)) (lent (now (notes .entry)) (now (trail .entry)) (now (numbers .entry)) (now (labels .entry))) (memory r (now (notes .exit)) (now (trail .exit)) (now (numbers .exit)) (now (labels .exit))) ⌝ }
 {
-    if reading::text_is_short(query) {
-        let mut nodes = [0u16; 256];
-        return search_in(&mut nodes, query, rows, notes, trail, numbers, labels);
+    let mut table = [0u16; 768];
+    let p = prepare(query, &mut table);
+    let answer = p.answer;
+    if answer == NO_ROOM {
+        return search_large(query, rows, notes, trail, numbers, labels);
     }
-    let mut nodes = [0u16; 4096];
-    search_in(&mut nodes, query, rows, notes, trail, numbers, labels)
+    run(&table, p, rows, notes, trail, numbers, labels)
 }

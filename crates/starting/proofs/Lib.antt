@@ -1,2 +1,3 @@
-pub mod Ending
+mod Thin
 pub mod Starting
+pub mod Ending

@@ -1,58 +1,46 @@
--- What the walk asks, from a query that is read: unrolling may begin, and the tables stand for the query's search.
+-- What the sweep asks, from a query that is prepared: the table stands for the query's search.
 use mathlib.Core.Path.{_≡_, refl, ap, ap₂, sym, _∙_}
-use mathlib.Core.Bool.{Bool, true, false, not, _&&_, _||_}
+use mathlib.Core.Bool.{Bool}
 use mathlib.Core.List.{List, [], _∷_}
-use mathlib.Core.Option.{Option, none, some}
 use Prim.Native.Nat.{ℕ, zero, suc, _+_, _-_, _*_, _/_, _≤_, _<_}
 use native.Mathlib.Nat.{mul-le-mul, mul-div-cancel}
 use native.Mathlib.Omega.{arith}
-use lib.Dec.{eqb, ltb}
-use borrow.Author.Tests.{ltb-true}
+use lib.Dec.{eqb}
 use lib.IntN.{ℤ}
-use lib.ListN.{length, getD, take, drop, replicate, length-replicate}
-use Rattle.rules.specs.Basics.{inRange, isLetter}
+use lib.ListN.{length, getD}
 use Rattle.rules.specs.Rows.{Table, Comparison, tableOf, holds}
-use Rattle.rules.specs.Query.{Measure, functionFits, columnsOf, textOf, parts}
-use Rattle.rules.specs.Language.{Tree, pattern, emptyLoop, Written}
-use Rattle.rules.specs.Places.{Place, pLetter, pCaret, pDollar, pFork, pEnd, unroll, places, placesOf}
+use Rattle.rules.specs.Query.{Measure, textOf, parts}
+use Rattle.rules.specs.Language.{emptyLoop}
+use Rattle.rules.specs.Places.{Place, pLetter, pCaret, pDollar, pFork, pEnd, unroll, places}
 use Rattle.rules.specs.Walk.{pairs}
 use Rattle.rules.specs.Search.{Match, walkSearch}
-use Rattle.rules.specs.Report.{fits}
+use Rattle.rules.specs.Report.{fits, numbersOf, labelsOf}
 use Rattle.rules.specs.Answers.{treeIn, letterHolds, taskOf, walked}
+use Rattle.rules.specs.Working.{thinned}
 use Rattle.rules.proofs.Accepted.{places-are}
 use Rattle.rules.proofs.Bounds.{Lettered, written-letters}
-use Rattle.rules.proofs.Choice.{and-left, and-right}
 use Rattle.rules.proofs.Counting.{legal-unroll, places-counted}
-use Rattle.rules.proofs.Distinct.{thinned, thinned-at, walk-thin}
+use Rattle.rules.proofs.Distinct.{walk-thin}
 use Rattle.rules.proofs.Grammar.{tree-exactly}
 use Rattle.rules.proofs.PatternWalk.{walk-kept}
 use Rattle.rules.proofs.SameLetters.{search-agrees}
-use Rattle.rules.proofs.ThinPlaces.{Leads, Spelt, thinned-spelt}
+use Rattle.rules.proofs.ThinPlaces.{Leads, thinned-spelt}
 use Rattle.rules.proofs.Rank.{rank}
 use Rattle.table.specs.Table.{placeAt, placesIn}
-use Rattle.decode.specs.Layout.{Decoded}
-use Rattle.define_list.specs.Defines.{Body, definedAt}
-use Rattle.measure_list.specs.Measures.{measureIn, measuresIn}
-use Rattle.forks.specs.Emitting.{Unrolling, Tabled}
-use Rattle.tests.specs.Tests.{Prepared, Preparable, Letters}
-use Rattle.tests.proofs.Uses.{preparable, word-seven, letters-room}
-use Rattle.pairs.specs.Letters.{holdsIn}
+use Rattle.table.specs.Tests.{holdsIn, definedIn, testAt}
+use Rattle.table.specs.Measures.{measuresIn}
 use Rattle.pairs.specs.Layout as W
+use Rattle.pairs.specs.Layout.{layoutOf, lettersOf, Tested}
 use Rattle.matches.specs.Asked as S
-use Rattle.matches.specs.Asked.{asked}
-use Rattle.matches.specs.Found.{Measured}
-use Rattle.sweep.specs.Searched.{Searches}
-use Rattle.starting.specs.Starts.{TableRoom, Walks, WalksIn, Runs}
+use Rattle.matches.specs.Asked.{askedOf, toNext}
+use Rattle.matches.specs.Found.{Measured, Searches}
+use Rattle.matches.specs.declared.Skip.{Skip}
+use Rattle.matches.specs.declared.Task.{Task}
+use Rattle.prepared.specs.Ready.{Ready, measuresAt, testsAt}
+use Rattle.prepared.specs.declared.Prepared.{Prepared}
+use Rattle.starting.specs.Starts.{TaskFor, Fed, Walks}
 use Rattle.places.proofs.Legal.{placed-leads, placed-falls, placed-bound}
-use Rattle.places.proofs.Spelling.{all-letters}
-use Rattle.starting.proofs.Ending.{numbers-thin, labels-of-thin}
-
--- the column of a measure that fits lies below the columns
-third-part : (f l c columns : ℕ) → functionFits columns f l c ≡ true → ltb c columns ≡ true
-unfolding functionFits
-third-part f l c columns e =
-    let r : Bool = ltb c columns && (not (eqb f 1) || eqb c 0) in
-    and-left (ltb c columns) (not (eqb f 1) || eqb c 0) (and-right (eqb l 0 || isLetter l) r (and-right (inRange 1 6 f) ((eqb l 0 || isLetter l) && r) e))
+use Rattle.starting.proofs.Thin.{numbers-thin, labels-of-thin}
 
 -- the walk's word for where a place leads is the rules'
 same-leads : (P : ℕ) (p : Place) → Leads P p → W.Leads P p
@@ -62,156 +50,129 @@ same-leads P (pDollar k) l = l
 same-leads P (pFork ks) l = l
 same-leads P pEnd l = l
 
--- tables of zeros have room
-small-table : (p : ℕ) → p ≤ 32 → TableRoom p (replicate 224 0)
-small-table p h = let e = length-replicate {A = ℕ} 224 0 in record { long = omega arith; few = omega arith }
+-- the task of a prepared query, by its numbers
+abbrev taskBy : Prepared → ℕ → Task → Task
+taskBy p n t = record { size = record { rows = n; columns = p .columns; places = p .places; tests = testsAt (p .places) }; measures = measuresAt (p .places); count = p .count; skip = t .skip }
 
-large-table : (p : ℕ) → p ≤ 256 → TableRoom p (replicate 1792 0)
-large-table p h = let e = length-replicate {A = ℕ} 1792 0 in record { long = omega arith; few = omega arith }
+abbrev mk : ℕ → ℕ → ℕ → ℕ → ℕ → ℕ → Skip → Task
+mk rows columns places tests measures count skip = record { size = record { rows = rows; columns = columns; places = places; tests = tests }; measures = measures; count = count; skip = skip }
 
-module _ (q nodes : List ℕ) (top p : ℕ) (rows : List ℤ) (columns n : ℕ) (defines : List ℕ) (letters : ℕ) (ms : List ℕ) (count : ℕ) (mode : Bool) (notes trail : List ℕ)
-    (a : Walks q nodes top p rows columns n defines letters ms count mode notes trail) where
-  pub the-lettered : Lettered (a .tree)
+task-is : (p : Prepared) (n : ℕ) (t : Task) → TaskFor p n t → t ≡ taskBy p n t
+task-is p n t f =
+    let e : mk (t .size .rows) (t .size .columns) (t .size .places) (t .size .tests) (t .measures) (t .count) (t .skip) ≡ taskBy p n t = rw (f .rows, f .columns, f .places, f .tests, f .measures, f .count) in e
+
+module _ (q T : List ℕ) (p : Prepared) (a : Ready q T p) (n : ℕ) (rows : List ℤ) (notes trail : List ℕ) (f : Fed p n rows notes trail) where
+  abbrev holdsAt : ℕ → ℕ → Bool
+  holdsAt = holdsIn T (testsAt (p .places)) (p .columns) rows
+
+  abbrev L : W.Layout
+  L = W.layout T (p .places)
+
+  the-lettered : Lettered (a .tree)
   unfolding treeIn
   the-lettered = written-letters (tree-exactly (textOf q) (a .tree) .0 (a .has-tree))
 
-  -- unrolling
-  unfoldable pub may-unroll : (table : List ℕ) → TableRoom p table → Unrolling nodes top p table
-  may-unroll table e =
-      record { tree = a .tree; is = a .held; count = a .places-are; few = omega (arith, a .few, a .places-are); long = e .long; small = omega (arith, e .few); spelt = all-letters (a .tree) the-lettered }
-
-  pub in-small : p ≤ 32 → WalksIn (replicate 224 0) q nodes top p rows columns n defines letters ms count mode notes trail
-  in-small h = record { room = small-table p h; walks = a }
-
-  pub in-large : WalksIn (replicate 1792 0) q nodes top p rows columns n defines letters ms count mode notes trail
-  in-large = record { room = large-table p (omega (arith, a .few, a .places-are)); walks = a }
-
   -- ---- the task
 
-  the-columns : columns ≡ parts q .columns
-  the-columns = a .columns-are ∙ a .decoded .columns
-
-  the-table : tableOf columns rows ≡ taskOf q rows .table
+  the-table : tableOf (p .columns) rows ≡ taskOf q rows .table
   unfolding taskOf
-  the-table = ap (λ (c : ℕ). tableOf c rows) the-columns
+  the-table = ap (λ (c : ℕ). tableOf c rows) (a .columns-are)
 
   the-rows : n ≡ taskOf q rows .table .n
   unfolding tableOf
-  the-rows = let z : 0 < columns = omega (arith, a .columns-are, a .decoded .some) in sym (ap (λ (k : ℕ). k / columns) (a .all) ∙ mul-div-cancel n z) ∙ ap (λ (t : Table). t .n) the-table
+  the-rows =
+      let z : 0 < p .columns = a .some-columns in
+      sym (ap (λ (k : ℕ). k / p .columns) (f .all) ∙ mul-div-cancel n z) ∙ ap (λ (t : Table). t .n) the-table
 
-  the-measures : measuresIn ms count ≡ taskOf q rows .measures
+  the-measures : measuresIn T (measuresAt (p .places)) (p .count) ≡ taskOf q rows .measures
   unfolding taskOf
-  the-measures = ap (measuresIn ms) (a .count-is) ∙ a .decoded .measured
+  the-measures = a .measures-are
 
-  the-mode : mode ≡ taskOf q rows .mode
+  the-mode : eqb (p .skip) 1 ≡ taskOf q rows .mode
   unfolding taskOf
-  the-mode = a .mode-is ∙ ap (λ (k : ℕ). eqb k 1) (a .decoded .skip)
+  the-mode = ap (λ (k : ℕ). eqb k 1) (a .skip-is)
 
   the-places : taskOf q rows .places ≡ places (unroll (a .tree))
   the-places = places-are q rows (a .tree) (a .has-tree)
 
-  -- letters by the table of tests are letters by the query
-  the-body : (l : ℕ) → l < 26 → (getD defines l 0 ≡ 0 → ⊥) → Body q columns (getD defines l 0)
-  the-body l h f = rw (a .columns-are) (a .decoded .letters l h .body f)
-
-  letters-agree : (tests : List ℕ) → Prepared q columns n defines tests → (c : ℕ) → 65 ≤ c → c ≤ 90 → (i : ℕ) → holdsIn rows columns q tests c i ≡ letterHolds (taskOf q rows) c i
-  unfolding holdsIn letterHolds taskOf parts
-  letters-agree tests t c lo hi i =
+  -- letters by the table are letters by the query
+  letters-agree : (c : ℕ) → 65 ≤ c → c ≤ 90 → (i : ℕ) → holdsAt c i ≡ letterHolds (taskOf q rows) c i
+  unfolding holdsIn letterHolds taskOf
+  letters-agree c lo hi i =
       let l : c - 65 < 26 = omega arith in
       let e : 65 + (c - 65) ≡ c = omega arith in
-      let y : definedAt q (getD tests ((c - 65) * 8 + 7) 0) ≡ taskOf q rows .comparisons c =
-      ap (definedAt q) (word-seven q columns defines the-body n tests t (c - 65) l) ∙ a .decoded .letters (c - 65) l .is ∙ comparisons-at (65 + (c - 65)) c e in
+      let y : definedIn T (p .columns) (testAt (testsAt (p .places)) (c - 65)) ≡ parts q .comparisons c = a .letters (c - 65) l ∙ ap (λ (k : ℕ). parts q .comparisons k) e in
       ap₂ (λ (t : Table) (cs : List Comparison). holds t i cs) the-table y
-    where
-      comparisons-at : (x y : ℕ) → x ≡ y → parts q .comparisons x ≡ taskOf q rows .comparisons y
-      comparisons-at x y e = ap (λ (k : ℕ). parts q .comparisons k) e
 
   -- ---- what the starts ask
 
   product-le : (x y z w : ℕ) → x ≤ z → y ≤ w → x * y ≤ z * w
   product-le x y z w h k = mul-le-mul h k
 
-  few-pairs : pairs p n < 2097152
-  few-pairs = let h : p * suc n ≤ 256 * 4097 = product-le p (suc n) 256 4097 (omega (arith, a .few, a .places-are)) (omega (arith, a .most)) in omega arith
+  few-pairs : pairs (p .places) n < 2097152
+  few-pairs = let h : p .places * suc n ≤ 256 * 4097 = product-le (p .places) (suc n) 256 4097 (a .few) (let m = f .most in omega arith) in omega arith
 
-  some-place : 1 ≤ placesOf (a .tree)
-  unfolding placesOf
-  some-place = omega arith
+  legal : W.Legal L holdsAt n
+  unfolding W.graphOf
+  legal =
+      record {
+        sized = a .sized;
+        leads = λ x h. same-leads (p .places) (placeAt T x) (placed-leads T (p .places) (a .tree) (a .places-are) (a .placed) (a .no-loop) x h);
+        ρ = rank (unroll (a .tree)) n;
+        falls = placed-falls T (p .places) (a .tree) (a .places-are) (a .placed) (a .no-loop) holdsAt n;
+        bound = placed-bound T (p .places) (a .tree) (a .places-are) (a .placed) (a .no-loop) holdsAt n;
+        small = few-pairs;
+        rows = f .most;
+      }
 
-  column-fits : (k : ℕ) → k < count → getD ms (k * 3 + 2) 0 < columns
-  unfolding measureIn
-  column-fits k h =
-      let f : functionFits (a .parts .columns) (getD ms (k * 3) 0) (getD ms (k * 3 + 1) 0) (getD ms (k * 3 + 2) 0) ≡ true = a .decoded .fit k (omega (arith, a .count-is)) in
-      let z : ltb (getD ms (k * 3 + 2) 0) (a .parts .columns) ≡ true = third-part (getD ms (k * 3) 0) (getD ms (k * 3 + 1) 0) (getD ms (k * 3 + 2) 0) (a .parts .columns) f in
-      omega (arith, ltb-true (getD ms (k * 3 + 2) 0) (a .parts .columns) z, a .columns-are)
-
-  the-measured : Measured ms count rows columns n
-  the-measured = record { few = omega (arith, a .count-is, a .decoded .few); few-rows = a .most; there = omega (arith, a .all); long = omega (arith, a .long, a .count-is, a .decoded .few); columned = column-fits }
-
-  the-letters : (tests : List ℕ) → Prepared q columns n defines tests → Letters tests q rows columns n
-  the-letters tests t = letters-room q columns defines the-body n tests t rows (omega (arith, a .columns-are, a .decoded .some)) (omega (arith, a .columns-are, a .decoded .most)) (a .most) (a .all)
-
-  pub may-prepare : Preparable q columns defines letters (replicate 208 0)
-  may-prepare =
-      preparable q columns defines the-body letters (omega (arith, a .columns-are, a .decoded .most)) (omega (arith, a .letters-are, a .decoded .upto))
-      (λ l h w. a .decoded .free l (omega (arith, a .letters-are)) w)
-
-  module _ (table₀ table : List ℕ) (end : ℕ) (b : Tabled (a .tree) p table₀ table end) (tests : List ℕ) (t : Prepared q columns n defines tests) where
-    abbrev g : emptyLoop (a .tree) ≡ false
-    g = a .no-loop
-
-    abbrev T : W.Layout
-    T = W.layout table p
-
-    T-legal : W.Legal T (holdsIn rows columns q tests) n
-    unfolding W.graphOf
-    T-legal =
+  module _ (t : Task) (h : TaskFor p n t) where
+    searches-by : Searches T rows (taskBy p n t) notes trail
+    searches-by =
+        let m = f .most in
+        let e = f .all in
         record {
-          sized = b .sized;
-          leads = λ x h. same-leads p (placeAt table x) (placed-leads table p (a .tree) (a .places-are) (b .is) g x h);
-          ρ = rank (unroll (a .tree)) n;
-          falls = placed-falls table p (a .tree) (a .places-are) (b .is) g (holdsIn rows columns q tests) n;
-          bound = placed-bound table p (a .tree) (a .places-are) (b .is) g (holdsIn rows columns q tests) n;
-          small = few-pairs;
-          rows = a .most;
+          letters = record { tests-there = a .tests; some = a .some-columns; few = a .most-columns; most = f .most; all = f .all };
+          measured = record { few = a .count-few; few-rows = f .most; there = omega arith; measurable = a .measurable };
+          legal = legal;
+          noted = f .noted;
+          trailed = f .trailed;
         }
 
-    T-found : (nums labs : ℕ)
-        → S.searchOf (asked T (holdsIn rows columns q tests) n mode (tableOf columns rows) (measuresIn ms count)) nums labs ≡ walked (taskOf q rows) nums labs
+    pub may-search : Searches T rows t notes trail
+    may-search = rw (task-is p n t h) searches-by
+
+    -- ---- and what they come to
+
+    found-by : (nums labs : ℕ) → S.searchOf (askedOf T rows (taskBy p n t)) nums labs ≡ walked (taskOf q rows) nums labs
     unfolding S.searchOf walked
-    T-found nums labs =
-        rw (b .is)
-        (search-agrees (holdsIn rows columns q tests) (letterHolds (taskOf q rows)) (letters-agree tests t) n (thinned (places (unroll (a .tree)))) (thinned-spelt (a .tree) the-lettered) mode (fits nums labs (measuresIn ms count))
-        ∙ walk-thin (unroll (a .tree)) (legal-unroll (a .tree) g) (letterHolds (taskOf q rows)) n mode (fits nums labs (measuresIn ms count))
-        ∙ same-search (places (unroll (a .tree))) (taskOf q rows .places) n (taskOf q rows .table .n) mode (taskOf q rows .mode) (measuresIn ms count) (taskOf q rows .measures) (sym the-places) the-rows the-mode the-measures)
+    found-by nums labs =
+        rw (a .placed)
+        (search-agrees holdsAt (letterHolds (taskOf q rows)) letters-agree n (thinned (places (unroll (a .tree)))) (thinned-spelt (a .tree) the-lettered) (toNext (t .skip)) (fits nums labs (measuresIn T (measuresAt (p .places)) (p .count)))
+        ∙ walk-thin (unroll (a .tree)) (legal-unroll (a .tree) (a .no-loop)) (letterHolds (taskOf q rows)) n (toNext (t .skip)) (fits nums labs (measuresIn T (measuresAt (p .places)) (p .count)))
+        ∙ same-search (places (unroll (a .tree))) (taskOf q rows .places) n (taskOf q rows .table .n) (toNext (t .skip)) (taskOf q rows .mode) (measuresIn T (measuresAt (p .places)) (p .count)) (taskOf q rows .measures) (sym the-places) the-rows (h .skip ∙ the-mode) the-measures)
       where
         same-search : (pl pl′ : List Place) (m m′ : ℕ) (o o′ : Bool) (x x′ : List Measure) → pl ≡ pl′ → m ≡ m′ → o ≡ o′ → x ≡ x′
             → walkSearch (letterHolds (taskOf q rows)) m pl o (fits nums labs x) ≡ walkSearch (letterHolds (taskOf q rows)) m′ pl′ o′ (fits nums labs x′)
         same-search pl pl′ m m′ o o′ x x′ e f h i = rw (e, f, h, i)
 
-    T-counted : (nums labs : ℕ) → W.N T n ≡ length (walked (taskOf q rows) nums labs .state .0)
+    pub found : (nums labs : ℕ) → S.searchOf (askedOf T rows t) nums labs ≡ walked (taskOf q rows) nums labs
+    found nums labs = rw (task-is p n t h) (found-by nums labs)
+
+    pub numbered : (k : ℕ) (xs : List Match)
+        → numbersOf (tableOf (t .size .columns) rows) (measuresIn T (t .measures) (t .count)) (placesIn T (t .size .places)) k xs ≡ numbersOf (taskOf q rows .table) (taskOf q rows .measures) (taskOf q rows .places) k xs
+    numbered k xs =
+        rw (h .columns, h .measures, h .count, h .places, a .placed, the-table, the-measures, the-places)
+        (numbers-thin (taskOf q rows .table) (taskOf q rows .measures) (places (unroll (a .tree))) k xs)
+
+    pub labelled : (xs : List Match) → labelsOf (placesIn T (t .size .places)) xs ≡ labelsOf (taskOf q rows .places) xs
+    labelled xs = rw (h .places, a .placed, the-places) (labels-of-thin (places (unroll (a .tree))) xs)
+
+    pub counted : (nums labs : ℕ) → W.N (layoutOf T (t .size)) (t .size .rows) ≡ length (walked (taskOf q rows) nums labs .state .0)
     unfolding walked
-    T-counted nums labs =
-        ap₂ (λ (x y : ℕ). pairs x y) (a .places-are ∙ sym (places-counted (a .tree)) ∙ ap length (sym the-places)) the-rows
-        ∙ sym (rw the-places (walk-kept (unroll (a .tree)) (legal-unroll (a .tree) g) (letterHolds (taskOf q rows)) (taskOf q rows .table .n) (taskOf q rows .mode) (fits nums labs (taskOf q rows .measures))))
+    counted nums labs =
+        ap₂ (λ (x y : ℕ). pairs x y) (h .places ∙ a .places-are ∙ sym (places-counted (a .tree)) ∙ ap length (sym the-places)) (h .rows ∙ the-rows)
+        ∙ sym (rw the-places (walk-kept (unroll (a .tree)) (legal-unroll (a .tree) (a .no-loop)) (letterHolds (taskOf q rows)) (taskOf q rows .table .n) (taskOf q rows .mode) (fits nums labs (taskOf q rows .measures))))
 
-    runs : Runs q T rows columns n tests ms count mode notes trail
-    runs =
-        record {
-          asks = the-letters tests t;
-          searches = record { measured = the-measured; legal = T-legal; noted = a .noted; trailed = a .trailed };
-          found = T-found;
-          numbered = λ k xs. rw (b .is, the-table, the-measures, the-places) (numbers-thin (taskOf q rows .table) (taskOf q rows .measures) (places (unroll (a .tree))) k xs);
-          labelled = λ xs. rw (b .is, the-places) (labels-of-thin (places (unroll (a .tree))) xs);
-          counted = T-counted;
-        }
-
-  -- as the code calls one after the other
-  module _ (table₀ table : List ℕ) (end : ℕ) (f : (h : Unrolling nodes top p table₀) → Tabled (h .tree) p table₀ table end) (e : TableRoom p table₀) where
-    pub may-keep : length table ≡ length table₀
-    may-keep = f (may-unroll table₀ e) .len
-
-    module _ (tests : List ℕ) (t : Prepared q columns n defines tests) where
-      pub may-run : Runs q (W.layout table p) rows columns n tests ms count mode notes trail
-      unfolding may-unroll
-      may-run = runs table₀ table end (f (may-unroll table₀ e)) tests t
+-- as the code asks it
+pub walk-searches : (T : List ℕ) (p : Prepared) (n : ℕ) (rows : List ℤ) (notes trail : List ℕ) → Walks T p n rows notes trail → (t : Task) → TaskFor p n t → Searches T rows t notes trail
+walk-searches T p n rows notes trail w t h = may-search (w .query) T p (w .ready) n rows notes trail (w .fed) t h

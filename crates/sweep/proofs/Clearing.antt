@@ -13,12 +13,15 @@ use Rattle.rules.specs.Basics.{wrote}
 use Rattle.rules.specs.Report.{bytesFor, bitOf, bitAt, zeros}
 use Rattle.rules.proofs.Appended.{wrote-none, wrote-on, length-wrote-at}
 use Rattle.rules.proofs.Lists.{front-wrote, beyond-wrote}
-use Rattle.rules.proofs.Notes.{bitsOf, bitsOf-at, bitsFrom-length}
+use Rattle.rules.proofs.Notes.{bitsOf-at, bitsFrom-length}
+use Rattle.rules.specs.Working.{bitsOf}
 use Rattle.rules.proofs.NotesWritten.{wrote-over, notes-written}
 use Rattle.pairs.specs.Layout.{P, N}
 use Rattle.matches.specs.declared.Sweep.{Sweep}
-use Rattle.matches.specs.Asked.{Asked, searchOf}
-use Rattle.sweep.specs.Searched.{Searches, Starts, Searched, Answered}
+use Rattle.matches.specs.declared.Task.{Task}
+use Rattle.matches.specs.Found.{Searches}
+use Rattle.matches.specs.Asked.{Asked, searchOf, askedOf}
+use Rattle.sweep.specs.Searched.{Starts, Searched, Answered}
 
 -- ---- zeros
 
@@ -80,7 +83,10 @@ bits-same : (a b : List ℕ) (z : ℕ) → getD a (z / 8) 0 ≡ getD b (z / 8) 0
 unfolding bitAt
 bits-same a b z e = rw e
 
-module _ (A : Asked) (ms : List ℕ) (count : ℕ) (rows : List ℤ) (columns : ℕ) (n₀ t₀ : List ℕ) (h : Searches A ms count rows columns n₀ t₀) where
+module _ (W : List ℕ) (rows : List ℤ) (task : Task) (n₀ t₀ : List ℕ) (h : Searches W rows task n₀ t₀) where
+  abbrev A : Asked
+  A = askedOf W rows task
+
   abbrev M : ℕ
   M = N (A .layout) (A .n)
 
@@ -125,11 +131,11 @@ module _ (A : Asked) (ms : List ℕ) (count : ℕ) (rows : List ℤ) (columns : 
     same-bit : (z : ℕ) → B ≤ z / 8 → bitAt n₁ z ≡ bitAt n₀ z
     same-bit z l = bits-same n₁ n₀ z (ap (λ (s : List ℕ). getD s (z / 8) 0) e₁′ ∙ beyond-wrote n₀ (zeros B) (z / 8) 0 (rw (zeros-long B) l))
 
-    pub cleared-starts : Starts A ms count rows columns n₁ t₀
+    pub cleared-starts : Starts W rows task n₁ t₀
     unfolding bytesFor
     cleared-starts =
         record {
-          searches = record { measured = h .measured; legal = h .legal; noted = rw long₁ (h .noted); trailed = h .trailed };
+          searches = record { letters = h .letters; measured = h .measured; legal = h .legal; noted = rw long₁ (h .noted); trailed = h .trailed };
           none-failed = ext-getD false (bitsOf n₁ M) (replicate M false) (bitsFrom-length n₁ M 0 ∙ sym (length-replicate M false))
               (λ k l. let m : k < M = rw (bitsFrom-length n₁ M 0) at l in bitsOf-at n₁ M k m ∙ zero-bit k (omega arith) ∙ sym (getD-replicate M k false false m));
         }

@@ -16,14 +16,15 @@ use Rattle.rules.specs.Search.{Match, Swept, Plan, Kept, sweep, byFit, onAnswer
 use Rattle.rules.specs.Walk.{pairs, firstAt, pairWays}
 use Rattle.rules.proofs.Appended.{wrote-none, wrote-on, length-wrote-at, numbers-on, labels-on, fits-room}
 use Rattle.rules.proofs.Limits.{numbers-long}
-use Rattle.rules.proofs.Notes.{bitsOf}
+use Rattle.rules.specs.Working.{bitsOf}
 use Rattle.rules.proofs.Starts.{next-on}
 use Rattle.pairs.specs.Layout.{P, N, graphOf}
 use Rattle.pairs.proofs.Ways.{in-length}
 use Rattle.matches.specs.declared.Sweep.{Sweep}
-use Rattle.matches.specs.Asked.{Asked, pl, width, searchOf}
-use Rattle.matches.specs.Found.{swept, Quiet, Written, ToldBy, Told, Visits, attemptAt, Visited}
-use Rattle.sweep.specs.Searched.{Searches, Starts, Searched}
+use Rattle.matches.specs.declared.Task.{Task}
+use Rattle.matches.specs.Asked.{Asked, pl, width, searchOf, askedOf}
+use Rattle.matches.specs.Found.{swept, Quiet, Written, ToldBy, Told, Visits, attemptAt, Visited, Searches}
+use Rattle.sweep.specs.Searched.{Starts, Searched}
 
 -- matches before
 abbrev pub pre : List Match → Swept Kept → Swept Kept
@@ -38,30 +39,30 @@ swp A nums labs k i m l kept =
 abbrev pub M : Asked → ℕ
 M A = N (A .layout) (A .n)
 
-pub record SoFar (A : Asked) (ms : List ℕ) (count : ℕ) (rows : List ℤ) (columns : ℕ) (n₁ t₁ : List ℕ) (num₁ : List ℤ) (lab₁ : List ℕ)
+pub record SoFar (W : List ℕ) (rows : List ℤ) (task : Task) (n₁ t₁ : List ℕ) (num₁ : List ℤ) (lab₁ : List ℕ)
     (notes trail : List ℕ) (numbers : List ℤ) (labs : List ℕ) (i : Sweep) : Type 0 where
-  pub searches : Searches A ms count rows columns n₁ t₁
+  pub searches : Searches W rows task n₁ t₁
   pub notes-long : length notes ≡ length n₁
   pub trail-long : length trail ≡ length t₁
-  pub notes-beyond : (z : ℕ) → M A ≤ z → bitAt notes z ≡ bitAt n₁ z
-  pub trail-beyond : (k : ℕ) → M A ≤ k → getD trail k 0 ≡ getD t₁ k 0
+  pub notes-beyond : (z : ℕ) → M (askedOf W rows task) ≤ z → bitAt notes z ≡ bitAt n₁ z
+  pub trail-beyond : (k : ℕ) → M (askedOf W rows task) ≤ k → getD trail k 0 ≡ getD t₁ k 0
   pub fuel : ℕ
   pub done : List Match
   pub rest : Swept Kept
-  pub enough : A .n ≤ i .row + fuel
-  pub total : pre done rest ≡ searchOf A (length num₁) (length lab₁)
+  pub enough : (askedOf W rows task) .n ≤ i .row + fuel
+  pub total : pre done rest ≡ searchOf (askedOf W rows task) (length num₁) (length lab₁)
   pub stop : Bool
   pub end-is : i .end ≡ pick stop 13 0
-  pub going : stop ≡ false → rest ≡ swp A (length num₁) (length lab₁) fuel (i .row) (i .matches) (i .labels) (bitsOf notes (M A), i .steps)
-  pub over : stop ≡ true → (i .row ≡ A .n) × ((t : Match) × (rest ≡ record { matches = []; full = some t; state = (bitsOf notes (M A), i .steps) }))
+  pub going : stop ≡ false → rest ≡ swp (askedOf W rows task) (length num₁) (length lab₁) fuel (i .row) (i .matches) (i .labels) (bitsOf notes (M (askedOf W rows task)), i .steps)
+  pub over : stop ≡ true → (i .row ≡ (askedOf W rows task) .n) × ((t : Match) × (rest ≡ record { matches = []; full = some t; state = (bitsOf notes (M (askedOf W rows task)), i .steps) }))
   pub m-is : i .matches ≡ length done
-  pub l-is : i .labels ≡ length (labelsOf (pl A) done)
-  pub numbers-is : numbers ≡ wrote num₁ 0 (numbersOf (A .rows) (A .measures) (pl A) 0 done)
-  pub labels-is : labs ≡ wrote lab₁ 0 (labelsOf (pl A) done)
-  pub nums : i .matches * width A ≤ length num₁
+  pub l-is : i .labels ≡ length (labelsOf (pl (askedOf W rows task)) done)
+  pub numbers-is : numbers ≡ wrote num₁ 0 (numbersOf ((askedOf W rows task) .rows) ((askedOf W rows task) .measures) (pl (askedOf W rows task)) 0 done)
+  pub labels-is : labs ≡ wrote lab₁ 0 (labelsOf (pl (askedOf W rows task)) done)
+  pub nums : i .matches * width (askedOf W rows task) ≤ length num₁
   pub labs-le : i .labels ≤ length lab₁
   pub few : i .matches ≤ i .row
-  pub steps : i .steps ≤ i .row * M A
+  pub steps : i .steps ≤ i .row * M (askedOf W rows task)
 
 sweep-on : (att : ℕ → Kept → Option (List ℕ) × Kept) (plan : Plan) (k i m l : ℕ) (kept : Kept) → i < plan .n
     → sweep att plan (suc k) i m l kept ≡ onAnswer plan (sweep att plan k) i m l ((att i kept) .0) ((att i kept) .1)
@@ -77,14 +78,17 @@ sweep-off att plan (suc k) i m l kept h = rw (le-ltb i (plan .n) h)
 one-more : (ms : List Match) (t : Match) (r : Swept Kept) → pre (ms ++ (t ∷ [])) r ≡ pre ms (withMatch t r)
 one-more ms t r = ap (λ (l : List Match). record { matches = l; full = r .full; state = r .state }) (append-assoc ms (t ∷ []) (r .matches))
 
-module _ (A : Asked) (ms : List ℕ) (count : ℕ) (rows : List ℤ) (columns : ℕ) (n₁ t₁ : List ℕ) (num₁ : List ℤ) (lab₁ : List ℕ) where
+module _ (W : List ℕ) (rows : List ℤ) (task : Task) (n₁ t₁ : List ℕ) (num₁ : List ℤ) (lab₁ : List ℕ) where
+  abbrev A : Asked
+  A = askedOf W rows task
+
   abbrev sw : ℕ → ℕ → ℕ → ℕ → Kept → Swept Kept
   sw = swp A (length num₁) (length lab₁)
 
   abbrev fit : ℕ → ℕ → List ℕ → Bool
   fit = fits (length num₁) (length lab₁) (A .measures)
 
-  pub so-none : Starts A ms count rows columns n₁ t₁ → SoFar A ms count rows columns n₁ t₁ num₁ lab₁ n₁ t₁ num₁ lab₁ (record { end = 0; row = 0; matches = 0; labels = 0; steps = 0 })
+  pub so-none : Starts W rows task n₁ t₁ → SoFar W rows task n₁ t₁ num₁ lab₁ n₁ t₁ num₁ lab₁ (record { end = 0; row = 0; matches = 0; labels = 0; steps = 0 })
   unfolding searchOf walkSearch numbersOf labelsOf
   so-none h =
       record {
@@ -112,7 +116,7 @@ module _ (A : Asked) (ms : List ℕ) (count : ℕ) (rows : List ℤ) (columns : 
         steps = omega arith;
       }
 
-  module _ (notes trail : List ℕ) (numbers : List ℤ) (labs : List ℕ) (i : Sweep) (h : SoFar A ms count rows columns n₁ t₁ num₁ lab₁ notes trail numbers labs i) where
+  module _ (notes trail : List ℕ) (numbers : List ℤ) (labs : List ℕ) (i : Sweep) (h : SoFar W rows task n₁ t₁ num₁ lab₁ notes trail numbers labs i) where
     abbrev F : List Bool
     F = bitsOf notes (M A)
 
@@ -136,13 +140,17 @@ module _ (A : Asked) (ms : List ℕ) (count : ℕ) (rows : List ℤ) (columns : 
           let d = h .steps in
           omega arith
 
-      pub so-visits : Visits A ms count rows columns notes trail labs i
+      pub so-visits : Visits W rows task notes trail labs i
       so-visits =
           record {
-            measured = h .searches .measured;
-            legal = h .searches .legal;
-            noted = rw (h .notes-long) (h .searches .noted);
-            trailed = rw (h .trail-long) (h .searches .trailed);
+            searches =
+                record {
+                  letters = h .searches .letters;
+                  measured = h .searches .measured;
+                  legal = h .searches .legal;
+                  noted = rw (h .notes-long) (h .searches .noted);
+                  trailed = rw (h .trail-long) (h .searches .trailed);
+                };
             row = lt;
             steps = steps-fit;
             few = h .few;
@@ -180,7 +188,7 @@ module _ (A : Asked) (ms : List ℕ) (count : ℕ) (rows : List ℤ) (columns : 
 
       module _ (notes′ trail′ : List ℕ) (numbers′ : List ℤ) (labs′ : List ℕ) (r : Sweep) (v : Visited A notes notes′ trail trail′ numbers numbers′ labs labs′ i r) where
         abbrev Goal : Sweep → Type 0
-        Goal q = SoFar A ms count rows columns n₁ t₁ num₁ lab₁ notes′ trail′ numbers′ labs′ q
+        Goal q = SoFar W rows task n₁ t₁ num₁ lab₁ notes′ trail′ numbers′ labs′ q
 
         module _ (k : ℕ) (ek : h .fuel ≡ suc k) (F′ : List Bool) (s′ : ℕ) (eF : bitsOf notes′ (M A) ≡ F′) (ls : s′ ≤ i .steps + M A) where
           by-row : (j : ℕ) → suc (i .row) ≤ j → s′ ≤ j * M A
@@ -341,7 +349,7 @@ module _ (A : Asked) (ms : List ℕ) (count : ℕ) (rows : List ℤ) (columns : 
         by-fuel zero e = absurd (let en = h .enough in omega arith)
         by-fuel (suc k) e = by-att k e (att .1 .0) (att .1 .1) (v .kept) (v .more) (att .0) refl (v .told)
 
-        pub so-more : SoFar A ms count rows columns n₁ t₁ num₁ lab₁ notes′ trail′ numbers′ labs′ r
+        pub so-more : SoFar W rows task n₁ t₁ num₁ lab₁ notes′ trail′ numbers′ labs′ r
         so-more = by-fuel (h .fuel) refl
 
         up-fit : (b : Bool) (p : List ℕ) (s : ℕ) → ToldBy b A p i s numbers numbers′ labs labs′ r → i .row < r .row

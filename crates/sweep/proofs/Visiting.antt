@@ -10,17 +10,19 @@ use lib.IntN.{ℤ}
 use lib.ListN.{length, getD}
 use Rattle.rules.specs.Search.{Kept, answered}
 use Rattle.rules.specs.Walk.{Ways, accept, try, Outcome, found, failed, close, tries, enterUnless, inside, insideBy, countTrue}
-use Rattle.rules.proofs.Notes.{bitsOf, bitsFrom-length}
+use Rattle.rules.proofs.Notes.{bitsFrom-length}
+use Rattle.rules.specs.Working.{bitsOf}
 use Rattle.rules.proofs.Walk.{InsidePost, inside-post}
 use Rattle.pairs.specs.declared.Walk.{Walk}
-use Rattle.pairs.specs.Layout.{Layout, P, N, graphOf}
+use Rattle.pairs.specs.Layout.{Layout, P, N, Tested, graphOf}
 use Rattle.pairs.specs.Step.{pairIn, stack, outcomeBy}
 use Rattle.pairs.specs.State.{Ready, Done}
 use Rattle.pairs.proofs.Trails.{stack-length}
 use Rattle.pairs.proofs.Trying.{pair-in}
 use Rattle.pairs.proofs.Going.{good-room, top-row}
 use Rattle.matches.specs.declared.Sweep.{Sweep}
-use Rattle.matches.specs.Asked.{Asked, pathOn}
+use Rattle.matches.specs.declared.Task.{Task}
+use Rattle.matches.specs.Asked.{Asked, pathOn, askedOf}
 use Rattle.matches.specs.Found.{Told, Reports, Visits, attemptAt, Visited}
 
 -- ---- a path begins where its attempt began
@@ -88,7 +90,10 @@ module _ (P : ℕ) (ρ : ℕ → ℕ) (N : ℕ) (F : List Bool) (s x : ℕ) (tra
 
 -- ---- the start
 
-module _ (A : Asked) (ms : List ℕ) (count : ℕ) (rows : List ℤ) (columns : ℕ) (notes trail labs : List ℕ) (i : Sweep) (h : Visits A ms count rows columns notes trail labs i) where
+module _ (W : List ℕ) (rows : List ℤ) (task : Task) (notes trail labs : List ℕ) (i : Sweep) (h : Visits W rows task notes trail labs i) where
+  abbrev A : Asked
+  A = askedOf W rows task
+
   abbrev T : Layout
   T = A .layout
 
@@ -101,14 +106,17 @@ module _ (A : Asked) (ms : List ℕ) (count : ℕ) (rows : List ℤ) (columns : 
   abbrev att : Option (List ℕ) × Kept
   att = attemptAt A F (i .steps) (i .row)
 
+  pub visit-letters : Tested W rows (task .size)
+  visit-letters = h .searches .letters
+
   pub visit-ready : Ready T (A .holds) (A .n) notes trail (i .row) (i .steps)
-  visit-ready = record { legal = h .legal; noted = h .noted; trailed = h .trailed; row = h .row; steps = h .steps }
+  visit-ready = record { legal = h .searches .legal; noted = h .searches .noted; trailed = h .searches .trailed; row = h .row; steps = h .steps }
 
   pub visit-row : i .row + 1 < 4294967296
-  visit-row = let a = h .row in let b = h .measured .few-rows in omega arith
+  visit-row = let a = h .row in let b = h .searches .measured .few-rows in omega arith
 
   first-below : i .row * P T < M
-  first-below = let a = pair-in (P T) (A .n) 0 (i .row) (i .row * P T) refl (h .legal .sized .some) (let r = h .row in omega arith) in omega arith
+  first-below = let a = pair-in (P T) (A .n) 0 (i .row) (i .row * P T) refl (h .searches .legal .sized .some) (let r = h .row in omega arith) in omega arith
 
   module _ (notes₁ trail₁ : List ℕ) (w : Walk) (d : Done T (A .holds) (A .n) notes trail (i .row) (i .steps) notes₁ trail₁ w) where
     abbrev F₁ : List Bool
@@ -126,8 +134,8 @@ module _ (A : Asked) (ms : List ℕ) (count : ℕ) (rows : List ℤ) (columns : 
         go : (b : Bool) → getD F (i .row * P T) false ≡ b → enterUnless b (inside (graphOf T (A .holds) (A .n)) M) F (i .steps) (i .row * P T) ≡ outcomeBy (P T) (w .top) trail₁ F₁ (w .steps) → w .steps ≤ i .steps + M
         go true o e = let q = none-taken (P T) trail₁ F F₁ (i .steps) (w .steps) (w .top) e in omega arith
         go false o e =
-            let p = inside-post (graphOf T (A .holds) (A .n)) (h .legal .ρ) M (h .legal .falls) M F (suc (i .steps)) (i .row * P T) (h .legal .bound (i .row * P T)) first-below (bitsFrom-length notes M 0) o in
-            steps-by (P T) (h .legal .ρ) M F (i .steps) (i .row * P T) trail₁ F₁ (w .steps) (w .top) room (rw e at p)
+            let p = inside-post (graphOf T (A .holds) (A .n)) (h .searches .legal .ρ) M (h .searches .legal .falls) M F (suc (i .steps)) (i .row * P T) (h .searches .legal .bound (i .row * P T)) first-below (bitsFrom-length notes M 0) o in
+            steps-by (P T) (h .searches .legal .ρ) M F (i .steps) (i .row * P T) trail₁ F₁ (w .steps) (w .top) room (rw e at p)
 
     pub visit-none : (numbers : List ℤ) → w .top ≡ 0
         → Visited A notes notes₁ trail trail₁ numbers numbers labs labs i (record { end = 0; row = i .row + 1; matches = i .matches; labels = i .labels; steps = w .steps })
@@ -153,14 +161,14 @@ module _ (A : Asked) (ms : List ℕ) (count : ℕ) (rows : List ℤ) (columns : 
           some-of zero n = absurd (n refl)
           some-of (suc k) n = suc-le-suc zero-le
 
-      pub visit-reports : Reports T (A .n) ms count rows columns trail₁ labs i w
+      pub visit-reports : Reports W rows task trail₁ labs i w
       visit-reports =
           let g = d .reached .good in
           let a = room in
           let b = g .trailed in
           record {
-            measured = h .measured;
-            path = record { sized = h .legal .sized; room = omega arith; words = g .words; linked = g .linked; spot = λ _. d .last going .spot };
+            measured = h .searches .measured;
+            path = record { sized = h .searches .legal .sized; room = omega arith; words = g .words; linked = g .linked; spot = λ _. d .last going .spot };
             going = going;
             last = d .last going .end;
             bottom = head-out (P T) trail₁ F₁ (w .steps) (i .row * P T) (w .top) going (rw (d .same) at (enter-head (getD F (i .row * P T) false) (graphOf T (A .holds) (A .n)) M F (i .steps) (i .row * P T)));

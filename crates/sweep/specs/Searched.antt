@@ -9,23 +9,17 @@ use Rattle.rules.specs.Answers.{stopped}
 use Rattle.rules.specs.Basics.{pick, wrote}
 use Rattle.rules.specs.Report.{bitAt, numbersOf, labelsOf, notesOf, zeros}
 use Rattle.rules.specs.Search.{Swept, Kept}
-use Rattle.rules.proofs.Notes.{bitsOf}
-use Rattle.pairs.specs.Layout.{N, Legal}
+use Rattle.rules.specs.Working.{bitsOf}
+use Rattle.pairs.specs.Layout.{N, layoutOf}
 use Rattle.matches.specs.declared.Sweep.{Sweep}
+use Rattle.matches.specs.declared.Task.{Task}
 use Rattle.matches.specs.Asked.{Asked, pl, searchOf}
-use Rattle.matches.specs.Found.{Measured}
+use Rattle.matches.specs.Found.{Searches}
 
--- what a search asks: legal tables, measures that can be read, and working room
-pub record Searches (A : Asked) (ms : List ℕ) (count : ℕ) (rows : List ℤ) (columns : ℕ) (notes trail : List ℕ) : Type 0 where
-  pub measured : Measured ms count rows columns (A .n)
-  pub legal : Legal (A .layout) (A .holds) (A .n)
-  pub noted : N (A .layout) (A .n) ≤ 8 * length notes
-  pub trailed : N (A .layout) (A .n) ≤ length trail
-
--- and the loop over the starts: no pair has failed
-pub record Starts (A : Asked) (ms : List ℕ) (count : ℕ) (rows : List ℤ) (columns : ℕ) (notes trail : List ℕ) : Type 0 where
-  pub searches : Searches A ms count rows columns notes trail
-  pub none-failed : bitsOf notes (N (A .layout) (A .n)) ≡ replicate (N (A .layout) (A .n)) false
+-- what the loop over the starts asks: what a search does, and that no pair has failed
+pub record Starts (T : List ℕ) (rows : List ℤ) (task : Task) (notes trail : List ℕ) : Type 0 where
+  pub searches : Searches T rows task notes trail
+  pub none-failed : bitsOf notes (N (layoutOf T (task .size)) (task .size .rows)) ≡ replicate (N (layoutOf T (task .size)) (task .size .rows)) false
 
 -- the counts and the report of the definition's search W
 pub record Reported (A : Asked) (W : Swept Kept) (num₁ : List ℤ) (lab₁ : List ℕ) (numbers : List ℤ) (labs : List ℕ) (r : Sweep) : Type 0 where

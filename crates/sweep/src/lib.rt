@@ -3,27 +3,20 @@ use matches::DONE;
 use matches::Sweep;
 use matches::Task;
 use matches::write_match;
+use walk::attempt;
 ghost use mathlib.Core.Path.{_≡_};
 ghost use Prim.Native.Nat.{_≤_};
 ghost use lib.ListN.{length};
 ghost use Rattle.rules.specs.Basics.{wrote};
 ghost use Rattle.rules.specs.Report.{zeros};
-ghost use Rattle.rules.specs.Rows.{tableOf};
-ghost use Rattle.pairs.specs.Layout.{layout};
-ghost use Rattle.pairs.specs.Letters.{holdsIn};
-ghost use Rattle.tests.specs.Tests.{Letters};
-ghost use Rattle.measure_list.specs.Measures.{measuresIn};
-ghost use Rattle.matches.specs.Asked.{asked, toNext};
-ghost use Rattle.matches.specs.Found.{Visits, Visited};
-ghost use Rattle.sweep.specs.Searched.{Starts, Searched, Searches, Answered};
+ghost use Rattle.matches.specs.Asked.{askedOf};
+ghost use Rattle.matches.specs.Found.{Visits, Visited, Searches};
+ghost use Rattle.sweep.specs.Searched.{Starts, Searched, Answered};
 
 // One start: the attempt there, and its match where it finds a path.
 fn visit(
-    words: &[u16],
-    tests: &[u64; 208],
-    query: &[u8],
+    table: &[u16],
     rows: &[i32],
-    ms: &[u8],
     notes: &mut [u8],
     trail: &mut [u32],
     numbers: &mut [i64],
@@ -31,14 +24,13 @@ fn visit(
     task: Task,
     i: Sweep,
 ) -> Sweep
-    requires { ⌜ Letters (now tests) (now query) (now rows) (task .size .columns) (task .size .rows) × Visits (asked (layout (now words) (task .size .places)) (holdsIn (now rows) (task .size .columns) (now query) (now tests)) (task .size .rows) (toNext (task .skip)) (tableOf (task .size .columns) (now rows)) (measuresIn (now ms) (task .measures))) (now ms) (task .measures) (now rows) (task .size .columns) (now notes) (now trail) (now labels) i ⌝ }
-    ensures { λ r. ⌜ Visited (asked (layout (now (words .entry)) (task .size .places)) (holdsIn (now (rows .entry)) (task .size .columns) (now (query .entry)) (now (tests .entry))) (task .size .rows) (toNext (task .skip)) (tableOf (task .size .columns) (now (rows .entry))) (measuresIn (now (ms .entry)) (task .measures))) (now (notes .entry)) (now (notes .exit)) (now (trail .entry)) (now (trail .exit)) (now (numbers
+    requires { ⌜ Visits (now table) (now rows) task (now notes) (now trail) (now labels) i ⌝ }
+    ensures { λ r. ⌜ Visited (askedOf (now (table .entry)) (now (rows .entry)) task) (now (notes .entry)) (now (notes .exit)) (now (trail .entry)) (now (trail .exit)) (now (numbers
         .entry)) (now (numbers .exit)) (now (labels .entry)) (now (labels .exit)) i r ⌝ }
 {
     let size = task.size;
     let row = i.row;
-    let first = walk::begin(notes, size.places, row, i.steps);
-    let w = walk::go_on(words, tests, query, rows, notes, trail, size, first);
+    let w = attempt(table, rows, notes, trail, size, row, i.steps);
     if w.top == 0 {
         let after = row + 1;
         return Sweep {
@@ -49,24 +41,21 @@ fn visit(
             steps: w.steps,
         };
     }
-    write_match(words, ms, rows, trail, numbers, labels, task, i, w)
+    write_match(table, rows, trail, numbers, labels, task, i, w)
 }
 
 // All starts, where no pair has failed yet.
 fn starts(
-    words: &[u16],
-    tests: &[u64; 208],
-    query: &[u8],
+    table: &[u16],
     rows: &[i32],
-    ms: &[u8],
     notes: &mut [u8],
     trail: &mut [u32],
     numbers: &mut [i64],
     labels: &mut [u8],
     task: Task,
 ) -> Sweep
-    requires { ⌜ Letters (now tests) (now query) (now rows) (task .size .columns) (task .size .rows) × Starts (asked (layout (now words) (task .size .places)) (holdsIn (now rows) (task .size .columns) (now query) (now tests)) (task .size .rows) (toNext (task .skip)) (tableOf (task .size .columns) (now rows)) (measuresIn (now ms) (task .measures))) (now ms) (task .measures) (now rows) (task .size .columns) (now notes) (now trail) ⌝ }
-    ensures { λ r. ⌜ Searched (asked (layout (now (words .entry)) (task .size .places)) (holdsIn (now (rows .entry)) (task .size .columns) (now (query .entry)) (now (tests .entry))) (task .size .rows) (toNext (task .skip)) (tableOf (task .size .columns) (now (rows .entry))) (measuresIn (now (ms .entry)) (task .measures))) (now (notes .entry)) (now (trail .entry)) (now (numbers .entry)) (now (labels .entry)) (now (notes .exit)) (now (trail .exit)) (now (numbers .exit)) (now (labels .exit)) r ⌝ }
+    requires { ⌜ Starts (now table) (now rows) task (now notes) (now trail) ⌝ }
+    ensures { λ r. ⌜ Searched (askedOf (now (table .entry)) (now (rows .entry)) task) (now (notes .entry)) (now (trail .entry)) (now (numbers .entry)) (now (labels .entry)) (now (notes .exit)) (now (trail .exit)) (now (numbers .exit)) (now (labels .exit)) r ⌝ }
 {
     let size = task.size;
     let n = size.rows;
@@ -78,19 +67,7 @@ fn starts(
         steps: 0,
     };
     while i.row < n {
-        i = visit(
-            words,
-            tests,
-            query,
-            rows,
-            ms,
-            notes,
-            trail,
-            numbers,
-            labels,
-            task,
-            i,
-        );
+        i = visit(table, rows, notes, trail, numbers, labels, task, i);
     }
     i
 }
@@ -121,35 +98,21 @@ fn zero_words(s: &mut [u32], count: usize)
 
 // The whole search: the notes' bits are cleared, all starts are tried, and the trail is cleared.
 pub fn search(
-    words: &[u16],
-    tests: &[u64; 208],
-    query: &[u8],
+    table: &[u16],
     rows: &[i32],
-    ms: &[u8],
     notes: &mut [u8],
     trail: &mut [u32],
     numbers: &mut [i64],
     labels: &mut [u8],
     task: Task,
 ) -> Sweep
-    requires { ⌜ Letters (now tests) (now query) (now rows) (task .size .columns) (task .size .rows) × Searches (asked (layout (now words) (task .size .places)) (holdsIn (now rows) (task .size .columns) (now query) (now tests)) (task .size .rows) (toNext (task .skip)) (tableOf (task .size .columns) (now rows)) (measuresIn (now ms) (task .measures))) (now ms) (task .measures) (now rows) (task .size .columns) (now notes) (now trail) ⌝ }
-    ensures { λ r. ⌜ Answered (asked (layout (now (words .entry)) (task .size .places)) (holdsIn (now (rows .entry)) (task .size .columns) (now (query .entry)) (now (tests .entry))) (task .size .rows) (toNext (task .skip)) (tableOf (task .size .columns) (now (rows .entry))) (measuresIn (now (ms .entry)) (task .measures))) (now (notes .entry)) (now (trail .entry)) (now (numbers .entry)) (now (labels .entry)) (now (notes .exit)) (now (trail .exit)) (now (numbers .exit)) (now (labels .exit)) r ⌝ }
+    requires { ⌜ Searches (now table) (now rows) task (now notes) (now trail) ⌝ }
+    ensures { λ r. ⌜ Answered (askedOf (now (table .entry)) (now (rows .entry)) task) (now (notes .entry)) (now (trail .entry)) (now (numbers .entry)) (now (labels .entry)) (now (notes .exit)) (now (trail .exit)) (now (numbers .exit)) (now (labels .exit)) r ⌝ }
 {
     let size = task.size;
     let pairs = size.places * (size.rows + 1);
     zero_bytes(notes, (pairs + 7) / 8);
-    let r = starts(
-        words,
-        tests,
-        query,
-        rows,
-        ms,
-        notes,
-        trail,
-        numbers,
-        labels,
-        task,
-    );
+    let r = starts(table, rows, notes, trail, numbers, labels, task);
     zero_words(trail, pairs);
     r
 }

@@ -1,2 +1,4 @@
 pub mod Table
 pub mod Sized
+pub mod Tests
+pub mod Measures

@@ -1,10 +1,21 @@
-// The words of the table of places, each read by a function of its name: code, first place, a fork's later ways, and how many they are. The layout is
-// told in specs/Table; who reads the table names these functions, so that the layout can change here alone.
+// The table of a prepared query: one list of words, written once and read by the walk and the report. It holds the places and their ways (specs/Table), the
+// tests of the letters (specs/Tests) and the measures (specs/Measures). The words of a place are read by functions of their names, so that their layout can
+// change here alone. Weakness: what is read must lie in the table, which whoever prepares a query has to see to (specs/Sized, Tests).
+use numbers::wide16;
 ghost use mathlib.Core.Path.{_≡_};
 ghost use Prim.Native.Nat.{_+_, _*_, _≤_, _<_};
 ghost use lib.ListN.{length, getD};
 ghost use Rattle.table.specs.Table.{codeAt, firstAt, laterAt, countAt, laterWay};
 ghost use Rattle.table.specs.Sized.{LaterIn};
+
+// How far a search reaches: the rows n, the columns of a row, the places P, and the word of the table at which the letters' tests begin.
+#[repr(C)]
+pub struct Extent {
+    pub rows: usize,
+    pub columns: usize,
+    pub places: usize,
+    pub tests: usize,
+}
 
 // The words of a place.
 pub const WORDS: usize = 4;
@@ -26,18 +37,12 @@ pub const END: usize = 30;
 // How many ways a fork has that tells its second by itself.
 pub const TWO_WAYS: usize = 2;
 
-fn wide(x: u16) -> usize
-    ensures { λ r. ⌜ (r ≡ x) × (r < 65536) ⌝ }
-{
-    x as usize
-}
-
 // The word at an index.
 pub fn word_at(table: &[u16], at: usize) -> usize
     requires { ⌜ at < length (now table) ⌝ }
     ensures { λ r. ⌜ (r ≡ getD (now (table .entry)) at 0) × (r < 65536) ⌝ }
 {
-    wide(table[at])
+    wide16(table[at])
 }
 
 // The code of place q.
@@ -45,7 +50,7 @@ pub fn code_at(table: &[u16], q: usize) -> usize
     requires { ⌜ 4 * q + 4 ≤ length (now table) ⌝ }
     ensures { λ r. ⌜ (r ≡ codeAt (now (table .entry)) q) × (r < 65536) ⌝ }
 {
-    wide(table[WORDS * q])
+    wide16(table[WORDS * q])
 }
 
 // The place that is tried first from place q.
@@ -53,7 +58,7 @@ pub fn first_at(table: &[u16], q: usize) -> usize
     requires { ⌜ 4 * q + 4 ≤ length (now table) ⌝ }
     ensures { λ r. ⌜ (r ≡ firstAt (now (table .entry)) q) × (r < 65536) ⌝ }
 {
-    wide(table[WORDS * q + 1])
+    wide16(table[WORDS * q + 1])
 }
 
 // Of a fork of two ways at place q the second, of one with more the word at which its ways begin.
@@ -61,7 +66,7 @@ pub fn later_at(table: &[u16], q: usize) -> usize
     requires { ⌜ 4 * q + 4 ≤ length (now table) ⌝ }
     ensures { λ r. ⌜ (r ≡ laterAt (now (table .entry)) q) × (r < 65536) ⌝ }
 {
-    wide(table[WORDS * q + 2])
+    wide16(table[WORDS * q + 2])
 }
 
 // How many ways the fork at place q has; 0 for any other place.
@@ -69,7 +74,7 @@ pub fn count_at(table: &[u16], q: usize) -> usize
     requires { ⌜ 4 * q + 4 ≤ length (now table) ⌝ }
     ensures { λ r. ⌜ (r ≡ countAt (now (table .entry)) q) × (r < 65536) ⌝ }
 {
-    wide(table[WORDS * q + 3])
+    wide16(table[WORDS * q + 3])
 }
 
 // Way j of the fork at place q, from its second on, which is way 1.

@@ -1,6 +1,3 @@
-pub mod Choosing
-pub mod Raising
-pub mod Intervals
-pub mod Reaching
-pub mod Putting
+mod Putting
+mod Lettering
 pub mod Uses

@@ -1,41 +1,42 @@
--- For callers: the tests of a decoded query are prepared in an array of zeros; over the query and its table of tests every letter may be tested at every row, and
--- the table's word 7 tells each letter's DEFINE.
-use mathlib.Core.Path.{_≡_, sym, ap, _∙_}
+-- For callers: the words in front of the tests may be written afterwards, and what `words_for` asks
+-- follows from the bodies of the DEFINEs.
+use mathlib.Core.Path.{_≡_, _∙_}
 use mathlib.Core.List.{List}
-use Prim.Native.Nat.{ℕ, _+_, _*_, _≤_, _<_}
+use Prim.Native.Nat.{ℕ, _+_, _≤_, _<_}
 use native.Mathlib.Omega.{arith}
-use lib.Dec.{eqb}
-use lib.IntN.{ℤ}
-use lib.ListN.{length, getD, replicate, length-replicate, getD-replicate}
-use borrow.Author.Tests.{eqb-true, eqb-false}
-use Rattle.rules.proofs.Choice.{decided}
-use Rattle.define_list.specs.Defines.{Body}
-use Rattle.comparisons.specs.Letters.{Bytes}
-use Rattle.tests.specs.Tests.{wordsAt, wordsOf, Prepared, Preparable, Letters}
-use Rattle.tests.proofs.Putting.{words-none, words-some}
+use lib.ListN.{length, getD}
+use Rattle.define_list.specs.Defines.{definedAt, Body}
+use Rattle.table.specs.Tests.{testAt, definedIn, Tests}
+use Rattle.tests.specs.Prepared.{Countable, Prepared}
+use Rattle.comparison_words.proofs.Same.{defined-same}
+use Rattle.interval_words.proofs.First.{first-same}
 
-module _ (s : List ℕ) (columns : ℕ) (defines : List ℕ) (body : (l : ℕ) → l < 26 → (getD defines l 0 ≡ 0 → ⊥) → Body s columns (getD defines l 0)) where
-  pub preparable : (letters : ℕ) → columns ≤ 8 → letters ≤ 26 → ((l : ℕ) → letters ≤ l → l < 26 → getD defines l 0 ≡ 0) → Preparable s columns defines letters (replicate 208 0)
-  preparable letters few upto free = record { few = few; upto = upto; free = free; long = length-replicate {A = ℕ} 208 0; none = λ i h. getD-replicate {A = ℕ} 208 i 0 0 h; body = body }
+pub countable : (s : List ℕ) (columns : ℕ) (defines : List ℕ) (letters : ℕ) → letters ≤ 26 →
+    ((l : ℕ) → l < 26 → (getD defines l 0 ≡ 0 → ⊥) → Body s columns (getD defines l 0)) → Countable s defines letters
+countable s columns defines letters upto body = record {
+  upto = upto;
+  counted = λ l f o.
+      let b = body l f o in
+      record { there = let t = b .stand .there in omega arith; one = b .one; few = b .few };
+}
 
-  module _ (n : ℕ) (tests : List ℕ) (p : Prepared s columns n defines tests) where
-    last-word : (d : ℕ) → getD (wordsOf s columns n d) 7 0 ≡ d
-    unfolding wordsAt
-    last-word d =
-        decided (eqb d 0)
-        (λ e. let z = eqb-true d 0 e in ap (λ (ws : List ℕ). getD ws 7 0) (words-none s columns n d z) ∙ sym z)
-        (λ e. ap (λ (ws : List ℕ). getD ws 7 0) (words-some s columns n d (eqb-false d 0 e)))
+-- T″ has the same words from `tests` on
+module _ (s : List ℕ) (columns : ℕ) (defines T T′ : List ℕ) (tests : ℕ) (p : Prepared s columns defines T T′ tests)
+    (T″ : List ℕ) (len : length T″ ≡ length T′) (same : (j : ℕ) → tests ≤ j → getD T″ j 0 ≡ getD T′ j 0) where
+  pub tests-kept : Tests T″ tests
+  tests-kept = record {
+    long = let a = p .there .long in omega arith;
+    more = λ l f o.
+        let a = same (testAt tests l) (omega arith) in
+        let b = same (testAt tests l + 1) (omega arith) in
+        let c = p .there .more l f (omega arith) in
+        omega arith;
+    first = λ l f o.
+        let a = same (testAt tests l) (omega arith) in
+        first-same T′ T″ (testAt tests l) (λ j b c. same j (omega arith)) (p .there .first l f (omega arith));
+  }
 
-    pub word-seven : (l : ℕ) → l < 26 → getD tests (l * 8 + 7) 0 ≡ getD defines l 0
-    word-seven l h = p .words l 7 h (omega arith) ∙ last-word (getD defines l 0)
-
-    pub letters-room : (rows : List ℤ) → 1 ≤ columns → columns ≤ 8 → n ≤ 4096 → length rows ≡ n * columns → Letters tests s rows columns n
-    letters-room rows some few most all = record {
-      some = some;
-      few = few;
-      most = most;
-      all = all;
-      words = λ l i h g. rw (word-seven l h) (p .words l i h g);
-      body = λ l h f. rw (word-seven l h) (body l h (λ z. f (word-seven l h ∙ z)));
-      bytes = λ l h f. p .bytes l h (λ z. f (word-seven l h ∙ z));
-    }
+  pub defined-kept : (l : ℕ) → l < 26 → definedIn T″ columns (testAt tests l) ≡ definedAt s (getD defines l 0)
+  defined-kept l f =
+      defined-same T′ T″ columns (testAt tests l) (λ j a b. same j (omega arith)) (λ o j a b. let v = p .behind l f o in same j (omega arith))
+      ∙ p .is l f

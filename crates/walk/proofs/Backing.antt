@@ -13,7 +13,7 @@ use lib.Seq.{getD-set-same, getD-set-other}
 use borrow.Author.Tests.{ltb-true, ltb-false}
 use Rattle.rules.specs.Basics.{pick}
 use Rattle.rules.specs.Report.{bitAt}
-use Rattle.rules.proofs.Notes.{marked}
+use Rattle.rules.specs.Working.{marked}
 use Rattle.pairs.specs.declared.Walk.{Walk}
 use Rattle.pairs.specs.Layout.{Layout, P, N, second, leftFrom, mostPairs}
 use Rattle.table.specs.Table.{waysOf, codeAt, laterAt, countAt, laterWay}

@@ -3,19 +3,20 @@ use mathlib.Core.Path.{_≡_, refl, sym, ap, _∙_}
 use mathlib.Core.List.{List, _∷_}
 use mathlib.Core.Bool.{Bool, true, false}
 use mathlib.Core.Logic.{_≢_}
-use Prim.Native.Nat.{ℕ, zero, suc, _+_, _-_, _*_, _≤_, _<_}
+use Prim.Native.Nat.{ℕ, zero, suc, _+_, _-_, _*_, _/_, _≤_, _<_}
 use native.Mathlib.Nat.{not-suc-le-zero}
 use native.Mathlib.Decide.{ℕ-discrete}
 use native.Mathlib.Omega.{arith}
-use lib.ListN.{getD}
+use lib.ListN.{length, getD}
 use Rattle.rules.specs.Report.{bitAt}
-use Rattle.rules.proofs.Machine.{resume, resume-one}
-use Rattle.rules.proofs.Notes.{bitsOf, bitsOf-at}
+use Rattle.rules.proofs.Machine.{resume-one}
+use Rattle.rules.specs.Working.{bitsOf, resume}
+use Rattle.rules.proofs.Notes.{bitsOf-at}
 use Rattle.pairs.specs.declared.Walk.{Walk}
-use Rattle.pairs.specs.Layout.{Layout, P, N, graphOf, passesBy, entryOf}
+use Rattle.pairs.specs.Layout.{Layout, P, N, graphOf, passesBy, entryOf, mostPairs}
 use Rattle.table.specs.Table.{codeAt, firstAt}
 use Rattle.pairs.specs.Step.{oneUnless, mem, placeIn, wayIn, stack, walkAt, tryAt, enteredBy, outcomeBy, Noted, Enters}
-use Rattle.pairs.specs.State.{Word, Good, Next, Ends, Stands, State, Goes, Idle, Halts, Moves, left, restAt, rest, resumed, entering, comes, Reached, Onward, Backward, Descended, Retreated, Ran, Ready, attemptBy, Done}
+use Rattle.pairs.specs.State.{Word, Good, Next, Ends, Stands, State, Goes, Idle, Halts, Moves, left, restAt, rest, resumed, entering, comes, Reached, Onward, Backward, Descended, Retreated, Ran, Ready, attemptBy, Done, Idling}
 use Rattle.pairs.proofs.Ways.{left-none, left-some}
 use Rattle.pairs.proofs.Going.{never, zero-two, one-two, comes-idle, reached-none, reached-on, top-end}
 use Rattle.pairs.proofs.Trying.{pair-in, goes-enters, goes-on}
@@ -142,15 +143,21 @@ module _ (T : Layout) (holds : ℕ → ℕ → Bool) (n : ℕ) (n₁ t₁ : List
     pub run-found : w₂ .status ≡ 2 → Ran T holds n n₁ t₁ w₁ n₂ t₂ w₂
     run-found e = record { reached = on; down = d .down; last = λ _. d .reached .stands .ends e }
 
-    pub run-idle : (w₂ .status ≡ 2 → ⊥) → Idle T holds n n₂ t₂ w₂
-    run-idle e = record { state = state-of T holds n notes trail n₂ t₂ w w₂ (d .reached); down = d .down; found = e }
+    -- going back: it does not ask which letters hold
+    module _ (e : w₂ .status ≡ 2 → ⊥) where
+      unfoldable pub run-idling : Idling T n n₂ t₂ w₂
+      run-idling = record { holds = holds; idle = record { state = state-of T holds n notes trail n₂ t₂ w w₂ (d .reached); down = d .down; found = e } }
 
-    module _ (notes′ trail′ : List ℕ) (r : Walk) (b : Retreated T holds n n₂ t₂ w₂ notes′ trail′ r) where
-      pub run-more : Running T holds n n₁ t₁ w₁ notes′ trail′ r
-      run-more = record { reached = reached-on T holds n n₁ t₁ _ n₂ t₂ w₂ notes′ trail′ r on (b .reached); still = b .still }
+      module _ (notes′ trail′ : List ℕ) (r : Walk) (back : (h : Idling T n n₂ t₂ w₂) → Retreated T (h .holds) n n₂ t₂ w₂ notes′ trail′ r) where
+        retreated : Retreated T holds n n₂ t₂ w₂ notes′ trail′ r
+        unfolding run-idling
+        retreated = back run-idling
 
-      pub run-less : left (N T n) notes′ r < left (N T n) notes w
-      run-less = let x = b .less in let y = d .less in omega arith
+        pub run-more : Running T holds n n₁ t₁ w₁ notes′ trail′ r
+        run-more = record { reached = reached-on T holds n n₁ t₁ _ n₂ t₂ w₂ notes′ trail′ r on (retreated .reached); still = retreated .still }
+
+        pub run-less : left (N T n) notes′ r < left (N T n) notes w
+        run-less = let x = retreated .less in let y = d .less in omega arith
 
 -- ---- the attempt
 
@@ -177,8 +184,14 @@ module _ (T : Layout) (holds : ℕ → ℕ → Bool) (n : ℕ) (notes trail : Li
   pub first-fits : i * P T < 18446744073709551616
   first-fits = let b = first-below in let m = h .legal .small in omega arith
 
-  pub first-noted : Noted notes (i * P T + 0)
+  first-noted : Noted notes (i * P T + 0)
   first-noted = let b = first-below in let no = h .noted in let sm = h .legal .small in (omega arith, omega arith)
+
+  pub first-small : i * P T + 0 < mostPairs
+  first-small = first-noted .0
+
+  pub first-inside : (i * P T + 0) / 8 < length notes
+  first-inside = first-noted .1
 
   first-good : (d : ℕ) → Good T holds n notes trail (walkAt 0 s 0 i (i * P T) d)
   unfolding stack

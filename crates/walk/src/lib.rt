@@ -5,7 +5,6 @@
 use entering::enter;
 use pairs::BACK;
 use pairs::ENTER;
-use pairs::Extent;
 use pairs::FOUND;
 use pairs::Walk;
 use pairs::failed;
@@ -17,43 +16,40 @@ use pairs::row_of;
 use pairs::tried;
 use pairs::way_after;
 use pairs::way_of;
+use table::Extent;
 use table::count_at;
 use table::later_way;
 ghost use mathlib.Core.Path.{_≡_};
 ghost use Prim.Native.Nat.{_+_, _*_};
-ghost use Rattle.pairs.specs.Layout.{layout};
-ghost use Rattle.tests.specs.Tests.{Letters};
-ghost use Rattle.pairs.specs.Letters.{holdsIn};
+ghost use Rattle.pairs.specs.Layout.{layoutOf, lettersOf, Tested};
 ghost use Rattle.pairs.specs.Step.{Noted, tryAt};
-ghost use Rattle.pairs.specs.State.{Goes, Halting, Backward, Descended, Idling, Retreated, Moves, Ran};
+ghost use Rattle.pairs.specs.State.{Goes, Halting, Backward, Descended, Idling, Retreated, Moves, Ran, Ready, Done};
 
 // On while there is a pair to be entered.
 fn descend(
-    words: &[u16],
-    tests: &[u64; 208],
-    query: &[u8],
+    table: &[u16],
     rows: &[i32],
     notes: &mut [u8],
     trail: &mut [u32],
     size: Extent,
     from: Walk,
 ) -> Walk
-    requires { ⌜ Letters (now tests) (now query) (now rows) (size .columns) (size .rows) × Goes (layout (now words) (size .places)) (holdsIn (now rows) (size .columns) (now query) (now tests)) (size .rows) (now notes) (now trail) from ⌝ }
-    ensures { λ r. ⌜ Descended (layout (now (words .entry)) (size .places)) (holdsIn (now (rows .entry)) (size .columns) (now (query .entry)) (now (tests .entry))) (size .rows) (now (notes .entry)) (now
+    requires { ⌜ Tested (now table) (now rows) size × Goes (layoutOf (now table) size) (lettersOf (now table) (now rows) size) (size .rows) (now notes) (now trail) from ⌝ }
+    ensures { λ r. ⌜ Descended (layoutOf (now (table .entry)) size) (lettersOf (now (table .entry)) (now (rows .entry)) size) (size .rows) (now (notes .entry)) (now
         (trail .entry)) from (now (notes .exit)) (now (trail .exit)) r ⌝ }
 {
     let mut w = from;
     while w.status == ENTER {
-        w = enter(words, tests, query, rows, notes, trail, size, w);
+        w = enter(table, rows, notes, trail, size, w);
     }
     w
 }
 
 // The last open pair tries its next way. Where no way is left, or the last one has failed, the pair fails. Which letters hold plays no part here.
-fn back(words: &[u16], notes: &mut [u8], trail: &mut [u32], size: Extent, w: Walk) -> Walk
-    requires { ⌜ Halting (layout (now words) (size .places)) (size .rows) (now notes) (now trail) w ⌝ }
-    ensures { λ r. ⌜ ((h : Halting (layout (now (words .entry)) (size .places)) (size .rows) (now (notes .entry)) (now (trail .entry)) w)
-        → Backward (layout (now (words .entry)) (size .places)) (h .holds) (size .rows) (now (notes .entry)) (now (trail .entry)) w (now (notes .exit)) (now (trail .exit)) r) ⌝ }
+fn back(table: &[u16], notes: &mut [u8], trail: &mut [u32], size: Extent, w: Walk) -> Walk
+    requires { ⌜ Halting (layoutOf (now table) size) (size .rows) (now notes) (now trail) w ⌝ }
+    ensures { λ r. ⌜ ((h : Halting (layoutOf (now (table .entry)) size) (size .rows) (now (notes .entry)) (now (trail .entry)) w)
+        → Backward (layoutOf (now (table .entry)) size) (h .holds) (size .rows) (now (notes .entry)) (now (trail .entry)) w (now (notes .exit)) (now (trail .exit)) r) ⌝ }
 {
     let at = w.top - 1;
     let e = open_at(trail, at);
@@ -62,8 +58,8 @@ fn back(words: &[u16], notes: &mut [u8], trail: &mut [u32], size: Extent, w: Wal
     let base = row * size.places;
     let j = way_of(e);
     if 0 < j {
-        let q = later_way(words, place, j);
-        let k = way_after(count_at(words, place), j);
+        let q = later_way(table, place, j);
+        let k = way_after(count_at(table, place), j);
         if !failed(notes, base + q) {
             put_way(trail, at, e, k);
             return Walk {
@@ -99,44 +95,42 @@ fn back(words: &[u16], notes: &mut [u8], trail: &mut [u32], size: Extent, w: Wal
 }
 
 // Back along the open pairs until there is a pair to be entered, or none is open.
-fn retreat(words: &[u16], notes: &mut [u8], trail: &mut [u32], size: Extent, from: Walk) -> Walk
-    requires { ⌜ Idling (layout (now words) (size .places)) (size .rows) (now notes) (now trail) from ⌝ }
-    ensures { λ r. ⌜ ((h : Idling (layout (now (words .entry)) (size .places)) (size .rows) (now (notes .entry)) (now (trail .entry)) from)
-        → Retreated (layout (now (words .entry)) (size .places)) (h .holds) (size .rows) (now (notes .entry)) (now (trail .entry)) from (now (notes .exit)) (now (trail .exit)) r) ⌝ }
+fn retreat(table: &[u16], notes: &mut [u8], trail: &mut [u32], size: Extent, from: Walk) -> Walk
+    requires { ⌜ Idling (layoutOf (now table) size) (size .rows) (now notes) (now trail) from ⌝ }
+    ensures { λ r. ⌜ ((h : Idling (layoutOf (now (table .entry)) size) (size .rows) (now (notes .entry)) (now (trail .entry)) from)
+        → Retreated (layoutOf (now (table .entry)) size) (h .holds) (size .rows) (now (notes .entry)) (now (trail .entry)) from (now (notes .exit)) (now (trail .exit)) r) ⌝ }
 {
     let mut w = from;
     while 0 < w.top {
         if w.status == ENTER {
             return w;
         }
-        w = back(words, notes, trail, size, w);
+        w = back(table, notes, trail, size, w);
     }
     w
 }
 
 // The walk from a state on, until no pair is to be entered, or END is open.
 pub fn go_on(
-    words: &[u16],
-    tests: &[u64; 208],
-    query: &[u8],
+    table: &[u16],
     rows: &[i32],
     notes: &mut [u8],
     trail: &mut [u32],
     size: Extent,
     from: Walk,
 ) -> Walk
-    requires { ⌜ Letters (now tests) (now query) (now rows) (size .columns) (size .rows) × Moves (layout (now words) (size .places)) (holdsIn (now rows) (size .columns) (now query) (now tests)) (size .rows) (now notes) (now trail) from ⌝ }
-    ensures { λ r. ⌜ Ran (layout (now (words .entry)) (size .places)) (holdsIn (now (rows .entry)) (size .columns) (now (query .entry)) (now (tests .entry))) (size .rows) (now (notes .entry)) (now (trail
+    requires { ⌜ Tested (now table) (now rows) size × Moves (layoutOf (now table) size) (lettersOf (now table) (now rows) size) (size .rows) (now notes) (now trail) from ⌝ }
+    ensures { λ r. ⌜ Ran (layoutOf (now (table .entry)) size) (lettersOf (now (table .entry)) (now (rows .entry)) size) (size .rows) (now (notes .entry)) (now (trail
         .entry)) from (now (notes .exit)) (now (trail .exit)) r ⌝ }
 {
     let mut w = from;
     while w.status == ENTER {
-        w = descend(words, tests, query, rows, notes, trail, size, w);
+        w = descend(table, rows, notes, trail, size, w);
         let status = w.status;
         if status == FOUND {
             return w;
         }
-        w = retreat(words, notes, trail, size, w);
+        w = retreat(table, notes, trail, size, w);
     }
     w
 }
@@ -147,4 +141,21 @@ pub fn begin(notes: &[u8], places: usize, row: usize, steps: usize) -> Walk
     ensures { λ r. ⌜ r ≡ tryAt (now (notes .entry)) 0 steps 0 row (row * places) ⌝ }
 {
     tried(notes, 0, steps, 0, row, row * places)
+}
+
+// An attempt at a row, with so many steps before it.
+pub fn attempt(
+    table: &[u16],
+    rows: &[i32],
+    notes: &mut [u8],
+    trail: &mut [u32],
+    size: Extent,
+    row: usize,
+    steps: usize,
+) -> Walk
+    requires { ⌜ Tested (now table) (now rows) size × Ready (layoutOf (now table) size) (lettersOf (now table) (now rows) size) (size .rows) (now notes) (now trail) row steps ⌝ }
+    ensures { λ r. ⌜ Done (layoutOf (now (table .entry)) size) (lettersOf (now (table .entry)) (now (rows .entry)) size) (size .rows) (now (notes .entry)) (now (trail .entry)) row steps (now (notes .exit)) (now (trail .exit)) r ⌝ }
+{
+    let first = begin(notes, size.places, row, steps);
+    go_on(table, rows, notes, trail, size, first)
 }

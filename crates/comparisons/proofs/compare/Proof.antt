@@ -1,17 +1,11 @@
 -- `comparisons::compare` meets its contract by the laws of Comparing.
+use Rattle.comparisons.proofs.Comparing.{by-bits}
 use borrow.Author.Needs.{needs}
-use Rattle.comparisons.proofs.Comparing.{above-six, by-bits}
 use Rattle.comparisons.proofs.compare.Statement.{statement}
 use Rattle.comparisons.proofs.compare.Tie as tie
 
 at-most-requires : tie.Need-at-most-requires
 at-most-requires c κs = search needs
-
-returns : tie.Need-returns
-returns c = search (needs, above-six)
-
-at-most-requires-2 : tie.Need-at-most-requires-2
-at-most-requires-2 c κs = search needs
 
 flag-requires : tie.Need-flag-requires
 flag-requires c κs = search needs
@@ -34,16 +28,14 @@ add-result c = search needs
 shr-result : tie.Need-shr-result
 shr-result c = search needs
 
-returns-2 : tie.Need-returns-2
-returns-2 c = search (needs, by-bits)
+returns : tie.Need-returns
+returns c = search (needs, by-bits)
 
 pub compare-spec : {M : Type 1} → statement M
 compare-spec =
     tie.close
     (tie.spec
     at-most-requires
-    returns
-    at-most-requires-2
     flag-requires
     less-requires
     flag-requires-2
@@ -51,4 +43,4 @@ compare-spec =
     mul-result
     add-result
     shr-result
-    returns-2)
+    returns)

@@ -1,62 +1,72 @@
--- `comparisons::comparison_met` meets its contract by the laws of Holding.
-use Rattle.comparisons.proofs.Holding.{left-missing, left-reads, left-met, right-missing, both-read, both-met}
+-- `comparisons::comparison_met` meets its contract by the laws of Reading.
+use Rattle.comparisons.proofs.Reading.{left-missing, right-missing, number-met, column-met}
+use native.Mathlib.Omega.{arith}
 use borrow.Author.Needs.{needs}
 use Rattle.comparisons.proofs.comparison_met.Statement.{statement}
 use Rattle.comparisons.proofs.comparison_met.Tie as tie
 
-add-side-there : tie.Need-add-side-there
-add-side-there c = search needs
+add-index-at : tie.Need-add-index-at
+add-index-at c = search needs
 
-side-there-requires : tie.Need-side-there-requires
-side-there-requires c κs = search needs
+index-at-requires : tie.Need-index-at-requires
+index-at-requires c κs = search needs
 
 returns : tie.Need-returns
-returns c = search (needs, left-missing)
+returns c = left-missing _ _ _ _ _ (c .before .index-at .ensures) (omega arith)
 
-far-back-requires : tie.Need-far-back-requires
-far-back-requires c κs = search needs
+entry-requires : tie.Need-entry-requires
+entry-requires c κs = search needs
 
-add-if2 : tie.Need-add-if2
-add-if2 c = search needs
+number-at-requires : tie.Need-number-at-requires
+number-at-requires c κs = search needs
 
-shared-slice-read-if2 : tie.Need-shared-slice-read-if2
-shared-slice-read-if2 c = search needs
+word-at-requires : tie.Need-word-at-requires
+word-at-requires c κs = search needs
 
-add-side-there-2 : tie.Need-add-side-there-2
-add-side-there-2 c = search needs
+add-index-at-2 : tie.Need-add-index-at-2
+add-index-at-2 c = search needs
 
-side-there-requires-2 : tie.Need-side-there-requires-2
-side-there-requires-2 c κs = search needs
+index-at-requires-2 : tie.Need-index-at-requires-2
+index-at-requires-2 c κs = search needs
 
 returns-2 : tie.Need-returns-2
-returns-2 c = search (needs, right-missing)
+returns-2 c =
+    right-missing _ _ _ _ _ _ (c .before .before .before .word-at .ensures .0) (c .before .before .if2 .taken) (c .before .index-at2 .ensures) (omega arith)
 
-read-met-requires : tie.Need-read-met-requires
-read-met-requires c κs = both-read _ _ _ _ _ _ _ (c .before .before .before .before .before .before .before .before .pre) _ (c .before .before .before .before .before .before .side-there .ensures) (search needs) _ (c .before .before .before .before .far-back .ensures) (search needs) _ (c .before .side-there2 .ensures) (search needs)
+entry-requires-2 : tie.Need-entry-requires-2
+entry-requires-2 c κs = search needs
+
+plus-number-requires : tie.Need-plus-number-requires
+plus-number-requires c κs = search needs
+
+compare-requires : tie.Need-compare-requires
+compare-requires c κs = search needs
 
 returns-3 : tie.Need-returns-3
-returns-3 c = search (needs, both-met)
+returns-3 c = search (needs, column-met)
 
-read-met-requires-2 : tie.Need-read-met-requires-2
-read-met-requires-2 c κs = search (needs, left-reads)
+compare-requires-2 : tie.Need-compare-requires-2
+compare-requires-2 c κs = search needs
 
 returns-4 : tie.Need-returns-4
-returns-4 c = search (needs, left-met)
+returns-4 c = search (needs, number-met)
 
 pub comparison-met-spec : {M : Type 1} → statement M
 comparison-met-spec =
     tie.close
     (tie.spec
-    add-side-there
-    side-there-requires
+    add-index-at
+    index-at-requires
     returns
-    far-back-requires
-    add-if2
-    shared-slice-read-if2
-    add-side-there-2
-    side-there-requires-2
+    entry-requires
+    number-at-requires
+    word-at-requires
+    add-index-at-2
+    index-at-requires-2
     returns-2
-    read-met-requires
+    entry-requires-2
+    plus-number-requires
+    compare-requires
     returns-3
-    read-met-requires-2
+    compare-requires-2
     returns-4)

@@ -1,6 +1,6 @@
 -- `comparisons::flag` meets its contract by the laws of Comparing.
-use borrow.Author.Needs.{needs}
 use Rattle.comparisons.proofs.Comparing.{flag-is, flag-few}
+use borrow.Author.Needs.{needs}
 use Rattle.comparisons.proofs.flag.Statement.{statement}
 use Rattle.comparisons.proofs.flag.Tie as tie
 

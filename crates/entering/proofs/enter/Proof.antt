@@ -1,6 +1,6 @@
 -- `entering::enter` meets its contract by the laws of Small.
 use native.Mathlib.Omega.{arith}
-use Rattle.pairs.proofs.Small.{fork-noted, letter-noted, anchor-noted, enter-fork, enter-letter, enter-shut, enter-stuck, enter-end, enter-anchor}
+use Rattle.pairs.proofs.Small.{fork-small, fork-inside, letter-inside, anchor-small, anchor-inside, enter-fork, enter-letter, enter-shut, enter-stuck, anchor-shut, enter-end, enter-anchor}
 use borrow.Author.Needs.{needs}
 use Rattle.entering.proofs.enter.Statement.{statement}
 use Rattle.entering.proofs.enter.Tie as tie
@@ -24,7 +24,7 @@ add-tried-2 : tie.Need-add-tried-2
 add-tried-2 c = omega arith
 
 tried-requires : tie.Need-tried-requires
-tried-requires c κs = fork-noted _ _ _ _ _ (c .before .before .before .before .before .before .before .before .before .before .before .before .before .pre .1) _ (c .before .before .before .before .before .before .before .code-at .ensures) (c .before .before .before .before .before .before .if1 .taken)
+tried-requires c κs = search (needs, fork-small, fork-inside)
 
 same-length : tie.Need-same-length
 same-length c = omega arith
@@ -33,7 +33,7 @@ same-length-2 : tie.Need-same-length-2
 same-length-2 c = omega arith
 
 returns : tie.Need-returns
-returns c = enter-fork _ _ _ _ _ _ _ (c .before .before .before .before .before .before .before .before .before .before .before .before .before .before .pre .1) _ (c .before .before .before .before .before .before .before .before .code-at .ensures) (c .before .before .before .before .before .before .before .if1 .taken) _ (c .before .before .before .before .before .fork-entry .ensures) _ (c .before .before .before .before .push .ensures) _ (c .tried .ensures)
+returns c = search (needs, enter-fork)
 
 letter-passes-requires : tie.Need-letter-passes-requires
 letter-passes-requires c κs = search needs
@@ -45,7 +45,7 @@ same-length-3 : tie.Need-same-length-3
 same-length-3 c = omega arith
 
 returns-2 : tie.Need-returns-2
-returns-2 c = enter-shut _ _ _ _ _ _ _ (c .before .before .before .before .before .before .before .before .before .before .before .before .before .before .pre .1) _ (c .before .before .before .before .before .before .before .before .code-at .ensures) _ (c .before .before .before .before .before .letter-passes .ensures) (c .before .before .before .before .if3 .taken) _ _ (c .before .before .fails .ensures)
+returns-2 c = search (needs, enter-shut)
 
 first-at-requires : tie.Need-first-at-requires
 first-at-requires c κs = search needs
@@ -57,7 +57,7 @@ add-failed : tie.Need-add-failed
 add-failed c = omega arith
 
 failed-requires : tie.Need-failed-requires
-failed-requires c κs = letter-noted _ _ _ _ _ (c .before .before .before .before .before .before .before .before .before .before .before .before .before .pre .1) _ (c .before .before .before .before .before .before .before .code-at .ensures) _ (c .before .before .first-at .ensures) _ _ (c .before .before .before .before .before .if2 .taken) (c .before .before .before .before .letter-passes .ensures) (c .before .before .before .if3 .left) .1
+failed-requires c κs = search (needs, letter-inside)
 
 fails-requires-2 : tie.Need-fails-requires-2
 fails-requires-2 c κs = search needs
@@ -66,16 +66,16 @@ same-length-4 : tie.Need-same-length-4
 same-length-4 c = omega arith
 
 returns-3 : tie.Need-returns-3
-returns-3 c = enter-stuck _ _ _ _ _ _ _ (c .before .before .before .before .before .before .before .before .before .before .before .before .before .before .before .before .before .before .before .pre .1) _ (c .before .before .before .before .before .before .before .before .before .before .before .before .before .code-at .ensures) _ (c .before .before .before .before .before .before .before .before .before .before .letter-passes .ensures) (c .before .before .before .before .before .before .before .before .before .if3 .left) (c .before .before .before .before .before .before .before .before .before .before .before .if2 .taken) _ (c .before .before .before .before .before .before .before .before .first-at .ensures) _ (c .before .before .before .before .before .failed .ensures) (c .before .before .before .before .if4 .taken) _ _ (c .before .before .fails2 .ensures)
+returns-3 c = search (needs, enter-stuck)
 
 push-requires-2 : tie.Need-push-requires-2
 push-requires-2 c κs = search needs
 
-add-t33 : tie.Need-add-t33
-add-t33 c = omega arith
+add-opened : tie.Need-add-opened
+add-opened c = omega arith
 
-add-t39 : tie.Need-add-t39
-add-t39 c = omega arith
+add-next : tie.Need-add-next
+add-next c = omega arith
 
 same-length-5 : tie.Need-same-length-5
 same-length-5 c = omega arith
@@ -84,7 +84,7 @@ same-length-6 : tie.Need-same-length-6
 same-length-6 c = omega arith
 
 returns-4 : tie.Need-returns-4
-returns-4 c = enter-letter _ _ _ _ _ _ _ (c .before .before .before .before .before .before .before .before .before .before .before .before .before .before .before .before .before .before .before .pre .1) _ (c .before .before .before .before .before .before .before .before .before .before .before .before .before .code-at .ensures) _ (c .before .before .before .before .before .before .before .before .before .before .letter-passes .ensures) (c .before .before .before .before .before .before .before .before .before .if3 .left) (c .before .before .before .before .before .before .before .before .before .before .before .if2 .taken) _ (c .before .before .before .before .before .before .before .before .first-at .ensures) _ (c .before .before .before .before .before .failed .ensures) (c .before .before .before .before .if4 .left) _ (c .before .before .push2 .ensures)
+returns-4 c = search (needs, enter-letter)
 
 anchor-passes-requires : tie.Need-anchor-passes-requires
 anchor-passes-requires c κs = search needs
@@ -96,7 +96,7 @@ same-length-7 : tie.Need-same-length-7
 same-length-7 c = omega arith
 
 returns-5 : tie.Need-returns-5
-returns-5 c = enter-shut _ _ _ _ _ _ _ (c .before .before .before .before .before .before .before .before .before .before .before .before .before .before .pre .1) _ (c .before .before .before .before .before .before .before .before .code-at .ensures) _ ((c .before .before .before .before .before .anchor-passes .ensures) _) (c .before .before .before .before .if5 .taken) _ _ (c .before .before .fails3 .ensures)
+returns-5 c = anchor-shut _ _ _ _ _ _ _ (c .before .before .before .before .before .before .before .before .before .before .before .before .before .pre .1) _ (c .before .before .before .before .before .before .before .before .code-at .ensures) _ (c .before .before .before .before .before .anchor-passes .ensures) (c .before .before .before .before .if5 .taken) _ _ (c .before .before .fails3 .ensures)
 
 entry-at-requires : tie.Need-entry-at-requires
 entry-at-requires c κs = (omega arith, omega arith)
@@ -104,14 +104,14 @@ entry-at-requires c κs = (omega arith, omega arith)
 push-requires-3 : tie.Need-push-requires-3
 push-requires-3 c κs = search needs
 
-add-opened : tie.Need-add-opened
-add-opened c = omega arith
+add-opened-2 : tie.Need-add-opened-2
+add-opened-2 c = omega arith
 
 same-length-8 : tie.Need-same-length-8
 same-length-8 c = omega arith
 
 returns-6 : tie.Need-returns-6
-returns-6 c = enter-end _ _ _ _ _ _ _ (c .before .before .before .before .before .before .before .before .before .before .before .before .before .before .before .before .pre .1) _ (c .before .before .before .before .before .before .before .before .before .before .code-at .ensures) _ ((c .before .before .before .before .before .before .before .anchor-passes .ensures) _) (c .before .before .before .before .before .before .if5 .left) _ (c .before .before .before .before .entry-at .ensures) _ (c .before .before .before .push3 .ensures) (c .if6 .taken)
+returns-6 c = search (needs, enter-end)
 
 add-tried-3 : tie.Need-add-tried-3
 add-tried-3 c = omega arith
@@ -120,7 +120,7 @@ first-at-requires-2 : tie.Need-first-at-requires-2
 first-at-requires-2 c κs = search needs
 
 tried-requires-2 : tie.Need-tried-requires-2
-tried-requires-2 c κs = anchor-noted _ _ _ _ _ (c .before .before .before .before .before .before .before .before .before .before .before .before .before .before .before .before .before .before .pre .1) _ (c .before .before .before .before .before .before .before .before .before .before .before .before .code-at .ensures) _ (c .first-at2 .ensures) (c .before .before .before .before .before .before .before .before .before .before .if2 .left) (c .before .before .if6 .left)
+tried-requires-2 c κs = search (needs, anchor-small, anchor-inside)
 
 same-length-9 : tie.Need-same-length-9
 same-length-9 c = omega arith
@@ -129,7 +129,7 @@ same-length-10 : tie.Need-same-length-10
 same-length-10 c = omega arith
 
 returns-7 : tie.Need-returns-7
-returns-7 c = enter-anchor _ _ _ _ _ _ _ (c .before .before .before .before .before .before .before .before .before .before .before .before .before .before .before .before .before .before .before .pre .1) _ (c .before .before .before .before .before .before .before .before .before .before .before .before .before .code-at .ensures) _ ((c .before .before .before .before .before .before .before .before .before .before .anchor-passes .ensures) _) (c .before .before .before .before .before .before .before .before .before .if5 .left) _ (c .before .before .before .before .before .before .before .entry-at .ensures) _ (c .before .before .before .before .before .before .push3 .ensures) (c .before .before .before .before .before .before .before .before .before .before .before .if2 .left) (c .before .before .before .if6 .left) _ (c .before .first-at2 .ensures) _ (c .tried2 .ensures)
+returns-7 c = search (needs, enter-anchor)
 
 pub enter-spec : {M : Type 1} → statement M
 enter-spec =
@@ -157,8 +157,8 @@ enter-spec =
     same-length-4
     returns-3
     push-requires-2
-    add-t33
-    add-t39
+    add-opened
+    add-next
     same-length-5
     same-length-6
     returns-4
@@ -168,7 +168,7 @@ enter-spec =
     returns-5
     entry-at-requires
     push-requires-3
-    add-opened
+    add-opened-2
     same-length-8
     returns-6
     add-tried-3

@@ -21,8 +21,8 @@ mul-le32-at c = omega arith
 le32-at-requires : tie.Need-le32-at-requires Inv-loop μ-loop
 le32-at-requires c κs = omega arith
 
-signed-requires : tie.Need-signed-requires Inv-loop μ-loop
-signed-requires c κs = search needs
+signed-word-requires : tie.Need-signed-word-requires Inv-loop μ-loop
+signed-word-requires c κs = search needs
 
 mul-t10 : tie.Need-mul-t10 Inv-loop μ-loop
 mul-t10 c = search needs
@@ -54,7 +54,7 @@ rows-of-spec =
     loop-holds
     mul-le32-at
     le32-at-requires
-    signed-requires
+    signed-word-requires
     mul-t10
     slice-set-from-rows
     add-k

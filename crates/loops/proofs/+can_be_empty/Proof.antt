@@ -1,7 +1,7 @@
 -- `loops::can_be_empty`, which calls itself, meets its contract.
--- The measure: the node's height. Laws: pattern's ByNode, Laws.
-use Rattle.pattern.proofs.ByNode.{at-in, seq-left, seq-right, alt-left, alt-right, group-left}
-use Rattle.loops.proofs.Laws.{null-zero, null-letter, null-anchor, null-empty, null-group, null-seq, null-seq-no, null-alt, null-alt-second}
+-- The measure: the node's height. The loop's invariant: Left. Laws: Laws.
+use Rattle.loops.specs.Loops.{Nullable}
+use Rattle.loops.proofs.Laws.{Left, begins, inside, seq-call, seq-down, alt-call, alt-down, group-down, null-zero, null-letter, null-anchor, null-empty, null-group, null-seq, null-seq-no, null-alt, null-alt-second}
 use Rattle.nodes.specs.Nodes.{nodeAt}
 use borrow.Author.Needs.{needs}
 use Prim.Native.Nat.{ℕ, _<_}
@@ -29,208 +29,114 @@ can-be-empty-below t =
     (falls 1 can-be-empty-kinds.ps _<_ μ-can-be-empty t)
     can-be-empty.Pre
 
-can-be-empty-node-at-requires : (t : ℕ) → can-be-empty-lts.Need-node-at-requires (
-  node-at-reads.Asked,
-  node-at-reads.Learnt,
-  can-be-empty-below t,
-  can-be-empty.Post,
-) (can-be-empty-at t) can-be-empty.Post
-can-be-empty-node-at-requires t c κs = search (needs, at-in)
+abbrev can-be-empty-Inv-loop : can-be-empty-lts.InvT-loop
+can-be-empty-Inv-loop room i node₀ node = Left (Nullable room) room i node
 
-can-be-empty-returns : (t : ℕ) → can-be-empty-lts.Need-returns (
-  node-at-reads.Asked,
-  node-at-reads.Learnt,
-  can-be-empty-below t,
-  can-be-empty.Post,
-) (can-be-empty-at t) can-be-empty.Post
-can-be-empty-returns t c = search (needs, null-zero)
+abbrev can-be-empty-μ-loop : can-be-empty-lts.MeasureT-loop
+can-be-empty-μ-loop room i node₀ node = (nodeAt room node) .height
 
-can-be-empty-enum-told : (t : ℕ) → can-be-empty-lts.Need-enum-told (
-  node-at-reads.Asked,
-  node-at-reads.Learnt,
-  can-be-empty-below t,
-  can-be-empty.Post,
-) (can-be-empty-at t) can-be-empty.Post
-can-be-empty-enum-told t c = search needs
-
-can-be-empty-enum-told-2 : (t : ℕ) → can-be-empty-lts.Need-enum-told-2 (
-  node-at-reads.Asked,
-  node-at-reads.Learnt,
-  can-be-empty-below t,
-  can-be-empty.Post,
-) (can-be-empty-at t) can-be-empty.Post
-can-be-empty-enum-told-2 t c = search needs
-
-can-be-empty-enum-told-3 : (t : ℕ) → can-be-empty-lts.Need-enum-told-3 (
-  node-at-reads.Asked,
-  node-at-reads.Learnt,
-  can-be-empty-below t,
-  can-be-empty.Post,
-) (can-be-empty-at t) can-be-empty.Post
-can-be-empty-enum-told-3 t c = search needs
-
-can-be-empty-enum-told-4 : (t : ℕ) → can-be-empty-lts.Need-enum-told-4 (
-  node-at-reads.Asked,
-  node-at-reads.Learnt,
-  can-be-empty-below t,
-  can-be-empty.Post,
-) (can-be-empty-at t) can-be-empty.Post
-can-be-empty-enum-told-4 t c = search needs
-
-can-be-empty-can-be-empty-requires : (t : ℕ) → can-be-empty-lts.Need-can-be-empty-requires (
-  node-at-reads.Asked,
-  node-at-reads.Learnt,
-  can-be-empty-below t,
-  can-be-empty.Post,
-) (can-be-empty-at t) can-be-empty.Post
-can-be-empty-can-be-empty-requires t c κs = seq-left _ _ _ (c .before .before .before .before .node-at .ensures) _ (c .before .before .before .before .before .before .pre .0)
-    (c .before .before .before .before .before .before .pre .1) (c .enum-told4 .given .1)
-
-can-be-empty-can-be-empty-requires-2 : (t : ℕ) → can-be-empty-lts.Need-can-be-empty-requires-2 (
-  node-at-reads.Asked,
-  node-at-reads.Learnt,
-  can-be-empty-below t,
-  can-be-empty.Post,
-) (can-be-empty-at t) can-be-empty.Post
-can-be-empty-can-be-empty-requires-2 t c κs = seq-right _ _ _ (c .before .before .before .before .before .before .node-at .ensures) _
-    (c .before .before .before .before .before .before .before .before .pre .0) (c .before .before .before .before .before .before .before .before .pre .1)
-    (c .before .before .enum-told4 .given .1)
-
-can-be-empty-enum-told-5 : (t : ℕ) → can-be-empty-lts.Need-enum-told-5 (
-  node-at-reads.Asked,
-  node-at-reads.Learnt,
-  can-be-empty-below t,
-  can-be-empty.Post,
-) (can-be-empty-at t) can-be-empty.Post
-can-be-empty-enum-told-5 t c = search needs
-
-can-be-empty-can-be-empty-requires-3 : (t : ℕ) → can-be-empty-lts.Need-can-be-empty-requires-3 (
-  node-at-reads.Asked,
-  node-at-reads.Learnt,
-  can-be-empty-below t,
-  can-be-empty.Post,
-) (can-be-empty-at t) can-be-empty.Post
-can-be-empty-can-be-empty-requires-3 t c κs = alt-left _ _ _ (c .before .before .before .before .node-at .ensures) _ (c .before .before .before .before .before .before .pre .0)
-    (c .before .before .before .before .before .before .pre .1) (c .enum-told5 .given .1)
-
-can-be-empty-can-be-empty-requires-4 : (t : ℕ) → can-be-empty-lts.Need-can-be-empty-requires-4 (
-  node-at-reads.Asked,
-  node-at-reads.Learnt,
-  can-be-empty-below t,
-  can-be-empty.Post,
-) (can-be-empty-at t) can-be-empty.Post
-can-be-empty-can-be-empty-requires-4 t c κs = alt-right _ _ _ (c .before .before .before .before .before .before .node-at .ensures) _
-    (c .before .before .before .before .before .before .before .before .pre .0) (c .before .before .before .before .before .before .before .before .pre .1)
-    (c .before .before .enum-told5 .given .1)
-
-can-be-empty-enum-told-6 : (t : ℕ) → can-be-empty-lts.Need-enum-told-6 (
-  node-at-reads.Asked,
-  node-at-reads.Learnt,
-  can-be-empty-below t,
-  can-be-empty.Post,
-) (can-be-empty-at t) can-be-empty.Post
-can-be-empty-enum-told-6 t c = search needs
-
-can-be-empty-can-be-empty-requires-5 : (t : ℕ) → can-be-empty-lts.Need-can-be-empty-requires-5 (
-  node-at-reads.Asked,
-  node-at-reads.Learnt,
-  can-be-empty-below t,
-  can-be-empty.Post,
-) (can-be-empty-at t) can-be-empty.Post
-can-be-empty-can-be-empty-requires-5 t c κs = group-left _ _ _ (c .before .before .before .before .node-at .ensures) _
-    (c .before .before .before .before .before .before .pre .0) (c .before .before .before .before .before .before .pre .1) (c .enum-told6 .given .1)
-
-can-be-empty-returns-2 : (t : ℕ) → can-be-empty-lts.Need-returns-2 (
-  node-at-reads.Asked,
-  node-at-reads.Learnt,
-  can-be-empty-below t,
-  can-be-empty.Post,
-) (can-be-empty-at t) can-be-empty.Post
-can-be-empty-returns-2 t c = search (needs, null-letter)
-
-can-be-empty-returns-3 : (t : ℕ) → can-be-empty-lts.Need-returns-3 (
-  node-at-reads.Asked,
-  node-at-reads.Learnt,
-  can-be-empty-below t,
-  can-be-empty.Post,
-) (can-be-empty-at t) can-be-empty.Post
-can-be-empty-returns-3 t c = search (needs, null-anchor)
-
-can-be-empty-returns-4 : (t : ℕ) → can-be-empty-lts.Need-returns-4 (
-  node-at-reads.Asked,
-  node-at-reads.Learnt,
-  can-be-empty-below t,
-  can-be-empty.Post,
-) (can-be-empty-at t) can-be-empty.Post
-can-be-empty-returns-4 t c = search (needs, null-empty)
-
-can-be-empty-returns-5 : (t : ℕ) → can-be-empty-lts.Need-returns-5 (
-  node-at-reads.Asked,
-  node-at-reads.Learnt,
-  can-be-empty-below t,
-  can-be-empty.Post,
-) (can-be-empty-at t) can-be-empty.Post
-can-be-empty-returns-5 t c = search (needs, null-seq)
-
-can-be-empty-returns-6 : (t : ℕ) → can-be-empty-lts.Need-returns-6 (
-  node-at-reads.Asked,
-  node-at-reads.Learnt,
-  can-be-empty-below t,
-  can-be-empty.Post,
-) (can-be-empty-at t) can-be-empty.Post
-can-be-empty-returns-6 t c = search (needs, null-seq-no)
-
-can-be-empty-returns-7 : (t : ℕ) → can-be-empty-lts.Need-returns-7 (
-  node-at-reads.Asked,
-  node-at-reads.Learnt,
-  can-be-empty-below t,
-  can-be-empty.Post,
-) (can-be-empty-at t) can-be-empty.Post
-can-be-empty-returns-7 t c = search (needs, null-alt)
-
-can-be-empty-returns-8 : (t : ℕ) → can-be-empty-lts.Need-returns-8 (
-  node-at-reads.Asked,
-  node-at-reads.Learnt,
-  can-be-empty-below t,
-  can-be-empty.Post,
-) (can-be-empty-at t) can-be-empty.Post
-can-be-empty-returns-8 t c = search (needs, null-alt-second)
-
-can-be-empty-returns-9 : (t : ℕ) → can-be-empty-lts.Need-returns-9 (
-  node-at-reads.Asked,
-  node-at-reads.Learnt,
-  can-be-empty-below t,
-  can-be-empty.Post,
-) (can-be-empty-at t) can-be-empty.Post
-can-be-empty-returns-9 t c = search (needs, null-group)
-
-pub +can-be-empty-spec : {M : Type 1} → statement M
-+can-be-empty-spec = close μ-can-be-empty λ t. can-be-empty-lts.spec (
+-- what the callees of can_be_empty ask and tell, those of this cycle below the measure t
+abbrev can-be-empty-calls : ℕ → can-be-empty-lts.Claims
+can-be-empty-calls t = (
   node-at-reads.Asked,
   node-at-reads.Learnt,
   can-be-empty-below t,
   can-be-empty.Post,
 )
+
+can-be-empty-loop-holds : (t : ℕ) → can-be-empty-lts.Need-loop-holds (can-be-empty-calls t) (can-be-empty-at t) can-be-empty.Post can-be-empty-Inv-loop can-be-empty-μ-loop
+can-be-empty-loop-holds t c = search (needs, begins)
+
+can-be-empty-node-at-requires : (t : ℕ) → can-be-empty-lts.Need-node-at-requires (can-be-empty-calls t) (can-be-empty-at t) can-be-empty.Post can-be-empty-Inv-loop can-be-empty-μ-loop
+can-be-empty-node-at-requires t c κs = search (needs, inside)
+
+can-be-empty-returns : (t : ℕ) → can-be-empty-lts.Need-returns (can-be-empty-calls t) (can-be-empty-at t) can-be-empty.Post can-be-empty-Inv-loop can-be-empty-μ-loop
+can-be-empty-returns t c = search (needs, null-zero)
+
+can-be-empty-enum-told : (t : ℕ) → can-be-empty-lts.Need-enum-told (can-be-empty-calls t) (can-be-empty-at t) can-be-empty.Post can-be-empty-Inv-loop can-be-empty-μ-loop
+can-be-empty-enum-told t c = search needs
+
+can-be-empty-returns-2 : (t : ℕ) → can-be-empty-lts.Need-returns-2 (can-be-empty-calls t) (can-be-empty-at t) can-be-empty.Post can-be-empty-Inv-loop can-be-empty-μ-loop
+can-be-empty-returns-2 t c = search (needs, null-letter)
+
+can-be-empty-enum-told-2 : (t : ℕ) → can-be-empty-lts.Need-enum-told-2 (can-be-empty-calls t) (can-be-empty-at t) can-be-empty.Post can-be-empty-Inv-loop can-be-empty-μ-loop
+can-be-empty-enum-told-2 t c = search needs
+
+can-be-empty-returns-3 : (t : ℕ) → can-be-empty-lts.Need-returns-3 (can-be-empty-calls t) (can-be-empty-at t) can-be-empty.Post can-be-empty-Inv-loop can-be-empty-μ-loop
+can-be-empty-returns-3 t c = search (needs, null-anchor)
+
+can-be-empty-enum-told-3 : (t : ℕ) → can-be-empty-lts.Need-enum-told-3 (can-be-empty-calls t) (can-be-empty-at t) can-be-empty.Post can-be-empty-Inv-loop can-be-empty-μ-loop
+can-be-empty-enum-told-3 t c = search needs
+
+can-be-empty-returns-4 : (t : ℕ) → can-be-empty-lts.Need-returns-4 (can-be-empty-calls t) (can-be-empty-at t) can-be-empty.Post can-be-empty-Inv-loop can-be-empty-μ-loop
+can-be-empty-returns-4 t c = search (needs, null-empty)
+
+can-be-empty-enum-told-4 : (t : ℕ) → can-be-empty-lts.Need-enum-told-4 (can-be-empty-calls t) (can-be-empty-at t) can-be-empty.Post can-be-empty-Inv-loop can-be-empty-μ-loop
+can-be-empty-enum-told-4 t c = search needs
+
+can-be-empty-can-be-empty-requires : (t : ℕ) → can-be-empty-lts.Need-can-be-empty-requires (can-be-empty-calls t) (can-be-empty-at t) can-be-empty.Post can-be-empty-Inv-loop can-be-empty-μ-loop
+can-be-empty-can-be-empty-requires t c κs = seq-call _ _ _ _ (c .before .before .before .before .before .loop .inv) _ (c .before .before .before .before .node-at .ensures) _
+    (c .before .before .before .before .before .before .before .pre .0) (c .enum-told4 .given .1)
+
+can-be-empty-loop-less : (t : ℕ) → can-be-empty-lts.Need-loop-less (can-be-empty-calls t) (can-be-empty-at t) can-be-empty.Post can-be-empty-Inv-loop can-be-empty-μ-loop
+can-be-empty-loop-less t c = search (needs, seq-down)
+
+can-be-empty-loop-again : (t : ℕ) → can-be-empty-lts.Need-loop-again (can-be-empty-calls t) (can-be-empty-at t) can-be-empty.Post can-be-empty-Inv-loop can-be-empty-μ-loop
+can-be-empty-loop-again t c = search (needs, null-seq)
+
+can-be-empty-returns-5 : (t : ℕ) → can-be-empty-lts.Need-returns-5 (can-be-empty-calls t) (can-be-empty-at t) can-be-empty.Post can-be-empty-Inv-loop can-be-empty-μ-loop
+can-be-empty-returns-5 t c = search (needs, null-seq-no)
+
+can-be-empty-enum-told-5 : (t : ℕ) → can-be-empty-lts.Need-enum-told-5 (can-be-empty-calls t) (can-be-empty-at t) can-be-empty.Post can-be-empty-Inv-loop can-be-empty-μ-loop
+can-be-empty-enum-told-5 t c = search needs
+
+can-be-empty-can-be-empty-requires-2 : (t : ℕ) → can-be-empty-lts.Need-can-be-empty-requires-2 (can-be-empty-calls t) (can-be-empty-at t) can-be-empty.Post can-be-empty-Inv-loop can-be-empty-μ-loop
+can-be-empty-can-be-empty-requires-2 t c κs = alt-call _ _ _ _ (c .before .before .before .before .before .loop .inv) _ (c .before .before .before .before .node-at .ensures) _
+    (c .before .before .before .before .before .before .before .pre .0) (c .enum-told5 .given .1)
+
+can-be-empty-returns-6 : (t : ℕ) → can-be-empty-lts.Need-returns-6 (can-be-empty-calls t) (can-be-empty-at t) can-be-empty.Post can-be-empty-Inv-loop can-be-empty-μ-loop
+can-be-empty-returns-6 t c = search (needs, null-alt)
+
+can-be-empty-loop-less-2 : (t : ℕ) → can-be-empty-lts.Need-loop-less-2 (can-be-empty-calls t) (can-be-empty-at t) can-be-empty.Post can-be-empty-Inv-loop can-be-empty-μ-loop
+can-be-empty-loop-less-2 t c = search (needs, alt-down)
+
+can-be-empty-loop-again-2 : (t : ℕ) → can-be-empty-lts.Need-loop-again-2 (can-be-empty-calls t) (can-be-empty-at t) can-be-empty.Post can-be-empty-Inv-loop can-be-empty-μ-loop
+can-be-empty-loop-again-2 t c = search (needs, null-alt-second)
+
+can-be-empty-enum-told-6 : (t : ℕ) → can-be-empty-lts.Need-enum-told-6 (can-be-empty-calls t) (can-be-empty-at t) can-be-empty.Post can-be-empty-Inv-loop can-be-empty-μ-loop
+can-be-empty-enum-told-6 t c = search needs
+
+can-be-empty-loop-less-3 : (t : ℕ) → can-be-empty-lts.Need-loop-less-3 (can-be-empty-calls t) (can-be-empty-at t) can-be-empty.Post can-be-empty-Inv-loop can-be-empty-μ-loop
+can-be-empty-loop-less-3 t c = search (needs, group-down)
+
+can-be-empty-loop-again-3 : (t : ℕ) → can-be-empty-lts.Need-loop-again-3 (can-be-empty-calls t) (can-be-empty-at t) can-be-empty.Post can-be-empty-Inv-loop can-be-empty-μ-loop
+can-be-empty-loop-again-3 t c = search (needs, null-group)
+
+pub +can-be-empty-spec : {M : Type 1} → statement M
++can-be-empty-spec = close μ-can-be-empty λ t. can-be-empty-lts.spec (can-be-empty-calls t)
     (can-be-empty-at t)
     can-be-empty.Post
+    can-be-empty-Inv-loop
+    can-be-empty-μ-loop
+    (can-be-empty-loop-holds t)
     (can-be-empty-node-at-requires t)
     (can-be-empty-returns t)
     (can-be-empty-enum-told t)
+    (can-be-empty-returns-2 t)
     (can-be-empty-enum-told-2 t)
+    (can-be-empty-returns-3 t)
     (can-be-empty-enum-told-3 t)
+    (can-be-empty-returns-4 t)
     (can-be-empty-enum-told-4 t)
     (can-be-empty-can-be-empty-requires t)
-    (can-be-empty-can-be-empty-requires-2 t)
-    (can-be-empty-enum-told-5 t)
-    (can-be-empty-can-be-empty-requires-3 t)
-    (can-be-empty-can-be-empty-requires-4 t)
-    (can-be-empty-enum-told-6 t)
-    (can-be-empty-can-be-empty-requires-5 t)
-    (can-be-empty-returns-2 t)
-    (can-be-empty-returns-3 t)
-    (can-be-empty-returns-4 t)
+    (can-be-empty-loop-less t)
+    (can-be-empty-loop-again t)
     (can-be-empty-returns-5 t)
+    (can-be-empty-enum-told-5 t)
+    (can-be-empty-can-be-empty-requires-2 t)
     (can-be-empty-returns-6 t)
-    (can-be-empty-returns-7 t)
-    (can-be-empty-returns-8 t)
-    (can-be-empty-returns-9 t)
+    (can-be-empty-loop-less-2 t)
+    (can-be-empty-loop-again-2 t)
+    (can-be-empty-enum-told-6 t)
+    (can-be-empty-loop-less-3 t)
+    (can-be-empty-loop-again-3 t)

@@ -27,8 +27,8 @@ peek-requires-2 c κs = search needs
 is-digit-requires-2 : tie.Need-is-digit-requires-2
 is-digit-requires-2 c κs = search needs
 
-wide-requires : tie.Need-wide-requires
-wide-requires c κs = search needs
+wide8-requires : tie.Need-wide8-requires
+wide8-requires c κs = search needs
 
 sub-t9 : tie.Need-sub-t9
 sub-t9 c = search (needs, digits-from, not-true, not-false)
@@ -48,8 +48,8 @@ no-number-requires-2 c κs = search needs
 returns-3 : tie.Need-returns-3
 returns-3 c = search (needs, number-zero, not-false)
 
-wide-requires-2 : tie.Need-wide-requires-2
-wide-requires-2 c κs = search needs
+wide8-requires-2 : tie.Need-wide8-requires-2
+wide8-requires-2 c κs = search needs
 
 sub-t12 : tie.Need-sub-t12
 sub-t12 c = search (needs, digits-from, not-true, not-false)
@@ -57,8 +57,8 @@ sub-t12 c = search (needs, digits-from, not-true, not-false)
 mul-t13 : tie.Need-mul-t13
 mul-t13 c = omega arith
 
-wide-requires-3 : tie.Need-wide-requires-3
-wide-requires-3 c κs = search needs
+wide8-requires-3 : tie.Need-wide8-requires-3
+wide8-requires-3 c κs = search needs
 
 sub-t15 : tie.Need-sub-t15
 sub-t15 c = search (needs, digits-from, not-true, not-false)
@@ -83,17 +83,17 @@ number-spec =
     add-peek
     peek-requires-2
     is-digit-requires-2
-    wide-requires
+    wide8-requires
     sub-t9
     add-t10
     returns-2
     add-no-number
     no-number-requires-2
     returns-3
-    wide-requires-2
+    wide8-requires-2
     sub-t12
     mul-t13
-    wide-requires-3
+    wide8-requires-3
     sub-t15
     add-t16
     add-t17

@@ -20,8 +20,8 @@ no-number-requires-2 c κs = search needs
 returns-2 : tie.Need-returns-2
 returns-2 c = search (needs, reach-above)
 
-wide-requires : tie.Need-wide-requires
-wide-requires c κs = search needs
+wide8-requires : tie.Need-wide8-requires
+wide8-requires c κs = search needs
 
 sub-if3 : tie.Need-sub-if3
 sub-if3 c = search needs
@@ -62,7 +62,7 @@ reaching-spec =
     returns
     no-number-requires-2
     returns-2
-    wide-requires
+    wide8-requires
     sub-if3
     mul-if3
     add-if3

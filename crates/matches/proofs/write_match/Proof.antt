@@ -7,7 +7,7 @@ use Rattle.matches.proofs.write_match.Statement.{statement}
 use Rattle.matches.proofs.write_match.Tie as tie
 
 sub-taken : tie.Need-sub-taken
-sub-taken c = tell-row _ _ _ _ _ _ _ _ _ _ (c .before .before .before .before .before .pre)
+sub-taken c = search (needs, tell-row)
 
 fits-whole-requires : tie.Need-fits-whole-requires
 fits-whole-requires c κs = search needs
@@ -16,7 +16,7 @@ add-end : tie.Need-add-end
 add-end c = omega arith
 
 put-labels-requires : tie.Need-put-labels-requires
-put-labels-requires c κs = tell-labels _ _ _ _ _ _ _ _ _ _ (c .before .before .before .before .before .before .before .before .pre) _ _ (c .before .before .fits-whole .ensures) (c .before .if1 .taken)
+put-labels-requires c κs = tell-labels _ _ _ _ _ _ _ (c .before .before .before .before .before .before .before .pre) _ _ (c .before .before .fits-whole .ensures) (c .before .if1 .taken)
 
 mul-put-match : tie.Need-mul-put-match
 mul-put-match c = omega arith
@@ -25,7 +25,7 @@ add-put-match : tie.Need-add-put-match
 add-put-match c = omega arith
 
 mul-put-match-2 : tie.Need-mul-put-match-2
-mul-put-match-2 c = omega (arith, tell-at _ _ _ _ _ _ _ _ _ _ (c .before .before .before .before .before .before .before .before .before .before .before .before .pre))
+mul-put-match-2 c = omega (arith, tell-at _ _ _ _ _ _ _ (c .before .before .before .before .before .before .before .before .before .before .before .pre))
 
 add-put-match-2 : tie.Need-add-put-match-2
 add-put-match-2 c = omega arith
@@ -37,10 +37,10 @@ part-put-match-start : tie.Need-part-put-match-start
 part-put-match-start c = omega arith
 
 part-put-match-end : tie.Need-part-put-match-end
-part-put-match-end c = tell-end _ _ _ _ _ _ _ _ _ _ (c .before .before .before .before .before .before .before .before .before .before .before .before .before .pre) _ _ (c .before .before .before .before .before .before .before .fits-whole .ensures) (c .before .before .before .before .before .before .if1 .taken) _ (c .before .before .before .before .put-labels .ensures)
+part-put-match-end c = tell-end _ _ _ _ _ _ _ (c .before .before .before .before .before .before .before .before .before .before .before .before .pre) _ _ (c .before .before .before .before .before .before .before .fits-whole .ensures) (c .before .before .before .before .before .before .if1 .taken) _ (c .before .before .before .before .put-labels .ensures)
 
 put-match-requires : tie.Need-put-match-requires
-put-match-requires c κs = tell-appends _ _ _ _ _ _ _ _ _ _ (c .before .before .before .before .before .before .before .before .before .before .before .before .before .before .pre) _ _ (c .before .before .before .before .before .before .before .before .fits-whole .ensures) (c .before .before .before .before .before .before .before .if1 .taken) _ (c .before .before .before .before .before .put-labels .ensures) _ refl
+put-match-requires c κs = tell-appends _ _ _ _ _ _ _ (c .before .before .before .before .before .before .before .before .before .before .before .before .before .pre) _ _ (c .before .before .before .before .before .before .before .before .fits-whole .ensures) (c .before .before .before .before .before .before .before .if1 .taken) _ (c .before .before .before .before .before .put-labels .ensures) _ refl
 
 next-row-requires : tie.Need-next-row-requires
 next-row-requires c κs = search needs
@@ -55,10 +55,10 @@ same-length-2 : tie.Need-same-length-2
 same-length-2 c = search needs
 
 returns : tie.Need-returns
-returns c = tell-fits _ _ _ _ _ _ _ _ _ _ (c .before .before .before .before .before .before .before .before .before .before .before .before .before .before .before .before .before .pre) _ _ (c .before .before .before .before .before .before .before .before .before .before .before .fits-whole .ensures) (c .before .before .before .before .before .before .before .before .before .before .if1 .taken) _ (c .before .before .before .before .before .before .before .before .put-labels .ensures) _ _ _ _ refl (c .before .before .put-match .ensures .1) (c .next-row .ensures)
+returns c = tell-fits _ _ _ _ _ _ _ (c .before .before .before .before .before .before .before .before .before .before .before .before .before .before .before .before .pre) _ _ (c .before .before .before .before .before .before .before .before .before .before .before .fits-whole .ensures) (c .before .before .before .before .before .before .before .before .before .before .if1 .taken) _ (c .before .before .before .before .before .before .before .before .put-labels .ensures) _ _ _ refl (c .before .before .put-match .ensures .1) (c .next-row .ensures)
 
 returns-2 : tie.Need-returns-2
-returns-2 c = tell-full _ _ _ _ _ _ _ _ _ _ (c .before .before .before .before .before .before .before .pre) _ _ (c .before .fits-whole .ensures) ((c .before .before .before .before .before .before .before .args .numbers .now)) _ refl (c .if1 .left)
+returns-2 c = tell-full _ _ _ _ _ _ _ (c .before .before .before .before .before .before .pre) _ _ (c .before .fits-whole .ensures) ((c .before .before .before .before .before .before .args .numbers .now)) refl (c .if1 .left)
 
 pub write-match-spec : {M : Type 1} → statement M
 write-match-spec =

@@ -1,6 +1,6 @@
--- `decode::measure_at` meets its contract.
+-- `measure_list::measure_at` meets its contract.
 use borrow.Author.Needs.{needs}
-use Rattle.measure_list.specs.Measures.{measureIn}
+use Rattle.measure_list.proofs.OneMeasure.{measure-is}
 use Rattle.measure_list.proofs.measure_at.Statement.{statement}
 use Rattle.measure_list.proofs.measure_at.Tie as tie
 
@@ -26,8 +26,7 @@ make-requires : tie.Need-make-requires
 make-requires c κs = search needs
 
 returns : tie.Need-returns
-unfolding measureIn
-returns c = cc
+returns c = search (needs, measure-is)
 
 pub measure-at-spec : {M : Type 1} → statement M
 measure-at-spec =

@@ -1,4 +1,4 @@
--- `decode::measure_of` meets its contract.
+-- `measure_list::measure_of` meets its contract.
 use borrow.Author.Needs.{needs}
 use Rattle.rules.specs.Query.{measureAt}
 use Rattle.measure_list.proofs.measure_of.Statement.{statement}

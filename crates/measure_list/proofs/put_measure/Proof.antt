@@ -1,4 +1,4 @@
--- `decode::put_measure` meets its contract.
+-- `measure_list::put_measure` meets its contract.
 use mathlib.Core.Path.{refl}
 use borrow.Author.Needs.{needs}
 use Rattle.measure_list.specs.Measures.{setThree}

@@ -15,7 +15,7 @@ enum-told : tie.Need-enum-told
 enum-told c = search needs
 
 returns : tie.Need-returns
-returns c = λ f n. search (needs, last-null)
+returns c = search (needs, last-null)
 
 add-entry-at : tie.Need-add-entry-at
 add-entry-at c = omega (
@@ -27,7 +27,7 @@ entry-at-requires : tie.Need-entry-at-requires
 entry-at-requires c κs = search (needs, row-inside, last-inside)
 
 returns-2 : tie.Need-returns-2
-returns-2 c = λ f n. search (needs, gives-last, last-at)
+returns-2 c = search (needs, gives-last, last-at)
 
 pub last-measure-spec : {M : Type 1} → statement M
 last-measure-spec =

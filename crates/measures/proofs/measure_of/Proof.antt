@@ -1,14 +1,11 @@
 -- `measures::measure_of` meets its contract by the laws of RowsOf.
-use Rattle.measures.proofs.RowsOf.{others-from, others-upto, as-last, gives-none, first-at, same-column}
+use Rattle.measures.proofs.RowsOf.{as-last, gives-none, first-at, same-column}
 use borrow.Author.Needs.{needs}
 use Rattle.measures.proofs.measure_of.Statement.{statement}
 use Rattle.measures.proofs.measure_of.Tie as tie
 
-means-last-requires : tie.Need-means-last-requires
-means-last-requires c κs = search needs
-
-wide-requires : tie.Need-wide-requires
-wide-requires c κs = search needs
+wide8-requires : tie.Need-wide8-requires
+wide8-requires c κs = search needs
 
 last-measure-requires : tie.Need-last-measure-requires
 last-measure-requires c κs = search needs
@@ -31,11 +28,11 @@ of-no-rows-requires c κs = search needs
 returns-2 : tie.Need-returns-2
 returns-2 c = search (needs, gives-none)
 
-wide-requires-2 : tie.Need-wide-requires-2
-wide-requires-2 c κs = search needs
+wide8-requires-2 : tie.Need-wide8-requires-2
+wide8-requires-2 c κs = search needs
 
 measure-from-requires : tie.Need-measure-from-requires
-measure-from-requires c κs = search (needs, others-from, others-upto, first-at)
+measure-from-requires c κs = search (needs, first-at)
 
 returns-3 : tie.Need-returns-3
 returns-3 c = search (needs, same-column)
@@ -44,8 +41,7 @@ pub measure-of-spec : {M : Type 1} → statement M
 measure-of-spec =
     tie.close
     (tie.spec
-    means-last-requires
-    wide-requires
+    wide8-requires
     last-measure-requires
     returns
     first-of-requires
@@ -53,6 +49,6 @@ measure-of-spec =
     enum-told
     of-no-rows-requires
     returns-2
-    wide-requires-2
+    wide8-requires-2
     measure-from-requires
     returns-3)

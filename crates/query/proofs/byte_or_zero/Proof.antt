@@ -4,11 +4,11 @@ use Rattle.records.proofs.Reading.{no-byte}
 use Rattle.query.proofs.byte_or_zero.Statement.{statement}
 use Rattle.query.proofs.byte_or_zero.Tie as tie
 
-shared-slice-read-wide : tie.Need-shared-slice-read-wide
-shared-slice-read-wide c = search needs
+shared-slice-read-wide8 : tie.Need-shared-slice-read-wide8
+shared-slice-read-wide8 c = search needs
 
-wide-requires : tie.Need-wide-requires
-wide-requires c κs = search needs
+wide8-requires : tie.Need-wide8-requires
+wide8-requires c κs = search needs
 
 returns : tie.Need-returns
 returns c = search needs
@@ -17,4 +17,4 @@ returns-2 : tie.Need-returns-2
 returns-2 c = search (needs, no-byte)
 
 pub byte-or-zero-spec : {M : Type 1} → statement M
-byte-or-zero-spec = tie.close (tie.spec shared-slice-read-wide wide-requires returns returns-2)
+byte-or-zero-spec = tie.close (tie.spec shared-slice-read-wide8 wide8-requires returns returns-2)

@@ -11,8 +11,8 @@ sub-if1 c = search needs
 returns : tie.Need-returns
 returns c = cut-header _ _ (omega arith) (omega arith)
 
-number-at-requires : tie.Need-number-at-requires
-number-at-requires c κs = search needs
+le16-at-requires : tie.Need-le16-at-requires
+le16-at-requires c κs = search needs
 
 add-start : tie.Need-add-start
 add-start c = search needs
@@ -23,11 +23,11 @@ sub-if2 c = search needs
 returns-2 : tie.Need-returns-2
 returns-2 c = cut-body _ _ (omega arith) (omega arith)
 
-add-number-at : tie.Need-add-number-at
-add-number-at c = search needs
+add-le16-at : tie.Need-add-le16-at
+add-le16-at c = search needs
 
-number-at-requires-2 : tie.Need-number-at-requires-2
-number-at-requires-2 c κs = search needs
+le16-at-requires-2 : tie.Need-le16-at-requires-2
+le16-at-requires-2 c κs = search needs
 
 add-t7 : tie.Need-add-t7
 add-t7 c = search needs
@@ -41,11 +41,11 @@ record-at-spec =
     (tie.spec
     sub-if1
     returns
-    number-at-requires
+    le16-at-requires
     add-start
     sub-if2
     returns-2
-    add-number-at
-    number-at-requires-2
+    add-le16-at
+    le16-at-requires-2
     add-t7
     returns-3)

@@ -24,7 +24,7 @@ same-length : tie.Need-same-length
 same-length c = search needs
 
 returns : tie.Need-returns
-returns c = (omega arith, match-is _ _ _ _ _ _ _ _ _ (omega arith) (c .before .before .before .before .put-three .ensures) (c .before .put-measures .ensures))
+returns c = (omega arith, match-is _ _ _ _ _ _ _ _ _ (omega arith) (c .before .before .before .before .before .put-three .ensures) (c .before .before .put-measures .ensures))
 
 pub put-match-spec : {M : Type 1} → statement M
 put-match-spec =

@@ -1,17 +1,17 @@
--- `search::search` meets its contract: either room is large enough for the tree.
+-- `search::search` meets its contract by the laws of Answering.
+use Rattle.search.proofs.Answering.{may-run, has-run}
 use borrow.Author.Needs.{needs}
-use Rattle.reading.proofs.Short.{all-nodes, short-nodes}
 use Rattle.search.proofs.search.Statement.{statement}
 use Rattle.search.proofs.search.Tie as tie
 
-text-is-short-requires : tie.Need-text-is-short-requires
-text-is-short-requires c κs = search needs
+slice-aggregate-prepare : tie.Need-slice-aggregate-prepare
+slice-aggregate-prepare c = search needs
 
-slice-aggregate-search-in : tie.Need-slice-aggregate-search-in
-slice-aggregate-search-in c = search needs
+prepare-requires : tie.Need-prepare-requires
+prepare-requires c κs = search needs
 
-search-in-requires : tie.Need-search-in-requires
-search-in-requires c κs = search (needs, short-nodes)
+search-large-requires : tie.Need-search-large-requires
+search-large-requires c κs = search needs
 
 same-length : tie.Need-same-length
 same-length c = search needs
@@ -28,11 +28,11 @@ same-length-4 c = search needs
 returns : tie.Need-returns
 returns c = search needs
 
-slice-aggregate-search-in-2 : tie.Need-slice-aggregate-search-in-2
-slice-aggregate-search-in-2 c = search needs
+slice-aggregate-run : tie.Need-slice-aggregate-run
+slice-aggregate-run c = search needs
 
-search-in-requires-2 : tie.Need-search-in-requires-2
-search-in-requires-2 c κs = search (needs, all-nodes)
+run-requires : tie.Need-run-requires
+run-requires c κs = search (needs, may-run)
 
 same-length-5 : tie.Need-same-length-5
 same-length-5 c = search needs
@@ -47,22 +47,22 @@ same-length-8 : tie.Need-same-length-8
 same-length-8 c = search needs
 
 returns-2 : tie.Need-returns-2
-returns-2 c = search needs
+returns-2 c = search (needs, has-run)
 
 pub search-spec : {M : Type 1} → statement M
 search-spec =
     tie.close
     (tie.spec
-    text-is-short-requires
-    slice-aggregate-search-in
-    search-in-requires
+    slice-aggregate-prepare
+    prepare-requires
+    search-large-requires
     same-length
     same-length-2
     same-length-3
     same-length-4
     returns
-    slice-aggregate-search-in-2
-    search-in-requires-2
+    slice-aggregate-run
+    run-requires
     same-length-5
     same-length-6
     same-length-7

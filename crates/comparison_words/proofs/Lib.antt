@@ -1,0 +1,4 @@
+mod Comparing
+mod Moving
+pub mod Same
+mod Several

@@ -1,0 +1,4 @@
+mod Raising
+mod Choosing
+mod Writing
+pub mod First

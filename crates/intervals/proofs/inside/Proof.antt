@@ -1,0 +1,24 @@
+-- `intervals::inside` meets its contract by the laws of Intervals.
+use mathlib.Core.Path.{ap, _∙_}
+use native.Mathlib.Omega.{arith}
+use borrow.Author.Needs.{needs}
+use Rattle.rules.proofs.Signed.{read-back}
+use Rattle.table.specs.Tests.{raised}
+use Rattle.intervals.proofs.Intervals.{wraps-within}
+use Rattle.intervals.proofs.inside.Statement.{statement}
+use Rattle.intervals.proofs.inside.Tie as tie
+
+raise-requires : tie.Need-raise-requires
+raise-requires c κs = rw (read-back (c .args .d) (omega arith)) (omega arith)
+
+wrapping-sub-u64-requires : tie.Need-wrapping-sub-u64-requires
+wrapping-sub-u64-requires c κs = search needs
+
+returns : tie.Need-returns
+returns c =
+    let a = c .before .before .args in
+    wraps-within (raised (a .d)) (a .low) (a .width) _ (c .wrapping-sub-u64 .result) (c .before .raise .ensures ∙ ap raised (read-back (a .d) (omega arith)))
+    (c .wrapping-sub-u64 .ensures) (omega arith) (omega arith)
+
+pub inside-spec : {M : Type 1} → statement M
+inside-spec = tie.close (tie.spec raise-requires wrapping-sub-u64-requires returns)

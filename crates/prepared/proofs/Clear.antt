@@ -1,0 +1,48 @@
+-- A query with no answer of its own: its pattern has no unbounded quantifier over a body that can
+-- take no row, and not too many places. And no answer is the number that tells of a short table.
+use mathlib.Core.Path.{_≡_, refl}
+use mathlib.Core.Bool.{Bool, true, false, _&&_}
+use mathlib.Core.List.{List, [], _∷_}
+use Prim.Native.Nat.{ℕ, _≤_}
+use lib.Dec.{leb}
+use lib.ListN.{getD}
+use borrow.Author.Tests.{leb-true, ltb-false}
+use native.Mathlib.Omega.{arith}
+use Rattle.rules.specs.Basics.{pick}
+use Rattle.rules.specs.Answers.{treeIn, hasEmptyLoop, tooMany, P, Test, firstOf, queryTests}
+use Rattle.rules.proofs.Accepted.{query-tests-refuse}
+use Rattle.rules.proofs.Choice.{and-left, and-right}
+use Rattle.rules.proofs.FirstTrue.{none-true}
+use Rattle.reading.specs.Reading.{queryAnswer}
+
+pub record Clear (q : List ℕ) : Type 0 where
+  pub loop : hasEmptyLoop (treeIn q) ≡ false
+  pub many : tooMany (treeIn q) ≡ false
+
+pub clear-query : (q : List ℕ) → queryAnswer q ≡ 0 → Clear q
+unfolding queryAnswer queryTests
+clear-query q e =
+    let no : (i : ℕ) → getD (queryTests q) i (0, false) .1 ≡ false = none-true (queryTests q) (query-tests-refuse q) e in
+    record { loop = no 6; many = no 7 }
+
+pub few-places : (q : List ℕ) → queryAnswer q ≡ 0 → P (treeIn q) ≤ 256
+unfolding tooMany
+few-places q e = ltb-false 256 (P (treeIn q)) (clear-query q e .many)
+
+-- every answer of a query is at most 14
+upTo : List Test → Bool
+upTo [] = true
+upTo (t ∷ ts) = leb (t .0) 14 && upTo ts
+
+first-few : (ts : List Test) → upTo ts ≡ true → firstOf ts ≤ 14
+unfolding upTo firstOf
+first-few [] e = omega arith
+first-few (t ∷ ts) e = by (t .1) (leb-true (t .0) 14 (and-left (leb (t .0) 14) (upTo ts) e)) (first-few ts (and-right (leb (t .0) 14) (upTo ts) e))
+  where
+    by : (b : Bool) → t .0 ≤ 14 → firstOf ts ≤ 14 → pick b (t .0) (firstOf ts) ≤ 14
+    by true h k = h
+    by false h k = k
+
+pub no-answer : (q : List ℕ) → queryAnswer q ≡ 255 → ⊥
+unfolding queryAnswer queryTests upTo
+no-answer q e = let f : firstOf (queryTests q) ≤ 14 = first-few (queryTests q) refl in absurd (omega (arith, e, f))
