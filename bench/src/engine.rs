@@ -1,8 +1,10 @@
 //! An engine for the rules of document 01, not verified, in safe Rust and as
 //! fast as we could make it: the yardstick for the product's speed. It has the
 //! product's face and effects: the same answer, counts and steps, and the same
-//! content of all four lent buffers. The walk is that of document 01, with
-//! notes and a trail in the lent buffers; see `engine/walk.rs`.
+//! content of all four lent buffers. A query is prepared, which makes the tables
+//! of `engine/tables.rs`, and run over rows; `search` does both. The walk is that
+//! of document 01, with notes and a trail in the lent buffers; see
+//! `engine/walk.rs`.
 
 #![forbid(unsafe_code)]
 
@@ -20,8 +22,8 @@ use mireladle::lent::{Outcome, Room};
 use pattern::Pattern;
 use query::{Measure, Query};
 use report::Report;
+use tables::Tables;
 
-const MOST_ROWS: usize = 4096;
 const STOPPED: u64 = 13;
 
 /// The whole search.
@@ -37,21 +39,85 @@ pub fn search(
     let mut accepted = || {
         let query = query::read(query)?;
         let mut pattern = Pattern::new();
-        let rows = accept(&query, &mut pattern, rows)?;
-        let pairs = pattern.count * (rows.n + 1);
-        let notes = notes.get_mut(..pairs.div_ceil(8)).ok_or(11_u64)?;
-        let trail = trail.get_mut(..pairs).ok_or(12_u64)?;
+        judge(&query, &mut pattern)?;
+        let Lent { rows, notes, trail } = Lent::new(&query, pattern.count, rows, notes, trail)?;
         let mut report = Report::new(numbers, labels, query.measures());
         let (done, steps) = walk::search(&query, &pattern, rows, notes, trail, &mut report);
-        Ok(Outcome {
-            answer: if done { 0 } else { STOPPED },
-            matches: report.matches as u64,
-            labels: report.labels_written as u64,
-            steps,
-            offset: 0,
-        })
+        Ok(ended(done, steps, &report))
     };
     accepted().unwrap_or_else(refused)
+}
+
+/// A query that is prepared once, for any number of runs.
+pub struct Prepared<'a> {
+    query: Query<'a>,
+    tables: Filled,
+}
+
+/// Tables of the size that the pattern needs.
+enum Filled {
+    Small(Box<Tables<16>>),
+    Middle(Box<Tables<64>>),
+    Large(Box<Tables<256>>),
+}
+
+/// Prepares a query, or gives the lowest of the answers 1 to 9 that applies.
+pub fn prepare(query: &[u8]) -> Result<Prepared<'_>, u64> {
+    let query = query::read(query)?;
+    let mut pattern = Pattern::new();
+    judge(&query, &mut pattern)?;
+    let tables = match pattern.count {
+        0..=16 => Filled::Small(filled(&query, &pattern)),
+        17..=64 => Filled::Middle(filled(&query, &pattern)),
+        _ => Filled::Large(filled(&query, &pattern)),
+    };
+    Ok(Prepared { query, tables })
+}
+
+fn filled<const N: usize>(query: &Query, pattern: &Pattern) -> Box<Tables<N>> {
+    let mut tables = Box::new(Tables::new());
+    tables.fill(query, pattern);
+    tables
+}
+
+impl Prepared<'_> {
+    /// The search of the prepared query.
+    pub fn run(
+        &self,
+        rows: &[i32],
+        notes: &mut [u8],
+        trail: &mut [u32],
+        numbers: &mut [i64],
+        labels: &mut [u8],
+    ) -> Outcome {
+        let query = &self.query;
+        let places = match &self.tables {
+            Filled::Small(tables) => tables.count,
+            Filled::Middle(tables) => tables.count,
+            Filled::Large(tables) => tables.count,
+        };
+        let mut accepted = || {
+            let Lent { rows, notes, trail } = Lent::new(query, places, rows, notes, trail)?;
+            let mut report = Report::new(numbers, labels, query.measures());
+            let (done, steps) = match &self.tables {
+                Filled::Small(tables) => walk::run(query, tables, rows, notes, trail, &mut report),
+                Filled::Middle(tables) => walk::run(query, tables, rows, notes, trail, &mut report),
+                Filled::Large(tables) => walk::run(query, tables, rows, notes, trail, &mut report),
+            };
+            Ok(ended(done, steps, &report))
+        };
+        accepted().unwrap_or_else(refused)
+    }
+}
+
+fn ended(done: bool, steps: u64, report: &Report) -> Outcome {
+    Outcome {
+        answer: if done { 0 } else { STOPPED },
+        matches: report.matches as u64,
+        labels: report.labels_written as u64,
+        steps,
+        offset: 0,
+    }
 }
 
 fn refused(answer: u64) -> Outcome {
@@ -82,13 +148,14 @@ pub fn room(query: &[u8], rows: &[i32]) -> Room {
 fn sizes(query: &[u8], rows: &[i32]) -> Result<(usize, usize), u64> {
     let query = query::read(query)?;
     let mut pattern = Pattern::new();
-    let rows = accept(&query, &mut pattern, rows)?;
+    judge(&query, &mut pattern)?;
+    let rows = Rows::new(rows, query.columns)?;
     Ok((pattern.count, rows.n))
 }
 
-/// Reads the pattern of a query that has none of the answers 1 to 3, and takes
-/// the rows; or gives the lowest of the answers 4 to 10 that applies.
-fn accept<'a>(query: &Query, pattern: &mut Pattern, rows: &'a [i32]) -> Result<Rows<'a>, u64> {
+/// Reads the pattern of a query that has none of the answers 1 to 3, or gives the
+/// lowest of the answers 4 to 9 that applies.
+fn judge(query: &Query, pattern: &mut Pattern) -> Result<(), u64> {
     pattern::read(query.text, pattern)?;
     if query.defined_twice {
         return Err(8);
@@ -100,13 +167,30 @@ fn accept<'a>(query: &Query, pattern: &mut Pattern, rows: &'a [i32]) -> Result<R
     if !query.measures().iter().all(measured) {
         return Err(9);
     }
-    let (n, rest) = (rows.len() / query.columns, rows.len() % query.columns);
-    if rest != 0 || n > MOST_ROWS {
-        return Err(10);
+    Ok(())
+}
+
+/// The rows of a search, with notes and trail cut to the length that it needs.
+struct Lent<'a> {
+    rows: Rows<'a>,
+    notes: &'a mut [u8],
+    trail: &'a mut [u32],
+}
+
+impl<'a> Lent<'a> {
+    /// For a query of so many places; or the lowest of the answers 10 to 12 that
+    /// applies.
+    fn new(
+        query: &Query,
+        places: usize,
+        rows: &'a [i32],
+        notes: &'a mut [u8],
+        trail: &'a mut [u32],
+    ) -> Result<Lent<'a>, u64> {
+        let rows = Rows::new(rows, query.columns)?;
+        let pairs = places * (rows.n + 1);
+        let notes = notes.get_mut(..pairs.div_ceil(8)).ok_or(11_u64)?;
+        let trail = trail.get_mut(..pairs).ok_or(12_u64)?;
+        Ok(Lent { rows, notes, trail })
     }
-    Ok(Rows {
-        entries: rows,
-        columns: query.columns,
-        n,
-    })
 }

@@ -1,13 +1,20 @@
 //! The benchmark: the product against an unverified engine of the same walk, the
 //! yardstick, in one process. Both first search every workload, and results and
 //! all lent buffers are compared; a difference ends the bench with an error.
+//! Where the library of crates/bench_c is linked, one workload is run by both with
+//! a query that is prepared once.
 //! Options: --quick (a few seconds in all), --only NAME (workloads that have
 //! NAME in their name), --markdown (tables for docs/PERFORMANCE.md), --check
 //! (compares and measures nothing; the last line is `N passed, M failed`).
 
+// What only the workload `prepared` needs is not used where its library is not there.
+#![cfg_attr(not(bench_c), allow(dead_code))]
+
 mod clock;
 mod engine;
 mod output;
+#[cfg(bench_c)]
+mod prepared;
 mod random;
 mod readings;
 mod rooms;
@@ -18,8 +25,8 @@ mod workloads;
 use mireladle::lent;
 use output::{Columns, Measured};
 use readings::{Judge, Reading};
-use rooms::{Rooms, Search, Sums};
-use rounds::{Plan, Run};
+use rooms::{Engine, Rooms, Sums};
+use rounds::{Plan, Run, Times};
 use std::hint::black_box;
 use std::process::exit;
 use workloads::Workload;
@@ -177,16 +184,7 @@ fn wanted_readings(options: &Options) -> impl Iterator<Item = Reading> + '_ {
 
 fn measure_search(workload: Workload, plan: Plan) -> Result<Measured, String> {
     let sums = rooms::compare(&workload)?;
-    let run = |search: Search| {
-        let workload = &workload;
-        move |rooms: &mut Rooms| {
-            for rows in &workload.partitions {
-                black_box(rooms.search(search, workload.query.as_bytes(), black_box(rows)));
-            }
-        }
-    };
-    let engines: [Run<Rooms>; 2] = [&run(lent::search), &run(engine::search)];
-    let [product, yardstick] = rounds::measure(&mut Rooms::new(&workload), engines, plan);
+    let [product, yardstick] = time_search(&workload, plan);
     Ok(Measured {
         rows: workload.rows(),
         name: workload.name,
@@ -195,6 +193,17 @@ fn measure_search(workload: Workload, plan: Plan) -> Result<Measured, String> {
         yardstick,
         product,
     })
+}
+
+fn time_search(workload: &Workload, plan: Plan) -> [Times; 2] {
+    let run = |engine: &Engine, rooms: &mut Rooms| {
+        for rows in &workload.partitions {
+            black_box(engine(black_box(rows), rooms));
+        }
+    };
+    let [product, yardstick] = &rooms::engines(workload);
+    let engines: [Run<Rooms>; 2] = [&|rooms| run(product, rooms), &|rooms| run(yardstick, rooms)];
+    rounds::measure(&mut Rooms::new(workload), engines, plan)
 }
 
 fn measure_reading(reading: Reading, plan: Plan) -> Result<Measured, String> {

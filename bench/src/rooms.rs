@@ -2,12 +2,14 @@
 //! the comparison of what the two engines leave in them.
 
 use crate::engine;
+#[cfg(bench_c)]
+use crate::prepared;
 use crate::workloads::Workload;
 use mireladle::lent::{self, Outcome};
 use mireladle::Skip;
 
 /// An engine's whole search.
-pub type Search = fn(
+type Search = fn(
     query: &[u8],
     rows: &[i32],
     notes: &mut [u8],
@@ -16,15 +18,31 @@ pub type Search = fn(
     labels: &mut [u8],
 ) -> Outcome;
 
+/// An engine with the query of a workload: it searches rows in lent rooms.
+pub type Engine<'a> = Box<dyn Fn(&[i32], &mut Rooms) -> Outcome + 'a>;
+
+/// The product and the yardstick. A query that is to be prepared is prepared here.
+pub fn engines(workload: &Workload) -> [Engine<'_>; 2] {
+    let query = workload.query.as_bytes();
+    #[cfg(bench_c)]
+    if workload.prepared {
+        return prepared::engines(query);
+    }
+    [
+        Box::new(|rows, rooms| rooms.search(lent::search, query, rows)),
+        Box::new(|rows, rooms| rooms.search(engine::search, query, rows)),
+    ]
+}
+
 /// What each buffer has beyond what a search needs, to see that it is left.
 const BEYOND: usize = 9;
 
 #[derive(Clone, PartialEq, Eq)]
 pub struct Rooms {
-    notes: Vec<u8>,
-    trail: Vec<u32>,
-    numbers: Vec<i64>,
-    labels: Vec<u8>,
+    pub notes: Vec<u8>,
+    pub trail: Vec<u32>,
+    pub numbers: Vec<i64>,
+    pub labels: Vec<u8>,
 }
 
 impl Rooms {
@@ -51,7 +69,7 @@ impl Rooms {
         }
     }
 
-    pub fn search(&mut self, search: Search, query: &[u8], rows: &[i32]) -> Outcome {
+    fn search(&mut self, search: Search, query: &[u8], rows: &[i32]) -> Outcome {
         search(
             query,
             rows,
@@ -97,11 +115,11 @@ pub fn compare(workload: &Workload) -> Result<Sums, String> {
     let mut rooms = Rooms::new(workload);
     let mut product_rooms = rooms.clone();
     let mut sums = Sums::default();
-    let query = workload.query.as_bytes();
+    let [product, yardstick] = engines(workload);
     for (index, rows) in workload.partitions.iter().enumerate() {
         let context = |what: String| format!("{}, partition {index}: {what}", workload.name);
-        let outcome = rooms.search(engine::search, query, rows);
-        let product = product_rooms.search(lent::search, query, rows);
+        let outcome = yardstick(rows, &mut rooms);
+        let product = product(rows, &mut product_rooms);
         if outcome.answer != 0 {
             return Err(context(format!("the yardstick answers {}", outcome.answer)));
         }

@@ -11,6 +11,8 @@ pub struct Workload {
     pub about: String,
     pub query: Query,
     pub partitions: Vec<Vec<i32>>,
+    /// The query is prepared once, before anything is measured.
+    pub prepared: bool,
 }
 
 impl Workload {
@@ -26,6 +28,7 @@ impl Workload {
             about: about.to_string(),
             query: query.unwrap_or_else(|refusal| panic!("{name}: {refusal}")),
             partitions,
+            prepared: false,
         }
     }
 
@@ -37,7 +40,7 @@ impl Workload {
 
 /// What a user runs, then what is hard on the walk.
 pub fn searches() -> Vec<Workload> {
-    vec![
+    let mut searches = vec![
         rise_and_fall(),
         rise_and_fall_50(),
         valley(),
@@ -46,9 +49,15 @@ pub fn searches() -> Vec<Workload> {
         optional(),
         all_places(),
         overlapping(),
-        small_partitions(),
+        small_partitions(
+            "partitions",
+            "A+ B with two measures on 10,000 partitions of 20 rows",
+        ),
+        prepared(),
         all_letters(),
-    ]
+    ];
+    searches.retain(|workload| !workload.prepared || cfg!(bench_c));
+    searches
 }
 
 /// The same pattern with the rows doubled, three times.
@@ -262,18 +271,27 @@ fn overlapping() -> Workload {
     )
 }
 
-fn small_partitions() -> Workload {
+fn small_partitions(name: &str, about: &str) -> Workload {
     let query = rise_and_fall_query()
         .measure(Measure::count().of('A'))
         .measure(Measure::last(0).of('B'));
     Workload::new(
-        "partitions",
-        "A+ B with two measures on 10,000 partitions of 20 rows",
+        name,
+        about,
         query,
         (0..10_000)
             .map(|seed| random_walk(1_000 + seed, 20, 50))
             .collect(),
     )
+}
+
+fn prepared() -> Workload {
+    let about =
+        "partitions with the query prepared once, before the rounds: only the runs are timed";
+    Workload {
+        prepared: true,
+        ..small_partitions("prepared", about)
+    }
 }
 
 /// Every letter, each with eight comparisons over eight columns. The first

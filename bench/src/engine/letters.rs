@@ -4,6 +4,8 @@
 
 use super::query::COMPARISON_BYTES;
 
+const MOST_ROWS: usize = 4096;
+
 /// Met where `left - right` lies in the interval from `low`, `width` above it.
 /// Left and right are distances from the current row's first entry.
 #[derive(Clone, Copy, Default)]
@@ -27,8 +29,8 @@ pub enum Test {
     /// One comparison with a column.
     Column,
     /// Any comparisons. In place of a comparison the letter has where they
-    /// begin and how many they are, as left and right, and the rows at which
-    /// every row that they look at exists, as low and width.
+    /// begin and how many they are, as left and right, and how many rows they
+    /// look back and ahead at the most, as low and width.
     Several,
 }
 
@@ -46,7 +48,20 @@ pub struct Rows<'a> {
     pub n: usize,
 }
 
-impl Rows<'_> {
+impl<'a> Rows<'a> {
+    /// The rows that these entries are, unless answer 10 applies.
+    pub fn new(entries: &'a [i32], columns: usize) -> Result<Rows<'a>, u64> {
+        let (n, rest) = (entries.len() / columns, entries.len() % columns);
+        if rest != 0 || n > MOST_ROWS {
+            return Err(10);
+        }
+        Ok(Rows {
+            entries,
+            columns,
+            n,
+        })
+    }
+
     /// An entry, by its distance from the first of a row. It is there exactly if
     /// its row is: both ends of the slice are ends of rows.
     #[inline(always)]
@@ -81,7 +96,8 @@ impl Comparison {
     /// Several comparisons, of which this one is the part in the place.
     #[inline(always)]
     pub fn several_are_met(&self, decoded: &[Comparison], rows: &Rows, position: usize) -> bool {
-        if (position as u64).wrapping_sub(self.low as u64) >= self.width {
+        let (back, ahead) = (self.low as usize, self.width as usize);
+        if position < back || position + ahead >= rows.n {
             return false;
         }
         let base = position * rows.columns;
@@ -99,14 +115,14 @@ impl Comparison {
 
 /// Decodes a letter from the bytes of its DEFINE, whose fields are tested. If it
 /// has several comparisons, they are put behind those decoded before.
-pub fn decode(define: &[u8], columns: usize, n: usize, decoded: &mut Vec<Comparison>) -> Letter {
+pub fn decode(define: &[u8], columns: usize, decoded: &mut Vec<Comparison>) -> Letter {
     if define.is_empty() {
         return Letter::default();
     }
     let one = <&[u8; COMPARISON_BYTES]>::try_from(define).map(|bytes| single(bytes, columns));
     match one {
         Ok(Some(letter)) => letter,
-        _ => several(define, columns, n, decoded),
+        _ => several(define, columns, decoded),
     }
 }
 
@@ -122,7 +138,7 @@ fn single(bytes: &[u8; COMPARISON_BYTES], columns: usize) -> Option<Letter> {
     (!only_back).then_some(Letter { test, comparison })
 }
 
-fn several(define: &[u8], columns: usize, n: usize, decoded: &mut Vec<Comparison>) -> Letter {
+fn several(define: &[u8], columns: usize, decoded: &mut Vec<Comparison>) -> Letter {
     let from = decoded.len();
     let (mut back, mut ahead) = (0, 0);
     for bytes in define.chunks_exact(COMPARISON_BYTES) {
@@ -133,13 +149,11 @@ fn several(define: &[u8], columns: usize, n: usize, decoded: &mut Vec<Comparison
             decoded.push(comparison(bytes, columns));
         }
     }
-    let first = usize::from(back.unsigned_abs());
-    let count = n.saturating_sub(first + usize::from(ahead.unsigned_abs()));
     Letter {
         test: Test::Several,
         comparison: Comparison {
-            low: first as i64,
-            width: count as u64,
+            low: i64::from(back.unsigned_abs()),
+            width: u64::from(ahead.unsigned_abs()),
             left: from as i16,
             right: (decoded.len() - from) as i16,
             keep: 0,

@@ -1,7 +1,8 @@
 //! The tables that the walk runs on: a record of 32 bytes for each place, the
 //! further ways of all forks in one list, and the comparisons of letters that
 //! have several. They have a size N, at least P and a power of two, so that a
-//! small pattern fills small tables only.
+//! small pattern fills small tables only. They say nothing of the rows, so that
+//! the tables of a query serve any number of runs.
 
 use super::letters::{self, Comparison, Letter, Test};
 use super::pattern::{self, Pattern};
@@ -56,6 +57,11 @@ pub struct Way {
 
 pub struct Tables<const N: usize> {
     pub places: [Place; N],
+    /// P
+    pub count: usize,
+    /// A little above 2^32 / P: times a pair below 2^21, and shifted down by 32
+    /// bits, it gives the pair's position.
+    pub inverse: u64,
     /// All further ways together are fewer than the places: each place is led
     /// into by one fork at most, and each fork leads out to one place at most.
     pub ways: [Way; N],
@@ -69,6 +75,8 @@ impl<const N: usize> Tables<N> {
     pub fn new() -> Tables<N> {
         Tables {
             places: [Place::default(); N],
+            count: 0,
+            inverse: 0,
             ways: [Way::default(); N],
             ways_used: 0,
             labels: [0; N],
@@ -77,9 +85,13 @@ impl<const N: usize> Tables<N> {
     }
 
     /// Fills new tables. They are filled where they are, as moving them would
-    /// take longer than reading a short query.
-    pub fn fill(&mut self, query: &Query, pattern: &Pattern, n: usize) {
-        let letters = self.decode_letters(query, pattern.letters, n);
+    /// take longer than reading a short query. Inlined, with what it calls once, so
+    /// that a whole search is one piece although preparing fills tables as well.
+    #[inline(always)]
+    pub fn fill(&mut self, query: &Query, pattern: &Pattern) {
+        self.count = pattern.count;
+        self.inverse = (1 << 32) / pattern.count as u64 + 1;
+        let letters = self.decode_letters(query, pattern.letters);
         // From the last to the first, so that a fork finds the letter behind it.
         for at in (0..pattern.count).rev() {
             let place = self.place(pattern, &letters, at);
@@ -88,18 +100,20 @@ impl<const N: usize> Tables<N> {
     }
 
     /// Decodes the letters of the pattern, of which each has a bit in `present`.
-    fn decode_letters(&mut self, query: &Query, present: u32, n: usize) -> [Letter; 26] {
+    #[inline(always)]
+    fn decode_letters(&mut self, query: &Query, present: u32) -> [Letter; 26] {
         let mut letters = [Letter::default(); 26];
         let mut left = present;
         while left != 0 {
             let index = left.trailing_zeros() as usize;
             let define = query.defines[index];
-            letters[index] = letters::decode(define, query.columns, n, &mut self.comparisons);
+            letters[index] = letters::decode(define, query.columns, &mut self.comparisons);
             left &= left - 1;
         }
         letters
     }
 
+    #[inline(always)]
     fn place(&mut self, pattern: &Pattern, letters: &[Letter; 26], at: usize) -> Place {
         let place = pattern.places[at];
         let next = place.next.wrapping_add(at as u8);

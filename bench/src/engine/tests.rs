@@ -1,7 +1,7 @@
 //! The bench sheet of document 01, W1 to W12, run on the engine; with them what
 //! the paper says of the lent buffers when a search is done, stopped or refused.
 
-use super::{refused, room, search};
+use super::{prepare, refused, room, search};
 use mireladle::lent::Outcome;
 use mireladle::{col, Measure, Query, QueryBuilder, Skip};
 
@@ -9,6 +9,7 @@ use mireladle::{col, Measure, Query, QueryBuilder, Skip};
 const FILL: u8 = 7;
 
 /// A search with buffers of generous length, and what it left in them.
+#[derive(Debug, PartialEq, Eq)]
 struct Searched {
     result: Outcome,
     notes: Vec<u8>,
@@ -22,18 +23,21 @@ fn searched(query: &[u8], rows: &[i32]) -> Searched {
 }
 
 fn searched_with(query: &[u8], rows: &[i32], rooms: [usize; 4]) -> Searched {
+    left(rooms, |notes, trail, numbers, labels| {
+        search(query, rows, notes, trail, numbers, labels)
+    })
+}
+
+/// What a search leaves in buffers of these lengths.
+fn left(
+    rooms: [usize; 4],
+    search: impl FnOnce(&mut [u8], &mut [u32], &mut [i64], &mut [u8]) -> Outcome,
+) -> Searched {
     let mut notes = vec![FILL; rooms[0]];
     let mut trail = vec![u32::from(FILL); rooms[1]];
     let mut numbers = vec![i64::from(FILL); rooms[2]];
     let mut labels = vec![FILL; rooms[3]];
-    let result = search(
-        query,
-        rows,
-        &mut notes,
-        &mut trail,
-        &mut numbers,
-        &mut labels,
-    );
+    let result = search(&mut notes, &mut trail, &mut numbers, &mut labels);
     Searched {
         result,
         notes,
@@ -247,4 +251,31 @@ fn refusals() {
     let short_trail = searched_with(&query, &X, [4, 29, 64, 64]);
     assert_eq!(short_trail.result, refused(12));
     assert!(cut.is_untouched() && short_notes.is_untouched() && short_trail.is_untouched());
+}
+
+/// One query with letters that look back and ahead, prepared once, on rows of all
+/// lengths from none to more than it looks at, and on buffers that are too short.
+#[test]
+fn prepared_runs_are_searches() {
+    let near = [col(0).gt(col(0).prev(2)), col(0).lt(col(0).next(1))];
+    let queries = [
+        w1(),
+        w1().define('C', near).skip(Skip::ToNextRow),
+        free("(A|B)+ C?").define('A', near),
+        free("(A?){30} B"),
+        free("(A?){99} B").define('B', near),
+    ];
+    for query in queries.map(|query| query.to_bytes()) {
+        let prepared = prepare(&query).unwrap_or_else(|answer| panic!("answer {answer}"));
+        for n in 0..8 {
+            let rows: Vec<i32> = (0..n).map(|row| row * row % 7).collect();
+            for rooms in [[256, 2048, 64, 64], [256, 2048, 4, 4], [1, 1, 64, 64]] {
+                let run = left(rooms, |notes, trail, numbers, labels| {
+                    prepared.run(&rows, notes, trail, numbers, labels)
+                });
+                assert_eq!(run, searched_with(&query, &rows, rooms), "{n} rows");
+            }
+        }
+    }
+    assert!(prepare(&free("(A*)*").to_bytes()).is_err_and(|answer| answer == 6));
 }

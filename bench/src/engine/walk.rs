@@ -38,15 +38,29 @@ fn search_sized<const N: usize>(
     report: &mut Report,
 ) -> (bool, u64) {
     let mut tables = Tables::<N>::new();
-    tables.fill(query, pattern, rows.n);
+    tables.fill(query, pattern);
+    run(query, &tables, rows, notes, trail, report)
+}
+
+/// The same by tables that are filled. Inlined, so that no register is needed for
+/// tables that lie in the frame.
+#[inline(always)]
+pub fn run<const N: usize>(
+    query: &Query,
+    tables: &Tables<N>,
+    rows: Rows,
+    notes: &mut [u8],
+    trail: &mut [u32],
+    report: &mut Report,
+) -> (bool, u64) {
     notes.fill(0);
     // END is never on the trail, so at most P - 1 places at n + 1 positions are,
     // and the last n entries are free to say which letter took each row.
     let (path, taken) = trail.split_at_mut(trail.len() - rows.n);
     let mut walk = Walk {
-        tables: &tables,
-        places: pattern.count,
-        inverse: (1 << 32) / pattern.count as u64 + 1,
+        tables,
+        places: tables.count,
+        inverse: tables.inverse,
         rows,
         notes,
         trail: path,
@@ -81,10 +95,8 @@ fn search_sized<const N: usize>(
 
 struct Walk<'a, const N: usize> {
     tables: &'a Tables<N>,
-    /// P
+    /// P and its inverse, as the tables have them.
     places: usize,
-    /// A little above 2^32 / P: times a pair below 2^21, and shifted down by 32
-    /// bits, it gives the pair's position.
     inverse: u64,
     rows: Rows<'a>,
     notes: &'a mut [u8],

@@ -21,6 +21,7 @@ ghost use Rattle.prepared.specs.Ready.{measuresAt, testsAt, refusal, Siz
 
 // A prepared query beside its table: its answer, with the offset of 5 and 14; where that is 0, its
 // places, the columns of a row, how many measures it has, and the skip mode of its record.
+#[repr(C)]
 pub struct Prepared {
     pub answer: usize,
     pub offset: usize,
