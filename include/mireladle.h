@@ -77,7 +77,7 @@ enum mireladle_answer {
     MIRELADLE_TOO_MANY_PLACES = 7,
     /* One letter has two DEFINEs. */
     MIRELADLE_DEFINED_TWICE = 8,
-    /* A measure asks for a letter that the pattern does not have. */
+    /* A measure, or the skip, asks for a letter that the pattern does not have. */
     MIRELADLE_MEASURE_LETTER = 9,
     /* The entries do not make whole rows, or there are more than 4,096 rows. */
     MIRELADLE_WRONG_ROWS = 10,
@@ -90,7 +90,14 @@ enum mireladle_answer {
     MIRELADLE_STOPPED = 13,
     /* The pattern text is not a pattern but the beginning of one: it ends where it could go on. The offset is its
      * length. The limits on its length and on parentheses play no part in this. */
-    MIRELADLE_PATTERN_ENDS = 14
+    MIRELADLE_PATTERN_ENDS = 14,
+    /* The search stopped behind a match, since there is no row to go on at. Only a skip to the
+     * first or last row with a letter gives this, where the letter labels no row of a match that
+     * takes rows, or where the row to skip to is the match's first: from there the same match would
+     * be found again. That match and those before it stand whole in the report; no later match is
+     * looked for, and the answer is the same where no row is left to look at. A match that does not
+     * fit gives 13, whatever its labels. */
+    MIRELADLE_NO_SKIP_ROW = 15
 };
 
 /* What a search returns. On the answers 1 to 12 and 14 all but the answer, and the offset of 5 and 14, are 0. */
@@ -134,29 +141,35 @@ typedef struct mireladle_room mireladle_room_t;
  *   trail    Working room of at least P * (n + 1) numbers.
  *   numbers  Report room for MIRELADLE_MATCH_LENGTH(measures) numbers a match. There are at most n matches, so
  *            n * MIRELADLE_MATCH_LENGTH(measures) are always enough. Less is allowed, even none: see answer 13.
- *   labels   Report room for one byte for each row of each match: n bytes are always enough where the query skips past
- *            the last row, n * (n + 1) / 2 where it skips to the next row. Less is allowed, even none: see answer 13.
+ *   labels   Report room for one byte for each row of each match: n bytes are always enough where
+ *            the query skips past the last row, n * (n + 1) / 2 with every other skip, since
+ *            matches may then overlap. Less is allowed, even none: see answer 13.
  *
  * What the buffers hold afterwards:
  *
  *   answers 1 to 12   Nothing is changed, and the same on 14.
- *   answers 0 and 13  numbers: for each match in turn its number (from 1), its first row (the row where it was tried if
- *                     it takes none), how many rows it takes, and for each measure two numbers: 1 and the result, or
- *                     0 and 0 for null; over no rows all but COUNT are null. That is
- *                     matches * MIRELADLE_MATCH_LENGTH(measures) numbers.
- *                     labels: the letters, 'A' to 'Z', of the matches' rows, match behind match; no byte 0 ends them.
- *                     notes: bit (position * P + place), the lowest bit of a byte first, is 1 exactly if that pair
- *                     was entered and failed. Spare bits of the last byte used are 0.
+ *   answers 0, 13, 15 numbers: for each match in turn its number (from 1), its first row (the row
+ *                     where it was tried if it takes none), how many rows it takes, and for each
+ *                     measure two numbers: 1 and the result, or 0 and 0 for null; over no rows all
+ *                     but COUNT are null. That is matches * MIRELADLE_MATCH_LENGTH(measures)
+ *                     numbers.
+ *                     labels: the letters, 'A' to 'Z', of the matches' rows, match behind match; no
+ *                     byte 0 ends them.
+ *                     notes: bit (position * P + place), the lowest bit of a byte first, is 1
+ *                     exactly if that pair was entered and failed. Spare bits of the last byte used
+ *                     are 0.
  *                     trail: the first P * (n + 1) numbers are 0.
  *                     Whatever lies behind that, in each of the four, is unchanged.
  *
  * The steps are bounded, whatever the rows: with skip past last row by 2 * P * (n + 1), with skip
- * to the next row by P * n * (n + 3) / 2, since a row that lies in many matches is gone through for
- * each of them. At n = 4,096 the longest searches that were found took 25 milliseconds past last
- * row (254 letters of 8 comparisons each, all met, and one that never holds: no match) and 4.5
- * seconds to the next row (a repeated group of 126 times `$` or nothing, and a letter that holds at
- * every row: P is 255, and each of 4,096 matches reaches to the last row), on one core of an AMD
- * EPYC. A search cannot be broken off; less room for labels makes it stop earlier, with answer 13.
+ * to the next row, or to the first or last row with a letter, by P * n * (n + 3) / 2, since a row
+ * that lies in many matches is gone through for each of them. At n = 4,096 the longest searches
+ * that were found took 25 milliseconds past last row (254 letters of 8 comparisons each, all met,
+ * and one that never holds: no match) and 4.5 seconds to the next row (a repeated group of 126
+ * times `$` or nothing, and a letter that holds at every row: P is 255, and each of 4,096 matches
+ * reaches to the last row), on one core of an AMD EPYC. To a letter's row nearly as many steps can
+ * be taken, where that row is the second of each match. A search cannot be broken off; less room
+ * for labels makes it stop earlier, with answer 13.
  */
 struct mireladle_result mireladle_search(const uint8_t *query, size_t query_len,
                                          const int32_t *rows, size_t rows_len,
@@ -189,8 +202,10 @@ struct mireladle_room mireladle_room(const uint8_t *query, size_t query_len, con
  *   kind 1, once           columns of a row, 1 to 8; reserved byte
  *   kind 2, once           pattern text, up to 256 bytes
  *   kind 3, up to 26 times DEFINE: letter 'A' to 'Z', count of comparisons 1 to 8, so many comparisons of 12 bytes
- *   kind 4, once           after a match go on 0 behind its last row, 1 at the row behind its first (in both cases one
- *                          row on after a match that takes none); reserved byte
+ *   kind 4, once           skip: after a match go on 0 behind its last row, 1 at the row behind its
+ *                          first, 2 at its first row with a letter, 3 at its last row with a letter
+ *                          (in all four cases one row on after a match that takes none); then that
+ *                          letter, 'A' to 'Z', for 2 and 3, and a byte 0 for 0 and 1. See answer 15
  *   kind 5, up to 8 times  measure: function 1 COUNT, 2 SUM, 3 MIN, 4 MAX, 5 FIRST, 6 LAST; letter, or 0 for all rows
  *                          of the match; column (0 for COUNT); reserved byte
  *

@@ -1,4 +1,4 @@
-//! An engine for the rules of document 01, not verified, in safe Rust and as
+//! An engine for the rules of document 01 and of R-2, not verified, in safe Rust and as
 //! fast as we could make it: the yardstick for the product's speed. It has the
 //! product's face and effects: the same answer, counts and steps, and the same
 //! content of all four lent buffers. A query is prepared, which makes the tables
@@ -23,8 +23,11 @@ use pattern::Pattern;
 use query::{Measure, Query};
 use report::Report;
 use tables::Tables;
+use walk::Ending;
 
+const DONE: u64 = 0;
 const STOPPED: u64 = 13;
+const NO_SKIP_ROW: u64 = 15;
 
 /// The whole search.
 pub fn search(
@@ -42,8 +45,8 @@ pub fn search(
         judge(&query, &mut pattern)?;
         let Lent { rows, notes, trail } = Lent::new(&query, pattern.count, rows, notes, trail)?;
         let mut report = Report::new(numbers, labels, query.measures());
-        let (done, steps) = walk::search(&query, &pattern, rows, notes, trail, &mut report);
-        Ok(ended(done, steps, &report))
+        let (ending, steps) = walk::search(&query, &pattern, rows, notes, trail, &mut report);
+        Ok(ended(ending, steps, &report))
     };
     accepted().unwrap_or_else(refused)
 }
@@ -99,20 +102,24 @@ impl Prepared<'_> {
         let mut accepted = || {
             let Lent { rows, notes, trail } = Lent::new(query, places, rows, notes, trail)?;
             let mut report = Report::new(numbers, labels, query.measures());
-            let (done, steps) = match &self.tables {
+            let (ending, steps) = match &self.tables {
                 Filled::Small(tables) => walk::run(query, tables, rows, notes, trail, &mut report),
                 Filled::Middle(tables) => walk::run(query, tables, rows, notes, trail, &mut report),
                 Filled::Large(tables) => walk::run(query, tables, rows, notes, trail, &mut report),
             };
-            Ok(ended(done, steps, &report))
+            Ok(ended(ending, steps, &report))
         };
         accepted().unwrap_or_else(refused)
     }
 }
 
-fn ended(done: bool, steps: u64, report: &Report) -> Outcome {
+fn ended(ending: Ending, steps: u64, report: &Report) -> Outcome {
     Outcome {
-        answer: if done { 0 } else { STOPPED },
+        answer: match ending {
+            Ending::Done => DONE,
+            Ending::Full => STOPPED,
+            Ending::NoSkipRow => NO_SKIP_ROW,
+        },
         matches: report.matches as u64,
         labels: report.labels_written as u64,
         steps,
@@ -160,11 +167,12 @@ fn judge(query: &Query, pattern: &mut Pattern) -> Result<(), u64> {
     if query.defined_twice {
         return Err(8);
     }
-    let measured = |measure: &Measure| match measure.letter {
+    let known = |letter: u8| match letter {
         0 => true,
         letter => pattern.letters >> (letter - b'A') & 1 == 1,
     };
-    if !query.measures().iter().all(measured) {
+    let measured = |measure: &Measure| known(measure.letter);
+    if !query.measures().iter().all(measured) || !known(query.skip.letter()) {
         return Err(9);
     }
     Ok(())

@@ -45,6 +45,7 @@ struct Numbers {
     columns: usize,
     count: usize,
     skip: usize,
+    target: usize,
 }
 
 impl Prepared {

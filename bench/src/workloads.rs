@@ -49,6 +49,7 @@ pub fn searches() -> Vec<Workload> {
         optional(),
         all_places(),
         overlapping(),
+        skip_to_last(),
         small_partitions(
             "partitions",
             "A+ B with two measures on 10,000 partitions of 20 rows",
@@ -268,6 +269,24 @@ fn overlapping() -> Workload {
         "A+ B to next row, long rises, two measures, 4,096 rows",
         query,
         vec![random_walk(500, MOST_ROWS, 97)],
+    )
+}
+
+/// Each match of a rise takes all of it that is left, and the next one begins at its
+/// fourth row.
+fn skip_to_last() -> Workload {
+    let query = pattern(1, "A{4} B+ C")
+        .define('A', [col(0).gt(previous(0))])
+        .define('B', [col(0).gt(previous(0))])
+        .define('C', [col(0).lt(previous(0))])
+        .skip(Skip::ToLast('A'))
+        .measure(Measure::count().of('B'))
+        .measure(Measure::sum(0).of('B'));
+    Workload::new(
+        "skip-to-last",
+        "A{4} B+ C to last A, long rises, two measures, 4,096 rows",
+        query,
+        vec![random_walk(700, MOST_ROWS, 97)],
     )
 }
 

@@ -1,7 +1,8 @@
 //! The program: what it prints for what it reads. From document 01, the last
-//! paragraph of "Report"; its tests stand here in the order given there.
+//! paragraph of "Report"; its tests stand here in the order given there. What it
+//! prints for a 15 is as for a 13 (document 02, R-2).
 
-use crate::search::{self, Outcome, DONE, STOPPED};
+use crate::search::{self, Outcome, DONE, STOPPED, STUCK};
 
 pub const LONGEST_QUERY: usize = 4096;
 pub const MOST_ROW_BYTES: usize = 32_768;
@@ -78,7 +79,7 @@ fn searched(query: &[u8], rows: &[i32], places: usize, n: usize) -> String {
 
 fn header(outcome: &Outcome) -> String {
     let word = match outcome.answer {
-        STOPPED => "stopped",
+        STOPPED | STUCK => "stopped",
         _ => "matches",
     };
     format!("{word} {} steps {}\n", outcome.matches, outcome.steps)

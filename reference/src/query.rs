@@ -1,5 +1,6 @@
 //! The query: its records, their fields and parts, and the answers 1, 2, 3
-//! and 8. From document 01, "Rows and query records" and the table of answers.
+//! and 8. From document 01, "Rows and query records" and the table of answers,
+//! and document 02, R-2, for the skip record's letter.
 //! Each answer is judged over the whole query by a function of its own, so that
 //! a low number late in the query comes before a high one early in it.
 
@@ -53,10 +54,30 @@ pub struct Define {
     pub comparisons: Vec<Comparison>,
 }
 
+/// Where the search goes on after a match with rows; the modes 0 to 3 in order.
 #[derive(Clone, Copy, Debug, PartialEq, Eq)]
 pub enum Skip {
     PastLastRow,
     ToNextRow,
+    /// At the match's first row with this letter.
+    ToFirst(u8),
+    /// At its last row with this letter.
+    ToLast(u8),
+}
+
+pub const PAST_LAST_ROW: u8 = 0;
+pub const TO_NEXT_ROW: u8 = 1;
+pub const TO_FIRST: u8 = 2;
+pub const TO_LAST: u8 = 3;
+
+impl Skip {
+    /// The letter that the modes 2 and 3 ask for.
+    pub fn letter(self) -> Option<u8> {
+        match self {
+            Skip::PastLastRow | Skip::ToNextRow => None,
+            Skip::ToFirst(letter) | Skip::ToLast(letter) => Some(letter),
+        }
+    }
 }
 
 /// A measure over the rows with a letter, or over all rows of the match.
@@ -152,9 +173,11 @@ fn shape_is_right(body: &[u8]) -> bool {
     }
 }
 
+/// Modes 0 and 1 still have a reserved byte where modes 2 and 3 have a letter.
 fn skip_is_right(body: &[u8]) -> bool {
     match body {
-        [skip, reserved] => *skip <= 1 && *reserved == 0,
+        [PAST_LAST_ROW | TO_NEXT_ROW, reserved] => *reserved == 0,
+        [TO_FIRST | TO_LAST, letter] => letter.is_ascii_uppercase(),
         _ => false,
     }
 }
@@ -224,16 +247,21 @@ fn parts(records: &[Record]) -> Query {
             .filter(move |record| record.kind == kind)
             .map(|record| record.body)
     };
-    let skip = match records.iter().find(|record| record.kind == SKIP) {
-        Some(record) if record.body[0] == 1 => Skip::ToNextRow,
-        _ => Skip::PastLastRow,
-    };
     Query {
         columns: usize::from(records[0].body[0]),
         text: records[1].body.to_vec(),
         defines: bodies(DEFINE).map(define).collect(),
-        skip,
+        skip: bodies(SKIP).next().map_or(Skip::PastLastRow, skip),
         measures: bodies(MEASURE).map(measure).collect(),
+    }
+}
+
+fn skip(body: &[u8]) -> Skip {
+    match body[0] {
+        PAST_LAST_ROW => Skip::PastLastRow,
+        TO_NEXT_ROW => Skip::ToNextRow,
+        TO_FIRST => Skip::ToFirst(body[1]),
+        _ => Skip::ToLast(body[1]),
     }
 }
 

@@ -1,7 +1,8 @@
 //! The search: all answers in their order, the starts, the report and what lies
 //! in the four lent buffers afterwards; once with the counted walk and once with
 //! plain backtracking. From document 01, "Places and preferment" (starts) and
-//! "Report" (matches, measures, working room, table of answers).
+//! "Report" (matches, measures, working room, table of answers); and from
+//! document 02, R-2 (starts at a labelled row, answer 15, the bound of steps).
 
 use crate::letters::Held;
 use crate::pattern::{self, Pattern};
@@ -12,7 +13,15 @@ use crate::walk::{Attempt, Counted, Ground, Pair, Plain};
 pub const MOST_ROWS: usize = 4096;
 
 pub const DONE: u8 = 0;
+/// The next match does not fit.
 pub const STOPPED: u8 = 13;
+/// The last match written has no labelled row behind its first to go on at.
+pub const STUCK: u8 = 15;
+
+/// Whether a search with this answer was walked; all others are refused.
+pub fn was_walked(answer: u8) -> bool {
+    matches!(answer, DONE | STOPPED | STUCK)
+}
 
 #[derive(Clone, Copy, Debug, PartialEq, Eq)]
 pub struct Outcome {
@@ -70,6 +79,15 @@ impl Accepted {
     pub fn numbers_per_match(&self) -> usize {
         3 + 2 * self.query.measures.len()
     }
+
+    /// The papers' bound of the steps: 2P(n+1) in mode 0, Pn(n+3)/2 in the others.
+    pub fn most_steps(&self) -> u64 {
+        let (places, n) = (self.places.len() as u64, self.n() as u64);
+        match self.query.skip {
+            Skip::PastLastRow => 2 * places * (n + 1),
+            Skip::ToNextRow | Skip::ToFirst(_) | Skip::ToLast(_) => places * n * (n + 3) / 2,
+        }
+    }
 }
 
 /// Judges a query and rows: the parts, or the lowest of the answers 1 to 10.
@@ -80,8 +98,9 @@ pub fn accept(query: &[u8], rows: &[i32]) -> Result<Accepted, u8> {
         return Err(8);
     }
     let letters = pattern.letters();
-    let measured = |measure: &Measure| measure.letter.is_none_or(|it| letters.contains(&it));
-    if !query.measures.iter().all(measured) {
+    let known = |letter: Option<u8>| letter.is_none_or(|letter| letters.contains(&letter));
+    let measured = query.measures.iter().all(|measure| known(measure.letter));
+    if !measured || !known(query.skip.letter()) {
         return Err(9);
     }
     if !rows.len().is_multiple_of(query.columns) || rows.len() / query.columns > MOST_ROWS {
@@ -134,6 +153,26 @@ pub fn search_watched(
     labels: &mut [u8],
     watch: &mut dyn FnMut(&[Pair]),
 ) -> Outcome {
+    let lent = (notes, trail, numbers, labels);
+    search_by_rule(query, rows, lent, next_start, watch)
+}
+
+/// The four lent buffers: notes, trail, numbers and labels.
+pub type Buffers<'a> = (&'a mut [u8], &'a mut [u32], &'a mut [i64], &'a mut [u8]);
+
+/// Where the search goes on after the match that has these labels from this start
+/// on; None if it cannot.
+pub type Rule = fn(skip: Skip, start: usize, labels: &[u8]) -> Option<usize>;
+
+/// The search with a rule of its own for the next start, so that a wrong one can
+/// be tried too.
+pub fn search_by_rule(
+    query: &[u8],
+    rows: &[i32],
+    (notes, trail, numbers, labels): Buffers,
+    rule: Rule,
+    watch: &mut dyn FnMut(&[Pair]),
+) -> Outcome {
     let accepted = match accept_with_room(query, rows, notes.len(), trail.len()) {
         Ok(accepted) => accepted,
         Err(answer) => return Outcome::refused(query, answer),
@@ -147,8 +186,13 @@ pub fn search_watched(
         }
         attempt
     };
-    let answer = take_starts(&accepted, rows, &mut attempt, &mut report)
+    let answer = take_starts(&accepted, rows, rule, &mut attempt, &mut report)
         .expect("the counted walk never gives up");
+    let bound = accepted.most_steps();
+    assert!(
+        walk.steps() <= bound,
+        "the papers' bound of the steps is passed"
+    );
     write_notes(notes, walk.failed());
     trail[..walk.failed().len()].fill(0);
     report.outcome(answer, walk.steps())
@@ -175,6 +219,7 @@ pub fn search_plain(
     let answer = take_starts(
         &accepted,
         rows,
+        next_start,
         &mut |start| walk.attempt(start),
         &mut report,
     )?;
@@ -200,37 +245,51 @@ fn accept_with_room(
 }
 
 /// Makes the attempts start by start and writes their matches, until all is
-/// done or a match does not fit. None if an attempt gave up.
+/// done, a match does not fit, or there is no row to go on at behind one that is
+/// written. None if an attempt gave up.
 fn take_starts(
     accepted: &Accepted,
     rows: &[i32],
+    rule: Rule,
     attempt: &mut dyn FnMut(usize) -> Attempt,
     report: &mut Report,
 ) -> Option<u8> {
     let mut start = 0;
     while start < accepted.n() {
-        let taken = match attempt(start) {
+        let next = match attempt(start) {
             Attempt::GaveUp => return None,
-            Attempt::NoMatch => 0,
+            Attempt::NoMatch => Some(start + 1),
             Attempt::Match(path) => {
                 let labels = labels_on(&accepted.places, &path);
                 let results = results(accepted, rows, start, &labels);
                 if !report.append(start, &labels, &results) {
                     return Some(STOPPED);
                 }
-                labels.len()
+                rule(accepted.query.skip, start, &labels)
             }
         };
-        start = next_start(accepted.query.skip, start, taken);
+        match next {
+            Some(next) => start = next,
+            None => return Some(STUCK),
+        }
     }
     Some(DONE)
 }
 
-fn next_start(skip: Skip, start: usize, taken: usize) -> usize {
-    match skip {
-        Skip::PastLastRow if taken > 0 => start + taken,
-        _ => start + 1,
+/// After an empty match one row on, in every mode. After a match with rows by the
+/// mode; None where the letter labels none of its rows, or the row to go on at is
+/// its first.
+pub fn next_start(skip: Skip, start: usize, labels: &[u8]) -> Option<usize> {
+    if labels.is_empty() {
+        return Some(start + 1);
     }
+    let rows_on = match skip {
+        Skip::PastLastRow => labels.len(),
+        Skip::ToNextRow => 1,
+        Skip::ToFirst(letter) => labels.iter().position(|&label| label == letter)?,
+        Skip::ToLast(letter) => labels.iter().rposition(|&label| label == letter)?,
+    };
+    (rows_on > 0).then_some(start + rows_on)
 }
 
 /// The labels of the rows that a path takes: each letter on it passed one row.

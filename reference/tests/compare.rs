@@ -1,7 +1,9 @@
 //! The counted walk against other ways to the same result: plain backtracking
 //! over the places, plain backtracking over the tree, the counted walk by calls
 //! of itself, and the sets of rows that say whether some reading exists. And
-//! what document 01 states of the four buffers after each call.
+//! what document 01 states of the four buffers after each call, the bounds of the
+//! steps, and where document 02, R-2, lets the search go on or end, as the report
+//! shows it.
 
 mod common;
 
@@ -12,18 +14,18 @@ use reference::letters::Held;
 use reference::pattern::{Branch, Factor, Pattern, Primary};
 use reference::query::Skip;
 use reference::readings;
-use reference::search::{self, Accepted, DONE, STOPPED};
+use reference::search::{self, Accepted, DONE, STOPPED, STUCK};
 use reference::walk::{Attempt, Counted, Ground, Pair, Plain};
 
 /// What is stated of every call. Returns the call for further questions.
 fn check(input: &Input) -> Called {
     let called = call(input);
     let outcome = called.outcome;
-    if outcome.answer != DONE && outcome.answer != STOPPED {
+    if !search::was_walked(outcome.answer) {
         check_refused(&called);
         return called;
     }
-    let accepted = search::accept(&input.query, &input.rows).expect("answer 0 or 13");
+    let accepted = search::accept(&input.query, &input.rows).expect("answer 0, 13 or 15");
     let pairs = accepted.ground().pairs();
     check_working_room(&called, pairs);
     check_report_room(&called, &accepted);
@@ -32,10 +34,71 @@ fn check(input: &Input) -> Called {
         .map(|byte| u64::from(byte.count_ones()))
         .sum();
     assert_eq!(outcome.steps, failed + called.pairs_on_paths);
-    if accepted.query.skip == Skip::PastLastRow {
-        assert!(outcome.steps <= 2 * pairs as u64);
+    check_bound(&accepted, outcome.steps);
+    if accepted.n() <= MIDDLE.rows {
+        check_starts(&called, &accepted);
     }
     called
+}
+
+/// In mode 0 at most 2P(n+1) steps; in modes 1 to 3 at most Pn(n+3)/2, which is a
+/// whole number since n or n+3 is even.
+fn check_bound(accepted: &Accepted, steps: u64) {
+    let (places, n) = (accepted.places.len() as u64, accepted.n() as u64);
+    match accepted.query.skip {
+        Skip::PastLastRow => assert!(steps <= 2 * places * (n + 1)),
+        _ => assert!(2 * steps <= places * n * (n + 3)),
+    }
+    assert!(steps <= accepted.most_steps());
+}
+
+/// The rows of a match with the letter, numbered as in the table.
+fn labelled(letter: u8, first: usize, labels: &[u8]) -> Vec<usize> {
+    (0..labels.len())
+        .filter(|&index| labels[index] == letter)
+        .map(|index| first + index)
+        .collect()
+}
+
+/// Where the search goes on after a match, said anew from the papers; None for 15.
+fn goes_on(skip: Skip, first: usize, labels: &[u8]) -> Option<usize> {
+    let to = match skip {
+        _ if labels.is_empty() => Some(first + 1),
+        Skip::PastLastRow => Some(first + labels.len()),
+        Skip::ToNextRow => Some(first + 1),
+        Skip::ToFirst(letter) => labelled(letter, first, labels).first().copied(),
+        Skip::ToLast(letter) => labelled(letter, first, labels).last().copied(),
+    };
+    to.filter(|&row| row != first)
+}
+
+/// From each match written to the next, no start in between has a reading; and the
+/// answer is 15 exactly if the last match written has no row to go on at.
+fn check_starts(called: &Called, accepted: &Accepted) {
+    let has_reading =
+        |&start: &usize| !readings::ends_from(&accepted.pattern, &accepted.held, start).is_empty();
+    let n = accepted.n();
+    let matches = called.outcome.matches as usize;
+    let mut labels = called.labels.as_slice();
+    let mut start = Some(0);
+    for written in called
+        .numbers
+        .chunks(accepted.numbers_per_match())
+        .take(matches)
+    {
+        let from = start.expect("no match is written behind a 15");
+        let (first, taken) = (written[1] as usize, written[2] as usize);
+        assert_eq!((from..n).find(has_reading), Some(first));
+        let (own, later) = labels.split_at(taken);
+        labels = later;
+        start = goes_on(accepted.query.skip, first, own);
+    }
+    let answer = match start.map(|start| (start..n).find(has_reading)) {
+        None => STUCK,
+        Some(Some(_)) => STOPPED,
+        Some(None) => DONE,
+    };
+    assert_eq!(called.outcome.answer, answer);
 }
 
 fn unchanged<T: PartialEq + From<u8>>(buffer: &[T]) -> bool {
@@ -89,7 +152,7 @@ fn check_plain(input: &Input, called: &Called, allowance: u64) -> bool {
 #[test]
 fn random_small_inputs() {
     let mut random = Random::new(1);
-    let mut answers = [0; 15];
+    let mut answers = [0; 16];
     let mut ended = 0;
     for number in 0..60_000 {
         let input = mix::input(&mut random, &SMALL, number);
@@ -126,7 +189,7 @@ fn random_large_inputs() {
 #[test]
 fn critical_rooms() {
     let mut random = Random::new(3);
-    let mut answers = [0; 15];
+    let mut answers = [0; 16];
     for _ in 0..2_000 {
         let draft = draft::accepted(&mut random, &SMALL, Numbers::Low);
         for input in draft.with_critical_rooms() {
@@ -135,7 +198,7 @@ fn critical_rooms() {
             check_plain(&input, &called, 100_000);
         }
     }
-    for answer in [0, 11, 12, 13] {
+    for answer in [0, 11, 12, 13, 15] {
         assert!(answers[answer] > 1_000, "{answers:?}");
     }
 }
@@ -152,13 +215,28 @@ fn every_small_input() {
 }
 
 #[test]
+fn every_word_of_labels() {
+    let texts: [&[u8]; 6] = [b"(A|B|C)*", b"A+ B", b"A B+", b"A B* C", b"A B | ()", b"A"];
+    let mut answers = [0; 16];
+    for input in mix::every_word(&texts, 4) {
+        let called = check(&input);
+        answers[usize::from(called.outcome.answer)] += 1;
+        assert!(check_plain(&input, &called, 10_000));
+    }
+    for answer in [0, 9, 13, 15] {
+        assert!(answers[answer] > 1_000, "{answers:?}");
+    }
+    assert_eq!(answers.iter().sum::<usize>(), 6 * 8 * (341 + 4 * 85));
+}
+
+#[test]
 fn inputs_at_the_limits() {
-    let mut answers = [0; 15];
+    let mut answers = [0; 16];
     for draft in limits::all() {
         let called = check(&draft.finish());
         answers[usize::from(called.outcome.answer)] += 1;
     }
-    for answer in [0, 2, 3, 4, 5, 6, 7, 10, 13, 14] {
+    for answer in [0, 2, 3, 4, 5, 6, 7, 10, 13, 14, 15] {
         assert!(answers[answer] > 0, "{answers:?}");
     }
 }
@@ -356,7 +434,10 @@ fn attempts_of_random_small_inputs() {
 fn attempts_of_every_small_input() {
     for input in mix::every_small_input(b"AB|(^)+?", 5, 2) {
         let accepted = search::accept(&input.query, &input.rows).expect("accepted");
-        compare_attempts(&accepted);
+        // The attempts are the same in all modes.
+        if accepted.query.skip == Skip::PastLastRow {
+            compare_attempts(&accepted);
+        }
     }
 }
 

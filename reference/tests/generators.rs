@@ -10,14 +10,15 @@ use reference::generate::scramble::{every_byte, scrambled};
 use reference::generate::{beginnings, limits, mix, stdin, texts, Random};
 use reference::pattern;
 use reference::program::program;
-use reference::search;
+use reference::query::{Skip, SKIP};
+use reference::search::{self, STUCK};
 use std::collections::BTreeSet;
 
 #[test]
 fn one_damage_brings_its_answer() {
     for (seed, size) in [(1, SMALL), (2, MIDDLE)] {
         let mut random = Random::new(seed);
-        for answer in 1..=14 {
+        for answer in 1..=15 {
             let mut done = 0;
             while done < 400 {
                 let mut draft = draft::accepted(&mut random, &size, Numbers::Low);
@@ -50,6 +51,23 @@ fn two_damages_bring_the_lower_answer() {
     }
 }
 
+/// 15 comes last of all.
+#[test]
+fn no_row_to_go_on_at_and_another_damage() {
+    let mut random = Random::new(12);
+    for other in 1..=15 {
+        let mut done = 0;
+        while done < 60 {
+            let mut draft = draft::accepted(&mut random, &SMALL, Numbers::Low);
+            if damage_twice(&mut random, &mut draft, [15, other]) {
+                let outcome = call(&draft.finish()).outcome;
+                assert_eq!(outcome.answer, other, "{draft:?}");
+                done += 1;
+            }
+        }
+    }
+}
+
 /// 14 stands where 5 does: behind 4 and before 6.
 #[test]
 fn a_text_that_could_go_on_and_another_damage() {
@@ -67,6 +85,116 @@ fn a_text_that_could_go_on_and_another_damage() {
             }
         }
     }
+}
+
+/// What a search to a labelled row meets, match by match.
+#[derive(Default, Debug)]
+struct Met {
+    empty: usize,
+    no_row: usize,
+    first_row: usize,
+    several: usize,
+    goes_on: usize,
+}
+
+impl Met {
+    fn meet(&mut self, skip: Skip, labels: &[u8]) {
+        let Some(letter) = skip.letter() else {
+            return;
+        };
+        let count = labels.iter().filter(|&&label| label == letter).count();
+        self.empty += usize::from(labels.is_empty());
+        self.no_row += usize::from(!labels.is_empty() && count == 0);
+        self.first_row += usize::from(labels.first() == Some(&letter));
+        self.several += usize::from(count > 1);
+        let next = search::next_start(skip, 0, labels);
+        self.goes_on += usize::from(!labels.is_empty() && next.is_some());
+    }
+}
+
+/// All four modes are drawn, and of the modes 2 and 3 each sort of match.
+#[test]
+fn random_skips_of_all_sorts() {
+    let mut random = Random::new(13);
+    let mut modes = [0; 4];
+    let mut met = Met::default();
+    let mut many = 0;
+    for _ in 0..10_000 {
+        let draft = draft::accepted(&mut random, &SMALL, Numbers::Low);
+        let input = draft.finish();
+        let skip = search::accept(&input.query, &input.rows)
+            .expect("accepted")
+            .query
+            .skip;
+        modes[match skip {
+            Skip::PastLastRow => 0,
+            Skip::ToNextRow => 1,
+            Skip::ToFirst(_) => 2,
+            Skip::ToLast(_) => 3,
+        }] += 1;
+        let found = matches(&draft);
+        for (_, labels) in &found {
+            met.meet(skip, labels.as_bytes());
+        }
+        many += usize::from(skip.letter().is_some() && found.len() > 2);
+    }
+    assert!(modes.iter().all(|&count| count > 2_000), "{modes:?}");
+    let counts = [
+        met.empty,
+        met.no_row,
+        met.first_row,
+        met.several,
+        met.goes_on,
+        many,
+    ];
+    assert!(counts.iter().all(|&count| count > 150), "{met:?}, {many}");
+}
+
+/// In most of the drafts made for it a search goes on at a labelled row.
+#[test]
+fn jumping_drafts_jump() {
+    let mut random = Random::new(15);
+    let (mut jumping, mut far, mut stuck) = (0, 0, 0);
+    for _ in 0..400 {
+        let draft = mix::jumping(&mut random, &MIDDLE);
+        let input = draft.finish();
+        let accepted = search::accept(&input.query, &input.rows).expect("accepted");
+        let count = draft.matches_with_rows();
+        let labelled = accepted.query.skip.letter().is_some();
+        jumping += usize::from(labelled && count > 2);
+        far += usize::from(labelled && count > 9);
+        stuck += usize::from(call(&input).outcome.answer == STUCK);
+    }
+    assert!(
+        jumping > 300 && far > 40 && stuck > 40,
+        "{jumping} {far} {stuck}"
+    );
+}
+
+/// Answers 3 and 9 come from the skip record too, in each of the ways there are.
+#[test]
+fn damaged_skips_of_all_sorts() {
+    let mut random = Random::new(14);
+    let mut seen = BTreeSet::new();
+    for number in 0..6_000 {
+        let answer = [3, 9][number % 2];
+        let mut draft = draft::accepted(&mut random, &SMALL, Numbers::Low);
+        damage(&mut random, &mut draft, answer);
+        let at = draft.place_of(SKIP).expect("a skip record");
+        let letters = draft.letters();
+        seen.insert(match draft.records[at].1[..] {
+            [0 | 1, 0] => "right, without a letter",
+            [0 | 1, b'A'..=b'Z'] => "a letter that is not asked for",
+            [0 | 1, _] => "another reserved byte",
+            [2 | 3, letter @ b'A'..=b'Z'] if letters.contains(&letter) => "right, with a letter",
+            [2 | 3, b'A'..=b'Z'] => "a stranger",
+            [2 | 3, 0] => "no letter",
+            [2 | 3, _] => "another byte in the letter's place",
+            [_, _] => "no such mode",
+            _ => "no such length",
+        });
+    }
+    assert_eq!(seen.len(), 9, "{seen:?}");
 }
 
 #[test]
@@ -97,10 +225,12 @@ fn standard_inputs_of_all_sorts() {
         };
         heads.insert(head.to_string());
     }
-    for answer in 1..=10 {
+    for answer in (1..=10).chain([14]) {
         assert!(heads.contains(&format!("refused {answer}")), "{heads:?}");
     }
-    assert!(heads.contains("matches") && heads.contains("too"));
+    for head in ["matches", "stopped", "too"] {
+        assert!(heads.contains(head), "{heads:?}");
+    }
     assert!(long < 300, "{long}");
 }
 

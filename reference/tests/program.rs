@@ -2,12 +2,14 @@
 //! to tell each apart from the reference.
 
 use reference::generate::{stdin, Random};
-use reference::program::{program, LONGEST_QUERY, MOST_PAIRS, MOST_ROW_BYTES};
-use reference::search::{self, DONE};
+use reference::program::{
+    program, LABEL_BYTES, LONGEST_QUERY, MOST_PAIRS, MOST_ROW_BYTES, REPORT_NUMBERS,
+};
+use reference::search::{self, DONE, STUCK};
 
 type Fault = fn(&[u8]) -> Vec<u8>;
 
-const FAULTS: [(&str, Fault); 9] = [
+const FAULTS: [(&str, Fault); 12] = [
     ("reads a byte too little", |stdin| {
         program(start(stdin, 2 + LONGEST_QUERY + MOST_ROW_BYTES))
     }),
@@ -15,7 +17,7 @@ const FAULTS: [(&str, Fault); 9] = [
         program(start(stdin, rows_at(stdin) + MOST_ROW_BYTES))
     }),
     ("row bytes that are no multiple of 4 before 9", |stdin| {
-        let cut = (stdin.len() - rows_at(stdin)) % 4 != 0;
+        let cut = !(stdin.len() - rows_at(stdin)).is_multiple_of(4);
         with(
             stdin,
             "refused 9",
@@ -31,13 +33,25 @@ const FAULTS: [(&str, Fault); 9] = [
         _ => program(stdin),
     }),
     ("more than 16,000 pairs before a refusal", |stdin| {
-        let cut = (stdin.len() - rows_at(stdin)) % 4 != 0;
+        let cut = !(stdin.len() - rows_at(stdin)).is_multiple_of(4);
         match pairs(stdin) {
             count if count > MOST_PAIRS && cut => b"too large\n".to_vec(),
             _ => program(stdin),
         }
     }),
     ("stopped as done", |stdin| with(stdin, "stopped", "matches")),
+    ("15 as done", |stdin| match answer(stdin) {
+        STUCK => with(stdin, "stopped", "matches"),
+        _ => program(stdin),
+    }),
+    ("15 as a refusal", |stdin| match answer(stdin) {
+        STUCK => b"refused 15\n".to_vec(),
+        _ => program(stdin),
+    }),
+    ("15 without its match", |stdin| match answer(stdin) {
+        STUCK => without_last_line(program(stdin)),
+        _ => program(stdin),
+    }),
     ("null as 0", |stdin| with(stdin, "null", "0")),
     ("no mark for no labels", |stdin| with(stdin, " -\n", " \n")),
 ];
@@ -85,6 +99,32 @@ fn pairs(stdin: &[u8]) -> usize {
         (DONE, places, n) => places * (n + 1),
         _ => 0,
     }
+}
+
+/// The answer of the search that the program makes, or of one with less room.
+fn answer(stdin: &[u8]) -> u8 {
+    let (query, row_bytes) = stdin.split_at(rows_at(stdin));
+    let number = |four: &[u8]| i32::from_le_bytes([four[0], four[1], four[2], four[3]]);
+    let rows: Vec<i32> = row_bytes.chunks_exact(4).map(number).collect();
+    if pairs(stdin) > MOST_PAIRS {
+        return DONE;
+    }
+    let outcome = search::search(
+        behind_length(query),
+        &rows,
+        &mut vec![0; MOST_PAIRS.div_ceil(8)],
+        &mut vec![0; MOST_PAIRS],
+        &mut vec![0; REPORT_NUMBERS],
+        &mut vec![0; LABEL_BYTES],
+    );
+    outcome.answer
+}
+
+fn without_last_line(printed: Vec<u8>) -> Vec<u8> {
+    let text = String::from_utf8(printed).expect("plain text");
+    let mut lines: Vec<&str> = text.lines().collect();
+    lines.pop();
+    (lines.join("\n") + "\n").into_bytes()
 }
 
 /// The query behind its length.

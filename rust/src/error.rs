@@ -11,6 +11,8 @@ use crate::expected::Expected;
 pub(crate) const DONE: u64 = 0;
 /// The answer of a search that ran out of report room.
 pub(crate) const STOPPED: u64 = 13;
+/// The answer of a search that found no row to go on at behind a match.
+pub(crate) const NO_SKIP_ROW: u64 = 15;
 
 /// Why there is no query or no report.
 ///
@@ -43,7 +45,7 @@ pub enum Error {
     TooManyPlaces,
     /// 8: a letter has two DEFINEs.
     DefinedTwice,
-    /// 9: a measure names a letter that is not in the pattern.
+    /// 9: a measure names a letter that is not in the pattern, or the skip does.
     MeasureLetter,
     /// 10: the entries are not whole rows, or there are more than 4,096 rows.
     WrongRows,
@@ -73,8 +75,9 @@ pub enum Error {
 }
 
 impl Error {
-    /// The error that stands for an answer other than 0 and 13, with the offset that came with it.
-    /// It does not know what was expected, since it does not know the pattern's text.
+    /// The error that stands for an answer other than 0, 13 and 15, which have a report (see
+    /// [`Ending`](crate::Ending)), with the offset that came with it. It does not know what was
+    /// expected, since it does not know the pattern's text.
     ///
     /// ```
     /// use mireladle::Error;
@@ -148,7 +151,9 @@ impl Error {
             }
             Error::TooManyPlaces => "the pattern, with its repetitions written out, has more than 256 places",
             Error::DefinedTwice => "a letter has two DEFINEs",
-            Error::MeasureLetter => "a measure names a letter that is not in the pattern",
+            Error::MeasureLetter => {
+                "a measure or the skip names a letter that is not in the pattern"
+            }
             Error::WrongRows => "the entries are not whole rows, or there are more than 4,096 rows",
             Error::NotesShort => "the notes are too short",
             Error::TrailShort => "the trail is too short",
@@ -196,7 +201,7 @@ mod tests {
         for number in (1..=12).chain([14]) {
             assert_eq!(Error::from_answer(number, 0).number(), Some(number));
         }
-        for other in [DONE, STOPPED, 15, u64::MAX] {
+        for other in [DONE, STOPPED, NO_SKIP_ROW, 16, u64::MAX] {
             assert_eq!(Error::from_answer(other, 0).number(), None);
         }
     }

@@ -18,7 +18,8 @@ pub const STACK: usize = 32_768;
 #[repr(C)]
 #[derive(Clone, Copy, Debug, PartialEq, Eq, Hash)]
 pub struct Outcome {
-    /// 0 done, 13 stopped, 1 to 12 and 14 refused; see [`Error`](crate::Error) for the refusals.
+    /// 0 done, 13 and 15 stopped, 1 to 12 and 14 refused; see [`Ending`](crate::Ending) for the
+    /// first three and [`Error`](crate::Error) for the refusals.
     pub answer: u64,
     /// Matches in the report.
     pub matches: u64,
@@ -69,9 +70,10 @@ pub fn room(query: &[u8], rows: &[i32]) -> Room {
 /// `labels` take the report: for each match its number from 1, its first row, how many rows it takes, then for each
 /// measure 1 and the result or 0 and 0 for null; and the labels of its rows, as bytes `A` to `Z`.
 ///
-/// On the answers 1 to 12 and 14 no buffer is changed. On 0 and 13 bit (position times P plus place) of the notes, the lowest
-/// bit of a byte first, is 1 exactly if that pair has failed; the spare bits of the last byte and the first
-/// [`Room::pairs`] numbers of the trail are 0; what lies behind that, and behind the report, is unchanged.
+/// On the answers 1 to 12 and 14 no buffer is changed. On 0, 13 and 15 bit (position times P plus
+/// place) of the notes, the lowest bit of a byte first, is 1 exactly if that pair has failed; the
+/// spare bits of the last byte and the first [`Room::pairs`] numbers of the trail are 0; what lies
+/// behind that, and behind the report, is unchanged.
 pub fn search(
     query: &[u8],
     rows: &[i32],

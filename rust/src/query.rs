@@ -18,6 +18,23 @@ const SKIP: u16 = 4;
 const MEASURE: u16 = 5;
 
 /// Where the search goes on after a match with rows. After an empty match it goes one row on.
+///
+/// Prices that fall and then rise, where the last row of one match is the first of the next:
+///
+/// ```
+/// use mireladle::{col, Query, Rows, Skip};
+///
+/// let query = Query::builder(1)
+///     .pattern("S D+ U+")
+///     .define('D', [col(0).lt(col(0).prev(1))])
+///     .define('U', [col(0).gt(col(0).prev(1))])
+///     .skip(Skip::ToLast('U'))
+///     .build()?;
+/// let report = query.search(Rows::new(&[9, 5, 7, 8, 3, 4], 1))?;
+/// let found: Vec<_> = report.matches().map(|m| (m.rows(), m.labels())).collect();
+/// assert_eq!(found, [(0..4, "SDUU"), (3..6, "SDU")]);
+/// # Ok::<(), mireladle::Error>(())
+/// ```
 #[derive(Clone, Copy, Debug, Default, PartialEq, Eq, Hash)]
 #[non_exhaustive]
 pub enum Skip {
@@ -26,13 +43,35 @@ pub enum Skip {
     PastLastRow,
     /// At the row behind the match's first row: matches may overlap.
     ToNextRow,
+    /// At the match's first row with this letter, `A` to `Z`: matches may overlap. The pattern has
+    /// to have the letter. A match with rows of which none has it, or whose first row has it, is
+    /// written, and the search stops: see [`Ending::NoSkipRow`](crate::Ending::NoSkipRow).
+    ToFirst(char),
+    /// At the match's last row with this letter, `A` to `Z`: matches may overlap. The pattern has
+    /// to have the letter. A match with rows of which none, or the first alone, has it is written,
+    /// and the search stops: see [`Ending::NoSkipRow`](crate::Ending::NoSkipRow).
+    ToLast(char),
 }
 
 impl Skip {
-    fn number(self) -> u8 {
+    /// The skip's bytes in a query: its mode, and the letter or 0.
+    fn bytes(self) -> [u8; 2] {
         match self {
-            Skip::PastLastRow => 0,
-            Skip::ToNextRow => 1,
+            Skip::PastLastRow => [0, 0],
+            Skip::ToNextRow => [1, 0],
+            Skip::ToFirst(letter) => [2, letter_byte(letter)],
+            Skip::ToLast(letter) => [3, letter_byte(letter)],
+        }
+    }
+
+    /// The skip that these bytes say; none if they say none.
+    fn of(bytes: &[u8]) -> Option<Skip> {
+        match bytes {
+            [0, 0] => Some(Skip::PastLastRow),
+            [1, 0] => Some(Skip::ToNextRow),
+            [2, letter @ b'A'..=b'Z'] => Some(Skip::ToFirst(char::from(*letter))),
+            [3, letter @ b'A'..=b'Z'] => Some(Skip::ToLast(char::from(*letter))),
+            _ => None,
         }
     }
 }
@@ -100,7 +139,7 @@ impl QueryBuilder {
         for (letter, comparisons) in &self.defines {
             append(&mut bytes, DEFINE, &define_body(*letter, comparisons));
         }
-        append(&mut bytes, SKIP, &[self.skip.number(), 0]);
+        append(&mut bytes, SKIP, &self.skip.bytes());
         for measure in &self.measures {
             append(&mut bytes, MEASURE, &measure.bytes());
         }
@@ -131,7 +170,7 @@ pub(crate) fn pattern_alone(text: &[u8]) -> Vec<u8> {
     let mut bytes = Vec::new();
     append(&mut bytes, SHAPE, &[1, 0]);
     append(&mut bytes, PATTERN, text);
-    append(&mut bytes, SKIP, &[Skip::PastLastRow.number(), 0]);
+    append(&mut bytes, SKIP, &Skip::PastLastRow.bytes());
     bytes
 }
 
@@ -243,13 +282,14 @@ impl Query {
 
     /// P: the places of the unrolled pattern, at most 256. A search of n rows takes at most 2P(n+1)
     /// steps where it skips past the last row, and at most Pn(n+3)/2 where it skips to the next
-    /// row: that can be seconds, see the README.
+    /// row, or to the first or last row with a letter: that can be seconds, see the README.
     pub fn places(&self) -> u64 {
         self.places
     }
 
     /// Searches rows for all matches, with room for all of them. A match is looked for at one row after the other, but
-    /// not behind the last: without rows there is none.
+    /// not behind the last: without rows there is none. A search that skips to a letter's row can
+    /// stop for want of such a row: see [`Report::ending`].
     ///
     /// # Errors
     ///
@@ -317,7 +357,7 @@ impl Shape {
         for (kind, body) in records(query) {
             match kind {
                 SHAPE => columns = body.first().copied(),
-                SKIP => skip = body.first().copied(),
+                SKIP => skip = Skip::of(body),
                 MEASURE => measures = measures.saturating_add(1),
                 _ => {}
             }
@@ -325,10 +365,7 @@ impl Shape {
         Some(Shape {
             columns: columns?,
             measures,
-            skip: match skip? {
-                0 => Skip::PastLastRow,
-                _ => Skip::ToNextRow,
-            },
+            skip: skip?,
         })
     }
 }
@@ -388,6 +425,34 @@ mod tests {
     }
 
     #[test]
+    fn each_skip_has_its_bytes() {
+        let all = [
+            (Skip::PastLastRow, [0, 0]),
+            (Skip::ToNextRow, [1, 0]),
+            (Skip::ToFirst('A'), [2, 0x41]),
+            (Skip::ToFirst('Z'), [2, 0x5A]),
+            (Skip::ToLast('B'), [3, 0x42]),
+        ];
+        for (skip, bytes) in all {
+            let query = Query::builder(1).pattern("A").skip(skip).to_bytes();
+            assert!(query.ends_with(&bytes), "{skip:?}");
+            let shape = Shape::of(&query).unwrap();
+            assert_eq!((shape.skip, shape.columns), (skip, 1));
+        }
+        // What is no letter stays none, and is not taken for a skip without one.
+        for letter in ['\0', 'a', '@', '[', '\u{141}'] {
+            assert_eq!(Skip::ToFirst(letter).bytes(), [2, u8::MAX], "{letter:?}");
+            assert_eq!(Skip::ToLast(letter).bytes(), [3, u8::MAX], "{letter:?}");
+        }
+        for strange in [&[][..], &[0], &[0, 1], &[1, 0x41], &[2, 0], &[3, 0x61]] {
+            assert_eq!(Skip::of(strange), None, "{strange:?}");
+        }
+        for strange in [&[4, 0][..], &[4, 0x41], &[2, 0x41, 0], &[0, 0, 0]] {
+            assert_eq!(Skip::of(strange), None, "{strange:?}");
+        }
+    }
+
+    #[test]
     fn parts_that_the_bytes_cannot_carry_stay_refused() {
         let long = Query::builder(1).pattern("A".repeat(70_000));
         assert_eq!(long.build(), Err(Error::WrongField));
@@ -412,6 +477,9 @@ mod tests {
             a.clone().measure(Measure::count().of('\0')).build(),
             Err(Error::WrongField)
         );
+        for skip in [Skip::ToFirst('\0'), Skip::ToLast('\u{141}')] {
+            assert_eq!(a.clone().skip(skip).build(), Err(Error::WrongField));
+        }
         assert!(a.build().is_ok());
     }
 

@@ -5,7 +5,7 @@ use std::iter::FusedIterator;
 use std::ops::Range;
 use std::slice::ChunksExact;
 
-use crate::error::{Error, DONE, STOPPED};
+use crate::error::{Error, DONE, NO_SKIP_ROW, STOPPED};
 use crate::lent::Outcome;
 use crate::query::Skip;
 
@@ -61,7 +61,9 @@ impl ReportRoom {
     pub(crate) fn label_bytes(self, n: usize, skip: Skip) -> usize {
         let all = match skip {
             Skip::PastLastRow => n,
-            Skip::ToNextRow => n.saturating_mul(n.saturating_add(1)).div_ceil(2),
+            Skip::ToNextRow | Skip::ToFirst(_) | Skip::ToLast(_) => {
+                n.saturating_mul(n.saturating_add(1)).div_ceil(2)
+            }
         };
         self.labels.unwrap_or(all).min(all)
     }
@@ -75,6 +77,10 @@ pub enum Ending {
     Done,
     /// 13: the next match did not fit into the report's room. The report holds all matches before it.
     Stopped,
+    /// 15: there is no row to go on at behind the report's last match. Only [`Skip::ToFirst`] and
+    /// [`Skip::ToLast`] give this: their letter labels no row of that match, or the row to skip to
+    /// is its first. The report holds that match and all before it; no later one was looked for.
+    NoSkipRow,
 }
 
 /// The matches of one search, in order.
@@ -106,6 +112,7 @@ impl Report {
         let ending = match outcome.answer {
             DONE => Ending::Done,
             STOPPED => Ending::Stopped,
+            NO_SKIP_ROW => Ending::NoSkipRow,
             refused => return Err(Error::from_answer(refused, outcome.offset)),
         };
         let strange = Error::OtherLibrary {
@@ -336,6 +343,10 @@ mod tests {
     fn a_stopped_report_keeps_its_matches() {
         let report = Report::new(&outcome(13, 1, 1), vec![1, 0, 1, 0], b"A".to_vec(), 0).unwrap();
         assert_eq!((report.ending(), report.len()), (Ending::Stopped, 1));
+        let numbers = vec![1, 0, 1, 2, 1, 2, 0];
+        let report = Report::new(&outcome(15, 2, 3), numbers, b"ABA".to_vec(), 0).unwrap();
+        assert_eq!((report.ending(), report.len()), (Ending::NoSkipRow, 2));
+        assert_eq!(report.matches().last().map(|it| it.labels()), Some("BA"));
     }
 
     #[test]
@@ -385,7 +396,9 @@ mod tests {
             ),
             (77_824, 4096)
         );
-        assert_eq!(all.label_bytes(4096, Skip::ToNextRow), 8_390_656);
+        for skip in [Skip::ToNextRow, Skip::ToFirst('A'), Skip::ToLast('A')] {
+            assert_eq!(all.label_bytes(4096, skip), 8_390_656);
+        }
         let huge = ReportRoom::default().matches(usize::MAX).labels(usize::MAX);
         assert_eq!(
             (huge.numbers(5, 0), huge.label_bytes(5, Skip::ToNextRow)),

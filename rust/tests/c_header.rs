@@ -43,7 +43,8 @@ int main(void) {
     const mireladle_room_t again = mireladle_room(NULL, 0, NULL, 0);
     const mireladle_result_t *same = &result;
     if (again.answer != room.answer || same->answer != result.answer) return 5;
-    return MIRELADLE_NOTES_LENGTH(30) == 4 && MIRELADLE_MATCH_LENGTH(2) == 7 && MIRELADLE_PATTERN_ENDS == 14 ? 0 : 4;
+    if (MIRELADLE_PATTERN_ENDS != 14 || MIRELADLE_NO_SKIP_ROW != 15) return 6;
+    return MIRELADLE_NOTES_LENGTH(30) == 4 && MIRELADLE_MATCH_LENGTH(2) == 7 ? 0 : 4;
 }
 "#;
 

@@ -88,6 +88,72 @@ fn release() {
 }
 
 #[test]
+fn valleys() {
+    let output = run(&[&example("valleys.txt"), &example("valleys.csv")]);
+    let expected = "\
+3 matches in 32 steps
+
+match  first row  rows  FIRST(S.price)  LAST(D.price)  LAST(U.price)  labels
+    1          0     4              20             15             24  SDUU
+    2          3     5              24             12             22  SDDUU
+    3          7     3              22             21             25  SDU
+
+row  price  match:label
+  0     20  1:S
+  1     15  1:D
+  2     18  1:U
+  3     24  1:U 2:S
+  4     17  2:D
+  5     12  2:D
+  6     19  2:U
+  7     22  2:U 3:S
+  8     21  3:D
+  9     25  3:U
+";
+    assert_eq!(
+        (status(&output), text(&output.stdout), text(&output.stderr)),
+        (0, expected, "")
+    );
+}
+
+/// A match without a row to skip to is printed, and the first line says why it is the last.
+#[test]
+fn a_search_without_a_row_to_skip_to_says_why() {
+    let rows = file("no-row.csv", "event\n1\n2\n1\n1\n2\n");
+    let output = |name: &str, skip: &str| {
+        let query = format!("pattern: A B?\nA: event = 1\nB: event = 2\nskip: {skip}");
+        let query = file(&format!("{name}.txt"), query);
+        let output = run(&[&query, &rows]);
+        assert_eq!(text(&output.stderr), "");
+        (status(&output), text(&output.stdout).to_owned())
+    };
+    let expected = "\
+stopped since no row of match 2 is labelled B: 2 matches in 9 steps
+
+match  first row  rows  labels
+    1          0     2  AB
+    2          2     1  A
+
+row  event  match:label
+  0      1  1:A
+  1      2  1:B
+  2      1  2:A
+  3      1
+  4      2
+";
+    assert_eq!(output("no-row", "to last B"), (3, String::from(expected)));
+    let first = expected.lines().next().unwrap();
+    let readme = include_str!("../../README.md");
+    assert!(readme.contains(&format!("```text\n{first}\n```")));
+    for which in ["first", "last"] {
+        let (status, printed) = output(&format!("no-row-{which}"), &format!("to {which} A"));
+        let expected = format!("the {which} row labelled A is the first row of match 1: 1 match ");
+        let begins = printed.starts_with(&format!("stopped since {expected}"));
+        assert!(status == 3 && begins, "{status} {printed}");
+    }
+}
+
+#[test]
 fn overlapping_and_empty_matches_are_told_apart() {
     let query = file(
         "overlap.txt",
@@ -308,13 +374,27 @@ fn refusals_have_number_and_words() {
     refused(
         "refused-9",
         "pattern: A\nmeasures: COUNT(B)",
-        "refused 9: a measure names a letter that is not in the pattern\n\
+        "refused 9: a measure or the skip names a letter that is not in the pattern\n\
          /refused-9.txt:2: measures: COUNT(B)\n",
     );
     let many = format!("a\n{}", "1\n".repeat(4097));
     let rows = failure("refused-10", "pattern: A", &many);
     assert_eq!(rows.0, 1);
     assert!(rows.1.starts_with("refused 10: "), "{}", rows.1);
+}
+
+/// Of the two lines that can name a letter which the pattern does not have, the right one is shown.
+#[test]
+fn a_skip_to_a_letter_outside_the_pattern_is_shown() {
+    let query = "pattern: A\nskip: to  first B # none\nmeasures: COUNT(A)";
+    let expected = "refused 9: a measure or the skip names a letter that is not in the pattern\n\
+         /refused-9-skip.txt:2: skip: to  first B\n";
+    let refused = failure("refused-9-skip", query, "a\n1\n");
+    assert_eq!(refused, (1, String::from(expected)));
+    let query = "pattern: A\nskip: to last A\nmeasures: COUNT(B)";
+    let (status, message) = failure("refused-9-both", query, "a\n1\n");
+    let measures = "/refused-9-both.txt:3: measures: COUNT(B)\n";
+    assert!(status == 1 && message.ends_with(measures), "{message}");
 }
 
 /// What the README shows of the command is what it does.
@@ -441,6 +521,36 @@ fn a_report_that_is_not_whole_has_a_status_of_its_own() {
     let output = run(&["--program", &program, &files[0], &files[1]]);
     assert_eq!((status(&output), text(&output.stderr)), (3, ""));
     assert!(text(&output.stdout).starts_with("stopped for want of room: "));
+    // The program prints the same where there is no row to skip to: the last match tells.
+    let query = file("stops-behind.txt", "pattern: O C*\nskip: to last C");
+    for (name, last, expected) in [
+        (
+            "stops-behind",
+            "2 1 2 OO",
+            "stopped since no row of match 2 is labelled C: 2 matches in 9 steps\n",
+        ),
+        (
+            "stops-first",
+            "2 1 2 CO",
+            "stopped since the last row labelled C is the first row of match 2: 2 matches ",
+        ),
+        (
+            "stops-room",
+            "2 1 2 OC",
+            "stopped for want of room: 2 matches in 9 steps\n",
+        ),
+    ] {
+        let prints = format!("stopped 2 steps 9\\n1 0 2 OC\\n{last}\\n");
+        let (program, input) = stand_in(name, &prints);
+        let output = run(&["--program", &program, &query, &files[1]]);
+        assert_eq!((status(&output), text(&output.stderr)), (3, ""), "{name}");
+        let printed = text(&output.stdout);
+        assert!(printed.starts_with(expected), "{name}: {printed}");
+        // What the program reads has the mode and the letter.
+        let skip = [2, 0, 4, 0, 3, b'C'];
+        let read = std::fs::read(input).unwrap();
+        assert!(read.windows(6).any(|part| part == skip), "{name}");
+    }
 }
 
 #[test]
@@ -453,8 +563,10 @@ fn a_program_that_refuses_or_says_something_else() {
         (status(&output), message)
     };
     let refused = format!(
-        "refused 9: a measure names a letter that is not in the pattern\n{}:8: measures: {}\n",
-        files[0], "FIRST(O.time), LAST(C.time), LAST(base), LAST(patch), COUNT(R)"
+        "refused 9: {}\n{}:8: measures: {}\n",
+        "a measure or the skip names a letter that is not in the pattern",
+        files[0],
+        "FIRST(O.time), LAST(C.time), LAST(base), LAST(patch), COUNT(R)"
     );
     let (program, _) = stand_in("refuses", "refused 9\\n");
     assert_eq!(message(&program), (1, refused));

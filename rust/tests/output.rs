@@ -116,4 +116,14 @@ fn a_stopped_search_stays_stopped() {
     let expected = "stopped for want of room: no match in 3 steps\n3\n";
     let output = shell("stopped-head", 4096, &line);
     assert_eq!(output, (0, String::from(expected), String::new()));
+    // Also where there is no row to skip to.
+    let line = line
+        .replace("stopped-head", "stopped-behind")
+        .replace("0 steps 3", "1 steps 3\\necho 1 0 1 A")
+        .replace(r#""$query" "$rows""#, r#""$query.skip" "$rows""#);
+    file("stopped-behind.txt.skip", "pattern: A\nskip: to first A");
+    let why = "the first row labelled A is the first row of match 1";
+    let expected = format!("stopped since {why}: 1 match in 3 steps\n3\n");
+    let output = shell("stopped-behind", 4096, &line);
+    assert_eq!(output, (0, expected, String::new()));
 }

@@ -1,5 +1,6 @@
-//! The safe interface over the linked library: the bench sheet W1 to W12, every refusal by its number, stopped reports,
-//! what lent buffers hold afterwards, and damaged queries.
+//! The safe interface over the linked library: the bench sheet W1 to W12, every refusal by its
+//! number, skips to a labelled row, stopped reports, what lent buffers hold afterwards, and damaged
+//! queries.
 
 #![allow(clippy::restriction)]
 
@@ -35,12 +36,13 @@ fn search(query: &QueryBuilder, entries: &[i32]) -> Report {
 fn found(query: &QueryBuilder, entries: &[i32]) -> (Vec<(usize, String)>, u64) {
     let report = search(query, entries);
     assert_eq!(report.ending(), Ending::Done);
+    (rows_and_labels(&report), report.steps())
+}
+
+fn rows_and_labels(report: &Report) -> Vec<(usize, String)> {
     assert_eq!(report.matches().len(), report.len());
-    let row_and_labels = |found: Match<'_>| (found.first_row(), found.labels().to_owned());
-    (
-        report.matches().map(row_and_labels).collect(),
-        report.steps(),
-    )
+    let of_match = |found: Match<'_>| (found.first_row(), found.labels().to_owned());
+    report.matches().map(of_match).collect()
 }
 
 fn matches(expected: &[(usize, &str)]) -> Vec<(usize, String)> {
@@ -124,6 +126,144 @@ fn matches_with_labels_of_their_own() {
         (8, "BC"),
     ]);
     assert_eq!(found(&query.skip(Skip::ToNextRow), &rows).0, to_next);
+}
+
+/// Which letter holds at a row says the row's entry: 1 is A, 2 is B, 3 is C.
+fn by_entry(pattern: &str) -> QueryBuilder {
+    ('A'..='C')
+        .zip(1..)
+        .fold(free(pattern), |query, (letter, entry)| {
+            query.define(letter, [col(0).eq(entry)])
+        })
+}
+
+#[test]
+fn a_search_goes_on_at_a_labelled_row() {
+    let query = by_entry("A B+ C?");
+    let entries = [1, 2, 2, 3, 1, 2];
+    let all = matches(&[(0, "ABBC"), (4, "AB")]);
+    // Each of them goes on at another row of the first match, and finds the same second one.
+    for skip in [
+        Skip::PastLastRow,
+        Skip::ToNextRow,
+        Skip::ToFirst('B'),
+        Skip::ToLast('B'),
+    ] {
+        let query = query.clone().skip(skip);
+        assert_eq!(query.build().unwrap().skip(), skip);
+        assert_eq!(found(&query, &entries).0, all, "{skip:?}");
+    }
+    // S holds at every row, so that a match can begin inside another.
+    let rises = free("S U+").define('U', [col(0).gt(col(0).prev(1))]);
+    let entries = [1, 2, 3, 4, 0, 5];
+    let first = matches(&[(0, "SUUU"), (1, "SUU"), (2, "SU"), (4, "SU")]);
+    let last = matches(&[(0, "SUUU"), (4, "SU")]);
+    let steps = |query: &QueryBuilder| found(query, &entries).1;
+    let (to_first, to_last) = (
+        rises.clone().skip(Skip::ToFirst('U')),
+        rises.clone().skip(Skip::ToLast('U')),
+    );
+    assert_eq!(found(&to_first, &entries).0, first);
+    assert_eq!(found(&to_last, &entries).0, last);
+    // The first row labelled U is the next row.
+    let to_next = rises.skip(Skip::ToNextRow);
+    assert_eq!(found(&to_next, &entries).0, first);
+    assert_eq!(steps(&to_first), steps(&to_next));
+    assert!(steps(&to_last) < steps(&to_first));
+}
+
+#[test]
+fn an_empty_match_goes_one_row_on_whatever_the_letter() {
+    for skip in [Skip::ToFirst('A'), Skip::ToLast('A')] {
+        let query = by_entry("(B A)?").skip(skip);
+        let expected = matches(&[(0, ""), (1, "BA"), (2, ""), (3, "")]);
+        assert_eq!(found(&query, &[1, 2, 1, 2]).0, expected);
+        assert_eq!(found(&query, &[]), (matches(&[]), 0));
+    }
+}
+
+#[test]
+fn without_a_row_to_skip_to_a_search_stops() {
+    let stopped = |pattern: &str, skip, entries: &[i32]| {
+        let report = search(&by_entry(pattern).skip(skip), entries);
+        let ended = (report.ending(), rows_and_labels(&report));
+        assert!(report.steps() > 0);
+        ended
+    };
+    let no_row = |expected: &[(usize, &str)]| (Ending::NoSkipRow, matches(expected));
+    // The letter labels no row of the second match, or its first alone.
+    let entries = [1, 2, 1, 3, 1, 2];
+    let two = no_row(&[(0, "AB"), (2, "AC")]);
+    for skip in [Skip::ToFirst('B'), Skip::ToLast('B')] {
+        assert_eq!(stopped("A (B | C)", skip, &entries), two);
+    }
+    let one = no_row(&[(0, "AB")]);
+    for skip in [Skip::ToFirst('A'), Skip::ToLast('A')] {
+        assert_eq!(stopped("A (B | C)", skip, &entries), one);
+    }
+    // Its first row is the match's first although a later row has the letter too.
+    let again = [1, 2, 1];
+    assert_eq!(
+        stopped("A B A", Skip::ToFirst('A'), &again),
+        no_row(&[(0, "ABA")])
+    );
+    assert_eq!(
+        stopped("A B A", Skip::ToLast('A'), &again),
+        (Ending::Done, matches(&[(0, "ABA")]))
+    );
+    // Also where no further row is left.
+    assert_eq!(stopped("A", Skip::ToLast('A'), &[1]), no_row(&[(0, "A")]));
+    let last = no_row(&[(1, "A")]);
+    assert_eq!(stopped("A B?", Skip::ToLast('B'), &[2, 1]), last);
+}
+
+/// A match that does not fit is not judged by its labels.
+#[test]
+fn room_is_judged_before_the_row_to_skip_to() {
+    let query = by_entry("A (B | C)").skip(Skip::ToLast('B'));
+    let query = query.build().unwrap();
+    let within = |room: ReportRoom| {
+        let report = query.search_within(Rows::new(&[1, 2, 1, 3], 1), room);
+        let report = report.unwrap();
+        (report.ending(), report.len())
+    };
+    let room = ReportRoom::default();
+    assert_eq!(within(room), (Ending::NoSkipRow, 2));
+    assert_eq!(within(room.matches(2).labels(4)), (Ending::NoSkipRow, 2));
+    assert_eq!(within(room.matches(1)), (Ending::Stopped, 1));
+    assert_eq!(within(room.labels(3)), (Ending::Stopped, 1));
+}
+
+#[test]
+fn bytes_of_a_skip_that_are_refused() {
+    let bytes = |mode: u8, letter: u8| {
+        let mut bytes = free("A").to_bytes();
+        let end = bytes.len();
+        bytes[end - 2..].copy_from_slice(&[mode, letter]);
+        Query::from_bytes(bytes).map(|query| query.skip())
+    };
+    for (mode, letter) in [
+        (0, b'A'),
+        (1, b'A'),
+        (0, 1),
+        (1, 0xFF),
+        (2, 0),
+        (3, 0),
+        (2, b'@'),
+        (3, b'['),
+        (2, b'a'),
+        (4, 0),
+        (4, b'A'),
+        (0xFF, b'A'),
+    ] {
+        let wrong = Err(Error::WrongField);
+        assert_eq!(bytes(mode, letter), wrong, "{mode} {letter}");
+    }
+    assert_eq!(bytes(2, b'A'), Ok(Skip::ToFirst('A')));
+    assert_eq!(bytes(3, b'A'), Ok(Skip::ToLast('A')));
+    for mode in [2, 3] {
+        assert_eq!(bytes(mode, b'B'), Err(Error::MeasureLetter));
+    }
 }
 
 #[test]
@@ -383,6 +523,29 @@ fn steps_to_the_next_row_are_bounded() {
     assert!(most > bound(256) / 100 * 99 && most <= bound(256));
 }
 
+/// The same with a first letter before the group, and a skip to the second row of each match.
+#[test]
+fn steps_to_a_labelled_row_are_bounded() {
+    let n: u64 = 200;
+    let entries = vec![0; usize::try_from(n).unwrap()];
+    let steps = |skip| {
+        let query = free("A ((()?){99}(()?){99}(()?){54}B)*").skip(skip);
+        let query = query.build().unwrap();
+        let report = query.search(Rows::new(&entries, 1)).unwrap();
+        assert_eq!(query.places(), 256);
+        (report.ending(), report.len(), report.steps())
+    };
+    // The last match is the last row alone, an A.
+    let (ending, matches, to_first) = steps(Skip::ToFirst('B'));
+    assert_eq!((ending, matches), (Ending::NoSkipRow, entries.len()));
+    let bound = 256 * n * (n + 3) / 2;
+    assert!(to_first > bound / 100 * 97 && to_first <= bound);
+    // The last row with B is the last row: one match, then that one.
+    let (ending, matches, to_last) = steps(Skip::ToLast('B'));
+    assert_eq!((ending, matches), (Ending::NoSkipRow, 2));
+    assert!(to_last <= 2 * 256 * (n + 1));
+}
+
 /// The buffers that W1 is lent, with what they hold before and after a search.
 struct Lent {
     notes: Vec<u8>,
@@ -437,6 +600,29 @@ fn lent_buffers_are_changed_as_promised() {
     // Each step either failed or is a pair of the path found: A, A's fork, A, the fork again, B, END.
     let failed: u32 = lent.notes[..4].iter().map(|byte| byte.count_ones()).sum();
     assert_eq!(failed + 6, 12);
+}
+
+/// On 15 the buffers are as on 13, with the match that it stopped behind.
+#[test]
+fn lent_buffers_where_there_is_no_row_to_skip_to() {
+    for skip in [Skip::ToFirst('A'), Skip::ToLast('B')] {
+        let mut lent = Lent::new(6, 33);
+        let [answer, matches, labels, steps] = lent.search(&w1().skip(skip).to_bytes());
+        // The first A is the match's first row; the last B is its last row, from which W1 goes on.
+        let done = skip == Skip::ToLast('B');
+        assert_eq!((answer, matches, labels), (if done { 0 } else { 15 }, 1, 3));
+        assert_eq!(lent.numbers, [1, 1, 3, 1, 2, 1, 115, -7, -7, -7]);
+        assert_eq!(&lent.labels, b"AAB??");
+        assert_eq!(lent.trail, [vec![0; 30], vec![7; 3]].concat());
+        assert_eq!(
+            (lent.notes[3] & 0xC0, &lent.notes[4..]),
+            (0, &[0xAA; 2][..])
+        );
+        let failed: u32 = lent.notes[..4].iter().map(|byte| byte.count_ones()).sum();
+        assert_eq!(u64::from(failed) + 6, steps);
+        // A at row 0, and the second A at row 3: nothing behind the match is looked at.
+        assert_eq!(failed, if done { 7 } else { 2 });
+    }
 }
 
 #[test]

@@ -21,6 +21,26 @@ pub struct Measure {
     pub column: u8,
 }
 
+/// Where the search goes on after a match with rows; the letter's row is one of the
+/// match.
+#[derive(Clone, Copy, PartialEq, Eq)]
+pub enum Skip {
+    PastLastRow,
+    ToNextRow,
+    ToFirst(u8),
+    ToLast(u8),
+}
+
+impl Skip {
+    /// The letter, or 0.
+    pub fn letter(self) -> u8 {
+        match self {
+            Skip::PastLastRow | Skip::ToNextRow => 0,
+            Skip::ToFirst(letter) | Skip::ToLast(letter) => letter,
+        }
+    }
+}
+
 /// The parts of a query that has none of the answers 1, 2 and 3.
 pub struct Query<'a> {
     pub columns: usize,
@@ -28,7 +48,7 @@ pub struct Query<'a> {
     /// By letter, A first: the bytes of its comparisons, empty without DEFINE.
     pub defines: [&'a [u8]; 26],
     pub defined_twice: bool,
-    pub to_next_row: bool,
+    pub skip: Skip,
     pub measures: [Measure; MOST_MEASURES],
     pub measure_count: usize,
 }
@@ -47,7 +67,7 @@ pub fn read(bytes: &[u8]) -> Result<Query<'_>, u64> {
         text: &[],
         defines: [&[]; 26],
         defined_twice: false,
-        to_next_row: false,
+        skip: Skip::PastLastRow,
         measures: [Measure {
             function: 0,
             letter: 0,
@@ -143,9 +163,15 @@ impl<'a> Query<'a> {
     }
 
     fn take_skip(&mut self, body: &[u8]) -> bool {
-        let &[skip, 0] = body else { return false };
-        self.to_next_row = skip == 1;
-        skip <= 1
+        let &[mode, letter] = body else { return false };
+        self.skip = match (mode, letter) {
+            (0, 0) => Skip::PastLastRow,
+            (1, 0) => Skip::ToNextRow,
+            (2, b'A'..=b'Z') => Skip::ToFirst(letter),
+            (3, b'A'..=b'Z') => Skip::ToLast(letter),
+            _ => return false,
+        };
+        true
     }
 
     fn take_measure(&mut self, body: &[u8]) -> bool {

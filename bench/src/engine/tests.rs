@@ -1,5 +1,6 @@
 //! The bench sheet of document 01, W1 to W12, run on the engine; with them what
-//! the paper says of the lent buffers when a search is done, stopped or refused.
+//! the paper says of the lent buffers when a search is done, stopped or refused;
+//! and the skips to a labelled row of R-2.
 
 use super::{prepare, refused, room, search};
 use mireladle::lent::Outcome;
@@ -278,4 +279,97 @@ fn prepared_runs_are_searches() {
         }
     }
     assert!(prepare(&free("(A*)*").to_bytes()).is_err_and(|answer| answer == 6));
+}
+
+/// S is free; U is above the row before.
+fn rises(skip: Skip) -> Vec<u8> {
+    let query = free("S U+").define('U', [col(0).gt(col(0).prev(1))]);
+    query.skip(skip).to_bytes()
+}
+
+#[test]
+fn skip_to_a_labelled_row() {
+    let rows = [1, 2, 3, 4, 0, 5];
+    let first = searched(&rises(Skip::ToFirst('U')), &rows);
+    let all = [(0, "SUUU"), (1, "SUU"), (2, "SU"), (4, "SU")];
+    assert_eq!((first.result.answer, first.matches()), (0, all.to_vec()));
+    let last = searched(&rises(Skip::ToLast('U')), &rows);
+    let two = [(0, "SUUU"), (4, "SU")];
+    assert_eq!((last.result.answer, last.matches()), (0, two.to_vec()));
+    assert!(last.result.steps < first.result.steps);
+}
+
+/// Empty matches at rows 0, 2 and 3; the letter of the skip is in none of them.
+#[test]
+fn skip_behind_an_empty_match() {
+    for skip in [Skip::ToFirst('A'), Skip::ToLast('A')] {
+        let query = free("(B A)?")
+            .define('A', [col(0).eq(1)])
+            .define('B', [col(0).eq(2)])
+            .skip(skip);
+        let searched = searched(&query.to_bytes(), &[1, 2, 1, 2]);
+        let all = [(0, ""), (1, "BA"), (2, ""), (3, "")];
+        assert_eq!(searched.result.answer, 0);
+        assert_eq!(searched.matches(), all);
+    }
+}
+
+/// The letter labels no row of a match, or the row is the match's first: the match
+/// is written and is the last, also at the last row.
+#[test]
+fn no_row_to_skip_to() {
+    let stopped = |pattern: &str, skip: Skip, rows: &[i32], matches: &[(i64, &str)]| {
+        let query = above_zero(pattern).skip(skip).to_bytes();
+        let searched = searched(&query, rows);
+        assert_eq!(searched.result.answer, 15, "{pattern}");
+        assert_eq!(searched.matches(), matches, "{pattern}");
+        let pairs = room(&query, rows).pairs as usize;
+        assert!(searched.trail[..pairs].iter().all(|&it| it == 0));
+        let notes = pairs.div_ceil(8);
+        assert!(searched.notes[notes..].iter().all(|&it| it == FILL));
+    };
+    stopped("A | B", Skip::ToFirst('A'), &[0, 1], &[(0, "B")]);
+    stopped("A | B", Skip::ToLast('B'), &[1, 1], &[(0, "A")]);
+    stopped("A B", Skip::ToLast('A'), &[0, 1, 1, 1], &[(1, "AB")]);
+    stopped("A B A", Skip::ToFirst('A'), &[1, 1, 1], &[(0, "ABA")]);
+    stopped("A", Skip::ToLast('A'), &[0, 1], &[(1, "A")]);
+    let twice = [(0, "BA"), (1, "A")];
+    stopped("B A | A", Skip::ToLast('A'), &[1, 1], &twice);
+    let later = free("A B A").skip(Skip::ToLast('A')).to_bytes();
+    assert_eq!(searched(&later, &[1, 1, 1]).result.answer, 0);
+}
+
+/// Full rooms come before the row to skip to; a match that just fits does not.
+#[test]
+fn room_before_the_row_to_skip_to() {
+    let query = free("A").skip(Skip::ToFirst('A')).to_bytes();
+    let answer = |numbers, labels| {
+        let rooms = [1, 8, numbers, labels];
+        let result = searched_with(&query, &[1, 1, 1], rooms).result;
+        (result.answer, result.matches, result.labels, result.steps)
+    };
+    assert_eq!(answer(3, 1), (15, 1, 1, 2));
+    assert_eq!(answer(2, 1), (13, 0, 0, 2));
+    assert_eq!(answer(3, 0), (13, 0, 0, 2));
+}
+
+#[test]
+fn skips_that_are_refused() {
+    let answer = |mode: u8, letter: u8| {
+        let mut query = free("A").to_bytes();
+        let end = query.len();
+        query[end - 2..].copy_from_slice(&[mode, letter]);
+        searched(&query, &[]).result.answer
+    };
+    for letter in [1, b'@', b'A', b'Z', b'[', b'a', 255] {
+        assert_eq!((answer(0, letter), answer(1, letter)), (3, 3));
+        assert_eq!(answer(4, letter), 3);
+    }
+    for mode in [2, 3] {
+        assert_eq!(
+            [0, b'@', b'[', b'a', 255].map(|it| answer(mode, it)),
+            [3; 5]
+        );
+        assert_eq!((answer(mode, b'A'), answer(mode, b'B')), (0, 9));
+    }
 }

@@ -6,14 +6,24 @@
 
 use super::letters::{Comparison, Rows, Test};
 use super::pattern::Pattern;
-use super::query::Query;
+use super::query::{Query, Skip};
 use super::report::Report;
 use super::tables::{Place, Sort, Tables, Way, OPEN, PAIR, WAY};
 
 const BIT: [u8; 8] = [1, 2, 4, 8, 16, 32, 64, 128];
 
+/// How a search ended.
+#[derive(Clone, Copy, PartialEq, Eq)]
+pub enum Ending {
+    Done,
+    /// A match did not fit.
+    Full,
+    /// There is no row to go on at behind the last match written.
+    NoSkipRow,
+}
+
 /// Searches an accepted query, with notes and trail cut to the length that it
-/// needs. Gives whether it is done, not stopped, and the steps.
+/// needs. Gives how it ended, and the steps.
 pub fn search(
     query: &Query,
     pattern: &Pattern,
@@ -21,7 +31,7 @@ pub fn search(
     notes: &mut [u8],
     trail: &mut [u32],
     report: &mut Report,
-) -> (bool, u64) {
+) -> (Ending, u64) {
     match pattern.count {
         0..=16 => search_sized::<16>(query, pattern, rows, notes, trail, report),
         17..=64 => search_sized::<64>(query, pattern, rows, notes, trail, report),
@@ -36,7 +46,7 @@ fn search_sized<const N: usize>(
     notes: &mut [u8],
     trail: &mut [u32],
     report: &mut Report,
-) -> (bool, u64) {
+) -> (Ending, u64) {
     let mut tables = Tables::<N>::new();
     tables.fill(query, pattern);
     run(query, &tables, rows, notes, trail, report)
@@ -52,7 +62,7 @@ pub fn run<const N: usize>(
     notes: &mut [u8],
     trail: &mut [u32],
     report: &mut Report,
-) -> (bool, u64) {
+) -> (Ending, u64) {
     notes.fill(0);
     // END is never on the trail, so at most P - 1 places at n + 1 positions are,
     // and the last n entries are free to say which letter took each row.
@@ -71,18 +81,26 @@ pub fn run<const N: usize>(
         pair: 0,
         top: 0,
     };
-    let mut done = true;
+    let mut ending = Ending::Done;
     let mut start = 0;
     while start < rows.n {
         let mut next = start + 1;
         if walk.attempt(start) {
             let behind = walk.position;
-            done = report.append(&rows, &tables.labels, start, &walk.taken[start..behind]);
-            if !done {
+            let taken = &walk.taken[start..behind];
+            if !report.append(&rows, &tables.labels, start, taken) {
+                ending = Ending::Full;
                 break;
             }
-            if !query.to_next_row && behind > start {
-                next = behind;
+            if query.skip != Skip::ToNextRow && behind > start {
+                next = match query.skip {
+                    Skip::PastLastRow => behind,
+                    skip => start + rows_to_letter(skip, &tables.labels, taken),
+                };
+                if next == start {
+                    ending = Ending::NoSkipRow;
+                    break;
+                }
             }
         }
         start = next;
@@ -90,7 +108,20 @@ pub fn run<const N: usize>(
     let steps = walk.steps;
     // Once for all: entries are left where they are when they are taken back.
     trail.fill(0);
-    (done, steps)
+    (ending, steps)
+}
+
+/// How many rows behind a match's first row its row to skip to lies, by the places
+/// that took its rows; 0 where there is no such row, too.
+#[inline(never)]
+fn rows_to_letter<const N: usize>(skip: Skip, letters: &[u8; N], taken: &[u32]) -> usize {
+    let letter = skip.letter();
+    let has_letter = |place: &u32| letters[*place as usize % N] == letter;
+    let row = match skip {
+        Skip::ToFirst(_) => taken.iter().position(has_letter),
+        _ => taken.iter().rposition(has_letter),
+    };
+    row.unwrap_or(0)
 }
 
 struct Walk<'a, const N: usize> {

@@ -1,13 +1,18 @@
 -- The whole of a query: its shape and text are the first two records, the skip stands behind the DEFINEs, the measures behind the skip; so what was read
 -- one after the other are the query's parts.
 use mathlib.Core.Path.{_≡_, refl, sym, ap, _∙_}
+use mathlib.Core.Bool.{true, _||_}
 use mathlib.Core.List.{List, _∷_}
-use Prim.Native.Nat.{ℕ, _+_, _-_, _≤_, _<_}
+use Prim.Native.Nat.{ℕ, _+_, _-_, _*_, _^_, _≤_, _<_}
+use mir.Syntax.{w64}
+use mir.Val.{Fits}
 use native.Mathlib.Omega.{arith}
+use lib.Dec.{eqb}
 use lib.ListN.{length, getD, take, drop}
 use borrow.Author.Tests.{eq-eqb, ne-eqb}
 use Rattle.records.specs.declared.Read.{Read}
 use Rattle.records.specs.declared.Read.the-variants.{Record as Whole, Cut}
+use Rattle.rules.specs.Basics.{isLetter}
 use Rattle.rules.specs.Query.{Record, records, field, firstOfKind, columnsOf, defined, textOf, comparisonsFrom, measuresFrom, parts}
 use Rattle.records.specs.Read.{recordOf, recordsAt, readAt}
 use Rattle.query.specs.Order.{firstAnswer}
@@ -158,24 +163,40 @@ module _ (s : List ℕ) (at : ℕ) (measures₀ : List ℕ) (room : TailRoom s a
       skip : (k ≡ 4) × Ahead s 3 8 n
       skip = skip-next s 2 0 at (room .ahead) r k b m n e q refl refl
 
-      skipped : (m ≡ 2) × (getD s b 0 ≤ 1)
+      skipped : (m ≡ 2) × (getD s b 0 ≤ 3) × ((eqb (getD s (b + 1) 0) 0 || isLetter (getD s (b + 1) 0)) ≡ true)
       skipped = skip-says s (columnsOf s) k b m (this-fits s 2 0 at (room .ahead) r k b m n e q) (skip .0)
 
+      pub target-inside : b + 1 < length s
+      target-inside = let f = found s at r k b m n e q in let i = f .inside in let j = f .body in let y = skipped .0 in omega arith
+
+      -- no list in memory is so long that an index into it would not fit
+      pub target-fits : length s * 1 < 2 ^ 63 → Fits w64 (b + 1)
+      target-fits h = let a = target-inside in record { fits = omega arith }
+
       pub skip-inside : b < length s
-      skip-inside = let f = found s at r k b m n e q in let i = f .inside in let j = f .body in let y = skipped .0 in omega arith
+      skip-inside = omega (arith, target-inside)
 
       pub measures-room : MeasuresRoom s n measures₀
       measures-room = record { ahead = skip .1; long = room .long }
 
-      pub tail-is : (mode : ℕ) → mode ≡ getD s b 0 → (measures : List ℕ) (count : ℕ) → PutMeasures s n measures₀ measures count
-          → TailOf s at measures₀ measures (record { skip = mode; measures = count })
-      tail-is mode em measures count p =
+      -- the skip is the first of its kind from here on
+      the-skip : recordOf k b m ≡ firstOfKind 4 (recordsAt s at)
+      the-skip = sym (ap (firstOfKind 4) (read-more s at r k b m n e q) ∙ this-first s k b m (recordsAt s n) 4 (skip .0))
+
+      second-byte : getD s (b + 1) 0 ≡ field s (recordOf k b m) 1
+      unfolding field
+      second-byte = refl
+
+      pub tail-is : (mode : ℕ) → mode ≡ getD s b 0 → (target : ℕ) → target ≡ getD s (b + 1) 0 → (measures : List ℕ) (count : ℕ) → PutMeasures s n measures₀ measures count
+          → TailOf s at measures₀ measures (record { skip = mode; target = target; measures = count })
+      tail-is mode em target et measures count p =
           let y = skipped .1 in
           record {
             long = p .long;
-            skip = em ∙ sym (field-first s k b m)
-                ∙ ap (λ (x : Record). field s x 0) (sym (ap (firstOfKind 4) (read-more s at r k b m n e q) ∙ this-first s k b m (recordsAt s n) 4 (skip .0)));
+            skip = em ∙ sym (field-first s k b m) ∙ ap (λ (x : Record). field s x 0) the-skip;
             mode = omega arith;
+            target = et ∙ second-byte ∙ ap (λ (x : Record). field s x 1) the-skip;
+            lettered = ap (λ (c : ℕ). eqb c 0 || isLetter c) et ∙ skipped .2;
             is = p .is ∙ sym (ap (measuresFrom s) (read-more s at r k b m n e q) ∙ other-measures s k b m (recordsAt s n) (λ w. let z = skip .0 in omega arith));
             few = p .few;
             fit = p .fit;
@@ -186,7 +207,7 @@ module _ (s : List ℕ) (at : ℕ) (measures₀ : List ℕ) (room : TailRoom s a
 
 module _ (s measures₀ : List ℕ) (room : Room s measures₀) (h : Head) (f : HeadOf s h) (defines : List ℕ) (v : Behind) (d : PutDefines s (h .next) defines v) where
   pub decoded : (measures : List ℕ) (t : Tail) → TailOf s (v .at) measures₀ measures t
-      → Decoded s measures₀ defines measures (record { columns = h .columns; start = h .start; len = h .len; skip = t .skip; measures = t .measures; twice = v .twice; letters = v .letters })
+      → Decoded s measures₀ defines measures (record { columns = h .columns; start = h .start; len = h .len; skip = t .skip; target = t .target; measures = t .measures; twice = v .twice; letters = v .letters })
   unfolding parts
   decoded measures t g = record {
     counted = d .counted;
@@ -199,6 +220,8 @@ module _ (s measures₀ : List ℕ) (room : Room s measures₀) (h : Head) (f : 
     short = f .short;
     skip = g .skip ∙ ap (λ (x : Record). field s x 0) (d .skip ∙ f .skip);
     mode = g .mode;
+    target = g .target ∙ ap (λ (x : Record). field s x 1) (d .skip ∙ f .skip);
+    lettered = g .lettered;
     letters = λ l w. rw (f .columns, ← f .letters (65 + l)) (d .letters l w);
     measured = g .is ∙ d .measures ∙ f .measures;
     few = g .few;

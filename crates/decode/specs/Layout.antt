@@ -1,11 +1,15 @@
 -- What the lent arrays hold once a query is decoded, and which parts of the query that is.
 -- Promised (`Decoded`): each letter's DEFINE has the letter's comparisons, and all the bytes that a search reads of it are there and fit; the first
--- measures and the numbers are the query's; the rest of `measures` is as it was; and it is told whether a letter has two DEFINEs, of which the first counts.
+-- measures and the numbers are the query's, and the letter that the skip names is 0 or A to Z; the rest of `measures` is as it was; and it is told whether
+-- a letter has two DEFINEs, of which the first counts.
 -- Left free, since no answer depends on it: `letters` may be any number up to 26 from which on no letter has a DEFINE; only the time that preparing the tests takes does.
 use mathlib.Core.Path.{_≡_}
+use mathlib.Core.Bool.{true, _||_}
 use mathlib.Core.List.{List}
 use Prim.Native.Nat.{ℕ, _+_, _*_, _≤_, _<_}
+use lib.Dec.{eqb}
 use lib.ListN.{length, getD, take, drop}
+use Rattle.rules.specs.Basics.{isLetter}
 use Rattle.rules.specs.Query.{doubled, parts}
 use Rattle.query.specs.Order.{firstAnswer}
 use Rattle.define_list.specs.Defines.{Letter}
@@ -29,7 +33,9 @@ pub record Decoded (s measures₀ defines measures : List ℕ) (p : Parts) : Typ
   pub inside : p .start + p .len ≤ length s
   pub short : p .len ≤ 256
   pub skip : p .skip ≡ parts s .skip
-  pub mode : p .skip ≤ 1
+  pub mode : p .skip ≤ 3
+  pub target : p .target ≡ parts s .skipLetter
+  pub lettered : (eqb (p .target) 0 || isLetter (p .target)) ≡ true
   pub letters : (l : ℕ) → l < 26 → Letter s (p .columns) (getD defines l 0) (parts s .comparisons (65 + l))
   pub measured : measuresIn measures 0 (p .measures) ≡ parts s .measures
   pub few : p .measures ≤ 8

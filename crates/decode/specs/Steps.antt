@@ -1,8 +1,11 @@
 -- What the steps of decoding need and leave: the records before and behind the DEFINEs.
 use mathlib.Core.Path.{_≡_}
+use mathlib.Core.Bool.{true, _||_}
 use mathlib.Core.List.{List}
 use Prim.Native.Nat.{ℕ, _+_, _*_, _≤_, _<_}
+use lib.Dec.{eqb}
 use lib.ListN.{length, getD, take, drop}
+use Rattle.rules.specs.Basics.{isLetter}
 use Rattle.rules.specs.Query.{records, field, firstOfKind, columnsOf, defined, textOf, comparisonsFrom, measuresFrom}
 use Rattle.records.specs.Read.{recordsAt}
 use Rattle.query.specs.Ahead.{Ahead}
@@ -33,7 +36,9 @@ pub record TailRoom (s : List ℕ) (at : ℕ) (measures : List ℕ) : Type 0 whe
 pub record TailOf (s : List ℕ) (at : ℕ) (measures₀ measures : List ℕ) (t : Tail) : Type 0 where
   pub long : length measures ≡ 24
   pub skip : t .skip ≡ field s (firstOfKind 4 (recordsAt s at)) 0
-  pub mode : t .skip ≤ 1
+  pub mode : t .skip ≤ 3
+  pub target : t .target ≡ field s (firstOfKind 4 (recordsAt s at)) 1
+  pub lettered : (eqb (t .target) 0 || isLetter (t .target)) ≡ true
   pub is : measuresIn measures 0 (t .measures) ≡ measuresFrom s (recordsAt s at)
   pub few : t .measures ≤ 8
   pub fit : (k : ℕ) → k < t .measures → Fits (columnsOf s) (measureIn measures 0 k)

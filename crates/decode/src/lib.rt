@@ -12,13 +12,14 @@ ghost use Rattle.query.specs.Order.{firstAnswer};
 ghost use Rattle.decode.specs.Layout.{Room, Decoded};
 ghost use Rattle.decode.specs.Steps.{HeadOf, TailRoom, TailOf};
 
-// What a query says besides its letters and measures: the columns, where the pattern's text lies, the skip mode, how many measures there are, whether
-// two DEFINEs are for one letter (answer 8), and a number from which on no letter (0 for A) has a DEFINE.
+// What a query says besides its letters and measures: the columns, where the pattern's text lies, the skip mode, the letter that the skip names (0 for
+// none), how many measures there are, whether two DEFINEs are for one letter (answer 8), and a number from which on no letter (0 for A) has a DEFINE.
 pub struct Parts {
     pub columns: usize,
     pub start: usize,
     pub len: usize,
     pub skip: usize,
+    pub target: usize,
     pub measures: usize,
     pub twice: bool,
     pub letters: usize,
@@ -74,9 +75,10 @@ fn read_head(s: &[u8]) -> Head
     }
 }
 
-// What stands behind the DEFINEs: the skip mode, and how many measures.
+// What stands behind the DEFINEs: the skip mode and its letter, and how many measures.
 struct Tail {
     skip: usize,
+    target: usize,
     measures: usize,
 }
 
@@ -94,13 +96,16 @@ fn read_tail(s: &[u8], at: usize, measures: &mut [u8; 24]) -> Tail
     else {
         return Tail {
             skip: 0,
+            target: 0,
             measures: 0,
         };
     };
     let skip = byte(s, start);
+    let target = byte(s, start + 1);
     let count = put_measures(s, next, measures);
     Tail {
         skip,
+        target,
         measures: count,
     }
 }
@@ -120,6 +125,7 @@ pub fn decode(s: &[u8], defines: &mut [usize; 26], measures: &mut [u8; 24]) -> P
         start: h.start,
         len: h.len,
         skip: t.skip,
+        target: t.target,
         measures: t.measures,
         twice: behind.twice,
         letters: behind.letters,

@@ -6,8 +6,8 @@ use Prim.Native.Nat.{ℕ, zero, suc, _+_, _*_, _-_, _≤_, _<_}
 use native.Mathlib.Omega.{arith}
 use lib.Dec.{eqb, ltb, leb}
 use lib.ListN.{getD}
-use borrow.Author.Tests.{eq-eqb, ne-eqb, lt-ltb, le-ltb, le-leb, leb-true, leb-false, not-true, not-false}
-use Rattle.rules.specs.Basics.{inRange, isLetter, everyBelow, signed8}
+use borrow.Author.Tests.{eq-eqb, ne-eqb, lt-ltb, le-ltb, le-leb, lt-leb, leb-true, leb-false, not-true, not-false}
+use Rattle.rules.specs.Basics.{pick, inRange, isLetter, everyBelow, signed8}
 use Rattle.rules.specs.Query.{offsetFits, field, shapeFits, textFits, leftFits, rightFits, comparisonFits, defineFits, skipFits, functionFits, measureFits, recordFits}
 use Rattle.records.specs.Read.{recordOf}
 use Rattle.fields.specs.Fields.{fitsAt}
@@ -50,10 +50,21 @@ module _ (s : List ℕ) (b l : ℕ) where
   unfolding skipFits
   skip-long h = simp (ne-eqb l 2 h)
 
-  pub skip-is : (x y : ℕ) (t u r : Bool) → l ≡ 2 → x ≡ getD s b 0 → y ≡ getD s (b + 1) 0 → t ≡ leb x 1 → u ≡ eqb y 0 → r ≡ (t && u) → r ≡ skipFits s (recordOf 4 b l)
-  unfolding skipFits field
-  skip-is x y t u r h ex ey et eu er = simp (eq-eqb l 2 h) (er ∙ ap (λ (v : Bool). v && u) (et ∙ ap (λ (v : ℕ). leb v 1) (ex ∙ sym (field-first s 4 b l)))
-      ∙ ap (λ (v : Bool). leb (field s (recordOf 4 b l) 0) 1 && v) (eu ∙ ap (λ (v : ℕ). eqb v 0) ey))
+  module _ (x y : ℕ) (h : l ≡ 2) (ex : x ≡ getD s b 0) (ey : y ≡ getD s (b + 1) 0) where
+    -- the rule over the two bytes
+    skip-by : skipFits s (recordOf 4 b l) ≡ pick (leb x 1) (eqb y 0) (leb x 3 && inRange 65 90 y)
+    unfolding skipFits field isLetter
+    skip-by = let g : getD s (b + 0) 0 ≡ x = field-first s 4 b l ∙ sym ex in let f : getD s (b + 1) 0 ≡ y = sym ey in simp (eq-eqb l 2 h, g, f)
+
+    -- modes 0 and 1
+    pub skip-bare : x ≤ 1 → eqb y 0 ≡ skipFits s (recordOf 4 b l)
+    skip-bare i = sym (skip-by ∙ ap (λ (v : Bool). pick v (eqb y 0) (leb x 3 && inRange 65 90 y)) (le-leb x 1 i))
+
+    -- modes 2 and 3
+    pub skip-lettered : (t u r : Bool) → 1 < x → t ≡ leb x 3 → u ≡ inRange 65 90 y → r ≡ (t && u) → r ≡ skipFits s (recordOf 4 b l)
+    skip-lettered t u r i et eu er =
+        let z : r ≡ (leb x 3 && inRange 65 90 y) = cc in
+        z ∙ sym (skip-by ∙ ap (λ (v : Bool). pick v (eqb y 0) (leb x 3 && inRange 65 90 y)) (lt-leb x 1 i))
 
 module _ (s : List ℕ) (columns b l : ℕ) where
   pub define-short : l < 2 → false ≡ defineFits s columns (recordOf 3 b l)

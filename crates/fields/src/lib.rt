@@ -138,7 +138,7 @@ fn define_fits(s: &[u8], columns: usize, start: usize, len: usize) -> bool
     both(letter, both(counted, compared))
 }
 
-// Kind 4: 0 or 1, a reserved byte.
+// Kind 4: 0 or 1, and a byte that is 0; or 2 or 3, and a letter.
 fn skip_fits(s: &[u8], start: usize, len: usize) -> bool
     requires { ⌜ start + len ≤ length (now s) ⌝ }
     ensures { λ r. ⌜ r ≡ skipFits (now (s .entry)) (recordOf 4 start len) ⌝ }
@@ -146,7 +146,12 @@ fn skip_fits(s: &[u8], start: usize, len: usize) -> bool
     if len != 2 {
         return false;
     }
-    both(at_most(byte(s, start), 1), same(byte(s, start + 1), 0))
+    let mode = byte(s, start);
+    let letter = byte(s, start + 1);
+    if mode <= 1 {
+        return letter == 0;
+    }
+    both(at_most(mode, 3), within(65, 90, letter))
 }
 
 fn negated(a: bool) -> bool

@@ -7,10 +7,10 @@ use native.Mathlib.Nat.{mod-lt}
 use native.Mathlib.Omega.{arith}
 use lib.ListN.{length, getD, set}
 use lib.Dec.{ltb, eqb}
-use borrow.Author.Tests.{lt-ltb, le-ltb, ne-eqb}
+use borrow.Author.Tests.{lt-ltb, le-ltb}
 use Rattle.rules.specs.Basics.{pick, wrote}
 use Rattle.rules.specs.Places.{Place, pLetter, pCaret, pDollar, pFork, pEnd}
-use Rattle.rules.specs.Search.{labels, labelOf, nextStart}
+use Rattle.rules.specs.Search.{labels, labelOf}
 use Rattle.rules.proofs.Appended.{wrote-none, length-wrote-at}
 use Rattle.pairs.specs.Layout.{Layout, P}
 use Rattle.table.specs.Table.{waysOf, placeBy, placeAt, placesIn, codeAt, firstAt}
@@ -18,9 +18,7 @@ use Rattle.pairs.specs.Step.{placeIn, pairIn, stack}
 use Rattle.pairs.specs.State.{takes, Onto, Linked, Word}
 use Rattle.pairs.proofs.Ways.{in-length, in-at}
 use Rattle.pairs.proofs.Trails.{word-place}
-use Rattle.matches.specs.Asked.{labelsOn, toNext}
-use Rattle.matches.specs.declared.Skip.{Skip}
-use Rattle.matches.specs.declared.Skip.the-variants.{PastLastRow, ToNextRow}
+use Rattle.matches.specs.Asked.{labelsOn}
 use Rattle.matches.specs.Found.{ifLetter, labelBy, OneMore, PutsLabel, Labels}
 
 -- ---- one label
@@ -231,28 +229,3 @@ module _ (T : Layout) (trail d : List ℕ) (top₁ fin : ℕ) where
             end = f .1 ∙ u .end;
             up = up-is;
           }
-
--- ---- the next start
-
-module _ (skip : Skip) (row behind : ℕ) where
-  pub next-one : skip ≡ ToNextRow → row + 1 ≡ nextStart (toNext skip) row behind
-  unfolding nextStart toNext
-  next-one e = rw e (omega arith)
-
-  pub next-behind : skip ≡ PastLastRow → row < behind → behind ≡ nextStart (toNext skip) row behind
-  unfolding nextStart toNext
-  next-behind e h = rw (e, lt-ltb row behind h)
-
-  pub next-up : skip ≡ PastLastRow → behind ≤ row → row + 1 ≡ nextStart (toNext skip) row behind
-  unfolding nextStart toNext
-  next-up e h = rw (e, le-ltb row behind h) (omega arith)
-
--- ---- the skip mode
-
-pub skip-next : (mode : ℕ) → mode ≡ 1 → toNext ToNextRow ≡ eqb mode 1
-unfolding toNext
-skip-next mode e = rw e
-
-pub skip-past : (mode : ℕ) → (mode ≡ 1 → ⊥) → toNext PastLastRow ≡ eqb mode 1
-unfolding toNext
-skip-past mode d = rw (ne-eqb mode 1 d)

@@ -2,7 +2,7 @@
 use mathlib.Core.Path.{_≡_, refl, sym, ap, _∙_, subst}
 use mathlib.Core.List.{List, [], _∷_, _++_, reverseAux}
 use mathlib.Core.Bool.{Bool, true, false}
-use mathlib.Core.Option.{some}
+use mathlib.Core.Option.{Option, some}
 use Prim.Native.Nat.{ℕ, zero, suc, _+_, _-_, _*_, _/_, _%_, _≤_, _<_}
 use native.Mathlib.Nat.{add-zero, mul-le-mul, mul-le-mul-right, le-trans}
 use native.Mathlib.Omega.{arith}
@@ -14,7 +14,7 @@ use Rattle.rules.specs.Basics.{wrote}
 use Rattle.rules.specs.Query as Q
 use Rattle.rules.specs.Report.{fits, matchNumbers}
 use Rattle.rules.specs.Rows.{tableOf}
-use Rattle.rules.specs.Search.{labels, lastOf, endOf, nextStart}
+use Rattle.rules.specs.Search.{Skip, labels, lastOf, endOf, nextStart}
 use Rattle.rules.proofs.Appended.{length-wrote-at, fits-room}
 use Rattle.rules.proofs.Lists.{length-tabulate}
 use Rattle.table.specs.Measures.{measuresIn}
@@ -28,9 +28,21 @@ use Rattle.pairs.proofs.Ways.{in-length, by-high}
 use Rattle.pairs.proofs.Trails.{path-top, path-linked, path-row, path-at}
 use Rattle.matches.specs.declared.Sweep.{Sweep}
 use Rattle.matches.specs.declared.Task.{Task}
-use Rattle.matches.specs.Asked.{askedOf, toNext, pathOn, labelsOn}
-use Rattle.matches.specs.Found.{Labels, Told, Reports}
+use Rattle.skips.specs.Skips.{skipIn, startIn}
+use Rattle.skips.specs.declared.Next.{Next}
+use Rattle.skips.specs.declared.Next.the-variants.{Start, Nowhere}
+use Rattle.matches.specs.Asked.{askedOf, pathOn, labelsOn}
+use Rattle.matches.specs.Found.{Labels, swept, sweptOn, Told, Reports}
 use Rattle.matches.proofs.Labelled.{Ends, rows-taken}
+
+-- behind a match that is written
+pub on-nowhere : (next : Next) (n m l s : ℕ) → next ≡ Nowhere → swept 15 n m l s ≡ sweptOn (startIn next) n m l s
+unfolding startIn
+on-nowhere next n m l s e = rw e
+
+pub on-start : (next : Next) (row n m l s : ℕ) → next ≡ Start row → swept 0 row m l s ≡ sweptOn (startIn next) n m l s
+unfolding startIn
+on-start next row n m l s e = rw e
 
 -- the last pair of a path
 last-up : (d x : ℕ) (p xs : List ℕ) → lastOf d (reverseAux xs (x ∷ p)) ≡ lastOf x p
@@ -165,21 +177,31 @@ module _ (W : List ℕ) (rows : List ℤ) (task : Task) (trail labs : List ℕ) 
               placed = omega arith;
             })
 
-        next-is : (mode : Bool) → nextStart mode (i .row) (endOf (length (placesIn (T .words) (P T))) p) ≡ nextStart mode (i .row) (w .row)
-        next-is mode =
-            let l : lastOf 0 p ≡ pairOf w = ap (λ (s : List ℕ). lastOf 0 (reverseAux s [])) stack-is ∙ last-up 0 (pairOf w) [] (stack (P T) trail (w .top - 1)) in
-            ap (nextStart mode (i .row)) (rw (l, in-length (T .words) (P T)) (path-row T trail w (h .path) (h .going)))
+        -- all that the next start is computed from is small
+        pub tell-next : (i .row ≤ 4096) × (w .row ≤ 4096) × (length (take (i .labels + taken - i .labels) (drop (i .labels) labs′)) ≤ 4096)
+        tell-next =
+            let b = h .behind in
+            let e = h .row in
+            let f = h .measured .few-rows in
+            let r = rows-are in
+            rw part-is (omega arith, omega arith, omega arith)
 
-        pub tell-fits : (numbers numbers′ : List ℤ) (nx : ℕ) → nums ≡ length numbers
+        next-is : (skip : Skip) → nextStart skip (i .row) (endOf (length (placesIn (T .words) (P T))) p) ls ≡ nextStart skip (i .row) (w .row) ls
+        next-is skip =
+            let l : lastOf 0 p ≡ pairOf w = ap (λ (s : List ℕ). lastOf 0 (reverseAux s [])) stack-is ∙ last-up 0 (pairOf w) [] (stack (P T) trail (w .top - 1)) in
+            ap (λ (j : ℕ). nextStart skip (i .row) j ls) (rw (l, in-length (T .words) (P T)) (path-row T trail w (h .path) (h .going)))
+
+        pub tell-fits : (numbers numbers′ : List ℤ) (nx : Next) (o : Sweep) → nums ≡ length numbers
             → numbers′ ≡ wrote numbers (i .matches * (3 + 2 * count)) (matchNumbers (tableOf columns rows) ms (i .matches + 1) (i .row) (take (i .labels + taken - i .labels) (drop (i .labels) labs′)))
-            → nx ≡ nextStart (toNext (task .skip)) (i .row) (w .row)
-            → Told (askedOf W rows task) (some p) i (w .steps) numbers numbers′ labs labs′
-            (record { end = 0; row = nx; matches = i .matches + 1; labels = i .labels + taken; steps = w .steps })
-        tell-fits numbers numbers′ nx en e ex =
+            → startIn nx ≡ nextStart (skipIn (task .skip)) (i .row) (w .row) (take (i .labels + taken - i .labels) (drop (i .labels) labs′))
+            → o ≡ sweptOn (startIn nx) n (i .matches + 1) (i .labels + taken) (w .steps)
+            → Told (askedOf W rows task) (some p) i (w .steps) numbers numbers′ labs labs′ o
+        tell-fits numbers numbers′ nx o en e ex eo =
+            let s : startIn nx ≡ nextStart (skipIn (task .skip)) (i .row) (endOf (length (placesIn (T .words) (P T))) p) ls = (rw part-is at ex) ∙ sym (next-is (skipIn (task .skip))) in
             rw (← en, sym fits-is ∙ et) (record {
               numbers-is = rw (measures-count W (task .measures) count) (rw part-is at e);
               labels-is = written;
-              sweep-is = rw (taken-is, next-is (toNext (task .skip)), ex);
+              sweep-is = eo ∙ ap (λ (x : Option ℕ). sweptOn x n (i .matches + 1) (i .labels + taken) (w .steps)) s ∙ rw taken-is;
             })
 
     pub tell-full : (numbers : List ℤ) → nums ≡ length numbers → r ≡ false

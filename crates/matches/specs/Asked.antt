@@ -1,5 +1,5 @@
 -- What a search is over, and the search that the definition makes of it.
-use mathlib.Core.Bool.{Bool, true, false}
+use mathlib.Core.Bool.{Bool}
 use mathlib.Core.List.{List, [], reverseAux}
 use Prim.Native.Nat.{ℕ, _+_, _*_}
 use lib.IntN.{ℤ}
@@ -8,36 +8,30 @@ use Rattle.rules.specs.Places.{Place}
 use Rattle.rules.specs.Query.{Measure}
 use Rattle.rules.specs.Report.{fits}
 use Rattle.rules.specs.Rows.{Table, tableOf}
-use Rattle.rules.specs.Search.{Swept, Kept, labels, walkSearch}
+use Rattle.rules.specs.Search.{Skip, Swept, Kept, labels, walkSearch}
 use Rattle.pairs.specs.Step.{stack}
 use Rattle.pairs.specs.Layout.{Layout, P, layoutOf, lettersOf}
+use Rattle.skips.specs.Skips.{skipIn}
 use Rattle.table.specs.Table.{placesIn}
 use Rattle.table.specs.Measures.{measuresIn}
 use Rattle.matches.specs.declared.Task.{Task}
-use Rattle.matches.specs.declared.Skip.{Skip}
-use Rattle.matches.specs.declared.Skip.the-variants.{PastLastRow, ToNextRow}
 
--- the skip mode as the rules have it: whether the search goes on at the next row
-unfoldable pub toNext : Skip → Bool
-toNext PastLastRow = false
-toNext ToNextRow = true
-
--- the layout of the places, when a letter holds at a row, the number of rows, the skip mode (to the next row), the rows, and the measures
+-- the layout of the places, when a letter holds at a row, the number of rows, the skip mode, the rows, and the measures
 pub record Asked : Type 0 where
   pub layout : Layout
   pub holds : ℕ → ℕ → Bool
   pub n : ℕ
-  pub mode : Bool
+  pub skip : Skip
   pub rows : Table
   pub measures : List Measure
 
-abbrev pub asked : Layout → (ℕ → ℕ → Bool) → ℕ → Bool → Table → List Measure → Asked
-asked T holds n mode rows ms = record { layout = T; holds = holds; n = n; mode = mode; rows = rows; measures = ms }
+abbrev pub asked : Layout → (ℕ → ℕ → Bool) → ℕ → Skip → Table → List Measure → Asked
+asked T holds n skip rows ms = record { layout = T; holds = holds; n = n; skip = skip; rows = rows; measures = ms }
 
 -- what a prepared query asks of rows, by its table T and its task
 abbrev pub askedOf : List ℕ → List ℤ → Task → Asked
 askedOf T rows task =
-    asked (layoutOf T (task .size)) (lettersOf T rows (task .size)) (task .size .rows) (toNext (task .skip)) (tableOf (task .size .columns) rows) (measuresIn T (task .measures) (task .count))
+    asked (layoutOf T (task .size)) (lettersOf T rows (task .size)) (task .size .rows) (skipIn (task .skip)) (tableOf (task .size .columns) rows) (measuresIn T (task .measures) (task .count))
 
 abbrev pub pl : Asked → List Place
 pl A = placesIn (A .layout .words) (P (A .layout))
@@ -49,7 +43,7 @@ width A = 3 + 2 * length (A .measures)
 -- the search by the counted walk, for so many report numbers and label bytes
 unfoldable pub searchOf : Asked → ℕ → ℕ → Swept Kept
 unfolding walkSearch placesIn fits
-searchOf A nums labs = walkSearch (A .holds) (A .n) (pl A) (A .mode) (fits nums labs (A .measures))
+searchOf A nums labs = walkSearch (A .holds) (A .n) (pl A) (A .skip) (fits nums labs (A .measures))
 
 -- the path on the trail where there are P places, from its first pair to its last, and its labels
 abbrev pub pathOn : ℕ → List ℕ → ℕ → List ℕ

@@ -54,6 +54,11 @@ pub record Labels (T : Layout) (trail labs : List ℕ) (top end : ℕ) : Type 0 
 abbrev pub swept : ℕ → ℕ → ℕ → ℕ → ℕ → Sweep
 swept end row m l s = record { end = end; row = row; matches = m; labels = l; steps = s }
 
+-- behind a match that is written the search goes on at its next start; where there is none it is over, with end 15
+abbrev pub sweptOn : Option ℕ → ℕ → ℕ → ℕ → ℕ → Sweep
+sweptOn (some row) n m l s = swept 0 row m l s
+sweptOn none n m l s = swept 15 n m l s
+
 pub record Quiet (numbers numbers′ : List ℤ) (labs labs′ : List ℕ) (r : Sweep) (to : Sweep) : Type 0 where
   pub numbers-is : numbers′ ≡ numbers
   pub labels-is : labs′ ≡ labs
@@ -64,10 +69,14 @@ pub record Written (A : Asked) (p : List ℕ) (i : Sweep) (numbers numbers′ : 
   pub labels-is : labs′ ≡ wrote labs (i .labels) (labels (pl A) p)
   pub sweep-is : r ≡ to
 
--- a path p found with s steps: its match is written and the search goes on, or it does not fit and the search is over
+-- the start that the match of a path p found at i names, where it names one
+abbrev pub nextAt : Asked → ℕ → List ℕ → Option ℕ
+nextAt A i p = nextStart (A .skip) i (endOf (length (pl A)) p) (labels (pl A) p)
+
+-- a path p found with s steps: its match is written and the search goes on where there is a next start, or it does not fit and the search is over
 abbrev pub ToldBy : Bool → Asked → List ℕ → Sweep → ℕ → List ℤ → List ℤ → List ℕ → List ℕ → Sweep → Type 0
 ToldBy true A p i s numbers numbers′ labs labs′ r =
-    Written A p i numbers numbers′ labs labs′ r (swept 0 (nextStart (A .mode) (i .row) (endOf (length (pl A)) p)) (i .matches + 1) (i .labels + length (labels (pl A) p)) s)
+    Written A p i numbers numbers′ labs labs′ r (sweptOn (nextAt A (i .row) p) (A .n) (i .matches + 1) (i .labels + length (labels (pl A) p)) s)
 ToldBy false A p i s numbers numbers′ labs labs′ r = Quiet numbers numbers′ labs labs′ r (swept 13 (A .n) (i .matches) (i .labels) s)
 
 abbrev pub Told : Asked → Option (List ℕ) → Sweep → ℕ → List ℤ → List ℤ → List ℕ → List ℕ → Sweep → Type 0

@@ -1,41 +1,26 @@
-// A match written into the report: its labels off the trail, its numbers, and whether it fits; and where the search goes on behind it.
+// A match written into the report: its labels off the trail, its numbers, and whether it fits; and how the search goes on behind it.
 use pairs::Walk;
 use pairs::open_at;
 use pairs::place_of;
 use report::Measures;
 use report::fits_whole;
 use report::put_match;
+use skips::Next;
+use skips::Skip;
+use skips::next_row;
 use table::Extent;
 use table::LETTERS;
 use table::code_at;
 ghost use mathlib.Core.Path.{_≡_};
-ghost use mathlib.Core.Bool.{Bool};
 ghost use mathlib.Core.Option.{some};
 ghost use Prim.Native.Nat.{ℕ, _+_, _-_, _<_};
-ghost use lib.Dec.{eqb};
 ghost use lib.ListN.{length};
 ghost use Rattle.rules.specs.Basics.{wrote};
-ghost use Rattle.rules.specs.Search.{nextStart};
 ghost use Rattle.table.specs.Table.{codeAt};
 ghost use Rattle.pairs.specs.Layout.{layout};
-ghost use Rattle.matches.specs.Asked.{askedOf, labelsOn, pathOn, toNext};
-ghost use Rattle.matches.specs.Found.{OneMore, PutsLabel, Labels, Told, Reports};
-
-// Where the search goes on behind a match with rows: behind its last row, or one row behind its first.
-pub enum Skip {
-    PastLastRow,
-    ToNextRow,
-}
-
-// The skip mode of a query's record: 1 is to the next row.
-pub fn skip_of(mode: usize) -> Skip
-    ensures { λ r. ⌜ toNext r ≡ eqb mode 1 ⌝ }
-{
-    if mode == 1 {
-        return Skip::ToNextRow;
-    }
-    Skip::PastLastRow
-}
+ghost use Rattle.skips.specs.Skips.{startIn};
+ghost use Rattle.matches.specs.Asked.{askedOf, labelsOn, pathOn};
+ghost use Rattle.matches.specs.Found.{OneMore, PutsLabel, Labels, sweptOn, Told, Reports};
 
 // What a search is asked beside its table: its extent, the word of the table at which the measures begin, how many they are, and where it goes on behind a match.
 pub struct Task {
@@ -55,10 +40,12 @@ pub struct Sweep {
     pub steps: usize,
 }
 
-// How a search ends, by the answer of document 01: it is done, or the next match does not fit.
+// How a search ends, by its answer: it is done, the next match does not fit, or the match written last names no start to go on at.
 pub const DONE: usize = 0;
 
 pub const FULL: usize = 13;
+
+pub const STUCK: usize = 15;
 
 // A code of a letter as its label.
 fn label_of(c: usize) -> u8
@@ -101,18 +88,30 @@ fn put_labels(
     }
 }
 
-// Where the next attempt begins behind a match of the rows from `row` to below `behind`; one row on where it has none.
-fn next_row(skip: Skip, row: usize, behind: usize) -> usize
-    requires { ⌜ row + 1 < 18446744073709551616 ⌝ }
-    ensures { λ r. ⌜ r ≡ nextStart (toNext skip) row behind ⌝ }
+// What a search has come to behind a match that is written: it goes on at the next start, or is
+// over where the match names none.
+fn behind_match(next: Next, rows: usize, matches: usize, labels: usize, steps: usize) -> Sweep
+    ensures { λ r. ⌜ r ≡ sweptOn (startIn next) rows matches labels steps ⌝ }
 {
-    match skip {
-        Skip::ToNextRow => row + 1,
-        Skip::PastLastRow => { if row < behind { behind } else { row + 1 } }
+    let Next::Start(row) = next else {
+        return Sweep {
+            end: STUCK,
+            row: rows,
+            matches,
+            labels,
+            steps,
+        };
+    };
+    Sweep {
+        end: DONE,
+        row,
+        matches,
+        labels,
+        steps,
     }
 }
 
-// A path is on the trail: its match is written if it fits whole, and the search goes on; else the search is over.
+// A path is on the trail: its match is written if it fits whole, and the search goes on where the skip mode says; else the search is over.
 pub fn write_match(
     table: &[u16],
     rows: &[i32],
@@ -142,6 +141,7 @@ pub fn write_match(
             count,
             columns: size.columns,
         };
+        let written = &labels[l..end];
         put_match(
             numbers,
             m * (3 + 2 * count),
@@ -150,15 +150,10 @@ pub fn write_match(
             measures,
             rows,
             row,
-            &labels[l..end],
+            written,
         );
-        return Sweep {
-            end: DONE,
-            row: next_row(skip, row, behind),
-            matches: m + 1,
-            labels: end,
-            steps: w.steps,
-        };
+        let next = next_row(skip, row, behind, written);
+        return behind_match(next, size.rows, m + 1, end, w.steps);
     }
     Sweep {
         end: FULL,

@@ -137,7 +137,7 @@ module _ (s nodes defines measures : List ℕ) (q : Query) (T₀ : List ℕ) (f 
             (λ k h. rw (f .whole .good .columns) (f .whole .decoded .fit k (rw (f .whole .good .measured) at h))))
 
         pub fill-ready : (p : Prepared)
-            → p ≡ record { answer = 0; offset = 0; places = q .places; columns = q .columns; count = q .measures; skip = q .skip } → Ready s T₃ p
+            → p ≡ record { answer = 0; offset = 0; places = q .places; columns = q .columns; count = q .measures; skip = q .skip; target = q .target } → Ready s T₃ p
         unfolding hasEmptyLoop
         fill-ready p e =
             rw e
@@ -159,6 +159,7 @@ module _ (s nodes defines measures : List ℕ) (q : Query) (T₀ : List ℕ) (f 
               count-few = fill-count;
               measurable = the-measures;
               skip-is = f .whole .good .skip ∙ f .whole .decoded .skip;
+              target-is = f .whole .good .target ∙ f .whole .decoded .target;
             })
 
 -- ---- the ways through `prepare_in`

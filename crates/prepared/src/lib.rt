@@ -20,7 +20,8 @@ ghost use Rattle.reading.specs.Reading.{Nodes};
 ghost use Rattle.prepared.specs.Ready.{measuresAt, testsAt, refusal, Sizing, needed, Fills, Ready, PreparedAs};
 
 // A prepared query beside its table: its answer, with the offset of 5 and 14; where that is 0, its
-// places, the columns of a row, how many measures it has, and the skip mode of its record.
+// places, the columns of a row, how many measures it has, the skip mode of its record, and the letter
+// that the skip names, 0 for none.
 #[repr(C)]
 pub struct Prepared {
     pub answer: usize,
@@ -29,6 +30,7 @@ pub struct Prepared {
     pub columns: usize,
     pub count: usize,
     pub skip: usize,
+    pub target: usize,
 }
 
 // No answer of document 01: the table has too few words for the query, or more than 65,535.
@@ -73,6 +75,7 @@ fn not_prepared(answer: usize, offset: usize) -> Prepared
         columns: 0,
         count: 0,
         skip: 0,
+        target: 0,
     }
 }
 
@@ -124,6 +127,7 @@ fn fill(
         columns,
         count,
         skip: q.skip,
+        target: q.target,
     }
 }
 

@@ -1,6 +1,6 @@
 -- A query with no answer 1 to 3 read in its order: which kind the next record has, what its fields are, and that the rest is again in order (`Ahead`).
 use mathlib.Core.Path.{_≡_, refl, sym, ap, _∙_}
-use mathlib.Core.Bool.{Bool, true, false, _&&_}
+use mathlib.Core.Bool.{Bool, true, false, _&&_, _||_}
 use mathlib.Core.List.{List, [], _∷_}
 use Prim.Native.Nat.{ℕ, zero, suc, _+_, _*_, _-_, _≤_, _<_}
 use native.Mathlib.Omega.{arith}
@@ -135,6 +135,18 @@ module _ (s : List ℕ) (a l at : ℕ) (h : Ahead s a l at) where
 
 -- ---- what the fields of a kind are
 
+-- the two bytes of a skip
+two-bytes : (x y : ℕ) → pick (leb x 1) (eqb y 0) (leb x 3 && isLetter y) ≡ true → (x ≤ 3) × ((eqb y 0 || isLetter y) ≡ true)
+two-bytes x y e = go (leb x 1) refl e
+  where
+    or-so : (a b : Bool) → b ≡ true → (a || b) ≡ true
+    or-so true b q = refl
+    or-so false b q = q
+
+    go : (t : Bool) → leb x 1 ≡ t → pick t (eqb y 0) (leb x 3 && isLetter y) ≡ true → (x ≤ 3) × ((eqb y 0 || isLetter y) ≡ true)
+    go true d q = (let w = leb-true x 1 d in omega arith, ap (λ (a : Bool). a || isLetter y) q)
+    go false d q = (leb-true x 3 (and-left (leb x 3) (isLetter y) q), or-so (eqb y 0) (isLetter y) (and-right (leb x 3) (isLetter y) q))
+
 module _ (s : List ℕ) (columns k b m : ℕ) (e : recordFits s columns (recordOf k b m) ≡ true) where
   pub shape-says : k ≡ 1 → (m ≡ 2) × (1 ≤ getD s b 0) × (getD s b 0 ≤ 8)
   unfolding recordFits shapeFits inRange field
@@ -150,13 +162,16 @@ module _ (s : List ℕ) (columns k b m : ℕ) (e : recordFits s columns (recordO
   unfolding recordFits textFits
   text-says h = leb-true m 256 (simp (ne-eqb k 1 (λ w. omega arith), eq-eqb k 2 h) at e)
 
-  pub skip-says : k ≡ 4 → (m ≡ 2) × (getD s b 0 ≤ 1)
+  -- the mode is at most 3, and the byte behind it 0 or a letter
+  pub skip-says : k ≡ 4 → (m ≡ 2) × (getD s b 0 ≤ 3) × ((eqb (getD s (b + 1) 0) 0 || isLetter (getD s (b + 1) 0)) ≡ true)
   unfolding recordFits skipFits field
   skip-says h =
-      let f : (eqb m 2 && (leb (getD s (b + 0) 0) 1 && eqb (getD s (b + 1) 0) 0)) ≡ true = simp (ne-eqb k 1 (λ w. omega arith), ne-eqb k 2 (λ w. omega arith), ne-eqb k 3 (λ w. omega arith), eq-eqb k 4 h) at e in
+      let f : (eqb m 2 && pick (leb (getD s (b + 0) 0) 1) (eqb (getD s (b + 1) 0) 0) (leb (getD s (b + 0) 0) 3 && isLetter (getD s (b + 1) 0))) ≡ true =
+      simp (ne-eqb k 1 (λ w. omega arith), ne-eqb k 2 (λ w. omega arith), ne-eqb k 3 (λ w. omega arith), eq-eqb k 4 h) at e in
       let z : getD s (b + 0) 0 ≡ getD s b 0 = ap (λ (i : ℕ). getD s i 0) (let y : b + 0 ≡ b = omega arith in y) in
-      let v = leb-true (getD s (b + 0) 0) 1 (and-left _ _ (and-right (eqb m 2) _ f)) in
-      (eqb-true m 2 (and-left (eqb m 2) _ f), omega arith)
+      let v = two-bytes (getD s (b + 0) 0) (getD s (b + 1) 0) (and-right (eqb m 2) _ f) in
+      let u = v .0 in
+      (eqb-true m 2 (and-left (eqb m 2) _ f), omega arith, v .1)
 
   pub measure-says : k ≡ 5 → (m ≡ 4) × (functionFits columns (getD s b 0) (getD s (b + 1) 0) (getD s (b + 2) 0) ≡ true)
   unfolding recordFits measureFits field

@@ -7,14 +7,14 @@ use lib.ListN.{length, take, drop, length-take, length-drop}
 use native.Mathlib.Nat.{not-suc-le-zero}
 use native.Mathlib.Numerals.{add-one}
 use native.Mathlib.Omega.{arith}
-use lib.Dec.{eqb, ltb}
+use lib.Dec.{eqb, ltb, leb}
 use lib.IntN.{ℤ}
-use borrow.Author.Tests.{ltb-true, ltb-false, lt-ltb, le-ltb, ne-eqb, not-true, not-false}
+use borrow.Author.Tests.{ltb-true, ltb-false, lt-ltb, le-ltb, ne-eqb, eqb-true, leb-true, not-true, not-false}
 use mathlib.Core.Option.{some}
 use Rattle.rules.specs.Basics.{pick, inRange, isLetter, every, has, tabulate}
 use Rattle.rules.specs.Query.{Measure, functionFits, cut, misplaced, unfit, doubled, columnsOf, textOf, parts}
 use Rattle.rules.specs.Language.{Tree, pattern, letters, Written}
-use Rattle.rules.specs.Answers.{tooDeep, treeIn, wrong, unfinished, hasEmptyLoop, tooMany, P, lettersIn, foreign, Test, firstOf, refuses, queryTests, offsetAt, badRows, roomAnswer, roomOf}
+use Rattle.rules.specs.Answers.{tooDeep, treeIn, wrong, unfinished, hasEmptyLoop, tooMany, P, lettersIn, isForeign, foreign, Test, firstOf, refuses, queryTests, offsetAt, badRows, roomAnswer, roomOf}
 use Rattle.rules.specs.Answers as A
 use Rattle.rules.specs.Rows.{tableOf}
 use Rattle.rules.proofs.Accepted.{tree-of, query-tests-refuse}
@@ -101,15 +101,16 @@ module _ (text measures : List ℕ) (count : ℕ) where
       let t : knownIn text (measureIn measures 0 k .letter) ≡ true = ap (λ (m : Measure). knownIn text (m .letter)) (sym e) ∙ sym q ∙ not-false r d in
       record { within = omega arith; is = rw (add-one, every-more (λ (m : Measure). knownIn text (m .letter)) (measureIn measures 0) k, i .is) t }
 
-  pub known-stop : (k : ℕ) (m : Measure) (r : Bool) → k < count → m ≡ measureIn measures 0 k → r ≡ knownIn text (m .letter) → not r ≡ true → true ≡ foreignIn text measures count
+  pub known-stop : (k : ℕ) (m : Measure) (r : Bool) → k < count → m ≡ measureIn measures 0 k → r ≡ knownIn text (m .letter) → not r ≡ true → (target : ℕ) → true ≡ foreignIn text measures count target
   unfolding foreignIn measuresIn
-  known-stop k m r h e q d =
+  known-stop k m r h e q d target =
       let z : knownIn text (measureIn measures 0 k .letter) ≡ false = ap (λ (m : Measure). knownIn text (m .letter)) (sym e) ∙ sym q ∙ not-true r d in
       rw (every-stop (λ (m : Measure). knownIn text (m .letter)) (measureIn measures 0) count k h z)
 
-  pub known-all : (k : ℕ) → Known text measures count k → count ≤ k → false ≡ foreignIn text measures count
+  -- behind the measures the letter that the skip names decides
+  pub known-all : (k : ℕ) → Known text measures count k → count ≤ k → (target : ℕ) (r : Bool) → r ≡ knownIn text target → not r ≡ foreignIn text measures count target
   unfolding foreignIn
-  known-all k i h = let e : count ≡ k = omega (arith, i .within) in rw (e, i .is)
+  known-all k i h target r q = let e : count ≡ k = omega (arith, i .within) in rw (e, i .is, q)
 
 -- ---- the answer from its parts
 
@@ -199,16 +200,35 @@ letter-known p text l w e = rw (letters-of-text w l) (go (eqb l 0) (isLetter l) 
     go false true c q = refl
     go false false c q = clash q
 
+twice-not : (t : Bool) → not (not t) ≡ t
+twice-not true = refl
+twice-not false = refl
+
+-- one letter by the text
+foreign-one : (s : List ℕ) (p : Tree pattern) → treeIn s ≡ some p → (l : ℕ) → (eqb l 0 || isLetter l) ≡ true → isForeign s l ≡ not (knownIn (textOf s) l)
+unfolding isForeign lettersIn treeIn
+foreign-one s p e l h = rw e (ap not (letter-known p (textOf s) l (tree-exactly (textOf s) p .0 e) h))
+
 -- answer 9 by the text
-pub foreign-is : (s measures : List ℕ) (count columns : ℕ) (p : Tree pattern) → treeIn s ≡ some p → ((k : ℕ) → k < count → Fits columns (measureIn measures 0 k))
-    → measuresIn measures 0 count ≡ parts s .measures → foreign s ≡ foreignIn (textOf s) measures count
-unfolding foreign foreignIn lettersIn treeIn measuresIn
-foreign-is s measures count columns p e f q =
-    let w : Written p (textOf s) = tree-exactly (textOf s) p .0 e in
-    rw (e, ← q) (ap not (every-same (λ (m : Measure). eqb (m .letter) 0 || has (m .letter) (letters p)) (λ (m : Measure). knownIn (textOf s) (m .letter)) (measureIn measures 0) count
-    (λ k l. letter-known p (textOf s) (measureIn measures 0 k .letter) w (letter-fits columns (measureIn measures 0 k .function) (measureIn measures 0 k .letter) (measureIn measures 0 k .column) (f k l)))))
+pub foreign-is : (s measures : List ℕ) (count columns target : ℕ) (p : Tree pattern) → treeIn s ≡ some p → ((k : ℕ) → k < count → Fits columns (measureIn measures 0 k))
+    → measuresIn measures 0 count ≡ parts s .measures → target ≡ parts s .skipLetter → (eqb target 0 || isLetter target) ≡ true → foreign s ≡ foreignIn (textOf s) measures count target
+unfolding foreign foreignIn measuresIn
+foreign-is s measures count columns target p e f q g h =
+    let one : (l : ℕ) → (eqb l 0 || isLetter l) ≡ true → not (isForeign s l) ≡ knownIn (textOf s) l = λ l i. ap not (foreign-one s p e l i) ∙ twice-not (knownIn (textOf s) l) in
+    rw (← q, ← g) (ap₂ (λ (a b : Bool). not a || b) (every-same (λ (m : Measure). not (isForeign s (m .letter))) (λ (m : Measure). knownIn (textOf s) (m .letter)) (measureIn measures 0) count
+    (λ k l. one (measureIn measures 0 k .letter) (letter-fits columns (measureIn measures 0 k .function) (measureIn measures 0 k .letter) (measureIn measures 0 k .column) (f k l))))
+    (foreign-one s p e target h))
 
 -- ---- judging the parts
+
+-- the letter that the skip names is a byte
+pub target-byte : (s room measures : List ℕ) (p : Parts) → JudgeRoom s room measures p → p .target < 256
+unfolding isLetter inRange
+target-byte s room measures p j = by (eqb (p .target) 0) refl (j .lettered)
+  where
+    by : (t : Bool) → eqb (p .target) 0 ≡ t → (t || isLetter (p .target)) ≡ true → p .target < 256
+    by true d e = let z = eqb-true (p .target) 0 d in omega arith
+    by false d e = let z = leb-true (p .target) 90 (and-right (leb 65 (p .target)) (leb (p .target) 90) e) in omega arith
 
 module _ (s room room′ measures : List ℕ) (p : Parts) (j : JudgeRoom s room measures p) (e : ℕ) (v : Verdict) (i : e ≡ p .start + p .len)
     (g : Judging (take (e - p .start) (drop (p .start) s)) room room′ v) where
@@ -240,23 +260,23 @@ module _ (s room room′ measures : List ℕ) (p : Parts) (j : JudgeRoom s room 
     tree-is : (t : Tree pattern) × (treeIn s ≡ some t)
     tree-is = has-tree s (sym the-answer ∙ z)
 
-    foreign-by : foreign s ≡ foreignIn (take (e - p .start) (drop (p .start) s)) measures (p .measures)
+    foreign-by : foreign s ≡ foreignIn (take (e - p .start) (drop (p .start) s)) measures (p .measures) (p .target)
     foreign-by =
-        foreign-is s measures (p .measures) (p .columns) (tree-is .0) (tree-is .1) (j .fit) (j .measured)
-        ∙ ap (λ (t : List ℕ). foreignIn t measures (p .measures)) (sym the-text)
+        foreign-is s measures (p .measures) (p .columns) (p .target) (tree-is .0) (tree-is .1) (j .fit) (j .measured) (j .target) (j .lettered)
+        ∙ ap (λ (t : List ℕ). foreignIn t measures (p .measures) (p .target)) (sym the-text)
 
-    both : (u : Bool) → p .twice ≡ false → u ≡ foreignIn (take (e - p .start) (drop (p .start) s)) measures (p .measures) → queryAnswer s ≡ pick u 9 0
+    both : (u : Bool) → p .twice ≡ false → u ≡ foreignIn (take (e - p .start) (drop (p .start) s)) measures (p .measures) (p .target) → queryAnswer s ≡ pick u 9 0
     both u d f = parts-answer ∙ ap (λ (x : Bool). pick x 8 (pick (foreign s) 9 0)) (sym (j .doubled) ∙ d) ∙ ap (λ (x : Bool). pick x 9 0) (foreign-by ∙ sym f)
 
     -- answer 9
-    pub measures-answer : (r : Query) (u : Bool) → p .twice ≡ false → u ≡ foreignIn (take (e - p .start) (drop (p .start) s)) measures (p .measures) → u ≡ true
+    pub letters-answer : (r : Query) (u : Bool) → p .twice ≡ false → u ≡ foreignIn (take (e - p .start) (drop (p .start) s)) measures (p .measures) (p .target) → u ≡ true
         → r ≡ refusal 9 0 → JudgedParts s room′ measures p r
     unfolding offsetAt
-    measures-answer r u d f y b = refused-is 9 0 r (λ x. omega arith) (sym (both u d f ∙ ap (λ (x : Bool). pick x 9 0) y)) refl b
+    letters-answer r u d f y b = refused-is 9 0 r (λ x. omega arith) (sym (both u d f ∙ ap (λ (x : Bool). pick x 9 0) y)) refl b
 
     -- none of them
-    pub no-answer : (u : Bool) → p .twice ≡ false → u ≡ foreignIn (take (e - p .start) (drop (p .start) s)) measures (p .measures) → u ≡ false
-        → JudgedParts s room′ measures p (record { answer = 0; offset = 0; places = v .places; top = v .top; columns = p .columns; skip = p .skip; measures = p .measures; letters = p .letters })
+    pub no-answer : (u : Bool) → p .twice ≡ false → u ≡ foreignIn (take (e - p .start) (drop (p .start) s)) measures (p .measures) (p .target) → u ≡ false
+        → JudgedParts s room′ measures p (record { answer = 0; offset = 0; places = v .places; top = v .top; columns = p .columns; skip = p .skip; target = p .target; measures = p .measures; letters = p .letters })
     unfolding treeIn offsetAt
     no-answer u d f y =
         record {
@@ -270,6 +290,7 @@ module _ (s room room′ measures : List ℕ) (p : Parts) (j : JudgeRoom s room 
                 top = g .top z (tree-is .0) (ap treeOf the-text ∙ tree-is .1);
                 columns = refl;
                 skip = refl;
+                target = refl;
                 measured = refl;
                 letters = refl;
               };
@@ -305,6 +326,8 @@ module _ (s measures₀ : List ℕ) where
         few = d .few;
         fit = d .fit;
         measured = d .measured;
+        target = d .target;
+        lettered = d .lettered;
         doubled = d .doubled;
         space = let i = d .inside in let q : length (textOf s) ≡ p .len = ap length (sym (d .text)) ∙ simp (length-take, length-drop) (omega arith) in omega (arith, l .enough (sym e ∙ z));
       }

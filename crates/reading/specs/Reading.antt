@@ -1,13 +1,13 @@
 -- What reading a query leaves: its answer 1 to 9 or 14 by the rules' tests, with its offset, and where it is 0 the pattern's tree in the lent words, and in the lent arrays where
 -- the DEFINE of each letter stands in the query and the measures (decode's specs/Layout says how); and how much to lend.
 use mathlib.Core.Path.{_≡_}
-use mathlib.Core.Bool.{Bool, not, _&&_, _||_}
+use mathlib.Core.Bool.{Bool, true, not, _&&_, _||_}
 use mathlib.Core.List.{List}
 use mathlib.Core.Option.{Option, some}
 use Prim.Native.Nat.{ℕ, _+_, _*_, _≤_, _<_}
 use lib.Dec.{eqb, leb}
 use lib.ListN.{length, take, drop}
-use Rattle.rules.specs.Basics.{every, has, le16}
+use Rattle.rules.specs.Basics.{isLetter, every, has, le16}
 use Rattle.rules.specs.Query.{Measure, doubled, textOf, parts}
 use Rattle.query.specs.Order.{firstAnswer}
 use Rattle.rules.specs.Language.{Tree, pattern}
@@ -21,14 +21,14 @@ use Rattle.decode.specs.declared.Parts.{Parts}
 use Rattle.reading.specs.declared.Query.{Query}
 use Rattle.reading.specs.declared.Size.{Size}
 
--- a measure's letter is 0, or stands in the text; some of the first `count` measures has one that does not
+-- a letter is 0, or stands in the text; some of the first `count` measures has one that does not, or the letter that the skip names does not
 unfoldable pub knownIn : List ℕ → ℕ → Bool
 unfolding has
 knownIn text letter = eqb letter 0 || has letter text
 
-unfoldable pub foreignIn : List ℕ → List ℕ → ℕ → Bool
+unfoldable pub foreignIn : List ℕ → List ℕ → ℕ → ℕ → Bool
 unfolding every knownIn measuresIn
-foreignIn text measures count = not (every (λ (m : Measure). knownIn text (m .letter)) (measuresIn measures 0 count))
+foreignIn text measures count target = not (every (λ (m : Measure). knownIn text (m .letter)) (measuresIn measures 0 count)) || not (knownIn text target)
 
 -- the answer 1 to 9 or 14 of a query, or 0
 unfoldable pub queryAnswer : List ℕ → ℕ
@@ -36,10 +36,10 @@ unfolding firstOf queryTests
 queryAnswer s = firstOf (queryTests s)
 
 abbrev pub refusal : ℕ → ℕ → Query
-refusal a k = record { answer = a; offset = k; places = 0; top = 0; columns = 0; skip = 0; measures = 0; letters = 0 }
+refusal a k = record { answer = a; offset = k; places = 0; top = 0; columns = 0; skip = 0; target = 0; measures = 0; letters = 0 }
 
--- what judging the parts asks: the query has no answer 1 to 3, the parts and measures are the query's, it is told whether two DEFINEs are for one letter,
--- and there is room for the tree
+-- what judging the parts asks: the query has no answer 1 to 3, the parts and measures are the query's, the letter that the skip names is 0 or A to Z, it is
+-- told whether two DEFINEs are for one letter, and there is room for the tree
 pub record JudgeRoom (s room measures : List ℕ) (p : Parts) : Type 0 where
   pub clean : firstAnswer s ≡ 0
   pub text : take (p .len) (drop (p .start) s) ≡ textOf s
@@ -48,6 +48,8 @@ pub record JudgeRoom (s room measures : List ℕ) (p : Parts) : Type 0 where
   pub few : p .measures ≤ 8
   pub fit : (k : ℕ) → k < p .measures → Fits (p .columns) (measureIn measures 0 k)
   pub measured : measuresIn measures 0 (p .measures) ≡ parts s .measures
+  pub target : p .target ≡ parts s .skipLetter
+  pub lettered : (eqb (p .target) 0 || isLetter (p .target)) ≡ true
   pub doubled : p .twice ≡ doubled s
   pub space : 16 * p .len ≤ length room
 
@@ -59,6 +61,7 @@ pub record GoodParts (s room : List ℕ) (p : Parts) (r : Query) : Type 0 where
   pub top : Top tree (r .top) room
   pub columns : r .columns ≡ p .columns
   pub skip : r .skip ≡ p .skip
+  pub target : r .target ≡ p .target
   pub measured : r .measures ≡ p .measures
   pub letters : r .letters ≡ p .letters
 

@@ -1,9 +1,10 @@
 // What reading a query comes to, letters that its pattern does not name, and how long its text is.
 ghost use mathlib.Core.Path.{_≡_};
-ghost use Prim.Native.Nat.{_≤_};
+ghost use Prim.Native.Nat.{_≤_, _<_};
 ghost use Rattle.reading.specs.Reading.{knownIn, foreignIn, refusal, shortText};
 
-// What a query asks: its answer 1 to 9 or 14, with the offset of 5 and 14, or 0; where it is 0, P, the top node of its pattern's tree, and its parts, with a number from which on no letter has a DEFINE.
+// What a query asks: its answer 1 to 9 or 14, with the offset of 5 and 14, or 0; where it is 0, P, the top node of its pattern's tree, and its parts, with
+// the letter that the skip names (0 for none) and a number from which on no letter has a DEFINE.
 pub struct Query {
     pub answer: usize,
     pub offset: usize,
@@ -11,6 +12,7 @@ pub struct Query {
     pub top: usize,
     pub columns: usize,
     pub skip: usize,
+    pub target: usize,
     pub measures: usize,
     pub letters: usize,
 }
@@ -23,7 +25,7 @@ pub struct Size {
     pub offset: usize,
 }
 
-// Whether a measure's letter stands in the pattern's text, or is 0 for all rows.
+// Whether the letter of a measure or of the skip stands in the pattern's text, or is 0: for all rows, or for none.
 fn is_known(text: &[u8], letter: u8) -> bool
     ensures { λ r. ⌜ r ≡ knownIn (now (text .entry)) letter ⌝ }
 {
@@ -33,10 +35,10 @@ fn is_known(text: &[u8], letter: u8) -> bool
     scan::has_byte(text, letter)
 }
 
-// Whether some measure's letter does not stand in the pattern's text.
-pub fn has_foreign(text: &[u8], measures: &[u8; 24], count: usize) -> bool
-    requires { ⌜ count ≤ 8 ⌝ }
-    ensures { λ r. ⌜ r ≡ foreignIn (now (text .entry)) (now (measures .entry)) count ⌝ }
+// Whether some measure's letter, or the letter that the skip names, does not stand in the pattern's text.
+pub fn has_foreign(text: &[u8], measures: &[u8; 24], count: usize, target: usize) -> bool
+    requires { ⌜ (count ≤ 8) × (target < 256) ⌝ }
+    ensures { λ r. ⌜ r ≡ foreignIn (now (text .entry)) (now (measures .entry)) count target ⌝ }
 {
     let mut k = 0;
     while k < count {
@@ -46,7 +48,8 @@ pub fn has_foreign(text: &[u8], measures: &[u8; 24], count: usize) -> bool
         }
         k += 1;
     }
-    false
+    let letter = target as u8;
+    !is_known(text, letter)
 }
 
 pub fn refused(answer: usize, offset: usize) -> Query
@@ -59,6 +62,7 @@ pub fn refused(answer: usize, offset: usize) -> Query
         top: 0,
         columns: 0,
         skip: 0,
+        target: 0,
         measures: 0,
         letters: 0,
     }

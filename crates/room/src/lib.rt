@@ -13,7 +13,7 @@ ghost use mathlib.Core.Path.{_≡_};
 ghost use Rattle.rules.specs.Answers.{roomOf};
 ghost use Rattle.reading.specs.Reading.{JudgeRoom, JudgedParts, Nodes, Space, Asked, asRoom};
 
-// The pattern of a query with no answer 1 to 3 judged, then its DEFINEs and measures: answers 4 to 9 and 14. Whether two DEFINEs are for one letter (8) was told
+// The pattern of a query with no answer 1 to 3 judged, then its DEFINEs, measures and skip: answers 4 to 9 and 14. Whether two DEFINEs are for one letter (8) was told
 // when the parts were decoded.
 fn judge_parts(s: &[u8], parts: Parts, room: &mut [u16], measures: &[u8; 24]) -> Query
     requires { ⌜ JudgeRoom (now s) (now room) (now measures) parts ⌝ }
@@ -29,7 +29,7 @@ fn judge_parts(s: &[u8], parts: Parts, room: &mut [u16], measures: &[u8; 24]) ->
     if parts.twice {
         return refused(8, 0);
     }
-    if has_foreign(&s[start..end], measures, parts.measures) {
+    if has_foreign(&s[start..end], measures, parts.measures, parts.target) {
         return refused(9, 0);
     }
     Query {
@@ -39,6 +39,7 @@ fn judge_parts(s: &[u8], parts: Parts, room: &mut [u16], measures: &[u8; 24]) ->
         top: v.top,
         columns: parts.columns,
         skip: parts.skip,
+        target: parts.target,
         measures: parts.measures,
         letters: parts.letters,
     }

@@ -6,10 +6,10 @@ use mathlib.Core.List.{List, [], _∷_, _++_}
 use mathlib.Core.Option.{Option, none, some}
 use Prim.Native.Nat.{ℕ, _%_, _≤_}
 use native.Mathlib.Omega.{arith}
-use lib.Dec.{ltb}
+use lib.Dec.{ltb, eqb}
 use lib.IntN.{ℤ}
 use lib.ListN.{length, getD}
-use borrow.Author.Tests.{le-leb, ltb-false, eqb-true}
+use borrow.Author.Tests.{le-leb, ltb-false, eqb-true, eqb-false}
 use Rattle.rules.specs.Basics.{pick, every}
 use Rattle.rules.specs.Rows.{tableOf}
 use Rattle.rules.specs.Query.{cut, misplaced, unfit, doubled, columnsOf, textOf}
@@ -17,20 +17,14 @@ use Rattle.rules.specs.Language.{Tree, pattern, emptyLoop}
 use Rattle.rules.specs.Places.{unroll, places, placesOf}
 use Rattle.rules.specs.Walk.{pairs}
 use Rattle.rules.specs.Report.{bytesFor}
-use Rattle.rules.specs.Answers.{placesIn, taskOf, tooDeep, treeIn, noTree, hasEmptyLoop, P, tooMany, foreign, badRows, Buffers, pairsOf, shortNotes, shortTrail, stopped, Test, wrong, unfinished, firstOf, refuses, queryTests, answerBy, walkOf, answerOf}
+use Rattle.rules.specs.Answers.{placesIn, taskOf, tooDeep, treeIn, noTree, hasEmptyLoop, P, tooMany, foreign, badRows, Buffers, pairsOf, shortNotes, shortTrail, endAnswer, Test, wrong, unfinished, firstOf, refuses, queryTests, refusal, answerBy, walkOf, answerOf}
 use Rattle.rules.proofs.Level.{or-false}
 use Rattle.rules.proofs.Stops.{tree-there}
-use Rattle.rules.proofs.FirstTrue.{allRefuse, first-after, none-before, none-true}
+use Rattle.rules.proofs.FirstTrue.{allRefuse, first-refuses, none-true}
 
--- the input is accepted: its answer is 0 or 13
+-- the input is accepted: its answer is none that refuses
 abbrev pub Accepted : List ℕ → List ℤ → Buffers → Type 0
 Accepted q rows lent = refuses (answerOf q rows lent) ≡ false
-
--- done is 0, and stopped is 13
-pub done-or-stopped : (s : Bool) → refuses (pick s 13 0) ≡ false
-unfolding refuses
-done-or-stopped true = refl
-done-or-stopped false = refl
 
 -- what holds of an accepted input
 pub record Granted (q : List ℕ) (rows : List ℤ) (lent : Buffers) : Type 0 where
@@ -72,14 +66,21 @@ module _ (q : List ℕ) (rows : List ℤ) (lent : Buffers) (ok : Accepted q rows
   unfolding allRefuse every refuses queryTests
   all-refuse = refl
 
-  none-refuses : firstOf refusals ≡ 0
-  unfolding answerOf answerBy queryTests
-  none-refuses = none-before refusals ((13, stopped (walkOf q rows lent)) ∷ []) all-refuse ok
+  refused-in : (r a : ℕ) → ((r ≡ 0 → ⊥) → refuses r ≡ true) → refuses (pick (eqb r 0) a r) ≡ false → r ≡ 0
+  refused-in r a h e = go (eqb r 0) refl e
+    where
+      go : (t : Bool) → eqb r 0 ≡ t → refuses (pick t a r) ≡ false → r ≡ 0
+      go true d e′ = eqb-true r 0 d
+      go false d e′ = absurd (true≢false (sym (h (eqb-false r 0 d)) ∙ e′))
 
-  -- the answer is 13 where the search is stopped, and 0 where it is done
-  pub answer-is : answerOf q rows lent ≡ pick (stopped (walkOf q rows lent)) 13 0
-  unfolding answerOf answerBy queryTests firstOf
-  answer-is = first-after refusals ((13, stopped (walkOf q rows lent)) ∷ []) all-refuse none-refuses
+  none-refuses : firstOf refusals ≡ 0
+  unfolding answerOf answerBy refusal queryTests
+  none-refuses = refused-in (firstOf refusals) (endAnswer (walkOf q rows lent .end)) (λ d. first-refuses refusals all-refuse d) ok
+
+  -- the answer is that of the search's end
+  pub answer-is : answerOf q rows lent ≡ endAnswer (walkOf q rows lent .end)
+  unfolding answerOf answerBy refusal
+  answer-is = rw none-refuses
 
   -- no test is true: those for answers 1 to 5, 14, 6 to 12, in this order
   pub granted : Granted q rows lent

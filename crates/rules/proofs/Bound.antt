@@ -4,13 +4,13 @@ use mathlib.Core.List.{List, [], _∷_, _++_}
 use mathlib.Core.Bool.{Bool, true, false, not}
 use mathlib.Core.Logic.{_≢_}
 use mathlib.Core.Option.{Option, none, some}
-use Prim.Native.Nat.{ℕ, zero, suc, _+_, _*_, _≤_, _<_, suc-le-suc}
+use Prim.Native.Nat.{ℕ, zero, suc, _+_, _*_, _≤_, _<_, max, suc-le-suc}
 use native.Mathlib.Nat.{le-trans}
 use native.Mathlib.Omega.{arith}
 use lib.ListN.{length, length-append}
 use lib.Dec.{ltb, eqb}
 use borrow.Author.Tests.{ltb-true, eqb-true, eqb-false, not-true}
-use Rattle.rules.specs.Search.{pathPairs, Match, Plan, below, byFit, onAnswer, sweep, foundIn, walkAt, plainAt, lastOf}
+use Rattle.rules.specs.Search.{pathPairs, Match, Plan, below, byFit, byNext, onAnswer, sweep, foundIn, walkAt, plainAt, lastOf}
 use Rattle.rules.specs.Walk.{IsPath, here, there, Ways, try, countTrue, orNext, firstOf, onto, plain, plainBy}
 use Rattle.rules.proofs.Plain.{plain-path, plain-down, Sound}
 use Rattle.rules.proofs.Swept.{Counted, walk-is-plain, walk-counted}
@@ -145,36 +145,42 @@ apart-append pos c (x ∷ xs) ys a b h i = (
 
 -- ---- the matches of a search, one behind the other
 
-abbrev pub Spaced : (ℕ → Ways) → ℕ → (ℕ → ℕ) → Plan → ℕ → List Match → Type 0
-Spaced ways K first plan i [] = Unit {0}
-Spaced ways K first plan i (m ∷ ms) =
-    (i ≤ m .start) × (m .start < plan .n) × (plain ways K (first (m .start)) ≡ some (m .path)) × Spaced ways K first plan (plan .next (m .start) (m .path)) ms
+-- each match is what plain backtracking finds at its start, and the next one starts at some j behind its start and not before its end
+abbrev pub Spaced : (ℕ → Ways) → ℕ → (ℕ → ℕ) → (ℕ → ℕ) → Plan → ℕ → List Match → Type 0
+Spaced ways K first pos plan i [] = Unit {0}
+Spaced ways K first pos plan i (m ∷ ms) =
+    (i ≤ m .start) × (m .start < plan .n) × (plain ways K (first (m .start)) ≡ some (m .path))
+    × ((j : ℕ) × (pos (lastOf 0 (m .path)) ≤ j) × (m .start < j) × Spaced ways K first pos plan j ms)
 
-module _ (ways : ℕ → Ways) (K : ℕ) (first : ℕ → ℕ) (plan : Plan) where
-  spaced-from : (i j : ℕ) → i ≤ j → (ms : List Match) → Spaced ways K first plan j ms → Spaced ways K first plan i ms
+module _ (ways : ℕ → Ways) (K : ℕ) (first pos : ℕ → ℕ) (plan : Plan) (past : (i : ℕ) (p : List ℕ) (j : ℕ) → plan .next i p ≡ some j → (pos (lastOf 0 p) ≤ j) × (i < j)) where
+  spaced-from : (i j : ℕ) → i ≤ j → (ms : List Match) → Spaced ways K first pos plan j ms → Spaced ways K first pos plan i ms
   spaced-from i j h [] a = tt
   spaced-from i j h (m ∷ ms) a = (le-trans h (a .0), a .1, a .2, a .3)
 
-  pub plain-spaced : (k i m l : ℕ) (st : Unit {0}) → Spaced ways K first plan i (foundIn (sweep (plainAt ways K first) plan k i m l st))
+  pub plain-spaced : (k i m l : ℕ) (st : Unit {0}) → Spaced ways K first pos plan i (foundIn (sweep (plainAt ways K first) plan k i m l st))
   unfolding sweep
   plain-spaced zero i m l st = tt
   plain-spaced (suc k) i m l st = go (plain-spaced k) (ltb i (plan .n)) refl
     where
-      fit : ((i m l : ℕ) (st : Unit {0}) → Spaced ways K first plan i (foundIn (sweep (plainAt ways K first) plan k i m l st)))
-          → i < plan .n → (p : List ℕ) → plain ways K (first i) ≡ some p → (t : Bool)
-          → Spaced ways K first plan i (foundIn (byFit t (record { start = i; path = p }) st (λ _. sweep (plainAt ways K first) plan k (plan .next i p) (suc m) (l + plan .rows p) st)))
-      fit ih h p e false = (omega arith, h, e, tt)
-      fit ih h p e true = (omega arith, h, e, ih (plan .next i p) (suc m) (l + plan .rows p) st)
+      alone : (p : List ℕ) → (j : ℕ) × (pos (lastOf 0 p) ≤ j) × (i < j) × Spaced ways K first pos plan j []
+      alone p = (max (pos (lastOf 0 p)) (suc i), omega arith, omega arith, tt)
 
-      on : ((i m l : ℕ) (st : Unit {0}) → Spaced ways K first plan i (foundIn (sweep (plainAt ways K first) plan k i m l st)))
+      fit : ((i m l : ℕ) (st : Unit {0}) → Spaced ways K first pos plan i (foundIn (sweep (plainAt ways K first) plan k i m l st)))
+          → i < plan .n → (p : List ℕ) → plain ways K (first i) ≡ some p → (o : Option ℕ) → plan .next i p ≡ o → (t : Bool)
+          → Spaced ways K first pos plan i (foundIn (byFit t (record { start = i; path = p }) st (λ _. byNext o st (λ j. sweep (plainAt ways K first) plan k j (suc m) (l + plan .rows p) st))))
+      fit ih h p e o d false = (omega arith, h, e, alone p)
+      fit ih h p e none d true = (omega arith, h, e, alone p)
+      fit ih h p e (some j) d true = let c = past i p j d in (omega arith, h, e, (j, c .0, c .1, ih j (suc m) (l + plan .rows p) st))
+
+      on : ((i m l : ℕ) (st : Unit {0}) → Spaced ways K first pos plan i (foundIn (sweep (plainAt ways K first) plan k i m l st)))
           → i < plan .n → (o : Option (List ℕ)) → plain ways K (first i) ≡ o
-          → Spaced ways K first plan i (foundIn (onAnswer plan (sweep (plainAt ways K first) plan k) i m l o st))
+          → Spaced ways K first pos plan i (foundIn (onAnswer plan (sweep (plainAt ways K first) plan k) i m l o st))
       on ih h none e = spaced-from i (suc i) (omega arith) (foundIn (sweep (plainAt ways K first) plan k (suc i) m l st)) (ih (suc i) m l st)
-      on ih h (some p) e = fit ih h p e (plan .fits m l p)
+      on ih h (some p) e = fit ih h p e (plan .next i p) refl (plan .fits m l p)
 
-      go : ((i m l : ℕ) (st : Unit {0}) → Spaced ways K first plan i (foundIn (sweep (plainAt ways K first) plan k i m l st)))
+      go : ((i m l : ℕ) (st : Unit {0}) → Spaced ways K first pos plan i (foundIn (sweep (plainAt ways K first) plan k i m l st)))
           → (t : Bool) → ltb i (plan .n) ≡ t
-          → Spaced ways K first plan i (foundIn (below t st (λ _. onAnswer plan (sweep (plainAt ways K first) plan k) i m l (plain ways K (first i)) st)))
+          → Spaced ways K first pos plan i (foundIn (below t st (λ _. onAnswer plan (sweep (plainAt ways K first) plan k) i m l (plain ways K (first i)) st)))
       go ih false e = tt
       go ih true e = on ih (ltb-true i (plan .n) e) (plain ways K (first i)) refl
 
@@ -227,7 +233,7 @@ from-part pos b F q xs f =
 
 module _ (ways : ℕ → Ways) (ρ : ℕ → ℕ) (N : ℕ) (falls : Falls ways ρ N) (K : ℕ) (top : (x : ℕ) → ρ x < K) (pos : ℕ → ℕ) (onward : Onward ways pos)
     (first : ℕ → ℕ) (plan : Plan) (starts : (i : ℕ) → i < plan .n → (first i < N) × (pos (first i) ≡ i))
-    (past : (i : ℕ) (p : List ℕ) → (pos (lastOf 0 p) ≤ plan .next i p) × (i < plan .next i p)) where
+    (past : (i : ℕ) (p : List ℕ) (j : ℕ) → plan .next i p ≡ some j → (pos (lastOf 0 p) ≤ j) × (i < j)) where
   path-ok : (F : List Bool) → length F ≡ N → Sound ways K F → (i : ℕ) (p : List ℕ) → i < plan .n → plain ways K (first i) ≡ some p → From pos i F p
   path-ok F len h i p lt e =
       let w = plain-path ways K (first i) p e in
@@ -239,28 +245,28 @@ module _ (ways : ℕ → Ways) (ρ : ℕ → ℕ) (N : ℕ) (falls : Falls ways 
         pairs = rw len (path-pairs ways ρ N falls (st .0) w);
       }
 
-  heads-ok : (F : List Bool) → length F ≡ N → Sound ways K F → (i : ℕ) (ms : List Match) → Spaced ways K first plan i ms → From pos i F (joined (headOf pos) ms)
+  heads-ok : (F : List Bool) → length F ≡ N → Sound ways K F → (i : ℕ) (ms : List Match) → Spaced ways K first pos plan i ms → From pos i F (joined (headOf pos) ms)
   heads-ok F len h i [] a = record { apart = tt; from = tt; out = tt; pairs = tt }
   heads-ok F len h i (m ∷ ms) a =
       let q : ℕ → Bool = λ z. eqb (pos z) (m .start) in
       let f : From pos (m .start) F (m .path) = path-ok F len h (m .start) (m .path) (a .1) (a .2) in
-      let nx = past (m .start) (m .path) in
+      let nx = a .3 in
       from-down pos (m .start) i F (joined (headOf pos) (m ∷ ms)) (a .0)
-      (from-append pos (m .start) (plan .next (m .start) (m .path)) F (headOf pos m) (joined (headOf pos) ms) (omega arith)
+      (from-append pos (m .start) (nx .0) F (headOf pos m) (joined (headOf pos) ms) (omega arith)
       (from-part pos (m .start) F q (m .path) f)
       (All-map (λ z (r : (m .start ≤ pos z) × (q z ≡ true)). let s = eqb-true (pos z) (m .start) (r .1) in omega arith) (headOf pos m) (part-all q _ (m .path) (f .from)))
-      (heads-ok F len h (plan .next (m .start) (m .path)) ms (a .3)))
+      (heads-ok F len h (nx .0) ms (nx .3)))
 
-  tails-ok : (F : List Bool) → length F ≡ N → Sound ways K F → (i : ℕ) (ms : List Match) → Spaced ways K first plan i ms → From pos (suc i) F (joined (tailOf pos) ms)
+  tails-ok : (F : List Bool) → length F ≡ N → Sound ways K F → (i : ℕ) (ms : List Match) → Spaced ways K first pos plan i ms → From pos (suc i) F (joined (tailOf pos) ms)
   tails-ok F len h i [] a = record { apart = tt; from = tt; out = tt; pairs = tt }
   tails-ok F len h i (m ∷ ms) a =
       let q : ℕ → Bool = λ z. not (eqb (pos z) (m .start)) in
       let f : From pos (m .start) F (m .path) = path-ok F len h (m .start) (m .path) (a .1) (a .2) in
       let g : From pos (m .start) F (tailOf pos m) = from-part pos (m .start) F q (m .path) f in
-      let nx = past (m .start) (m .path) in
+      let nx = a .3 in
       let w = plain-path ways K (first (m .start)) (m .path) (a .2) in
       from-down pos (suc (m .start)) (suc i) F (joined (tailOf pos) (m ∷ ms)) (suc-le-suc (a .0))
-      (from-append pos (suc (m .start)) (suc (plan .next (m .start) (m .path))) F (tailOf pos m) (joined (tailOf pos) ms) (omega arith)
+      (from-append pos (suc (m .start)) (suc (nx .0)) F (tailOf pos m) (joined (tailOf pos) ms) (omega arith)
       (record {
         apart = g .apart;
         from = All-map (λ z (r : (m .start ≤ pos z) × (q z ≡ true)). later (pos z) (m .start) (r .0) (r .1)) (tailOf pos m) (part-all q _ (m .path) (f .from));
@@ -268,7 +274,7 @@ module _ (ways : ℕ → Ways) (ρ : ℕ → ℕ) (N : ℕ) (falls : Falls ways 
         pairs = g .pairs;
       })
       (All-map (λ z (r : (pos z ≤ pos (lastOf 0 (m .path))) × (q z ≡ true)). omega arith) (tailOf pos m) (part-all q _ (m .path) (path-upto ways pos onward 0 w)))
-      (tails-ok F len h (plan .next (m .start) (m .path)) ms (a .3)))
+      (tails-ok F len h (nx .0) ms (nx .3)))
     where
       later : (x b : ℕ) → b ≤ x → not (eqb x b) ≡ true → b < x
       later x b l e = let c : x ≢ b = eqb-false x b (not-true (eqb x b) e) in omega arith
@@ -281,8 +287,8 @@ module _ (ways : ℕ → Ways) (ρ : ℕ → ℕ) (N : ℕ) (falls : Falls ways 
       let c : Counted N (F, 0) r = walk-counted ways ρ N falls K top first plan (λ i h. starts i h .0) k i m l (F, 0) len in
       let a = walk-is-plain ways ρ N falls K top first plan k i m l (F, 0) h in
       let G : List Bool = r .state .0 in
-      let same : foundIn (sweep (plainAt ways K first) plan k i m l tt) ≡ foundIn r = rw (a .matches, a .full) in
-      let sp : Spaced ways K first plan i (foundIn r) = rw same at (plain-spaced ways K first plan k i m l tt) in
+      let same : foundIn (sweep (plainAt ways K first) plan k i m l tt) ≡ foundIn r = rw (a .matches, a .end) in
+      let sp : Spaced ways K first pos plan i (foundIn r) = rw same at (plain-spaced ways K first pos plan past k i m l tt) in
       let hd = heads-ok G (c .len) (a .state) i (foundIn r) sp in
       let tl = tails-ok G (c .len) (a .state) i (foundIn r) sp in
       let hr = room (joined (headOf pos) (foundIn r)) G (hd .apart) (hd .out) (hd .pairs) in

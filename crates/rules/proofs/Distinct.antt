@@ -13,7 +13,7 @@ use lib.Dec.{ltb, eqb}
 use borrow.Author.Tests.{eqb-true, eqb-false, eq-eqb, ne-eqb, ltb-true}
 use Rattle.rules.specs.Basics.{has}
 use Rattle.rules.specs.Places.{Unrolled, Place, pLetter, pCaret, pDollar, pFork, pEnd, places}
-use Rattle.rules.specs.Search.{Match, Swept, Plan, below, withMatch, byFit, onAnswer, sweep, Kept, answered, walkAt, labelOf, labels, planOf, walkSearch}
+use Rattle.rules.specs.Search.{Match, Skip, Swept, Plan, below, withMatch, byFit, byNext, onAnswer, sweep, Kept, answered, walkAt, labelOf, labels, planOf, walkSearch}
 use Rattle.rules.specs.Walk.{Ways, accept, try, Outcome, found, failed, orElse, close, enterUnless, tries, inside, insideBy, orNext, firstOf, onto, plain, plainBy, passIf, waysAt, pairWays, pairs, pairAt, placeOf, positionOf, firstAt}
 use Rattle.rules.proofs.Level.{legal}
 use Rattle.rules.proofs.Rank.{rank}
@@ -143,12 +143,13 @@ module _ (ways : ℕ → Ways) (ρ : ℕ → ℕ) (N : ℕ) (falls : Falls ways 
 
   same-answer : (f g : ℕ → ℕ → ℕ → Kept → Swept Kept) → SameOn f g → (i m l : ℕ) (o : Option (List ℕ)) (st : Kept) → length (st .0) ≡ N → onAnswer plan f i m l o st ≡ onAnswer plan g i m l o st
   same-answer f g h i m l none st len = h (suc i) m l st len
-  same-answer f g h i m l (some p) st len = go (plan .fits m l p)
+  same-answer f g h i m l (some p) st len = go (plan .next i p) (plan .fits m l p)
     where
-      go : (b : Bool) → byFit b (record { start = i; path = p }) st (λ _. f (plan .next i p) (suc m) (l + plan .rows p) st)
-          ≡ byFit b (record { start = i; path = p }) st (λ _. g (plan .next i p) (suc m) (l + plan .rows p) st)
-      go false = refl
-      go true = ap (withMatch (record { start = i; path = p })) (h (plan .next i p) (suc m) (l + plan .rows p) st len)
+      go : (o : Option ℕ) (b : Bool) → byFit b (record { start = i; path = p }) st (λ _. byNext o st (λ j. f j (suc m) (l + plan .rows p) st))
+          ≡ byFit b (record { start = i; path = p }) st (λ _. byNext o st (λ j. g j (suc m) (l + plan .rows p) st))
+      go o false = refl
+      go none true = refl
+      go (some j) true = ap (withMatch (record { start = i; path = p })) (h j (suc m) (l + plan .rows p) st len)
 
   -- matches, failed pairs and steps are the same
   pub search-thin : (k : ℕ) → SameOn (sweep thinnedOne plan k) (sweep one plan k)
@@ -238,17 +239,17 @@ labels-thin pl (x ∷ p) =
     (label-thin (getD pl (placeOf (length pl) x) (pFork [])) (labels (thinned pl) p) ∙ ap (labelOf (getD pl (placeOf (length pl) x) (pFork []))) (labels-thin pl p))
 
 -- The counted walk over thinned places is the walk over the places: the same matches, failed pairs and steps.
-module _ (t : Unrolled) (g : legal t ≡ true) (holds : ℕ → ℕ → Bool) (n : ℕ) (mode : Bool) (fits : ℕ → ℕ → List ℕ → Bool) where
-  plan-thin : planOf (thinned (places t)) n mode fits ≡ planOf (places t) n mode fits
+module _ (t : Unrolled) (g : legal t ≡ true) (holds : ℕ → ℕ → Bool) (n : ℕ) (skip : Skip) (fits : ℕ → ℕ → List ℕ → Bool) where
+  plan-thin : planOf (thinned (places t)) n skip fits ≡ planOf (places t) n skip fits
   unfolding planOf
   plan-thin =
       let e : labels (thinned (places t)) ≡ labels (places t) = λ i p. labels-thin (places t) p i in
       rw (thinned-length (places t), e) refl
 
-  pub walk-thin : walkSearch holds n (thinned (places t)) mode fits ≡ walkSearch holds n (places t) mode fits
+  pub walk-thin : walkSearch holds n (thinned (places t)) skip fits ≡ walkSearch holds n (places t) skip fits
   unfolding walkSearch
   walk-thin =
       let e : pairWays holds n (thinned (places t)) ≡ (λ x. thin (pairWays holds n (places t) x)) = λ i x. thin-pairs holds n (places t) x i in
       rw (plan-thin, e, thinned-length (places t))
       (search-thin (pairWays holds n (places t)) (rank t n) (pairs (length (places t)) n) (falls t g holds n) (pairs (length (places t)) n) (top t g holds n) (firstAt (length (places t)))
-      (planOf (places t) n mode fits) (λ i h. starts t g holds n i h .0) n 0 0 0 (replicate (pairs (length (places t)) n) false, 0) (length-replicate _ _))
+      (planOf (places t) n skip fits) (λ i h. starts t g holds n i h .0) n 0 0 0 (replicate (pairs (length (places t)) n) false, 0) (length-replicate _ _))

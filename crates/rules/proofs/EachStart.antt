@@ -10,7 +10,7 @@ use native.Mathlib.Omega.{arith}
 use lib.ListN.{length, getD, set, take, drop, length-set, length-drop, take-append-drop}
 use lib.Dec.{ltb}
 use borrow.Author.Tests.{ltb-true}
-use Rattle.rules.specs.Search.{Swept, Plan, below, byFit, onAnswer, sweep, Kept, answered, walkAt}
+use Rattle.rules.specs.Search.{Swept, Plan, below, byFit, byNext, onAnswer, sweep, Kept, answered, walkAt}
 use Rattle.rules.specs.Walk.{Ways, accept, try, Outcome, found, failed, orElse, close, enterUnless, tries, inside, insideBy, countTrue}
 use Rattle.rules.proofs.Bound.{path-apart, path-pairs, path-closed}
 use Rattle.rules.proofs.Plain.{plain-path, Sound, InsideSound, inside-sound}
@@ -148,7 +148,7 @@ cost-le P m k h = let e : k ≡ m + (k - m) = omega arith in rw e (cost-more P m
 
 module _ (ways : ℕ → Ways) (ρ : ℕ → ℕ) (N : ℕ) (falls : Falls ways ρ N) (K : ℕ) (top : (x : ℕ) → ρ x < K) (first : ℕ → ℕ) (plan : Plan) (P : ℕ)
     (starts : (i : ℕ) → i < plan .n → (first i < N) × (N ≤ first i + P * suc (plan .n - i)))
-    (cl : (i : ℕ) → Closed ways (λ z. first i ≤ z)) (later : (i : ℕ) (p : List ℕ) → i < plan .next i p) where
+    (cl : (i : ℕ) → Closed ways (λ z. first i ≤ z)) (later : (i : ℕ) (p : List ℕ) (j : ℕ) → plan .next i p ≡ some j → i < j) where
   abbrev Kind : Kept → Type 0
   Kind st = (length (st .0) ≡ N) × Sound ways K (st .0)
 
@@ -186,11 +186,12 @@ module _ (ways : ℕ → Ways) (ρ : ℕ → ℕ) (N : ℕ) (falls : Falls ways 
   after-answer : (f : ℕ → ℕ → ℕ → Kept → Swept Kept) → AtMostOn f → (i m l : ℕ) (st su : Kept) → i < plan .n → Kind su → su .1 ≤ st .1 + P * suc (plan .n - i) → (o : Option (List ℕ))
       → AtMost i st (onAnswer plan f i m l o su)
   after-answer f ih i m l st su h kd b none = omega (arith, ih (suc i) m l su kd, from-next i (suc i) h (omega arith))
-  after-answer f ih i m l st su h kd b (some p) = go (plan .fits m l p)
+  after-answer f ih i m l st su h kd b (some p) = go (plan .next i p) refl (plan .fits m l p)
     where
-      go : (t : Bool) → AtMost i st (byFit t (record { start = i; path = p }) su (λ _. f (plan .next i p) (suc m) (l + plan .rows p) su))
-      go false = omega (arith, from-next i (suc i) h (omega arith))
-      go true = omega (arith, ih (plan .next i p) (suc m) (l + plan .rows p) su kd, from-next i (plan .next i p) h (later i p))
+      go : (o : Option ℕ) → plan .next i p ≡ o → (t : Bool) → AtMost i st (byFit t (record { start = i; path = p }) su (λ _. byNext o su (λ j. f j (suc m) (l + plan .rows p) su)))
+      go o e false = omega (arith, from-next i (suc i) h (omega arith))
+      go none e true = omega (arith, from-next i (suc i) h (omega arith))
+      go (some j) e true = omega (arith, ih j (suc m) (l + plan .rows p) su kd, from-next i j h (later i p j e))
 
   pub walk-cost : (k : ℕ) → AtMostOn (sweep (walkAt ways K first) plan k)
   unfolding sweep

@@ -9,7 +9,15 @@ use lib.Dec.{eqb}
 use lib.ListN.{length, getD}
 use borrow.Author.Tests.{eq-eqb}
 use Rattle.rules.specs.Basics.{every}
-use Rattle.rules.specs.Answers.{Test, firstOf, refuses}
+use Rattle.rules.specs.Search.{Match, End, done, full, stuck}
+use Rattle.rules.specs.Answers.{Test, firstOf, endAnswer, refuses}
+
+-- the answers of a search's end refuse nothing
+pub end-accepted : (e : End Match) → refuses (endAnswer e) ≡ false
+unfolding refuses endAnswer
+end-accepted done = refl
+end-accepted (full m) = refl
+end-accepted stuck = refl
 
 -- every test of the list stands for a refusal
 unfoldable pub allRefuse : List Test → Bool

@@ -11,7 +11,7 @@ use lib.ListN.{length, getD, replicate}
 use lib.Dec.{ltb}
 use borrow.Author.Tests.{le-ltb}
 use Rattle.rules.specs.Places.{Unrolled, Place, places}
-use Rattle.rules.specs.Search.{Match, Swept, Plan, below, byFit, onAnswer, sweep, answered, walkAt, plainAt, endOf, planOf, walkSearch, plainSearch}
+use Rattle.rules.specs.Search.{Match, Skip, Swept, Plan, below, byFit, byNext, onAnswer, sweep, answered, walkAt, plainAt, labels, endOf, planOf, walkSearch, plainSearch}
 use Rattle.rules.specs.Walk.{IsPath, here, there, Ways, pairs, firstAt, pairWays, plain, enterUnless, inside}
 use Rattle.rules.proofs.Level.{legal}
 use Rattle.rules.proofs.Plain.{plain-fuel}
@@ -32,7 +32,7 @@ module _ (ways : ℕ → Ways) (ρ : ℕ → ℕ) (N : ℕ) (falls : Falls ways 
 
 -- ---- the search
 
-module _ {S : Type 0} (att alt : ℕ → S → Option (List ℕ) × S) (same : (i : ℕ) (st : S) → att i st ≡ alt i st) (plan : Plan) (on : (i : ℕ) (p : List ℕ) → i < plan .next i p) where
+module _ {S : Type 0} (att alt : ℕ → S → Option (List ℕ) × S) (same : (i : ℕ) (st : S) → att i st ≡ alt i st) (plan : Plan) (on : (i : ℕ) (p : List ℕ) (j : ℕ) → plan .next i p ≡ some j → i < j) where
   abbrev SameFrom : (ℕ → ℕ → ℕ → S → Swept S) → (ℕ → ℕ → ℕ → S → Swept S) → ℕ → Type 0
   SameFrom f g i = (j m l : ℕ) (st : S) → i < j → f j m l st ≡ g j m l st
 
@@ -42,7 +42,11 @@ module _ {S : Type 0} (att alt : ℕ → S → Option (List ℕ) × S) (same : (
 
   same-answer : (f g : ℕ → ℕ → ℕ → S → Swept S) (i : ℕ) → SameFrom f g i → (m l : ℕ) (o : Option (List ℕ)) (st : S) → onAnswer plan f i m l o st ≡ onAnswer plan g i m l o st
   same-answer f g i e m l none st = e (suc i) m l st (omega arith)
-  same-answer f g i e m l (some p) st = same-fit (record { start = i; path = p }) st _ _ (e (plan .next i p) (suc m) (l + plan .rows p) st (on i p)) (plan .fits m l p)
+  same-answer f g i e m l (some p) st = same-fit (record { start = i; path = p }) st _ _ (go (plan .next i p) refl) (plan .fits m l p)
+    where
+      go : (o : Option ℕ) → plan .next i p ≡ o → byNext o st (λ j. f j (suc m) (l + plan .rows p) st) ≡ byNext o st (λ j. g j (suc m) (l + plan .rows p) st)
+      go none d = refl
+      go (some j) d = e j (suc m) (l + plan .rows p) st (on i p j d)
 
   same-below : (f g : Unit {0} → Swept S) (st : S) → f tt ≡ g tt → (t : Bool) → below t st f ≡ below t st g
   same-below f g st e false = refl
@@ -60,14 +64,14 @@ module _ {S : Type 0} (att alt : ℕ → S → Option (List ℕ) × S) (same : (
       (ltb i (plan .n)))
 
 -- more attempts than there are rows change nothing
-pub sweep-enough : {S : Type 0} (att : ℕ → S → Option (List ℕ) × S) (plan : Plan) → ((i : ℕ) (p : List ℕ) → i < plan .next i p)
+pub sweep-enough : {S : Type 0} (att : ℕ → S → Option (List ℕ) × S) (plan : Plan) → ((i : ℕ) (p : List ℕ) (j : ℕ) → plan .next i p ≡ some j → i < j)
     → (k i m l : ℕ) (st : S) → plan .n ≤ k → sweep att plan k i m l st ≡ sweep att plan (plan .n) i m l st
 sweep-enough att plan on k i m l st h = sweep-fuel att att (λ i st. refl) plan on k (plan .n) i m l st (omega arith) (omega arith)
 
--- in both skip modes the next start lies behind
-pub plan-on : (pl : List Place) (n : ℕ) (mode : Bool) (fits : ℕ → ℕ → List ℕ → Bool) (i : ℕ) (p : List ℕ) → i < planOf pl n mode fits .next i p
+-- in every skip mode the next start lies behind
+pub plan-on : (pl : List Place) (n : ℕ) (skip : Skip) (fits : ℕ → ℕ → List ℕ → Bool) (i : ℕ) (p : List ℕ) (j : ℕ) → planOf pl n skip fits .next i p ≡ some j → i < j
 unfolding planOf
-plan-on pl n mode fits i p = next-on mode i (endOf (length pl) p)
+plan-on pl n skip fits i p j e = next-on skip i (endOf (length pl) p) (labels pl p) j e
 
 -- ---- a legal pattern: the number of pairs is enough
 
@@ -86,19 +90,19 @@ module _ (t : Unrolled) (g : legal t ≡ true) (holds : ℕ → ℕ → Bool) (n
   path-short x p h = omega (arith, top t g holds n x, path-length (pairWays holds n (places t)) (rank t n) (pairs P n) (falls t g holds n) h)
 
   -- the whole searches, with any larger bounds
-  module _ (mode : Bool) (fits : ℕ → ℕ → List ℕ → Bool) (K k : ℕ) (h : pairs P n ≤ K) (l : n ≤ k) where
-    pub plain-search-enough : sweep (plainAt (pairWays holds n (places t)) K (firstAt P)) (planOf (places t) n mode fits) k 0 0 0 tt ≡ plainSearch holds n (places t) mode fits
+  module _ (skip : Skip) (fits : ℕ → ℕ → List ℕ → Bool) (K k : ℕ) (h : pairs P n ≤ K) (l : n ≤ k) where
+    pub plain-search-enough : sweep (plainAt (pairWays holds n (places t)) K (firstAt P)) (planOf (places t) n skip fits) k 0 0 0 tt ≡ plainSearch holds n (places t) skip fits
     unfolding plainSearch planOf
     plain-search-enough =
         sweep-fuel (plainAt (pairWays holds n (places t)) K (firstAt P)) (plainAt (pairWays holds n (places t)) (pairs P n) (firstAt P))
-        (λ i st. rw (plain-enough K h (firstAt P i))) (planOf (places t) n mode fits) (plan-on (places t) n mode fits) k n 0 0 0 tt (omega arith) (omega arith)
+        (λ i st. rw (plain-enough K h (firstAt P i))) (planOf (places t) n skip fits) (plan-on (places t) n skip fits) k n 0 0 0 tt (omega arith) (omega arith)
 
-    pub walk-search-enough : sweep (walkAt (pairWays holds n (places t)) K (firstAt P)) (planOf (places t) n mode fits) k 0 0 0 (replicate (pairs P n) false, 0)
-        ≡ walkSearch holds n (places t) mode fits
+    pub walk-search-enough : sweep (walkAt (pairWays holds n (places t)) K (firstAt P)) (planOf (places t) n skip fits) k 0 0 0 (replicate (pairs P n) false, 0)
+        ≡ walkSearch holds n (places t) skip fits
     unfolding walkSearch planOf
     walk-search-enough =
         sweep-fuel (walkAt (pairWays holds n (places t)) K (firstAt P)) (walkAt (pairWays holds n (places t)) (pairs P n) (firstAt P))
-        (λ i st. ap answered (go i (st .0) (st .1) (getD (st .0) (firstAt P i) false))) (planOf (places t) n mode fits) (plan-on (places t) n mode fits) k n 0 0 0
+        (λ i st. ap answered (go i (st .0) (st .1) (getD (st .0) (firstAt P i) false))) (planOf (places t) n skip fits) (plan-on (places t) n skip fits) k n 0 0 0
         (replicate (pairs P n) false, 0) (omega arith) (omega arith)
       where
         go : (i : ℕ) (F : List Bool) (s : ℕ) (b : Bool)

@@ -51,3 +51,4 @@ pub mod Choice
 pub mod Distinct
 pub mod ThinPlaces
 pub mod SameLetters
+pub mod Samples

@@ -1,5 +1,5 @@
 -- What an implementation may rely on for every accepted search: P is 1 to 256 and the length of the list of places, n at most 4,096, the pairs at most
--- 1,048,832, the matches at most n; what is written fits the lent buffers, so that every buffer keeps its length; the steps fit 64 bits in either skip mode.
+-- 1,048,832, the matches at most n; what is written fits the lent buffers, so that every buffer keeps its length; the steps fit 64 bits in every skip mode.
 use mathlib.Core.Path.{_≡_, refl, ap, ap₂, sym, _∙_}
 use mathlib.Core.Bool.{Bool, true, false}
 use mathlib.Core.List.{List, [], _∷_}
@@ -15,7 +15,7 @@ use Rattle.rules.specs.Rows.{Table, tableOf}
 use Rattle.rules.specs.Query.{Measure, columnsOf, parts}
 use Rattle.rules.specs.Places.{Place, unroll, places, placesOf}
 use Rattle.rules.specs.Walk.{pairs, firstAt, pairWays}
-use Rattle.rules.specs.Search.{Match, Swept, Plan, Kept, labels, below, byFit, onAnswer, sweep, planOf, walkAt, walkSearch}
+use Rattle.rules.specs.Search.{Match, Skip, Swept, Plan, Kept, labels, below, byFit, byNext, onAnswer, sweep, planOf, walkAt, walkSearch}
 use Rattle.rules.specs.Report.{measureNumbers, matchNumbers, numbersOf, labelsOf, fits, twoOf, measured, notesOf}
 use Rattle.rules.specs.Answers.{Task, taskOf, walked, Buffers, walkOf, letterHolds}
 use Rattle.rules.specs.Language.{Tree, pattern}
@@ -33,14 +33,15 @@ unfolding sweep
 sweep-few att plan zero i m l st = omega arith
 sweep-few att plan (suc k) i m l st = start (sweep-few att plan k) (ltb i (plan .n))
   where
-    fit : ((i m l : ℕ) (st : _) → length (sweep att plan k i m l st .matches) ≤ k) → (p : List ℕ) (su : _) (t : Bool)
-        → length (byFit t (record { start = i; path = p }) su (λ _. sweep att plan k (plan .next i p) (suc m) (l + plan .rows p) su) .matches) ≤ suc k
-    fit ih p su false = omega arith
-    fit ih p su true = omega (arith, ih (plan .next i p) (suc m) (l + plan .rows p) su)
+    fit : ((i m l : ℕ) (st : _) → length (sweep att plan k i m l st .matches) ≤ k) → (p : List ℕ) (su : _) (o : Option ℕ) (t : Bool)
+        → length (byFit t (record { start = i; path = p }) su (λ _. byNext o su (λ j. sweep att plan k j (suc m) (l + plan .rows p) su)) .matches) ≤ suc k
+    fit ih p su o false = omega arith
+    fit ih p su none true = omega arith
+    fit ih p su (some j) true = omega (arith, ih j (suc m) (l + plan .rows p) su)
 
     on : ((i m l : ℕ) (st : _) → length (sweep att plan k i m l st .matches) ≤ k) → (o : Option (List ℕ)) (su : _) → length (onAnswer plan (sweep att plan k) i m l o su .matches) ≤ suc k
     on ih none su = omega (arith, ih (suc i) m l su)
-    on ih (some p) su = fit ih p su (plan .fits m l p)
+    on ih (some p) su = fit ih p su (plan .next i p) (plan .fits m l p)
 
     start : ((i m l : ℕ) (st : _) → length (sweep att plan k i m l st .matches) ≤ k) → (t : Bool)
         → length (below t st (λ _. onAnswer plan (sweep att plan k) i m l (att i st .0) (att i st .1)) .matches) ≤ suc k
@@ -75,9 +76,9 @@ pub record Fitting (nums labs : ℕ) (ms : List Measure) (pl : List Place) (m l 
   pub numbers : (m + length xs) * (3 + 2 * length ms) ≤ nums
   pub labels : l + length (labelsOf pl xs) ≤ labs
 
-module _ {S : Type 0} (att : ℕ → S → Option (List ℕ) × S) (pl : List Place) (n : ℕ) (mode : Bool) (nums labs : ℕ) (ms : List Measure) where
+module _ {S : Type 0} (att : ℕ → S → Option (List ℕ) × S) (pl : List Place) (n : ℕ) (skip : Skip) (nums labs : ℕ) (ms : List Measure) where
   abbrev plan : Plan
-  plan = planOf pl n mode (fits nums labs ms)
+  plan = planOf pl n skip (fits nums labs ms)
 
   abbrev FitsOn : (ℕ → ℕ → ℕ → S → Swept S) → Type 0
   FitsOn f = (i m l : ℕ) (st : S) → m * (3 + 2 * length ms) ≤ nums → l ≤ labs → Fitting nums labs ms pl m l (f i m l st .matches)
@@ -87,27 +88,30 @@ module _ {S : Type 0} (att : ℕ → S → Option (List ℕ) × S) (pl : List Pl
   no-match m l a b = record { numbers = let e : m + 0 ≡ m = omega arith in rw e a; labels = omega arith }
 
   fit-on : (f : ℕ → ℕ → ℕ → S → Swept S) → FitsOn f → (i m l : ℕ) (p : List ℕ) (st : S) → m * (3 + 2 * length ms) ≤ nums → l ≤ labs
-      → (t : Bool) → fits nums labs ms m l (labels pl p) ≡ t
-      → Fitting nums labs ms pl m l (byFit t (record { start = i; path = p }) st (λ _. f (plan .next i p) (suc m) (l + length (labels pl p)) st) .matches)
+      → (o : Option ℕ) (t : Bool) → fits nums labs ms m l (labels pl p) ≡ t
+      → Fitting nums labs ms pl m l (byFit t (record { start = i; path = p }) st (λ _. byNext o st (λ j. f j (suc m) (l + length (labels pl p)) st)) .matches)
   unfolding labelsOf fits
-  fit-on f ih i m l p st a b false e = no-match m l a b
-  fit-on f ih i m l p st a b true e = more (fits-both e)
+  fit-on f ih i m l p st a b o false e = no-match m l a b
+  fit-on f ih i m l p st a b o true e = more (fits-both e) o
     where
       fits-both : fits nums labs ms m l (labels pl p) ≡ true → (suc m * (3 + 2 * length ms) ≤ nums) × (l + length (labels pl p) ≤ labs)
       fits-both e = let c = and-true _ _ e in (leb-true _ _ (c .0), leb-true _ _ (c .1))
 
-      more : (suc m * (3 + 2 * length ms) ≤ nums) × (l + length (labels pl p) ≤ labs)
-          → Fitting nums labs ms pl m l (record { start = i; path = p } ∷ f (plan .next i p) (suc m) (l + length (labels pl p)) st .matches)
-      more c =
-          let r = ih (plan .next i p) (suc m) (l + length (labels pl p)) st (c .0) (c .1) in
-          let e : m + suc (length (f (plan .next i p) (suc m) (l + length (labels pl p)) st .matches)) ≡ suc m + length (f (plan .next i p) (suc m) (l + length (labels pl p)) st .matches) = omega arith in
+      behind : (xs : List Match) → Fitting nums labs ms pl (suc m) (l + length (labels pl p)) xs → Fitting nums labs ms pl m l (record { start = i; path = p } ∷ xs)
+      behind xs r =
+          let e : m + suc (length xs) ≡ suc m + length xs = omega arith in
           record { numbers = rw e (r .numbers); labels = simp length-append (omega (arith, r .labels)) }
+
+      more : (suc m * (3 + 2 * length ms) ≤ nums) × (l + length (labels pl p) ≤ labs) → (o : Option ℕ)
+          → Fitting nums labs ms pl m l (record { start = i; path = p } ∷ byNext o st (λ j. f j (suc m) (l + length (labels pl p)) st) .matches)
+      more c none = behind [] (no-match (suc m) (l + length (labels pl p)) (c .0) (c .1))
+      more c (some j) = behind (f j (suc m) (l + length (labels pl p)) st .matches) (ih j (suc m) (l + length (labels pl p)) st (c .0) (c .1))
 
   answer-on : (f : ℕ → ℕ → ℕ → S → Swept S) → FitsOn f → (i m l : ℕ) (o : Option (List ℕ)) (st : S) → m * (3 + 2 * length ms) ≤ nums → l ≤ labs
       → Fitting nums labs ms pl m l (onAnswer plan f i m l o st .matches)
   unfolding planOf
   answer-on f ih i m l none st a b = ih (suc i) m l st a b
-  answer-on f ih i m l (some p) st a b = fit-on f ih i m l p st a b (fits nums labs ms m l (labels pl p)) refl
+  answer-on f ih i m l (some p) st a b = fit-on f ih i m l p st a b (plan .next i p) (fits nums labs ms m l (labels pl p)) refl
 
   pub sweep-fits : (k : ℕ) → FitsOn (sweep att plan k)
   unfolding sweep planOf
@@ -144,11 +148,11 @@ product-le a b c d h k = mul-le-mul h k
 module _ (q : List ℕ) (rows : List ℤ) (lent : Buffers) (p : Tree pattern) (e : taskOf q rows .places ≡ places (unroll p)) (g : legal (unroll p) ≡ true) where
   kept-all : length (walkOf q rows lent .state .0) ≡ pairs (length (taskOf q rows .places)) (taskOf q rows .table .n)
   unfolding walkOf walked
-  kept-all = rw e (walk-kept (unroll p) g (letterHolds (taskOf q rows)) (taskOf q rows .table .n) (taskOf q rows .mode) (fits (length (lent .numbers)) (length (lent .labels)) (taskOf q rows .measures)))
+  kept-all = rw e (walk-kept (unroll p) g (letterHolds (taskOf q rows)) (taskOf q rows .table .n) (taskOf q rows .skip) (fits (length (lent .numbers)) (length (lent .labels)) (taskOf q rows .measures)))
 
   cost-all : 2 * walkOf q rows lent .state .1 ≤ length (taskOf q rows .places) * (taskOf q rows .table .n * (taskOf q rows .table .n + 3))
   unfolding walkOf walked
-  cost-all = rw e (walk-each (unroll p) g (letterHolds (taskOf q rows)) (taskOf q rows .table .n) (taskOf q rows .mode) (fits (length (lent .numbers)) (length (lent .labels)) (taskOf q rows .measures)))
+  cost-all = rw e (walk-each (unroll p) g (letterHolds (taskOf q rows)) (taskOf q rows .table .n) (taskOf q rows .skip) (fits (length (lent .numbers)) (length (lent .labels)) (taskOf q rows .measures)))
 
 -- the search of a task is a sweep by attempts of the counted walk
 module _ (t : Task) (nums labs : ℕ) where
@@ -160,11 +164,11 @@ module _ (t : Task) (nums labs : ℕ) where
 
   written-fits : Fitting nums labs (t .measures) (t .places) 0 0 (walked t nums labs .matches)
   unfolding walked walkSearch
-  written-fits = sweep-fits attempt (t .places) (t .table .n) (t .mode) nums labs (t .measures) (t .table .n) 0 0 0 (replicate N false, 0) (omega arith) (omega arith)
+  written-fits = sweep-fits attempt (t .places) (t .table .n) (t .skip) nums labs (t .measures) (t .table .n) 0 0 0 (replicate N false, 0) (omega arith) (omega arith)
 
   written-few : length (walked t nums labs .matches) ≤ t .table .n
   unfolding walked walkSearch
-  written-few = sweep-few attempt (planOf (t .places) (t .table .n) (t .mode) (fits nums labs (t .measures))) (t .table .n) 0 0 0 (replicate N false, 0)
+  written-few = sweep-few attempt (planOf (t .places) (t .table .n) (t .skip) (fits nums labs (t .measures))) (t .table .n) 0 0 0 (replicate N false, 0)
 
 pub limits : (q : List ℕ) (rows : List ℤ) (lent : Buffers) → Accepted q rows lent → Limits q rows lent
 unfolding walkOf

@@ -8,7 +8,7 @@ use mathlib.Core.Option.{none}
 use Prim.Native.Nat.{ℕ}
 use lib.ListN.{length}
 use Rattle.rules.specs.Places.{Unrolled, places}
-use Rattle.rules.specs.Search.{walkSearch}
+use Rattle.rules.specs.Search.{Skip, walkSearch}
 use Rattle.rules.specs.Walk.{IsPath, pairs, pairWays, plain}
 use Rattle.rules.proofs.Bound.{plain-complete}
 use Rattle.rules.proofs.Level.{legal}
@@ -22,6 +22,6 @@ module _ (t : Unrolled) (g : legal t ≡ true) (holds : ℕ → ℕ → Bool) (n
   path-found h =
       plain-complete (pairWays holds n (places t)) (rank t n) (pairs (length (places t)) n) (falls t g holds n) (pairs (length (places t)) n) (top t g holds n) h
 
-  pub failed-no-path : (mode : Bool) (fits : ℕ → ℕ → List ℕ → Bool) (x : ℕ) → In (walkSearch holds n (places t) mode fits .state .0) x
+  pub failed-no-path : (skip : Skip) (fits : ℕ → ℕ → List ℕ → Bool) (x : ℕ) → In (walkSearch holds n (places t) skip fits .state .0) x
       → (p : List ℕ) → IsPath (pairWays holds n (places t)) x p → ⊥
-  failed-no-path mode fits x i p h = path-found h (walk-plain t g holds n mode fits .state x i)
+  failed-no-path skip fits x i p h = path-found h (walk-plain t g holds n skip fits .state x i)

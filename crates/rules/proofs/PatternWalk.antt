@@ -10,7 +10,7 @@ use lib.ListN.{length, getD, replicate, length-replicate}
 use lib.Arith.{digits-lt, digits-div}
 use lib.Dec.{ltb, eqb}
 use Rattle.rules.specs.Places.{Unrolled, size, Place, pLetter, pCaret, pDollar, pFork, pEnd, places}
-use Rattle.rules.specs.Search.{pathPairs, endOf, Swept, foundIn, Kept, planOf, walkSearch, plainSearch}
+use Rattle.rules.specs.Search.{Skip, pastLast, pathPairs, labels, endOf, Swept, foundIn, Kept, planOf, walkSearch, plainSearch}
 use Rattle.rules.specs.Walk.{Ways, accept, try, countTrue, passIf, waysAt, pairs, firstAt, pairWays, positionOf}
 use Rattle.rules.proofs.Bound.{Onward, two-each}
 use Rattle.rules.proofs.EachStart.{Closed, cost, cost-is, walk-cost}
@@ -97,18 +97,18 @@ module _ (t : Unrolled) (g : legal t ≡ true) (holds : ℕ → ℕ → Bool) (n
   rest-pairs : (P i m : ℕ) → P * suc (i + m) ≤ i * P + P * suc m
   rest-pairs P i m = rw (mul-comm P (suc (i + m)), mul-comm P (suc m)) (omega arith)
 
-  module _ (mode : Bool) (fits : ℕ → ℕ → List ℕ → Bool) where
+  module _ (skip : Skip) (fits : ℕ → ℕ → List ℕ → Bool) where
     abbrev walk : Swept Kept
-    walk = walkSearch holds n (places t) mode fits
+    walk = walkSearch holds n (places t) skip fits
 
     -- the matches and the end are those of plain backtracking, and every failed pair has no path
-    pub walk-plain : Alike (λ (st : Kept) (_ : Unit {0}). Sound ways N (st .0)) walk (plainSearch holds n (places t) mode fits)
+    pub walk-plain : Alike (λ (st : Kept) (_ : Unit {0}). Sound ways N (st .0)) walk (plainSearch holds n (places t) skip fits)
     unfolding walkSearch plainSearch
-    walk-plain = walk-is-plain ways (rank t n) N falls N top (firstAt P) (planOf (places t) n mode fits) n 0 0 0 (replicate N false, 0) (λ z i. absurd (none-in N z i))
+    walk-plain = walk-is-plain ways (rank t n) N falls N top (firstAt P) (planOf (places t) n skip fits) n 0 0 0 (replicate N false, 0) (λ z i. absurd (none-in N z i))
 
     counted : Counted N (replicate N false, 0) walk
     unfolding walkSearch planOf
-    counted = walk-counted ways (rank t n) N falls N top (firstAt P) (planOf (places t) n mode fits) (λ i h. starts i h .0) n 0 0 0 (replicate N false, 0) (length-replicate N false)
+    counted = walk-counted ways (rank t n) N falls N top (firstAt P) (planOf (places t) n skip fits) (λ i h. starts i h .0) n 0 0 0 (replicate N false, 0) (length-replicate N false)
 
     -- there is a mark for each pair
     pub walk-kept : length (walk .state .0) ≡ N
@@ -122,15 +122,15 @@ module _ (t : Unrolled) (g : legal t ≡ true) (holds : ℕ → ℕ → Bool) (n
     pub walk-each : 2 * walk .state .1 ≤ P * (n * (n + 3))
     unfolding walkSearch planOf
     walk-each =
-        let c = walk-cost ways (rank t n) N falls N top (firstAt P) (planOf (places t) n mode fits) P
+        let c = walk-cost ways (rank t n) N falls N top (firstAt P) (planOf (places t) n skip fits) P
         (λ i h. (starts i h .0, let e : i + (n - i) ≡ n = omega arith in rw e at (rest-pairs P i (n - i)))) onward-first
-        (λ i p. next-on mode i (endOf P p)) n 0 0 0 (replicate N false, 0) (length-replicate N false, λ z i. absurd (none-in N z i)) in
+        (λ i p j e. next-on skip i (endOf P p) (labels (places t) p) j e) n 0 0 0 (replicate N false, 0) (length-replicate N false, λ z i. absurd (none-in N z i)) in
         let c′ : walk .state .1 ≤ 0 + cost P n = rw (sub-zero n) at c in
         omega (arith, c′, cost-is P n)
 
   -- past the last row the steps are at most 2P(n+1)
-  pub walk-bound : (fits : ℕ → ℕ → List ℕ → Bool) → walkSearch holds n (places t) false fits .state .1 ≤ 2 * N
+  pub walk-bound : (fits : ℕ → ℕ → List ℕ → Bool) → walkSearch holds n (places t) pastLast fits .state .1 ≤ 2 * N
   unfolding walkSearch planOf
   walk-bound fits =
-      two-each ways (rank t n) N falls N top (positionOf P) (pattern-onward t g holds n) (firstAt P) (planOf (places t) n false fits) starts
-      (λ i p. (next-past i (endOf P p), next-on false i (endOf P p))) n 0 0 0 (replicate N false) (length-replicate N false) (λ z i. absurd (none-in N z i)) (none-count N)
+      two-each ways (rank t n) N falls N top (positionOf P) (pattern-onward t g holds n) (firstAt P) (planOf (places t) n pastLast fits) starts
+      (λ i p j e. (next-past i (endOf P p) (labels (places t) p) j e, next-on pastLast i (endOf P p) (labels (places t) p) j e)) n 0 0 0 (replicate N false) (length-replicate N false) (λ z i. absurd (none-in N z i)) (none-count N)

@@ -17,11 +17,11 @@ use Rattle.rules.specs.Basics.{pick}
 use Rattle.rules.specs.Language.{Tree, pattern, Written, Begins, WrongAt, Unfinished}
 use Rattle.rules.specs.Reader.{Reading, got, bad, left, skip, read, depth, rankOf, whole, treeOf, stopOf}
 use Rattle.rules.specs.Query.{textOf}
-use Rattle.rules.specs.Answers.{noTree, wrong, unfinished, offsetAt, badRows, Buffers, shortNotes, shortTrail, stopped as stopping, Test, queryTests, answerBy, refuses, refused, walkOf, answerOf, searchOf}
+use Rattle.rules.specs.Answers.{noTree, wrong, unfinished, offsetAt, badRows, Buffers, shortNotes, shortTrail, endAnswer, Test, queryTests, refusal, answerBy, refuses, refused, walkOf, answerOf, searchOf}
 use Rattle.rules.proofs.GrammarSound.{read-begins, found-written}
 use Rattle.rules.proofs.GrammarComplete.{written-found}
 use Rattle.rules.proofs.Depth.{skip-shorter, read-enough, tree-by-depth}
-use Rattle.rules.proofs.FirstTrue.{applies, given-applies}
+use Rattle.rules.proofs.FirstTrue.{end-accepted, applies, given-applies}
 use Rattle.rules.proofs.Ahead.{other, other-on, other-skip, Same, read-same}
 
 -- the beginning of what begins a text of the language does so too
@@ -204,9 +204,18 @@ tree-there text a b = go (noTree (treeOf text)) a b
 -- ---- what a search tells
 
 module _ (q : List ℕ) (rows : List ℤ) (lent : Buffers) where
-  -- all tests, in their order
+  -- the tests of all refusals, in their order
   abbrev tests : List Test
-  tests = queryTests q ++ ((10, badRows q rows) ∷ (11, shortNotes q rows lent) ∷ (12, shortTrail q rows lent) ∷ (13, stopping (walkOf q rows lent)) ∷ [])
+  tests = queryTests q ++ ((10, badRows q rows) ∷ (11, shortNotes q rows lent) ∷ (12, shortTrail q rows lent) ∷ [])
+
+  -- an answer that refuses is none of the search's end
+  refusal-is : (a : ℕ) → refuses a ≡ true → answerOf q rows lent ≡ a → refusal q rows lent ≡ a
+  unfolding answerOf answerBy
+  refusal-is a t e = go (eqb (refusal q rows lent) 0) e
+    where
+      go : (b : Bool) → pick b (endAnswer (walkOf q rows lent .end)) (refusal q rows lent) ≡ a → refusal q rows lent ≡ a
+      go true d = absurd (true≢false (sym t ∙ ap refuses (sym d) ∙ end-accepted (walkOf q rows lent .end)))
+      go false d = d
 
   only-left : (b : Bool) → (b || false) ≡ true → b ≡ true
   only-left true e = refl
@@ -219,15 +228,15 @@ module _ (q : List ℕ) (rows : List ℤ) (lent : Buffers) where
 
   -- answer 5: the query's text is wrong at the offset returned
   pub answered-5 : answerOf q rows lent ≡ 5 → WrongAt (textOf q) (searchOf q rows lent .result .offset)
-  unfolding answerOf answerBy queryTests applies refuses offsetAt
+  unfolding refusal queryTests applies refuses offsetAt
   answered-5 e =
-      let t : wrong (textOf q) ≡ true = only-left (wrong (textOf q)) (given-applies tests 5 (λ z. omega arith) e) in
+      let t : wrong (textOf q) ≡ true = only-left (wrong (textOf q)) (given-applies tests 5 (λ z. omega arith) (refusal-is 5 refl e)) in
       wrong-exactly (textOf q) (searchOf q rows lent .result .offset) .0 (t, sym (offset-is 5 refl e))
 
   -- answer 14: it could go on, and its length is returned
   pub answered-14 : answerOf q rows lent ≡ 14 → Unfinished (textOf q) × (searchOf q rows lent .result .offset ≡ length (textOf q))
-  unfolding answerOf answerBy queryTests applies refuses offsetAt unfinished
+  unfolding refusal queryTests applies refuses offsetAt unfinished
   answered-14 e =
-      let t : unfinished (textOf q) ≡ true = only-left (unfinished (textOf q)) (given-applies tests 14 (λ z. omega arith) e) in
+      let t : unfinished (textOf q) ≡ true = only-left (unfinished (textOf q)) (given-applies tests 14 (λ z. omega arith) (refusal-is 14 refl e)) in
       let s = (and-eq-true-iff (noTree (treeOf (textOf q))) (eqb (stopOf (textOf q)) (length (textOf q)))) .0 t in
       (unfinished-exactly (textOf q) .0 t, offset-is 14 refl e ∙ eqb-true (stopOf (textOf q)) (length (textOf q)) (s .1))

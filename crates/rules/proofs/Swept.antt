@@ -8,7 +8,7 @@ use native.Mathlib.Omega.{arith}
 use lib.ListN.{length, getD}
 use lib.Dec.{ltb}
 use borrow.Author.Tests.{ltb-true}
-use Rattle.rules.specs.Search.{pathPairs, Match, Swept, Plan, below, byFit, onAnswer, sweep, foundIn, Kept, answered, walkAt, plainAt}
+use Rattle.rules.specs.Search.{pathPairs, Match, Swept, Plan, below, byFit, byNext, onAnswer, sweep, foundIn, Kept, answered, walkAt, plainAt}
 use Rattle.rules.specs.Walk.{Ways, Outcome, found, failed, enterUnless, inside, countTrue, plain}
 use Rattle.rules.proofs.Plain.{Sound, InsideSound, inside-sound}
 use Rattle.rules.proofs.Walk.{InsidePost, inside-post}
@@ -18,7 +18,7 @@ use Rattle.rules.specs.Working.{Falls}
 
 pub record Alike {S T : Type 0} (I : S → T → Type 0) (a : Swept S) (b : Swept T) : Type 0 where
   pub matches : a .matches ≡ b .matches
-  pub full : a .full ≡ b .full
+  pub end : a .end ≡ b .end
   pub state : I (a .state) (b .state)
 
 module _ {S T : Type 0} (I : S → T → Type 0) (att : ℕ → S → Option (List ℕ) × S) (alt : ℕ → T → Option (List ℕ) × T)
@@ -27,21 +27,26 @@ module _ {S T : Type 0} (I : S → T → Type 0) (att : ℕ → S → Option (Li
   AlikeOn f g = (i m l : ℕ) (st : S) (su : T) → I st su → Alike I (f i m l st) (g i m l su)
 
   alike-fit : (m : Match) (st : S) (su : T) → I st su → (f : Unit {0} → Swept S) (g : Unit {0} → Swept T) → Alike I (f tt) (g tt) → (t : Bool) → Alike I (byFit t m st f) (byFit t m su g)
-  alike-fit m st su h f g a false = record { matches = refl; full = refl; state = h }
-  alike-fit m st su h f g a true = record { matches = ap (λ (ms : List Match). m ∷ ms) (a .matches); full = a .full; state = a .state }
+  alike-fit m st su h f g a false = record { matches = refl; end = refl; state = h }
+  alike-fit m st su h f g a true = record { matches = ap (λ (ms : List Match). m ∷ ms) (a .matches); end = a .end; state = a .state }
+
+  alike-next : (st : S) (su : T) → I st su → (f : ℕ → Swept S) (g : ℕ → Swept T) → ((j : ℕ) → Alike I (f j) (g j)) → (o : Option ℕ) → Alike I (byNext o st f) (byNext o su g)
+  alike-next st su h f g a none = record { matches = refl; end = refl; state = h }
+  alike-next st su h f g a (some j) = a j
 
   alike-answer : (f : ℕ → ℕ → ℕ → S → Swept S) (g : ℕ → ℕ → ℕ → T → Swept T) → AlikeOn f g → (i m l : ℕ) (o : Option (List ℕ)) (st : S) (su : T) → I st su
       → Alike I (onAnswer plan f i m l o st) (onAnswer plan g i m l o su)
   alike-answer f g ih i m l none st su h = ih (suc i) m l st su h
-  alike-answer f g ih i m l (some p) st su h = alike-fit _ st su h _ _ (ih _ _ _ st su h) (plan .fits m l p)
+  alike-answer f g ih i m l (some p) st su h =
+      alike-fit _ st su h _ _ (alike-next st su h (λ j. f j (suc m) (l + plan .rows p) st) (λ j. g j (suc m) (l + plan .rows p) su) (λ j. ih j (suc m) (l + plan .rows p) st su h) (plan .next i p)) (plan .fits m l p)
 
   alike-below : (f : Unit {0} → Swept S) (g : Unit {0} → Swept T) (st : S) (su : T) → I st su → Alike I (f tt) (g tt) → (t : Bool) → Alike I (below t st f) (below t su g)
-  alike-below f g st su h a false = record { matches = refl; full = refl; state = h }
+  alike-below f g st su h a false = record { matches = refl; end = refl; state = h }
   alike-below f g st su h a true = a
 
   pub sweep-alike : (k : ℕ) → AlikeOn (sweep att plan k) (sweep alt plan k)
   unfolding sweep
-  sweep-alike zero i m l st su h = record { matches = refl; full = refl; state = h }
+  sweep-alike zero i m l st su h = record { matches = refl; end = refl; state = h }
   sweep-alike (suc k) i m l st su h =
       let a = like i st su h in
       alike-below _ _ st su h
@@ -103,11 +108,12 @@ module _ (ways : ℕ → Ways) (ρ : ℕ → ℕ) (N : ℕ) (falls : Falls ways 
   counted-answer : (f : ℕ → ℕ → ℕ → Kept → Swept Kept) → CountedOn f → (i m l : ℕ) (st : Kept) (o : Option (List ℕ)) (su : Kept) → AttemptCounted st o su
       → Counted N st (onAnswer plan f i m l o su)
   counted-answer f ih i m l st none su a = let c = ih (suc i) m l su (a .0) in record { len = c .len; sum = omega arith }
-  counted-answer f ih i m l st (some p) su a = go (plan .fits m l p)
+  counted-answer f ih i m l st (some p) su a = go (plan .next i p) (plan .fits m l p)
     where
-      go : (t : Bool) → Counted N st (byFit t (record { start = i; path = p }) su (λ _. f (plan .next i p) (suc m) (l + plan .rows p) su))
-      go false = record { len = a .0; sum = omega arith }
-      go true = let c = ih (plan .next i p) (suc m) (l + plan .rows p) su (a .0) in record { len = c .len; sum = omega arith }
+      go : (o : Option ℕ) (t : Bool) → Counted N st (byFit t (record { start = i; path = p }) su (λ _. byNext o su (λ j. f j (suc m) (l + plan .rows p) su)))
+      go o false = record { len = a .0; sum = omega arith }
+      go none true = record { len = a .0; sum = omega arith }
+      go (some j) true = let c = ih j (suc m) (l + plan .rows p) su (a .0) in record { len = c .len; sum = omega arith }
 
   pub walk-counted : (k : ℕ) → CountedOn (sweep (walkAt ways K first) plan k)
   unfolding sweep

@@ -14,7 +14,7 @@ use Rattle.rules.specs.Language.{Tree, pattern, emptyLoop, letters}
 use Rattle.rules.specs.Reader.{treeOf, stopOf}
 use Rattle.rules.specs.Places.{Place, unroll, places, placesOf}
 use Rattle.rules.specs.Walk.{pairs}
-use Rattle.rules.specs.Search.{Match, Swept, Kept, walkSearch, plainSearch}
+use Rattle.rules.specs.Search.{Match, End, done, full, stuck, Skip, pastLast, toNext, toFirst, toLast, Swept, Kept, walkSearch, plainSearch}
 use Rattle.rules.specs.Report.{numbersOf, labelsOf, fits, bytesFor, notesOf, zeros}
 
 -- ---- the pattern's answers
@@ -72,15 +72,19 @@ unfoldable pub tooMany : Option (Tree pattern) → Bool
 unfolding P
 tooMany t = ltb 256 (P t)
 
--- Answer 9: a measure's letter is not in the pattern
+-- Answer 9: a measure's letter, or the letter to skip to, is not in the pattern
 unfoldable pub lettersIn : Option (Tree pattern) → List ℕ
 unfolding letters
 lettersIn none = []
 lettersIn (some t) = letters t
 
+unfoldable pub isForeign : List ℕ → ℕ → Bool
+unfolding lettersIn treeIn has
+isForeign q c = not (eqb c 0 || has c (lettersIn (treeIn q)))
+
 unfoldable pub foreign : List ℕ → Bool
-unfolding lettersIn treeIn parts every has
-foreign q = not (every (λ (m : Measure). eqb (m .letter) 0 || has (m .letter) (lettersIn (treeIn q))) (parts q .measures))
+unfolding isForeign parts every
+foreign q = not (every (λ (m : Measure). not (isForeign q (m .letter))) (parts q .measures)) || isForeign q (parts q .skipLetter)
 
 -- ---- the rows' answer
 
@@ -96,8 +100,12 @@ pub record Task : Type 0 where
   pub table : Table
   pub places : List Place
   pub comparisons : ℕ → List Comparison
-  pub mode : Bool
+  pub skip : Skip
   pub measures : List Measure
+
+-- the skip mode of its number and its letter
+unfoldable pub skipOf : ℕ → ℕ → Skip
+skipOf mode c = pick (eqb mode 0) pastLast (pick (eqb mode 1) toNext (pick (eqb mode 2) (toFirst c) (toLast c)))
 
 unfoldable pub placesIn : Option (Tree pattern) → List Place
 unfolding unroll places
@@ -105,13 +113,13 @@ placesIn none = []
 placesIn (some t) = places (unroll t)
 
 unfoldable pub taskOf : List ℕ → List ℤ → Task
-unfolding treeIn placesIn tableOf parts
+unfolding treeIn placesIn tableOf parts skipOf
 taskOf q rows =
     record {
       table = tableOf (parts q .columns) rows;
       places = placesIn (treeIn q);
       comparisons = parts q .comparisons;
-      mode = eqb (parts q .skip) 1;
+      skip = skipOf (parts q .skip) (parts q .skipLetter);
       measures = parts q .measures;
     }
 
@@ -123,11 +131,11 @@ letterHolds t c i = holds (t .table) i (t .comparisons c)
 -- the search by the counted walk, and by plain backtracking, for so many report numbers and label bytes
 unfoldable pub walked : Task → ℕ → ℕ → Swept Kept
 unfolding walkSearch letterHolds fits
-walked t nums labs = walkSearch (letterHolds t) (t .table .n) (t .places) (t .mode) (fits nums labs (t .measures))
+walked t nums labs = walkSearch (letterHolds t) (t .table .n) (t .places) (t .skip) (fits nums labs (t .measures))
 
 unfoldable pub backtracked : Task → ℕ → ℕ → Swept (Unit {0})
 unfolding plainSearch letterHolds fits
-backtracked t nums labs = plainSearch (letterHolds t) (t .table .n) (t .places) (t .mode) (fits nums labs (t .measures))
+backtracked t nums labs = plainSearch (letterHolds t) (t .table .n) (t .places) (t .skip) (fits nums labs (t .measures))
 
 -- ---- the answer
 
@@ -152,13 +160,16 @@ unfoldable pub shortTrail : List ℕ → List ℤ → Buffers → Bool
 unfolding pairsOf
 shortTrail q rows lent = ltb (length (lent .trail)) (pairsOf q rows)
 
--- Answer 13: stopped, since the next match does not fit whole in numbers or labels
+-- The answer of an accepted search, by its end: 0 done; 13 stopped, since the next match does not fit whole in numbers or labels; 15 stopped, since
+-- the match written last names no start to go on at.
+unfoldable pub endAnswer : End Match → ℕ
+endAnswer done = 0
+endAnswer (full m) = 13
+endAnswer stuck = 15
+
 unfoldable pub stopped : {S : Type 0} → Swept S → Bool
-stopped r = isFull (r .full)
-  where
-    isFull : Option Match → Bool
-    isFull none = false
-    isFull (some m) = true
+unfolding endAnswer
+stopped r = not (eqb (endAnswer (r .end)) 0)
 
 -- a test with the answer that it stands for; and the answer of the first test that is true, 0 if none is
 abbrev pub Test : Type 0
@@ -184,15 +195,19 @@ queryTests q =
     ∷ (9, foreign q)
     ∷ []
 
--- The first that applies is given; each is judged over the whole query. The search is the one that is asked for, by either walk.
-unfoldable pub answerBy : {S : Type 0} → List ℕ → List ℤ → Buffers → Swept S → ℕ
-unfolding firstOf queryTests badRows shortNotes shortTrail stopped
-answerBy q rows lent r =
-    firstOf (queryTests q ++ ((10, badRows q rows) ∷ (11, shortNotes q rows lent) ∷ (12, shortTrail q rows lent) ∷ (13, stopped r) ∷ []))
+-- Answers 1 to 12 and 14: the first that applies is given, 0 if none does; each is judged over the whole query.
+unfoldable pub refusal : List ℕ → List ℤ → Buffers → ℕ
+unfolding firstOf queryTests badRows shortNotes shortTrail
+refusal q rows lent = firstOf (queryTests q ++ ((10, badRows q rows) ∷ (11, shortNotes q rows lent) ∷ (12, shortTrail q rows lent) ∷ []))
 
--- an answer accepts a search that ends as done (0) or stopped (13), and refuses any other
+-- The answer: a refusal, or that of the search's end. The search is the one that is asked for, by either walk.
+unfoldable pub answerBy : {S : Type 0} → List ℕ → List ℤ → Buffers → Swept S → ℕ
+unfolding refusal endAnswer
+answerBy q rows lent r = pick (eqb (refusal q rows lent) 0) (endAnswer (r .end)) (refusal q rows lent)
+
+-- an answer accepts a search that ends as done (0) or stopped (13 and 15), and refuses any other
 unfoldable pub refuses : ℕ → Bool
-refuses a = not (eqb a 0 || eqb a 13)
+refuses a = not (eqb a 0 || (eqb a 13 || eqb a 15))
 
 -- ---- the result and the buffers
 
@@ -231,7 +246,7 @@ pub record Memory : Type 0 where
 unfoldable pub refused : ℕ → ℕ → Buffers → Memory
 refused a k lent = record { result = record { answer = a; matches = 0; labels = 0; steps = 0; offset = k }; buffers = lent }
 
--- 0 and 13 return the answer, the counts and the steps. The notes hold the failed pairs, the trail a 0 for each pair; beyond, both are unchanged.
+-- 0, 13 and 15 return the answer, the counts and the steps. The notes hold the failed pairs, the trail a 0 for each pair; beyond, both are unchanged.
 unfoldable pub accepted : Report → Kept → Buffers → Memory
 unfolding notesOf zeros wrote
 accepted r kept lent =

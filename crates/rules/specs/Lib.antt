@@ -14,4 +14,5 @@ pub mod Answers
 pub mod Program
 pub mod Demands
 pub mod Bench
+pub mod Samples
 pub mod Working

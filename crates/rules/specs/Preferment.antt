@@ -4,12 +4,12 @@ use mathlib.Core.Path.{_≡_}
 use mathlib.Core.List.{List, [], _∷_, _++_}
 use mathlib.Core.Bool.{Bool, true, false}
 use mathlib.Core.Logic.{_⊎_, inl, inr}
-use mathlib.Core.Option.{Option, none, some}
+use mathlib.Core.Option.{none, some}
 use Prim.Native.Nat.{ℕ, suc, _+_, _≤_, _<_}
 use lib.ListN.{length}
 use Rattle.rules.specs.Language.{lower, upper, Rank, pattern, Tree, one, more, last, next, bare, times, letter, caret, dollar, empty, group}
 use Rattle.rules.specs.Readings.{Within}
-use Rattle.rules.specs.Search.{nextStart}
+use Rattle.rules.specs.Search.{End, done, full, stuck, Skip, nextStart}
 
 -- ---- derivations
 
@@ -105,12 +105,14 @@ pub record Preferred {k : Rank} (t : Tree k) (holds : ℕ → ℕ → Bool) (n i
 
 -- ---- the whole report
 
--- `Reports t holds n mode room i m l ms full`: from the start i on, behind m matches with l labels, the matches written are ms, start and
--- labels each, and `full` is the match that does not fit. `room m l w`: a match with the labels w fits behind m matches with l labels.
-pub data Reports (t : Tree pattern) (holds : ℕ → ℕ → Bool) (n : ℕ) (mode : Bool) (room : ℕ → ℕ → List ℕ → Bool) : ℕ → ℕ → ℕ → List (ℕ × List ℕ) → Option (ℕ × List ℕ) → Type 0 where
-  finished : {i m l : ℕ} → n ≤ i → Reports t holds n mode room i m l [] none
-  unmatched : {i m l : ℕ} {ms : List (ℕ × List ℕ)} {full : Option (ℕ × List ℕ)} → i < n → NoneParses t holds n i → Reports t holds n mode room (suc i) m l ms full
-      → Reports t holds n mode room i m l ms full
-  matched : {i j m l : ℕ} {w : List ℕ} {ms : List (ℕ × List ℕ)} {full : Option (ℕ × List ℕ)} → i < n → Preferred t holds n i j w → room m l w ≡ true
-      → Reports t holds n mode room (nextStart mode i j) (suc m) (l + length w) ms full → Reports t holds n mode room i m l ((i, w) ∷ ms) full
-  stopped : {i j m l : ℕ} {w : List ℕ} → i < n → Preferred t holds n i j w → room m l w ≡ false → Reports t holds n mode room i m l [] (some (i, w))
+-- `Reports t holds n skip room i m l ms end`: from the start i on, behind m matches with l labels, the matches written are ms, start and
+-- labels each, and `end` tells how it ends: done, at the match that does not fit, or behind a match that names no next start. `room m l w`: a match
+-- with the labels w fits behind m matches with l labels.
+pub data Reports (t : Tree pattern) (holds : ℕ → ℕ → Bool) (n : ℕ) (skip : Skip) (room : ℕ → ℕ → List ℕ → Bool) : ℕ → ℕ → ℕ → List (ℕ × List ℕ) → End (ℕ × List ℕ) → Type 0 where
+  finished : {i m l : ℕ} → n ≤ i → Reports t holds n skip room i m l [] done
+  unmatched : {i m l : ℕ} {ms : List (ℕ × List ℕ)} {end : End (ℕ × List ℕ)} → i < n → NoneParses t holds n i → Reports t holds n skip room (suc i) m l ms end
+      → Reports t holds n skip room i m l ms end
+  matched : {i j k m l : ℕ} {w : List ℕ} {ms : List (ℕ × List ℕ)} {end : End (ℕ × List ℕ)} → i < n → Preferred t holds n i j w → room m l w ≡ true
+      → nextStart skip i j w ≡ some k → Reports t holds n skip room k (suc m) (l + length w) ms end → Reports t holds n skip room i m l ((i, w) ∷ ms) end
+  lost : {i j m l : ℕ} {w : List ℕ} → i < n → Preferred t holds n i j w → room m l w ≡ true → nextStart skip i j w ≡ none → Reports t holds n skip room i m l ((i, w) ∷ []) stuck
+  stopped : {i j m l : ℕ} {w : List ℕ} → i < n → Preferred t holds n i j w → room m l w ≡ false → Reports t holds n skip room i m l [] (full (i, w))

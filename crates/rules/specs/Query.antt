@@ -150,10 +150,10 @@ defineFits s columns r =
     && (inRange 1 8 (field s r 1)
     && everyBelow (field s r 1) (λ k. comparisonFits s columns (r .start + 2 + k * 12))))
 
--- kind 4: skip, 0 past the last row or 1 to the next row, and a reserved byte
+-- kind 4: skip, 0 past the last row or 1 to the next row, with a byte that is 0; or 2 to the first or 3 to the last row with a letter (R-2)
 unfoldable pub skipFits : List ℕ → Record → Bool
-unfolding field
-skipFits s r = eqb (r .len) 2 && (leb (field s r 0) 1 && eqb (field s r 1) 0)
+unfolding field isLetter
+skipFits s r = eqb (r .len) 2 && pick (leb (field s r 0) 1) (eqb (field s r 1) 0) (leb (field s r 0) 3 && isLetter (field s r 1))
 
 -- kind 5: a function 1 to 6, a letter or 0 for all rows, a column below the shape's count (0 for COUNT, function 1), and a reserved byte
 unfoldable pub functionFits : ℕ → ℕ → ℕ → ℕ → Bool
@@ -246,12 +246,13 @@ unfolding measureAt
 measuresFrom s [] = []
 measuresFrom s (r ∷ rs) = keep (eqb (r .kind) 5) (measureAt s (r .start)) (measuresFrom s rs)
 
--- what a query says: columns, pattern text, the comparisons of each letter, the skip mode, the measures
+-- what a query says: columns, pattern text, the comparisons of each letter, the skip mode and its letter (0 for none), the measures
 pub record Parts : Type 0 where
   pub columns : ℕ
   pub text : List ℕ
   pub comparisons : ℕ → List Comparison
   pub skip : ℕ
+  pub skipLetter : ℕ
   pub measures : List Measure
 
 unfoldable pub parts : List ℕ → Parts
@@ -262,5 +263,6 @@ parts s =
       text = textOf s;
       comparisons = comparisonsFrom s (records s);
       skip = field s (firstOfKind 4 (records s)) 0;
+      skipLetter = field s (firstOfKind 4 (records s)) 1;
       measures = measuresFrom s (records s);
     }

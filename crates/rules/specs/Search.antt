@@ -5,7 +5,7 @@ use mathlib.Core.Bool.{Bool, true, false}
 use mathlib.Core.Option.{Option, none, some}
 use Prim.Native.Nat.{ℕ, zero, suc, _+_}
 use lib.ListN.{length, getD, replicate}
-use lib.Dec.{ltb}
+use lib.Dec.{ltb, eqb}
 use Rattle.rules.specs.Basics.{pick}
 use Rattle.rules.specs.Places.{Place, pLetter, pCaret, pDollar, pFork, pEnd}
 use Rattle.rules.specs.Walk.{Ways, pairs, positionOf, placeOf, firstAt, pairWays, plain, Outcome, found, failed, enterUnless, inside}
@@ -29,16 +29,23 @@ unfoldable pub labels : List Place → List ℕ → List ℕ
 labels pl [] = []
 labels pl (x ∷ p) = labelOf (getD pl (placeOf (length pl) x) (pFork [])) (labels pl p)
 
--- the start and the labels of a match, of each match, and of the match that does not fit
+-- how a search ends: done; at a match that does not fit whole; or behind a match that is written and names no start to go on at
+pub data End (M : Type 0) : Type 0 where
+  done : End M
+  full : M → End M
+  stuck : End M
+
+-- the start and the labels of a match, of each match, and of the match at which a search ends
 abbrev pub shownOne : List Place → Match → ℕ × List ℕ
 shownOne pl m = (m .start, labels pl (m .path))
 
 abbrev pub shown : List Place → List Match → List (ℕ × List ℕ)
 shown pl ms = map (shownOne pl) ms
 
-abbrev pub shownFull : List Place → Option Match → Option (ℕ × List ℕ)
-shownFull pl none = none
-shownFull pl (some m) = some (shownOne pl m)
+abbrev pub shownEnd : List Place → End Match → End (ℕ × List ℕ)
+shownEnd pl done = done
+shownEnd pl (full m) = full (shownOne pl m)
+shownEnd pl stuck = stuck
 
 -- the position at which a path ends, behind the last row of its match
 abbrev pub lastOf : ℕ → List ℕ → ℕ
@@ -50,47 +57,88 @@ endOf P p = positionOf P (lastOf 0 p)
 
 -- ---- starts
 
--- After an empty match the next start is one row on; after a match of the rows i to j, not j itself, it is the row behind its last row with
--- skip mode 0 (false), or one past its first with mode 1 (true).
-unfoldable pub nextStart : Bool → ℕ → ℕ → ℕ
-nextStart false i j = pick (ltb i j) j (suc i)
-nextStart true i j = suc i
+-- the skip mode: past the last row (0), to the next row (1), to the first or to the last row with a letter (2 and 3, R-2)
+pub data Skip : Type 0 where
+  pastLast : Skip
+  toNext : Skip
+  toFirst : ℕ → Skip
+  toLast : ℕ → Skip
+
+-- which of the labels is the first, or the last, that is the letter c, counted from 0
+abbrev pub oneOn : Option ℕ → Option ℕ
+oneOn none = none
+oneOn (some k) = some (suc k)
+
+abbrev pub lastOr : Option ℕ → Bool → Option ℕ
+lastOr (some k) here = some (suc k)
+lastOr none true = some 0
+lastOr none false = none
+
+unfoldable pub firstWith : ℕ → List ℕ → Option ℕ
+firstWith c [] = none
+firstWith c (x ∷ w) = pick (eqb x c) (some 0) (oneOn (firstWith c w))
+
+unfoldable pub lastWith : ℕ → List ℕ → Option ℕ
+lastWith c [] = none
+lastWith c (x ∷ w) = lastOr (lastWith c w) (eqb x c)
+
+-- At a labelled row of the match at i with these labels: one row on after an empty match; no start where the letter labels no row, or the
+-- match's first row.
+abbrev pub labelledStart : ℕ → List ℕ → Option ℕ → Option ℕ
+labelledStart i [] k = some (suc i)
+labelledStart i (x ∷ w) none = none
+labelledStart i (x ∷ w) (some zero) = none
+labelledStart i (x ∷ w) (some (suc k)) = some (i + suc k)
+
+-- After an empty match the next start is one row on. After a match of the rows i to j, not j itself, with the labels w it is, by skip mode, the
+-- row behind its last row, one past its first, or its first or last row with a letter; none where there is no such row behind its first.
+unfoldable pub nextStart : Skip → ℕ → ℕ → List ℕ → Option ℕ
+unfolding firstWith lastWith
+nextStart pastLast i j w = some (pick (ltb i j) j (suc i))
+nextStart toNext i j w = some (suc i)
+nextStart (toFirst c) i j w = labelledStart i w (firstWith c w)
+nextStart (toLast c) i j w = labelledStart i w (lastWith c w)
 
 -- how a search goes on: the number of rows, the next start behind a path found at a start, the rows of a path, and whether its match fits
 -- behind so many matches with so many labels
 pub record Plan : Type 0 where
   pub n : ℕ
-  pub next : ℕ → List ℕ → ℕ
+  pub next : ℕ → List ℕ → Option ℕ
   pub rows : List ℕ → ℕ
   pub fits : ℕ → ℕ → List ℕ → Bool
 
--- what a search comes to: the matches written, the match that does not fit where there is one, and what the attempts kept
+-- what a search comes to: the matches written, how it ends, and what the attempts kept
 pub record Swept (S : Type 0) : Type 0 where
   pub matches : List Match
-  pub full : Option Match
+  pub end : End Match
   pub state : S
 
 module _ {S : Type 0} where
   abbrev pub below : Bool → S → (Unit {0} → Swept S) → Swept S
-  below false st go = record { matches = []; full = none; state = st }
+  below false st go = record { matches = []; end = done; state = st }
   below true st go = go tt
 
   abbrev pub withMatch : Match → Swept S → Swept S
-  withMatch m r = record { matches = m ∷ r .matches; full = r .full; state = r .state }
+  withMatch m r = record { matches = m ∷ r .matches; end = r .end; state = r .state }
 
   -- a match that does not fit whole ends the search, and no later, smaller match is tried
   abbrev pub byFit : Bool → Match → S → (Unit {0} → Swept S) → Swept S
-  byFit false m st go = record { matches = []; full = some m; state = st }
+  byFit false m st go = record { matches = []; end = full m; state = st }
   byFit true m st go = withMatch m (go tt)
+
+  -- a match that names no next start is written, and ends the search
+  abbrev pub byNext : Option ℕ → S → (ℕ → Swept S) → Swept S
+  byNext none st go = record { matches = []; end = stuck; state = st }
+  byNext (some j) st go = go j
 
   -- behind the attempt at the start i, where m matches with l labels are written: after no match the next start is one row on
   abbrev pub onAnswer : Plan → (ℕ → ℕ → ℕ → S → Swept S) → ℕ → ℕ → ℕ → Option (List ℕ) → S → Swept S
   onAnswer plan on i m l none st = on (suc i) m l st
-  onAnswer plan on i m l (some p) st = byFit (plan .fits m l p) (record { start = i; path = p }) st (λ _. on (plan .next i p) (suc m) (l + plan .rows p) st)
+  onAnswer plan on i m l (some p) st = byFit (plan .fits m l p) (record { start = i; path = p }) st (λ _. byNext (plan .next i p) st (λ j. on j (suc m) (l + plan .rows p) st))
 
   -- the search from the start i on; attempts begin at rows below n only. k bounds the number of attempts, and n is enough (proofs/Fuel).
   unfoldable pub sweep : (ℕ → S → Option (List ℕ) × S) → Plan → ℕ → ℕ → ℕ → ℕ → S → Swept S
-  sweep attempt plan zero i m l st = record { matches = []; full = none; state = st }
+  sweep attempt plan zero i m l st = record { matches = []; end = done; state = st }
   sweep attempt plan (suc k) i m l st = below (ltb i (plan .n)) st (λ _. let r = attempt i st in onAnswer plan (sweep attempt plan k) i m l (r .0) (r .1))
 
 -- ---- attempts
@@ -117,38 +165,39 @@ plainFrom holds n pl i = plain (pairWays holds n pl) (pairs (length pl) n) (firs
 
 -- ---- the two searches
 
-unfoldable pub planOf : List Place → ℕ → Bool → (ℕ → ℕ → List ℕ → Bool) → Plan
+unfoldable pub planOf : List Place → ℕ → Skip → (ℕ → ℕ → List ℕ → Bool) → Plan
 unfolding labels nextStart
-planOf pl n mode fits =
+planOf pl n skip fits =
     record {
       n = n;
-      next = λ i p. nextStart mode i (endOf (length pl) p);
+      next = λ i p. nextStart skip i (endOf (length pl) p) (labels pl p);
       rows = λ p. length (labels pl p);
       fits = λ m l p. fits m l (labels pl p);
     }
 
 -- by the counted walk: at first no pair has failed, and the count of steps is 0; the first start is row 0. `holds c i`: letter c holds at row i;
--- `mode`: skip to the next row; `fits m l w`: a match with the labels w fits behind m matches with l labels.
-unfoldable pub walkSearch : (ℕ → ℕ → Bool) → ℕ → List Place → Bool → (ℕ → ℕ → List ℕ → Bool) → Swept Kept
+-- `skip`: the skip mode; `fits m l w`: a match with the labels w fits behind m matches with l labels.
+unfoldable pub walkSearch : (ℕ → ℕ → Bool) → ℕ → List Place → Skip → (ℕ → ℕ → List ℕ → Bool) → Swept Kept
 unfolding planOf pairWays inside sweep
-walkSearch holds n pl mode fits =
+walkSearch holds n pl skip fits =
     let N = pairs (length pl) n in
-    sweep (walkAt (pairWays holds n pl) N (firstAt (length pl))) (planOf pl n mode fits) n 0 0 0 (replicate N false, 0)
+    sweep (walkAt (pairWays holds n pl) N (firstAt (length pl))) (planOf pl n skip fits) n 0 0 0 (replicate N false, 0)
 
 -- by plain backtracking
-unfoldable pub plainSearch : (ℕ → ℕ → Bool) → ℕ → List Place → Bool → (ℕ → ℕ → List ℕ → Bool) → Swept (Unit {0})
+unfoldable pub plainSearch : (ℕ → ℕ → Bool) → ℕ → List Place → Skip → (ℕ → ℕ → List ℕ → Bool) → Swept (Unit {0})
 unfolding planOf pairWays plain sweep
-plainSearch holds n pl mode fits =
+plainSearch holds n pl skip fits =
     let N = pairs (length pl) n in
-    sweep (plainAt (pairWays holds n pl) N (firstAt (length pl))) (planOf pl n mode fits) n 0 0 0 tt
+    sweep (plainAt (pairWays holds n pl) N (firstAt (length pl))) (planOf pl n skip fits) n 0 0 0 tt
 
 -- all matches found: those written, and the one that does not fit
-abbrev pub fullOf : Option Match → List Match
-fullOf none = []
-fullOf (some m) = m ∷ []
+abbrev pub fullOf : End Match → List Match
+fullOf done = []
+fullOf (full m) = m ∷ []
+fullOf stuck = []
 
 abbrev pub foundIn : {S : Type 0} → Swept S → List Match
-foundIn r = r .matches ++ fullOf (r .full)
+foundIn r = r .matches ++ fullOf (r .end)
 
 -- the pairs on all paths found, path by path; a pair on two paths counts twice
 abbrev pub pathPairs : List Match → ℕ

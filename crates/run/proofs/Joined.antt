@@ -20,12 +20,12 @@ use Rattle.rules.specs.Rows.{tableOf}
 use Rattle.rules.specs.Query.{columnsOf, textOf}
 use Rattle.rules.specs.Search.{Swept, Kept}
 use Rattle.rules.specs.Report.{bytesFor, numbersOf, labelsOf}
-use Rattle.rules.specs.Answers.{P, treeIn, tooMany, badRows, Task, taskOf, walked, Buffers, pairsOf, shortNotes, shortTrail, stopped, Test, firstOf, refuses, offsetAt, queryTests, answerBy, answerOf, roomAnswer, Room, roomOf, reportOf, walkReport, walkOf, Memory, accepted, searchOf}
+use Rattle.rules.specs.Answers.{P, treeIn, tooMany, badRows, Task, taskOf, walked, Buffers, pairsOf, shortNotes, shortTrail, stopped, Test, firstOf, refuses, offsetAt, queryTests, refusal, answerBy, answerOf, roomAnswer, Room, roomOf, reportOf, walkReport, walkOf, Memory, accepted, searchOf}
 use Rattle.rules.specs.Program.{refusedText, tooLarge, searchText, rowsOf, printedFor}
 use Rattle.rules.proofs.Lists.{length-wrote}
-use Rattle.rules.proofs.Accepted.{Accepted, done-or-stopped, answer-is, query-tests-refuse}
+use Rattle.rules.proofs.Accepted.{Accepted, answer-is, query-tests-refuse}
 use Rattle.rules.proofs.Level.{or-false}
-use Rattle.rules.proofs.FirstTrue.{allRefuse, first-after, none-before, none-true}
+use Rattle.rules.proofs.FirstTrue.{end-accepted, allRefuse, first-after, none-before, none-true}
 use Rattle.rules.proofs.Limits.{limits, numbers-long}
 use Rattle.reading.specs.declared.Size.{Size}
 use Rattle.reading.specs.Reading.{asRoom}
@@ -70,13 +70,13 @@ module _ (q : List ℕ) (rows : List ℤ) (none : roomAnswer q (badRows q rows) 
 
   -- with notes of 2,000 bytes and a trail of 16,000 numbers the search is accepted
   pub room-accepts : (lent : Buffers) → 2000 ≤ length (lent .notes) → 16000 ≤ length (lent .trail) → pairsOf q rows ≤ 16000 → Accepted q rows lent
-  unfolding answerOf answerBy firstOf
+  unfolding answerOf answerBy refusal firstOf
   room-accepts lent hn ht h =
       let n : shortNotes q rows lent ≡ false = enough-notes q rows lent h hn in
       let t : shortTrail q rows lent ≡ false = enough-trail q rows lent h ht in
-      let rest : List Test = (10, badRows q rows) ∷ (11, shortNotes q rows lent) ∷ (12, shortTrail q rows lent) ∷ (13, stopped (walkOf q rows lent)) ∷ [] in
-      let k = first-after (queryTests q) rest (query-tests-refuse q) no-query-answer in
-      ap refuses k ∙ rw (whole-rows, n, t) (done-or-stopped (stopped (walkOf q rows lent)))
+      let rest : List Test = (10, badRows q rows) ∷ (11, shortNotes q rows lent) ∷ (12, shortTrail q rows lent) ∷ [] in
+      let k : refusal q rows lent ≡ 0 = first-after (queryTests q) rest (query-tests-refuse q) no-query-answer ∙ rw (whole-rows, n, t) in
+      rw k (end-accepted (walkOf q rows lent .end))
 
 above : (n : ℕ) → (n ≡ 0 → ⊥) → 0 < n
 above zero d = absurd (d refl)
@@ -177,11 +177,6 @@ module _ (q r : List ℕ) (l array : List ℤ) (k : ℕ) (filled : array ≡ wro
 
 -- ---- the search's promise as text
 
--- the answer is 13 exactly if the search is stopped
-is-stopped : (s : Bool) → eqb (pick s 13 0) 13 ≡ s
-is-stopped true = refl
-is-stopped false = refl
-
 module _ (q : List ℕ) (rows : List ℤ) (lent : Buffers) (ok : Accepted q rows lent) where
   search-is : searchOf q rows lent ≡ accepted (walkReport q rows lent) (walkOf q rows lent .state) lent
   unfolding searchOf
@@ -225,9 +220,10 @@ module _ (q : List ℕ) (rows : List ℤ) (lent : Buffers) (ok : Accepted q rows
       (rw numbers-long at f)
 
   pub search-printed : length (lent .numbers) ≡ 8192 → length (lent .labels) ≡ 65536
-      → reportText (eqb (searchOf q rows lent .result .answer) 13) (searchOf q rows lent .result .matches) (searchOf q rows lent .result .steps) (length (taskOf q rows .measures))
+      → reportText (not (eqb (searchOf q rows lent .result .answer) 0)) (searchOf q rows lent .result .matches) (searchOf q rows lent .result .steps) (length (taskOf q rows .measures))
       (searchOf q rows lent .buffers .numbers) (searchOf q rows lent .buffers .labels)
       ≡ searchText (taskOf q rows) (walked (taskOf q rows) 8192 65536)
+  unfolding stopped
   search-printed en el =
-      let s : eqb (searchOf q rows lent .result .answer) 13 ≡ stopped swept = ap (λ (a : ℕ). eqb a 13) (answer-kept ∙ answer-is q rows lent ok) ∙ is-stopped (stopped swept) in
+      let s : not (eqb (searchOf q rows lent .result .answer) 0) ≡ stopped swept = ap (λ (a : ℕ). not (eqb a 0)) (answer-kept ∙ answer-is q rows lent ok) in
       rw (s, matches-kept, steps-kept, numbers-kept, labels-kept) (report-printed task swept (lent .numbers) (lent .labels) ∙ ap (searchText task) (lengths en el))

@@ -1,5 +1,6 @@
 -- One law for each way through the functions of this crate: the measures counted, the search's report as text, and the program's text by what the input
 -- is.
+use mathlib.Core.Bool.{not}
 use mathlib.Core.Path.{_≡_, sym, ap, _∙_}
 use mathlib.Core.List.{List}
 use Prim.Native.Nat.{ℕ, _+_, _*_, _-_, _≤_}
@@ -61,12 +62,12 @@ module _ (q : List ℕ) (rows : List ℤ) (f : Found q rows) (notes′ trail′ 
       t _ (p .whole)
 
   report-is : (M : Memory) → M ≡ searchOf q rows L → length numbers′ ≡ 8192 → length labels′ ≡ 65536
-      → reportText (eqb (M .result .answer) 13) (M .result .matches) (M .result .steps) k (M .buffers .numbers) (M .buffers .labels)
+      → reportText (not (eqb (M .result .answer) 0)) (M .result .matches) (M .result .steps) k (M .buffers .numbers) (M .buffers .labels)
       ≡ searchText (taskOf q rows) (walked (taskOf q rows) 8192 65536)
   report-is M e n l = rw (e, measures) (search-printed q rows L accepts n l)
 
   pub report-put : length numbers′ ≡ 8192 → length labels′ ≡ 65536 → (o m : List ℕ) (b : ℕ)
-      → Put o 0 (reportText (eqb (r .answer) 13) (r .matches) (r .steps) k numbers labels) m b → Put o 0 (searchText (taskOf q rows) (walked (taskOf q rows) 8192 65536)) m b
+      → Put o 0 (reportText (not (eqb (r .answer) 0)) (r .matches) (r .steps) k numbers labels) m b → Put o 0 (searchText (taskOf q rows) (walked (taskOf q rows) 8192 65536)) m b
   report-put n l o m b w = rw (← (report-is _ (p .whole) n l)) w
 
 -- ---- the whole input

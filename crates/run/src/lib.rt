@@ -41,7 +41,7 @@ fn run_search(query: &[u8], rows: &[i32], out: &mut [u8]) -> usize
     text::put_report(
         out,
         0,
-        end.answer == 13,
+        end.answer != 0,
         end.matches,
         end.steps as u64,
         measures,

@@ -11,15 +11,16 @@ use lib.IntN.{ℤ}
 use lib.ListN.{length}
 use mir.Syntax.{w64}
 use mir.Val.{Fits}
-use borrow.Author.Tests.{le-ltb, ltb-false, eqb-true, not-false}
+use borrow.Author.Tests.{le-ltb, ltb-false, eqb-true, ne-eqb, not-false}
 use Rattle.rules.specs.Basics.{pick}
 use Rattle.rules.specs.Rows.{tableOf}
 use Rattle.rules.specs.Query.{columnsOf, textOf, parts}
 use Rattle.rules.specs.Report.{bytesFor}
-use Rattle.rules.specs.Answers.{treeIn, P, badRows, Buffers, Memory, taskOf, pairsOf, shortNotes, shortTrail, stopped, Test, firstOf, refuses, offsetAt, queryTests, answerBy, answerOf, walkOf, walkReport, reportOf, refused, accepted, searchOf}
-use Rattle.rules.proofs.Accepted.{done-or-stopped, query-tests-refuse}
+use Rattle.rules.specs.Answers as A
+use Rattle.rules.specs.Answers.{treeIn, P, badRows, Buffers, Memory, taskOf, pairsOf, shortNotes, shortTrail, endAnswer, Test, firstOf, refuses, offsetAt, queryTests, answerBy, answerOf, walkOf, walkReport, reportOf, refused, accepted, searchOf}
+use Rattle.rules.proofs.Accepted.{query-tests-refuse}
 use Rattle.rules.proofs.Demands.{demands}
-use Rattle.rules.proofs.FirstTrue.{first-refuses, first-before, first-after}
+use Rattle.rules.proofs.FirstTrue.{end-accepted, first-refuses, first-before, first-after}
 use Rattle.rules.proofs.Level.{or-false}
 use Rattle.sizes.specs.Sizes.{badCount, shortFor}
 use Rattle.reading.specs.Reading.{queryAnswer}
@@ -37,21 +38,28 @@ module _ (q : List ℕ) (rows : List ℤ) (notes trail : List ℕ) (numbers : Li
   abbrev before : Buffers
   before = lent notes trail numbers labels
 
-  -- a number that is the answer and refuses is given with its offset and zeros, and nothing is changed
-  refuse : (n k : ℕ) → answerOf q rows before ≡ n → refuses n ≡ true → k ≡ offsetAt (textOf q) n → (r : Outcome) → r ≡ refusal n k → Promised q rows before (memory r notes trail numbers labels)
+  -- a refusal is the answer
+  refused-by : (n : ℕ) → A.refusal q rows before ≡ n → refuses n ≡ true → answerOf q rows before ≡ n
+  unfolding answerOf answerBy refuses
+  refused-by n e t = rw (e, ne-eqb n 0 (λ z. true≢false (sym t ∙ ap refuses z)))
+
+  -- it is given with its offset and zeros, and nothing is changed
+  refuse : (n k : ℕ) → A.refusal q rows before ≡ n → refuses n ≡ true → k ≡ offsetAt (textOf q) n → (r : Outcome) → r ≡ refusal n k → Promised q rows before (memory r notes trail numbers labels)
   unfolding searchOf refused
-  refuse n k e t o r b = record { whole = rw (b, e, t, o); demands = λ z. absurd (true≢false (sym t ∙ ap refuses (sym e) ∙ z)) }
+  refuse n k e t o r b =
+      let a = refused-by n e t in
+      record { whole = rw (b, a, t, o); demands = λ z. absurd (true≢false (sym t ∙ ap refuses (sym a) ∙ z)) }
 
   abbrev rest : List Test
-  rest = (10, badRows q rows) ∷ (11, shortNotes q rows before) ∷ (12, shortTrail q rows before) ∷ (13, stopped (walkOf q rows before)) ∷ []
+  rest = (10, badRows q rows) ∷ (11, shortNotes q rows before) ∷ (12, shortTrail q rows before) ∷ []
 
-  the-answer-before : (queryAnswer q ≡ 0 → ⊥) → answerOf q rows before ≡ queryAnswer q
-  unfolding answerOf answerBy queryAnswer
-  the-answer-before d = first-before (queryTests q) rest d
+  the-refusal-before : (queryAnswer q ≡ 0 → ⊥) → A.refusal q rows before ≡ queryAnswer q
+  unfolding A.refusal queryAnswer
+  the-refusal-before d = first-before (queryTests q) rest d
 
-  the-answer-after : queryAnswer q ≡ 0 → answerOf q rows before ≡ firstOf rest
-  unfolding answerOf answerBy queryAnswer
-  the-answer-after e = first-after (queryTests q) rest (query-tests-refuse q) e
+  the-refusal-after : queryAnswer q ≡ 0 → A.refusal q rows before ≡ firstOf rest
+  unfolding A.refusal queryAnswer
+  the-refusal-after e = first-after (queryTests q) rest (query-tests-refuse q) e
 
   -- answers 1 to 9 and 14
   pub query-refused : (a k : ℕ) → a ≡ queryAnswer q → k ≡ offsetAt (textOf q) a → (a ≡ 0 → ⊥) → (r : Outcome) → r ≡ refusal a k
@@ -59,18 +67,18 @@ module _ (q : List ℕ) (rows : List ℤ) (notes trail : List ℕ) (numbers : Li
   unfolding queryAnswer
   query-refused a k e o d r b =
       let w : refuses a ≡ true = ap refuses e ∙ first-refuses (queryTests q) (query-tests-refuse q) (λ z. d (e ∙ z)) in
-      refuse a k (the-answer-before (λ z. d (e ∙ z)) ∙ sym e) w o r b
+      refuse a k (the-refusal-before (λ z. d (e ∙ z)) ∙ sym e) w o r b
 
   module _ (z : queryAnswer q ≡ 0) where
     -- answer 10
     pub rows-refused : badRows q rows ≡ true → (r : Outcome) → r ≡ refusal 10 0 → Promised q rows before (memory r notes trail numbers labels)
     unfolding firstOf refuses offsetAt
-    rows-refused t r b = refuse 10 0 (the-answer-after z ∙ rw t) refl refl r b
+    rows-refused t r b = refuse 10 0 (the-refusal-after z ∙ rw t) refl refl r b
 
     -- answers 11 and 12
-    the-room : badRows q rows ≡ false → answerOf q rows before ≡ pick (shortNotes q rows before) 11 (pick (shortTrail q rows before) 12 (pick (stopped (walkOf q rows before)) 13 0))
+    the-room : badRows q rows ≡ false → A.refusal q rows before ≡ pick (shortNotes q rows before) 11 (pick (shortTrail q rows before) 12 0)
     unfolding firstOf
-    the-room f = the-answer-after z ∙ rw f
+    the-room f = the-refusal-after z ∙ rw f
 
     pub room-refused : badRows q rows ≡ false → (s : ℕ) → s ≡ pick (shortNotes q rows before) 11 (pick (shortTrail q rows before) 12 0) → (s ≡ 0 → ⊥) → (r : Outcome) → r ≡ refusal s 0
         → Promised q rows before (memory r notes trail numbers labels)
@@ -83,11 +91,15 @@ module _ (q : List ℕ) (rows : List ℤ) (notes trail : List ℕ) (numbers : Li
         go false false eu ev = absurd (d (e ∙ rw (eu, ev)))
 
     -- done or stopped
+    answer-ended : A.refusal q rows before ≡ 0 → answerOf q rows before ≡ endAnswer (walkOf q rows before .end)
+    unfolding answerOf answerBy
+    answer-ended e = rw e
+
     pub search-ended : badRows q rows ≡ false → shortNotes q rows before ≡ false → shortTrail q rows before ≡ false → (m : Memory) → m ≡ ended q rows before → Promised q rows before m
-    unfolding firstOf searchOf ended walkReport
+    unfolding searchOf ended walkReport
     search-ended f g h m e =
-        let x : answerOf q rows before ≡ pick (stopped (walkOf q rows before)) 13 0 = the-answer-after z ∙ rw (f, g, h) in
-        let y : refuses (answerOf q rows before) ≡ false = ap refuses x ∙ done-or-stopped (stopped (walkOf q rows before)) in
+        let x : answerOf q rows before ≡ endAnswer (walkOf q rows before .end) = answer-ended (the-room f ∙ rw (g, h)) in
+        let y : refuses (answerOf q rows before) ≡ false = ap refuses x ∙ end-accepted (walkOf q rows before .end) in
         record { whole = e ∙ sym (rw y (ap (λ (n : ℕ). accepted (reportOf n (taskOf q rows) before (walkOf q rows before)) (walkOf q rows before .state) before) x)); demands = demands q rows before }
 
 -- ---- what a prepared query gives

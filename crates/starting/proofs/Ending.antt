@@ -4,10 +4,10 @@ use mathlib.Core.List.{List}
 use Prim.Native.Nat.{ℕ}
 use lib.IntN.{ℤ}
 use lib.ListN.{length}
-use Rattle.rules.specs.Basics.{pick, wrote}
+use Rattle.rules.specs.Basics.{wrote}
 use Rattle.rules.specs.Search.{Swept, Kept}
 use Rattle.rules.specs.Report.{numbersOf, labelsOf, notesOf, zeros}
-use Rattle.rules.specs.Answers.{taskOf, walked, walkOf, stopped, reportOf, accepted}
+use Rattle.rules.specs.Answers.{taskOf, walked, walkOf, endAnswer, reportOf, accepted}
 use Rattle.matches.specs.Asked as S
 use Rattle.matches.specs.Asked.{askedOf}
 use Rattle.matches.specs.declared.Sweep.{Sweep}
@@ -30,7 +30,7 @@ module _ (T : List ℕ) (p : Prepared) (n : ℕ) (rows : List ℤ) (notes trail 
       let W : Swept Kept = walked (taskOf q rows) (length num) (length lab) in
       let R : Swept Kept = S.searchOf (askedOf T rows t) (length num) (length lab) in
       let f = found q T p a n rows notes trail fed t h (length num) (length lab) in
-      let end : s .end ≡ pick (stopped W) 13 0 = g .reported .end ∙ ap (λ (w : Swept Kept). pick (stopped w) 13 0) f in
+      let end : s .end ≡ endAnswer (W .end) = g .reported .end ∙ ap (λ (w : Swept Kept). endAnswer (w .end)) f in
       let m : s .matches ≡ length (W .matches) = g .reported .matches ∙ ap (λ (w : Swept Kept). length (w .matches)) f in
       let l : s .labels ≡ length (labelsOf (taskOf q rows .places) (W .matches)) =
       g .reported .labels ∙ ap length (labelled q T p a n rows notes trail fed t h (R .matches)) ∙ ap (λ (w : Swept Kept). length (labelsOf (taskOf q rows .places) (w .matches))) f in

@@ -5,7 +5,6 @@ use mathlib.Core.List.{List, [], _∷_}
 use Prim.Native.Nat.{ℕ, zero, suc, _+_, _-_, _*_, _/_, _≤_, _<_}
 use native.Mathlib.Nat.{mul-le-mul, mul-div-cancel}
 use native.Mathlib.Omega.{arith}
-use lib.Dec.{eqb}
 use lib.IntN.{ℤ}
 use lib.ListN.{length, getD}
 use Rattle.rules.specs.Rows.{Table, Comparison, tableOf, holds}
@@ -13,9 +12,10 @@ use Rattle.rules.specs.Query.{Measure, textOf, parts}
 use Rattle.rules.specs.Language.{emptyLoop}
 use Rattle.rules.specs.Places.{Place, pLetter, pCaret, pDollar, pFork, pEnd, unroll, places}
 use Rattle.rules.specs.Walk.{pairs}
+use Rattle.rules.specs.Search as R
 use Rattle.rules.specs.Search.{Match, walkSearch}
 use Rattle.rules.specs.Report.{fits, numbersOf, labelsOf}
-use Rattle.rules.specs.Answers.{treeIn, letterHolds, taskOf, walked}
+use Rattle.rules.specs.Answers.{treeIn, letterHolds, skipOf, taskOf, walked}
 use Rattle.rules.specs.Working.{thinned}
 use Rattle.rules.proofs.Accepted.{places-are}
 use Rattle.rules.proofs.Bounds.{Lettered, written-letters}
@@ -32,9 +32,10 @@ use Rattle.table.specs.Measures.{measuresIn}
 use Rattle.pairs.specs.Layout as W
 use Rattle.pairs.specs.Layout.{layoutOf, lettersOf, Tested}
 use Rattle.matches.specs.Asked as S
-use Rattle.matches.specs.Asked.{askedOf, toNext}
+use Rattle.matches.specs.Asked.{askedOf}
 use Rattle.matches.specs.Found.{Measured, Searches}
-use Rattle.matches.specs.declared.Skip.{Skip}
+use Rattle.skips.specs.Skips.{skipIn}
+use Rattle.skips.specs.declared.Skip.{Skip}
 use Rattle.matches.specs.declared.Task.{Task}
 use Rattle.prepared.specs.Ready.{Ready, measuresAt, testsAt}
 use Rattle.prepared.specs.declared.Prepared.{Prepared}
@@ -88,9 +89,9 @@ module _ (q T : List ℕ) (p : Prepared) (a : Ready q T p) (n : ℕ) (rows : Lis
   unfolding taskOf
   the-measures = a .measures-are
 
-  the-mode : eqb (p .skip) 1 ≡ taskOf q rows .mode
+  the-skip : skipOf (p .skip) (p .target) ≡ taskOf q rows .skip
   unfolding taskOf
-  the-mode = ap (λ (k : ℕ). eqb k 1) (a .skip-is)
+  the-skip = ap₂ (λ (m c : ℕ). skipOf m c) (a .skip-is) (a .target-is)
 
   the-places : taskOf q rows .places ≡ places (unroll (a .tree))
   the-places = places-are q rows (a .tree) (a .has-tree)
@@ -147,11 +148,11 @@ module _ (q T : List ℕ) (p : Prepared) (a : Ready q T p) (n : ℕ) (rows : Lis
     unfolding S.searchOf walked
     found-by nums labs =
         rw (a .placed)
-        (search-agrees holdsAt (letterHolds (taskOf q rows)) letters-agree n (thinned (places (unroll (a .tree)))) (thinned-spelt (a .tree) the-lettered) (toNext (t .skip)) (fits nums labs (measuresIn T (measuresAt (p .places)) (p .count)))
-        ∙ walk-thin (unroll (a .tree)) (legal-unroll (a .tree) (a .no-loop)) (letterHolds (taskOf q rows)) n (toNext (t .skip)) (fits nums labs (measuresIn T (measuresAt (p .places)) (p .count)))
-        ∙ same-search (places (unroll (a .tree))) (taskOf q rows .places) n (taskOf q rows .table .n) (toNext (t .skip)) (taskOf q rows .mode) (measuresIn T (measuresAt (p .places)) (p .count)) (taskOf q rows .measures) (sym the-places) the-rows (h .skip ∙ the-mode) the-measures)
+        (search-agrees holdsAt (letterHolds (taskOf q rows)) letters-agree n (thinned (places (unroll (a .tree)))) (thinned-spelt (a .tree) the-lettered) (skipIn (t .skip)) (fits nums labs (measuresIn T (measuresAt (p .places)) (p .count)))
+        ∙ walk-thin (unroll (a .tree)) (legal-unroll (a .tree) (a .no-loop)) (letterHolds (taskOf q rows)) n (skipIn (t .skip)) (fits nums labs (measuresIn T (measuresAt (p .places)) (p .count)))
+        ∙ same-search (places (unroll (a .tree))) (taskOf q rows .places) n (taskOf q rows .table .n) (skipIn (t .skip)) (taskOf q rows .skip) (measuresIn T (measuresAt (p .places)) (p .count)) (taskOf q rows .measures) (sym the-places) the-rows (h .skip ∙ the-skip) the-measures)
       where
-        same-search : (pl pl′ : List Place) (m m′ : ℕ) (o o′ : Bool) (x x′ : List Measure) → pl ≡ pl′ → m ≡ m′ → o ≡ o′ → x ≡ x′
+        same-search : (pl pl′ : List Place) (m m′ : ℕ) (o o′ : R.Skip) (x x′ : List Measure) → pl ≡ pl′ → m ≡ m′ → o ≡ o′ → x ≡ x′
             → walkSearch (letterHolds (taskOf q rows)) m pl o (fits nums labs x) ≡ walkSearch (letterHolds (taskOf q rows)) m′ pl′ o′ (fits nums labs x′)
         same-search pl pl′ m m′ o o′ x x′ e f h i = rw (e, f, h, i)
 
@@ -171,7 +172,7 @@ module _ (q T : List ℕ) (p : Prepared) (a : Ready q T p) (n : ℕ) (rows : Lis
     unfolding walked
     counted nums labs =
         ap₂ (λ (x y : ℕ). pairs x y) (h .places ∙ a .places-are ∙ sym (places-counted (a .tree)) ∙ ap length (sym the-places)) (h .rows ∙ the-rows)
-        ∙ sym (rw the-places (walk-kept (unroll (a .tree)) (legal-unroll (a .tree) (a .no-loop)) (letterHolds (taskOf q rows)) (taskOf q rows .table .n) (taskOf q rows .mode) (fits nums labs (taskOf q rows .measures))))
+        ∙ sym (rw the-places (walk-kept (unroll (a .tree)) (legal-unroll (a .tree) (a .no-loop)) (letterHolds (taskOf q rows)) (taskOf q rows .table .n) (taskOf q rows .skip) (fits nums labs (taskOf q rows .measures))))
 
 -- as the code asks it
 pub walk-searches : (T : List ℕ) (p : Prepared) (n : ℕ) (rows : List ℤ) (notes trail : List ℕ) → Walks T p n rows notes trail → (t : Task) → TaskFor p n t → Searches T rows t notes trail

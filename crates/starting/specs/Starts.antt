@@ -2,21 +2,19 @@
 use mathlib.Core.Path.{_≡_}
 use mathlib.Core.List.{List}
 use Prim.Native.Nat.{ℕ, _*_, _≤_}
-use lib.Dec.{eqb}
 use lib.IntN.{ℤ}
 use lib.ListN.{length}
-use Rattle.rules.specs.Basics.{pick}
 use Rattle.rules.specs.Walk.{pairs}
-use Rattle.rules.specs.Answers.{Buffers, Memory, taskOf, walkOf, stopped, reportOf, accepted}
+use Rattle.rules.specs.Answers.{Buffers, Memory, taskOf, skipOf, walkOf, endAnswer, reportOf, accepted}
 use Rattle.prepared.specs.Ready.{Ready, measuresAt, testsAt}
 use Rattle.prepared.specs.declared.Prepared.{Prepared}
-use Rattle.matches.specs.Asked.{toNext}
+use Rattle.skips.specs.Skips.{skipIn}
 use Rattle.matches.specs.declared.Task.{Task}
 
 -- an accepted search as the definition ends it: done or stopped
 unfoldable pub ended : List ℕ → List ℤ → Buffers → Memory
-unfolding accepted reportOf stopped walkOf taskOf
-ended q rows before = accepted (reportOf (pick (stopped (walkOf q rows before)) 13 0) (taskOf q rows) before (walkOf q rows before)) (walkOf q rows before .state) before
+unfolding accepted reportOf endAnswer walkOf taskOf
+ended q rows before = accepted (reportOf (endAnswer (walkOf q rows before .end)) (taskOf q rows) before (walkOf q rows before)) (walkOf q rows before .state) before
 
 -- what a prepared query asks of n rows
 pub record TaskFor (p : Prepared) (n : ℕ) (t : Task) : Type 0 where
@@ -26,7 +24,7 @@ pub record TaskFor (p : Prepared) (n : ℕ) (t : Task) : Type 0 where
   pub tests : t .size .tests ≡ testsAt (p .places)
   pub measures : t .measures ≡ measuresAt (p .places)
   pub count : t .count ≡ p .count
-  pub skip : toNext (t .skip) ≡ eqb (p .skip) 1
+  pub skip : skipIn (t .skip) ≡ skipOf (p .skip) (p .target)
 
 -- whole rows, at most 4,096, and working room for their pairs
 pub record Fed (p : Prepared) (n : ℕ) (rows : List ℤ) (notes trail : List ℕ) : Type 0 where

@@ -3,12 +3,12 @@
 // those of the definition's search of the query that the table stands for (specs/Starts).
 // Weakness: it tests nothing; who calls it has tested the rows and the room (crates/search).
 use matches::Task;
-use matches::skip_of;
 use outcome::Outcome;
 use outcome::finished;
 use prepared::Prepared;
 use prepared::measures_at;
 use prepared::tests_at;
+use skips::skip_of;
 use table::Extent;
 ghost use mathlib.Core.Path.{_≡_};
 ghost use mathlib.Core.List.{List};
@@ -29,7 +29,7 @@ fn task_of(p: Prepared, n: usize) -> Task
         places,
         tests: tests_at(places),
     };
-    let skip = skip_of(p.skip);
+    let skip = skip_of(p.skip, p.target);
     Task {
         size,
         measures: measures_at(places),

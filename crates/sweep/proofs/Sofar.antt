@@ -9,10 +9,11 @@ use native.Mathlib.Omega.{arith}
 use lib.IntN.{ℤ}
 use lib.ListN.{length, getD, replicate, length-append}
 use borrow.Author.Tests.{lt-ltb, le-ltb}
-use Rattle.rules.specs.Answers.{stopped}
-use Rattle.rules.specs.Basics.{pick, wrote}
+use Rattle.rules.specs.Answers.{endAnswer}
+use Rattle.rules.specs.Basics.{wrote}
 use Rattle.rules.specs.Report.{bitAt, matchNumbers, numbersOf, labelsOf, fits}
-use Rattle.rules.specs.Search.{Match, Swept, Plan, Kept, sweep, byFit, onAnswer, withMatch, walkAt, labels, endOf, nextStart, planOf, walkSearch}
+use Rattle.rules.specs.Search as R
+use Rattle.rules.specs.Search.{Match, End, Swept, Plan, Kept, sweep, byFit, byNext, onAnswer, withMatch, walkAt, labels, endOf, planOf, walkSearch}
 use Rattle.rules.specs.Walk.{pairs, firstAt, pairWays}
 use Rattle.rules.proofs.Appended.{wrote-none, wrote-on, length-wrote-at, numbers-on, labels-on, fits-room}
 use Rattle.rules.proofs.Limits.{numbers-long}
@@ -23,18 +24,18 @@ use Rattle.pairs.proofs.Ways.{in-length}
 use Rattle.matches.specs.declared.Sweep.{Sweep}
 use Rattle.matches.specs.declared.Task.{Task}
 use Rattle.matches.specs.Asked.{Asked, pl, width, searchOf, askedOf}
-use Rattle.matches.specs.Found.{swept, Quiet, Written, ToldBy, Told, Visits, attemptAt, Visited, Searches}
+use Rattle.matches.specs.Found.{swept, sweptOn, nextAt, Quiet, Written, ToldBy, Told, Visits, attemptAt, Visited, Searches}
 use Rattle.sweep.specs.Searched.{Starts, Searched}
 
 -- matches before
 abbrev pub pre : List Match → Swept Kept → Swept Kept
-pre ms r = record { matches = ms ++ r .matches; full = r .full; state = r .state }
+pre ms r = record { matches = ms ++ r .matches; end = r .end; state = r .state }
 
 -- the definition's search from a start on
 abbrev pub swp : Asked → ℕ → ℕ → ℕ → ℕ → ℕ → ℕ → Kept → Swept Kept
 swp A nums labs k i m l kept =
     sweep (walkAt (pairWays (A .holds) (A .n) (pl A)) (pairs (length (pl A)) (A .n)) (firstAt (length (pl A))))
-    (planOf (pl A) (A .n) (A .mode) (fits nums labs (A .measures))) k i m l kept
+    (planOf (pl A) (A .n) (A .skip) (fits nums labs (A .measures))) k i m l kept
 
 abbrev pub M : Asked → ℕ
 M A = N (A .layout) (A .n)
@@ -51,10 +52,13 @@ pub record SoFar (W : List ℕ) (rows : List ℤ) (task : Task) (n₁ t₁ : Lis
   pub rest : Swept Kept
   pub enough : (askedOf W rows task) .n ≤ i .row + fuel
   pub total : pre done rest ≡ searchOf (askedOf W rows task) (length num₁) (length lab₁)
+  -- whether it is over, and how it ended: done as long as it goes on
   pub stop : Bool
-  pub end-is : i .end ≡ pick stop 13 0
+  pub how : End Match
+  pub end-is : i .end ≡ endAnswer how
+  pub how-going : stop ≡ false → how ≡ R.done
   pub going : stop ≡ false → rest ≡ swp (askedOf W rows task) (length num₁) (length lab₁) fuel (i .row) (i .matches) (i .labels) (bitsOf notes (M (askedOf W rows task)), i .steps)
-  pub over : stop ≡ true → (i .row ≡ (askedOf W rows task) .n) × ((t : Match) × (rest ≡ record { matches = []; full = some t; state = (bitsOf notes (M (askedOf W rows task)), i .steps) }))
+  pub over : stop ≡ true → (i .row ≡ (askedOf W rows task) .n) × (rest ≡ record { matches = []; end = how; state = (bitsOf notes (M (askedOf W rows task)), i .steps) })
   pub m-is : i .matches ≡ length done
   pub l-is : i .labels ≡ length (labelsOf (pl (askedOf W rows task)) done)
   pub numbers-is : numbers ≡ wrote num₁ 0 (numbersOf ((askedOf W rows task) .rows) ((askedOf W rows task) .measures) (pl (askedOf W rows task)) 0 done)
@@ -70,13 +74,13 @@ unfolding sweep
 sweep-on att plan k i m l kept h = rw (lt-ltb i (plan .n) h)
 
 sweep-off : (att : ℕ → Kept → Option (List ℕ) × Kept) (plan : Plan) (k i m l : ℕ) (kept : Kept) → plan .n ≤ i
-    → sweep att plan k i m l kept ≡ record { matches = []; full = none; state = kept }
+    → sweep att plan k i m l kept ≡ record { matches = []; end = R.done; state = kept }
 unfolding sweep
 sweep-off att plan zero i m l kept h = refl
 sweep-off att plan (suc k) i m l kept h = rw (le-ltb i (plan .n) h)
 
 one-more : (ms : List Match) (t : Match) (r : Swept Kept) → pre (ms ++ (t ∷ [])) r ≡ pre ms (withMatch t r)
-one-more ms t r = ap (λ (l : List Match). record { matches = l; full = r .full; state = r .state }) (append-assoc ms (t ∷ []) (r .matches))
+one-more ms t r = ap (λ (l : List Match). record { matches = l; end = r .end; state = r .state }) (append-assoc ms (t ∷ []) (r .matches))
 
 module _ (W : List ℕ) (rows : List ℤ) (task : Task) (n₁ t₁ : List ℕ) (num₁ : List ℤ) (lab₁ : List ℕ) where
   abbrev A : Asked
@@ -89,7 +93,7 @@ module _ (W : List ℕ) (rows : List ℤ) (task : Task) (n₁ t₁ : List ℕ) (
   fit = fits (length num₁) (length lab₁) (A .measures)
 
   pub so-none : Starts W rows task n₁ t₁ → SoFar W rows task n₁ t₁ num₁ lab₁ n₁ t₁ num₁ lab₁ (record { end = 0; row = 0; matches = 0; labels = 0; steps = 0 })
-  unfolding searchOf walkSearch numbersOf labelsOf
+  unfolding searchOf walkSearch numbersOf labelsOf endAnswer
   so-none h =
       record {
         searches = h .searches;
@@ -103,7 +107,9 @@ module _ (W : List ℕ) (rows : List ℤ) (task : Task) (n₁ t₁ : List ℕ) (
         enough = omega arith;
         total = refl;
         stop = false;
+        how = R.done;
         end-is = refl;
+        how-going = λ _. refl;
         going = λ _. rw (in-length (A .layout .words) (P (A .layout)), h .none-failed);
         over = λ e. absurd (false≢true e);
         m-is = refl;
@@ -157,8 +163,8 @@ module _ (W : List ℕ) (rows : List ℤ) (task : Task) (n₁ t₁ : List ℕ) (
             labels = rw so-labels (h .labs-le);
           }
 
-      not-full : h .stop ≡ false
-      not-full = go (h .stop) refl
+      not-over : h .stop ≡ false
+      not-over = go (h .stop) refl
         where
           go : (b : Bool) → h .stop ≡ b → h .stop ≡ false
           go true e = absurd (let r = h .over e .0 in omega arith)
@@ -175,13 +181,13 @@ module _ (W : List ℕ) (rows : List ℤ) (task : Task) (n₁ t₁ : List ℕ) (
       att-same = rw (in-length (A .layout .words) (P (A .layout)))
 
       abbrev plan : Plan
-      plan = planOf (pl A) (A .n) (A .mode) fit
+      plan = planOf (pl A) (A .n) (A .skip) fit
 
       -- the definition's next step
       rest-is : (k : ℕ) → h .fuel ≡ suc k → h .rest ≡ onAnswer plan (sw k) (i .row) (i .matches) (i .labels) (att .0) (att .1)
       unfolding planOf
       rest-is k e =
-          h .going not-full
+          h .going not-over
           ∙ ap (λ (f : ℕ). sw f (i .row) (i .matches) (i .labels) (F, i .steps)) e
           ∙ sweep-on (walkAt (pairWays (A .holds) (A .n) (pl A)) (pairs (length (pl A)) (A .n)) (firstAt (length (pl A)))) plan k (i .row) (i .matches) (i .labels) (F, i .steps) lt
           ∙ ap (λ (a : Option (List ℕ) × Kept). onAnswer plan (sw k) (i .row) (i .matches) (i .labels) (a .0) (a .1)) att-same
@@ -200,6 +206,7 @@ module _ (W : List ℕ) (rows : List ℤ) (task : Task) (n₁ t₁ : List ℕ) (
 
           -- no match
           quiet-on : att ≡ (none, (F′, s′)) → Quiet numbers numbers′ labs labs′ r (swept 0 (i .row + 1) (i .matches) (i .labels) s′) → Goal r
+          unfolding endAnswer
           quiet-on ea q =
               let e : h .rest ≡ sw k (suc (i .row)) (i .matches) (i .labels) (F′, s′) =
               rest-is k ek ∙ ap (λ (a : Option (List ℕ) × Kept). onAnswer plan (sw k) (i .row) (i .matches) (i .labels) (a .0) (a .1)) ea in
@@ -218,7 +225,9 @@ module _ (W : List ℕ) (rows : List ℤ) (task : Task) (n₁ t₁ : List ℕ) (
                 enough = omega arith;
                 total = h .total;
                 stop = false;
+                how = R.done;
                 end-is = refl;
+                how-going = λ _. refl;
                 going = λ _. rw (eF, o) e;
                 over = λ c. absurd (false≢true c);
                 m-is = h .m-is;
@@ -235,19 +244,19 @@ module _ (W : List ℕ) (rows : List ℤ) (task : Task) (n₁ t₁ : List ℕ) (
             abbrev t : Match
             t = record { start = i .row; path = p }
 
-            abbrev nx : ℕ
-            nx = nextStart (A .mode) (i .row) (endOf (length (pl A)) p)
+            abbrev on : ℕ → Swept Kept
+            on j = sw k j (suc (i .matches)) (i .labels + length (labels (pl A) p)) (F′, s′)
 
-            rest-fit : (b : Bool) → fit (i .matches) (i .labels) (labels (pl A) p) ≡ b
-                → h .rest ≡ byFit b t (F′, s′) (λ _. sw k nx (suc (i .matches)) (i .labels + length (labels (pl A) p)) (F′, s′))
+            rest-fit : (b : Bool) → fit (i .matches) (i .labels) (labels (pl A) p) ≡ b → h .rest ≡ byFit b t (F′, s′) (λ _. byNext (nextAt A (i .row) p) (F′, s′) on)
             unfolding planOf
             rest-fit b eb =
                 rest-is k ek
                 ∙ ap (λ (a : Option (List ℕ) × Kept). onAnswer plan (sw k) (i .row) (i .matches) (i .labels) (a .0) (a .1)) ea
-                ∙ ap (λ (c : Bool). byFit c t (F′, s′) (λ _. sw k nx (suc (i .matches)) (i .labels + length (labels (pl A) p)) (F′, s′))) eb
+                ∙ ap (λ (c : Bool). byFit c t (F′, s′) (λ _. byNext (nextAt A (i .row) p) (F′, s′) on)) eb
 
             -- a match that does not fit
             full-on : fit (i .matches) (i .labels) (labels (pl A) p) ≡ false → Quiet numbers numbers′ labs labs′ r (swept 13 (A .n) (i .matches) (i .labels) s′) → Goal r
+            unfolding endAnswer
             full-on eb q =
                 let fw = h .few in
                 subst (λ (z : Sweep). Goal z) (sym (q .sweep-is)) (record {
@@ -262,9 +271,11 @@ module _ (W : List ℕ) (rows : List ℤ) (task : Task) (n₁ t₁ : List ℕ) (
                   enough = omega arith;
                   total = h .total;
                   stop = true;
+                  how = R.full t;
                   end-is = refl;
+                  how-going = λ c. absurd (true≢false c);
                   going = λ c. absurd (true≢false c);
-                  over = λ _. (refl, (t, rw eF (rest-fit false eb)));
+                  over = λ _. (refl, rw eF (rest-fit false eb));
                   m-is = h .m-is;
                   l-is = h .l-is;
                   numbers-is = q .numbers-is ∙ h .numbers-is;
@@ -275,70 +286,83 @@ module _ (W : List ℕ) (rows : List ℤ) (task : Task) (n₁ t₁ : List ℕ) (
                   steps = by-row (A .n) lt;
                 })
 
-            -- a match that fits
-            fit-on : fit (i .matches) (i .labels) (labels (pl A) p) ≡ true
-                → Written A p i numbers numbers′ labs labs′ r (swept 0 nx (i .matches + 1) (i .labels + length (labels (pl A) p)) s′) → Goal r
-            fit-on eb q =
-                let o : i .matches + 1 ≡ suc (i .matches) = omega arith in
-                let en = h .enough in
-                let ge : suc (i .row) ≤ nx = next-on (A .mode) (i .row) (endOf (length (pl A)) p) in
-                let fr = fits-room (length num₁) (length lab₁) (A .measures) (i .matches) (i .labels) (labels (pl A) p) eb in
-                let em = h .m-is in
-                let el = h .l-is in
-                let fw = h .few in
-                subst (λ (z : Sweep). Goal z) (sym (q .sweep-is)) (record {
-                  searches = h .searches;
-                  notes-long = v .notes-long ∙ h .notes-long;
-                  trail-long = v .trail-long ∙ h .trail-long;
-                  notes-beyond = λ z l. v .notes-beyond z l ∙ h .notes-beyond z l;
-                  trail-beyond = λ z l. v .trail-beyond z l ∙ h .trail-beyond z l;
-                  fuel = k;
-                  done = h .done ++ (t ∷ []);
-                  rest = sw k nx (suc (i .matches)) (i .labels + length (labels (pl A) p)) (F′, s′);
-                  enough = omega arith;
-                  total = one-more (h .done) t (sw k nx (suc (i .matches)) (i .labels + length (labels (pl A) p)) (F′, s′)) ∙ ap (pre (h .done)) (sym (rest-fit true eb)) ∙ h .total;
-                  stop = false;
-                  end-is = refl;
-                  going = λ _. rw (eF, o);
-                  over = λ c. absurd (false≢true c);
-                  m-is = simp length-append (omega arith);
-                  l-is = rw (labels-on (pl A) (h .done) t, length-append) (omega arith);
-                  numbers-is = numbers-at q;
-                  labels-is = labels-at q;
-                  nums = let f = fr .0 in rw (o, suc-mul (i .matches) (width A)) f;
-                  labs-le = fr .1;
-                  few = omega arith;
-                  steps = by-row nx ge;
-                })
-              where
-                numbers-at : Written A p i numbers numbers′ labs labs′ r (swept 0 nx (i .matches + 1) (i .labels + length (labels (pl A) p)) s′)
-                    → numbers′ ≡ wrote num₁ 0 (numbersOf (A .rows) (A .measures) (pl A) 0 (h .done ++ (t ∷ [])))
-                numbers-at q =
-                    let vs : List ℤ = numbersOf (A .rows) (A .measures) (pl A) 0 (h .done) in
-                    let new : ℕ → List ℤ = λ z. matchNumbers (A .rows) (A .measures) z (i .row) (labels (pl A) p) in
-                    let a : i .matches * width A ≡ 0 + length vs = (let l = numbers-long (A .rows) (A .measures) (pl A) 0 (h .done) in let e : i .matches * width A ≡ length (h .done) * width A = ap (λ (z : ℕ). z * width A) (h .m-is) in omega arith) in
-                    let b : i .matches + 1 ≡ suc (0 + length (h .done)) = (let m = h .m-is in omega arith) in
-                    q .numbers-is
-                    ∙ ap (λ (z : List ℤ). wrote z (i .matches * width A) (new (i .matches + 1))) (h .numbers-is)
-                    ∙ ap (λ (z : ℕ). wrote (wrote num₁ 0 vs) z (new (i .matches + 1))) a
-                    ∙ wrote-on num₁ 0 vs room (new (i .matches + 1))
-                    ∙ ap (λ (z : ℕ). wrote num₁ 0 (vs ++ new z)) b
-                    ∙ ap (wrote num₁ 0) (sym (numbers-on (A .rows) (A .measures) (pl A) 0 (h .done) t))
+            -- a match that fits is written
+            module _ (eb : fit (i .matches) (i .labels) (labels (pl A) p) ≡ true) (to : Sweep) (q : Written A p i numbers numbers′ labs labs′ r to) where
+              numbers-at : numbers′ ≡ wrote num₁ 0 (numbersOf (A .rows) (A .measures) (pl A) 0 (h .done ++ (t ∷ [])))
+              numbers-at =
+                  let vs : List ℤ = numbersOf (A .rows) (A .measures) (pl A) 0 (h .done) in
+                  let new : ℕ → List ℤ = λ z. matchNumbers (A .rows) (A .measures) z (i .row) (labels (pl A) p) in
+                  let a : i .matches * width A ≡ 0 + length vs = (let l = numbers-long (A .rows) (A .measures) (pl A) 0 (h .done) in let e : i .matches * width A ≡ length (h .done) * width A = ap (λ (z : ℕ). z * width A) (h .m-is) in omega arith) in
+                  let b : i .matches + 1 ≡ suc (0 + length (h .done)) = (let m = h .m-is in omega arith) in
+                  q .numbers-is
+                  ∙ ap (λ (z : List ℤ). wrote z (i .matches * width A) (new (i .matches + 1))) (h .numbers-is)
+                  ∙ ap (λ (z : ℕ). wrote (wrote num₁ 0 vs) z (new (i .matches + 1))) a
+                  ∙ wrote-on num₁ 0 vs room (new (i .matches + 1))
+                  ∙ ap (λ (z : ℕ). wrote num₁ 0 (vs ++ new z)) b
+                  ∙ ap (wrote num₁ 0) (sym (numbers-on (A .rows) (A .measures) (pl A) 0 (h .done) t))
 
-                labels-at : Written A p i numbers numbers′ labs labs′ r (swept 0 nx (i .matches + 1) (i .labels + length (labels (pl A) p)) s′)
-                    → labs′ ≡ wrote lab₁ 0 (labelsOf (pl A) (h .done ++ (t ∷ [])))
-                labels-at q =
-                    let c = h .labs-le in
-                    let d = h .l-is in
-                    let a : i .labels ≡ 0 + length (labelsOf (pl A) (h .done)) = omega arith in
-                    q .labels-is
-                    ∙ ap (λ (z : List ℕ). wrote z (i .labels) (labels (pl A) p)) (h .labels-is)
-                    ∙ ap (λ (z : ℕ). wrote (wrote lab₁ 0 (labelsOf (pl A) (h .done))) z (labels (pl A) p)) a
-                    ∙ wrote-on lab₁ 0 (labelsOf (pl A) (h .done)) (omega arith) (labels (pl A) p)
-                    ∙ ap (wrote lab₁ 0) (sym (labels-on (pl A) (h .done) t))
+              labels-at : labs′ ≡ wrote lab₁ 0 (labelsOf (pl A) (h .done ++ (t ∷ [])))
+              labels-at =
+                  let c = h .labs-le in
+                  let d = h .l-is in
+                  let a : i .labels ≡ 0 + length (labelsOf (pl A) (h .done)) = omega arith in
+                  q .labels-is
+                  ∙ ap (λ (z : List ℕ). wrote z (i .labels) (labels (pl A) p)) (h .labels-is)
+                  ∙ ap (λ (z : ℕ). wrote (wrote lab₁ 0 (labelsOf (pl A) (h .done))) z (labels (pl A) p)) a
+                  ∙ wrote-on lab₁ 0 (labelsOf (pl A) (h .done)) (omega arith) (labels (pl A) p)
+                  ∙ ap (wrote lab₁ 0) (sym (labels-on (pl A) (h .done) t))
+
+              -- and the search goes on from the row nx with the rest u, or is over
+              written-on : (nx : ℕ) (u : Swept Kept) (over? : Bool) (how : End Match) (end : ℕ)
+                  → to ≡ swept end nx (i .matches + 1) (i .labels + length (labels (pl A) p)) s′ → suc (i .row) ≤ nx
+                  → h .rest ≡ withMatch t u → end ≡ endAnswer how → (over? ≡ false → how ≡ R.done) → (over? ≡ false → u ≡ on nx)
+                  → (over? ≡ true → (nx ≡ A .n) × (u ≡ record { matches = []; end = how; state = (F′, s′) })) → Goal r
+              written-on nx u over? how end et ge eu ee hg hs ho =
+                  let o : i .matches + 1 ≡ suc (i .matches) = omega arith in
+                  let en = h .enough in
+                  let fr = fits-room (length num₁) (length lab₁) (A .measures) (i .matches) (i .labels) (labels (pl A) p) eb in
+                  let em = h .m-is in
+                  let el = h .l-is in
+                  let fw = h .few in
+                  subst (λ (z : Sweep). Goal z) (sym (q .sweep-is ∙ et)) (record {
+                    searches = h .searches;
+                    notes-long = v .notes-long ∙ h .notes-long;
+                    trail-long = v .trail-long ∙ h .trail-long;
+                    notes-beyond = λ z l. v .notes-beyond z l ∙ h .notes-beyond z l;
+                    trail-beyond = λ z l. v .trail-beyond z l ∙ h .trail-beyond z l;
+                    fuel = k;
+                    done = h .done ++ (t ∷ []);
+                    rest = u;
+                    enough = omega arith;
+                    total = one-more (h .done) t u ∙ ap (pre (h .done)) (sym eu) ∙ h .total;
+                    stop = over?;
+                    how = how;
+                    end-is = ee;
+                    how-going = hg;
+                    going = λ c. rw (eF, o) (hs c);
+                    over = λ c. rw eF (ho c);
+                    m-is = simp length-append (omega arith);
+                    l-is = rw (labels-on (pl A) (h .done) t, length-append) (omega arith);
+                    numbers-is = numbers-at;
+                    labels-is = labels-at;
+                    nums = let f = fr .0 in rw (o, suc-mul (i .matches) (width A)) f;
+                    labs-le = fr .1;
+                    few = omega arith;
+                    steps = by-row nx ge;
+                  })
+
+            by-next : (x : Option ℕ) → nextAt A (i .row) p ≡ x → fit (i .matches) (i .labels) (labels (pl A) p) ≡ true
+                → Written A p i numbers numbers′ labs labs′ r (sweptOn x (A .n) (i .matches + 1) (i .labels + length (labels (pl A) p)) s′) → Goal r
+            unfolding endAnswer
+            by-next (some nx) ex eb q =
+                written-on eb _ q nx (on nx) false R.done 0 refl (next-on (A .skip) (i .row) (endOf (length (pl A)) p) (labels (pl A) p) nx ex)
+                (rest-fit true eb ∙ ap (λ (y : Option ℕ). withMatch t (byNext y (F′, s′) on)) ex) refl (λ _. refl) (λ _. refl) (λ c. absurd (false≢true c))
+            by-next none ex eb q =
+                written-on eb _ q (A .n) (record { matches = []; end = R.stuck; state = (F′, s′) }) true R.stuck 15 refl lt
+                (rest-fit true eb ∙ ap (λ (y : Option ℕ). withMatch t (byNext y (F′, s′) on)) ex) refl (λ c. absurd (true≢false c)) (λ c. absurd (true≢false c)) (λ _. (refl, refl))
 
             by-fit : (b : Bool) → fit (i .matches) (i .labels) (labels (pl A) p) ≡ b → ToldBy b A p i s′ numbers numbers′ labs labs′ r → Goal r
-            by-fit true eb q = fit-on eb q
+            by-fit true eb q = by-next (nextAt A (i .row) p) refl eb q
             by-fit false eb q = full-on eb q
 
           by-att : (o : Option (List ℕ)) → att ≡ (o, (F′, s′)) → Told A o i s′ numbers numbers′ labs labs′ r → Goal r
@@ -352,8 +376,13 @@ module _ (W : List ℕ) (rows : List ℤ) (task : Task) (n₁ t₁ : List ℕ) (
         pub so-more : SoFar W rows task n₁ t₁ num₁ lab₁ notes′ trail′ numbers′ labs′ r
         so-more = by-fuel (h .fuel) refl
 
+        up-next : (x : Option ℕ) (p : List ℕ) (s : ℕ) → nextAt A (i .row) p ≡ x
+            → i .row < sweptOn x (A .n) (i .matches + 1) (i .labels + length (labels (pl A) p)) s .row
+        up-next (some nx) p s e = next-on (A .skip) (i .row) (endOf (length (pl A)) p) (labels (pl A) p) nx e
+        up-next none p s e = lt
+
         up-fit : (b : Bool) (p : List ℕ) (s : ℕ) → ToldBy b A p i s numbers numbers′ labs labs′ r → i .row < r .row
-        up-fit true p s q = rw (ap (λ (z : Sweep). z .row) (q .sweep-is)) (next-on (A .mode) (i .row) (endOf (length (pl A)) p))
+        up-fit true p s q = rw (ap (λ (z : Sweep). z .row) (q .sweep-is)) (up-next (nextAt A (i .row) p) p s refl)
         up-fit false p s q = rw (ap (λ (z : Sweep). z .row) (q .sweep-is)) lt
 
         up-att : (o : Option (List ℕ)) (s : ℕ) → Told A o i s numbers numbers′ labs labs′ r → i .row < r .row
@@ -363,34 +392,26 @@ module _ (W : List ℕ) (rows : List ℤ) (task : Task) (n₁ t₁ : List ℕ) (
         pub so-less : A .n - r .row < A .n - i .row
         so-less = let u = up-att (att .0) (att .1 .1) (v .told) in omega arith
 
-    abbrev isFull : Option Match → Bool
-    isFull none = false
-    isFull (some t) = true
-
-    done-by : (o : Option Match) → h .rest ≡ record { matches = []; full = o; state = (F, i .steps) } → h .stop ≡ isFull o → Searched A n₁ t₁ num₁ lab₁ notes trail numbers labs i
-    unfolding stopped
-    done-by o er ef =
-        let w : searchOf A (length num₁) (length lab₁) ≡ record { matches = h .done; full = o; state = (F, i .steps) } =
-        sym (h .total) ∙ ap (pre (h .done)) er ∙ ap (λ (l : List Match). record { matches = l; full = o; state = (F, i .steps) }) (append-nil (h .done)) in
+    done-by : h .rest ≡ record { matches = []; end = h .how; state = (F, i .steps) } → Searched A n₁ t₁ num₁ lab₁ notes trail numbers labs i
+    done-by er =
+        let w : searchOf A (length num₁) (length lab₁) ≡ record { matches = h .done; end = h .how; state = (F, i .steps) } =
+        sym (h .total) ∙ ap (pre (h .done)) er ∙ ap (λ (l : List Match). record { matches = l; end = h .how; state = (F, i .steps) }) (append-nil (h .done)) in
         record {
-          reported = rw w (record { end = h .end-is ∙ ap (λ (b : Bool). pick b 13 0) (ef ∙ full-is o); matches = h .m-is; labels = h .l-is; steps = refl; numbers-is = h .numbers-is; labels-is = h .labels-is });
+          reported = rw w (record { end = h .end-is; matches = h .m-is; labels = h .l-is; steps = refl; numbers-is = h .numbers-is; labels-is = h .labels-is });
           kept = rw w;
           notes-long = h .notes-long;
           trail-long = h .trail-long;
           notes-beyond = h .notes-beyond;
           trail-beyond = h .trail-beyond;
         }
-      where
-        full-is : (o : Option Match) → isFull o ≡ stopped {S = Kept} (record { matches = h .done; full = o; state = (F, i .steps) })
-        full-is none = refl
-        full-is (some t) = refl
 
     pub so-all : A .n ≤ i .row → Searched A n₁ t₁ num₁ lab₁ notes trail numbers labs i
     unfolding planOf
     so-all ge = go (h .stop) refl
       where
         go : (b : Bool) → h .stop ≡ b → Searched A n₁ t₁ num₁ lab₁ notes trail numbers labs i
-        go true e = done-by (some (h .over e .1 .0)) (h .over e .1 .1) e
+        go true e = done-by (h .over e .1)
         go false e =
-            done-by none (h .going e ∙ sweep-off (walkAt (pairWays (A .holds) (A .n) (pl A)) (pairs (length (pl A)) (A .n)) (firstAt (length (pl A))))
-            (planOf (pl A) (A .n) (A .mode) fit) (h .fuel) (i .row) (i .matches) (i .labels) (F, i .steps) ge) e
+            done-by (h .going e ∙ sweep-off (walkAt (pairWays (A .holds) (A .n) (pl A)) (pairs (length (pl A)) (A .n)) (firstAt (length (pl A))))
+            (planOf (pl A) (A .n) (A .skip) fit) (h .fuel) (i .row) (i .matches) (i .labels) (F, i .steps) ge
+            ∙ ap (λ (x : End Match). record { matches = []; end = x; state = (F, i .steps) }) (sym (h .how-going e)))

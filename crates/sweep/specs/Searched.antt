@@ -5,8 +5,8 @@ use mathlib.Core.Bool.{false}
 use Prim.Native.Nat.{ℕ, _*_, _≤_}
 use lib.IntN.{ℤ}
 use lib.ListN.{length, getD, replicate}
-use Rattle.rules.specs.Answers.{stopped}
-use Rattle.rules.specs.Basics.{pick, wrote}
+use Rattle.rules.specs.Answers.{endAnswer}
+use Rattle.rules.specs.Basics.{wrote}
 use Rattle.rules.specs.Report.{bitAt, numbersOf, labelsOf, notesOf, zeros}
 use Rattle.rules.specs.Search.{Swept, Kept}
 use Rattle.rules.specs.Working.{bitsOf}
@@ -23,7 +23,7 @@ pub record Starts (T : List ℕ) (rows : List ℤ) (task : Task) (notes trail : 
 
 -- the counts and the report of the definition's search W
 pub record Reported (A : Asked) (W : Swept Kept) (num₁ : List ℤ) (lab₁ : List ℕ) (numbers : List ℤ) (labs : List ℕ) (r : Sweep) : Type 0 where
-  pub end : r .end ≡ pick (stopped W) 13 0
+  pub end : r .end ≡ endAnswer (W .end)
   pub matches : r .matches ≡ length (W .matches)
   pub labels : r .labels ≡ length (labelsOf (pl A) (W .matches))
   pub steps : r .steps ≡ W .state .1

@@ -1,15 +1,20 @@
 //! Damage to a draft: for each answer of the table in document 01 many causes,
 //! one of them taken at random. Where two are wanted, the one with the higher
-//! number is done first, so that the lower one surely stands in the input.
+//! number is done first, so that the lower one surely stands in the input. The
+//! answers 14 and 15 and the skip's letter are from document 02, R-1 and R-2.
 
 use super::draft::{define_body, random_define, with_number, Draft, Numbers, Room, Tail};
 use super::random::Random;
 use super::texts;
-use crate::query::{COUNT, DEFINE, LAST, MEASURE, MOST_MEASURES, MOST_TEXT, SHAPE, SKIP, TEXT};
-use crate::search::MOST_ROWS;
+use crate::query::{
+    COUNT, DEFINE, LAST, MEASURE, MOST_MEASURES, MOST_TEXT, SHAPE, SKIP, TEXT, TO_FIRST, TO_LAST,
+    TO_NEXT_ROW,
+};
+use crate::search::{self, MOST_ROWS, STUCK};
 
 /// Damages a draft so that the answer applies. False where this draft cannot be
-/// brought to that answer (a 13 without any match), and then it is unchanged.
+/// brought to that answer (a 13 without any match, a 15 without one that has rows),
+/// and then it is unchanged.
 pub fn damage(random: &mut Random, draft: &mut Draft, answer: u8) -> bool {
     match answer {
         1 => cut(random, draft),
@@ -17,10 +22,11 @@ pub fn damage(random: &mut Random, draft: &mut Draft, answer: u8) -> bool {
         3 => wrong_field(random, draft),
         4..=7 | 14 => wrong_text(random, draft, answer),
         8 => define_twice(random, draft),
-        9 => measure_a_stranger(random, draft),
+        9 => ask_for_a_stranger(random, draft),
         10 => wrong_rows(random, draft),
         11 => draft.notes = short(random),
         12 => draft.trail = short(random),
+        15 => return stick(random, draft),
         _ => return stop(random, draft),
     }
     true
@@ -166,10 +172,19 @@ fn lengthen(random: &mut Random, body: &mut Vec<u8>) {
     body.resize(length.max(body.len()), b' ');
 }
 
+/// A mode that there is none of; a letter or another byte in the modes 0 and 1; or
+/// no letter in the modes 2 and 3.
 fn wrong_skip(random: &mut Random, body: &mut [u8]) {
-    match random.chance(60) {
-        true => body[0] = random.pick(&[2, 3, 255]),
-        false => body[1] = random.pick(&[1, 128, 255]),
+    match random.below(3) {
+        0 => body[0] = random.pick(&[4, 5, 128, 255]),
+        1 => {
+            body[0] = body[0].min(TO_NEXT_ROW);
+            body[1] = random.pick(&[1, b'A', b'B', b'Z', 128, 255]);
+        }
+        _ => {
+            body[0] = random.pick(&[TO_FIRST, TO_LAST]);
+            body[1] = random.pick(&NO_LETTERS);
+        }
     }
 }
 
@@ -256,13 +271,18 @@ fn define_twice(random: &mut Random, draft: &mut Draft) {
     }
 }
 
-fn measure_a_stranger(random: &mut Random, draft: &mut Draft) {
+/// A letter that is not in the pattern, in the skip record or in a measure.
+fn ask_for_a_stranger(random: &mut Random, draft: &mut Draft) {
     let letters = draft.letters();
     let strangers: Vec<u8> = (b'A'..=b'Z').filter(|it| !letters.contains(it)).collect();
     let Some(last) = strangers.last() else {
         return;
     };
     let stranger = random.pick(&[strangers[0], *last]);
+    if let (Some(skip), true) = (draft.body_mut(SKIP), random.chance(50)) {
+        *skip = vec![random.pick(&[TO_FIRST, TO_LAST]), stranger];
+        return;
+    }
     let measures = draft.places_of(MEASURE);
     if measures.len() == MOST_MEASURES || (!measures.is_empty() && random.chance(50)) {
         let at = random.pick(&measures);
@@ -296,7 +316,7 @@ fn wrong_rows(random: &mut Random, draft: &mut Draft) {
 /// Report rooms that end before the last match does.
 fn stop(random: &mut Random, draft: &mut Draft) -> bool {
     let [_, _, numbers, labels] = draft.needs();
-    let judged = crate::search::room(&draft.query(), &draft.rows);
+    let judged = search::room(&draft.query(), &draft.rows);
     if judged.0 != 0 || numbers == 0 {
         return false;
     }
@@ -305,4 +325,31 @@ fn stop(random: &mut Random, draft: &mut Draft) -> bool {
         false => draft.numbers = short(random),
     }
     true
+}
+
+/// A skip to a letter that labels no row of some match, or its first row, where
+/// there is such a letter; the matches before that one can be gone on from.
+fn stick(random: &mut Random, draft: &mut Draft) -> bool {
+    let letters: Vec<u8> = draft.letters().into_iter().collect();
+    let mut drafts = draft.to_labelled_rows(&letters);
+    drafts.retain(|draft| answer_with_room(draft) == STUCK);
+    if drafts.is_empty() {
+        return false;
+    }
+    *draft = random.pick(&drafts);
+    true
+}
+
+/// The answer where all four rooms are exact.
+fn answer_with_room(draft: &Draft) -> u8 {
+    let [notes, trail, numbers, labels] = draft.needs();
+    let outcome = search::search(
+        &draft.query(),
+        &draft.rows,
+        &mut vec![0; notes],
+        &mut vec![0; trail],
+        &mut vec![0; numbers],
+        &mut vec![0; labels],
+    );
+    outcome.answer
 }

@@ -1,11 +1,13 @@
 //! A draft of an input: records, rows and rooms that can still be changed, and
 //! the finished input made from it. From document 01, "Rows and query records"
-//! for the bytes and "Report" for the rooms.
+//! for the bytes and "Report" for the rooms; and document 02, R-2, for the skip.
 
 use super::random::Random;
 use super::texts;
 use crate::pattern;
-use crate::query::{COUNT, DEFINE, LAST, MEASURE, SHAPE, SKIP, TEXT};
+use crate::query::{
+    COUNT, DEFINE, LAST, MEASURE, PAST_LAST_ROW, SHAPE, SKIP, TEXT, TO_FIRST, TO_LAST, TO_NEXT_ROW,
+};
 use crate::search::{self, DONE};
 use std::collections::BTreeSet;
 
@@ -103,7 +105,7 @@ impl Draft {
             records: vec![
                 (SHAPE, vec![columns, 0]),
                 (TEXT, text.to_vec()),
-                (SKIP, vec![0, 0]),
+                (SKIP, vec![PAST_LAST_ROW, 0]),
             ],
             tail: Tail::Whole,
             rows,
@@ -125,11 +127,39 @@ impl Draft {
         self
     }
 
-    pub fn to_next_row(mut self) -> Draft {
+    pub fn to_next_row(self) -> Draft {
+        self.with_skip(TO_NEXT_ROW, 0)
+    }
+
+    pub fn to_first(self, letter: u8) -> Draft {
+        self.with_skip(TO_FIRST, letter)
+    }
+
+    pub fn to_last(self, letter: u8) -> Draft {
+        self.with_skip(TO_LAST, letter)
+    }
+
+    /// With these bytes in the skip record, whatever they are.
+    pub fn with_skip(mut self, mode: u8, letter: u8) -> Draft {
         if let Some(skip) = self.body_mut(SKIP) {
-            *skip = vec![1, 0];
+            *skip = vec![mode, letter];
         }
         self
+    }
+
+    /// In the modes 2 and 3 with each of these letters.
+    pub fn to_labelled_rows(&self, letters: &[u8]) -> Vec<Draft> {
+        let both = |&letter| [TO_FIRST, TO_LAST].map(|mode| self.clone().with_skip(mode, letter));
+        letters.iter().flat_map(both).collect()
+    }
+
+    /// In all four modes, with each letter that the pattern has.
+    pub fn in_every_mode(&self) -> Vec<Draft> {
+        let letters: Vec<u8> = self.letters().into_iter().collect();
+        let mut drafts = self.to_labelled_rows(&letters);
+        drafts.push(self.clone().with_skip(PAST_LAST_ROW, 0));
+        drafts.push(self.clone().to_next_row());
+        drafts
     }
 
     /// Behind the other DEFINEs, which stand before the skip record.
@@ -241,6 +271,18 @@ impl Draft {
             .collect()
     }
 
+    /// How many matches with rows a search of this draft finds with exact rooms.
+    pub fn matches_with_rows(&self) -> usize {
+        let mut before = 0;
+        let ends = ends_of_matches(&self.with_lengths(self.needs()));
+        let with_rows = ends.into_iter().filter(|&(_, labels)| {
+            let empty = labels == before;
+            before = labels;
+            !empty
+        });
+        with_rows.count()
+    }
+
     pub fn with_lengths(&self, [notes, trail, numbers, labels]: [usize; 4]) -> Input {
         Input {
             query: self.query(),
@@ -253,7 +295,7 @@ impl Draft {
     }
 }
 
-/// The report lengths of a search that never stops.
+/// The report lengths of a search for whose matches there is always room.
 fn report_needs(query: &[u8], rows: &[i32], notes: usize, trail: usize) -> (usize, usize) {
     let Ok(accepted) = search::accept(query, rows) else {
         return (0, 0);
@@ -377,9 +419,8 @@ pub fn with_text(
     let mut draft = Draft::new(columns, text, rows);
     let letters: Vec<u8> = draft.letters().into_iter().collect();
     add_defines(random, &mut draft, &letters, numbers);
-    if random.chance(45) {
-        draft = draft.to_next_row();
-    }
+    let (mode, letter) = skip(random, text, &letters);
+    draft = draft.with_skip(mode, letter);
     let measures = match random.chance(4) {
         true => 8,
         false => random.pick(&[0, 0, 0, 1, 1, 2, 3]),
@@ -388,6 +429,19 @@ pub fn with_text(
         draft = add_measure(random, draft, &letters);
     }
     draft
+}
+
+/// One of the four modes; a pattern without letters has the first two alone. Half
+/// of the letters are the text's last, which seldom labels a match's first row.
+fn skip(random: &mut Random, text: &[u8], letters: &[u8]) -> (u8, u8) {
+    let mode = random.pick(&[PAST_LAST_ROW, TO_NEXT_ROW, TO_FIRST, TO_LAST]);
+    let last = text.iter().rfind(|byte| letters.contains(byte));
+    match (mode, last) {
+        (PAST_LAST_ROW | TO_NEXT_ROW, _) => (mode, 0),
+        (_, None) => (mode - TO_FIRST, 0),
+        (_, Some(_)) if random.chance(50) => (mode, random.pick(letters)),
+        (_, Some(&last)) => (mode, last),
+    }
 }
 
 fn add_defines(random: &mut Random, draft: &mut Draft, letters: &[u8], numbers: Numbers) {

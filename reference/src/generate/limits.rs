@@ -1,6 +1,7 @@
 //! Inputs at the limits that document 01 states, and one beyond each: places,
 //! parentheses, text bytes, DEFINEs, comparisons, measures, offsets, rows; and
-//! texts that the judgement of texts easily gets wrong.
+//! texts that the judgement of texts easily gets wrong. The large searches that go
+//! on at a labelled row are from document 02, R-2.
 
 use super::draft::{with_column, with_number, Draft, Room};
 use super::texts;
@@ -215,5 +216,30 @@ pub fn of_large_searches() -> Vec<Draft> {
     let mut stopped = Draft::new(1, b"A*", ones(4096)).to_next_row();
     stopped.labels = Room::OneShort;
     drafts.push(stopped);
+    drafts.extend(to_labelled_rows());
     drafts
+}
+
+/// Matches that go on one row further each, up to the last row; one match, whose
+/// last row is the next start; and matches of which the last is a 15, with room
+/// for it and without.
+fn to_labelled_rows() -> Vec<Draft> {
+    let mut drafts = vec![
+        Draft::new(1, b"A B*", ones(4096)).to_first(b'B'),
+        Draft::new(1, b"A B C*", ones(4096)).to_last(b'B'),
+        Draft::new(1, b"A+ B", ones(4096)).to_last(b'B'),
+        stuck_at_last_row(4096),
+    ];
+    for room in [Room::OneShort, Room::OneMore] {
+        let mut beside = stuck_at_last_row(4096);
+        beside.numbers = room;
+        drafts.push(beside);
+    }
+    drafts
+}
+
+/// `A B` at each row but the last, each match going on at its B; and at the last
+/// row C alone, so that the B labels no row there.
+pub fn stuck_at_last_row(n: usize) -> Draft {
+    Draft::new(1, b"A B | C", ones(n)).to_last(b'B')
 }

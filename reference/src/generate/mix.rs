@@ -11,13 +11,14 @@ use crate::pattern;
 pub fn input(random: &mut Random, size: &Size, number: usize) -> Input {
     let turn = number / 10;
     match number % 10 {
-        0..=2 => lively(random, size).finish(),
+        0..=1 => lively(random, size).finish(),
+        2 => jumping(random, size).finish(),
         3 if turn % 8 == 7 && size.pairs >= 600 => near_limit(random, size).finish(),
         3 => accepted(random, size, Numbers::Low).finish(),
         4 => adversarial(random, size).finish(),
         5 => accepted(random, size, Numbers::Extreme).finish(),
         6 => critical(random, size),
-        slot @ 7..=8 => damaged(random, size, 1 + ((2 * turn + slot - 7) % 14) as u8),
+        slot @ 7..=8 => damaged(random, size, 1 + ((2 * turn + slot - 7) % 15) as u8),
         _ => damaged_twice(random, size),
     }
 }
@@ -35,6 +36,21 @@ pub fn lively(random: &mut Random, size: &Size) -> Draft {
         let [_, _, _, labels] = draft.needs();
         if labels > 0 {
             return draft;
+        }
+    }
+    accepted(random, size, Numbers::Low)
+}
+
+/// An accepted draft in mode 2 or 3 that most likely goes on at a labelled row twice
+/// or more: three matches with rows are written.
+pub fn jumping(random: &mut Random, size: &Size) -> Draft {
+    for _ in 0..12 {
+        let draft = accepted(random, size, Numbers::Low);
+        let letters: Vec<u8> = draft.letters().into_iter().collect();
+        let mut drafts = draft.to_labelled_rows(&letters);
+        drafts.retain(|draft| draft.matches_with_rows() > 2);
+        if !drafts.is_empty() {
+            return random.pick(&drafts);
         }
     }
     accepted(random, size, Numbers::Low)
@@ -101,7 +117,7 @@ pub fn damaged(random: &mut Random, size: &Size, answer: u8) -> Input {
 
 pub fn damaged_twice(random: &mut Random, size: &Size) -> Input {
     loop {
-        let answers = [1 + random.below(14) as u8, 1 + random.below(14) as u8];
+        let answers = [1, 1].map(|low| low + random.below(15) as u8);
         let mut draft = accepted(random, size, Numbers::Low);
         if damage_twice(random, &mut draft, answers) {
             return draft.finish();
@@ -110,8 +126,8 @@ pub fn damaged_twice(random: &mut Random, size: &Size) -> Input {
 }
 
 /// All texts over an alphabet that are not refused, on all rows of 0 and 1 up
-/// to a number of rows, in both skip modes. A holds at 1 and B at any row; the
-/// measures are the sum of A and the last row of all.
+/// to a number of rows, in all skip modes with each letter of the text. A holds at
+/// 1 and B at any row; the measures are the sum of A and the last row of all.
 pub fn every_small_input(
     alphabet: &'static [u8],
     longest: usize,
@@ -129,13 +145,14 @@ pub fn every_small_input(
                     true => draft.measure(2, b'A', 0),
                     false => draft,
                 };
-                [draft.clone().finish(), draft.to_next_row().finish()]
+                let drafts = draft.in_every_mode().into_iter();
+                drafts.map(|draft| draft.finish())
             })
         })
 }
 
 /// The given texts on every truth table of A and B: up to a number of rows, at
-/// each of which A, B, both or neither hold; in both skip modes.
+/// each of which A, B, both or neither hold; in all skip modes with each letter.
 pub fn every_table<'a>(
     texts: &'a [&'a [u8]],
     most_rows: usize,
@@ -149,13 +166,55 @@ pub fn every_table<'a>(
                     .define(b'B', &[draft::with_number(1, 0, 1, 1)])
                     .measure(1, 0, 0)
                     .measure(5, 0, 1);
-                [draft.clone().finish(), draft.to_next_row().finish()]
+                let drafts = draft.in_every_mode().into_iter();
+                drafts.map(|draft| draft.finish())
             })
     })
 }
 
+/// The given texts on all rows of 0 to 3 up to a number of rows, where A holds at
+/// 1, B at 2, C at 3 and no letter at 0, so that a match's labels can be any word;
+/// in the modes 2 and 3 with each of A to D, whether the text has it or not. Up to
+/// three rows also in report rooms of nothing, one less of each, and one more.
+pub fn every_word<'a>(texts: &'a [&'a [u8]], most_rows: usize) -> impl Iterator<Item = Input> + 'a {
+    texts.iter().flat_map(move |text| {
+        every_row_of(4, most_rows).flat_map(move |rows| {
+            let free = Draft::new(1, text, rows);
+            let draft = [1, 2, 3].into_iter().fold(free, |draft, entry| {
+                let holds = draft::with_number(0, 0, 1, entry.into());
+                draft.define(b'@' + entry, &[holds])
+            });
+            let drafts = draft.measure(1, 0, 0).to_labelled_rows(b"ABCD");
+            drafts.into_iter().flat_map(in_report_rooms)
+        })
+    })
+}
+
+/// Largest number of rows on which the report rooms below are tried.
+const IN_ROOMS: usize = 3;
+
+fn in_report_rooms(draft: Draft) -> Vec<Input> {
+    let [notes, trail, numbers, labels] = draft.needs();
+    let mut rooms = vec![(numbers, labels)];
+    if draft.rows.len() <= IN_ROOMS {
+        rooms.push((0, 0));
+        rooms.push((numbers.saturating_sub(1), labels));
+        rooms.push((numbers, labels.saturating_sub(1)));
+        rooms.push((numbers + 1, labels + 1));
+    }
+    let input = |(numbers, labels)| draft.with_lengths([notes, trail, numbers, labels]);
+    rooms.into_iter().map(input).collect()
+}
+
 fn every_row(most_rows: usize) -> impl Iterator<Item = Vec<i32>> {
-    (0..=most_rows).flat_map(|n| {
-        (0..1usize << n).map(move |bits| (0..n).map(|row| (bits >> row & 1) as i32).collect())
+    every_row_of(2, most_rows)
+}
+
+/// All rows of one column whose entries are 0 to below the given number.
+fn every_row_of(entries: usize, most_rows: usize) -> impl Iterator<Item = Vec<i32>> {
+    (0..=most_rows).flat_map(move |n| {
+        let entry = move |number: usize, row| (number / entries.pow(row) % entries) as i32;
+        (0..entries.pow(n as u32))
+            .map(move |number| (0..n as u32).map(|row| entry(number, row)).collect())
     })
 }

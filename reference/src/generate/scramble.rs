@@ -32,8 +32,8 @@ pub fn every_byte(query: Vec<u8>) -> impl Iterator<Item = Vec<u8>> {
 }
 
 /// Values at which some field or letter begins or ends.
-const EDGES: [u8; 20] = [
-    0, 1, 2, 5, 6, 7, 8, 9, b' ', b'(', b')', b'*', b'?', b'A', b'B', b'Z', b'|', 64, 192, 255,
+const EDGES: [u8; 21] = [
+    0, 1, 2, 3, 5, 6, 7, 8, 9, b' ', b'(', b')', b'*', b'?', b'A', b'B', b'Z', b'|', 64, 192, 255,
 ];
 
 fn with_wrong_byte(random: &mut Random, mut bytes: Vec<u8>) -> Vec<u8> {

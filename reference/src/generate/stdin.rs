@@ -1,5 +1,6 @@
 //! Standard inputs for the program: a length, a query and rows, whole or cut,
-//! and those that it prints `too large` for. From document 01, "Report".
+//! and those that it prints `too large` for. From document 01, "Report"; those
+//! that end in a 15 are from document 02, R-2.
 
 use super::draft::{Draft, Input, Numbers, Size, MIDDLE, SMALL};
 use super::random::Random;
@@ -17,6 +18,13 @@ pub fn whole(query: &[u8], rows: &[i32]) -> Vec<u8> {
     stdin
 }
 
+/// The answers that single damages are made for, in turn.
+const DAMAGED: [u8; 12] = [1, 2, 3, 4, 5, 6, 7, 8, 9, 10, 14, 15];
+
+fn damaged(random: &mut Random, size: &Size, turn: usize) -> Input {
+    mix::damaged(random, size, DAMAGED[turn % DAMAGED.len()])
+}
+
 /// The input with this number in a stream of mostly short ones. Only two in a
 /// thousand are long: one that stops, and one with a row byte too many.
 pub fn input(random: &mut Random, number: usize) -> Vec<u8> {
@@ -25,15 +33,14 @@ pub fn input(random: &mut Random, number: usize) -> Vec<u8> {
         199 => return row_bytes(b"(", MOST_ROW_BYTES + 1),
         _ => {}
     }
-    let turn = (number / 8) as u8;
+    let turn = number / 8;
     match number % 8 {
-        0..=2 => short(random, |random, size| mix::lively(random, size).finish()),
+        0..=1 => short(random, |random, size| mix::lively(random, size).finish()),
+        2 => short(random, |random, size| mix::jumping(random, size).finish()),
         3 => short(random, |random, size| {
             mix::adversarial(random, size).finish()
         }),
-        4 => short(random, |random, size| {
-            mix::damaged(random, size, 1 + turn % 10)
-        }),
+        4 => short(random, |random, size| damaged(random, size, turn)),
         5 => short(random, |random, size| {
             mix::accepted(random, size, Numbers::Extreme).finish()
         }),
@@ -68,7 +75,7 @@ fn shortened(random: &mut Random) -> Vec<u8> {
 }
 
 /// Lengths that do not fit, bytes too many, and more pairs than are searched.
-fn odd(random: &mut Random, turn: u8) -> Vec<u8> {
+fn odd(random: &mut Random, turn: usize) -> Vec<u8> {
     let mut stdin = short(random, |random, size| {
         mix::accepted(random, size, Numbers::Low).finish()
     });
@@ -127,6 +134,16 @@ fn stopping(n: usize) -> Vec<u8> {
     whole(&draft.query(), &vec![5; n])
 }
 
+/// As many report numbers for each of n matches, of which the last is a 15; the
+/// 432nd does not fit, and is a 13.
+fn sticking(n: usize) -> Vec<u8> {
+    let mut draft = limits::stuck_at_last_row(n);
+    for function in [1, 2, 3, 4, 5, 6, 1, 2] {
+        draft = draft.measure(function, b'C', 0);
+    }
+    of_input(&draft.finish())
+}
+
 /// A text and so many row bytes, all of them 0.
 fn row_bytes(text: &[u8], count: usize) -> Vec<u8> {
     let mut stdin = whole(&Draft::new(1, text, Vec::new()).query(), &[]);
@@ -135,14 +152,15 @@ fn row_bytes(text: &[u8], count: usize) -> Vec<u8> {
 }
 
 /// The input with this number in a stream of middle size: matches, patterns that
-/// are hard on a careless walk, each answer, two at once with bytes too many,
-/// large numbers, single bytes changed, and noise.
+/// are hard on a careless walk, skips to labelled rows, each answer, two at once
+/// with bytes too many, large numbers, single bytes changed, and noise.
 pub fn middle(random: &mut Random, number: usize) -> Vec<u8> {
     let turn = number / 8;
     match number % 8 {
         0 => of_input(&mix::lively(random, &MIDDLE).finish()),
-        1 | 2 => of_input(&mix::adversarial(random, &MIDDLE).finish()),
-        3 => of_input(&mix::damaged(random, &MIDDLE, 1 + (turn % 10) as u8)),
+        1 => of_input(&mix::adversarial(random, &MIDDLE).finish()),
+        2 => of_input(&mix::jumping(random, &MIDDLE).finish()),
+        3 => of_input(&damaged(random, &MIDDLE, turn)),
         4 => {
             let mut stdin = of_input(&mix::damaged_twice(random, &MIDDLE));
             stdin.extend(vec![9; random.below(5)]);
@@ -210,11 +228,14 @@ pub fn long() -> Vec<Vec<u8>> {
     }
     for n in [431, 432] {
         inputs.push(stopping(n));
+        inputs.push(sticking(n));
     }
     // n(n+1)/2 labels: 361 rows take 65,341 of them, 362 take 65,703.
     for n in [361, 362] {
         let draft = Draft::new(1, b"A*", Vec::new()).to_next_row();
         inputs.push(whole(&draft.query(), &vec![0; n]));
+        let labelled = Draft::new(1, b"A B*", Vec::new()).to_first(b'B');
+        inputs.push(whole(&labelled.query(), &vec![0; n]));
     }
     for (text, n) in [(&b"A"[..], 4096), (b"A* B", 3199), (b"A* B", 3200)] {
         inputs.push(whole(&query(text), &vec![0; n]));

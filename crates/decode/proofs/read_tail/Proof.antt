@@ -1,6 +1,6 @@
 -- `decode::read_tail` meets its contract by the laws of Together.
 use borrow.Author.Needs.{needs}
-use Rattle.decode.proofs.Together.{skip-there, skip-whole, skip-inside, measures-room, tail-is}
+use Rattle.decode.proofs.Together.{skip-there, skip-whole, skip-inside, target-inside, target-fits, measures-room, tail-is}
 use Rattle.decode.proofs.read_tail.Statement.{statement}
 use Rattle.decode.proofs.read_tail.Tie as tie
 
@@ -19,6 +19,12 @@ returns c = absurd (search (needs, skip-whole))
 byte-requires : tie.Need-byte-requires
 byte-requires c κs = search (needs, skip-inside)
 
+add-byte : tie.Need-add-byte
+add-byte c = search (needs, target-fits)
+
+byte-requires-2 : tie.Need-byte-requires-2
+byte-requires-2 c κs = search (needs, target-inside)
+
 put-measures-requires : tie.Need-put-measures-requires
 put-measures-requires c κs = search (needs, measures-room)
 
@@ -34,5 +40,7 @@ read-tail-spec =
     enum-told
     returns
     byte-requires
+    add-byte
+    byte-requires-2
     put-measures-requires
     returns-2)

@@ -6,10 +6,10 @@ use Rattle.reading.proofs.has_foreign.Statement.{statement}
 use Rattle.reading.proofs.has_foreign.Tie as tie
 
 abbrev Inv-loop : tie.InvT-loop
-Inv-loop text measures count k₀ k = Known text measures count k
+Inv-loop text measures count target k₀ k = Known text measures count k
 
 abbrev μ-loop : tie.MeasureT-loop
-μ-loop text measures count k₀ k = count - k
+μ-loop text measures count target k₀ k = count - k
 
 loop-holds : tie.Need-loop-holds Inv-loop μ-loop
 loop-holds c = search (needs, known-none)
@@ -32,6 +32,12 @@ loop-less c = search needs
 loop-again : tie.Need-loop-again Inv-loop μ-loop
 loop-again c = search (needs, known-more)
 
+cast-letter : tie.Need-cast-letter Inv-loop μ-loop
+cast-letter c = search needs
+
+is-known-requires-2 : tie.Need-is-known-requires-2 Inv-loop μ-loop
+is-known-requires-2 c κs = search needs
+
 returns-2 : tie.Need-returns-2 Inv-loop μ-loop
 returns-2 c = search (needs, known-all)
 
@@ -48,4 +54,6 @@ has-foreign-spec =
     add-k
     loop-less
     loop-again
+    cast-letter
+    is-known-requires-2
     returns-2)

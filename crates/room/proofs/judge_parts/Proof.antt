@@ -1,7 +1,7 @@
 -- `room::judge_parts` meets its contract by the laws of Laws.
 use native.Mathlib.Omega.{arith}
 use borrow.Author.Needs.{needs}
-use Rattle.reading.proofs.Laws.{text-answers, defines-answer, measures-answer, no-answer}
+use Rattle.reading.proofs.Laws.{text-answers, defines-answer, letters-answer, no-answer, target-byte}
 use Rattle.room.proofs.judge_parts.Statement.{statement}
 use Rattle.room.proofs.judge_parts.Tie as tie
 use Rattle.room.proofs.judge_parts.Reads as reads
@@ -53,7 +53,7 @@ part-has-foreign-end : tie.Need-part-has-foreign-end
 part-has-foreign-end c = search needs
 
 has-foreign-requires : tie.Need-has-foreign-requires
-has-foreign-requires c κs = search needs
+has-foreign-requires c κs = search (needs, target-byte)
 
 refused-requires-3 : tie.Need-refused-requires-3
 refused-requires-3 c κs = search needs
@@ -62,7 +62,7 @@ same-length-3 : tie.Need-same-length-3
 same-length-3 c = search needs
 
 returns-3 : tie.Need-returns-3
-returns-3 c = search (needs, measures-answer)
+returns-3 c = search (needs, letters-answer)
 
 same-length-4 : tie.Need-same-length-4
 same-length-4 c = search needs

@@ -1,16 +1,18 @@
 //! Deliberate faults, to prove that the comparison finds such ones: an engine
-//! that does one thing wrong, by reading another query than it was lent, or by
-//! changing what it returns or leaves. Each has to be found and shrunk.
+//! that does one thing wrong, by reading another query than it was lent, by going on
+//! at another row after a match, or by changing what it returns or leaves. Each has
+//! to be found and shrunk.
 
 use crate::engine::{Engine, Five};
 use crate::lent::{Guarded, Lent};
 use reference::generate::Random;
 use reference::pattern;
 use reference::query::{
-    self, COMPARISON_BYTES, DEFINE, FIRST, MEASURE, MIN, MOST_TEXT, SHAPE, SKIP, SUM, TEXT,
+    self, Skip, COMPARISON_BYTES, DEFINE, FIRST, MEASURE, MIN, MOST_TEXT, PAST_LAST_ROW, SHAPE,
+    SKIP, SUM, TEXT, TO_FIRST, TO_LAST, TO_NEXT_ROW,
 };
 use reference::readings;
-use reference::search::{self, Accepted, DONE, STOPPED};
+use reference::search::{self, next_start, Accepted, Rule, DONE, STOPPED, STUCK};
 
 pub struct Fault {
     pub name: &'static str,
@@ -21,6 +23,9 @@ pub struct Fault {
 enum Wrong {
     /// Reads another query or other rows.
     Reads(fn(&mut Vec<u8>, &mut Vec<i32>)),
+    /// Goes on at another row after a match, in the modes 2 and 3. What the engine
+    /// did is put away then, and the reference searches by this rule.
+    GoesOn(Rule),
     /// Ends a search in another way.
     Ends(fn(&mut Search)),
     /// Judges room in another way.
@@ -48,13 +53,16 @@ impl Engine for Faulty<'_> {
     fn search(&self, lent: &mut Lent) -> Five {
         let before = lent.clone();
         let mut returned = self.called(lent, |lent| self.engine.search(lent));
-        if let Wrong::Ends(wrong) = self.fault.wrong {
-            wrong(&mut Search {
-                before: &before,
-                lent,
-                returned: &mut returned,
-                accepted: search::accept(before.query.items(), before.rows.items()).ok(),
-            });
+        let mut search = Search {
+            accepted: search::accept(before.query.items(), before.rows.items()).ok(),
+            before: &before,
+            lent,
+            returned: &mut returned,
+        };
+        match self.fault.wrong {
+            Wrong::Ends(wrong) => wrong(&mut search),
+            Wrong::GoesOn(rule) => search.go_on_by(rule),
+            _ => {}
         }
         self.told(&mut returned, &before);
         returned
@@ -105,8 +113,69 @@ impl Search<'_> {
         self.returned[0] == u64::from(answer)
     }
 
+    /// Done, stopped or stuck.
     fn ended(&self) -> bool {
-        self.is(DONE) || self.is(STOPPED)
+        self.is(DONE) || self.is(STOPPED) || self.is(STUCK)
+    }
+
+    /// The letter that the modes 2 and 3 go on at, where the search ended.
+    fn skips_to(&self) -> Option<u8> {
+        let accepted = self.accepted.as_ref().filter(|_| self.ended())?;
+        accepted.query.skip.letter()
+    }
+
+    fn go_on_by(&mut self, rule: Rule) {
+        if self.skips_to().is_none() {
+            return;
+        }
+        *self.lent = self.before.clone();
+        let buffers = (
+            self.lent.notes.items_mut(),
+            self.lent.trail.items_mut(),
+            self.lent.numbers.items_mut(),
+            self.lent.labels.items_mut(),
+        );
+        let (query, rows) = (self.before.query.items(), self.before.rows.items());
+        let outcome = search::search_by_rule(query, rows, buffers, rule, &mut |_| {});
+        *self.returned = [
+            outcome.answer.into(),
+            outcome.matches,
+            outcome.labels,
+            outcome.steps,
+            outcome.offset,
+        ];
+    }
+
+    /// Whether the match that did not fit would have ended the search all the same.
+    fn would_be_stuck(&self) -> bool {
+        let Some(accepted) = self.accepted.as_ref().filter(|_| self.is(STOPPED)) else {
+            return false;
+        };
+        let n = accepted.n();
+        let mut numbers = vec![0; n * accepted.numbers_per_match()];
+        let mut labels = vec![0; n * (n + 1) / 2];
+        let outcome = search::search(
+            self.before.query.items(),
+            self.before.rows.items(),
+            &mut vec![0; self.before.notes.len()],
+            &mut vec![0; self.before.trail.len()],
+            &mut numbers,
+            &mut labels,
+        );
+        outcome.answer == STUCK && outcome.matches == self.returned[1] + 1
+    }
+
+    /// Takes the last match out of the report again: its numbers and its labels.
+    fn unwrite_last(&mut self) {
+        let taken = self.matches().last().map_or(0, |last| last[2] as usize);
+        let (written, labelled) = (self.written(), self.returned[2] as usize);
+        self.returned[1] -= 1;
+        self.returned[2] -= taken as u64;
+        let (left, labels_left) = (self.written(), labelled - taken);
+        let noise = &self.before.numbers.items()[left..written];
+        self.lent.numbers.items_mut()[left..written].copy_from_slice(noise);
+        let noise = &self.before.labels.items()[labels_left..labelled];
+        self.lent.labels.items_mut()[labels_left..labelled].copy_from_slice(noise);
     }
 
     fn refuse(&mut self, answer: u64) {
@@ -114,7 +183,7 @@ impl Search<'_> {
         *self.returned = [answer, 0, 0, 0, 0];
     }
 
-    /// P and P(n+1), where the search ended as done or stopped.
+    /// P and P(n+1), where the search ended.
     fn sizes(&self) -> Option<(usize, usize)> {
         let accepted = self.accepted.as_ref().filter(|_| self.ended())?;
         let places = accepted.places.len();
@@ -161,6 +230,14 @@ const fn ends(name: &'static str, about: &'static str, wrong: fn(&mut Search)) -
     }
 }
 
+const fn goes_on(name: &'static str, about: &'static str, wrong: Rule) -> Fault {
+    Fault {
+        name,
+        about,
+        wrong: Wrong::GoesOn(wrong),
+    }
+}
+
 const fn judges(name: &'static str, about: &'static str, wrong: fn(&mut Five, &Lent)) -> Fault {
     Fault {
         name,
@@ -177,7 +254,7 @@ const fn tells(name: &'static str, about: &'static str, wrong: fn(&mut Five, &[u
     }
 }
 
-pub const FAULTS: [Fault; 68] = [
+pub const FAULTS: [Fault; 90] = [
     ends("label", "the last label is another letter", |search| {
         if let Some(last) = (search.returned[2] as usize).checked_sub(1) {
             search.lent.labels.items_mut()[last] ^= 1;
@@ -744,6 +821,200 @@ pub const FAULTS: [Fault; 68] = [
     judges("room-offset", "room tells no offset", |returned, _| {
         returned[4] = 0;
     }),
+    reads(
+        "first-and-last",
+        "skips to the first and to the last row with the letter are exchanged",
+        |query, _| {
+            change_skip(query, |[mode, letter]| match mode {
+                TO_FIRST => [TO_LAST, letter],
+                TO_LAST => [TO_FIRST, letter],
+                _ => [mode, letter],
+            });
+        },
+    ),
+    goes_on(
+        "behind-labelled",
+        "goes on at the row behind the labelled one",
+        |skip, start, labels| {
+            let next = next_start(skip, start, labels)?;
+            Some(next + usize::from(!labels.is_empty()))
+        },
+    ),
+    goes_on(
+        "before-labelled",
+        "goes on at the row before the labelled one, if that is behind the first",
+        |skip, start, labels| {
+            let next = next_start(skip, start, labels)?;
+            Some((next - usize::from(!labels.is_empty())).max(start + 1))
+        },
+    ),
+    goes_on(
+        "letter-overlooked",
+        "goes on at the match's second row whatever its letter",
+        |skip, start, labels| next_start(skip, start, labels).map(|_| start + 1),
+    ),
+    goes_on(
+        "first-row-one-on",
+        "goes one row on where the labelled row is the match's first",
+        |skip, start, labels| {
+            let letter = skip.letter()?;
+            let next = next_start(skip, start, labels);
+            next.or(labels.contains(&letter).then_some(start + 1))
+        },
+    ),
+    goes_on(
+        "no-row-one-on",
+        "goes one row on where the letter labels no row",
+        |skip, start, labels| {
+            let letter = skip.letter()?;
+            let next = next_start(skip, start, labels);
+            next.or((!labels.contains(&letter)).then_some(start + 1))
+        },
+    ),
+    goes_on(
+        "no-row-past",
+        "goes on behind the match where the letter labels no row",
+        |skip, start, labels| {
+            let letter = skip.letter()?;
+            let next = next_start(skip, start, labels);
+            next.or((!labels.contains(&letter)).then_some(start + labels.len()))
+        },
+    ),
+    goes_on(
+        "empty-stuck",
+        "15 after an empty match",
+        |skip, start, labels| match labels {
+            [] => None,
+            _ => next_start(skip, start, labels),
+        },
+    ),
+    goes_on(
+        "first-row-labelled",
+        "15 wherever the match's first row has the letter, also where its last is meant",
+        |skip, start, labels| {
+            let labelled = labels.first().copied() == skip.letter();
+            next_start(skip, start, labels).filter(|_| !labelled)
+        },
+    ),
+    goes_on(
+        "first-row-left-out",
+        "the match's first row is left out when rows with the letter are looked for",
+        |skip, start, labels| match (skip, labels) {
+            (_, []) => Some(start + 1),
+            (Skip::ToFirst(letter), [_, later @ ..]) => {
+                let at = later.iter().position(|&label| label == letter)?;
+                Some(start + 1 + at)
+            }
+            _ => next_start(skip, start, labels),
+        },
+    ),
+    ends(
+        "stuck-unwritten",
+        "15 comes without its match written",
+        |search| {
+            if search.is(STUCK) && search.returned[1] > 0 {
+                search.unwrite_last();
+            }
+        },
+    ),
+    ends("stuck-first", "15 comes before 13", |search| {
+        if search.would_be_stuck() {
+            search.returned[0] = STUCK.into();
+        }
+    }),
+    ends(
+        "stuck-in-last-row",
+        "no 15 where the match's first row is the last one",
+        |search| {
+            let n = search.accepted.as_ref().map_or(0, |it| it.n() as i64);
+            if search.is(STUCK) && search.matches().last().is_some_and(|it| it[1] + 1 == n) {
+                search.returned[0] = DONE.into();
+            }
+        },
+    ),
+    ends("stuck-as-done", "15 is told as 0", |search| {
+        if search.is(STUCK) {
+            search.returned[0] = DONE.into();
+        }
+    }),
+    ends("stuck-as-stopped", "15 is told as 13", |search| {
+        if search.is(STUCK) {
+            search.returned[0] = STOPPED.into();
+        }
+    }),
+    ends(
+        "stuck-refuses",
+        "15 returns zeros and changes nothing",
+        |search| {
+            if search.is(STUCK) {
+                search.refuse(STUCK.into());
+            }
+        },
+    ),
+    ends(
+        "stuck-notes",
+        "15 leaves the notes as they were lent",
+        |search| {
+            if search.is(STUCK) {
+                search.lent.notes = search.before.notes.clone();
+            }
+        },
+    ),
+    ends(
+        "stuck-trail",
+        "15 leaves the trail as it was lent",
+        |search| {
+            if search.is(STUCK) {
+                search.lent.trail = search.before.trail.clone();
+            }
+        },
+    ),
+    reads(
+        "skip-stranger",
+        "no 9 for a skip to a letter outside the pattern",
+        |query, _| {
+            let letters = query::read(query)
+                .ok()
+                .and_then(|it| pattern::read(&it.text));
+            let Some(letters) = letters.map(|tree| tree.letters()) else {
+                return;
+            };
+            change_skip(query, |[mode, letter]| match mode {
+                TO_FIRST | TO_LAST if !letters.contains(&letter) => [TO_NEXT_ROW, 0],
+                _ => [mode, letter],
+            });
+        },
+    ),
+    reads(
+        "skip-reserved",
+        "a letter is overlooked in the modes 0 and 1",
+        |query, _| {
+            change_skip(query, |[mode, letter]| match mode {
+                PAST_LAST_ROW | TO_NEXT_ROW if letter.is_ascii_uppercase() => [mode, 0],
+                _ => [mode, letter],
+            });
+        },
+    ),
+    reads(
+        "skip-no-letter",
+        "small letters are read as letters in the modes 2 and 3",
+        |query, _| {
+            change_skip(query, |[mode, letter]| match mode {
+                TO_FIRST | TO_LAST => [mode, letter.to_ascii_uppercase()],
+                _ => [mode, letter],
+            });
+        },
+    ),
+    reads(
+        "skip-mode",
+        "a mode above 3 is read as to next row",
+        |query, _| {
+            change_skip(query, |[mode, letter]| match mode {
+                0..=TO_LAST => [mode, letter],
+                _ => [TO_NEXT_ROW, 0],
+            });
+        },
+    ),
 ];
 
 const DEEP: u64 = 4;
@@ -781,6 +1052,15 @@ fn change_bodies(query: &mut Vec<u8>, kind: u16, change: impl Fn(&mut Vec<u8>)) 
         changed.extend(body);
     }
     *query = changed;
+}
+
+/// Changes mode and letter of a skip record that has both.
+fn change_skip(query: &mut Vec<u8>, change: impl Fn([u8; 2]) -> [u8; 2]) {
+    change_bodies(query, SKIP, |body| {
+        if let [mode, letter] = &mut body[..] {
+            [*mode, *letter] = change([*mode, *letter]);
+        }
+    });
 }
 
 fn change_comparisons(query: &mut Vec<u8>, change: impl Fn(&mut [u8])) {

@@ -2,7 +2,7 @@
 //! against what the reference says. An input on which they differ is shrunk.
 
 use reference::generate::draft::{with_column, with_number, Draft};
-use reference::generate::{stdin, Random};
+use reference::generate::{limits, stdin, Random};
 use reference::program::program;
 use std::io::{ErrorKind, Read, Write};
 use std::path::Path;
@@ -15,8 +15,9 @@ const TRIES: usize = 2_000;
 const X: [i32; 5] = [100, 110, 120, 115, 130];
 
 /// An input for each of the ways to end: a match, no rows, an empty match with nulls,
-/// a refusal of two that apply, more pairs than are searched, and a report that stops.
-fn of_each_end() -> [Vec<u8>; 6] {
+/// a refusal of two that apply, more pairs than are searched, a report that stops, and
+/// a search that has no row to go on at.
+fn of_each_end() -> [Vec<u8>; 7] {
     let rising = |rows: &[i32], last_of| {
         let prev = |operator| with_column((0, 0), operator, (0, -1), 0);
         let draft = Draft::new(1, b"A+ B", Vec::new())
@@ -51,6 +52,7 @@ fn of_each_end() -> [Vec<u8>; 6] {
         two_refusals,
         stdin::whole(&many_pairs.query(), &[7; 62]),
         stdin::whole(&stops.query(), &growing),
+        stdin::of_input(&limits::stuck_at_last_row(3).finish()),
     ]
 }
 
@@ -148,7 +150,7 @@ mod tests {
     #[test]
     fn the_listed_inputs_end_in_each_way() {
         let printed = of_each_end().map(|input| String::from_utf8(program(&input)).unwrap());
-        let [found, no_rows, nulls, refused, large, stopped] = &printed;
+        let [found, no_rows, nulls, refused, large, stopped, stuck] = &printed;
         assert_eq!(found, "matches 1 steps 12\n1 1 3 AAB 2 115\n");
         assert_eq!(no_rows, "matches 0 steps 0\n");
         assert_eq!(
@@ -161,6 +163,9 @@ mod tests {
         assert_eq!(lines[0], "stopped 431 steps 864");
         assert_eq!(lines[4], "4 3 1 A 1 -333 -333 -333 -333 -333 1 -333");
         assert_eq!(lines.len(), 432);
+        // Fork, A, B and END at rows 0 and 1; at row 2 fork, A, B failing behind the
+        // rows, C and END.
+        assert_eq!(stuck, "stopped 3 steps 13\n1 0 2 AB\n2 1 2 AB\n3 2 1 C\n");
     }
 
     /// The program's own crate is run by the gate on the first of them.

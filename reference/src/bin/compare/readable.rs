@@ -78,6 +78,8 @@ fn in_words(query: &Query) -> Vec<String> {
     lines.push(match query.skip {
         Skip::PastLastRow => "skip: past last row".to_string(),
         Skip::ToNextRow => "skip: to next row".to_string(),
+        Skip::ToFirst(letter) => format!("skip: to first {}", char::from(letter)),
+        Skip::ToLast(letter) => format!("skip: to last {}", char::from(letter)),
     });
     lines.extend(query.measures.iter().map(measure));
     lines

@@ -1,11 +1,11 @@
 //! Making a case on which the two differ smaller, as long as they still differ
-//! on it in some way: fewer rows, fewer records and comparisons, a shorter
-//! pattern, smaller numbers, smaller buffers. Greedy, so the result is small and
-//! not the smallest.
+//! on it in some way: fewer rows and columns, fewer records and comparisons, a
+//! shorter pattern, smaller numbers, smaller buffers. Greedy, so the result is
+//! small and not the smallest.
 
 use crate::case::Case;
 use crate::engine::Engine;
-use reference::query::{COMPARISON_BYTES, DEFINE, MEASURE, TEXT};
+use reference::query::{COMPARISON_BYTES, DEFINE, MEASURE, SKIP, TEXT};
 use std::time::{Duration, Instant};
 
 /// The most cases that are tried for one shrinking, and how long that may take.
@@ -34,11 +34,12 @@ impl Shrinking<'_> {
     /// Tries every sort of change; false if none was of use.
     fn round(&mut self) -> bool {
         let rows = self.fewer_rows();
+        let columns = self.fewer_columns();
         let records = self.fewer_records();
         let bodies = self.shorter_bodies();
         let numbers = self.smaller_numbers();
         let buffers = self.smaller_buffers();
-        rows || records || bodies || numbers || buffers
+        rows || columns || records || bodies || numbers || buffers
     }
 
     /// Takes a changed case over if the two still differ on it.
@@ -101,6 +102,23 @@ impl Shrinking<'_> {
             },
         );
         whole || entries
+    }
+
+    /// Takes the last column out of the shape and of every row.
+    fn fewer_columns(&mut self) -> bool {
+        let mut any = false;
+        loop {
+            let columns = Parts::of(&self.case.input.query).columns();
+            let change = |case: &mut Case| {
+                let left = |row: &[i32]| row[..row.len().min(columns - 1)].to_vec();
+                case.input.rows = case.input.rows.chunks(columns).flat_map(left).collect();
+                case.change_parts(|parts| parts.records[0].1[0] -= 1);
+            };
+            if columns == 1 || !self.take(change) {
+                return any;
+            }
+            any = true;
+        }
     }
 
     fn fewer_records(&mut self) -> bool {
@@ -208,7 +226,7 @@ impl Shrinking<'_> {
         for (index, byte) in body.into_iter().enumerate() {
             let smaller: &[u8] = match (kind, index) {
                 (TEXT, _) => b"A",
-                (DEFINE, 0) | (MEASURE, 1) => b"\0A",
+                (DEFINE, 0) | (SKIP | MEASURE, 1) => b"\0A",
                 _ => &[0, 1],
             };
             for &smaller in smaller.iter().take_while(|&&it| it != byte) {

@@ -10,6 +10,7 @@ use reference::generate::draft::{
 };
 use reference::generate::scramble::{every_byte, scrambled};
 use reference::generate::{beginnings, limits, mix, texts, Random};
+use reference::query::SKIP;
 use std::collections::HashSet;
 
 pub type Cases = Box<dyn Iterator<Item = Case>>;
@@ -46,7 +47,7 @@ const fn random(
     }
 }
 
-pub const STREAMS: [Stream; 22] = [
+pub const STREAMS: [Stream; 25] = [
     listed(
         "texts",
         "room: every text of up to 5 bytes over two alphabets",
@@ -61,6 +62,16 @@ pub const STREAMS: [Stream; 22] = [
         "tables",
         "patterns on every truth table of two letters, up to 4 rows",
         every_table,
+    ),
+    listed(
+        "labelled",
+        "skips to first and last A, B, C and D: patterns on every word of labels, up to 4 rows",
+        every_word,
+    ),
+    listed(
+        "skips",
+        "room, some searches: every two bytes of the skip record, and its wrong lengths",
+        every_skip,
     ),
     listed(
         "rooms",
@@ -105,6 +116,12 @@ pub const STREAMS: [Stream; 22] = [
         adversarial,
     ),
     random(
+        "jumping",
+        "searches that go on at a labelled row twice or more, up to 60 rows",
+        4_000,
+        jumping,
+    ),
+    random(
         "near-256",
         "patterns of 250 to 262 places, up to 22 rows",
         2_000,
@@ -118,7 +135,7 @@ pub const STREAMS: [Stream; 22] = [
     ),
     random(
         "answers",
-        "each answer 1 to 14 and each pair of them, from many causes",
+        "each answer 1 to 15 and each pair of them, from many causes",
         60_000,
         answers,
     ),
@@ -258,6 +275,67 @@ fn every_table(seed: u64) -> Cases {
     searches(seed, mix::every_table(&TABLED, 4))
 }
 
+/// Patterns of which A, B, C or none label a match's first row, no row, several, or
+/// a later one; of some the matches are empty, and some lack letters.
+const WORDS: [&[u8]; 26] = [
+    b"(A|B|C)+",
+    b"(A|B|C)*",
+    b"(A|B|C)+?",
+    b"(A|B|C){2}",
+    b"(A|B|C){2,3}?",
+    b"A+ B",
+    b"A B+",
+    b"A B* C",
+    b"A B C",
+    b"A+ B+ C*",
+    b"(A B)+ C?",
+    b"A (B|C)+",
+    b"(A|B)+ C",
+    b"A? B",
+    b"(A | B A){2}",
+    b"() | A B",
+    b"A B | ()",
+    b"A*",
+    b"A*? B?",
+    b"^ A B | B C",
+    b"A B $ | B",
+    b"B{2} | A B{,2}",
+    b"(A B? C?)+",
+    b"$ | C B",
+    b"()",
+    b"^?",
+];
+
+fn every_word(seed: u64) -> Cases {
+    searches(seed, mix::every_word(&WORDS, 4))
+}
+
+/// The largest mode that is searched with every letter; there are four modes.
+const SEARCHED_MODE: u8 = 4;
+
+fn every_skip(seed: u64) -> Cases {
+    let draft = || {
+        let rows = vec![1, 1, 2, 1, 2, 2];
+        let two = with_number(0, 0, 1, 2);
+        Draft::new(1, b"A+ B", rows).define(b'B', &[two])
+    };
+    let with_skips = move |modes: std::ops::RangeInclusive<u8>| {
+        let letters = move |mode| (0..=255).map(move |letter| draft().with_skip(mode, letter));
+        modes.flat_map(letters)
+    };
+    let lengths = [vec![], vec![0], vec![2], vec![0; 3], vec![2, b'A', 0]];
+    let wrong = lengths.into_iter().map(move |body| {
+        let mut draft = draft();
+        if let Some(skip) = draft.body_mut(SKIP) {
+            *skip = body;
+        }
+        draft
+    });
+    let judged = rooms(seed, with_skips(0..=255).chain(wrong));
+    let searched = with_skips(0..=SEARCHED_MODE).map(|draft| draft.finish());
+    Box::new(searches(seed, searched).chain(judged))
+}
+
 /// Drafts with matches, on which all combinations of rooms are tried.
 fn every_room(seed: u64) -> Cases {
     let mut random = Random::new(seed);
@@ -338,6 +416,13 @@ fn adversarial(seed: u64) -> Cases {
     })
 }
 
+fn jumping(seed: u64) -> Cases {
+    made(seed, |random, number| match number % 3 {
+        0 => mix::jumping(random, &SMALL).finish(),
+        _ => mix::jumping(random, &MIDDLE).finish(),
+    })
+}
+
 fn near_limit(seed: u64) -> Cases {
     made(seed, |random, _| mix::near_limit(random, &MIDDLE).finish())
 }
@@ -351,7 +436,7 @@ fn critical(seed: u64) -> Cases {
 /// All pairs in turn, the equal ones among them.
 fn answers(seed: u64) -> Cases {
     made(seed, |random, number| {
-        let answers = [1 + number % 14, 1 + number / 14 % 14].map(|answer| answer as u8);
+        let answers = [1 + number % 15, 1 + number / 15 % 15].map(|answer| answer as u8);
         loop {
             let mut draft = mix::accepted(random, &SMALL, Numbers::Low);
             if damage_twice(random, &mut draft, answers) {
@@ -397,7 +482,13 @@ fn every_byte_value(seed: u64) -> Cases {
         )
         .measure(1, b'A', 0)
         .measure(2, b'B', 1);
-    let drafts = plain.into_iter().chain([full.clone(), full.to_next_row()]);
+    let in_modes = [
+        full.clone(),
+        full.clone().to_next_row(),
+        full.clone().to_first(b'B'),
+        full.to_last(b'A'),
+    ];
+    let drafts = plain.into_iter().chain(in_modes);
     let inputs = drafts.flat_map(|draft| {
         let whole = draft.finish();
         every_byte(draft.query()).map(move |query| Input {

@@ -6,6 +6,8 @@ use crate::case::Call;
 use crate::engine::Reference;
 use reference::generate::{texts, Random};
 use reference::pattern;
+use reference::query::Skip;
+use reference::search;
 
 #[test]
 fn the_reference_agrees_with_itself() {
@@ -13,6 +15,45 @@ fn the_reference_agrees_with_itself() {
         let mut cases = (stream.cases)(7).take(300);
         assert!(cases.all(|case| case.agrees(&Reference)), "{}", stream.name);
     }
+}
+
+/// The bounds of the papers, 2P(n+1) in mode 0 and Pn(n+3)/2 in modes 1 to 3.
+#[test]
+fn the_steps_keep_to_the_bounds() {
+    let mut walked = [0; 4];
+    for stream in &STREAMS {
+        let cases = (stream.cases)(8).take(600);
+        for case in cases.filter(|case| case.call == Call::Search) {
+            let (returned, _) = case.run(&Reference);
+            let Ok(accepted) = search::accept(&case.input.query, &case.input.rows) else {
+                continue;
+            };
+            assert!(returned[3] <= accepted.most_steps(), "{}", stream.name);
+            walked[match accepted.query.skip {
+                Skip::PastLastRow => 0,
+                Skip::ToNextRow => 1,
+                Skip::ToFirst(_) => 2,
+                Skip::ToLast(_) => 3,
+            }] += 1;
+        }
+    }
+    assert!(walked.iter().all(|&count| count > 200), "{walked:?}");
+}
+
+/// The listed words of labels hold every way in which a search to a labelled row ends.
+#[test]
+fn the_listed_words_end_in_each_way() {
+    let labelled = STREAMS.iter().find(|stream| stream.name == "labelled");
+    let mut answers = [0; 16];
+    for case in (labelled.expect("a stream of that name").cases)(1) {
+        let (returned, _) = case.run(&Reference);
+        answers[returned[0] as usize] += 1;
+    }
+    let ends = [0, 9, 13, 15];
+    assert!(ends.iter().all(|&at| answers[at] > 5_000), "{answers:?}");
+    // 26 patterns, 8 skips, 341 tables, 85 of them in four more rooms.
+    assert_eq!(answers.iter().sum::<usize>(), 26 * 8 * (341 + 4 * 85));
+    assert_eq!(ends.map(|at| answers[at]).iter().sum::<usize>(), 141_648);
 }
 
 #[test]

@@ -14,7 +14,7 @@ use crate::query_text::Shown;
 const REFUSED: u8 = 1;
 /// The input, the command line or the program is wrong, or the output cannot be written.
 const WRONG: u8 = 2;
-/// The report is not whole, for want of room.
+/// The report may not be whole: the search stopped, for want of room or of a row to skip to.
 pub const STOPPED: u8 = 3;
 /// The reader of the output has gone: what a shell shows of a program that a broken pipe ends.
 const UNREAD: u8 = 141;
@@ -51,8 +51,8 @@ impl Failure {
             Failure::Refused { .. } => REFUSED,
             Failure::Output { error, ending } if error.kind() == ErrorKind::BrokenPipe => {
                 match ending {
-                    Ending::Stopped => STOPPED,
-                    _ => UNREAD,
+                    Ending::Done => UNREAD,
+                    _ => STOPPED,
                 }
             }
             _ => WRONG,

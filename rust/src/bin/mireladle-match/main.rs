@@ -1,9 +1,9 @@
 //! mireladle-match: searches the rows of a CSV file for a query that is written as readable text,
 //! and prints the matches and the labelled rows. It promises a message with a place for every text
 //! that it cannot read, the number and the reason of every refusal, and an exit status: 0 done, 1
-//! refused, 2 wrong input or an output that cannot be written, 3 stopped for want of room, 141
-//! where the reader of the output left early, so that a script cannot take a part of a report for
-//! the whole. It never panics. Tested in tests/command.rs and tests/output.rs.
+//! refused, 2 wrong input or an output that cannot be written, 3 stopped for want of room or of a
+//! row to skip to, 141 where the reader of the output left early, so that a script cannot take a
+//! part of a report for the whole. It never panics. Tested in tests/command.rs and tests/output.rs.
 
 #![deny(unsafe_code)]
 #![cfg_attr(test, allow(clippy::restriction))]
@@ -20,6 +20,7 @@ mod pattern_text;
 mod print;
 mod program;
 mod query_text;
+mod skip_text;
 mod width;
 mod words;
 
@@ -61,7 +62,9 @@ QUERY.txt  Lines in any order; # begins a comment.
            line of its own holds at every row. A column is c0, c1 and so on, or its
            name in ROWS.csv, in double quotes where it has spaces. Comparisons are
            = <> < <= > >=, with a number, a column, or a column plus or minus a number.
-           skip is `past last row` (also where the line is missing) or `to next row`.
+           skip is `past last row` (also where the line is missing), `to next row`,
+           `to first A` or `to last A`: at which row the search goes on behind a match, here
+           its first or last row labelled A. That row has to lie behind the match's first.
            Measures are COUNT, SUM, MIN, MAX, FIRST, LAST; over all rows of the match
            (COUNT(*)), or over those with one letter. Over no rows, all but COUNT are null.
 
@@ -73,8 +76,10 @@ QUERY.txt  Lines in any order; # begins a comment.
 
 It prints the matches, then the rows; 2:A beside a row says that match 2 labels it A.
 Rows count from 0. Exit status: 0 done, 1 the search refused, 2 wrong input or an output
-that cannot be written, 3 the program had no room for the whole report, which begins with
-`stopped for want of room`, 141 the reader of the output left before its end.
+that cannot be written, 3 the search stopped, so that there may be further matches, 141 the
+reader of the output left before its end. The report of a search that stopped begins with
+`stopped for want of room`, which only the program does, or with `stopped since` and why
+there is no row to skip to behind the last match printed.
 ";
 
 /// What the command line asks for.
@@ -248,7 +253,7 @@ fn search(
             | Error::EmptyRepetition
             | Error::TooManyPlaces => Some(text.pattern.clone()),
             Error::DefinedTwice => text.defined_again.clone(),
-            Error::MeasureLetter => text.measures.clone(),
+            Error::MeasureLetter => text.strange_letter().cloned(),
             _ => None,
         };
         Failure::Refused {
@@ -269,6 +274,7 @@ fn search(
         rows,
         names: &table.names,
         titles: &text.titles,
+        skip: text.skip,
     };
     let ending = report.ending();
     printed.write(out).map_err(unwritten(ending))?;
@@ -281,7 +287,8 @@ fn search_by_program(
     table: &Table,
     refused: impl Fn(Error) -> Failure,
 ) -> Result<Report, Failure> {
-    let searched = program::search(path, program_input(text, table), text.titles.len());
+    let input = program_input(text, table);
+    let searched = program::search(path, input, text.titles.len(), text.skip);
     searched.map_err(|failed| match failed {
         Failed::Refused(error) => refused(error),
         other => Failure::Program {

@@ -5,7 +5,7 @@ use mireladle::{Function, Measure};
 
 use crate::columns::{column, title};
 use crate::fault::Fault;
-use crate::words::{letter, Word, Words};
+use crate::words::{Word, Words};
 
 const MOST_MEASURES: usize = 8;
 
@@ -60,7 +60,7 @@ fn counted(words: &mut Words) -> Result<(Measure, String), Fault> {
     if words.pass_sign("*") {
         return Ok((Measure::count(), String::from("*")));
     }
-    let letter = read_letter(words, "`*` or a letter A to Z")?;
+    let letter = words.want_letter("`*` or a letter A to Z")?;
     if words.pass_sign(".") {
         words.want_sign("*")?;
     }
@@ -78,21 +78,11 @@ fn measured(
         let column = column(words, names)?;
         return Ok((Measure::new(function, column), title(column, names)));
     }
-    let letter = read_letter(words, "a letter A to Z in front of the dot")?;
+    let letter = words.want_letter("a letter A to Z in front of the dot")?;
     words.want_sign(".")?;
     let column = column(words, names)?;
     Ok((
         Measure::new(function, column).of(letter),
         format!("{letter}.{}", title(column, names)),
     ))
-}
-
-fn read_letter(words: &mut Words, expected: &str) -> Result<char, Fault> {
-    let letter = match words.peek() {
-        Word::Name(name) => letter(name),
-        _ => None,
-    };
-    let letter = letter.ok_or_else(|| words.fault(expected))?;
-    words.pass();
-    Ok(letter)
 }

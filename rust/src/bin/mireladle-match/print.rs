@@ -5,17 +5,20 @@
 
 use std::io::{self, Write};
 
-use mireladle::{Ending, Match, Report, Rows};
+use mireladle::{Ending, Match, Report, Rows, Skip};
 
 use crate::fault::visible;
+use crate::skip_text::no_row_behind;
 use crate::width::width;
 
-/// What is printed: a report, the rows it is about, and how their columns and the measures are called.
+/// What is printed: a report, the rows it is about, how their columns and the measures are called,
+/// and the skip by which the search went on.
 pub struct Printed<'a> {
     pub report: &'a Report,
     pub rows: Rows<'a>,
     pub names: &'a [String],
     pub titles: &'a [String],
+    pub skip: Skip,
 }
 
 impl Printed<'_> {
@@ -36,15 +39,27 @@ impl Printed<'_> {
             1 => String::from("1 match"),
             more => format!("{more} matches"),
         };
-        let stopped = match self.report.ending() {
-            Ending::Done => "",
-            _ => "stopped for want of room: ",
-        };
         let steps = match self.report.steps() {
             1 => String::from("1 step"),
             more => format!("{more} steps"),
         };
-        format!("{stopped}{matches} in {steps}")
+        format!("{}{matches} in {steps}", self.stopped())
+    }
+
+    /// What stopped the search, in front of the summary; nothing where it is done.
+    fn stopped(&self) -> String {
+        let why = |last: Match<'_>| {
+            let number = u64::try_from(last.number()).unwrap_or(u64::MAX);
+            no_row_behind(self.skip, number, last.labels())
+        };
+        match self.report.ending() {
+            Ending::Done => String::new(),
+            Ending::NoSkipRow => match self.report.matches().last().and_then(why) {
+                Some(why) => format!("stopped since {why}: "),
+                None => String::from("stopped: "),
+            },
+            _ => String::from("stopped for want of room: "),
+        }
     }
 
     fn match_lines(&self) -> Vec<Vec<String>> {

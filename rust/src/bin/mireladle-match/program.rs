@@ -2,8 +2,9 @@
 //! go to its standard input, and the lines that it prints are read back into a report. The
 //! program's exit status is always 0, so what it printed has to tell: a report counts only where it
 //! is whole, each line of it with its line end, and where nothing was written to standard error.
-//! Anything else is told. Weakness: a program that never ends is waited for. Tested here and in
-//! tests/command.rs.
+//! Anything else is told. What stopped a search the program does not say: it is found from the last
+//! match, behind which there is a row to skip to or none. Weakness: a program that never ends is
+//! waited for. Tested here and in tests/command.rs.
 
 use std::io::{self, ErrorKind, Write};
 use std::path::Path;
@@ -11,10 +12,11 @@ use std::process::{Command, Output, Stdio};
 use std::str::FromStr;
 
 use mireladle::lent::Outcome;
-use mireladle::{Error, Report};
+use mireladle::{Error, Report, Skip};
 
 use crate::fault::{shown, visible, LONGEST_SHOWN};
 use crate::lines::lines;
+use crate::skip_text::no_row_behind;
 
 /// Why the program gave no report.
 pub enum Failed {
@@ -48,8 +50,14 @@ impl Failed {
     }
 }
 
-/// Runs the program on an input and reads the report of a query with so many measures.
-pub fn search(path: &Path, input: Vec<u8>, measures: usize) -> Result<Report, Failed> {
+/// The answers that a first line stands for. 15 is told as 13.
+const DONE: u64 = 0;
+const STOPPED: u64 = 13;
+const NO_SKIP_ROW: u64 = 15;
+
+/// Runs the program on an input and reads the report of a query with so many measures and this
+/// skip.
+pub fn search(path: &Path, input: Vec<u8>, measures: usize, skip: Skip) -> Result<Report, Failed> {
     let output = run(path, input).map_err(Failed::Run)?;
     let message = said(&String::from_utf8_lossy(&output.stderr));
     if !output.status.success() {
@@ -57,7 +65,7 @@ pub fn search(path: &Path, input: Vec<u8>, measures: usize) -> Result<Report, Fa
         return Err(Failed::Run(io::Error::other(ended)));
     }
     match output.stderr.is_empty() {
-        true => read(&String::from_utf8_lossy(&output.stdout), measures),
+        true => read(&String::from_utf8_lossy(&output.stdout), measures, skip),
         false => Err(Failed::Said(message)),
     }
 }
@@ -95,16 +103,18 @@ fn said(text: &str) -> String {
 }
 
 /// Reads the printed lines.
-fn read(printed: &str, measures: usize) -> Result<Report, Failed> {
+fn read(printed: &str, measures: usize, skip: Skip) -> Result<Report, Failed> {
     let mut lines = whole_lines(printed)?;
     let first = lines.next().unwrap_or("");
     let head = head(first)?;
     let (mut numbers, mut labels) = (Vec::new(), String::new());
     let mut matches: u64 = 0;
+    let mut goes_on = true;
     for line in lines {
         matches = matches.saturating_add(1);
         let of_match = match_line(line, matches, measures).filter(|_| matches <= head.matches);
         let (of_match, of_rows) = of_match.ok_or_else(|| strange(line))?;
+        goes_on = no_row_behind(skip, matches, of_rows).is_none();
         numbers.extend(of_match);
         labels.push_str(of_rows);
     }
@@ -112,7 +122,12 @@ fn read(printed: &str, measures: usize) -> Result<Report, Failed> {
         let missing = format!("matches told {}, printed {matches}", head.matches);
         return Err(Failed::Cut(missing));
     }
+    // A search stops behind the first match that has no row to skip to, and not for want of room.
     let outcome = Outcome {
+        answer: match head.answer {
+            STOPPED if !goes_on => NO_SKIP_ROW,
+            other => other,
+        },
         labels: u64::try_from(labels.len()).unwrap_or(u64::MAX),
         ..head
     };
@@ -141,8 +156,8 @@ fn whole_lines(printed: &str) -> Result<impl Iterator<Item = &str>, Failed> {
 fn head(line: &str) -> Result<Outcome, Failed> {
     let words: Vec<&str> = line.split(' ').collect();
     let (answer, matches, steps) = match words[..] {
-        ["matches", matches, "steps", steps] => (0, matches, steps),
-        ["stopped", matches, "steps", steps] => (13, matches, steps),
+        ["matches", matches, "steps", steps] => (DONE, matches, steps),
+        ["stopped", matches, "steps", steps] => (STOPPED, matches, steps),
         ["too", "large"] => return Err(Failed::TooLarge),
         ["refused", answer] => {
             let answer = number(answer).ok_or_else(|| strange(line))?;
@@ -202,7 +217,11 @@ fn match_line(line: &str, matches: u64, measures: usize) -> Option<(Vec<i64>, &s
 
 #[cfg(test)]
 mod tests {
+    use mireladle::Ending;
+
     use super::*;
+
+    const PAST: Skip = Skip::PastLastRow;
 
     fn lines(report: &Report) -> Vec<String> {
         let line = |found: mireladle::Match<'_>| {
@@ -220,7 +239,7 @@ mod tests {
     #[test]
     fn printed_lines_are_read() {
         let printed = "matches 2 steps 12\n1 1 3 AAB 2 -115\n2 4 0 - 0 null\n";
-        let Ok(report) = read(printed, 2) else {
+        let Ok(report) = read(printed, 2, PAST) else {
             panic!("a report");
         };
         assert_eq!((report.len(), report.steps()), (2, 12));
@@ -228,18 +247,46 @@ mod tests {
             lines(&report),
             ["1 1 AAB [Some(2), Some(-115)]", "2 4  [Some(0), None]"]
         );
-        assert_eq!(report.ending(), mireladle::Ending::Done);
-        let stopped = read("stopped 0 steps 3\n", 0);
-        assert!(stopped.is_ok_and(|report| report.ending() == mireladle::Ending::Stopped));
+        assert_eq!(report.ending(), Ending::Done);
+        let stopped = read("stopped 0 steps 3\n", 0, PAST);
+        assert!(stopped.is_ok_and(|report| report.ending() == Ending::Stopped));
+    }
+
+    /// Both answers of a stopped search are printed alike: the last match tells which it was.
+    #[test]
+    fn what_stopped_a_search_is_found_from_its_last_match() {
+        let ending = |printed: &str, skip| match read(printed, 0, skip) {
+            Ok(report) => (report.ending(), report.len()),
+            Err(failed) => panic!("{}", failed.reason()),
+        };
+        let (first, last) = (Skip::ToFirst('A'), Skip::ToLast('A'));
+        let two = "stopped 2 steps 9\n1 0 3 BAA\n2 2 2 AB\n";
+        for skip in [first, last] {
+            assert_eq!(ending(two, skip), (Ending::NoSkipRow, 2));
+        }
+        for skip in [PAST, Skip::ToNextRow, Skip::ToFirst('B'), Skip::ToLast('B')] {
+            assert_eq!(ending(two, skip), (Ending::Stopped, 2));
+        }
+        let empty = "stopped 2 steps 9\n1 0 3 BAA\n2 2 0 -\n";
+        let none = "stopped 0 steps 3\n";
+        for skip in [first, last] {
+            assert_eq!(ending(empty, skip), (Ending::Stopped, 2));
+            assert_eq!(ending(none, skip), (Ending::Stopped, 0));
+        }
+        let done = two.replace("stopped", "matches");
+        assert_eq!(ending(&done, PAST), (Ending::Done, 2));
     }
 
     #[test]
     fn refusals_and_strange_lines_are_told() {
         assert!(matches!(
-            read("refused 7\n", 0),
+            read("refused 7\n", 0, PAST),
             Err(Failed::Refused(Error::TooManyPlaces))
         ));
-        assert!(matches!(read("too large\n", 0), Err(Failed::TooLarge)));
+        assert!(matches!(
+            read("too large\n", 0, PAST),
+            Err(Failed::TooLarge)
+        ));
         for strange in [
             "too\n",
             "too large\nor not\n",
@@ -258,7 +305,7 @@ mod tests {
             "matches 0 steps x\n",
         ] {
             assert!(
-                matches!(read(strange, 0), Err(Failed::Line(_))),
+                matches!(read(strange, 0, PAST), Err(Failed::Line(_))),
                 "{strange}"
             );
         }
@@ -268,18 +315,18 @@ mod tests {
     #[test]
     fn every_cut_is_told() {
         let whole = "matches 2 steps 12\n1 1 3 AAB 2 -115\n2 4 0 - 0 null\n";
-        assert!(read(whole, 2).is_ok());
+        assert!(read(whole, 2, PAST).is_ok());
         for end in 0..whole.len() {
-            let cut = read(&whole[..end], 2);
+            let cut = read(&whole[..end], 2, PAST);
             assert!(matches!(cut, Err(Failed::Cut(_))), "{end}");
         }
         let stopped = "stopped 1 steps 12\n1 1 3 AAB\n";
         for end in 0..stopped.len() {
-            let cut = read(&stopped[..end], 0);
+            let cut = read(&stopped[..end], 0, PAST);
             assert!(matches!(cut, Err(Failed::Cut(_))), "{end}");
         }
         for cut in ["refused 1", "too large", "matches 0 steps 1"] {
-            assert!(matches!(read(cut, 0), Err(Failed::Cut(_))), "{cut}");
+            assert!(matches!(read(cut, 0, PAST), Err(Failed::Cut(_))), "{cut}");
         }
     }
 

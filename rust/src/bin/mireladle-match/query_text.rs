@@ -8,6 +8,7 @@ use crate::define_text::comparisons;
 use crate::fault::{column_of, shown, Fault};
 use crate::lines::lines;
 use crate::measure_text::measures;
+use crate::skip_text::{letter_of, skip};
 use crate::words::{letter, Words};
 
 /// Limits of a query, kept here as in the readers of its parts so that what passes them is told with its place.
@@ -20,11 +21,26 @@ pub struct QueryText {
     pub builder: QueryBuilder,
     /// The measures as heads of a table.
     pub titles: Vec<String>,
+    pub skip: Skip,
     /// Lines to be shown when the library refuses them: the pattern's, the first with a letter that an earlier line
-    /// defines, and the one with the measures.
+    /// defines, the one with the skip and the one with the measures.
     pub pattern: Shown,
     pub defined_again: Option<Shown>,
+    pub skip_line: Option<Shown>,
     pub measures: Option<Shown>,
+}
+
+impl QueryText {
+    /// The line with a letter that the pattern does not have, where the library says that there is
+    /// one: the skip's, or otherwise the measures'. In the text of a pattern every letter stands
+    /// for itself.
+    pub fn strange_letter(&self) -> Option<&Shown> {
+        let strange = |letter: &char| !self.pattern.rest.contains(*letter);
+        match letter_of(self.skip).filter(strange) {
+            Some(_) => self.skip_line.as_ref(),
+            None => self.measures.as_ref(),
+        }
+    }
 }
 
 /// A line that can be shown: its number, the line as it stands, and what stands before and behind
@@ -44,7 +60,7 @@ struct Reader<'a> {
     pattern: Option<(String, Shown)>,
     defines: Vec<(char, Vec<Comparison>)>,
     defined_again: Option<Shown>,
-    skip: Option<Skip>,
+    skip: Option<(Skip, Shown)>,
     measures: Option<(Vec<(Measure, String)>, Shown)>,
 }
 
@@ -78,6 +94,21 @@ pub fn read(text: &str, names: &[String]) -> Result<QueryText, Fault> {
     reader.finish(last)
 }
 
+/// What stands behind `AFTER MATCH SKIP`, by which SQL begins such a line, in capitals or not.
+fn behind_sql_skip(text: &str) -> Option<&str> {
+    let mut rest = text;
+    for keyword in ["after", "match", "skip"] {
+        rest = rest.trim_start();
+        let front = rest.get(..keyword.len())?;
+        rest = rest.get(keyword.len()..)?;
+        let ends = !rest.starts_with(|c: char| c.is_ascii_alphanumeric());
+        if !(front.eq_ignore_ascii_case(keyword) && ends) {
+            return None;
+        }
+    }
+    Some(rest)
+}
+
 /// The part of a line in front of its comment. A `#` in double quotes begins none.
 fn without_comment(line: &str) -> &str {
     let mut in_quotes = false;
@@ -92,7 +123,8 @@ impl<'a> Line<'a> {
     fn new(number: usize, whole: &'a str) -> Result<Line<'a>, Fault> {
         let text = without_comment(whole);
         let key_column = column_of(text, text.trim_start());
-        match text.split_once(':') {
+        let parted = text.split_once(':');
+        match parted.or_else(|| Some(("skip", behind_sql_skip(text)?))) {
             Some((key, rest)) => {
                 let rest = rest.trim_start();
                 let rest_column = column_of(text, rest);
@@ -138,7 +170,9 @@ impl Reader<'_> {
     fn line(&mut self, line: &Line<'_>) -> Result<(), Fault> {
         match (line.key, letter(line.key)) {
             ("pattern", _) if self.pattern.is_none() => self.pattern = Some(pattern(line)?),
-            ("skip", _) if self.skip.is_none() => self.skip = Some(skip(line)?),
+            ("skip", _) if self.skip.is_none() => {
+                self.skip = Some((skip(&mut line.words())?, line.shown()));
+            }
             ("measures", _) if self.measures.is_none() => {
                 let measures = measures(&mut line.words(), self.names)?;
                 self.measures = Some((measures, line.shown()));
@@ -173,9 +207,9 @@ impl Reader<'_> {
             ));
         };
         let columns = u8::try_from(self.names.len()).unwrap_or(u8::MAX);
-        let mut builder = Query::builder(columns)
-            .pattern(text)
-            .skip(self.skip.unwrap_or_default());
+        let (skip, skip_line) = self.skip.unzip();
+        let skip = skip.unwrap_or_default();
+        let mut builder = Query::builder(columns).pattern(text).skip(skip);
         for (letter, comparisons) in self.defines {
             builder = builder.define(letter, comparisons);
         }
@@ -188,8 +222,10 @@ impl Reader<'_> {
         Ok(QueryText {
             builder,
             titles,
+            skip,
             pattern,
             defined_again: self.defined_again,
+            skip_line,
             measures: measures_line,
         })
     }
@@ -200,19 +236,6 @@ fn pattern(line: &Line<'_>) -> Result<(String, Shown), Fault> {
     match line.rest.len() {
         0..=LONGEST_PATTERN => Ok((String::from(line.rest), line.shown())),
         _ => Err(line.rest_fault("a pattern of at most 256 bytes")),
-    }
-}
-
-fn skip(line: &Line<'_>) -> Result<Skip, Fault> {
-    let words: Vec<String> = line
-        .rest
-        .split_whitespace()
-        .map(str::to_ascii_lowercase)
-        .collect();
-    match words.join(" ").as_str() {
-        "past last row" => Ok(Skip::PastLastRow),
-        "to next row" => Ok(Skip::ToNextRow),
-        _ => Err(line.rest_fault("`past last row` or `to next row`")),
     }
 }
 

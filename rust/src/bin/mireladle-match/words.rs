@@ -116,6 +116,17 @@ impl Words {
         there
     }
 
+    /// Passes a letter and gives it, or tells that what is named was expected.
+    pub fn want_letter(&mut self, expected: &str) -> Result<char, Fault> {
+        let letter = match self.peek() {
+            Word::Name(name) => letter(name),
+            _ => None,
+        };
+        let letter = letter.ok_or_else(|| self.fault(expected))?;
+        self.pass();
+        Ok(letter)
+    }
+
     /// The fault that something else was expected in place of the next word.
     pub fn fault(&self, expected: impl Into<String>) -> Fault {
         let column = self

@@ -51,7 +51,8 @@ fn w1_is_read_into_its_bytes() {
         column: key.len() + 3,
     };
     assert_eq!(read.pattern, shown(2, "pattern", "A+ B"));
-    assert_eq!(read.defined_again, None);
+    assert_eq!((read.defined_again, read.skip), (None, Skip::PastLastRow));
+    assert_eq!(read.skip_line, Some(shown(6, "skip", "past last row")));
     let measures = shown(7, "measures", "COUNT(A), LAST(B.price)");
     assert_eq!(read.measures, Some(measures));
 }
@@ -110,6 +111,44 @@ fn lines_stand_in_any_order() {
         builder("pattern: A\nskip:  To  NEXT row"),
         Query::builder(3).pattern("A").skip(Skip::ToNextRow)
     );
+}
+
+#[test]
+fn skips_of_every_form() {
+    for (text, skip) in [
+        ("past last row", Skip::PastLastRow),
+        (" Past\tLAST  row ", Skip::PastLastRow),
+        ("to next row", Skip::ToNextRow),
+        ("to first A", Skip::ToFirst('A')),
+        ("TO FIRST Z", Skip::ToFirst('Z')),
+        ("to  last B # falls", Skip::ToLast('B')),
+        ("To Last A", Skip::ToLast('A')),
+    ] {
+        for key in ["skip:", "AFTER MATCH SKIP ", " after  Match skip\t"] {
+            let read = read(&format!("pattern: A\n{key}{text}"), &names()).unwrap();
+            let expected = Query::builder(3).pattern("A").skip(skip);
+            assert_eq!((read.builder, read.skip), (expected, skip), "{key} {text}");
+            assert_eq!(read.skip_line.unwrap().number, 2, "{key} {text}");
+        }
+    }
+    let none = read("pattern: A", &names()).unwrap();
+    assert_eq!((none.skip, none.skip_line), (Skip::PastLastRow, None));
+}
+
+/// Of the two lines that can name a letter which the pattern does not have, the skip's comes first.
+#[test]
+fn the_line_with_a_strange_letter() {
+    let line = |text: &str| {
+        let read = read(text, &names()).unwrap();
+        read.strange_letter().map(|line| line.key.clone())
+    };
+    let (skip, measures) = (String::from("skip"), String::from("measures"));
+    let text = |skip: &str| format!("pattern: A B\nskip: {skip}\nmeasures: COUNT(C)");
+    assert_eq!(line(&text("to last B")), Some(measures.clone()));
+    assert_eq!(line(&text("to next row")), Some(measures));
+    assert_eq!(line(&text("to first C")), Some(skip.clone()));
+    assert_eq!(line("skip: to last C\npattern: A # C"), Some(skip));
+    assert_eq!(line("pattern: A\nskip: to last A"), None);
 }
 
 #[test]
@@ -182,6 +221,7 @@ fn what_the_library_judges_is_left_to_it() {
         "pattern: A** \u{E9}",
         "pattern: A\nA: c0=1\nA: c0=2",
         "pattern: A\nmeasures: COUNT(B)",
+        "pattern: A\nskip: to first B",
     ] {
         assert!(read(text, &names()).is_ok(), "{text}");
     }
@@ -223,14 +263,6 @@ fn faults_of_lines() {
         fault("skip: to next row\nskip: to next row"),
         "3:1: expected one `skip:` line only, found `skip`"
     );
-    assert_eq!(
-        fault("skip: to last row"),
-        "2:7: expected `past last row` or `to next row`, found `to last row`"
-    );
-    assert_eq!(
-        fault("skip:"),
-        "2:6: expected `past last row` or `to next row`, found nothing"
-    );
     let missing = read("A: c0 = 1\n# pattern: A\n", &names()).unwrap_err();
     assert_eq!(
         missing.to_string(),
@@ -246,6 +278,39 @@ fn faults_of_lines() {
         fault(&many),
         "28:1: expected at most 26 DEFINE lines, one for each letter, found `A`"
     );
+}
+
+#[test]
+fn faults_of_skips() {
+    let skips = "`past last row`, `to next row`, `to first` or `to last` and a letter";
+    let behind_to = "`next row`, or `first` or `last` and a letter";
+    for (text, place, expected, found) in [
+        ("skip:", "2:6", skips, "the end of the line"),
+        ("skip: past", "2:11", "`last`", "the end of the line"),
+        ("skip: past next row", "2:12", "`last`", "`next`"),
+        ("skip: past last", "2:16", "`row`", "the end of the line"),
+        ("skip: past last A", "2:17", "`row`", "`A`"),
+        ("skip: after match skip to first A", "2:7", skips, "`after`"),
+        ("skip: to", "2:9", behind_to, "the end of the line"),
+        ("skip: to A", "2:10", behind_to, "`A`"),
+        ("skip: to \"first\" A", "2:10", behind_to, "`first`"),
+        ("skip: to next A", "2:15", "`row`", "`A`"),
+        (
+            "skip: to first",
+            "2:15",
+            "a letter A to Z",
+            "the end of the line",
+        ),
+        ("skip: to last row", "2:15", "a letter A to Z", "`row`"),
+        ("skip: to last a", "2:15", "a letter A to Z", "`a`"),
+        ("skip: to last 'A'", "2:15", "a letter A to Z", "'\\''"),
+        ("skip: to first AB", "2:16", "a letter A to Z", "`AB`"),
+        ("skip: to first A, B", "2:17", "the end of the line", "`,`"),
+        ("skip: to next row A", "2:19", "the end of the line", "`A`"),
+    ] {
+        let expected = format!("{place}: expected {expected}, found {found}");
+        assert_eq!(fault(text), expected, "{text}");
+    }
 }
 
 #[test]
@@ -433,6 +498,9 @@ fn no_text_is_too_odd() {
         "99999999999",
         ":",
         "past last row",
+        "to",
+        "first",
+        "last A",
     ];
     let mut seed: u64 = 1;
     for _ in 0..40_000 {

@@ -1,0 +1,13 @@
+-- The tables of specs/Samples: the definitions agree with every line.
+use Rattle.rules.specs.Basics.{every}
+use Rattle.rules.specs.Bench.{agrees}
+use Rattle.rules.specs.Samples.{skips, fullFirst}
+use lib.Dec.{T}
+
+pub skips-hold : T (every agrees skips)
+unfolding every agrees skips
+skips-hold = tt
+
+pub full-first : T fullFirst
+unfolding fullFirst
+full-first = tt
