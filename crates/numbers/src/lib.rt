@@ -1,5 +1,6 @@
-// Numbers in other widths, each conversion once: bytes and words as wider numbers, numbers of several bytes with the lowest first, and two's complement.
-// Promise: each is the number that the definitions say. All are proved here and used by every crate that reads bytes or words.
+// Numbers in other widths, each conversion once: bytes and words as wider numbers, numbers of
+// several bytes with the lowest first, and two's complement. Promise: each is the number that the
+// definitions say. All are proved here and used by every crate that reads bytes or words.
 ghost use mathlib.Core.Path.{_≡_};
 ghost use Prim.Native.Nat.{_+_, _<_};
 ghost use lib.Signed.{mag};

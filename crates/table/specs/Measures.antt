@@ -1,4 +1,5 @@
--- The measures of a query as words of the table: from word `at` on, three words each, its function, its letter or 0 for all rows, and its column.
+-- The measures of a query as words of the table: from word `at` on, three words each, its function,
+-- its letter or 0 for all rows, and its column.
 use mathlib.Core.List.{List}
 use Prim.Native.Nat.{ℕ, _+_, _*_}
 use lib.ListN.{getD}

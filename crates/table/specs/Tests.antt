@@ -1,18 +1,22 @@
--- The tests of the letters as words of the table, written when a query is prepared and read by the walk. From word `tests` on each of the letters A to Z has
--- sixteen words; those of letter l (0 for A) begin at tests + 16 * l:
+-- The tests of the letters as words of the table, written when a query is prepared and read by the
+-- walk. From word `tests` on each of the letters A to Z has sixteen words; those of letter l (0 for
+-- A) begin at tests + 16 * l:
 --   0         how many comparisons its DEFINE has, 1 to 8; 0 for a letter without DEFINE
 --   1         the word at which its comparisons behind the first stand, one behind the other
 --   2 to 6    its first comparison
 --   7         the right kind of the first comparison: 1 where its right side has a column
---   8 to 11   an interval that tells when the first comparison is met: its first number, in 64 bits, the lowest word first
+--   8 to 11   an interval that tells when the first comparison is met: its first number, in 64
+--             bits, the lowest word first
 --   12 to 15  how many more numbers it has
 -- A comparison has five words:
 --   0         its operator, 1 to 6, and 8 more where its right side has a column
 --   1         its left spot
 --   2         its right spot
 --   3, 4      the low and the high half of its number, in two's complement
--- A spot tells an offset and a column by one number, (64 + offset) * columns + column. So the entry that is read from a row lies that many entries behind the
--- first entry of 64 rows before it. Words 2 to 6 say all of the first comparison; 7 to 15 say it again in the form that is tested fastest (`Tests`).
+-- A spot tells an offset and a column by one number, (64 + offset) * columns + column. So the entry
+-- that is read from a row lies that many entries behind the first entry of 64 rows before it. Words
+-- 2 to 6 say all of the first comparison; 7 to 15 say it again in the form that is tested fastest
+-- (`Tests`).
 use mathlib.Core.Path.{_≡_}
 use mathlib.Core.Bool.{Bool}
 use mathlib.Core.List.{List, [], _∷_}
@@ -80,8 +84,9 @@ unfoldable pub raised : ℤ → ℕ
 raised (pos k) = k + 8589934592
 raised (negsuc k) = 8589934591 - k
 
--- What an operator asks of d against a number is that d, raised, lies in an interval, which wraps at 2 ^ 64. With x for the number, raised: the interval's first
--- number, and how many more there are.
+-- What an operator asks of d against a number is that d, raised, lies in an interval, which wraps
+-- at 2 ^ 64. With x for the number, raised: the interval's first number, and how many more there
+-- are.
 unfoldable pub lowOf : ℕ → ℕ → ℕ
 lowOf op x = pick (eqb op 1) x (pick (eqb op 2) (x + 1) (pick (eqb op 3) 0 (pick (eqb op 4) 0 (pick (eqb op 5) (x + 1) x))))
 
@@ -102,7 +107,8 @@ pub record First (T : List ℕ) (at : ℕ) : Type 0 where
 
 -- ---- what is asked of the table
 
--- The words of all letters stand in the table, and so do the comparisons to which they point; and what they say twice they say alike.
+-- The words of all letters stand in the table, and so do the comparisons to which they point; and
+-- what they say twice they say alike.
 pub record Tests (T : List ℕ) (tests : ℕ) : Type 0 where
   pub long : tests + 416 ≤ length T
   pub more : (l : ℕ) → l < 26 → 1 < getD T (testAt tests l) 0 → getD T (testAt tests l + 1) 0 + (getD T (testAt tests l) 0 - 1) * 5 ≤ length T

@@ -1,6 +1,8 @@
-// The table of a prepared query: one list of words, written once and read by the walk and the report. It holds the places and their ways (specs/Table), the
-// tests of the letters (specs/Tests) and the measures (specs/Measures). The words of a place are read by functions of their names, so that their layout can
-// change here alone. Weakness: what is read must lie in the table, which whoever prepares a query has to see to (specs/Sized, Tests).
+// The table of a prepared query: one list of words, written once and read by the walk and the
+// report. It holds the places and their ways (specs/Table), the tests of the letters (specs/Tests)
+// and the measures (specs/Measures). The words of a place are read by functions of their names, so
+// that their layout can change here alone. Weakness: what is read must lie in the table, which
+// whoever prepares a query has to see to (specs/Sized, Tests).
 use numbers::wide16;
 ghost use mathlib.Core.Path.{_≡_};
 ghost use Prim.Native.Nat.{_+_, _*_, _≤_, _<_};
@@ -8,7 +10,8 @@ ghost use lib.ListN.{length, getD};
 ghost use Rattle.table.specs.Table.{codeAt, firstAt, laterAt, countAt, laterWay};
 ghost use Rattle.table.specs.Sized.{LaterIn};
 
-// How far a search reaches: the rows n, the columns of a row, the places P, and the word of the table at which the letters' tests begin.
+// How far a search reaches: the rows n, the columns of a row, the places P, and the word of the
+// table at which the letters' tests begin.
 #[repr(C)]
 pub struct Extent {
     pub rows: usize,
@@ -27,7 +30,8 @@ pub const CARET: usize = 26;
 
 pub const DOLLAR: usize = 27;
 
-// A fork of two ways or more that tries the place behind it first, so that the walk knows that place, and that there is a second way, by the code alone.
+// A fork of two ways or more that tries the place behind it first, so that the walk knows that
+// place, and that there is a second way, by the code alone.
 pub const NEAR_FORK: usize = 28;
 
 pub const FORK: usize = 29;
