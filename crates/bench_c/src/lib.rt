@@ -6,6 +6,7 @@
 use outcome::Outcome;
 use prepared::Prepared;
 ghost use mathlib.Core.List.{List};
+ghost use mathlib.Core.Option.{some};
 ghost use Prim.Native.Nat.{ℕ};
 ghost use Rattle.outcome.specs.Results.{lent, memory};
 ghost use Rattle.prepared.specs.Ready.{Given, PreparedAs};
@@ -26,13 +27,14 @@ pub extern "C" fn mireladle_bench_run(
     table: &[u16],
     p: Prepared,
     rows: &[i32],
+    allowance: usize,
     notes: &mut [u8],
     trail: &mut [u32],
     numbers: &mut [i64],
     labels: &mut [u8],
 ) -> Outcome
     requires { ⌜ Runs (now table) p ⌝ }
-    ensures { λ r. ⌜ ((q : List ℕ) → Given q (now (table .entry)) p → Promised q (now (rows .entry)) (lent (now (notes .entry)) (now (trail .entry)) (now (numbers .entry)) (now (labels .entry))) (memory r (now (notes .exit)) (now (trail .exit)) (now (numbers .exit)) (now (labels .exit)))) ⌝ }
+    ensures { λ r. ⌜ ((q : List ℕ) → Given q (now (table .entry)) p → Promised (some allowance) q (now (rows .entry)) (lent (now (notes .entry)) (now (trail .entry)) (now (numbers .entry)) (now (labels .entry))) (memory r (now (notes .exit)) (now (trail .exit)) (now (numbers .exit)) (now (labels .exit)))) ⌝ }
 {
-    search::run(table, p, rows, notes, trail, numbers, labels)
+    search::run(table, p, rows, allowance, notes, trail, numbers, labels)
 }

@@ -14,7 +14,7 @@ use Rattle.rules.specs.Language.{pattern, Tree, one, more}
 use Rattle.rules.specs.Reader.{treeOf, stopOf}
 use Rattle.rules.proofs.Stops.{stop-inside}
 use Rattle.rules.specs.Places.{fork, placesOf}
-use Rattle.rules.specs.Answers.{deep, noTree, wrong, unfinished, hasEmptyLoop, tooMany, P, firstOf, offsetAt}
+use Rattle.rules.specs.Answers.{deep, noTree, wrong, incomplete, hasEmptyLoop, tooMany, P, firstOf, offsetAt}
 use Rattle.pattern.specs.declared.Step.{Step}
 use Rattle.pattern.specs.Written.{Fits, Parsed, ParsedAs, TextSays}
 use Rattle.pattern.specs.Held.{Top, At}
@@ -29,7 +29,7 @@ clash e = absurd (omega arith)
 -- ---- the verdict
 
 module _ (s m0 m1 : List ℕ) where
-  answer-is : (a b c d e : Bool) → deep 0 0 s ≡ a → wrong s ≡ b → unfinished s ≡ c → hasEmptyLoop (treeOf s) ≡ d → tooMany (treeOf s) ≡ e
+  answer-is : (a b c d e : Bool) → deep 0 0 s ≡ a → wrong s ≡ b → incomplete s ≡ c → hasEmptyLoop (treeOf s) ≡ d → tooMany (treeOf s) ≡ e
       → textAnswer s ≡ firstOf ((4, a) ∷ (5, b) ∷ (14, c) ∷ (6, d) ∷ (7, e) ∷ [])
   unfolding textAnswer textTests
   answer-is a b c d e e1 e2 e3 e4 e5 = rw (e1, e2, e3, e4, e5) refl
@@ -61,9 +61,9 @@ module _ (s m0 m1 : List ℕ) where
           len = h .len;
         })
 
-    pub judge-unfinished : (r : Verdict) → length s ≤ p .at → r ≡ refusal 14 (p .at) → Judging s m0 m1 r
-    unfolding firstOf offsetAt wrong unfinished
-    judge-unfinished r l er =
+    pub judge-incomplete : (r : Verdict) → length s ≤ p .at → r ≡ refusal 14 (p .at) → Judging s m0 m1 r
+    unfolding firstOf offsetAt wrong incomplete
+    judge-incomplete r l er =
         let i = stop-inside s in
         let q : stopOf s ≡ length s = omega (arith, h .stop) in
         rw er (record {
@@ -126,9 +126,9 @@ module _ (s m0 m1 : List ℕ) where
       unfolding wrong
       not-wrong = rw seen refl
 
-      not-unfinished : unfinished s ≡ false
-      unfolding unfinished
-      not-unfinished = rw seen refl
+      not-incomplete : incomplete s ≡ false
+      unfolding incomplete
+      not-incomplete = rw seen refl
 
       looped : hasEmptyLoop (treeOf s) ≡ l
       unfolding hasEmptyLoop
@@ -141,7 +141,7 @@ module _ (s m0 m1 : List ℕ) where
       pub judge-loop : (r : Verdict) → l ≡ true → r ≡ refusal 6 0 → Judging s m0 m1 r
       unfolding firstOf offsetAt
       judge-loop r ol er = rw er (record {
-        answer = sym (answer-is false false false true _ (sym ed ∙ nd) not-wrong not-unfinished (looped ∙ ol) refl);
+        answer = sym (answer-is false false false true _ (sym ed ∙ nd) not-wrong not-incomplete (looped ∙ ol) refl);
         offset = refl;
         places = refl;
         top = λ z. clash (omega arith);
@@ -153,7 +153,7 @@ module _ (s m0 m1 : List ℕ) where
       unfolding firstOf offsetAt
       judge-many r ol g er =
           rw er (record {
-            answer = sym (answer-is false false false false true (sym ed ∙ nd) not-wrong not-unfinished (looped ∙ ol) (many true (lt-ltb 256 (placesOf (tree-of .tree)) (counted .1 g))));
+            answer = sym (answer-is false false false false true (sym ed ∙ nd) not-wrong not-incomplete (looped ∙ ol) (many true (lt-ltb 256 (placesOf (tree-of .tree)) (counted .1 g))));
             offset = refl;
             places = refl;
             top = λ z. clash (omega arith);
@@ -165,7 +165,7 @@ module _ (s m0 m1 : List ℕ) where
       unfolding firstOf offsetAt P
       judge-good ol g =
           record {
-            answer = sym (answer-is false false false false false (sym ed ∙ nd) not-wrong not-unfinished (looped ∙ ol) (many false (le-ltb 256 (placesOf (tree-of .tree)) (omega (arith, counted .2 g)))));
+            answer = sym (answer-is false false false false false (sym ed ∙ nd) not-wrong not-incomplete (looped ∙ ol) (many false (le-ltb 256 (placesOf (tree-of .tree)) (omega (arith, counted .2 g)))));
             offset = refl;
             places = sym (ap P (tree-of .is) ∙ counted .2 g);
             top = λ z p2 e2. text-top s m0 m1 p p2 e2 f h;

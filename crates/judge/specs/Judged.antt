@@ -8,14 +8,14 @@ use lib.ListN.{length, getD}
 use Rattle.rules.specs.Basics.{pick}
 use Rattle.rules.specs.Language.{Tree, pattern}
 use Rattle.rules.specs.Reader.{treeOf}
-use Rattle.rules.specs.Answers.{deep, wrong, unfinished, hasEmptyLoop, tooMany, P, Test, firstOf, offsetAt}
+use Rattle.rules.specs.Answers.{deep, wrong, incomplete, hasEmptyLoop, tooMany, P, Test, firstOf, offsetAt}
 use Rattle.pattern.specs.Held.{Top}
 use Rattle.judge.specs.declared.Verdict.{Verdict}
 
 -- the tests that ask the pattern's text alone
 unfoldable pub textTests : List ℕ → List Test
-unfolding deep treeOf wrong unfinished hasEmptyLoop tooMany
-textTests s = (4, deep 0 0 s) ∷ (5, wrong s) ∷ (14, unfinished s) ∷ (6, hasEmptyLoop (treeOf s)) ∷ (7, tooMany (treeOf s)) ∷ []
+unfolding deep treeOf wrong incomplete hasEmptyLoop tooMany
+textTests s = (4, deep 0 0 s) ∷ (5, wrong s) ∷ (14, incomplete s) ∷ (6, hasEmptyLoop (treeOf s)) ∷ (7, tooMany (treeOf s)) ∷ []
 
 -- the answer, or 0
 unfoldable pub textAnswer : List ℕ → ℕ

@@ -2,7 +2,7 @@
 use mathlib.Core.Path.{_≡_, refl, sym, ap, _∙_, subst}
 use mathlib.Core.List.{List, [], _∷_, _++_, reverseAux}
 use mathlib.Core.Bool.{Bool, true, false}
-use mathlib.Core.Option.{Option, some}
+use mathlib.Core.Option.{Option}
 use Prim.Native.Nat.{ℕ, zero, suc, _+_, _-_, _*_, _/_, _%_, _≤_, _<_}
 use native.Mathlib.Nat.{add-zero, mul-le-mul, mul-le-mul-right, le-trans}
 use native.Mathlib.Omega.{arith}
@@ -14,7 +14,7 @@ use Rattle.rules.specs.Basics.{wrote}
 use Rattle.rules.specs.Query as Q
 use Rattle.rules.specs.Report.{fits, matchNumbers}
 use Rattle.rules.specs.Rows.{tableOf}
-use Rattle.rules.specs.Search.{Skip, labels, lastOf, endOf, nextStart}
+use Rattle.rules.specs.Search.{Skip, hit, labels, lastOf, endOf, nextStart}
 use Rattle.rules.proofs.Appended.{length-wrote-at, fits-room}
 use Rattle.rules.proofs.Lists.{length-tabulate}
 use Rattle.table.specs.Measures.{measuresIn}
@@ -195,7 +195,7 @@ module _ (W : List ℕ) (rows : List ℤ) (task : Task) (trail labs : List ℕ) 
             → numbers′ ≡ wrote numbers (i .matches * (3 + 2 * count)) (matchNumbers (tableOf columns rows) ms (i .matches + 1) (i .row) (take (i .labels + taken - i .labels) (drop (i .labels) labs′)))
             → startIn nx ≡ nextStart (skipIn (task .skip)) (i .row) (w .row) (take (i .labels + taken - i .labels) (drop (i .labels) labs′))
             → o ≡ sweptOn (startIn nx) n (i .matches + 1) (i .labels + taken) (w .steps)
-            → Told (askedOf W rows task) (some p) i (w .steps) numbers numbers′ labs labs′ o
+            → Told (askedOf W rows task) (hit p) i (w .steps) numbers numbers′ labs labs′ o
         tell-fits numbers numbers′ nx o en e ex eo =
             let s : startIn nx ≡ nextStart (skipIn (task .skip)) (i .row) (endOf (length (placesIn (T .words) (P T))) p) ls = (rw part-is at ex) ∙ sym (next-is (skipIn (task .skip))) in
             rw (← en, sym fits-is ∙ et) (record {
@@ -205,6 +205,6 @@ module _ (W : List ℕ) (rows : List ℤ) (task : Task) (trail labs : List ℕ) 
             })
 
     pub tell-full : (numbers : List ℤ) → nums ≡ length numbers → r ≡ false
-        → Told (askedOf W rows task) (some p) i (w .steps) numbers numbers labs labs
+        → Told (askedOf W rows task) (hit p) i (w .steps) numbers numbers labs labs
         (record { end = 13; row = n; matches = i .matches; labels = i .labels; steps = w .steps })
     tell-full numbers en et = rw (← en, sym fits-is ∙ et) (record { numbers-is = refl; labels-is = refl; sweep-is = refl })

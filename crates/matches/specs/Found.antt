@@ -7,16 +7,17 @@ use Prim.Native.Nat.{ℕ, _+_, _-_, _*_, _≤_, _<_}
 use lib.Dec.{ltb}
 use lib.IntN.{ℤ}
 use lib.ListN.{length, getD}
+use Rattle.rules.specs.Answers.{haltAnswer}
 use Rattle.rules.specs.Basics.{wrote}
 use Rattle.rules.specs.Report.{bitAt, matchNumbers, fits}
-use Rattle.rules.specs.Search.{Kept, answered, labels, nextStart, endOf}
+use Rattle.rules.specs.Search.{Kept, Attempted, hit, miss, halts, answered, labels, nextStart, endOf}
 use Rattle.rules.specs.Working.{bitsOf}
 use Rattle.measure_list.specs.Measures.{Measurable}
 use Rattle.pairs.specs.declared.Walk.{Walk}
 use Rattle.pairs.specs.Layout.{Layout, P, N, Legal, layoutOf, lettersOf, Tested}
 use Rattle.table.specs.Table.{codeAt}
 use Rattle.pairs.specs.Step.{pairIn}
-use Rattle.pairs.specs.State.{Word, OnPath, attemptBy}
+use Rattle.pairs.specs.State.{Word, OnPath, allowing, attemptBy}
 use Rattle.matches.specs.declared.Sweep.{Sweep}
 use Rattle.matches.specs.declared.Task.{Task}
 use Rattle.matches.specs.Asked.{Asked, pl, width, labelsOn}
@@ -79,9 +80,11 @@ ToldBy true A p i s numbers numbers′ labs labs′ r =
     Written A p i numbers numbers′ labs labs′ r (sweptOn (nextAt A (i .row) p) (A .n) (i .matches + 1) (i .labels + length (labels (pl A) p)) s)
 ToldBy false A p i s numbers numbers′ labs labs′ r = Quiet numbers numbers′ labs labs′ r (swept 13 (A .n) (i .matches) (i .labels) s)
 
-abbrev pub Told : Asked → Option (List ℕ) → Sweep → ℕ → List ℤ → List ℤ → List ℕ → List ℕ → Sweep → Type 0
-Told A none i s numbers numbers′ labs labs′ r = Quiet numbers numbers′ labs labs′ r (swept 0 (i .row + 1) (i .matches) (i .labels) s)
-Told A (some p) i s numbers numbers′ labs labs′ r =
+-- what came of an attempt, told: after none the search goes on one row on; where it has halted, the search is over and nothing is written
+abbrev pub Told : Asked → Attempted → Sweep → ℕ → List ℤ → List ℤ → List ℕ → List ℕ → Sweep → Type 0
+Told A miss i s numbers numbers′ labs labs′ r = Quiet numbers numbers′ labs labs′ r (swept 0 (i .row + 1) (i .matches) (i .labels) s)
+Told A (halts h p) i s numbers numbers′ labs labs′ r = Quiet numbers numbers′ labs labs′ r (swept (haltAnswer h) (A .n) (i .matches) (i .labels) s)
+Told A (hit p) i s numbers numbers′ labs labs′ r =
     ToldBy (fits (length numbers) (length labs) (A .measures) (i .matches) (i .labels) (labels (pl A) p)) A p i s numbers numbers′ labs labs′ r
 
 -- the measures in the table can be read from the rows
@@ -122,8 +125,8 @@ pub record Visits (T : List ℕ) (rows : List ℤ) (task : Task) (notes trail la
   pub labels : i .labels ≤ length labs
 
 -- the attempt at a start by the definition, with the failed pairs F and s steps before it
-abbrev pub attemptAt : Asked → List Bool → ℕ → ℕ → Option (List ℕ) × Kept
-attemptAt A F s i = answered (attemptBy (A .layout) (A .holds) (A .n) F s i)
+abbrev pub attemptAt : Asked → List Bool → ℕ → ℕ → Attempted × Kept
+attemptAt A F s i = answered (attemptBy (allowing (A .allowance)) (A .layout) (A .holds) (A .n) F s i)
 
 pub record Visited (A : Asked) (notes notes′ trail trail′ : List ℕ) (numbers numbers′ : List ℤ) (labs labs′ : List ℕ) (i r : Sweep) : Type 0 where
   pub kept : bitsOf notes′ (N (A .layout) (A .n)) ≡ (attemptAt A (bitsOf notes (N (A .layout) (A .n))) (i .steps) (i .row)) .1 .0

@@ -12,10 +12,10 @@ use table::Extent;
 use table::LETTERS;
 use table::code_at;
 ghost use mathlib.Core.Path.{_≡_};
-ghost use mathlib.Core.Option.{some};
 ghost use Prim.Native.Nat.{ℕ, _+_, _-_, _<_};
 ghost use lib.ListN.{length};
 ghost use Rattle.rules.specs.Basics.{wrote};
+ghost use Rattle.rules.specs.Search.{hit};
 ghost use Rattle.table.specs.Table.{codeAt};
 ghost use Rattle.pairs.specs.Layout.{layout};
 ghost use Rattle.skips.specs.Skips.{startIn};
@@ -40,12 +40,15 @@ pub struct Sweep {
     pub steps: usize,
 }
 
-// How a search ends, by its answer: it is done, the next match does not fit, or the match written last names no start to go on at.
+// How a search ends, by its answer: it is done, the next match does not fit, the match written last
+// names no start to go on at, or no step is left for the next entry.
 pub const DONE: usize = 0;
 
 pub const FULL: usize = 13;
 
 pub const STUCK: usize = 15;
+
+pub const OUT_OF_STEPS: usize = 16;
 
 // A code of a letter as its label.
 fn label_of(c: usize) -> u8
@@ -123,7 +126,7 @@ pub fn write_match(
     w: Walk,
 ) -> Sweep
     requires { ⌜ Reports (now table) (now rows) task (now trail) (now labels) i w ⌝ }
-    ensures { λ r. ⌜ Told (askedOf (now (table .entry)) (now (rows .entry)) task) (some (pathOn (task .size .places) (now (trail .entry)) (w .top))) i (w .steps) (now (numbers .entry)) (now (numbers .exit)) (now (labels .entry)) (now (labels .exit)) r ⌝ }
+    ensures { λ r. ⌜ Told (askedOf (now (table .entry)) (now (rows .entry)) task) (hit (pathOn (task .size .places) (now (trail .entry)) (w .top))) i (w .steps) (now (numbers .entry)) (now (numbers .exit)) (now (labels .entry)) (now (labels .exit)) r ⌝ }
 {
     let size = task.size;
     let count = task.count;

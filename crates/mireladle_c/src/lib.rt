@@ -1,6 +1,7 @@
 // The face for C and Rust callers, built by `rt staticlib mireladle_c`: each function is the proved one of its name, with the same promise. A slice
 // passes as a pointer and a length in elements; include/mireladle.h says what a caller owes for the pointers, which no promise here can check.
 use outcome::Outcome;
+ghost use mathlib.Core.Option.{none, some};
 ghost use lib.ListN.{length};
 ghost use Rattle.outcome.specs.Results.{lent, memory};
 ghost use Rattle.search.specs.Promise.{Promised};
@@ -26,9 +27,25 @@ pub extern "C" fn mireladle_search(
     numbers: &mut [i64],
     labels: &mut [u8],
 ) -> Outcome
-    ensures { λ r. ⌜ Promised (now (query .entry)) (now (rows .entry)) (lent (now (notes .entry)) (now (trail .entry)) (now (numbers .entry)) (now (labels .entry))) (memory r (now (notes .exit)) (now (trail .exit)) (now (numbers .exit)) (now (labels .exit))) ⌝ }
+    ensures { λ r. ⌜ Promised none (now (query .entry)) (now (rows .entry)) (lent (now (notes .entry)) (now (trail .entry)) (now (numbers .entry)) (now (labels .entry))) (memory r (now (notes .exit)) (now (trail .exit)) (now (numbers .exit)) (now (labels .exit))) ⌝ }
 {
     search::search(query, rows, notes, trail, numbers, labels)
+}
+
+// The search within an allowance of steps.
+#[no_mangle]
+pub extern "C" fn mireladle_search_within(
+    query: &[u8],
+    rows: &[i32],
+    allowance: usize,
+    notes: &mut [u8],
+    trail: &mut [u32],
+    numbers: &mut [i64],
+    labels: &mut [u8],
+) -> Outcome
+    ensures { λ r. ⌜ Promised (some allowance) (now (query .entry)) (now (rows .entry)) (lent (now (notes .entry)) (now (trail .entry)) (now (numbers .entry)) (now (labels .entry))) (memory r (now (notes .exit)) (now (trail .exit)) (now (numbers .exit)) (now (labels .exit))) ⌝ }
+{
+    search::search_within(query, rows, allowance, notes, trail, numbers, labels)
 }
 
 // How much a query needs on these rows.

@@ -14,8 +14,10 @@ use borrow.Author.Tests.{eq-eqb, ne-eqb}
 use lib.ListN.{length, getD, set, length-set}
 use lib.Seq.{getD-set-same, getD-set-other}
 use Rattle.rules.specs.Report.{bitAt}
-use Rattle.rules.specs.Walk.{accept, try, Outcome, found, countTrue}
-use Rattle.rules.proofs.Machine.{firstOpen, resume-accept, resume-pop, resume-push, open-room, open-push, open-pop}
+use Rattle.rules.specs.Walk.{accept, try, Halting, outOfSteps, Outcome, found, halted, countTrue}
+use Rattle.rules.specs.Places.{Place}
+use Rattle.rules.specs.Search.{within, haltingOf}
+use Rattle.rules.proofs.Machine.{firstOpen, resume-accept, resume-pop, resume-push, resume-spent, open-room, open-push, open-pop}
 use Rattle.rules.specs.Working.{All, Open, bitsOf, marked, resume}
 use Rattle.rules.proofs.Notes.{bitsOf-at, bitsFrom-length, bits-mark, bit-keep}
 use Rattle.rules.proofs.Walk.{count-mark}
@@ -23,7 +25,7 @@ use Rattle.pairs.specs.declared.Walk.{Walk}
 use Rattle.pairs.specs.Layout.{Layout, P, N, second, graphOf, passesBy, entryOf, mostPairs}
 use Rattle.table.specs.Table.{waysOf, codeAt}
 use Rattle.pairs.specs.Step.{oneUnless, placeIn, rowIn, wayIn, pairIn, stack, walkAt, outcomeBy}
-use Rattle.pairs.specs.State.{Onto, Linked, Passing, Word, rowFrom, wayAt, Led, Stuck, Good, Next, Ends, Stands, State, left, resumed, entering, comes, Reached}
+use Rattle.pairs.specs.State.{Onto, Linked, Passing, Word, rowFrom, wayAt, Led, Stuck, Good, Next, Ends, Stands, State, left, resumed, entering, facing, comes, Reached, Quiet, allowing}
 use Rattle.pairs.proofs.Ways.{second-is, pair-row, pair-place, ways-end, ways-are, leads-each}
 use Rattle.pairs.proofs.Trails.{second-most, word-row, word-place, entry-place, entry-row, entry-way, stack-length, stack-push, stack-top, linked-under}
 
@@ -74,24 +76,40 @@ not-two true e = zero-two e
 not-two false e = one-two e
 
 -- what a state comes to, where no pair is to be entered, and where one is
-pub comes-idle : (T : Layout) (holds : ℕ → ℕ → Bool) (n : ℕ) (notes trail : List ℕ) (w : Walk) → (w .status ≡ 1 → ⊥) → comes T holds n notes trail w ≡ resumed T holds n notes trail w
+pub comes-idle : (H : Halting) (T : Layout) (holds : ℕ → ℕ → Bool) (n : ℕ) (notes trail : List ℕ) (w : Walk) → (w .status ≡ 1 → ⊥) → comes H T holds n notes trail w ≡ resumed H T holds n notes trail w
 unfolding comes
-comes-idle T holds n notes trail w d = rw (ne-eqb (w .status) 1 d)
+comes-idle H T holds n notes trail w d = rw (ne-eqb (w .status) 1 d)
 
-pub comes-next : (T : Layout) (holds : ℕ → ℕ → Bool) (n : ℕ) (notes trail : List ℕ) (w : Walk) → w .status ≡ 1
-    → comes T holds n notes trail w ≡ entering T holds n notes trail w (w .base + w .place)
+pub comes-next : (H : Halting) (T : Layout) (holds : ℕ → ℕ → Bool) (n : ℕ) (notes trail : List ℕ) (w : Walk) → w .status ≡ 1
+    → comes H T holds n notes trail w ≡ facing H T holds n notes trail w (w .base + w .place)
 unfolding comes
-comes-next T holds n notes trail w d = rw (eq-eqb (w .status) 1 d)
+comes-next H T holds n notes trail w d = rw (eq-eqb (w .status) 1 d)
+
+-- where a step is left the pair is entered, and where none is the walk halts
+pub faces-on : (H : Halting) (T : Layout) (holds : ℕ → ℕ → Bool) (n : ℕ) (notes trail : List ℕ) (w : Walk) (x : ℕ) → H .spent (w .steps) ≡ false
+    → facing H T holds n notes trail w x ≡ entering H T holds n notes trail w x
+unfolding facing
+faces-on H T holds n notes trail w x e = rw e
+
+pub faces-halt : (H : Halting) (T : Layout) (holds : ℕ → ℕ → Bool) (n : ℕ) (notes trail : List ℕ) (w : Walk) (x : ℕ) → H .spent (w .steps) ≡ true
+    → facing H T holds n notes trail w x ≡ halted outOfSteps (reverseAux (stack (P T) trail (w .top)) []) (bitsOf notes (N T n)) (w .steps)
+unfolding facing
+faces-halt H T holds n notes trail w x e = rw e
+
+-- an allowance of a steps is the definition's, where all rows are there
+pub allowing-is : (a n k : ℕ) (pl : List Place) → haltingOf (within (some a) n) pl k ≡ allowing a
+unfolding haltingOf
+allowing-is a n k pl = refl
 
 -- a state comes to itself
-pub reached-none : (T : Layout) (holds : ℕ → ℕ → Bool) (n : ℕ) (notes trail : List ℕ) (w : Walk) → State T holds n notes trail w
-    → Reached T holds n notes trail (comes T holds n notes trail w) notes trail w
-reached-none T holds n notes trail w s =
+pub reached-none : (H : Halting) (T : Layout) (holds : ℕ → ℕ → Bool) (n : ℕ) (notes trail : List ℕ) (w : Walk) → State T holds n notes trail w
+    → Reached H T holds n notes trail (comes H T holds n notes trail w) notes trail w
+reached-none H T holds n notes trail w s =
     record { good = s .good; stands = s .stands; same = refl; notes-long = refl; trail-long = refl; notes-beyond = λ z l. refl; trail-beyond = λ k l. refl }
 
 -- and on from a state that was reached
-module _ (T : Layout) (holds : ℕ → ℕ → Bool) (n : ℕ) (n₁ t₁ : List ℕ) (R : Outcome) (n₂ t₂ : List ℕ) (w₂ : Walk) (notes trail : List ℕ) (w : Walk) where
-  pub reached-on : Reached T holds n n₁ t₁ R n₂ t₂ w₂ → Reached T holds n n₂ t₂ (comes T holds n n₂ t₂ w₂) notes trail w → Reached T holds n n₁ t₁ R notes trail w
+module _ (H : Halting) (T : Layout) (holds : ℕ → ℕ → Bool) (n : ℕ) (n₁ t₁ : List ℕ) (R : Outcome) (n₂ t₂ : List ℕ) (w₂ : Walk) (notes trail : List ℕ) (w : Walk) where
+  pub reached-on : Reached H T holds n n₁ t₁ R n₂ t₂ w₂ → Reached H T holds n n₂ t₂ (comes H T holds n n₂ t₂ w₂) notes trail w → Reached H T holds n n₁ t₁ R notes trail w
   reached-on a b =
       record {
         good = b .good;
@@ -125,7 +143,7 @@ module _ (T : Layout) (notes notes′ : List ℕ) (e y : ℕ) (l : Led T notes e
 
 -- ---- a pair is entered
 
-module _ (T : Layout) (holds : ℕ → ℕ → Bool) (n : ℕ) (notes trail : List ℕ) (w : Walk) (q row base : ℕ) (h : Next T holds n notes trail w q row base) where
+module _ (H : Halting) (quiet : Quiet H) (T : Layout) (holds : ℕ → ℕ → Bool) (n : ℕ) (notes trail : List ℕ) (w : Walk) (q row base : ℕ) (h : Next T holds n notes trail w q row base) where
   abbrev y : ℕ
   y = base + q
 
@@ -137,7 +155,7 @@ module _ (T : Layout) (holds : ℕ → ℕ → Bool) (n : ℕ) (notes trail : Li
 
   -- what it comes to once the pair is entered
   abbrev then : Outcome
-  then = entering T holds n notes trail w y
+  then = entering H T holds n notes trail w y
 
   abbrev passing : Bool
   passing = passesBy holds n (codeAt (T .words) q) row
@@ -257,13 +275,13 @@ module _ (T : Layout) (holds : ℕ → ℕ → Bool) (n : ℕ) (notes trail : Li
     pub open-top : getD (set trail (w .top) v) (w .top + 1 - 1) 0 ≡ v
     open-top = let o : w .top + 1 - 1 ≡ w .top = omega arith in rw (o, getD-set-same trail (w .top) v 0 next-room)
 
-    pub open-resumed : (d : ℕ) → resumed T holds n notes (set trail (w .top) v) (walkAt (w .top + 1) (w .steps + 1) q row base d) ≡ then
+    pub open-resumed : (d : ℕ) → resumed H T holds n notes (set trail (w .top) v) (walkAt (w .top + 1) (w .steps + 1) q row base d) ≡ then
     unfolding resumed entering
     open-resumed d = rw (stack-is, add-one (w .steps))
 
     -- as it was before, but for the trail at the new pair
     pub open-reached : (r : Walk) → Good T holds n notes (set trail (w .top) v) r → Stands T holds n notes (set trail (w .top) v) r
-        → comes T holds n notes (set trail (w .top) v) r ≡ then → Reached T holds n notes trail then notes (set trail (w .top) v) r
+        → comes H T holds n notes (set trail (w .top) v) r ≡ then → Reached H T holds n notes trail then notes (set trail (w .top) v) r
     open-reached r good stands same =
         let a = room in
         record {
@@ -277,8 +295,8 @@ module _ (T : Layout) (holds : ℕ → ℕ → Bool) (n : ℕ) (notes trail : Li
         }
 
     -- END is open
-    pub open-end : 29 < codeAt (T .words) q → Reached T holds n notes trail then notes (set trail (w .top) v) (walkAt (w .top + 1) (w .steps + 1) q row base 2)
-    open-end l = open-reached (walkAt (w .top + 1) (w .steps + 1) q row base 2) (open-good 2) stands (comes-idle T holds n notes _ _ two-one ∙ open-resumed 2)
+    pub open-end : 29 < codeAt (T .words) q → Reached H T holds n notes trail then notes (set trail (w .top) v) (walkAt (w .top + 1) (w .steps + 1) q row base 2)
+    open-end l = open-reached (walkAt (w .top + 1) (w .steps + 1) q row base 2) (open-good 2) stands (comes-idle H T holds n notes _ _ two-one ∙ open-resumed 2)
       where
         stands : Stands T holds n notes (set trail (w .top) v) (walkAt (w .top + 1) (w .steps + 1) q row base 2)
         stands =
@@ -330,20 +348,20 @@ module _ (T : Layout) (holds : ℕ → ℕ → Bool) (n : ℕ) (notes trail : Li
     shut-stands : Stands T holds n (marked notes y) trail (walkAt (w .top) (w .steps + 1) (w .place) (w .row) (w .base) 0)
     shut-stands = record { next = λ d. absurd (never d); ends = λ d. absurd (zero-two d); stuck = λ _ _ l. led-stuck T notes (marked notes y) _ _ (h .led l) keeps shut-marked }
 
-    shut-same : resumed T holds n (marked notes y) trail (walkAt (w .top) (w .steps + 1) (w .place) (w .row) (w .base) 0) ≡ then
+    shut-same : resumed H T holds n (marked notes y) trail (walkAt (w .top) (w .steps + 1) (w .place) (w .row) (w .base) 0) ≡ then
     unfolding resumed entering
     shut-same =
         rw (bits-is, add-one (w .steps))
-        (sym (resume-pop (graphOf T holds n) (h .good .legal .ρ) (N T n) (h .good .legal .falls) (N T n) (h .good .legal .bound) (stack (P T) trail (w .top)) G (suc (w .steps)) y ys tries closed))
+        (sym (resume-pop H (graphOf T holds n) (h .good .legal .ρ) (N T n) (h .good .legal .falls) (N T n) (h .good .legal .bound) (stack (P T) trail (w .top)) G (suc (w .steps)) y ys (quiet y) tries closed))
 
-    pub shut-reached : Reached T holds n notes trail then (marked notes y) trail (walkAt (w .top) (w .steps + 1) (w .place) (w .row) (w .base) 0)
+    pub shut-reached : Reached H T holds n notes trail then (marked notes y) trail (walkAt (w .top) (w .steps + 1) (w .place) (w .row) (w .base) 0)
     unfolding marked
     shut-reached =
         let b = below in
         record {
           good = shut-good;
           stands = shut-stands;
-          same = comes-idle T holds n _ _ _ never ∙ shut-same;
+          same = comes-idle H T holds n _ _ _ never ∙ shut-same;
           notes-long = length-set notes (y / 8) _;
           trail-long = refl;
           notes-beyond = λ z l. bit-keep notes y z (next-noted .1) next-out (λ (e : z ≡ y). omega arith);
@@ -377,7 +395,7 @@ each-map Q b (k ∷ ks) a (suc m) l = each-map Q b ks (a .1) m (le-of-suc-le-suc
 
 -- ---- the last open pair
 
-module _ (T : Layout) (holds : ℕ → ℕ → Bool) (n : ℕ) (notes trail : List ℕ) (w : Walk) (g : Good T holds n notes trail w) (going : 0 < w .top) where
+module _ (H : Halting) (quiet : Quiet H) (T : Layout) (holds : ℕ → ℕ → Bool) (n : ℕ) (notes trail : List ℕ) (w : Walk) (g : Good T holds n notes trail w) (going : 0 < w .top) where
   abbrev e : ℕ
   e = getD trail (w .top - 1) 0
 
@@ -428,12 +446,12 @@ module _ (T : Layout) (holds : ℕ → ℕ → Bool) (n : ℕ) (notes trail : Li
       rw (row-is, place-is) at (a .0)
 
   -- END is on top: the open pairs are the path
-  pub top-end : 29 < codeAt (T .words) (placeIn e) → resumed T holds n notes trail w ≡ outcomeBy (P T) (w .top) trail (bitsOf notes (N T n)) (w .steps)
+  pub top-end : 29 < codeAt (T .words) (placeIn e) → resumed H T holds n notes trail w ≡ outcomeBy (P T) (w .top) trail (bitsOf notes (N T n)) (w .steps)
   unfolding resumed
   top-end h =
       let d : graphOf T holds n x ≡ accept = ways-end T holds n (placeIn e) (rowIn e) (top-word .place) h in
-      let a : resume (graphOf T holds n) (N T n) (stack (P T) trail (w .top)) F (w .steps) ≡ found (reverseAux (stack (P T) trail (w .top)) []) F (w .steps) =
-      rw top-is (resume-accept (graphOf T holds n) (g .legal .ρ) (N T n) (g .legal .falls) (N T n) (g .legal .bound) (stack (P T) trail (w .top - 1)) F (w .steps) x d) in
+      let a : resume H (graphOf T holds n) (N T n) (stack (P T) trail (w .top)) F (w .steps) ≡ found (reverseAux (stack (P T) trail (w .top)) []) F (w .steps) =
+      rw top-is (resume-accept H (graphOf T holds n) (g .legal .ρ) (N T n) (g .legal .falls) (N T n) (g .legal .bound) (stack (P T) trail (w .top - 1)) F (w .steps) x (quiet x) d) in
       a ∙ path-is (P T) trail F (w .steps) (w .top) going
 
   module _ (more : codeAt (T .words) (placeIn e) ≤ 29) where
@@ -491,12 +509,21 @@ module _ (T : Layout) (holds : ℕ → ℕ → Bool) (n : ℕ) (notes trail : Li
               led = λ _. led;
             }
 
-        pub next-same : entering T holds n notes trail w (base + q) ≡ resumed T holds n notes trail w
+        pub next-same : facing H T holds n notes trail w (base + q) ≡ resumed H T holds n notes trail w
         unfolding resumed entering
-        next-same =
-            rw (top-is, y-is)
-            (sym (resume-push (graphOf T holds n) (g .legal .ρ) (N T n) (g .legal .falls) (N T n) (g .legal .bound) (stack (P T) trail (w .top - 1)) F (w .steps) x ys (wayAt T e m) tries first
-            (bitsFrom-length notes (N T n) 0) way-below open-way))
+        next-same = go (H .spent (w .steps)) refl
+          where
+            go : (b : Bool) → H .spent (w .steps) ≡ b → facing H T holds n notes trail w (base + q) ≡ resumed H T holds n notes trail w
+            go true d =
+                faces-halt H T holds n notes trail w (base + q) d
+                ∙ rw top-is
+                (sym (resume-spent H (graphOf T holds n) (g .legal .ρ) (N T n) (g .legal .falls) (N T n) (g .legal .bound) (stack (P T) trail (w .top - 1)) F (w .steps) x ys (wayAt T e m)
+                (quiet x) tries first d))
+            go false d =
+                faces-on H T holds n notes trail w (base + q) d
+                ∙ rw (top-is, y-is)
+                (sym (resume-push H (graphOf T holds n) (g .legal .ρ) (N T n) (g .legal .falls) (N T n) (g .legal .bound) (stack (P T) trail (w .top - 1)) F (w .steps) x ys (wayAt T e m)
+                (quiet x) tries first d (bitsFrom-length notes (N T n) 0) way-below open-way))
 
     -- all its ways have failed: it fails
     module _ (all : (m : ℕ) → m < length ks → bitAt notes (wayAt T e m) ≡ true) where
@@ -552,20 +579,20 @@ module _ (T : Layout) (holds : ℕ → ℕ → Bool) (n : ℕ) (notes trail : Li
                 let k : Led T notes (getD trail t 0) (pairIn (P T) (getD trail (suc t) 0)) = g .led t (omega arith) in
                 rw i (led-stuck T notes (marked notes x) (getD trail t 0) x (rw (← d) at k) (keeps-marked notes x top-byte top-out) marked-it)
 
-        leave-same : resumed T holds n (marked notes x) trail under ≡ resumed T holds n notes trail w
+        leave-same : resumed H T holds n (marked notes x) trail under ≡ resumed H T holds n notes trail w
         unfolding resumed
         leave-same =
             rw (top-is, marked-is)
-            (sym (resume-pop (graphOf T holds n) (g .legal .ρ) (N T n) (g .legal .falls) (N T n) (g .legal .bound) (stack (P T) trail (w .top - 1)) F (w .steps) x ys tries shut))
+            (sym (resume-pop H (graphOf T holds n) (g .legal .ρ) (N T n) (g .legal .falls) (N T n) (g .legal .bound) (stack (P T) trail (w .top - 1)) F (w .steps) x ys (quiet x) tries shut))
 
-        pub leave-reached : Reached T holds n notes trail (resumed T holds n notes trail w) (marked notes x) trail under
+        pub leave-reached : Reached H T holds n notes trail (resumed H T holds n notes trail w) (marked notes x) trail under
         unfolding marked
         leave-reached =
             let b = top-below in
             record {
               good = leave-good;
               stands = leave-stands;
-              same = comes-idle T holds n _ _ _ never ∙ leave-same;
+              same = comes-idle H T holds n _ _ _ never ∙ leave-same;
               notes-long = length-set notes (x / 8) _;
               trail-long = refl;
               notes-beyond = λ z l. bit-keep notes x z top-byte top-out (λ (e : z ≡ x). omega arith);

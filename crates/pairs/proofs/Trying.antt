@@ -14,7 +14,7 @@ use lib.ListN.{length, getD, set}
 use borrow.Author.Tests.{ltb-true, ltb-false, lt-ltb}
 use Rattle.rules.specs.Basics.{pick}
 use Rattle.rules.specs.Report.{bitAt}
-use Rattle.rules.specs.Walk.{try, Outcome}
+use Rattle.rules.specs.Walk.{try, Halting, Outcome}
 use Rattle.rules.proofs.Machine.{firstOpen}
 use Rattle.rules.proofs.Notes.{bitsOf-at}
 use Rattle.rules.specs.Working.{bitsOf}
@@ -23,9 +23,9 @@ use Rattle.pairs.specs.declared.Walk.{Walk}
 use Rattle.pairs.specs.Layout.{Layout, P, N, second, graphOf, passesBy, entryOf}
 use Rattle.table.specs.Table.{waysOf, codeAt, firstAt}
 use Rattle.pairs.specs.Step.{Mem, mem, placeIn, walkAt, oneUnless, tryAt, opens, openedBy, openIf, enteredBy, Noted, Enters}
-use Rattle.pairs.specs.State.{rowFrom, wayAt, reach, Led, Good, Next, Stands, left, resumed, entering, comes, Reached, Goes, Onward}
+use Rattle.pairs.specs.State.{rowFrom, wayAt, reach, Led, Good, Next, Stands, left, resumed, entering, facing, comes, Reached, Goes, Onward, Quiet}
 use Rattle.pairs.proofs.Ways.{ways-length, ways-first, ways-shut, ways-letter, takes-row, takes-no-row, leads-each}
-use Rattle.pairs.proofs.Going.{good-as, never, zero-two, one-two, comes-idle, comes-next, led-stuck, next-few, next-noted, next-out, next-room, next-small, next-steps, next-word, next-row, v-place, v-row, v-way, open-good, open-top, open-resumed, open-reached, open-end, open-less, shut-reached, shut-less, way-below, top-next, next-same}
+use Rattle.pairs.proofs.Going.{good-as, never, zero-two, one-two, comes-idle, comes-next, faces-on, led-stuck, next-few, next-noted, next-out, next-room, next-small, next-steps, next-word, next-row, v-place, v-row, v-way, open-good, open-top, open-resumed, open-reached, open-end, open-less, shut-reached, shut-less, way-below, top-next, next-same}
 
 pub pair-in : (P n q row base : ℕ) → base ≡ row * P → q < P → row ≤ n → base + q < P * suc n
 pair-in P n q row base eb h l = rw (eb, mul-comm P (suc n)) (digits-lt (suc-le-suc l) h)
@@ -50,7 +50,7 @@ next-as T holds n notes trail w q row base x r b d h =
 
 -- ---- the last open pair tries its way m, where the ways before it have failed and the next way is the one behind it
 
-module _ (T : Layout) (holds : ℕ → ℕ → Bool) (n : ℕ) (notes trail : List ℕ) (w : Walk) (g : Good T holds n notes trail w) (going : 0 < w .top)
+module _ (H : Halting) (quiet : Quiet H) (T : Layout) (holds : ℕ → ℕ → Bool) (n : ℕ) (notes trail : List ℕ) (w : Walk) (g : Good T holds n notes trail w) (going : 0 < w .top)
     (more : codeAt (T .words) (placeIn (getD trail (w .top - 1) 0)) ≤ 29) (m : ℕ) (inside : m < length (waysOf (T .words) (placeIn (getD trail (w .top - 1) 0))))
     (reaches : reach T (getD trail (w .top - 1) 0) ≡ suc m) (before : (i : ℕ) → i < m → bitAt notes (wayAt T (getD trail (w .top - 1) 0) i) ≡ true)
     (q row base : ℕ) (eq : q ≡ getD (waysOf (T .words) (placeIn (getD trail (w .top - 1) 0))) m 0) (er : row ≡ rowFrom T (getD trail (w .top - 1) 0)) (eb : base ≡ row * P T) where
@@ -72,7 +72,7 @@ module _ (T : Layout) (holds : ℕ → ℕ → Bool) (n : ℕ) (notes trail : Li
 
   pub turn-noted : Noted notes (base + q)
   turn-noted =
-      let b : base + q < N T n = rw y-is at (way-below T holds n notes trail w g going more m inside) in
+      let b : base + q < N T n = rw y-is at (way-below H quiet T holds n notes trail w g going more m inside) in
       let no = g .noted in
       let sm = g .legal .small in
       (omega arith, omega arith)
@@ -94,17 +94,17 @@ module _ (T : Layout) (holds : ℕ → ℕ → Bool) (n : ℕ) (notes trail : Li
       }
   stands false o =
       record {
-        next = λ _. next-as T holds n notes trail w q row base q row base 1 (top-next T holds n notes trail w g going more m inside before q row base eq er eb led o);
+        next = λ _. next-as T holds n notes trail w q row base q row base 1 (top-next H quiet T holds n notes trail w g going more m inside before q row base eq er eb led o);
         stuck = λ d. absurd (d refl);
         ends = λ d. absurd (one-two d);
       }
 
-  same : (b : Bool) → bitAt notes (base + q) ≡ b → comes T holds n notes trail (State-of b) ≡ resumed T holds n notes trail w
-  unfolding resumed entering oneUnless
-  same true o = comes-idle T holds n notes trail (State-of true) never
-  same false o = comes-next T holds n notes trail (State-of false) refl ∙ next-same T holds n notes trail w g going more m inside before q row base eq er eb led o
+  same : (b : Bool) → bitAt notes (base + q) ≡ b → comes H T holds n notes trail (State-of b) ≡ resumed H T holds n notes trail w
+  unfolding resumed entering facing oneUnless
+  same true o = comes-idle H T holds n notes trail (State-of true) never
+  same false o = comes-next H T holds n notes trail (State-of false) refl ∙ next-same H quiet T holds n notes trail w g going more m inside before q row base eq er eb led o
 
-  pub turn-tried : Reached T holds n notes trail (resumed T holds n notes trail w) notes trail (tryAt notes (w .top) (w .steps) q row base)
+  pub turn-tried : Reached H T holds n notes trail (resumed H T holds n notes trail w) notes trail (tryAt notes (w .top) (w .steps) q row base)
   turn-tried =
       record {
         good = good (bitAt notes (base + q));
@@ -118,7 +118,8 @@ module _ (T : Layout) (holds : ℕ → ℕ → Bool) (n : ℕ) (notes trail : Li
 
 -- ---- the walk's pair is entered
 
-module _ (T : Layout) (holds : ℕ → ℕ → Bool) (n : ℕ) (notes trail : List ℕ) (w : Walk) (h : Goes T holds n notes trail w) where
+module _ (H : Halting) (quiet : Quiet H) (T : Layout) (holds : ℕ → ℕ → Bool) (n : ℕ) (notes trail : List ℕ) (w : Walk) (h : Goes T holds n notes trail w)
+    (unspent : H .spent (w .steps) ≡ false) where
   abbrev q : ℕ
   q = w .place
 
@@ -157,27 +158,27 @@ module _ (T : Layout) (holds : ℕ → ℕ → Bool) (n : ℕ) (notes trail : Li
         words = let l = z .long in let p = nx .place in omega arith;
         places = z .few;
         one = z .one q (nx .place);
-        row = next-row T holds n notes trail w q (w .row) (w .base) nx;
-        few = next-few T holds n notes trail w q (w .row) (w .base) nx;
-        noted = next-noted T holds n notes trail w q (w .row) (w .base) nx;
-        out = next-out T holds n notes trail w q (w .row) (w .base) nx;
-        word = next-word T holds n notes trail w q (w .row) (w .base) nx;
-        room = next-room T holds n notes trail w q (w .row) (w .base) nx;
-        small = next-small T holds n notes trail w q (w .row) (w .base) nx;
-        steps = next-steps T holds n notes trail w q (w .row) (w .base) nx;
+        row = next-row H quiet T holds n notes trail w q (w .row) (w .base) nx;
+        few = next-few H quiet T holds n notes trail w q (w .row) (w .base) nx;
+        noted = next-noted H quiet T holds n notes trail w q (w .row) (w .base) nx;
+        out = next-out H quiet T holds n notes trail w q (w .row) (w .base) nx;
+        word = next-word H quiet T holds n notes trail w q (w .row) (w .base) nx;
+        room = next-room H quiet T holds n notes trail w q (w .row) (w .base) nx;
+        small = next-small H quiet T holds n notes trail w q (w .row) (w .base) nx;
+        steps = next-steps H quiet T holds n notes trail w q (w .row) (w .base) nx;
         near = λ e. z .near q (nx .place) e;
         letter = λ l r. noted (w .base + P T + k) (pair-in (P T) n k (w .row + 1) (w .base + P T) ahead-is (first-place (omega arith)) (omega arith));
-        other = λ _ l. noted (w .base + k) (pair-in (P T) n k (w .row) (w .base) (nx .base-is) (first-place l) (next-row T holds n notes trail w q (w .row) (w .base) nx));
+        other = λ _ l. noted (w .base + k) (pair-in (P T) n k (w .row) (w .base) (nx .base-is) (first-place l) (next-row H quiet T holds n notes trail w q (w .row) (w .base) nx));
       }
 
   abbrev OnTo : Mem → Type 0
-  OnTo m = Onward T holds n notes trail w (m .notes) (m .trail) (m .walk)
+  OnTo m = Onward H T holds n notes trail w (m .notes) (m .trail) (m .walk)
 
-  comes-is : entering T holds n notes trail w (w .base + q) ≡ comes T holds n notes trail w
-  comes-is = sym (comes-next T holds n notes trail w (h .down))
+  comes-is : entering H T holds n notes trail w (w .base + q) ≡ comes H T holds n notes trail w
+  comes-is = sym (comes-next H T holds n notes trail w (h .down) ∙ faces-on H T holds n notes trail w (w .base + q) unspent)
 
-  to : (notes′ trail′ : List ℕ) (r : Walk) → Reached T holds n notes trail (entering T holds n notes trail w (w .base + q)) notes′ trail′ r
-      → Reached T holds n notes trail (comes T holds n notes trail w) notes′ trail′ r
+  to : (notes′ trail′ : List ℕ) (r : Walk) → Reached H T holds n notes trail (entering H T holds n notes trail w (w .base + q)) notes′ trail′ r
+      → Reached H T holds n notes trail (comes H T holds n notes trail w) notes′ trail′ r
   to notes′ trail′ r a = rw comes-is at a
 
   -- it is open, and tries its first way
@@ -189,39 +190,39 @@ module _ (T : Layout) (holds : ℕ → ℕ → Bool) (n : ℕ) (notes trail : Li
     w₁ = walkAt (w .top + 1) (w .steps + 1) q (w .row) (w .base) 0
 
     top-is : getD trail₁ (w .top + 1 - 1) 0 ≡ v
-    top-is = open-top T holds n notes trail w q (w .row) (w .base) nx p
+    top-is = open-top H quiet T holds n notes trail w q (w .row) (w .base) nx p
 
     place-is : placeIn (getD trail₁ (w .top + 1 - 1) 0) ≡ q
-    place-is = rw top-is (v-place T holds n notes trail w q (w .row) (w .base) nx p)
+    place-is = rw top-is (v-place H quiet T holds n notes trail w q (w .row) (w .base) nx p)
 
     reach-one : reach T (getD trail₁ (w .top + 1 - 1) 0) ≡ 1
     unfolding reach
-    reach-one = rw (top-is, v-place T holds n notes trail w q (w .row) (w .base) nx p, v-way T holds n notes trail w q (w .row) (w .base) nx p) (omega arith)
+    reach-one = rw (top-is, v-place H quiet T holds n notes trail w q (w .row) (w .base) nx p, v-way H quiet T holds n notes trail w q (w .row) (w .base) nx p) (omega arith)
 
-    first-tried : Reached T holds n notes trail₁ (resumed T holds n notes trail₁ w₁) notes trail₁ (tryAt notes (w .top + 1) (w .steps + 1) k row base)
+    first-tried : Reached H T holds n notes trail₁ (resumed H T holds n notes trail₁ w₁) notes trail₁ (tryAt notes (w .top + 1) (w .steps + 1) k row base)
     first-tried =
-        turn-tried T holds n notes trail₁ w₁ (open-good T holds n notes trail w q (w .row) (w .base) nx p 0) (omega arith) (rw place-is l) 0 (rw place-is some-way) reach-one
+        turn-tried H quiet T holds n notes trail₁ w₁ (open-good H quiet T holds n notes trail w q (w .row) (w .base) nx p 0) (omega arith) (rw place-is l) 0 (rw place-is some-way) reach-one
         (λ i b. absurd (not-suc-le-zero b)) k row base (rw place-is (sym (ways-first T q))) (rw top-is er) eb
 
     onward : OnTo (mem notes trail₁ (tryAt notes (w .top + 1) (w .steps + 1) k row base))
     onward =
         record {
           reached = to _ _ _
-              (open-reached T holds n notes trail w q (w .row) (w .base) nx p _ (first-tried .good) (first-tried .stands)
-              (first-tried .same ∙ open-resumed T holds n notes trail w q (w .row) (w .base) nx p 0));
-          less = open-less T holds n notes trail w q (w .row) (w .base) nx p k row base _;
+              (open-reached H quiet T holds n notes trail w q (w .row) (w .base) nx p _ (first-tried .good) (first-tried .stands)
+              (first-tried .same ∙ open-resumed H quiet T holds n notes trail w q (w .row) (w .base) nx p 0));
+          less = open-less H quiet T holds n notes trail w q (w .row) (w .base) nx p k row base _;
         }
 
   -- a letter
   row-ahead : passing ≡ true → c < 26 → w .row + 1 ≡ rowFrom T v
   unfolding rowFrom
   row-ahead p l =
-      rw (v-place T holds n notes trail w q (w .row) (w .base) nx p, v-row T holds n notes trail w q (w .row) (w .base) nx p, takes-row T holds n q (w .row) (nx .place) l)
+      rw (v-place H quiet T holds n notes trail w q (w .row) (w .base) nx p, v-row H quiet T holds n notes trail w q (w .row) (w .base) nx p, takes-row T holds n q (w .row) (nx .place) l)
 
   row-same : passing ≡ true → 26 ≤ c → w .row ≡ rowFrom T v
   unfolding rowFrom
   row-same p l =
-      rw (v-place T holds n notes trail w q (w .row) (w .base) nx p, v-row T holds n notes trail w q (w .row) (w .base) nx p, takes-no-row T holds n q (w .row) (nx .place) l)
+      rw (v-place H quiet T holds n notes trail w q (w .row) (w .base) nx p, v-row H quiet T holds n notes trail w q (w .row) (w .base) nx p, takes-no-row T holds n q (w .row) (nx .place) l)
       (omega arith)
 
   opened : passing ≡ true → OnTo (mem notes (set trail (w .top) v) (openedBy c k (P T) notes w))
@@ -234,8 +235,8 @@ module _ (T : Layout) (holds : ℕ → ℕ → Bool) (n : ℕ) (notes trail : Li
       go true ea b eb = let l = ltb-true c 26 ea in onward p (omega arith) (w .row + 1) (w .base + P T) (row-ahead p l) ahead-is
       go false ea true eb =
           record {
-            reached = to _ _ _ (open-end T holds n notes trail w q (w .row) (w .base) nx p (ltb-true 29 c eb));
-            less = open-less T holds n notes trail w q (w .row) (w .base) nx p q (w .row) (w .base) 2;
+            reached = to _ _ _ (open-end H quiet T holds n notes trail w q (w .row) (w .base) nx p (ltb-true 29 c eb));
+            less = open-less H quiet T holds n notes trail w q (w .row) (w .base) nx p q (w .row) (w .base) 2;
           }
       go false ea false eb =
           let l = ltb-false c 26 ea in
@@ -247,8 +248,8 @@ module _ (T : Layout) (holds : ℕ → ℕ → Bool) (n : ℕ) (notes trail : Li
   unfolding openIf
   shuts ys t e =
       record {
-        reached = to _ _ _ (shut-reached T holds n notes trail w q (w .row) (w .base) nx ys t e);
-        less = shut-less T holds n notes trail w q (w .row) (w .base) nx ys t e;
+        reached = to _ _ _ (shut-reached H quiet T holds n notes trail w q (w .row) (w .base) nx ys t e);
+        less = shut-less H quiet T holds n notes trail w q (w .row) (w .base) nx ys t e;
       }
 
   shut-none : passing ≡ false → OnTo (openIf false (mem notes trail w) c (entryOf (T .words) q) k (P T))
@@ -272,6 +273,6 @@ module _ (T : Layout) (holds : ℕ → ℕ → Bool) (n : ℕ) (notes trail : Li
   entered false ep a ea b eb = shut-none ep
 
   pub goes-on : (notes′ trail′ : List ℕ) (r : Walk) → mem notes′ trail′ r ≡ enteredBy passing (mem notes trail w) c (entryOf (T .words) q) k (P T)
-      → Onward T holds n notes trail w notes′ trail′ r
+      → Onward H T holds n notes trail w notes′ trail′ r
   unfolding enteredBy opens
   goes-on notes′ trail′ r e = subst OnTo (sym e) (entered passing refl (ltb c 26) refl (bitAt notes (w .base + P T + k)) refl)

@@ -1,19 +1,27 @@
 -- What holds of notes, trail and walk while an attempt goes on, what a part of it comes to, and what an attempt asks and leaves.
 use mathlib.Core.Path.{_≡_}
-use mathlib.Core.List.{List, [], _∷_}
+use mathlib.Core.List.{List, [], _∷_, reverseAux}
 use Rattle.rules.specs.Basics.{pick}
 use mathlib.Core.Bool.{Bool, true, false}
 use Prim.Native.Nat.{ℕ, zero, suc, _+_, _-_, _*_, _/_, _%_, _≤_, _<_}
-use lib.Dec.{eqb}
+use lib.Dec.{eqb, leb}
 use lib.ListN.{length, getD}
 use Rattle.rules.specs.Places.{Place, pLetter, pCaret, pDollar, pFork, pEnd}
 use Rattle.rules.specs.Report.{bitAt}
-use Rattle.rules.specs.Walk.{Outcome, enterUnless, inside, countTrue}
+use Rattle.rules.specs.Walk.{Halting, outOfSteps, Outcome, halted, enterUnless, inside, countTrue}
 use Rattle.rules.specs.Working.{All, Open, bitsOf, resume}
 use Rattle.pairs.specs.declared.Walk.{Walk}
 use Rattle.pairs.specs.Layout.{Layout, P, N, Sized, Legal, second, leftFrom, graphOf, passesBy}
 use Rattle.table.specs.Table.{waysOf, placeAt, codeAt, countAt}
-use Rattle.pairs.specs.Step.{placeIn, rowIn, wayIn, pairIn, stack, pairOf, outcomeBy}
+use Rattle.pairs.specs.Step.{placeIn, rowIn, wayIn, pairIn, stack, pairOf, resultBy}
+
+-- no pair waits
+abbrev pub Quiet : Halting → Type 0
+Quiet H = (x : ℕ) → H .waits x ≡ false
+
+-- the walk halts just before the entry that would pass the allowance of a steps, and nowhere else
+abbrev pub allowing : ℕ → Halting
+allowing a = record { spent = λ s. leb a s; waits = λ x. false }
 
 -- the rows that a place takes
 abbrev pub takes : Place → ℕ
@@ -125,23 +133,29 @@ abbrev pub rest : Layout → List ℕ → Walk → ℕ
 rest T trail w = restAt T trail (w .top)
 
 -- what the open pairs come to by the recursive walk
-unfoldable pub resumed : Layout → (ℕ → ℕ → Bool) → ℕ → List ℕ → List ℕ → Walk → Outcome
-resumed T holds n notes trail w = resume (graphOf T holds n) (N T n) (stack (P T) trail (w .top)) (bitsOf notes (N T n)) (w .steps)
+unfoldable pub resumed : Halting → Layout → (ℕ → ℕ → Bool) → ℕ → List ℕ → List ℕ → Walk → Outcome
+resumed H T holds n notes trail w = resume H (graphOf T holds n) (N T n) (stack (P T) trail (w .top)) (bitsOf notes (N T n)) (w .steps)
 
 -- what they come to once the pair x is entered
-unfoldable pub entering : Layout → (ℕ → ℕ → Bool) → ℕ → List ℕ → List ℕ → Walk → ℕ → Outcome
-entering T holds n notes trail w x = resume (graphOf T holds n) (N T n) (x ∷ stack (P T) trail (w .top)) (bitsOf notes (N T n)) (suc (w .steps))
+unfoldable pub entering : Halting → Layout → (ℕ → ℕ → Bool) → ℕ → List ℕ → List ℕ → Walk → ℕ → Outcome
+entering H T holds n notes trail w x = resume H (graphOf T holds n) (N T n) (x ∷ stack (P T) trail (w .top)) (bitsOf notes (N T n)) (suc (w .steps))
+
+-- what they come to where the pair x is the next to be entered: where no step is left, the walk halts with them
+unfoldable pub facing : Halting → Layout → (ℕ → ℕ → Bool) → ℕ → List ℕ → List ℕ → Walk → ℕ → Outcome
+unfolding entering
+facing H T holds n notes trail w x =
+    pick (H .spent (w .steps)) (halted outOfSteps (reverseAux (stack (P T) trail (w .top)) []) (bitsOf notes (N T n)) (w .steps)) (entering H T holds n notes trail w x)
 
 -- what the state comes to
-unfoldable pub comes : Layout → (ℕ → ℕ → Bool) → ℕ → List ℕ → List ℕ → Walk → Outcome
-unfolding resumed entering
-comes T holds n notes trail w = pick (eqb (w .status) 1) (entering T holds n notes trail w (pairOf w)) (resumed T holds n notes trail w)
+unfoldable pub comes : Halting → Layout → (ℕ → ℕ → Bool) → ℕ → List ℕ → List ℕ → Walk → Outcome
+unfolding resumed facing
+comes H T holds n notes trail w = pick (eqb (w .status) 1) (facing H T holds n notes trail w (pairOf w)) (resumed H T holds n notes trail w)
 
 -- the walk has come from the buffers n₁ and t₁ to this state, which comes to the outcome R; nothing beyond the pairs is changed
-pub record Reached (T : Layout) (holds : ℕ → ℕ → Bool) (n : ℕ) (n₁ t₁ : List ℕ) (R : Outcome) (notes trail : List ℕ) (w : Walk) : Type 0 where
+pub record Reached (H : Halting) (T : Layout) (holds : ℕ → ℕ → Bool) (n : ℕ) (n₁ t₁ : List ℕ) (R : Outcome) (notes trail : List ℕ) (w : Walk) : Type 0 where
   pub good : Good T holds n notes trail w
   pub stands : Stands T holds n notes trail w
-  pub same : comes T holds n notes trail w ≡ R
+  pub same : comes H T holds n notes trail w ≡ R
   pub notes-long : length notes ≡ length n₁
   pub trail-long : length trail ≡ length t₁
   pub notes-beyond : (z : ℕ) → N T n ≤ z → bitAt notes z ≡ bitAt n₁ z
@@ -164,18 +178,22 @@ pub record Idle (T : Layout) (holds : ℕ → ℕ → Bool) (n : ℕ) (notes tra
   pub found : w .status ≡ 2 → ⊥
 
 -- and a pair is open
-pub record Halts (T : Layout) (holds : ℕ → ℕ → Bool) (n : ℕ) (notes trail : List ℕ) (w : Walk) : Type 0 where
+pub record Backs (T : Layout) (holds : ℕ → ℕ → Bool) (n : ℕ) (notes trail : List ℕ) (w : Walk) : Type 0 where
   pub idle : Idle T holds n notes trail w
   pub going : 0 < w .top
 
--- both, whatever letters hold: going back does not ask
+-- both, whatever letters hold, and wherever the walk halts, if no pair waits: going back does not ask
 pub record Idling (T : Layout) (n : ℕ) (notes trail : List ℕ) (w : Walk) : Type 0 where
+  pub halting : Halting
+  pub quiet : Quiet halting
   pub holds : ℕ → ℕ → Bool
   pub idle : Idle T holds n notes trail w
 
-pub record Halting (T : Layout) (n : ℕ) (notes trail : List ℕ) (w : Walk) : Type 0 where
+pub record Backing (T : Layout) (n : ℕ) (notes trail : List ℕ) (w : Walk) : Type 0 where
+  pub halting : Halting
+  pub quiet : Quiet halting
   pub holds : ℕ → ℕ → Bool
-  pub halts : Halts T holds n notes trail w
+  pub backs : Backs T holds n notes trail w
 
 -- a pair is to be entered, or none is open
 pub record Moves (T : Layout) (holds : ℕ → ℕ → Bool) (n : ℕ) (notes trail : List ℕ) (w : Walk) : Type 0 where
@@ -183,34 +201,34 @@ pub record Moves (T : Layout) (holds : ℕ → ℕ → Bool) (n : ℕ) (notes tr
   pub still : (w .status ≡ 1 → ⊥) → w .top ≡ 0
 
 -- a pair was entered: the state comes to what it came to before, and less is left
-pub record Onward (T : Layout) (holds : ℕ → ℕ → Bool) (n : ℕ) (n₁ t₁ : List ℕ) (w₁ : Walk) (notes trail : List ℕ) (w : Walk) : Type 0 where
-  pub reached : Reached T holds n n₁ t₁ (comes T holds n n₁ t₁ w₁) notes trail w
+pub record Onward (H : Halting) (T : Layout) (holds : ℕ → ℕ → Bool) (n : ℕ) (n₁ t₁ : List ℕ) (w₁ : Walk) (notes trail : List ℕ) (w : Walk) : Type 0 where
+  pub reached : Reached H T holds n n₁ t₁ (comes H T holds n n₁ t₁ w₁) notes trail w
   pub less : left (N T n) notes w < left (N T n) n₁ w₁
 
 -- the last open pair went on to its next way or failed: less is left, or else one way less
-pub record Backward (T : Layout) (holds : ℕ → ℕ → Bool) (n : ℕ) (n₁ t₁ : List ℕ) (w₁ : Walk) (notes trail : List ℕ) (w : Walk) : Type 0 where
-  pub reached : Reached T holds n n₁ t₁ (comes T holds n n₁ t₁ w₁) notes trail w
+pub record Backward (H : Halting) (T : Layout) (holds : ℕ → ℕ → Bool) (n : ℕ) (n₁ t₁ : List ℕ) (w₁ : Walk) (notes trail : List ℕ) (w : Walk) : Type 0 where
+  pub reached : Reached H T holds n n₁ t₁ (comes H T holds n n₁ t₁ w₁) notes trail w
   pub found : w .status ≡ 2 → ⊥
   pub less : left (N T n) notes w ≤ left (N T n) n₁ w₁
   pub fewer : left (N T n) notes w ≡ left (N T n) n₁ w₁ → rest T trail w < rest T t₁ w₁
 
--- all pairs were entered that were to be entered in turn
-pub record Descended (T : Layout) (holds : ℕ → ℕ → Bool) (n : ℕ) (n₁ t₁ : List ℕ) (w₁ : Walk) (notes trail : List ℕ) (w : Walk) : Type 0 where
-  pub reached : Reached T holds n n₁ t₁ (comes T holds n n₁ t₁ w₁) notes trail w
-  pub less : left (N T n) notes w < left (N T n) n₁ w₁
-  pub down : w .status ≡ 1 → ⊥
+-- all pairs were entered that were to be entered in turn, or no step is left
+pub record Descended (H : Halting) (T : Layout) (holds : ℕ → ℕ → Bool) (n : ℕ) (n₁ t₁ : List ℕ) (w₁ : Walk) (notes trail : List ℕ) (w : Walk) : Type 0 where
+  pub reached : Reached H T holds n n₁ t₁ (comes H T holds n n₁ t₁ w₁) notes trail w
+  pub less : (w .status ≡ 1 → ⊥) → left (N T n) notes w < left (N T n) n₁ w₁
+  pub down : w .status ≡ 1 → H .spent (w .steps) ≡ true
 
 -- back until a pair is to be entered or none is open
-pub record Retreated (T : Layout) (holds : ℕ → ℕ → Bool) (n : ℕ) (n₁ t₁ : List ℕ) (w₁ : Walk) (notes trail : List ℕ) (w : Walk) : Type 0 where
-  pub reached : Reached T holds n n₁ t₁ (comes T holds n n₁ t₁ w₁) notes trail w
+pub record Retreated (H : Halting) (T : Layout) (holds : ℕ → ℕ → Bool) (n : ℕ) (n₁ t₁ : List ℕ) (w₁ : Walk) (notes trail : List ℕ) (w : Walk) : Type 0 where
+  pub reached : Reached H T holds n n₁ t₁ (comes H T holds n n₁ t₁ w₁) notes trail w
   pub less : left (N T n) notes w ≤ left (N T n) n₁ w₁
   pub still : (w .status ≡ 1 → ⊥) → w .top ≡ 0
 
--- the walk is over: no pair is open, or END is on top
-pub record Ran (T : Layout) (holds : ℕ → ℕ → Bool) (n : ℕ) (n₁ t₁ : List ℕ) (w₁ : Walk) (notes trail : List ℕ) (w : Walk) : Type 0 where
-  pub reached : Reached T holds n n₁ t₁ (comes T holds n n₁ t₁ w₁) notes trail w
-  pub down : w .status ≡ 1 → ⊥
-  pub last : 0 < w .top → Ends T trail w
+-- the walk is over: no pair is open, or END is on top, or a pair is to be entered and no step is left
+pub record Ran (H : Halting) (T : Layout) (holds : ℕ → ℕ → Bool) (n : ℕ) (n₁ t₁ : List ℕ) (w₁ : Walk) (notes trail : List ℕ) (w : Walk) : Type 0 where
+  pub reached : Reached H T holds n n₁ t₁ (comes H T holds n n₁ t₁ w₁) notes trail w
+  pub down : w .status ≡ 1 → H .spent (w .steps) ≡ true
+  pub last : (w .status ≡ 1 → ⊥) → 0 < w .top → Ends T trail w
 
 -- what an attempt at row i asks, with s steps before it
 pub record Ready (T : Layout) (holds : ℕ → ℕ → Bool) (n : ℕ) (notes trail : List ℕ) (i s : ℕ) : Type 0 where
@@ -221,11 +239,13 @@ pub record Ready (T : Layout) (holds : ℕ → ℕ → Bool) (n : ℕ) (notes tr
   pub steps : s + N T n < 18446744073709551616
 
 -- an attempt at row i by the definition, with the failed pairs F and s steps before it: it tries the pair of the first place and the start
-abbrev pub attemptBy : Layout → (ℕ → ℕ → Bool) → ℕ → List Bool → ℕ → ℕ → Outcome
-attemptBy T holds n F s i = enterUnless (getD F (i * P T) false) (inside (graphOf T holds n) (N T n)) F s (i * P T)
+abbrev pub attemptBy : Halting → Layout → (ℕ → ℕ → Bool) → ℕ → List Bool → ℕ → ℕ → Outcome
+attemptBy H T holds n F s i = enterUnless (getD F (i * P T) false) (H .spent s) (inside H (graphOf T holds n) (N T n)) F s (i * P T)
 
--- what an attempt leaves: its result is the definition's; with a path, the trail's first `top` numbers are the path and the walk is at END
-pub record Done (T : Layout) (holds : ℕ → ℕ → Bool) (n : ℕ) (n₁ t₁ : List ℕ) (i s : ℕ) (notes trail : List ℕ) (w : Walk) : Type 0 where
-  pub same : attemptBy T holds n (bitsOf n₁ (N T n)) s i ≡ outcomeBy (P T) (w .top) trail (bitsOf notes (N T n)) (w .steps)
-  pub reached : Reached T holds n n₁ t₁ (attemptBy T holds n (bitsOf n₁ (N T n)) s i) notes trail w
-  pub last : 0 < w .top → Ends T trail w
+-- what an attempt leaves: its result is the definition's; with a path, the trail's first `top` numbers are the path and the walk is at END; where it has
+-- halted, they are the open pairs, and no step is left
+pub record Done (H : Halting) (T : Layout) (holds : ℕ → ℕ → Bool) (n : ℕ) (n₁ t₁ : List ℕ) (i s : ℕ) (notes trail : List ℕ) (w : Walk) : Type 0 where
+  pub same : attemptBy H T holds n (bitsOf n₁ (N T n)) s i ≡ resultBy (P T) trail (bitsOf notes (N T n)) w
+  pub reached : Reached H T holds n n₁ t₁ (attemptBy H T holds n (bitsOf n₁ (N T n)) s i) notes trail w
+  pub down : w .status ≡ 1 → H .spent (w .steps) ≡ true
+  pub last : (w .status ≡ 1 → ⊥) → 0 < w .top → Ends T trail w

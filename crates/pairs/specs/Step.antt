@@ -6,11 +6,11 @@ use mathlib.Core.Path.{_≡_}
 use mathlib.Core.List.{List, [], _∷_, reverseAux}
 use mathlib.Core.Bool.{Bool, true, false, not, _&&_}
 use Prim.Native.Nat.{ℕ, zero, suc, _+_, _*_, _/_, _%_, _≤_, _<_}
-use lib.Dec.{ltb}
+use lib.Dec.{ltb, eqb}
 use lib.ListN.{length, getD, set}
 use Rattle.rules.specs.Basics.{pick}
 use Rattle.rules.specs.Report.{bitAt}
-use Rattle.rules.specs.Walk.{Outcome, found, failed}
+use Rattle.rules.specs.Walk.{Outcome, found, failed, outOfSteps, halted}
 use Rattle.rules.specs.Working.{marked}
 use Rattle.table.specs.Table.{codeAt, firstAt, countAt}
 use Rattle.table.specs.Sized.{mostPlaces}
@@ -92,6 +92,11 @@ unfoldable pub outcomeBy : ℕ → ℕ → List ℕ → List Bool → ℕ → Ou
 unfolding stack
 outcomeBy P zero trail F s = failed F s
 outcomeBy P (suc t) trail F s = found (reverseAux (stack P trail (suc t)) []) F s
+
+-- the same of an attempt that may have halted: where a pair is to be entered, no step is left, and the open pairs stay open
+unfoldable pub resultBy : ℕ → List ℕ → List Bool → Walk → Outcome
+unfolding stack outcomeBy
+resultBy P trail F w = pick (eqb (w .status) 1) (halted outOfSteps (reverseAux (stack P trail (w .top)) []) F (w .steps)) (outcomeBy P (w .top) trail F (w .steps))
 
 -- ---- what entering a pair requires
 

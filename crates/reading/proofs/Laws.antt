@@ -14,7 +14,7 @@ use mathlib.Core.Option.{some}
 use Rattle.rules.specs.Basics.{pick, inRange, isLetter, every, has, tabulate}
 use Rattle.rules.specs.Query.{Measure, functionFits, cut, misplaced, unfit, doubled, columnsOf, textOf, parts}
 use Rattle.rules.specs.Language.{Tree, pattern, letters, Written}
-use Rattle.rules.specs.Answers.{tooDeep, treeIn, wrong, unfinished, hasEmptyLoop, tooMany, P, lettersIn, isForeign, foreign, Test, firstOf, refuses, queryTests, offsetAt, badRows, roomAnswer, roomOf}
+use Rattle.rules.specs.Answers.{tooDeep, treeIn, wrong, incomplete, hasEmptyLoop, tooMany, P, lettersIn, isForeign, foreign, Test, firstOf, refuses, queryTests, offsetAt, badRows, roomAnswer, roomOf}
 use Rattle.rules.specs.Answers as A
 use Rattle.rules.specs.Rows.{tableOf}
 use Rattle.rules.proofs.Accepted.{tree-of, query-tests-refuse}
@@ -122,7 +122,7 @@ abbrev laterTests : List ℕ → List Test
 laterTests s =
     (4, tooDeep s)
     ∷ (5, wrong (textOf s))
-    ∷ (14, unfinished (textOf s))
+    ∷ (14, incomplete (textOf s))
     ∷ (6, hasEmptyLoop (treeIn s))
     ∷ (7, tooMany (treeIn s))
     ∷ (8, doubled s)

@@ -17,12 +17,15 @@ use Rattle.rules.specs.Language.{Tree, pattern, emptyLoop}
 use Rattle.rules.specs.Places.{unroll, places, placesOf}
 use Rattle.rules.specs.Walk.{pairs}
 use Rattle.rules.specs.Report.{bytesFor}
-use Rattle.rules.specs.Answers.{placesIn, taskOf, tooDeep, treeIn, noTree, hasEmptyLoop, P, tooMany, foreign, badRows, Buffers, pairsOf, shortNotes, shortTrail, endAnswer, Test, wrong, unfinished, firstOf, refuses, queryTests, refusal, answerBy, walkOf, answerOf}
+use Rattle.rules.specs.Answers.{placesIn, taskOf, tooDeep, treeIn, noTree, hasEmptyLoop, P, tooMany, foreign, badRows, Buffers, pairsOf, shortNotes, shortTrail, endAnswer, Test, wrong, incomplete, firstOf, refuses, queryTests, refusal, answerBy, walkWithin, answerWithin, walkOf, answerOf}
 use Rattle.rules.proofs.Level.{or-false}
 use Rattle.rules.proofs.Stops.{tree-there}
-use Rattle.rules.proofs.FirstTrue.{allRefuse, first-refuses, none-true}
+use Rattle.rules.proofs.FirstTrue.{end-accepted, allRefuse, first-refuses, none-true}
 
--- the input is accepted: its answer is none that refuses
+-- the input is accepted: its answer is none that refuses, within an allowance and without one
+abbrev pub AcceptedWithin : Option ℕ → List ℕ → List ℤ → Buffers → Type 0
+AcceptedWithin a q rows lent = refuses (answerWithin a q rows lent) ≡ false
+
 abbrev pub Accepted : List ℕ → List ℤ → Buffers → Type 0
 Accepted q rows lent = refuses (answerOf q rows lent) ≡ false
 
@@ -57,7 +60,7 @@ not-false-is : (b : Bool) → not b ≡ false → b ≡ true
 not-false-is true e = refl
 not-false-is false e = absurd (true≢false e)
 
-module _ (q : List ℕ) (rows : List ℤ) (lent : Buffers) (ok : Accepted q rows lent) where
+module _ (q : List ℕ) (rows : List ℤ) (lent : Buffers) where
   -- the tests for answers 1 to 12 and 14
   abbrev refusals : List Test
   refusals = queryTests q ++ ((10, badRows q rows) ∷ (11, shortNotes q rows lent) ∷ (12, shortTrail q rows lent) ∷ [])
@@ -73,20 +76,23 @@ module _ (q : List ℕ) (rows : List ℤ) (lent : Buffers) (ok : Accepted q rows
       go true d e′ = eqb-true r 0 d
       go false d e′ = absurd (true≢false (sym (h (eqb-false r 0 d)) ∙ e′))
 
-  none-refuses : firstOf refusals ≡ 0
-  unfolding answerOf answerBy refusal queryTests
-  none-refuses = refused-in (firstOf refusals) (endAnswer (walkOf q rows lent .end)) (λ d. first-refuses refusals all-refuse d) ok
+  -- an accepted input is not refused, whatever the allowance; and its answer is that of the search's end
+  pub unrefused : (a : Option ℕ) → AcceptedWithin a q rows lent → refusal q rows lent ≡ 0
+  unfolding answerWithin answerBy refusal queryTests
+  unrefused a ok = refused-in (firstOf refusals) (endAnswer (walkWithin a q rows lent .end)) (λ d. first-refuses refusals all-refuse d) ok
 
-  -- the answer is that of the search's end
-  pub answer-is : answerOf q rows lent ≡ endAnswer (walkOf q rows lent .end)
-  unfolding answerOf answerBy refusal
-  answer-is = rw none-refuses
+  pub answer-within : (a : Option ℕ) → refusal q rows lent ≡ 0 → answerWithin a q rows lent ≡ endAnswer (walkWithin a q rows lent .end)
+  unfolding answerWithin answerBy
+  answer-within a ok = rw ok
+
+  pub accepted-within : (a : Option ℕ) → refusal q rows lent ≡ 0 → AcceptedWithin a q rows lent
+  accepted-within a ok = rw (answer-within a ok) (end-accepted (walkWithin a q rows lent .end))
 
   -- no test is true: those for answers 1 to 5, 14, 6 to 12, in this order
-  pub granted : Granted q rows lent
-  unfolding queryTests hasEmptyLoop tooMany P badRows shortNotes shortTrail pairsOf
-  granted =
-      let no : (i : ℕ) → getD refusals i (0, false) .1 ≡ false = none-true refusals all-refuse none-refuses in
+  pub granted-when : refusal q rows lent ≡ 0 → Granted q rows lent
+  unfolding refusal queryTests hasEmptyLoop tooMany P badRows shortNotes shortTrail pairsOf
+  granted-when ok =
+      let no : (i : ℕ) → getD refusals i (0, false) .1 ≡ false = none-true refusals all-refuse ok in
       let t = tree-of (treeIn q) (tree-there (textOf q) (no 4) (no 5)) in
       let r = or-false _ _ (no 10) in
       let z6 : hasEmptyLoop (treeIn q) ≡ false = no 6 in
@@ -109,6 +115,19 @@ module _ (q : List ℕ) (rows : List ℤ) (lent : Buffers) (ok : Accepted q rows
         notes-long = ltb-false _ _ (rw (t .1) at z11);
         trail-long = ltb-false _ _ (rw (t .1) at z12);
       }
+
+  -- and of document 01's search
+  module _ (ok : Accepted q rows lent) where
+    pub none-refused : refusal q rows lent ≡ 0
+    unfolding answerOf
+    none-refused = unrefused none ok
+
+    pub answer-is : answerOf q rows lent ≡ endAnswer (walkOf q rows lent .end)
+    unfolding answerOf walkOf
+    answer-is = answer-within none none-refused
+
+    pub granted : Granted q rows lent
+    granted = granted-when none-refused
 
 -- the places of the search are those of the tree
 pub places-are : (q : List ℕ) (rows : List ℤ) (p : Tree pattern) → treeIn q ≡ some p → taskOf q rows .places ≡ places (unroll p)

@@ -13,11 +13,11 @@ use lib.Dec.{ltb, eqb}
 use borrow.Author.Tests.{eqb-true, eqb-false, eq-eqb, ne-eqb, ltb-true}
 use Rattle.rules.specs.Basics.{has}
 use Rattle.rules.specs.Places.{Unrolled, Place, pLetter, pCaret, pDollar, pFork, pEnd, places}
-use Rattle.rules.specs.Search.{Match, Skip, Swept, Plan, below, withMatch, byFit, byNext, onAnswer, sweep, Kept, answered, walkAt, labelOf, labels, planOf, walkSearch}
-use Rattle.rules.specs.Walk.{Ways, accept, try, Outcome, found, failed, orElse, close, enterUnless, tries, inside, insideBy, orNext, firstOf, onto, plain, plainBy, passIf, waysAt, pairWays, pairs, pairAt, placeOf, positionOf, firstAt}
+use Rattle.rules.specs.Search.{Match, Skip, Attempted, hit, miss, halts, Swept, Plan, ended, noStart, below, withMatch, byFit, byNext, onAnswer, sweep, Kept, answered, walkAt, labelOf, labels, asksRow, Terms, haltingOf, planOf, walkSearch}
+use Rattle.rules.specs.Walk.{Ways, accept, try, Halting, Outcome, found, failed, halted, orElse, close, enterUnless, tries, inside, insideBy, orNext, firstOf, onto, plain, plainBy, passIf, waysAt, pairWays, pairs, pairAt, placeOf, positionOf, firstAt}
 use Rattle.rules.proofs.Level.{legal}
 use Rattle.rules.proofs.Rank.{rank}
-use Rattle.rules.proofs.PatternWalk.{falls, top, starts}
+use Rattle.rules.proofs.PatternWalk.{falls-in, top-in, starts-in}
 use Rattle.rules.proofs.Walk.{All-map, Grew, InsidePost, inside-post}
 use Rattle.rules.specs.Working.{All, Falls, In, Out, distinct, fresh, keepNew, thinPlace, thinned}
 
@@ -70,80 +70,86 @@ plain-thin ways (suc k) x = go (plain-thin ways k) (ways x)
 
 -- ---- the counted walk
 
-module _ (ways : ℕ → Ways) (ρ : ℕ → ℕ) (N : ℕ) (falls : Falls ways ρ N) where
+module _ (v : Halting) (ways : ℕ → Ways) (ρ : ℕ → ℕ) (N : ℕ) (falls : Falls ways ρ N) where
   abbrev SameAt : ℕ → Type 0
-  SameAt k = (F : List Bool) (s y : ℕ) → ρ y < k → y < N → length F ≡ N → Out F y → inside (λ z. thin (ways z)) k F s y ≡ inside ways k F s y
+  SameAt k = (F : List Bool) (s y : ℕ) → ρ y < k → y < N → length F ≡ N → Out F y → inside v (λ z. thin (ways z)) k F s y ≡ inside v ways k F s y
 
   tries-fresh : (k : ℕ) → SameAt k → (ys : List ℕ) → All (λ y. (ρ y < k) × (y < N)) ys → (seen : List ℕ) (F : List Bool) (s : ℕ) → length F ≡ N → All (In F) seen
-      → tries (inside (λ z. thin (ways z)) k) F s (fresh seen ys) ≡ tries (inside ways k) F s ys
+      → tries v (inside v (λ z. thin (ways z)) k) F s (fresh seen ys) ≡ tries v (inside v ways k) F s ys
   unfolding tries fresh
   tries-fresh k ih [] a seen F s len h = refl
   tries-fresh k ih (y ∷ ys) a seen F s len h = go (has y seen) refl (tries-fresh k ih ys (a .1))
     where
       dying : (r : Outcome) → InsidePost ρ F (suc s) y r
-          → ((seen : List ℕ) (F : List Bool) (s : ℕ) → length F ≡ N → All (In F) seen → tries (inside (λ z. thin (ways z)) k) F s (fresh seen ys) ≡ tries (inside ways k) F s ys)
-          → orElse r (λ F′ s′. tries (inside (λ z. thin (ways z)) k) F′ s′ (fresh (y ∷ seen) ys)) ≡ orElse r (λ F′ s′. tries (inside ways k) F′ s′ ys)
+          → ((seen : List ℕ) (F : List Bool) (s : ℕ) → length F ≡ N → All (In F) seen → tries v (inside v (λ z. thin (ways z)) k) F s (fresh seen ys) ≡ tries v (inside v ways k) F s ys)
+          → orElse r (λ F′ s′. tries v (inside v (λ z. thin (ways z)) k) F′ s′ (fresh (y ∷ seen) ys)) ≡ orElse r (λ F′ s′. tries v (inside v ways k) F′ s′ ys)
       dying (found p G t) d rest = refl
+      dying (halted w p G t) d rest = refl
       dying (failed G t) d rest = rest (y ∷ seen) G t (d .grew .len ∙ len) (d .it, All-map (λ z (i : In F z). d .grew .keeps z i) seen h)
 
-      entered : (b : Bool) → getD F y false ≡ b
-          → ((seen : List ℕ) (F : List Bool) (s : ℕ) → length F ≡ N → All (In F) seen → tries (inside (λ z. thin (ways z)) k) F s (fresh seen ys) ≡ tries (inside ways k) F s ys)
-          → orElse (enterUnless b (inside (λ z. thin (ways z)) k) F s y) (λ F′ s′. tries (inside (λ z. thin (ways z)) k) F′ s′ (fresh (y ∷ seen) ys))
-          ≡ orElse (enterUnless b (inside ways k) F s y) (λ F′ s′. tries (inside ways k) F′ s′ ys)
-      entered true e rest = rest (y ∷ seen) F s len (e, h)
-      entered false e rest =
-          ap (λ (r : Outcome). orElse r (λ F′ s′. tries (inside (λ z. thin (ways z)) k) F′ s′ (fresh (y ∷ seen) ys))) (ih F (suc s) y (a .0 .0) (a .0 .1) len e)
-          ∙ dying (inside ways k F (suc s) y) (inside-post ways ρ N falls k F (suc s) y (a .0 .0) (a .0 .1) len e) rest
+      entered : (b : Bool) → getD F y false ≡ b → (u : Bool)
+          → ((seen : List ℕ) (F : List Bool) (s : ℕ) → length F ≡ N → All (In F) seen → tries v (inside v (λ z. thin (ways z)) k) F s (fresh seen ys) ≡ tries v (inside v ways k) F s ys)
+          → orElse (enterUnless b u (inside v (λ z. thin (ways z)) k) F s y) (λ F′ s′. tries v (inside v (λ z. thin (ways z)) k) F′ s′ (fresh (y ∷ seen) ys))
+          ≡ orElse (enterUnless b u (inside v ways k) F s y) (λ F′ s′. tries v (inside v ways k) F′ s′ ys)
+      entered true e u rest = rest (y ∷ seen) F s len (e, h)
+      entered false e true rest = refl
+      entered false e false rest =
+          ap (λ (r : Outcome). orElse r (λ F′ s′. tries v (inside v (λ z. thin (ways z)) k) F′ s′ (fresh (y ∷ seen) ys))) (ih F (suc s) y (a .0 .0) (a .0 .1) len e)
+          ∙ dying (inside v ways k F (suc s) y) (inside-post v ways ρ N falls k F (suc s) y (a .0 .0) (a .0 .1) len e) rest
 
       go : (b : Bool) → has y seen ≡ b
-          → ((seen : List ℕ) (F : List Bool) (s : ℕ) → length F ≡ N → All (In F) seen → tries (inside (λ z. thin (ways z)) k) F s (fresh seen ys) ≡ tries (inside ways k) F s ys)
-          → tries (inside (λ z. thin (ways z)) k) F s (keepNew b y (fresh seen ys) (fresh (y ∷ seen) ys))
-          ≡ orElse (enterUnless (getD F y false) (inside ways k) F s y) (λ F′ s′. tries (inside ways k) F′ s′ ys)
+          → ((seen : List ℕ) (F : List Bool) (s : ℕ) → length F ≡ N → All (In F) seen → tries v (inside v (λ z. thin (ways z)) k) F s (fresh seen ys) ≡ tries v (inside v ways k) F s ys)
+          → tries v (inside v (λ z. thin (ways z)) k) F s (keepNew b y (fresh seen ys) (fresh (y ∷ seen) ys))
+          ≡ orElse (enterUnless (getD F y false) (v .spent s) (inside v ways k) F s y) (λ F′ s′. tries v (inside v ways k) F′ s′ ys)
       go true d rest = let n : In F y = has-all (In F) y seen d h in rw n (rest seen F s len h)
-      go false d rest = entered (getD F y false) refl rest
+      go false d rest = entered (getD F y false) refl (v .spent s) rest
 
   -- an entered pair comes to the same path, the same failed pairs and the same steps
   pub inside-thin : (k : ℕ) → SameAt k
   unfolding inside insideBy
   inside-thin zero F s x hx lt len o = absurd (not-suc-le-zero hx)
-  inside-thin (suc k) F s x hx lt len o = go (inside-thin k) (ways x) refl
+  inside-thin (suc k) F s x hx lt len o = go (inside-thin k) (v .waits x) (ways x) refl
     where
-      go : SameAt k → (w : Ways) → ways x ≡ w → insideBy (thin w) (inside (λ z. thin (ways z)) k) F s x ≡ insideBy w (inside ways k) F s x
-      go ih accept e = refl
-      go ih (try ys) e =
+      go : SameAt k → (u : Bool) (w : Ways) → ways x ≡ w → insideBy v u (thin w) (inside v (λ z. thin (ways z)) k) F s x ≡ insideBy v u w (inside v ways k) F s x
+      go ih true w e = refl
+      go ih false accept e = refl
+      go ih false (try ys) e =
           ap (close x) (tries-fresh k ih ys (All-map (λ y (r : (ρ y < ρ x) × (x < N → y < N)). (le-trans (r .0) (le-of-suc-le-suc hx), r .1 lt)) ys (falls x ys e)) [] F s len tt)
 
 -- ---- the whole search
 
-module _ (ways : ℕ → Ways) (ρ : ℕ → ℕ) (N : ℕ) (falls : Falls ways ρ N) (K : ℕ) (top : (x : ℕ) → ρ x < K) (first : ℕ → ℕ) (plan : Plan) (starts : (i : ℕ) → i < plan .n → first i < N) where
-  abbrev one : ℕ → Kept → Option (List ℕ) × Kept
-  one = walkAt ways K first
+module _ (v : Halting) (ways : ℕ → Ways) (ρ : ℕ → ℕ) (N : ℕ) (falls : Falls ways ρ N) (K : ℕ) (top : (x : ℕ) → ρ x < K) (first : ℕ → ℕ) (plan : Plan) (starts : (i : ℕ) → i < plan .n → first i < N) where
+  abbrev one : ℕ → Kept → Attempted × Kept
+  one = walkAt v ways K first
 
-  abbrev thinnedOne : ℕ → Kept → Option (List ℕ) × Kept
-  thinnedOne = walkAt (λ z. thin (ways z)) K first
+  abbrev thinnedOne : ℕ → Kept → Attempted × Kept
+  thinnedOne = walkAt v (λ z. thin (ways z)) K first
 
   attempt-thin : (i : ℕ) (st : Kept) → i < plan .n → length (st .0) ≡ N → (thinnedOne i st ≡ one i st) × (length (one i st .1 .0) ≡ N)
-  attempt-thin i st h len = go (getD (st .0) (first i) false) refl
+  attempt-thin i st h len = go (getD (st .0) (first i) false) refl (v .spent (st .1))
     where
       after : (r : Outcome) → InsidePost ρ (st .0) (suc (st .1)) (first i) r → length (answered r .1 .0) ≡ N
       after (found p F s) d = d .grew .len ∙ len
       after (failed F s) d = d .grew .len ∙ len
+      after (halted w p F s) d = d .grew .len ∙ len
 
-      go : (b : Bool) → getD (st .0) (first i) false ≡ b
-          → (answered (enterUnless b (inside (λ z. thin (ways z)) K) (st .0) (st .1) (first i)) ≡ answered (enterUnless b (inside ways K) (st .0) (st .1) (first i)))
-          × (length (answered (enterUnless b (inside ways K) (st .0) (st .1) (first i)) .1 .0) ≡ N)
-      go true e = (refl, len)
-      go false e = (
-        ap answered (inside-thin ways ρ N falls K (st .0) (suc (st .1)) (first i) (top (first i)) (starts i h) len e),
-        after (inside ways K (st .0) (suc (st .1)) (first i)) (inside-post ways ρ N falls K (st .0) (suc (st .1)) (first i) (top (first i)) (starts i h) len e),
+      go : (b : Bool) → getD (st .0) (first i) false ≡ b → (u : Bool)
+          → (answered (enterUnless b u (inside v (λ z. thin (ways z)) K) (st .0) (st .1) (first i)) ≡ answered (enterUnless b u (inside v ways K) (st .0) (st .1) (first i)))
+          × (length (answered (enterUnless b u (inside v ways K) (st .0) (st .1) (first i)) .1 .0) ≡ N)
+      go true e u = (refl, len)
+      go false e true = (refl, len)
+      go false e false = (
+        ap answered (inside-thin v ways ρ N falls K (st .0) (suc (st .1)) (first i) (top (first i)) (starts i h) len e),
+        after (inside v ways K (st .0) (suc (st .1)) (first i)) (inside-post v ways ρ N falls K (st .0) (suc (st .1)) (first i) (top (first i)) (starts i h) len e),
       )
 
   abbrev SameOn : (ℕ → ℕ → ℕ → Kept → Swept Kept) → (ℕ → ℕ → ℕ → Kept → Swept Kept) → Type 0
   SameOn f g = (i m l : ℕ) (st : Kept) → length (st .0) ≡ N → f i m l st ≡ g i m l st
 
-  same-answer : (f g : ℕ → ℕ → ℕ → Kept → Swept Kept) → SameOn f g → (i m l : ℕ) (o : Option (List ℕ)) (st : Kept) → length (st .0) ≡ N → onAnswer plan f i m l o st ≡ onAnswer plan g i m l o st
-  same-answer f g h i m l none st len = h (suc i) m l st len
-  same-answer f g h i m l (some p) st len = go (plan .next i p) (plan .fits m l p)
+  same-answer : (f g : ℕ → ℕ → ℕ → Kept → Swept Kept) → SameOn f g → (i m l : ℕ) (o : Attempted) (st : Kept) → length (st .0) ≡ N → onAnswer plan f i m l o st ≡ onAnswer plan g i m l o st
+  same-answer f g h i m l miss st len = h (suc i) m l st len
+  same-answer f g h i m l (halts w p) st len = refl
+  same-answer f g h i m l (hit p) st len = go (plan .next i p) (plan .fits m l p)
     where
       go : (o : Option ℕ) (b : Bool) → byFit b (record { start = i; path = p }) st (λ _. byNext o st (λ j. f j (suc m) (l + plan .rows p) st))
           ≡ byFit b (record { start = i; path = p }) st (λ _. byNext o st (λ j. g j (suc m) (l + plan .rows p) st))
@@ -158,11 +164,11 @@ module _ (ways : ℕ → Ways) (ρ : ℕ → ℕ) (N : ℕ) (falls : Falls ways 
   search-thin (suc k) i m l st len = go (search-thin k) (ltb i (plan .n)) refl
     where
       go : SameOn (sweep thinnedOne plan k) (sweep one plan k) → (b : Bool) → ltb i (plan .n) ≡ b
-          → below b st (λ _. onAnswer plan (sweep thinnedOne plan k) i m l (thinnedOne i st .0) (thinnedOne i st .1)) ≡ below b st (λ _. onAnswer plan (sweep one plan k) i m l (one i st .0) (one i st .1))
+          → below b (ended (noStart (plan .more) i) st) (λ _. onAnswer plan (sweep thinnedOne plan k) i m l (thinnedOne i st .0) (thinnedOne i st .1)) ≡ below b (ended (noStart (plan .more) i) st) (λ _. onAnswer plan (sweep one plan k) i m l (one i st .0) (one i st .1))
       go ih false e = refl
       go ih true e =
           let a = attempt-thin i st (ltb-true i (plan .n) e) len in
-          ap (λ (r : Option (List ℕ) × Kept). onAnswer plan (sweep thinnedOne plan k) i m l (r .0) (r .1)) (a .0)
+          ap (λ (r : Attempted × Kept). onAnswer plan (sweep thinnedOne plan k) i m l (r .0) (r .1)) (a .0)
           ∙ same-answer (sweep thinnedOne plan k) (sweep one plan k) ih i m l (one i st .0) (one i st .1) (a .1)
 
 -- ---- places
@@ -238,18 +244,38 @@ labels-thin pl (x ∷ p) =
     rw (thinned-length pl, thinned-at pl (placeOf (length pl) x))
     (label-thin (getD pl (placeOf (length pl) x) (pFork [])) (labels (thinned pl) p) ∙ ap (labelOf (getD pl (placeOf (length pl) x) (pFork []))) (labels-thin pl p))
 
--- The counted walk over thinned places is the walk over the places: the same matches, failed pairs and steps.
-module _ (t : Unrolled) (g : legal t ≡ true) (holds : ℕ → ℕ → Bool) (n : ℕ) (skip : Skip) (fits : ℕ → ℕ → List ℕ → Bool) where
-  plan-thin : planOf (thinned (places t)) n skip fits ≡ planOf (places t) n skip fits
+-- a thinned place asks for a row as the place does, so the walk halts alike
+asks-thin : (p : Place) → asksRow (thinPlace p) ≡ asksRow p
+unfolding thinPlace
+asks-thin (pLetter c k) = refl
+asks-thin (pCaret k) = refl
+asks-thin (pDollar k) = refl
+asks-thin (pFork ks) = refl
+asks-thin pEnd = refl
+
+waits-thin : (terms : Terms) (pl : List Place) (n x : ℕ) → haltingOf terms (thinned pl) n .waits x ≡ haltingOf terms pl n .waits x
+unfolding haltingOf
+waits-thin terms pl n x = rw (thinned-length pl, thinned-at pl (placeOf (length pl) x), asks-thin (getD pl (placeOf (length pl) x) (pFork [])))
+
+halting-thin : (terms : Terms) (pl : List Place) (n : ℕ) → haltingOf terms (thinned pl) n ≡ haltingOf terms pl n
+unfolding haltingOf
+halting-thin terms pl n =
+    let e : haltingOf terms (thinned pl) n .waits ≡ haltingOf terms pl n .waits = λ i x. waits-thin terms pl n x i in
+    ap (λ (w : ℕ → Bool). record { spent = haltingOf terms pl n .spent; waits = w }) e
+
+-- The counted walk over thinned places is the walk over the places, on any terms: the same matches, failed pairs and steps.
+module _ (t : Unrolled) (g : legal t ≡ true) (holds : ℕ → ℕ → Bool) (n : ℕ) (terms : Terms) (le : n ≤ terms .largest) (skip : Skip) (fits : ℕ → ℕ → List ℕ → Bool) where
+  plan-thin : planOf (thinned (places t)) n (terms .more) skip fits ≡ planOf (places t) n (terms .more) skip fits
   unfolding planOf
   plan-thin =
       let e : labels (thinned (places t)) ≡ labels (places t) = λ i p. labels-thin (places t) p i in
       rw (thinned-length (places t), e) refl
 
-  pub walk-thin : walkSearch holds n (thinned (places t)) skip fits ≡ walkSearch holds n (places t) skip fits
+  pub walk-thin : walkSearch terms holds n (thinned (places t)) skip fits ≡ walkSearch terms holds n (places t) skip fits
   unfolding walkSearch
   walk-thin =
+      let N : ℕ = pairs (length (places t)) (terms .largest) in
       let e : pairWays holds n (thinned (places t)) ≡ (λ x. thin (pairWays holds n (places t) x)) = λ i x. thin-pairs holds n (places t) x i in
-      rw (plan-thin, e, thinned-length (places t))
-      (search-thin (pairWays holds n (places t)) (rank t n) (pairs (length (places t)) n) (falls t g holds n) (pairs (length (places t)) n) (top t g holds n) (firstAt (length (places t)))
-      (planOf (places t) n skip fits) (λ i h. starts t g holds n i h .0) n 0 0 0 (replicate (pairs (length (places t)) n) false, 0) (length-replicate _ _))
+      rw (plan-thin, halting-thin terms (places t) n, e, thinned-length (places t))
+      (search-thin (haltingOf terms (places t) n) (pairWays holds n (places t)) (rank t n) N (falls-in t g holds n (terms .largest) le) N (top-in t g holds n (terms .largest) le) (firstAt (length (places t)))
+      (planOf (places t) n (terms .more) skip fits) (λ i h. starts-in t g holds n (terms .largest) le i h .0) n 0 0 0 (replicate N false, 0) (length-replicate _ _))

@@ -10,10 +10,11 @@ use native.Mathlib.Omega.{arith}
 use lib.ListN.{length, getD, set, take, drop, length-set, length-drop, take-append-drop}
 use lib.Dec.{ltb}
 use borrow.Author.Tests.{ltb-true}
-use Rattle.rules.specs.Search.{Swept, Plan, below, byFit, byNext, onAnswer, sweep, Kept, answered, walkAt}
-use Rattle.rules.specs.Walk.{Ways, accept, try, Outcome, found, failed, orElse, close, enterUnless, tries, inside, insideBy, countTrue}
+use Rattle.rules.specs.Search.{Match, End, Attempted, hit, miss, halts, Swept, Plan, ended, noStart, below, byFit, byNext, onAnswer, sweep, Kept, answered, walkAt}
+use Rattle.rules.specs.Walk.{Ways, accept, try, Halting, Outcome, found, failed, halted, orElse, close, enterUnless, tries, inside, insideBy, countTrue}
 use Rattle.rules.proofs.Bound.{path-apart, path-pairs, path-closed}
 use Rattle.rules.proofs.Plain.{plain-path, Sound, InsideSound, inside-sound}
+use Rattle.rules.proofs.Swept.{Unhalting, Unhalted, inside-unhalted, Answered, walk-sure}
 use Rattle.rules.proofs.Walk.{All-map, All-map₂, mark-in, count-mark, count-le, out-mark, Apart, InsidePost, inside-post}
 use Rattle.rules.specs.Working.{All, Falls, In, Out}
 
@@ -22,6 +23,7 @@ use Rattle.rules.specs.Working.{All, Falls, In, Out}
 abbrev noted : Outcome → List Bool
 noted (found p F s) = F
 noted (failed F s) = F
+noted (halted w p F s) = F
 
 abbrev pub Closed : (ℕ → Ways) → (ℕ → Type 0) → Type 0
 Closed ways Q = (x : ℕ) (ys : List ℕ) → ways x ≡ try ys → Q x → All Q ys
@@ -33,28 +35,32 @@ module _ (Q : ℕ → Type 0) where
   new-or : (F : List Bool) (r : Outcome) (next : List Bool → ℕ → Outcome) → New F r → ((G : List Bool) (s : ℕ) → New G (next G s)) → New F (orElse r next)
   new-or F (found p G s) next a b = a
   new-or F (failed G s) next a b = λ z i. ⊎-elim (λ j. a z j) (λ q. inr q) (b G s z i)
+  new-or F (halted w p G s) next a b = a
 
   new-close : (F : List Bool) (x : ℕ) (r : Outcome) → Q x → New F r → New F (close x r)
   new-close F x (found p G s) q a = a
   new-close F x (failed G s) q a = λ z i. ⊎-elim (λ j. a z j) (λ (e : z ≡ x). inr (rw e q)) (mark-in G x z i)
+  new-close F x (halted w p G s) q a = a
 
-  tries-new : (f : List Bool → ℕ → ℕ → Outcome) → ((F : List Bool) (s y : ℕ) → Q y → New F (f F s y)) → (ys : List ℕ) → All Q ys → (F : List Bool) (s : ℕ) → New F (tries f F s ys)
+  tries-new : (w : Halting) (f : List Bool → ℕ → ℕ → Outcome) → ((F : List Bool) (s y : ℕ) → Q y → New F (f F s y)) → (ys : List ℕ) → All Q ys → (F : List Bool) (s : ℕ) → New F (tries w f F s ys)
   unfolding tries
-  tries-new f h [] a F s = λ z i. inl i
-  tries-new f h (y ∷ ys) a F s = new-or F (enterUnless (getD F y false) f F s y) (λ G t. tries f G t ys) (go (getD F y false)) (λ G t. tries-new f h ys (a .1) G t)
+  tries-new w f h [] a F s = λ z i. inl i
+  tries-new w f h (y ∷ ys) a F s = new-or F (enterUnless (getD F y false) (w .spent s) f F s y) (λ G t. tries w f G t ys) (go (getD F y false) (w .spent s)) (λ G t. tries-new w f h ys (a .1) G t)
     where
-      go : (t : Bool) → New F (enterUnless t f F s y)
-      go true = λ z i. inl i
-      go false = h F (suc s) y (a .0)
+      go : (t u : Bool) → New F (enterUnless t u f F s y)
+      go true u = λ z i. inl i
+      go false true = λ z i. inl i
+      go false false = h F (suc s) y (a .0)
 
-  inside-new : (ways : ℕ → Ways) → Closed ways Q → (k : ℕ) (F : List Bool) (s x : ℕ) → Q x → New F (inside ways k F s x)
+  inside-new : (w : Halting) (ways : ℕ → Ways) → Closed ways Q → (k : ℕ) (F : List Bool) (s x : ℕ) → Q x → New F (inside w ways k F s x)
   unfolding inside
-  inside-new ways cl zero F s x q = λ z i. inl i
-  inside-new ways cl (suc k) F s x q = go (inside-new ways cl k) (ways x) refl
+  inside-new w ways cl zero F s x q = λ z i. inl i
+  inside-new w ways cl (suc k) F s x q = go (inside-new w ways cl k) (w .waits x) (ways x) refl
     where
-      go : ((F : List Bool) (s x : ℕ) → Q x → New F (inside ways k F s x)) → (w : Ways) → ways x ≡ w → New F (insideBy w (inside ways k) F s x)
-      go ih accept e = λ z i. inl i
-      go ih (try ys) e = new-close F x (tries (inside ways k) F s ys) q (tries-new (inside ways k) ih ys (cl x ys e q) F s)
+      go : ((F : List Bool) (s x : ℕ) → Q x → New F (inside w ways k F s x)) → (u : Bool) (v : Ways) → ways x ≡ v → New F (insideBy w u v (inside w ways k) F s x)
+      go ih true v e = λ z i. inl i
+      go ih false accept e = λ z i. inl i
+      go ih false (try ys) e = new-close F x (tries w (inside w ways k) F s ys) q (tries-new w (inside w ways k) ih ys (cl x ys e q) F s)
 
 -- ---- counting from a on
 
@@ -103,25 +109,27 @@ front-same a F G l k n = ap countTrue (take-same a G F l (λ z h. go z h (getD F
     go z h false e true d = ⊎-elim (λ (i : In F z). d ∙ sym i) (λ (i : a ≤ z). absurd (omega arith)) (n z d)
     go z h false e false d = d ∙ sym e
 
-module _ (ways : ℕ → Ways) (ρ : ℕ → ℕ) (N : ℕ) (falls : Falls ways ρ N) (K : ℕ) (top : (x : ℕ) → ρ x < K) where
-  abbrev stepsOf : Outcome → ℕ
-  stepsOf (found p F s) = s
-  stepsOf (failed F s) = s
+abbrev stepsOf : Outcome → ℕ
+stepsOf (found p F s) = s
+stepsOf (failed F s) = s
+stepsOf (halted w p F s) = s
 
+module _ (h : Halting) (calm : Unhalting h) (ways : ℕ → Ways) (ρ : ℕ → ℕ) (N : ℕ) (falls : Falls ways ρ N) (K : ℕ) (top : (x : ℕ) → ρ x < K) where
   pub attempt-bound : (a : ℕ) → Closed ways (λ z. a ≤ z) → (F : List Bool) (s x : ℕ) → length F ≡ N → Sound ways K F → Out F x → x < N → a ≤ x
-      → stepsOf (inside ways K F (suc s) x) + a ≤ s + N
+      → stepsOf (inside h ways K F (suc s) x) + a ≤ s + N
   attempt-bound a cl F s x len snd o lt ax =
-      go (inside ways K F (suc s) x) (inside-post ways ρ N falls K F (suc s) x (top x) lt len o) (inside-sound ways ρ N falls K top K F (suc s) x (top x) snd)
-      (inside-new (λ z. a ≤ z) ways cl K F (suc s) x ax)
+      go (inside h ways K F (suc s) x) (inside-unhalted h calm ways K F (suc s) x) (inside-post h ways ρ N falls K F (suc s) x (top x) lt len o) (inside-sound ways ρ N falls K top h K F (suc s) x (top x) snd)
+      (inside-new (λ z. a ≤ z) h ways cl K F (suc s) x ax)
     where
-      go : (r : Outcome) → InsidePost ρ F (suc s) x r → InsideSound ways K x r → ((z : ℕ) → In (noted r) z → In F z ⊎ (a ≤ z)) → stepsOf r + a ≤ s + N
-      go (found p G t) h i nw =
+      go : (r : Outcome) → Unhalted r → InsidePost ρ F (suc s) x r → InsideSound ways K x r → ((z : ℕ) → In (noted r) z → In F z ⊎ (a ≤ z)) → stepsOf r + a ≤ s + N
+      go (halted w p G t) u h i nw = absurd u
+      go (found p G t) u h i nw =
           let w = plain-path ways K x p (i .0) in
           let fr = front-same a F G (h .grew .len) (h .grew .keeps) nw in
           let lg : length G ≡ N = h .grew .len ∙ len in
           let rm = room-from a p G (path-apart ways ρ N falls w) (h .off) (rw lg (path-pairs ways ρ N falls lt w)) (path-closed ways (λ z. a ≤ z) cl ax w) in
           omega (arith, h .sum, fr, count-split a F, count-split a G, rm, lg)
-      go (failed G t) h i nw =
+      go (failed G t) u h i nw =
           let fr = front-same a F G (h .grew .len) (h .grew .keeps) nw in
           let lg : length G ≡ N = h .grew .len ∙ len in
           omega (arith, h .sum, fr, count-split a F, count-split a G, count-le (drop a G), length-drop a G, lg)
@@ -146,7 +154,7 @@ cost-more P m (suc d) = rw add-suc (let h = cost-more P m d in omega arith)
 cost-le : (P m k : ℕ) → m ≤ k → cost P m ≤ cost P k
 cost-le P m k h = let e : k ≡ m + (k - m) = omega arith in rw e (cost-more P m (k - m))
 
-module _ (ways : ℕ → Ways) (ρ : ℕ → ℕ) (N : ℕ) (falls : Falls ways ρ N) (K : ℕ) (top : (x : ℕ) → ρ x < K) (first : ℕ → ℕ) (plan : Plan) (P : ℕ)
+module _ (w : Halting) (calm : Unhalting w) (ways : ℕ → Ways) (ρ : ℕ → ℕ) (N : ℕ) (falls : Falls ways ρ N) (K : ℕ) (top : (x : ℕ) → ρ x < K) (first : ℕ → ℕ) (plan : Plan) (P : ℕ)
     (starts : (i : ℕ) → i < plan .n → (first i < N) × (N ≤ first i + P * suc (plan .n - i)))
     (cl : (i : ℕ) → Closed ways (λ z. first i ≤ z)) (later : (i : ℕ) (p : List ℕ) (j : ℕ) → plan .next i p ≡ some j → i < j) where
   abbrev Kind : Kept → Type 0
@@ -160,21 +168,23 @@ module _ (ways : ℕ → Ways) (ρ : ℕ → ℕ) (N : ℕ) (falls : Falls ways 
 
   -- after an attempt
   one-attempt : (i : ℕ) (st : Kept) → i < plan .n → Kind st
-      → Kind (walkAt ways K first i st .1) × ((walkAt ways K first i st) .1 .1 ≤ st .1 + P * suc (plan .n - i))
-  one-attempt i st h kd = go (getD (st .0) (first i) false) refl
+      → Kind (walkAt w ways K first i st .1) × ((walkAt w ways K first i st) .1 .1 ≤ st .1 + P * suc (plan .n - i))
+  one-attempt i st h kd = go (getD (st .0) (first i) false) refl (w .spent (st .1))
     where
-      on : (r : Outcome) → InsidePost ρ (st .0) (suc (st .1)) (first i) r → InsideSound ways K (first i) r → stepsOf ways ρ N falls K top r + first i ≤ st .1 + N
+      on : (r : Outcome) → InsidePost ρ (st .0) (suc (st .1)) (first i) r → InsideSound ways K (first i) r → stepsOf r + first i ≤ st .1 + N
           → Kind (answered r .1) × (answered r .1 .1 ≤ st .1 + P * suc (plan .n - i))
       on (found p F s) t u b = ((t .grew .len ∙ kd .0, u .1), omega (arith, b, starts i h .1))
       on (failed F s) t u b = ((t .grew .len ∙ kd .0, u .1), omega (arith, b, starts i h .1))
+      on (halted v p F s) t u b = ((t .grew .len ∙ kd .0, u), omega (arith, b, starts i h .1))
 
-      go : (t : Bool) → getD (st .0) (first i) false ≡ t
-          → Kind (answered (enterUnless t (inside ways K) (st .0) (st .1) (first i)) .1) × (answered (enterUnless t (inside ways K) (st .0) (st .1) (first i)) .1 .1 ≤ st .1 + P * suc (plan .n - i))
-      go true e = (kd, omega arith)
-      go false e =
-          on (inside ways K (st .0) (suc (st .1)) (first i)) (inside-post ways ρ N falls K (st .0) (suc (st .1)) (first i) (top (first i)) (starts i h .0) (kd .0) e)
-          (inside-sound ways ρ N falls K top K (st .0) (suc (st .1)) (first i) (top (first i)) (kd .1))
-          (attempt-bound ways ρ N falls K top (first i) (cl i) (st .0) (st .1) (first i) (kd .0) (kd .1) e (starts i h .0) (omega arith))
+      go : (t : Bool) → getD (st .0) (first i) false ≡ t → (v : Bool)
+          → Kind (answered (enterUnless t v (inside w ways K) (st .0) (st .1) (first i)) .1) × (answered (enterUnless t v (inside w ways K) (st .0) (st .1) (first i)) .1 .1 ≤ st .1 + P * suc (plan .n - i))
+      go true e v = (kd, omega arith)
+      go false e true = (kd, omega arith)
+      go false e false =
+          on (inside w ways K (st .0) (suc (st .1)) (first i)) (inside-post w ways ρ N falls K (st .0) (suc (st .1)) (first i) (top (first i)) (starts i h .0) (kd .0) e)
+          (inside-sound ways ρ N falls K top w K (st .0) (suc (st .1)) (first i) (top (first i)) (kd .1))
+          (attempt-bound w calm ways ρ N falls K top (first i) (cl i) (st .0) (st .1) (first i) (kd .0) (kd .1) e (starts i h .0) (omega arith))
 
   from-next : (i j : ℕ) → i < plan .n → i < j → P * suc (plan .n - i) + cost P (plan .n - j) ≤ cost P (plan .n - i)
   unfolding cost
@@ -183,25 +193,26 @@ module _ (ways : ℕ → Ways) (ρ : ℕ → ℕ) (N : ℕ) (falls : Falls ways 
       let c = cost-le P (plan .n - j) (plan .n - suc i) (omega arith) in
       rw e (omega arith)
 
-  after-answer : (f : ℕ → ℕ → ℕ → Kept → Swept Kept) → AtMostOn f → (i m l : ℕ) (st su : Kept) → i < plan .n → Kind su → su .1 ≤ st .1 + P * suc (plan .n - i) → (o : Option (List ℕ))
+  after-answer : (f : ℕ → ℕ → ℕ → Kept → Swept Kept) → AtMostOn f → (i m l : ℕ) (st su : Kept) → i < plan .n → Kind su → su .1 ≤ st .1 + P * suc (plan .n - i) → (o : Attempted) → Answered o
       → AtMost i st (onAnswer plan f i m l o su)
-  after-answer f ih i m l st su h kd b none = omega (arith, ih (suc i) m l su kd, from-next i (suc i) h (omega arith))
-  after-answer f ih i m l st su h kd b (some p) = go (plan .next i p) refl (plan .fits m l p)
+  after-answer f ih i m l st su h kd b (halts v p) z = absurd z
+  after-answer f ih i m l st su h kd b miss z = omega (arith, ih (suc i) m l su kd, from-next i (suc i) h (omega arith))
+  after-answer f ih i m l st su h kd b (hit p) z = go (plan .next i p) refl (plan .fits m l p)
     where
       go : (o : Option ℕ) → plan .next i p ≡ o → (t : Bool) → AtMost i st (byFit t (record { start = i; path = p }) su (λ _. byNext o su (λ j. f j (suc m) (l + plan .rows p) su)))
       go o e false = omega (arith, from-next i (suc i) h (omega arith))
       go none e true = omega (arith, from-next i (suc i) h (omega arith))
       go (some j) e true = omega (arith, ih j (suc m) (l + plan .rows p) su kd, from-next i j h (later i p j e))
 
-  pub walk-cost : (k : ℕ) → AtMostOn (sweep (walkAt ways K first) plan k)
+  pub walk-cost : (k : ℕ) → AtMostOn (sweep (walkAt w ways K first) plan k)
   unfolding sweep
   walk-cost zero i m l st kd = omega arith
   walk-cost (suc k) i m l st kd = go (walk-cost k) (ltb i (plan .n)) refl
     where
-      go : AtMostOn (sweep (walkAt ways K first) plan k) → (t : Bool) → ltb i (plan .n) ≡ t
-          → AtMost i st (below t st (λ _. onAnswer plan (sweep (walkAt ways K first) plan k) i m l (walkAt ways K first i st .0) (walkAt ways K first i st .1)))
+      go : AtMostOn (sweep (walkAt w ways K first) plan k) → (t : Bool) → ltb i (plan .n) ≡ t
+          → AtMost i st (below t (ended (noStart (plan .more) i) st) (λ _. onAnswer plan (sweep (walkAt w ways K first) plan k) i m l (walkAt w ways K first i st .0) (walkAt w ways K first i st .1)))
       go ih false e = omega arith
       go ih true e =
           let h = ltb-true i (plan .n) e in
           let a = one-attempt i st h kd in
-          after-answer (sweep (walkAt ways K first) plan k) ih i m l st (walkAt ways K first i st .1) h (a .0) (a .1) (walkAt ways K first i st .0)
+          after-answer (sweep (walkAt w ways K first) plan k) ih i m l st (walkAt w ways K first i st .1) h (a .0) (a .1) (walkAt w ways K first i st .0) (walk-sure w calm ways K first i st)

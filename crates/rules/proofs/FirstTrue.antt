@@ -9,15 +9,18 @@ use lib.Dec.{eqb}
 use lib.ListN.{length, getD}
 use borrow.Author.Tests.{eq-eqb}
 use Rattle.rules.specs.Basics.{every}
-use Rattle.rules.specs.Search.{Match, End, done, full, stuck}
-use Rattle.rules.specs.Answers.{Test, firstOf, endAnswer, refuses}
+use Rattle.rules.specs.Walk.{outOfSteps, outOfRows}
+use Rattle.rules.specs.Search.{Match, End, done, full, stuck, unfinished}
+use Rattle.rules.specs.Answers.{Test, firstOf, haltAnswer, endAnswer, refuses}
 
 -- the answers of a search's end refuse nothing
 pub end-accepted : (e : End Match) → refuses (endAnswer e) ≡ false
-unfolding refuses endAnswer
+unfolding refuses endAnswer haltAnswer
 end-accepted done = refl
 end-accepted (full m) = refl
 end-accepted stuck = refl
+end-accepted (unfinished outOfSteps i p) = refl
+end-accepted (unfinished outOfRows i p) = refl
 
 -- every test of the list stands for a refusal
 unfoldable pub allRefuse : List Test → Bool

@@ -22,6 +22,9 @@ pub mod Counting
 pub mod WholePattern
 pub mod TreeReadings
 pub mod Fuel
+pub mod GoesOn
+pub mod Padded
+pub mod Allowed
 pub mod Paths
 pub mod PrefermentOrder
 pub mod DerivationReadings

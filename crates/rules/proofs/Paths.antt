@@ -5,14 +5,14 @@ use mathlib.Core.List.{List}
 use mathlib.Core.Bool.{Bool, true}
 use mathlib.Core.Logic.{_≢_}
 use mathlib.Core.Option.{none}
-use Prim.Native.Nat.{ℕ}
+use Prim.Native.Nat.{ℕ, _≤_}
 use lib.ListN.{length}
 use Rattle.rules.specs.Places.{Unrolled, places}
-use Rattle.rules.specs.Search.{Skip, walkSearch}
+use Rattle.rules.specs.Search.{Skip, Terms, whole, walkSearch}
 use Rattle.rules.specs.Walk.{IsPath, pairs, pairWays, plain}
 use Rattle.rules.proofs.Bound.{plain-complete}
 use Rattle.rules.proofs.Level.{legal}
-use Rattle.rules.proofs.PatternWalk.{top, falls, walk-plain}
+use Rattle.rules.proofs.PatternWalk.{top, falls, search-follows}
 use Rattle.rules.proofs.Rank.{rank}
 use Rattle.rules.specs.Working.{In}
 
@@ -22,6 +22,7 @@ module _ (t : Unrolled) (g : legal t ≡ true) (holds : ℕ → ℕ → Bool) (n
   path-found h =
       plain-complete (pairWays holds n (places t)) (rank t n) (pairs (length (places t)) n) (falls t g holds n) (pairs (length (places t)) n) (top t g holds n) h
 
-  pub failed-no-path : (skip : Skip) (fits : ℕ → ℕ → List ℕ → Bool) (x : ℕ) → In (walkSearch holds n (places t) skip fits .state .0) x
+  -- on any terms
+  pub failed-no-path : (terms : Terms) → n ≤ terms .largest → (skip : Skip) (fits : ℕ → ℕ → List ℕ → Bool) (x : ℕ) → In (walkSearch terms holds n (places t) skip fits .state .0) x
       → (p : List ℕ) → IsPath (pairWays holds n (places t)) x p → ⊥
-  failed-no-path skip fits x i p h = path-found h (walk-plain t g holds n skip fits .state x i)
+  failed-no-path terms le skip fits x i p h = path-found h (search-follows t g holds n terms le skip fits .state x i)

@@ -8,7 +8,7 @@ use Prim.Native.Nat.{ℕ, zero, suc, _<_}
 use native.Mathlib.Nat.{le-trans, not-suc-le-zero}
 use native.Mathlib.Omega.{arith}
 use lib.ListN.{getD, set}
-use Rattle.rules.specs.Walk.{IsPath, here, there, Ways, accept, try, Outcome, found, failed, orElse, close, enterUnless, tries, inside, insideBy, orNext, firstOf, onto, plain, plainBy}
+use Rattle.rules.specs.Walk.{IsPath, here, there, Ways, accept, try, Halting, Outcome, found, failed, halted, orElse, close, enterUnless, tries, inside, insideBy, orNext, firstOf, onto, plain, plainBy}
 use Rattle.rules.proofs.Walk.{All-map, mark-in}
 use Rattle.rules.specs.Working.{All, Falls, In}
 
@@ -92,10 +92,12 @@ module _ (ways : ℕ → Ways) (K : ℕ) where
   abbrev pub TriesSound : List ℕ → Outcome → Type 0
   TriesSound ys (found p F s) = (firstOf (plain ways K) ys ≡ some p) × Sound F
   TriesSound ys (failed F s) = (firstOf (plain ways K) ys ≡ none) × Sound F
+  TriesSound ys (halted h p F s) = Sound F
 
   abbrev pub InsideSound : ℕ → Outcome → Type 0
   InsideSound x (found p F s) = (plain ways K x ≡ some p) × Sound F
   InsideSound x (failed F s) = (plain ways K x ≡ none) × Sound F
+  InsideSound x (halted h p F s) = Sound F
 
 module _ (ways : ℕ → Ways) (ρ : ℕ → ℕ) (N : ℕ) (falls : Falls ways ρ N) (K : ℕ) (top : (x : ℕ) → ρ x < K) where
   -- plain backtracking with enough fuel, one pair down
@@ -106,39 +108,45 @@ module _ (ways : ℕ → Ways) (ρ : ℕ → ℕ) (N : ℕ) (falls : Falls ways 
   sound-mark : (F : List Bool) (x : ℕ) → plain ways K x ≡ none → Sound ways K F → Sound ways K (set F x true)
   sound-mark F x e h z i = ⊎-elim (λ j. h z j) (λ (q : z ≡ x). rw q e) (mark-in F x z i)
 
-  abbrev SoundAt : ℕ → Type 0
-  SoundAt k = (F : List Bool) (s y : ℕ) → ρ y < k → Sound ways K F → InsideSound ways K y (inside ways k F s y)
+  abbrev SoundAt : Halting → ℕ → Type 0
+  SoundAt w k = (F : List Bool) (s y : ℕ) → ρ y < k → Sound ways K F → InsideSound ways K y (inside w ways k F s y)
 
-  pub tries-sound : (k : ℕ) → SoundAt k → (ys : List ℕ) → All (λ y. ρ y < k) ys → (F : List Bool) (s : ℕ) → Sound ways K F → TriesSound ways K ys (tries (inside ways k) F s ys)
+  -- whatever may halt the walk
+  pub tries-sound : (w : Halting) (k : ℕ) → SoundAt w k → (ys : List ℕ) → All (λ y. ρ y < k) ys → (F : List Bool) (s : ℕ) → Sound ways K F → TriesSound ways K ys (tries w (inside w ways k) F s ys)
   unfolding tries firstOf
-  tries-sound k ih [] a F s h = (refl, h)
-  tries-sound k ih (y ∷ ys) a F s h = go (λ F′ s′. tries-sound k ih ys (a .1) F′ s′) (getD F y false) refl
+  tries-sound w k ih [] a F s h = (refl, h)
+  tries-sound w k ih (y ∷ ys) a F s h = go (λ F′ s′. tries-sound w k ih ys (a .1) F′ s′) (getD F y false) refl (w .spent s)
     where
       behind : (r : Outcome) → plain ways K y ≡ none → TriesSound ways K ys r → TriesSound ways K (y ∷ ys) r
       behind (found p F′ s′) e t = (rw e (t .0), t .1)
       behind (failed F′ s′) e t = (rw e (t .0), t .1)
+      behind (halted v p F′ s′) e t = t
 
-      after : ((F′ : List Bool) (s′ : ℕ) → Sound ways K F′ → TriesSound ways K ys (tries (inside ways k) F′ s′ ys))
-          → (r : Outcome) → InsideSound ways K y r → TriesSound ways K (y ∷ ys) (orElse r (λ F′ s′. tries (inside ways k) F′ s′ ys))
+      after : ((F′ : List Bool) (s′ : ℕ) → Sound ways K F′ → TriesSound ways K ys (tries w (inside w ways k) F′ s′ ys))
+          → (r : Outcome) → InsideSound ways K y r → TriesSound ways K (y ∷ ys) (orElse r (λ F′ s′. tries w (inside w ways k) F′ s′ ys))
       after rest (found p F′ s′) t = (firstOf-some (plain ways K) y ys p (t .0), t .1)
-      after rest (failed F′ s′) t = behind (tries (inside ways k) F′ s′ ys) (t .0) (rest F′ s′ (t .1))
+      after rest (failed F′ s′) t = behind (tries w (inside w ways k) F′ s′ ys) (t .0) (rest F′ s′ (t .1))
+      after rest (halted v p F′ s′) t = t
 
-      go : ((F′ : List Bool) (s′ : ℕ) → Sound ways K F′ → TriesSound ways K ys (tries (inside ways k) F′ s′ ys))
-          → (t : Bool) → getD F y false ≡ t → TriesSound ways K (y ∷ ys) (orElse (enterUnless t (inside ways k) F s y) (λ F′ s′. tries (inside ways k) F′ s′ ys))
-      go rest true e = behind (tries (inside ways k) F s ys) (h y e) (rest F s h)
-      go rest false e = after rest (inside ways k F (suc s) y) (ih F (suc s) y (a .0) h)
+      go : ((F′ : List Bool) (s′ : ℕ) → Sound ways K F′ → TriesSound ways K ys (tries w (inside w ways k) F′ s′ ys))
+          → (t : Bool) → getD F y false ≡ t → (u : Bool) → TriesSound ways K (y ∷ ys) (orElse (enterUnless t u (inside w ways k) F s y) (λ F′ s′. tries w (inside w ways k) F′ s′ ys))
+      go rest true e u = behind (tries w (inside w ways k) F s ys) (h y e) (rest F s h)
+      go rest false e true = h
+      go rest false e false = after rest (inside w ways k F (suc s) y) (ih F (suc s) y (a .0) h)
 
-  pub inside-sound : (k : ℕ) → SoundAt k
+  pub inside-sound : (w : Halting) (k : ℕ) → SoundAt w k
   unfolding inside insideBy plainBy
-  inside-sound zero F s x hx h = absurd (not-suc-le-zero hx)
-  inside-sound (suc k) F s x hx h = go (inside-sound k) (ways x) refl
+  inside-sound w zero F s x hx h = absurd (not-suc-le-zero hx)
+  inside-sound w (suc k) F s x hx h = go (inside-sound w k) (w .waits x) (ways x) refl
     where
       put : (ys : List ℕ) → ways x ≡ try ys → (r : Outcome) → TriesSound ways K ys r → InsideSound ways K x (close x r)
       put ys e (found p F′ s′) t = (plain-down x ∙ rw (e, t .0), t .1)
       put ys e (failed F′ s′) t = let d : plain ways K x ≡ none = plain-down x ∙ rw (e, t .0) in (d, sound-mark F′ x d (t .1))
+      put ys e (halted v p F′ s′) t = t
 
-      go : SoundAt k → (w : Ways) → ways x ≡ w → InsideSound ways K x (insideBy w (inside ways k) F s x)
-      go ih accept e = (plain-down x ∙ rw e, h)
-      go ih (try ys) e =
-          put ys e (tries (inside ways k) F s ys)
-          (tries-sound k ih ys (All-map (λ y (r : (ρ y < ρ x) × (x < N → y < N)). omega arith) ys (falls x ys e)) F s h)
+      go : SoundAt w k → (u : Bool) (y : Ways) → ways x ≡ y → InsideSound ways K x (insideBy w u y (inside w ways k) F s x)
+      go ih true y e = h
+      go ih false accept e = (plain-down x ∙ rw e, h)
+      go ih false (try ys) e =
+          put ys e (tries w (inside w ways k) F s ys)
+          (tries-sound w k ih ys (All-map (λ y (r : (ρ y < ρ x) × (x < N → y < N)). omega arith) ys (falls x ys e)) F s h)

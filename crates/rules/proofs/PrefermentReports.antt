@@ -12,7 +12,7 @@ use borrow.Author.Tests.{ltb-true, ltb-false}
 use Rattle.rules.specs.Language.{pattern, Tree, emptyLoop}
 use Rattle.rules.specs.Places.{Place, places, unroll}
 use Rattle.rules.specs.Preferment.{Reports, finished, unmatched, matched, lost, stopped}
-use Rattle.rules.specs.Search.{plainFrom, End, full, Skip, shown, shownEnd, Swept, labels, endOf, nextStart, below, byFit, byNext, onAnswer, sweep, plainAt, planOf, walkSearch, plainSearch}
+use Rattle.rules.specs.Search.{plainFrom, End, done, full, Skip, shown, shownEnd, Swept, labels, endOf, nextStart, whole, plainly, ended, below, byFit, byNext, onAnswer, sweep, plainAt, planOf, walkSearch, plainSearch}
 use Rattle.rules.specs.Walk.{pairs, firstAt, pairWays}
 use Rattle.rules.proofs.Bounds.{Bounds}
 use Rattle.rules.proofs.Counting.{legal-unroll}
@@ -28,7 +28,7 @@ module _ (p : Tree pattern) (g : emptyLoop p ≡ false) (o : Bounds p) (holds : 
 
   -- the search by plain backtracking, from a start on
   abbrev run : ℕ → ℕ → ℕ → ℕ → Unit {0} → Swept (Unit {0})
-  run = sweep (plainAt (pairWays holds n pl) (pairs (length pl) n) (firstAt (length pl))) (planOf pl n skip room)
+  run = sweep (plainAt (pairWays holds n pl) (pairs (length pl) n) (firstAt (length pl))) (planOf pl n false skip room)
 
   abbrev Told : ℕ → ℕ → ℕ → Swept (Unit {0}) → Type 0
   Told i m l r = Reports p holds n skip room i m l (shown pl (r .matches)) (shownEnd pl (r .end))
@@ -51,20 +51,23 @@ module _ (p : Tree pattern) (g : emptyLoop p ≡ false) (o : Bounds p) (holds : 
       fit ih lt path a none d true e = lost lt (a .best) e d
       fit ih lt path a (some j) d true e = matched lt (a .best) e d (ih j (suc m) (l + length (labels pl path)) st (omega (arith, next-on skip i (endOf (length pl) path) (labels pl path) j d)))
 
-      hit : ToldWith k → i < n → (r : Option (List ℕ)) → Answers p holds n i r → Told i m l (onAnswer (planOf pl n skip room) (run k) i m l r st)
+      hit : ToldWith k → i < n → (r : Option (List ℕ)) → Answers p holds n i r → Told i m l (onAnswer (planOf pl n false skip room) (run k) i m l (plainly r) st)
       hit ih lt none a = unmatched lt a (ih (suc i) m l st (omega arith))
       hit ih lt (some path) a = fit ih lt path a (on path) refl (room m l (labels pl path)) refl
 
-      go : ToldWith k → (b : Bool) → ltb i n ≡ b → Told i m l (below b st (λ _. onAnswer (planOf pl n skip room) (run k) i m l (plainFrom holds n (places (unroll p)) i) st))
+      go : ToldWith k → (b : Bool) → ltb i n ≡ b → Told i m l (below b (ended done st) (λ _. onAnswer (planOf pl n false skip room) (run k) i m l (plainly (plainFrom holds n (places (unroll p)) i)) st))
       go ih false e = finished (ltb-false i n e)
       go ih true e = hit ih (ltb-true i n e) (plainFrom holds n (places (unroll p)) i) (preferred p g o holds n i)
 
   -- the matches written, and the one at which the search stops, are the greatest derivations at their starts, and no start is left out
-  pub walk-reports : Reports p holds n skip room 0 0 0 (shown pl (walkSearch holds n pl skip room .matches)) (shownEnd pl (walkSearch holds n pl skip room .end))
+  pub plain-reports : Reports p holds n skip room 0 0 0 (shown pl (plainSearch holds n pl skip room .matches)) (shownEnd pl (plainSearch holds n pl skip room .end))
   unfolding plainSearch
+  plain-reports = swept n 0 0 0 tt (omega arith)
+
+  pub walk-reports : Reports p holds n skip room 0 0 0 (shown pl (walkSearch (whole n) holds n pl skip room .matches)) (shownEnd pl (walkSearch (whole n) holds n pl skip room .end))
   walk-reports =
       let a = walk-plain (unroll p) (legal-unroll p g) holds n skip room in
-      rw (a .matches, a .end) (swept n 0 0 0 tt (omega arith))
+      rw (a .matches, a .end) plain-reports
 
 -- ---- and there is one such report at most
 

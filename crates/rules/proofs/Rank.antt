@@ -3,7 +3,7 @@ use mathlib.Core.Path.{_≡_, refl, ap, sym, _∙_}
 use mathlib.Core.List.{List, [], _∷_, _++_, map, append-assoc}
 use mathlib.Core.Bool.{Bool, true, false, not, _&&_}
 use Prim.Native.Nat.{ℕ, zero, suc, _+_, _-_, _*_, _/_, _%_, _≤_, _<_, max, suc-le-suc}
-use native.Mathlib.Nat.{add-zero, mod-lt, le-of-suc-le-suc, not-suc-le-zero, div-lt-iff-lt-mul, mul-comm}
+use native.Mathlib.Nat.{le-trans, add-zero, mod-lt, le-of-suc-le-suc, not-suc-le-zero, div-lt-iff-lt-mul, mul-comm}
 use native.Mathlib.Numerals.{add-one}
 use native.Mathlib.Omega.{arith}
 use lib.ListN.{length, getD, drop, length-append}
@@ -232,7 +232,8 @@ module _ (t : Unrolled) (g : legal t ≡ true) where
       last : getD (levelsIn t) (size t) 0 ≡ 0
       last = getD-at (levels t 0) 0 [] 0 (size t) (levels-length t 0)
 
-  module _ (holds : ℕ → ℕ → Bool) (n : ℕ) where
+  -- over n rows, where pairs are counted for L rows, at least as many
+  module _ (holds : ℕ → ℕ → Bool) (n L : ℕ) (le : n ≤ L) where
     -- a way without a row
     rank-level : (i k m : ℕ) → k < suc (size t) → getD (levelsIn t) k 0 < m → rank t n (i * suc (size t) + k) < (n - i) * suc (size t) + m
     unfolding rank
@@ -245,18 +246,18 @@ module _ (t : Unrolled) (g : legal t ≡ true) where
         let d : n - i ≡ suc (n - suc i) = omega arith in
         rw (digits-div (suc i) h, digits-mod (suc i) h, d) (omega (arith, level-bound k))
 
-    pair-below : (i k : ℕ) → k < suc (size t) → i ≤ n → i * suc (size t) + k < suc (size t) * suc n
-    pair-below i k h l = rw (mul-comm (suc (size t)) (suc n)) (digits-lt (suc-le-suc l) h)
+    pair-below : (i k : ℕ) → k < suc (size t) → i ≤ L → i * suc (size t) + k < suc (size t) * suc L
+    pair-below i k h l = rw (mul-comm (suc (size t)) (suc L)) (digits-lt (suc-le-suc l) h)
 
     abbrev Falling : ℕ → ℕ → Ways → Type 0
     Falling i m accept = Unit {0}
-    Falling i m (try ys) = All (λ y. (rank t n y < (n - i) * suc (size t) + m) × (i ≤ n → y < suc (size t) * suc n)) ys
+    Falling i m (try ys) = All (λ y. (rank t n y < (n - i) * suc (size t) + m) × (i ≤ L → y < suc (size t) * suc L)) ys
 
     fork-falls : (i m : ℕ) (ks : List ℕ) → All (Target (levelsIn t) (suc (size t)) m) ks → Falling i m (try (map (λ k. i * suc (size t) + k) ks))
     fork-falls i m [] a = tt
     fork-falls i m (k ∷ ks) a = ((rank-level i k m (a .0 .0) (a .0 .1), λ l. pair-below i k (a .0 .0) l), fork-falls i m ks (a .1))
 
-    pass-falls : (i m y : ℕ) (c : Bool) → (c ≡ true → (rank t n y < (n - i) * suc (size t) + m) × (i ≤ n → y < suc (size t) * suc n)) → Falling i m (passIf c y)
+    pass-falls : (i m y : ℕ) (c : Bool) → (c ≡ true → (rank t n y < (n - i) * suc (size t) + m) × (i ≤ L → y < suc (size t) * suc L)) → Falling i m (passIf c y)
     pass-falls i m y true h = (h refl, tt)
     pass-falls i m y false h = tt
 
@@ -264,24 +265,24 @@ module _ (t : Unrolled) (g : legal t ≡ true) where
     unfolding waysAt
     at-falls i m (pLetter c k) a =
         pass-falls i m (suc i * suc (size t) + k) (ltb i n && holds c i)
-        (λ e. let l = ltb-true i n (and-true (ltb i n) (holds c i) e .0) in (rank-row i k m a l, λ h. pair-below (suc i) k a l))
+        (λ e. let l = ltb-true i n (and-true (ltb i n) (holds c i) e .0) in (rank-row i k m a l, λ h. pair-below (suc i) k a (le-trans l le)))
     at-falls i m (pCaret k) a = pass-falls i m (i * suc (size t) + k) (eqb i 0) (λ e. (rank-level i k m (a .0) (a .1), λ l. pair-below i k (a .0) l))
     at-falls i m (pDollar k) a = pass-falls i m (i * suc (size t) + k) (eqb i n) (λ e. (rank-level i k m (a .0) (a .1), λ l. pair-below i k (a .0) l))
     at-falls i m (pFork ks) a = fork-falls i m ks a
     at-falls i m pEnd a = tt
 
-    position-le : (x : ℕ) → x < suc (size t) * suc n → x / suc (size t) ≤ n
+    position-le : (x : ℕ) → x < suc (size t) * suc L → x / suc (size t) ≤ L
     position-le x h = le-of-suc-le-suc (div-lt-iff-lt-mul (omega arith) .1 (rw mul-comm at h))
 
-    pub pattern-falls : Falls (pairWays holds n (places t)) (rank t n) (suc (size t) * suc n)
+    pub pattern-falls : Falls (pairWays holds n (places t)) (rank t n) (suc (size t) * suc L)
     unfolding pairWays rank
     pattern-falls x ys e =
         let P : ℕ = suc (size t) in
         let q : x % P < length (places t) = rw (places-length t) (mod-lt x (omega arith)) in
         let ed = edges-at (levelsIn t) P (levelsIn t) (places t) places-edges (x % P) q (pFork []) in
         let f : Falling (x / P) (getD (levelsIn t) (x % P) 0) (try ys) = rw (rw (places-length t) at e) at (at-falls (x / P) (getD (levelsIn t) (x % P) 0) (getD (places t) (x % P) (pFork [])) ed) in
-        All-map (λ y (r : (rank t n y < (n - x / P) * P + getD (levelsIn t) (x % P) 0) × (x / P ≤ n → y < P * suc n)). (r .0, λ h. r .1 (position-le x h))) ys f
+        All-map (λ y (r : (rank t n y < (n - x / P) * P + getD (levelsIn t) (x % P) 0) × (x / P ≤ L → y < P * suc L)). (r .0, λ h. r .1 (position-le x h))) ys f
 
-    pub pattern-top : (x : ℕ) → rank t n x < suc (size t) * suc n
+    pub pattern-top : (x : ℕ) → rank t n x < suc (size t) * suc L
     unfolding rank
-    pattern-top x = rw (mul-comm (suc (size t)) (suc n)) (digits-lt (omega arith) (level-bound (x % suc (size t))))
+    pattern-top x = rw (mul-comm (suc (size t)) (suc L)) (digits-lt (omega arith) (level-bound (x % suc (size t))))

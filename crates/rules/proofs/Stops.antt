@@ -1,5 +1,5 @@
--- Where a text is wrong (request R-1). The readers stop where the definitions of specs/Language say: `wrong-exactly` and `unfinished-exactly`; the tests
--- for answers 5 and 14 exclude each other, and one of them is true exactly if the text has no tree (`wrong-or-unfinished`, `tree-there`); and so a search
+-- Where a text is wrong (request R-1). The readers stop where the definitions of specs/Language say: `wrong-exactly` and `incomplete-exactly`; the tests
+-- for answers 5 and 14 exclude each other, and one of them is true exactly if the text has no tree (`wrong-or-incomplete`, `tree-there`); and so a search
 -- that answers 5 or 14 tells where the query's text is wrong or that it could go on (`answered-5`, `answered-14`).
 use mathlib.Core.Path.{_≡_, refl, sym, ap, _∙_, subst}
 use mathlib.Core.Bool.{Bool, true, false, _&&_, _||_, true≢false, and-eq-true-iff}
@@ -17,7 +17,7 @@ use Rattle.rules.specs.Basics.{pick}
 use Rattle.rules.specs.Language.{Tree, pattern, Written, Begins, WrongAt, Unfinished}
 use Rattle.rules.specs.Reader.{Reading, got, bad, left, skip, read, depth, rankOf, whole, treeOf, stopOf}
 use Rattle.rules.specs.Query.{textOf}
-use Rattle.rules.specs.Answers.{noTree, wrong, unfinished, offsetAt, badRows, Buffers, shortNotes, shortTrail, endAnswer, Test, queryTests, refusal, answerBy, refuses, refused, walkOf, answerOf, searchOf}
+use Rattle.rules.specs.Answers.{noTree, wrong, incomplete, offsetAt, badRows, Buffers, shortNotes, shortTrail, endAnswer, Test, queryTests, refusal, answerBy, refuses, refused, walkWithin, answerWithin, searchWithin}
 use Rattle.rules.proofs.GrammarSound.{read-begins, found-written}
 use Rattle.rules.proofs.GrammarComplete.{written-found}
 use Rattle.rules.proofs.Depth.{skip-shorter, read-enough, tree-by-depth}
@@ -168,17 +168,17 @@ wrong-exactly text k = (there, back)
         (rw (n, lt-ltb (stopOf text) (length text) l) refl, q)
 
 -- Answer 14: the text ends but could go on exactly if the test is true
-pub unfinished-exactly : (text : List ℕ) → (unfinished text ≡ true) ↔ Unfinished text
-unfolding unfinished
-unfinished-exactly text = (there, back)
+pub incomplete-exactly : (text : List ℕ) → (incomplete text ≡ true) ↔ Unfinished text
+unfolding incomplete
+incomplete-exactly text = (there, back)
   where
-    there : unfinished text ≡ true → Unfinished text
+    there : incomplete text ≡ true → Unfinished text
     there h =
         let t = (and-eq-true-iff (noTree (treeOf text)) (eqb (stopOf text) (length text))) .0 h in
         let l = eqb-true (stopOf text) (length text) (t .1) in
         record { begins = subst Begins (take-length text) (stop-begins text (length text) (omega arith)); outside = not-written text (t .0) }
 
-    back : Unfinished text → unfinished text ≡ true
+    back : Unfinished text → incomplete text ≡ true
     back h =
         let a : stopOf text < length text → ⊥ = λ l. stop-ends text l
         (begins-front (take (stopOf text + 1) text) (drop (stopOf text + 1) text) (subst Begins (sym (take-append-drop (stopOf text + 1) text)) (h .begins))) in
@@ -186,35 +186,35 @@ unfinished-exactly text = (there, back)
         rw (no-tree-of text (h .outside), eq-eqb (stopOf text) (length text) q) refl
 
 -- they exclude each other, and one of them is true exactly if the text has no tree
-pub wrong-or-unfinished : (text : List ℕ) → wrong text ≡ true → unfinished text ≡ true → ⊥
-unfolding wrong unfinished
-wrong-or-unfinished text a b =
+pub wrong-or-incomplete : (text : List ℕ) → wrong text ≡ true → incomplete text ≡ true → ⊥
+unfolding wrong incomplete
+wrong-or-incomplete text a b =
     let l = ltb-true (stopOf text) (length text) (((and-eq-true-iff (noTree (treeOf text)) (ltb (stopOf text) (length text))) .0 a) .1) in
     let e = eqb-true (stopOf text) (length text) (((and-eq-true-iff (noTree (treeOf text)) (eqb (stopOf text) (length text))) .0 b) .1) in
     omega arith
 
-pub tree-there : (text : List ℕ) → wrong text ≡ false → unfinished text ≡ false → noTree (treeOf text) ≡ false
-unfolding wrong unfinished
+pub tree-there : (text : List ℕ) → wrong text ≡ false → incomplete text ≡ false → noTree (treeOf text) ≡ false
+unfolding wrong incomplete
 tree-there text a b = go (noTree (treeOf text)) a b
   where
     go : (t : Bool) → (t && ltb (stopOf text) (length text)) ≡ false → (t && eqb (stopOf text) (length text)) ≡ false → t ≡ false
     go false c d = refl
     go true c d = absurd (eqb-false (stopOf text) (length text) d (let l = ltb-false (stopOf text) (length text) c in let k = stop-inside text in omega arith))
 
--- ---- what a search tells
+-- ---- what a search tells, within an allowance of steps or without one
 
-module _ (q : List ℕ) (rows : List ℤ) (lent : Buffers) where
+module _ (a : Option ℕ) (q : List ℕ) (rows : List ℤ) (lent : Buffers) where
   -- the tests of all refusals, in their order
   abbrev tests : List Test
   tests = queryTests q ++ ((10, badRows q rows) ∷ (11, shortNotes q rows lent) ∷ (12, shortTrail q rows lent) ∷ [])
 
   -- an answer that refuses is none of the search's end
-  refusal-is : (a : ℕ) → refuses a ≡ true → answerOf q rows lent ≡ a → refusal q rows lent ≡ a
-  unfolding answerOf answerBy
-  refusal-is a t e = go (eqb (refusal q rows lent) 0) e
+  refusal-is : (k : ℕ) → refuses k ≡ true → answerWithin a q rows lent ≡ k → refusal q rows lent ≡ k
+  unfolding answerWithin answerBy
+  refusal-is k t e = go (eqb (refusal q rows lent) 0) e
     where
-      go : (b : Bool) → pick b (endAnswer (walkOf q rows lent .end)) (refusal q rows lent) ≡ a → refusal q rows lent ≡ a
-      go true d = absurd (true≢false (sym t ∙ ap refuses (sym d) ∙ end-accepted (walkOf q rows lent .end)))
+      go : (b : Bool) → pick b (endAnswer (walkWithin a q rows lent .end)) (refusal q rows lent) ≡ k → refusal q rows lent ≡ k
+      go true d = absurd (true≢false (sym t ∙ ap refuses (sym d) ∙ end-accepted (walkWithin a q rows lent .end)))
       go false d = d
 
   only-left : (b : Bool) → (b || false) ≡ true → b ≡ true
@@ -222,21 +222,21 @@ module _ (q : List ℕ) (rows : List ℤ) (lent : Buffers) where
   only-left false e = e
 
   -- the offset that a refusal returns
-  offset-is : (a : ℕ) → refuses a ≡ true → answerOf q rows lent ≡ a → searchOf q rows lent .result .offset ≡ offsetAt (textOf q) a
-  unfolding searchOf refused
-  offset-is a t e = rw (e, t) refl
+  offset-is : (k : ℕ) → refuses k ≡ true → answerWithin a q rows lent ≡ k → searchWithin a q rows lent .result .offset ≡ offsetAt (textOf q) k
+  unfolding searchWithin refused
+  offset-is k t e = rw (e, t) refl
 
   -- answer 5: the query's text is wrong at the offset returned
-  pub answered-5 : answerOf q rows lent ≡ 5 → WrongAt (textOf q) (searchOf q rows lent .result .offset)
+  pub answered-5 : answerWithin a q rows lent ≡ 5 → WrongAt (textOf q) (searchWithin a q rows lent .result .offset)
   unfolding refusal queryTests applies refuses offsetAt
   answered-5 e =
       let t : wrong (textOf q) ≡ true = only-left (wrong (textOf q)) (given-applies tests 5 (λ z. omega arith) (refusal-is 5 refl e)) in
-      wrong-exactly (textOf q) (searchOf q rows lent .result .offset) .0 (t, sym (offset-is 5 refl e))
+      wrong-exactly (textOf q) (searchWithin a q rows lent .result .offset) .0 (t, sym (offset-is 5 refl e))
 
   -- answer 14: it could go on, and its length is returned
-  pub answered-14 : answerOf q rows lent ≡ 14 → Unfinished (textOf q) × (searchOf q rows lent .result .offset ≡ length (textOf q))
-  unfolding refusal queryTests applies refuses offsetAt unfinished
+  pub answered-14 : answerWithin a q rows lent ≡ 14 → Unfinished (textOf q) × (searchWithin a q rows lent .result .offset ≡ length (textOf q))
+  unfolding refusal queryTests applies refuses offsetAt incomplete
   answered-14 e =
-      let t : unfinished (textOf q) ≡ true = only-left (unfinished (textOf q)) (given-applies tests 14 (λ z. omega arith) (refusal-is 14 refl e)) in
+      let t : incomplete (textOf q) ≡ true = only-left (incomplete (textOf q)) (given-applies tests 14 (λ z. omega arith) (refusal-is 14 refl e)) in
       let s = (and-eq-true-iff (noTree (treeOf (textOf q))) (eqb (stopOf (textOf q)) (length (textOf q)))) .0 t in
-      (unfinished-exactly (textOf q) .0 t, offset-is 14 refl e ∙ eqb-true (stopOf (textOf q)) (length (textOf q)) (s .1))
+      (incomplete-exactly (textOf q) .0 t, offset-is 14 refl e ∙ eqb-true (stopOf (textOf q)) (length (textOf q)) (s .1))

@@ -11,7 +11,7 @@ use native.Mathlib.Omega.{arith}
 use Rattle.rules.specs.Basics.{pick, bytes}
 use Rattle.rules.specs.Language.{star, plus, opt, between, Tree, pattern, one, more, last, next, bare, times, letter, caret, empty, group, Token, aLetter, aCaret, aDollar, opening, closing, aBar, aMark, tokens, spell, letterFirst, Written}
 use Rattle.rules.specs.Reader.{treeOf}
-use Rattle.rules.specs.Answers.{deep, wrong, unfinished, offsetAt, hasEmptyLoop, tooMany}
+use Rattle.rules.specs.Answers.{deep, wrong, incomplete, offsetAt, hasEmptyLoop, tooMany}
 use Rattle.rules.proofs.Grammar.{tree-exactly, outside-exactly}
 
 infix 5 _⇒_
@@ -214,9 +214,9 @@ trees-hold = refl
 
 -- the first of answers 4, 5, 14, 6 and 7 that applies to a text, else 0
 unfoldable pub answerOf : List ℕ → ℕ
-unfolding deep wrong unfinished hasEmptyLoop tooMany treeOf
+unfolding deep wrong incomplete hasEmptyLoop tooMany treeOf
 answerOf s =
-    pick (deep 0 0 s) 4 (pick (wrong s) 5 (pick (unfinished s) 14 (pick (hasEmptyLoop (treeOf s)) 6 (pick (tooMany (treeOf s)) 7 0))))
+    pick (deep 0 0 s) 4 (pick (wrong s) 5 (pick (incomplete s) 14 (pick (hasEmptyLoop (treeOf s)) 6 (pick (tooMany (treeOf s)) 7 0))))
 
 unfoldable pub answerTable : List (String × ℕ)
 answerTable =

@@ -1,4 +1,5 @@
--- The counted walk over any graph: what it keeps, and that its steps are the pairs that failed and those of the path found.
+-- The counted walk over any graph, whatever may halt it: what it keeps, and that its steps are the pairs that failed, those of the path found, and those
+-- still open where it halts.
 use mathlib.Core.Path.{_≡_, refl, ap, sym, _∙_}
 use mathlib.Core.List.{List, [], _∷_, _++_, List·Memᴰ, List·Memᴰ·head, List·Memᴰ·tail}
 use mathlib.Core.Bool.{Bool, true, false, true≢false, false≢true}
@@ -8,7 +9,7 @@ use native.Mathlib.Nat.{le-trans, le-of-suc-le-suc, not-suc-le-zero}
 use native.Mathlib.Omega.{arith}
 use lib.ListN.{length, getD, set, length-set}
 use lib.Seq.{getD-set-same, getD-set-other}
-use Rattle.rules.specs.Walk.{Ways, accept, try, Outcome, found, failed, orElse, close, enterUnless, tries, inside, insideBy, countTrue}
+use Rattle.rules.specs.Walk.{Ways, accept, try, Halting, Outcome, found, failed, halted, orElse, close, enterUnless, tries, inside, insideBy, countTrue}
 use Rattle.rules.specs.Working.{All, In, Out, Rising, Falls}
 
 pub All-map : {P Q : ℕ → Type 0} → ((y : ℕ) → P y → Q y) → (ys : List ℕ) → All P ys → All Q ys
@@ -144,19 +145,23 @@ pub record InsideFound (ρ : ℕ → ℕ) (F : List Bool) (s x : ℕ) (p : List 
   pub off : All (Out F′) p
   pub sum : suc (s′ + countTrue F) ≡ s + countTrue F′ + length p
 
+-- what a halt leaves, p being the pairs still open, is what a path found would
 abbrev pub TriesPost : (ℕ → ℕ) → ℕ → List Bool → ℕ → List ℕ → Outcome → Type 0
 TriesPost ρ b F s ys (found p F′ s′) = TriesFound ρ b F s p F′ s′
 TriesPost ρ b F s ys (failed F′ s′) = TriesDead ρ b F s ys F′ s′
+TriesPost ρ b F s ys (halted h p F′ s′) = TriesFound ρ b F s p F′ s′
 
 abbrev pub InsidePost : (ℕ → ℕ) → List Bool → ℕ → ℕ → Outcome → Type 0
 InsidePost ρ F s x (found p F′ s′) = InsideFound ρ F s x p F′ s′
 InsidePost ρ F s x (failed F′ s′) = InsideDead ρ F s x F′ s′
+InsidePost ρ F s x (halted h p F′ s′) = InsideFound ρ F s x p F′ s′
 
 module _ (ρ : ℕ → ℕ) (b : ℕ) (F : List Bool) (s y : ℕ) (ys : List ℕ) where
   -- the first pair had failed before
   skipped : (r : Outcome) → In F y → TriesPost ρ b F s ys r → TriesPost ρ b F s (y ∷ ys) r
   skipped (found p F′ s′) i t = t
   skipped (failed F′ s′) i t = record { grew = t .grew; all = (t .grew .keeps y i, t .all); sum = t .sum }
+  skipped (halted h p F′ s′) i t = t
 
   -- the first pair has failed now
   after : (F₁ : List Bool) (s₁ : ℕ) → ρ y < b → InsideDead ρ F (suc s) y F₁ s₁ → (r : Outcome) → TriesPost ρ b F₁ s₁ ys r → TriesPost ρ b F s (y ∷ ys) r
@@ -164,29 +169,33 @@ module _ (ρ : ℕ → ℕ) (b : ℕ) (F : List Bool) (s y : ℕ) (ys : List ℕ
       record { grew = grew-trans ρ _ _ b F F₁ F′ h (omega arith) (d .grew) (t .grew); off = t .off; sum = omega arith }
   after F₁ s₁ h d (failed F′ s′) t =
       record { grew = grew-trans ρ _ _ b F F₁ F′ h (omega arith) (d .grew) (t .grew); all = (t .grew .keeps y (d .it), t .all); sum = omega arith }
+  after F₁ s₁ h d (halted w p F′ s′) t =
+      record { grew = grew-trans ρ _ _ b F F₁ F′ h (omega arith) (d .grew) (t .grew); off = t .off; sum = omega arith }
 
-module _ (ways : ℕ → Ways) (ρ : ℕ → ℕ) (N : ℕ) where
+module _ (h : Halting) (ways : ℕ → Ways) (ρ : ℕ → ℕ) (N : ℕ) where
   abbrev pub InsideAt : ℕ → Type 0
-  InsideAt k = (F : List Bool) (s y : ℕ) → ρ y < k → y < N → length F ≡ N → Out F y → InsidePost ρ F s y (inside ways k F s y)
+  InsideAt k = (F : List Bool) (s y : ℕ) → ρ y < k → y < N → length F ≡ N → Out F y → InsidePost ρ F s y (inside h ways k F s y)
 
   -- one more pair to try
   tries-cons : (k : ℕ) → InsideAt k → (b : ℕ) → b ≤ k → (F : List Bool) (s y : ℕ) (ys : List ℕ) → length F ≡ N → ρ y < b → y < N
-      → ((F′ : List Bool) (s′ : ℕ) → length F′ ≡ N → TriesPost ρ b F′ s′ ys (tries (inside ways k) F′ s′ ys))
-      → (t : Bool) → getD F y false ≡ t
-      → TriesPost ρ b F s (y ∷ ys) (orElse (enterUnless t (inside ways k) F s y) (λ F′ s′. tries (inside ways k) F′ s′ ys))
-  tries-cons k ih b hb F s y ys len hy lt rest true e = skipped ρ b F s y ys (tries (inside ways k) F s ys) e (rest F s len)
-  tries-cons k ih b hb F s y ys len hy lt rest false e = go (inside ways k F (suc s) y) (ih F (suc s) y (le-trans hy hb) lt len e)
+      → ((F′ : List Bool) (s′ : ℕ) → length F′ ≡ N → TriesPost ρ b F′ s′ ys (tries h (inside h ways k) F′ s′ ys))
+      → (t : Bool) → getD F y false ≡ t → (u : Bool)
+      → TriesPost ρ b F s (y ∷ ys) (orElse (enterUnless t u (inside h ways k) F s y) (λ F′ s′. tries h (inside h ways k) F′ s′ ys))
+  tries-cons k ih b hb F s y ys len hy lt rest true e u = skipped ρ b F s y ys (tries h (inside h ways k) F s ys) e (rest F s len)
+  tries-cons k ih b hb F s y ys len hy lt rest false e true = record { grew = grew-refl ρ b F; off = tt; sum = omega arith }
+  tries-cons k ih b hb F s y ys len hy lt rest false e false = go (inside h ways k F (suc s) y) (ih F (suc s) y (le-trans hy hb) lt len e)
     where
-      go : (r : Outcome) → InsidePost ρ F (suc s) y r → TriesPost ρ b F s (y ∷ ys) (orElse r (λ F′ s′. tries (inside ways k) F′ s′ ys))
+      go : (r : Outcome) → InsidePost ρ F (suc s) y r → TriesPost ρ b F s (y ∷ ys) (orElse r (λ F′ s′. tries h (inside h ways k) F′ s′ ys))
       go (found p F′ s′) d = record { grew = grew-trans ρ _ _ b F F F′ hy (omega arith) (grew-refl ρ _ F) (d .grew); off = d .off; sum = omega arith }
-      go (failed F′ s′) d = after ρ b F s y ys F′ s′ hy d (tries (inside ways k) F′ s′ ys) (rest F′ s′ (d .grew .len ∙ len))
+      go (failed F′ s′) d = after ρ b F s y ys F′ s′ hy d (tries h (inside h ways k) F′ s′ ys) (rest F′ s′ (d .grew .len ∙ len))
+      go (halted w p F′ s′) d = record { grew = grew-trans ρ _ _ b F F F′ hy (omega arith) (grew-refl ρ _ F) (d .grew); off = d .off; sum = omega arith }
 
   tries-post : (k : ℕ) → InsideAt k → (b : ℕ) → b ≤ k → (ys : List ℕ) → All (λ y. (ρ y < b) × (y < N)) ys
-      → (F : List Bool) (s : ℕ) → length F ≡ N → TriesPost ρ b F s ys (tries (inside ways k) F s ys)
+      → (F : List Bool) (s : ℕ) → length F ≡ N → TriesPost ρ b F s ys (tries h (inside h ways k) F s ys)
   unfolding tries
   tries-post k ih b hb [] a F s len = record { grew = grew-refl ρ b F; all = tt; sum = refl }
   tries-post k ih b hb (y ∷ ys) a F s len =
-      tries-cons k ih b hb F s y ys len (a .0 .0) (a .0 .1) (λ F′ s′ l. tries-post k ih b hb ys (a .1) F′ s′ l) (getD F y false) refl
+      tries-cons k ih b hb F s y ys len (a .0 .0) (a .0 .1) (λ F′ s′ l. tries-post k ih b hb ys (a .1) F′ s′ l) (getD F y false) refl (h .spent s)
 
   -- a pair that is no failed one is none after its tries, since what fails there ranks below it
   still-out : (F F′ : List Bool) (x : ℕ) → Out F x → Grew ρ (ρ x) F F′ → Out F′ x
@@ -202,17 +211,20 @@ module _ (ways : ℕ → Ways) (ρ : ℕ → ℕ) (N : ℕ) where
         it = getD-set-same F′ x true false l;
         sum = omega (arith, t .sum, count-mark F′ x l (still-out F F′ x o (t .grew)));
       }
+  close-post F s x ys len lt o (halted w p F′ s′) t =
+      record { grew = t .grew; off = (still-out F F′ x o (t .grew), t .off); sum = omega arith }
 
-module _ (ways : ℕ → Ways) (ρ : ℕ → ℕ) (N : ℕ) (falls : Falls ways ρ N) where
-  pub inside-post : (k : ℕ) → InsideAt ways ρ N k
+module _ (h : Halting) (ways : ℕ → Ways) (ρ : ℕ → ℕ) (N : ℕ) (falls : Falls ways ρ N) where
+  pub inside-post : (k : ℕ) → InsideAt h ways ρ N k
   unfolding inside insideBy
   inside-post zero F s x hx lt len o = absurd (not-suc-le-zero hx)
-  inside-post (suc k) F s x hx lt len o = go (inside-post k) (ways x) refl
+  inside-post (suc k) F s x hx lt len o = go (inside-post k) (h .waits x) (ways x) refl
     where
-      go : InsideAt ways ρ N k → (w : Ways) → ways x ≡ w
-          → InsidePost ρ F s x (insideBy w (inside ways k) F s x)
-      go ih accept e = record { grew = grew-refl ρ (ρ x) F; off = (o, tt); sum = omega arith }
-      go ih (try ys) e =
-          close-post ways ρ N F s x ys len lt o (tries (inside ways k) F s ys)
-          (tries-post ways ρ N k ih (ρ x) (le-of-suc-le-suc hx) ys
+      go : InsideAt h ways ρ N k → (u : Bool) (w : Ways) → ways x ≡ w
+          → InsidePost ρ F s x (insideBy h u w (inside h ways k) F s x)
+      go ih true w e = record { grew = grew-refl ρ (ρ x) F; off = (o, tt); sum = omega arith }
+      go ih false accept e = record { grew = grew-refl ρ (ρ x) F; off = (o, tt); sum = omega arith }
+      go ih false (try ys) e =
+          close-post h ways ρ N F s x ys len lt o (tries h (inside h ways k) F s ys)
+          (tries-post h ways ρ N k ih (ρ x) (le-of-suc-le-suc hx) ys
           (All-map (λ y (r : (ρ y < ρ x) × (x < N → y < N)). (r .0, r .1 lt)) ys (falls x ys e)) F s len)

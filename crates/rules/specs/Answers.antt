@@ -13,8 +13,8 @@ use Rattle.rules.specs.Query.{cut, misplaced, unfit, doubled, columnsOf,
 use Rattle.rules.specs.Language.{Tree, pattern, emptyLoop, letters}
 use Rattle.rules.specs.Reader.{treeOf, stopOf}
 use Rattle.rules.specs.Places.{Place, unroll, places, placesOf}
-use Rattle.rules.specs.Walk.{pairs}
-use Rattle.rules.specs.Search.{Match, End, done, full, stuck, Skip, pastLast, toNext, toFirst, toLast, Swept, Kept, walkSearch, plainSearch}
+use Rattle.rules.specs.Walk.{pairs, Halt, outOfSteps, outOfRows}
+use Rattle.rules.specs.Search.{Match, End, done, full, stuck, unfinished, Terms, within, whole, Skip, pastLast, toNext, toFirst, toLast, Swept, Kept, walkSearch, plainSearch}
 use Rattle.rules.specs.Report.{numbersOf, labelsOf, fits, bytesFor, notesOf, zeros}
 
 -- ---- the pattern's answers
@@ -41,15 +41,15 @@ noTree none = true
 noTree (some t) = false
 
 -- Answer 5: it is so at some byte, after which no text of the language begins that way. Answer 14: it ends but could go on to a text of the language.
--- `wrong-exactly` and `unfinished-exactly` (proofs/Stops) say that the tests are true exactly if the text is `WrongAt` some byte, which is then `stopOf`
+-- `wrong-exactly` and `incomplete-exactly` (proofs/Stops) say that the tests are true exactly if the text is `WrongAt` some byte, which is then `stopOf`
 -- the text, or `Unfinished` (specs/Language).
 unfoldable pub wrong : List ℕ → Bool
 unfolding noTree treeOf stopOf
 wrong text = noTree (treeOf text) && ltb (stopOf text) (length text)
 
-unfoldable pub unfinished : List ℕ → Bool
+unfoldable pub incomplete : List ℕ → Bool
 unfolding noTree treeOf stopOf
-unfinished text = noTree (treeOf text) && eqb (stopOf text) (length text)
+incomplete text = noTree (treeOf text) && eqb (stopOf text) (length text)
 
 -- the offset that an answer returns with it: 5 that byte's, 14 the text's length, any other 0
 unfoldable pub offsetAt : List ℕ → ℕ → ℕ
@@ -128,10 +128,14 @@ unfoldable pub letterHolds : Task → ℕ → ℕ → Bool
 unfolding holds
 letterHolds t c i = holds (t .table) i (t .comparisons c)
 
--- the search by the counted walk, and by plain backtracking, for so many report numbers and label bytes
-unfoldable pub walked : Task → ℕ → ℕ → Swept Kept
+-- the search by the counted walk on these terms, on document 01's, and by plain backtracking, for so many report numbers and label bytes
+unfoldable pub walkedOn : Terms → Task → ℕ → ℕ → Swept Kept
 unfolding walkSearch letterHolds fits
-walked t nums labs = walkSearch (letterHolds t) (t .table .n) (t .places) (t .skip) (fits nums labs (t .measures))
+walkedOn terms t nums labs = walkSearch terms (letterHolds t) (t .table .n) (t .places) (t .skip) (fits nums labs (t .measures))
+
+unfoldable pub walked : Task → ℕ → ℕ → Swept Kept
+unfolding walkedOn
+walked t nums labs = walkedOn (whole (t .table .n)) t nums labs
 
 unfoldable pub backtracked : Task → ℕ → ℕ → Swept (Unit {0})
 unfolding plainSearch letterHolds fits
@@ -161,11 +165,18 @@ unfolding pairsOf
 shortTrail q rows lent = ltb (length (lent .trail)) (pairsOf q rows)
 
 -- The answer of an accepted search, by its end: 0 done; 13 stopped, since the next match does not fit whole in numbers or labels; 15 stopped, since
--- the match written last names no start to go on at.
+-- the match written last names no start to go on at; 16 halted just before the entry that would pass the allowance of steps; 23 halted where a row is
+-- asked for that is not yet present.
+unfoldable pub haltAnswer : Halt → ℕ
+haltAnswer outOfSteps = 16
+haltAnswer outOfRows = 23
+
 unfoldable pub endAnswer : End Match → ℕ
+unfolding haltAnswer
 endAnswer done = 0
 endAnswer (full m) = 13
 endAnswer stuck = 15
+endAnswer (unfinished h i p) = haltAnswer h
 
 unfoldable pub stopped : {S : Type 0} → Swept S → Bool
 unfolding endAnswer
@@ -181,14 +192,14 @@ firstOf (t ∷ ts) = pick (t .1) (t .0) (firstOf ts)
 
 -- the tests that ask the query alone, in their order: 5 and 14 exclude each other and stand where 5 stood
 unfoldable pub queryTests : List ℕ → List Test
-unfolding cut misplaced unfit tooDeep treeIn wrong unfinished hasEmptyLoop tooMany doubled foreign
+unfolding cut misplaced unfit tooDeep treeIn wrong incomplete hasEmptyLoop tooMany doubled foreign
 queryTests q =
     (1, cut q)
     ∷ (2, misplaced q)
     ∷ (3, unfit q)
     ∷ (4, tooDeep q)
     ∷ (5, wrong (textOf q))
-    ∷ (14, unfinished (textOf q))
+    ∷ (14, incomplete (textOf q))
     ∷ (6, hasEmptyLoop (treeIn q))
     ∷ (7, tooMany (treeIn q))
     ∷ (8, doubled q)
@@ -205,9 +216,9 @@ unfoldable pub answerBy : {S : Type 0} → List ℕ → List ℤ → Buffers →
 unfolding refusal endAnswer
 answerBy q rows lent r = pick (eqb (refusal q rows lent) 0) (endAnswer (r .end)) (refusal q rows lent)
 
--- an answer accepts a search that ends as done (0) or stopped (13 and 15), and refuses any other
+-- an answer accepts a search that ends as done (0), stopped (13 and 15) or halted (16 and 23), and refuses any other
 unfoldable pub refuses : ℕ → Bool
-refuses a = not (eqb a 0 || (eqb a 13 || eqb a 15))
+refuses a = not (eqb a 0 || (eqb a 13 || (eqb a 15 || (eqb a 16 || eqb a 23))))
 
 -- ---- the result and the buffers
 
@@ -246,7 +257,7 @@ pub record Memory : Type 0 where
 unfoldable pub refused : ℕ → ℕ → Buffers → Memory
 refused a k lent = record { result = record { answer = a; matches = 0; labels = 0; steps = 0; offset = k }; buffers = lent }
 
--- 0, 13 and 15 return the answer, the counts and the steps. The notes hold the failed pairs, the trail a 0 for each pair; beyond, both are unchanged.
+-- 0, 13, 15 and 16 return the answer, the counts and the steps. The notes hold the failed pairs, the trail a 0 for each pair; beyond, both are unchanged.
 unfoldable pub accepted : Report → Kept → Buffers → Memory
 unfolding notesOf zeros wrote
 accepted r kept lent =
@@ -260,34 +271,51 @@ accepted r kept lent =
       };
     }
 
--- the search that an input asks for, by the counted walk, and the same by plain backtracking
+-- the search that an input asks for, by the counted walk within an allowance of steps, without one, and the same by plain backtracking
+unfoldable pub walkWithin : Option ℕ → List ℕ → List ℤ → Buffers → Swept Kept
+unfolding taskOf walkedOn
+walkWithin a q rows lent = walkedOn (within a (taskOf q rows .table .n)) (taskOf q rows) (length (lent .numbers)) (length (lent .labels))
+
 unfoldable pub walkOf : List ℕ → List ℤ → Buffers → Swept Kept
-unfolding taskOf walked
-walkOf q rows lent = walked (taskOf q rows) (length (lent .numbers)) (length (lent .labels))
+unfolding walkWithin
+walkOf q rows lent = walkWithin none q rows lent
 
 unfoldable pub plainOf : List ℕ → List ℤ → Buffers → Swept (Unit {0})
 unfolding taskOf backtracked
 plainOf q rows lent = backtracked (taskOf q rows) (length (lent .numbers)) (length (lent .labels))
 
--- the answer to an input, and what it reports; and the report of the same search by plain backtracking
+-- the answer to an input, and what it reports; and the report of the same search by plain backtracking, which has no allowance
+unfoldable pub answerWithin : Option ℕ → List ℕ → List ℤ → Buffers → ℕ
+unfolding answerBy walkWithin
+answerWithin a q rows lent = answerBy q rows lent (walkWithin a q rows lent)
+
 unfoldable pub answerOf : List ℕ → List ℤ → Buffers → ℕ
-unfolding answerBy walkOf
-answerOf q rows lent = answerBy q rows lent (walkOf q rows lent)
+unfolding answerWithin
+answerOf q rows lent = answerWithin none q rows lent
+
+unfoldable pub reportWithin : Option ℕ → List ℕ → List ℤ → Buffers → Report
+unfolding reportOf answerWithin walkWithin taskOf
+reportWithin a q rows lent = reportOf (answerWithin a q rows lent) (taskOf q rows) lent (walkWithin a q rows lent)
 
 unfoldable pub walkReport : List ℕ → List ℤ → Buffers → Report
-unfolding reportOf answerOf walkOf taskOf
-walkReport q rows lent = reportOf (answerOf q rows lent) (taskOf q rows) lent (walkOf q rows lent)
+unfolding reportWithin
+walkReport q rows lent = reportWithin none q rows lent
 
 unfoldable pub plainReport : List ℕ → List ℤ → Buffers → Report
 unfolding reportOf answerBy plainOf taskOf
 plainReport q rows lent = reportOf (answerBy q rows lent (plainOf q rows lent)) (taskOf q rows) lent (plainOf q rows lent)
 
--- The search: from the query, the rows and the lent buffers to the result and the buffers as it leaves them.
+-- The search within an allowance of steps (R-13): from the query, the rows and the lent buffers to the result and the buffers as it leaves them.
+unfoldable pub searchWithin : Option ℕ → List ℕ → List ℤ → Buffers → Memory
+unfolding answerWithin refused offsetAt textOf accepted reportWithin walkWithin refuses
+searchWithin a q rows lent =
+    pick (refuses (answerWithin a q rows lent)) (refused (answerWithin a q rows lent) (offsetAt (textOf q) (answerWithin a q rows lent)) lent)
+    (accepted (reportWithin a q rows lent) (walkWithin a q rows lent .state) lent)
+
+-- The search of document 01, which has none.
 unfoldable pub searchOf : List ℕ → List ℤ → Buffers → Memory
-unfolding answerOf refused offsetAt textOf accepted walkReport walkOf refuses
-searchOf q rows lent =
-    pick (refuses (answerOf q rows lent)) (refused (answerOf q rows lent) (offsetAt (textOf q) (answerOf q rows lent)) lent)
-    (accepted (walkReport q rows lent) (walkOf q rows lent .state) lent)
+unfolding searchWithin
+searchOf q rows lent = searchWithin none q rows lent
 
 -- ---- how much to lend
 

@@ -1,5 +1,6 @@
 -- Words that every other file uses: choosing by a test, tests over lists, little-endian numbers, two's complement, and a list
 -- written into a buffer. None of them is a rule of document 01.
+use mathlib.Core.Path.{_≡_}
 use mathlib.Core.Bool.{Bool, true, false, _&&_, _||_}
 use mathlib.Core.List.{List, [], _∷_, _++_}
 use Prim.Native.Char.{code}
@@ -32,6 +33,10 @@ every f (x ∷ xs) = f x && every f xs
 unfoldable pub everyBelow : ℕ → (ℕ → Bool) → Bool
 everyBelow zero f = true
 everyBelow (suc n) f = everyBelow n f && f n
+
+-- the second list begins with the first
+abbrev pub Begins : {A : Type 0} → List A → List A → Type 0
+Begins {A} xs ys = (zs : List A) × (ys ≡ xs ++ zs)
 
 -- f 0, f 1, .. f (n - 1)
 unfoldable pub tabulate : {A : Type 0} → ℕ → (ℕ → A) → List A

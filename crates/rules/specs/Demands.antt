@@ -1,21 +1,22 @@
 -- The tender's demands 2 and 3 for an accepted search, in the words of the definitions. `demands` (proofs/Demands) proves them for every query, all rows
--- and all lent buffers with which a search is accepted, for every skip mode, whether it ends as done or stopped.
+-- and all lent buffers with which a search is accepted, for every skip mode and every allowance of steps, whether it ends as done, stopped or halted.
 use mathlib.Core.Path.{_≡_}
 use mathlib.Core.Bool.{true, false}
 use mathlib.Core.List.{List}
 use mathlib.Core.Logic.{_↔_}
-use mathlib.Core.Option.{some}
+use mathlib.Core.Option.{Option, none, some}
 use Prim.Native.Nat.{ℕ, _+_, _*_, _≤_, _<_}
 use lib.IntN.{ℤ}
 use lib.ListN.{length, getD}
+use Rattle.rules.specs.Basics.{Begins}
 use Rattle.rules.specs.Query.{textOf}
 use Rattle.rules.specs.Language.{Tree, pattern, Written}
 use Rattle.rules.specs.Readings.{Reads, SomeReading}
 use Rattle.rules.specs.Preferment.{Preferred, Reports}
-use Rattle.rules.specs.Walk.{pairs, pairWays, IsPath, countTrue}
-use Rattle.rules.specs.Search.{End, pastLast, Swept, Kept, labels, endOf, shown, shownEnd, foundIn, pathPairs, plainFrom}
+use Rattle.rules.specs.Walk.{outOfSteps, pairs, pairWays, IsPath, countTrue}
+use Rattle.rules.specs.Search.{End, unfinished, Finished, pastLast, Swept, Kept, labels, endOf, shown, shownEnd, foundIn, openOf, pathPairs, plainFrom}
 use Rattle.rules.specs.Report.{fits, bytesFor, bitAt}
-use Rattle.rules.specs.Answers.{Task, taskOf, letterHolds, Buffers, walkOf, plainOf, walkReport, plainReport, searchOf}
+use Rattle.rules.specs.Answers.{Task, taskOf, letterHolds, Buffers, walkWithin, plainOf, reportWithin, plainReport, searchWithin, searchOf}
 
 -- ---- demand 2
 
@@ -32,40 +33,61 @@ pub record Demand2 (p : Tree pattern) (t : Task) (nums labs : ℕ) (r : Swept Ke
   pub preferred : (i j : ℕ) (w : List ℕ) → MatchAt t i j w ↔ Preferred p (letterHolds t) (t .table .n) i j w
   -- and so a reading
   pub reads : (i j : ℕ) (w : List ℕ) → Preferred p (letterHolds t) (t .table .n) i j w → Reads p (letterHolds t) (t .table .n) i j w
-  -- the report holds the preferred matches at the starts that the skip mode lets us try, in order, each with its labels, up to the one that does not fit
-  -- or that names no next start
-  pub report : Reports p (letterHolds t) (t .table .n) (t .skip) (fits nums labs (t .measures)) 0 0 0 (shown (t .places) (r .matches)) (shownEnd (t .places) (r .end))
+  -- the matches that preferment gives: the preferred ones at the starts that the skip mode lets us try, in order, each with its labels, up to the one that
+  -- does not fit or that names no next start
+  pub all : List (ℕ × List ℕ)
+  pub last : End (ℕ × List ℕ)
+  pub report : Reports p (letterHolds t) (t .table .n) (t .skip) (fits nums labs (t .measures)) 0 0 0 all last
   -- and there is no other such report
   pub only : (ms : List (ℕ × List ℕ)) (end : End (ℕ × List ℕ)) → Reports p (letterHolds t) (t .table .n) (t .skip) (fits nums labs (t .measures)) 0 0 0 ms end
-      → (ms ≡ shown (t .places) (r .matches)) × (end ≡ shownEnd (t .places) (r .end))
+      → (ms ≡ all) × (end ≡ last)
+  -- the report holds exactly these, and ends so; one that is halted holds the first of them
+  pub holds-all : Finished (r .end) → (shown (t .places) (r .matches) ≡ all) × (shownEnd (t .places) (r .end) ≡ last)
+  pub holds-first : Begins (shown (t .places) (r .matches)) all
 
 -- ---- demand 3
 
--- for a task, the search r by the counted walk and b by plain backtracking
-pub record Demand3 (t : Task) (r : Swept Kept) (b : Swept (Unit {0})) : Type 0 where
+-- for a task, an account of the pairs of so many rows, the search r by the counted walk and b by plain backtracking
+pub record Demand3 (t : Task) (largest : ℕ) (r : Swept Kept) (b : Swept (Unit {0})) : Type 0 where
   -- with skip past last row the steps are at most 2P(n+1)
   pub bound : t .skip ≡ pastLast → r .state .1 ≤ 2 * pairs (length (t .places)) (t .table .n)
   -- in every skip mode they are at most P n (n+3) / 2
   pub bound-each : 2 * r .state .1 ≤ length (t .places) * (t .table .n * (t .table .n + 3))
-  -- the steps are the failed pairs plus the pairs on all paths found, path by path
-  pub sum : r .state .1 ≡ countTrue (r .state .0) + pathPairs (foundIn r)
+  -- the steps are the failed pairs plus the pairs on all paths found, path by path, plus the pairs still open where the walk has halted
+  pub sum : r .state .1 ≡ countTrue (r .state .0) + pathPairs (foundIn r) + length (openOf (r .end))
   -- from a failed pair there is no reading of the rest
   pub failed : (x : ℕ) → getD (r .state .0) x false ≡ true → (path : List ℕ) → IsPath (pairWays (letterHolds t) (t .table .n) (t .places)) x path → ⊥
   -- every pair is kept account of
-  pub pairs-kept : length (r .state .0) ≡ pairs (length (t .places)) (t .table .n)
-  -- the matches are those of plain backtracking, and so is the end
-  pub matches : r .matches ≡ b .matches
-  pub end : r .end ≡ b .end
+  pub pairs-kept : length (r .state .0) ≡ pairs (length (t .places)) largest
+  -- the matches and the end are those of plain backtracking; where the walk has halted, its matches are the first of them
+  pub like-all : Finished (r .end) → (r .matches ≡ b .matches) × (r .end ≡ b .end)
+  pub like-first : Begins (r .matches) (b .matches)
 
--- ---- both, for an input
+-- ---- both, for an input and an allowance of steps (none: any number)
 
-pub record Demands (q : List ℕ) (rows : List ℤ) (lent : Buffers) : Type 0 where
+pub record Demands (a : Option ℕ) (q : List ℕ) (rows : List ℤ) (lent : Buffers) : Type 0 where
   -- the pattern's one tree
   pub tree : Tree pattern
   pub written : Written tree (textOf q)
-  pub demand2 : Demand2 tree (taskOf q rows) (length (lent .numbers)) (length (lent .labels)) (walkOf q rows lent)
-  pub demand3 : Demand3 (taskOf q rows) (walkOf q rows lent) (plainOf q rows lent)
-  -- the answer, the counts and both report buffers are those of plain backtracking
-  pub like-plain : walkReport q rows lent ≡ plainReport q rows lent
+  pub demand2 : Demand2 tree (taskOf q rows) (length (lent .numbers)) (length (lent .labels)) (walkWithin a q rows lent)
+  pub demand3 : Demand3 (taskOf q rows) (taskOf q rows .table .n) (walkWithin a q rows lent) (plainOf q rows lent)
+  -- document 01's search does not halt
+  pub finished : a ≡ none → Finished (walkWithin a q rows lent .end)
+  -- where the walk has not halted, the answer, the counts and both report buffers are those of plain backtracking
+  pub like-plain : Finished (walkWithin a q rows lent .end) → reportWithin a q rows lent ≡ plainReport q rows lent
   -- the failed pairs are exactly those noted, and spare bits are 0
-  pub noted : (x : ℕ) → x < 8 * bytesFor (length (walkOf q rows lent .state .0)) → bitAt (searchOf q rows lent .buffers .notes) x ≡ getD (walkOf q rows lent .state .0) x false
+  pub noted : (x : ℕ) → x < 8 * bytesFor (length (walkWithin a q rows lent .state .0))
+      → bitAt (searchWithin a q rows lent .buffers .notes) x ≡ getD (walkWithin a q rows lent .state .0) x false
+
+-- ---- what an allowance does (R-13)
+
+pub record Allowing (q : List ℕ) (rows : List ℤ) (lent : Buffers) : Type 0 where
+  -- it is not passed, and where the search halts for it, it is used up
+  pub kept-to : (a : ℕ) → walkWithin (some a) q rows lent .state .1 ≤ a
+  pub used-up : (a i : ℕ) (p : List ℕ) → walkWithin (some a) q rows lent .end ≡ unfinished outOfSteps i p → walkWithin (some a) q rows lent .state .1 ≡ a
+  -- a run with a larger allowance begins with the same matches
+  pub larger : (a b : ℕ) → a ≤ b → Begins (walkWithin (some a) q rows lent .matches) (walkWithin (some b) q rows lent .matches)
+  -- an allowance that the search without one does not pass changes nothing
+  pub unpassed : (a : ℕ) → walkWithin none q rows lent .state .1 ≤ a → searchWithin (some a) q rows lent ≡ searchOf q rows lent
+  -- an allowance of 2P(n+1) is always enough with skip past last row
+  pub enough : taskOf q rows .skip ≡ pastLast → (a : ℕ) → 2 * pairs (length (taskOf q rows .places)) (taskOf q rows .table .n) ≤ a → searchWithin (some a) q rows lent ≡ searchOf q rows lent

@@ -2,15 +2,15 @@
 -- proofs/Samples.
 use mathlib.Core.Bool.{Bool, _&&_}
 use mathlib.Core.List.{List, [], _∷_, _++_}
-use mathlib.Core.Option.{none}
+use mathlib.Core.Option.{none, some}
 use Prim.Native.Nat.{ℕ}
 use Prim.Native.String.{String}
 use lib.Dec.{eqb}
 use lib.IntN.{ℤ, pos}
 use lib.ListN.{replicate}
 use Rattle.rules.specs.Basics.{bytes}
-use Rattle.rules.specs.Answers.{Buffers, searchOf}
-use Rattle.rules.specs.Bench.{recordOf, any, Line, at, line, unstepped, refusal, enough}
+use Rattle.rules.specs.Answers.{Buffers, searchWithin, searchOf}
+use Rattle.rules.specs.Bench.{recordOf, w1, X, any, Line, at, line, unstepped, refusal, enough}
 
 -- ---- R-2, skip to a labelled row
 
@@ -55,3 +55,45 @@ unfolding searchOf bytes
 fullFirst =
     let lent : Buffers = enough (asksTo "A" 2 65) (any 1) in
     eqb (searchOf (asksTo "A" 2 65) (any 1) (record { notes = lent .notes; trail = lent .trail; numbers = replicate 2 (pos 9); labels = lent .labels }) .result .answer) 13
+
+-- ---- R-13, an allowance of steps
+
+-- W1 takes 12 steps and finds its match with the eighth: an allowance, the answer, and the matches, labels and steps returned
+pub record Allowed : Type 0 where
+  pub allowance : ℕ
+  pub answer : ℕ
+  pub matches : ℕ
+  pub labels : ℕ
+  pub steps : ℕ
+
+abbrev pub allowed : ℕ → ℕ → ℕ → ℕ → ℕ → Allowed
+allowed a n m l s = record { allowance = a; answer = n; matches = m; labels = l; steps = s }
+
+unfoldable pub allowances : List Allowed
+allowances =
+    allowed 0 16 0 0 0
+    ∷ allowed 1 16 0 0 1
+    ∷ allowed 2 16 0 0 2
+    ∷ allowed 3 16 0 0 3
+    ∷ allowed 4 16 0 0 4
+    ∷ allowed 5 16 0 0 5
+    ∷ allowed 6 16 0 0 6
+    ∷ allowed 7 16 0 0 7
+    ∷ allowed 8 16 1 3 8
+    ∷ allowed 9 16 1 3 9
+    ∷ allowed 10 16 1 3 10
+    ∷ allowed 11 16 1 3 11
+    ∷ allowed 12 0 1 3 12
+    ∷ allowed 13 0 1 3 12
+    ∷ []
+
+unfoldable pub keepsTo : Allowed → Bool
+unfolding searchWithin w1
+keepsTo l =
+    let r = searchWithin (some (l .allowance)) w1 X (enough w1 X) .result in
+    eqb (r .answer) (l .answer) && (eqb (r .matches) (l .matches) && (eqb (r .labels) (l .labels) && eqb (r .steps) (l .steps)))
+
+-- an allowance of 0 is enough where there is no row
+unfoldable pub noRows : Bool
+unfolding searchWithin w1
+noRows = eqb (searchWithin (some 0) w1 [] (enough w1 []) .result .answer) 0

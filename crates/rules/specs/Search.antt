@@ -1,14 +1,14 @@
 -- Document 01, "Places and preferment", on starts: where attempts begin, how the search goes on behind a match, and the two whole searches,
 -- by the counted walk and by plain backtracking, which take starts, write matches and answer by the same rules.
 use mathlib.Core.List.{List, [], _∷_, _++_, map}
-use mathlib.Core.Bool.{Bool, true, false}
+use mathlib.Core.Bool.{Bool, true, false, not, _&&_}
 use mathlib.Core.Option.{Option, none, some}
 use Prim.Native.Nat.{ℕ, zero, suc, _+_}
 use lib.ListN.{length, getD, replicate}
-use lib.Dec.{ltb, eqb}
+use lib.Dec.{ltb, leb, eqb}
 use Rattle.rules.specs.Basics.{pick}
 use Rattle.rules.specs.Places.{Place, pLetter, pCaret, pDollar, pFork, pEnd}
-use Rattle.rules.specs.Walk.{Ways, pairs, positionOf, placeOf, firstAt, pairWays, plain, Outcome, found, failed, enterUnless, inside}
+use Rattle.rules.specs.Walk.{Ways, pairs, positionOf, placeOf, firstAt, pairWays, plain, Halt, outOfRows, Halting, Outcome, found, failed, halted, enterUnless, inside}
 
 -- ---- matches
 
@@ -29,11 +29,13 @@ unfoldable pub labels : List Place → List ℕ → List ℕ
 labels pl [] = []
 labels pl (x ∷ p) = labelOf (getD pl (placeOf (length pl) x) (pFork [])) (labels pl p)
 
--- how a search ends: done; at a match that does not fit whole; or behind a match that is written and names no start to go on at
+-- how a search ends: done; at a match that does not fit whole; behind a match that is written and names no start to go on at; or unfinished, since
+-- it halted in the attempt at this start, with these pairs still open (none where the attempt has not begun)
 pub data End (M : Type 0) : Type 0 where
   done : End M
   full : M → End M
   stuck : End M
+  unfinished : Halt → ℕ → List ℕ → End M
 
 -- the start and the labels of a match, of each match, and of the match at which a search ends
 abbrev pub shownOne : List Place → Match → ℕ × List ℕ
@@ -46,6 +48,7 @@ abbrev pub shownEnd : List Place → End Match → End (ℕ × List ℕ)
 shownEnd pl done = done
 shownEnd pl (full m) = full (shownOne pl m)
 shownEnd pl stuck = stuck
+shownEnd pl (unfinished h i p) = unfinished h i p
 
 -- the position at which a path ends, behind the last row of its match
 abbrev pub lastOf : ℕ → List ℕ → ℕ
@@ -99,10 +102,11 @@ nextStart toNext i j w = some (suc i)
 nextStart (toFirst c) i j w = labelledStart i w (firstWith c w)
 nextStart (toLast c) i j w = labelledStart i w (lastWith c w)
 
--- how a search goes on: the number of rows, the next start behind a path found at a start, the rows of a path, and whether its match fits
--- behind so many matches with so many labels
+-- how a search goes on: the number of rows, whether more may come, the next start behind a path found at a start, the rows of a path, and whether
+-- its match fits behind so many matches with so many labels
 pub record Plan : Type 0 where
   pub n : ℕ
+  pub more : Bool
   pub next : ℕ → List ℕ → Option ℕ
   pub rows : List ℕ → ℕ
   pub fits : ℕ → ℕ → List ℕ → Bool
@@ -113,33 +117,48 @@ pub record Swept (S : Type 0) : Type 0 where
   pub end : End Match
   pub state : S
 
+-- what comes of an attempt: a match, by its path; none; or a halt, with the pairs still open
+pub data Attempted : Type 0 where
+  hit : List ℕ → Attempted
+  miss : Attempted
+  halts : Halt → List ℕ → Attempted
+
+-- no row is there to start at: the search is done, or it waits where more rows may come
+abbrev pub noStart : Bool → ℕ → End Match
+noStart false i = done
+noStart true i = unfinished outOfRows i []
+
 module _ {S : Type 0} where
-  abbrev pub below : Bool → S → (Unit {0} → Swept S) → Swept S
-  below false st go = record { matches = []; end = done; state = st }
-  below true st go = go tt
+  abbrev pub ended : End Match → S → Swept S
+  ended e st = record { matches = []; end = e; state = st }
+
+  abbrev pub below : Bool → Swept S → (Unit {0} → Swept S) → Swept S
+  below false out go = out
+  below true out go = go tt
 
   abbrev pub withMatch : Match → Swept S → Swept S
   withMatch m r = record { matches = m ∷ r .matches; end = r .end; state = r .state }
 
   -- a match that does not fit whole ends the search, and no later, smaller match is tried
   abbrev pub byFit : Bool → Match → S → (Unit {0} → Swept S) → Swept S
-  byFit false m st go = record { matches = []; end = full m; state = st }
+  byFit false m st go = ended (full m) st
   byFit true m st go = withMatch m (go tt)
 
   -- a match that names no next start is written, and ends the search
   abbrev pub byNext : Option ℕ → S → (ℕ → Swept S) → Swept S
-  byNext none st go = record { matches = []; end = stuck; state = st }
+  byNext none st go = ended stuck st
   byNext (some j) st go = go j
 
   -- behind the attempt at the start i, where m matches with l labels are written: after no match the next start is one row on
-  abbrev pub onAnswer : Plan → (ℕ → ℕ → ℕ → S → Swept S) → ℕ → ℕ → ℕ → Option (List ℕ) → S → Swept S
-  onAnswer plan on i m l none st = on (suc i) m l st
-  onAnswer plan on i m l (some p) st = byFit (plan .fits m l p) (record { start = i; path = p }) st (λ _. byNext (plan .next i p) st (λ j. on j (suc m) (l + plan .rows p) st))
+  abbrev pub onAnswer : Plan → (ℕ → ℕ → ℕ → S → Swept S) → ℕ → ℕ → ℕ → Attempted → S → Swept S
+  onAnswer plan on i m l miss st = on (suc i) m l st
+  onAnswer plan on i m l (halts h p) st = ended (unfinished h i p) st
+  onAnswer plan on i m l (hit p) st = byFit (plan .fits m l p) (record { start = i; path = p }) st (λ _. byNext (plan .next i p) st (λ j. on j (suc m) (l + plan .rows p) st))
 
   -- the search from the start i on; attempts begin at rows below n only. k bounds the number of attempts, and n is enough (proofs/Fuel).
-  unfoldable pub sweep : (ℕ → S → Option (List ℕ) × S) → Plan → ℕ → ℕ → ℕ → ℕ → S → Swept S
-  sweep attempt plan zero i m l st = record { matches = []; end = done; state = st }
-  sweep attempt plan (suc k) i m l st = below (ltb i (plan .n)) st (λ _. let r = attempt i st in onAnswer plan (sweep attempt plan k) i m l (r .0) (r .1))
+  unfoldable pub sweep : (ℕ → S → Attempted × S) → Plan → ℕ → ℕ → ℕ → ℕ → S → Swept S
+  sweep attempt plan zero i m l st = ended (noStart (plan .more) i) st
+  sweep attempt plan (suc k) i m l st = below (ltb i (plan .n)) (ended (noStart (plan .more) i) st) (λ _. let r = attempt i st in onAnswer plan (sweep attempt plan k) i m l (r .0) (r .1))
 
 -- ---- attempts
 
@@ -147,17 +166,22 @@ module _ {S : Type 0} where
 abbrev pub Kept : Type 0
 Kept = List Bool × ℕ
 
-abbrev pub answered : Outcome → Option (List ℕ) × Kept
-answered (found p F s) = (some p, (F, s))
-answered (failed F s) = (none, (F, s))
+abbrev pub answered : Outcome → Attempted × Kept
+answered (found p F s) = (hit p, (F, s))
+answered (failed F s) = (miss, (F, s))
+answered (halted h p F s) = (halts h p, (F, s))
 
 -- an attempt tries the pair of the first place and the start
-abbrev pub walkAt : (ℕ → Ways) → ℕ → (ℕ → ℕ) → ℕ → Kept → Option (List ℕ) × Kept
-walkAt ways K first i st = answered (enterUnless (getD (st .0) (first i) false) (inside ways K) (st .0) (st .1) (first i))
+abbrev pub walkAt : Halting → (ℕ → Ways) → ℕ → (ℕ → ℕ) → ℕ → Kept → Attempted × Kept
+walkAt h ways K first i st = answered (enterUnless (getD (st .0) (first i) false) (h .spent (st .1)) (inside h ways K) (st .0) (st .1) (first i))
 
--- plain backtracking keeps nothing
-abbrev pub plainAt : (ℕ → Ways) → ℕ → (ℕ → ℕ) → ℕ → Unit {0} → Option (List ℕ) × Unit {0}
-plainAt ways K first i st = (plain ways K (first i), tt)
+-- plain backtracking keeps nothing, and never halts
+abbrev pub plainly : Option (List ℕ) → Attempted
+plainly none = miss
+plainly (some p) = hit p
+
+abbrev pub plainAt : (ℕ → Ways) → ℕ → (ℕ → ℕ) → ℕ → Unit {0} → Attempted × Unit {0}
+plainAt ways K first i st = (plainly (plain ways K (first i)), tt)
 
 -- The preferred match at a start is the first success of plain backtracking.
 abbrev pub plainFrom : (ℕ → ℕ → Bool) → ℕ → List Place → ℕ → Option (List ℕ)
@@ -165,11 +189,48 @@ plainFrom holds n pl i = plain (pairWays holds n pl) (pairs (length pl) n) (firs
 
 -- ---- the two searches
 
-unfoldable pub planOf : List Place → ℕ → Skip → (ℕ → ℕ → List ℕ → Bool) → Plan
+-- On what terms a search runs (document 02): the largest number of rows there may be, by which the pairs are kept account of; whether more rows may
+-- come behind those present (R-11); and the number of steps allowed, where one is named (R-13).
+pub record Terms : Type 0 where
+  pub largest : ℕ
+  pub more : Bool
+  pub allowance : Option ℕ
+
+-- document 01's: all n rows are there, and any number of steps is allowed; and the same with an allowance
+abbrev pub within : Option ℕ → ℕ → Terms
+within a n = record { largest = n; more = false; allowance = a }
+
+abbrev pub whole : ℕ → Terms
+whole n = within none n
+
+-- no step is left of the allowance
+abbrev pub spentOf : Option ℕ → ℕ → Bool
+spentOf none s = false
+spentOf (some a) s = leb a s
+
+-- a letter place asks for a row
+abbrev pub asksRow : Place → Bool
+asksRow (pLetter c k) = true
+asksRow (pCaret k) = false
+asksRow (pDollar k) = false
+asksRow (pFork ks) = false
+asksRow pEnd = false
+
+-- with n rows present the walk halts just before an entry that would pass the allowance, and where, of rows that may come, a letter place asks for
+-- one that is not yet present
+unfoldable pub haltingOf : Terms → List Place → ℕ → Halting
+haltingOf terms pl n =
+    record {
+      spent = spentOf (terms .allowance);
+      waits = λ x. terms .more && (asksRow (getD pl (placeOf (length pl) x) (pFork [])) && not (ltb (positionOf (length pl) x) n));
+    }
+
+unfoldable pub planOf : List Place → ℕ → Bool → Skip → (ℕ → ℕ → List ℕ → Bool) → Plan
 unfolding labels nextStart
-planOf pl n skip fits =
+planOf pl n more skip fits =
     record {
       n = n;
+      more = more;
       next = λ i p. nextStart skip i (endOf (length pl) p) (labels pl p);
       rows = λ p. length (labels pl p);
       fits = λ m l p. fits m l (labels pl p);
@@ -177,24 +238,25 @@ planOf pl n skip fits =
 
 -- by the counted walk: at first no pair has failed, and the count of steps is 0; the first start is row 0. `holds c i`: letter c holds at row i;
 -- `skip`: the skip mode; `fits m l w`: a match with the labels w fits behind m matches with l labels.
-unfoldable pub walkSearch : (ℕ → ℕ → Bool) → ℕ → List Place → Skip → (ℕ → ℕ → List ℕ → Bool) → Swept Kept
-unfolding planOf pairWays inside sweep
-walkSearch holds n pl skip fits =
-    let N = pairs (length pl) n in
-    sweep (walkAt (pairWays holds n pl) N (firstAt (length pl))) (planOf pl n skip fits) n 0 0 0 (replicate N false, 0)
+unfoldable pub walkSearch : Terms → (ℕ → ℕ → Bool) → ℕ → List Place → Skip → (ℕ → ℕ → List ℕ → Bool) → Swept Kept
+unfolding planOf pairWays haltingOf inside sweep
+walkSearch terms holds n pl skip fits =
+    let N = pairs (length pl) (terms .largest) in
+    sweep (walkAt (haltingOf terms pl n) (pairWays holds n pl) N (firstAt (length pl))) (planOf pl n (terms .more) skip fits) n 0 0 0 (replicate N false, 0)
 
--- by plain backtracking
+-- by plain backtracking, on the rows present
 unfoldable pub plainSearch : (ℕ → ℕ → Bool) → ℕ → List Place → Skip → (ℕ → ℕ → List ℕ → Bool) → Swept (Unit {0})
 unfolding planOf pairWays plain sweep
 plainSearch holds n pl skip fits =
     let N = pairs (length pl) n in
-    sweep (plainAt (pairWays holds n pl) N (firstAt (length pl))) (planOf pl n skip fits) n 0 0 0 tt
+    sweep (plainAt (pairWays holds n pl) N (firstAt (length pl))) (planOf pl n false skip fits) n 0 0 0 tt
 
 -- all matches found: those written, and the one that does not fit
 abbrev pub fullOf : End Match → List Match
 fullOf done = []
 fullOf (full m) = m ∷ []
 fullOf stuck = []
+fullOf (unfinished h i p) = []
 
 abbrev pub foundIn : {S : Type 0} → Swept S → List Match
 foundIn r = r .matches ++ fullOf (r .end)
@@ -203,3 +265,17 @@ foundIn r = r .matches ++ fullOf (r .end)
 abbrev pub pathPairs : List Match → ℕ
 pathPairs [] = 0
 pathPairs (m ∷ ms) = length (m .path) + pathPairs ms
+
+-- the search has not halted
+abbrev pub Finished : {M : Type 0} → End M → Type 0
+Finished done = Unit {0}
+Finished (full m) = Unit {0}
+Finished stuck = Unit {0}
+Finished (unfinished h i p) = ⊥
+
+-- the pairs still open where a search is unfinished
+abbrev pub openOf : End Match → List ℕ
+openOf done = []
+openOf (full m) = []
+openOf stuck = []
+openOf (unfinished h i p) = p

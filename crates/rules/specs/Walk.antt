@@ -87,41 +87,63 @@ plain ways (suc k) x = plainBy (ways x) (plain ways k) x
 
 -- ---- the counted walk: a pair that has failed is not entered again, and each entry is one step
 
--- what comes of a pair: a path, or a failure; with the failed pairs and the steps by then. The failed pairs are a list of Booleans, one for
--- each pair.
+-- Why a walk halts before its end (document 02): the next entry would pass the allowance of steps (R-13), or a row is asked for that is not yet
+-- present (R-11).
+pub data Halt : Type 0 where
+  outOfSteps : Halt
+  outOfRows : Halt
+
+-- when a walk halts: after so many steps no pair is entered any more; or this pair, entered, waits
+pub record Halting : Type 0 where
+  pub spent : ℕ → Bool
+  pub waits : ℕ → Bool
+
+-- the walk of document 01 never halts
+abbrev pub never : Halting
+never = record { spent = λ s. false; waits = λ x. false }
+
+-- what comes of a pair: a path, or a failure, or a halt with the pairs still open, which are those entered and not failed, each having led to the
+-- next; with the failed pairs and the steps by then. The failed pairs are a list of Booleans, one for each pair.
 pub data Outcome : Type 0 where
   found : List ℕ → List Bool → ℕ → Outcome
   failed : List Bool → ℕ → Outcome
+  halted : Halt → List ℕ → List Bool → ℕ → Outcome
 
 abbrev pub orElse : Outcome → (List Bool → ℕ → Outcome) → Outcome
 orElse (found p F s) next = found p F s
 orElse (failed F s) next = next F s
+orElse (halted h p F s) next = halted h p F s
 
--- an entered pair whose tries came to an outcome leads the path, or it fails and is kept as failed
+-- an entered pair whose tries came to an outcome leads the path, or it fails and is kept as failed, or it stays open
 abbrev pub close : ℕ → Outcome → Outcome
 close x (found p F s) = found (x ∷ p) F s
 close x (failed F s) = failed (set F x true) s
+close x (halted h p F s) = halted h (x ∷ p) F s
 
--- a pair is tried: one that has failed is not entered, and trying it never succeeds; any other is entered, which is one step, END included
-abbrev pub enterUnless : Bool → (List Bool → ℕ → ℕ → Outcome) → List Bool → ℕ → ℕ → Outcome
-enterUnless true inside F s y = failed F s
-enterUnless false inside F s y = inside F (suc s) y
+-- a pair is tried: one that has failed is not entered, and trying it never succeeds; any other is entered, which is one step, END included; but where
+-- the steps are spent, the walk halts just before that entry
+abbrev pub enterUnless : Bool → Bool → (List Bool → ℕ → ℕ → Outcome) → List Bool → ℕ → ℕ → Outcome
+enterUnless true spent inside F s y = failed F s
+enterUnless false true inside F s y = halted outOfSteps [] F s
+enterUnless false false inside F s y = inside F (suc s) y
 
 -- pairs are tried in order until one succeeds
-unfoldable pub tries : (List Bool → ℕ → ℕ → Outcome) → List Bool → ℕ → List ℕ → Outcome
-tries inside F s [] = failed F s
-tries inside F s (y ∷ ys) = orElse (enterUnless (getD F y false) inside F s y) (λ F′ s′. tries inside F′ s′ ys)
+unfoldable pub tries : Halting → (List Bool → ℕ → ℕ → Outcome) → List Bool → ℕ → List ℕ → Outcome
+tries h inside F s [] = failed F s
+tries h inside F s (y ∷ ys) = orElse (enterUnless (getD F y false) (h .spent s) inside F s y) (λ F′ s′. tries h inside F′ s′ ys)
 
-unfoldable pub insideBy : Ways → (List Bool → ℕ → ℕ → Outcome) → List Bool → ℕ → ℕ → Outcome
+-- an entered pair that waits halts the walk, its entry counted
+unfoldable pub insideBy : Halting → Bool → Ways → (List Bool → ℕ → ℕ → Outcome) → List Bool → ℕ → ℕ → Outcome
 unfolding tries
-insideBy accept f F s x = found (x ∷ []) F s
-insideBy (try ys) f F s x = close x (tries f F s ys)
+insideBy h true w f F s x = halted outOfRows (x ∷ []) F s
+insideBy h false accept f F s x = found (x ∷ []) F s
+insideBy h false (try ys) f F s x = close x (tries h f F s ys)
 
 -- what comes of a pair that has been entered; k bounds the depth as it does for `plain`
-unfoldable pub inside : (ℕ → Ways) → ℕ → List Bool → ℕ → ℕ → Outcome
+unfoldable pub inside : Halting → (ℕ → Ways) → ℕ → List Bool → ℕ → ℕ → Outcome
 unfolding insideBy
-inside ways zero F s x = failed F s
-inside ways (suc k) F s x = insideBy (ways x) (inside ways k) F s x
+inside h ways zero F s x = failed F s
+inside h ways (suc k) F s x = insideBy h (h .waits x) (ways x) (inside h ways k) F s x
 
 -- how many pairs have failed
 unfoldable pub countTrue : List Bool → ℕ

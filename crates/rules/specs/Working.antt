@@ -9,7 +9,7 @@ use lib.ListN.{getD, set}
 use Rattle.rules.specs.Basics.{has}
 use Rattle.rules.specs.Places.{Place, pLetter, pCaret, pDollar, pFork, pEnd}
 use Rattle.rules.specs.Report.{bitAt}
-use Rattle.rules.specs.Walk.{Ways, try, Outcome, found, failed, orElse, inside}
+use Rattle.rules.specs.Walk.{Ways, try, Halting, Outcome, found, failed, halted, orElse, inside}
 
 -- all numbers of a list
 abbrev pub All : (ℕ → Type 0) → List ℕ → Type 0
@@ -55,15 +55,16 @@ pub record Open (ρ : ℕ → ℕ) (N : ℕ) (F : List Bool) (st : List ℕ) : T
   pub out : All (Out F) st
   pub pairs : All (λ z. z < N) st
 
--- the open pairs below lead the path
+-- the open pairs below lead the path, and stay open where the walk halts
 abbrev pub lift : List ℕ → Outcome → Outcome
 lift st (found p F s) = found (reverseAux st p) F s
 lift st (failed F s) = failed F s
+lift st (halted w p F s) = halted w (reverseAux st p) F s
 
 -- what the recursive walk makes of a state: the last open pair goes on, and if it fails, the one below
-unfoldable pub resume : (ℕ → Ways) → ℕ → List ℕ → List Bool → ℕ → Outcome
-resume ways K [] F s = failed F s
-resume ways K (x ∷ st) F s = orElse (lift st (inside ways K F s x)) (λ F′ s′. resume ways K st F′ s′)
+unfoldable pub resume : Halting → (ℕ → Ways) → ℕ → List ℕ → List Bool → ℕ → Outcome
+resume h ways K [] F s = failed F s
+resume h ways K (x ∷ st) F s = orElse (lift st (inside h ways K F s x)) (λ F′ s′. resume h ways K st F′ s′)
 
 -- ---- forks that list each way once
 

@@ -1,9 +1,10 @@
 -- What joins the program's text to the search: which of the three texts a query and its row bytes
--- get, by the verdict on what `room` says of them; that the search is then accepted; and that the
+-- get, by the verdict on what `room` says of them; that the search is then not refused; and that the
 -- report of its promise is the text asked for, in the room that is lent.
 use mathlib.Core.Path.{_≡_, refl, sym, ap, _∙_}
 use mathlib.Core.Bool.{Bool, true, false, not}
 use mathlib.Core.List.{List, [], _∷_, _++_}
+use mathlib.Core.Option.{none}
 use Prim.Native.Nat.{ℕ, zero, suc, _+_, _*_, _%_, _/_, _≤_, _<_}
 use native.Mathlib.Nat.{mul-le-mul}
 use native.Mathlib.Numerals.{add-one}
@@ -20,12 +21,13 @@ use Rattle.rules.specs.Rows.{tableOf}
 use Rattle.rules.specs.Query.{columnsOf, textOf}
 use Rattle.rules.specs.Search.{Swept, Kept}
 use Rattle.rules.specs.Report.{bytesFor, numbersOf, labelsOf}
-use Rattle.rules.specs.Answers.{P, treeIn, tooMany, badRows, Task, taskOf, walked, Buffers, pairsOf, shortNotes, shortTrail, stopped, Test, firstOf, refuses, offsetAt, queryTests, refusal, answerBy, answerOf, roomAnswer, Room, roomOf, reportOf, walkReport, walkOf, Memory, accepted, searchOf}
+use Rattle.rules.specs.Answers.{P, treeIn, tooMany, badRows, Task, taskOf, walked, Buffers, pairsOf, shortNotes, shortTrail, endAnswer, stopped, Test, firstOf, refuses, offsetAt, queryTests, refusal, answerOf, roomAnswer, Room, roomOf, reportOf, reportWithin, walkReport, walkWithin, walkOf, Memory, accepted, searchOf}
 use Rattle.rules.specs.Program.{refusedText, tooLarge, searchText, rowsOf, printedFor}
 use Rattle.rules.proofs.Lists.{length-wrote}
-use Rattle.rules.proofs.Accepted.{Accepted, answer-is, query-tests-refuse}
+use Rattle.rules.proofs.Accepted.{answer-within, query-tests-refuse}
+use Rattle.rules.proofs.Demands.{search-accepted}
 use Rattle.rules.proofs.Level.{or-false}
-use Rattle.rules.proofs.FirstTrue.{end-accepted, allRefuse, first-after, none-before, none-true}
+use Rattle.rules.proofs.FirstTrue.{allRefuse, first-after, none-before, none-true}
 use Rattle.rules.proofs.Limits.{limits, numbers-long}
 use Rattle.reading.specs.declared.Size.{Size}
 use Rattle.reading.specs.Reading.{asRoom}
@@ -51,14 +53,14 @@ module _ (q : List ℕ) (rows : List ℤ) (lent : Buffers) (h : pairsOf q rows �
 
 -- ---- a query and rows with no answer 1 to 10
 
-module _ (q : List ℕ) (rows : List ℤ) (none : roomAnswer q (badRows q rows) ≡ 0) where
+module _ (q : List ℕ) (rows : List ℤ) (ok : roomAnswer q (badRows q rows) ≡ 0) where
   pub no-query-answer : firstOf (queryTests q) ≡ 0
   unfolding roomAnswer refuses
-  no-query-answer = none-before (queryTests q) ((10, badRows q rows) ∷ []) (query-tests-refuse q) (ap refuses none)
+  no-query-answer = none-before (queryTests q) ((10, badRows q rows) ∷ []) (query-tests-refuse q) (ap refuses ok)
 
   whole-rows : badRows q rows ≡ false
   unfolding roomAnswer queryTests allRefuse every refuses
-  whole-rows = none-true (queryTests q ++ ((10, badRows q rows) ∷ [])) refl none 10
+  whole-rows = none-true (queryTests q ++ ((10, badRows q rows) ∷ [])) refl ok 10
 
   few-places : P (treeIn q) ≤ 256
   unfolding queryTests tooMany
@@ -68,15 +70,14 @@ module _ (q : List ℕ) (rows : List ℤ) (none : roomAnswer q (badRows q rows) 
   unfolding badRows
   few-rows = ltb-false _ _ (or-false (not (eqb (length rows % columnsOf q) 0)) _ whole-rows .1)
 
-  -- with notes of 2,000 bytes and a trail of 16,000 numbers the search is accepted
-  pub room-accepts : (lent : Buffers) → 2000 ≤ length (lent .notes) → 16000 ≤ length (lent .trail) → pairsOf q rows ≤ 16000 → Accepted q rows lent
-  unfolding answerOf answerBy refusal firstOf
+  -- with notes of 2,000 bytes and a trail of 16,000 numbers the search is not refused
+  pub room-accepts : (lent : Buffers) → 2000 ≤ length (lent .notes) → 16000 ≤ length (lent .trail) → pairsOf q rows ≤ 16000 → refusal q rows lent ≡ 0
+  unfolding refusal firstOf
   room-accepts lent hn ht h =
       let n : shortNotes q rows lent ≡ false = enough-notes q rows lent h hn in
       let t : shortTrail q rows lent ≡ false = enough-trail q rows lent h ht in
       let rest : List Test = (10, badRows q rows) ∷ (11, shortNotes q rows lent) ∷ (12, shortTrail q rows lent) ∷ [] in
-      let k : refusal q rows lent ≡ 0 = first-after (queryTests q) rest (query-tests-refuse q) no-query-answer ∙ rw (whole-rows, n, t) in
-      rw k (end-accepted (walkOf q rows lent .end))
+      first-after (queryTests q) rest (query-tests-refuse q) no-query-answer ∙ rw (whole-rows, n, t)
 
 above : (n : ℕ) → (n ≡ 0 → ⊥) → 0 < n
 above zero d = absurd (d refl)
@@ -119,16 +120,16 @@ module _ (q : List ℕ) (rows : List ℤ) (z : Size) (e : asRoom z ≡ roomOf q 
   room-rows = go roomed
     where
       go : Roomed q rows z → Fits w64 (z .rows + 1)
-      go (accepted-room none a p n) = record { fits = omega (arith, n, few-rows q rows none) }
+      go (accepted-room ok a p n) = record { fits = omega (arith, n, few-rows q rows ok) }
       go (refused-room a h p n) = record { fits = omega arith }
 
   pub room-pairs : Fits w64 (z .places * (z .rows + 1))
   room-pairs = go roomed
     where
       go : Roomed q rows z → Fits w64 (z .places * (z .rows + 1))
-      go (accepted-room none a p n) =
-          let hp : z .places ≤ 256 = omega (arith, p, few-places q rows none) in
-          let hn : z .rows + 1 ≤ 4097 = omega (arith, n, few-rows q rows none) in
+      go (accepted-room ok a p n) =
+          let hp : z .places ≤ 256 = omega (arith, p, few-places q rows ok) in
+          let hn : z .rows + 1 ≤ 4097 = omega (arith, n, few-rows q rows ok) in
           let m : z .places * (z .rows + 1) ≤ 256 * 4097 = mul-le-mul hp hn in
           record { fits = omega arith }
       go (refused-room a h p n) =
@@ -143,7 +144,7 @@ module _ (q : List ℕ) (rows : List ℤ) (z : Size) (e : asRoom z ≡ roomOf q 
   same-verdict bytes = go roomed
     where
       go : Roomed q rows z → verdictOf (z .answer) bytes (z .places * (z .rows + 1)) ≡ verdictOf (roomAnswer q (badRows q rows)) bytes (pairsOf q rows)
-      go (accepted-room none a p n) = rw (a, none, p, n, add-one)
+      go (accepted-room ok a p n) = rw (a, ok, p, n, add-one)
       go (refused-room a h p n) = rw a (pairs-spared (roomAnswer q (badRows q rows)) bytes (z .places * (z .rows + 1)) (pairsOf q rows) h)
 
 module _ (q r : List ℕ) (l array : List ℤ) (k : ℕ) (filled : array ≡ wrote l 0 (rowsOf r)) (counted : k ≡ length (rowsOf r)) (z : Size) (e : asRoom z ≡ roomOf q (take k array))
@@ -177,10 +178,10 @@ module _ (q r : List ℕ) (l array : List ℤ) (k : ℕ) (filled : array ≡ wro
 
 -- ---- the search's promise as text
 
-module _ (q : List ℕ) (rows : List ℤ) (lent : Buffers) (ok : Accepted q rows lent) where
+module _ (q : List ℕ) (rows : List ℤ) (lent : Buffers) (ok : refusal q rows lent ≡ 0) where
   search-is : searchOf q rows lent ≡ accepted (walkReport q rows lent) (walkOf q rows lent .state) lent
-  unfolding searchOf
-  search-is = rw ok
+  unfolding searchOf walkReport walkOf
+  search-is = search-accepted none q rows lent ok
 
   abbrev task : Task
   task = taskOf q rows
@@ -189,11 +190,11 @@ module _ (q : List ℕ) (rows : List ℤ) (lent : Buffers) (ok : Accepted q rows
   swept = walkOf q rows lent
 
   answer-kept : searchOf q rows lent .result .answer ≡ answerOf q rows lent
-  unfolding accepted walkReport reportOf
+  unfolding accepted walkReport reportWithin reportOf answerOf
   answer-kept = ap (λ (m : Memory). m .result .answer) search-is
 
   matches-kept : searchOf q rows lent .result .matches ≡ length (swept .matches)
-  unfolding accepted walkReport reportOf
+  unfolding accepted walkReport reportWithin reportOf walkOf
   matches-kept = ap (λ (m : Memory). m .result .matches) search-is
 
   steps-kept : searchOf q rows lent .result .steps ≡ swept .state .1
@@ -201,21 +202,26 @@ module _ (q : List ℕ) (rows : List ℤ) (lent : Buffers) (ok : Accepted q rows
   steps-kept = ap (λ (m : Memory). m .result .steps) search-is
 
   numbers-kept : searchOf q rows lent .buffers .numbers ≡ wrote (lent .numbers) 0 (numbersOf (task .table) (task .measures) (task .places) 0 (swept .matches))
-  unfolding accepted walkReport reportOf
+  unfolding accepted walkReport reportWithin reportOf walkOf
   numbers-kept = ap (λ (m : Memory). m .buffers .numbers) search-is
 
   labels-kept : searchOf q rows lent .buffers .labels ≡ wrote (lent .labels) 0 (labelsOf (task .places) (swept .matches))
-  unfolding accepted walkReport reportOf
+  unfolding accepted walkReport reportWithin reportOf walkOf
   labels-kept = ap (λ (m : Memory). m .buffers .labels) search-is
 
+  answer-at : answerOf q rows lent ≡ endAnswer (swept .end)
+  unfolding answerOf walkOf
+  answer-at = answer-within q rows lent none ok
+
   lengths : length (lent .numbers) ≡ 8192 → length (lent .labels) ≡ 65536 → swept ≡ walked task 8192 65536
-  unfolding walkOf
+  unfolding walkOf walkWithin walked
   lengths en el = rw (en, el)
 
   -- the numbers of the matches are there
   pub search-numbers : searchOf q rows lent .result .matches * (3 + 2 * length (taskOf q rows .measures)) ≤ length (searchOf q rows lent .buffers .numbers)
+  unfolding walkOf
   search-numbers =
-      let f = limits q rows lent ok .numbers-fit in
+      let f = limits none q rows lent ok .numbers-fit in
       rw (matches-kept, numbers-kept, length-wrote (lent .numbers) (numbersOf (task .table) (task .measures) (task .places) 0 (swept .matches)) f)
       (rw numbers-long at f)
 
@@ -225,5 +231,5 @@ module _ (q : List ℕ) (rows : List ℤ) (lent : Buffers) (ok : Accepted q rows
       ≡ searchText (taskOf q rows) (walked (taskOf q rows) 8192 65536)
   unfolding stopped
   search-printed en el =
-      let s : not (eqb (searchOf q rows lent .result .answer) 0) ≡ stopped swept = ap (λ (a : ℕ). not (eqb a 0)) (answer-kept ∙ answer-is q rows lent ok) in
+      let s : not (eqb (searchOf q rows lent .result .answer) 0) ≡ stopped swept = ap (λ (a : ℕ). not (eqb a 0)) (answer-kept ∙ answer-at) in
       rw (s, matches-kept, steps-kept, numbers-kept, labels-kept) (report-printed task swept (lent .numbers) (lent .labels) ∙ ap (searchText task) (lengths en el))

@@ -3,6 +3,7 @@
 use mathlib.Core.Bool.{not}
 use mathlib.Core.Path.{_≡_, sym, ap, _∙_}
 use mathlib.Core.List.{List}
+use mathlib.Core.Option.{none}
 use Prim.Native.Nat.{ℕ, _+_, _*_, _-_, _≤_}
 use native.Mathlib.Omega.{arith}
 use lib.Dec.{eqb}
@@ -10,9 +11,8 @@ use lib.IntN.{ℤ}
 use lib.ListN.{length, take, drop, length-take, length-drop}
 use lib.Seq.{take-all}
 use Rattle.rules.specs.Query.{parts}
-use Rattle.rules.specs.Answers.{taskOf, walked, Buffers, Memory, searchOf}
+use Rattle.rules.specs.Answers.{taskOf, walked, Buffers, Memory, refusal, searchOf}
 use Rattle.rules.specs.Program.{refusedText, tooLarge, searchText, printedFor, printed}
-use Rattle.rules.proofs.Accepted.{Accepted}
 use Rattle.rules.proofs.Lists.{length-tabulate}
 use Rattle.table.specs.Measures.{measureIn, measuresIn}
 use Rattle.reading.specs.declared.Query.{Query}
@@ -45,12 +45,16 @@ measures-counted q measures₀ room defines measures r a =
 -- ---- the search's report: r and the buffers without a stroke are what the search leaves of those with one, and k is the number of measures
 
 module _ (q : List ℕ) (rows : List ℤ) (f : Found q rows) (notes′ trail′ : List ℕ) (numbers′ : List ℤ) (labels′ : List ℕ) (r : Outcome) (notes trail : List ℕ) (numbers : List ℤ) (labels : List ℕ)
-    (p : Promised q rows (lent notes′ trail′ numbers′ labels′) (memory r notes trail numbers labels)) (k : ℕ) (c : Counted q k) (hn : length notes′ ≡ 2000) (ht : length trail′ ≡ 16000) where
+    (p : Promised none q rows (lent notes′ trail′ numbers′ labels′) (memory r notes trail numbers labels)) (k : ℕ) (c : Counted q k) (hn : length notes′ ≡ 2000) (ht : length trail′ ≡ 16000) where
   abbrev L : Buffers
   L = lent notes′ trail′ numbers′ labels′
 
-  accepts : Accepted q rows L
+  accepts : refusal q rows L ≡ 0
   accepts = room-accepts q rows (f .none) L (omega arith) (omega arith) (f .few)
+
+  whole : memory r notes trail numbers labels ≡ searchOf q rows L
+  unfolding searchOf
+  whole = p .whole
 
   measures : k ≡ length (taskOf q rows .measures)
   unfolding taskOf queryAnswer
@@ -59,7 +63,7 @@ module _ (q : List ℕ) (rows : List ℤ) (f : Found q rows) (notes′ trail′ 
   pub numbers-there : r .matches * (3 + 2 * k) ≤ length numbers
   numbers-there =
       let t : (M : Memory) → M ≡ searchOf q rows L → M .result .matches * (3 + 2 * k) ≤ length (M .buffers .numbers) = λ M e. rw (e, measures) (search-numbers q rows L accepts) in
-      t _ (p .whole)
+      t _ whole
 
   report-is : (M : Memory) → M ≡ searchOf q rows L → length numbers′ ≡ 8192 → length labels′ ≡ 65536
       → reportText (not (eqb (M .result .answer) 0)) (M .result .matches) (M .result .steps) k (M .buffers .numbers) (M .buffers .labels)
@@ -68,7 +72,7 @@ module _ (q : List ℕ) (rows : List ℤ) (f : Found q rows) (notes′ trail′ 
 
   pub report-put : length numbers′ ≡ 8192 → length labels′ ≡ 65536 → (o m : List ℕ) (b : ℕ)
       → Put o 0 (reportText (not (eqb (r .answer) 0)) (r .matches) (r .steps) k numbers labels) m b → Put o 0 (searchText (taskOf q rows) (walked (taskOf q rows) 8192 65536)) m b
-  report-put n l o m b w = rw (← (report-is _ (p .whole) n l)) w
+  report-put n l o m b w = rw (← (report-is _ whole n l)) w
 
 -- ---- the whole input
 

@@ -1,9 +1,11 @@
 -- The search's answers: one law for each way through `run`. The answer is that of the first of the rules' tests that is true.
 use mathlib.Core.Path.{_≡_, refl, ap, sym, _∙_}
 use mathlib.Core.Bool.{Bool, true, false, not, true≢false}
-use mathlib.Core.List.{List, [], _∷_}
+use mathlib.Core.List.{List, [], _∷_, _++_}
+use mathlib.Core.Option.{Option, none, some}
 use Prim.Native.Nat.{ℕ, zero, suc, _+_, _*_, _/_, _%_, _≤_, _<_}
-use native.Mathlib.Nat.{mul-le-mul, div-add-mod'}
+use native.Mathlib.Nat.{mul-le-mul, le-trans, div-add-mod'}
+use native.Mathlib.Decide.{ℕ-discrete}
 use native.Mathlib.Numerals.{add-one}
 use native.Mathlib.Omega.{arith}
 use lib.Dec.{eqb, ltb}
@@ -12,15 +14,16 @@ use lib.ListN.{length}
 use mir.Syntax.{w64}
 use mir.Val.{Fits}
 use borrow.Author.Tests.{le-ltb, ltb-false, eqb-true, ne-eqb, not-false}
-use Rattle.rules.specs.Basics.{pick}
+use Rattle.rules.specs.Basics.{pick, every}
 use Rattle.rules.specs.Rows.{tableOf}
 use Rattle.rules.specs.Query.{columnsOf, textOf, parts}
 use Rattle.rules.specs.Report.{bytesFor}
 use Rattle.rules.specs.Answers as A
-use Rattle.rules.specs.Answers.{treeIn, P, badRows, Buffers, Memory, taskOf, pairsOf, shortNotes, shortTrail, endAnswer, Test, firstOf, refuses, offsetAt, queryTests, answerBy, answerOf, walkOf, walkReport, reportOf, refused, accepted, searchOf}
+use Rattle.rules.specs.Answers.{treeIn, P, badRows, Buffers, Memory, taskOf, pairsOf, shortNotes, shortTrail, endAnswer, Test, firstOf, refuses, offsetAt, queryTests, answerBy, answerWithin, walkWithin, reportWithin, reportOf, refused, accepted, searchWithin}
 use Rattle.rules.proofs.Accepted.{query-tests-refuse}
-use Rattle.rules.proofs.Demands.{demands}
-use Rattle.rules.proofs.FirstTrue.{end-accepted, first-refuses, first-before, first-after}
+use Rattle.rules.proofs.Demands.{demands, allowing}
+use Rattle.rules.proofs.Limits.{limits}
+use Rattle.rules.proofs.FirstTrue.{end-accepted, allRefuse, first-refuses, first-before, first-after}
 use Rattle.rules.proofs.Level.{or-false}
 use Rattle.sizes.specs.Sizes.{badCount, shortFor}
 use Rattle.reading.specs.Reading.{queryAnswer}
@@ -34,21 +37,22 @@ use Rattle.search.specs.Runs.{Runs}
 
 -- ---- the answers
 
-module _ (q : List ℕ) (rows : List ℤ) (notes trail : List ℕ) (numbers : List ℤ) (labels : List ℕ) where
+module _ (al : ℕ) (q : List ℕ) (rows : List ℤ) (notes trail : List ℕ) (numbers : List ℤ) (labels : List ℕ) where
   abbrev before : Buffers
   before = lent notes trail numbers labels
 
   -- a refusal is the answer
-  refused-by : (n : ℕ) → A.refusal q rows before ≡ n → refuses n ≡ true → answerOf q rows before ≡ n
-  unfolding answerOf answerBy refuses
+  refused-by : (n : ℕ) → A.refusal q rows before ≡ n → refuses n ≡ true → answerWithin (some al) q rows before ≡ n
+  unfolding answerWithin answerBy refuses
   refused-by n e t = rw (e, ne-eqb n 0 (λ z. true≢false (sym t ∙ ap refuses z)))
 
   -- it is given with its offset and zeros, and nothing is changed
-  refuse : (n k : ℕ) → A.refusal q rows before ≡ n → refuses n ≡ true → k ≡ offsetAt (textOf q) n → (r : Outcome) → r ≡ refusal n k → Promised q rows before (memory r notes trail numbers labels)
-  unfolding searchOf refused
+  refuse : (n k : ℕ) → A.refusal q rows before ≡ n → refuses n ≡ true → k ≡ offsetAt (textOf q) n → (r : Outcome) → r ≡ refusal n k → Promised (some al) q rows before (memory r notes trail numbers labels)
+  unfolding searchWithin refused
   refuse n k e t o r b =
       let a = refused-by n e t in
-      record { whole = rw (b, a, t, o); demands = λ z. absurd (true≢false (sym t ∙ ap refuses (sym a) ∙ z)) }
+      let no : A.refusal q rows before ≡ 0 → ⊥ = λ z. true≢false (sym t ∙ ap refuses (sym e ∙ z)) in
+      record { whole = rw (b, a, t, o); demands = λ z. absurd (no z); allowing = λ z. absurd (no z) }
 
   abbrev rest : List Test
   rest = (10, badRows q rows) ∷ (11, shortNotes q rows before) ∷ (12, shortTrail q rows before) ∷ []
@@ -63,7 +67,7 @@ module _ (q : List ℕ) (rows : List ℤ) (notes trail : List ℕ) (numbers : Li
 
   -- answers 1 to 9 and 14
   pub query-refused : (a k : ℕ) → a ≡ queryAnswer q → k ≡ offsetAt (textOf q) a → (a ≡ 0 → ⊥) → (r : Outcome) → r ≡ refusal a k
-      → Promised q rows before (memory r notes trail numbers labels)
+      → Promised (some al) q rows before (memory r notes trail numbers labels)
   unfolding queryAnswer
   query-refused a k e o d r b =
       let w : refuses a ≡ true = ap refuses e ∙ first-refuses (queryTests q) (query-tests-refuse q) (λ z. d (e ∙ z)) in
@@ -71,7 +75,7 @@ module _ (q : List ℕ) (rows : List ℤ) (notes trail : List ℕ) (numbers : Li
 
   module _ (z : queryAnswer q ≡ 0) where
     -- answer 10
-    pub rows-refused : badRows q rows ≡ true → (r : Outcome) → r ≡ refusal 10 0 → Promised q rows before (memory r notes trail numbers labels)
+    pub rows-refused : badRows q rows ≡ true → (r : Outcome) → r ≡ refusal 10 0 → Promised (some al) q rows before (memory r notes trail numbers labels)
     unfolding firstOf refuses offsetAt
     rows-refused t r b = refuse 10 0 (the-refusal-after z ∙ rw t) refl refl r b
 
@@ -81,26 +85,32 @@ module _ (q : List ℕ) (rows : List ℤ) (notes trail : List ℕ) (numbers : Li
     the-room f = the-refusal-after z ∙ rw f
 
     pub room-refused : badRows q rows ≡ false → (s : ℕ) → s ≡ pick (shortNotes q rows before) 11 (pick (shortTrail q rows before) 12 0) → (s ≡ 0 → ⊥) → (r : Outcome) → r ≡ refusal s 0
-        → Promised q rows before (memory r notes trail numbers labels)
+        → Promised (some al) q rows before (memory r notes trail numbers labels)
     unfolding refuses offsetAt
     room-refused f s e d r b = go (shortNotes q rows before) (shortTrail q rows before) refl refl
       where
-        go : (u v : Bool) → shortNotes q rows before ≡ u → shortTrail q rows before ≡ v → Promised q rows before (memory r notes trail numbers labels)
+        go : (u v : Bool) → shortNotes q rows before ≡ u → shortTrail q rows before ≡ v → Promised (some al) q rows before (memory r notes trail numbers labels)
         go true v eu ev = refuse 11 0 (the-room f ∙ rw eu) refl refl r (b ∙ ap (λ (k : ℕ). refusal k 0) (e ∙ rw eu))
         go false true eu ev = refuse 12 0 (the-room f ∙ rw (eu, ev)) refl refl r (b ∙ ap (λ (k : ℕ). refusal k 0) (e ∙ rw (eu, ev)))
         go false false eu ev = absurd (d (e ∙ rw (eu, ev)))
 
-    -- done or stopped
-    answer-ended : A.refusal q rows before ≡ 0 → answerOf q rows before ≡ endAnswer (walkOf q rows before .end)
-    unfolding answerOf answerBy
+    -- done, stopped or halted
+    answer-ended : A.refusal q rows before ≡ 0 → answerWithin (some al) q rows before ≡ endAnswer (walkWithin (some al) q rows before .end)
+    unfolding answerWithin answerBy
     answer-ended e = rw e
 
-    pub search-ended : badRows q rows ≡ false → shortNotes q rows before ≡ false → shortTrail q rows before ≡ false → (m : Memory) → m ≡ ended q rows before → Promised q rows before m
-    unfolding searchOf ended walkReport
+    pub search-ended : badRows q rows ≡ false → shortNotes q rows before ≡ false → shortTrail q rows before ≡ false → (m : Memory) → m ≡ ended al q rows before → Promised (some al) q rows before m
+    unfolding searchWithin ended reportWithin
     search-ended f g h m e =
-        let x : answerOf q rows before ≡ endAnswer (walkOf q rows before .end) = answer-ended (the-room f ∙ rw (g, h)) in
-        let y : refuses (answerOf q rows before) ≡ false = ap refuses x ∙ end-accepted (walkOf q rows before .end) in
-        record { whole = e ∙ sym (rw y (ap (λ (n : ℕ). accepted (reportOf n (taskOf q rows) before (walkOf q rows before)) (walkOf q rows before .state) before) x)); demands = demands q rows before }
+        let w = walkWithin (some al) q rows before in
+        let z : A.refusal q rows before ≡ 0 = the-room f ∙ rw (g, h) in
+        let x : answerWithin (some al) q rows before ≡ endAnswer (w .end) = answer-ended z in
+        let y : refuses (answerWithin (some al) q rows before) ≡ false = ap refuses x ∙ end-accepted (w .end) in
+        record {
+          whole = e ∙ sym (rw y (ap (λ (n : ℕ). accepted (reportOf n (taskOf q rows) before w) (w .state) before) x));
+          demands = demands (some al) q rows before;
+          allowing = allowing q rows before;
+        }
 
 -- ---- what a prepared query gives
 
@@ -135,7 +145,7 @@ module _ (T : List ℕ) (p : Prepared) (a : Runs T p) (z : p .answer ≡ 0) wher
     pub pairs-few : (k : ℕ) → k ≡ p .places * (entries / p .columns + 1) → k ≤ 1048832
     pairs-few k e = omega (arith, pairs-most (p .columns) (p .places) entries t et f few-places, e)
 
-module _ (T : List ℕ) (p : Prepared) (rows : List ℤ) (notes trail : List ℕ) (numbers : List ℤ) (labels : List ℕ) where
+module _ (al : ℕ) (T : List ℕ) (p : Prepared) (rows : List ℤ) (notes trail : List ℕ) (numbers : List ℤ) (labels : List ℕ) where
   abbrev buffers : Buffers
   buffers = lent notes trail numbers labels
 
@@ -144,8 +154,8 @@ module _ (T : List ℕ) (p : Prepared) (rows : List ℤ) (notes trail : List ℕ
 
   -- the query has an answer of its own
   pub run-refuses : (p .answer ≡ 0 → ⊥) → (o : Outcome) → o ≡ refusal (p .answer) (p .offset)
-      → (q : List ℕ) → Given q T p → Promised q rows buffers (memory o notes trail numbers labels)
-  run-refuses d o b q g = query-refused q rows notes trail numbers labels (p .answer) (p .offset) (g .refused d .0) (g .refused d .1) d o b
+      → (q : List ℕ) → Given q T p → Promised (some al) q rows buffers (memory o notes trail numbers labels)
+  run-refuses d o b q g = query-refused al q rows notes trail numbers labels (p .answer) (p .offset) (g .refused d .0) (g .refused d .1) d o b
 
   module _ (z : p .answer ≡ 0) (t : Bool) (et : t ≡ badCount (length rows) (p .columns)) where
     the-columns : (q : List ℕ) → Given q T p → p .columns ≡ columnsOf q
@@ -157,8 +167,8 @@ module _ (T : List ℕ) (p : Prepared) (rows : List ℤ) (notes trail : List ℕ
     the-rows q g = rw (← the-columns q g) (sym et)
 
     -- answer 10
-    pub run-rows : t ≡ true → (o : Outcome) → o ≡ refusal 10 0 → (q : List ℕ) → Given q T p → Promised q rows buffers (memory o notes trail numbers labels)
-    run-rows f o b q g = rows-refused q rows notes trail numbers labels (g .ready z .none) (the-rows q g ∙ f) o b
+    pub run-rows : t ≡ true → (o : Outcome) → o ≡ refusal 10 0 → (q : List ℕ) → Given q T p → Promised (some al) q rows buffers (memory o notes trail numbers labels)
+    run-rows f o b q g = rows-refused al q rows notes trail numbers labels (g .ready z .none) (the-rows q g ∙ f) o b
 
     module _ (f : t ≡ false) where
       the-places : (q : List ℕ) → Given q T p → p .places ≡ P (treeIn q)
@@ -175,8 +185,8 @@ module _ (T : List ℕ) (p : Prepared) (rows : List ℤ) (notes trail : List ℕ
         unfolding shortFor shortNotes shortTrail
         the-short q g = es ∙ rw (ek, the-pairs q g)
 
-        pub run-short : (s ≡ 0 → ⊥) → (o : Outcome) → o ≡ refusal s 0 → (q : List ℕ) → Given q T p → Promised q rows buffers (memory o notes trail numbers labels)
-        run-short d o b q g = room-refused q rows notes trail numbers labels (g .ready z .none) (the-rows q g ∙ f) s (the-short q g) d o b
+        pub run-short : (s ≡ 0 → ⊥) → (o : Outcome) → o ≡ refusal s 0 → (q : List ℕ) → Given q T p → Promised (some al) q rows buffers (memory o notes trail numbers labels)
+        run-short d o b q g = room-refused al q rows notes trail numbers labels (g .ready z .none) (the-rows q g ∙ f) s (the-short q g) d o b
 
         module _ (es0 : s ≡ 0) where
           both-long : (bytesFor k ≤ length notes) × (k ≤ length trail)
@@ -196,7 +206,7 @@ module _ (T : List ℕ) (p : Prepared) (rows : List ℤ) (notes trail : List ℕ
           )
 
           -- the walk may begin
-          pub run-walks : Runs T p → Walks T p n rows notes trail
+          pub run-walks : Runs T p → Walks T p (record { rows = n; allowance = al }) rows notes trail
           unfolding bytesFor
           run-walks a =
               let s : n + 1 ≡ suc n = add-one n in
@@ -210,10 +220,10 @@ module _ (T : List ℕ) (p : Prepared) (rows : List ℤ) (notes trail : List ℕ
                 fed = record { most = w .1; all = omega (arith, d, w .0); noted = omega (arith, f′); trailed = rw (← pp) (both-long .1) };
               }
 
-          -- done or stopped
-          pub run-ends : (m : Memory) → ((q : List ℕ) → Ready q T p → m ≡ ended q rows buffers) → (q : List ℕ) → Given q T p → Promised q rows buffers m
+          -- done, stopped or halted
+          pub run-ends : (m : Memory) → ((q : List ℕ) → Ready q T p → m ≡ ended al q rows buffers) → (q : List ℕ) → Given q T p → Promised (some al) q rows buffers m
           run-ends m e q g =
-              search-ended q rows notes trail numbers labels (g .ready z .none) (the-rows q g ∙ f) (no-short q g .0) (no-short q g .1) m (e q (g .ready z))
+              search-ended al q rows notes trail numbers labels (g .ready z .none) (the-rows q g ∙ f) (no-short q g .0) (no-short q g .1) m (e q (g .ready z))
 
 -- ---- prepared, then run
 
@@ -222,8 +232,8 @@ module _ (q T T′ : List ℕ) (p : Prepared) (h : PreparedAs q T T′ p) where
     pub may-run : Runs T′ p
     may-run = record { query = q; given = h .given d }
 
-    pub has-run : (rows : List ℤ) (before : Buffers) (m : Memory) → ((q : List ℕ) → Given q T′ p → Promised q rows before m) → Promised q rows before m
-    has-run rows before m e = e q (h .given d)
+    pub has-run : (al : ℕ) (rows : List ℤ) (before : Buffers) (m : Memory) → ((q : List ℕ) → Given q T′ p → Promised (some al) q rows before m) → Promised (some al) q rows before m
+    has-run al rows before m e = e q (h .given d)
 
   -- a table of 3,142 words is enough
   module _ (long : length T ≡ 3142) where
@@ -233,5 +243,39 @@ module _ (q T T′ : List ℕ) (p : Prepared) (h : PreparedAs q T T′ p) where
     pub may-run-large : Runs T′ p
     may-run-large = may-run enough
 
-    pub has-run-large : (rows : List ℤ) (before : Buffers) (m : Memory) → ((q : List ℕ) → Given q T′ p → Promised q rows before m) → Promised q rows before m
+    pub has-run-large : (al : ℕ) (rows : List ℤ) (before : Buffers) (m : Memory) → ((q : List ℕ) → Given q T′ p → Promised (some al) q rows before m) → Promised (some al) q rows before m
     has-run-large = has-run enough
+
+-- ---- without a limit
+
+module _ (q : List ℕ) (rows : List ℤ) (before : Buffers) where
+  abbrev tests : List Test
+  tests = queryTests q ++ ((10, badRows q rows) ∷ (11, shortNotes q rows before) ∷ (12, shortTrail q rows before) ∷ [])
+
+  all-refuse : allRefuse tests ≡ true
+  unfolding allRefuse every refuses queryTests
+  all-refuse = refl
+
+  -- a refusal does not ask for the allowance
+  same-refusal : (a b : Option ℕ) → (A.refusal q rows before ≡ 0 → ⊥) → searchWithin a q rows before ≡ searchWithin b q rows before
+  unfolding searchWithin answerWithin answerBy A.refusal
+  same-refusal a b d =
+      let z : eqb (firstOf tests) 0 ≡ false = ne-eqb (firstOf tests) 0 d in
+      let t : refuses (firstOf tests) ≡ true = first-refuses tests all-refuse d in
+      rw (z, t)
+
+  -- more steps than any search takes: the allowance changes nothing
+  unpassed : (a : ℕ) → 2149056512 ≤ a → searchWithin (some a) q rows before ≡ searchWithin none q rows before
+  unfolding A.searchOf
+  unpassed a l = elim (ℕ-discrete (A.refusal q rows before) 0) [
+    | yes z ↦ allowing q rows before z .unpassed a (le-trans (limits none q rows before z .few-steps) l)
+    | no d ↦ same-refusal (some a) none d
+  ]
+
+pub unlimited : (q : List ℕ) (rows : List ℤ) (before : Buffers) (m : Memory) → Promised (some 18446744073709551615) q rows before m → Promised none q rows before m
+unlimited q rows before m h =
+    record {
+      whole = h .whole ∙ unpassed q rows before 18446744073709551615 (omega arith);
+      demands = demands none q rows before;
+      allowing = h .allowing;
+    }

@@ -2,6 +2,7 @@
 use mathlib.Core.Path.{_≡_, refl, ap, ap₂, sym, _∙_}
 use mathlib.Core.Bool.{Bool}
 use mathlib.Core.List.{List, [], _∷_}
+use mathlib.Core.Option.{some}
 use Prim.Native.Nat.{ℕ, zero, suc, _+_, _-_, _*_, _/_, _≤_, _<_}
 use native.Mathlib.Nat.{mul-le-mul, mul-div-cancel}
 use native.Mathlib.Omega.{arith}
@@ -13,16 +14,16 @@ use Rattle.rules.specs.Language.{emptyLoop}
 use Rattle.rules.specs.Places.{Place, pLetter, pCaret, pDollar, pFork, pEnd, unroll, places}
 use Rattle.rules.specs.Walk.{pairs}
 use Rattle.rules.specs.Search as R
-use Rattle.rules.specs.Search.{Match, walkSearch}
+use Rattle.rules.specs.Search.{Match, within, walkSearch}
 use Rattle.rules.specs.Report.{fits, numbersOf, labelsOf}
-use Rattle.rules.specs.Answers.{treeIn, letterHolds, skipOf, taskOf, walked}
+use Rattle.rules.specs.Answers.{treeIn, letterHolds, skipOf, taskOf, walkedOn}
 use Rattle.rules.specs.Working.{thinned}
 use Rattle.rules.proofs.Accepted.{places-are}
 use Rattle.rules.proofs.Bounds.{Lettered, written-letters}
 use Rattle.rules.proofs.Counting.{legal-unroll, places-counted}
 use Rattle.rules.proofs.Distinct.{walk-thin}
 use Rattle.rules.proofs.Grammar.{tree-exactly}
-use Rattle.rules.proofs.PatternWalk.{walk-kept}
+use Rattle.rules.proofs.PatternWalk.{search-kept}
 use Rattle.rules.proofs.SameLetters.{search-agrees}
 use Rattle.rules.proofs.ThinPlaces.{Leads, thinned-spelt}
 use Rattle.rules.proofs.Rank.{rank}
@@ -39,6 +40,7 @@ use Rattle.skips.specs.declared.Skip.{Skip}
 use Rattle.matches.specs.declared.Task.{Task}
 use Rattle.prepared.specs.Ready.{Ready, measuresAt, testsAt}
 use Rattle.prepared.specs.declared.Prepared.{Prepared}
+use Rattle.starting.specs.declared.Terms.{Terms}
 use Rattle.starting.specs.Starts.{TaskFor, Fed, Walks}
 use Rattle.places.proofs.Legal.{placed-leads, placed-falls, placed-bound}
 use Rattle.starting.proofs.Thin.{numbers-thin, labels-of-thin}
@@ -52,17 +54,30 @@ same-leads P (pFork ks) l = l
 same-leads P pEnd l = l
 
 -- the task of a prepared query, by its numbers
-abbrev taskBy : Prepared → ℕ → Task → Task
-taskBy p n t = record { size = record { rows = n; columns = p .columns; places = p .places; tests = testsAt (p .places) }; measures = measuresAt (p .places); count = p .count; skip = t .skip }
+abbrev taskBy : Prepared → Terms → Task → Task
+taskBy p terms t =
+    record {
+      size = record { rows = terms .rows; columns = p .columns; places = p .places; tests = testsAt (p .places); allowance = terms .allowance };
+      measures = measuresAt (p .places);
+      count = p .count;
+      skip = t .skip;
+    }
 
-abbrev mk : ℕ → ℕ → ℕ → ℕ → ℕ → ℕ → Skip → Task
-mk rows columns places tests measures count skip = record { size = record { rows = rows; columns = columns; places = places; tests = tests }; measures = measures; count = count; skip = skip }
+abbrev mk : ℕ → ℕ → ℕ → ℕ → ℕ → ℕ → ℕ → Skip → Task
+mk rows columns places tests allowance measures count skip = record { size = record { rows = rows; columns = columns; places = places; tests = tests; allowance = allowance }; measures = measures; count = count; skip = skip }
 
-task-is : (p : Prepared) (n : ℕ) (t : Task) → TaskFor p n t → t ≡ taskBy p n t
-task-is p n t f =
-    let e : mk (t .size .rows) (t .size .columns) (t .size .places) (t .size .tests) (t .measures) (t .count) (t .skip) ≡ taskBy p n t = rw (f .rows, f .columns, f .places, f .tests, f .measures, f .count) in e
+task-is : (p : Prepared) (terms : Terms) (t : Task) → TaskFor p terms t → t ≡ taskBy p terms t
+task-is p terms t f =
+    let e : mk (t .size .rows) (t .size .columns) (t .size .places) (t .size .tests) (t .size .allowance) (t .measures) (t .count) (t .skip) ≡ taskBy p terms t = rw (f .rows, f .columns, f .places, f .tests, f .allowance, f .measures, f .count) in e
 
-module _ (q T : List ℕ) (p : Prepared) (a : Ready q T p) (n : ℕ) (rows : List ℤ) (notes trail : List ℕ) (f : Fed p n rows notes trail) where
+module _ (q T : List ℕ) (p : Prepared) (a : Ready q T p) (terms : Terms) (rows : List ℤ) (notes trail : List ℕ) (f : Fed p (terms .rows) rows notes trail) where
+  abbrev n : ℕ
+  n = terms .rows
+
+  -- on what terms the definition searches
+  abbrev on : ℕ → R.Terms
+  on m = within (some (terms .allowance)) m
+
   abbrev holdsAt : ℕ → ℕ → Bool
   holdsAt = holdsIn T (testsAt (p .places)) (p .columns) rows
 
@@ -126,8 +141,8 @@ module _ (q T : List ℕ) (p : Prepared) (a : Ready q T p) (n : ℕ) (rows : Lis
         rows = f .most;
       }
 
-  module _ (t : Task) (h : TaskFor p n t) where
-    searches-by : Searches T rows (taskBy p n t) notes trail
+  module _ (t : Task) (h : TaskFor p terms t) where
+    searches-by : Searches T rows (taskBy p terms t) notes trail
     searches-by =
         let m = f .most in
         let e = f .all in
@@ -140,24 +155,24 @@ module _ (q T : List ℕ) (p : Prepared) (a : Ready q T p) (n : ℕ) (rows : Lis
         }
 
     pub may-search : Searches T rows t notes trail
-    may-search = rw (task-is p n t h) searches-by
+    may-search = rw (task-is p terms t h) searches-by
 
     -- ---- and what they come to
 
-    found-by : (nums labs : ℕ) → S.searchOf (askedOf T rows (taskBy p n t)) nums labs ≡ walked (taskOf q rows) nums labs
-    unfolding S.searchOf walked
+    found-by : (nums labs : ℕ) → S.searchOf (askedOf T rows (taskBy p terms t)) nums labs ≡ walkedOn (on (taskOf q rows .table .n)) (taskOf q rows) nums labs
+    unfolding S.searchOf walkedOn
     found-by nums labs =
         rw (a .placed)
-        (search-agrees holdsAt (letterHolds (taskOf q rows)) letters-agree n (thinned (places (unroll (a .tree)))) (thinned-spelt (a .tree) the-lettered) (skipIn (t .skip)) (fits nums labs (measuresIn T (measuresAt (p .places)) (p .count)))
-        ∙ walk-thin (unroll (a .tree)) (legal-unroll (a .tree) (a .no-loop)) (letterHolds (taskOf q rows)) n (skipIn (t .skip)) (fits nums labs (measuresIn T (measuresAt (p .places)) (p .count)))
+        (search-agrees holdsAt (letterHolds (taskOf q rows)) letters-agree n (thinned (places (unroll (a .tree)))) (thinned-spelt (a .tree) the-lettered) (on n) (skipIn (t .skip)) (fits nums labs (measuresIn T (measuresAt (p .places)) (p .count)))
+        ∙ walk-thin (unroll (a .tree)) (legal-unroll (a .tree) (a .no-loop)) (letterHolds (taskOf q rows)) n (on n) (omega arith) (skipIn (t .skip)) (fits nums labs (measuresIn T (measuresAt (p .places)) (p .count)))
         ∙ same-search (places (unroll (a .tree))) (taskOf q rows .places) n (taskOf q rows .table .n) (skipIn (t .skip)) (taskOf q rows .skip) (measuresIn T (measuresAt (p .places)) (p .count)) (taskOf q rows .measures) (sym the-places) the-rows (h .skip ∙ the-skip) the-measures)
       where
         same-search : (pl pl′ : List Place) (m m′ : ℕ) (o o′ : R.Skip) (x x′ : List Measure) → pl ≡ pl′ → m ≡ m′ → o ≡ o′ → x ≡ x′
-            → walkSearch (letterHolds (taskOf q rows)) m pl o (fits nums labs x) ≡ walkSearch (letterHolds (taskOf q rows)) m′ pl′ o′ (fits nums labs x′)
+            → walkSearch (on m) (letterHolds (taskOf q rows)) m pl o (fits nums labs x) ≡ walkSearch (on m′) (letterHolds (taskOf q rows)) m′ pl′ o′ (fits nums labs x′)
         same-search pl pl′ m m′ o o′ x x′ e f h i = rw (e, f, h, i)
 
-    pub found : (nums labs : ℕ) → S.searchOf (askedOf T rows t) nums labs ≡ walked (taskOf q rows) nums labs
-    found nums labs = rw (task-is p n t h) (found-by nums labs)
+    pub found : (nums labs : ℕ) → S.searchOf (askedOf T rows t) nums labs ≡ walkedOn (on (taskOf q rows .table .n)) (taskOf q rows) nums labs
+    found nums labs = rw (task-is p terms t h) (found-by nums labs)
 
     pub numbered : (k : ℕ) (xs : List Match)
         → numbersOf (tableOf (t .size .columns) rows) (measuresIn T (t .measures) (t .count)) (placesIn T (t .size .places)) k xs ≡ numbersOf (taskOf q rows .table) (taskOf q rows .measures) (taskOf q rows .places) k xs
@@ -168,12 +183,12 @@ module _ (q T : List ℕ) (p : Prepared) (a : Ready q T p) (n : ℕ) (rows : Lis
     pub labelled : (xs : List Match) → labelsOf (placesIn T (t .size .places)) xs ≡ labelsOf (taskOf q rows .places) xs
     labelled xs = rw (h .places, a .placed, the-places) (labels-of-thin (places (unroll (a .tree))) xs)
 
-    pub counted : (nums labs : ℕ) → W.N (layoutOf T (t .size)) (t .size .rows) ≡ length (walked (taskOf q rows) nums labs .state .0)
-    unfolding walked
+    pub counted : (nums labs : ℕ) → W.N (layoutOf T (t .size)) (t .size .rows) ≡ length (walkedOn (on (taskOf q rows .table .n)) (taskOf q rows) nums labs .state .0)
+    unfolding walkedOn
     counted nums labs =
         ap₂ (λ (x y : ℕ). pairs x y) (h .places ∙ a .places-are ∙ sym (places-counted (a .tree)) ∙ ap length (sym the-places)) (h .rows ∙ the-rows)
-        ∙ sym (rw the-places (walk-kept (unroll (a .tree)) (legal-unroll (a .tree) (a .no-loop)) (letterHolds (taskOf q rows)) (taskOf q rows .table .n) (taskOf q rows .skip) (fits nums labs (taskOf q rows .measures))))
+        ∙ sym (rw the-places (search-kept (unroll (a .tree)) (legal-unroll (a .tree) (a .no-loop)) (letterHolds (taskOf q rows)) (taskOf q rows .table .n) (on (taskOf q rows .table .n)) (omega arith) (taskOf q rows .skip) (fits nums labs (taskOf q rows .measures))))
 
 -- as the code asks it
-pub walk-searches : (T : List ℕ) (p : Prepared) (n : ℕ) (rows : List ℤ) (notes trail : List ℕ) → Walks T p n rows notes trail → (t : Task) → TaskFor p n t → Searches T rows t notes trail
-walk-searches T p n rows notes trail w t h = may-search (w .query) T p (w .ready) n rows notes trail (w .fed) t h
+pub walk-searches : (T : List ℕ) (p : Prepared) (terms : Terms) (rows : List ℤ) (notes trail : List ℕ) → Walks T p terms rows notes trail → (t : Task) → TaskFor p terms t → Searches T rows t notes trail
+walk-searches T p terms rows notes trail w t h = may-search (w .query) T p (w .ready) terms rows notes trail (w .fed) t h

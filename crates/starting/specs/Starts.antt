@@ -1,24 +1,28 @@
 -- What the search over a prepared query asks, and what it comes to.
 use mathlib.Core.Path.{_≡_}
 use mathlib.Core.List.{List}
+use mathlib.Core.Option.{some}
 use Prim.Native.Nat.{ℕ, _*_, _≤_}
 use lib.IntN.{ℤ}
 use lib.ListN.{length}
 use Rattle.rules.specs.Walk.{pairs}
-use Rattle.rules.specs.Answers.{Buffers, Memory, taskOf, skipOf, walkOf, endAnswer, reportOf, accepted}
+use Rattle.rules.specs.Answers.{Buffers, Memory, taskOf, skipOf, walkWithin, endAnswer, reportOf, accepted}
 use Rattle.prepared.specs.Ready.{Ready, measuresAt, testsAt}
 use Rattle.prepared.specs.declared.Prepared.{Prepared}
 use Rattle.skips.specs.Skips.{skipIn}
 use Rattle.matches.specs.declared.Task.{Task}
+use Rattle.starting.specs.declared.Terms.{Terms}
 
--- an accepted search as the definition ends it: done or stopped
-unfoldable pub ended : List ℕ → List ℤ → Buffers → Memory
-unfolding accepted reportOf endAnswer walkOf taskOf
-ended q rows before = accepted (reportOf (endAnswer (walkOf q rows before .end)) (taskOf q rows) before (walkOf q rows before)) (walkOf q rows before .state) before
+-- an accepted search within a steps as the definition ends it: done, stopped or halted
+unfoldable pub ended : ℕ → List ℕ → List ℤ → Buffers → Memory
+unfolding accepted reportOf endAnswer walkWithin taskOf
+ended a q rows before =
+    accepted (reportOf (endAnswer (walkWithin (some a) q rows before .end)) (taskOf q rows) before (walkWithin (some a) q rows before)) (walkWithin (some a) q rows before .state) before
 
--- what a prepared query asks of n rows
-pub record TaskFor (p : Prepared) (n : ℕ) (t : Task) : Type 0 where
-  pub rows : t .size .rows ≡ n
+-- what a prepared query asks on these terms
+pub record TaskFor (p : Prepared) (terms : Terms) (t : Task) : Type 0 where
+  pub rows : t .size .rows ≡ terms .rows
+  pub allowance : t .size .allowance ≡ terms .allowance
   pub columns : t .size .columns ≡ p .columns
   pub places : t .size .places ≡ p .places
   pub tests : t .size .tests ≡ testsAt (p .places)
@@ -34,7 +38,7 @@ pub record Fed (p : Prepared) (n : ℕ) (rows : List ℤ) (notes trail : List �
   pub trailed : pairs (p .places) n ≤ length trail
 
 -- what the search asks: a query that is prepared, and these
-pub record Walks (T : List ℕ) (p : Prepared) (n : ℕ) (rows : List ℤ) (notes trail : List ℕ) : Type 0 where
+pub record Walks (T : List ℕ) (p : Prepared) (terms : Terms) (rows : List ℤ) (notes trail : List ℕ) : Type 0 where
   pub query : List ℕ
   pub ready : Ready query T p
-  pub fed : Fed p n rows notes trail
+  pub fed : Fed p (terms .rows) rows notes trail

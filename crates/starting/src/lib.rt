@@ -17,17 +17,25 @@ ghost use Rattle.outcome.specs.Results.{lent, memory};
 ghost use Rattle.prepared.specs.Ready.{Ready};
 ghost use Rattle.starting.specs.Starts.{ended, TaskFor, Walks};
 
-// What a prepared query asks of n rows.
-fn task_of(p: Prepared, n: usize) -> Task
+// On what terms a prepared query is searched for: how many rows there are, and how many steps are
+// allowed.
+pub struct Terms {
+    pub rows: usize,
+    pub allowance: usize,
+}
+
+// What a prepared query asks on these terms.
+fn task_of(p: Prepared, terms: Terms) -> Task
     requires { ⌜ p .places ≤ 256 ⌝ }
-    ensures { λ r. ⌜ TaskFor p n r ⌝ }
+    ensures { λ r. ⌜ TaskFor p terms r ⌝ }
 {
     let places = p.places;
     let size = Extent {
-        rows: n,
+        rows: terms.rows,
         columns: p.columns,
         places,
         tests: tests_at(places),
+        allowance: terms.allowance,
     };
     let skip = skip_of(p.skip, p.target);
     Task {
@@ -38,21 +46,21 @@ fn task_of(p: Prepared, n: usize) -> Task
     }
 }
 
-// The search of a prepared query on n rows.
+// The search of a prepared query on these terms.
 pub fn walk_prepared(
     table: &[u16],
     p: Prepared,
-    n: usize,
+    terms: Terms,
     rows: &[i32],
     notes: &mut [u8],
     trail: &mut [u32],
     numbers: &mut [i64],
     labels: &mut [u8],
 ) -> Outcome
-    requires { ⌜ Walks (now table) p n (now rows) (now notes) (now trail) ⌝ }
-    ensures { λ r. ⌜ ((q : List ℕ) → Ready q (now (table .entry)) p → memory r (now (notes .exit)) (now (trail .exit)) (now (numbers .exit)) (now (labels .exit)) ≡ ended q (now (rows .entry)) (lent (now (notes .entry)) (now (trail .entry)) (now (numbers .entry)) (now (labels .entry)))) ⌝ }
+    requires { ⌜ Walks (now table) p terms (now rows) (now notes) (now trail) ⌝ }
+    ensures { λ r. ⌜ ((q : List ℕ) → Ready q (now (table .entry)) p → memory r (now (notes .exit)) (now (trail .exit)) (now (numbers .exit)) (now (labels .exit)) ≡ ended (terms .allowance) q (now (rows .entry)) (lent (now (notes .entry)) (now (trail .entry)) (now (numbers .entry)) (now (labels .entry)))) ⌝ }
 {
-    let task = task_of(p, n);
+    let task = task_of(p, terms);
     let s = sweep::search(table, rows, notes, trail, numbers, labels, task);
     finished(s)
 }

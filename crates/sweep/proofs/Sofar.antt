@@ -9,17 +9,18 @@ use native.Mathlib.Omega.{arith}
 use lib.IntN.{ℤ}
 use lib.ListN.{length, getD, replicate, length-append}
 use borrow.Author.Tests.{lt-ltb, le-ltb}
-use Rattle.rules.specs.Answers.{endAnswer}
+use Rattle.rules.specs.Answers.{haltAnswer, endAnswer}
 use Rattle.rules.specs.Basics.{wrote}
 use Rattle.rules.specs.Report.{bitAt, matchNumbers, numbersOf, labelsOf, fits}
 use Rattle.rules.specs.Search as R
-use Rattle.rules.specs.Search.{Match, End, Swept, Plan, Kept, sweep, byFit, byNext, onAnswer, withMatch, walkAt, labels, endOf, planOf, walkSearch}
-use Rattle.rules.specs.Walk.{pairs, firstAt, pairWays}
+use Rattle.rules.specs.Search.{Match, End, Swept, Plan, Kept, Attempted, hit, miss, halts, haltingOf, sweep, byFit, byNext, onAnswer, withMatch, walkAt, labels, endOf, planOf, walkSearch}
+use Rattle.rules.specs.Walk.{Halt, pairs, firstAt, pairWays}
 use Rattle.rules.proofs.Appended.{wrote-none, wrote-on, length-wrote-at, numbers-on, labels-on, fits-room}
 use Rattle.rules.proofs.Limits.{numbers-long}
 use Rattle.rules.specs.Working.{bitsOf}
 use Rattle.rules.proofs.Starts.{next-on}
 use Rattle.pairs.specs.Layout.{P, N, graphOf}
+use Rattle.pairs.specs.State.{allowing}
 use Rattle.pairs.proofs.Ways.{in-length}
 use Rattle.matches.specs.declared.Sweep.{Sweep}
 use Rattle.matches.specs.declared.Task.{Task}
@@ -34,8 +35,8 @@ pre ms r = record { matches = ms ++ r .matches; end = r .end; state = r .state }
 -- the definition's search from a start on
 abbrev pub swp : Asked → ℕ → ℕ → ℕ → ℕ → ℕ → ℕ → Kept → Swept Kept
 swp A nums labs k i m l kept =
-    sweep (walkAt (pairWays (A .holds) (A .n) (pl A)) (pairs (length (pl A)) (A .n)) (firstAt (length (pl A))))
-    (planOf (pl A) (A .n) (A .skip) (fits nums labs (A .measures))) k i m l kept
+    sweep (walkAt (allowing (A .allowance)) (pairWays (A .holds) (A .n) (pl A)) (pairs (length (pl A)) (A .n)) (firstAt (length (pl A))))
+    (planOf (pl A) (A .n) false (A .skip) (fits nums labs (A .measures))) k i m l kept
 
 abbrev pub M : Asked → ℕ
 M A = N (A .layout) (A .n)
@@ -68,16 +69,16 @@ pub record SoFar (W : List ℕ) (rows : List ℤ) (task : Task) (n₁ t₁ : Lis
   pub few : i .matches ≤ i .row
   pub steps : i .steps ≤ i .row * M (askedOf W rows task)
 
-sweep-on : (att : ℕ → Kept → Option (List ℕ) × Kept) (plan : Plan) (k i m l : ℕ) (kept : Kept) → i < plan .n
+sweep-on : (att : ℕ → Kept → Attempted × Kept) (plan : Plan) (k i m l : ℕ) (kept : Kept) → i < plan .n
     → sweep att plan (suc k) i m l kept ≡ onAnswer plan (sweep att plan k) i m l ((att i kept) .0) ((att i kept) .1)
 unfolding sweep
 sweep-on att plan k i m l kept h = rw (lt-ltb i (plan .n) h)
 
-sweep-off : (att : ℕ → Kept → Option (List ℕ) × Kept) (plan : Plan) (k i m l : ℕ) (kept : Kept) → plan .n ≤ i
+sweep-off : (att : ℕ → Kept → Attempted × Kept) (plan : Plan) (k i m l : ℕ) (kept : Kept) → plan .n ≤ i → plan .more ≡ false
     → sweep att plan k i m l kept ≡ record { matches = []; end = R.done; state = kept }
 unfolding sweep
-sweep-off att plan zero i m l kept h = refl
-sweep-off att plan (suc k) i m l kept h = rw (le-ltb i (plan .n) h)
+sweep-off att plan zero i m l kept h e = rw e
+sweep-off att plan (suc k) i m l kept h e = rw (le-ltb i (plan .n) h, e)
 
 one-more : (ms : List Match) (t : Match) (r : Swept Kept) → pre (ms ++ (t ∷ [])) r ≡ pre ms (withMatch t r)
 one-more ms t r = ap (λ (l : List Match). record { matches = l; end = r .end; state = r .state }) (append-assoc ms (t ∷ []) (r .matches))
@@ -93,7 +94,7 @@ module _ (W : List ℕ) (rows : List ℤ) (task : Task) (n₁ t₁ : List ℕ) (
   fit = fits (length num₁) (length lab₁) (A .measures)
 
   pub so-none : Starts W rows task n₁ t₁ → SoFar W rows task n₁ t₁ num₁ lab₁ n₁ t₁ num₁ lab₁ (record { end = 0; row = 0; matches = 0; labels = 0; steps = 0 })
-  unfolding searchOf walkSearch numbersOf labelsOf endAnswer
+  unfolding searchOf walkSearch haltingOf numbersOf labelsOf endAnswer
   so-none h =
       record {
         searches = h .searches;
@@ -170,18 +171,18 @@ module _ (W : List ℕ) (rows : List ℤ) (task : Task) (n₁ t₁ : List ℕ) (
           go true e = absurd (let r = h .over e .0 in omega arith)
           go false e = e
 
-      abbrev att : Option (List ℕ) × Kept
+      abbrev att : Attempted × Kept
       att = attemptAt A F (i .steps) (i .row)
 
-      abbrev defAtt : Option (List ℕ) × Kept
-      defAtt = walkAt (pairWays (A .holds) (A .n) (pl A)) (pairs (length (pl A)) (A .n)) (firstAt (length (pl A))) (i .row) (F, i .steps)
+      abbrev defAtt : Attempted × Kept
+      defAtt = walkAt (allowing (A .allowance)) (pairWays (A .holds) (A .n) (pl A)) (pairs (length (pl A)) (A .n)) (firstAt (length (pl A))) (i .row) (F, i .steps)
 
       att-same : defAtt ≡ att
       unfolding graphOf
       att-same = rw (in-length (A .layout .words) (P (A .layout)))
 
       abbrev plan : Plan
-      plan = planOf (pl A) (A .n) (A .skip) fit
+      plan = planOf (pl A) (A .n) false (A .skip) fit
 
       -- the definition's next step
       rest-is : (k : ℕ) → h .fuel ≡ suc k → h .rest ≡ onAnswer plan (sw k) (i .row) (i .matches) (i .labels) (att .0) (att .1)
@@ -189,8 +190,8 @@ module _ (W : List ℕ) (rows : List ℤ) (task : Task) (n₁ t₁ : List ℕ) (
       rest-is k e =
           h .going not-over
           ∙ ap (λ (f : ℕ). sw f (i .row) (i .matches) (i .labels) (F, i .steps)) e
-          ∙ sweep-on (walkAt (pairWays (A .holds) (A .n) (pl A)) (pairs (length (pl A)) (A .n)) (firstAt (length (pl A)))) plan k (i .row) (i .matches) (i .labels) (F, i .steps) lt
-          ∙ ap (λ (a : Option (List ℕ) × Kept). onAnswer plan (sw k) (i .row) (i .matches) (i .labels) (a .0) (a .1)) att-same
+          ∙ sweep-on (walkAt (allowing (A .allowance)) (pairWays (A .holds) (A .n) (pl A)) (pairs (length (pl A)) (A .n)) (firstAt (length (pl A)))) plan k (i .row) (i .matches) (i .labels) (F, i .steps) lt
+          ∙ ap (λ (a : Attempted × Kept). onAnswer plan (sw k) (i .row) (i .matches) (i .labels) (a .0) (a .1)) att-same
 
       module _ (notes′ trail′ : List ℕ) (numbers′ : List ℤ) (labs′ : List ℕ) (r : Sweep) (v : Visited A notes notes′ trail trail′ numbers numbers′ labs labs′ i r) where
         abbrev Goal : Sweep → Type 0
@@ -205,11 +206,11 @@ module _ (W : List ℕ) (rows : List ℤ) (task : Task) (n₁ t₁ : List ℕ) (
               omega arith
 
           -- no match
-          quiet-on : att ≡ (none, (F′, s′)) → Quiet numbers numbers′ labs labs′ r (swept 0 (i .row + 1) (i .matches) (i .labels) s′) → Goal r
+          quiet-on : att ≡ (miss, (F′, s′)) → Quiet numbers numbers′ labs labs′ r (swept 0 (i .row + 1) (i .matches) (i .labels) s′) → Goal r
           unfolding endAnswer
           quiet-on ea q =
               let e : h .rest ≡ sw k (suc (i .row)) (i .matches) (i .labels) (F′, s′) =
-              rest-is k ek ∙ ap (λ (a : Option (List ℕ) × Kept). onAnswer plan (sw k) (i .row) (i .matches) (i .labels) (a .0) (a .1)) ea in
+              rest-is k ek ∙ ap (λ (a : Attempted × Kept). onAnswer plan (sw k) (i .row) (i .matches) (i .labels) (a .0) (a .1)) ea in
               let o : i .row + 1 ≡ suc (i .row) = omega arith in
               let en = h .enough in
               let fw = h .few in
@@ -240,7 +241,46 @@ module _ (W : List ℕ) (rows : List ℤ) (task : Task) (n₁ t₁ : List ℕ) (
                 steps = by-row (i .row + 1) (omega arith);
               })
 
-          module _ (p : List ℕ) (ea : att ≡ (some p, (F′, s′))) where
+          -- nothing is written, and the search is over
+          over-on : (how : End Match) (end : ℕ) → end ≡ endAnswer how → h .rest ≡ record { matches = []; end = how; state = (F′, s′) }
+              → Quiet numbers numbers′ labs labs′ r (swept end (A .n) (i .matches) (i .labels) s′) → Goal r
+          over-on how end ee er q =
+              let fw = h .few in
+              subst (λ (z : Sweep). Goal z) (sym (q .sweep-is)) (record {
+                searches = h .searches;
+                notes-long = v .notes-long ∙ h .notes-long;
+                trail-long = v .trail-long ∙ h .trail-long;
+                notes-beyond = λ z l. v .notes-beyond z l ∙ h .notes-beyond z l;
+                trail-beyond = λ z l. v .trail-beyond z l ∙ h .trail-beyond z l;
+                fuel = k;
+                done = h .done;
+                rest = h .rest;
+                enough = omega arith;
+                total = h .total;
+                stop = true;
+                how = how;
+                end-is = ee;
+                how-going = λ c. absurd (true≢false c);
+                going = λ c. absurd (true≢false c);
+                over = λ _. (refl, rw eF er);
+                m-is = h .m-is;
+                l-is = h .l-is;
+                numbers-is = q .numbers-is ∙ h .numbers-is;
+                labels-is = q .labels-is ∙ h .labels-is;
+                nums = h .nums;
+                labs-le = h .labs-le;
+                few = omega arith;
+                steps = by-row (A .n) lt;
+              })
+
+          -- the attempt has halted
+          halted-on : (w : Halt) (p : List ℕ) → att ≡ (halts w p, (F′, s′)) → Quiet numbers numbers′ labs labs′ r (swept (haltAnswer w) (A .n) (i .matches) (i .labels) s′) → Goal r
+          unfolding endAnswer
+          halted-on w p ea q =
+              over-on (R.unfinished w (i .row) p) (haltAnswer w) refl
+              (rest-is k ek ∙ ap (λ (a : Attempted × Kept). onAnswer plan (sw k) (i .row) (i .matches) (i .labels) (a .0) (a .1)) ea) q
+
+          module _ (p : List ℕ) (ea : att ≡ (hit p, (F′, s′))) where
             abbrev t : Match
             t = record { start = i .row; path = p }
 
@@ -251,40 +291,13 @@ module _ (W : List ℕ) (rows : List ℤ) (task : Task) (n₁ t₁ : List ℕ) (
             unfolding planOf
             rest-fit b eb =
                 rest-is k ek
-                ∙ ap (λ (a : Option (List ℕ) × Kept). onAnswer plan (sw k) (i .row) (i .matches) (i .labels) (a .0) (a .1)) ea
+                ∙ ap (λ (a : Attempted × Kept). onAnswer plan (sw k) (i .row) (i .matches) (i .labels) (a .0) (a .1)) ea
                 ∙ ap (λ (c : Bool). byFit c t (F′, s′) (λ _. byNext (nextAt A (i .row) p) (F′, s′) on)) eb
 
             -- a match that does not fit
             full-on : fit (i .matches) (i .labels) (labels (pl A) p) ≡ false → Quiet numbers numbers′ labs labs′ r (swept 13 (A .n) (i .matches) (i .labels) s′) → Goal r
             unfolding endAnswer
-            full-on eb q =
-                let fw = h .few in
-                subst (λ (z : Sweep). Goal z) (sym (q .sweep-is)) (record {
-                  searches = h .searches;
-                  notes-long = v .notes-long ∙ h .notes-long;
-                  trail-long = v .trail-long ∙ h .trail-long;
-                  notes-beyond = λ z l. v .notes-beyond z l ∙ h .notes-beyond z l;
-                  trail-beyond = λ z l. v .trail-beyond z l ∙ h .trail-beyond z l;
-                  fuel = k;
-                  done = h .done;
-                  rest = h .rest;
-                  enough = omega arith;
-                  total = h .total;
-                  stop = true;
-                  how = R.full t;
-                  end-is = refl;
-                  how-going = λ c. absurd (true≢false c);
-                  going = λ c. absurd (true≢false c);
-                  over = λ _. (refl, rw eF (rest-fit false eb));
-                  m-is = h .m-is;
-                  l-is = h .l-is;
-                  numbers-is = q .numbers-is ∙ h .numbers-is;
-                  labels-is = q .labels-is ∙ h .labels-is;
-                  nums = h .nums;
-                  labs-le = h .labs-le;
-                  few = omega arith;
-                  steps = by-row (A .n) lt;
-                })
+            full-on eb q = over-on (R.full t) 13 refl (rest-fit false eb) q
 
             -- a match that fits is written
             module _ (eb : fit (i .matches) (i .labels) (labels (pl A) p) ≡ true) (to : Sweep) (q : Written A p i numbers numbers′ labs labs′ r to) where
@@ -365,9 +378,10 @@ module _ (W : List ℕ) (rows : List ℤ) (task : Task) (n₁ t₁ : List ℕ) (
             by-fit true eb q = by-next (nextAt A (i .row) p) refl eb q
             by-fit false eb q = full-on eb q
 
-          by-att : (o : Option (List ℕ)) → att ≡ (o, (F′, s′)) → Told A o i s′ numbers numbers′ labs labs′ r → Goal r
-          by-att none ea q = quiet-on ea q
-          by-att (some p) ea q = by-fit p ea (fit (i .matches) (i .labels) (labels (pl A) p)) refl (rw (so-numbers, so-labels) at q)
+          by-att : (o : Attempted) → att ≡ (o, (F′, s′)) → Told A o i s′ numbers numbers′ labs labs′ r → Goal r
+          by-att miss ea q = quiet-on ea q
+          by-att (halts w p) ea q = halted-on w p ea q
+          by-att (hit p) ea q = by-fit p ea (fit (i .matches) (i .labels) (labels (pl A) p)) refl (rw (so-numbers, so-labels) at q)
 
         by-fuel : (f : ℕ) → h .fuel ≡ f → Goal r
         by-fuel zero e = absurd (let en = h .enough in omega arith)
@@ -385,9 +399,10 @@ module _ (W : List ℕ) (rows : List ℤ) (task : Task) (n₁ t₁ : List ℕ) (
         up-fit true p s q = rw (ap (λ (z : Sweep). z .row) (q .sweep-is)) (up-next (nextAt A (i .row) p) p s refl)
         up-fit false p s q = rw (ap (λ (z : Sweep). z .row) (q .sweep-is)) lt
 
-        up-att : (o : Option (List ℕ)) (s : ℕ) → Told A o i s numbers numbers′ labs labs′ r → i .row < r .row
-        up-att none s q = rw (ap (λ (z : Sweep). z .row) (q .sweep-is)) (omega arith)
-        up-att (some p) s q = up-fit (fits (length numbers) (length labs) (A .measures) (i .matches) (i .labels) (labels (pl A) p)) p s q
+        up-att : (o : Attempted) (s : ℕ) → Told A o i s numbers numbers′ labs labs′ r → i .row < r .row
+        up-att miss s q = rw (ap (λ (z : Sweep). z .row) (q .sweep-is)) (omega arith)
+        up-att (halts w p) s q = rw (ap (λ (z : Sweep). z .row) (q .sweep-is)) lt
+        up-att (hit p) s q = up-fit (fits (length numbers) (length labs) (A .measures) (i .matches) (i .labels) (labels (pl A) p)) p s q
 
         pub so-less : A .n - r .row < A .n - i .row
         so-less = let u = up-att (att .0) (att .1 .1) (v .told) in omega arith
@@ -412,6 +427,6 @@ module _ (W : List ℕ) (rows : List ℤ) (task : Task) (n₁ t₁ : List ℕ) (
         go : (b : Bool) → h .stop ≡ b → Searched A n₁ t₁ num₁ lab₁ notes trail numbers labs i
         go true e = done-by (h .over e .1)
         go false e =
-            done-by (h .going e ∙ sweep-off (walkAt (pairWays (A .holds) (A .n) (pl A)) (pairs (length (pl A)) (A .n)) (firstAt (length (pl A))))
-            (planOf (pl A) (A .n) (A .skip) fit) (h .fuel) (i .row) (i .matches) (i .labels) (F, i .steps) ge
+            done-by (h .going e ∙ sweep-off (walkAt (allowing (A .allowance)) (pairWays (A .holds) (A .n) (pl A)) (pairs (length (pl A)) (A .n)) (firstAt (length (pl A))))
+            (planOf (pl A) (A .n) false (A .skip) fit) (h .fuel) (i .row) (i .matches) (i .labels) (F, i .steps) ge refl
             ∙ ap (λ (x : End Match). record { matches = []; end = x; state = (F, i .steps) }) (sym (h .how-going e)))

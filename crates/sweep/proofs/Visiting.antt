@@ -2,21 +2,24 @@
 use mathlib.Core.Path.{_≡_, refl, sym, ap, _∙_}
 use mathlib.Core.List.{List, [], _∷_, reverseAux}
 use mathlib.Core.Bool.{Bool, true, false}
-use mathlib.Core.Option.{Option, none, some}
-use Prim.Native.Nat.{ℕ, zero, suc, _+_, _-_, _*_, _≤_, _<_, suc-le-suc, zero-le}
+use Prim.Native.Nat.{ℕ, zero, suc, _+_, _*_, _≤_, _<_, suc-le-suc, zero-le}
 use native.Mathlib.Nat.{not-suc-le-zero}
 use native.Mathlib.Omega.{arith}
+use lib.Dec.{eqb}
 use lib.IntN.{ℤ}
 use lib.ListN.{length, getD}
-use Rattle.rules.specs.Search.{Kept, answered}
-use Rattle.rules.specs.Walk.{Ways, accept, try, Outcome, found, failed, close, tries, enterUnless, inside, insideBy, countTrue}
+use borrow.Author.Tests.{eq-eqb, ne-eqb}
+use Rattle.rules.specs.Answers.{haltAnswer}
+use Rattle.rules.specs.Basics.{pick}
+use Rattle.rules.specs.Search.{Kept, Attempted, hit, halts, answered}
+use Rattle.rules.specs.Walk.{Ways, accept, try, Halting, outOfSteps, Outcome, found, failed, halted, close, tries, enterUnless, inside, insideBy, countTrue}
 use Rattle.rules.proofs.Notes.{bitsFrom-length}
 use Rattle.rules.specs.Working.{bitsOf}
 use Rattle.rules.proofs.Walk.{InsidePost, inside-post}
 use Rattle.pairs.specs.declared.Walk.{Walk}
-use Rattle.pairs.specs.Layout.{Layout, P, N, Tested, graphOf}
-use Rattle.pairs.specs.Step.{pairIn, stack, outcomeBy}
-use Rattle.pairs.specs.State.{Ready, Done}
+use Rattle.pairs.specs.Layout.{Layout, P, N, graphOf}
+use Rattle.pairs.specs.Step.{pairIn, stack, outcomeBy, resultBy}
+use Rattle.pairs.specs.State.{allowing, Ready, Done}
 use Rattle.pairs.proofs.Trails.{stack-length}
 use Rattle.pairs.proofs.Trying.{pair-in}
 use Rattle.pairs.proofs.Going.{good-room, top-row}
@@ -24,6 +27,7 @@ use Rattle.matches.specs.declared.Sweep.{Sweep}
 use Rattle.matches.specs.declared.Task.{Task}
 use Rattle.matches.specs.Asked.{Asked, pathOn, askedOf}
 use Rattle.matches.specs.Found.{Told, Reports, Visits, attemptAt, Visited}
+use Rattle.sweep.specs.Searched.{byTop, cameTo, Tells}
 
 -- ---- a path begins where its attempt began
 
@@ -34,23 +38,27 @@ headOf (x ∷ p) = x
 abbrev HeadIs : ℕ → Outcome → Type 0
 HeadIs x (found p F s) = headOf p ≡ x
 HeadIs x (failed F s) = Unit {0}
+HeadIs x (halted h p F s) = Unit {0}
 
-inside-head : (ways : ℕ → Ways) (k : ℕ) (F : List Bool) (s x : ℕ) → HeadIs x (inside ways k F s x)
+inside-head : (H : Halting) (ways : ℕ → Ways) (k : ℕ) (F : List Bool) (s x : ℕ) → HeadIs x (inside H ways k F s x)
 unfolding inside insideBy
-inside-head ways zero F s x = tt
-inside-head ways (suc k) F s x = go (ways x)
+inside-head H ways zero F s x = tt
+inside-head H ways (suc k) F s x = go (H .waits x) (ways x)
   where
     closed : (r : Outcome) → HeadIs x (close x r)
     closed (found p F s) = refl
     closed (failed F s) = tt
+    closed (halted h p F s) = tt
 
-    go : (w : Ways) → HeadIs x (insideBy w (inside ways k) F s x)
-    go accept = refl
-    go (try ys) = closed (tries (inside ways k) F s ys)
+    go : (b : Bool) (w : Ways) → HeadIs x (insideBy H b w (inside H ways k) F s x)
+    go true w = tt
+    go false accept = refl
+    go false (try ys) = closed (tries H (inside H ways k) F s ys)
 
-enter-head : (b : Bool) (ways : ℕ → Ways) (k : ℕ) (F : List Bool) (s x : ℕ) → HeadIs x (enterUnless b (inside ways k) F s x)
-enter-head true ways k F s x = tt
-enter-head false ways k F s x = inside-head ways k F (suc s) x
+enter-head : (b u : Bool) (H : Halting) (ways : ℕ → Ways) (k : ℕ) (F : List Bool) (s x : ℕ) → HeadIs x (enterUnless b u (inside H ways k) F s x)
+enter-head true u H ways k F s x = tt
+enter-head false true H ways k F s x = tt
+enter-head false false H ways k F s x = inside-head H ways k F (suc s) x
 
 head-up : (P : ℕ) (trail p : List ℕ) (t : ℕ) → headOf (reverseAux (stack P trail (suc t)) p) ≡ pairIn P (getD trail 0 0)
 unfolding stack
@@ -62,10 +70,47 @@ unfolding outcomeBy
 head-out P trail F s x zero l h = absurd (not-suc-le-zero l)
 head-out P trail F s x (suc t) l h = sym (head-up P trail [] t) ∙ h
 
-found-by : (P : ℕ) (trail : List ℕ) (F : List Bool) (s k : ℕ) → 0 < k → answered (outcomeBy P k trail F s) ≡ (some (pathOn P trail k), (F, s))
-unfolding outcomeBy
-found-by P trail F s zero l = absurd (not-suc-le-zero l)
-found-by P trail F s (suc k) l = refl
+-- ---- what an attempt came to, by the walk's status
+
+result-over : (P : ℕ) (trail : List ℕ) (F : List Bool) (w : Walk) → (w .status ≡ 1 → ⊥) → resultBy P trail F w ≡ outcomeBy P (w .top) trail F (w .steps)
+unfolding resultBy
+result-over P trail F w e = rw (ne-eqb (w .status) 1 e)
+
+answered-by : (P : ℕ) (trail : List ℕ) (F : List Bool) (w : Walk) → answered (resultBy P trail F w) ≡ (cameTo P trail w, (F, w .steps))
+unfolding resultBy outcomeBy cameTo
+answered-by P trail F w = go (eqb (w .status) 1) (w .top)
+  where
+    go : (b : Bool) (t : ℕ)
+        → answered (pick b (halted outOfSteps (pathOn P trail t) F (w .steps)) (outcomeBy P t trail F (w .steps))) ≡ (pick b (halts outOfSteps (pathOn P trail t)) (byTop P trail t), (F, w .steps))
+    go true t = refl
+    go false zero = refl
+    go false (suc t) = refl
+
+module _ (W : List ℕ) (rows : List ℤ) (task : Task) (trail labs : List ℕ) (i : Sweep) (w : Walk) where
+  pub tell-row : Tells W rows task trail labs i w → i .row + 1 ≤ 4097
+  tell-row h = let a = h .row in omega arith
+
+  pub tell-reports : Tells W rows task trail labs i w → (w .status ≡ 1 → ⊥) → (w .top ≡ 0 → ⊥) → Reports W rows task trail labs i w
+  tell-reports h e t = h .reports e t
+
+  pub tell-halted : (numbers : List ℤ) → w .status ≡ 1
+      → Told (askedOf W rows task) (cameTo (task .size .places) trail w) i (w .steps) numbers numbers labs labs (record { end = 16; row = task .size .rows; matches = i .matches; labels = i .labels; steps = w .steps })
+  unfolding cameTo haltAnswer
+  tell-halted numbers e = rw (eq-eqb (w .status) 1 e) (record { numbers-is = refl; labels-is = refl; sweep-is = refl })
+
+  pub tell-none : (numbers : List ℤ) → (w .status ≡ 1 → ⊥) → w .top ≡ 0
+      → Told (askedOf W rows task) (cameTo (task .size .places) trail w) i (w .steps) numbers numbers labs labs (record { end = 0; row = i .row + 1; matches = i .matches; labels = i .labels; steps = w .steps })
+  unfolding cameTo
+  tell-none numbers e t = rw (ne-eqb (w .status) 1 e, t) (record { numbers-is = refl; labels-is = refl; sweep-is = refl })
+
+  pub tell-path : (numbers : List ℤ) → (w .status ≡ 1 → ⊥) → (w .top ≡ 0 → ⊥) → (numbers′ : List ℤ) (labs′ : List ℕ) (r : Sweep)
+      → Told (askedOf W rows task) (hit (pathOn (task .size .places) trail (w .top))) i (w .steps) numbers numbers′ labs labs′ r → Told (askedOf W rows task) (cameTo (task .size .places) trail w) i (w .steps) numbers numbers′ labs labs′ r
+  unfolding cameTo
+  tell-path numbers e t numbers′ labs′ r told = rw (ne-eqb (w .status) 1 e) (go (w .top) t told)
+    where
+      go : (k : ℕ) → (k ≡ 0 → ⊥) → Told (askedOf W rows task) (hit (pathOn (task .size .places) trail k)) i (w .steps) numbers numbers′ labs labs′ r → Told (askedOf W rows task) (byTop (task .size .places) trail k) i (w .steps) numbers numbers′ labs labs′ r
+      go zero n h = absurd (n refl)
+      go (suc k) n h = h
 
 -- ---- an attempt takes no more steps than there are pairs
 
@@ -73,20 +118,43 @@ length-up : (xs p : List ℕ) → length (reverseAux xs p) ≡ length xs + lengt
 length-up [] p = omega arith
 length-up (x ∷ xs) p = let r = length-up xs (x ∷ p) in omega arith
 
-none-taken : (P : ℕ) (trail : List ℕ) (F F′ : List Bool) (s s′ t : ℕ) → failed F s ≡ outcomeBy P t trail F′ s′ → s ≡ s′
-unfolding outcomeBy
-none-taken P trail F F′ s s′ zero e = cc
-none-taken P trail F F′ s s′ (suc t) e = let z : _≡_ {A = ℕ} 0 1 = cc in absurd (omega arith)
+-- the steps of an outcome, and how many pairs are open or have failed
+abbrev stepsOf : Outcome → ℕ
+stepsOf (found p F s) = s
+stepsOf (failed F s) = s
+stepsOf (halted h p F s) = s
 
-module _ (P : ℕ) (ρ : ℕ → ℕ) (N : ℕ) (F : List Bool) (s x : ℕ) (trail : List ℕ) (F′ : List Bool) (s′ : ℕ) where
-  steps-by : (t : ℕ) → t + countTrue F′ ≤ N → InsidePost ρ F (suc s) x (outcomeBy P t trail F′ s′) → s′ ≤ s + N
-  unfolding outcomeBy
-  steps-by zero l p = let q = p .sum in omega arith
-  steps-by (suc t) l p =
-      let q = p .sum in
-      let a = length-up (stack P trail (suc t)) [] in
-      let b = stack-length P trail (suc t) in
-      omega arith
+abbrev heldBy : Outcome → ℕ
+heldBy (found p F s) = length p + countTrue F
+heldBy (failed F s) = countTrue F
+heldBy (halted h p F s) = length p + countTrue F
+
+steps-by : (ρ : ℕ → ℕ) (N : ℕ) (F : List Bool) (s x : ℕ) (o : Outcome) → heldBy o ≤ N → InsidePost ρ F (suc s) x o → stepsOf o ≤ s + N
+steps-by ρ N F s x (found p F′ s′) l d = let q = d .sum in omega arith
+steps-by ρ N F s x (failed F′ s′) l d = let q = d .sum in omega arith
+steps-by ρ N F s x (halted h p F′ s′) l d = let q = d .sum in omega arith
+
+module _ (P : ℕ) (trail : List ℕ) (F : List Bool) (w : Walk) where
+  path-long : (t : ℕ) → length (pathOn P trail t) ≡ t
+  path-long t = let a = length-up (stack P trail t) [] in let b = stack-length P trail t in omega arith
+
+  result-steps : stepsOf (resultBy P trail F w) ≡ w .steps
+  unfolding resultBy outcomeBy
+  result-steps = go (eqb (w .status) 1) (w .top)
+    where
+      go : (b : Bool) (t : ℕ) → stepsOf (pick b (halted outOfSteps (pathOn P trail t) F (w .steps)) (outcomeBy P t trail F (w .steps))) ≡ w .steps
+      go true t = refl
+      go false zero = refl
+      go false (suc t) = refl
+
+  result-held : heldBy (resultBy P trail F w) ≤ w .top + countTrue F
+  unfolding resultBy outcomeBy
+  result-held = go (eqb (w .status) 1) (w .top)
+    where
+      go : (b : Bool) (t : ℕ) → heldBy (pick b (halted outOfSteps (pathOn P trail t) F (w .steps)) (outcomeBy P t trail F (w .steps))) ≤ t + countTrue F
+      go true t = let a = path-long t in omega arith
+      go false zero = omega arith
+      go false (suc t) = let a = path-long (suc t) in omega arith
 
 -- ---- the start
 
@@ -103,49 +171,49 @@ module _ (W : List ℕ) (rows : List ℤ) (task : Task) (notes trail labs : List
   abbrev F : List Bool
   F = bitsOf notes M
 
-  abbrev att : Option (List ℕ) × Kept
-  att = attemptAt A F (i .steps) (i .row)
+  abbrev H : Halting
+  H = allowing (A .allowance)
 
-  pub visit-letters : Tested W rows (task .size)
-  visit-letters = h .searches .letters
+  abbrev att : Attempted × Kept
+  att = attemptAt A F (i .steps) (i .row)
 
   pub visit-ready : Ready T (A .holds) (A .n) notes trail (i .row) (i .steps)
   visit-ready = record { legal = h .searches .legal; noted = h .searches .noted; trailed = h .searches .trailed; row = h .row; steps = h .steps }
 
-  pub visit-row : i .row + 1 < 4294967296
-  visit-row = let a = h .row in let b = h .searches .measured .few-rows in omega arith
-
   first-below : i .row * P T < M
   first-below = let a = pair-in (P T) (A .n) 0 (i .row) (i .row * P T) refl (h .searches .legal .sized .some) (let r = h .row in omega arith) in omega arith
 
-  module _ (notes₁ trail₁ : List ℕ) (w : Walk) (d : Done T (A .holds) (A .n) notes trail (i .row) (i .steps) notes₁ trail₁ w) where
+  module _ (notes₁ trail₁ : List ℕ) (w : Walk) (d : Done H T (A .holds) (A .n) notes trail (i .row) (i .steps) notes₁ trail₁ w) where
     abbrev F₁ : List Bool
     F₁ = bitsOf notes₁ M
 
-    att-is : att ≡ answered (outcomeBy (P T) (w .top) trail₁ F₁ (w .steps))
-    att-is = ap answered (d .same)
+    att-is : att ≡ (cameTo (P T) trail₁ w, (F₁, w .steps))
+    att-is = ap answered (d .same) ∙ answered-by (P T) trail₁ F₁ w
 
     room : w .top + countTrue F₁ ≤ M
     room = good-room T (A .holds) (A .n) notes₁ trail₁ w (d .reached .good)
 
     steps-more : w .steps ≤ i .steps + M
-    steps-more = go (getD F (i .row * P T) false) refl (d .same)
+    steps-more = rw (result-steps (P T) trail₁ F₁ w) at (go (getD F (i .row * P T) false) refl (H .spent (i .steps)) (d .same))
       where
-        go : (b : Bool) → getD F (i .row * P T) false ≡ b → enterUnless b (inside (graphOf T (A .holds) (A .n)) M) F (i .steps) (i .row * P T) ≡ outcomeBy (P T) (w .top) trail₁ F₁ (w .steps) → w .steps ≤ i .steps + M
-        go true o e = let q = none-taken (P T) trail₁ F F₁ (i .steps) (w .steps) (w .top) e in omega arith
-        go false o e =
-            let p = inside-post (graphOf T (A .holds) (A .n)) (h .searches .legal .ρ) M (h .searches .legal .falls) M F (suc (i .steps)) (i .row * P T) (h .searches .legal .bound (i .row * P T)) first-below (bitsFrom-length notes M 0) o in
-            steps-by (P T) (h .searches .legal .ρ) M F (i .steps) (i .row * P T) trail₁ F₁ (w .steps) (w .top) room (rw e at p)
+        go : (b : Bool) → getD F (i .row * P T) false ≡ b → (u : Bool) → enterUnless b u (inside H (graphOf T (A .holds) (A .n)) M) F (i .steps) (i .row * P T) ≡ resultBy (P T) trail₁ F₁ w
+            → stepsOf (resultBy (P T) trail₁ F₁ w) ≤ i .steps + M
+        go true o u e = rw (← e) (omega arith)
+        go false o true e = rw (← e) (omega arith)
+        go false o false e =
+            let p = inside-post H (graphOf T (A .holds) (A .n)) (h .searches .legal .ρ) M (h .searches .legal .falls) M F (suc (i .steps)) (i .row * P T) (h .searches .legal .bound (i .row * P T)) first-below (bitsFrom-length notes M 0) o in
+            let a = room in
+            let b = result-held (P T) trail₁ F₁ w in
+            steps-by (h .searches .legal .ρ) M F (i .steps) (i .row * P T) (resultBy (P T) trail₁ F₁ w) (omega arith) (rw e at p)
 
-    pub visit-none : (numbers : List ℤ) → w .top ≡ 0
-        → Visited A notes notes₁ trail trail₁ numbers numbers labs labs i (record { end = 0; row = i .row + 1; matches = i .matches; labels = i .labels; steps = w .steps })
-    unfolding outcomeBy
-    visit-none numbers t =
-        let a : att ≡ (none, (F₁, w .steps)) = att-is ∙ ap (λ (k : ℕ). answered (outcomeBy (P T) k trail₁ F₁ (w .steps))) t in
+    pub visit-told : (numbers numbers′ : List ℤ) (labs′ : List ℕ) (r : Sweep) → Told A (cameTo (P T) trail₁ w) i (w .steps) numbers numbers′ labs labs′ r
+        → Visited A notes notes₁ trail trail₁ numbers numbers′ labs labs′ i r
+    visit-told numbers numbers′ labs′ r told =
+        let a = att-is in
         let m = steps-more in
         record {
           kept = rw a;
-          told = rw a (record { numbers-is = refl; labels-is = refl; sweep-is = refl });
+          told = rw a told;
           notes-long = d .reached .notes-long;
           trail-long = d .reached .trail-long;
           notes-beyond = d .reached .notes-beyond;
@@ -153,7 +221,7 @@ module _ (W : List ℕ) (rows : List ℤ) (task : Task) (notes trail labs : List
           more = rw a m;
         }
 
-    module _ (t : w .top ≡ 0 → ⊥) where
+    module _ (u : w .status ≡ 1 → ⊥) (t : w .top ≡ 0 → ⊥) where
       going : 0 < w .top
       going = some-of (w .top) t
         where
@@ -161,34 +229,27 @@ module _ (W : List ℕ) (rows : List ℤ) (task : Task) (notes trail labs : List
           some-of zero n = absurd (n refl)
           some-of (suc k) n = suc-le-suc zero-le
 
-      pub visit-reports : Reports W rows task trail₁ labs i w
-      visit-reports =
+      head : HeadIs (i .row * P T) (outcomeBy (P T) (w .top) trail₁ F₁ (w .steps))
+      head =
+          rw (d .same ∙ result-over (P T) trail₁ F₁ w u)
+          at (enter-head (getD F (i .row * P T) false) (H .spent (i .steps)) H (graphOf T (A .holds) (A .n)) M F (i .steps) (i .row * P T))
+
+      reports : Reports W rows task trail₁ labs i w
+      reports =
           let g = d .reached .good in
           let a = room in
           let b = g .trailed in
           record {
             measured = h .searches .measured;
-            path = record { sized = h .searches .legal .sized; room = omega arith; words = g .words; linked = g .linked; spot = λ _. d .last going .spot };
+            path = record { sized = h .searches .legal .sized; room = omega arith; words = g .words; linked = g .linked; spot = λ _. d .last u going .spot };
             going = going;
-            last = d .last going .end;
-            bottom = head-out (P T) trail₁ F₁ (w .steps) (i .row * P T) (w .top) going (rw (d .same) at (enter-head (getD F (i .row * P T) false) (graphOf T (A .holds) (A .n)) M F (i .steps) (i .row * P T)));
+            last = d .last u going .end;
+            bottom = head-out (P T) trail₁ F₁ (w .steps) (i .row * P T) (w .top) going head;
             row = h .row;
-            behind = rw (d .last going .spot .row) at (top-row T (A .holds) (A .n) notes₁ trail₁ w g going);
+            behind = rw (d .last u going .spot .row) at (top-row H (λ x. refl) T (A .holds) (A .n) notes₁ trail₁ w g going);
             few = h .few;
             labels = h .labels;
           }
 
-      pub visit-found : (numbers numbers′ : List ℤ) (labs′ : List ℕ) (q : Sweep) → Told A (some (pathOn (P T) trail₁ (w .top))) i (w .steps) numbers numbers′ labs labs′ q
-          → Visited A notes notes₁ trail trail₁ numbers numbers′ labs labs′ i q
-      visit-found numbers numbers′ labs′ q told =
-          let a : att ≡ (some (pathOn (P T) trail₁ (w .top)), (F₁, w .steps)) = att-is ∙ found-by (P T) trail₁ F₁ (w .steps) (w .top) going in
-          let m = steps-more in
-          record {
-            kept = rw a;
-            told = rw a told;
-            notes-long = d .reached .notes-long;
-            trail-long = d .reached .trail-long;
-            notes-beyond = d .reached .notes-beyond;
-            trail-beyond = d .reached .trail-beyond;
-            more = rw a m;
-          }
+    pub visit-tells : Tells W rows task trail₁ labs i w
+    visit-tells = record { row = let a = h .row in let b = h .searches .measured .few-rows in omega arith; reports = reports }

@@ -2,19 +2,42 @@
 use mathlib.Core.Path.{_≡_}
 use mathlib.Core.List.{List}
 use mathlib.Core.Bool.{false}
-use Prim.Native.Nat.{ℕ, _*_, _≤_}
+use Prim.Native.Nat.{ℕ, zero, suc, _≤_}
+use lib.Dec.{eqb}
 use lib.IntN.{ℤ}
 use lib.ListN.{length, getD, replicate}
 use Rattle.rules.specs.Answers.{endAnswer}
-use Rattle.rules.specs.Basics.{wrote}
+use Rattle.rules.specs.Basics.{pick, wrote}
 use Rattle.rules.specs.Report.{bitAt, numbersOf, labelsOf, notesOf, zeros}
-use Rattle.rules.specs.Search.{Swept, Kept}
+use Rattle.rules.specs.Search.{Swept, Kept, Attempted, hit, miss, halts}
+use Rattle.rules.specs.Walk.{outOfSteps}
 use Rattle.rules.specs.Working.{bitsOf}
+use Rattle.pairs.specs.declared.Walk.{Walk}
 use Rattle.pairs.specs.Layout.{N, layoutOf}
+use Rattle.pairs.specs.Step.{stack}
 use Rattle.matches.specs.declared.Sweep.{Sweep}
 use Rattle.matches.specs.declared.Task.{Task}
-use Rattle.matches.specs.Asked.{Asked, pl, searchOf}
-use Rattle.matches.specs.Found.{Searches}
+use Rattle.matches.specs.Asked.{Asked, pl, searchOf, pathOn}
+use Rattle.matches.specs.Found.{Searches, Reports}
+
+-- ---- one start
+
+-- what the attempt came to that left the trail and the walk w: a halt, where a pair is still to be entered; nothing, where none is open; or the path
+-- on the trail
+abbrev pub byTop : ℕ → List ℕ → ℕ → Attempted
+byTop P trail zero = miss
+byTop P trail (suc t) = hit (pathOn P trail (suc t))
+
+unfoldable pub cameTo : ℕ → List ℕ → Walk → Attempted
+unfolding stack
+cameTo P trail w = pick (eqb (w .status) 1) (halts outOfSteps (pathOn P trail (w .top))) (byTop P trail (w .top))
+
+-- and what telling it asks: a row behind the start, and a path whose report can be made
+pub record Tells (T : List ℕ) (rows : List ℤ) (task : Task) (trail labs : List ℕ) (i : Sweep) (w : Walk) : Type 0 where
+  pub row : i .row ≤ 4096
+  pub reports : (w .status ≡ 1 → ⊥) → (w .top ≡ 0 → ⊥) → Reports T rows task trail labs i w
+
+-- ---- all starts
 
 -- what the loop over the starts asks: what a search does, and that no pair has failed
 pub record Starts (T : List ℕ) (rows : List ℤ) (task : Task) (notes trail : List ℕ) : Type 0 where

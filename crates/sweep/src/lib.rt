@@ -1,8 +1,11 @@
 // The whole search by the counted walk: all starts, each with one attempt; the matches written as they are found; and the buffers left as the report says.
 use matches::DONE;
+use matches::OUT_OF_STEPS;
 use matches::Sweep;
 use matches::Task;
 use matches::write_match;
+use pairs::ENTER;
+use pairs::Walk;
 use walk::attempt;
 ghost use mathlib.Core.Path.{_≡_};
 ghost use Prim.Native.Nat.{_≤_};
@@ -10,10 +13,48 @@ ghost use lib.ListN.{length};
 ghost use Rattle.rules.specs.Basics.{wrote};
 ghost use Rattle.rules.specs.Report.{zeros};
 ghost use Rattle.matches.specs.Asked.{askedOf};
-ghost use Rattle.matches.specs.Found.{Visits, Visited, Searches};
-ghost use Rattle.sweep.specs.Searched.{Starts, Searched, Answered};
+ghost use Rattle.matches.specs.Found.{Told, Visits, Visited, Searches};
+ghost use Rattle.sweep.specs.Searched.{cameTo, Tells, Starts, Searched, Answered};
 
-// One start: the attempt there, and its match where it finds a path.
+// What an attempt at a start came to. Where it has halted, no step is left and the search is over;
+// where no pair is open it found nothing, and the search goes on one row on; else the path is on the
+// trail.
+fn tell(
+    table: &[u16],
+    rows: &[i32],
+    trail: &[u32],
+    numbers: &mut [i64],
+    labels: &mut [u8],
+    task: Task,
+    i: Sweep,
+    w: Walk,
+) -> Sweep
+    requires { ⌜ Tells (now table) (now rows) task (now trail) (now labels) i w ⌝ }
+    ensures { λ r. ⌜ Told (askedOf (now (table .entry)) (now (rows .entry)) task) (cameTo (task .size .places) (now (trail .entry)) w) i (w .steps) (now (numbers .entry)) (now (numbers .exit)) (now (labels .entry)) (now (labels .exit)) r ⌝ }
+{
+    if w.status == ENTER {
+        return Sweep {
+            end: OUT_OF_STEPS,
+            row: task.size.rows,
+            matches: i.matches,
+            labels: i.labels,
+            steps: w.steps,
+        };
+    }
+    if w.top == 0 {
+        let after = i.row + 1;
+        return Sweep {
+            end: DONE,
+            row: after,
+            matches: i.matches,
+            labels: i.labels,
+            steps: w.steps,
+        };
+    }
+    write_match(table, rows, trail, numbers, labels, task, i, w)
+}
+
+// One start: the attempt there, and what it came to.
 fn visit(
     table: &[u16],
     rows: &[i32],
@@ -28,20 +69,8 @@ fn visit(
     ensures { λ r. ⌜ Visited (askedOf (now (table .entry)) (now (rows .entry)) task) (now (notes .entry)) (now (notes .exit)) (now (trail .entry)) (now (trail .exit)) (now (numbers
         .entry)) (now (numbers .exit)) (now (labels .entry)) (now (labels .exit)) i r ⌝ }
 {
-    let size = task.size;
-    let row = i.row;
-    let w = attempt(table, rows, notes, trail, size, row, i.steps);
-    if w.top == 0 {
-        let after = row + 1;
-        return Sweep {
-            end: DONE,
-            row: after,
-            matches: i.matches,
-            labels: i.labels,
-            steps: w.steps,
-        };
-    }
-    write_match(table, rows, trail, numbers, labels, task, i, w)
+    let w = attempt(table, rows, notes, trail, task.size, i.row, i.steps);
+    tell(table, rows, trail, numbers, labels, task, i, w)
 }
 
 // All starts, where no pair has failed yet.

@@ -10,14 +10,15 @@ ghost use lib.ListN.{length, getD};
 ghost use Rattle.table.specs.Table.{codeAt, firstAt, laterAt, countAt, laterWay};
 ghost use Rattle.table.specs.Sized.{LaterIn};
 
-// How far a search reaches: the rows n, the columns of a row, the places P, and the word of the
-// table at which the letters' tests begin.
+// How far a search reaches: the rows n, the columns of a row, the places P, the word of the table
+// at which the letters' tests begin, and how many steps are allowed.
 #[repr(C)]
 pub struct Extent {
     pub rows: usize,
     pub columns: usize,
     pub places: usize,
     pub tests: usize,
+    pub allowance: usize,
 }
 
 // The words of a place.

@@ -13,13 +13,14 @@ use lib.Seq.{getD-set-same, getD-set-other}
 use borrow.Author.Tests.{ltb-true, ltb-false}
 use Rattle.rules.specs.Basics.{pick}
 use Rattle.rules.specs.Report.{bitAt}
+use Rattle.rules.specs.Walk.{Halting}
 use Rattle.rules.specs.Working.{marked}
 use Rattle.pairs.specs.declared.Walk.{Walk}
 use Rattle.pairs.specs.Layout.{Layout, P, N, second, leftFrom, mostPairs}
 use Rattle.table.specs.Table.{waysOf, codeAt, laterAt, countAt, laterWay}
 use Rattle.table.specs.Sized.{LaterIn}
 use Rattle.pairs.specs.Step.{oneUnless, placeIn, rowIn, wayIn, pairIn, stack, walkAt, tryAt, after, wentOn, Noted}
-use Rattle.pairs.specs.State.{Word, rowFrom, wayAt, reach, Led, Stuck, Good, left, restAt, rest, resumed, comes, Reached, Halts, Backward}
+use Rattle.pairs.specs.State.{Word, rowFrom, wayAt, reach, Led, Stuck, Good, left, restAt, rest, resumed, comes, Reached, Backs, Backward, Quiet}
 use Rattle.pairs.proofs.Ways.{left-none, left-some, ways-length, ways-later, second-is, takes-no-row}
 use Rattle.pairs.proofs.Trails.{went-place, went-row, went-way, stack-same}
 use Rattle.pairs.proofs.Going.{zero-two, not-two, good-room, comes-idle, top-word, top-below, top-out, top-byte, leave-reached, leave-less}
@@ -64,7 +65,7 @@ unfolding restAt
 rest-top T trail zero h = absurd (not-suc-le-zero h)
 rest-top T trail (suc t) h = let i : suc t - 1 ≡ t = omega arith in rw i
 
-module _ (T : Layout) (holds : ℕ → ℕ → Bool) (n : ℕ) (notes trail : List ℕ) (w : Walk) (h : Halts T holds n notes trail w) where
+module _ (H : Halting) (quiet : Quiet H) (T : Layout) (holds : ℕ → ℕ → Bool) (n : ℕ) (notes trail : List ℕ) (w : Walk) (h : Backs T holds n notes trail w) where
   abbrev e : ℕ
   e = getD trail (w .top - 1) 0
 
@@ -80,14 +81,14 @@ module _ (T : Layout) (holds : ℕ → ℕ → Bool) (n : ℕ) (notes trail : Li
   stuck : Stuck T notes e
   stuck = h .idle .state .stands .stuck (h .idle .down) (h .idle .found) (h .going)
 
-  comes-is : resumed T holds n notes trail w ≡ comes T holds n notes trail w
-  comes-is = sym (comes-idle T holds n notes trail w (h .idle .down))
+  comes-is : resumed H T holds n notes trail w ≡ comes H T holds n notes trail w
+  comes-is = sym (comes-idle H T holds n notes trail w (h .idle .down))
 
   word : Word T e
-  word = top-word T holds n notes trail w g (h .going)
+  word = top-word H quiet T holds n notes trail w g (h .going)
 
   below : rowIn e * P T + q < N T n
-  below = top-below T holds n notes trail w g (h .going)
+  below = top-below H quiet T holds n notes trail w g (h .going)
 
   top-room : w .top ≤ N T n
   top-room = let r = good-room T holds n notes trail w g in omega arith
@@ -101,11 +102,11 @@ module _ (T : Layout) (holds : ℕ → ℕ → Bool) (n : ℕ) (notes trail : Li
   -- ---- it fails
 
   popped : ((m : ℕ) → m < length (waysOf (T .words) q) → bitAt notes (wayAt T e m) ≡ true) → (x r b : ℕ)
-      → Backward T holds n notes trail w (marked notes (rowIn e * P T + q)) trail (walkAt (w .top - 1) (w .steps) x r b 0)
+      → Backward H T holds n notes trail w (marked notes (rowIn e * P T + q)) trail (walkAt (w .top - 1) (w .steps) x r b 0)
   popped all x r b =
-      let l = leave-less T holds n notes trail w g (h .going) (stuck .going) all x r b in
+      let l = leave-less H quiet T holds n notes trail w g (h .going) (stuck .going) all x r b in
       record {
-        reached = rw comes-is at (leave-reached T holds n notes trail w g (h .going) (stuck .going) all x r b);
+        reached = rw comes-is at (leave-reached H quiet T holds n notes trail w g (h .going) (stuck .going) all x r b);
         found = zero-two;
         less = omega arith;
         fewer = λ c. absurd (omega arith);
@@ -232,7 +233,7 @@ module _ (T : Layout) (holds : ℕ → ℕ → Bool) (n : ℕ) (notes trail : Li
           steps = g .steps;
         }
 
-    went-resumed : resumed T holds n notes trail₂ w ≡ resumed T holds n notes trail w
+    went-resumed : resumed H T holds n notes trail₂ w ≡ resumed H T holds n notes trail w
     unfolding resumed
     went-resumed = rw stack-is
 
@@ -282,14 +283,14 @@ module _ (T : Layout) (holds : ℕ → ℕ → Bool) (n : ℕ) (notes trail : Li
       way-is = rw (on-top, v-place) way-here
 
       way-noted : Noted notes (rowIn e * P T + k)
-      way-noted = turn-noted T holds n notes trail₂ w went-good (h .going) code-is m inside reaches before k (rowIn e) (rowIn e * P T) way-is row-from refl
+      way-noted = turn-noted H quiet T holds n notes trail₂ w went-good (h .going) code-is m inside reaches before k (rowIn e) (rowIn e * P T) way-is row-from refl
 
       -- the pair of the way is tried
-      way-tried : Backward T holds n notes trail w notes trail₂ (tryAt notes (w .top) (w .steps) k (rowIn e) (rowIn e * P T))
+      way-tried : Backward H T holds n notes trail w notes trail₂ (tryAt notes (w .top) (w .steps) k (rowIn e) (rowIn e * P T))
       unfolding left
       way-tried =
-          let t : Reached T holds n notes trail₂ (resumed T holds n notes trail₂ w) notes trail₂ (tryAt notes (w .top) (w .steps) k (rowIn e) (rowIn e * P T)) =
-          turn-tried T holds n notes trail₂ w went-good (h .going) code-is m inside reaches before k (rowIn e) (rowIn e * P T) way-is row-from refl in
+          let t : Reached H T holds n notes trail₂ (resumed H T holds n notes trail₂ w) notes trail₂ (tryAt notes (w .top) (w .steps) k (rowIn e) (rowIn e * P T)) =
+          turn-tried H quiet T holds n notes trail₂ w went-good (h .going) code-is m inside reaches before k (rowIn e) (rowIn e * P T) way-is row-from refl in
           let o = top-room in
           let gg = h .going in
           record {
@@ -350,18 +351,18 @@ module _ (T : Layout) (holds : ℕ → ℕ → Bool) (n : ℕ) (notes trail : Li
     back-pair = rw (p-is, r-is) (let b = below in let s = g .legal .small in omega arith)
 
     pub back-marks : ((r * P T + p) / 8 < length notes) × (bitAt notes (r * P T + p) ≡ false)
-    back-marks = rw (p-is, r-is) (top-byte T holds n notes trail w g (h .going), top-out T holds n notes trail w g (h .going))
+    back-marks = rw (p-is, r-is) (top-byte H quiet T holds n notes trail w g (h .going), top-out H quiet T holds n notes trail w g (h .going))
 
     as-read : (notes′ : List ℕ) → notes′ ≡ marked notes (r * P T + p)
-        → Backward T holds n notes trail w (marked notes (rowIn e * P T + q)) trail (walkAt (w .top - 1) (w .steps) q (rowIn e) (rowIn e * P T) 0)
-        → Backward T holds n notes trail w notes′ trail (walkAt (w .top - 1) (w .steps) p r (r * P T) 0)
+        → Backward H T holds n notes trail w (marked notes (rowIn e * P T + q)) trail (walkAt (w .top - 1) (w .steps) q (rowIn e) (rowIn e * P T) 0)
+        → Backward H T holds n notes trail w notes′ trail (walkAt (w .top - 1) (w .steps) p r (r * P T) 0)
     as-read notes′ en b = rw (en, p-is, r-is) b
 
     module _ (v : ℕ) (ev : (v ≡ wayIn u) × (v < 256)) where
       v-is : v ≡ j
       v-is = ev .0 ∙ ap (λ (x : ℕ). wayIn x) (eu .0)
 
-      pub back-none : v ≤ 0 → (notes′ : List ℕ) → notes′ ≡ marked notes (r * P T + p) → Backward T holds n notes trail w notes′ trail (walkAt (w .top - 1) (w .steps) p r (r * P T) 0)
+      pub back-none : v ≤ 0 → (notes′ : List ℕ) → notes′ ≡ marked notes (r * P T + p) → Backward H T holds n notes trail w notes′ trail (walkAt (w .top - 1) (w .steps) p r (r * P T) 0)
       back-none z notes′ en = as-read notes′ en (popped (none-left (let d : v ≡ 0 = omega arith in sym v-is ∙ d)) q (rowIn e) (rowIn e * P T))
 
       module _ (nz : 0 < v) where
@@ -390,14 +391,14 @@ module _ (T : Layout) (holds : ℕ → ℕ → Bool) (n : ℕ) (notes trail : Li
 
             module _ (a : ℕ) (ea : (a ≡ after s v) × (a < 256)) (f : Bool) (ef : f ≡ bitAt notes (r * P T + k)) where
               pub back-tried : (t : List ℕ) → t ≡ set trail (w .top - 1) (wentOn a u) → (d : ℕ) → oneUnless f ≡ d
-                  → Backward T holds n notes trail w notes t (walkAt (w .top) (w .steps) k r (r * P T) d)
+                  → Backward H T holds n notes trail w notes t (walkAt (w .top) (w .steps) k r (r * P T) d)
               back-tried t et d ed =
-                  let x : Backward T holds n notes trail w notes (trail₂ some-way) (tryAt notes (w .top) (w .steps) k (rowIn e) (rowIn e * P T)) = way-tried some-way k k-is in
+                  let x : Backward H T holds n notes trail w notes (trail₂ some-way) (tryAt notes (w .top) (w .steps) k (rowIn e) (rowIn e * P T)) = way-tried some-way k k-is in
                   let c : t ≡ trail₂ some-way = et ∙ ap₂ (λ (y z : ℕ). set trail (w .top - 1) (wentOn y z)) (ea .0 ∙ ap₂ after s-is v-is) (eu .0) in
                   rw (c, ← ed, ef, r-is) x
 
               pub back-last : f ≡ true → a ≤ 0 → (notes′ : List ℕ) → notes′ ≡ marked notes (r * P T + p)
-                  → Backward T holds n notes trail w notes′ trail (walkAt (w .top - 1) (w .steps) p r (r * P T) 0)
+                  → Backward H T holds n notes trail w notes′ trail (walkAt (w .top - 1) (w .steps) p r (r * P T) 0)
               back-last t z notes′ en =
                   let y : after (countAt (T .words) q) j ≡ 0 = sym (ea .0 ∙ ap₂ after s-is v-is) ∙ omega (arith, z) in
                   let o : bitAt notes (rowIn e * P T + k) ≡ true = rw r-is at (sym ef ∙ t) in

@@ -1,77 +1,83 @@
 -- The loops: on while a pair is to be entered, back until one is, and both in turn; and the attempt, from the pair that it tries to its result.
 use mathlib.Core.Path.{_≡_, refl, sym, ap, _∙_}
-use mathlib.Core.List.{List, _∷_}
+use mathlib.Core.List.{List}
 use mathlib.Core.Bool.{Bool, true, false}
 use mathlib.Core.Logic.{_≢_}
 use Prim.Native.Nat.{ℕ, zero, suc, _+_, _-_, _*_, _/_, _≤_, _<_}
 use native.Mathlib.Nat.{not-suc-le-zero}
 use native.Mathlib.Decide.{ℕ-discrete}
 use native.Mathlib.Omega.{arith}
+use borrow.Author.Tests.{eq-eqb, ne-eqb}
 use lib.ListN.{length, getD}
 use Rattle.rules.specs.Report.{bitAt}
+use Rattle.rules.specs.Walk.{Halting, enterUnless, inside}
 use Rattle.rules.proofs.Machine.{resume-one}
 use Rattle.rules.specs.Working.{bitsOf, resume}
 use Rattle.rules.proofs.Notes.{bitsOf-at}
 use Rattle.pairs.specs.declared.Walk.{Walk}
 use Rattle.pairs.specs.Layout.{Layout, P, N, graphOf, passesBy, entryOf, mostPairs}
 use Rattle.table.specs.Table.{codeAt, firstAt}
-use Rattle.pairs.specs.Step.{oneUnless, mem, placeIn, wayIn, stack, walkAt, tryAt, enteredBy, outcomeBy, Noted, Enters}
-use Rattle.pairs.specs.State.{Word, Good, Next, Ends, Stands, State, Goes, Idle, Halts, Moves, left, restAt, rest, resumed, entering, comes, Reached, Onward, Backward, Descended, Retreated, Ran, Ready, attemptBy, Done, Idling}
+use Rattle.pairs.specs.Step.{oneUnless, mem, placeIn, wayIn, stack, walkAt, tryAt, enteredBy, outcomeBy, resultBy, Noted, Enters}
+use Rattle.pairs.specs.State.{Word, Good, Next, Ends, Stands, State, Goes, Idle, Backs, Moves, left, restAt, rest, resumed, entering, facing, comes, Reached, Onward, Backward, Descended, Retreated, Ran, Ready, attemptBy, Done, Idling, Quiet}
 use Rattle.pairs.proofs.Ways.{left-none, left-some}
-use Rattle.pairs.proofs.Going.{never, zero-two, one-two, comes-idle, reached-none, reached-on, top-end}
+use Rattle.pairs.proofs.Going.{never, zero-two, one-two, comes-idle, comes-next, faces-halt, reached-none, reached-on, top-end}
 use Rattle.pairs.proofs.Trying.{pair-in, goes-enters, goes-on}
 
-pub state-of : (T : Layout) (holds : ℕ → ℕ → Bool) (n : ℕ) (n₁ t₁ notes trail : List ℕ) (w₁ w : Walk)
-    → Reached T holds n n₁ t₁ (comes T holds n n₁ t₁ w₁) notes trail w → State T holds n notes trail w
-state-of T holds n n₁ t₁ notes trail w₁ w r = record { good = r .good; stands = r .stands }
+pub state-of : (H : Halting) (T : Layout) (holds : ℕ → ℕ → Bool) (n : ℕ) (n₁ t₁ notes trail : List ℕ) (w₁ w : Walk)
+    → Reached H T holds n n₁ t₁ (comes H T holds n n₁ t₁ w₁) notes trail w → State T holds n notes trail w
+state-of H T holds n n₁ t₁ notes trail w₁ w r = record { good = r .good; stands = r .stands }
 
 -- ---- on while a pair is to be entered
 
-pub record Descending (T : Layout) (holds : ℕ → ℕ → Bool) (n : ℕ) (n₁ t₁ : List ℕ) (w₁ : Walk) (notes trail : List ℕ) (w : Walk) : Type 0 where
-  pub reached : Reached T holds n n₁ t₁ (comes T holds n n₁ t₁ w₁) notes trail w
+pub record Descending (H : Halting) (T : Layout) (holds : ℕ → ℕ → Bool) (n : ℕ) (n₁ t₁ : List ℕ) (w₁ : Walk) (notes trail : List ℕ) (w : Walk) : Type 0 where
+  pub reached : Reached H T holds n n₁ t₁ (comes H T holds n n₁ t₁ w₁) notes trail w
   pub less : left (N T n) notes w ≤ left (N T n) n₁ w₁
   pub start : left (N T n) notes w ≡ left (N T n) n₁ w₁ → w .status ≡ 1
 
-pub on-none : (T : Layout) (holds : ℕ → ℕ → Bool) (n : ℕ) (n₁ t₁ : List ℕ) (w₁ : Walk) → Goes T holds n n₁ t₁ w₁ → Descending T holds n n₁ t₁ w₁ n₁ t₁ w₁
-on-none T holds n n₁ t₁ w₁ s = record { reached = reached-none T holds n n₁ t₁ w₁ (s .state); less = omega arith; start = λ _. s .down }
+pub on-none : (H : Halting) (T : Layout) (holds : ℕ → ℕ → Bool) (n : ℕ) (n₁ t₁ : List ℕ) (w₁ : Walk) → Goes T holds n n₁ t₁ w₁ → Descending H T holds n n₁ t₁ w₁ n₁ t₁ w₁
+on-none H T holds n n₁ t₁ w₁ s = record { reached = reached-none H T holds n n₁ t₁ w₁ (s .state); less = omega arith; start = λ _. s .down }
 
-module _ (T : Layout) (holds : ℕ → ℕ → Bool) (n : ℕ) (n₁ t₁ : List ℕ) (w₁ : Walk) (notes trail : List ℕ) (w : Walk) (h : Descending T holds n n₁ t₁ w₁ notes trail w) where
-  pub on-end : (w .status ≡ 1 → ⊥) → Descended T holds n n₁ t₁ w₁ notes trail w
+module _ (H : Halting) (quiet : Quiet H) (T : Layout) (holds : ℕ → ℕ → Bool) (n : ℕ) (n₁ t₁ : List ℕ) (w₁ : Walk) (notes trail : List ℕ) (w : Walk) (h : Descending H T holds n n₁ t₁ w₁ notes trail w) where
+  pub on-end : (w .status ≡ 1 → ⊥) → Descended H T holds n n₁ t₁ w₁ notes trail w
   on-end d =
       let c : left (N T n) notes w ≢ left (N T n) n₁ w₁ = λ z. d (h .start z) in
       let l = h .less in
-      record { reached = h .reached; less = omega arith; down = d }
+      record { reached = h .reached; less = λ _. omega arith; down = λ e. absurd (d e) }
 
-  module _ (d : w .status ≡ 1) where
+  -- no step is left
+  pub on-halt : w .status ≡ 1 → H .spent (w .steps) ≡ true → Descended H T holds n n₁ t₁ w₁ notes trail w
+  on-halt d sp = record { reached = h .reached; less = λ e. absurd (e d); down = λ _. sp }
+
+  module _ (d : w .status ≡ 1) (unspent : H .spent (w .steps) ≡ false) where
     goes : Goes T holds n notes trail w
-    goes = record { state = state-of T holds n n₁ t₁ notes trail w₁ w (h .reached); down = d }
+    goes = record { state = state-of H T holds n n₁ t₁ notes trail w₁ w (h .reached); down = d }
 
     pub on-enters : Enters T n notes trail w
-    on-enters = goes-enters T holds n notes trail w goes
+    on-enters = goes-enters H quiet T holds n notes trail w goes unspent
 
     module _ (notes′ trail′ : List ℕ) (r : Walk)
         (e : mem notes′ trail′ r ≡ enteredBy (passesBy holds n (codeAt (T .words) (w .place)) (w .row)) (mem notes trail w) (codeAt (T .words) (w .place)) (entryOf (T .words) (w .place))
         (firstAt (T .words) (w .place)) (P T)) where
-      onward : Onward T holds n notes trail w notes′ trail′ r
-      onward = goes-on T holds n notes trail w goes notes′ trail′ r e
+      onward : Onward H T holds n notes trail w notes′ trail′ r
+      onward = goes-on H quiet T holds n notes trail w goes unspent notes′ trail′ r e
 
       pub on-less : left (N T n) notes′ r < left (N T n) notes w
       on-less = onward .less
 
-      pub on-more : Descending T holds n n₁ t₁ w₁ notes′ trail′ r
+      pub on-more : Descending H T holds n n₁ t₁ w₁ notes′ trail′ r
       on-more =
           let a = h .less in
           let b = onward .less in
           record {
-            reached = reached-on T holds n n₁ t₁ _ notes trail w notes′ trail′ r (h .reached) (onward .reached);
+            reached = reached-on H T holds n n₁ t₁ _ notes trail w notes′ trail′ r (h .reached) (onward .reached);
             less = omega arith;
             start = λ z. absurd (omega arith);
           }
 
 -- ---- back until one is to be entered
 
-pub record Retreating (T : Layout) (holds : ℕ → ℕ → Bool) (n : ℕ) (n₁ t₁ : List ℕ) (w₁ : Walk) (notes trail : List ℕ) (w : Walk) : Type 0 where
-  pub reached : Reached T holds n n₁ t₁ (comes T holds n n₁ t₁ w₁) notes trail w
+pub record Retreating (H : Halting) (T : Layout) (holds : ℕ → ℕ → Bool) (n : ℕ) (n₁ t₁ : List ℕ) (w₁ : Walk) (notes trail : List ℕ) (w : Walk) : Type 0 where
+  pub reached : Reached H T holds n n₁ t₁ (comes H T holds n n₁ t₁ w₁) notes trail w
   pub found : w .status ≡ 2 → ⊥
   pub less : left (N T n) notes w ≤ left (N T n) n₁ w₁
 
@@ -79,25 +85,25 @@ pub record Retreating (T : Layout) (holds : ℕ → ℕ → Bool) (n : ℕ) (n�
 abbrev pub behind : Layout → ℕ → List ℕ → List ℕ → Walk → ℕ
 behind T n notes trail w = 4096 * left (N T n) notes w + rest T trail w
 
-pub off-none : (T : Layout) (holds : ℕ → ℕ → Bool) (n : ℕ) (n₁ t₁ : List ℕ) (w₁ : Walk) → Idle T holds n n₁ t₁ w₁ → Retreating T holds n n₁ t₁ w₁ n₁ t₁ w₁
-off-none T holds n n₁ t₁ w₁ s = record { reached = reached-none T holds n n₁ t₁ w₁ (s .state); found = s .found; less = omega arith }
+pub off-none : (H : Halting) (T : Layout) (holds : ℕ → ℕ → Bool) (n : ℕ) (n₁ t₁ : List ℕ) (w₁ : Walk) → Idle T holds n n₁ t₁ w₁ → Retreating H T holds n n₁ t₁ w₁ n₁ t₁ w₁
+off-none H T holds n n₁ t₁ w₁ s = record { reached = reached-none H T holds n n₁ t₁ w₁ (s .state); found = s .found; less = omega arith }
 
-module _ (T : Layout) (holds : ℕ → ℕ → Bool) (n : ℕ) (n₁ t₁ : List ℕ) (w₁ : Walk) (notes trail : List ℕ) (w : Walk) (h : Retreating T holds n n₁ t₁ w₁ notes trail w) where
-  pub off-down : w .status ≡ 1 → Retreated T holds n n₁ t₁ w₁ notes trail w
+module _ (H : Halting) (quiet : Quiet H) (T : Layout) (holds : ℕ → ℕ → Bool) (n : ℕ) (n₁ t₁ : List ℕ) (w₁ : Walk) (notes trail : List ℕ) (w : Walk) (h : Retreating H T holds n n₁ t₁ w₁ notes trail w) where
+  pub off-down : w .status ≡ 1 → Retreated H T holds n n₁ t₁ w₁ notes trail w
   off-down d = record { reached = h .reached; less = h .less; still = λ e. absurd (e d) }
 
-  pub off-end : w .top ≤ 0 → Retreated T holds n n₁ t₁ w₁ notes trail w
+  pub off-end : w .top ≤ 0 → Retreated H T holds n n₁ t₁ w₁ notes trail w
   off-end l = record { reached = h .reached; less = h .less; still = λ _. omega arith }
 
-  pub off-halts : 0 < w .top → (w .status ≡ 1 → ⊥) → Halts T holds n notes trail w
-  off-halts l d = record { idle = record { state = state-of T holds n n₁ t₁ notes trail w₁ w (h .reached); down = d; found = h .found }; going = l }
+  pub off-halts : 0 < w .top → (w .status ≡ 1 → ⊥) → Backs T holds n notes trail w
+  off-halts l d = record { idle = record { state = state-of H T holds n n₁ t₁ notes trail w₁ w (h .reached); down = d; found = h .found }; going = l }
 
-  module _ (notes′ trail′ : List ℕ) (r : Walk) (o : Backward T holds n notes trail w notes′ trail′ r) where
-    pub off-more : Retreating T holds n n₁ t₁ w₁ notes′ trail′ r
+  module _ (notes′ trail′ : List ℕ) (r : Walk) (o : Backward H T holds n notes trail w notes′ trail′ r) where
+    pub off-more : Retreating H T holds n n₁ t₁ w₁ notes′ trail′ r
     off-more =
         let a = h .less in
         let b = o .less in
-        record { reached = reached-on T holds n n₁ t₁ _ notes trail w notes′ trail′ r (h .reached) (o .reached); found = o .found; less = omega arith }
+        record { reached = reached-on H T holds n n₁ t₁ _ notes trail w notes′ trail′ r (h .reached) (o .reached); found = o .found; less = omega arith }
 
     few : (t : ℕ) → r .top ≡ t → restAt T trail′ t ≤ 2048
     unfolding restAt
@@ -122,57 +128,71 @@ module _ (T : Layout) (holds : ℕ → ℕ → Bool) (n : ℕ) (n₁ t₁ : List
 
 -- ---- both in turn
 
-pub record Running (T : Layout) (holds : ℕ → ℕ → Bool) (n : ℕ) (n₁ t₁ : List ℕ) (w₁ : Walk) (notes trail : List ℕ) (w : Walk) : Type 0 where
-  pub reached : Reached T holds n n₁ t₁ (comes T holds n n₁ t₁ w₁) notes trail w
+pub record Running (H : Halting) (T : Layout) (holds : ℕ → ℕ → Bool) (n : ℕ) (n₁ t₁ : List ℕ) (w₁ : Walk) (notes trail : List ℕ) (w : Walk) : Type 0 where
+  pub reached : Reached H T holds n n₁ t₁ (comes H T holds n n₁ t₁ w₁) notes trail w
   pub still : (w .status ≡ 1 → ⊥) → w .top ≡ 0
 
-pub run-none : (T : Layout) (holds : ℕ → ℕ → Bool) (n : ℕ) (n₁ t₁ : List ℕ) (w₁ : Walk) → Moves T holds n n₁ t₁ w₁ → Running T holds n n₁ t₁ w₁ n₁ t₁ w₁
-run-none T holds n n₁ t₁ w₁ s = record { reached = reached-none T holds n n₁ t₁ w₁ (s .state); still = s .still }
+pub run-none : (H : Halting) (T : Layout) (holds : ℕ → ℕ → Bool) (n : ℕ) (n₁ t₁ : List ℕ) (w₁ : Walk) → Moves T holds n n₁ t₁ w₁ → Running H T holds n n₁ t₁ w₁ n₁ t₁ w₁
+run-none H T holds n n₁ t₁ w₁ s = record { reached = reached-none H T holds n n₁ t₁ w₁ (s .state); still = s .still }
 
-module _ (T : Layout) (holds : ℕ → ℕ → Bool) (n : ℕ) (n₁ t₁ : List ℕ) (w₁ : Walk) (notes trail : List ℕ) (w : Walk) (h : Running T holds n n₁ t₁ w₁ notes trail w) where
+module _ (H : Halting) (quiet : Quiet H) (T : Layout) (holds : ℕ → ℕ → Bool) (n : ℕ) (n₁ t₁ : List ℕ) (w₁ : Walk) (notes trail : List ℕ) (w : Walk) (h : Running H T holds n n₁ t₁ w₁ notes trail w) where
   pub run-goes : w .status ≡ 1 → Goes T holds n notes trail w
-  run-goes d = record { state = state-of T holds n n₁ t₁ notes trail w₁ w (h .reached); down = d }
+  run-goes d = record { state = state-of H T holds n n₁ t₁ notes trail w₁ w (h .reached); down = d }
 
-  pub run-end : (w .status ≡ 1 → ⊥) → Ran T holds n n₁ t₁ w₁ notes trail w
-  run-end d = record { reached = h .reached; down = d; last = λ l. let z = h .still d in absurd (omega arith) }
+  pub run-end : (w .status ≡ 1 → ⊥) → Ran H T holds n n₁ t₁ w₁ notes trail w
+  run-end d = record { reached = h .reached; down = λ e. absurd (d e); last = λ _ l. let z = h .still d in absurd (omega arith) }
 
-  module _ (n₂ t₂ : List ℕ) (w₂ : Walk) (d : Descended T holds n notes trail w n₂ t₂ w₂) where
-    on : Reached T holds n n₁ t₁ (comes T holds n n₁ t₁ w₁) n₂ t₂ w₂
-    on = reached-on T holds n n₁ t₁ _ notes trail w n₂ t₂ w₂ (h .reached) (d .reached)
+  module _ (n₂ t₂ : List ℕ) (w₂ : Walk) (d : Descended H T holds n notes trail w n₂ t₂ w₂) where
+    on : Reached H T holds n n₁ t₁ (comes H T holds n n₁ t₁ w₁) n₂ t₂ w₂
+    on = reached-on H T holds n n₁ t₁ _ notes trail w n₂ t₂ w₂ (h .reached) (d .reached)
 
-    pub run-found : w₂ .status ≡ 2 → Ran T holds n n₁ t₁ w₁ n₂ t₂ w₂
-    run-found e = record { reached = on; down = d .down; last = λ _. d .reached .stands .ends e }
+    pub run-found : w₂ .status ≡ 2 → Ran H T holds n n₁ t₁ w₁ n₂ t₂ w₂
+    run-found e = record { reached = on; down = d .down; last = λ _ _. d .reached .stands .ends e }
+
+    -- no step is left
+    pub run-halt : w₂ .status ≡ 1 → Ran H T holds n n₁ t₁ w₁ n₂ t₂ w₂
+    run-halt e = record { reached = on; down = d .down; last = λ z. absurd (z e) }
 
     -- going back: it does not ask which letters hold
-    module _ (e : w₂ .status ≡ 2 → ⊥) where
+    module _ (e : w₂ .status ≡ 2 → ⊥) (o : w₂ .status ≡ 1 → ⊥) where
       unfoldable pub run-idling : Idling T n n₂ t₂ w₂
-      run-idling = record { holds = holds; idle = record { state = state-of T holds n notes trail n₂ t₂ w w₂ (d .reached); down = d .down; found = e } }
+      run-idling = record { halting = H; quiet = quiet; holds = holds; idle = record { state = state-of H T holds n notes trail n₂ t₂ w w₂ (d .reached); down = o; found = e } }
 
-      module _ (notes′ trail′ : List ℕ) (r : Walk) (back : (h : Idling T n n₂ t₂ w₂) → Retreated T (h .holds) n n₂ t₂ w₂ notes′ trail′ r) where
-        retreated : Retreated T holds n n₂ t₂ w₂ notes′ trail′ r
+      module _ (notes′ trail′ : List ℕ) (r : Walk) (back : (h : Idling T n n₂ t₂ w₂) → Retreated (h .halting) T (h .holds) n n₂ t₂ w₂ notes′ trail′ r) where
+        retreated : Retreated H T holds n n₂ t₂ w₂ notes′ trail′ r
         unfolding run-idling
         retreated = back run-idling
 
-        pub run-more : Running T holds n n₁ t₁ w₁ notes′ trail′ r
-        run-more = record { reached = reached-on T holds n n₁ t₁ _ n₂ t₂ w₂ notes′ trail′ r on (retreated .reached); still = retreated .still }
+        pub run-more : Running H T holds n n₁ t₁ w₁ notes′ trail′ r
+        run-more = record { reached = reached-on H T holds n n₁ t₁ _ n₂ t₂ w₂ notes′ trail′ r on (retreated .reached); still = retreated .still }
 
         pub run-less : left (N T n) notes′ r < left (N T n) notes w
-        run-less = let x = retreated .less in let y = d .less in omega arith
+        run-less = let x = retreated .less in let y = d .less o in omega arith
 
 -- ---- the attempt
 
 -- no pair is open, or END is on top
-comes-out : (T : Layout) (holds : ℕ → ℕ → Bool) (n : ℕ) (notes trail : List ℕ) (w : Walk) → Good T holds n notes trail w → (0 < w .top → Ends T trail w)
-    → resumed T holds n notes trail w ≡ outcomeBy (P T) (w .top) trail (bitsOf notes (N T n)) (w .steps)
+comes-out : (H : Halting) (quiet : Quiet H) (T : Layout) (holds : ℕ → ℕ → Bool) (n : ℕ) (notes trail : List ℕ) (w : Walk) → Good T holds n notes trail w → (0 < w .top → Ends T trail w)
+    → resumed H T holds n notes trail w ≡ outcomeBy (P T) (w .top) trail (bitsOf notes (N T n)) (w .steps)
 unfolding resumed stack resume outcomeBy
-comes-out T holds n notes trail w g last = go (w .top) refl
+comes-out H quiet T holds n notes trail w g last = go (w .top) refl
   where
-    none : (t : ℕ) → t ≡ 0 → resume (graphOf T holds n) (N T n) (stack (P T) trail t) (bitsOf notes (N T n)) (w .steps) ≡ outcomeBy (P T) t trail (bitsOf notes (N T n)) (w .steps)
+    none : (t : ℕ) → t ≡ 0 → resume H (graphOf T holds n) (N T n) (stack (P T) trail t) (bitsOf notes (N T n)) (w .steps) ≡ outcomeBy (P T) t trail (bitsOf notes (N T n)) (w .steps)
     none t e = rw e
 
-    go : (t : ℕ) → w .top ≡ t → resume (graphOf T holds n) (N T n) (stack (P T) trail (w .top)) (bitsOf notes (N T n)) (w .steps) ≡ outcomeBy (P T) (w .top) trail (bitsOf notes (N T n)) (w .steps)
+    go : (t : ℕ) → w .top ≡ t → resume H (graphOf T holds n) (N T n) (stack (P T) trail (w .top)) (bitsOf notes (N T n)) (w .steps) ≡ outcomeBy (P T) (w .top) trail (bitsOf notes (N T n)) (w .steps)
     go zero e = none (w .top) e
-    go (suc t) e = let l : 0 < w .top = omega arith in top-end T holds n notes trail w g l (rw (last l .spot .place) (last l .end))
+    go (suc t) e = let l : 0 < w .top = omega arith in top-end H quiet T holds n notes trail w g l (rw (last l .spot .place) (last l .end))
+
+-- what a walk that is over comes to
+over : (H : Halting) (quiet : Quiet H) (T : Layout) (holds : ℕ → ℕ → Bool) (n : ℕ) (notes trail : List ℕ) (w : Walk) → Good T holds n notes trail w
+    → (w .status ≡ 1 → H .spent (w .steps) ≡ true) → ((w .status ≡ 1 → ⊥) → 0 < w .top → Ends T trail w)
+    → comes H T holds n notes trail w ≡ resultBy (P T) trail (bitsOf notes (N T n)) w
+unfolding resultBy
+over H quiet T holds n notes trail w g down last = elim (ℕ-discrete (w .status) 1) [
+  | yes d ↦ comes-next H T holds n notes trail w d ∙ faces-halt H T holds n notes trail w (w .base + w .place) (down d) ∙ rw (eq-eqb (w .status) 1 d)
+  | no d ↦ comes-idle H T holds n notes trail w d ∙ comes-out H quiet T holds n notes trail w g (last d) ∙ rw (ne-eqb (w .status) 1 d)
+]
 
 module _ (T : Layout) (holds : ℕ → ℕ → Bool) (n : ℕ) (notes trail : List ℕ) (i s : ℕ) (h : Ready T holds n notes trail i s) where
   abbrev F : List Bool
@@ -229,19 +249,32 @@ module _ (T : Layout) (holds : ℕ → ℕ → Bool) (n : ℕ) (notes trail : Li
   first-stands true o = record { next = λ d. absurd (never d); stuck = λ _ _ l. absurd (not-suc-le-zero l); ends = λ d. absurd (zero-two d) }
   first-stands false o = record { next = λ _. first-next o; stuck = λ d. absurd (d refl); ends = λ d. absurd (one-two d) }
 
-  first-same : (b : Bool) → bitAt notes (i * P T + 0) ≡ b → comes T holds n notes trail (walkAt 0 s 0 i (i * P T) (oneUnless b)) ≡ attemptBy T holds n F s i
-  unfolding comes resumed entering stack resume oneUnless
-  first-same true o = rw (bit-is true o)
-  first-same false o =
-      let z : i * P T + 0 ≡ i * P T = omega arith in
-      rw (z, bit-is false o) (resume-one (graphOf T holds n) (N T n) F (suc s) (i * P T))
+  pub first-moves : (v : Walk) → v ≡ tryAt notes 0 s 0 i (i * P T) → Moves T holds n notes trail v
+  first-moves v e =
+      rw e (record {
+        state = record { good = first-good (oneUnless (bitAt notes (i * P T + 0))); stands = first-stands (bitAt notes (i * P T + 0)) refl };
+        still = λ _. refl;
+      })
+
+module _ (H : Halting) (quiet : Quiet H) (T : Layout) (holds : ℕ → ℕ → Bool) (n : ℕ) (notes trail : List ℕ) (i s : ℕ) (h : Ready T holds n notes trail i s) where
+  first-same : (b : Bool) → bitAt notes (i * P T + 0) ≡ b → comes H T holds n notes trail (walkAt 0 s 0 i (i * P T) (oneUnless b)) ≡ attemptBy H T holds n (bitsOf notes (N T n)) s i
+  unfolding comes facing resumed entering stack resume oneUnless
+  first-same true o = rw (bit-is T holds n notes trail i s h true o)
+  first-same false o = rw (bit-is T holds n notes trail i s h false o) (go (H .spent s) refl)
+    where
+      go : (u : Bool) → H .spent s ≡ u
+          → facing H T holds n notes trail (walkAt 0 s 0 i (i * P T) 1) (i * P T + 0) ≡ enterUnless false (H .spent s) (inside H (graphOf T holds n) (N T n)) (bitsOf notes (N T n)) s (i * P T)
+      go true d = rw d
+      go false d =
+          let z : i * P T + 0 ≡ i * P T = omega arith in
+          rw (d, z) (resume-one H (graphOf T holds n) (N T n) (bitsOf notes (N T n)) (suc s) (i * P T))
 
   module _ (v : Walk) (e : v ≡ tryAt notes 0 s 0 i (i * P T)) where
-    first-reached : Reached T holds n notes trail (attemptBy T holds n F s i) notes trail v
+    first-reached : Reached H T holds n notes trail (attemptBy H T holds n (bitsOf notes (N T n)) s i) notes trail v
     first-reached =
         rw e (record {
-          good = first-good (oneUnless (bitAt notes (i * P T + 0)));
-          stands = first-stands (bitAt notes (i * P T + 0)) refl;
+          good = first-good T holds n notes trail i s h (oneUnless (bitAt notes (i * P T + 0)));
+          stands = first-stands T holds n notes trail i s h (bitAt notes (i * P T + 0)) refl;
           same = first-same (bitAt notes (i * P T + 0)) refl;
           notes-long = refl;
           trail-long = refl;
@@ -249,15 +282,13 @@ module _ (T : Layout) (holds : ℕ → ℕ → Bool) (n : ℕ) (notes trail : Li
           trail-beyond = λ k l. refl;
         })
 
-    pub first-moves : Moves T holds n notes trail v
-    first-moves = record { state = record { good = first-reached .good; stands = first-reached .stands }; still = λ _. rw e refl }
-
-    pub attempt-done : (notes′ trail′ : List ℕ) (r : Walk) → Ran T holds n notes trail v notes′ trail′ r → Done T holds n notes trail i s notes′ trail′ r
+    pub attempt-done : (notes′ trail′ : List ℕ) (r : Walk) → Ran H T holds n notes trail v notes′ trail′ r → Done H T holds n notes trail i s notes′ trail′ r
     attempt-done notes′ trail′ r d =
-        let a : Reached T holds n notes trail (attemptBy T holds n F s i) notes′ trail′ r =
-        reached-on T holds n notes trail _ notes trail v notes′ trail′ r first-reached (d .reached) in
+        let a : Reached H T holds n notes trail (attemptBy H T holds n (bitsOf notes (N T n)) s i) notes′ trail′ r =
+        reached-on H T holds n notes trail _ notes trail v notes′ trail′ r first-reached (d .reached) in
         record {
-          same = sym (a .same) ∙ comes-idle T holds n notes′ trail′ r (d .down) ∙ comes-out T holds n notes′ trail′ r (a .good) (d .last);
+          same = sym (a .same) ∙ over H quiet T holds n notes′ trail′ r (a .good) (d .down) (d .last);
           reached = a;
+          down = d .down;
           last = d .last;
         }

@@ -1,7 +1,9 @@
 // One attempt of the counted walk, over the table of places, lent notes (a bit for each pair: it has failed) and a lent trail (the open pairs).
 // A pair is the number row * P + place. Pairs are entered in one function only, `enter`, which counts the entry, and it is called in one place. No pair
 // is entered that has failed, so an attempt takes no more steps than there are pairs. An attempt is `begin`, which tries its first pair, and `go_on`, which
-// walks from a state on until no pair is to be entered or END is open. The promise is `Done` (crates/pairs/specs/State): the result is the definition's.
+// walks from a state on until no pair is to be entered or END is open, or until no step is
+// left of the allowance: then it halts just before the next entry, with its pair still to be entered. The promise is `Done` (crates/pairs/specs/State):
+// the result is the definition's.
 use entering::enter;
 use pairs::BACK;
 use pairs::ENTER;
@@ -23,9 +25,9 @@ ghost use mathlib.Core.Path.{_≡_};
 ghost use Prim.Native.Nat.{_+_, _*_};
 ghost use Rattle.pairs.specs.Layout.{layoutOf, lettersOf, Tested};
 ghost use Rattle.pairs.specs.Step.{Noted, tryAt};
-ghost use Rattle.pairs.specs.State.{Goes, Halting, Backward, Descended, Idling, Retreated, Moves, Ran, Ready, Done};
+ghost use Rattle.pairs.specs.State.{allowing, Goes, Backing, Backward, Descended, Idling, Retreated, Moves, Ran, Ready, Done};
 
-// On while there is a pair to be entered.
+// On while there is a pair to be entered and a step is left.
 fn descend(
     table: &[u16],
     rows: &[i32],
@@ -35,11 +37,14 @@ fn descend(
     from: Walk,
 ) -> Walk
     requires { ⌜ Tested (now table) (now rows) size × Goes (layoutOf (now table) size) (lettersOf (now table) (now rows) size) (size .rows) (now notes) (now trail) from ⌝ }
-    ensures { λ r. ⌜ Descended (layoutOf (now (table .entry)) size) (lettersOf (now (table .entry)) (now (rows .entry)) size) (size .rows) (now (notes .entry)) (now
+    ensures { λ r. ⌜ Descended (allowing (size .allowance)) (layoutOf (now (table .entry)) size) (lettersOf (now (table .entry)) (now (rows .entry)) size) (size .rows) (now (notes .entry)) (now
         (trail .entry)) from (now (notes .exit)) (now (trail .exit)) r ⌝ }
 {
     let mut w = from;
     while w.status == ENTER {
+        if size.allowance <= w.steps {
+            return w;
+        }
         w = enter(table, rows, notes, trail, size, w);
     }
     w
@@ -47,9 +52,9 @@ fn descend(
 
 // The last open pair tries its next way. Where no way is left, or the last one has failed, the pair fails. Which letters hold plays no part here.
 fn back(table: &[u16], notes: &mut [u8], trail: &mut [u32], size: Extent, w: Walk) -> Walk
-    requires { ⌜ Halting (layoutOf (now table) size) (size .rows) (now notes) (now trail) w ⌝ }
-    ensures { λ r. ⌜ ((h : Halting (layoutOf (now (table .entry)) size) (size .rows) (now (notes .entry)) (now (trail .entry)) w)
-        → Backward (layoutOf (now (table .entry)) size) (h .holds) (size .rows) (now (notes .entry)) (now (trail .entry)) w (now (notes .exit)) (now (trail .exit)) r) ⌝ }
+    requires { ⌜ Backing (layoutOf (now table) size) (size .rows) (now notes) (now trail) w ⌝ }
+    ensures { λ r. ⌜ ((h : Backing (layoutOf (now (table .entry)) size) (size .rows) (now (notes .entry)) (now (trail .entry)) w)
+        → Backward (h .halting) (layoutOf (now (table .entry)) size) (h .holds) (size .rows) (now (notes .entry)) (now (trail .entry)) w (now (notes .exit)) (now (trail .exit)) r) ⌝ }
 {
     let at = w.top - 1;
     let e = open_at(trail, at);
@@ -98,7 +103,7 @@ fn back(table: &[u16], notes: &mut [u8], trail: &mut [u32], size: Extent, w: Wal
 fn retreat(table: &[u16], notes: &mut [u8], trail: &mut [u32], size: Extent, from: Walk) -> Walk
     requires { ⌜ Idling (layoutOf (now table) size) (size .rows) (now notes) (now trail) from ⌝ }
     ensures { λ r. ⌜ ((h : Idling (layoutOf (now (table .entry)) size) (size .rows) (now (notes .entry)) (now (trail .entry)) from)
-        → Retreated (layoutOf (now (table .entry)) size) (h .holds) (size .rows) (now (notes .entry)) (now (trail .entry)) from (now (notes .exit)) (now (trail .exit)) r) ⌝ }
+        → Retreated (h .halting) (layoutOf (now (table .entry)) size) (h .holds) (size .rows) (now (notes .entry)) (now (trail .entry)) from (now (notes .exit)) (now (trail .exit)) r) ⌝ }
 {
     let mut w = from;
     while 0 < w.top {
@@ -110,7 +115,7 @@ fn retreat(table: &[u16], notes: &mut [u8], trail: &mut [u32], size: Extent, fro
     w
 }
 
-// The walk from a state on, until no pair is to be entered, or END is open.
+// The walk from a state on, until no pair is to be entered, or END is open, or no step is left.
 pub fn go_on(
     table: &[u16],
     rows: &[i32],
@@ -120,7 +125,7 @@ pub fn go_on(
     from: Walk,
 ) -> Walk
     requires { ⌜ Tested (now table) (now rows) size × Moves (layoutOf (now table) size) (lettersOf (now table) (now rows) size) (size .rows) (now notes) (now trail) from ⌝ }
-    ensures { λ r. ⌜ Ran (layoutOf (now (table .entry)) size) (lettersOf (now (table .entry)) (now (rows .entry)) size) (size .rows) (now (notes .entry)) (now (trail
+    ensures { λ r. ⌜ Ran (allowing (size .allowance)) (layoutOf (now (table .entry)) size) (lettersOf (now (table .entry)) (now (rows .entry)) size) (size .rows) (now (notes .entry)) (now (trail
         .entry)) from (now (notes .exit)) (now (trail .exit)) r ⌝ }
 {
     let mut w = from;
@@ -128,6 +133,9 @@ pub fn go_on(
         w = descend(table, rows, notes, trail, size, w);
         let status = w.status;
         if status == FOUND {
+            return w;
+        }
+        if status == ENTER {
             return w;
         }
         w = retreat(table, notes, trail, size, w);
@@ -154,7 +162,7 @@ pub fn attempt(
     steps: usize,
 ) -> Walk
     requires { ⌜ Tested (now table) (now rows) size × Ready (layoutOf (now table) size) (lettersOf (now table) (now rows) size) (size .rows) (now notes) (now trail) row steps ⌝ }
-    ensures { λ r. ⌜ Done (layoutOf (now (table .entry)) size) (lettersOf (now (table .entry)) (now (rows .entry)) size) (size .rows) (now (notes .entry)) (now (trail .entry)) row steps (now (notes .exit)) (now (trail .exit)) r ⌝ }
+    ensures { λ r. ⌜ Done (allowing (size .allowance)) (layoutOf (now (table .entry)) size) (lettersOf (now (table .entry)) (now (rows .entry)) size) (size .rows) (now (notes .entry)) (now (trail .entry)) row steps (now (notes .exit)) (now (trail .exit)) r ⌝ }
 {
     let first = begin(notes, size.places, row, steps);
     go_on(table, rows, notes, trail, size, first)

@@ -1,5 +1,5 @@
 -- `judge::judge` meets its contract. Laws: Laws.
-use Rattle.judge.proofs.Laws.{judge-deep, judge-wrong, judge-unfinished, some-node, top-at, sum-fits, more-fits, judge-loop, judge-many, judge-good}
+use Rattle.judge.proofs.Laws.{judge-deep, judge-wrong, judge-incomplete, some-node, top-at, sum-fits, more-fits, judge-loop, judge-many, judge-good}
 use borrow.Author.Tests.{not-true, not-false}
 use borrow.Author.Needs.{needs}
 use Rattle.judge.proofs.judge.Statement.{statement}
@@ -33,7 +33,7 @@ same-length-2 : tie.Need-same-length-2
 same-length-2 c = search needs
 
 returns-3 : tie.Need-returns-3
-returns-3 c = search (needs, judge-unfinished, not-true)
+returns-3 c = search (needs, judge-incomplete, not-true)
 
 sub-top : tie.Need-sub-top
 sub-top c = search (needs, some-node, not-true, not-false)

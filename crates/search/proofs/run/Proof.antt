@@ -40,7 +40,7 @@ returns-3 : tie.Need-returns-3
 returns-3 c = search (needs, run-short)
 
 walk-prepared-requires : tie.Need-walk-prepared-requires
-walk-prepared-requires c κs = run-walks _ _ _ _ _ [] [] (c .before .before .before .before .before .before .before .before .before .if1 .left) _ (c .before .before .before .before .before .before .before .before .bad-rows .ensures) (c .before .before .before .before .before .before .before .if2 .left) _ refl _ (c .before .before .before .before .before .short-room .ensures) (c .before .before .before .before .if3 .left) (c .before .before .before .before .before .before .before .before .before .before .before .before .before .before .pre)
+walk-prepared-requires c κs = run-walks _ _ _ _ _ _ [] [] (c .before .before .before .before .before .before .before .before .before .if1 .left) _ (c .before .before .before .before .before .before .before .before .bad-rows .ensures) (c .before .before .before .before .before .before .before .if2 .left) _ refl _ (c .before .before .before .before .before .short-room .ensures) (c .before .before .before .before .if3 .left) (c .before .before .before .before .before .before .before .before .before .before .before .before .before .before .pre)
 
 same-length : tie.Need-same-length
 same-length c = search needs

@@ -1,14 +1,16 @@
 -- `walk::descend` meets its contract by the laws of Whole. The invariant and the measure of its loop come first.
 use borrow.Author.Needs.{needs}
-use Rattle.walk.proofs.Whole.{Descending, on-none, on-end, on-enters, on-more, on-less}
-use Rattle.pairs.specs.State.{left}
+use borrow.Author.Tests.{le-leb, lt-leb}
+use mathlib.Core.Path.{refl}
+use Rattle.walk.proofs.Whole.{Descending, on-none, on-end, on-halt, on-enters, on-more, on-less}
+use Rattle.pairs.specs.State.{allowing, left}
 use Rattle.pairs.specs.Layout.{layoutOf, lettersOf, N}
 use Rattle.walk.proofs.descend.Statement.{statement}
 use Rattle.walk.proofs.descend.Tie as tie
 
 abbrev Inv-loop : tie.InvT-loop
 Inv-loop table rows notes₀ trail₀ size w₀ notes trail w =
-    Descending (layoutOf table size) (lettersOf table rows size) (size .rows) notes₀ trail₀ w₀ notes trail w
+    Descending (allowing (size .allowance)) (layoutOf table size) (lettersOf table rows size) (size .rows) notes₀ trail₀ w₀ notes trail w
 
 abbrev μ-loop : tie.MeasureT-loop
 μ-loop table rows notes₀ trail₀ size w₀ notes trail w =
@@ -17,15 +19,6 @@ abbrev μ-loop : tie.MeasureT-loop
 loop-holds : tie.Need-loop-holds Inv-loop μ-loop
 loop-holds c = search (needs, on-none)
 
-enter-requires : tie.Need-enter-requires Inv-loop μ-loop
-enter-requires c κs = search (needs, on-enters)
-
-loop-less : tie.Need-loop-less Inv-loop μ-loop
-loop-less c = search (needs, on-less)
-
-loop-again : tie.Need-loop-again Inv-loop μ-loop
-loop-again c = search (needs, on-more)
-
 same-length : tie.Need-same-length Inv-loop μ-loop
 same-length c = search needs
 
@@ -33,7 +26,25 @@ same-length-2 : tie.Need-same-length-2 Inv-loop μ-loop
 same-length-2 c = search needs
 
 returns : tie.Need-returns Inv-loop μ-loop
-returns c = search (needs, on-end)
+returns c = on-halt _ (λ x. refl) _ _ _ _ _ _ _ _ _ (c .before .before .before .before .before .loop .inv) (c .before .before .before .if1 .taken) (le-leb _ _ (c .if2 .taken))
+
+enter-requires : tie.Need-enter-requires Inv-loop μ-loop
+enter-requires c κs = (c .before .before .before .before .before .before .before .before .before .before .before .pre .0, on-enters _ (λ x. refl) _ _ _ _ _ _ _ _ _ (c .before .before .before .before .before .before .before .loop .inv) (c .before .before .before .before .before .if1 .taken) (lt-leb _ _ (c .before .before .if2 .left)))
+
+loop-less : tie.Need-loop-less Inv-loop μ-loop
+loop-less c = on-less _ (λ x. refl) _ _ _ _ _ _ _ _ _ (c .before .before .before .before .before .before .before .before .before .before .before .before .loop .inv) (c .before .before .before .before .before .before .before .before .before .before .if1 .taken) (lt-leb _ _ (c .before .before .before .before .before .before .before .if2 .left)) _ _ _ (c .before .before .before .before .enter .ensures)
+
+loop-again : tie.Need-loop-again Inv-loop μ-loop
+loop-again c = on-more _ (λ x. refl) _ _ _ _ _ _ _ _ _ (c .before .before .before .before .before .before .before .before .before .before .before .before .loop .inv) (c .before .before .before .before .before .before .before .before .before .before .if1 .taken) (lt-leb _ _ (c .before .before .before .before .before .before .before .if2 .left)) _ _ _ (c .before .before .before .before .enter .ensures)
+
+same-length-3 : tie.Need-same-length-3 Inv-loop μ-loop
+same-length-3 c = search needs
+
+same-length-4 : tie.Need-same-length-4 Inv-loop μ-loop
+same-length-4 c = search needs
+
+returns-2 : tie.Need-returns-2 Inv-loop μ-loop
+returns-2 c = on-end _ (λ x. refl) _ _ _ _ _ _ _ _ _ (c .before .before .loop .inv) (c .if1 .left)
 
 pub descend-spec : {M : Type 1} → statement M
 descend-spec =
@@ -42,9 +53,12 @@ descend-spec =
     Inv-loop
     μ-loop
     loop-holds
+    same-length
+    same-length-2
+    returns
     enter-requires
     loop-less
     loop-again
-    same-length
-    same-length-2
-    returns)
+    same-length-3
+    same-length-4
+    returns-2)
