@@ -97,7 +97,11 @@ enum mireladle_answer {
      * be found again. That match and those before it stand whole in the report; no later match is
      * looked for, and the answer is the same where no row is left to look at. A match that does not
      * fit gives 13, whatever its labels. */
-    MIRELADLE_NO_SKIP_ROW = 15
+    MIRELADLE_NO_SKIP_ROW = 15,
+    /* The search stopped since its next step would have been one more than it was allowed. Only
+     * mireladle_search_within() gives this. The matches found by then stand whole in the report;
+     * there may be others. Where 13 or 15 comes first, that is the answer. */
+    MIRELADLE_OUT_OF_STEPS = 16
 };
 
 /* What a search returns. On the answers 1 to 12 and 14 all but the answer, and the offset of 5 and 14, are 0. */
@@ -105,7 +109,8 @@ struct mireladle_result {
     uint64_t answer;  /* one of enum mireladle_answer */
     uint64_t matches; /* matches in the report */
     uint64_t labels;  /* label bytes in the report */
-    uint64_t steps;   /* pairs entered; on 13 the search for the match that did not fit is counted too */
+    uint64_t steps;   /* pairs entered; on 13 the search for the match that did not fit is counted
+                       * too; on 16 the steps that were allowed */
     uint64_t offset;  /* on 5 the byte of the pattern text, from 0, at which it is wrong; on 14 its length; else 0 */
 };
 
@@ -148,16 +153,16 @@ typedef struct mireladle_room mireladle_room_t;
  * What the buffers hold afterwards:
  *
  *   answers 1 to 12   Nothing is changed, and the same on 14.
- *   answers 0, 13, 15 numbers: for each match in turn its number (from 1), its first row (the row
- *                     where it was tried if it takes none), how many rows it takes, and for each
+ *   answers 0, 13,    numbers: for each match in turn its number (from 1), its first row (the row
+ *   15, 16            where it was tried if it takes none), how many rows it takes, and for each
  *                     measure two numbers: 1 and the result, or 0 and 0 for null; over no rows all
  *                     but COUNT are null. That is matches * MIRELADLE_MATCH_LENGTH(measures)
  *                     numbers.
  *                     labels: the letters, 'A' to 'Z', of the matches' rows, match behind match; no
  *                     byte 0 ends them.
  *                     notes: bit (position * P + place), the lowest bit of a byte first, is 1
- *                     exactly if that pair was entered and failed. Spare bits of the last byte used
- *                     are 0.
+ *                     exactly if that pair was entered and failed. A pair that is still open when
+ *                     the search stops has not failed. Spare bits of the last byte used are 0.
  *                     trail: the first P * (n + 1) numbers are 0.
  *                     Whatever lies behind that, in each of the four, is unchanged.
  *
@@ -168,8 +173,9 @@ typedef struct mireladle_room mireladle_room_t;
  * and one that never holds: no match) and 4.5 seconds to the next row (a repeated group of 126
  * times `$` or nothing, and a letter that holds at every row: P is 255, and each of 4,096 matches
  * reaches to the last row), on one core of an AMD EPYC. To a letter's row nearly as many steps can
- * be taken, where that row is the second of each match. A search cannot be broken off; less room
- * for labels makes it stop earlier, with answer 13.
+ * be taken, where that row is the second of each match. Nothing breaks off a search that has begun.
+ * A caller who cannot wait for so long names the steps that it may take, and calls
+ * mireladle_search_within().
  */
 struct mireladle_result mireladle_search(const uint8_t *query, size_t query_len,
                                          const int32_t *rows, size_t rows_len,
@@ -177,6 +183,36 @@ struct mireladle_result mireladle_search(const uint8_t *query, size_t query_len,
                                          uint32_t *trail, size_t trail_len,
                                          int64_t *numbers, size_t numbers_len,
                                          uint8_t *labels, size_t labels_len);
+
+/*
+ * The same search with an allowance of steps. It stops with answer 16 just before the step that
+ * would be one more than the allowance, so that the caller has control again after a time in
+ * proportion to the allowance, and to P * (n + 1) for the working room, which is cleared.
+ *
+ *   allowance  How many steps the search may take. Any number does: with 0 every search of a row
+ *              or more gives 16, and UINT64_MAX is more than any search takes.
+ *
+ * All else is as for mireladle_search(), and so are the refusals, 1 to 12 and 14: they come first,
+ * whatever the allowance. On 16 the steps returned are the allowance, and all four buffers are as
+ * stated there for 13. 13 and 15 are given where they come first: a match that is found with the
+ * last step allowed is written, or does not fit, or has no row to skip to, and only the next step
+ * would give 16.
+ *
+ * An allowance that the search does not pass changes nothing: answer, counts and all buffers are
+ * then those of mireladle_search(). The steps that mireladle_search() returns are enough for that;
+ * where they are not known, 2 * P * (n + 1) are always enough with skip past last row, and
+ * P * n * (n + 3) / 2 with every other skip.
+ *
+ * The same search with a larger allowance begins with the same matches. It begins at row 0 again:
+ * no search goes on where another one stopped.
+ */
+struct mireladle_result mireladle_search_within(const uint8_t *query, size_t query_len,
+                                                const int32_t *rows, size_t rows_len,
+                                                uint64_t allowance,
+                                                uint8_t *notes, size_t notes_len,
+                                                uint32_t *trail, size_t trail_len,
+                                                int64_t *numbers, size_t numbers_len,
+                                                uint8_t *labels, size_t labels_len);
 
 /*
  * Judges a query and rows and tells how much working room their search takes: answer 0 with P, n and P * (n + 1), or

@@ -43,7 +43,23 @@ int main(void) {
     const mireladle_room_t again = mireladle_room(NULL, 0, NULL, 0);
     const mireladle_result_t *same = &result;
     if (again.answer != room.answer || same->answer != result.answer) return 5;
-    if (MIRELADLE_PATTERN_ENDS != 14 || MIRELADLE_NO_SKIP_ROW != 15) return 6;
+    if (MIRELADLE_PATTERN_ENDS != 14 || MIRELADLE_NO_SKIP_ROW != 15 || MIRELADLE_OUT_OF_STEPS != 16) return 6;
+    /* One row and the pattern (), which takes one step: the allowance is the fifth argument. */
+    const uint8_t query[] = {2, 0, 1, 0, 1, 0, 2, 0, 2, 0, '(', ')', 2, 0, 4, 0, 0, 0};
+    const int32_t row = 7;
+    int64_t numbers[3] = {-1, -1, -1};
+    for (uint64_t allowance = 0; allowance < 3; allowance++) {
+        uint8_t notes = 0xAA;
+        uint32_t trail[2] = {9, 9};
+        result = mireladle_search_within(query, sizeof query, &row, 1, allowance, &notes, 1, trail, 2, numbers, 3,
+                                         NULL, 0);
+        if (result.answer != (uint64_t)(allowance == 0 ? MIRELADLE_OUT_OF_STEPS : MIRELADLE_DONE)) return 7;
+        if (result.steps != (allowance == 0 ? 0u : 1u) || result.matches != result.steps) return 8;
+        if (notes != 0 || trail[0] != 0 || trail[1] != 0) return 9;
+        if (numbers[0] != (allowance == 0 ? -1 : 1)) return 10;
+    }
+    result = mireladle_search_within(NULL, 0, NULL, 0, UINT64_MAX, NULL, 0, NULL, 0, NULL, 0, NULL, 0);
+    if (result.answer != MIRELADLE_WRONG_RECORDS) return 11;
     return MIRELADLE_NOTES_LENGTH(30) == 4 && MIRELADLE_MATCH_LENGTH(2) == 7 ? 0 : 4;
 }
 "#;

@@ -1,11 +1,11 @@
 /*
- * Measures how much stack a call of mireladle_search() and of mireladle_room() takes, over many
- * shapes of queries.
+ * Measures how much stack a call of mireladle_search(), mireladle_search_within() and
+ * mireladle_room() takes, over many shapes of queries.
  *
  * Everything runs on a thread whose stack is a region of this program's own. Before each call the
  * region is painted with a pattern; afterwards the lowest word that differs tells how deep the call
  * went, counted from the frame of the function that calls. A line for each shape says how many
- * queries were tried, how many of them are accepted, and the worst of both functions.
+ * queries were tried, how many of them are accepted, and the worst of each function.
  *
  * Promise: the exit status is 0 if no call took more than MIRELADLE_STACK of include/mireladle.h,
  * and 1 otherwise, or where the measuring itself went wrong. A call that leaves the region ends at
@@ -90,7 +90,7 @@ static void check_the_measuring(void)
         fail("the measuring does not find a known depth");
 }
 
-/* ---- the two functions on it */
+/* ---- the three functions on it */
 
 static int32_t rows[MAX_ENTRIES];
 static uint8_t notes[MIRELADLE_NOTES_LENGTH(MIRELADLE_MAX_PAIRS)];
@@ -101,9 +101,9 @@ static uint8_t labels[MIRELADLE_MAX_ROWS];
 static struct {
     const char *name;
     unsigned queries, accepted;
-    size_t search, room;
+    size_t search, within, room;
 } shape;
-static size_t worst_search, worst_room;
+static size_t worst_search, worst_within, worst_room;
 
 /* The worst query of all, and the worst accepted one. */
 struct worst {
@@ -117,6 +117,16 @@ NOINLINE static size_t depth_of_search(const uint8_t *query, size_t length, size
     paint();
     *answer = mireladle_search(query, length, rows, entries, notes, sizeof notes, trail, MIRELADLE_MAX_PAIRS, numbers,
                                MIRELADLE_MAX_ROWS * MATCH, labels, sizeof labels).answer;
+    return depth_below((uintptr_t)__builtin_frame_address(0));
+}
+
+/* With an allowance that no search passes, so that as much is done as without one. */
+NOINLINE static size_t depth_of_within(const uint8_t *query, size_t length, size_t entries, uint64_t *answer)
+{
+    paint();
+    *answer = mireladle_search_within(query, length, rows, entries, UINT64_MAX, notes, sizeof notes, trail,
+                                      MIRELADLE_MAX_PAIRS, numbers, MIRELADLE_MAX_ROWS * MATCH, labels,
+                                      sizeof labels).answer;
     return depth_below((uintptr_t)__builtin_frame_address(0));
 }
 
@@ -142,22 +152,26 @@ static void keep_worst(struct worst *worst, size_t depth, const uint8_t *query, 
     }
 }
 
-/* Both functions on one query. */
+/* All functions on one query. */
 static void measure(const uint8_t *query, size_t length, size_t entries)
 {
-    uint64_t searched, judged;
+    uint64_t searched, allowed, judged;
     const size_t search = depth_of_search(query, length, entries, &searched);
+    const size_t within = depth_of_within(query, length, entries, &allowed);
     const size_t room = depth_of_room(query, length, entries, &judged);
     const bool accepted =
         searched == MIRELADLE_DONE || searched == MIRELADLE_STOPPED || searched == MIRELADLE_NO_SKIP_ROW;
-    if (accepted ? judged != MIRELADLE_DONE : judged != searched)
-        fail("the two functions answer differently");
+    if (allowed != searched || (accepted ? judged != MIRELADLE_DONE : judged != searched))
+        fail("the functions answer differently");
     shape.queries++;
     raise_to(&shape.search, search);
+    raise_to(&shape.within, within);
     raise_to(&shape.room, room);
     raise_to(&worst_search, search);
+    raise_to(&worst_within, within);
     raise_to(&worst_room, room);
-    const size_t depth = search > room ? search : room;
+    size_t depth = search > room ? search : room;
+    raise_to(&depth, within);
     keep_worst(&worst_query, depth, query, length);
     if (accepted) {
         shape.accepted++;
@@ -173,8 +187,8 @@ static void begin(const char *name)
 
 static void finish(void)
 {
-    printf("%-52s %6u queries %6u accepted %7zu search %7zu room\n", shape.name, shape.queries, shape.accepted,
-           shape.search, shape.room);
+    printf("%-52s %6u queries %6u accepted %7zu search %7zu within %7zu room\n", shape.name, shape.queries,
+           shape.accepted, shape.search, shape.within, shape.room);
 }
 
 /* A shape that is there for what accepted queries take, or refused ones. */
@@ -681,6 +695,7 @@ int main(void)
         fail("no thread on the region");
     print_worst("query", &worst_query);
     print_worst("accepted query", &worst_accepted);
-    printf("worst: search %zu, room %zu; MIRELADLE_STACK is %d\n", worst_search, worst_room, MIRELADLE_STACK);
+    printf("worst: search %zu, within %zu, room %zu; MIRELADLE_STACK is %d\n", worst_search, worst_within, worst_room,
+           MIRELADLE_STACK);
     return worst_query.depth <= MIRELADLE_STACK ? 0 : 1;
 }
