@@ -13,6 +13,8 @@ pub(crate) const DONE: u64 = 0;
 pub(crate) const STOPPED: u64 = 13;
 /// The answer of a search that found no row to go on at behind a match.
 pub(crate) const NO_SKIP_ROW: u64 = 15;
+/// The answer of a search that ran out of steps.
+pub(crate) const OUT_OF_STEPS: u64 = 16;
 
 /// Why there is no query or no report.
 ///
@@ -75,7 +77,7 @@ pub enum Error {
 }
 
 impl Error {
-    /// The error that stands for an answer other than 0, 13 and 15, which have a report (see
+    /// The error that stands for an answer other than 0, 13, 15 and 16, which have a report (see
     /// [`Ending`](crate::Ending)), with the offset that came with it. It does not know what was
     /// expected, since it does not know the pattern's text.
     ///
@@ -201,7 +203,7 @@ mod tests {
         for number in (1..=12).chain([14]) {
             assert_eq!(Error::from_answer(number, 0).number(), Some(number));
         }
-        for other in [DONE, STOPPED, NO_SKIP_ROW, 16, u64::MAX] {
+        for other in [DONE, STOPPED, NO_SKIP_ROW, OUT_OF_STEPS, 17, u64::MAX] {
             assert_eq!(Error::from_answer(other, 0).number(), None);
         }
     }

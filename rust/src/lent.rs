@@ -1,12 +1,12 @@
-//! The library's two functions as they are, on buffers that the caller lends: for callers who keep their buffers from
+//! The library's three functions as they are, on buffers that the caller lends: for callers who keep their buffers from
 //! one search to the next, or who read the notes. Most callers want [`Query::search`](crate::Query::search).
 //!
 //! Every input gets an answer. Slices make sure of what C callers have to see to: valid pointers, and no overlap of
 //! what is written. All `unsafe` code of this crate stands here.
 
-/// Bytes of stack that a call of [`search()`] or [`room()`] needs, 32 KiB; the C header's
-/// `MIRELADLE_STACK`. It is measured and not proved: the worst query that was found took 29,264, and
-/// the rest is reserve.
+/// Bytes of stack that a call of [`search()`], [`search_within()`] or [`room()`] needs, 32 KiB; the
+/// C header's `MIRELADLE_STACK`. It is measured and not proved: the worst query that was found took
+/// 29,264, and the rest is reserve.
 ///
 /// Threads of the standard library have 2 MiB. One that is given less by
 /// [`stack_size`](std::thread::Builder::stack_size) needs at least 64 KiB, since the thread and this
@@ -18,8 +18,8 @@ pub const STACK: usize = 32_768;
 #[repr(C)]
 #[derive(Clone, Copy, Debug, PartialEq, Eq, Hash)]
 pub struct Outcome {
-    /// 0 done, 13 and 15 stopped, 1 to 12 and 14 refused; see [`Ending`](crate::Ending) for the
-    /// first three and [`Error`](crate::Error) for the refusals.
+    /// 0 done, 13, 15 and 16 stopped, 1 to 12 and 14 refused; see [`Ending`](crate::Ending) for the
+    /// first four and [`Error`](crate::Error) for the refusals.
     pub answer: u64,
     /// Matches in the report.
     pub matches: u64,
@@ -70,10 +70,10 @@ pub fn room(query: &[u8], rows: &[i32]) -> Room {
 /// `labels` take the report: for each match its number from 1, its first row, how many rows it takes, then for each
 /// measure 1 and the result or 0 and 0 for null; and the labels of its rows, as bytes `A` to `Z`.
 ///
-/// On the answers 1 to 12 and 14 no buffer is changed. On 0, 13 and 15 bit (position times P plus
-/// place) of the notes, the lowest bit of a byte first, is 1 exactly if that pair has failed; the
-/// spare bits of the last byte and the first [`Room::pairs`] numbers of the trail are 0; what lies
-/// behind that, and behind the report, is unchanged.
+/// On the answers 1 to 12 and 14 no buffer is changed. On 0, 13, 15 and 16 bit (position times P
+/// plus place) of the notes, the lowest bit of a byte first, is 1 exactly if that pair has failed;
+/// the spare bits of the last byte and the first [`Room::pairs`] numbers of the trail are 0; what
+/// lies behind that, and behind the report, is unchanged.
 pub fn search(
     query: &[u8],
     rows: &[i32],
@@ -103,6 +103,60 @@ pub fn search(
     }
 }
 
+/// The same search with an allowance of steps: it stops with answer 16 just before the step that
+/// would be one more, and the steps of the outcome are then the allowance. Refusals, and 13 or 15
+/// where they come first, are as those of [`search()`], and so are the buffers; a pair that is still
+/// open on 16 has not failed. An allowance that the search does not pass changes nothing.
+///
+/// ```
+/// use mireladle::{lent, Query};
+///
+/// let query = Query::builder(1).pattern("A").build()?;
+/// let (query, rows) = (query.as_bytes(), &[7, 8, 9]);
+/// let room = lent::room(query, rows);
+/// assert_eq!((room.notes(), room.pairs), (1, 8));
+/// let (mut notes, mut trail, mut numbers, mut labels) = ([0; 1], [0; 8], [0; 9], [0; 3]);
+/// let mut answer_and_matches = |allowance| {
+///     let outcome = lent::search_within(
+///         query, rows, allowance, &mut notes, &mut trail, &mut numbers, &mut labels,
+///     );
+///     (outcome.answer, outcome.matches)
+/// };
+/// // Two steps for each of three matches.
+/// assert_eq!(answer_and_matches(5), (16, 2));
+/// assert_eq!(answer_and_matches(6), (0, 3));
+/// # Ok::<(), mireladle::Error>(())
+/// ```
+pub fn search_within(
+    query: &[u8],
+    rows: &[i32],
+    allowance: u64,
+    notes: &mut [u8],
+    trail: &mut [u32],
+    numbers: &mut [i64],
+    labels: &mut [u8],
+) -> Outcome {
+    // SAFETY: as for `search`.
+    #[allow(unsafe_code)]
+    unsafe {
+        mireladle_search_within(
+            query.as_ptr(),
+            query.len(),
+            rows.as_ptr(),
+            rows.len(),
+            allowance,
+            notes.as_mut_ptr(),
+            notes.len(),
+            trail.as_mut_ptr(),
+            trail.len(),
+            numbers.as_mut_ptr(),
+            numbers.len(),
+            labels.as_mut_ptr(),
+            labels.len(),
+        )
+    }
+}
+
 // As in include/mireladle.h; nothing but the tests compares the two.
 extern "C" {
     fn mireladle_search(
@@ -110,6 +164,22 @@ extern "C" {
         query_len: usize,
         rows: *const i32,
         rows_len: usize,
+        notes: *mut u8,
+        notes_len: usize,
+        trail: *mut u32,
+        trail_len: usize,
+        numbers: *mut i64,
+        numbers_len: usize,
+        labels: *mut u8,
+        labels_len: usize,
+    ) -> Outcome;
+
+    fn mireladle_search_within(
+        query: *const u8,
+        query_len: usize,
+        rows: *const i32,
+        rows_len: usize,
+        allowance: u64,
         notes: *mut u8,
         notes_len: usize,
         trail: *mut u32,

@@ -34,6 +34,24 @@
 //! # Ok::<(), mireladle::Error>(())
 //! ```
 //!
+//! # How long a search takes
+//!
+//! The steps of a search are bounded, and counted in its report. A search that skips past the last
+//! row takes milliseconds, one with another skip can take seconds. A caller who cannot wait for so
+//! long names the steps that a search may take. It then ends after a time in proportion to them, and
+//! its report holds the matches that were found by then:
+//!
+//! ```
+//! use mireladle::{Ending, Limits, Query, Rows, Skip};
+//!
+//! // A match from every row to the last one: 4,096 matches, in more than 16 million steps.
+//! let query = Query::builder(1).pattern("A*").skip(Skip::ToNextRow).build()?;
+//! let report = query.search_within(Rows::new(&[0; 4096], 1), Limits::default().steps(20_000))?;
+//! assert_eq!(report.ending(), Ending::OutOfSteps);
+//! assert_eq!((report.len(), report.steps()), (2, 20_000));
+//! # Ok::<(), mireladle::Error>(())
+//! ```
+//!
 //! # Linking
 //!
 //! The build looks for `libmireladle_c.a` in `../target/staticlib` beside this package, where `rt staticlib mireladle_c`
@@ -68,8 +86,11 @@ pub use error::Error;
 pub use expected::Expected;
 pub use measure::{Function, Measure};
 pub use query::{Query, QueryBuilder, Skip};
-pub use report::{Ending, Match, Matches, Report, ReportRoom};
+pub use report::{Ending, Limits, Match, Matches, Report};
 pub use rows::Rows;
+
+#[allow(deprecated)]
+pub use report::ReportRoom;
 
 /// The README's Rust, built and run as a test, so that it stays true.
 #[cfg(doctest)]

@@ -7,7 +7,7 @@ use crate::error::{Error, DONE};
 use crate::expected::Expected;
 use crate::lent;
 use crate::measure::{letter_byte, Measure};
-use crate::report::{Report, ReportRoom};
+use crate::report::{Limits, Report};
 use crate::rows::Rows;
 
 /// Kinds of records, in the order in which they stand in a query.
@@ -282,12 +282,13 @@ impl Query {
 
     /// P: the places of the unrolled pattern, at most 256. A search of n rows takes at most 2P(n+1)
     /// steps where it skips past the last row, and at most Pn(n+3)/2 where it skips to the next
-    /// row, or to the first or last row with a letter: that can be seconds, see the README.
+    /// row, or to the first or last row with a letter: that can be seconds, see the README and
+    /// [`Limits::steps`].
     pub fn places(&self) -> u64 {
         self.places
     }
 
-    /// Searches rows for all matches, with room for all of them. A match is looked for at one row after the other, but
+    /// Searches rows for all matches, without limits. A match is looked for at one row after the other, but
     /// not behind the last: without rows there is none. A search that skips to a letter's row can
     /// stop for want of such a row: see [`Report::ending`].
     ///
@@ -295,16 +296,17 @@ impl Query {
     ///
     /// [`Error::WrongRows`] and [`Error::ColumnCount`].
     pub fn search(&self, rows: Rows<'_>) -> Result<Report, Error> {
-        self.search_within(rows, ReportRoom::default())
+        self.search_within(rows, Limits::default())
     }
 
-    /// Searches rows with limited room for the report. The search stops at the first match that does not fit: see
-    /// [`Report::ending`].
+    /// Searches rows within limits. The search stops at the first match that does not fit into the
+    /// report, or before the first step that is not allowed, whichever comes first: see
+    /// [`Report::ending`]. The report holds the matches before that.
     ///
     /// # Errors
     ///
-    /// [`Error::WrongRows`] and [`Error::ColumnCount`].
-    pub fn search_within(&self, rows: Rows<'_>, report: ReportRoom) -> Result<Report, Error> {
+    /// [`Error::WrongRows`] and [`Error::ColumnCount`], whatever the limits.
+    pub fn search_within(&self, rows: Rows<'_>, limits: Limits) -> Result<Report, Error> {
         if rows.columns() != self.shape.columns {
             return Err(Error::ColumnCount {
                 query: self.shape.columns,
@@ -317,16 +319,16 @@ impl Query {
         }
         let (notes, trail) = (length(room.notes())?, length(room.pairs)?);
         let n = length(room.rows)?;
-        let mut numbers = vec![0; report.numbers(n, self.shape.measures)];
-        let mut labels = vec![0; report.label_bytes(n, self.shape.skip)];
-        let outcome = lent::search(
-            &self.bytes,
-            rows.entries(),
-            &mut vec![0; notes],
-            &mut vec![0; trail],
-            &mut numbers,
-            &mut labels,
-        );
+        let (query, rows) = (&self.bytes, rows.entries());
+        let (notes, trail) = (&mut vec![0; notes], &mut vec![0; trail]);
+        let mut numbers = vec![0; limits.numbers(n, self.shape.measures)];
+        let mut labels = vec![0; limits.label_bytes(n, self.shape.skip)];
+        let outcome = match limits.allowance() {
+            None => lent::search(query, rows, notes, trail, &mut numbers, &mut labels),
+            Some(steps) => {
+                lent::search_within(query, rows, steps, notes, trail, &mut numbers, &mut labels)
+            }
+        };
         Report::new(&outcome, numbers, labels, self.shape.measures)
     }
 }

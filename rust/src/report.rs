@@ -5,7 +5,7 @@ use std::iter::FusedIterator;
 use std::ops::Range;
 use std::slice::ChunksExact;
 
-use crate::error::{Error, DONE, NO_SKIP_ROW, STOPPED};
+use crate::error::{Error, DONE, NO_SKIP_ROW, OUT_OF_STEPS, STOPPED};
 use crate::lent::Outcome;
 use crate::query::Skip;
 
@@ -19,25 +19,40 @@ fn numbers_per_match(measures: usize) -> usize {
     measures.saturating_mul(MEASURE).saturating_add(HEAD)
 }
 
-/// How much room a report gets. By default there is enough for every match.
+/// How far a search may go: the room for its report, and the steps that it may take. By default
+/// there is room for every match, and no limit to the steps.
 ///
 /// ```
-/// use mireladle::{Ending, Query, ReportRoom, Rows};
+/// use mireladle::{Ending, Limits, Query, Rows};
 ///
 /// let each_row = Query::builder(1).pattern("A").build()?;
-/// let report = each_row.search_within(Rows::new(&[7, 8, 9], 1), ReportRoom::default().matches(2))?;
-/// assert_eq!(report.len(), 2);
-/// assert_eq!(report.ending(), Ending::Stopped);
+/// let rows = Rows::new(&[7, 8, 9], 1);
+///
+/// let report = each_row.search_within(rows, Limits::default().matches(2))?;
+/// assert_eq!((report.len(), report.ending()), (2, Ending::Stopped));
+///
+/// // A match takes two steps here: the letter, and the pattern's end.
+/// let report = each_row.search_within(rows, Limits::default().steps(5))?;
+/// assert_eq!((report.len(), report.ending()), (2, Ending::OutOfSteps));
+///
+/// // What a search comes to first is its ending.
+/// let report = each_row.search_within(rows, Limits::default().matches(1).steps(5))?;
+/// assert_eq!((report.len(), report.ending()), (1, Ending::Stopped));
 /// # Ok::<(), mireladle::Error>(())
 /// ```
 #[derive(Clone, Copy, Debug, Default, PartialEq, Eq, Hash)]
 #[must_use]
-pub struct ReportRoom {
+pub struct Limits {
     matches: Option<usize>,
     labels: Option<usize>,
+    steps: Option<u64>,
 }
 
-impl ReportRoom {
+/// The name of [`Limits`] when the room for a report was all that could be limited.
+#[deprecated(note = "its name is `Limits`, since it can limit the steps too")]
+pub type ReportRoom = Limits;
+
+impl Limits {
     /// Room for so many matches at most.
     pub const fn matches(mut self, most: usize) -> Self {
         self.matches = Some(most);
@@ -48,6 +63,20 @@ impl ReportRoom {
     pub const fn labels(mut self, most: usize) -> Self {
         self.labels = Some(most);
         self
+    }
+
+    /// So many steps at most, so that a search ends after a time in proportion to them, with
+    /// [`Ending::OutOfSteps`] where it is not done by then. A query of P
+    /// [places](crate::Query::places) that skips past the last row takes at most 2P(n+1) steps for
+    /// n rows, so that more than that is no limit.
+    pub const fn steps(mut self, most: u64) -> Self {
+        self.steps = Some(most);
+        self
+    }
+
+    /// The steps that the search may take; none where they are not limited.
+    pub(crate) fn allowance(self) -> Option<u64> {
+        self.steps
     }
 
     /// The numbers to lend for n rows: each start has at most one match.
@@ -81,6 +110,9 @@ pub enum Ending {
     /// [`Skip::ToLast`] give this: their letter labels no row of that match, or the row to skip to
     /// is its first. The report holds that match and all before it; no later one was looked for.
     NoSkipRow,
+    /// 16: the next step would have been one more than [`Limits::steps`] allows. The report holds
+    /// all matches that were found by then, and the same search with more steps begins with them.
+    OutOfSteps,
 }
 
 /// The matches of one search, in order.
@@ -113,6 +145,7 @@ impl Report {
             DONE => Ending::Done,
             STOPPED => Ending::Stopped,
             NO_SKIP_ROW => Ending::NoSkipRow,
+            OUT_OF_STEPS => Ending::OutOfSteps,
             refused => return Err(Error::from_answer(refused, outcome.offset)),
         };
         let strange = Error::OtherLibrary {
@@ -171,7 +204,8 @@ impl Report {
     }
 
     /// The steps of the search: how many pairs of a place in the pattern and a position in the rows it entered. Of a
-    /// stopped search the steps for the match that did not fit are counted too.
+    /// stopped search the steps for the match that did not fit are counted too. Of one that ran out
+    /// of steps they are those that it was allowed.
     pub fn steps(&self) -> u64 {
         self.steps
     }
@@ -347,6 +381,13 @@ mod tests {
         let report = Report::new(&outcome(15, 2, 3), numbers, b"ABA".to_vec(), 0).unwrap();
         assert_eq!((report.ending(), report.len()), (Ending::NoSkipRow, 2));
         assert_eq!(report.matches().last().map(|it| it.labels()), Some("BA"));
+        let report = Report::new(&outcome(16, 1, 2), vec![1, 4, 2], b"AB".to_vec(), 0).unwrap();
+        assert_eq!((report.ending(), report.len()), (Ending::OutOfSteps, 1));
+        assert_eq!(report.matches().next().map(|it| it.rows()), Some(4..6));
+        let none = Report::new(&outcome(16, 0, 0), vec![], vec![], 3).unwrap();
+        assert_eq!((none.ending(), none.is_empty()), (Ending::OutOfSteps, true));
+        let unknown = Report::new(&outcome(17, 0, 0), vec![], vec![], 0);
+        assert_eq!(unknown, Err(Error::OtherLibrary { answer: 17 }));
     }
 
     #[test]
@@ -388,7 +429,7 @@ mod tests {
 
     #[test]
     fn room_is_never_lent_beyond_need() {
-        let all = ReportRoom::default();
+        let all = Limits::default();
         assert_eq!(
             (
                 all.numbers(4096, 8),
@@ -399,15 +440,31 @@ mod tests {
         for skip in [Skip::ToNextRow, Skip::ToFirst('A'), Skip::ToLast('A')] {
             assert_eq!(all.label_bytes(4096, skip), 8_390_656);
         }
-        let huge = ReportRoom::default().matches(usize::MAX).labels(usize::MAX);
+        let huge = Limits::default().matches(usize::MAX).labels(usize::MAX);
         assert_eq!(
             (huge.numbers(5, 0), huge.label_bytes(5, Skip::ToNextRow)),
             (15, 15)
         );
-        let none = ReportRoom::default().matches(0).labels(0);
+        let none = Limits::default().matches(0).labels(0);
         assert_eq!(
             (none.numbers(5, 0), none.label_bytes(5, Skip::ToNextRow)),
             (0, 0)
         );
+    }
+
+    /// A limit of one thing is none of another, and the older name is the same type.
+    #[test]
+    fn limits_are_apart() {
+        let steps = Limits::default().steps(0);
+        assert_eq!(
+            (steps.numbers(5, 0), steps.label_bytes(5, Skip::ToNextRow)),
+            (15, 15)
+        );
+        assert_eq!(steps.allowance(), Some(0));
+        assert_eq!(Limits::default().steps(7).steps(9).allowance(), Some(9));
+        #[allow(deprecated)]
+        let room = ReportRoom::default().matches(0).labels(0);
+        assert_eq!(room.allowance(), None);
+        assert_eq!(room, Limits::default().labels(0).matches(0));
     }
 }

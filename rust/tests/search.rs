@@ -5,7 +5,7 @@
 #![allow(clippy::restriction)]
 
 use mireladle::{
-    col, lent, Ending, Error, Match, Measure, Query, QueryBuilder, Report, ReportRoom, Rows, Skip,
+    col, lent, Ending, Error, Limits, Match, Measure, Query, QueryBuilder, Report, Rows, Skip,
 };
 
 const X: [i32; 5] = [100, 110, 120, 115, 130];
@@ -222,12 +222,12 @@ fn without_a_row_to_skip_to_a_search_stops() {
 fn room_is_judged_before_the_row_to_skip_to() {
     let query = by_entry("A (B | C)").skip(Skip::ToLast('B'));
     let query = query.build().unwrap();
-    let within = |room: ReportRoom| {
+    let within = |room: Limits| {
         let report = query.search_within(Rows::new(&[1, 2, 1, 3], 1), room);
         let report = report.unwrap();
         (report.ending(), report.len())
     };
-    let room = ReportRoom::default();
+    let room = Limits::default();
     assert_eq!(within(room), (Ending::NoSkipRow, 2));
     assert_eq!(within(room.matches(2).labels(4)), (Ending::NoSkipRow, 2));
     assert_eq!(within(room.matches(1)), (Ending::Stopped, 1));
@@ -456,7 +456,7 @@ fn rows_that_are_refused() {
 fn a_report_stops_where_its_room_ends() {
     let query = free("A A?").skip(Skip::ToNextRow).build().unwrap();
     let rows = Rows::new(&[0; 3], 1);
-    let within = |room: ReportRoom| {
+    let within = |room: Limits| {
         let report = query.search_within(rows, room).unwrap();
         let labels: Vec<String> = report
             .matches()
@@ -465,26 +465,26 @@ fn a_report_stops_where_its_room_ends() {
         (report.ending(), labels.join(" "))
     };
     let all = String::from("AA AA A");
-    assert_eq!(within(ReportRoom::default()), (Ending::Done, all.clone()));
+    assert_eq!(within(Limits::default()), (Ending::Done, all.clone()));
     assert_eq!(
-        within(ReportRoom::default().matches(3).labels(5)),
+        within(Limits::default().matches(3).labels(5)),
         (Ending::Done, all)
     );
     assert_eq!(
-        within(ReportRoom::default().matches(2)),
+        within(Limits::default().matches(2)),
         (Ending::Stopped, String::from("AA AA"))
     );
     // The last match would fit, but none is looked for behind one that does not.
     assert_eq!(
-        within(ReportRoom::default().labels(3)),
+        within(Limits::default().labels(3)),
         (Ending::Stopped, String::from("AA"))
     );
     assert_eq!(
-        within(ReportRoom::default().matches(0)),
+        within(Limits::default().matches(0)),
         (Ending::Stopped, String::new())
     );
     let stopped = query
-        .search_within(rows, ReportRoom::default().labels(3))
+        .search_within(rows, Limits::default().labels(3))
         .unwrap();
     assert!(stopped.steps() > 0 && stopped.steps() < query.search(rows).unwrap().steps());
 }
