@@ -63,7 +63,8 @@ fn every_allowance(query: &QueryBuilder, entries: &[i32], limits: Limits) -> Vec
     }
     assert_eq!(within(query, entries, limits.steps(u64::MAX)), whole);
     // A larger allowance begins with the same matches, so that it has at least as many.
-    assert!(counts.is_sorted(), "{query:?} on {entries:?}: {counts:?}");
+    let never_less = counts.windows(2).all(|two| two[0] <= two[1]);
+    assert!(never_less, "{query:?} on {entries:?}: {counts:?}");
     counts
 }
 
@@ -330,8 +331,8 @@ fn an_allowance_that_is_not_passed_changes_no_buffer() {
 fn refusals_come_first_whatever_the_allowance() {
     let bytes = w1().to_bytes();
     let text = |text: &str| Query::builder(1).pattern(text).to_bytes();
-    let refused: [(u64, u64, Vec<u8>, &[i32], [usize; 2]); 11] = [
-        (1, 0, bytes[..bytes.len() - 1].to_vec(), &X, [4, 30]),
+    let refused = [
+        (1, 0, bytes[..bytes.len() - 1].to_vec(), &X[..], [4, 30]),
         (2, 0, vec![], &X, [4, 30]),
         (3, 0, Query::builder(9).pattern("A").to_bytes(), &X, [4, 30]),
         (4, 0, text("((((((((("), &X, [4, 30]),

@@ -153,6 +153,134 @@ row  event  match:label
     }
 }
 
+/// The match of the first example is found with the eighth of twelve steps.
+#[test]
+fn a_search_out_of_steps_prints_what_it_found() {
+    let files = [example("rising-falling.txt"), example("rising-falling.csv")];
+    let output = |steps: &str| {
+        let output = run(&["--steps", steps, &files[0], &files[1]]);
+        assert_eq!(text(&output.stderr), "", "{steps}");
+        (status(&output), text(&output.stdout).to_owned())
+    };
+    let whole = text(&run(&[&files[0], &files[1]]).stdout).to_owned();
+    let found = whole.replace(
+        "1 match in 12 steps",
+        "stopped since --steps allows no more: 1 match in 8 steps",
+    );
+    assert_eq!(output("8"), (3, found.clone()));
+    assert_eq!(output("11"), (3, found.replace("8 steps", "11 steps")));
+    let none = |steps: &str| {
+        let rows = "\n\nrow  price  match:label\n  0    100\n  1    110\n  2    120\n  3    115\n";
+        let head = format!("stopped since --steps allows no more: no match in {steps}");
+        (3, format!("{head}{rows}  4    130\n"))
+    };
+    assert_eq!(output("7"), none("7 steps"));
+    assert_eq!(output("1"), none("1 step"));
+    assert_eq!(output("0"), none("0 steps"));
+    // As many as the search takes, or more, change nothing.
+    for enough in ["12", "13", "0012", "18446744073709551615"] {
+        assert_eq!(output(enough), (0, whole.clone()), "{enough}");
+    }
+    let readme = include_str!("../../README.md");
+    let first = found.lines().next().unwrap();
+    assert!(readme.contains(&format!("```text\n{first}\n```")));
+}
+
+/// What the search comes to first is told.
+#[test]
+fn a_search_that_needs_no_further_step_says_why_it_stopped() {
+    let rows = file("steps-15.csv", "event\n1\n2\n1\n1\n2\n");
+    let query = "pattern: A B?\nA: event = 1\nB: event = 2\nskip: to last B";
+    let query = file("steps-15.txt", query);
+    let first_line = |steps: &str| {
+        let output = run(&[&query, "--steps", steps, &rows]);
+        let printed = text(&output.stdout);
+        (status(&output), printed.lines().next().unwrap().to_owned())
+    };
+    let no_row = "stopped since no row of match 2 is labelled B: 2 matches in 9 steps";
+    let no_step = "stopped since --steps allows no more: 1 match in 8 steps";
+    assert_eq!(first_line("8"), (3, String::from(no_step)));
+    assert_eq!(first_line("9"), (3, String::from(no_row)));
+    assert_eq!(first_line("10"), (3, String::from(no_row)));
+    // A refusal does not depend on the steps.
+    let query = file("steps-refused.txt", "pattern: (A*)*");
+    let output = run(&["--steps", "0", &query, &rows]);
+    assert_eq!((status(&output), text(&output.stdout)), (1, ""));
+    assert!(text(&output.stderr).starts_with("refused 6: "));
+}
+
+#[test]
+fn a_number_of_steps_that_is_wrong_is_told() {
+    let files = [example("rising-falling.txt"), example("rising-falling.csv")];
+    let message = |arguments: &[&str]| {
+        let output = run(arguments);
+        assert_eq!(
+            (status(&output), text(&output.stdout)),
+            (2, ""),
+            "{arguments:?}"
+        );
+        let message = text(&output.stderr).to_owned();
+        let (first, usage) = message.split_once('\n').unwrap();
+        let options = "[--steps N | --program PATH | --bytes] QUERY.txt ROWS.csv";
+        let expected = format!("usage: mireladle-match {options} (--help tells more)\n");
+        assert_eq!(usage, expected);
+        first.to_owned()
+    };
+    let needs = "--steps needs a whole number from 0 to 18446744073709551615";
+    for (wrong, found) in [
+        ("", "nothing"),
+        ("-1", "`-1`"),
+        ("1.5", "`1.5`"),
+        ("1e6", "`1e6`"),
+        ("1,000", "`1,000`"),
+        (" 7", "` 7`"),
+        ("many", "`many`"),
+        ("18446744073709551616", "`18446744073709551616`"),
+        ("\u{1B}[31m", "`\u{FFFD}[31m`"),
+    ] {
+        let expected = format!("{needs}, found {found}");
+        assert_eq!(message(&["--steps", wrong, &files[0], &files[1]]), expected);
+    }
+    // The number was forgotten.
+    let expected = format!("{needs}, found `query.txt`");
+    assert_eq!(message(&["--steps", "query.txt", "rows.csv"]), expected);
+    assert_eq!(message(&[&files[0], &files[1], "--steps"]), needs);
+    // A value stands behind its option, as the program's path does.
+    let joined = message(&["--steps=9", &files[0], &files[1]]);
+    assert_eq!(joined, "there is no option --steps=9");
+}
+
+/// The program has no allowance: neither of two options is left out in silence.
+#[test]
+fn steps_are_for_the_library_alone() {
+    let files = [example("rising-falling.txt"), example("rising-falling.csv")];
+    let (program, input) = stand_in("steps-program", "matches 0 steps 3\\n");
+    for (options, expected) in [
+        (
+            &["--program", program.as_str(), "--steps", "9"][..],
+            "--program and --steps exclude each other: \
+             only the library can be told how many steps to take\n",
+        ),
+        (
+            &["--steps", "9", "--bytes"],
+            "--bytes and --steps exclude each other: \
+             what the program reads has no place for a number of steps\n",
+        ),
+    ] {
+        let files = [files[0].as_str(), files[1].as_str()];
+        let output = run(&[options, &files].concat());
+        assert_eq!((status(&output), text(&output.stdout)), (2, ""));
+        let message = text(&output.stderr);
+        assert!(message.starts_with(expected), "{message}");
+    }
+    assert_eq!(std::fs::read(input).unwrap(), b"");
+    // Behind `--` it is the name of a file, and the later of two numbers counts.
+    let output = run(&["--", "--steps", &files[1]]);
+    assert!(text(&output.stderr).starts_with("--steps: "), "{output:?}");
+    let output = run(&["--steps", "0", &files[0], "--steps", "12", &files[1]]);
+    assert_eq!(status(&output), 0);
+}
+
 #[test]
 fn overlapping_and_empty_matches_are_told_apart() {
     let query = file(
@@ -456,7 +584,7 @@ fn files_that_are_no_text_or_not_there() {
 fn the_command_line() {
     let help = run(&["--help"]);
     assert_eq!(status(&help), 0);
-    let usage = "usage: mireladle-match [--bytes | --program PATH] QUERY.txt ROWS.csv";
+    let usage = "usage: mireladle-match [--steps N | --program PATH | --bytes] QUERY.txt ROWS.csv";
     assert!(text(&help.stdout).contains(usage));
     for wrong in [
         &[][..],
@@ -465,6 +593,15 @@ fn the_command_line() {
         &["--byte", "one", "two"],
         &["one", "two", "--program"],
         &["--bytes", "--program", "three", "one", "two"],
+        &[
+            "--bytes",
+            "--program",
+            "three",
+            "--steps",
+            "4",
+            "one",
+            "two",
+        ],
     ] {
         let output = run(wrong);
         assert_eq!(

@@ -126,4 +126,9 @@ fn a_stopped_search_stays_stopped() {
     let expected = format!("stopped since {why}: 1 match in 3 steps\n3\n");
     let output = shell("stopped-behind", 4096, &line);
     assert_eq!(output, (0, expected, String::new()));
+    // And where no step is left: a match takes two.
+    let line = r#""$match" --steps 9 "$query" "$rows" | head -1; echo "${PIPESTATUS[0]}""#;
+    let expected = "stopped since --steps allows no more: 4 matches in 9 steps\n3\n";
+    let output = shell("stopped-steps", 4096, line);
+    assert_eq!(output, (0, String::from(expected), String::new()));
 }

@@ -6,6 +6,7 @@ use std::path::{Path, PathBuf};
 
 use mireladle::{Ending, Error};
 
+use crate::arguments::USAGE;
 use crate::fault::{mark, visible, Fault};
 use crate::pattern_text;
 use crate::query_text::Shown;
@@ -14,12 +15,11 @@ use crate::query_text::Shown;
 const REFUSED: u8 = 1;
 /// The input, the command line or the program is wrong, or the output cannot be written.
 const WRONG: u8 = 2;
-/// The report may not be whole: the search stopped, for want of room or of a row to skip to.
+/// The report may not be whole: the search stopped, for want of room, of a row to skip to or of
+/// steps.
 pub const STOPPED: u8 = 3;
 /// The reader of the output has gone: what a shell shows of a program that a broken pipe ends.
 const UNREAD: u8 = 141;
-
-const USAGE: &str = "usage: mireladle-match [--bytes | --program PATH] QUERY.txt ROWS.csv";
 
 /// Why there is no whole result.
 pub enum Failure {

@@ -1,13 +1,15 @@
 //! mireladle-match: searches the rows of a CSV file for a query that is written as readable text,
 //! and prints the matches and the labelled rows. It promises a message with a place for every text
 //! that it cannot read, the number and the reason of every refusal, and an exit status: 0 done, 1
-//! refused, 2 wrong input or an output that cannot be written, 3 stopped for want of room or of a
-//! row to skip to, 141 where the reader of the output left early, so that a script cannot take a
-//! part of a report for the whole. It never panics. Tested in tests/command.rs and tests/output.rs.
+//! refused, 2 wrong input or an output that cannot be written, 3 stopped for want of room, of a row
+//! to skip to or of steps, 141 where the reader of the output left early, so that a script cannot
+//! take a part of a report for the whole. It never panics. Tested in tests/command.rs and
+//! tests/output.rs.
 
 #![deny(unsafe_code)]
 #![cfg_attr(test, allow(clippy::restriction))]
 
+mod arguments;
 mod columns;
 mod csv;
 mod define_text;
@@ -24,13 +26,13 @@ mod skip_text;
 mod width;
 mod words;
 
-use std::ffi::OsString;
 use std::io::{self, BufWriter, Write};
-use std::path::{Path, PathBuf};
+use std::path::Path;
 use std::process::ExitCode;
 
 use mireladle::{Ending, Error, Query, Report, Rows};
 
+use arguments::{task, Searcher, Task, HELP};
 use csv::Table;
 use failure::{Failure, STOPPED};
 use fault::Fault;
@@ -39,63 +41,6 @@ use output::Output;
 use print::Printed;
 use program::Failed;
 use query_text::QueryText;
-
-const HELP: &str = "\
-mireladle-match: search rows of whole numbers for a row pattern (SQL's MATCH_RECOGNIZE)
-
-usage: mireladle-match [--bytes | --program PATH] QUERY.txt ROWS.csv
-
-ROWS.csv   The first line names the columns, 1 to 8; every other line is a row of
-           whole numbers. The rows are one partition, in order, at most 4,096.
-QUERY.txt  Lines in any order; # begins a comment.
-             pattern: A+ B
-             A: c0 > PREV(c0)
-             B: price < PREV(price), event <> 2
-             C: c1 = 3 AND c0 <= NEXT(c0, 2) + 5
-             skip: past last row
-             measures: COUNT(A), LAST(B.price), SUM(c1)
-           A pattern is made of letters A to Z, two of them parted by a space; ^ before
-           the first row and $ behind the last; () for nothing; branches with |, the
-           left one tried first; parentheses; and * + ? {n} {n,} {,m} {n,m} with bounds
-           up to 99, which take as many rows as they can, or as few with a ? behind.
-           A letter holds at a row where all its comparisons are met; one without a
-           line of its own holds at every row. A column is c0, c1 and so on, or its
-           name in ROWS.csv, in double quotes where it has spaces. Comparisons are
-           = <> < <= > >=, with a number, a column, or a column plus or minus a number.
-           skip is `past last row` (also where the line is missing), `to next row`,
-           `to first A` or `to last A`: at which row the search goes on behind a match, here
-           its first or last row labelled A. That row has to lie behind the match's first.
-           Measures are COUNT, SUM, MIN, MAX, FIRST, LAST; over all rows of the match
-           (COUNT(*)), or over those with one letter. Over no rows, all but COUNT are null.
-
---program PATH
-           Search by running the program `mireladle` there, not by the linked library.
---bytes    Write the query and the rows to standard output as the program `mireladle`
-           reads them from its standard input, and search nothing.
---help     Print this.
-
-It prints the matches, then the rows; 2:A beside a row says that match 2 labels it A.
-Rows count from 0. Exit status: 0 done, 1 the search refused, 2 wrong input or an output
-that cannot be written, 3 the search stopped, so that there may be further matches, 141 the
-reader of the output left before its end. The report of a search that stopped begins with
-`stopped for want of room`, which only the program does, or with `stopped since` and why
-there is no row to skip to behind the last match printed.
-";
-
-/// What the command line asks for.
-enum Task {
-    Help,
-    Search {
-        /// The program to run; without one, the library searches.
-        program: Option<PathBuf>,
-        query: PathBuf,
-        rows: PathBuf,
-    },
-    Bytes {
-        query: PathBuf,
-        rows: PathBuf,
-    },
-}
 
 fn main() -> ExitCode {
     match task(std::env::args_os().skip(1)).and_then(|task| run_whole(&task)) {
@@ -124,50 +69,6 @@ fn unwritten(ending: Ending) -> impl Fn(io::Error) -> Failure {
     move |error| Failure::Output { error, ending }
 }
 
-/// Reads the command line.
-fn task(mut arguments: impl Iterator<Item = OsString>) -> Result<Task, Failure> {
-    let mut bytes = false;
-    let mut program = None;
-    let mut paths = Vec::new();
-    let mut options = true;
-    while let Some(argument) = arguments.next() {
-        match argument.to_str() {
-            Some("--") if options => options = false,
-            Some("--help" | "-h") if options => return Ok(Task::Help),
-            Some("--bytes") if options => bytes = true,
-            Some("--program") if options => {
-                let path = arguments.next().ok_or_else(|| {
-                    Failure::Usage(String::from("--program needs the program's path"))
-                })?;
-                program = Some(PathBuf::from(path));
-            }
-            Some(other) if options && other.starts_with('-') && other != "-" => {
-                return Err(Failure::Usage(format!("there is no option {other}")));
-            }
-            _ => paths.push(PathBuf::from(argument)),
-        }
-    }
-    if bytes && program.is_some() {
-        return Err(Failure::Usage(String::from(
-            "--bytes and --program exclude each other",
-        )));
-    }
-    match <[PathBuf; 2]>::try_from(paths) {
-        Ok([query, rows]) if bytes => Ok(Task::Bytes { query, rows }),
-        Ok([query, rows]) => Ok(Task::Search {
-            program,
-            query,
-            rows,
-        }),
-        Err(paths) => {
-            let count = paths.len();
-            Err(Failure::Usage(format!(
-                "expected two files, QUERY.txt and ROWS.csv, found {count}"
-            )))
-        }
-    }
-}
-
 /// Runs a task, and tells how its search ended; one that searches nothing is done.
 fn run(task: &Task, out: &mut impl Write) -> Result<Ending, Failure> {
     let mut write = |bytes: &[u8]| {
@@ -176,13 +77,9 @@ fn run(task: &Task, out: &mut impl Write) -> Result<Ending, Failure> {
     };
     match task {
         Task::Help => write(HELP.as_bytes()),
-        Task::Search {
-            program,
-            query,
-            rows,
-        } => {
+        Task::Search { by, query, rows } => {
             let (text, table) = read_both(query, rows)?;
-            search(&text, &table, query, program.as_deref(), out)
+            search(&text, &table, query, by, out)
         }
         Task::Bytes { query, rows } => {
             let (text, table) = read_both(query, rows)?;
@@ -242,7 +139,7 @@ fn search(
     text: &QueryText,
     table: &Table,
     query_path: &Path,
-    program: Option<&Path>,
+    by: &Searcher,
     out: &mut impl Write,
 ) -> Result<Ending, Failure> {
     let refused = |error: Error| {
@@ -263,10 +160,10 @@ fn search(
     };
     let columns = u8::try_from(table.names.len()).unwrap_or(u8::MAX);
     let rows = Rows::new(&table.entries, columns);
-    let report = match program {
-        Some(path) => search_by_program(path, text, table, refused)?,
-        None => Query::from_bytes(text.builder.to_bytes())
-            .and_then(|query| query.search(rows))
+    let report = match by {
+        Searcher::Program(path) => search_by_program(path, text, table, refused)?,
+        Searcher::Library(limits) => Query::from_bytes(text.builder.to_bytes())
+            .and_then(|query| query.search_within(rows, *limits))
             .map_err(refused)?,
     };
     let printed = Printed {

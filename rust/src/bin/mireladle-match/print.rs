@@ -58,6 +58,7 @@ impl Printed<'_> {
                 Some(why) => format!("stopped since {why}: "),
                 None => String::from("stopped: "),
             },
+            Ending::OutOfSteps => String::from("stopped since --steps allows no more: "),
             _ => String::from("stopped for want of room: "),
         }
     }
