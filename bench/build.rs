@@ -1,10 +1,18 @@
 //! Links the library of preparing and running, where it is there: `rt staticlib bench_c` builds it,
-//! and so does `bench/run`. Without it the bench has no workload `prepared`.
+//! and so does `bench/run`. Without it the bench has no workload `prepared`. And looks whether the
+//! product's library, which the package `mireladle` links, has an allowance of steps: an older one
+//! that MIRELADLE_LIB names has not, and the bench then has no table of allowances.
 
 use std::env;
+use std::fs;
 use std::path::PathBuf;
 
 fn main() {
+    link_bench_c();
+    look_for_allowance();
+}
+
+fn link_bench_c() {
     let package = PathBuf::from(env::var_os("CARGO_MANIFEST_DIR").unwrap_or_default());
     let library = package.join("../target/staticlib/libbench_c.a");
     println!("cargo:rerun-if-changed=build.rs");
@@ -17,6 +25,24 @@ fn main() {
     } else {
         println!(
             "cargo:warning={} is missing: run `rt staticlib bench_c`, or nothing is run prepared",
+            library.display()
+        );
+    }
+}
+
+fn look_for_allowance() {
+    println!("cargo:rustc-check-cfg=cfg(search_within)");
+    // The build script of `mireladle` tells which library it links.
+    let library = PathBuf::from(env::var_os("DEP_MIRELADLE_C_LIBRARY").unwrap_or_default());
+    println!("cargo:rerun-if-changed={}", library.display());
+    // A name in the archive's table of symbols ends in a byte 0.
+    let name = b"mireladle_search_within\0";
+    let archive = fs::read(&library).unwrap_or_default();
+    if archive.windows(name.len()).any(|bytes| bytes == name) {
+        println!("cargo:rustc-cfg=search_within");
+    } else {
+        println!(
+            "cargo:warning={} has no mireladle_search_within: no allowances are measured",
             library.display()
         );
     }

@@ -25,4 +25,6 @@ fn main() {
     println!("cargo:rustc-link-lib=static=mireladle_c");
     // The tests that build the C example link the same library.
     println!("cargo:rustc-env=MIRELADLE_LIBRARY={}", library.display());
+    // For build scripts of packages that stand on this one, as DEP_MIRELADLE_C_LIBRARY.
+    println!("cargo:library={}", library.display());
 }

@@ -2,7 +2,8 @@
 //! yardstick, in one process. Both first search every workload, and results and
 //! all lent buffers are compared; a difference ends the bench with an error.
 //! Where the library of crates/bench_c is linked, one workload is run by both with
-//! a query that is prepared once.
+//! a query that is prepared once. Where the product's library has allowances of
+//! steps, a long search is run by the product with several.
 //! Options: --quick (a few seconds in all), --only NAME (workloads that have
 //! NAME in their name), --markdown (tables for docs/PERFORMANCE.md), --check
 //! (compares and measures nothing; the last line is `N passed, M failed`).
@@ -10,6 +11,7 @@
 // What only the workload `prepared` needs is not used where its library is not there.
 #![cfg_attr(not(bench_c), allow(dead_code))]
 
+mod allowances;
 mod clock;
 mod engine;
 mod output;
@@ -22,6 +24,7 @@ mod rounds;
 mod table;
 mod workloads;
 
+use allowances::Allowance;
 use mireladle::lent;
 use output::{Columns, Measured};
 use readings::{Judge, Reading};
@@ -137,6 +140,17 @@ fn check(options: &Options) -> Result<(), String> {
     for reading in wanted_readings(options) {
         count(readings::compare(&reading));
     }
+    let allowances = wanted_allowances(options);
+    if !allowances.is_empty() {
+        match allowances::Search::new() {
+            Ok(search) => {
+                for allowance in allowances {
+                    count(search.compare(allowance).map(|_| ()));
+                }
+            }
+            Err(difference) => count(Err(difference)),
+        }
+    }
     println!("{passed} passed, {failed} failed");
     match (passed, failed) {
         (0, 0) => Err("no workload has this in its name".to_string()),
@@ -164,6 +178,11 @@ fn measure_all(options: &Options) -> Result<(), String> {
         .map(|reading| measure_reading(reading, options.plan))
         .collect();
     print(READING, Columns::Calls, measured?);
+    let allowances = wanted_allowances(options);
+    if !allowances.is_empty() {
+        any = true;
+        allowances::measure(&allowances, options.plan, options.markdown)?;
+    }
     if !any {
         return Err("no workload has this in its name".to_string());
     }
@@ -180,6 +199,12 @@ fn wanted(workloads: Vec<Workload>, options: &Options) -> impl Iterator<Item = W
 fn wanted_readings(options: &Options) -> impl Iterator<Item = Reading> + '_ {
     let readings = readings::all().into_iter();
     readings.filter(|reading| options.wants(reading.name))
+}
+
+fn wanted_allowances(options: &Options) -> Vec<Allowance> {
+    let mut allowances = allowances::all();
+    allowances.retain(|allowance| options.wants(allowance.name));
+    allowances
 }
 
 fn measure_search(workload: Workload, plan: Plan) -> Result<Measured, String> {

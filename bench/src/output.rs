@@ -24,19 +24,30 @@ pub enum Columns {
 }
 
 pub fn print(title: &str, columns: Columns, measured: &[Measured], markdown: bool) {
-    match markdown {
-        true => println!("### {title}\n"),
-        false => println!("{title}\n"),
-    }
     let mut table = Table::new(&heads(columns));
     for (index, one) in measured.iter().enumerate() {
         let before = index.checked_sub(1).map(|index| &measured[index]);
         table.push(line(columns, one, before));
     }
+    let notes = measured.iter().map(|one| (&one.name[..], &one.about[..]));
+    print_section(title, &table, notes, markdown);
+}
+
+/// A table below its title, and below it what its names stand for.
+pub fn print_section<'a>(
+    title: &str,
+    table: &Table,
+    notes: impl Iterator<Item = (&'a str, &'a str)>,
+    markdown: bool,
+) {
+    match markdown {
+        true => println!("### {title}\n"),
+        false => println!("{title}\n"),
+    }
     table.print(markdown);
-    for one in measured {
+    for (name, about) in notes {
         let bullet = if markdown { "- " } else { "  " };
-        println!("{bullet}{}: {}", one.name, one.about);
+        println!("{bullet}{name}: {about}");
     }
     println!();
 }

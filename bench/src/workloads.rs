@@ -88,6 +88,17 @@ pub fn growth_in_places() -> Vec<Workload> {
         .into()
 }
 
+/// The longest search to the next row that was found, with half of the rows that
+/// there can be: 268 million steps.
+pub fn longest() -> Workload {
+    Workload::new(
+        "longest",
+        "(($|()){99}($|()){27}A)* to next row, A free, 2,048 rows: a match from each to the last",
+        pattern(1, "(($|()){99}($|()){27}A)*").skip(Skip::ToNextRow),
+        vec![vec![1; MOST_ROWS / 2]],
+    )
+}
+
 fn pattern(columns: u8, text: &str) -> QueryBuilder {
     Query::builder(columns).pattern(text)
 }
