@@ -63,13 +63,20 @@ pub struct Search {
 }
 
 impl Search {
-    /// An Err says how the product's search differs from the yardstick's.
+    /// An Err says that the product's search differs from the yardstick's.
     pub fn new() -> Result<Search, String> {
         let workload = workloads::longest();
-        rooms::compare(&workload)?;
         let fresh = Rooms::new(&workload);
-        let mut rooms = fresh.clone();
+        let [mut rooms, mut yardstick_rooms] = [fresh.clone(), fresh.clone()];
         let outcome = run(&workload, None, &mut rooms);
+        let [_, yardstick] = rooms::engines(&workload);
+        let expected = yardstick(&workload.partitions[0], &mut yardstick_rooms);
+        drop(yardstick);
+        if outcome != expected || rooms != yardstick_rooms {
+            let name = &workload.name;
+            let what = format!("product {outcome:?}, yardstick {expected:?}, or their buffers");
+            return Err(format!("{name}: {what}"));
+        }
         Ok(Search {
             workload,
             fresh,
@@ -78,17 +85,20 @@ impl Search {
     }
 
     /// Whether a search with this allowance leaves what it has to; an Err says what
-    /// not.
+    /// not. That without one is the whole, which has been compared.
     pub fn compare(&self, allowance: Allowance) -> Result<Outcome, String> {
+        let (whole, left) = &self.whole;
+        let Some(steps) = allowance.steps else {
+            return Ok(*whole);
+        };
         let mut rooms = self.fresh.clone();
-        let outcome = run(&self.workload, allowance.steps, &mut rooms);
-        let (whole, _) = &self.whole;
-        let right = match allowance.steps {
-            Some(steps) if steps < whole.steps => {
+        let outcome = run(&self.workload, Some(steps), &mut rooms);
+        let right = match steps < whole.steps {
+            true => {
                 let ended = (outcome.answer, outcome.steps) == (OUT_OF_STEPS, steps);
                 ended && self.is_front(&outcome, &rooms)
             }
-            _ => outcome == *whole && rooms == self.whole.1,
+            false => outcome == *whole && rooms == *left,
         };
         match right {
             true => Ok(outcome),
@@ -119,8 +129,7 @@ impl Search {
         let engine: Run<Rooms> = &|rooms| {
             black_box(run(black_box(&self.workload), allowance.steps, rooms));
         };
-        let [times] = rounds::measure(&mut self.fresh.clone(), [engine], plan);
-        times
+        rounds::measure_long(&mut self.fresh.clone(), engine, plan)
     }
 }
 
@@ -137,9 +146,9 @@ fn run(workload: &Workload, allowance: Option<u64>, rooms: &mut Rooms) -> Outcom
 /// Measures and prints a line for each allowance.
 pub fn measure(allowances: &[Allowance], plan: Plan, markdown: bool) -> Result<(), String> {
     let search = Search::new()?;
-    // The longest runs take a second.
+    // The longest runs take seconds.
     let plan = Plan {
-        fewest_rounds: plan.fewest_rounds / 5,
+        fewest_rounds: plan.fewest_rounds / 8,
         ..plan
     };
     let right = |head: &str| (head.to_string(), Side::Right);

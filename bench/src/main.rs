@@ -4,7 +4,7 @@
 //! Where the library of crates/bench_c is linked, one workload is run by both with
 //! a query that is prepared once. Where the product's library has allowances of
 //! steps, a long search is run by the product with several.
-//! Options: --quick (a few seconds in all), --only NAME (workloads that have
+//! Options: --quick (some ten seconds in all), --only NAME (workloads that have
 //! NAME in their name), --markdown (tables for docs/PERFORMANCE.md), --check
 //! (compares and measures nothing; the last line is `N passed, M failed`).
 

@@ -48,6 +48,20 @@ pub fn measure<L, const ENGINES: usize>(
     samples.map(times)
 }
 
+/// The times of one engine whose runs may take seconds: each run is a round, also
+/// the first.
+pub fn measure_long<L>(lent: &mut L, engine: Run<L>, plan: Plan) -> Times {
+    let (mut samples, mut sum) = (Vec::new(), 0);
+    while samples.len() < plan.fewest_rounds.max(1)
+        || sum < plan.nanoseconds && samples.len() < MOST_ROUNDS as usize
+    {
+        let nanoseconds = time(lent, engine, 1);
+        samples.push(nanoseconds as f64);
+        sum += nanoseconds;
+    }
+    times(samples)
+}
+
 fn time<L>(lent: &mut L, engine: Run<L>, runs: u64) -> u64 {
     let start = clock::now();
     for _ in 0..runs {
