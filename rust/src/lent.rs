@@ -1,5 +1,6 @@
-//! The library's three functions as they are, on buffers that the caller lends: for callers who keep their buffers from
-//! one search to the next, or who read the notes. Most callers want [`Query::search`](crate::Query::search).
+//! The library's three functions as they are, on buffers that the caller lends: for callers who
+//! keep their buffers from one search to the next, or who read the notes. Most callers want
+//! [`Query::search`](crate::Query::search).
 //!
 //! Every input gets an answer. Slices make sure of what C callers have to see to: valid pointers, and no overlap of
 //! what is written. All `unsafe` code of this crate stands here.
@@ -105,8 +106,8 @@ pub fn search(
 
 /// The same search with an allowance of steps: it stops with answer 16 just before the step that
 /// would be one more, and the steps of the outcome are then the allowance. Refusals, and 13 or 15
-/// where they come first, are as those of [`search()`], and so are the buffers; a pair that is still
-/// open on 16 has not failed. An allowance that the search does not pass changes nothing.
+/// where they come first, are as those of [`search()`], and so are the buffers; a pair that is
+/// still open on 16 has not failed. An allowance that the search does not pass changes nothing.
 ///
 /// ```
 /// use mireladle::{lent, Query};

@@ -38,8 +38,8 @@
 //!
 //! The steps of a search are bounded, and counted in its report. A search that skips past the last
 //! row takes milliseconds, one with another skip can take seconds. A caller who cannot wait for so
-//! long names the steps that a search may take. It then ends after a time in proportion to them, and
-//! its report holds the matches that were found by then:
+//! long names the steps that a search may take. It then ends after a time in proportion to them,
+//! and its report holds the matches that were found by then:
 //!
 //! ```
 //! use mireladle::{Ending, Limits, Query, Rows, Skip};

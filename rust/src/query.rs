@@ -288,9 +288,9 @@ impl Query {
         self.places
     }
 
-    /// Searches rows for all matches, without limits. A match is looked for at one row after the other, but
-    /// not behind the last: without rows there is none. A search that skips to a letter's row can
-    /// stop for want of such a row: see [`Report::ending`].
+    /// Searches rows for all matches, without limits. A match is looked for at one row after the
+    /// other, but not behind the last: without rows there is none. A search that skips to a
+    /// letter's row can stop for want of such a row: see [`Report::ending`].
     ///
     /// # Errors
     ///

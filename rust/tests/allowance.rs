@@ -20,7 +20,7 @@ fn w1() -> QueryBuilder {
         .measure(Measure::last(0).of('B'))
 }
 
-/// Which letter holds at a row says the row's entry: 1 is A, 2 is B, 3 is C; others hold everywhere.
+/// Which letter holds at a row says the row's entry: 1 is A, 2 is B, 3 is C; others hold at all.
 fn by_entry(pattern: &str) -> QueryBuilder {
     ('A'..='C')
         .zip(1..)
@@ -273,8 +273,8 @@ impl Lent {
 
 /// W1 has the places A, fork, A, B, END; a pair's bit is five times its position plus its place.
 /// With the first step A fails at row 0. With the second to the eighth the match is found, where
-/// the second A fails at row 3 with the sixth. From row 4 on A, the fork and the second A are entered;
-/// they stay open until B fails with the twelfth.
+/// the second A fails at row 3 with the sixth. From row 4 on A and the fork stay open until, behind
+/// the second A, B fails with the twelfth.
 #[test]
 fn notes_hold_what_has_failed_and_nothing_that_is_open() {
     let query = w1().to_bytes();
@@ -367,8 +367,8 @@ fn refusals_come_first_whatever_the_allowance() {
     }
 }
 
-/// The README's longest search to the next row, which takes seconds. Its first match takes a million
-/// steps, 254 for each row; then each `$` has failed, and the next ones take half of that each.
+/// The README's longest search to the next row, which takes seconds. Its first match takes a
+/// million steps, 254 for each row; then each `$` has failed, and the next take half of that each.
 #[test]
 fn a_long_search_is_left_early() {
     let query = Query::builder(1).pattern("(($|()){99}($|()){27}A)*");
