@@ -5,6 +5,7 @@
 // table the second promises nothing, not even to stay within the slices.
 use outcome::Outcome;
 use prepared::Prepared;
+use search::NO_LIMIT;
 ghost use mathlib.Core.List.{List};
 ghost use mathlib.Core.Option.{some};
 ghost use Prim.Native.Nat.{ℕ};
@@ -21,20 +22,19 @@ pub extern "C" fn mireladle_bench_prepare(query: &[u8], table: &mut [u16]) -> Pr
     prepared::prepare(query, table)
 }
 
-// The search of a prepared query.
+// The search of a prepared query, with more steps allowed than any takes.
 #[no_mangle]
 pub extern "C" fn mireladle_bench_run(
     table: &[u16],
     p: Prepared,
     rows: &[i32],
-    allowance: usize,
     notes: &mut [u8],
     trail: &mut [u32],
     numbers: &mut [i64],
     labels: &mut [u8],
 ) -> Outcome
     requires { ⌜ Runs (now table) p ⌝ }
-    ensures { λ r. ⌜ ((q : List ℕ) → Given q (now (table .entry)) p → Promised (some allowance) q (now (rows .entry)) (lent (now (notes .entry)) (now (trail .entry)) (now (numbers .entry)) (now (labels .entry))) (memory r (now (notes .exit)) (now (trail .exit)) (now (numbers .exit)) (now (labels .exit)))) ⌝ }
+    ensures { λ r. ⌜ ((q : List ℕ) → Given q (now (table .entry)) p → Promised (some 18446744073709551615) q (now (rows .entry)) (lent (now (notes .entry)) (now (trail .entry)) (now (numbers .entry)) (now (labels .entry))) (memory r (now (notes .exit)) (now (trail .exit)) (now (numbers .exit)) (now (labels .exit)))) ⌝ }
 {
-    search::run(table, p, rows, allowance, notes, trail, numbers, labels)
+    search::run(table, p, rows, NO_LIMIT, notes, trail, numbers, labels)
 }

@@ -23,7 +23,7 @@ ghost use Rattle.search.specs.Promise.{Promised};
 ghost use Rattle.search.specs.Runs.{Runs};
 
 // An allowance that no search passes: as many steps as a number can tell.
-const NO_LIMIT: usize = 18446744073709551615;
+pub const NO_LIMIT: usize = 18446744073709551615;
 
 // The search of a prepared query: its own answer, then answers 10 to 12, then the walk.
 pub fn run(
