@@ -13,7 +13,7 @@ use borrow.Author.Tests.{leb-true, ltb-true, eqb-true}
 use Rattle.rules.specs.Basics.{pick, inRange, signed8, signed32, le16, le32}
 use Rattle.rules.specs.Rows.{Comparison}
 use Rattle.rules.specs.Query.{offsetFits, leftFits, rightFits, comparisonFits, comparisonAt}
-use Rattle.rules.proofs.Choice.{and-left, and-right}
+use Rattle.laws.proofs.Choice.{and-left, and-right}
 use Rattle.table.specs.Tests.{offsetOf, columnOf, numberIn, comparisonIn}
 use Rattle.comparison_words.specs.Words.{spotOf, setFive, putComparison, ComparisonPut}
 use Rattle.comparison_words.proofs.Moving.{offset-near, spot-column, spot-offset}

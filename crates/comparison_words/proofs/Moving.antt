@@ -14,8 +14,8 @@ use mir.Facts.{toZ-ofZ, toZ-pos, sfits-widen, fits-natAbs}
 use borrow.Author.Tests.{le-ltb, le-leb, leb-true}
 use Rattle.rules.specs.Basics.{signed8}
 use Rattle.rules.specs.Query.{offsetFits}
-use Rattle.rules.proofs.Choice.{clash, and-left}
-use Rattle.rules.proofs.Signed.{mag-add, sum-fits}
+use Rattle.laws.proofs.Choice.{clash, and-left}
+use Rattle.laws.proofs.Signed.{mag-add, sum-fits}
 use Rattle.table.specs.Tests.{offsetOf, columnOf}
 use Rattle.comparison_words.specs.Words.{spotOf}
 

@@ -12,7 +12,7 @@ use mir.Facts.{toZ-ofZ}
 use borrow.Author.Tests.{le-leb, lt-leb, ltb-true, ltb-false}
 use Rattle.rules.specs.Basics.{pick}
 use Rattle.rules.specs.Rows.{compares}
-use Rattle.rules.proofs.Choice.{decided, clash}
+use Rattle.laws.proofs.Choice.{decided, clash}
 use Rattle.comparisons.specs.Spots.{flagOf}
 
 -- ---- a test as a number

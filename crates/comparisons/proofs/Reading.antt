@@ -16,8 +16,8 @@ use mir.Facts.{toZ-ofZ}
 use borrow.Author.Tests.{lt-ltb, le-ltb, eq-eqb, ne-eqb, eqb-true, eqb-false, not-true, not-false}
 use Rattle.rules.specs.Basics.{pick, every, tabulate, signed32}
 use Rattle.rules.specs.Rows.{tableOf, compares, plusNumber, rightSide, metBy, met, holds}
-use Rattle.rules.proofs.Choice.{decided}
-use Rattle.rules.proofs.Signed.{sum-fits, read-back}
+use Rattle.laws.proofs.Choice.{decided}
+use Rattle.laws.proofs.Signed.{sum-fits, read-back}
 use Rattle.table.specs.Tests.{numberIn, comparisonIn, comparisonsIn}
 use Rattle.comparisons.specs.Spots.{spotIndex, entryFrom, rightFrom, readMet, firstUnmet}
 use Rattle.comparisons.proofs.Entries.{At, entry-is}

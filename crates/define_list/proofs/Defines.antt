@@ -13,7 +13,7 @@ use Rattle.records.specs.declared.Read.{Read}
 use Rattle.records.specs.declared.Read.the-variants.{Record as Whole, Cut}
 use Rattle.rules.specs.Basics.{pick, keep}
 use Rattle.rules.specs.Query.{Record, recordAt, kinds, oneOf, someOf, noneLeft, field, firstOfKind, columnsOf, defined, comparisonsOf, comparisonsFrom, measuresFrom}
-use Rattle.rules.proofs.Choice.{decided, clash, and-left, and-right}
+use Rattle.laws.proofs.Choice.{decided, clash, and-left, and-right}
 use Rattle.records.specs.Read.{recordOf, recordsAt, readAt}
 use Rattle.query.specs.Order.{restOf}
 use Rattle.records.proofs.Reading.{found, read-more, field-first}

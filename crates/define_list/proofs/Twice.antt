@@ -13,7 +13,7 @@ use Rattle.records.specs.declared.Read.{Read}
 use Rattle.records.specs.declared.Read.the-variants.{Record as Whole}
 use Rattle.rules.specs.Basics.{pick, keep, has, repeats}
 use Rattle.rules.specs.Query.{field, records, defined, doubled}
-use Rattle.rules.proofs.Choice.{decided}
+use Rattle.laws.proofs.Choice.{decided}
 use Rattle.records.specs.Read.{recordOf, recordsAt, readAt}
 use Rattle.records.proofs.Reading.{read-more, field-first}
 use Rattle.define_list.specs.Defines.{PutDefine}

@@ -14,7 +14,7 @@ use borrow.Author.Tests.{eq-eqb, ne-eqb, eqb-true, eqb-false}
 use Rattle.rules.specs.Basics.{pick, has}
 use Rattle.rules.specs.Language.{pattern, branch, Tree, one, more, last, next}
 use Rattle.rules.specs.Places.{Unrolled, Branches, uNil, uCons, unrolled, pFork, size, sizes, startOf, startsOf, placeCount}
-use Rattle.rules.proofs.Counting.{unrolled-size}
+use Rattle.laws.proofs.Counting.{unrolled-size}
 use Rattle.rules.specs.Working.{distinct, fresh, keepNew}
 use Rattle.nodes.specs.Nodes.{nodeAt}
 use Rattle.nodes.specs.declared.Sort.{Sort}

@@ -12,7 +12,7 @@ use lib.Seq.{getD-set-same, getD-set-other}
 use borrow.Author.Tests.{lt-ltb, ltb-true, ne-eqb, eqb-true}
 use Rattle.rules.specs.Basics.{pick}
 use Rattle.rules.specs.Places.{Place, pLetter, pCaret, pDollar, pFork, pEnd}
-use Rattle.rules.proofs.ThinPlaces.{Spelt}
+use Rattle.laws.proofs.ThinPlaces.{Spelt}
 use Rattle.table.specs.Table.{codeAt, firstAt, laterAt, countAt, span, laterBy, laterWays, waysOf, placeBy, placeAt, placesFrom}
 use Rattle.forks.specs.Emitting.{putWays, putWords, letterCode, forkCode, laterWord, putPlace, wayCount, waysIn, putPlaces, Fitting, Emitted}
 

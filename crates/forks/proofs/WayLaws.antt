@@ -10,8 +10,8 @@ use lib.Seq.{getD-set-same, getD-set-other}
 use borrow.Author.Tests.{eq-eqb, ne-eqb, eqb-true, eqb-false, lt-ltb, le-ltb}
 use Rattle.rules.specs.Basics.{pick, has}
 use Rattle.rules.specs.Places.{Unrolled, uLetter, uCaret, uDollar, uEmpty, uSeq, uAlt, uOpt, uStar, Branches, uNil, uCons, size, sizes, startOf, startsOf, waysInTurn, code, codes}
-use Rattle.rules.proofs.Bounds.{has-append}
-use Rattle.rules.proofs.Distinct.{thinned-append}
+use Rattle.laws.proofs.Bounds.{has-append}
+use Rattle.laws.proofs.Distinct.{thinned-append}
 use Rattle.rules.specs.Working.{distinct, fresh, keepNew, thinPlace, thinned}
 use Rattle.table.specs.Table.{span}
 use Rattle.forks.specs.Emitting.{putWays, anchorCode, forkCode, wayCount, waysIn, WayPut, WayNeeds}

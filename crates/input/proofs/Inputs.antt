@@ -13,7 +13,7 @@ use lib.Seq.{take-all}
 use borrow.Author.Tests.{lt-ltb, le-ltb, ltb-true, ltb-false}
 use Rattle.rules.specs.Basics.{pick, tabulate, le16, le32, signed32, wrote}
 use Rattle.rules.specs.Program.{refusedText, tooLarge, rowsOf, printedFor, printed}
-use Rattle.rules.proofs.Lists.{length-tabulate}
+use Rattle.laws.proofs.Lists.{length-tabulate}
 use Rattle.input.specs.declared.Input.the-variants.{Refused, TooLarge, Go}
 use Rattle.input.specs.Input.{mostRead, inputOf, printedInput}
 use Rattle.put.proofs.Writing.{wrote-none, wrote-next}

@@ -11,8 +11,8 @@ use borrow.Author.Tests.{lt-ltb, le-ltb, ltb-true, ltb-false, eq-eqb, ne-eqb}
 use Rattle.rules.specs.Basics.{pick}
 use Rattle.rules.specs.Answers.{badRows, pairsOf, roomAnswer, queryTests, refuses, firstOf}
 use Rattle.rules.specs.Program.{refusedText, tooLarge, rowsOf, printedFor}
-use Rattle.rules.proofs.Accepted.{query-tests-refuse}
-use Rattle.rules.proofs.FirstTrue.{first-after, first-wider, none-before}
+use Rattle.laws.proofs.Accepted.{query-tests-refuse}
+use Rattle.laws.proofs.FirstTrue.{first-after, first-wider, none-before}
 use Rattle.input.specs.declared.Verdict.the-variants.{Refused, TooLarge, Search}
 use Rattle.input.specs.Verdict.{verdictOf, printedVerdict}
 

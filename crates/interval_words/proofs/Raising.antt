@@ -11,7 +11,7 @@ use mir.Syntax.{w32, w64}
 use mir.Val.{SFits, Fits, toZ, ofZ}
 use mir.Facts.{toZ-ofZ}
 use borrow.Author.Tests.{le-ltb}
-use Rattle.rules.proofs.Signed.{read-back}
+use Rattle.laws.proofs.Signed.{read-back}
 use Rattle.rules.specs.Basics.{le32, signed32}
 use Rattle.table.specs.Tests.{raised}
 use Rattle.interval_words.specs.Interval.{numberAt}

@@ -9,8 +9,8 @@ use lib.IntN.{ℤ, _+ℤ_, _-ℤ_}
 use lib.Signed.{mag}
 use borrow.Author.Tests.{lt-ltb, le-ltb, le-leb, lt-leb, ltb-true, ltb-false, leb-true, leb-false}
 use Rattle.rules.specs.Rows.{compares}
-use Rattle.rules.proofs.Choice.{decided}
-use Rattle.rules.proofs.Signed.{mag-add}
+use Rattle.laws.proofs.Choice.{decided}
+use Rattle.laws.proofs.Signed.{mag-add}
 use Rattle.table.specs.Tests.{raised, lowOf, widthOf}
 use Rattle.intervals.specs.Intervals.{within}
 use Rattle.intervals.proofs.Raising.{raised-some, raised-few, raised-lt, raised-le, raised-sum, raised-difference}

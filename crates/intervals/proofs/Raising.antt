@@ -10,8 +10,8 @@ use mir.Syntax.{w64}
 use mir.Val.{SFits, Fits, toZ, ofZ}
 use mir.Facts.{toZ-ofZ}
 use borrow.Author.Tests.{lt-ltb, le-ltb, le-leb, lt-leb, ltb-true, ltb-false, leb-true, leb-false}
-use Rattle.rules.proofs.Choice.{decided}
-use Rattle.rules.proofs.Signed.{read-back}
+use Rattle.laws.proofs.Choice.{decided}
+use Rattle.laws.proofs.Signed.{read-back}
 use Rattle.table.specs.Tests.{raised}
 
 -- ---- two tests with the same value

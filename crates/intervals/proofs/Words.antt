@@ -9,7 +9,7 @@ use lib.Signed.{mag}
 use lib.ListN.{getD}
 use mir.Syntax.{w64}
 use mir.Val.{toZ, ofZ}
-use Rattle.rules.proofs.Signed.{read-back}
+use Rattle.laws.proofs.Signed.{read-back}
 use Rattle.table.specs.Tests.{word64, raised}
 use Rattle.intervals.specs.Intervals.{within}
 

@@ -12,7 +12,7 @@ use lib.ListN.{length}
 use borrow.Author.Tests.{lt-ltb, le-ltb, eq-eqb}
 use Rattle.rules.specs.Language.{pattern, Tree, one, more}
 use Rattle.rules.specs.Reader.{treeOf, stopOf}
-use Rattle.rules.proofs.Stops.{stop-inside}
+use Rattle.laws.proofs.Stops.{stop-inside}
 use Rattle.rules.specs.Places.{fork, placesOf}
 use Rattle.rules.specs.Answers.{deep, noTree, wrong, incomplete, hasEmptyLoop, tooMany, P, firstOf, offsetAt}
 use Rattle.pattern.specs.declared.Step.{Step}

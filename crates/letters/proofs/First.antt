@@ -14,7 +14,7 @@ use mir.Val.{toZ, ofZ}
 use borrow.Author.Tests.{ltb-true, ltb-false}
 use Rattle.rules.specs.Basics.{pick, signed32}
 use Rattle.rules.specs.Rows.{compares}
-use Rattle.rules.proofs.Signed.{mag-add, read-back}
+use Rattle.laws.proofs.Signed.{mag-add, read-back}
 use Rattle.table.specs.Tests.{numberIn, word64, raised, lowOf, widthOf, First}
 use Rattle.comparisons.specs.Spots.{spotIndex, readMet}
 use Rattle.comparisons.proofs.Reading.{Words, left-missing, right-missing, number-met, column-met}

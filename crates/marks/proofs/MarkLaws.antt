@@ -13,7 +13,7 @@ use borrow.Author.Tests.{le-leb, lt-leb, eq-eqb, ne-eqb}
 use Rattle.rules.specs.Basics.{pick, inRange, isLetter}
 use Rattle.rules.specs.Language.{Form, star, plus, opt, exactly, atLeast, atMost, between, lower, upper}
 use Rattle.rules.specs.Reader.{Reading, got, bad, peek, rest, skip, isDigit, number, enough, reaching, bounded, Marked, unmarked, broken, marked, reluctant, shut, upTo, from, braces, quantifier}
-use Rattle.rules.proofs.GrammarSound.{in-range, range-in, number-begun}
+use Rattle.laws.proofs.GrammarSound.{in-range, range-in, number-begun}
 use Rattle.marks.specs.Shows.{codeOf, highest, highOf, Codes, boundedBy, SaysNumber, noNumber, Numeral, Reached, Shows}
 use Rattle.marks.specs.declared.Mark.{Mark}
 use Rattle.marks.specs.declared.Mark.the-variants.{Unmarked, Broken, Found}

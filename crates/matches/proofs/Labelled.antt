@@ -11,7 +11,7 @@ use borrow.Author.Tests.{lt-ltb, le-ltb}
 use Rattle.rules.specs.Basics.{pick, wrote}
 use Rattle.rules.specs.Places.{Place, pLetter, pCaret, pDollar, pFork, pEnd}
 use Rattle.rules.specs.Search.{labels, labelOf}
-use Rattle.rules.proofs.Appended.{wrote-none, length-wrote-at}
+use Rattle.laws.proofs.Appended.{wrote-none, length-wrote-at}
 use Rattle.pairs.specs.Layout.{Layout, P}
 use Rattle.table.specs.Table.{waysOf, placeBy, placeAt, placesIn, codeAt, firstAt}
 use Rattle.pairs.specs.Step.{placeIn, pairIn, stack}

@@ -15,8 +15,8 @@ use Rattle.rules.specs.Query as Q
 use Rattle.rules.specs.Report.{fits, matchNumbers}
 use Rattle.rules.specs.Rows.{tableOf}
 use Rattle.rules.specs.Search.{Skip, hit, labels, lastOf, endOf, nextStart}
-use Rattle.rules.proofs.Appended.{length-wrote-at, fits-room}
-use Rattle.rules.proofs.Lists.{length-tabulate}
+use Rattle.laws.proofs.Appended.{length-wrote-at, fits-room}
+use Rattle.laws.proofs.Lists.{length-tabulate}
 use Rattle.table.specs.Measures.{measuresIn}
 use Rattle.measures.specs.Measures.{Appendable}
 use Rattle.pairs.specs.declared.Walk.{Walk}

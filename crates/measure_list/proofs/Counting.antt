@@ -12,7 +12,7 @@ use Rattle.records.specs.declared.Read.{Read}
 use Rattle.records.specs.declared.Read.the-variants.{Record as Whole, Cut}
 use Rattle.rules.specs.Basics.{keep, tabulate}
 use Rattle.rules.specs.Query.{Record, columnsOf, Measure, measureAt, measuresFrom, functionFits}
-use Rattle.rules.proofs.Choice.{decided}
+use Rattle.laws.proofs.Choice.{decided}
 use Rattle.records.specs.Read.{recordsAt, readAt}
 use Rattle.records.proofs.Records.{records-end}
 use Rattle.records.proofs.Reading.{found, read-more, read-cut}

@@ -7,7 +7,7 @@ use native.Mathlib.Omega.{arith}
 use lib.Dec.{ltb}
 use lib.ListN.{length, getD}
 use borrow.Author.Tests.{ltb-true, ltb-false}
-use Rattle.rules.proofs.Choice.{decided}
+use Rattle.laws.proofs.Choice.{decided}
 use Rattle.table.specs.Measures.{measureIn, measuresIn}
 use Rattle.measure_list.specs.Measures.{Fits, setThree, measureOf, Tabled, Measurable}
 use Rattle.measure_list.specs.declared.Measure.{Measure as Three}

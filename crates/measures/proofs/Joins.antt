@@ -15,7 +15,7 @@ use borrow.Author.Tests.{eq-eqb, ne-eqb, not-true, not-false, lt-ltb}
 use Rattle.rules.specs.Basics.{pick}
 use Rattle.rules.specs.Rows.{tableOf, entry}
 use Rattle.rules.specs.Report.{joined}
-use Rattle.rules.proofs.Signed.{mag-add, sum-fits, read-back}
+use Rattle.laws.proofs.Signed.{mag-add, sum-fits, read-back}
 
 -- what a local of 64 bits holds
 abbrev pub held : ℤ → ℤ

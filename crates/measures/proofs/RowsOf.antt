@@ -17,7 +17,7 @@ use borrow.Author.Tests.{eq-eqb, ne-eqb, ltb-true, ltb-false, lt-ltb, le-ltb}
 use Rattle.rules.specs.Basics.{pick, keep}
 use Rattle.rules.specs.Rows.{Table, entry}
 use Rattle.rules.specs.Report.{values, joined, joinAll, overSome, resultOf, measured, twoOf}
-use Rattle.rules.proofs.Signed.{read-back}
+use Rattle.laws.proofs.Signed.{read-back}
 use Rattle.measures.specs.declared.Value.{Value}
 use Rattle.measures.specs.declared.Value.the-variants.{Null, Number}
 use Rattle.measures.specs.declared.Found.{Found}

@@ -13,8 +13,8 @@ use Rattle.rules.specs.Basics.{pick, every}
 use Rattle.rules.specs.Answers.{treeIn, P, tooMany, badRows, Test, refuses, queryTests, offsetAt, roomAnswer, roomOf, Room}
 use Rattle.rules.specs.Query.{columnsOf, textOf}
 use Rattle.rules.specs.Rows.{tableOf}
-use Rattle.rules.proofs.Level.{or-false}
-use Rattle.rules.proofs.FirstTrue.{allRefuse, none-true}
+use Rattle.laws.proofs.Level.{or-false}
+use Rattle.laws.proofs.FirstTrue.{allRefuse, none-true}
 
 pub record Small (r : Room) : Type 0 where
   pub places : r .places ≤ 256

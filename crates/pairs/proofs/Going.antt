@@ -17,10 +17,10 @@ use Rattle.rules.specs.Report.{bitAt}
 use Rattle.rules.specs.Walk.{accept, try, Halting, outOfSteps, Outcome, found, halted, countTrue}
 use Rattle.rules.specs.Places.{Place}
 use Rattle.rules.specs.Search.{within, haltingOf}
-use Rattle.rules.proofs.Machine.{firstOpen, resume-accept, resume-pop, resume-push, resume-spent, open-room, open-push, open-pop}
+use Rattle.laws.proofs.Machine.{firstOpen, resume-accept, resume-pop, resume-push, resume-spent, open-room, open-push, open-pop}
 use Rattle.rules.specs.Working.{All, Open, bitsOf, marked, resume}
-use Rattle.rules.proofs.Notes.{bitsOf-at, bitsFrom-length, bits-mark, bit-keep}
-use Rattle.rules.proofs.Walk.{count-mark}
+use Rattle.laws.proofs.Notes.{bitsOf-at, bitsFrom-length, bits-mark, bit-keep}
+use Rattle.laws.proofs.Walk.{count-mark}
 use Rattle.pairs.specs.declared.Walk.{Walk}
 use Rattle.pairs.specs.Layout.{Layout, P, N, second, graphOf, passesBy, entryOf, mostPairs}
 use Rattle.table.specs.Table.{waysOf, codeAt}

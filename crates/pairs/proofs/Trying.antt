@@ -15,10 +15,10 @@ use borrow.Author.Tests.{ltb-true, ltb-false, lt-ltb}
 use Rattle.rules.specs.Basics.{pick}
 use Rattle.rules.specs.Report.{bitAt}
 use Rattle.rules.specs.Walk.{try, Halting, Outcome}
-use Rattle.rules.proofs.Machine.{firstOpen}
-use Rattle.rules.proofs.Notes.{bitsOf-at}
+use Rattle.laws.proofs.Machine.{firstOpen}
+use Rattle.laws.proofs.Notes.{bitsOf-at}
 use Rattle.rules.specs.Working.{bitsOf}
-use Rattle.rules.proofs.Level.{and-true}
+use Rattle.laws.proofs.Level.{and-true}
 use Rattle.pairs.specs.declared.Walk.{Walk}
 use Rattle.pairs.specs.Layout.{Layout, P, N, second, graphOf, passesBy, entryOf}
 use Rattle.table.specs.Table.{waysOf, codeAt, firstAt}

@@ -9,7 +9,7 @@ use native.Mathlib.Omega.{arith}
 use lib.ListN.{length}
 use Rattle.rules.specs.Language.{lower, upper, InBounds, pattern, branch, factor, primary, Tree, one, more, last, next, bare, times, letter, caret, dollar, empty, group}
 use Rattle.rules.specs.Places.{roundPlaces, placeCount}
-use Rattle.rules.proofs.Counting.{cap-rounds}
+use Rattle.laws.proofs.Counting.{cap-rounds}
 use Rattle.marks.specs.Shows.{highOf}
 use Rattle.nodes.specs.Nodes.{nodeAt}
 use Rattle.nodes.specs.declared.Sort.the-variants.{Letter, Anchor, Empty, Sequence, Alternation, Group}

@@ -13,8 +13,8 @@ use Rattle.rules.specs.Language.{Rank, pattern, branch, factor, primary, Tree, 
 use Rattle.rules.specs.Places.{placeCount}
 use Rattle.rules.specs.Reader.{peek, ended, read, depth}
 use Rattle.rules.specs.Language.{Written, Laid, letterFirst, spaces, tokens}
-use Rattle.rules.proofs.GrammarSound.{Leads, Good, read-good}
-use Rattle.rules.proofs.Bounds.{Bounds, Lettered, written-bounds, written-letters}
+use Rattle.laws.proofs.GrammarSound.{Leads, Good, read-good}
+use Rattle.laws.proofs.Bounds.{Bounds, Lettered, written-bounds, written-letters}
 use Rattle.nodes.specs.Nodes.{nodeAt, putNode}
 use Rattle.nodes.specs.declared.Sort.{Sort}
 use Rattle.nodes.specs.declared.Sort.the-variants.{Letter, Anchor, Empty, Sequence, Alternation, Group}

@@ -15,8 +15,8 @@ use Rattle.pattern.specs.Written.{plain, withMark, nodeCount, height, ow
 use Rattle.pattern.specs.Held.{Held, Top}
 use Rattle.pattern.specs.declared.Step.{Step}
 use Rattle.rules.specs.Reader.{treeOf}
-use Rattle.rules.proofs.GrammarSound.{found-written}
-use Rattle.rules.proofs.Bounds.{Bounds, Lettered, written-bounds, written-letters}
+use Rattle.laws.proofs.GrammarSound.{found-written}
+use Rattle.laws.proofs.Bounds.{Bounds, Lettered, written-bounds, written-letters}
 use Rattle.nodes.proofs.Put.{SmallSort, read-put, node-other, put-length}
 
 pub factor-nodes : (f : Tree factor) → 1 ≤ nodeCount f

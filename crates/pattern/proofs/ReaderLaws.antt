@@ -20,8 +20,8 @@ use Rattle.marks.specs.declared.Mark.{Mark}
 use Rattle.marks.specs.declared.Mark.the-variants.{Unmarked, Broken, Found}
 use Rattle.marks.proofs.MarkLaws.{inside, rest-drop}
 use Rattle.nodes.specs.Nodes.{putNode, Small}
-use Rattle.rules.proofs.GrammarSound.{pick-both, marked-in}
-use Rattle.rules.proofs.Counting.{cap-rounds}
+use Rattle.laws.proofs.GrammarSound.{pick-both, marked-in}
+use Rattle.laws.proofs.Counting.{cap-rounds}
 use Rattle.pattern.proofs.RoundLaws.{form-order, rounds-eq}
 use Rattle.nodes.proofs.Put.{put-other, put-length}
 use Rattle.nodes.specs.declared.Sort.{Sort}

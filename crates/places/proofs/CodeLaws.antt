@@ -10,9 +10,9 @@ use borrow.Author.Tests.{ne-eqb}
 use Rattle.rules.specs.Basics.{pick}
 use Rattle.rules.specs.Language.{Form, star, plus, opt, exactly, atLeast, atMost, between, lower, upper, InBounds, pattern, branch, factor, Tree, one, more, last, next, bare, times}
 use Rattle.rules.specs.Places.{Unrolled, uEmpty, uSeq, uAlt, uOpt, uStar, Branches, copies, options, behind, repeated, forked, unrolled, unroll, Place, pFork, waysInTurn, size, startOf, startsOf, code, codes, fork, placeCount}
-use Rattle.rules.proofs.Rank.{code-length, codes-length}
-use Rattle.rules.proofs.Counting.{forked-more, forked-size, unrolled-size}
-use Rattle.rules.proofs.Distinct.{thinned-append, thinned-length}
+use Rattle.laws.proofs.Rank.{code-length, codes-length}
+use Rattle.laws.proofs.Counting.{forked-more, forked-size, unrolled-size}
+use Rattle.laws.proofs.Distinct.{thinned-append, thinned-length}
 use Rattle.rules.specs.Working.{distinct, thinPlace, thinned}
 use Rattle.marks.specs.Shows.{highest, highOf}
 use Rattle.pattern.specs.Held.{body, lowOf, highestOf, lazyOf}

@@ -14,7 +14,7 @@ use lib.ListN.{length, length-append}
 use Rattle.rules.specs.Basics.{pick}
 use Rattle.rules.specs.Language.{Form, star, plus, opt, exactly, atLeast, atMost, between, lower, upper, InBounds, pattern, branch, factor, primary, Tree, one, more, last, next, bare, times, letter, empty}
 use Rattle.rules.specs.Places.{unrolled, unroll, Place, pLetter, pCaret, pDollar, size, sizes, code, roundPlaces, fork, placeCount}
-use Rattle.rules.proofs.Counting.{unrolled-size}
+use Rattle.laws.proofs.Counting.{unrolled-size}
 use Rattle.rules.specs.Working.{thinPlace, thinned}
 use Rattle.nodes.specs.Nodes.{nodeAt}
 use Rattle.nodes.specs.declared.Sort.{Sort}

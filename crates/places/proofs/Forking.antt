@@ -10,8 +10,8 @@ use lib.ListN.{length, getD}
 use Rattle.rules.specs.Basics.{has}
 use Rattle.rules.specs.Language.{lower, upper, Rank, pattern, branch, factor, primary, Tree, one, more, last, next, bare, times, letter, caret, dollar, empty, group}
 use Rattle.rules.specs.Places.{Unrolled, uLetter, uCaret, uDollar, uEmpty, uSeq, uAlt, uOpt, uStar, Branches, uNil, uCons, copies, options, behind, repeated, UnrolledAt, forked, unrolled, unroll, size, sizes, startOf, startsOf, waysInTurn, code, codes, Place, pFork, pEnd, places}
-use Rattle.rules.proofs.Counting.{forked-more}
-use Rattle.rules.proofs.Distinct.{thinned-append}
+use Rattle.laws.proofs.Counting.{forked-more}
+use Rattle.laws.proofs.Distinct.{thinned-append}
 use Rattle.rules.specs.Working.{distinct, thinPlace, thinned}
 use Rattle.forks.proofs.ForkLaws.{distinct-some}
 use Rattle.forks.proofs.TableLaws.{Wayed}

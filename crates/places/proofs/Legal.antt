@@ -10,11 +10,11 @@ use lib.ListN.{length, getD}
 use Rattle.rules.specs.Language.{Tree, pattern, emptyLoop}
 use Rattle.rules.specs.Places.{Place, pFork, unroll, places, placesOf}
 use Rattle.rules.specs.Walk.{pairs, pairWays}
-use Rattle.rules.proofs.Counting.{legal-unroll, places-counted}
+use Rattle.laws.proofs.Counting.{legal-unroll, places-counted}
 use Rattle.rules.specs.Working.{Falls, thinned}
-use Rattle.rules.proofs.PatternWalk.{top}
-use Rattle.rules.proofs.Rank.{rank}
-use Rattle.rules.proofs.ThinPlaces.{Leads, thinned-leads, thinned-falls}
+use Rattle.laws.proofs.PatternWalk.{top}
+use Rattle.laws.proofs.Rank.{rank}
+use Rattle.laws.proofs.ThinPlaces.{Leads, thinned-leads, thinned-falls}
 use Rattle.table.specs.Table.{placeAt, placesFrom, placesIn}
 
 -- ---- the places of a table

@@ -8,7 +8,7 @@ use lib.Dec.{leb}
 use borrow.Author.Tests.{leb-true, le-leb}
 use Rattle.rules.specs.Basics.{inRange, isLetter, every}
 use Rattle.rules.specs.Language.{Rank, Tree, one, more, last, next, bare, times, letter, caret, dollar, empty, group, letters}
-use Rattle.rules.proofs.Bounds.{Lettered}
+use Rattle.laws.proofs.Bounds.{Lettered}
 
 both : (a b : Bool) → (a && b) ≡ true → (a ≡ true) × (b ≡ true)
 both true b e = (refl, e)

@@ -6,10 +6,10 @@ use Prim.Native.Nat.{ℕ, _+_, _*_, _-_, _≤_, _<_}
 use native.Mathlib.Omega.{arith}
 use lib.ListN.{length, getD, length-append}
 use Rattle.rules.specs.Places.{unroll, Place, pFork, pEnd, size, code, places, placesOf}
-use Rattle.rules.proofs.Counting.{unroll-size}
-use Rattle.rules.proofs.Distinct.{thinned-append}
+use Rattle.laws.proofs.Counting.{unroll-size}
+use Rattle.laws.proofs.Distinct.{thinned-append}
 use Rattle.rules.specs.Working.{thinPlace, thinned}
-use Rattle.rules.proofs.ThinPlaces.{thinned-spelt}
+use Rattle.laws.proofs.ThinPlaces.{thinned-spelt}
 use Rattle.table.specs.Table.{codeAt, firstAt, laterAt, countAt, placesFrom, placesIn}
 use Rattle.table.specs.Sized.{Sized}
 use Rattle.forks.specs.Emitting.{putWords, putPlace, wayCount, waysIn, putPlaces, Wording, Emitted, treePlaces, Emitting, Unrolling, Tabled}

@@ -10,9 +10,9 @@ use borrow.Author.Tests.{leb-true, ltb-false}
 use native.Mathlib.Omega.{arith}
 use Rattle.rules.specs.Basics.{pick}
 use Rattle.rules.specs.Answers.{treeIn, hasEmptyLoop, tooMany, P, Test, firstOf, queryTests}
-use Rattle.rules.proofs.Accepted.{query-tests-refuse}
-use Rattle.rules.proofs.Choice.{and-left, and-right}
-use Rattle.rules.proofs.FirstTrue.{none-true}
+use Rattle.laws.proofs.Accepted.{query-tests-refuse}
+use Rattle.laws.proofs.Choice.{and-left, and-right}
+use Rattle.laws.proofs.FirstTrue.{none-true}
 use Rattle.reading.specs.Reading.{queryAnswer}
 
 pub record Clear (q : List ℕ) : Type 0 where

@@ -15,9 +15,9 @@ use Rattle.rules.specs.Query.{textOf, parts}
 use Rattle.rules.specs.Language.{Tree, pattern, emptyLoop}
 use Rattle.rules.specs.Places.{placesOf}
 use Rattle.rules.specs.Answers.{treeIn, hasEmptyLoop, P}
-use Rattle.rules.proofs.Bounds.{Lettered, written-letters}
-use Rattle.rules.proofs.Grammar.{tree-exactly}
-use Rattle.rules.proofs.Level.{or-false}
+use Rattle.laws.proofs.Bounds.{Lettered, written-letters}
+use Rattle.laws.proofs.Grammar.{tree-exactly}
+use Rattle.laws.proofs.Level.{or-false}
 use Rattle.define_list.specs.Defines.{Body}
 use Rattle.table.specs.Measures.{measureIn, measuresIn}
 use Rattle.measure_list.specs.Measures as M

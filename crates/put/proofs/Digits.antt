@@ -10,7 +10,7 @@ use lib.ListN.{length, set, length-append, length-set}
 use borrow.Author.Tests.{ltb-true, ltb-false, lt-ltb, le-ltb}
 use Rattle.rules.specs.Basics.{pick, wrote}
 use Rattle.rules.specs.Program.{digitsOf, decimal}
-use Rattle.rules.proofs.Decimal.{decimal-is}
+use Rattle.laws.proofs.Decimal.{decimal-is}
 use Rattle.put.specs.Put.{Put}
 use Rattle.put.proofs.Writing.{wrote-none, wrote-before}
 

@@ -11,7 +11,7 @@ use Rattle.records.specs.declared.Read.{Read}
 use Rattle.records.specs.declared.Read.the-variants.{Record as Whole, Cut}
 use Rattle.rules.specs.Basics.{pick, inRange, isLetter, every, everyBelow}
 use Rattle.rules.specs.Query.{Record, records, oneOf, someOf, noneLeft, inOrder, kinds, misplaced, field, shapeFits, textFits, comparisonFits, defineFits, skipFits, functionFits, measureFits, recordFits, columnsOf, unfit, cut}
-use Rattle.rules.proofs.Choice.{decided, clash, and-left, and-right}
+use Rattle.laws.proofs.Choice.{decided, clash, and-left, and-right}
 use Rattle.records.specs.Read.{recordOf, recordsAt, readAt}
 use Rattle.query.specs.Order.{restOf, firstAnswer}
 use Rattle.records.proofs.Records.{records-end}

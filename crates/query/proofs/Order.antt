@@ -12,7 +12,7 @@ use Rattle.records.specs.declared.Read.{Read}
 use Rattle.records.specs.declared.Read.the-variants.{Record as Whole, Cut}
 use Rattle.rules.specs.Basics.{pick, every}
 use Rattle.rules.specs.Query.{Record, records, oneOf, someOf, noneLeft, inOrder, kinds, misplaced, firstOfKind, recordFits, columnsOf, unfit}
-use Rattle.rules.proofs.Choice.{decided}
+use Rattle.laws.proofs.Choice.{decided}
 use Rattle.records.specs.Read.{recordsAt, recordOf, readAt}
 use Rattle.query.specs.Order.{restOf, Follows, firstAnswer}
 use Rattle.records.proofs.Records.{records-end}

@@ -17,12 +17,12 @@ use Rattle.rules.specs.Language.{Tree, pattern, letters, Written}
 use Rattle.rules.specs.Answers.{tooDeep, treeIn, wrong, incomplete, hasEmptyLoop, tooMany, P, lettersIn, isForeign, foreign, Test, firstOf, refuses, queryTests, offsetAt, badRows, roomAnswer, roomOf}
 use Rattle.rules.specs.Answers as A
 use Rattle.rules.specs.Rows.{tableOf}
-use Rattle.rules.proofs.Accepted.{tree-of, query-tests-refuse}
-use Rattle.rules.proofs.Bounds.{letters-of-text}
-use Rattle.rules.proofs.Choice.{clash, and-left, and-right}
-use Rattle.rules.proofs.Grammar.{tree-exactly}
-use Rattle.rules.proofs.FirstTrue.{allRefuse, first-before, first-after, none-true}
-use Rattle.rules.proofs.Stops.{tree-there}
+use Rattle.laws.proofs.Accepted.{tree-of, query-tests-refuse}
+use Rattle.laws.proofs.Bounds.{letters-of-text}
+use Rattle.laws.proofs.Choice.{clash, and-left, and-right}
+use Rattle.laws.proofs.Grammar.{tree-exactly}
+use Rattle.laws.proofs.FirstTrue.{allRefuse, first-before, first-after, none-true}
+use Rattle.laws.proofs.Stops.{tree-there}
 use Rattle.query.specs.Order.{firstAnswer}
 use Rattle.sizes.specs.Sizes.{badCount}
 use Rattle.rules.specs.Reader.{treeOf}

@@ -10,7 +10,7 @@ use lib.ListN.{length, getD, length-take, length-drop}
 use borrow.Author.Tests.{leb-true, le-leb, lt-leb}
 use Rattle.rules.specs.Basics.{le16}
 use Rattle.rules.specs.Query.{wholeAt, nextAt, columnsOf, textOf}
-use Rattle.rules.proofs.Choice.{decided, and-right}
+use Rattle.laws.proofs.Choice.{decided, and-right}
 use Rattle.records.specs.Read.{readAt}
 use Rattle.query.specs.Order.{firstAnswer}
 use Rattle.records.specs.declared.Read.the-variants.{Record as Whole, Cut}

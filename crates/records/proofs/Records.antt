@@ -10,7 +10,7 @@ use lib.ListN.{length}
 use borrow.Author.Tests.{leb-true, le-leb, lt-leb}
 use Rattle.rules.specs.Basics.{le16}
 use Rattle.rules.specs.Query.{Record, wholeAt, recordAt, nextAt, recordsOn, recordsFrom, behindOn, behindFrom, records, cut}
-use Rattle.rules.proofs.Choice.{decided, and-right}
+use Rattle.laws.proofs.Choice.{decided, and-right}
 use Rattle.records.specs.Read.{recordsAt}
 
 -- where the whole records from an index on end

@@ -19,11 +19,11 @@ use Rattle.rules.specs.Rows.{Table}
 use Rattle.rules.specs.Query as Q
 use Rattle.rules.specs.Query.{functionFits}
 use Rattle.rules.specs.Report.{twoOf, measured, measureNumbers, matchNumbers, fits}
-use Rattle.rules.proofs.Choice.{and-left, and-right}
-use Rattle.rules.proofs.Lists.{length-tabulate}
-use Rattle.rules.proofs.Limits.{match-long}
-use Rattle.rules.proofs.Signed.{read-back}
-use Rattle.rules.proofs.Appended.{wrote-none, wrote-on, length-wrote-at}
+use Rattle.laws.proofs.Choice.{and-left, and-right}
+use Rattle.laws.proofs.Lists.{length-tabulate}
+use Rattle.laws.proofs.Limits.{match-long}
+use Rattle.laws.proofs.Signed.{read-back}
+use Rattle.laws.proofs.Appended.{wrote-none, wrote-on, length-wrote-at}
 use Rattle.measures.specs.declared.Value.{Value}
 use Rattle.measures.specs.declared.Value.the-variants.{Null, Number}
 use Rattle.measures.specs.Measures.{measureBy, numbersFor, Readable, ThreeBytes, Reportable}

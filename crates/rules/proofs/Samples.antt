@@ -1,7 +1,10 @@
 -- The tables of specs/Samples: the definitions agree with every line.
+use mathlib.Core.Path.{refl}
+use mathlib.Core.Bool.{false≢true, true≢false}
 use Rattle.rules.specs.Basics.{every}
 use Rattle.rules.specs.Bench.{agrees}
-use Rattle.rules.specs.Samples.{skips, fullFirst, allowances, keepsTo, noRows}
+use Rattle.rules.specs.Samples.{skips, fullFirst, allowances, keepsTo, noRows, Preferences}
+use Rattle.rules.specs.Preferment.{Prefers}
 use lib.Dec.{T}
 
 pub skips-hold : T (every agrees skips)
@@ -19,3 +22,7 @@ allowances-hold = tt
 pub no-rows : T noRows
 unfolding noRows
 no-rows = tt
+
+pub preferences : Preferences
+unfolding Prefers
+preferences = record { branches = (tt, λ h. h); longer = (refl, λ h. false≢true h); shorter = (refl, λ h. true≢false h) }

@@ -41,7 +41,7 @@ noTree none = true
 noTree (some t) = false
 
 -- Answer 5: it is so at some byte, after which no text of the language begins that way. Answer 14: it ends but could go on to a text of the language.
--- `wrong-exactly` and `incomplete-exactly` (proofs/Stops) say that the tests are true exactly if the text is `WrongAt` some byte, which is then `stopOf`
+-- `wrong-exactly` and `incomplete-exactly` (crates/laws, Stops) say that the tests are true exactly if the text is `WrongAt` some byte, which is then `stopOf`
 -- the text, or `Unfinished` (specs/Language).
 unfoldable pub wrong : List ℕ → Bool
 unfolding noTree treeOf stopOf

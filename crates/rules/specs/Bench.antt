@@ -124,6 +124,19 @@ sheet =
     ∷ refusal (asks "(((((((((A)))))))))" [] 0 []) 2 4
     -- beyond the sheet, easy slips: the preferred match is not the longest
     ∷ unstepped (asks "A | A B" [] 0 []) (any 2) 5 (at 0 "A" ∷ at 1 "A" ∷ [])
+    -- a pair on the path of a match has not failed: with skip to next row it is entered again
+    ∷ line (asks "A*" [] 1 []) (any 2) 3 (at 0 "AA" ∷ at 1 "A" ∷ []) 11
+    -- COUNT of no rows is 0, and LAST of no rows is null
+    ∷ record {
+      query = asks "A | B" [] 0 (recordOf 5 (1 ∷ 0x42 ∷ 0 ∷ 0 ∷ []) ++ recordOf 5 (6 ∷ 0x42 ∷ 0 ∷ 0 ∷ []));
+      rows = any 1;
+      answer = 0;
+      places = 4;
+      matches = at 0 "A" ∷ [];
+      steps = none;
+      numbers = some (pos 1 ∷ pos 0 ∷ pos 1 ∷ pos 1 ∷ pos 0 ∷ pos 0 ∷ pos 0 ∷ []);
+      output = none;
+    }
     -- unequal does not hold where PREV has no row
     ∷ unstepped (asks "A" unequalPrev 0 []) X 2 (at 1 "A" ∷ at 2 "A" ∷ at 3 "A" ∷ at 4 "A" ∷ [])
     -- leaving at any fork goes straight behind the whole factor: fork, A, END

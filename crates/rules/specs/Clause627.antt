@@ -1,6 +1,6 @@
 -- ISO/IEC 19075-5, clause 6.2.7, on rounds that take no row: the derivations that it leaves in the parenthesised language.
 -- Document 01 leaves none out, and it decides: no rule of the search uses this file. It is here to say where the two agree
--- (proofs/EmptyRounds) and where they do not (proofs/Differs).
+-- (crates/laws, EmptyRounds) and where they do not (crates/laws, Differs).
 use mathlib.Core.Path.{_≡_}
 use mathlib.Core.List.{List, [], _∷_, _++_, flatMap}
 use mathlib.Core.Bool.{Bool, true, false, not, _&&_, _||_}
@@ -60,7 +60,7 @@ pub record Preferred627 {k : Rank} (t : Tree k) (holds : ℕ → ℕ → Bool) (
   pub greatest : (e : Derivation t) (j′ : ℕ) (w′ : List ℕ) → allowed t e ≡ true → Parses t holds n e i j′ w′ → Prefers t e derivation → ⊥
 
 -- No quantifier over a body that can take no row allows an optional round behind another round: its upper bound is at most its lower bound, or
--- at most 1. The law `all-allowed` (proofs/EmptyRounds) says that clause 6.2.7 then leaves nothing out.
+-- at most 1. The law `all-allowed` (crates/laws, EmptyRounds) says that clause 6.2.7 then leaves nothing out.
 unfoldable pub atMostOne : ℕ → Option ℕ → Bool
 atMostOne lo none = false
 atMostOne lo (some hi) = leb hi lo || leb hi 1

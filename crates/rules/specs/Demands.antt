@@ -1,4 +1,4 @@
--- The tender's demands 2 and 3 for an accepted search, in the words of the definitions. `demands` (proofs/Demands) proves them for every query, all rows
+-- The tender's demands 2 and 3 for an accepted search, in the words of the definitions. `demands` (crates/laws) proves them for every query, all rows
 -- and all lent buffers with which a search is accepted, for every skip mode and every allowance of steps, whether it ends as done, stopped or halted.
 use mathlib.Core.Path.{_≡_}
 use mathlib.Core.Bool.{true, false}

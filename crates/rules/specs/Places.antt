@@ -148,7 +148,7 @@ places t = code t 0 (size t) ++ (pEnd ∷ [])
 -- ---- P
 
 -- P counts them all, END included. It is told on the tree itself, so that it can be computed where the places are too many to list; the
--- law `places-counted` (proofs/Counting) says that it is the length of the list of places.
+-- law `places-counted` (crates/laws, Counting) says that it is the length of the list of places.
 
 -- the places of lo to hi rounds of a body with c places
 unfoldable pub roundPlaces : ℕ → Option ℕ → ℕ → ℕ

@@ -1,8 +1,8 @@
 -- Not a rule of the paper: how the tree of a text is computed, so that definitions which need it can be run. The law `tree-exactly`
--- (proofs/Grammar) says that `treeOf text` is `some p` exactly if p is `Written` in the text, so nothing below has to be believed.
+-- (crates/laws, Grammar) says that `treeOf text` is `some p` exactly if p is `Written` in the text, so nothing below has to be believed.
 -- Recursive descent over the bytes: each reader begins at its first byte and ends behind its last token and the spaces there. A reader that
 -- finds nothing stops at the first byte with which no text of the language begins that way, or at the end; `wrong-exactly` and `incomplete-exactly`
--- (proofs/Stops) say so of `stopOf text`.
+-- (crates/laws, Stops) say so of `stopOf text`.
 use mathlib.Core.Bool.{Bool, true, false}
 use mathlib.Core.List.{List, [], _∷_}
 use mathlib.Core.Option.{Option, none, some}

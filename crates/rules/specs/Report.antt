@@ -104,7 +104,7 @@ unfoldable pub weigh : ℕ → (ℕ → Bool) → ℕ
 weigh zero f = 0
 weigh (suc k) f = weigh k f + pick (f k) (2 ^ k) 0
 
--- The notes for these failed pairs: bit x is 1 exactly if pair x has failed; spare bits of the last byte are 0. The law `noted` (proofs/Noted) says so.
+-- The notes for these failed pairs: bit x is 1 exactly if pair x has failed; spare bits of the last byte are 0. The law `noted` (crates/laws, Noted) says so.
 unfoldable pub notesOf : List Bool → List ℕ
 unfolding bytesFor weigh tabulate
 notesOf F = tabulate (bytesFor (length F)) (λ b. weigh 8 (λ j. getD F (8 * b + j) false))

@@ -1,15 +1,20 @@
--- Document 02: small searches as tables, run on the definitions, one table for each request. That the definitions agree with every line is proved in
--- proofs/Samples.
-use mathlib.Core.Bool.{Bool, _&&_}
+-- Document 02: small searches as tables, run on the definitions, one table for each request; and of strings that clause 6.2 of ISO/IEC 19075-5 prints,
+-- which one is preferred. That the definitions agree with every line is proved in proofs/Samples.
+use mathlib.Core.Bool.{Bool, true, false, _&&_}
 use mathlib.Core.List.{List, [], _∷_, _++_}
+use mathlib.Core.Logic.{inl, inr}
 use mathlib.Core.Option.{none, some}
-use Prim.Native.Nat.{ℕ}
+use Prim.Native.Nat.{ℕ, zero-le}
 use Prim.Native.String.{String}
+use native.Mathlib.Omega.{arith}
 use lib.Dec.{eqb}
 use lib.IntN.{ℤ, pos}
 use lib.ListN.{replicate}
 use Rattle.rules.specs.Basics.{bytes}
-use Rattle.rules.specs.Answers.{Buffers, searchWithin, searchOf}
+use Rattle.rules.specs.Language.{opt, lower, upper, pattern, Tree, one, more, last, bare, times, letter}
+use Rattle.rules.specs.Preferment.{Derivation, Prefers}
+use Rattle.rules.specs.Walk.{countTrue}
+use Rattle.rules.specs.Answers.{Buffers, walkWithin, searchWithin, searchOf}
 use Rattle.rules.specs.Bench.{recordOf, w1, X, any, Line, at, line, unstepped, refusal, enough}
 
 -- ---- R-2, skip to a labelled row
@@ -17,7 +22,7 @@ use Rattle.rules.specs.Bench.{recordOf, w1, X, any, Line, at, line, unst
 -- a query of one column whose skip record has a mode and a letter
 abbrev pub asksTo : String → ℕ → ℕ → List ℕ
 unfolding bytes
-asksTo text mode letter = recordOf 1 (1 ∷ 0 ∷ []) ++ (recordOf 2 (bytes text) ++ recordOf 4 (mode ∷ letter ∷ []))
+asksTo text mode c = recordOf 1 (1 ∷ 0 ∷ []) ++ (recordOf 2 (bytes text) ++ recordOf 4 (mode ∷ c ∷ []))
 
 -- a line of a search that stops behind its last match, as the letter labels no row of it or its first row
 abbrev pub stuckLine : List ℕ → List ℤ → ℕ → List (ℕ × List ℕ) → Line
@@ -58,42 +63,83 @@ fullFirst =
 
 -- ---- R-13, an allowance of steps
 
--- W1 takes 12 steps and finds its match with the eighth: an allowance, the answer, and the matches, labels and steps returned
+-- W1 takes 12 steps and finds its match with the eighth: an allowance, the answer, the matches, labels and steps returned, and how many pairs have
+-- failed
 pub record Allowed : Type 0 where
   pub allowance : ℕ
   pub answer : ℕ
   pub matches : ℕ
   pub labels : ℕ
   pub steps : ℕ
+  pub failed : ℕ
 
-abbrev pub allowed : ℕ → ℕ → ℕ → ℕ → ℕ → Allowed
-allowed a n m l s = record { allowance = a; answer = n; matches = m; labels = l; steps = s }
+abbrev pub allowed : ℕ → ℕ → ℕ → ℕ → ℕ → ℕ → Allowed
+allowed a n m l s f = record { allowance = a; answer = n; matches = m; labels = l; steps = s; failed = f }
 
 unfoldable pub allowances : List Allowed
 allowances =
-    allowed 0 16 0 0 0
-    ∷ allowed 1 16 0 0 1
-    ∷ allowed 2 16 0 0 2
-    ∷ allowed 3 16 0 0 3
-    ∷ allowed 4 16 0 0 4
-    ∷ allowed 5 16 0 0 5
-    ∷ allowed 6 16 0 0 6
-    ∷ allowed 7 16 0 0 7
-    ∷ allowed 8 16 1 3 8
-    ∷ allowed 9 16 1 3 9
-    ∷ allowed 10 16 1 3 10
-    ∷ allowed 11 16 1 3 11
-    ∷ allowed 12 0 1 3 12
-    ∷ allowed 13 0 1 3 12
+    allowed 0 16 0 0 0 0
+    ∷ allowed 1 16 0 0 1 1
+    ∷ allowed 2 16 0 0 2 1
+    ∷ allowed 3 16 0 0 3 1
+    ∷ allowed 4 16 0 0 4 1
+    ∷ allowed 5 16 0 0 5 1
+    ∷ allowed 6 16 0 0 6 2
+    ∷ allowed 7 16 0 0 7 2
+    ∷ allowed 8 16 1 3 8 2
+    ∷ allowed 9 16 1 3 9 2
+    ∷ allowed 10 16 1 3 10 2
+    ∷ allowed 11 16 1 3 11 3
+    ∷ allowed 12 0 1 3 12 6
+    ∷ allowed 13 0 1 3 12 6
     ∷ []
 
 unfoldable pub keepsTo : Allowed → Bool
-unfolding searchWithin w1
+unfolding searchWithin walkWithin countTrue w1
 keepsTo l =
     let r = searchWithin (some (l .allowance)) w1 X (enough w1 X) .result in
-    eqb (r .answer) (l .answer) && (eqb (r .matches) (l .matches) && (eqb (r .labels) (l .labels) && eqb (r .steps) (l .steps)))
+    let F = walkWithin (some (l .allowance)) w1 X (enough w1 X) .state .0 in
+    eqb (r .answer) (l .answer)
+    && (eqb (r .matches) (l .matches) && (eqb (r .labels) (l .labels) && (eqb (r .steps) (l .steps) && eqb (countTrue F) (l .failed))))
 
 -- an allowance of 0 is enough where there is no row
 unfoldable pub noRows : Bool
 unfolding searchWithin w1
 noRows = eqb (searchWithin (some 0) w1 [] (enough w1 []) .result .answer) 0
+
+-- ---- ISO/IEC 19075-5, clause 6.2, the order of preferment
+
+-- d is preferred to e, and e is not preferred to d
+abbrev pub Before : (t : Tree pattern) → Derivation t → Derivation t → Type 0
+Before t d e = Prefers t d e × (Prefers t e d → ⊥)
+
+-- A | A, and its strings (A -) and (- A)
+abbrev pub twice : Tree pattern
+twice = more (last (bare (letter 65))) (one (last (bare (letter 65))))
+
+abbrev pub inFirst : Derivation twice
+unfolding Derivation
+inFirst = inl tt
+
+abbrev pub inSecond : Derivation twice
+unfolding Derivation
+inSecond = inr tt
+
+-- A? (lazy is false) and A??, and the strings of both, (A) and ()
+abbrev pub optional : Bool → Tree pattern
+optional lazy = one (last (times (letter 65) opt lazy))
+
+abbrev pub someA : (lazy : Bool) → Derivation (optional lazy)
+unfolding Derivation lower upper
+someA lazy = (tt ∷ [], (zero-le, omega arith))
+
+abbrev pub noA : (lazy : Bool) → Derivation (optional lazy)
+unfolding Derivation lower upper
+noA lazy = ([], (zero-le, zero-le))
+
+pub record Preferences : Type 0 where
+  -- 6.2: of A | A first (A -), then (- A)
+  pub branches : Before twice inFirst inSecond
+  -- 6.2.7: of A? first (A), then (); of A?? first (), then (A)
+  pub longer : Before (optional false) (someA false) (noA false)
+  pub shorter : Before (optional true) (noA true) (someA true)

@@ -155,7 +155,7 @@ module _ {S : Type 0} where
   onAnswer plan on i m l (halts h p) st = ended (unfinished h i p) st
   onAnswer plan on i m l (hit p) st = byFit (plan .fits m l p) (record { start = i; path = p }) st (λ _. byNext (plan .next i p) st (λ j. on j (suc m) (l + plan .rows p) st))
 
-  -- the search from the start i on; attempts begin at rows below n only. k bounds the number of attempts, and n is enough (proofs/Fuel).
+  -- the search from the start i on; attempts begin at rows below n only. k bounds the number of attempts, and n is enough (crates/laws, Fuel).
   unfoldable pub sweep : (ℕ → S → Attempted × S) → Plan → ℕ → ℕ → ℕ → ℕ → S → Swept S
   sweep attempt plan zero i m l st = ended (noStart (plan .more) i) st
   sweep attempt plan (suc k) i m l st = below (ltb i (plan .n)) (ended (noStart (plan .more) i) st) (λ _. let r = attempt i st in onAnswer plan (sweep attempt plan k) i m l (r .0) (r .1))

@@ -79,7 +79,7 @@ plainBy accept f x = some (x ∷ [])
 plainBy (try ys) f x = onto x (firstOf f ys)
 
 -- the path that plain backtracking finds from x: the pairs from x to the one that succeeds by itself, each having led to the next. No path
--- longer than k pairs is looked for; the law `plain-enough` (proofs/Fuel) says that the number of pairs is enough for k.
+-- longer than k pairs is looked for; the law `plain-enough` (crates/laws, Fuel) says that the number of pairs is enough for k.
 unfoldable pub plain : (ℕ → Ways) → ℕ → ℕ → Option (List ℕ)
 unfolding plainBy
 plain ways zero x = none

@@ -1,2 +1,3 @@
-// Document 01 as definitions (specs/) and the laws about them (proofs/). There is no code here: the crates above cite
-// these definitions in their contracts. specs/Lib.antt lists the files in the paper's order.
+// Document 01 and the requests so far as definitions. There is no code here: the crates above cite
+// these definitions in their contracts. specs/Lib.antt lists the files in the paper's order. proofs/
+// runs the tables of specs/Bench and specs/Samples; all other laws are in crates/laws.

@@ -23,12 +23,12 @@ use Rattle.rules.specs.Search.{Swept, Kept}
 use Rattle.rules.specs.Report.{bytesFor, numbersOf, labelsOf}
 use Rattle.rules.specs.Answers.{P, treeIn, tooMany, badRows, Task, taskOf, walked, Buffers, pairsOf, shortNotes, shortTrail, endAnswer, stopped, Test, firstOf, refuses, offsetAt, queryTests, refusal, answerOf, roomAnswer, Room, roomOf, reportOf, reportWithin, walkReport, walkWithin, walkOf, Memory, accepted, searchOf}
 use Rattle.rules.specs.Program.{refusedText, tooLarge, searchText, rowsOf, printedFor}
-use Rattle.rules.proofs.Lists.{length-wrote}
-use Rattle.rules.proofs.Accepted.{answer-within, query-tests-refuse}
-use Rattle.rules.proofs.Demands.{search-accepted}
-use Rattle.rules.proofs.Level.{or-false}
-use Rattle.rules.proofs.FirstTrue.{allRefuse, first-after, none-before, none-true}
-use Rattle.rules.proofs.Limits.{limits, numbers-long}
+use Rattle.laws.proofs.Lists.{length-wrote}
+use Rattle.laws.proofs.Accepted.{answer-within, query-tests-refuse}
+use Rattle.laws.proofs.Demands.{search-accepted}
+use Rattle.laws.proofs.Level.{or-false}
+use Rattle.laws.proofs.FirstTrue.{allRefuse, first-after, none-before, none-true}
+use Rattle.laws.proofs.Limits.{limits, numbers-long}
 use Rattle.reading.specs.declared.Size.{Size}
 use Rattle.reading.specs.Reading.{asRoom}
 use Rattle.put.specs.Put.{Put}

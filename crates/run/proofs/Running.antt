@@ -13,7 +13,7 @@ use lib.Seq.{take-all}
 use Rattle.rules.specs.Query.{parts}
 use Rattle.rules.specs.Answers.{taskOf, walked, Buffers, Memory, refusal, searchOf}
 use Rattle.rules.specs.Program.{refusedText, tooLarge, searchText, printedFor, printed}
-use Rattle.rules.proofs.Lists.{length-tabulate}
+use Rattle.laws.proofs.Lists.{length-tabulate}
 use Rattle.table.specs.Measures.{measureIn, measuresIn}
 use Rattle.reading.specs.declared.Query.{Query}
 use Rattle.reading.specs.Reading.{queryAnswer, Asked}

@@ -20,11 +20,11 @@ use Rattle.rules.specs.Query.{columnsOf, textOf, parts}
 use Rattle.rules.specs.Report.{bytesFor}
 use Rattle.rules.specs.Answers as A
 use Rattle.rules.specs.Answers.{treeIn, P, badRows, Buffers, Memory, taskOf, pairsOf, shortNotes, shortTrail, endAnswer, Test, firstOf, refuses, offsetAt, queryTests, answerBy, answerWithin, walkWithin, reportWithin, reportOf, refused, accepted, searchWithin}
-use Rattle.rules.proofs.Accepted.{query-tests-refuse}
-use Rattle.rules.proofs.Demands.{demands, allowing}
-use Rattle.rules.proofs.Limits.{limits}
-use Rattle.rules.proofs.FirstTrue.{end-accepted, allRefuse, first-refuses, first-before, first-after}
-use Rattle.rules.proofs.Level.{or-false}
+use Rattle.laws.proofs.Accepted.{query-tests-refuse}
+use Rattle.laws.proofs.Demands.{demands, allowing}
+use Rattle.laws.proofs.Limits.{limits}
+use Rattle.laws.proofs.FirstTrue.{end-accepted, allRefuse, first-refuses, first-before, first-after}
+use Rattle.laws.proofs.Level.{or-false}
 use Rattle.sizes.specs.Sizes.{badCount, shortFor}
 use Rattle.reading.specs.Reading.{queryAnswer}
 use Rattle.outcome.specs.declared.Outcome.{Outcome}

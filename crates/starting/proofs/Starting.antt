@@ -18,15 +18,15 @@ use Rattle.rules.specs.Search.{Match, within, walkSearch}
 use Rattle.rules.specs.Report.{fits, numbersOf, labelsOf}
 use Rattle.rules.specs.Answers.{treeIn, letterHolds, skipOf, taskOf, walkedOn}
 use Rattle.rules.specs.Working.{thinned}
-use Rattle.rules.proofs.Accepted.{places-are}
-use Rattle.rules.proofs.Bounds.{Lettered, written-letters}
-use Rattle.rules.proofs.Counting.{legal-unroll, places-counted}
-use Rattle.rules.proofs.Distinct.{walk-thin}
-use Rattle.rules.proofs.Grammar.{tree-exactly}
-use Rattle.rules.proofs.PatternWalk.{search-kept}
-use Rattle.rules.proofs.SameLetters.{search-agrees}
-use Rattle.rules.proofs.ThinPlaces.{Leads, thinned-spelt}
-use Rattle.rules.proofs.Rank.{rank}
+use Rattle.laws.proofs.Accepted.{places-are}
+use Rattle.laws.proofs.Bounds.{Lettered, written-letters}
+use Rattle.laws.proofs.Counting.{legal-unroll, places-counted}
+use Rattle.laws.proofs.Distinct.{walk-thin}
+use Rattle.laws.proofs.Grammar.{tree-exactly}
+use Rattle.laws.proofs.PatternWalk.{search-kept}
+use Rattle.laws.proofs.SameLetters.{search-agrees}
+use Rattle.laws.proofs.ThinPlaces.{Leads, thinned-spelt}
+use Rattle.laws.proofs.Rank.{rank}
 use Rattle.table.specs.Table.{placeAt, placesIn}
 use Rattle.table.specs.Tests.{holdsIn, definedIn, testAt}
 use Rattle.table.specs.Measures.{measuresIn}

@@ -8,7 +8,7 @@ use Rattle.rules.specs.Places.{Place}
 use Rattle.rules.specs.Search.{Match}
 use Rattle.rules.specs.Report.{numbersOf, labelsOf}
 use Rattle.rules.specs.Working.{thinned}
-use Rattle.rules.proofs.Distinct.{labels-thin}
+use Rattle.laws.proofs.Distinct.{labels-thin}
 
 pub numbers-thin : (t : Table) (ms : List Measure) (pl : List Place) (k : ℕ) (xs : List Match) → numbersOf t ms (thinned pl) k xs ≡ numbersOf t ms pl k xs
 unfolding numbersOf

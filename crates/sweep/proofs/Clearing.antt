@@ -11,11 +11,11 @@ use lib.ListN.{length, getD, set, take, drop, replicate, length-replicate, getD-
 use lib.Seq.{ext-getD, set-split}
 use Rattle.rules.specs.Basics.{wrote}
 use Rattle.rules.specs.Report.{bytesFor, bitOf, bitAt, zeros}
-use Rattle.rules.proofs.Appended.{wrote-none, wrote-on, length-wrote-at}
-use Rattle.rules.proofs.Lists.{front-wrote, beyond-wrote}
-use Rattle.rules.proofs.Notes.{bitsOf-at, bitsFrom-length}
+use Rattle.laws.proofs.Appended.{wrote-none, wrote-on, length-wrote-at}
+use Rattle.laws.proofs.Lists.{front-wrote, beyond-wrote}
+use Rattle.laws.proofs.Notes.{bitsOf-at, bitsFrom-length}
 use Rattle.rules.specs.Working.{bitsOf}
-use Rattle.rules.proofs.NotesWritten.{wrote-over, notes-written}
+use Rattle.laws.proofs.NotesWritten.{wrote-over, notes-written}
 use Rattle.pairs.specs.Layout.{P, N}
 use Rattle.matches.specs.declared.Sweep.{Sweep}
 use Rattle.matches.specs.declared.Task.{Task}

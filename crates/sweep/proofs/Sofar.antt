@@ -15,10 +15,10 @@ use Rattle.rules.specs.Report.{bitAt, matchNumbers, numbersOf, labelsOf, fits}
 use Rattle.rules.specs.Search as R
 use Rattle.rules.specs.Search.{Match, End, Swept, Plan, Kept, Attempted, hit, miss, halts, haltingOf, sweep, byFit, byNext, onAnswer, withMatch, walkAt, labels, endOf, planOf, walkSearch}
 use Rattle.rules.specs.Walk.{Halt, pairs, firstAt, pairWays}
-use Rattle.rules.proofs.Appended.{wrote-none, wrote-on, length-wrote-at, numbers-on, labels-on, fits-room}
-use Rattle.rules.proofs.Limits.{numbers-long}
+use Rattle.laws.proofs.Appended.{wrote-none, wrote-on, length-wrote-at, numbers-on, labels-on, fits-room}
+use Rattle.laws.proofs.Limits.{numbers-long}
 use Rattle.rules.specs.Working.{bitsOf}
-use Rattle.rules.proofs.Starts.{next-on}
+use Rattle.laws.proofs.Starts.{next-on}
 use Rattle.pairs.specs.Layout.{P, N, graphOf}
 use Rattle.pairs.specs.State.{allowing}
 use Rattle.pairs.proofs.Ways.{in-length}

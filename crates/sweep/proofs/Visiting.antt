@@ -13,9 +13,9 @@ use Rattle.rules.specs.Answers.{haltAnswer}
 use Rattle.rules.specs.Basics.{pick}
 use Rattle.rules.specs.Search.{Kept, Attempted, hit, halts, answered}
 use Rattle.rules.specs.Walk.{Ways, accept, try, Halting, outOfSteps, Outcome, found, failed, halted, close, tries, enterUnless, inside, insideBy, countTrue}
-use Rattle.rules.proofs.Notes.{bitsFrom-length}
+use Rattle.laws.proofs.Notes.{bitsFrom-length}
 use Rattle.rules.specs.Working.{bitsOf}
-use Rattle.rules.proofs.Walk.{InsidePost, inside-post}
+use Rattle.laws.proofs.Walk.{InsidePost, inside-post}
 use Rattle.pairs.specs.declared.Walk.{Walk}
 use Rattle.pairs.specs.Layout.{Layout, P, N, graphOf}
 use Rattle.pairs.specs.Step.{pairIn, stack, outcomeBy, resultBy}

@@ -9,7 +9,7 @@ use lib.Dec.{eqb, ltb}
 use lib.ListN.{length, getD, set, length-set}
 use lib.Seq.{getD-set-same, getD-set-other}
 use borrow.Author.Tests.{eqb-true, eqb-false, ltb-true, ltb-false}
-use Rattle.rules.proofs.Choice.{decided}
+use Rattle.laws.proofs.Choice.{decided}
 use Rattle.define_list.specs.Defines.{definedAt}
 use Rattle.table.specs.Tests.{testAt, definedIn, First}
 use Rattle.tests.specs.Prepared.{moreOf, wordsFor, Counted, Countable, Preparable, Prepared, LetterRoom, LetterPut, LettersPut, NoneRoom, NonePut}

@@ -15,7 +15,7 @@ use Rattle.rules.specs.Search.{Match, Swept, Kept, labels}
 use Rattle.rules.specs.Report.{measured, twoOf, measureNumbers, matchNumbers, numbersOf, labelsOf}
 use Rattle.rules.specs.Answers.{Task, stopped}
 use Rattle.rules.specs.Program.{signedDecimal, measureText, measuresText, matchLine, matchLines, headerLine, searchText}
-use Rattle.rules.proofs.Limits.{match-long}
+use Rattle.laws.proofs.Limits.{match-long}
 use Rattle.header.specs.Report.{numberAt, headerText, resultsText, fieldText, lineText, linesText, reportText}
 
 pub results-printed : (t : Table) (row : ℕ) (ls : List ℕ) (ms : List Measure) (rest : List ℤ)

@@ -11,9 +11,9 @@ use borrow.Author.Tests.{eq-eqb, ne-eqb}
 use lib.ListN.{length, getD}
 use Rattle.rules.specs.Report.{bitAt}
 use Rattle.rules.specs.Walk.{Halting, enterUnless, inside}
-use Rattle.rules.proofs.Machine.{resume-one}
+use Rattle.laws.proofs.Machine.{resume-one}
 use Rattle.rules.specs.Working.{bitsOf, resume}
-use Rattle.rules.proofs.Notes.{bitsOf-at}
+use Rattle.laws.proofs.Notes.{bitsOf-at}
 use Rattle.pairs.specs.declared.Walk.{Walk}
 use Rattle.pairs.specs.Layout.{Layout, P, N, graphOf, passesBy, entryOf, mostPairs}
 use Rattle.table.specs.Table.{codeAt, firstAt}

@@ -2,7 +2,7 @@
 use mathlib.Core.Path.{_∙_}
 use mir.Syntax.{w32}
 use mir.Facts.{toZ-ofZ}
-use Rattle.rules.proofs.Signed.{read-back}
+use Rattle.laws.proofs.Signed.{read-back}
 use borrow.Author.Needs.{needs}
 use Rattle.comparisons.proofs.entry.Statement.{statement}
 use Rattle.comparisons.proofs.entry.Tie as tie

@@ -2,7 +2,7 @@
 use mathlib.Core.Path.{ap, _∙_}
 use native.Mathlib.Omega.{arith}
 use borrow.Author.Needs.{needs}
-use Rattle.rules.proofs.Signed.{read-back}
+use Rattle.laws.proofs.Signed.{read-back}
 use Rattle.table.specs.Tests.{raised}
 use Rattle.intervals.proofs.Intervals.{wraps-within}
 use Rattle.intervals.proofs.inside.Statement.{statement}

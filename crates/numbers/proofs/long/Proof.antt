@@ -1,6 +1,6 @@
 -- `numbers::long` meets its contract by the laws of Signed.
 use mir.Facts.{toZ-ofZ, sfits-widen}
-use Rattle.rules.proofs.Signed.{widened}
+use Rattle.laws.proofs.Signed.{widened}
 use Rattle.numbers.proofs.long.Statement.{statement}
 use Rattle.numbers.proofs.long.Tie as tie
 

@@ -1,5 +1,5 @@
 -- `pairs::failed` meets its contract by the laws of rules' Notes.
-use Rattle.rules.proofs.Notes.{bitAt-code}
+use Rattle.laws.proofs.Notes.{bitAt-code}
 use borrow.Author.Needs.{needs}
 use Rattle.pairs.proofs.failed.Statement.{statement}
 use Rattle.pairs.proofs.failed.Tie as tie

@@ -1,7 +1,7 @@
 -- `pairs::mark` meets its contract by the laws of rules' Notes.
 use native.Mathlib.Omega.{arith}
 use Prim.Native.Nat.{_/_}
-use Rattle.rules.proofs.Notes.{mark-fits, mark-code}
+use Rattle.laws.proofs.Notes.{mark-fits, mark-code}
 use borrow.Author.Needs.{needs}
 use Rattle.pairs.proofs.mark.Statement.{statement}
 use Rattle.pairs.proofs.mark.Tie as tie

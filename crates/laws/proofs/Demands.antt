@@ -1,0 +1,208 @@
+-- The tender's demands hold of every accepted search (specs/Demands): for every query, all rows and all lent buffers, every skip mode and every allowance of steps,
+-- done, stopped and halted.
+use mathlib.Core.Path.{_≡_, refl, ap, ap₂, sym, _∙_}
+use mathlib.Core.Bool.{Bool, false}
+use mathlib.Core.List.{List, [], _∷_, _++_, map}
+use mathlib.Core.Logic.{_↔_}
+use mathlib.Core.Option.{Option, none, some}
+use Prim.Native.Nat.{ℕ, _*_, _/_, _≤_, _<_}
+use native.Mathlib.Omega.{arith}
+use lib.IntN.{ℤ}
+use lib.ListN.{length, getD}
+use Rattle.rules.specs.Basics.{Begins}
+use Rattle.rules.specs.Query.{textOf}
+use Rattle.rules.specs.Language.{Tree, pattern, Written, emptyLoop}
+use Rattle.rules.specs.Places.{Place, unroll, places}
+use Rattle.rules.specs.Readings.{SomeReading}
+use Rattle.rules.specs.Walk.{outOfSteps, pairs}
+use Rattle.rules.specs.Preferment.{Preferred, Reports}
+use Rattle.rules.specs.Search.{Match, End, unfinished, Finished, Skip, pastLast, Swept, Kept, Terms, within, whole, walkSearch, plainSearch, labels, endOf, plainFrom, shownOne, shown, shownEnd}
+use Rattle.rules.specs.Report.{fits, bytesFor, bitAt, notesOf}
+use Rattle.rules.specs.Answers.{treeIn, Task, taskOf, letterHolds, walkedOn, backtracked, Buffers, refusal, answerBy, answerWithin, reportOf, walkWithin, plainOf, reportWithin, plainReport, accepted, searchWithin, searchOf}
+use Rattle.rules.specs.Demands.{Demand2, Demand3, Demands, Allowing}
+use Rattle.laws.proofs.Accepted.{Accepted, unrefused, accepted-within, granted-when, places-are}
+use Rattle.laws.proofs.Allowed.{search-bound, search-each, search-within, end-within, EndWithin, allows-begins, search-allowed, allowance-enough}
+use Rattle.laws.proofs.Bounds.{Bounds, written-bounds}
+use Rattle.laws.proofs.Counting.{legal-unroll}
+use Rattle.laws.proofs.DerivationReadings.{parses-reads}
+use Rattle.laws.proofs.Grammar.{tree-exactly}
+use Rattle.laws.proofs.GreatestDerivation.{found-is-greatest}
+use Rattle.laws.proofs.Lists.{front-wrote}
+use Rattle.laws.proofs.Noted.{length-notes, noted}
+use Rattle.laws.proofs.Paths.{failed-no-path}
+use Rattle.laws.proofs.PatternWalk.{search-follows, search-sum, search-kept, walk-finished}
+use Rattle.laws.proofs.PrefermentReports.{plain-reports, reports-one}
+use Rattle.laws.proofs.Swept.{Follows}
+use Rattle.laws.proofs.TreeReadings.{match-exactly}
+
+-- ---- demand 2
+
+module _ (p : Tree pattern) (g : emptyLoop p ≡ false) (o : Bounds p) (pl : List Place) (e : pl ≡ places (unroll p)) (holds : ℕ → ℕ → Bool) (n : ℕ) where
+  matches-exactly : (i : ℕ) → ((path : List ℕ) × (plainFrom holds n pl i ≡ some path)) ↔ SomeReading p holds n i
+  matches-exactly = rw e (match-exactly p holds n g o)
+
+  matches-preferred : (i j : ℕ) (w : List ℕ)
+      → ((path : List ℕ) × ((plainFrom holds n pl i ≡ some path) × (endOf (length pl) path ≡ j) × (labels pl path ≡ w))) ↔ Preferred p holds n i j w
+  matches-preferred = rw e (found-is-greatest p g o holds n)
+
+  matches-reported : (skip : Skip) (room : ℕ → ℕ → List ℕ → Bool)
+      → Reports p holds n skip room 0 0 0 (shown pl (plainSearch holds n pl skip room .matches)) (shownEnd pl (plainSearch holds n pl skip room .end))
+  matches-reported = rw e (plain-reports p g o holds n)
+
+-- what is shown of the first of the matches is the first of what is shown
+shown-append : (pl : List Place) (xs ys : List Match) → shown pl (xs ++ ys) ≡ shown pl xs ++ shown pl ys
+shown-append pl [] ys = refl
+shown-append pl (x ∷ xs) ys = ap (λ (r : List (ℕ × List ℕ)). shownOne pl x ∷ r) (shown-append pl xs ys)
+
+shown-begins : (pl : List Place) (xs ys : List Match) → Begins xs ys → Begins (shown pl xs) (shown pl ys)
+shown-begins pl xs ys b = (shown pl (b .0), ap (shown pl) (b .1) ∙ shown-append pl xs (b .0))
+
+-- for a task whose places are those of a pattern that is read, on any terms
+module _ (p : Tree pattern) (g : emptyLoop p ≡ false) (t : Task) (e : t .places ≡ places (unroll p)) (nums labs : ℕ) (terms : Terms) (le : t .table .n ≤ terms .largest) where
+  -- the walk follows plain backtracking
+  pub task-follows : ((Finished (walkedOn terms t nums labs .end)) → (walkedOn terms t nums labs .matches ≡ backtracked t nums labs .matches) × (walkedOn terms t nums labs .end ≡ backtracked t nums labs .end))
+      × Begins (walkedOn terms t nums labs .matches) (backtracked t nums labs .matches)
+  unfolding walkedOn backtracked
+  task-follows =
+      rw e
+      (let f = search-follows (unroll p) (legal-unroll p g) (letterHolds t) (t .table .n) terms le (t .skip) (fits nums labs (t .measures)) in
+      (f .whole, f .begins))
+
+  pub second : Bounds p → Demand2 p t nums labs (walkedOn terms t nums labs)
+  unfolding backtracked
+  second o =
+      let h = letterHolds t in
+      let n = t .table .n in
+      let r = fits nums labs (t .measures) in
+      let told = matches-reported p g o (t .places) e h n (t .skip) r in
+      record {
+        exists = matches-exactly p g o (t .places) e h n;
+        preferred = matches-preferred p g o (t .places) e h n;
+        reads = λ i j w x. parses-reads h n p (x .derivation) i j w (x .parses);
+        all = shown (t .places) (backtracked t nums labs .matches);
+        last = shownEnd (t .places) (backtracked t nums labs .end);
+        report = told;
+        only = λ ms end x. reports-one p h n (t .skip) r x told;
+        holds-all = λ f. (ap (shown (t .places)) (task-follows .0 f .0), ap (shownEnd (t .places)) (task-follows .0 f .1));
+        holds-first = shown-begins (t .places) (walkedOn terms t nums labs .matches) (backtracked t nums labs .matches) (task-follows .1);
+      }
+
+-- ---- demand 3
+
+module _ (p : Tree pattern) (g : emptyLoop p ≡ false) (holds : ℕ → ℕ → Bool) (n : ℕ) where
+  abbrev bound-by : Terms → Skip → (ℕ → ℕ → List ℕ → Bool) → Type 0
+  bound-by terms skip room = skip ≡ pastLast → walkSearch terms holds n (places (unroll p)) skip room .state .1 ≤ 2 * pairs (length (places (unroll p))) n
+
+  bounded : (terms : Terms) → n ≤ terms .largest → (skip : Skip) (room : ℕ → ℕ → List ℕ → Bool) → bound-by terms skip room
+  bounded terms le skip room e = rw e (search-bound (unroll p) (legal-unroll p g) room holds n terms le)
+
+-- the same for a task whose places are those of the pattern
+pub third : (p : Tree pattern) (g : emptyLoop p ≡ false) (t : Task) (e : t .places ≡ places (unroll p)) (nums labs : ℕ) (terms : Terms) → t .table .n ≤ terms .largest
+    → Demand3 t (terms .largest) (walkedOn terms t nums labs) (backtracked t nums labs)
+unfolding walkedOn
+third p g t e nums labs terms le =
+    let l = legal-unroll p g in
+    let h = letterHolds t in
+    let n = t .table .n in
+    let r = fits nums labs (t .measures) in
+    record {
+      bound = rw e (bounded p g h n terms le (t .skip) r);
+      bound-each = rw e (search-each (unroll p) l (t .skip) r h n terms le);
+      sum = rw e (search-sum (unroll p) l h n terms le (t .skip) r);
+      failed = rw e (failed-no-path (unroll p) l h n terms le (t .skip) r);
+      pairs-kept = rw e (search-kept (unroll p) l h n terms le (t .skip) r);
+      like-all = task-follows p g t e nums labs terms le .0;
+      like-first = task-follows p g t e nums labs terms le .1;
+    }
+
+-- ---- the report and the notes
+
+-- a report depends on the matches and the answer alone, and the answer of a search on how it ends
+report-same : {S T : Type 0} (a b : ℕ) (t : Task) (lent : Buffers) (r : Swept S) (s : Swept T) → a ≡ b → r .matches ≡ s .matches → reportOf a t lent r ≡ reportOf b t lent s
+unfolding reportOf
+report-same a b t lent r s e f = rw (e, f)
+
+answer-same : {S T : Type 0} (q : List ℕ) (rows : List ℤ) (lent : Buffers) (r : Swept S) (s : Swept T) → r .end ≡ s .end → answerBy q rows lent r ≡ answerBy q rows lent s
+unfolding answerBy
+answer-same q rows lent r s e = rw e
+
+-- an accepted search leaves what its report and its failed pairs say
+pub search-accepted : (a : Option ℕ) (q : List ℕ) (rows : List ℤ) (lent : Buffers) → refusal q rows lent ≡ 0
+    → searchWithin a q rows lent ≡ accepted (reportWithin a q rows lent) (walkWithin a q rows lent .state) lent
+unfolding searchWithin
+search-accepted a q rows lent ok = rw (accepted-within q rows lent a ok)
+
+module _ (a : Option ℕ) (q : List ℕ) (rows : List ℤ) (lent : Buffers) (ok : refusal q rows lent ≡ 0) where
+  noted-bits : (x : ℕ) → x < 8 * bytesFor (length (walkWithin a q rows lent .state .0)) → bitAt (searchWithin a q rows lent .buffers .notes) x ≡ getD (walkWithin a q rows lent .state .0) x false
+  unfolding accepted bitAt
+  noted-bits x h =
+      let F : List Bool = walkWithin a q rows lent .state .0 in
+      let l : x / 8 < length (notesOf F) = rw (length-notes F) (omega arith) in
+      rw (search-accepted a q rows lent ok, front-wrote (lent .notes) (notesOf F) (x / 8) 0 l) (noted F x h)
+
+-- ---- both
+
+-- document 01's search of a pattern does not halt
+task-finished : (p : Tree pattern) (g : emptyLoop p ≡ false) (t : Task) (e : t .places ≡ places (unroll p)) (nums labs : ℕ) → Finished (walkedOn (whole (t .table .n)) t nums labs .end)
+unfolding walkedOn
+task-finished p g t e nums labs = rw e (walk-finished (unroll p) (legal-unroll p g) (letterHolds t) (t .table .n) (t .skip) (fits nums labs (t .measures)))
+
+pub demands : (a : Option ℕ) (q : List ℕ) (rows : List ℤ) (lent : Buffers) → refusal q rows lent ≡ 0 → Demands a q rows lent
+unfolding walkWithin plainOf reportWithin plainReport answerWithin treeIn
+demands al q rows lent ok =
+    let a = granted-when q rows lent ok in
+    let p = a .tree in
+    let w : Written p (textOf q) = tree-exactly (textOf q) p .0 (a .has-tree) in
+    let t = taskOf q rows in
+    let e = places-are q rows p (a .has-tree) in
+    let d = third p (a .no-empty-loop) t e (length (lent .numbers)) (length (lent .labels)) (within al (t .table .n)) (omega arith) in
+    record {
+      tree = p;
+      written = w;
+      demand2 = second p (a .no-empty-loop) t e (length (lent .numbers)) (length (lent .labels)) (within al (t .table .n)) (omega arith) (written-bounds w);
+      demand3 = d;
+      finished = λ n. rw n (task-finished p (a .no-empty-loop) t e (length (lent .numbers)) (length (lent .labels)));
+      like-plain = λ f.
+          report-same (answerWithin al q rows lent) (answerBy q rows lent (plainOf q rows lent)) (taskOf q rows) lent (walkWithin al q rows lent) (plainOf q rows lent)
+          (answer-same q rows lent (walkWithin al q rows lent) (plainOf q rows lent) (d .like-all f .1)) (d .like-all f .0);
+      noted = noted-bits al q rows lent ok;
+    }
+
+-- ---- allowances
+
+module _ (p : Tree pattern) (g : emptyLoop p ≡ false) (t : Task) (e : t .places ≡ places (unroll p)) (nums labs : ℕ) where
+  task-larger : (a b : ℕ) → a ≤ b → Begins (walkedOn (within (some a) (t .table .n)) t nums labs .matches) (walkedOn (within (some b) (t .table .n)) t nums labs .matches)
+  unfolding walkedOn
+  task-larger a b h = rw e (allows-begins (unroll p) (legal-unroll p g) (t .skip) (fits nums labs (t .measures)) (letterHolds t) (t .table .n) (some a) (some b) h)
+
+  task-unpassed : (a : ℕ) → walkedOn (whole (t .table .n)) t nums labs .state .1 ≤ a → walkedOn (within (some a) (t .table .n)) t nums labs ≡ walkedOn (whole (t .table .n)) t nums labs
+  unfolding walkedOn
+  task-unpassed a = rw e (search-allowed (unroll p) (legal-unroll p g) (t .skip) (fits nums labs (t .measures)) (letterHolds t) (t .table .n) a)
+
+  task-enough : t .skip ≡ pastLast → (a : ℕ) → 2 * pairs (length (t .places)) (t .table .n) ≤ a → walkedOn (within (some a) (t .table .n)) t nums labs ≡ walkedOn (whole (t .table .n)) t nums labs
+  unfolding walkedOn
+  task-enough s a = rw (s, e) (allowance-enough (unroll p) (legal-unroll p g) (fits nums labs (t .measures)) (letterHolds t) (t .table .n) a)
+
+-- a search within an allowance leaves what the walk does
+walk-decides : (a b : Option ℕ) (q : List ℕ) (rows : List ℤ) (lent : Buffers) → walkWithin a q rows lent ≡ walkWithin b q rows lent → searchWithin a q rows lent ≡ searchWithin b q rows lent
+unfolding searchWithin reportWithin answerWithin
+walk-decides a b q rows lent e = rw e
+
+pub allowing : (q : List ℕ) (rows : List ℤ) (lent : Buffers) → refusal q rows lent ≡ 0 → Allowing q rows lent
+unfolding walkWithin walkedOn searchOf
+allowing q rows lent ok =
+    let a = granted-when q rows lent ok in
+    let p = a .tree in
+    let t = taskOf q rows in
+    let e = places-are q rows p (a .has-tree) in
+    let nums = length (lent .numbers) in
+    let labs = length (lent .labels) in
+    let to : (a : ℕ) → EndWithin a (walkWithin (some a) q rows lent .end) (walkWithin (some a) q rows lent .state .1) =
+    λ a. search-within a (t .table .n) false (letterHolds t) (t .table .n) (t .places) (t .skip) (fits nums labs (t .measures)) in
+    record {
+      kept-to = λ a. end-within a (walkWithin (some a) q rows lent .end) (walkWithin (some a) q rows lent .state .1) (to a);
+      used-up = λ a i p d. rw d at (to a);
+      larger = task-larger p (a .no-empty-loop) t e nums labs;
+      unpassed = λ b h. walk-decides (some b) none q rows lent (task-unpassed p (a .no-empty-loop) t e nums labs b h);
+      enough = λ s b h. walk-decides (some b) none q rows lent (task-enough p (a .no-empty-loop) t e nums labs s b h);
+    }
