@@ -21,8 +21,8 @@ use Rattle.nodes.specs.declared.Sort.{Sort}
 use Rattle.nodes.specs.declared.Sort.the-variants.{Sequence, Alternation}
 use Rattle.nodes.specs.declared.Node.{Node}
 use Rattle.nodes.proofs.Sort.{the-type}
-use Rattle.pattern.specs.Held.{Top, At}
-use Rattle.pattern.proofs.ByNode.{as-any, as-alt, at-in, alt-left, alt-right, top-places}
+use Rattle.trees.specs.Held.{Top, At}
+use Rattle.trees.proofs.ByNode.{as-any, as-alt, at-in, alt-left, alt-right, top-places}
 use Rattle.table.specs.Table.{span}
 use Rattle.forks.specs.Emitting.{putWays, putWords, forkCode, laterWord, putPlace, putFork, ForkNeeds, wayCount, waysIn, putPlaces, Fitting, Emitted, WayPut, WayNeeds, newStarts, Starting, Started, twoPlaces, TwoWays, choicePlaces, Choosing, forkPlaces, Forking}
 use Rattle.forks.proofs.TableLaws.{ways-length, ways-first, later-read}

@@ -11,7 +11,7 @@ use Rattle.rules.specs.Basics.{pick, has, isLetter, every}
 use Rattle.rules.specs.Language.{pattern, factor, Tree, one, last, letters}
 use Rattle.rules.specs.Places.{Unrolled, uStar, copies, options, unrolled, unroll, Place, pLetter, pCaret, pDollar, pFork, pEnd, waysInTurn, size, sizes, startsOf, code, codes, places, fork, placeCount, placesOf}
 use Rattle.rules.specs.Working.{distinct, fresh, thinned}
-use Rattle.pattern.specs.Held.{body, lazyOf, Top}
+use Rattle.trees.specs.Held.{body, lazyOf, Top}
 use Rattle.table.specs.Table.{span, placesIn}
 use Rattle.table.specs.Sized.{Sized}
 

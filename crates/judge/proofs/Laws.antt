@@ -15,10 +15,11 @@ use Rattle.rules.specs.Reader.{treeOf, stopOf}
 use Rattle.laws.proofs.Stops.{stop-inside}
 use Rattle.rules.specs.Places.{fork, placesOf}
 use Rattle.rules.specs.Answers.{deep, noTree, wrong, incomplete, hasEmptyLoop, tooMany, P, firstOf, offsetAt}
-use Rattle.pattern.specs.declared.Step.{Step}
-use Rattle.pattern.specs.Written.{Fits, Parsed, ParsedAs, TextSays}
-use Rattle.pattern.specs.Held.{Top, At}
-use Rattle.pattern.proofs.Holds.{pattern-nodes, text-top}
+use Rattle.primaries.specs.declared.Step.{Step}
+use Rattle.primaries.specs.Readers.{Fits, Parsed, ParsedAs, TextSays}
+use Rattle.trees.specs.Held.{Top, At}
+use Rattle.trees.proofs.Holds.{pattern-nodes}
+use Rattle.pattern.proofs.TextLaws.{text-top}
 use Rattle.judge.specs.Judged.{textTests, textAnswer, refusal, Judging}
 use Rattle.loops.specs.Loops.{EmptyLoop}
 use Rattle.judge.specs.declared.Verdict.{Verdict}

@@ -9,7 +9,7 @@ use Rattle.rules.specs.Basics.{pick}
 use Rattle.rules.specs.Language.{Tree, pattern}
 use Rattle.rules.specs.Reader.{treeOf}
 use Rattle.rules.specs.Answers.{deep, wrong, incomplete, hasEmptyLoop, tooMany, P, Test, firstOf, offsetAt}
-use Rattle.pattern.specs.Held.{Top}
+use Rattle.trees.specs.Held.{Top}
 use Rattle.judge.specs.declared.Verdict.{Verdict}
 
 -- the tests that ask the pattern's text alone

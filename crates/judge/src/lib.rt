@@ -3,7 +3,7 @@ use loops::has_empty_loop;
 use pattern::read_text;
 use scan::too_deep;
 ghost use mathlib.Core.Path.{_≡_};
-ghost use Rattle.pattern.specs.Written.{Fits};
+ghost use Rattle.primaries.specs.Readers.{Fits};
 ghost use Rattle.judge.specs.Judged.{refusal, Judging};
 
 // answer: 0 if the pattern is good, else 4, 5, 14, 6 or 7. offset: the byte at which its text is wrong (5), or the text's length (14); else 0. places: P, and

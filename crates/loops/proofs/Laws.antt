@@ -15,9 +15,9 @@ use Rattle.nodes.specs.Nodes.{nodeAt}
 use Rattle.nodes.specs.declared.Sort.{Sort}
 use Rattle.nodes.specs.declared.Sort.the-variants.{Letter, Anchor, Empty, Sequence, Alternation, Group}
 use Rattle.nodes.specs.declared.Node.{Node}
-use Rattle.pattern.specs.Held.{body, Top, At}
-use Rattle.pattern.proofs.RoundLaws.{bound-eq}
-use Rattle.pattern.proofs.ByNode.{IsAnchor, FactorAt, GroupAt, as-any, as-seq, as-alt, as-letter, as-anchor, as-empty, as-group, at-in, seq-left, seq-right, alt-left, alt-right, group-left}
+use Rattle.trees.specs.Held.{body, Top, At}
+use Rattle.trees.proofs.RoundLaws.{bound-eq}
+use Rattle.trees.proofs.ByNode.{IsAnchor, FactorAt, GroupAt, as-any, as-seq, as-alt, as-letter, as-anchor, as-empty, as-group, at-in, seq-left, seq-right, alt-left, alt-right, group-left}
 use Rattle.loops.specs.Loops.{Nullable, EmptyLoop}
 
 clash : {A : Type 0} → _≡_ {A = ℕ} 0 1 → A

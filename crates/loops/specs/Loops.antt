@@ -4,7 +4,7 @@ use mathlib.Core.Bool.{Bool}
 use mathlib.Core.List.{List}
 use Prim.Native.Nat.{ℕ}
 use Rattle.rules.specs.Language.{Tree, pattern, nullable, emptyLoop}
-use Rattle.pattern.specs.Held.{Top}
+use Rattle.trees.specs.Held.{Top}
 
 -- r is right for whatever tree has its top at i
 abbrev pub Nullable : List ℕ → ℕ → Bool → Type 0

@@ -9,7 +9,7 @@ use nodes::sort_at;
 ghost use mathlib.Core.Path.{_≡_};
 ghost use mathlib.Core.Bool.{true, false};
 ghost use Prim.Native.Nat.{ℕ, _+_, _*_, _-_, _≤_, _<_};
-ghost use Rattle.pattern.specs.Held.{At};
+ghost use Rattle.trees.specs.Held.{At};
 ghost use Rattle.loops.specs.Loops.{Nullable, EmptyLoop};
 
 // Whether the tree at i can take no row.

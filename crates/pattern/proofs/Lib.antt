@@ -1,5 +1,3 @@
-pub mod Holds
-pub mod RoundLaws
 pub mod ReaderLaws
-pub mod ByNode
-pub mod ChainLaws
+pub mod PartLaws
+pub mod TextLaws

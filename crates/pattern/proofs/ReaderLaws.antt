@@ -1,35 +1,31 @@
 -- Laws of the four readers: each is one way through one reader.
 use mathlib.Core.Path.{_≡_, refl, sym, ap, _∙_, subst}
-use mathlib.Core.Bool.{Bool, true, false, true≢false, false≢true}
-use mathlib.Core.List.{List, []}
+use mathlib.Core.Bool.{Bool, true, false, true≢false}
+use mathlib.Core.List.{List}
 use mathlib.Core.Option.{some}
 use Prim.Native.Nat.{ℕ, zero, suc, _+_, _*_, _-_, _≤_, _<_, max, min}
 use native.Mathlib.Omega.{arith}
-use mir.Val.{Fits as Fits-in}
-use mir.Syntax.{w64}
 use lib.Dec.{eqb}
 use lib.ListN.{length, getD, drop, length-drop}
-use lib.Seq.{drop-length, drop-cons}
 use borrow.Author.Tests.{eq-eqb, ne-eqb, eqb-true, eqb-false}
 use Rattle.rules.specs.Basics.{isLetter}
 use Rattle.rules.specs.Places.{roundPlaces, fork, placeCount}
-use Rattle.rules.specs.Language.{Form, star, plus, opt, exactly, atLeast, atMost, between, lower, upper, InBounds, Rank, pattern, branch, factor, primary, Tree, one, more, last, next, bare, times, letter, caret, dollar, empty, group}
-use Rattle.rules.specs.Reader.{Reading, got, bad, left, peek, rest, skip, Marked, unmarked, broken, marked, quantifier, ended, under, altOn, altWith, seqOn, seqWith, timesOn, timesWith, closed, parted, simple, primaryOn, read, rankOf, depth, whole, treeOf, stopOf}
-use Rattle.marks.specs.Shows.{codeOf, highest, highOf, Shows}
-use Rattle.marks.specs.declared.Mark.{Mark}
-use Rattle.marks.specs.declared.Mark.the-variants.{Unmarked, Broken, Found}
+use Rattle.rules.specs.Language.{Form, lower, upper, Rank, pattern, branch, factor, primary, Tree, one, more, last, next, bare, times, empty, group}
+use Rattle.rules.specs.Reader.{Reading, got, bad, left, peek, rest, skip, Marked, unmarked, broken, marked, quantifier, ended, under, altOn, altWith, seqOn, seqWith, timesOn, timesWith, closed, parted, simple, primaryOn, read, rankOf, depth}
 use Rattle.marks.proofs.MarkLaws.{inside, rest-drop}
-use Rattle.nodes.specs.Nodes.{putNode, Small}
-use Rattle.laws.proofs.GrammarSound.{pick-both, marked-in}
+use Rattle.nodes.specs.Nodes.{putNode}
+use Rattle.laws.proofs.GrammarSound.{pick-both}
 use Rattle.laws.proofs.Counting.{cap-rounds}
-use Rattle.pattern.proofs.RoundLaws.{form-order, rounds-eq}
 use Rattle.nodes.proofs.Put.{put-other, put-length}
 use Rattle.nodes.specs.declared.Sort.{Sort}
-use Rattle.nodes.specs.declared.Sort.the-variants.{Letter, Anchor, Empty, Sequence, Alternation, Group}
+use Rattle.nodes.specs.declared.Sort.the-variants.{Empty, Sequence, Alternation, Group}
 use Rattle.nodes.specs.declared.Node.{Node}
-use Rattle.pattern.specs.Written.{plain, withMark, nodeCount, height, own, written, forkOf, roundsOf, InOrder, Kept, Fits, Unread, Says, On, Reads, SaysHead, Wrote, HeadOn, SimpleSays, ReadsHead, Holding, FitsHead, stepTo, FinishedMark, FinishedAs, Finished, Joins, Joined, SkipTo, EmptyIs, ShutNeeds, Shut, ShutIs, ParsedAs, TextSays}
-use Rattle.pattern.specs.declared.Step.{Step}
-use Rattle.pattern.specs.declared.Head.{Head}
+use Rattle.trees.specs.Written.{plain, withMark, nodeCount, height, own, written}
+use Rattle.primaries.specs.Readers.{forkOf, Kept, Fits, Unread, Says, On, Reads, SaysHead, Wrote, HeadOn, SimpleSays, ReadsHead, FitsHead, stepTo, FinishedMark, FinishedAs, Finished, Joined, SkipTo, EmptyIs, ShutNeeds, Shut, ShutIs}
+use Rattle.primaries.proofs.PrimaryLaws.{leaf-on}
+use Rattle.primaries.specs.declared.Step.{Step}
+use Rattle.primaries.specs.declared.Head.{Head}
+use Rattle.trees.proofs.ByNode.{own-height, own-places}
 
 clash : {A : Type 0} {b : Bool} → b ≡ true → b ≡ false → A
 clash p q = absurd (true≢false (sym p ∙ q))
@@ -50,308 +46,9 @@ kept-on lo hi s t u k g j f = g j f ∙ k j f
 kept-put : (s t : List ℕ) (i : ℕ) (n : Node) → t ≡ putNode s i n → Kept (8 * i) (8 * i + 8) s t
 kept-put s t i n e j f = ap (λ (u : List ℕ). getD u j 0) e ∙ put-other s i j n f
 
--- ---- join
-
-pub join-small : (m : List ℕ) (a b : Step) (k : Sort) (h q : ℕ) (n : Node) → Joins m a b → h ≡ max (a .height) (b .height) → q ≡ min (a .places + b .places) 257
-    → n ≡ plain k (a .count - 1) (b .count - 1) (h + 1) q → Small n
-join-small m a b k h q n j eh eq en =
-    rw en (record {
-      form = omega arith;
-      low = omega arith;
-      high = omega arith;
-      left = omega (arith, j .right, j .few);
-      right = omega (arith, j .few);
-      height = omega
-          (arith, j .low-left, j .low-right);
-      places = omega arith;
-    })
-
-pub join-is : (m t : List ℕ) (a b : Step) (k : Sort) (f h q : ℕ) (n : Node) → h ≡ max (a .height) (b .height) → q ≡ min (a .places + b .places) 257
-    → n ≡ plain k (a .count - 1) (b .count - 1) (h + 1) q
-    → t ≡ putNode m (b .count) n → Joined m t k f a b (record { ok = true; at = b .at; count = b .count + 1; height = h + 1; places = q; forks = f })
-join-is m t a b k f h q n eh eq en et = record { is = rw (eh, eq) refl; wrote = et ∙ ap (putNode m (b .count)) (en ∙ rw (eh, eq) refl) }
-
--- ---- finish
-
-form-small : (f : Form) → InBounds f → (codeOf f ≤ 7) × (lower f ≤ 99) × (highOf f ≤ 100)
-unfolding codeOf lower highOf highest upper InBounds
-form-small star i = (omega arith, omega arith, omega arith)
-form-small plus i = (omega arith, omega arith, omega arith)
-form-small opt i = (omega arith, omega arith, omega arith)
-form-small (exactly n) i = (omega arith, omega (arith, i .1), omega (arith, i .1))
-form-small (atLeast n) i = (omega arith, omega (arith, i), omega arith)
-form-small (atMost m) i = (omega arith, omega arith, omega (arith, i .1))
-form-small (between n m) i = (omega arith, omega (arith, i .1, i .2), omega (arith, i .2))
-
-module _ (s m : List ℕ) (p : Head) (q : Mark) where
-  pub finish-none : (t : List ℕ) (r : Step) → Shows s (p .at) q (quantifier (drop (p .at) s)) → q ≡ Unmarked
-      → (r ≡ stepTo (p .at) p (p .node .places)) × (t ≡ putNode m (p .count) (p .node)) → Finished s m t p r
-  unfolding Shows FinishedAs
-  finish-none t r h e g = record { ends = by (quantifier (drop (p .at) s)) h }
-    where
-      by : (k : Marked) → Shows s (p .at) q k → FinishedAs s m t p r k
-      by unmarked h = g
-      by (broken u) h = let i = h .is in let z : _≡_ {A = ℕ} 0 1 = cc in absurd (omega arith)
-      by (marked f z u) h = let i = h .is in let z : _≡_ {A = ℕ} 0 1 = cc in absurd (omega arith)
-
-  pub finish-broken : (to : ℕ) (r : Step) → Shows s (p .at) q (quantifier (drop (p .at) s)) → q ≡ Broken to → (r .ok ≡ false) × (r .at ≡ to) → Finished s m m p r
-  unfolding Shows FinishedAs
-  finish-broken to r h e g = record { ends = by (quantifier (drop (p .at) s)) h }
-    where
-      by : (k : Marked) → Shows s (p .at) q k → FinishedAs s m m p r k
-      by unmarked h = let z : _≡_ {A = ℕ} 0 1 = cc in absurd (omega arith)
-      by (broken u) h =
-          let i = h .is in let j : h .to ≡ to = cc in
-          (record { fails = g .0; rest = h .rest ∙ ap (λ (k : ℕ). drop k s) (j ∙ sym (g .1)); inside = omega (arith, h .inside, g .1) }, refl)
-      by (marked f z u) h = let i = h .is in let z : _≡_ {A = ℕ} 0 1 = cc in absurd (omega arith)
-
-  module _ (form low high to q2 : ℕ) (lazy : Bool) where
-    abbrev Marking : Node
-    Marking = record {
-      sort = p .node .sort;
-      form = form;
-      lazy = lazy;
-      low = low;
-      high = high;
-      left = p .node .left;
-      right = p .node .right;
-      height = p .node .height;
-      places =
-          q2;
-    }
-
-    pub finish-found : (t : List ℕ) (r : Step) → q2 ≡ min (roundsOf low high (p .node .places)) 257 → Shows s (p .at) q (quantifier (drop (p .at) s))
-        → q ≡ Found form low high lazy to
-        → (r ≡ stepTo to p q2) × (t ≡ putNode m (p .count) (record {
-          sort = p .node .sort;
-          form = form;
-          lazy = lazy;
-          low = low;
-          high = high;
-          left = p .node .left;
-          right = p
-              .node .right;
-          height = p .node .height;
-          places = q2;
-        })) → Finished s m t p r
-    unfolding Shows FinishedAs
-    finish-found t r eq h e g = record { ends = by (quantifier (drop (p .at) s)) refl h }
-      where
-        by : (k : Marked) → quantifier (drop (p .at) s) ≡ k → Shows s (p .at) q k → FinishedAs s m t p r k
-        by unmarked d h = let z : _≡_ {A = ℕ} 0 1 = cc in absurd (omega arith)
-        by (broken u) d h = let i = h .is in let z : _≡_ {A = ℕ} 0 1 = cc in absurd (omega arith)
-        by (marked f z u) d h =
-            let i = h .is in
-            let e1 : form ≡ codeOf f = cc in
-            let e2 : low ≡ lower f = cc in
-            let e3 : high ≡ highOf f = cc in
-            let e4 : lazy ≡ z = cc in
-            let e5 : to ≡ h .to = cc in
-            let e6 : q2 ≡ min (roundPlaces (lower f) (upper f) (p .node .places)) 257 =
-            eq ∙ ap (λ (x : ℕ). min (roundsOf x high (p .node .places)) 257) e2 ∙ ap (λ (x : ℕ). min (roundsOf (lower f) x (p .node .places)) 257) e3
-            ∙ ap (λ (x : ℕ). min x 257) (rounds-eq f (p .node .places) (marked-in (drop (p .at) s) f z u d)) in
-            record {
-              to = to;
-              is = g .0 ∙ ap (stepTo to p) e6;
-              rest = h .rest ∙ ap (λ (k : ℕ). drop k s) (sym e5);
-              on = omega (arith, h .on);
-              inside = omega (arith, h .inside);
-              wrote = g .1 ∙ rw (e1, e2, e3, e4, e6) refl;
-            }
-
-    pub mark-holding : q2 ≡ min (roundsOf low high (p .node .places)) 257 → FitsHead s m p → Shows s (p .at) q (quantifier (drop (p .at) s)) → q ≡ Found form low high lazy to
-        → Holding m (p .count) (record {
-          sort = p .node .sort;
-          form = form;
-          lazy = lazy;
-          low = low;
-          high = high;
-          left = p .node .left;
-          right = p .node .right;
-          height = p .node
-              .height;
-          places = q2;
-        })
-    unfolding Shows
-    mark-holding eq w h e = by (quantifier (drop (p .at) s)) refl h
-      where
-        by : (k : Marked) → quantifier (drop (p .at) s) ≡ k → Shows s (p .at) q k → Holding m (p .count) Marking
-        by unmarked d h = let z : _≡_ {A = ℕ} 0 1 = cc in absurd (omega arith)
-        by (broken u) d h = let i = h .is in let z : _≡_ {A = ℕ} 0 1 = cc in absurd (omega arith)
-        by (marked f z u) d h =
-            let i = h .is in
-            let e1 : form ≡ codeOf f = cc in
-            let e2 : low ≡ lower f = cc in
-            let e3 : high ≡ highOf f = cc in
-            let g = form-small f (marked-in (drop (p .at) s) f z u d) in
-            let k = w .holding .small in
-            record {
-              fits = w .holding .fits;
-              few = w .holding .few;
-              small = record {
-                form = omega (arith, g .0);
-                low = omega (arith, g .1);
-                high = omega (arith, g .2);
-                left = k .left;
-                right = k .right;
-                height = k .height;
-                places =
-                    omega arith;
-              };
-            }
-
-  pub mark-order : (form low high to : ℕ) (lazy : Bool) → Shows s (p .at) q (quantifier (drop (p .at) s)) → q ≡ Found form low high lazy to → InOrder low high
-  unfolding Shows
-  mark-order form low high to lazy h e = by (quantifier (drop (p .at) s)) refl h
-    where
-      by : (k : Marked) → quantifier (drop (p .at) s) ≡ k → Shows s (p .at) q k → InOrder low high
-      by unmarked d h = let z : _≡_ {A = ℕ} 0 1 = cc in absurd (omega arith)
-      by (broken u) d h = let i = h .is in let z : _≡_ {A = ℕ} 0 1 = cc in absurd (omega arith)
-      by (marked f z u) d h =
-          let i = h .is in
-          let e2 : low ≡ lower f = cc in
-          let e3 : high ≡ highOf f = cc in
-          rw (e2, e3) (form-order f (marked-in (drop (p .at) s) f z u d))
-
--- ---- letters and anchors
-
-leaf-on : (s : List ℕ) (at c to : ℕ) (k : Sort) (w : ℕ) (n : Node) → w ≤ 1 → at + 1 ≤ to → to ≤ length s → n ≡ plain k 0 0 0 w
-    → HeadOn s at c (record { ok = true; at = to; count = c; node = n })
-leaf-on s at c to k w n hw h l e =
-    record {
-      on = omega arith;
-      inside = l;
-      some = omega arith;
-      few = omega arith;
-      low = (let z : n .height ≡ 0 = ap (λ (x : Node). x .height) e in omega arith);
-      few-places = (let z : n .places ≡ w = ap (λ (x : Node). x .places) e in omega arith);
-      small = rw e (record { form = omega arith; low = omega arith; high = omega arith; left = omega arith; right = omega arith; height = omega arith; places = omega arith });
-    }
-
--- an answer that stops at a position
-stops-at : (s : List ℕ) (at : ℕ) (r : Head) (u : List ℕ) → (r .ok ≡ false) × (r .at ≡ at) → at ≤ length s → u ≡ drop at s → Unread s (r .ok) (r .at) u
-stops-at s at r u e i q = record { fails = e .0; rest = q ∙ ap (λ (k : ℕ). drop k s) (sym (e .1)); inside = omega (arith, e .1) }
-
-module _ (s : List ℕ) (at c b : ℕ) (eb : b ≡ peek (drop at s)) where
-  is-eq : (k : ℕ) → b ≡ k → eqb (peek (drop at s)) k ≡ true
-  is-eq k e = eq-eqb (peek (drop at s)) k (sym eb ∙ e)
-
-  is-ne : (k : ℕ) → (b ≡ k → ⊥) → eqb (peek (drop at s)) k ≡ false
-  is-ne k e = ne-eqb (peek (drop at s)) k (λ x. e (eb ∙ x))
-
-  module _ (to : ℕ) (n : Node) where
-    pub simple-caret : b ≡ 94 → SkipTo s (at + 1) to → n ≡ plain (Anchor b) 0 0 0 1 → SimpleSays s at c (record { ok = true; at = to; count = c; node = n })
-    unfolding simple SaysHead nodeCount own
-    simple-caret e k en =
-        record {
-          says = simp (is-eq 94 e) (record {
-            ok = refl;
-            rest = ap skip (rest-drop s at) ∙ sym (k .0);
-            count = omega arith;
-            node = en
-                ∙ ap (λ (x : ℕ). plain (Anchor x) 0 0 0 1) e;
-          });
-          on = λ o. leaf-on s at c to (Anchor b) 1 n (omega arith) (k .1) (k .2) en;
-        }
-
-    pub simple-dollar : b ≡ 36 → SkipTo s (at + 1) to → n ≡ plain (Anchor b) 0 0 0 1 → SimpleSays s at c (record { ok = true; at = to; count = c; node = n })
-    unfolding simple SaysHead nodeCount own
-    simple-dollar e k en =
-        record {
-          says = simp (is-ne 94 (λ x. omega arith), is-eq 36 e) (record {
-            ok = refl;
-            rest = ap skip (rest-drop s at) ∙ sym (k .0);
-            count = omega arith;
-            node = en
-                ∙ ap (λ (x : ℕ). plain (Anchor x) 0 0 0 1) e;
-          });
-          on = λ o. leaf-on s at c to (Anchor b) 1 n (omega arith) (k .1) (k .2) en;
-        }
-
-    pub simple-letter : (t u : Bool) (d : ℕ) → (b ≡ 94 → ⊥) → (b ≡ 36 → ⊥) → t ≡ isLetter b → t ≡ true → d ≡ peek (drop (at + 1) s) → u ≡ isLetter d → u ≡ false
-        → SkipTo s (at + 1) to → n ≡ plain (Letter b) 0 0 0 1 → SimpleSays s at c (record { ok = true; at = to; count = c; node = n })
-    unfolding simple SaysHead nodeCount own
-    simple-letter t u d e1 e2 et ot ed eu ou k en =
-        record {
-          says = simp (
-            is-ne 94 e1,
-            is-ne 36 e2,
-            (let z : isLetter (peek (drop at s)) ≡ true = ap isLetter (sym eb) ∙ sym et ∙ ot in z),
-            (let z : isLetter (peek (rest (drop at s))) ≡ false = ap (λ (x : List ℕ). isLetter (peek x)) (rest-drop s at) ∙ ap isLetter (sym ed) ∙ sym eu ∙ ou in z),
-          )
-              (record { ok = refl; rest = ap skip (rest-drop s at) ∙ sym (k .0); count = omega arith; node = en ∙ ap (λ (x : ℕ). plain (Letter x) 0 0 0 1) eb });
-          on = λ o. leaf-on s at c to (Letter b) 1 n (omega arith) (k .1) (k .2) en;
-        }
-
-  pub simple-other : (r : Head) (t : Bool) → (b ≡ 94 → ⊥) → (b ≡ 36 → ⊥) → t ≡ isLetter b → t ≡ false → at ≤ length s → (r .ok ≡ false) × (r .at ≡ at) → SimpleSays s at c r
-  unfolding simple SaysHead
-  simple-other r t e1 e2 et ot i er =
-      record {
-        says = simp (is-ne 94 e1, is-ne 36 e2, (let z : isLetter (peek (drop at s)) ≡ false = ap isLetter (sym eb) ∙ sym et ∙ ot in z))
-            (stops-at s at r (drop at s) er i refl);
-        on = λ o. clash o (er .0);
-      }
-
-  pub letter-next : (t : Bool) → t ≡ isLetter b → t ≡ true → at + 1 ≤ length s
-  unfolding isLetter
-  letter-next t et ot = let l = low b (sym et ∙ ot) in let i = inside s at b l (sym eb) in omega arith
-    where
-      low : (b : ℕ) → isLetter b ≡ true → 1 ≤ b
-      low zero o = absurd (false≢true o)
-      low (suc k) o = omega arith
-
-  pub simple-touch : (r : Head) (t u : Bool) (d : ℕ) → (b ≡ 94 → ⊥) → (b ≡ 36 → ⊥) → t ≡ isLetter b → t ≡ true → d ≡ peek (drop (at + 1) s) → u ≡ isLetter d → u ≡ true
-      → (r .ok ≡ false) × (r .at ≡ at + 1) → SimpleSays s at c r
-  unfolding simple SaysHead
-  simple-touch r t u d e1 e2 et ot ed eu ou er =
-      record {
-        says = simp (
-          is-ne 94 e1,
-          is-ne 36 e2,
-          (let z : isLetter (peek (drop at s)) ≡ true = ap isLetter (sym eb) ∙ sym et ∙ ot in z),
-          (let z : isLetter (peek (rest (drop at s))) ≡ true = ap (λ (x : List ℕ). isLetter (peek x)) (rest-drop s at) ∙ ap isLetter (sym ed) ∙ sym eu ∙ ou in z),
-        ) (stops-at s (at + 1) r (rest (drop at s)) er (letter-next t et ot) (rest-drop s at));
-        on = λ o.
-            clash o (er .0);
-      }
-
--- a position behind a byte is in the text
-pub next-in : (s : List ℕ) (at b k : ℕ) → b ≡ peek (drop at s) → b ≡ k → 1 ≤ k → at + 1 ≤ length s
-next-in s at b k eb e h = let l = inside s at k h (sym eb ∙ e) in omega arith
-
-pub before-end : (s : List ℕ) (at b k : ℕ) → b ≡ peek (drop at s) → b ≡ k → 1 ≤ k → at < length s
-before-end s at b k eb e h = inside s at k h (sym eb ∙ e)
-
--- ---- parentheses
-
-pub empty-is : (s : List ℕ) (at c to : ℕ) (n : Node) → SkipTo s (at + 1) to → n ≡ plain Empty 0 0 0 0 → EmptyIs s at c (record { ok = true; at = to; count = c; node = n })
-empty-is s at c to n k e = record { to = to; skips = k; is = rw e refl }
-
-module _ (s : List ℕ) (p : Step) where
-  pub shut-some : ShutNeeds p → p .ok ≡ true → 1 ≤ p .count
-  shut-some h o = h .some o
-
-  pub shut-low : ShutNeeds p → p .ok ≡ true → Fits-in w64 (p .height + 1)
-  shut-low h o = record { fits = omega (arith, h .low o) }
-
-  pub shut-few : ShutNeeds p → p .ok ≡ true → Fits-in w64 (p .forks + p .places)
-  shut-few h o = record { fits = omega (arith, h .few-places o, h .few-forks o) }
-
-  pub shut-unread : (r : Head) → p .ok ≡ false → (r .ok ≡ false) × (r .at ≡ p .at) → ShutIs s p r
-  shut-unread r e er = record { unread = λ x. er; open-still = λ o. clash o e; shuts = λ o. clash o e }
-
-  module _ (b : ℕ) (eb : b ≡ peek (drop (p .at) s)) (o : p .ok ≡ true) where
-    pub shut-open : (r : Head) → (b ≡ 41 → ⊥) → (r .ok ≡ false) × (r .at ≡ p .at) → ShutIs s p r
-    shut-open r nb er = record { unread = λ x. er; open-still = λ x y. er; shuts = λ x y. absurd (nb (eb ∙ y)) }
-
-    pub shut-whole : (to q : ℕ) (n : Node) → b ≡ 41 → SkipTo s (p .at + 1) to → q ≡ min (p .forks + p .places) 257 → n ≡ plain Group (p .count - 1) 0 (p .height + 1) q
-        → ShutIs s p (record { ok = true; at = to; count = p .count; node = n })
-    shut-whole to q n eb2 k eq en =
-        record { unread = λ x. clash o x; open-still = λ x y. absurd (y (sym eb ∙ eb2)); shuts = λ x y. record { to = to; skips = k; is = rw (en, eq) refl } }
-
 -- ---- the readers' answers
 
-says-bad : (k : Rank) (s : List ℕ) (c : ℕ) (m t : List ℕ) (r : Step) (x : Reading (Tree k)) → Says k s c m t r x → r .ok ≡ false → (x ≡ bad (drop (r .at) s)) × (r .at ≤ length s)
+pub says-bad : (k : Rank) (s : List ℕ) (c : ℕ) (m t : List ℕ) (r : Step) (x : Reading (Tree k)) → Says k s c m t r x → r .ok ≡ false → (x ≡ bad (drop (r .at) s)) × (r .at ≤ length s)
 unfolding Says
 says-bad k s c m t r (bad u) h e = (ap bad (h .rest), h .inside)
 says-bad k s c m t r (got x u) h e = clash (h .ok) e
@@ -623,22 +320,6 @@ module _ (n : ℕ) (u : List ℕ) where
   times-got : (x : Tree primary) (v : List ℕ) (k : Marked) → read n primary u ≡ got x v → quantifier v ≡ k → read (suc n) factor u ≡ timesOn x v k
   unfolding read timesWith
   times-got x v k e q = simp (e, q)
-
-pub own-height : (x : Tree primary) (c : ℕ) → (own x c) .height ≡ height x
-unfolding own height
-own-height (letter b) c = refl
-own-height caret c = refl
-own-height dollar c = refl
-own-height empty c = refl
-own-height (group p) c = refl
-
-pub own-places : (x : Tree primary) (c : ℕ) → (own x c) .places ≡ min (placeCount x) 257
-unfolding own placeCount
-own-places (letter b) c = refl
-own-places caret c = refl
-own-places dollar c = refl
-own-places empty c = refl
-own-places (group p) c = refl
 
 module _ (s : List ℕ) (at c : ℕ) (m0 m1 : List ℕ) (p : Head) (h : ReadsHead s at c m0 m1 p) where
   pub factor-fails : (r : Step) → p .ok ≡ false → (r .ok ≡ false) × (r .at ≡ p .at) → Reads factor s at c m0 m1 r
@@ -914,69 +595,3 @@ module _ (s : List ℕ) (at c : ℕ) (m0 : List ℕ) (b : ℕ) (eb : b ≡ peek 
             on-ok : (t : Bool) → p .ok ≡ t → ReadsHead s at c m0 m1 r
             on-ok true o = on-shut o (eqb (peek (drop (p .at) s)) 41) refl
             on-ok false o = group-fails o
-
--- ---- a whole text
-
-pub text-fits : (s : List ℕ) (from : ℕ) (m : List ℕ) → Fits s 0 m 0 → SkipTo s 0 from → Fits s from m 0
-text-fits s from m f k = record { in-text = k .2; fits = omega (arith, f .fits, k .2); small = omega (arith, f .small) }
-
-module _ (s : List ℕ) (from : ℕ) (m0 m1 : List ℕ) (p : Step) (k : SkipTo s 0 from) (h : Reads pattern s from 0 m0 m1 p) where
-  text-is : treeOf s ≡ whole (read (4 * length s + 4) pattern (drop from s))
-  unfolding treeOf
-  text-is = ap (λ (u : List ℕ). whole (read (4 * length s + 4) pattern u)) (sym (k .0))
-
-  enough : depth pattern (drop from s) ≤ 4 * length s + 4
-  unfolding depth rankOf
-  enough = omega (arith, length-drop from s)
-
-  text-kept : (j : ℕ) → 16 * length s ≤ j → getD m1 j 0 ≡ getD m0 j 0
-  text-kept j l = h .kept j (λ a b. omega arith)
-
-  -- where reading stops, by the bytes that are left
-  stop-at : (x : Reading (Tree pattern)) (j : ℕ) → read (4 * length s + 4) pattern (drop from s) ≡ x → left x ≡ drop j s → j ≤ length s → j ≡ stopOf s
-  unfolding stopOf
-  stop-at x j e q i =
-      let a : length (left (read (4 * length s + 4) pattern (skip s))) ≡ length (drop j s) =
-      ap (λ (u : List ℕ). length (left (read (4 * length s + 4) pattern u))) (sym (k .0)) ∙ ap (λ (r : Reading (Tree pattern)). length (left r)) e ∙ ap length q in
-      omega (arith, length-drop j s)
-
-  pub text-none : p .ok ≡ false → TextSays s m0 m1 p
-  unfolding ParsedAs whole left
-  text-none e =
-      let x = says-bad pattern s 0 m0 m1 p _ (h .says _ enough) e in
-      record { says = rw (text-is, x .0) e; stop = stop-at (bad (drop (p .at) s)) (p .at) (x .0) refl (x .1); kept = text-kept; len = h .len }
-
-  module _ (o : p .ok ≡ true) where
-    found : Read pattern s 0 m0 m1 p (read (4 * length s + 4) pattern (drop from s))
-    found = says-got pattern s 0 m0 m1 p _ (h .says _ enough) o
-
-    stopped : p .at ≡ stopOf s
-    unfolding left
-    stopped = stop-at (got (found .tree) (drop (p .at) s)) (p .at) (found .is) refl ((h .on o) .inside)
-
-    pub text-rest : (r : Step) → (p .at ≡ length s → ⊥) → (r .ok ≡ false) × (r .at ≡ p .at) → TextSays s m0 m1 r
-    unfolding ParsedAs whole
-    text-rest r n e =
-        let l : p .at < length s = omega (arith, (h .on o) .inside, n) in
-        record { says = rw (text-is, found .is, drop-cons s (p .at) 0 l) (e .0); stop = e .1 ∙ stopped; kept = text-kept; len = h .len }
-
-    pub text-whole : p .at ≡ length s → TextSays s m0 m1 p
-    unfolding ParsedAs whole
-    text-whole e =
-        let q : drop (p .at) s ≡ [] = ap (λ (i : ℕ). drop i s) e ∙ drop-length s in
-        record {
-          says = rw (text-is, found .is, q) (record {
-            ok = o;
-            count = found .count ∙ (let z : 0 + nodeCount (found .tree) ≡ nodeCount (found .tree) = omega arith in z);
-            few =
-                (let w = h .on o in let v = found .count in omega (arith, w .few, w .inside));
-            high = found .high;
-            placed = found .placed;
-            forked = found .forked;
-            wrote = found
-                .wrote;
-          });
-          stop = stopped;
-          kept = text-kept;
-          len = h .len;
-        }

@@ -15,8 +15,8 @@ use Rattle.laws.proofs.Counting.{forked-more, forked-size, unrolled-size}
 use Rattle.laws.proofs.Distinct.{thinned-append, thinned-length}
 use Rattle.rules.specs.Working.{distinct, thinPlace, thinned}
 use Rattle.marks.specs.Shows.{highest, highOf}
-use Rattle.pattern.specs.Held.{body, lowOf, highestOf, lazyOf}
-use Rattle.pattern.proofs.ByNode.{Bounded}
+use Rattle.trees.specs.Held.{body, lowOf, highestOf, lazyOf}
+use Rattle.trees.proofs.ByNode.{Bounded}
 use Rattle.forks.specs.Emitting.{choicePlaces, forkPlaces, treePlaces, branchPlaces, bodyPlaces, turns, turnPlaces}
 use Rattle.forks.proofs.WayLaws.{start-by-size}
 

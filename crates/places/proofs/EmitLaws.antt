@@ -20,8 +20,8 @@ use Rattle.nodes.specs.Nodes.{nodeAt}
 use Rattle.nodes.specs.declared.Sort.{Sort}
 use Rattle.nodes.specs.declared.Sort.the-variants.{Letter, Anchor, Empty, Sequence, Alternation, Group}
 use Rattle.nodes.specs.declared.Node.{Node}
-use Rattle.pattern.specs.Held.{body, lowOf, highestOf, lazyOf, Top, At}
-use Rattle.pattern.proofs.ByNode.{Bounded, IsAnchor, FactorAt, GroupAt, as-any, as-seq, as-alt, as-letter, as-anchor, as-empty, as-group, at-in, seq-left, seq-right, alt-left, alt-right, group-left, top-places}
+use Rattle.trees.specs.Held.{body, lowOf, highestOf, lazyOf, Top, At}
+use Rattle.trees.proofs.ByNode.{Bounded, IsAnchor, FactorAt, GroupAt, as-any, as-seq, as-alt, as-letter, as-anchor, as-empty, as-group, at-in, seq-left, seq-right, alt-left, alt-right, group-left, top-places}
 use Rattle.forks.specs.Emitting.{putWords, putPlace, wayCount, waysIn, putPlaces, Fitting, Emitted, choicePlaces, Choosing, forkPlaces, Forking, treePlaces, branchPlaces, bodyPlaces, turns, turnPlaces, Emitting, Branching, Bodying, Turning, WholeSize, BodySize, letterCode, anchorCode, Wording}
 use Rattle.forks.proofs.TableLaws.{fit-left, fit-right, emitted-two, emitted-none}
 use Rattle.places.proofs.CodeLaws.{tree-length, branch-length, body-length, turn-length, seq-places, branch-more, branch-one, alt-places, factor-places, factor-size, turn-copy, turn-none, turn-option, turn-star}

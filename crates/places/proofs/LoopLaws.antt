@@ -13,7 +13,7 @@ use Rattle.rules.specs.Basics.{pick}
 use Rattle.nodes.specs.Nodes.{nodeAt}
 use Rattle.nodes.specs.declared.Sort.the-variants.{Sequence, Alternation}
 use Rattle.nodes.specs.declared.Node.{Node}
-use Rattle.pattern.specs.Held.{At}
+use Rattle.trees.specs.Held.{At}
 use Rattle.forks.specs.Emitting.{Emitted, choicePlaces, Choosing, forkPlaces, Forking, treePlaces, branchPlaces, bodyPlaces, turnPlaces, Emitting, Branching, Bodying, Turning, BodySize}
 use Rattle.places.proofs.EmitLaws.{emitM, branchM, roundM, bodyM, emit-in, emit-end, emit-none, seq-left-in, seq-mid, seq-first, seq-second, seq-done, alt-forking, alt-first, alt-inside, alt-done, emit-node, turn-order, turn-first, turn-done, branches-in, branches-none, branch-left-in, branch-mid, branch-first, branch-second, branch-done, single-first, single-done, first-fits, copy-first, copy-again, copy-done, copy-fits, none-done, star-choose, star-body, star-done, option-choose, option-body, option-again, option-done, option-more}
 

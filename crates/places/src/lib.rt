@@ -19,7 +19,7 @@ ghost use mathlib.Core.Path.{_≡_};
 ghost use Prim.Native.Nat.{_-_, _≤_, _<_};
 ghost use lib.Dec.{eqb};
 ghost use Rattle.rules.specs.Basics.{pick};
-ghost use Rattle.pattern.specs.Held.{At};
+ghost use Rattle.trees.specs.Held.{At};
 ghost use Rattle.forks.specs.Emitting.{Emitted, letterCode, anchorCode, treePlaces, branchPlaces, bodyPlaces, turnPlaces};
 ghost use Rattle.forks.specs.Emitting.{Emitting, Branching, Bodying, Turning, WholeSize, BodySize, Unrolling, Tabled};
 

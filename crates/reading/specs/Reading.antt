@@ -13,7 +13,7 @@ use Rattle.query.specs.Order.{firstAnswer}
 use Rattle.rules.specs.Language.{Tree, pattern}
 use Rattle.rules.specs.Answers as A
 use Rattle.rules.specs.Answers.{firstOf, queryTests, offsetAt, treeIn, P}
-use Rattle.pattern.specs.Held.{Top}
+use Rattle.trees.specs.Held.{Top}
 use Rattle.measure_list.specs.Measures.{Fits}
 use Rattle.table.specs.Measures.{measureIn, measuresIn}
 use Rattle.decode.specs.Layout.{Decoded}

@@ -1,7 +1,7 @@
 -- `loops::has_empty_loop` and `loops::loop_at`, which call each other, meet their contracts.
 -- The measure: twice the node's height, and one more for `loop_at`, which looks at a node first.
 -- The loop's invariant: Left. Laws: pattern's ByNode, Laws.
-use Rattle.pattern.proofs.ByNode.{at-in}
+use Rattle.trees.proofs.ByNode.{at-in}
 use Rattle.loops.specs.Loops.{EmptyLoop}
 use Rattle.loops.proofs.Laws.{Left, begins, inside, seq-look, seq-down, alt-look, alt-down, group-down, group-at, loop-letter-at, loop-letter, loop-anchor, loop-empty, loop-seq, loop-seq-second, loop-alt, loop-alt-second, loop-group, loop-group-null, loop-group-rest, one-less}
 use Rattle.nodes.specs.Nodes.{nodeAt}

@@ -1,7 +1,8 @@
 -- The functions `branch`, `factor`, `pattern`, `primary` of pattern, which call each other, meet their contracts.
 -- The measure: four times the bytes of text left, and a rank for each reader. Invariants of the loops over parts: Begun. Laws: ReaderLaws, ChainLaws.
-use Rattle.pattern.proofs.ReaderLaws.{before-end, factor-fails, factor-fits, factor-ends, primary-simple, primary-empty, primary-again, primary-needs, primary-group}
-use Rattle.pattern.proofs.ChainLaws.{Begun, begun-none, begun-fits, begun-length, begun-chained, branch-unread, branch-whole, branch-less, branch-again, pattern-unread, pattern-whole, pattern-less, pattern-again}
+use Rattle.primaries.proofs.PrimaryLaws.{before-end}
+use Rattle.pattern.proofs.ReaderLaws.{factor-fails, factor-fits, factor-ends, primary-simple, primary-empty, primary-again, primary-needs, primary-group}
+use Rattle.pattern.proofs.PartLaws.{Begun, begun-none, begun-fits, begun-length, begun-chained, branch-unread, branch-whole, branch-less, branch-again, pattern-unread, pattern-whole, pattern-less, pattern-again}
 use Rattle.nodes.specs.declared.Sort.the-variants.{Sequence, Alternation}
 use Rattle.rules.specs.Language as language
 use borrow.Author.Tests.{not-true, not-false}
@@ -25,14 +26,14 @@ use Rattle.pattern.proofs.primary.Reads as primary
 use Rattle.pattern.proofs.primary.Kinds as primary-kinds
 use Rattle.pattern.proofs.+branch+factor+pattern+primary.Lts-primary as primary-lts
 use Rattle.marks.proofs.peek.Reads as peek-reads
-use Rattle.pattern.proofs.after.Reads as after-reads
-use Rattle.pattern.proofs.chain.Reads as chain-reads
-use Rattle.pattern.proofs.empty_head.Reads as empty-head-reads
-use Rattle.pattern.proofs.ends.Reads as ends-reads
-use Rattle.pattern.proofs.finish.Reads as finish-reads
-use Rattle.pattern.proofs.no_step.Reads as no-step-reads
-use Rattle.pattern.proofs.shut_group.Reads as shut-group-reads
-use Rattle.pattern.proofs.simple.Reads as simple-reads
+use Rattle.primaries.proofs.after.Reads as after-reads
+use Rattle.phrases.proofs.chain.Reads as chain-reads
+use Rattle.primaries.proofs.empty_head.Reads as empty-head-reads
+use Rattle.phrases.proofs.ends.Reads as ends-reads
+use Rattle.phrases.proofs.finish.Reads as finish-reads
+use Rattle.phrases.proofs.no_step.Reads as no-step-reads
+use Rattle.primaries.proofs.shut_group.Reads as shut-group-reads
+use Rattle.primaries.proofs.simple.Reads as simple-reads
 use Rattle.pattern.proofs.+branch+factor+pattern+primary.{statement}
 use Rattle.pattern.proofs.+branch+factor+pattern+primary.Tie.{close}
 

@@ -1,5 +1,5 @@
 -- `pattern::read_text` meets its contract. Laws: ReaderLaws.
-use Rattle.pattern.proofs.ReaderLaws.{text-fits, text-none, text-rest, text-whole}
+use Rattle.pattern.proofs.TextLaws.{text-fits, text-none, text-rest, text-whole}
 use borrow.Author.Tests.{not-true, not-false}
 use borrow.Author.Needs.{needs}
 use Rattle.pattern.proofs.read_text.Statement.{statement}

@@ -1,0 +1,2 @@
+pub mod PhraseLaws
+pub mod ChainLaws

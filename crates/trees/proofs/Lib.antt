@@ -1,0 +1,4 @@
+pub mod RoundLaws
+pub mod Holds
+pub mod ByNode
+pub mod FirstNode
