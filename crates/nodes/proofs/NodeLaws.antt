@@ -1,12 +1,12 @@
--- Laws of the module nodes: a word's sort, a node read, a node put.
+-- Laws of nodes: the sort that a word says, a node read.
 use mathlib.Core.Path.{_≡_, refl}
 use mathlib.Core.Bool.{Bool}
 use mathlib.Core.List.{List}
 use Prim.Native.Nat.{ℕ, _+_, _*_, _/_, _%_}
 use lib.Dec.{eqb}
-use lib.ListN.{getD, set}
+use lib.ListN.{getD}
 use borrow.Author.Tests.{ne-eqb}
-use Rattle.nodes.specs.Nodes.{nodeAt, putNode, sortOf, wordOf, bitOf}
+use Rattle.nodes.specs.Nodes.{nodeAt, sortOf}
 use Rattle.nodes.specs.declared.Sort.{Sort}
 use Rattle.nodes.specs.declared.Sort.the-variants.{Letter, Anchor, Empty, Sequence, Alternation, Group}
 use Rattle.nodes.specs.declared.Node.{Node}
@@ -50,9 +50,3 @@ sort-read s i k e = e
 pub places-read : (s : List ℕ) (i p : ℕ) → p ≡ getD s (i * 8 + 7) 0 → p ≡ (nodeAt s i) .places
 unfolding nodeAt
 places-read s i p e = e
-
-pub put-is : (s : List ℕ) (i w z : ℕ) (n : Node) → w ≡ wordOf (n .sort) → z ≡ n .form * 2 + bitOf (n .lazy)
-    → set (set (set (set (set (set (set (set s (i * 8) w) (i * 8 + 1) z) (i * 8 + 2) (n .low)) (i * 8 + 3) (n .high)) (i * 8 + 4) (n .left)) (i * 8 + 5) (n .right)) (i * 8 + 6)
-    (n .height)) (i * 8 + 7) (n .places) ≡ putNode s i n
-unfolding putNode
-put-is s i w z n e g = rw (e, g)

@@ -1,11 +1,12 @@
-// A pattern's node, a struct by value, and nodes kept as words in a lent slice, eight to a node. What is put is read back, and other
-// words are unchanged.
+// A pattern's node, a struct by value, and nodes kept as words in a lent slice, eight to a node: here
+// a node is read from its words, and crates/put_nodes puts one there. What is put is read back, and
+// other words are unchanged (proofs/Put).
 use numbers::wide16;
 ghost use mathlib.Core.Path.{_≡_};
-ghost use Prim.Native.Nat.{ℕ, _+_, _*_, _-_, _≤_, _<_, _/_, _%_};
+ghost use Prim.Native.Nat.{_+_, _*_, _≤_, _<_, _/_, _%_};
 ghost use lib.Dec.{eqb};
 ghost use lib.ListN.{length, getD};
-ghost use Rattle.nodes.specs.Nodes.{nodeAt, putNode, sortOf, wordOf, bitOf, Small};
+ghost use Rattle.nodes.specs.Nodes.{nodeAt, sortOf};
 
 pub enum Sort {
     Letter(u8),
@@ -51,33 +52,6 @@ fn sort_of(w: u16) -> Sort
         4 => Sort::Alternation,
         _ => Sort::Group,
     }
-}
-
-fn word_of(s: Sort) -> u16
-    ensures { λ r. ⌜ r ≡ wordOf s ⌝ }
-{
-    match s {
-        Sort::Letter(b) => b as u16,
-        Sort::Anchor(b) => 256 + b as u16,
-        Sort::Empty => 512,
-        Sort::Sequence => 768,
-        Sort::Alternation => 1024,
-        Sort::Group => 1280,
-    }
-}
-
-fn bit_of(b: bool) -> usize
-    ensures { λ r. ⌜ (r ≡ bitOf b) × (r ≤ 1) ⌝ }
-{
-    if b { 1 } else { 0 }
-}
-
-// A form and its reluctant mark in one word.
-fn form_word(form: usize, lazy: bool) -> u16
-    requires { ⌜ form < 32768 ⌝ }
-    ensures { λ r. ⌜ r ≡ form * 2 + bitOf lazy ⌝ }
-{
-    (form * 2 + bit_of(lazy)) as u16
 }
 
 // The sort of the node at i, and its places, without the other words.
@@ -135,21 +109,4 @@ pub fn node_at(room: &[u16], i: usize) -> Node
         height: number_at(room, i, 6),
         places: number_at(room, i, 7),
     }
-}
-
-// Puts a node at i.
-pub fn put_node(room: &mut [u16], i: usize, n: Node)
-    requires { ⌜ (8 * i + 8 ≤ length (now room)) × Small n ⌝ }
-    ensures { λ _. ⌜ now (room .exit) ≡ putNode (now (room .entry)) i n ⌝ }
-{
-    let at = i * 8;
-    let sort = n.sort;
-    room[at] = word_of(sort);
-    room[at + 1] = form_word(n.form, n.lazy);
-    room[at + 2] = n.low as u16;
-    room[at + 3] = n.high as u16;
-    room[at + 4] = n.left as u16;
-    room[at + 5] = n.right as u16;
-    room[at + 6] = n.height as u16;
-    room[at + 7] = n.places as u16;
 }

@@ -1,4 +1,4 @@
--- `pattern::read_text` meets its contract. Laws: ReaderLaws.
+-- `pattern::read_text` meets its contract. Laws: TextLaws.
 use Rattle.pattern.proofs.TextLaws.{text-fits, text-none, text-rest, text-whole}
 use borrow.Author.Tests.{not-true, not-false}
 use borrow.Author.Needs.{needs}

@@ -1,10 +1,10 @@
--- `nodes::word_of` meets its contract.
+-- `put_nodes::word_of` meets its contract.
 use native.Mathlib.Omega.{arith}
 use mathlib.Core.Path.{ap, sym}
 use Rattle.nodes.specs.Nodes.{wordOf}
 use borrow.Author.Needs.{needs}
-use Rattle.nodes.proofs.word_of.Statement.{statement}
-use Rattle.nodes.proofs.word_of.Tie as tie
+use Rattle.put_nodes.proofs.word_of.Statement.{statement}
+use Rattle.put_nodes.proofs.word_of.Tie as tie
 
 enum-known-s : tie.Need-enum-known-s
 enum-known-s c = search needs

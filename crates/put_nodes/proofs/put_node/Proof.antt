@@ -1,10 +1,10 @@
--- `nodes::put_node` meets its contract. Laws: NodeLaws.
-use Rattle.nodes.proofs.NodeLaws.{put-is}
+-- `put_nodes::put_node` meets its contract. Laws: PutLaws.
+use Rattle.put_nodes.proofs.PutLaws.{put-is}
 use lib.ListN.{length-set}
 use native.Mathlib.Omega.{arith}
 use borrow.Author.Needs.{needs}
-use Rattle.nodes.proofs.put_node.Statement.{statement}
-use Rattle.nodes.proofs.put_node.Tie as tie
+use Rattle.put_nodes.proofs.put_node.Statement.{statement}
+use Rattle.put_nodes.proofs.put_node.Tie as tie
 
 mul-at : tie.Need-mul-at
 mul-at c = omega arith
