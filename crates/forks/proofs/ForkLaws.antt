@@ -24,23 +24,14 @@ use Rattle.nodes.proofs.Sort.{the-type}
 use Rattle.trees.specs.Held.{Top, At}
 use Rattle.trees.proofs.ByNode.{as-any, as-alt, at-in, alt-left, alt-right, top-places}
 use Rattle.table.specs.Table.{span}
-use Rattle.forks.specs.Emitting.{putWays, putWords, forkCode, laterWord, putPlace, putFork, ForkNeeds, wayCount, waysIn, putPlaces, Fitting, Emitted, WayPut, WayNeeds, newStarts, Starting, Started, twoPlaces, TwoWays, choicePlaces, Choosing, forkPlaces, Forking}
-use Rattle.forks.proofs.TableLaws.{ways-length, ways-first, later-read}
-use Rattle.forks.proofs.WayLaws.{AfterWay, after-way, start-end, start-by-size}
+use Rattle.place_words.specs.Words.{putWays, putPlace, putFork, ForkNeeds, wayCount, waysIn, putPlaces, Fitting, Emitted, WayPut, WayNeeds}
+use Rattle.place_codes.specs.Codes.{laterWord}
+use Rattle.forks.specs.Emitting.{newStarts, Starting, Started, twoPlaces, TwoWays, choicePlaces, Choosing, forkPlaces, Forking}
+use Rattle.place_words.proofs.TableLaws.{ways-length, ways-first, later-read}
+use Rattle.place_words.proofs.WayLaws.{AfterWay, after-way, start-by-size}
+use Rattle.place_codes.proofs.CodeLaws.{start-end}
 
 -- ---- a place that is put
-
--- the later word of a fork
-pub later-two : (y w c v : ℕ) → c ≡ 2 → (v ≡ y) × (v < 65536) → (v ≡ laterWord y w c) × (v < 65536)
-later-two y w c v e ev = (ev .0 ∙ rw (eq-eqb c 2 e), ev .1)
-
-pub later-more : (y w c : ℕ) → (c ≡ 2 → ⊥) → w < 65536 → (w ≡ laterWord y w c) × (w < 65536)
-later-more y w c e h = (rw (ne-eqb c 2 e), h)
-
--- the words of a fork, whose first way is read
-pub fork-words : (T U : List ℕ) (b w to first code later : ℕ) → (first ≡ getD T w 0) × (first < 65536) → (code ≡ forkCode first (b + 1) (to - w)) × (code < 65536)
-    → (later ≡ laterWord (getD T (w + 1) 0) w (to - w)) × (later < 65536) → U ≡ putWords T b code first later (to - w) → (to ≡ to) × (U ≡ putFork T b w to)
-fork-words T U b w to first code later ef ec el e = (refl, e ∙ rw (el .0, ec .0, ef .0) refl)
 
 -- a fork whose ways are put, and then its words
 module _ (T T1 : List ℕ) (b w k : ℕ) (ks : List ℕ) (to : ℕ) (f : Fitting T b w k (pFork ks ∷ [])) (s : 0 < length ks) (e1 : T1 ≡ putWays T w ks) (e2 : to ≡ w + length ks) where

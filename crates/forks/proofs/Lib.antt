@@ -1,3 +1,1 @@
-pub mod TableLaws
-pub mod WayLaws
 pub mod ForkLaws

@@ -5,10 +5,9 @@ use mathlib.Core.List.{List, [], _∷_, _++_}
 use Prim.Native.Nat.{ℕ, _+_, _*_, _-_, _≤_, _<_, min}
 use native.Mathlib.Omega.{arith}
 use lib.ListN.{length, drop}
-use Rattle.rules.specs.Language.{Rank, pattern, branch, factor, Tree, one, last}
+use Rattle.rules.specs.Language.{Rank, pattern, branch, factor, Tree, one, last, Written, Laid, letterFirst, spaces, tokens}
 use Rattle.rules.specs.Places.{placeCount}
 use Rattle.rules.specs.Reader.{peek, ended, read, depth}
-use Rattle.rules.specs.Language.{Written, Laid, letterFirst, spaces, tokens}
 use Rattle.laws.proofs.GrammarSound.{Leads, Good, read-good}
 use Rattle.laws.proofs.Bounds.{Bounds, Lettered, written-bounds, written-letters}
 use Rattle.nodes.specs.Nodes.{nodeAt}

@@ -10,17 +10,9 @@ use lib.Seq.{drop-length, drop-cons}
 use Rattle.rules.specs.Language.{pattern, Tree, last}
 use Rattle.rules.specs.Reader.{Reading, got, bad, left, skip, read, rankOf, depth, whole, treeOf, stopOf}
 use Rattle.trees.specs.Written.{nodeCount}
-use Rattle.primaries.specs.Readers.{Fits, Reads, SkipTo, ParsedAs, TextSays}
+use Rattle.primaries.specs.Readers.{Fits, Reads, SkipTo, ParsedAs, TextSays, Parsed}
 use Rattle.primaries.specs.declared.Step.{Step}
-use mathlib.Core.Path.{_≡_, refl, _∙_, subst}
-use mathlib.Core.List.{List}
-use Prim.Native.Nat.{ℕ, _+_, _*_, _-_, _≤_, _<_}
-use lib.ListN.{length}
-use Rattle.rules.specs.Language.{pattern, Tree, last}
-use Rattle.trees.specs.Written.{nodeCount}
-use Rattle.primaries.specs.Readers.{Fits, Parsed, ParsedAs, TextSays}
 use Rattle.trees.specs.Held.{Top}
-use Rattle.rules.specs.Reader.{treeOf}
 use Rattle.laws.proofs.GrammarSound.{found-written}
 use Rattle.laws.proofs.Bounds.{written-bounds, written-letters}
 use Rattle.trees.proofs.Holds.{pattern-nodes, written-held}

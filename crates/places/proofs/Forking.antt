@@ -14,8 +14,8 @@ use Rattle.laws.proofs.Counting.{forked-more}
 use Rattle.laws.proofs.Distinct.{thinned-append}
 use Rattle.rules.specs.Working.{distinct, thinPlace, thinned}
 use Rattle.forks.proofs.ForkLaws.{distinct-some}
-use Rattle.forks.proofs.TableLaws.{Wayed}
-use Rattle.forks.proofs.WayLaws.{someOf, few-fresh, two-ways}
+use Rattle.place_words.proofs.TableLaws.{Wayed}
+use Rattle.place_words.proofs.WayLaws.{someOf, few-fresh, two-ways}
 
 abbrev Some : Branches → Type 0
 Some uNil = 0 < 0

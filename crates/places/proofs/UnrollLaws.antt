@@ -12,10 +12,11 @@ use Rattle.rules.specs.Working.{thinPlace, thinned}
 use Rattle.laws.proofs.ThinPlaces.{thinned-spelt}
 use Rattle.table.specs.Table.{codeAt, firstAt, laterAt, countAt, placesFrom, placesIn}
 use Rattle.table.specs.Sized.{Sized}
-use Rattle.forks.specs.Emitting.{putWords, putPlace, wayCount, waysIn, putPlaces, Wording, Emitted, treePlaces, Emitting, Unrolling, Tabled}
-use Rattle.forks.proofs.TableLaws.{Sound, Keeps, Back, places-append, waysIn-append, places-length, words-length, places-back, places-are, places-kept}
-use Rattle.forks.proofs.WayLaws.{all-few}
-use Rattle.places.proofs.CodeLaws.{tree-length}
+use Rattle.place_words.specs.Words.{putWords, putPlace, wayCount, waysIn, putPlaces, Wording, Emitted}
+use Rattle.forks.specs.Emitting.{treePlaces, Emitting, Unrolling, Tabled}
+use Rattle.place_words.proofs.TableLaws.{Sound, Keeps, Back, places-append, waysIn-append, places-length, words-length, places-back, places-are, places-kept}
+use Rattle.place_words.proofs.WayLaws.{all-few}
+use Rattle.unrolling.proofs.CodeLaws.{tree-length}
 use Rattle.places.proofs.Forking.{thinned-wayed}
 use Rattle.places.proofs.Spelling.{lettered}
 

@@ -1,6 +1,6 @@
 -- `forks::two_ways` meets its contract. Laws: ForkLaws, TableLaws.
 use Rattle.forks.proofs.ForkLaws.{two-first, two-second, two-needs, two-done}
-use Rattle.forks.proofs.TableLaws.{emitted-length}
+use Rattle.place_words.proofs.TableLaws.{emitted-length}
 use Rattle.forks.proofs.two_ways.Statement.{statement}
 use Rattle.forks.proofs.two_ways.Tie as tie
 

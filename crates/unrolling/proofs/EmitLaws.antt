@@ -1,0 +1,890 @@
+-- Laws of the functions that unroll a tree: each is one way through one function. A part of the places is put, then the rest; a part fits where
+-- the whole does; and the measure falls at each call.
+use mathlib.Core.Path.{_≡_, refl, sym, ap, _∙_, subst}
+use mathlib.Core.Bool.{Bool, true, false}
+use mathlib.Core.List.{List, [], _∷_, _++_}
+use mathlib.Core.Logic.{inl, inr}
+use Prim.Native.Nat.{ℕ, zero, suc, _+_, _*_, _-_, _≤_, _<_, min}
+use native.Mathlib.Omega.{arith}
+use native.Mathlib.Nat.{mul-le-mul}
+use mir.Val.{Fits as Fits-in}
+use mir.Syntax.{w64}
+use lib.Dec.{eqb}
+use lib.ListN.{length, length-append}
+use Rattle.rules.specs.Basics.{pick}
+use Rattle.rules.specs.Language.{Form, star, plus, opt, exactly, atLeast, atMost, between, lower, upper, InBounds, pattern, branch, factor, primary, Tree, one, more, last, next, bare, times, letter, empty}
+use Rattle.rules.specs.Places.{unrolled, unroll, Place, pLetter, pCaret, pDollar, size, sizes, code, roundPlaces, fork, placeCount}
+use Rattle.laws.proofs.Counting.{unrolled-size}
+use Rattle.rules.specs.Working.{thinPlace, thinned}
+use Rattle.nodes.specs.Nodes.{nodeAt}
+use Rattle.nodes.specs.declared.Sort.{Sort}
+use Rattle.nodes.specs.declared.Sort.the-variants.{Letter, Anchor, Empty, Sequence, Alternation, Group}
+use Rattle.nodes.specs.declared.Node.{Node}
+use Rattle.trees.specs.Held.{body, lowOf, highestOf, lazyOf, Top, At}
+use Rattle.trees.proofs.ByNode.{Bounded, IsAnchor, FactorAt, GroupAt, as-any, as-seq, as-alt, as-letter, as-anchor, as-empty, as-group, at-in, seq-left, seq-right, alt-left, alt-right, group-left, top-places}
+use Rattle.place_words.specs.Words.{putWords, putPlace, wayCount, waysIn, putPlaces, Fitting, Emitted, Wording}
+use Rattle.place_codes.specs.Codes.{letterCode, anchorCode}
+use Rattle.forks.specs.Emitting.{choicePlaces, Choosing, forkPlaces, Forking, treePlaces, branchPlaces, bodyPlaces, turns, turnPlaces, Emitting, Branching, Bodying, Turning, WholeSize, BodySize}
+use Rattle.place_words.proofs.TableLaws.{fit-left, fit-right, emitted-two, emitted-none}
+use Rattle.unrolling.proofs.CodeLaws.{tree-length, branch-length, body-length, turn-length, seq-places, branch-more, branch-one, alt-places, factor-places, factor-size, turn-copy, turn-none, turn-option, turn-star}
+
+-- ---- measures
+
+abbrev pub altBit : Sort → ℕ
+altBit (Letter b) = 0
+altBit (Anchor b) = 0
+altBit Empty = 0
+altBit Sequence = 0
+altBit Alternation = 2
+altBit Group = 0
+
+alt-small : (k : Sort) → altBit k ≤ 2
+alt-small (Letter b) = omega arith
+alt-small (Anchor b) = omega arith
+alt-small Empty = omega arith
+alt-small Sequence = omega arith
+alt-small Alternation = omega arith
+alt-small Group = omega arith
+
+not-alt-bit : (k : Sort) → (k ≡ Alternation → ⊥) → altBit k ≡ 0
+not-alt-bit (Letter b) f = refl
+not-alt-bit (Anchor b) f = refl
+not-alt-bit Empty f = refl
+not-alt-bit Sequence f = refl
+not-alt-bit Alternation f = absurd (f refl)
+not-alt-bit Group f = refl
+
+unfoldable pub emitM : List ℕ → ℕ → ℕ
+emitM s i = 400 * (nodeAt s i) .height + 300 + altBit ((nodeAt s i) .sort)
+
+unfoldable pub branchM : List ℕ → ℕ → ℕ
+branchM s i = 400 * (nodeAt s i) .height + 301
+
+unfoldable pub roundM : List ℕ → ℕ → ℕ → ℕ → ℕ
+roundM s i n m = 400 * (nodeAt s i) .height + 1 + n + m
+
+unfoldable pub bodyM : List ℕ → ℕ → ℕ
+bodyM s i = 400 * (nodeAt s i) .height
+
+-- ---- sizes
+
+module _ (s : List ℕ) (i c : ℕ) (k : Sort) (ec : c ≡ (nodeAt s i) .places) (ek : k ≡ (nodeAt s i) .sort) where
+  pub whole-alt : k ≡ Alternation → WholeSize s i (c + 1)
+  unfolding fork placeCount
+  whole-alt e = as-alt s i (nodeAt s i) refl (λ p. placeCount p ≤ 256 → c + 1 ≡ fork p + placeCount p) (sym ek ∙ e) (λ b p q h. omega (arith, q .places, ec))
+
+  pub whole-one : (k ≡ Alternation → ⊥) → WholeSize s i c
+  unfolding fork placeCount
+  whole-one e =
+      as-any s i (nodeAt s i) refl (λ p. placeCount p ≤ 256 → c ≡ fork p + placeCount p) (λ F q h. omega (arith, q .places, ec)) (λ f b q h. omega (arith, q .places, ec))
+      (λ b p q h. absurd (e (ek ∙ q .sort)))
+
+pub whole-fits : (s : List ℕ) (i c : ℕ) → At s i → c ≡ (nodeAt s i) .places → (v : ℕ) → v ≤ c + 1 → Fits-in w64 v
+whole-fits s i c a e v h = record { fits = omega (arith, e, top-places s i (a .tree) (a .is)) }
+
+pub at-node : (s : List ℕ) (i : ℕ) → At s i → 8 * i + 8 ≤ length s
+at-node s i a = at-in s i a
+
+-- a statement on factors, as one on patterns
+abbrev OnFactor : (Tree factor → Type 0) → Tree pattern → Type 0
+OnFactor D (one (last F)) = D F
+OnFactor D (one (next f b)) = Unit {0}
+OnFactor D (more b p) = Unit {0}
+
+rounds-more : (f : Form) (c : ℕ) → InBounds f → c ≤ roundPlaces (lower f) (upper f) c
+unfolding roundPlaces lower upper InBounds
+rounds-more star c i = omega arith
+rounds-more plus c i = omega arith
+rounds-more opt c i = omega arith
+rounds-more (exactly n) c i = let a : 1 * c ≤ n * c = mul-le-mul (i .0) (omega arith) in omega (arith, a)
+rounds-more (atLeast n) c i = omega arith
+rounds-more (atMost m) c i = let a : 1 * (1 + c) ≤ (m - 0) * (1 + c) = mul-le-mul (omega (arith, i .0)) (omega arith) in omega (arith, a)
+rounds-more (between zero m) c i = let a : 1 * (1 + c) ≤ (m - 0) * (1 + c) = mul-le-mul (omega (arith, i .0)) (omega arith) in omega (arith, a)
+rounds-more (between (suc n) m) c i = let a : 1 * c ≤ suc n * c = mul-le-mul (omega arith) (omega arith) in omega (arith, a)
+
+body-less : (F : Tree factor) → Bounded F → placeCount (body F) ≤ placeCount F
+unfolding placeCount
+body-less (bare x) i = omega arith
+body-less (times x f z) i = rounds-more f (placeCount x) i
+
+module _ (s : List ℕ) (i : ℕ) (n : Node) (en : n ≡ nodeAt s i) where
+  abbrev SizeIs : ℕ → Tree factor → Type 0
+  SizeIs r F = placeCount F ≤ 256 → r ≡ placeCount (body F)
+
+  pub size-letter : (a : ℕ) → n .sort ≡ Letter a → BodySize s i 1
+  unfolding placeCount
+  size-letter a e F t = as-letter s i n en (OnFactor (SizeIs 1)) a e (λ G q j h. sym (ap (λ (x : Tree primary). placeCount x) j)) (one (last F)) t
+
+  pub size-anchor : (a : ℕ) → n .sort ≡ Anchor a → BodySize s i 1
+  unfolding placeCount
+  size-anchor a e F t = as-anchor s i n en (OnFactor (SizeIs 1)) a e go (one (last F)) t
+    where
+      go : (G : Tree factor) → FactorAt s n G → IsAnchor (body G) a → SizeIs 1 G
+      go G q (inl j) h = sym (ap (λ (x : Tree primary). placeCount x) (j .0))
+      go G q (inr j) h = sym (ap (λ (x : Tree primary). placeCount x) (j .0))
+
+  pub size-empty : n .sort ≡ Empty → BodySize s i 0
+  unfolding placeCount
+  size-empty e F t = as-empty s i n en (OnFactor (SizeIs 0)) e (λ G q j h. sym (ap (λ (x : Tree primary). placeCount x) j)) (one (last F)) t
+
+  pub size-sequence : n .sort ≡ Sequence → BodySize s i 0
+  size-sequence e F t = as-seq s i n en (OnFactor (SizeIs 0)) e (λ f b q. tt) (one (last F)) t
+
+  pub size-alternation : n .sort ≡ Alternation → BodySize s i 0
+  size-alternation e F t = as-alt s i n en (OnFactor (SizeIs 0)) e (λ b p q. tt) (one (last F)) t
+
+  pub size-group : (r : ℕ) → n .sort ≡ Group → WholeSize s (n .left) r → BodySize s i r
+  unfolding placeCount
+  size-group r e f F t =
+      as-group s i n en (OnFactor (SizeIs r)) e
+      (λ G q p g h.
+      let j : placeCount (body G) ≡ fork p + placeCount p = ap (λ (x : Tree primary). placeCount x) (g .is) in
+      f p (g .inside) (omega (arith, body-less G (q .bounds))) ∙ sym j)
+      (one (last F)) t
+
+  pub size-inside : At s i → n .sort ≡ Group → At s (n .left)
+  size-inside a e = (group-left s i n en ((nodeAt s i) .height) refl a e) .1
+
+-- ---- two parts
+
+module _ (T : List ℕ) (b w k : ℕ) (whole xs : List Place) (Q : ℕ → List Place) (v : ℕ) (ew : whole ≡ xs ++ Q v) (ev : v ≡ b + length xs) where
+  part-left : (j : ℕ) → j ≤ 256 → Fitting T b w k whole → Fitting T b w j xs
+  part-left j h f = fit-left T b w k xs (Q v) j h (subst (Fitting T b w k) ew f)
+
+  module _ (T1 : List ℕ) (r : ℕ) (d : Emitted T T1 b w r xs) where
+    part-right : Fitting T b w k whole → Fitting T1 v r k (Q v)
+    part-right f = fit-right T b w k xs (Q v) T1 v r ev d (subst (Fitting T b w k) ew f)
+
+    part-both : (T2 : List ℕ) (q : ℕ) → Emitted T1 T2 v r q (Q v) → Emitted T T2 b w q whole
+    part-both T2 q g = subst (Emitted T T2 b w q) (sym ew) (emitted-two T T1 T2 b w v r q xs (Q v) ev d g)
+
+-- a list of no places is put by doing nothing
+nothing-put : (T : List ℕ) (b w : ℕ) (pl : List Place) → length pl ≡ 0 → Emitted T T b w w pl
+nothing-put T b w [] e = emitted-none T b w
+nothing-put T b w (p ∷ pl) e = absurd (omega arith)
+
+low-pick : (t : Bool) (k b : ℕ) → k ≤ 256 → b ≤ 256 → pick t k b ≤ 256
+low-pick true k b h g = h
+low-pick false k b h g = g
+
+-- ---- emit
+
+module _ (s : List ℕ) (i : ℕ) (n : Node) (en : n ≡ nodeAt s i) (T : List ℕ) (b w k : ℕ) where
+  emit-at : Emitting s i T b w k → At s i
+  emit-at h = record { tree = h .tree; is = h .top }
+
+  -- the places of the top node are those of the tree, which end by 256
+  exact : (p : Tree pattern) → Top p i s → Fitting T b w k (treePlaces p b k) → (n .places ≡ placeCount p) × (b + (fork p + placeCount p) ≤ 256)
+  exact p t f =
+      let a : n .places ≡ min (placeCount p) 257 = ap (λ (y : Node). y .places) en ∙ top-places s i p t in
+      let l = tree-length p b k in
+      let g = f .place in
+      (omega arith, omega arith)
+
+  pub emit-end : Emitting s i T b w k → Fits-in w64 (b + n .places)
+  emit-end h = let x = exact (h .tree) (h .top) (h .fits) in record { fits = omega (arith, x .0, x .1) }
+
+  -- no places
+  pub emit-none : (n .sort ≡ Alternation → ⊥) → b + n .places ≡ b → (h : Emitting s i T b w k) → Emitted T T b w w (treePlaces (h .tree) b k)
+  unfolding fork
+  emit-none na e h =
+      let f : fork (h .tree) ≡ 0 = as-any s i n en (λ p. fork p ≡ 0) (λ F q. refl) (λ f b q. refl) (λ b p q. absurd (na (q .sort))) (h .tree) (h .top) in
+      let x = exact (h .tree) (h .top) (h .fits) in
+      nothing-put T b w (treePlaces (h .tree) b k) (omega (arith, x .0, tree-length (h .tree) b k))
+
+  -- a sequence
+  module _ (e : n .sort ≡ Sequence) (m : ℕ) (em : m ≡ (nodeAt s (n .left)) .places) where
+    record SeqParts (nx : ℕ) (p : Tree pattern) : Type 0 where
+      first : Tree factor
+      rest : Tree branch
+      left-top : Top (one (last first)) (n .left) s
+      right-top : Top (one rest) (n .right) s
+      split : treePlaces p b k ≡ treePlaces (one (last first)) b nx ++ treePlaces (one rest) (b + m) k
+      long : b + m ≡ b + length (treePlaces (one (last first)) b nx)
+      low : b + m ≤ 256
+
+    seq-parts : (nx : ℕ) → nx ≡ pick (eqb (b + m) (b + n .places)) k (b + m) → (p : Tree pattern) → Top p i s
+        → Fitting T b w k (treePlaces p b k) → SeqParts nx p
+    unfolding placeCount fork
+    seq-parts nx ex p t f =
+        as-seq s i n en (λ p. (n .places ≡ placeCount p) × (b + (fork p + placeCount p) ≤ 256) → SeqParts nx p) e
+        (λ f g q x.
+        let d = top-places s (n .left) (one (last f)) (q .left) in
+        let y = x .1 in
+        let c : m ≡ placeCount f = omega arith in
+        let l = tree-length (one (last f)) b nx in
+        record {
+          first = f;
+          rest = g;
+          left-top = q .left;
+          right-top = q .right;
+          split = seq-places f g b k m (b + n .places) nx c (ap (λ (v : ℕ). b + v) (x .0)) ex;
+          long = omega arith;
+          low = omega arith;
+        })
+        p t (exact p t f)
+
+    pub seq-left-in : Emitting s i T b w k → 8 * n .left + 8 ≤ length s
+    seq-left-in h = at-in s (n .left) ((seq-left s i n en ((nodeAt s i) .height) refl (emit-at h) e) .1)
+
+    pub seq-mid : Emitting s i T b w k → Fits-in w64 (b + m)
+    seq-mid h = let x = seq-parts _ refl (h .tree) (h .top) (h .fits) in record { fits = omega (arith, x .low) }
+
+    module _ (nx : ℕ) (ex : nx ≡ pick (eqb (b + m) (b + n .places)) k (b + m)) (h : Emitting s i T b w k) where
+      seq : SeqParts nx (h .tree)
+      seq = seq-parts nx ex (h .tree) (h .top) (h .fits)
+
+      first-emitting : Emitting s (n .left) T b w nx
+      first-emitting =
+          record {
+            tree = one (last (seq .first));
+            top = seq .left-top;
+            fits = part-left T b w k (treePlaces (h .tree) b k) (treePlaces (one (last (seq .first))) b nx) (λ v. treePlaces (one (seq .rest)) v k)
+                (b + m) (seq .split) (seq .long)
+                nx (rw ex (low-pick (eqb (b + m) (b + n .places)) k (b + m) (h .fits .behind) (seq .low))) (h .fits);
+          }
+
+      pub seq-first : (u : ℕ) → emitM s i ≡ u → (emitM s (n .left) < u) × Emitting s (n .left) T b w nx
+      unfolding emitM
+      seq-first u eu = (omega (arith, (seq-left s i n en ((nodeAt s i) .height) refl (emit-at h) e) .0, alt-small ((nodeAt s (n .left)) .sort)), first-emitting)
+
+      module _ (T1 : List ℕ) (r : ℕ) (d : (g : Emitting s (n .left) T b w nx) → Emitted T T1 b w r (treePlaces (g .tree) b nx)) where
+        first-done : Emitted T T1 b w r (treePlaces (one (last (seq .first))) b nx)
+        unfolding first-emitting
+        first-done = d first-emitting
+
+        second-emitting : Emitting s (n .right) T1 (b + m) r k
+        second-emitting =
+            record {
+              tree = one (seq .rest);
+              top = seq .right-top;
+              fits = part-right T b w k (treePlaces (h .tree) b k) (treePlaces (one (last (seq .first))) b nx) (λ v. treePlaces (one (seq .rest)) v k)
+                  (b + m) (seq .split) (seq .long) T1 r first-done (h .fits);
+            }
+
+        pub seq-second : (u : ℕ) → emitM s i ≡ u → (emitM s (n .right) < u) × Emitting s (n .right) T1 (b + m) r k
+        unfolding emitM
+        seq-second u eu = (omega (arith, (seq-right s i n en ((nodeAt s i) .height) refl (emit-at h) e) .0, alt-small ((nodeAt s (n .right)) .sort)), second-emitting)
+
+        pub seq-done : (T2 : List ℕ) (q : ℕ) → ((g : Emitting s (n .right) T1 (b + m) r k) → Emitted T1 T2 (b + m) r q (treePlaces (g .tree) (b + m) k))
+            → Emitted T T2 b w q (treePlaces (h .tree) b k)
+        unfolding second-emitting
+        seq-done T2 q g =
+            part-both T b w k (treePlaces (h .tree) b k) (treePlaces (one (last (seq .first))) b nx) (λ v. treePlaces (one (seq .rest)) v k) (b + m)
+            (seq .split) (seq .long) T1 r first-done T2 q (g second-emitting)
+
+  -- an alternation
+  module _ (e : n .sort ≡ Alternation) where
+    record AltParts (p : Tree pattern) : Type 0 where
+      split : treePlaces p b k ≡ forkPlaces p b k ++ branchPlaces p (b + 1) k
+      room : b + 1 + sizes (unrolled p) ≤ 256
+
+    alt-parts : (p : Tree pattern) → Top p i s → Fitting T b w k (treePlaces p b k) → AltParts p
+    unfolding placeCount fork
+    alt-parts p t f =
+        as-alt s i n en (λ p. (n .places ≡ placeCount p) × (b + (fork p + placeCount p) ≤ 256) → AltParts p) e
+        (λ g p q x. let y = x .1 in let z : sizes (unrolled (more g p)) ≡ placeCount (more g p) = unrolled-size (more g p) in record
+        { split = alt-places g p b k; room = omega arith })
+        p t (exact p t f)
+
+    module _ (h : Emitting s i T b w k) where
+      alt : AltParts (h .tree)
+      alt = alt-parts (h .tree) (h .top) (h .fits)
+
+      pub alt-first : Fits-in w64 (b + 1)
+      alt-first = record { fits = omega (arith, h .fits .place) }
+
+      one-long : b + 1 ≡ b + length (forkPlaces (h .tree) b k)
+      one-long = omega arith
+
+      pub alt-forking : Forking s i T b w k
+      alt-forking =
+          record {
+            tree = h .tree;
+            top = h .top;
+            fits = part-left T b w k (treePlaces (h .tree) b k) (forkPlaces (h .tree) b k) (λ v. branchPlaces (h .tree) v k) (b + 1) (alt .split)
+                one-long k (h .fits .behind) (h .fits);
+            room = alt .room;
+          }
+
+      module _ (T1 : List ℕ) (r : ℕ) (d : (g : Forking s i T b w k) → Emitted T T1 b w r (forkPlaces (g .tree) b k)) where
+        fork-done : Emitted T T1 b w r (forkPlaces (h .tree) b k)
+        unfolding alt-forking
+        fork-done = d alt-forking
+
+        inside-branching : Branching s i T1 (b + 1) r k
+        inside-branching =
+            record {
+              tree = h .tree;
+              top = h .top;
+              fits = part-right T b w k (treePlaces (h .tree) b k) (forkPlaces (h .tree) b k) (λ v. branchPlaces (h .tree) v k) (b + 1) (alt .split)
+                  one-long T1 r fork-done (h .fits);
+            }
+
+        pub alt-inside : (u : ℕ) → emitM s i ≡ u → (branchM s i < u) × Branching s i T1 (b + 1) r k
+        unfolding emitM branchM
+        alt-inside u eu = let two : altBit ((nodeAt s i) .sort) ≡ 2 = ap altBit (ap (λ (y : Node). y .sort) (sym en) ∙ e) in (omega arith, inside-branching)
+
+        pub alt-done : (T2 : List ℕ) (q : ℕ) → ((g : Branching s i T1 (b + 1) r k) → Emitted T1 T2 (b + 1) r q (branchPlaces (g .tree) (b + 1) k))
+            → Emitted T T2 b w q (treePlaces (h .tree) b k)
+        unfolding inside-branching
+        alt-done T2 q g =
+            part-both T b w k (treePlaces (h .tree) b k) (forkPlaces (h .tree) b k) (λ v. branchPlaces (h .tree) v k) (b + 1) (alt .split) one-long T1
+            r fork-done T2 q (g inside-branching)
+
+  -- a factor
+  module _ (ns : n .sort ≡ Sequence → ⊥) (na : n .sort ≡ Alternation → ⊥) where
+    record FactorOf (p : Tree pattern) : Type 0 where
+      of : Tree factor
+      is : p ≡ one (last of)
+      seen : FactorAt s n of
+
+    factor-of : (p : Tree pattern) → Top p i s → FactorOf p
+    factor-of = as-any s i n en FactorOf (λ F q. record { of = F; is = refl; seen = q }) (λ f b q. absurd (ns (q .sort))) (λ b p q. absurd (na (q .sort)))
+
+    pub emit-node : Emitting s i T b w k → At s i
+    emit-node h = emit-at h
+
+    pub turn-order : Emitting s i T b w k → n .low ≤ n .high
+    turn-order h = let F = factor-of (h .tree) (h .top) in F .seen .order .in-order
+
+    module _ (c : ℕ) (hc : BodySize s i c) (m : ℕ) (em : m ≡ pick (eqb (n .high) 100) 100 (n .high - n .low)) (h : Emitting s i T b w k) where
+      F : FactorOf (h .tree)
+      F = factor-of (h .tree) (h .top)
+
+      factor-top : Top (one (last (F .of))) i s
+      factor-top = subst (λ (p : Tree pattern). Top p i s) (F .is) (h .top)
+
+      more-is : m ≡ pick (eqb (highestOf (F .of)) 100) 100 (highestOf (F .of) - lowOf (F .of))
+      more-is = em ∙ ap (λ (v : ℕ). pick (eqb v 100) 100 (v - n .low)) (F .seen .high) ∙ ap (λ (v : ℕ). pick (eqb (highestOf (F .of)) 100) 100 (highestOf (F .of) - v))
+          (F .seen .low)
+
+      same-places : treePlaces (h .tree) b k ≡ turnPlaces (n .low) m (F .of) b k
+      same-places = ap (λ (p : Tree pattern). treePlaces p b k) (F .is) ∙ factor-places (F .of) b k (n .low) m (F .seen .bounds) (F .seen .low) more-is
+
+      factor-count : (n .places ≡ placeCount (F .of)) × (placeCount (F .of) ≤ 256)
+      unfolding placeCount
+      factor-count =
+          let x = exact (h .tree) (h .top) (h .fits) in
+          let z : placeCount (h .tree) ≡ placeCount (F .of) = ap (λ (p : Tree pattern). placeCount p) (F .is) in
+          (x .0 ∙ z, omega (arith, x .1))
+
+      more-small : m ≤ 100
+      more-small = rw em (low (eqb (n .high) 100))
+        where
+          low : (t : Bool) → pick t 100 (n .high - n .low) ≤ 100
+          low true = omega arith
+          low false = omega (arith, F .seen .order .high-small)
+
+      turning : Turning s i c (n .lazy) (n .low) m (b + n .places) T b w k
+      turning =
+          let z : size (unrolled (body (F .of))) ≡ placeCount (body (F .of)) = unrolled-size (body (F .of)) in
+          record {
+            of = F .of;
+            top = factor-top;
+            each = hc (F .of) factor-top (factor-count .1) ∙ sym z;
+            reluctant = F .seen .lazy;
+            ends = ap (λ (v : ℕ). b + v) (factor-count .0 ∙ sym (factor-size (F .of) (n .low) m (F .seen .bounds) (F .seen .low) more-is));
+            few = (F .seen .order .low-small, more-small);
+            fits = subst (Fitting T b w k) same-places (h .fits);
+          }
+
+      pub turn-first : (u : ℕ) → emitM s i ≡ u → (roundM s i (n .low) m < u) × Turning s i c (n .lazy) (n .low) m (b + n .places) T b w k
+      unfolding emitM roundM
+      turn-first u eu = (omega (arith, F .seen .order .low-small, more-small), turning)
+
+      pub turn-done : (T2 : List ℕ) (q : ℕ) → ((g : Turning s i c (n .lazy) (n .low) m (b + n .places) T b w k)
+          → Emitted T T2 b w q (turnPlaces (n .low) m (g .of) b k)) → Emitted T T2 b w q (treePlaces (h .tree) b k)
+      unfolding turning
+      turn-done T2 q g = subst (Emitted T T2 b w q) (sym same-places) (g turning)
+
+pub emit-in : (s : List ℕ) (i : ℕ) (T : List ℕ) (b w k : ℕ) → Emitting s i T b w k → 8 * i + 8 ≤ length s
+emit-in s i T b w k h = at-in s i (record { tree = h .tree; is = h .top })
+
+-- ---- branches
+
+pub branches-in : (s : List ℕ) (i : ℕ) (T : List ℕ) (b w k : ℕ) → Branching s i T b w k → 8 * i + 8 ≤ length s
+branches-in s i T b w k h = at-in s i (record { tree = h .tree; is = h .top })
+
+module _ (s : List ℕ) (i : ℕ) (n : Node) (en : n ≡ nodeAt s i) (T : List ℕ) (b w k : ℕ) where
+  branching-at : Branching s i T b w k → At s i
+  branching-at h = record { tree = h .tree; is = h .top }
+
+  -- no places
+  pub branches-none : n .places ≡ 0 → (h : Branching s i T b w k) → Emitted T T b w w (branchPlaces (h .tree) b k)
+  branches-none e h =
+      let a : n .places ≡ min (placeCount (h .tree)) 257 = ap (λ (y : Node). y .places) en ∙ top-places s i (h .tree) (h .top) in
+      nothing-put T b w (branchPlaces (h .tree) b k) (omega (arith, branch-length (h .tree) b k))
+
+  module _ (e : n .sort ≡ Alternation) (m : ℕ) (em : m ≡ (nodeAt s (n .left)) .places) where
+    record BranchParts (p : Tree pattern) : Type 0 where
+      first : Tree branch
+      rest : Tree pattern
+      left-top : Top (one first) (n .left) s
+      right-top : Top rest (n .right) s
+      split : branchPlaces p b k ≡ treePlaces (one first) b k ++ branchPlaces rest (b + m) k
+      long : b + m ≡ b + length (treePlaces (one first) b k)
+      low : b + m ≤ 256
+
+    branch-parts : (p : Tree pattern) → Top p i s → Fitting T b w k (branchPlaces p b k) → BranchParts p
+    unfolding placeCount fork
+    branch-parts =
+        as-alt s i n en (λ p. Fitting T b w k (branchPlaces p b k) → BranchParts p) e λ g p q f.
+        let d = top-places s (n .left) (one g) (q .left) in
+        let y = branch-length (more g p) b k in
+        let z = f .place in
+        let c : m ≡ placeCount g = omega arith in
+        let l = tree-length (one g) b k in
+        record {
+          first = g;
+          rest = p;
+          left-top = q .left;
+          right-top = q .right;
+          split = branch-more g p b k (b + m) (ap (λ (v : ℕ). b + v) c);
+          long = omega arith;
+          low = omega arith;
+        }
+
+    pub branch-left-in : Branching s i T b w k → 8 * n .left + 8 ≤ length s
+    branch-left-in h = at-in s (n .left) ((alt-left s i n en ((nodeAt s i) .height) refl (branching-at h) e) .1)
+
+    pub branch-mid : Branching s i T b w k → Fits-in w64 (b + m)
+    branch-mid h = record { fits = omega (arith, (branch-parts (h .tree) (h .top) (h .fits)) .low) }
+
+    module _ (h : Branching s i T b w k) where
+      parts : BranchParts (h .tree)
+      parts = branch-parts (h .tree) (h .top) (h .fits)
+
+      branch-emitting : Emitting s (n .left) T b w k
+      branch-emitting =
+          record {
+            tree = one (parts .first);
+            top = parts .left-top;
+            fits = part-left T b w k (branchPlaces (h .tree) b k) (treePlaces (one (parts .first)) b k) (λ v. branchPlaces (parts .rest) v k)
+                (b + m) (parts .split) (parts .long)
+                k (h .fits .behind) (h .fits);
+          }
+
+      pub branch-first : (u : ℕ) → branchM s i ≡ u → (emitM s (n .left) < u) × Emitting s (n .left) T b w k
+      unfolding emitM branchM
+      branch-first u eu = (omega (arith, (alt-left s i n en ((nodeAt s i) .height) refl (branching-at h) e) .0, alt-small ((nodeAt s (n .left)) .sort)), branch-emitting)
+
+      module _ (T1 : List ℕ) (r : ℕ) (d : (g : Emitting s (n .left) T b w k) → Emitted T T1 b w r (treePlaces (g .tree) b k)) where
+        branch-put : Emitted T T1 b w r (treePlaces (one (parts .first)) b k)
+        unfolding branch-emitting
+        branch-put = d branch-emitting
+
+        rest-branching : Branching s (n .right) T1 (b + m) r k
+        rest-branching =
+            record {
+              tree = parts .rest;
+              top = parts .right-top;
+              fits = part-right T b w k (branchPlaces (h .tree) b k) (treePlaces (one (parts .first)) b k) (λ v. branchPlaces (parts .rest) v k)
+                  (b + m) (parts .split) (parts .long) T1 r branch-put (h .fits);
+            }
+
+        pub branch-second : (u : ℕ) → branchM s i ≡ u → (branchM s (n .right) < u) × Branching s (n .right) T1 (b + m) r k
+        unfolding branchM
+        branch-second u eu = (omega (arith, (alt-right s i n en ((nodeAt s i) .height) refl (branching-at h) e) .0), rest-branching)
+
+        pub branch-done : (T2 : List ℕ) (q : ℕ) → ((g : Branching s (n .right) T1 (b + m) r k) → Emitted T1 T2 (b + m) r q (branchPlaces (g .tree) (b + m) k))
+            → Emitted T T2 b w q (branchPlaces (h .tree) b k)
+        unfolding rest-branching
+        branch-done T2 q g =
+            part-both T b w k (branchPlaces (h .tree) b k) (treePlaces (one (parts .first)) b k) (λ v. branchPlaces (parts .rest) v k)
+            (b + m) (parts .split) (parts .long) T1 r branch-put T2 q (g rest-branching)
+
+  module _ (e : n .sort ≡ Alternation → ⊥) where
+    single : (p : Tree pattern) → Top p i s → branchPlaces p b k ≡ treePlaces p b k
+    single = as-any s i n en (λ p. branchPlaces p b k ≡ treePlaces p b k) (λ F q. branch-one (last F) b k)
+        (λ f g q. branch-one (next f g) b k) (λ b p q. absurd (e (q .sort)))
+
+    module _ (h : Branching s i T b w k) where
+      single-emitting : Emitting s i T b w k
+      single-emitting = record { tree = h .tree; top = h .top; fits = subst (Fitting T b w k) (single (h .tree) (h .top)) (h .fits) }
+
+      pub single-first : (u : ℕ) → branchM s i ≡ u → (emitM s i < u) × Emitting s i T b w k
+      unfolding emitM branchM
+      single-first u eu = (omega (arith, not-alt-bit ((nodeAt s i) .sort) (λ j. e (ap (λ (y : Node). y .sort) en ∙ j))), single-emitting)
+
+      pub single-done : (T2 : List ℕ) (q : ℕ) → ((g : Emitting s i T b w k) → Emitted T T2 b w q (treePlaces (g .tree) b k))
+          → Emitted T T2 b w q (branchPlaces (h .tree) b k)
+      unfolding single-emitting
+      single-done T2 q g = subst (Emitted T T2 b w q) (sym (single (h .tree) (h .top))) (g single-emitting)
+
+-- ---- rounds
+
+module _ (s : List ℕ) (i c : ℕ) (lazy : Bool) (n m end : ℕ) (T : List ℕ) (b w k : ℕ) where
+  -- a body's places
+  body-places : (h : Turning s i c lazy n m end T b w k) (v j : ℕ) → length (bodyPlaces (h .of) v j) ≡ c
+  body-places h v j = let z : size (unrolled (body (h .of))) ≡ placeCount (body (h .of)) = unrolled-size (body (h .of)) in body-length (h .of) v j ∙ sym z ∙ sym (h .each)
+
+  -- a copy
+  module _ (pos : 0 < n) where
+    suc-pred : n ≡ suc (n - 1)
+    suc-pred = omega arith
+
+    module _ (nx : ℕ) (ex : nx ≡ pick (eqb (b + c) end) k (b + c)) (h : Turning s i c lazy n m end T b w k) where
+      copy-split : turnPlaces n m (h .of) b k ≡ bodyPlaces (h .of) b nx ++ turnPlaces (n - 1) m (h .of) (b + c) k
+      copy-split = turn-copy (h .of) c b k end (h .each) n (n - 1) m nx suc-pred (h .ends) ex
+
+      copy-long : b + c ≡ b + length (bodyPlaces (h .of) b nx)
+      copy-long = ap (λ (v : ℕ). b + v) (sym (body-places h b nx))
+
+      copy-low : b + c ≤ 256
+      copy-low = let f : Fitting T b w k (bodyPlaces (h .of) b nx ++ turnPlaces (n - 1) m (h .of) (b + c) k) = subst (Fitting T b w k) copy-split (h .fits) in
+          let g = fit-left T b w k (bodyPlaces (h .of) b nx) (turnPlaces (n - 1) m (h .of) (b + c) k) k (h .fits .behind) f in omega (arith, g .place, copy-long)
+
+      copy-bodying : Bodying s i T b w nx
+      copy-bodying =
+          record {
+            of = h .of;
+            top = h .top;
+            fits = part-left T b w k (turnPlaces n m (h .of) b k) (bodyPlaces (h .of) b nx) (λ v. turnPlaces (n - 1) m (h .of) v k) (b + c) copy-split
+                copy-long
+                nx (rw ex (low-pick (eqb (b + c) end) k (b + c) (h .fits .behind) copy-low)) (h .fits);
+          }
+
+      pub copy-first : (u : ℕ) → roundM s i n m ≡ u → (bodyM s i < u) × Bodying s i T b w nx
+      unfolding roundM bodyM
+      copy-first u eu = (omega arith, copy-bodying)
+
+      module _ (T1 : List ℕ) (r : ℕ) (d : (g : Bodying s i T b w nx) → Emitted T T1 b w r (bodyPlaces (g .of) b nx)) where
+        copy-put : Emitted T T1 b w r (bodyPlaces (h .of) b nx)
+        unfolding copy-bodying
+        copy-put = d copy-bodying
+
+        copy-turning : Turning s i c lazy (n - 1) m end T1 (b + c) r k
+        copy-turning =
+            let f = part-right T b w k (turnPlaces n m (h .of) b k) (bodyPlaces (h .of) b nx) (λ v. turnPlaces (n - 1) m (h .of) v k) (b + c)
+            copy-split copy-long T1 r copy-put (h .fits) in
+            let l1 = turn-length n m (h .of) b k in
+            let l2 = turn-length (n - 1) m (h .of) (b + c) k in
+            let l3 : length (turnPlaces n m (h .of) b k) ≡ length (bodyPlaces (h .of) b nx) + length (turnPlaces (n - 1) m (h .of) (b + c) k) = ap
+            length copy-split ∙ length-append (bodyPlaces (h .of) b nx) _ in
+            record {
+              of = h .of;
+              top = h .top;
+              each = h .each;
+              reluctant = h .reluctant;
+              ends = omega (arith, h .ends, body-places h b nx);
+              few = (omega (arith, h .few .0), h .few .1);
+              fits = f;
+            }
+
+        pub copy-again : (u : ℕ) → roundM s i n m ≡ u → (roundM s i (n - 1) m < u) × Turning s i c lazy (n - 1) m end T1 (b + c) r k
+        unfolding roundM
+        copy-again u eu = (omega arith, copy-turning)
+
+        pub copy-done : (T2 : List ℕ) (q : ℕ) → ((g : Turning s i c lazy (n - 1) m end T1 (b + c) r k) → Emitted T1 T2 (b + c) r q (turnPlaces (n - 1) m (g .of) (b + c) k))
+            → Emitted T T2 b w q (turnPlaces n m (h .of) b k)
+        unfolding copy-turning
+        copy-done T2 q g =
+            part-both T b w k (turnPlaces n m (h .of) b k) (bodyPlaces (h .of) b nx) (λ v. turnPlaces (n - 1) m (h .of) v k) (b + c) copy-split
+            copy-long T1 r copy-put T2 q (g copy-turning)
+
+    pub copy-fits : Turning s i c lazy n m end T b w k → Fits-in w64 (b + c)
+    copy-fits h = record { fits = omega (arith, copy-low _ refl h) }
+
+  -- nothing is left
+  pub none-done : n ≤ 0 → m ≡ 0 → (h : Turning s i c lazy n m end T b w k) → Emitted T T b w w (turnPlaces n m (h .of) b k)
+  none-done l e h =
+      let z : n ≡ 0 = omega arith in
+      subst (Emitted T T b w w) (sym (ap (λ (v : ℕ). turnPlaces v m (h .of) b k) z ∙ ap (λ (v : ℕ). turnPlaces 0 v (h .of) b k) e
+      ∙ turn-none (h .of) c b k end (h .each))) (emitted-none T b w)
+
+  -- the place behind a fork
+  pub first-fits : Turning s i c lazy n m end T b w k → Fits-in w64 (b + 1)
+  first-fits h = record { fits = omega (arith, h .fits .place) }
+
+  -- a fork, and what stands behind it
+  module _ (F : Tree factor) (el : lazy ≡ lazyOf F) (co : ℕ) (Q : ℕ → List Place) (whole : List Place)
+      (ew : whole ≡ choicePlaces (lazyOf F) co k ++ Q (b + 1)) where
+    whole-lazy : whole ≡ choicePlaces lazy co k ++ Q (b + 1)
+    whole-lazy = ew ∙ ap (λ (z : Bool). choicePlaces z co k ++ Q (b + 1)) (sym el)
+
+    one-more : b + 1 ≡ b + length (choicePlaces lazy co k)
+    one-more = omega arith
+
+    choose : co ≤ 256 → Fitting T b w k whole → Choosing T b w lazy co k
+    choose l f = record { fits = part-left T b w k whole (choicePlaces lazy co k) Q (b + 1) whole-lazy one-more k (f .behind) f; copied = l }
+
+    chosen : Fitting T b w k whole → (T1 : List ℕ) (r : ℕ) → Emitted T T1 b w r (choicePlaces lazy co k) → Fitting T1 (b + 1) r k (Q (b + 1))
+    chosen f T1 r d = part-right T b w k whole (choicePlaces lazy co k) Q (b + 1) whole-lazy one-more T1 r d f
+
+    chosen-done : (T1 T2 : List ℕ) (r q : ℕ) → Emitted T T1 b w r (choicePlaces lazy co k) → Emitted T1 T2 (b + 1) r q (Q (b + 1)) → Emitted T T2 b w q whole
+    chosen-done T1 T2 r q d g = part-both T b w k whole (choicePlaces lazy co k) Q (b + 1) whole-lazy one-more T1 r d T2 q g
+
+  -- places that begin with a fork leave room for it
+  fork-low : (z : Bool) (co : ℕ) (ys : List Place) → Fitting T b w k (choicePlaces z co k ++ ys) → b + 1 + length ys ≤ 256
+  fork-low z co ys f = omega (arith, f .place, length-append (choicePlaces z co k) ys)
+
+  -- a fork and a copy that leads back to it
+  module _ (l : n ≤ 0) (e : m ≡ 100) where
+    all-star : (h : Turning s i c lazy n m end T b w k) → turnPlaces n m (h .of) b k ≡ turnPlaces 0 100 (h .of) b k
+    all-star h = ap (λ (v : ℕ). turnPlaces v m (h .of) b k) (let z : n ≡ 0 = omega arith in z) ∙ ap (λ (v : ℕ). turnPlaces 0 v (h .of) b k) e
+
+    star-ends : (h : Turning s i c lazy n m end T b w k) → end ≡ b + size (turns 0 100 (lazyOf (h .of)) (unrolled (body (h .of))))
+    star-ends h =
+        h .ends ∙ ap (λ (v : ℕ). b + size (turns v m (lazyOf (h .of)) (unrolled (body (h .of))))) (let z : n ≡ 0 = omega arith in z)
+        ∙ ap (λ (v : ℕ). b + size (turns 0 v (lazyOf (h .of)) (unrolled (body (h .of))))) e
+
+    module _ (co : ℕ) (ec : co ≡ pick (eqb (b + 1) end) b (b + 1)) (h : Turning s i c lazy n m end T b w k) where
+      star-split : turnPlaces n m (h .of) b k ≡ choicePlaces (lazyOf (h .of)) co k ++ bodyPlaces (h .of) (b + 1) b
+      star-split = all-star h ∙ turn-star (h .of) c b k end (h .each) co (star-ends h) ec
+
+      star-low : b + 1 ≤ 256
+      star-low = omega (arith, fork-low (lazyOf (h .of)) co (bodyPlaces (h .of) (b + 1) b) (subst (Fitting T b w k) star-split (h .fits)))
+
+      pub star-choose : Choosing T b w lazy co k
+      star-choose =
+          choose (h .of) (h .reluctant) co (λ v. bodyPlaces (h .of) v b) (turnPlaces n m (h .of) b k) star-split
+          (rw ec (low-pick (eqb (b + 1) end) b (b + 1) (omega (arith, star-low)) star-low)) (h .fits)
+
+      module _ (T1 : List ℕ) (r : ℕ) (d : Emitted T T1 b w r (choicePlaces lazy co k)) where
+        star-bodying : Bodying s i T1 (b + 1) r b
+        star-bodying =
+            let f = chosen (h .of) (h .reluctant) co (λ v. bodyPlaces (h .of) v b) (turnPlaces n m (h .of) b k) star-split
+            (h .fits) T1 r d in
+            record {
+              of = h .of;
+              top = h .top;
+              fits = record {
+                long = f .long;
+                small = f .small;
+                place = f .place;
+                way = f .way;
+                behind = omega
+                    (arith, star-low);
+              };
+            }
+
+        pub star-body : (u : ℕ) → roundM s i n m ≡ u → (bodyM s i < u) × Bodying s i T1 (b + 1) r b
+        unfolding roundM bodyM
+        star-body u eu = (omega arith, star-bodying)
+
+        pub star-done : (T2 : List ℕ) (q : ℕ) → ((g : Bodying s i T1 (b + 1) r b) → Emitted T1 T2 (b + 1) r q (bodyPlaces (g .of) (b + 1) b))
+            → Emitted T T2 b w q (turnPlaces n m (h .of) b k)
+        unfolding star-bodying
+        star-done T2 q g =
+            chosen-done (h .of) (h .reluctant) co (λ v. bodyPlaces (h .of) v b) (turnPlaces n m (h .of) b k) star-split T1
+            T2 r q d (g star-bodying)
+
+  -- a fork and a copy, and then fewer
+  module _ (l : n ≤ 0) (e0 : m ≡ 0 → ⊥) (e100 : m ≡ 100 → ⊥) where
+    suc-more : (h : Turning s i c lazy n m end T b w k) → (m ≡ suc (m - 1)) × (m - 1 < 99)
+    suc-more h = (omega (arith, e0), omega (arith, e0, e100, h .few .1))
+
+    all-options : (h : Turning s i c lazy n m end T b w k) → turnPlaces n m (h .of) b k ≡ turnPlaces 0 (suc (m - 1)) (h .of) b k
+    all-options h = ap (λ (v : ℕ). turnPlaces v m (h .of) b k) (let z : n ≡ 0 = omega arith in z) ∙ ap (λ (v : ℕ). turnPlaces 0 v (h .of) b k) (suc-more h .0)
+
+    option-ends : (h : Turning s i c lazy n m end T b w k) → end ≡ b + size (turns 0 (suc (m - 1)) (lazyOf (h .of)) (unrolled (body (h .of))))
+    option-ends h =
+        h .ends ∙ ap (λ (v : ℕ). b + size (turns v m (lazyOf (h .of)) (unrolled (body (h .of))))) (let z : n ≡ 0 = omega arith in z)
+        ∙ ap (λ (v : ℕ). b + size (turns 0 v (lazyOf (h .of)) (unrolled (body (h .of))))) (suc-more h .0)
+
+    module _ (co : ℕ) (ec : co ≡ pick (eqb (b + 1) end) k (b + 1)) (h : Turning s i c lazy n m end T b w k) where
+      -- the copy and the rest, from the place v on
+      behindFork : ℕ → ℕ → List Place
+      behindFork nx v = bodyPlaces (h .of) v nx ++ turnPlaces 0 (m - 1) (h .of) (v + c) k
+
+      option-split : (nx : ℕ) → nx ≡ pick (eqb (b + 1 + c) end) k (b + 1 + c)
+          → turnPlaces n m (h .of) b k ≡ choicePlaces (lazyOf (h .of)) co k ++ behindFork nx (b + 1)
+      unfolding behindFork
+      option-split nx ex = all-options h ∙ turn-option (h .of) c b k end (h .each) (m - 1) co nx (suc-more h .1) (option-ends h) ec ex
+
+      option-lengths : (nx : ℕ) → nx ≡ pick (eqb (b + 1 + c) end) k (b + 1 + c)
+          → length (turnPlaces n m (h .of) b k) ≡ 1 + (c + length (turnPlaces 0 (m - 1) (h .of) (b + 1 + c) k))
+      unfolding behindFork
+      option-lengths nx ex =
+          ap length (option-split nx ex) ∙ length-append (choicePlaces (lazyOf (h .of)) co k) (behindFork nx (b + 1))
+          ∙ ap (λ (v : ℕ). 1 + v) (length-append (bodyPlaces (h .of) (b + 1) nx) (turnPlaces 0 (m - 1) (h .of) (b + 1 + c) k)
+          ∙ ap (λ (v : ℕ). v + length (turnPlaces 0 (m - 1) (h .of) (b + 1 + c) k)) (body-places h (b + 1) nx))
+
+      option-low : b + 1 + c ≤ 256
+      unfolding behindFork
+      option-low =
+          let nx : ℕ = pick (eqb (b + 1 + c) end) k (b + 1 + c) in
+          let f = fork-low (lazyOf (h .of)) co (behindFork nx (b + 1)) (subst (Fitting T b w k) (option-split nx refl) (h .fits)) in
+          omega (arith, f, length-append (bodyPlaces (h .of) (b + 1) nx) (turnPlaces 0 (m - 1) (h .of) (b + 1 + c) k), body-places h (b + 1) nx)
+
+      pub option-choose : Choosing T b w lazy co k
+      option-choose =
+          choose (h .of) (h .reluctant) co (behindFork (pick (eqb (b + 1 + c) end) k (b + 1 + c)))
+          (turnPlaces n m (h .of) b k) (option-split _ refl)
+          (rw ec (low-pick (eqb (b + 1) end) k (b + 1) (h .fits .behind) (omega (arith, option-low)))) (h .fits)
+
+      module _ (T1 : List ℕ) (r : ℕ) (d : Emitted T T1 b w r (choicePlaces lazy co k)) (nx : ℕ) (ex : nx ≡ pick (eqb (b + 1 + c) end) k (b + 1 + c))
+        where
+          inside-fits : Fitting T1 (b + 1) r k (bodyPlaces (h .of) (b + 1) nx ++ turnPlaces 0 (m - 1) (h .of) (b + 1 + c) k)
+          unfolding behindFork
+          inside-fits = chosen (h .of) (h .reluctant) co (behindFork nx) (turnPlaces n m (h .of) b k) (option-split nx ex) (h .fits)
+              T1 r d
+
+          option-long : b + 1 + c ≡ b + 1 + length (bodyPlaces (h .of) (b + 1) nx)
+          option-long = ap (λ (v : ℕ). b + 1 + v) (sym (body-places h (b + 1) nx))
+
+          option-bodying : Bodying s i T1 (b + 1) r nx
+          option-bodying =
+              record {
+                of = h .of;
+                top = h .top;
+                fits = fit-left T1 (b + 1) r k (bodyPlaces (h .of) (b + 1) nx) (turnPlaces 0 (m - 1) (h .of) (b + 1 + c) k) nx
+                    (rw ex (low-pick (eqb (b + 1 + c) end) k (b + 1 + c) (h .fits .behind) option-low)) inside-fits;
+              }
+
+          pub option-body : (u : ℕ) → roundM s i n m ≡ u → (bodyM s i < u) × Bodying s i T1 (b + 1) r nx
+          unfolding roundM bodyM
+          option-body u eu = (omega arith, option-bodying)
+
+          module _ (T2 : List ℕ) (q : ℕ) (g : (t : Bodying s i T1 (b + 1) r nx) → Emitted T1 T2 (b + 1) r q (bodyPlaces (t .of) (b + 1) nx)) where
+            option-put : Emitted T1 T2 (b + 1) r q (bodyPlaces (h .of) (b + 1) nx)
+            unfolding option-bodying
+            option-put = g option-bodying
+
+            option-turning : Turning s i c lazy 0 (m - 1) end T2 (b + 1 + c) q k
+            option-turning =
+                let f = part-right T1 (b + 1) r k (bodyPlaces (h .of) (b + 1) nx ++ turnPlaces 0 (m - 1) (h .of) (b + 1 + c) k) (bodyPlaces (h .of) (b + 1) nx)
+                (λ v. turnPlaces 0 (m - 1) (h .of) v k) (b + 1 + c) refl option-long T2 q option-put inside-fits in
+                let l1 = turn-length n m (h .of) b k in
+                let l2 = turn-length 0 (m - 1) (h .of) (b + 1 + c) k in
+                let l3 = option-lengths nx ex in
+                record {
+                  of = h .of;
+                  top = h .top;
+                  each = h .each;
+                  reluctant = h .reluctant;
+                  ends = omega (arith, h .ends, body-places h (b + 1) nx);
+                  few = (omega arith, omega (arith, h .few .1));
+                  fits = f;
+                }
+
+            pub option-again : (u : ℕ) → roundM s i n m ≡ u → (roundM s i 0 (m - 1) < u) × Turning s i c lazy 0 (m - 1) end T2 (b + 1 + c) q k
+            unfolding roundM
+            option-again u eu = (omega (arith, suc-more h .0), option-turning)
+
+            pub option-done : (T3 : List ℕ) (z : ℕ) → ((t : Turning s i c lazy 0 (m - 1) end T2 (b + 1 + c) q k) → Emitted T2 T3 (b + 1 + c) q z (turnPlaces 0 (m - 1) (t .of) (b + 1 + c) k))
+                → Emitted T T3 b w z (turnPlaces n m (h .of) b k)
+            unfolding option-turning behindFork
+            option-done T3 z t =
+                chosen-done (h .of) (h .reluctant) co (behindFork nx) (turnPlaces n m (h .of) b k) (option-split nx ex) T1 T3 r z d
+                (part-both T1 (b + 1) r k (bodyPlaces (h .of) (b + 1) nx ++ turnPlaces 0 (m - 1) (h .of) (b + 1 + c) k) (bodyPlaces (h .of) (b + 1) nx)
+                (λ v. turnPlaces 0 (m - 1) (h .of) v k) (b + 1 + c) refl option-long T2 q option-put T3 z (t option-turning))
+
+    pub option-more : Turning s i c lazy n m end T b w k → Fits-in w64 (b + 1 + c)
+    option-more h = record { fits = omega (arith, option-low _ refl h) }
+
+-- ---- body
+
+pub body-in : (s : List ℕ) (i : ℕ) (T : List ℕ) (b w k : ℕ) → Bodying s i T b w k → 8 * i + 8 ≤ length s
+body-in s i T b w k h = at-in s i (record { tree = one (last (h .of)); is = h .top })
+
+-- the one place of a letter or an anchor
+simple-put : (T T1 : List ℕ) (b w r : ℕ) (p : Place) (v k : ℕ) → wayCount p ≡ 0 → putPlace T b w p ≡ putWords T b v k 0 0
+    → (r ≡ w) × (T1 ≡ putWords T b v k 0 0) → Emitted T T1 b w r (p ∷ [])
+unfolding putPlaces waysIn
+simple-put T T1 b w r p v k ew ep d = record { is = d .1 ∙ sym ep; way = omega (arith, d .0) }
+
+module _ (s : List ℕ) (i : ℕ) (n : Node) (en : n ≡ nodeAt s i) (T : List ℕ) (b w k : ℕ) where
+  one-fits : (p : Place) → Fitting T b w k (p ∷ []) → (v : ℕ) → v < 65536 → Wording T b v k 0 0
+  one-fits p f v l =
+      record {
+        long = omega (arith, f .place, f .long);
+        code-fits = l;
+        first-fits = omega (arith, f .behind);
+        later-fits = omega arith;
+        count-fits = omega arith;
+      }
+
+  module _ (a : ℕ) (e : n .sort ≡ Letter a) (h : Bodying s i T b w k) (v : ℕ) (ev : (v ≡ letterCode a) × (v < 65536)) where
+    is-letter : bodyPlaces (h .of) b k ≡ pLetter a k ∷ []
+    unfolding unrolled code thinned thinPlace
+    is-letter =
+        ap (λ (x : Tree primary). thinned (code (unrolled x) b k))
+        (as-letter s i n en (OnFactor (λ G. body G ≡ letter a)) a e (λ G q j. j) (one (last (h .of))) (h .top))
+
+    pub letter-words : Wording T b v k 0 0
+    letter-words = one-fits (pLetter a k) (subst (Fitting T b w k) is-letter (h .fits)) v (ev .1)
+
+    pub letter-done : (T1 : List ℕ) (r : ℕ) → (r ≡ w) × (T1 ≡ putWords T b v k 0 0) → Emitted T T1 b w r (bodyPlaces (h .of) b k)
+    unfolding putPlace wayCount
+    letter-done T1 r d =
+        subst (Emitted T T1 b w r) (sym is-letter)
+        (simple-put T T1 b w r (pLetter a k) v k refl (sym (ap (λ (x : ℕ). putWords T b x k 0 0) (ev .0))) d)
+
+  module _ (a : ℕ) (e : n .sort ≡ Anchor a) (h : Bodying s i T b w k) (v : ℕ) (ev : (v ≡ anchorCode a) × (v < 65536)) where
+    abbrev AnchorIs : Tree factor → Type 0
+    AnchorIs G = IsAnchor (body G) a
+
+    which : IsAnchor (body (h .of)) a
+    which = as-anchor s i n en (OnFactor AnchorIs) a e (λ G q j. j) (one (last (h .of))) (h .top)
+
+    record AnchorPlace : Type 0 where
+      place : Place
+      is : bodyPlaces (h .of) b k ≡ place ∷ []
+      words : putPlace T b w place ≡ putWords T b v k 0 0
+      ways : wayCount place ≡ 0
+
+    anchor-place : AnchorPlace
+    unfolding unrolled code thinned thinPlace putPlace wayCount
+    anchor-place = go which
+      where
+        go : IsAnchor (body (h .of)) a → AnchorPlace
+        go (inl j) =
+            record {
+              place = pCaret k;
+              is = ap (λ (x : Tree primary). thinned (code (unrolled x) b k)) (j .0);
+              words = sym (ap (λ (x : ℕ). putWords T b x k 0 0) (ev .0 ∙ ap anchorCode (j .1)));
+              ways = refl;
+            }
+        go (inr j) =
+            record {
+              place = pDollar k;
+              is = ap (λ (x : Tree primary). thinned (code (unrolled x) b k)) (j .0);
+              words = sym (ap (λ (x : ℕ). putWords T b x k 0 0) (ev .0 ∙ ap anchorCode (j .1)));
+              ways = refl;
+            }
+
+    pub anchor-words : Wording T b v k 0 0
+    anchor-words = one-fits (anchor-place .place) (subst (Fitting T b w k) (anchor-place .is) (h .fits)) v (ev .1)
+
+    pub anchor-done : (T1 : List ℕ) (r : ℕ) → (r ≡ w) × (T1 ≡ putWords T b v k 0 0) → Emitted T T1 b w r (bodyPlaces (h .of) b k)
+    anchor-done T1 r d =
+        subst (Emitted T T1 b w r) (sym (anchor-place .is))
+        (simple-put T T1 b w r (anchor-place .place) v k (anchor-place .ways) (anchor-place .words) d)
+
+  pub empty-done : n .sort ≡ Empty → (h : Bodying s i T b w k) → Emitted T T b w w (bodyPlaces (h .of) b k)
+  unfolding unrolled code thinned
+  empty-done e h =
+      subst (Emitted T T b w w)
+      (sym (ap (λ (x : Tree primary). thinned (code (unrolled x) b k)) (as-empty s i n en (OnFactor (λ G. body G ≡ empty)) e (λ G q j. j) (one (last (h .of)))
+      (h .top)))) (emitted-none T b w)
+
+  pub sequence-done : n .sort ≡ Sequence → (h : Bodying s i T b w k) → Emitted T T b w w (bodyPlaces (h .of) b k)
+  sequence-done e h = absurd (as-seq s i n en (OnFactor (λ G. ⊥)) e (λ f b q. tt) (one (last (h .of))) (h .top))
+
+  pub alternation-done : n .sort ≡ Alternation → (h : Bodying s i T b w k) → Emitted T T b w w (bodyPlaces (h .of) b k)
+  alternation-done e h = absurd (as-alt s i n en (OnFactor (λ G. ⊥)) e (λ b p q. tt) (one (last (h .of))) (h .top))
+
+  module _ (e : n .sort ≡ Group) (h : Bodying s i T b w k) where
+    inner : (p : Tree pattern) × GroupAt s n (h .of) p
+    inner = as-group s i n en (OnFactor (λ G. (p : Tree pattern) × GroupAt s n G p)) e (λ G q p g. (p, g)) (one (last (h .of))) (h .top)
+
+    is-group : bodyPlaces (h .of) b k ≡ treePlaces (inner .0) b k
+    unfolding unrolled unroll
+    is-group = ap (λ (x : Tree primary). thinned (code (unrolled x) b k)) (inner .1 .is)
+
+    group-emitting : Emitting s (n .left) T b w k
+    group-emitting = record { tree = inner .0; top = inner .1 .inside; fits = subst (Fitting T b w k) is-group (h .fits) }
+
+    pub group-first : (u : ℕ) → bodyM s i ≡ u → (emitM s (n .left) < u) × Emitting s (n .left) T b w k
+    unfolding emitM bodyM
+    group-first u eu = (
+      omega (arith, (group-left s i n en ((nodeAt s i) .height) refl (record { tree = one (last (h .of)); is = h .top }) e) .0, alt-small ((nodeAt s (n .left)) .sort)),
+      group-emitting,
+    )
+
+    pub group-done : (T2 : List ℕ) (q : ℕ) → ((g : Emitting s (n .left) T b w k) → Emitted T T2 b w q (treePlaces (g .tree) b k))
+        → Emitted T T2 b w q (bodyPlaces (h .of) b k)
+    unfolding group-emitting
+    group-done T2 q g = subst (Emitted T T2 b w q) (sym is-group) (g group-emitting)

@@ -1,0 +1,3 @@
+pub mod CodeLaws
+pub mod EmitLaws
+pub mod LoopLaws

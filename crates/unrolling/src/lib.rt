@@ -1,0 +1,199 @@
+// A tree unrolled into places of the table, in the layout of crates/table. Parts of a sequence,
+// branches and rounds are walked over by loops; a pair of parentheses is a call, whose node is lower,
+// so calls nest as deep as parentheses do. Weakness: a factor's body is unrolled once for each of its
+// copies.
+use forks::branch_fork;
+use forks::fork;
+use nodes::Sort;
+use nodes::node_at;
+use nodes::places_at;
+use nodes::sort_at;
+use place_codes::anchor_code;
+use place_codes::letter_code;
+use place_codes::start_at;
+use place_codes::turns_behind;
+use place_words::put_place;
+ghost use Rattle.trees.specs.Held.{At};
+ghost use Rattle.place_words.specs.Words.{Emitted};
+ghost use Rattle.forks.specs.Emitting.{treePlaces, branchPlaces, bodyPlaces, turnPlaces};
+ghost use Rattle.forks.specs.Emitting.{Emitting, Branching, Bodying, Turning, WholeSize, BodySize};
+
+// A factor in its rounds: its node, the places of its body, whether it is reluctant, the number behind
+// its last place, and the place behind it.
+struct Factor {
+    node: usize,
+    body: usize,
+    lazy: bool,
+    end: usize,
+    behind: usize,
+}
+
+// The places of the pattern at i, its fork included.
+fn whole_size(room: &[u16], i: usize) -> usize
+    requires { ⌜ At (now room) i ⌝ }
+    ensures { λ r. ⌜ WholeSize (now (room .entry)) i r ⌝ }
+{
+    let c = places_at(room, i);
+    let sort = sort_at(room, i);
+    if let Sort::Alternation = sort {
+        return c + 1;
+    }
+    c
+}
+
+// The places of the body of the factor at i.
+fn body_size(room: &[u16], i: usize) -> usize
+    requires { ⌜ At (now room) i ⌝ }
+    ensures { λ r. ⌜ BodySize (now (room .entry)) i r ⌝ }
+{
+    let n = node_at(room, i);
+    let sort = n.sort;
+    let left = n.left;
+    match sort {
+        Sort::Letter(_) => 1,
+        Sort::Anchor(_) => 1,
+        Sort::Empty => 0,
+        Sort::Sequence => 0,
+        Sort::Alternation => 0,
+        Sort::Group => whole_size(room, left),
+    }
+}
+
+// The tree at i, its places numbered from b on and their ways from word w on, where k is the place
+// behind it. The parts of a sequence are walked over by a loop, as are branches and rounds below: only
+// parentheses take stack.
+pub fn emit(room: &[u16], i: usize, table: &mut [u16], b: usize, w: usize, k: usize) -> usize
+    requires { ⌜ Emitting (now room) i (now table) b w k ⌝ }
+    ensures { λ r. ⌜ ((h : Emitting (now (room .entry)) i (now (table .entry)) b w k) → Emitted (now (table .entry)) (now (table .exit)) b w r (treePlaces (h .tree) b k)) ⌝ }
+{
+    let mut node = i;
+    let mut from = b;
+    let mut way = w;
+    loop {
+        let n = node_at(room, node);
+        let sort = n.sort;
+        let left = n.left;
+        let right = n.right;
+        let end = from + n.places;
+        if let Sort::Alternation = sort {
+            let inside = branch_fork(room, node, table, from, way, k);
+            return branches(room, node, table, from + 1, inside, k);
+        }
+        if end == from {
+            return way;
+        }
+        let Sort::Sequence = sort else {
+            let c = body_size(room, node);
+            let low = n.low;
+            let m = turns_behind(low, n.high);
+            let f = Factor {
+                node,
+                body: c,
+                lazy: n.lazy,
+                end,
+                behind: k,
+            };
+            return rounds(room, f, low, m, table, from, way);
+        };
+        let mid = from + places_at(room, left);
+        let next = start_at(mid, end, k);
+        way = emit(room, left, table, from, way, next);
+        from = mid;
+        node = right;
+    }
+}
+
+// The branches of the pattern at i; the fork of an alternation is there already.
+fn branches(room: &[u16], i: usize, table: &mut [u16], b: usize, w: usize, k: usize) -> usize
+    requires { ⌜ Branching (now room) i (now table) b w k ⌝ }
+    ensures { λ r. ⌜ ((h : Branching (now (room .entry)) i (now (table .entry)) b w k) → Emitted (now (table .entry)) (now (table .exit)) b w r (branchPlaces (h .tree) b k)) ⌝ }
+{
+    let mut node = i;
+    let mut from = b;
+    let mut way = w;
+    loop {
+        let n = node_at(room, node);
+        let sort = n.sort;
+        let left = n.left;
+        let right = n.right;
+        if n.places == 0 {
+            return way;
+        }
+        let Sort::Alternation = sort else {
+            return emit(room, node, table, from, way, k);
+        };
+        way = emit(room, left, table, from, way, k);
+        let after = from + places_at(room, left);
+        from = after;
+        node = right;
+    }
+}
+
+// The rounds of a factor: n copies of its body, then m times a fork and a copy, or for m = 100 a fork
+// and a copy that leads back to it.
+fn rounds(
+    room: &[u16],
+    f: Factor,
+    n: usize,
+    m: usize,
+    table: &mut [u16],
+    b: usize,
+    w: usize,
+) -> usize
+    requires { ⌜ Turning (now room) (f .node) (f .body) (f .lazy) n m (f .end) (now table) b w (f .behind) ⌝ }
+    ensures { λ r. ⌜ ((h : Turning (now (room .entry)) (f .node) (f .body) (f .lazy) n m (f .end) (now (table .entry)) b w (f .behind)) → Emitted (now (table .entry)) (now (table .exit)) b w r (turnPlaces n m (h .of) b (f .behind))) ⌝ }
+{
+    let i = f.node;
+    let c = f.body;
+    let lazy = f.lazy;
+    let end = f.end;
+    let k = f.behind;
+    let mut copies = n;
+    let mut forks = m;
+    let mut from = b;
+    let mut way = w;
+    loop {
+        if 0 < copies {
+            let rest = from + c;
+            let next = start_at(rest, end, k);
+            way = body(room, i, table, from, way, next);
+            from = rest;
+            copies = copies - 1;
+            continue;
+        }
+        if forks == 0 {
+            return way;
+        }
+        let first = from + 1;
+        if forks == 100 {
+            let copy = start_at(first, end, from);
+            let inside = fork(table, from, way, lazy, copy, k);
+            return body(room, i, table, first, inside, from);
+        }
+        let copy = start_at(first, end, k);
+        let inside = fork(table, from, way, lazy, copy, k);
+        let rest = first + c;
+        let next = start_at(rest, end, k);
+        way = body(room, i, table, first, inside, next);
+        from = rest;
+        forks = forks - 1;
+    }
+}
+
+// The body of the factor at i, once.
+fn body(room: &[u16], i: usize, table: &mut [u16], b: usize, w: usize, k: usize) -> usize
+    requires { ⌜ Bodying (now room) i (now table) b w k ⌝ }
+    ensures { λ r. ⌜ ((h : Bodying (now (room .entry)) i (now (table .entry)) b w k) → Emitted (now (table .entry)) (now (table .exit)) b w r (bodyPlaces (h .of) b k)) ⌝ }
+{
+    let n = node_at(room, i);
+    let sort = n.sort;
+    let left = n.left;
+    match sort {
+        Sort::Letter(c) => put_place(table, b, w, letter_code(c), k),
+        Sort::Anchor(c) => put_place(table, b, w, anchor_code(c), k),
+        Sort::Empty => w,
+        Sort::Sequence => w,
+        Sort::Alternation => w,
+        Sort::Group => emit(room, left, table, b, w, k),
+    }
+}
