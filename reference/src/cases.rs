@@ -3,17 +3,18 @@
 //! checker as well. Every lent buffer is filled with 7 before the call.
 
 use crate::generate::draft::{Input, SMALL};
-use crate::generate::{mix, stdin, texts, Random};
+use crate::generate::{allowances, mix, stdin, texts, Random};
 use crate::{pattern, program, search};
 
 /// A search: what goes in, and the result and all four buffers afterwards.
 pub struct SearchCase {
     pub query: Vec<u8>,
     pub rows: Vec<i32>,
+    pub allowance: Option<u64>,
     /// Lengths of notes, trail, numbers and labels.
     pub lengths: [usize; 4],
     pub answer: u64,
-    /// Matches, labels and steps.
+    /// Matches, labels, steps and offset.
     pub counts: [u64; 4],
     pub notes: Vec<u8>,
     pub trail: Vec<u32>,
@@ -37,31 +38,39 @@ pub struct ProgramCase {
 }
 
 pub fn search_case(random: &mut Random, number: usize) -> SearchCase {
-    let Input {
-        query,
-        rows,
-        notes,
-        trail,
-        numbers,
-        labels,
-    } = mix::input(random, &SMALL, number);
-    let lengths = [notes, trail, numbers, labels];
-    let mut notes = vec![7; notes];
-    let mut trail = vec![7; trail];
-    let mut numbers = vec![7; numbers];
-    let mut labels = vec![7; labels];
-    let outcome = search::search(
-        &query,
-        &rows,
-        &mut notes,
-        &mut trail,
-        &mut numbers,
-        &mut labels,
+    searched(mix::input(random, &SMALL, number))
+}
+
+/// A search with a match that is stopped halfway, one entry before its end, or not
+/// at all by an allowance of exactly its steps: in turn by the number.
+pub fn within_case(random: &mut Random, number: usize) -> SearchCase {
+    loop {
+        let input = mix::lively(random, &SMALL).finish();
+        let steps = allowances::steps_of(&input);
+        let whole = searched(input.within(steps));
+        if whole.counts[0] > 0 && steps > 4 {
+            let allowance = [steps / 2, steps - 1, steps][number % 3];
+            return searched(input.within(allowance));
+        }
+    }
+}
+
+fn searched(input: Input) -> SearchCase {
+    let mut notes = vec![7; input.notes];
+    let mut trail = vec![7; input.trail];
+    let mut numbers = vec![7; input.numbers];
+    let mut labels = vec![7; input.labels];
+    let outcome = search::search_within(
+        &input.query,
+        &input.rows,
+        input.allowance,
+        (&mut notes, &mut trail, &mut numbers, &mut labels),
     );
     SearchCase {
-        query,
-        rows,
-        lengths,
+        lengths: [input.notes, input.trail, input.numbers, input.labels],
+        query: input.query,
+        rows: input.rows,
+        allowance: input.allowance,
         answer: outcome.answer.into(),
         counts: [
             outcome.matches,

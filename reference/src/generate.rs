@@ -1,9 +1,11 @@
 //! Inputs for comparing programs: made by a deterministic generator from a seed,
 //! or listed in full. Accepted queries of all shapes, damaged ones for each
 //! answer of the table in document 01 and for pairs of answers, texts that go
-//! wrong at each byte, inputs at the limits, and rooms of every critical length.
+//! wrong at each byte, inputs at the limits, rooms of every critical length, and
+//! allowances that end at every sort of event.
 //! The right results are not stored here: `search` and `program` give them.
 
+pub mod allowances;
 pub mod beginnings;
 pub mod damage;
 pub mod draft;

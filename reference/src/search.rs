@@ -2,7 +2,8 @@
 //! in the four lent buffers afterwards; once with the counted walk and once with
 //! plain backtracking. From document 01, "Places and preferment" (starts) and
 //! "Report" (matches, measures, working room, table of answers); and from
-//! document 02, R-2 (starts at a labelled row, answer 15, the bound of steps).
+//! document 02, R-2 (starts at a labelled row, answer 15, the bound of steps) and
+//! R-13 (an allowance of steps, answer 16).
 
 use crate::letters::Held;
 use crate::pattern::{self, Pattern};
@@ -17,10 +18,12 @@ pub const DONE: u8 = 0;
 pub const STOPPED: u8 = 13;
 /// The last match written has no labelled row behind its first to go on at.
 pub const STUCK: u8 = 15;
+/// A further entry would pass the allowance.
+pub const SPENT: u8 = 16;
 
 /// Whether a search with this answer was walked; all others are refused.
 pub fn was_walked(answer: u8) -> bool {
-    matches!(answer, DONE | STOPPED | STUCK)
+    matches!(answer, DONE | STOPPED | STUCK | SPENT)
 }
 
 #[derive(Clone, Copy, Debug, PartialEq, Eq)]
@@ -130,6 +133,9 @@ pub fn working_room(places: usize, n: usize) -> (usize, usize) {
     (pairs.div_ceil(8), pairs)
 }
 
+/// The four lent buffers: notes, trail, numbers and labels.
+pub type Buffers<'a> = (&'a mut [u8], &'a mut [u32], &'a mut [i64], &'a mut [u8]);
+
 /// The search by the counted walk.
 pub fn search(
     query: &[u8],
@@ -139,26 +145,25 @@ pub fn search(
     numbers: &mut [i64],
     labels: &mut [u8],
 ) -> Outcome {
-    search_watched(query, rows, notes, trail, numbers, labels, &mut |_| {})
+    search_within(query, rows, None, (notes, trail, numbers, labels))
 }
 
-/// The same, showing every path found to a watcher: that of a match which does
-/// not fit as well.
+/// The search within an allowance of steps; None is the search without one.
+pub fn search_within(query: &[u8], rows: &[i32], allowance: Option<u64>, lent: Buffers) -> Outcome {
+    search_watched(query, rows, allowance, lent, &mut |_| {})
+}
+
+/// The same, showing every attempt to a watcher: that whose match does not fit and
+/// the unfinished one as well.
 pub fn search_watched(
     query: &[u8],
     rows: &[i32],
-    notes: &mut [u8],
-    trail: &mut [u32],
-    numbers: &mut [i64],
-    labels: &mut [u8],
-    watch: &mut dyn FnMut(&[Pair]),
+    allowance: Option<u64>,
+    lent: Buffers,
+    watch: &mut dyn FnMut(&Attempt),
 ) -> Outcome {
-    let lent = (notes, trail, numbers, labels);
-    search_by_rule(query, rows, lent, next_start, watch)
+    search_by_rule(query, rows, allowance, lent, next_start, watch)
 }
-
-/// The four lent buffers: notes, trail, numbers and labels.
-pub type Buffers<'a> = (&'a mut [u8], &'a mut [u32], &'a mut [i64], &'a mut [u8]);
 
 /// Where the search goes on after the match that has these labels from this start
 /// on; None if it cannot.
@@ -169,21 +174,20 @@ pub type Rule = fn(skip: Skip, start: usize, labels: &[u8]) -> Option<usize>;
 pub fn search_by_rule(
     query: &[u8],
     rows: &[i32],
+    allowance: Option<u64>,
     (notes, trail, numbers, labels): Buffers,
     rule: Rule,
-    watch: &mut dyn FnMut(&[Pair]),
+    watch: &mut dyn FnMut(&Attempt),
 ) -> Outcome {
     let accepted = match accept_with_room(query, rows, notes.len(), trail.len()) {
         Ok(accepted) => accepted,
         Err(answer) => return Outcome::refused(query, answer),
     };
-    let mut walk = Counted::new(accepted.ground());
+    let mut walk = Counted::new(accepted.ground(), allowance);
     let mut report = Report::new(numbers, labels);
     let mut attempt = |start| {
         let attempt = walk.attempt(start);
-        if let Attempt::Match(path) = &attempt {
-            watch(path);
-        }
+        watch(&attempt);
         attempt
     };
     let answer = take_starts(&accepted, rows, rule, &mut attempt, &mut report)
@@ -199,8 +203,8 @@ pub fn search_by_rule(
 }
 
 /// The search by plain backtracking. It has no use for notes and trail but for
-/// their lengths. None if it took more steps than allowed, so that its result
-/// is not known; what the report then holds is of no use.
+/// their lengths, and no allowance. None if it lost its patience, so that its result
+/// is not known; what the report then holds are the first of its matches.
 pub fn search_plain(
     query: &[u8],
     rows: &[i32],
@@ -208,13 +212,13 @@ pub fn search_plain(
     trail: &[u32],
     numbers: &mut [i64],
     labels: &mut [u8],
-    allowance: u64,
+    patience: u64,
 ) -> Option<Outcome> {
     let accepted = match accept_with_room(query, rows, notes.len(), trail.len()) {
         Ok(accepted) => accepted,
         Err(answer) => return Some(Outcome::refused(query, answer)),
     };
-    let mut walk = Plain::new(accepted.ground(), allowance);
+    let mut walk = Plain::new(accepted.ground(), patience);
     let mut report = Report::new(numbers, labels);
     let answer = take_starts(
         &accepted,
@@ -245,8 +249,8 @@ fn accept_with_room(
 }
 
 /// Makes the attempts start by start and writes their matches, until all is
-/// done, a match does not fit, or there is no row to go on at behind one that is
-/// written. None if an attempt gave up.
+/// done, a match does not fit, there is no row to go on at behind one that is
+/// written, or an attempt stays unfinished. None if one gave up.
 fn take_starts(
     accepted: &Accepted,
     rows: &[i32],
@@ -258,6 +262,7 @@ fn take_starts(
     while start < accepted.n() {
         let next = match attempt(start) {
             Attempt::GaveUp => return None,
+            Attempt::Unfinished(_) => return Some(SPENT),
             Attempt::NoMatch => Some(start + 1),
             Attempt::Match(path) => {
                 let labels = labels_on(&accepted.places, &path);

@@ -1,6 +1,7 @@
 //! The two walks over pairs of place and position: the counted walk, which
 //! keeps failed pairs and counts its entries through one whole search, and plain
-//! backtracking, which keeps none. From document 01, "Places and preferment".
+//! backtracking, which keeps none. From document 01, "Places and preferment"; the
+//! allowance, which binds the counted walk alone, from document 02, R-13.
 //! Neither calls itself, since a path may be a million pairs long; and the two
 //! keep their books differently, so that one can witness for the other.
 
@@ -13,11 +14,15 @@ pub struct Pair {
     pub position: usize,
 }
 
-/// What an attempt comes to; only plain backtracking gives up.
+/// What an attempt comes to.
 #[derive(Clone, Debug, PartialEq, Eq)]
 pub enum Attempt {
     Match(Vec<Pair>),
     NoMatch,
+    /// The counted walk stopped just before an entry that would pass its allowance;
+    /// with the pairs still open, from the start on, each having led to the next.
+    Unfinished(Vec<Pair>),
+    /// Plain backtracking lost its patience.
     GaveUp,
 }
 
@@ -73,19 +78,22 @@ struct Entered {
     turns: usize,
 }
 
-/// The counted walk: one for a whole search.
+/// The counted walk: one for a whole search. Its steps never pass the allowance, if
+/// it has one.
 pub struct Counted<'a> {
     ground: Ground<'a>,
     failed: Vec<bool>,
     steps: u64,
+    allowance: Option<u64>,
 }
 
 impl<'a> Counted<'a> {
-    pub fn new(ground: Ground<'a>) -> Counted<'a> {
+    pub fn new(ground: Ground<'a>, allowance: Option<u64>) -> Counted<'a> {
         Counted {
             ground,
             failed: vec![false; ground.pairs()],
             steps: 0,
+            allowance,
         }
     }
 
@@ -99,23 +107,24 @@ impl<'a> Counted<'a> {
     }
 
     /// The pairs entered and undecided stand one upon another, each led to by
-    /// the one below; when END is on top they are the path.
+    /// the one below; when END is on top they are the path, and when the walk stops
+    /// they are the open pairs.
     pub fn attempt(&mut self, start: usize) -> Attempt {
         let mut path = Vec::new();
         let first = Pair {
             place: 0,
             position: start,
         };
-        self.try_pair(first, &mut path);
-        while let Some(top) = path.last_mut() {
+        let mut allowed = self.try_pair(first, &mut path);
+        while let (true, Some(top)) = (allowed, path.last_mut()) {
             let pair = top.pair;
             if self.ground.is_end(pair) {
-                return Attempt::Match(path.iter().map(|entered| entered.pair).collect());
+                return Attempt::Match(pairs_of(&path));
             }
             match self.ground.tried(pair, top.turns) {
                 Some(next) => {
                     top.turns += 1;
-                    self.try_pair(next, &mut path);
+                    allowed = self.try_pair(next, &mut path);
                 }
                 None => {
                     self.failed[self.ground.number(pair)] = true;
@@ -123,31 +132,46 @@ impl<'a> Counted<'a> {
                 }
             }
         }
-        Attempt::NoMatch
+        match allowed {
+            true => Attempt::NoMatch,
+            false => Attempt::Unfinished(pairs_of(&path)),
+        }
     }
 
-    /// A pair that has failed is not entered again; any other is, for one step.
-    fn try_pair(&mut self, pair: Pair, path: &mut Vec<Entered>) {
-        if !self.failed[self.ground.number(pair)] {
-            self.steps += 1;
-            path.push(Entered { pair, turns: 0 });
+    /// A pair that has failed is not entered again, whatever is left of the
+    /// allowance; any other is, for one step. False if that step would pass the
+    /// allowance: then nothing is entered or counted.
+    fn try_pair(&mut self, pair: Pair, path: &mut Vec<Entered>) -> bool {
+        if self.failed[self.ground.number(pair)] {
+            return true;
         }
+        if self.allowance == Some(self.steps) {
+            return false;
+        }
+        self.steps += 1;
+        path.push(Entered { pair, turns: 0 });
+        true
     }
 }
 
-/// Plain backtracking: every pair tried is entered. It may take exponentially
-/// many steps, so it gives up when it has taken more than its allowance.
+fn pairs_of(path: &[Entered]) -> Vec<Pair> {
+    path.iter().map(|entered| entered.pair).collect()
+}
+
+/// Plain backtracking: every pair tried is entered. It has no allowance; but it may
+/// take exponentially many steps, so it gives up when it has taken as many as its
+/// patience lasts for and would take another.
 pub struct Plain<'a> {
     ground: Ground<'a>,
-    allowance: u64,
+    patience: u64,
     steps: u64,
 }
 
 impl<'a> Plain<'a> {
-    pub fn new(ground: Ground<'a>, allowance: u64) -> Plain<'a> {
+    pub fn new(ground: Ground<'a>, patience: u64) -> Plain<'a> {
         Plain {
             ground,
-            allowance,
+            patience,
             steps: 0,
         }
     }
@@ -169,7 +193,7 @@ impl<'a> Plain<'a> {
         let mut waiting = vec![(first, 0)];
         let mut path: Vec<Pair> = Vec::new();
         while let Some((pair, depth)) = waiting.pop() {
-            if self.steps == self.allowance {
+            if self.steps == self.patience {
                 return Attempt::GaveUp;
             }
             self.steps += 1;

@@ -145,6 +145,7 @@ fn w1_with_measures_in_bytes() {
         trail: 31,
         numbers: 9,
         labels: 5,
+        allowance: None,
     });
     let outcome = Outcome {
         answer: 0,

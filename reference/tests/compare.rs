@@ -137,8 +137,8 @@ fn check_report_room(called: &Called, accepted: &Accepted) {
 }
 
 /// Plain backtracking agrees, if it comes to an end.
-fn check_plain(input: &Input, called: &Called, allowance: u64) -> bool {
-    let Some((outcome, numbers, labels)) = call_plain(input, allowance) else {
+fn check_plain(input: &Input, called: &Called, patience: u64) -> bool {
+    let Some((outcome, numbers, labels)) = call_plain(input, patience) else {
         return false;
     };
     let counts = |it: search::Outcome| (it.answer, it.matches, it.labels);
@@ -362,7 +362,7 @@ impl Tree<'_> {
 /// earlier starts, by calls, by the tree, by plain backtracking and by sets.
 fn compare_attempts(accepted: &Accepted) {
     let ground = accepted.ground();
-    let mut counted = Counted::new(ground);
+    let mut counted = Counted::new(ground, None);
     let mut calls = Calls {
         ground,
         failed: vec![false; ground.pairs()],
@@ -398,6 +398,7 @@ fn compare_attempts(accepted: &Accepted) {
             Attempt::GaveUp => continue,
             Attempt::Match(path) => Some(path),
             Attempt::NoMatch => None,
+            Attempt::Unfinished(_) => panic!("plain backtracking has no allowance"),
         };
         assert_eq!(path, plain);
     }

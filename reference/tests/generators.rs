@@ -4,6 +4,8 @@
 mod common;
 
 use common::*;
+use reference::cases;
+use reference::generate::allowances::{self, Point, POINTS};
 use reference::generate::damage::{damage, damage_twice};
 use reference::generate::draft::{self, Draft, Numbers, MIDDLE, SMALL};
 use reference::generate::scramble::{every_byte, scrambled};
@@ -11,7 +13,7 @@ use reference::generate::{beginnings, limits, mix, stdin, texts, Random};
 use reference::pattern;
 use reference::program::program;
 use reference::query::{Skip, SKIP};
-use reference::search::{self, STUCK};
+use reference::search::{self, DONE, SPENT, STOPPED, STUCK};
 use std::collections::BTreeSet;
 
 #[test]
@@ -351,5 +353,123 @@ fn texts_deep_and_long() {
     }
     for answer in [0, 4, 5, 6, 7, 14] {
         assert!(answers.iter().all(|by| by[answer] > 3), "{answers:?}");
+    }
+}
+
+/// How many pairs are noted as failed; the spare bits are 0.
+fn noted(called: &Called, pairs: usize) -> u32 {
+    let notes = &called.notes[..pairs.div_ceil(8)];
+    notes.iter().map(|byte| byte.count_ones()).sum()
+}
+
+/// Each point is what it is said to be, as the runs before, at and behind it show.
+#[test]
+fn allowances_at_points() {
+    let mut random = Random::new(16);
+    let mut seen = BTreeSet::new();
+    for number in 0..2_000 {
+        let input = mix::input(&mut random, &SMALL, number);
+        let Some(log) = allowances::log_of(&input) else {
+            continue;
+        };
+        let (_, places, n) = search::room(&input.query, &input.rows);
+        let run = |allowance| call(&input.within(allowance));
+        let noted = |called: &Called| noted(called, places * (n + 1));
+        for (point, at) in allowances::points(&log) {
+            seen.insert(point);
+            let (called, before) = (run(at), run(at.saturating_sub(1)));
+            assert!(at <= log.steps());
+            match point {
+                Point::BeforeAttempt => {
+                    assert_eq!((called.outcome.answer, called.open), (SPENT, vec![]));
+                }
+                Point::InFirstEntry => assert_eq!(before.open, []),
+                Point::BeforeEnd => {
+                    let (found, next) = (called.pairs_on_paths, run(at + 1).pairs_on_paths);
+                    assert_eq!(next, found + called.open.len() as u64 + 1);
+                }
+                Point::AtEnd => {
+                    assert_eq!(called.outcome.matches, before.outcome.matches + 1);
+                }
+                Point::AtUnfit => {
+                    assert_eq!(before.outcome.answer, SPENT);
+                    assert_eq!(called.outcome.answer, STOPPED);
+                }
+                Point::AtFailure => assert!(noted(&called) > noted(&before)),
+                Point::BesideFailed => assert!(noted(&called) > 0),
+                Point::BesideAttempt => assert_eq!(called.open, []),
+            }
+        }
+    }
+    assert_eq!(seen, BTreeSet::from(POINTS));
+}
+
+/// The choices of allowances hold what they are said to hold.
+#[test]
+fn chosen_allowances() {
+    let mut random = Random::new(17);
+    let mut ends = [0; 17];
+    for number in 0..1_000 {
+        let input = mix::input(&mut random, &SMALL, number);
+        let steps = allowances::steps_of(&input);
+        let every = allowances::every(&mut random, &input);
+        assert!((0..=steps + 1).all(|allowance| every.contains(&allowance)));
+        let telling = allowances::telling(&mut random, &input);
+        let some = allowances::some(&mut random, &input);
+        let extremes = [0, steps.saturating_sub(1), steps, steps + 1, u64::MAX];
+        for chosen in [&every, &telling, &some] {
+            assert!(extremes.iter().all(|extreme| chosen.contains(extreme)));
+            // Enough for the search, but its low 31 bits are at most the steps.
+            let wide = |&allowance: &u64| allowance > steps + 1 && allowance << 33 >> 33 <= steps;
+            assert!(chosen.iter().any(wide), "{chosen:?}");
+        }
+        let points = allowances::log_of(&input).map_or(vec![], |log| allowances::points(&log));
+        for sort in POINTS {
+            let mut of_sort = points.iter().filter(|point| point.0 == sort).peekable();
+            let none = of_sort.peek().is_none();
+            assert!(none || of_sort.any(|point| telling.contains(&point.1)));
+        }
+        for allowance in every {
+            let outcome = call(&input.within(allowance)).outcome;
+            ends[usize::from(outcome.answer)] += 1;
+        }
+    }
+    for answer in [DONE, STOPPED, STUCK, SPENT] {
+        assert!(ends[usize::from(answer)] > 200, "{ends:?}");
+    }
+}
+
+/// In many searches 13 or 15 comes with the last step, and 16 with one less.
+#[test]
+fn other_stops_compete_with_the_allowance() {
+    let mut random = Random::new(18);
+    let mut competing = [0; 17];
+    for _ in 0..300 {
+        let draft = mix::jumping(&mut random, &SMALL);
+        for input in draft.with_critical_rooms() {
+            let steps = allowances::steps_of(&input);
+            if steps > 0 {
+                let answer = |allowance| call(&input.within(allowance)).outcome.answer;
+                assert_eq!(answer(steps - 1), SPENT);
+                competing[usize::from(answer(steps))] += 1;
+            }
+        }
+    }
+    for answer in [DONE, STOPPED, STUCK] {
+        assert!(competing[usize::from(answer)] > 300, "{competing:?}");
+    }
+}
+
+/// Cases for the checker: stopped halfway, just before the end, and not at all.
+#[test]
+fn cases_within_an_allowance() {
+    let mut random = Random::new(19);
+    for number in 0..60 {
+        let case = cases::within_case(&mut random, number);
+        let [matches, _, steps, _] = case.counts;
+        let spent = case.answer == u64::from(SPENT);
+        assert_eq!(spent, number % 3 < 2);
+        assert_eq!(case.allowance, Some(steps));
+        assert!(spent || matches > 0);
     }
 }

@@ -20,6 +20,18 @@ pub struct Input {
     pub trail: usize,
     pub numbers: usize,
     pub labels: usize,
+    /// Without one it is the search that takes none.
+    pub allowance: Option<u64>,
+}
+
+impl Input {
+    /// The same search within an allowance.
+    pub fn within(&self, allowance: u64) -> Input {
+        Input {
+            allowance: Some(allowance),
+            ..self.clone()
+        }
+    }
 }
 
 /// The largest that a random draft may be.
@@ -291,6 +303,7 @@ impl Draft {
             trail,
             numbers,
             labels,
+            allowance: None,
         }
     }
 }

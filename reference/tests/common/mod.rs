@@ -5,7 +5,7 @@
 
 use reference::generate::draft::{with_number, Draft, Input};
 use reference::search::{self, Outcome};
-use reference::walk::Pair;
+use reference::walk::{Attempt, Pair};
 
 /// What every index of a buffer holds before a call.
 pub const FILL: u8 = 7;
@@ -19,22 +19,28 @@ pub struct Called {
     pub numbers: Vec<i64>,
     pub labels: Vec<u8>,
     pub pairs_on_paths: u64,
+    /// Those of an unfinished attempt.
+    pub open: Vec<Pair>,
 }
 
+/// Within the input's allowance, if it has one.
 pub fn call(input: &Input) -> Called {
     let mut notes = vec![FILL; input.notes];
     let mut trail = vec![u32::from(FILL); input.trail];
     let mut numbers = vec![i64::from(FILL); input.numbers];
     let mut labels = vec![FILL; input.labels];
     let mut pairs_on_paths = 0;
+    let mut open = Vec::new();
     let outcome = search::search_watched(
         &input.query,
         &input.rows,
-        &mut notes,
-        &mut trail,
-        &mut numbers,
-        &mut labels,
-        &mut |path: &[Pair]| pairs_on_paths += path.len() as u64,
+        input.allowance,
+        (&mut notes, &mut trail, &mut numbers, &mut labels),
+        &mut |attempt| match attempt {
+            Attempt::Match(path) => pairs_on_paths += path.len() as u64,
+            Attempt::Unfinished(left) => open = left.clone(),
+            Attempt::NoMatch | Attempt::GaveUp => {}
+        },
     );
     Called {
         outcome,
@@ -43,11 +49,12 @@ pub fn call(input: &Input) -> Called {
         numbers,
         labels,
         pairs_on_paths,
+        open,
     }
 }
 
-/// The same by plain backtracking: outcome, numbers, labels.
-pub fn call_plain(input: &Input, allowance: u64) -> Option<(Outcome, Vec<i64>, Vec<u8>)> {
+/// The same by plain backtracking, which has no allowance: outcome, numbers, labels.
+pub fn call_plain(input: &Input, patience: u64) -> Option<(Outcome, Vec<i64>, Vec<u8>)> {
     let mut numbers = vec![i64::from(FILL); input.numbers];
     let mut labels = vec![FILL; input.labels];
     let outcome = search::search_plain(
@@ -57,7 +64,7 @@ pub fn call_plain(input: &Input, allowance: u64) -> Option<(Outcome, Vec<i64>, V
         &vec![u32::from(FILL); input.trail],
         &mut numbers,
         &mut labels,
-        allowance,
+        patience,
     )?;
     Some((outcome, numbers, labels))
 }

@@ -1,6 +1,6 @@
-//! One comparison: an input, which of the two calls is made with it, and the
-//! seed of the noise. The product and the reference are lent the same, and what
-//! they return and leave has to be the same in every item.
+//! One comparison: an input, whether it is searched, within its allowance if it has
+//! one, or judged for room, and the seed of the noise. The product and the reference
+//! are lent the same, and what they return and leave has to be the same in every item.
 
 use crate::engine::{Engine, Five, Reference};
 use crate::lent::Lent;

@@ -3,7 +3,7 @@
 //! at another row after a match, or by changing what it returns or leaves. Each has
 //! to be found and shrunk.
 
-use crate::engine::{Engine, Five};
+use crate::engine::{five, Engine, Five};
 use crate::lent::{Guarded, Lent};
 use reference::generate::Random;
 use reference::pattern;
@@ -113,9 +113,9 @@ impl Search<'_> {
         self.returned[0] == u64::from(answer)
     }
 
-    /// Done, stopped or stuck.
+    /// Not refused.
     fn ended(&self) -> bool {
-        self.is(DONE) || self.is(STOPPED) || self.is(STUCK)
+        search::was_walked(self.returned[0] as u8)
     }
 
     /// The letter that the modes 2 and 3 go on at, where the search ended.
@@ -129,21 +129,10 @@ impl Search<'_> {
             return;
         }
         *self.lent = self.before.clone();
-        let buffers = (
-            self.lent.notes.items_mut(),
-            self.lent.trail.items_mut(),
-            self.lent.numbers.items_mut(),
-            self.lent.labels.items_mut(),
-        );
-        let (query, rows) = (self.before.query.items(), self.before.rows.items());
-        let outcome = search::search_by_rule(query, rows, buffers, rule, &mut |_| {});
-        *self.returned = [
-            outcome.answer.into(),
-            outcome.matches,
-            outcome.labels,
-            outcome.steps,
-            outcome.offset,
-        ];
+        let allowance = self.lent.allowance;
+        let (query, rows, buffers) = self.lent.parts();
+        let outcome = search::search_by_rule(query, rows, allowance, buffers, rule, &mut |_| {});
+        *self.returned = five(outcome);
     }
 
     /// Whether the match that did not fit would have ended the search all the same.

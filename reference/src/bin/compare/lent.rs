@@ -1,9 +1,10 @@
 //! What a call is lent: query, rows and the four buffers, each between two guard
-//! zones. Zones and buffers are filled with noise beforehand, so that a byte
-//! left unwritten, written though it should not be, or read outside of what was
-//! lent makes a difference.
+//! zones; and the allowance it is made with. Zones and buffers are filled with noise
+//! beforehand, so that a byte left unwritten, written though it should not be, or read
+//! outside of what was lent makes a difference.
 
 use reference::generate::{Input, Random};
+use reference::search::Buffers;
 use std::fmt::Debug;
 
 /// What can be noise.
@@ -95,7 +96,7 @@ impl<T: Noise> Guarded<T> {
     }
 }
 
-/// All that one call is lent.
+/// All that one call is lent, and its allowance, if it is made with one.
 #[derive(Clone, PartialEq)]
 pub struct Lent {
     pub query: Guarded<u8>,
@@ -104,6 +105,7 @@ pub struct Lent {
     pub trail: Guarded<u32>,
     pub numbers: Guarded<i64>,
     pub labels: Guarded<u8>,
+    pub allowance: Option<u64>,
 }
 
 impl Lent {
@@ -116,7 +118,19 @@ impl Lent {
             trail: Guarded::new(random, input.trail),
             numbers: Guarded::new(random, input.numbers),
             labels: Guarded::new(random, input.labels),
+            allowance: input.allowance,
         }
+    }
+
+    /// Query, rows and the four buffers, to be searched.
+    pub fn parts(&mut self) -> (&[u8], &[i32], Buffers<'_>) {
+        let buffers = (
+            self.notes.items_mut(),
+            self.trail.items_mut(),
+            self.numbers.items_mut(),
+            self.labels.items_mut(),
+        );
+        (self.query.items(), self.rows.items(), buffers)
     }
 
     /// What differs after a call of the reference from what the product left.

@@ -18,12 +18,13 @@
 //! process, --show tells the case.
 
 mod case;
-#[cfg_attr(any(test, not(mireladle)), allow(dead_code))]
 mod engine;
 mod every;
 mod faults;
 #[cfg_attr(any(test, not(mireladle)), allow(dead_code))]
 mod lent;
+#[cfg(all(mireladle, not(test)))]
+mod product;
 mod program;
 mod readable;
 mod shrink;
@@ -109,7 +110,7 @@ fn watch() {
 
 #[cfg(all(mireladle, not(test)))]
 fn product() -> Option<Box<dyn Engine>> {
-    Some(Box::new(engine::Product))
+    Some(Box::new(product::Product))
 }
 
 #[cfg(any(test, not(mireladle)))]

@@ -30,9 +30,10 @@ pub fn difference(product: &dyn Engine, case: &Case) -> String {
 /// The case alone.
 pub fn describe(case: &Case) -> String {
     let input = &case.input;
-    let call = match case.call {
-        Call::Search => "mireladle_search",
-        Call::Room => "mireladle_room",
+    let call = match (case.call, input.allowance) {
+        (Call::Search, None) => "mireladle_search".to_string(),
+        (Call::Search, Some(most)) => format!("mireladle_search_within, allowance {most}"),
+        (Call::Room, _) => "mireladle_room".to_string(),
     };
     let mut text = format!("  {call}, noise {}\n", case.noise);
     for line in query_lines(&input.query) {

@@ -1,10 +1,11 @@
 //! Making a case on which the two differ smaller, as long as they still differ
 //! on it in some way: fewer rows and columns, fewer records and comparisons, a
-//! shorter pattern, smaller numbers, smaller buffers. Greedy, so the result is
-//! small and not the smallest.
+//! shorter pattern, smaller numbers, smaller buffers, a smaller allowance or none.
+//! Greedy, so the result is small and not the smallest.
 
 use crate::case::Case;
 use crate::engine::Engine;
+use reference::generate::allowances;
 use reference::query::{COMPARISON_BYTES, DEFINE, MEASURE, SKIP, TEXT};
 use std::time::{Duration, Instant};
 
@@ -39,10 +40,12 @@ impl Shrinking<'_> {
         let bodies = self.shorter_bodies();
         let numbers = self.smaller_numbers();
         let buffers = self.smaller_buffers();
-        rows || columns || records || bodies || numbers || buffers
+        let allowance = self.smaller_allowance();
+        rows || columns || records || bodies || numbers || buffers || allowance
     }
 
-    /// Takes a changed case over if the two still differ on it.
+    /// Takes a changed case over if the two still differ on it; with its allowance, or
+    /// with one that ends as long before the search does as it did.
     fn take(&mut self, change: impl FnOnce(&mut Case)) -> bool {
         let mut changed = self.case.clone();
         change(&mut changed);
@@ -51,11 +54,26 @@ impl Shrinking<'_> {
             return false;
         }
         self.tries += 1;
-        let differs = !changed.agrees(self.product);
-        if differs {
-            self.case = changed;
-        }
-        differs
+        let differs = |case: &Case| !case.agrees(self.product);
+        let later = || self.before_end(&changed).filter(differs);
+        let Some(taken) = Some(changed.clone()).filter(differs).or_else(later) else {
+            return false;
+        };
+        self.case = taken;
+        true
+    }
+
+    /// A changed case with an allowance as far from its last step as the case's own is
+    /// from its; None where that makes no difference, or the search ends by itself.
+    fn before_end(&self, changed: &Case) -> Option<Case> {
+        let own = self.case.input.allowance?;
+        let left = allowances::steps_of(&self.case.input).checked_sub(own)?;
+        let allowance = allowances::steps_of(&changed.input).checked_sub(left)?;
+        let input = changed.input.within(allowance);
+        (changed.input.allowance == Some(own) && allowance != own).then_some(Case {
+            input,
+            ..changed.clone()
+        })
     }
 
     /// Takes out runs of items: long ones first, each half as long as the one
@@ -256,6 +274,22 @@ impl Shrinking<'_> {
                     false => less /= 2,
                 }
             }
+        }
+        any
+    }
+
+    /// None at all, or one that is smaller by as much as may be.
+    fn smaller_allowance(&mut self) -> bool {
+        let mut any = self.take(|case| case.input.allowance = None);
+        while let Some(allowance) = self.case.input.allowance {
+            let smaller = [0, allowance / 2, allowance.saturating_sub(1)];
+            let taken = smaller
+                .into_iter()
+                .any(|smaller| self.take(|case| case.input.allowance = Some(smaller)));
+            if !taken {
+                break;
+            }
+            any = true;
         }
         any
     }

@@ -1,0 +1,114 @@
+//! The product through the C face of its static library, as include/mireladle.h
+//! declares it. Pointers and lengths are those of buffers that live through the call,
+//! and no two of them overlap: that is all the header asks for.
+
+use crate::engine::{Engine, Five};
+use crate::lent::Lent;
+
+/// The five numbers of either result, one behind the other.
+#[repr(C)]
+struct Result(Five);
+
+extern "C" {
+    fn mireladle_search(
+        query: *const u8,
+        query_len: usize,
+        rows: *const i32,
+        rows_len: usize,
+        notes: *mut u8,
+        notes_len: usize,
+        trail: *mut u32,
+        trail_len: usize,
+        numbers: *mut i64,
+        numbers_len: usize,
+        labels: *mut u8,
+        labels_len: usize,
+    ) -> Result;
+
+    fn mireladle_search_within(
+        query: *const u8,
+        query_len: usize,
+        rows: *const i32,
+        rows_len: usize,
+        allowance: u64,
+        notes: *mut u8,
+        notes_len: usize,
+        trail: *mut u32,
+        trail_len: usize,
+        numbers: *mut i64,
+        numbers_len: usize,
+        labels: *mut u8,
+        labels_len: usize,
+    ) -> Result;
+
+    fn mireladle_room(
+        query: *const u8,
+        query_len: usize,
+        rows: *const i32,
+        rows_len: usize,
+    ) -> Result;
+}
+
+pub struct Product;
+
+impl Engine for Product {
+    fn search(&self, lent: &mut Lent) -> Five {
+        match lent.allowance {
+            Some(allowance) => within(lent, allowance),
+            None => search(lent),
+        }
+    }
+
+    fn room(&self, lent: &mut Lent) -> Five {
+        let result = unsafe {
+            mireladle_room(
+                lent.query.pointer(),
+                lent.query.len(),
+                lent.rows.pointer(),
+                lent.rows.len(),
+            )
+        };
+        result.0
+    }
+}
+
+fn search(lent: &mut Lent) -> Five {
+    let result = unsafe {
+        mireladle_search(
+            lent.query.pointer(),
+            lent.query.len(),
+            lent.rows.pointer(),
+            lent.rows.len(),
+            lent.notes.pointer(),
+            lent.notes.len(),
+            lent.trail.pointer(),
+            lent.trail.len(),
+            lent.numbers.pointer(),
+            lent.numbers.len(),
+            lent.labels.pointer(),
+            lent.labels.len(),
+        )
+    };
+    result.0
+}
+
+fn within(lent: &mut Lent, allowance: u64) -> Five {
+    let result = unsafe {
+        mireladle_search_within(
+            lent.query.pointer(),
+            lent.query.len(),
+            lent.rows.pointer(),
+            lent.rows.len(),
+            allowance,
+            lent.notes.pointer(),
+            lent.notes.len(),
+            lent.trail.pointer(),
+            lent.trail.len(),
+            lent.numbers.pointer(),
+            lent.numbers.len(),
+            lent.labels.pointer(),
+            lent.labels.len(),
+        )
+    };
+    result.0
+}
