@@ -8,14 +8,12 @@ use super::texts;
 
 /// All of them. Some are large: 1,048,832 pairs, or 8,390,656 labels.
 pub fn all() -> Vec<Draft> {
-    [
-        of_texts(),
-        of_records(),
-        of_offsets(),
-        of_rows(),
-        of_large_searches(),
-    ]
-    .concat()
+    [small(), of_large_searches()].concat()
+}
+
+/// All but the large searches.
+pub fn small() -> Vec<Draft> {
+    [of_texts(), of_records(), of_offsets(), of_rows()].concat()
 }
 
 fn ones(n: usize) -> Vec<i32> {

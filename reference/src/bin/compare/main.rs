@@ -31,6 +31,7 @@ mod shrink;
 mod streams;
 #[cfg(test)]
 mod tests;
+mod within;
 
 use case::{Case, CALLS};
 use engine::Engine;

@@ -1,9 +1,10 @@
 //! The streams of cases: inputs listed in full, random ones and damaged ones,
-//! for the search and for the judgement of room. A stream has a usual length,
-//! which is that of the gate; the random ones can be run with other seeds and
-//! for longer.
+//! for the search and for the judgement of room; those of searches within an
+//! allowance are made in `within`. A stream has a usual length, which is that of the
+//! gate; the random ones can be run with other seeds and for longer.
 
 use crate::case::{Call, Case};
+use crate::within;
 use reference::generate::damage::damage_twice;
 use reference::generate::draft::{
     self, with_column, with_number, Draft, Input, Numbers, Room, LARGE, MIDDLE, SMALL,
@@ -47,7 +48,7 @@ const fn random(
     }
 }
 
-pub const STREAMS: [Stream; 25] = [
+pub const STREAMS: [Stream; 34] = [
     listed(
         "texts",
         "room: every text of up to 5 bytes over two alphabets",
@@ -172,6 +173,56 @@ pub const STREAMS: [Stream; 25] = [
         "room and searches: texts wrong or unfinished, 9 deep, or of 256 and 257 bytes",
         deep_and_long,
     ),
+    listed(
+        "within-small",
+        "every allowance of every pattern of up to 4 or 5 bytes on all rows of 0 and 1, up to 2",
+        within::every_small_input,
+    ),
+    listed(
+        "within-tables",
+        "every allowance of patterns on every truth table of two letters, up to 3 rows",
+        within::every_table,
+    ),
+    listed(
+        "within-labelled",
+        "every allowance of skips to A, B, C and D on every word of labels, up to 3 rows",
+        within::every_word,
+    ),
+    listed(
+        "within-limits",
+        "some allowances of all that document 01 limits",
+        within::at_limits,
+    ),
+    random(
+        "within",
+        "every allowance of inputs of all sorts, up to 6 rows",
+        150_000,
+        within::mixed,
+    ),
+    random(
+        "within-rooms",
+        "allowances at all sorts of points, in report rooms that end at and beside each match",
+        100_000,
+        within::in_rooms,
+    ),
+    random(
+        "within-jumping",
+        "allowances at all sorts of points of searches that go on at a labelled row",
+        20_000,
+        within::jumping,
+    ),
+    random(
+        "within-middle",
+        "allowances at all sorts of points of inputs of all sorts, up to 60 rows",
+        20_000,
+        within::middle,
+    ),
+    random(
+        "within-large",
+        "some allowances of inputs of all sorts, up to 500 rows",
+        600,
+        within::large,
+    ),
 ];
 
 /// Cases of one call, each with a noise of its own.
@@ -184,7 +235,7 @@ fn calls(call: Call, seed: u64, inputs: impl Iterator<Item = Input> + 'static) -
     }))
 }
 
-fn searches(seed: u64, inputs: impl Iterator<Item = Input> + 'static) -> Cases {
+pub fn searches(seed: u64, inputs: impl Iterator<Item = Input> + 'static) -> Cases {
     calls(Call::Search, seed, inputs)
 }
 

@@ -4,10 +4,12 @@
 use super::*;
 use crate::case::Call;
 use crate::engine::Reference;
+use reference::generate::allowances::{self, Point, POINTS};
 use reference::generate::{texts, Random};
 use reference::pattern;
 use reference::query::Skip;
 use reference::search;
+use std::collections::BTreeMap;
 
 #[test]
 fn the_reference_agrees_with_itself() {
@@ -54,6 +56,35 @@ fn the_listed_words_end_in_each_way() {
     // 26 patterns, 8 skips, 341 tables, 85 of them in four more rooms.
     assert_eq!(answers.iter().sum::<usize>(), 26 * 8 * (341 + 4 * 85));
     assert_eq!(ends.map(|at| answers[at]).iter().sum::<usize>(), 141_648);
+}
+
+/// The streams of allowances hold each way to end, and those that take every allowance
+/// or choose them end at each sort of point.
+#[test]
+fn the_allowances_end_in_each_way() {
+    let mut answers = [0; 17];
+    let mut points: BTreeMap<Point, usize> = BTreeMap::new();
+    let within = |stream: &&Stream| stream.name.starts_with("within");
+    for stream in STREAMS.iter().filter(within) {
+        for case in (stream.cases)(9).take(3_000) {
+            assert!(case.input.allowance.is_some());
+            let (returned, _) = case.run(&Reference);
+            answers[returned[0] as usize] += 1;
+            let log = allowances::log_of(&case.input);
+            let found = log.map_or(Vec::new(), |log| allowances::points(&log));
+            for (point, at) in found {
+                let here = case.input.allowance == Some(at);
+                *points.entry(point).or_default() += usize::from(here);
+            }
+        }
+    }
+    // Refusals of all sorts among them.
+    assert!(answers.iter().all(|&count| count > 20), "{answers:?}");
+    for answer in [0, 13, 15, 16] {
+        assert!(answers[answer] > 700, "{answers:?}");
+    }
+    let often = |point| points.get(point).is_some_and(|&count| count > 150);
+    assert!(POINTS.iter().all(often), "{points:?}");
 }
 
 #[test]
