@@ -1,11 +1,15 @@
 //! Deliberate faults, to prove that the comparison finds such ones: an engine
 //! that does one thing wrong, by reading another query than it was lent, by going on
-//! at another row after a match, or by changing what it returns or leaves. Each has
-//! to be found and shrunk.
+//! at another row after a match, by stopping elsewhere, or by changing what it returns
+//! or leaves. Each has to be found and shrunk. Those of searches within an allowance
+//! stand in `allowance`.
+
+mod allowance;
 
 use crate::engine::{five, Engine, Five};
 use crate::lent::{Guarded, Lent};
 use reference::generate::Random;
+use reference::log::Event;
 use reference::pattern;
 use reference::query::{
     self, Skip, COMPARISON_BYTES, DEFINE, FIRST, MEASURE, MIN, MOST_TEXT, PAST_LAST_ROW, SHAPE,
@@ -26,6 +30,11 @@ enum Wrong {
     /// Goes on at another row after a match, in the modes 2 and 3. What the engine
     /// did is put away then, and the reference searches by this rule.
     GoesOn(Rule),
+    /// Searches within another allowance than it was given, though it never tells more
+    /// steps than that.
+    Allows(fn(&Lent) -> Option<u64>),
+    /// Stops with 16, once the allowance is used up, before an event of this sort too.
+    Stops(fn(&Event) -> bool),
     /// Ends a search in another way.
     Ends(fn(&mut Search)),
     /// Judges room in another way.
@@ -52,7 +61,7 @@ pub struct Faulty<'a> {
 impl Engine for Faulty<'_> {
     fn search(&self, lent: &mut Lent) -> Five {
         let before = lent.clone();
-        let mut returned = self.called(lent, |lent| self.engine.search(lent));
+        let mut returned = self.called(lent, |lent| self.allowed(lent));
         let mut search = Search {
             accepted: search::accept(before.query.items(), before.rows.items()).ok(),
             before: &before,
@@ -62,6 +71,7 @@ impl Engine for Faulty<'_> {
         match self.fault.wrong {
             Wrong::Ends(wrong) => wrong(&mut search),
             Wrong::GoesOn(rule) => search.go_on_by(rule),
+            Wrong::Stops(wrong) => search.stop_before(wrong),
             _ => {}
         }
         self.told(&mut returned, &before);
@@ -93,6 +103,21 @@ impl Faulty<'_> {
         let returned = call(lent);
         lent.query = query;
         lent.rows = rows;
+        returned
+    }
+}
+
+impl Faulty<'_> {
+    /// A search within what the engine takes for its allowance.
+    fn allowed(&self, lent: &mut Lent) -> Five {
+        let Wrong::Allows(wrong) = self.fault.wrong else {
+            return self.engine.search(lent);
+        };
+        let given = lent.allowance;
+        lent.allowance = wrong(lent);
+        let mut returned = self.engine.search(lent);
+        lent.allowance = given;
+        returned[3] = returned[3].min(given.unwrap_or(u64::MAX));
         returned
     }
 }
@@ -243,7 +268,11 @@ const fn tells(name: &'static str, about: &'static str, wrong: fn(&mut Five, &[u
     }
 }
 
-pub const FAULTS: [Fault; 90] = [
+pub fn all() -> impl Iterator<Item = &'static Fault> {
+    FAULTS.iter().chain(&allowance::FAULTS)
+}
+
+static FAULTS: [Fault; 90] = [
     ends("label", "the last label is another letter", |search| {
         if let Some(last) = (search.returned[2] as usize).checked_sub(1) {
             search.lent.labels.items_mut()[last] ^= 1;

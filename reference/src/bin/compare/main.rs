@@ -35,7 +35,7 @@ mod within;
 
 use case::{Case, CALLS};
 use engine::Engine;
-use faults::{Fault, Faulty, FAULTS};
+use faults::{Fault, Faulty};
 use std::path::Path;
 use std::process::ExitCode;
 use std::sync::atomic::Ordering;
@@ -243,8 +243,8 @@ impl Run<'_> {
     /// Puts the faults of these names, or all, on the product; each that is found
     /// is passed. False if a name is unknown.
     fn faults(&mut self, names: &[&str], print: bool) -> bool {
-        let known = |name: &&str| FAULTS.iter().any(|fault| fault.name == *name);
-        for fault in &FAULTS {
+        let known = |name: &&str| faults::all().any(|fault| fault.name == *name);
+        for fault in faults::all() {
             if names.is_empty() || names.contains(&fault.name) {
                 self.fault(fault, print);
             }
@@ -309,7 +309,7 @@ fn list() {
     for stream in &STREAMS {
         println!("stream {}: {}", stream.name, stream.about);
     }
-    for fault in &FAULTS {
+    for fault in faults::all() {
         println!("fault {}: {}", fault.name, fault.about);
     }
 }

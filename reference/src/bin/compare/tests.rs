@@ -89,7 +89,7 @@ fn the_allowances_end_in_each_way() {
 
 #[test]
 fn each_fault_is_found_and_shrunk() {
-    for fault in &FAULTS {
+    for fault in faults::all() {
         let faulty = Faulty {
             engine: &Reference,
             fault,
@@ -108,7 +108,7 @@ fn each_fault_is_found_and_shrunk() {
 
 #[test]
 fn a_large_case_becomes_small() {
-    let fault = FAULTS.iter().find(|fault| fault.name == "greedy");
+    let fault = faults::all().find(|fault| fault.name == "greedy");
     let faulty = Faulty {
         engine: &Reference,
         fault: fault.expect("a fault of that name"),
@@ -136,7 +136,7 @@ fn a_large_case_becomes_small() {
 #[test]
 fn streams_are_named_once() {
     let mut names: Vec<&str> = STREAMS.iter().map(|stream| stream.name).collect();
-    names.extend(FAULTS.iter().map(|fault| fault.name));
+    names.extend(faults::all().map(|fault| fault.name));
     names.sort_unstable();
     let count = names.len();
     names.dedup();
@@ -168,7 +168,7 @@ fn every_text_in_place() {
 
 #[test]
 fn a_fault_is_found_in_place() {
-    let fault = FAULTS.iter().find(|fault| fault.name == "offset-far");
+    let fault = faults::all().find(|fault| fault.name == "offset-far");
     let faulty = Faulty {
         engine: &Reference,
         fault: fault.expect("a fault of that name"),
