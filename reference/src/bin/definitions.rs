@@ -1,7 +1,8 @@
 //! Prints cases with the results of the reference as a file of definitions, so
 //! that the product's definitions are run on the same inputs by the proof
 //! checker and compared: `definitions SEED SEARCHES TEXTS PROGRAMS`. Each case
-//! is a statement of its own, so that a difference is named by the checker.
+//! is a statement of its own, so that a difference is named by the checker. A fifth
+//! as many searches are added that are made within an allowance.
 
 use reference::cases;
 use reference::generate::Random;
@@ -14,16 +15,20 @@ use std::process::ExitCode;
 /// slow in the checker.
 const PAIRS: usize = 400;
 
+/// For so many searches one more is made, within an allowance.
+const WITHIN: usize = 5;
+
 const HEAD: &str = "\
 -- Cases made by reference/src/bin/definitions.rs, not kept.
 use mathlib.Core.Bool.{Bool, _&&_}
 use mathlib.Core.List.{List, [], _∷_}
+use mathlib.Core.Option.{some}
 use Prim.Native.Nat.{ℕ}
 use lib.Dec.{eqb, T}
 use lib.IntN.{ℤ, pos, negsuc}
 use lib.ListN.{replicate}
 use Rattle.rules.specs.Reader.{treeOf}
-use Rattle.rules.specs.Answers.{deep, wrong, unfinished, hasEmptyLoop, tooMany, P, firstOf, offsetAt, Buffers, Memory, searchOf}
+use Rattle.rules.specs.Answers.{deep, wrong, unfinished, hasEmptyLoop, tooMany, P, firstOf, offsetAt, Buffers, Memory, searchOf, searchWithin}
 use Rattle.rules.specs.Program.{printed}
 use Rattle.rules.specs.Bench.{same, equalZ}
 
@@ -72,6 +77,9 @@ fn print(seed: u64, searches: usize, texts: usize, programs: usize) -> io::Resul
             program(&mut out, number, &case)?;
         }
     }
+    for number in 0..searches / WITHIN {
+        search(&mut out, number, &cases::within_case(&mut random, number))?;
+    }
     out.flush()
 }
 
@@ -109,22 +117,32 @@ fn signed(items: &[i64]) -> String {
 }
 
 fn search(out: &mut impl Write, number: usize, case: &cases::SearchCase) -> io::Result<()> {
+    let (name, opened, called) = match case.allowance {
+        None => ("search", "searchOf", "searchOf".to_string()),
+        Some(most) => (
+            "within",
+            "searchWithin",
+            format!("searchWithin (some {most})"),
+        ),
+    };
+    let name = format!("{name}{number}");
     let rows: Vec<i64> = case.rows.iter().map(|&entry| entry.into()).collect();
     let [notes, trail, numbers, labels] = case.lengths;
     let [matches, label_count, steps, offset] = case.counts;
-    writeln!(out, "abbrev search{number} : Memory\nunfolding searchOf")?;
+    writeln!(out, "abbrev {name} : Memory\nunfolding {opened}")?;
     let (query, rows) = (list(&case.query), signed(&rows));
     writeln!(
         out,
-        "search{number} = searchOf {query} {rows} (lent {notes} {trail} {numbers} {labels})\n"
+        "{name} = {called} {query} {rows} (lent {notes} {trail} {numbers} {labels})\n"
     )?;
     let result = format!("{} {matches} {label_count} {steps} {offset}", case.answer);
     let (notes, trail) = (list(&case.notes), list(&case.trail));
     let (numbers, labels) = (signed(&case.numbers), list(&case.labels));
-    let agrees = format!("sameResult search{number} {result} && sameBuffers search{number} {notes} {trail} {numbers} {labels}");
+    let buffers = format!("{notes} {trail} {numbers} {labels}");
+    let agrees = format!("sameResult {name} {result} && sameBuffers {name} {buffers}");
     writeln!(
         out,
-        "search{number}-agrees : T ({agrees})\nunfolding searchOf\nsearch{number}-agrees = tt\n"
+        "{name}-agrees : T ({agrees})\nunfolding {opened}\n{name}-agrees = tt\n"
     )
 }
 
