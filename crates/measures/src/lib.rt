@@ -1,142 +1,28 @@
 // A measure of one match: FIRST, LAST, MIN, MAX, SUM and COUNT over the rows with a label.
+use joins::entry_at;
+use joins::take_row;
+use labelled::Found;
+use labelled::count_of;
+use labelled::first_of;
+use labelled::last_of;
 use measure_list::Measure;
-use numbers::long;
 use numbers::wide8;
 ghost use mathlib.Core.Path.{_≡_};
 ghost use mathlib.Core.List.{[]};
 ghost use mathlib.Core.Option.{some};
-ghost use Prim.Native.Nat.{_+_, _≤_, _<_};
-ghost use lib.IntN.{pos, _+ℤ_};
-ghost use lib.Signed.{mag};
-ghost use lib.ListN.{length, drop};
-ghost use Rattle.rules.specs.Basics.{pick};
-ghost use Rattle.rules.specs.Rows.{tableOf, entry};
+ghost use Prim.Native.Nat.{_≤_};
+ghost use lib.IntN.{pos};
+ghost use lib.ListN.{length};
+ghost use Rattle.rules.specs.Rows.{tableOf};
 ghost use Rattle.measure_list.specs.Measures.{measureOf};
-ghost use Rattle.rules.specs.Report.{joined, values, overSome, resultOf, measured, twoOf};
-ghost use Rattle.measures.specs.Measures.{measureBy, numbersFor, isOf, countOf, FirstAt, IsFirst, IsLast, Inside, Readable};
+ghost use Rattle.rules.specs.Report.{values, overSome, resultOf, measured, twoOf};
+ghost use Rattle.measures.specs.Measures.{measureBy, numbersFor, Readable};
+ghost use Rattle.labelled.specs.Labelled.{FirstAt};
 
 // A measure's value.
 pub enum Value {
     Null,
     Number(i64),
-}
-
-// A row of a measure: its index among the labels of the match.
-enum Found {
-    At(usize),
-    Nothing,
-}
-
-// Whether a row with this label is one of the measure's rows.
-fn is_of(letter: u8, label: u8) -> bool
-    ensures { λ r. ⌜ r ≡ isOf letter label ⌝ }
-{
-    if letter == 0 {
-        return true;
-    }
-    label == letter
-}
-
-// 1 where the test is true.
-fn one_if(is: bool) -> usize
-    ensures { λ r. ⌜ (r ≡ pick is 1 0) × (r ≤ 1) ⌝ }
-{
-    if is { 1 } else { 0 }
-}
-
-// The first row of a measure.
-fn first_of(letter: u8, labels: &[u8]) -> Found
-    ensures { λ r. ⌜ IsFirst letter (now (labels .entry)) r ⌝ }
-{
-    let mut i = 0;
-    while i < labels.len() {
-        if is_of(letter, labels[i]) {
-            return Found::At(i);
-        }
-        i += 1;
-    }
-    Found::Nothing
-}
-
-// The last row of a measure, sought from the end.
-fn last_of(letter: u8, labels: &[u8]) -> Found
-    ensures { λ r. ⌜ IsLast letter (now (labels .entry)) r ⌝ }
-{
-    let mut i = labels.len();
-    while 0 < i {
-        i -= 1;
-        if is_of(letter, labels[i]) {
-            return Found::At(i);
-        }
-    }
-    Found::Nothing
-}
-
-// How many rows a measure has from index `at` on.
-fn count_of(letter: u8, labels: &[u8], at: usize) -> usize
-    requires { ⌜ at ≤ length (now labels) ⌝ }
-    ensures { λ r. ⌜ (r ≡ countOf letter (drop at (now (labels .entry)))) × (r ≤ length (now (labels .entry))) ⌝ }
-{
-    if letter == 0 {
-        return labels.len() - at;
-    }
-    let mut count = 0;
-    let mut i = at;
-    while i < labels.len() {
-        count += one_if(is_of(letter, labels[i]));
-        i += 1;
-    }
-    count
-}
-
-// The entry of a row that is there.
-fn entry_at(rows: &[i32], columns: usize, row: usize, column: usize) -> i64
-    requires { ⌜ Inside (now rows) columns row column ⌝ }
-    ensures { λ r. ⌜ (r ≡ entry (tableOf columns (now (rows .entry))) row column) × (mag r < 2147483648) ⌝ }
-{
-    long(rows[row * columns + column])
-}
-
-// The sum of two, exact in 64 bits.
-fn plus(a: i64, b: i64) -> i64
-    requires { ⌜ mag (a +ℤ b) < 9223372036854775808 ⌝ }
-    ensures { λ r. ⌜ r ≡ a +ℤ b ⌝ }
-{
-    a + b
-}
-
-// A value joined to the sum, the lowest or the highest of those before it; 4,096 entries of 32 bits are at most 8,796,093,022,208 together.
-fn join(function: u8, a: i64, b: i64) -> i64
-    requires { ⌜ (2 ≤ function) × (function ≤ 4) × (mag a ≤ 8796093022208) × (mag b < 2147483648) ⌝ }
-    ensures { λ r. ⌜ r ≡ joined function a b ⌝ }
-{
-    if function == Measure::SUM {
-        return plus(a, b);
-    }
-    if function == Measure::MIN {
-        return if b < a { b } else { a };
-    }
-    if a < b { b } else { a }
-}
-
-// A row of the match: its entry is joined if it is one of the measure's rows.
-fn take_row(
-    function: u8,
-    letter: u8,
-    value: i64,
-    label: u8,
-    rows: &[i32],
-    columns: usize,
-    row: usize,
-    column: usize,
-) -> i64
-    requires { ⌜ (2 ≤ function) × (function ≤ 4) × (mag value ≤ 8796093022208) × Inside (now rows) columns row column ⌝ }
-    ensures { λ r. ⌜ (r ≡ pick (isOf letter label) (joined function value (entry (tableOf columns (now (rows .entry))) row column)) value) × (mag r ≤ mag value + 2147483648) ⌝ }
-{
-    if !is_of(letter, label) {
-        return value;
-    }
-    join(function, value, entry_at(rows, columns, row, column))
 }
 
 // SUM, MIN or MAX over the rows of a match, of which `at` is the measure's first: the labels are of the rows from `first` on.

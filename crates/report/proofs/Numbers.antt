@@ -28,7 +28,7 @@ use Rattle.measures.specs.declared.Value.{Value}
 use Rattle.measures.specs.declared.Value.the-variants.{Null, Number}
 use Rattle.measures.specs.Measures.{measureBy, numbersFor, Readable, ThreeBytes, Reportable}
 use Rattle.table.specs.Measures.{measureIn, measuresIn}
-use Rattle.measures.proofs.Joins.{held}
+use Rattle.joins.proofs.Joins.{held}
 
 -- ---- two and three
 

@@ -1,6 +1,6 @@
 -- `measures::as_number` meets its contract by the laws of Joins.
 use native.Mathlib.Omega.{arith}
-use Rattle.measures.proofs.Joins.{pos-held}
+use Rattle.joins.proofs.Joins.{pos-held}
 use borrow.Author.Needs.{needs}
 use Rattle.measures.proofs.as_number.Statement.{statement}
 use Rattle.measures.proofs.as_number.Tie as tie

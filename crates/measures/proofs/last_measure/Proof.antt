@@ -1,7 +1,8 @@
 -- `measures::last_measure` meets its contract by the laws of RowsOf.
 use native.Mathlib.Omega.{arith}
 use borrow.Author.Needs.{needs}
-use Rattle.measures.proofs.RowsOf.{last-null, last-at, last-inside, gives-last, row-inside, row-small}
+use Rattle.measures.proofs.RowsOf.{last-null, gives-last, row-inside, row-small}
+use Rattle.labelled.proofs.Seeking.{last-at, last-inside}
 use Rattle.measures.proofs.last_measure.Statement.{statement}
 use Rattle.measures.proofs.last_measure.Tie as tie
 

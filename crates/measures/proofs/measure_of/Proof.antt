@@ -1,5 +1,6 @@
 -- `measures::measure_of` meets its contract by the laws of RowsOf.
-use Rattle.measures.proofs.RowsOf.{as-last, gives-none, first-at, same-column}
+use Rattle.measures.proofs.RowsOf.{as-last, gives-none, same-column}
+use Rattle.labelled.proofs.Seeking.{first-at}
 use borrow.Author.Needs.{needs}
 use Rattle.measures.proofs.measure_of.Statement.{statement}
 use Rattle.measures.proofs.measure_of.Tie as tie

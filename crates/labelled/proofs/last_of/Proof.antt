@@ -1,10 +1,10 @@
--- `measures::last_of` meets its contract by the laws of RowsOf. The invariant and the measure of its loop come first.
+-- `labelled::last_of` meets its contract by the laws of RowsOf. The invariant and the measure of its loop come first.
 use Prim.Native.Nat.{_<_}
 use native.Mathlib.Omega.{arith}
 use borrow.Author.Needs.{needs}
-use Rattle.measures.proofs.RowsOf.{Backing, back-none, back-on, last-here, last-nowhere}
-use Rattle.measures.proofs.last_of.Statement.{statement}
-use Rattle.measures.proofs.last_of.Tie as tie
+use Rattle.labelled.proofs.Seeking.{Backing, back-none, back-on, last-here, last-nowhere}
+use Rattle.labelled.proofs.last_of.Statement.{statement}
+use Rattle.labelled.proofs.last_of.Tie as tie
 
 abbrev Inv-loop : tie.InvT-loop
 Inv-loop letter labels i₀ i = Backing letter labels i

@@ -1,8 +1,8 @@
--- `measures::is_of` meets its contract by the laws of RowsOf.
+-- `labelled::is_of` meets its contract by the laws of RowsOf.
 use borrow.Author.Needs.{needs}
-use Rattle.measures.proofs.RowsOf.{all-rows, own-rows}
-use Rattle.measures.proofs.is_of.Statement.{statement}
-use Rattle.measures.proofs.is_of.Tie as tie
+use Rattle.labelled.proofs.Seeking.{all-rows, own-rows}
+use Rattle.labelled.proofs.is_of.Statement.{statement}
+use Rattle.labelled.proofs.is_of.Tie as tie
 
 returns : tie.Need-returns
 returns c = search (needs, all-rows)

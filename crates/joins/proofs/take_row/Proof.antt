@@ -1,8 +1,8 @@
--- `measures::take_row` meets its contract by the laws of Joins.
-use Rattle.measures.proofs.Joins.{passed-over, taken}
+-- `joins::take_row` meets its contract by the laws of Joins.
+use Rattle.joins.proofs.Joins.{passed-over, taken}
 use borrow.Author.Needs.{needs}
-use Rattle.measures.proofs.take_row.Statement.{statement}
-use Rattle.measures.proofs.take_row.Tie as tie
+use Rattle.joins.proofs.take_row.Statement.{statement}
+use Rattle.joins.proofs.take_row.Tie as tie
 
 is-of-requires : tie.Need-is-of-requires
 is-of-requires c κs = search needs

@@ -1,8 +1,8 @@
--- `measures::join` meets its contract by the laws of Joins.
+-- `joins::join` meets its contract by the laws of Joins.
 use borrow.Author.Needs.{needs}
-use Rattle.measures.proofs.Joins.{join-fits, join-sum, min-new, min-old, max-new, max-old}
-use Rattle.measures.proofs.join.Statement.{statement}
-use Rattle.measures.proofs.join.Tie as tie
+use Rattle.joins.proofs.Joins.{join-fits, join-sum, min-new, min-old, max-new, max-old}
+use Rattle.joins.proofs.join.Statement.{statement}
+use Rattle.joins.proofs.join.Tie as tie
 
 plus-requires : tie.Need-plus-requires
 plus-requires c κs = search (needs, join-fits)

@@ -1,11 +1,11 @@
--- `measures::count_of` meets its contract by the laws of RowsOf. The invariant and the measure of its loop come first.
+-- `labelled::count_of` meets its contract by the laws of RowsOf. The invariant and the measure of its loop come first.
 use Prim.Native.Nat.{_-_}
 use lib.ListN.{length}
 use native.Mathlib.Omega.{arith}
 use borrow.Author.Needs.{needs}
-use Rattle.measures.proofs.RowsOf.{Counting, count-all, count-none, count-more, count-done}
-use Rattle.measures.proofs.count_of.Statement.{statement}
-use Rattle.measures.proofs.count_of.Tie as tie
+use Rattle.labelled.proofs.Seeking.{Counting, count-all, count-none, count-more, count-done}
+use Rattle.labelled.proofs.count_of.Statement.{statement}
+use Rattle.labelled.proofs.count_of.Tie as tie
 
 abbrev Inv-loop : tie.InvT-loop
 Inv-loop letter labels at count₀ i₀ count i = Counting letter labels at count i

@@ -1,11 +1,11 @@
--- `measures::first_of` meets its contract by the laws of RowsOf. The invariant and the measure of its loop come first.
-use Rattle.measures.proofs.RowsOf.{Seeking, seek-none, seek-on, first-here, first-nowhere}
+-- `labelled::first_of` meets its contract by the laws of RowsOf. The invariant and the measure of its loop come first.
+use Rattle.labelled.proofs.Seeking.{Seeking, seek-none, seek-on, first-here, first-nowhere}
 use Prim.Native.Nat.{_-_}
 use lib.ListN.{length}
 use native.Mathlib.Omega.{arith}
 use borrow.Author.Needs.{needs}
-use Rattle.measures.proofs.first_of.Statement.{statement}
-use Rattle.measures.proofs.first_of.Tie as tie
+use Rattle.labelled.proofs.first_of.Statement.{statement}
+use Rattle.labelled.proofs.first_of.Tie as tie
 
 abbrev Inv-loop : tie.InvT-loop
 Inv-loop letter labels i₀ i = Seeking letter labels i

@@ -1,8 +1,8 @@
--- `measures::entry_at` meets its contract by the laws of Joins.
-use Rattle.measures.proofs.Joins.{entry-is}
+-- `joins::entry_at` meets its contract by the laws of Joins.
+use Rattle.joins.proofs.Joins.{entry-is}
 use borrow.Author.Needs.{needs}
-use Rattle.measures.proofs.entry_at.Statement.{statement}
-use Rattle.measures.proofs.entry_at.Tie as tie
+use Rattle.joins.proofs.entry_at.Statement.{statement}
+use Rattle.joins.proofs.entry_at.Tie as tie
 
 mul-long : tie.Need-mul-long
 mul-long c = search needs
