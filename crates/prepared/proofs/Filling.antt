@@ -10,16 +10,16 @@ use mir.Syntax.{w64}
 use mir.Val.{Fits}
 use lib.Dec.{ltb}
 use lib.ListN.{length, getD}
-use borrow.Author.Tests.{lt-ltb, le-ltb, ltb-true, ltb-false}
-use Rattle.rules.specs.Query.{textOf, parts}
-use Rattle.rules.specs.Language.{Tree, pattern, emptyLoop}
+use borrow.Author.Tests.{ltb-true, ltb-false}
+use Rattle.rules.specs.Query.{textOf}
+use Rattle.rules.specs.Language.{Tree, pattern}
 use Rattle.rules.specs.Places.{placesOf}
 use Rattle.rules.specs.Answers.{treeIn, hasEmptyLoop, P}
 use Rattle.laws.proofs.Bounds.{Lettered, written-letters}
 use Rattle.laws.proofs.Grammar.{tree-exactly}
 use Rattle.laws.proofs.Level.{or-false}
 use Rattle.define_list.specs.Defines.{Body}
-use Rattle.table.specs.Measures.{measureIn, measuresIn}
+use Rattle.table.specs.Measures.{measuresIn}
 use Rattle.measure_list.specs.Measures as M
 use Rattle.measure_list.proofs.Tabling.{measures-kept, measurable-kept, put-measurable}
 use Rattle.tests.specs.Prepared as T
@@ -29,24 +29,9 @@ use Rattle.places.proofs.Spelling.{all-letters}
 use Rattle.reading.specs.Reading.{queryAnswer, Asked}
 use Rattle.reading.specs.declared.Query.{Query}
 use Rattle.prepared.specs.declared.Prepared.{Prepared}
-use Rattle.prepared.specs.Ready.{measuresAt, testsAt, needed, refusal, Ready, Sizing, Fills, PreparedAs}
+use Rattle.table_room.specs.Words.{measuresAt, testsAt, needed, Sizing}
+use Rattle.prepared.specs.Ready.{refusal, Ready, Fills, PreparedAs}
 use Rattle.prepared.proofs.Clear.{clear-query, few-places, no-answer}
-
--- ---- whether there is room
-
-pub too-few : (words k : ℕ) → words < k → true ≡ (ltb words k || ltb 65535 words)
-too-few words k h = rw (lt-ltb words k h)
-
-pub by-longest : (words k : ℕ) → k ≤ words → ltb 65535 words ≡ (ltb words k || ltb 65535 words)
-by-longest words k h = rw (le-ltb words k h)
-
-module _ (s defines : List ℕ) (P letters : ℕ) (h : Sizing s defines P letters) (more : ℕ) (em : (more ≡ T.wordsFor s defines letters) × (more ≤ 910)) (tests : ℕ) (et : tests ≡ testsAt P) where
-  pub words-are : tests + 416 + more ≡ needed s defines P letters
-  unfolding needed
-  words-are = rw (et, em .0)
-
-  pub words-few : tests + 416 + more ≤ 3142
-  words-few = let a = em .1 in let b = h .few in omega arith
 
 -- ---- the table is filled
 

@@ -1,10 +1,10 @@
 -- What a table and the numbers beside it say of a query that is prepared, and what preparing one
 -- asks and promises.
 use mathlib.Core.Path.{_≡_}
-use mathlib.Core.Bool.{Bool, false}
+use mathlib.Core.Bool.{false}
 use mathlib.Core.List.{List}
 use mathlib.Core.Option.{some}
-use Prim.Native.Nat.{ℕ, _+_, _*_, _≤_, _<_}
+use Prim.Native.Nat.{ℕ, _+_, _≤_, _<_}
 use lib.ListN.{length}
 use Rattle.rules.specs.Query.{parts, textOf}
 use Rattle.rules.specs.Language.{Tree, pattern, emptyLoop}
@@ -12,7 +12,6 @@ use Rattle.rules.specs.Places.{places, unroll, placesOf}
 use Rattle.rules.specs.Answers.{treeIn, offsetAt}
 use Rattle.rules.specs.Working.{thinned}
 use Rattle.measure_list.specs.Measures.{Measurable}
-use Rattle.tests.specs.Prepared.{wordsFor, Countable}
 use Rattle.reading.specs.Reading.{queryAnswer, Whole}
 use Rattle.reading.specs.declared.Query.{Query}
 use Rattle.table.specs.Table.{placesIn}
@@ -20,20 +19,7 @@ use Rattle.table.specs.Sized.{Sized}
 use Rattle.table.specs.Tests.{Tests, definedIn, testAt}
 use Rattle.table.specs.Measures.{measuresIn}
 use Rattle.prepared.specs.declared.Prepared.{Prepared}
-
--- ---- the table's layout
-
--- Behind the words of P places and their ways, seven to a place at the most, stand the measures,
--- and behind these the tests of the letters.
-abbrev pub measuresAt : ℕ → ℕ
-measuresAt P = 7 * P
-
-abbrev pub testsAt : ℕ → ℕ
-testsAt P = 7 * P + 24
-
--- how many words a query of P places needs, by its DEFINEs
-unfoldable pub needed : List ℕ → List ℕ → ℕ → ℕ → ℕ
-needed s defines P letters = testsAt P + 416 + wordsFor s defines letters
+use Rattle.table_room.specs.Words.{measuresAt, testsAt, needed}
 
 -- ---- a prepared query
 
@@ -74,11 +60,6 @@ pub record PreparedAs (q T T′ : List ℕ) (p : Prepared) : Type 0 where
   pub len : length T′ ≡ length T
 
 -- ---- the steps of the code
-
--- how many words are needed can be counted
-pub record Sizing (s defines : List ℕ) (P letters : ℕ) : Type 0 where
-  pub few : P ≤ 256
-  pub countable : Countable s defines letters
 
 -- a query that was read and has no answer, and a table with room for it
 pub record Fills (s nodes defines measures : List ℕ) (q : Query) (T : List ℕ) : Type 0 where

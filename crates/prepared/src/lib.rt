@@ -10,14 +10,14 @@ use places::unroll;
 use reading::Query;
 use reading::text_is_short;
 use room::read_query;
+use table_room::MEASURE_WORDS;
+use table_room::PLACE_WORDS;
+use table_room::has_no_room;
+use table_room::words_needed;
 use tests::put_tests;
-use tests::words_for;
 ghost use mathlib.Core.Path.{_≡_};
-ghost use Prim.Native.Nat.{_+_, _*_, _≤_, _<_};
-ghost use lib.Dec.{ltb};
-ghost use mathlib.Core.Bool.{_||_};
 ghost use Rattle.reading.specs.Reading.{Nodes};
-ghost use Rattle.prepared.specs.Ready.{measuresAt, testsAt, refusal, Sizing, needed, Fills, Ready, PreparedAs};
+ghost use Rattle.prepared.specs.Ready.{refusal, Fills, Ready, PreparedAs};
 
 // A prepared query beside its table: its answer, with the offset of 5 and 14; where that is 0, its
 // places, the columns of a row, how many measures it has, the skip mode of its record, and the letter
@@ -40,31 +40,6 @@ pub const NO_ROOM: usize = 255;
 // letters, and 7 comparisons behind the first of each letter.
 pub const MOST_WORDS: usize = 3142;
 
-// A place's words and its ways are at most so many.
-const PLACE_WORDS: usize = 7;
-
-const MEASURE_WORDS: usize = 24;
-
-const LETTER_WORDS: usize = 416;
-
-const LONGEST: usize = 65535;
-
-// Where the measures of a query with so many places begin in its table.
-pub fn measures_at(places: usize) -> usize
-    requires { ⌜ places ≤ 256 ⌝ }
-    ensures { λ r. ⌜ r ≡ measuresAt places ⌝ }
-{
-    PLACE_WORDS * places
-}
-
-// Where the tests of its letters begin.
-pub fn tests_at(places: usize) -> usize
-    requires { ⌜ places ≤ 256 ⌝ }
-    ensures { λ r. ⌜ r ≡ testsAt places ⌝ }
-{
-    PLACE_WORDS * places + MEASURE_WORDS
-}
-
 fn not_prepared(answer: usize, offset: usize) -> Prepared
     ensures { λ r. ⌜ r ≡ refusal answer offset ⌝ }
 {
@@ -77,25 +52,6 @@ fn not_prepared(answer: usize, offset: usize) -> Prepared
         skip: 0,
         target: 0,
     }
-}
-
-// Whether a table of so many words has no room for a query that needs so many.
-fn has_no_room(words: usize, needed: usize) -> bool
-    ensures { λ r. ⌜ r ≡ (ltb words needed || ltb 65535 words) ⌝ }
-{
-    if words < needed {
-        return true;
-    }
-    LONGEST < words
-}
-
-// How many words a query of so many places needs.
-fn words_needed(query: &[u8], defines: &[usize; 26], places: usize, letters: usize) -> usize
-    requires { ⌜ Sizing (now query) (now defines) places letters ⌝ }
-    ensures { λ r. ⌜ (r ≡ needed (now (query .entry)) (now (defines .entry)) places letters) × (r ≤ 3142) ⌝ }
-{
-    let more = words_for(query, defines, letters);
-    tests_at(places) + LETTER_WORDS + more
 }
 
 // The table of a query that has no answer of its own. The places come last, since they leave the

@@ -38,7 +38,8 @@ use Rattle.matches.specs.Found.{Measured, Searches}
 use Rattle.skips.specs.Skips.{skipIn}
 use Rattle.skips.specs.declared.Skip.{Skip}
 use Rattle.matches.specs.declared.Task.{Task}
-use Rattle.prepared.specs.Ready.{Ready, measuresAt, testsAt}
+use Rattle.prepared.specs.Ready.{Ready}
+use Rattle.table_room.specs.Words.{measuresAt, testsAt}
 use Rattle.prepared.specs.declared.Prepared.{Prepared}
 use Rattle.starting.specs.declared.Terms.{Terms}
 use Rattle.starting.specs.Starts.{TaskFor, Fed, Walks}

@@ -7,7 +7,8 @@ use lib.IntN.{ℤ}
 use lib.ListN.{length}
 use Rattle.rules.specs.Walk.{pairs}
 use Rattle.rules.specs.Answers.{Buffers, Memory, taskOf, skipOf, walkWithin, endAnswer, reportOf, accepted}
-use Rattle.prepared.specs.Ready.{Ready, measuresAt, testsAt}
+use Rattle.prepared.specs.Ready.{Ready}
+use Rattle.table_room.specs.Words.{measuresAt, testsAt}
 use Rattle.prepared.specs.declared.Prepared.{Prepared}
 use Rattle.skips.specs.Skips.{skipIn}
 use Rattle.matches.specs.declared.Task.{Task}

@@ -1,8 +1,8 @@
--- `prepared::words_needed` meets its contract by the laws of Filling.
-use Rattle.prepared.proofs.Filling.{words-are, words-few}
+-- `table_room::words_needed` meets its contract by the laws of Counting.
+use Rattle.table_room.proofs.Counting.{words-are, words-few}
 use borrow.Author.Needs.{needs}
-use Rattle.prepared.proofs.words_needed.Statement.{statement}
-use Rattle.prepared.proofs.words_needed.Tie as tie
+use Rattle.table_room.proofs.words_needed.Statement.{statement}
+use Rattle.table_room.proofs.words_needed.Tie as tie
 
 words-for-requires : tie.Need-words-for-requires
 words-for-requires c κs = search needs

@@ -1,8 +1,8 @@
--- `prepared::has_no_room` meets its contract by the laws of Filling.
-use Rattle.prepared.proofs.Filling.{too-few, by-longest}
+-- `table_room::has_no_room` meets its contract by the laws of Counting.
+use Rattle.table_room.proofs.Counting.{too-few, by-longest}
 use borrow.Author.Needs.{needs}
-use Rattle.prepared.proofs.has_no_room.Statement.{statement}
-use Rattle.prepared.proofs.has_no_room.Tie as tie
+use Rattle.table_room.proofs.has_no_room.Statement.{statement}
+use Rattle.table_room.proofs.has_no_room.Tie as tie
 
 returns : tie.Need-returns
 returns c = search (needs, too-few)
