@@ -2,8 +2,8 @@
 use borrow.Author.Needs.{needs}
 use Rattle.rules.specs.Basics.{bytes}
 use Rattle.header.proofs.Lines.{null-room, put-null, result-room, put-some}
-use Rattle.text.proofs.put_result.Statement.{statement}
-use Rattle.text.proofs.put_result.Tie as tie
+use Rattle.lines.proofs.put_result.Statement.{statement}
+use Rattle.lines.proofs.put_result.Tie as tie
 
 size-of-requires : tie.Need-size-of-requires
 size-of-requires c κs = search needs

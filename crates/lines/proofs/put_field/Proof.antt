@@ -1,8 +1,8 @@
 -- `put_field` writes a number and one space.
 use borrow.Author.Needs.{needs}
 use Rattle.header.proofs.Lines.{field-room, field-room-1, put-number}
-use Rattle.text.proofs.put_field.Statement.{statement}
-use Rattle.text.proofs.put_field.Tie as tie
+use Rattle.lines.proofs.put_field.Statement.{statement}
+use Rattle.lines.proofs.put_field.Tie as tie
 
 put-signed-requires : tie.Need-put-signed-requires
 put-signed-requires c κs = search (needs, field-room)

@@ -2,8 +2,8 @@
 use native.Mathlib.Omega.{arith}
 use borrow.Author.Needs.{needs, sfits-of}
 use Rattle.header.proofs.Lines.{line-room, line-room-1, line-room-2, line-room-3, line-room-4, line-room-5, put-one-line}
-use Rattle.text.proofs.put_line.Statement.{statement}
-use Rattle.text.proofs.put_line.Tie as tie
+use Rattle.lines.proofs.put_line.Statement.{statement}
+use Rattle.lines.proofs.put_line.Tie as tie
 
 mul-put-field : tie.Need-mul-put-field
 mul-put-field c = search needs

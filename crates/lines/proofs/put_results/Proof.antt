@@ -2,8 +2,8 @@
 use native.Mathlib.Omega.{arith}
 use borrow.Author.Needs.{needs}
 use Rattle.header.proofs.Lines.{Resulted, results-none, results-all, results-room, results-room-1, results-more}
-use Rattle.text.proofs.put_results.Statement.{statement}
-use Rattle.text.proofs.put_results.Tie as tie
+use Rattle.lines.proofs.put_results.Statement.{statement}
+use Rattle.lines.proofs.put_results.Tie as tie
 
 abbrev Inv-loop : tie.InvT-loop
 Inv-loop out₀ at measures numbers first left₀ i₀ behind₀ out left i behind = Resulted out₀ at measures numbers first out left i behind

@@ -1,8 +1,8 @@
 -- `put_labels` writes the labels, or a `-`.
 use borrow.Author.Needs.{needs}
 use Rattle.header.proofs.Lines.{labels-none-room, put-no-labels, labels-room, put-some-labels}
-use Rattle.text.proofs.put_labels.Statement.{statement}
-use Rattle.text.proofs.put_labels.Tie as tie
+use Rattle.lines.proofs.put_labels.Statement.{statement}
+use Rattle.lines.proofs.put_labels.Tie as tie
 
 put-byte-requires : tie.Need-put-byte-requires
 put-byte-requires c κs = search (needs, labels-none-room)
