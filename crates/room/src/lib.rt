@@ -1,49 +1,16 @@
-// A query read whole: its answer 1 to 9 or 14, with its offset, or 0, the tree of its pattern in lent words, and in lent arrays where the DEFINE of each letter stands in the query
-// and the measures (`read_query`); whether its text is short, by which a caller chooses the words for the tree (`text_is_short`); and how much a caller has
-// to lend for it on some rows (`room`). Comparisons stay in the query's bytes. For all bytes and rows; the promises are equations with document 01's
-// definitions.
-use decode::Parts;
+// A query read whole (`read_query`): its answer 1 to 9 or 14, with its offset, or 0, the tree of its
+// pattern in lent words, and in lent arrays where the DEFINE of each letter stands in the query and the
+// measures; and how much a caller has to lend for it on some rows (`room`). Comparisons stay in the
+// query's bytes. For all bytes and rows; the promises are equations with document 01's definitions.
+use part_answers::judge_parts;
 use reading::Query;
 use reading::Size;
-use reading::has_foreign;
 use reading::no_room;
 use reading::refused;
 use reading::text_is_short;
 ghost use mathlib.Core.Path.{_≡_};
 ghost use Rattle.rules.specs.Answers.{roomOf};
-ghost use Rattle.reading.specs.Reading.{JudgeRoom, JudgedParts, Nodes, Space, Asked, asRoom};
-
-// The pattern of a query with no answer 1 to 3 judged, then its DEFINEs, measures and skip: answers 4 to 9 and 14. Whether two DEFINEs are for one letter (8) was told
-// when the parts were decoded.
-fn judge_parts(s: &[u8], parts: Parts, room: &mut [u16], measures: &[u8; 24]) -> Query
-    requires { ⌜ JudgeRoom (now s) (now room) (now measures) parts ⌝ }
-    ensures { λ r. ⌜ JudgedParts (now (s .entry)) (now (room .exit)) (now (measures .entry)) parts r ⌝ }
-{
-    let start = parts.start;
-    let end = start + parts.len;
-    let v = judge::judge(&s[start..end], room);
-    let answer = v.answer;
-    if answer != 0 {
-        return refused(answer, v.offset);
-    }
-    if parts.twice {
-        return refused(8, 0);
-    }
-    if has_foreign(&s[start..end], measures, parts.measures, parts.target) {
-        return refused(9, 0);
-    }
-    Query {
-        answer: 0,
-        offset: 0,
-        places: v.places,
-        top: v.top,
-        columns: parts.columns,
-        skip: parts.skip,
-        target: parts.target,
-        measures: parts.measures,
-        letters: parts.letters,
-    }
-}
+ghost use Rattle.reading.specs.Reading.{Nodes, Space, Asked, asRoom};
 
 // Reads a query.
 pub fn read_query(

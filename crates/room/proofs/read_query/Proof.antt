@@ -7,7 +7,7 @@ use Rattle.room.proofs.read_query.Reads as reads
 use Rattle.room.proofs.read_query.Lts as lts
 use Rattle.decode.proofs.decode.Reads as decode-reads
 use Rattle.query.proofs.first_answer.Reads as first-answer-reads
-use Rattle.room.proofs.judge_parts.Reads as judge-parts-reads
+use Rattle.part_answers.proofs.judge_parts.Reads as judge-parts-reads
 use Rattle.reading.proofs.refused.Reads as refused-reads
 
 first-answer-requires : tie.Need-first-answer-requires

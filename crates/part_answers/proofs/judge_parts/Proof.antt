@@ -1,11 +1,11 @@
--- `room::judge_parts` meets its contract by the laws of Laws.
+-- `part_answers::judge_parts` meets its contract by the laws of Laws.
 use native.Mathlib.Omega.{arith}
 use borrow.Author.Needs.{needs}
 use Rattle.reading.proofs.Laws.{text-answers, defines-answer, letters-answer, no-answer, target-byte}
-use Rattle.room.proofs.judge_parts.Statement.{statement}
-use Rattle.room.proofs.judge_parts.Tie as tie
-use Rattle.room.proofs.judge_parts.Reads as reads
-use Rattle.room.proofs.judge_parts.Lts as lts
+use Rattle.part_answers.proofs.judge_parts.Statement.{statement}
+use Rattle.part_answers.proofs.judge_parts.Tie as tie
+use Rattle.part_answers.proofs.judge_parts.Reads as reads
+use Rattle.part_answers.proofs.judge_parts.Lts as lts
 use Rattle.judge.proofs.judge.Reads as judge-reads
 use Rattle.reading.proofs.has_foreign.Reads as has-foreign-reads
 use Rattle.reading.proofs.refused.Reads as refused-reads
