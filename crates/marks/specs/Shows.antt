@@ -1,4 +1,4 @@
--- What the answers of the small readers say of the reading function's.
+-- What the answers of the readers of quantifiers say of the reading function's.
 use mathlib.Core.Path.{_≡_}
 use mathlib.Core.Bool.{Bool, true, false}
 use mathlib.Core.List.{List}
@@ -6,10 +6,9 @@ use mathlib.Core.Option.{Option, none, some}
 use Prim.Native.Nat.{ℕ, _≤_, _<_}
 use lib.ListN.{length, drop}
 use Rattle.rules.specs.Language.{Form, star, plus, opt, exactly, atLeast, atMost, between, lower, upper}
-use Rattle.rules.specs.Reader.{Reading, got, bad, bounded, reaching, Marked, unmarked, broken, marked}
+use Rattle.rules.specs.Reader.{bounded, Marked, unmarked, broken, marked}
 use Rattle.marks.specs.declared.Mark.{Mark}
 use Rattle.marks.specs.declared.Mark.the-variants.{Unmarked, Broken, Found}
-use Rattle.marks.specs.declared.Value.{Value}
 
 -- a form's number
 unfoldable pub codeOf : Form → ℕ
@@ -39,33 +38,6 @@ pub record Codes (f : Form) (form low high : ℕ) : Type 0 where
 pub record boundedBy (f : Form) (low high : ℕ) : Type 0 where
   pub none : high < 1 → bounded f ≡ false
   pub fine : 1 ≤ high → low ≤ high → bounded f ≡ true
-
-pub record Numbered (s : List ℕ) (at : ℕ) (r : Value) (v : ℕ) (u : List ℕ) : Type 0 where
-  pub ok : r .ok ≡ true
-  pub value : r .value ≡ v
-  pub small : v ≤ 99
-  pub rest : u ≡ drop (r .at) s
-  pub on : at ≤ r .at
-  pub inside : r .at ≤ length s
-
-unfoldable pub SaysNumber : List ℕ → ℕ → Value → Reading ℕ → Type 0
-SaysNumber s at r (bad u) = (r .ok ≡ false) × (u ≡ drop (r .at) s)
-SaysNumber s at r (got v u) = Numbered s at r v u
-
--- no number, wrong at a position
-abbrev pub noNumber : ℕ → Value
-noNumber at = record { ok = false; value = 0; at = at }
-
--- what `number` promises of its answer r, x being what is read there
-pub record Numeral (s : List ℕ) (at : ℕ) (r : Value) (x : Reading ℕ) : Type 0 where
-  pub says : SaysNumber s at r x
-  pub inside : r .at ≤ length s
-  pub small : r .value ≤ 99
-
--- and what `reaching` promises
-pub record Reached (s : List ℕ) (at low : ℕ) (r : Value) : Type 0 where
-  pub numeral : Numeral s at r (reaching low (drop at s))
-  pub least : r .ok ≡ true → low ≤ r .value
 
 pub record ShowsMark (s : List ℕ) (at : ℕ) (r : Mark) (f : Form) (z : Bool) (u : List ℕ) : Type 0 where
   pub to : ℕ

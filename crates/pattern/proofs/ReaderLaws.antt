@@ -12,7 +12,7 @@ use Rattle.rules.specs.Basics.{isLetter}
 use Rattle.rules.specs.Places.{roundPlaces, fork, placeCount}
 use Rattle.rules.specs.Language.{Form, lower, upper, Rank, pattern, branch, factor, primary, Tree, one, more, last, next, bare, times, empty, group}
 use Rattle.rules.specs.Reader.{Reading, got, bad, left, peek, rest, skip, Marked, unmarked, broken, marked, quantifier, ended, under, altOn, altWith, seqOn, seqWith, timesOn, timesWith, closed, parted, simple, primaryOn, read, rankOf, depth}
-use Rattle.marks.proofs.MarkLaws.{inside, rest-drop}
+use Rattle.text_bytes.proofs.ByteLaws.{inside, rest-drop}
 use Rattle.nodes.specs.Nodes.{putNode}
 use Rattle.laws.proofs.GrammarSound.{pick-both}
 use Rattle.laws.proofs.Counting.{cap-rounds}

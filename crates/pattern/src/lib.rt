@@ -1,8 +1,6 @@
 // A pattern's text read into a tree: the four readers of the pattern language, in a cycle. The tree's
 // nodes go into a lent room, each behind its parts; `read_text` leaves there the nodes of the tree
 // that the text has, or says that it has none, and at which byte the text is wrong.
-use marks::peek;
-use marks::skip;
 use nodes::Sort;
 use phrases::chain;
 use phrases::ends;
@@ -14,6 +12,8 @@ use primaries::after;
 use primaries::empty_head;
 use primaries::shut_group;
 use primaries::simple;
+use text_bytes::peek;
+use text_bytes::skip;
 ghost use Rattle.rules.specs.Language.{Rank};
 ghost use Rattle.primaries.specs.Readers.{Fits, Reads, ReadsHead, TextSays};
 

@@ -14,7 +14,7 @@ use Rattle.rules.specs.Reader.{left, rest, Marked, unmarked, broken, marked, qu
 use Rattle.marks.specs.Shows.{codeOf, highest, highOf, Shows}
 use Rattle.marks.specs.declared.Mark.{Mark}
 use Rattle.marks.specs.declared.Mark.the-variants.{Unmarked, Broken, Found}
-use Rattle.marks.proofs.MarkLaws.{inside}
+use Rattle.text_bytes.proofs.ByteLaws.{inside}
 use Rattle.nodes.specs.Nodes.{putNode, Small}
 use Rattle.laws.proofs.GrammarSound.{marked-in}
 use Rattle.trees.proofs.RoundLaws.{form-order, rounds-eq}

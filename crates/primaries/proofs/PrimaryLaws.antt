@@ -12,7 +12,7 @@ use lib.ListN.{length, drop}
 use borrow.Author.Tests.{eq-eqb, ne-eqb}
 use Rattle.rules.specs.Basics.{isLetter}
 use Rattle.rules.specs.Reader.{left, peek, rest, skip, simple}
-use Rattle.marks.proofs.MarkLaws.{inside, rest-drop}
+use Rattle.text_bytes.proofs.ByteLaws.{inside, rest-drop}
 use Rattle.nodes.specs.declared.Sort.{Sort}
 use Rattle.nodes.specs.declared.Sort.the-variants.{Letter, Anchor, Empty, Group}
 use Rattle.nodes.specs.declared.Node.{Node}

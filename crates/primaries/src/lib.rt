@@ -1,11 +1,11 @@
 // A primary that is read: a letter or an anchor, `()`, or a pattern in parentheses, of which the `)`
 // is read here. What the readers of a pattern's text answer: a Step, and of a primary, whose node is
 // not yet in the room, a Head (specs/Readers).
-use marks::is_letter;
-use marks::peek;
-use marks::skip;
 use nodes::Node;
 use nodes::Sort;
+use text_bytes::is_letter;
+use text_bytes::peek;
+use text_bytes::skip;
 use trees::capped;
 use trees::plain_node;
 ghost use mathlib.Core.Path.{_≡_};

@@ -1,5 +1,6 @@
 -- `marks::braces` meets its contract. Laws: MarkLaws.
-use Rattle.marks.proofs.MarkLaws.{brace-comma-bad, brace-comma, brace-bad, brace-up, brace-exactly, next-in}
+use Rattle.marks.proofs.MarkLaws.{brace-comma-bad, brace-comma, brace-bad, brace-up, brace-exactly}
+use Rattle.text_bytes.proofs.ByteLaws.{next-in}
 use borrow.Author.Tests.{not-true, not-false}
 use borrow.Author.Needs.{needs}
 use Rattle.marks.proofs.braces.Statement.{statement}

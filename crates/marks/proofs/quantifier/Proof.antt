@@ -1,5 +1,6 @@
 -- `marks::quantifier` meets its contract. Laws: MarkLaws.
-use Rattle.marks.proofs.MarkLaws.{mark-star, mark-plus, mark-opt, mark-braces, mark-none, next-in}
+use Rattle.marks.proofs.MarkLaws.{mark-star, mark-plus, mark-opt, mark-braces, mark-none}
+use Rattle.text_bytes.proofs.ByteLaws.{next-in}
 use borrow.Author.Needs.{needs}
 use Rattle.marks.proofs.quantifier.Statement.{statement}
 use Rattle.marks.proofs.quantifier.Tie as tie

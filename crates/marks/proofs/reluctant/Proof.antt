@@ -1,5 +1,6 @@
 -- `marks::reluctant` meets its contract. Laws: MarkLaws.
-use Rattle.marks.proofs.MarkLaws.{reluctant-yes, reluctant-no, next-in}
+use Rattle.marks.proofs.MarkLaws.{reluctant-yes, reluctant-no}
+use Rattle.text_bytes.proofs.ByteLaws.{next-in}
 use borrow.Author.Needs.{needs}
 use Rattle.marks.proofs.reluctant.Statement.{statement}
 use Rattle.marks.proofs.reluctant.Tie as tie

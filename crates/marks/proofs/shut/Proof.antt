@@ -1,5 +1,6 @@
 -- `marks::shut` meets its contract. Laws: MarkLaws.
-use Rattle.marks.proofs.MarkLaws.{shut-open, shut-none, shut-fine, next-in}
+use Rattle.marks.proofs.MarkLaws.{shut-open, shut-none, shut-fine}
+use Rattle.text_bytes.proofs.ByteLaws.{next-in}
 use borrow.Author.Needs.{needs}
 use Rattle.marks.proofs.shut.Statement.{statement}
 use Rattle.marks.proofs.shut.Tie as tie

@@ -1,5 +1,6 @@
 -- `marks::up_to` meets its contract. Laws: MarkLaws.
-use Rattle.marks.proofs.MarkLaws.{up-shut, up-bad, up-got, reached-least, next-in}
+use Rattle.marks.proofs.MarkLaws.{up-shut, up-bad, up-got}
+use Rattle.text_bytes.proofs.ByteLaws.{reached-least, next-in}
 use borrow.Author.Tests.{not-true, not-false}
 use borrow.Author.Needs.{needs}
 use Rattle.marks.proofs.up_to.Statement.{statement}

@@ -25,7 +25,7 @@ use Rattle.pattern.proofs.+branch+factor+pattern+primary.Lts-pattern as
 use Rattle.pattern.proofs.primary.Reads as primary
 use Rattle.pattern.proofs.primary.Kinds as primary-kinds
 use Rattle.pattern.proofs.+branch+factor+pattern+primary.Lts-primary as primary-lts
-use Rattle.marks.proofs.peek.Reads as peek-reads
+use Rattle.text_bytes.proofs.peek.Reads as peek-reads
 use Rattle.primaries.proofs.after.Reads as after-reads
 use Rattle.phrases.proofs.chain.Reads as chain-reads
 use Rattle.primaries.proofs.empty_head.Reads as empty-head-reads

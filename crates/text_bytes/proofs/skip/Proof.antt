@@ -1,10 +1,10 @@
--- `marks::skip` meets its contract. Laws: MarkLaws.
-use Rattle.marks.proofs.MarkLaws.{Skipped, skip-none, skip-more, skip-all, skip-less, next-in}
+-- `text_bytes::skip` meets its contract. Laws: MarkLaws.
+use Rattle.text_bytes.proofs.ByteLaws.{Skipped, skip-none, skip-more, skip-all, skip-less, next-in}
 use lib.ListN.{length}
 use Prim.Native.Nat.{_-_}
 use borrow.Author.Needs.{needs}
-use Rattle.marks.proofs.skip.Statement.{statement}
-use Rattle.marks.proofs.skip.Tie as tie
+use Rattle.text_bytes.proofs.skip.Statement.{statement}
+use Rattle.text_bytes.proofs.skip.Tie as tie
 
 abbrev Inv-loop : tie.InvT-loop
 Inv-loop text at to₀ to = Skipped text at to

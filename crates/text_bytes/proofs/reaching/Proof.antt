@@ -1,9 +1,9 @@
--- `marks::reaching` meets its contract. Laws: MarkLaws.
-use Rattle.marks.proofs.MarkLaws.{reach-below, reach-above, reach-short, reach-less, reach-found}
+-- `text_bytes::reaching` meets its contract. Laws: MarkLaws.
+use Rattle.text_bytes.proofs.ByteLaws.{reach-below, reach-above, reach-short, reach-less, reach-found}
 use native.Mathlib.Omega.{arith}
 use borrow.Author.Needs.{needs}
-use Rattle.marks.proofs.reaching.Statement.{statement}
-use Rattle.marks.proofs.reaching.Tie as tie
+use Rattle.text_bytes.proofs.reaching.Statement.{statement}
+use Rattle.text_bytes.proofs.reaching.Tie as tie
 
 peek-requires : tie.Need-peek-requires
 peek-requires c κs = search needs

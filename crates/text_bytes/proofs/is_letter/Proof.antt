@@ -1,8 +1,8 @@
--- `marks::is_letter` meets its contract. Laws: MarkLaws.
-use Rattle.marks.proofs.MarkLaws.{letter-low, letter-high}
+-- `text_bytes::is_letter` meets its contract. Laws: MarkLaws.
+use Rattle.text_bytes.proofs.ByteLaws.{letter-low, letter-high}
 use borrow.Author.Needs.{needs}
-use Rattle.marks.proofs.is_letter.Statement.{statement}
-use Rattle.marks.proofs.is_letter.Tie as tie
+use Rattle.text_bytes.proofs.is_letter.Statement.{statement}
+use Rattle.text_bytes.proofs.is_letter.Tie as tie
 
 returns : tie.Need-returns
 returns c = search (needs, letter-low)

@@ -1,8 +1,8 @@
--- `marks::peek` meets its contract. Laws: MarkLaws.
-use Rattle.marks.proofs.MarkLaws.{byte, no-byte}
+-- `text_bytes::peek` meets its contract. Laws: MarkLaws.
+use Rattle.text_bytes.proofs.ByteLaws.{byte, no-byte}
 use borrow.Author.Needs.{needs}
-use Rattle.marks.proofs.peek.Statement.{statement}
-use Rattle.marks.proofs.peek.Tie as tie
+use Rattle.text_bytes.proofs.peek.Statement.{statement}
+use Rattle.text_bytes.proofs.peek.Tie as tie
 
 shared-slice-read-result : tie.Need-shared-slice-read-result
 shared-slice-read-result c = search needs

@@ -1,8 +1,8 @@
--- `marks::is_digit` meets its contract. Laws: MarkLaws.
-use Rattle.marks.proofs.MarkLaws.{digit-low, digit-high}
+-- `text_bytes::is_digit` meets its contract. Laws: MarkLaws.
+use Rattle.text_bytes.proofs.ByteLaws.{digit-low, digit-high}
 use borrow.Author.Needs.{needs}
-use Rattle.marks.proofs.is_digit.Statement.{statement}
-use Rattle.marks.proofs.is_digit.Tie as tie
+use Rattle.text_bytes.proofs.is_digit.Statement.{statement}
+use Rattle.text_bytes.proofs.is_digit.Tie as tie
 
 returns : tie.Need-returns
 returns c = search (needs, digit-low)

@@ -1,10 +1,10 @@
--- `marks::number` meets its contract. Laws: MarkLaws.
+-- `text_bytes::number` meets its contract. Laws: MarkLaws.
 use native.Mathlib.Omega.{arith}
-use Rattle.marks.proofs.MarkLaws.{digits-from, number-none, number-one, number-zero, number-two}
+use Rattle.text_bytes.proofs.ByteLaws.{digits-from, number-none, number-one, number-zero, number-two}
 use borrow.Author.Tests.{not-true, not-false}
 use borrow.Author.Needs.{needs}
-use Rattle.marks.proofs.number.Statement.{statement}
-use Rattle.marks.proofs.number.Tie as tie
+use Rattle.text_bytes.proofs.number.Statement.{statement}
+use Rattle.text_bytes.proofs.number.Tie as tie
 
 peek-requires : tie.Need-peek-requires
 peek-requires c κs = search needs
