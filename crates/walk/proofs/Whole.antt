@@ -32,25 +32,19 @@ state-of H T holds n n₁ t₁ notes trail w₁ w r = record { good = r .good; s
 pub record Descending (H : Halting) (T : Layout) (holds : ℕ → ℕ → Bool) (n : ℕ) (n₁ t₁ : List ℕ) (w₁ : Walk) (notes trail : List ℕ) (w : Walk) : Type 0 where
   pub reached : Reached H T holds n n₁ t₁ (comes H T holds n n₁ t₁ w₁) notes trail w
   pub less : left (N T n) notes w ≤ left (N T n) n₁ w₁
-  pub start : left (N T n) notes w ≡ left (N T n) n₁ w₁ → w .status ≡ 1
+  pub down : w .status ≡ 1
 
 pub on-none : (H : Halting) (T : Layout) (holds : ℕ → ℕ → Bool) (n : ℕ) (n₁ t₁ : List ℕ) (w₁ : Walk) → Goes T holds n n₁ t₁ w₁ → Descending H T holds n n₁ t₁ w₁ n₁ t₁ w₁
-on-none H T holds n n₁ t₁ w₁ s = record { reached = reached-none H T holds n n₁ t₁ w₁ (s .state); less = omega arith; start = λ _. s .down }
+on-none H T holds n n₁ t₁ w₁ s = record { reached = reached-none H T holds n n₁ t₁ w₁ (s .state); less = omega arith; down = s .down }
 
 module _ (H : Halting) (quiet : Quiet H) (T : Layout) (holds : ℕ → ℕ → Bool) (n : ℕ) (n₁ t₁ : List ℕ) (w₁ : Walk) (notes trail : List ℕ) (w : Walk) (h : Descending H T holds n n₁ t₁ w₁ notes trail w) where
-  pub on-end : (w .status ≡ 1 → ⊥) → Descended H T holds n n₁ t₁ w₁ notes trail w
-  on-end d =
-      let c : left (N T n) notes w ≢ left (N T n) n₁ w₁ = λ z. d (h .start z) in
-      let l = h .less in
-      record { reached = h .reached; less = λ _. omega arith; down = λ e. absurd (d e) }
-
   -- no step is left
-  pub on-halt : w .status ≡ 1 → H .spent (w .steps) ≡ true → Descended H T holds n n₁ t₁ w₁ notes trail w
-  on-halt d sp = record { reached = h .reached; less = λ e. absurd (e d); down = λ _. sp }
+  pub on-halt : H .spent (w .steps) ≡ true → Descended H T holds n n₁ t₁ w₁ notes trail w
+  on-halt sp = record { reached = h .reached; less = λ e. absurd (e (h .down)); down = λ _. sp }
 
-  module _ (d : w .status ≡ 1) (unspent : H .spent (w .steps) ≡ false) where
+  module _ (unspent : H .spent (w .steps) ≡ false) where
     goes : Goes T holds n notes trail w
-    goes = record { state = state-of H T holds n n₁ t₁ notes trail w₁ w (h .reached); down = d }
+    goes = record { state = state-of H T holds n n₁ t₁ notes trail w₁ w (h .reached); down = h .down }
 
     pub on-enters : Enters T n notes trail w
     on-enters = goes-enters H quiet T holds n notes trail w goes unspent
@@ -61,18 +55,24 @@ module _ (H : Halting) (quiet : Quiet H) (T : Layout) (holds : ℕ → ℕ → B
       onward : Onward H T holds n notes trail w notes′ trail′ r
       onward = goes-on H quiet T holds n notes trail w goes unspent notes′ trail′ r e
 
+      reached-now : Reached H T holds n n₁ t₁ (comes H T holds n n₁ t₁ w₁) notes′ trail′ r
+      reached-now = reached-on H T holds n n₁ t₁ _ notes trail w notes′ trail′ r (h .reached) (onward .reached)
+
       pub on-less : left (N T n) notes′ r < left (N T n) notes w
       on-less = onward .less
 
-      pub on-more : Descending H T holds n n₁ t₁ w₁ notes′ trail′ r
-      on-more =
+      -- no pair is to be entered
+      pub on-end : (r .status ≡ 1 → ⊥) → Descended H T holds n n₁ t₁ w₁ notes′ trail′ r
+      on-end d =
           let a = h .less in
           let b = onward .less in
-          record {
-            reached = reached-on H T holds n n₁ t₁ _ notes trail w notes′ trail′ r (h .reached) (onward .reached);
-            less = omega arith;
-            start = λ z. absurd (omega arith);
-          }
+          record { reached = reached-now; less = λ _. omega arith; down = λ z. absurd (d z) }
+
+      pub on-more : r .status ≡ 1 → Descending H T holds n n₁ t₁ w₁ notes′ trail′ r
+      on-more d =
+          let a = h .less in
+          let b = onward .less in
+          record { reached = reached-now; less = omega arith; down = d }
 
 -- ---- back until one is to be entered
 

@@ -27,7 +27,9 @@ ghost use Rattle.pairs.specs.Layout.{layoutOf, lettersOf, Tested};
 ghost use Rattle.pairs.specs.Step.{Noted, tryAt};
 ghost use Rattle.pairs.specs.State.{allowing, Goes, Backing, Backward, Descended, Idling, Retreated, Moves, Ran, Ready, Done};
 
-// On while there is a pair to be entered and a step is left.
+// On from a pair that is to be entered, while there is one and a step is left. The status is tested
+// behind each entry and the steps at the loop's head: so the compiler goes on from each way through
+// `enter` by itself, and does not keep the status as a number to test it again.
 fn descend(
     table: &[u16],
     rows: &[i32],
@@ -41,11 +43,11 @@ fn descend(
         (trail .entry)) from (now (notes .exit)) (now (trail .exit)) r ⌝ }
 {
     let mut w = from;
-    while w.status == ENTER {
-        if size.allowance <= w.steps {
+    while w.steps < size.allowance {
+        w = enter(table, rows, notes, trail, size, w);
+        if w.status != ENTER {
             return w;
         }
-        w = enter(table, rows, notes, trail, size, w);
     }
     w
 }

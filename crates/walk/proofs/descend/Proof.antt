@@ -19,6 +19,9 @@ abbrev μ-loop : tie.MeasureT-loop
 loop-holds : tie.Need-loop-holds Inv-loop μ-loop
 loop-holds c = search (needs, on-none)
 
+enter-requires : tie.Need-enter-requires Inv-loop μ-loop
+enter-requires c κs = (c .before .before .before .before .before .before .before .before .before .pre .0, on-enters _ (λ x. refl) _ _ _ _ _ _ _ _ _ (c .before .before .before .before .before .loop .inv) (lt-leb _ _ (c .before .before .if1 .taken)))
+
 same-length : tie.Need-same-length Inv-loop μ-loop
 same-length c = search needs
 
@@ -26,16 +29,13 @@ same-length-2 : tie.Need-same-length-2 Inv-loop μ-loop
 same-length-2 c = search needs
 
 returns : tie.Need-returns Inv-loop μ-loop
-returns c = on-halt _ (λ x. refl) _ _ _ _ _ _ _ _ _ (c .before .before .before .before .before .loop .inv) (c .before .before .before .if1 .taken) (le-leb _ _ (c .if2 .taken))
-
-enter-requires : tie.Need-enter-requires Inv-loop μ-loop
-enter-requires c κs = (c .before .before .before .before .before .before .before .before .before .before .before .pre .0, on-enters _ (λ x. refl) _ _ _ _ _ _ _ _ _ (c .before .before .before .before .before .before .before .loop .inv) (c .before .before .before .before .before .if1 .taken) (lt-leb _ _ (c .before .before .if2 .left)))
+returns c = on-end _ (λ x. refl) _ _ _ _ _ _ _ _ _ (c .before .before .before .before .before .before .before .before .before .before .before .before .loop .inv) (lt-leb _ _ (c .before .before .before .before .before .before .before .before .before .if1 .taken)) _ _ _ (c .before .before .before .before .before .before .enter .ensures) (c .if2 .taken)
 
 loop-less : tie.Need-loop-less Inv-loop μ-loop
-loop-less c = on-less _ (λ x. refl) _ _ _ _ _ _ _ _ _ (c .before .before .before .before .before .before .before .before .before .before .before .before .loop .inv) (c .before .before .before .before .before .before .before .before .before .before .if1 .taken) (lt-leb _ _ (c .before .before .before .before .before .before .before .if2 .left)) _ _ _ (c .before .before .before .before .enter .ensures)
+loop-less c = on-less _ (λ x. refl) _ _ _ _ _ _ _ _ _ (c .before .before .before .before .before .before .before .before .before .before .before .before .loop .inv) (lt-leb _ _ (c .before .before .before .before .before .before .before .before .before .if1 .taken)) _ _ _ (c .before .before .before .before .before .before .enter .ensures)
 
 loop-again : tie.Need-loop-again Inv-loop μ-loop
-loop-again c = on-more _ (λ x. refl) _ _ _ _ _ _ _ _ _ (c .before .before .before .before .before .before .before .before .before .before .before .before .loop .inv) (c .before .before .before .before .before .before .before .before .before .before .if1 .taken) (lt-leb _ _ (c .before .before .before .before .before .before .before .if2 .left)) _ _ _ (c .before .before .before .before .enter .ensures)
+loop-again c = on-more _ (λ x. refl) _ _ _ _ _ _ _ _ _ (c .before .before .before .before .before .before .before .before .before .before .before .before .loop .inv) (lt-leb _ _ (c .before .before .before .before .before .before .before .before .before .if1 .taken)) _ _ _ (c .before .before .before .before .before .before .enter .ensures) (c .if2 .left)
 
 same-length-3 : tie.Need-same-length-3 Inv-loop μ-loop
 same-length-3 c = search needs
@@ -44,7 +44,7 @@ same-length-4 : tie.Need-same-length-4 Inv-loop μ-loop
 same-length-4 c = search needs
 
 returns-2 : tie.Need-returns-2 Inv-loop μ-loop
-returns-2 c = on-end _ (λ x. refl) _ _ _ _ _ _ _ _ _ (c .before .before .loop .inv) (c .if1 .left)
+returns-2 c = on-halt _ (λ x. refl) _ _ _ _ _ _ _ _ _ (c .before .before .before .loop .inv) (le-leb _ _ (c .if1 .left))
 
 pub descend-spec : {M : Type 1} → statement M
 descend-spec =
@@ -53,10 +53,10 @@ descend-spec =
     Inv-loop
     μ-loop
     loop-holds
+    enter-requires
     same-length
     same-length-2
     returns
-    enter-requires
     loop-less
     loop-again
     same-length-3
