@@ -76,23 +76,23 @@ module _ (T : List ℕ) (rows : List ℤ) (from at : ℕ) where
     pub left-gone : length rows ≤ x → false ≡ readMet T rows from (at + 2)
     left-gone h = left-missing T rows from (at + 2) x (is-x ∙ left-word) h
 
-    module _ (first : First T at) (kind : ℕ) (is-kind : kind ≡ getD T (at + 7) 0) where
-      pub right-gone : (y : ℕ) → kind ≡ 1 → y ≡ spotIndex from (getD T (at + 4) 0) → length rows ≤ y → false ≡ readMet T rows from (at + 2)
+    module _ (first : First T at) where
+      pub right-gone : (y : ℕ) → getD T (at + 7) 0 ≡ 1 → y ≡ spotIndex from (getD T (at + 4) 0) → length rows ≤ y → false ≡ readMet T rows from (at + 2)
       right-gone y column is-y h =
-          right-missing T rows from (at + 2) (getD T (at + 2) 0) y refl (sym (first .kind) ∙ sym is-kind ∙ column) (is-y ∙ right-word) h
+          right-missing T rows from (at + 2) (getD T (at + 2) 0) y refl (sym (first .kind) ∙ column) (is-y ∙ right-word) h
 
       module _ (words : Words T) (there : x < length rows) (a : ℤ) (is-a : a ≡ getD rows x (pos 0)) (few-a : mag a < 2147483648) where
         abbrev few-number : mag number < 2147483648
         few-number = number-short T words (at + 2)
 
-        pub by-number : (t : Bool) → (kind ≡ 1 → ⊥) → t ≡ within (raised (held a)) (word64 T (at + 8)) (word64 T (at + 8 + 4)) → t ≡ readMet T rows from (at + 2)
+        pub by-number : (t : Bool) → (getD T (at + 7) 0 ≡ 1 → ⊥) → t ≡ within (raised (held a)) (word64 T (at + 8)) (word64 T (at + 8 + 4)) → t ≡ readMet T rows from (at + 2)
         by-number t h e =
             let s : mag (held a) < 2147483648 = rw (small a few-a) few-a in
             let f : t ≡ compares operator (held a) number = e ∙ interval-is first (held a) ∙ number-is operator (held a) number s few-number in
             number-met T rows from (at + 2) x (is-x ∙ left-word) there a is-a few-a number refl few-number (getD T (at + 2) 0) refl t
-            (λ q. h (is-kind ∙ first .kind ∙ q)) (f ∙ ap (compares operator (held a)) (sym (small number few-number)))
+            (λ q. h (first .kind ∙ q)) (f ∙ ap (compares operator (held a)) (sym (small number few-number)))
 
-        pub by-column : (y : ℕ) (b d : ℤ) (t : Bool) → kind ≡ 1 → y ≡ spotIndex from (getD T (at + 4) 0) → y < length rows → b ≡ getD rows y (pos 0)
+        pub by-column : (y : ℕ) (b d : ℤ) (t : Bool) → getD T (at + 7) 0 ≡ 1 → y ≡ spotIndex from (getD T (at + 4) 0) → y < length rows → b ≡ getD rows y (pos 0)
             → mag b < 2147483648 → d ≡ held a -ℤ held b → mag d < 4294967296
             → t ≡ within (raised (held d)) (word64 T (at + 8)) (word64 T (at + 8 + 4)) → t ≡ readMet T rows from (at + 2)
         by-column y b d t column is-y right is-b few-b is-d few-d e =
@@ -103,7 +103,7 @@ module _ (T : List ℕ) (rows : List ℤ) (from at : ℕ) where
             e ∙ ap (λ (z : ℤ). within (raised z) (word64 T (at + 8)) (word64 T (at + 8 + 4))) v ∙ interval-is first (a -ℤ b)
             ∙ column-is operator a b number few-a few-b few-number k in
             column-met T rows from (at + 2) x (is-x ∙ left-word) there a is-a few-a number refl few-number (getD T (at + 2) 0) refl
-            (sym (first .kind) ∙ sym is-kind ∙ column) y (is-y ∙ right-word) t b (held b +ℤ held number) right is-b few-b refl
+            (sym (first .kind) ∙ column) y (is-y ∙ right-word) t b (held b +ℤ held number) right is-b few-b refl
             (f ∙ sums a b (small a few-a) (small b few-b) (small number few-number) few-b few-number)
           where
             sums : (a b : ℤ) → held a ≡ a → held b ≡ b → held number ≡ number → mag b < 2147483648 → mag number < 2147483648

@@ -25,11 +25,26 @@ first-there T tests rows columns n l count letters letter is-count some =
     letters .tests-there .first l letter (let y : 0 < getD T (tests + l * 16) 0 = omega arith in y)
 
 -- where a letter has two comparisons or more, those behind the first stand in the table
-pub others-there : (T : List ℕ) (tests : ℕ) (rows : List ℤ) (columns n l count x : ℕ) → Letters T tests rows columns n → l < 26 → count ≡ getD T (tests + l * 16) 0
-    → (count ≡ 0 → ⊥) → (count ≡ 1 → ⊥) → x ≡ getD T (tests + l * 16 + 1) 0 → x + (count - 1) * 5 ≤ length T
-others-there T tests rows columns n l count x letters letter is-count some many is-x =
+pub others-there : (T : List ℕ) (tests : ℕ) (rows : List ℤ) (columns n l count : ℕ) → Letters T tests rows columns n → l < 26 → count ≡ getD T (tests + l * 16) 0
+    → 1 < count → getD T (tests + l * 16 + 1) 0 + (count - 1) * 5 ≤ length T
+others-there T tests rows columns n l count letters letter is-count many =
     let a = letters .tests-there .more l letter (let y : 1 < getD T (tests + l * 16) 0 = omega arith in y) in
     omega arith
+
+-- those behind the first, where there are none
+pub none-behind : (T : List ℕ) (rows : List ℤ) (from at count : ℕ) → count ≡ 1 → true ≡ eqb (firstUnmet T rows from (getD T (at + 1) 0) (count - 1)) (count - 1)
+unfolding firstUnmet
+none-behind T rows from at count e = rw e refl
+
+-- and where there are some
+pub some-behind : (T : List ℕ) (rows : List ℤ) (from at count x k : ℕ) → x ≡ getD T (at + 1) 0 → k ≡ firstUnmet T rows from x (count - 1)
+    → eqb k (count - 1) ≡ eqb (firstUnmet T rows from (getD T (at + 1) 0) (count - 1)) (count - 1)
+some-behind T rows from at count x k ex ek = rw (ek, ex) refl
+
+-- they can be read
+pub behind-there : (T : List ℕ) (at count x : ℕ) → (1 < count → getD T (at + 1) 0 + (count - 1) * 5 ≤ length T) → 0 < count → (count ≡ 1 → ⊥)
+    → x ≡ getD T (at + 1) 0 → x + (count - 1) * 5 ≤ length T
+behind-there T at count x there some many is-x = let a = there (omega arith) in omega arith
 
 module _ (T : List ℕ) (tests : ℕ) (rows : List ℤ) (columns n l row : ℕ) where
   -- what the promise says of a result
@@ -73,14 +88,8 @@ module _ (T : List ℕ) (tests : ℕ) (rows : List ℤ) (columns n l row : ℕ) 
         pub first-unmet : not t ≡ true → Says false
         first-unmet u = sym (whole ∙ ap (λ (x : Bool). x && others) (not-true t u))
 
-        pub only-first : not t ≡ false → count ≡ 1 → Says true
-        unfolding holds comparisonsIn tabulate every
-        only-first u o =
-            sym (whole ∙ ap (λ (x : Bool). x && others) (not-false t u)
-            ∙ ap (λ (k : ℕ). holds (tableOf columns rows) row (comparisonsIn T columns (getD T (tests + l * 16 + 1) 0) k)) (let e : count - 1 ≡ 0 = omega arith in e))
-
-        pub by-others : (x k : ℕ) → not t ≡ false → x ≡ getD T (tests + l * 16 + 1) 0 → k ≡ firstUnmet T rows from x (count - 1) → Says (eqb k (count - 1))
-        by-others x k u ex ek =
-            rw (ek, ex)
-            (holds-is T words rows columns n row from at (getD T (tests + l * 16 + 1) 0) (count - 1)
-            ∙ sym (whole ∙ ap (λ (z : Bool). z && others) (not-false t u)))
+        pub by-others : (r : Bool) → not t ≡ false → r ≡ eqb (firstUnmet T rows from (getD T (tests + l * 16 + 1) 0) (count - 1)) (count - 1) → Says r
+        by-others r u e =
+            e
+            ∙ holds-is T words rows columns n row from at (getD T (tests + l * 16 + 1) 0) (count - 1)
+            ∙ sym (whole ∙ ap (λ (z : Bool). z && others) (not-false t u))

@@ -1,7 +1,9 @@
 // Whether a letter holds at a row: the search asks this for every letter place that it enters.
 // It reads the words of the letter in the table of the prepared query (specs/Tests of the crate
 // table). The first comparison stands among them as an interval, so that most letters need one test
-// of a number and nothing else; those behind it are looked at only where it is met.
+// of a number and nothing else; those behind it are looked at only where it is met. A first
+// comparison with a column and one with a number are two ways from end to end: where they were one
+// again behind the test, its answer would be kept as a number and tested once more.
 // Promise: no letter holds at position n, behind the last row; at a row the answer is `holds` of
 // the rules, of the comparisons that the words tell. Weakness: the comparisons behind the first
 // stand in another part of the table, and are judged in the order of the query.
@@ -15,12 +17,12 @@ use table::Extent;
 use table::word_at;
 ghost use mathlib.Core.Path.{_≡_};
 ghost use mathlib.Core.Bool.{_&&_};
-ghost use Prim.Native.Nat.{_+_, _≤_, _<_};
-ghost use lib.Dec.{ltb};
-ghost use lib.ListN.{length};
+ghost use Prim.Native.Nat.{_+_, _*_, _-_, _≤_, _<_};
+ghost use lib.Dec.{ltb, eqb};
+ghost use lib.ListN.{length, getD};
 ghost use Rattle.rules.specs.Rows.{tableOf, holds};
 ghost use Rattle.table.specs.Tests.{testAt, definedIn, First, Letters};
-ghost use Rattle.comparisons.specs.Spots.{readMet};
+ghost use Rattle.comparisons.specs.Spots.{readMet, firstUnmet};
 
 // The words of a letter, and which of them are what: where the comparisons behind the first stand,
 // the spots of the first one, its right kind and its interval.
@@ -40,25 +42,45 @@ const INTERVAL: usize = 8;
 const COLUMN: usize = 1;
 
 // Whether the first comparison is met, of the letter whose words begin at word `at`, at the row to
-// whose first entry `from` belongs.
-fn first_met(table: &[u16], at: usize, rows: &[i32], from: u64) -> bool
-    requires { ⌜ (at + 16 ≤ length (now table)) × First (now table) at ⌝ }
+// whose first entry `from` belongs: its right side has a column.
+fn column_met(table: &[u16], at: usize, rows: &[i32], from: u64) -> bool
+    requires { ⌜ (at + 16 ≤ length (now table)) × First (now table) at × (getD (now table) (at + 7) 0 ≡ 1) ⌝ }
     ensures { λ r. ⌜ r ≡ readMet (now (table .entry)) (now (rows .entry)) from (at + 2) ⌝ }
 {
     let left = index_at(table, at + LEFT, from);
     if left >= rows.len() {
         return false;
     }
-    let a = entry(rows, left);
-    if word_at(table, at + KIND) == COLUMN {
-        let right = index_at(table, at + RIGHT, from);
-        if right >= rows.len() {
-            return false;
-        }
-        let b = entry(rows, right);
-        return inside_at(table, at + INTERVAL, difference(a, b));
+    let right = index_at(table, at + RIGHT, from);
+    if right >= rows.len() {
+        return false;
     }
-    inside_at(table, at + INTERVAL, a)
+    let d = difference(entry(rows, left), entry(rows, right));
+    inside_at(table, at + INTERVAL, d)
+}
+
+// The same of one whose right side is a number.
+fn number_met(table: &[u16], at: usize, rows: &[i32], from: u64) -> bool
+    requires { ⌜ (at + 16 ≤ length (now table)) × First (now table) at × (getD (now table) (at + 7) 0 ≡ 1 → ⊥) ⌝ }
+    ensures { λ r. ⌜ r ≡ readMet (now (table .entry)) (now (rows .entry)) from (at + 2) ⌝ }
+{
+    let left = index_at(table, at + LEFT, from);
+    if left >= rows.len() {
+        return false;
+    }
+    inside_at(table, at + INTERVAL, entry(rows, left))
+}
+
+// Whether all comparisons behind the first are met, of a letter that has so many in all.
+fn others_met(table: &[u16], at: usize, count: usize, rows: &[i32], from: u64) -> bool
+    requires { ⌜ (at + 16 ≤ length (now table)) × (0 < count) × (1 < count → getD (now table) (at + 1) 0 + (count - 1) * 5 ≤ length (now table)) ⌝ }
+    ensures { λ r. ⌜ r ≡ eqb (firstUnmet (now (table .entry)) (now (rows .entry)) from (getD (now (table .entry)) (at + 1) 0) (count - 1)) (count - 1) ⌝ }
+{
+    if count == 1 {
+        return true;
+    }
+    let more = count - 1;
+    first_unmet(table, word_at(table, at + MORE), more, rows, from) == more
 }
 
 // Whether letter l (0 for A) holds at a row.
@@ -75,12 +97,14 @@ pub fn letter_holds(table: &[u16], rows: &[i32], size: Extent, l: usize, row: us
         return true;
     }
     let from = far_back(size.columns, row * size.columns);
-    if !first_met(table, at, rows, from) {
+    if word_at(table, at + KIND) == COLUMN {
+        if !column_met(table, at, rows, from) {
+            return false;
+        }
+        return others_met(table, at, count, rows, from);
+    }
+    if !number_met(table, at, rows, from) {
         return false;
     }
-    if count == 1 {
-        return true;
-    }
-    let more = count - 1;
-    first_unmet(table, word_at(table, at + MORE), more, rows, from) == more
+    others_met(table, at, count, rows, from)
 }

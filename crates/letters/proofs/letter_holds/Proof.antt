@@ -1,5 +1,6 @@
 -- `letters::letter_holds` meets its contract by the laws of Testing.
-use Rattle.letters.proofs.Testing.{behind-last, free-holds, base-fits, first-there, others-there, first-unmet, only-first, by-others}
+use Rattle.letters.proofs.Testing.{behind-last, free-holds, base-fits, first-there, others-there, first-unmet, by-others}
+use mathlib.Core.Path.{sym, _∙_}
 use native.Mathlib.Omega.{arith}
 use borrow.Author.Needs.{needs}
 use Rattle.letters.proofs.letter_holds.Statement.{statement}
@@ -26,31 +27,39 @@ mul-far-back c = search (needs, base-fits)
 far-back-requires : tie.Need-far-back-requires
 far-back-requires c κs = search needs
 
-first-met-requires : tie.Need-first-met-requires
-first-met-requires c κs =
-    (search needs, first-there _ _ _ _ _ _ _ (c .before .before .before .before .before .before .before .before .pre .2) (c .before .before .before .before .before .before .before .before .pre .1) (c .before .before .before .word-at .ensures .0) (c .before .before .if2 .left))
-
-returns-3 : tie.Need-returns-3
-returns-3 c = search (needs, first-unmet)
-
-returns-4 : tie.Need-returns-4
-returns-4 c = search (needs, only-first)
-
-sub-more : tie.Need-sub-more
-sub-more c = omega arith
-
 add-word-at : tie.Need-add-word-at
 add-word-at c = omega arith
 
 word-at-requires-2 : tie.Need-word-at-requires-2
 word-at-requires-2 c κs = search needs
 
-first-unmet-requires : tie.Need-first-unmet-requires
-first-unmet-requires c κs =
-    others-there _ _ _ _ _ _ _ _ (c .before .before .before .before .before .before .before .before .before .before .before .before .pre .2) (c .before .before .before .before .before .before .before .before .before .before .before .before .pre .1) (c .before .before .before .before .before .before .before .word-at .ensures .0) (c .before .before .before .before .before .before .if2 .left) (c .before .if4 .left) (c .word-at2 .ensures .0)
+column-met-requires : tie.Need-column-met-requires
+column-met-requires c κs =
+    (search needs, first-there _ _ _ _ _ _ _ (c .before .before .before .before .before .before .before .before .before .before .pre .2) (c .before .before .before .before .before .before .before .before .before .before .pre .1) (c .before .before .before .before .before .word-at .ensures .0) (c .before .before .before .before .if2 .left), sym (c .before .word-at2 .ensures .0) ∙ c .if3 .taken)
+
+returns-3 : tie.Need-returns-3
+returns-3 c = search (needs, first-unmet)
+
+others-met-requires : tie.Need-others-met-requires
+others-met-requires c κs =
+    (search needs, omega arith, others-there _ _ _ _ _ _ _ (c .before .before .before .before .before .before .before .before .before .before .before .before .pre .2) (c .before .before .before .before .before .before .before .before .before .before .before .before .pre .1) (c .before .before .before .before .before .before .before .word-at .ensures .0))
+
+returns-4 : tie.Need-returns-4
+returns-4 c = search (needs, by-others)
+
+number-met-requires : tie.Need-number-met-requires
+number-met-requires c κs =
+    (search needs, first-there _ _ _ _ _ _ _ (c .before .before .before .before .before .before .before .before .before .before .pre .2) (c .before .before .before .before .before .before .before .before .before .before .pre .1) (c .before .before .before .before .before .word-at .ensures .0) (c .before .before .before .before .if2 .left), λ e. c .if3 .left (c .before .word-at2 .ensures .0 ∙ e))
 
 returns-5 : tie.Need-returns-5
-returns-5 c = search (needs, by-others)
+returns-5 c = search (needs, first-unmet)
+
+others-met-requires-2 : tie.Need-others-met-requires-2
+others-met-requires-2 c κs =
+    (search needs, omega arith, others-there _ _ _ _ _ _ _ (c .before .before .before .before .before .before .before .before .before .before .before .before .pre .2) (c .before .before .before .before .before .before .before .before .before .before .before .before .pre .1) (c .before .before .before .before .before .before .before .word-at .ensures .0))
+
+returns-6 : tie.Need-returns-6
+returns-6 c = search (needs, by-others)
 
 pub letter-holds-spec : {M : Type 1} → statement M
 letter-holds-spec =
@@ -63,11 +72,13 @@ letter-holds-spec =
     returns-2
     mul-far-back
     far-back-requires
-    first-met-requires
-    returns-3
-    returns-4
-    sub-more
     add-word-at
     word-at-requires-2
-    first-unmet-requires
-    returns-5)
+    column-met-requires
+    returns-3
+    others-met-requires
+    returns-4
+    number-met-requires
+    returns-5
+    others-met-requires-2
+    returns-6)
