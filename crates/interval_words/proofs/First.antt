@@ -8,7 +8,7 @@ use lib.ListN.{getD}
 use Rattle.rules.specs.Basics.{signed32}
 use Rattle.rules.specs.Rows.{Comparison}
 use Rattle.rules.specs.Query.{comparisonAt}
-use Rattle.table.specs.Tests.{numberIn, comparisonIn, word64, raised, lowOf, widthOf, First}
+use Rattle.table.specs.Tests.{numberIn, comparisonIn, word64, raised, raisedWord, lowOf, widthOf, First}
 use Rattle.interval_words.specs.Interval.{numberAt, IntervalPut}
 
 -- ---- the same words
@@ -44,7 +44,7 @@ module _ (T T′ : List ℕ) (at : ℕ) (same : (j : ℕ) → at ≤ j → j < a
   first-same h = record {
     kind = same (at + 7) (omega arith) (omega arith) ∙ h .kind ∙ ap (λ (w : ℕ). w / 8) (sym sort-same);
     low =
-        word64-same T T′ (at + 8) (λ j a b. same j (omega arith) (omega arith)) ∙ h .low
+        ap raisedWord (word64-same T T′ (at + 8) (λ j a b. same j (omega arith) (omega arith))) ∙ h .low
         ∙ ap (λ (w : ℕ). lowOf (w % 8) (raised (numberIn T (at + 2)))) (sym sort-same)
         ∙ ap (lowOf (getD T′ (at + 2) 0 % 8)) (sym x-same);
     width =

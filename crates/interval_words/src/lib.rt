@@ -16,6 +16,9 @@ ghost use Rattle.interval_words.specs.Interval.{numberAt, Word64Put, Nin
 // What a number is raised by: no number that a comparison meets is then below 0.
 const RAISE: i64 = 8589934592;
 
+// The same, as it is taken from the first number of an interval.
+const RAISED_BY: u64 = 8589934592;
+
 // The operators.
 const EQUAL: usize = 1;
 
@@ -125,7 +128,7 @@ pub fn put_interval(query: &[u8], p: usize, table: &mut [u16], at: usize)
     let op = wide8(query[p + 2]);
     let kind = wide8(query[p + 3]);
     let x = raised_at(query, p);
-    let low = low_of(op, x);
+    let low = std::num::wrapping_sub_u64(low_of(op, x), RAISED_BY);
     let width = width_of(op, x);
     put_nine(table, at, kind, low, width);
 }

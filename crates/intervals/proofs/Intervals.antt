@@ -11,7 +11,7 @@ use borrow.Author.Tests.{lt-ltb, le-ltb, le-leb, lt-leb, ltb-true, ltb-false, le
 use Rattle.rules.specs.Rows.{compares}
 use Rattle.laws.proofs.Choice.{decided}
 use Rattle.laws.proofs.Signed.{mag-add}
-use Rattle.table.specs.Tests.{raised, lowOf, widthOf}
+use Rattle.table.specs.Tests.{raised, raisedWord, lowOf, widthOf}
 use Rattle.intervals.specs.Intervals.{within}
 use Rattle.intervals.proofs.Raising.{raised-some, raised-few, raised-lt, raised-le, raised-sum, raised-difference}
 
@@ -41,6 +41,14 @@ module _ (x low width : ℕ) where
       decided (leb low x)
       (λ t. let l = leb-true low x t in simp t (ap (λ (k : ℕ). leb k width) (let z : r ≡ x - low = omega arith in z)))
       (λ t. let l = leb-false low x t in simp t (ap (λ (k : ℕ). leb k width) (let z : r ≡ 18446744073709551616 + x - low = omega arith in z)))
+
+-- the same where the interval's first number is told less 2 ^ 33, and as much is taken from the raised number
+pub plain-within : (x low width y u r : ℕ) → y ≡ x → (u + 8589934592) % 18446744073709551616 ≡ y → (r + low) % 18446744073709551616 ≡ u
+    → r < 18446744073709551616 → low < 18446744073709551616 → leb r width ≡ within x (raisedWord low) width
+unfolding raisedWord
+plain-within x low width y u r q e f h g =
+    wraps-within x ((low + 8589934592) % 18446744073709551616) width y r q
+    (let z : (r + (low + 8589934592) % 18446744073709551616) % 18446744073709551616 ≡ y = omega arith in z) h (omega arith)
 
 order : (d x : ℕ) {G : Type 0} → (d < x → G) → (d ≡ x → G) → (x < d → G) → G
 order d x f g h = decided (ltb d x) (λ e. f (ltb-true d x e)) (λ e. decided (ltb x d) (λ u. h (ltb-true x d u)) (λ u. g (let a = ltb-false d x e in let b = ltb-false x d u in omega arith)))

@@ -10,11 +10,14 @@ ghost use Prim.Native.Nat.{_+_, _≤_, _<_};
 ghost use lib.IntN.{ℤ, _-ℤ_};
 ghost use lib.Signed.{mag};
 ghost use lib.ListN.{length};
-ghost use Rattle.table.specs.Tests.{word64, raised};
+ghost use Rattle.table.specs.Tests.{word64, raised, raisedWord};
 ghost use Rattle.intervals.specs.Intervals.{within};
 
 // The words of the interval's first number; behind them stands how many more there are.
 const WIDTH: usize = 4;
+
+// What a number is raised by.
+const RAISED_BY: u64 = 8589934592;
 
 // A number plus 2^33: no number that a comparison meets is then below 0.
 fn raise(d: i64) -> u64
@@ -41,18 +44,20 @@ fn word64_at(table: &[u16], at: usize) -> u64
     (low + high) as u64
 }
 
-// Whether a number, raised, lies in an interval that wraps at 2^64.
+// Whether a number, raised, lies in an interval that wraps at 2^64; `low` is its first number less
+// 2^33, so that the compiler takes away nothing and raises nothing.
 fn inside(d: i64, low: u64, width: u64) -> bool
     requires { ⌜ mag d < 4294967296 ⌝ }
-    ensures { λ r. ⌜ r ≡ within (raised d) low width ⌝ }
+    ensures { λ r. ⌜ r ≡ within (raised d) (raisedWord low) width ⌝ }
 {
-    std::num::wrapping_sub_u64(raise(d), low) <= width
+    let plain = std::num::wrapping_sub_u64(raise(d), RAISED_BY);
+    std::num::wrapping_sub_u64(plain, low) <= width
 }
 
 // The same for the interval at word `at` of the table.
 pub fn inside_at(table: &[u16], at: usize, d: i64) -> bool
     requires { ⌜ (at + 8 ≤ length (now table)) × (mag d < 4294967296) ⌝ }
-    ensures { λ r. ⌜ r ≡ within (raised d) (word64 (now (table .entry)) at) (word64 (now (table .entry)) (at + 4)) ⌝ }
+    ensures { λ r. ⌜ r ≡ within (raised d) (raisedWord (word64 (now (table .entry)) at)) (word64 (now (table .entry)) (at + 4)) ⌝ }
 {
     let low = word64_at(table, at);
     let width = word64_at(table, at + WIDTH);

@@ -5,8 +5,8 @@
 --   1         the word at which its comparisons behind the first stand, one behind the other
 --   2 to 6    its first comparison
 --   7         the right kind of the first comparison: 1 where its right side has a column
---   8 to 11   an interval that tells when the first comparison is met: its first number, in 64
---             bits, the lowest word first
+--   8 to 11   an interval that tells when the first comparison is met: its first number less
+--             2 ^ 33, in 64 bits, the lowest word first
 --   12 to 15  how many more numbers it has
 -- A comparison has five words:
 --   0         its operator, 1 to 6, and 8 more where its right side has a column
@@ -99,10 +99,16 @@ widthOf op x =
     (pick (eqb op 5) (18446744073709551614 - x)
     (18446744073709551615 - x)))))
 
+-- A number of 64 bits, raised, which wraps at 2 ^ 64. The table tells an interval's first number by
+-- the one that comes to it when raised, so that a number which is tested need not be raised itself:
+-- what it is raised by is taken away again.
+unfoldable pub raisedWord : ℕ → ℕ
+raisedWord k = (k + 8589934592) % 18446744073709551616
+
 -- the words of the letter at word `at` tell the interval of its first comparison
 pub record First (T : List ℕ) (at : ℕ) : Type 0 where
   pub kind : getD T (at + 7) 0 ≡ getD T (at + 2) 0 / 8
-  pub low : word64 T (at + 8) ≡ lowOf (getD T (at + 2) 0 % 8) (raised (numberIn T (at + 2)))
+  pub low : raisedWord (word64 T (at + 8)) ≡ lowOf (getD T (at + 2) 0 % 8) (raised (numberIn T (at + 2)))
   pub width : word64 T (at + 12) ≡ widthOf (getD T (at + 2) 0 % 8) (raised (numberIn T (at + 2)))
 
 -- ---- what is asked of the table

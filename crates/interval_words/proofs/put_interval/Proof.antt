@@ -29,6 +29,9 @@ raised-at-requires c κs = search needs
 low-of-requires : tie.Need-low-of-requires
 low-of-requires c κs = search needs
 
+wrapping-sub-u64-requires : tie.Need-wrapping-sub-u64-requires
+wrapping-sub-u64-requires c κs = search needs
+
 width-of-requires : tie.Need-width-of-requires
 width-of-requires c κs = search needs
 
@@ -53,6 +56,7 @@ put-interval-spec =
     wide8-requires-2
     raised-at-requires
     low-of-requires
+    wrapping-sub-u64-requires
     width-of-requires
     put-nine-requires
     same-length
