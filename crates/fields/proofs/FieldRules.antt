@@ -187,7 +187,7 @@ unfolding comparisonFits
 comparison-is s columns p t u v v' w w' r x0 x1 x2 x3 x4 x5 x6 x7 e0 e1 e2 e3 e4 e5 e6 f0 f1 f2 f3 f4 f5 f6 f7 =
     rw (← f0, ← f1, ← f2, ← f3, ← f4, ← f5, ← f6, ← f7) (rw (← e6, ← e5, ← e4, ← e3, ← e2, ← e1) e0)
 
-pub function-is : (columns function letter column : ℕ) (a b b0 b1 c d d0 d1 d2 u v r : Bool) → r ≡ (a && u) → a ≡ inRange 1 6 function → u ≡ (b && v) → b ≡ (b0 || b1)
+pub function-is : (columns function letter column : ℕ) (a b b0 b1 c d d0 d1 d2 u v r : Bool) → r ≡ (a && u) → a ≡ inRange 1 7 function → u ≡ (b && v) → b ≡ (b0 || b1)
     → b0 ≡ eqb letter 0 → b1 ≡ inRange 65 90 letter → v ≡ (c && d) → c ≡ ltb column columns → d ≡ (d1 || d2) → d1 ≡ not d0 → d0 ≡ eqb function 1 → d2 ≡ eqb column 0
     → r ≡ functionFits columns function letter column
 unfolding functionFits isLetter

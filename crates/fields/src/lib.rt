@@ -164,7 +164,7 @@ fn negated(a: bool) -> bool
 fn function_fits(columns: usize, function: usize, letter: usize, column: usize) -> bool
     ensures { λ r. ⌜ r ≡ functionFits columns function letter column ⌝ }
 {
-    let known = within(1, 6, function);
+    let known = within(1, 7, function);
     let lettered = either(same(letter, 0), within(65, 90, letter));
     let inside = less(column, columns);
     let counting = either(negated(same(function, 1)), same(column, 0));

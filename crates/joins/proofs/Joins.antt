@@ -79,7 +79,8 @@ mag-joined f a b =
     mag-pick (eqb f 2) _ _ _ (mag-add a b)
     (mag-pick (eqb f 3) _ _ _ (mag-pick (ltZ b a) _ _ _ (omega arith) (omega arith))
     (mag-pick (eqb f 4) _ _ _ (mag-pick (ltZ a b) _ _ _ (omega arith) (omega arith))
-    (mag-pick (eqb f 5) _ _ _ (omega arith) (omega arith))))
+    (mag-pick (eqb f 5) _ _ _ (omega arith)
+    (mag-pick (eqb f 6) _ _ _ (omega arith) (omega arith)))))
 
 -- ---- one row more
 

@@ -30,6 +30,8 @@ impl Measure {
 
     pub const LAST: u8 = 6;
 
+    pub const AVG: u8 = 7;
+
     // The measure of a record's checked bytes.
     pub fn make(function: u8, letter: u8, column: u8) -> Measure
         ensures { λ r. ⌜ (r .function ≡ function) × (r .letter ≡ letter) × (r .column ≡ column) ⌝ }

@@ -1,32 +1,35 @@
--- What a measure gives from its rows: none, their number, the first or the last entry, and what SUM,
--- MIN and MAX give from the first on.
+-- What a measure gives from its rows: none, their number, the first or the last entry, what SUM, MIN
+-- and MAX give from the first on, and the average.
 use mathlib.Core.Path.{_≡_, refl, sym, ap, _∙_}
-use mathlib.Core.Bool.{Bool, true, false}
+use mathlib.Core.Bool.{Bool, true, false, _||_}
 use mathlib.Core.List.{List, [], _∷_, _++_}
-use mathlib.Core.Option.{some}
+use mathlib.Core.Option.{some, Option·none-ne-some, Option·some-injective}
 use Prim.Native.Nat.{ℕ, zero, suc, _+_, _*_, _≤_, _<_}
 use native.Mathlib.Omega.{arith}
 use native.Mathlib.Numerals.{add-one}
 use native.Mathlib.Nat.{mul-le-mul, le-refl}
 use lib.Dec.{eqb}
 use lib.IntN.{ℤ, pos}
-use lib.Signed.{mag}
+use lib.Signed.{mag, quotZ}
 use lib.ListN.{length, getD, take, drop, drop-of-length-le}
 use lib.Seq.{drop-cons}
+use mir.Syntax.{w64}
+use mir.Val.{SFits, ofZ}
+use mir.Facts.{toZ-ofZ}
 use borrow.Author.Tests.{eq-eqb, ne-eqb}
 use Rattle.rules.specs.Basics.{pick, keep}
 use Rattle.rules.specs.Rows.{Table, entry}
-use Rattle.rules.specs.Report.{values, joined, joinAll, overSome, resultOf, measured, twoOf}
-use Rattle.laws.proofs.Signed.{read-back}
+use Rattle.rules.specs.Report.{values, joined, joinAll, overSome, averageOf, resultOf, measured, twoOf}
+use Rattle.laws.proofs.Signed.{read-back, mag-average}
 use Rattle.measures.specs.declared.Value.{Value}
 use Rattle.measures.specs.declared.Value.the-variants.{Null, Number}
 use Rattle.labelled.specs.declared.Found.{Found}
-use Rattle.labelled.specs.declared.Found.the-variants.{Nothing}
+use Rattle.labelled.specs.declared.Found.the-variants.{At, Nothing}
 use Rattle.measures.specs.Measures.{measureBy, numbersFor, Readable}
 use Rattle.labelled.specs.Labelled.{isOf, countOf, NoneIn, FirstAt, IsFirst, LastAt, IsLast}
 use Rattle.joins.specs.Entries.{Inside}
 use Rattle.joins.proofs.Joins.{held}
-use Rattle.labelled.proofs.Seeking.{count-front, no-first, no-last}
+use Rattle.labelled.proofs.Seeking.{count-front, first-at, no-first, no-last}
 
 -- ---- no rows
 
@@ -35,8 +38,12 @@ unfolding numbersFor twoOf resultOf
 none-counted f e = simp (eq-eqb f 1 e)
 
 pub none-null : (f : ℕ) → (f ≡ 1 → ⊥) → numbersFor Null ≡ twoOf (resultOf f [])
-unfolding numbersFor twoOf resultOf overSome
-none-null f h = simp (ne-eqb f 1 h)
+unfolding numbersFor twoOf resultOf overSome averageOf
+none-null f h = rw (ne-eqb f 1 h) (go (eqb f 7))
+  where
+    go : (b : Bool) → numbersFor Null ≡ twoOf (pick b (averageOf []) (overSome f []))
+    go true = refl
+    go false = refl
 
 -- ---- the entries of a measure's rows
 
@@ -92,7 +99,7 @@ module _ (t : Table) (f letter column : ℕ) where
       kept true x xs ys = refl
       kept false x xs ys = refl
 
-  -- ---- the six functions
+  -- ---- the seven functions
 
   front-stays : (f ≡ 5) → (a : ℤ) (xs : List ℤ) → joinAll f a xs ≡ a
   unfolding joinAll joined
@@ -106,7 +113,7 @@ module _ (t : Table) (f letter column : ℕ) where
     back-stays : (a : ℤ) (xs : List ℤ) (x : ℤ) → joinAll f a (xs ++ (x ∷ [])) ≡ x
     unfolding joinAll joined
     back-stays a [] x = simp
-        (other 2 (omega arith), other 3 (omega arith), other 4 (omega arith), other 5 (omega arith))
+        (other 2 (omega arith), other 3 (omega arith), other 4 (omega arith), other 5 (omega arith), eq-eqb f 6 h)
     back-stays a (y ∷ xs) x = back-stays (joined f a y) xs x
 
     over-back : (xs : List ℤ) (x : ℤ) → overSome f (xs ++ (x ∷ [])) ≡ some x
@@ -118,9 +125,9 @@ module _ (t : Table) (f letter column : ℕ) where
     abbrev two : List ℤ
     two = twoOf (measured t first ls (measureBy f letter column))
 
-    over : (f ≡ 1 → ⊥) → two ≡ twoOf (overSome f (entries first ls))
+    over : (f ≡ 1 → ⊥) → (f ≡ 7 → ⊥) → two ≡ twoOf (overSome f (entries first ls))
     unfolding measured resultOf
-    over h = simp (ne-eqb f 1 h)
+    over h g = simp (ne-eqb f 1 h, ne-eqb f 7 g)
 
     pub gives-none : (found : Found) (r : Value) → IsFirst letter ls found → found ≡ Nothing → numbersFor r ≡ twoOf (resultOf f []) → numbersFor r ≡ two
     unfolding measured
@@ -147,9 +154,9 @@ module _ (t : Table) (f letter column : ℕ) where
           (ap some (front-stays e (entry t (first + at) column) (entries (first + suc at) (drop (suc at) ls))))
 
     -- a number that is the result
-    pub gives : (r : ℤ) → (f ≡ 1 → ⊥) → overSome f (entries first ls) ≡ some r → numbersFor (Number r) ≡ two
+    pub gives : (r : ℤ) → (f ≡ 1 → ⊥) → (f ≡ 7 → ⊥) → overSome f (entries first ls) ≡ some r → numbersFor (Number r) ≡ two
     unfolding twoOf numbersFor
-    gives r h e = sym (over h ∙ ap twoOf e)
+    gives r h g e = sym (over h g ∙ ap twoOf e)
 
     -- the number that the other four leave is FIRST's
     pub gives-first : (at : ℕ) (r : ℤ) → 1 ≤ f → f ≤ 5 → (f ≡ 1 → ⊥) → (f ≡ 2 → ⊥) → (f ≡ 3 → ⊥) → (f ≡ 4 → ⊥) → FirstAt letter ls at
@@ -157,11 +164,11 @@ module _ (t : Table) (f letter column : ℕ) where
         → numbersFor (Number (held r)) ≡ two
     gives-first at r l u h1 h2 h3 h4 h q g =
         let e : f ≡ 5 = omega arith in
-        gives (held r) h1 (over-first at h e ∙ ap some (sym (read-back r (omega arith) ∙ q)))
+        gives (held r) h1 (λ w. omega arith) (over-first at h e ∙ ap some (sym (read-back r (omega arith) ∙ q)))
 
     pub last-null : (found : Found) → f ≡ 6 → IsLast letter ls found → found ≡ Nothing → numbersFor Null ≡ two
     unfolding numbersFor twoOf overSome
-    last-null found n h e = sym (over (λ w. omega arith)
+    last-null found n h e = sym (over (λ w. omega arith) (λ w. omega arith)
         ∙ ap (λ (v : List ℤ). twoOf (overSome f v)) (entries-none first ls (no-last letter ls found h e)))
 
     pub gives-last : (at : ℕ) (r : ℤ) → f ≡ 6 → LastAt letter ls at → r ≡ entry t (first + at) column → mag r < 2147483648
@@ -169,13 +176,20 @@ module _ (t : Table) (f letter column : ℕ) where
     gives-last at r n h q g =
         let e : entries first ls ≡ entries first (take at ls) ++ (entry t (first + at) column ∷ []) =
         entries-last first ls at (h .inside) (h .is-of) (λ k a b. h .none-behind k (omega arith) b) in
-        gives (held r) (λ w. omega arith)
+        gives (held r) (λ w. omega arith) (λ w. omega arith)
         (ap (overSome f) e ∙ over-back n (entries first (take at ls)) (entry t (first + at) column) ∙ ap some (sym (read-back r (omega arith) ∙ q)))
 
-    pub gives-joined : (k : ℕ) (r : ℤ) → mag r < 9223372036854775808 → f ≡ k → (k ≡ 1 → ⊥) → overSome k (values t (measureBy k letter column) first ls) ≡ some r
+    pub gives-joined : (k : ℕ) (r : ℤ) → mag r < 9223372036854775808 → f ≡ k → (k ≡ 1 → ⊥) → (k ≡ 7 → ⊥) → overSome k (values t (measureBy k letter column) first ls) ≡ some r
         → numbersFor (Number (held r)) ≡ two
-    gives-joined k r s e h q =
-        gives (held r) (λ w. h (sym e ∙ w)) (ap (λ (i : ℕ). overSome i (values t (measureBy i letter column) first ls)) e ∙ q ∙ ap some (sym (read-back r s)))
+    gives-joined k r s e h g q =
+        gives (held r) (λ w. h (sym e ∙ w)) (λ w. g (sym e ∙ w)) (ap (λ (i : ℕ). overSome i (values t (measureBy i letter column) first ls)) e ∙ q ∙ ap some (sym (read-back r s)))
+
+    -- ---- AVG, from SUM and the number of rows
+
+    pub gives-average : (r : ℤ) → f ≡ 7 → mag r < 9223372036854775808 → averageOf (values t (measureBy 7 letter column) first ls) ≡ some r → numbersFor (Number (held r)) ≡ two
+    unfolding measured resultOf twoOf numbersFor
+    gives-average r e s q =
+        sym (rw (e, (let y : averageOf (values t (measureBy 7 letter column) first ls) ≡ some (held r) = q ∙ ap some (sym (read-back r s)) in y)))
 
     -- ---- the loop of SUM, MIN and MAX: `value` is what the measure's rows among the first i give together
 
@@ -239,6 +253,52 @@ module _ (rows : List ℤ) (columns first long column : ℕ) (h : Readable rows 
       omega (arith, g .there)
 
 -- a measure's column as an index is that column
+-- ---- the average
+
+-- a quotient by a count, as the machine computes it
+module _ (a : ℤ) (fa : SFits w64 a) (k : ℕ) (some : 0 < k) (few : k ≤ 4096) (z : ℤ) (e : z ≡ pos k) where
+  count-held : held z ≡ pos k
+  count-held = ap held e ∙ read-back (pos k) (omega arith)
+
+  average-small : mag (quotZ (held a) (held z)) < 9223372036854775808
+  average-small = rw (toZ-ofZ fa, count-held) (let m = mag-average a k in let f = fa .sfits in omega arith)
+
+  pub quotient-some : 0 < ofZ w64 z
+  quotient-some = rw e some
+
+  pub quotient-fits : SFits w64 (quotZ (held a) (held z))
+  quotient-fits = record { sfits = average-small }
+
+  pub quotient-is : held (quotZ (held a) (held z)) ≡ quotZ a (pos k)
+  quotient-is = read-back (quotZ (held a) (held z)) average-small ∙ rw (toZ-ofZ fa, count-held)
+
+-- whatever the function, a measure is over the same values
+same-values : (t : Table) (f g letter column row : ℕ) (ls : List ℕ) → values t (measureBy f letter column) row ls ≡ values t (measureBy g letter column) row ls
+unfolding values
+same-values t f g letter column row [] = refl
+same-values t f g letter column row (l ∷ ls) = ap (keep (eqb letter 0 || eqb l letter) (entry t row column)) (same-values t f g letter column (row + 1) ls)
+
+average-by : (xs : List ℤ) (sum : ℤ) → overSome 2 xs ≡ some sum → averageOf xs ≡ some (quotZ sum (pos (length xs)))
+unfolding overSome averageOf
+average-by [] sum e = absurd (Option·none-ne-some sum e)
+average-by (x ∷ xs) sum e = ap (λ (s : ℤ). some (quotZ s (pos (length (x ∷ xs))))) (Option·some-injective _ _ e)
+
+average-is : (t : Table) (letter column first : ℕ) (ls : List ℕ) (at : ℕ) → FirstAt letter ls at → (sum : ℤ) → overSome 2 (values t (measureBy 2 letter column) first ls) ≡ some sum
+    → (k : ℕ) → k ≡ countOf letter (drop at ls) → (r : ℤ) → r ≡ quotZ sum (pos k) → averageOf (values t (measureBy 7 letter column) first ls) ≡ some r
+average-is t letter column first ls at h sum e k c r q =
+    let n : k ≡ length (values t (measureBy 2 letter column) first ls) = c ∙ count-from t 2 letter column first ls at h in
+    ap averageOf (same-values t 7 2 letter column first ls) ∙ average-by (values t (measureBy 2 letter column) first ls) sum e ∙ ap some (ap (λ (i : ℕ). quotZ sum (pos i)) (sym n) ∙ sym q)
+
+pub first-within : (letter : ℕ) (ls : List ℕ) (found : Found) (i : ℕ) → IsFirst letter ls found → found ≡ At i → i ≤ length ls
+first-within letter ls found i h e = let a = first-at letter ls found i h e .inside in omega arith
+
+-- there is a first row, so the count is not 0
+pub some-counted : (letter : ℕ) (ls : List ℕ) (at : ℕ) → FirstAt letter ls at → (k : ℕ) → k ≡ countOf letter (drop at ls) → 0 < k
+some-counted letter ls at h k c =
+    let d : countOf letter (drop at ls) ≡ 1 + countOf letter (drop (at + 1) ls) = count-front letter ls at at (h .inside)
+    ∙ ap (λ (b : Bool). pick {A = ℕ} b 1 0 + countOf letter (drop (at + 1) ls)) (h .is-of) in
+    omega arith
+
 pub same-column : (t : Table) (first : ℕ) (ls : List ℕ) (f letter column index : ℕ) (r : Value) → index ≡ column
     → numbersFor r ≡ twoOf (measured t first ls (measureBy f letter index)) → numbersFor r ≡ twoOf (measured t first ls (measureBy f letter column))
 same-column t first ls f letter column index r e q = q ∙ ap (λ (c : ℕ). twoOf (measured t first ls (measureBy f letter c))) e
@@ -246,4 +306,19 @@ same-column t first ls f letter column index r e q = q ∙ ap (λ (c : ℕ). two
 pub as-last : (t : Table) (first : ℕ) (ls : List ℕ) (f letter column index : ℕ) (r : Value) → f ≡ 6 → index ≡ column
     → numbersFor r ≡ twoOf (measured t first ls (measureBy 6 letter index)) → numbersFor r ≡ twoOf (measured t first ls (measureBy f letter column))
 as-last t first ls f letter column index r e i q =
+    same-column t first ls f letter column index r i (q ∙ ap (λ (g : ℕ). twoOf (measured t first ls (measureBy g letter index))) (sym e))
+
+-- AVG of no rows, and of some
+pub average-null : (t : Table) (letter column first : ℕ) (ls : List ℕ) (found : Found) → IsFirst letter ls found → found ≡ Nothing → numbersFor Null ≡ twoOf (measured t first ls (measureBy 7 letter column))
+average-null t letter column first ls found h e = gives-none t 7 letter column first ls found Null h e (none-null 7 (λ w. omega arith))
+
+pub average-given : (t : Table) (letter column first : ℕ) (ls : List ℕ) (at : ℕ) → FirstAt letter ls at → (sum : ℤ) → overSome 2 (values t (measureBy 2 letter column) first ls) ≡ some sum
+    → (k : ℕ) → k ≡ countOf letter (drop at ls) → (r : ℤ) → mag r < 9223372036854775808 → r ≡ quotZ (held sum) (pos k) → mag sum < 9223372036854775808
+    → numbersFor (Number (held r)) ≡ twoOf (measured t first ls (measureBy 7 letter column))
+average-given t letter column first ls at h sum e k c r s q m =
+    gives-average t 7 letter column first ls r refl s (average-is t letter column first ls at h sum e k c r (q ∙ ap (λ (a : ℤ). quotZ a (pos k)) (read-back sum m)))
+
+pub as-average : (t : Table) (first : ℕ) (ls : List ℕ) (f letter column index : ℕ) (r : Value) → f ≡ 7 → index ≡ column
+    → numbersFor r ≡ twoOf (measured t first ls (measureBy 7 letter index)) → numbersFor r ≡ twoOf (measured t first ls (measureBy f letter column))
+as-average t first ls f letter column index r e i q =
     same-column t first ls f letter column index r i (q ∙ ap (λ (g : ℕ). twoOf (measured t first ls (measureBy g letter index))) (sym e))

@@ -1,4 +1,4 @@
-// A measure of one match: FIRST, LAST, MIN, MAX, SUM and COUNT over the rows with a label.
+// A measure of one match: COUNT, SUM, MIN, MAX, FIRST, LAST and AVG over the rows with a label.
 use joins::entry_at;
 use joins::take_row;
 use labelled::Found;
@@ -10,9 +10,10 @@ use numbers::wide8;
 ghost use mathlib.Core.Path.{_≡_};
 ghost use mathlib.Core.List.{[]};
 ghost use mathlib.Core.Option.{some};
-ghost use Prim.Native.Nat.{_≤_};
+ghost use Prim.Native.Nat.{_≤_, _<_};
 ghost use lib.IntN.{pos};
 ghost use lib.ListN.{length};
+ghost use lib.Signed.{quotZ};
 ghost use Rattle.rules.specs.Rows.{tableOf};
 ghost use Rattle.measure_list.specs.Measures.{measureOf};
 ghost use Rattle.rules.specs.Report.{values, overSome, resultOf, measured, twoOf};
@@ -65,6 +66,14 @@ pub fn as_number(count: usize) -> i64
     count as i64
 }
 
+// A sum divided by the number of its values, cut toward zero.
+fn quotient(sum: i64, count: usize) -> i64
+    requires { ⌜ (0 < count) × (count ≤ 4096) ⌝ }
+    ensures { λ r. ⌜ r ≡ quotZ sum (pos count) ⌝ }
+{
+    sum / as_number(count)
+}
+
 // COUNT of no rows is 0; the others are null.
 fn of_no_rows(function: u8) -> Value
     ensures { λ r. ⌜ numbersFor r ≡ twoOf (resultOf function []) ⌝ }
@@ -75,7 +84,7 @@ fn of_no_rows(function: u8) -> Value
     Value::Null
 }
 
-// A measure other than LAST that has rows, of which `at` is the first.
+// A measure other than LAST and AVG that has rows, of which `at` is the first.
 fn measure_from(
     function: u8,
     letter: u8,
@@ -149,13 +158,45 @@ fn last_measure(
     Value::Number(entry_at(rows, columns, first + last, column))
 }
 
+// AVG over the rows of a match: their sum divided by their number.
+fn average_measure(
+    letter: u8,
+    column: usize,
+    rows: &[i32],
+    columns: usize,
+    first: usize,
+    labels: &[u8],
+) -> Value
+    requires { ⌜ Readable (now rows) columns first (length (now labels)) column ⌝ }
+    ensures { λ r. ⌜ numbersFor r ≡ twoOf (measured (tableOf columns (now (rows .entry))) first (now (labels .entry)) (measureBy 7 letter column)) ⌝ }
+{
+    let Found::At(at) = first_of(letter, labels) else {
+        return Value::Null;
+    };
+    let sum = joined_from(
+        Measure::SUM,
+        letter,
+        column,
+        rows,
+        columns,
+        first,
+        labels,
+        at,
+    );
+    let count = count_of(letter, labels, at);
+    Value::Number(quotient(sum, count))
+}
+
 // A measure over the rows of a match: the labels are of the rows from `first` on.
 pub fn measure_of(m: Measure, rows: &[i32], columns: usize, first: usize, labels: &[u8]) -> Value
-    requires { ⌜ (1 ≤ m .function) × (m .function ≤ 6) × Readable (now rows) columns first (length (now labels)) (m .column) ⌝ }
+    requires { ⌜ (1 ≤ m .function) × (m .function ≤ 7) × Readable (now rows) columns first (length (now labels)) (m .column) ⌝ }
     ensures { λ r. ⌜ numbersFor r ≡ twoOf (measured (tableOf columns (now (rows .entry))) first (now (labels .entry)) (measureOf m)) ⌝ }
 {
     if m.function == Measure::LAST {
         return last_measure(m.letter, wide8(m.column), rows, columns, first, labels);
+    }
+    if m.function == Measure::AVG {
+        return average_measure(m.letter, wide8(m.column), rows, columns, first, labels);
     }
     let Found::At(at) = first_of(m.letter, labels) else {
         return of_no_rows(m.function);

@@ -188,7 +188,7 @@ module _ {A : Type 0} (g h : A → Bool) where
 letter-fits : (columns f l c : ℕ) → functionFits columns f l c ≡ true → (eqb l 0 || isLetter l) ≡ true
 unfolding functionFits
 letter-fits columns f l c e =
-    and-left (eqb l 0 || isLetter l) (ltb c columns && (not (eqb f 1) || eqb c 0)) (and-right (inRange 1 6 f) ((eqb l 0 || isLetter l) && (ltb c columns && (not (eqb f 1) || eqb c 0))) e)
+    and-left (eqb l 0 || isLetter l) (ltb c columns && (not (eqb f 1) || eqb c 0)) (and-right (inRange 1 7 f) ((eqb l 0 || isLetter l) && (ltb c columns && (not (eqb f 1) || eqb c 0))) e)
 
 -- for such a letter, standing in the pattern is standing in its text
 letter-known : (p : Tree pattern) (text : List ℕ) (l : ℕ) → Written p text → (eqb l 0 || isLetter l) ≡ true → (eqb l 0 || has l (letters p)) ≡ knownIn text l

@@ -70,7 +70,7 @@ unfolding measureIn
 measure-is T at k f l c x y z ex ey ez e = rw (e .0, e .1, e .2, ex, ey, ez)
 
 -- a function of 1 to 6, and a column
-fits-parts : (columns f l c : ℕ) → functionFits columns f l c ≡ true → (1 ≤ f) × (f ≤ 6) × (c < columns)
+fits-parts : (columns f l c : ℕ) → functionFits columns f l c ≡ true → (1 ≤ f) × (f ≤ 7) × (c < columns)
 unfolding functionFits inRange
 fits-parts columns f l c e =
     let r = and-left (leb 1 f && leb f 6) _ e in
@@ -91,13 +91,13 @@ module _ (numbers : List ℤ) (at : ℕ) (T : List ℕ) (words count : ℕ) (row
       }
 
   module _ (f l c : ℕ) (e : measureBy f l c ≡ measureIn T words k) where
-    parts : (1 ≤ f) × (f ≤ 6) × (c < columns)
+    parts : (1 ≤ f) × (f ≤ 7) × (c < columns)
     parts = fits-parts columns f l c (ap (λ (m : Q.Measure). functionFits columns (m .function) (m .letter) (m .column)) e ∙ h .measured .fit k q)
 
     pub function-from : 1 ≤ f
     function-from = parts .0
 
-    pub function-upto : f ≤ 6
+    pub function-upto : f ≤ 7
     function-upto = parts .1
 
     pub readable-one : Readable rows columns first long c

@@ -3,7 +3,7 @@ use mathlib.Core.Path.{refl}
 use mathlib.Core.Bool.{false≢true, true≢false}
 use Rattle.rules.specs.Basics.{every}
 use Rattle.rules.specs.Bench.{agrees}
-use Rattle.rules.specs.Samples.{skips, fullFirst, allowances, keepsTo, noRows, Preferences}
+use Rattle.rules.specs.Samples.{skips, fullFirst, allowances, keepsTo, noRows, comesTo, averages, averageSearches, Preferences}
 use Rattle.rules.specs.Preferment.{Prefers}
 use lib.Dec.{T}
 
@@ -22,6 +22,14 @@ allowances-hold = tt
 pub no-rows : T noRows
 unfolding noRows
 no-rows = tt
+
+pub averages-hold : T (every comesTo averages)
+unfolding every comesTo averages
+averages-hold = tt
+
+pub average-searches-hold : T (every agrees averageSearches)
+unfolding every agrees averageSearches
+average-searches-hold = tt
 
 pub preferences : Preferences
 unfolding Prefers

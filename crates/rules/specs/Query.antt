@@ -155,11 +155,11 @@ unfoldable pub skipFits : List ℕ → Record → Bool
 unfolding field isLetter
 skipFits s r = eqb (r .len) 2 && pick (leb (field s r 0) 1) (eqb (field s r 1) 0) (leb (field s r 0) 3 && isLetter (field s r 1))
 
--- kind 5: a function 1 to 6, a letter or 0 for all rows, a column below the shape's count (0 for COUNT, function 1), and a reserved byte
+-- kind 5: a function 1 to 7 (R-5), a letter or 0 for all rows, a column below the shape's count (0 for COUNT, function 1), and a reserved byte
 unfoldable pub functionFits : ℕ → ℕ → ℕ → ℕ → Bool
 unfolding isLetter inRange
 functionFits columns function letter column =
-    inRange 1 6 function
+    inRange 1 7 function
     && ((eqb letter 0 || isLetter letter)
     && (ltb column columns
     && (not (eqb function 1) || eqb column 0)))

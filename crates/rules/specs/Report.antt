@@ -6,7 +6,7 @@ use mathlib.Core.Option.{Option, none, some}
 use Prim.Native.Nat.{ℕ, zero, suc, _+_, _*_, _/_, _%_, _^_}
 use lib.Dec.{leb, eqb}
 use lib.IntN.{ℤ, pos, _+ℤ_}
-use lib.Signed.{ltZ}
+use lib.Signed.{ltZ, quotZ}
 use lib.ListN.{length, getD, replicate}
 use Rattle.rules.specs.Basics.{pick, keep, tabulate}
 use Rattle.rules.specs.Rows.{Table, entry}
@@ -23,14 +23,16 @@ unfolding entry
 values t m row [] = []
 values t m row (l ∷ ls) = keep (eqb (m .letter) 0 || eqb l (m .letter)) (entry t row (m .column)) (values t m (row + 1) ls)
 
--- a value joined to the result of those before it: 2 SUM the sum, 3 MIN the lower, 4 MAX the higher, 5 FIRST the earlier, 6 LAST the later
+-- a value joined to the result of those before it: 2 SUM the sum, 3 MIN the lower, 4 MAX the higher, 5 FIRST the earlier, 6 LAST the later.
+-- No other function joins.
 unfoldable pub joined : ℕ → ℤ → ℤ → ℤ
 joined f a b =
     pick (eqb f 2) (a +ℤ b)
     (pick (eqb f 3) (pick (ltZ b a) b a)
     (pick (eqb f 4) (pick (ltZ a b) b a)
     (pick (eqb f 5) a
-    b)))
+    (pick (eqb f 6) b
+    a))))
 
 unfoldable pub joinAll : ℕ → ℤ → List ℤ → ℤ
 unfolding joined
@@ -43,9 +45,15 @@ unfolding joinAll
 overSome f [] = none
 overSome f (x ∷ xs) = some (joinAll f x xs)
 
+-- 7 AVG (R-5): the sum divided by the count, exact, cut toward zero; null for no rows
+unfoldable pub averageOf : List ℤ → Option ℤ
+unfolding joinAll
+averageOf [] = none
+averageOf (x ∷ xs) = some (quotZ (joinAll 2 x xs) (pos (length (x ∷ xs))))
+
 unfoldable pub resultOf : ℕ → List ℤ → Option ℤ
-unfolding overSome
-resultOf f xs = pick (eqb f 1) (some (pos (length xs))) (overSome f xs)
+unfolding overSome averageOf
+resultOf f xs = pick (eqb f 1) (some (pos (length xs))) (pick (eqb f 7) (averageOf xs) (overSome f xs))
 
 unfoldable pub measured : Table → ℕ → List ℕ → Measure → Option ℤ
 unfolding resultOf values

@@ -3,19 +3,20 @@
 use mathlib.Core.Bool.{Bool, true, false, _&&_}
 use mathlib.Core.List.{List, [], _∷_, _++_}
 use mathlib.Core.Logic.{inl, inr}
-use mathlib.Core.Option.{none, some}
+use mathlib.Core.Option.{Option, none, some}
 use Prim.Native.Nat.{ℕ, zero-le}
 use Prim.Native.String.{String}
 use native.Mathlib.Omega.{arith}
 use lib.Dec.{eqb}
-use lib.IntN.{ℤ, pos}
+use lib.IntN.{ℤ, pos, negℤ}
 use lib.ListN.{replicate}
 use Rattle.rules.specs.Basics.{bytes}
 use Rattle.rules.specs.Language.{opt, lower, upper, pattern, Tree, one, more, last, bare, times, letter}
 use Rattle.rules.specs.Preferment.{Derivation, Prefers}
 use Rattle.rules.specs.Walk.{countTrue}
 use Rattle.rules.specs.Answers.{Buffers, walkWithin, searchWithin, searchOf}
-use Rattle.rules.specs.Bench.{recordOf, w1, X, any, Line, at, line, unstepped, refusal, enough}
+use Rattle.rules.specs.Bench.{recordOf, w1, X, any, Line, at, line, unstepped, refusal, enough, asks, equalZ}
+use Rattle.rules.specs.Report.{resultOf}
 
 -- ---- R-2, skip to a labelled row
 
@@ -106,6 +107,75 @@ keepsTo l =
 unfoldable pub noRows : Bool
 unfolding searchWithin w1
 noRows = eqb (searchWithin (some 0) w1 [] (enough w1 []) .result .answer) 0
+
+-- ---- R-5, the average of a column
+
+-- a function, the values that it is over, and its result
+pub record Averaged : Type 0 where
+  pub function : ℕ
+  pub values : List ℤ
+  pub result : Option ℤ
+
+abbrev pub gives : ℕ → List ℤ → Option ℤ → Averaged
+gives f xs r = record { function = f; values = xs; result = r }
+
+-- -k; and the same result, null or a number
+abbrev pub minus : ℕ → ℤ
+minus k = negℤ (pos k)
+
+abbrev pub sameResult : Option ℤ → Option ℤ → Bool
+sameResult none none = true
+sameResult none (some b) = false
+sameResult (some a) none = false
+sameResult (some a) (some b) = equalZ a b
+
+unfoldable pub comesTo : Averaged → Bool
+unfolding resultOf
+comesTo a = sameResult (resultOf (a .function) (a .values)) (a .result)
+
+unfoldable pub averages : List Averaged
+averages =
+    -- the request's own: -3 and -4 give -3, 3 and 4 give 3; no rows give null
+    gives 7 (minus 3 ∷ minus 4 ∷ []) (some (minus 3))
+    ∷ gives 7 (pos 3 ∷ pos 4 ∷ []) (some (pos 3))
+    ∷ gives 7 [] none
+    -- a sum of 0 is no null
+    ∷ gives 7 (minus 5 ∷ pos 5 ∷ []) (some (pos 0))
+    -- one row; mixed signs; a sum smaller than the count is 0, on either side
+    ∷ gives 7 (minus 5 ∷ []) (some (minus 5))
+    ∷ gives 7 (minus 3 ∷ pos 4 ∷ []) (some (pos 0))
+    ∷ gives 7 (pos 3 ∷ minus 4 ∷ []) (some (pos 0))
+    ∷ gives 7 (pos 10 ∷ minus 1 ∷ minus 1 ∷ []) (some (pos 2))
+    ∷ gives 7 (minus 10 ∷ pos 1 ∷ pos 1 ∷ []) (some (minus 2))
+    -- it is cut once, at the end: 1, 1, 1, 1 and 6 give 2
+    ∷ gives 7 (pos 1 ∷ pos 1 ∷ pos 1 ∷ pos 1 ∷ pos 6 ∷ []) (some (pos 2))
+    -- the lowest and the highest entries; the sum passes 32 bits
+    ∷ gives 7 (minus 2147483648 ∷ minus 2147483648 ∷ minus 2147483647 ∷ []) (some (minus 2147483647))
+    ∷ gives 7 (pos 2147483647 ∷ pos 2147483647 ∷ pos 2147483647 ∷ []) (some (pos 2147483647))
+    -- the other functions on the same rows
+    ∷ gives 1 (minus 3 ∷ minus 4 ∷ []) (some (pos 2))
+    ∷ gives 2 (minus 3 ∷ minus 4 ∷ []) (some (minus 7))
+    ∷ gives 3 (minus 3 ∷ minus 4 ∷ []) (some (minus 4))
+    ∷ gives 4 (minus 3 ∷ minus 4 ∷ []) (some (minus 3))
+    ∷ gives 5 (minus 3 ∷ minus 4 ∷ []) (some (minus 3))
+    ∷ gives 6 (minus 3 ∷ minus 4 ∷ []) (some (minus 4))
+    ∷ gives 6 [] none
+    ∷ []
+
+-- whole searches: AVG of all rows, of a letter's rows, of a letter without rows; there is no function 8
+abbrev pub averageLine : List ℕ → List ℤ → ℕ → List (ℕ × List ℕ) → List ℤ → Line
+averageLine q rows p ms ns = record { query = q; rows = rows; answer = 0; places = p; matches = ms; steps = none; numbers = some ns; output = none }
+
+unfoldable pub averageSearches : List Line
+unfolding bytes
+averageSearches =
+    averageLine (asks "A A" [] 0 (recordOf 5 (7 ∷ 0 ∷ 0 ∷ 0 ∷ []))) (minus 3 ∷ minus 4 ∷ []) 3 (at 0 "AA" ∷ []) (pos 1 ∷ pos 0 ∷ pos 2 ∷ pos 1 ∷ minus 3 ∷ [])
+    ∷ averageLine (asks "A+ B C?" [] 0 (recordOf 5 (7 ∷ 65 ∷ 0 ∷ 0 ∷ []) ++ recordOf 5 (7 ∷ 67 ∷ 0 ∷ 0 ∷ []))) (pos 3 ∷ pos 4 ∷ pos 9 ∷ []) 7 (at 0 "AAB" ∷ [])
+    (pos 1 ∷ pos 0 ∷ pos 3 ∷ pos 1 ∷ pos 3 ∷ pos 0 ∷ pos 0 ∷ [])
+    ∷ refusal (asks "A" [] 0 (recordOf 5 (8 ∷ 0 ∷ 0 ∷ 0 ∷ []))) 2 3
+    ∷ refusal (asks "A" [] 0 (recordOf 5 (7 ∷ 0 ∷ 1 ∷ 0 ∷ []))) 2 3
+    ∷ refusal (asks "A" [] 0 (recordOf 5 (7 ∷ 66 ∷ 0 ∷ 0 ∷ []))) 2 9
+    ∷ []
 
 -- ---- ISO/IEC 19075-5, clause 6.2, the order of preferment
 

@@ -19,19 +19,19 @@ joined-from-requires : tie.Need-joined-from-requires
 joined-from-requires c κs = search needs
 
 returns-2 : tie.Need-returns-2
-returns-2 c = gives-joined _ _ _ _ _ _ 2 _ (c .joined-from .ok) (c .before .if2 .taken) (λ w. omega arith) (c .joined-from .ensures)
+returns-2 c = gives-joined _ _ _ _ _ _ 2 _ (c .joined-from .ok) (c .before .if2 .taken) (λ w. omega arith) (λ w. omega arith) (c .joined-from .ensures)
 
 joined-from-requires-2 : tie.Need-joined-from-requires-2
 joined-from-requires-2 c κs = search needs
 
 returns-3 : tie.Need-returns-3
-returns-3 c = gives-joined _ _ _ _ _ _ 3 _ (c .joined-from2 .ok) (c .before .if3 .taken) (λ w. omega arith) (c .joined-from2 .ensures)
+returns-3 c = gives-joined _ _ _ _ _ _ 3 _ (c .joined-from2 .ok) (c .before .if3 .taken) (λ w. omega arith) (λ w. omega arith) (c .joined-from2 .ensures)
 
 joined-from-requires-3 : tie.Need-joined-from-requires-3
 joined-from-requires-3 c κs = search needs
 
 returns-4 : tie.Need-returns-4
-returns-4 c = gives-joined _ _ _ _ _ _ 4 _ (c .joined-from3 .ok) (c .before .if4 .taken) (λ w. omega arith) (c .joined-from3 .ensures)
+returns-4 c = gives-joined _ _ _ _ _ _ 4 _ (c .joined-from3 .ok) (c .before .if4 .taken) (λ w. omega arith) (λ w. omega arith) (c .joined-from3 .ensures)
 
 add-entry-at : tie.Need-add-entry-at
 add-entry-at c = omega (

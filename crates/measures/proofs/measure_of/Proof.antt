@@ -1,5 +1,5 @@
 -- `measures::measure_of` meets its contract by the laws of RowsOf.
-use Rattle.measures.proofs.RowsOf.{as-last, gives-none, same-column}
+use Rattle.measures.proofs.RowsOf.{as-last, as-average, gives-none, same-column}
 use Rattle.labelled.proofs.Seeking.{first-at}
 use borrow.Author.Needs.{needs}
 use Rattle.measures.proofs.measure_of.Statement.{statement}
@@ -14,6 +14,15 @@ last-measure-requires c κs = search needs
 returns : tie.Need-returns
 returns c = search (needs, as-last)
 
+wide8-requires-2 : tie.Need-wide8-requires-2
+wide8-requires-2 c κs = search needs
+
+average-measure-requires : tie.Need-average-measure-requires
+average-measure-requires c κs = search needs
+
+returns-2 : tie.Need-returns-2
+returns-2 c = search (needs, as-average)
+
 first-of-requires : tie.Need-first-of-requires
 first-of-requires c κs = search needs
 
@@ -26,17 +35,17 @@ enum-told c = search needs
 of-no-rows-requires : tie.Need-of-no-rows-requires
 of-no-rows-requires c κs = search needs
 
-returns-2 : tie.Need-returns-2
-returns-2 c = search (needs, gives-none)
+returns-3 : tie.Need-returns-3
+returns-3 c = search (needs, gives-none)
 
-wide8-requires-2 : tie.Need-wide8-requires-2
-wide8-requires-2 c κs = search needs
+wide8-requires-3 : tie.Need-wide8-requires-3
+wide8-requires-3 c κs = search needs
 
 measure-from-requires : tie.Need-measure-from-requires
 measure-from-requires c κs = search (needs, first-at)
 
-returns-3 : tie.Need-returns-3
-returns-3 c = search (needs, same-column)
+returns-4 : tie.Need-returns-4
+returns-4 c = search (needs, same-column)
 
 pub measure-of-spec : {M : Type 1} → statement M
 measure-of-spec =
@@ -45,11 +54,14 @@ measure-of-spec =
     wide8-requires
     last-measure-requires
     returns
+    wide8-requires-2
+    average-measure-requires
+    returns-2
     first-of-requires
     enum-known-at
     enum-told
     of-no-rows-requires
-    returns-2
-    wide8-requires-2
+    returns-3
+    wide8-requires-3
     measure-from-requires
-    returns-3)
+    returns-4)
