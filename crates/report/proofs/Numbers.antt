@@ -69,14 +69,14 @@ pub measure-is : (T : List ℕ) (at k f l c x y z : ℕ) → x ≡ getD T (at + 
 unfolding measureIn
 measure-is T at k f l c x y z ex ey ez e = rw (e .0, e .1, e .2, ex, ey, ez)
 
--- a function of 1 to 6, and a column
+-- a function of 1 to 7, and a column
 fits-parts : (columns f l c : ℕ) → functionFits columns f l c ≡ true → (1 ≤ f) × (f ≤ 7) × (c < columns)
 unfolding functionFits inRange
 fits-parts columns f l c e =
-    let r = and-left (leb 1 f && leb f 6) _ e in
-    let q = and-right (leb 1 f && leb f 6) _ e in
+    let r = and-left (leb 1 f && leb f 7) _ e in
+    let q = and-right (leb 1 f && leb f 7) _ e in
     let z = and-right (eqb l 0 || isLetter l) _ q in
-    (leb-true 1 f (and-left (leb 1 f) (leb f 6) r), leb-true f 6 (and-right (leb 1 f) (leb f 6) r), ltb-true c columns (and-left (ltb c columns) _ z))
+    (leb-true 1 f (and-left (leb 1 f) (leb f 7) r), leb-true f 7 (and-right (leb 1 f) (leb f 7) r), ltb-true c columns (and-left (ltb c columns) _ z))
 
 module _ (numbers : List ℤ) (at : ℕ) (T : List ℕ) (words count : ℕ) (rows : List ℤ) (columns first long k : ℕ)
     (h : Reportable numbers at T words count rows columns first long) (q : k < count) where
