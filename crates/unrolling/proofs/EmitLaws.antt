@@ -4,16 +4,15 @@ use mathlib.Core.Path.{_≡_, refl, sym, ap, _∙_, subst}
 use mathlib.Core.Bool.{Bool, true, false}
 use mathlib.Core.List.{List, [], _∷_, _++_}
 use mathlib.Core.Logic.{inl, inr}
-use Prim.Native.Nat.{ℕ, zero, suc, _+_, _*_, _-_, _≤_, _<_, min}
+use Prim.Native.Nat.{ℕ, suc, _+_, _*_, _-_, _≤_, _<_, min}
 use native.Mathlib.Omega.{arith}
-use native.Mathlib.Nat.{mul-le-mul}
 use mir.Val.{Fits as Fits-in}
 use mir.Syntax.{w64}
 use lib.Dec.{eqb}
 use lib.ListN.{length, length-append}
 use Rattle.rules.specs.Basics.{pick}
-use Rattle.rules.specs.Language.{Form, star, plus, opt, exactly, atLeast, atMost, between, lower, upper, InBounds, pattern, branch, factor, primary, Tree, one, more, last, next, bare, times, letter, empty}
-use Rattle.rules.specs.Places.{unrolled, unroll, Place, pLetter, pCaret, pDollar, size, sizes, code, roundPlaces, fork, placeCount}
+use Rattle.rules.specs.Language.{pattern, branch, factor, primary, Tree, one, more, last, next, letter, empty}
+use Rattle.rules.specs.Places.{unrolled, unroll, Place, pLetter, pCaret, pDollar, size, sizes, code, fork, placeCount}
 use Rattle.laws.proofs.Counting.{unrolled-size}
 use Rattle.rules.specs.Working.{thinPlace, thinned}
 use Rattle.nodes.specs.Nodes.{nodeAt}
@@ -21,12 +20,13 @@ use Rattle.nodes.specs.declared.Sort.{Sort}
 use Rattle.nodes.specs.declared.Sort.the-variants.{Letter, Anchor, Empty, Sequence, Alternation, Group}
 use Rattle.nodes.specs.declared.Node.{Node}
 use Rattle.trees.specs.Held.{body, lowOf, highestOf, lazyOf, Top, At}
-use Rattle.trees.proofs.ByNode.{Bounded, IsAnchor, FactorAt, GroupAt, as-any, as-seq, as-alt, as-letter, as-anchor, as-empty, as-group, at-in, seq-left, seq-right, alt-left, alt-right, group-left, top-places}
+use Rattle.trees.proofs.ByNode.{IsAnchor, FactorAt, GroupAt, as-any, as-seq, as-alt, as-letter, as-anchor, as-empty, as-group, at-in, seq-left, seq-right, alt-left, alt-right, group-left, top-places}
 use Rattle.place_words.specs.Words.{putWords, putPlace, wayCount, waysIn, putPlaces, Fitting, Emitted, Wording}
 use Rattle.place_codes.specs.Codes.{letterCode, anchorCode}
-use Rattle.forks.specs.Emitting.{choicePlaces, Choosing, forkPlaces, Forking, treePlaces, branchPlaces, bodyPlaces, turns, turnPlaces, Emitting, Branching, Bodying, Turning, WholeSize, BodySize}
+use Rattle.forks.specs.Emitting.{choicePlaces, Choosing, forkPlaces, Forking, treePlaces, branchPlaces, bodyPlaces, turns, turnPlaces, Emitting, Branching, Bodying, Turning, BodySize}
 use Rattle.place_words.proofs.TableLaws.{fit-left, fit-right, emitted-two, emitted-none}
 use Rattle.unrolling.proofs.CodeLaws.{tree-length, branch-length, body-length, turn-length, seq-places, branch-more, branch-one, alt-places, factor-places, factor-size, turn-copy, turn-none, turn-option, turn-star}
+use Rattle.body_sizes.proofs.SizeLaws.{OnFactor}
 
 -- ---- measures
 
@@ -65,85 +65,6 @@ roundM s i n m = 400 * (nodeAt s i) .height + 1 + n + m
 
 unfoldable pub bodyM : List ℕ → ℕ → ℕ
 bodyM s i = 400 * (nodeAt s i) .height
-
--- ---- sizes
-
-module _ (s : List ℕ) (i c : ℕ) (k : Sort) (ec : c ≡ (nodeAt s i) .places) (ek : k ≡ (nodeAt s i) .sort) where
-  pub whole-alt : k ≡ Alternation → WholeSize s i (c + 1)
-  unfolding fork placeCount
-  whole-alt e = as-alt s i (nodeAt s i) refl (λ p. placeCount p ≤ 256 → c + 1 ≡ fork p + placeCount p) (sym ek ∙ e) (λ b p q h. omega (arith, q .places, ec))
-
-  pub whole-one : (k ≡ Alternation → ⊥) → WholeSize s i c
-  unfolding fork placeCount
-  whole-one e =
-      as-any s i (nodeAt s i) refl (λ p. placeCount p ≤ 256 → c ≡ fork p + placeCount p) (λ F q h. omega (arith, q .places, ec)) (λ f b q h. omega (arith, q .places, ec))
-      (λ b p q h. absurd (e (ek ∙ q .sort)))
-
-pub whole-fits : (s : List ℕ) (i c : ℕ) → At s i → c ≡ (nodeAt s i) .places → (v : ℕ) → v ≤ c + 1 → Fits-in w64 v
-whole-fits s i c a e v h = record { fits = omega (arith, e, top-places s i (a .tree) (a .is)) }
-
-pub at-node : (s : List ℕ) (i : ℕ) → At s i → 8 * i + 8 ≤ length s
-at-node s i a = at-in s i a
-
--- a statement on factors, as one on patterns
-abbrev OnFactor : (Tree factor → Type 0) → Tree pattern → Type 0
-OnFactor D (one (last F)) = D F
-OnFactor D (one (next f b)) = Unit {0}
-OnFactor D (more b p) = Unit {0}
-
-rounds-more : (f : Form) (c : ℕ) → InBounds f → c ≤ roundPlaces (lower f) (upper f) c
-unfolding roundPlaces lower upper InBounds
-rounds-more star c i = omega arith
-rounds-more plus c i = omega arith
-rounds-more opt c i = omega arith
-rounds-more (exactly n) c i = let a : 1 * c ≤ n * c = mul-le-mul (i .0) (omega arith) in omega (arith, a)
-rounds-more (atLeast n) c i = omega arith
-rounds-more (atMost m) c i = let a : 1 * (1 + c) ≤ (m - 0) * (1 + c) = mul-le-mul (omega (arith, i .0)) (omega arith) in omega (arith, a)
-rounds-more (between zero m) c i = let a : 1 * (1 + c) ≤ (m - 0) * (1 + c) = mul-le-mul (omega (arith, i .0)) (omega arith) in omega (arith, a)
-rounds-more (between (suc n) m) c i = let a : 1 * c ≤ suc n * c = mul-le-mul (omega arith) (omega arith) in omega (arith, a)
-
-body-less : (F : Tree factor) → Bounded F → placeCount (body F) ≤ placeCount F
-unfolding placeCount
-body-less (bare x) i = omega arith
-body-less (times x f z) i = rounds-more f (placeCount x) i
-
-module _ (s : List ℕ) (i : ℕ) (n : Node) (en : n ≡ nodeAt s i) where
-  abbrev SizeIs : ℕ → Tree factor → Type 0
-  SizeIs r F = placeCount F ≤ 256 → r ≡ placeCount (body F)
-
-  pub size-letter : (a : ℕ) → n .sort ≡ Letter a → BodySize s i 1
-  unfolding placeCount
-  size-letter a e F t = as-letter s i n en (OnFactor (SizeIs 1)) a e (λ G q j h. sym (ap (λ (x : Tree primary). placeCount x) j)) (one (last F)) t
-
-  pub size-anchor : (a : ℕ) → n .sort ≡ Anchor a → BodySize s i 1
-  unfolding placeCount
-  size-anchor a e F t = as-anchor s i n en (OnFactor (SizeIs 1)) a e go (one (last F)) t
-    where
-      go : (G : Tree factor) → FactorAt s n G → IsAnchor (body G) a → SizeIs 1 G
-      go G q (inl j) h = sym (ap (λ (x : Tree primary). placeCount x) (j .0))
-      go G q (inr j) h = sym (ap (λ (x : Tree primary). placeCount x) (j .0))
-
-  pub size-empty : n .sort ≡ Empty → BodySize s i 0
-  unfolding placeCount
-  size-empty e F t = as-empty s i n en (OnFactor (SizeIs 0)) e (λ G q j h. sym (ap (λ (x : Tree primary). placeCount x) j)) (one (last F)) t
-
-  pub size-sequence : n .sort ≡ Sequence → BodySize s i 0
-  size-sequence e F t = as-seq s i n en (OnFactor (SizeIs 0)) e (λ f b q. tt) (one (last F)) t
-
-  pub size-alternation : n .sort ≡ Alternation → BodySize s i 0
-  size-alternation e F t = as-alt s i n en (OnFactor (SizeIs 0)) e (λ b p q. tt) (one (last F)) t
-
-  pub size-group : (r : ℕ) → n .sort ≡ Group → WholeSize s (n .left) r → BodySize s i r
-  unfolding placeCount
-  size-group r e f F t =
-      as-group s i n en (OnFactor (SizeIs r)) e
-      (λ G q p g h.
-      let j : placeCount (body G) ≡ fork p + placeCount p = ap (λ (x : Tree primary). placeCount x) (g .is) in
-      f p (g .inside) (omega (arith, body-less G (q .bounds))) ∙ sym j)
-      (one (last F)) t
-
-  pub size-inside : At s i → n .sort ≡ Group → At s (n .left)
-  size-inside a e = (group-left s i n en ((nodeAt s i) .height) refl a e) .1
 
 -- ---- two parts
 

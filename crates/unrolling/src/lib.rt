@@ -2,21 +2,20 @@
 // branches and rounds are walked over by loops; a pair of parentheses is a call, whose node is lower,
 // so calls nest as deep as parentheses do. Weakness: a factor's body is unrolled once for each of its
 // copies.
+use body_sizes::body_size;
 use forks::branch_fork;
 use forks::fork;
 use nodes::Sort;
 use nodes::node_at;
 use nodes::places_at;
-use nodes::sort_at;
 use place_codes::anchor_code;
 use place_codes::letter_code;
 use place_codes::start_at;
 use place_codes::turns_behind;
 use place_words::put_place;
-ghost use Rattle.trees.specs.Held.{At};
 ghost use Rattle.place_words.specs.Words.{Emitted};
 ghost use Rattle.forks.specs.Emitting.{treePlaces, branchPlaces, bodyPlaces, turnPlaces};
-ghost use Rattle.forks.specs.Emitting.{Emitting, Branching, Bodying, Turning, WholeSize, BodySize};
+ghost use Rattle.forks.specs.Emitting.{Emitting, Branching, Bodying, Turning};
 
 // A factor in its rounds: its node, the places of its body, whether it is reluctant, the number behind
 // its last place, and the place behind it.
@@ -26,37 +25,6 @@ struct Factor {
     lazy: bool,
     end: usize,
     behind: usize,
-}
-
-// The places of the pattern at i, its fork included.
-fn whole_size(room: &[u16], i: usize) -> usize
-    requires { ⌜ At (now room) i ⌝ }
-    ensures { λ r. ⌜ WholeSize (now (room .entry)) i r ⌝ }
-{
-    let c = places_at(room, i);
-    let sort = sort_at(room, i);
-    if let Sort::Alternation = sort {
-        return c + 1;
-    }
-    c
-}
-
-// The places of the body of the factor at i.
-fn body_size(room: &[u16], i: usize) -> usize
-    requires { ⌜ At (now room) i ⌝ }
-    ensures { λ r. ⌜ BodySize (now (room .entry)) i r ⌝ }
-{
-    let n = node_at(room, i);
-    let sort = n.sort;
-    let left = n.left;
-    match sort {
-        Sort::Letter(_) => 1,
-        Sort::Anchor(_) => 1,
-        Sort::Empty => 0,
-        Sort::Sequence => 0,
-        Sort::Alternation => 0,
-        Sort::Group => whole_size(room, left),
-    }
 }
 
 // The tree at i, its places numbered from b on and their ways from word w on, where k is the place

@@ -29,7 +29,7 @@ use Rattle.place_words.proofs.put_place.Reads as put-place-reads
 use Rattle.place_codes.proofs.start_at.Reads as start-at-reads
 use Rattle.nodes.proofs.node_at.Reads as node-at-reads
 use Rattle.nodes.proofs.places_at.Reads as places-at-reads
-use Rattle.unrolling.proofs.body_size.Reads as body-size-reads
+use Rattle.body_sizes.proofs.body_size.Reads as body-size-reads
 use Rattle.place_codes.proofs.anchor_code.Reads as anchor-code-reads
 use Rattle.place_codes.proofs.letter_code.Reads as letter-code-reads
 use Rattle.place_codes.proofs.turns_behind.Reads as turns-behind-reads

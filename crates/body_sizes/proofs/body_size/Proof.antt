@@ -1,8 +1,8 @@
--- `unrolling::body_size` meets its contract. Laws: EmitLaws.
-use Rattle.unrolling.proofs.EmitLaws.{at-node, size-letter, size-anchor, size-empty, size-sequence, size-alternation, size-group, size-inside}
+-- `body_sizes::body_size` meets its contract. Laws: EmitLaws.
+use Rattle.body_sizes.proofs.SizeLaws.{at-node, size-letter, size-anchor, size-empty, size-sequence, size-alternation, size-group, size-inside}
 use borrow.Author.Needs.{needs}
-use Rattle.unrolling.proofs.body_size.Statement.{statement}
-use Rattle.unrolling.proofs.body_size.Tie as tie
+use Rattle.body_sizes.proofs.body_size.Statement.{statement}
+use Rattle.body_sizes.proofs.body_size.Tie as tie
 
 node-at-requires : tie.Need-node-at-requires
 node-at-requires c κs = at-node _ _ (c .before .pre)

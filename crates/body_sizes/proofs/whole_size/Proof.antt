@@ -1,10 +1,10 @@
--- `unrolling::whole_size` meets its contract. Laws: EmitLaws, ForkLaws.
-use Rattle.unrolling.proofs.EmitLaws.{whole-alt, whole-one, whole-fits, at-node}
+-- `body_sizes::whole_size` meets its contract. Laws: EmitLaws, ForkLaws.
+use Rattle.body_sizes.proofs.SizeLaws.{whole-alt, whole-one, whole-fits, at-node}
 use Rattle.forks.proofs.ForkLaws.{not-alternation}
 use native.Mathlib.Omega.{arith}
 use borrow.Author.Needs.{needs}
-use Rattle.unrolling.proofs.whole_size.Statement.{statement}
-use Rattle.unrolling.proofs.whole_size.Tie as tie
+use Rattle.body_sizes.proofs.whole_size.Statement.{statement}
+use Rattle.body_sizes.proofs.whole_size.Tie as tie
 
 places-at-requires : tie.Need-places-at-requires
 places-at-requires c κs = at-node _ _ (c .before .pre)
