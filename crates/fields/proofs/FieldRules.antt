@@ -1,38 +1,17 @@
 -- The rules for fields, by the tests in the code: each law is one way through a function of fields.rt, with its callees' results as premises.
 use mathlib.Core.Path.{_≡_, refl, sym, ap, _∙_}
-use mathlib.Core.Bool.{Bool, true, false, not, _&&_, _||_}
+use mathlib.Core.Bool.{Bool, true, false, not, _&&_}
 use mathlib.Core.List.{List}
 use Prim.Native.Nat.{ℕ, zero, suc, _+_, _*_, _-_, _≤_, _<_}
 use native.Mathlib.Omega.{arith}
-use lib.Dec.{eqb, ltb, leb}
+use lib.Dec.{eqb, leb}
 use lib.ListN.{getD}
-use borrow.Author.Tests.{eq-eqb, ne-eqb, lt-ltb, le-ltb, le-leb, lt-leb, leb-true, leb-false, not-true, not-false}
-use Rattle.rules.specs.Basics.{pick, inRange, isLetter, everyBelow, signed8}
-use Rattle.rules.specs.Query.{offsetFits, field, shapeFits, textFits, leftFits, rightFits, comparisonFits, defineFits, skipFits, functionFits, measureFits, recordFits}
+use borrow.Author.Tests.{eq-eqb, ne-eqb, le-leb, lt-leb, not-true, not-false}
+use Rattle.rules.specs.Basics.{pick, inRange, isLetter, everyBelow}
+use Rattle.rules.specs.Query.{field, shapeFits, textFits, leftFits, rightFits, comparisonFits, defineFits, skipFits, functionFits, measureFits, recordFits}
 use Rattle.records.specs.Read.{recordOf}
 use Rattle.fields.specs.Fields.{fitsAt}
 use Rattle.records.proofs.Reading.{field-first}
-
--- ---- an offset byte
-
-pub offset-low : (b : ℕ) → b < 128 → leb b 64 ≡ offsetFits b
-unfolding offsetFits signed8
-offset-low b h = simp (lt-ltb b 128 h)
-
-same-test : (a b c d : ℕ) → (a ≤ b → c ≤ d) → (c ≤ d → a ≤ b) → leb a b ≡ leb c d
-same-test a b c d f g = by (leb a b) refl
-  where
-    by : (t : Bool) → leb a b ≡ t → leb a b ≡ leb c d
-    by true e = e ∙ sym (le-leb c d (f (leb-true a b e)))
-    by false e = e ∙ sym (other (leb c d) refl e)
-      where
-        other : (u : Bool) → leb c d ≡ u → leb a b ≡ false → leb c d ≡ false
-        other true q e = absurd (let z = g (leb-true c d q) in let y = leb-false a b e in omega arith)
-        other false q e = q
-
-pub offset-high : (b : ℕ) → b < 256 → 128 ≤ b → leb 192 b ≡ offsetFits b
-unfolding offsetFits signed8
-offset-high b h g = simp (le-ltb b 128 g) (same-test 192 b (255 - b) 63 (λ x. omega arith) (λ x. omega arith) ∙ sym (mathlib.Core.Bool.and-true (leb (255 - b) 63)))
 
 -- ---- records of each kind
 
@@ -160,25 +139,6 @@ module _ (s : List ℕ) (columns k b l : ℕ) where
 
 -- ---- straight code, by its callees' results
 
-pub within-is : (lo hi x : ℕ) (t u r : Bool) → r ≡ (t && u) → t ≡ leb lo x → u ≡ leb x hi → r ≡ inRange lo hi x
-unfolding inRange
-within-is lo hi x t u r er et eu = cc
-
-module _ (columns kind column offset : ℕ) where
-  pub right-constant : (t u r : Bool) → kind ≡ 0 → r ≡ (t && u) → t ≡ eqb column 0 → u ≡ eqb offset 0 → r ≡ rightFits columns kind column offset
-  unfolding rightFits
-  right-constant t u r h er et eu = simp (eq-eqb kind 0 h) (let z : r ≡ (eqb column 0 && eqb offset 0) = cc in z)
-
-  pub right-column : (t u v w r : Bool) → (kind ≡ 0 → ⊥) → r ≡ (t && w) → t ≡ eqb kind 1 → w ≡ (u && v) → u ≡ ltb column columns → v ≡ offsetFits offset
-      → r ≡ rightFits columns kind column offset
-  unfolding rightFits
-  right-column t u v w r h er et ew eu ev = simp (ne-eqb kind 0 h) (let z : r ≡ (eqb kind 1 && (ltb column columns && offsetFits offset)) = cc in z)
-
-pub left-is : (columns column offset operator : ℕ) (t u v w r : Bool) → r ≡ (t && w) → t ≡ ltb column columns → w ≡ (u && v) → u ≡ offsetFits offset → v ≡ inRange 1 6 operator
-    → r ≡ leftFits columns column offset operator
-unfolding leftFits
-left-is columns column offset operator t u v w r er et ew eu ev = cc
-
 pub comparison-is : (s : List ℕ) (columns p : ℕ) (t u v v' w w' r : Bool) (x0 x1 x2 x3 x4 x5 x6 x7 : ℕ) → r ≡ (t && w) → t ≡ leftFits columns x0 x1 x2 → w ≡ (u && w')
     → u ≡ rightFits columns x3 x4 x5 → w' ≡ (v && v') → v ≡ eqb x6 0 → v' ≡ eqb x7 0
     → x0 ≡ getD s p 0 → x1 ≡ getD s (p + 1) 0 → x2 ≡ getD s (p + 2) 0 → x3 ≡ getD s (p + 3) 0 → x4 ≡ getD s (p + 4) 0 → x5 ≡ getD s (p + 5) 0 → x6 ≡ getD s (p + 6) 0
@@ -186,12 +146,6 @@ pub comparison-is : (s : List ℕ) (columns p : ℕ) (t u v v' w w' r : Bool) (x
 unfolding comparisonFits
 comparison-is s columns p t u v v' w w' r x0 x1 x2 x3 x4 x5 x6 x7 e0 e1 e2 e3 e4 e5 e6 f0 f1 f2 f3 f4 f5 f6 f7 =
     rw (← f0, ← f1, ← f2, ← f3, ← f4, ← f5, ← f6, ← f7) (rw (← e6, ← e5, ← e4, ← e3, ← e2, ← e1) e0)
-
-pub function-is : (columns function letter column : ℕ) (a b b0 b1 c d d0 d1 d2 u v r : Bool) → r ≡ (a && u) → a ≡ inRange 1 7 function → u ≡ (b && v) → b ≡ (b0 || b1)
-    → b0 ≡ eqb letter 0 → b1 ≡ inRange 65 90 letter → v ≡ (c && d) → c ≡ ltb column columns → d ≡ (d1 || d2) → d1 ≡ not d0 → d0 ≡ eqb function 1 → d2 ≡ eqb column 0
-    → r ≡ functionFits columns function letter column
-unfolding functionFits isLetter
-function-is columns function letter column a b b0 b1 c d d0 d1 d2 u v r e0 e1 e2 e3 e4 e5 e6 e7 e8 e9 e10 e11 = rw (← e10, ← e11, ← e9, ← e8, ← e7, ← e6, ← e5, ← e4, ← e3, ← e2, ← e1) e0
 
 pub measure-is : (s : List ℕ) (columns b l : ℕ) (t u r : Bool) (x0 x1 x2 x3 : ℕ) → l ≡ 4 → r ≡ (t && u) → t ≡ functionFits columns x0 x1 x2 → u ≡ eqb x3 0 → x0 ≡ getD s b 0
     → x1 ≡ getD s (b + 1) 0 → x2 ≡ getD s (b + 2) 0 → x3 ≡ getD s (b + 3) 0 → r ≡ measureFits s columns (recordOf 5 b l)

@@ -1,87 +1,20 @@
-// The rules for the fields of each kind of record (document 01, "Rows and query records"), which answer 3 is about. Every function equals the
-// definition of its name; what is tested is short, so all parts of a test are computed and joined by both and either.
+// The rules for the fields of each kind of record (document 01, "Rows and query records"), which answer
+// 3 is about. Every function equals the definition of its name.
+use field_values::at_most;
+use field_values::both;
+use field_values::function_fits;
+use field_values::left_fits;
+use field_values::right_fits;
+use field_values::same;
+use field_values::within;
 use records::byte;
 ghost use mathlib.Core.Path.{_≡_};
-ghost use mathlib.Core.Bool.{true, false, not, _&&_, _||_};
-ghost use Prim.Native.Nat.{_+_, _*_, _≤_, _<_};
-ghost use lib.ListN.{length, getD};
-ghost use lib.Dec.{ltb, leb, eqb};
-ghost use Rattle.rules.specs.Basics.{inRange, everyBelow};
-ghost use Rattle.rules.specs.Query.{offsetFits, shapeFits, leftFits, rightFits, comparisonFits, defineFits, skipFits, functionFits, measureFits, recordFits};
+ghost use Prim.Native.Nat.{_+_, _*_, _≤_};
+ghost use lib.ListN.{length};
+ghost use Rattle.rules.specs.Basics.{everyBelow};
+ghost use Rattle.rules.specs.Query.{shapeFits, comparisonFits, defineFits, skipFits, measureFits, recordFits};
 ghost use Rattle.records.specs.Read.{recordOf};
 ghost use Rattle.fields.specs.Fields.{fitsAt};
-
-fn both(a: bool, b: bool) -> bool
-    ensures { λ r. ⌜ r ≡ (a && b) ⌝ }
-{
-    if a { b } else { false }
-}
-
-fn either(a: bool, b: bool) -> bool
-    ensures { λ r. ⌜ r ≡ (a || b) ⌝ }
-{
-    if a { true } else { b }
-}
-
-fn same(a: usize, b: usize) -> bool
-    ensures { λ r. ⌜ r ≡ eqb a b ⌝ }
-{
-    a == b
-}
-
-fn less(a: usize, b: usize) -> bool
-    ensures { λ r. ⌜ r ≡ ltb a b ⌝ }
-{
-    a < b
-}
-
-fn at_most(a: usize, b: usize) -> bool
-    ensures { λ r. ⌜ r ≡ leb a b ⌝ }
-{
-    a <= b
-}
-
-fn within(lo: usize, hi: usize, x: usize) -> bool
-    ensures { λ r. ⌜ r ≡ inRange lo hi x ⌝ }
-{
-    both(at_most(lo, x), at_most(x, hi))
-}
-
-// An offset byte from -64 to 64.
-fn offset_fits(b: usize) -> bool
-    requires { ⌜ b < 256 ⌝ }
-    ensures { λ r. ⌜ r ≡ offsetFits b ⌝ }
-{
-    if b < 128 {
-        return b <= 64;
-    }
-    192 <= b
-}
-
-// The right side of a comparison.
-fn right_fits(columns: usize, kind: usize, column: usize, offset: usize) -> bool
-    requires { ⌜ offset < 256 ⌝ }
-    ensures { λ r. ⌜ r ≡ rightFits columns kind column offset ⌝ }
-{
-    if kind == 0 {
-        return both(same(column, 0), same(offset, 0));
-    }
-    both(
-        same(kind, 1),
-        both(less(column, columns), offset_fits(offset)),
-    )
-}
-
-// The left side of a comparison, and its operator.
-fn left_fits(columns: usize, column: usize, offset: usize, operator: usize) -> bool
-    requires { ⌜ offset < 256 ⌝ }
-    ensures { λ r. ⌜ r ≡ leftFits columns column offset operator ⌝ }
-{
-    both(
-        less(column, columns),
-        both(offset_fits(offset), within(1, 6, operator)),
-    )
-}
 
 // The 12 bytes of a comparison.
 fn comparison_fits(s: &[u8], columns: usize, p: usize) -> bool
@@ -152,23 +85,6 @@ fn skip_fits(s: &[u8], start: usize, len: usize) -> bool
         return letter == 0;
     }
     both(at_most(mode, 3), within(65, 90, letter))
-}
-
-fn negated(a: bool) -> bool
-    ensures { λ r. ⌜ r ≡ not a ⌝ }
-{
-    !a
-}
-
-// A measure's function, letter and column; COUNT, function 1, has column 0.
-fn function_fits(columns: usize, function: usize, letter: usize, column: usize) -> bool
-    ensures { λ r. ⌜ r ≡ functionFits columns function letter column ⌝ }
-{
-    let known = within(1, 7, function);
-    let lettered = either(same(letter, 0), within(65, 90, letter));
-    let inside = less(column, columns);
-    let counting = either(negated(same(function, 1)), same(column, 0));
-    both(known, both(lettered, both(inside, counting)))
 }
 
 // Kind 5: those, and a reserved byte.

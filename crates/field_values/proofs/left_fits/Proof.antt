@@ -1,8 +1,8 @@
--- `fields::left_fits` meets its contract by the laws of FieldRules.
+-- `field_values::left_fits` meets its contract by the laws of FieldRules.
 use borrow.Author.Needs.{needs}
-use Rattle.fields.proofs.FieldRules.{left-is}
-use Rattle.fields.proofs.left_fits.Statement.{statement}
-use Rattle.fields.proofs.left_fits.Tie as tie
+use Rattle.field_values.proofs.ValueRules.{left-is}
+use Rattle.field_values.proofs.left_fits.Statement.{statement}
+use Rattle.field_values.proofs.left_fits.Tie as tie
 
 less-requires : tie.Need-less-requires
 less-requires c κs = search needs

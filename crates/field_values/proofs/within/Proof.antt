@@ -1,8 +1,8 @@
--- `fields::within` meets its contract by the laws of FieldRules.
+-- `field_values::within` meets its contract by the laws of FieldRules.
 use borrow.Author.Needs.{needs}
-use Rattle.fields.proofs.FieldRules.{within-is}
-use Rattle.fields.proofs.within.Statement.{statement}
-use Rattle.fields.proofs.within.Tie as tie
+use Rattle.field_values.proofs.ValueRules.{within-is}
+use Rattle.field_values.proofs.within.Statement.{statement}
+use Rattle.field_values.proofs.within.Tie as tie
 
 at-most-requires : tie.Need-at-most-requires
 at-most-requires c κs = search needs

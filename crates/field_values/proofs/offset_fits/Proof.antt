@@ -1,8 +1,8 @@
--- `fields::offset_fits` meets its contract by the laws of FieldRules.
+-- `field_values::offset_fits` meets its contract by the laws of FieldRules.
 use native.Mathlib.Omega.{arith}
-use Rattle.fields.proofs.FieldRules.{offset-low, offset-high}
-use Rattle.fields.proofs.offset_fits.Statement.{statement}
-use Rattle.fields.proofs.offset_fits.Tie as tie
+use Rattle.field_values.proofs.ValueRules.{offset-low, offset-high}
+use Rattle.field_values.proofs.offset_fits.Statement.{statement}
+use Rattle.field_values.proofs.offset_fits.Tie as tie
 
 returns : tie.Need-returns
 returns c = offset-low _ (omega arith)

@@ -1,8 +1,8 @@
--- `fields::function_fits` meets its contract by the laws of FieldRules.
+-- `field_values::function_fits` meets its contract by the laws of FieldRules.
 use borrow.Author.Needs.{needs}
-use Rattle.fields.proofs.FieldRules.{function-is}
-use Rattle.fields.proofs.function_fits.Statement.{statement}
-use Rattle.fields.proofs.function_fits.Tie as tie
+use Rattle.field_values.proofs.ValueRules.{function-is}
+use Rattle.field_values.proofs.function_fits.Statement.{statement}
+use Rattle.field_values.proofs.function_fits.Tie as tie
 
 within-requires : tie.Need-within-requires
 within-requires c κs = search needs

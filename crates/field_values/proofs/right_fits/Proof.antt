@@ -1,8 +1,8 @@
--- `fields::right_fits` meets its contract by the laws of FieldRules.
+-- `field_values::right_fits` meets its contract by the laws of FieldRules.
 use borrow.Author.Needs.{needs}
-use Rattle.fields.proofs.FieldRules.{right-constant, right-column}
-use Rattle.fields.proofs.right_fits.Statement.{statement}
-use Rattle.fields.proofs.right_fits.Tie as tie
+use Rattle.field_values.proofs.ValueRules.{right-constant, right-column}
+use Rattle.field_values.proofs.right_fits.Statement.{statement}
+use Rattle.field_values.proofs.right_fits.Tie as tie
 
 same-requires : tie.Need-same-requires
 same-requires c κs = search needs
