@@ -6,7 +6,7 @@ use mathlib.Core.List.{List, [], _∷_}
 use Prim.Native.Nat.{ℕ, _+_, _*_, _-_, _≤_, _<_}
 use lib.Dec.{eqb}
 use lib.ListN.{length, getD}
-use Rattle.rules.specs.Basics.{pick, has, isLetter, every}
+use Rattle.rules.specs.Basics.{pick, isLetter, every}
 use Rattle.rules.specs.Language.{pattern, factor, Tree, one, last, letters}
 use Rattle.rules.specs.Places.{Unrolled, uStar, copies, options, unrolled, unroll, Place, pFork, waysInTurn, size, sizes, startsOf, code, codes, places, fork, placeCount, placesOf}
 use Rattle.rules.specs.Working.{distinct, fresh, thinned}

@@ -3,7 +3,6 @@ use mathlib.Core.List.{List}
 use Prim.Native.Nat.{ℕ, _+_, _*_, _≤_, _<_}
 use lib.IntN.{ℤ}
 use lib.ListN.{length}
-use Rattle.rules.specs.Query as Q
 
 -- the row and the column are there
 pub record Inside (rows : List ℤ) (columns row column : ℕ) : Type 0 where

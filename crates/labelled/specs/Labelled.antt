@@ -6,7 +6,6 @@ use Prim.Native.Nat.{ℕ, _+_, _≤_, _<_}
 use lib.Dec.{eqb}
 use lib.ListN.{length, getD}
 use Rattle.rules.specs.Basics.{pick}
-use Rattle.rules.specs.Query as Q
 use Rattle.labelled.specs.declared.Found.{Found}
 use Rattle.labelled.specs.declared.Found.the-variants.{At, Nothing}
 

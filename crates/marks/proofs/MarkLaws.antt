@@ -15,7 +15,7 @@ use Rattle.text_bytes.specs.Numerals.{Numeral, Reached}
 use Rattle.marks.specs.declared.Mark.{Mark}
 use Rattle.marks.specs.declared.Mark.the-variants.{Unmarked, Broken, Found}
 use Rattle.text_bytes.specs.declared.Value.{Value}
-use Rattle.text_bytes.proofs.ByteLaws.{byte, inside, rest-drop, says-bad, says-got}
+use Rattle.text_bytes.proofs.ByteLaws.{inside, rest-drop, says-bad, says-got}
 
 -- ---- quantifiers
 

@@ -2,8 +2,7 @@
 -- code of another place.
 use Prim.Native.Nat.{ℕ, _+_, _%_}
 use lib.Dec.{eqb, ltb}
-use Rattle.rules.specs.Basics.{pick, has}
-use Rattle.rules.specs.Places.{code, fork}
+use Rattle.rules.specs.Basics.{pick}
 
 -- the code of a letter's place, so that A is 0
 abbrev pub letterCode : ℕ → ℕ

@@ -5,8 +5,7 @@ use mathlib.Core.List.{List, [], _∷_}
 use Prim.Native.Nat.{ℕ, suc, _+_, _*_, _-_, _≤_, _<_}
 use lib.ListN.{length, getD, set}
 use Rattle.rules.specs.Basics.{has}
-use Rattle.rules.specs.Language.{last}
-use Rattle.rules.specs.Places.{Place, pLetter, pCaret, pDollar, pFork, pEnd, code, places, fork}
+use Rattle.rules.specs.Places.{Place, pLetter, pCaret, pDollar, pFork, pEnd, code}
 use Rattle.table.specs.Table.{span}
 use Rattle.place_codes.specs.Codes.{letterCode, forkCode, laterWord}
 

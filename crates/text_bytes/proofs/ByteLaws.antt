@@ -10,7 +10,6 @@ use lib.ListN.{length, getD, drop, drop-of-length-le}
 use lib.Seq.{drop-cons}
 use borrow.Author.Tests.{le-leb, lt-leb, eq-eqb, ne-eqb}
 use Rattle.rules.specs.Basics.{pick, inRange, isLetter}
-use Rattle.rules.specs.Language.{upper}
 use Rattle.rules.specs.Reader.{Reading, got, bad, peek, rest, skip, isDigit, number, enough, reaching}
 use Rattle.laws.proofs.GrammarSound.{in-range, range-in, number-begun}
 use Rattle.text_bytes.specs.Numerals.{SaysNumber, noNumber, Numeral, Reached}

@@ -1,12 +1,10 @@
 -- The nodes of a tree in a room, each behind its parts.
 use mathlib.Core.Bool.{Bool, false}
 use mathlib.Core.List.{List}
-use mathlib.Core.Option.{none}
 use Prim.Native.Nat.{ℕ, _+_, _*_, _-_, _≤_, max, min}
 use lib.Dec.{eqb}
 use Rattle.rules.specs.Basics.{pick}
 use Rattle.rules.specs.Language.{Form, lower, upper, Rank, factor, primary, Tree, one, more, last, next, bare, times, letter, caret, dollar, empty, group}
-use Rattle.rules.specs.Reader.{quantifier}
 use Rattle.rules.specs.Places.{roundPlaces, fork, placeCount}
 use Rattle.marks.specs.Shows.{codeOf, highOf}
 use Rattle.nodes.specs.Nodes.{putNode}

@@ -1,4 +1,4 @@
--- `body_sizes::body_size` meets its contract. Laws: EmitLaws.
+-- `body_sizes::body_size` meets its contract. Laws: SizeLaws.
 use Rattle.body_sizes.proofs.SizeLaws.{at-node, size-letter, size-anchor, size-empty, size-sequence, size-alternation, size-group, size-inside}
 use borrow.Author.Needs.{needs}
 use Rattle.body_sizes.proofs.body_size.Statement.{statement}

@@ -1,4 +1,4 @@
--- `body_sizes::whole_size` meets its contract. Laws: EmitLaws, ForkLaws.
+-- `body_sizes::whole_size` meets its contract. Laws: SizeLaws, ForkLaws.
 use Rattle.body_sizes.proofs.SizeLaws.{whole-alt, whole-one, whole-fits, at-node}
 use Rattle.forks.proofs.ForkLaws.{not-alternation}
 use native.Mathlib.Omega.{arith}

@@ -1,4 +1,4 @@
--- `field_values::function_fits` meets its contract by the laws of FieldRules.
+-- `field_values::function_fits` meets its contract by the laws of ValueRules.
 use borrow.Author.Needs.{needs}
 use Rattle.field_values.proofs.ValueRules.{function-is}
 use Rattle.field_values.proofs.function_fits.Statement.{statement}

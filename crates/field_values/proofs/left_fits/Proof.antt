@@ -1,4 +1,4 @@
--- `field_values::left_fits` meets its contract by the laws of FieldRules.
+-- `field_values::left_fits` meets its contract by the laws of ValueRules.
 use borrow.Author.Needs.{needs}
 use Rattle.field_values.proofs.ValueRules.{left-is}
 use Rattle.field_values.proofs.left_fits.Statement.{statement}

@@ -1,4 +1,4 @@
--- `field_values::offset_fits` meets its contract by the laws of FieldRules.
+-- `field_values::offset_fits` meets its contract by the laws of ValueRules.
 use native.Mathlib.Omega.{arith}
 use Rattle.field_values.proofs.ValueRules.{offset-low, offset-high}
 use Rattle.field_values.proofs.offset_fits.Statement.{statement}

@@ -1,4 +1,4 @@
--- `field_values::right_fits` meets its contract by the laws of FieldRules.
+-- `field_values::right_fits` meets its contract by the laws of ValueRules.
 use borrow.Author.Needs.{needs}
 use Rattle.field_values.proofs.ValueRules.{right-constant, right-column}
 use Rattle.field_values.proofs.right_fits.Statement.{statement}

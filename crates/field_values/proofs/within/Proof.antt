@@ -1,4 +1,4 @@
--- `field_values::within` meets its contract by the laws of FieldRules.
+-- `field_values::within` meets its contract by the laws of ValueRules.
 use borrow.Author.Needs.{needs}
 use Rattle.field_values.proofs.ValueRules.{within-is}
 use Rattle.field_values.proofs.within.Statement.{statement}

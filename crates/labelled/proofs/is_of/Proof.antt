@@ -1,4 +1,4 @@
--- `labelled::is_of` meets its contract by the laws of RowsOf.
+-- `labelled::is_of` meets its contract by the laws of Seeking.
 use borrow.Author.Needs.{needs}
 use Rattle.labelled.proofs.Seeking.{all-rows, own-rows}
 use Rattle.labelled.proofs.is_of.Statement.{statement}

@@ -1,4 +1,4 @@
--- `phrases::ends` meets its contract. Laws: ChainLaws.
+-- `phrases::ends` meets its contract. Laws: PhraseLaws.
 use Rattle.phrases.proofs.PhraseLaws.{ends-zero, ends-bar, ends-shut}
 use borrow.Author.Needs.{needs}
 use Rattle.phrases.proofs.ends.Statement.{statement}

@@ -1,4 +1,4 @@
--- `place_codes::anchor_code` meets its contract. Laws: WayLaws.
+-- `place_codes::anchor_code` meets its contract. Laws: CodeLaws.
 use Rattle.place_codes.proofs.CodeLaws.{caret-code, dollar-code}
 use native.Mathlib.Omega.{arith}
 use Rattle.place_codes.proofs.anchor_code.Statement.{statement}

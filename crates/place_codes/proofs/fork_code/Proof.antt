@@ -1,4 +1,4 @@
--- `place_codes::fork_code` meets its contract. Laws: WayLaws.
+-- `place_codes::fork_code` meets its contract. Laws: CodeLaws.
 use Rattle.place_codes.proofs.CodeLaws.{one-code, near-code, far-code}
 use Rattle.place_codes.proofs.fork_code.Statement.{statement}
 use Rattle.place_codes.proofs.fork_code.Tie as tie

@@ -1,4 +1,4 @@
--- `place_codes::later_word` meets its contract. Laws: ForkLaws.
+-- `place_codes::later_word` meets its contract. Laws: CodeLaws.
 use Rattle.place_codes.proofs.CodeLaws.{later-two, later-more}
 use borrow.Author.Needs.{needs}
 use Rattle.place_codes.proofs.later_word.Statement.{statement}

@@ -1,4 +1,4 @@
--- `place_codes::start_at` meets its contract. Laws: WayLaws.
+-- `place_codes::start_at` meets its contract. Laws: CodeLaws.
 use Rattle.place_codes.proofs.CodeLaws.{start-end, start-here}
 use borrow.Author.Needs.{needs}
 use Rattle.place_codes.proofs.start_at.Statement.{statement}

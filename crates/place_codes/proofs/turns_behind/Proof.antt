@@ -1,4 +1,4 @@
--- `place_codes::turns_behind` meets its contract. Laws: WayLaws.
+-- `place_codes::turns_behind` meets its contract. Laws: CodeLaws.
 use native.Mathlib.Omega.{arith}
 use Rattle.place_codes.proofs.CodeLaws.{turns-open, turns-shut}
 use Rattle.place_codes.proofs.turns_behind.Statement.{statement}

@@ -1,4 +1,4 @@
--- `place_words::put_fork` meets its contract. Laws: ForkLaws.
+-- `place_words::put_fork` meets its contract. Laws: WordLaws.
 use native.Mathlib.Omega.{arith}
 use Rattle.place_words.proofs.WordLaws.{fork-words}
 use borrow.Author.Needs.{needs}

@@ -1,4 +1,4 @@
--- `text_bytes::is_digit` meets its contract. Laws: MarkLaws.
+-- `text_bytes::is_digit` meets its contract. Laws: ByteLaws.
 use Rattle.text_bytes.proofs.ByteLaws.{digit-low, digit-high}
 use borrow.Author.Needs.{needs}
 use Rattle.text_bytes.proofs.is_digit.Statement.{statement}

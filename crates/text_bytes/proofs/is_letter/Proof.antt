@@ -1,4 +1,4 @@
--- `text_bytes::is_letter` meets its contract. Laws: MarkLaws.
+-- `text_bytes::is_letter` meets its contract. Laws: ByteLaws.
 use Rattle.text_bytes.proofs.ByteLaws.{letter-low, letter-high}
 use borrow.Author.Needs.{needs}
 use Rattle.text_bytes.proofs.is_letter.Statement.{statement}

@@ -1,4 +1,4 @@
--- `text_bytes::number` meets its contract. Laws: MarkLaws.
+-- `text_bytes::number` meets its contract. Laws: ByteLaws.
 use native.Mathlib.Omega.{arith}
 use Rattle.text_bytes.proofs.ByteLaws.{digits-from, number-none, number-one, number-zero, number-two}
 use borrow.Author.Tests.{not-true, not-false}

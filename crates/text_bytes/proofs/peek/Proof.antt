@@ -1,4 +1,4 @@
--- `text_bytes::peek` meets its contract. Laws: MarkLaws.
+-- `text_bytes::peek` meets its contract. Laws: ByteLaws.
 use Rattle.text_bytes.proofs.ByteLaws.{byte, no-byte}
 use borrow.Author.Needs.{needs}
 use Rattle.text_bytes.proofs.peek.Statement.{statement}

@@ -1,4 +1,4 @@
--- `text_bytes::reaching` meets its contract. Laws: MarkLaws.
+-- `text_bytes::reaching` meets its contract. Laws: ByteLaws.
 use Rattle.text_bytes.proofs.ByteLaws.{reach-below, reach-above, reach-short, reach-less, reach-found}
 use native.Mathlib.Omega.{arith}
 use borrow.Author.Needs.{needs}

@@ -1,4 +1,4 @@
--- `text_bytes::skip` meets its contract. Laws: MarkLaws.
+-- `text_bytes::skip` meets its contract. Laws: ByteLaws.
 use Rattle.text_bytes.proofs.ByteLaws.{Skipped, skip-none, skip-more, skip-all, skip-less, next-in}
 use lib.ListN.{length}
 use Prim.Native.Nat.{_-_}
