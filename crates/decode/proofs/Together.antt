@@ -1,5 +1,6 @@
--- The whole of a query: its shape and text are the first two records, the skip stands behind the DEFINEs, the measures behind the skip; so what was read
--- one after the other are the query's parts.
+-- The whole of a query: its shape and text are the first two records, the skip stands behind the
+-- DEFINEs, the measures behind the skip; so what was read one after the other are the query's
+-- parts.
 use mathlib.Core.Path.{_≡_, refl, sym, ap, _∙_}
 use mathlib.Core.Bool.{true, _||_}
 use mathlib.Core.List.{List, _∷_}

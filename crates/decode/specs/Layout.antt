@@ -1,8 +1,10 @@
--- What the lent arrays hold once a query is decoded, and which parts of the query that is.
--- Promised (`Decoded`): each letter's DEFINE has the letter's comparisons, and all the bytes that a search reads of it are there and fit; the first
--- measures and the numbers are the query's, and the letter that the skip names is 0 or A to Z; the rest of `measures` is as it was; and it is told whether
--- a letter has two DEFINEs, of which the first counts.
--- Left free, since no answer depends on it: `letters` may be any number up to 26 from which on no letter has a DEFINE; only the time that preparing the tests takes does.
+-- What the lent arrays hold once a query is decoded, and which parts of the query that is. Promised
+-- (`Decoded`): each letter's DEFINE has the letter's comparisons, and all the bytes that a search
+-- reads of it are there and fit; the first measures and the numbers are the query's, and the letter
+-- that the skip names is 0 or A to Z; the rest of `measures` is as it was; and it is told whether a
+-- letter has two DEFINEs, of which the first counts. Left free, since no answer depends on it:
+-- `letters` may be any number up to 26 from which on no letter has a DEFINE; only the time that
+-- preparing the tests takes does.
 use mathlib.Core.Path.{_≡_}
 use mathlib.Core.Bool.{true, _||_}
 use mathlib.Core.List.{List}
@@ -22,7 +24,8 @@ pub record Room (s measures : List ℕ) : Type 0 where
   pub clean : firstAnswer s ≡ 0
   pub long : length measures ≡ 24
 
--- What decoding leaves: the numbers of `p` and the arrays are the query's parts, and what the measures do not need is as it was.
+-- What decoding leaves: the numbers of `p` and the arrays are the query's parts, and what the
+-- measures do not need is as it was.
 pub record Decoded (s measures₀ defines measures : List ℕ) (p : Parts) : Type 0 where
   pub counted : length defines ≡ 26
   pub long : length measures ≡ 24

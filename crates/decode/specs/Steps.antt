@@ -14,7 +14,8 @@ use Rattle.table.specs.Measures.{measureIn, measuresIn}
 use Rattle.decode.specs.declared.Head.{Head}
 use Rattle.decode.specs.declared.Tail.{Tail}
 
--- the shape and the text; from the index behind them on, the DEFINEs, the skip and the measures are those of the query
+-- the shape and the text; from the index behind them on, the DEFINEs, the skip and the measures are
+-- those of the query
 pub record HeadOf (s : List ℕ) (h : Head) : Type 0 where
   pub columns : h .columns ≡ columnsOf s
   pub some : 1 ≤ h .columns

@@ -1,7 +1,8 @@
-// A query's parts decoded once, in one pass over its records: for each letter where its DEFINE stands in the query, the measures, a few numbers,
-// and whether a letter has two DEFINEs (answer 8).
-// Comparisons stay where they are, in the query's bytes, so a search reads the lent array of indices and then the query itself. specs/Layout says what
-// the arrays hold afterwards (`Decoded`). A query comes here with no answer 1 to 3.
+// A query's parts decoded once, in one pass over its records: for each letter where its DEFINE
+// stands in the query, the measures, a few numbers, and whether a letter has two DEFINEs (answer
+// 8). Comparisons stay where they are, in the query's bytes, so a search reads the lent array of
+// indices and then the query itself. specs/Layout says what the arrays hold afterwards (`Decoded`).
+// A query comes here with no answer 1 to 3.
 use define_list::put_defines;
 use measure_list::put_measures;
 use records::Read;
@@ -12,8 +13,10 @@ ghost use Rattle.query.specs.Order.{firstAnswer};
 ghost use Rattle.decode.specs.Layout.{Room, Decoded};
 ghost use Rattle.decode.specs.Steps.{HeadOf, TailRoom, TailOf};
 
-// What a query says besides its letters and measures: the columns, where the pattern's text lies, the skip mode, the letter that the skip names (0 for
-// none), how many measures there are, whether two DEFINEs are for one letter (answer 8), and a number from which on no letter (0 for A) has a DEFINE.
+// What a query says besides its letters and measures: the columns, where the pattern's text lies,
+// the skip mode, the letter that the skip names (0 for none), how many measures there are, whether
+// two DEFINEs are for one letter (answer 8), and a number from which on no letter (0 for A) has a
+// DEFINE.
 pub struct Parts {
     pub columns: usize,
     pub start: usize,
@@ -33,7 +36,8 @@ struct Head {
     next: usize,
 }
 
-// The shape and the text. There is no other way than the last: a query with no answer 1 to 3 is not cut.
+// The shape and the text. There is no other way than the last: a query with no answer 1 to 3 is not
+// cut.
 fn read_head(s: &[u8]) -> Head
     requires { ⌜ firstAnswer (now s) ≡ 0 ⌝ }
     ensures { λ r. ⌜ HeadOf (now (s .entry)) r ⌝ }
@@ -110,7 +114,8 @@ fn read_tail(s: &[u8], at: usize, measures: &mut [u8; 24]) -> Tail
     }
 }
 
-// All parts of a query. The records stand in order: the shape and the text, the DEFINEs, the skip and the measures.
+// All parts of a query. The records stand in order: the shape and the text, the DEFINEs, the skip
+// and the measures.
 pub fn decode(s: &[u8], defines: &mut [usize; 26], measures: &mut [u8; 24]) -> Parts
     requires { ⌜ Room (now s) (now measures) ⌝ }
     ensures { λ r. ⌜ Decoded (now (s .entry)) (now (measures .entry)) (now (defines .exit)) (now (measures .exit)) r ⌝ }

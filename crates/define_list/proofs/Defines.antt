@@ -1,5 +1,6 @@
--- DEFINEs by the index of their bodies. At each index of the pass a letter's entry is 0, and then its comparisons are those of the records to come; or it
--- is not 0, and then it is the index of the body of its DEFINE (`Slot`). Twice says how the entries tell of two DEFINEs for one letter.
+-- DEFINEs by the index of their bodies. At each index of the pass a letter's entry is 0, and then
+-- its comparisons are those of the records to come; or it is not 0, and then it is the index of the
+-- body of its DEFINE (`Slot`). Twice says how the entries tell of two DEFINEs for one letter.
 use mathlib.Core.Path.{_≡_, refl, sym, ap, _∙_}
 use mathlib.Core.Bool.{Bool, true, false, _&&_, _||_}
 use mathlib.Core.List.{List, [], _∷_}

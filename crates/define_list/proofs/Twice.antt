@@ -1,5 +1,6 @@
--- Answer 8 in the pass over the DEFINEs. A letter is taken if its entry is not 0. Two DEFINEs of the whole query are for one letter exactly if that was told
--- so far, or two to come are for one letter, or one to come is for a letter that is taken (`Twice`).
+-- Answer 8 in the pass over the DEFINEs. A letter is taken if its entry is not 0. Two DEFINEs of
+-- the whole query are for one letter exactly if that was told so far, or two to come are for one
+-- letter, or one to come is for a letter that is taken (`Twice`).
 use mathlib.Core.Path.{_≡_, refl, sym, ap, _∙_}
 use mathlib.Core.Bool.{Bool, true, false, not, _||_, or-true, or-false, or-assoc}
 use mathlib.Core.List.{List, [], _∷_}

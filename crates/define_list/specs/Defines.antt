@@ -1,6 +1,8 @@
--- Where the DEFINE of each letter stands. For a letter l (0 for A) defines[l] is the index at which the body of its DEFINE starts in the query, or 0 where it
--- has none; no body starts at 0, since a record's header of 4 bytes stands before it. A body is the letter's byte, the count of its comparisons, and the
--- comparisons, 12 bytes each, which are read where they stand. Of two DEFINEs for one letter the first counts, and it is told that there are two (answer 8).
+-- Where the DEFINE of each letter stands. For a letter l (0 for A) defines[l] is the index at which
+-- the body of its DEFINE starts in the query, or 0 where it has none; no body starts at 0, since a
+-- record's header of 4 bytes stands before it. A body is the letter's byte, the count of its
+-- comparisons, and the comparisons, 12 bytes each, which are read where they stand. Of two DEFINEs
+-- for one letter the first counts, and it is told that there are two (answer 8).
 use mathlib.Core.Path.{_≡_}
 use mathlib.Core.Bool.{Bool, true, false}
 use mathlib.Core.List.{List, []}

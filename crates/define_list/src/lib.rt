@@ -1,5 +1,6 @@
-// Where the DEFINE of each letter stands in the query, in one pass over the DEFINEs, and whether a letter has two (answer 8). Comparisons stay where they
-// are, in the query's bytes. A query comes here with no answer 1 to 3. What the lent array holds afterwards: specs/Defines, `PutDefines`.
+// Where the DEFINE of each letter stands in the query, in one pass over the DEFINEs, and whether a
+// letter has two (answer 8). Comparisons stay where they are, in the query's bytes. A query comes
+// here with no answer 1 to 3. What the lent array holds afterwards: specs/Defines, `PutDefines`.
 use records::Read;
 use records::byte;
 use records::record_at;
@@ -9,7 +10,8 @@ ghost use Prim.Native.Nat.{_-_, max};
 ghost use lib.ListN.{getD};
 ghost use Rattle.define_list.specs.Defines.{DefineRoom, PutDefine, DefinesRoom, PutDefines};
 
-// The DEFINE whose body starts at this index; answers whether its letter had one before. The first DEFINE of a letter counts.
+// The DEFINE whose body starts at this index; answers whether its letter had one before. The first
+// DEFINE of a letter counts.
 fn put_define(s: &[u8], start: usize, defines: &mut [usize; 26]) -> bool
     requires { ⌜ DefineRoom (now s) start ⌝ }
     ensures { λ r. ⌜ PutDefine (now (s .entry)) start (now (defines .entry)) (now (defines .exit)) r ⌝ }
@@ -40,8 +42,9 @@ fn past(s: &[u8], start: usize, letters: usize) -> usize
     letters
 }
 
-// What the pass over the DEFINEs finds: the index of the skip behind them, whether two of them are for one letter, and a number from which on no letter has one,
-// so that the letters behind it need not be looked at.
+// What the pass over the DEFINEs finds: the index of the skip behind them, whether two of them are
+// for one letter, and a number from which on no letter has one, so that the letters behind it need
+// not be looked at.
 pub struct Behind {
     pub at: usize,
     pub twice: bool,

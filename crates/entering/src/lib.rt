@@ -30,9 +30,11 @@ fn letter_passes(table: &[u16], rows: &[i32], size: Extent, c: usize, row: usize
     letter_holds(table, rows, size, c, row)
 }
 
-// The pair of w is entered: one step, counted here and nowhere else. A letter or anchor that does not pass fails at once, and so does a letter whose next pair
-// has failed, so that it is not put on the trail only to be taken back. Any other pair is open, and tries the first place that it leads to, but for END, which
-// leads nowhere. A fork of two ways or more that leads first to the place behind it has a code of its own, since then the walk need not wait for a table to tell the place.
+// The pair of w is entered: one step, counted here and nowhere else. A letter or anchor that does
+// not pass fails at once, and so does a letter whose next pair has failed, so that it is not put on
+// the trail only to be taken back. Any other pair is open, and tries the first place that it leads
+// to, but for END, which leads nowhere. A fork of two ways or more that leads first to the place
+// behind it has a code of its own, since then the walk need not wait for a table to tell the place.
 pub fn enter(
     table: &[u16],
     rows: &[i32],

@@ -1,6 +1,6 @@
 // The rules for the values of fields, decided on numbers: offsets, the sides of a comparison, and a
-// measure's function, letter and column. What is tested is short, so all parts of a test are computed
-// and joined by both and either.
+// measure's function, letter and column. What is tested is short, so all parts of a test are
+// computed and joined by both and either.
 ghost use mathlib.Core.Path.{_≡_};
 ghost use mathlib.Core.Bool.{not, _&&_, _||_};
 ghost use Prim.Native.Nat.{_<_};

@@ -1,4 +1,5 @@
--- The rules for fields, by the tests in the code: each law is one way through a function of fields.rt, with its callees' results as premises.
+-- The rules for fields, by the tests in the code: each law is one way through a function of
+-- fields.rt, with its callees' results as premises.
 use mathlib.Core.Path.{_≡_, refl, sym, ap, _∙_}
 use mathlib.Core.Bool.{Bool, true, false, not, _&&_}
 use mathlib.Core.List.{List}

@@ -1,5 +1,5 @@
-// The rules for the fields of each kind of record (document 01, "Rows and query records"), which answer
-// 3 is about. Every function equals the definition of its name.
+// The rules for the fields of each kind of record (document 01, "Rows and query records"), which
+// answer 3 is about. Every function equals the definition of its name.
 use field_values::at_most;
 use field_values::both;
 use field_values::function_fits;

@@ -1,5 +1,5 @@
--- What the functions that unroll a tree into a table need and promise: forks, parts of a tree, and the
--- whole.
+-- What the functions that unroll a tree into a table need and promise: forks, parts of a tree, and
+-- the whole.
 use mathlib.Core.Path.{_≡_}
 use mathlib.Core.Bool.{Bool, true}
 use mathlib.Core.List.{List, [], _∷_}
@@ -123,8 +123,8 @@ pub record Unrolling (s : List ℕ) (top P : ℕ) (T : List ℕ) : Type 0 where
   pub long : 7 * P ≤ length T
   pub small : length T < 65536
 
--- The table holds the places of the tree, each fork's ways once, and keeps to what the walk relies on;
--- the ways end before the word r, and from there on no word is changed.
+-- The table holds the places of the tree, each fork's ways once, and keeps to what the walk relies
+-- on; the ways end before the word r, and from there on no word is changed.
 pub record Tabled (p : Tree pattern) (P : ℕ) (T exit : List ℕ) (r : ℕ) : Type 0 where
   pub is : placesIn exit P ≡ thinned (places (unroll p))
   pub sized : Sized exit P

@@ -1,6 +1,6 @@
-// The forks of the table of places: that of an alternation, whose ways are where its branches begin,
-// and the fork between a copy of a factor and leaving it. Promise: a fork has each of its ways once, in
-// the order in which they are tried.
+// The forks of the table of places: that of an alternation, whose ways are where its branches
+// begin, and the fork between a copy of a factor and leaving it. Promise: a fork has each of its
+// ways once, in the order in which they are tried.
 use nodes::Sort;
 use nodes::node_at;
 use nodes::places_at;

@@ -1,5 +1,5 @@
--- The lines of the report, piece by piece: for each piece, that there is room for it behind those before it, and at the end that the whole line is
--- written.
+-- The lines of the report, piece by piece: for each piece, that there is room for it behind those
+-- before it, and at the end that the whole line is written.
 use mathlib.Core.Path.{_≡_, refl, sym, ap, _∙_}
 use mathlib.Core.Bool.{Bool, true, false}
 use mathlib.Core.List.{List, [], _∷_, _++_}
@@ -356,7 +356,8 @@ module _ (l : List ℕ) (at w : ℕ) (ns : List ℤ) (first : ℕ) (own : List �
             pub put-one-line : (o : List ℕ) (e : ℕ) → Put m5 b5 (10 ∷ []) o e → Put l at (lineText w (drop first ns) own) o e × (e ≤ at + (65 + 21 * w + length own))
             put-one-line o e p6 = (partly-all (partly-more (10 ∷ []) [] line-5 p6), omega (arith, short-4, p6 .ends))
 
--- ---- the lines of the matches: `left` of them are left, whose numbers begin at index `first` and whose labels at index `label`
+-- ---- the lines of the matches: `left` of them are left, whose numbers begin at index `first` and
+-- whose labels at index `label`
 
 pub record Lined (before : List ℕ) (at matches w : ℕ) (ns : List ℤ) (ls now : List ℕ) (left first label behind : ℕ) : Type 0 where
   pub is : Partly before at (linesText matches w ns ls) now behind (linesText left w (drop first ns) (drop label ls))

@@ -1,5 +1,6 @@
--- The text of a report as a function of what the search leaves: its counts, the report's numbers and its labels. The law `report-printed`
--- (proofs/Printed) says that for the numbers and labels of any matches this is the text that document 01 asks for.
+-- The text of a report as a function of what the search leaves: its counts, the report's numbers
+-- and its labels. The law `report-printed` (proofs/Printed) says that for the numbers and labels of
+-- any matches this is the text that document 01 asks for.
 use mathlib.Core.Bool.{Bool}
 use mathlib.Core.List.{List, [], _∷_, _++_}
 use Prim.Native.Nat.{ℕ, zero, suc, _+_, _*_}
@@ -40,7 +41,8 @@ unfolding fieldText labelsText resultsText
 lineText w ns own =
     fieldText (numberAt ns 0) ++ (fieldText (numberAt ns 1) ++ (fieldText (numberAt ns 2) ++ (labelsText own ++ (resultsText w (drop 3 ns) ++ (10 ∷ [])))))
 
--- the lines of m matches: each has 3 and 2 for each measure of the numbers, and as many of the labels as it has rows
+-- the lines of m matches: each has 3 and 2 for each measure of the numbers, and as many of the
+-- labels as it has rows
 unfoldable pub linesText : ℕ → ℕ → List ℤ → List ℕ → List ℕ
 unfolding lineText
 linesText zero w ns ls = []
@@ -51,7 +53,7 @@ unfoldable pub reportText : Bool → ℕ → ℕ → ℕ → List ℤ → List �
 unfolding headerText linesText
 reportText stopped m steps w ns ls = headerText stopped m steps ++ linesText m w ns ls
 
--- Room that is enough for the text, for so many numbers and labels: a header has at most 56 bytes, and a line at most 22 for each of its numbers and one
--- for each of its labels.
+-- Room that is enough for the text, for so many numbers and labels: a header has at most 56 bytes,
+-- and a line at most 22 for each of its numbers and one for each of its labels.
 abbrev pub reportRoom : ℕ → ℕ → ℕ
 reportRoom numbers labels = 60 + 22 * numbers + labels

@@ -1,8 +1,8 @@
-// The lines in front of the report, and what is printed in its place: of a refused input, and of one that is too large.
+// The lines in front of the report, and what is printed in its place: of a refused input, and of
+// one that is too large.
 use put::put_byte;
 use put::put_bytes;
 use put::put_decimal;
-ghost use mathlib.Core.Path.{_≡_};
 ghost use Prim.Native.Nat.{_+_, _≤_};
 ghost use lib.ListN.{length};
 ghost use Rattle.rules.specs.Basics.{pick, bytes};

@@ -1,4 +1,5 @@
--- The program's input by its lengths alone: document 01's last paragraph of "Report", up to the answers, and what each case of the answer prints.
+-- The program's input by its lengths alone: document 01's last paragraph of "Report", up to the
+-- answers, and what each case of the answer prints.
 use mathlib.Core.List.{List}
 use Prim.Native.Nat.{ℕ, _+_, _-_}
 use lib.Dec.{ltb}
@@ -8,8 +9,8 @@ use Rattle.rules.specs.Program.{refusedText, tooLarge, printedFor}
 use Rattle.input.specs.declared.Input.{Input}
 use Rattle.input.specs.declared.Input.the-variants.{Refused, TooLarge, Go}
 
--- In this order: a missing or cut length is a 1; a length above 4,096 is too large; fewer query bytes than the length are a 1; more than 32,768 row bytes
--- are too large.
+-- In this order: a missing or cut length is a 1; a length above 4,096 is too large; fewer query
+-- bytes than the length are a 1; more than 32,768 row bytes are too large.
 unfoldable pub inputOf : List ℕ → Input
 unfolding le16
 inputOf s =
@@ -24,7 +25,8 @@ inputOf s =
 abbrev pub mostRead : ℕ
 mostRead = 36867
 
--- what the program prints in each case; the law `printed-input` (proofs/Inputs) says that this of `inputOf` is `printed`
+-- what the program prints in each case; the law `printed-input` (proofs/Inputs) says that this of
+-- `inputOf` is `printed`
 unfoldable pub printedInput : Input → List ℕ → List ℕ
 unfolding refusedText tooLarge printedFor
 printedInput (Refused a) s = refusedText a

@@ -23,8 +23,9 @@ const NUMBER_BYTES: usize = 4;
 // The answer for rows that are not whole.
 const BAD_ROWS: u64 = 10;
 
-// What the lengths alone say of an input: that it is refused, with the answer's number; that it is too large; or that its query and rows can be
-// judged. The query is then at index 2 and on, up to `rows`, where the rows begin.
+// What the lengths alone say of an input: that it is refused, with the answer's number; that it is
+// too large; or that its query and rows can be judged. The query is then at index 2 and on, up to
+// `rows`, where the rows begin.
 pub enum Input {
     Refused(u64),
     TooLarge,
@@ -39,7 +40,8 @@ pub enum Verdict {
     Search,
 }
 
-// The lengths judged in the paper's order. The row bytes are judged by their number alone: whether they are whole numbers is answer 10's to say.
+// The lengths judged in the paper's order. The row bytes are judged by their number alone: whether
+// they are whole numbers is answer 10's to say.
 pub fn input_of(s: &[u8]) -> Input
     ensures { λ r. ⌜ r ≡ inputOf (now (s .entry)) ⌝ }
 {
@@ -78,7 +80,8 @@ pub fn verdict_of(answer: usize, bytes: usize, pairs: usize) -> Verdict
     Verdict::Search
 }
 
-// The rows' numbers into the front of a lent array, which is unchanged beyond; the result is their count.
+// The rows' numbers into the front of a lent array, which is unchanged beyond; the result is their
+// count.
 pub fn rows_of(bytes: &[u8], rows: &mut [i32]) -> usize
     requires { ⌜ length (now bytes) / 4 ≤ length (now rows) ⌝ }
     ensures { λ r. ⌜ (now (rows .exit) ≡ wrote (now (rows .entry)) 0 (rowsOf (now (bytes .entry)))) × (r ≡ length (rowsOf (now (bytes .entry)))) ⌝ }

@@ -42,7 +42,8 @@ module _ (x low width : ℕ) where
       (λ t. let l = leb-true low x t in simp t (ap (λ (k : ℕ). leb k width) (let z : r ≡ x - low = omega arith in z)))
       (λ t. let l = leb-false low x t in simp t (ap (λ (k : ℕ). leb k width) (let z : r ≡ 18446744073709551616 + x - low = omega arith in z)))
 
--- the same where the interval's first number is told less 2 ^ 33, and as much is taken from the raised number
+-- the same where the interval's first number is told less 2 ^ 33, and as much is taken from the
+-- raised number
 pub plain-within : (x low width y u r : ℕ) → y ≡ x → (u + 8589934592) % 18446744073709551616 ≡ y → (r + low) % 18446744073709551616 ≡ u
     → r < 18446744073709551616 → low < 18446744073709551616 → leb r width ≡ within x (raisedWord low) width
 unfolding raisedWord

@@ -7,7 +7,7 @@
 use table::word_at;
 ghost use mathlib.Core.Path.{_≡_};
 ghost use Prim.Native.Nat.{_+_, _≤_, _<_};
-ghost use lib.IntN.{ℤ, _-ℤ_};
+ghost use lib.IntN.{_-ℤ_};
 ghost use lib.Signed.{mag};
 ghost use lib.ListN.{length};
 ghost use Rattle.table.specs.Tests.{word64, raised, raisedWord};

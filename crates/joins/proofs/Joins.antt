@@ -1,4 +1,5 @@
--- Values joined in 64 bits: SUM, MIN and MAX of two give the definition's value, and what the joined value may grow to.
+-- Values joined in 64 bits: SUM, MIN and MAX of two give the definition's value, and what the
+-- joined value may grow to.
 use mathlib.Core.Path.{_≡_, refl, sym, ap, _∙_}
 use mathlib.Core.Bool.{Bool, true, false, not}
 use Prim.Native.Nat.{ℕ, _+_, _*_, _≤_, _<_}

@@ -29,7 +29,8 @@ fn plus(a: i64, b: i64) -> i64
     a + b
 }
 
-// A value joined to the sum, the lowest or the highest of those before it; 4,096 entries of 32 bits are at most 8,796,093,022,208 together.
+// A value joined to the sum, the lowest or the highest of those before it; 4,096 entries of 32 bits
+// are at most 8,796,093,022,208 together.
 fn join(function: u8, a: i64, b: i64) -> i64
     requires { ⌜ (2 ≤ function) × (function ≤ 4) × (mag a ≤ 8796093022208) × (mag b < 2147483648) ⌝ }
     ensures { λ r. ⌜ r ≡ joined function a b ⌝ }

@@ -1,4 +1,5 @@
--- Answers 4, 5 or 14, 6 and 7 for a pattern's text, by the tests of the rules' Answers, the first that applies; and what `judge` promises.
+-- Answers 4, 5 or 14, 6 and 7 for a pattern's text, by the tests of the rules' Answers, the first
+-- that applies; and what `judge` promises.
 use mathlib.Core.Path.{_≡_}
 use mathlib.Core.List.{List, [], _∷_}
 use mathlib.Core.Option.{some}
@@ -25,8 +26,8 @@ textAnswer s = firstOf (textTests s)
 abbrev pub refusal : ℕ → ℕ → Verdict
 refusal a k = record { answer = a; offset = k; places = 0; top = 0 }
 
--- what `judge` promises: the answer and its offset; where it is 0, P, and the room holds the text's tree with its top at node `top`; words behind the tree's own
--- room are as they were
+-- what `judge` promises: the answer and its offset; where it is 0, P, and the room holds the text's
+-- tree with its top at node `top`; words behind the tree's own room are as they were
 pub record Judging (text room exit : List ℕ) (r : Verdict) : Type 0 where
   pub answer : r .answer ≡ textAnswer text
   pub offset : r .offset ≡ offsetAt text (r .answer)

@@ -1,4 +1,5 @@
-// A pattern's text judged: answers 4, 5 or 14, 6 and 7, the first that applies, with 5's or 14's offset, and P.
+// A pattern's text judged: answers 4, 5 or 14, 6 and 7, the first that applies, with 5's or 14's
+// offset, and P.
 use loops::has_empty_loop;
 use pattern::read_text;
 use scan::too_deep;
@@ -6,8 +7,9 @@ ghost use mathlib.Core.Path.{_≡_};
 ghost use Rattle.primaries.specs.Readers.{Fits};
 ghost use Rattle.judge.specs.Judged.{refusal, Judging};
 
-// answer: 0 if the pattern is good, else 4, 5, 14, 6 or 7. offset: the byte at which its text is wrong (5), or the text's length (14); else 0. places: P, and
-// top: the top node of its tree, if it is good; else both are 0.
+// answer: 0 if the pattern is good, else 4, 5, 14, 6 or 7. offset: the byte at which its text is
+// wrong (5), or the text's length (14); else 0. places: P, and top: the top node of its tree, if it
+// is good; else both are 0.
 pub struct Verdict {
     pub answer: usize,
     pub offset: usize,

@@ -1,5 +1,5 @@
-// The rows of a match that a measure is over, by their labels: how many there are, the first and the
-// last of them.
+// The rows of a match that a measure is over, by their labels: how many there are, the first and
+// the last of them.
 ghost use mathlib.Core.Path.{_≡_};
 ghost use Prim.Native.Nat.{_≤_};
 ghost use lib.ListN.{length, drop};

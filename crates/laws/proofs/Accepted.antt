@@ -1,15 +1,15 @@
--- What is known of an accepted search: none of the tests for 1 to 12 and 14 is true, so the pattern has a tree, P is 1 to 256, the rows are whole and at most
--- 4,096, and the notes and the trail are long enough. Everything that an implementation may rely on follows from these.
+-- What is known of an accepted search: none of the tests for 1 to 12 and 14 is true, so the pattern
+-- has a tree, P is 1 to 256, the rows are whole and at most 4,096, and the notes and the trail are
+-- long enough. Everything that an implementation may rely on follows from these.
 use mathlib.Core.Path.{_≡_, refl, sym, _∙_}
 use mathlib.Core.Bool.{Bool, true, false, not, true≢false}
 use mathlib.Core.List.{List, [], _∷_, _++_}
 use mathlib.Core.Option.{Option, none, some}
 use Prim.Native.Nat.{ℕ, _%_, _≤_}
-use native.Mathlib.Omega.{arith}
 use lib.Dec.{ltb, eqb}
 use lib.IntN.{ℤ}
 use lib.ListN.{length, getD}
-use borrow.Author.Tests.{le-leb, ltb-false, eqb-true, eqb-false}
+use borrow.Author.Tests.{ltb-false, eqb-true, eqb-false}
 use Rattle.rules.specs.Basics.{pick, every}
 use Rattle.rules.specs.Rows.{tableOf}
 use Rattle.rules.specs.Query.{cut, misplaced, unfit, doubled, columnsOf, textOf}
@@ -17,7 +17,7 @@ use Rattle.rules.specs.Language.{Tree, pattern, emptyLoop}
 use Rattle.rules.specs.Places.{unroll, places, placesOf}
 use Rattle.rules.specs.Walk.{pairs}
 use Rattle.rules.specs.Report.{bytesFor}
-use Rattle.rules.specs.Answers.{placesIn, taskOf, tooDeep, treeIn, noTree, hasEmptyLoop, P, tooMany, foreign, badRows, Buffers, pairsOf, shortNotes, shortTrail, endAnswer, Test, wrong, incomplete, firstOf, refuses, queryTests, refusal, answerBy, walkWithin, answerWithin, walkOf, answerOf}
+use Rattle.rules.specs.Answers.{placesIn, taskOf, tooDeep, treeIn, noTree, hasEmptyLoop, P, tooMany, foreign, badRows, Buffers, pairsOf, shortNotes, shortTrail, endAnswer, Test, firstOf, refuses, queryTests, refusal, answerBy, walkWithin, answerWithin, walkOf, answerOf}
 use Rattle.laws.proofs.Level.{or-false}
 use Rattle.laws.proofs.Stops.{tree-there}
 use Rattle.laws.proofs.FirstTrue.{end-accepted, allRefuse, first-refuses, none-true}
@@ -76,7 +76,8 @@ module _ (q : List ℕ) (rows : List ℤ) (lent : Buffers) where
       go true d e′ = eqb-true r 0 d
       go false d e′ = absurd (true≢false (sym (h (eqb-false r 0 d)) ∙ e′))
 
-  -- an accepted input is not refused, whatever the allowance; and its answer is that of the search's end
+  -- an accepted input is not refused, whatever the allowance; and its answer is that of the
+  -- search's end
   pub unrefused : (a : Option ℕ) → AcceptedWithin a q rows lent → refusal q rows lent ≡ 0
   unfolding answerWithin answerBy refusal queryTests
   unrefused a ok = refused-in (firstOf refusals) (endAnswer (walkWithin a q rows lent .end)) (λ d. first-refuses refusals all-refuse d) ok

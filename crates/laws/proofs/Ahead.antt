@@ -1,5 +1,5 @@
--- The readers (specs/Reader) look at no byte behind the one at which they end or stop: with other bytes behind that one, each of them ends or stops
--- there too (`read-same`).
+-- The readers (specs/Reader) look at no byte behind the one at which they end or stop: with other
+-- bytes behind that one, each of them ends or stops there too (`read-same`).
 use mathlib.Core.Path.{_≡_, refl, sym, ap, _∙_, subst}
 use mathlib.Core.Bool.{Bool, true, false}
 use mathlib.Core.List.{List, [], _∷_}
@@ -7,9 +7,9 @@ use Prim.Native.Nat.{ℕ, zero, suc, _+_, _*_, _-_, _≤_, _<_}
 use native.Mathlib.Omega.{arith}
 use lib.Dec.{eqb, leb}
 use lib.ListN.{length}
-use borrow.Author.Tests.{le-leb, eqb-true}
+use borrow.Author.Tests.{le-leb}
 use Rattle.rules.specs.Basics.{pick, inRange, isLetter}
-use Rattle.rules.specs.Language.{Form, star, plus, opt, exactly, atLeast, atMost, between, Rank, pattern, branch, factor, primary, Tree, one, more, last, next, bare, times, letter, caret, dollar, empty, group}
+use Rattle.rules.specs.Language.{Form, star, plus, opt, exactly, atLeast, atMost, between, Rank, pattern, branch, factor, primary, Tree, one, more, last, next}
 use Rattle.rules.specs.Reader.{Reading, got, bad, left, peek, rest, skip, isDigit, number, enough, reaching, bounded, Marked, unmarked, broken, marked, reluctant, shut, upTo, from, braces, quantifier, ended, under, altOn, altWith, seqOn, seqWith, timesOn, timesWith, closed, parted, simple, primaryOn, read}
 use Rattle.laws.proofs.GrammarSound.{pick-both, in-range, range-in}
 

@@ -1,9 +1,11 @@
--- The search of a legal pattern on two terms, of which the first halts sooner: the second goes on from where the first halts (`search-goes`), so it begins with
--- the same matches and keeps what the first kept. From it, on any terms: the bounds on the steps. And an allowance that the search does not pass changes
--- nothing (`search-allowed`), so 2P(n+1) is enough with skip past last row (`allowance-enough`).
-use mathlib.Core.Path.{_≡_, refl, ap, ap₂, sym, _∙_}
+-- The search of a legal pattern on two terms, of which the first halts sooner: the second goes on
+-- from where the first halts (`search-goes`), so it begins with the same matches and keeps what the
+-- first kept. From it, on any terms: the bounds on the steps. And an allowance that the search does
+-- not pass changes nothing (`search-allowed`), so 2P(n+1) is enough with skip past last row
+-- (`allowance-enough`).
+use mathlib.Core.Path.{_≡_, refl, ap, _∙_}
 use mathlib.Core.List.{List, [], _∷_}
-use mathlib.Core.Bool.{Bool, true, false, _&&_, not, true≢false}
+use mathlib.Core.Bool.{Bool, true, false, not}
 use mathlib.Core.Logic.{_⊎_, inl, inr}
 use mathlib.Core.Option.{Option, none, some}
 use Prim.Native.Nat.{ℕ, zero, suc, _+_, _*_, _≤_, _<_}
@@ -11,16 +13,16 @@ use native.Mathlib.Nat.{le-trans}
 use native.Mathlib.Omega.{arith}
 use lib.ListN.{length, getD, replicate, length-replicate}
 use lib.Dec.{ltb, leb}
-use borrow.Author.Tests.{leb-true, le-leb, leb-false, lt-leb}
+use borrow.Author.Tests.{leb-true, leb-false, lt-leb}
 use Rattle.rules.specs.Basics.{Begins}
-use Rattle.rules.specs.Places.{Unrolled, Place, pFork, places}
+use Rattle.rules.specs.Places.{Unrolled, Place, places}
 use Rattle.rules.specs.Search.{Match, End, done, full, stuck, unfinished, Skip, pastLast, Finished, Attempted, hit, miss, halts, Swept, Plan, ended, noStart, below, withMatch, byFit, byNext, onAnswer, sweep, Kept, answered, walkAt, Terms, within, whole, spentOf, haltingOf, planOf, walkSearch}
 use Rattle.rules.specs.Walk.{Ways, accept, try, Halt, outOfSteps, outOfRows, Halting, Outcome, found, failed, halted, orElse, close, enterUnless, tries, inside, insideBy, pairs, firstAt, pairWays}
 use Rattle.laws.proofs.Fuel.{sweep-enough, plan-on}
-use Rattle.laws.proofs.GoesOn.{keptBy, Keeps, tries-keeps, inside-keeps, Sooner, andThen, then-keeps, then-begins, then-finished, sweep-keeps, keeps-answer, KeepsOn, extended, search-onward}
+use Rattle.laws.proofs.GoesOn.{keptBy, Keeps, tries-keeps, inside-keeps, Sooner, andThen, then-keeps, then-begins, then-finished, sweep-keeps, keeps-answer, search-onward}
 use Rattle.laws.proofs.Level.{legal}
-use Rattle.laws.proofs.Padded.{padded, beyond, measuredBy, search-padded}
-use Rattle.laws.proofs.PatternWalk.{falls-in, top-in, starts-in, walk-bound, walk-each, walk-finished}
+use Rattle.laws.proofs.Padded.{search-padded}
+use Rattle.laws.proofs.PatternWalk.{falls-in, top-in, starts-in, walk-bound, walk-each}
 use Rattle.laws.proofs.Rank.{rank}
 
 -- ---- an allowance that is not passed
@@ -255,7 +257,8 @@ module _ (t : Unrolled) (g : legal t ≡ true) (fits : ℕ → ℕ → List ℕ 
   pub allowance-enough : (a : ℕ) → 2 * pairs (length (places t)) n ≤ a → walkSearch (within (some a) n) holds n (places t) pastLast fits ≡ walkSearch (whole n) holds n (places t) pastLast fits
   allowance-enough a h = search-allowed t g pastLast fits holds n a (le-trans (walk-bound t g holds n fits) h)
 
--- ---- the steps within an allowance: it is not passed, and where the walk halts for it, it is used up
+-- ---- the steps within an allowance: it is not passed, and where the walk halts for it, it is used
+-- up
 
 module _ (a : ℕ) where
   abbrev WithinBy : Halt → ℕ → Type 0

@@ -1,4 +1,5 @@
--- Buffers that are written one part behind the other, as the report is: what a later part leaves of an earlier one, and the numbers of one match more.
+-- Buffers that are written one part behind the other, as the report is: what a later part leaves of
+-- an earlier one, and the numbers of one match more.
 use mathlib.Core.Path.{_≡_, ap, sym, _∙_}
 use mathlib.Core.Bool.{true}
 use mathlib.Core.List.{List, [], _∷_, _++_, append-assoc, append-nil}
@@ -68,7 +69,8 @@ unfolding labelsOf
 labels-on pl [] x = append-nil (labels pl (x .path))
 labels-on pl (y ∷ xs) x = ap (λ (v : List ℕ). labels pl (y .path) ++ v) (labels-on pl xs x) ∙ sym (append-assoc (labels pl (y .path)) (labelsOf pl xs) (labels pl (x .path)))
 
--- where a match fits whole, there is room for its numbers behind those of the matches before it, and for its labels
+-- where a match fits whole, there is room for its numbers behind those of the matches before it,
+-- and for its labels
 pub fits-room : (nums labs : ℕ) (ms : List Measure) (m l : ℕ) (ls : List ℕ) → fits nums labs ms m l ls ≡ true
     → (m * (3 + 2 * length ms) + (3 + 2 * length ms) ≤ nums) × (l + length ls ≤ labs)
 unfolding fits

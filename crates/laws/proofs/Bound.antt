@@ -1,4 +1,5 @@
--- At most two steps for each pair, where the search goes on past the last row (document 01: the steps are at most 2P(n+1)).
+-- At most two steps for each pair, where the search goes on past the last row (document 01: the
+-- steps are at most 2P(n+1)).
 use mathlib.Core.Path.{_≡_, refl, ap, sym, _∙_}
 use mathlib.Core.List.{List, [], _∷_, _++_}
 use mathlib.Core.Bool.{Bool, true, false, not}
@@ -10,7 +11,7 @@ use native.Mathlib.Omega.{arith}
 use lib.ListN.{length, length-append}
 use lib.Dec.{ltb, eqb}
 use borrow.Author.Tests.{ltb-true, eqb-true, eqb-false, not-true}
-use Rattle.rules.specs.Search.{pathPairs, Match, End, done, openOf, Finished, Attempted, Plan, ended, below, byFit, byNext, onAnswer, sweep, foundIn, walkAt, plainly, plainAt, lastOf}
+use Rattle.rules.specs.Search.{pathPairs, Match, done, Finished, Plan, ended, below, byFit, byNext, onAnswer, sweep, foundIn, walkAt, plainly, plainAt, lastOf}
 use Rattle.rules.specs.Walk.{IsPath, here, there, Ways, try, Halting, countTrue, orNext, firstOf, onto, plain, plainBy}
 use Rattle.laws.proofs.Plain.{plain-path, plain-down, Sound}
 use Rattle.laws.proofs.Swept.{Counted, Unhalting, closed, sweep-finished, finished-open, walk-sure, walk-follows-plain, walk-counted}
@@ -145,7 +146,8 @@ apart-append pos c (x ∷ xs) ys a b h i = (
 
 -- ---- the matches of a search, one behind the other
 
--- each match is what plain backtracking finds at its start, and the next one starts at some j behind its start and not before its end
+-- each match is what plain backtracking finds at its start, and the next one starts at some j
+-- behind its start and not before its end
 abbrev pub Spaced : (ℕ → Ways) → ℕ → (ℕ → ℕ) → (ℕ → ℕ) → Plan → ℕ → List Match → Type 0
 Spaced ways K first pos plan i [] = Unit {0}
 Spaced ways K first pos plan i (m ∷ ms) =

@@ -1,6 +1,7 @@
--- What holds of every tree that is written in a text: its quantifiers' bounds are in order (`written-bounds`), its letters are A to Z
--- (`written-letters`), and they are the letters among the text's bytes (`letters-exactly`, `letters-of-text`), so that whoever asks
--- whether a letter stands in the pattern may look for it in the text.
+-- What holds of every tree that is written in a text: its quantifiers' bounds are in order
+-- (`written-bounds`), its letters are A to Z (`written-letters`), and they are the letters among
+-- the text's bytes (`letters-exactly`, `letters-of-text`), so that whoever asks whether a letter
+-- stands in the pattern may look for it in the text.
 use mathlib.Core.Path.{_≡_, refl, sym, ap, _∙_}
 use mathlib.Core.Bool.{Bool, true, false, _&&_, _||_, or-assoc, or-false, true≢false}
 use mathlib.Core.List.{List, [], _∷_, _++_}

@@ -1,4 +1,5 @@
--- Tests taken apart: by the value of one, the parts of an `&&` that is true, and no value that is both.
+-- Tests taken apart: by the value of one, the parts of an `&&` that is true, and no value that is
+-- both.
 use mathlib.Core.Path.{_≡_, refl}
 use mathlib.Core.Bool.{Bool, true, false, _&&_}
 use Prim.Native.Nat.{ℕ}

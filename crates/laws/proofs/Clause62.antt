@@ -1,7 +1,8 @@
--- The lists that clause 6.2 of ISO/IEC 19075-5 prints, as a check of the order of preferment and of specs/Clause627: each list is the whole
--- parenthesised language of its pattern in descending order (rows 1 to 9), or what clause 6.2.7 leaves of it (rows 10 to 12). First a derivation
--- as the clause writes it, in parentheses (`text`). Three or more branches, and three or more factors, nest to the right, as the tree does: the
--- clause prints none.
+-- The lists that clause 6.2 of ISO/IEC 19075-5 prints, as a check of the order of preferment and of
+-- specs/Clause627: each list is the whole parenthesised language of its pattern in descending order
+-- (rows 1 to 9), or what clause 6.2.7 leaves of it (rows 10 to 12). First a derivation as the
+-- clause writes it, in parentheses (`text`). Three or more branches, and three or more factors,
+-- nest to the right, as the tree does: the clause prints none.
 use mathlib.Core.Path.{_≡_, refl}
 use mathlib.Core.List.{List, [], _∷_, _++_, map, flatMap, List·Memᴰ}
 use mathlib.Core.Bool.{Bool, true, false}
@@ -21,8 +22,9 @@ pub data Symbol : Type 0 where
   left right dash atStart atEnd : Symbol
   name : ℕ → Symbol
 
--- 6.2.1: a dash stands for the branch that is not taken. 6.2.2, 6.2.3: a concatenation and an expanded quantifier stand in parentheses. 6.2.5: an
--- anchor is itself. 6.2.6: the empty pattern is a pair of parentheses.
+-- 6.2.1: a dash stands for the branch that is not taken. 6.2.2, 6.2.3: a concatenation and an
+-- expanded quantifier stand in parentheses. 6.2.5: an anchor is itself. 6.2.6: the empty pattern is
+-- a pair of parentheses.
 unfoldable pub text : {k : Rank} (t : Tree k) → Derivation t → List Symbol
 unfolding Derivation flatMap
 text (one b) d = text b d
@@ -149,7 +151,8 @@ row9 : Prints (only (times A opt true)) ("()" ∷ "(A)" ∷ [])
 unfolding listing text bounded
 row9 = prints _ _ refl refl
 
--- ---- 6.2.7: what is left of (A?){0,3}, (A?){1,3} and (A?){2,3}. The clause lists these by length and not in their order.
+-- ---- 6.2.7: what is left of (A?){0,3}, (A?){1,3} and (A?){2,3}. The clause lists these by length
+-- and not in their order.
 
 unfoldable left-in : (t : Tree pattern) → List (Derivation t) → List String
 unfolding text allowed

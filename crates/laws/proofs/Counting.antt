@@ -1,5 +1,6 @@
--- The places of a pattern counted on its tree: P is the length of the list of places. What can take no row and what is refused are told on the
--- tree as on the unrolled pattern. And the count with a cap of 257 at every node: it says whether P is at most 256, and it stays small.
+-- The places of a pattern counted on its tree: P is the length of the list of places. What can take
+-- no row and what is refused are told on the tree as on the unrolled pattern. And the count with a
+-- cap of 257 at every node: it says whether P is at most 256, and it stays small.
 use mathlib.Core.Path.{_≡_, refl, ap, sym, _∙_}
 use mathlib.Core.Bool.{Bool, true, false, not, _&&_, _||_, false≢true}
 use mathlib.Core.Logic.{_↔_}
@@ -175,7 +176,8 @@ pub legal-unroll : (p : Tree pattern) → emptyLoop p ≡ false → legal (unrol
 unfolding unroll
 legal-unroll p h = forked-legal p ∙ unrolled-legal p h
 
--- ---- and only that, since a quantifier with its bounds in order keeps at least one copy of its body
+-- ---- and only that, since a quantifier with its bounds in order keeps at least one copy of its
+-- body
 
 copies-legal-to : (m : ℕ) (t r : Unrolled) → legal (copies m t r) ≡ true → (legal r ≡ true) × (1 ≤ m → legal t ≡ true)
 unfolding copies legal
@@ -227,7 +229,8 @@ legal-exactly p o = (legal-unroll p, λ h. legal-tree p o (sym (forked-legal p) 
 abbrev pub cap : ℕ → ℕ
 cap x = min x 257
 
--- sums and products of numbers with equal caps have equal caps, so a count may be capped wherever it likes
+-- sums and products of numbers with equal caps have equal caps, so a count may be capped wherever
+-- it likes
 pub cap-again : (x : ℕ) → cap (cap x) ≡ cap x
 cap-again x = omega arith
 

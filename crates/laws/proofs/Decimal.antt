@@ -1,5 +1,5 @@
--- The numbers that the program prints: any bound on the digits that is large enough gives the same (`decimal-is`); read as a decimal they have the
--- number's value, and only 0 begins with a 0.
+-- The numbers that the program prints: any bound on the digits that is large enough gives the same
+-- (`decimal-is`); read as a decimal they have the number's value, and only 0 begins with a 0.
 use mathlib.Core.Path.{_≡_, refl, ap, _∙_}
 use mathlib.Core.Bool.{Bool, true, false}
 use mathlib.Core.List.{List, [], _∷_, _++_}

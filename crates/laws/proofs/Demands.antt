@@ -1,8 +1,8 @@
--- The tender's demands hold of every accepted search (specs/Demands): for every query, all rows and all lent buffers, every skip mode and every allowance of steps,
--- done, stopped and halted.
-use mathlib.Core.Path.{_≡_, refl, ap, ap₂, sym, _∙_}
+-- The tender's demands hold of every accepted search (specs/Demands): for every query, all rows and
+-- all lent buffers, every skip mode and every allowance of steps, done, stopped and halted.
+use mathlib.Core.Path.{_≡_, refl, ap, _∙_}
 use mathlib.Core.Bool.{Bool, false}
-use mathlib.Core.List.{List, [], _∷_, _++_, map}
+use mathlib.Core.List.{List, [], _∷_, _++_}
 use mathlib.Core.Logic.{_↔_}
 use mathlib.Core.Option.{Option, none, some}
 use Prim.Native.Nat.{ℕ, _*_, _/_, _≤_, _<_}
@@ -14,13 +14,13 @@ use Rattle.rules.specs.Query.{textOf}
 use Rattle.rules.specs.Language.{Tree, pattern, Written, emptyLoop}
 use Rattle.rules.specs.Places.{Place, unroll, places}
 use Rattle.rules.specs.Readings.{SomeReading}
-use Rattle.rules.specs.Walk.{outOfSteps, pairs}
+use Rattle.rules.specs.Walk.{pairs}
 use Rattle.rules.specs.Preferment.{Preferred, Reports}
-use Rattle.rules.specs.Search.{Match, End, unfinished, Finished, Skip, pastLast, Swept, Kept, Terms, within, whole, walkSearch, plainSearch, labels, endOf, plainFrom, shownOne, shown, shownEnd}
+use Rattle.rules.specs.Search.{Match, Finished, Skip, pastLast, Swept, Terms, within, whole, walkSearch, plainSearch, labels, endOf, plainFrom, shownOne, shown, shownEnd}
 use Rattle.rules.specs.Report.{fits, bytesFor, bitAt, notesOf}
 use Rattle.rules.specs.Answers.{treeIn, Task, taskOf, letterHolds, walkedOn, backtracked, Buffers, refusal, answerBy, answerWithin, reportOf, walkWithin, plainOf, reportWithin, plainReport, accepted, searchWithin, searchOf}
 use Rattle.rules.specs.Demands.{Demand2, Demand3, Demands, Allowing}
-use Rattle.laws.proofs.Accepted.{Accepted, unrefused, accepted-within, granted-when, places-are}
+use Rattle.laws.proofs.Accepted.{accepted-within, granted-when, places-are}
 use Rattle.laws.proofs.Allowed.{search-bound, search-each, search-within, end-within, EndWithin, allows-begins, search-allowed, allowance-enough}
 use Rattle.laws.proofs.Bounds.{Bounds, written-bounds}
 use Rattle.laws.proofs.Counting.{legal-unroll}
@@ -32,7 +32,6 @@ use Rattle.laws.proofs.Noted.{length-notes, noted}
 use Rattle.laws.proofs.Paths.{failed-no-path}
 use Rattle.laws.proofs.PatternWalk.{search-follows, search-sum, search-kept, walk-finished}
 use Rattle.laws.proofs.PrefermentReports.{plain-reports, reports-one}
-use Rattle.laws.proofs.Swept.{Follows}
 use Rattle.laws.proofs.TreeReadings.{match-exactly}
 
 -- ---- demand 2

@@ -1,5 +1,6 @@
--- The readers (specs/Reader) end behind where they begin (`read-shorter`), so the depth `depth` is enough: with more, nothing else is found
--- (`read-enough`), and any reading that is deep enough gives `treeOf` (`tree-by-depth`).
+-- The readers (specs/Reader) end behind where they begin (`read-shorter`), so the depth `depth` is
+-- enough: with more, nothing else is found (`read-enough`), and any reading that is deep enough
+-- gives `treeOf` (`tree-by-depth`).
 use mathlib.Core.Path.{_≡_, refl, ap, _∙_}
 use mathlib.Core.Bool.{Bool, true, false}
 use mathlib.Core.List.{List}

@@ -1,5 +1,5 @@
--- The path of a derivation: the pairs (place, position) that it goes through, in the places of document 01 (`Runs`, `PathOf`). A derivation
--- has one path at most (`path-one`).
+-- The path of a derivation: the pairs (place, position) that it goes through, in the places of
+-- document 01 (`Runs`, `PathOf`). A derivation has one path at most (`path-one`).
 use mathlib.Core.Path.{_≡_, ap, ap₂, sym, _∙_, subst}
 use mathlib.Core.List.{List, [], _∷_, _++_}
 use mathlib.Core.Logic.{inl, inr}
@@ -11,7 +11,8 @@ use Rattle.rules.specs.Places.{unrolled, unroll, size, places, fork}
 use Rattle.rules.specs.Preferment.{Derivation, Either}
 use Rattle.rules.specs.Walk.{pairAt}
 
--- `T d j p`: d goes to position j through the pairs p; `T b i d j p`: so with its places numbered from b on, and from position i
+-- `T d j p`: d goes to position j through the pairs p; `T b i d j p`: so with its places numbered
+-- from b on, and from position i
 abbrev pub Route : Type 0 → Type 1
 Route A = A → ℕ → List ℕ → Type 0
 
@@ -66,7 +67,8 @@ Runs dollar P b i d j p = (j ≡ i) × (p ≡ pairAt P i b ∷ [])
 Runs empty P b i d j p = (j ≡ i) × (p ≡ [])
 Runs (group t) P b i d j p = ForkRuns (λ b i d j p. Runs t P b i d j p) P (fork t) b i d j p
 
--- p is the path of d from the start i to the end j: the pairs of d, then END. A whole pattern has its fork like a group.
+-- p is the path of d from the start i to the end j: the pairs of d, then END. A whole pattern has
+-- its fork like a group.
 pub record PathOf (t : Tree pattern) (d : Derivation t) (i j : ℕ) (p : List ℕ) : Type 0 where
   pub pairs : List ℕ
   pub runs : ForkRuns (Runs t (length (places (unroll t)))) (length (places (unroll t))) (fork t) 0 i d j pairs

@@ -1,5 +1,5 @@
--- Derivations against readings: a phrase reads rows exactly if one of its derivations parses them (`reads-is`), and a derivation settles
--- its labels and its end (`parses-word`).
+-- Derivations against readings: a phrase reads rows exactly if one of its derivations parses them
+-- (`reads-is`), and a derivation settles its labels and its end (`parses-word`).
 use mathlib.Core.Path.{_≡_, refl, ap, ap₂, sym, _∙_}
 use mathlib.Core.List.{List, [], _∷_, _++_, flatMap}
 use mathlib.Core.Bool.{Bool}

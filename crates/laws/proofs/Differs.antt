@@ -1,5 +1,6 @@
--- A pattern for which document 01 and clause 6.2.7 of ISO/IEC 19075-5 choose different matches: (() | A | B D){0,2} C over three rows, where A and
--- B hold at row 0, A and D at row 1, C at row 2. Document 01 prefers B D C (`by-places`) and the clause A A C (`by-clause`).
+-- A pattern for which document 01 and clause 6.2.7 of ISO/IEC 19075-5 choose different matches: (()
+-- | A | B D){0,2} C over three rows, where A and B hold at row 0, A and D at row 1, C at row 2.
+-- Document 01 prefers B D C (`by-places`) and the clause A A C (`by-clause`).
 use mathlib.Core.Path.{_≡_, refl, _∙_}
 use mathlib.Core.List.{List, [], _∷_}
 use mathlib.Core.Bool.{Bool, true, false, _||_, _&&_, false≢true}

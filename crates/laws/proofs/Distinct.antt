@@ -1,11 +1,11 @@
--- A fork's repeated ways may be dropped: plain backtracking finds the same, and the counted walk finds, keeps and counts the same. For any graph; then for
--- the places of a pattern (`walk-thin`).
+-- A fork's repeated ways may be dropped: plain backtracking finds the same, and the counted walk
+-- finds, keeps and counts the same. For any graph; then for the places of a pattern (`walk-thin`).
 use mathlib.Core.Path.{_≡_, refl, ap, sym, _∙_}
 use mathlib.Core.List.{List, [], _∷_, _++_, map}
 use mathlib.Core.Bool.{Bool, true, false, _&&_, _||_, false≢true}
-use mathlib.Core.Logic.{_⊎_, inl, inr, ⊎-elim, _≢_}
+use mathlib.Core.Logic.{_≢_}
 use mathlib.Core.Option.{Option, none, some}
-use Prim.Native.Nat.{ℕ, zero, suc, _+_, _≤_, _<_, zero-le}
+use Prim.Native.Nat.{ℕ, zero, suc, _+_, _≤_, _<_}
 use native.Mathlib.Nat.{le-trans, not-suc-le-zero, le-of-suc-le-suc}
 use native.Mathlib.Omega.{arith}
 use lib.ListN.{length, getD, replicate, length-replicate}
@@ -13,12 +13,12 @@ use lib.Dec.{ltb, eqb}
 use borrow.Author.Tests.{eqb-true, eqb-false, eq-eqb, ne-eqb, ltb-true}
 use Rattle.rules.specs.Basics.{has}
 use Rattle.rules.specs.Places.{Unrolled, Place, pLetter, pCaret, pDollar, pFork, pEnd, places}
-use Rattle.rules.specs.Search.{Match, Skip, Attempted, hit, miss, halts, Swept, Plan, ended, noStart, below, withMatch, byFit, byNext, onAnswer, sweep, Kept, answered, walkAt, labelOf, labels, asksRow, Terms, haltingOf, planOf, walkSearch}
+use Rattle.rules.specs.Search.{Skip, Attempted, hit, miss, halts, Swept, Plan, ended, noStart, below, withMatch, byFit, byNext, onAnswer, sweep, Kept, answered, walkAt, labelOf, labels, asksRow, Terms, haltingOf, planOf, walkSearch}
 use Rattle.rules.specs.Walk.{Ways, accept, try, Halting, Outcome, found, failed, halted, orElse, close, enterUnless, tries, inside, insideBy, orNext, firstOf, onto, plain, plainBy, passIf, waysAt, pairWays, pairs, pairAt, placeOf, positionOf, firstAt}
 use Rattle.laws.proofs.Level.{legal}
 use Rattle.laws.proofs.Rank.{rank}
 use Rattle.laws.proofs.PatternWalk.{falls-in, top-in, starts-in}
-use Rattle.laws.proofs.Walk.{All-map, Grew, InsidePost, inside-post}
+use Rattle.laws.proofs.Walk.{All-map, InsidePost, inside-post}
 use Rattle.rules.specs.Working.{All, Falls, In, Out, distinct, fresh, keepNew, thinPlace, thinned}
 
 abbrev pub thin : Ways → Ways
@@ -263,7 +263,8 @@ halting-thin terms pl n =
     let e : haltingOf terms (thinned pl) n .waits ≡ haltingOf terms pl n .waits = λ i x. waits-thin terms pl n x i in
     ap (λ (w : ℕ → Bool). record { spent = haltingOf terms pl n .spent; waits = w }) e
 
--- The counted walk over thinned places is the walk over the places, on any terms: the same matches, failed pairs and steps.
+-- The counted walk over thinned places is the walk over the places, on any terms: the same matches,
+-- failed pairs and steps.
 module _ (t : Unrolled) (g : legal t ≡ true) (holds : ℕ → ℕ → Bool) (n : ℕ) (terms : Terms) (le : n ≤ terms .largest) (skip : Skip) (fits : ℕ → ℕ → List ℕ → Bool) where
   plan-thin : planOf (thinned (places t)) n (terms .more) skip fits ≡ planOf (places t) n (terms .more) skip fits
   unfolding planOf

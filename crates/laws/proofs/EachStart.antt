@@ -1,4 +1,5 @@
--- A bound on the steps for every skip mode: an attempt enters each pair from the position of its start on at most once.
+-- A bound on the steps for every skip mode: an attempt enters each pair from the position of its
+-- start on at most once.
 use mathlib.Core.Path.{_≡_, refl, ap, sym, _∙_}
 use mathlib.Core.List.{List, [], _∷_, _++_}
 use mathlib.Core.Bool.{Bool, true, false}
@@ -10,7 +11,7 @@ use native.Mathlib.Omega.{arith}
 use lib.ListN.{length, getD, set, take, drop, length-set, length-drop, take-append-drop}
 use lib.Dec.{ltb}
 use borrow.Author.Tests.{ltb-true}
-use Rattle.rules.specs.Search.{Match, End, Attempted, hit, miss, halts, Swept, Plan, ended, noStart, below, byFit, byNext, onAnswer, sweep, Kept, answered, walkAt}
+use Rattle.rules.specs.Search.{Attempted, hit, miss, halts, Swept, Plan, ended, noStart, below, byFit, byNext, onAnswer, sweep, Kept, answered, walkAt}
 use Rattle.rules.specs.Walk.{Ways, accept, try, Halting, Outcome, found, failed, halted, orElse, close, enterUnless, tries, inside, insideBy, countTrue}
 use Rattle.laws.proofs.Bound.{path-apart, path-pairs, path-closed}
 use Rattle.laws.proofs.Plain.{plain-path, Sound, InsideSound, inside-sound}

@@ -1,6 +1,7 @@
--- Where clause 6.2.7 of ISO/IEC 19075-5 leaves nothing out: if no quantifier over a body that can take no row allows an optional round behind
--- another round, every derivation is allowed (`all-allowed`), so document 01 and the clause choose the same match (`same-match`). proofs/Differs
--- shows that they may differ elsewhere.
+-- Where clause 6.2.7 of ISO/IEC 19075-5 leaves nothing out: if no quantifier over a body that can
+-- take no row allows an optional round behind another round, every derivation is allowed
+-- (`all-allowed`), so document 01 and the clause choose the same match (`same-match`).
+-- proofs/Differs shows that they may differ elsewhere.
 use mathlib.Core.Path.{_≡_, refl}
 use mathlib.Core.List.{List, [], _∷_, _++_, flatMap}
 use mathlib.Core.Bool.{Bool, true, false, not, _||_, true≢false, false≢true}

@@ -1,12 +1,12 @@
--- Laws of `firstOf` of specs/Answers: how the answer of the first test that is true, or 0, depends on the front of the list, on the rest and on each
--- test. The tests of the front all stand for refusals.
+-- Laws of `firstOf` of specs/Answers: how the answer of the first test that is true, or 0, depends
+-- on the front of the list, on the rest and on each test. The tests of the front all stand for
+-- refusals.
 use mathlib.Core.Path.{_≡_, refl, sym, ap, _∙_}
 use mathlib.Core.Bool.{Bool, true, false, _&&_, _||_, true≢false, and-eq-true-iff}
 use mathlib.Core.List.{List, [], _∷_, _++_}
 use Prim.Native.Nat.{ℕ, zero, suc}
-use native.Mathlib.Omega.{arith}
 use lib.Dec.{eqb}
-use lib.ListN.{length, getD}
+use lib.ListN.{getD}
 use borrow.Author.Tests.{eq-eqb}
 use Rattle.rules.specs.Basics.{every}
 use Rattle.rules.specs.Walk.{outOfSteps, outOfRows}

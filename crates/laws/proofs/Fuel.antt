@@ -1,5 +1,6 @@
--- The bounds on depth and attempts in the definitions of plain backtracking, the counted walk and the search are large enough: over a graph whose
--- ways fall in rank, and so for every legal pattern, a larger bound gives the same. And no path is longer than the number of pairs.
+-- The bounds on depth and attempts in the definitions of plain backtracking, the counted walk and
+-- the search are large enough: over a graph whose ways fall in rank, and so for every legal
+-- pattern, a larger bound gives the same. And no path is longer than the number of pairs.
 use mathlib.Core.Path.{_≡_, refl, ap}
 use mathlib.Core.List.{List}
 use mathlib.Core.Bool.{Bool, true, false}
@@ -11,7 +12,7 @@ use lib.ListN.{length, getD, replicate}
 use lib.Dec.{ltb}
 use borrow.Author.Tests.{le-ltb}
 use Rattle.rules.specs.Places.{Unrolled, Place, places}
-use Rattle.rules.specs.Search.{Match, Skip, Attempted, hit, miss, halts, Swept, Plan, ended, noStart, below, byFit, byNext, onAnswer, sweep, answered, walkAt, plainly, plainAt, labels, endOf, Terms, haltingOf, planOf, walkSearch, plainSearch}
+use Rattle.rules.specs.Search.{Match, Skip, Attempted, hit, miss, halts, Swept, Plan, ended, noStart, below, byFit, byNext, onAnswer, sweep, answered, walkAt, plainAt, labels, endOf, Terms, haltingOf, planOf, walkSearch, plainSearch}
 use Rattle.rules.specs.Walk.{IsPath, here, there, Ways, pairs, firstAt, pairWays, plain, Halting, enterUnless, inside}
 use Rattle.laws.proofs.Level.{legal}
 use Rattle.laws.proofs.Plain.{plain-fuel}

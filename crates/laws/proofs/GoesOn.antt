@@ -1,23 +1,24 @@
--- A halted walk goes on from its open pairs as if it had not halted (R-11, R-13). One walk halts before another, as it has fewer steps or fewer rows; over the same
--- pairs the other does what the first has done, and then what comes of its open pairs (`inside-onward`); and so for the whole search (`search-onward`). What
--- the first has found, kept as failed and counted stays.
-use mathlib.Core.Path.{_≡_, refl, ap, ap₂, sym, _∙_}
+-- A halted walk goes on from its open pairs as if it had not halted (R-11, R-13). One walk halts
+-- before another, as it has fewer steps or fewer rows; over the same pairs the other does what the
+-- first has done, and then what comes of its open pairs (`inside-onward`); and so for the whole
+-- search (`search-onward`). What the first has found, kept as failed and counted stays.
+use mathlib.Core.Path.{_≡_, refl, ap, sym, _∙_}
 use mathlib.Core.List.{List, [], _∷_, _++_, append-nil}
-use mathlib.Core.Bool.{Bool, true, false, true≢false}
-use mathlib.Core.Logic.{_⊎_, inl, inr, ⊎-elim}
+use mathlib.Core.Bool.{Bool, true, false}
+use mathlib.Core.Logic.{_⊎_, ⊎-elim}
 use mathlib.Core.Option.{Option, none, some}
 use Prim.Native.Nat.{ℕ, zero, suc, _+_, _≤_, _<_}
 use native.Mathlib.Nat.{le-trans, le-of-suc-le-suc, not-suc-le-zero}
 use native.Mathlib.Omega.{arith}
-use lib.ListN.{length, getD, set, length-set}
+use lib.ListN.{length, getD, length-set}
 use lib.Seq.{getD-set-same}
 use lib.Dec.{ltb}
 use borrow.Author.Tests.{ltb-true, ltb-false, lt-ltb, le-ltb}
 use Rattle.rules.specs.Basics.{Begins}
 use Rattle.rules.specs.Search.{Match, End, done, full, stuck, unfinished, Finished, Attempted, hit, miss, halts, Swept, Plan, ended, noStart, below, withMatch, byFit, byNext, onAnswer, sweep, Kept, answered, walkAt}
-use Rattle.rules.specs.Walk.{Ways, accept, try, Halt, Halting, Outcome, found, failed, halted, orElse, close, enterUnless, tries, inside, insideBy}
+use Rattle.rules.specs.Walk.{Ways, accept, try, Halting, Outcome, found, failed, halted, orElse, close, enterUnless, tries, inside, insideBy}
 use Rattle.laws.proofs.Fuel.{same-answer, sweep-fuel}
-use Rattle.laws.proofs.Machine.{inside-fuel, inside-down, inside-try}
+use Rattle.laws.proofs.Machine.{inside-down, inside-try}
 use Rattle.laws.proofs.Walk.{All-map, in-mark}
 use Rattle.rules.specs.Working.{All, Falls, In}
 
@@ -121,7 +122,8 @@ module _ (h : Halting) where
 
 -- ---- going on from the open pairs
 
--- the last open pair goes on; where it fails, the one before it tries its ways anew, of which those that have failed are not entered again
+-- the last open pair goes on; where it fails, the one before it tries its ways anew, of which those
+-- that have failed are not entered again
 module _ (h : Halting) (ways : ℕ → Ways) (K : ℕ) where
   abbrev pub under : ℕ → Outcome → Outcome
   under x (found p F s) = found (x ∷ p) F s
@@ -145,7 +147,8 @@ module _ (h : Halting) (ways : ℕ → Ways) (K : ℕ) where
 -- ---- a walk that halts sooner, and one that goes further
 
 module _ (h₁ h₂ : Halting) (ways₁ ways₂ : ℕ → Ways) where
-  -- where the first does not wait, both do the same; where the first has a step left, so has the second
+  -- where the first does not wait, both do the same; where the first has a step left, so has the
+  -- second
   pub record Sooner : Type 0 where
     pub ways : (x : ℕ) → (h₁ .waits x ≡ true) ⊎ ((h₁ .waits x ≡ false) × (h₂ .waits x ≡ false) × (ways₁ x ≡ ways₂ x))
     pub steps : (s : ℕ) → h₁ .spent s ≡ false → h₂ .spent s ≡ false
@@ -273,7 +276,8 @@ behind-end [] r = refl
 behind-end (m ∷ ms) r = behind-end ms r
 
 module _ (h : Halting) (ways : ℕ → Ways) (K : ℕ) (first : ℕ → ℕ) (plan : Plan) where
-  -- an unfinished search goes on: its attempt at i, with the open pairs p, where m matches with l labels are written; an attempt that has not begun begins
+  -- an unfinished search goes on: its attempt at i, with the open pairs p, where m matches with l
+  -- labels are written; an attempt that has not begun begins
   abbrev pub resumed : ℕ → List ℕ → ℕ → ℕ → Kept → Swept Kept
   resumed i [] m l st = sweep (walkAt h ways K first) plan (plan .n) i m l st
   resumed i (x ∷ p) m l st =

@@ -1,5 +1,6 @@
--- The grammar (specs/Language) and the reading function (specs/Reader) agree: a text has a tree exactly if the reading function finds
--- one, and then that one alone. GrammarSound and GrammarComplete have the two halves; these three statements are what others cite.
+-- The grammar (specs/Language) and the reading function (specs/Reader) agree: a text has a tree
+-- exactly if the reading function finds one, and then that one alone. GrammarSound and
+-- GrammarComplete have the two halves; these three statements are what others cite.
 use mathlib.Core.Path.{_≡_, refl, sym, _∙_}
 use mathlib.Core.List.{List}
 use mathlib.Core.Logic.{_↔_}

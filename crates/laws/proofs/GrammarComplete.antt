@@ -1,6 +1,8 @@
--- What is written in a text the reading function finds: `written-found`. By induction on the tree: where the tokens of a phrase, then
--- others that may follow it, are laid, the reader of its rank finds the phrase and stops where the others begin, if its depth is at
--- least `depth`. What may follow is told by classes of tokens, and what a reader looks at by the first byte of the next token.
+-- What is written in a text the reading function finds: `written-found`. By induction on the tree:
+-- where the tokens of a phrase, then others that may follow it, are laid, the reader of its rank
+-- finds the phrase and stops where the others begin, if its depth is at least `depth`. What may
+-- follow is told by classes of tokens, and what a reader looks at by the first byte of the next
+-- token.
 use mathlib.Core.Path.{_≡_, refl, sym, ap, _∙_, subst}
 use mathlib.Core.Bool.{Bool, true, false, true≢false}
 use mathlib.Core.List.{List, [], _∷_}
@@ -15,7 +17,8 @@ use Rattle.rules.specs.Language.{Form, star, plus, opt, exactly, atLeast, atMos
 use Rattle.rules.specs.Reader.{Reading, got, peek, rest, skip, isDigit, number, enough, reaching, bounded, marked, reluctant, shut, upTo, from, braces, quantifier, ended, under, altOn, altWith, seqOn, seqWith, timesOn, timesWith, closed, parted, simple, primaryOn, read, rankOf, depth, whole, treeOf}
 use Rattle.laws.proofs.GrammarSound.{range-in, letter-in}
 
--- ---- what may follow: a phrase of a rank is followed by the end, or by a token of at least that class
+-- ---- what may follow: a phrase of a rank is followed by the end, or by a token of at least that
+-- class
 
 class : Token → ℕ
 class (aMark f z) = 0

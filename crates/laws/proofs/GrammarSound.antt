@@ -1,9 +1,11 @@
--- What the reading function finds is written in the text: `found-written`; and what it has read of any text begins a text of the language:
--- `read-begins`. Each reader's result is `Good`. Where it finds a tree, the bytes read spell it: put in front of any tokens that are laid behind them, its
--- tokens are laid there. Where it stops, more bytes behind those read spell some tree. Bounds and letters that are read are in order.
+-- What the reading function finds is written in the text: `found-written`; and what it has read of
+-- any text begins a text of the language: `read-begins`. Each reader's result is `Good`. Where it
+-- finds a tree, the bytes read spell it: put in front of any tokens that are laid behind them, its
+-- tokens are laid there. Where it stops, more bytes behind those read spell some tree. Bounds and
+-- letters that are read are in order.
 use mathlib.Core.Path.{_≡_, refl, sym, ap, _∙_, subst}
 use mathlib.Core.Bool.{Bool, true, false, true≢false, false≢true, and-eq-true-iff}
-use mathlib.Core.List.{List, [], _∷_, _++_, append-assoc, append-nil}
+use mathlib.Core.List.{List, [], _∷_, _++_, append-assoc}
 use mathlib.Core.Option.{some}
 use Prim.Native.Nat.{ℕ, zero, suc, _+_, _*_, _-_, _/_, _%_, _≤_, max}
 use native.Mathlib.Omega.{arith}
@@ -11,7 +13,7 @@ use lib.Dec.{eqb, leb, ltb}
 use lib.ListN.{length}
 use borrow.Author.Tests.{eqb-true, eqb-false, ne-eqb, leb-true, le-leb, lt-ltb, le-ltb}
 use Rattle.rules.specs.Basics.{pick, inRange, isLetter}
-use Rattle.rules.specs.Language.{Form, star, plus, opt, exactly, atLeast, atMost, between, InBounds, Rank, pattern, branch, factor, primary, Tree, one, more, last, next, bare, times, letter, caret, dollar, empty, group, Token, aLetter, aCaret, aDollar, opening, closing, aBar, aMark, tokens, digits, mark, spell, Proper, lettered, letterFirst, spaces, Laid, Written, Begins}
+use Rattle.rules.specs.Language.{Form, star, plus, opt, exactly, atLeast, atMost, between, InBounds, Rank, pattern, branch, factor, primary, Tree, one, more, last, next, bare, times, letter, caret, group, Token, aLetter, aCaret, aDollar, opening, closing, aBar, aMark, tokens, digits, mark, spell, Proper, lettered, letterFirst, spaces, Laid, Written, Begins}
 use Rattle.rules.specs.Reader.{Reading, got, bad, left, peek, rest, skip, isDigit, number, enough, reaching, bounded, Marked, unmarked, broken, marked, reluctant, shut, upTo, from, braces, quantifier, ended, under, altOn, altWith, seqOn, seqWith, timesOn, timesWith, closed, parted, simple, primaryOn, read, whole, treeOf}
 
 -- ---- tests and bytes
@@ -98,14 +100,16 @@ spell-front (aMark f false) n r = mark-front f (spaces n []) r ∙ ap (mark f) (
 
 -- ---- what the bytes spell that are read from s to u; T puts tokens in front of others
 
--- they spell the tokens that T adds: tokens laid behind them may be any, as long as they begin with a letter only where u does
+-- they spell the tokens that T adds: tokens laid behind them may be any, as long as they begin with
+-- a letter only where u does
 pub record Leads (s u : List ℕ) (T : List Token → List Token) : Type 0 where
   pub front : List ℕ
   pub is : s ≡ front ++ u
   pub first : (ts : List Token) → letterFirst (T ts) ≡ true → isLetter (peek s) ≡ true
   pub laid : (ts : List Token) (r : List ℕ) → Laid ts r → (letterFirst ts ≡ true → isLetter (peek u) ≡ true) → Laid (T ts) (front ++ r)
 
--- with more bytes behind them they do so: tokens laid behind those may be any that do not begin with a letter
+-- with more bytes behind them they do so: tokens laid behind those may be any that do not begin
+-- with a letter
 pub record Ends (s u : List ℕ) (T : List Token → List Token) : Type 0 where
   pub front : List ℕ
   pub is : s ≡ front ++ u

@@ -1,6 +1,8 @@
--- The first success of plain backtracking is the greatest derivation that parses at the start (`preferred`), for every pattern that is not
--- refused: an induction on the pattern as it is written, over what plain backtracking finds behind a part of it (proofs/PlainFinds). There is
--- one greatest derivation at most, so one end and one list of labels (`greatest-one`, `greatest-same`, `others-after`).
+-- The first success of plain backtracking is the greatest derivation that parses at the start
+-- (`preferred`), for every pattern that is not refused: an induction on the pattern as it is
+-- written, over what plain backtracking finds behind a part of it (proofs/PlainFinds). There is one
+-- greatest derivation at most, so one end and one list of labels (`greatest-one`, `greatest-same`,
+-- `others-after`).
 use mathlib.Core.Path.{_≡_, refl, ap, sym, _∙_}
 use mathlib.Core.List.{List, [], _∷_, _++_, append-nil}
 use mathlib.Core.Bool.{Bool, false, _&&_}
@@ -172,7 +174,8 @@ module _ (p : Tree pattern) (g : emptyLoop p ≡ false) (o : Bounds p) (holds : 
   abbrev pub Finding : ℕ → ℕ → List ℕ → List ℕ → Type 0
   Finding i j w path = (plainFrom holds n (places (unroll p)) i ≡ some path) × (endOf (length (places (unroll p))) path ≡ j) × (labels (places (unroll p)) path ≡ w)
 
-  -- a path is found with these labels, up to this row, exactly if they are those of the greatest derivation
+  -- a path is found with these labels, up to this row, exactly if they are those of the greatest
+  -- derivation
   pub found-is-greatest : (i j : ℕ) (w : List ℕ) → ((path : List ℕ) × Finding i j w path) ↔ Preferred p holds n i j w
   found-is-greatest i j w = (to, λ x. from x (plainFrom holds n (places (unroll p)) i) refl (preferred p g o holds n i))
     where

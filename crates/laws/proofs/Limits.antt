@@ -1,5 +1,7 @@
--- What an implementation may rely on for every accepted search: P is 1 to 256 and the length of the list of places, n at most 4,096, the pairs at most
--- 1,048,832, the matches at most n; what is written fits the lent buffers, so that every buffer keeps its length; the steps fit 64 bits in every skip mode.
+-- What an implementation may rely on for every accepted search: P is 1 to 256 and the length of the
+-- list of places, n at most 4,096, the pairs at most 1,048,832, the matches at most n; what is
+-- written fits the lent buffers, so that every buffer keeps its length; the steps fit 64 bits in
+-- every skip mode.
 use mathlib.Core.Path.{_≡_, refl, ap, ap₂, sym, _∙_}
 use mathlib.Core.Bool.{Bool, true, false}
 use mathlib.Core.List.{List, [], _∷_}

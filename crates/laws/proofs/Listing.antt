@@ -1,5 +1,6 @@
--- The parenthesised language of a phrase without unbounded quantifiers as a list (`listing`): each derivation stands before all that it is
--- preferred to (`listing-descends`), and every derivation is in it (`listing-complete`).
+-- The parenthesised language of a phrase without unbounded quantifiers as a list (`listing`): each
+-- derivation stands before all that it is preferred to (`listing-descends`), and every derivation
+-- is in it (`listing-complete`).
 use mathlib.Core.Path.{_≡_, refl, subst}
 use mathlib.Core.List.{List, [], _∷_, _++_, map, flatMap, List·Memᴰ, List·Memᴰ·head, List·Memᴰ·tail, List·Memᴰ·not-nil, List·Memᴰ·append-cases, List·Memᴰ·eq-of-singleton, Memᴰ·append-left, Memᴰ·append-right, Memᴰ·map, Memᴰ·of-map}
 use mathlib.Core.Bool.{Bool, true, false, not, _&&_, true≢false}

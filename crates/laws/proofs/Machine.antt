@@ -1,6 +1,7 @@
--- The walk by a stack of open pairs, as a loop with a trail does it: the same result as the recursive walk.
--- A state is the open pairs (the last entered first), the failed pairs and the steps. There is no pointer into a fork's ways:
--- the ways that were tried have failed, so the next one to try is the first that has not. Whatever may halt the walk: a halt leaves the open pairs.
+-- The walk by a stack of open pairs, as a loop with a trail does it: the same result as the
+-- recursive walk. A state is the open pairs (the last entered first), the failed pairs and the
+-- steps. There is no pointer into a fork's ways: the ways that were tried have failed, so the next
+-- one to try is the first that has not. Whatever may halt the walk: a halt leaves the open pairs.
 use mathlib.Core.Path.{_≡_, refl, ap, sym, _∙_}
 use mathlib.Core.List.{List, [], _∷_, reverseAux}
 use mathlib.Core.Bool.{Bool, true, false}
@@ -11,7 +12,7 @@ use native.Mathlib.Omega.{arith}
 use lib.ListN.{length, getD, set}
 use Rattle.rules.specs.Walk.{Ways, accept, try, outOfSteps, outOfRows, Halting, Outcome, found, failed, halted, orElse, close, enterUnless, tries, inside, insideBy, countTrue}
 use Rattle.laws.proofs.Walk.{All-map, InsidePost, inside-post, rising-apart, All-map₂, out-mark, room}
-use Rattle.rules.specs.Working.{All, Falls, In, Open, Out, Rising, lift, resume}
+use Rattle.rules.specs.Working.{All, Falls, In, Open, Out, lift, resume}
 
 -- ---- the walk's fuel
 

@@ -1,5 +1,5 @@
--- What the notes hold after a search, as document 01 words it: bit x, lowest bit first in each byte, is 1 exactly if pair x has failed, and spare bits
--- of the last byte are 0.
+-- What the notes hold after a search, as document 01 words it: bit x, lowest bit first in each
+-- byte, is 1 exactly if pair x has failed, and spare bits of the last byte are 0.
 use mathlib.Core.Path.{_≡_, refl, ap, _∙_}
 use mathlib.Core.Bool.{Bool, true, false}
 use mathlib.Core.List.{List}

@@ -1,7 +1,8 @@
--- The notes: bit x of the bytes, lowest bit first in each byte, as a list of Booleans; marking a bit is marking the list.
+-- The notes: bit x of the bytes, lowest bit first in each byte, as a list of Booleans; marking a
+-- bit is marking the list.
 use mathlib.Core.Path.{_≡_, refl, ap, sym, _∙_}
-use mathlib.Core.List.{List, [], _∷_}
-use mathlib.Core.Bool.{Bool, true, false}
+use mathlib.Core.List.{List}
+use mathlib.Core.Bool.{true, false}
 use mathlib.Core.Logic.{_≢_}
 use Prim.Native.Nat.{ℕ, zero, suc, _+_, _*_, _/_, _%_, _^_, _<_}
 use native.Mathlib.Nat.{le-of-suc-le-suc, not-suc-le-zero, add-zero, pow-suc, mul-comm, div-div-eq-div-mul, div-one}

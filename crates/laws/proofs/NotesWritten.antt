@@ -1,5 +1,6 @@
--- Notes by their bytes: numbers of 8 bits with the same bits are the same, so notes whose bits say which pairs have failed, and which are unchanged
--- beyond them, are those of the report. And buffers that differ only where they are written over.
+-- Notes by their bytes: numbers of 8 bits with the same bits are the same, so notes whose bits say
+-- which pairs have failed, and which are unchanged beyond them, are those of the report. And
+-- buffers that differ only where they are written over.
 use mathlib.Core.Path.{_≡_, refl, sym, _∙_}
 use mathlib.Core.Bool.{Bool, true, false}
 use mathlib.Core.List.{List}

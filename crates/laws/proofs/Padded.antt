@@ -1,21 +1,21 @@
--- The account of failed pairs may be kept for more pairs than the rows have (R-11 measures it by the largest number of rows): the walk does the same, and the pairs
--- beyond stay as they were.
-use mathlib.Core.Path.{_≡_, refl, ap, ap₂, sym, _∙_}
+-- The account of failed pairs may be kept for more pairs than the rows have (R-11 measures it by
+-- the largest number of rows): the walk does the same, and the pairs beyond stay as they were.
+use mathlib.Core.Path.{_≡_, refl, ap, sym, _∙_}
 use mathlib.Core.List.{List, [], _∷_, _++_}
 use mathlib.Core.Bool.{Bool, true, false}
 use mathlib.Core.Option.{Option, none, some}
 use Prim.Native.Nat.{ℕ, zero, suc, _+_, _-_, _*_, _≤_, _<_}
-use native.Mathlib.Nat.{le-trans, mul-le-mul}
+use native.Mathlib.Nat.{mul-le-mul}
 use native.Mathlib.Omega.{arith}
-use lib.ListN.{length, getD, set, replicate, length-replicate, replicate-append-replicate, List·getD-append}
+use lib.ListN.{length, getD, replicate, length-replicate, replicate-append-replicate, List·getD-append}
 use lib.Seq.{set-append-left}
 use lib.Dec.{ltb}
 use borrow.Author.Tests.{ltb-true}
 use Rattle.rules.specs.Places.{Unrolled, places}
-use Rattle.rules.specs.Search.{Match, Skip, Attempted, hit, miss, halts, Swept, Plan, ended, noStart, below, withMatch, byFit, byNext, onAnswer, sweep, Kept, answered, walkAt, Terms, haltingOf, planOf, walkSearch}
+use Rattle.rules.specs.Search.{Skip, Attempted, Swept, Plan, ended, noStart, below, withMatch, byFit, byNext, onAnswer, sweep, Kept, answered, walkAt, Terms, haltingOf, planOf, walkSearch}
 use Rattle.rules.specs.Walk.{Ways, accept, try, Halting, Outcome, found, failed, halted, orElse, close, enterUnless, tries, inside, insideBy, pairs, firstAt, pairWays}
 use Rattle.laws.proofs.Fuel.{walk-search-enough}
-use Rattle.laws.proofs.GoesOn.{keptBy, Keeps, inside-keeps}
+use Rattle.laws.proofs.GoesOn.{keptBy, inside-keeps}
 use Rattle.laws.proofs.Level.{legal}
 use Rattle.laws.proofs.PatternWalk.{falls, starts}
 use Rattle.laws.proofs.Rank.{rank}
@@ -139,7 +139,8 @@ module _ (t : Unrolled) (g : legal t ≡ true) (holds : ℕ → ℕ → Bool) (n
   pub more-pairs : (L : ℕ) → n ≤ L → pairs P n ≤ pairs P L
   more-pairs L le = product-le P (suc n) P (suc L) (omega arith) (omega arith)
 
-  -- the search with an account for L rows is the search with an account for the n rows there are, and no other pair has failed
+  -- the search with an account for L rows is the search with an account for the n rows there are,
+  -- and no other pair has failed
   pub search-padded : (terms : Terms) → n ≤ terms .largest → (skip : Skip) (fits : ℕ → ℕ → List ℕ → Bool)
       → walkSearch terms holds n (places t) skip fits ≡ padded (beyond (terms .largest)) (walkSearch (measuredBy terms n) holds n (places t) skip fits)
   unfolding walkSearch haltingOf planOf

@@ -1,5 +1,5 @@
--- Paths of a legal pattern: from a pair that has a path plain backtracking finds one, and a pair that the counted walk keeps as failed has none, so
--- no reading of the rest begins there.
+-- Paths of a legal pattern: from a pair that has a path plain backtracking finds one, and a pair
+-- that the counted walk keeps as failed has none, so no reading of the rest begins there.
 use mathlib.Core.Path.{_≡_}
 use mathlib.Core.List.{List}
 use mathlib.Core.Bool.{Bool, true}
@@ -8,7 +8,7 @@ use mathlib.Core.Option.{none}
 use Prim.Native.Nat.{ℕ, _≤_}
 use lib.ListN.{length}
 use Rattle.rules.specs.Places.{Unrolled, places}
-use Rattle.rules.specs.Search.{Skip, Terms, whole, walkSearch}
+use Rattle.rules.specs.Search.{Skip, Terms, walkSearch}
 use Rattle.rules.specs.Walk.{IsPath, pairs, pairWays, plain}
 use Rattle.laws.proofs.Bound.{plain-complete}
 use Rattle.laws.proofs.Level.{legal}

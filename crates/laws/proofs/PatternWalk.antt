@@ -1,6 +1,7 @@
--- The whole search over the graph of a legal unrolled pattern. On any terms: the walk's matches are the first of plain backtracking's, all of them where it does not
--- halt; its steps are the failed pairs, the pairs of the paths found and those still open. On document 01's terms: with skip past last row the steps are at
--- most 2P(n+1), and in every mode at most P n (n+3) / 2.
+-- The whole search over the graph of a legal unrolled pattern. On any terms: the walk's matches are
+-- the first of plain backtracking's, all of them where it does not halt; its steps are the failed
+-- pairs, the pairs of the paths found and those still open. On document 01's terms: with skip past
+-- last row the steps are at most 2P(n+1), and in every mode at most P n (n+3) / 2.
 use mathlib.Core.Path.{_≡_, refl, ap}
 use mathlib.Core.List.{List, [], _∷_, map}
 use mathlib.Core.Bool.{Bool, true, false, _&&_, false≢true}
@@ -77,7 +78,8 @@ module _ (t : Unrolled) (g : legal t ≡ true) (holds : ℕ → ℕ → Bool) (n
   some-place : 0 < P
   some-place = rw (places-length t) (omega arith)
 
-  -- where pairs are counted for L rows: the rank falls along every way, and lies below the number of pairs; a start's first pair is a pair of its row
+  -- where pairs are counted for L rows: the rank falls along every way, and lies below the number
+  -- of pairs; a start's first pair is a pair of its row
   module _ (L : ℕ) (le : n ≤ L) where
     pub falls-in : Falls ways (rank t n) (pairs P L)
     falls-in = rw (places-length t) (pattern-falls t g holds n L le)
@@ -119,7 +121,8 @@ module _ (t : Unrolled) (g : legal t ≡ true) (holds : ℕ → ℕ → Bool) (n
     same-plain : plain ways N ≡ plain ways (pairs P n)
     same-plain = λ i x. plain-fuel ways (rank t n) N (falls-in (terms .largest) le) N (pairs P n) x (top-in (terms .largest) le x) (top x) i
 
-    -- the matches are the first of plain backtracking's, all of them and with its end where the search does not halt, and every failed pair has no path
+    -- the matches are the first of plain backtracking's, all of them and with its end where the
+    -- search does not halt, and every failed pair has no path
     pub search-follows : Follows (λ (st : Kept). Sound ways (pairs P n) (st .0)) searched (plainSearch holds n (places t) skip fits)
     unfolding walkSearch plainSearch planOf
     search-follows = go (plain ways (pairs P n)) same-plain

@@ -1,7 +1,9 @@
--- What plain backtracking finds behind a part of a pattern: the first of its derivations, in the order of preferment, behind which the search goes
--- on to a success. `Finds R L T t` says so of an unrolled part t at any place, for any language: its derivations, what they read (R), their order (L)
--- and the pairs that they go through (T). It is proved for sequences, branches, forks and rounds; proofs/GreatestDerivation puts them together.
--- A loop needs no rank: failure is by induction on the other derivation's rounds, success by induction on the length of the path found.
+-- What plain backtracking finds behind a part of a pattern: the first of its derivations, in the
+-- order of preferment, behind which the search goes on to a success. `Finds R L T t` says so of an
+-- unrolled part t at any place, for any language: its derivations, what they read (R), their order
+-- (L) and the pairs that they go through (T). It is proved for sequences, branches, forks and
+-- rounds; proofs/GreatestDerivation puts them together. A loop needs no rank: failure is by
+-- induction on the other derivation's rounds, success by induction on the length of the path found.
 use mathlib.Core.Path.{_≡_, refl, ap, sym, _∙_, subst}
 use mathlib.Core.List.{List, [], _∷_, _++_, map, append-assoc, append-nil}
 use mathlib.Core.Bool.{Bool, true, false, true≢false, false≢true}
@@ -32,7 +34,8 @@ Order A = A → A → Type 0
 
 -- ---- what is found
 
--- p is the path from position i through the best derivation, to place k at position `to`, and on from there; behind every better one nothing is found
+-- p is the path from position i through the best derivation, to place k at position `to`, and on
+-- from there; behind every better one nothing is found
 pub record Win (pl : List Place) (f : ℕ → Option (List ℕ)) {A : Type 0} (R : Reading A) (L : Order A) (T : Route A) (i k : ℕ) (p : List ℕ) : Type 0 where
   pub best : A
   pub to : ℕ

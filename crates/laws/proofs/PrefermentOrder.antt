@@ -1,5 +1,6 @@
--- Preferment is a strict total order on the derivations of every phrase: irreflexive, transitive, and of any two that differ one is
--- preferred (`total-order`). One lemma for each of the three ways to order.
+-- Preferment is a strict total order on the derivations of every phrase: irreflexive, transitive,
+-- and of any two that differ one is preferred (`total-order`). One lemma for each of the three ways
+-- to order.
 use mathlib.Core.Path.{_≡_, refl, ap, sym, _∙_, subst}
 use mathlib.Core.List.{List, [], _∷_}
 use mathlib.Core.Bool.{Bool, true, false, true≢false}

@@ -1,5 +1,6 @@
--- The whole report told by the order of preferment alone (`Reports` of specs/Preferment): what the counted walk writes, and the match at which
--- it stops, is such a report, in every skip mode and whatever the room (`walk-reports`), and there is one at most (`reports-one`).
+-- The whole report told by the order of preferment alone (`Reports` of specs/Preferment): what the
+-- counted walk writes, and the match at which it stops, is such a report, in every skip mode and
+-- whatever the room (`walk-reports`), and there is one at most (`reports-one`).
 use mathlib.Core.Path.{_≡_, refl, ap, ap₂, sym, _∙_}
 use mathlib.Core.List.{List, [], _∷_}
 use mathlib.Core.Bool.{Bool, true, false, true≢false}
@@ -59,7 +60,8 @@ module _ (p : Tree pattern) (g : emptyLoop p ≡ false) (o : Bounds p) (holds : 
       go ih false e = finished (ltb-false i n e)
       go ih true e = hit ih (ltb-true i n e) (plainFrom holds n (places (unroll p)) i) (preferred p g o holds n i)
 
-  -- the matches written, and the one at which the search stops, are the greatest derivations at their starts, and no start is left out
+  -- the matches written, and the one at which the search stops, are the greatest derivations at
+  -- their starts, and no start is left out
   pub plain-reports : Reports p holds n skip room 0 0 0 (shown pl (plainSearch holds n pl skip room .matches)) (shownEnd pl (plainSearch holds n pl skip room .end))
   unfolding plainSearch
   plain-reports = swept n 0 0 0 tt (omega arith)

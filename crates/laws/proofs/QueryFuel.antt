@@ -1,14 +1,12 @@
--- The bound on the number of records in the definitions is large enough: a record takes 4 bytes at least, so any bound that is not below the bytes left gives the
--- same records and the same end.
+-- The bound on the number of records in the definitions is large enough: a record takes 4 bytes at
+-- least, so any bound that is not below the bytes left gives the same records and the same end.
 use mathlib.Core.Path.{_≡_, refl, ap}
-use mathlib.Core.Bool.{Bool, true, false, _&&_, true≢false}
+use mathlib.Core.Bool.{Bool, true, false}
 use mathlib.Core.List.{List, [], _∷_}
-use Prim.Native.Nat.{ℕ, zero, suc, _+_, _-_, _≤_, _<_}
+use Prim.Native.Nat.{ℕ, zero, suc, _+_, _-_, _≤_}
 use native.Mathlib.Omega.{arith}
-use lib.Dec.{leb}
 use lib.ListN.{length}
 use borrow.Author.Tests.{leb-true}
-use Rattle.rules.specs.Basics.{le16}
 use Rattle.rules.specs.Query.{Record, wholeAt, recordAt, nextAt, recordsOn, recordsFrom, records, behindOn, behindFrom}
 use Rattle.laws.proofs.Level.{and-true}
 

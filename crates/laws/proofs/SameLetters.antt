@@ -1,4 +1,5 @@
--- A search asks only of the letters A to Z that stand in its places whether they hold: two ways to say so that agree on these give the same search.
+-- A search asks only of the letters A to Z that stand in its places whether they hold: two ways to
+-- say so that agree on these give the same search.
 use mathlib.Core.Path.{_≡_, refl, ap}
 use mathlib.Core.Bool.{Bool, _&&_}
 use mathlib.Core.List.{List, []}

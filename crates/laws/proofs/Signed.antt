@@ -1,4 +1,5 @@
--- Signed numbers in the machine: how large a sum is, that it fits 64 bits, and that a number which fits is read back as it was written.
+-- Signed numbers in the machine: how large a sum is, that it fits 64 bits, and that a number which
+-- fits is read back as it was written.
 use mathlib.Core.Path.{_≡_, refl, ap, _∙_}
 use mathlib.Core.Bool.{Bool, true, false, cond}
 use Prim.Native.Nat.{ℕ, zero, suc, _+_, _/_, _≤_, _<_}
@@ -44,7 +45,8 @@ pub mag-average : (s : ℤ) (k : ℕ) → mag (quotZ s (pos k)) ≤ mag s
 mag-average (pos a) k = div-le-self a k
 mag-average (negsuc a) k = mag-minus (suc a / k) a (div-le-self (suc a) k)
 
--- It is cut toward zero: the size of the average is the size of the sum divided by the count, rounded down, whatever the sign of the sum.
+-- It is cut toward zero: the size of the average is the size of the sum divided by the count,
+-- rounded down, whatever the sign of the sum.
 pub average-size : (s : ℤ) (k : ℕ) → natAbs (quotZ s (pos k)) ≡ natAbs s / k
 average-size (pos a) k = refl
 average-size (negsuc a) k = size-minus (suc a / k)

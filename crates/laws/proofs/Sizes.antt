@@ -1,6 +1,7 @@
--- How large the tree of a text can be, for whoever lays it out in fixed room. A text of L bytes has at most L tokens (`few-tokens`) and its
--- tree fewer than 2 L nodes (`few-nodes`); its height is below its nodes' number (`low-height`). Where answer 4 does not apply to the text,
--- groups stand at most 8 deep in one another (`shallow`).
+-- How large the tree of a text can be, for whoever lays it out in fixed room. A text of L bytes has
+-- at most L tokens (`few-tokens`) and its tree fewer than 2 L nodes (`few-nodes`); its height is
+-- below its nodes' number (`low-height`). Where answer 4 does not apply to the text, groups stand
+-- at most 8 deep in one another (`shallow`).
 use mathlib.Core.Path.{_≡_, refl, sym, ap, _∙_}
 use mathlib.Core.Bool.{Bool, true, false, true≢false}
 use mathlib.Core.List.{List, [], _∷_}
@@ -16,7 +17,8 @@ use Rattle.laws.proofs.GrammarComplete.{spaces-length, mark-longer}
 
 -- ---- nodes
 
--- a node for each `|`, each factor behind another, each group and each other primary; a primary's own node counts for its factor
+-- a node for each `|`, each factor behind another, each group and each other primary; a primary's
+-- own node counts for its factor
 unfoldable pub nodeCount : {k : Rank} → Tree k → ℕ
 nodeCount (one b) = nodeCount b
 nodeCount (more b p) = nodeCount b + nodeCount p + 1

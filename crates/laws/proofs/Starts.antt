@@ -1,5 +1,6 @@
--- The next start lies behind the one before it; with skip past last row it is not before the end of the match; at a labelled row it is a row of the match with
--- that label, the first or the last of them.
+-- The next start lies behind the one before it; with skip past last row it is not before the end of
+-- the match; at a labelled row it is a row of the match with that label, the first or the last of
+-- them.
 use mathlib.Core.Path.{_≡_, refl, ap, sym, _∙_}
 use mathlib.Core.Bool.{Bool, true, false}
 use mathlib.Core.List.{List, [], _∷_}
@@ -102,7 +103,8 @@ last-with c (x ∷ w) = go (eqb x c) refl (lastWith c w) (last-with c w)
         later (suc d) h b g = a d (omega arith) g
     go false e none a = no-label c x w (eqb-false x c e) a
 
--- behind a match with rows at i the search goes on d rows behind its first, where the first (the last) row with the letter is; and nowhere where that is the first row or there is none
+-- behind a match with rows at i the search goes on d rows behind its first, where the first (the
+-- last) row with the letter is; and nowhere where that is the first row or there is none
 pub next-first : (c i j x : ℕ) (w : List ℕ) (k : ℕ) → nextStart (toFirst c) i j (x ∷ w) ≡ some k → (d : ℕ) × (k ≡ i + suc d) × FirstLabel c (x ∷ w) (suc d)
 unfolding nextStart
 next-first c i j x w k e = go (firstWith c (x ∷ w)) (first-with c (x ∷ w)) e

@@ -1,18 +1,20 @@
--- Where a text is wrong (request R-1). The readers stop where the definitions of specs/Language say: `wrong-exactly` and `incomplete-exactly`; the tests
--- for answers 5 and 14 exclude each other, and one of them is true exactly if the text has no tree (`wrong-or-incomplete`, `tree-there`); and so a search
--- that answers 5 or 14 tells where the query's text is wrong or that it could go on (`answered-5`, `answered-14`).
+-- Where a text is wrong (request R-1). The readers stop where the definitions of specs/Language
+-- say: `wrong-exactly` and `incomplete-exactly`; the tests for answers 5 and 14 exclude each other,
+-- and one of them is true exactly if the text has no tree (`wrong-or-incomplete`, `tree-there`);
+-- and so a search that answers 5 or 14 tells where the query's text is wrong or that it could go on
+-- (`answered-5`, `answered-14`).
 use mathlib.Core.Path.{_≡_, refl, sym, ap, _∙_, subst}
 use mathlib.Core.Bool.{Bool, true, false, _&&_, _||_, true≢false, and-eq-true-iff}
 use mathlib.Core.List.{List, [], _∷_, _++_, append-assoc, append-nil}
 use mathlib.Core.Logic.{_↔_}
 use mathlib.Core.Option.{Option, none, some}
-use Prim.Native.Nat.{ℕ, zero, suc, _+_, _*_, _-_, _≤_, _<_}
+use Prim.Native.Nat.{ℕ, _+_, _*_, _-_, _≤_, _<_}
 use native.Mathlib.Omega.{arith}
-use lib.Dec.{eqb, ltb, leb}
+use lib.Dec.{eqb, ltb}
 use lib.IntN.{ℤ}
 use lib.ListN.{length, take, drop, take-append-drop, length-append}
-use lib.Seq.{take-append-seam, take-append-le, take-append-add, take-length}
-use borrow.Author.Tests.{lt-ltb, le-ltb, ltb-false, ltb-true, eq-eqb, eqb-true, eqb-false, lt-leb}
+use lib.Seq.{take-append-le, take-append-add, take-length}
+use borrow.Author.Tests.{lt-ltb, ltb-false, ltb-true, eq-eqb, eqb-true, eqb-false, lt-leb}
 use Rattle.rules.specs.Basics.{pick}
 use Rattle.rules.specs.Language.{Tree, pattern, Written, Begins, WrongAt, Unfinished}
 use Rattle.rules.specs.Reader.{Reading, got, bad, left, skip, read, depth, rankOf, whole, treeOf, stopOf}
@@ -146,7 +148,8 @@ not-written text e p w =
     let f = written-found p text w in let n = no-tree-is (treeOf text) e in
     let z : _≡_ {A = ℕ} 0 1 = cc in omega arith
 
--- Answer 5 and its offset: the text is wrong at byte k exactly if the test is true and k is where reading stops
+-- Answer 5 and its offset: the text is wrong at byte k exactly if the test is true and k is where
+-- reading stops
 pub wrong-exactly : (text : List ℕ) (k : ℕ) → ((wrong text ≡ true) × (stopOf text ≡ k)) ↔ WrongAt text k
 unfolding wrong
 wrong-exactly text k = (there, back)

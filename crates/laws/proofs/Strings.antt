@@ -1,5 +1,5 @@
--- The strings of clause 6.2 (`text` of proofs/Clause62) tell derivations apart: no two derivations of a phrase have the same one (`text-own`), as
--- the clause says of its parenthesised language.
+-- The strings of clause 6.2 (`text` of proofs/Clause62) tell derivations apart: no two derivations
+-- of a phrase have the same one (`text-own`), as the clause says of its parenthesised language.
 use mathlib.Core.Path.{_≡_, refl, ap, ap₂, sym, _∙_}
 use mathlib.Core.List.{List, [], _∷_, _++_, append-assoc, flatMap, tail-eq-of-cons-eq}
 use mathlib.Core.Bool.{Bool, true, false}

@@ -1,11 +1,11 @@
--- The whole search over any graph, whatever may halt the walk: its matches are the first of plain backtracking's, all of them where it does not halt; its steps
--- are the failed pairs, the pairs of the paths found and those still open.
-use mathlib.Core.Path.{_≡_, refl, ap, sym, _∙_}
-use mathlib.Core.List.{List, [], _∷_, _++_}
-use mathlib.Core.Bool.{Bool, true, false, true≢false}
+-- The whole search over any graph, whatever may halt the walk: its matches are the first of plain
+-- backtracking's, all of them where it does not halt; its steps are the failed pairs, the pairs of
+-- the paths found and those still open.
+use mathlib.Core.Path.{_≡_, refl, ap, _∙_}
+use mathlib.Core.List.{List, [], _∷_}
+use mathlib.Core.Bool.{Bool, true, false}
 use mathlib.Core.Option.{Option, none, some}
 use Prim.Native.Nat.{ℕ, zero, suc, _+_, _<_}
-use native.Mathlib.Nat.{not-suc-le-zero}
 use native.Mathlib.Omega.{arith}
 use lib.ListN.{length, getD}
 use lib.Dec.{ltb}

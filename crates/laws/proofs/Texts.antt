@@ -1,6 +1,8 @@
--- Texts in the pattern language and texts outside it, as one table that the reading function is run on; then trees in full, and texts with
--- their answers, 4 to 7. A row `text ⇒ plain` says that the text has a tree, whose tokens are spelled `plain`, with a space between two
--- letters and no other; a row `outside text` says that it has none. `texts-hold` is the run, `texts-mean` the same of the grammar.
+-- Texts in the pattern language and texts outside it, as one table that the reading function is run
+-- on; then trees in full, and texts with their answers, 4 to 7. A row `text ⇒ plain` says that the
+-- text has a tree, whose tokens are spelled `plain`, with a space between two letters and no other;
+-- a row `outside text` says that it has none. `texts-hold` is the run, `texts-mean` the same of the
+-- grammar.
 use mathlib.Core.Path.{_≡_, refl}
 use mathlib.Core.Bool.{true, false}
 use mathlib.Core.List.{List, [], _∷_, map}
@@ -135,7 +137,8 @@ table =
     ∷ outside "A{}"
     ∷ outside "A{1"
     ∷ outside "A{"
-    -- anchors and `()`, also with quantifiers; those that are unbounded are refused later, and are in the language
+    -- anchors and `()`, also with quantifiers; those that are unbounded are refused later, and are
+    -- in the language
     ∷ ("^" ⇒ "^")
     ∷ ("^^$$" ⇒ "^^$$")
     ∷ ("^?" ⇒ "^?")

@@ -1,21 +1,21 @@
--- The places of a pattern that is read, each fork's ways once: every place leads to places, a rank falls along every way of their pairs, and the letters are A to Z.
-use mathlib.Core.Path.{_≡_, refl, ap, sym, _∙_}
-use mathlib.Core.Bool.{Bool, true, false}
+-- The places of a pattern that is read, each fork's ways once: every place leads to places, a rank
+-- falls along every way of their pairs, and the letters are A to Z.
+use mathlib.Core.Path.{_≡_, refl, sym, _∙_}
+use mathlib.Core.Bool.{Bool, true}
 use mathlib.Core.List.{List, [], _∷_, _++_}
 use mathlib.Core.Option.{Option, none, some}
 use Prim.Native.Nat.{ℕ, zero, suc, _+_, _-_, _≤_, _<_}
-use native.Mathlib.Nat.{le-of-suc-le-suc, not-suc-le-zero}
 use native.Mathlib.Omega.{arith}
 use lib.ListN.{length, getD}
-use Rattle.rules.specs.Language.{Form, lower, upper, Rank, pattern, branch, factor, primary, Tree, one, more, last, next, bare, times, letter, caret, dollar, empty, group, emptyLoop}
+use Rattle.rules.specs.Language.{lower, upper, Rank, pattern, branch, factor, primary, Tree, one, more, last, next, bare, times, letter, caret, dollar, empty, group}
 use Rattle.rules.specs.Places.{Unrolled, uLetter, uCaret, uDollar, uEmpty, uSeq, uAlt, uOpt, uStar, Branches, uNil, uCons, copies, options, behind, repeated, UnrolledAt, forked, unrolled, unroll, size, startOf, code, codes, Place, pLetter, pCaret, pDollar, pFork, pEnd, places}
 use Rattle.rules.specs.Walk.{Ways, accept, try, pairs, pairWays}
 use Rattle.laws.proofs.Bounds.{Lettered}
-use Rattle.laws.proofs.Counting.{forked-more, legal-unroll}
-use Rattle.laws.proofs.Distinct.{thin, fresh-all, thinned-length, thinned-at, thin-pairs}
-use Rattle.rules.specs.Working.{All, Falls, distinct, fresh, thinPlace, thinned}
+use Rattle.laws.proofs.Counting.{forked-more}
+use Rattle.laws.proofs.Distinct.{thin, fresh-all, thinned-at, thin-pairs}
+use Rattle.rules.specs.Working.{All, Falls, distinct, thinPlace, thinned}
 use Rattle.laws.proofs.Level.{legal}
-use Rattle.laws.proofs.PatternWalk.{falls, top}
+use Rattle.laws.proofs.PatternWalk.{falls}
 use Rattle.laws.proofs.Rank.{rank, Edge, edges-at, levelsIn, places-edges, places-length}
 use Rattle.laws.proofs.Walk.{All-map}
 

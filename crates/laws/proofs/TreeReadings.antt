@@ -1,6 +1,7 @@
--- A tree's readings are those of its unrolled pattern; and plain backtracking from the first place finds a path exactly where the tree has a
--- reading, and the path found is one, with its end and its labels (demand 2: a start has a match exactly if some reading of the pattern exists
--- there). And the rows that a reading takes are as many as its labels.
+-- A tree's readings are those of its unrolled pattern; and plain backtracking from the first place
+-- finds a path exactly where the tree has a reading, and the path found is one, with its end and
+-- its labels (demand 2: a start has a match exactly if some reading of the pattern exists there).
+-- And the rows that a reading takes are as many as its labels.
 use mathlib.Core.Path.{_≡_, refl, ap, _∙_}
 use mathlib.Core.List.{List, [], _∷_, _++_, append-nil}
 use mathlib.Core.Bool.{Bool, false}

@@ -1,4 +1,5 @@
--- Readings: what an unrolled pattern says of rows, without order or search; and the paths of its graph are its readings.
+-- Readings: what an unrolled pattern says of rows, without order or search; and the paths of its
+-- graph are its readings.
 use mathlib.Core.Path.{_≡_, refl, ap, sym, _∙_}
 use mathlib.Core.List.{List, [], _∷_, _++_, map, append-assoc, List·Memᴰ, List·Memᴰ·head, List·Memᴰ·tail, List·Memᴰ·not-nil, List·Memᴰ·cases-cons, List·Memᴰ·eq-of-singleton}
 use mathlib.Core.Bool.{Bool, true, false, _&&_}

@@ -1,5 +1,5 @@
--- The counted walk over any graph, whatever may halt it: what it keeps, and that its steps are the pairs that failed, those of the path found, and those
--- still open where it halts.
+-- The counted walk over any graph, whatever may halt it: what it keeps, and that its steps are the
+-- pairs that failed, those of the path found, and those still open where it halts.
 use mathlib.Core.Path.{_≡_, refl, ap, sym, _∙_}
 use mathlib.Core.List.{List, [], _∷_, _++_, List·Memᴰ, List·Memᴰ·head, List·Memᴰ·tail}
 use mathlib.Core.Bool.{Bool, true, false, true≢false, false≢true}
@@ -66,7 +66,8 @@ out-of-not-in F x h = go (getD F x false) refl
     go true e = absurd (h e)
     go false e = e
 
--- ---- a list of pairs that have not failed, and of which each ranks below those behind it: with the failed ones they are at most all
+-- ---- a list of pairs that have not failed, and of which each ranks below those behind it: with
+-- the failed ones they are at most all
 
 pub out-mark : (F : List Bool) (x z : ℕ) → z ≢ x → Out F z → Out (set F x true) z
 out-mark F x z h o = getD-set-other F x z true false h ∙ o

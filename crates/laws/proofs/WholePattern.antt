@@ -1,5 +1,6 @@
--- A whole pattern among its places: it begins at place 0 and END stands behind it, at which every path ends and nothing is said. And plain
--- backtracking, which with as many pairs to go through as there are finds at a pair what its ways find (`plain-ways`).
+-- A whole pattern among its places: it begins at place 0 and END stands behind it, at which every
+-- path ends and nothing is said. And plain backtracking, which with as many pairs to go through as
+-- there are finds at a pair what its ways find (`plain-ways`).
 use mathlib.Core.Path.{_≡_, refl}
 use mathlib.Core.List.{[], _∷_}
 use mathlib.Core.Bool.{Bool, false}

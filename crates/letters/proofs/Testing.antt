@@ -11,7 +11,7 @@ use lib.ListN.{length, getD}
 use mir.Syntax.{w64}
 use mir.Val.{Fits}
 use borrow.Author.Tests.{lt-ltb, le-ltb, eq-eqb, ne-eqb, not-true, not-false}
-use Rattle.rules.specs.Basics.{every, tabulate}
+use Rattle.rules.specs.Basics.{every}
 use Rattle.rules.specs.Rows.{tableOf, holds}
 use Rattle.table.specs.Tests.{comparisonIn, comparisonsIn, definedIn, First, Letters}
 use Rattle.comparisons.specs.Spots.{FarBack, readMet, firstUnmet}

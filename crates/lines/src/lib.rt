@@ -1,5 +1,5 @@
-// The line of one match: its three numbers, its labels, and the results of its measures. It takes at
-// most 65 bytes, 21 for each measure and one for each label.
+// The line of one match: its three numbers, its labels, and the results of its measures. It takes
+// at most 65 bytes, 21 for each measure and one for each label.
 use put::put_byte;
 use put::put_bytes;
 use put::put_signed;

@@ -6,9 +6,8 @@
 use nodes::Sort;
 use nodes::node_at;
 use nodes::sort_at;
-ghost use mathlib.Core.Path.{_≡_};
 ghost use mathlib.Core.Bool.{true, false};
-ghost use Prim.Native.Nat.{ℕ, _+_, _*_, _-_, _≤_, _<_};
+ghost use Prim.Native.Nat.{_-_};
 ghost use Rattle.trees.specs.Held.{At};
 ghost use Rattle.loops.specs.Loops.{Nullable, EmptyLoop};
 

@@ -1,4 +1,5 @@
-// The quantifiers of a pattern's text: the one at a position, or none, or at which byte it is wrong.
+// The quantifiers of a pattern's text: the one at a position, or none, or at which byte it is
+// wrong.
 use text_bytes::number;
 use text_bytes::peek;
 use text_bytes::reaching;

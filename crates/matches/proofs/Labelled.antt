@@ -1,4 +1,5 @@
--- The labels of a path, written from the last to the first while the walk goes back along the trail; and the rows that a path takes.
+-- The labels of a path, written from the last to the first while the walk goes back along the
+-- trail; and the rows that a path takes.
 use mathlib.Core.Path.{_≡_, refl, sym, ap, _∙_, subst}
 use mathlib.Core.List.{List, [], _∷_, reverseAux}
 use mathlib.Core.Bool.{Bool, true, false}

@@ -1,4 +1,5 @@
--- The report of a path that is on the trail: its rows, whether its match fits, its labels and its numbers.
+-- The report of a path that is on the trail: its rows, whether its match fits, its labels and its
+-- numbers.
 use mathlib.Core.Path.{_≡_, refl, sym, ap, _∙_, subst}
 use mathlib.Core.List.{List, [], _∷_, _++_, reverseAux}
 use mathlib.Core.Bool.{Bool, true, false}

@@ -17,8 +17,8 @@ use Rattle.table.specs.Table.{placesIn}
 use Rattle.table.specs.Measures.{measuresIn}
 use Rattle.matches.specs.declared.Task.{Task}
 
--- the layout of the places, when a letter holds at a row, the number of rows, the steps allowed, the
--- skip mode, the rows, and the measures
+-- the layout of the places, when a letter holds at a row, the number of rows, the steps allowed,
+-- the skip mode, the rows, and the measures
 pub record Asked : Type 0 where
   pub layout : Layout
   pub holds : ℕ → ℕ → Bool
@@ -43,7 +43,8 @@ pl A = placesIn (A .layout .words) (P (A .layout))
 abbrev pub width : Asked → ℕ
 width A = 3 + 2 * length (A .measures)
 
--- the search by the counted walk within the steps allowed, for so many report numbers and label bytes
+-- the search by the counted walk within the steps allowed, for so many report numbers and label
+-- bytes
 unfoldable pub searchOf : Asked → ℕ → ℕ → Swept Kept
 unfolding walkSearch placesIn fits
 searchOf A nums labs = walkSearch (within (some (A .allowance)) (A .n)) (A .holds) (A .n) (pl A) (A .skip) (fits nums labs (A .measures))

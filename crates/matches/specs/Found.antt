@@ -55,7 +55,8 @@ pub record Labels (T : Layout) (trail labs : List ℕ) (top end : ℕ) : Type 0 
 abbrev pub swept : ℕ → ℕ → ℕ → ℕ → ℕ → Sweep
 swept end row m l s = record { end = end; row = row; matches = m; labels = l; steps = s }
 
--- behind a match that is written the search goes on at its next start; where there is none it is over, with end 15
+-- behind a match that is written the search goes on at its next start; where there is none it is
+-- over, with end 15
 abbrev pub sweptOn : Option ℕ → ℕ → ℕ → ℕ → ℕ → Sweep
 sweptOn (some row) n m l s = swept 0 row m l s
 sweptOn none n m l s = swept 15 n m l s
@@ -74,13 +75,15 @@ pub record Written (A : Asked) (p : List ℕ) (i : Sweep) (numbers numbers′ : 
 abbrev pub nextAt : Asked → ℕ → List ℕ → Option ℕ
 nextAt A i p = nextStart (A .skip) i (endOf (length (pl A)) p) (labels (pl A) p)
 
--- a path p found with s steps: its match is written and the search goes on where there is a next start, or it does not fit and the search is over
+-- a path p found with s steps: its match is written and the search goes on where there is a next
+-- start, or it does not fit and the search is over
 abbrev pub ToldBy : Bool → Asked → List ℕ → Sweep → ℕ → List ℤ → List ℤ → List ℕ → List ℕ → Sweep → Type 0
 ToldBy true A p i s numbers numbers′ labs labs′ r =
     Written A p i numbers numbers′ labs labs′ r (sweptOn (nextAt A (i .row) p) (A .n) (i .matches + 1) (i .labels + length (labels (pl A) p)) s)
 ToldBy false A p i s numbers numbers′ labs labs′ r = Quiet numbers numbers′ labs labs′ r (swept 13 (A .n) (i .matches) (i .labels) s)
 
--- what came of an attempt, told: after none the search goes on one row on; where it has halted, the search is over and nothing is written
+-- what came of an attempt, told: after none the search goes on one row on; where it has halted, the
+-- search is over and nothing is written
 abbrev pub Told : Asked → Attempted → Sweep → ℕ → List ℤ → List ℤ → List ℕ → List ℕ → Sweep → Type 0
 Told A miss i s numbers numbers′ labs labs′ r = Quiet numbers numbers′ labs labs′ r (swept 0 (i .row + 1) (i .matches) (i .labels) s)
 Told A (halts h p) i s numbers numbers′ labs labs′ r = Quiet numbers numbers′ labs labs′ r (swept (haltAnswer h) (A .n) (i .matches) (i .labels) s)
@@ -108,7 +111,8 @@ pub record Reports (T : List ℕ) (rows : List ℤ) (task : Task) (trail labs : 
 
 -- ---- one start
 
--- what a search over a prepared query asks: letters and measures that can be read, a legal table, and working room
+-- what a search over a prepared query asks: letters and measures that can be read, a legal table,
+-- and working room
 pub record Searches (T : List ℕ) (rows : List ℤ) (task : Task) (notes trail : List ℕ) : Type 0 where
   pub letters : Tested T rows (task .size)
   pub measured : Measured T rows task

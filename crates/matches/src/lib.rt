@@ -1,4 +1,5 @@
-// A match written into the report: its labels off the trail, its numbers, and whether it fits; and how the search goes on behind it.
+// A match written into the report: its labels off the trail, its numbers, and whether it fits; and
+// how the search goes on behind it.
 use pairs::Walk;
 use pairs::open_at;
 use pairs::place_of;
@@ -12,7 +13,7 @@ use table::Extent;
 use table::LETTERS;
 use table::code_at;
 ghost use mathlib.Core.Path.{_≡_};
-ghost use Prim.Native.Nat.{ℕ, _+_, _-_, _<_};
+ghost use Prim.Native.Nat.{_+_, _-_, _<_};
 ghost use lib.ListN.{length};
 ghost use Rattle.rules.specs.Basics.{wrote};
 ghost use Rattle.rules.specs.Search.{hit};
@@ -22,7 +23,8 @@ ghost use Rattle.skips.specs.Skips.{startIn};
 ghost use Rattle.matches.specs.Asked.{askedOf, labelsOn, pathOn};
 ghost use Rattle.matches.specs.Found.{OneMore, PutsLabel, Labels, sweptOn, Told, Reports};
 
-// What a search is asked beside its table: its extent, the word of the table at which the measures begin, how many they are, and where it goes on behind a match.
+// What a search is asked beside its table: its extent, the word of the table at which the measures
+// begin, how many they are, and where it goes on behind a match.
 pub struct Task {
     pub size: Extent,
     pub measures: usize,
@@ -30,7 +32,8 @@ pub struct Task {
     pub skip: Skip,
 }
 
-// A search under way: how it ended, if it did; the next start, the matches and labels written, and the steps.
+// A search under way: how it ended, if it did; the next start, the matches and labels written, and
+// the steps.
 #[repr(C)]
 pub struct Sweep {
     pub end: usize,
@@ -114,7 +117,8 @@ fn behind_match(next: Next, rows: usize, matches: usize, labels: usize, steps: u
     }
 }
 
-// A path is on the trail: its match is written if it fits whole, and the search goes on where the skip mode says; else the search is over.
+// A path is on the trail: its match is written if it fits whole, and the search goes on where the
+// skip mode says; else the search is over.
 pub fn write_match(
     table: &[u16],
     rows: &[i32],

@@ -7,7 +7,8 @@ use lib.ListN.{length, getD, set, length-set}
 use lib.Seq.{getD-set-same, getD-set-other}
 use Rattle.measure_list.specs.Measures.{setThree}
 
--- the list has as many elements as before, and those before an index and from another on are as they were
+-- the list has as many elements as before, and those before an index and from another on are as
+-- they were
 pub record Kept (l₀ l : List ℕ) (from to : ℕ) : Type 0 where
   pub long : length l ≡ length l₀
   pub before : (j : ℕ) → j < from → getD l j 0 ≡ getD l₀ j 0

@@ -10,7 +10,8 @@ ghost use Rattle.rules.specs.Query.{measureAt};
 ghost use Rattle.table.specs.Measures.{measureIn};
 ghost use Rattle.measure_list.specs.Measures.{measureOf, setThree, MeasuresRoom, PutMeasures, Tabled};
 
-// A measure of the query: the number of its function, the letter of its rows or 0 for all rows, and its column.
+// A measure of the query: the number of its function, the letter of its rows or 0 for all rows, and
+// its column.
 pub struct Measure {
     pub function: u8,
     pub letter: u8,

@@ -1,5 +1,5 @@
--- What a measure gives from its rows: none, their number, the first or the last entry, what SUM, MIN
--- and MAX give from the first on, and the average.
+-- What a measure gives from its rows: none, their number, the first or the last entry, what SUM,
+-- MIN and MAX give from the first on, and the average.
 use mathlib.Core.Path.{_≡_, refl, sym, ap, _∙_}
 use mathlib.Core.Bool.{Bool, true, false, _||_}
 use mathlib.Core.List.{List, [], _∷_, _++_}
@@ -191,7 +191,8 @@ module _ (t : Table) (f letter column : ℕ) where
     gives-average r e s q =
         sym (rw (e, (let y : averageOf (values t (measureBy 7 letter column) first ls) ≡ some (held r) = q ∙ ap some (sym (read-back r s)) in y)))
 
-    -- ---- the loop of SUM, MIN and MAX: `value` is what the measure's rows among the first i give together
+    -- ---- the loop of SUM, MIN and MAX: `value` is what the measure's rows among the first i give
+    -- together
 
     pub record Joining (value : ℤ) (i : ℕ) : Type 0 where
       pub upto : i ≤ length ls
@@ -308,10 +309,7 @@ pub as-last : (t : Table) (first : ℕ) (ls : List ℕ) (f letter column index :
 as-last t first ls f letter column index r e i q =
     same-column t first ls f letter column index r i (q ∙ ap (λ (g : ℕ). twoOf (measured t first ls (measureBy g letter index))) (sym e))
 
--- AVG of no rows, and of some
-pub average-null : (t : Table) (letter column first : ℕ) (ls : List ℕ) (found : Found) → IsFirst letter ls found → found ≡ Nothing → numbersFor Null ≡ twoOf (measured t first ls (measureBy 7 letter column))
-average-null t letter column first ls found h e = gives-none t 7 letter column first ls found Null h e (none-null 7 (λ w. omega arith))
-
+-- AVG of some rows
 pub average-given : (t : Table) (letter column first : ℕ) (ls : List ℕ) (at : ℕ) → FirstAt letter ls at → (sum : ℤ) → overSome 2 (values t (measureBy 2 letter column) first ls) ≡ some sum
     → (k : ℕ) → k ≡ countOf letter (drop at ls) → (r : ℤ) → mag r < 9223372036854775808 → r ≡ quotZ (held sum) (pos k) → mag sum < 9223372036854775808
     → numbersFor (Number (held r)) ≡ twoOf (measured t first ls (measureBy 7 letter column))

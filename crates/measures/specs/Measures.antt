@@ -33,16 +33,16 @@ pub record ThreeBytes (T : List ℕ) (at : ℕ) : Type 0 where
   pub byte-1 : getD T (at + 1) 0 < 256
   pub byte-2 : getD T (at + 2) 0 < 256
 
--- the `count` measures from word `words` of the table T on can be read over these rows, and there is
--- room for what they give
+-- the `count` measures from word `words` of the table T on can be read over these rows, and there
+-- is room for what they give
 pub record Reportable (numbers : List ℤ) (at : ℕ) (T : List ℕ) (words count : ℕ) (rows : List ℤ) (columns first long : ℕ) : Type 0 where
   pub few : long ≤ 4096
   pub there : (first + long) * columns ≤ length rows
   pub room : at + count * 2 ≤ length numbers
   pub measured : Measurable T words count columns
 
--- match number `number` can be appended: its rows and its measures can be read, and there is room for
--- its numbers
+-- match number `number` can be appended: its rows and its measures can be read, and there is room
+-- for its numbers
 pub record Appendable (numbers : List ℤ) (at number : ℕ) (T : List ℕ) (words count : ℕ) (rows : List ℤ) (columns first long : ℕ) : Type 0 where
   pub few : long ≤ 4096
   pub there : (first + long) * columns ≤ length rows

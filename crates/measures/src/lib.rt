@@ -26,7 +26,8 @@ pub enum Value {
     Number(i64),
 }
 
-// SUM, MIN or MAX over the rows of a match, of which `at` is the measure's first: the labels are of the rows from `first` on.
+// SUM, MIN or MAX over the rows of a match, of which `at` is the measure's first: the labels are of
+// the rows from `first` on.
 fn joined_from(
     function: u8,
     letter: u8,
@@ -171,7 +172,7 @@ fn average_measure(
     ensures { λ r. ⌜ numbersFor r ≡ twoOf (measured (tableOf columns (now (rows .entry))) first (now (labels .entry)) (measureBy 7 letter column)) ⌝ }
 {
     let Found::At(at) = first_of(letter, labels) else {
-        return Value::Null;
+        return of_no_rows(Measure::AVG);
     };
     let sum = joined_from(
         Measure::SUM,

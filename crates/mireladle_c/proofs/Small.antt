@@ -1,4 +1,5 @@
--- The room of every query is small: P is at most 256 and n at most 4,096, so that the pairs fit 64 bits.
+-- The room of every query is small: P is at most 256 and n at most 4,096, so that the pairs fit 64
+-- bits.
 use mathlib.Core.Path.{_≡_, refl}
 use mathlib.Core.Bool.{Bool, true, false, not}
 use mathlib.Core.List.{List, [], _∷_, _++_}

@@ -1,5 +1,6 @@
--- What a caller is told of the room: the rules' answer with its offset, P and n, and the number of pairs, by which notes and trail are measured. On an answer
--- other than 0, P and n are 0, and so are the pairs.
+-- What a caller is told of the room: the rules' answer with its offset, P and n, and the number of
+-- pairs, by which notes and trail are measured. On an answer other than 0, P and n are 0, and so
+-- are the pairs.
 use mathlib.Core.Path.{_≡_}
 use mathlib.Core.List.{List}
 use Prim.Native.Nat.{ℕ}

@@ -1,5 +1,6 @@
-// The face for C and Rust callers, built by `rt staticlib mireladle_c`: each function is the proved one of its name, with the same promise. A slice
-// passes as a pointer and a length in elements; include/mireladle.h says what a caller owes for the pointers, which no promise here can check.
+// The face for C and Rust callers, built by `rt staticlib mireladle_c`: each function is the proved
+// one of its name, with the same promise. A slice passes as a pointer and a length in elements;
+// include/mireladle.h says what a caller owes for the pointers, which no promise here can check.
 use outcome::Outcome;
 ghost use mathlib.Core.Option.{none, some};
 ghost use lib.ListN.{length};
@@ -7,7 +8,8 @@ ghost use Rattle.outcome.specs.Results.{lent, memory};
 ghost use Rattle.search.specs.Promise.{Promised};
 ghost use Rattle.mireladle_c.specs.Told.{Told};
 
-// How much to lend: the answer 1 to 10 or 14, with the offset of 5 and 14, or 0 with P, n and the number of pairs.
+// How much to lend: the answer 1 to 10 or 14, with the offset of 5 and 14, or 0 with P, n and the
+// number of pairs.
 #[repr(C)]
 pub struct Room {
     pub answer: usize,

@@ -1,4 +1,5 @@
--- Nodes as words, eight to a node: the sort with its byte, the form with the reluctant mark, the bounds, the parts, the height, the places.
+-- Nodes as words, eight to a node: the sort with its byte, the form with the reluctant mark, the
+-- bounds, the parts, the height, the places.
 use mathlib.Core.Bool.{Bool, true, false}
 use mathlib.Core.List.{List}
 use Prim.Native.Nat.{ℕ, _+_, _*_, _/_, _%_, _<_}

@@ -1,6 +1,6 @@
-// A pattern's node, a struct by value, and nodes kept as words in a lent slice, eight to a node: here
-// a node is read from its words, and crates/put_nodes puts one there. What is put is read back, and
-// other words are unchanged (proofs/Put).
+// A pattern's node, a struct by value, and nodes kept as words in a lent slice, eight to a node:
+// here a node is read from its words, and crates/put_nodes puts one there. What is put is read
+// back, and other words are unchanged (proofs/Put).
 use numbers::wide16;
 ghost use mathlib.Core.Path.{_≡_};
 ghost use Prim.Native.Nat.{_+_, _*_, _≤_, _<_, _/_, _%_};
@@ -17,10 +17,10 @@ pub enum Sort {
     Group,
 }
 
-// form: 0 no quantifier, 1 `*`, 2 `+`, 3 `?`, 4 `{n}`, 5 `{n,}`, 6 `{,m}`, 7 `{n,m}`. lazy: it is reluctant.
-// low, high: its bounds, high 100 if it is unbounded; 1 and 1 without a quantifier.
-// left, right: the numbers of its parts' nodes. height: above that of each part.
-// places: how many places it unrolls to, counted up to 257; of an alternation without its fork.
+// form: 0 no quantifier, 1 `*`, 2 `+`, 3 `?`, 4 `{n}`, 5 `{n,}`, 6 `{,m}`, 7 `{n,m}`. lazy: it is
+// reluctant. low, high: its bounds, high 100 if it is unbounded; 1 and 1 without a quantifier.
+// left, right: the numbers of its parts' nodes. height: above that of each part. places: how many
+// places it unrolls to, counted up to 257; of an alternation without its fork.
 pub struct Node {
     pub sort: Sort,
     pub form: usize,

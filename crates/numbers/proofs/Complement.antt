@@ -12,7 +12,8 @@ use mir.Facts.{toZ-ofZ}
 use borrow.Author.Tests.{lt-ltb, le-ltb, ltb-true, ltb-false}
 use Rattle.rules.specs.Basics.{pick, signed8, signed32}
 
--- ---- two's complement: below half it is the number itself, above it -1 less what is missing to the largest
+-- ---- two's complement: below half it is the number itself, above it -1 less what is missing to
+-- the largest
 
 minus : (k : ℕ) → negsuc 0 -ℤ pos k ≡ negsuc k
 minus zero = refl

@@ -2,7 +2,8 @@
 ghost use mathlib.Core.Path.{_≡_};
 ghost use Rattle.outcome.specs.Results.{refusal};
 
-// How a search ended: the answer, the matches and labels written, the steps, and the offset of answers 5 and 14.
+// How a search ended: the answer, the matches and labels written, the steps, and the offset of
+// answers 5 and 14.
 #[repr(C)]
 pub struct Outcome {
     pub answer: usize,

@@ -1,4 +1,5 @@
--- An attempt that goes on: opening a pair and leaving one keep what holds of it (`Good`, `Stands`), the state comes to what it came to before, and less is left.
+-- An attempt that goes on: opening a pair and leaving one keep what holds of it (`Good`, `Stands`),
+-- the state comes to what it came to before, and less is left.
 use mathlib.Core.Path.{_≡_, refl, sym, ap, _∙_}
 use mathlib.Core.List.{List, [], _∷_, reverseAux, map}
 use mathlib.Core.Bool.{Bool, true, false, false≢true}
@@ -25,7 +26,7 @@ use Rattle.pairs.specs.declared.Walk.{Walk}
 use Rattle.pairs.specs.Layout.{Layout, P, N, second, graphOf, passesBy, entryOf, mostPairs}
 use Rattle.table.specs.Table.{waysOf, codeAt}
 use Rattle.pairs.specs.Step.{oneUnless, placeIn, rowIn, wayIn, pairIn, stack, walkAt, outcomeBy}
-use Rattle.pairs.specs.State.{Onto, Linked, Passing, Word, rowFrom, wayAt, Led, Stuck, Good, Next, Ends, Stands, State, left, resumed, entering, facing, comes, Reached, Quiet, allowing}
+use Rattle.pairs.specs.State.{Onto, Linked, Passing, Word, rowFrom, wayAt, Led, Stuck, Good, Next, Stands, State, left, resumed, entering, facing, comes, Reached, Quiet, allowing}
 use Rattle.pairs.proofs.Ways.{second-is, pair-row, pair-place, ways-end, ways-are, leads-each}
 use Rattle.pairs.proofs.Trails.{second-most, word-row, word-place, entry-place, entry-row, entry-way, stack-length, stack-push, stack-top, linked-under}
 

@@ -1,12 +1,13 @@
--- What the small functions do, one law for each way through their code: a letter, a place that passes, a pair entered or tried, and the way behind a way.
+-- What the small functions do, one law for each way through their code: a letter, a place that
+-- passes, a pair entered or tried, and the way behind a way.
 use mathlib.Core.Path.{_≡_, refl, sym, ap, _∙_}
 use mathlib.Core.List.{List}
 use mathlib.Core.Bool.{Bool, true, false, not, _&&_, false≢true, true≢false}
-use Prim.Native.Nat.{ℕ, _+_, _-_, _*_, _/_, _%_, _≤_, _<_}
+use Prim.Native.Nat.{ℕ, _+_, _-_, _*_, _/_, _≤_, _<_}
 use native.Mathlib.Omega.{arith}
 use lib.Dec.{eqb, ltb}
 use lib.IntN.{ℤ}
-use lib.ListN.{length, getD, set}
+use lib.ListN.{length, set}
 use borrow.Author.Tests.{ne-eqb, lt-ltb, le-ltb}
 use Rattle.rules.specs.Report.{bitAt}
 use Rattle.rules.specs.Rows.{tableOf, holds}
@@ -14,7 +15,7 @@ use Rattle.rules.specs.Working.{marked}
 use Rattle.table.specs.Tests.{testAt, definedIn, holdsIn}
 use Rattle.pairs.specs.declared.Walk.{Walk}
 use Rattle.table.specs.Table.{codeAt, firstAt, countAt}
-use Rattle.pairs.specs.Layout.{Layout, layout, P, entryOf, passesBy, mostPairs}
+use Rattle.pairs.specs.Layout.{layout, P, entryOf, passesBy, mostPairs}
 use Rattle.pairs.specs.Step.{oneUnless, mem, walkAt, tryAt, after, opens, openedBy, openIf, enteredBy, Noted, Enters}
 use Rattle.pairs.proofs.Trying.{letter-in}
 

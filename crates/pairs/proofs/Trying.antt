@@ -1,10 +1,11 @@
--- The last open pair tries a way, and the walk's pair is entered: it is open then, and tries its first way, or it is END, or it has failed.
+-- The last open pair tries a way, and the walk's pair is entered: it is open then, and tries its
+-- first way, or it is END, or it has failed.
 use mathlib.Core.Path.{_≡_, refl, sym, ap, _∙_, subst}
 use mathlib.Core.List.{List, [], _∷_}
 use mathlib.Core.Bool.{Bool, true, false, not, _&&_}
 use mathlib.Core.Option.{none}
 use mathlib.Core.Logic.{_≢_}
-use Prim.Native.Nat.{ℕ, suc, _+_, _-_, _*_, _/_, _≤_, _<_, suc-le-suc}
+use Prim.Native.Nat.{ℕ, suc, _+_, _-_, _*_, _≤_, _<_, suc-le-suc}
 use native.Mathlib.Nat.{mul-comm, not-suc-le-zero, suc-mul}
 use native.Mathlib.Decide.{ℕ-discrete}
 use native.Mathlib.Omega.{arith}
@@ -14,16 +15,16 @@ use lib.ListN.{length, getD, set}
 use borrow.Author.Tests.{ltb-true, ltb-false, lt-ltb}
 use Rattle.rules.specs.Basics.{pick}
 use Rattle.rules.specs.Report.{bitAt}
-use Rattle.rules.specs.Walk.{try, Halting, Outcome}
+use Rattle.rules.specs.Walk.{try, Halting}
 use Rattle.laws.proofs.Machine.{firstOpen}
 use Rattle.laws.proofs.Notes.{bitsOf-at}
 use Rattle.rules.specs.Working.{bitsOf}
 use Rattle.laws.proofs.Level.{and-true}
 use Rattle.pairs.specs.declared.Walk.{Walk}
-use Rattle.pairs.specs.Layout.{Layout, P, N, second, graphOf, passesBy, entryOf}
+use Rattle.pairs.specs.Layout.{Layout, P, N, graphOf, passesBy, entryOf}
 use Rattle.table.specs.Table.{waysOf, codeAt, firstAt}
 use Rattle.pairs.specs.Step.{Mem, mem, placeIn, walkAt, oneUnless, tryAt, opens, openedBy, openIf, enteredBy, Noted, Enters}
-use Rattle.pairs.specs.State.{rowFrom, wayAt, reach, Led, Good, Next, Stands, left, resumed, entering, facing, comes, Reached, Goes, Onward, Quiet}
+use Rattle.pairs.specs.State.{rowFrom, wayAt, reach, Led, Good, Next, Stands, resumed, entering, facing, comes, Reached, Goes, Onward, Quiet}
 use Rattle.pairs.proofs.Ways.{ways-length, ways-first, ways-shut, ways-letter, takes-row, takes-no-row, leads-each}
 use Rattle.pairs.proofs.Going.{good-as, never, zero-two, one-two, comes-idle, comes-next, faces-on, led-stuck, next-few, next-noted, next-out, next-room, next-small, next-steps, next-word, next-row, v-place, v-row, v-way, open-good, open-top, open-resumed, open-reached, open-end, open-less, shut-reached, shut-less, way-below, top-next, next-same}
 
@@ -48,7 +49,8 @@ next-as T holds n notes trail w q row base x r b d h =
       led = h .led;
     }
 
--- ---- the last open pair tries its way m, where the ways before it have failed and the next way is the one behind it
+-- ---- the last open pair tries its way m, where the ways before it have failed and the next way is
+-- the one behind it
 
 module _ (H : Halting) (quiet : Quiet H) (T : Layout) (holds : ℕ → ℕ → Bool) (n : ℕ) (notes trail : List ℕ) (w : Walk) (g : Good T holds n notes trail w) (going : 0 < w .top)
     (more : codeAt (T .words) (placeIn (getD trail (w .top - 1) 0)) ≤ 29) (m : ℕ) (inside : m < length (waysOf (T .words) (placeIn (getD trail (w .top - 1) 0))))
@@ -243,7 +245,8 @@ module _ (H : Halting) (quiet : Quiet H) (T : Layout) (holds : ℕ → ℕ → B
           let m = ltb-false 29 c eb in
           onward p (omega arith) (w .row) (w .base) (row-same p (omega arith)) (nx .base-is)
 
-  -- it fails at once, where none of its ways is open: it does not pass and has none, or it is a letter whose one pair has failed
+  -- it fails at once, where none of its ways is open: it does not pass and has none, or it is a
+  -- letter whose one pair has failed
   shuts : (ys : List ℕ) → graphOf T holds n (w .base + q) ≡ try ys → firstOpen (bitsOf notes (N T n)) ys ≡ none → OnTo (openIf false (mem notes trail w) c (entryOf (T .words) q) k (P T))
   unfolding openIf
   shuts ys t e =

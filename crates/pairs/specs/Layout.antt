@@ -1,6 +1,5 @@
--- The layout of a walk: the words of the table of places (crates/table) and how many places there are; the graph of the pairs that they stand for; and what
--- the walk relies on.
-use mathlib.Core.Path.{_≡_}
+-- The layout of a walk: the words of the table of places (crates/table) and how many places there
+-- are; the graph of the pairs that they stand for; and what the walk relies on.
 use mathlib.Core.List.{List}
 use lib.IntN.{ℤ}
 use mathlib.Core.Bool.{Bool, true, _&&_}
@@ -10,7 +9,7 @@ use Rattle.rules.specs.Basics.{pick}
 use Rattle.rules.specs.Places.{Place, pLetter, pCaret, pDollar, pFork, pEnd}
 use Rattle.rules.specs.Walk.{Ways, pairs, pairWays}
 use Rattle.rules.specs.Working.{All, Falls}
-use Rattle.table.specs.Table.{codeAt, firstAt, laterAt, countAt, waysOf, placeAt, placesIn}
+use Rattle.table.specs.Table.{countAt, placeAt, placesIn}
 use Rattle.table.specs.Sized as S
 use Rattle.table.specs.Tests.{Letters, holdsIn}
 use Rattle.table.specs.declared.Extent.{Extent}
@@ -53,8 +52,9 @@ mostPairs = 2097152
 abbrev pub mostRows : ℕ
 mostRows = 4096
 
--- The way that is tried next is told by its number in its fork, 0 where none is left; the first way of a place, number 0, is tried when it is entered. So
--- this is the second way of place q, where it has one.
+-- The way that is tried next is told by its number in its fork, 0 where none is left; the first way
+-- of a place, number 0, is tried when it is entered. So this is the second way of place q, where it
+-- has one.
 unfoldable pub second : Layout → ℕ → ℕ
 second T q = pick (ltb 1 (countAt (T .words) q)) 1 0
 
@@ -62,7 +62,8 @@ second T q = pick (ltb 1 (countAt (T .words) q)) 1 0
 unfoldable pub leftFrom : Layout → ℕ → ℕ → ℕ
 leftFrom T q j = pick (eqb j 0) 0 (countAt (T .words) q - j)
 
--- what the trail holds of place q when it is entered, below and above its row: the place, and its second way
+-- what the trail holds of place q when it is entered, below and above its row: the place, and its
+-- second way
 unfoldable pub entryOf : List ℕ → ℕ → ℕ
 entryOf words q = q + pick (ltb 1 (countAt words q)) 1 0 * 16777216
 
@@ -71,7 +72,8 @@ unfoldable pub graphOf : Layout → (ℕ → ℕ → Bool) → ℕ → ℕ → W
 unfolding placesIn pairWays
 graphOf T holds n = pairWays holds n (placesIn (T .words) (P T))
 
--- whether a place of this code passes at position i: a letter passes at a row where it holds, `^` at 0, `$` at n, any other everywhere
+-- whether a place of this code passes at position i: a letter passes at a row where it holds, `^`
+-- at 0, `$` at n, any other everywhere
 unfoldable pub passesBy : (ℕ → ℕ → Bool) → ℕ → ℕ → ℕ → Bool
 passesBy holds n c i = pick (ltb c 26) (ltb i n && holds (c + 65) i) (pick (eqb c 26) (eqb i 0) (pick (eqb c 27) (eqb i n) true))
 

@@ -1,4 +1,5 @@
--- What holds of notes, trail and walk while an attempt goes on, what a part of it comes to, and what an attempt asks and leaves.
+-- What holds of notes, trail and walk while an attempt goes on, what a part of it comes to, and
+-- what an attempt asks and leaves.
 use mathlib.Core.Path.{_≡_}
 use mathlib.Core.List.{List, [], _∷_, reverseAux}
 use Rattle.rules.specs.Basics.{pick}
@@ -60,7 +61,8 @@ pub record Spot (P : ℕ) (w : Walk) (e : ℕ) : Type 0 where
   pub row : rowIn e ≡ w .row
   pub base : w .base ≡ w .row * P
 
--- the trail's first `top` numbers are pairs each of which led to the next, and the walk stands at the last of them
+-- the trail's first `top` numbers are pairs each of which led to the next, and the walk stands at
+-- the last of them
 pub record OnPath (T : Layout) (trail : List ℕ) (w : Walk) : Type 0 where
   pub sized : Sized T
   pub room : w .top ≤ length trail
@@ -79,7 +81,8 @@ wayAt T e m = rowFrom T e * P T + getD (waysOf (T .words) (placeIn e)) m 0
 unfoldable pub reach : Layout → ℕ → ℕ
 reach T e = suc (leftFrom T (placeIn e) (second T (placeIn e))) - leftFrom T (placeIn e) (wayIn e)
 
--- the pair of e, which is no END, has tried its ways before the next one: each has failed, but for the pair y
+-- the pair of e, which is no END, has tried its ways before the next one: each has failed, but for
+-- the pair y
 pub record Led (T : Layout) (notes : List ℕ) (e y : ℕ) : Type 0 where
   pub going : codeAt (T .words) (placeIn e) ≤ 29
   pub tried : (m : ℕ) → m < reach T e → (wayAt T e m ≡ y → ⊥) → bitAt notes (wayAt T e m) ≡ true
@@ -89,7 +92,8 @@ pub record Stuck (T : Layout) (notes : List ℕ) (e : ℕ) : Type 0 where
   pub going : codeAt (T .words) (placeIn e) ≤ 29
   pub tried : (m : ℕ) → m < reach T e → bitAt notes (wayAt T e m) ≡ true
 
--- the open pairs have not failed, each led to the one above it, all pass, and the ways of each before the one that led on have failed; the steps cannot run over
+-- the open pairs have not failed, each led to the one above it, all pass, and the ways of each
+-- before the one that led on have failed; the steps cannot run over
 pub record Good (T : Layout) (holds : ℕ → ℕ → Bool) (n : ℕ) (notes trail : List ℕ) (w : Walk) : Type 0 where
   pub legal : Legal T holds n
   pub noted : N T n ≤ 8 * length notes
@@ -101,7 +105,8 @@ pub record Good (T : Layout) (holds : ℕ → ℕ → Bool) (n : ℕ) (notes tra
   pub led : (k : ℕ) → suc k < w .top → Led T notes (getD trail k 0) (pairIn (P T) (getD trail (suc k) 0))
   pub steps : w .steps + N T n < 18446744073709551616 + (countTrue (bitsOf notes (N T n)) + w .top)
 
--- the pair of place q at a row is the next to be entered: it has not failed, and the last open pair leads to it
+-- the pair of place q at a row is the next to be entered: it has not failed, and the last open pair
+-- leads to it
 pub record Next (T : Layout) (holds : ℕ → ℕ → Bool) (n : ℕ) (notes trail : List ℕ) (w : Walk) (q row base : ℕ) : Type 0 where
   pub good : Good T holds n notes trail w
   pub place : q < P T
@@ -115,7 +120,8 @@ pub record Ends (T : Layout) (trail : List ℕ) (w : Walk) : Type 0 where
   pub spot : Spot (P T) w (getD trail (w .top - 1) 0)
   pub end : 29 < codeAt (T .words) (w .place)
 
--- the walk's pair is the next to be entered, or it is END, or the ways that the last open pair has tried have failed
+-- the walk's pair is the next to be entered, or it is END, or the ways that the last open pair has
+-- tried have failed
 pub record Stands (T : Layout) (holds : ℕ → ℕ → Bool) (n : ℕ) (notes trail : List ℕ) (w : Walk) : Type 0 where
   pub next : w .status ≡ 1 → Next T holds n notes trail w (w .place) (w .row) (w .base)
   pub stuck : (w .status ≡ 1 → ⊥) → (w .status ≡ 2 → ⊥) → 0 < w .top → Stuck T notes (getD trail (w .top - 1) 0)
@@ -140,7 +146,8 @@ resumed H T holds n notes trail w = resume H (graphOf T holds n) (N T n) (stack 
 unfoldable pub entering : Halting → Layout → (ℕ → ℕ → Bool) → ℕ → List ℕ → List ℕ → Walk → ℕ → Outcome
 entering H T holds n notes trail w x = resume H (graphOf T holds n) (N T n) (x ∷ stack (P T) trail (w .top)) (bitsOf notes (N T n)) (suc (w .steps))
 
--- what they come to where the pair x is the next to be entered: where no step is left, the walk halts with them
+-- what they come to where the pair x is the next to be entered: where no step is left, the walk
+-- halts with them
 unfoldable pub facing : Halting → Layout → (ℕ → ℕ → Bool) → ℕ → List ℕ → List ℕ → Walk → ℕ → Outcome
 unfolding entering
 facing H T holds n notes trail w x =
@@ -151,7 +158,8 @@ unfoldable pub comes : Halting → Layout → (ℕ → ℕ → Bool) → ℕ →
 unfolding resumed facing
 comes H T holds n notes trail w = pick (eqb (w .status) 1) (facing H T holds n notes trail w (pairOf w)) (resumed H T holds n notes trail w)
 
--- the walk has come from the buffers n₁ and t₁ to this state, which comes to the outcome R; nothing beyond the pairs is changed
+-- the walk has come from the buffers n₁ and t₁ to this state, which comes to the outcome R; nothing
+-- beyond the pairs is changed
 pub record Reached (H : Halting) (T : Layout) (holds : ℕ → ℕ → Bool) (n : ℕ) (n₁ t₁ : List ℕ) (R : Outcome) (notes trail : List ℕ) (w : Walk) : Type 0 where
   pub good : Good T holds n notes trail w
   pub stands : Stands T holds n notes trail w
@@ -182,7 +190,8 @@ pub record Backs (T : Layout) (holds : ℕ → ℕ → Bool) (n : ℕ) (notes tr
   pub idle : Idle T holds n notes trail w
   pub going : 0 < w .top
 
--- both, whatever letters hold, and wherever the walk halts, if no pair waits: going back does not ask
+-- both, whatever letters hold, and wherever the walk halts, if no pair waits: going back does not
+-- ask
 pub record Idling (T : Layout) (n : ℕ) (notes trail : List ℕ) (w : Walk) : Type 0 where
   pub halting : Halting
   pub quiet : Quiet halting
@@ -224,7 +233,8 @@ pub record Retreated (H : Halting) (T : Layout) (holds : ℕ → ℕ → Bool) (
   pub less : left (N T n) notes w ≤ left (N T n) n₁ w₁
   pub still : (w .status ≡ 1 → ⊥) → w .top ≡ 0
 
--- the walk is over: no pair is open, or END is on top, or a pair is to be entered and no step is left
+-- the walk is over: no pair is open, or END is on top, or a pair is to be entered and no step is
+-- left
 pub record Ran (H : Halting) (T : Layout) (holds : ℕ → ℕ → Bool) (n : ℕ) (n₁ t₁ : List ℕ) (w₁ : Walk) (notes trail : List ℕ) (w : Walk) : Type 0 where
   pub reached : Reached H T holds n n₁ t₁ (comes H T holds n n₁ t₁ w₁) notes trail w
   pub down : w .status ≡ 1 → H .spent (w .steps) ≡ true
@@ -238,12 +248,14 @@ pub record Ready (T : Layout) (holds : ℕ → ℕ → Bool) (n : ℕ) (notes tr
   pub row : i < n
   pub steps : s + N T n < 18446744073709551616
 
--- an attempt at row i by the definition, with the failed pairs F and s steps before it: it tries the pair of the first place and the start
+-- an attempt at row i by the definition, with the failed pairs F and s steps before it: it tries
+-- the pair of the first place and the start
 abbrev pub attemptBy : Halting → Layout → (ℕ → ℕ → Bool) → ℕ → List Bool → ℕ → ℕ → Outcome
 attemptBy H T holds n F s i = enterUnless (getD F (i * P T) false) (H .spent s) (inside H (graphOf T holds n) (N T n)) F s (i * P T)
 
--- what an attempt leaves: its result is the definition's; with a path, the trail's first `top` numbers are the path and the walk is at END; where it has
--- halted, they are the open pairs, and no step is left
+-- what an attempt leaves: its result is the definition's; with a path, the trail's first `top`
+-- numbers are the path and the walk is at END; where it has halted, they are the open pairs, and no
+-- step is left
 pub record Done (H : Halting) (T : Layout) (holds : ℕ → ℕ → Bool) (n : ℕ) (n₁ t₁ : List ℕ) (i s : ℕ) (notes trail : List ℕ) (w : Walk) : Type 0 where
   pub same : attemptBy H T holds n (bitsOf n₁ (N T n)) s i ≡ resultBy (P T) trail (bitsOf notes (N T n)) w
   pub reached : Reached H T holds n n₁ t₁ (attemptBy H T holds n (bitsOf n₁ (N T n)) s i) notes trail w

@@ -1,7 +1,9 @@
--- The walk's memory, and what its small functions do to it: a pair is tried or entered, and the last open pair goes on to its next way.
--- The trail's first `top` numbers stand for the open pairs. A number holds a pair's place in its low 11 bits, its row in the 13 bits above, and in the 8 bits
--- above them the number, in its fork, of the way that the pair tries next (0: none is left), so that it goes on where it was left. The walk stands at the pair
--- that was tried last; its status says whether that pair is to be entered (1), is END and open (2), or neither (0).
+-- The walk's memory, and what its small functions do to it: a pair is tried or entered, and the
+-- last open pair goes on to its next way. The trail's first `top` numbers stand for the open pairs.
+-- A number holds a pair's place in its low 11 bits, its row in the 13 bits above, and in the 8 bits
+-- above them the number, in its fork, of the way that the pair tries next (0: none is left), so
+-- that it goes on where it was left. The walk stands at the pair that was tried last; its status
+-- says whether that pair is to be entered (1), is END and open (2), or neither (0).
 use mathlib.Core.Path.{_≡_}
 use mathlib.Core.List.{List, [], _∷_, reverseAux}
 use mathlib.Core.Bool.{Bool, true, false, not, _&&_}
@@ -35,7 +37,8 @@ oneUnless t = pick t 0 1
 abbrev pub tryAt : List ℕ → ℕ → ℕ → ℕ → ℕ → ℕ → Walk
 tryAt notes top steps q row base = walkAt top steps q row base (oneUnless (bitAt notes (base + q)))
 
--- a number of the trail: its place, its row, its next way, and the pair of place and row where there are P places
+-- a number of the trail: its place, its row, its next way, and the pair of place and row where
+-- there are P places
 abbrev pub placeIn : ℕ → ℕ
 placeIn e = e % 2048
 
@@ -65,11 +68,13 @@ after count j = pick (ltb (j + 1) count) (j + 1) 0
 abbrev pub wentOn : ℕ → ℕ → ℕ
 wentOn j e = e % 16777216 + j * 16777216
 
--- A pair that is entered is open if it passes, but for a letter's whose one next pair, that of place k, has failed: it fails at once.
+-- A pair that is entered is open if it passes, but for a letter's whose one next pair, that of
+-- place k, has failed: it fails at once.
 unfoldable pub opens : Bool → ℕ → ℕ → ℕ → List ℕ → Walk → Bool
 opens passes c k P notes w = passes && not (ltb c 26 && bitAt notes (w .base + P + k))
 
--- The pair of w is open, by a place of code c whose first place is k: a letter tries the pair of k at the next row, END succeeds, any other place tries the pair of k at the same row.
+-- The pair of w is open, by a place of code c whose first place is k: a letter tries the pair of k
+-- at the next row, END succeeds, any other place tries the pair of k at the same row.
 unfoldable pub openedBy : ℕ → ℕ → ℕ → List ℕ → Walk → Walk
 openedBy c k P notes w =
     pick (ltb c 26) (tryAt notes (w .top + 1) (w .steps + 1) k (w .row + 1) (w .base + P))
@@ -93,7 +98,8 @@ unfolding stack
 outcomeBy P zero trail F s = failed F s
 outcomeBy P (suc t) trail F s = found (reverseAux (stack P trail (suc t)) []) F s
 
--- the same of an attempt that may have halted: where a pair is to be entered, no step is left, and the open pairs stay open
+-- the same of an attempt that may have halted: where a pair is to be entered, no step is left, and
+-- the open pairs stay open
 unfoldable pub resultBy : ℕ → List ℕ → List Bool → Walk → Outcome
 unfolding stack outcomeBy
 resultBy P trail F w = pick (eqb (w .status) 1) (halted outOfSteps (reverseAux (stack P trail (w .top)) []) F (w .steps)) (outcomeBy P (w .top) trail F (w .steps))
@@ -104,7 +110,8 @@ resultBy P trail F w = pick (eqb (w .status) 1) (halted outOfSteps (reverseAux (
 abbrev pub Noted : List ℕ → ℕ → Type 0
 Noted notes x = (x < mostPairs) × (x / 8 < length notes)
 
--- the pair of the walk has not failed, there is room for it, and the pair that it leads to first can be tried; a fork of code 28 leads first to the place behind it, and has a second way
+-- the pair of the walk has not failed, there is room for it, and the pair that it leads to first
+-- can be tried; a fork of code 28 leads first to the place behind it, and has a second way
 pub record Enters (T : Layout) (n : ℕ) (notes trail : List ℕ) (w : Walk) : Type 0 where
   pub place : w .place < P T
   pub words : 4 * w .place + 4 ≤ length (T .words)

@@ -1,5 +1,7 @@
-// What an attempt of the counted walk does with one pair of a place and a row: the notes (a bit for each pair: it has failed), the trail (the open pairs), and
-// where the walk is then. A pair is the number row * P + place. This is the one file that knows how a pair is numbered in the notes and written on the trail.
+// What an attempt of the counted walk does with one pair of a place and a row: the notes (a bit for
+// each pair: it has failed), the trail (the open pairs), and where the walk is then. A pair is the
+// number row * P + place. This is the one file that knows how a pair is numbered in the notes and
+// written on the trail.
 use numbers::wide32;
 use table::count_at;
 ghost use mathlib.Core.Path.{_≡_};
@@ -11,8 +13,9 @@ ghost use Rattle.rules.specs.Working.{marked};
 ghost use Rattle.pairs.specs.Layout.{passesBy, entryOf, mostPairs};
 ghost use Rattle.pairs.specs.Step.{walkAt, oneUnless, tryAt, after, wentOn, placeIn, rowIn, wayIn};
 
-// Where a walk is: how many pairs are open, and the steps so far; the pair that was tried last, by its place, its row and its row times P; and what is to be
-// done about that pair. All are numbers, as a struct of whole words has no padding to be copied.
+// Where a walk is: how many pairs are open, and the steps so far; the pair that was tried last, by
+// its place, its row and its row times P; and what is to be done about that pair. All are numbers,
+// as a struct of whole words has no padding to be copied.
 #[repr(C)]
 pub struct Walk {
     pub top: usize,
@@ -23,14 +26,16 @@ pub struct Walk {
     pub status: usize,
 }
 
-// The statuses: the pair tried last has failed, or was left, so the walk goes back; it is to be entered; it is END, and open.
+// The statuses: the pair tried last has failed, or was left, so the walk goes back; it is to be
+// entered; it is END, and open.
 pub const BACK: usize = 0;
 
 pub const ENTER: usize = 1;
 
 pub const FOUND: usize = 2;
 
-// A number of the trail: its place in the low bits, its row above, and above that the way that is tried next.
+// A number of the trail: its place in the low bits, its row above, and above that the way that is
+// tried next.
 const ROW: usize = 2048;
 
 const ROWS: usize = 8192;
@@ -83,7 +88,8 @@ pub fn mark(notes: &mut [u8], x: usize)
     notes[x / 8] = notes[x / 8] + (1 << (x % 8));
 }
 
-// Whether an anchor of code c passes at the row, or another place that is no letter, which always passes.
+// Whether an anchor of code c passes at the row, or another place that is no letter, which always
+// passes.
 pub fn anchor_passes(n: usize, c: usize, row: usize) -> bool
     requires { ⌜ 26 ≤ c ⌝ }
     ensures { λ r. ⌜ ((holds : ℕ → ℕ → Bool) → r ≡ passesBy holds n c row) ⌝ }
@@ -119,7 +125,8 @@ pub fn tried(notes: &[u8], top: usize, steps: usize, place: usize, row: usize, b
     }
 }
 
-// What the trail holds of place q when it is entered, but for its row: the place, and its second way where it has one.
+// What the trail holds of place q when it is entered, but for its row: the place, and its second
+// way where it has one.
 pub fn entry_at(words: &[u16], q: usize) -> usize
     requires { ⌜ (4 * q + 4 ≤ length (now words)) × (q < 2048) ⌝ }
     ensures { λ r. ⌜ (r ≡ entryOf (now (words .entry)) q) × (r < 16779264) ⌝ }

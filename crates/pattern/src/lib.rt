@@ -1,6 +1,6 @@
-// A pattern's text read into a tree: the four readers of the pattern language, in a cycle. The tree's
-// nodes go into a lent room, each behind its parts; `read_text` leaves there the nodes of the tree
-// that the text has, or says that it has none, and at which byte the text is wrong.
+// A pattern's text read into a tree: the four readers of the pattern language, in a cycle. The
+// tree's nodes go into a lent room, each behind its parts; `read_text` leaves there the nodes of
+// the tree that the text has, or says that it has none, and at which byte the text is wrong.
 use nodes::Sort;
 use phrases::chain;
 use phrases::ends;
@@ -39,8 +39,8 @@ fn pattern(text: &[u8], at: usize, room: &mut [u16], count: usize) -> Step
     }
 }
 
-// branch: factor, or factor branch. A loop reads the factors, and another one joins them from the last on, so that a long sequence takes no
-// more stack than a short one.
+// branch: factor, or factor branch. A loop reads the factors, and another one joins them from the
+// last on, so that a long sequence takes no more stack than a short one.
 fn branch(text: &[u8], at: usize, room: &mut [u16], count: usize) -> Step
     requires { ⌜ Fits (now text) at (now room) count ⌝ }
     ensures { λ r. ⌜ Reads Rank.branch (now (text .entry)) at count (now (room .entry)) (now (room .exit)) r ⌝ }
@@ -91,7 +91,8 @@ fn primary(text: &[u8], at: usize, room: &mut [u16], count: usize) -> Head
     shut_group(text, p)
 }
 
-// The tree of a whole text, its nodes from 0 on; `at` is where reading stops, which is the text's end where there is a tree.
+// The tree of a whole text, its nodes from 0 on; `at` is where reading stops, which is the text's
+// end where there is a tree.
 pub fn read_text(text: &[u8], room: &mut [u16]) -> Step
     requires { ⌜ Fits (now text) 0 (now room) 0 ⌝ }
     ensures { λ r. ⌜ TextSays (now (text .entry)) (now (room .entry)) (now (room .exit)) r ⌝ }

@@ -1,5 +1,5 @@
--- Laws of parts joined, of a factor with its quantifier, and of where a branch ends: each is one way
--- through one function.
+-- Laws of parts joined, of a factor with its quantifier, and of where a branch ends: each is one
+-- way through one function.
 use mathlib.Core.Path.{_≡_, refl, sym, ap, _∙_}
 use mathlib.Core.Bool.{Bool, true, false}
 use mathlib.Core.List.{List}

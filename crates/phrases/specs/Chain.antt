@@ -1,5 +1,5 @@
--- The parts of a sequence or an alternation that are read and stand in the room, one behind the other, before nodes join them: what joining them
--- from the last on asks and leaves.
+-- The parts of a sequence or an alternation that are read and stand in the room, one behind the
+-- other, before nodes join them: what joining them from the last on asks and leaves.
 use mathlib.Core.Path.{_≡_}
 use mathlib.Core.Bool.{true}
 use mathlib.Core.List.{List, [], _∷_}

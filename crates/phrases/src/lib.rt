@@ -125,8 +125,8 @@ pub fn ends(y: u8) -> bool
     y == b')'
 }
 
-// The sequence (forks 0) or alternation (forks 1) of parts whose nodes stand from `first` up to `end`, and of one more part behind them: a node
-// for each, from the last on.
+// The sequence (forks 0) or alternation (forks 1) of parts whose nodes stand from `first` up to
+// `end`, and of one more part behind them: a node for each, from the last on.
 pub fn chain(
     room: &mut [u16],
     sort: Sort,

@@ -1,5 +1,5 @@
--- The codes of places, and the later word of a fork. A letter must be A to Z: any other would get the
--- code of another place.
+-- The codes of places, and the later word of a fork. A letter must be A to Z: any other would get
+-- the code of another place.
 use Prim.Native.Nat.{ℕ, _+_, _%_}
 use lib.Dec.{eqb, ltb}
 use Rattle.rules.specs.Basics.{pick}

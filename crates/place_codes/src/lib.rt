@@ -1,5 +1,5 @@
-// What the words of a place say, decided on numbers: its code, where a part begins, the later word of
-// a fork, and how many forks a factor has. The words themselves are put by crates/place_words.
+// What the words of a place say, decided on numbers: its code, where a part begins, the later word
+// of a fork, and how many forks a factor has. The words themselves are put by crates/place_words.
 use table::CARET;
 use table::DOLLAR;
 use table::FORK;
@@ -23,8 +23,8 @@ pub fn start_at(b: usize, end: usize, k: usize) -> usize
     b
 }
 
-// The code of a fork by its first way, the place behind it and how many ways it has. A near fork has
-// a second way, so that the walk need not ask for it.
+// The code of a fork by its first way, the place behind it and how many ways it has. A near fork
+// has a second way, so that the walk need not ask for it.
 pub fn fork_code(first: usize, behind: usize, count: usize) -> usize
     ensures { λ r. ⌜ (r ≡ forkCode first behind count) × (r < 65536) ⌝ }
 {
@@ -37,7 +37,8 @@ pub fn fork_code(first: usize, behind: usize, count: usize) -> usize
     FORK
 }
 
-// The later word of a fork whose ways, so many, stand from word w on: two ways are told without them.
+// The later word of a fork whose ways, so many, stand from word w on: two ways are told without
+// them.
 pub fn later_word(table: &[u16], w: usize, count: usize) -> usize
     requires { ⌜ (w < 65536) × (count ≡ 2 → w + 1 < length (now table)) ⌝ }
     ensures { λ r. ⌜ (r ≡ laterWord (getD (now (table .entry)) (w + 1) 0) w count) × (r < 65536) ⌝ }

@@ -270,7 +270,8 @@ Wayed pEnd = Unit {0}
 abbrev pub Sound : Place → Type 0
 Sound p = Spelt p × Wayed p
 
--- what the walk relies on for place q, of this code, first place, later word and count; its ways end by r
+-- what the walk relies on for place q, of this code, first place, later word and count; its ways
+-- end by r
 pub record Keeps (q r a b c d : ℕ) : Type 0 where
   pub near : a ≡ 28 → (b ≡ q + 1) × (1 < d)
   pub one : a < 28 → d ≡ 0

@@ -1,4 +1,5 @@
--- A fork's ways in a table: those that do not yet stand there are put, each once; and all forks of a pattern have fewer than three ways to a place.
+-- A fork's ways in a table: those that do not yet stand there are put, each once; and all forks of
+-- a pattern have fewer than three ways to a place.
 use mathlib.Core.Path.{_≡_, refl, sym, ap, _∙_}
 use mathlib.Core.Bool.{Bool, true, false, _||_, or-comm, true≢false}
 use mathlib.Core.List.{List, [], _∷_, _++_}

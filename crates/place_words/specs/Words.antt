@@ -51,7 +51,8 @@ putPlaces T q w (p ∷ ps) = putPlaces (putPlace T q w p) (suc q) (w + wayCount 
 
 -- ---- what is put where
 
--- the table has room for these places from place b on and for their ways from word w on, and all numbers fit their words; k is the place behind them
+-- the table has room for these places from place b on and for their ways from word w on, and all
+-- numbers fit their words; k is the place behind them
 pub record Fitting (T : List ℕ) (b w k : ℕ) (pl : List Place) : Type 0 where
   pub long : 4 * (b + length pl) ≤ length T
   pub small : length T < 65536
@@ -59,7 +60,8 @@ pub record Fitting (T : List ℕ) (b w k : ℕ) (pl : List Place) : Type 0 where
   pub way : w + waysIn pl ≤ length T
   pub behind : k ≤ 256
 
--- these places were put from place b on, their ways from word w on, and r is the word behind the last way
+-- these places were put from place b on, their ways from word w on, and r is the word behind the
+-- last way
 pub record Emitted (T exit : List ℕ) (b w r : ℕ) (pl : List Place) : Type 0 where
   pub is : exit ≡ putPlaces T b w pl
   pub way : r ≡ w + waysIn pl

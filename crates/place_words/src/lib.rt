@@ -1,6 +1,6 @@
-// The words of the table of places, in the layout that crates/table reads: the words of a place, and
-// the ways of a fork. Promise: a way is put unless the fork has it. Weakness: a way is looked for among
-// all ways of its fork, so a fork of m ways costs m * m / 2 comparisons.
+// The words of the table of places, in the layout that crates/table reads: the words of a place,
+// and the ways of a fork. Promise: a way is put unless the fork has it. Weakness: a way is looked
+// for among all ways of its fork, so a fork of m ways costs m * m / 2 comparisons.
 use place_codes::fork_code;
 use place_codes::later_word;
 use table::WORDS;

@@ -1,5 +1,5 @@
--- The letters of a tree are A to Z: as `unroll` asks for it, by a test of the list of its letters, and
--- as the rules say it of the tree. Each follows from the other.
+-- The letters of a tree are A to Z: as `unroll` asks for it, by a test of the list of its letters,
+-- and as the rules say it of the tree. Each follows from the other.
 use mathlib.Core.Path.{_≡_, refl}
 use mathlib.Core.Bool.{Bool, true, false, _&&_, false≢true}
 use mathlib.Core.List.{List, [], _∷_, _++_}

@@ -1,5 +1,5 @@
--- Laws of `unroll`: the whole tree is put, and END behind it; what was put is read back, and keeps to
--- what the walk relies on.
+-- Laws of `unroll`: the whole tree is put, and END behind it; what was put is read back, and keeps
+-- to what the walk relies on.
 use mathlib.Core.Path.{_≡_, refl, sym, ap, _∙_}
 use mathlib.Core.List.{List, [], _∷_, _++_}
 use Prim.Native.Nat.{ℕ, _+_, _*_, _-_, _≤_, _<_}

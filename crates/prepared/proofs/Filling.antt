@@ -1,5 +1,5 @@
--- A query that was read, and a table with room for it: the measures, the tests and the places may be
--- put one after the other, and then table and numbers stand for the query.
+-- A query that was read, and a table with room for it: the measures, the tests and the places may
+-- be put one after the other, and then table and numbers stand for the query.
 use mathlib.Core.Path.{_≡_, refl, ap, sym, _∙_}
 use mathlib.Core.Bool.{Bool, true, false, _||_}
 use mathlib.Core.List.{List}

@@ -53,7 +53,8 @@ pub record Given (q T : List ℕ) (p : Prepared) : Type 0 where
   pub refused : (p .answer ≡ 0 → ⊥) → (p .answer ≡ queryAnswer q) × (p .offset ≡ offsetAt (textOf q) (p .answer))
   pub ready : p .answer ≡ 0 → Ready q T p
 
--- What preparing promises: that, unless it tells that there is no room; and there is, in a table of 3,142 to 65,535 words.
+-- What preparing promises: that, unless it tells that there is no room; and there is, in a table of
+-- 3,142 to 65,535 words.
 pub record PreparedAs (q T T′ : List ℕ) (p : Prepared) : Type 0 where
   pub given : (p .answer ≡ 255 → ⊥) → Given q T′ p
   pub no-room : p .answer ≡ 255 → 3142 ≤ length T → 65536 ≤ length T

@@ -20,8 +20,8 @@ ghost use Rattle.reading.specs.Reading.{Nodes};
 ghost use Rattle.prepared.specs.Ready.{refusal, Fills, Ready, PreparedAs};
 
 // A prepared query beside its table: its answer, with the offset of 5 and 14; where that is 0, its
-// places, the columns of a row, how many measures it has, the skip mode of its record, and the letter
-// that the skip names, 0 for none.
+// places, the columns of a row, how many measures it has, the skip mode of its record, and the
+// letter that the skip names, 0 for none.
 #[repr(C)]
 pub struct Prepared {
     pub answer: usize,

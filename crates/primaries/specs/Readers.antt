@@ -45,7 +45,8 @@ pub record Done (k : Rank) (text : List ℕ) (c : ℕ) (room exit : List ℕ) (r
   pub forked : r .forks ≡ forkOf k x
   pub wrote : exit ≡ written x c room
 
--- an answer, ok or not, that stops at a position of the text, with the bytes u from there on: there is no tree
+-- an answer, ok or not, that stops at a position of the text, with the bytes u from there on: there
+-- is no tree
 pub record Unread (text : List ℕ) (ok : Bool) (at : ℕ) (u : List ℕ) : Type 0 where
   pub fails : ok ≡ false
   pub rest : u ≡ drop at text
@@ -64,7 +65,8 @@ pub record On (text : List ℕ) (at c : ℕ) (r : Step) : Type 0 where
   pub few-places : r .places ≤ 257
   pub few-forks : r .forks ≤ 1
 
--- what the reader of a rank promises of its answer r: at every depth that is enough it says what is read
+-- what the reader of a rank promises of its answer r: at every depth that is enough it says what is
+-- read
 pub record Reads (k : Rank) (text : List ℕ) (at c : ℕ) (room exit : List ℕ) (r : Step) : Type 0 where
   pub says : (n : ℕ) → depth k (drop at text) ≤ n → Says k text c room exit r (read n k (drop at text))
   pub on : r .ok ≡ true → On text at c r
@@ -192,7 +194,8 @@ unfoldable pub ParsedAs : List ℕ → List ℕ → List ℕ → Step → Option
 ParsedAs text room exit r none = r .ok ≡ false
 ParsedAs text room exit r (some p) = Parsed text room exit r p
 
--- what `read_text` promises: the text's tree, or none; and where reading stops, which is where a text with no tree is wrong, or its end
+-- what `read_text` promises: the text's tree, or none; and where reading stops, which is where a
+-- text with no tree is wrong, or its end
 pub record TextSays (text room exit : List ℕ) (r : Step) : Type 0 where
   pub says : ParsedAs text room exit r (treeOf text)
   pub stop : r .at ≡ stopOf text

@@ -1,6 +1,6 @@
-// A primary that is read: a letter or an anchor, `()`, or a pattern in parentheses, of which the `)`
-// is read here. What the readers of a pattern's text answer: a Step, and of a primary, whose node is
-// not yet in the room, a Head (specs/Readers).
+// A primary that is read: a letter or an anchor, `()`, or a pattern in parentheses, of which the
+// `)` is read here. What the readers of a pattern's text answer: a Step, and of a primary, whose
+// node is not yet in the room, a Head (specs/Readers).
 use nodes::Node;
 use nodes::Sort;
 use text_bytes::is_letter;
@@ -14,8 +14,9 @@ ghost use mathlib.Core.Bool.{false};
 ghost use lib.ListN.{length};
 ghost use Rattle.primaries.specs.Readers.{SkipTo, EmptyIs, ShutNeeds, ShutIs, SimpleSays};
 
-// What a reader answers: whether it read, where it ended or stopped, how many nodes there are then (its own is the last), its height, its
-// places counted up to 257, without the fork of an alternation, and 1 for that fork.
+// What a reader answers: whether it read, where it ended or stopped, how many nodes there are then
+// (its own is the last), its height, its places counted up to 257, without the fork of an
+// alternation, and 1 for that fork.
 pub struct Step {
     pub ok: bool,
     pub at: usize,

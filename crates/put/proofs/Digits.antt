@@ -57,7 +57,8 @@ few-digits (suc k) n h = go (λ l. few-digits k (n / 10) l) (ltb n 10) refl
 
 -- ---- digits written from the last to the first
 
--- the digits behind those of `rest` stand in the buffer, and i is the index of the last digit of `rest`
+-- the digits behind those of `rest` stand in the buffer, and i is the index of the last digit of
+-- `rest`
 pub record Spelled (before : List ℕ) (at n : ℕ) (now : List ℕ) (i rest : ℕ) : Type 0 where
   pub later : List ℕ
   pub is : now ≡ wrote before (i + 1) later

@@ -115,7 +115,8 @@ module _ (l : List ℕ) (at : ℕ) (n : ℤ) (room : at + length (signedDecimal 
     pub minus-room : at < length l
     minus-room = omega (arith, ap length text)
 
-    -- behind any one byte there is room for the digits, and behind a minus they are the number's text
+    -- behind any one byte there is room for the digits, and behind a minus they are the number's
+    -- text
     module _ (m : List ℕ) (b s : ℕ) (e : s ≡ natAbs (held n)) where
       pub digits-room : (v : ℕ) → Put l at (v ∷ []) m b → b + length (decimal s) ≤ length m
       digits-room v p = rw (e, size-kept n f) (omega (arith, p .ends, ap length text, put-long l at (v ∷ []) m b p))

@@ -1,5 +1,6 @@
--- What a function that writes text into a lent buffer promises: the text stands in the buffer from an index on, all else is as it was, and the
--- function's result is the index behind the text, which lies within the buffer.
+-- What a function that writes text into a lent buffer promises: the text stands in the buffer from
+-- an index on, all else is as it was, and the function's result is the index behind the text, which
+-- lies within the buffer.
 use mathlib.Core.Path.{_≡_}
 use mathlib.Core.List.{List}
 use Prim.Native.Nat.{ℕ, _+_, _≤_}

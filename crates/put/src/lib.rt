@@ -1,5 +1,6 @@
-// Bytes, words and numbers in decimal, written into a lent buffer from an index on: each function asks for room for its text, the buffer is otherwise as
-// it was, and the result is the index behind the text (specs/Put). A number of 64 bits takes at most 20 bytes, with its sign (proofs/Signed).
+// Bytes, words and numbers in decimal, written into a lent buffer from an index on: each function
+// asks for room for its text, the buffer is otherwise as it was, and the result is the index behind
+// the text (specs/Put). A number of 64 bits takes at most 20 bytes, with its sign (proofs/Signed).
 ghost use mathlib.Core.Path.{_≡_};
 ghost use mathlib.Core.List.{[], _∷_};
 ghost use Prim.Native.Nat.{_+_, _^_, _≤_, _<_};

@@ -1,5 +1,5 @@
-// A node put into its eight words of a lent slice (crates/nodes): its sort and byte in one word, its
-// form and reluctant mark in one, and a word for each number.
+// A node put into its eight words of a lent slice (crates/nodes): its sort and byte in one word,
+// its form and reluctant mark in one, and a word for each number.
 use nodes::Node;
 use nodes::Sort;
 ghost use mathlib.Core.Path.{_≡_};

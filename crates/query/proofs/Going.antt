@@ -1,4 +1,5 @@
--- A query with no answer 1 to 3 read in its order: which kind the next record has, what its fields are, and that the rest is again in order (`Ahead`).
+-- A query with no answer 1 to 3 read in its order: which kind the next record has, what its fields
+-- are, and that the rest is again in order (`Ahead`).
 use mathlib.Core.Path.{_≡_, refl, sym, ap, _∙_}
 use mathlib.Core.Bool.{Bool, true, false, _&&_, _||_}
 use mathlib.Core.List.{List, [], _∷_}

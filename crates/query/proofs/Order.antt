@@ -1,5 +1,6 @@
--- The pass for answers 1, 2 and 3. A stage follows another as the order of kinds says, by the ways through `after`; what the pass has seen up
--- to an index, with what is to come, is what the definitions say of the whole query (`Judged`).
+-- The pass for answers 1, 2 and 3. A stage follows another as the order of kinds says, by the ways
+-- through `after`; what the pass has seen up to an index, with what is to come, is what the
+-- definitions say of the whole query (`Judged`).
 use mathlib.Core.Path.{_≡_, refl, sym, ap, _∙_}
 use mathlib.Core.Bool.{Bool, true, false, not, _&&_, and-assoc}
 use mathlib.Core.List.{List, [], _∷_}
@@ -144,8 +145,9 @@ rest-nil left (suc (suc (suc (suc k)))) =
 
 -- ---- what the pass has seen
 
--- At the index `at`, in the stage a with l: the order of the whole query is that of the kinds to come. Up to a kind out of order, the columns are
--- those of the shape once that was read, and the fields of the whole query fit exactly if those seen do (`fit`) and those to come.
+-- At the index `at`, in the stage a with l: the order of the whole query is that of the kinds to
+-- come. Up to a kind out of order, the columns are those of the shape once that was read, and the
+-- fields of the whole query fit exactly if those seen do (`fit`) and those to come.
 pub record Judged (s : List ℕ) (at a l columns : ℕ) (fit : Bool) : Type 0 where
   pub along : Along s at
   pub order : restOf a l (kinds (recordsAt s at)) ≡ inOrder (kinds (records s))

@@ -1,4 +1,5 @@
--- What the kinds of the records that follow must be at each stage of their order, and the lowest of the answers 1, 2 and 3.
+-- What the kinds of the records that follow must be at each stage of their order, and the lowest of
+-- the answers 1, 2 and 3.
 use mathlib.Core.Path.{_≡_}
 use mathlib.Core.Bool.{Bool, false}
 use mathlib.Core.List.{List, _∷_}
@@ -7,7 +8,8 @@ use lib.Dec.{eqb}
 use Rattle.rules.specs.Basics.{pick}
 use Rattle.rules.specs.Query.{oneOf, someOf, noneLeft, cut, misplaced, unfit}
 
--- what the kinds that follow must be at each stage of their order; `left` is how many more of a kind may come
+-- what the kinds that follow must be at each stage of their order; `left` is how many more of a
+-- kind may come
 unfoldable pub restOf : ℕ → ℕ → List ℕ → Bool
 unfolding oneOf someOf noneLeft
 restOf stage left =
@@ -17,8 +19,8 @@ restOf stage left =
     (pick (eqb stage 3) (someOf left 5 noneLeft)
     (λ ks. false))))
 
--- the stage a' follows the stage a by a record of this kind: it is none before the first record, and behind a kind out of order (4) there is
--- no other; at the first record that kind is 1
+-- the stage a' follows the stage a by a record of this kind: it is none before the first record,
+-- and behind a kind out of order (4) there is no other; at the first record that kind is 1
 pub record Follows (a' l' a l kind : ℕ) : Type 0 where
   pub rest : (ks : List ℕ) → restOf a' l' ks ≡ restOf a l (kind ∷ ks)
   pub on : 0 < a'

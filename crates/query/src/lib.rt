@@ -1,21 +1,22 @@
-// A query's bytes judged: answers 1, 2 and 3 in one pass over the records. Each record read answers Record or Cut.
-// The promises are equations with document 01's tests over the whole query, for all byte strings; records are read by the crate records, and the rules for
-// their fields stand in the crate fields.
+// A query's bytes judged: answers 1, 2 and 3 in one pass over the records. Each record read answers
+// Record or Cut. The promises are equations with document 01's tests over the whole query, for all
+// byte strings; records are read by the crate records, and the rules for their fields stand in the
+// crate fields.
 use numbers::wide8;
 use records::Read;
 use records::record_at;
 ghost use mathlib.Core.Path.{_≡_};
 ghost use mathlib.Core.Bool.{true, false, _&&_};
-ghost use Prim.Native.Nat.{_+_, _*_, _-_, _≤_, _<_};
+ghost use Prim.Native.Nat.{_+_, _-_, _≤_, _<_};
 ghost use lib.ListN.{length, getD};
 ghost use lib.Dec.{eqb};
-ghost use Rattle.rules.specs.Basics.{pick, le16};
+ghost use Rattle.rules.specs.Basics.{pick};
 ghost use Rattle.rules.specs.Query.{recordFits};
-ghost use Rattle.records.specs.Read.{readAt, recordOf};
+ghost use Rattle.records.specs.Read.{recordOf};
 ghost use Rattle.query.specs.Order.{Follows, firstAnswer};
 
-// Where a pass stands in the order of kinds: it expects 0 the shape, 1 the text, 2 up to `left` DEFINEs and the skip, 3 up to `left`
-// measures; 4 is behind a kind out of order.
+// Where a pass stands in the order of kinds: it expects 0 the shape, 1 the text, 2 up to `left`
+// DEFINEs and the skip, 3 up to `left` measures; 4 is behind a kind out of order.
 struct Stage {
     at: usize,
     left: usize,
@@ -82,7 +83,8 @@ fn byte_or_zero(s: &[u8], at: usize) -> usize
     if at < s.len() { wide8(s[at]) } else { 0 }
 }
 
-// The columns that a record's fields are judged by: those of the record itself where it is the first, else those known before it.
+// The columns that a record's fields are judged by: those of the record itself where it is the
+// first, else those known before it.
 fn columns_by(s: &[u8], stage: Stage, columns: usize, start: usize) -> usize
     ensures { λ r. ⌜ r ≡ pick (eqb (stage .at) 0) (getD (now (s .entry)) start 0) columns ⌝ }
 {
@@ -104,8 +106,8 @@ fn still_fit(s: &[u8], fit: bool, columns: usize, kind: usize, start: usize, len
     fields::record_fits(s, columns, kind, start, len)
 }
 
-// The lowest of the answers 1, 2 and 3 that applies, or 0. A 1 in the last bytes beats all else, and a late 2 beats an early 3, so 2 and 3
-// are given only at the end.
+// The lowest of the answers 1, 2 and 3 that applies, or 0. A 1 in the last bytes beats all else,
+// and a late 2 beats an early 3, so 2 and 3 are given only at the end.
 pub fn first_answer(s: &[u8]) -> usize
     ensures { λ r. ⌜ r ≡ firstAnswer (now (s .entry)) ⌝ }
 {

@@ -1,15 +1,16 @@
--- One law for each way through the functions of this crate: measures whose letters are known, and the answer 1 to 9 from its parts.
+-- One law for each way through the functions of this crate: measures whose letters are known, and
+-- the answer 1 to 9 from its parts.
 use mathlib.Core.Path.{_≡_, refl, ap, ap₂, sym, _∙_}
 use mathlib.Core.Bool.{Bool, true, false, not, _&&_, _||_}
 use mathlib.Core.List.{List, [], _∷_, _++_}
-use Prim.Native.Nat.{ℕ, zero, suc, _+_, _-_, _/_, _%_, _≤_, _<_}
+use Prim.Native.Nat.{ℕ, zero, suc, _+_, _-_, _/_, _≤_, _<_}
 use lib.ListN.{length, take, drop, length-take, length-drop}
 use native.Mathlib.Nat.{not-suc-le-zero}
 use native.Mathlib.Numerals.{add-one}
 use native.Mathlib.Omega.{arith}
 use lib.Dec.{eqb, ltb, leb}
 use lib.IntN.{ℤ}
-use borrow.Author.Tests.{ltb-true, ltb-false, lt-ltb, le-ltb, ne-eqb, eqb-true, leb-true, not-true, not-false}
+use borrow.Author.Tests.{ltb-true, ltb-false, ne-eqb, eqb-true, leb-true, not-true, not-false}
 use mathlib.Core.Option.{some}
 use Rattle.rules.specs.Basics.{pick, inRange, isLetter, every, has, tabulate}
 use Rattle.rules.specs.Query.{Measure, functionFits, cut, misplaced, unfit, doubled, columnsOf, textOf, parts}
@@ -152,7 +153,8 @@ first-offset s t = go (cut s) (misplaced s) (unfit s)
     go false false true = refl
     go false false false = refl
 
--- by the pattern's answer: where there is one it is the query's, and where it is 0 DEFINEs and measures decide
+-- by the pattern's answer: where there is one it is the query's, and where it is 0 DEFINEs and
+-- measures decide
 pub by-text : (s : List ℕ) → firstAnswer s ≡ 0 → (textAnswer (textOf s) ≡ 0 → ⊥) → textAnswer (textOf s) ≡ queryAnswer s
 unfolding textAnswer textTests tooDeep treeIn
 by-text s e d = sym (later s e ∙ first-before (textTests (textOf s)) (partsTests s) d)

@@ -1,5 +1,6 @@
--- The length of the pattern's text: in a query with no answer 1 to 3 the first record has 6 bytes, and behind it stands the second, the text. So its length is
--- in bytes 6 and 7 (`text-length`), and a room for the tree is large enough by it.
+-- The length of the pattern's text: in a query with no answer 1 to 3 the first record has 6 bytes,
+-- and behind it stands the second, the text. So its length is in bytes 6 and 7 (`text-length`), and
+-- a room for the tree is large enough by it.
 use mathlib.Core.Path.{_≡_, refl, ap, sym, _∙_}
 use mathlib.Core.Bool.{Bool, true, false}
 use mathlib.Core.List.{List}

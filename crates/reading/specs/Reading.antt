@@ -1,9 +1,11 @@
--- What reading a query leaves: its answer 1 to 9 or 14 by the rules' tests, with its offset, and where it is 0 the pattern's tree in the lent words, and in the lent arrays where
--- the DEFINE of each letter stands in the query and the measures (decode's specs/Layout says how); and how much to lend.
+-- What reading a query leaves: its answer 1 to 9 or 14 by the rules' tests, with its offset, and
+-- where it is 0 the pattern's tree in the lent words, and in the lent arrays where the DEFINE of
+-- each letter stands in the query and the measures (decode's specs/Layout says how); and how much
+-- to lend.
 use mathlib.Core.Path.{_≡_}
 use mathlib.Core.Bool.{Bool, true, not, _&&_, _||_}
 use mathlib.Core.List.{List}
-use mathlib.Core.Option.{Option, some}
+use mathlib.Core.Option.{some}
 use Prim.Native.Nat.{ℕ, _+_, _*_, _≤_, _<_}
 use lib.Dec.{eqb, leb}
 use lib.ListN.{length, take, drop}
@@ -21,7 +23,8 @@ use Rattle.decode.specs.declared.Parts.{Parts}
 use Rattle.reading.specs.declared.Query.{Query}
 use Rattle.reading.specs.declared.Size.{Size}
 
--- a letter is 0, or stands in the text; some of the first `count` measures has one that does not, or the letter that the skip names does not
+-- a letter is 0, or stands in the text; some of the first `count` measures has one that does not,
+-- or the letter that the skip names does not
 unfoldable pub knownIn : List ℕ → ℕ → Bool
 unfolding has
 knownIn text letter = eqb letter 0 || has letter text
@@ -38,8 +41,9 @@ queryAnswer s = firstOf (queryTests s)
 abbrev pub refusal : ℕ → ℕ → Query
 refusal a k = record { answer = a; offset = k; places = 0; top = 0; columns = 0; skip = 0; target = 0; measures = 0; letters = 0 }
 
--- what judging the parts asks: the query has no answer 1 to 3, the parts and measures are the query's, the letter that the skip names is 0 or A to Z, it is
--- told whether two DEFINEs are for one letter, and there is room for the tree
+-- what judging the parts asks: the query has no answer 1 to 3, the parts and measures are the
+-- query's, the letter that the skip names is 0 or A to Z, it is told whether two DEFINEs are for
+-- one letter, and there is room for the tree
 pub record JudgeRoom (s room measures : List ℕ) (p : Parts) : Type 0 where
   pub clean : firstAnswer s ≡ 0
   pub text : take (p .len) (drop (p .start) s) ≡ textOf s
@@ -80,7 +84,8 @@ pub record Whole (s measures₀ room defines measures : List ℕ) (r : Query) : 
 pub record Nodes (s room : List ℕ) : Type 0 where
   pub enough : firstAnswer s ≡ 0 → 16 * length (textOf s) ≤ length room
 
--- the length of the pattern's text, as bytes 6 and 7 say it: in a query with no answer 1 to 3 the first record has 6 bytes, and the second begins with its body's length
+-- the length of the pattern's text, as bytes 6 and 7 say it: in a query with no answer 1 to 3 the
+-- first record has 6 bytes, and the second begins with its body's length
 unfoldable pub textLength : List ℕ → ℕ
 unfolding le16
 textLength s = le16 s 6

@@ -3,8 +3,9 @@ ghost use mathlib.Core.Path.{_≡_};
 ghost use Prim.Native.Nat.{_≤_, _<_};
 ghost use Rattle.reading.specs.Reading.{knownIn, foreignIn, refusal, shortText};
 
-// What a query asks: its answer 1 to 9 or 14, with the offset of 5 and 14, or 0; where it is 0, P, the top node of its pattern's tree, and its parts, with
-// the letter that the skip names (0 for none) and a number from which on no letter has a DEFINE.
+// What a query asks: its answer 1 to 9 or 14, with the offset of 5 and 14, or 0; where it is 0, P,
+// the top node of its pattern's tree, and its parts, with the letter that the skip names (0 for
+// none) and a number from which on no letter has a DEFINE.
 pub struct Query {
     pub answer: usize,
     pub offset: usize,
@@ -25,7 +26,8 @@ pub struct Size {
     pub offset: usize,
 }
 
-// Whether the letter of a measure or of the skip stands in the pattern's text, or is 0: for all rows, or for none.
+// Whether the letter of a measure or of the skip stands in the pattern's text, or is 0: for all
+// rows, or for none.
 fn is_known(text: &[u8], letter: u8) -> bool
     ensures { λ r. ⌜ r ≡ knownIn (now (text .entry)) letter ⌝ }
 {
@@ -35,7 +37,8 @@ fn is_known(text: &[u8], letter: u8) -> bool
     scan::has_byte(text, letter)
 }
 
-// Whether some measure's letter, or the letter that the skip names, does not stand in the pattern's text.
+// Whether some measure's letter, or the letter that the skip names, does not stand in the pattern's
+// text.
 pub fn has_foreign(text: &[u8], measures: &[u8; 24], count: usize, target: usize) -> bool
     requires { ⌜ (count ≤ 8) × (target < 256) ⌝ }
     ensures { λ r. ⌜ r ≡ foreignIn (now (text .entry)) (now (measures .entry)) count target ⌝ }
@@ -79,7 +82,8 @@ pub fn no_room(answer: usize, offset: usize) -> Size
     }
 }
 
-// Whether the pattern's text is short: in a query with no answer 1 to 3 the first record has 6 bytes, so that bytes 6 and 7 are the text's length.
+// Whether the pattern's text is short: in a query with no answer 1 to 3 the first record has 6
+// bytes, so that bytes 6 and 7 are the text's length.
 pub fn text_is_short(query: &[u8]) -> bool
     ensures { λ r. ⌜ r ≡ shortText (now (query .entry)) ⌝ }
 {

@@ -1,4 +1,5 @@
--- One record read: `readAt` by the ways through `record_at`, and what a let-else learns of the record and of the records behind it.
+-- One record read: `readAt` by the ways through `record_at`, and what a let-else learns of the
+-- record and of the records behind it.
 use mathlib.Core.Path.{_≡_, refl, sym, ap, _∙_}
 use mathlib.Core.Bool.{Bool, true, false}
 use mathlib.Core.List.{List, [], _∷_}

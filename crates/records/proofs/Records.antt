@@ -1,5 +1,6 @@
--- The records from an index on, one record at a time: what every pass over a query's records goes by. `recordsAt` and `behindAt` have enough
--- fuel from every index, and answer 1 is where the walk over the records stops.
+-- The records from an index on, one record at a time: what every pass over a query's records goes
+-- by. `recordsAt` and `behindAt` have enough fuel from every index, and answer 1 is where the walk
+-- over the records stops.
 use mathlib.Core.Path.{_≡_, refl, sym, ap, _∙_}
 use mathlib.Core.Bool.{true, false}
 use mathlib.Core.List.{List, [], _∷_}

@@ -3,11 +3,12 @@
 use numbers::le16_at;
 use numbers::wide8;
 ghost use mathlib.Core.Path.{_≡_};
-ghost use Prim.Native.Nat.{_+_, _*_, _-_, _<_};
+ghost use Prim.Native.Nat.{_+_, _-_, _<_};
 ghost use lib.ListN.{length, getD};
 ghost use Rattle.records.specs.Read.{readAt};
 
-// What stands at an index of the query: a whole record (its body starts at start and is len bytes long, and next is behind it), or Cut.
+// What stands at an index of the query: a whole record (its body starts at start and is len bytes
+// long, and next is behind it), or Cut.
 pub enum Read {
     Record {
         kind: usize,

@@ -1,4 +1,5 @@
--- Numbers written: two for a measure, three in front of them, the measures one behind the other, and the whole of a match; and when a match fits.
+-- Numbers written: two for a measure, three in front of them, the measures one behind the other,
+-- and the whole of a match; and when a match fits.
 use mathlib.Core.Path.{_≡_, refl, sym, ap, _∙_}
 use mathlib.Core.Bool.{Bool, true, false, _&&_, _||_}
 use mathlib.Core.List.{List, [], _∷_, _++_, append-assoc, append-nil}

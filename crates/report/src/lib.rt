@@ -1,8 +1,8 @@
-// The report of a match: its measures over its rows, and the numbers that it appends behind those of
-// the matches before it. A match is appended whole or not at all: fits_whole says whether it fits.
-// Sums are exact: 4,096 entries of 32 bits lie well within 64 bits. A measure takes at most one pass
-// over the labels of the match; over all rows, COUNT, FIRST and LAST take none. The measures are words
-// of the query's table (crates/table/specs/Measures).
+// The report of a match: its measures over its rows, and the numbers that it appends behind those
+// of the matches before it. A match is appended whole or not at all: fits_whole says whether it
+// fits. Sums are exact: 4,096 entries of 32 bits lie well within 64 bits. A measure takes at most
+// one pass over the labels of the match; over all rows, COUNT, FIRST and LAST take none. The
+// measures are words of the query's table (crates/table/specs/Measures).
 use measure_list::Measure;
 use measures::Value;
 use measures::as_number;
@@ -103,8 +103,8 @@ fn put_three(numbers: &mut [i64], at: usize, a: usize, b: usize, c: usize)
 }
 
 // What match number `number` appends from index `at` on: its number, its first row, the rows taken,
-// and its measures. The labels are those of its rows, which start at `first`. The answer is the index
-// behind.
+// and its measures. The labels are those of its rows, which start at `first`. The answer is the
+// index behind.
 pub fn put_match(
     numbers: &mut [i64],
     at: usize,
@@ -126,7 +126,8 @@ pub fn put_match(
     behind + measures.count * 2
 }
 
-// Whether a match of `taken` rows fits whole behind `matches` matches with `written` labels, in rooms of these lengths and with `count` measures.
+// Whether a match of `taken` rows fits whole behind `matches` matches with `written` labels, in
+// rooms of these lengths and with `count` measures.
 pub fn fits_whole(
     nums: usize,
     labs: usize,

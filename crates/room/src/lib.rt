@@ -1,7 +1,8 @@
-// A query read whole (`read_query`): its answer 1 to 9 or 14, with its offset, or 0, the tree of its
-// pattern in lent words, and in lent arrays where the DEFINE of each letter stands in the query and the
-// measures; and how much a caller has to lend for it on some rows (`room`). Comparisons stay in the
-// query's bytes. For all bytes and rows; the promises are equations with document 01's definitions.
+// A query read whole (`read_query`): its answer 1 to 9 or 14, with its offset, or 0, the tree of
+// its pattern in lent words, and in lent arrays where the DEFINE of each letter stands in the query
+// and the measures; and how much a caller has to lend for it on some rows (`room`). Comparisons
+// stay in the query's bytes. For all bytes and rows; the promises are equations with document 01's
+// definitions.
 use part_answers::judge_parts;
 use reading::Query;
 use reading::Size;
@@ -55,7 +56,8 @@ fn room_in(nodes: &mut [u16], query: &[u8], rows: &[i32]) -> Size
     }
 }
 
-// How much a query needs on these rows. A short text gets a small room for its tree, since clearing a large one takes time.
+// How much a query needs on these rows. A short text gets a small room for its tree, since clearing
+// a large one takes time.
 pub fn room(query: &[u8], rows: &[i32]) -> Size
     ensures { λ r. ⌜ asRoom r ≡ roomOf (now (query .entry)) (now (rows .entry)) ⌝ }
 {

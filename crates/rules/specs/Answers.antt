@@ -1,5 +1,6 @@
--- Document 01, "Report", the table of answers, and request R-1, which parts 14 from 5: a test for each of 1 to 14 over the whole input, the first that
--- applies, and from it the result and the later content of all four lent buffers, as one function of all that goes in.
+-- Document 01, "Report", the table of answers, and request R-1, which parts 14 from 5: a test for
+-- each of 1 to 14 over the whole input, the first that applies, and from it the result and the
+-- later content of all four lent buffers, as one function of all that goes in.
 use mathlib.Core.Bool.{Bool, true, false, not, _&&_, _||_}
 use mathlib.Core.List.{List, [], _∷_, _++_}
 use mathlib.Core.Option.{Option, none, some}
@@ -19,8 +20,8 @@ use Rattle.rules.specs.Report.{numbersOf, labelsOf, fits, bytesFor, note
 
 -- ---- the pattern's answers
 
--- Answer 4: the parentheses opened less those closed pass 8 at some byte; o were opened and c closed before. Any bytes are counted, also those
--- of a text outside the language.
+-- Answer 4: the parentheses opened less those closed pass 8 at some byte; o were opened and c
+-- closed before. Any bytes are counted, also those of a text outside the language.
 unfoldable pub deep : ℕ → ℕ → List ℕ → Bool
 deep o c [] = false
 deep o c (b ∷ s) =
@@ -40,9 +41,10 @@ unfoldable pub noTree : Option (Tree pattern) → Bool
 noTree none = true
 noTree (some t) = false
 
--- Answer 5: it is so at some byte, after which no text of the language begins that way. Answer 14: it ends but could go on to a text of the language.
--- `wrong-exactly` and `incomplete-exactly` (crates/laws, Stops) say that the tests are true exactly if the text is `WrongAt` some byte, which is then `stopOf`
--- the text, or `Unfinished` (specs/Language).
+-- Answer 5: it is so at some byte, after which no text of the language begins that way. Answer 14:
+-- it ends but could go on to a text of the language. `wrong-exactly` and `incomplete-exactly`
+-- (crates/laws, Stops) say that the tests are true exactly if the text is `WrongAt` some byte,
+-- which is then `stopOf` the text, or `Unfinished` (specs/Language).
 unfoldable pub wrong : List ℕ → Bool
 unfolding noTree treeOf stopOf
 wrong text = noTree (treeOf text) && ltb (stopOf text) (length text)
@@ -128,7 +130,8 @@ unfoldable pub letterHolds : Task → ℕ → ℕ → Bool
 unfolding holds
 letterHolds t c i = holds (t .table) i (t .comparisons c)
 
--- the search by the counted walk on these terms, on document 01's, and by plain backtracking, for so many report numbers and label bytes
+-- the search by the counted walk on these terms, on document 01's, and by plain backtracking, for
+-- so many report numbers and label bytes
 unfoldable pub walkedOn : Terms → Task → ℕ → ℕ → Swept Kept
 unfolding walkSearch letterHolds fits
 walkedOn terms t nums labs = walkSearch terms (letterHolds t) (t .table .n) (t .places) (t .skip) (fits nums labs (t .measures))
@@ -143,7 +146,8 @@ backtracked t nums labs = plainSearch (letterHolds t) (t .table .n) (t .places) 
 
 -- ---- the answer
 
--- the lent buffers: notes (bytes), trail (32-bit numbers), report numbers (signed, 64 bits) and label bytes
+-- the lent buffers: notes (bytes), trail (32-bit numbers), report numbers (signed, 64 bits) and
+-- label bytes
 pub record Buffers : Type 0 where
   pub notes : List ℕ
   pub trail : List ℕ
@@ -164,9 +168,10 @@ unfoldable pub shortTrail : List ℕ → List ℤ → Buffers → Bool
 unfolding pairsOf
 shortTrail q rows lent = ltb (length (lent .trail)) (pairsOf q rows)
 
--- The answer of an accepted search, by its end: 0 done; 13 stopped, since the next match does not fit whole in numbers or labels; 15 stopped, since
--- the match written last names no start to go on at; 16 halted just before the entry that would pass the allowance of steps; 23 halted where a row is
--- asked for that is not yet present.
+-- The answer of an accepted search, by its end: 0 done; 13 stopped, since the next match does not
+-- fit whole in numbers or labels; 15 stopped, since the match written last names no start to go on
+-- at; 16 halted just before the entry that would pass the allowance of steps; 23 halted where a row
+-- is asked for that is not yet present.
 unfoldable pub haltAnswer : Halt → ℕ
 haltAnswer outOfSteps = 16
 haltAnswer outOfRows = 23
@@ -182,7 +187,8 @@ unfoldable pub stopped : {S : Type 0} → Swept S → Bool
 unfolding endAnswer
 stopped r = not (eqb (endAnswer (r .end)) 0)
 
--- a test with the answer that it stands for; and the answer of the first test that is true, 0 if none is
+-- a test with the answer that it stands for; and the answer of the first test that is true, 0 if
+-- none is
 abbrev pub Test : Type 0
 Test = ℕ × Bool
 
@@ -190,7 +196,8 @@ unfoldable pub firstOf : List Test → ℕ
 firstOf [] = 0
 firstOf (t ∷ ts) = pick (t .1) (t .0) (firstOf ts)
 
--- the tests that ask the query alone, in their order: 5 and 14 exclude each other and stand where 5 stood
+-- the tests that ask the query alone, in their order: 5 and 14 exclude each other and stand where 5
+-- stood
 unfoldable pub queryTests : List ℕ → List Test
 unfolding cut misplaced unfit tooDeep treeIn wrong incomplete hasEmptyLoop tooMany doubled foreign
 queryTests q =
@@ -206,24 +213,27 @@ queryTests q =
     ∷ (9, foreign q)
     ∷ []
 
--- Answers 1 to 12 and 14: the first that applies is given, 0 if none does; each is judged over the whole query.
+-- Answers 1 to 12 and 14: the first that applies is given, 0 if none does; each is judged over the
+-- whole query.
 unfoldable pub refusal : List ℕ → List ℤ → Buffers → ℕ
 unfolding firstOf queryTests badRows shortNotes shortTrail
 refusal q rows lent = firstOf (queryTests q ++ ((10, badRows q rows) ∷ (11, shortNotes q rows lent) ∷ (12, shortTrail q rows lent) ∷ []))
 
--- The answer: a refusal, or that of the search's end. The search is the one that is asked for, by either walk.
+-- The answer: a refusal, or that of the search's end. The search is the one that is asked for, by
+-- either walk.
 unfoldable pub answerBy : {S : Type 0} → List ℕ → List ℤ → Buffers → Swept S → ℕ
 unfolding refusal endAnswer
 answerBy q rows lent r = pick (eqb (refusal q rows lent) 0) (endAnswer (r .end)) (refusal q rows lent)
 
--- an answer accepts a search that ends as done (0), stopped (13 and 15) or halted (16 and 23), and refuses any other
+-- an answer accepts a search that ends as done (0), stopped (13 and 15) or halted (16 and 23), and
+-- refuses any other
 unfoldable pub refuses : ℕ → Bool
 refuses a = not (eqb a 0 || (eqb a 13 || (eqb a 15 || (eqb a 16 || eqb a 23))))
 
 -- ---- the result and the buffers
 
--- what a search reports: the answer, the matches and labels written, and both report buffers, which hold what each match written appends and are
--- unchanged beyond
+-- what a search reports: the answer, the matches and labels written, and both report buffers, which
+-- hold what each match written appends and are unchanged beyond
 pub record Report : Type 0 where
   pub answer : ℕ
   pub matches : ℕ
@@ -257,7 +267,8 @@ pub record Memory : Type 0 where
 unfoldable pub refused : ℕ → ℕ → Buffers → Memory
 refused a k lent = record { result = record { answer = a; matches = 0; labels = 0; steps = 0; offset = k }; buffers = lent }
 
--- 0, 13, 15 and 16 return the answer, the counts and the steps. The notes hold the failed pairs, the trail a 0 for each pair; beyond, both are unchanged.
+-- 0, 13, 15 and 16 return the answer, the counts and the steps. The notes hold the failed pairs,
+-- the trail a 0 for each pair; beyond, both are unchanged.
 unfoldable pub accepted : Report → Kept → Buffers → Memory
 unfolding notesOf zeros wrote
 accepted r kept lent =
@@ -271,7 +282,8 @@ accepted r kept lent =
       };
     }
 
--- the search that an input asks for, by the counted walk within an allowance of steps, without one, and the same by plain backtracking
+-- the search that an input asks for, by the counted walk within an allowance of steps, without one,
+-- and the same by plain backtracking
 unfoldable pub walkWithin : Option ℕ → List ℕ → List ℤ → Buffers → Swept Kept
 unfolding taskOf walkedOn
 walkWithin a q rows lent = walkedOn (within a (taskOf q rows .table .n)) (taskOf q rows) (length (lent .numbers)) (length (lent .labels))
@@ -284,7 +296,8 @@ unfoldable pub plainOf : List ℕ → List ℤ → Buffers → Swept (Unit {0})
 unfolding taskOf backtracked
 plainOf q rows lent = backtracked (taskOf q rows) (length (lent .numbers)) (length (lent .labels))
 
--- the answer to an input, and what it reports; and the report of the same search by plain backtracking, which has no allowance
+-- the answer to an input, and what it reports; and the report of the same search by plain
+-- backtracking, which has no allowance
 unfoldable pub answerWithin : Option ℕ → List ℕ → List ℤ → Buffers → ℕ
 unfolding answerBy walkWithin
 answerWithin a q rows lent = answerBy q rows lent (walkWithin a q rows lent)
@@ -305,7 +318,8 @@ unfoldable pub plainReport : List ℕ → List ℤ → Buffers → Report
 unfolding reportOf answerBy plainOf taskOf
 plainReport q rows lent = reportOf (answerBy q rows lent (plainOf q rows lent)) (taskOf q rows) lent (plainOf q rows lent)
 
--- The search within an allowance of steps (R-13): from the query, the rows and the lent buffers to the result and the buffers as it leaves them.
+-- The search within an allowance of steps (R-13): from the query, the rows and the lent buffers to
+-- the result and the buffers as it leaves them.
 unfoldable pub searchWithin : Option ℕ → List ℕ → List ℤ → Buffers → Memory
 unfolding answerWithin refused offsetAt textOf accepted reportWithin walkWithin refuses
 searchWithin a q rows lent =
@@ -319,7 +333,8 @@ searchOf q rows lent = searchWithin none q rows lent
 
 -- ---- how much to lend
 
--- `room`: the answer 1 to 10 or 14 that a query and rows get whatever is lent, with its offset, or 0; and where it is 0, P and n
+-- `room`: the answer 1 to 10 or 14 that a query and rows get whatever is lent, with its offset, or
+-- 0; and where it is 0, P and n
 pub record Room : Type 0 where
   pub answer : ℕ
   pub places : ℕ

@@ -1,5 +1,5 @@
--- Document 01, "Bench sheet": W1 to W12 as one table, and some easy slips behind them. The statement that the definitions agree with every line
--- is `sheet-holds` (proofs/Bench).
+-- Document 01, "Bench sheet": W1 to W12 as one table, and some easy slips behind them. The
+-- statement that the definitions agree with every line is `sheet-holds` (proofs/Bench).
 use mathlib.Core.Bool.{Bool, true, false, _&&_}
 use mathlib.Core.List.{List, [], _∷_, _++_}
 use mathlib.Core.Option.{Option, none, some}
@@ -17,7 +17,8 @@ use Rattle.rules.specs.Program.{printed}
 
 -- ---- queries and rows
 
--- a record of a body of fewer than 256 bytes; and a query of one column: its pattern, its DEFINEs, its skip mode, its measures
+-- a record of a body of fewer than 256 bytes; and a query of one column: its pattern, its DEFINEs,
+-- its skip mode, its measures
 abbrev pub recordOf : ℕ → List ℕ → List ℕ
 recordOf kind body = length body ∷ 0 ∷ kind ∷ 0 ∷ body
 
@@ -58,8 +59,8 @@ any n = replicate n (pos 0)
 
 -- ---- the sheet
 
--- a line: a query and rows; the answer, P, and the first row and labels of each match; the steps, the report numbers and the printed lines where the sheet
--- gives them
+-- a line: a query and rows; the answer, P, and the first row and labels of each match; the steps,
+-- the report numbers and the printed lines where the sheet gives them
 pub record Line : Type 0 where
   pub query : List ℕ
   pub rows : List ℤ
@@ -70,7 +71,8 @@ pub record Line : Type 0 where
   pub numbers : Option (List ℤ)
   pub output : Option (List ℕ)
 
--- a line of an accepted query, with its steps; one whose steps the sheet does not give; and one of a refused query
+-- a line of an accepted query, with its steps; one whose steps the sheet does not give; and one of
+-- a refused query
 abbrev pub line : List ℕ → List ℤ → ℕ → List (ℕ × List ℕ) → ℕ → Line
 line q rows p ms s = record { query = q; rows = rows; answer = 0; places = p; matches = ms; steps = some s; numbers = none; output = none }
 
@@ -174,7 +176,8 @@ unfolding pairsOf bytesFor
 enough q rows =
     record { notes = replicate (bytesFor (pairsOf q rows)) 255; trail = replicate (pairsOf q rows) 9; numbers = replicate 40 (pos 9); labels = replicate 40 9 }
 
--- a number below 2 ^ 31 that is not negative, in 4 bytes; and the standard input of a query and rows
+-- a number below 2 ^ 31 that is not negative, in 4 bytes; and the standard input of a query and
+-- rows
 abbrev pub fourBytes : ℤ → List ℕ
 fourBytes (pos n) = n % 256 ∷ n / 256 % 256 ∷ n / 65536 % 256 ∷ n / 16777216 ∷ []
 fourBytes (negsuc n) = []

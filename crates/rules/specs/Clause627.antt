@@ -1,6 +1,7 @@
--- ISO/IEC 19075-5, clause 6.2.7, on rounds that take no row: the derivations that it leaves in the parenthesised language.
--- Document 01 leaves none out, and it decides: no rule of the search uses this file. It is here to say where the two agree
--- (crates/laws, EmptyRounds) and where they do not (crates/laws, Differs).
+-- ISO/IEC 19075-5, clause 6.2.7, on rounds that take no row: the derivations that it leaves in the
+-- parenthesised language. Document 01 leaves none out, and it decides: no rule of the search uses
+-- this file. It is here to say where the two agree (crates/laws, EmptyRounds) and where they do not
+-- (crates/laws, Differs).
 use mathlib.Core.Path.{_≡_}
 use mathlib.Core.List.{List, [], _∷_, _++_, flatMap}
 use mathlib.Core.Bool.{Bool, true, false, not, _&&_, _||_}
@@ -13,7 +14,8 @@ use Rattle.rules.specs.Basics.{every}
 use Rattle.rules.specs.Language.{lower, upper, Rank, Tree, one, more, last, next, bare, times, letter, caret, dollar, empty, group, nullable}
 use Rattle.rules.specs.Preferment.{Derivation, Parses, Prefers}
 
--- the labels of a derivation: its parenthesised string without the special symbols, one label for each row
+-- the labels of a derivation: its parenthesised string without the special symbols, one label for
+-- each row
 unfoldable pub word : {k : Rank} → (t : Tree k) → Derivation t → List ℕ
 unfolding Derivation flatMap
 word (one b) d = word b d
@@ -29,8 +31,10 @@ word dollar d = []
 word empty d = []
 word (group p) d = word p d
 
--- A round that takes no row is left in the language only as the last round, or at one of the positions 1 to lo - 1 of a quantifier with lower bound lo: so the
--- first round, where another follows, takes a row or stands at such a position; the same holds of the rounds behind it, whose positions count one less.
+-- A round that takes no row is left in the language only as the last round, or at one of the
+-- positions 1 to lo - 1 of a quantifier with lower bound lo: so the first round, where another
+-- follows, takes a row or stands at such a position; the same holds of the rounds behind it, whose
+-- positions count one less.
 unfoldable pub emptyLate : {A : Type 0} → (A → List ℕ) → ℕ → List A → Bool
 emptyLate f lo [] = true
 emptyLate f lo (d ∷ []) = true
@@ -52,15 +56,17 @@ allowed dollar d = true
 allowed empty d = true
 allowed (group p) d = allowed p d
 
--- the match that the clause prefers: as `Preferred`, among the derivations that it leaves in the language
+-- the match that the clause prefers: as `Preferred`, among the derivations that it leaves in the
+-- language
 pub record Preferred627 {k : Rank} (t : Tree k) (holds : ℕ → ℕ → Bool) (n i j : ℕ) (w : List ℕ) : Type 0 where
   pub derivation : Derivation t
   pub kept : allowed t derivation ≡ true
   pub parses : Parses t holds n derivation i j w
   pub greatest : (e : Derivation t) (j′ : ℕ) (w′ : List ℕ) → allowed t e ≡ true → Parses t holds n e i j′ w′ → Prefers t e derivation → ⊥
 
--- No quantifier over a body that can take no row allows an optional round behind another round: its upper bound is at most its lower bound, or
--- at most 1. The law `all-allowed` (crates/laws, EmptyRounds) says that clause 6.2.7 then leaves nothing out.
+-- No quantifier over a body that can take no row allows an optional round behind another round: its
+-- upper bound is at most its lower bound, or at most 1. The law `all-allowed` (crates/laws,
+-- EmptyRounds) says that clause 6.2.7 then leaves nothing out.
 unfoldable pub atMostOne : ℕ → Option ℕ → Bool
 atMostOne lo none = false
 atMostOne lo (some hi) = leb hi lo || leb hi 1

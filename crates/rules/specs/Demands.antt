@@ -1,5 +1,7 @@
--- The tender's demands 2 and 3 for an accepted search, in the words of the definitions. `demands` (crates/laws) proves them for every query, all rows
--- and all lent buffers with which a search is accepted, for every skip mode and every allowance of steps, whether it ends as done, stopped or halted.
+-- The tender's demands 2 and 3 for an accepted search, in the words of the definitions. `demands`
+-- (crates/laws) proves them for every query, all rows and all lent buffers with which a search is
+-- accepted, for every skip mode and every allowance of steps, whether it ends as done, stopped or
+-- halted.
 use mathlib.Core.Path.{_≡_}
 use mathlib.Core.Bool.{true, false}
 use mathlib.Core.List.{List}
@@ -20,7 +22,8 @@ use Rattle.rules.specs.Answers.{Task, taskOf, letterHolds, Buffers, walk
 
 -- ---- demand 2
 
--- a match at the start i, which is the path of the first success there, has its end at j and the labels w
+-- a match at the start i, which is the path of the first success there, has its end at j and the
+-- labels w
 abbrev pub MatchAt : Task → ℕ → ℕ → List ℕ → Type 0
 MatchAt t i j w =
     (path : List ℕ) × ((plainFrom (letterHolds t) (t .table .n) (t .places) i ≡ some path) × (endOf (length (t .places)) path ≡ j) × (labels (t .places) path ≡ w))
@@ -29,12 +32,14 @@ MatchAt t i j w =
 pub record Demand2 (p : Tree pattern) (t : Task) (nums labs : ℕ) (r : Swept Kept) : Type 0 where
   -- a start has a match exactly if some reading of the pattern exists there
   pub exists : (i : ℕ) → ((path : List ℕ) × (plainFrom (letterHolds t) (t .table .n) (t .places) i ≡ some path)) ↔ SomeReading p (letterHolds t) (t .table .n) i
-  -- the match is the preferred one: its end and its labels are those of the greatest derivation that reads there
+  -- the match is the preferred one: its end and its labels are those of the greatest derivation
+  -- that reads there
   pub preferred : (i j : ℕ) (w : List ℕ) → MatchAt t i j w ↔ Preferred p (letterHolds t) (t .table .n) i j w
   -- and so a reading
   pub reads : (i j : ℕ) (w : List ℕ) → Preferred p (letterHolds t) (t .table .n) i j w → Reads p (letterHolds t) (t .table .n) i j w
-  -- the matches that preferment gives: the preferred ones at the starts that the skip mode lets us try, in order, each with its labels, up to the one that
-  -- does not fit or that names no next start
+  -- the matches that preferment gives: the preferred ones at the starts that the skip mode lets us
+  -- try, in order, each with its labels, up to the one that does not fit or that names no next
+  -- start
   pub all : List (ℕ × List ℕ)
   pub last : End (ℕ × List ℕ)
   pub report : Reports p (letterHolds t) (t .table .n) (t .skip) (fits nums labs (t .measures)) 0 0 0 all last
@@ -47,19 +52,22 @@ pub record Demand2 (p : Tree pattern) (t : Task) (nums labs : ℕ) (r : Swept Ke
 
 -- ---- demand 3
 
--- for a task, an account of the pairs of so many rows, the search r by the counted walk and b by plain backtracking
+-- for a task, an account of the pairs of so many rows, the search r by the counted walk and b by
+-- plain backtracking
 pub record Demand3 (t : Task) (largest : ℕ) (r : Swept Kept) (b : Swept (Unit {0})) : Type 0 where
   -- with skip past last row the steps are at most 2P(n+1)
   pub bound : t .skip ≡ pastLast → r .state .1 ≤ 2 * pairs (length (t .places)) (t .table .n)
   -- in every skip mode they are at most P n (n+3) / 2
   pub bound-each : 2 * r .state .1 ≤ length (t .places) * (t .table .n * (t .table .n + 3))
-  -- the steps are the failed pairs plus the pairs on all paths found, path by path, plus the pairs still open where the walk has halted
+  -- the steps are the failed pairs plus the pairs on all paths found, path by path, plus the pairs
+  -- still open where the walk has halted
   pub sum : r .state .1 ≡ countTrue (r .state .0) + pathPairs (foundIn r) + length (openOf (r .end))
   -- from a failed pair there is no reading of the rest
   pub failed : (x : ℕ) → getD (r .state .0) x false ≡ true → (path : List ℕ) → IsPath (pairWays (letterHolds t) (t .table .n) (t .places)) x path → ⊥
   -- every pair is kept account of
   pub pairs-kept : length (r .state .0) ≡ pairs (length (t .places)) largest
-  -- the matches and the end are those of plain backtracking; where the walk has halted, its matches are the first of them
+  -- the matches and the end are those of plain backtracking; where the walk has halted, its matches
+  -- are the first of them
   pub like-all : Finished (r .end) → (r .matches ≡ b .matches) × (r .end ≡ b .end)
   pub like-first : Begins (r .matches) (b .matches)
 
@@ -73,7 +81,8 @@ pub record Demands (a : Option ℕ) (q : List ℕ) (rows : List ℤ) (lent : Buf
   pub demand3 : Demand3 (taskOf q rows) (taskOf q rows .table .n) (walkWithin a q rows lent) (plainOf q rows lent)
   -- document 01's search does not halt
   pub finished : a ≡ none → Finished (walkWithin a q rows lent .end)
-  -- where the walk has not halted, the answer, the counts and both report buffers are those of plain backtracking
+  -- where the walk has not halted, the answer, the counts and both report buffers are those of
+  -- plain backtracking
   pub like-plain : Finished (walkWithin a q rows lent .end) → reportWithin a q rows lent ≡ plainReport q rows lent
   -- the failed pairs are exactly those noted, and spare bits are 0
   pub noted : (x : ℕ) → x < 8 * bytesFor (length (walkWithin a q rows lent .state .0))

@@ -1,5 +1,6 @@
--- Document 01, "Pattern language": trees, their tokens, and the texts that spell them; then what can take no row. A text is in the
--- language exactly if some tree is `Written` in it. No reading of a text is described here.
+-- Document 01, "Pattern language": trees, their tokens, and the texts that spell them; then what
+-- can take no row. A text is in the language exactly if some tree is `Written` in it. No reading of
+-- a text is described here.
 use mathlib.Core.Path.{_≡_}
 use mathlib.Core.Bool.{Bool, true, false, _&&_, _||_}
 use mathlib.Core.List.{List, [], _∷_, _++_}
@@ -37,7 +38,8 @@ upper (atLeast n) = none
 upper (atMost m) = some m
 upper (between n m) = some m
 
--- bounds are 0 to 99; an upper bound is at least 1 and at least the lower, and in `{n}` n is at least 1
+-- bounds are 0 to 99; an upper bound is at least 1 and at least the lower, and in `{n}` n is at
+-- least 1
 unfoldable pub InBounds : Form → Type 0
 InBounds star = Unit {0}
 InBounds plus = Unit {0}
@@ -51,9 +53,10 @@ InBounds (between n m) = (1 ≤ m) × (n ≤ m) × (m ≤ 99)
 pub data Rank : Type 0 where
   pattern branch factor primary : Rank
 
--- A pattern is one or more branches parted by `|`: `one` or `more`. A branch is one or more factors: `last` or `next`. A factor is a
--- primary and at most one quantifier: `bare`, or `times` with its form and whether it is reluctant. Primaries are a letter, `^`, `$`,
--- `()`, or a pattern in parentheses.
+-- A pattern is one or more branches parted by `|`: `one` or `more`. A branch is one or more
+-- factors: `last` or `next`. A factor is a primary and at most one quantifier: `bare`, or `times`
+-- with its form and whether it is reluctant. Primaries are a letter, `^`, `$`, `()`, or a pattern
+-- in parentheses.
 pub data Tree : Rank → Type 0 where
   one : Tree branch → Tree pattern
   more : Tree branch → Tree pattern → Tree pattern
@@ -67,7 +70,8 @@ pub data Tree : Rank → Type 0 where
 
 -- ---- tokens
 
--- each letter, anchor, parenthesis, `|` and quantifier, the braces with what they hold and the reluctant mark, is one token
+-- each letter, anchor, parenthesis, `|` and quantifier, the braces with what they hold and the
+-- reluctant mark, is one token
 pub data Token : Type 0 where
   aLetter : ℕ → Token
   aCaret aDollar opening closing aBar : Token
@@ -93,7 +97,8 @@ tokens (group p) ts = opening ∷ tokens p (closing ∷ ts)
 unfoldable pub digits : ℕ → List ℕ → List ℕ
 digits n s = pick (ltb n 10) ((48 + n) ∷ s) ((48 + n / 10) ∷ (48 + n % 10) ∷ s)
 
--- a quantifier without its reluctant mark, then other bytes: * is 42, + 43, ? 63, { 123, comma 44, } 125
+-- a quantifier without its reluctant mark, then other bytes: * is 42, + 43, ? 63, { 123, comma 44,
+-- } 125
 unfoldable pub mark : Form → List ℕ → List ℕ
 unfolding digits
 mark star s = 42 ∷ s
@@ -104,7 +109,8 @@ mark (atLeast n) s = 123 ∷ digits n (44 ∷ 125 ∷ s)
 mark (atMost m) s = 123 ∷ 44 ∷ digits m (125 ∷ s)
 mark (between n m) s = 123 ∷ digits n (44 ∷ digits m (125 ∷ s))
 
--- a token, then other bytes: ^ is 94, $ 36, ( 40, ) 41, | 124; a `?` directly behind a quantifier makes it reluctant
+-- a token, then other bytes: ^ is 94, $ 36, ( 40, ) 41, | 124; a `?` directly behind a quantifier
+-- makes it reluctant
 unfoldable pub spell : Token → List ℕ → List ℕ
 unfolding mark
 spell (aLetter c) s = c ∷ s
@@ -155,7 +161,8 @@ Laid (t ∷ ts) s =
     (n : ℕ) × (rest : List ℕ) × (s ≡ spell t (spaces n rest)) × (Proper t)
     × (lettered t ≡ true → letterFirst ts ≡ true → 1 ≤ n) × (Laid ts rest)
 
--- The grammar: p is a tree of the text. Spaces may stand between tokens and at either end, and nowhere inside one.
+-- The grammar: p is a tree of the text. Spaces may stand between tokens and at either end, and
+-- nowhere inside one.
 pub record Written (p : Tree pattern) (text : List ℕ) : Type 0 where
   pub front : ℕ
   pub rest : List ℕ
@@ -164,12 +171,13 @@ pub record Written (p : Tree pattern) (text : List ℕ) : Type 0 where
 
 -- ---- where a text is wrong (request R-1)
 
--- a text begins a text of the language: with some bytes behind it, or none, a tree is written in it. Neither the text's length nor the limit
--- of parentheses plays a part.
+-- a text begins a text of the language: with some bytes behind it, or none, a tree is written in
+-- it. Neither the text's length nor the limit of parentheses plays a part.
 unfoldable pub Begins : List ℕ → Type 0
 Begins s = (v : List ℕ) × (p : Tree pattern) × Written p (s ++ v)
 
--- the text is wrong at byte k: what stands before k, and each beginning of that, begins a text of the language, and with byte k it begins none
+-- the text is wrong at byte k: what stands before k, and each beginning of that, begins a text of
+-- the language, and with byte k it begins none
 pub record WrongAt (text : List ℕ) (k : ℕ) : Type 0 where
   pub inside : k < length text
   pub begins : (j : ℕ) → j ≤ k → Begins (take j text)
@@ -182,8 +190,8 @@ pub record Unfinished (text : List ℕ) : Type 0 where
 
 -- ---- what a pattern can do
 
--- Can take no row: `^`, `$`, `()`; a sequence whose factors all can; an alternation with a branch that can; a factor with lower bound
--- 0 or a body that can.
+-- Can take no row: `^`, `$`, `()`; a sequence whose factors all can; an alternation with a branch
+-- that can; a factor with lower bound 0 or a body that can.
 unfoldable pub nullable : {k : Rank} → Tree k → Bool
 unfolding lower
 nullable (one b) = nullable b

@@ -1,4 +1,5 @@
--- Document 01, "Places and preferment", on places: how a pattern is unrolled into numbered places, and P.
+-- Document 01, "Places and preferment", on places: how a pattern is unrolled into numbered places,
+-- and P.
 use mathlib.Core.List.{List, [], _∷_, _++_}
 use mathlib.Core.Bool.{Bool, true, false}
 use mathlib.Core.Option.{Option, none, some}
@@ -7,8 +8,9 @@ use Rattle.rules.specs.Language.{Form, lower, upper, Rank, pattern, bran
 
 -- ---- unrolled
 
--- A pattern unrolled: what is left of a quantifier is copies of its body and forks. `uOpt` is a fork and a copy that may be left out;
--- `uStar` is a fork and a copy that leads back to that fork. Their Bool: reluctant, so leaving is tried first.
+-- A pattern unrolled: what is left of a quantifier is copies of its body and forks. `uOpt` is a
+-- fork and a copy that may be left out; `uStar` is a fork and a copy that leads back to that fork.
+-- Their Bool: reluctant, so leaving is tried first.
 mutual
   pub data Unrolled : Type 0 where
     uLetter : ℕ → Unrolled
@@ -27,19 +29,21 @@ unfoldable pub copies : ℕ → Unrolled → Unrolled → Unrolled
 copies zero t r = r
 copies (suc n) t r = uSeq t (copies n t r)
 
--- n times a fork and a copy. Each fork holds all that follows it, so leaving at any of them goes straight behind the whole factor.
+-- n times a fork and a copy. Each fork holds all that follows it, so leaving at any of them goes
+-- straight behind the whole factor.
 unfoldable pub options : ℕ → Bool → Unrolled → Unrolled
 options zero lazy t = uEmpty
 options (suc n) lazy t = uOpt lazy (uSeq t (options n lazy t))
 
--- behind lo copies: hi - lo times a fork and a copy; or, unbounded, a fork and a copy that leads back to it
+-- behind lo copies: hi - lo times a fork and a copy; or, unbounded, a fork and a copy that leads
+-- back to it
 unfoldable pub behind : Option ℕ → ℕ → Bool → Unrolled → Unrolled
 unfolding options
 behind none lo lazy t = uStar lazy t
 behind (some hi) lo lazy t = options (hi - lo) lazy t
 
--- `{n,m}` is n copies of the body, then m - n times a fork and a copy; an unbounded quantifier with lower bound n is n copies, then
--- a fork and a copy that leads back to that fork.
+-- `{n,m}` is n copies of the body, then m - n times a fork and a copy; an unbounded quantifier with
+-- lower bound n is n copies, then a fork and a copy that leads back to that fork.
 unfoldable pub repeated : Form → Bool → Unrolled → Unrolled
 unfolding copies behind lower upper
 repeated f lazy t = copies (lower f) t (behind (upper f) (lower f) lazy t)
@@ -147,8 +151,9 @@ places t = code t 0 (size t) ++ (pEnd ∷ [])
 
 -- ---- P
 
--- P counts them all, END included. It is told on the tree itself, so that it can be computed where the places are too many to list; the
--- law `places-counted` (crates/laws, Counting) says that it is the length of the list of places.
+-- P counts them all, END included. It is told on the tree itself, so that it can be computed where
+-- the places are too many to list; the law `places-counted` (crates/laws, Counting) says that it is
+-- the length of the list of places.
 
 -- the places of lo to hi rounds of a body with c places
 unfoldable pub roundPlaces : ℕ → Option ℕ → ℕ → ℕ

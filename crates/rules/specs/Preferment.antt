@@ -1,5 +1,6 @@
--- ISO/IEC 19075-5, clause 6.2, on the pattern as it is written: the parenthesised strings of a pattern (its derivations), the rows that
--- one reads, and their order of preferment; then the whole report told by that order. No place, walk or search is named here.
+-- ISO/IEC 19075-5, clause 6.2, on the pattern as it is written: the parenthesised strings of a
+-- pattern (its derivations), the rows that one reads, and their order of preferment; then the whole
+-- report told by that order. No place, walk or search is named here.
 use mathlib.Core.Path.{_≡_}
 use mathlib.Core.List.{List, [], _∷_, _++_}
 use mathlib.Core.Bool.{Bool, true, false}
@@ -13,7 +14,8 @@ use Rattle.rules.specs.Search.{End, done, full, stuck, Skip, nextStart}
 
 -- ---- derivations
 
--- what the strings of the parenthesised language tell apart: the branch taken, and what is derived in each round
+-- what the strings of the parenthesised language tell apart: the branch taken, and what is derived
+-- in each round
 unfoldable pub Derivation : {k : Rank} → Tree k → Type 0
 unfolding lower upper
 Derivation (one b) = Derivation b
@@ -40,7 +42,8 @@ abbrev pub Either : {A B : Type 0} → (A → Type 0) → (B → Type 0) → A �
 Either R S (inl d) = R d
 Either R S (inr e) = S e
 
--- d reads the rows i to j, not j itself, with the labels w, every letter holding at its row and every anchor at its position
+-- d reads the rows i to j, not j itself, with the labels w, every letter holding at its row and
+-- every anchor at its position
 unfoldable pub Parses : {k : Rank} → (t : Tree k) → (ℕ → ℕ → Bool) → ℕ → Derivation t → ℕ → ℕ → List ℕ → Type 0
 unfolding Derivation InTurn
 Parses (one b) holds n d i j w = Parses b holds n d i j w
@@ -68,8 +71,8 @@ FirstBranch P Q (inr d) (inr e) = Q d e
 unfoldable pub Lexicographic : {A B : Type 0} → (A → A → Type 0) → (B → B → Type 0) → A × B → A × B → Type 0
 Lexicographic P Q d e = P (d .0) (e .0) ⊎ ((d .0 ≡ e .0) × Q (d .1) (e .1))
 
--- 6.2.3, quantification: round by round first; where one is the beginning of the other, a greedy quantifier (lazy is false) prefers the
--- longer and a reluctant one the shorter
+-- 6.2.3, quantification: round by round first; where one is the beginning of the other, a greedy
+-- quantifier (lazy is false) prefers the longer and a reluctant one the shorter
 unfoldable pub RoundByRound : {A : Type 0} → Bool → (A → A → Type 0) → List A → List A → Type 0
 RoundByRound lazy P [] [] = ⊥
 RoundByRound lazy P (d ∷ ds) [] = lazy ≡ false
@@ -97,7 +100,8 @@ Prefers (group p) d e = Prefers p d e
 abbrev pub NoneParses : {k : Rank} → (t : Tree k) → (ℕ → ℕ → Bool) → ℕ → ℕ → Type 0
 NoneParses t holds n i = (e : Derivation t) (j : ℕ) (w : List ℕ) → Parses t holds n e i j w → ⊥
 
--- some derivation reads from i to j with the labels w, and none that reads from i, to whatever end, is preferred to it
+-- some derivation reads from i to j with the labels w, and none that reads from i, to whatever end,
+-- is preferred to it
 pub record Preferred {k : Rank} (t : Tree k) (holds : ℕ → ℕ → Bool) (n i j : ℕ) (w : List ℕ) : Type 0 where
   pub derivation : Derivation t
   pub parses : Parses t holds n derivation i j w
@@ -105,9 +109,10 @@ pub record Preferred {k : Rank} (t : Tree k) (holds : ℕ → ℕ → Bool) (n i
 
 -- ---- the whole report
 
--- `Reports t holds n skip room i m l ms end`: from the start i on, behind m matches with l labels, the matches written are ms, start and
--- labels each, and `end` tells how it ends: done, at the match that does not fit, or behind a match that names no next start. `room m l w`: a match
--- with the labels w fits behind m matches with l labels.
+-- `Reports t holds n skip room i m l ms end`: from the start i on, behind m matches with l labels,
+-- the matches written are ms, start and labels each, and `end` tells how it ends: done, at the
+-- match that does not fit, or behind a match that names no next start. `room m l w`: a match with
+-- the labels w fits behind m matches with l labels.
 pub data Reports (t : Tree pattern) (holds : ℕ → ℕ → Bool) (n : ℕ) (skip : Skip) (room : ℕ → ℕ → List ℕ → Bool) : ℕ → ℕ → ℕ → List (ℕ × List ℕ) → End (ℕ × List ℕ) → Type 0 where
   finished : {i m l : ℕ} → n ≤ i → Reports t holds n skip room i m l [] done
   unmatched : {i m l : ℕ} {ms : List (ℕ × List ℕ)} {end : End (ℕ × List ℕ)} → i < n → NoneParses t holds n i → Reports t holds n skip room (suc i) m l ms end

@@ -1,5 +1,5 @@
--- Document 01, the last paragraph of "Report": what the program prints, as a function from the bytes of standard input to the bytes of standard
--- output.
+-- Document 01, the last paragraph of "Report": what the program prints, as a function from the
+-- bytes of standard input to the bytes of standard output.
 use mathlib.Core.Bool.{not, _||_}
 use mathlib.Core.List.{List, [], _∷_, _++_}
 use mathlib.Core.Option.{Option, none, some}
@@ -21,7 +21,8 @@ unfoldable pub digitsOf : ℕ → ℕ → List ℕ
 digitsOf zero n = []
 digitsOf (suc k) n = pick (ltb n 10) ((48 + n) ∷ []) (digitsOf k (n / 10) ++ ((48 + n % 10) ∷ []))
 
--- all digits of a number: a number below 10 ^ 20, as every number here is, has at most 20, and any number has no more than one more than itself
+-- all digits of a number: a number below 10 ^ 20, as every number here is, has at most 20, and any
+-- number has no more than one more than itself
 unfoldable pub decimal : ℕ → List ℕ
 unfolding digitsOf
 decimal n = digitsOf (pick (ltb n 100000000000000000000) 20 (suc n)) n
@@ -51,7 +52,8 @@ unfolding measureText measured
 measuresText t row ls [] = []
 measuresText t row ls (m ∷ ms) = 32 ∷ (measureText (measured t row ls m) ++ measuresText t row ls ms)
 
--- a match's line: the number, the first row, the rows taken, the labels and the measures, parted by one space; every line ends in one line feed (10)
+-- a match's line: the number, the first row, the rows taken, the labels and the measures, parted by
+-- one space; every line ends in one line feed (10)
 unfoldable pub matchLine : Table → List Measure → ℕ → ℕ → List ℕ → List ℕ
 unfolding decimal labelsText measuresText
 matchLine t ms k row ls =
@@ -87,8 +89,8 @@ unfoldable pub rowsOf : List ℕ → List ℤ
 unfolding tabulate le32 signed32
 rowsOf r = tabulate (length r / 4) (λ k. signed32 (le32 r (4 * k)))
 
--- Answers 1 to 10, where row bytes that are no multiple of 4 are a 10; then more than 16,000 pairs are too large; then the search, with 8,192 report
--- numbers and 65,536 label bytes lent.
+-- Answers 1 to 10, where row bytes that are no multiple of 4 are a 10; then more than 16,000 pairs
+-- are too large; then the search, with 8,192 report numbers and 65,536 label bytes lent.
 unfoldable pub printedFor : List ℕ → List ℕ → List ℕ
 unfolding refusedText tooLarge searchText roomAnswer badRows pairsOf taskOf walked rowsOf
 printedFor q r =
@@ -97,8 +99,8 @@ printedFor q r =
     (pick (ltb 16000 (pairsOf q (rowsOf r))) tooLarge
     (searchText (taskOf q (rowsOf r)) (walked (taskOf q (rowsOf r)) 8192 65536)))
 
--- In this order: a missing or cut length is a 1; a length above 4,096 is too large; fewer query bytes than the length are a 1; more than 32,768 row bytes
--- are too large.
+-- In this order: a missing or cut length is a 1; a length above 4,096 is too large; fewer query
+-- bytes than the length are a 1; more than 32,768 row bytes are too large.
 unfoldable pub printed : List ℕ → List ℕ
 unfolding printedFor le16
 printed s =

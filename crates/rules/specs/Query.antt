@@ -1,6 +1,6 @@
--- Document 01, "Rows and query records", on the query's bytes: its records or that it is cut, the kinds and their order, the
--- fields of each kind, and the parts that a query is made of. The tests for answers 1, 2, 3 and 8 stand here, each over the whole
--- query.
+-- Document 01, "Rows and query records", on the query's bytes: its records or that it is cut, the
+-- kinds and their order, the fields of each kind, and the parts that a query is made of. The tests
+-- for answers 1, 2, 3 and 8 stand here, each over the whole query.
 use mathlib.Core.Bool.{Bool, true, false, not, _&&_, _||_}
 use mathlib.Core.List.{List, [], _∷_}
 use Prim.Native.Nat.{ℕ, zero, suc, _+_, _*_}
@@ -13,14 +13,15 @@ use Rattle.rules.specs.Rows.{Comparison}
 
 -- ---- records
 
--- A record is its body's length (2 bytes, the body alone), its kind (2 bytes) and its body. It is told by its kind, where its
--- body starts and how long that is.
+-- A record is its body's length (2 bytes, the body alone), its kind (2 bytes) and its body. It is
+-- told by its kind, where its body starts and how long that is.
 pub record Record : Type 0 where
   pub kind : ℕ
   pub start : ℕ
   pub len : ℕ
 
--- a whole record stands at this index: 4 bytes of header are left, and the body does not run past the end
+-- a whole record stands at this index: 4 bytes of header are left, and the body does not run past
+-- the end
 unfoldable pub wholeAt : List ℕ → ℕ → Bool
 unfolding le16
 wholeAt s at = leb (at + 4) (length s) && leb (at + 4 + le16 s at) (length s)
@@ -61,15 +62,16 @@ unfoldable pub records : List ℕ → List Record
 unfolding recordsFrom
 records s = recordsFrom (length s) s 0
 
--- Answer 1: fewer than 4 header bytes are left, or a body runs past the end. Where the records take all bytes, and so for an
--- empty query, it is an end and not a 1.
+-- Answer 1: fewer than 4 header bytes are left, or a body runs past the end. Where the records take
+-- all bytes, and so for an empty query, it is an end and not a 1.
 unfoldable pub cut : List ℕ → Bool
 unfolding behindFrom
 cut s = ltb (behindFrom (length s) s 0) (length s)
 
 -- ---- kinds
 
--- a list of kinds is: one k, then what `rest` says; up to m of kind k, then what `rest` says; nothing more
+-- a list of kinds is: one k, then what `rest` says; up to m of kind k, then what `rest` says;
+-- nothing more
 unfoldable pub oneOf : ℕ → (List ℕ → Bool) → List ℕ → Bool
 oneOf k rest [] = false
 oneOf k rest (x ∷ ks) = eqb x k && rest ks
@@ -127,13 +129,14 @@ unfoldable pub leftFits : ℕ → ℕ → ℕ → ℕ → Bool
 unfolding offsetFits inRange
 leftFits columns column offset operator = ltb column columns && (offsetFits offset && inRange 1 6 operator)
 
--- its right side: with right kind 0 column and offset are 0; with right kind 1 they are a column below the shape's count and an offset
+-- its right side: with right kind 0 column and offset are 0; with right kind 1 they are a column
+-- below the shape's count and an offset
 unfoldable pub rightFits : ℕ → ℕ → ℕ → ℕ → Bool
 unfolding offsetFits
 rightFits columns kind column offset = pick (eqb kind 0) (eqb column 0 && eqb offset 0) (eqb kind 1 && (ltb column columns && offsetFits offset))
 
--- the 12 bytes of a comparison from index p on: left column, left offset, operator, right kind, right column, right offset, two
--- reserved bytes, and a number of 4 bytes, which may be any
+-- the 12 bytes of a comparison from index p on: left column, left offset, operator, right kind,
+-- right column, right offset, two reserved bytes, and a number of 4 bytes, which may be any
 unfoldable pub comparisonFits : List ℕ → ℕ → ℕ → Bool
 unfolding leftFits rightFits
 comparisonFits s columns p =
@@ -150,12 +153,14 @@ defineFits s columns r =
     && (inRange 1 8 (field s r 1)
     && everyBelow (field s r 1) (λ k. comparisonFits s columns (r .start + 2 + k * 12))))
 
--- kind 4: skip, 0 past the last row or 1 to the next row, with a byte that is 0; or 2 to the first or 3 to the last row with a letter (R-2)
+-- kind 4: skip, 0 past the last row or 1 to the next row, with a byte that is 0; or 2 to the first
+-- or 3 to the last row with a letter (R-2)
 unfoldable pub skipFits : List ℕ → Record → Bool
 unfolding field isLetter
 skipFits s r = eqb (r .len) 2 && pick (leb (field s r 0) 1) (eqb (field s r 1) 0) (leb (field s r 0) 3 && isLetter (field s r 1))
 
--- kind 5: a function 1 to 7 (R-5), a letter or 0 for all rows, a column below the shape's count (0 for COUNT, function 1), and a reserved byte
+-- kind 5: a function 1 to 7 (R-5), a letter or 0 for all rows, a column below the shape's count (0
+-- for COUNT, function 1), and a reserved byte
 unfoldable pub functionFits : ℕ → ℕ → ℕ → ℕ → Bool
 unfolding isLetter inRange
 functionFits columns function letter column =
@@ -246,7 +251,8 @@ unfolding measureAt
 measuresFrom s [] = []
 measuresFrom s (r ∷ rs) = keep (eqb (r .kind) 5) (measureAt s (r .start)) (measuresFrom s rs)
 
--- what a query says: columns, pattern text, the comparisons of each letter, the skip mode and its letter (0 for none), the measures
+-- what a query says: columns, pattern text, the comparisons of each letter, the skip mode and its
+-- letter (0 for none), the measures
 pub record Parts : Type 0 where
   pub columns : ℕ
   pub text : List ℕ

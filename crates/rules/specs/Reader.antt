@@ -1,8 +1,10 @@
--- Not a rule of the paper: how the tree of a text is computed, so that definitions which need it can be run. The law `tree-exactly`
--- (crates/laws, Grammar) says that `treeOf text` is `some p` exactly if p is `Written` in the text, so nothing below has to be believed.
--- Recursive descent over the bytes: each reader begins at its first byte and ends behind its last token and the spaces there. A reader that
--- finds nothing stops at the first byte with which no text of the language begins that way, or at the end; `wrong-exactly` and `incomplete-exactly`
--- (crates/laws, Stops) say so of `stopOf text`.
+-- Not a rule of the paper: how the tree of a text is computed, so that definitions which need it
+-- can be run. The law `tree-exactly` (crates/laws, Grammar) says that `treeOf text` is `some p`
+-- exactly if p is `Written` in the text, so nothing below has to be believed. Recursive descent
+-- over the bytes: each reader begins at its first byte and ends behind its last token and the
+-- spaces there. A reader that finds nothing stops at the first byte with which no text of the
+-- language begins that way, or at the end; `wrong-exactly` and `incomplete-exactly` (crates/laws,
+-- Stops) say so of `stopOf text`.
 use mathlib.Core.Bool.{Bool, true, false}
 use mathlib.Core.List.{List, [], _∷_}
 use mathlib.Core.Option.{Option, none, some}
@@ -12,7 +14,8 @@ use lib.ListN.{length}
 use Rattle.rules.specs.Basics.{pick, inRange, isLetter}
 use Rattle.rules.specs.Language.{Form, star, plus, opt, exactly, atLeast, atMost, between, Rank, pattern, branch, factor, primary, Tree, one, more, last, next, bare, times, letter, caret, dollar, empty, group}
 
--- what a reader finds: a tree and the bytes behind it, or nothing, and the bytes from the one at which it stops
+-- what a reader finds: a tree and the bytes behind it, or nothing, and the bytes from the one at
+-- which it stops
 pub data Reading (A : Type 0) : Type 0 where
   got : A → List ℕ → Reading A
   bad : List ℕ → Reading A
@@ -52,8 +55,9 @@ number s =
     (got (peek s - 48) (rest s)))
     (bad s)
 
--- An upper bound: a number that is 1 at least and n at least, n being 0 to 99. Its first digit is 1 to 9 and begins some number that is n at least,
--- or else it is wrong there. A number that is below n all the same is wrong at u, behind its first digit: at its second, or where it has none.
+-- An upper bound: a number that is 1 at least and n at least, n being 0 to 99. Its first digit is 1
+-- to 9 and begins some number that is n at least, or else it is wrong there. A number that is below
+-- n all the same is wrong at u, behind its first digit: at its second, or where it has none.
 unfoldable pub enough : ℕ → List ℕ → Reading ℕ → Reading ℕ
 enough n u (bad v) = bad v
 enough n u (got m v) = pick (leb n m) (got m v) (bad u)
@@ -71,7 +75,8 @@ bounded (atLeast n) = leb n 99
 bounded (atMost m) = pick (leb 1 m) (leb m 99) false
 bounded (between n m) = pick (leb 1 m) (pick (leb n m) (leb m 99) false) false
 
--- at a quantifier's place: none, one with its reluctant mark and the bytes behind it, or one that is broken, and the bytes from there on
+-- at a quantifier's place: none, one with its reluctant mark and the bytes behind it, or one that
+-- is broken, and the bytes from there on
 pub data Marked : Type 0 where
   unmarked : Marked
   broken : List ℕ → Marked

@@ -1,5 +1,5 @@
--- Document 01, "Places and preferment": "some reading exists". The readings of a tree over sets of rows (for each letter the rows at
--- which it holds), without order, place or search.
+-- Document 01, "Places and preferment": "some reading exists". The readings of a tree over sets of
+-- rows (for each letter the rows at which it holds), without order, place or search.
 use mathlib.Core.Path.{_≡_}
 use mathlib.Core.List.{List, [], _∷_, _++_}
 use mathlib.Core.Bool.{Bool, true}
@@ -18,7 +18,8 @@ unfoldable pub Rounds : (ℕ → ℕ → List ℕ → Type 0) → ℕ → ℕ �
 Rounds R zero i j w = (j ≡ i) × (w ≡ [])
 Rounds R (suc c) i k w = (j : ℕ) × (u : List ℕ) × (v : List ℕ) × (R i j u) × (Rounds R c j k v) × (w ≡ u ++ v)
 
--- t reads the rows i to j, not j itself, with the labels w. `holds c i`: row i is in the set of letter c; n is the number of rows.
+-- t reads the rows i to j, not j itself, with the labels w. `holds c i`: row i is in the set of
+-- letter c; n is the number of rows.
 unfoldable pub Reads : {k : Rank} → Tree k → (ℕ → ℕ → Bool) → ℕ → ℕ → ℕ → List ℕ → Type 0
 unfolding Rounds lower upper
 Reads (one b) holds n i j w = Reads b holds n i j w

@@ -1,5 +1,5 @@
--- Document 01, "Report": measures, what one match appends to the numbers and the labels, when it fits, and what the notes and the trail hold
--- afterwards.
+-- Document 01, "Report": measures, what one match appends to the numbers and the labels, when it
+-- fits, and what the notes and the trail hold afterwards.
 use mathlib.Core.Bool.{Bool, false, _&&_, _||_}
 use mathlib.Core.List.{List, [], _∷_, _++_}
 use mathlib.Core.Option.{Option, none, some}
@@ -16,15 +16,15 @@ use Rattle.rules.specs.Search.{Match, labels}
 
 -- ---- measures
 
--- a measure is over the match's rows with its letter, or over all its rows (letter 0): the entries of its column there, in order. The labels
--- are those of the rows from `row` on.
+-- a measure is over the match's rows with its letter, or over all its rows (letter 0): the entries
+-- of its column there, in order. The labels are those of the rows from `row` on.
 unfoldable pub values : Table → Measure → ℕ → List ℕ → List ℤ
 unfolding entry
 values t m row [] = []
 values t m row (l ∷ ls) = keep (eqb (m .letter) 0 || eqb l (m .letter)) (entry t row (m .column)) (values t m (row + 1) ls)
 
--- a value joined to the result of those before it: 2 SUM the sum, 3 MIN the lower, 4 MAX the higher, 5 FIRST the earlier, 6 LAST the later.
--- No other function joins.
+-- a value joined to the result of those before it: 2 SUM the sum, 3 MIN the lower, 4 MAX the
+-- higher, 5 FIRST the earlier, 6 LAST the later. No other function joins.
 unfoldable pub joined : ℕ → ℤ → ℤ → ℤ
 joined f a b =
     pick (eqb f 2) (a +ℤ b)
@@ -71,12 +71,14 @@ unfolding twoOf measured
 measureNumbers t row ls [] = []
 measureNumbers t row ls (m ∷ ms) = twoOf (measured t row ls m) ++ measureNumbers t row ls ms
 
--- match number k (from 1), its first row (its start where it is empty), the rows taken, and the measures
+-- match number k (from 1), its first row (its start where it is empty), the rows taken, and the
+-- measures
 unfoldable pub matchNumbers : Table → List Measure → ℕ → ℕ → List ℕ → List ℤ
 unfolding measureNumbers
 matchNumbers t ms k row ls = pos k ∷ pos row ∷ pos (length ls) ∷ measureNumbers t row ls ms
 
--- the numbers of all matches, one match behind the other, where k matches come before them; and their labels
+-- the numbers of all matches, one match behind the other, where k matches come before them; and
+-- their labels
 unfoldable pub numbersOf : Table → List Measure → List Place → ℕ → List Match → List ℤ
 unfolding matchNumbers labels
 numbersOf t ms pl k [] = []
@@ -87,8 +89,8 @@ unfolding labels
 labelsOf pl [] = []
 labelsOf pl (x ∷ xs) = labels pl (x .path) ++ labelsOf pl xs
 
--- A match with these labels fits whole behind m matches with l labels: its numbers, 3 and 2 for each measure, in a room of `nums` numbers, and
--- its labels in a room of `labs` bytes.
+-- A match with these labels fits whole behind m matches with l labels: its numbers, 3 and 2 for
+-- each measure, in a room of `nums` numbers, and its labels in a room of `labs` bytes.
 unfoldable pub fits : ℕ → ℕ → List Measure → ℕ → ℕ → List ℕ → Bool
 fits nums labs ms m l ls = leb (suc m * (3 + 2 * length ms)) nums && leb (l + length ls) labs
 
@@ -112,7 +114,8 @@ unfoldable pub weigh : ℕ → (ℕ → Bool) → ℕ
 weigh zero f = 0
 weigh (suc k) f = weigh k f + pick (f k) (2 ^ k) 0
 
--- The notes for these failed pairs: bit x is 1 exactly if pair x has failed; spare bits of the last byte are 0. The law `noted` (crates/laws, Noted) says so.
+-- The notes for these failed pairs: bit x is 1 exactly if pair x has failed; spare bits of the last
+-- byte are 0. The law `noted` (crates/laws, Noted) says so.
 unfoldable pub notesOf : List Bool → List ℕ
 unfolding bytesFor weigh tabulate
 notesOf F = tabulate (bytesFor (length F)) (λ b. weigh 8 (λ j. getD F (8 * b + j) false))

@@ -1,5 +1,5 @@
--- Document 01, "Rows and query records", on rows and letters: a table of rows, a comparison at a row, and when a letter holds
--- at a row.
+-- Document 01, "Rows and query records", on rows and letters: a table of rows, a comparison at a
+-- row, and when a letter holds at a row.
 use mathlib.Core.Bool.{Bool, false, _&&_, _||_}
 use mathlib.Core.List.{List}
 use mathlib.Core.Option.{Option, none, some}
@@ -10,8 +10,8 @@ use lib.Signed.{ltZ, leZ}
 use lib.ListN.{length, getD}
 use Rattle.rules.specs.Basics.{pick, every}
 
--- The rows lie one after another, each of so many columns; n is how many rows there are. Rows and positions count from 0, and
--- position n is behind the last row.
+-- The rows lie one after another, each of so many columns; n is how many rows there are. Rows and
+-- positions count from 0, and position n is behind the last row.
 pub record Table : Type 0 where
   pub columns : ℕ
   pub n : ℕ
@@ -31,8 +31,9 @@ unfolding entry
 entryAt t (pos row) column = pick (ltb row (t .n)) (some (entry t row column)) none
 entryAt t (negsuc k) column = none
 
--- A comparison: a column read some rows before (PREV, offset below 0) or behind (NEXT, above 0), an operator, and a right side
--- that is a number (right kind 0) or such an entry plus a number (right kind 1).
+-- A comparison: a column read some rows before (PREV, offset below 0) or behind (NEXT, above 0), an
+-- operator, and a right side that is a number (right kind 0) or such an entry plus a number (right
+-- kind 1).
 pub record Comparison : Type 0 where
   pub left : ℕ
   pub leftOffset : ℤ
@@ -52,7 +53,8 @@ compares op a b =
     (pick (eqb op 5) (ltZ b a)
     (leZ b a)))))
 
--- The sum is exact and never wraps: it is a sum of whole numbers of any size. With an entry that is not there, it is not there.
+-- The sum is exact and never wraps: it is a sum of whole numbers of any size. With an entry that is
+-- not there, it is not there.
 unfoldable pub plusNumber : ℤ → Option ℤ → Option ℤ
 plusNumber k (some x) = some (x +ℤ k)
 plusNumber k none = none
@@ -73,7 +75,8 @@ unfoldable pub met : Table → ℕ → Comparison → Bool
 unfolding metBy entryAt rightSide
 met t row c = metBy (c .operator) (entryAt t (pos row +ℤ c .leftOffset) (c .left)) (rightSide t c row)
 
--- A letter holds at a row when all its comparisons are met. A letter without DEFINE has none, so it always holds.
+-- A letter holds at a row when all its comparisons are met. A letter without DEFINE has none, so it
+-- always holds.
 unfoldable pub holds : Table → ℕ → List Comparison → Bool
 unfolding met every
 holds t row cs = every (met t row) cs

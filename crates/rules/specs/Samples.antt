@@ -1,5 +1,6 @@
--- Document 02: small searches as tables, run on the definitions, one table for each request; and of strings that clause 6.2 of ISO/IEC 19075-5 prints,
--- which one is preferred. That the definitions agree with every line is proved in proofs/Samples.
+-- Document 02: small searches as tables, run on the definitions, one table for each request; and of
+-- strings that clause 6.2 of ISO/IEC 19075-5 prints, which one is preferred. That the definitions
+-- agree with every line is proved in proofs/Samples.
 use mathlib.Core.Bool.{Bool, true, false, _&&_}
 use mathlib.Core.List.{List, [], _∷_, _++_}
 use mathlib.Core.Logic.{inl, inr}
@@ -25,7 +26,8 @@ abbrev pub asksTo : String → ℕ → ℕ → List ℕ
 unfolding bytes
 asksTo text mode c = recordOf 1 (1 ∷ 0 ∷ []) ++ (recordOf 2 (bytes text) ++ recordOf 4 (mode ∷ c ∷ []))
 
--- a line of a search that stops behind its last match, as the letter labels no row of it or its first row
+-- a line of a search that stops behind its last match, as the letter labels no row of it or its
+-- first row
 abbrev pub stuckLine : List ℕ → List ℤ → ℕ → List (ℕ × List ℕ) → Line
 stuckLine q rows p ms = record { query = q; rows = rows; answer = 15; places = p; matches = ms; steps = none; numbers = none; output = none }
 
@@ -46,7 +48,8 @@ skips =
     ∷ stuckLine (asksTo "A" 2 65) (any 1) 2 (at 0 "A" ∷ [])
     -- after an empty match one row on
     ∷ unstepped (asksTo "A*?" 2 65) (any 3) 3 (at 0 "" ∷ at 1 "" ∷ at 2 "" ∷ [])
-    -- modes 0 and 1 demand 0, modes 2 and 3 a letter; there is no mode 4; a letter that is not in the pattern is 9
+    -- modes 0 and 1 demand 0, modes 2 and 3 a letter; there is no mode 4; a letter that is not in
+    -- the pattern is 9
     ∷ refusal (asksTo "A" 0 65) 2 3
     ∷ refusal (asksTo "A" 1 65) 2 3
     ∷ refusal (asksTo "A" 2 0) 2 3
@@ -64,8 +67,8 @@ fullFirst =
 
 -- ---- R-13, an allowance of steps
 
--- W1 takes 12 steps and finds its match with the eighth: an allowance, the answer, the matches, labels and steps returned, and how many pairs have
--- failed
+-- W1 takes 12 steps and finds its match with the eighth: an allowance, the answer, the matches,
+-- labels and steps returned, and how many pairs have failed
 pub record Allowed : Type 0 where
   pub allowance : ℕ
   pub answer : ℕ
@@ -162,7 +165,8 @@ averages =
     ∷ gives 6 [] none
     ∷ []
 
--- whole searches: AVG of all rows, of a letter's rows, of a letter without rows; there is no function 8
+-- whole searches: AVG of all rows, of a letter's rows, of a letter without rows; there is no
+-- function 8
 abbrev pub averageLine : List ℕ → List ℤ → ℕ → List (ℕ × List ℕ) → List ℤ → Line
 averageLine q rows p ms ns = record { query = q; rows = rows; answer = 0; places = p; matches = ms; steps = none; numbers = some ns; output = none }
 

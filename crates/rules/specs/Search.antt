@@ -1,5 +1,6 @@
--- Document 01, "Places and preferment", on starts: where attempts begin, how the search goes on behind a match, and the two whole searches,
--- by the counted walk and by plain backtracking, which take starts, write matches and answer by the same rules.
+-- Document 01, "Places and preferment", on starts: where attempts begin, how the search goes on
+-- behind a match, and the two whole searches, by the counted walk and by plain backtracking, which
+-- take starts, write matches and answer by the same rules.
 use mathlib.Core.List.{List, [], _∷_, _++_, map}
 use mathlib.Core.Bool.{Bool, true, false, not, _&&_}
 use mathlib.Core.Option.{Option, none, some}
@@ -29,8 +30,9 @@ unfoldable pub labels : List Place → List ℕ → List ℕ
 labels pl [] = []
 labels pl (x ∷ p) = labelOf (getD pl (placeOf (length pl) x) (pFork [])) (labels pl p)
 
--- how a search ends: done; at a match that does not fit whole; behind a match that is written and names no start to go on at; or unfinished, since
--- it halted in the attempt at this start, with these pairs still open (none where the attempt has not begun)
+-- how a search ends: done; at a match that does not fit whole; behind a match that is written and
+-- names no start to go on at; or unfinished, since it halted in the attempt at this start, with
+-- these pairs still open (none where the attempt has not begun)
 pub data End (M : Type 0) : Type 0 where
   done : End M
   full : M → End M
@@ -60,7 +62,8 @@ endOf P p = positionOf P (lastOf 0 p)
 
 -- ---- starts
 
--- the skip mode: past the last row (0), to the next row (1), to the first or to the last row with a letter (2 and 3, R-2)
+-- the skip mode: past the last row (0), to the next row (1), to the first or to the last row with a
+-- letter (2 and 3, R-2)
 pub data Skip : Type 0 where
   pastLast : Skip
   toNext : Skip
@@ -85,16 +88,17 @@ unfoldable pub lastWith : ℕ → List ℕ → Option ℕ
 lastWith c [] = none
 lastWith c (x ∷ w) = lastOr (lastWith c w) (eqb x c)
 
--- At a labelled row of the match at i with these labels: one row on after an empty match; no start where the letter labels no row, or the
--- match's first row.
+-- At a labelled row of the match at i with these labels: one row on after an empty match; no start
+-- where the letter labels no row, or the match's first row.
 abbrev pub labelledStart : ℕ → List ℕ → Option ℕ → Option ℕ
 labelledStart i [] k = some (suc i)
 labelledStart i (x ∷ w) none = none
 labelledStart i (x ∷ w) (some zero) = none
 labelledStart i (x ∷ w) (some (suc k)) = some (i + suc k)
 
--- After an empty match the next start is one row on. After a match of the rows i to j, not j itself, with the labels w it is, by skip mode, the
--- row behind its last row, one past its first, or its first or last row with a letter; none where there is no such row behind its first.
+-- After an empty match the next start is one row on. After a match of the rows i to j, not j
+-- itself, with the labels w it is, by skip mode, the row behind its last row, one past its first,
+-- or its first or last row with a letter; none where there is no such row behind its first.
 unfoldable pub nextStart : Skip → ℕ → ℕ → List ℕ → Option ℕ
 unfolding firstWith lastWith
 nextStart pastLast i j w = some (pick (ltb i j) j (suc i))
@@ -102,8 +106,9 @@ nextStart toNext i j w = some (suc i)
 nextStart (toFirst c) i j w = labelledStart i w (firstWith c w)
 nextStart (toLast c) i j w = labelledStart i w (lastWith c w)
 
--- how a search goes on: the number of rows, whether more may come, the next start behind a path found at a start, the rows of a path, and whether
--- its match fits behind so many matches with so many labels
+-- how a search goes on: the number of rows, whether more may come, the next start behind a path
+-- found at a start, the rows of a path, and whether its match fits behind so many matches with so
+-- many labels
 pub record Plan : Type 0 where
   pub n : ℕ
   pub more : Bool
@@ -149,13 +154,15 @@ module _ {S : Type 0} where
   byNext none st go = ended stuck st
   byNext (some j) st go = go j
 
-  -- behind the attempt at the start i, where m matches with l labels are written: after no match the next start is one row on
+  -- behind the attempt at the start i, where m matches with l labels are written: after no match
+  -- the next start is one row on
   abbrev pub onAnswer : Plan → (ℕ → ℕ → ℕ → S → Swept S) → ℕ → ℕ → ℕ → Attempted → S → Swept S
   onAnswer plan on i m l miss st = on (suc i) m l st
   onAnswer plan on i m l (halts h p) st = ended (unfinished h i p) st
   onAnswer plan on i m l (hit p) st = byFit (plan .fits m l p) (record { start = i; path = p }) st (λ _. byNext (plan .next i p) st (λ j. on j (suc m) (l + plan .rows p) st))
 
-  -- the search from the start i on; attempts begin at rows below n only. k bounds the number of attempts, and n is enough (crates/laws, Fuel).
+  -- the search from the start i on; attempts begin at rows below n only. k bounds the number of
+  -- attempts, and n is enough (crates/laws, Fuel).
   unfoldable pub sweep : (ℕ → S → Attempted × S) → Plan → ℕ → ℕ → ℕ → ℕ → S → Swept S
   sweep attempt plan zero i m l st = ended (noStart (plan .more) i) st
   sweep attempt plan (suc k) i m l st = below (ltb i (plan .n)) (ended (noStart (plan .more) i) st) (λ _. let r = attempt i st in onAnswer plan (sweep attempt plan k) i m l (r .0) (r .1))
@@ -189,14 +196,16 @@ plainFrom holds n pl i = plain (pairWays holds n pl) (pairs (length pl) n) (firs
 
 -- ---- the two searches
 
--- On what terms a search runs (document 02): the largest number of rows there may be, by which the pairs are kept account of; whether more rows may
--- come behind those present (R-11); and the number of steps allowed, where one is named (R-13).
+-- On what terms a search runs (document 02): the largest number of rows there may be, by which the
+-- pairs are kept account of; whether more rows may come behind those present (R-11); and the number
+-- of steps allowed, where one is named (R-13).
 pub record Terms : Type 0 where
   pub largest : ℕ
   pub more : Bool
   pub allowance : Option ℕ
 
--- document 01's: all n rows are there, and any number of steps is allowed; and the same with an allowance
+-- document 01's: all n rows are there, and any number of steps is allowed; and the same with an
+-- allowance
 abbrev pub within : Option ℕ → ℕ → Terms
 within a n = record { largest = n; more = false; allowance = a }
 
@@ -216,8 +225,8 @@ asksRow (pDollar k) = false
 asksRow (pFork ks) = false
 asksRow pEnd = false
 
--- with n rows present the walk halts just before an entry that would pass the allowance, and where, of rows that may come, a letter place asks for
--- one that is not yet present
+-- with n rows present the walk halts just before an entry that would pass the allowance, and where,
+-- of rows that may come, a letter place asks for one that is not yet present
 unfoldable pub haltingOf : Terms → List Place → ℕ → Halting
 haltingOf terms pl n =
     record {
@@ -236,8 +245,9 @@ planOf pl n more skip fits =
       fits = λ m l p. fits m l (labels pl p);
     }
 
--- by the counted walk: at first no pair has failed, and the count of steps is 0; the first start is row 0. `holds c i`: letter c holds at row i;
--- `skip`: the skip mode; `fits m l w`: a match with the labels w fits behind m matches with l labels.
+-- by the counted walk: at first no pair has failed, and the count of steps is 0; the first start is
+-- row 0. `holds c i`: letter c holds at row i; `skip`: the skip mode; `fits m l w`: a match with
+-- the labels w fits behind m matches with l labels.
 unfoldable pub walkSearch : Terms → (ℕ → ℕ → Bool) → ℕ → List Place → Skip → (ℕ → ℕ → List ℕ → Bool) → Swept Kept
 unfolding planOf pairWays haltingOf inside sweep
 walkSearch terms holds n pl skip fits =

@@ -1,5 +1,6 @@
--- Document 01, "Places and preferment", on pairs: the graph of the pairs (place, position); plain backtracking; and the counted walk with
--- its failed pairs and steps. Both walks are over any graph, and both searches use them over the same one.
+-- Document 01, "Places and preferment", on pairs: the graph of the pairs (place, position); plain
+-- backtracking; and the counted walk with its failed pairs and steps. Both walks are over any
+-- graph, and both searches use them over the same one.
 use mathlib.Core.Path.{_≡_}
 use mathlib.Core.List.{List, [], _∷_, map, List·Memᴰ}
 use mathlib.Core.Bool.{Bool, true, false, _&&_}
@@ -11,7 +12,8 @@ use Rattle.rules.specs.Places.{Place, pLetter, pCaret, pDollar, pFork, p
 
 -- ---- pairs
 
--- A pair is a number: position times P plus place. `pairs` counts those of n rows, whose positions are 0 to n.
+-- A pair is a number: position times P plus place. `pairs` counts those of n rows, whose positions
+-- are 0 to n.
 abbrev pub pairs : ℕ → ℕ → ℕ
 pairs P n = P * suc n
 
@@ -28,7 +30,8 @@ placeOf P x = x % P
 abbrev pub firstAt : ℕ → ℕ → ℕ
 firstAt P start = start * P
 
--- what a pair does: it succeeds by itself, or it tries pairs in order until one succeeds (with none to try, it fails)
+-- what a pair does: it succeeds by itself, or it tries pairs in order until one succeeds (with none
+-- to try, it fails)
 pub data Ways : Type 0 where
   accept : Ways
   try : List ℕ → Ways
@@ -38,8 +41,9 @@ abbrev pub passIf : Bool → ℕ → Ways
 passIf true y = try (y ∷ [])
 passIf false y = try []
 
--- At position i of n rows: a letter place passes to the next position if a row is there and the letter holds (`holds c i`); `^` passes at
--- position 0 only, `$` at n only; a fork tries its ways in order; END succeeds.
+-- At position i of n rows: a letter place passes to the next position if a row is there and the
+-- letter holds (`holds c i`); `^` passes at position 0 only, `$` at n only; a fork tries its ways
+-- in order; END succeeds.
 unfoldable pub waysAt : (ℕ → ℕ → Bool) → ℕ → ℕ → Place → ℕ → Ways
 waysAt holds n P (pLetter c k) i = passIf (ltb i n && holds c i) (pairAt P (suc i) k)
 waysAt holds n P (pCaret k) i = passIf (eqb i 0) (pairAt P i k)
@@ -52,8 +56,8 @@ unfoldable pub pairWays : (ℕ → ℕ → Bool) → ℕ → List Place → ℕ 
 unfolding waysAt
 pairWays holds n pl x = waysAt holds n (length pl) (getD pl (placeOf (length pl) x) (pFork [])) (positionOf (length pl) x)
 
--- A reading of the rest from a pair: a path of pairs from it, each leading to the next by any of its ways, up to one that succeeds by itself.
--- It says nothing of order.
+-- A reading of the rest from a pair: a path of pairs from it, each leading to the next by any of
+-- its ways, up to one that succeeds by itself. It says nothing of order.
 pub data IsPath (ways : ℕ → Ways) : ℕ → List ℕ → Type 0 where
   here : {x : ℕ} → ways x ≡ accept → IsPath ways x (x ∷ [])
   there : {x y : ℕ} {ys p : List ℕ} → ways x ≡ try ys → List·Memᴰ y ys → IsPath ways y p → IsPath ways x (x ∷ p)
@@ -78,8 +82,9 @@ unfolding firstOf
 plainBy accept f x = some (x ∷ [])
 plainBy (try ys) f x = onto x (firstOf f ys)
 
--- the path that plain backtracking finds from x: the pairs from x to the one that succeeds by itself, each having led to the next. No path
--- longer than k pairs is looked for; the law `plain-enough` (crates/laws, Fuel) says that the number of pairs is enough for k.
+-- the path that plain backtracking finds from x: the pairs from x to the one that succeeds by
+-- itself, each having led to the next. No path longer than k pairs is looked for; the law
+-- `plain-enough` (crates/laws, Fuel) says that the number of pairs is enough for k.
 unfoldable pub plain : (ℕ → Ways) → ℕ → ℕ → Option (List ℕ)
 unfolding plainBy
 plain ways zero x = none
@@ -87,8 +92,8 @@ plain ways (suc k) x = plainBy (ways x) (plain ways k) x
 
 -- ---- the counted walk: a pair that has failed is not entered again, and each entry is one step
 
--- Why a walk halts before its end (document 02): the next entry would pass the allowance of steps (R-13), or a row is asked for that is not yet
--- present (R-11).
+-- Why a walk halts before its end (document 02): the next entry would pass the allowance of steps
+-- (R-13), or a row is asked for that is not yet present (R-11).
 pub data Halt : Type 0 where
   outOfSteps : Halt
   outOfRows : Halt
@@ -102,8 +107,9 @@ pub record Halting : Type 0 where
 abbrev pub never : Halting
 never = record { spent = λ s. false; waits = λ x. false }
 
--- what comes of a pair: a path, or a failure, or a halt with the pairs still open, which are those entered and not failed, each having led to the
--- next; with the failed pairs and the steps by then. The failed pairs are a list of Booleans, one for each pair.
+-- what comes of a pair: a path, or a failure, or a halt with the pairs still open, which are those
+-- entered and not failed, each having led to the next; with the failed pairs and the steps by then.
+-- The failed pairs are a list of Booleans, one for each pair.
 pub data Outcome : Type 0 where
   found : List ℕ → List Bool → ℕ → Outcome
   failed : List Bool → ℕ → Outcome
@@ -114,14 +120,16 @@ orElse (found p F s) next = found p F s
 orElse (failed F s) next = next F s
 orElse (halted h p F s) next = halted h p F s
 
--- an entered pair whose tries came to an outcome leads the path, or it fails and is kept as failed, or it stays open
+-- an entered pair whose tries came to an outcome leads the path, or it fails and is kept as failed,
+-- or it stays open
 abbrev pub close : ℕ → Outcome → Outcome
 close x (found p F s) = found (x ∷ p) F s
 close x (failed F s) = failed (set F x true) s
 close x (halted h p F s) = halted h (x ∷ p) F s
 
--- a pair is tried: one that has failed is not entered, and trying it never succeeds; any other is entered, which is one step, END included; but where
--- the steps are spent, the walk halts just before that entry
+-- a pair is tried: one that has failed is not entered, and trying it never succeeds; any other is
+-- entered, which is one step, END included; but where the steps are spent, the walk halts just
+-- before that entry
 abbrev pub enterUnless : Bool → Bool → (List Bool → ℕ → ℕ → Outcome) → List Bool → ℕ → ℕ → Outcome
 enterUnless true spent inside F s y = failed F s
 enterUnless false true inside F s y = halted outOfSteps [] F s

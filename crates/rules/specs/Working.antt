@@ -1,6 +1,6 @@
 -- Notions that no rule of the papers names. The crates' own specs use them to say what their code
--- does: notes as bits, a stack of open pairs, a graph without a circle of ways that take no row, and
--- forks that list each way once. Whoever reads the rules alone need not read them.
+-- does: notes as bits, a stack of open pairs, a graph without a circle of ways that take no row,
+-- and forks that list each way once. Whoever reads the rules alone need not read them.
 use mathlib.Core.Path.{_≡_}
 use mathlib.Core.List.{List, [], _∷_, reverseAux}
 use mathlib.Core.Bool.{Bool, true, false}
@@ -61,7 +61,8 @@ lift st (found p F s) = found (reverseAux st p) F s
 lift st (failed F s) = failed F s
 lift st (halted w p F s) = halted w (reverseAux st p) F s
 
--- what the recursive walk makes of a state: the last open pair goes on, and if it fails, the one below
+-- what the recursive walk makes of a state: the last open pair goes on, and if it fails, the one
+-- below
 unfoldable pub resume : Halting → (ℕ → Ways) → ℕ → List ℕ → List Bool → ℕ → Outcome
 resume h ways K [] F s = failed F s
 resume h ways K (x ∷ st) F s = orElse (lift st (inside h ways K F s x)) (λ F′ s′. resume h ways K st F′ s′)

@@ -1,6 +1,6 @@
 -- What joins the program's text to the search: which of the three texts a query and its row bytes
--- get, by the verdict on what `room` says of them; that the search is then not refused; and that the
--- report of its promise is the text asked for, in the room that is lent.
+-- get, by the verdict on what `room` says of them; that the search is then not refused; and that
+-- the report of its promise is the text asked for, in the room that is lent.
 use mathlib.Core.Path.{_≡_, refl, sym, ap, _∙_}
 use mathlib.Core.Bool.{Bool, true, false, not}
 use mathlib.Core.List.{List, [], _∷_, _++_}
@@ -83,7 +83,8 @@ above : (n : ℕ) → (n ≡ 0 → ⊥) → 0 < n
 above zero d = absurd (d refl)
 above (suc n) d = omega arith
 
--- ---- the ways of a query with its row bytes r: their whole numbers are the first k of an array, and z is what `room` says of the query and of these
+-- ---- the ways of a query with its row bytes r: their whole numbers are the first k of an array,
+-- and z is what `room` says of the query and of these
 
 module _ (r : List ℕ) (l array : List ℤ) (k : ℕ) (filled : array ≡ wrote l 0 (rowsOf r)) (counted : k ≡ length (rowsOf r)) where
   same : take k array ≡ rowsOf r

@@ -1,5 +1,5 @@
--- One law for each way through the functions of this crate: the measures counted, the search's report as text, and the program's text by what the input
--- is.
+-- One law for each way through the functions of this crate: the measures counted, the search's
+-- report as text, and the program's text by what the input is.
 use mathlib.Core.Bool.{not}
 use mathlib.Core.Path.{_≡_, sym, ap, _∙_}
 use mathlib.Core.List.{List}
@@ -42,7 +42,8 @@ measures-counted q measures₀ room defines measures r a =
           w .good .measured ∙ sym (length-tabulate (w .parts .measures) (measureIn measures 0)) ∙ ap length (w .decoded .measured);
     }
 
--- ---- the search's report: r and the buffers without a stroke are what the search leaves of those with one, and k is the number of measures
+-- ---- the search's report: r and the buffers without a stroke are what the search leaves of those
+-- with one, and k is the number of measures
 
 module _ (q : List ℕ) (rows : List ℤ) (f : Found q rows) (notes′ trail′ : List ℕ) (numbers′ : List ℤ) (labels′ : List ℕ) (r : Outcome) (notes trail : List ℕ) (numbers : List ℤ) (labels : List ℕ)
     (p : Promised none q rows (lent notes′ trail′ numbers′ labels′) (memory r notes trail numbers labels)) (k : ℕ) (c : Counted q k) (hn : length notes′ ≡ 2000) (ht : length trail′ ≡ 16000) where

@@ -1,6 +1,8 @@
-// The program between reading and writing, as one function on slices: `run` writes what document 01 has the program print of an input, for every input
-// (specs/Run); the laws are in proofs/Joined and proofs/Running. It lends the search 8,192 report numbers, 65,536 label bytes and room for 16,000 pairs, all
-// on the stack. The query is read three times: for its room, by the search, and for the number of its measures, by which the report's numbers are parted.
+// The program between reading and writing, as one function on slices: `run` writes what document 01
+// has the program print of an input, for every input (specs/Run); the laws are in proofs/Joined and
+// proofs/Running. It lends the search 8,192 report numbers, 65,536 label bytes and room for 16,000
+// pairs, all on the stack. The query is read three times: for its room, by the search, and for the
+// number of its measures, by which the report's numbers are parted.
 ghost use Prim.Native.Nat.{_≤_};
 ghost use lib.ListN.{length};
 ghost use Rattle.rules.specs.Answers.{taskOf, walked};
@@ -19,7 +21,8 @@ fn measures_of(query: &[u8]) -> usize
     q.measures
 }
 
-// The search of a query and rows that are not refused and have at most 16,000 pairs, and its report as text.
+// The search of a query and rows that are not refused and have at most 16,000 pairs, and its report
+// as text.
 fn run_search(query: &[u8], rows: &[i32], out: &mut [u8]) -> usize
     requires { ⌜ Found (now query) (now rows) ⌝ }
     requires { ⌜ 245820 ≤ length (now out) ⌝ }
@@ -69,7 +72,8 @@ fn run_query(query: &[u8], bytes: &[u8], out: &mut [u8]) -> usize
     }
 }
 
-// What the program prints of an input, into the front of `out`; the result is how many bytes that is.
+// What the program prints of an input, into the front of `out`; the result is how many bytes that
+// is.
 pub fn run(input: &[u8], out: &mut [u8]) -> usize
     requires { ⌜ 245820 ≤ length (now out) ⌝ }
     ensures { λ r. ⌜ Ran (now (input .entry)) (now (out .entry)) (now (out .exit)) r ⌝ }

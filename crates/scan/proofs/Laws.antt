@@ -1,4 +1,5 @@
--- Passes over the bytes of a text: the depth of parentheses so far, and a byte that was not found so far.
+-- Passes over the bytes of a text: the depth of parentheses so far, and a byte that was not found
+-- so far.
 use mathlib.Core.Path.{_≡_, refl, sym, ap, _∙_}
 use mathlib.Core.Bool.{Bool, true, false, _||_}
 use mathlib.Core.List.{List, _∷_}

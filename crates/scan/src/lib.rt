@@ -1,5 +1,6 @@
-// Passes over the bytes of a pattern's text: the depth of its parentheses, which answer 4 is about, and whether a byte stands in it. The promises are
-// equations with document 01's tests, for all texts.
+// Passes over the bytes of a pattern's text: the depth of its parentheses, which answer 4 is about,
+// and whether a byte stands in it. The promises are equations with document 01's tests, for all
+// texts.
 ghost use mathlib.Core.Path.{_≡_};
 ghost use mathlib.Core.Bool.{true, false};
 ghost use Prim.Native.Nat.{_+_, _<_, _^_};
@@ -54,7 +55,8 @@ pub fn too_deep(text: &[u8]) -> bool
     false
 }
 
-// Whether the byte stands in the text. A letter that stands in a pattern's text stands in the pattern.
+// Whether the byte stands in the text. A letter that stands in a pattern's text stands in the
+// pattern.
 pub fn has_byte(text: &[u8], b: u8) -> bool
     ensures { λ r. ⌜ r ≡ has b (now (text .entry)) ⌝ }
 {

@@ -1,9 +1,10 @@
--- The search's answers: one law for each way through `run`. The answer is that of the first of the rules' tests that is true.
+-- The search's answers: one law for each way through `run`. The answer is that of the first of the
+-- rules' tests that is true.
 use mathlib.Core.Path.{_≡_, refl, ap, sym, _∙_}
 use mathlib.Core.Bool.{Bool, true, false, not, true≢false}
 use mathlib.Core.List.{List, [], _∷_, _++_}
 use mathlib.Core.Option.{Option, none, some}
-use Prim.Native.Nat.{ℕ, zero, suc, _+_, _*_, _/_, _%_, _≤_, _<_}
+use Prim.Native.Nat.{ℕ, suc, _+_, _*_, _/_, _%_, _≤_}
 use native.Mathlib.Nat.{mul-le-mul, le-trans, div-add-mod'}
 use native.Mathlib.Decide.{ℕ-discrete}
 use native.Mathlib.Numerals.{add-one}
@@ -31,7 +32,7 @@ use Rattle.outcome.specs.declared.Outcome.{Outcome}
 use Rattle.outcome.specs.Results.{lent, memory, refusal}
 use Rattle.prepared.specs.Ready.{Ready, Given, PreparedAs}
 use Rattle.prepared.specs.declared.Prepared.{Prepared}
-use Rattle.starting.specs.Starts.{ended, Fed, Walks}
+use Rattle.starting.specs.Starts.{ended, Walks}
 use Rattle.search.specs.Promise.{Promised}
 use Rattle.search.specs.Runs.{Runs}
 

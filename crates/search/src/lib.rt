@@ -1,5 +1,5 @@
-// The whole search: a query is prepared, then run over its rows. `run` takes a prepared query and can
-// be called for many rows; `search_within` does both within an allowance of steps, and `search`
+// The whole search: a query is prepared, then run over its rows. `run` takes a prepared query and
+// can be called for many rows; `search_within` does both within an allowance of steps, and `search`
 // without one. The promise, for every query, all rows, every allowance and all lent buffers, is an
 // equation with the definition of documents 01 and 02, and the tender's demands with it
 // (specs/Promise). Nothing is allocated; the table lies on the stack. Weakness: `run` trusts its
@@ -13,7 +13,6 @@ use sizes::bad_rows;
 use sizes::short_room;
 use starting::Terms;
 use starting::walk_prepared;
-ghost use mathlib.Core.Path.{_≡_};
 ghost use mathlib.Core.List.{List};
 ghost use mathlib.Core.Option.{none, some};
 ghost use Prim.Native.Nat.{ℕ};
@@ -74,8 +73,8 @@ fn search_large(
     run(&table, p, rows, allowance, notes, trail, numbers, labels)
 }
 
-// The search within an allowance of steps. A small table is tried first: it is enough for most queries, and clearing a large one
-// takes longer than the search of a few rows.
+// The search within an allowance of steps. A small table is tried first: it is enough for most
+// queries, and clearing a large one takes longer than the search of a few rows.
 pub fn search_within(
     query: &[u8],
     rows: &[i32],

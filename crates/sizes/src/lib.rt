@@ -1,5 +1,6 @@
-// Answers 10, 11 and 12 of document 01, decided on numbers: whether entries make whole rows and not too many, and whether notes and trail are long enough.
-// The promises are equations with specs/Sizes.
+// Answers 10, 11 and 12 of document 01, decided on numbers: whether entries make whole rows and not
+// too many, and whether notes and trail are long enough. The promises are equations with
+// specs/Sizes.
 ghost use mathlib.Core.Path.{_≡_};
 ghost use Prim.Native.Nat.{_≤_};
 ghost use Rattle.sizes.specs.Sizes.{badCount, shortFor};
@@ -18,7 +19,8 @@ pub fn bad_rows(entries: usize, columns: usize) -> bool
     MOST_ROWS < entries / columns
 }
 
-// Answers 11 and 12: whether so many bytes of notes, a bit for each pair, or so many numbers of the trail are too few for so many pairs; 0 if neither is.
+// Answers 11 and 12: whether so many bytes of notes, a bit for each pair, or so many numbers of the
+// trail are too few for so many pairs; 0 if neither is.
 pub fn short_room(pairs: usize, notes: usize, trail: usize) -> usize
     requires { ⌜ pairs ≤ 1048832 ⌝ }
     ensures { λ r. ⌜ r ≡ shortFor pairs notes trail ⌝ }

@@ -4,7 +4,7 @@
 // `nextStart`.
 use numbers::wide8;
 ghost use mathlib.Core.Path.{_≡_};
-ghost use Prim.Native.Nat.{ℕ, _+_, _≤_, _<_};
+ghost use Prim.Native.Nat.{_+_, _≤_, _<_};
 ghost use lib.ListN.{length};
 ghost use Rattle.rules.specs.Answers.{skipOf};
 ghost use Rattle.rules.specs.Search.{firstWith, lastWith, nextStart};

@@ -1,16 +1,15 @@
 -- What the sweep asks, from a query that is prepared: the table stands for the query's search.
-use mathlib.Core.Path.{_≡_, refl, ap, ap₂, sym, _∙_}
+use mathlib.Core.Path.{_≡_, ap, ap₂, sym, _∙_}
 use mathlib.Core.Bool.{Bool}
-use mathlib.Core.List.{List, [], _∷_}
+use mathlib.Core.List.{List}
 use mathlib.Core.Option.{some}
-use Prim.Native.Nat.{ℕ, zero, suc, _+_, _-_, _*_, _/_, _≤_, _<_}
+use Prim.Native.Nat.{ℕ, suc, _+_, _-_, _*_, _/_, _≤_, _<_}
 use native.Mathlib.Nat.{mul-le-mul, mul-div-cancel}
 use native.Mathlib.Omega.{arith}
 use lib.IntN.{ℤ}
-use lib.ListN.{length, getD}
+use lib.ListN.{length}
 use Rattle.rules.specs.Rows.{Table, Comparison, tableOf, holds}
 use Rattle.rules.specs.Query.{Measure, textOf, parts}
-use Rattle.rules.specs.Language.{emptyLoop}
 use Rattle.rules.specs.Places.{Place, pLetter, pCaret, pDollar, pFork, pEnd, unroll, places}
 use Rattle.rules.specs.Walk.{pairs}
 use Rattle.rules.specs.Search as R
@@ -31,10 +30,10 @@ use Rattle.table.specs.Table.{placeAt, placesIn}
 use Rattle.table.specs.Tests.{holdsIn, definedIn, testAt}
 use Rattle.table.specs.Measures.{measuresIn}
 use Rattle.pairs.specs.Layout as W
-use Rattle.pairs.specs.Layout.{layoutOf, lettersOf, Tested}
+use Rattle.pairs.specs.Layout.{layoutOf}
 use Rattle.matches.specs.Asked as S
 use Rattle.matches.specs.Asked.{askedOf}
-use Rattle.matches.specs.Found.{Measured, Searches}
+use Rattle.matches.specs.Found.{Searches}
 use Rattle.skips.specs.Skips.{skipIn}
 use Rattle.skips.specs.declared.Skip.{Skip}
 use Rattle.matches.specs.declared.Task.{Task}

@@ -1,4 +1,5 @@
--- Zeros written; and the whole search, from the buffers as they were lent to what the report says of them.
+-- Zeros written; and the whole search, from the buffers as they were lent to what the report says
+-- of them.
 use mathlib.Core.Path.{_≡_, refl, sym, ap, _∙_}
 use mathlib.Core.List.{List, [], _∷_, _++_}
 use mathlib.Core.Bool.{Bool, false}

@@ -22,8 +22,8 @@ use Rattle.matches.specs.Found.{Searches, Reports}
 
 -- ---- one start
 
--- what the attempt came to that left the trail and the walk w: a halt, where a pair is still to be entered; nothing, where none is open; or the path
--- on the trail
+-- what the attempt came to that left the trail and the walk w: a halt, where a pair is still to be
+-- entered; nothing, where none is open; or the path on the trail
 abbrev pub byTop : ℕ → List ℕ → ℕ → Attempted
 byTop P trail zero = miss
 byTop P trail (suc t) = hit (pathOn P trail (suc t))

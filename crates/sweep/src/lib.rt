@@ -1,4 +1,5 @@
-// The whole search by the counted walk: all starts, each with one attempt; the matches written as they are found; and the buffers left as the report says.
+// The whole search by the counted walk: all starts, each with one attempt; the matches written as
+// they are found; and the buffers left as the report says.
 use matches::DONE;
 use matches::OUT_OF_STEPS;
 use matches::Sweep;
@@ -17,8 +18,8 @@ ghost use Rattle.matches.specs.Found.{Told, Visits, Visited, Searches};
 ghost use Rattle.sweep.specs.Searched.{cameTo, Tells, Starts, Searched, Answered};
 
 // What an attempt at a start came to. Where it has halted, no step is left and the search is over;
-// where no pair is open it found nothing, and the search goes on one row on; else the path is on the
-// trail.
+// where no pair is open it found nothing, and the search goes on one row on; else the path is on
+// the trail.
 fn tell(
     table: &[u16],
     rows: &[i32],

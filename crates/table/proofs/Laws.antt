@@ -2,10 +2,8 @@
 use mathlib.Core.Path.{_≡_, _∙_}
 use mathlib.Core.List.{List}
 use Prim.Native.Nat.{ℕ, _+_, _<_}
-use lib.Dec.{eqb}
 use lib.ListN.{length, getD}
 use borrow.Author.Tests.{eq-eqb, ne-eqb}
-use Rattle.rules.specs.Basics.{pick}
 use Rattle.table.specs.Table.{laterAt, countAt, laterBy, laterWay}
 use Rattle.table.specs.Sized.{LaterIn}
 

@@ -23,7 +23,8 @@ pub record Sized (T : List ℕ) (P : ℕ) : Type 0 where
   pub many : (q : ℕ) → q < P → countAt T q ≤ mostWays
   pub ways : (q : ℕ) → q < P → 2 < countAt T q → laterAt T q + countAt T q ≤ length T
 
--- place q has its words, and a later way j can be read: it is there, or the fork has two ways and tells the second by itself
+-- place q has its words, and a later way j can be read: it is there, or the fork has two ways and
+-- tells the second by itself
 pub record LaterIn (T : List ℕ) (q j : ℕ) : Type 0 where
   pub place : 4 * q + 4 ≤ length T
   pub small : j < 256

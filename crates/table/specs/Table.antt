@@ -1,11 +1,13 @@
--- The places of a pattern as words of one table, written once when a query is prepared and read by the walk and the report. Place q has four words:
---   4q      its code: 0 to 25 the letters A to Z, 26 `^`, 27 `$`, 28 a fork of two ways or more that tries the place behind it first, 29 any other fork, 30 END
+-- The places of a pattern as words of one table, written once when a query is prepared and read by
+-- the walk and the report. Place q has four words:
+--   4q      its code: 0 to 25 the letters A to Z, 26 `^`, 27 `$`, 28 a fork of two ways or more that
+--           tries the place behind it first, 29 any other fork, 30 END
 --   4q + 1  the place that is tried first from it; of a fork, its first way
 --   4q + 2  of a fork with two ways, its second; of one with more, the word at which its ways begin
 --   4q + 3  of a fork, how many ways it has; 0 for any other place
--- The ways of all forks stand behind the words of all places, a place to a word. A way is known by its number in its fork, 0 for the first. Most forks
--- have two ways, and the walk finds the second of them at once.
--- The places of `A+ B`, as an example, where x are words that nobody reads:
+-- The ways of all forks stand behind the words of all places, a place to a word. A way is known by
+-- its number in its fork, 0 for the first. Most forks have two ways, and the walk finds the second
+-- of them at once. The places of `A+ B`, as an example, where x are words that nobody reads:
 --   place       0       1       2       3       4
 --               A       fork    A       B       END
 --   words       0 1 x 0 28 2 3 2  0 1 x 0 1 4 x 0 30 x x 0    and from word 20 on the ways: 2 3

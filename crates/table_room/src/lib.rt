@@ -1,5 +1,6 @@
-// The room that the table of a prepared query takes: where its measures and the tests of its letters
-// begin behind the words of its places, how many words it needs, and whether a table has so many.
+// The room that the table of a prepared query takes: where its measures and the tests of its
+// letters begin behind the words of its places, how many words it needs, and whether a table has so
+// many.
 use tests::words_for;
 ghost use mathlib.Core.Path.{_≡_};
 ghost use Prim.Native.Nat.{_≤_};

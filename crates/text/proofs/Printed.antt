@@ -1,5 +1,5 @@
--- The text made from the report's numbers and labels is the text that document 01 asks for: for the numbers and labels of any matches, whatever stands
--- behind them in the lent buffers.
+-- The text made from the report's numbers and labels is the text that document 01 asks for: for the
+-- numbers and labels of any matches, whatever stands behind them in the lent buffers.
 use mathlib.Core.Path.{_≡_, refl, ap, _∙_}
 use mathlib.Core.Bool.{true, false}
 use mathlib.Core.List.{List, [], _∷_, _++_, append-assoc}
@@ -69,7 +69,8 @@ lines-printed t k (x ∷ xs) ns ls = go (labels (t .places) (x .path)) (lines-pr
         let a = lines-step (length xs) w N own (Ns ++ ns) (Ls ++ ls) long rows in
         rw (append-assoc N Ns ns, append-assoc own Ls ls) (a ∙ rw (line-printed (t .table) (t .measures) (suc k) (x .start) own (Ns ++ ns), ih))
 
--- With the promise of the search, the numbers and labels of its matches in front of what the lent buffers held, the report is the search's text.
+-- With the promise of the search, the numbers and labels of its matches in front of what the lent
+-- buffers held, the report is the search's text.
 pub report-printed : (t : Task) (r : Swept Kept) (numbers : List ℤ) (labelBytes : List ℕ)
     → reportText (stopped r) (length (r .matches)) (r .state .1) (length (t .measures))
     (wrote numbers 0 (numbersOf (t .table) (t .measures) (t .places) 0 (r .matches)))

@@ -1,7 +1,7 @@
-// The text of a search's report: the header and a line for each match. It is a function of the search's
-// counts and report buffers alone (crates/header, specs/Report), and takes at most 22 bytes for each
-// number, one for each label and 60 more. proofs/Printed says that after the search this is the text
-// that document 01 asks for.
+// The text of a search's report: the header and a line for each match. It is a function of the
+// search's counts and report buffers alone (crates/header, specs/Report), and takes at most 22
+// bytes for each number, one for each label and 60 more. proofs/Printed says that after the search
+// this is the text that document 01 asks for.
 use header::put_header;
 use lines::put_line;
 use put::size_of;
@@ -48,7 +48,8 @@ fn put_lines(
     behind
 }
 
-// The text of a search's report: the header, and a line for each match. The numbers and labels are the report buffers as the search left them.
+// The text of a search's report: the header, and a line for each match. The numbers and labels are
+// the report buffers as the search left them.
 pub fn put_report(
     out: &mut [u8],
     at: usize,

@@ -1,4 +1,5 @@
--- Laws of bytes, spaces, letters, digits and numbers of a text: each is one way through one function.
+-- Laws of bytes, spaces, letters, digits and numbers of a text: each is one way through one
+-- function.
 use mathlib.Core.Path.{_≡_, refl, sym, ap, _∙_}
 use mathlib.Core.Bool.{Bool, true, false, true≢false, false≢true}
 use mathlib.Core.List.{List, [], _∷_}

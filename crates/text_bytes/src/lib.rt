@@ -1,5 +1,5 @@
-// The bytes of a pattern's text: a byte, spaces, letters, digits, and numbers of one or two digits, as
-// they stand in the bounds of a quantifier. A number that is wrong tells at which byte.
+// The bytes of a pattern's text: a byte, spaces, letters, digits, and numbers of one or two digits,
+// as they stand in the bounds of a quantifier. A number that is wrong tells at which byte.
 use numbers::wide8;
 ghost use mathlib.Core.Path.{_≡_};
 ghost use Prim.Native.Nat.{_≤_};
@@ -89,7 +89,8 @@ pub fn number(text: &[u8], at: usize) -> Value
     }
 }
 
-// An upper bound: a number of 1 at least and `low` at least. Where its first digit begins none, or its second makes none, there it is wrong.
+// An upper bound: a number of 1 at least and `low` at least. Where its first digit begins none, or
+// its second makes none, there it is wrong.
 pub fn reaching(text: &[u8], at: usize, low: usize) -> Value
     requires { ⌜ at ≤ length (now text) ⌝ }
     ensures { λ r. ⌜ Reached (now (text .entry)) at low r ⌝ }

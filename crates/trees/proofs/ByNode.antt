@@ -1,5 +1,6 @@
--- A tree by the sort of its top node: what the node's words say of the tree, and the trees at its parts' nodes. A function that recurses over
--- nodes takes from here what its calls require, and that the height falls.
+-- A tree by the sort of its top node: what the node's words say of the tree, and the trees at its
+-- parts' nodes. A function that recurses over nodes takes from here what its calls require, and
+-- that the height falls.
 use mathlib.Core.Path.{_≡_, refl, sym, ap, _∙_, subst}
 use mathlib.Core.Bool.{false}
 use mathlib.Core.List.{List}

@@ -1,5 +1,6 @@
--- What the readers write is held: the room that `written` leaves holds the tree, and holds it as long as its nodes are as they were. So the
--- room that `read_text` leaves holds the text's tree, with its top at the last node (`text-top`).
+-- What the readers write is held: the room that `written` leaves holds the tree, and holds it as
+-- long as its nodes are as they were. So the room that `read_text` leaves holds the text's tree,
+-- with its top at the last node (`text-top`).
 use mathlib.Core.Path.{_≡_, refl, _∙_}
 use mathlib.Core.List.{List}
 use Prim.Native.Nat.{ℕ, _+_, _*_, _-_, _≤_, _<_, max, min}

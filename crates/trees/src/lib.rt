@@ -1,6 +1,6 @@
-// The nodes of a pattern's tree in a lent room, each behind its parts: what it is that a room holds a
-// tree (specs/Held), how many places rounds of a body take, and the first of a tree's nodes, found
-// from its top.
+// The nodes of a pattern's tree in a lent room, each behind its parts: what it is that a room holds
+// a tree (specs/Held), how many places rounds of a body take, and the first of a tree's nodes,
+// found from its top.
 use nodes::Node;
 use nodes::Sort;
 use nodes::node_at;

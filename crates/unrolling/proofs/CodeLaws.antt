@@ -1,4 +1,5 @@
--- The places of a tree, part by part, in the order in which they are put: each law is one way through one function that unrolls.
+-- The places of a tree, part by part, in the order in which they are put: each law is one way
+-- through one function that unrolls.
 use mathlib.Core.Path.{_≡_, refl, sym, ap, _∙_}
 use mathlib.Core.Bool.{Bool}
 use mathlib.Core.List.{List, [], _∷_, _++_, append-nil}

@@ -1,5 +1,6 @@
--- Laws of the functions that unroll a tree: each is one way through one function. A part of the places is put, then the rest; a part fits where
--- the whole does; and the measure falls at each call.
+-- Laws of the functions that unroll a tree: each is one way through one function. A part of the
+-- places is put, then the rest; a part fits where the whole does; and the measure falls at each
+-- call.
 use mathlib.Core.Path.{_≡_, refl, sym, ap, _∙_, subst}
 use mathlib.Core.Bool.{Bool, true, false}
 use mathlib.Core.List.{List, [], _∷_, _++_}

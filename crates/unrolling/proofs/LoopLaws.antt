@@ -1,5 +1,6 @@
--- Laws of the loops over the parts of a sequence, the branches of an alternation and the rounds of a factor: what is left to put is known, and
--- putting it puts the whole. Each law is one way through one turn of a loop; those of a way without its loop are in EmitLaws.
+-- Laws of the loops over the parts of a sequence, the branches of an alternation and the rounds of
+-- a factor: what is left to put is known, and putting it puts the whole. Each law is one way
+-- through one turn of a loop; those of a way without its loop are in EmitLaws.
 use mathlib.Core.Path.{_≡_, refl, sym, subst}
 use mathlib.Core.Bool.{Bool}
 use mathlib.Core.List.{List}

@@ -1,7 +1,7 @@
 // A tree unrolled into places of the table, in the layout of crates/table. Parts of a sequence,
-// branches and rounds are walked over by loops; a pair of parentheses is a call, whose node is lower,
-// so calls nest as deep as parentheses do. Weakness: a factor's body is unrolled once for each of its
-// copies.
+// branches and rounds are walked over by loops; a pair of parentheses is a call, whose node is
+// lower, so calls nest as deep as parentheses do. Weakness: a factor's body is unrolled once for
+// each of its copies.
 use body_sizes::body_size;
 use forks::branch_fork;
 use forks::fork;
@@ -17,8 +17,8 @@ ghost use Rattle.place_words.specs.Words.{Emitted};
 ghost use Rattle.forks.specs.Emitting.{treePlaces, branchPlaces, bodyPlaces, turnPlaces};
 ghost use Rattle.forks.specs.Emitting.{Emitting, Branching, Bodying, Turning};
 
-// A factor in its rounds: its node, the places of its body, whether it is reluctant, the number behind
-// its last place, and the place behind it.
+// A factor in its rounds: its node, the places of its body, whether it is reluctant, the number
+// behind its last place, and the place behind it.
 struct Factor {
     node: usize,
     body: usize,
@@ -28,8 +28,8 @@ struct Factor {
 }
 
 // The tree at i, its places numbered from b on and their ways from word w on, where k is the place
-// behind it. The parts of a sequence are walked over by a loop, as are branches and rounds below: only
-// parentheses take stack.
+// behind it. The parts of a sequence are walked over by a loop, as are branches and rounds below:
+// only parentheses take stack.
 pub fn emit(room: &[u16], i: usize, table: &mut [u16], b: usize, w: usize, k: usize) -> usize
     requires { ⌜ Emitting (now room) i (now table) b w k ⌝ }
     ensures { λ r. ⌜ ((h : Emitting (now (room .entry)) i (now (table .entry)) b w k) → Emitted (now (table .entry)) (now (table .exit)) b w r (treePlaces (h .tree) b k)) ⌝ }
@@ -97,8 +97,8 @@ fn branches(room: &[u16], i: usize, table: &mut [u16], b: usize, w: usize, k: us
     }
 }
 
-// The rounds of a factor: n copies of its body, then m times a fork and a copy, or for m = 100 a fork
-// and a copy that leads back to it.
+// The rounds of a factor: n copies of its body, then m times a fork and a copy, or for m = 100 a
+// fork and a copy that leads back to it.
 fn rounds(
     room: &[u16],
     f: Factor,

@@ -1,9 +1,9 @@
 -- The last open pair tries its next way, or fails where none is left.
 use mathlib.Core.Path.{_≡_, refl, sym, ap, ap₂, _∙_}
 use mathlib.Core.List.{List}
-use mathlib.Core.Bool.{Bool, true, false, not}
+use mathlib.Core.Bool.{Bool, true, false}
 use mathlib.Core.Logic.{_≢_}
-use Prim.Native.Nat.{ℕ, zero, suc, _+_, _-_, _*_, _/_, _%_, _≤_, _<_}
+use Prim.Native.Nat.{ℕ, zero, suc, _+_, _-_, _*_, _/_, _≤_, _<_}
 use native.Mathlib.Nat.{not-suc-le-zero}
 use native.Mathlib.Decide.{ℕ-discrete}
 use native.Mathlib.Omega.{arith}
@@ -17,10 +17,10 @@ use Rattle.rules.specs.Walk.{Halting}
 use Rattle.rules.specs.Working.{marked}
 use Rattle.pairs.specs.declared.Walk.{Walk}
 use Rattle.pairs.specs.Layout.{Layout, P, N, second, leftFrom, mostPairs}
-use Rattle.table.specs.Table.{waysOf, codeAt, laterAt, countAt, laterWay}
+use Rattle.table.specs.Table.{waysOf, codeAt, countAt, laterWay}
 use Rattle.table.specs.Sized.{LaterIn}
 use Rattle.pairs.specs.Step.{oneUnless, placeIn, rowIn, wayIn, pairIn, stack, walkAt, tryAt, after, wentOn, Noted}
-use Rattle.pairs.specs.State.{Word, rowFrom, wayAt, reach, Led, Stuck, Good, left, restAt, rest, resumed, comes, Reached, Backs, Backward, Quiet}
+use Rattle.pairs.specs.State.{Word, rowFrom, wayAt, reach, Led, Stuck, Good, left, restAt, resumed, comes, Reached, Backs, Backward, Quiet}
 use Rattle.pairs.proofs.Ways.{left-none, left-some, ways-length, ways-later, second-is, takes-no-row}
 use Rattle.pairs.proofs.Trails.{went-place, went-row, went-way, stack-same}
 use Rattle.pairs.proofs.Going.{zero-two, not-two, good-room, comes-idle, top-word, top-below, top-out, top-byte, leave-reached, leave-less}
@@ -335,7 +335,8 @@ module _ (H : Halting) (quiet : Quiet H) (T : Layout) (holds : ℕ → ℕ → B
           last : bitAt notes (wayAt T e m) ≡ true
           last = rw pair-is o
 
-  -- ---- as the code reads it: the number u of the last open pair, its place p, its row r and its way v
+  -- ---- as the code reads it: the number u of the last open pair, its place p, its row r and its
+  -- way v
 
   module _ (u : ℕ) (eu : (u ≡ e) × (u < 4294967296)) (p : ℕ) (ep : (p ≡ placeIn u) × (p < 2048)) (r : ℕ) (er : (r ≡ rowIn u) × (r < 8192)) where
     p-is : p ≡ q

@@ -1,5 +1,6 @@
--- The loops: on while a pair is to be entered, back until one is, and both in turn; and the attempt, from the pair that it tries to its result.
-use mathlib.Core.Path.{_≡_, refl, sym, ap, _∙_}
+-- The loops: on while a pair is to be entered, back until one is, and both in turn; and the
+-- attempt, from the pair that it tries to its result.
+use mathlib.Core.Path.{_≡_, refl, sym, _∙_}
 use mathlib.Core.List.{List}
 use mathlib.Core.Bool.{Bool, true, false}
 use mathlib.Core.Logic.{_≢_}

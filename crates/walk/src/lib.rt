@@ -1,9 +1,11 @@
-// One attempt of the counted walk, over the table of places, lent notes (a bit for each pair: it has failed) and a lent trail (the open pairs).
-// A pair is the number row * P + place. Pairs are entered in one function only, `enter`, which counts the entry, and it is called in one place. No pair
-// is entered that has failed, so an attempt takes no more steps than there are pairs. An attempt is `begin`, which tries its first pair, and `go_on`, which
-// walks from a state on until no pair is to be entered or END is open, or until no step is
-// left of the allowance: then it halts just before the next entry, with its pair still to be entered. The promise is `Done` (crates/pairs/specs/State):
-// the result is the definition's.
+// One attempt of the counted walk, over the table of places, lent notes (a bit for each pair: it
+// has failed) and a lent trail (the open pairs). A pair is the number row * P + place. Pairs are
+// entered in one function only, `enter`, which counts the entry, and it is called in one place. No
+// pair is entered that has failed, so an attempt takes no more steps than there are pairs. An
+// attempt is `begin`, which tries its first pair, and `go_on`, which walks from a state on until no
+// pair is to be entered or END is open, or until no step is left of the allowance: then it halts
+// just before the next entry, with its pair still to be entered. The promise is `Done`
+// (crates/pairs/specs/State): the result is the definition's.
 use entering::enter;
 use pairs::BACK;
 use pairs::ENTER;
@@ -52,7 +54,8 @@ fn descend(
     w
 }
 
-// The last open pair tries its next way. Where no way is left, or the last one has failed, the pair fails. Which letters hold plays no part here.
+// The last open pair tries its next way. Where no way is left, or the last one has failed, the pair
+// fails. Which letters hold plays no part here.
 fn back(table: &[u16], notes: &mut [u8], trail: &mut [u32], size: Extent, w: Walk) -> Walk
     requires { ⌜ Backing (layoutOf (now table) size) (size .rows) (now notes) (now trail) w ⌝ }
     ensures { λ r. ⌜ ((h : Backing (layoutOf (now (table .entry)) size) (size .rows) (now (notes .entry)) (now (trail .entry)) w)

@@ -1,4 +1,6 @@
--- `decode::put_defines` meets its contract by the laws of Defines and Reading. The invariant is `Lettering`, of each letter's entry, of what was told of two and of the largest letter; the bytes left fall.
+-- `decode::put_defines` meets its contract by the laws of Defines and Reading. The invariant is
+-- `Lettering`, of each letter's entry, of what was told of two and of the largest letter; the bytes
+-- left fall.
 use Prim.Native.Nat.{_-_}
 use lib.ListN.{length}
 use borrow.Author.Needs.{needs}

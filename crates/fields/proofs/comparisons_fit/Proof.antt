@@ -1,4 +1,5 @@
--- `fields::comparisons_fit` meets its contract by the laws of FieldRules. The invariant is `Below`: the first k comparisons fit; the count left falls.
+-- `fields::comparisons_fit` meets its contract by the laws of FieldRules. The invariant is `Below`:
+-- the first k comparisons fit; the count left falls.
 use Prim.Native.Nat.{_-_}
 use native.Mathlib.Omega.{arith}
 use borrow.Author.Needs.{needs}

@@ -1,4 +1,5 @@
--- `input_of` goes through the tests in the definition's order: one law of proofs/Inputs for each way.
+-- `input_of` goes through the tests in the definition's order: one law of proofs/Inputs for each
+-- way.
 use native.Mathlib.Omega.{arith}
 use borrow.Author.Needs.{needs}
 use Rattle.input.proofs.Inputs.{no-length, long-query, cut-query, many-rows, whole-input}

@@ -1,4 +1,5 @@
--- `labelled::count_of` meets its contract by the laws of Seeking. The invariant and the measure of its loop come first.
+-- `labelled::count_of` meets its contract by the laws of Seeking. The invariant and the measure of
+-- its loop come first.
 use Prim.Native.Nat.{_-_}
 use lib.ListN.{length}
 use native.Mathlib.Omega.{arith}

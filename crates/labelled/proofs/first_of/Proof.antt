@@ -1,4 +1,5 @@
--- `labelled::first_of` meets its contract by the laws of Seeking. The invariant and the measure of its loop come first.
+-- `labelled::first_of` meets its contract by the laws of Seeking. The invariant and the measure of
+-- its loop come first.
 use Rattle.labelled.proofs.Seeking.{Seeking, seek-none, seek-on, first-here, first-nowhere}
 use Prim.Native.Nat.{_-_}
 use lib.ListN.{length}

@@ -1,4 +1,5 @@
--- `labelled::last_of` meets its contract by the laws of Seeking. The invariant and the measure of its loop come first.
+-- `labelled::last_of` meets its contract by the laws of Seeking. The invariant and the measure of
+-- its loop come first.
 use Prim.Native.Nat.{_<_}
 use native.Mathlib.Omega.{arith}
 use borrow.Author.Needs.{needs}

@@ -1,4 +1,5 @@
--- `put_results` writes the results of the measures: those left are as many as the loop has still to write (`Resulted`).
+-- `put_results` writes the results of the measures: those left are as many as the loop has still to
+-- write (`Resulted`).
 use native.Mathlib.Omega.{arith}
 use borrow.Author.Needs.{needs}
 use Rattle.header.proofs.Lines.{Resulted, results-none, results-all, results-room, results-room-1, results-more}

@@ -1,8 +1,8 @@
--- `matches::put_labels` meets its contract by the laws of Labelled. The invariant and the measure of its loop come first.
+-- `matches::put_labels` meets its contract by the laws of Labelled. The invariant and the measure
+-- of its loop come first.
 use native.Mathlib.Omega.{arith}
 use Rattle.pairs.specs.Layout.{layout}
 use Rattle.matches.proofs.Labelled.{Labelling, labelling-none, labelling-long, labelling-all, labelling-read, labelling-puts, labelling-more}
-use borrow.Author.Needs.{needs}
 use Rattle.matches.proofs.put_labels.Statement.{statement}
 use Rattle.matches.proofs.put_labels.Tie as tie
 

@@ -1,5 +1,5 @@
--- `measure_list::put_in_table` meets its contract by the laws of Tabling. The invariant is `Tabling`;
--- the measures left fall.
+-- `measure_list::put_in_table` meets its contract by the laws of Tabling. The invariant is
+-- `Tabling`; the measures left fall.
 use Prim.Native.Nat.{_-_}
 use native.Mathlib.Omega.{arith}
 use borrow.Author.Needs.{needs}

@@ -1,4 +1,5 @@
--- `measure_list::put_measures` meets its contract by the laws of Counting and Reading. The invariant is `Counting`, of the measures written and of those to come; the bytes left fall.
+-- `measure_list::put_measures` meets its contract by the laws of Counting and Reading. The
+-- invariant is `Counting`, of the measures written and of those to come; the bytes left fall.
 use Prim.Native.Nat.{_-_}
 use lib.ListN.{length}
 use borrow.Author.Needs.{needs}

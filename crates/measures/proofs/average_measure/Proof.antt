@@ -1,5 +1,5 @@
 -- `measures::average_measure` meets its contract by the laws of RowsOf.
-use Rattle.measures.proofs.RowsOf.{first-within, some-counted, average-null, average-given}
+use Rattle.measures.proofs.RowsOf.{first-within, some-counted, gives-none, average-given}
 use Rattle.labelled.proofs.Seeking.{first-at}
 use borrow.Author.Needs.{needs}
 use Rattle.measures.proofs.average_measure.Statement.{statement}
@@ -14,8 +14,11 @@ enum-known-at c = search needs
 enum-told : tie.Need-enum-told
 enum-told c = search needs
 
+of-no-rows-requires : tie.Need-of-no-rows-requires
+of-no-rows-requires c κs = search needs
+
 returns : tie.Need-returns
-returns c = search (needs, average-null)
+returns c = search (needs, gives-none)
 
 joined-from-requires : tie.Need-joined-from-requires
 joined-from-requires c κs = search (needs, first-at)
@@ -36,6 +39,7 @@ average-measure-spec =
     first-of-requires
     enum-known-at
     enum-told
+    of-no-rows-requires
     returns
     joined-from-requires
     count-of-requires

@@ -1,4 +1,5 @@
--- `measures::joined_from` meets its contract by the laws of RowsOf. The invariant and the measure of its loop come first.
+-- `measures::joined_from` meets its contract by the laws of RowsOf. The invariant and the measure
+-- of its loop come first.
 use mir.Val.{toZ}
 use mir.Syntax.{w64}
 use Prim.Native.Nat.{_-_}

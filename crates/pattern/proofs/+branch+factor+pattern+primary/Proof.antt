@@ -1,5 +1,6 @@
--- The functions `branch`, `factor`, `pattern`, `primary` of pattern, which call each other, meet their contracts.
--- The measure: four times the bytes of text left, and a rank for each reader. Invariants of the loops over parts: Begun. Laws: ReaderLaws, PartLaws.
+-- The functions `branch`, `factor`, `pattern`, `primary` of pattern, which call each other, meet
+-- their contracts. The measure: four times the bytes of text left, and a rank for each reader.
+-- Invariants of the loops over parts: Begun. Laws: ReaderLaws, PartLaws.
 use Rattle.primaries.proofs.PrimaryLaws.{before-end}
 use Rattle.pattern.proofs.ReaderLaws.{factor-fails, factor-fits, factor-ends, primary-simple, primary-empty, primary-again, primary-needs, primary-group}
 use Rattle.pattern.proofs.PartLaws.{Begun, begun-none, begun-fits, begun-length, begun-chained, branch-unread, branch-whole, branch-less, branch-again, pattern-unread, pattern-whole, pattern-less, pattern-again}

@@ -1,5 +1,5 @@
--- `phrases::chain` meets its contract. The loop's invariant: joining what is left leaves what joining all leaves.
--- The measure is the node behind the parts that are left. Laws: ChainLaws.
+-- `phrases::chain` meets its contract. The loop's invariant: joining what is left leaves what
+-- joining all leaves. The measure is the node behind the parts that are left. Laws: ChainLaws.
 use Rattle.phrases.proofs.ChainLaws.{Goes, going-none, going-in, going-at, going-joins, going-less, going-more, going-all, joined-length}
 use borrow.Author.Needs.{needs}
 use native.Mathlib.Omega.{arith}

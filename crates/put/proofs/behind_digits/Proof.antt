@@ -1,4 +1,5 @@
--- `behind_digits` counts the digits: what is counted and the digits left are together one more than all digits.
+-- `behind_digits` counts the digits: what is counted and the digits left are together one more than
+-- all digits.
 use mathlib.Core.Path.{_≡_, ap}
 use Prim.Native.Nat.{_+_, _/_}
 use native.Mathlib.Omega.{arith}

@@ -1,4 +1,5 @@
--- `put_decimal` writes the digits from the last to the first: those behind the rest that is left stand in the buffer (`Spelled`).
+-- `put_decimal` writes the digits from the last to the first: those behind the rest that is left
+-- stand in the buffer (`Spelled`).
 use Prim.Native.Nat.{_/_}
 use native.Mathlib.Omega.{arith}
 use borrow.Author.Needs.{needs}

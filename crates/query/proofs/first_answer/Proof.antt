@@ -1,4 +1,5 @@
--- `query::first_answer` meets its contract by the laws of Order and Reading. The invariant is `Judged`, of what the pass has seen and of what is to come; the bytes left fall.
+-- `query::first_answer` meets its contract by the laws of Order and Reading. The invariant is
+-- `Judged`, of what the pass has seen and of what is to come; the bytes left fall.
 use Prim.Native.Nat.{_-_}
 use lib.ListN.{length}
 use borrow.Author.Needs.{needs}

@@ -1,4 +1,5 @@
--- `reading::has_foreign` meets its contract by the laws of Laws. The invariant and the measure of its loop come first.
+-- `reading::has_foreign` meets its contract by the laws of Laws. The invariant and the measure of
+-- its loop come first.
 use borrow.Author.Needs.{needs}
 use Prim.Native.Nat.{_-_}
 use Rattle.reading.proofs.Laws.{Known, known-none, known-more, known-stop, known-all}

@@ -1,4 +1,5 @@
--- `report::put_measures` meets its contract by the laws of Numbers. The invariant and the measure of its loop come first.
+-- `report::put_measures` meets its contract by the laws of Numbers. The invariant and the measure
+-- of its loop come first.
 use Prim.Native.Nat.{_-_}
 use native.Mathlib.Omega.{arith}
 use borrow.Author.Needs.{needs}

@@ -1,4 +1,5 @@
--- `run` prints what the input's case prints: one law of proofs/Running for each. Where the query and the rows lie is `case-parted`'s to say.
+-- `run` prints what the input's case prints: one law of proofs/Running for each. Where the query
+-- and the rows lie is `case-parted`'s to say.
 use native.Mathlib.Omega.{arith}
 use lib.ListN.{length-take, length-drop}
 use borrow.Author.Needs.{needs}

@@ -1,4 +1,5 @@
--- `run_search` prints the report of the search's promise: the law `report-put` says that this is the search's text.
+-- `run_search` prints the report of the search's promise: the law `report-put` says that this is
+-- the search's text.
 use native.Mathlib.Omega.{arith}
 use borrow.Author.Needs.{needs}
 use Rattle.run.proofs.Running.{numbers-there, report-put}

@@ -1,4 +1,5 @@
--- `sweep::starts` meets its contract by the laws of Sofar. The invariant and the measure of its loop come first.
+-- `sweep::starts` meets its contract by the laws of Sofar. The invariant and the measure of its
+-- loop come first.
 use Rattle.sweep.proofs.Sofar.{SoFar, so-none, so-visits, so-less, so-more, so-numbers, so-labels, so-all}
 use Prim.Native.Nat.{_-_}
 use borrow.Author.Needs.{needs}

@@ -1,4 +1,5 @@
--- `sweep::zero_words` meets its contract by the laws of Clearing. The invariant and the measure of its loop come first.
+-- `sweep::zero_words` meets its contract by the laws of Clearing. The invariant and the measure of
+-- its loop come first.
 use native.Mathlib.Omega.{arith}
 use Prim.Native.Nat.{_-_}
 use Rattle.sweep.proofs.Clearing.{Zeroed, zeroed-none, zeroed-long, zeroed-room, zeroed-more, zeroed-all}

@@ -1,4 +1,5 @@
--- `put_lines` writes the matches' lines: those left are as many as the loop has still to write (`Lined`).
+-- `put_lines` writes the matches' lines: those left are as many as the loop has still to write
+-- (`Lined`).
 use native.Mathlib.Omega.{arith}
 use borrow.Author.Needs.{needs, sfits-of}
 use Rattle.header.proofs.Lines.{Lined, lines-none, lines-all, lines-inside, lines-room, lines-more}

@@ -1,7 +1,7 @@
 -- The functions `body`, `branches`, `emit`, `rounds` of places, which call each other, meet their
 -- contracts. The measure: first the node's height, then the function and the rounds left (EmitLaws,
--- measures). Invariants of the loops: EmitLeft, BranchesLeft, RoundsLeft. Laws: ForkLaws, TableLaws,
--- EmitLaws, LoopLaws.
+-- measures). Invariants of the loops: EmitLeft, BranchesLeft, RoundsLeft. Laws: ForkLaws,
+-- TableLaws, EmitLaws, LoopLaws.
 use Rattle.forks.proofs.ForkLaws.{not-sequence, not-alternation}
 use Rattle.place_words.proofs.TableLaws.{emitted-length}
 use Rattle.unrolling.proofs.EmitLaws.{emitM, branchM, roundM, bodyM, body-in, letter-words, letter-done, anchor-words, anchor-done, empty-done, sequence-done, alternation-done, group-first, group-done}

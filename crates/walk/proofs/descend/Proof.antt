@@ -1,4 +1,5 @@
--- `walk::descend` meets its contract by the laws of Whole. The invariant and the measure of its loop come first.
+-- `walk::descend` meets its contract by the laws of Whole. The invariant and the measure of its
+-- loop come first.
 use borrow.Author.Needs.{needs}
 use borrow.Author.Tests.{le-leb, lt-leb}
 use mathlib.Core.Path.{refl}

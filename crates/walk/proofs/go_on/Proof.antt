@@ -1,4 +1,5 @@
--- `walk::go_on` meets its contract by the laws of Whole. The invariant and the measure of its loop come first.
+-- `walk::go_on` meets its contract by the laws of Whole. The invariant and the measure of its loop
+-- come first.
 use mathlib.Core.Path.{refl}
 use borrow.Author.Needs.{needs}
 use Rattle.walk.proofs.Whole.{Running, run-none, run-goes, run-end, run-found, run-halt, run-idling, run-more, run-less}

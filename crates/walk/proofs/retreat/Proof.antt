@@ -1,5 +1,5 @@
--- `walk::retreat` meets its contract by the laws of Whole. The invariant and the measure of its loop come first.
-use borrow.Author.Needs.{needs}
+-- `walk::retreat` meets its contract by the laws of Whole. The invariant and the measure of its
+-- loop come first.
 use Rattle.walk.proofs.Whole.{Retreating, behind, off-none, off-down, off-end, off-halts, off-more, off-less}
 use Rattle.pairs.specs.State.{Idling}
 use Rattle.pairs.specs.Layout.{layout}
