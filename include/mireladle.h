@@ -242,8 +242,9 @@ struct mireladle_room mireladle_room(const uint8_t *query, size_t query_len, con
  *                          first, 2 at its first row with a letter, 3 at its last row with a letter
  *                          (in all four cases one row on after a match that takes none); then that
  *                          letter, 'A' to 'Z', for 2 and 3, and a byte 0 for 0 and 1. See answer 15
- *   kind 5, up to 8 times  measure: function 1 COUNT, 2 SUM, 3 MIN, 4 MAX, 5 FIRST, 6 LAST; letter, or 0 for all rows
- *                          of the match; column (0 for COUNT); reserved byte
+ *   kind 5, up to 8 times  measure: function 1 COUNT, 2 SUM, 3 MIN, 4 MAX, 5 FIRST, 6 LAST, 7 AVG;
+ *                          letter, or 0 for all rows of the match; column (0 for COUNT); reserved
+ *                          byte
  *
  * A comparison is: left column; left offset, a signed byte of -64 (64 rows back) to 64 (64 rows on); operator, 1 equal,
  * 2 unequal, 3 less, 4 at most, 5 greater, 6 at least; right kind, 0 a number, 1 a column plus a number; right column;
@@ -251,6 +252,11 @@ struct mireladle_room mireladle_room(const uint8_t *query, size_t query_len, con
  * The sum is exact. An offset may lead out of the match, to any row handed over; a comparison that looks at a row which
  * is not there is not met, not even by "unequal". A letter holds at a row where all its comparisons are met; a letter
  * without DEFINE holds at every row. DEFINEs stand in any order, also for letters that the pattern does not have.
+ *
+ * A measure is over the rows of a match, or over those of them with its letter. AVG is their SUM
+ * divided by their COUNT, cut toward zero as `/` cuts in C: 3 and 4 give 3, -3 and -4 give -3; SUM
+ * and COUNT tell what is cut off. Sums are exact, and every result fits 64 bits: a SUM is at most
+ * 2^43 either way, and an AVG lies between MIN and MAX.
  *
  * A pattern is made of letters, ^ (before the first row), $ (behind the last row), () (nothing), sequences, branches
  * parted by |, the left one tried first, parentheses, and the quantifiers * + ? {n} {n,} {,m} {n,m}, greedy, or

@@ -264,7 +264,7 @@ static void make_query(struct bytes *query, const char *text, size_t length, str
     add(query, parts.skip);
     add(query, parts.skip < 2 ? 0 : 'A');
     for (unsigned m = 0; m < parts.measures; m++) {
-        const unsigned function = 1 + m % 6;
+        const unsigned function = 1 + m % 7;
         add_head(query, 4, 5);
         add(query, function);
         add(query, 0);
