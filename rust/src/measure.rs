@@ -17,6 +17,8 @@ pub enum Function {
     First,
     /// A column's entry at the last of the rows.
     Last,
+    /// The average of a column, cut toward zero: see [`Measure::avg`].
+    Avg,
 }
 
 impl Function {
@@ -28,6 +30,7 @@ impl Function {
             Function::Max => 4,
             Function::First => 5,
             Function::Last => 6,
+            Function::Avg => 7,
         }
     }
 }
@@ -89,6 +92,24 @@ impl Measure {
         Measure::new(Function::Last, column)
     }
 
+    /// The average of a column: the sum divided by the number of rows, cut toward zero as `/` does
+    /// it. So it is a whole number, which lies between the smallest and the largest entry; no sum
+    /// on the way to it overflows. [`sum`](Measure::sum) and [`count`](Measure::count) of the same
+    /// rows tell what is cut off.
+    ///
+    /// ```
+    /// use mireladle::{Measure, Query, Rows};
+    ///
+    /// let pairs = Query::builder(1).pattern("A A").measure(Measure::avg(0)).build()?;
+    /// let report = pairs.search(Rows::new(&[3, 4, -3, -4, 1, -2], 1))?;
+    /// let averages: Vec<_> = report.matches().flat_map(|found| found.measures()).collect();
+    /// assert_eq!(averages, [Some(3), Some(-3), Some(0)]);
+    /// # Ok::<(), mireladle::Error>(())
+    /// ```
+    pub const fn avg(column: u8) -> Measure {
+        Measure::new(Function::Avg, column)
+    }
+
     /// The same measure over the rows with this letter only, `A` to `Z`.
     pub const fn of(mut self, letter: char) -> Measure {
         self.letter = Some(letter);
@@ -123,6 +144,8 @@ mod tests {
         assert_eq!(Measure::max(2).bytes(), [4, 0, 2, 0]);
         assert_eq!(Measure::first(3).bytes(), [5, 0, 3, 0]);
         assert_eq!(Measure::last(0).of('B').bytes(), [6, 0x42, 0, 0]);
+        assert_eq!(Measure::avg(0).bytes(), [7, 0, 0, 0]);
+        assert_eq!(Measure::avg(4).of('C').bytes(), [7, 0x43, 4, 0]);
     }
 
     #[test]
