@@ -93,10 +93,10 @@ fn valleys() {
     let expected = "\
 3 matches in 32 steps
 
-match  first row  rows  FIRST(S.price)  LAST(D.price)  LAST(U.price)  labels
-    1          0     4              20             15             24  SDUU
-    2          3     5              24             12             22  SDDUU
-    3          7     3              22             21             25  SDU
+match  first row  rows  FIRST(S.price)  LAST(D.price)  LAST(U.price)  AVG(price)  labels
+    1          0     4              20             15             24          19  SDUU
+    2          3     5              24             12             22          18  SDDUU
+    3          7     3              22             21             25          22  SDU
 
 row  price  match:label
   0     20  1:S
@@ -303,6 +303,36 @@ row  price  match:label
   2      0  3:-
 ";
     assert_eq!((status(&output), text(&output.stdout)), (0, expected));
+}
+
+/// Cut toward zero on both sides of it, null over no rows, and under the column's own name.
+#[test]
+fn averages_are_whole_numbers() {
+    let query = file(
+        "average.txt",
+        "pattern: A B*\nB: c0 = 2\nmeasures: avg(degrees), AVG(B.c1), SUM(B.degrees), COUNT(B)",
+    );
+    let rows = file(
+        "average.csv",
+        "event,degrees\n1,8\n2,3\n2,4\n1,-2\n2,-3\n2,-4\n1,-1\n",
+    );
+    let output = run(&[&query, &rows]);
+    let expected = "\
+3 matches in 20 steps
+
+match  first row  rows  AVG(degrees)  AVG(B.degrees)  SUM(B.degrees)  COUNT(B)  labels
+    1          0     3             5               3               7         2  ABB
+    2          3     3            -3              -3              -7         2  ABB
+    3          6     1            -1            null            null         0  A
+";
+    let printed = text(&output.stdout);
+    assert!(printed.starts_with(expected), "{printed}");
+    assert_eq!((status(&output), text(&output.stderr)), (0, ""));
+    // The function's number, the letter and the column, as the program reads them.
+    let bytes = run(&["--bytes", &query, &rows]).stdout;
+    for measure in [[4, 0, 5, 0, 7, 0, 1, 0], [4, 0, 5, 0, 7, b'B', 1, 0]] {
+        assert!(bytes.windows(8).any(|part| part == measure), "{measure:?}");
+    }
 }
 
 #[test]

@@ -36,8 +36,9 @@ QUERY.txt  Lines in any order; # begins a comment.
            skip is `past last row` (also where the line is missing), `to next row`,
            `to first A` or `to last A`: at which row the search goes on behind a match, here
            its first or last row labelled A. That row has to lie behind the match's first.
-           Measures are COUNT, SUM, MIN, MAX, FIRST, LAST; over all rows of the match
+           Measures are COUNT, SUM, MIN, MAX, FIRST, LAST, AVG; over all rows of the match
            (COUNT(*)), or over those with one letter. Over no rows, all but COUNT are null.
+           AVG is a whole number, cut toward zero: of 3 and 4 it is 3, of -3 and -4 it is -3.
 
 --steps N  Search in N steps at most, a whole number from 0 on, and print the matches
            found by then. The first line of every report tells its steps. A million take

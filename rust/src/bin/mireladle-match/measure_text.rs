@@ -37,13 +37,14 @@ fn measure(words: &mut Words, names: &[String]) -> Result<(Measure, String), Fau
     Ok((measure, format!("{called}({over})")))
 }
 
-const FUNCTIONS: [(&str, Function); 6] = [
+const FUNCTIONS: [(&str, Function); 7] = [
     ("COUNT", Function::Count),
     ("SUM", Function::Sum),
     ("MIN", Function::Min),
     ("MAX", Function::Max),
     ("FIRST", Function::First),
     ("LAST", Function::Last),
+    ("AVG", Function::Avg),
 ];
 
 fn function(words: &mut Words) -> Result<(Function, &'static str), Fault> {
@@ -52,7 +53,7 @@ fn function(words: &mut Words) -> Result<(Function, &'static str), Fault> {
             return Ok((function, name));
         }
     }
-    Err(words.fault("a measure: COUNT, SUM, MIN, MAX, FIRST or LAST"))
+    Err(words.fault("a measure: COUNT, SUM, MIN, MAX, FIRST, LAST or AVG"))
 }
 
 /// What is counted: `*` for all rows of the match, or a letter, which may have `.*` behind it.

@@ -171,7 +171,8 @@ fn every_line_end_ends_a_line() {
 #[test]
 fn measures_of_every_form() {
     let read = read(
-        "pattern: A\nmeasures: count(*), COUNT(A.*), Min(A.event), MAX(c0), first(\"base number\")",
+        "pattern: A\nmeasures: count(*), COUNT(A.*), Min(A.event), MAX(c0), \
+         first(\"base number\"), AVG(A.time), avg(c1)",
         &names(),
     );
     let read = read.unwrap();
@@ -181,6 +182,8 @@ fn measures_of_every_form() {
         Measure::min(1).of('A'),
         Measure::max(0),
         Measure::first(2),
+        Measure::avg(0).of('A'),
+        Measure::avg(1),
     ];
     let expected = expected
         .into_iter()
@@ -193,7 +196,9 @@ fn measures_of_every_form() {
             "COUNT(A)",
             "MIN(A.event)",
             "MAX(time)",
-            "FIRST(base number)"
+            "FIRST(base number)",
+            "AVG(A.time)",
+            "AVG(event)"
         ]
     );
 }
@@ -415,14 +420,14 @@ fn faults_of_comparisons() {
 #[test]
 fn faults_of_measures() {
     let columns = "a column (c0 or time, c1 or event, c2 or \"base number\")";
-    let measure = "a measure: COUNT, SUM, MIN, MAX, FIRST or LAST";
+    let measure = "a measure: COUNT, SUM, MIN, MAX, FIRST, LAST or AVG";
     assert_eq!(
         fault("measures:"),
         format!("2:10: expected {measure}, found the end of the line")
     );
     assert_eq!(
-        fault("measures: AVG(c0)"),
-        format!("2:11: expected {measure}, found `AVG`")
+        fault("measures: MEDIAN(c0)"),
+        format!("2:11: expected {measure}, found `MEDIAN`")
     );
     assert_eq!(
         fault("measures: COUNT"),
@@ -451,6 +456,11 @@ fn faults_of_measures() {
     assert_eq!(
         fault("measures: SUM(A.x)"),
         format!("2:17: expected {columns}, found `x`")
+    );
+    // An average is of a column, as all but COUNT are.
+    assert_eq!(
+        fault("measures: AVG(*)"),
+        format!("2:15: expected {columns}, found `*`")
     );
     assert_eq!(
         fault("measures: SUM(c0) MIN(c0)"),
