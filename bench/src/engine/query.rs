@@ -7,6 +7,8 @@ pub const SUM: u8 = 2;
 pub const MIN: u8 = 3;
 pub const MAX: u8 = 4;
 pub const FIRST: u8 = 5;
+pub const LAST: u8 = 6;
+pub const AVG: u8 = 7;
 
 pub const COMPARISON_BYTES: usize = 12;
 
@@ -184,7 +186,7 @@ impl<'a> Query<'a> {
             column,
         };
         self.measure_count += 1;
-        (1..=6).contains(&function)
+        (COUNT..=AVG).contains(&function)
             && (letter == 0 || letter.is_ascii_uppercase())
             && usize::from(column) < self.columns
             && (function != COUNT || column == 0)

@@ -83,6 +83,11 @@ fn result(measure: Measure, entries: &[i32], columns: usize, labels: &[u8]) -> O
         query::MIN => counted().min(),
         query::MAX => counted().max(),
         query::FIRST => labels.iter().position(counts).map(entry),
-        _ => labels.iter().rposition(counts).map(entry),
+        query::LAST => labels.iter().rposition(counts).map(entry),
+        // AVG: cut toward zero, and null where the count is 0.
+        _ => {
+            let sum: i64 = counted().sum();
+            sum.checked_div(counted().count() as i64)
+        }
     }
 }

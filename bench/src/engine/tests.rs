@@ -1,6 +1,6 @@
 //! The bench sheet of document 01, W1 to W12, run on the engine; with them what
 //! the paper says of the lent buffers when a search is done, stopped or refused;
-//! and the skips to a labelled row of R-2.
+//! the skips to a labelled row of R-2; and the average of R-5.
 
 use super::{prepare, refused, room, search};
 use mireladle::lent::Outcome;
@@ -372,4 +372,27 @@ fn skips_that_are_refused() {
         );
         assert_eq!((answer(mode, b'A'), answer(mode, b'B')), (0, 9));
     }
+}
+
+/// Cut toward zero, over all rows of a match or those with a letter; null over none.
+#[test]
+fn averages() {
+    let query = free("A B? B? C")
+        .define('B', [col(0).lt(0)])
+        .define('C', [col(0).eq(0)])
+        .measure(Measure::avg(0))
+        .measure(Measure::avg(0).of('B'))
+        .to_bytes();
+    let measured = |rows: &[i32]| searched(&query, rows).numbers[3..7].to_vec();
+    assert_eq!(measured(&[5, -3, -4, 0]), [1, 0, 1, -3]);
+    assert_eq!(measured(&[8, -3, 0]), [1, 1, 1, -3]);
+    assert_eq!(measured(&[-3, 0]), [1, -1, 0, 0]);
+    let refused = |function: u8| {
+        let mut query = query.clone();
+        let end = query.len();
+        query[end - 4] = function;
+        searched(&query, &[]).result.answer
+    };
+    assert_eq!([0, 8, 255].map(refused), [3; 3]);
+    assert_eq!([1, 6, 7].map(refused), [0; 3]);
 }
