@@ -1,9 +1,18 @@
 -- The interval of an operator, by the ways through the functions that compute it.
 use mathlib.Core.Path.{_≡_}
-use Prim.Native.Nat.{ℕ, _+_, _-_}
+use Prim.Native.Nat.{ℕ, _+_, _-_, _<_}
 use native.Mathlib.Omega.{arith}
 use borrow.Author.Tests.{eq-eqb, ne-eqb}
-use Rattle.table.specs.Tests.{lowOf, widthOf}
+use Rattle.table.specs.Tests.{testedBy, lowOf, widthOf}
+
+module _ (kind : ℕ) where
+  pub by-column : kind ≡ 1 → (1 ≡ testedBy kind) × (1 < 65536)
+  unfolding testedBy
+  by-column h = (simp (eq-eqb kind 1 h), omega arith)
+
+  pub by-number : (kind ≡ 1 → ⊥) → (0 ≡ testedBy kind) × (0 < 65536)
+  unfolding testedBy
+  by-number h = (simp (ne-eqb kind 1 h), omega arith)
 
 module _ (op x : ℕ) where
   pub low-1 : op ≡ 1 → x ≡ lowOf op x

@@ -8,7 +8,7 @@ use lib.ListN.{getD}
 use Rattle.rules.specs.Basics.{signed32}
 use Rattle.rules.specs.Rows.{Comparison}
 use Rattle.rules.specs.Query.{comparisonAt}
-use Rattle.table.specs.Tests.{numberIn, comparisonIn, word64, raised, raisedWord, lowOf, widthOf, First}
+use Rattle.table.specs.Tests.{numberIn, comparisonIn, word64, raised, raisedWord, testedBy, lowOf, widthOf, First}
 use Rattle.interval_words.specs.Interval.{numberAt, IntervalPut}
 
 -- ---- the same words
@@ -42,7 +42,7 @@ module _ (T T′ : List ℕ) (at : ℕ) (same : (j : ℕ) → at ≤ j → j < a
 
   pub first-same : First T at → First T′ at
   first-same h = record {
-    kind = same (at + 7) (omega arith) (omega arith) ∙ h .kind ∙ ap (λ (w : ℕ). w / 8) (sym sort-same);
+    kind = same (at + 7) (omega arith) (omega arith) ∙ h .kind ∙ ap (λ (w : ℕ). testedBy (w / 8)) (sym sort-same);
     low =
         ap raisedWord (word64-same T T′ (at + 8) (λ j a b. same j (omega arith) (omega arith))) ∙ h .low
         ∙ ap (λ (w : ℕ). lowOf (w % 8) (raised (numberIn T (at + 2)))) (sym sort-same)
@@ -78,7 +78,7 @@ module _ (s : List ℕ) (columns p : ℕ) (T₀ T : List ℕ) (at : ℕ) (put : 
 
   pub first-put : First T at
   first-put = record {
-    kind = put .kind-is ∙ sym (kind-is T columns (at + 2) s p is);
+    kind = put .kind-is ∙ ap testedBy (sym (kind-is T columns (at + 2) s p is));
     low = put .low-is ∙ ap (λ (o : ℕ). lowOf o (raised (numberAt s p))) (sym op-is) ∙ ap (lowOf (getD T (at + 2) 0 % 8)) (sym x-is);
     width = put .width-is ∙ ap (λ (o : ℕ). widthOf o (raised (numberAt s p))) (sym op-is) ∙ ap (widthOf (getD T (at + 2) 0 % 8)) (sym x-is);
   }

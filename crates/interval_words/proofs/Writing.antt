@@ -5,7 +5,7 @@ use Prim.Native.Nat.{ℕ, _+_, _*_, _/_, _%_, _≤_, _<_}
 use native.Mathlib.Omega.{arith}
 use lib.ListN.{length, getD, set, length-set}
 use lib.Seq.{getD-set-same, getD-set-other}
-use Rattle.table.specs.Tests.{word64, raised, raisedWord, lowOf, widthOf}
+use Rattle.table.specs.Tests.{word64, raised, raisedWord, testedBy, lowOf, widthOf}
 use Rattle.interval_words.specs.Interval.{numberAt, Word64Put, NineRoom, NinePut, IntervalPut}
 use Rattle.interval_words.proofs.First.{word64-same}
 
@@ -95,14 +95,14 @@ module _ (T : List ℕ) (at kind : ℕ) (h : NineRoom T at kind) where
 
 -- ---- those of a comparison
 
-module _ (s : List ℕ) (p : ℕ) (T T′ : List ℕ) (at op kind x first low width : ℕ) (e-op : op ≡ getD s (p + 2) 0) (e-kind : kind ≡ getD s (p + 3) 0)
+module _ (s : List ℕ) (p : ℕ) (T T′ : List ℕ) (at op right kind x first low width : ℕ) (e-op : op ≡ getD s (p + 2) 0) (e-right : right ≡ getD s (p + 3) 0) (e-kind : kind ≡ testedBy right)
     (e-x : x ≡ raised (numberAt s p)) (e-first : first ≡ lowOf op x) (e-low : (low + 8589934592) % 18446744073709551616 ≡ first) (e-width : width ≡ widthOf op x)
     (put : NinePut T T′ at kind low width) where
   pub interval-put : IntervalPut s p T T′ at
   unfolding raisedWord
   interval-put = record {
     len = put .len;
-    kind-is = put .kind-is ∙ e-kind;
+    kind-is = put .kind-is ∙ e-kind ∙ ap testedBy e-right;
     low-is = ap raisedWord (put .low-is) ∙ e-low ∙ e-first ∙ ap (λ (o : ℕ). lowOf o x) e-op ∙ ap (lowOf (getD s (p + 2) 0)) e-x;
     width-is = put .width-is ∙ e-width ∙ ap (λ (o : ℕ). widthOf o x) e-op ∙ ap (widthOf (getD s (p + 2) 0)) e-x;
     kept = put .kept;

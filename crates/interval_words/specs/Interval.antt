@@ -7,7 +7,7 @@ use Prim.Native.Nat.{ℕ, _+_, _≤_, _<_}
 use lib.IntN.{ℤ}
 use lib.ListN.{length, getD}
 use Rattle.rules.specs.Basics.{le32, signed32}
-use Rattle.table.specs.Tests.{word64, raised, raisedWord, lowOf, widthOf}
+use Rattle.table.specs.Tests.{word64, raised, raisedWord, testedBy, lowOf, widthOf}
 
 -- the number of the comparison
 unfoldable pub numberAt : List ℕ → ℕ → ℤ
@@ -39,7 +39,7 @@ pub record IntervalRoom (s : List ℕ) (p : ℕ) (T : List ℕ) (at : ℕ) : Typ
 
 pub record IntervalPut (s : List ℕ) (p : ℕ) (T T′ : List ℕ) (at : ℕ) : Type 0 where
   pub len : length T′ ≡ length T
-  pub kind-is : getD T′ (at + 7) 0 ≡ getD s (p + 3) 0
+  pub kind-is : getD T′ (at + 7) 0 ≡ testedBy (getD s (p + 3) 0)
   pub low-is : raisedWord (word64 T′ (at + 8)) ≡ lowOf (getD s (p + 2) 0) (raised (numberAt s p))
   pub width-is : word64 T′ (at + 12) ≡ widthOf (getD s (p + 2) 0) (raised (numberAt s p))
   pub kept : (j : ℕ) → (at + 7 ≤ j → j < at + 16 → ⊥) → getD T′ j 0 ≡ getD T j 0

@@ -1,6 +1,6 @@
 // The interval of a letter's first comparison, written into the table of a prepared query; the
 // layout of its words is that of crates/table/specs/Tests.
-// Promise: words 7 to 15 of the letter say the right kind and the interval of the comparison that
+// Promise: words 7 to 15 of the letter say how it is tested and the interval of the comparison that
 // stands in the query's bytes, and no other word is changed (specs/Interval). Weakness: the bytes
 // and the words must be there, which the caller has to see to.
 use numbers::le32_at;
@@ -10,7 +10,7 @@ use numbers::wide8;
 ghost use mathlib.Core.Path.{_≡_};
 ghost use Prim.Native.Nat.{_+_, _≤_, _<_};
 ghost use lib.ListN.{length};
-ghost use Rattle.table.specs.Tests.{raised, lowOf, widthOf};
+ghost use Rattle.table.specs.Tests.{raised, testedBy, lowOf, widthOf};
 ghost use Rattle.interval_words.specs.Interval.{numberAt, Word64Put, NineRoom, NinePut, IntervalRoom, IntervalPut};
 
 // What a number is raised by: no number that a comparison meets is then below 0.
@@ -34,6 +34,23 @@ const GREATER: usize = 5;
 const LARGEST: u64 = 18446744073709551615;
 
 const SECOND_LARGEST: u64 = 18446744073709551614;
+
+// The right kind of a comparison whose right side has a column, and how a letter is tested by it
+// and by any other.
+const COLUMN: usize = 1;
+
+const NUMBER: usize = 0;
+
+// ---- how a letter is tested
+
+fn tested_by(kind: usize) -> usize
+    ensures { λ r. ⌜ (r ≡ testedBy kind) × (r < 65536) ⌝ }
+{
+    if kind == COLUMN {
+        return COLUMN;
+    }
+    NUMBER
+}
 
 // ---- the interval
 
@@ -126,7 +143,7 @@ pub fn put_interval(query: &[u8], p: usize, table: &mut [u16], at: usize)
     ensures { λ _. ⌜ IntervalPut (now (query .entry)) p (now (table .entry)) (now (table .exit)) at ⌝ }
 {
     let op = wide8(query[p + 2]);
-    let kind = wide8(query[p + 3]);
+    let kind = tested_by(wide8(query[p + 3]));
     let x = raised_at(query, p);
     let low = std::num::wrapping_sub_u64(low_of(op, x), RAISED_BY);
     let width = width_of(op, x);

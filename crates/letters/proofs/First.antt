@@ -3,19 +3,19 @@
 use mathlib.Core.Path.{_≡_, refl, sym, ap, _∙_}
 use mathlib.Core.Bool.{Bool, true, false}
 use mathlib.Core.List.{List}
-use Prim.Native.Nat.{ℕ, _+_, _*_, _-_, _%_, _≤_, _<_}
+use Prim.Native.Nat.{ℕ, _+_, _*_, _-_, _/_, _%_, _≤_, _<_}
 use native.Mathlib.Omega.{arith}
-use lib.Dec.{ltb}
+use lib.Dec.{ltb, eqb}
 use lib.IntN.{ℤ, pos, negsuc, _+ℤ_, _-ℤ_}
 use lib.Signed.{mag}
 use lib.ListN.{length, getD}
 use mir.Syntax.{w64}
 use mir.Val.{toZ, ofZ}
-use borrow.Author.Tests.{ltb-true, ltb-false}
+use borrow.Author.Tests.{ltb-true, ltb-false, eqb-true, eq-eqb}
 use Rattle.rules.specs.Basics.{pick, signed32}
 use Rattle.rules.specs.Rows.{compares}
 use Rattle.laws.proofs.Signed.{mag-add, read-back}
-use Rattle.table.specs.Tests.{numberIn, word64, raised, raisedWord, lowOf, widthOf, First}
+use Rattle.table.specs.Tests.{numberIn, word64, raised, raisedWord, testedBy, lowOf, widthOf, First}
 use Rattle.comparisons.specs.Spots.{spotIndex, readMet}
 use Rattle.comparisons.proofs.Reading.{Words, left-missing, right-missing, number-met, column-met}
 use Rattle.intervals.specs.Intervals.{within}
@@ -46,6 +46,20 @@ number-short T words at =
     let a = words (at + 3) .fits in
     let b = words (at + 4) .fits in
     short (getD T (at + 3) 0 + getD T (at + 4) 0 * 65536) (omega arith)
+
+-- ---- how a letter is tested
+
+column-kind : (x : ℕ) → testedBy x ≡ 1 → x ≡ 1
+unfolding testedBy
+column-kind x e = by (eqb x 1) refl e
+  where
+    by : (t : Bool) → eqb x 1 ≡ t → _≡_ {A = ℕ} (pick t 1 0) 1 → x ≡ 1
+    by true h z = eqb-true x 1 h
+    by false h z = absurd (let y : _≡_ {A = ℕ} 0 1 = z in omega arith)
+
+kind-column : (x : ℕ) → x ≡ 1 → testedBy x ≡ 1
+unfolding testedBy
+kind-column x h = simp (eq-eqb x 1 h)
 
 -- ---- the first comparison
 
@@ -79,7 +93,7 @@ module _ (T : List ℕ) (rows : List ℤ) (from at : ℕ) where
     module _ (first : First T at) where
       pub right-gone : (y : ℕ) → getD T (at + 7) 0 ≡ 1 → y ≡ spotIndex from (getD T (at + 4) 0) → length rows ≤ y → false ≡ readMet T rows from (at + 2)
       right-gone y column is-y h =
-          right-missing T rows from (at + 2) (getD T (at + 2) 0) y refl (sym (first .kind) ∙ column) (is-y ∙ right-word) h
+          right-missing T rows from (at + 2) (getD T (at + 2) 0) y refl (column-kind _ (sym (first .kind) ∙ column)) (is-y ∙ right-word) h
 
       module _ (words : Words T) (there : x < length rows) (a : ℤ) (is-a : a ≡ getD rows x (pos 0)) (few-a : mag a < 2147483648) where
         abbrev few-number : mag number < 2147483648
@@ -90,7 +104,7 @@ module _ (T : List ℕ) (rows : List ℤ) (from at : ℕ) where
             let s : mag (held a) < 2147483648 = rw (small a few-a) few-a in
             let f : t ≡ compares operator (held a) number = e ∙ interval-is first (held a) ∙ number-is operator (held a) number s few-number in
             number-met T rows from (at + 2) x (is-x ∙ left-word) there a is-a few-a number refl few-number (getD T (at + 2) 0) refl t
-            (λ q. h (first .kind ∙ q)) (f ∙ ap (compares operator (held a)) (sym (small number few-number)))
+            (λ q. h (first .kind ∙ kind-column _ q)) (f ∙ ap (compares operator (held a)) (sym (small number few-number)))
 
         pub by-column : (y : ℕ) (b d : ℤ) (t : Bool) → getD T (at + 7) 0 ≡ 1 → y ≡ spotIndex from (getD T (at + 4) 0) → y < length rows → b ≡ getD rows y (pos 0)
             → mag b < 2147483648 → d ≡ held a -ℤ held b → mag d < 4294967296
@@ -103,7 +117,7 @@ module _ (T : List ℕ) (rows : List ℤ) (from at : ℕ) where
             e ∙ ap (λ (z : ℤ). within (raised z) (raisedWord (word64 T (at + 8))) (word64 T (at + 8 + 4))) v ∙ interval-is first (a -ℤ b)
             ∙ column-is operator a b number few-a few-b few-number k in
             column-met T rows from (at + 2) x (is-x ∙ left-word) there a is-a few-a number refl few-number (getD T (at + 2) 0) refl
-            (sym (first .kind) ∙ column) y (is-y ∙ right-word) t b (held b +ℤ held number) right is-b few-b refl
+            (column-kind _ (sym (first .kind) ∙ column)) y (is-y ∙ right-word) t b (held b +ℤ held number) right is-b few-b refl
             (f ∙ sums a b (small a few-a) (small b few-b) (small number few-number) few-b few-number)
           where
             sums : (a b : ℤ) → held a ≡ a → held b ≡ b → held number ≡ number → mag b < 2147483648 → mag number < 2147483648

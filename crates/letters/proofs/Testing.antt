@@ -2,7 +2,7 @@
 use mathlib.Core.Path.{_≡_, refl, sym, ap, _∙_}
 use mathlib.Core.Bool.{Bool, true, false, not, _&&_}
 use mathlib.Core.List.{List, _∷_}
-use Prim.Native.Nat.{ℕ, _+_, _*_, _-_, _≤_, _<_}
+use Prim.Native.Nat.{ℕ, _+_, _*_, _-_, _/_, _≤_, _<_}
 use native.Mathlib.Omega.{arith}
 use native.Mathlib.Nat.{mul-le-mul}
 use lib.Dec.{ltb, eqb}
@@ -10,26 +10,50 @@ use lib.IntN.{ℤ}
 use lib.ListN.{length, getD}
 use mir.Syntax.{w64}
 use mir.Val.{Fits}
-use borrow.Author.Tests.{lt-ltb, le-ltb, eq-eqb, ne-eqb, not-true, not-false}
-use Rattle.rules.specs.Basics.{every}
+use borrow.Author.Tests.{lt-ltb, le-ltb, eq-eqb, ne-eqb, eqb-true, eqb-false, not-true, not-false}
+use Rattle.rules.specs.Basics.{pick, every}
 use Rattle.rules.specs.Rows.{tableOf, holds}
-use Rattle.table.specs.Tests.{comparisonIn, comparisonsIn, definedIn, First, Letters}
+use Rattle.laws.proofs.Choice.{decided}
+use Rattle.table.specs.Tests.{testedBy, comparisonIn, comparisonsIn, definedIn, First, Letters}
 use Rattle.comparisons.specs.Spots.{FarBack, readMet, firstUnmet}
 use Rattle.comparisons.proofs.Entries.{At}
 use Rattle.comparisons.proofs.Reading.{Words, met-is, holds-is}
 
--- a letter that has a comparison has an interval for the first one
-pub first-there : (T : List ℕ) (tests : ℕ) (rows : List ℤ) (columns n l count : ℕ) → Letters T tests rows columns n → l < 26 → count ≡ getD T (tests + l * 16) 0
-    → (count ≡ 0 → ⊥) → First T (tests + l * 16)
-first-there T tests rows columns n l count letters letter is-count some =
-    letters .tests-there .first l letter (let y : 0 < getD T (tests + l * 16) 0 = omega arith in y)
+-- ---- what word 7 tells
 
--- where a letter has two comparisons or more, those behind the first stand in the table
-pub others-there : (T : List ℕ) (tests : ℕ) (rows : List ℤ) (columns n l count : ℕ) → Letters T tests rows columns n → l < 26 → count ≡ getD T (tests + l * 16) 0
-    → 1 < count → getD T (tests + l * 16 + 1) 0 + (count - 1) * 5 ≤ length T
-others-there T tests rows columns n l count letters letter is-count many =
-    let a = letters .tests-there .more l letter (let y : 1 < getD T (tests + l * 16) 0 = omega arith in y) in
-    omega arith
+module _ (T : List ℕ) (tests : ℕ) (rows : List ℤ) (columns n l : ℕ) (letters : Letters T tests rows columns n) (letter : l < 26)
+    (kind : ℕ) (is-kind : kind ≡ getD T (tests + l * 16 + 7) 0) where
+  -- a letter that is tested has a comparison
+  pub some-there : kind ≤ 1 → getD T (tests + l * 16) 0 ≡ 0 → ⊥
+  some-there k z = let e = letters .tests-there .free l letter z in omega arith
+
+  -- and an interval for the first one
+  pub first-there : kind ≤ 1 → First T (tests + l * 16)
+  first-there k = let o = some-there k in letters .tests-there .first l letter (let y : 0 < getD T (tests + l * 16) 0 = omega arith in y)
+
+  -- any other has none
+  pub none-there : (kind ≡ 1 → ⊥) → (kind ≡ 0 → ⊥) → getD T (tests + l * 16) 0 ≡ 0
+  unfolding testedBy
+  none-there a b = decided (eqb (getD T (tests + l * 16) 0) 0) (λ e. eqb-true (getD T (tests + l * 16) 0) 0 e) (λ e. absurd (no e))
+    where
+      by : (t : Bool) (x : ℕ) → kind ≡ pick t 1 0 → ⊥
+      by true x e = a e
+      by false x e = b e
+
+      no : eqb (getD T (tests + l * 16) 0) 0 ≡ false → ⊥
+      no e =
+          let o = eqb-false (getD T (tests + l * 16) 0) 0 e in
+          let f = letters .tests-there .first l letter (let y : 0 < getD T (tests + l * 16) 0 = omega arith in y) in
+          by (eqb (getD T (tests + l * 16 + 2) 0 / 8) 1) 0 (is-kind ∙ f .kind)
+
+  -- where it has two comparisons or more, those behind the first stand in the table
+  pub others-there : (count : ℕ) → count ≡ getD T (tests + l * 16) 0 → 1 < count → getD T (tests + l * 16 + 1) 0 + (count - 1) * 5 ≤ length T
+  others-there count is-count many =
+      let a = letters .tests-there .more l letter (let y : 1 < getD T (tests + l * 16) 0 = omega arith in y) in
+      omega arith
+
+  pub some-counted : kind ≤ 1 → (count : ℕ) → count ≡ getD T (tests + l * 16) 0 → 0 < count
+  some-counted k count is-count = let o = some-there k in omega arith
 
 -- those behind the first, where there are none
 pub none-behind : (T : List ℕ) (rows : List ℤ) (from at count : ℕ) → count ≡ 1 → true ≡ eqb (firstUnmet T rows from (getD T (at + 1) 0) (count - 1)) (count - 1)
@@ -54,42 +78,48 @@ module _ (T : List ℕ) (tests : ℕ) (rows : List ℤ) (columns n l row : ℕ) 
   pub behind-last : n ≤ row → Says false
   behind-last h = rw (le-ltb row n h) refl
 
-  module _ (is-row : row < n) (count : ℕ) (is-count : count ≡ getD T (tests + l * 16) 0) where
-    pub free-holds : count ≡ 0 → Says true
-    unfolding definedIn holds every
-    free-holds z =
-        let e : eqb (getD T (tests + l * 16) 0) 0 ≡ true = eq-eqb (getD T (tests + l * 16) 0) 0 (sym is-count ∙ z) in
-        rw (lt-ltb row n is-row, e) refl
+  module _ (is-row : row < n) (letters : Letters T tests rows columns n) where
+    pub base-fits : Fits w64 (row * columns)
+    base-fits =
+        let r : row ≤ 4096 = let m = letters .most in omega arith in
+        let a : row * columns ≤ 4096 * 8 = mul-le-mul r (letters .few) in
+        record { fits = omega arith }
 
-    module _ (letters : Letters T tests rows columns n) (letter : l < 26) (some : count ≡ 0 → ⊥) where
-      pub base-fits : Fits w64 (row * columns)
-      base-fits =
-          let r : row ≤ 4096 = let m = letters .most in omega arith in
-          let a : row * columns ≤ 4096 * 8 = mul-le-mul r (letters .few) in
-          record { fits = omega arith }
+    module _ (letter : l < 26) (kind : ℕ) (is-kind : kind ≡ getD T (tests + l * 16 + 7) 0) where
+      pub free-holds : (kind ≡ 1 → ⊥) → (kind ≡ 0 → ⊥) → Says true
+      unfolding definedIn holds every
+      free-holds a b =
+          let e : eqb (getD T (tests + l * 16) 0) 0 ≡ true = eq-eqb (getD T (tests + l * 16) 0) 0 (none-there T tests rows columns n l letters letter kind is-kind a b) in
+          rw (lt-ltb row n is-row, e) refl
 
-      defined : definedIn T columns (tests + l * 16) ≡ comparisonIn T columns (tests + l * 16 + 2) ∷ comparisonsIn T columns (getD T (tests + l * 16 + 1) 0) (count - 1)
-      unfolding definedIn
-      defined =
-          let e : eqb (getD T (tests + l * 16) 0) 0 ≡ false = ne-eqb (getD T (tests + l * 16) 0) 0 (λ q. some (is-count ∙ q)) in
-          rw (e, is-count) refl
+      module _ (tested : kind ≤ 1) where
+        abbrev behind : ℕ
+        behind = getD T (tests + l * 16) 0 - 1
 
-      module _ (from : ℕ) (far : FarBack columns (row * columns) from) (t : Bool) (is-t : t ≡ readMet T rows from (tests + l * 16 + 2)) (words : Words T) where
-        at : At rows columns n row from
-        at = record { some = letters .some; few = letters .few; most = letters .most; all = letters .all; is-row = is-row; far = far }
+        defined : definedIn T columns (tests + l * 16) ≡ comparisonIn T columns (tests + l * 16 + 2) ∷ comparisonsIn T columns (getD T (tests + l * 16 + 1) 0) behind
+        unfolding definedIn
+        defined =
+            let e : eqb (getD T (tests + l * 16) 0) 0 ≡ false = ne-eqb (getD T (tests + l * 16) 0) 0 (some-there T tests rows columns n l letters letter kind is-kind tested) in
+            rw e refl
 
-        abbrev others : Bool
-        others = holds (tableOf columns rows) row (comparisonsIn T columns (getD T (tests + l * 16 + 1) 0) (count - 1))
+        module _ (from : ℕ) (far : FarBack columns (row * columns) from) (t : Bool) (is-t : t ≡ readMet T rows from (tests + l * 16 + 2)) (words : Words T) where
+          at : At rows columns n row from
+          at = record { some = letters .some; few = letters .few; most = letters .most; all = letters .all; is-row = is-row; far = far }
 
-        whole : (ltb row n && holds (tableOf columns rows) row (definedIn T columns (tests + l * 16))) ≡ (t && others)
-        unfolding holds every
-        whole = rw (lt-ltb row n is-row, defined, is-t, met-is T words rows columns n row from at (tests + l * 16 + 2)) refl
+          abbrev others : Bool
+          others = holds (tableOf columns rows) row (comparisonsIn T columns (getD T (tests + l * 16 + 1) 0) behind)
 
-        pub first-unmet : not t ≡ true → Says false
-        first-unmet u = sym (whole ∙ ap (λ (x : Bool). x && others) (not-true t u))
+          whole : (ltb row n && holds (tableOf columns rows) row (definedIn T columns (tests + l * 16))) ≡ (t && others)
+          unfolding holds every
+          whole = rw (lt-ltb row n is-row, defined, is-t, met-is T words rows columns n row from at (tests + l * 16 + 2)) refl
 
-        pub by-others : (r : Bool) → not t ≡ false → r ≡ eqb (firstUnmet T rows from (getD T (tests + l * 16 + 1) 0) (count - 1)) (count - 1) → Says r
-        by-others r u e =
-            e
-            ∙ holds-is T words rows columns n row from at (getD T (tests + l * 16 + 1) 0) (count - 1)
-            ∙ sym (whole ∙ ap (λ (z : Bool). z && others) (not-false t u))
+          pub first-unmet : not t ≡ true → Says false
+          first-unmet u = sym (whole ∙ ap (λ (x : Bool). x && others) (not-true t u))
+
+          pub by-others : (count : ℕ) (r : Bool) → not t ≡ false → count ≡ getD T (tests + l * 16) 0
+              → r ≡ eqb (firstUnmet T rows from (getD T (tests + l * 16 + 1) 0) (count - 1)) (count - 1) → Says r
+          by-others count r u ec e =
+              e
+              ∙ ap (λ (k : ℕ). eqb (firstUnmet T rows from (getD T (tests + l * 16 + 1) 0) (k - 1)) (k - 1)) ec
+              ∙ holds-is T words rows columns n row from at (getD T (tests + l * 16 + 1) 0) behind
+              ∙ sym (whole ∙ ap (λ (z : Bool). z && others) (not-false t u))

@@ -25,7 +25,7 @@ ghost use Rattle.table.specs.Tests.{testAt, definedIn, First, Letters};
 ghost use Rattle.comparisons.specs.Spots.{readMet, firstUnmet};
 
 // The words of a letter, and which of them are what: where the comparisons behind the first stand,
-// the spots of the first one, its right kind and its interval.
+// the spots of the first one, how the letter is tested and its interval.
 const LETTER: usize = 16;
 
 const MORE: usize = 1;
@@ -38,8 +38,11 @@ const KIND: usize = 7;
 
 const INTERVAL: usize = 8;
 
-// The right kind of a comparison whose right side has a column.
+// How a letter is tested: by a first comparison whose right side has a column, or is a number. A
+// letter that is tested in no way is free.
 const COLUMN: usize = 1;
+
+const NUMBER: usize = 0;
 
 // Whether the first comparison is met, of the letter whose words begin at word `at`, at the row to
 // whose first entry `from` belongs: its right side has a column.
@@ -92,19 +95,19 @@ pub fn letter_holds(table: &[u16], rows: &[i32], size: Extent, l: usize, row: us
         return false;
     }
     let at = size.tests + l * LETTER;
-    let count = word_at(table, at);
-    if count == 0 {
-        return true;
-    }
+    let kind = word_at(table, at + KIND);
     let from = far_back(size.columns, row * size.columns);
-    if word_at(table, at + KIND) == COLUMN {
+    if kind == COLUMN {
         if !column_met(table, at, rows, from) {
             return false;
         }
-        return others_met(table, at, count, rows, from);
+        return others_met(table, at, word_at(table, at), rows, from);
     }
-    if !number_met(table, at, rows, from) {
-        return false;
+    if kind == NUMBER {
+        if !number_met(table, at, rows, from) {
+            return false;
+        }
+        return others_met(table, at, word_at(table, at), rows, from);
     }
-    others_met(table, at, count, rows, from)
+    true
 }

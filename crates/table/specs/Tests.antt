@@ -4,7 +4,8 @@
 --   0         how many comparisons its DEFINE has, 1 to 8; 0 for a letter without DEFINE
 --   1         the word at which its comparisons behind the first stand, one behind the other
 --   2 to 6    its first comparison
---   7         the right kind of the first comparison: 1 where its right side has a column
+--   7         how the letter is tested: by a first comparison whose right side has a column (1) or is
+--             a number (0), or not at all, as it has no DEFINE (2)
 --   8 to 11   an interval that tells when the first comparison is met: its first number less
 --             2 ^ 33, in 64 bits, the lowest word first
 --   12 to 15  how many more numbers it has
@@ -105,9 +106,13 @@ widthOf op x =
 unfoldable pub raisedWord : ℕ → ℕ
 raisedWord k = (k + 8589934592) % 18446744073709551616
 
+-- how a letter is tested by a comparison of this right kind
+unfoldable pub testedBy : ℕ → ℕ
+testedBy kind = pick (eqb kind 1) 1 0
+
 -- the words of the letter at word `at` tell the interval of its first comparison
 pub record First (T : List ℕ) (at : ℕ) : Type 0 where
-  pub kind : getD T (at + 7) 0 ≡ getD T (at + 2) 0 / 8
+  pub kind : getD T (at + 7) 0 ≡ testedBy (getD T (at + 2) 0 / 8)
   pub low : raisedWord (word64 T (at + 8)) ≡ lowOf (getD T (at + 2) 0 % 8) (raised (numberIn T (at + 2)))
   pub width : word64 T (at + 12) ≡ widthOf (getD T (at + 2) 0 % 8) (raised (numberIn T (at + 2)))
 
@@ -119,6 +124,7 @@ pub record Tests (T : List ℕ) (tests : ℕ) : Type 0 where
   pub long : tests + 416 ≤ length T
   pub more : (l : ℕ) → l < 26 → 1 < getD T (testAt tests l) 0 → getD T (testAt tests l + 1) 0 + (getD T (testAt tests l) 0 - 1) * 5 ≤ length T
   pub first : (l : ℕ) → l < 26 → 0 < getD T (testAt tests l) 0 → First T (testAt tests l)
+  pub free : (l : ℕ) → l < 26 → getD T (testAt tests l) 0 ≡ 0 → getD T (testAt tests l + 7) 0 ≡ 2
 
 -- What a test of a letter asks: its words, and n whole rows, at most 4,096, of 1 to 8 columns.
 pub record Letters (T : List ℕ) (tests : ℕ) (rows : List ℤ) (columns n : ℕ) : Type 0 where

@@ -90,6 +90,7 @@ module _ (s : List ℕ) (columns : ℕ) (defines : List ℕ) (letters : ℕ) (T�
       len = refl;
       is = λ l g. absurd (omega arith);
       first = λ l g. absurd (omega arith);
+      free = λ l g. absurd (omega arith);
       from = λ l g. absurd (omega arith);
       upto = λ l g. absurd (omega arith);
       kept = λ j g. refl;
@@ -161,6 +162,9 @@ module _ (s : List ℕ) (columns : ℕ) (defines : List ℕ) (letters : ℕ) (T�
           first =
               each (λ m. 0 < getD T′ (testAt tests m) 0 → First T′ (testAt tests m)) (one .first)
               (λ m f o. first-same T T′ (testAt tests m) (own-kept m f) (h .put .first m f (let a = count-kept m f in omega arith)));
+          free =
+              each (λ m. getD T′ (testAt tests m) 0 ≡ 0 → getD T′ (testAt tests m + 7) 0 ≡ 2) (one .free)
+              (λ m f z. own-kept m f (testAt tests m + 7) (omega arith) (omega arith) ∙ h .put .free m f (let a = count-kept m f in omega arith));
           from =
               each (λ m. 1 < getD T′ (testAt tests m) 0 → tests + 416 ≤ getD T′ (testAt tests m + 1) 0)
               (λ o. let a = one .from o in let b = h .is-more in omega arith)
@@ -181,6 +185,7 @@ pub record Clearing (T₀ : List ℕ) (tests letters : ℕ) (T : List ℕ) (l : 
   pub len : length T ≡ length T₀
   pub from : letters ≤ l
   pub zeros : (m : ℕ) → letters ≤ m → m < l → getD T (testAt tests m) 0 ≡ 0
+  pub frees : (m : ℕ) → letters ≤ m → m < l → getD T (testAt tests m + 7) 0 ≡ 2
   pub kept : (j : ℕ) → (tests + letters * 16 ≤ j → j < tests + 416 → ⊥) → getD T j 0 ≡ getD T₀ j 0
 
 module _ (T₀ : List ℕ) (tests letters : ℕ) where
@@ -191,29 +196,45 @@ module _ (T₀ : List ℕ) (tests letters : ℕ) where
     len = refl;
     from = omega arith;
     zeros = λ m f g. absurd (omega arith);
+    frees = λ m f g. absurd (omega arith);
     kept = λ j f. refl;
   }
 
   module _ (T : List ℕ) (l : ℕ) (h : Clearing T₀ tests letters T l) where
-    pub clearing-more : l < 26 → Clearing T₀ tests letters (set T (tests + l * 16) 0) (l + 1)
+    abbrev own : ℕ
+    own = tests + l * 16
+
+    abbrev zeroed : List ℕ
+    zeroed = set T own 0
+
+    pub clearing-more : l < 26 → Clearing T₀ tests letters (set zeroed (own + 7) 2) (l + 1)
     clearing-more g = record {
       asked = h .asked;
       upto = omega arith;
-      len = length-set T (tests + l * 16) 0 ∙ h .len;
+      len = length-set zeroed (own + 7) 2 ∙ length-set T own 0 ∙ h .len;
       from = let f = h .from in omega arith;
       zeros = λ m a b. decided (eqb m l)
           (λ e. let q : m ≡ l = eqb-true m l e in
-          rw q (getD-set-same T (tests + l * 16) 0 0 (let c = h .asked .room in let d = h .len in omega arith)))
+          rw q (getD-set-other zeroed (own + 7) own 2 0 (λ z. omega arith) ∙ getD-set-same T own 0 0 (let c = h .asked .room in let d = h .len in omega arith)))
           (λ e. let q = eqb-false m l e in
-          getD-set-other T (tests + l * 16) (testAt tests m) 0 0 (λ z. q (omega arith)) ∙ h .zeros m a (earlier m l b q));
-      kept = λ j f. let k = h .from in getD-set-other T (tests + l * 16) j 0 0 (λ q. f (omega arith) (omega arith)) ∙ h .kept j f;
+          getD-set-other zeroed (own + 7) (testAt tests m) 2 0 (λ z. omega arith)
+          ∙ getD-set-other T own (testAt tests m) 0 0 (λ z. q (omega arith)) ∙ h .zeros m a (earlier m l b q));
+      frees = λ m a b. decided (eqb m l)
+          (λ e. let q : m ≡ l = eqb-true m l e in
+          rw q (getD-set-same zeroed (own + 7) 2 0 (simp length-set (let c = h .asked .room in let d = h .len in omega arith))))
+          (λ e. let q = eqb-false m l e in
+          getD-set-other zeroed (own + 7) (testAt tests m + 7) 2 0 (λ z. q (omega arith))
+          ∙ getD-set-other T own (testAt tests m + 7) 0 0 (λ z. omega arith) ∙ h .frees m a (earlier m l b q));
+      kept = λ j f. let k = h .from in
+          getD-set-other zeroed (own + 7) j 2 0 (λ q. f (omega arith) (omega arith))
+          ∙ getD-set-other T own j 0 0 (λ q. f (omega arith) (omega arith)) ∙ h .kept j f;
     }
       where
         earlier : (m l : ℕ) → m < l + 1 → (m ≡ l → ⊥) → m < l
         earlier m l a b = omega arith
 
     pub clearing-all : 26 ≤ l → NonePut T₀ T tests letters
-    clearing-all g = record { len = h .len; zero = λ m a b. h .zeros m a (omega arith); kept = h .kept }
+    clearing-all g = record { len = h .len; zero = λ m a b. h .zeros m a (omega arith); free = λ m a b. h .frees m a (omega arith); kept = h .kept }
 
 -- ---- both
 
@@ -247,6 +268,10 @@ module _ (s : List ℕ) (columns : ℕ) (defines : List ℕ) (letters : ℕ) (T 
             (λ t. let g = ltb-true l letters t in let a = count-kept₂ l g in
             first-same T₁ T₂ (testAt tests l) (own-kept₂ l g) (some .first l g (omega arith)))
             (λ t. let z = none .zero l (ltb-false l letters t) f in absurd (omega arith));
+        free = λ l f z. decided (ltb l letters)
+            (λ t. let g = ltb-true l letters t in let a = count-kept₂ l g in
+            own-kept₂ l g (testAt tests l + 7) (omega arith) (omega arith) ∙ some .free l g (omega arith))
+            (λ t. none .free l (ltb-false l letters t) f);
       };
       is = λ l f. decided (ltb l letters)
           (λ t. let g = ltb-true l letters t in

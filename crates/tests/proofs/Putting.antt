@@ -40,17 +40,22 @@ unfolding definedIn
 letter-free T columns at h = simp (eq-eqb (getD T at 0) 0 h)
 
 module _ (s : List ℕ) (columns d : ℕ) (T : List ℕ) (at more : ℕ) (h : LetterRoom s columns d T at more) where
-  pub letter-none : d ≡ 0 → LetterPut s columns d T (set T at 0) at more more
+  abbrev freed : List ℕ
+  freed = set (set T at 0) (at + 7) 2
+
+  pub letter-none : d ≡ 0 → LetterPut s columns d T freed at more more
   letter-none z =
-      let w : getD (set T at 0) at 0 ≡ 0 = getD-set-same T at 0 0 (let a = h .before in let b = h .room in omega arith) in
+      let w : getD freed at 0 ≡ 0 =
+      getD-set-other (set T at 0) (at + 7) at 2 0 (λ q. omega arith) ∙ getD-set-same T at 0 0 (let a = h .before in let b = h .room in omega arith) in
       record {
         behind = let e = more-none s d z in omega arith;
-        len = length-set T at 0;
-        is = letter-free (set T at 0) columns at w ∙ sym (defined-none s d z);
+        len = length-set (set T at 0) (at + 7) 2 ∙ length-set T at 0;
+        is = letter-free freed columns at w ∙ sym (defined-none s d z);
         first = λ o. absurd (omega arith);
+        free = λ o. getD-set-same (set T at 0) (at + 7) 2 0 (simp length-set (let a = h .before in let b = h .room in omega arith));
         from = λ o. absurd (omega arith);
         upto = λ o. absurd (omega arith);
-        kept = λ j f g. getD-set-other T at j 0 0 (λ q. f (omega arith) (omega arith));
+        kept = λ j f g. getD-set-other (set T at 0) (at + 7) j 2 0 (λ q. f (omega arith) (omega arith)) ∙ getD-set-other T at j 0 0 (λ q. f (omega arith) (omega arith));
       }
 
   pub define-room : (d ≡ 0 → ⊥) → DefineRoom s columns d T at more
@@ -152,6 +157,7 @@ module _ (s : List ℕ) (columns d : ℕ) (T : List ℕ) (at more : ℕ) (h : De
         len = define-long count more T₂ first (d + 2) T₃ interval (d + 2 + 12) (count - 1) more T₄ r rest;
         is = define-is;
         first = λ o. first-same T₃ T₄ at own-kept (first-put s columns (d + 2) T₂ T₃ at interval first-is₃);
+        free = λ z. absurd (let w = word-0 in let a = h .body .one in omega arith);
         from = λ o. let w = word-1 in omega arith;
         upto = λ o. let w = word-1 in let v = word-0 in let b = rest .behind in omega arith;
         kept = λ j f g.

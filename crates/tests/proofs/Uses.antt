@@ -34,6 +34,9 @@ module _ (s : List ℕ) (columns : ℕ) (defines T T′ : List ℕ) (tests : ℕ
     first = λ l f o.
         let a = same (testAt tests l) (omega arith) in
         first-same T′ T″ (testAt tests l) (λ j b c. same j (omega arith)) (p .there .first l f (omega arith));
+    free = λ l f z.
+        let a = same (testAt tests l) (omega arith) in
+        same (testAt tests l + 7) (omega arith) ∙ p .there .free l f (omega arith);
   }
 
   pub defined-kept : (l : ℕ) → l < 26 → definedIn T″ columns (testAt tests l) ≡ definedAt s (getD defines l 0)

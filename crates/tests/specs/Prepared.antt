@@ -81,6 +81,7 @@ pub record LetterPut (s : List ℕ) (columns d : ℕ) (T T′ : List ℕ) (at mo
   pub len : length T′ ≡ length T
   pub is : definedIn T′ columns at ≡ definedAt s d
   pub first : 0 < getD T′ at 0 → First T′ at
+  pub free : getD T′ at 0 ≡ 0 → getD T′ (at + 7) 0 ≡ 2
   pub from : 1 < getD T′ at 0 → more ≤ getD T′ (at + 1) 0
   pub upto : 1 < getD T′ at 0 → getD T′ (at + 1) 0 + (getD T′ at 0 - 1) * 5 ≤ r
   pub kept : (j : ℕ) → (at ≤ j → j < at + 16 → ⊥) → (more ≤ j → j < r → ⊥) → getD T′ j 0 ≡ getD T j 0
@@ -91,6 +92,7 @@ pub record LettersPut (s : List ℕ) (columns : ℕ) (defines T T′ : List ℕ)
   pub len : length T′ ≡ length T
   pub is : (l : ℕ) → l < letters → definedIn T′ columns (testAt tests l) ≡ definedAt s (getD defines l 0)
   pub first : (l : ℕ) → l < letters → 0 < getD T′ (testAt tests l) 0 → First T′ (testAt tests l)
+  pub free : (l : ℕ) → l < letters → getD T′ (testAt tests l) 0 ≡ 0 → getD T′ (testAt tests l + 7) 0 ≡ 2
   pub from : (l : ℕ) → l < letters → 1 < getD T′ (testAt tests l) 0 → tests + 416 ≤ getD T′ (testAt tests l + 1) 0
   pub upto : (l : ℕ) → l < letters → 1 < getD T′ (testAt tests l) 0 →
       getD T′ (testAt tests l + 1) 0 + (getD T′ (testAt tests l) 0 - 1) * 5 ≤ tests + 416 + wordsFor s defines letters
@@ -103,4 +105,5 @@ pub record NoneRoom (T : List ℕ) (tests letters : ℕ) : Type 0 where
 pub record NonePut (T T′ : List ℕ) (tests letters : ℕ) : Type 0 where
   pub len : length T′ ≡ length T
   pub zero : (l : ℕ) → letters ≤ l → l < 26 → getD T′ (testAt tests l) 0 ≡ 0
+  pub free : (l : ℕ) → letters ≤ l → l < 26 → getD T′ (testAt tests l + 7) 0 ≡ 2
   pub kept : (j : ℕ) → (tests + letters * 16 ≤ j → j < tests + 416 → ⊥) → getD T′ j 0 ≡ getD T j 0

@@ -15,8 +15,13 @@ ghost use Prim.Native.Nat.{_+_, _≤_, _<_};
 ghost use Rattle.tests.specs.Prepared.{moreOf, wordsFor, Counted, Countable, Preparable, Prepared};
 ghost use Rattle.tests.specs.Prepared.{LetterRoom, DefineRoom, LetterPut, LettersPut, NoneRoom, NonePut};
 
-// The words of a letter.
+// The words of a letter, and which of them tells how it is tested.
 const LETTER_WORDS: usize = 16;
+
+const KIND: usize = 7;
+
+// A letter without DEFINE is not tested at all.
+const FREE: u16 = 2;
 
 // ---- how many words
 
@@ -76,7 +81,7 @@ fn put_defined(
 }
 
 // The words of a letter at word `at`, its comparisons behind the first from word `more` on. Returns
-// the word behind those. The first word of a letter without DEFINE, where d is 0, says so.
+// the word behind those. Two words of a letter without DEFINE, where d is 0, say so.
 fn put_letter(
     query: &[u8],
     columns: usize,
@@ -90,6 +95,7 @@ fn put_letter(
 {
     if d == 0 {
         table[at] = 0;
+        table[at + KIND] = FREE;
         return more;
     }
     put_defined(query, columns, d, table, at, more)
@@ -129,7 +135,9 @@ fn put_none(table: &mut [u16], tests: usize, letters: usize)
 {
     let mut l = letters;
     while l < LETTERS {
-        table[tests + l * LETTER_WORDS] = 0;
+        let own = tests + l * LETTER_WORDS;
+        table[own] = 0;
+        table[own + KIND] = FREE;
         l += 1;
     }
 }

@@ -23,6 +23,9 @@ shared-slice-read-wide8-2 c = omega arith
 wide8-requires-2 : tie.Need-wide8-requires-2
 wide8-requires-2 c κs = search needs
 
+tested-by-requires : tie.Need-tested-by-requires
+tested-by-requires c κs = search needs
+
 raised-at-requires : tie.Need-raised-at-requires
 raised-at-requires c κs = search needs
 
@@ -54,6 +57,7 @@ put-interval-spec =
     add-wide8-2
     shared-slice-read-wide8-2
     wide8-requires-2
+    tested-by-requires
     raised-at-requires
     low-of-requires
     wrapping-sub-u64-requires

@@ -1,5 +1,5 @@
 -- `letters::letter_holds` meets its contract by the laws of Testing.
-use Rattle.letters.proofs.Testing.{behind-last, free-holds, base-fits, first-there, others-there, first-unmet, by-others}
+use Rattle.letters.proofs.Testing.{behind-last, free-holds, base-fits, first-there, others-there, some-counted, first-unmet, by-others}
 use mathlib.Core.Path.{sym, _∙_}
 use native.Mathlib.Omega.{arith}
 use borrow.Author.Needs.{needs}
@@ -15,11 +15,11 @@ mul-at c = omega arith
 add-at : tie.Need-add-at
 add-at c = omega arith
 
+add-word-at : tie.Need-add-word-at
+add-word-at c = omega arith
+
 word-at-requires : tie.Need-word-at-requires
 word-at-requires c κs = search needs
-
-returns-2 : tie.Need-returns-2
-returns-2 c = search (needs, free-holds)
 
 mul-far-back : tie.Need-mul-far-back
 mul-far-back c = search (needs, base-fits)
@@ -27,39 +27,46 @@ mul-far-back c = search (needs, base-fits)
 far-back-requires : tie.Need-far-back-requires
 far-back-requires c κs = search needs
 
-add-word-at : tie.Need-add-word-at
-add-word-at c = omega arith
+column-met-requires : tie.Need-column-met-requires
+column-met-requires c κs =
+    (search needs, first-there _ _ _ _ _ _ (c .before .before .before .before .before .before .before .before .pre .2) (c .before .before .before .before .before .before .before .before .pre .1) _ (c .before .before .before .word-at .ensures .0) (let e = c .if2 .taken in omega arith), sym (c .before .before .before .word-at .ensures .0) ∙ c .if2 .taken)
+
+returns-2 : tie.Need-returns-2
+returns-2 c =
+    first-unmet _ _ _ _ _ _ _ (omega arith) (c .before .before .before .before .before .before .before .before .before .before .pre .2) (c .before .before .before .before .before .before .before .before .before .before .pre .1) _ (c .before .before .before .before .before .word-at .ensures .0) (let e = c .before .before .if2 .taken in omega arith) _ (c .before .before .before .far-back .ensures) _ (c .before .column-met .ensures) (search needs) (c .if3 .taken)
 
 word-at-requires-2 : tie.Need-word-at-requires-2
 word-at-requires-2 c κs = search needs
 
-column-met-requires : tie.Need-column-met-requires
-column-met-requires c κs =
-    (search needs, first-there _ _ _ _ _ _ _ (c .before .before .before .before .before .before .before .before .before .before .pre .2) (c .before .before .before .before .before .before .before .before .before .before .pre .1) (c .before .before .before .before .before .word-at .ensures .0) (c .before .before .before .before .if2 .left), sym (c .before .word-at2 .ensures .0) ∙ c .if3 .taken)
-
-returns-3 : tie.Need-returns-3
-returns-3 c = search (needs, first-unmet)
-
 others-met-requires : tie.Need-others-met-requires
 others-met-requires c κs =
-    (search needs, omega arith, others-there _ _ _ _ _ _ _ (c .before .before .before .before .before .before .before .before .before .before .before .before .pre .2) (c .before .before .before .before .before .before .before .before .before .before .before .before .pre .1) (c .before .before .before .before .before .before .before .word-at .ensures .0))
+    (search needs, some-counted _ _ _ _ _ _ (c .before .before .before .before .before .before .before .before .before .before .before .pre .2) (c .before .before .before .before .before .before .before .before .before .before .before .pre .1) _ (c .before .before .before .before .before .before .word-at .ensures .0) (let e = c .before .before .before .if2 .taken in omega arith) _ (c .word-at2 .ensures .0), others-there _ _ _ _ _ _ (c .before .before .before .before .before .before .before .before .before .before .before .pre .2) (c .before .before .before .before .before .before .before .before .before .before .before .pre .1) _ (c .before .before .before .before .before .before .word-at .ensures .0) _ (c .word-at2 .ensures .0))
 
-returns-4 : tie.Need-returns-4
-returns-4 c = search (needs, by-others)
+returns-3 : tie.Need-returns-3
+returns-3 c =
+    by-others _ _ _ _ _ _ _ (omega arith) (c .before .before .before .before .before .before .before .before .before .before .before .before .pre .2) (c .before .before .before .before .before .before .before .before .before .before .before .before .pre .1) _ (c .before .before .before .before .before .before .before .word-at .ensures .0) (let e = c .before .before .before .before .if2 .taken in omega arith) _ (c .before .before .before .before .before .far-back .ensures) _ (c .before .before .before .column-met .ensures) (search needs) _ _ (c .before .before .if3 .left) (c .before .word-at2 .ensures .0) (c .others-met .ensures)
 
 number-met-requires : tie.Need-number-met-requires
 number-met-requires c κs =
-    (search needs, first-there _ _ _ _ _ _ _ (c .before .before .before .before .before .before .before .before .before .before .pre .2) (c .before .before .before .before .before .before .before .before .before .before .pre .1) (c .before .before .before .before .before .word-at .ensures .0) (c .before .before .before .before .if2 .left), λ e. c .if3 .left (c .before .word-at2 .ensures .0 ∙ e))
+    (search needs, first-there _ _ _ _ _ _ (c .before .before .before .before .before .before .before .before .before .pre .2) (c .before .before .before .before .before .before .before .before .before .pre .1) _ (c .before .before .before .before .word-at .ensures .0) (let e = c .if4 .taken in omega arith), λ e. c .before .if2 .left (c .before .before .before .before .word-at .ensures .0 ∙ e))
 
-returns-5 : tie.Need-returns-5
-returns-5 c = search (needs, first-unmet)
+returns-4 : tie.Need-returns-4
+returns-4 c =
+    first-unmet _ _ _ _ _ _ _ (omega arith) (c .before .before .before .before .before .before .before .before .before .before .before .pre .2) (c .before .before .before .before .before .before .before .before .before .before .before .pre .1) _ (c .before .before .before .before .before .before .word-at .ensures .0) (let e = c .before .before .if4 .taken in omega arith) _ (c .before .before .before .before .far-back .ensures) _ (c .before .number-met .ensures) (search needs) (c .if5 .taken)
+
+word-at-requires-3 : tie.Need-word-at-requires-3
+word-at-requires-3 c κs = search needs
 
 others-met-requires-2 : tie.Need-others-met-requires-2
 others-met-requires-2 c κs =
-    (search needs, omega arith, others-there _ _ _ _ _ _ _ (c .before .before .before .before .before .before .before .before .before .before .before .before .pre .2) (c .before .before .before .before .before .before .before .before .before .before .before .before .pre .1) (c .before .before .before .before .before .before .before .word-at .ensures .0))
+    (search needs, some-counted _ _ _ _ _ _ (c .before .before .before .before .before .before .before .before .before .before .before .before .pre .2) (c .before .before .before .before .before .before .before .before .before .before .before .before .pre .1) _ (c .before .before .before .before .before .before .before .word-at .ensures .0) (let e = c .before .before .before .if4 .taken in omega arith) _ (c .word-at3 .ensures .0), others-there _ _ _ _ _ _ (c .before .before .before .before .before .before .before .before .before .before .before .before .pre .2) (c .before .before .before .before .before .before .before .before .before .before .before .before .pre .1) _ (c .before .before .before .before .before .before .before .word-at .ensures .0) _ (c .word-at3 .ensures .0))
+
+returns-5 : tie.Need-returns-5
+returns-5 c =
+    by-others _ _ _ _ _ _ _ (omega arith) (c .before .before .before .before .before .before .before .before .before .before .before .before .before .pre .2) (c .before .before .before .before .before .before .before .before .before .before .before .before .before .pre .1) _ (c .before .before .before .before .before .before .before .before .word-at .ensures .0) (let e = c .before .before .before .before .if4 .taken in omega arith) _ (c .before .before .before .before .before .before .far-back .ensures) _ (c .before .before .before .number-met .ensures) (search needs) _ _ (c .before .before .if5 .left) (c .before .word-at3 .ensures .0) (c .others-met2 .ensures)
 
 returns-6 : tie.Need-returns-6
-returns-6 c = search (needs, by-others)
+returns-6 c = search (needs, free-holds)
 
 pub letter-holds-spec : {M : Type 1} → statement M
 letter-holds-spec =
@@ -68,17 +75,18 @@ letter-holds-spec =
     returns
     mul-at
     add-at
+    add-word-at
     word-at-requires
-    returns-2
     mul-far-back
     far-back-requires
-    add-word-at
-    word-at-requires-2
     column-met-requires
-    returns-3
+    returns-2
+    word-at-requires-2
     others-met-requires
-    returns-4
+    returns-3
     number-met-requires
-    returns-5
+    returns-4
+    word-at-requires-3
     others-met-requires-2
+    returns-5
     returns-6)

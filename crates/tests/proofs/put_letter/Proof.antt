@@ -1,4 +1,5 @@
 -- `tests::put_letter` meets its contract by the laws of Putting.
+use lib.ListN.{length-set}
 use native.Mathlib.Omega.{arith}
 use Rattle.tests.proofs.Putting.{letter-none, define-room}
 use borrow.Author.Needs.{needs}
@@ -10,6 +11,15 @@ mul-table c = omega arith
 
 slice-write-table : tie.Need-slice-write-table
 slice-write-table c = omega arith
+
+add-table : tie.Need-add-table
+add-table c = omega arith
+
+mul-table-2 : tie.Need-mul-table-2
+mul-table-2 c = omega arith
+
+slice-write-table-2 : tie.Need-slice-write-table-2
+slice-write-table-2 c = simp length-set (omega arith)
 
 same-length : tie.Need-same-length
 same-length c = search needs
@@ -32,6 +42,9 @@ put-letter-spec =
     (tie.spec
     mul-table
     slice-write-table
+    add-table
+    mul-table-2
+    slice-write-table-2
     same-length
     returns
     put-defined-requires

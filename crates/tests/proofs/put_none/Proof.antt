@@ -1,5 +1,6 @@
 -- `tests::put_none` meets its contract by the laws of Lettering. The invariant is `Clearing`: the
--- letters below l have their zero; those left fall.
+-- letters below l have their two words; those left fall.
+use lib.ListN.{length-set}
 use native.Mathlib.Omega.{arith}
 use borrow.Author.Needs.{needs}
 use Prim.Native.Nat.{_-_}
@@ -16,8 +17,17 @@ abbrev μ-loop : tie.MeasureT-loop
 loop-holds : tie.Need-loop-holds Inv-loop μ-loop
 loop-holds c = search (needs, clearing-none)
 
+mul-own : tie.Need-mul-own Inv-loop μ-loop
+mul-own c = omega arith
+
+add-own : tie.Need-add-own Inv-loop μ-loop
+add-own c = omega arith
+
 mul-table : tie.Need-mul-table Inv-loop μ-loop
 mul-table c = omega arith
+
+slice-write-table : tie.Need-slice-write-table Inv-loop μ-loop
+slice-write-table c = omega arith
 
 add-table : tie.Need-add-table Inv-loop μ-loop
 add-table c = omega arith
@@ -25,8 +35,8 @@ add-table c = omega arith
 mul-table-2 : tie.Need-mul-table-2 Inv-loop μ-loop
 mul-table-2 c = omega arith
 
-slice-write-table : tie.Need-slice-write-table Inv-loop μ-loop
-slice-write-table c = omega arith
+slice-write-table-2 : tie.Need-slice-write-table-2 Inv-loop μ-loop
+slice-write-table-2 c = simp length-set (omega arith)
 
 add-l : tie.Need-add-l Inv-loop μ-loop
 add-l c = omega arith
@@ -50,10 +60,13 @@ put-none-spec =
     Inv-loop
     μ-loop
     loop-holds
+    mul-own
+    add-own
     mul-table
+    slice-write-table
     add-table
     mul-table-2
-    slice-write-table
+    slice-write-table-2
     add-l
     loop-less
     loop-again
