@@ -4,8 +4,8 @@
 --   0         how many comparisons its DEFINE has, 1 to 8; 0 for a letter without DEFINE
 --   1         the word at which its comparisons behind the first stand, one behind the other
 --   2 to 6    its first comparison
---   7         how the letter is tested: by a first comparison whose right side has a column (1) or is
---             a number (0), or not at all, as it has no DEFINE (2)
+--   7         how the letter is tested: by a first comparison whose right side has a column (1) or
+--             is a number (0), or not at all, as it has no DEFINE (2)
 --   8 to 11   an interval that tells when the first comparison is met: its first number less
 --             2 ^ 33, in 64 bits, the lowest word first
 --   12 to 15  how many more numbers it has
