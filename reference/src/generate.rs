@@ -1,11 +1,13 @@
 //! Inputs for comparing programs: made by a deterministic generator from a seed,
 //! or listed in full. Accepted queries of all shapes, damaged ones for each
 //! answer of the table in document 01 and for pairs of answers, texts that go
-//! wrong at each byte, inputs at the limits, rooms of every critical length, and
-//! allowances that end at every sort of event.
+//! wrong at each byte, inputs at the limits, rooms of every critical length,
+//! allowances that end at every sort of event, and sums beside multiples of their
+//! count.
 //! The right results are not stored here: `search` and `program` give them.
 
 pub mod allowances;
+pub mod averages;
 pub mod beginnings;
 pub mod damage;
 pub mod draft;

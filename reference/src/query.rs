@@ -1,6 +1,6 @@
 //! The query: its records, their fields and parts, and the answers 1, 2, 3
 //! and 8. From document 01, "Rows and query records" and the table of answers,
-//! and document 02, R-2, for the skip record's letter.
+//! and document 02, R-2, for the skip record's letter, and R-5, for function 7.
 //! Each answer is judged over the whole query by a function of its own, so that
 //! a low number late in the query comes before a high one early in it.
 
@@ -31,6 +31,35 @@ pub const MIN: u8 = 3;
 pub const MAX: u8 = 4;
 pub const FIRST: u8 = 5;
 pub const LAST: u8 = 6;
+pub const AVG: u8 = 7;
+
+/// What a measure tells of its rows.
+#[derive(Clone, Copy, Debug, PartialEq, Eq)]
+pub enum Function {
+    Count,
+    Sum,
+    Min,
+    Max,
+    First,
+    Last,
+    Avg,
+}
+
+impl Function {
+    /// The function with this number; None is answer 3.
+    pub fn numbered(number: u8) -> Option<Function> {
+        match number {
+            COUNT => Some(Function::Count),
+            SUM => Some(Function::Sum),
+            MIN => Some(Function::Min),
+            MAX => Some(Function::Max),
+            FIRST => Some(Function::First),
+            LAST => Some(Function::Last),
+            AVG => Some(Function::Avg),
+            _ => None,
+        }
+    }
+}
 
 /// A column read at a row some way off the current one.
 #[derive(Clone, Copy, Debug, PartialEq, Eq)]
@@ -83,7 +112,7 @@ impl Skip {
 /// A measure over the rows with a letter, or over all rows of the match.
 #[derive(Clone, Copy, Debug, PartialEq, Eq)]
 pub struct Measure {
-    pub function: u8,
+    pub function: Function,
     pub letter: Option<u8>,
     pub column: usize,
 }
@@ -185,7 +214,7 @@ fn skip_is_right(body: &[u8]) -> bool {
 fn measure_is_right(body: &[u8], columns: u8) -> bool {
     match body {
         [function, letter, column, reserved] => {
-            (COUNT..=LAST).contains(function)
+            Function::numbered(*function).is_some()
                 && (*letter == 0 || letter.is_ascii_uppercase())
                 && *column < columns
                 && (*function != COUNT || *column == 0)
@@ -297,7 +326,7 @@ fn measure(body: &[u8]) -> Measure {
         letter => Some(letter),
     };
     Measure {
-        function: body[0],
+        function: Function::numbered(body[0]).expect("the fields are right"),
         letter,
         column: usize::from(body[2]),
     }

@@ -2,13 +2,13 @@
 //! in the four lent buffers afterwards; once with the counted walk and once with
 //! plain backtracking. From document 01, "Places and preferment" (starts) and
 //! "Report" (matches, measures, working room, table of answers); and from
-//! document 02, R-2 (starts at a labelled row, answer 15, the bound of steps) and
-//! R-13 (an allowance of steps, answer 16).
+//! document 02, R-2 (starts at a labelled row, answer 15, the bound of steps), R-5
+//! (the average) and R-13 (an allowance of steps, answer 16).
 
 use crate::letters::Held;
 use crate::pattern::{self, Pattern};
 use crate::places::{self, Place};
-use crate::query::{self, Measure, Query, Skip};
+use crate::query::{self, Function, Measure, Query, Skip};
 use crate::walk::{Attempt, Counted, Ground, Pair, Plain};
 
 pub const MOST_ROWS: usize = 4096;
@@ -331,18 +331,29 @@ fn result(
         .filter(|(_, label)| measure.letter.is_none_or(|letter| letter == **label))
         .map(|(index, _)| i64::from(rows[(start + index) * columns + measure.column]))
         .collect();
-    if measure.function == query::COUNT {
-        return Some(entries.len() as i64);
-    }
-    if entries.is_empty() {
+    if entries.is_empty() && measure.function != Function::Count {
         return None;
     }
     match measure.function {
-        query::SUM => Some(entries.iter().sum()),
-        query::MIN => entries.iter().min().copied(),
-        query::MAX => entries.iter().max().copied(),
-        query::FIRST => entries.first().copied(),
-        _ => entries.last().copied(),
+        Function::Count => Some(entries.len() as i64),
+        Function::Sum => Some(entries.iter().sum()),
+        Function::Min => entries.iter().min().copied(),
+        Function::Max => entries.iter().max().copied(),
+        Function::First => entries.first().copied(),
+        Function::Last => entries.last().copied(),
+        Function::Avg => Some(average(&entries)),
+    }
+}
+
+/// The sum divided by the count of entries, which is not 0. What is cut toward zero
+/// is the quotient of the sum's size; the sum's sign is put before it. A sum is at
+/// most 2 to the 43 in size, so none of this can wrap.
+fn average(entries: &[i64]) -> i64 {
+    let sum: i64 = entries.iter().sum();
+    let size = (sum.unsigned_abs() / entries.len() as u64) as i64;
+    match sum < 0 {
+        true => -size,
+        false => size,
     }
 }
 

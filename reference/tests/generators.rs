@@ -7,14 +7,14 @@ use common::*;
 use reference::cases;
 use reference::generate::allowances::{self, Point, POINTS};
 use reference::generate::damage::{damage, damage_twice};
-use reference::generate::draft::{self, Draft, Numbers, MIDDLE, SMALL};
+use reference::generate::draft::{self, Draft, Numbers, Room, MIDDLE, SMALL};
 use reference::generate::scramble::{every_byte, scrambled};
-use reference::generate::{beginnings, limits, mix, stdin, texts, Random};
+use reference::generate::{averages, beginnings, limits, mix, stdin, texts, Random};
 use reference::pattern;
 use reference::program::program;
-use reference::query::{Skip, SKIP};
+use reference::query::{Function, Measure, Skip, MEASURE, SKIP};
 use reference::search::{self, DONE, SPENT, STOPPED, STUCK};
-use std::collections::BTreeSet;
+use std::collections::{BTreeMap, BTreeSet};
 
 #[test]
 fn one_damage_brings_its_answer() {
@@ -472,4 +472,157 @@ fn cases_within_an_allowance() {
         assert_eq!(case.allowance, Some(steps));
         assert!(spent || matches > 0);
     }
+}
+
+/// Every function is drawn about as often as another.
+#[test]
+fn random_measures_of_all_functions() {
+    let mut random = Random::new(20);
+    let mut functions = [0; 8];
+    let mut strangers = [0; 8];
+    for _ in 0..6_000 {
+        let mut draft = draft::accepted(&mut random, &SMALL, Numbers::Low);
+        for at in draft.places_of(MEASURE) {
+            functions[usize::from(draft.records[at].1[0])] += 1;
+        }
+        let before = draft.records.len();
+        damage(&mut random, &mut draft, 9);
+        if draft.records.len() > before {
+            strangers[usize::from(draft.records[before].1[0])] += 1;
+        }
+    }
+    assert_eq!((functions[0], strangers[0]), (0, 0));
+    assert!(
+        functions[1..].iter().all(|&count| count > 700),
+        "{functions:?}"
+    );
+    assert!(
+        strangers[1..].iter().all(|&count| count > 150),
+        "{strangers:?}"
+    );
+}
+
+/// Functions 0, 8 and 255 are tried as refused, and no function that there is.
+#[test]
+fn damaged_functions() {
+    let mut random = Random::new(21);
+    let mut seen = BTreeSet::new();
+    for _ in 0..6_000 {
+        let mut draft = draft::accepted(&mut random, &SMALL, Numbers::Low).measure(1, 0, 0);
+        damage(&mut random, &mut draft, 3);
+        for at in draft.places_of(MEASURE) {
+            seen.extend(draft.records[at].1.first().copied());
+        }
+    }
+    assert_eq!(seen, BTreeSet::from([0, 1, 2, 3, 4, 5, 6, 7, 8, 255]));
+}
+
+/// What an average is taken of, in words.
+fn sorts(measure: &Measure, rows: &[i32], columns: usize, labels: &[u8]) -> Vec<&'static str> {
+    let own = |at: &usize| measure.letter.is_none_or(|letter| letter == labels[*at]);
+    let entries: Vec<i64> = (0..labels.len())
+        .filter(own)
+        .map(|at| i64::from(rows[at * columns + measure.column]))
+        .collect();
+    let (sum, count) = (entries.iter().sum::<i64>(), entries.len() as i64);
+    if count == 0 {
+        return vec!["no rows"];
+    }
+    let over = (sum % count).abs();
+    let mixed = entries.iter().any(|&it| it < 0) && entries.iter().any(|&it| it > 0);
+    let end = |it: &i64| *it == i64::from(i32::MIN) || *it == i64::from(i32::MAX);
+    let table = [
+        ("a sum of 0 of several", sum == 0 && count > 1),
+        ("a multiple", over == 0 && sum != 0 && count > 1),
+        ("one above a multiple, above 0", over == 1 && sum > count),
+        (
+            "one below a multiple, above 0",
+            over == count - 1 && sum > count,
+        ),
+        (
+            "one above a multiple, below 0",
+            over == count - 1 && sum < -count,
+        ),
+        ("one below a multiple, below 0", over == 1 && sum < -count),
+        ("cut to 0 from above", sum > 0 && sum < count),
+        ("cut to 0 from below", sum < 0 && sum > -count),
+        ("a half", over * 2 == count),
+        ("more than a half", over * 2 > count),
+        ("mixed signs", mixed),
+        ("entries at the ends", entries.iter().all(end)),
+        ("beyond 32 bits, below 0", sum < i64::from(i32::MIN)),
+        ("beyond 32 bits, above 0", sum > i64::from(i32::MAX)),
+        ("some rows of the match", count < labels.len() as i64),
+    ];
+    let met = table.into_iter().filter(|(_, is)| *is);
+    met.map(|(name, _)| name).collect()
+}
+
+/// The drafts made for averages have all that may go wrong in one.
+#[test]
+fn averages_of_all_sorts() {
+    let mut random = Random::new(22);
+    let mut met: BTreeMap<&str, usize> = BTreeMap::new();
+    for _ in 0..3_000 {
+        let mut draft = averages::draft(&mut random, &SMALL);
+        (draft.numbers, draft.labels) = (Room::Exact, Room::Exact);
+        let accepted = search::accept(&draft.query(), &draft.rows).expect("accepted");
+        let (columns, measures) = (accepted.query.columns, accepted.query.measures);
+        for (first, labels) in matches(&draft) {
+            let rows = &draft.rows[first as usize * columns..];
+            for measure in measures.iter().filter(|it| it.function == Function::Avg) {
+                for sort in sorts(measure, rows, columns, labels.as_bytes()) {
+                    *met.entry(sort).or_default() += 1;
+                }
+            }
+        }
+    }
+    assert_eq!(met.len(), 16, "{met:?}");
+    assert!(met.values().all(|&count| count > 100), "{met:?}");
+}
+
+#[test]
+fn entries_with_a_sum() {
+    let mut random = Random::new(23);
+    let (least, greatest) = (i64::from(i32::MIN), i64::from(i32::MAX));
+    for count in [1, 2, 3, 7, 4096] {
+        let ends = [count * least, count * greatest];
+        for sum in [
+            0,
+            1,
+            -1,
+            least,
+            greatest,
+            ends[0],
+            ends[1],
+            ends[0] + 1,
+            ends[1] - 1,
+        ] {
+            let entries = averages::with_sum(&mut random, count as usize, sum);
+            assert_eq!(entries.len(), count as usize);
+            assert_eq!(entries.into_iter().map(i64::from).sum::<i64>(), sum);
+        }
+    }
+}
+
+/// The cases for the checker hold averages that are told, and null ones.
+#[test]
+fn cases_with_averages() {
+    let mut random = Random::new(24);
+    let (mut told, mut null) = (0, 0);
+    for number in 0..200 {
+        let case = cases::search_case(&mut random, number);
+        let Ok(accepted) = search::accept(&case.query, &case.rows) else {
+            continue;
+        };
+        let per_match = accepted.numbers_per_match();
+        for written in case.numbers.chunks(per_match).take(case.counts[0] as usize) {
+            let measures = accepted.query.measures.iter().zip(written[3..].chunks(2));
+            for (_, result) in measures.filter(|(it, _)| it.function == Function::Avg) {
+                told += result[0];
+                null += 1 - result[0];
+            }
+        }
+    }
+    assert!(told > 20 && null > 5, "{told} {null}");
 }

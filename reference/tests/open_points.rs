@@ -22,7 +22,7 @@ fn simple() -> Draft {
 
 #[test]
 fn point_1_over_the_whole_query() {
-    let mut draft = Draft::new(9, b"(((((((((", vec![1, 2]).measure(7, b'Z', 0);
+    let mut draft = Draft::new(9, b"(((((((((", vec![1, 2]).measure(8, b'Z', 0);
     assert_eq!(answer(&draft), 3);
     draft.records.push((6, vec![]));
     assert_eq!(answer(&draft), 2);
@@ -89,7 +89,7 @@ fn point_3_fields() {
     assert_eq!(measured(2, 2, 2), 3);
     assert_eq!(measured(2, 1, 1), 3);
     assert_eq!(measured(1, 0, 0), 3);
-    assert_eq!(measured(1, 7, 0), 3);
+    assert_eq!(measured(1, 8, 0), 3);
     let compared = |bytes: [u8; 12]| {
         // Q is not in the pattern; its fields are checked all the same.
         answer(&Draft::new(2, b"A", vec![]).define(b'Q', &[bytes]))

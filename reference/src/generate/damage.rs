@@ -1,13 +1,14 @@
 //! Damage to a draft: for each answer of the table in document 01 many causes,
 //! one of them taken at random. Where two are wanted, the one with the higher
 //! number is done first, so that the lower one surely stands in the input. The
-//! answers 14 and 15 and the skip's letter are from document 02, R-1 and R-2.
+//! answers 14 and 15, the skip's letter and function 7 are from document 02, R-1, R-2
+//! and R-5.
 
 use super::draft::{define_body, random_define, with_number, Draft, Numbers, Room, Tail};
 use super::random::Random;
 use super::texts;
 use crate::query::{
-    COUNT, DEFINE, LAST, MEASURE, MOST_MEASURES, MOST_TEXT, SHAPE, SKIP, TEXT, TO_FIRST, TO_LAST,
+    AVG, COUNT, DEFINE, MEASURE, MOST_MEASURES, MOST_TEXT, SHAPE, SKIP, TEXT, TO_FIRST, TO_LAST,
     TO_NEXT_ROW,
 };
 use crate::search::{self, MOST_ROWS, STUCK};
@@ -227,7 +228,7 @@ fn wrong_comparison(random: &mut Random, bytes: &mut [u8], columns: u8) {
 
 fn wrong_measure(random: &mut Random, body: &mut [u8], columns: u8) {
     match random.below(5) {
-        0 => body[0] = random.pick(&[0, 7, 255]),
+        0 => body[0] = random.pick(&[0, AVG + 1, 255]),
         1 => body[1] = random.pick(&[1, b'@', b'[', b'a', 255]),
         2 => body[2] = random.pick(&[columns, 255]),
         3 => {
@@ -288,7 +289,7 @@ fn ask_for_a_stranger(random: &mut Random, draft: &mut Draft) {
         let at = random.pick(&measures);
         draft.records[at].1[1] = stranger;
     } else {
-        let function = random.between(COUNT.into(), LAST.into()) as u8;
+        let function = random.between(COUNT.into(), AVG.into()) as u8;
         draft
             .records
             .push((MEASURE, vec![function, stranger, 0, 0]));

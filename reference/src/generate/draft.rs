@@ -1,12 +1,13 @@
 //! A draft of an input: records, rows and rooms that can still be changed, and
 //! the finished input made from it. From document 01, "Rows and query records"
-//! for the bytes and "Report" for the rooms; and document 02, R-2, for the skip.
+//! for the bytes and "Report" for the rooms; and document 02, R-2, for the skip, and
+//! R-5, for the last of the functions.
 
 use super::random::Random;
 use super::texts;
 use crate::pattern;
 use crate::query::{
-    COUNT, DEFINE, LAST, MEASURE, PAST_LAST_ROW, SHAPE, SKIP, TEXT, TO_FIRST, TO_LAST, TO_NEXT_ROW,
+    AVG, COUNT, DEFINE, MEASURE, PAST_LAST_ROW, SHAPE, SKIP, TEXT, TO_FIRST, TO_LAST, TO_NEXT_ROW,
 };
 use crate::search::{self, DONE};
 use std::collections::BTreeSet;
@@ -398,7 +399,7 @@ const EXTREME: [i32; 11] = [
     -0x0102_0304,
 ];
 
-fn number(random: &mut Random, numbers: Numbers) -> i32 {
+pub fn number(random: &mut Random, numbers: Numbers) -> i32 {
     match numbers {
         Numbers::Low => random.between(-1, 3) as i32,
         Numbers::Extreme => random.pick(&EXTREME),
@@ -446,7 +447,7 @@ pub fn with_text(
 
 /// One of the four modes; a pattern without letters has the first two alone. Half
 /// of the letters are the text's last, which seldom labels a match's first row.
-fn skip(random: &mut Random, text: &[u8], letters: &[u8]) -> (u8, u8) {
+pub fn skip(random: &mut Random, text: &[u8], letters: &[u8]) -> (u8, u8) {
     let mode = random.pick(&[PAST_LAST_ROW, TO_NEXT_ROW, TO_FIRST, TO_LAST]);
     let last = text.iter().rfind(|byte| letters.contains(byte));
     match (mode, last) {
@@ -515,7 +516,7 @@ fn offset(random: &mut Random, count: usize) -> i8 {
 }
 
 fn add_measure(random: &mut Random, draft: Draft, letters: &[u8]) -> Draft {
-    let function = random.between(COUNT.into(), LAST.into()) as u8;
+    let function = random.between(COUNT.into(), AVG.into()) as u8;
     let letter = match letters.is_empty() || random.chance(35) {
         true => 0,
         false => random.pick(letters),

@@ -1,7 +1,7 @@
 //! Inputs at the limits that document 01 states, and one beyond each: places,
 //! parentheses, text bytes, DEFINEs, comparisons, measures, offsets, rows; and
 //! texts that the judgement of texts easily gets wrong. The large searches that go
-//! on at a labelled row are from document 02, R-2.
+//! on at a labelled row are from document 02, R-2, those with averages from R-5.
 
 use super::draft::{with_column, with_number, Draft, Room};
 use super::texts;
@@ -103,7 +103,7 @@ fn of_records() -> Vec<Draft> {
     for count in [7, 8, 9] {
         let mut draft = Draft::new(1, b"A+ B?", ones(4));
         for measure in 0..count {
-            draft = draft.measure(1 + measure % 6, b'A' + measure % 2, 0);
+            draft = draft.measure(1 + measure % 7, b'A' + measure % 2, 0);
         }
         drafts.push(draft);
     }
@@ -138,7 +138,7 @@ pub fn with_most_records() -> Draft {
         draft = draft.define(b'A' + index, &comparisons);
     }
     (0..8).fold(draft, |draft, column| {
-        draft.measure(6 - column % 5, b'Z' - column, column)
+        draft.measure(7 - column % 6, b'Z' - column, column)
     })
 }
 
@@ -203,7 +203,7 @@ pub fn of_large_searches() -> Vec<Draft> {
     ];
     let extremes = (0..4096).map(|row| if row % 2 == 0 { i32::MAX } else { i32::MIN });
     let mut measured = Draft::new(1, b"A", extremes.collect());
-    for function in [1, 2, 3, 4, 5, 6, 2, 2] {
+    for function in [1, 2, 3, 4, 5, 6, 7, 2] {
         measured = measured.measure(function, b'A', 0);
     }
     drafts.push(measured);
@@ -215,7 +215,27 @@ pub fn of_large_searches() -> Vec<Draft> {
     stopped.labels = Room::OneShort;
     drafts.push(stopped);
     drafts.extend(to_labelled_rows());
+    drafts.extend(averages());
     drafts
+}
+
+/// Matches of 4,096 rows with sums at both ends, one beside them, and 2,048 below 0.
+fn averages() -> Vec<Draft> {
+    let all_but_one = |all, one| [vec![all; 4095], vec![one]].concat();
+    let both = [[i32::MIN, i32::MAX]; 2048].concat();
+    let rows = [
+        vec![i32::MIN; 4096],
+        vec![i32::MAX; 4096],
+        all_but_one(i32::MIN, i32::MIN + 1),
+        all_but_one(i32::MAX, i32::MAX - 1),
+        both,
+    ];
+    let averaged = |rows| {
+        Draft::new(1, b"A*", rows)
+            .measure(7, 0, 0)
+            .measure(7, b'A', 0)
+    };
+    rows.into_iter().map(averaged).collect()
 }
 
 /// Matches that go on one row further each, up to the last row; one match, whose

@@ -1,6 +1,7 @@
 //! A mixed stream of inputs: each number of the stream has its sort, so that
 //! even a short stream holds all answers; all else is random from the seed.
 
+use super::averages;
 use super::damage::{damage, damage_twice};
 use super::draft::{self, Draft, Input, Numbers, Room, Size};
 use super::random::Random;
@@ -16,6 +17,7 @@ pub fn input(random: &mut Random, size: &Size, number: usize) -> Input {
         3 if turn % 8 == 7 && size.pairs >= 600 => near_limit(random, size).finish(),
         3 => accepted(random, size, Numbers::Low).finish(),
         4 => adversarial(random, size).finish(),
+        5 if turn % 2 == 1 => averages::draft(random, size).finish(),
         5 => accepted(random, size, Numbers::Extreme).finish(),
         6 => critical(random, size),
         slot @ 7..=8 => damaged(random, size, 1 + ((2 * turn + slot - 7) % 15) as u8),
@@ -211,7 +213,7 @@ fn every_row(most_rows: usize) -> impl Iterator<Item = Vec<i32>> {
 }
 
 /// All rows of one column whose entries are 0 to below the given number.
-fn every_row_of(entries: usize, most_rows: usize) -> impl Iterator<Item = Vec<i32>> {
+pub fn every_row_of(entries: usize, most_rows: usize) -> impl Iterator<Item = Vec<i32>> {
     (0..=most_rows).flat_map(move |n| {
         let entry = move |number: usize, row| (number / entries.pow(row) % entries) as i32;
         (0..entries.pow(n as u32))

@@ -1,10 +1,10 @@
 //! Standard inputs for the program: a length, a query and rows, whole or cut,
 //! and those that it prints `too large` for. From document 01, "Report"; those
-//! that end in a 15 are from document 02, R-2.
+//! that end in a 15 are from document 02, R-2, averages from R-5.
 
 use super::draft::{Draft, Input, Numbers, Size, MIDDLE, SMALL};
 use super::random::Random;
-use super::{limits, mix};
+use super::{averages, limits, mix};
 use crate::program::{LONGEST_QUERY, MOST_ROW_BYTES};
 
 pub fn of_input(input: &Input) -> Vec<u8> {
@@ -41,6 +41,9 @@ pub fn input(random: &mut Random, number: usize) -> Vec<u8> {
             mix::adversarial(random, size).finish()
         }),
         4 => short(random, |random, size| damaged(random, size, turn)),
+        5 if turn % 2 == 1 => short(random, |random, size| {
+            averages::draft(random, size).finish()
+        }),
         5 => short(random, |random, size| {
             mix::accepted(random, size, Numbers::Extreme).finish()
         }),
@@ -128,7 +131,7 @@ fn many_pairs(random: &mut Random) -> Vec<u8> {
 /// One match of nineteen report numbers for each row; 431 of them fit.
 fn stopping(n: usize) -> Vec<u8> {
     let mut draft = Draft::new(1, b"A", Vec::new());
-    for function in [1, 2, 3, 4, 5, 6, 1, 2] {
+    for function in [1, 2, 3, 4, 5, 6, 7, 2] {
         draft = draft.measure(function, b'A', 0);
     }
     whole(&draft.query(), &vec![5; n])
@@ -138,7 +141,7 @@ fn stopping(n: usize) -> Vec<u8> {
 /// 432nd does not fit, and is a 13.
 fn sticking(n: usize) -> Vec<u8> {
     let mut draft = limits::stuck_at_last_row(n);
-    for function in [1, 2, 3, 4, 5, 6, 1, 2] {
+    for function in [1, 2, 3, 4, 5, 6, 7, 2] {
         draft = draft.measure(function, b'C', 0);
     }
     of_input(&draft.finish())
@@ -153,7 +156,7 @@ fn row_bytes(text: &[u8], count: usize) -> Vec<u8> {
 
 /// The input with this number in a stream of middle size: matches, patterns that
 /// are hard on a careless walk, skips to labelled rows, each answer, two at once
-/// with bytes too many, large numbers, single bytes changed, and noise.
+/// with bytes too many, large numbers, averages, single bytes changed, and noise.
 pub fn middle(random: &mut Random, number: usize) -> Vec<u8> {
     let turn = number / 8;
     match number % 8 {
@@ -166,6 +169,7 @@ pub fn middle(random: &mut Random, number: usize) -> Vec<u8> {
             stdin.extend(vec![9; random.below(5)]);
             stdin
         }
+        5 if turn % 2 == 1 => of_input(&averages::draft(random, &MIDDLE).finish()),
         5 => of_input(&mix::accepted(random, &MIDDLE, Numbers::Extreme).finish()),
         6 => changed(random),
         _ => noise(random),

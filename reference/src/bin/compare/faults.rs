@@ -12,8 +12,8 @@ use reference::generate::Random;
 use reference::log::Event;
 use reference::pattern;
 use reference::query::{
-    self, Skip, COMPARISON_BYTES, DEFINE, FIRST, MEASURE, MIN, MOST_TEXT, PAST_LAST_ROW, SHAPE,
-    SKIP, SUM, TEXT, TO_FIRST, TO_LAST, TO_NEXT_ROW,
+    self, Function, Skip, COMPARISON_BYTES, DEFINE, FIRST, MEASURE, MIN, MOST_TEXT, PAST_LAST_ROW,
+    SHAPE, SKIP, TEXT, TO_FIRST, TO_LAST, TO_NEXT_ROW,
 };
 use reference::readings;
 use reference::search::{self, next_start, Accepted, Rule, DONE, STOPPED, STUCK};
@@ -451,7 +451,7 @@ static FAULTS: [Fault; 90] = [
         };
         for one in search.matches() {
             let measures = accepted.query.measures.iter().zip(one[3..].chunks_mut(2));
-            for (_, written) in measures.filter(|(measure, _)| measure.function == SUM) {
+            for (_, written) in measures.filter(|(measure, _)| measure.function == Function::Sum) {
                 written[1] = i64::from(written[1] as i32);
             }
         }

@@ -38,10 +38,10 @@ fn of_each_end() -> [Vec<u8>; 7] {
     let many_pairs = Draft::new(1, b"(A{51}){5}", Vec::new());
     // Nineteen numbers for each match: 431 fit.
     let mut stops = Draft::new(1, b"A", Vec::new());
-    for function in 1..=6 {
+    for function in 1..=7 {
         stops = stops.measure(function, b'A', 0);
     }
-    stops = stops.measure(1, 0, 0).measure(6, 0, 0);
+    stops = stops.measure(7, 0, 0);
     let growing: Vec<i32> = (0..432)
         .map(|k| if k % 2 == 0 { 37 * k * k } else { -37 * k * k })
         .collect();
@@ -161,7 +161,7 @@ mod tests {
         assert_eq!(large, "too large\n");
         let lines: Vec<&str> = stopped.lines().collect();
         assert_eq!(lines[0], "stopped 431 steps 864");
-        assert_eq!(lines[4], "4 3 1 A 1 -333 -333 -333 -333 -333 1 -333");
+        assert_eq!(lines[4], "4 3 1 A 1 -333 -333 -333 -333 -333 -333 -333");
         assert_eq!(lines.len(), 432);
         // Fork, A, B and END at rows 0 and 1; at row 2 fork, A, B failing behind the
         // rows, C and END.

@@ -4,8 +4,8 @@
 use crate::case::{Call, Case};
 use crate::engine::{Engine, Reference};
 use reference::query::{
-    self, Comparison, Measure, Query, Record, Reference as Entry, Skip, DEFINE, MEASURE, SHAPE,
-    SKIP, TEXT,
+    self, Comparison, Function, Measure, Query, Record, Reference as Entry, Skip, DEFINE, MEASURE,
+    SHAPE, SKIP, TEXT,
 };
 use std::fmt::{Display, Write};
 
@@ -115,12 +115,13 @@ fn entry(entry: Entry) -> String {
 
 fn measure(measure: &Measure) -> String {
     let function = match measure.function {
-        query::COUNT => "COUNT",
-        query::SUM => "SUM",
-        query::MIN => "MIN",
-        query::MAX => "MAX",
-        query::FIRST => "FIRST",
-        _ => "LAST",
+        Function::Count => "COUNT",
+        Function::Sum => "SUM",
+        Function::Min => "MIN",
+        Function::Max => "MAX",
+        Function::First => "FIRST",
+        Function::Last => "LAST",
+        Function::Avg => "AVG",
     };
     let letter = measure
         .letter

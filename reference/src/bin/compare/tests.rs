@@ -66,7 +66,7 @@ fn the_allowances_end_in_each_way() {
     let mut points: BTreeMap<Point, usize> = BTreeMap::new();
     let within = |stream: &&Stream| stream.name.starts_with("within");
     for stream in STREAMS.iter().filter(within) {
-        for case in (stream.cases)(9).take(3_000) {
+        for case in (stream.cases)(9).take(4_000) {
             assert!(case.input.allowance.is_some());
             let (returned, _) = case.run(&Reference);
             answers[returned[0] as usize] += 1;
