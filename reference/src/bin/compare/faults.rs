@@ -2,9 +2,10 @@
 //! that does one thing wrong, by reading another query than it was lent, by going on
 //! at another row after a match, by stopping elsewhere, or by changing what it returns
 //! or leaves. Each has to be found and shrunk. Those of searches within an allowance
-//! stand in `allowance`.
+//! stand in `allowance`, those of averages in `average`.
 
 mod allowance;
+mod average;
 
 use crate::engine::{five, Engine, Five};
 use crate::lent::{Guarded, Lent};
@@ -269,7 +270,8 @@ const fn tells(name: &'static str, about: &'static str, wrong: fn(&mut Five, &[u
 }
 
 pub fn all() -> impl Iterator<Item = &'static Fault> {
-    FAULTS.iter().chain(&allowance::FAULTS)
+    let of_all = FAULTS.iter().chain(&allowance::FAULTS);
+    of_all.chain(&average::FAULTS)
 }
 
 static FAULTS: [Fault; 90] = [

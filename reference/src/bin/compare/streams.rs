@@ -10,7 +10,7 @@ use reference::generate::draft::{
     self, with_column, with_number, Draft, Input, Numbers, Room, LARGE, MIDDLE, SMALL,
 };
 use reference::generate::scramble::{every_byte, scrambled};
-use reference::generate::{beginnings, limits, mix, texts, Random};
+use reference::generate::{averages, beginnings, limits, mix, texts, Random};
 use reference::query::SKIP;
 use std::collections::HashSet;
 
@@ -48,7 +48,7 @@ const fn random(
     }
 }
 
-pub const STREAMS: [Stream; 34] = [
+pub const STREAMS: [Stream; 37] = [
     listed(
         "texts",
         "room: every text of up to 5 bytes over two alphabets",
@@ -73,6 +73,16 @@ pub const STREAMS: [Stream; 34] = [
         "skips",
         "room, some searches: every two bytes of the skip record, and its wrong lengths",
         every_skip,
+    ),
+    listed(
+        "functions",
+        "room, some searches: every function, with letters and columns right and wrong",
+        every_function,
+    ),
+    listed(
+        "averaged",
+        "averages of every choice of entries from -3 to 3, up to 4 rows",
+        every_average,
     ),
     listed(
         "rooms",
@@ -101,6 +111,12 @@ pub const STREAMS: [Stream; 34] = [
         "the same with numbers at the ends of 32 bits and their sums",
         40_000,
         extreme,
+    ),
+    random(
+        "averages",
+        "sums at and beside multiples of their count, up to 6 rows, some up to 4,096",
+        16_000,
+        beside_multiples,
     ),
     random("mix", "inputs of all sorts, up to 6 rows", 60_000, mixed),
     random(
@@ -387,6 +403,34 @@ fn every_skip(seed: u64) -> Cases {
     Box::new(searches(seed, searched).chain(judged))
 }
 
+/// The largest function that is searched; there are seven.
+const SEARCHED_FUNCTION: u8 = 9;
+
+fn every_function(seed: u64) -> Cases {
+    let searched = (0..=SEARCHED_FUNCTION).rev().flat_map(with_function);
+    let searched = searches(seed, searched.map(|draft| draft.finish()));
+    let judged = rooms(seed, (0..=255).flat_map(with_function));
+    Box::new(searched.chain(judged))
+}
+
+/// All rows, the pattern's letters, another one and two bytes that are none; both
+/// columns, and one beyond them.
+fn with_function(function: u8) -> impl Iterator<Item = Draft> {
+    let letters = [0, b'A', b'B', b'C', b'@', b'a'].into_iter();
+    letters.flat_map(move |letter| {
+        (0..3).map(move |column| {
+            let rows = vec![1, -3, 2, -4, 1, -4, 2, 5];
+            let two = with_number(0, 0, 1, 2);
+            let draft = Draft::new(2, b"(A B?)+", rows).define(b'B', &[two]);
+            draft.measure(function, letter, column)
+        })
+    })
+}
+
+fn every_average(seed: u64) -> Cases {
+    searches(seed, averages::every_small(4))
+}
+
 /// Drafts with matches, on which all combinations of rooms are tried.
 fn every_room(seed: u64) -> Cases {
     let mut random = Random::new(seed);
@@ -445,6 +489,14 @@ fn accepted(seed: u64) -> Cases {
 fn extreme(seed: u64) -> Cases {
     made(seed, |random, _| {
         mix::accepted(random, &SMALL, Numbers::Extreme).finish()
+    })
+}
+
+fn beside_multiples(seed: u64) -> Cases {
+    made(seed, |random, number| match number % 400 {
+        399 => averages::long(random).finish(),
+        at if at % 8 == 7 => averages::draft(random, &MIDDLE).finish(),
+        _ => averages::draft(random, &SMALL).finish(),
     })
 }
 
