@@ -7,7 +7,7 @@
 
 /// Bytes of stack that a call of [`search()`], [`search_within()`] or [`room()`] needs, 32 KiB; the
 /// C header's `MIRELADLE_STACK`. It is measured and not proved: the worst query that was found took
-/// 29,264, and the rest is reserve.
+/// 22,040, and the rest is reserve.
 ///
 /// Threads of the standard library have 2 MiB. One that is given less by
 /// [`stack_size`](std::thread::Builder::stack_size) needs at least 64 KiB, since the thread and this
