@@ -5,7 +5,7 @@
 -- (`allowance-enough`).
 use mathlib.Core.Path.{_≡_, refl, ap, _∙_}
 use mathlib.Core.List.{List, [], _∷_}
-use mathlib.Core.Bool.{Bool, true, false, not}
+use mathlib.Core.Bool.{Bool, true, false}
 use mathlib.Core.Logic.{_⊎_, inl, inr}
 use mathlib.Core.Option.{Option, none, some}
 use Prim.Native.Nat.{ℕ, zero, suc, _+_, _*_, _≤_, _<_}
@@ -127,10 +127,7 @@ module _ (h h₀ : Halting) (alike : (x : ℕ) → h .waits x ≡ h₀ .waits x)
 
 -- ---- a legal pattern
 
--- the same terms without an allowance; and where no more rows come either
-abbrev pub unlimited : Terms → Terms
-unlimited terms = record { largest = terms .largest; more = terms .more; allowance = none }
-
+-- the same terms where no more rows come and any number of steps is allowed
 abbrev pub ended-terms : Terms → Terms
 ended-terms terms = record { largest = terms .largest; more = false; allowance = none }
 
@@ -230,12 +227,9 @@ module _ (t : Unrolled) (g : legal t ≡ true) (skip : Skip) (fits : ℕ → ℕ
     pub search-each : (terms : Terms) → n ≤ terms .largest → 2 * on terms .state .1 ≤ P * (n * (n + 3))
     search-each terms le = omega (arith, steps-whole terms le, walk-each t g holds n skip fits)
 
-    -- a run with a larger allowance begins with the same matches, and keeps what was kept
+    -- a run with a larger allowance begins with the same matches
     pub allows-begins : (a b : Option ℕ) → Allows a b → Begins (on (within a n) .matches) (on (within b n) .matches)
     allows-begins a b h = goes-begins holds holds n n (within a n) (within b n) refl (omega arith) (omega arith) (allows-sooner n false a b h) (inr (refl, refl))
-
-    pub allows-keeps : (a b : Option ℕ) → Allows a b → Keeps (on (within a n) .state) (on (within b n) .state)
-    allows-keeps a b h = goes-keeps holds holds n n (within a n) (within b n) refl (omega arith) (omega arith) (allows-sooner n false a b h) (inr (refl, refl))
 
     -- a search that is finished within an allowance is document 01's
     pub finished-whole : (a : Option ℕ) → Finished (on (within a n) .end) → on (whole n) ≡ on (within a n)
@@ -257,8 +251,7 @@ module _ (t : Unrolled) (g : legal t ≡ true) (fits : ℕ → ℕ → List ℕ 
   pub allowance-enough : (a : ℕ) → 2 * pairs (length (places t)) n ≤ a → walkSearch (within (some a) n) holds n (places t) pastLast fits ≡ walkSearch (whole n) holds n (places t) pastLast fits
   allowance-enough a h = search-allowed t g pastLast fits holds n a (le-trans (walk-bound t g holds n fits) h)
 
--- ---- the steps within an allowance: it is not passed, and where the walk halts for it, it is used
--- up
+-- ---- the steps within an allowance: it is not passed, and where the walk halts for it, it is used up
 
 module _ (a : ℕ) where
   abbrev WithinBy : Halt → ℕ → Type 0

@@ -1,9 +1,9 @@
 -- The tender's demands hold of every accepted search (specs/Demands): for every query, all rows and
 -- all lent buffers, every skip mode and every allowance of steps, done, stopped and halted.
-use mathlib.Core.Path.{_≡_, refl, ap, _∙_}
+use mathlib.Core.Path.{_≡_, refl, ap, sym, _∙_}
 use mathlib.Core.Bool.{Bool, false}
 use mathlib.Core.List.{List, [], _∷_, _++_}
-use mathlib.Core.Logic.{_↔_}
+use mathlib.Core.Logic.{_⊎_, _↔_}
 use mathlib.Core.Option.{Option, none, some}
 use Prim.Native.Nat.{ℕ, _*_, _/_, _≤_, _<_}
 use native.Mathlib.Omega.{arith}
@@ -14,14 +14,14 @@ use Rattle.rules.specs.Query.{textOf}
 use Rattle.rules.specs.Language.{Tree, pattern, Written, emptyLoop}
 use Rattle.rules.specs.Places.{Place, unroll, places}
 use Rattle.rules.specs.Readings.{SomeReading}
-use Rattle.rules.specs.Walk.{pairs}
+use Rattle.rules.specs.Walk.{IsOpen, pairs, firstAt, pairWays}
 use Rattle.rules.specs.Preferment.{Preferred, Reports}
-use Rattle.rules.specs.Search.{Match, Finished, Skip, pastLast, Swept, Terms, within, whole, walkSearch, plainSearch, labels, endOf, plainFrom, shownOne, shown, shownEnd}
+use Rattle.rules.specs.Search.{Match, Finished, openOf, Skip, pastLast, Swept, Terms, within, whole, walkSearch, plainSearch, labels, endOf, plainFrom, shownOne, shown, shownEnd}
 use Rattle.rules.specs.Report.{fits, bytesFor, bitAt, notesOf}
 use Rattle.rules.specs.Answers.{treeIn, Task, taskOf, letterHolds, walkedOn, backtracked, Buffers, refusal, answerBy, answerWithin, reportOf, walkWithin, plainOf, reportWithin, plainReport, accepted, searchWithin, searchOf}
 use Rattle.rules.specs.Demands.{Demand2, Demand3, Demands, Allowing}
 use Rattle.laws.proofs.Accepted.{accepted-within, granted-when, places-are}
-use Rattle.laws.proofs.Allowed.{search-bound, search-each, search-within, end-within, EndWithin, allows-begins, search-allowed, allowance-enough}
+use Rattle.laws.proofs.Allowed.{search-bound, search-each, search-within, end-within, EndWithin, allows-begins, finished-whole, search-allowed, allowance-enough}
 use Rattle.laws.proofs.Bounds.{Bounds, written-bounds}
 use Rattle.laws.proofs.Counting.{legal-unroll}
 use Rattle.laws.proofs.DerivationReadings.{parses-reads}
@@ -30,9 +30,13 @@ use Rattle.laws.proofs.GreatestDerivation.{found-is-greatest}
 use Rattle.laws.proofs.Lists.{front-wrote}
 use Rattle.laws.proofs.Noted.{length-notes, noted}
 use Rattle.laws.proofs.Paths.{failed-no-path}
-use Rattle.laws.proofs.PatternWalk.{search-follows, search-sum, search-kept, walk-finished}
+use Rattle.laws.proofs.OpenPairs.{search-leads, open-once}
+use Rattle.laws.proofs.PatternWalk.{falls, search-follows, search-sum, search-out, search-kept, walk-finished}
 use Rattle.laws.proofs.PrefermentReports.{plain-reports, reports-one}
+use Rattle.laws.proofs.Rank.{rank}
 use Rattle.laws.proofs.TreeReadings.{match-exactly}
+use Rattle.laws.proofs.Walk.{All-at}
+use Rattle.rules.specs.Working.{All, Out}
 
 -- ---- demand 2
 
@@ -95,6 +99,12 @@ module _ (p : Tree pattern) (g : emptyLoop p ≡ false) (holds : ℕ → ℕ →
   bounded : (terms : Terms) → n ≤ terms .largest → (skip : Skip) (room : ℕ → ℕ → List ℕ → Bool) → bound-by terms skip room
   bounded terms le skip room e = rw e (search-bound (unroll p) (legal-unroll p g) room holds n terms le)
 
+-- no pair still open has failed
+task-out : (p : Tree pattern) (g : emptyLoop p ≡ false) (t : Task) (e : t .places ≡ places (unroll p)) (nums labs : ℕ) (terms : Terms) → t .table .n ≤ terms .largest
+    → All (Out (walkedOn terms t nums labs .state .0)) (openOf (walkedOn terms t nums labs .end))
+unfolding walkedOn
+task-out p g t e nums labs terms le = rw e (search-out (unroll p) (legal-unroll p g) (letterHolds t) (t .table .n) terms le (t .skip) (fits nums labs (t .measures)))
+
 -- the same for a task whose places are those of the pattern
 pub third : (p : Tree pattern) (g : emptyLoop p ≡ false) (t : Task) (e : t .places ≡ places (unroll p)) (nums labs : ℕ) (terms : Terms) → t .table .n ≤ terms .largest
     → Demand3 t (terms .largest) (walkedOn terms t nums labs) (backtracked t nums labs)
@@ -108,6 +118,9 @@ third p g t e nums labs terms le =
       bound = rw e (bounded p g h n terms le (t .skip) r);
       bound-each = rw e (search-each (unroll p) l (t .skip) r h n terms le);
       sum = rw e (search-sum (unroll p) l h n terms le (t .skip) r);
+      still-open = λ w i x d.
+          let o : (x ≡ []) ⊎ IsOpen (pairWays h n (t .places)) (firstAt (length (t .places)) i) x = rw d at (search-leads terms h n (t .places) (t .skip) r) in
+          (o, open-once (pairWays h n (t .places)) (rank (unroll p) n) (pairs (length (t .places)) n) (rw e (falls (unroll p) l h n)) o, λ y m. All-at (Out (walkedOn terms t nums labs .state .0)) m (rw d at (task-out p g t e nums labs terms le)));
       failed = rw e (failed-no-path (unroll p) l h n terms le (t .skip) r);
       pairs-kept = rw e (search-kept (unroll p) l h n terms le (t .skip) r);
       like-all = task-follows p g t e nums labs terms le .0;
@@ -174,6 +187,10 @@ module _ (p : Tree pattern) (g : emptyLoop p ≡ false) (t : Task) (e : t .place
   unfolding walkedOn
   task-larger a b h = rw e (allows-begins (unroll p) (legal-unroll p g) (t .skip) (fits nums labs (t .measures)) (letterHolds t) (t .table .n) (some a) (some b) h)
 
+  task-done : (a : ℕ) → Finished (walkedOn (within (some a) (t .table .n)) t nums labs .end) → walkedOn (within (some a) (t .table .n)) t nums labs ≡ walkedOn (whole (t .table .n)) t nums labs
+  unfolding walkedOn
+  task-done a = rw e (λ f. sym (finished-whole (unroll p) (legal-unroll p g) (t .skip) (fits nums labs (t .measures)) (letterHolds t) (t .table .n) (some a) f))
+
   task-unpassed : (a : ℕ) → walkedOn (whole (t .table .n)) t nums labs .state .1 ≤ a → walkedOn (within (some a) (t .table .n)) t nums labs ≡ walkedOn (whole (t .table .n)) t nums labs
   unfolding walkedOn
   task-unpassed a = rw e (search-allowed (unroll p) (legal-unroll p g) (t .skip) (fits nums labs (t .measures)) (letterHolds t) (t .table .n) a)
@@ -201,6 +218,7 @@ allowing q rows lent ok =
     record {
       kept-to = λ a. end-within a (walkWithin (some a) q rows lent .end) (walkWithin (some a) q rows lent .state .1) (to a);
       used-up = λ a i p d. rw d at (to a);
+      done = λ b f. walk-decides (some b) none q rows lent (task-done p (a .no-empty-loop) t e nums labs b f);
       larger = task-larger p (a .no-empty-loop) t e nums labs;
       unpassed = λ b h. walk-decides (some b) none q rows lent (task-unpassed p (a .no-empty-loop) t e nums labs b h);
       enough = λ s b h. walk-decides (some b) none q rows lent (task-enough p (a .no-empty-loop) t e nums labs s b h);

@@ -3,7 +3,6 @@
 use mathlib.Core.Path.{_≡_, refl, ap, sym, _∙_}
 use mathlib.Core.List.{List, [], _∷_, _++_, map}
 use mathlib.Core.Bool.{Bool, true, false, _&&_, _||_, false≢true}
-use mathlib.Core.Logic.{_≢_}
 use mathlib.Core.Option.{Option, none, some}
 use Prim.Native.Nat.{ℕ, zero, suc, _+_, _≤_, _<_}
 use native.Mathlib.Nat.{le-trans, not-suc-le-zero, le-of-suc-le-suc}
@@ -257,26 +256,26 @@ waits-thin : (terms : Terms) (pl : List Place) (n x : ℕ) → haltingOf terms (
 unfolding haltingOf
 waits-thin terms pl n x = rw (thinned-length pl, thinned-at pl (placeOf (length pl) x), asks-thin (getD pl (placeOf (length pl) x) (pFork [])))
 
-halting-thin : (terms : Terms) (pl : List Place) (n : ℕ) → haltingOf terms (thinned pl) n ≡ haltingOf terms pl n
+pub halting-thin : (terms : Terms) (pl : List Place) (n : ℕ) → haltingOf terms (thinned pl) n ≡ haltingOf terms pl n
 unfolding haltingOf
 halting-thin terms pl n =
     let e : haltingOf terms (thinned pl) n .waits ≡ haltingOf terms pl n .waits = λ i x. waits-thin terms pl n x i in
     ap (λ (w : ℕ → Bool). record { spent = haltingOf terms pl n .spent; waits = w }) e
 
+pub plan-thin : (pl : List Place) (n : ℕ) (more : Bool) (skip : Skip) (fits : ℕ → ℕ → List ℕ → Bool) → planOf (thinned pl) n more skip fits ≡ planOf pl n more skip fits
+unfolding planOf
+plan-thin pl n more skip fits =
+    let e : labels (thinned pl) ≡ labels pl = λ i p. labels-thin pl p i in
+    rw (thinned-length pl, e) refl
+
 -- The counted walk over thinned places is the walk over the places, on any terms: the same matches,
 -- failed pairs and steps.
 module _ (t : Unrolled) (g : legal t ≡ true) (holds : ℕ → ℕ → Bool) (n : ℕ) (terms : Terms) (le : n ≤ terms .largest) (skip : Skip) (fits : ℕ → ℕ → List ℕ → Bool) where
-  plan-thin : planOf (thinned (places t)) n (terms .more) skip fits ≡ planOf (places t) n (terms .more) skip fits
-  unfolding planOf
-  plan-thin =
-      let e : labels (thinned (places t)) ≡ labels (places t) = λ i p. labels-thin (places t) p i in
-      rw (thinned-length (places t), e) refl
-
   pub walk-thin : walkSearch terms holds n (thinned (places t)) skip fits ≡ walkSearch terms holds n (places t) skip fits
   unfolding walkSearch
   walk-thin =
       let N : ℕ = pairs (length (places t)) (terms .largest) in
       let e : pairWays holds n (thinned (places t)) ≡ (λ x. thin (pairWays holds n (places t) x)) = λ i x. thin-pairs holds n (places t) x i in
-      rw (plan-thin, halting-thin terms (places t) n, e, thinned-length (places t))
+      rw (plan-thin (places t) n (terms .more) skip fits, halting-thin terms (places t) n, e, thinned-length (places t))
       (search-thin (haltingOf terms (places t) n) (pairWays holds n (places t)) (rank t n) N (falls-in t g holds n (terms .largest) le) N (top-in t g holds n (terms .largest) le) (firstAt (length (places t)))
       (planOf (places t) n (terms .more) skip fits) (λ i h. starts-in t g holds n (terms .largest) le i h .0) n 0 0 0 (replicate N false, 0) (length-replicate _ _))

@@ -3,7 +3,7 @@
 -- first has done, and then what comes of its open pairs (`inside-onward`); and so for the whole
 -- search (`search-onward`). What the first has found, kept as failed and counted stays.
 use mathlib.Core.Path.{_≡_, refl, ap, sym, _∙_}
-use mathlib.Core.List.{List, [], _∷_, _++_, append-nil}
+use mathlib.Core.List.{List, [], _∷_, _++_, append-nil, reverseAux}
 use mathlib.Core.Bool.{Bool, true, false}
 use mathlib.Core.Logic.{_⊎_, ⊎-elim}
 use mathlib.Core.Option.{Option, none, some}
@@ -18,9 +18,9 @@ use Rattle.rules.specs.Basics.{Begins}
 use Rattle.rules.specs.Search.{Match, End, done, full, stuck, unfinished, Finished, Attempted, hit, miss, halts, Swept, Plan, ended, noStart, below, withMatch, byFit, byNext, onAnswer, sweep, Kept, answered, walkAt}
 use Rattle.rules.specs.Walk.{Ways, accept, try, Halting, Outcome, found, failed, halted, orElse, close, enterUnless, tries, inside, insideBy}
 use Rattle.laws.proofs.Fuel.{same-answer, sweep-fuel}
-use Rattle.laws.proofs.Machine.{inside-down, inside-try}
+use Rattle.laws.proofs.Machine.{inside-down, inside-try, resume-one}
 use Rattle.laws.proofs.Walk.{All-map, in-mark}
-use Rattle.rules.specs.Working.{All, Falls, In}
+use Rattle.rules.specs.Working.{All, Falls, In, lift, resume}
 
 -- ---- what is kept, whatever the outcome: no failed pair is lost, and the steps do not fall
 
@@ -143,6 +143,35 @@ module _ (h : Halting) (ways : ℕ → Ways) (K : ℕ) where
       go (found q G t) k = record { len = k .len; failed = k .failed; steps = k .steps }
       go (failed G t) k = keeps-trans (F, s) (G, t) (keptBy (inside h ways K G t x)) k (inside-keeps h ways K G t x)
       go (halted w q G t) k = record { len = k .len; failed = k .failed; steps = k .steps }
+
+-- ---- the same from a stack of open pairs, as a loop with a trail keeps it between calls
+
+reverse-snoc : (p q : List ℕ) (x : ℕ) → reverseAux p (q ++ (x ∷ [])) ≡ reverseAux p q ++ (x ∷ [])
+reverse-snoc [] q x = refl
+reverse-snoc (y ∷ p) q x = reverse-snoc p (y ∷ q) x
+
+snoc-reverse : (st p : List ℕ) (x : ℕ) → reverseAux (st ++ (x ∷ [])) p ≡ x ∷ reverseAux st p
+snoc-reverse [] p x = refl
+snoc-reverse (y ∷ st) p x = snoc-reverse st (y ∷ p) x
+
+module _ (h : Halting) (ways : ℕ → Ways) (K : ℕ) where
+  -- a pair below all others on the stack
+  resume-snoc : (st : List ℕ) (F : List Bool) (s x : ℕ) → resume h ways K (st ++ (x ∷ [])) F s ≡ under h ways K x (resume h ways K st F s)
+  unfolding resume
+  resume-snoc [] F s x = resume-one h ways K F s x
+  resume-snoc (y ∷ st) F s x = go (λ F′ s′. resume-snoc st F′ s′ x) (inside h ways K F s y)
+    where
+      go : ((F′ : List Bool) (s′ : ℕ) → resume h ways K (st ++ (x ∷ [])) F′ s′ ≡ under h ways K x (resume h ways K st F′ s′)) → (r : Outcome)
+          → orElse (lift (st ++ (x ∷ [])) r) (λ F′ s′. resume h ways K (st ++ (x ∷ [])) F′ s′) ≡ under h ways K x (orElse (lift st r) (λ F′ s′. resume h ways K st F′ s′))
+      go ih (found p G t) = rw (snoc-reverse st p x)
+      go ih (failed G t) = ih G t
+      go ih (halted w p G t) = rw (snoc-reverse st p x)
+
+  -- the last entered first
+  pub stack-goes : (p : List ℕ) (F : List Bool) (s : ℕ) → resume h ways K (reverseAux p []) F s ≡ goOn h ways K p F s
+  unfolding goOn resume
+  stack-goes [] F s = refl
+  stack-goes (x ∷ p) F s = rw (reverse-snoc p [] x) (resume-snoc (reverseAux p []) F s x ∙ ap (under h ways K x) (stack-goes p F s))
 
 -- ---- a walk that halts sooner, and one that goes further
 
@@ -270,10 +299,6 @@ behind-matches (m ∷ ms) r = ap (λ (xs : List Match). m ∷ xs) (behind-matche
 pub behind-state : {S : Type 0} (ms : List Match) (r : Swept S) → behind ms r .state ≡ r .state
 behind-state [] r = refl
 behind-state (m ∷ ms) r = behind-state ms r
-
-pub behind-end : {S : Type 0} (ms : List Match) (r : Swept S) → behind ms r .end ≡ r .end
-behind-end [] r = refl
-behind-end (m ∷ ms) r = behind-end ms r
 
 module _ (h : Halting) (ways : ℕ → Ways) (K : ℕ) (first : ℕ → ℕ) (plan : Plan) where
   -- an unfinished search goes on: its attempt at i, with the open pairs p, where m matches with l

@@ -53,3 +53,12 @@ pub mod Choice
 pub mod Distinct
 pub mod ThinPlaces
 pub mod SameLetters
+pub mod Stays
+pub mod OpenPairs
+pub mod PlaceLetters
+pub mod Present
+pub mod PathRows
+pub mod Waits
+pub mod ThinGoes
+pub mod Lots
+pub mod LotLaws

@@ -35,11 +35,6 @@ module _ (h : Halting) (ways : ℕ → Ways) (ρ : ℕ → ℕ) (N : ℕ) (falls
   abbrev PadAt : ℕ → Type 0
   PadAt k = (F : List Bool) (s x : ℕ) → length F ≡ N → x < N → inside h ways k (F ++ G) s x ≡ pad G (inside h ways k F s x)
 
-  pad-or : (r : Outcome) (f g : List Bool → ℕ → Outcome) → ((F : List Bool) (s : ℕ) → length F ≡ N → f (F ++ G) s ≡ pad G (g F s)) → length (keptBy r .0) ≡ N → orElse (pad G r) f ≡ pad G (orElse r g)
-  pad-or (found p F s) f g e len = refl
-  pad-or (failed F s) f g e len = e F s len
-  pad-or (halted w p F s) f g e len = refl
-
   pad-close : (x : ℕ) (r : Outcome) → x < N → length (keptBy r .0) ≡ N → close x (pad G r) ≡ pad G (close x r)
   pad-close x (found p F s) lt len = refl
   pad-close x (failed F s) lt len = ap (λ (H : List Bool). failed H s) (set-append-left F G x true (rw len lt))

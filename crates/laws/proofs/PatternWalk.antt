@@ -23,7 +23,7 @@ use Rattle.laws.proofs.Rank.{rank, places-length, pattern-falls, patter
 use Rattle.laws.proofs.Starts.{next-on, next-past}
 use Rattle.laws.proofs.Swept.{Unhalting, sweep-finished, finished-open, walk-sure, Alike, Follows, follows-alike, Counted, walk-follows-plain, walk-counted}
 use Rattle.laws.proofs.Walk.{All-map}
-use Rattle.rules.specs.Working.{All, Falls, In}
+use Rattle.rules.specs.Working.{All, Falls, In, Out}
 
 -- ---- no pair has failed at first
 
@@ -148,6 +148,10 @@ module _ (t : Unrolled) (g : legal t ≡ true) (holds : ℕ → ℕ → Bool) (n
     -- the steps are the failed pairs, the pairs of the paths found, and the pairs still open
     pub search-sum : searched .state .1 ≡ countTrue (searched .state .0) + pathPairs (foundIn searched) + length (openOf (searched .end))
     search-sum = omega (arith, search-counted .sum, none-count N)
+
+    -- and these have not failed
+    pub search-out : All (Out (searched .state .0)) (openOf (searched .end))
+    search-out = search-counted .out
 
   -- ---- on document 01's terms
 

@@ -15,7 +15,7 @@ use Rattle.rules.specs.Search.{pathPairs, Match, End, done, full, stuck, unfini
 use Rattle.rules.specs.Walk.{Ways, accept, try, Halting, Outcome, found, failed, halted, orElse, close, enterUnless, tries, inside, insideBy, countTrue, plain}
 use Rattle.laws.proofs.Plain.{Sound, InsideSound, inside-sound}
 use Rattle.laws.proofs.Walk.{InsidePost, inside-post}
-use Rattle.rules.specs.Working.{Falls}
+use Rattle.rules.specs.Working.{All, Falls, Out}
 
 -- ---- a walk that nothing halts
 
@@ -215,6 +215,7 @@ module _ (h : Halting) (ways : ℕ → Ways) (ρ : ℕ → ℕ) (N : ℕ) (falls
 pub record Counted (N : ℕ) (st : Kept) (r : Swept Kept) : Type 0 where
   pub len : length (r .state .0) ≡ N
   pub sum : r .state .1 + countTrue (st .0) ≡ st .1 + countTrue (r .state .0) + pathPairs (foundIn r) + length (openOf (r .end))
+  pub out : All (Out (r .state .0)) (openOf (r .end))
 
 module _ (h : Halting) (ways : ℕ → Ways) (ρ : ℕ → ℕ) (N : ℕ) (falls : Falls ways ρ N) (K : ℕ) (top : (x : ℕ) → ρ x < K) (first : ℕ → ℕ) (plan : Plan)
     (starts : (i : ℕ) → i < plan .n → first i < N) where
@@ -225,7 +226,7 @@ module _ (h : Halting) (ways : ℕ → Ways) (ρ : ℕ → ℕ) (N : ℕ) (falls
   abbrev AttemptCounted : Kept → Attempted → Kept → Type 0
   AttemptCounted st miss su = (length (su .0) ≡ N) × (su .1 + countTrue (st .0) ≡ st .1 + countTrue (su .0))
   AttemptCounted st (hit p) su = (length (su .0) ≡ N) × (su .1 + countTrue (st .0) ≡ st .1 + countTrue (su .0) + length p)
-  AttemptCounted st (halts w p) su = (length (su .0) ≡ N) × (su .1 + countTrue (st .0) ≡ st .1 + countTrue (su .0) + length p)
+  AttemptCounted st (halts w p) su = (length (su .0) ≡ N) × (su .1 + countTrue (st .0) ≡ st .1 + countTrue (su .0) + length p) × All (Out (su .0)) p
 
   attempt-counted : (i : ℕ) (st : Kept) → i < plan .n → length (st .0) ≡ N → AttemptCounted st (walkAt h ways K first i st .0) (walkAt h ways K first i st .1)
   attempt-counted i st lt len = go (getD (st .0) (first i) false) refl (h .spent (st .1))
@@ -233,30 +234,30 @@ module _ (h : Halting) (ways : ℕ → Ways) (ρ : ℕ → ℕ) (N : ℕ) (falls
       on : (r : Outcome) → InsidePost ρ (st .0) (suc (st .1)) (first i) r → AttemptCounted st (answered r .0) (answered r .1)
       on (found p F s) t = (t .grew .len ∙ len, omega arith)
       on (failed F s) t = (t .grew .len ∙ len, omega arith)
-      on (halted w p F s) t = (t .grew .len ∙ len, omega arith)
+      on (halted w p F s) t = (t .grew .len ∙ len, omega arith, t .off)
 
       go : (t : Bool) → getD (st .0) (first i) false ≡ t → (u : Bool)
           → AttemptCounted st (answered (enterUnless t u (inside h ways K) (st .0) (st .1) (first i)) .0) (answered (enterUnless t u (inside h ways K) (st .0) (st .1) (first i)) .1)
       go true e u = (len, refl)
-      go false e true = (len, omega arith)
+      go false e true = (len, omega arith, tt)
       go false e false =
           on (inside h ways K (st .0) (suc (st .1)) (first i))
           (inside-post h ways ρ N falls K (st .0) (suc (st .1)) (first i) (top (first i)) (starts i lt) len e)
 
   counted-answer : (f : ℕ → ℕ → ℕ → Kept → Swept Kept) → CountedOn f → (i m l : ℕ) (st : Kept) (o : Attempted) (su : Kept) → AttemptCounted st o su
       → Counted N st (onAnswer plan f i m l o su)
-  counted-answer f ih i m l st miss su a = let c = ih (suc i) m l su (a .0) in record { len = c .len; sum = omega (arith, c .sum, a .1) }
-  counted-answer f ih i m l st (halts w p) su a = record { len = a .0; sum = omega (arith, a .1) }
+  counted-answer f ih i m l st miss su a = let c = ih (suc i) m l su (a .0) in record { len = c .len; sum = omega (arith, c .sum, a .1); out = c .out }
+  counted-answer f ih i m l st (halts w p) su a = record { len = a .0; sum = omega (arith, a .1); out = a .2 }
   counted-answer f ih i m l st (hit p) su a = go (plan .next i p) (plan .fits m l p)
     where
       go : (o : Option ℕ) (t : Bool) → Counted N st (byFit t (record { start = i; path = p }) su (λ _. byNext o su (λ j. f j (suc m) (l + plan .rows p) su)))
-      go o false = record { len = a .0; sum = omega (arith, a .1) }
-      go none true = record { len = a .0; sum = omega (arith, a .1) }
-      go (some j) true = let c = ih j (suc m) (l + plan .rows p) su (a .0) in record { len = c .len; sum = omega (arith, c .sum, a .1) }
+      go o false = record { len = a .0; sum = omega (arith, a .1); out = tt }
+      go none true = record { len = a .0; sum = omega (arith, a .1); out = tt }
+      go (some j) true = let c = ih j (suc m) (l + plan .rows p) su (a .0) in record { len = c .len; sum = omega (arith, c .sum, a .1); out = c .out }
 
   none-counted : (more : Bool) (i : ℕ) (st : Kept) → length (st .0) ≡ N → Counted N st (ended (noStart more i) st)
-  none-counted false i st len = record { len = len; sum = omega arith }
-  none-counted true i st len = record { len = len; sum = omega arith }
+  none-counted false i st len = record { len = len; sum = omega arith; out = tt }
+  none-counted true i st len = record { len = len; sum = omega arith; out = tt }
 
   pub walk-counted : (k : ℕ) → CountedOn (sweep (walkAt h ways K first) plan k)
   unfolding sweep

@@ -3,7 +3,7 @@ use mathlib.Core.Path.{refl}
 use mathlib.Core.Bool.{false≢true, true≢false}
 use Rattle.rules.specs.Basics.{every}
 use Rattle.rules.specs.Bench.{agrees}
-use Rattle.rules.specs.Samples.{skips, fullFirst, allowances, keepsTo, noRows, comesTo, averages, averageSearches, Preferences}
+use Rattle.rules.specs.Samples.{skips, fullFirst, allowances, keepsTo, inTime, noRows, lots, keepsOn, lotRooms, lotRefusals, refusesSo, Preferences, comesTo, averages, averageSearches}
 use Rattle.rules.specs.Preferment.{Prefers}
 use lib.Dec.{T}
 
@@ -19,6 +19,10 @@ pub allowances-hold : T (every keepsTo allowances)
 unfolding every keepsTo allowances
 allowances-hold = tt
 
+pub in-time : T inTime
+unfolding inTime
+in-time = tt
+
 pub no-rows : T noRows
 unfolding noRows
 no-rows = tt
@@ -30,6 +34,18 @@ averages-hold = tt
 pub average-searches-hold : T (every agrees averageSearches)
 unfolding every agrees averageSearches
 average-searches-hold = tt
+
+pub lots-hold : T (every keepsOn lots)
+unfolding every keepsOn lots
+lots-hold = tt
+
+pub lot-rooms : T lotRooms
+unfolding lotRooms
+lot-rooms = tt
+
+pub lot-refusals : T (every refusesSo lotRefusals)
+unfolding every refusesSo lotRefusals
+lot-refusals = tt
 
 pub preferences : Preferences
 unfolding Prefers

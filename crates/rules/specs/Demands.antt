@@ -4,18 +4,18 @@
 -- halted.
 use mathlib.Core.Path.{_≡_}
 use mathlib.Core.Bool.{true, false}
-use mathlib.Core.List.{List}
-use mathlib.Core.Logic.{_↔_}
+use mathlib.Core.List.{List, [], List·Memᴰ}
+use mathlib.Core.Logic.{_⊎_, _↔_}
 use mathlib.Core.Option.{Option, none, some}
 use Prim.Native.Nat.{ℕ, _+_, _*_, _≤_, _<_}
 use lib.IntN.{ℤ}
 use lib.ListN.{length, getD}
-use Rattle.rules.specs.Basics.{Begins}
+use Rattle.rules.specs.Basics.{Begins, repeats}
 use Rattle.rules.specs.Query.{textOf}
 use Rattle.rules.specs.Language.{Tree, pattern, Written}
 use Rattle.rules.specs.Readings.{Reads, SomeReading}
 use Rattle.rules.specs.Preferment.{Preferred, Reports}
-use Rattle.rules.specs.Walk.{outOfSteps, pairs, pairWays, IsPath, countTrue}
+use Rattle.rules.specs.Walk.{Halt, outOfSteps, pairs, firstAt, pairWays, IsPath, IsOpen, countTrue}
 use Rattle.rules.specs.Search.{End, unfinished, Finished, pastLast, Swept, Kept, labels, endOf, shown, shownEnd, foundIn, openOf, pathPairs, plainFrom}
 use Rattle.rules.specs.Report.{fits, bytesFor, bitAt}
 use Rattle.rules.specs.Answers.{Task, taskOf, letterHolds, Buffers, walkWithin, plainOf, reportWithin, plainReport, searchWithin, searchOf}
@@ -62,6 +62,11 @@ pub record Demand3 (t : Task) (largest : ℕ) (r : Swept Kept) (b : Swept (Unit 
   -- the steps are the failed pairs plus the pairs on all paths found, path by path, plus the pairs
   -- still open where the walk has halted
   pub sum : r .state .1 ≡ countTrue (r .state .0) + pathPairs (foundIn r) + length (openOf (r .end))
+  -- these are pairs of the unfinished attempt, each having led to the next, none twice, and have
+  -- not failed; there is none where the attempt has not begun
+  pub still-open : (h : Halt) (i : ℕ) (p : List ℕ) → r .end ≡ unfinished h i p
+      → ((p ≡ []) ⊎ IsOpen (pairWays (letterHolds t) (t .table .n) (t .places)) (firstAt (length (t .places)) i) p)
+      × (repeats p ≡ false) × ((x : ℕ) → List·Memᴰ x p → getD (r .state .0) x false ≡ false)
   -- from a failed pair there is no reading of the rest
   pub failed : (x : ℕ) → getD (r .state .0) x false ≡ true → (path : List ℕ) → IsPath (pairWays (letterHolds t) (t .table .n) (t .places)) x path → ⊥
   -- every pair is kept account of
@@ -94,6 +99,8 @@ pub record Allowing (q : List ℕ) (rows : List ℤ) (lent : Buffers) : Type 0 w
   -- it is not passed, and where the search halts for it, it is used up
   pub kept-to : (a : ℕ) → walkWithin (some a) q rows lent .state .1 ≤ a
   pub used-up : (a i : ℕ) (p : List ℕ) → walkWithin (some a) q rows lent .end ≡ unfinished outOfSteps i p → walkWithin (some a) q rows lent .state .1 ≡ a
+  -- a search that does not halt within it is document 01's
+  pub done : (a : ℕ) → Finished (walkWithin (some a) q rows lent .end) → searchWithin (some a) q rows lent ≡ searchOf q rows lent
   -- a run with a larger allowance begins with the same matches
   pub larger : (a b : ℕ) → a ≤ b → Begins (walkWithin (some a) q rows lent .matches) (walkWithin (some b) q rows lent .matches)
   -- an allowance that the search without one does not pass changes nothing

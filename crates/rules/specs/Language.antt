@@ -238,3 +238,17 @@ letters caret = []
 letters dollar = []
 letters empty = []
 letters (group p) = letters p
+
+-- a `$` stands in a pattern
+unfoldable pub hasDollar : {k : Rank} → Tree k → Bool
+hasDollar (one b) = hasDollar b
+hasDollar (more b p) = hasDollar b || hasDollar p
+hasDollar (last f) = hasDollar f
+hasDollar (next f b) = hasDollar f || hasDollar b
+hasDollar (bare x) = hasDollar x
+hasDollar (times x f z) = hasDollar x
+hasDollar (letter c) = false
+hasDollar caret = false
+hasDollar dollar = true
+hasDollar empty = false
+hasDollar (group p) = hasDollar p

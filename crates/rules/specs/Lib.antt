@@ -11,8 +11,10 @@ pub mod Clause627
 pub mod Report
 pub mod Reader
 pub mod Answers
+pub mod Lots
 pub mod Program
 pub mod Demands
+pub mod LotDemands
 pub mod Bench
 pub mod Samples
 pub mod Working

@@ -10,13 +10,15 @@ use Prim.Native.String.{String}
 use native.Mathlib.Omega.{arith}
 use lib.Dec.{eqb}
 use lib.IntN.{ℤ, pos, negℤ}
-use lib.ListN.{replicate}
-use Rattle.rules.specs.Basics.{bytes}
+use lib.ListN.{replicate, take}
+use Rattle.rules.specs.Basics.{pick, bytes}
 use Rattle.rules.specs.Language.{opt, lower, upper, pattern, Tree, one, more, last, bare, times, letter}
 use Rattle.rules.specs.Preferment.{Derivation, Prefers}
 use Rattle.rules.specs.Walk.{countTrue}
-use Rattle.rules.specs.Answers.{Buffers, walkWithin, searchWithin, searchOf}
-use Rattle.rules.specs.Bench.{recordOf, w1, X, any, Line, at, line, unstepped, refusal, enough, asks, equalZ}
+use Rattle.rules.specs.Search.{openOf}
+use Rattle.rules.specs.Answers.{pairsOf, Buffers, Result, walkWithin, searchWithin, searchOf}
+use Rattle.rules.specs.Lots.{Named, Progress, begun, lotWalk, callOf}
+use Rattle.rules.specs.Bench.{recordOf, asks, w1, X, any, Line, at, unstepped, refusal, same, equalZ, enough, line}
 use Rattle.rules.specs.Report.{resultOf}
 
 -- ---- R-2, skip to a labelled row
@@ -106,10 +108,212 @@ keepsTo l =
     eqb (r .answer) (l .answer)
     && (eqb (r .matches) (l .matches) && (eqb (r .labels) (l .labels) && (eqb (r .steps) (l .steps) && eqb (countTrue F) (l .failed))))
 
+-- what comes first in time is the answer: `A` to its first A takes two steps and is then stuck;
+-- with no room for its match it stops for that
+unfoldable pub inTime : Bool
+unfolding searchWithin bytes
+inTime =
+    let q = asksTo "A" 2 65 in
+    let lent : Buffers = enough q (any 1) in
+    let tight : Buffers = record { notes = lent .notes; trail = lent .trail; numbers = replicate 2 (pos 9); labels = lent .labels } in
+    eqb (searchWithin (some 1) q (any 1) lent .result .answer) 16
+    && (eqb (searchWithin (some 2) q (any 1) lent .result .answer) 15
+    && (eqb (searchWithin (some 1) q (any 1) tight .result .answer) 16
+    && eqb (searchWithin (some 2) q (any 1) tight .result .answer) 13))
+
 -- an allowance of 0 is enough where there is no row
 unfoldable pub noRows : Bool
 unfolding searchWithin w1
 noRows = eqb (searchWithin (some 0) w1 [] (enough w1 []) .result .answer) 0
+
+-- ---- R-11, rows in lots
+
+-- a query with these rows at most, and an allowance or none; buffers just enough for its notes and
+-- its trail, by these rows
+abbrev pub named : List ℕ → ℕ → Option ℕ → Named
+named q n a = record { query = q; largest = n; allowance = a; lent = enough q (any n) }
+
+-- a call: the slice, how many of its rows are present, and whether it declares the end; and what it
+-- returns
+pub record Told : Type 0 where
+  pub rows : List ℤ
+  pub present : ℕ
+  pub ends : Bool
+  pub answer : ℕ
+  pub matches : ℕ
+  pub labels : ℕ
+  pub steps : ℕ
+
+abbrev pub now : List ℤ → ℕ → ℕ → ℕ → ℕ → ℕ → Told
+now rows k a m l n = record { rows = rows; present = k; ends = false; answer = a; matches = m; labels = l; steps = n }
+
+abbrev pub atLast : List ℤ → ℕ → ℕ → ℕ → ℕ → ℕ → Told
+atLast rows k a m l n = record { rows = rows; present = k; ends = true; answer = a; matches = m; labels = l; steps = n }
+
+abbrev pub returns : Result → ℕ → ℕ → ℕ → ℕ → Bool
+returns r a m l n = eqb (r .answer) a && (eqb (r .matches) m && (eqb (r .labels) l && eqb (r .steps) n))
+
+-- calls one behind the other, each with the buffers as the one before left them
+unfoldable pub tells : Named → Progress → Buffers → List Told → Bool
+unfolding callOf
+tells s p lent [] = true
+tells s p lent (c ∷ cs) =
+    let r = callOf s p (c .rows) (c .present) (c .ends) lent in
+    returns (r .memory .result) (c .answer) (c .matches) (c .labels) (c .steps) && tells s (r .progress) (r .memory .buffers) cs
+
+abbrev pub Lotted : Type 0
+Lotted = Named × List Told
+
+unfoldable pub keepsOn : Lotted → Bool
+unfolding tells pairsOf
+keepsOn l = tells (l .0) begun (l .0 .lent) (l .1)
+
+-- a query of two columns, with 2 rows at most
+abbrev pub twoColumns : Named
+unfolding bytes pairsOf
+twoColumns =
+    let q : List ℕ = recordOf 1 (2 ∷ 0 ∷ []) ++ (recordOf 2 (bytes "A") ++ recordOf 4 (0 ∷ 0 ∷ [])) in
+    record { query = q; largest = 2; allowance = none; lent = enough q (any 4) }
+
+-- the same with room for one match in the report
+abbrev pub oneMatch : Named → Named
+oneMatch s =
+    record {
+      query = s .query;
+      largest = s .largest;
+      allowance = s .allowance;
+      lent = record { notes = s .lent .notes; trail = s .lent .trail; numbers = replicate 3 (pos 9); labels = s .lent .labels };
+    }
+
+unfoldable pub lots : List Lotted
+unfolding w1 bytes pairsOf
+lots =
+    -- W1 in two lots, cut at each row: by the end the one run's 0, 1, 3, 12; then 21. No row: the
+    -- first attempt waits
+    (named w1 5 none, now X 0 23 0 0 0 ∷ atLast X 5 0 1 3 12 ∷ now X 5 21 0 0 0 ∷ [])
+    -- it fails at row 0, and the next attempt waits
+    ∷ (named w1 5 none, now X 1 23 0 0 1 ∷ atLast X 5 0 1 3 12 ∷ [])
+    -- the second A waits, its entry counted; with the third row it passes, and the third A waits
+    ∷ (named w1 5 none, now X 2 23 0 0 4 ∷ now X 3 23 0 0 6 ∷ atLast X 5 0 1 3 12 ∷ [])
+    -- the match is handed out, and the attempt at row 4 waits; then all rows are there, but the end
+    -- is not declared
+    ∷ (named w1 5 none, now X 4 23 1 3 8 ∷ now X 5 23 1 3 11 ∷ atLast X 5 0 1 3 12 ∷ [])
+    -- more rows than named, and fewer than before, change nothing, and no last call so refused
+    -- declares the end; the same count again; an end with fewer rows than named
+    ∷ (
+      named w1 5 none,
+      now X 4 23 1 3 8
+          ∷ now (X ++ X) 6 10 0 0 0
+          ∷ atLast (X ++ X) 6 10 0 0 0
+          ∷ now X 3 21 0 0 0
+          ∷ atLast X 3 21 0 0 0
+          ∷ now X 4 23 1 3 8
+          ∷ atLast X 4 0 1 3 8
+          -- after the end 21 comes first, also to a second last call
+          ∷ now X 5 21 0 0 0
+          ∷ atLast X 5 21 0 0 0
+          ∷ now (X ++ X) 6 21 0 0 0
+          ∷ [],
+    )
+    -- more rows than the slice holds; this ranks before fewer rows than before
+    ∷ (named w1 9 none, now X 6 10 0 0 0 ∷ now X 5 23 1 3 11 ∷ now (take 3 X) 4 10 0 0 0 ∷ now (take 3 X) 3 21 0 0 0 ∷ [])
+    -- the slice may hold more rows than are named, and what lies behind those present is not read
+    ∷ (named w1 3 none, now X 3 23 0 0 6 ∷ atLast X 3 0 0 0 9 ∷ [])
+    -- a slice that is not whole rows
+    ∷ (twoColumns, now (any 3) 1 10 0 0 0 ∷ now (any 4) 1 23 1 1 2 ∷ now (any 4) 2 23 2 2 4 ∷ [])
+    -- forks, `^` and END do not wait: an empty match is handed out, and `^` fails behind the row
+    ∷ (named (asks "A*?" [] 0 []) 2 none, now (any 2) 0 23 0 0 0 ∷ now (any 2) 1 23 1 0 2 ∷ atLast (any 2) 2 0 2 0 4 ∷ [])
+    ∷ (named (asks "A ^" [] 0 []) 2 none, now (any 2) 1 23 0 0 2 ∷ atLast (any 2) 1 0 0 0 2 ∷ [])
+    -- a letter without DEFINE waits too, also behind the last row that can come
+    ∷ (named (asks "A*" [] 0 []) 2 none, now (any 2) 1 23 0 0 4 ∷ now (any 2) 2 23 0 0 6 ∷ atLast (any 2) 2 0 1 2 7 ∷ [])
+    -- 13 stays the answer to every later call, after a last call too
+    ∷ (
+      oneMatch (named (asks "A" [] 0 []) 3 none),
+      now (any 3) 1 23 1 1 2 ∷ now (any 3) 2 13 1 1 4 ∷ now (any 3) 1 13 1 1 4 ∷ now (any 3) 4 13 1 1 4 ∷ atLast (any 3) 3 13 1 1 4 ∷ now (any 3) 3 13 1 1 4 ∷ [],
+    )
+    ∷ (oneMatch (named (asks "A" [] 0 []) 3 none), atLast (any 3) 2 13 1 1 4 ∷ now (any 3) 2 13 1 1 4 ∷ atLast (any 3) 3 13 1 1 4 ∷ [])
+    -- 15 in the call that reaches END, also where no further row is there; it stays
+    ∷ (named (asksTo "A" 2 65) 3 none, now (any 3) 1 15 1 1 2 ∷ atLast (any 3) 3 15 1 1 2 ∷ now (any 3) 3 15 1 1 2 ∷ [])
+    -- an allowance counts over all calls; 16 stays
+    ∷ (named w1 5 (some 6), now X 2 23 0 0 4 ∷ now X 4 16 0 0 6 ∷ atLast X 2 16 0 0 6 ∷ now X 6 16 0 0 6 ∷ [])
+    -- the entry that waits may be the last allowed; one that would pass the allowance is not made
+    ∷ (named w1 5 (some 4), now X 2 23 0 0 4 ∷ now X 3 16 0 0 4 ∷ [])
+    ∷ (named w1 5 (some 3), now X 2 16 0 0 3 ∷ [])
+    -- with the allowance just used up, an attempt at an absent row waits, and is none at the end
+    ∷ (named w1 5 (some 8), now X 4 23 1 3 8 ∷ now X 5 16 1 3 8 ∷ [])
+    ∷ (named w1 5 (some 8), now X 4 23 1 3 8 ∷ atLast X 4 0 1 3 8 ∷ [])
+    ∷ []
+
+-- notes and trail are kept by the largest number of rows: W1, at most 5 rows, 4 of them present.
+-- Pairs 0 and 17 have failed at 23; at the end the trail is 30 zeros, with 4 rows only. A refused
+-- call leaves all four buffers as it finds them. The open pairs where two rows are present are 5,
+-- 11, 12.
+unfoldable pub lotRooms : Bool
+unfolding callOf lotWalk w1 pairsOf
+lotRooms =
+    let s = named w1 5 none in
+    let first = callOf s begun X 4 false (s .lent) in
+    let final = callOf s (first .progress) X 4 true (first .memory .buffers) in
+    let later = callOf s (first .progress) X 3 false (s .lent) in
+    same eqb (first .memory .buffers .notes) (1 ∷ 0 ∷ 2 ∷ 0 ∷ [])
+    && (same eqb (final .memory .buffers .notes) (1 ∷ 0 ∷ 2 ∷ 0 ∷ [])
+    && (same eqb (final .memory .buffers .trail) (replicate 30 0)
+    && (same eqb (later .memory .buffers .notes) (s .lent .notes)
+    && (same eqb (later .memory .buffers .trail) (s .lent .trail)
+    && (same equalZ (later .memory .buffers .numbers) (s .lent .numbers)
+    && (same eqb (later .memory .buffers .labels) (s .lent .labels)
+    && same eqb (openOf (lotWalk s X 2 false .end)) (5 ∷ 11 ∷ 12 ∷ [])))))))
+
+-- DEFINE c with offset 1 on the left, or on the right: above the constant 0, or above a column
+abbrev pub aheadLeft : ℕ → List ℕ
+aheadLeft c = recordOf 3 (c ∷ 1 ∷ 0 ∷ 1 ∷ 5 ∷ 0 ∷ 0 ∷ 0 ∷ 0 ∷ 0 ∷ 0 ∷ 0 ∷ 0 ∷ 0 ∷ [])
+
+abbrev pub aheadRight : ℕ → List ℕ
+aheadRight c = recordOf 3 (c ∷ 1 ∷ 0 ∷ 0 ∷ 5 ∷ 1 ∷ 0 ∷ 1 ∷ 0 ∷ 0 ∷ 0 ∷ 0 ∷ 0 ∷ 0 ∷ [])
+
+-- a first call with so many of four rows present, buffers for 3: the answer and its offset
+pub record Refused : Type 0 where
+  pub query : List ℕ
+  pub largest : ℕ
+  pub present : ℕ
+  pub answer : ℕ
+  pub offset : ℕ
+
+abbrev pub refusedAt : List ℕ → ℕ → ℕ → ℕ → ℕ → Refused
+refusedAt q n k a o = record { query = q; largest = n; present = k; answer = a; offset = o }
+
+unfoldable pub lotRefusals : List Refused
+unfolding bytes
+lotRefusals =
+    refusedAt (asks "A" [] 0 []) 3 3 23 0
+    -- 17: a `$` anywhere; an offset above 0, left or right, of a letter in the pattern
+    ∷ refusedAt (asks "A $" [] 0 []) 3 3 17 0
+    ∷ refusedAt (asks "B (A | B $?)" [] 0 []) 3 3 17 0
+    ∷ refusedAt (asks "A" (aheadLeft 65) 0 []) 3 3 17 0
+    ∷ refusedAt (asks "A" (aheadRight 65) 0 []) 3 3 17 0
+    ∷ refusedAt (asks "A" (aheadLeft 66) 0 []) 3 3 23 0
+    -- 9 ranks before 17, and 17 before 10
+    ∷ refusedAt (asks "A $" [] 0 (recordOf 5 (1 ∷ 66 ∷ 0 ∷ 0 ∷ []))) 3 3 9 0
+    ∷ refusedAt (asks "A $" [] 0 []) 4097 5 17 0
+    -- 10 before 11: a largest number above 4,096, more rows than it, more than the slice holds
+    ∷ refusedAt (asks "A" [] 0 []) 4097 3 10 0
+    ∷ refusedAt (asks "A" [] 0 []) 4096 3 11 0
+    ∷ refusedAt (asks "A" [] 0 []) 3 4 10 0
+    ∷ refusedAt (asks "A" [] 0 []) 9 5 10 0
+    -- notes and trail by the largest number, not by the rows present
+    ∷ refusedAt (asks "A" [] 0 []) 4 1 11 0
+    ∷ refusedAt (asks "A B" [] 0 []) 4 1 12 0
+    -- 5 and 14 with their offsets
+    ∷ refusedAt (asks "A $ )" [] 0 []) 4097 5 5 4
+    ∷ refusedAt (asks "A $ (" [] 0 []) 4097 5 14 5
+    ∷ []
+
+unfoldable pub refusesSo : Refused → Bool
+unfolding callOf pairsOf
+refusesSo l =
+    let s : Named = record { query = l .query; largest = l .largest; allowance = none; lent = enough (l .query) (any 3) } in
+    let r = callOf s begun (any 4) (l .present) false (s .lent) .memory .result in
+    eqb (r .answer) (l .answer) && (eqb (r .offset) (l .offset) && eqb (r .matches) (pick (eqb (l .answer) 23) 3 0))
 
 -- ---- R-5, the average of a column
 

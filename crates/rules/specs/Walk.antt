@@ -62,6 +62,12 @@ pub data IsPath (ways : ℕ → Ways) : ℕ → List ℕ → Type 0 where
   here : {x : ℕ} → ways x ≡ accept → IsPath ways x (x ∷ [])
   there : {x y : ℕ} {ys p : List ℕ} → ways x ≡ try ys → List·Memᴰ y ys → IsPath ways y p → IsPath ways x (x ∷ p)
 
+-- Open pairs of an attempt from a pair on: each leads to the next by one of its ways, up to any
+-- pair.
+pub data IsOpen (ways : ℕ → Ways) : ℕ → List ℕ → Type 0 where
+  lastOpen : {x : ℕ} → IsOpen ways x (x ∷ [])
+  openBefore : {x y : ℕ} {ys p : List ℕ} → ways x ≡ try ys → List·Memᴰ y ys → IsOpen ways y p → IsOpen ways x (x ∷ p)
+
 -- ---- plain backtracking: every pair tried is entered
 
 -- the first success among pairs tried in order
@@ -98,14 +104,11 @@ pub data Halt : Type 0 where
   outOfSteps : Halt
   outOfRows : Halt
 
--- when a walk halts: after so many steps no pair is entered any more; or this pair, entered, waits
+-- when a walk halts: after so many steps no pair is entered any more; or this pair, entered, waits.
+-- In document 01 neither is ever so (`whole` of specs/Search).
 pub record Halting : Type 0 where
   pub spent : ℕ → Bool
   pub waits : ℕ → Bool
-
--- the walk of document 01 never halts
-abbrev pub never : Halting
-never = record { spent = λ s. false; waits = λ x. false }
 
 -- what comes of a pair: a path, or a failure, or a halt with the pairs still open, which are those
 -- entered and not failed, each having led to the next; with the failed pairs and the steps by then.
