@@ -1,0 +1,392 @@
+#!/usr/bin/env python3
+"""The tests of mireladle.py, and the examples in its text. The module's declarations are compared
+with include/mireladle.h, the bytes of W1 with examples/w1.c, and the matches of random queries with
+what the program prints. Run in any folder; the shared library is that of target/shared, or the one
+that MIRELADLE_LIBRARY names. The last line is `N passed, M failed`.
+"""
+
+import ctypes
+import doctest
+import os
+import pickle
+import random
+import re
+import struct
+import subprocess
+import sys
+import unittest
+from array import array
+
+HERE = os.path.dirname(os.path.abspath(__file__))
+ROOT = os.path.dirname(HERE)
+PROGRAM = os.path.join(ROOT, "target", "bin", "mireladle")
+os.environ.setdefault("MIRELADLE_LIBRARY",
+                      os.path.join(ROOT, "target", "shared", "libmireladle.so.0"))
+sys.path.insert(0, HERE)
+
+import mireladle  # noqa: E402
+from mireladle import (  # noqa: E402
+    AVG, COUNT, FIRST, LAST, MAX, MIN, PAST_LAST_ROW, SUM, TO_NEXT_ROW,
+    Answer, Query, Refused, col, to_first, to_last)
+
+A = col("a")
+W1_ROWS = [100, 110, 120, 115, 130]
+
+
+def read(*path):
+    with open(os.path.join(ROOT, *path), encoding="utf-8") as file:
+        return file.read()
+
+
+def w1(**changed):
+    parts = {
+        "columns": ["price"],
+        "pattern": "A+ B",
+        "define": {"A": col("price") > col("price").prev(),
+                   "B": col("price") < col("price").prev()},
+        "measures": [COUNT("A"), LAST("price", "B")],
+    }
+    return Query(**{**parts, **changed})
+
+
+def found(report):
+    return [(match.first, match.labels) for match in report]
+
+
+class TheHeader(unittest.TestCase):
+    header = read("include", "mireladle.h")
+
+    def test_structs(self):
+        for struct_type in (mireladle._Result, mireladle._Room):
+            name = "mireladle" + struct_type.__name__.lower()
+            body = re.search(rf"struct {name} {{(.*?)\n}};", self.header, re.S).group(1)
+            declared = re.findall(r"^ +(\w+) (\w+);", body, re.M)
+            self.assertEqual({kind for kind, _ in declared}, {"uint64_t"})
+            self.assertEqual([field for _, field in declared],
+                             [field for field, _ in struct_type._fields_])
+
+    def test_answers(self):
+        body = re.search(r"enum mireladle_answer {(.*?)\n};", self.header, re.S).group(1)
+        declared = re.findall(r"^ +MIRELADLE_(\w+) = (\d+),?$", body, re.M)
+        self.assertEqual([(name, int(number)) for name, number in declared],
+                         [(answer.name, answer.value) for answer in Answer])
+
+    def test_every_answer_is_told(self):
+        self.assertEqual(set(Answer), set(mireladle._WORDS) | mireladle._WITH_REPORT)
+
+    def test_functions(self):
+        kinds = {"const uint8_t *": ctypes.c_char_p, "size_t ": ctypes.c_size_t,
+                 "const int32_t *": ctypes.POINTER(ctypes.c_int32), "uint64_t ": ctypes.c_uint64,
+                 "uint8_t *": ctypes.POINTER(ctypes.c_uint8),
+                 "uint32_t *": ctypes.POINTER(ctypes.c_uint32),
+                 "int64_t *": ctypes.POINTER(ctypes.c_int64)}
+        for name, (result, arguments) in mireladle._FUNCTIONS.items():
+            declared = re.search(rf"^struct (\w+) {name}\((.*?)\);", self.header, re.S | re.M)
+            self.assertEqual(declared.group(1), "mireladle" + result.__name__.lower())
+            said = [re.fullmatch(r"(.*[ *])\w+", part.strip()).group(1)
+                    for part in declared.group(2).split(",")]
+            self.assertEqual([kinds[kind] for kind in said], arguments)
+
+
+class Queries(unittest.TestCase):
+    def test_the_bytes_are_those_of_the_c_example(self):
+        text = re.search(r"query\[\] = {(.*?)};", read("examples", "w1.c"), re.S).group(1)
+        items = re.findall(r"0x[0-9A-F]+|\d+|'.'", re.sub(r"/\*.*?\*/", "", text))
+        expected = bytes(ord(item[1]) if item[0] == "'" else int(item, 0) for item in items)
+        self.assertEqual(w1().bytes, expected)
+
+    def test_comparisons(self):
+        def packed(comparison):
+            return comparison._bytes({"a": 0, "b": 1}.__getitem__)
+
+        b = col("b")
+        cases = [
+            (A == 7, (0, 0, 1, 0, 0, 0, 7)),
+            (A != -7, (0, 0, 2, 0, 0, 0, -7)),
+            (A < b, (0, 0, 3, 1, 1, 0, 0)),
+            (A <= b + 2, (0, 0, 4, 1, 1, 0, 2)),
+            (A.next(3) > b.prev(2) - 1, (0, 3, 5, 1, 1, -2, -1)),
+            (5 <= A, (0, 0, 6, 0, 0, 0, 5)),
+            (A + 3 >= 2 + b, (0, 0, 6, 1, 1, 0, -1)),
+        ]
+        for comparison, (left, offset, operation, kind, right, moved, number) in cases:
+            self.assertEqual(packed(comparison), struct.pack(
+                "<BbBBBbHi", left, offset, operation, kind, right, moved, 0, number))
+
+    def test_what_is_no_comparison(self):
+        with self.assertRaises(TypeError):
+            1 < A < 5
+        with self.assertRaises(TypeError):
+            Query(["a"], "A", {"A": A > 1 and A < 5})
+        with self.assertRaises(TypeError):
+            A > 1.5
+        with self.assertRaises(TypeError):
+            col(None)
+        with self.assertRaises(ValueError):
+            A.prev(-1)
+        with self.assertRaises(ValueError):
+            A.prev().prev()
+
+    def test_what_the_bytes_cannot_carry(self):
+        for wrong in (lambda: Query(["a"], "A", {"A": A > 2**31}),
+                      lambda: Query(["a"], "A", {"A": A > A.prev(200)}),
+                      lambda: Query(["a"], "A", {"AB": A > 1}),
+                      lambda: Query(["a"], "A", {"Ä": A > 1}),
+                      lambda: Query(["a"], "A", {"A": col("b") > 1}),
+                      lambda: Query(["a", "a"], "A"),
+                      lambda: Query("ab", "A"),
+                      lambda: Query(["a"], "A" * 70000),
+                      lambda: Query(["a"], "A", measures=[COUNT(), COUNT()]),
+                      lambda: LAST(A.prev())):
+            with self.assertRaises(ValueError) as caught:
+                wrong()
+            self.assertNotIsInstance(caught.exception, Refused)
+
+    def test_from_bytes(self):
+        query = w1()
+        same = Query.from_bytes(query.bytes, query.columns, query.titles)
+        self.assertEqual(same.search(W1_ROWS), query.search(W1_ROWS))
+        bare = Query.from_bytes(bytearray(query.bytes))
+        self.assertEqual((bare.columns, bare.titles), (("0",), ("0", "1")))
+        self.assertEqual(bare.search(W1_ROWS).matches[0].measures, {"0": 2, "1": 115})
+        for names, titles in ((["a", "b"], None), (None, ["t"]), (None, ["t", "t"])):
+            with self.assertRaises(ValueError):
+                Query.from_bytes(query.bytes, names, titles)
+
+
+class Refusals(unittest.TestCase):
+    def refused(self, answer, offset, call, *arguments, **named):
+        with self.assertRaises(Refused) as caught:
+            call(*arguments, **named)
+        self.assertEqual((caught.exception.answer, caught.exception.offset), (answer, offset))
+        self.assertTrue(str(caught.exception).startswith(f"refused {answer}: "))
+        return str(caught.exception)
+
+    def test_each(self):
+        self.refused(1, None, Query.from_bytes, w1().bytes[:-1])
+        self.refused(2, None, Query.from_bytes, b"")
+        self.refused(2, None, Query, 1, "A", measures={str(k): COUNT() for k in range(9)})
+        self.refused(3, None, Query, 0, "A")
+        self.refused(3, None, Query, 9, "A")
+        self.refused(3, None, Query, 1, "A", {"a": col(0) > 1})
+        self.refused(3, None, Query, 1, "A", {"A": []})
+        self.refused(3, None, Query, 1, "A", {"A": col(0) > col(0).prev(65)})
+        self.refused(4, None, Query, 1, "(" * 9 + "A" + ")" * 9)
+        self.refused(6, None, Query, 1, "(A*)*")
+        self.refused(7, None, Query, 1, "(A{99}){3}")
+        self.refused(9, None, Query, 1, "A", measures=[COUNT("B")])
+        self.refused(9, None, Query, 1, "A", skip=to_first("B"))
+        twice = bytearray(w1().bytes)
+        twice[twice.index(b"B\x01")] = ord("A")
+        self.refused(8, None, Query.from_bytes, twice)
+
+    def test_patterns(self):
+        said = self.refused(5, 5, Query, 1, "A{30,2}")
+        self.assertEqual(said, "refused 5: the pattern text is wrong at byte 5, counted from 0, "
+                               "behind 'A{30,'")
+        said = self.refused(14, 3, Query, 1, "A (")
+        self.assertEqual(said, "refused 14: the pattern text ends where it could go on to a "
+                               "pattern, behind 'A ('")
+        self.refused(14, 0, Query, 1, "")
+        self.refused(5, 1, Query, 1, "AÄ")
+        self.refused(5, 1, Query, 1, "A\0")
+
+    def test_rows(self):
+        said = self.refused(10, None, w1().search, [0] * 4097)
+        self.assertIn("(4097 entries, 1 to a row)", said)
+        self.refused(10, None, Query(2, "A").search, array("i", [1, 2, 3]))
+        self.assertEqual(len(Query(1, "A").search([0] * 4096)), 4096)
+
+    def test_a_refusal_goes_to_another_process(self):
+        for refusal in (Refused(5, 2, " at byte 2"), Refused(10), Refused(99)):
+            same = pickle.loads(pickle.dumps(refusal))
+            self.assertEqual((same.answer, same.offset, str(same)),
+                             (refusal.answer, refusal.offset, str(refusal)))
+        self.assertEqual(str(Refused(99)), "refused 99: the library is of another version")
+
+
+class Searches(unittest.TestCase):
+    def test_w1(self):
+        report = w1().search(W1_ROWS)
+        self.assertEqual((report.ending, report.steps, report.whole), (Answer.DONE, 12, True))
+        self.assertEqual(report.matches, [
+            mireladle.Match(1, 1, "AAB", {"COUNT(A)": 2, "LAST(B.price)": 115})])
+
+    def test_measures(self):
+        query = Query(["a", "b"], "A+ B*", {"A": A < 10, "B": col("b") > 0}, measures=[
+            COUNT(), SUM("a"), MIN(A, "A"), MAX("a"), FIRST(1), LAST("b", "B"), AVG("a"),
+            COUNT("B")])
+        matches = query.search([(-3, 0), (-4, 0), (20, 0), (2, 1), (11, 5)]).matches
+        self.assertEqual([list(match.measures.values()) for match in matches],
+                         [[2, -7, -4, -3, 0, None, -3, 0], [2, 13, 2, 11, 1, 5, 6, 1]])
+        self.assertEqual(list(matches[0].measures), [
+            "COUNT(*)", "SUM(a)", "MIN(A.a)", "MAX(a)", "FIRST(1)", "LAST(B.b)", "AVG(a)",
+            "COUNT(B)"])
+        titled = w1(measures={"risen": COUNT("A"), "again": COUNT("A")}).search(W1_ROWS)
+        self.assertEqual(titled.matches[0].measures, {"risen": 2, "again": 2})
+
+    def test_skips(self):
+        define = {"D": A < A.prev(), "U": A > A.prev()}
+        rows = [9, 5, 7, 8, 3, 4]
+        for skip, expected in (
+                (PAST_LAST_ROW, [(0, "SDUU")]),
+                (to_last("U"), [(0, "SDUU"), (3, "SDU")]),
+                (to_first("U"), [(0, "SDUU"), (3, "SDU")]),
+                (TO_NEXT_ROW, [(0, "SDUU"), (3, "SDU")])):
+            report = Query(["a"], "S D+ U+", define, skip).search(rows)
+            self.assertEqual((found(report), report.ending), (expected, Answer.DONE), skip)
+        rising = {"U": A > A.prev()}
+        for skip, expected in (
+                (to_first("U"), [(0, "SUUU"), (1, "SUU"), (2, "SU")]),
+                (to_last("U"), [(0, "SUUU")])):
+            self.assertEqual(found(Query(["a"], "S U+", rising, skip).search([1, 2, 3, 4])), expected)
+
+    def test_searches_that_stop(self):
+        report = Query(["a"], "A B?", {"B": A > 100}, to_first("B")).search([1, 2, 3])
+        self.assertEqual((found(report), report.ending), ([(0, "A")], Answer.NO_SKIP_ROW))
+        self.assertFalse(report.whole)
+        for steps, ending in ((0, 16), (11, 16), (12, 0), (2**64 - 1, 0)):
+            report = w1().search(W1_ROWS, steps=steps)
+            self.assertEqual((report.ending, report.steps), (ending, min(steps, 12)))
+        for steps in (-1, 2**64):
+            with self.assertRaises(ValueError):
+                w1().search(W1_ROWS, steps=steps)
+
+    def test_overlapping_labels_have_room(self):
+        report = Query(1, "A+", skip=TO_NEXT_ROW).search([0] * 300)
+        self.assertEqual(found(report), [(k, "A" * (300 - k)) for k in range(300)])
+        self.assertTrue(report.whole)
+
+    def test_empty_matches_and_no_rows(self):
+        self.assertEqual(found(Query(1, "()").search([5, 6])), [(0, ""), (1, "")])
+        for rows in ([], (), array("i"), iter([])):
+            report = w1().search(rows)
+            self.assertEqual((len(report), report.whole, report.steps), (0, True, 0))
+
+    def test_forms_of_rows(self):
+        expected = w1().search(W1_ROWS)
+        for rows in (tuple(W1_ROWS), iter(W1_ROWS), [(r,) for r in W1_ROWS],
+                     [{"price": r, "other": "x"} for r in W1_ROWS], array("i", W1_ROWS),
+                     array("q", W1_ROWS), memoryview(array("i", W1_ROWS)).toreadonly(),
+                     memoryview(array("i", [k for r in W1_ROWS for k in (r, 0)]))[::2]):
+            self.assertEqual(w1().search(rows), expected)
+        two = Query(["a", "b"], "A", {"A": A > col("b")})
+        flat = array("i", [1, 2, 4, 3, 5, 6])
+        square = memoryview(flat).cast("B").cast("i", (3, 2))
+        for rows in (flat, square, [(1, 2), [4, 3], {"b": 6, "a": 5}]):
+            self.assertEqual(found(two.search(rows)), [(1, "A")])
+        with self.assertRaises(ValueError):
+            w1().search(square)
+        self.assertEqual(flat, array("i", [1, 2, 4, 3, 5, 6]))
+
+    def test_wrong_rows(self):
+        for cell in (2**31, -2**31 - 1, 1.0, None, "7"):
+            with self.assertRaisesRegex(ValueError, "row 1, column a: "):
+                Query(["a", "b"], "A").search([(1, 2), (cell, 3)])
+        Query(["a"], "A").search([2**31 - 1, -2**31])
+        with self.assertRaisesRegex(ValueError, "row 1 has 1 entries, not 2"):
+            Query(["a", "b"], "A").search([(1, 2), (3,)])
+        for rows in ("12", b"12", bytearray(4), 7):
+            with self.assertRaises(TypeError):
+                Query(["a"], "A").search(rows)
+
+
+class Loading(unittest.TestCase):
+    def run_with(self, **environment):
+        code = "import mireladle; print(mireladle.Query(1, 'A').search([1]).steps)"
+        environment = {**os.environ, "PYTHONPATH": HERE, **environment}
+        return subprocess.run([sys.executable, "-c", code], env=environment, text=True,
+                              capture_output=True, check=False)
+
+    def test_by_the_system(self):
+        folder = os.path.dirname(os.environ["MIRELADLE_LIBRARY"])
+        ran = self.run_with(MIRELADLE_LIBRARY="", LD_LIBRARY_PATH=folder)
+        self.assertEqual((ran.stdout, ran.stderr), ("2\n", ""))
+
+    def test_a_library_that_is_not_there(self):
+        ran = self.run_with(MIRELADLE_LIBRARY=os.path.join(HERE, "nothing.so"))
+        self.assertRegex(ran.stderr, r"OSError: libmireladle\.so\.0 cannot be loaded \(.*nothing")
+        self.assertEqual(ran.returncode, 1)
+
+    def test_another_library(self):
+        ran = self.run_with(MIRELADLE_LIBRARY="libc.so.6")
+        self.assertRegex(ran.stderr, r"OSError: .*mireladle_room")
+
+
+def some_pattern(chance, depth):
+    if depth == 0 or chance.random() < 0.4:
+        return chance.choice("ABC")
+    inner = some_pattern(chance, depth - 1)
+    other = some_pattern(chance, depth - 1)
+    return chance.choice([f"{inner} {other}", f"({inner} | {other})", f"({inner})?",
+                          f"({inner}){{1,2}}", f"({inner})+", f"({inner})*?"])
+
+
+def some_query(chance, columns):
+    def side():
+        return col(chance.randrange(columns)), chance.randrange(3)
+
+    def comparison():
+        (left, back), (right, on) = side(), side()
+        right = chance.choice([right.next(on) + chance.randint(-2, 2), chance.randint(-3, 3)])
+        left = left.prev(back)
+        return chance.choice([left == right, left != right, left < right, left <= right,
+                              left > right, left >= right])
+
+    define = {letter: [comparison() for _ in range(chance.randint(1, 2))]
+              for letter in "ABC" if chance.random() < 0.7}
+    pattern = some_pattern(chance, 3)
+    skip = chance.choice([PAST_LAST_ROW, TO_NEXT_ROW, to_first("B"), to_last("A")])
+    measures = {
+        str(k): chance.choice([COUNT(), COUNT("A"), SUM(0), MIN(0, "A"), MAX(0), FIRST(0, "A"),
+                               LAST(columns - 1), AVG(0)])
+        for k in range(chance.randrange(4))}
+    return Query(columns, pattern, define, skip, measures)
+
+
+def printed(report):
+    lines = [f"{'matches' if report.whole else 'stopped'} {len(report)} steps {report.steps}"]
+    for match in report:
+        results = ["null" if result is None else str(result) for result in match.measures.values()]
+        lines.append(" ".join([str(match.number), str(match.first), str(len(match.labels)),
+                               match.labels or "-", *results]))
+    return "\n".join(lines) + "\n"
+
+
+class AgainstTheProgram(unittest.TestCase):
+    def test_random_queries(self):
+        chance = random.Random(27)
+        reports = matches = refusals = 0
+        while reports < 200:
+            columns = chance.randint(1, 3)
+            try:
+                query = some_query(chance, columns)
+            except Refused:
+                refusals += 1
+                continue
+            rows = [[chance.randint(-3, 3) for _ in range(columns)]
+                    for _ in range(chance.randrange(30))]
+            entries = [cell for row in rows for cell in row]
+            given = (struct.pack("<H", len(query.bytes)) + query.bytes
+                     + struct.pack(f"<{len(entries)}i", *entries))
+            ran = subprocess.run([PROGRAM], input=given, capture_output=True, check=True)
+            report = query.search(rows)
+            self.assertEqual(printed(report), ran.stdout.decode(), query.bytes)
+            reports += 1
+            matches += len(report)
+        # Not all that was compared was empty, and not all that was made was refused.
+        self.assertGreater(matches, 200)
+        self.assertGreater(refusals, 0)
+
+
+def load_tests(loader, tests, pattern):
+    tests.addTests(doctest.DocTestSuite(mireladle))
+    return tests
+
+
+if __name__ == "__main__":
+    ran = unittest.main(exit=False, verbosity=1).result
+    wrong = len(ran.failures) + len(ran.errors)
+    sys.stderr.flush()
+    print(f"{ran.testsRun - wrong} passed, {wrong} failed")
+    sys.exit(wrong > 0)
