@@ -1,5 +1,6 @@
 //! The script first-match, as a copy in a folder of its own, with stand-ins for what it calls: what
-//! it says where something is missing, and what it calls, in which order, where nothing is.
+//! it says where something is missing, what it calls, in which order, where nothing is, and how it
+//! tells what of the proofs is done.
 
 #![allow(clippy::restriction)]
 
@@ -21,11 +22,13 @@ impl Place {
         for part in ["tools", "crates", "bin"] {
             std::fs::create_dir_all(place.folder.join(part)).unwrap();
         }
-        std::fs::write(place.folder.join("crates.txt"), "").unwrap();
-        for script in ["first-match", "tools/built"] {
+        std::fs::write(place.folder.join("crates.txt"), CRATES).unwrap();
+        for script in ["first-match", "tools/built", "tools/prepare", "tools/prove"] {
             place.shell(&format!("cp '{ROOT}/{script}' '{script}'"));
         }
-        for usual in ["bash", "dirname", "find", "mkdir", "touch"] {
+        for usual in [
+            "awk", "bash", "dirname", "find", "grep", "mkdir", "mktemp", "rm", "tail", "touch",
+        ] {
             place.shell(&format!(
                 r#"ln -s "$(command -v {usual})" "$PWD/bin/{usual}""#
             ));
@@ -66,10 +69,15 @@ impl Place {
     }
 }
 
+/// The program stands on 11 crates of the repository and on two of the kit, and the library on one.
+const CRATES: &str = "a:\nb: a\nc: a\nd: b c io\ne: d\nf: e\ng: f\nh: g\ni: h\nj: i\nk: j a\n\
+    mireladle_c: a\nmireladle: k os\nz: a\n";
+
 const MISSING: &str = "first-match: nothing was built or run, since these commands are missing:\n";
-const KIT: &str = "  rt: the Rattle kit, which proves and builds the program and the library\n";
+const KIT: &str = "  rt: the Rattle kit, which proves and builds the program and the library; \
+    put its folder bin/ on PATH\n";
 const CARGO: &str = "  cargo: Rust, in which the command mireladle-match is written\n";
-const COMPILER: &str = "  cc: a C compiler, by which cargo links\n";
+const COMPILER: &str = "  cc: a C compiler, which links\n";
 const SEARCH: &str = "cargo run --quiet --release --offline --manifest-path rust/Cargo.toml \
     --bin mireladle-match -- --program target/bin/mireladle \
     examples/rising-falling.txt examples/rising-falling.csv\n";
@@ -92,8 +100,50 @@ fn what_is_missing_is_told_before_anything_is_done() {
 fn what_is_there_is_called_in_order() {
     let place = Place::new("first-all", &["rt", "cargo", "cc"]);
     let built = "rt check mireladle\nrt staticlib mireladle_c\n";
-    let expected = (0, String::new(), format!("{built}{SEARCH}"));
-    assert_eq!(place.first_match(), expected);
+    let said = format!("{PROGRAM}{LIBRARY}");
+    assert_eq!(place.first_match(), (0, said, format!("{built}{SEARCH}")));
+}
+
+const PROGRAM: &str = "mireladle: 12 crates to prove, which takes minutes where none has been \
+    proved yet\n";
+const LIBRARY: &str = "mireladle_c: 2 crates to prove, which takes minutes where none has been \
+    proved yet\n";
+
+/// A stand-in for the kit that prints, for each crate, what the prover prints and its own line.
+const KIT_PRINTS: &str = r#"for c in a b c d e f g h i j k mireladle; do
+    echo "fn $c::proved: proved"; echo "logic=proved rt: $c"; echo "rt: $c proved (1 s)"; done"#;
+
+#[test]
+fn crates_are_counted_and_the_provers_lines_left_out() {
+    let place = Place::new("first-counts", &["rt", "cargo", "cc"]);
+    place.shell(&format!("cat >> bin/rt <<'EOF'\n{KIT_PRINTS}\nEOF"));
+    let (status, said, _) = place.first_match();
+    let lines: Vec<_> = said
+        .lines()
+        .map(|line| line.split(',').next().unwrap())
+        .collect();
+    let expected = [
+        "mireladle: 12 crates to prove",
+        "mireladle: 10 of 12 crates proved",
+        "mireladle: 12 of 12 crates proved",
+    ];
+    assert_eq!((status, &lines[..3]), (0, &expected[..]), "{said}");
+    assert!(!said.contains("fn "), "{said}");
+}
+
+#[test]
+fn of_a_proof_that_fails_the_end_is_shown_and_nothing_else_is_done() {
+    let place = Place::new("first-fails", &["rt", "cargo", "cc"]);
+    let fails =
+        "echo 'rt: k NOT PROVED (exit 1, 2 s)'; for n in {1..30}; do echo line $n; done; exit 1";
+    place.shell(&format!("cat >> bin/rt <<'EOF'\n{fails}\nEOF"));
+    let (status, said, called) = place.first_match();
+    assert_eq!((status, called.as_str()), (1, "rt check mireladle\n"));
+    let failed = "mireladle: `rt check mireladle` ended with status 1:\n\
+        rt: k NOT PROVED (exit 1, 2 s)\nline 11\n";
+    assert!(said.starts_with(&format!("{PROGRAM}{failed}")), "{said}");
+    assert!(said.ends_with("line 29\nline 30\n"), "{said}");
+    assert!(!place.folder.join("target/bin/mireladle").exists());
 }
 
 #[test]
