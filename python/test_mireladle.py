@@ -1,8 +1,9 @@
 #!/usr/bin/env python3
-"""The tests of mireladle.py, and the examples in its text. The module's declarations are compared
-with include/mireladle.h, the bytes of W1 with examples/w1.c, and the matches of random queries with
-what the program prints. Run in any folder; the shared library is that of target/shared, or the one
-that MIRELADLE_LIBRARY names. The last line is `N passed, M failed`.
+"""The tests of mireladle.py, and the examples in its text and in README.md. The module's
+declarations are compared with include/mireladle.h, the bytes of W1 with examples/w1.c, and the
+matches of random queries with what the program prints. Run in any folder; the shared library is
+that of target/shared, or the one that MIRELADLE_LIBRARY names. The last line is
+`N passed, M failed`.
 """
 
 import ctypes
@@ -381,6 +382,7 @@ class AgainstTheProgram(unittest.TestCase):
 
 def load_tests(loader, tests, pattern):
     tests.addTests(doctest.DocTestSuite(mireladle))
+    tests.addTests(doctest.DocFileSuite(os.path.join(ROOT, "README.md"), module_relative=False))
     return tests
 
 
