@@ -80,6 +80,7 @@ mod measure;
 mod query;
 mod report;
 mod rows;
+pub mod text;
 
 pub use comparison::{col, Column, Comparison, Operand, Operator, Sum};
 pub use error::Error;

@@ -203,9 +203,9 @@ fn a_search_that_needs_no_further_step_says_why_it_stopped() {
     assert_eq!(first_line("9"), (3, String::from(no_row)));
     assert_eq!(first_line("10"), (3, String::from(no_row)));
     // A refusal does not depend on the steps.
-    let query = file("steps-refused.txt", "pattern: (A*)*");
+    let query = file("steps-refused.txt", "pattern: (A*)*\nA: true");
     let output = run(&["--steps", "0", &query, &rows]);
-    assert_eq!((status(&output), text(&output.stdout)), (1, ""));
+    assert_eq!((status(&output), text(&output.stdout)), (2, ""));
     assert!(text(&output.stderr).starts_with("refused 6: "));
 }
 
@@ -221,9 +221,9 @@ fn a_number_of_steps_that_is_wrong_is_told() {
         );
         let message = text(&output.stderr).to_owned();
         let (first, usage) = message.split_once('\n').unwrap();
-        let options = "[--steps N | --program PATH | --bytes] QUERY.txt ROWS.csv";
-        let expected = format!("usage: mireladle-match {options} (--help tells more)\n");
-        assert_eq!(usage, expected);
+        let both = "usage: mireladle-match [OPTIONS] QUERY ROWS\n       \
+                    mireladle-match [OPTIONS] -e TEXT [ROWS] (--help tells more)\n";
+        assert_eq!(usage, both);
         first.to_owned()
     };
     let needs = "--steps needs a whole number from 0 to 18446744073709551615";
@@ -245,9 +245,10 @@ fn a_number_of_steps_that_is_wrong_is_told() {
     let expected = format!("{needs}, found `query.txt`");
     assert_eq!(message(&["--steps", "query.txt", "rows.csv"]), expected);
     assert_eq!(message(&[&files[0], &files[1], "--steps"]), needs);
-    // A value stands behind its option, as the program's path does.
-    let joined = message(&["--steps=9", &files[0], &files[1]]);
-    assert_eq!(joined, "there is no option --steps=9");
+    // A value stands behind its option or behind `=`.
+    let joined = message(&["--steps=x", &files[0], &files[1]]);
+    assert_eq!(joined, format!("{needs}, found `x`"));
+    assert_eq!(status(&run(&["--steps=9", &files[0], &files[1]])), 3);
 }
 
 /// The program has no allowance: neither of two options is left out in silence.
@@ -310,7 +311,7 @@ row  price  match:label
 fn averages_are_whole_numbers() {
     let query = file(
         "average.txt",
-        "pattern: A B*\nB: c0 = 2\nmeasures: avg(degrees), AVG(B.c1), SUM(B.degrees), COUNT(B)",
+        "pattern: A B*\nA: true\nB: c0 = 2\nmeasures: avg(degrees), AVG(B.c1), SUM(B.degrees), COUNT(B)",
     );
     let rows = file(
         "average.csv",
@@ -434,13 +435,10 @@ fn every_line_end_is_read() {
             "{name}"
         );
     }
-    let wrong = failure("cr-wrong", "pattern: A", "a\r1\rx\r2\r");
+    let wrong = failure("cr-wrong", "pattern: A\nA: a = 1", "a\r1\r1.5\r2\r");
     let number = "a whole number from -2147483648 to 2147483647";
-    let message = format!("/cr-wrong.csv:3:1: expected {number}, found `x`\n    x\n    ^\n");
+    let message = format!("/cr-wrong.csv:3:1: expected {number}, found `1.5`\n    1.5\n    ^\n");
     assert_eq!(wrong, (2, message));
-    let binary = file("cr-binary.csv", b"a\r1\r\xFF");
-    let message = run(&[&example("release.txt"), &binary]).stderr;
-    assert!(text(&message).contains("cr-binary.csv:3:1: expected text in UTF-8"));
 }
 
 #[test]
@@ -481,8 +479,8 @@ fn bytes_for_the_program() {
     ]);
     assert_eq!((status(&output), output.stdout), (0, expected));
     // Whether a query is accepted is then for the program to say.
-    let query = file("bytes.txt", "pattern: A**");
-    let rows = file("bytes.csv", "a\n-1\n");
+    let query = file("bytes.txt", "pattern: A**\nA: a < 0");
+    let rows = file("bytes.csv", "b,a\nx,-1\n");
     let refused = run(&[&query, "--bytes", &rows]);
     assert_eq!(status(&refused), 0);
     assert_eq!(refused.stdout[2 + 6..][..7], [3, 0, 2, 0, b'A', b'*', b'*']);
@@ -493,19 +491,19 @@ fn bytes_for_the_program() {
 fn refusals_have_number_and_words() {
     let refused = |name: &str, query: &str, expected: &str| {
         assert_eq!(
-            failure(name, query, "a,b\n1,2\n"),
-            (1, String::from(expected))
+            failure(name, &format!("{query}\n"), "a,b\n1,2\n"),
+            (2, String::from(expected))
         );
     };
     refused(
         "refused-4",
-        "# deep\npattern: (((((((((A)))))))))",
+        "# deep\npattern: (((((((((A)))))))))\nA: true",
         "refused 4: more than 8 parentheses are open somewhere in the pattern\n\
          /refused-4.txt:2: pattern: (((((((((A)))))))))\n",
     );
     refused(
         "refused-5",
-        "pattern: A** # twice",
+        "pattern: A** # twice\nA: true",
         "refused 5: the pattern text is wrong at byte 2, counted from 0\n\
          /refused-5.txt:1:12: expected a letter A to Z, `$`, `(`, `?`, `^`, `|`, a space or the end, \
          found `*`\n    pattern: A** # twice\n               ^\n",
@@ -531,36 +529,37 @@ fn refusals_have_number_and_words() {
     );
     refused(
         "refused-9",
-        "pattern: A\nmeasures: COUNT(B)",
+        "pattern: A\nmeasures: COUNT(B)\nA: true",
         "refused 9: a measure or the skip names a letter that is not in the pattern\n\
          /refused-9.txt:2: measures: COUNT(B)\n",
     );
     let many = format!("a\n{}", "1\n".repeat(4097));
-    let rows = failure("refused-10", "pattern: A", &many);
-    assert_eq!(rows.0, 1);
-    assert!(rows.1.starts_with("refused 10: "), "{}", rows.1);
+    let rows = failure("refused-10", "pattern: A\nA: true", &many);
+    let expected = "refused 10: /refused-10.csv has 4,097 rows, and a search takes at most 4,096; \
+                    part it by --partition-by COLUMN, such as a day, or search a part of the file\n";
+    assert_eq!(rows, (2, String::from(expected)));
 }
 
 /// Of the two lines that can name a letter which the pattern does not have, the right one is shown.
 #[test]
 fn a_skip_to_a_letter_outside_the_pattern_is_shown() {
-    let query = "pattern: A\nskip: to  first B # none\nmeasures: COUNT(A)";
+    let query = "pattern: A\nskip: to  first B # none\nmeasures: COUNT(A)\nA: true";
     let expected = "refused 9: a measure or the skip names a letter that is not in the pattern\n\
          /refused-9-skip.txt:2: skip: to  first B\n";
     let refused = failure("refused-9-skip", query, "a\n1\n");
-    assert_eq!(refused, (1, String::from(expected)));
-    let query = "pattern: A\nskip: to last A\nmeasures: COUNT(B)";
+    assert_eq!(refused, (2, String::from(expected)));
+    let query = "pattern: A\nskip: to last A\nmeasures: COUNT(B)\nA: true";
     let (status, message) = failure("refused-9-both", query, "a\n1\n");
     let measures = "/refused-9-both.txt:3: measures: COUNT(B)\n";
-    assert!(status == 1 && message.ends_with(measures), "{message}");
+    assert!(status == 2 && message.ends_with(measures), "{message}");
 }
 
 /// What the README shows of the command is what it does.
 #[test]
 fn the_readme_is_true() {
     let readme = include_str!("../../README.md");
-    let (status, message) = failure("query", "pattern: A{30,2}", "a\n1\n");
-    assert_eq!(status, 1);
+    let (status, message) = failure("query", "pattern: A{30,2}\nA: true", "a\n1\n");
+    assert_eq!(status, 2);
     let message = message.replace("/query.txt", "query.txt");
     assert!(
         readme.contains(&format!("```text\n{message}```")),
@@ -585,9 +584,11 @@ fn wrong_input_has_a_place_and_what_was_expected() {
     );
     wrong(
         "wrong-row",
-        "pattern: A",
+        "pattern: A\nA: b = 1",
         "a,b\n1,2\n3,x\n",
-        "/wrong-row.csv:3:3: expected a whole number from -2147483648 to 2147483647, found `x`\n    3,x\n      ^\n",
+        "/wrong-row.csv:3:3: expected a whole number from -2147483648 to 2147483647, found `x`; \
+         a column of texts needs codes, so write a line such as `b: 'x'=1` into the query\n    \
+         3,x\n      ^\n",
     );
     wrong(
         "wrong-end",
@@ -603,8 +604,15 @@ fn files_that_are_no_text_or_not_there() {
     let binary = file("binary.csv", b"price\n1\n\xFF2\n");
     let output = run(&[&good, &binary]);
     assert_eq!(status(&output), 2);
+    let message = text(&output.stderr);
+    assert!(
+        message.contains("binary.csv:3:1: expected a whole number "),
+        "{message}"
+    );
+    let header = file("binary-header.csv", b"pri\xFFce\n1\n");
+    let output = run(&[&good, &header]);
     assert!(text(&output.stderr)
-        .ends_with("binary.csv:3:1: expected text in UTF-8, found the byte 0xFF\n"));
+        .ends_with("binary-header.csv:1:1: expected text in UTF-8, found the byte 0xFF\n"));
     let missing = run(&[&good, &example("no-such-file.csv")]);
     assert_eq!(status(&missing), 2);
     assert!(text(&missing.stderr).contains("no-such-file.csv: "));
@@ -614,7 +622,7 @@ fn files_that_are_no_text_or_not_there() {
 fn the_command_line() {
     let help = run(&["--help"]);
     assert_eq!(status(&help), 0);
-    let usage = "usage: mireladle-match [--steps N | --program PATH | --bytes] QUERY.txt ROWS.csv";
+    let usage = "usage: mireladle-match [OPTIONS] QUERY ROWS";
     assert!(text(&help.stdout).contains(usage));
     for wrong in [
         &[][..],
@@ -689,7 +697,10 @@ fn a_report_that_is_not_whole_has_a_status_of_its_own() {
     assert_eq!((status(&output), text(&output.stderr)), (3, ""));
     assert!(text(&output.stdout).starts_with("stopped for want of room: "));
     // The program prints the same where there is no row to skip to: the last match tells.
-    let query = file("stops-behind.txt", "pattern: O C*\nskip: to last C");
+    let query = file(
+        "stops-behind.txt",
+        "pattern: O C*\nskip: to last C\nO: true\nC: true",
+    );
     for (name, last, expected) in [
         (
             "stops-behind",
@@ -736,18 +747,18 @@ fn a_program_that_refuses_or_says_something_else() {
         "FIRST(O.time), LAST(C.time), LAST(base), LAST(patch), COUNT(R)"
     );
     let (program, _) = stand_in("refuses", "refused 9\\n");
-    assert_eq!(message(&program), (1, refused));
+    assert_eq!(message(&program), (2, refused));
     // The program tells no place: the library that is linked does.
     let (program, _) = stand_in("refuses-14", "refused 14\\n");
-    let query = file("refuses-14.txt", "pattern: (A");
+    let query = file("refuses-14.txt", "pattern: (A\nA: true");
     let output = run(&["--program", &program, &query, &files[1]]);
     let place = "/refuses-14.txt:1:12: expected `$`, `(`, `)`, `*`, ";
-    assert_eq!(status(&output), 1);
+    assert_eq!(status(&output), 2);
     assert!(text(&output.stderr).contains(place), "{output:?}");
     let (program, _) = stand_in("refuses-5", "refused 5\\n");
     let differ = "refused 5: the program refuses the pattern, the linked library does not\n";
     let said = message(&program);
-    assert!(said.0 == 1 && said.1.starts_with(differ), "{said:?}");
+    assert!(said.0 == 2 && said.1.starts_with(differ), "{said:?}");
     let large = "/large.sh: too large: expected a query of at most 4,096 bytes, 8,192 entries and 16,000 pairs\n";
     let (program, _) = stand_in("large", "too large\\n");
     assert_eq!(message(&program), (2, String::from(large)));

@@ -17,7 +17,7 @@ fn file(name: &str, content: &str) -> String {
 
 /// Runs a line of shell in which `$match` is the command and `$query` and `$rows` are files.
 fn shell(name: &str, rows: usize, line: &str) -> (i32, String, String) {
-    let query = file(&format!("{name}.txt"), "pattern: A");
+    let query = file(&format!("{name}.txt"), "pattern: A\nA: true");
     // Rows of some 100 bytes: 4,096 of them are more than a pipe holds.
     let row = format!("{}\n", ["-2147483648"; 8].join(","));
     let rows = format!("a,b,d,e,f,g,h,i\n{}", row.repeat(rows));
@@ -58,7 +58,7 @@ fn a_closed_output_is_an_error() {
     assert_eq!(silent, (2, String::new(), String::new()));
     // What goes wrong before anything is written keeps its own message and status.
     let refused = shell("closed-refused", 4097, r#""$match" "$query" "$rows" >&-"#);
-    assert!(refused.0 == 1 && refused.2.starts_with("refused 10: "));
+    assert!(refused.0 == 2 && refused.2.starts_with("refused 10: "));
 }
 
 #[test]
@@ -121,7 +121,10 @@ fn a_stopped_search_stays_stopped() {
         .replace("stopped-head", "stopped-behind")
         .replace("0 steps 3", "1 steps 3\\necho 1 0 1 A")
         .replace(r#""$query" "$rows""#, r#""$query.skip" "$rows""#);
-    file("stopped-behind.txt.skip", "pattern: A\nskip: to first A");
+    file(
+        "stopped-behind.txt.skip",
+        "pattern: A\nA: true\nskip: to first A",
+    );
     let why = "the first row labelled A is the first row of match 1";
     let expected = format!("stopped since {why}: 1 match in 3 steps\n3\n");
     let output = shell("stopped-behind", 4096, &line);

@@ -1,79 +1,47 @@
-//! The command line: what it asks for, or what is wrong with it, and the text of `--help`. Options
-//! stand anywhere before `--`; of one that is given twice the later counts. Options that cannot
-//! both be heeded exclude each other, so that none is left out in silence. Tested in
-//! tests/command.rs.
+//! The command line: what it asks for, or what is wrong with it. Options stand anywhere before `--`;
+//! of one that is given twice the later counts, but for `-e`, whose texts are lines. A value stands
+//! behind its option or behind `=`. Options that cannot both be heeded exclude each other, so that
+//! none is left out in silence. Tested in tests/command.rs and tests/options.rs.
 
 use std::ffi::OsString;
 use std::path::PathBuf;
 
+use mireladle::text::screen::shown;
 use mireladle::Limits;
 
 use crate::failure::Failure;
-use crate::fault::shown;
-
-pub const HELP: &str = "\
-mireladle-match: search rows of whole numbers for a row pattern (SQL's MATCH_RECOGNIZE)
-
-usage: mireladle-match [--steps N | --program PATH | --bytes] QUERY.txt ROWS.csv
-
-ROWS.csv   The first line names the columns, 1 to 8; every other line is a row of
-           whole numbers. The rows are one partition, in order, at most 4,096.
-QUERY.txt  Lines in any order; # begins a comment.
-             pattern: A+ B
-             A: c0 > PREV(c0)
-             B: price < PREV(price), event <> 2
-             C: c1 = 3 AND c0 <= NEXT(c0, 2) + 5
-             skip: past last row
-             measures: COUNT(A), LAST(B.price), SUM(c1)
-           A pattern is made of letters A to Z, two of them parted by a space; ^ before
-           the first row and $ behind the last; () for nothing; branches with |, the
-           left one tried first; parentheses; and * + ? {n} {n,} {,m} {n,m} with bounds
-           up to 99, which take as many rows as they can, or as few with a ? behind.
-           A letter holds at a row where all its comparisons are met; one without a
-           line of its own holds at every row. A column is c0, c1 and so on, or its
-           name in ROWS.csv, in double quotes where it has spaces. Comparisons are
-           = <> < <= > >=, with a number, a column, or a column plus or minus a number.
-           skip is `past last row` (also where the line is missing), `to next row`,
-           `to first A` or `to last A`: at which row the search goes on behind a match, here
-           its first or last row labelled A. That row has to lie behind the match's first.
-           Measures are COUNT, SUM, MIN, MAX, FIRST, LAST, AVG; over all rows of the match
-           (COUNT(*)), or over those with one letter. Over no rows, all but COUNT are null.
-           AVG is a whole number, cut toward zero: of 3 and 4 it is 3, of -3 and -4 it is -3.
-
---steps N  Search in N steps at most, a whole number from 0 on, and print the matches
-           found by then. The first line of every report tells its steps. A million take
-           milliseconds. Past last row no search takes many more than two million; with
-           every other skip one can take two thousand million, and so seconds.
---program PATH
-           Search by running the program `mireladle` there, not by the linked library.
-           It cannot be told how many steps to take.
---bytes    Write the query and the rows to standard output as the program `mireladle`
-           reads them from its standard input, and search nothing.
---help     Print this.
-
-It prints the matches, then the rows; 2:A beside a row says that match 2 labels it A.
-Rows count from 0. Exit status: 0 done, 1 the search refused, 2 wrong input or an output
-that cannot be written, 3 the search stopped, so that there may be further matches, 141 the
-reader of the output left before its end. The report of a search that stopped begins with
-`stopped for want of room`, which only the program does, or with `stopped since` and why:
-there is no row to skip to behind the last match printed, or --steps allows no more.
-";
-
-pub const USAGE: &str =
-    "usage: mireladle-match [--steps N | --program PATH | --bytes] QUERY.txt ROWS.csv";
+use crate::options::{options, Described};
 
 /// What the command line asks for.
 pub enum Task {
     Help,
-    Search {
-        by: Searcher,
-        query: PathBuf,
-        rows: PathBuf,
-    },
-    Bytes {
-        query: PathBuf,
-        rows: PathBuf,
-    },
+    Version,
+    Man,
+    Completions(String),
+    Search(Box<Search>),
+}
+
+/// What is searched, how, and how it is told.
+pub struct Search {
+    pub query: QuerySource,
+    pub rows: PathBuf,
+    pub by: Searcher,
+    pub partition_by: Vec<String>,
+    pub order_by: Option<String>,
+    pub sort: bool,
+    pub grouped: bool,
+    pub delimiter: u8,
+    pub header: bool,
+    pub answer: Answer,
+    pub rows_of_matches: bool,
+    pub color: Color,
+    pub warnings: bool,
+}
+
+/// Where the query's text comes from.
+pub enum QuerySource {
+    File(PathBuf),
+    Text(String),
 }
 
 /// What searches.
@@ -84,78 +52,288 @@ pub enum Searcher {
     Program(PathBuf),
 }
 
+/// How the answer is told.
+#[derive(Clone, Copy, Debug, PartialEq, Eq)]
+pub enum Answer {
+    Table,
+    Json,
+    Csv,
+    Count,
+    Quiet,
+    Bytes,
+}
+
+#[derive(Clone, Copy, Debug, PartialEq, Eq)]
+pub enum Color {
+    Auto,
+    Always,
+    Never,
+}
+
+/// The options and files of a command line.
+#[derive(Default)]
+struct Given {
+    options: Vec<(&'static Described, OsString)>,
+    paths: Vec<PathBuf>,
+}
+
 /// Reads the command line.
-pub fn task(mut arguments: impl Iterator<Item = OsString>) -> Result<Task, Failure> {
-    let (mut bytes, mut program, mut steps) = (false, None, None);
-    let mut paths = Vec::new();
+pub fn task(arguments: impl Iterator<Item = OsString>) -> Result<Task, Failure> {
+    let given = given(arguments)?;
+    if given.has("help") {
+        return Ok(Task::Help);
+    }
+    if given.has("version") {
+        return Ok(Task::Version);
+    }
+    if given.has("man") {
+        return Ok(Task::Man);
+    }
+    if let Some(shell) = given.choice("completions")? {
+        return Ok(Task::Completions(shell));
+    }
+    Ok(Task::Search(Box::new(search(given)?)))
+}
+
+fn given(mut arguments: impl Iterator<Item = OsString>) -> Result<Given, Failure> {
+    let mut given = Given::default();
     let mut options = true;
     while let Some(argument) = arguments.next() {
         match argument.to_str() {
             Some("--") if options => options = false,
-            Some("--help" | "-h") if options => return Ok(Task::Help),
-            Some("--bytes") if options => bytes = true,
-            Some("--program") if options => {
-                let path = arguments.next();
-                let path = path.ok_or_else(|| wrong("--program needs the program's path"))?;
-                program = Some(PathBuf::from(path));
+            Some(text) if options && text.starts_with('-') && text != "-" => {
+                let (option, value) = option(text)?;
+                let value = match (option.value, value) {
+                    (None, None) => OsString::new(),
+                    (None, Some(_)) => {
+                        return Err(wrong(format!("--{} takes no value", option.long)))
+                    }
+                    (Some(_), Some(value)) => value,
+                    (Some(_), None) => arguments.next().ok_or_else(|| wrong(needs(option)))?,
+                };
+                given.options.push((option, value));
             }
-            Some("--steps") if options => steps = Some(number_of_steps(arguments.next())?),
-            Some(other) if options && other.starts_with('-') && other != "-" => {
-                return Err(wrong(format!("there is no option {other}")));
-            }
-            _ => paths.push(PathBuf::from(argument)),
+            _ => given.paths.push(PathBuf::from(argument)),
         }
     }
-    let by = searcher(bytes, program, steps)?;
-    let [query, rows] = <[PathBuf; 2]>::try_from(paths).map_err(|paths| {
-        let count = paths.len();
-        wrong(format!(
-            "expected two files, QUERY.txt and ROWS.csv, found {count}"
-        ))
-    })?;
-    Ok(match by {
-        Some(by) => Task::Search { by, query, rows },
-        None => Task::Bytes { query, rows },
+    Ok(given)
+}
+
+/// The option that an argument names, and its value where that stands in the same argument.
+fn option(text: &str) -> Result<(&'static Described, Option<OsString>), Failure> {
+    let unknown = || wrong(format!("there is no option {text}"));
+    if let Some(long) = text.strip_prefix("--") {
+        let (name, value) = match long.split_once('=') {
+            Some((name, value)) => (name, Some(OsString::from(value))),
+            None => (long, None),
+        };
+        let found = options().find(|option| option.long == name);
+        return Ok((found.ok_or_else(unknown)?, value));
+    }
+    let mut letters = text.chars();
+    letters.next();
+    let short = letters.next();
+    let found = options().find(|option| option.short.is_some() && option.short == short);
+    let found = found.ok_or_else(unknown)?;
+    let rest = letters.as_str();
+    match (found.value, rest) {
+        (_, "") => Ok((found, None)),
+        (Some(_), value) => Ok((found, Some(OsString::from(value)))),
+        (None, _) => Err(unknown()),
+    }
+}
+
+/// What is said where an option's value is missing.
+fn needs(option: &Described) -> String {
+    let long = option.long;
+    match long {
+        "steps" => format!("--steps needs a whole number from 0 to {}", u64::MAX),
+        "program" => String::from("--program needs the program's path"),
+        _ => format!("--{long} needs a value: {}", option.value.unwrap_or("")),
+    }
+}
+
+impl Given {
+    fn has(&self, long: &str) -> bool {
+        self.options.iter().any(|(option, _)| option.long == long)
+    }
+
+    /// The value of an option that counts.
+    fn value(&self, long: &str) -> Option<&OsString> {
+        let mut values = self.options.iter().rev();
+        let found = values.find(|(option, _)| option.long == long);
+        found.map(|(_, value)| value)
+    }
+
+    fn text(&self, long: &str) -> Option<String> {
+        let value = self.value(long);
+        value.map(|value| value.to_string_lossy().into_owned())
+    }
+
+    /// The value of an option that has few.
+    fn choice(&self, long: &str) -> Result<Option<String>, Failure> {
+        let Some(value) = self.text(long) else {
+            return Ok(None);
+        };
+        let option = options().find(|option| option.long == long);
+        let choices = option.map_or(&[][..], |option| option.choices);
+        match choices.contains(&value.as_str()) {
+            true => Ok(Some(value)),
+            false => Err(wrong(format!(
+                "--{long} is {}, found {}",
+                choices.join(" or "),
+                shown(&value)
+            ))),
+        }
+    }
+
+    /// Two options of which only one can be heeded.
+    fn exclude(&self, one: &str, other: &str, why: &str) -> Result<(), Failure> {
+        match self.has(one) && self.has(other) {
+            true => Err(wrong(format!(
+                "--{one} and --{other} exclude each other{why}"
+            ))),
+            false => Ok(()),
+        }
+    }
+}
+
+fn search(given: Given) -> Result<Search, Failure> {
+    exclusions(&given)?;
+    let answer = answer(&given)?;
+    let by = searcher(&given)?;
+    let columns = given.text("partition-by").unwrap_or_default();
+    let partition_by: Vec<String> = match columns.is_empty() {
+        true => Vec::new(),
+        false => columns
+            .split(',')
+            .map(|name| String::from(name.trim()))
+            .collect(),
+    };
+    let color = match given.choice("color")?.as_deref() {
+        Some("always") => Color::Always,
+        Some("never") => Color::Never,
+        _ => Color::Auto,
+    };
+    let delimiter = delimiter(&given)?;
+    let (query, rows) = files(&given)?;
+    Ok(Search {
+        query,
+        rows,
+        by,
+        partition_by,
+        order_by: given.text("order-by"),
+        sort: given.has("sort"),
+        grouped: given.has("grouped"),
+        delimiter,
+        header: !given.has("no-header"),
+        answer,
+        rows_of_matches: given.has("rows"),
+        color,
+        warnings: !given.has("no-warnings"),
     })
 }
 
-/// What the options ask to search; none where only bytes are to be written.
-fn searcher(
-    bytes: bool,
-    program: Option<PathBuf>,
-    steps: Option<u64>,
-) -> Result<Option<Searcher>, Failure> {
-    match (bytes, program, steps) {
-        (true, Some(_), _) => Err(wrong("--bytes and --program exclude each other")),
-        (true, None, Some(_)) => Err(wrong(
-            "--bytes and --steps exclude each other: \
-             what the program reads has no place for a number of steps",
-        )),
-        (false, Some(_), Some(_)) => Err(wrong(
-            "--program and --steps exclude each other: \
-             only the library can be told how many steps to take",
-        )),
-        (true, None, None) => Ok(None),
-        (false, Some(path), None) => Ok(Some(Searcher::Program(path))),
-        (false, None, steps) => {
-            let limits = Limits::default();
-            let limits = steps.map_or(limits, |most| limits.steps(most));
-            Ok(Some(Searcher::Library(limits)))
+fn exclusions(given: &Given) -> Result<(), Failure> {
+    let no_steps = ": what the program reads has no place for a number of steps";
+    let library = ": only the library can be told how many steps to take";
+    given.exclude("bytes", "program", "")?;
+    given.exclude("bytes", "steps", no_steps)?;
+    given.exclude("program", "steps", library)?;
+    given.exclude("bytes", "partition-by", ": the program reads one partition")?;
+    given.exclude("delimiter", "tab", "")?;
+    for one in ["quiet", "count", "bytes"] {
+        for other in ["rows", "format"] {
+            given.exclude(one, other, "")?;
         }
+    }
+    given.exclude("quiet", "count", "")?;
+    given.exclude("bytes", "quiet", "")?;
+    given.exclude("bytes", "count", "")
+}
+
+fn answer(given: &Given) -> Result<Answer, Failure> {
+    if given.has("quiet") {
+        return Ok(Answer::Quiet);
+    }
+    if given.has("count") {
+        return Ok(Answer::Count);
+    }
+    if given.has("bytes") {
+        return Ok(Answer::Bytes);
+    }
+    Ok(match given.choice("format")?.as_deref() {
+        Some("json") => Answer::Json,
+        Some("csv") => Answer::Csv,
+        _ => Answer::Table,
+    })
+}
+
+fn searcher(given: &Given) -> Result<Searcher, Failure> {
+    if let Some(path) = given.value("program") {
+        return Ok(Searcher::Program(PathBuf::from(path)));
+    }
+    let limits = Limits::default();
+    Ok(Searcher::Library(match given.text("steps") {
+        Some(text) => limits.steps(number_of_steps(&text)?),
+        None => limits,
+    }))
+}
+
+/// The number behind `--steps`.
+fn number_of_steps(text: &str) -> Result<u64, Failure> {
+    let needs = format!("--steps needs a whole number from 0 to {}", u64::MAX);
+    let number = text.parse();
+    number.map_err(|_| wrong(format!("{needs}, found {}", shown(text))))
+}
+
+/// The byte that parts columns.
+fn delimiter(given: &Given) -> Result<u8, Failure> {
+    if given.has("tab") {
+        return Ok(b'\t');
+    }
+    let Some(text) = given.text("delimiter") else {
+        return Ok(b',');
+    };
+    match text.as_bytes() {
+        b"\\t" => Ok(b'\t'),
+        [byte] if byte.is_ascii() && !b"\"\r\n".contains(byte) => Ok(*byte),
+        _ => Err(wrong(format!(
+            "--delimiter is one character, such as `;`, found {}",
+            shown(&text)
+        ))),
+    }
+}
+
+/// The query and the file of rows.
+fn files(given: &Given) -> Result<(QuerySource, PathBuf), Failure> {
+    let texts = given
+        .options
+        .iter()
+        .filter(|(option, _)| option.long == "query");
+    let texts: Vec<String> = texts
+        .map(|(_, value)| value.to_string_lossy().into_owned())
+        .collect();
+    let count = given.paths.len();
+    match (&given.paths[..], texts.is_empty()) {
+        ([query, rows], true) => {
+            let both = query.as_os_str() == "-" && rows.as_os_str() == "-";
+            match both {
+                true => Err(wrong("only one of QUERY and ROWS can be standard input")),
+                false => Ok((QuerySource::File(query.clone()), rows.clone())),
+            }
+        }
+        ([rows], false) => Ok((QuerySource::Text(texts.join("\n")), rows.clone())),
+        ([], false) => Ok((QuerySource::Text(texts.join("\n")), PathBuf::from("-"))),
+        (_, true) => Err(wrong(format!(
+            "expected two files, QUERY and ROWS, found {count}"
+        ))),
+        (_, false) => Err(wrong(format!(
+            "expected one file, ROWS, beside -e, found {count}"
+        ))),
     }
 }
 
 fn wrong(reason: impl Into<String>) -> Failure {
     Failure::Usage(reason.into())
-}
-
-/// The number behind `--steps`.
-fn number_of_steps(argument: Option<OsString>) -> Result<u64, Failure> {
-    let needs = format!("--steps needs a whole number from 0 to {}", u64::MAX);
-    let Some(argument) = argument else {
-        return Err(wrong(needs));
-    };
-    let text = argument.to_string_lossy();
-    let number = text.parse();
-    number.map_err(|_| wrong(format!("{needs}, found {}", shown(&text))))
 }

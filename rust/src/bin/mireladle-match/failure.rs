@@ -4,18 +4,20 @@
 use std::io::{self, ErrorKind};
 use std::path::{Path, PathBuf};
 
-use mireladle::{Ending, Error};
+use mireladle::text::screen::{mark, visible};
+use mireladle::text::{Fault, QueryText};
+use mireladle::Error;
 
-use crate::arguments::USAGE;
-use crate::fault::{mark, visible, Fault};
-use crate::pattern_text;
-use crate::query_text::Shown;
+use crate::options::usage;
 
-/// The library or the program refused.
-const REFUSED: u8 = 1;
-/// The input, the command line or the program is wrong, or the output cannot be written.
-const WRONG: u8 = 2;
-/// The report may not be whole: the search stopped, for want of room, of a row to skip to or of
+/// At least one match.
+pub const MATCH: u8 = 0;
+/// No match.
+pub const NO_MATCH: u8 = 1;
+/// The input, the command line or the program is wrong, a search was refused, or the output cannot
+/// be written.
+pub const WRONG: u8 = 2;
+/// The report may not be whole: a search stopped, for want of room, of a row to skip to or of
 /// steps.
 pub const STOPPED: u8 = 3;
 /// The reader of the output has gone: what a shell shows of a program that a broken pipe ends.
@@ -25,34 +27,43 @@ const UNREAD: u8 = 141;
 pub enum Failure {
     /// The command line is not as it should be.
     Usage(String),
+    /// A value on the command line does not fit the file.
+    Option(String),
     /// A file cannot be read.
     File { path: PathBuf, error: io::Error },
-    /// A text is not as it should be.
+    /// A text is not as it should be; the line that the fault is in.
     Text {
         path: PathBuf,
-        text: String,
+        line: String,
         fault: Fault,
     },
-    /// The library refused; the line that the answer is about, if it is about one, goes with it.
-    Refused {
-        error: Error,
-        line: Option<(PathBuf, Box<Shown>)>,
-    },
+    /// The library refused; where in the query.
+    Refused { error: Error, place: Option<String> },
+    /// The rows were refused, for these reasons.
+    Rows(String),
     /// The program cannot be run, or what it printed is no report.
     Program { path: PathBuf, reason: String },
-    /// The output cannot be written; how the search ended whose report it is.
-    Output { error: io::Error, ending: Ending },
+    /// The output cannot be written; whether the search whose report it is stopped.
+    Output { error: io::Error, stopped: bool },
 }
 
 impl Failure {
+    /// A fault in a file of rows, and the line that it is in.
+    pub fn rows(path: &Path, fault: Fault, line: String) -> Failure {
+        Failure::Text {
+            path: path.to_path_buf(),
+            line,
+            fault,
+        }
+    }
+
     /// The exit status.
     pub fn status(&self) -> u8 {
         match self {
-            Failure::Refused { .. } => REFUSED,
-            Failure::Output { error, ending } if error.kind() == ErrorKind::BrokenPipe => {
-                match ending {
-                    Ending::Done => UNREAD,
-                    _ => STOPPED,
+            Failure::Output { error, stopped } if error.kind() == ErrorKind::BrokenPipe => {
+                match stopped {
+                    false => UNREAD,
+                    true => STOPPED,
                 }
             }
             _ => WRONG,
@@ -63,13 +74,15 @@ impl Failure {
     pub fn message(&self) -> Option<String> {
         Some(match self {
             Failure::Usage(reason) => {
-                format!("{}\n{USAGE} (--help tells more)", visible(reason))
+                format!("{}\n{} (--help tells more)", visible(reason), usage())
             }
+            Failure::Option(reason) => visible(reason),
             Failure::File { path, error } => format!("{}: {error}", named(path)),
-            Failure::Text { path, text, fault } => {
-                format!("{}:{fault}{}", named(path), fault.marked(text))
+            Failure::Text { path, line, fault } => {
+                format!("{}:{fault}{}", named(path), mark(line, fault.column))
             }
-            Failure::Refused { error, line } => refusal(*error, line.as_ref()),
+            Failure::Refused { error, place } => refusal(*error, place.as_deref()),
+            Failure::Rows(reason) => visible(reason),
             Failure::Program { path, reason } => format!("{}: {reason}", named(path)),
             Failure::Output { error, .. } if error.kind() == ErrorKind::BrokenPipe => return None,
             Failure::Output { error, .. } => format!("the output cannot be written: {error}"),
@@ -78,47 +91,44 @@ impl Failure {
 }
 
 /// A file's name as messages show it.
-fn named(path: &Path) -> String {
-    visible(&path.display().to_string())
-}
-
-fn refusal(error: Error, line: Option<&(PathBuf, Box<Shown>)>) -> String {
-    let number = error.number();
-    let refused = number.map_or(String::from("refused"), |number| {
-        format!("refused {number}")
-    });
-    let Some((path, shown)) = line else {
-        return format!("{refused}: {error}");
-    };
-    let path = named(path);
-    let wrong = match error {
-        Error::NotAPattern { .. } | Error::PatternEnds { .. } => pattern_text::wrong(shown),
-        _ => None,
-    };
-    match wrong {
-        Some((error, fault)) => {
-            let mark = mark(&shown.line, fault.column);
-            format!("{refused}: {}\n{path}:{fault}{mark}", short(error))
-        }
-        None => {
-            let text = visible(&format!("{}: {}", shown.key, shown.rest));
-            format!(
-                "{refused}: {}\n{path}:{}: {text}",
-                reason(error),
-                shown.number
-            )
-        }
+pub fn named(path: &Path) -> String {
+    match path.as_os_str() == "-" {
+        true => String::from("standard input"),
+        false => visible(&path.display().to_string()),
     }
 }
 
-/// The reason of a refusal whose place is not known. Of a pattern's text the linked library knows
-/// it, so here a program of another version refused.
-fn reason(error: Error) -> String {
-    match error {
-        Error::NotAPattern { .. } | Error::PatternEnds { .. } => {
-            String::from("the program refuses the pattern, the linked library does not")
-        }
-        other => other.to_string(),
+/// A refusal by the library, with its place in the text of the query.
+pub fn refused(error: Error, path: &str, source: &str, text: &QueryText) -> Failure {
+    let of_pattern = matches!(error, Error::NotAPattern { .. } | Error::PatternEnds { .. });
+    let wrong = text.wrong_pattern().filter(|_| of_pattern);
+    if let Some((error, fault)) = wrong {
+        let marked = fault.marked(source);
+        return Failure::Refused {
+            error: short(error),
+            place: Some(format!("{path}:{fault}{marked}")),
+        };
+    }
+    let place = text.part(error).map(|part| {
+        let (line, shown) = (part.line, visible(&part.text));
+        format!("{path}:{line}: {shown}")
+    });
+    Failure::Refused { error, place }
+}
+
+fn refusal(error: Error, place: Option<&str>) -> String {
+    let number = error.number();
+    let number = number.map_or(String::new(), |number| format!(" {number}"));
+    let place = place.map_or(String::new(), |place| format!("\n{place}"));
+    // Of a pattern's text the linked library knows the place, so without one a program of another
+    // version refused.
+    let expected_place = matches!(error, Error::NotAPattern { .. } | Error::PatternEnds { .. })
+        && !place.contains(": expected ");
+    match expected_place {
+        true => format!(
+            "refused{number}: the program refuses the pattern, the linked library does not{place}"
+        ),
+        false => format!("refused{number}: {error}{place}"),
     }
 }
 

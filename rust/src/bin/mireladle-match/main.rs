@@ -1,125 +1,227 @@
-//! mireladle-match: searches the rows of a CSV file for a query that is written as readable text,
-//! and prints the matches and the labelled rows. It promises a message with a place for every text
-//! that it cannot read, the number and the reason of every refusal, and an exit status: 0 done, 1
-//! refused, 2 wrong input or an output that cannot be written, 3 stopped for want of room, of a row
-//! to skip to or of steps, 141 where the reader of the output left early, so that a script cannot
-//! take a part of a report for the whole. It never panics. Tested in tests/command.rs and
-//! tests/output.rs.
+//! mireladle-match: searches the rows of a CSV file, in one partition or many, for a query that is
+//! written as readable text, and tells the matches. It promises a message with a place for every
+//! text that it cannot read, the number and the reason of every refusal, and an exit status: 0 at
+//! least one match, 1 none, 2 wrong input, a refusal or an output that cannot be written, 3 stopped
+//! for want of room, of a row to skip to or of steps, 141 where the reader of the output left early,
+//! so that a script cannot take a part of a report for the whole. It never panics. Tested in
+//! tests/command.rs, tests/options.rs, tests/partitions.rs and tests/output.rs.
 
 #![deny(unsafe_code)]
 #![cfg_attr(test, allow(clippy::restriction))]
 
+mod answer;
 mod arguments;
-mod columns;
-mod csv;
-mod define_text;
+mod cells;
 mod failure;
-mod fault;
-mod lines;
-mod measure_text;
+mod help;
+mod input;
+mod layout;
+mod options;
 mod output;
-mod pattern_text;
-mod print;
+mod partitions;
 mod program;
-mod query_text;
-mod skip_text;
-mod width;
-mod words;
+mod terminal;
 
-use std::io::{self, BufWriter, Write};
+use std::io::{self, BufWriter, Read, Write};
 use std::path::Path;
 use std::process::ExitCode;
 
-use mireladle::{Ending, Error, Query, Report, Rows};
+use mireladle::text::screen::visible;
+use mireladle::text::{self, lines, Fault, QueryText};
 
-use arguments::{task, Searcher, Task, HELP};
-use csv::Table;
-use failure::{Failure, STOPPED};
-use fault::Fault;
-use lines::lines;
+use answer::{Answering, Asked};
+use arguments::{task, QuerySource, Search, Task};
+use failure::{named, Failure, MATCH};
+use input::{Field, Record, Records, Source, Stop};
+use layout::Layout;
 use output::Output;
-use print::Printed;
-use program::Failed;
-use query_text::QueryText;
+use partitions::{last_records, Added, Closing, Partitions};
+use terminal::{tell, Progress, Style};
 
 fn main() -> ExitCode {
-    match task(std::env::args_os().skip(1)).and_then(|task| run_whole(&task)) {
-        Ok(Ending::Done) => ExitCode::SUCCESS,
-        Ok(_) => ExitCode::from(STOPPED),
+    match task(std::env::args_os().skip(1)).and_then(|task| run(&task)) {
+        Ok(status) => ExitCode::from(status),
         Err(failure) => {
             if let Some(message) = failure.message() {
-                // Should this not be written either, the exit status still tells.
-                let _ = writeln!(io::stderr(), "{message}");
+                tell(&message);
             }
             ExitCode::from(failure.status())
         }
     }
 }
 
-/// Runs a task and sees to it that all of its output is written.
-fn run_whole(task: &Task) -> Result<Ending, Failure> {
-    let mut out = BufWriter::new(Output::new().map_err(unwritten(Ending::Done))?);
-    let ending = run(task, &mut out)?;
-    out.flush().map_err(unwritten(ending))?;
-    Ok(ending)
-}
-
-/// The failure of an output that cannot be written, by the ending of the search that it tells of.
-fn unwritten(ending: Ending) -> impl Fn(io::Error) -> Failure {
-    move |error| Failure::Output { error, ending }
-}
-
-/// Runs a task, and tells how its search ended; one that searches nothing is done.
-fn run(task: &Task, out: &mut impl Write) -> Result<Ending, Failure> {
-    let mut write = |bytes: &[u8]| {
-        let written = out.write_all(bytes).map_err(unwritten(Ending::Done));
-        written.map(|()| Ending::Done)
-    };
+/// Runs a task and gives the exit status.
+fn run(task: &Task) -> Result<u8, Failure> {
     match task {
-        Task::Help => write(HELP.as_bytes()),
-        Task::Search { by, query, rows } => {
-            let (text, table) = read_both(query, rows)?;
-            search(&text, &table, query, by, out)
+        Task::Help => print(&help::help()),
+        Task::Version => print(&format!(
+            "{} {}\n",
+            options::NAME,
+            env!("CARGO_PKG_VERSION")
+        )),
+        Task::Man => print(&help::man()),
+        Task::Completions(shell) => print(&help::completions(shell).unwrap_or_default()),
+        Task::Search(search) => answer(search),
+    }
+}
+
+fn print(text: &str) -> Result<u8, Failure> {
+    let mut out = Out::new()?;
+    out.write(text.as_bytes(), false)?;
+    out.flush(false)?;
+    Ok(MATCH)
+}
+
+/// Standard output; what cannot be written is a failure.
+struct Out(BufWriter<Output>);
+
+impl Out {
+    fn new() -> Result<Out, Failure> {
+        let output = Output::new().map_err(unwritten(false))?;
+        Ok(Out(BufWriter::with_capacity(1 << 16, output)))
+    }
+
+    fn write(&mut self, bytes: &[u8], stopped: bool) -> Result<(), Failure> {
+        self.0.write_all(bytes).map_err(unwritten(stopped))
+    }
+
+    fn flush(&mut self, stopped: bool) -> Result<(), Failure> {
+        self.0.flush().map_err(unwritten(stopped))
+    }
+}
+
+/// The failure of an output that cannot be written, by whether the search that it tells of stopped.
+fn unwritten(stopped: bool) -> impl Fn(io::Error) -> Failure {
+    move |error| Failure::Output { error, stopped }
+}
+
+/// Reads the file, searches its partitions and tells what was found.
+fn answer(search: &Search) -> Result<u8, Failure> {
+    let (path, source) = query_source(&search.query)?;
+    let file = Source::open(&search.rows).map_err(unread(search))?;
+    let mut records = file.records(search.delimiter).map_err(unread(search))?;
+    let mut fields = Vec::new();
+    let first = read_record(search, &mut records, &mut fields)?;
+    let names = column_names(search, first.as_ref())?;
+    let text = read_query(&path, &source, &names)?;
+    let layout = Layout::new(names, &text, search)?;
+    if let Some(record) = first.as_ref().filter(|_| search.header) {
+        layout::twice(&layout, &search.rows, record)?;
+    }
+    if search.warnings {
+        warn(&path, &text);
+    }
+    let asked = Asked { path, source, text };
+    let answering = Answering::new(search, &asked, &layout, Style::new(search.color))?;
+    if !search.header {
+        // The first line is a row.
+        records.back();
+    }
+    let mut closing = Closing::AtEnd;
+    if search.grouped {
+        closing = Closing::AtNext;
+    } else if is_read_twice(&file, &layout) {
+        let mut before = file.records(search.delimiter).map_err(unread(search))?;
+        closing = last_records(&mut before, &layout, search.header);
+        records = file.records(search.delimiter).map_err(unread(search))?;
+        if search.header {
+            read_record(search, &mut records, &mut fields)?;
         }
-        Task::Bytes { query, rows } => {
-            let (text, table) = read_both(query, rows)?;
-            write(&program_input(&text, &table))
+    }
+    let keep = Answering::keeps_records(search, &asked.text);
+    let reading = Reading {
+        search,
+        partitions: Partitions::new(&layout, closing, search.sort, keep),
+        answering,
+        progress: Progress::new(file.length),
+        length: file.length,
+        out: Out::new()?,
+    };
+    reading.run(&mut records)
+}
+
+fn unread(search: &Search) -> impl Fn(io::Error) -> Failure + '_ {
+    |error| Failure::File {
+        path: search.rows.clone(),
+        error,
+    }
+}
+
+fn read_record<'a>(
+    search: &Search,
+    records: &'a mut Records,
+    fields: &'a mut Vec<Field>,
+) -> Result<Option<Record<'a>>, Failure> {
+    records.next(fields).map_err(|stop| match stop {
+        Stop::Io(error) => unread(search)(error),
+        Stop::Fault(fault, line) => Failure::rows(&search.rows, fault, line),
+    })
+}
+
+/// A file that is smaller is kept in memory.
+const LARGE_FILE: u64 = 32_000_000;
+
+/// Whether a file is read once before, to find out where each partition ends.
+fn is_read_twice(file: &Source, layout: &Layout) -> bool {
+    let large = file.length.is_some_and(|length| length >= LARGE_FILE);
+    large && !layout.partition.is_empty()
+}
+
+/// The names of the columns, by the first record.
+fn column_names(search: &Search, first: Option<&Record<'_>>) -> Result<Vec<String>, Failure> {
+    match (first, search.header) {
+        (Some(record), true) => layout::names(&search.rows, record, search.delimiter),
+        (Some(record), false) => Ok(layout::numbered(record.fields.len())),
+        (None, _) => {
+            let expected = match search.header {
+                true => "a first line with the names of the columns",
+                false => "rows",
+            };
+            let fault = Fault::new(1, 1, expected, "an empty file");
+            Err(Failure::rows(&search.rows, fault, String::new()))
         }
     }
 }
 
-/// Reads the rows first: the query may use the names of their columns.
-fn read_both(query: &Path, rows: &Path) -> Result<(QueryText, Table), Failure> {
-    let table = read_with(rows, csv::read)?;
-    let text = read_with(query, |text| query_text::read(text, &table.names))?;
-    Ok((text, table))
-}
+/// A query's text may be no longer: it is read whole.
+const LONGEST_QUERY: u64 = 1 << 20;
 
-/// Reads a file with one of the readers.
-fn read_with<T>(path: &Path, reader: impl Fn(&str) -> Result<T, Fault>) -> Result<T, Failure> {
-    let path = path.to_path_buf();
-    let bytes = match std::fs::read(&path) {
-        Ok(bytes) => bytes,
-        Err(error) => return Err(Failure::File { path, error }),
+/// What the query is called in messages, and its text.
+fn query_source(source: &QuerySource) -> Result<(String, String), Failure> {
+    let path = match source {
+        QuerySource::Text(text) => return Ok((String::from("-e"), text.clone())),
+        QuerySource::File(path) => path,
     };
-    let text = match String::from_utf8(bytes) {
-        Ok(text) => text,
-        Err(error) => {
-            let fault = not_text(error.as_bytes(), error.utf8_error().valid_up_to());
-            return Err(Failure::Text {
-                path,
-                text: String::new(),
-                fault,
-            });
+    let failed = |error| Failure::File {
+        path: path.clone(),
+        error,
+    };
+    let mut bytes = Vec::new();
+    let limit = LONGEST_QUERY.saturating_add(1);
+    let read = match path.as_os_str() == "-" {
+        true => io::stdin().take(limit).read_to_end(&mut bytes),
+        false => {
+            let file = std::fs::File::open(path).map_err(failed)?;
+            file.take(limit).read_to_end(&mut bytes)
         }
     };
+    read.map_err(failed)?;
+    if u64::try_from(bytes.len()).unwrap_or(u64::MAX) > LONGEST_QUERY {
+        let reason = "the text of a query has at most 1,048,576 bytes";
+        return Err(failed(io::Error::other(reason)));
+    }
+    let text = String::from_utf8(bytes).map_err(|error| {
+        let valid = error.utf8_error().valid_up_to();
+        query_fault(path, not_text(error.as_bytes(), valid), "")
+    })?;
     // Some programs put a mark of the encoding in front of a text.
     let plain = text.strip_prefix('\u{FEFF}').unwrap_or(&text);
-    reader(plain).map_err(|fault| Failure::Text {
-        path,
-        text: String::from(plain),
-        fault,
-    })
+    Ok((named(path), String::from(plain)))
+}
+
+fn query_fault(path: &Path, fault: Fault, text: &str) -> Failure {
+    let line = lines(text).nth(fault.line.saturating_sub(1)).unwrap_or("");
+    Failure::rows(path, fault, String::from(line))
 }
 
 /// The fault of bytes that are text up to some byte only.
@@ -135,73 +237,129 @@ fn not_text(bytes: &[u8], valid: usize) -> Fault {
     Fault::new(line, column, "text in UTF-8", found)
 }
 
-fn search(
-    text: &QueryText,
-    table: &Table,
-    query_path: &Path,
-    by: &Searcher,
-    out: &mut impl Write,
-) -> Result<Ending, Failure> {
-    let refused = |error: Error| {
-        let line = match error {
-            Error::TooDeep
-            | Error::NotAPattern { .. }
-            | Error::PatternEnds { .. }
-            | Error::EmptyRepetition
-            | Error::TooManyPlaces => Some(text.pattern.clone()),
-            Error::DefinedTwice => text.defined_again.clone(),
-            Error::MeasureLetter => text.strange_letter().cloned(),
-            _ => None,
-        };
-        Failure::Refused {
-            error,
-            line: line.map(|line| (query_path.to_path_buf(), Box::new(line))),
+fn read_query(path: &str, source: &str, names: &[String]) -> Result<QueryText, Failure> {
+    let read = text::read_with(source, names);
+    read.map_err(|fault| query_fault(Path::new(path), fault, source))
+}
+
+/// Tells what is likely not meant in a query.
+fn warn(path: &str, text: &QueryText) {
+    for warning in &text.warnings {
+        let (line, column) = (warning.line, warning.column);
+        let message = visible(&warning.message);
+        tell(&format!("{path}:{line}:{column}: warning: {message}"));
+    }
+}
+
+/// A file that is being read and answered.
+struct Reading<'a> {
+    search: &'a Search,
+    partitions: Partitions<'a>,
+    answering: Answering<'a>,
+    progress: Progress,
+    /// The length of the file, where it is one.
+    length: Option<u64>,
+    out: Out,
+}
+
+impl Reading<'_> {
+    fn run(mut self, records: &mut Records) -> Result<u8, Failure> {
+        let head = self.answering.head();
+        self.write(&head)?;
+        let read = self.read(records);
+        self.progress.end();
+        if read? {
+            self.partitions.at_least_one();
+            self.close_all()?;
+            let foot = self.answering.foot();
+            self.write(&foot)?;
         }
-    };
-    let columns = u8::try_from(table.names.len()).unwrap_or(u8::MAX);
-    let rows = Rows::new(&table.entries, columns);
-    let report = match by {
-        Searcher::Program(path) => search_by_program(path, text, table, refused)?,
-        Searcher::Library(limits) => Query::from_bytes(text.builder.to_bytes())
-            .and_then(|query| query.search_within(rows, *limits))
-            .map_err(refused)?,
-    };
-    let printed = Printed {
-        report: &report,
-        rows,
-        names: &table.names,
-        titles: &text.titles,
-        skip: text.skip,
-    };
-    let ending = report.ending();
-    printed.write(out).map_err(unwritten(ending))?;
-    Ok(ending)
+        self.out.flush(self.answering.tally.stopped)?;
+        Ok(self.answering.tally.status())
+    }
+
+    /// Reads to the end; false where the answer is known before.
+    fn read(&mut self, records: &mut Records) -> Result<bool, Failure> {
+        let mut fields = Vec::new();
+        let mut blank: Option<(u64, Vec<u8>)> = None;
+        let mut count = 0_u64;
+        loop {
+            let taken = records.taken;
+            let Some(record) = read_record(self.search, records, &mut fields)? else {
+                return Ok(true);
+            };
+            count = count.wrapping_add(1);
+            if count & 0xFFFF == 0 {
+                self.progress.at(taken, self.partitions.rows);
+            }
+            if record.is_blank() {
+                // Empty lines may stand behind the last row only.
+                blank.get_or_insert((record.line, record.bytes.to_vec()));
+                self.partitions.skip();
+                continue;
+            }
+            if let Some((line, bytes)) = &blank {
+                return Err(self.blank_line(*line, bytes));
+            }
+            let added = self.partitions.add(&record, &mut self.answering);
+            let ready = added.map_err(|added| failure(self.search, added))?;
+            if !ready.is_empty() {
+                self.write(&ready)?;
+            }
+            if self.answering.has_enough() {
+                return Ok(false);
+            }
+            if self.partitions.only_one_is_too_large() && self.is_not_worth_counting() {
+                return Err(self.answering.refuse_all());
+            }
+        }
+    }
+
+    /// The fault of an empty line in front of a row.
+    fn blank_line(&self, line: u64, bytes: &[u8]) -> Failure {
+        let record = Record {
+            line,
+            bytes,
+            fields: &[],
+        };
+        let expected = "a row, since others follow";
+        let (fault, shown) = record.fault_at(0, expected, "an empty line");
+        Failure::rows(&self.search.rows, fault, shown)
+    }
+
+    /// Whether the rest of a file is too long, or may be, to be read only to count its rows.
+    fn is_not_worth_counting(&self) -> bool {
+        self.length.map_or(true, |length| length >= LARGE_FILE)
+    }
+
+    /// Answers what is still open.
+    fn close_all(&mut self) -> Result<(), Failure> {
+        loop {
+            let ended = self.partitions.end(&mut self.answering);
+            match ended.map_err(|added| failure(self.search, added))? {
+                Some(ready) => self.write(&ready)?,
+                None => return Ok(()),
+            }
+            if self.answering.has_enough() {
+                return Ok(());
+            }
+        }
+    }
+
+    /// Writes; what comes of a pipe by and by is not held back.
+    fn write(&mut self, bytes: &[u8]) -> Result<(), Failure> {
+        let stopped = self.answering.tally.stopped;
+        self.out.write(bytes, stopped)?;
+        match self.length.is_none() && self.search.grouped {
+            true => self.out.flush(stopped),
+            false => Ok(()),
+        }
+    }
 }
 
-fn search_by_program(
-    path: &Path,
-    text: &QueryText,
-    table: &Table,
-    refused: impl Fn(Error) -> Failure,
-) -> Result<Report, Failure> {
-    let input = program_input(text, table);
-    let searched = program::search(path, input, text.titles.len(), text.skip);
-    searched.map_err(|failed| match failed {
-        Failed::Refused(error) => refused(error),
-        other => Failure::Program {
-            path: path.to_path_buf(),
-            reason: other.reason(),
-        },
-    })
-}
-
-/// The standard input of the program `mireladle`: the query's length in 2 bytes, the query, the entries in 4 bytes each.
-fn program_input(text: &QueryText, table: &Table) -> Vec<u8> {
-    let query = text.builder.to_bytes();
-    // What the reader lets through is far shorter than that.
-    let length = u16::try_from(query.len()).unwrap_or(u16::MAX);
-    let mut bytes = length.to_le_bytes().to_vec();
-    bytes.extend_from_slice(&query);
-    bytes.extend(table.entries.iter().flat_map(|entry| entry.to_le_bytes()));
-    bytes
+fn failure(search: &Search, added: Added<Answering<'_>>) -> Failure {
+    match added {
+        Added::Fault(fault, line) => Failure::rows(&search.rows, fault, line),
+        Added::Close(failure) => failure,
+    }
 }

@@ -14,9 +14,8 @@ use std::str::FromStr;
 use mireladle::lent::Outcome;
 use mireladle::{Error, Report, Skip};
 
-use crate::fault::{shown, visible, LONGEST_SHOWN};
-use crate::lines::lines;
-use crate::skip_text::no_row_behind;
+use mireladle::text::screen::{shown, visible, LONGEST_SHOWN};
+use mireladle::text::{lines, no_row_behind};
 
 /// Why the program gave no report.
 pub enum Failed {

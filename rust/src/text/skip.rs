@@ -2,34 +2,32 @@
 //! but for the letter. And why a search could not go on by such a line behind a match: the library
 //! only says that it could not, and the program `mireladle` not even that.
 
-use mireladle::Skip;
+use crate::Skip;
 
-use crate::fault::Fault;
-use crate::words::{Word, Words};
+use super::fault::Fault;
+use super::words::Words;
 
 /// What a skip line can say.
 const SKIPS: &str = "`past last row`, `to next row`, `to first` or `to last` and a letter";
 
 /// The skip that the line says, to its end.
-pub fn skip(words: &mut Words) -> Result<Skip, Fault> {
+pub fn skip(words: &mut Words<'_>) -> Result<Skip, Fault> {
     let skip = if words.pass_keyword("past") {
-        want_keywords(words, &["last", "row"])?;
+        words.want_keywords(&["last", "row"])?;
         Skip::PastLastRow
     } else if words.pass_keyword("to") {
         to(words)?
     } else {
         return Err(words.fault(SKIPS));
     };
-    match words.peek() {
-        Word::End => Ok(skip),
-        _ => Err(words.fault("the end of the line")),
-    }
+    words.want_end("the end of the line")?;
+    Ok(skip)
 }
 
 /// What stands behind `to`.
-fn to(words: &mut Words) -> Result<Skip, Fault> {
+fn to(words: &mut Words<'_>) -> Result<Skip, Fault> {
     if words.pass_keyword("next") {
-        want_keywords(words, &["row"])?;
+        words.want_keywords(&["row"])?;
         Ok(Skip::ToNextRow)
     } else if words.pass_keyword("first") {
         Ok(Skip::ToFirst(words.want_letter(LETTER)?))
@@ -41,15 +39,6 @@ fn to(words: &mut Words) -> Result<Skip, Fault> {
 }
 
 const LETTER: &str = "a letter A to Z";
-
-fn want_keywords(words: &mut Words, keywords: &[&str]) -> Result<(), Fault> {
-    for keyword in keywords {
-        if !words.pass_keyword(keyword) {
-            return Err(words.fault(format!("`{keyword}`")));
-        }
-    }
-    Ok(())
-}
 
 /// The letter whose row a search goes on at.
 pub fn letter_of(skip: Skip) -> Option<char> {

@@ -1,26 +1,29 @@
 //! Tests of the reader of query text: what it reads, byte by byte, and the place and words of every fault.
 
-use mireladle::col;
+use crate::col;
 
 use super::*;
+use crate::{Comparison, Measure};
 
 fn names() -> Vec<String> {
     ["time", "event", "base number"].map(String::from).to_vec()
 }
 
+const COLUMNS: &str = "a column (c0 or time, c1 or event, c2 or \"base number\")";
+
 fn builder(text: &str) -> QueryBuilder {
-    read(text, &names()).unwrap().builder
+    read_with(text, &names()).unwrap().builder
 }
 
 /// The fault of a text with a pattern line in front.
 fn fault(text: &str) -> String {
-    read(&format!("pattern: A\n{text}"), &names())
+    read_with(&format!("pattern: A\n{text}"), &names())
         .unwrap_err()
         .to_string()
 }
 
-fn defined(text: &str, comparisons: &[Comparison]) {
-    let expected = Query::builder(3)
+fn defined(columns: u8, text: &str, comparisons: &[Comparison]) {
+    let expected = Query::builder(columns)
         .pattern("A")
         .define('A', comparisons.iter().copied());
     assert_eq!(
@@ -34,7 +37,7 @@ fn defined(text: &str, comparisons: &[Comparison]) {
 fn w1_is_read_into_its_bytes() {
     let text = "# W1\npattern: A+ B\nA: c0 > PREV(c0)\nB: price < PREV(price)  # falls\n\n\
                 skip: past last row\nmeasures: COUNT(A), LAST(B.price)\n";
-    let read = read(text, &[String::from("price")]).unwrap();
+    let read = read_with(text, &[String::from("price")]).unwrap();
     let expected = Query::builder(1)
         .pattern("A+ B")
         .define('A', [col(0).gt(col(0).prev(1))])
@@ -43,61 +46,205 @@ fn w1_is_read_into_its_bytes() {
         .measure(Measure::last(0).of('B'));
     assert_eq!(read.builder.to_bytes(), expected.to_bytes());
     assert_eq!(read.titles, ["COUNT(A)", "LAST(B.price)"]);
-    let shown = |number, key: &str, rest: &str| Shown {
-        number,
-        line: format!("{key}: {rest}"),
-        key: String::from(key),
-        rest: String::from(rest),
-        column: key.len() + 3,
+    let part = |line, text: &str| {
+        Some(Part {
+            line,
+            column: 1,
+            text: String::from(text),
+        })
     };
-    assert_eq!(read.pattern, shown(2, "pattern", "A+ B"));
-    assert_eq!((read.defined_again, read.skip), (None, Skip::PastLastRow));
-    assert_eq!(read.skip_line, Some(shown(6, "skip", "past last row")));
-    let measures = shown(7, "measures", "COUNT(A), LAST(B.price)");
-    assert_eq!(read.measures, Some(measures));
+    assert_eq!(read.parts.pattern, part(2, "pattern: A+ B"));
+    assert_eq!(
+        (read.parts.defined_again, read.skip),
+        (None, Skip::PastLastRow)
+    );
+    assert_eq!(read.parts.skip, part(6, "skip: past last row"));
+    assert_eq!(
+        read.parts.measures,
+        part(7, "measures: COUNT(A), LAST(B.price)")
+    );
 }
 
+/// The same query by SQL's clauses: in capitals, in small letters, and in one line.
 #[test]
-fn a_shown_line_is_whole_and_its_parts_are_not() {
-    let read = read("# W1\n pattern :  A**  # twice", &names()).unwrap();
-    let expected = Shown {
-        number: 2,
-        line: String::from(" pattern :  A**  # twice"),
-        key: String::from("pattern"),
-        rest: String::from("A**"),
-        column: 13,
+fn w1_in_the_spelling_of_sql() {
+    let ours = "pattern: A+ B\nA: price > PREV(price)\nB: price < PREV(price), event <> -2\n\
+                skip: to next row\nmeasures: COUNT(A) AS n, LAST(B.price) as \"last one\"\n";
+    let sql = "MEASURES COUNT(A.*) AS n,\n  FINAL LAST(B.price) AS \"last one\" -- comment\n\
+               ONE ROW PER MATCH\nAFTER MATCH SKIP TO\n NEXT ROW\n\
+               PATTERN (\n  A+ # rises\n  B\n)\n\
+               DEFINE A AS A.price > PREV(A.price),\n\
+               B AS price < PREV(price)\n AND B.event <> - 2";
+    let names = ["event", "price"].map(String::from);
+    let expected = read_with(ours, &names).unwrap();
+    assert_eq!(expected.titles, ["n", "last one"]);
+    let lower = sql.to_lowercase();
+    let one_line = sql
+        .replace("-- comment", "")
+        .replace("# rises", "")
+        .replace('\n', " ");
+    let whole = format!("match_recognize (partition by c0 order by price asc\n{sql})\n;");
+    for text in [sql, &lower, &one_line, &whole] {
+        let read = read_with(text, &names).unwrap();
+        assert_eq!(
+            read.builder.to_bytes(),
+            expected.builder.to_bytes(),
+            "{text}"
+        );
+        assert_eq!(read.titles, expected.titles);
+        assert_eq!(
+            read.pattern().split_whitespace().collect::<Vec<_>>(),
+            ["A+", "B"]
+        );
+        assert_eq!(read.warnings, []);
+        let partition = if text == &whole { &["event"][..] } else { &[] };
+        assert_eq!(read.partition_by, partition);
+        assert_eq!(read.order_by.is_some(), text == &whole);
+    }
+}
+
+/// A pattern over several lines tells the place of its fault.
+#[test]
+fn a_pattern_in_parentheses_keeps_its_places() {
+    let wrong = |text: &str| {
+        let read = read_with(text, &names()).unwrap();
+        let (_, fault) = read.wrong_pattern().unwrap();
+        assert_eq!(read.build().unwrap_err(), fault);
+        (fault.line, fault.column, fault.found)
     };
-    assert_eq!(read.pattern, expected);
+    let star = String::from("`*`");
+    assert_eq!(wrong("PATTERN (\n A\n  B**\n)"), (3, 5, star.clone()));
+    assert_eq!(wrong("pattern (a** # (\n)"), (1, 12, star));
+    let end = String::from("the end of the pattern");
+    assert_eq!(wrong("PATTERN ( A |\n # B\n )"), (1, 14, end.clone()));
+    assert_eq!(wrong("PATTERN ()\n"), (1, 10, end));
+    let open = read_with("PATTERN (A (B)\n", &names()).unwrap_err();
+    assert_eq!(
+        open.to_string(),
+        "2:1: expected a `)` that ends the pattern, found the end of the query"
+    );
+    assert_eq!(
+        read_with("PATTERN A", &names()).unwrap_err().to_string(),
+        "1:9: expected `(`, found `A`"
+    );
 }
 
 #[test]
 fn comparisons_of_every_form() {
-    defined("c0 = 3", &[col(0).eq(3)]);
-    defined("c0<>-3", &[col(0).ne(-3)]);
-    defined("c0 != +3", &[col(0).ne(3)]);
-    defined("event < time", &[col(1).lt(col(0))]);
-    defined("\"base number\" <= c1", &[col(2).le(col(1))]);
+    defined(1, "c0 = 3", &[col(0).eq(3)]);
+    defined(1, "c0<>-3", &[col(0).ne(-3)]);
+    defined(1, "c0 != +3", &[col(0).ne(3)]);
+    defined(2, "event < time", &[col(1).lt(col(0))]);
+    defined(2, "\"base number\" <= c1", &[col(1).le(col(0))]);
     defined(
+        2,
         "PREV(c0, 64) >= next(c1 , 0)",
         &[col(0).prev(64).ge(col(1).next(0))],
     );
-    defined("c0 > NEXT(c2, 2) + 5", &[col(0).gt(col(2).next(2) + 5)]);
-    defined("c0 > c1 - 5", &[col(0).gt(col(1) + -5)]);
-    defined("c0 > c1-2147483648", &[col(0).gt(col(1) + i32::MIN)]);
-    defined("c0 = -2147483648", &[col(0).eq(i32::MIN)]);
+    defined(2, "c0 > NEXT(c2, 2) + 5", &[col(0).gt(col(1).next(2) + 5)]);
+    defined(2, "c0 > c1 - 5", &[col(0).gt(col(1) + -5)]);
+    defined(2, "c0 > c1 + -5", &[col(0).gt(col(1) + -5)]);
+    defined(2, "c0 > c1 - +5", &[col(0).gt(col(1) + -5)]);
+    defined(2, "c0 > c1 - - 5", &[col(0).gt(col(1) + 5)]);
+    defined(2, "c0 > c1-2147483648", &[col(0).gt(col(1) + i32::MIN)]);
+    defined(1, "c0 = -2147483648", &[col(0).eq(i32::MIN)]);
+    defined(1, "time >= '1970-01-02'", &[col(0).ge(86_400)]);
     let three = [
         col(1).eq(3),
         col(2).eq(col(2).prev(1)),
         col(0).le(col(0).next(2) + 5),
     ];
-    defined("c1 = 3, c2 = PREV(c2), c0 <= NEXT(c0, 2) + 5", &three);
-    defined("c1 = 3 AND c2 = PREV(c2) and c0 <= NEXT(c0, 2) + 5", &three);
+    defined(3, "c1 = 3, c2 = PREV(c2), c0 <= NEXT(c0, 2) + 5", &three);
+    defined(
+        3,
+        "c1 = 3 AND c2 = PREV(c2) and c0 <= NEXT(c0, 2) + 5",
+        &three,
+    );
+    let always = builder("pattern: A\nA: true");
+    assert_eq!(always, Query::builder(1).pattern("A"));
+}
+
+#[test]
+fn codes_stand_for_texts() {
+    let text = "pattern: A\nA: event = 'not read', PREV(event) <> 'refused'\n\
+                event: refused=2, 'not read'=-3, \"it's\" = +4, *=0";
+    let read = read_with(text, &names()).unwrap();
+    let expected = [col(0).eq(-3), col(0).prev(1).ne(2)];
+    assert_eq!(
+        read.builder,
+        Query::builder(1).pattern("A").define('A', expected)
+    );
+    let codes = read.columns[0].codes.clone().unwrap();
+    let code = |text: &str| codes.code(text.as_bytes());
+    assert_eq!((code("refused"), code("it's")), (Some(2), Some(4)));
+    assert_eq!((code("Refused"), codes.listed(b"Refused")), (Some(0), None));
+    let place = "2:12: expected one of the codes 'x', found `'y'`";
+    assert_eq!(fault("A: event = 'y'\nevent: x=1"), place);
+    assert_eq!(
+        fault("A: event = 'refused'"),
+        "2:12: expected a number, a date or a time, or else a line with codes for this column, \
+         such as `event: 'refused'=1`, found `'refused'`"
+    );
+    assert_eq!(
+        fault("event: x=1, x=2"),
+        "2:13: expected a text that has no code yet, found `x`"
+    );
+    assert_eq!(
+        fault("event: x=1\nc1: y=2"),
+        "3:1: expected one code table for each column, found `c1`"
+    );
+    assert_eq!(
+        fault("event: x=one"),
+        "2:10: expected a whole number from -2147483648 to 2147483647, found `one`"
+    );
+}
+
+#[test]
+fn columns_that_are_not_named_are_left_out() {
+    let names: Vec<String> = (0..30).map(|at| format!("col{at}")).collect();
+    let text = "pattern: A\nA: col29 = PREV(col7)\nmeasures: LAST(A.c7), SUM(col11)";
+    let read = read_with(text, &names).unwrap();
+    let columns: Vec<_> = read.columns.iter().map(|column| column.index).collect();
+    assert_eq!(columns, [Some(7), Some(11), Some(29)]);
+    let expected = Query::builder(3)
+        .pattern("A")
+        .define('A', [col(2).eq(col(0).prev(1))])
+        .measure(Measure::last(0).of('A'))
+        .measure(Measure::sum(1));
+    assert_eq!(read.builder, expected);
+    // Without names the text's order counts, and any name is one.
+    let read = super::read(text).unwrap();
+    let columns: Vec<_> = read.columns.iter().map(|it| it.name.as_str()).collect();
+    assert_eq!(columns, ["col29", "col7", "c7", "col11"]);
+    let nine = "A: c0=1, c1=1, c2=1, c3=1, c4=1, c5=1, c6=1, c7=1\nB: c8=1";
+    let fault = read_with(&format!("pattern: A B\n{nine}"), &names).unwrap_err();
+    assert_eq!(
+        fault.to_string(),
+        "3:4: expected at most 8 different columns in one query, found `c8`"
+    );
+}
+
+#[test]
+fn likely_mistakes_are_warned_of() {
+    let warnings = |text: &str| -> Vec<String> {
+        let read = read_with(text, &names()).unwrap();
+        let told = |it: &Warning| format!("{}:{}: {}", it.line, it.column, it.message);
+        read.warnings.iter().map(told).collect()
+    };
+    assert_eq!(warnings("pattern: A B\nA: c0 = 1\nB: true"), [""; 0]);
+    assert_eq!(
+        warnings("pattern: A B B\nA: c0 = 1\nC: c0 = 2"),
+        [
+            "1:12: B has no DEFINE, so it holds at every row (`B: true` says so)",
+            "3:1: the pattern has no C, so its DEFINE has no effect"
+        ]
+    );
 }
 
 #[test]
 fn lines_stand_in_any_order() {
     let one = builder("measures: SUM(c1)\nskip: to next row\nA: c0 = 1\npattern: A\n");
-    let expected = Query::builder(3)
+    let expected = Query::builder(2)
         .pattern("A")
         .define('A', [col(0).eq(1)])
         .skip(Skip::ToNextRow)
@@ -105,11 +252,11 @@ fn lines_stand_in_any_order() {
     assert_eq!(one, expected);
     assert_eq!(
         builder("  pattern :  A B  \r\n"),
-        Query::builder(3).pattern("A B")
+        Query::builder(1).pattern("A B")
     );
     assert_eq!(
         builder("pattern: A\nskip:  To  NEXT row"),
-        Query::builder(3).pattern("A").skip(Skip::ToNextRow)
+        Query::builder(1).pattern("A").skip(Skip::ToNextRow)
     );
 }
 
@@ -125,54 +272,55 @@ fn skips_of_every_form() {
         ("To Last A", Skip::ToLast('A')),
     ] {
         for key in ["skip:", "AFTER MATCH SKIP ", " after  Match skip\t"] {
-            let read = read(&format!("pattern: A\n{key}{text}"), &names()).unwrap();
-            let expected = Query::builder(3).pattern("A").skip(skip);
+            let read = read_with(&format!("pattern: A\n{key}{text}"), &names()).unwrap();
+            let expected = Query::builder(1).pattern("A").skip(skip);
             assert_eq!((read.builder, read.skip), (expected, skip), "{key} {text}");
-            assert_eq!(read.skip_line.unwrap().number, 2, "{key} {text}");
+            assert_eq!(read.parts.skip.unwrap().line, 2, "{key} {text}");
         }
     }
-    let none = read("pattern: A", &names()).unwrap();
-    assert_eq!((none.skip, none.skip_line), (Skip::PastLastRow, None));
+    let none = read_with("pattern: A", &names()).unwrap();
+    assert_eq!((none.skip, none.parts.skip), (Skip::PastLastRow, None));
 }
 
 /// Of the two lines that can name a letter which the pattern does not have, the skip's comes first.
 #[test]
 fn the_line_with_a_strange_letter() {
     let line = |text: &str| {
-        let read = read(text, &names()).unwrap();
-        read.strange_letter().map(|line| line.key.clone())
+        let read = read_with(text, &names()).unwrap();
+        read.strange_letter().map(|part| part.line)
     };
-    let (skip, measures) = (String::from("skip"), String::from("measures"));
     let text = |skip: &str| format!("pattern: A B\nskip: {skip}\nmeasures: COUNT(C)");
-    assert_eq!(line(&text("to last B")), Some(measures.clone()));
-    assert_eq!(line(&text("to next row")), Some(measures));
-    assert_eq!(line(&text("to first C")), Some(skip.clone()));
-    assert_eq!(line("skip: to last C\npattern: A # C"), Some(skip));
+    assert_eq!(line(&text("to last B")), Some(3));
+    assert_eq!(line(&text("to next row")), Some(3));
+    assert_eq!(line(&text("to first C")), Some(2));
+    assert_eq!(line("skip: to last C\npattern: A # C"), Some(1));
     assert_eq!(line("pattern: A\nskip: to last A"), None);
 }
 
 #[test]
 fn every_line_end_ends_a_line() {
     let text = "# W1\npattern: A # one\nA: c0 = 1\n\nmeasures: COUNT(A)\n";
-    let expected = read(text, &names()).unwrap();
+    let expected = read_with(text, &names()).unwrap();
     for end in ["\r\n", "\r"] {
         assert_eq!(
-            read(&text.replace('\n', end), &names()),
+            read_with(&text.replace('\n', end), &names()),
             Ok(expected.clone()),
             "{end:?}"
         );
     }
     assert_eq!(
-        read("# W1\rhello\r", &names()).unwrap_err().to_string(),
+        read_with("# W1\rhello\r", &names())
+            .unwrap_err()
+            .to_string(),
         format!("2:1: expected {KEYS}, found `hello`")
     );
 }
 
 #[test]
 fn measures_of_every_form() {
-    let read = read(
+    let read = read_with(
         "pattern: A\nmeasures: count(*), COUNT(A.*), Min(A.event), MAX(c0), \
-         first(\"base number\"), AVG(A.time), avg(c1)",
+         first(\"base number\"), AVG(A.time) AS mean, avg(c1), COUNT(*)",
         &names(),
     );
     let read = read.unwrap();
@@ -184,6 +332,7 @@ fn measures_of_every_form() {
         Measure::first(2),
         Measure::avg(0).of('A'),
         Measure::avg(1),
+        Measure::count(),
     ];
     let expected = expected
         .into_iter()
@@ -197,25 +346,33 @@ fn measures_of_every_form() {
             "MIN(A.event)",
             "MAX(time)",
             "FIRST(base number)",
-            "AVG(A.time)",
-            "AVG(event)"
+            "mean",
+            "AVG(event)",
+            "COUNT(*) (2)"
         ]
     );
 }
 
 #[test]
 fn names_that_are_words_of_the_language_too() {
-    let names = ["PREV", "next", "A", "c3"].map(String::from);
-    let read = read(
-        "pattern: A\nA: PREV = next(PREV), A > c3\nmeasures: LAST(A.A), SUM(A)",
+    let names = ["PREV", "next", "A", "c3", "true", "define"].map(String::from);
+    let read = read_with(
+        "pattern: A\nA: PREV = next(PREV), A > c3, true = define\nmeasures: LAST(A.A), SUM(A)",
         &names,
     )
     .unwrap();
-    let expected = Query::builder(4)
+    let expected = Query::builder(5)
         .pattern("A")
-        .define('A', [col(0).eq(col(0).next(1)), col(2).gt(col(3))])
-        .measure(Measure::last(2).of('A'))
-        .measure(Measure::sum(2));
+        .define(
+            'A',
+            [
+                col(0).eq(col(0).next(1)),
+                col(1).gt(col(2)),
+                col(3).eq(col(4)),
+            ],
+        )
+        .measure(Measure::last(1).of('A'))
+        .measure(Measure::sum(1));
     assert_eq!(read.builder, expected);
 }
 
@@ -228,17 +385,49 @@ fn what_the_library_judges_is_left_to_it() {
         "pattern: A\nmeasures: COUNT(B)",
         "pattern: A\nskip: to first B",
     ] {
-        assert!(read(text, &names()).is_ok(), "{text}");
+        let read = read_with(text, &names()).unwrap();
+        let fault = read.build().unwrap_err();
+        let last = lines(text).count();
+        assert!(fault.line == last && fault.column >= 1, "{text}: {fault}");
     }
 }
 
 #[test]
 fn a_hash_in_quotes_is_no_comment() {
     let names = [String::from("a#b")];
-    let read = read("pattern: A # A\nA: \"a#b\" = 1 # \"", &names).unwrap();
+    let read = read_with("pattern: A # A\nA: \"a#b\" = 1 # \"", &names).unwrap();
     assert_eq!(
         read.builder,
         Query::builder(1).pattern("A").define('A', [col(0).eq(1)])
+    );
+}
+
+#[test]
+fn faults_of_clauses() {
+    let sql = |text: &str| read_with(text, &names()).unwrap_err().to_string();
+    assert_eq!(
+        sql("PATTERN (A)\nDEFINE A AS time > 1,"),
+        "3:1: expected a letter A to Z and `AS`, found the end of the query"
+    );
+    assert_eq!(
+        sql("PATTERN (A)\nDEFINE A AS B.time > 1"),
+        "2:13: expected A in front of the dot, since a DEFINE sees its own rows, found `B`"
+    );
+    assert_eq!(
+        sql("PATTERN (A)\nPATTERN (B)"),
+        "2:1: expected one `PATTERN` only, found `PATTERN`"
+    );
+    assert_eq!(
+        sql("PATTERN (A) DEFINE A AS time = 1 time = 2"),
+        format!("1:34: expected {KEYS}, found `time`")
+    );
+    assert_eq!(
+        sql("PATTERN (STRT DOWN+)\nDEFINE DOWN AS time > 1"),
+        "2:8: expected a letter A to Z and `AS`, found `DOWN`"
+    );
+    assert_eq!(
+        sql("PATTERN (A) ORDER BY time, event"),
+        "1:26: expected one column to order by, found `,`"
     );
 }
 
@@ -250,30 +439,30 @@ fn faults_of_lines() {
     );
     assert_eq!(
         fault("  ab: c0 = 1"),
-        format!("2:3: expected {KEYS}, found `ab`")
+        format!("2:3: expected {KEYS}, or {COLUMNS}, found `ab`")
     );
     assert_eq!(
         fault("a: c0 = 1"),
-        format!("2:1: expected {KEYS}, found `a`")
+        format!("2:1: expected {KEYS}, or {COLUMNS}, found `a`")
     );
     assert_eq!(
         fault(": c0 = 1"),
-        format!("2:1: expected {KEYS}, found nothing")
+        format!("2:1: expected {KEYS}, found `:`")
     );
     assert_eq!(
         fault("pattern: B"),
-        "2:1: expected one `pattern:` line only, found `pattern`"
+        "2:1: expected one `pattern:` only, found `pattern`"
     );
     assert_eq!(
         fault("skip: to next row\nskip: to next row"),
-        "3:1: expected one `skip:` line only, found `skip`"
+        "3:1: expected one `skip:` only, found `skip`"
     );
-    let missing = read("A: c0 = 1\n# pattern: A\n", &names()).unwrap_err();
+    let missing = read_with("A: c0 = 1\n# pattern: A\n", &names()).unwrap_err();
     assert_eq!(
         missing.to_string(),
         "3:1: expected a `pattern:` line, found the end of the file"
     );
-    let long = read(&format!("pattern: {}", "A ".repeat(129)), &names()).unwrap_err();
+    let long = read_with(&format!("pattern: {}", "A ".repeat(129)), &names()).unwrap_err();
     assert_eq!(
         (long.line, long.column, long.expected.as_str()),
         (1, 10, "a pattern of at most 256 bytes")
@@ -308,7 +497,7 @@ fn faults_of_skips() {
         ),
         ("skip: to last row", "2:15", "a letter A to Z", "`row`"),
         ("skip: to last a", "2:15", "a letter A to Z", "`a`"),
-        ("skip: to last 'A'", "2:15", "a letter A to Z", "'\\''"),
+        ("skip: to last 'A'", "2:15", "a letter A to Z", "`'A'`"),
         ("skip: to first AB", "2:16", "a letter A to Z", "`AB`"),
         ("skip: to first A, B", "2:17", "the end of the line", "`,`"),
         ("skip: to next row A", "2:19", "the end of the line", "`A`"),
@@ -320,7 +509,7 @@ fn faults_of_skips() {
 
 #[test]
 fn faults_of_comparisons() {
-    let columns = "a column (c0 or time, c1 or event, c2 or \"base number\")";
+    let columns = COLUMNS;
     assert_eq!(
         fault("A:"),
         format!("2:3: expected {columns}, found the end of the line")
@@ -400,7 +589,24 @@ fn faults_of_comparisons() {
     );
     assert_eq!(
         fault("A: c0 = 1 OR c0 = 2"),
-        "2:11: expected a comma, AND, or the end of the line, found `OR`"
+        "2:11: expected a comma, AND, or the end of the line, since OR is not supported yet, \
+         found `OR`"
+    );
+    assert_eq!(
+        fault("A: NOT c0 = 1"),
+        format!("2:4: expected {columns}, since NOT is not supported yet, found `NOT`")
+    );
+    assert_eq!(
+        fault("A: (c0 = 1)"),
+        format!("2:4: expected {columns}, since parentheses are not supported yet, found `(`")
+    );
+    assert_eq!(
+        fault("A: c0 BETWEEN 1 AND 2"),
+        "2:7: expected one of = <> < <= > >=, since BETWEEN is not supported yet, found `BETWEEN`"
+    );
+    assert_eq!(
+        fault("A: c0 = 'x"),
+        "2:9: expected a closing quote behind this one, found '\\''"
     );
     assert_eq!(
         fault("A: c0 = 1,"),
@@ -419,7 +625,7 @@ fn faults_of_comparisons() {
 
 #[test]
 fn faults_of_measures() {
-    let columns = "a column (c0 or time, c1 or event, c2 or \"base number\")";
+    let columns = COLUMNS;
     let measure = "a measure: COUNT, SUM, MIN, MAX, FIRST, LAST or AVG";
     assert_eq!(
         fault("measures:"),
@@ -511,6 +717,15 @@ fn no_text_is_too_odd() {
         "to",
         "first",
         "last A",
+        "PATTERN (",
+        "DEFINE A AS",
+        "MEASURES",
+        "AS",
+        "'",
+        "--",
+        "AFTER MATCH SKIP",
+        "ORDER BY",
+        "true",
     ];
     let mut seed: u64 = 1;
     for _ in 0..40_000 {
@@ -521,7 +736,7 @@ fn no_text_is_too_odd() {
                 .wrapping_add(1_442_695_040_888_963_407);
             text.push_str(pieces[(seed >> 33) as usize % pieces.len()]);
         }
-        if let Err(fault) = read(&text, &names()) {
+        if let Err(fault) = read_with(&text, &names()).and_then(|read| read.build().map(|_| read)) {
             assert!(
                 fault.line >= 1 && fault.line <= lines(&text).count() + 1,
                 "{text:?}"
@@ -533,6 +748,5 @@ fn no_text_is_too_odd() {
             );
             let _ = fault.marked(&text).to_string();
         }
-        let _ = crate::csv::read(&text);
     }
 }

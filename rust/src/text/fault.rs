@@ -4,19 +4,24 @@
 
 use std::fmt;
 
-use crate::lines::lines;
-use crate::width::of_character;
+use super::lines::lines;
+use super::width::of_character;
 
 /// One fault. Reading stops at the first.
 #[derive(Clone, Debug, PartialEq, Eq)]
 pub struct Fault {
+    /// The line, from 1.
     pub line: usize,
+    /// The column in that line, from 1, in characters.
     pub column: usize,
+    /// What was expected there, in words.
     pub expected: String,
+    /// What stands there, in words.
     pub found: String,
 }
 
 impl Fault {
+    /// A fault at this line and column.
     pub fn new(
         line: usize,
         column: usize,
@@ -50,6 +55,8 @@ impl fmt::Display for Fault {
         write!(f, "{line}:{column}: expected {expected}, found {found}")
     }
 }
+
+impl std::error::Error for Fault {}
 
 /// A fault in its text; see [`Fault::marked`].
 pub struct Marked<'a> {
@@ -126,22 +133,25 @@ pub fn visible(text: &str) -> String {
 
 /// Whether a character steers a screen: control characters, and those that turn the direction of
 /// writing or part lines.
-fn upsets(c: char) -> bool {
+pub fn upsets(c: char) -> bool {
     let turns = matches!(c, '\u{61C}' | '\u{200E}' | '\u{200F}' | '\u{2028}'..='\u{202E}' | '\u{2066}'..='\u{2069}');
     c.is_control() || turns
 }
 
 /// A piece of text as a fault shows it: quoted, and cut if it is long.
 pub fn shown(text: &str) -> String {
-    const LONGEST: usize = 40;
-    match text.chars().count() {
-        0 => String::from("nothing"),
-        length if length > LONGEST => {
-            let cut: String = text.chars().take(LONGEST).collect();
-            format!("`{}...`", visible(&cut))
-        }
-        _ => format!("`{}`", visible(text)),
+    match text.is_empty() {
+        true => String::from("nothing"),
+        false => format!("`{}`", cut(text)),
     }
+}
+
+/// The front of a text, with dots behind it where there is more.
+pub fn cut(text: &str) -> String {
+    const LONGEST: usize = 40;
+    let front: String = text.chars().take(LONGEST).collect();
+    let dots = if front.len() < text.len() { "..." } else { "" };
+    format!("{}{dots}", visible(&front))
 }
 
 #[cfg(test)]

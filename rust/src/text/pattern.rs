@@ -1,34 +1,84 @@
-//! Where a pattern's text is wrong and what could stand there. The library says both: this module
-//! only finds the place in the line and the words for what stands there. Tested here and in
-//! tests/command.rs.
+//! A pattern's text with the place of each of its bytes, and where it is wrong and what could stand
+//! there. The library says both: this module only finds the place in the query and the words for
+//! what stands there. Tested here and in tests/command.rs.
 
-use mireladle::{Error, Query};
+use super::fault::{visible, Fault};
+use crate::{Error, Query};
 
-use crate::fault::{visible, Fault};
-use crate::query_text::Shown;
+/// The most bytes that a pattern can have.
+pub const LONGEST_PATTERN: usize = 256;
 
-/// What is wrong in a pattern's line: the library's refusal 5 or 14, and the place with what was
-/// expected and found. None of a pattern that is not refused so.
-///
-/// The library is asked anew, since a program that refused the pattern does not tell the place.
-pub fn wrong(line: &Shown) -> Option<(Error, Fault)> {
-    let error = Query::builder(1).pattern(&*line.rest).build().err()?;
-    let (Error::NotAPattern { offset, expected } | Error::PatternEnds { offset, expected }) = error
-    else {
-        return None;
-    };
-    let before = |(at, _): &(usize, char)| u64::try_from(*at).is_ok_and(|at| at < offset);
-    let mut behind = line.rest.char_indices().skip_while(before);
-    let found = behind
-        .next()
-        .map_or(String::from("the end of the pattern"), |(_, c)| in_words(c));
-    let column = line.rest.char_indices().take_while(before).count();
-    let expected = expected.map_or(
-        String::from("more, but a pattern has at most 256 bytes"),
-        |expected| expected.to_string(),
-    );
-    let column = line.column.saturating_add(column);
-    Some((error, Fault::new(line.number, column, expected, found)))
+/// A pattern's text.
+#[derive(Clone, Debug, PartialEq, Eq)]
+pub struct PatternText {
+    pub text: String,
+    /// Line and column of each byte, and of what stands behind the last.
+    places: Vec<(usize, usize)>,
+    end: (usize, usize),
+}
+
+impl PatternText {
+    /// A text without characters, which ends at this place.
+    pub fn new(end: (usize, usize)) -> PatternText {
+        PatternText {
+            text: String::new(),
+            places: Vec::new(),
+            end,
+        }
+    }
+
+    /// One more character, which stands at this place.
+    pub fn push(&mut self, c: char, place: (usize, usize)) {
+        self.text.push(c);
+        self.places.resize(self.text.len(), place);
+    }
+
+    /// The same text, ending at this place.
+    pub fn ending(mut self, end: (usize, usize)) -> PatternText {
+        self.end = end;
+        self
+    }
+
+    /// The text without spaces at its ends.
+    pub fn trimmed(mut self) -> PatternText {
+        let kept = self.text.trim_end_matches(' ').len();
+        if let Some(place) = self.places.get(kept) {
+            self.end = *place;
+        }
+        self.text.truncate(kept);
+        self.places.truncate(kept);
+        let front = kept.saturating_sub(self.text.trim_start_matches(' ').len());
+        self.text.drain(..front);
+        self.places.drain(..front);
+        self
+    }
+
+    /// The place of a byte.
+    pub fn place(&self, byte: usize) -> (usize, usize) {
+        self.places.get(byte).copied().unwrap_or(self.end)
+    }
+
+    /// What is wrong in the text: the library's refusal 5 or 14, and the place with what was
+    /// expected and found. None of a pattern that is not refused so.
+    ///
+    /// The library is asked anew, since a program that refused the pattern does not tell the place.
+    pub fn wrong(&self) -> Option<(Error, Fault)> {
+        let error = Query::builder(1).pattern(&*self.text).build().err()?;
+        let (Error::NotAPattern { offset, expected } | Error::PatternEnds { offset, expected }) =
+            error
+        else {
+            return None;
+        };
+        let offset = usize::try_from(offset).ok()?;
+        let found = self.text.char_indices().find(|(at, _)| *at >= offset);
+        let found = found.map_or(String::from("the end of the pattern"), |(_, c)| in_words(c));
+        let expected = expected.map_or(
+            String::from("more, but a pattern has at most 256 bytes"),
+            |expected| expected.to_string(),
+        );
+        let (line, column) = self.place(offset);
+        Some((error, Fault::new(line, column, expected, found)))
+    }
 }
 
 /// A character so that it can be seen which one it is: other scripts have letters that look like
@@ -52,14 +102,14 @@ mod tests {
 
     /// The place, in a line where the pattern begins at column 10.
     fn place(pattern: &str) -> Option<String> {
-        let line = Shown {
-            number: 3,
-            line: format!("pattern: {pattern}"),
-            key: String::from("pattern"),
-            rest: String::from(pattern),
-            column: 10,
-        };
-        wrong(&line).map(|(_, fault)| fault.to_string())
+        let place = |(at, c): (usize, char)| (at, c, (3, 10 + at));
+        let characters: Vec<_> = pattern.chars().enumerate().map(place).collect();
+        let end = (3, 10 + characters.len());
+        let mut text = PatternText::new(end);
+        characters
+            .iter()
+            .for_each(|(_, c, place)| text.push(*c, *place));
+        text.wrong().map(|(_, fault)| fault.to_string())
     }
 
     #[test]

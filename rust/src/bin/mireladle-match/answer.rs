@@ -1,0 +1,319 @@
+//! Answers: each partition is searched and told as a table, as JSON or as CSV, or only counted. What
+//! the whole comes to is kept in a [`Tally`], from which the exit status follows.
+
+mod csv;
+mod json;
+mod table;
+
+use std::path::Path;
+
+use mireladle::text::screen::visible;
+use mireladle::text::QueryText;
+use mireladle::{Ending, Error, Query, Report, Rows};
+
+use crate::arguments::{Answer, Search, Searcher};
+use crate::failure::{named, refused, Failure, MATCH, NO_MATCH, STOPPED, WRONG};
+use crate::input::{fields_of, Record};
+use crate::layout::Layout;
+use crate::partitions::{Close, Partition, MOST_ROWS};
+use crate::program::{self, Failed};
+use crate::terminal::{tell, Style};
+
+/// What all searches came to.
+#[derive(Default)]
+pub struct Tally {
+    pub matches: u64,
+    pub partitions: u64,
+    pub with_matches: u64,
+    pub refused: bool,
+    pub stopped: bool,
+}
+
+impl Tally {
+    pub fn status(&self) -> u8 {
+        match self {
+            Tally { refused: true, .. } => WRONG,
+            Tally { stopped: true, .. } => STOPPED,
+            Tally { matches: 0, .. } => NO_MATCH,
+            _ => MATCH,
+        }
+    }
+}
+
+/// The query's text, where it comes from, and what it means.
+pub struct Asked {
+    pub path: String,
+    pub source: String,
+    pub text: QueryText,
+}
+
+/// What searches and tells.
+pub struct Answering<'a> {
+    pub search: &'a Search,
+    pub asked: &'a Asked,
+    pub layout: &'a Layout,
+    pub style: Style,
+    query: Option<Query>,
+    pub tally: Tally,
+}
+
+/// One partition that was searched.
+struct Searched<'a> {
+    partition: &'a Partition,
+    report: &'a Report,
+    rows: usize,
+}
+
+impl<'a> Answering<'a> {
+    /// Has the library judge the query first.
+    pub fn new(
+        search: &'a Search,
+        asked: &'a Asked,
+        layout: &'a Layout,
+        style: Style,
+    ) -> Result<Answering<'a>, Failure> {
+        let query = match search.by {
+            Searcher::Program(_) => None,
+            Searcher::Library(_) if search.answer == Answer::Bytes => None,
+            Searcher::Library(_) => {
+                let query = Query::from_bytes(asked.text.builder.to_bytes());
+                Some(query.map_err(|error| Self::refusal(asked, error))?)
+            }
+        };
+        Ok(Answering {
+            search,
+            asked,
+            layout,
+            style,
+            query,
+            tally: Tally::default(),
+        })
+    }
+
+    fn refusal(asked: &Asked, error: Error) -> Failure {
+        refused(error, &asked.path, &asked.source, &asked.text)
+    }
+
+    /// Whether records have to be kept to be told.
+    pub fn keeps_records(search: &Search, text: &QueryText) -> bool {
+        let rows = search.rows_of_matches || text.all_rows;
+        match search.answer {
+            Answer::Table => true,
+            Answer::Json | Answer::Csv => rows,
+            Answer::Count | Answer::Quiet | Answer::Bytes => false,
+        }
+    }
+
+    /// Whether each row of a match is told.
+    fn tells_rows(&self) -> bool {
+        self.search.rows_of_matches || self.asked.text.all_rows
+    }
+
+    /// Whether the answer is known before the end of the file.
+    pub fn has_enough(&self) -> bool {
+        self.search.answer == Answer::Quiet && self.tally.matches > 0
+    }
+
+    /// What stands in front of all partitions.
+    pub fn head(&self) -> Vec<u8> {
+        match (self.search.answer, self.tells_rows()) {
+            (Answer::Csv, false) => csv::match_head(self),
+            (Answer::Csv, true) => csv::row_head(self),
+            _ => Vec::new(),
+        }
+    }
+
+    /// What stands behind all partitions.
+    pub fn foot(&self) -> Vec<u8> {
+        match self.search.answer {
+            Answer::Table if !self.layout.partition.is_empty() => table::foot(&self.tally),
+            Answer::Count => format!("{}\n", self.tally.matches).into_bytes(),
+            _ => Vec::new(),
+        }
+    }
+
+    /// The report of a partition.
+    fn report(&self, partition: &Partition) -> Result<Report, Failure> {
+        let columns = u8::try_from(self.layout.entries()).unwrap_or(u8::MAX);
+        match (&self.search.by, &self.query) {
+            (Searcher::Library(limits), Some(query)) => {
+                let rows = Rows::new(&partition.entries, columns);
+                let report = query.search_within(rows, *limits);
+                report.map_err(|error| Self::refusal(self.asked, error))
+            }
+            (Searcher::Program(path), _) => self.by_program(path, partition),
+            (Searcher::Library(_), None) => {
+                Err(Self::refusal(self.asked, Error::OtherLibrary { answer: 0 }))
+            }
+        }
+    }
+
+    fn by_program(&self, path: &Path, partition: &Partition) -> Result<Report, Failure> {
+        let input = self.program_input(partition);
+        let text = &self.asked.text;
+        let searched = program::search(path, input, text.titles.len(), text.skip);
+        searched.map_err(|failed| match failed {
+            Failed::Refused(error) => Self::refusal(self.asked, error),
+            other => Failure::Program {
+                path: path.to_path_buf(),
+                reason: other.reason(),
+            },
+        })
+    }
+
+    /// The standard input of the program `mireladle`: the query's length in 2 bytes, the query, the
+    /// entries in 4 bytes each.
+    fn program_input(&self, partition: &Partition) -> Vec<u8> {
+        let query = self.asked.text.builder.to_bytes();
+        // What the reader lets through is far shorter than that.
+        let length = u16::try_from(query.len()).unwrap_or(u16::MAX);
+        let mut bytes = length.to_le_bytes().to_vec();
+        bytes.extend_from_slice(&query);
+        let entries = partition.entries.iter();
+        bytes.extend(entries.flat_map(|entry| entry.to_le_bytes()));
+        bytes
+    }
+
+    /// A partition by its name: `bus=17, day=3`.
+    fn name(&self, partition: &Partition) -> String {
+        let named = self.layout.partition.iter().zip(&partition.values);
+        let part = |(column, value): (&usize, &Vec<u8>)| {
+            let name = self.layout.names.get(*column).map_or("", String::as_str);
+            format!("{name}={}", String::from_utf8_lossy(value))
+        };
+        let parts: Vec<String> = named.map(part).collect();
+        visible(&parts.join(", "))
+    }
+
+    /// Why a partition is refused, and what to do about it.
+    fn too_large(&self, partition: &Partition, more_to_come: bool) -> String {
+        let path = named(&self.search.rows);
+        let more = if more_to_come { "more than " } else { "" };
+        let count = match more_to_come {
+            true => MOST_ROWS,
+            false => partition.count,
+        };
+        let (what, how) = match self.layout.partition.is_empty() {
+            true => (path, String::from("part it by --partition-by COLUMN")),
+            false => {
+                let columns = self.layout.partition.iter();
+                let names = columns.filter_map(|column| self.layout.names.get(*column).cloned());
+                let names: Vec<String> = names.collect();
+                let how = format!(
+                    "part it further, by --partition-by {},COLUMN",
+                    names.join(",")
+                );
+                (format!("{} of {path}", self.name(partition)), visible(&how))
+            }
+        };
+        format!(
+            "refused 10: {what} has {more}{} rows, and a search takes at most 4,096; {how}, such \
+             as a day, or search a part of the file",
+            grouped(count)
+        )
+    }
+
+    /// The refusal of rows that are not parted, where not all of them were read.
+    pub fn refuse_all(&self) -> Failure {
+        Failure::Rows(self.too_large(&Partition::default(), true))
+    }
+
+    fn tell(&self, searched: &Searched<'_>) -> Vec<u8> {
+        match (self.search.answer, self.tells_rows()) {
+            (Answer::Table, false) => table::matches(self, searched),
+            (Answer::Table, true) => table::rows(self, searched),
+            (Answer::Json, false) => json::matches(self, searched),
+            (Answer::Json, true) => json::rows(self, searched),
+            (Answer::Csv, false) => csv::matches(self, searched),
+            (Answer::Csv, true) => csv::rows(self, searched),
+            (Answer::Count | Answer::Quiet | Answer::Bytes, _) => Vec::new(),
+        }
+    }
+}
+
+impl Close for Answering<'_> {
+    type Error = Failure;
+
+    fn close(&mut self, partition: Partition) -> Result<Vec<u8>, Failure> {
+        self.tally.partitions = self.tally.partitions.saturating_add(1);
+        if partition.count > MOST_ROWS {
+            self.tally.refused = true;
+            tell(&self.too_large(&partition, false));
+            return Ok(Vec::new());
+        }
+        if self.search.answer == Answer::Bytes {
+            // There is something to write: that counts as found.
+            self.tally.matches = 1;
+            return Ok(self.program_input(&partition));
+        }
+        let report = self.report(&partition)?;
+        let found = u64::try_from(report.len()).unwrap_or(u64::MAX);
+        self.tally.matches = self.tally.matches.saturating_add(found);
+        let with = u64::from(found > 0);
+        self.tally.with_matches = self.tally.with_matches.saturating_add(with);
+        self.tally.stopped |= report.ending() != Ending::Done;
+        Ok(self.tell(&Searched {
+            partition: &partition,
+            report: &report,
+            rows: partition.lines.len(),
+        }))
+    }
+}
+
+impl Searched<'_> {
+    /// The cells of a row as they stand in the file.
+    fn cells(&self, row: usize, delimiter: u8) -> Vec<Vec<u8>> {
+        let bytes = self.partition.record(row);
+        let fields = fields_of(bytes, delimiter);
+        let record = Record {
+            line: 0,
+            bytes,
+            fields: &fields,
+        };
+        let cell = |index| record.cell(index).into_owned();
+        (0..fields.len()).map(cell).collect()
+    }
+
+    /// The line where a row stands; of one behind the last row the line behind it.
+    fn line(&self, row: usize) -> u64 {
+        self.partition.lines.get(row).copied().unwrap_or(0)
+    }
+
+    /// Each row of each match with the match's number and the row's label; of a match that takes no
+    /// row the row where it was found, without label.
+    fn labelled(&self) -> impl Iterator<Item = (usize, usize, Option<char>)> + '_ {
+        self.report.matches().flat_map(|found| {
+            let empty = found.is_empty().then_some((found.first_row(), None));
+            let rows = found.labelled_rows().map(|(row, label)| (row, Some(label)));
+            let number = found.number();
+            rows.chain(empty)
+                .map(move |(row, label)| (number, row, label))
+        })
+    }
+}
+
+/// Names that all differ: where one stands already, a number is put behind it.
+fn distinct(names: impl IntoIterator<Item = String>) -> Vec<String> {
+    let mut all: Vec<String> = Vec::new();
+    for name in names {
+        let numbered = (2..).map(|number: u32| format!("{name}_{number}"));
+        let mut free = std::iter::once(name.clone()).chain(numbered);
+        let name = free.find(|name| !all.contains(name)).unwrap_or(name);
+        all.push(name);
+    }
+    all
+}
+
+/// A number with commas between its thousands.
+pub fn grouped(number: u64) -> String {
+    let digits = number.to_string();
+    let mut text = String::new();
+    for (at, digit) in digits.chars().enumerate() {
+        let left = digits.len().saturating_sub(at);
+        if at > 0 && left.checked_rem(3) == Some(0) {
+            text.push(',');
+        }
+        text.push(digit);
+    }
+    text
+}

@@ -1,0 +1,149 @@
+//! Matches and rows as JSON, one object to a line. A cell of the file that is written as JSON writes
+//! a whole number is one, any other is a string; null is null. What would upset a terminal is
+//! escaped, and bytes that are no text become U+FFFD.
+
+use super::{distinct, Answering, Searched};
+
+pub fn matches(answering: &Answering<'_>, searched: &Searched<'_>) -> Vec<u8> {
+    let mut text = String::new();
+    let partition = partition(answering, searched);
+    let titles = &answering.asked.text.titles;
+    for found in searched.report {
+        text.push('{');
+        text.push_str(&partition);
+        text.push_str(&format!(
+            "\"match\":{},\"first_line\":{},\"first_row\":{},\"rows\":{},\"labels\":\"{}\",\
+             \"measures\":{{",
+            found.number(),
+            searched.line(found.first_row()),
+            found.first_row(),
+            found.len(),
+            found.labels()
+        ));
+        for (index, (title, measure)) in titles.iter().zip(found.measures()).enumerate() {
+            let gap = if index == 0 { "" } else { "," };
+            text.push_str(gap);
+            string(&mut text, title);
+            match measure {
+                Some(number) => text.push_str(&format!(":{number}")),
+                None => text.push_str(":null"),
+            }
+        }
+        text.push_str("}}\n");
+    }
+    text.into_bytes()
+}
+
+pub fn rows(answering: &Answering<'_>, searched: &Searched<'_>) -> Vec<u8> {
+    let mut text = String::new();
+    let names = ["match", "label", "line", "row"].map(String::from);
+    let names = names
+        .into_iter()
+        .chain(answering.layout.names.iter().cloned());
+    let names = distinct(names);
+    for (number, row, label) in searched.labelled() {
+        let line = searched.line(row);
+        let label = label.map_or(String::from("null"), |label| format!("\"{label}\""));
+        text.push_str(&format!(
+            "{{\"match\":{number},\"label\":{label},\"line\":{line},\"row\":{row}"
+        ));
+        let cells = searched.cells(row, answering.search.delimiter);
+        for (name, cell) in names.iter().skip(4).zip(cells) {
+            text.push(',');
+            string(&mut text, name);
+            text.push(':');
+            value(&mut text, &cell);
+        }
+        text.push_str("}\n");
+    }
+    text.into_bytes()
+}
+
+/// The partition as the first member of an object, with a comma behind it; nothing where the rows
+/// are not parted.
+fn partition(answering: &Answering<'_>, searched: &Searched<'_>) -> String {
+    let layout = answering.layout;
+    if layout.partition.is_empty() {
+        return String::new();
+    }
+    let mut text = String::from("\"partition\":{");
+    let columns = layout.partition.iter().zip(&searched.partition.values);
+    for (index, (column, cell)) in columns.enumerate() {
+        let gap = if index == 0 { "" } else { "," };
+        text.push_str(gap);
+        string(
+            &mut text,
+            layout.names.get(*column).map_or("", String::as_str),
+        );
+        text.push(':');
+        value(&mut text, cell);
+    }
+    text.push_str("},");
+    text
+}
+
+fn value(text: &mut String, cell: &[u8]) {
+    let cell = String::from_utf8_lossy(cell);
+    match is_number(&cell) {
+        true => text.push_str(&cell),
+        false => string(text, &cell),
+    }
+}
+
+/// Whether a cell is a whole number as JSON writes it, which every reader keeps exact.
+fn is_number(cell: &str) -> bool {
+    let digits = cell.strip_prefix('-').unwrap_or(cell);
+    let zero_in_front = digits.starts_with('0') && (digits.len() > 1 || digits.len() < cell.len());
+    let length = (1..=15).contains(&digits.len());
+    length && !zero_in_front && digits.bytes().all(|byte| byte.is_ascii_digit())
+}
+
+fn string(text: &mut String, content: &str) {
+    text.push('"');
+    for c in content.chars() {
+        match c {
+            '"' => text.push_str("\\\""),
+            '\\' => text.push_str("\\\\"),
+            '\n' => text.push_str("\\n"),
+            '\t' => text.push_str("\\t"),
+            _ if mireladle::text::screen::upsets(c) => {
+                text.push_str(&format!("\\u{:04x}", u32::from(c)));
+            }
+            _ => text.push(c),
+        }
+    }
+    text.push('"');
+}
+
+#[cfg(test)]
+mod tests {
+    use super::*;
+
+    #[test]
+    fn cells_are_numbers_where_json_writes_them_so() {
+        for number in ["0", "7", "-7", "123456789012345"] {
+            assert!(is_number(number), "{number}");
+        }
+        for text in [
+            "",
+            "-",
+            "007",
+            "-0",
+            "+7",
+            "1.0",
+            "1e3",
+            "1234567890123456",
+            "x",
+        ] {
+            assert!(!is_number(text), "{text}");
+        }
+    }
+
+    #[test]
+    fn strings_are_escaped() {
+        let mut text = String::new();
+        string(&mut text, "a\"b\\\n\t\u{1B}[2J\u{7F}\u{9B}\u{202E}\u{E9}");
+        let expected = r#""a\"b\\\n\t\u001b[2J\u007f\u009b\u202e"#;
+        assert_eq!(text, format!("{expected}\u{E9}\""));
+    }
+}

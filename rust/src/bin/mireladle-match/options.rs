@@ -1,0 +1,298 @@
+//! The one description of the command line, from which `--help`, the man page, the completions and
+//! the reader of arguments are made. An option that is not described here does not exist.
+
+/// One option.
+pub struct Described {
+    /// Its name behind `--`.
+    pub long: &'static str,
+    /// Its letter behind `-`.
+    pub short: Option<char>,
+    /// What its value is called; none where it takes none.
+    pub value: Option<&'static str>,
+    /// The values that it can have, where they are few.
+    pub choices: &'static [&'static str],
+    /// What it does, in lines of at most 76 characters.
+    pub help: &'static str,
+}
+
+/// A group of options under a heading.
+pub struct Group {
+    pub title: &'static str,
+    pub options: &'static [Described],
+}
+
+const fn flag(long: &'static str, short: Option<char>, help: &'static str) -> Described {
+    Described {
+        long,
+        short,
+        value: None,
+        choices: &[],
+        help,
+    }
+}
+
+const fn valued(
+    long: &'static str,
+    short: Option<char>,
+    value: &'static str,
+    help: &'static str,
+) -> Described {
+    Described {
+        long,
+        short,
+        value: Some(value),
+        choices: &[],
+        help,
+    }
+}
+
+const fn one_of(
+    long: &'static str,
+    short: Option<char>,
+    value: &'static str,
+    choices: &'static [&'static str],
+    help: &'static str,
+) -> Described {
+    Described {
+        long,
+        short,
+        value: Some(value),
+        choices,
+        help,
+    }
+}
+
+pub const GROUPS: &[Group] = &[
+    Group {
+        title: "Rows",
+        options: &[
+            valued(
+                "partition-by",
+                Some('p'),
+                "COLUMN[,COLUMN]",
+                "Search the rows of each value of these columns on their own: a log\n\
+                 of several buses by the bus. They may stand in any order among each\n\
+                 other. Each partition has at most 4,096 rows; one with more is\n\
+                 refused, and the others go on.",
+            ),
+            valued(
+                "order-by",
+                None,
+                "COLUMN",
+                "Check that the rows of each partition stand in the order of this\n\
+                 column, a number, a date or a time; equal ones keep their order. A row\n\
+                 that does not is an error, unless --sort is given.",
+            ),
+            flag(
+                "sort",
+                None,
+                "Sort the rows of each partition by the --order-by column.",
+            ),
+            flag(
+                "grouped",
+                None,
+                "The rows of each partition stand together: answer each partition when\n\
+                 the next begins, and keep none of them. A partition that begins again\n\
+                 is an error. For pipes; of a large file it is found out.",
+            ),
+            valued(
+                "delimiter",
+                Some('d'),
+                "CHARACTER",
+                "What parts the columns, in the place of a comma.",
+            ),
+            flag("tab", Some('t'), "Tabs part the columns."),
+            flag(
+                "no-header",
+                None,
+                "The first line is a row. The columns are called c0, c1 and so on.",
+            ),
+        ],
+    },
+    Group {
+        title: "Search",
+        options: &[
+            valued(
+                "query",
+                Some('e'),
+                "TEXT",
+                "The query itself, in the place of the file QUERY. Given several times,\n\
+                 each is a line.",
+            ),
+            valued(
+                "steps",
+                None,
+                "N",
+                "Search each partition in N steps at most, a whole number from 0 on, and\n\
+                 tell the matches found by then. A million take milliseconds. Past last\n\
+                 row no search takes many more than two million; with every other skip\n\
+                 one can take two thousand million, and so seconds.",
+            ),
+            valued(
+                "program",
+                None,
+                "PATH",
+                "Search by running the program `mireladle` there, not by the linked\n\
+                 library. It cannot be told how many steps to take.",
+            ),
+        ],
+    },
+    Group {
+        title: "Answer",
+        options: &[
+            one_of(
+                "format",
+                Some('f'),
+                "FORMAT",
+                &["table", "json", "csv"],
+                "How matches are told: as a table to be read (the default), or as one\n\
+                 record a match, in JSON, one to a line, or in CSV. A record has the\n\
+                 partition, the match's number in it, the line in the file and the row\n\
+                 in the partition where it begins, how many rows it takes, their labels,\n\
+                 and the measures by their titles.",
+            ),
+            flag(
+                "rows",
+                None,
+                "ALL ROWS PER MATCH: tell each row of each match, as it stands in the\n\
+                 file, with the match's number and the row's label.",
+            ),
+            flag(
+                "count",
+                Some('c'),
+                "Tell only how many matches there are in all.",
+            ),
+            flag(
+                "quiet",
+                Some('q'),
+                "Tell nothing; end at the first match, with exit status 0.",
+            ),
+            one_of(
+                "color",
+                None,
+                "WHEN",
+                &["auto", "always", "never"],
+                "Colours: on a terminal (auto, the default; never where NO_COLOR is\n\
+                 set), always or never.",
+            ),
+            flag(
+                "no-warnings",
+                None,
+                "Do not warn of letters without DEFINE and of DEFINEs without letter.",
+            ),
+            flag(
+                "bytes",
+                None,
+                "Write the query and the rows as the program `mireladle` reads them from\n\
+                 its standard input, and search nothing.",
+            ),
+        ],
+    },
+    Group {
+        title: "About",
+        options: &[
+            flag("help", Some('h'), "Print this."),
+            flag("version", Some('V'), "Print the version."),
+            flag("man", None, "Print the manual page, for man(1)."),
+            one_of(
+                "completions",
+                None,
+                "SHELL",
+                &["bash", "zsh", "fish"],
+                "Print the completions for a shell.",
+            ),
+        ],
+    },
+];
+
+/// All options.
+pub fn options() -> impl Iterator<Item = &'static Described> {
+    GROUPS.iter().flat_map(|group| group.options)
+}
+
+pub const NAME: &str = "mireladle-match";
+pub const SUMMARY: &str = "search rows for a row pattern (SQL's MATCH_RECOGNIZE)";
+pub const USAGES: [&str; 2] = ["[OPTIONS] QUERY ROWS", "[OPTIONS] -e TEXT [ROWS]"];
+
+/// Sections of text, each a heading and what stands below it.
+pub const SECTIONS: &[(&str, &str)] = &[
+    (
+        "Files",
+        "\
+ROWS is a CSV file, or `-` for standard input. The first line names the columns;
+of the others those that the query names hold whole numbers of 32 bits, dates and
+times, which count as whole seconds (2026-03-01, 2026-03-01T14:05:30Z, 14:05:30;
+dates from 1970 on), or texts that have codes. Other columns may hold anything.
+QUERY is a file with the query's text, or `-`.",
+    ),
+    (
+        "Query",
+        "\
+Lines in any order; # or -- begins a comment.
+  pattern: A+ B
+  A: c0 > PREV(c0)
+  B: price < PREV(price), event <> 'refused'
+  C: c1 = 3 AND c0 <= NEXT(c0, 2) + 5
+  event: offered=1, refused=2, accepted=3, *=0
+  skip: past last row
+  measures: COUNT(A), LAST(B.price) AS lowest, SUM(c1)
+SQL's clauses do as well, in capitals or not and over several lines:
+  PARTITION BY bus  ORDER BY time
+  MEASURES LAST(B.price) AS lowest
+  AFTER MATCH SKIP PAST LAST ROW
+  PATTERN (A+ B)
+  DEFINE A AS price > PREV(price), B AS price < PREV(price) AND event <> 'refused'
+A pattern is made of letters A to Z, two of them parted by a space; ^ before
+the first row and $ behind the last; () for nothing; branches with |, the
+left one tried first; parentheses; and * + ? {n} {n,} {,m} {n,m} with bounds
+up to 99, which take as many rows as they can, or as few with a ? behind.
+A letter holds at a row where all its comparisons are met; one without a
+line of its own, or with `true`, holds at every row. A column is c0, c1 and so on,
+or its name in ROWS, in double quotes where it has spaces; a query names at most
+8. Comparisons are = <> < <= > >=, with a number, a text in single quotes, a
+column, or a column plus or minus a number. A text stands for its code in the
+column's line of codes, where *=0 gives 0 to all texts that it does not name.
+skip is `past last row` (also where the line is missing), `to next row`,
+`to first A` or `to last A`: at which row the search goes on behind a match, here
+its first or last row labelled A. That row has to lie behind the match's first.
+Measures are COUNT, SUM, MIN, MAX, FIRST, LAST, AVG; over all rows of the match
+(COUNT(*)), or over those with one letter. Over no rows, all but COUNT are null.
+AVG is a whole number, cut toward zero: of 3 and 4 it is 3, of -3 and -4 it is -3.",
+    ),
+    (
+        "Answer",
+        "\
+The table has the matches, then the rows; 2:A beside a row says that match 2
+labels it A. Rows count from 0 in their partition, lines from 1 in the file.
+Partitions are told in the order in which they begin. The report of a search that
+stopped begins with `stopped for want of room`, which only the program does, or
+with `stopped since` and why: there is no row to skip to behind the last match, or
+--steps allows no more.",
+    ),
+    (
+        "Exit status",
+        "\
+0    at least one match
+1    no match
+2    wrong input, a partition that was refused, or an output that cannot be written
+3    a search stopped, so that there may be further matches
+141  the reader of the output left before its end
+Of several that apply 2 counts before 3, and 3 before 0 and 1.",
+    ),
+    (
+        "Examples",
+        "\
+mireladle-match query.txt log.csv
+mireladle-match --partition-by bus --order-by time query.txt log.csv
+mireladle-match -p bus -f json query.txt log.csv | jq .measures
+zcat log.csv.gz | mireladle-match -e 'pattern: A+ B' -e 'A: speed > PREV(speed)' \\
+  -e 'B: speed = 0' -f csv -
+mireladle-match -q query.txt log.csv && echo found",
+    ),
+];
+
+/// The usage, as a message about wrong arguments shows it.
+pub fn usage() -> String {
+    let lines = USAGES.map(|usage| format!("{NAME} {usage}"));
+    format!("usage: {}", lines.join("\n       "))
+}

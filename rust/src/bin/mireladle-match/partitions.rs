@@ -1,0 +1,435 @@
+//! The partitions of a file: rows that stand together or not are put together by the values of the
+//! columns that part them, and each partition is handed on once no further row of it can come. That
+//! is at the end of the file, or earlier: where the file is said to be grouped, when the next
+//! partition begins; and where a large file was read once before, behind the partition's last row.
+//! So the memory is that of the open partitions. What partitions come to is written in the order in
+//! which they begin.
+
+use std::collections::hash_map::DefaultHasher;
+use std::collections::{HashMap, HashSet, VecDeque};
+use std::hash::{Hash, Hasher};
+
+use mireladle::text::{Fault, Seconds};
+
+use crate::cells::{advice, number, order_key};
+use crate::input::{Record, Records};
+use crate::layout::Layout;
+
+/// The most rows that a search takes.
+pub const MOST_ROWS: u64 = 4096;
+
+/// The rows of one partition.
+#[derive(Default)]
+pub struct Partition {
+    /// The cells of the columns that part the rows.
+    pub values: Vec<Vec<u8>>,
+    /// The entries of the query's columns, row by row.
+    pub entries: Vec<i32>,
+    /// The line of each row.
+    pub lines: Vec<u64>,
+    /// How many rows there are; those beyond the most that a search takes are only counted.
+    pub count: u64,
+    /// The records as they stand in the file, where they are kept, and where each ends.
+    kept: Vec<u8>,
+    ends: Vec<usize>,
+    /// The keys to sort by, where the rows are to be sorted.
+    keys: Vec<Seconds>,
+    last_key: Option<(Seconds, u64)>,
+    /// The number of its last record in the file, where that is known.
+    last_record: Option<u64>,
+}
+
+impl Partition {
+    /// A row's record, where records are kept.
+    pub fn record(&self, row: usize) -> &[u8] {
+        let start = row.checked_sub(1).and_then(|before| self.ends.get(before));
+        let start = start.copied().unwrap_or(0);
+        let end = self.ends.get(row).copied().unwrap_or(start);
+        self.kept.get(start..end).unwrap_or(&[])
+    }
+
+    /// Puts the rows into the order of their keys; equal ones stay as they stand.
+    fn sort(&mut self, entries: usize) {
+        let sorted = self.keys.windows(2).all(|two| match two {
+            [one, other] => one <= other,
+            _ => true,
+        });
+        if sorted {
+            return;
+        }
+        let mut order: Vec<usize> = (0..self.lines.len()).collect();
+        order.sort_by_key(|row| self.keys.get(*row).copied());
+        let rows: Vec<&[i32]> = self.entries.chunks_exact(entries.max(1)).collect();
+        let row = |at: &usize| rows.get(*at).copied().unwrap_or(&[]);
+        let sorted: Vec<i32> = order.iter().flat_map(row).copied().collect();
+        let lines = order.iter().filter_map(|at| self.lines.get(*at).copied());
+        let lines = lines.collect();
+        let (mut kept, mut ends) = (Vec::with_capacity(self.kept.len()), Vec::new());
+        if !self.ends.is_empty() {
+            for at in &order {
+                kept.extend_from_slice(self.record(*at));
+                ends.push(kept.len());
+            }
+        }
+        (self.entries, self.lines) = (sorted, lines);
+        (self.kept, self.ends) = (kept, ends);
+    }
+}
+
+/// When a partition is handed on.
+pub enum Closing {
+    /// At the end of the file.
+    AtEnd,
+    /// When the next begins: one that begins again is a fault.
+    AtNext,
+    /// Behind its last record, by the hash of its values.
+    Known(HashMap<u64, u64>),
+}
+
+/// What a partition comes to.
+enum Slot {
+    Open(Box<Partition>),
+    Done(Vec<u8>),
+}
+
+/// What is done with a partition that is whole: the bytes that it comes to.
+pub trait Close {
+    type Error;
+    fn close(&mut self, partition: Partition) -> Result<Vec<u8>, Self::Error>;
+}
+
+/// The partitions that are open, and those that wait for an earlier one.
+pub struct Partitions<'a> {
+    layout: &'a Layout,
+    closing: Closing,
+    sort: bool,
+    keep: bool,
+    open: HashMap<Vec<u8>, u64>,
+    closed: HashSet<u64>,
+    slots: VecDeque<Slot>,
+    /// The number of the first slot, from 0.
+    first: u64,
+    key: Vec<u8>,
+    current: Option<(Vec<u8>, u64)>,
+    records: u64,
+    /// Rows that were read.
+    pub rows: u64,
+}
+
+impl<'a> Partitions<'a> {
+    pub fn new(layout: &'a Layout, closing: Closing, sort: bool, keep: bool) -> Partitions<'a> {
+        Partitions {
+            layout,
+            closing,
+            sort,
+            keep,
+            open: HashMap::new(),
+            closed: HashSet::new(),
+            slots: VecDeque::new(),
+            first: 0,
+            key: Vec::new(),
+            current: None,
+            records: 0,
+            rows: 0,
+        }
+    }
+
+    /// One more record. The bytes are those that can be written now.
+    pub fn add<C: Close>(
+        &mut self,
+        record: &Record<'_>,
+        close: &mut C,
+    ) -> Result<Vec<u8>, Added<C>> {
+        self.records = self.records.saturating_add(1);
+        self.rows = self.rows.saturating_add(1);
+        self.check(record)?;
+        let mut ready = Vec::new();
+        let slot = self.slot(record, close, &mut ready)?;
+        let last = self.put(record, slot)?;
+        if last {
+            self.current = None;
+            self.open.remove(&self.key);
+            self.close_slot(slot, close, &mut ready)?;
+        }
+        Ok(ready)
+    }
+
+    /// A record that is no row.
+    pub fn skip(&mut self) {
+        self.records = self.records.saturating_add(1);
+    }
+
+    /// The count of its fields is checked of every record: one that is shifted must not be read.
+    fn check<C: Close>(&self, record: &Record<'_>) -> Result<(), Added<C>> {
+        let (wanted, found) = (self.layout.names.len(), record.fields.len());
+        if wanted == found {
+            return Ok(());
+        }
+        let expected = format!("as many entries as there are names, {wanted}");
+        let (mut fault, line) = record.fault(wanted, expected);
+        fault.found = match (record.is_blank(), found > wanted) {
+            (true, _) => String::from("an empty line"),
+            (_, true) => String::from("more"),
+            _ => found.to_string(),
+        };
+        Err(Added::Fault(fault, line))
+    }
+
+    /// The number of the slot of a record's partition, which is opened if there is none yet.
+    fn slot<C: Close>(
+        &mut self,
+        record: &Record<'_>,
+        close: &mut C,
+        ready: &mut Vec<u8>,
+    ) -> Result<u64, Added<C>> {
+        key_of(record, self.layout, &mut self.key);
+        if let Some((key, slot)) = &self.current {
+            if *key == self.key {
+                return Ok(*slot);
+            }
+        }
+        if matches!(self.closing, Closing::AtNext) {
+            self.close_current(record, close, ready)?;
+        }
+        let next = self.first.saturating_add(count(self.slots.len()));
+        let slot = match self.open.get(&self.key) {
+            Some(slot) => *slot,
+            None => {
+                self.open.insert(self.key.clone(), next);
+                self.slots
+                    .push_back(Slot::Open(Box::new(self.begun(record))));
+                next
+            }
+        };
+        self.current = Some((self.key.clone(), slot));
+        Ok(slot)
+    }
+
+    /// Closes the partition before, where a file is grouped, and sees to it that the record's was
+    /// not closed yet.
+    fn close_current<C: Close>(
+        &mut self,
+        record: &Record<'_>,
+        close: &mut C,
+        ready: &mut Vec<u8>,
+    ) -> Result<(), Added<C>> {
+        if let Some((key, slot)) = self.current.take() {
+            self.open.remove(&key);
+            self.closed.insert(hash(&key));
+            self.close_slot(slot, close, ready)?;
+        }
+        if !self.closed.contains(&hash(&self.key)) {
+            return Ok(());
+        }
+        let column = self.layout.partition.first().copied().unwrap_or(0);
+        let expected = "rows of one partition together, as --grouped says";
+        let (mut fault, line) = record.fault(column, expected);
+        fault.found = format!("{} once more", fault.found);
+        Err(Added::Fault(fault, line))
+    }
+
+    /// A partition that begins with this record.
+    fn begun(&self, record: &Record<'_>) -> Partition {
+        let cell = |column: &usize| record.cell(*column).into_owned();
+        Partition {
+            values: self.layout.partition.iter().map(cell).collect(),
+            last_record: match &self.closing {
+                Closing::Known(last) => last.get(&hash(&self.key)).copied(),
+                _ => None,
+            },
+            ..Partition::default()
+        }
+    }
+
+    /// Puts a record into an open partition, and tells whether it is its last.
+    fn put<C: Close>(&mut self, record: &Record<'_>, slot: u64) -> Result<bool, Added<C>> {
+        let at = usize::try_from(slot.saturating_sub(self.first)).unwrap_or(usize::MAX);
+        let Some(Slot::Open(partition)) = self.slots.get_mut(at) else {
+            return Ok(false);
+        };
+        partition.count = partition.count.saturating_add(1);
+        if partition.count <= MOST_ROWS {
+            let row = Row {
+                layout: self.layout,
+                record,
+                sort: self.sort,
+                keep: self.keep,
+            };
+            row.append(partition)
+                .map_err(|(fault, line)| Added::Fault(fault, line))?;
+        } else if partition.count == MOST_ROWS.saturating_add(1) {
+            // Only counted from here on.
+            (partition.entries, partition.lines) = (Vec::new(), Vec::new());
+            (partition.kept, partition.ends) = (Vec::new(), Vec::new());
+            partition.keys = Vec::new();
+        }
+        Ok(partition.last_record == Some(self.records))
+    }
+
+    /// Hands a partition on; what it comes to is ready where no earlier one is open.
+    fn close_slot<C: Close>(
+        &mut self,
+        slot: u64,
+        close: &mut C,
+        ready: &mut Vec<u8>,
+    ) -> Result<(), Added<C>> {
+        let at = usize::try_from(slot.saturating_sub(self.first)).unwrap_or(usize::MAX);
+        if let Some(place) = self.slots.get_mut(at) {
+            if let Slot::Open(partition) = place {
+                let mut partition = std::mem::take(&mut **partition);
+                if self.sort {
+                    partition.sort(self.layout.entries());
+                }
+                let bytes = close.close(partition).map_err(Added::Close)?;
+                *place = Slot::Done(bytes);
+            }
+        }
+        while let Some(Slot::Done(bytes)) = self.slots.front_mut() {
+            match ready.is_empty() {
+                true => *ready = std::mem::take(bytes),
+                false => ready.append(bytes),
+            }
+            self.slots.pop_front();
+            self.first = self.first.saturating_add(1);
+        }
+        Ok(())
+    }
+
+    /// Hands on one partition that is still open at the end of the file: the first. None where
+    /// there is none.
+    pub fn end<C: Close>(&mut self, close: &mut C) -> Result<Option<Vec<u8>>, Added<C>> {
+        if self.slots.is_empty() {
+            return Ok(None);
+        }
+        let mut ready = Vec::new();
+        self.close_slot(self.first, close, &mut ready)?;
+        Ok(Some(ready))
+    }
+
+    /// Where the rows are not parted there is one partition, also without rows.
+    pub fn at_least_one(&mut self) {
+        if self.layout.partition.is_empty() && self.rows == 0 {
+            self.slots.push_back(Slot::Open(Box::default()));
+        }
+    }
+
+    /// Whether the only partition is already larger than a search takes.
+    pub fn only_one_is_too_large(&self) -> bool {
+        self.layout.partition.is_empty() && self.rows > MOST_ROWS
+    }
+}
+
+/// Why a record could not be added.
+pub enum Added<C: Close> {
+    Fault(Fault, String),
+    Close(C::Error),
+}
+
+fn count(length: usize) -> u64 {
+    u64::try_from(length).unwrap_or(u64::MAX)
+}
+
+/// A row that is put into its partition.
+struct Row<'a, 'b> {
+    layout: &'a Layout,
+    record: &'a Record<'b>,
+    sort: bool,
+    keep: bool,
+}
+
+impl Row<'_, '_> {
+    fn append(&self, partition: &mut Partition) -> Result<(), (Fault, String)> {
+        let record = self.record;
+        if let Some(column) = self.layout.order {
+            self.order(column, partition)?;
+        }
+        if self.layout.query.is_empty() {
+            partition.entries.push(0);
+        }
+        for (column, codes) in &self.layout.query {
+            if record.is_odd(*column) {
+                return Err(record.fault(*column, "nothing behind the closing quote"));
+            }
+            let cell = record.cell(*column);
+            let entry = number(&cell, codes.as_ref()).map_err(|expected| {
+                let name = self.layout.names.get(*column);
+                let name = name.map_or("", String::as_str);
+                let advice = advice(name, &cell, codes.as_ref());
+                let (mut fault, line) = record.fault(*column, expected);
+                fault.found.push_str(&advice);
+                (fault, line)
+            })?;
+            partition.entries.push(entry);
+        }
+        partition.lines.push(record.line);
+        if self.keep {
+            partition.kept.extend_from_slice(record.bytes);
+            partition.ends.push(partition.kept.len());
+        }
+        Ok(())
+    }
+
+    /// Sees to it that the row is not before the one before it, or notes where it has to go.
+    fn order(&self, column: usize, partition: &mut Partition) -> Result<(), (Fault, String)> {
+        let record = self.record;
+        let key = order_key(&record.cell(column));
+        let expected = "a whole number, a date or a time to order the rows by";
+        let key = key.ok_or_else(|| record.fault(column, expected))?;
+        if self.sort {
+            partition.keys.push(key);
+            return Ok(());
+        }
+        match partition.last_key {
+            Some((last, line)) if key < last => {
+                let name = self.layout.names.get(column);
+                let name = name.map_or("", String::as_str);
+                let expected = format!(
+                    "rows in the order of `{name}`, and so nothing below that of line {line} \
+                     (--sort sorts them)"
+                );
+                Err(record.fault(column, expected))
+            }
+            _ => {
+                partition.last_key = Some((key, record.line));
+                Ok(())
+            }
+        }
+    }
+}
+
+/// The values of the columns that part the rows, each with its length in front.
+fn key_of(record: &Record<'_>, layout: &Layout, key: &mut Vec<u8>) {
+    key.clear();
+    for column in &layout.partition {
+        let cell = record.cell(*column);
+        key.extend_from_slice(&cell.len().to_le_bytes());
+        key.extend_from_slice(&cell);
+    }
+}
+
+fn hash(key: &[u8]) -> u64 {
+    let mut hasher = DefaultHasher::new();
+    key.hash(&mut hasher);
+    hasher.finish()
+}
+
+/// Reads a file once to find out where each partition has its last record. A fault ends it: it is
+/// told when the file is read again.
+pub fn last_records(records: &mut Records, layout: &Layout, header: bool) -> Closing {
+    let mut last = HashMap::new();
+    let (mut fields, mut key, mut current) = (Vec::new(), Vec::new(), Vec::new());
+    let mut number = 0_u64;
+    if header {
+        let _ = records.next(&mut fields);
+    }
+    while let Ok(Some(record)) = records.next(&mut fields) {
+        key_of(&record, layout, &mut key);
+        if key != current && number > 0 {
+            last.insert(hash(&current), number);
+        }
+        std::mem::swap(&mut key, &mut current);
+        number = number.saturating_add(1);
+    }
+    last.insert(hash(&current), number);
+    Closing::Known(last)
+}
