@@ -40,10 +40,11 @@
 //! ```
 //!
 //! Cells of rows are numbers of 32 bits. A column of texts has a code table ([`Codes`]), and dates
-//! and times count as seconds ([`seconds`]); [`Codes::code`] and [`seconds`] turn cells into
-//! numbers as [`QueryText`] turned the texts of the query. [`screen`] shows parts of a text so that
+//! and times count as seconds ([`seconds`]); [`cells::number`] turns a cell into a number by both, as
+//! the texts in the query were. [`screen`] shows parts of a text so that
 //! nothing in them can upset a terminal.
 
+pub mod cells;
 mod codes;
 mod columns;
 mod conditions;

@@ -155,7 +155,8 @@ impl Source {
         }
         let file = File::open(path)?;
         let about = file.metadata()?;
-        let length = about.is_file().then_some(about.len());
+        // A file of the system may say that it is empty, and is read like a pipe.
+        let length = Some(about.len()).filter(|length| about.is_file() && *length > 0);
         Ok(Source {
             file: Some(file),
             length,

@@ -11,7 +11,6 @@
 
 mod answer;
 mod arguments;
-mod cells;
 mod failure;
 mod help;
 mod input;

@@ -9,9 +9,9 @@ use std::collections::hash_map::DefaultHasher;
 use std::collections::{HashMap, HashSet, VecDeque};
 use std::hash::{Hash, Hasher};
 
+use mireladle::text::cells::{advice, number, order_key};
 use mireladle::text::{Fault, Seconds};
 
-use crate::cells::{advice, number, order_key};
 use crate::input::{Record, Records};
 use crate::layout::Layout;
 

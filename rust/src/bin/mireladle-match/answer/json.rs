@@ -1,5 +1,5 @@
 //! Matches and rows as JSON, one object to a line. A cell of the file that is written as JSON writes
-//! a whole number is one, any other is a string; null is null. What would upset a terminal is
+//! a number is one, any other is a string; null is null. What would upset a terminal is
 //! escaped, and bytes that are no text become U+FFFD.
 
 use super::{distinct, Answering, Searched};
@@ -90,12 +90,14 @@ fn value(text: &mut String, cell: &[u8]) {
     }
 }
 
-/// Whether a cell is a whole number as JSON writes it, which every reader keeps exact.
+/// Whether a cell is a number as JSON writes it, of so few digits that every reader keeps them.
 fn is_number(cell: &str) -> bool {
     let digits = cell.strip_prefix('-').unwrap_or(cell);
-    let zero_in_front = digits.starts_with('0') && (digits.len() > 1 || digits.len() < cell.len());
-    let length = (1..=15).contains(&digits.len());
-    length && !zero_in_front && digits.bytes().all(|byte| byte.is_ascii_digit())
+    let (whole, fraction) = digits.split_once('.').unwrap_or((digits, "0"));
+    let minus_zero = digits.len() < cell.len() && !digits.contains(|c| ('1'..='9').contains(&c));
+    let zero_in_front = whole.starts_with('0') && whole.len() > 1;
+    let all = |part: &str| !part.is_empty() && part.bytes().all(|byte| byte.is_ascii_digit());
+    digits.len() <= 15 && !minus_zero && !zero_in_front && all(whole) && all(fraction)
 }
 
 fn string(text: &mut String, content: &str) {
@@ -121,20 +123,10 @@ mod tests {
 
     #[test]
     fn cells_are_numbers_where_json_writes_them_so() {
-        for number in ["0", "7", "-7", "123456789012345"] {
+        for number in ["0", "7", "-7", "123456789012345", "24.5", "-0.50"] {
             assert!(is_number(number), "{number}");
         }
-        for text in [
-            "",
-            "-",
-            "007",
-            "-0",
-            "+7",
-            "1.0",
-            "1e3",
-            "1234567890123456",
-            "x",
-        ] {
+        for text in ["", "-", "007", "-0", "+7", "1e3", "1234567890123456", "x"] {
             assert!(!is_number(text), "{text}");
         }
     }

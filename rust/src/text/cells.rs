@@ -1,12 +1,16 @@
 //! Cells as numbers: whole numbers of 32 bits, dates and times as whole seconds, texts by the codes
 //! of their column. And cells as keys to order rows by, which may be larger and have fractions.
 
-use mireladle::text::{seconds, Codes, Seconds};
+use super::codes::{Codes, NUMBER};
+use super::fault::cut;
+use super::times::{seconds, Seconds};
 
-/// What a cell of a query's column has to be.
-pub const NUMBER: &str = "a whole number from -2147483648 to 2147483647";
-
-/// The number that a cell of a query's column is, or what was expected in its place.
+/// The number that a cell of a query's column is, or what was expected in its place. A number
+/// stands for itself also where the column has codes.
+///
+/// # Errors
+///
+/// What was expected, in words.
 pub fn number(cell: &[u8], codes: Option<&Codes>) -> Result<i32, String> {
     if let Some(number) = whole(cell) {
         return i32::try_from(number).map_err(|_| String::from(NUMBER));
@@ -29,7 +33,7 @@ pub fn number(cell: &[u8], codes: Option<&Codes>) -> Result<i32, String> {
 pub fn advice(name: &str, cell: &[u8], codes: Option<&Codes>) -> String {
     let text = String::from_utf8_lossy(cell);
     let looks_like_text = text.chars().any(char::is_alphabetic);
-    let sample = mireladle::text::screen::cut(&text);
+    let sample = cut(&text);
     match codes {
         Some(_) => format!(
             "; add '{sample}'=N to the codes of `{name}` in the query, or *=N for all other texts"
@@ -67,7 +71,7 @@ fn whole(cell: &[u8]) -> Option<i64> {
     })
 }
 
-/// The key by which a row is ordered.
+/// The key by which a row is ordered: a whole number, or the seconds of a date or a time.
 pub fn order_key(cell: &[u8]) -> Option<Seconds> {
     match whole(cell) {
         Some(whole) => Some(Seconds {
