@@ -6,6 +6,8 @@
 use std::path::{Path, PathBuf};
 use std::process::{Command, Output};
 
+const UNITS: &str =
+    "only whole numbers are compared, so count in smaller units, such as 245 for 24.5";
 const EXAMPLES: &str = concat!(env!("CARGO_MANIFEST_DIR"), "/../examples");
 
 fn run(arguments: &[&str]) -> Output {
@@ -437,7 +439,8 @@ fn every_line_end_is_read() {
     }
     let wrong = failure("cr-wrong", "pattern: A\nA: a = 1", "a\r1\r1.5\r2\r");
     let number = "a whole number from -2147483648 to 2147483647";
-    let message = format!("/cr-wrong.csv:3:1: expected {number}, found `1.5`\n    1.5\n    ^\n");
+    let message =
+        format!("/cr-wrong.csv:3:1: expected {number}, found `1.5`; {UNITS}\n    1.5\n    ^\n");
     assert_eq!(wrong, (2, message));
 }
 

@@ -41,12 +41,34 @@ pub fn advice(name: &str, cell: &[u8], codes: Option<&Codes>) -> String {
         None if text.is_empty() => String::from(
             "; an empty cell is no number: fill it, or leave the row out before the search",
         ),
+        None if seconds(cell).is_some_and(|time| time.billionths > 0) => {
+            String::from("; cut the fraction off before the search")
+        }
+        None if is_decimal(&text) => String::from(
+            "; only whole numbers are compared, so count in smaller units, such as 245 for 24.5",
+        ),
+        None if seconds(cell).is_none() && looks_like_date(&text) => String::from(
+            "; dates are written as 2026-03-01 or 2026-03-01T14:05:30, times as 14:05:30",
+        ),
         None if looks_like_text => format!(
             "; a column of texts needs codes, so write a line such as `{name}: '{sample}'=1` \
              into the query"
         ),
         None => String::new(),
     }
+}
+
+fn is_decimal(text: &str) -> bool {
+    let digits = text.strip_prefix(['-', '+']).unwrap_or(text);
+    let all = |part: &str| part.bytes().all(|byte| byte.is_ascii_digit());
+    digits
+        .split_once('.')
+        .is_some_and(|(whole, rest)| all(whole) && all(rest))
+}
+
+fn looks_like_date(text: &str) -> bool {
+    let signs = text.chars().filter(|c| "/:.-".contains(*c)).count();
+    text.starts_with(|c: char| c.is_ascii_digit()) && signs > 0
 }
 
 /// A whole number as it is written, of at most 18 digits.
@@ -110,6 +132,16 @@ mod tests {
             .starts_with("a date from 1901"));
         assert!(read("14:05:30.5").unwrap_err().starts_with("whole seconds"));
         assert_eq!(read("14:05:30.000"), Ok(50_730));
+    }
+
+    #[test]
+    fn what_to_do_depends_on_the_cell() {
+        let advice = |cell: &str| advice("a", cell.as_bytes(), None);
+        assert!(advice("24.5").contains("smaller units"));
+        assert!(advice("01/03/2026").contains("2026-03-01"));
+        assert!(advice("14:05:30.5").contains("fraction"));
+        assert!(advice("on").contains("`a: 'on'=1`"));
+        assert_eq!(advice("+"), "");
     }
 
     #[test]

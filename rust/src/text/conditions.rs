@@ -55,11 +55,6 @@ pub struct Reading<'a, 'b> {
 impl Reading<'_, '_> {
     /// A condition, to the end of the line, or in SQL's spelling to what cannot belong to it.
     pub fn condition(&mut self, words: &mut Words<'_>) -> Result<Condition, Fault> {
-        if words.is_keyword(0, "TRUE") && !matches!(words.peek_behind(1), Word::Sign(_)) {
-            words.pass();
-            words.want_end("the end of the line")?;
-            return Ok(Condition::True);
-        }
         let mut parts = Vec::new();
         loop {
             if parts.len() >= MOST_COMPARISONS {
@@ -79,12 +74,16 @@ impl Reading<'_, '_> {
 
     /// One part of a condition between two ANDs.
     fn term(&mut self, words: &mut Words<'_>) -> Result<Condition, Fault> {
+        let compared = matches!(
+            words.peek_behind(1),
+            Word::Sign("=" | "<>" | "!=" | "<" | "<=" | ">" | ">=")
+        );
+        if !compared && words.pass_keyword("TRUE") {
+            return Ok(Condition::True);
+        }
         let what = match words.peek() {
             Word::Sign("(") => Some("parentheses are"),
-            Word::Name(name) if name.eq_ignore_ascii_case("NOT") => {
-                let compared = matches!(words.peek_behind(1), Word::Sign(sign) if *sign != "(");
-                (!compared).then_some("NOT is")
-            }
+            Word::Name(name) if name.eq_ignore_ascii_case("NOT") => (!compared).then_some("NOT is"),
             _ => None,
         };
         if let Some(what) = what {

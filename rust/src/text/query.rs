@@ -283,7 +283,8 @@ impl<'a> Reader<'a> {
         let length = rest.iter().take_while(|it| !it.first).count();
         let rest = rest.get(..length).unwrap_or(&[]);
         let mut words = Words::line(rest, self.line_end(token));
-        match (key, letter(key)) {
+        let lower = key.to_ascii_lowercase();
+        match (lower.as_str(), letter(key)) {
             ("pattern", _) => {
                 self.once(self.pattern.is_some(), token)?;
                 let pattern = self.line_pattern(token)?;

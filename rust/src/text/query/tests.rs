@@ -160,8 +160,15 @@ fn comparisons_of_every_form() {
         "c1 = 3 AND c2 = PREV(c2) and c0 <= NEXT(c0, 2) + 5",
         &three,
     );
-    let always = builder("pattern: A\nA: true");
-    assert_eq!(always, Query::builder(1).pattern("A"));
+    let always = Query::builder(1).pattern("A");
+    for text in [
+        "A: true",
+        "DEFINE A AS TRUE, B AS true",
+        "DEFINE a AS True AND TRUE",
+    ] {
+        assert_eq!(builder(&format!("PATTERN: A\n{text}")), always, "{text}");
+    }
+    defined(1, "true AND c0 = 3", &[col(0).eq(3)]);
 }
 
 #[test]
