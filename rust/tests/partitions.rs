@@ -129,6 +129,27 @@ two lines\",53.1,-1.2
     assert!(table.contains(line), "{table}");
 }
 
+/// What README shows of examples/buses.sql is what the command does.
+#[test]
+fn the_readme_is_true() {
+    let examples = concat!(env!("CARGO_MANIFEST_DIR"), "/../examples");
+    let readme = include_str!("../../README.md");
+    let files = [
+        &format!("{examples}/buses.sql"),
+        &format!("{examples}/buses.csv"),
+    ];
+    let query = std::fs::read_to_string(files[0]).unwrap();
+    assert!(readme.contains(&format!("```sql\n{query}```")), "{query}");
+    let (status, table, message) = run(&[files[0], files[1]]);
+    assert_eq!((status, message.as_str()), (0, ""));
+    assert!(readme.contains(&format!("```text\n{table}```")), "{table}");
+    let (_, json, _) = run(&["--format", "json", files[0], files[1]]);
+    let parts = json
+        .replace("\"first_line\"", "\n \"first_line\"")
+        .replace("\"measures\"", "\n \"measures\"");
+    assert!(readme.contains(&format!("```text\n{parts}```")), "{parts}");
+}
+
 /// Names of the file that are those of the answer too get a number behind them.
 #[test]
 fn every_name_of_an_answer_differs() {
@@ -448,8 +469,10 @@ fn the_worst_status_counts() {
         "1",
         "-c",
     ];
-    let (status, ..) = run_on(&text, log.as_bytes());
-    assert_eq!(status, 3);
+    let (status, _, message) = run_on(&text, log.as_bytes());
+    let why = "stopped since --steps allows no more";
+    let expected = format!("bus=1: {why}\nbus=2: {why}\n");
+    assert_eq!((status, message), (3, expected));
     log.push_str(&"3,1\n".repeat(4097));
     let (status, ..) = run_on(&text, log.as_bytes());
     assert_eq!(status, 2);
@@ -477,7 +500,7 @@ fn random_partitions_are_searched_as_the_library_does() {
     ];
     let skips = ["past last row", "to next row"];
     let mut found = 0;
-    for case in 0..60 {
+    for case in 0..80 {
         let (pattern, skip) = (patterns[random(6) as usize], skips[random(2) as usize]);
         let query = format!(
             "pattern: {pattern}\nA: b >= PREV(b)\nB: b < PREV(b), a <> {}\nC: a = NEXT(b) + -1\n\
@@ -486,7 +509,7 @@ fn random_partitions_are_searched_as_the_library_does() {
         );
         let mut log = String::from("note,a,bus,b\n");
         let mut rows: Vec<(u64, Vec<i32>, Vec<u64>)> = Vec::new();
-        for line in 2..2 + random(60) {
+        for line in 2..2 + random(120) {
             let (bus, a, b) = (random(5), random(4) as i32, random(4) as i32 - 1);
             log.push_str(&format!("\"x,{bus}\",{a},{bus},{b}\n"));
             match rows.iter_mut().find(|(known, ..)| *known == bus) {

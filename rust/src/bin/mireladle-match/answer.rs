@@ -218,6 +218,19 @@ impl<'a> Answering<'a> {
         Failure::Rows(self.too_large(&Partition::default(), true))
     }
 
+    /// Tells what stopped a search, where the answer has no place for it.
+    fn tell_stopped(&self, searched: &Searched<'_>) {
+        if self.search.answer == Answer::Table && !self.tells_rows() {
+            return;
+        }
+        let name = match self.layout.partition.is_empty() {
+            true => named(&self.search.rows),
+            false => self.name(searched.partition),
+        };
+        let why = table::stopped(self, searched);
+        tell(&format!("{name}: {}", why.trim_end_matches(": ")));
+    }
+
     fn tell(&self, searched: &Searched<'_>) -> Vec<u8> {
         match (self.search.answer, self.tells_rows()) {
             (Answer::Table, false) => table::matches(self, searched),
@@ -251,12 +264,16 @@ impl Close for Answering<'_> {
         self.tally.matches = self.tally.matches.saturating_add(found);
         let with = u64::from(found > 0);
         self.tally.with_matches = self.tally.with_matches.saturating_add(with);
-        self.tally.stopped |= report.ending() != Ending::Done;
-        Ok(self.tell(&Searched {
+        let searched = Searched {
             partition: &partition,
             report: &report,
             rows: partition.lines.len(),
-        }))
+        };
+        if report.ending() != Ending::Done {
+            self.tally.stopped = true;
+            self.tell_stopped(&searched);
+        }
+        Ok(self.tell(&searched))
     }
 }
 

@@ -2,14 +2,26 @@
 //! large file is read. And messages, which are written to standard error.
 
 use std::io::{self, IsTerminal, Write};
+use std::sync::atomic::{AtomicBool, Ordering};
 use std::time::{Duration, Instant};
 
 use crate::answer::grouped;
 use crate::arguments::Color;
 
+/// Whether the line that tells how far a file is read stands on the screen.
+static PROGRESS: AtomicBool = AtomicBool::new(false);
+
 /// Writes a message. Should it not be written, the exit status still tells.
 pub fn tell(message: &str) {
+    clear();
     let _ = writeln!(io::stderr(), "{message}");
+}
+
+/// Takes the line away that tells how far a file is read.
+fn clear() {
+    if PROGRESS.swap(false, Ordering::Relaxed) {
+        let _ = write!(io::stderr(), "\r\u{1B}[K");
+    }
 }
 
 /// How standard output is written to.
@@ -88,13 +100,12 @@ impl Progress {
             }
             None => format!("{} MB, {rows} rows", megabytes(bytes)),
         };
+        PROGRESS.store(true, Ordering::Relaxed);
         let _ = write!(io::stderr(), "\r{line}\u{1B}[K");
     }
 
-    /// Takes the line away.
+    /// All is read.
     pub fn end(&mut self) {
-        if self.told.take().is_some() {
-            let _ = write!(io::stderr(), "\r\u{1B}[K");
-        }
+        clear();
     }
 }

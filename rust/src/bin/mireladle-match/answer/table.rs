@@ -102,8 +102,8 @@ fn summary(answering: &Answering<'_>, searched: &Searched<'_>) -> String {
     format!("{}{matches} in {steps}", stopped(answering, searched))
 }
 
-/// What stopped the search, in front of the summary; nothing where it is done.
-fn stopped(answering: &Answering<'_>, searched: &Searched<'_>) -> String {
+/// What stopped the search, in front of a summary; nothing where it is done.
+pub fn stopped(answering: &Answering<'_>, searched: &Searched<'_>) -> String {
     let why = |last: Match<'_>| {
         let number = u64::try_from(last.number()).unwrap_or(u64::MAX);
         no_row_behind(answering.asked.text.skip, number, last.labels())
