@@ -222,7 +222,9 @@ struct Reader<'a> {
     parts: Parts,
 }
 
-const KEYS: &str = "`pattern:`, `skip:`, `measures:` or a letter and a colon, such as `A:`";
+const KEYS: &str =
+    "`pattern:`, `skip:`, `measures:`, a letter and a colon such as `A:`, or a clause \
+                    such as `PATTERN (A)`";
 
 /// The words by which SQL's clauses begin.
 const CLAUSES: [&str; 9] = [
@@ -396,7 +398,7 @@ impl<'a> Reader<'a> {
     fn code_table(&mut self, words: &mut Words<'_>) -> Result<(), Fault> {
         let key = self.rest_of_text();
         let column = self.columns.find(&key).map_err(|fault| Fault {
-            expected: format!("{KEYS}, or {}", fault.expected),
+            expected: format!("{KEYS}, or {} and its codes", fault.expected),
             ..fault
         })?;
         // Without known columns every other word could be one: a code table shows by its `=`.

@@ -30,7 +30,7 @@ pub struct Tally {
 }
 
 impl Tally {
-    pub fn status(&self) -> u8 {
+    fn status(&self) -> u8 {
         match self {
             Tally { refused: true, .. } => WRONG,
             Tally { stopped: true, .. } => STOPPED,
@@ -112,6 +112,14 @@ impl<'a> Answering<'a> {
     /// Whether the answer is known before the end of the file.
     pub fn has_enough(&self) -> bool {
         self.search.answer == Answer::Quiet && self.tally.matches > 0
+    }
+
+    /// The exit status: of several that apply the worst, but where only a match is asked for, that.
+    pub fn status(&self) -> u8 {
+        match self.has_enough() {
+            true => MATCH,
+            false => self.tally.status(),
+        }
     }
 
     /// What stands in front of all partitions.

@@ -274,7 +274,7 @@ impl Reading<'_> {
             self.write(&foot)?;
         }
         self.out.flush(self.answering.tally.stopped)?;
-        Ok(self.answering.tally.status())
+        Ok(self.answering.status())
     }
 
     /// Reads to the end; false where the answer is known before.

@@ -149,7 +149,8 @@ pub const GROUPS: &[Group] = &[
                  record a match, in JSON, one to a line, or in CSV. A record has the\n\
                  partition, the match's number in it, the line in the file and the row\n\
                  in the partition where it begins, how many rows it takes, their labels,\n\
-                 and the measures by their titles.",
+                 and the measures by their titles. In JSON a cell of the file that is\n\
+                 written like a number is one.",
             ),
             flag(
                 "rows",
@@ -277,7 +278,8 @@ with `stopped since` and why: there is no row to skip to behind the last match, 
 2    wrong input, a partition that was refused, or an output that cannot be written
 3    a search stopped, so that there may be further matches
 141  the reader of the output left before its end
-Of several that apply 2 counts before 3, and 3 before 0 and 1.",
+Of several that apply 2 counts before 3, and 3 before 0 and 1; with --quiet it is 0
+where a match was found.",
     ),
     (
         "Examples",

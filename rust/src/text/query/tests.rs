@@ -446,11 +446,11 @@ fn faults_of_lines() {
     );
     assert_eq!(
         fault("  ab: c0 = 1"),
-        format!("2:3: expected {KEYS}, or {COLUMNS}, found `ab`")
+        format!("2:3: expected {KEYS}, or {COLUMNS} and its codes, found `ab`")
     );
     assert_eq!(
         fault("a: c0 = 1"),
-        format!("2:1: expected {KEYS}, or {COLUMNS}, found `a`")
+        format!("2:1: expected {KEYS}, or {COLUMNS} and its codes, found `a`")
     );
     assert_eq!(
         fault(": c0 = 1"),
