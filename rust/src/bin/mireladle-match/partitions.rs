@@ -109,8 +109,10 @@ pub struct Partitions<'a> {
     slots: VecDeque<Slot>,
     /// The number of the first slot, from 0.
     first: u64,
+    /// The values of the record at hand, and those of the one before with its slot.
     key: Vec<u8>,
-    current: Option<(Vec<u8>, u64)>,
+    current_key: Vec<u8>,
+    current: Option<u64>,
     records: u64,
     /// Rows that were read.
     pub rows: u64,
@@ -128,6 +130,7 @@ impl<'a> Partitions<'a> {
             slots: VecDeque::new(),
             first: 0,
             key: Vec::new(),
+            current_key: Vec::new(),
             current: None,
             records: 0,
             rows: 0,
@@ -183,10 +186,8 @@ impl<'a> Partitions<'a> {
         ready: &mut Vec<u8>,
     ) -> Result<u64, Added<C>> {
         key_of(record, self.layout, &mut self.key);
-        if let Some((key, slot)) = &self.current {
-            if *key == self.key {
-                return Ok(*slot);
-            }
+        if let Some(slot) = self.current.filter(|_| self.current_key == self.key) {
+            return Ok(slot);
         }
         if matches!(self.closing, Closing::AtNext) {
             self.close_current(record, close, ready)?;
@@ -201,7 +202,8 @@ impl<'a> Partitions<'a> {
                 next
             }
         };
-        self.current = Some((self.key.clone(), slot));
+        self.current_key.clone_from(&self.key);
+        self.current = Some(slot);
         Ok(slot)
     }
 
@@ -213,9 +215,9 @@ impl<'a> Partitions<'a> {
         close: &mut C,
         ready: &mut Vec<u8>,
     ) -> Result<(), Added<C>> {
-        if let Some((key, slot)) = self.current.take() {
-            self.open.remove(&key);
-            self.closed.insert(hash(&key));
+        if let Some(slot) = self.current.take() {
+            self.open.remove(&self.current_key);
+            self.closed.insert(hash(&self.current_key));
             self.close_slot(slot, close, ready)?;
         }
         if !self.closed.contains(&hash(&self.key)) {
