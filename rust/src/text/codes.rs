@@ -2,15 +2,24 @@
 //! searched. In a query it is a line such as `event: offered=1, refused=2, 'not read'=3, *=0`, where
 //! `*` stands for every other text.
 
+use std::collections::HashMap;
+
 use super::fault::Fault;
 use super::words::{Word, Words};
 
 /// The code table of one column.
 #[derive(Clone, Debug, Default, PartialEq, Eq)]
 pub struct Codes {
+    /// In the order in which they are written, and to be looked up.
     codes: Vec<(String, i32)>,
+    by_text: HashMap<Vec<u8>, i32>,
     others: Option<i32>,
 }
+
+/// The most texts that a table can have.
+const MOST_CODES: usize = 4096;
+/// In so few it is quicker to look at each.
+const FEW: usize = 8;
 
 impl Codes {
     /// The number that stands for a text; none where the table has none for it.
@@ -20,10 +29,11 @@ impl Codes {
 
     /// The number that the table lists for a text.
     pub fn listed(&self, text: &[u8]) -> Option<i32> {
-        let found = self
-            .codes
-            .iter()
-            .find(|(known, _)| known.as_bytes() == text);
+        if self.codes.len() > FEW {
+            return self.by_text.get(text).copied();
+        }
+        let mut codes = self.codes.iter();
+        let found = codes.find(|(known, _)| known.as_bytes() == text);
         found.map(|(_, code)| *code)
     }
 
@@ -34,8 +44,12 @@ impl Codes {
 
     /// What is expected where one of the texts has to stand.
     pub(crate) fn expected(&self) -> String {
+        const MOST_SHOWN: usize = 40;
         let quoted = |(text, _): &(String, i32)| format!("'{}'", text.replace('\'', "''"));
-        let all: Vec<String> = self.codes.iter().map(quoted).collect();
+        let mut all: Vec<String> = self.codes.iter().take(MOST_SHOWN).map(quoted).collect();
+        if self.codes.len() > MOST_SHOWN {
+            all.push(String::from("..."));
+        }
         format!("one of the codes {}", all.join(", "))
     }
 }
@@ -64,6 +78,9 @@ fn code(words: &mut Words<'_>, codes: &mut Codes) -> Result<(), Fault> {
         Some(text) => codes.listed(text.as_bytes()).is_some(),
         None => codes.others.is_some(),
     };
+    if codes.codes.len() >= MOST_CODES {
+        return Err(words.fault("at most 4096 codes for one column"));
+    }
     if again {
         return Err(words.fault("a text that has no code yet"));
     }
@@ -71,7 +88,10 @@ fn code(words: &mut Words<'_>, codes: &mut Codes) -> Result<(), Fault> {
     words.want_sign("=")?;
     let code = signed_number(words)?;
     match text {
-        Some(text) => codes.codes.push((text, code)),
+        Some(text) => {
+            codes.by_text.insert(text.as_bytes().to_vec(), code);
+            codes.codes.push((text, code));
+        }
         None => codes.others = Some(code),
     }
     Ok(())

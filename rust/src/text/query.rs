@@ -5,7 +5,7 @@
 //! twice and letters that are not in the pattern are left to the library.
 
 use super::codes::{codes, Codes};
-use super::columns::{Columns, NamedColumn};
+use super::columns::{Columns, NamedColumn, MOST_COLUMNS};
 use super::conditions::{Condition, Known, Reading};
 use super::fault::{shown, Fault};
 use super::lines::lines;
@@ -407,6 +407,9 @@ impl<'a> Reader<'a> {
         }
         if self.codes.iter().any(|(other, _)| same(other, &column)) {
             return Err(key.fault("one code table for each column"));
+        }
+        if self.codes.len() >= MOST_COLUMNS {
+            return Err(key.fault("codes for at most 8 columns"));
         }
         let codes = codes(words)?;
         self.codes.push((column, codes));

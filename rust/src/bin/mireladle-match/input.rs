@@ -15,8 +15,10 @@ use mireladle::text::Fault;
 
 /// Bytes that are read at once.
 const CHUNK: usize = 1 << 18;
-/// A record is no longer, so that a file without line ends does not fill the memory.
+/// A record is no longer and has no more fields, so that a file without line ends does not fill the
+/// memory.
 const LONGEST_RECORD: usize = 1 << 24;
+const MOST_FIELDS: usize = 1 << 14;
 
 /// One field of a record: its bytes, without quotes.
 #[derive(Clone, Copy, Debug, PartialEq, Eq)]
@@ -214,8 +216,10 @@ impl Records {
                 self.line = line.saturating_add(split.lines);
                 let end = start.saturating_add(split.content);
                 let bytes = self.buffer.get(start..end).unwrap_or(&[]);
-                if split.open {
-                    return Err(self.unclosed(line, bytes, fields));
+                match split.end {
+                    End::Whole => {}
+                    End::Open => return Err(self.unclosed(line, bytes, fields)),
+                    End::Crowded => return Err(crowded(line, bytes)),
                 }
                 return Ok(Some(Record {
                     line,
@@ -226,13 +230,28 @@ impl Records {
             if bytes.len() >= LONGEST_RECORD {
                 return Err(self.unclosed(self.line, bytes, fields));
             }
-            self.fill()?;
+            self.read_on(bytes.len())?;
         }
     }
 
     /// Goes back to the record that was handed out last.
     pub fn back(&mut self) {
         (self.at, self.line) = self.before;
+    }
+
+    /// Reads on behind a part of a record of this length: of a long one until it is twice as long,
+    /// since it is looked at from its beginning each time.
+    fn read_on(&mut self, length: usize) -> Result<(), Stop> {
+        let enough = match length > CHUNK {
+            true => length.saturating_mul(2).min(LONGEST_RECORD),
+            false => 0,
+        };
+        loop {
+            self.fill()?;
+            if self.ended || self.filled.saturating_sub(self.at) >= enough {
+                return Ok(());
+            }
+        }
     }
 
     /// Reads on; what is not yet handed out moves to the front.
@@ -288,8 +307,28 @@ struct Split {
     length: usize,
     content: usize,
     lines: u64,
-    /// Whether the text ends inside quotes.
-    open: bool,
+    end: End,
+}
+
+/// How a record ends.
+enum End {
+    /// At a line end, or at the end of the file.
+    Whole,
+    /// Inside quotes, at the end of the file.
+    Open,
+    /// Behind too many fields.
+    Crowded,
+}
+
+/// The fault of a record with too many fields.
+fn crowded(line: u64, bytes: &[u8]) -> Stop {
+    let record = Record {
+        line,
+        bytes,
+        fields: &[],
+    };
+    let (fault, _) = record.fault_at(0, "at most 16,384 columns", "more");
+    Stop::Fault(fault, String::new())
 }
 
 /// The fields of the record at the front of some bytes; none where it may go on behind them.
@@ -316,7 +355,7 @@ fn split(bytes: &[u8], delimiter: u8, last: bool, fields: &mut Vec<Field>) -> Op
                     length: bytes.len(),
                     content: bytes.len(),
                     lines,
-                    open: true,
+                    end: End::Open,
                 });
             };
             field.end = quoted.at;
@@ -335,14 +374,20 @@ fn split(bytes: &[u8], delimiter: u8, last: bool, fields: &mut Vec<Field>) -> Op
             field.odd = !behind.iter().all(u8::is_ascii_whitespace);
         }
         fields.push(field);
-        let whole = |length| {
+        let whole = |length: usize| {
             Some(Split {
                 length,
                 content: stop,
                 lines,
-                open: false,
+                end: match fields.len() <= MOST_FIELDS {
+                    true => End::Whole,
+                    false => End::Crowded,
+                },
             })
         };
+        if fields.len() > MOST_FIELDS {
+            return whole(stop);
+        }
         let next = stop.saturating_add(1);
         match bytes.get(stop) {
             None if last => return whole(stop),
@@ -475,6 +520,9 @@ mod tests {
             words.starts_with("2:1: expected a line end in the first "),
             "{words}"
         );
+        let wide = all(&b",1".repeat(MOST_FIELDS + 9), 1000);
+        let words = "1:1: expected at most 16,384 columns, found more";
+        assert_eq!(wide, [(0, vec![String::from(words)])]);
     }
 
     #[test]

@@ -97,9 +97,9 @@ fn w1_in_the_spelling_of_sql() {
             ["A+", "B"]
         );
         assert_eq!(read.warnings, []);
-        let partition = if text == &whole { &["event"][..] } else { &[] };
+        let partition = if text == whole { &["event"][..] } else { &[] };
         assert_eq!(read.partition_by, partition);
-        assert_eq!(read.order_by.is_some(), text == &whole);
+        assert_eq!(read.order_by.is_some(), text == whole);
     }
 }
 
@@ -199,6 +199,33 @@ fn codes_stand_for_texts() {
     assert_eq!(
         fault("event: x=1\nc1: y=2"),
         "3:1: expected one code table for each column, found `c1`"
+    );
+    let many = |count| {
+        (0..count)
+            .map(|at| format!("t{at}={at}"))
+            .collect::<Vec<_>>()
+    };
+    let text = format!(
+        "pattern: A\nA: event = 't4095'\nevent: {}",
+        many(4096).join(",")
+    );
+    let read = read_with(&text, &names()).unwrap();
+    assert_eq!(
+        read.builder,
+        Query::builder(1)
+            .pattern("A")
+            .define('A', [col(0).eq(4095)])
+    );
+    let more = fault(&format!("event: {}", many(4097).join(",")));
+    assert!(
+        more.contains("expected at most 4096 codes for one column, found `t4096`"),
+        "{more}"
+    );
+    let tables: Vec<String> = (0..9).map(|at| format!("x{at}: on=1\n")).collect();
+    let more = super::read(&tables.concat()).unwrap_err().to_string();
+    assert_eq!(
+        more,
+        "9:1: expected codes for at most 8 columns, found `x8`"
     );
     assert_eq!(
         fault("event: x=one"),
