@@ -383,6 +383,16 @@ fn delimiters_and_headers() {
         told(&[], b"a,b\n1,\"2\n3,4\n"),
         "standard input:2:3: expected a closing quote, found the end of the file"
     );
+    // Names and cells that nobody asks for may be in another encoding; one that is asked for may not.
+    let latin = run_on(
+        &["-e", "pattern: A\nA: b = 2", "-c"],
+        b"gr\xF6\xDFe,b\n\xE4,2\n",
+    );
+    assert_eq!(latin, (0, String::from("1\n"), String::new()));
+    assert_eq!(
+        told(&["-p", "gr\u{F6}\u{DF}e"], b"a,gr\xF6\xDFe\n1,2\n"),
+        "standard input:1:3: expected text in UTF-8, found the byte 0xF6"
+    );
     // Names that nobody asks for may stand twice; one that is asked for may not.
     let twice = run_on(&["-e", "pattern: A\nA: b = 2", "-c"], b"a,,b,a,\n1,,2,3,\n");
     assert_eq!(twice, (0, String::from("1\n"), String::new()));

@@ -3,7 +3,7 @@
 //! name 8 columns of rows that have many more: they are numbered in the order of the rows, or of
 //! the text where that is not known.
 
-use super::fault::Fault;
+use super::fault::{cut, Fault};
 use super::words::{is_name, Word, Words};
 
 /// The most columns that one query can name.
@@ -136,7 +136,7 @@ pub fn one_of_the_columns(names: &[String]) -> String {
     const MOST_SHOWN: usize = 40;
     let both = |(index, name): (usize, &String)| match index_named(name) {
         Some(_) => format!("c{index}"),
-        None => format!("c{index} or {}", as_written(name)),
+        None => format!("c{index} or {}", as_written(&cut(name))),
     };
     let mut all: Vec<String> = names
         .iter()

@@ -81,23 +81,33 @@ impl Layout {
     }
 }
 
-/// The names in the first line.
-pub fn names(path: &Path, record: &Record<'_>, delimiter: u8) -> Result<Vec<String>, Failure> {
+/// The names in the first line, and what is wrong where one of them is no text in UTF-8: that counts
+/// only where a name is asked for that is not found.
+pub fn names(
+    path: &Path,
+    record: &Record<'_>,
+    delimiter: u8,
+) -> Result<(Vec<String>, Option<Failure>), Failure> {
     let wrong = |(fault, line): (Fault, String)| Failure::rows(path, fault, line);
     let mut names = Vec::new();
+    let mut not_text = None;
     for index in 0..record.fields.len() {
         let cell = record.cell(index);
-        match std::str::from_utf8(&cell) {
-            Ok(name) => names.push(String::from(name)),
-            Err(error) => {
-                let byte = cell.get(error.valid_up_to()).copied().unwrap_or(0);
-                let (mut fault, _) = record.fault(index, "text in UTF-8");
-                fault.found = match cell.starts_with(b"\xFF\xFE") || cell.starts_with(b"\xFE\xFF") {
-                    true => String::from("UTF-16: save the file as CSV in UTF-8"),
-                    false => format!("the byte {byte:#04X}"),
-                };
-                return Err(wrong((fault, String::new())));
-            }
+        if let Err(error) = std::str::from_utf8(&cell) {
+            let byte = cell.get(error.valid_up_to()).copied().unwrap_or(0);
+            let (mut fault, _) = record.fault(index, "text in UTF-8");
+            fault.found = match cell.starts_with(b"\xFF\xFE") || cell.starts_with(b"\xFE\xFF") {
+                true => String::from("UTF-16: save the file as CSV in UTF-8"),
+                false => format!("the byte {byte:#04X}"),
+            };
+            not_text.get_or_insert(wrong((fault, String::new())));
+        }
+        names.push(String::from_utf8_lossy(&cell).into_owned());
+    }
+    let control = |byte: &u8| byte.is_ascii_control() && !byte.is_ascii_whitespace();
+    if record.bytes.iter().any(control) {
+        if let Some(failure) = not_text {
+            return Err(failure);
         }
     }
     if record.bytes.contains(&0) {
@@ -119,7 +129,7 @@ pub fn names(path: &Path, record: &Record<'_>, delimiter: u8) -> Result<Vec<Stri
             return Err(wrong(record.fault(0, expected)));
         }
     }
-    Ok(names)
+    Ok((names, not_text))
 }
 
 /// The names of a file without any.

@@ -101,9 +101,10 @@ fn answer(search: &Search) -> Result<u8, Failure> {
     let mut records = file.records(search.delimiter).map_err(unread(search))?;
     let mut fields = Vec::new();
     let first = read_record(search, &mut records, &mut fields)?;
-    let names = column_names(search, first.as_ref())?;
-    let text = read_query(&path, &source, &names)?;
-    let layout = Layout::new(names, &text, search)?;
+    let (names, mut not_text) = column_names(search, first.as_ref())?;
+    let mut or_not_text = |failure| not_text.take().unwrap_or(failure);
+    let text = read_query(&path, &source, &names).map_err(&mut or_not_text)?;
+    let layout = Layout::new(names, &text, search).map_err(or_not_text)?;
     if let Some(record) = first.as_ref().filter(|_| search.header) {
         layout::twice(&layout, &search.rows, record)?;
     }
@@ -166,11 +167,14 @@ fn is_read_twice(file: &Source, layout: &Layout) -> bool {
     large && !layout.partition.is_empty()
 }
 
-/// The names of the columns, by the first record.
-fn column_names(search: &Search, first: Option<&Record<'_>>) -> Result<Vec<String>, Failure> {
+/// The names of the columns, by the first record, and what is wrong with their encoding.
+fn column_names(
+    search: &Search,
+    first: Option<&Record<'_>>,
+) -> Result<(Vec<String>, Option<Failure>), Failure> {
     match (first, search.header) {
         (Some(record), true) => layout::names(&search.rows, record, search.delimiter),
-        (Some(record), false) => Ok(layout::numbered(record.fields.len())),
+        (Some(record), false) => Ok((layout::numbered(record.fields.len()), None)),
         (None, _) => {
             let expected = match search.header {
                 true => "a first line with the names of the columns",

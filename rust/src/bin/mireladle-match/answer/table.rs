@@ -4,7 +4,7 @@
 //! Names and cells come from the input and are shown without anything that would upset a screen.
 
 use mireladle::text::no_row_behind;
-use mireladle::text::screen::{visible, width};
+use mireladle::text::screen::{cut, visible, width};
 use mireladle::{Ending, Match};
 
 use super::{Answering, Searched, Tally};
@@ -181,7 +181,8 @@ fn cells(
     let cells = searched.cells(row, answering.search.delimiter);
     let cell = |at: &usize| {
         let cell = cells.get(*at).map_or(&[][..], |cell| cell);
-        shown_name(&String::from_utf8_lossy(cell))
+        // A long text would push the labels off the screen.
+        shown_name(&cut(&String::from_utf8_lossy(cell)))
     };
     shown.iter().map(cell).collect()
 }
