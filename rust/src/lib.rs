@@ -34,6 +34,8 @@
 //! # Ok::<(), mireladle::Error>(())
 //! ```
 //!
+//! The same query as people write it, in lines or in SQL's clauses, is read by [`text::read`].
+//!
 //! # How long a search takes
 //!
 //! The steps of a search are bounded, and counted in its report. A search that skips past the last

@@ -31,6 +31,16 @@ pub struct NamedColumn {
     pub column: usize,
 }
 
+impl NamedColumn {
+    /// Whether another name is of the same column.
+    pub fn is(&self, other: &NamedColumn) -> bool {
+        match self.index {
+            Some(_) => self.index == other.index,
+            None => self.name == other.name,
+        }
+    }
+}
+
 /// All columns that were named so far, in the order of the text.
 pub struct Columns<'a> {
     names: Option<&'a [String]>,
@@ -48,11 +58,7 @@ impl<'a> Columns<'a> {
     /// Passes the name of a column, and gives its place among those named.
     pub fn want(&mut self, words: &mut Words<'_>) -> Result<usize, Fault> {
         let found = self.find(words)?;
-        let same = |other: &NamedColumn| match found.index {
-            Some(_) => other.index == found.index,
-            None => other.name == found.name,
-        };
-        let known = self.named.iter().position(same);
+        let known = self.named.iter().position(|other| other.is(&found));
         let slot = known.unwrap_or(self.named.len());
         if slot >= MOST_COLUMNS {
             return Err(words.fault("at most 8 different columns in one query"));

@@ -255,7 +255,7 @@ impl<'a> Reader<'a> {
                 self.at = behind;
                 Ok(())
             }
-            Word::Sign(")") if matches!(colon_word(self.tokens, behind), Word::Sign(";")) => {
+            Word::Sign(")") if matches!(word_at(self.tokens, behind), Word::Sign(";")) => {
                 self.at = behind;
                 Ok(())
             }
@@ -335,7 +335,7 @@ impl<'a> Reader<'a> {
 
     /// How the key of a part is written.
     fn key(&self, token: &Token) -> String {
-        let behind = colon_word(self.tokens, self.at.saturating_add(1));
+        let behind = word_at(self.tokens, self.at.saturating_add(1));
         match (&token.word, behind) {
             (Word::Name(name), Word::Sign(":")) => format!("{name}:"),
             (Word::Name(name), _) => name.to_ascii_uppercase(),
@@ -405,7 +405,7 @@ impl<'a> Reader<'a> {
         if column.index.is_none() && words.peek_behind(1) != &Word::Sign("=") {
             return Err(key.fault(KEYS));
         }
-        if self.codes.iter().any(|(other, _)| same(other, &column)) {
+        if self.codes.iter().any(|(other, _)| other.is(&column)) {
             return Err(key.fault("one code table for each column"));
         }
         if self.codes.len() >= MOST_COLUMNS {
@@ -538,16 +538,16 @@ impl<'a> Reader<'a> {
             let found = "the end of the file";
             return Err(Fault::new(line, column, "a `pattern:` line", found));
         };
-        let named = &self.columns.named;
         let code_of = |column: &NamedColumn| {
-            let table = self.codes.iter().find(|(coded, _)| same(coded, column));
+            let table = self.codes.iter().find(|(coded, _)| coded.is(column));
             table.map(|(_, codes)| codes.clone())
         };
+        let named = &self.columns.named;
         let names: Vec<String> = named.iter().map(|named| named.name.clone()).collect();
         let codes: Vec<Option<Codes>> = named.iter().map(code_of).collect();
-        let columns = self.columns.numbered();
+        let (numbers, sorted) = self.columns.numbered();
         let known = Known {
-            numbers: &columns.0,
+            numbers: &numbers,
             names: &names,
             codes: &codes,
         };
@@ -556,23 +556,18 @@ impl<'a> Reader<'a> {
             index: named.index,
             codes: code_of(named),
         };
-        let query_columns: Vec<QueryColumn> = columns.1.iter().map(query_column).collect();
+        let columns: Vec<QueryColumn> = sorted.iter().map(query_column).collect();
         let skip = self.skip.unwrap_or_default();
-        let count = u8::try_from(query_columns.len().max(1)).unwrap_or(u8::MAX);
-        let mut builder = Query::builder(count).pattern(&*pattern.text).skip(skip);
-        for define in &self.defines {
-            let comparisons = define.condition.comparisons(&known)?;
-            if !comparisons.is_empty() {
-                builder = builder.define(define.letter, comparisons);
-            }
-        }
         let measures = self.measures.unwrap_or_default();
-        for measured in &measures {
-            builder = builder.measure(measured.measure(&columns.0));
-        }
+        let builder = Query::builder(u8::try_from(columns.len().max(1)).unwrap_or(u8::MAX));
+        let builder = builder.pattern(&*pattern.text).skip(skip);
+        let builder = with_defines(builder, &self.defines, &known)?;
+        let builder = measures.iter().fold(builder, |builder, measured| {
+            builder.measure(measured.measure(&numbers))
+        });
         Ok(QueryText {
             builder,
-            columns: query_columns,
+            columns,
             titles: measures.into_iter().map(|it| it.title).collect(),
             skip,
             partition_by: self.partition_by,
@@ -585,16 +580,24 @@ impl<'a> Reader<'a> {
     }
 }
 
-fn colon_word(tokens: &[Token], at: usize) -> &Word {
-    tokens.get(at).map_or(&Word::End, |token| &token.word)
+/// The builder with what the letters' DEFINEs say; one that says `true` needs none.
+fn with_defines(
+    mut builder: QueryBuilder,
+    defines: &[Define],
+    known: &Known<'_>,
+) -> Result<QueryBuilder, Fault> {
+    for define in defines {
+        let comparisons = define.condition.comparisons(known)?;
+        if !comparisons.is_empty() {
+            builder = builder.define(define.letter, comparisons);
+        }
+    }
+    Ok(builder)
 }
 
-/// Whether two names are of one column.
-fn same(one: &NamedColumn, other: &NamedColumn) -> bool {
-    match one.index {
-        Some(_) => one.index == other.index,
-        None => one.name == other.name,
-    }
+/// The word so many behind the first.
+fn word_at(tokens: &[Token], at: usize) -> &Word {
+    tokens.get(at).map_or(&Word::End, |token| &token.word)
 }
 
 /// A query's character with its place and its byte.

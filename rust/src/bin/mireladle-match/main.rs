@@ -117,17 +117,18 @@ fn answer(search: &Search) -> Result<u8, Failure> {
         // The first line is a row.
         records.back();
     }
-    let mut closing = Closing::AtEnd;
-    if search.grouped {
-        closing = Closing::AtNext;
-    } else if is_read_twice(&file, &layout) {
-        let mut before = file.records(search.delimiter).map_err(unread(search))?;
-        closing = last_records(&mut before, &layout, search.header);
-        records = file.records(search.delimiter).map_err(unread(search))?;
-        if search.header {
-            read_record(search, &mut records, &mut fields)?;
+    let closing = match search.grouped {
+        true => Closing::AtNext,
+        false if is_read_twice(&file, &layout) => {
+            let closing = ends_of_partitions(search, &file, &layout)?;
+            records = file.records(search.delimiter).map_err(unread(search))?;
+            if search.header {
+                read_record(search, &mut records, &mut fields)?;
+            }
+            closing
         }
-    }
+        false => Closing::AtEnd,
+    };
     let keep = Answering::keeps_records(search, &asked.text);
     let reading = Reading {
         search,
@@ -165,6 +166,12 @@ const LARGE_FILE: u64 = 32_000_000;
 fn is_read_twice(file: &Source, layout: &Layout) -> bool {
     let large = file.length.is_some_and(|length| length >= LARGE_FILE);
     large && !layout.partition.is_empty()
+}
+
+/// Where each partition ends, by a first reading of the file.
+fn ends_of_partitions(search: &Search, file: &Source, layout: &Layout) -> Result<Closing, Failure> {
+    let mut records = file.records(search.delimiter).map_err(unread(search))?;
+    Ok(last_records(&mut records, layout, search.header))
 }
 
 /// The names of the columns, by the first record, and what is wrong with their encoding.
