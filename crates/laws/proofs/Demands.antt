@@ -1,40 +1,46 @@
 -- The tender's demands hold of every accepted search (specs/Demands): for every query, all rows and
 -- all lent buffers, every skip mode and every allowance of steps, done, stopped and halted.
 use mathlib.Core.Path.{_≡_, refl, ap, sym, _∙_}
-use mathlib.Core.Bool.{Bool, false}
-use mathlib.Core.List.{List, [], _∷_, _++_}
+use mathlib.Core.Bool.{Bool, true, false}
+use mathlib.Core.List.{List, [], _∷_, _++_, append-assoc, map-append}
 use mathlib.Core.Logic.{_⊎_, _↔_}
 use mathlib.Core.Option.{Option, none, some}
-use Prim.Native.Nat.{ℕ, _*_, _/_, _≤_, _<_}
+use Prim.Native.Nat.{ℕ, _+_, _*_, _/_, _≤_, _<_}
 use native.Mathlib.Omega.{arith}
 use lib.IntN.{ℤ}
-use lib.ListN.{length, getD}
-use Rattle.rules.specs.Basics.{Begins}
-use Rattle.rules.specs.Query.{textOf}
+use lib.ListN.{length, getD, drop}
+use Rattle.rules.specs.Basics.{Begins, wrote}
+use Rattle.rules.specs.Query.{textOf, parts}
 use Rattle.rules.specs.Language.{Tree, pattern, Written, emptyLoop}
-use Rattle.rules.specs.Places.{Place, unroll, places}
+use Rattle.rules.specs.Places.{Place, unroll, places, placesOf}
 use Rattle.rules.specs.Readings.{SomeReading}
-use Rattle.rules.specs.Walk.{IsOpen, pairs, firstAt, pairWays}
+use Rattle.rules.specs.Walk.{outOfSteps, outOfRows, IsOpen, pairs, firstAt, pairWays}
 use Rattle.rules.specs.Preferment.{Preferred, Reports}
-use Rattle.rules.specs.Search.{Match, Finished, openOf, Skip, pastLast, Swept, Terms, within, whole, walkSearch, plainSearch, labels, endOf, plainFrom, shownOne, shown, shownEnd}
-use Rattle.rules.specs.Report.{fits, bytesFor, bitAt, notesOf}
-use Rattle.rules.specs.Answers.{treeIn, Task, taskOf, letterHolds, walkedOn, backtracked, Buffers, refusal, answerBy, answerWithin, reportOf, walkWithin, plainOf, reportWithin, plainReport, accepted, searchWithin, searchOf}
-use Rattle.rules.specs.Demands.{Demand2, Demand3, Demands, Allowing}
-use Rattle.laws.proofs.Accepted.{accepted-within, granted-when, places-are}
+use Rattle.rules.specs.Search.{Match, End, done, full, stuck, unfinished, Finished, Kept, openOf, Skip, pastLast, Swept, Terms, within, whole, walkSearch, plainSearch, labels, endOf, plainFrom, shownOne, shown, shownEnd}
+use Rattle.rules.specs.Report.{numbersOf, labelsOf, fits, bytesFor, bitAt, notesOf, zeros}
+use Rattle.rules.specs.Answers.{treeIn, Task, taskOf, letterHolds, walkedOn, backtracked, Buffers, Memory, refusal, haltAnswer, endAnswer, answerBy, answerWithin, reportOf, walkWithin, plainOf, reportWithin, plainReport, accepted, searchWithin, searchOf}
+use Rattle.rules.specs.Entries.{entriesIn, entryOf, entriesOf}
+use Rattle.rules.specs.Demands.{reportIn, Demand2, Demand3, Demands, Allowing}
+use Rattle.laws.proofs.Accepted.{Granted, accepted-within, answer-within, granted-when, places-are}
 use Rattle.laws.proofs.Allowed.{search-bound, search-each, search-within, end-within, EndWithin, allows-begins, finished-whole, search-allowed, allowance-enough}
 use Rattle.laws.proofs.Bounds.{Bounds, written-bounds}
-use Rattle.laws.proofs.Counting.{legal-unroll}
+use Rattle.laws.proofs.Counting.{legal-unroll, places-counted}
 use Rattle.laws.proofs.DerivationReadings.{parses-reads}
+use Rattle.laws.proofs.EntriesRead.{entries-read, behind-wrote}
+use Rattle.laws.proofs.FirstDemand.{no-waiting}
+use Rattle.laws.proofs.FoundPaths.{Path, plain-each, follows-each}
 use Rattle.laws.proofs.Grammar.{tree-exactly}
 use Rattle.laws.proofs.GreatestDerivation.{found-is-greatest}
+use Rattle.laws.proofs.Limits.{numbers-long}
 use Rattle.laws.proofs.Lists.{front-wrote}
 use Rattle.laws.proofs.Noted.{length-notes, noted}
 use Rattle.laws.proofs.Paths.{failed-no-path}
 use Rattle.laws.proofs.OpenPairs.{search-leads, open-once}
 use Rattle.laws.proofs.PatternWalk.{falls, search-follows, search-sum, search-out, search-kept, walk-finished}
-use Rattle.laws.proofs.PrefermentReports.{plain-reports, reports-one}
+use Rattle.laws.proofs.PrefermentReports.{plain-reports, reports-one, reports-begin}
 use Rattle.laws.proofs.Rank.{rank}
 use Rattle.laws.proofs.TreeReadings.{match-exactly}
+use Rattle.laws.proofs.Waits.{EndNoWait}
 use Rattle.laws.proofs.Walk.{All-at}
 use Rattle.rules.specs.Working.{All, Out}
 
@@ -60,6 +66,9 @@ shown-append pl (x ∷ xs) ys = ap (λ (r : List (ℕ × List ℕ)). shownOne pl
 shown-begins : (pl : List Place) (xs ys : List Match) → Begins xs ys → Begins (shown pl xs) (shown pl ys)
 shown-begins pl xs ys b = (shown pl (b .0), ap (shown pl) (b .1) ∙ shown-append pl xs (b .0))
 
+begins-trans : {A : Type 0} (xs ys zs : List A) → Begins xs ys → Begins ys zs → Begins xs zs
+begins-trans {A} xs ys zs a b = (a .0 ++ b .0, b .1 ∙ ap (λ (l : List A). l ++ b .0) (a .1) ∙ append-assoc xs (a .0) (b .0))
+
 -- for a task whose places are those of a pattern that is read, on any terms
 module _ (p : Tree pattern) (g : emptyLoop p ≡ false) (t : Task) (e : t .places ≡ places (unroll p)) (nums labs : ℕ) (terms : Terms) (le : t .table .n ≤ terms .largest) where
   -- the walk follows plain backtracking
@@ -78,6 +87,8 @@ module _ (p : Tree pattern) (g : emptyLoop p ≡ false) (t : Task) (e : t .place
       let n = t .table .n in
       let r = fits nums labs (t .measures) in
       let told = matches-reported p g o (t .places) e h n (t .skip) r in
+      let unlimited = plainSearch h n (t .places) (t .skip) (λ m l w. true) in
+      let told-unlimited = matches-reported p g o (t .places) e h n (t .skip) (λ m l w. true) in
       record {
         exists = matches-exactly p g o (t .places) e h n;
         preferred = matches-preferred p g o (t .places) e h n;
@@ -88,6 +99,13 @@ module _ (p : Tree pattern) (g : emptyLoop p ≡ false) (t : Task) (e : t .place
         only = λ ms end x. reports-one p h n (t .skip) r x told;
         holds-all = λ f. (ap (shown (t .places)) (task-follows .0 f .0), ap (shownEnd (t .places)) (task-follows .0 f .1));
         holds-first = shown-begins (t .places) (walkedOn terms t nums labs .matches) (backtracked t nums labs .matches) (task-follows .1);
+        unlimited = shown (t .places) (unlimited .matches);
+        unlimited-last = shownEnd (t .places) (unlimited .end);
+        unlimited-report = told-unlimited;
+        first-of-unlimited =
+            begins-trans (shown (t .places) (walkedOn terms t nums labs .matches)) (shown (t .places) (backtracked t nums labs .matches)) (shown (t .places) (unlimited .matches))
+            (shown-begins (t .places) (walkedOn terms t nums labs .matches) (backtracked t nums labs .matches) (task-follows .1))
+            (reports-begin p h n (t .skip) r told told-unlimited);
       }
 
 -- ---- demand 3
@@ -108,7 +126,7 @@ task-out p g t e nums labs terms le = rw e (search-out (unroll p) (legal-unroll 
 -- the same for a task whose places are those of the pattern
 pub third : (p : Tree pattern) (g : emptyLoop p ≡ false) (t : Task) (e : t .places ≡ places (unroll p)) (nums labs : ℕ) (terms : Terms) → t .table .n ≤ terms .largest
     → Demand3 t (terms .largest) (walkedOn terms t nums labs) (backtracked t nums labs)
-unfolding walkedOn
+unfolding walkedOn backtracked
 third p g t e nums labs terms le =
     let l = legal-unroll p g in
     let h = letterHolds t in
@@ -118,6 +136,9 @@ third p g t e nums labs terms le =
       bound = rw e (bounded p g h n terms le (t .skip) r);
       bound-each = rw e (search-each (unroll p) l (t .skip) r h n terms le);
       sum = rw e (search-sum (unroll p) l h n terms le (t .skip) r);
+      paths =
+          follows-each (Path h n (t .places)) (walkedOn terms t nums labs) (backtracked t nums labs) (task-follows p g t e nums labs terms le .1) (task-follows p g t e nums labs terms le .0)
+          (plain-each h n (t .places) (t .skip) r);
       still-open = λ w i x d.
           let o : (x ≡ []) ⊎ IsOpen (pairWays h n (t .places)) (firstAt (length (t .places)) i) x = rw d at (search-leads terms h n (t .places) (t .skip) r) in
           (o, open-once (pairWays h n (t .places)) (rank (unroll p) n) (pairs (length (t .places)) n) (rw e (falls (unroll p) l h n)) o, λ y m. All-at (Out (walkedOn terms t nums labs .state .0)) m (rw d at (task-out p g t e nums labs terms le)));
@@ -144,41 +165,147 @@ pub search-accepted : (a : Option ℕ) (q : List ℕ) (rows : List ℤ) (lent : 
 unfolding searchWithin
 search-accepted a q rows lent ok = rw (accepted-within q rows lent a ok)
 
-module _ (a : Option ℕ) (q : List ℕ) (rows : List ℤ) (lent : Buffers) (ok : refusal q rows lent ≡ 0) where
-  noted-bits : (x : ℕ) → x < 8 * bytesFor (length (walkWithin a q rows lent .state .0)) → bitAt (searchWithin a q rows lent .buffers .notes) x ≡ getD (walkWithin a q rows lent .state .0) x false
-  unfolding accepted bitAt
-  noted-bits x h =
-      let F : List Bool = walkWithin a q rows lent .state .0 in
-      let l : x / 8 < length (notesOf F) = rw (length-notes F) (omega arith) in
-      rw (search-accepted a q rows lent ok, front-wrote (lent .notes) (notesOf F) (x / 8) 0 l) (noted F x h)
-
--- ---- both
-
 -- document 01's search of a pattern does not halt
 task-finished : (p : Tree pattern) (g : emptyLoop p ≡ false) (t : Task) (e : t .places ≡ places (unroll p)) (nums labs : ℕ) → Finished (walkedOn (whole (t .table .n)) t nums labs .end)
 unfolding walkedOn
 task-finished p g t e nums labs = rw e (walk-finished (unroll p) (legal-unroll p g) (letterHolds t) (t .table .n) (t .skip) (fits nums labs (t .measures)))
 
-pub demands : (a : Option ℕ) (q : List ℕ) (rows : List ℤ) (lent : Buffers) → refusal q rows lent ≡ 0 → Demands a q rows lent
-unfolding walkWithin plainOf reportWithin plainReport answerWithin treeIn
-demands al q rows lent ok =
-    let a = granted-when q rows lent ok in
-    let p = a .tree in
-    let w : Written p (textOf q) = tree-exactly (textOf q) p .0 (a .has-tree) in
-    let t = taskOf q rows in
-    let e = places-are q rows p (a .has-tree) in
-    let d = third p (a .no-empty-loop) t e (length (lent .numbers)) (length (lent .labels)) (within al (t .table .n)) (omega arith) in
-    record {
-      tree = p;
-      written = w;
-      demand2 = second p (a .no-empty-loop) t e (length (lent .numbers)) (length (lent .labels)) (within al (t .table .n)) (omega arith) (written-bounds w);
-      demand3 = d;
-      finished = λ n. rw n (task-finished p (a .no-empty-loop) t e (length (lent .numbers)) (length (lent .labels)));
-      like-plain = λ f.
-          report-same (answerWithin al q rows lent) (answerBy q rows lent (plainOf q rows lent)) (taskOf q rows) lent (walkWithin al q rows lent) (plainOf q rows lent)
-          (answer-same q rows lent (walkWithin al q rows lent) (plainOf q rows lent) (d .like-all f .1)) (d .like-all f .0);
-      noted = noted-bits al q rows lent ok;
-    }
+-- a search that has halted for steps has the answer 16
+halted-16 : (e : End Match) → EndNoWait e → (endAnswer e ≡ 16 → ⊥) → Finished e
+unfolding endAnswer haltAnswer
+halted-16 done w d = tt
+halted-16 (full m) w d = tt
+halted-16 stuck w d = tt
+halted-16 (unfinished outOfSteps i p) w d = d refl
+halted-16 (unfinished outOfRows i p) w d = w
+
+module _ (a : Option ℕ) (q : List ℕ) (rows : List ℤ) (lent : Buffers) (ok : refusal q rows lent ≡ 0) where
+  abbrev t : Task
+  t = taskOf q rows
+
+  abbrev r : Swept Kept
+  r = walkWithin a q rows lent
+
+  abbrev g : Granted q rows lent
+  g = granted-when q rows lent ok
+
+  places-in : t .places ≡ places (unroll (g .tree))
+  places-in = places-are q rows (g .tree) (g .has-tree)
+
+  counted : length (t .places) ≡ placesOf (g .tree)
+  counted = ap length places-in ∙ places-counted (g .tree)
+
+  third-in : Demand3 t (t .table .n) r (plainOf q rows lent)
+  unfolding walkWithin plainOf
+  third-in = third (g .tree) (g .no-empty-loop) t places-in (length (lent .numbers)) (length (lent .labels)) (within a (t .table .n)) (omega arith)
+
+  kept-all : length (r .state .0) ≡ pairs (placesOf (g .tree)) (t .table .n)
+  kept-all = third-in .pairs-kept ∙ ap (λ (k : ℕ). pairs k (t .table .n)) counted
+
+  abbrev m : Memory
+  m = accepted (reportWithin a q rows lent) (r .state) lent
+
+  noted-in : (x : ℕ) → x < 8 * bytesFor (pairs (placesOf (g .tree)) (t .table .n)) → bitAt (m .buffers .notes) x ≡ getD (r .state .0) x false
+  unfolding accepted bitAt
+  noted-in x h =
+      let F : List Bool = r .state .0 in
+      let h′ : x < 8 * bytesFor (length F) = rw kept-all h in
+      let l : x / 8 < length (notesOf F) = rw (length-notes F) (omega arith) in
+      rw (front-wrote (lent .notes) (notesOf F) (x / 8) 0 l) (noted F x h′)
+
+  trail-in : m .buffers .trail ≡ wrote (lent .trail) 0 (zeros (pairs (placesOf (g .tree)) (t .table .n)))
+  unfolding accepted
+  trail-in = ap (λ (k : ℕ). wrote (lent .trail) 0 (zeros k)) kept-all
+
+  notes-behind : drop (bytesFor (pairs (placesOf (g .tree)) (t .table .n))) (m .buffers .notes) ≡ drop (bytesFor (pairs (placesOf (g .tree)) (t .table .n))) (lent .notes)
+  unfolding accepted
+  notes-behind = behind-wrote (lent .notes) (notesOf (r .state .0)) (bytesFor (pairs (placesOf (g .tree)) (t .table .n))) (length-notes (r .state .0) ∙ ap bytesFor kept-all)
+
+  report-in : (reportIn m ≡ reportWithin a q rows lent) × (m .result .answer ≡ endAnswer (r .end))
+  unfolding accepted reportWithin reportOf
+  report-in = (refl, answer-within q rows lent a ok)
+
+  counts-in : (m .result .matches ≡ length (r .matches)) × (m .result .labels ≡ length (labelsOf (t .places) (r .matches)))
+  unfolding accepted reportWithin reportOf
+  counts-in = (refl, refl)
+
+  entries-in : entriesIn q m ≡ entriesOf (t .table) (t .measures) (shown (t .places) (r .matches))
+  unfolding entriesIn accepted reportWithin reportOf wrote taskOf
+  entries-in =
+      entries-read (t .table) (t .measures) (t .places) 0 (r .matches) (drop (0 + length (numbersOf (t .table) (t .measures) (t .places) 0 (r .matches))) (lent .numbers))
+      (drop (0 + length (labelsOf (t .places) (r .matches))) (lent .labels))
+
+  numbers-in : m .buffers .numbers ≡ wrote (lent .numbers) 0 (numbersOf (t .table) (t .measures) (t .places) 0 (r .matches))
+  unfolding accepted reportWithin reportOf
+  numbers-in = refl
+
+  numbers-behind : drop (length (r .matches) * (3 + 2 * length (parts q .measures))) (m .buffers .numbers) ≡ drop (length (r .matches) * (3 + 2 * length (parts q .measures))) (lent .numbers)
+  unfolding accepted reportWithin reportOf taskOf
+  numbers-behind =
+      behind-wrote (lent .numbers) (numbersOf (t .table) (t .measures) (t .places) 0 (r .matches)) (length (r .matches) * (3 + 2 * length (parts q .measures)))
+      (numbers-long (t .table) (t .measures) (t .places) 0 (r .matches))
+
+  labels-behind : drop (length (labelsOf (t .places) (r .matches))) (m .buffers .labels) ≡ drop (length (labelsOf (t .places) (r .matches))) (lent .labels)
+  unfolding accepted reportWithin reportOf
+  labels-behind = behind-wrote (lent .labels) (labelsOf (t .places) (r .matches)) (length (labelsOf (t .places) (r .matches))) refl
+
+  like : Finished (r .end) → reportWithin a q rows lent ≡ plainReport q rows lent
+  unfolding reportWithin plainReport answerWithin
+  like f =
+      report-same (answerWithin a q rows lent) (answerBy q rows lent (plainOf q rows lent)) t lent r (plainOf q rows lent) (answer-same q rows lent r (plainOf q rows lent) (third-in .like-all f .1)) (third-in .like-all f .0)
+
+  first-plain : Begins (entriesIn q m) (entriesOf (t .table) (t .measures) (shown (t .places) (plainOf q rows lent .matches)))
+  first-plain =
+      rw entries-in
+      (let b = shown-begins (t .places) (r .matches) (plainOf q rows lent .matches) (third-in .like-first) in
+      (entriesOf (t .table) (t .measures) (b .0), ap (entriesOf (t .table) (t .measures)) (b .1) ∙ map-append (entryOf (t .table) (t .measures)) (shown (t .places) (r .matches)) (b .0)))
+
+  steps-in : m .result .steps ≡ r .state .1
+  unfolding accepted
+  steps-in = refl
+
+  finishes : a ≡ none → Finished (r .end)
+  unfolding walkWithin
+  finishes n = rw n (task-finished (g .tree) (g .no-empty-loop) t places-in (length (lent .numbers)) (length (lent .labels)))
+
+  finishes-by : (m .result .answer ≡ 16 → ⊥) → Finished (r .end)
+  finishes-by d = halted-16 (r .end) (no-waiting a q rows lent) (λ e. d (report-in .1 ∙ e))
+
+  demands-in : Demands a q rows lent m
+  unfolding walkWithin treeIn
+  demands-in =
+      let p = g .tree in
+      let w : Written p (textOf q) = tree-exactly (textOf q) p .0 (g .has-tree) in
+      record {
+        tree = p;
+        written = w;
+        P-counted = counted;
+        demand2 = second p (g .no-empty-loop) t places-in (length (lent .numbers)) (length (lent .labels)) (within a (t .table .n)) (omega arith) (written-bounds w);
+        demand3 = third-in;
+        finished = finishes;
+        not-halted = finishes-by;
+        ended = report-in .1;
+        steps = steps-in;
+        bound = λ s. rw (steps-in, ← counted) (third-in .bound s);
+        bound-each = rw (steps-in, ← counted) (third-in .bound-each);
+        sum = steps-in ∙ third-in .sum;
+        noted = noted-in;
+        trail = trail-in;
+        notes-beyond = notes-behind;
+        matches = counts-in .0;
+        label-count = counts-in .1;
+        reported = entries-in;
+        numbers = numbers-in;
+        numbers-beyond = rw (counts-in .0) numbers-behind;
+        labels-beyond = rw (counts-in .1) labels-behind;
+        like-plain = λ d. report-in .0 ∙ like (finishes-by d);
+        first-of-plain = first-plain;
+      }
+
+-- ---- both, of what an accepted search leaves
+
+pub demands : (a : Option ℕ) (q : List ℕ) (rows : List ℤ) (lent : Buffers) (after : Memory) → after ≡ searchWithin a q rows lent → refusal q rows lent ≡ 0 → Demands a q rows lent after
+demands a q rows lent after e ok = rw (e, search-accepted a q rows lent ok) (demands-in a q rows lent ok)
 
 -- ---- allowances
 

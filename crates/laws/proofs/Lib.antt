@@ -44,6 +44,8 @@ pub mod FirstTrue
 pub mod Accepted
 pub mod Limits
 pub mod Appended
+pub mod EntriesRead
+pub mod FoundPaths
 pub mod Demands
 pub mod Decimal
 pub mod Listing
@@ -60,5 +62,6 @@ pub mod Present
 pub mod PathRows
 pub mod Waits
 pub mod ThinGoes
+pub mod FirstDemand
 pub mod Lots
 pub mod LotLaws

@@ -10,6 +10,7 @@ use native.Mathlib.Omega.{arith}
 use lib.ListN.{length}
 use lib.Dec.{ltb}
 use borrow.Author.Tests.{ltb-true, ltb-false}
+use Rattle.rules.specs.Basics.{Begins}
 use Rattle.rules.specs.Language.{pattern, Tree, emptyLoop}
 use Rattle.rules.specs.Places.{Place, places, unroll}
 use Rattle.rules.specs.Preferment.{Reports, finished, unmatched, matched, lost, stopped}
@@ -122,3 +123,39 @@ module _ (p : Tree pattern) (holds : ℕ → ℕ → Bool) (n : ℕ) (skip : Ski
   reports-one (stopped {m = m} {l = l} {w = w} lt x b) (matched {w = v} lt′ x′ b′ d′ r′) = absurd (clash {m = m} {l = l} v w (greatest-same x′ x .1) b′ b)
   reports-one (stopped {m = m} {l = l} {w = w} lt x b) (lost {w = v} lt′ x′ b′ d′) = absurd (clash {m = m} {l = l} v w (greatest-same x′ x .1) b′ b)
   reports-one (stopped {i = i} {w = w} lt x b) (stopped {w = v} lt′ x′ b′) = (refl, ap (λ (u : List ℕ). full (i, u)) (greatest-same x x′ .1))
+
+-- ---- a report in less room is the first part of one with room for every match
+
+module _ (p : Tree pattern) (holds : ℕ → ℕ → Bool) (n : ℕ) (skip : Skip) (room : ℕ → ℕ → List ℕ → Bool) where
+  begins-on : (x y : ℕ × List ℕ) (xs ys : List (ℕ × List ℕ)) → x ≡ y → Begins xs ys → Begins (x ∷ xs) (y ∷ ys)
+  begins-on x y xs ys e b = (b .0, ap₂ (λ (z : ℕ × List ℕ) (zs : List (ℕ × List ℕ)). z ∷ zs) (sym e) (b .1))
+
+  abbrev Unlimited : ℕ → ℕ → ℕ → List (ℕ × List ℕ) → End (ℕ × List ℕ) → Type 0
+  Unlimited i m l ms end = Reports p holds n skip (λ m l w. true) i m l ms end
+
+  pub reports-begin : {i m l m′ l′ : ℕ} {ms ms′ : List (ℕ × List ℕ)} {end end′ : End (ℕ × List ℕ)} → Reports p holds n skip room i m l ms end → Unlimited i m′ l′ ms′ end′ → Begins ms ms′
+  reports-begin {ms′ = ms′} (finished h) r′ = (ms′, refl)
+  reports-begin {ms′ = ms′} (stopped lt x b) r′ = (ms′, refl)
+  reports-begin (unmatched lt x r) (finished h′) = absurd (omega arith)
+  reports-begin (unmatched lt x r) (unmatched lt′ x′ r′) = reports-begin r r′
+  reports-begin (unmatched lt x r) (matched {j = j} {w = w} lt′ x′ b′ d′ r′) = absurd (x (x′ .derivation) j w (x′ .parses))
+  reports-begin (unmatched lt x r) (lost {j = j} {w = w} lt′ x′ b′ d′) = absurd (x (x′ .derivation) j w (x′ .parses))
+  reports-begin (unmatched lt x r) (stopped lt′ x′ b′) = absurd (true≢false b′)
+  reports-begin (matched lt x b d r) (finished h′) = absurd (omega arith)
+  reports-begin (matched {j = j} {w = w} lt x b d r) (unmatched lt′ x′ r′) = absurd (x′ (x .derivation) j w (x .parses))
+  reports-begin (matched {i = i} {j = j} {k = k} {w = w} {ms = ks} lt x b d r) (matched {j = j′} {k = k′} {m = m′} {l = l′} {w = v} {ms = ks′} {end = end} lt′ x′ b′ d′ r′) =
+      let s = greatest-same x x′ in
+      let q : k′ ≡ k = some-same p holds n skip room (sym d′ ∙ next-same p holds n skip room i j′ j v w (sym (s .0)) (sym (s .1)) ∙ d) in
+      let r₁ : Unlimited k (suc m′) (l′ + length v) ks′ end = rw (← q) r′ in
+      begins-on (i, w) (i, v) ks ks′ (ap (λ (u : List ℕ). (i, u)) (s .1)) (reports-begin r r₁)
+  reports-begin (matched {i = i} {j = j} {k = k} {w = w} lt x b d r) (lost {j = j′} {w = v} lt′ x′ b′ d′) =
+      let s = greatest-same x x′ in
+      absurd (none-some p holds n skip room (sym d′ ∙ next-same p holds n skip room i j′ j v w (sym (s .0)) (sym (s .1)) ∙ d))
+  reports-begin (matched lt x b d r) (stopped lt′ x′ b′) = absurd (true≢false b′)
+  reports-begin (lost lt x b d) (finished h′) = absurd (omega arith)
+  reports-begin (lost {j = j} {w = w} lt x b d) (unmatched lt′ x′ r′) = absurd (x′ (x .derivation) j w (x .parses))
+  reports-begin (lost {i = i} {j = j} {w = w} lt x b d) (matched {j = j′} {k = k′} {w = v} lt′ x′ b′ d′ r′) =
+      let s = greatest-same x x′ in
+      absurd (none-some p holds n skip room (sym d ∙ next-same p holds n skip room i j j′ w v (s .0) (s .1) ∙ d′))
+  reports-begin (lost {i = i} {w = w} lt x b d) (lost {w = v} lt′ x′ b′ d′) = begins-on (i, w) (i, v) [] [] (ap (λ (u : List ℕ). (i, u)) (greatest-same x x′ .1)) ([], refl)
+  reports-begin (lost lt x b d) (stopped lt′ x′ b′) = absurd (true≢false b′)

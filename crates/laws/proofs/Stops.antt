@@ -212,7 +212,7 @@ module _ (a : Option ℕ) (q : List ℕ) (rows : List ℤ) (lent : Buffers) wher
   tests = queryTests q ++ ((10, badRows q rows) ∷ (11, shortNotes q rows lent) ∷ (12, shortTrail q rows lent) ∷ [])
 
   -- an answer that refuses is none of the search's end
-  refusal-is : (k : ℕ) → refuses k ≡ true → answerWithin a q rows lent ≡ k → refusal q rows lent ≡ k
+  pub refusal-is : (k : ℕ) → refuses k ≡ true → answerWithin a q rows lent ≡ k → refusal q rows lent ≡ k
   unfolding answerWithin answerBy
   refusal-is k t e = go (eqb (refusal q rows lent) 0) e
     where

@@ -1,7 +1,7 @@
--- The tender's demands 2 and 3 for an accepted search, in the words of the definitions. `demands`
--- (crates/laws) proves them for every query, all rows and all lent buffers with which a search is
--- accepted, for every skip mode and every allowance of steps, whether it ends as done, stopped or
--- halted.
+-- The tender's demands, in the words of the definitions: demand 1 for every input, demands 2 and 3
+-- for every search that is accepted, in every skip mode and with every allowance of steps, whether
+-- it ends as done, stopped or halted. They speak of what a call returns and of the memory that it
+-- leaves. `demand1` and `demands` (crates/laws, Demands) prove them.
 use mathlib.Core.Path.{_≡_}
 use mathlib.Core.Bool.{true, false}
 use mathlib.Core.List.{List, [], List·Memᴰ}
@@ -9,16 +9,55 @@ use mathlib.Core.Logic.{_⊎_, _↔_}
 use mathlib.Core.Option.{Option, none, some}
 use Prim.Native.Nat.{ℕ, _+_, _*_, _≤_, _<_}
 use lib.IntN.{ℤ}
-use lib.ListN.{length, getD}
-use Rattle.rules.specs.Basics.{Begins, repeats}
-use Rattle.rules.specs.Query.{textOf}
-use Rattle.rules.specs.Language.{Tree, pattern, Written}
+use lib.ListN.{length, getD, drop}
+use Rattle.rules.specs.Basics.{Begins, repeats, wrote}
+use Rattle.rules.specs.Query.{cut, misplaced, unfit, textOf, parts}
+use Rattle.rules.specs.Language.{Tree, pattern, Written, WrongAt, Unfinished}
+use Rattle.rules.specs.Places.{placesOf}
 use Rattle.rules.specs.Readings.{Reads, SomeReading}
 use Rattle.rules.specs.Preferment.{Preferred, Reports}
 use Rattle.rules.specs.Walk.{Halt, outOfSteps, pairs, firstAt, pairWays, IsPath, IsOpen, countTrue}
-use Rattle.rules.specs.Search.{End, unfinished, Finished, pastLast, Swept, Kept, labels, endOf, shown, shownEnd, foundIn, openOf, pathPairs, plainFrom}
-use Rattle.rules.specs.Report.{fits, bytesFor, bitAt}
-use Rattle.rules.specs.Answers.{Task, taskOf, letterHolds, Buffers, walkWithin, plainOf, reportWithin, plainReport, searchWithin, searchOf}
+use Rattle.rules.specs.Search.{Match, End, unfinished, Finished, pastLast, Swept, Kept, labels, endOf, shown, shownEnd, foundIn, openOf, pathPairs, plainFrom}
+use Rattle.rules.specs.Report.{numbersOf, labelsOf, fits, bytesFor, bitAt, zeros}
+use Rattle.rules.specs.Answers.{tooDeep, treeIn, Task, taskOf, letterHolds, Buffers, Memory, Report, refused, endAnswer, answerWithin, walkWithin, plainOf, plainReport, searchWithin, searchOf}
+use Rattle.rules.specs.Entries.{entriesIn, entriesOf}
+
+-- ---- what a caller sees
+
+-- the search is accepted: it ends as done (0), stopped (13 and 15) or halted (16)
+abbrev pub Accepts : ℕ → Type 0
+Accepts answer = (answer ≡ 0) ⊎ ((answer ≡ 13) ⊎ ((answer ≡ 15) ⊎ (answer ≡ 16)))
+
+-- the answer, the counts of matches and labels and both report buffers, as a call leaves them
+abbrev pub reportIn : Memory → Report
+reportIn m =
+    record {
+      answer = m .result .answer;
+      matches = m .result .matches;
+      labels = m .result .labels;
+      numbers = m .buffers .numbers;
+      labelBytes = m .buffers .labels;
+    }
+
+-- ---- demand 1
+
+-- for every input: the lent buffers before the call, and what it returns and leaves
+pub record Demand1 (a : Option ℕ) (q : List ℕ) (rows : List ℤ) (before : Buffers) (after : Memory) : Type 0 where
+  -- the answer is that of document 01's table
+  pub answer : after .result .answer ≡ answerWithin a q rows before
+  -- any other than 0, 13, 15 and 16 refuses: it comes with zeros, 5 and 14 with an offset, and
+  -- every lent buffer is untouched
+  pub untouched : (Accepts (after .result .answer) → ⊥) → after ≡ refused (after .result .answer) (after .result .offset) before
+  -- the query's tree is one that is written in its text, and no other is
+  pub tree : (p : Tree pattern) → (treeIn q ≡ some p) ↔ Written p (textOf q)
+  pub one-tree : (p p′ : Tree pattern) → Written p (textOf q) → Written p′ (textOf q) → p ≡ p′
+  -- the answer is 5 or 14 exactly if none of 1 to 4 applies and no tree is written in the text
+  pub outside : ((after .result .answer ≡ 5) ⊎ (after .result .answer ≡ 14))
+      ↔ ((cut q ≡ false) × (misplaced q ≡ false) × (unfit q ≡ false) × (tooDeep q ≡ false) × ((p : Tree pattern) → Written p (textOf q) → ⊥))
+  -- 5 returns the byte at which the text is wrong, 14 the text's length, any other answer 0
+  pub wrong : after .result .answer ≡ 5 → WrongAt (textOf q) (after .result .offset)
+  pub incomplete : after .result .answer ≡ 14 → Unfinished (textOf q) × (after .result .offset ≡ length (textOf q))
+  pub no-offset : (after .result .answer ≡ 5 → ⊥) → (after .result .answer ≡ 14 → ⊥) → after .result .offset ≡ 0
 
 -- ---- demand 2
 
@@ -49,6 +88,11 @@ pub record Demand2 (p : Tree pattern) (t : Task) (nums labs : ℕ) (r : Swept Ke
   -- the report holds exactly these, and ends so; one that is halted holds the first of them
   pub holds-all : Finished (r .end) → (shown (t .places) (r .matches) ≡ all) × (shownEnd (t .places) (r .end) ≡ last)
   pub holds-first : Begins (shown (t .places) (r .matches)) all
+  -- with room for every match there is a report too, and this one holds the first of its matches
+  pub unlimited : List (ℕ × List ℕ)
+  pub unlimited-last : End (ℕ × List ℕ)
+  pub unlimited-report : Reports p (letterHolds t) (t .table .n) (t .skip) (λ m l w. true) 0 0 0 unlimited unlimited-last
+  pub first-of-unlimited : Begins (shown (t .places) (r .matches)) unlimited
 
 -- ---- demand 3
 
@@ -62,7 +106,9 @@ pub record Demand3 (t : Task) (largest : ℕ) (r : Swept Kept) (b : Swept (Unit 
   -- the steps are the failed pairs plus the pairs on all paths found, path by path, plus the pairs
   -- still open where the walk has halted
   pub sum : r .state .1 ≡ countTrue (r .state .0) + pathPairs (foundIn r) + length (openOf (r .end))
-  -- these are pairs of the unfinished attempt, each having led to the next, none twice, and have
+  -- each path found is one from its start to END, each pair having led to the next
+  pub paths : (m : Match) → List·Memᴰ m (foundIn r) → IsPath (pairWays (letterHolds t) (t .table .n) (t .places)) (firstAt (length (t .places)) (m .start)) (m .path)
+  -- those still open are pairs of the unfinished attempt, each having led to the next, none twice, and have
   -- not failed; there is none where the attempt has not begun
   pub still-open : (h : Halt) (i : ℕ) (p : List ℕ) → r .end ≡ unfinished h i p
       → ((p ≡ []) ⊎ IsOpen (pairWays (letterHolds t) (t .table .n) (t .places)) (firstAt (length (t .places)) i) p)
@@ -76,22 +122,50 @@ pub record Demand3 (t : Task) (largest : ℕ) (r : Swept Kept) (b : Swept (Unit 
   pub like-all : Finished (r .end) → (r .matches ≡ b .matches) × (r .end ≡ b .end)
   pub like-first : Begins (r .matches) (b .matches)
 
--- ---- both, for an input and an allowance of steps (none: any number)
+-- ---- both, for an input, an allowance of steps (none: any number), and what a call leaves
 
-pub record Demands (a : Option ℕ) (q : List ℕ) (rows : List ℤ) (lent : Buffers) : Type 0 where
-  -- the pattern's one tree
+pub record Demands (a : Option ℕ) (q : List ℕ) (rows : List ℤ) (before : Buffers) (after : Memory) : Type 0 where
+  -- the pattern's one tree; P, counted on it, is the number of the places
   pub tree : Tree pattern
   pub written : Written tree (textOf q)
-  pub demand2 : Demand2 tree (taskOf q rows) (length (lent .numbers)) (length (lent .labels)) (walkWithin a q rows lent)
-  pub demand3 : Demand3 (taskOf q rows) (taskOf q rows .table .n) (walkWithin a q rows lent) (plainOf q rows lent)
-  -- document 01's search does not halt
-  pub finished : a ≡ none → Finished (walkWithin a q rows lent .end)
-  -- where the walk has not halted, the answer, the counts and both report buffers are those of
-  -- plain backtracking
-  pub like-plain : Finished (walkWithin a q rows lent .end) → reportWithin a q rows lent ≡ plainReport q rows lent
+  pub P-counted : length (taskOf q rows .places) ≡ placesOf tree
+  pub demand2 : Demand2 tree (taskOf q rows) (length (before .numbers)) (length (before .labels)) (walkWithin a q rows before)
+  pub demand3 : Demand3 (taskOf q rows) (taskOf q rows .table .n) (walkWithin a q rows before) (plainOf q rows before)
+  -- document 01's search does not halt; one that halts returns 16, and no other does
+  pub finished : a ≡ none → Finished (walkWithin a q rows before .end)
+  pub not-halted : (after .result .answer ≡ 16 → ⊥) → Finished (walkWithin a q rows before .end)
+  -- the answer tells how the walk ends, and the steps returned are the walk's
+  pub ended : after .result .answer ≡ endAnswer (walkWithin a q rows before .end)
+  pub steps : after .result .steps ≡ walkWithin a q rows before .state .1
+  -- they keep the bounds: 2P(n+1) with skip past last row, P n (n+3) / 2 in every skip mode
+  pub bound : taskOf q rows .skip ≡ pastLast → after .result .steps ≤ 2 * pairs (placesOf tree) (taskOf q rows .table .n)
+  pub bound-each : 2 * after .result .steps ≤ placesOf tree * (taskOf q rows .table .n * (taskOf q rows .table .n + 3))
+  -- they are the failed pairs, those on all paths found, and those still open where it has halted
+  pub sum : after .result .steps
+      ≡ countTrue (walkWithin a q rows before .state .0) + pathPairs (foundIn (walkWithin a q rows before)) + length (openOf (walkWithin a q rows before .end))
   -- the failed pairs are exactly those noted, and spare bits are 0
-  pub noted : (x : ℕ) → x < 8 * bytesFor (length (walkWithin a q rows lent .state .0))
-      → bitAt (searchWithin a q rows lent .buffers .notes) x ≡ getD (walkWithin a q rows lent .state .0) x false
+  pub noted : (x : ℕ) → x < 8 * bytesFor (pairs (placesOf tree) (taskOf q rows .table .n))
+      → bitAt (after .buffers .notes) x ≡ getD (walkWithin a q rows before .state .0) x false
+  -- the trail has a 0 for each pair; beyond, notes and trail are unchanged
+  pub trail : after .buffers .trail ≡ wrote (before .trail) 0 (zeros (pairs (placesOf tree) (taskOf q rows .table .n)))
+  pub notes-beyond : drop (bytesFor (pairs (placesOf tree) (taskOf q rows .table .n))) (after .buffers .notes)
+      ≡ drop (bytesFor (pairs (placesOf tree) (taskOf q rows .table .n))) (before .notes)
+  -- the counts returned are those of the matches written and of their labels
+  pub matches : after .result .matches ≡ length (walkWithin a q rows before .matches)
+  pub label-count : after .result .labels ≡ length (labelsOf (taskOf q rows .places) (walkWithin a q rows before .matches))
+  -- read from the report's buffers, the matches are those of the walk, in order, each with its
+  -- labels and with the measures of its rows
+  pub reported : entriesIn q after ≡ entriesOf (taskOf q rows .table) (taskOf q rows .measures) (shown (taskOf q rows .places) (walkWithin a q rows before .matches))
+  -- each match's numbers lead with its own, counted from 1; beyond them both buffers are unchanged
+  pub numbers : after .buffers .numbers
+      ≡ wrote (before .numbers) 0 (numbersOf (taskOf q rows .table) (taskOf q rows .measures) (taskOf q rows .places) 0 (walkWithin a q rows before .matches))
+  pub numbers-beyond : drop (after .result .matches * (3 + 2 * length (parts q .measures))) (after .buffers .numbers)
+      ≡ drop (after .result .matches * (3 + 2 * length (parts q .measures))) (before .numbers)
+  pub labels-beyond : drop (after .result .labels) (after .buffers .labels) ≡ drop (after .result .labels) (before .labels)
+  -- where the search has not halted, the answer, the counts and both report buffers are those of
+  -- plain backtracking; where it has, its matches are the first of them
+  pub like-plain : (after .result .answer ≡ 16 → ⊥) → reportIn after ≡ plainReport q rows before
+  pub first-of-plain : Begins (entriesIn q after) (entriesOf (taskOf q rows .table) (taskOf q rows .measures) (shown (taskOf q rows .places) (plainOf q rows before .matches)))
 
 -- ---- what an allowance does (R-13)
 

@@ -13,6 +13,7 @@ pub mod Reader
 pub mod Answers
 pub mod Lots
 pub mod Program
+pub mod Entries
 pub mod Demands
 pub mod LotDemands
 pub mod Bench

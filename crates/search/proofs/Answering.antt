@@ -21,8 +21,10 @@ use Rattle.rules.specs.Query.{columnsOf, textOf, parts}
 use Rattle.rules.specs.Report.{bytesFor}
 use Rattle.rules.specs.Answers as A
 use Rattle.rules.specs.Answers.{treeIn, P, badRows, Buffers, Memory, taskOf, pairsOf, shortNotes, shortTrail, endAnswer, Test, firstOf, refuses, offsetAt, queryTests, answerBy, answerWithin, walkWithin, reportWithin, reportOf, refused, accepted, searchWithin}
+use Rattle.rules.specs.Demands.{Accepts}
 use Rattle.laws.proofs.Accepted.{query-tests-refuse}
 use Rattle.laws.proofs.Demands.{demands, allowing}
+use Rattle.laws.proofs.FirstDemand.{result-answer, unrefused-by, demand1}
 use Rattle.laws.proofs.Limits.{limits}
 use Rattle.laws.proofs.FirstTrue.{end-accepted, allRefuse, first-refuses, first-before, first-after}
 use Rattle.laws.proofs.Level.{or-false}
@@ -35,6 +37,24 @@ use Rattle.prepared.specs.declared.Prepared.{Prepared}
 use Rattle.starting.specs.Starts.{ended, Walks}
 use Rattle.search.specs.Promise.{Promised}
 use Rattle.search.specs.Runs.{Runs}
+
+-- ---- the promise is kept where result and buffers are the definition's
+
+seen : (a : Option ℕ) (q : List ℕ) (rows : List ℤ) (before : Buffers) (after : Memory) → after ≡ searchWithin a q rows before → after .result .answer ≡ answerWithin a q rows before
+seen a q rows before after e = ap (λ (m : Memory). m .result .answer) e ∙ result-answer a q rows before
+
+accepted-by : (a : Option ℕ) (q : List ℕ) (rows : List ℤ) (before : Buffers) (n : ℕ) → n ≡ answerWithin a q rows before → Accepts n → A.refusal q rows before ≡ 0
+accepted-by a q rows before n e = rw e (unrefused-by a q rows before)
+
+pub promised : (a : Option ℕ) (q : List ℕ) (rows : List ℤ) (before : Buffers) (after : Memory) → after ≡ searchWithin a q rows before → Promised a q rows before after
+promised a q rows before after e =
+    let ok : Accepts (after .result .answer) → A.refusal q rows before ≡ 0 = accepted-by a q rows before (after .result .answer) (seen a q rows before after e) in
+    record {
+      whole = e;
+      demand1 = demand1 a q rows before after e;
+      demands = λ h. demands a q rows before after e (ok h);
+      allowing = λ h. allowing q rows before (ok h);
+    }
 
 -- ---- the answers
 
@@ -52,8 +72,7 @@ module _ (al : ℕ) (q : List ℕ) (rows : List ℤ) (notes trail : List ℕ) (n
   unfolding searchWithin refused
   refuse n k e t o r b =
       let a = refused-by n e t in
-      let no : A.refusal q rows before ≡ 0 → ⊥ = λ z. true≢false (sym t ∙ ap refuses (sym e ∙ z)) in
-      record { whole = rw (b, a, t, o); demands = λ z. absurd (no z); allowing = λ z. absurd (no z) }
+      promised (some al) q rows before (memory r notes trail numbers labels) (rw (b, a, t, o))
 
   abbrev rest : List Test
   rest = (10, badRows q rows) ∷ (11, shortNotes q rows before) ∷ (12, shortTrail q rows before) ∷ []
@@ -107,11 +126,7 @@ module _ (al : ℕ) (q : List ℕ) (rows : List ℤ) (notes trail : List ℕ) (n
         let z : A.refusal q rows before ≡ 0 = the-room f ∙ rw (g, h) in
         let x : answerWithin (some al) q rows before ≡ endAnswer (w .end) = answer-ended z in
         let y : refuses (answerWithin (some al) q rows before) ≡ false = ap refuses x ∙ end-accepted (w .end) in
-        record {
-          whole = e ∙ sym (rw y (ap (λ (n : ℕ). accepted (reportOf n (taskOf q rows) before w) (w .state) before) x));
-          demands = demands (some al) q rows before;
-          allowing = allowing q rows before;
-        }
+        promised (some al) q rows before m (e ∙ sym (rw y (ap (λ (n : ℕ). accepted (reportOf n (taskOf q rows) before w) (w .state) before) x)))
 
 -- ---- what a prepared query gives
 
@@ -274,9 +289,4 @@ module _ (q : List ℕ) (rows : List ℤ) (before : Buffers) where
   ]
 
 pub unlimited : (q : List ℕ) (rows : List ℤ) (before : Buffers) (m : Memory) → Promised (some 18446744073709551615) q rows before m → Promised none q rows before m
-unlimited q rows before m h =
-    record {
-      whole = h .whole ∙ unpassed q rows before 18446744073709551615 (omega arith);
-      demands = demands none q rows before;
-      allowing = h .allowing;
-    }
+unlimited q rows before m h = promised none q rows before m (h .whole ∙ unpassed q rows before 18446744073709551615 (omega arith))
