@@ -1,0 +1,3 @@
+pub mod SkipByte
+pub mod Done
+pub mod OneFromOther
