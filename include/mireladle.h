@@ -124,11 +124,31 @@ struct mireladle_room {
     uint64_t offset; /* as a search returns it */
 };
 
+/* What the release desk says of a bus's log. */
+enum mireladle_said {
+    /* The log ends in an offer, refusals or none, and an acceptance, which is its last row; refusals
+     * and acceptance each have the base number and the patch number of the row before them. */
+    MIRELADLE_CLEARED = 1,
+    /* The log does not end so. No rows is held. */
+    MIRELADLE_HELD = 2,
+    /* Some row has an event other than 1, 2 and 3. */
+    MIRELADLE_UNREADABLE = 3
+};
+
+/* What mireladle_desk() returns. */
+struct mireladle_verdict {
+    uint64_t answer;  /* 0, or the answer of a search that was refused or stopped; then all else is 0 */
+    uint64_t verdict; /* one of enum mireladle_said; 0 where the answer is not 0 */
+    uint64_t found;   /* 1 where the log is held and has a refusal, else 0 */
+    uint64_t row;     /* where found is 1, the row of the last event 2; else 0 */
+};
+
 /* The structs under names of one word. A function has the name of the second struct, so that C++
  * takes `mireladle_room` alone for the function, and the struct has to be written as
  * `struct mireladle_room` or as `mireladle_room_t`. */
 typedef struct mireladle_result mireladle_result_t;
 typedef struct mireladle_room mireladle_room_t;
+typedef struct mireladle_verdict mireladle_verdict_t;
 
 /*
  * Searches the rows for all matches of the query. A match is looked for from row 0 on, at one row after the other, but
@@ -228,6 +248,33 @@ struct mireladle_room mireladle_room(const uint8_t *query, size_t query_len, con
 #if defined(__cplusplus) && defined(__GNUC__)
 #pragma GCC diagnostic pop
 #endif
+
+/* Rooms that are always enough for mireladle_desk() on n rows; of numbers it takes at most 3, and of
+ * labels at most n. */
+#define MIRELADLE_DESK_PAIRS(n) (6 * ((n) + 1))
+#define MIRELADLE_DESK_NUMBERS 3
+
+/*
+ * The release desk: whether a bus may leave, by its log. A bus is cleared only by the verdict
+ * MIRELADLE_CLEARED with answer 0; whatever else is returned, it stays.
+ *
+ *   rows     4 numbers a row: time, event, base number, patch number; the rows in order of time.
+ *            Events are 1 offered, 2 refused, 3 accepted. Only read; the time is not looked at.
+ *   notes, trail, numbers, labels
+ *            As for mireladle_search(), and left as its search for `O R* C $`, skip to the next row,
+ *            leaves them. With MIRELADLE_NOTES_LENGTH(MIRELADLE_DESK_PAIRS(n)) notes,
+ *            MIRELADLE_DESK_PAIRS(n) trail, MIRELADLE_DESK_NUMBERS numbers and n labels the only
+ *            answer other than 0 is 10: rows that are not whole, or more than 4,096.
+ *
+ * A refusal or stop of that search comes before every verdict, so a log of no rows with notes too
+ * short has answer 11. Then comes unreadable: one odd event anywhere in the log is enough. The row of
+ * a log that is held goes by its event alone, so a refusal of another patch counts.
+ */
+struct mireladle_verdict mireladle_desk(const int32_t *rows, size_t rows_len,
+                                        uint8_t *notes, size_t notes_len,
+                                        uint32_t *trail, size_t trail_len,
+                                        int64_t *numbers, size_t numbers_len,
+                                        uint8_t *labels, size_t labels_len);
 
 /*
  * A query's bytes

@@ -1,11 +1,13 @@
 // The face for C and Rust callers, built by `rt staticlib mireladle_c`: each function is the proved
 // one of its name, with the same promise. A slice passes as a pointer and a length in elements;
 // include/mireladle.h says what a caller owes for the pointers, which no promise here can check.
+use bus_log::Verdict;
 use outcome::Outcome;
 ghost use mathlib.Core.Option.{none, some};
 ghost use lib.ListN.{length};
 ghost use Rattle.outcome.specs.Results.{lent, memory};
 ghost use Rattle.search.specs.Promise.{Promised};
+ghost use Rattle.desk.specs.Promise.{Desk};
 ghost use Rattle.mireladle_c.specs.Told.{Told};
 
 // How much to lend: the answer 1 to 10 or 14, with the offset of 5 and 14, or 0 with P, n and the
@@ -63,4 +65,18 @@ pub extern "C" fn mireladle_room(query: &[u8], rows: &[i32]) -> Room
         pairs: size.places * (size.rows + 1),
         offset: size.offset,
     }
+}
+
+// The release desk's verdict on a bus's log.
+#[no_mangle]
+pub extern "C" fn mireladle_desk(
+    rows: &[i32],
+    notes: &mut [u8],
+    trail: &mut [u32],
+    numbers: &mut [i64],
+    labels: &mut [u8],
+) -> Verdict
+    ensures { λ r. ⌜ Desk (now (rows .entry)) (lent (now (notes .entry)) (now (trail .entry)) (now (numbers .entry)) (now (labels .entry))) (lent (now (notes .exit)) (now (trail .exit)) (now (numbers .exit)) (now (labels .exit))) r ⌝ }
+{
+    desk::desk(rows, notes, trail, numbers, labels)
 }

@@ -1,0 +1,3 @@
+pub mod Events
+pub mod Scanning
+pub mod Examples
