@@ -1,4 +1,4 @@
-//! The library's three functions as they are, on buffers that the caller lends: for callers who
+//! The library's four functions as they are, on buffers that the caller lends: for callers who
 //! keep their buffers from one search to the next, or who read the notes. Most callers want
 //! [`Query::search`](crate::Query::search).
 //!
@@ -158,6 +158,49 @@ pub fn search_within(
     }
 }
 
+/// What the release desk returns.
+#[repr(C)]
+#[derive(Clone, Copy, Debug, PartialEq, Eq, Hash)]
+pub struct Judged {
+    /// 0, or the answer of a search that was refused or stopped; then all else is 0.
+    pub answer: u64,
+    /// 1 cleared, 2 held, 3 unreadable; 0 where the answer is not 0.
+    pub verdict: u64,
+    /// 1 where the log is held and has a refusal, else 0.
+    pub found: u64,
+    /// Where `found` is 1, the row of the last event 2; else 0.
+    pub row: u64,
+}
+
+/// The release desk's verdict on a log: 4 numbers a row, time, event, base number and patch number,
+/// in order of time. The buffers are those of [`search()`], and left as its search for `O R* C $`
+/// leaves them; for n rows 6(n+1) bits of notes, so many numbers of trail, 3 numbers and n labels
+/// are always enough. Most callers want [`Desk::judge`](crate::Desk::judge).
+pub fn desk(
+    rows: &[i32],
+    notes: &mut [u8],
+    trail: &mut [u32],
+    numbers: &mut [i64],
+    labels: &mut [u8],
+) -> Judged {
+    // SAFETY: as for `search`.
+    #[allow(unsafe_code)]
+    unsafe {
+        mireladle_desk(
+            rows.as_ptr(),
+            rows.len(),
+            notes.as_mut_ptr(),
+            notes.len(),
+            trail.as_mut_ptr(),
+            trail.len(),
+            numbers.as_mut_ptr(),
+            numbers.len(),
+            labels.as_mut_ptr(),
+            labels.len(),
+        )
+    }
+}
+
 // As in include/mireladle.h; nothing but the tests compares the two.
 extern "C" {
     fn mireladle_search(
@@ -197,4 +240,17 @@ extern "C" {
         rows: *const i32,
         rows_len: usize,
     ) -> Room;
+
+    fn mireladle_desk(
+        rows: *const i32,
+        rows_len: usize,
+        notes: *mut u8,
+        notes_len: usize,
+        trail: *mut u32,
+        trail_len: usize,
+        numbers: *mut i64,
+        numbers_len: usize,
+        labels: *mut u8,
+        labels_len: usize,
+    ) -> Judged;
 }

@@ -54,6 +54,10 @@
 //! # Ok::<(), mireladle::Error>(())
 //! ```
 //!
+//! # The release desk
+//!
+//! [`Desk`] says of a bus's log whether the bus may leave: cleared, held, or unreadable.
+//!
 //! # Linking
 //!
 //! The build looks for `libmireladle_c.a` in `../target/staticlib` beside this package, where `rt staticlib mireladle_c`
@@ -75,6 +79,7 @@
 #![cfg_attr(test, allow(clippy::restriction))]
 
 mod comparison;
+mod desk;
 mod error;
 mod expected;
 pub mod lent;
@@ -85,6 +90,7 @@ mod rows;
 pub mod text;
 
 pub use comparison::{col, Column, Comparison, Operand, Operator, Sum};
+pub use desk::{Desk, Verdict, LOG_COLUMNS, LOG_ROWS};
 pub use error::Error;
 pub use expected::Expected;
 pub use measure::{Function, Measure};

@@ -12,12 +12,17 @@ use mireladle::text::QueryText;
 use mireladle::{Ending, Error, Query, Report, Rows};
 
 use crate::arguments::{Answer, Search, Searcher};
-use crate::failure::{named, refused, Failure, MATCH, NO_MATCH, STOPPED, WRONG};
+use crate::columns::Layout;
+use crate::failure::{named, refused, Failure, STOPPED, WRONG};
 use crate::input::{fields_of, Record};
-use crate::layout::Layout;
 use crate::partitions::{Close, Partition, MOST_ROWS};
 use crate::program::{self, Failed};
-use crate::terminal::{tell, Style};
+use crate::terminal::{grouped, tell, Style};
+
+/// The exit status of at least one match.
+pub const MATCH: u8 = 0;
+/// The exit status of no match.
+const NO_MATCH: u8 = 1;
 
 /// What all searches came to.
 #[derive(Default)]
@@ -327,18 +332,4 @@ fn distinct(names: impl IntoIterator<Item = String>) -> Vec<String> {
         all.push(name);
     }
     all
-}
-
-/// A number with commas between its thousands.
-pub fn grouped(number: u64) -> String {
-    let digits = number.to_string();
-    let mut text = String::new();
-    for (at, digit) in digits.chars().enumerate() {
-        let left = digits.len().saturating_sub(at);
-        if at > 0 && left.checked_rem(3) == Some(0) {
-            text.push(',');
-        }
-        text.push(digit);
-    }
-    text
 }

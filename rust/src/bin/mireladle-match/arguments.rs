@@ -10,14 +10,13 @@ use mireladle::text::screen::shown;
 use mireladle::Limits;
 
 use crate::failure::Failure;
-use crate::options::{options, Described};
+use crate::options::{COMMAND, STEPS};
+use crate::shared::given::{self, wrong, About, Given};
+use crate::terminal::Color;
 
 /// What the command line asks for.
 pub enum Task {
-    Help,
-    Version,
-    Man,
-    Completions(String),
+    About(About),
     Search(Box<Search>),
 }
 
@@ -63,139 +62,13 @@ pub enum Answer {
     Bytes,
 }
 
-#[derive(Clone, Copy, Debug, PartialEq, Eq)]
-pub enum Color {
-    Auto,
-    Always,
-    Never,
-}
-
-/// The options and files of a command line.
-#[derive(Default)]
-struct Given {
-    options: Vec<(&'static Described, OsString)>,
-    paths: Vec<PathBuf>,
-}
-
 /// Reads the command line.
 pub fn task(arguments: impl Iterator<Item = OsString>) -> Result<Task, Failure> {
-    let given = given(arguments)?;
-    if given.has("help") {
-        return Ok(Task::Help);
-    }
-    if given.has("version") {
-        return Ok(Task::Version);
-    }
-    if given.has("man") {
-        return Ok(Task::Man);
-    }
-    if let Some(shell) = given.choice("completions")? {
-        return Ok(Task::Completions(shell));
-    }
-    Ok(Task::Search(Box::new(search(given)?)))
-}
-
-fn given(mut arguments: impl Iterator<Item = OsString>) -> Result<Given, Failure> {
-    let mut given = Given::default();
-    let mut options = true;
-    while let Some(argument) = arguments.next() {
-        match argument.to_str() {
-            Some("--") if options => options = false,
-            Some(text) if options && text.starts_with('-') && text != "-" => {
-                let (option, value) = option(text)?;
-                let value = match (option.value, value) {
-                    (None, None) => OsString::new(),
-                    (None, Some(_)) => {
-                        return Err(wrong(format!("--{} takes no value", option.long)))
-                    }
-                    (Some(_), Some(value)) => value,
-                    (Some(_), None) => arguments.next().ok_or_else(|| wrong(needs(option)))?,
-                };
-                given.options.push((option, value));
-            }
-            _ => given.paths.push(PathBuf::from(argument)),
-        }
-    }
-    Ok(given)
-}
-
-/// The option that an argument names, and its value where that stands in the same argument.
-fn option(text: &str) -> Result<(&'static Described, Option<OsString>), Failure> {
-    let unknown = || wrong(format!("there is no option {text}"));
-    if let Some(long) = text.strip_prefix("--") {
-        let (name, value) = match long.split_once('=') {
-            Some((name, value)) => (name, Some(OsString::from(value))),
-            None => (long, None),
-        };
-        let found = options().find(|option| option.long == name);
-        return Ok((found.ok_or_else(unknown)?, value));
-    }
-    let mut letters = text.chars();
-    letters.next();
-    let short = letters.next();
-    let found = options().find(|option| option.short.is_some() && option.short == short);
-    let found = found.ok_or_else(unknown)?;
-    let rest = letters.as_str();
-    match (found.value, rest) {
-        (_, "") => Ok((found, None)),
-        (Some(_), value) => Ok((found, Some(OsString::from(value)))),
-        (None, _) => Err(unknown()),
-    }
-}
-
-/// What is said where an option's value is missing.
-fn needs(option: &Described) -> String {
-    let long = option.long;
-    match long {
-        "steps" => format!("--steps needs a whole number from 0 to {}", u64::MAX),
-        "program" => String::from("--program needs the program's path"),
-        _ => format!("--{long} needs a value: {}", option.value.unwrap_or("")),
-    }
-}
-
-impl Given {
-    fn has(&self, long: &str) -> bool {
-        self.options.iter().any(|(option, _)| option.long == long)
-    }
-
-    /// The value of an option that counts.
-    fn value(&self, long: &str) -> Option<&OsString> {
-        let mut values = self.options.iter().rev();
-        let found = values.find(|(option, _)| option.long == long);
-        found.map(|(_, value)| value)
-    }
-
-    fn text(&self, long: &str) -> Option<String> {
-        let value = self.value(long);
-        value.map(|value| value.to_string_lossy().into_owned())
-    }
-
-    /// The value of an option that has few.
-    fn choice(&self, long: &str) -> Result<Option<String>, Failure> {
-        let Some(value) = self.text(long) else {
-            return Ok(None);
-        };
-        let option = options().find(|option| option.long == long);
-        let choices = option.map_or(&[][..], |option| option.choices);
-        match choices.contains(&value.as_str()) {
-            true => Ok(Some(value)),
-            false => Err(wrong(format!(
-                "--{long} is {}, found {}",
-                choices.join(" or "),
-                shown(&value)
-            ))),
-        }
-    }
-
-    /// Two options of which only one can be heeded.
-    fn exclude(&self, one: &str, other: &str, why: &str) -> Result<(), Failure> {
-        match self.has(one) && self.has(other) {
-            true => Err(wrong(format!(
-                "--{one} and --{other} exclude each other{why}"
-            ))),
-            false => Ok(()),
-        }
-    }
+    let given = given::given(&COMMAND, arguments)?;
+    Ok(match given.about()? {
+        Some(about) => Task::About(about),
+        None => Task::Search(Box::new(search(given)?)),
+    })
 }
 
 fn search(given: Given) -> Result<Search, Failure> {
@@ -210,12 +83,8 @@ fn search(given: Given) -> Result<Search, Failure> {
             .map(|name| String::from(name.trim()))
             .collect(),
     };
-    let color = match given.choice("color")?.as_deref() {
-        Some("always") => Color::Always,
-        Some("never") => Color::Never,
-        _ => Color::Auto,
-    };
-    let delimiter = delimiter(&given)?;
+    let color = given.color()?;
+    let delimiter = given.delimiter()?;
     let (query, rows) = files(&given)?;
     Ok(Search {
         query,
@@ -241,7 +110,6 @@ fn exclusions(given: &Given) -> Result<(), Failure> {
     given.exclude("bytes", "steps", no_steps)?;
     given.exclude("program", "steps", library)?;
     given.exclude("bytes", "partition-by", ": the program reads one partition")?;
-    given.exclude("delimiter", "tab", "")?;
     for one in ["quiet", "count", "bytes"] {
         for other in ["rows", "format"] {
             given.exclude(one, other, "")?;
@@ -282,27 +150,8 @@ fn searcher(given: &Given) -> Result<Searcher, Failure> {
 
 /// The number behind `--steps`.
 fn number_of_steps(text: &str) -> Result<u64, Failure> {
-    let needs = format!("--steps needs a whole number from 0 to {}", u64::MAX);
     let number = text.parse();
-    number.map_err(|_| wrong(format!("{needs}, found {}", shown(text))))
-}
-
-/// The byte that parts columns.
-fn delimiter(given: &Given) -> Result<u8, Failure> {
-    if given.has("tab") {
-        return Ok(b'\t');
-    }
-    let Some(text) = given.text("delimiter") else {
-        return Ok(b',');
-    };
-    match text.as_bytes() {
-        b"\\t" => Ok(b'\t'),
-        [byte] if byte.is_ascii() && !b"\"\r\n".contains(byte) => Ok(*byte),
-        _ => Err(wrong(format!(
-            "--delimiter is one character, such as `;`, found {}",
-            shown(&text)
-        ))),
-    }
+    number.map_err(|_| wrong(format!("--steps needs {STEPS}, found {}", shown(text))))
 }
 
 /// The query and the file of rows.
@@ -332,8 +181,4 @@ fn files(given: &Given) -> Result<(QuerySource, PathBuf), Failure> {
             "expected one file, ROWS, beside -e, found {count}"
         ))),
     }
-}
-
-fn wrong(reason: impl Into<String>) -> Failure {
-    Failure::Usage(reason.into())
 }

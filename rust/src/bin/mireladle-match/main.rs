@@ -11,37 +11,36 @@
 
 mod answer;
 mod arguments;
-mod failure;
-mod help;
-mod input;
-mod layout;
+mod columns;
 mod options;
-mod output;
-mod partitions;
 mod program;
-mod terminal;
+#[path = "../shared/mod.rs"]
+mod shared;
 
-use std::io::{self, BufWriter, Read, Write};
+use std::io::{self, Read};
 use std::path::Path;
 use std::process::ExitCode;
 
 use mireladle::text::screen::visible;
-use mireladle::text::{self, lines, Fault, QueryText};
+use mireladle::text::{self, lines, Codes, Fault, QueryText};
 
-use answer::{Answering, Asked};
+use answer::{Answering, Asked, MATCH};
 use arguments::{task, QuerySource, Search, Task};
-use failure::{named, Failure, MATCH};
-use input::{Field, Record, Records, Source, Stop};
-use layout::Layout;
-use output::Output;
-use partitions::{last_records, Added, Closing, Partitions};
+use columns::Layout;
+use failure::{named, Failure};
+use input::{Records, Source};
+use options::COMMAND;
+use output::Out;
+use partitions::{last_records, Added, Closing, Handling, Partitions};
+use reading::{blank_line, column_names, record, unread};
+use shared::{failure, input, layout, output, partitions, reading, terminal};
 use terminal::{tell, Progress, Style};
 
 fn main() -> ExitCode {
     match task(std::env::args_os().skip(1)).and_then(|task| run(&task)) {
         Ok(status) => ExitCode::from(status),
         Err(failure) => {
-            if let Some(message) = failure.message() {
+            if let Some(message) = failure.message(&COMMAND) {
                 tell(&message);
             }
             ExitCode::from(failure.status())
@@ -52,59 +51,32 @@ fn main() -> ExitCode {
 /// Runs a task and gives the exit status.
 fn run(task: &Task) -> Result<u8, Failure> {
     match task {
-        Task::Help => print(&help::help()),
-        Task::Version => print(&format!(
-            "{} {}\n",
-            options::NAME,
-            env!("CARGO_PKG_VERSION")
-        )),
-        Task::Man => print(&help::man()),
-        Task::Completions(shell) => print(&help::completions(shell).unwrap_or_default()),
+        Task::About(about) => {
+            output::print(&about.text(&COMMAND))?;
+            Ok(MATCH)
+        }
         Task::Search(search) => answer(search),
     }
-}
-
-fn print(text: &str) -> Result<u8, Failure> {
-    let mut out = Out::new()?;
-    out.write(text.as_bytes(), false)?;
-    out.flush(false)?;
-    Ok(MATCH)
-}
-
-/// Standard output; what cannot be written is a failure.
-struct Out(BufWriter<Output>);
-
-impl Out {
-    fn new() -> Result<Out, Failure> {
-        let output = Output::new().map_err(unwritten(false))?;
-        Ok(Out(BufWriter::with_capacity(1 << 16, output)))
-    }
-
-    fn write(&mut self, bytes: &[u8], stopped: bool) -> Result<(), Failure> {
-        self.0.write_all(bytes).map_err(unwritten(stopped))
-    }
-
-    fn flush(&mut self, stopped: bool) -> Result<(), Failure> {
-        self.0.flush().map_err(unwritten(stopped))
-    }
-}
-
-/// The failure of an output that cannot be written, by whether the search that it tells of stopped.
-fn unwritten(stopped: bool) -> impl Fn(io::Error) -> Failure {
-    move |error| Failure::Output { error, stopped }
 }
 
 /// Reads the file, searches its partitions and tells what was found.
 fn answer(search: &Search) -> Result<u8, Failure> {
     let (path, source) = query_source(&search.query)?;
-    let file = Source::open(&search.rows).map_err(unread(search))?;
-    let mut records = file.records(search.delimiter).map_err(unread(search))?;
+    let file = Source::open(&search.rows).map_err(unread(&search.rows))?;
+    let mut records = file
+        .records(search.delimiter)
+        .map_err(unread(&search.rows))?;
     let mut fields = Vec::new();
-    let first = read_record(search, &mut records, &mut fields)?;
-    let (names, mut not_text) = column_names(search, first.as_ref())?;
+    let first = record(&search.rows, &mut records, &mut fields)?;
+    let (names, mut not_text) = column_names(
+        &search.rows,
+        first.as_ref(),
+        search.header,
+        search.delimiter,
+    )?;
     let mut or_not_text = |failure| not_text.take().unwrap_or(failure);
     let text = read_query(&path, &source, &names).map_err(&mut or_not_text)?;
-    let layout = Layout::new(names, &text, search).map_err(or_not_text)?;
+    let layout = columns::layout(names, &text, search).map_err(or_not_text)?;
     if let Some(record) = first.as_ref().filter(|_| search.header) {
         layout::twice(&layout, &search.rows, record)?;
     }
@@ -121,42 +93,31 @@ fn answer(search: &Search) -> Result<u8, Failure> {
         true => Closing::AtNext,
         false if is_read_twice(&file, &layout) => {
             let closing = ends_of_partitions(search, &file, &layout)?;
-            records = file.records(search.delimiter).map_err(unread(search))?;
+            records = file
+                .records(search.delimiter)
+                .map_err(unread(&search.rows))?;
             if search.header {
-                read_record(search, &mut records, &mut fields)?;
+                record(&search.rows, &mut records, &mut fields)?;
             }
             closing
         }
         false => Closing::AtEnd,
     };
-    let keep = Answering::keeps_records(search, &asked.text);
+    let handling = Handling {
+        sort: search.sort,
+        keep_records: Answering::keeps_records(search, &asked.text),
+        keep_faults: false,
+        advice: " (--sort sorts them)",
+    };
     let reading = Reading {
         search,
-        partitions: Partitions::new(&layout, closing, search.sort, keep),
+        partitions: Partitions::new(&layout, closing, handling),
         answering,
         progress: Progress::new(file.length),
         length: file.length,
         out: Out::new()?,
     };
     reading.run(&mut records)
-}
-
-fn unread(search: &Search) -> impl Fn(io::Error) -> Failure + '_ {
-    |error| Failure::File {
-        path: search.rows.clone(),
-        error,
-    }
-}
-
-fn read_record<'a>(
-    search: &Search,
-    records: &'a mut Records,
-    fields: &'a mut Vec<Field>,
-) -> Result<Option<Record<'a>>, Failure> {
-    records.next(fields).map_err(|stop| match stop {
-        Stop::Io(error) => unread(search)(error),
-        Stop::Fault(fault, line) => Failure::rows(&search.rows, fault, line),
-    })
 }
 
 /// A file that is smaller is kept in memory.
@@ -170,27 +131,10 @@ fn is_read_twice(file: &Source, layout: &Layout) -> bool {
 
 /// Where each partition ends, by a first reading of the file.
 fn ends_of_partitions(search: &Search, file: &Source, layout: &Layout) -> Result<Closing, Failure> {
-    let mut records = file.records(search.delimiter).map_err(unread(search))?;
-    Ok(last_records(&mut records, layout, search.header))
-}
-
-/// The names of the columns, by the first record, and what is wrong with their encoding.
-fn column_names(
-    search: &Search,
-    first: Option<&Record<'_>>,
-) -> Result<(Vec<String>, Option<Failure>), Failure> {
-    match (first, search.header) {
-        (Some(record), true) => layout::names(&search.rows, record, search.delimiter),
-        (Some(record), false) => Ok((layout::numbered(record.fields.len()), None)),
-        (None, _) => {
-            let expected = match search.header {
-                true => "a first line with the names of the columns",
-                false => "rows",
-            };
-            let fault = Fault::new(1, 1, expected, "an empty file");
-            Err(Failure::rows(&search.rows, fault, String::new()))
-        }
-    }
+    let mut records = file
+        .records(search.delimiter)
+        .map_err(unread(&search.rows))?;
+    Ok(last_records(&mut records, &layout.partition, search.header))
 }
 
 /// A query's text may be no longer: it is read whole.
@@ -264,7 +208,7 @@ fn warn(path: &str, text: &QueryText) {
 /// A file that is being read and answered.
 struct Reading<'a> {
     search: &'a Search,
-    partitions: Partitions<'a>,
+    partitions: Partitions<'a, Option<Codes>>,
     answering: Answering<'a>,
     progress: Progress,
     /// The length of the file, where it is one.
@@ -295,7 +239,7 @@ impl Reading<'_> {
         let mut count = 0_u64;
         loop {
             let taken = records.taken;
-            let Some(record) = read_record(self.search, records, &mut fields)? else {
+            let Some(record) = reading::record(&self.search.rows, records, &mut fields)? else {
                 return Ok(true);
             };
             count = count.wrapping_add(1);
@@ -309,7 +253,7 @@ impl Reading<'_> {
                 continue;
             }
             if let Some((line, bytes)) = &blank {
-                return Err(self.blank_line(*line, bytes));
+                return Err(blank_line(&self.search.rows, *line, bytes));
             }
             let added = self.partitions.add(&record, &mut self.answering);
             let ready = added.map_err(|added| failure(self.search, added))?;
@@ -323,18 +267,6 @@ impl Reading<'_> {
                 return Err(self.answering.refuse_all());
             }
         }
-    }
-
-    /// The fault of an empty line in front of a row.
-    fn blank_line(&self, line: u64, bytes: &[u8]) -> Failure {
-        let record = Record {
-            line,
-            bytes,
-            fields: &[],
-        };
-        let expected = "a row, since others follow";
-        let (fault, shown) = record.fault_at(0, expected, "an empty line");
-        Failure::rows(&self.search.rows, fault, shown)
     }
 
     /// Whether the rest of a file is too long, or may be, to be read only to count its rows.

@@ -1,68 +1,23 @@
 //! The one description of the command line, from which `--help`, the man page, the completions and
 //! the reader of arguments are made. An option that is not described here does not exist.
 
-/// One option.
-pub struct Described {
-    /// Its name behind `--`.
-    pub long: &'static str,
-    /// Its letter behind `-`.
-    pub short: Option<char>,
-    /// What its value is called; none where it takes none.
-    pub value: Option<&'static str>,
-    /// The values that it can have, where they are few.
-    pub choices: &'static [&'static str],
-    /// What it does, in lines of at most 76 characters.
-    pub help: &'static str,
-}
+use crate::shared::options::{
+    flag, one_of, valued, Command, Group, ABOUT, COLOR, DELIMITER, NO_HEADER, TAB,
+};
 
-/// A group of options under a heading.
-pub struct Group {
-    pub title: &'static str,
-    pub options: &'static [Described],
-}
+pub const COMMAND: Command = Command {
+    name: "mireladle-match",
+    summary: "search rows for a row pattern (SQL's MATCH_RECOGNIZE)",
+    usages: &["[OPTIONS] QUERY ROWS", "[OPTIONS] -e TEXT [ROWS]"],
+    groups: GROUPS,
+    sections: SECTIONS,
+    needs: &[("steps", STEPS), ("program", "the program's path")],
+};
 
-const fn flag(long: &'static str, short: Option<char>, help: &'static str) -> Described {
-    Described {
-        long,
-        short,
-        value: None,
-        choices: &[],
-        help,
-    }
-}
+/// What `--steps` needs.
+pub const STEPS: &str = "a whole number from 0 to 18446744073709551615";
 
-const fn valued(
-    long: &'static str,
-    short: Option<char>,
-    value: &'static str,
-    help: &'static str,
-) -> Described {
-    Described {
-        long,
-        short,
-        value: Some(value),
-        choices: &[],
-        help,
-    }
-}
-
-const fn one_of(
-    long: &'static str,
-    short: Option<char>,
-    value: &'static str,
-    choices: &'static [&'static str],
-    help: &'static str,
-) -> Described {
-    Described {
-        long,
-        short,
-        value: Some(value),
-        choices,
-        help,
-    }
-}
-
-pub const GROUPS: &[Group] = &[
+const GROUPS: &[Group] = &[
     Group {
         title: "Rows",
         options: &[
@@ -95,18 +50,9 @@ pub const GROUPS: &[Group] = &[
                  the next begins, and keep none of them. A partition that begins again\n\
                  is an error. For pipes; of a large file it is found out.",
             ),
-            valued(
-                "delimiter",
-                Some('d'),
-                "CHARACTER",
-                "What parts the columns, in the place of a comma.",
-            ),
-            flag("tab", Some('t'), "Tabs part the columns."),
-            flag(
-                "no-header",
-                None,
-                "The first line is a row. The columns are called c0, c1 and so on.",
-            ),
+            DELIMITER,
+            TAB,
+            NO_HEADER,
         ],
     },
     Group {
@@ -168,14 +114,7 @@ pub const GROUPS: &[Group] = &[
                 Some('q'),
                 "Tell nothing; end at the first match, with exit status 0.",
             ),
-            one_of(
-                "color",
-                None,
-                "WHEN",
-                &["auto", "always", "never"],
-                "Colours: on a terminal (auto, the default; never where NO_COLOR is\n\
-                 set), always or never.",
-            ),
+            COLOR,
             flag(
                 "no-warnings",
                 None,
@@ -189,34 +128,10 @@ pub const GROUPS: &[Group] = &[
             ),
         ],
     },
-    Group {
-        title: "About",
-        options: &[
-            flag("help", Some('h'), "Print this."),
-            flag("version", Some('V'), "Print the version."),
-            flag("man", None, "Print the manual page, for man(1)."),
-            one_of(
-                "completions",
-                None,
-                "SHELL",
-                &["bash", "zsh", "fish"],
-                "Print the completions for a shell.",
-            ),
-        ],
-    },
+    ABOUT,
 ];
 
-/// All options.
-pub fn options() -> impl Iterator<Item = &'static Described> {
-    GROUPS.iter().flat_map(|group| group.options)
-}
-
-pub const NAME: &str = "mireladle-match";
-pub const SUMMARY: &str = "search rows for a row pattern (SQL's MATCH_RECOGNIZE)";
-pub const USAGES: [&str; 2] = ["[OPTIONS] QUERY ROWS", "[OPTIONS] -e TEXT [ROWS]"];
-
-/// Sections of text, each a heading and what stands below it.
-pub const SECTIONS: &[(&str, &str)] = &[
+const SECTIONS: &[(&str, &str)] = &[
     (
         "Files",
         "\
@@ -292,9 +207,3 @@ zcat log.csv.gz | mireladle-match -e 'pattern: A+ B' -e 'A: speed > PREV(speed)'
 mireladle-match -q query.txt log.csv && echo found",
     ),
 ];
-
-/// The usage, as a message about wrong arguments shows it.
-pub fn usage() -> String {
-    let lines = USAGES.map(|usage| format!("{NAME} {usage}"));
-    format!("usage: {}", lines.join("\n       "))
-}

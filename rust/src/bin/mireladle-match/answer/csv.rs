@@ -1,10 +1,8 @@
 //! Matches and rows as CSV by RFC 4180, for spreadsheets and other programs: a first line with names
-//! that all differ, then one record a match, or one a row of a match. Null is an empty field. On a
-//! terminal nothing of the data can upset it; elsewhere the data stays as it is.
-
-use mireladle::text::screen::visible;
+//! that all differ, then one record a match, or one a row of a match. Null is an empty field.
 
 use super::{distinct, Answering, Searched};
+use crate::shared::csv::Line;
 
 /// The names in front of the measures, behind those of the columns that part the rows.
 const MATCH: [&str; 5] = ["match", "first_line", "first_row", "rows", "labels"];
@@ -20,7 +18,7 @@ pub fn match_head(answering: &Answering<'_>) -> Vec<u8> {
     let names = partition_names(answering)
         .chain(MATCH.map(String::from))
         .chain(answering.asked.text.titles.iter().cloned());
-    let mut line = Line::new(answering);
+    let mut line = Line::new(answering.style);
     distinct(names)
         .iter()
         .for_each(|name| line.text(name.as_bytes()));
@@ -30,7 +28,7 @@ pub fn match_head(answering: &Answering<'_>) -> Vec<u8> {
 pub fn row_head(answering: &Answering<'_>) -> Vec<u8> {
     let names = ROW.map(String::from).into_iter();
     let names = names.chain(answering.layout.names.iter().cloned());
-    let mut line = Line::new(answering);
+    let mut line = Line::new(answering.style);
     distinct(names)
         .iter()
         .for_each(|name| line.text(name.as_bytes()));
@@ -40,7 +38,7 @@ pub fn row_head(answering: &Answering<'_>) -> Vec<u8> {
 pub fn matches(answering: &Answering<'_>, searched: &Searched<'_>) -> Vec<u8> {
     let mut bytes = Vec::new();
     for found in searched.report {
-        let mut line = Line::new(answering);
+        let mut line = Line::new(answering.style);
         for value in &searched.partition.values {
             line.text(value);
         }
@@ -63,7 +61,7 @@ pub fn matches(answering: &Answering<'_>, searched: &Searched<'_>) -> Vec<u8> {
 pub fn rows(answering: &Answering<'_>, searched: &Searched<'_>) -> Vec<u8> {
     let mut bytes = Vec::new();
     for (number, row, label) in searched.labelled() {
-        let mut line = Line::new(answering);
+        let mut line = Line::new(answering.style);
         line.number(number);
         line.text(label.map_or(String::new(), String::from).as_bytes());
         line.number(searched.line(row));
@@ -74,58 +72,4 @@ pub fn rows(answering: &Answering<'_>, searched: &Searched<'_>) -> Vec<u8> {
         bytes.append(&mut line.ended());
     }
     bytes
-}
-
-struct Line {
-    bytes: Vec<u8>,
-    any: bool,
-    on_terminal: bool,
-}
-
-impl Line {
-    fn new(answering: &Answering<'_>) -> Line {
-        Line {
-            bytes: Vec::new(),
-            any: false,
-            on_terminal: answering.style.on_terminal,
-        }
-    }
-
-    fn part(&mut self) {
-        if self.any {
-            self.bytes.push(b',');
-        }
-        self.any = true;
-    }
-
-    fn number(&mut self, number: impl std::fmt::Display) {
-        self.part();
-        self.bytes.extend_from_slice(number.to_string().as_bytes());
-    }
-
-    fn text(&mut self, text: &[u8]) {
-        self.part();
-        let shown = self
-            .on_terminal
-            .then(|| visible(&String::from_utf8_lossy(text)));
-        let text = shown.as_ref().map_or(text, |shown| shown.as_bytes());
-        let quoted = |byte: &u8| matches!(byte, b',' | b'"' | b'\n' | b'\r');
-        if !text.iter().any(quoted) {
-            self.bytes.extend_from_slice(text);
-            return;
-        }
-        self.bytes.push(b'"');
-        for byte in text {
-            if *byte == b'"' {
-                self.bytes.push(b'"');
-            }
-            self.bytes.push(*byte);
-        }
-        self.bytes.push(b'"');
-    }
-
-    fn ended(mut self) -> Vec<u8> {
-        self.bytes.push(b'\n');
-        self.bytes
-    }
 }

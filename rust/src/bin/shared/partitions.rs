@@ -9,11 +9,11 @@ use std::collections::hash_map::DefaultHasher;
 use std::collections::{HashMap, HashSet, VecDeque};
 use std::hash::{Hash, Hasher};
 
-use mireladle::text::cells::{advice, number, order_key};
+use mireladle::text::cells::order_key;
 use mireladle::text::{Fault, Seconds};
 
-use crate::input::{Record, Records};
-use crate::layout::Layout;
+use super::input::{Record, Records};
+use super::layout::{Layout, Reads};
 
 /// The most rows that a search takes.
 pub const MOST_ROWS: u64 = 4096;
@@ -23,7 +23,7 @@ pub const MOST_ROWS: u64 = 4096;
 pub struct Partition {
     /// The cells of the columns that part the rows.
     pub values: Vec<Vec<u8>>,
-    /// The entries of the query's columns, row by row.
+    /// The entries, row by row.
     pub entries: Vec<i32>,
     /// The line of each row.
     pub lines: Vec<u64>,
@@ -35,6 +35,9 @@ pub struct Partition {
     /// The keys to sort by, where the rows are to be sorted.
     keys: Vec<Seconds>,
     last_key: Option<(Seconds, u64)>,
+    /// The first fault in a row and that row's line, where faults are kept: then the entries are not
+    /// all, and not to be used.
+    pub fault: Option<(Fault, String)>,
     /// The number of its last record in the file, where that is known.
     last_record: Option<u64>,
 }
@@ -98,12 +101,24 @@ pub trait Close {
     fn close(&mut self, partition: Partition) -> Result<Vec<u8>, Self::Error>;
 }
 
+/// What becomes of rows.
+#[derive(Clone, Copy, Default)]
+pub struct Handling {
+    /// They are sorted, and not only checked for their order.
+    pub sort: bool,
+    /// Their records are kept.
+    pub keep_records: bool,
+    /// A fault in one is kept with its partition, and does not end the reading.
+    pub keep_faults: bool,
+    /// What is said behind the fault of one that is out of order.
+    pub advice: &'static str,
+}
+
 /// The partitions that are open, and those that wait for an earlier one.
-pub struct Partitions<'a> {
-    layout: &'a Layout,
+pub struct Partitions<'a, R> {
+    layout: &'a Layout<R>,
     closing: Closing,
-    sort: bool,
-    keep: bool,
+    handling: Handling,
     open: HashMap<Vec<u8>, u64>,
     closed: HashSet<u64>,
     slots: VecDeque<Slot>,
@@ -118,13 +133,12 @@ pub struct Partitions<'a> {
     pub rows: u64,
 }
 
-impl<'a> Partitions<'a> {
-    pub fn new(layout: &'a Layout, closing: Closing, sort: bool, keep: bool) -> Partitions<'a> {
+impl<'a, R: Reads> Partitions<'a, R> {
+    pub fn new(layout: &'a Layout<R>, closing: Closing, handling: Handling) -> Partitions<'a, R> {
         Partitions {
             layout,
             closing,
-            sort,
-            keep,
+            handling,
             open: HashMap::new(),
             closed: HashSet::new(),
             slots: VecDeque::new(),
@@ -185,7 +199,7 @@ impl<'a> Partitions<'a> {
         close: &mut C,
         ready: &mut Vec<u8>,
     ) -> Result<u64, Added<C>> {
-        key_of(record, self.layout, &mut self.key);
+        key_of(record, &self.layout.partition, &mut self.key);
         if let Some(slot) = self.current.filter(|_| self.current_key == self.key) {
             return Ok(slot);
         }
@@ -250,15 +264,17 @@ impl<'a> Partitions<'a> {
             return Ok(false);
         };
         partition.count = partition.count.saturating_add(1);
-        if partition.count <= MOST_ROWS {
+        if partition.count <= MOST_ROWS && partition.fault.is_none() {
             let row = Row {
                 layout: self.layout,
                 record,
-                sort: self.sort,
-                keep: self.keep,
+                handling: self.handling,
             };
-            row.append(partition)
-                .map_err(|(fault, line)| Added::Fault(fault, line))?;
+            match row.append(partition) {
+                Ok(()) => {}
+                Err(fault) if self.handling.keep_faults => partition.fault = Some(fault),
+                Err((fault, line)) => return Err(Added::Fault(fault, line)),
+            }
         } else if partition.count == MOST_ROWS.saturating_add(1) {
             // Only counted from here on.
             (partition.entries, partition.lines) = (Vec::new(), Vec::new());
@@ -279,7 +295,7 @@ impl<'a> Partitions<'a> {
         if let Some(place) = self.slots.get_mut(at) {
             if let Slot::Open(partition) = place {
                 let mut partition = std::mem::take(&mut **partition);
-                if self.sort {
+                if self.handling.sort {
                     partition.sort(self.layout.entries());
                 }
                 let bytes = close.close(partition).map_err(Added::Close)?;
@@ -332,14 +348,13 @@ fn count(length: usize) -> u64 {
 }
 
 /// A row that is put into its partition.
-struct Row<'a, 'b> {
-    layout: &'a Layout,
+struct Row<'a, 'b, R> {
+    layout: &'a Layout<R>,
     record: &'a Record<'b>,
-    sort: bool,
-    keep: bool,
+    handling: Handling,
 }
 
-impl Row<'_, '_> {
+impl<R: Reads> Row<'_, '_, R> {
     fn append(&self, partition: &mut Partition) -> Result<(), (Fault, String)> {
         let record = self.record;
         if let Some(column) = self.layout.order {
@@ -348,15 +363,14 @@ impl Row<'_, '_> {
         if self.layout.query.is_empty() {
             partition.entries.push(0);
         }
-        for (column, codes) in &self.layout.query {
+        for (column, reads) in &self.layout.query {
             if record.is_odd(*column) {
                 return Err(record.fault(*column, "nothing behind the closing quote"));
             }
-            let cell = record.cell(*column);
-            let entry = number(&cell, codes.as_ref()).map_err(|expected| {
-                let name = self.layout.names.get(*column);
-                let name = name.map_or("", String::as_str);
-                let advice = advice(name, &cell, codes.as_ref());
+            let name = self.layout.names.get(*column);
+            let name = name.map_or("", String::as_str);
+            let read = reads.read(name, &record.cell(*column));
+            let entry = read.map_err(|(expected, advice)| {
                 let (mut fault, line) = record.fault(*column, expected);
                 fault.found.push_str(&advice);
                 (fault, line)
@@ -364,7 +378,7 @@ impl Row<'_, '_> {
             partition.entries.push(entry);
         }
         partition.lines.push(record.line);
-        if self.keep {
+        if self.handling.keep_records {
             partition.kept.extend_from_slice(record.bytes);
             partition.ends.push(partition.kept.len());
         }
@@ -377,7 +391,7 @@ impl Row<'_, '_> {
         let key = order_key(&record.cell(column));
         let expected = "a whole number, a date or a time to order the rows by";
         let key = key.ok_or_else(|| record.fault(column, expected))?;
-        if self.sort {
+        if self.handling.sort {
             partition.keys.push(key);
             return Ok(());
         }
@@ -386,8 +400,8 @@ impl Row<'_, '_> {
                 let name = self.layout.names.get(column);
                 let name = name.map_or("", String::as_str);
                 let expected = format!(
-                    "rows in the order of `{name}`, and so nothing below that of line {line} \
-                     (--sort sorts them)"
+                    "rows in the order of `{name}`, and so nothing below that of line {line}{}",
+                    self.handling.advice
                 );
                 Err(record.fault(column, expected))
             }
@@ -400,9 +414,9 @@ impl Row<'_, '_> {
 }
 
 /// The values of the columns that part the rows, each with its length in front.
-fn key_of(record: &Record<'_>, layout: &Layout, key: &mut Vec<u8>) {
+fn key_of(record: &Record<'_>, columns: &[usize], key: &mut Vec<u8>) {
     key.clear();
-    for column in &layout.partition {
+    for column in columns {
         let cell = record.cell(*column);
         key.extend_from_slice(&cell.len().to_le_bytes());
         key.extend_from_slice(&cell);
@@ -417,7 +431,7 @@ fn hash(key: &[u8]) -> u64 {
 
 /// Reads a file once to find out where each partition has its last record. A fault ends it: it is
 /// told when the file is read again.
-pub fn last_records(records: &mut Records, layout: &Layout, header: bool) -> Closing {
+pub fn last_records(records: &mut Records, columns: &[usize], header: bool) -> Closing {
     let mut last = HashMap::new();
     let (mut fields, mut key, mut current) = (Vec::new(), Vec::new(), Vec::new());
     let mut number = 0_u64;
@@ -425,7 +439,7 @@ pub fn last_records(records: &mut Records, layout: &Layout, header: bool) -> Clo
         let _ = records.next(&mut fields);
     }
     while let Ok(Some(record)) = records.next(&mut fields) {
-        key_of(&record, layout, &mut key);
+        key_of(&record, columns, &mut key);
         if key != current && number > 0 {
             last.insert(hash(&current), number);
         }

@@ -5,9 +5,6 @@ use std::io::{self, IsTerminal, Write};
 use std::sync::atomic::{AtomicBool, Ordering};
 use std::time::{Duration, Instant};
 
-use crate::answer::grouped;
-use crate::arguments::Color;
-
 /// Whether the line that tells how far a file is read stands on the screen.
 static PROGRESS: AtomicBool = AtomicBool::new(false);
 
@@ -22,6 +19,14 @@ fn clear() {
     if PROGRESS.swap(false, Ordering::Relaxed) {
         let _ = write!(io::stderr(), "\r\u{1B}[K");
     }
+}
+
+/// When colours are used.
+#[derive(Clone, Copy, Debug, PartialEq, Eq)]
+pub enum Color {
+    Auto,
+    Always,
+    Never,
 }
 
 /// How standard output is written to.
@@ -108,4 +113,18 @@ impl Progress {
     pub fn end(&mut self) {
         clear();
     }
+}
+
+/// A number with commas between its thousands.
+pub fn grouped(number: u64) -> String {
+    let digits = number.to_string();
+    let mut text = String::new();
+    for (at, digit) in digits.chars().enumerate() {
+        let left = digits.len().saturating_sub(at);
+        if at > 0 && left.checked_rem(3) == Some(0) {
+            text.push(',');
+        }
+        text.push(digit);
+    }
+    text
 }

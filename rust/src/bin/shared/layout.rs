@@ -1,21 +1,26 @@
-//! Which columns of a file are what: their names from its first line, those that the query reads,
-//! those that part the rows, and the one that orders them. Of names that are not asked for nothing
-//! is expected: they may be empty, or stand twice.
+//! Which columns of a file are what: their names from its first line, those that become entries of
+//! rows, those that part the rows, and the one that orders them. Of names that are not asked for
+//! nothing is expected: they may be empty, or stand twice.
 
 use std::path::Path;
 
 use mireladle::text::screen::shown;
-use mireladle::text::{index_of, one_of_the_columns, Codes, Fault, QueryText};
+use mireladle::text::{index_of, one_of_the_columns, Fault};
 
-use crate::arguments::Search;
-use crate::failure::Failure;
-use crate::input::Record;
+use super::failure::Failure;
+use super::input::Record;
+
+/// How the cells of a column become entries.
+pub trait Reads {
+    /// The number that a cell is; or what was expected in its place, and what to do about it.
+    fn read(&self, name: &str, cell: &[u8]) -> Result<i32, (String, String)>;
+}
 
 /// The columns of a file.
-pub struct Layout {
+pub struct Layout<R> {
     pub names: Vec<String>,
-    /// For each column of the query its place in the file, and its codes.
-    pub query: Vec<(usize, Option<Codes>)>,
+    /// For each entry of a row its column in the file, and how its cells are read.
+    pub query: Vec<(usize, R)>,
     pub partition: Vec<usize>,
     pub order: Option<usize>,
 }
@@ -23,44 +28,7 @@ pub struct Layout {
 /// A table of more columns shows only those that are asked for.
 const MOST_SHOWN: usize = 8;
 
-impl Layout {
-    /// The columns that the command line and the query ask for.
-    pub fn new(names: Vec<String>, text: &QueryText, search: &Search) -> Result<Layout, Failure> {
-        let find = |name: &String, option: &str| {
-            let found = index_of(name, &names, false);
-            found.ok_or_else(|| {
-                let columns = one_of_the_columns(&names);
-                let found = shown(name);
-                Failure::Option(format!("{option}: expected {columns}, found {found}"))
-            })
-        };
-        let parts = match search.partition_by.is_empty() {
-            true => &text.partition_by,
-            false => &search.partition_by,
-        };
-        let mut partition = Vec::new();
-        for name in parts {
-            partition.push(find(name, "--partition-by")?);
-        }
-        let order = search.order_by.as_ref().or(text.order_by.as_ref());
-        let order = match order {
-            Some(name) => Some(find(name, "--order-by")?),
-            None if search.sort => {
-                let reason = "--sort needs --order-by, the column to sort by";
-                return Err(Failure::Usage(String::from(reason)));
-            }
-            None => None,
-        };
-        let query = text.columns.iter();
-        let query = query.filter_map(|column| Some((column.index?, column.codes.clone())));
-        Ok(Layout {
-            query: query.collect(),
-            partition,
-            order,
-            names,
-        })
-    }
-
+impl<R> Layout<R> {
     /// The columns that a table shows.
     pub fn shown(&self) -> Vec<usize> {
         let all = 0..self.names.len();
@@ -75,10 +43,19 @@ impl Layout {
         }
     }
 
-    /// How many entries a row of the query has: where it names no column, one that is not looked at.
+    /// How many entries a row has: where no column is named, one that is not looked at.
     pub fn entries(&self) -> usize {
         self.query.len().max(1)
     }
+}
+
+/// The column that an option names.
+pub fn find(names: &[String], name: &str, option: &str) -> Result<usize, Failure> {
+    index_of(name, names, false).ok_or_else(|| {
+        let columns = one_of_the_columns(names);
+        let found = shown(name);
+        Failure::Option(format!("{option}: expected {columns}, found {found}"))
+    })
 }
 
 /// The names in the first line, and what is wrong where one of them is no text in UTF-8: that counts
@@ -137,8 +114,8 @@ pub fn numbered(columns: usize) -> Vec<String> {
     (0..columns).map(|index| format!("c{index}")).collect()
 }
 
-/// A name that the query or an option asks for and that several columns have.
-pub fn twice(layout: &Layout, path: &Path, record: &Record<'_>) -> Result<(), Failure> {
+/// A name that is asked for and that several columns have.
+pub fn twice<R>(layout: &Layout<R>, path: &Path, record: &Record<'_>) -> Result<(), Failure> {
     let asked = layout.query.iter().map(|(index, _)| index);
     for index in asked.chain(&layout.partition).chain(&layout.order) {
         let name = layout.names.get(*index);

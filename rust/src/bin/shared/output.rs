@@ -13,9 +13,11 @@
 //! not noticed. Tested in tests/output.rs.
 
 use std::fs::{symlink_metadata, File};
-use std::io::{self, ErrorKind, Write};
+use std::io::{self, BufWriter, ErrorKind, Write};
 use std::os::fd::AsFd;
 use std::sync::atomic::{AtomicBool, Ordering};
+
+use super::failure::Failure;
 
 /// Whether descriptor 1 was closed when the process began.
 static CLOSED: AtomicBool = AtomicBool::new(false);
@@ -67,4 +69,35 @@ impl Write for Output {
     fn flush(&mut self) -> io::Result<()> {
         Ok(())
     }
+}
+
+/// Writes a text.
+pub fn print(text: &str) -> Result<(), Failure> {
+    let mut out = Out::new()?;
+    out.write(text.as_bytes(), false)?;
+    out.flush(false)?;
+    Ok(())
+}
+
+/// Standard output through a buffer; what cannot be written is a failure.
+pub struct Out(BufWriter<Output>);
+
+impl Out {
+    pub fn new() -> Result<Out, Failure> {
+        let output = Output::new().map_err(unwritten(false))?;
+        Ok(Out(BufWriter::with_capacity(1 << 16, output)))
+    }
+
+    pub fn write(&mut self, bytes: &[u8], stopped: bool) -> Result<(), Failure> {
+        self.0.write_all(bytes).map_err(unwritten(stopped))
+    }
+
+    pub fn flush(&mut self, stopped: bool) -> Result<(), Failure> {
+        self.0.flush().map_err(unwritten(stopped))
+    }
+}
+
+/// The failure of an output that cannot be written, by whether the search that it tells of stopped.
+fn unwritten(stopped: bool) -> impl Fn(io::Error) -> Failure {
+    move |error| Failure::Output { error, stopped }
 }

@@ -1,4 +1,4 @@
-//! Why the command gives no whole result: the message and the exit status of each failure. Messages
+//! Why a command gives no whole result: the message and the exit status of each failure. Messages
 //! have a place wherever there is one, and no control character of the input reaches the screen.
 
 use std::io::{self, ErrorKind};
@@ -8,12 +8,8 @@ use mireladle::text::screen::{mark, visible};
 use mireladle::text::{Fault, QueryText};
 use mireladle::Error;
 
-use crate::options::usage;
+use super::options::Command;
 
-/// At least one match.
-pub const MATCH: u8 = 0;
-/// No match.
-pub const NO_MATCH: u8 = 1;
 /// The input, the command line or the program is wrong, a search was refused, or the output cannot
 /// be written.
 pub const WRONG: u8 = 2;
@@ -71,10 +67,11 @@ impl Failure {
     }
 
     /// The message; none where whoever reads the output has had enough of it.
-    pub fn message(&self) -> Option<String> {
+    pub fn message(&self, command: &Command) -> Option<String> {
         Some(match self {
             Failure::Usage(reason) => {
-                format!("{}\n{} (--help tells more)", visible(reason), usage())
+                let usage = command.usage();
+                format!("{}\n{usage} (--help tells more)", visible(reason))
             }
             Failure::Option(reason) => visible(reason),
             Failure::File { path, error } => format!("{}: {error}", named(path)),

@@ -1,7 +1,7 @@
-//! What is made from the description of the options: the text of `--help`, the manual page and the
-//! completions of shells. Tested here and in tests/options.rs.
+//! What is made from the description of a command: the text of `--help`, the manual page and the
+//! completions of shells. Tested with the commands, here and in tests/options.rs.
 
-use crate::options::{options, usage, Described, GROUPS, NAME, SECTIONS, SUMMARY, USAGES};
+use super::options::{Command, Described};
 
 /// An option as it is written: `-f, --format FORMAT`.
 fn written(option: &Described) -> String {
@@ -19,9 +19,10 @@ fn choices(option: &Described) -> String {
 }
 
 /// The text of `--help`.
-pub fn help() -> String {
-    let mut text = format!("{NAME}: {SUMMARY}\n\n{}\n", usage());
-    for group in GROUPS {
+pub fn help(command: &Command) -> String {
+    let Command { name, summary, .. } = command;
+    let mut text = format!("{name}: {summary}\n\n{}\n", command.usage());
+    for group in command.groups {
         text.push_str(&format!("\n{}:\n", group.title));
         for option in group.options {
             text.push_str(&format!("  {}\n", written(option)));
@@ -30,7 +31,7 @@ pub fn help() -> String {
             }
         }
     }
-    for (title, body) in SECTIONS {
+    for (title, body) in command.sections {
         text.push_str(&format!("\n{title}:\n"));
         for line in body.lines() {
             text.push_str(&format!("  {line}\n"));
@@ -50,20 +51,21 @@ fn roff(text: &str) -> String {
 }
 
 /// The manual page.
-pub fn man() -> String {
+pub fn man(command: &Command) -> String {
     let version = env!("CARGO_PKG_VERSION");
-    let title = NAME.to_ascii_uppercase();
+    let name = roff(command.name);
+    let title = command.name.to_ascii_uppercase();
     let mut page = format!(
         ".TH {} 1 \"\" \"mireladle {version}\" \"User Commands\"\n.SH NAME\n{} \\- {}\n.SH SYNOPSIS\n",
         roff(&title),
-        roff(NAME),
-        roff(SUMMARY)
+        name,
+        roff(command.summary)
     );
-    for usage in USAGES {
-        page.push_str(&format!(".B {}\n{}\n.br\n", roff(NAME), roff(usage)));
+    for usage in command.usages {
+        page.push_str(&format!(".B {name}\n{}\n.br\n", roff(usage)));
     }
     page.push_str(".SH OPTIONS\n");
-    for group in GROUPS {
+    for group in command.groups {
         page.push_str(&format!(".SS {}\n", roff(group.title)));
         for option in group.options {
             page.push_str(&format!(".TP\n.B {}\n", roff(&written(option))));
@@ -73,7 +75,7 @@ pub fn man() -> String {
             );
         }
     }
-    for (title, body) in SECTIONS {
+    for (title, body) in command.sections {
         let title = title.to_ascii_uppercase();
         page.push_str(&format!(".SH {}\n.nf\n{}\n.fi\n", roff(&title), roff(body)));
     }
@@ -81,19 +83,24 @@ pub fn man() -> String {
 }
 
 /// The completions for a shell; none for one that is not known.
-pub fn completions(shell: &str) -> Option<String> {
+pub fn completions(command: &Command, shell: &str) -> Option<String> {
     match shell {
-        "bash" => Some(bash()),
-        "zsh" => Some(zsh()),
-        "fish" => Some(fish()),
+        "bash" => Some(bash(command)),
+        "zsh" => Some(zsh(command)),
+        "fish" => Some(fish(command)),
         _ => None,
     }
 }
 
-fn bash() -> String {
-    let all: Vec<String> = options().map(|it| format!("--{}", it.long)).collect();
+fn bash(command: &Command) -> String {
+    let name = command.name;
+    let function = format!("_{}", name.replace('-', "_"));
+    let all: Vec<String> = command
+        .options()
+        .map(|it| format!("--{}", it.long))
+        .collect();
     let mut cases = String::new();
-    for option in options().filter(|it| !it.choices.is_empty()) {
+    for option in command.options().filter(|it| !it.choices.is_empty()) {
         let short = option.short.map_or(String::new(), |c| format!("|-{c}"));
         cases.push_str(&format!(
             "    --{}{short}) COMPREPLY=($(compgen -W \"{}\" -- \"$word\")); return ;;\n",
@@ -102,15 +109,15 @@ fn bash() -> String {
         ));
     }
     format!(
-        "# completions of {NAME} for bash\n\
-         _mireladle_match() {{\n  \
+        "# completions of {name} for bash\n\
+         {function}() {{\n  \
            local word=${{COMP_WORDS[COMP_CWORD]}} before=${{COMP_WORDS[COMP_CWORD-1]}}\n  \
            case $before in\n{cases}  esac\n  \
            case $word in\n    \
              -*) COMPREPLY=($(compgen -W \"{}\" -- \"$word\")) ;;\n    \
              *) COMPREPLY=($(compgen -f -- \"$word\")) ;;\n  \
            esac\n}}\n\
-         complete -o filenames -F _mireladle_match {NAME}\n",
+         complete -o filenames -F {function} {name}\n",
         all.join(" ")
     )
 }
@@ -123,9 +130,10 @@ fn brief(option: &Described) -> String {
     front.replace(['\'', '[', ']', '`', '"'], "")
 }
 
-fn zsh() -> String {
+fn zsh(command: &Command) -> String {
+    let name = command.name;
     let mut lines = String::new();
-    for option in options() {
+    for option in command.options() {
         let value = match (option.value, option.choices) {
             (None, _) => String::new(),
             (Some(value), []) => format!(":{}:_files", value.replace(['[', ']', ','], " ")),
@@ -137,12 +145,13 @@ fn zsh() -> String {
             lines.push_str(&format!("  '-{short}[{brief}]{value}' \\\n"));
         }
     }
-    format!("#compdef {NAME}\n_arguments \\\n{lines}  '*:file:_files'\n")
+    format!("#compdef {name}\n_arguments \\\n{lines}  '*:file:_files'\n")
 }
 
-fn fish() -> String {
+fn fish(command: &Command) -> String {
+    let name = command.name;
     let mut lines = String::new();
-    for option in options() {
+    for option in command.options() {
         let short = option.short.map_or(String::new(), |c| format!(" -s {c}"));
         let value = match (option.value, option.choices) {
             (None, _) => String::new(),
@@ -151,7 +160,7 @@ fn fish() -> String {
         };
         let brief = brief(option);
         lines.push_str(&format!(
-            "complete -c {NAME} -l {}{short}{value} -d '{brief}'\n",
+            "complete -c {name} -l {}{short}{value} -d '{brief}'\n",
             option.long
         ));
     }
@@ -160,27 +169,42 @@ fn fish() -> String {
 
 #[cfg(test)]
 mod tests {
+    use std::collections::HashSet;
+
     use super::*;
+    use crate::options::COMMAND;
 
     #[test]
     fn every_option_is_in_everything_that_is_made() {
-        let texts = [help(), man().replace("\\-", "-")];
-        let shells = ["bash", "zsh"].map(|shell| completions(shell).unwrap());
-        for option in options() {
+        let texts = [help(&COMMAND), man(&COMMAND).replace("\\-", "-")];
+        let shells = ["bash", "zsh"].map(|shell| completions(&COMMAND, shell).unwrap());
+        for option in COMMAND.options() {
             let long = format!("--{}", option.long);
             assert!(
                 texts.iter().chain(&shells).all(|it| it.contains(&long)),
                 "{long}"
             );
-            let fish = completions("fish").unwrap();
+            let fish = completions(&COMMAND, "fish").unwrap();
             assert!(fish.contains(&format!("-l {}", option.long)), "{long}");
         }
-        assert_eq!(completions("tcsh"), None);
+        assert_eq!(completions(&COMMAND, "tcsh"), None);
+    }
+
+    #[test]
+    fn no_two_options_have_one_name() {
+        let longs: Vec<&str> = COMMAND.options().map(|it| it.long).collect();
+        let shorts: Vec<char> = COMMAND.options().filter_map(|it| it.short).collect();
+        let differ = |count: usize, all: usize| assert_eq!(count, all, "{longs:?} {shorts:?}");
+        differ(longs.iter().collect::<HashSet<_>>().len(), longs.len());
+        differ(shorts.iter().collect::<HashSet<_>>().len(), shorts.len());
+        for (long, _) in COMMAND.needs {
+            assert!(longs.contains(long), "{long}");
+        }
     }
 
     #[test]
     fn no_line_of_the_help_is_long() {
-        for line in help().lines() {
+        for line in help(&COMMAND).lines() {
             assert!(line.chars().count() <= 92, "{line}");
         }
     }
@@ -188,7 +212,7 @@ mod tests {
     #[test]
     fn no_line_of_the_manual_page_is_a_command_by_mistake() {
         let known = [".TH", ".SH", ".SS", ".B", ".br", ".TP", ".nf", ".fi"];
-        for line in man().lines().filter(|line| line.starts_with('.')) {
+        for line in man(&COMMAND).lines().filter(|line| line.starts_with('.')) {
             let command = line.split(' ').next().unwrap();
             assert!(known.contains(&command), "{line}");
         }
