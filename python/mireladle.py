@@ -4,7 +4,7 @@ A query has columns, a pattern, a DEFINE for each letter (one comparison or a li
 all have to be met), a skip and measures. Prices that rise once or more and then fall, which is W1
 of the bench sheet:
 
->>> from mireladle import COUNT, LAST, Query, col
+
 >>> price = col("price")
 >>> query = Query(
 ...     columns=["price"],
@@ -33,6 +33,15 @@ A search that stops before its end raises nothing: the matches found by then sta
 >>> len(stopped), stopped.whole, stopped.ending
 (1, False, <Answer.OUT_OF_STEPS: 16>)
 
+The release desk says of a bus's log whether the bus may leave: rows of time, event (1 offered,
+2 refused, 3 accepted), base number and patch number, in order of time.
+
+>>> log = [(540, 1, 7, 31), (545, 2, 7, 31), (560, 3, 7, 31)]
+>>> desk(log)
+Verdict(said=<Said.CLEARED: 1>, last_refusal=None)
+>>> desk(log[:2])
+Verdict(said=<Said.HELD: 2>, last_refusal=1)
+
 The module needs Python 3.9 and the shared library libmireladle.so.0, which is loaded at the first
 query: the file that the environment variable MIRELADLE_LIBRARY names, or else the one in this
 module's folder, or else what the system's loader finds. include/mireladle.h tells the limits and
@@ -53,8 +62,8 @@ from enum import IntEnum
 
 __all__ = [
     "AVG", "COUNT", "FIRST", "LAST", "MAX", "MIN", "SUM",
-    "Answer", "Match", "PAST_LAST_ROW", "Query", "Refused", "Report", "TO_NEXT_ROW",
-    "col", "to_first", "to_last",
+    "Answer", "Match", "PAST_LAST_ROW", "Query", "Refused", "Report", "Said", "TO_NEXT_ROW",
+    "Verdict", "col", "desk", "to_first", "to_last",
 ]
 
 # ---- The C interface: what include/mireladle.h declares. test_mireladle.py compares the two.
@@ -87,6 +96,14 @@ class Answer(IntEnum):
     OUT_OF_STEPS = 16
 
 
+class Said(IntEnum):
+    """What the release desk says of a log; a bus may leave by CLEARED alone."""
+
+    CLEARED = 1
+    HELD = 2
+    UNREADABLE = 3
+
+
 _WITH_REPORT = {Answer.DONE, Answer.STOPPED, Answer.NO_SKIP_ROW, Answer.OUT_OF_STEPS}
 
 _WORDS = {
@@ -117,6 +134,10 @@ class _Room(ctypes.Structure):
     _fields_ = [(name, _U64) for name in ("answer", "places", "rows", "pairs", "offset")]
 
 
+class _Verdict(ctypes.Structure):
+    _fields_ = [(name, _U64) for name in ("answer", "verdict", "found", "row")]
+
+
 # Each function that is called: the struct that it returns, and its arguments. A pointer stands
 # before the length of what it points to.
 _FUNCTIONS = {
@@ -127,6 +148,12 @@ _FUNCTIONS = {
     "mireladle_search_within": (
         _Result,
         [ctypes.c_char_p, _SIZE, ctypes.POINTER(_I32), _SIZE, _U64,
+         ctypes.POINTER(_U8), _SIZE, ctypes.POINTER(_U32), _SIZE,
+         ctypes.POINTER(_I64), _SIZE, ctypes.POINTER(_U8), _SIZE],
+    ),
+    "mireladle_desk": (
+        _Verdict,
+        [ctypes.POINTER(_I32), _SIZE,
          ctypes.POINTER(_U8), _SIZE, ctypes.POINTER(_U32), _SIZE,
          ctypes.POINTER(_I64), _SIZE, ctypes.POINTER(_U8), _SIZE],
     ),
@@ -441,8 +468,7 @@ class Query:
             (_I64 * (n * width))(),
             (_U8 * (n * (n + 1) // 2 if self._overlaps else n))(),
         )
-        sized = [part for buffer in lent for part in (buffer, len(buffer))]
-        result = _library().mireladle_search_within(*given, allowance, *sized)
+        result = _library().mireladle_search_within(*given, allowance, *_sized(lent))
         if result.answer not in _WITH_REPORT:
             raise _refused(result, self.bytes)
         numbers, labels = lent[2][:result.matches * width], bytes(lent[3][:result.labels]).decode()
@@ -496,6 +522,56 @@ class Report:
 
     def __len__(self):
         return len(self.matches)
+
+
+# ---- The release desk.
+
+_LOG = ("time", "event", "base", "patch")
+_LOG_ROWS, _DESK_PLACES, _DESK_NUMBERS = 4096, 6, 3
+
+
+@dataclass(frozen=True)
+class Verdict:
+    """What the desk says of a log, and, where it is held, the row of its last refusal, from 0.
+
+    `last_refusal` is None where there is no refusal, and where the log is not held.
+    """
+
+    said: Said
+    last_refusal: object = None
+
+    @property
+    def cleared(self):
+        """Whether the bus may leave."""
+        return self.said == Said.CLEARED
+
+    def __bool__(self):
+        raise TypeError("a verdict has no truth value, since it is there for a bus that is held "
+                        "too: look at `.cleared`")
+
+
+def desk(rows):
+    """The verdict on a bus's log, whose rows are in order of time.
+
+    A row has time, event, base and patch, in that order or by these names, and rows may lie in a
+    buffer, as those of a search. The library's answer for more than 4,096 rows, and for a buffer
+    whose last row is not whole, is raised as `Refused`.
+    """
+    entries = _entries(rows, _LOG)
+    n = min(len(entries) // len(_LOG), _LOG_ROWS)
+    pairs = _DESK_PLACES * (n + 1)
+    lent = (_U8 * ((pairs + 7) // 8))(), (_U32 * pairs)(), (_I64 * _DESK_NUMBERS)(), (_U8 * n)()
+    said = _library().mireladle_desk(entries, len(entries), *_sized(lent))
+    if said.answer:
+        # There is room enough, so that no search stops: another number is another library's.
+        detail = f" ({len(entries)} entries, {len(_LOG)} to a row)"
+        raise Refused(said.answer, None, detail if said.answer == Answer.WRONG_ROWS else "")
+    return Verdict(Said(said.verdict), said.row if said.found else None)
+
+
+def _sized(lent):
+    """Buffers, each with its length behind it."""
+    return [part for buffer in lent for part in (buffer, len(buffer))]
 
 
 def _names(columns):

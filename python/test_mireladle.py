@@ -28,7 +28,7 @@ sys.path.insert(0, HERE)
 import mireladle  # noqa: E402
 from mireladle import (  # noqa: E402
     AVG, COUNT, FIRST, LAST, MAX, MIN, PAST_LAST_ROW, SUM, TO_NEXT_ROW,
-    Answer, Query, Refused, col, to_first, to_last)
+    Answer, Query, Refused, Said, Verdict, col, desk, to_first, to_last)
 
 A = col("a")
 W1_ROWS = [100, 110, 120, 115, 130]
@@ -58,7 +58,7 @@ class TheHeader(unittest.TestCase):
     header = read("include", "mireladle.h")
 
     def test_structs(self):
-        for struct_type in (mireladle._Result, mireladle._Room):
+        for struct_type in (mireladle._Result, mireladle._Room, mireladle._Verdict):
             name = "mireladle" + struct_type.__name__.lower()
             body = re.search(rf"struct {name} {{(.*?)\n}};", self.header, re.S).group(1)
             declared = re.findall(r"^ +(\w+) (\w+);", body, re.M)
@@ -71,6 +71,16 @@ class TheHeader(unittest.TestCase):
         declared = re.findall(r"^ +MIRELADLE_(\w+) = (\d+),?$", body, re.M)
         self.assertEqual([(name, int(number)) for name, number in declared],
                          [(answer.name, answer.value) for answer in Answer])
+
+    def test_verdicts(self):
+        body = re.search(r"enum mireladle_said {(.*?)\n};", self.header, re.S).group(1)
+        declared = re.findall(r"^ +MIRELADLE_(\w+) = (\d+),?$", body, re.M)
+        self.assertEqual([(name, int(number)) for name, number in declared],
+                         [(said.name, said.value) for said in Said])
+        pairs = re.search(r"MIRELADLE_DESK_PAIRS\(n\) \((\d+) \* \(\(n\) \+ 1\)\)", self.header)
+        numbers = re.search(r"MIRELADLE_DESK_NUMBERS (\d+)", self.header)
+        self.assertEqual((int(pairs.group(1)), int(numbers.group(1))),
+                         (mireladle._DESK_PLACES, mireladle._DESK_NUMBERS))
 
     def test_every_answer_is_told(self):
         self.assertEqual(set(Answer), set(mireladle._WORDS) | mireladle._WITH_REPORT)
@@ -290,6 +300,66 @@ class Searches(unittest.TestCase):
         for rows in ("12", b"12", bytearray(4), 7):
             with self.assertRaises(TypeError):
                 Query(["a"], "A").search(rows)
+
+
+def by_hand(log):
+    """The desk's verdict by the request's words, from the last row backwards."""
+    if any(event not in (1, 2, 3) for _, event, _, _ in log):
+        return Verdict(Said.UNREADABLE)
+    refusals = [row for row, (_, event, _, _) in enumerate(log) if event == 2]
+    held = Verdict(Said.HELD, refusals[-1] if refusals else None)
+    if not log or log[-1][1] != 3:
+        return held
+    for before, row in zip(log[-2::-1], log[:0:-1]):
+        if before[2:] != row[2:] or before[1] == 3:
+            return held
+        if before[1] == 1:
+            return Verdict(Said.CLEARED)
+    return held
+
+
+class TheDesk(unittest.TestCase):
+    cleared = [(0, 1, 7, 31), (0, 2, 7, 31), (0, 3, 7, 31)]
+
+    def test_each_verdict(self):
+        self.assertTrue(desk(self.cleared).cleared)
+        self.assertEqual(desk(self.cleared[:2]), Verdict(Said.HELD, 1))
+        self.assertEqual(desk([]), Verdict(Said.HELD, None))
+        self.assertEqual(desk([(0, 4, 7, 31)] + self.cleared), Verdict(Said.UNREADABLE, None))
+        for verdict in (desk([]), desk(self.cleared)):
+            with self.assertRaises(TypeError):
+                bool(verdict)
+
+    def test_random_logs(self):
+        chance, found = random.Random(14), set()
+        for _ in range(5000):
+            log = [(chance.randrange(9), chance.choice([1, 1, 2, 2, 3]), 7, 31)
+                   for _ in range(chance.randrange(5))] + self.cleared[:1] + self.cleared[-1:]
+            for _ in range(chance.randrange(3)):
+                at = chance.randrange(len(log))
+                log[at] = log[at][0], chance.choice([1, 2, 3, 3, 3, 0]), *chance.choice(
+                    [(7, 31), (7, 31), (7, 31), (7, 30), (-7, 31)])
+            verdict = desk(log)
+            self.assertEqual(verdict, by_hand(log), log)
+            found.add(verdict.said)
+        self.assertEqual(found, set(Said))
+
+    def test_forms_of_rows(self):
+        flat = array("i", [entry for row in self.cleared for entry in row])
+        named = [dict(zip(("time", "event", "base", "patch"), row)) for row in self.cleared]
+        for rows in (flat, named, iter(self.cleared), tuple(map(list, self.cleared))):
+            self.assertTrue(desk(rows).cleared)
+        for rows in ([(1, 7, 31)], [(0, 1, 7, 2**31)], [(0, "1", 7, 31)], [(0, 1.0, 7, 31)]):
+            with self.assertRaises(ValueError):
+                desk(rows)
+
+    def test_refusals(self):
+        longest = self.cleared[:1] + self.cleared[1:2] * 4094 + self.cleared[2:]
+        self.assertTrue(desk(longest).cleared)
+        for rows in (longest + self.cleared, array("i", [0, 1, 7, 31, 0, 3, 7])):
+            with self.assertRaises(Refused) as caught:
+                desk(rows)
+            self.assertEqual(caught.exception.answer, Answer.WRONG_ROWS)
 
 
 class Loading(unittest.TestCase):

@@ -1,5 +1,6 @@
 //! The C header and its example, by the compilers `cc` and `c++` (or those that CC and CXX name): both languages take
-//! the header without a warning, its structs have the size that this crate declares, and the example prints W1's match.
+//! the header without a warning, its structs have the size that this crate declares, and the examples print W1's match and
+//! the desk's verdicts.
 
 #![allow(clippy::restriction)]
 
@@ -60,6 +61,21 @@ int main(void) {
     }
     result = mireladle_search_within(NULL, 0, NULL, 0, UINT64_MAX, NULL, 0, NULL, 0, NULL, 0, NULL, 0);
     if (result.answer != MIRELADLE_WRONG_RECORDS) return 11;
+    /* The desk: the order of its arguments, and what it leaves in each buffer. */
+    mireladle_verdict_t said = mireladle_desk(NULL, 0, NULL, 0, NULL, 0, NULL, 0, NULL, 0);
+    if (sizeof said != 32 || offsetof(struct mireladle_verdict, row) != 24) return 12;
+    if (said.answer != MIRELADLE_NOTES_SHORT || said.verdict + said.found + said.row != 0) return 13;
+    const int32_t log[] = {1, 2, 8, 31, 2, 1, 7, 31, 3, 3, 7, 31};
+    uint8_t bits[MIRELADLE_NOTES_LENGTH(MIRELADLE_DESK_PAIRS(3))], labels[] = "...";
+    uint32_t pairs[MIRELADLE_DESK_PAIRS(3)];
+    if (sizeof bits != 3 || sizeof pairs != 96 || MIRELADLE_DESK_NUMBERS != 3) return 14;
+    said = mireladle_desk(log, 12, bits, sizeof bits, pairs, 24, numbers, 3, labels, 3);
+    if (said.answer != MIRELADLE_DONE || said.verdict != MIRELADLE_CLEARED || said.found + said.row != 0) return 15;
+    if (numbers[1] != 1 || numbers[2] != 2 || labels[0] != 'O' || labels[1] != 'C' || labels[2] != '.') return 16;
+    said = mireladle_desk(log, 8, bits, sizeof bits, pairs, 24, numbers, 3, labels, 3);
+    if (said.verdict != MIRELADLE_HELD || said.found != 1 || said.row != 0) return 17;
+    said = mireladle_desk(log + 1, 4, bits, sizeof bits, pairs, 24, numbers, 3, labels, 3);
+    if (said.answer != MIRELADLE_DONE || said.verdict != MIRELADLE_UNREADABLE) return 18;
     return MIRELADLE_NOTES_LENGTH(30) == 4 && MIRELADLE_MATCH_LENGTH(2) == 7 ? 0 : 4;
 }
 "#;
@@ -88,10 +104,10 @@ fn cpp17_takes_the_header() {
     builds_and_runs(compiler("CXX", "c++"), "-std=c++17", "header.cpp");
 }
 
-#[test]
-fn the_example_prints_w1() {
-    let program = built("w1");
-    let source = format!("{ROOT}/examples/w1.c");
+/// What an example prints that is built as its head says.
+fn example(name: &str) -> String {
+    let program = built(name);
+    let source = format!("{ROOT}/examples/{name}.c");
     let mut compiler = compiler("CC", "cc");
     succeed(
         compiler
@@ -99,6 +115,11 @@ fn the_example_prints_w1() {
             .arg(&program),
     );
     let output = succeed(&mut Command::new(&program));
+    String::from_utf8(output.stdout).unwrap()
+}
+
+#[test]
+fn the_example_prints_w1() {
     let expected = "\
 answer 0: 5 places, 5 rows, 30 pairs
 1 match in 12 steps
@@ -107,5 +128,18 @@ match 1: COUNT(A) = 2, LAST(B) = 115
   row 2 is A: 120
   row 3 is B: 115
 ";
-    assert_eq!(String::from_utf8_lossy(&output.stdout), expected);
+    assert_eq!(example("w1"), expected);
+}
+
+#[test]
+fn the_example_prints_the_verdicts() {
+    let expected = "\
+B17: cleared
+B20: held, last refusal in row 1
+B19: held
+B21: unreadable
+no rows: held
+a row that is not whole: refused 10
+";
+    assert_eq!(example("desk"), expected);
 }

@@ -20,8 +20,14 @@ pub fn shown_name(name: &str) -> String {
 }
 
 /// Writes lines of cells under one another: to the right, but the last of each line to the left.
-/// The first line is the head; the last cell of the others is what the table is about.
-pub fn write_table(text: &mut String, lines: &[Vec<String>], style: Style) {
+/// The first line is the head; the last cell of the others is what the table is about, and stands
+/// in a colour.
+pub fn write_table(
+    text: &mut String,
+    lines: &[Vec<String>],
+    style: Style,
+    color: impl Fn(Style, &str) -> String,
+) {
     let widths = widths(lines);
     for (number, line) in lines.iter().enumerate() {
         let mut written = String::new();
@@ -34,7 +40,7 @@ pub fn write_table(text: &mut String, lines: &[Vec<String>], style: Style) {
                 column.saturating_sub(width(cell))
             };
             let colored = match last && number > 0 && !cell.is_empty() {
-                true => style.found(cell),
+                true => color(style, cell),
                 false => cell.clone(),
             };
             written.push_str(&format!("{gap}{:space$}{colored}", ""));

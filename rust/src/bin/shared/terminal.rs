@@ -51,7 +51,7 @@ impl Style {
         }
     }
 
-    /// A label, or the labels of a match.
+    /// What is looked for: a label, or the labels of a match.
     pub fn found(self, text: &str) -> String {
         self.in_color(text, "\u{1B}[1;32m")
     }
@@ -61,7 +61,8 @@ impl Style {
         self.in_color(text, "\u{1B}[1m")
     }
 
-    fn in_color(self, text: &str, color: &str) -> String {
+    /// A text in a colour, which is the sequence that turns it on.
+    pub fn in_color(self, text: &str, color: &str) -> String {
         match self.colored {
             true => format!("{color}{text}\u{1B}[0m"),
             false => String::from(text),

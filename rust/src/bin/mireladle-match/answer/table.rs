@@ -9,6 +9,7 @@ use mireladle::{Ending, Match};
 
 use super::{Answering, Searched, Tally};
 use crate::shared::table::{counted, shown_name, write_table};
+use crate::terminal::Style;
 
 /// A partition's matches and rows.
 pub fn matches(answering: &Answering<'_>, searched: &Searched<'_>) -> Vec<u8> {
@@ -28,10 +29,16 @@ pub fn matches(answering: &Answering<'_>, searched: &Searched<'_>) -> Vec<u8> {
             &mut text,
             &match_lines(answering, searched),
             answering.style,
+            Style::found,
         );
     }
     text.push('\n');
-    write_table(&mut text, &row_lines(answering, searched), answering.style);
+    write_table(
+        &mut text,
+        &row_lines(answering, searched),
+        answering.style,
+        Style::found,
+    );
     if parted {
         text.push('\n');
     }
@@ -63,7 +70,7 @@ pub fn rows(answering: &Answering<'_>, searched: &Searched<'_>) -> Vec<u8> {
         true => format!("{}:\n", answering.name(searched.partition)),
         false => String::new(),
     };
-    write_table(&mut text, &lines, answering.style);
+    write_table(&mut text, &lines, answering.style, Style::found);
     if parted {
         text.push('\n');
     }
