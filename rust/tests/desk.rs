@@ -75,7 +75,8 @@ struct Chance(u64);
 
 impl Chance {
     fn below(&mut self, n: u64) -> i32 {
-        self.0 = self.0.wrapping_mul(6_364_136_223_846_793_005) + 1_442_695_040_888_963_407;
+        let next = self.0.wrapping_mul(6_364_136_223_846_793_005);
+        self.0 = next.wrapping_add(1_442_695_040_888_963_407);
         ((self.0 >> 33) % n) as i32
     }
 

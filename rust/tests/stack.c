@@ -1,6 +1,7 @@
 /*
  * Measures how much stack a call of mireladle_search(), mireladle_search_within() and
- * mireladle_room() takes, over many shapes of queries.
+ * mireladle_room() takes, over many shapes of queries, and a call of mireladle_desk(), over logs of
+ * every verdict.
  *
  * Everything runs on a thread whose stack is a region of this program's own. Before each call the
  * region is painted with a pattern; afterwards the lowest word that differs tells how deep the call
@@ -35,6 +36,7 @@ enum {
     OWN = 1024,          /* what painting and scanning take themselves, and is not painted */
     KNOWN = 50000,       /* what known_depth() takes, to see that the measuring measures */
     LONGEST = 2 * MIRELADLE_MAX_PATTERN, /* of the texts tried here */
+    LOG_COLUMNS = 4,
     FEW_ROWS = 3,        /* the walk is a loop: more rows take no more stack */
     MAX_ENTRIES = MIRELADLE_MAX_ROWS * MIRELADLE_MAX_COLUMNS,
     MAX_QUERY = 8192,
@@ -103,7 +105,7 @@ static struct {
     unsigned queries, accepted;
     size_t search, within, room;
 } shape;
-static size_t worst_search, worst_within, worst_room;
+static size_t worst_search, worst_within, worst_room, worst_desk;
 
 /* The worst query of all, and the worst accepted one. */
 struct worst {
@@ -652,6 +654,35 @@ static void named_queries(void)
     finish_accepted();
 }
 
+/* ---- the desk */
+
+static int32_t log_rows[(MIRELADLE_MAX_ROWS + 1) * LOG_COLUMNS];
+
+/* A log of so many rows: an offer, refusals, and the event that is named. */
+NOINLINE static void measure_desk(size_t row_count, int32_t last, uint64_t answer, uint64_t verdict)
+{
+    for (size_t i = 0; i < row_count; i++)
+        log_rows[i * LOG_COLUMNS + 1] = i + 1 == row_count ? last : i == 0 ? 1 : 2;
+    paint();
+    const struct mireladle_verdict said =
+        mireladle_desk(log_rows, row_count * LOG_COLUMNS, notes, sizeof notes, trail, MIRELADLE_MAX_PAIRS, numbers,
+                       MIRELADLE_MAX_ROWS * MATCH, labels, sizeof labels);
+    raise_to(&worst_desk, depth_below((uintptr_t)__builtin_frame_address(0)));
+    if (said.answer != answer || said.verdict != verdict)
+        fail("the desk says something else");
+}
+
+static void logs(void)
+{
+    measure_desk(0, 0, MIRELADLE_DONE, MIRELADLE_HELD);
+    for (size_t rows_of_log = 2; rows_of_log <= MIRELADLE_MAX_ROWS; rows_of_log *= 2) {
+        measure_desk(rows_of_log, 3, MIRELADLE_DONE, MIRELADLE_CLEARED);
+        measure_desk(rows_of_log, 2, MIRELADLE_DONE, MIRELADLE_HELD);
+        measure_desk(rows_of_log, 4, MIRELADLE_DONE, MIRELADLE_UNREADABLE);
+    }
+    measure_desk(MIRELADLE_MAX_ROWS + 1, 3, MIRELADLE_WRONG_ROWS, 0);
+}
+
 /* The bytes of a query that can be printed: its text, and few others. */
 static void print_worst(const char *what, const struct worst *worst)
 {
@@ -676,6 +707,7 @@ static void *all_shapes(void *nothing)
     beyond_the_limits();
     random_texts();
     full_queries();
+    logs();
     return nothing;
 }
 
@@ -695,7 +727,7 @@ int main(void)
         fail("no thread on the region");
     print_worst("query", &worst_query);
     print_worst("accepted query", &worst_accepted);
-    printf("worst: search %zu, within %zu, room %zu; MIRELADLE_STACK is %d\n", worst_search, worst_within, worst_room,
-           MIRELADLE_STACK);
-    return worst_query.depth <= MIRELADLE_STACK ? 0 : 1;
+    printf("worst: search %zu, within %zu, room %zu, desk %zu; MIRELADLE_STACK is %d\n", worst_search, worst_within,
+           worst_room, worst_desk, MIRELADLE_STACK);
+    return worst_query.depth <= MIRELADLE_STACK && worst_desk <= MIRELADLE_STACK ? 0 : 1;
 }

@@ -121,7 +121,7 @@ told, since the line may be any bus's last.",
         "\
 0    every bus is cleared
 1    some bus is held or unreadable
-2    wrong input, no bus at all, a bus that is an error, or an output that cannot be written
+2    wrong input, no bus at all, a bus that is an error, or an output not written
 141  the reader of the output left before its end
 Of several that apply 2 counts before 1.",
     ),
