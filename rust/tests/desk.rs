@@ -370,6 +370,25 @@ fn a_broken_bus_is_an_error_and_the_others_go_on() {
 }
 
 #[test]
+fn the_worst_bus_decides_the_status_wherever_it_stands() {
+    let cleared = |bus: &str| format!("{bus},1,1,7,31\n{bus},2,3,7,31\n");
+    let held = |bus: &str| format!("{bus},1,1,7,31\n");
+    let unreadable = |bus: &str| format!("{bus},1,9,7,31\n");
+    let error = |bus: &str| format!("{bus},1,1,x,31\n");
+    for (rows, status) in [
+        (cleared("a") + &cleared("b") + &cleared("c"), 0),
+        (held("a") + &cleared("b") + &cleared("c"), 1),
+        (cleared("a") + &cleared("b") + &unreadable("c"), 1),
+        (error("a") + &held("b") + &cleared("c"), 2),
+        (unreadable("a") + &error("b") + &unreadable("c"), 2),
+        (cleared("a") + &held("b") + &error("c"), 2),
+    ] {
+        let (found, all) = verdicts(&rows);
+        assert_eq!((found, all.len()), (status, 3), "{rows}");
+    }
+}
+
+#[test]
 fn too_many_rows_are_refused_by_name() {
     let mut rows = String::from("b,0,1,7,31\n");
     for time in 0..4096 {
