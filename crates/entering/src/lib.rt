@@ -16,18 +16,20 @@ use table::LETTERS;
 use table::NEAR_FORK;
 use table::code_at;
 use table::first_at;
+use table::later_at;
 ghost use mathlib.Core.Path.{_≡_};
-ghost use Prim.Native.Nat.{_<_, _≤_};
+ghost use Prim.Native.Nat.{_+_, _*_, _<_, _≤_};
+ghost use lib.ListN.{length};
 ghost use Rattle.table.specs.Table.{codeAt, firstAt};
 ghost use Rattle.pairs.specs.Layout.{layoutOf, lettersOf, Tested, passesBy, entryOf};
 ghost use Rattle.pairs.specs.Step.{mem, enteredBy, Enters};
 
-// Whether the letter of code c passes at the row: there is a row, and it holds there.
-fn letter_passes(table: &[u16], rows: &[i32], size: Extent, c: usize, row: usize) -> bool
-    requires { ⌜ (row ≤ size .rows) × (c < 26) × Tested (now table) (now rows) size ⌝ }
-    ensures { λ r. ⌜ r ≡ passesBy (lettersOf (now (table .entry)) (now (rows .entry)) size) (size .rows) c row ⌝ }
+// Whether the letter of place q passes at the row: there is a row, and it holds there.
+fn letter_passes(table: &[u16], rows: &[i32], size: Extent, q: usize, row: usize) -> bool
+    requires { ⌜ (row ≤ size .rows) × (q < size .places) × (4 * q + 4 ≤ length (now table)) × (codeAt (now table) q < 26) × Tested (now table) (now rows) size ⌝ }
+    ensures { λ r. ⌜ r ≡ passesBy (lettersOf (now (table .entry)) (now (rows .entry)) size) (size .rows) (codeAt (now (table .entry)) q) row ⌝ }
 {
-    letter_holds(table, rows, size, c, row)
+    letter_holds(table, rows, size, later_at(table, q), row)
 }
 
 // The pair of w is entered: one step, counted here and nowhere else. A letter or anchor that does
@@ -58,7 +60,7 @@ pub fn enter(
         return tried(notes, top + 1, steps, q + 1, row, base);
     }
     if c < LETTERS {
-        if !letter_passes(table, rows, size, c, row) {
+        if !letter_passes(table, rows, size, q, row) {
             return fails(notes, w, steps);
         }
         let k = first_at(table, q);

@@ -11,7 +11,7 @@ use Rattle.rules.specs.Language.{pattern, factor, Tree, one, last, letters}
 use Rattle.rules.specs.Places.{Unrolled, uStar, copies, options, unrolled, unroll, Place, pFork, waysInTurn, size, sizes, startsOf, code, codes, places, fork, placeCount, placesOf}
 use Rattle.rules.specs.Working.{distinct, fresh, thinned}
 use Rattle.trees.specs.Held.{body, lazyOf, Top}
-use Rattle.table.specs.Table.{span, placesIn}
+use Rattle.table.specs.Table.{laterAt, countAt, span, placesIn}
 use Rattle.table.specs.Sized.{Sized}
 use Rattle.place_words.specs.Words.{putWays, Fitting}
 
@@ -124,10 +124,12 @@ pub record Unrolling (s : List ℕ) (top P : ℕ) (T : List ℕ) : Type 0 where
   pub small : length T < 65536
 
 -- The table holds the places of the tree, each fork's ways once, and keeps to what the walk relies
--- on; the ways end before the word r, and from there on no word is changed.
+-- on; the ways stand behind the words of all places and end before the word r, and from there on no
+-- word is changed.
 pub record Tabled (p : Tree pattern) (P : ℕ) (T exit : List ℕ) (r : ℕ) : Type 0 where
   pub is : placesIn exit P ≡ thinned (places (unroll p))
   pub sized : Sized exit P
+  pub behind : (q : ℕ) → q < P → 2 < countAt exit q → 4 * P ≤ laterAt exit q
   pub few : (4 * P ≤ r) × (r ≤ 7 * P)
   pub kept : (j : ℕ) → r ≤ j → getD exit j 0 ≡ getD T j 0
   pub len : length exit ≡ length T

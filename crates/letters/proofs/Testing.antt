@@ -14,45 +14,55 @@ use borrow.Author.Tests.{lt-ltb, le-ltb, eq-eqb, ne-eqb, eqb-true, eqb-false, no
 use Rattle.rules.specs.Basics.{pick, every}
 use Rattle.rules.specs.Rows.{tableOf, holds}
 use Rattle.laws.proofs.Choice.{decided}
-use Rattle.table.specs.Tests.{testedBy, comparisonIn, comparisonsIn, definedIn, First, Letters}
+use Rattle.table.specs.Tests.{testedBy, comparisonIn, comparisonsIn, definedIn, First, LetterAt, Letters}
 use Rattle.comparisons.specs.Spots.{FarBack, readMet, firstUnmet}
 use Rattle.comparisons.proofs.Entries.{At}
 use Rattle.comparisons.proofs.Reading.{Words, met-is, holds-is}
 
 -- ---- what word 7 tells
 
-module _ (T : List ℕ) (tests : ℕ) (rows : List ℤ) (columns n l : ℕ) (letters : Letters T tests rows columns n) (letter : l < 26)
-    (kind : ℕ) (is-kind : kind ≡ getD T (tests + l * 16 + 7) 0) where
+module _ (T : List ℕ) (tests : ℕ) (rows : List ℤ) (columns n at : ℕ) (letters : Letters T tests rows columns n) (letter : LetterAt tests at)
+    (kind : ℕ) (is-kind : kind ≡ getD T (at + 7) 0) where
+  -- what the table's tests say of it
+  free-at : getD T at 0 ≡ 0 → getD T (at + 7) 0 ≡ 2
+  free-at z = rw (letter .is) (letters .tests-there .free (letter .letter) (letter .small) (rw (letter .is) at z))
+
+  first-at : 0 < getD T at 0 → First T at
+  first-at z = rw (letter .is) (letters .tests-there .first (letter .letter) (letter .small) (rw (letter .is) at z))
+
+  more-at : 1 < getD T at 0 → getD T (at + 1) 0 + (getD T at 0 - 1) * 5 ≤ length T
+  more-at z = rw (letter .is) (letters .tests-there .more (letter .letter) (letter .small) (rw (letter .is) at z))
+
   -- a letter that is tested has a comparison
-  pub some-there : kind ≤ 1 → getD T (tests + l * 16) 0 ≡ 0 → ⊥
-  some-there k z = let e = letters .tests-there .free l letter z in omega arith
+  pub some-there : kind ≤ 1 → getD T (at) 0 ≡ 0 → ⊥
+  some-there k z = let e = free-at z in omega arith
 
   -- and an interval for the first one
-  pub first-there : kind ≤ 1 → First T (tests + l * 16)
-  first-there k = let o = some-there k in letters .tests-there .first l letter (let y : 0 < getD T (tests + l * 16) 0 = omega arith in y)
+  pub first-there : kind ≤ 1 → First T (at)
+  first-there k = let o = some-there k in first-at (let y : 0 < getD T (at) 0 = omega arith in y)
 
   -- any other has none
-  pub none-there : (kind ≡ 1 → ⊥) → (kind ≡ 0 → ⊥) → getD T (tests + l * 16) 0 ≡ 0
+  pub none-there : (kind ≡ 1 → ⊥) → (kind ≡ 0 → ⊥) → getD T (at) 0 ≡ 0
   unfolding testedBy
-  none-there a b = decided (eqb (getD T (tests + l * 16) 0) 0) (λ e. eqb-true (getD T (tests + l * 16) 0) 0 e) (λ e. absurd (no e))
+  none-there a b = decided (eqb (getD T (at) 0) 0) (λ e. eqb-true (getD T (at) 0) 0 e) (λ e. absurd (no e))
     where
       by : (t : Bool) (x : ℕ) → kind ≡ pick t 1 0 → ⊥
       by true x e = a e
       by false x e = b e
 
-      no : eqb (getD T (tests + l * 16) 0) 0 ≡ false → ⊥
+      no : eqb (getD T (at) 0) 0 ≡ false → ⊥
       no e =
-          let o = eqb-false (getD T (tests + l * 16) 0) 0 e in
-          let f = letters .tests-there .first l letter (let y : 0 < getD T (tests + l * 16) 0 = omega arith in y) in
-          by (eqb (getD T (tests + l * 16 + 2) 0 / 8) 1) 0 (is-kind ∙ f .kind)
+          let o = eqb-false (getD T (at) 0) 0 e in
+          let f = first-at (let y : 0 < getD T (at) 0 = omega arith in y) in
+          by (eqb (getD T (at + 2) 0 / 8) 1) 0 (is-kind ∙ f .kind)
 
   -- where it has two comparisons or more, those behind the first stand in the table
-  pub others-there : (count : ℕ) → count ≡ getD T (tests + l * 16) 0 → 1 < count → getD T (tests + l * 16 + 1) 0 + (count - 1) * 5 ≤ length T
+  pub others-there : (count : ℕ) → count ≡ getD T (at) 0 → 1 < count → getD T (at + 1) 0 + (count - 1) * 5 ≤ length T
   others-there count is-count many =
-      let a = letters .tests-there .more l letter (let y : 1 < getD T (tests + l * 16) 0 = omega arith in y) in
+      let a = more-at (let y : 1 < getD T (at) 0 = omega arith in y) in
       omega arith
 
-  pub some-counted : kind ≤ 1 → (count : ℕ) → count ≡ getD T (tests + l * 16) 0 → 0 < count
+  pub some-counted : kind ≤ 1 → (count : ℕ) → count ≡ getD T (at) 0 → 0 < count
   some-counted k count is-count = let o = some-there k in omega arith
 
 -- those behind the first, where there are none
@@ -70,10 +80,10 @@ pub behind-there : (T : List ℕ) (at count x : ℕ) → (1 < count → getD T (
     → x ≡ getD T (at + 1) 0 → x + (count - 1) * 5 ≤ length T
 behind-there T at count x there some many is-x = let a = there (omega arith) in omega arith
 
-module _ (T : List ℕ) (tests : ℕ) (rows : List ℤ) (columns n l row : ℕ) where
+module _ (T : List ℕ) (tests : ℕ) (rows : List ℤ) (columns n at row : ℕ) where
   -- what the promise says of a result
   abbrev Says : Bool → Type 0
-  Says t = t ≡ (ltb row n && holds (tableOf columns rows) row (definedIn T columns (tests + l * 16)))
+  Says t = t ≡ (ltb row n && holds (tableOf columns rows) row (definedIn T columns (at)))
 
   pub behind-last : n ≤ row → Says false
   behind-last h = rw (le-ltb row n h) refl
@@ -85,41 +95,41 @@ module _ (T : List ℕ) (tests : ℕ) (rows : List ℤ) (columns n l row : ℕ) 
         let a : row * columns ≤ 4096 * 8 = mul-le-mul r (letters .few) in
         record { fits = omega arith }
 
-    module _ (letter : l < 26) (kind : ℕ) (is-kind : kind ≡ getD T (tests + l * 16 + 7) 0) where
+    module _ (letter : LetterAt tests at) (kind : ℕ) (is-kind : kind ≡ getD T (at + 7) 0) where
       pub free-holds : (kind ≡ 1 → ⊥) → (kind ≡ 0 → ⊥) → Says true
       unfolding definedIn holds every
       free-holds a b =
-          let e : eqb (getD T (tests + l * 16) 0) 0 ≡ true = eq-eqb (getD T (tests + l * 16) 0) 0 (none-there T tests rows columns n l letters letter kind is-kind a b) in
+          let e : eqb (getD T (at) 0) 0 ≡ true = eq-eqb (getD T (at) 0) 0 (none-there T tests rows columns n at letters letter kind is-kind a b) in
           rw (lt-ltb row n is-row, e) refl
 
       module _ (tested : kind ≤ 1) where
         abbrev behind : ℕ
-        behind = getD T (tests + l * 16) 0 - 1
+        behind = getD T (at) 0 - 1
 
-        defined : definedIn T columns (tests + l * 16) ≡ comparisonIn T columns (tests + l * 16 + 2) ∷ comparisonsIn T columns (getD T (tests + l * 16 + 1) 0) behind
+        defined : definedIn T columns (at) ≡ comparisonIn T columns (at + 2) ∷ comparisonsIn T columns (getD T (at + 1) 0) behind
         unfolding definedIn
         defined =
-            let e : eqb (getD T (tests + l * 16) 0) 0 ≡ false = ne-eqb (getD T (tests + l * 16) 0) 0 (some-there T tests rows columns n l letters letter kind is-kind tested) in
+            let e : eqb (getD T (at) 0) 0 ≡ false = ne-eqb (getD T (at) 0) 0 (some-there T tests rows columns n at letters letter kind is-kind tested) in
             rw e refl
 
-        module _ (from : ℕ) (far : FarBack columns (row * columns) from) (t : Bool) (is-t : t ≡ readMet T rows from (tests + l * 16 + 2)) (words : Words T) where
-          at : At rows columns n row from
-          at = record { some = letters .some; few = letters .few; most = letters .most; all = letters .all; is-row = is-row; far = far }
+        module _ (from : ℕ) (far : FarBack columns (row * columns) from) (t : Bool) (is-t : t ≡ readMet T rows from (at + 2)) (words : Words T) where
+          here : At rows columns n row from
+          here = record { some = letters .some; few = letters .few; most = letters .most; all = letters .all; is-row = is-row; far = far }
 
           abbrev others : Bool
-          others = holds (tableOf columns rows) row (comparisonsIn T columns (getD T (tests + l * 16 + 1) 0) behind)
+          others = holds (tableOf columns rows) row (comparisonsIn T columns (getD T (at + 1) 0) behind)
 
-          whole : (ltb row n && holds (tableOf columns rows) row (definedIn T columns (tests + l * 16))) ≡ (t && others)
+          whole : (ltb row n && holds (tableOf columns rows) row (definedIn T columns (at))) ≡ (t && others)
           unfolding holds every
-          whole = rw (lt-ltb row n is-row, defined, is-t, met-is T words rows columns n row from at (tests + l * 16 + 2)) refl
+          whole = rw (lt-ltb row n is-row, defined, is-t, met-is T words rows columns n row from here (at + 2)) refl
 
           pub first-unmet : not t ≡ true → Says false
           first-unmet u = sym (whole ∙ ap (λ (x : Bool). x && others) (not-true t u))
 
-          pub by-others : (count : ℕ) (r : Bool) → not t ≡ false → count ≡ getD T (tests + l * 16) 0
-              → r ≡ eqb (firstUnmet T rows from (getD T (tests + l * 16 + 1) 0) (count - 1)) (count - 1) → Says r
+          pub by-others : (count : ℕ) (r : Bool) → not t ≡ false → count ≡ getD T (at) 0
+              → r ≡ eqb (firstUnmet T rows from (getD T (at + 1) 0) (count - 1)) (count - 1) → Says r
           by-others count r u ec e =
               e
-              ∙ ap (λ (k : ℕ). eqb (firstUnmet T rows from (getD T (tests + l * 16 + 1) 0) (k - 1)) (k - 1)) ec
-              ∙ holds-is T words rows columns n row from at (getD T (tests + l * 16 + 1) 0) behind
+              ∙ ap (λ (k : ℕ). eqb (firstUnmet T rows from (getD T (at + 1) 0) (k - 1)) (k - 1)) ec
+              ∙ holds-is T words rows columns n row from here (getD T (at + 1) 0) behind
               ∙ sym (whole ∙ ap (λ (z : Bool). z && others) (not-false t u))

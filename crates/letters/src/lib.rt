@@ -21,13 +21,11 @@ ghost use Prim.Native.Nat.{_+_, _*_, _-_, _≤_, _<_};
 ghost use lib.Dec.{ltb, eqb};
 ghost use lib.ListN.{length, getD};
 ghost use Rattle.rules.specs.Rows.{tableOf, holds};
-ghost use Rattle.table.specs.Tests.{testAt, definedIn, First, Letters};
+ghost use Rattle.table.specs.Tests.{definedIn, First, LetterAt, Letters};
 ghost use Rattle.comparisons.specs.Spots.{readMet, firstUnmet};
 
-// The words of a letter, and which of them are what: where the comparisons behind the first stand,
-// the spots of the first one, how the letter is tested and its interval.
-const LETTER: usize = 16;
-
+// Which words of a letter are what: where the comparisons behind the first stand, the spots of the
+// first one, how the letter is tested and its interval.
 const MORE: usize = 1;
 
 const LEFT: usize = 3;
@@ -86,15 +84,14 @@ fn others_met(table: &[u16], at: usize, count: usize, rows: &[i32], from: u64) -
     first_unmet(table, word_at(table, at + MORE), more, rows, from) == more
 }
 
-// Whether letter l (0 for A) holds at a row.
-pub fn letter_holds(table: &[u16], rows: &[i32], size: Extent, l: usize, row: usize) -> bool
-    requires { ⌜ (row ≤ size .rows) × (l < 26) × Letters (now table) (size .tests) (now rows) (size .columns) (size .rows) ⌝ }
-    ensures { λ r. ⌜ r ≡ (ltb row (size .rows) && holds (tableOf (size .columns) (now (rows .entry))) row (definedIn (now (table .entry)) (size .columns) (testAt (size .tests) l))) ⌝ }
+// Whether the letter whose words begin at word `at` holds at a row.
+pub fn letter_holds(table: &[u16], rows: &[i32], size: Extent, at: usize, row: usize) -> bool
+    requires { ⌜ (row ≤ size .rows) × LetterAt (size .tests) at × Letters (now table) (size .tests) (now rows) (size .columns) (size .rows) ⌝ }
+    ensures { λ r. ⌜ r ≡ (ltb row (size .rows) && holds (tableOf (size .columns) (now (rows .entry))) row (definedIn (now (table .entry)) (size .columns) at)) ⌝ }
 {
     if row >= size.rows {
         return false;
     }
-    let at = size.tests + l * LETTER;
     let kind = word_at(table, at + KIND);
     let from = far_back(size.columns, row * size.columns);
     if kind == COLUMN {

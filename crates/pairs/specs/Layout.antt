@@ -11,7 +11,7 @@ use Rattle.rules.specs.Walk.{Ways, pairs, pairWays}
 use Rattle.rules.specs.Working.{All, Falls}
 use Rattle.table.specs.Table.{countAt, placeAt, placesIn}
 use Rattle.table.specs.Sized as S
-use Rattle.table.specs.Tests.{Letters, holdsIn}
+use Rattle.table.specs.Tests.{Letters, Pointed, holdsIn}
 use Rattle.table.specs.declared.Extent.{Extent}
 
 pub record Layout : Type 0 where
@@ -31,9 +31,9 @@ layoutOf T size = layout T (size .places)
 abbrev pub lettersOf : List ℕ → List ℤ → Extent → ℕ → ℕ → Bool
 lettersOf T rows size = holdsIn T (size .tests) (size .columns) rows
 
--- its letters can be tested
+-- its letters can be tested, and their places tell where
 abbrev pub Tested : List ℕ → List ℤ → Extent → Type 0
-Tested T rows size = Letters T (size .tests) rows (size .columns) (size .rows)
+Tested T rows size = Letters T (size .tests) rows (size .columns) (size .rows) × Pointed T (size .places) (size .tests)
 
 -- ---- its pairs
 

@@ -271,46 +271,50 @@ abbrev pub Sound : Place → Type 0
 Sound p = Spelt p × Wayed p
 
 -- what the walk relies on for place q, of this code, first place, later word and count; its ways
--- end by r
-pub record Keeps (q r a b c d : ℕ) : Type 0 where
+-- begin at word o or behind it, and end by r
+pub record Keeps (o q r a b c d : ℕ) : Type 0 where
   pub near : a ≡ 28 → (b ≡ q + 1) × (1 < d)
   pub one : a < 28 → d ≡ 0
   pub end : 29 < a → d ≡ 0
   pub many : d ≤ 256
   pub ways : 2 < d → c + d ≤ r
+  pub behind : 2 < d → o ≤ c
 
 -- a place that keeps to this without ways
-keeps-one : (q r a b c : ℕ) → (a ≡ 28 → ⊥) → Keeps q r a b c 0
-keeps-one q r a b c h =
-    record { near = λ e. absurd (h e); one = λ e. refl; end = λ e. refl; many = omega arith; ways = λ e. absurd (omega arith) }
+keeps-one : (o q r a b c : ℕ) → (a ≡ 28 → ⊥) → Keeps o q r a b c 0
+keeps-one o q r a b c h =
+    record { near = λ e. absurd (h e); one = λ e. refl; end = λ e. refl; many = omega arith; ways = λ e. absurd (omega arith); behind = λ e. absurd (omega arith) }
 
-keeps-fork : (q r k y w m : ℕ) → m ≤ 256 → w + m ≤ r → Keeps q r (forkCode k (q + 1) m) k (laterWord y w m) m
-keeps-fork q r k y w m h l = go (ltb 1 m) (eqb k (q + 1)) refl refl
+keeps-fork : (o q r k y w m : ℕ) → m ≤ 256 → o ≤ w → w + m ≤ r → Keeps o q r (forkCode k (q + 1) m) k (laterWord y w m) m
+keeps-fork o q r k y w m h b l = go (ltb 1 m) (eqb k (q + 1)) refl refl
   where
     begins : 2 < m → laterWord y w m + m ≤ r
     begins u = rw (ne-eqb m 2 (λ (e : m ≡ 2). omega arith)) l
 
-    far : Keeps q r 29 k (laterWord y w m) m
-    far = record { near = λ u. absurd (omega arith); one = λ u. absurd (omega arith); end = λ u. absurd (omega arith); many = h; ways = begins }
+    after : 2 < m → o ≤ laterWord y w m
+    after u = rw (ne-eqb m 2 (λ (e : m ≡ 2). omega arith)) b
 
-    go : (s t : Bool) → ltb 1 m ≡ s → eqb k (q + 1) ≡ t → Keeps q r (pick s (pick t 28 29) 29) k (laterWord y w m) m
+    far : Keeps o q r 29 k (laterWord y w m) m
+    far = record { near = λ u. absurd (omega arith); one = λ u. absurd (omega arith); end = λ u. absurd (omega arith); many = h; ways = begins; behind = after }
+
+    go : (s t : Bool) → ltb 1 m ≡ s → eqb k (q + 1) ≡ t → Keeps o q r (pick s (pick t 28 29) 29) k (laterWord y w m) m
     go true true d e =
-        record { near = λ u. (eqb-true k (q + 1) e, ltb-true 1 m d); one = λ u. absurd (omega arith); end = λ u. absurd (omega arith); many = h; ways = begins }
+        record { near = λ u. (eqb-true k (q + 1) e, ltb-true 1 m d); one = λ u. absurd (omega arith); end = λ u. absurd (omega arith); many = h; ways = begins; behind = after }
     go true false d e = far
     go false t d e = far
 
-keeps : (q w r : ℕ) (p : Place) → Sound p → w + wayCount p ≤ r → Keeps q r (codeFor q p) (firstFor p) (laterFor w p) (length (waysFor p))
+keeps : (o q w r : ℕ) (p : Place) → Sound p → o ≤ w → w + wayCount p ≤ r → Keeps o q r (codeFor q p) (firstFor p) (laterFor w p) (length (waysFor p))
 unfolding wayCount
-keeps q w r (pLetter c k) s l = keeps-one q r (letterCode c) k 0 (λ e. omega (arith, s .0 .0, s .0 .1))
-keeps q w r (pCaret k) s l = keeps-one q r 26 k 0 (λ e. omega arith)
-keeps q w r (pDollar k) s l = keeps-one q r 27 k 0 (λ e. omega arith)
-keeps q w r (pFork ks) s l = keeps-fork q r (getD ks 0 0) (getD ks 1 0) w (length ks) (s .1 .1) l
-keeps q w r pEnd s l = keeps-one q r 30 0 0 (λ e. omega arith)
+keeps o q w r (pLetter c k) s b l = keeps-one o q r (letterCode c) k 0 (λ e. omega (arith, s .0 .0, s .0 .1))
+keeps o q w r (pCaret k) s b l = keeps-one o q r 26 k 0 (λ e. omega arith)
+keeps o q w r (pDollar k) s b l = keeps-one o q r 27 k 0 (λ e. omega arith)
+keeps o q w r (pFork ks) s b l = keeps-fork o q r (getD ks 0 0) (getD ks 1 0) w (length ks) (s .1 .1) b l
+keeps o q w r pEnd s b l = keeps-one o q r 30 0 0 (λ e. omega arith)
 
 -- the table has the place p at q
-pub record Back (U : List ℕ) (q r : ℕ) (p : Place) : Type 0 where
+pub record Back (U : List ℕ) (o q r : ℕ) (p : Place) : Type 0 where
   pub is : placeAt U q ≡ p
-  pub keeps-to : Keeps q r (codeAt U q) (firstAt U q) (laterAt U q) (countAt U q)
+  pub keeps-to : Keeps o q r (codeAt U q) (firstAt U q) (laterAt U q) (countAt U q)
 
 by-letter : (c k : ℕ) (ks : List ℕ) → 65 ≤ c → c ≤ 90 → placeBy (letterCode c) k ks ≡ pLetter c k
 unfolding placeBy
@@ -367,32 +371,32 @@ module _ (T U : List ℕ) (q w : ℕ) (low : 4 * q + 4 ≤ w) where
       ∙ ap pFork (all-ways T U w ks (s .1 .0) l (λ j a b. g j a b ∙ words-kept (putWays T w ks) q _ _ _ _ j (λ c d. omega arith)))
   place-back pEnd s l g h = by-words U q _ _ _ _ h
 
-  one-back : (p : Place) (r : ℕ) → Sound p → w + wayCount p ≤ length T → w + wayCount p ≤ r
+  one-back : (p : Place) (o r : ℕ) → Sound p → o ≤ w → w + wayCount p ≤ length T → w + wayCount p ≤ r
       → ((j : ℕ) → 4 * q ≤ j → j < 4 * q + 4 → getD U j 0 ≡ getD (putPlace T q w p) j 0)
-      → ((j : ℕ) → w ≤ j → j < w + wayCount p → getD U j 0 ≡ getD (putPlace T q w p) j 0) → Back U q r p
-  one-back p r s l e f g =
+      → ((j : ℕ) → w ≤ j → j < w + wayCount p → getD U j 0 ≡ getD (putPlace T q w p) j 0) → Back U o q r p
+  one-back p o r s b l e f g =
       let h : Words U q (codeFor q p) (firstFor p) (laterFor w p) (length (waysFor p)) =
       words-same (putWords (putWays T w (waysFor p)) q (codeFor q p) (firstFor p) (laterFor w p) (length (waysFor p))) U q _ _ _ _
       (λ j a b. f j a b ∙ ap (λ (X : List ℕ). getD X j 0) (place-is T q w p))
       (words-put (putWays T w (waysFor p)) q _ _ _ _ (omega (arith, ways-length T w (waysFor p)))) in
-      record { is = place-back p s l g h; keeps-to = rw (h .code, h .first, h .later, h .count) (keeps q w r p s e) }
+      record { is = place-back p s l g h; keeps-to = rw (h .code, h .first, h .later, h .count) (keeps o q w r p s b e) }
 
 -- places that were put are read back
-pub places-back : (T : List ℕ) (q w r : ℕ) (ps : List Place) → 4 * (q + length ps) ≤ w → w + waysIn ps ≤ length T → w + waysIn ps ≤ r
+pub places-back : (T : List ℕ) (o q w r : ℕ) (ps : List Place) → o ≤ w → 4 * (q + length ps) ≤ w → w + waysIn ps ≤ length T → w + waysIn ps ≤ r
     → ((i : ℕ) → i < length ps → Sound (getD ps i (pFork []))) → (i : ℕ) → i < length ps
-    → Back (putPlaces T q w ps) (q + i) r (getD ps i (pFork []))
+    → Back (putPlaces T q w ps) o (q + i) r (getD ps i (pFork []))
 unfolding putPlaces waysIn
-places-back T q w r [] h l e s i b = absurd (omega arith)
-places-back T q w r (p ∷ ps) h l e s zero b =
+places-back T o q w r [] g h l e s i b = absurd (omega arith)
+places-back T o q w r (p ∷ ps) g h l e s zero b =
     let z : q + 0 ≡ q = omega arith in
     rw z
-    (one-back T (putPlaces (putPlace T q w p) (suc q) (w + wayCount p) ps) q w (omega arith) p r (s 0 b) (omega arith) (omega arith)
+    (one-back T (putPlaces (putPlace T q w p) (suc q) (w + wayCount p) ps) q w (omega arith) p o r (s 0 b) g (omega arith) (omega arith)
     (λ j x y. places-kept (putPlace T q w p) (suc q) (w + wayCount p) ps j (λ c d. omega arith) (λ c d. omega arith))
     (λ j x y. places-kept (putPlace T q w p) (suc q) (w + wayCount p) ps j (λ c d. omega arith) (λ c d. omega arith)))
-places-back T q w r (p ∷ ps) h l e s (suc i) b =
+places-back T o q w r (p ∷ ps) g h l e s (suc i) b =
     let z : q + suc i ≡ suc q + i = omega arith in
     rw z
-    (places-back (putPlace T q w p) (suc q) (w + wayCount p) r ps (omega arith) (omega (arith, place-length T q w p)) (omega arith)
+    (places-back (putPlace T q w p) o (suc q) (w + wayCount p) r ps (omega arith) (omega arith) (omega (arith, place-length T q w p)) (omega arith)
     (λ j c. s (suc j) (omega arith)) i (omega arith))
 
 -- so they are the table's places

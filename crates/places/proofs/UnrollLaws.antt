@@ -105,15 +105,15 @@ module _ (s : List ℕ) (top P : ℕ) (T : List ℕ) where
         end-way = omega (arith, put .way, ways-all, e .0)
 
         -- each place is read back, and its ways end within the table
-        back : (q : ℕ) → q < P → Back T2 q (length T) (getD whole q (pFork []))
+        back : (q : ℕ) → q < P → Back T2 (4 * P) q (length T) (getD whole q (pFork []))
         back q l =
             let z : 0 + q ≡ q = omega arith in
-            let b : Back (putPlaces T 0 (4 * P) whole) (0 + q) (length T) (getD whole q (pFork [])) =
-            places-back T 0 (4 * P) (length T) whole (omega (arith, long-all)) (omega (arith, ways-all, few, h .long))
+            let b : Back (putPlaces T 0 (4 * P) whole) (4 * P) (0 + q) (length T) (getD whole q (pFork [])) =
+            places-back T (4 * P) 0 (4 * P) (length T) whole (omega arith) (omega (arith, long-all)) (omega (arith, ways-all, few, h .long))
             (omega (arith, ways-all, few, h .long)) sound q (omega (arith, long-all)) in
             rw both (rw z at b)
 
-        keeps : (q : ℕ) → q < P → Keeps q (length T2) (codeAt T2 q) (firstAt T2 q) (laterAt T2 q) (countAt T2 q)
+        keeps : (q : ℕ) → q < P → Keeps (4 * P) q (length T2) (codeAt T2 q) (firstAt T2 q) (laterAt T2 q) (countAt T2 q)
         keeps q l = rw unroll-length (back q l .keeps-to)
 
         unroll-sized : Sized T2 P
@@ -140,6 +140,7 @@ module _ (s : List ℕ) (top P : ℕ) (T : List ℕ) where
             record {
               is = unroll-places ∙ sym all;
               sized = unroll-sized;
+              behind = λ q l. keeps q l .behind;
               few = (omega (arith, end-way), omega (arith, end-way, ways-all, few));
               kept = λ j l. ap (λ (U : List ℕ). getD U j 0) both
                   ∙ places-kept T 0 (4 * P) whole j (λ a b. omega (arith, long-all, h .few, end-way)) (λ a b. omega (arith, end-way));

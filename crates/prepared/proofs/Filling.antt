@@ -26,6 +26,8 @@ use Rattle.tests.specs.Prepared as T
 use Rattle.tests.proofs.Uses.{countable, tests-kept, defined-kept}
 use Rattle.forks.specs.Emitting as E
 use Rattle.places.proofs.Spelling.{all-letters}
+use Rattle.letter_places.specs.Pointing.{Points, Pointing}
+use Rattle.letter_places.proofs.Same.{pointed, places-same, sized-same}
 use Rattle.reading.specs.Reading.{queryAnswer, Asked}
 use Rattle.reading.specs.declared.Query.{Query}
 use Rattle.prepared.specs.declared.Prepared.{Prepared}
@@ -106,46 +108,51 @@ module _ (s nodes defines measures : List ℕ) (q : Query) (T₀ : List ℕ) (f 
         unfolding fill-places
         tabled = u fill-places
 
-        -- the words behind those of the places are as they were
-        behind : (j : ℕ) → measuresAt (q .places) ≤ j → getD T₃ j 0 ≡ getD T₂ j 0
-        behind j h = tabled .kept j (let e = tabled .few .1 in omega arith)
+        pub fill-points : Points T₃ (q .places) (testsAt (q .places))
+        fill-points = record { long = tabled .sized .long; small = let l = room in let k = f .small in omega arith }
 
-        -- and those of the measures are as they were put
-        measured : (j : ℕ) → measuresAt (q .places) ≤ j → j < measuresAt (q .places) + 24 → getD T₃ j 0 ≡ getD T₁ j 0
-        measured j h k = behind j h ∙ t .kept j (omega arith)
+        module _ (T₄ : List ℕ) (o : Pointing T₃ T₄ (q .places) (testsAt (q .places))) where
+          -- the words behind those of the places are as they were
+          behind : (j : ℕ) → measuresAt (q .places) ≤ j → getD T₄ j 0 ≡ getD T₂ j 0
+          behind j h = o .behind j (omega arith) ∙ tabled .kept j (let e = tabled .few .1 in omega arith)
 
-        the-measures : M.Measurable T₃ (measuresAt (q .places)) (q .measures) (q .columns)
-        the-measures =
-            measurable-kept T₁ T₃ (measuresAt (q .places)) (q .measures) fill-count measured (q .columns) (tabled .len ∙ t .len)
-            (put-measurable measures (q .measures) T₀ T₁ (measuresAt (q .places)) (q .columns) m
-            (let a = fill-room in let b = fill-count in let e = m .long in omega arith)
-            (λ k h. rw (f .whole .good .columns) (f .whole .decoded .fit k (rw (f .whole .good .measured) at h))))
+          -- and those of the measures are as they were put
+          measured : (j : ℕ) → measuresAt (q .places) ≤ j → j < measuresAt (q .places) + 24 → getD T₄ j 0 ≡ getD T₁ j 0
+          measured j h k = behind j h ∙ t .kept j (omega arith)
 
-        pub fill-ready : (p : Prepared)
-            → p ≡ record { answer = 0; offset = 0; places = q .places; columns = q .columns; count = q .measures; skip = q .skip; target = q .target } → Ready s T₃ p
-        unfolding hasEmptyLoop
-        fill-ready p e =
-            rw e
-            (record {
-              none = f .none;
-              tree = tree;
-              has-tree = f .whole .good .is;
-              no-loop = sym (ap hasEmptyLoop (f .whole .good .is)) ∙ clear-query s (f .none) .loop;
-              places-are = places-are;
-              few = fill-few;
-              placed = tabled .is;
-              sized = tabled .sized;
-              columns-are = f .whole .good .columns ∙ f .whole .decoded .columns;
-              some-columns = some-columns;
-              most-columns = most-columns;
-              tests = tests-kept s (q .columns) defines T₁ T₂ (testsAt (q .places)) t T₃ (tabled .len) (λ j h. behind j (omega arith));
-              letters = λ l h. defined-kept s (q .columns) defines T₁ T₂ (testsAt (q .places)) t T₃ (tabled .len) (λ j k. behind j (omega arith)) l h ∙ f .whole .decoded .letters l h .is;
-              measures-are = measures-kept T₁ T₃ (measuresAt (q .places)) (q .measures) fill-count measured ∙ m .is ∙ ap (measuresIn measures 0) (f .whole .good .measured) ∙ f .whole .decoded .measured;
-              count-few = fill-count;
-              measurable = the-measures;
-              skip-is = f .whole .good .skip ∙ f .whole .decoded .skip;
-              target-is = f .whole .good .target ∙ f .whole .decoded .target;
-            })
+          the-measures : M.Measurable T₄ (measuresAt (q .places)) (q .measures) (q .columns)
+          the-measures =
+              measurable-kept T₁ T₄ (measuresAt (q .places)) (q .measures) fill-count measured (q .columns) (o .len ∙ tabled .len ∙ t .len)
+              (put-measurable measures (q .measures) T₀ T₁ (measuresAt (q .places)) (q .columns) m
+              (let a = fill-room in let b = fill-count in let e = m .long in omega arith)
+              (λ k h. rw (f .whole .good .columns) (f .whole .decoded .fit k (rw (f .whole .good .measured) at h))))
+
+          pub fill-ready : (p : Prepared)
+              → p ≡ record { answer = 0; offset = 0; places = q .places; columns = q .columns; count = q .measures; skip = q .skip; target = q .target } → Ready s T₄ p
+          unfolding hasEmptyLoop
+          fill-ready p e =
+              rw e
+              (record {
+                none = f .none;
+                tree = tree;
+                has-tree = f .whole .good .is;
+                no-loop = sym (ap hasEmptyLoop (f .whole .good .is)) ∙ clear-query s (f .none) .loop;
+                places-are = places-are;
+                few = fill-few;
+                placed = places-same T₃ T₄ (q .places) (testsAt (q .places)) o (tabled .sized) (tabled .behind) ∙ tabled .is;
+                sized = sized-same T₃ T₄ (q .places) (testsAt (q .places)) o (tabled .sized) (tabled .behind);
+                columns-are = f .whole .good .columns ∙ f .whole .decoded .columns;
+                some-columns = some-columns;
+                most-columns = most-columns;
+                tests = tests-kept s (q .columns) defines T₁ T₂ (testsAt (q .places)) t T₄ (o .len ∙ tabled .len) (λ j h. behind j (omega arith));
+                pointed = pointed T₃ T₄ (q .places) (testsAt (q .places)) o;
+                letters = λ l h. defined-kept s (q .columns) defines T₁ T₂ (testsAt (q .places)) t T₄ (o .len ∙ tabled .len) (λ j k. behind j (omega arith)) l h ∙ f .whole .decoded .letters l h .is;
+                measures-are = measures-kept T₁ T₄ (measuresAt (q .places)) (q .measures) fill-count measured ∙ m .is ∙ ap (measuresIn measures 0) (f .whole .good .measured) ∙ f .whole .decoded .measured;
+                count-few = fill-count;
+                measurable = the-measures;
+                skip-is = f .whole .good .skip ∙ f .whole .decoded .skip;
+                target-is = f .whole .good .target ∙ f .whole .decoded .target;
+              })
 
 -- ---- the ways through `prepare_in`
 

@@ -16,7 +16,7 @@ use Rattle.reading.specs.Reading.{queryAnswer, Whole}
 use Rattle.reading.specs.declared.Query.{Query}
 use Rattle.table.specs.Table.{placesIn}
 use Rattle.table.specs.Sized.{Sized}
-use Rattle.table.specs.Tests.{Tests, definedIn, testAt}
+use Rattle.table.specs.Tests.{Pointed, Tests, definedIn, testAt}
 use Rattle.table.specs.Measures.{measuresIn}
 use Rattle.prepared.specs.declared.Prepared.{Prepared}
 use Rattle.table_room.specs.Words.{measuresAt, testsAt, needed}
@@ -37,6 +37,7 @@ pub record Ready (q T : List ℕ) (p : Prepared) : Type 0 where
   pub some-columns : 1 ≤ p .columns
   pub most-columns : p .columns ≤ 8
   pub tests : Tests T (testsAt (p .places))
+  pub pointed : Pointed T (p .places) (testsAt (p .places))
   pub letters : (l : ℕ) → l < 26 → definedIn T (p .columns) (testAt (testsAt (p .places)) l) ≡ parts q .comparisons (65 + l)
   pub measures-are : measuresIn T (measuresAt (p .places)) (p .count) ≡ parts q .measures
   pub count-few : p .count ≤ 8

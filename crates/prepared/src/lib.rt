@@ -5,6 +5,7 @@
 // Promise (specs/Ready): an answer 1 to 9 or 14 with its offset; or the table and the numbers stand
 // for the query; or the table is too short, which one of MOST_WORDS words never is. Weakness: the
 // words that nothing reads are left as they are.
+use letter_places::point;
 use measure_list::put_in_table;
 use places::unroll;
 use reading::Query;
@@ -55,7 +56,7 @@ fn not_prepared(answer: usize, offset: usize) -> Prepared
 }
 
 // The table of a query that has no answer of its own. The places come last, since they leave the
-// words behind theirs as they are.
+// words behind theirs as they are; then those of letters are told their tests.
 fn fill(
     query: &[u8],
     nodes: &[u16],
@@ -76,6 +77,7 @@ fn fill(
     let tests = measured + MEASURE_WORDS;
     put_tests(query, columns, defines, letters, table, tests);
     let _end = unroll(nodes, q.top, places, table);
+    point(table, places, tests);
     Prepared {
         answer: 0,
         offset: 0,

@@ -147,7 +147,7 @@ module _ (q T : List ℕ) (p : Prepared) (a : Ready q T p) (terms : Terms) (rows
         let m = f .most in
         let e = f .all in
         record {
-          letters = record { tests-there = a .tests; some = a .some-columns; few = a .most-columns; most = f .most; all = f .all };
+          letters = (record { tests-there = a .tests; some = a .some-columns; few = a .most-columns; most = f .most; all = f .all }, a .pointed);
           measured = record { few = a .count-few; few-rows = f .most; there = omega arith; measurable = a .measurable };
           legal = legal;
           noted = f .noted;

@@ -3,14 +3,16 @@
 --   4q      its code: 0 to 25 the letters A to Z, 26 `^`, 27 `$`, 28 a fork of two ways or more that
 --           tries the place behind it first, 29 any other fork, 30 END
 --   4q + 1  the place that is tried first from it; of a fork, its first way
---   4q + 2  of a fork with two ways, its second; of one with more, the word at which its ways begin
+--   4q + 2  of a fork with two ways, its second; of one with more, the word at which its ways
+--           begin; of a letter, the word at which its test begins (`Pointed` of specs/Tests)
 --   4q + 3  of a fork, how many ways it has; 0 for any other place
 -- The ways of all forks stand behind the words of all places, a place to a word. A way is known by
 -- its number in its fork, 0 for the first. Most forks have two ways, and the walk finds the second
--- of them at once. The places of `A+ B`, as an example, where x are words that nobody reads:
+-- of them at once. The places of `A+ B`, as an example, where a and b are the words at which the
+-- tests of A and B begin, and x words that nobody reads:
 --   place       0       1       2       3       4
 --               A       fork    A       B       END
---   words       0 1 x 0 28 2 3 2  0 1 x 0 1 4 x 0 30 x x 0    and from word 20 on the ways: 2 3
+--   words       0 1 a 0 28 2 3 2  0 1 a 0 1 4 b 0 30 x x 0    and from word 20 on the ways: 2 3
 use mathlib.Core.List.{List, [], _∷_}
 use Prim.Native.Nat.{ℕ, zero, suc, _+_, _-_, _*_}
 use lib.Dec.{ltb, eqb}

@@ -27,6 +27,7 @@ use lib.IntN.{ℤ, pos, negsuc, _+ℤ_}
 use lib.ListN.{length, getD}
 use Rattle.rules.specs.Basics.{pick, tabulate, signed32}
 use Rattle.rules.specs.Rows.{Comparison, tableOf, holds}
+use Rattle.table.specs.Table.{codeAt, laterAt}
 
 -- the offset and the column of a spot
 unfoldable pub offsetOf : ℕ → ℕ → ℤ
@@ -125,6 +126,17 @@ pub record Tests (T : List ℕ) (tests : ℕ) : Type 0 where
   pub more : (l : ℕ) → l < 26 → 1 < getD T (testAt tests l) 0 → getD T (testAt tests l + 1) 0 + (getD T (testAt tests l) 0 - 1) * 5 ≤ length T
   pub first : (l : ℕ) → l < 26 → 0 < getD T (testAt tests l) 0 → First T (testAt tests l)
   pub free : (l : ℕ) → l < 26 → getD T (testAt tests l) 0 ≡ 0 → getD T (testAt tests l + 7) 0 ≡ 2
+
+-- Of P places, each letter's tells the word at which its test begins, so that the walk need not
+-- reckon it.
+abbrev pub Pointed : List ℕ → ℕ → ℕ → Type 0
+Pointed T P tests = (q : ℕ) → q < P → codeAt T q < 26 → laterAt T q ≡ testAt tests (codeAt T q)
+
+-- the words of some letter begin at word `at`
+pub record LetterAt (tests at : ℕ) : Type 0 where
+  pub letter : ℕ
+  pub small : letter < 26
+  pub is : at ≡ testAt tests letter
 
 -- What a test of a letter asks: its words, and n whole rows, at most 4,096, of 1 to 8 columns.
 pub record Letters (T : List ℕ) (tests : ℕ) (rows : List ℤ) (columns n : ℕ) : Type 0 where

@@ -66,7 +66,8 @@ pub fn first_at(table: &[u16], q: usize) -> usize
     wide16(table[WORDS * q + 1])
 }
 
-// Of a fork of two ways at place q the second, of one with more the word at which its ways begin.
+// Of a fork of two ways at place q the second, of one with more the word at which its ways begin;
+// of a letter the word at which its test begins.
 pub fn later_at(table: &[u16], q: usize) -> usize
     requires { ⌜ 4 * q + 4 ≤ length (now table) ⌝ }
     ensures { λ r. ⌜ (r ≡ laterAt (now (table .entry)) q) × (r < 65536) ⌝ }

@@ -1,6 +1,7 @@
 -- `entering::enter` meets its contract by the laws of Small.
 use native.Mathlib.Omega.{arith}
-use Rattle.pairs.proofs.Small.{fork-small, fork-inside, letter-inside, anchor-small, anchor-inside, enter-fork, enter-letter, enter-shut, enter-stuck, anchor-shut, enter-end, enter-anchor}
+use Rattle.pairs.proofs.Small.{fork-small, fork-inside, anchor-small, anchor-inside, enter-fork, anchor-shut, enter-end, enter-anchor}
+use Rattle.entering.proofs.Letter.{low-code, letter-shut, next-inside, letter-stuck, letter-opens}
 use borrow.Author.Needs.{needs}
 use Rattle.entering.proofs.enter.Statement.{statement}
 use Rattle.entering.proofs.enter.Tie as tie
@@ -36,7 +37,7 @@ returns : tie.Need-returns
 returns c = search (needs, enter-fork)
 
 letter-passes-requires : tie.Need-letter-passes-requires
-letter-passes-requires c κs = search needs
+letter-passes-requires c κs = search (needs, low-code)
 
 fails-requires : tie.Need-fails-requires
 fails-requires c κs = search needs
@@ -45,7 +46,7 @@ same-length-3 : tie.Need-same-length-3
 same-length-3 c = omega arith
 
 returns-2 : tie.Need-returns-2
-returns-2 c = search (needs, enter-shut)
+returns-2 c = search (needs, letter-shut)
 
 first-at-requires : tie.Need-first-at-requires
 first-at-requires c κs = search needs
@@ -57,7 +58,7 @@ add-failed : tie.Need-add-failed
 add-failed c = omega arith
 
 failed-requires : tie.Need-failed-requires
-failed-requires c κs = search (needs, letter-inside)
+failed-requires c κs = search (needs, next-inside)
 
 fails-requires-2 : tie.Need-fails-requires-2
 fails-requires-2 c κs = search needs
@@ -66,7 +67,7 @@ same-length-4 : tie.Need-same-length-4
 same-length-4 c = omega arith
 
 returns-3 : tie.Need-returns-3
-returns-3 c = search (needs, enter-stuck)
+returns-3 c = search (needs, letter-stuck)
 
 push-requires-2 : tie.Need-push-requires-2
 push-requires-2 c κs = search needs
@@ -84,7 +85,7 @@ same-length-6 : tie.Need-same-length-6
 same-length-6 c = omega arith
 
 returns-4 : tie.Need-returns-4
-returns-4 c = search (needs, enter-letter)
+returns-4 c = search (needs, letter-opens)
 
 anchor-passes-requires : tie.Need-anchor-passes-requires
 anchor-passes-requires c κs = search needs

@@ -7,13 +7,7 @@ use Rattle.letters.proofs.letter_holds.Statement.{statement}
 use Rattle.letters.proofs.letter_holds.Tie as tie
 
 returns : tie.Need-returns
-returns c = behind-last _ _ _ _ (c .before .before .before .args .size .rows) _ (c .before .before .before .args .row) (omega arith)
-
-mul-at : tie.Need-mul-at
-mul-at c = omega arith
-
-add-at : tie.Need-add-at
-add-at c = omega arith
+returns c = behind-last _ (c .before .before .before .args .size .tests) _ _ (c .before .before .before .args .size .rows) _ (c .before .before .before .args .row) (omega arith)
 
 add-word-at : tie.Need-add-word-at
 add-word-at c = omega arith
@@ -29,41 +23,41 @@ far-back-requires c κs = search needs
 
 column-met-requires : tie.Need-column-met-requires
 column-met-requires c κs =
-    (search needs, first-there _ _ _ _ _ _ (c .before .before .before .before .before .before .before .before .pre .2) (c .before .before .before .before .before .before .before .before .pre .1) _ (c .before .before .before .word-at .ensures .0) (let e = c .if2 .taken in omega arith), sym (c .before .before .before .word-at .ensures .0) ∙ c .if2 .taken)
+    (search needs, first-there _ _ _ _ _ _ (c .before .before .before .before .before .before .before .pre .2) (c .before .before .before .before .before .before .before .pre .1) _ (c .before .before .before .word-at .ensures .0) (let e = c .if2 .taken in omega arith), sym (c .before .before .before .word-at .ensures .0) ∙ c .if2 .taken)
 
 returns-2 : tie.Need-returns-2
 returns-2 c =
-    first-unmet _ _ _ _ _ _ _ (omega arith) (c .before .before .before .before .before .before .before .before .before .before .pre .2) (c .before .before .before .before .before .before .before .before .before .before .pre .1) _ (c .before .before .before .before .before .word-at .ensures .0) (let e = c .before .before .if2 .taken in omega arith) _ (c .before .before .before .far-back .ensures) _ (c .before .column-met .ensures) (search needs) (c .if3 .taken)
+    first-unmet _ _ _ _ _ _ _ (omega arith) (c .before .before .before .before .before .before .before .before .before .pre .2) (c .before .before .before .before .before .before .before .before .before .pre .1) _ (c .before .before .before .before .before .word-at .ensures .0) (let e = c .before .before .if2 .taken in omega arith) _ (c .before .before .before .far-back .ensures) _ (c .before .column-met .ensures) (search needs) (c .if3 .taken)
 
 word-at-requires-2 : tie.Need-word-at-requires-2
 word-at-requires-2 c κs = search needs
 
 others-met-requires : tie.Need-others-met-requires
 others-met-requires c κs =
-    (search needs, some-counted _ _ _ _ _ _ (c .before .before .before .before .before .before .before .before .before .before .before .pre .2) (c .before .before .before .before .before .before .before .before .before .before .before .pre .1) _ (c .before .before .before .before .before .before .word-at .ensures .0) (let e = c .before .before .before .if2 .taken in omega arith) _ (c .word-at2 .ensures .0), others-there _ _ _ _ _ _ (c .before .before .before .before .before .before .before .before .before .before .before .pre .2) (c .before .before .before .before .before .before .before .before .before .before .before .pre .1) _ (c .before .before .before .before .before .before .word-at .ensures .0) _ (c .word-at2 .ensures .0))
+    (search needs, some-counted _ _ _ _ _ _ (c .before .before .before .before .before .before .before .before .before .before .pre .2) (c .before .before .before .before .before .before .before .before .before .before .pre .1) _ (c .before .before .before .before .before .before .word-at .ensures .0) (let e = c .before .before .before .if2 .taken in omega arith) _ (c .word-at2 .ensures .0), others-there _ _ _ _ _ _ (c .before .before .before .before .before .before .before .before .before .before .pre .2) (c .before .before .before .before .before .before .before .before .before .before .pre .1) _ (c .before .before .before .before .before .before .word-at .ensures .0) _ (c .word-at2 .ensures .0))
 
 returns-3 : tie.Need-returns-3
 returns-3 c =
-    by-others _ _ _ _ _ _ _ (omega arith) (c .before .before .before .before .before .before .before .before .before .before .before .before .pre .2) (c .before .before .before .before .before .before .before .before .before .before .before .before .pre .1) _ (c .before .before .before .before .before .before .before .word-at .ensures .0) (let e = c .before .before .before .before .if2 .taken in omega arith) _ (c .before .before .before .before .before .far-back .ensures) _ (c .before .before .before .column-met .ensures) (search needs) _ _ (c .before .before .if3 .left) (c .before .word-at2 .ensures .0) (c .others-met .ensures)
+    by-others _ _ _ _ _ _ _ (omega arith) (c .before .before .before .before .before .before .before .before .before .before .before .pre .2) (c .before .before .before .before .before .before .before .before .before .before .before .pre .1) _ (c .before .before .before .before .before .before .before .word-at .ensures .0) (let e = c .before .before .before .before .if2 .taken in omega arith) _ (c .before .before .before .before .before .far-back .ensures) _ (c .before .before .before .column-met .ensures) (search needs) _ _ (c .before .before .if3 .left) (c .before .word-at2 .ensures .0) (c .others-met .ensures)
 
 number-met-requires : tie.Need-number-met-requires
 number-met-requires c κs =
-    (search needs, first-there _ _ _ _ _ _ (c .before .before .before .before .before .before .before .before .before .pre .2) (c .before .before .before .before .before .before .before .before .before .pre .1) _ (c .before .before .before .before .word-at .ensures .0) (let e = c .if4 .taken in omega arith), λ e. c .before .if2 .left (c .before .before .before .before .word-at .ensures .0 ∙ e))
+    (search needs, first-there _ _ _ _ _ _ (c .before .before .before .before .before .before .before .before .pre .2) (c .before .before .before .before .before .before .before .before .pre .1) _ (c .before .before .before .before .word-at .ensures .0) (let e = c .if4 .taken in omega arith), λ e. c .before .if2 .left (c .before .before .before .before .word-at .ensures .0 ∙ e))
 
 returns-4 : tie.Need-returns-4
 returns-4 c =
-    first-unmet _ _ _ _ _ _ _ (omega arith) (c .before .before .before .before .before .before .before .before .before .before .before .pre .2) (c .before .before .before .before .before .before .before .before .before .before .before .pre .1) _ (c .before .before .before .before .before .before .word-at .ensures .0) (let e = c .before .before .if4 .taken in omega arith) _ (c .before .before .before .before .far-back .ensures) _ (c .before .number-met .ensures) (search needs) (c .if5 .taken)
+    first-unmet _ _ _ _ _ _ _ (omega arith) (c .before .before .before .before .before .before .before .before .before .before .pre .2) (c .before .before .before .before .before .before .before .before .before .before .pre .1) _ (c .before .before .before .before .before .before .word-at .ensures .0) (let e = c .before .before .if4 .taken in omega arith) _ (c .before .before .before .before .far-back .ensures) _ (c .before .number-met .ensures) (search needs) (c .if5 .taken)
 
 word-at-requires-3 : tie.Need-word-at-requires-3
 word-at-requires-3 c κs = search needs
 
 others-met-requires-2 : tie.Need-others-met-requires-2
 others-met-requires-2 c κs =
-    (search needs, some-counted _ _ _ _ _ _ (c .before .before .before .before .before .before .before .before .before .before .before .before .pre .2) (c .before .before .before .before .before .before .before .before .before .before .before .before .pre .1) _ (c .before .before .before .before .before .before .before .word-at .ensures .0) (let e = c .before .before .before .if4 .taken in omega arith) _ (c .word-at3 .ensures .0), others-there _ _ _ _ _ _ (c .before .before .before .before .before .before .before .before .before .before .before .before .pre .2) (c .before .before .before .before .before .before .before .before .before .before .before .before .pre .1) _ (c .before .before .before .before .before .before .before .word-at .ensures .0) _ (c .word-at3 .ensures .0))
+    (search needs, some-counted _ _ _ _ _ _ (c .before .before .before .before .before .before .before .before .before .before .before .pre .2) (c .before .before .before .before .before .before .before .before .before .before .before .pre .1) _ (c .before .before .before .before .before .before .before .word-at .ensures .0) (let e = c .before .before .before .if4 .taken in omega arith) _ (c .word-at3 .ensures .0), others-there _ _ _ _ _ _ (c .before .before .before .before .before .before .before .before .before .before .before .pre .2) (c .before .before .before .before .before .before .before .before .before .before .before .pre .1) _ (c .before .before .before .before .before .before .before .word-at .ensures .0) _ (c .word-at3 .ensures .0))
 
 returns-5 : tie.Need-returns-5
 returns-5 c =
-    by-others _ _ _ _ _ _ _ (omega arith) (c .before .before .before .before .before .before .before .before .before .before .before .before .before .pre .2) (c .before .before .before .before .before .before .before .before .before .before .before .before .before .pre .1) _ (c .before .before .before .before .before .before .before .before .word-at .ensures .0) (let e = c .before .before .before .before .if4 .taken in omega arith) _ (c .before .before .before .before .before .before .far-back .ensures) _ (c .before .before .before .number-met .ensures) (search needs) _ _ (c .before .before .if5 .left) (c .before .word-at3 .ensures .0) (c .others-met2 .ensures)
+    by-others _ _ _ _ _ _ _ (omega arith) (c .before .before .before .before .before .before .before .before .before .before .before .before .pre .2) (c .before .before .before .before .before .before .before .before .before .before .before .before .pre .1) _ (c .before .before .before .before .before .before .before .before .word-at .ensures .0) (let e = c .before .before .before .before .if4 .taken in omega arith) _ (c .before .before .before .before .before .before .far-back .ensures) _ (c .before .before .before .number-met .ensures) (search needs) _ _ (c .before .before .if5 .left) (c .before .word-at3 .ensures .0) (c .others-met2 .ensures)
 
 returns-6 : tie.Need-returns-6
 returns-6 c = search (needs, free-holds)
@@ -73,8 +67,6 @@ letter-holds-spec =
     tie.close
     (tie.spec
     returns
-    mul-at
-    add-at
     add-word-at
     word-at-requires
     mul-far-back
