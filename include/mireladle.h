@@ -7,8 +7,8 @@
  *     cc -std=c11 -Iinclude yours.c target/staticlib/libmireladle_c.a
  *
  * Every query, all rows and all buffers get an answer: a caller checks nothing first. The functions allocate nothing,
- * keep no pointer and no state between calls, and may run on several threads at once as long as no thread writes into
- * what another one lends. A thread that calls needs MIRELADLE_STACK bytes of stack left.
+ * keep no pointer between calls and no state but what the caller lends, and may run on several threads at once as long
+ * as no thread writes into what another one lends. A thread that calls needs MIRELADLE_STACK bytes of stack left.
  */
 #ifndef MIRELADLE_H
 #define MIRELADLE_H
@@ -101,7 +101,10 @@ enum mireladle_answer {
     /* The search stopped since its next step would have been one more than it was allowed. Only
      * mireladle_search_within() gives this. The matches found by then stand whole in the report;
      * there may be others. Where 13 or 15 comes first, that is the answer. */
-    MIRELADLE_OUT_OF_STEPS = 16
+    MIRELADLE_OUT_OF_STEPS = 16,
+    /* A partition of the depot-by-month table gets no number, or the state is too short: see
+     * mireladle_depots_partition(). No search gives this. */
+    MIRELADLE_NO_NUMBER = 20
 };
 
 /* What a search returns. On the answers 1 to 12 and 14 all but the answer, and the offset of 5 and 14, are 0. */
@@ -275,6 +278,58 @@ struct mireladle_verdict mireladle_desk(const int32_t *rows, size_t rows_len,
                                         uint32_t *trail, size_t trail_len,
                                         int64_t *numbers, size_t numbers_len,
                                         uint8_t *labels, size_t labels_len);
+
+/* The depot-by-month table: so many words of state, and what stands where in it. The cells are those
+ * of depot 0 to 63 and month 1 to 12; then one cell for all else, how many partitions have a number,
+ * how many numbers of the list are used, and the two named columns. Read it; only the calls below
+ * write it. */
+#define MIRELADLE_DEPOTS_LENGTH 773
+#define MIRELADLE_DEPOTS_CELL(depot, month) (12 * (depot) + (month) - 1)
+#define MIRELADLE_DEPOTS_OUTSIDE 768
+#define MIRELADLE_DEPOTS_PARTITIONS 769
+#define MIRELADLE_DEPOTS_LISTED 770
+
+/* As many partitions as get a number. */
+#define MIRELADLE_MAX_PARTITIONS 65535
+
+/*
+ * Begins a depot-by-month table: sets all counts to 0 and keeps the two columns, counted from 0, in
+ * which a row has its depot and its month. They may be one column. Returns 0, or 20 where state_len
+ * is below MIRELADLE_DEPOTS_LENGTH, and then changes nothing. What lies behind those words is never
+ * changed.
+ */
+uint64_t mireladle_depots_begin(uint64_t *state, size_t state_len, uint64_t depot, uint64_t month);
+
+/*
+ * Takes one partition into the table: searches its rows, and counts each match by the depot and the
+ * month in its first row (of a match that takes no row, in its start row).
+ *
+ *   state    As mireladle_depots_begin() and the calls since then left it. Any other state gets an
+ *            answer, too, but nothing is said of it, of what it writes into state and list, or of
+ *            the search's buffers; it writes nowhere else.
+ *   list     Two numbers for each partition that is refused or stopped: its number from 1, and its
+ *            answer. The same list of the same length at each call, in which the first
+ *            state[MIRELADLE_DEPOTS_LISTED] numbers are used; the others are as they were lent.
+ *   query, rows, notes, trail, numbers, labels
+ *            As for mireladle_search(), and left as it leaves them.
+ *
+ * Returns what mireladle_search() does, and takes the next number. Only a partition that is done (0)
+ * is counted; one that is refused or stopped, by 13, 15 and all other answers, adds nothing and is
+ * appended to the list. A named column outside the query's shape is answer 3, behind 1 and 2.
+ *
+ * Two partitions get MIRELADLE_NO_NUMBER and zeros instead, take no number, and change neither state
+ * nor list: one behind MIRELADLE_MAX_PARTITIONS, which is not searched, and one whose entry does not
+ * fit the list, which leaves notes, trail, numbers and labels as its own answer would. So a list of
+ * twice as many numbers as there are partitions is always long enough.
+ */
+struct mireladle_result mireladle_depots_partition(uint64_t *state, size_t state_len,
+                                                   uint32_t *list, size_t list_len,
+                                                   const uint8_t *query, size_t query_len,
+                                                   const int32_t *rows, size_t rows_len,
+                                                   uint8_t *notes, size_t notes_len,
+                                                   uint32_t *trail, size_t trail_len,
+                                                   int64_t *numbers, size_t numbers_len,
+                                                   uint8_t *labels, size_t labels_len);
 
 /*
  * A query's bytes

@@ -8,6 +8,8 @@ ghost use lib.ListN.{length};
 ghost use Rattle.outcome.specs.Results.{lent, memory};
 ghost use Rattle.search.specs.Promise.{Promised};
 ghost use Rattle.desk.specs.Promise.{Desk};
+ghost use Rattle.depot_state.specs.State.{Begun};
+ghost use Rattle.depots.specs.Calls.{Calls};
 ghost use Rattle.mireladle_c.specs.Told.{Told};
 
 // How much to lend: the answer 1 to 10 or 14, with the offset of 5 and 14, or 0 with P, n and the
@@ -79,4 +81,29 @@ pub extern "C" fn mireladle_desk(
     ensures { λ r. ⌜ Desk (now (rows .entry)) (lent (now (notes .entry)) (now (trail .entry)) (now (numbers .entry)) (now (labels .entry))) (lent (now (notes .exit)) (now (trail .exit)) (now (numbers .exit)) (now (labels .exit))) r ⌝ }
 {
     desk::desk(rows, notes, trail, numbers, labels)
+}
+
+// A new state for the depot-by-month table, with its two named columns.
+#[no_mangle]
+pub extern "C" fn mireladle_depots_begin(state: &mut [usize], depot: usize, month: usize) -> usize
+    ensures { λ r. ⌜ Begun depot month (now (state .entry)) (now (state .exit)) r ⌝ }
+{
+    depot_state::begin(state, depot, month)
+}
+
+// One partition of the depot-by-month table: searched, then counted or listed.
+#[no_mangle]
+pub extern "C" fn mireladle_depots_partition(
+    state: &mut [usize],
+    list: &mut [u32],
+    query: &[u8],
+    rows: &[i32],
+    notes: &mut [u8],
+    trail: &mut [u32],
+    numbers: &mut [i64],
+    labels: &mut [u8],
+) -> Outcome
+    ensures { λ r. ⌜ Calls (record { query = now (query .entry); rows = now (rows .entry); buffers = lent (now (notes .entry)) (now (trail .entry)) (now (numbers .entry)) (now (labels .entry)); state = now (state .entry); list = now (list .entry) }) (record { memory = memory r (now (notes .exit)) (now (trail .exit)) (now (numbers .exit)) (now (labels .exit)); state = now (state .exit); list = now (list .exit) }) ⌝ }
+{
+    depots::partition(state, list, query, rows, notes, trail, numbers, labels)
 }
