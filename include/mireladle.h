@@ -34,8 +34,9 @@ extern "C" {
 #define MIRELADLE_MAX_PLACES 256      /* P */
 #define MIRELADLE_MAX_PAIRS 1048832   /* P * (n + 1) */
 #define MIRELADLE_MAX_PATTERN 256     /* bytes of pattern text */
-#define MIRELADLE_MAX_DEFINES 26      /* one for each letter */
+#define MIRELADLE_MAX_DEFINES 26      /* one for each letter, of kinds 3 and 6 together */
 #define MIRELADLE_MAX_COMPARISONS 8   /* of one DEFINE */
+#define MIRELADLE_MAX_ENTRIES 16      /* of one DEFINE of kind 6: comparisons, AND, OR and NOT */
 #define MIRELADLE_MAX_MEASURES 8
 #define MIRELADLE_MAX_OFFSET 64       /* rows that PREV or NEXT looks away */
 
@@ -339,7 +340,10 @@ struct mireladle_result mireladle_depots_partition(uint64_t *state, size_t state
  *
  *   kind 1, once           columns of a row, 1 to 8; reserved byte
  *   kind 2, once           pattern text, up to 256 bytes
- *   kind 3, up to 26 times DEFINE: letter 'A' to 'Z', count of comparisons 1 to 8, so many comparisons of 12 bytes
+ *   kinds 3 and 6, up to   DEFINE, in any order of the two kinds: letter 'A' to 'Z', then
+ *   26 times together        of kind 3 a count of comparisons, 1 to 8, and so many comparisons of 12 bytes;
+ *                            of kind 6 a count of entries, 1 to 16, and so many entries in postfix: byte 0 and a
+ *                            comparison of 12 bytes, or byte 1 for AND, 2 for OR, 3 for NOT
  *   kind 4, once           skip: after a match go on 0 behind its last row, 1 at the row behind its
  *                          first, 2 at its first row with a letter, 3 at its last row with a letter
  *                          (in all four cases one row on after a match that takes none); then that
@@ -352,8 +356,20 @@ struct mireladle_result mireladle_depots_partition(uint64_t *state, size_t state
  * 2 unequal, 3 less, 4 at most, 5 greater, 6 at least; right kind, 0 a number, 1 a column plus a number; right column;
  * right offset; two reserved bytes; the number, signed, 4 bytes. With right kind 0 the right column and offset are 0.
  * The sum is exact. An offset may lead out of the match, to any row handed over; a comparison that looks at a row which
- * is not there is not met, not even by "unequal". A letter holds at a row where all its comparisons are met; a letter
- * without DEFINE holds at every row. DEFINEs stand in any order, also for letters that the pattern does not have.
+ * is not there is neither true nor false but unknown, as in SQL, whatever its operator. A letter without DEFINE holds at
+ * every row. DEFINEs stand in any order, also for letters that the pattern does not have.
+ *
+ * A letter holds at a row where its condition is true: unknown does not do. The condition of a DEFINE of kind 3 is that
+ * all its comparisons are true. That of kind 6 is worked out entry by entry: a comparison adds a result, AND and OR make
+ * one of the latest two, NOT one of the latest, by SQL's tables:
+ *
+ *     AND      true     false  unknown      OR       true  false    unknown      NOT
+ *     true     true     false  unknown      true     true  true     true         true     false
+ *     false    false    false  false        false    true  false    unknown      false    true
+ *     unknown  unknown  false  unknown      unknown  true  unknown  unknown      unknown  unknown
+ *
+ * One result has to be left: entries that run short of results, or leave more than one, are answer 3. So NOT of a
+ * comparison with PREV is not true at the first row, and `A = PREV OR NOT A = PREV` is unknown there.
  *
  * A measure is over the rows of a match, or over those of them with its letter. AVG is their SUM
  * divided by their COUNT, cut toward zero as `/` cuts in C: 3 and 4 give 3, -3 and -4 give -3; SUM

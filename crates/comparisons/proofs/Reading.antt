@@ -15,11 +15,12 @@ use mir.Val.{Fits, SFits, toZ, ofZ}
 use mir.Facts.{toZ-ofZ}
 use borrow.Author.Tests.{lt-ltb, le-ltb, eq-eqb, ne-eqb, eqb-true, eqb-false, not-true, not-false}
 use Rattle.rules.specs.Basics.{pick, every, tabulate, signed32}
-use Rattle.rules.specs.Rows.{tableOf, compares, plusNumber, rightSide, metBy, met, holds}
+use Rattle.rules.specs.Rows.{tableOf, compares, plusNumber, rightSide, yes, no, isYes, truthBy, truth, met, allOf, holds}
 use Rattle.laws.proofs.Choice.{decided}
 use Rattle.laws.proofs.Signed.{sum-fits, read-back}
+use Rattle.laws.proofs.Truths.{all-met as holds-all}
 use Rattle.table.specs.Tests.{numberIn, comparisonIn, comparisonsIn}
-use Rattle.comparisons.specs.Spots.{spotIndex, entryFrom, rightFrom, readMet, firstUnmet}
+use Rattle.comparisons.specs.Spots.{spotIndex, entryFrom, rightFrom, readTruth, readMet, firstUnmet}
 use Rattle.comparisons.proofs.Entries.{At, entry-is}
 
 abbrev held : ℤ → ℤ
@@ -50,9 +51,15 @@ held-short z h = rw (small z h) h
 
 -- ---- a comparison, by the ways through the code
 
+-- a test as true or false
+told : (b : Bool) → b ≡ isYes (pick b yes no)
+unfolding isYes
+told true = refl
+told false = refl
+
 -- whatever its left side
-right-none : (op : ℕ) (a : Option ℤ) → false ≡ metBy op a none
-unfolding metBy
+right-none : (op : ℕ) (a : Option ℤ) → false ≡ isYes (truthBy op a none)
+unfolding truthBy isYes
 right-none op none = refl
 right-none op (some a) = refl
 
@@ -66,7 +73,7 @@ right-missing T rows from at sort y is-sort column is-y h =
 
 module _ (T : List ℕ) (rows : List ℤ) (from at x : ℕ) (is-x : x ≡ spotIndex from (getD T (at + 1) 0)) where
   pub left-missing : length rows ≤ x → false ≡ readMet T rows from at
-  unfolding readMet entryFrom metBy
+  unfolding readMet entryFrom truthBy isYes
   left-missing h =
       let a : ltb (spotIndex from (getD T (at + 1) 0)) (length rows) ≡ false = le-ltb _ _ (rw is-x at h) in
       rw a refl
@@ -84,10 +91,10 @@ module _ (T : List ℕ) (rows : List ℤ) (from at x : ℕ) (is-x : x ≡ spotIn
 
     -- its right side is a number
     pub number-met : (r : Bool) → (sort / 8 ≡ 1 → ⊥) → r ≡ compares (sort % 8) (held a) (held number) → r ≡ readMet T rows from at
-    unfolding readMet rightFrom metBy
+    unfolding readMet rightFrom truthBy
     number-met r h e =
         let k : eqb (getD T at 0 / 8) 1 ≡ false = ne-eqb (getD T at 0 / 8) 1 (λ q. h (ap (λ (i : ℕ). i / 8) is-sort ∙ q)) in
-        rw (k, left-found, ← is-number, ← operator-is) (e ∙ ap (compares (sort % 8) (held a)) (small number few-number))
+        rw (k, left-found, ← is-number, ← operator-is) (e ∙ ap (compares (sort % 8) (held a)) (small number few-number) ∙ told (compares (sort % 8) (held a) number))
 
     -- its right side has a column
     module _ (column : sort / 8 ≡ 1) (y : ℕ) (is-y : y ≡ spotIndex from (getD T (at + 2) 0)) where
@@ -96,11 +103,11 @@ module _ (T : List ℕ) (rows : List ℤ) (from at x : ℕ) (is-x : x ≡ spotIn
 
       pub column-met : (r : Bool) (b u : ℤ) → y < length rows → b ≡ getD rows y (pos 0) → mag b < 2147483648 → u ≡ held b +ℤ held number
           → r ≡ compares (sort % 8) (held a) (held u) → r ≡ readMet T rows from at
-      unfolding readMet rightFrom entryFrom plusNumber metBy
+      unfolding readMet rightFrom entryFrom plusNumber truthBy
       column-met r b u right is-b few-b is-u e =
           let t : ltb (spotIndex from (getD T (at + 2) 0)) (length rows) ≡ true = lt-ltb _ _ (rw is-y at right) in
           let v : held u ≡ b +ℤ number = ap held is-u ∙ plus-is b number few-b few-number in
-          rw (column-is, left-found, t, ← is-y, ← is-b, ← is-number, ← operator-is) (e ∙ ap (compares (sort % 8) (held a)) v)
+          rw (column-is, left-found, t, ← is-y, ← is-b, ← is-number, ← operator-is) (e ∙ ap (compares (sort % 8) (held a)) v ∙ told (compares (sort % 8) (held a) (b +ℤ number)))
 
 -- ---- several, by the loop
 
@@ -217,13 +224,20 @@ abbrev pub Words : List ℕ → Type 0
 Words T = (i : ℕ) → Fits w16 (getD T i 0)
 
 module _ (T : List ℕ) (words : Words T) (rows : List ℤ) (columns n row from : ℕ) (is : At rows columns n row from) where
-  pub met-is : (at : ℕ) → readMet T rows from at ≡ met (tableOf columns rows) row (comparisonIn T columns at)
-  unfolding readMet rightFrom met rightSide comparisonIn
-  met-is at =
+  pub truth-is : (at : ℕ) → readTruth T rows from at ≡ truth (tableOf columns rows) row (comparisonIn T columns at)
+  unfolding readTruth rightFrom truth rightSide comparisonIn
+  truth-is at =
       rw (entry-is rows columns n row from is (getD T (at + 1) 0) (words (at + 1) .fits), entry-is rows columns n row from is (getD T (at + 2) 0) (words (at + 2) .fits)) refl
 
-  pub holds-is : (at count : ℕ) → eqb (firstUnmet T rows from at count) count ≡ holds (tableOf columns rows) row (comparisonsIn T columns at count)
-  unfolding holds comparisonsIn
-  holds-is at count =
+  pub met-is : (at : ℕ) → readMet T rows from at ≡ met (tableOf columns rows) row (comparisonIn T columns at)
+  unfolding readMet met
+  met-is at = ap isYes (truth-is at)
+
+  pub every-is : (at count : ℕ) → eqb (firstUnmet T rows from at count) count ≡ every (met (tableOf columns rows) row) (comparisonsIn T columns at count)
+  unfolding comparisonsIn
+  every-is at count =
       all-met T rows from count at
       ∙ same (readMet T rows from) (λ k. at + k * 5) (met (tableOf columns rows) row) (λ k. comparisonIn T columns (at + k * 5)) count (λ k l. met-is (at + k * 5))
+
+  pub holds-is : (at count : ℕ) → eqb (firstUnmet T rows from at count) count ≡ holds (tableOf columns rows) row (allOf (comparisonsIn T columns at count))
+  holds-is at count = every-is at count ∙ sym (holds-all (tableOf columns rows) row (comparisonsIn T columns at count))

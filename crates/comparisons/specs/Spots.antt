@@ -12,7 +12,7 @@ use lib.Dec.{ltb, eqb}
 use lib.IntN.{ℤ, pos}
 use lib.ListN.{length, getD}
 use Rattle.rules.specs.Basics.{pick}
-use Rattle.rules.specs.Rows.{plusNumber, metBy}
+use Rattle.rules.specs.Rows.{plusNumber, Truth, truthBy, isYes}
 use Rattle.table.specs.Tests.{numberIn}
 
 -- 1 where the test is true
@@ -38,10 +38,15 @@ unfolding plusNumber entryFrom spotIndex numberIn
 rightFrom T rows from at =
     pick (eqb (getD T at 0 / 8) 1) (plusNumber (numberIn T at) (entryFrom rows (spotIndex from (getD T (at + 2) 0)))) (some (numberIn T at))
 
--- the comparison at word `at` is met
+-- whether the comparison at word `at` is true, false or unknown
+unfoldable pub readTruth : List ℕ → List ℤ → ℕ → ℕ → Truth
+unfolding truthBy entryFrom spotIndex rightFrom
+readTruth T rows from at = truthBy (getD T at 0 % 8) (entryFrom rows (spotIndex from (getD T (at + 1) 0))) (rightFrom T rows from at)
+
+-- it is met
 unfoldable pub readMet : List ℕ → List ℤ → ℕ → ℕ → Bool
-unfolding metBy entryFrom spotIndex rightFrom
-readMet T rows from at = metBy (getD T at 0 % 8) (entryFrom rows (spotIndex from (getD T (at + 1) 0))) (rightFrom T rows from at)
+unfolding readTruth isYes
+readMet T rows from at = isYes (readTruth T rows from at)
 
 -- the number of the first of `count` comparisons from word `at` on that is not met, else `count`
 unfoldable pub firstUnmet : List ℕ → List ℤ → ℕ → ℕ → ℕ → ℕ

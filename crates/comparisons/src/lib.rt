@@ -19,16 +19,16 @@ ghost use Rattle.comparisons.specs.Spots.{flagOf, FarBack, spotIndex, re
 // The words of a comparison, and which of them are what.
 pub const WORDS: usize = 5;
 
-const LEFT: usize = 1;
+pub const LEFT: usize = 1;
 
-const RIGHT: usize = 2;
+pub const RIGHT: usize = 2;
 
 const LOW: usize = 3;
 
 const HIGH: usize = 4;
 
 // Word 0 is the operator, and this much more where the right side has a column.
-const COLUMN: usize = 8;
+pub const COLUMN: usize = 8;
 
 // The operators 0 to 7 as bits of one number, three for each: whether it is met where a is below b,
 // equal to b, above b.

@@ -2,7 +2,7 @@
 -- DEFINEs, the measures behind the skip; so what was read one after the other are the query's
 -- parts.
 use mathlib.Core.Path.{_≡_, refl, sym, ap, _∙_}
-use mathlib.Core.Bool.{true, _||_}
+use mathlib.Core.Bool.{true, false, _||_}
 use mathlib.Core.List.{List, _∷_}
 use Prim.Native.Nat.{ℕ, _+_, _-_, _*_, _^_, _≤_, _<_}
 use mir.Syntax.{w64}
@@ -14,7 +14,7 @@ use borrow.Author.Tests.{eq-eqb, ne-eqb}
 use Rattle.records.specs.declared.Read.{Read}
 use Rattle.records.specs.declared.Read.the-variants.{Record as Whole, Cut}
 use Rattle.rules.specs.Basics.{isLetter}
-use Rattle.rules.specs.Query.{Record, records, field, firstOfKind, columnsOf, defined, textOf, comparisonsFrom, measuresFrom, parts}
+use Rattle.rules.specs.Query.{Record, records, field, firstOfKind, columnsOf, isDefine, defined, textOf, conditionFrom, measuresFrom, parts}
 use Rattle.records.specs.Read.{recordOf, recordsAt, readAt}
 use Rattle.query.specs.Order.{firstAnswer}
 use Rattle.records.proofs.Reading.{found, read-more, field-first}
@@ -28,7 +28,7 @@ use Rattle.decode.specs.Steps.{HeadOf, TailRoom, TailOf}
 use Rattle.define_list.specs.Defines.{PutDefines}
 use Rattle.measure_list.specs.Measures.{MeasuresRoom, PutMeasures}
 use Rattle.query.proofs.Going.{at-start, before-end, not-cut, this-fits, shape-next, text-next, skip-next, shape-says, text-says, skip-says}
-use Rattle.define_list.proofs.Defines.{not-define}
+use Rattle.define_list.proofs.Defines.{other-kind, not-define}
 
 -- ---- a record of another kind in front
 
@@ -41,9 +41,9 @@ module _ (s : List ℕ) (k b m : ℕ) (rs : List Record) where
   unfolding firstOfKind
   this-first j e = simp (eq-eqb k j e)
 
-  other-letters : (letter : ℕ) → (k ≡ 3 → ⊥) → comparisonsFrom s (recordOf k b m ∷ rs) letter ≡ comparisonsFrom s rs letter
-  unfolding comparisonsFrom
-  other-letters letter f = simp (ne-eqb k 3 f)
+  other-letters : (letter : ℕ) → isDefine k ≡ false → conditionFrom s (recordOf k b m ∷ rs) letter ≡ conditionFrom s rs letter
+  unfolding conditionFrom
+  other-letters letter f = simp f
 
   other-measures : (k ≡ 5 → ⊥) → measuresFrom s (recordOf k b m ∷ rs) ≡ measuresFrom s rs
   unfolding measuresFrom
@@ -103,6 +103,13 @@ module _ (s : List ℕ) (clean : firstAnswer s ≡ 0) where
           not-second : (j : ℕ) → 2 < j → k2 ≡ j → ⊥
           not-second j h w = let z = text .0 in omega arith
 
+          -- neither is a DEFINE
+          no-first : isDefine k1 ≡ false
+          no-first = other-kind k1 1 (shape .0) (λ w. omega arith) (λ w. omega arith)
+
+          no-second : isDefine k2 ≡ false
+          no-second = other-kind k2 2 (text .0) (λ w. omega arith) (λ w. omega arith)
+
           text-is : take m2 (drop b2 s) ≡ textOf s
           unfolding textOf both
           text-is = ap (λ (x : Record). take (x .len) (drop (x .start) s)) (sym (ap (firstOfKind 2) both-records ∙ other-first s k1 b1 m1 both 2 (not-first 2 (omega arith))
@@ -115,14 +122,14 @@ module _ (s : List ℕ) (clean : firstAnswer s ≡ 0) where
 
           all-are : defined s (recordsAt s n2) ≡ defined s (records s)
           unfolding both
-          all-are = sym (ap (defined s) both-records ∙ not-define s (recordOf k1 b1 m1) both (not-first 3 (omega arith))
-              ∙ not-define s (recordOf k2 b2 m2) (recordsAt s n2) (not-second 3 (omega arith)))
+          all-are = sym (ap (defined s) both-records ∙ not-define s (recordOf k1 b1 m1) both no-first
+              ∙ not-define s (recordOf k2 b2 m2) (recordsAt s n2) no-second)
 
-          letters-are : (letter : ℕ) → comparisonsFrom s (recordsAt s n2) letter ≡ comparisonsFrom s (records s) letter
+          letters-are : (letter : ℕ) → conditionFrom s (recordsAt s n2) letter ≡ conditionFrom s (records s) letter
           unfolding both
           letters-are letter =
-              sym (ap (λ (x : List Record). comparisonsFrom s x letter) both-records ∙ other-letters s k1 b1 m1 both letter (not-first 3 (omega arith))
-              ∙ other-letters s k2 b2 m2 (recordsAt s n2) letter (not-second 3 (omega arith)))
+              sym (ap (λ (x : List Record). conditionFrom s x letter) both-records ∙ other-letters s k1 b1 m1 both letter no-first
+              ∙ other-letters s k2 b2 m2 (recordsAt s n2) letter no-second)
 
           measures-are : measuresFrom s (recordsAt s n2) ≡ measuresFrom s (records s)
           unfolding both

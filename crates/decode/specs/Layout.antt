@@ -1,5 +1,5 @@
 -- What the lent arrays hold once a query is decoded, and which parts of the query that is. Promised
--- (`Decoded`): each letter's DEFINE has the letter's comparisons, and all the bytes that a search
+-- (`Decoded`): each letter's DEFINE has the letter's condition, and all the bytes that a search
 -- reads of it are there and fit; the first measures and the numbers are the query's, and the letter
 -- that the skip names is 0 or A to Z; the rest of `measures` is as it was; and it is told whether a
 -- letter has two DEFINEs, of which the first counts. Left free, since no answer depends on it:
@@ -39,7 +39,7 @@ pub record Decoded (s measures₀ defines measures : List ℕ) (p : Parts) : Typ
   pub mode : p .skip ≤ 3
   pub target : p .target ≡ parts s .skipLetter
   pub lettered : (eqb (p .target) 0 || isLetter (p .target)) ≡ true
-  pub letters : (l : ℕ) → l < 26 → Letter s (p .columns) (getD defines l 0) (parts s .comparisons (65 + l))
+  pub letters : (l : ℕ) → l < 26 → Letter s (p .columns) (getD defines l 0) (parts s .condition (65 + l))
   pub measured : measuresIn measures 0 (p .measures) ≡ parts s .measures
   pub few : p .measures ≤ 8
   pub fit : (k : ℕ) → k < p .measures → Fits (p .columns) (measureIn measures 0 k)

@@ -6,7 +6,7 @@ use Prim.Native.Nat.{ℕ, _+_, _*_, _≤_, _<_}
 use lib.Dec.{eqb}
 use lib.ListN.{length, getD, take, drop}
 use Rattle.rules.specs.Basics.{isLetter}
-use Rattle.rules.specs.Query.{records, field, firstOfKind, columnsOf, defined, textOf, comparisonsFrom, measuresFrom}
+use Rattle.rules.specs.Query.{records, field, firstOfKind, columnsOf, defined, textOf, conditionFrom, measuresFrom}
 use Rattle.records.specs.Read.{recordsAt}
 use Rattle.query.specs.Ahead.{Ahead}
 use Rattle.measure_list.specs.Measures.{Fits}
@@ -26,7 +26,7 @@ pub record HeadOf (s : List ℕ) (h : Head) : Type 0 where
   pub ahead : Ahead s 2 26 (h .next)
   pub skip : firstOfKind 4 (recordsAt s (h .next)) ≡ firstOfKind 4 (records s)
   pub all : defined s (recordsAt s (h .next)) ≡ defined s (records s)
-  pub letters : (letter : ℕ) → comparisonsFrom s (recordsAt s (h .next)) letter ≡ comparisonsFrom s (records s) letter
+  pub letters : (letter : ℕ) → conditionFrom s (recordsAt s (h .next)) letter ≡ conditionFrom s (records s) letter
   pub measures : measuresFrom s (recordsAt s (h .next)) ≡ measuresFrom s (records s)
 
 -- the skip, at this index, and the measures behind it

@@ -1,6 +1,6 @@
 // A query's parts decoded once, in one pass over its records: for each letter where its DEFINE
 // stands in the query, the measures, a few numbers, and whether a letter has two DEFINEs (answer
-// 8). Comparisons stay where they are, in the query's bytes, so a search reads the lent array of
+// 8). Comparisons and entries stay where they are, in the query's bytes, so a search reads the lent array of
 // indices and then the query itself. specs/Layout says what the arrays hold afterwards (`Decoded`).
 // A query comes here with no answer 1 to 3.
 use define_list::put_defines;

@@ -13,7 +13,7 @@ use borrow.Author.Tests.{eq-eqb, ne-eqb, eqb-true, eqb-false, le-leb, leb-true}
 use Rattle.records.specs.declared.Read.{Read}
 use Rattle.records.specs.declared.Read.the-variants.{Record as Whole}
 use Rattle.rules.specs.Basics.{pick, keep, has, repeats}
-use Rattle.rules.specs.Query.{field, records, defined, doubled}
+use Rattle.rules.specs.Query.{field, records, isDefine, defined, doubled}
 use Rattle.laws.proofs.Choice.{decided}
 use Rattle.records.specs.Read.{recordOf, recordsAt, readAt}
 use Rattle.records.proofs.Reading.{read-more, field-first}
@@ -129,10 +129,10 @@ module _ (s : List ℕ) where
   twice-over defines at twice h e = sym (or-false twice) ∙ ap (λ (xs : List ℕ). twice || again defines xs) (sym e) ∙ h .same
 
   -- the letter of the DEFINE in front
-  in-front : (at : ℕ) (r : Read) (k b m n : ℕ) → r ≡ readAt s at → r ≡ Whole k b m n → k ≡ 3 → defined s (recordsAt s at) ≡ getD s b 0 ∷ defined s (recordsAt s n)
+  in-front : (at : ℕ) (r : Read) (k b m n : ℕ) → r ≡ readAt s at → r ≡ Whole k b m n → isDefine k ≡ true → defined s (recordsAt s at) ≡ getD s b 0 ∷ defined s (recordsAt s n)
   unfolding defined
-  in-front at r k b m n e q k3 =
-      ap (defined s) (read-more s at r k b m n e q) ∙ ap (λ (t : Bool). keep t (field s (recordOf k b m) 0) (defined s (recordsAt s n))) (eq-eqb k 3 k3)
+  in-front at r k b m n e q dk =
+      ap (defined s) (read-more s at r k b m n e q) ∙ ap (λ (t : Bool). keep t (field s (recordOf k b m) 0) (defined s (recordsAt s n))) dk
       ∙ ap (λ (x : ℕ). x ∷ defined s (recordsAt s n)) (field-first s k b m)
 
   -- what `put_define` tells
@@ -146,11 +146,11 @@ module _ (s : List ℕ) where
       (λ t. let c0 = eqb-false (getD defines (getD s b 0 - 65) 0) 0 t in
       rw (d .taken c0 .1) (again-taken defines (getD s b 0) low xs (is-taken defines (getD s b 0) low c0)))
 
-  pub twice-more : (defines : List ℕ) (at : ℕ) (r : Read) (k b m n : ℕ) → r ≡ readAt s at → r ≡ Whole k b m n → k ≡ 3 → 65 ≤ getD s b 0 → getD s b 0 ≤ 90 → 0 < b → length defines ≡ 26
+  pub twice-more : (defines : List ℕ) (at : ℕ) (r : Read) (k b m n : ℕ) → r ≡ readAt s at → r ≡ Whole k b m n → isDefine k ≡ true → 65 ≤ getD s b 0 → getD s b 0 ≤ 90 → 0 < b → length defines ≡ 26
       → (defines' : List ℕ) (before twice twice' : Bool) → PutDefine s b defines defines' before → twice' ≡ (twice || before) → Twice s defines at twice → Twice s defines' n twice'
-  twice-more defines at r k b m n e q k3 low high b0 long defines' before twice twice' d et h = record {
+  twice-more defines at r k b m n e q dk low high b0 long defines' before twice twice' d et h = record {
     same =
         ap (λ (u : Bool). u || again defines' (defined s (recordsAt s n))) et ∙ or-assoc twice before (again defines' (defined s (recordsAt s n)))
         ∙ ap (λ (u : Bool). twice || u) (sym (again-put defines defines' b before (defined s (recordsAt s n)) low high b0 long d))
-        ∙ ap (λ (xs : List ℕ). twice || again defines xs) (sym (in-front at r k b m n e q k3)) ∙ h .same;
+        ∙ ap (λ (xs : List ℕ). twice || again defines xs) (sym (in-front at r k b m n e q dk)) ∙ h .same;
   }

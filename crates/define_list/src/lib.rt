@@ -1,8 +1,9 @@
 // Where the DEFINE of each letter stands in the query, in one pass over the DEFINEs, and whether a
-// letter has two (answer 8). Comparisons stay where they are, in the query's bytes. A query comes
-// here with no answer 1 to 3. What the lent array holds afterwards: specs/Defines, `PutDefines`.
+// letter has two (answer 8). Comparisons and entries stay where they are, in the query's bytes. A
+// query comes here with no answer 1 to 3. What the lent array holds afterwards: specs/Defines, `PutDefines`.
 use records::Read;
 use records::byte;
+use records::is_define;
 use records::record_at;
 ghost use mathlib.Core.Path.{_≡_};
 ghost use mathlib.Core.Bool.{_||_};
@@ -70,7 +71,7 @@ pub fn put_defines(s: &[u8], from: usize, defines: &mut [usize; 26]) -> Behind
         else {
             return Behind { at, twice, letters };
         };
-        if kind != 3 {
+        if !is_define(kind) {
             return Behind { at, twice, letters };
         }
         let before = put_define(s, start, defines);

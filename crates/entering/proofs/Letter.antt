@@ -11,7 +11,7 @@ use Rattle.rules.specs.Report.{bitAt}
 use Rattle.rules.specs.Rows.{tableOf, holds}
 use Rattle.rules.specs.Working.{marked}
 use Rattle.table.specs.Table.{codeAt, firstAt, laterAt}
-use Rattle.table.specs.Tests.{definedIn, holdsIn, LetterAt, Pointed}
+use Rattle.table.specs.Tests.{conditionIn, holdsIn, LetterAt, Pointed}
 use Rattle.pairs.specs.declared.Walk.{Walk}
 use Rattle.pairs.specs.Layout.{layout, passesBy}
 use Rattle.pairs.specs.Step.{walkAt, Enters}
@@ -21,10 +21,10 @@ module _ (T : List ℕ) (P tests q : ℕ) (p : Pointed T P tests) (l : q < P) (c
   pub letter-at : LetterAt tests at
   letter-at = record { letter = codeAt T q; small = c; is = e .0 ∙ p q l c }
 
-  pub letter-passing : (columns : ℕ) (rows : List ℤ) (n row : ℕ) (r : Bool) → r ≡ (ltb row n && holds (tableOf columns rows) row (definedIn T columns at))
+  pub letter-passing : (columns : ℕ) (rows : List ℤ) (n row : ℕ) (r : Bool) → r ≡ (ltb row n && holds (tableOf columns rows) row (conditionIn T columns at))
       → r ≡ passesBy (holdsIn T tests columns rows) n (codeAt T q) row
   letter-passing columns rows n row r d =
-      letter-is T tests columns rows n (codeAt T q) row r c (d ∙ ap (λ (a : ℕ). ltb row n && holds (tableOf columns rows) row (definedIn T columns a)) (e .0 ∙ p q l c))
+      letter-is T tests columns rows n (codeAt T q) row r c (d ∙ ap (λ (a : ℕ). ltb row n && holds (tableOf columns rows) row (conditionIn T columns a)) (e .0 ∙ p q l c))
 
 -- the code c that was read is the place's, and the letter was asked whether it passes
 pub low-code : (c k : ℕ) → (c ≡ k) × (c < 65536) → c < 26 → k < 26

@@ -1,11 +1,11 @@
 -- Laws of the values of fields: each is one way through one function.
 use mathlib.Core.Path.{_≡_, refl, sym, _∙_}
 use mathlib.Core.Bool.{Bool, true, false, not, _&&_, _||_}
-use Prim.Native.Nat.{ℕ, _-_, _≤_, _<_}
+use Prim.Native.Nat.{ℕ, _+_, _-_, _≤_, _<_}
 use native.Mathlib.Omega.{arith}
 use lib.Dec.{eqb, ltb, leb}
 use borrow.Author.Tests.{eq-eqb, ne-eqb, lt-ltb, le-ltb, le-leb, leb-true, leb-false}
-use Rattle.rules.specs.Basics.{inRange, isLetter, signed8}
+use Rattle.rules.specs.Basics.{pick, inRange, isLetter, signed8}
 use Rattle.rules.specs.Query.{offsetFits, leftFits, rightFits, functionFits}
 
 -- ---- an offset byte
@@ -55,3 +55,24 @@ pub function-is : (columns function letter column : ℕ) (a b b0 b1 c d d0 d1 d2
     → r ≡ functionFits columns function letter column
 unfolding functionFits isLetter
 function-is columns function letter column a b b0 b1 c d d0 d1 d2 u v r e0 e1 e2 e3 e4 e5 e6 e7 e8 e9 e10 e11 = rw (← e10, ← e11, ← e9, ← e8, ← e7, ← e6, ← e5, ← e4, ← e3, ← e2, ← e1) e0
+
+-- ---- entries of kind 6
+
+pub bytes-comparison : (tag : ℕ) → tag ≡ 0 → (_≡_ {A = ℕ} 13 (pick (eqb tag 0) 13 1)) × (13 ≤ 13)
+bytes-comparison tag h = (simp (eq-eqb tag 0 h), omega arith)
+
+pub bytes-operator : (tag : ℕ) → (tag ≡ 0 → ⊥) → (_≡_ {A = ℕ} 1 (pick (eqb tag 0) 13 1)) × (1 ≤ 13)
+bytes-operator tag h = (simp (ne-eqb tag 0 h), omega arith)
+
+module _ (tag d : ℕ) where
+  pub after-comparison : tag ≡ 0 → d + 1 ≡ pick (eqb tag 0) (d + 1) (pick (eqb tag 3) d (d - 1))
+  after-comparison h = simp (eq-eqb tag 0 h)
+
+  pub after-not : (tag ≡ 0 → ⊥) → tag ≡ 3 → d ≡ pick (eqb tag 0) (d + 1) (pick (eqb tag 3) d (d - 1))
+  after-not g h = simp (ne-eqb tag 0 g, eq-eqb tag 3 h)
+
+  pub after-short : (tag ≡ 0 → ⊥) → (tag ≡ 3 → ⊥) → d ≡ 0 → 0 ≡ pick (eqb tag 0) (d + 1) (pick (eqb tag 3) d (d - 1))
+  after-short g h z = simp (ne-eqb tag 0 g, ne-eqb tag 3 h) (omega arith)
+
+  pub after-two : (tag ≡ 0 → ⊥) → (tag ≡ 3 → ⊥) → d - 1 ≡ pick (eqb tag 0) (d + 1) (pick (eqb tag 3) d (d - 1))
+  after-two g h = simp (ne-eqb tag 0 g, ne-eqb tag 3 h)

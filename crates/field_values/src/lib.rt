@@ -3,10 +3,16 @@
 // computed and joined by both and either.
 ghost use mathlib.Core.Path.{_≡_};
 ghost use mathlib.Core.Bool.{not, _&&_, _||_};
-ghost use Prim.Native.Nat.{_<_};
+ghost use Prim.Native.Nat.{_+_, _-_, _≤_, _<_};
 ghost use lib.Dec.{ltb, leb, eqb};
-ghost use Rattle.rules.specs.Basics.{inRange};
+ghost use Rattle.rules.specs.Basics.{pick, inRange};
 ghost use Rattle.rules.specs.Query.{offsetFits, leftFits, rightFits, functionFits};
+
+// The first byte of an entry of kind 6 is 0 where a comparison stands behind it, or 1, 2 or 3 for
+// AND, OR or NOT.
+pub const COMPARISON: usize = 0;
+
+pub const NOT: usize = 3;
 
 pub fn both(a: bool, b: bool) -> bool
     ensures { λ r. ⌜ r ≡ (a && b) ⌝ }
@@ -95,4 +101,32 @@ pub fn function_fits(columns: usize, function: usize, letter: usize, column: usi
     let inside = less(column, columns);
     let counting = either(negated(same(function, 1)), same(column, 0));
     both(known, both(lettered, both(inside, counting)))
+}
+
+// How many bytes an entry of kind 6 takes, by its first byte.
+pub fn entry_bytes(tag: usize) -> usize
+    ensures { λ r. ⌜ (r ≡ pick (eqb tag 0) 13 1) × (r ≤ 13) ⌝ }
+{
+    if tag == COMPARISON {
+        return 13;
+    }
+    1
+}
+
+// How many results there are behind an entry, by its first byte and the results before it; 0 where
+// it runs short.
+pub fn results_after(tag: usize, results: usize) -> usize
+    requires { ⌜ results < 256 ⌝ }
+    ensures { λ r. ⌜ r ≡ pick (eqb tag 0) (results + 1) (pick (eqb tag 3) results (results - 1)) ⌝ }
+{
+    if tag == COMPARISON {
+        return results + 1;
+    }
+    if tag == NOT {
+        return results;
+    }
+    if results == 0 {
+        return 0;
+    }
+    results - 1
 }

@@ -1,5 +1,7 @@
 pub mod Lists
 pub mod Signed
+pub mod Truths
+pub mod Formulas
 pub mod GrammarSound
 pub mod GrammarComplete
 pub mod Grammar

@@ -263,7 +263,7 @@ module _ (f : ℕ → Bool) (holds₁ holds₂ : ℕ → ℕ → Bool) (n₁ n�
       }
 
 -- a letter at a row of a task
-holds-is : (q : List ℕ) (rows : List ℤ) (c i : ℕ) → letterHolds (taskOf q rows) c i ≡ holds (tableOf (columnsOf q) rows) i (parts q .comparisons c)
+holds-is : (q : List ℕ) (rows : List ℤ) (c i : ℕ) → letterHolds (taskOf q rows) c i ≡ holds (tableOf (columnsOf q) rows) i (parts q .condition c)
 unfolding letterHolds taskOf parts
 holds-is q rows c i = refl
 
@@ -308,5 +308,5 @@ module _ (s : Named) (ok : Begins-well s) (rows₁ rows₂ : List ℤ) (n₁ n�
   letters-agree c i a h =
       holds-is (s .query) (presentRows (s .query) rows₁ n₁) c i
       ∙ holds-same (tableOf (columnsOf (s .query)) (presentRows (s .query) rows₁ n₁)) (tableOf (columnsOf (s .query)) (presentRows (s .query) rows₂ n₂)) tables-extend
-      (parts (s .query) .comparisons c) i (comparisons-fit (s .query) (fitting s ok) c) a (rw (now-rows s ok rows₁ n₁ lot₁) h)
+      (parts (s .query) .condition c) i (comparisons-fit (s .query) (fitting s ok) c) a (rw (now-rows s ok rows₁ n₁ lot₁) h)
       ∙ sym (holds-is (s .query) (presentRows (s .query) rows₂ n₂) c i)

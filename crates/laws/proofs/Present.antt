@@ -1,7 +1,7 @@
 -- Rows that are present and rows that come later (R-11): a comparison that reads no row behind its
 -- own, and so a letter, is the same at a row that is present whatever comes behind it; and so are
 -- the numbers of a match whose rows are present.
-use mathlib.Core.Path.{_≡_, refl, ap, ap₂, sym}
+use mathlib.Core.Path.{_≡_, refl, ap, ap₂, sym, _∙_}
 use mathlib.Core.Bool.{Bool, true, false, not, _&&_, _||_, cond}
 use mathlib.Core.List.{List, [], _∷_, _++_}
 use mathlib.Core.Option.{some}
@@ -14,8 +14,8 @@ use lib.Signed.{ltZ}
 use lib.ListN.{length, getD}
 use borrow.Author.Tests.{ltb-true, ltb-false, lt-ltb, eqb-true, not-true, ne-eqb}
 use Rattle.rules.specs.Basics.{pick, keep, every, everyBelow, tabulate, inRange, isLetter}
-use Rattle.rules.specs.Rows.{Table, entry, entryAt, Comparison, plusNumber, rightSide, metBy, met, holds}
-use Rattle.rules.specs.Query.{Record, field, offsetFits, leftFits, rightFits, comparisonFits, defineFits, functionFits, measureFits, recordFits, columnsOf, records, unfit, comparisonAt, comparisonsOf, comparisonsFrom, Measure, measureAt, measuresFrom, parts}
+use Rattle.rules.specs.Rows.{Table, entry, entryAt, Comparison, plusNumber, rightSide, Truth, truthAnd, truthBy, truth, isYes, Entry, compared, conj, disj, neg, Condition, allOf, postfix, resultOn, resultsOf, latest, allTruth, conditionTruth, holds, comparedIn, comparisonsIn}
+use Rattle.rules.specs.Query.{Record, field, offsetFits, leftFits, rightFits, comparisonFits, defineFits, functionFits, measureFits, entryBytes, entryFits, readEntry, entriesFit, entriesEnd, readEntries, entriesOf, leavesOne, postfixFits, recordFits, columnsOf, records, unfit, comparisonAt, comparisonsOf, isDefine, conditionOf, conditionFrom, Measure, measureAt, measuresFrom, parts}
 use Rattle.rules.specs.Places.{Place}
 use Rattle.rules.specs.Search.{Match, labels}
 use Rattle.rules.specs.Report.{values, measured, measureNumbers, matchNumbers, numbersOf}
@@ -71,7 +71,7 @@ define-columns s columns r e =
     every-tabulate (columnsFit columns) (λ k. comparisonFits s columns (r .start + 2 + k * 12)) (λ k. comparisonAt s (r .start + 2 + k * 12))
     (λ k h. comparison-columns s columns (r .start + 2 + k * 12) h) (field s r 1) a
 
-record-define : (s : List ℕ) (columns : ℕ) (r : Record) → r .kind ≡ 3 → recordFits s columns r ≡ true → defineFits s columns r ≡ true
+pub record-define : (s : List ℕ) (columns : ℕ) (r : Record) → r .kind ≡ 3 → recordFits s columns r ≡ true → defineFits s columns r ≡ true
 unfolding recordFits
 record-define s columns r k e =
     let z₁ : eqb (r .kind) 1 ≡ false = ne-eqb (r .kind) 1 (λ q. omega arith) in
@@ -89,14 +89,64 @@ record-measure s columns r k e =
     let z₅ : eqb (r .kind) 5 ≡ true = rw k in
     rw (z₁, z₂, z₃, z₄, z₅) at e
 
-from-columns : (s : List ℕ) (columns : ℕ) (rs : List Record) (c : ℕ) → every (recordFits s columns) rs ≡ true → every (columnsFit columns) (comparisonsFrom s rs c) ≡ true
-unfolding every comparisonsFrom
-from-columns s columns [] c e = refl
-from-columns s columns (r ∷ rs) c e = go (eqb (r .kind) 3 && eqb (field s r 0) c) refl (from-columns s columns rs c (and-true (recordFits s columns r) (every (recordFits s columns) rs) e .1))
+pub record-postfix : (s : List ℕ) (columns : ℕ) (r : Record) → r .kind ≡ 6 → recordFits s columns r ≡ true → postfixFits s columns r ≡ true
+unfolding recordFits
+record-postfix s columns r k e =
+    let z₁ : eqb (r .kind) 1 ≡ false = ne-eqb (r .kind) 1 (λ q. omega arith) in
+    let z₂ : eqb (r .kind) 2 ≡ false = ne-eqb (r .kind) 2 (λ q. omega arith) in
+    let z₃ : eqb (r .kind) 3 ≡ false = ne-eqb (r .kind) 3 (λ q. omega arith) in
+    let z₄ : eqb (r .kind) 4 ≡ false = ne-eqb (r .kind) 4 (λ q. omega arith) in
+    let z₅ : eqb (r .kind) 5 ≡ false = ne-eqb (r .kind) 5 (λ q. omega arith) in
+    let z₆ : eqb (r .kind) 6 ≡ true = rw k in
+    rw (z₁, z₂, z₃, z₄, z₅, z₆) at e
+
+-- the columns of the comparisons among an entry's, and the entries', bytes
+entry-columns : (s : List ℕ) (columns p : ℕ) (es : List Entry) → entryFits s columns p ≡ true → every (columnsFit columns) (comparedIn es) ≡ true
+    → every (columnsFit columns) (comparedIn (readEntry s p ∷ es)) ≡ true
+unfolding entryFits readEntry comparedIn every
+entry-columns s columns p es e ih = go (eqb (getD s p 0) 0) refl (eqb (getD s p 0) 1) (eqb (getD s p 0) 2)
   where
-    go : (t : Bool) → (eqb (r .kind) 3 && eqb (field s r 0) c) ≡ t → every (columnsFit columns) (comparisonsFrom s rs c) ≡ true
-        → every (columnsFit columns) (pick t (comparisonsOf s r) (comparisonsFrom s rs c)) ≡ true
-    go true d ih = define-columns s columns r (record-define s columns r (eqb-true (r .kind) 3 (and-true (eqb (r .kind) 3) (eqb (field s r 0) c) d .0)) (and-true (recordFits s columns r) (every (recordFits s columns) rs) e .0))
+    go : (t : Bool) → eqb (getD s p 0) 0 ≡ t → (u v : Bool)
+        → every (columnsFit columns) (comparedIn (pick t (compared (comparisonAt s (p + 1))) (pick u conj (pick v disj neg)) ∷ es)) ≡ true
+    go true d u v = let a : comparisonFits s columns (p + 1) ≡ true = rw d at e in rw (comparison-columns s columns (p + 1) a) ih
+    go false d true v = ih
+    go false d false true = ih
+    go false d false false = ih
+
+entries-columns : (s : List ℕ) (columns k p : ℕ) → entriesFit s columns k p ≡ true → every (columnsFit columns) (comparedIn (readEntries s k p)) ≡ true
+unfolding entriesFit readEntries comparedIn every
+entries-columns s columns zero p e = refl
+entries-columns s columns (suc k) p e =
+    let c = and-true (entryFits s columns p) (entriesFit s columns k (p + entryBytes s p)) e in
+    entry-columns s columns p (readEntries s k (p + entryBytes s p)) (c .0) (entries-columns s columns k (p + entryBytes s p) (c .1))
+
+postfix-columns : (s : List ℕ) (columns : ℕ) (r : Record) → postfixFits s columns r ≡ true → every (columnsFit columns) (comparedIn (entriesOf s r)) ≡ true
+unfolding postfixFits entriesOf
+postfix-columns s columns r e =
+    let last : Bool = leavesOne 0 (readEntries s (field s r 1) (r .start + 2)) in
+    let fit : Bool = entriesFit s columns (field s r 1) (r .start + 2) in
+    let z = and-true (eqb (r .len + r .start) (entriesEnd s (field s r 1) (r .start + 2))) (isLetter (field s r 0) && (inRange 1 16 (field s r 1) && (fit && last))) e .1 in
+    let y = and-true (isLetter (field s r 0)) (inRange 1 16 (field s r 1) && (fit && last)) z .1 in
+    let x = and-true (inRange 1 16 (field s r 1)) (fit && last) y .1 in
+    entries-columns s columns (field s r 1) (r .start + 2) (and-true fit last x .0)
+
+condition-columns : (s : List ℕ) (columns : ℕ) (r : Record) → isDefine (r .kind) ≡ true → recordFits s columns r ≡ true → every (columnsFit columns) (comparisonsIn (conditionOf s r)) ≡ true
+unfolding conditionOf isDefine comparisonsIn
+condition-columns s columns r d e = go (eqb (r .kind) 3) refl d
+  where
+    go : (t : Bool) → eqb (r .kind) 3 ≡ t → (t || eqb (r .kind) 6) ≡ true → every (columnsFit columns) (comparisonsIn (pick t (allOf (comparisonsOf s r)) (postfix (entriesOf s r)))) ≡ true
+    go true k w = define-columns s columns r (record-define s columns r (eqb-true (r .kind) 3 k) e)
+    go false k w = postfix-columns s columns r (record-postfix s columns r (eqb-true (r .kind) 6 w) e)
+
+from-columns : (s : List ℕ) (columns : ℕ) (rs : List Record) (c : ℕ) → every (recordFits s columns) rs ≡ true → every (columnsFit columns) (comparisonsIn (conditionFrom s rs c)) ≡ true
+unfolding every conditionFrom comparisonsIn
+from-columns s columns [] c e = refl
+from-columns s columns (r ∷ rs) c e =
+    go (isDefine (r .kind) && eqb (field s r 0) c) refl (from-columns s columns rs c (and-true (recordFits s columns r) (every (recordFits s columns) rs) e .1))
+  where
+    go : (t : Bool) → (isDefine (r .kind) && eqb (field s r 0) c) ≡ t → every (columnsFit columns) (comparisonsIn (conditionFrom s rs c)) ≡ true
+        → every (columnsFit columns) (comparisonsIn (pick t (conditionOf s r) (conditionFrom s rs c))) ≡ true
+    go true d ih = condition-columns s columns r (and-true (isDefine (r .kind)) (eqb (field s r 0) c) d .0) (and-true (recordFits s columns r) (every (recordFits s columns) rs) e .0)
     go false d ih = ih
 
 function-column : (columns f l c : ℕ) → functionFits columns f l c ≡ true → ltb c columns ≡ true
@@ -122,7 +172,7 @@ from-measures s columns (r ∷ rs) e = go (eqb (r .kind) 5) refl (from-measures 
     go true d ih = rw (measure-column s columns r (record-measure s columns r (eqb-true (r .kind) 5 d) (and-true (recordFits s columns r) (every (recordFits s columns) rs) e .0))) ih
     go false d ih = ih
 
-records-fit : (q : List ℕ) → unfit q ≡ false → every (recordFits q (columnsOf q)) (records q) ≡ true
+pub records-fit : (q : List ℕ) → unfit q ≡ false → every (recordFits q (columnsOf q)) (records q) ≡ true
 unfolding unfit
 records-fit q e = flip (every (recordFits q (columnsOf q)) (records q)) e
   where
@@ -130,7 +180,7 @@ records-fit q e = flip (every (recordFits q (columnsOf q)) (records q)) e
     flip true e = refl
     flip false e = sym e
 
-pub comparisons-fit : (q : List ℕ) → unfit q ≡ false → (c : ℕ) → every (columnsFit (columnsOf q)) (parts q .comparisons c) ≡ true
+pub comparisons-fit : (q : List ℕ) → unfit q ≡ false → (c : ℕ) → every (columnsFit (columnsOf q)) (comparisonsIn (parts q .condition c)) ≡ true
 unfolding parts
 comparisons-fit q e c = from-columns q (columnsOf q) (records q) c (records-fit q e)
 
@@ -174,21 +224,43 @@ module _ (t₁ t₂ : Table) (ext : Extends t₁ t₂) where
       go true e = ap (plusNumber (x .number)) (entry-same (pos row +ℤ x .rightOffset) (x .right) (moved (t₁ .n) row (x .rightOffset) o h) (ltb-true (x .right) (t₁ .columns) e))
       go false e = refl
 
-  met-same : (x : Comparison) (row : ℕ) → columnsFit (t₁ .columns) x ≡ true → ahead x ≡ false → row < t₁ .n → met t₁ row x ≡ met t₂ row x
-  unfolding met ahead columnsFit
-  met-same x row f a h =
+  truth-same : (x : Comparison) (row : ℕ) → columnsFit (t₁ .columns) x ≡ true → ahead x ≡ false → row < t₁ .n → truth t₁ row x ≡ truth t₂ row x
+  unfolding truth ahead columnsFit
+  truth-same x row f a h =
       let o = or-false _ _ a in
       let c = ltb-true (x .left) (t₁ .columns) (and-true _ _ f .0) in
-      ap₂ (metBy (x .operator)) (entry-same (pos row +ℤ x .leftOffset) (x .left) (moved (t₁ .n) row (x .leftOffset) (o .0) h) c) (right-same x row f (o .1) h)
+      ap₂ (truthBy (x .operator)) (entry-same (pos row +ℤ x .leftOffset) (x .left) (moved (t₁ .n) row (x .leftOffset) (o .0) h) c) (right-same x row f (o .1) h)
 
-  -- whether a letter holds at a row that is present does not depend on the rows behind
-  pub holds-same : (cs : List Comparison) (row : ℕ) → every (columnsFit (t₁ .columns)) cs ≡ true → every (λ x. not (ahead x)) cs ≡ true → row < t₁ .n → holds t₁ row cs ≡ holds t₂ row cs
-  unfolding holds every
-  holds-same [] row f a h = refl
-  holds-same (x ∷ cs) row f a h =
+  all-same : (cs : List Comparison) (row : ℕ) → every (columnsFit (t₁ .columns)) cs ≡ true → every (λ x. not (ahead x)) cs ≡ true → row < t₁ .n → allTruth t₁ row cs ≡ allTruth t₂ row cs
+  unfolding allTruth every
+  all-same [] row f a h = refl
+  all-same (x ∷ cs) row f a h =
       let c = and-true _ _ f in
       let b = and-true _ _ a in
-      ap₂ (λ (u v : Bool). u && v) (met-same x row (c .0) (not-true (ahead x) (b .0)) h) (holds-same cs row (c .1) (b .1) h)
+      ap₂ truthAnd (truth-same x row (c .0) (not-true (ahead x) (b .0)) h) (all-same cs row (c .1) (b .1) h)
+
+  results-same : (es : List Entry) (row : ℕ) (rs : List Truth) → every (columnsFit (t₁ .columns)) (comparedIn es) ≡ true → every (λ x. not (ahead x)) (comparedIn es) ≡ true → row < t₁ .n
+      → resultsOf t₁ row es rs ≡ resultsOf t₂ row es rs
+  unfolding resultsOf resultOn comparedIn every
+  results-same [] row rs f a h = refl
+  results-same (compared x ∷ es) row rs f a h =
+      let c = and-true _ _ f in
+      let b = and-true _ _ a in
+      ap (λ (v : Truth). resultsOf t₁ row es (v ∷ rs)) (truth-same x row (c .0) (not-true (ahead x) (b .0)) h) ∙ results-same es row (truth t₂ row x ∷ rs) (c .1) (b .1) h
+  results-same (conj ∷ es) row [] f a h = results-same es row [] f a h
+  results-same (conj ∷ es) row (u ∷ []) f a h = results-same es row (u ∷ []) f a h
+  results-same (conj ∷ es) row (u ∷ (v ∷ rs)) f a h = results-same es row _ f a h
+  results-same (disj ∷ es) row [] f a h = results-same es row [] f a h
+  results-same (disj ∷ es) row (u ∷ []) f a h = results-same es row (u ∷ []) f a h
+  results-same (disj ∷ es) row (u ∷ (v ∷ rs)) f a h = results-same es row _ f a h
+  results-same (neg ∷ es) row [] f a h = results-same es row [] f a h
+  results-same (neg ∷ es) row (u ∷ rs) f a h = results-same es row _ f a h
+
+  -- whether a letter holds at a row that is present does not depend on the rows behind
+  pub holds-same : (c : Condition) (row : ℕ) → every (columnsFit (t₁ .columns)) (comparisonsIn c) ≡ true → every (λ x. not (ahead x)) (comparisonsIn c) ≡ true → row < t₁ .n → holds t₁ row c ≡ holds t₂ row c
+  unfolding holds conditionTruth comparisonsIn
+  holds-same (allOf cs) row f a h = ap isYes (all-same cs row f a h)
+  holds-same (postfix es) row f a h = ap (λ (rs : List Truth). isYes (latest rs)) (results-same es row [] f a h)
 
   -- ---- numbers
 

@@ -4,13 +4,15 @@
 // of a number and nothing else; those behind it are looked at only where it is met. A first
 // comparison with a column and one with a number are two ways from end to end: where they were one
 // again behind the test, its answer would be kept as a number and tested once more.
+// A letter whose DEFINE is of kind 6 has a way of its own (crates/conditions).
 // Promise: no letter holds at position n, behind the last row; at a row the answer is `holds` of
-// the rules, of the comparisons that the words tell. Weakness: the comparisons behind the first
+// the rules, of the condition that the words tell. Weakness: the comparisons behind the first
 // stand in another part of the table, and are judged in the order of the query.
 use comparisons::entry;
 use comparisons::far_back;
 use comparisons::first_unmet;
 use comparisons::index_at;
+use conditions::condition_holds;
 use intervals::difference;
 use intervals::inside_at;
 use table::Extent;
@@ -21,7 +23,7 @@ ghost use Prim.Native.Nat.{_+_, _*_, _-_, _≤_, _<_};
 ghost use lib.Dec.{ltb, eqb};
 ghost use lib.ListN.{length, getD};
 ghost use Rattle.rules.specs.Rows.{tableOf, holds};
-ghost use Rattle.table.specs.Tests.{definedIn, First, LetterAt, Letters};
+ghost use Rattle.table.specs.Tests.{conditionIn, First, LetterAt, Letters};
 ghost use Rattle.comparisons.specs.Spots.{readMet, firstUnmet};
 
 // Which words of a letter are what: where the comparisons behind the first stand, the spots of the
@@ -36,11 +38,13 @@ const KIND: usize = 7;
 
 const INTERVAL: usize = 8;
 
-// How a letter is tested: by a first comparison whose right side has a column, or is a number. A
-// letter that is tested in no way is free.
+// How a letter is tested: by a first comparison whose right side has a column, or is a number; not
+// at all, as it is free; any other by its entries.
 const COLUMN: usize = 1;
 
 const NUMBER: usize = 0;
+
+const FREE: usize = 2;
 
 // Whether the first comparison is met, of the letter whose words begin at word `at`, at the row to
 // whose first entry `from` belongs: its right side has a column.
@@ -87,7 +91,7 @@ fn others_met(table: &[u16], at: usize, count: usize, rows: &[i32], from: u64) -
 // Whether the letter whose words begin at word `at` holds at a row.
 pub fn letter_holds(table: &[u16], rows: &[i32], size: Extent, at: usize, row: usize) -> bool
     requires { ⌜ (row ≤ size .rows) × LetterAt (size .tests) at × Letters (now table) (size .tests) (now rows) (size .columns) (size .rows) ⌝ }
-    ensures { λ r. ⌜ r ≡ (ltb row (size .rows) && holds (tableOf (size .columns) (now (rows .entry))) row (definedIn (now (table .entry)) (size .columns) at)) ⌝ }
+    ensures { λ r. ⌜ r ≡ (ltb row (size .rows) && holds (tableOf (size .columns) (now (rows .entry))) row (conditionIn (now (table .entry)) (size .columns) at)) ⌝ }
 {
     if row >= size.rows {
         return false;
@@ -106,5 +110,8 @@ pub fn letter_holds(table: &[u16], rows: &[i32], size: Extent, at: usize, row: u
         }
         return others_met(table, at, word_at(table, at), rows, from);
     }
-    true
+    if kind == FREE {
+        return true;
+    }
+    condition_holds(table, at, rows, from)
 }

@@ -14,7 +14,7 @@ use lib.ListN.{length}
 use borrow.Author.Tests.{ltb-true, ltb-false, lt-ltb, le-ltb, ne-eqb}
 use Rattle.rules.specs.Basics.{pick}
 use Rattle.rules.specs.Rows.{Table}
-use Rattle.rules.specs.Query.{Measure, misplaced, unfit, textOf, parts}
+use Rattle.rules.specs.Query.{Measure, textOf, parts}
 use Rattle.rules.specs.Language.{Tree, pattern, Written}
 use Rattle.rules.specs.Preferment.{Preferred, NoneParses, Reports, finished, unmatched, matched}
 use Rattle.rules.specs.Search.{done, pastLast, toNext, nextStart}
@@ -27,7 +27,6 @@ use Rattle.laws.proofs.DerivationReadings.{parses-word}
 use Rattle.laws.proofs.FirstDemand.{unrefused-by}
 use Rattle.laws.proofs.Grammar.{one-tree}
 use Rattle.laws.proofs.GreatestDerivation.{greatest-same}
-use Rattle.search.specs.Promise.{Promised}
 use Rattle.modes.specs.Chosen.{behind, chosenFrom, chosen, inMode, OneFromOther}
 use Rattle.modes.proofs.Done.{written, told}
 use Rattle.modes.proofs.SkipByte.{SameButSkip, same-but-skip, mode-set}
@@ -151,7 +150,7 @@ module _ (q q′ : List ℕ) (rows : List ℤ) (same : SameButSkip q q′) where
 
   same-holds : letterHolds (taskOf q′ rows) ≡ letterHolds (taskOf q rows)
   unfolding letterHolds taskOf
-  same-holds = fun-ext (λ c. fun-ext (λ i. rw (same .columns, same .comparisons c)))
+  same-holds = fun-ext (λ c. fun-ext (λ i. rw (same .columns, same .condition c)))
 
   same-measured : taskOf q′ rows .measures ≡ taskOf q rows .measures
   unfolding taskOf

@@ -1,20 +1,31 @@
 -- A query with another skip mode differs in one byte, and so in nothing else that a query says: its
--- records, its columns, its text, its letters' comparisons and its measures are the same.
+-- records, its columns, its text, its letters' conditions and its measures are the same.
 use mathlib.Core.Path.{_≡_, refl, sym, ap, ap₂, _∙_}
 use mathlib.Core.Bool.{Bool, true, false, not, _&&_, _||_, true≢false, false≢true}
 use mathlib.Core.List.{List, [], _∷_, _++_}
 use mathlib.Core.Logic.{_⊎_, inl, inr}
 use Prim.Native.Nat.{ℕ, zero, suc, _+_, _*_, _-_, _≤_, _<_}
 use native.Mathlib.Omega.{arith}
-use lib.Dec.{ltb, leb, eqb}
+use lib.Dec.{leb, eqb}
 use lib.ListN.{length, getD, set, take, drop, length-set}
 use lib.Seq.{getD-set-same, getD-set-other, take-set-le, drop-set-lt, drop-set-add}
-use borrow.Author.Tests.{leb-true, eqb-true, eq-eqb, eqb-false, ne-eqb}
-use Rattle.rules.specs.Basics.{pick, every, tabulate, keep, has, le16, le32, signed8, signed32}
-use Rattle.rules.specs.Rows.{Comparison}
-use Rattle.rules.specs.Query.{Record, wholeAt, recordAt, nextAt, recordsOn, recordsFrom, records, oneOf, someOf, noneLeft, inOrder, kinds, misplaced, firstOfKind, field, defineFits, skipFits, recordFits, columnsOf, unfit, textOf, comparisonAt, comparisonsOf, comparisonsFrom, Measure, measureAt, measuresFrom, parts}
+use borrow.Author.Tests.{leb-true, eqb-true, eqb-false}
+use Rattle.rules.specs.Basics.{pick, every, tabulate, keep, has, le16, le32}
+use Rattle.rules.specs.Rows.{Entry, compared, conj, disj, neg}
+use Rattle.rules.specs.Query.{Record, wholeAt, recordAt, nextAt, recordsOn, recordsFrom, records, oneOf, someOf, noneLeft, isDefine, isMeasure, inOrder, kinds, misplaced, firstOfKind, field, defineFits, entryBytes, readEntry, entriesEnd, readEntries, entriesOf, postfixFits, skipFits, recordFits, columnsOf, unfit, textOf, comparisonAt, comparisonsOf, conditionOf, conditionFrom, measureAt, measuresFrom, parts}
 use Rattle.laws.proofs.Choice.{and-left, and-right}
+use Rattle.laws.proofs.Truths.{entries-behind}
 use Rattle.modes.specs.Chosen.{skipAt, inMode}
+
+-- ---- a DEFINE is of kind 3 or 6
+
+define-kind : (kind : ℕ) → isDefine kind ≡ true → (kind ≡ 3) ⊎ (kind ≡ 6)
+unfolding isDefine
+define-kind kind h = go (eqb kind 3) refl h
+  where
+    go : (t : Bool) → eqb kind 3 ≡ t → (t || eqb kind 6) ≡ true → (kind ≡ 3) ⊎ (kind ≡ 6)
+    go true e h = inl (eqb-true kind 3 e)
+    go false e h = inr (eqb-true kind 6 h)
 
 -- ---- one byte of a query is another
 
@@ -195,6 +206,59 @@ module _ (q : List ℕ) (k v : ℕ) where
       (tabulate-same (field q r 1) (λ i. comparisonAt q′ (r .start + 2 + i * 12)) (λ i. comparisonAt q (r .start + 2 + i * 12))
       (λ i l. comparison-same (r .start + 2 + i * 12) (λ d h z. apart-at r (2 + i * 12 + d) (omega arith) a (let y : r .start + (2 + i * 12 + d) ≡ k = omega arith in y))))
 
+  -- entries whose bytes, from an index up to the end of the entries, are apart from the byte
+
+  abbrev Away : ℕ → ℕ → Type 0
+  Away a b = (k < a) ⊎ (b ≤ k)
+
+  away-part : (a b c d : ℕ) → a ≤ c → d ≤ b → Away a b → Away c d
+  away-part a b c d g h (inl l) = inl (omega arith)
+  away-part a b c d g h (inr l) = inr (omega arith)
+
+  away-at : (a b i : ℕ) → a ≤ i → i < b → Away a b → i ≡ k → ⊥
+  away-at a b i g h (inl l) e = omega arith
+  away-at a b i g h (inr l) e = omega arith
+
+  entry-long : (p : ℕ) → 1 ≤ entryBytes q p
+  unfolding entryBytes
+  entry-long p = go (eqb (getD q p 0) 0)
+    where
+      go : (t : Bool) → 1 ≤ pick t 13 1
+      go true = omega arith
+      go false = omega arith
+
+  bytes-same : (p : ℕ) → (p ≡ k → ⊥) → entryBytes q′ p ≡ entryBytes q p
+  unfolding entryBytes
+  bytes-same p d = rw (same-at p d)
+
+  entry-same : (p : ℕ) → Away p (p + entryBytes q p) → readEntry q′ p ≡ readEntry q p
+  unfolding readEntry entryBytes
+  entry-same p a = rw (same-at p (away-at p (p + entryBytes q p) p (omega arith) (omega (arith, entry-long p)) a)) (go (eqb (getD q p 0) 0) a)
+    where
+      other : Entry
+      other = pick (eqb (getD q p 0) 1) conj (pick (eqb (getD q p 0) 2) disj neg)
+
+      go : (t : Bool) → Away p (p + pick t 13 1) → pick t (compared (comparisonAt q′ (p + 1))) other ≡ pick t (compared (comparisonAt q (p + 1))) other
+      go true a = ap compared (comparison-same (p + 1) (λ i h e. away-at p (p + 13) (p + 1 + i) (omega arith) (omega arith) a e))
+      go false a = refl
+
+  entries-same : (n p : ℕ) → Away p (entriesEnd q n p) → readEntries q′ n p ≡ readEntries q n p
+  unfolding readEntries entriesEnd
+  entries-same zero p a = refl
+  entries-same (suc n) p a =
+      let e : ℕ = entriesEnd q n (p + entryBytes q p) in
+      let mine : Away p (p + entryBytes q p) = away-part p e p (p + entryBytes q p) (omega arith) (omega (arith, entries-behind q n (p + entryBytes q p) .0)) a in
+      let behind : Away (p + entryBytes q p) e = away-part p e (p + entryBytes q p) e (omega arith) (omega arith) a in
+      rw (entry-same p mine, bytes-same p (away-at p (p + entryBytes q p) p (omega arith) (omega (arith, entry-long p)) mine)) (ap (λ (es : List Entry). readEntry q p ∷ es) (entries-same n (p + entryBytes q p) behind))
+
+  postfix-same : (r : Record) → Apart r → r .len + r .start ≡ entriesEnd q (field q r 1) (r .start + 2) → entriesOf q′ r ≡ entriesOf q r
+  unfolding entriesOf
+  postfix-same r a e = rw (field-same r 1 (omega arith) a) (entries-same (field q r 1) (r .start + 2) (body a))
+    where
+      body : Apart r → Away (r .start + 2) (entriesEnd q (field q r 1) (r .start + 2))
+      body (inl l) = inl (omega arith)
+      body (inr l) = inr (omega (arith, e))
+
   not-four : (r : Record) (n : ℕ) → (n ≡ 4 → ⊥) → r .kind ≡ n → (r .kind ≡ 4) ⊎ Apart r → Apart r
   not-four r n d e (inl f) = absurd (d (sym e ∙ f))
   not-four r n d e (inr b) = b
@@ -204,22 +268,38 @@ module _ (q : List ℕ) (k v : ℕ) where
   unfolding recordFits defineFits
   define-long columns r e h = eqb-true (r .len) (2 + field q r 1 * 12) (and-left (eqb (r .len) (2 + field q r 1 * 12)) _ (rw e at h))
 
+  -- one in postfix ends where its entries end
+  postfix-long : (columns : ℕ) (r : Record) → r .kind ≡ 6 → recordFits q columns r ≡ true → r .len + r .start ≡ entriesEnd q (field q r 1) (r .start + 2)
+  unfolding recordFits postfixFits
+  postfix-long columns r e h =
+      eqb-true (r .len + r .start) (entriesEnd q (field q r 1) (r .start + 2)) (and-left (eqb (r .len + r .start) (entriesEnd q (field q r 1) (r .start + 2))) _ (rw e at h))
+
   skip-long : (columns : ℕ) (r : Record) → r .kind ≡ 4 → recordFits q columns r ≡ true → r .len ≡ 2
   unfolding recordFits skipFits
   skip-long columns r e h = eqb-true (r .len) 2 (and-left (eqb (r .len) 2) _ (rw e at h))
 
-  comparisons-same : (columns : ℕ) (rs : List Record) → AllApart rs → every (recordFits q columns) rs ≡ true → (letter : ℕ) → comparisonsFrom q′ rs letter ≡ comparisonsFrom q rs letter
-  unfolding comparisonsFrom every
-  comparisons-same columns [] a h letter = refl
-  comparisons-same columns (r ∷ rs) (a, b) h letter =
-      go (eqb (r .kind) 3) refl (comparisons-same columns rs b (and-right (recordFits q columns r) (every (recordFits q columns) rs) h) letter)
+  -- a DEFINE of either kind is apart from the byte and asks for the same
+  define-apart : (r : Record) → (r .kind ≡ 3) ⊎ (r .kind ≡ 6) → (r .kind ≡ 4) ⊎ Apart r → Apart r
+  define-apart r (inl e) a = not-four r 3 (λ z. omega arith) e a
+  define-apart r (inr e) a = not-four r 6 (λ z. omega arith) e a
+
+  asks-same : (columns : ℕ) (r : Record) → (r .kind ≡ 3) ⊎ (r .kind ≡ 6) → Apart r → recordFits q columns r ≡ true → conditionOf q′ r ≡ conditionOf q r
+  unfolding conditionOf
+  asks-same columns r (inl e) a h = rw (e, define-same r a (define-long columns r e h))
+  asks-same columns r (inr e) a h = rw (e, postfix-same r a (postfix-long columns r e h))
+
+  conditions-same : (columns : ℕ) (rs : List Record) → AllApart rs → every (recordFits q columns) rs ≡ true → (letter : ℕ) → conditionFrom q′ rs letter ≡ conditionFrom q rs letter
+  unfolding conditionFrom every
+  conditions-same columns [] a h letter = refl
+  conditions-same columns (r ∷ rs) (a, b) h letter =
+      go (isDefine (r .kind)) refl (conditions-same columns rs b (and-right (recordFits q columns r) (every (recordFits q columns) rs) h) letter)
     where
-      go : (t : Bool) → eqb (r .kind) 3 ≡ t → comparisonsFrom q′ rs letter ≡ comparisonsFrom q rs letter
-          → pick (t && eqb (field q′ r 0) letter) (comparisonsOf q′ r) (comparisonsFrom q′ rs letter) ≡ pick (t && eqb (field q r 0) letter) (comparisonsOf q r) (comparisonsFrom q rs letter)
+      go : (t : Bool) → isDefine (r .kind) ≡ t → conditionFrom q′ rs letter ≡ conditionFrom q rs letter
+          → pick (t && eqb (field q′ r 0) letter) (conditionOf q′ r) (conditionFrom q′ rs letter) ≡ pick (t && eqb (field q r 0) letter) (conditionOf q r) (conditionFrom q rs letter)
       go true e ih =
-          let b = not-four r 3 (λ z. omega arith) (eqb-true (r .kind) 3 e) a in
-          let l = define-long columns r (eqb-true (r .kind) 3 e) (and-left (recordFits q columns r) (every (recordFits q columns) rs) h) in
-          rw (field-same r 0 (omega arith) b, define-same r b l, ih)
+          let d = define-kind (r .kind) e in
+          let b = define-apart r d a in
+          rw (field-same r 0 (omega arith) b, asks-same columns r d b (and-left (recordFits q columns r) (every (recordFits q columns) rs) h), ih)
       go false e ih = ih
 
   measures-same : (rs : List Record) → AllApart rs → measuresFrom q′ rs ≡ measuresFrom q rs
@@ -263,19 +343,19 @@ unfolding oneOf has
 behind-one n rest h [] e = absurd (false≢true e)
 behind-one n rest h (x ∷ ks) e = or-right (eqb x 4) (has 4 ks) (h ks (and-right (eqb x n) (rest ks) e))
 
-behind-some : (m n : ℕ) (rest : List ℕ → Bool) → ((ks : List ℕ) → rest ks ≡ true → has 4 ks ≡ true) → (ks : List ℕ) → someOf m n rest ks ≡ true → has 4 ks ≡ true
+behind-some : (m : ℕ) (f : ℕ → Bool) (rest : List ℕ → Bool) → ((ks : List ℕ) → rest ks ≡ true → has 4 ks ≡ true) → (ks : List ℕ) → someOf m f rest ks ≡ true → has 4 ks ≡ true
 unfolding someOf has
-behind-some zero n rest h ks e = h ks e
-behind-some (suc m) n rest h [] e = h [] e
-behind-some (suc m) n rest h (x ∷ ks) e = go (eqb x n) (behind-some m n rest h ks) e
+behind-some zero f rest h ks e = h ks e
+behind-some (suc m) f rest h [] e = h [] e
+behind-some (suc m) f rest h (x ∷ ks) e = go (f x) (behind-some m f rest h ks) e
   where
-    go : (t : Bool) → (someOf m n rest ks ≡ true → has 4 ks ≡ true) → pick t (someOf m n rest ks) (rest (x ∷ ks)) ≡ true → (eqb x 4 || has 4 ks) ≡ true
+    go : (t : Bool) → (someOf m f rest ks ≡ true → has 4 ks ≡ true) → pick t (someOf m f rest ks) (rest (x ∷ ks)) ≡ true → (eqb x 4 || has 4 ks) ≡ true
     go true ih z = or-right (eqb x 4) (has 4 ks) (ih z)
     go false ih z = h (x ∷ ks) z
 
 ordered-4 : (ks : List ℕ) → inOrder ks ≡ true → has 4 ks ≡ true
 unfolding inOrder
-ordered-4 ks e = behind-one 1 _ (behind-one 2 _ (behind-some 26 3 _ (one-4 (someOf 8 5 noneLeft)))) ks e
+ordered-4 ks e = behind-one 1 _ (behind-one 2 _ (behind-some 26 isDefine _ (one-4 (someOf 8 isMeasure noneLeft)))) ks e
 
 not-not : (b : Bool) → not b ≡ false → b ≡ true
 not-not true e = refl
@@ -286,7 +366,7 @@ not-not false e = absurd (true≢false e)
 pub record SameButSkip (q q′ : List ℕ) : Type 0 where
   pub columns : parts q′ .columns ≡ parts q .columns
   pub text : textOf q′ ≡ textOf q
-  pub comparisons : (letter : ℕ) → parts q′ .comparisons letter ≡ parts q .comparisons letter
+  pub condition : (letter : ℕ) → parts q′ .condition letter ≡ parts q .condition letter
   pub measures : parts q′ .measures ≡ parts q .measures
 
 module _ (q : List ℕ) (v : ℕ) (ordered : misplaced q ≡ false) (fitting : unfit q ≡ false) where
@@ -329,9 +409,9 @@ module _ (q : List ℕ) (v : ℕ) (ordered : misplaced q ≡ false) (fitting : u
   unfolding textOf inMode
   same-text = rw same-records (body-same q k v (firstOfKind 2 (records q)) (first-apart q k v 2 (λ e. omega arith) far (records q) apart))
 
-  same-comparisons : (letter : ℕ) → comparisonsFrom (inMode v q) (records (inMode v q)) letter ≡ comparisonsFrom q (records q) letter
+  same-condition : (letter : ℕ) → conditionFrom (inMode v q) (records (inMode v q)) letter ≡ conditionFrom q (records q) letter
   unfolding inMode
-  same-comparisons letter = rw same-records (comparisons-same q k v (columnsOf q) (records q) apart all-fit letter)
+  same-condition letter = rw same-records (conditions-same q k v (columnsOf q) (records q) apart all-fit letter)
 
   same-measures : measuresFrom (inMode v q) (records (inMode v q)) ≡ measuresFrom q (records q)
   unfolding inMode
@@ -339,7 +419,7 @@ module _ (q : List ℕ) (v : ℕ) (ordered : misplaced q ≡ false) (fitting : u
 
   pub same-but-skip : SameButSkip q (inMode v q)
   unfolding parts
-  same-but-skip = record { columns = same-columns; text = same-text; comparisons = same-comparisons; measures = same-measures }
+  same-but-skip = record { columns = same-columns; text = same-text; condition = same-condition; measures = same-measures }
 
   pub mode-set : parts (inMode v q) .skip ≡ v
   unfolding parts field inMode skipAt

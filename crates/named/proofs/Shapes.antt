@@ -9,7 +9,7 @@ use lib.Dec.{eqb, ltb, leb}
 use lib.ListN.{length, getD}
 use borrow.Author.Tests.{eq-eqb, ne-eqb, leb-true, leb-false, le-ltb, lt-ltb, not-false}
 use Rattle.rules.specs.Basics.{pick, keep}
-use Rattle.rules.specs.Query.{Record, wholeAt, recordAt, nextAt, recordsOn, recordsFrom, records, kinds, oneOf, someOf, noneLeft, inOrder, cut, misplaced, unfit, firstOfKind, field, columnsOf, measureAt, measuresFrom, Measure, parts}
+use Rattle.rules.specs.Query.{Record, wholeAt, recordAt, nextAt, recordsOn, recordsFrom, records, kinds, oneOf, someOf, noneLeft, isDefine, isMeasure, inOrder, cut, misplaced, unfit, firstOfKind, field, columnsOf, measureAt, measuresFrom, Measure, parts}
 use Rattle.laws.proofs.Choice.{and-left}
 use Rattle.records.specs.declared.Read.{Read}
 use Rattle.records.specs.declared.Read.the-variants.{Record as Whole, Cut}
@@ -25,7 +25,7 @@ shape-first : (q : List ℕ) (t : Bool) (more : ℕ → List Record) → inOrder
 unfolding inOrder kinds recordsOn firstOfKind field
 shape-first q false more e = absurd (true≢false (sym e))
 shape-first q true more e =
-    let z : eqb (recordAt q 0 .kind) 1 ≡ true = and-left (eqb (recordAt q 0 .kind) 1) (oneOf 2 (someOf 26 3 (oneOf 4 (someOf 8 5 noneLeft))) (kinds (more (nextAt q 0)))) e in
+    let z : eqb (recordAt q 0 .kind) 1 ≡ true = and-left (eqb (recordAt q 0 .kind) 1) (oneOf 2 (someOf 26 isDefine (oneOf 4 (someOf 8 isMeasure noneLeft))) (kinds (more (nextAt q 0)))) e in
     rw z
 
 shape-from : (k : ℕ) (q : List ℕ) → inOrder (kinds (recordsFrom k q 0)) ≡ true → field q (firstOfKind 1 (recordsFrom k q 0)) 0 ≡ getD q 4 0

@@ -12,7 +12,7 @@ use borrow.Author.Tests.{ne-eqb, lt-ltb, le-ltb}
 use Rattle.rules.specs.Report.{bitAt}
 use Rattle.rules.specs.Rows.{tableOf, holds}
 use Rattle.rules.specs.Working.{marked}
-use Rattle.table.specs.Tests.{testAt, definedIn, holdsIn}
+use Rattle.table.specs.Tests.{testAt, conditionIn, holdsIn}
 use Rattle.pairs.specs.declared.Walk.{Walk}
 use Rattle.table.specs.Table.{codeAt, firstAt, countAt}
 use Rattle.pairs.specs.Layout.{layout, P, entryOf, passesBy, mostPairs}
@@ -22,7 +22,7 @@ use Rattle.pairs.proofs.Trying.{letter-in}
 -- ---- a letter
 
 pub letter-is : (T : List ℕ) (tests columns : ℕ) (rows : List ℤ) (n c row : ℕ) (r : Bool) → c < 26
-    → r ≡ (ltb row n && holds (tableOf columns rows) row (definedIn T columns (testAt tests c))) → r ≡ passesBy (holdsIn T tests columns rows) n c row
+    → r ≡ (ltb row n && holds (tableOf columns rows) row (conditionIn T columns (testAt tests c))) → r ≡ passesBy (holdsIn T tests columns rows) n c row
 unfolding holdsIn passesBy
 letter-is T tests columns rows n c row r h d = let z : c + 65 - 65 ≡ c = omega arith in rw (lt-ltb c 26 h, z) d
 

@@ -178,7 +178,7 @@ module _ (s measures₀ nodes defines measures : List ℕ) (q : Query) (a : Aske
           countable = countable s (w .parts .columns) defines (q .letters) (omega (arith, w .good .letters, w .decoded .upto)) (λ l h d. w .decoded .letters l h .body d);
         }
 
-    module _ (k : ℕ) (ek : (k ≡ needed s defines (q .places) (q .letters)) × (k ≤ 3142)) (t : Bool) (et : t ≡ (ltb (length T) k || ltb 65535 (length T))) where
+    module _ (k : ℕ) (ek : (k ≡ needed s defines (q .places) (q .letters)) × (k ≤ 3532)) (t : Bool) (et : t ≡ (ltb (length T) k || ltb 65535 (length T))) where
       pub too-short : t ≡ true → (p : Prepared) → p ≡ refusal 255 0 → PreparedAs s T T p
       too-short f p e =
           rw e
@@ -188,7 +188,7 @@ module _ (s measures₀ nodes defines measures : List ℕ) (q : Query) (a : Aske
             len = refl;
           })
         where
-          by : (b : Bool) → ltb (length T) k ≡ b → 3142 ≤ length T → 65536 ≤ length T
+          by : (b : Bool) → ltb (length T) k ≡ b → 3532 ≤ length T → 65536 ≤ length T
           by true g l = absurd (let y = ltb-true (length T) k g in let x = ek .1 in omega arith)
           by false g l = let y = ltb-true 65535 (length T) (sym (rw g at et) ∙ f) in omega arith
 

@@ -16,7 +16,7 @@ use Rattle.reading.specs.Reading.{queryAnswer, Whole}
 use Rattle.reading.specs.declared.Query.{Query}
 use Rattle.table.specs.Table.{placesIn}
 use Rattle.table.specs.Sized.{Sized}
-use Rattle.table.specs.Tests.{Pointed, Tests, definedIn, testAt}
+use Rattle.table.specs.Tests.{Pointed, Tests, conditionIn, testAt}
 use Rattle.table.specs.Measures.{measuresIn}
 use Rattle.prepared.specs.declared.Prepared.{Prepared}
 use Rattle.table_room.specs.Words.{measuresAt, testsAt, needed}
@@ -38,7 +38,7 @@ pub record Ready (q T : List ℕ) (p : Prepared) : Type 0 where
   pub most-columns : p .columns ≤ 8
   pub tests : Tests T (testsAt (p .places))
   pub pointed : Pointed T (p .places) (testsAt (p .places))
-  pub letters : (l : ℕ) → l < 26 → definedIn T (p .columns) (testAt (testsAt (p .places)) l) ≡ parts q .comparisons (65 + l)
+  pub letters : (l : ℕ) → l < 26 → conditionIn T (p .columns) (testAt (testsAt (p .places)) l) ≡ parts q .condition (65 + l)
   pub measures-are : measuresIn T (measuresAt (p .places)) (p .count) ≡ parts q .measures
   pub count-few : p .count ≤ 8
   pub measurable : Measurable T (measuresAt (p .places)) (p .count) (p .columns)
@@ -55,10 +55,10 @@ pub record Given (q T : List ℕ) (p : Prepared) : Type 0 where
   pub ready : p .answer ≡ 0 → Ready q T p
 
 -- What preparing promises: that, unless it tells that there is no room; and there is, in a table of
--- 3,142 to 65,535 words.
+-- 3,532 to 65,535 words.
 pub record PreparedAs (q T T′ : List ℕ) (p : Prepared) : Type 0 where
   pub given : (p .answer ≡ 255 → ⊥) → Given q T′ p
-  pub no-room : p .answer ≡ 255 → 3142 ≤ length T → 65536 ≤ length T
+  pub no-room : p .answer ≡ 255 → 3532 ≤ length T → 65536 ≤ length T
   pub len : length T′ ≡ length T
 
 -- ---- the steps of the code

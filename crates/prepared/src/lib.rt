@@ -38,8 +38,8 @@ pub struct Prepared {
 pub const NO_ROOM: usize = 255;
 
 // The words that are enough for every query: those of 256 places and their ways, 8 measures, 26
-// letters, and 7 comparisons behind the first of each letter.
-pub const MOST_WORDS: usize = 3142;
+// letters, and of each letter 50 for the entries of a DEFINE of kind 6.
+pub const MOST_WORDS: usize = 3532;
 
 fn not_prepared(answer: usize, offset: usize) -> Prepared
     ensures { λ r. ⌜ r ≡ refusal answer offset ⌝ }

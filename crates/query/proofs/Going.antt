@@ -7,11 +7,11 @@ use Prim.Native.Nat.{ℕ, zero, suc, _+_, _*_, _-_, _≤_, _<_}
 use native.Mathlib.Omega.{arith}
 use lib.Dec.{eqb, leb}
 use lib.ListN.{length, getD}
-use borrow.Author.Tests.{eq-eqb, ne-eqb, eqb-true, eqb-false, leb-true, leb-false, not-false}
+use borrow.Author.Tests.{eq-eqb, ne-eqb, eqb-true, leb-true, leb-false, not-false}
 use Rattle.records.specs.declared.Read.{Read}
 use Rattle.records.specs.declared.Read.the-variants.{Record as Whole, Cut}
 use Rattle.rules.specs.Basics.{pick, inRange, isLetter, every, everyBelow}
-use Rattle.rules.specs.Query.{Record, records, oneOf, someOf, noneLeft, inOrder, kinds, misplaced, field, shapeFits, textFits, comparisonFits, defineFits, skipFits, functionFits, measureFits, recordFits, columnsOf, unfit, cut}
+use Rattle.rules.specs.Query.{Record, records, oneOf, someOf, noneLeft, isDefine, isMeasure, inOrder, kinds, misplaced, field, shapeFits, textFits, comparisonFits, defineFits, entriesFit, entriesEnd, readEntries, entriesOf, leavesOne, postfixFits, skipFits, functionFits, measureFits, recordFits, columnsOf, unfit, cut}
 use Rattle.laws.proofs.Choice.{decided, clash, and-left, and-right}
 use Rattle.records.specs.Read.{recordOf, recordsAt, readAt}
 use Rattle.query.specs.Order.{restOf, firstAnswer}
@@ -43,18 +43,24 @@ module _ (k : ℕ) (rest : List ℕ → Bool) (x : ℕ) (ks : List ℕ) where
   unfolding oneOf
   one-in e = (eqb-true x k (and-left (eqb x k) (rest ks) e), and-right (eqb x k) (rest ks) e)
 
-  some-in : (m : ℕ) → (rest (x ∷ ks) ≡ true → ⊥) → x ≡ k → someOf m k rest (x ∷ ks) ≡ true → (0 < m) × (someOf (m - 1) k rest ks ≡ true)
+module _ (f : ℕ → Bool) (rest : List ℕ → Bool) (x : ℕ) (ks : List ℕ) where
+  some-in : (m : ℕ) → (rest (x ∷ ks) ≡ true → ⊥) → f x ≡ true → someOf m f rest (x ∷ ks) ≡ true → (0 < m) × (someOf (m - 1) f rest ks ≡ true)
   unfolding someOf
   some-in zero h e q = absurd (h q)
   some-in (suc m) h e q =
-      let z : someOf m k rest ks ≡ true = simp (eq-eqb x k e) at q in
+      let z : someOf m f rest ks ≡ true = simp e at q in
       let i : suc m - 1 ≡ m = omega arith in
-      (omega arith, ap (λ (j : ℕ). someOf j k rest ks) i ∙ z)
+      (omega arith, ap (λ (j : ℕ). someOf j f rest ks) i ∙ z)
 
-  some-out : (m : ℕ) → (x ≡ k → ⊥) → someOf m k rest (x ∷ ks) ≡ true → rest (x ∷ ks) ≡ true
+  some-out : (m : ℕ) → f x ≡ false → someOf m f rest (x ∷ ks) ≡ true → rest (x ∷ ks) ≡ true
   unfolding someOf
   some-out zero h q = q
-  some-out (suc m) h q = simp (ne-eqb x k h) at q
+  some-out (suc m) h q = simp h at q
+
+-- a DEFINE is not the skip
+define-not-4 : (k : ℕ) → isDefine k ≡ true → k ≡ 4 → ⊥
+unfolding isDefine
+define-not-4 k e q = let z : isDefine k ≡ false = simp (ne-eqb k 3 (λ w. omega arith), ne-eqb k 6 (λ w. omega arith)) in clash (sym z ∙ e)
 
 not-none : (x : ℕ) (ks : List ℕ) → noneLeft (x ∷ ks) ≡ true → ⊥
 unfolding noneLeft
@@ -94,44 +100,44 @@ module _ (s : List ℕ) (a l at : ℕ) (h : Ahead s a l at) where
 
     pub shape-next : a ≡ 0 → (k ≡ 1) × Ahead s 1 0 n
     unfolding restOf
-    shape-next w = let z = one-in 1 (oneOf 2 (someOf 26 3 (oneOf 4 (someOf 8 5 noneLeft)))) k (kinds (recordsAt s n)) (at-stage 0 w) in (z .0, go-on 1 0 (z .1))
+    shape-next w = let z = one-in 1 (oneOf 2 (someOf 26 isDefine (oneOf 4 (someOf 8 isMeasure noneLeft)))) k (kinds (recordsAt s n)) (at-stage 0 w) in (z .0, go-on 1 0 (z .1))
 
     pub text-next : a ≡ 1 → (k ≡ 2) × Ahead s 2 26 n
     unfolding restOf
-    text-next w = let z = one-in 2 (someOf 26 3 (oneOf 4 (someOf 8 5 noneLeft))) k (kinds (recordsAt s n)) (at-stage 1 w) in (z .0, go-on 2 26 (z .1))
+    text-next w = let z = one-in 2 (someOf 26 isDefine (oneOf 4 (someOf 8 isMeasure noneLeft))) k (kinds (recordsAt s n)) (at-stage 1 w) in (z .0, go-on 2 26 (z .1))
 
-    pub define-next : a ≡ 2 → k ≡ 3 → Ahead s 2 (l - 1) n
+    pub define-next : a ≡ 2 → isDefine k ≡ true → Ahead s 2 (l - 1) n
     unfolding restOf
-    define-next w k3 =
-        let z = some-in 3 (oneOf 4 (someOf 8 5 noneLeft)) k (kinds (recordsAt s n)) l (λ u. let y = one-in 4 (someOf 8 5 noneLeft) k (kinds (recordsAt s n)) u in absurd (omega arith)) k3 (at-stage 2 w) in
+    define-next w d =
+        let z = some-in isDefine (oneOf 4 (someOf 8 isMeasure noneLeft)) k (kinds (recordsAt s n)) l (λ u. define-not-4 k d (one-in 4 (someOf 8 isMeasure noneLeft) k (kinds (recordsAt s n)) u .0)) d (at-stage 2 w) in
         go-on 2 (l - 1) (z .1)
 
     -- no DEFINE comes: none may come any more
-    pub defines-over : a ≡ 2 → (k ≡ 3 → ⊥) → Ahead s 2 0 at
+    pub defines-over : a ≡ 2 → isDefine k ≡ false → Ahead s 2 0 at
     unfolding restOf someOf kinds
     defines-over w f =
         record {
           upto = h .upto;
           order = ap (λ (x : List Record). restOf 2 0 (kinds x)) (read-more s at r k b m n e q)
-              ∙ some-out 3 (oneOf 4 (someOf 8 5 noneLeft)) k (kinds (recordsAt s n)) l f (at-stage 2 w);
+              ∙ some-out isDefine (oneOf 4 (someOf 8 isMeasure noneLeft)) k (kinds (recordsAt s n)) l f (at-stage 2 w);
           fits = h .fits;
         }
 
     pub skip-next : a ≡ 2 → l ≡ 0 → (k ≡ 4) × Ahead s 3 8 n
     unfolding restOf someOf
     skip-next w i =
-        let z = one-in 4 (someOf 8 5 noneLeft) k (kinds (recordsAt s n)) (ap (λ (j : ℕ). someOf j 3 (oneOf 4 (someOf 8 5 noneLeft)) (k ∷ kinds (recordsAt s n))) (sym i)
+        let z = one-in 4 (someOf 8 isMeasure noneLeft) k (kinds (recordsAt s n)) (ap (λ (j : ℕ). someOf j isDefine (oneOf 4 (someOf 8 isMeasure noneLeft)) (k ∷ kinds (recordsAt s n))) (sym i)
         ∙ at-stage 2 w) in
         (z .0, go-on 3 8 (z .1))
 
     measure-kind : a ≡ 3 → k ≡ 5
-    unfolding restOf
-    measure-kind w = decided (eqb k 5) (λ t. eqb-true k 5 t) (λ t. absurd (not-none k (kinds (recordsAt s n)) (some-out 5 noneLeft k (kinds (recordsAt s n)) l (eqb-false k 5 t) (at-stage 3 w))))
+    unfolding restOf isMeasure
+    measure-kind w = decided (eqb k 5) (λ t. eqb-true k 5 t) (λ t. absurd (not-none k (kinds (recordsAt s n)) (some-out isMeasure noneLeft k (kinds (recordsAt s n)) l t (at-stage 3 w))))
 
     pub measure-next : a ≡ 3 → (k ≡ 5) × (0 < l) × Ahead s 3 (l - 1) n
-    unfolding restOf
+    unfolding restOf isMeasure
     measure-next w =
-        let z = some-in 5 noneLeft k (kinds (recordsAt s n)) l (not-none k (kinds (recordsAt s n))) (measure-kind w) (at-stage 3 w) in
+        let z = some-in isMeasure noneLeft k (kinds (recordsAt s n)) l (not-none k (kinds (recordsAt s n))) (eq-eqb k 5 (measure-kind w)) (at-stage 3 w) in
         (measure-kind w, z .0, go-on 3 (l - 1) (z .1))
 
 -- ---- what the fields of a kind are
@@ -218,4 +224,39 @@ define-says s columns k b m e h =
       one = leb-true 1 (getD s (b + 1) 0) (and-left _ _ u);
       few = leb-true (getD s (b + 1) 0) 8 (and-right (leb 1 (getD s (b + 1) 0)) _ u);
       each = everyBelow-each (getD s (b + 1) 0) (λ i. comparisonFits s columns (b + 2 + i * 12)) (and-right (leb 1 (getD s (b + 1) 0) && leb (getD s (b + 1) 0) 8) _ r);
+    }
+
+-- ---- a DEFINE of kind 6
+
+pub record SaysEntries (s : List ℕ) (columns b m : ℕ) : Type 0 where
+  pub ends : m + b ≡ entriesEnd s (getD s (b + 1) 0) (b + 2)
+  pub low : 65 ≤ getD s b 0
+  pub high : getD s b 0 ≤ 90
+  pub one : 1 ≤ getD s (b + 1) 0
+  pub few : getD s (b + 1) 0 ≤ 16
+  pub fit : entriesFit s columns (getD s (b + 1) 0) (b + 2) ≡ true
+  pub leaves : leavesOne 0 (readEntries s (getD s (b + 1) 0) (b + 2)) ≡ true
+
+pub postfix-says : (s : List ℕ) (columns k b m : ℕ) → recordFits s columns (recordOf k b m) ≡ true → k ≡ 6 → SaysEntries s columns b m
+unfolding recordFits postfixFits entriesOf isLetter inRange field
+postfix-says s columns k b m e h =
+    let f : (eqb (m + b) (entriesEnd s (getD s (b + 1) 0) (b + 2)) && ((leb 65 (getD s (b + 0) 0) && leb (getD s (b + 0) 0) 90) && ((leb 1 (getD s (b + 1) 0) && leb (getD s (b + 1) 0) 16)
+    && (entriesFit s columns (getD s (b + 1) 0) (b + 2) && leavesOne 0 (readEntries s (getD s (b + 1) 0) (b + 2)))))) ≡ true =
+    simp (ne-eqb k 1 (λ w. omega arith), ne-eqb k 2 (λ w. omega arith), ne-eqb k 3 (λ w. omega arith), ne-eqb k 4 (λ w. omega arith), ne-eqb k 5 (λ w. omega arith), eq-eqb k 6 h) at e in
+    let z : getD s (b + 0) 0 ≡ getD s b 0 = ap (λ (i : ℕ). getD s i 0) (let y : b + 0 ≡ b = omega arith in y) in
+    let g = and-right (eqb (m + b) (entriesEnd s (getD s (b + 1) 0) (b + 2))) _ f in
+    let t = and-left (leb 65 (getD s (b + 0) 0) && leb (getD s (b + 0) 0) 90) _ g in
+    let r = and-right (leb 65 (getD s (b + 0) 0) && leb (getD s (b + 0) 0) 90) _ g in
+    let u = and-left (leb 1 (getD s (b + 1) 0) && leb (getD s (b + 1) 0) 16) _ r in
+    let v = and-right (leb 1 (getD s (b + 1) 0) && leb (getD s (b + 1) 0) 16) _ r in
+    let lo = leb-true 65 (getD s (b + 0) 0) (and-left _ _ t) in
+    let hi = leb-true (getD s (b + 0) 0) 90 (and-right (leb 65 (getD s (b + 0) 0)) _ t) in
+    record {
+      ends = eqb-true (m + b) _ (and-left (eqb (m + b) (entriesEnd s (getD s (b + 1) 0) (b + 2))) _ f);
+      low = omega arith;
+      high = omega arith;
+      one = leb-true 1 (getD s (b + 1) 0) (and-left _ _ u);
+      few = leb-true (getD s (b + 1) 0) 16 (and-right (leb 1 (getD s (b + 1) 0)) _ u);
+      fit = and-left (entriesFit s columns (getD s (b + 1) 0) (b + 2)) _ v;
+      leaves = and-right (entriesFit s columns (getD s (b + 1) 0) (b + 2)) _ v;
     }

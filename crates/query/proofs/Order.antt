@@ -12,7 +12,7 @@ use borrow.Author.Tests.{eq-eqb, ne-eqb, eqb-true, eqb-false, not-true, not-fals
 use Rattle.records.specs.declared.Read.{Read}
 use Rattle.records.specs.declared.Read.the-variants.{Record as Whole, Cut}
 use Rattle.rules.specs.Basics.{pick, every}
-use Rattle.rules.specs.Query.{Record, records, oneOf, someOf, noneLeft, inOrder, kinds, misplaced, firstOfKind, recordFits, columnsOf, unfit}
+use Rattle.rules.specs.Query.{Record, records, oneOf, someOf, noneLeft, isDefine, isMeasure, inOrder, kinds, misplaced, firstOfKind, recordFits, columnsOf, unfit}
 use Rattle.laws.proofs.Choice.{decided}
 use Rattle.records.specs.Read.{recordsAt, recordOf, readAt}
 use Rattle.query.specs.Order.{restOf, Follows, firstAnswer}
@@ -30,34 +30,40 @@ module _ (k : ℕ) (rest : List ℕ → Bool) (x : ℕ) (ks : List ℕ) where
   unfolding oneOf
   one-no e = simp (ne-eqb x k e)
 
-  some-more : (m : ℕ) → 0 < m → x ≡ k → someOf m k rest (x ∷ ks) ≡ someOf (m - 1) k rest ks
+module _ (f : ℕ → Bool) (rest : List ℕ → Bool) (x : ℕ) (ks : List ℕ) where
+  some-more : (m : ℕ) → 0 < m → f x ≡ true → someOf m f rest (x ∷ ks) ≡ someOf (m - 1) f rest ks
   unfolding someOf
   some-more zero h e = absurd (omega arith)
-  some-more (suc m) h e = simp (eq-eqb x k e) (ap (λ (j : ℕ). someOf j k rest ks) (let q : m ≡ suc m - 1 = omega arith in q))
+  some-more (suc m) h e = simp e (ap (λ (j : ℕ). someOf j f rest ks) (let q : m ≡ suc m - 1 = omega arith in q))
 
-  some-other : (m : ℕ) → (x ≡ k → ⊥) → someOf m k rest (x ∷ ks) ≡ rest (x ∷ ks)
+  some-other : (m : ℕ) → f x ≡ false → someOf m f rest (x ∷ ks) ≡ rest (x ∷ ks)
   unfolding someOf
   some-other zero e = refl
-  some-other (suc m) e = simp (ne-eqb x k e)
+  some-other (suc m) e = simp e
 
-  some-full : (m : ℕ) → m ≡ 0 → someOf m k rest (x ∷ ks) ≡ rest (x ∷ ks)
+  some-full : (m : ℕ) → m ≡ 0 → someOf m f rest (x ∷ ks) ≡ rest (x ∷ ks)
   unfolding someOf
-  some-full m e = ap (λ (j : ℕ). someOf j k rest (x ∷ ks)) e
+  some-full m e = ap (λ (j : ℕ). someOf j f rest (x ∷ ks)) e
 
-some-nil : (m k : ℕ) (rest : List ℕ → Bool) → someOf m k rest [] ≡ rest []
+some-nil : (m : ℕ) (f : ℕ → Bool) (rest : List ℕ → Bool) → someOf m f rest [] ≡ rest []
 unfolding someOf
-some-nil zero k rest = refl
-some-nil (suc m) k rest = refl
+some-nil zero f rest = refl
+some-nil (suc m) f rest = refl
+
+-- the skip is no DEFINE
+skip-other : (k : ℕ) → k ≡ 4 → isDefine k ≡ false
+unfolding isDefine
+skip-other k e = simp (ne-eqb k 3 (λ q. omega arith), ne-eqb k 6 (λ q. omega arith))
 
 -- what follows the skip, a DEFINE that is the last, the text, the shape
 abbrev skipped : List ℕ → Bool
-skipped = someOf 8 5 noneLeft
+skipped = someOf 8 isMeasure noneLeft
 
 abbrev defined : List ℕ → Bool
 defined = oneOf 4 skipped
 
 abbrev texted : List ℕ → Bool
-texted = someOf 26 3 defined
+texted = someOf 26 isDefine defined
 
 abbrev shaped : List ℕ → Bool
 shaped = oneOf 2 texted
@@ -81,15 +87,15 @@ module _ (at left kind : ℕ) where
   pub skip-yes : at ≡ 2 → kind ≡ 4 → Follows 3 8 at left kind
   unfolding restOf
   skip-yes e g =
-      on-to 3 8 (λ ks. at-stage 2 e ks ∙ some-other 3 defined kind ks left (λ q. omega arith) ∙ one-yes 4 skipped kind ks g) (omega arith) (omega arith) (λ q. absurd (omega arith))
+      on-to 3 8 (λ ks. at-stage 2 e ks ∙ some-other isDefine defined kind ks left (skip-other kind g) ∙ one-yes 4 skipped kind ks g) (omega arith) (omega arith) (λ q. absurd (omega arith))
 
-  pub defines-more : at ≡ 2 → kind ≡ 3 → 0 < left → Follows 2 (left - 1) at left kind
+  pub defines-more : (r : Bool) → r ≡ isDefine kind → not r ≡ false → at ≡ 2 → 0 < left → Follows 2 (left - 1) at left kind
   unfolding restOf
-  defines-more e g h = on-to 2 (left - 1) (λ ks. at-stage 2 e ks ∙ some-more 3 defined kind ks left h g) (omega arith) (omega arith) (λ q. absurd (omega arith))
+  defines-more r er g e h = on-to 2 (left - 1) (λ ks. at-stage 2 e ks ∙ some-more isDefine defined kind ks left h (sym er ∙ not-false r g)) (omega arith) (omega arith) (λ q. absurd (omega arith))
 
   pub measures-more : at ≡ 3 → kind ≡ 5 → 0 < left → Follows 3 (left - 1) at left kind
-  unfolding restOf
-  measures-more e g h = on-to 3 (left - 1) (λ ks. at-stage 3 e ks ∙ some-more 5 noneLeft kind ks left h g) (omega arith) (omega arith) (λ q. absurd (omega arith))
+  unfolding restOf isMeasure
+  measures-more e g h = on-to 3 (left - 1) (λ ks. at-stage 3 e ks ∙ some-more isMeasure noneLeft kind ks left h (eq-eqb kind 5 g)) (omega arith) (omega arith) (λ q. absurd (omega arith))
 
   -- behind a kind out of order
   module _ (a l : ℕ) (w : a ≡ 4) where
@@ -108,21 +114,21 @@ module _ (at left kind : ℕ) where
     unfolding restOf
     text-no e g = off (λ ks. at-stage 1 e ks ∙ one-no 2 texted kind ks g)
 
-    pub skip-no : at ≡ 2 → (kind ≡ 4 → ⊥) → (kind ≡ 3 → ⊥) → Follows a l at left kind
+    pub skip-no : (r : Bool) → r ≡ isDefine kind → not r ≡ true → at ≡ 2 → (kind ≡ 4 → ⊥) → Follows a l at left kind
     unfolding restOf
-    skip-no e g h = off (λ ks. at-stage 2 e ks ∙ some-other 3 defined kind ks left h ∙ one-no 4 skipped kind ks g)
+    skip-no r er h e g = off (λ ks. at-stage 2 e ks ∙ some-other isDefine defined kind ks left (sym er ∙ not-true r h) ∙ one-no 4 skipped kind ks g)
 
     pub defines-full : at ≡ 2 → (kind ≡ 4 → ⊥) → left ≡ 0 → Follows a l at left kind
     unfolding restOf
-    defines-full e g h = off (λ ks. at-stage 2 e ks ∙ some-full 3 defined kind ks left h ∙ one-no 4 skipped kind ks g)
+    defines-full e g h = off (λ ks. at-stage 2 e ks ∙ some-full isDefine defined kind ks left h ∙ one-no 4 skipped kind ks g)
 
     pub measures-other : at ≡ 3 → (kind ≡ 5 → ⊥) → Follows a l at left kind
-    unfolding restOf noneLeft
-    measures-other e g = off (λ ks. at-stage 3 e ks ∙ some-other 5 noneLeft kind ks left g)
+    unfolding restOf noneLeft isMeasure
+    measures-other e g = off (λ ks. at-stage 3 e ks ∙ some-other isMeasure noneLeft kind ks left (ne-eqb kind 5 g))
 
     pub measures-full : at ≡ 3 → left ≡ 0 → Follows a l at left kind
     unfolding restOf noneLeft
-    measures-full e h = off (λ ks. at-stage 3 e ks ∙ some-full 5 noneLeft kind ks left h)
+    measures-full e h = off (λ ks. at-stage 3 e ks ∙ some-full isMeasure noneLeft kind ks left h)
 
     pub out-stays : (at ≡ 0 → ⊥) → (at ≡ 1 → ⊥) → (at ≡ 2 → ⊥) → (at ≡ 3 → ⊥) → Follows a l at left kind
     unfolding restOf
@@ -133,8 +139,8 @@ pub rest-nil : (left at : ℕ) → restOf at left [] ≡ eqb at 3
 unfolding restOf oneOf noneLeft
 rest-nil left zero = refl
 rest-nil left (suc zero) = refl
-rest-nil left (suc (suc zero)) = some-nil left 3 defined
-rest-nil left (suc (suc (suc zero))) = some-nil left 5 noneLeft
+rest-nil left (suc (suc zero)) = some-nil left isDefine defined
+rest-nil left (suc (suc (suc zero))) = some-nil left isMeasure noneLeft
 rest-nil left (suc (suc (suc (suc k)))) =
     simp (
       ne-eqb (suc (suc (suc (suc k)))) 0 (λ e. omega arith),

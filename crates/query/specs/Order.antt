@@ -6,17 +6,17 @@ use mathlib.Core.List.{List, _∷_}
 use Prim.Native.Nat.{ℕ, _<_}
 use lib.Dec.{eqb}
 use Rattle.rules.specs.Basics.{pick}
-use Rattle.rules.specs.Query.{oneOf, someOf, noneLeft, cut, misplaced, unfit}
+use Rattle.rules.specs.Query.{oneOf, someOf, noneLeft, isDefine, isMeasure, cut, misplaced, unfit}
 
 -- what the kinds that follow must be at each stage of their order; `left` is how many more of a
 -- kind may come
 unfoldable pub restOf : ℕ → ℕ → List ℕ → Bool
-unfolding oneOf someOf noneLeft
+unfolding oneOf someOf noneLeft isDefine isMeasure
 restOf stage left =
-    pick (eqb stage 0) (oneOf 1 (oneOf 2 (someOf 26 3 (oneOf 4 (someOf 8 5 noneLeft)))))
-    (pick (eqb stage 1) (oneOf 2 (someOf 26 3 (oneOf 4 (someOf 8 5 noneLeft))))
-    (pick (eqb stage 2) (someOf left 3 (oneOf 4 (someOf 8 5 noneLeft)))
-    (pick (eqb stage 3) (someOf left 5 noneLeft)
+    pick (eqb stage 0) (oneOf 1 (oneOf 2 (someOf 26 isDefine (oneOf 4 (someOf 8 isMeasure noneLeft)))))
+    (pick (eqb stage 1) (oneOf 2 (someOf 26 isDefine (oneOf 4 (someOf 8 isMeasure noneLeft))))
+    (pick (eqb stage 2) (someOf left isDefine (oneOf 4 (someOf 8 isMeasure noneLeft)))
+    (pick (eqb stage 3) (someOf left isMeasure noneLeft)
     (λ ks. false))))
 
 -- the stage a' follows the stage a by a record of this kind: it is none before the first record,

@@ -4,6 +4,7 @@
 // crate fields.
 use numbers::wide8;
 use records::Read;
+use records::is_define;
 use records::record_at;
 ghost use mathlib.Core.Path.{_≡_};
 ghost use mathlib.Core.Bool.{true, false, _&&_};
@@ -50,7 +51,7 @@ fn after(stage: Stage, kind: usize) -> Stage
         if kind == 4 {
             return Stage { at: 3, left: 8 };
         }
-        if kind != 3 {
+        if !is_define(kind) {
             return out_of_order();
         }
         if left == 0 {

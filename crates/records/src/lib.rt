@@ -5,7 +5,13 @@ use numbers::wide8;
 ghost use mathlib.Core.Path.{_≡_};
 ghost use Prim.Native.Nat.{_+_, _-_, _<_};
 ghost use lib.ListN.{length, getD};
+ghost use Rattle.rules.specs.Query.{isDefine};
 ghost use Rattle.records.specs.Read.{readAt};
+
+// The kinds of a DEFINE: all of some comparisons, or entries in postfix.
+pub const ALL_OF: usize = 3;
+
+pub const POSTFIX: usize = 6;
 
 // What stands at an index of the query: a whole record (its body starts at start and is len bytes
 // long, and next is behind it), or Cut.
@@ -47,4 +53,11 @@ pub fn record_at(s: &[u8], at: usize) -> Read
         len,
         next: start + len,
     }
+}
+
+// Whether a record of this kind is a DEFINE.
+pub fn is_define(kind: usize) -> bool
+    ensures { λ r. ⌜ r ≡ isDefine kind ⌝ }
+{
+    (kind == ALL_OF) | (kind == POSTFIX)
 }

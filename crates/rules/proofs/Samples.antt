@@ -3,7 +3,7 @@ use mathlib.Core.Path.{refl}
 use mathlib.Core.Bool.{false≢true, true≢false}
 use Rattle.rules.specs.Basics.{every}
 use Rattle.rules.specs.Bench.{agrees}
-use Rattle.rules.specs.Samples.{skips, fullFirst, allowances, keepsTo, inTime, noRows, lots, keepsOn, lotRooms, lotRefusals, refusesSo, Preferences, comesTo, averages, averageSearches}
+use Rattle.rules.specs.Samples.{skips, fullFirst, allowances, keepsTo, inTime, noRows, lots, keepsOn, lotRooms, lotRefusals, refusesSo, Preferences, comesTo, averages, averageSearches, truthTable, entryLists, truthSearches, aheadEntries}
 use Rattle.rules.specs.Preferment.{Prefers}
 use lib.Dec.{T}
 
@@ -50,3 +50,19 @@ lot-refusals = tt
 pub preferences : Preferences
 unfolding Prefers
 preferences = record { branches = (tt, λ h. h); longer = (refl, λ h. false≢true h); shorter = (refl, λ h. true≢false h) }
+
+pub truth-table-holds : T (every (λ b. b) truthTable)
+unfolding every truthTable
+truth-table-holds = tt
+
+pub entry-lists-hold : T (every (λ b. b) entryLists)
+unfolding every entryLists
+entry-lists-hold = tt
+
+pub truth-searches-hold : T (every agrees truthSearches)
+unfolding every agrees truthSearches
+truth-searches-hold = tt
+
+pub ahead-entries : T aheadEntries
+unfolding aheadEntries
+ahead-entries = tt

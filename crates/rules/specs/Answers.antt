@@ -9,7 +9,7 @@ use lib.Dec.{ltb, eqb}
 use lib.IntN.{ℤ}
 use lib.ListN.{length}
 use Rattle.rules.specs.Basics.{pick, every, has, wrote}
-use Rattle.rules.specs.Rows.{Table, tableOf, Comparison, holds}
+use Rattle.rules.specs.Rows.{Table, tableOf, Condition, holds}
 use Rattle.rules.specs.Query.{cut, misplaced, unfit, doubled, columnsOf, textOf, Measure, parts}
 use Rattle.rules.specs.Language.{Tree, pattern, emptyLoop, letters}
 use Rattle.rules.specs.Reader.{treeOf, stopOf}
@@ -97,11 +97,11 @@ badRows q rows = not (eqb (length rows % columnsOf q) 0) || ltb 4096 (tableOf (c
 
 -- ---- the search that a query asks for
 
--- the rows, the places, the letters' comparisons, the skip mode and the measures of a search
+-- the rows, the places, the letters' conditions, the skip mode and the measures of a search
 pub record Task : Type 0 where
   pub table : Table
   pub places : List Place
-  pub comparisons : ℕ → List Comparison
+  pub condition : ℕ → Condition
   pub skip : Skip
   pub measures : List Measure
 
@@ -120,7 +120,7 @@ taskOf q rows =
     record {
       table = tableOf (parts q .columns) rows;
       places = placesIn (treeIn q);
-      comparisons = parts q .comparisons;
+      condition = parts q .condition;
       skip = skipOf (parts q .skip) (parts q .skipLetter);
       measures = parts q .measures;
     }
@@ -128,7 +128,7 @@ taskOf q rows =
 -- whether letter c holds at row i
 unfoldable pub letterHolds : Task → ℕ → ℕ → Bool
 unfolding holds
-letterHolds t c i = holds (t .table) i (t .comparisons c)
+letterHolds t c i = holds (t .table) i (t .condition c)
 
 -- the search by the counted walk on these terms, on document 01's, and by plain backtracking, for
 -- so many report numbers and label bytes

@@ -12,7 +12,7 @@ use lib.IntN.{ℤ, pos}
 use lib.Signed.{ltZ}
 use lib.ListN.{length, take, drop}
 use Rattle.rules.specs.Basics.{pick, every}
-use Rattle.rules.specs.Rows.{Comparison}
+use Rattle.rules.specs.Rows.{Comparison, comparisonsIn}
 use Rattle.rules.specs.Query.{columnsOf, textOf, parts}
 use Rattle.rules.specs.Language.{Tree, pattern, hasDollar}
 use Rattle.rules.specs.Walk.{pairs}
@@ -73,10 +73,10 @@ dollarIn (some t) = hasDollar t
 unfoldable pub ahead : Comparison → Bool
 ahead c = ltZ (pos 0) (c .leftOffset) || ltZ (pos 0) (c .rightOffset)
 
--- a letter reads no row behind its own
+-- a letter reads no row behind its own, whatever AND, OR and NOT make of it
 unfoldable pub settles : List ℕ → ℕ → Bool
-unfolding parts every ahead
-settles q c = every (λ x. not (ahead x)) (parts q .comparisons c)
+unfolding parts every ahead comparisonsIn
+settles q c = every (λ x. not (ahead x)) (comparisonsIn (parts q .condition c))
 
 -- Answer 17: a `$`, or an offset above 0 for a letter in the pattern
 unfoldable pub looksAhead : List ℕ → Bool

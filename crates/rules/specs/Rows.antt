@@ -1,14 +1,15 @@
--- Document 01, "Rows and query records", on rows and letters: a table of rows, a comparison at a
--- row, and when a letter holds at a row.
-use mathlib.Core.Bool.{Bool, false, _&&_, _||_}
-use mathlib.Core.List.{List}
+-- Document 01, "Rows and query records", on rows and letters, with R-7: a table of rows, a
+-- comparison at a row, which is true, false or unknown, a letter's condition, and when a letter
+-- holds at a row.
+use mathlib.Core.Bool.{Bool, true, false, _&&_, _||_}
+use mathlib.Core.List.{List, [], _∷_}
 use mathlib.Core.Option.{Option, none, some}
 use Prim.Native.Nat.{ℕ, _+_, _*_, _/_}
 use lib.Dec.{ltb, eqb}
 use lib.IntN.{ℤ, pos, negsuc, _+ℤ_}
 use lib.Signed.{ltZ, leZ}
 use lib.ListN.{length, getD}
-use Rattle.rules.specs.Basics.{pick, every}
+use Rattle.rules.specs.Basics.{pick}
 
 -- The rows lie one after another, each of so many columns; n is how many rows there are. Rows and
 -- positions count from 0, and position n is behind the last row.
@@ -64,19 +65,129 @@ unfoldable pub rightSide : Table → Comparison → ℕ → Option ℤ
 unfolding plusNumber entryAt
 rightSide t c row = pick (eqb (c .rightKind) 1) (plusNumber (c .number) (entryAt t (pos row +ℤ c .rightOffset) (c .right))) (some (c .number))
 
--- A comparison that reads a row outside the partition is not met, whatever its operator.
-unfoldable pub metBy : ℕ → Option ℤ → Option ℤ → Bool
+-- ---- the third truth (R-7)
+
+-- A comparison answers true, false or unknown.
+pub data Truth : Type 0 where
+  yes : Truth
+  no : Truth
+  unknown : Truth
+
+-- SQL's tables for AND, OR and NOT
+unfoldable pub truthAnd : Truth → Truth → Truth
+truthAnd yes yes = yes
+truthAnd yes no = no
+truthAnd yes unknown = unknown
+truthAnd no yes = no
+truthAnd no no = no
+truthAnd no unknown = no
+truthAnd unknown yes = unknown
+truthAnd unknown no = no
+truthAnd unknown unknown = unknown
+
+unfoldable pub truthOr : Truth → Truth → Truth
+truthOr yes yes = yes
+truthOr yes no = yes
+truthOr yes unknown = yes
+truthOr no yes = yes
+truthOr no no = no
+truthOr no unknown = unknown
+truthOr unknown yes = yes
+truthOr unknown no = unknown
+truthOr unknown unknown = unknown
+
+unfoldable pub truthNot : Truth → Truth
+truthNot yes = no
+truthNot no = yes
+truthNot unknown = unknown
+
+unfoldable pub isYes : Truth → Bool
+isYes yes = true
+isYes no = false
+isYes unknown = false
+
+-- A comparison that reads a row outside the partition is unknown, whatever its operator.
+unfoldable pub truthBy : ℕ → Option ℤ → Option ℤ → Truth
 unfolding compares
-metBy op none b = false
-metBy op (some a) none = false
-metBy op (some a) (some b) = compares op a b
+truthBy op none b = unknown
+truthBy op (some a) none = unknown
+truthBy op (some a) (some b) = pick (compares op a b) yes no
 
+unfoldable pub truth : Table → ℕ → Comparison → Truth
+unfolding truthBy entryAt rightSide
+truth t row c = truthBy (c .operator) (entryAt t (pos row +ℤ c .leftOffset) (c .left)) (rightSide t c row)
+
+-- a comparison is met if it is true; so one that reads a row outside the partition is not met
 unfoldable pub met : Table → ℕ → Comparison → Bool
-unfolding metBy entryAt rightSide
-met t row c = metBy (c .operator) (entryAt t (pos row +ℤ c .leftOffset) (c .left)) (rightSide t c row)
+unfolding truth isYes
+met t row c = isYes (truth t row c)
 
--- A letter holds at a row when all its comparisons are met. A letter without DEFINE has none, so it
--- always holds.
-unfoldable pub holds : Table → ℕ → List Comparison → Bool
-unfolding met every
-holds t row cs = every (met t row) cs
+-- ---- when a letter holds
+
+-- an entry of a list in postfix: a comparison, or an operator on the results before it
+pub data Entry : Type 0 where
+  compared : Comparison → Entry
+  conj : Entry
+  disj : Entry
+  neg : Entry
+
+-- A letter's condition: all of some comparisons (kind 3; a letter without DEFINE has none), or
+-- entries in postfix (kind 6).
+pub data Condition : Type 0 where
+  allOf : List Comparison → Condition
+  postfix : List Entry → Condition
+
+-- What an entry makes of the results so far, the latest first. With fewer results than it needs it
+-- does nothing; in an accepted query no entry runs short, and one result is left (law `one-left`,
+-- proofs/Truths).
+unfoldable pub resultOn : Table → ℕ → Entry → List Truth → List Truth
+unfolding truth truthAnd truthOr truthNot
+resultOn t row (compared c) rs = truth t row c ∷ rs
+resultOn t row conj [] = []
+resultOn t row conj (b ∷ []) = b ∷ []
+resultOn t row conj (b ∷ (a ∷ rs)) = truthAnd a b ∷ rs
+resultOn t row disj [] = []
+resultOn t row disj (b ∷ []) = b ∷ []
+resultOn t row disj (b ∷ (a ∷ rs)) = truthOr a b ∷ rs
+resultOn t row neg [] = []
+resultOn t row neg (a ∷ rs) = truthNot a ∷ rs
+
+unfoldable pub resultsOf : Table → ℕ → List Entry → List Truth → List Truth
+unfolding resultOn
+resultsOf t row [] rs = rs
+resultsOf t row (e ∷ es) rs = resultsOf t row es (resultOn t row e rs)
+
+-- the latest result
+unfoldable pub latest : List Truth → Truth
+latest [] = unknown
+latest (r ∷ rs) = r
+
+-- all of some comparisons: the AND of their truths, true where there are none
+unfoldable pub allTruth : Table → ℕ → List Comparison → Truth
+unfolding truth truthAnd
+allTruth t row [] = yes
+allTruth t row (c ∷ cs) = truthAnd (truth t row c) (allTruth t row cs)
+
+unfoldable pub conditionTruth : Table → ℕ → Condition → Truth
+unfolding allTruth resultsOf latest
+conditionTruth t row (allOf cs) = allTruth t row cs
+conditionTruth t row (postfix es) = latest (resultsOf t row es [])
+
+-- A letter holds only on true. That one of kind 3 holds at a row when all its comparisons are met
+-- is the law `all-met` (proofs/Truths); one without DEFINE has none, so it always holds.
+unfoldable pub holds : Table → ℕ → Condition → Bool
+unfolding conditionTruth isYes
+holds t row c = isYes (conditionTruth t row c)
+
+-- the comparisons that a condition has
+unfoldable pub comparedIn : List Entry → List Comparison
+comparedIn [] = []
+comparedIn (compared c ∷ es) = c ∷ comparedIn es
+comparedIn (conj ∷ es) = comparedIn es
+comparedIn (disj ∷ es) = comparedIn es
+comparedIn (neg ∷ es) = comparedIn es
+
+unfoldable pub comparisonsIn : Condition → List Comparison
+unfolding comparedIn
+comparisonsIn (allOf cs) = cs
+comparisonsIn (postfix es) = comparedIn es

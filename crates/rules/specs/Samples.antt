@@ -5,19 +5,20 @@ use mathlib.Core.Bool.{Bool, true, false, _&&_}
 use mathlib.Core.List.{List, [], _∷_, _++_}
 use mathlib.Core.Logic.{inl, inr}
 use mathlib.Core.Option.{Option, none, some}
-use Prim.Native.Nat.{ℕ, zero-le}
+use Prim.Native.Nat.{ℕ, zero, suc, zero-le}
 use Prim.Native.String.{String}
 use native.Mathlib.Omega.{arith}
 use lib.Dec.{eqb}
 use lib.IntN.{ℤ, pos, negℤ}
 use lib.ListN.{replicate, take}
 use Rattle.rules.specs.Basics.{pick, bytes}
+use Rattle.rules.specs.Rows.{Truth, yes, no, unknown, conditionTruth}
 use Rattle.rules.specs.Language.{opt, lower, upper, pattern, Tree, one, more, last, bare, times, letter}
 use Rattle.rules.specs.Preferment.{Derivation, Prefers}
 use Rattle.rules.specs.Walk.{countTrue}
 use Rattle.rules.specs.Search.{openOf}
-use Rattle.rules.specs.Answers.{pairsOf, Buffers, Result, walkWithin, searchWithin, searchOf}
-use Rattle.rules.specs.Lots.{Named, Progress, begun, lotWalk, callOf}
+use Rattle.rules.specs.Answers.{pairsOf, Buffers, Result, taskOf, walkWithin, searchWithin, searchOf}
+use Rattle.rules.specs.Lots.{Named, Progress, begun, beginAnswer, lotWalk, callOf}
 use Rattle.rules.specs.Bench.{recordOf, asks, w1, X, any, Line, at, unstepped, refusal, same, equalZ, enough, line}
 use Rattle.rules.specs.Report.{resultOf}
 
@@ -384,6 +385,169 @@ averageSearches =
     ∷ refusal (asks "A" [] 0 (recordOf 5 (7 ∷ 0 ∷ 1 ∷ 0 ∷ []))) 2 3
     ∷ refusal (asks "A" [] 0 (recordOf 5 (7 ∷ 66 ∷ 0 ∷ 0 ∷ []))) 2 9
     ∷ []
+
+-- ---- R-7, OR, NOT and the third truth
+
+-- Comparisons of 12 bytes at the first row of X: true (column 0 equals 100), false (unequal to
+-- 100), unknown (equal to PREV, which has no row)
+abbrev pub trueBytes : List ℕ
+trueBytes = 0 ∷ 0 ∷ 1 ∷ 0 ∷ 0 ∷ 0 ∷ 0 ∷ 0 ∷ 100 ∷ 0 ∷ 0 ∷ 0 ∷ []
+
+abbrev pub falseBytes : List ℕ
+falseBytes = 0 ∷ 0 ∷ 2 ∷ 0 ∷ 0 ∷ 0 ∷ 0 ∷ 0 ∷ 100 ∷ 0 ∷ 0 ∷ 0 ∷ []
+
+abbrev pub unknownBytes : List ℕ
+unknownBytes = 0 ∷ 0 ∷ 1 ∷ 1 ∷ 0 ∷ 0xFF ∷ 0 ∷ 0 ∷ 0 ∷ 0 ∷ 0 ∷ 0 ∷ []
+
+-- unknown for its left side: PREV equals 100
+abbrev pub leftUnknownBytes : List ℕ
+leftUnknownBytes = 0 ∷ 0xFF ∷ 1 ∷ 0 ∷ 0 ∷ 0 ∷ 0 ∷ 0 ∷ 100 ∷ 0 ∷ 0 ∷ 0 ∷ []
+
+-- entries: a comparison behind its byte 0, AND, OR, NOT
+abbrev pub ofTruth : Truth → List ℕ
+ofTruth yes = 0 ∷ trueBytes
+ofTruth no = 0 ∷ falseBytes
+ofTruth unknown = 0 ∷ unknownBytes
+
+abbrev pub AND : List ℕ
+AND = 1 ∷ []
+
+abbrev pub OR : List ℕ
+OR = 2 ∷ []
+
+abbrev pub NOT : List ℕ
+NOT = 3 ∷ []
+
+-- a DEFINE of kind 6 for A with so many entries; and the truth of A at the first row of X where
+-- that is its DEFINE
+abbrev pub defines : ℕ → List ℕ → List ℕ
+defines count entries = recordOf 6 (65 ∷ count ∷ entries)
+
+unfoldable pub truthAtFirst : List ℕ → Truth
+unfolding conditionTruth taskOf bytes
+truthAtFirst define = conditionTruth (taskOf (asks "A" define 0 []) X .table) 0 (taskOf (asks "A" define 0 []) X .condition 65)
+
+abbrev pub sameTruth : Truth → Truth → Bool
+sameTruth yes yes = true
+sameTruth yes no = false
+sameTruth yes unknown = false
+sameTruth no yes = false
+sameTruth no no = true
+sameTruth no unknown = false
+sameTruth unknown yes = false
+sameTruth unknown no = false
+sameTruth unknown unknown = true
+
+-- two truths, and what AND and OR make of them
+abbrev pub combines : Truth → Truth → Truth → Truth → Bool
+unfolding truthAtFirst
+combines a b both either =
+    sameTruth (truthAtFirst (defines 3 (ofTruth a ++ (ofTruth b ++ AND)))) both && sameTruth (truthAtFirst (defines 3 (ofTruth a ++ (ofTruth b ++ OR)))) either
+
+abbrev pub negates : Truth → Truth → Bool
+unfolding truthAtFirst
+negates a b = sameTruth (truthAtFirst (defines 2 (ofTruth a ++ NOT))) b
+
+-- SQL's tables, all combinations
+unfoldable pub truthTable : List Bool
+unfolding truthAtFirst
+truthTable =
+    combines yes yes yes yes
+    ∷ combines yes no no yes
+    ∷ combines yes unknown unknown yes
+    ∷ combines no yes no yes
+    ∷ combines no no no no
+    ∷ combines no unknown no unknown
+    ∷ combines unknown yes unknown yes
+    ∷ combines unknown no no unknown
+    ∷ combines unknown unknown unknown unknown
+    ∷ negates yes no
+    ∷ negates no yes
+    ∷ negates unknown unknown
+    ∷ []
+
+-- longer lists; operators take the latest results; a DEFINE of kind 3 with an unknown comparison
+unfoldable pub entryLists : List Bool
+unfolding truthAtFirst
+entryLists =
+    sameTruth (truthAtFirst (defines 1 (ofTruth yes))) yes
+    ∷ sameTruth (truthAtFirst (defines 1 (ofTruth unknown))) unknown
+    -- a missing row on the left is unknown too, and stays so under NOT
+    ∷ sameTruth (truthAtFirst (defines 1 (0 ∷ leftUnknownBytes))) unknown
+    ∷ sameTruth (truthAtFirst (defines 2 (0 ∷ (leftUnknownBytes ++ NOT)))) unknown
+    -- true OR (false AND unknown); (true OR false) AND unknown
+    ∷ sameTruth (truthAtFirst (defines 5 (ofTruth yes ++ (ofTruth no ++ (ofTruth unknown ++ (AND ++ OR)))))) yes
+    ∷ sameTruth (truthAtFirst (defines 5 (ofTruth yes ++ (ofTruth no ++ (OR ++ (ofTruth unknown ++ AND)))))) unknown
+    -- NOT (unknown AND false); NOT unknown OR NOT false
+    ∷ sameTruth (truthAtFirst (defines 4 (ofTruth unknown ++ (ofTruth no ++ (AND ++ NOT))))) yes
+    ∷ sameTruth (truthAtFirst (defines 5 (ofTruth unknown ++ (NOT ++ (ofTruth no ++ (NOT ++ OR)))))) yes
+    -- NOT only of the latest: true, NOT false
+    ∷ sameTruth (truthAtFirst (defines 4 (ofTruth yes ++ (ofTruth no ++ (NOT ++ AND))))) yes
+    -- 16 entries
+    ∷ sameTruth (truthAtFirst (defines 16 (ofTruth unknown ++ (NOT ++ (NOT ++ (NOT ++ (NOT ++ (NOT ++ (NOT ++ (NOT ++ (NOT ++ (NOT ++ (NOT ++ (NOT ++ (NOT ++ (NOT ++ (ofTruth yes ++ OR))))))))))))))))) yes
+    -- kind 3: all that are not false, one unknown
+    ∷ sameTruth (truthAtFirst (recordOf 3 (65 ∷ 2 ∷ (trueBytes ++ unknownBytes)))) unknown
+    ∷ sameTruth (truthAtFirst (recordOf 3 (65 ∷ 2 ∷ (unknownBytes ++ falseBytes)))) no
+    ∷ sameTruth (truthAtFirst (recordOf 3 (65 ∷ 2 ∷ (trueBytes ++ trueBytes)))) yes
+    -- no DEFINE, or one for another letter
+    ∷ sameTruth (truthAtFirst []) yes
+    ∷ sameTruth (truthAtFirst (recordOf 6 (66 ∷ 1 ∷ ofTruth no))) yes
+    ∷ []
+
+-- so many free letters' DEFINEs, from a letter on, by turns of kind 3 and of kind 6
+abbrev pub manyDefines : ℕ → ℕ → List ℕ
+manyDefines zero c = []
+manyDefines (suc zero) c = recordOf 3 (c ∷ 1 ∷ trueBytes)
+manyDefines (suc (suc k)) c = recordOf 3 (c ∷ 1 ∷ trueBytes) ++ (recordOf 6 (suc c ∷ 1 ∷ ofTruth yes) ++ manyDefines k (suc (suc c)))
+
+-- whole searches
+unfoldable pub truthSearches : List Line
+unfolding bytes
+truthSearches =
+    -- NOT (A equals PREV) is unknown at the first row; unequal to PREV or not
+    unstepped (asks "A" (defines 2 (ofTruth unknown ++ NOT)) 0 []) X 2 (at 1 "A" ∷ at 2 "A" ∷ at 3 "A" ∷ at 4 "A" ∷ [])
+    -- 100 or unequal to PREV: every row
+    ∷ unstepped (asks "A" (defines 4 (ofTruth unknown ++ (NOT ++ (ofTruth yes ++ OR)))) 0 []) X 2 (at 0 "A" ∷ at 1 "A" ∷ at 2 "A" ∷ at 3 "A" ∷ at 4 "A" ∷ [])
+    -- kinds 3 and 6 in any order
+    ∷ unstepped (asks "A B" (recordOf 6 (66 ∷ 2 ∷ (ofTruth yes ++ NOT)) ++ recordOf 3 (65 ∷ 1 ∷ trueBytes)) 0 []) X 3 (at 0 "AB" ∷ [])
+    -- 26 of both kinds together are accepted, 27 are 2
+    ∷ unstepped (asks "A" (manyDefines 26 65) 0 []) [] 2 []
+    ∷ refusal (asks "A" (manyDefines 26 65 ++ defines 1 (ofTruth yes)) 0 []) 2 2
+    -- two DEFINEs for A are 8, of whatever kinds
+    ∷ refusal (asks "A" (defines 1 (ofTruth yes) ++ defines 1 (ofTruth yes)) 0 []) 2 8
+    ∷ refusal (asks "A" (recordOf 3 (65 ∷ 1 ∷ trueBytes) ++ defines 1 (ofTruth yes)) 0 []) 2 8
+    -- runs short: NOT of nothing, AND of one, OR of one; leaves two results
+    ∷ refusal (asks "A" (defines 1 NOT) 0 []) 2 3
+    ∷ refusal (asks "A" (defines 2 (ofTruth yes ++ AND)) 0 []) 2 3
+    ∷ refusal (asks "A" (defines 2 (ofTruth yes ++ OR)) 0 []) 2 3
+    ∷ refusal (asks "A" (defines 3 (ofTruth yes ++ (AND ++ ofTruth yes))) 0 []) 2 3
+    ∷ refusal (asks "A" (defines 2 (ofTruth yes ++ ofTruth yes)) 0 []) 2 3
+    -- a count of 0 and of 17; byte 4; a byte too many, one too few; no letter; a comparison that
+    -- does not fit
+    ∷ refusal (asks "A" (defines 0 []) 0 []) 2 3
+    ∷ refusal (asks "A" (defines 17 (ofTruth yes ++ replicate 16 3)) 0 []) 2 3
+    ∷ unstepped (asks "A" (defines 16 (ofTruth yes ++ replicate 15 3)) 0 []) [] 2 []
+    ∷ refusal (asks "A" (defines 2 (ofTruth yes ++ (4 ∷ []))) 0 []) 2 3
+    ∷ refusal (asks "A" (defines 1 (ofTruth yes ++ (3 ∷ []))) 0 []) 2 3
+    ∷ refusal (asks "A" (defines 2 (ofTruth yes)) 0 []) 2 3
+    ∷ refusal (asks "A" (recordOf 6 (64 ∷ 1 ∷ ofTruth yes)) 0 []) 2 3
+    ∷ refusal (asks "A" (defines 1 (0 ∷ 1 ∷ 0 ∷ 1 ∷ 0 ∷ 0 ∷ 0 ∷ 0 ∷ 0 ∷ 100 ∷ 0 ∷ 0 ∷ 0 ∷ [])) 0 []) 2 3
+    -- a DEFINE behind the skip record is 2
+    ∷ refusal (asks "A" [] 0 (defines 1 (ofTruth yes))) 2 2
+    ∷ []
+
+-- 17 in lots: an offset above 0 among a kind 6 DEFINE's entries, also under NOT; not for a letter
+-- outside the pattern
+abbrev pub aheadBytes : List ℕ
+aheadBytes = 0 ∷ 0 ∷ 1 ∷ 1 ∷ 0 ∷ 1 ∷ 0 ∷ 0 ∷ 0 ∷ 0 ∷ 0 ∷ 0 ∷ []
+
+unfoldable pub aheadEntries : Bool
+unfolding beginAnswer bytes pairsOf
+aheadEntries =
+    eqb (beginAnswer (named (asks "A" (defines 2 (0 ∷ (aheadBytes ++ NOT))) 0 []) 3 none)) 17
+    && (eqb (beginAnswer (named (asks "A" (defines 3 (ofTruth unknown ++ (0 ∷ (aheadBytes ++ OR)))) 0 []) 3 none)) 17
+    && (eqb (beginAnswer (named (asks "B" (defines 2 (0 ∷ (aheadBytes ++ NOT))) 0 []) 3 none)) 0
+    && eqb (beginAnswer (named (asks "A" (defines 2 (ofTruth unknown ++ NOT)) 0 []) 3 none)) 0))
 
 -- ---- ISO/IEC 19075-5, clause 6.2, the order of preferment
 

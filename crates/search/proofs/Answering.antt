@@ -251,8 +251,8 @@ module _ (q T T′ : List ℕ) (p : Prepared) (h : PreparedAs q T T′ p) where
     pub has-run : (al : ℕ) (rows : List ℤ) (before : Buffers) (m : Memory) → ((q : List ℕ) → Given q T′ p → Promised (some al) q rows before m) → Promised (some al) q rows before m
     has-run al rows before m e = e q (h .given d)
 
-  -- a table of 3,142 words is enough
-  module _ (long : length T ≡ 3142) where
+  -- a table of 3,532 words is enough
+  module _ (long : length T ≡ 3532) where
     enough : p .answer ≡ 255 → ⊥
     enough e = let z = h .no-room e (omega arith) in absurd (omega arith)
 

@@ -68,7 +68,7 @@ fn search_large(
 ) -> Outcome
     ensures { λ r. ⌜ Promised (some allowance) (now (query .entry)) (now (rows .entry)) (lent (now (notes .entry)) (now (trail .entry)) (now (numbers .entry)) (now (labels .entry))) (memory r (now (notes .exit)) (now (trail .exit)) (now (numbers .exit)) (now (labels .exit))) ⌝ }
 {
-    let mut table = [0u16; 3142];
+    let mut table = [0u16; 3532];
     let p = prepare(query, &mut table);
     run(&table, p, rows, allowance, notes, trail, numbers, labels)
 }

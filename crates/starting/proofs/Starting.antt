@@ -8,7 +8,7 @@ use native.Mathlib.Nat.{mul-le-mul, mul-div-cancel}
 use native.Mathlib.Omega.{arith}
 use lib.IntN.{ℤ}
 use lib.ListN.{length}
-use Rattle.rules.specs.Rows.{Table, Comparison, tableOf, holds}
+use Rattle.rules.specs.Rows.{Table, Condition, tableOf, holds}
 use Rattle.rules.specs.Query.{Measure, textOf, parts}
 use Rattle.rules.specs.Places.{Place, pLetter, pCaret, pDollar, pFork, pEnd, unroll, places}
 use Rattle.rules.specs.Walk.{pairs}
@@ -27,7 +27,7 @@ use Rattle.laws.proofs.SameLetters.{search-agrees}
 use Rattle.laws.proofs.ThinPlaces.{Leads, thinned-spelt}
 use Rattle.laws.proofs.Rank.{rank}
 use Rattle.table.specs.Table.{placeAt, placesIn}
-use Rattle.table.specs.Tests.{holdsIn, definedIn, testAt}
+use Rattle.table.specs.Tests.{holdsIn, conditionIn, testAt}
 use Rattle.table.specs.Measures.{measuresIn}
 use Rattle.pairs.specs.Layout as W
 use Rattle.pairs.specs.Layout.{layoutOf}
@@ -117,8 +117,8 @@ module _ (q T : List ℕ) (p : Prepared) (a : Ready q T p) (terms : Terms) (rows
   letters-agree c lo hi i =
       let l : c - 65 < 26 = omega arith in
       let e : 65 + (c - 65) ≡ c = omega arith in
-      let y : definedIn T (p .columns) (testAt (testsAt (p .places)) (c - 65)) ≡ parts q .comparisons c = a .letters (c - 65) l ∙ ap (λ (k : ℕ). parts q .comparisons k) e in
-      ap₂ (λ (t : Table) (cs : List Comparison). holds t i cs) the-table y
+      let y : conditionIn T (p .columns) (testAt (testsAt (p .places)) (c - 65)) ≡ parts q .condition c = a .letters (c - 65) l ∙ ap (λ (k : ℕ). parts q .condition k) e in
+      ap₂ (λ (t : Table) (c : Condition). holds t i c) the-table y
 
   -- ---- what the starts ask
 

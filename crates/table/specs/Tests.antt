@@ -1,32 +1,38 @@
 -- The tests of the letters as words of the table, written when a query is prepared and read by the
 -- walk. From word `tests` on each of the letters A to Z has sixteen words; those of letter l (0 for
 -- A) begin at tests + 16 * l:
---   0         how many comparisons its DEFINE has, 1 to 8; 0 for a letter without DEFINE
+--   0         how many comparisons its DEFINE of kind 3 has, 1 to 8; 0 for a letter without such a
+--             DEFINE
 --   1         the word at which its comparisons behind the first stand, one behind the other
 --   2 to 6    its first comparison
 --   7         how the letter is tested: by a first comparison whose right side has a column (1) or
---             is a number (0), or not at all, as it has no DEFINE (2)
+--             is a number (0), not at all, as it has no DEFINE (2), or by its entries, as its
+--             DEFINE is of kind 6 (3)
 --   8 to 11   an interval that tells when the first comparison is met: its first number less
 --             2 ^ 33, in 64 bits, the lowest word first
 --   12 to 15  how many more numbers it has
+-- Of a letter whose DEFINE is of kind 6 there are, besides words 0 and 7, these:
+--   1         the word at which its entries stand, one behind the other
+--   2         how many entries it has, 1 to 16
 -- A comparison has five words:
 --   0         its operator, 1 to 6, and 8 more where its right side has a column
 --   1         its left spot
 --   2         its right spot
 --   3, 4      the low and the high half of its number, in two's complement
--- A spot tells an offset and a column by one number, (64 + offset) * columns + column. So the entry
--- that is read from a row lies that many entries behind the first entry of 64 rows before it. Words
--- 2 to 6 say all of the first comparison; 7 to 15 say it again in the form that is tested fastest
--- (`Tests`).
+-- An entry of kind 6 is a comparison, or one word: 16 for AND, 17 for OR, 18 for NOT. A spot tells
+-- an offset and a column by one number, (64 + offset) * columns + column. So the entry that is read
+-- from a row lies that many entries behind the first entry of 64 rows before it. Words 2 to 6 say
+-- all of the first comparison; 7 to 15 say it again in the form that is tested fastest (`Tests`).
 use mathlib.Core.Path.{_≡_}
-use mathlib.Core.Bool.{Bool}
+use mathlib.Core.Bool.{Bool, true}
 use mathlib.Core.List.{List, [], _∷_}
-use Prim.Native.Nat.{ℕ, _+_, _*_, _-_, _/_, _%_, _≤_, _<_}
-use lib.Dec.{eqb}
+use Prim.Native.Nat.{ℕ, zero, suc, _+_, _*_, _-_, _/_, _%_, _≤_, _<_}
+use lib.Dec.{ltb, eqb}
 use lib.IntN.{ℤ, pos, negsuc, _+ℤ_}
 use lib.ListN.{length, getD}
 use Rattle.rules.specs.Basics.{pick, tabulate, signed32}
-use Rattle.rules.specs.Rows.{Comparison, tableOf, holds}
+use Rattle.rules.specs.Rows.{Comparison, Entry, compared, conj, disj, neg, Condition, allOf, postfix, tableOf, holds}
+use Rattle.rules.specs.Query.{leavesOne}
 use Rattle.table.specs.Table.{codeAt, laterAt}
 
 -- the offset and the column of a spot
@@ -64,16 +70,43 @@ comparisonsIn T columns at count = tabulate count (λ k. comparisonIn T columns 
 abbrev pub testAt : ℕ → ℕ → ℕ
 testAt tests l = tests + l * 16
 
--- the comparisons of the letter whose words begin at word `at`
+-- the comparisons of the letter whose words begin at word `at`, none where its DEFINE is not of
+-- kind 3
 unfoldable pub definedIn : List ℕ → ℕ → ℕ → List Comparison
 unfolding comparisonIn comparisonsIn
 definedIn T columns at =
     pick (eqb (getD T at 0) 0) [] (comparisonIn T columns (at + 2) ∷ comparisonsIn T columns (getD T (at + 1) 0) (getD T at 0 - 1))
 
+-- the entry of kind 6 at word `at`, and how many words it takes
+unfoldable pub entryIn : List ℕ → ℕ → ℕ → Entry
+unfolding comparisonIn
+entryIn T columns at =
+    pick (ltb (getD T at 0) 16) (compared (comparisonIn T columns at)) (pick (eqb (getD T at 0) 16) conj (pick (eqb (getD T at 0) 17) disj neg))
+
+unfoldable pub entryWords : List ℕ → ℕ → ℕ
+entryWords T at = pick (ltb (getD T at 0) 16) 5 1
+
+-- so many entries from word `at` on, and the word behind them
+unfoldable pub entriesIn : List ℕ → ℕ → ℕ → ℕ → List Entry
+unfolding entryIn entryWords
+entriesIn T columns zero at = []
+entriesIn T columns (suc k) at = entryIn T columns at ∷ entriesIn T columns k (at + entryWords T at)
+
+unfoldable pub entriesBehind : List ℕ → ℕ → ℕ → ℕ
+unfolding entryWords
+entriesBehind T zero at = at
+entriesBehind T (suc k) at = entriesBehind T k (at + entryWords T at)
+
+-- the condition of the letter whose words begin at word `at`
+unfoldable pub conditionIn : List ℕ → ℕ → ℕ → Condition
+unfolding definedIn entriesIn
+conditionIn T columns at =
+    pick (eqb (getD T (at + 7) 0) 3) (postfix (entriesIn T columns (getD T (at + 2) 0) (getD T (at + 1) 0))) (allOf (definedIn T columns at))
+
 -- a letter, by its character, holds at a row
 unfoldable pub holdsIn : List ℕ → ℕ → ℕ → List ℤ → ℕ → ℕ → Bool
-unfolding holds definedIn
-holdsIn T tests columns rows c i = holds (tableOf columns rows) i (definedIn T columns (testAt tests (c - 65)))
+unfolding holds conditionIn
+holdsIn T tests columns rows c i = holds (tableOf columns rows) i (conditionIn T columns (testAt tests (c - 65)))
 
 -- ---- the first comparison as an interval
 
@@ -119,13 +152,20 @@ pub record First (T : List ℕ) (at : ℕ) : Type 0 where
 
 -- ---- what is asked of the table
 
--- The words of all letters stand in the table, and so do the comparisons to which they point; and
--- what they say twice they say alike.
+-- the entries of the letter at word `at` stand in the table, run nowhere short and leave one result
+pub record Entries (T : List ℕ) (at : ℕ) : Type 0 where
+  pub few : getD T (at + 2) 0 ≤ 16
+  pub there : entriesBehind T (getD T (at + 2) 0) (getD T (at + 1) 0) ≤ length T
+  pub leaves : (columns : ℕ) → leavesOne 0 (entriesIn T columns (getD T (at + 2) 0) (getD T (at + 1) 0)) ≡ true
+
+-- The words of all letters stand in the table, and so do the comparisons and entries to which they
+-- point; and what they say twice they say alike.
 pub record Tests (T : List ℕ) (tests : ℕ) : Type 0 where
   pub long : tests + 416 ≤ length T
   pub more : (l : ℕ) → l < 26 → 1 < getD T (testAt tests l) 0 → getD T (testAt tests l + 1) 0 + (getD T (testAt tests l) 0 - 1) * 5 ≤ length T
   pub first : (l : ℕ) → l < 26 → 0 < getD T (testAt tests l) 0 → First T (testAt tests l)
-  pub free : (l : ℕ) → l < 26 → getD T (testAt tests l) 0 ≡ 0 → getD T (testAt tests l + 7) 0 ≡ 2
+  pub free : (l : ℕ) → l < 26 → getD T (testAt tests l) 0 ≡ 0 → (getD T (testAt tests l + 7) 0 ≡ 3 → ⊥) → getD T (testAt tests l + 7) 0 ≡ 2
+  pub entries : (l : ℕ) → l < 26 → getD T (testAt tests l + 7) 0 ≡ 3 → Entries T (testAt tests l)
 
 -- Of P places, each letter's tells the word at which its test begins, so that the walk need not
 -- reckon it.

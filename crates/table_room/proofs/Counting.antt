@@ -15,10 +15,10 @@ too-few words k h = rw (lt-ltb words k h)
 pub by-longest : (words k : ℕ) → k ≤ words → ltb 65535 words ≡ (ltb words k || ltb 65535 words)
 by-longest words k h = rw (le-ltb words k h)
 
-module _ (s defines : List ℕ) (P letters : ℕ) (h : Sizing s defines P letters) (more : ℕ) (em : (more ≡ T.wordsFor s defines letters) × (more ≤ 910)) (tests : ℕ) (et : tests ≡ testsAt P) where
+module _ (s defines : List ℕ) (P letters : ℕ) (h : Sizing s defines P letters) (more : ℕ) (em : (more ≡ T.wordsFor s defines letters) × (more ≤ 1300)) (tests : ℕ) (et : tests ≡ testsAt P) where
   pub words-are : tests + 416 + more ≡ needed s defines P letters
   unfolding needed
   words-are = rw (et, em .0)
 
-  pub words-few : tests + 416 + more ≤ 3142
+  pub words-few : tests + 416 + more ≤ 3532
   words-few = let a = em .1 in let b = h .few in omega arith

@@ -46,7 +46,7 @@ pub fn has_no_room(words: usize, needed: usize) -> bool
 // How many words a query of so many places needs.
 pub fn words_needed(query: &[u8], defines: &[usize; 26], places: usize, letters: usize) -> usize
     requires { ⌜ Sizing (now query) (now defines) places letters ⌝ }
-    ensures { λ r. ⌜ (r ≡ needed (now (query .entry)) (now (defines .entry)) places letters) × (r ≤ 3142) ⌝ }
+    ensures { λ r. ⌜ (r ≡ needed (now (query .entry)) (now (defines .entry)) places letters) × (r ≤ 3532) ⌝ }
 {
     let more = words_for(query, defines, letters);
     tests_at(places) + LETTER_WORDS + more

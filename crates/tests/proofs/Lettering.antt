@@ -9,23 +9,28 @@ use lib.Dec.{eqb, ltb}
 use lib.ListN.{length, getD, set, length-set}
 use lib.Seq.{getD-set-same, getD-set-other}
 use borrow.Author.Tests.{eqb-true, eqb-false, ltb-true, ltb-false}
+use Rattle.rules.specs.Basics.{le16}
 use Rattle.laws.proofs.Choice.{decided}
-use Rattle.define_list.specs.Defines.{definedAt}
-use Rattle.table.specs.Tests.{testAt, definedIn, First}
-use Rattle.tests.specs.Prepared.{moreOf, wordsFor, Counted, Countable, Preparable, Prepared, LetterRoom, LetterPut, LettersPut, NoneRoom, NonePut}
-use Rattle.comparison_words.proofs.Same.{defined-same}
-use Rattle.interval_words.proofs.First.{first-same}
-use Rattle.tests.proofs.Putting.{more-none, more-some, defined-none, letter-free}
+use Rattle.define_list.specs.Defines.{kindAt, definedAt}
+use Rattle.table.specs.Tests.{testAt, conditionIn}
+use Rattle.tests.specs.Prepared.{moreOf, wordsFor, Told, Counted, Countable, Preparable, Prepared, LetterRoom, LetterPut, LettersPut, NoneRoom, NonePut}
+use Rattle.tests.proofs.Telling.{told-wider, told-same, condition-same}
+use Rattle.tests.proofs.Putting.{more-none, more-some, more-entries, defined-none, letter-free, told-none}
 
 -- ---- how many words
 
 module _ (s : List ℕ) (d : ℕ) where
-  pub none-counted : d ≡ 0 → (0 ≡ moreOf s d) × (0 ≤ 35)
+  pub none-counted : d ≡ 0 → (0 ≡ moreOf s d) × (0 ≤ 50)
   none-counted z = (sym (more-none s d z), omega arith)
 
-  pub some-counted : Counted s d → (d ≡ 0 → ⊥) → (x : ℕ) → x ≡ getD s (d + 1) 0 → ((x - 1) * 5 ≡ moreOf s d) × ((x - 1) * 5 ≤ 35)
-  some-counted h o x e =
-      (let m = more-some s d o in omega arith, let f = h .few in omega arith)
+  module _ (h : Counted s d) (o : d ≡ 0 → ⊥) (x : ℕ) (e : x ≡ getD s (d + 1) 0) (k : ℕ) (ek : k ≡ le16 s (d - 2)) where
+    pub some-counted : k ≡ 3 → ((x - 1) * 5 ≡ moreOf s d) × ((x - 1) * 5 ≤ 50)
+    unfolding kindAt
+    some-counted z = (let m = more-some s d o (sym ek ∙ z) in omega arith, let f = h .few (sym ek ∙ z) in omega arith)
+
+    pub entries-counted : (k ≡ 3 → ⊥) → (x * 3 + 2 ≡ moreOf s d) × (x * 3 + 2 ≤ 50)
+    unfolding kindAt
+    entries-counted n = (let m = more-entries s d o (λ z. n (ek ∙ z)) in omega arith, let f = h .most in omega arith)
 
 words-next : (s defines : List ℕ) (l : ℕ) → wordsFor s defines (l + 1) ≡ wordsFor s defines l + moreOf s (getD defines l 0)
 unfolding wordsFor
@@ -47,7 +52,7 @@ pub record Counting (s defines : List ℕ) (letters words l : ℕ) : Type 0 wher
   pub asked : Countable s defines letters
   pub upto : l ≤ letters
   pub is : words ≡ wordsFor s defines l
-  pub few : words ≤ l * 35
+  pub few : words ≤ l * 50
 
 module _ (s defines : List ℕ) (letters : ℕ) where
   pub counting-none : Countable s defines letters → Counting s defines letters 0 0
@@ -58,7 +63,7 @@ module _ (s defines : List ℕ) (letters : ℕ) where
     pub counting-room : l < letters → (getD defines l 0 ≡ 0 → ⊥) → Counted s (getD defines l 0)
     counting-room g = h .asked .counted l (let u = h .asked .upto in omega arith)
 
-    pub counting-more : l < letters → (m : ℕ) → (m ≡ moreOf s (getD defines l 0)) × (m ≤ 35) → Counting s defines letters (words + m) (l + 1)
+    pub counting-more : l < letters → (m : ℕ) → (m ≡ moreOf s (getD defines l 0)) × (m ≤ 50) → Counting s defines letters (words + m) (l + 1)
     counting-more g m e = record {
       asked = h .asked;
       upto = omega arith;
@@ -66,7 +71,7 @@ module _ (s defines : List ℕ) (letters : ℕ) where
       few = let b = h .few in let c = e .1 in omega arith;
     }
 
-    pub counting-all : letters ≤ l → (words ≡ wordsFor s defines letters) × (words ≤ 910)
+    pub counting-all : letters ≤ l → (words ≡ wordsFor s defines letters) × (words ≤ 1300)
     counting-all g =
         let q : l ≡ letters = let u = h .upto in omega arith in
         (h .is ∙ ap (wordsFor s defines) q, let u = h .asked .upto in let f = h .few in omega arith)
@@ -89,10 +94,7 @@ module _ (s : List ℕ) (columns : ℕ) (defines : List ℕ) (letters : ℕ) (T�
     put = record {
       len = refl;
       is = λ l g. absurd (omega arith);
-      first = λ l g. absurd (omega arith);
-      free = λ l g. absurd (omega arith);
-      from = λ l g. absurd (omega arith);
-      upto = λ l g. absurd (omega arith);
+      told = λ l g. absurd (omega arith);
       kept = λ j g. refl;
     };
   }
@@ -126,17 +128,8 @@ module _ (s : List ℕ) (columns : ℕ) (defines : List ℕ) (letters : ℕ) (T�
           let e = h .is-more in
           one .kept j (λ c d. omega arith) (λ c d. omega arith)
 
-      count-kept : (m : ℕ) → m < l → getD T′ (testAt tests m) 0 ≡ getD T (testAt tests m) 0
-      count-kept m f = own-kept m f (testAt tests m) (omega arith) (omega arith)
-
-      more-kept : (m : ℕ) → m < l → getD T′ (testAt tests m + 1) 0 ≡ getD T (testAt tests m + 1) 0
-      more-kept m f = own-kept m f (testAt tests m + 1) (omega arith) (omega arith)
-
-      defined-kept : (m : ℕ) → m < l → definedIn T′ columns (testAt tests m) ≡ definedIn T columns (testAt tests m)
-      defined-kept m f =
-          defined-same T T′ columns (testAt tests m) (λ j a b. own-kept m f j a (omega arith))
-          (λ o j a b. let u = h .asked .upto in let e = h .is-more in let v = h .put .from m f o in let w = h .put .upto m f o in
-          one .kept j (λ c d. omega arith) (λ c d. omega arith))
+      reach-kept : (j : ℕ) → tests + 416 ≤ j → j < tests + 416 + wordsFor s defines l → getD T′ j 0 ≡ getD T j 0
+      reach-kept j a b = let u = h .asked .upto in let e = h .is-more in one .kept j (λ c d. omega arith) (λ c d. omega arith)
 
       below : (m : ℕ) → m < l + 1 → (m ≡ l → ⊥) → m < l
       below m f k = omega arith
@@ -158,21 +151,12 @@ module _ (s : List ℕ) (columns : ℕ) (defines : List ℕ) (letters : ℕ) (T�
         is-more = now-more;
         put = record {
           len = one .len ∙ h .put .len;
-          is = each (λ m. definedIn T′ columns (testAt tests m) ≡ definedAt s (getD defines m 0)) (one .is) (λ m f. defined-kept m f ∙ h .put .is m f);
-          first =
-              each (λ m. 0 < getD T′ (testAt tests m) 0 → First T′ (testAt tests m)) (one .first)
-              (λ m f o. first-same T T′ (testAt tests m) (own-kept m f) (h .put .first m f (let a = count-kept m f in omega arith)));
-          free =
-              each (λ m. getD T′ (testAt tests m) 0 ≡ 0 → getD T′ (testAt tests m + 7) 0 ≡ 2) (one .free)
-              (λ m f z. own-kept m f (testAt tests m + 7) (omega arith) (omega arith) ∙ h .put .free m f (let a = count-kept m f in omega arith));
-          from =
-              each (λ m. 1 < getD T′ (testAt tests m) 0 → tests + 416 ≤ getD T′ (testAt tests m + 1) 0)
-              (λ o. let a = one .from o in let b = h .is-more in omega arith)
-              (λ m f o. let a = count-kept m f in let b = more-kept m f in let c = h .put .from m f (omega arith) in omega arith);
-          upto =
-              each (λ m. 1 < getD T′ (testAt tests m) 0 → getD T′ (testAt tests m + 1) 0 + (getD T′ (testAt tests m) 0 - 1) * 5 ≤ tests + 416 + wordsFor s defines (l + 1))
-              (λ o. let a = one .upto o in let b = now-more in omega arith)
-              (λ m f o. let a = count-kept m f in let b = more-kept m f in let c = h .put .upto m f (omega arith) in let d = words-next s defines l in omega arith);
+          is = each (λ m. conditionIn T′ columns (testAt tests m) ≡ definedAt s (getD defines m 0)) (one .is)
+              (λ m f. condition-same T T′ (testAt tests m) (tests + 416) (tests + 416 + wordsFor s defines l) (h .put .told m f) (own-kept m f) reach-kept columns ∙ h .put .is m f);
+          told = each (λ m. Told T′ (testAt tests m) (tests + 416) (tests + 416 + wordsFor s defines (l + 1)))
+              (told-wider T′ (testAt tests l) more r (tests + 416) (tests + 416 + wordsFor s defines (l + 1)) (let b = h .is-more in omega arith) (let b = now-more in omega arith) (one .told))
+              (λ m f. told-wider T′ (testAt tests m) (tests + 416) (tests + 416 + wordsFor s defines l) (tests + 416) (tests + 416 + wordsFor s defines (l + 1)) (omega arith) (let d = words-next s defines l in omega arith)
+              (told-same T T′ (testAt tests m) (tests + 416) (tests + 416 + wordsFor s defines l) (h .put .told m f) (own-kept m f) reach-kept (one .len)));
           kept = λ j f. let e = h .is-more in one .kept j (λ c d. omega arith) (λ c d. omega arith) ∙ h .put .kept j f;
         };
       }
@@ -247,40 +231,25 @@ module _ (s : List ℕ) (columns : ℕ) (defines : List ℕ) (letters : ℕ) (T 
     own-kept₂ : (l : ℕ) → l < letters → (j : ℕ) → testAt tests l ≤ j → j < testAt tests l + 16 → getD T₂ j 0 ≡ getD T₁ j 0
     own-kept₂ l f j a b = none .kept j (λ c d. omega arith)
 
-    count-kept₂ : (l : ℕ) → l < letters → getD T₂ (testAt tests l) 0 ≡ getD T₁ (testAt tests l) 0
-    count-kept₂ l f = own-kept₂ l f (testAt tests l) (omega arith) (omega arith)
-
-    more-kept₂ : (l : ℕ) → l < letters → getD T₂ (testAt tests l + 1) 0 ≡ getD T₁ (testAt tests l + 1) 0
-    more-kept₂ l f = own-kept₂ l f (testAt tests l + 1) (omega arith) (omega arith)
+    reach-kept₂ : (j : ℕ) → tests + 416 ≤ j → j < tests + 416 + wordsFor s defines letters → getD T₂ j 0 ≡ getD T₁ j 0
+    reach-kept₂ j a b = none .kept j (λ c d. omega arith)
 
     long₂ : length T₂ ≡ length T
     long₂ = none .len ∙ some .len
 
     pub prepared : Prepared s columns defines T T₂ tests
     prepared = record {
-      there = record {
-        long = let a = h .room in let b = long₂ in omega arith;
-        more = λ l f o. decided (ltb l letters)
-            (λ t. let g = ltb-true l letters t in let a = count-kept₂ l g in let b = more-kept₂ l g in
-            let c = some .upto l g (omega arith) in let d = h .room in let e = long₂ in omega arith)
-            (λ t. let z = none .zero l (ltb-false l letters t) f in absurd (omega arith));
-        first = λ l f o. decided (ltb l letters)
-            (λ t. let g = ltb-true l letters t in let a = count-kept₂ l g in
-            first-same T₁ T₂ (testAt tests l) (own-kept₂ l g) (some .first l g (omega arith)))
-            (λ t. let z = none .zero l (ltb-false l letters t) f in absurd (omega arith));
-        free = λ l f z. decided (ltb l letters)
-            (λ t. let g = ltb-true l letters t in let a = count-kept₂ l g in
-            own-kept₂ l g (testAt tests l + 7) (omega arith) (omega arith) ∙ some .free l g (omega arith))
-            (λ t. none .free l (ltb-false l letters t) f);
-      };
+      long = let a = h .room in let b = long₂ in omega arith;
+      told = λ l f. decided (ltb l letters)
+          (λ t. let g = ltb-true l letters t in
+          told-wider T₂ (testAt tests l) (tests + 416) (tests + 416 + wordsFor s defines letters) tests (length T₂) (omega arith) (let a = h .room in let b = long₂ in omega arith)
+          (told-same T₁ T₂ (testAt tests l) (tests + 416) (tests + 416 + wordsFor s defines letters) (some .told l g) (own-kept₂ l g) reach-kept₂ (none .len)))
+          (λ t. let g = ltb-false l letters t in told-none T₂ (testAt tests l) tests (length T₂) (none .zero l g f) (none .free l g f));
       is = λ l f. decided (ltb l letters)
           (λ t. let g = ltb-true l letters t in
-          defined-same T₁ T₂ columns (testAt tests l) (λ j a b. own-kept₂ l g j a (omega arith)) (λ o j a b. let v = some .from l g o in none .kept j (λ c d. omega arith)) ∙ some .is l g)
+          condition-same T₁ T₂ (testAt tests l) (tests + 416) (tests + 416 + wordsFor s defines letters) (some .told l g) (own-kept₂ l g) reach-kept₂ columns ∙ some .is l g)
           (λ t. let g = ltb-false l letters t in
-          letter-free T₂ columns (testAt tests l) (none .zero l g f) ∙ sym (defined-none s (getD defines l 0) (h .free l g f)));
-      behind = λ l f o. decided (ltb l letters)
-          (λ t. let g = ltb-true l letters t in let a = count-kept₂ l g in let b = more-kept₂ l g in let c = some .from l g (omega arith) in omega arith)
-          (λ t. let z = none .zero l (ltb-false l letters t) f in absurd (omega arith));
+          letter-free T₂ columns (testAt tests l) (none .zero l g f) (none .free l g f) ∙ sym (defined-none s (getD defines l 0) (h .free l g f)));
       len = long₂;
       kept = λ j f. none .kept j (λ c d. omega arith) ∙ some .kept j f;
     }

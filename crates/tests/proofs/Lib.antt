@@ -1,3 +1,4 @@
+pub mod Telling
 mod Putting
 mod Lettering
 pub mod Uses

@@ -1,21 +1,23 @@
 -- What writing the tests of all letters asks and grants. The layout of the words is that of
 -- crates/table/specs/Tests: from word `tests` on sixteen words for each letter, and here behind
--- them, from word tests + 416 on, the comparisons behind the first of each letter, letter by
--- letter.
+-- them, from word tests + 416 on, the comparisons behind the first, or the entries, of each letter,
+-- letter by letter.
 use mathlib.Core.Path.{_≡_}
 use mathlib.Core.List.{List}
 use Prim.Native.Nat.{ℕ, zero, suc, _+_, _*_, _-_, _≤_, _<_}
 use lib.Dec.{eqb}
 use lib.ListN.{length, getD}
 use Rattle.rules.specs.Basics.{pick}
-use Rattle.define_list.specs.Defines.{definedAt, Body}
-use Rattle.table.specs.Tests.{testAt, definedIn, First, Tests}
+use Rattle.define_list.specs.Defines.{kindAt, definedAt, AllBody, Body}
+use Rattle.table.specs.Tests.{testAt, conditionIn, entriesBehind, First, Entries}
 
 -- ---- how many words
 
--- the words of the comparisons behind the first, where the DEFINE's body starts at index d
+-- the words of the comparisons behind the first, or of the entries, where the DEFINE's body starts
+-- at index d: entries that leave one result take three words each at the most, and two more
 unfoldable pub moreOf : List ℕ → ℕ → ℕ
-moreOf s d = pick (eqb d 0) 0 ((getD s (d + 1) 0 - 1) * 5)
+unfolding kindAt
+moreOf s d = pick (eqb d 0) 0 (pick (eqb (kindAt s d) 3) ((getD s (d + 1) 0 - 1) * 5) (getD s (d + 1) 0 * 3 + 2))
 
 -- those of the letters below a number
 unfoldable pub wordsFor : List ℕ → List ℕ → ℕ → ℕ
@@ -23,15 +25,30 @@ unfolding moreOf
 wordsFor s defines zero = 0
 wordsFor s defines (suc l) = wordsFor s defines l + moreOf s (getD defines l 0)
 
--- the count of a body's comparisons can be read, and is 1 to 8
+-- the kind and the count of a body can be read, and the count is 1 to 8 or 1 to 16 by the kind
 pub record Counted (s : List ℕ) (d : ℕ) : Type 0 where
+  pub header : 4 ≤ d
   pub there : d + 2 ≤ length s
   pub one : 1 ≤ getD s (d + 1) 0
-  pub few : getD s (d + 1) 0 ≤ 8
+  pub few : kindAt s d ≡ 3 → getD s (d + 1) 0 ≤ 8
+  pub most : getD s (d + 1) 0 ≤ 16
 
 pub record Countable (s defines : List ℕ) (letters : ℕ) : Type 0 where
   pub upto : letters ≤ 26
   pub counted : (l : ℕ) → l < 26 → (getD defines l 0 ≡ 0 → ⊥) → Counted s (getD defines l 0)
+
+-- ---- what the words of a letter keep to
+
+-- The words at word `at` say what they say twice alike, and those to which they point lie from word
+-- `low` on, before word `high`.
+pub record Told (T : List ℕ) (at low high : ℕ) : Type 0 where
+  pub first : 0 < getD T at 0 → First T at
+  pub free : getD T at 0 ≡ 0 → (getD T (at + 7) 0 ≡ 3 → ⊥) → getD T (at + 7) 0 ≡ 2
+  pub from : 1 < getD T at 0 → low ≤ getD T (at + 1) 0
+  pub upto : 1 < getD T at 0 → getD T (at + 1) 0 + (getD T at 0 - 1) * 5 ≤ high
+  pub entries : getD T (at + 7) 0 ≡ 3 → Entries T at
+  pub entries-from : getD T (at + 7) 0 ≡ 3 → low ≤ getD T (at + 1) 0
+  pub entries-upto : getD T (at + 7) 0 ≡ 3 → entriesBehind T (getD T (at + 2) 0) (getD T (at + 1) 0) ≤ high
 
 -- ---- all letters
 
@@ -46,19 +63,19 @@ pub record Preparable (s : List ℕ) (columns : ℕ) (defines : List ℕ) (lette
   pub room : tests + 416 + wordsFor s defines letters ≤ length T
   pub small : length T < 65536
 
--- Every letter has its comparisons in the table, all of them from word `tests` on. The words in
--- front of `tests` are as they were.
+-- Every letter has its condition in the table, all of it from word `tests` on. The words in front of
+-- `tests` are as they were.
 pub record Prepared (s : List ℕ) (columns : ℕ) (defines T T′ : List ℕ) (tests : ℕ) : Type 0 where
-  pub there : Tests T′ tests
-  pub is : (l : ℕ) → l < 26 → definedIn T′ columns (testAt tests l) ≡ definedAt s (getD defines l 0)
-  pub behind : (l : ℕ) → l < 26 → 1 < getD T′ (testAt tests l) 0 → tests ≤ getD T′ (testAt tests l + 1) 0
+  pub long : tests + 416 ≤ length T′
+  pub told : (l : ℕ) → l < 26 → Told T′ (testAt tests l) tests (length T′)
+  pub is : (l : ℕ) → l < 26 → conditionIn T′ columns (testAt tests l) ≡ definedAt s (getD defines l 0)
   pub len : length T′ ≡ length T
   pub kept : (j : ℕ) → j < tests → getD T′ j 0 ≡ getD T j 0
 
 -- ---- the words of a letter
 
--- The words of a letter begin at word `at`, those of its comparisons behind the first at word
--- `more`.
+-- The words of a letter begin at word `at`, those of its comparisons behind the first, or of its
+-- entries, at word `more`.
 pub record LetterRoom (s : List ℕ) (columns d : ℕ) (T : List ℕ) (at more : ℕ) : Type 0 where
   pub few : columns ≤ 8
   pub body : (d ≡ 0 → ⊥) → Body s columns d
@@ -66,36 +83,30 @@ pub record LetterRoom (s : List ℕ) (columns d : ℕ) (T : List ℕ) (at more :
   pub room : more + moreOf s d ≤ length T
   pub small : length T < 65536
 
--- the same of a letter that has a DEFINE
+-- the same of a letter that has a DEFINE of kind 3
 pub record DefineRoom (s : List ℕ) (columns d : ℕ) (T : List ℕ) (at more : ℕ) : Type 0 where
   pub few : columns ≤ 8
   pub some : d ≡ 0 → ⊥
-  pub body : Body s columns d
+  pub kind : kindAt s d ≡ 3
+  pub body : AllBody s columns d
   pub before : at + 16 ≤ more
   pub room : more + (getD s (d + 1) 0 - 1) * 5 ≤ length T
   pub small : length T < 65536
 
--- r is the word behind its comparisons
+-- r is the word behind its comparisons or entries
 pub record LetterPut (s : List ℕ) (columns d : ℕ) (T T′ : List ℕ) (at more r : ℕ) : Type 0 where
   pub behind : r ≡ more + moreOf s d
   pub len : length T′ ≡ length T
-  pub is : definedIn T′ columns at ≡ definedAt s d
-  pub first : 0 < getD T′ at 0 → First T′ at
-  pub free : getD T′ at 0 ≡ 0 → getD T′ (at + 7) 0 ≡ 2
-  pub from : 1 < getD T′ at 0 → more ≤ getD T′ (at + 1) 0
-  pub upto : 1 < getD T′ at 0 → getD T′ (at + 1) 0 + (getD T′ at 0 - 1) * 5 ≤ r
+  pub is : conditionIn T′ columns at ≡ definedAt s d
+  pub told : Told T′ at more r
   pub kept : (j : ℕ) → (at ≤ j → j < at + 16 → ⊥) → (more ≤ j → j < r → ⊥) → getD T′ j 0 ≡ getD T j 0
 
 -- ---- the letters below a number, and those from it on
 
 pub record LettersPut (s : List ℕ) (columns : ℕ) (defines T T′ : List ℕ) (tests letters : ℕ) : Type 0 where
   pub len : length T′ ≡ length T
-  pub is : (l : ℕ) → l < letters → definedIn T′ columns (testAt tests l) ≡ definedAt s (getD defines l 0)
-  pub first : (l : ℕ) → l < letters → 0 < getD T′ (testAt tests l) 0 → First T′ (testAt tests l)
-  pub free : (l : ℕ) → l < letters → getD T′ (testAt tests l) 0 ≡ 0 → getD T′ (testAt tests l + 7) 0 ≡ 2
-  pub from : (l : ℕ) → l < letters → 1 < getD T′ (testAt tests l) 0 → tests + 416 ≤ getD T′ (testAt tests l + 1) 0
-  pub upto : (l : ℕ) → l < letters → 1 < getD T′ (testAt tests l) 0 →
-      getD T′ (testAt tests l + 1) 0 + (getD T′ (testAt tests l) 0 - 1) * 5 ≤ tests + 416 + wordsFor s defines letters
+  pub is : (l : ℕ) → l < letters → conditionIn T′ columns (testAt tests l) ≡ definedAt s (getD defines l 0)
+  pub told : (l : ℕ) → l < letters → Told T′ (testAt tests l) (tests + 416) (tests + 416 + wordsFor s defines letters)
   pub kept : (j : ℕ) → j < tests → getD T′ j 0 ≡ getD T j 0
 
 pub record NoneRoom (T : List ℕ) (tests letters : ℕ) : Type 0 where

@@ -1,14 +1,17 @@
 // The tests of the letters, written into the table of a prepared query from the DEFINEs of the
 // query's bytes; the layout of the words is that of crates/table/specs/Tests.
-// Promise: for every letter the words say the comparisons of its DEFINE, and no word in front of
-// the tests is changed (specs/Prepared). Weakness: the DEFINEs must be sound, and the table large
+// Promise: for every letter the words say the condition of its DEFINE, and no word in front of the
+// tests is changed (specs/Prepared). Weakness: the DEFINEs must be sound, and the table large
 // enough, which the caller has to see to; `words_for` tells how large.
 use comparison_words::COMPARISON_BYTES;
 use comparison_words::COMPARISON_WORDS;
 use comparison_words::put_comparison;
 use comparison_words::put_comparisons;
+use entry_words::put_postfix;
 use interval_words::put_interval;
+use numbers::le16_at;
 use numbers::wide8;
+use records::ALL_OF;
 use table::LETTERS;
 ghost use mathlib.Core.Path.{_≡_};
 ghost use Prim.Native.Nat.{_+_, _≤_, _<_};
@@ -25,21 +28,26 @@ const FREE: u16 = 2;
 
 // ---- how many words
 
-// The words of the comparisons behind the first, where the DEFINE's body starts at index d.
+// The words of the comparisons behind the first, or of the entries, where the DEFINE's body starts
+// at index d.
 fn more_of(query: &[u8], d: usize) -> usize
     requires { ⌜ ((d ≡ 0 → ⊥) → Counted (now query) d) ⌝ }
-    ensures { λ r. ⌜ (r ≡ moreOf (now (query .entry)) d) × (r ≤ 35) ⌝ }
+    ensures { λ r. ⌜ (r ≡ moreOf (now (query .entry)) d) × (r ≤ 50) ⌝ }
 {
     if d == 0 {
         return 0;
     }
-    (wide8(query[d + 1]) - 1) * COMPARISON_WORDS
+    let count = wide8(query[d + 1]);
+    if le16_at(query, d - 2) == ALL_OF {
+        return (count - 1) * COMPARISON_WORDS;
+    }
+    count * 3 + 2
 }
 
 // How many words the tests of the letters below `letters` take behind the 416 of all letters.
 pub fn words_for(query: &[u8], defines: &[usize; 26], letters: usize) -> usize
     requires { ⌜ Countable (now query) (now defines) letters ⌝ }
-    ensures { λ r. ⌜ (r ≡ wordsFor (now (query .entry)) (now (defines .entry)) letters) × (r ≤ 910) ⌝ }
+    ensures { λ r. ⌜ (r ≡ wordsFor (now (query .entry)) (now (defines .entry)) letters) × (r ≤ 1300) ⌝ }
 {
     let mut words = 0;
     let mut letter = 0;
@@ -52,7 +60,7 @@ pub fn words_for(query: &[u8], defines: &[usize; 26], letters: usize) -> usize
 
 // ---- letters
 
-// The words of a letter whose DEFINE's body starts at index d, as put_letter says.
+// The words of a letter whose DEFINE of kind 3 has its body at index d, as put_letter says.
 fn put_defined(
     query: &[u8],
     columns: usize,
@@ -80,8 +88,8 @@ fn put_defined(
     )
 }
 
-// The words of a letter at word `at`, its comparisons behind the first from word `more` on. Returns
-// the word behind those. Two words of a letter without DEFINE, where d is 0, say so.
+// The words of a letter at word `at`, its comparisons behind the first, or its entries, from word
+// `more` on. Returns the word behind those. Two words of a letter without DEFINE, where d is 0, say so.
 fn put_letter(
     query: &[u8],
     columns: usize,
@@ -98,7 +106,10 @@ fn put_letter(
         table[at + KIND] = FREE;
         return more;
     }
-    put_defined(query, columns, d, table, at, more)
+    if le16_at(query, d - 2) == ALL_OF {
+        return put_defined(query, columns, d, table, at, more);
+    }
+    put_postfix(query, columns, d, table, at, more)
 }
 
 // The words of the letters below `letters`.

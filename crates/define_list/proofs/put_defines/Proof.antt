@@ -30,6 +30,9 @@ enum-told c = search needs
 returns : tie.Need-returns Inv-loop μ-loop
 returns c = search (needs, lettering-cut)
 
+is-define-requires : tie.Need-is-define-requires Inv-loop μ-loop
+is-define-requires c κs = search needs
+
 returns-2 : tie.Need-returns-2 Inv-loop μ-loop
 returns-2 c = search (needs, lettering-over)
 
@@ -62,6 +65,7 @@ put-defines-spec =
     enum-known-kind
     enum-told
     returns
+    is-define-requires
     returns-2
     put-define-requires
     either-requires

@@ -1,6 +1,6 @@
 -- `fields::record_fits` meets its contract by the laws of FieldRules.
 use borrow.Author.Needs.{needs}
-use Rattle.fields.proofs.FieldRules.{fits-1, fits-2, fits-3, fits-4, fits-5, fits-other}
+use Rattle.fields.proofs.FieldRules.{fits-1, fits-2, fits-3, fits-4, fits-5, fits-6, fits-other}
 use Rattle.fields.proofs.record_fits.Statement.{statement}
 use Rattle.fields.proofs.record_fits.Tie as tie
 
@@ -31,8 +31,14 @@ measure-fits-requires c κs = search needs
 returns-5 : tie.Need-returns-5
 returns-5 c = search (needs, fits-5)
 
+postfix-fits-requires : tie.Need-postfix-fits-requires
+postfix-fits-requires c κs = search needs
+
 returns-6 : tie.Need-returns-6
-returns-6 c = search (needs, fits-other)
+returns-6 c = search (needs, fits-6)
+
+returns-7 : tie.Need-returns-7
+returns-7 c = search (needs, fits-other)
 
 pub record-fits-spec : {M : Type 1} → statement M
 record-fits-spec =
@@ -47,4 +53,6 @@ record-fits-spec =
     returns-4
     measure-fits-requires
     returns-5
-    returns-6)
+    postfix-fits-requires
+    returns-6
+    returns-7)

@@ -1,5 +1,5 @@
 -- `letters::letter_holds` meets its contract by the laws of Testing.
-use Rattle.letters.proofs.Testing.{behind-last, free-holds, base-fits, first-there, others-there, some-counted, first-unmet, by-others}
+use Rattle.letters.proofs.Testing.{behind-last, free-holds, base-fits, first-there, others-there, some-counted, first-unmet, by-others, entries-stand, by-entries}
 use mathlib.Core.Path.{sym, _∙_}
 use native.Mathlib.Omega.{arith}
 use borrow.Author.Needs.{needs}
@@ -62,6 +62,13 @@ returns-5 c =
 returns-6 : tie.Need-returns-6
 returns-6 c = search (needs, free-holds)
 
+condition-holds-requires : tie.Need-condition-holds-requires
+condition-holds-requires c κs =
+    entries-stand _ _ _ _ _ _ (c .before .before .before .before .before .before .before .before .before .pre .2) (c .before .before .before .before .before .before .before .before .before .pre .1) _ (c .before .before .before .before .before .word-at .ensures .0) (c .before .before .if2 .left) (c .before .if4 .left) (c .if6 .left)
+
+returns-7 : tie.Need-returns-7
+returns-7 c = search (needs, by-entries)
+
 pub letter-holds-spec : {M : Type 1} → statement M
 letter-holds-spec =
     tie.close
@@ -81,4 +88,6 @@ letter-holds-spec =
     word-at-requires-3
     others-met-requires-2
     returns-5
-    returns-6)
+    returns-6
+    condition-holds-requires
+    returns-7)

@@ -26,11 +26,14 @@ returns-4 c = text-no _ _ _ _ _ (omega arith) (omega arith) (λ e. omega arith)
 returns-5 : tie.Need-returns-5
 returns-5 c = skip-yes _ _ _ (omega arith) (omega arith)
 
+is-define-requires : tie.Need-is-define-requires
+is-define-requires c κs = search needs
+
 out-of-order-requires-3 : tie.Need-out-of-order-requires-3
 out-of-order-requires-3 c κs = search needs
 
 returns-6 : tie.Need-returns-6
-returns-6 c = skip-no _ _ _ _ _ (omega arith) (omega arith) (λ e. omega arith) (λ e. omega arith)
+returns-6 c = skip-no _ _ _ _ _ (omega arith) _ (c .before .before .is-define .ensures) (search needs) (omega arith) (λ e. omega arith)
 
 out-of-order-requires-4 : tie.Need-out-of-order-requires-4
 out-of-order-requires-4 c κs = search needs
@@ -38,11 +41,11 @@ out-of-order-requires-4 c κs = search needs
 returns-7 : tie.Need-returns-7
 returns-7 c = defines-full _ _ _ _ _ (omega arith) (omega arith) (λ e. omega arith) (omega arith)
 
-sub-t9 : tie.Need-sub-t9
-sub-t9 c = search needs
+sub-t10 : tie.Need-sub-t10
+sub-t10 c = search needs
 
 returns-8 : tie.Need-returns-8
-returns-8 c = defines-more _ _ _ (omega arith) (omega arith) (omega arith)
+returns-8 c = defines-more _ _ _ _ (c .before .before .is-define .ensures) (search needs) (omega arith) (omega arith)
 
 out-of-order-requires-5 : tie.Need-out-of-order-requires-5
 out-of-order-requires-5 c κs = search needs
@@ -56,8 +59,8 @@ out-of-order-requires-6 c κs = search needs
 returns-10 : tie.Need-returns-10
 returns-10 c = measures-full _ _ _ _ _ (omega arith) (omega arith) (omega arith)
 
-sub-t11 : tie.Need-sub-t11
-sub-t11 c = search needs
+sub-t12 : tie.Need-sub-t12
+sub-t12 c = search needs
 
 returns-11 : tie.Need-returns-11
 returns-11 c = measures-more _ _ _ (omega arith) (omega arith) (omega arith)
@@ -79,17 +82,18 @@ after-spec =
     out-of-order-requires-2
     returns-4
     returns-5
+    is-define-requires
     out-of-order-requires-3
     returns-6
     out-of-order-requires-4
     returns-7
-    sub-t9
+    sub-t10
     returns-8
     out-of-order-requires-5
     returns-9
     out-of-order-requires-6
     returns-10
-    sub-t11
+    sub-t12
     returns-11
     out-of-order-requires-7
     returns-12)

@@ -1,7 +1,7 @@
 -- `tests::put_letter` meets its contract by the laws of Putting.
 use lib.ListN.{length-set}
 use native.Mathlib.Omega.{arith}
-use Rattle.tests.proofs.Putting.{letter-none, define-room}
+use Rattle.tests.proofs.Putting.{letter-none, header-there, header-read, define-room, postfix-room, postfix-is-put}
 use borrow.Author.Needs.{needs}
 use Rattle.tests.proofs.put_letter.Statement.{statement}
 use Rattle.tests.proofs.put_letter.Tie as tie
@@ -27,14 +27,29 @@ same-length c = search needs
 returns : tie.Need-returns
 returns c = letter-none _ _ _ _ _ _ (c .before .before .before .pre) (c .if1 .taken)
 
+sub-le16-at : tie.Need-sub-le16-at
+sub-le16-at c = search (needs, header-there)
+
+le16-at-requires : tie.Need-le16-at-requires
+le16-at-requires c κs = search (needs, header-read)
+
 put-defined-requires : tie.Need-put-defined-requires
-put-defined-requires c κs = define-room _ _ _ _ _ _ (c .before .before .before .before .pre) (c .before .if1 .left)
+put-defined-requires c κs = search (needs, define-room)
 
 same-length-2 : tie.Need-same-length-2
 same-length-2 c = search needs
 
 returns-2 : tie.Need-returns-2
 returns-2 c = search needs
+
+put-postfix-requires : tie.Need-put-postfix-requires
+put-postfix-requires c κs = search (needs, postfix-room)
+
+same-length-3 : tie.Need-same-length-3
+same-length-3 c = search needs
+
+returns-3 : tie.Need-returns-3
+returns-3 c = search (needs, postfix-is-put)
 
 pub put-letter-spec : {M : Type 1} → statement M
 put-letter-spec =
@@ -47,6 +62,11 @@ put-letter-spec =
     slice-write-table-2
     same-length
     returns
+    sub-le16-at
+    le16-at-requires
     put-defined-requires
     same-length-2
-    returns-2)
+    returns-2
+    put-postfix-requires
+    same-length-3
+    returns-3)

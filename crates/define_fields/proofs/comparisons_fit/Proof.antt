@@ -1,12 +1,12 @@
--- `fields::comparisons_fit` meets its contract by the laws of FieldRules. The invariant is `Below`:
+-- `define_fields::comparisons_fit` meets its contract by the laws of DefineRules. The invariant is `Below`:
 -- the first k comparisons fit; the count left falls.
 use Prim.Native.Nat.{_-_}
 use native.Mathlib.Omega.{arith}
 use borrow.Author.Needs.{needs}
-use Rattle.fields.specs.Fields.{fitsAt}
-use Rattle.fields.proofs.FieldRules.{Below, below-none, below-all, each-more, each-stop}
-use Rattle.fields.proofs.comparisons_fit.Statement.{statement}
-use Rattle.fields.proofs.comparisons_fit.Tie as tie
+use Rattle.define_fields.specs.Fields.{fitsAt}
+use Rattle.define_fields.proofs.DefineRules.{Below, below-none, below-all, each-more, each-stop}
+use Rattle.define_fields.proofs.comparisons_fit.Statement.{statement}
+use Rattle.define_fields.proofs.comparisons_fit.Tie as tie
 
 abbrev Inv-loop : tie.InvT-loop
 Inv-loop s columns p count k₀ k = Below (fitsAt s columns p) count k

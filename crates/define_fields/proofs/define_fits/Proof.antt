@@ -1,8 +1,8 @@
--- `fields::define_fits` meets its contract by the laws of FieldRules.
+-- `define_fields::define_fits` meets its contract by the laws of DefineRules.
 use borrow.Author.Needs.{needs}
-use Rattle.fields.proofs.FieldRules.{define-short, define-long, define-is}
-use Rattle.fields.proofs.define_fits.Statement.{statement}
-use Rattle.fields.proofs.define_fits.Tie as tie
+use Rattle.define_fields.proofs.DefineRules.{define-short, define-long, define-is}
+use Rattle.define_fields.proofs.define_fits.Statement.{statement}
+use Rattle.define_fields.proofs.define_fits.Tie as tie
 
 returns : tie.Need-returns
 returns c = search (needs, define-short)

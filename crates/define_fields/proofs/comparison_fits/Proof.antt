@@ -1,9 +1,9 @@
--- `fields::comparison_fits` meets its contract by the laws of FieldRules.
+-- `define_fields::comparison_fits` meets its contract by the laws of DefineRules.
 use native.Mathlib.Omega.{arith}
 use borrow.Author.Needs.{needs}
-use Rattle.fields.proofs.FieldRules.{comparison-is}
-use Rattle.fields.proofs.comparison_fits.Statement.{statement}
-use Rattle.fields.proofs.comparison_fits.Tie as tie
+use Rattle.define_fields.proofs.DefineRules.{comparison-is}
+use Rattle.define_fields.proofs.comparison_fits.Statement.{statement}
+use Rattle.define_fields.proofs.comparison_fits.Tie as tie
 
 byte-requires : tie.Need-byte-requires
 byte-requires c κs = search needs

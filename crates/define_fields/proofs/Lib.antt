@@ -1,0 +1,2 @@
+pub mod DefineRules
+pub mod EntryRules
