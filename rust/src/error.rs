@@ -29,8 +29,18 @@ pub enum Error {
     WrongRecords,
     /// 3: a record has the wrong length or a field outside its values. Of a query from a builder: it does not have 1 to 8
     /// columns, names a column beyond them or a letter that is not `A` to `Z`, has a pattern of more than 256 bytes, a
-    /// DEFINE without 1 to 8 comparisons, an offset beyond 64 rows, or a `COUNT` of another column than 0.
+    /// DEFINE without comparisons, an offset beyond 64 rows, or a `COUNT` of another column than 0.
     WrongField,
+    /// 3 as well, told apart for a query from a builder: a DEFINE joins more than 8 comparisons by AND,
+    /// or has an OR or a NOT and more than 16 entries: comparisons, ANDs, ORs and NOTs.
+    ConditionTooLong {
+        /// The letter that it is about.
+        letter: char,
+        /// Its comparisons.
+        comparisons: usize,
+        /// Its comparisons, ANDs, ORs and NOTs.
+        entries: usize,
+    },
     /// 4: more than 8 parentheses are open somewhere in the pattern.
     TooDeep,
     /// 5: the pattern text is outside the pattern language: no pattern begins with it up to and
@@ -117,7 +127,7 @@ impl Error {
         match self {
             Error::QueryCut => Some(1),
             Error::WrongRecords => Some(2),
-            Error::WrongField => Some(3),
+            Error::WrongField | Error::ConditionTooLong { .. } => Some(3),
             Error::TooDeep => Some(4),
             Error::NotAPattern { .. } => Some(5),
             Error::EmptyRepetition => Some(6),
@@ -145,6 +155,7 @@ impl Error {
                  (1 to 8 columns and none beyond them, 256 bytes of pattern, letters A to Z, \
                  1 to 8 comparisons in a DEFINE, offsets up to 64)"
             }
+            Error::ConditionTooLong { .. } => "a DEFINE is too long",
             Error::TooDeep => "more than 8 parentheses are open somewhere in the pattern",
             Error::NotAPattern { .. } => "the pattern text is wrong",
             Error::PatternEnds { .. } => "the pattern text ends where it could go on to a pattern",
@@ -171,6 +182,16 @@ impl fmt::Display for Error {
         match self {
             Error::ColumnCount { query, rows } => write!(f, " ({rows}, not {query})"),
             Error::OtherLibrary { answer } => write!(f, " (answer {answer})"),
+            Error::ConditionTooLong {
+                letter,
+                comparisons,
+                entries,
+            } => write!(
+                f,
+                ": that of {letter} has {comparisons} comparisons, and {entries} entries with its \
+                 ANDs, ORs and NOTs; 8 comparisons are possible, and 16 entries where there is an \
+                 OR or a NOT"
+            ),
             Error::NotAPattern { offset, expected } => {
                 write!(f, " at byte {offset}, counted from 0")?;
                 write_expected(f, expected)
@@ -221,6 +242,17 @@ mod tests {
         );
         assert!(records.ends_with(" (one pattern, at most 26 DEFINEs and 8 measures)"));
         assert!(field.ends_with(" 1 to 8 comparisons in a DEFINE, offsets up to 64)"));
+        let long = Error::ConditionTooLong {
+            letter: 'B',
+            comparisons: 8,
+            entries: 17,
+        };
+        assert_eq!(long.number(), Some(3));
+        assert_eq!(
+            long.to_string(),
+            "a DEFINE is too long: that of B has 8 comparisons, and 17 entries with its ANDs, ORs \
+             and NOTs; 8 comparisons are possible, and 16 entries where there is an OR or a NOT"
+        );
         let columns = Error::ColumnCount { query: 1, rows: 3 };
         assert_eq!(
             columns.to_string(),

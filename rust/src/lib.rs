@@ -3,7 +3,7 @@
 //! crate is a safe interface to it: it builds queries, lends the buffers, and reads the report.
 //!
 //! A pattern such as `A+ B` is made of letters. A letter labels one row, and its DEFINE says at which rows it holds:
-//! comparisons between entries of that row and of rows before or behind it. Each match gets the labels of its rows
+//! comparisons between entries of that row and of rows before or behind it, joined by AND, OR and NOT. Each match gets the labels of its rows
 //! and the results of the query's measures.
 //!
 //! # Example
@@ -79,6 +79,7 @@
 #![cfg_attr(test, allow(clippy::restriction))]
 
 mod comparison;
+mod condition;
 mod desk;
 mod error;
 mod expected;
@@ -90,6 +91,7 @@ mod rows;
 pub mod text;
 
 pub use comparison::{col, Column, Comparison, Operand, Operator, Sum};
+pub use condition::Condition;
 pub use desk::{Desk, Verdict, LOG_COLUMNS, LOG_ROWS};
 pub use error::Error;
 pub use expected::Expected;

@@ -2,7 +2,7 @@
 //! library, so only rows can still be refused. The builder judges nothing itself: parts that are wrong are written so
 //! that the library refuses them, with its own number.
 
-use crate::comparison::Comparison;
+use crate::condition::Condition;
 use crate::error::{Error, DONE};
 use crate::expected::Expected;
 use crate::lent;
@@ -16,6 +16,8 @@ const PATTERN: u16 = 2;
 const DEFINE: u16 = 3;
 const SKIP: u16 = 4;
 const MEASURE: u16 = 5;
+/// Stands where kind 3 does.
+const CONDITION: u16 = 6;
 
 /// Where the search goes on after a match with rows. After an empty match it goes one row on.
 ///
@@ -85,7 +87,7 @@ impl Skip {
 pub struct QueryBuilder {
     columns: u8,
     pattern: Option<String>,
-    defines: Vec<(char, Vec<Comparison>)>,
+    defines: Vec<(char, Condition)>,
     skip: Skip,
     measures: Vec<Measure>,
 }
@@ -102,15 +104,25 @@ impl QueryBuilder {
         self
     }
 
-    /// Says at which rows a letter holds: where all its comparisons, 1 to 8, are met. A letter without DEFINE holds at
-    /// every row. A second DEFINE for a letter is refused.
+    /// Says at which rows a letter holds: where all these comparisons or [conditions](Condition) are
+    /// true, which have 1 to 8 comparisons in all. A letter without DEFINE holds at every row. A
+    /// second DEFINE for a letter is refused.
+    ///
+    /// ```
+    /// use mireladle::{col, Query};
+    /// let query = Query::builder(2)
+    ///     .pattern("A B C")
+    ///     .define('A', [col(0).gt(5), col(1).eq(3)])
+    ///     .define('B', [col(0).lt(5) | !col(1).eq(3)])
+    ///     .build()?;
+    /// # Ok::<(), mireladle::Error>(())
+    /// ```
     pub fn define(
         mut self,
         letter: char,
-        comparisons: impl IntoIterator<Item = Comparison>,
+        conditions: impl IntoIterator<Item = impl Into<Condition>>,
     ) -> Self {
-        self.defines
-            .push((letter, comparisons.into_iter().collect()));
+        self.defines.push((letter, Condition::all(conditions)));
         self
     }
 
@@ -136,8 +148,9 @@ impl QueryBuilder {
         if let Some(text) = &self.pattern {
             append(&mut bytes, PATTERN, text.as_bytes());
         }
-        for (letter, comparisons) in &self.defines {
-            append(&mut bytes, DEFINE, &define_body(*letter, comparisons));
+        for (letter, condition) in &self.defines {
+            let (kind, body) = define(*letter, condition);
+            append(&mut bytes, kind, &body);
         }
         append(&mut bytes, SKIP, &self.skip.bytes());
         for measure in &self.measures {
@@ -152,7 +165,22 @@ impl QueryBuilder {
     ///
     /// The refusals 2 to 9 and 14; a pattern that was never given is a missing record, so 2.
     pub fn build(&self) -> Result<Query, Error> {
-        Query::from_bytes(self.to_bytes())
+        let built = Query::from_bytes(self.to_bytes());
+        built.map_err(|error| match error {
+            Error::WrongField => self.too_long().unwrap_or(error),
+            _ => error,
+        })
+    }
+
+    /// The first condition that is too long, where there is one.
+    fn too_long(&self) -> Option<Error> {
+        let too_long = |(_, condition): &&(char, Condition)| !condition.fits();
+        let (letter, condition) = self.defines.iter().find(too_long)?;
+        Some(Error::ConditionTooLong {
+            letter: *letter,
+            comparisons: condition.comparisons(),
+            entries: condition.len(),
+        })
     }
 }
 
@@ -207,14 +235,27 @@ fn records(query: &[u8]) -> impl Iterator<Item = (u16, &[u8])> {
     })
 }
 
-/// The body of a DEFINE. More comparisons than a byte can count become 255, which is too many as well.
-fn define_body(letter: char, comparisons: &[Comparison]) -> Vec<u8> {
-    let count = u8::try_from(comparisons.len()).unwrap_or(u8::MAX);
-    let mut body = vec![letter_byte(letter), count];
-    for comparison in comparisons.iter().take(usize::from(count)) {
-        body.extend_from_slice(&comparison.bytes());
+/// The kind and the body of a DEFINE: kind 3 where AND alone joins the comparisons. More comparisons
+/// or entries than a byte can count become 255, which is too many as well.
+fn define(letter: char, condition: &Condition) -> (u16, Vec<u8>) {
+    let counted = |count: usize| u8::try_from(count).unwrap_or(u8::MAX);
+    let begin = |count: u8| vec![letter_byte(letter), count];
+    match condition.conjunction() {
+        Some(comparisons) => {
+            let count = counted(comparisons.len());
+            let mut body = begin(count);
+            for comparison in comparisons.iter().take(usize::from(count)) {
+                body.extend_from_slice(&comparison.bytes());
+            }
+            (DEFINE, body)
+        }
+        None => {
+            let count = counted(condition.len());
+            let mut body = begin(count);
+            body.extend(condition.bytes(usize::from(count)));
+            (CONDITION, body)
+        }
     }
-    body
 }
 
 /// A query that the library accepts, ready to run on any rows with its number of columns.
@@ -375,7 +416,7 @@ impl Shape {
 #[cfg(test)]
 mod tests {
     use super::*;
-    use crate::comparison::col;
+    use crate::comparison::{col, Comparison};
 
     /// W1 of the bench sheet, with COUNT(A) and LAST(B) of column 0.
     fn w1() -> QueryBuilder {
@@ -410,6 +451,46 @@ mod tests {
             (query.columns(), query.measures(), query.places()),
             (1, 2, 5)
         );
+    }
+
+    /// The records of a query with this condition, but for shape, pattern and skip.
+    fn defined(condition: impl Into<Condition>) -> Vec<u8> {
+        let query = Query::builder(1)
+            .pattern("A")
+            .define('A', [condition])
+            .to_bytes();
+        query[11..query.len() - 6].to_vec()
+    }
+
+    #[test]
+    fn a_condition_has_its_kind() {
+        let (one, two) = (col(0).eq(1), col(0).prev(1).lt(2));
+        let body = |start: &[u8], parts: &[&[u8]]| [start, &parts.concat()].concat();
+        assert_eq!(
+            defined(one & two),
+            body(&[26, 0, 3, 0, b'A', 2], &[&one.bytes(), &two.bytes()])
+        );
+        assert_eq!(
+            defined(one | two),
+            body(
+                &[29, 0, 6, 0, b'A', 3],
+                &[&[0], &one.bytes(), &[0], &two.bytes(), &[2]]
+            )
+        );
+        assert_eq!(
+            defined(!one),
+            body(&[16, 0, 6, 0, b'A', 2], &[&[0], &one.bytes(), &[3]])
+        );
+        assert_eq!(
+            defined(one & !two),
+            body(
+                &[30, 0, 6, 0, b'A', 4],
+                &[&[0], &one.bytes(), &[0], &two.bytes(), &[3, 1]]
+            )
+        );
+        // More entries than a byte counts.
+        let long = defined(Condition::any(vec![one; 200]));
+        assert_eq!(long[2..6], [6, 0, b'A', 255]);
     }
 
     #[test]
@@ -459,14 +540,20 @@ mod tests {
         let long = Query::builder(1).pattern("A".repeat(70_000));
         assert_eq!(long.build(), Err(Error::WrongField));
         let a = Query::builder(1).pattern("A");
-        assert_eq!(
-            a.clone().define('A', vec![col(0).eq(1); 70_000]).build(),
-            Err(Error::WrongField)
-        );
-        assert_eq!(
-            a.clone().define('A', vec![col(0).eq(1); 256 + 8]).build(),
-            Err(Error::WrongField)
-        );
+        for comparisons in [9, 256 + 8, 70_000] {
+            assert_eq!(
+                a.clone()
+                    .define('A', vec![col(0).eq(1); comparisons])
+                    .build(),
+                Err(Error::ConditionTooLong {
+                    letter: 'A',
+                    comparisons,
+                    entries: 2 * comparisons - 1
+                })
+            );
+        }
+        let none: [Comparison; 0] = [];
+        assert_eq!(a.clone().define('A', none).build(), Err(Error::WrongField));
         assert_eq!(
             a.clone().define('\u{141}', [col(0).eq(1)]).build(),
             Err(Error::WrongField)

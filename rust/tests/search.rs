@@ -5,7 +5,7 @@
 #![allow(clippy::restriction)]
 
 use mireladle::{
-    col, lent, Ending, Error, Limits, Match, Measure, Query, QueryBuilder, Report, Rows, Skip,
+    col, lent, Comparison, Ending, Error, Limits, Match, Measure, Query, QueryBuilder, Report, Rows, Skip,
 };
 
 const X: [i32; 5] = [100, 110, 120, 115, 130];
@@ -343,7 +343,7 @@ fn every_refusal_by_its_number() {
                 .build(),
         ),
         (3, Query::builder(9).pattern("A").build()),
-        (3, free("A").define('A', []).build()),
+        (3, free("A").define('A', [] as [Comparison; 0]).build()),
         (3, free("A").measure(Measure::sum(1)).build()),
         (4, free("(((((((((").build()),
         (5, free("A \u{E9}").build()),

@@ -13,6 +13,7 @@ use super::measures::{measures, Measured};
 use super::pattern::{PatternText, LONGEST_PATTERN};
 use super::skip::{letter_of, skip};
 use super::words::{letter, tokens, without_comment, Token, Word, Words};
+use crate::condition::MOST_ENTRIES;
 use crate::{Error, Query, QueryBuilder, Skip};
 
 const MOST_DEFINES: usize = 26;
@@ -380,7 +381,7 @@ impl<'a> Reader<'a> {
             return Err(Fault::new(line, column, expected, found));
         }
         let columns = &mut self.columns;
-        let condition = Reading { letter, columns }.condition(words)?;
+        let condition = Reading::new(letter, columns).condition(words)?;
         let again = self.defines.iter().any(|define| define.letter == letter);
         if again && self.parts.defined_again.is_none() {
             self.parts.defined_again = Some(self.shown_part(token));
@@ -587,10 +588,18 @@ fn with_defines(
     known: &Known<'_>,
 ) -> Result<QueryBuilder, Fault> {
     for define in defines {
-        let comparisons = define.condition.comparisons(known)?;
-        if !comparisons.is_empty() {
-            builder = builder.define(define.letter, comparisons);
+        let Some(condition) = define.condition.written(known)? else {
+            continue;
+        };
+        if !condition.fits() {
+            let expected = format!(
+                "at most {MOST_ENTRIES} comparisons, ANDs, ORs and NOTs in a DEFINE (`NOT a = b` is \
+                 as well `a <> b`)"
+            );
+            let found = format!("{} of them", condition.len());
+            return Err(Fault::new(define.line, define.column, expected, found));
         }
+        builder = builder.define(define.letter, [condition]);
     }
     Ok(builder)
 }

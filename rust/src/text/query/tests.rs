@@ -574,7 +574,7 @@ fn faults_of_comparisons() {
     );
     assert_eq!(
         fault("A: c0"),
-        "2:6: expected one of = <> < <= > >=, found the end of the line"
+        "2:6: expected one of = <> < <= > >=, BETWEEN or IN, found the end of the line"
     );
     assert_eq!(
         fault("A: c0 == 1"),
@@ -622,23 +622,6 @@ fn faults_of_comparisons() {
         format!("2:11: expected {number}, found `-`")
     );
     assert_eq!(
-        fault("A: c0 = 1 OR c0 = 2"),
-        "2:11: expected a comma, AND, or the end of the line, since OR is not supported yet, \
-         found `OR`"
-    );
-    assert_eq!(
-        fault("A: NOT c0 = 1"),
-        format!("2:4: expected {columns}, since NOT is not supported yet, found `NOT`")
-    );
-    assert_eq!(
-        fault("A: (c0 = 1)"),
-        format!("2:4: expected {columns}, since parentheses are not supported yet, found `(`")
-    );
-    assert_eq!(
-        fault("A: c0 BETWEEN 1 AND 2"),
-        "2:7: expected one of = <> < <= > >=, since BETWEEN is not supported yet, found `BETWEEN`"
-    );
-    assert_eq!(
         fault("A: c0 = 'x"),
         "2:9: expected a closing quote behind this one, found '\\''"
     );
@@ -653,8 +636,215 @@ fn faults_of_comparisons() {
     );
     assert_eq!(
         fault("A: c0 = 1 \u{3BB}; c0"),
-        "2:11: expected a comma, AND, or the end of the line, found `\u{3BB}`"
+        "2:11: expected a comma, AND, OR, or the end of the line, found `\u{3BB}`"
     );
+}
+
+#[test]
+fn faults_of_joins() {
+    let columns = COLUMNS;
+    let operator = "one of = <> < <= > >=, BETWEEN or IN";
+    for (text, expected) in [
+        ("c0 = 1 OR", format!("2:13: expected {columns}, found the end of the line")),
+        ("OR c0 = 1", format!("2:4: expected {columns}, found `OR`")),
+        ("c0 = 1 OR AND c0 = 2", format!("2:14: expected {columns}, found `AND`")),
+        ("c0 = 1 NOT c0 = 2", String::from("2:11: expected a comma, AND, OR, or the end of the line, found `NOT`")),
+        ("NOT", format!("2:7: expected {columns}, found the end of the line")),
+        ("(c0 = 1", String::from("2:11: expected AND, OR or `)`, found the end of the line")),
+        ("(c0 = 1, c1 = 2)", String::from("2:11: expected AND, OR or `)`, found `,`")),
+        ("(c0 = 1))", String::from("2:12: expected a comma, AND, OR, or the end of the line, found `)`")),
+        ("()", format!("2:5: expected {columns}, found `)`")),
+        ("(c0) = 1", format!("2:7: expected {operator}, found `)`")),
+        ("c0 NOT = 1", String::from("2:11: expected BETWEEN or IN, found `=`")),
+        ("c0 BETWEEN 1", String::from("2:16: expected AND and the upper end of BETWEEN, found the end of the line")),
+        ("c0 BETWEEN 1, 2", String::from("2:16: expected AND and the upper end of BETWEEN, found `,`")),
+        ("c0 BETWEEN 1 AND", format!("2:20: expected a whole number or {columns}, found the end of the line")),
+        ("c0 BETWEEN 1 AND c1 = 2", String::from("2:24: expected a comma, AND, OR, or the end of the line, found `=`")),
+        ("c0 IN 1", String::from("2:10: expected `(`, found `1`")),
+        ("c0 IN ()", format!("2:11: expected a whole number or {columns}, found `)`")),
+        ("c0 IN (1; 2)", String::from("2:12: expected a comma or `)`, found `;`")),
+        ("c0 LIKE 'x'", format!("2:7: expected {operator}, found `LIKE`")),
+        ("c0 IS NULL", format!("2:7: expected {operator}, since every cell is a number and none is NULL, found `IS`")),
+        ("c0 IS NOT NULL", format!("2:7: expected {operator}, since every cell is a number and none is NULL, found `IS`")),
+        ("c0 <> null", format!("2:10: expected a whole number or {columns}, since every cell is a number and none is NULL, found `null`")),
+    ] {
+        assert_eq!(fault(&format!("A: {text}")), expected, "{text}");
+    }
+    let deep = "(".repeat(32) + "c0 = 1" + &")".repeat(32);
+    assert!(read_with(&format!("pattern: A\nA: {deep}"), &names()).is_ok());
+    let expected = "at most 32 parentheses and NOTs inside one another";
+    assert_eq!(
+        fault(&format!("A: ({deep})")),
+        format!("2:36: expected {expected}, found `(`")
+    );
+    let many = format!("A: {}c0 = 1", "NOT ".repeat(100_000));
+    assert_eq!(
+        fault(&many),
+        format!("2:132: expected {expected}, found `NOT`")
+    );
+}
+
+#[test]
+fn faults_of_long_conditions() {
+    let eight = |join: &str| [r#"c0 = 1"#; 8].join(join);
+    let comparisons = "at most 8 comparisons for one letter";
+    for (text, place, found) in [
+        (format!("{} OR c1 = 2", eight(" OR ")), "2:84", "`c1`"),
+        (format!("({}) AND c1 = 2", eight(" OR ")), "2:87", "`c1`"),
+        (String::from("c0 IN (1,2,3,4,5,6,7,8,9)"), "2:27", "`9`"),
+        (
+            format!("c0 BETWEEN 1 AND 2 OR {}", ["c0 = 1"; 7].join(" OR ")),
+            "2:86",
+            "`c0`",
+        ),
+        (
+            format!("{} OR c0 BETWEEN 1 AND 2", ["c0 = 1"; 7].join(" OR ")),
+            "2:91",
+            "`2`",
+        ),
+    ] {
+        let expected = format!("{place}: expected {comparisons}, found {found}");
+        assert_eq!(fault(&format!("A: {text}")), expected, "{text}");
+    }
+    // 15 entries and a NOT fit, and one more does not.
+    let joined = eight(" OR ");
+    assert!(read_with(&format!("pattern: A\nA: NOT ({joined})"), &names()).is_ok());
+    assert_eq!(
+        fault(&format!("A: NOT (NOT {joined})")),
+        "2:1: expected at most 16 comparisons, ANDs, ORs and NOTs in a DEFINE (`NOT a = b` is as \
+         well `a <> b`), found 17 of them"
+    );
+}
+
+/// A condition of a query as a condition reads.
+fn condition(columns: u8, text: &str, expected: impl Into<crate::Condition>) {
+    let expected = Query::builder(columns)
+        .pattern("A")
+        .define('A', [expected.into()]);
+    let lines = builder(&format!("pattern: A\nA: {text}"));
+    assert_eq!(lines.to_bytes(), expected.to_bytes(), "{text}");
+    let sql = builder(&format!("PATTERN (A) DEFINE A AS {text}"));
+    assert_eq!(sql, lines, "{text}");
+    // In SQL's spelling it goes over line ends, in any capitals.
+    let lower = format!(
+        "pattern (a) define a as {}",
+        text.to_lowercase().replace(' ', "\n")
+    );
+    if !text.contains('\'') {
+        assert_eq!(builder(&lower), lines, "{lower}");
+    }
+}
+
+#[test]
+fn joins_bind_as_in_sql() {
+    let (a, b, c) = (col(0).eq(1), col(1).lt(2), col(2).ne(3));
+    let [x, y, z] = ["time = 1", "event < 2", "c2 <> 3"];
+    condition(3, &format!("{x} OR {y} AND {z}"), a | b & c);
+    condition(3, &format!("{x} AND {y} OR {z}"), a & b | c);
+    condition(3, &format!("({x} OR {y}) AND {z}"), (a | b) & c);
+    condition(3, &format!("{x} OR ({y} OR {z})"), a | (b | c));
+    condition(3, &format!("NOT {x} AND {y} OR {z}"), !a & b | c);
+    condition(3, &format!("NOT ({x} AND {y}) OR NOT {z}"), !(a & b) | !c);
+    condition(
+        3,
+        &format!("NOT NOT {x} OR NOT (NOT {y}) AND {z}"),
+        !!a | !!b & c,
+    );
+    condition(3, &format!("(({x})) AND ({y} AND {z})"), a & (b & c));
+    condition(3, &format!("NOT({x})OR({y})AND NOT({z})"), !a | b & !c);
+}
+
+#[test]
+fn conjunctions_stay_lists_of_comparisons() {
+    let (a, b) = (col(0).ge(1), col(0).le(5));
+    for text in [
+        "c0 >= 1, c0 <= 5",
+        "(c0 >= 1 AND c0 <= 5)",
+        "c0 BETWEEN 1 AND 5",
+    ] {
+        defined(1, text, &[a, b]);
+    }
+    defined(
+        2,
+        "c0 BETWEEN 1 AND 5 AND c1 = 2, true",
+        &[a, b, col(1).eq(2)],
+    );
+    defined(1, "c0 NOT IN (7, -8)", &[col(0).ne(7), col(0).ne(-8)]);
+    defined(1, "c0 IN (7)", &[col(0).eq(7)]);
+    defined(1, "c0 != 7", &[col(0).ne(7)]);
+}
+
+/// In a line a comma is an AND that binds last.
+#[test]
+fn commas_part_whole_conditions() {
+    let (a, b, c) = (col(0).eq(1), col(1).eq(2), col(2).eq(3));
+    let expected = Query::builder(3).pattern("A").define('A', [(a | b), c | a]);
+    let text = "pattern: A\nA: c0 = 1 OR c1 = 2, c2 = 3 OR c0 = 1";
+    assert_eq!(builder(text).to_bytes(), expected.to_bytes());
+}
+
+#[test]
+fn between_and_in() {
+    let from = col(0).prev(1).plus(-5);
+    condition(1, "time NOT BETWEEN 1 AND 5", col(0).lt(1) | col(0).gt(5));
+    condition(
+        1,
+        "NOT time BETWEEN PREV(time) - 5 AND NEXT(time, 2)",
+        !(col(0).ge(from) & col(0).le(col(0).next(2))),
+    );
+    condition(
+        1,
+        "PREV(time, 3) BETWEEN 1 AND 5 OR time IN (7, PREV(time), -9)",
+        (col(0).prev(3).ge(1) & col(0).prev(3).le(5))
+            | (col(0).eq(7) | col(0).eq(col(0).prev(1)) | col(0).eq(-9)),
+    );
+    condition(2, "NOT time IN (7, 8) AND event NOT IN (1, 2)", {
+        !(col(0).eq(7) | col(0).eq(8)) & (col(1).ne(1) & col(1).ne(2))
+    });
+    // Dates and times count as seconds, as elsewhere.
+    condition(
+        1,
+        "time BETWEEN '00:01' AND '01:00:00' OR time IN ('1970-01-02', 7)",
+        (col(0).ge(60) & col(0).le(3600)) | (col(0).eq(86_400) | col(0).eq(7)),
+    );
+}
+
+#[test]
+fn codes_in_conditions() {
+    let text = "pattern: A\nA: event IN ('offered', 'refused') AND NOT event = 'not read' OR \
+                event NOT BETWEEN 'offered' AND 'refused'\n\
+                event: offered=1, refused=2, 'not read'=3, *=0";
+    let event = col(0);
+    let expected = Query::builder(1).pattern("A").define(
+        'A',
+        [(event.eq(1) | event.eq(2)) & !event.eq(3) | (event.lt(1) | event.gt(2))],
+    );
+    assert_eq!(builder(text).to_bytes(), expected.to_bytes());
+    assert_eq!(
+        fault("A: c0 = 1 OR NOT event IN ('offered', 'reused')\nevent: offered=1, refused=2"),
+        "2:39: expected one of the codes 'offered', 'refused', found `'reused'`"
+    );
+}
+
+#[test]
+fn true_and_false() {
+    let none = Query::builder(1).pattern("A");
+    for text in ["true", "(TRUE)", "true AND (true), true"] {
+        assert_eq!(builder(&format!("pattern: A\nA: {text}")), none, "{text}");
+    }
+    let (yes, no) = (col(0).eq(col(0)), col(0).ne(col(0)));
+    condition(1, "FALSE", no);
+    condition(1, "NOT TRUE", !yes);
+    condition(1, "time = 1 OR TRUE", col(0).eq(1) | yes);
+    condition(1, "time = 1 OR (TRUE AND TRUE)", col(0).eq(1) | yes);
+    condition(1, "FALSE AND time = 1 AND TRUE", no & col(0).eq(1));
+    // A column may have such a name.
+    let named = ["true", "not"].map(String::from);
+    let read = read_with("pattern: A\nA: true = 1 OR NOT not = 2", &named).unwrap();
+    let expected = Query::builder(2)
+        .pattern("A")
+        .define('A', [col(0).eq(1) | !col(1).eq(2)]);
+    assert_eq!(read.builder.to_bytes(), expected.to_bytes());
 }
 
 #[test]
