@@ -2,7 +2,7 @@
 //! or more partitions; one run of a workload searches all of them in turn.
 
 use crate::random::Random;
-use mireladle::{col, Column, Comparison, Measure, Query, QueryBuilder, Skip};
+use mireladle::{col, Column, Comparison, Condition, Measure, Query, QueryBuilder, Skip};
 
 const MOST_ROWS: usize = 4096;
 
@@ -56,6 +56,7 @@ pub fn searches() -> Vec<Workload> {
         ),
         prepared(),
         all_letters(),
+        conditions(),
     ];
     searches.retain(|workload| !workload.prepared || cfg!(bench_c));
     searches
@@ -354,6 +355,44 @@ fn eight_comparisons(index: i32) -> [Comparison; 8] {
     ];
     comparisons[index as usize % 8] = col(0).eq(index);
     comparisons
+}
+
+/// Letters whose conditions have 8 comparisons joined by AND, OR and NOT, most of which have to be
+/// judged to know. D and E hold at few rows.
+fn conditions() -> Workload {
+    let from_row_before = |column: u8| col(column).gt(previous(column));
+    let all_rise = || Condition::all([1, 2, 3, 4].map(from_row_before));
+    let query = pattern(8, "(A | B)+ C? (D | E)")
+        .define(
+            'A',
+            [
+                (col(0).lt(13) | col(1).lt(20)) & (col(2).gt(30) | col(3).gt(50))
+                    | (col(4).ne(previous(4)) & !(col(5).lt(60) | col(6).lt(60) & col(7).ne(7))),
+            ],
+        )
+        .define(
+            'B',
+            [!(col(0).lt(13) & col(1).lt(80) & col(2).lt(80)) | (all_rise() | col(5).eq(1))],
+        )
+        .define(
+            'C',
+            [!Condition::any((0..8).map(|column| col(column).gt(90)))],
+        )
+        .define(
+            'D',
+            [Condition::any((0..8).map(|column| col(column).eq(99)))],
+        )
+        .define(
+            'E',
+            [(all_rise() | col(5).gt(previous(5)))
+                & !(col(6).lt(90) | col(7).lt(80) | col(1).lt(50))],
+        );
+    Workload::new(
+        "conditions",
+        "(A | B)+ C? (D | E), 5 letters of 8 comparisons with OR and NOT, 8 columns, 4,096 rows",
+        query.measure(Measure::count().of('A')),
+        vec![lettered_rows(MOST_ROWS)],
+    )
 }
 
 fn lettered_rows(n: usize) -> Vec<i32> {

@@ -1,8 +1,9 @@
 //! Letters at a row: their comparisons decoded from the query's bytes into flat
 //! numbers, so that one test serves all six operators: a difference lies in an
-//! interval, which may wrap. Rows outside the partition are not met.
+//! interval, which may wrap. Rows outside the partition are not met. A condition in
+//! postfix becomes comparisons that each say where to go on.
 
-use super::query::COMPARISON_BYTES;
+use super::query::{first_entry, Entry, COMPARISON_BYTES};
 
 const MOST_ROWS: usize = 4096;
 
@@ -32,7 +33,23 @@ pub enum Test {
     /// begin and how many they are, as left and right, and how many rows they
     /// look back and ahead at the most, as low and width.
     Several,
+    /// Comparisons joined by AND, OR and NOT. In place of a comparison the letter has
+    /// which of the steps is the first, as left.
+    Joined,
 }
+
+/// A comparison of a condition, and the steps that come next where it is met and
+/// where it is not.
+#[derive(Clone, Copy)]
+pub struct Step {
+    comparison: Comparison,
+    met: u16,
+    unmet: u16,
+}
+
+/// In the place of a step: the letter holds, or does not.
+const HOLDS: u16 = u16::MAX;
+const FAILS: u16 = u16::MAX - 1;
 
 #[derive(Clone, Copy, Default)]
 pub struct Letter {
@@ -107,6 +124,42 @@ impl Comparison {
             .all(|one| one.holds(i64::from(at(one.left)) - i64::from(at(one.right) & one.keep)))
     }
 
+    /// A condition, whose first step stands in the place. Each comparison is judged
+    /// once at most.
+    #[inline(always)]
+    pub fn condition_is_true(&self, steps: &[Step], rows: &Rows, position: usize) -> bool {
+        if position >= rows.n {
+            return false;
+        }
+        let mut at = self.left as u16;
+        while at < FAILS {
+            let Step {
+                comparison,
+                met,
+                unmet,
+            } = &steps[usize::from(at)];
+            let left = rows.entry(position, comparison.left);
+            let right = rows.entry(position, comparison.right);
+            let is_met = match (left, right) {
+                (Some(left), Some(right)) => {
+                    comparison.holds(left - (right & i64::from(comparison.keep)))
+                }
+                _ => false,
+            };
+            at = if is_met { *met } else { *unmet };
+        }
+        at == HOLDS
+    }
+
+    /// Met where this one is not, but for rows that are not there: there neither is.
+    fn turned(&self) -> Comparison {
+        Comparison {
+            low: self.low.wrapping_add(self.width as i64).wrapping_add(1),
+            width: u64::MAX - 1 - self.width,
+            ..*self
+        }
+    }
+
     #[inline(always)]
     fn holds(&self, difference: i64) -> bool {
         difference.wrapping_sub(self.low) as u64 <= self.width
@@ -159,6 +212,71 @@ fn several(define: &[u8], columns: usize, decoded: &mut Vec<Comparison>) -> Lett
             keep: 0,
         },
     }
+}
+
+/// Decodes a letter from the entries of its condition, whose fields are tested. Its steps
+/// are put behind those decoded before. NOT is taken to the comparisons, by the laws of De
+/// Morgan, which hold for three truths as well. What is left is AND and OR alone, and there
+/// unknown may stand as unmet: if all unknowns were false, what is true would be the same.
+#[inline(never)]
+pub fn condition(list: &[u8], columns: usize, steps: &mut Vec<Step>) -> Letter {
+    let (mut left, mut entries) = (list, Vec::new());
+    while let Some((entry, behind)) = first_entry(left) {
+        entries.push(entry);
+        left = behind;
+    }
+    let mut first = FAILS;
+    put(
+        &mut entries,
+        columns,
+        false,
+        [HOLDS, FAILS],
+        steps,
+        &mut first,
+    );
+    Letter {
+        test: Test::Joined,
+        comparison: Comparison {
+            left: first as i16,
+            ..Comparison::default()
+        },
+    }
+}
+
+/// Puts the last operand of the entries, which is taken from them, and tells its first step.
+fn put(
+    entries: &mut Vec<Entry>,
+    columns: usize,
+    turned: bool,
+    [met, unmet]: [u16; 2],
+    steps: &mut Vec<Step>,
+    first: &mut u16,
+) {
+    let is_and = match entries.pop() {
+        None => return,
+        Some(Entry::Not) => return put(entries, columns, !turned, [met, unmet], steps, first),
+        Some(Entry::Compare(bytes)) => {
+            let comparison = comparison(bytes, columns);
+            *first = steps.len() as u16;
+            steps.push(Step {
+                comparison: match turned {
+                    true => comparison.turned(),
+                    false => comparison,
+                },
+                met,
+                unmet,
+            });
+            return;
+        }
+        Some(Entry::And) => !turned,
+        Some(Entry::Or) => turned,
+    };
+    put(entries, columns, turned, [met, unmet], steps, first);
+    let behind = match is_and {
+        true => [*first, unmet],
+        false => [met, *first],
+    };
+    put(entries, columns, turned, behind, steps, first);
 }
 
 fn comparison(bytes: &[u8; COMPARISON_BYTES], columns: usize) -> Comparison {

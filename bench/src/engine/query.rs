@@ -13,6 +13,7 @@ pub const AVG: u8 = 7;
 pub const COMPARISON_BYTES: usize = 12;
 
 const MOST_DEFINES: usize = 26;
+const MOST_ENTRIES: u8 = 16;
 const MOST_MEASURES: usize = 8;
 
 /// A measure; the letter is 0 where it is over all rows of the match.
@@ -47,8 +48,10 @@ impl Skip {
 pub struct Query<'a> {
     pub columns: usize,
     pub text: &'a [u8],
-    /// By letter, A first: the bytes of its comparisons, empty without DEFINE.
+    /// By letter, A first: the bytes of its comparisons, empty without DEFINE of kind 3.
     pub defines: [&'a [u8]; 26],
+    /// By letter: the bytes of its entries, empty without DEFINE of kind 6.
+    pub conditions: [&'a [u8]; 26],
     pub defined_twice: bool,
     pub skip: Skip,
     pub measures: [Measure; MOST_MEASURES],
@@ -68,6 +71,7 @@ pub fn read(bytes: &[u8]) -> Result<Query<'_>, u64> {
         columns: 0,
         text: &[],
         defines: [&[]; 26],
+        conditions: [&[]; 26],
         defined_twice: false,
         skip: Skip::PastLastRow,
         measures: [Measure {
@@ -109,7 +113,7 @@ pub fn read(bytes: &[u8]) -> Result<Query<'_>, u64> {
     Ok(query)
 }
 
-/// Which kinds have come so far: one 1, one 2, 3s, one 4, 5s.
+/// Which kinds have come so far: one 1, one 2, 3s and 6s, one 4, 5s. A 6 counts as a 3.
 struct Order {
     last: u16,
     defines: usize,
@@ -119,6 +123,7 @@ struct Order {
 
 impl Order {
     fn take(&mut self, kind: u16) {
+        let kind = if kind == 6 { 3 } else { kind };
         let last = self.last;
         let fits = match kind {
             1 => last == 0,
@@ -153,6 +158,7 @@ impl<'a> Query<'a> {
                 body.len() <= 256
             }
             3 => self.take_define(body),
+            6 => self.take_condition(body),
             4 => self.take_skip(body),
             _ => self.take_measure(body),
         }
@@ -203,12 +209,83 @@ impl<'a> Query<'a> {
                 .chunks_exact(COMPARISON_BYTES)
                 .all(|bytes| comparison_is_right(bytes, self.columns));
         if right {
-            let define = &mut self.defines[usize::from(letter - b'A')];
-            self.defined_twice |= !define.is_empty();
-            *define = comparisons;
+            let index = self.defined(*letter);
+            self.defines[index] = comparisons;
         }
         right
     }
+
+    fn take_condition(&mut self, body: &'a [u8]) -> bool {
+        let [letter, count, list @ ..] = body else {
+            return false;
+        };
+        let right = letter.is_ascii_uppercase()
+            && (1..=MOST_ENTRIES).contains(count)
+            && leaves_one(list, *count, self.columns);
+        if right {
+            let index = self.defined(*letter);
+            self.conditions[index] = list;
+        }
+        right
+    }
+
+    /// The index of a letter that gets its DEFINE now.
+    fn defined(&mut self, letter: u8) -> usize {
+        let index = usize::from(letter - b'A');
+        self.defined_twice |= !self.defines[index].is_empty() || !self.conditions[index].is_empty();
+        index
+    }
+}
+
+/// One entry of a postfix list.
+#[derive(Clone, Copy)]
+pub enum Entry<'a> {
+    Compare(&'a [u8; COMPARISON_BYTES]),
+    And,
+    Or,
+    Not,
+}
+
+/// The entry at the front of a list, and the rest; none where there is none.
+pub fn first_entry(list: &[u8]) -> Option<(Entry<'_>, &[u8])> {
+    let (kind, behind) = list.split_first()?;
+    match kind {
+        0 => {
+            let (comparison, behind) = behind.split_first_chunk()?;
+            Some((Entry::Compare(comparison), behind))
+        }
+        1 => Some((Entry::And, behind)),
+        2 => Some((Entry::Or, behind)),
+        3 => Some((Entry::Not, behind)),
+        _ => None,
+    }
+}
+
+/// Whether a list has so many entries, all right, which never run short and leave one
+/// result.
+fn leaves_one(list: &[u8], count: u8, columns: usize) -> bool {
+    let (mut left, mut results) = (list, 0);
+    for _ in 0..count {
+        let Some((entry, behind)) = first_entry(left) else {
+            return false;
+        };
+        let right = match entry {
+            Entry::Compare(bytes) => {
+                results += 1;
+                comparison_is_right(bytes, columns)
+            }
+            Entry::Not => results >= 1,
+            Entry::And | Entry::Or => {
+                results -= 1;
+                results >= 1
+            }
+        };
+        if !right {
+            return false;
+        }
+        left = behind;
+    }
+    left.is_empty() && results == 1
 }
 
 /// Tests all fields without a branch for each: they are nearly always right.

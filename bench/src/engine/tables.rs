@@ -4,7 +4,7 @@
 //! small pattern fills small tables only. They say nothing of the rows, so that
 //! the tables of a query serve any number of runs.
 
-use super::letters::{self, Comparison, Letter, Test};
+use super::letters::{self, Comparison, Letter, Step, Test};
 use super::pattern::{self, Pattern};
 use super::query::Query;
 
@@ -27,10 +27,12 @@ pub enum Sort {
     Constant,
     Column,
     Several,
+    Joined,
     ForkFree,
     ForkConstant,
     ForkColumn,
     ForkSeveral,
+    ForkJoined,
 }
 
 #[derive(Clone, Copy, Default)]
@@ -69,6 +71,8 @@ pub struct Tables<const N: usize> {
     /// The letters of the places, by their own bytes.
     pub labels: [u8; N],
     pub comparisons: Vec<Comparison>,
+    /// Of all letters with a condition in postfix.
+    pub steps: Vec<Step>,
 }
 
 impl<const N: usize> Tables<N> {
@@ -81,6 +85,7 @@ impl<const N: usize> Tables<N> {
             ways_used: 0,
             labels: [0; N],
             comparisons: Vec::new(),
+            steps: Vec::new(),
         }
     }
 
@@ -107,7 +112,11 @@ impl<const N: usize> Tables<N> {
         while left != 0 {
             let index = left.trailing_zeros() as usize;
             let define = query.defines[index];
-            letters[index] = letters::decode(define, query.columns, &mut self.comparisons);
+            let list = query.conditions[index];
+            letters[index] = match list.is_empty() {
+                true => letters::decode(define, query.columns, &mut self.comparisons),
+                false => letters::condition(list, query.columns, &mut self.steps),
+            };
             left &= left - 1;
         }
         letters
@@ -141,6 +150,7 @@ impl<const N: usize> Tables<N> {
                     Test::Constant => Sort::Constant,
                     Test::Column => Sort::Column,
                     Test::Several => Sort::Several,
+                    Test::Joined => Sort::Joined,
                 };
                 let mut place = passing(sort, at, next);
                 place.step += pattern.count as i16;
@@ -184,6 +194,7 @@ impl<const N: usize> Tables<N> {
             Sort::Constant => Sort::ForkConstant,
             Sort::Column => Sort::ForkColumn,
             Sort::Several => Sort::ForkSeveral,
+            Sort::Joined => Sort::ForkJoined,
             _ => return place,
         };
         Place {

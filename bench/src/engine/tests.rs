@@ -1,8 +1,10 @@
 //! The bench sheet of document 01, W1 to W12, run on the engine; with them what
 //! the paper says of the lent buffers when a search is done, stopped or refused;
-//! the skips to a labelled row of R-2; and the average of R-5.
+//! the skips to a labelled row of R-2; the average of R-5; and the conditions of R-7.
 
+use super::query::first_entry;
 use super::{prepare, refused, room, search};
+use crate::random::Random;
 use mireladle::lent::Outcome;
 use mireladle::{col, Measure, Query, QueryBuilder, Skip};
 
@@ -395,4 +397,197 @@ fn averages() {
     };
     assert_eq!([0, 8, 255].map(refused), [3; 3]);
     assert_eq!([1, 6, 7].map(refused), [0; 3]);
+}
+
+/// What a condition comes to at a row by SQL's tables: true, false, or none where it is
+/// unknown. Read off the bytes of the list, with a stack.
+fn truth(list: &[u8], columns: usize, rows: &[i32], row: usize) -> Option<bool> {
+    let n = (rows.len() / columns) as i64;
+    let entry = |column: u8, offset: u8| {
+        let at = row as i64 + i64::from(offset as i8);
+        (0..n)
+            .contains(&at)
+            .then(|| i64::from(rows[at as usize * columns + usize::from(column)]))
+    };
+    let compared = |bytes: &[u8]| {
+        let number = i32::from_le_bytes([bytes[8], bytes[9], bytes[10], bytes[11]]);
+        let left = entry(bytes[0], bytes[1])?;
+        let right = match bytes[3] {
+            0 => 0,
+            _ => entry(bytes[4], bytes[5])?,
+        };
+        let right = right + i64::from(number);
+        Some(match bytes[2] {
+            1 => left == right,
+            2 => left != right,
+            3 => left < right,
+            4 => left <= right,
+            5 => left > right,
+            _ => left >= right,
+        })
+    };
+    let (mut stack, mut at): (Vec<Option<bool>>, usize) = (Vec::new(), 0);
+    while at < list.len() {
+        let kind = list[at];
+        at += 1;
+        let result = match kind {
+            0 => {
+                at += 12;
+                compared(&list[at - 12..at])
+            }
+            3 => stack.pop().unwrap().map(|it| !it),
+            _ => match (kind, stack.pop().unwrap(), stack.pop().unwrap()) {
+                (1, Some(false), _) | (1, _, Some(false)) => Some(false),
+                (1, Some(true), Some(true)) => Some(true),
+                (2, Some(true), _) | (2, _, Some(true)) => Some(true),
+                (2, Some(false), Some(false)) => Some(false),
+                _ => None,
+            },
+        };
+        stack.push(result);
+    }
+    assert_eq!(stack.len(), 1);
+    stack[0]
+}
+
+/// A comparison over two columns, up to three rows away.
+fn random_comparison(random: &mut Random) -> [u8; 12] {
+    let offset = |random: &mut Random| match random.below(2) {
+        0 => 0,
+        _ => (random.below(7) as i8 - 3) as u8,
+    };
+    let mut bytes = [0; 12];
+    bytes[0] = random.below(2) as u8;
+    bytes[1] = offset(random);
+    bytes[2] = 1 + random.below(6) as u8;
+    if random.chance(50) {
+        bytes[3..6].copy_from_slice(&[1, random.below(2) as u8, offset(random)]);
+    }
+    bytes[8..].copy_from_slice(&(random.below(3) as i32 - 1).to_le_bytes());
+    bytes
+}
+
+/// The entries of a list of so many comparisons, without NOT.
+fn random_joins(random: &mut Random, comparisons: u64) -> Vec<Vec<u8>> {
+    if comparisons == 1 {
+        return vec![[&[0][..], &random_comparison(random)].concat()];
+    }
+    let left = 1 + random.below(comparisons - 1);
+    let mut entries = random_joins(random, left);
+    entries.extend(random_joins(random, comparisons - left));
+    entries.push(vec![1 + random.below(2) as u8]);
+    entries
+}
+
+/// A list of so many comparisons, with NOTs at any place as long as there is room.
+fn random_list(random: &mut Random, comparisons: u64) -> Vec<u8> {
+    let mut entries = random_joins(random, comparisons);
+    while entries.len() < 16 && random.chance(70) {
+        let at = 1 + random.below(entries.len() as u64) as usize;
+        entries.insert(at, vec![3]);
+    }
+    entries.concat()
+}
+
+/// A query of one letter with this list.
+fn listed(list: &[u8]) -> Vec<u8> {
+    let (mut left, mut count) = (list, 0);
+    while let Some((_, behind)) = first_entry(left) {
+        count += 1;
+        left = behind;
+    }
+    listed_as(list, count)
+}
+
+fn listed_as(list: &[u8], count: u8) -> Vec<u8> {
+    let mut query = Query::builder(2).pattern("A").to_bytes();
+    let skip = query.split_off(query.len() - 6);
+    query.extend((list.len() as u16 + 2).to_le_bytes());
+    query.extend([6, 0, b'A', count]);
+    query.extend(list);
+    query.extend(skip);
+    query
+}
+
+/// Conditions of every length on a few rows, where many comparisons are unknown: A is
+/// found exactly where its condition is true by SQL's tables.
+#[test]
+fn conditions_by_three_truths() {
+    let mut random = Random::new(7);
+    let mut seen = [0; 3];
+    for round in 0..4_000 {
+        let list = random_list(&mut random, 1 + round % 8);
+        let rows: Vec<i32> = (0..2 * (1 + random.below(6)))
+            .map(|_| random.below(3) as i32)
+            .collect();
+        let truths: Vec<Option<bool>> = (0..rows.len() / 2)
+            .map(|row| truth(&list, 2, &rows, row))
+            .collect();
+        for truth in &truths {
+            seen[truth.map_or(2, usize::from)] += 1;
+        }
+        let query = listed(&list);
+        let searched = searched(&query, &rows);
+        let expected: Vec<i64> = (0..)
+            .zip(&truths)
+            .filter(|(_, truth)| **truth == Some(true))
+            .map(|(row, _)| row)
+            .collect();
+        let found: Vec<i64> = searched.matches().iter().map(|(row, _)| *row).collect();
+        assert_eq!(searched.result.answer, 0, "{list:?}");
+        assert_eq!(found, expected, "{list:?} on {rows:?}");
+    }
+    // No truth is rare.
+    assert!(seen.iter().all(|&count| count > 1_000), "{seen:?}");
+}
+
+#[test]
+fn lists_that_are_refused() {
+    let answer = |list: &[u8], count: u8| room(&listed_as(list, count), &[]).answer;
+    let one = [0; 3]
+        .iter()
+        .chain(&[1, 0, 0, 0, 0, 0, 0, 0, 0, 0])
+        .copied();
+    let one: Vec<u8> = one.collect();
+    let lists = |parts: &[&[u8]]| parts.concat();
+    assert_eq!(answer(&one, 1), 0);
+    assert_eq!(answer(&lists(&[&one, &[3]]), 2), 0);
+    assert_eq!(answer(&lists(&[&one, &one, &[1]]), 3), 0);
+    let sixteen = lists(&[&one, &[3; 15]]);
+    assert_eq!(answer(&sixteen, 16), 0);
+    for (list, count) in [
+        (vec![], 0),
+        (vec![3], 1),
+        (vec![1], 1),
+        (lists(&[&one, &[1]]), 2),
+        (lists(&[&one, &[2], &one]), 3),
+        (lists(&[&one, &one]), 2),
+        (lists(&[&one, &[4]]), 2),
+        (lists(&[&one, &[3]]), 1),
+        (lists(&[&one, &[3]]), 3),
+        (one[..12].to_vec(), 1),
+        (lists(&[&one, &[3; 16]]), 17),
+    ] {
+        assert_eq!(answer(&list, count), 3, "{list:?}");
+    }
+    // A column beyond the rows', an operator 7.
+    for (at, value) in [(1, 2), (3, 7), (2, 65), (4, 2), (7, 1)] {
+        let mut wrong = one.clone();
+        wrong[at] = value;
+        assert_eq!(answer(&wrong, 1), 3, "{at}");
+    }
+    // A letter has one DEFINE of either kind.
+    let either = |kinds: [bool; 2]| {
+        let mut query = Query::builder(1).pattern("A");
+        for is_list in kinds {
+            query = match is_list {
+                true => query.define('A', [!col(0).eq(1)]),
+                false => query.define('A', [col(0).eq(1)]),
+            };
+        }
+        room(&query.to_bytes(), &[]).answer
+    };
+    for kinds in [[true, true], [true, false], [false, true], [false, false]] {
+        assert_eq!(either(kinds), 8);
+    }
 }

@@ -184,10 +184,12 @@ impl<const N: usize> Walk<'_, N> {
             Sort::ForkConstant => self.enter_fork_of_letter(place, Test::Constant),
             Sort::ForkColumn => self.enter_fork_of_letter(place, Test::Column),
             Sort::ForkSeveral => self.enter_fork_of_letter(place, Test::Several),
+            Sort::ForkJoined => self.enter_fork_of_letter(place, Test::Joined),
             Sort::ForkFree => self.enter_fork_of_letter(place, Test::Free),
             Sort::Constant => self.enter_letter(place, Test::Constant),
             Sort::Column => self.enter_letter(place, Test::Column),
             Sort::Several => self.enter_letter(place, Test::Several),
+            Sort::Joined => self.enter_letter(place, Test::Joined),
             Sort::Free => self.enter_letter(place, Test::Free),
             Sort::Fork => self.enter_fork(place),
             Sort::First => self.enter_anchor(place, 0),
@@ -206,6 +208,7 @@ impl<const N: usize> Walk<'_, N> {
             Test::Constant => comparison.constant_is_met(rows, position),
             Test::Column => comparison.column_is_met(rows, position),
             Test::Several => comparison.several_are_met(&self.tables.comparisons, rows, position),
+            Test::Joined => comparison.condition_is_true(&self.tables.steps, rows, position),
         }
     }
 
