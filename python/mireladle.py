@@ -1,7 +1,7 @@
 """Searches ordered rows of whole numbers for SQL row patterns (MATCH_RECOGNIZE), by libmireladle.
 
-A query has columns, a pattern, a DEFINE for each letter (one comparison or a list of them, of which
-all have to be met), a skip and measures. Prices that rise once or more and then fall, which is W1
+A query has columns, a pattern, a DEFINE for each letter (one condition or a list of them, of which
+all have to be true), a skip and measures. Prices that rise once or more and then fall, which is W1
 of the bench sheet:
 
 
@@ -18,6 +18,15 @@ of the bench sheet:
 1 range(1, 4) AAB {'COUNT(A)': 2, 'LAST(B.price)': 115}
 >>> report.steps, report.whole
 (12, True)
+
+Comparisons are joined by `&`, `|` and `~`, each of them in parentheses. One that looks at a row
+which is not there is unknown, and `~` of it too; a letter holds only where its condition is true.
+So the first row, which has none before it, is not one that leaps:
+
+>>> near = (price >= price.prev() - 10) & (price <= price.prev() + 10)
+>>> leaps = Query(["price"], "A", {"A": ~near | (price == 999)})
+>>> [match.first for match in leaps.search([100, 105, 120, 999, 118])]
+[2, 3, 4]
 
 A query or rows that the library refuses raise `Refused`, with the answer's number, and with the
 offset in the pattern's text where it is wrong or ends too early:
@@ -254,13 +263,75 @@ class Column:
     def __ge__(self, right):
         return Comparison(self, 6, right)
 
+    def _unjoined(self, *_):
+        raise TypeError("a column cannot be joined: put each comparison in parentheses, as in "
+                        "(a > 1) & (b < 2)")
+
+    __and__ = __rand__ = __or__ = __ror__ = __invert__ = _unjoined
+
 
 def col(key):
     """The column with this name, or with this index from 0, at the row that a letter is tested at."""
     return Column(key if isinstance(key, str) else operator.index(key))
 
 
-class Comparison:
+_AND, _OR, _NOT = 1, 2, 3
+
+
+class Condition:
+    """Comparisons joined by `&`, `|` and `~`, as SQL joins them by AND, OR and NOT."""
+
+    def __init__(self, entries):
+        # In postfix: comparisons, and the numbers of joins.
+        self._entries = entries
+
+    def _joined(self, other, join):
+        if not isinstance(other, Condition):
+            return NotImplemented
+        return Condition(self._entries + other._entries + [join])
+
+    def __and__(self, other):
+        return self._joined(other, _AND)
+
+    def __or__(self, other):
+        return self._joined(other, _OR)
+
+    def __invert__(self):
+        return Condition(self._entries + [_NOT])
+
+    def __bool__(self):
+        raise TypeError("conditions have no truth value here: join them by `&`, `|` and `~`, each "
+                        "comparison in parentheses, without `and`, `or`, `not` or `a < b < c`")
+
+    def _conjunction(self):
+        """The comparisons, if nothing but AND joins them; otherwise None."""
+        comparisons = [entry for entry in self._entries if isinstance(entry, Comparison)]
+        ands = self._entries.count(_AND)
+        return comparisons if len(comparisons) + ands == len(self._entries) else None
+
+    def _record(self, letter, index_of):
+        """The DEFINE of a letter: kind 3 where AND alone joins the comparisons, else kind 6."""
+        comparisons = self._conjunction()
+        if comparisons is None:
+            kind, count = _CONDITION, len(self._entries)
+            body = [_packed("<B", entry) if isinstance(entry, int)
+                    else _packed("<B", 0) + entry._bytes(index_of) for entry in self._entries]
+        else:
+            kind, count = _DEFINE, len(comparisons)
+            body = [comparison._bytes(index_of) for comparison in comparisons]
+        if count > (_MOST_COMPARISONS if kind == _DEFINE else _MOST_ENTRIES):
+            compared = sum(isinstance(entry, Comparison) for entry in self._entries)
+            raise Refused(Answer.WRONG_FIELD, None, (
+                f": the DEFINE of {letter} has {compared} comparisons, and {len(self._entries)} "
+                "entries with its ANDs, ORs and NOTs, of which 16 are possible where there is an "
+                "OR or a NOT"))
+        return _record(kind, _packed("<BB", _letter(letter), count) + b"".join(body))
+
+
+_MOST_COMPARISONS, _MOST_ENTRIES = 8, 16
+
+
+class Comparison(Condition):
     """A column against a number or against another column plus a number."""
 
     def __init__(self, left, operation, right):
@@ -268,9 +339,9 @@ class Comparison:
             right = Column(None, 0, operator.index(right))
         self._left, self._operation, self._right = left, operation, right
 
-    def __bool__(self):
-        raise TypeError("comparisons have no truth value here: put them in a list, without "
-                        "`and`, `or`, `not` or `a < b < c`")
+    @property
+    def _entries(self):
+        return [self]
 
     def _bytes(self, index_of):
         left, right = self._left, self._right
@@ -279,6 +350,16 @@ class Comparison:
         kind, column = (0, 0) if right._key is None else (1, index_of(right._key))
         return _packed("<BbBBBbHi", index_of(left._key), left._offset, self._operation,
                        kind, column, right._offset, 0, number)
+
+
+def _all(conditions):
+    """The condition that all of these are true."""
+    entries = []
+    for count, condition in enumerate(conditions):
+        if not isinstance(condition, Condition):
+            raise TypeError(f"a DEFINE is a condition or a list of them, not {condition!r}")
+        entries += condition._entries + [_AND] * (count > 0)
+    return Condition(entries)
 
 
 @dataclass(frozen=True)
@@ -356,7 +437,7 @@ def to_last(letter):
 
 # ---- A query's bytes. What they cannot carry is a ValueError; all else the library judges.
 
-_SHAPE, _PATTERN, _DEFINE, _SKIP, _MEASURE = 1, 2, 3, 4, 5
+_SHAPE, _PATTERN, _DEFINE, _SKIP, _MEASURE, _CONDITION = 1, 2, 3, 4, 5, 6
 
 
 def _packed(layout, *values):
@@ -388,8 +469,8 @@ def _letter(text):
 class Query:
     """A query that the library accepts, with names for its columns and titles for its measures.
 
-    `columns` are the names of the rows' columns, or their number. `define` has a comparison or a
-    list of comparisons for a letter; a letter without one holds at every row. `measures` are a list
+    `columns` are the names of the rows' columns, or their number. `define` has a condition or a
+    list of conditions for a letter; a letter without one holds at every row. `measures` are a list
     of measures, whose titles are as SQL writes them, or a dict of titles and measures.
     `bytes` is the query as include/mireladle.h describes it.
     """
@@ -411,12 +492,10 @@ class Query:
             raise ValueError("two measures are the same; in a dict each has a title of its own")
         data = [_record(_SHAPE, _packed("<BB", len(names), 0)),
                 _record(_PATTERN, pattern.encode())]
-        for letter, comparisons in (define or {}).items():
-            if isinstance(comparisons, Comparison):
-                comparisons = [comparisons]
-            parts = [comparison._bytes(index_of) for comparison in comparisons]
-            body = _packed("<BB", _letter(letter), len(parts)) + b"".join(parts)
-            data.append(_record(_DEFINE, body))
+        for letter, condition in (define or {}).items():
+            if not isinstance(condition, Condition):
+                condition = _all(condition)
+            data.append(condition._record(letter, index_of))
         data.append(_record(_SKIP, skip._bytes()))
         data += [_record(_MEASURE, measure._bytes(index_of)) for measure in asked]
         self._take(b"".join(data), names, titles)

@@ -8,6 +8,8 @@ that of target/shared, or the one that MIRELADLE_LIBRARY names. The last line is
 
 import ctypes
 import doctest
+import functools
+import operator
 import os
 import pickle
 import random
@@ -124,6 +126,41 @@ class Queries(unittest.TestCase):
             self.assertEqual(packed(comparison), struct.pack(
                 "<BbBBBbHi", left, offset, operation, kind, right, moved, 0, number))
 
+    def test_conditions(self):
+        def defined(condition):
+            return Query(["a"], "A", {"A": condition}).bytes[11:-6]
+
+        one, two, three = A == 1, A.prev() < 2, A != 3
+        packed = [comparison._bytes({"a": 0}.__getitem__) for comparison in (one, two, three)]
+        listed = [b"\0" + entry for entry in packed]
+        a, b, c = listed
+        cases = [
+            (one & two & three, 3, 3, packed),
+            (one & (two & three), 3, 3, packed),
+            ([one, two & three], 3, 3, packed),
+            (one | two, 6, 3, [a, b, b"\2"]),
+            (~one, 6, 2, [a, b"\3"]),
+            (~~one, 6, 3, [a, b"\3\3"]),
+            (one | two & three, 6, 5, [a, b, c, b"\1\2"]),
+            ((one | two) & three, 6, 5, [a, b, b"\2", c, b"\1"]),
+            ([one | two, ~three], 6, 6, [a, b, b"\2", c, b"\3\1"]),
+        ]
+        for condition, kind, count, parts in cases:
+            body = bytes([ord("A"), count]) + b"".join(parts)
+            self.assertEqual(defined(condition), struct.pack("<HH", len(body), kind) + body)
+
+    def test_what_is_no_condition(self):
+        for wrong in (lambda: not (A > 1),
+                      lambda: A > 1 | A,
+                      lambda: 1 & A,
+                      lambda: ~A,
+                      lambda: (A > 1) & 5,
+                      lambda: (A > 1) | A,
+                      lambda: Query(["a"], "A", {"A": [A > 1, True]}),
+                      lambda: Query(["a"], "A", {"A": True})):
+            with self.assertRaises(TypeError):
+                wrong()
+
     def test_what_is_no_comparison(self):
         with self.assertRaises(TypeError):
             1 < A < 5
@@ -182,6 +219,12 @@ class Refusals(unittest.TestCase):
         self.refused(3, None, Query, 1, "A", {"a": col(0) > 1})
         self.refused(3, None, Query, 1, "A", {"A": []})
         self.refused(3, None, Query, 1, "A", {"A": col(0) > col(0).prev(65)})
+        said = self.refused(3, None, Query, 1, "A", {"A": [col(0) > 1] * 9})
+        self.assertIn("DEFINE of A has 9 comparisons, and 17 entries", said)
+        any_of_8 = functools.reduce(operator.or_, [col(0) == k for k in range(8)])
+        self.assertEqual(len(Query(1, "A", {"A": ~any_of_8}).search([7, 8])), 1)
+        said = self.refused(3, None, Query, 1, "A", {"A": ~~any_of_8})
+        self.assertIn("DEFINE of A has 8 comparisons, and 17 entries", said)
         self.refused(4, None, Query, 1, "(" * 9 + "A" + ")" * 9)
         self.refused(6, None, Query, 1, "(A*)*")
         self.refused(7, None, Query, 1, "(A{99}){3}")
@@ -222,6 +265,18 @@ class Searches(unittest.TestCase):
         self.assertEqual((report.ending, report.steps, report.whole), (Answer.DONE, 12, True))
         self.assertEqual(report.matches, [
             mireladle.Match(1, 1, "AAB", {"COUNT(A)": 2, "LAST(B.price)": 115})])
+
+    def test_three_truths(self):
+        def found(condition):
+            return [match.first for match in Query(["a"], "A", {"A": condition}).search([5, 5, 6])]
+
+        same = A == A.prev()
+        self.assertEqual(found(same), [1])
+        self.assertEqual(found(~same), [2])
+        self.assertEqual(found(same | ~same), [1, 2])
+        self.assertEqual(found(~(same & (A == 7))), [0, 1, 2])
+        self.assertEqual(found(~same | (A == 5)), [0, 1, 2])
+        self.assertEqual(found(~(A == A.next()) & ~(A < 5)), [1])
 
     def test_measures(self):
         query = Query(["a", "b"], "A+ B*", {"A": A < 10, "B": col("b") > 0}, measures=[
@@ -404,7 +459,16 @@ def some_query(chance, columns):
         return chance.choice([left == right, left != right, left < right, left <= right,
                               left > right, left >= right])
 
-    define = {letter: [comparison() for _ in range(chance.randint(1, 2))]
+    def condition(comparisons):
+        if comparisons == 1:
+            made = comparison()
+        else:
+            left = chance.randint(1, comparisons - 1)
+            left, right = condition(left), condition(comparisons - left)
+            made = chance.choice([left & right, left | right])
+        return ~made if chance.random() < 0.2 else made
+
+    define = {letter: [condition(chance.randint(1, 3)) for _ in range(chance.randint(1, 2))]
               for letter in "ABC" if chance.random() < 0.7}
     pattern = some_pattern(chance, 3)
     skip = chance.choice([PAST_LAST_ROW, TO_NEXT_ROW, to_first("B"), to_last("A")])

@@ -57,7 +57,8 @@ impl Column {
         Comparison::new(self, Operator::Equal, right)
     }
 
-    /// Unequal to. Like every comparison it is not met where a row it looks at is missing.
+    /// Unequal to. Like every comparison it is unknown where a row it looks at is missing, and so not
+    /// true.
     pub fn ne(self, right: impl Into<Operand>) -> Comparison {
         Comparison::new(self, Operator::Unequal, right)
     }
@@ -168,7 +169,8 @@ impl Operator {
     }
 }
 
-/// One comparison of a DEFINE. It is not met where a row that it looks at is missing, whatever its operator.
+/// One comparison of a DEFINE. It is unknown where a row that it looks at is missing, whatever its
+/// operator. `&`, `|` and `!` join comparisons to a [`Condition`](crate::Condition).
 #[derive(Clone, Copy, Debug, PartialEq, Eq, Hash)]
 #[must_use = "a comparison has an effect only in QueryBuilder::define"]
 pub struct Comparison {

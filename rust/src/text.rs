@@ -9,7 +9,7 @@
 //! pattern: O R{2} C                            # a comment
 //! O: event = 'offered'
 //! R: event = 'refused', base = PREV(base)
-//! C: event = 'accepted' AND time <= PREV(time) + 3600
+//! C: event = 'accepted' AND NOT (time > PREV(time) + 3600 OR base IN (7, 8))
 //! event: offered=1, refused=2, accepted=3, *=0
 //! skip: past last row
 //! measures: COUNT(R), LAST(C.time) AS accepted

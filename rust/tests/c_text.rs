@@ -53,6 +53,14 @@ fn the_example_reads_a_file_and_searches() {
         String::from_utf8_lossy(&output.stdout),
         "price: answer 0\nmatch 1 at row 1: AAB, COUNT(A) 2, LAST(B.price) 115\n"
     );
+    let query = format!("{ROOT}/examples/outside.txt");
+    let prices = ["100", "105", "120", "999", "118", "121", "0"];
+    let output = succeed(Command::new(&program).arg(query).args(prices));
+    assert_eq!(
+        String::from_utf8_lossy(&output.stdout),
+        "price: answer 0\nmatch 1 at row 2: OOO, COUNT(O) 3, FIRST(O.price) 120\n\
+         match 2 at row 6: O, COUNT(O) 1, FIRST(O.price) 0\n"
+    );
     let wrong = Path::new(env!("CARGO_TARGET_TMPDIR")).join("text-wrong.txt");
     std::fs::write(&wrong, "pattern: A\nA: price >\n").unwrap();
     let output = Command::new(&program).arg(&wrong).output().unwrap();
@@ -94,6 +102,15 @@ int main(void) {
     if (strstr(mireladle_text_fault(text), "expected a letter A to Z") == NULL) return 22;
     if (mireladle_text_cell(text, 0, "1", 1, &number) != 0) return 23;
     mireladle_text_free(text);
+    /* A condition with OR and NOT, and one that is cut inside its parentheses. */
+    text = read_text("pattern: A\nA: NOT (time BETWEEN 1 AND 5 OR event IN ('on', 'off'))\nevent: on=1, off=2");
+    if (mireladle_text_fault(text) != NULL || mireladle_text_query_length(text) != 6 + 5 + 4 + 2 + 4 * 13 + 4 + 6) return 24;
+    if (mireladle_text_query(text)[13] != 6 || mireladle_text_query(text)[16] != 8) return 25;
+    mireladle_text_free(text);
+    text = read_text("pattern: A\nA: NOT (time BETWEEN 1 AND 5");
+    if (mireladle_text_fault_line(text) != 2 || mireladle_text_fault_column(text) != 29) return 26;
+    if (strstr(mireladle_text_fault(text), "expected AND, OR or `)`") == NULL) return 27;
+    mireladle_text_free(text);
     text = mireladle_text_read(NULL, 5);
     if (mireladle_text_fault_line(text) != 1) return 30;
     mireladle_text_free(text);
@@ -113,10 +130,11 @@ int main(void) {
     if (mireladle_text_fault(NULL) != NULL || mireladle_text_names(NULL) != 0) return 35;
     if (mireladle_text_query(NULL) != NULL || mireladle_text_title(NULL, 0) != NULL) return 36;
     /* Every front of a text, and each with one byte changed. */
-    const char *whole = "pattern: A+ (B|C){2,3}?\nA: price > PREV(price, 2) + -5\nevent: on=1\nskip: to last B";
+    const char *whole = "pattern: A+ (B|C){2,3}?\nA: price > PREV(price, 2) + -5\n"
+                        "B: NOT (price IN (1, 2) OR price BETWEEN 3 AND 4), price <> 5\nevent: on=1\nskip: to last B";
     for (size_t length = 0; length <= strlen(whole); length++) {
         mireladle_text_free(mireladle_text_read(whole, length));
-        char changed[128];
+        char changed[256];
         memcpy(changed, whole, length);
         for (int byte = 1; length > 0 && byte < 256; byte += 7) {
             changed[length - 1] = (char)byte;

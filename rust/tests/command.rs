@@ -118,6 +118,61 @@ row  price  match:label
     );
 }
 
+/// OR, NOT, BETWEEN and IN. What is asked of the row before the first is unknown, and NOT does not
+/// make it true.
+#[test]
+fn outside() {
+    let output = run(&[&example("outside.txt"), &example("outside.csv")]);
+    let expected = "\
+2 matches in 15 steps
+
+match  first row  rows  COUNT(O)  FIRST(O.price)  labels
+    1          2     3         3             120  OOO
+    2          6     1         1               0  O
+
+row  price  match:label
+  0    100
+  1    105
+  2    120  1:O
+  3    999  1:O
+  4    118  1:O
+  5    121
+  6      0  2:O
+";
+    assert_eq!(
+        (status(&output), text(&output.stdout), text(&output.stderr)),
+        (0, expected, "")
+    );
+}
+
+/// A condition that cannot be read gets its line, its column and a mark under it.
+#[test]
+fn a_condition_that_cannot_be_read() {
+    let rows = file("joins.csv", "price\n1\n");
+    let query = file(
+        "joins.txt",
+        "pattern: A\nA: price = 1 OR NOT (price IS NULL)\n",
+    );
+    let output = run(&[&query, &rows]);
+    assert_eq!(status(&output), 2);
+    let expected = "\
+:2:28: expected one of = <> < <= > >=, BETWEEN or IN, since every cell is a number and none is NULL, \
+found `IS`
+    A: price = 1 OR NOT (price IS NULL)
+                               ^
+";
+    let printed = text(&output.stderr);
+    assert!(printed.ends_with(expected), "{printed}");
+    let nots = "NOT ".repeat(16);
+    let long = format!("pattern: A\nA: {nots}price = 1\n");
+    let query = file("joins-long.txt", long);
+    let printed = run(&[&query, &rows]);
+    let printed = text(&printed.stderr);
+    let expected = ":2:1: expected at most 16 comparisons, ANDs, ORs and NOTs in a DEFINE";
+    assert!(printed.contains(expected), "{printed}");
+    assert!(printed.contains("found 17 of them"), "{printed}");
+}
+
 /// A match without a row to skip to is printed, and the first line says why it is the last.
 #[test]
 fn a_search_without_a_row_to_skip_to_says_why() {
@@ -568,10 +623,13 @@ fn the_readme_is_true() {
         readme.contains(&format!("```text\n{message}```")),
         "{message}"
     );
-    let query = std::fs::read_to_string(example("release.txt")).unwrap();
-    let plain = |line: &&str| !line.starts_with('#');
-    let query: Vec<&str> = query.lines().filter(plain).collect();
-    assert!(readme.contains(&format!("```text\n{}\n```", query.join("\n"))));
+    for name in ["release.txt", "outside.txt"] {
+        let query = std::fs::read_to_string(example(name)).unwrap();
+        let plain = |line: &&str| !line.starts_with('#');
+        let query: Vec<&str> = query.lines().filter(plain).collect();
+        let shown = format!("```text\n{}\n```", query.join("\n"));
+        assert!(readme.contains(&shown), "{name}");
+    }
 }
 
 #[test]

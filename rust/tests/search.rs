@@ -5,7 +5,8 @@
 #![allow(clippy::restriction)]
 
 use mireladle::{
-    col, lent, Comparison, Ending, Error, Limits, Match, Measure, Query, QueryBuilder, Report, Rows, Skip,
+    col, lent, Comparison, Ending, Error, Limits, Match, Measure, Query, QueryBuilder, Report,
+    Rows, Skip,
 };
 
 const X: [i32; 5] = [100, 110, 120, 115, 130];

@@ -148,7 +148,7 @@ Lines in any order; # or -- begins a comment.
   pattern: A+ B
   A: c0 > PREV(c0)
   B: price < PREV(price), event <> 'refused'
-  C: c1 = 3 AND c0 <= NEXT(c0, 2) + 5
+  C: c1 = 3 AND NOT (c0 > NEXT(c0, 2) + 5 OR price BETWEEN 10 AND 20)
   event: offered=1, refused=2, accepted=3, *=0
   skip: past last row
   measures: COUNT(A), LAST(B.price) AS lowest, SUM(c1)
@@ -162,11 +162,15 @@ A pattern is made of letters A to Z, two of them parted by a space; ^ before
 the first row and $ behind the last; () for nothing; branches with |, the
 left one tried first; parentheses; and * + ? {n} {n,} {,m} {n,m} with bounds
 up to 99, which take as many rows as they can, or as few with a ? behind.
-A letter holds at a row where all its comparisons are met; one without a
-line of its own, or with `true`, holds at every row. A column is c0, c1 and so on,
-or its name in ROWS, in double quotes where it has spaces; a query names at most
-8. Comparisons are = <> < <= > >=, with a number, a text in single quotes, a
-column, or a column plus or minus a number. A text stands for its code in the
+A letter holds at a row where its condition is true; one without a line of its
+own, or with `true`, holds at every row. A column is c0, c1 and so on, or its name
+in ROWS, in double quotes where it has spaces; a query names at most 8. Comparisons
+are = <> < <= > >=, with a number, a text in single quotes, a column, or a column
+plus or minus a number; and [NOT] BETWEEN .. AND .., [NOT] IN (.., ..). They are
+joined by NOT, AND and OR, which bind in this order, and parentheses; between whole
+conditions of a line a comma is AND. A letter has at most 8 comparisons. One that
+looks at a row which is not there is unknown, and NOT unknown is unknown: a letter
+holds only where its condition is true. A text stands for its code in the
 column's line of codes, where *=0 gives 0 to all texts that it does not name.
 skip is `past last row` (also where the line is missing), `to next row`,
 `to first A` or `to last A`: at which row the search goes on behind a match, here
