@@ -1,6 +1,8 @@
 //! Conditions over rows: OR, NOT and unknown comparisons at both ends of a partition, by the builder
 //! and by the query's text, against SQL's tables written out here.
 
+#![allow(clippy::restriction)]
+
 use mireladle::{col, text, Comparison, Condition, Error, Query, Rows};
 
 /// The rows at which a letter with this condition holds.
