@@ -232,10 +232,11 @@ static void add_head(struct bytes *query, size_t length, unsigned kind)
 /* The parts of a query beside its text. */
 struct parts {
     unsigned columns, defines, comparisons, measures, skip;
+    bool joined; /* DEFINEs of kind 6, of 16 entries each */
 };
-static const struct parts BARE = {1, 0, 0, 0, 0};
+static const struct parts BARE = {1, 0, 0, 0, 0, false};
 static const struct parts FULL = {MIRELADLE_MAX_COLUMNS, MIRELADLE_MAX_DEFINES, MIRELADLE_MAX_COMPARISONS,
-                                  MIRELADLE_MAX_MEASURES, 0};
+                                  MIRELADLE_MAX_MEASURES, 0, false};
 
 /* A comparison that holds where its row is there: an entry is at most one of this row and 2^31 - 1
  * more. */
@@ -244,6 +245,24 @@ static void add_comparison(struct bytes *query, unsigned column, int offset)
     const unsigned body[12] = {column, (unsigned)offset & 255, 4, 1, column, 0, 0, 0, 255, 255, 255, 127};
     for (size_t i = 0; i < 12; i++)
         add(query, body[i]);
+}
+
+/* A condition of 8 comparisons, all of which wait at once, and 8 joins: NOT the first, or all others.
+ * It is true where its rows are there. */
+static void add_condition(struct bytes *query, unsigned define, unsigned columns)
+{
+    add_head(query, 2 + 8 * 13 + 8, 6);
+    add(query, 'A' + define);
+    add(query, 16);
+    for (unsigned c = 0; c < 8; c++) {
+        add(query, 0);
+        add_comparison(query, c % columns, c % 2 == 0 ? 0 : (int)(define % 3) - 1);
+        if (c == 0)
+            add(query, 3);
+    }
+    for (unsigned join = 0; join < 6; join++)
+        add(query, 1);
+    add(query, 2);
 }
 
 static void make_query(struct bytes *query, const char *text, size_t length, struct parts parts)
@@ -256,6 +275,10 @@ static void make_query(struct bytes *query, const char *text, size_t length, str
     for (size_t i = 0; i < length; i++)
         add(query, (unsigned char)text[i]);
     for (unsigned d = 0; d < parts.defines; d++) {
+        if (parts.joined) {
+            add_condition(query, d, parts.columns);
+            continue;
+        }
         add_head(query, 2 + 12 * parts.comparisons, 3);
         add(query, 'A' + d);
         add(query, parts.comparisons);
@@ -624,7 +647,21 @@ static void full_queries(void)
         try_parts(text.at, text.length, FULL, FEW_ROWS);
     }
     finish_accepted();
+    struct parts joined = FULL;
+    joined.joined = true;
+    begin("26 DEFINEs of 16 entries, 8 measures");
+    for (size_t t = 0; t < COUNT(TEXT); t++)
+        for (struct parts parts = joined; parts.skip < 4; parts.skip++)
+            for (size_t n = 0; n <= 20; n++)
+                try_parts(TEXT[t], strlen(TEXT[t]), parts, n);
+    for (size_t depth = 0; depth <= MAX_DEPTH; depth++) {
+        fill(&text, MIRELADLE_MAX_PATTERN, "(", "^", "", ")", depth);
+        try_parts(text.at, text.length, joined, FEW_ROWS);
+    }
+    finish_accepted();
     begin("4,096 rows");
+    for (size_t t = 0; t < COUNT(TEXT); t++)
+        try_parts(TEXT[t], strlen(TEXT[t]), joined, MIRELADLE_MAX_ROWS);
     for (size_t t = 0; t < COUNT(TEXT); t++)
         try_parts(TEXT[t], strlen(TEXT[t]), FULL, MIRELADLE_MAX_ROWS);
     fill(&text, MIRELADLE_MAX_PATTERN - 1, "(", "^", "", ")", 0);

@@ -950,6 +950,11 @@ fn no_text_is_too_odd() {
         "AFTER MATCH SKIP",
         "ORDER BY",
         "true",
+        "OR",
+        "NOT",
+        "BETWEEN",
+        "IN (",
+        "NULL",
     ];
     let mut seed: u64 = 1;
     for _ in 0..40_000 {
