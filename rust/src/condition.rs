@@ -32,8 +32,8 @@ pub(crate) const MOST_ENTRIES: usize = 16;
 /// # Ok::<(), mireladle::Error>(())
 /// ```
 ///
-/// A DEFINE has at most 8 comparisons; one with OR or NOT at most 16 comparisons, ANDs, ORs and NOTs
-/// in all. A longer one is an [`Error::ConditionTooLong`](crate::Error::ConditionTooLong) when the
+/// A DEFINE has at most 8 comparisons; one with OR or NOT at most 16 comparisons, ANDs, ORs and
+/// NOTs in all. A longer one is an [`Error::ConditionTooLong`](crate::Error::ConditionTooLong) when the
 /// query is built.
 #[derive(Clone, Debug, PartialEq, Eq, Hash)]
 #[must_use = "a condition has an effect only in QueryBuilder::define"]
@@ -70,8 +70,8 @@ impl Condition {
         Condition::joined(conditions, Entry::And)
     }
 
-    /// True where one of these is. Of none there is no condition that a query could have, so a query
-    /// with it is refused.
+    /// True where one of these is. Of none there is no condition that a query could have, so a
+    /// query with it is refused.
     ///
     /// ```
     /// use mireladle::{col, Condition};

@@ -1,5 +1,5 @@
-//! What a letter's DEFINE says: `c1 = 3, c2 = PREV(c2) AND NOT (c0 < 5 OR c0 > NEXT(c0, 2) + 5)`, or
-//! `true`. The words are read into a [`Condition`], and that into the condition of a query, join by
+//! What a letter's DEFINE says: `c1 = 3, c2 = PREV(c2) AND NOT (c0 < 5 OR c0 > NEXT(c0, 2) + 5)`,
+//! or `true`. The words are read into a [`Condition`], and that into the condition of a query, join by
 //! join as it is written. On the left of a comparison stands a column, on the right a number, a
 //! text, a column, or a column plus or minus a number; PREV and NEXT look up to 64 rows away.
 //! BETWEEN and IN are read as the comparisons that SQL says they are.
