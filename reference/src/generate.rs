@@ -2,13 +2,14 @@
 //! or listed in full. Accepted queries of all shapes, damaged ones for each
 //! answer of the table in document 01 and for pairs of answers, texts that go
 //! wrong at each byte, inputs at the limits, rooms of every critical length,
-//! allowances that end at every sort of event, and sums beside multiples of their
-//! count.
+//! allowances that end at every sort of event, sums beside multiples of their count,
+//! and conditions of three truths.
 //! The right results are not stored here: `search` and `program` give them.
 
 pub mod allowances;
 pub mod averages;
 pub mod beginnings;
+pub mod conditions;
 pub mod damage;
 pub mod draft;
 pub mod limits;

@@ -1,8 +1,9 @@
-//! The letters at the rows: comparisons with exact sums, and rows that are not
-//! there. From document 01, "Rows and query records", below the table.
+//! The letters at the rows: comparisons with exact sums, rows that are not there, and
+//! conditions of three truths. From document 01, "Rows and query records", below the
+//! table, and document 02, R-7.
 //! Sums are taken in 64 bits, where two 32-bit numbers cannot wrap.
 
-use crate::query::{Comparison, Query, Reference};
+use crate::query::{Comparison, Condition, Define, Meaning, Query, Reference};
 
 /// Which letter holds at which row.
 #[derive(Clone, Debug, PartialEq, Eq)]
@@ -14,7 +15,12 @@ impl Held {
     /// The rows are whole: their number divides by the columns.
     pub fn new(query: &Query, rows: &[i32]) -> Held {
         let n = rows.len() / query.columns;
-        let at = |row| std::array::from_fn(|index| holds(query, rows, b'A' + index as u8, row));
+        Held::by(n, |letter, row| holds(query, rows, letter, row))
+    }
+
+    /// So many rows, at which the letters hold as is told.
+    pub fn by(n: usize, holds: impl Fn(u8, usize) -> bool) -> Held {
+        let at = |row| std::array::from_fn(|index| holds(b'A' + index as u8, row));
         Held {
             rows: (0..n).map(at).collect(),
         }
@@ -29,37 +35,88 @@ impl Held {
     }
 }
 
-/// All comparisons of the letter are met; without DEFINE there are none.
+/// SQL's three truths.
+#[derive(Clone, Copy, Debug, PartialEq, Eq)]
+pub enum Truth {
+    True,
+    False,
+    Unknown,
+}
+
+/// True alone lets a letter hold; one without DEFINE always does.
 pub fn holds(query: &Query, rows: &[i32], letter: u8, row: usize) -> bool {
     query
         .defines
         .iter()
         .filter(|define| define.letter == letter)
-        .flat_map(|define| &define.comparisons)
-        .all(|comparison| is_met(comparison, rows, query.columns, row))
+        .all(|define| is_met(define, rows, query.columns, row))
 }
 
-/// A comparison that reads a row outside the partition is not met, also if its
+fn is_met(define: &Define, rows: &[i32], columns: usize, row: usize) -> bool {
+    let compared = |comparison: &Comparison| compare(comparison, rows, columns, row);
+    match &define.meaning {
+        Meaning::All(comparisons) => comparisons.iter().all(|it| compared(it) == Truth::True),
+        Meaning::One(condition) => judge(condition, &compared) == Truth::True,
+    }
+}
+
+/// What a condition comes to where its comparisons come to what is told of them.
+pub fn judge(condition: &Condition, compared: &dyn Fn(&Comparison) -> Truth) -> Truth {
+    match condition {
+        Condition::Compare(comparison) => compared(comparison),
+        Condition::And(two) => and(judge(&two[0], compared), judge(&two[1], compared)),
+        Condition::Or(two) => or(judge(&two[0], compared), judge(&two[1], compared)),
+        Condition::Not(one) => not(judge(one, compared)),
+    }
+}
+
+pub fn and(left: Truth, right: Truth) -> Truth {
+    match (left, right) {
+        (Truth::False, _) | (_, Truth::False) => Truth::False,
+        (Truth::True, Truth::True) => Truth::True,
+        _ => Truth::Unknown,
+    }
+}
+
+pub fn or(left: Truth, right: Truth) -> Truth {
+    match (left, right) {
+        (Truth::True, _) | (_, Truth::True) => Truth::True,
+        (Truth::False, Truth::False) => Truth::False,
+        _ => Truth::Unknown,
+    }
+}
+
+pub fn not(one: Truth) -> Truth {
+    match one {
+        Truth::True => Truth::False,
+        Truth::False => Truth::True,
+        Truth::Unknown => Truth::Unknown,
+    }
+}
+
+/// A comparison that reads a row outside the partition is unknown, also if its
 /// operator is "unequal".
-pub fn is_met(comparison: &Comparison, rows: &[i32], columns: usize, row: usize) -> bool {
-    let Some(left) = entry(comparison.left, rows, columns, row) else {
-        return false;
-    };
+pub fn compare(comparison: &Comparison, rows: &[i32], columns: usize, row: usize) -> Truth {
+    let left = entry(comparison.left, rows, columns, row);
     let added = match comparison.right {
         None => Some(0),
         Some(right) => entry(right, rows, columns, row),
     };
-    let Some(added) = added else {
-        return false;
+    let (Some(left), Some(added)) = (left, added) else {
+        return Truth::Unknown;
     };
     let right = comparison.number + added;
-    match comparison.operator {
+    let met = match comparison.operator {
         1 => left == right,
         2 => left != right,
         3 => left < right,
         4 => left <= right,
         5 => left > right,
         _ => left >= right,
+    };
+    match met {
+        true => Truth::True,
+        false => Truth::False,
     }
 }
 

@@ -1,8 +1,8 @@
 //! The query: its records, their fields and parts, and the answers 1, 2, 3
 //! and 8. From document 01, "Rows and query records" and the table of answers,
-//! and document 02, R-2, for the skip record's letter, and R-5, for function 7.
-//! Each answer is judged over the whole query by a function of its own, so that
-//! a low number late in the query comes before a high one early in it.
+//! and document 02, R-2, for the skip record's letter, R-5, for function 7, and R-7,
+//! for records of kind 6. Each answer is judged over the whole query by a function of
+//! its own, so that a low number late in the query comes before a high one early in it.
 
 /// One record as it lies in the query; the length is that of the body.
 #[derive(Clone, Copy, Debug, PartialEq, Eq)]
@@ -16,11 +16,14 @@ pub const TEXT: u16 = 2;
 pub const DEFINE: u16 = 3;
 pub const SKIP: u16 = 4;
 pub const MEASURE: u16 = 5;
+/// Stands where a DEFINE may, and counts as one.
+pub const CONDITION: u16 = 6;
 
 pub const MOST_COLUMNS: u8 = 8;
 pub const MOST_TEXT: usize = 256;
 pub const MOST_DEFINES: usize = 26;
 pub const MOST_COMPARISONS: u8 = 8;
+pub const MOST_ENTRIES: u8 = 16;
 pub const MOST_MEASURES: usize = 8;
 pub const FARTHEST_OFFSET: i8 = 64;
 pub const COMPARISON_BYTES: usize = 12;
@@ -77,10 +80,56 @@ pub struct Comparison {
     pub number: i64,
 }
 
+/// When a letter holds.
 #[derive(Clone, Debug, PartialEq, Eq)]
 pub struct Define {
     pub letter: u8,
-    pub comparisons: Vec<Comparison>,
+    pub meaning: Meaning,
+}
+
+#[derive(Clone, Debug, PartialEq, Eq)]
+pub enum Meaning {
+    /// Kind 3: each of the comparisons, in order.
+    All(Vec<Comparison>),
+    /// Kind 6.
+    One(Condition),
+}
+
+/// What the entries of a record of kind 6 come to.
+#[derive(Clone, Debug, PartialEq, Eq)]
+pub enum Condition {
+    Compare(Comparison),
+    And(Box<[Condition; 2]>),
+    Or(Box<[Condition; 2]>),
+    Not(Box<Condition>),
+}
+
+/// The first byte of an entry: a comparison follows, or nothing does.
+pub const COMPARE: u8 = 0;
+pub const AND: u8 = 1;
+pub const OR: u8 = 2;
+pub const NOT: u8 = 3;
+
+impl Define {
+    /// All comparisons, in the order of their bytes.
+    pub fn comparisons(&self) -> Vec<Comparison> {
+        match &self.meaning {
+            Meaning::All(comparisons) => comparisons.clone(),
+            Meaning::One(condition) => condition.comparisons(),
+        }
+    }
+}
+
+impl Condition {
+    pub fn comparisons(&self) -> Vec<Comparison> {
+        match self {
+            Condition::Compare(comparison) => vec![*comparison],
+            Condition::And(two) | Condition::Or(two) => {
+                two.iter().flat_map(Condition::comparisons).collect()
+            }
+            Condition::Not(one) => one.comparisons(),
+        }
+    }
 }
 
 /// Where the search goes on after a match with rows; the modes 0 to 3 in order.
@@ -164,16 +213,23 @@ pub fn records(query: &[u8]) -> Option<Vec<Record<'_>>> {
     Some(records)
 }
 
+/// The kind by whose place in the order a record is judged.
+pub fn stands_as(kind: u16) -> u16 {
+    match kind {
+        CONDITION => DEFINE,
+        other => other,
+    }
+}
+
 /// False is answer 2. Kinds that never fall stand in the stated order, and the
-/// counts then say all the rest; an empty query lacks three kinds.
+/// counts then say all the rest; an empty query lacks three kinds. Kinds 3 and 6
+/// stand in any order among themselves and are counted together.
 pub fn kinds_are_right(records: &[Record]) -> bool {
-    let count = |kind: u16| records.iter().filter(|record| record.kind == kind).count();
-    let known = records
-        .iter()
-        .all(|record| (SHAPE..=MEASURE).contains(&record.kind));
-    let in_order = records.windows(2).all(|two| two[0].kind <= two[1].kind);
+    let kinds: Vec<u16> = records.iter().map(|it| stands_as(it.kind)).collect();
+    let count = |kind: u16| kinds.iter().filter(|it| **it == kind).count();
+    let known = kinds.iter().all(|kind| (SHAPE..=MEASURE).contains(kind));
     known
-        && in_order
+        && kinds.is_sorted()
         && count(SHAPE) == 1
         && count(TEXT) == 1
         && count(DEFINE) <= MOST_DEFINES
@@ -190,6 +246,7 @@ pub fn fields_are_right(records: &[Record]) -> bool {
         SHAPE => shape_is_right(record.body),
         TEXT => record.body.len() <= MOST_TEXT,
         DEFINE => define_is_right(record.body, columns),
+        CONDITION => condition_is_right(record.body, columns),
         SKIP => skip_is_right(record.body),
         _ => measure_is_right(record.body, columns),
     })
@@ -238,6 +295,64 @@ fn define_is_right(body: &[u8], columns: u8) -> bool {
     }
 }
 
+fn condition_is_right(body: &[u8], columns: u8) -> bool {
+    let [letter, count, entries @ ..] = body else {
+        return false;
+    };
+    let Some(entries) = split_entries(entries) else {
+        return false;
+    };
+    letter.is_ascii_uppercase()
+        && (1..=MOST_ENTRIES).contains(count)
+        && entries.len() == usize::from(*count)
+        && entries
+            .iter()
+            .all(|entry| entry[0] != COMPARE || comparison_is_right(&entry[1..], columns))
+        && condition(&entries).is_some()
+}
+
+/// Cuts the bytes into entries. None if one is of no known sort or cut short.
+fn split_entries(mut bytes: &[u8]) -> Option<Vec<&[u8]>> {
+    let mut entries = Vec::new();
+    while let [sort, ..] = bytes {
+        let length = match *sort {
+            COMPARE => 1 + COMPARISON_BYTES,
+            AND | OR | NOT => 1,
+            _ => return None,
+        };
+        let (entry, rest) = bytes.split_at_checked(length)?;
+        entries.push(entry);
+        bytes = rest;
+    }
+    Some(entries)
+}
+
+/// What entries in postfix come to: an operator takes the results before it, the last
+/// of them as its right side. None if one finds too few of them, or if not exactly
+/// one result is left.
+fn condition(entries: &[&[u8]]) -> Option<Condition> {
+    let mut results = Vec::new();
+    for entry in entries {
+        let result = match entry[0] {
+            COMPARE => Condition::Compare(comparison(&entry[1..])),
+            NOT => Condition::Not(Box::new(results.pop()?)),
+            operator => {
+                let right = results.pop()?;
+                let both = Box::new([results.pop()?, right]);
+                match operator {
+                    AND => Condition::And(both),
+                    _ => Condition::Or(both),
+                }
+            }
+        };
+        results.push(result);
+    }
+    match results.len() {
+        1 => results.pop(),
+        _ => None,
+    }
+}
+
 fn comparison_is_right(bytes: &[u8], columns: u8) -> bool {
     let (left_column, left_offset) = (bytes[0], bytes[1] as i8);
     let (operator, right_kind) = (bytes[2], bytes[3]);
@@ -279,7 +394,7 @@ fn parts(records: &[Record]) -> Query {
     Query {
         columns: usize::from(records[0].body[0]),
         text: records[1].body.to_vec(),
-        defines: bodies(DEFINE).map(define).collect(),
+        defines: records.iter().filter_map(define).collect(),
         skip: bodies(SKIP).next().map_or(Skip::PastLastRow, skip),
         measures: bodies(MEASURE).map(measure).collect(),
     }
@@ -294,10 +409,21 @@ fn skip(body: &[u8]) -> Skip {
     }
 }
 
-fn define(body: &[u8]) -> Define {
-    Define {
-        letter: body[0],
-        comparisons: body[2..].chunks(COMPARISON_BYTES).map(comparison).collect(),
+fn define(record: &Record) -> Option<Define> {
+    let meaning = |behind_count: &[u8]| match record.kind {
+        DEFINE => {
+            let comparisons = behind_count.chunks(COMPARISON_BYTES);
+            Some(Meaning::All(comparisons.map(comparison).collect()))
+        }
+        CONDITION => condition(&split_entries(behind_count)?).map(Meaning::One),
+        _ => None,
+    };
+    match record.body {
+        [letter, _, behind_count @ ..] => Some(Define {
+            letter: *letter,
+            meaning: meaning(behind_count)?,
+        }),
+        _ => None,
     }
 }
 

@@ -179,10 +179,25 @@ pub fn search_by_rule(
     rule: Rule,
     watch: &mut dyn FnMut(&Attempt),
 ) -> Outcome {
-    let accepted = match accept_with_room(query, rows, notes.len(), trail.len()) {
-        Ok(accepted) => accepted,
-        Err(answer) => return Outcome::refused(query, answer),
-    };
+    match accept_with_room(query, rows, notes.len(), trail.len()) {
+        Ok(accepted) => {
+            let lent = (notes, trail, numbers, labels);
+            search_accepted(&accepted, rows, allowance, lent, rule, watch)
+        }
+        Err(answer) => Outcome::refused(query, answer),
+    }
+}
+
+/// The same for a query and rows that are not refused, with working room that is long
+/// enough; the letters hold where `accepted` says so, be it right or wrong.
+pub fn search_accepted(
+    accepted: &Accepted,
+    rows: &[i32],
+    allowance: Option<u64>,
+    (notes, trail, numbers, labels): Buffers,
+    rule: Rule,
+    watch: &mut dyn FnMut(&Attempt),
+) -> Outcome {
     let mut walk = Counted::new(accepted.ground(), allowance);
     let mut report = Report::new(numbers, labels);
     let mut attempt = |start| {
@@ -190,7 +205,7 @@ pub fn search_by_rule(
         watch(&attempt);
         attempt
     };
-    let answer = take_starts(&accepted, rows, rule, &mut attempt, &mut report)
+    let answer = take_starts(accepted, rows, rule, &mut attempt, &mut report)
         .expect("the counted walk never gives up");
     let bound = accepted.most_steps();
     assert!(

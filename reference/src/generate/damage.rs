@@ -1,15 +1,16 @@
 //! Damage to a draft: for each answer of the table in document 01 many causes,
 //! one of them taken at random. Where two are wanted, the one with the higher
 //! number is done first, so that the lower one surely stands in the input. The
-//! answers 14 and 15, the skip's letter and function 7 are from document 02, R-1, R-2
-//! and R-5.
+//! answers 14 and 15, the skip's letter, function 7 and kind 6 are from document 02,
+//!
 
-use super::draft::{define_body, random_define, with_number, Draft, Numbers, Room, Tail};
+use super::conditions;
+use super::draft::{define_body, random_record, with_number, Draft, Numbers, Room, Tail};
 use super::random::Random;
 use super::texts;
 use crate::query::{
-    AVG, COUNT, DEFINE, MEASURE, MOST_MEASURES, MOST_TEXT, SHAPE, SKIP, TEXT, TO_FIRST, TO_LAST,
-    TO_NEXT_ROW,
+    stands_as, AVG, COMPARE, CONDITION, COUNT, DEFINE, MEASURE, MOST_DEFINES, MOST_MEASURES,
+    MOST_TEXT, SHAPE, SKIP, TEXT, TO_FIRST, TO_LAST, TO_NEXT_ROW,
 };
 use crate::search::{self, MOST_ROWS, STUCK};
 
@@ -70,7 +71,7 @@ fn cut(random: &mut Random, draft: &mut Draft) {
     };
 }
 
-const UNKNOWN_KINDS: [u16; 9] = [0, 6, 7, 255, 256, 0x0101, 0x0102, 0x0500, 65_535];
+const UNKNOWN_KINDS: [u16; 9] = [0, 7, 8, 255, 256, 0x0101, 0x0106, 0x0600, 65_535];
 
 fn wrong_kind(random: &mut Random, draft: &mut Draft) {
     let at = random.below(draft.records.len());
@@ -92,31 +93,44 @@ fn wrong_kind(random: &mut Random, draft: &mut Draft) {
             let behind = random.pick(&[again, draft.records.len()]);
             draft.records.insert(behind, record);
         }
-        4 => too_many(draft, DEFINE, 27),
-        5 => too_many(draft, MEASURE, MOST_MEASURES + 1),
+        4 => too_many_defines(random, draft),
+        5 => too_many_measures(draft),
         6 => draft.records.clear(),
         _ => misplace(random, draft),
     }
 }
 
-/// Brings the number of DEFINEs or measures to one more than there may be.
-fn too_many(draft: &mut Draft, kind: u16, count: usize) {
-    while draft.places_of(kind).len() < count {
-        let have = draft.places_of(kind).len() as u8;
-        match kind {
-            DEFINE => {
-                let letter = b'A' + have % 26;
-                draft.add_define(define_body(letter, &[with_number(0, 0, 1, 0)]));
-            }
-            _ => draft.records.push((MEASURE, vec![COUNT, 0, 0, 0])),
-        }
+/// Brings the number of measures to one more than there may be.
+fn too_many_measures(draft: &mut Draft) {
+    while draft.places_of(MEASURE).len() <= MOST_MEASURES {
+        draft.records.push((MEASURE, vec![COUNT, 0, 0, 0]));
+    }
+}
+
+/// The same for DEFINEs, of kind 3 alone, of kind 6 alone, or of both in turn.
+fn too_many_defines(random: &mut Random, draft: &mut Draft) {
+    let kinds = random.pick(&[
+        [DEFINE, DEFINE],
+        [CONDITION, CONDITION],
+        [DEFINE, CONDITION],
+    ]);
+    while draft.defines().len() <= MOST_DEFINES {
+        let have = draft.defines().len();
+        let letter = b'A' + have as u8 % 26;
+        let equal = with_number(0, 0, 1, 0);
+        let body = match kinds[have % 2] {
+            DEFINE => define_body(letter, &[equal]),
+            _ => conditions::body(letter, &[conditions::compare(equal)]),
+        };
+        draft.add_record((kinds[have % 2], body));
     }
 }
 
 /// A record behind or before one of another kind.
 fn misplace(random: &mut Random, draft: &mut Draft) {
     let before = draft.records.clone();
-    while draft.records.iter().map(|record| record.0).is_sorted() {
+    let in_order = |draft: &Draft| draft.records.iter().map(|it| stands_as(it.0)).is_sorted();
+    while in_order(draft) {
         draft.records = before.clone();
         let from = random.below(before.len());
         let record = draft.records.remove(from);
@@ -145,6 +159,7 @@ fn wrong_field(random: &mut Random, draft: &mut Draft) {
         SHAPE => wrong_shape(random, body),
         TEXT => lengthen(random, body),
         DEFINE => wrong_define(random, body, columns),
+        CONDITION => wrong_condition(random, body, columns),
         SKIP => wrong_skip(random, body),
         _ => wrong_measure(random, body, columns),
     }
@@ -209,6 +224,21 @@ fn wrong_define(random: &mut Random, body: &mut Vec<u8>, columns: u8) {
     }
 }
 
+/// A letter that is none, entries that come to nothing, or a wrong comparison.
+fn wrong_condition(random: &mut Random, body: &mut Vec<u8>, columns: u8) {
+    match random.below(10) {
+        0 => body[0] = random.pick(&NO_LETTERS),
+        1..=5 => conditions::damage(random, body),
+        _ => {
+            let mut entries = conditions::entries_of(body);
+            let compared = (0..entries.len()).filter(|&at| entries[at][0] == COMPARE);
+            let at = random.pick(&compared.collect::<Vec<_>>());
+            wrong_comparison(random, &mut entries[at][1..], columns);
+            *body = conditions::body(body[0], &entries);
+        }
+    }
+}
+
 const WRONG_OFFSETS: [i8; 4] = [-65, 65, 127, -128];
 
 fn wrong_comparison(random: &mut Random, bytes: &mut [u8], columns: u8) {
@@ -247,28 +277,28 @@ fn wrong_text(random: &mut Random, draft: &mut Draft, answer: u8) {
 }
 
 /// A second DEFINE for a letter, next to the first or far from it, the same or
-/// another one; also for a letter that is not in the pattern.
+/// another one, of the same kind or not; also for a letter that is not in the pattern.
 fn define_twice(random: &mut Random, draft: &mut Draft) {
     let columns = draft.columns();
-    let mut bodies: Vec<Vec<u8>> = draft
-        .places_of(DEFINE)
+    let mut records: Vec<(u16, Vec<u8>)> = draft
+        .defines()
         .into_iter()
-        .map(|at| draft.records[at].1.clone())
+        .map(|at| draft.records[at].clone())
         .collect();
-    if bodies.is_empty() || random.chance(20) {
+    if records.is_empty() || random.chance(20) {
         let letter = random.pick(b"ABQZ");
-        let body = random_define(random, letter, columns, Numbers::Low);
-        bodies.push(body);
+        let record = random_record(random, letter, columns, Numbers::Low);
+        records.push(record);
     }
-    let first = random.pick(&bodies);
+    let first = random.pick(&records);
     let second = match random.chance(50) {
         true => first.clone(),
-        false => random_define(random, first[0], columns, Numbers::Low),
+        false => random_record(random, first.1[0], columns, Numbers::Low),
     };
-    bodies.insert(random.below(bodies.len() + 1), second);
-    draft.records.retain(|record| record.0 != DEFINE);
-    for body in bodies {
-        draft.add_define(body);
+    records.insert(random.below(records.len() + 1), second);
+    draft.records.retain(|it| stands_as(it.0) != DEFINE);
+    for record in records {
+        draft.add_record(record);
     }
 }
 

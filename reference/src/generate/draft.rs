@@ -1,13 +1,15 @@
 //! A draft of an input: records, rows and rooms that can still be changed, and
 //! the finished input made from it. From document 01, "Rows and query records"
-//! for the bytes and "Report" for the rooms; and document 02, R-2, for the skip, and
-//! R-5, for the last of the functions.
+//! for the bytes and "Report" for the rooms; and document 02, R-2, for the skip, R-5,
+//! for the last of the functions, and R-7, for records of kind 6.
 
+use super::conditions::{self, Entry};
 use super::random::Random;
 use super::texts;
 use crate::pattern;
 use crate::query::{
-    AVG, COUNT, DEFINE, MEASURE, PAST_LAST_ROW, SHAPE, SKIP, TEXT, TO_FIRST, TO_LAST, TO_NEXT_ROW,
+    stands_as, AVG, CONDITION, COUNT, DEFINE, MEASURE, PAST_LAST_ROW, SHAPE, SKIP, TEXT, TO_FIRST,
+    TO_LAST, TO_NEXT_ROW,
 };
 use crate::search::{self, DONE};
 use std::collections::BTreeSet;
@@ -134,6 +136,12 @@ impl Draft {
         self
     }
 
+    /// A record of kind 6.
+    pub fn condition(mut self, letter: u8, entries: &[Entry]) -> Draft {
+        self.add_record((CONDITION, conditions::body(letter, entries)));
+        self
+    }
+
     pub fn measure(mut self, function: u8, letter: u8, column: u8) -> Draft {
         self.records
             .push((MEASURE, vec![function, letter, column, 0]));
@@ -175,10 +183,21 @@ impl Draft {
         drafts
     }
 
-    /// Behind the other DEFINEs, which stand before the skip record.
     pub fn add_define(&mut self, body: Vec<u8>) {
+        self.add_record((DEFINE, body));
+    }
+
+    /// A record of kind 3 or 6 behind the others, which stand before the skip record.
+    pub fn add_record(&mut self, record: (u16, Vec<u8>)) {
         let at = self.place_of(SKIP).unwrap_or(self.records.len());
-        self.records.insert(at, (DEFINE, body));
+        self.records.insert(at, record);
+    }
+
+    /// The places of all records of kind 3 or 6.
+    pub fn defines(&self) -> Vec<usize> {
+        (0..self.records.len())
+            .filter(|&at| stands_as(self.records[at].0) == DEFINE)
+            .collect()
     }
 
     pub fn place_of(&self, kind: u16) -> Option<usize> {
@@ -469,8 +488,24 @@ fn add_defines(random: &mut Random, draft: &mut Draft, letters: &[u8], numbers: 
     }
     random.shuffle(&mut defined);
     for letter in defined {
-        let body = random_define(random, letter, draft.columns(), numbers);
-        draft.add_define(body);
+        let record = random_record(random, letter, draft.columns(), numbers);
+        draft.add_record(record);
+    }
+}
+
+/// Of so many records in a hundred the kind is 6.
+const CONDITIONS: usize = 30;
+
+/// A record of kind 3 or 6.
+pub fn random_record(
+    random: &mut Random,
+    letter: u8,
+    columns: u8,
+    numbers: Numbers,
+) -> (u16, Vec<u8>) {
+    match random.chance(CONDITIONS) {
+        true => conditions::random_record(random, letter, columns, numbers),
+        false => (DEFINE, random_define(random, letter, columns, numbers)),
     }
 }
 
@@ -487,7 +522,7 @@ pub fn random_define(random: &mut Random, letter: u8, columns: u8, numbers: Numb
 
 /// Letters with many comparisons get ones that are easily met, or they would
 /// never hold.
-fn comparison(random: &mut Random, columns: u8, numbers: Numbers, count: usize) -> [u8; 12] {
+pub fn comparison(random: &mut Random, columns: u8, numbers: Numbers, count: usize) -> [u8; 12] {
     let operator = match count {
         1 | 2 => random.between(1, 6) as u8,
         _ => random.pick(&[2, 4, 6]),

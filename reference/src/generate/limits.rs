@@ -1,10 +1,13 @@
 //! Inputs at the limits that document 01 states, and one beyond each: places,
 //! parentheses, text bytes, DEFINEs, comparisons, measures, offsets, rows; and
 //! texts that the judgement of texts easily gets wrong. The large searches that go
-//! on at a labelled row are from document 02, R-2, those with averages from R-5.
+//! on at a labelled row are from document 02, R-2, those with averages from R-5, and
+//! records of kind 6 from R-7.
 
+use super::conditions::{self, compare, operator, Entry};
 use super::draft::{with_column, with_number, Draft, Room};
 use super::texts;
+use crate::query::{AND, COMPARE, COMPARISON_BYTES, CONDITION, NOT};
 
 /// All of them. Some are large: 1,048,832 pairs, or 8,390,656 labels.
 pub fn all() -> Vec<Draft> {
@@ -112,7 +115,36 @@ fn of_records() -> Vec<Draft> {
         drafts.push(Draft::new(columns, b"A+", rows).measure(2, b'A', columns.saturating_sub(1)));
     }
     drafts.push(with_most_records());
+    drafts.push(with_most_conditions());
+    drafts.extend([0, 25, 26, 27].map(with_conditions));
+    let lists = conditions::long_lists().into_iter().step_by(40);
+    drafts.extend(lists.map(|list| conditions::with_entries(&list, 2)));
     drafts
+}
+
+/// The same as `with_most_records` with each of its DEFINEs as a record of kind 6: 8
+/// comparisons joined by AND.
+pub fn with_most_conditions() -> Draft {
+    let mut draft = with_most_records();
+    for at in draft.defines() {
+        let body = &draft.records[at].1;
+        let comparisons = body[2..].chunks(COMPARISON_BYTES);
+        let entry = |bytes: &[u8]| [&[COMPARE][..], bytes].concat();
+        let mut entries: Vec<Entry> = comparisons.map(entry).collect();
+        let joined = entries.len() - 1;
+        entries.extend(vec![operator(AND); joined]);
+        draft.records[at] = (CONDITION, conditions::body(body[0], &entries));
+    }
+    draft
+}
+
+/// So many records of kind 6, each a comparison that holds where it is not met.
+fn with_conditions(count: u8) -> Draft {
+    let draft = Draft::new(1, b"(A|B|Y|Z)+", vec![2, 0, 25, 1, 7]);
+    (0..count).fold(draft, |draft, index| {
+        let unequal = compare(with_number(0, 0, 2, index.into()));
+        draft.condition(b'A' + index % 26, &[unequal, operator(NOT)])
+    })
 }
 
 /// The most of all: 256 bytes of text, 26 DEFINEs of 8 comparisons, 8 measures and

@@ -265,7 +265,7 @@ fn unknown_kind(length: usize) -> Vec<u8> {
     let mut query = Draft::new(1, b"A", Vec::new()).query();
     let body = length - query.len() - 4;
     query.extend((body as u16).to_le_bytes());
-    query.extend(6u16.to_le_bytes());
+    query.extend(7u16.to_le_bytes());
     query.extend(vec![0; body]);
     query
 }

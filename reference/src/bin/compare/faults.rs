@@ -494,7 +494,11 @@ static FAULTS: [Fault; 90] = [
         let Some(accepted) = &search.accepted else {
             return;
         };
-        let comparisons = accepted.query.defines.iter().flat_map(|it| &it.comparisons);
+        let comparisons = accepted
+            .query
+            .defines
+            .iter()
+            .flat_map(|it| it.comparisons());
         let mut offsets = comparisons.flat_map(|comparison| {
             let right = comparison.right.map_or(0, |right| right.offset);
             [comparison.left.offset, right]

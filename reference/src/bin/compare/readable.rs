@@ -4,8 +4,8 @@
 use crate::case::{Call, Case};
 use crate::engine::{Engine, Reference};
 use reference::query::{
-    self, Comparison, Function, Measure, Query, Record, Reference as Entry, Skip, DEFINE, MEASURE,
-    SHAPE, SKIP, TEXT,
+    self, Comparison, Condition, Function, Meaning, Measure, Query, Record, Reference as Entry,
+    Skip, CONDITION, DEFINE, MEASURE, SHAPE, SKIP, TEXT,
 };
 use std::fmt::{Display, Write};
 
@@ -72,9 +72,14 @@ fn in_words(query: &Query) -> Vec<String> {
         format!("pattern: {}", quoted(&query.text)),
     ];
     for define in &query.defines {
-        let comparisons: Vec<String> = define.comparisons.iter().map(comparison).collect();
-        let letter = char::from(define.letter);
-        lines.push(format!("{letter}: {}", comparisons.join(", ")));
+        let meaning = match &define.meaning {
+            Meaning::All(comparisons) => {
+                let words: Vec<String> = comparisons.iter().map(comparison).collect();
+                words.join(", ")
+            }
+            Meaning::One(one) => condition(one),
+        };
+        lines.push(format!("{}: {meaning}", char::from(define.letter)));
     }
     lines.push(match query.skip {
         Skip::PastLastRow => "skip: past last row".to_string(),
@@ -84,6 +89,20 @@ fn in_words(query: &Query) -> Vec<String> {
     });
     lines.extend(query.measures.iter().map(measure));
     lines
+}
+
+/// With parentheses around each AND and OR.
+fn condition(one: &Condition) -> String {
+    let joined = |two: &[Condition; 2], word| {
+        let [left, right] = two.each_ref().map(condition);
+        format!("({left} {word} {right})")
+    };
+    match one {
+        Condition::Compare(compared) => comparison(compared),
+        Condition::And(two) => joined(two, "AND"),
+        Condition::Or(two) => joined(two, "OR"),
+        Condition::Not(inner) => format!("NOT {}", condition(inner)),
+    }
 }
 
 fn comparison(comparison: &Comparison) -> String {
@@ -134,6 +153,7 @@ fn record_line(record: &Record) -> String {
         SHAPE => "shape",
         TEXT => return format!("pattern: {}", quoted(record.body)),
         DEFINE => "DEFINE",
+        CONDITION => "condition",
         SKIP => "skip",
         MEASURE => "measure",
         _ => "unknown",

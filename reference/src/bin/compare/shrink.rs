@@ -5,8 +5,8 @@
 
 use crate::case::Case;
 use crate::engine::Engine;
-use reference::generate::allowances;
-use reference::query::{COMPARISON_BYTES, DEFINE, MEASURE, SKIP, TEXT};
+use reference::generate::{allowances, conditions};
+use reference::query::{COMPARISON_BYTES, CONDITION, DEFINE, MEASURE, SKIP, TEXT};
 use std::time::{Duration, Instant};
 
 /// The most cases that are tried for one shrinking, and how long that may take.
@@ -164,11 +164,12 @@ impl Shrinking<'_> {
         for record in 0..Parts::of(&self.case.input.query).records.len() {
             any |= match Parts::of(&self.case.input.query).records[record].0 {
                 DEFINE => self.fewer_comparisons(record),
+                CONDITION => self.fewer_entries(record),
                 TEXT => self.fewer_parentheses(record),
                 _ => false,
             };
             any |= match Parts::of(&self.case.input.query).records[record].0 {
-                DEFINE => false,
+                DEFINE | CONDITION => false,
                 _ => self.remove_runs(
                     |case| Parts::of(&case.input.query).records[record].1.len(),
                     |case, at, length| {
@@ -218,6 +219,33 @@ impl Shrinking<'_> {
         )
     }
 
+    /// Takes out one entry of a condition, or any two.
+    fn fewer_entries(&mut self, record: usize) -> bool {
+        let entries =
+            |case: &Case| conditions::entries_of(&Parts::of(&case.input.query).records[record].1);
+        let mut any = false;
+        let mut pairs = every_pair(entries(&self.case).len());
+        while let Some((first, second)) = pairs.pop() {
+            let mut left = entries(&self.case);
+            left.remove(second);
+            if first < second {
+                left.remove(first);
+            }
+            let change = |case: &mut Case| {
+                case.change_parts(|parts| {
+                    let body = &mut parts.records[record].1;
+                    let letter = body.first().copied().unwrap_or(0);
+                    *body = conditions::body(letter, &left);
+                });
+            };
+            if self.take(change) {
+                any = true;
+                pairs = every_pair(entries(&self.case).len());
+            }
+        }
+        any
+    }
+
     /// Entries of rows and bytes of bodies become 0 or 1, letters A.
     fn smaller_numbers(&mut self) -> bool {
         let mut any = false;
@@ -244,7 +272,7 @@ impl Shrinking<'_> {
         for (index, byte) in body.into_iter().enumerate() {
             let smaller: &[u8] = match (kind, index) {
                 (TEXT, _) => b"A",
-                (DEFINE, 0) | (SKIP | MEASURE, 1) => b"\0A",
+                (DEFINE | CONDITION, 0) | (SKIP | MEASURE, 1) => b"\0A",
                 _ => &[0, 1],
             };
             for &smaller in smaller.iter().take_while(|&&it| it != byte) {
@@ -310,6 +338,13 @@ impl Case {
         change(&mut parts);
         self.input.query = parts.bytes();
     }
+}
+
+/// All pairs of numbers below the count, the second not below the first.
+fn every_pair(count: usize) -> Vec<(usize, usize)> {
+    (0..count)
+        .flat_map(|second| (0..=second).map(move |first| (first, second)))
+        .collect()
 }
 
 /// Where the opening parenthesis of this number stands, and the one closing it.
