@@ -2,14 +2,17 @@
 //! that does one thing wrong, by reading another query than it was lent, by going on
 //! at another row after a match, by stopping elsewhere, or by changing what it returns
 //! or leaves. Each has to be found and shrunk. Those of searches within an allowance
-//! stand in `allowance`, those of averages in `average`.
+//! stand in `allowance`, those of averages in `average`, those of conditions in
+//! `condition`.
 
 mod allowance;
 mod average;
+mod condition;
 
 use crate::engine::{five, Engine, Five};
 use crate::lent::{Guarded, Lent};
 use reference::generate::Random;
+use reference::letters::Held;
 use reference::log::Event;
 use reference::pattern;
 use reference::query::{
@@ -36,6 +39,8 @@ enum Wrong {
     Allows(fn(&Lent) -> Option<u64>),
     /// Stops with 16, once the allowance is used up, before an event of this sort too.
     Stops(fn(&Event) -> bool),
+    /// Judges conditions in another way, and the reference searches by that.
+    Means(condition::Holds),
     /// Ends a search in another way.
     Ends(fn(&mut Search)),
     /// Judges room in another way.
@@ -73,6 +78,7 @@ impl Engine for Faulty<'_> {
             Wrong::Ends(wrong) => wrong(&mut search),
             Wrong::GoesOn(rule) => search.go_on_by(rule),
             Wrong::Stops(wrong) => search.stop_before(wrong),
+            Wrong::Means(wrong) => search.mean(wrong),
             _ => {}
         }
         self.told(&mut returned, &before);
@@ -158,6 +164,25 @@ impl Search<'_> {
         let allowance = self.lent.allowance;
         let (query, rows, buffers) = self.lent.parts();
         let outcome = search::search_by_rule(query, rows, allowance, buffers, rule, &mut |_| {});
+        *self.returned = five(outcome);
+    }
+
+    /// Searches again with another meaning of conditions.
+    fn mean(&mut self, wrong: condition::Holds) {
+        let Some(mut accepted) = self.accepted.clone().filter(|_| self.ended()) else {
+            return;
+        };
+        *self.lent = self.before.clone();
+        let allowance = self.lent.allowance;
+        let (_, rows, buffers) = self.lent.parts();
+        let (columns, defines) = (accepted.query.columns, &accepted.query.defines);
+        accepted.held = Held::by(accepted.n(), |letter, row| {
+            let at = condition::At { rows, columns, row };
+            let mut own = defines.iter().filter(|define| define.letter == letter);
+            own.all(|define| condition::holds(define, &at, wrong))
+        });
+        let outcome =
+            search::search_accepted(&accepted, rows, allowance, buffers, next_start, &mut |_| {});
         *self.returned = five(outcome);
     }
 
@@ -271,7 +296,7 @@ const fn tells(name: &'static str, about: &'static str, wrong: fn(&mut Five, &[u
 
 pub fn all() -> impl Iterator<Item = &'static Fault> {
     let of_all = FAULTS.iter().chain(&allowance::FAULTS);
-    of_all.chain(&average::FAULTS)
+    of_all.chain(&average::FAULTS).chain(&condition::FAULTS)
 }
 
 static FAULTS: [Fault; 90] = [

@@ -11,13 +11,15 @@
 //!                              the program there, on so many standard inputs
 //!   compare --texts N          every text of up to N bytes over 15 signs, N at most 9
 //!   compare --list             the names of streams and faults
-//! In front of these, --show prints every case before it is run.
+//! In front of these, --show prints every case before it is run, and --itself puts the
+//! reference in the place of the product, so that no library is needed.
 //!
 //! The last line is `N passed, M failed`: comparisons, and faults found. Where a
 //! call does not end, that is said and the run is ended; where one ends the whole
 //! process, --show tells the case.
 
 mod case;
+mod conditions;
 mod engine;
 mod every;
 mod faults;
@@ -34,7 +36,7 @@ mod tests;
 mod within;
 
 use case::{Case, CALLS};
-use engine::Engine;
+use engine::{Engine, Reference};
 use faults::{Fault, Faulty};
 use std::path::Path;
 use std::process::ExitCode;
@@ -65,9 +67,17 @@ struct Counts {
 fn main() -> ExitCode {
     let words: Vec<String> = std::env::args().skip(1).collect();
     let mut words: Vec<&str> = words.iter().map(String::as_str).collect();
-    let show = words.first() == Some(&"--show");
-    words.drain(..usize::from(show));
-    let Some(product) = product() else {
+    let mut option = |name| {
+        let given = words.first() == Some(&name);
+        words.drain(..usize::from(given));
+        given
+    };
+    let (show, itself) = (option("--show"), option("--itself"));
+    let product = match itself {
+        true => Some(Box::new(Reference) as Box<dyn Engine>),
+        false => product(),
+    };
+    let Some(product) = product else {
         println!("no library was there at the build: run `rt staticlib mireladle_c`");
         println!("0 passed, 1 failed");
         return ExitCode::FAILURE;
@@ -82,7 +92,7 @@ fn main() -> ExitCode {
         },
     };
     if !run.words(&words) {
-        eprintln!("compare [--show] [SEED COUNT NAME.. | --only NAME.. | --fault NAME.. | --program PATH [SEED COUNT] | --texts N | --list]");
+        eprintln!("compare [--show] [--itself] [SEED COUNT NAME.. | --only NAME.. | --fault NAME.. | --program PATH [SEED COUNT] | --texts N | --list]");
         return ExitCode::from(2);
     }
     let Counts { passed, failed } = run.counts;

@@ -1,10 +1,10 @@
 //! The streams of cases: inputs listed in full, random ones and damaged ones,
 //! for the search and for the judgement of room; those of searches within an
-//! allowance are made in `within`. A stream has a usual length, which is that of the
+//! allowance are made in `within`, those with conditions in `conditions`. A stream has a usual length, which is that of the
 //! gate; the random ones can be run with other seeds and for longer.
 
 use crate::case::{Call, Case};
-use crate::within;
+use crate::{conditions, within};
 use reference::generate::damage::damage_twice;
 use reference::generate::draft::{
     self, with_column, with_number, Draft, Input, Numbers, Room, LARGE, MIDDLE, SMALL,
@@ -48,7 +48,7 @@ const fn random(
     }
 }
 
-pub const STREAMS: [Stream; 37] = [
+pub const STREAMS: [Stream; 40] = [
     listed(
         "texts",
         "room: every text of up to 5 bytes over two alphabets",
@@ -190,6 +190,22 @@ pub const STREAMS: [Stream; 37] = [
         deep_and_long,
     ),
     listed(
+        "condition-lists",
+        "every list of up to 6 entries over the three truths and operators, and long ones",
+        conditions::every_condition,
+    ),
+    listed(
+        "condition-records",
+        "room, some searches: conditions cut, counted wrong, in every order, each byte at each value",
+        conditions::every_record,
+    ),
+    random(
+        "conditions",
+        "queries whose letters have conditions, up to 6 rows, some up to 60",
+        20_000,
+        conditions::random,
+    ),
+    listed(
         "within-small",
         "every allowance of every pattern of up to 4 or 5 bytes on all rows of 0 and 1, up to 2",
         within::every_small_input,
@@ -255,7 +271,7 @@ pub fn searches(seed: u64, inputs: impl Iterator<Item = Input> + 'static) -> Cas
     calls(Call::Search, seed, inputs)
 }
 
-fn rooms(seed: u64, drafts: impl Iterator<Item = Draft> + 'static) -> Cases {
+pub fn rooms(seed: u64, drafts: impl Iterator<Item = Draft> + 'static) -> Cases {
     calls(Call::Room, seed, drafts.map(|draft| to_judge(&draft)))
 }
 
@@ -283,7 +299,7 @@ fn rooms_and_searches(seed: u64, texts: impl Iterator<Item = Vec<u8>> + 'static)
 }
 
 /// Searches of inputs that are made one by one from a number and a generator.
-fn made(seed: u64, make: fn(&mut Random, usize) -> Input) -> Cases {
+pub fn made(seed: u64, make: fn(&mut Random, usize) -> Input) -> Cases {
     let mut random = Random::new(seed);
     searches(seed, (0..).map(move |number| make(&mut random, number)))
 }

@@ -3,7 +3,6 @@
 
 use super::*;
 use crate::case::Call;
-use crate::engine::Reference;
 use reference::generate::allowances::{self, Point, POINTS};
 use reference::generate::{texts, Random};
 use reference::pattern;
