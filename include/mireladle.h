@@ -24,15 +24,19 @@ extern "C" {
  *
  * Rows and positions count from 0. n is the number of rows. A position is a row or n, which lies behind the last row.
  * P is the number of places: the letters, anchors and forks of the pattern once its repetitions are written out (A+ as
- * A A*, for one), from place 0 at its left end on, and one place END behind them. A pair is a place and a position.
- * There are P * (n + 1) pairs, and both working buffers are measured by that number; mireladle_room() tells it.
+ * A A*, for one), from place 0 at its left end on, and one place END behind them. A pair is a place, a position and
+ * flags: for each repetition without upper bound, of something that can match without taking a row, whose copy behind
+ * its fork holds the place, whether its present round has taken a row. F is 2 to the power of the deepest nesting of
+ * such repetitions: 1 for most patterns, 2 for (A*)*, at most 8. There are P * F * (n + 1) pairs, and both working
+ * buffers are measured by that number; mireladle_room() tells it.
  */
 
 /* Limits. A query or rows beyond them are refused, so a buffer measured by them is always large enough. */
 #define MIRELADLE_MAX_COLUMNS 8       /* entries of one row */
 #define MIRELADLE_MAX_ROWS 4096       /* n */
 #define MIRELADLE_MAX_PLACES 256      /* P */
-#define MIRELADLE_MAX_PAIRS 1048832   /* P * (n + 1) */
+#define MIRELADLE_MAX_FACTOR 8        /* F */
+#define MIRELADLE_MAX_PAIRS 8390656   /* P * F * (n + 1) */
 #define MIRELADLE_MAX_PATTERN 256     /* bytes of pattern text */
 #define MIRELADLE_MAX_DEFINES 26      /* one for each letter, of kinds 3 and 6 together */
 #define MIRELADLE_MAX_COMPARISONS 8   /* of one DEFINE */
@@ -40,10 +44,11 @@ extern "C" {
 #define MIRELADLE_MAX_MEASURES 8
 #define MIRELADLE_MAX_OFFSET 64       /* rows that PREV or NEXT looks away */
 
-/* Bytes of stack that a call needs, 32 KiB. Measured, not proved: of some 60,000 queries the worst
- * took 22,040 (8 nested groups with parts); A+ B takes 17,536. The number of rows makes no
+/* Bytes of stack that a call needs, 64 KiB. Measured, not proved: of some 60,000 queries with F 1
+ * the worst took 22,040 (8 nested groups with parts); A+ B takes 17,536. Only a pattern with F above
+ * 1 can need the largest table, of 31,372 bytes, beside those. The number of rows makes no
  * difference. */
-#define MIRELADLE_STACK 32768
+#define MIRELADLE_STACK 65536
 
 /* Bytes of notes that a number of pairs calls for; the trail takes one number for each pair. */
 #define MIRELADLE_NOTES_LENGTH(pairs) (((pairs) + 7) / 8)
@@ -72,7 +77,8 @@ enum mireladle_answer {
     /* The pattern text is not a pattern, nor the beginning of one: no pattern begins with it up to and with the byte at
      * the offset returned. 14 says that it is the beginning of one. */
     MIRELADLE_NO_PATTERN = 5,
-    /* A repetition without an upper bound is put on something that can match without taking a row, such as (A*)*. */
+    /* More than three repetitions without upper bound, each of something that can match without taking a row, are
+     * nested in one another, as in ((((A*)*)*)*)*. */
     MIRELADLE_EMPTY_REPETITION = 6,
     /* Written out, the pattern has more than 256 places. */
     MIRELADLE_TOO_MANY_PLACES = 7,
@@ -82,9 +88,9 @@ enum mireladle_answer {
     MIRELADLE_MEASURE_LETTER = 9,
     /* The entries do not make whole rows, or there are more than 4,096 rows. */
     MIRELADLE_WRONG_ROWS = 10,
-    /* The notes are shorter than P * (n + 1) bits. */
+    /* The notes are shorter than P * F * (n + 1) bits. */
     MIRELADLE_NOTES_SHORT = 11,
-    /* The trail is shorter than P * (n + 1) numbers. */
+    /* The trail is shorter than P * F * (n + 1) numbers. */
     MIRELADLE_TRAIL_SHORT = 12,
     /* The search stopped at a match for which numbers or labels had no room left. The matches before it stand whole in
      * the report; no later match is looked for, even one that would fit. */
@@ -124,8 +130,9 @@ struct mireladle_room {
     uint64_t answer; /* 0, or 1 to 10 or 14 of enum mireladle_answer */
     uint64_t places; /* P */
     uint64_t rows;   /* n */
-    uint64_t pairs;  /* P * (n + 1) */
+    uint64_t pairs;  /* P * F * (n + 1) */
     uint64_t offset; /* as a search returns it */
+    uint64_t factor; /* F */
 };
 
 /* What the release desk says of a bus's log. */
@@ -166,8 +173,8 @@ typedef struct mireladle_verdict mireladle_verdict_t;
  *   query    The query's records, one behind the other; see "A query's bytes" below. Only read.
  *   rows     The rows' entries, row by row, in order: one partition, already sorted. rows_len counts entries, not rows.
  *            Only read.
- *   notes    Working room of at least MIRELADLE_NOTES_LENGTH(P * (n + 1)) bytes.
- *   trail    Working room of at least P * (n + 1) numbers.
+ *   notes    Working room of at least MIRELADLE_NOTES_LENGTH(P * F * (n + 1)) bytes.
+ *   trail    Working room of at least P * F * (n + 1) numbers.
  *   numbers  Report room for MIRELADLE_MATCH_LENGTH(measures) numbers a match. There are at most n matches, so
  *            n * MIRELADLE_MATCH_LENGTH(measures) are always enough. Less is allowed, even none: see answer 13.
  *   labels   Report room for one byte for each row of each match: n bytes are always enough where
@@ -184,14 +191,15 @@ typedef struct mireladle_verdict mireladle_verdict_t;
  *                     numbers.
  *                     labels: the letters, 'A' to 'Z', of the matches' rows, match behind match; no
  *                     byte 0 ends them.
- *                     notes: bit (position * P + place), the lowest bit of a byte first, is 1
- *                     exactly if that pair was entered and failed. A pair that is still open when
+ *                     notes: bit (position * P + place) * F + flags, the lowest bit of a byte
+ *                     first, is 1 exactly if that pair was entered and failed. The flags of a
+ *                     place are packed from the lowest bit up, the outermost repetition first. A pair that is still open when
  *                     the search stops has not failed. Spare bits of the last byte used are 0.
- *                     trail: the first P * (n + 1) numbers are 0.
+ *                     trail: the first P * F * (n + 1) numbers are 0.
  *                     Whatever lies behind that, in each of the four, is unchanged.
  *
- * The steps are bounded, whatever the rows: with skip past last row by 2 * P * (n + 1), with skip
- * to the next row, or to the first or last row with a letter, by P * n * (n + 3) / 2, since a row
+ * The steps are bounded, whatever the rows: with skip past last row by 2 * P * F * (n + 1), with skip
+ * to the next row, or to the first or last row with a letter, by P * F * n * (n + 3) / 2, since a row
  * that lies in many matches is gone through for each of them. At n = 4,096 the longest searches
  * that were found took 25 milliseconds past last row (254 letters of 8 comparisons each, all met,
  * and one that never holds: no match) and 4.5 seconds to the next row (a repeated group of 126
@@ -211,7 +219,7 @@ struct mireladle_result mireladle_search(const uint8_t *query, size_t query_len,
 /*
  * The same search with an allowance of steps. It stops with answer 16 just before the step that
  * would be one more than the allowance, so that the caller has control again after a time in
- * proportion to the allowance, and to P * (n + 1) for the working room, which is cleared.
+ * proportion to the allowance, and to P * F * (n + 1) for the working room, which is cleared.
  *
  *   allowance  How many steps the search may take. Any number does: with 0 every search of a row
  *              or more gives 16, and UINT64_MAX is more than any search takes.
@@ -224,8 +232,8 @@ struct mireladle_result mireladle_search(const uint8_t *query, size_t query_len,
  *
  * An allowance that the search does not pass changes nothing: answer, counts and all buffers are
  * then those of mireladle_search(). The steps that mireladle_search() returns are enough for that;
- * where they are not known, 2 * P * (n + 1) are always enough with skip past last row, and
- * P * n * (n + 3) / 2 with every other skip.
+ * where they are not known, 2 * P * F * (n + 1) are always enough with skip past last row, and
+ * P * F * n * (n + 3) / 2 with every other skip.
  *
  * The same search with a larger allowance begins with the same matches. It begins at row 0 again:
  * no search goes on where another one stopped.
@@ -239,7 +247,7 @@ struct mireladle_result mireladle_search_within(const uint8_t *query, size_t que
                                                 uint8_t *labels, size_t labels_len);
 
 /*
- * Judges a query and rows and tells how much working room their search takes: answer 0 with P, n and P * (n + 1), or
+ * Judges a query and rows and tells how much working room their search takes: answer 0 with P, F, n and P * F * (n + 1), or
  * the answer of 1 to 10 or 14 that mireladle_search() would give, with its offset. With rows_len 0 it judges the query
  * alone.
  * query and rows are as for mireladle_search(): only read, and NULL only with length 0. Nothing else is touched.
@@ -378,7 +386,8 @@ struct mireladle_result mireladle_depots_partition(uint64_t *state, size_t state
  *
  * A pattern is made of letters, ^ (before the first row), $ (behind the last row), () (nothing), sequences, branches
  * parted by |, the left one tried first, parentheses, and the quantifiers * + ? {n} {n,} {,m} {n,m}, greedy, or
- * reluctant with a ? directly behind them. No quantifier stands on another without parentheses, and no text or branch
+ * reluctant with a ? directly behind them. Where what a quantifier without upper bound stands on can match without
+ * taking a row, a round behind the required ones that takes no row ends the repetition. No quantifier stands on another without parentheses, and no text or branch
  * is empty. Bounds are 0 to 99, without leading zero; an upper bound is at least 1 and not below the lower one, and n
  * in {n} is at least 1. Spaces may stand between these, but not inside the braces, and have to stand between letters.
  */

@@ -1,22 +1,29 @@
--- The places of a pattern and of a factor's body by the sort of its node.
+-- The places of a pattern and of a factor's body by the sort of its node, and whether a body can
+-- take no row.
 use mathlib.Core.Path.{_≡_, refl, sym, ap, _∙_}
 use mathlib.Core.List.{List}
 use mathlib.Core.Logic.{inl, inr}
-use Prim.Native.Nat.{ℕ, zero, suc, _+_, _*_, _-_, _≤_}
+use mathlib.Core.Bool.{Bool, true, false}
+use Prim.Native.Nat.{ℕ, zero, suc, _+_, _*_, _-_, _≤_, _<_}
 use native.Mathlib.Omega.{arith}
 use native.Mathlib.Nat.{mul-le-mul}
 use mir.Val.{Fits as Fits-in}
 use mir.Syntax.{w64}
 use lib.ListN.{length}
-use Rattle.rules.specs.Language.{Form, star, plus, opt, exactly, atLeast, atMost, between, lower, upper, InBounds, pattern, factor, primary, Tree, one, more, last, next, bare, times}
-use Rattle.rules.specs.Places.{roundPlaces, fork, placeCount}
+use borrow.Author.Tests.{lt-ltb, le-ltb}
+use Rattle.rules.specs.Language.{Form, star, plus, opt, exactly, atLeast, atMost, between, lower, upper, InBounds, pattern, factor, primary, Tree, one, more, last, next, bare, times, letter, caret, dollar, empty, group, nullable}
+use Rattle.rules.specs.Places.{roundPlaces, fork, placeCount, unrolled, skips}
 use Rattle.nodes.specs.Nodes.{nodeAt}
 use Rattle.nodes.specs.declared.Sort.{Sort}
 use Rattle.nodes.specs.declared.Sort.the-variants.{Letter, Anchor, Empty, Sequence, Alternation, Group}
 use Rattle.nodes.specs.declared.Node.{Node}
 use Rattle.trees.specs.Held.{body, At}
 use Rattle.trees.proofs.ByNode.{Bounded, IsAnchor, FactorAt, as-any, as-seq, as-alt, as-letter, as-anchor, as-empty, as-group, at-in, group-left, top-places}
-use Rattle.forks.specs.Emitting.{WholeSize, BodySize}
+use Rattle.laws.proofs.Counting.{unrolled-skips}
+use Rattle.loops.specs.Loops.{Nullable}
+use Rattle.place_codes.specs.declared.Plane.{Plane}
+use Rattle.forks.specs.PlaneCode.{flagsCopy}
+use Rattle.forks.specs.Emitting.{WholeSize, BodySize, BodyEmpty, BodyFlag}
 
 module _ (s : List ℕ) (i c : ℕ) (k : Sort) (ec : c ≡ (nodeAt s i) .places) (ek : k ≡ (nodeAt s i) .sort) where
   pub whole-alt : k ≡ Alternation → WholeSize s i (c + 1)
@@ -94,3 +101,46 @@ module _ (s : List ℕ) (i : ℕ) (n : Node) (en : n ≡ nodeAt s i) where
 
   pub size-inside : At s i → n .sort ≡ Group → At s (n .left)
   size-inside a e = (group-left s i n en ((nodeAt s i) .height) refl a e) .1
+
+  -- ---- can take no row
+
+  abbrev EmptyIs : Bool → Tree factor → Type 0
+  EmptyIs r F = r ≡ nullable (body F)
+
+  pub empty-letter : (a : ℕ) → n .sort ≡ Letter a → BodyEmpty s i false
+  unfolding nullable
+  empty-letter a e F t = as-letter s i n en (OnFactor (EmptyIs false)) a e (λ G q j. sym (ap (λ (x : Tree primary). nullable x) j)) (one (last F)) t
+
+  pub empty-anchor : (a : ℕ) → n .sort ≡ Anchor a → BodyEmpty s i true
+  unfolding nullable
+  empty-anchor a e F t = as-anchor s i n en (OnFactor (EmptyIs true)) a e go (one (last F)) t
+    where
+      go : (G : Tree factor) → FactorAt s n G → IsAnchor (body G) a → EmptyIs true G
+      go G q (inl j) = sym (ap (λ (x : Tree primary). nullable x) (j .0))
+      go G q (inr j) = sym (ap (λ (x : Tree primary). nullable x) (j .0))
+
+  pub empty-empty : n .sort ≡ Empty → BodyEmpty s i true
+  unfolding nullable
+  empty-empty e F t = as-empty s i n en (OnFactor (EmptyIs true)) e (λ G q j. sym (ap (λ (x : Tree primary). nullable x) j)) (one (last F)) t
+
+  pub empty-sequence : n .sort ≡ Sequence → BodyEmpty s i false
+  empty-sequence e F t = absurd (as-seq s i n en (OnFactor (λ G. ⊥)) e (λ f b q. tt) (one (last F)) t)
+
+  pub empty-alternation : n .sort ≡ Alternation → BodyEmpty s i false
+  empty-alternation e F t = absurd (as-alt s i n en (OnFactor (λ G. ⊥)) e (λ b p q. tt) (one (last F)) t)
+
+  pub empty-group : (r : Bool) → n .sort ≡ Group → Nullable s (n .left) r → BodyEmpty s i r
+  unfolding nullable
+  empty-group r e f F t =
+      as-group s i n en (OnFactor (EmptyIs r)) e (λ G q p g. f p (g .inside) ∙ sym (ap (λ (x : Tree primary). nullable x) (g .is))) (one (last F)) t
+
+-- ---- the flag of a copy
+
+module _ (o : Plane) (s : List ℕ) (i : ℕ) where
+  pub flag-never : o .factor ≤ 1 → BodyFlag o s i false
+  unfolding flagsCopy
+  flag-never h F t = rw (le-ltb 1 (o .factor) h)
+
+  pub flag-if : (r : Bool) → 1 < o .factor → BodyEmpty s i r → BodyFlag o s i r
+  unfolding flagsCopy
+  flag-if r h f F t = f F t ∙ sym (rw (lt-ltb 1 (o .factor) h) (unrolled-skips (body F)))

@@ -1,1 +1,2 @@
+pub mod PlaneCode
 pub mod Emitting

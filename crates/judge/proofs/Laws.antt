@@ -3,25 +3,25 @@ use mathlib.Core.Path.{_≡_, refl, sym, ap, _∙_}
 use mathlib.Core.Bool.{Bool, true, false, true≢false}
 use mathlib.Core.List.{List, [], _∷_}
 use mathlib.Core.Option.{Option, none, some}
-use Prim.Native.Nat.{ℕ, _+_, _-_, _≤_, _<_}
+use Prim.Native.Nat.{ℕ, _+_, _-_, _^_, _≤_, _<_, min}
 use native.Mathlib.Omega.{arith}
 use mir.Val.{Fits as Fits-in}
 use mir.Syntax.{w64}
 use lib.Dec.{ltb}
 use lib.ListN.{length}
 use borrow.Author.Tests.{lt-ltb, le-ltb, eq-eqb}
-use Rattle.rules.specs.Language.{pattern, Tree, one, more}
+use Rattle.rules.specs.Language.{pattern, Tree, one, more, loopNesting}
 use Rattle.rules.specs.Reader.{treeOf, stopOf}
 use Rattle.laws.proofs.Stops.{stop-inside}
-use Rattle.rules.specs.Places.{fork, placesOf}
-use Rattle.rules.specs.Answers.{deep, noTree, wrong, incomplete, hasEmptyLoop, tooMany, P, firstOf, offsetAt}
+use Rattle.rules.specs.Places.{fork, placesOf, factorOf}
+use Rattle.rules.specs.Answers.{deep, noTree, wrong, incomplete, nestedLoops, tooMany, P, F, firstOf, offsetAt}
 use Rattle.primaries.specs.declared.Step.{Step}
 use Rattle.primaries.specs.Readers.{Fits, Parsed, ParsedAs, TextSays}
 use Rattle.trees.specs.Held.{Top, At}
 use Rattle.trees.proofs.Holds.{pattern-nodes}
 use Rattle.pattern.proofs.TextLaws.{text-top}
 use Rattle.judge.specs.Judged.{textTests, textAnswer, refusal, Judging}
-use Rattle.loops.specs.Loops.{EmptyLoop}
+use Rattle.loops.specs.Loops.{Nesting}
 use Rattle.judge.specs.declared.Verdict.{Verdict}
 
 clash : {A : Type 0} → _≡_ {A = ℕ} 0 1 → A
@@ -30,7 +30,7 @@ clash e = absurd (omega arith)
 -- ---- the verdict
 
 module _ (s m0 m1 : List ℕ) where
-  answer-is : (a b c d e : Bool) → deep 0 0 s ≡ a → wrong s ≡ b → incomplete s ≡ c → hasEmptyLoop (treeOf s) ≡ d → tooMany (treeOf s) ≡ e
+  answer-is : (a b c d e : Bool) → deep 0 0 s ≡ a → wrong s ≡ b → incomplete s ≡ c → nestedLoops (treeOf s) ≡ d → tooMany (treeOf s) ≡ e
       → textAnswer s ≡ firstOf ((4, a) ∷ (5, b) ∷ (14, c) ∷ (6, d) ∷ (7, e) ∷ [])
   unfolding textAnswer textTests
   answer-is a b c d e e1 e2 e3 e4 e5 = rw (e1, e2, e3, e4, e5) refl
@@ -39,7 +39,7 @@ module _ (s m0 m1 : List ℕ) where
   unfolding firstOf offsetAt
   judge-deep t r e o er =
       rw er
-      (record { answer = sym (answer-is true _ _ _ _ (sym e ∙ o) refl refl refl refl); offset = refl; places = refl; top = λ z. clash (omega arith); kept = λ j l. refl; len = refl })
+      (record { answer = sym (answer-is true _ _ _ _ (sym e ∙ o) refl refl refl refl); offset = refl; places = refl; factor = refl; top = λ z. clash (omega arith); kept = λ j l. refl; len = refl })
 
   module _ (d : Bool) (ed : d ≡ deep 0 0 s) (nd : d ≡ false) (p : Step) (h : TextSays s m0 m1 p) (e : p .ok ≡ false) where
     outside : noTree (treeOf s) ≡ true
@@ -57,6 +57,7 @@ module _ (s m0 m1 : List ℕ) where
           answer = sym (answer-is false true _ _ _ (sym ed ∙ nd) (rw (outside, lt-ltb (stopOf s) (length s) (omega (arith, h .stop))) refl) refl refl refl);
           offset = h .stop;
           places = refl;
+          factor = refl;
           top = λ z. clash (omega arith);
           kept = h .kept;
           len = h .len;
@@ -73,6 +74,7 @@ module _ (s m0 m1 : List ℕ) where
               (rw (outside, eq-eqb (stopOf s) (length s) q) refl) refl refl);
           offset = h .stop;
           places = refl;
+          factor = refl;
           top = λ z. clash (omega arith);
           kept = h .kept;
           len = h .len;
@@ -118,7 +120,7 @@ module _ (s m0 m1 : List ℕ) where
     pub more-fits : Fits-in w64 (p .forks + p .places + 1)
     more-fits = record { fits = omega (arith, counted .0) }
 
-    module _ (d : Bool) (ed : d ≡ deep 0 0 s) (nd : d ≡ false) (l : Bool) (hl : EmptyLoop m1 (p .count - 1) l) where
+    module _ (d : Bool) (ed : d ≡ deep 0 0 s) (nd : d ≡ false) (l : ℕ) (hl : Nesting m1 (p .count - 1) l) where
       seen : noTree (treeOf s) ≡ false
       unfolding noTree
       seen = ap noTree (tree-of .is)
@@ -131,44 +133,60 @@ module _ (s m0 m1 : List ℕ) where
       unfolding incomplete
       not-incomplete = rw seen refl
 
-      looped : hasEmptyLoop (treeOf s) ≡ l
-      unfolding hasEmptyLoop
-      looped = ap hasEmptyLoop (tree-of .is) ∙ sym (hl (tree-of .tree) (tree-of .top))
+      nest-is : l ≡ min (loopNesting (tree-of .tree)) 4
+      nest-is = hl (tree-of .tree) (tree-of .top)
+
+      looped : (t : Bool) → ltb 3 (loopNesting (tree-of .tree)) ≡ t → nestedLoops (treeOf s) ≡ t
+      unfolding nestedLoops
+      looped t e = ap nestedLoops (tree-of .is) ∙ e
+
+      deep-nest : 3 < l → nestedLoops (treeOf s) ≡ true
+      deep-nest g = looped true (lt-ltb 3 (loopNesting (tree-of .tree)) (omega (arith, nest-is)))
+
+      few-nest : l ≤ 3 → nestedLoops (treeOf s) ≡ false
+      few-nest g = looped false (le-ltb 3 (loopNesting (tree-of .tree)) (omega (arith, nest-is)))
+
+      factor-is : l ≤ 3 → (f : ℕ) → f ≡ 2 ^ l → f ≡ F (treeOf s)
+      unfolding F factorOf
+      factor-is g f e = let q : loopNesting (tree-of .tree) ≡ l = omega (arith, nest-is) in rw (e, tree-of .is, q)
 
       many : (t : Bool) → ltb 256 (placesOf (tree-of .tree)) ≡ t → tooMany (treeOf s) ≡ t
       unfolding tooMany P
       many t e = ap tooMany (tree-of .is) ∙ e
 
-      pub judge-loop : (r : Verdict) → l ≡ true → r ≡ refusal 6 0 → Judging s m0 m1 r
+      pub judge-loop : (r : Verdict) → 3 < l → r ≡ refusal 6 0 → Judging s m0 m1 r
       unfolding firstOf offsetAt
       judge-loop r ol er = rw er (record {
-        answer = sym (answer-is false false false true _ (sym ed ∙ nd) not-wrong not-incomplete (looped ∙ ol) refl);
+        answer = sym (answer-is false false false true _ (sym ed ∙ nd) not-wrong not-incomplete (deep-nest ol) refl);
         offset = refl;
         places = refl;
+        factor = refl;
         top = λ z. clash (omega arith);
         kept = h .kept;
         len = h .len;
       })
 
-      pub judge-many : (r : Verdict) → l ≡ false → 256 < p .forks + p .places + 1 → r ≡ refusal 7 0 → Judging s m0 m1 r
+      pub judge-many : (r : Verdict) → l ≤ 3 → 256 < p .forks + p .places + 1 → r ≡ refusal 7 0 → Judging s m0 m1 r
       unfolding firstOf offsetAt
       judge-many r ol g er =
           rw er (record {
-            answer = sym (answer-is false false false false true (sym ed ∙ nd) not-wrong not-incomplete (looped ∙ ol) (many true (lt-ltb 256 (placesOf (tree-of .tree)) (counted .1 g))));
+            answer = sym (answer-is false false false false true (sym ed ∙ nd) not-wrong not-incomplete (few-nest ol) (many true (lt-ltb 256 (placesOf (tree-of .tree)) (counted .1 g))));
             offset = refl;
             places = refl;
+            factor = refl;
             top = λ z. clash (omega arith);
             kept = h .kept;
             len = h .len;
           })
 
-      pub judge-good : l ≡ false → p .forks + p .places + 1 ≤ 256 → Judging s m0 m1 (record { answer = 0; offset = 0; places = p .forks + p .places + 1; top = p .count - 1 })
+      pub judge-good : l ≤ 3 → p .forks + p .places + 1 ≤ 256 → (m : ℕ) → m ≡ 2 ^ l → Judging s m0 m1 (record { answer = 0; offset = 0; places = p .forks + p .places + 1; factor = m; top = p .count - 1 })
       unfolding firstOf offsetAt P
-      judge-good ol g =
+      judge-good ol g m em =
           record {
-            answer = sym (answer-is false false false false false (sym ed ∙ nd) not-wrong not-incomplete (looped ∙ ol) (many false (le-ltb 256 (placesOf (tree-of .tree)) (omega (arith, counted .2 g)))));
+            answer = sym (answer-is false false false false false (sym ed ∙ nd) not-wrong not-incomplete (few-nest ol) (many false (le-ltb 256 (placesOf (tree-of .tree)) (omega (arith, counted .2 g)))));
             offset = refl;
             places = sym (ap P (tree-of .is) ∙ counted .2 g);
+            factor = factor-is ol m em;
             top = λ z p2 e2. text-top s m0 m1 p p2 e2 f h;
             kept = h .kept;
             len = h .len;

@@ -1,6 +1,7 @@
 // A pattern's text judged: answers 4, 5 or 14, 6 and 7, the first that applies, with 5's or 14's
-// offset, and P.
-use loops::has_empty_loop;
+// offset, P and R-3's factor F.
+use loops::factor_of;
+use loops::nesting;
 use pattern::read_text;
 use scan::too_deep;
 ghost use mathlib.Core.Path.{_≡_};
@@ -8,14 +9,18 @@ ghost use Rattle.primaries.specs.Readers.{Fits};
 ghost use Rattle.judge.specs.Judged.{refusal, Judging};
 
 // answer: 0 if the pattern is good, else 4, 5, 14, 6 or 7. offset: the byte at which its text is
-// wrong (5), or the text's length (14); else 0. places: P, and top: the top node of its tree, if it
-// is good; else both are 0.
+// wrong (5), or the text's length (14); else 0. places: P, factor: F, and top: the top node of its
+// tree, if it is good; else all three are 0.
 pub struct Verdict {
     pub answer: usize,
     pub offset: usize,
     pub places: usize,
+    pub factor: usize,
     pub top: usize,
 }
+
+// So many unbounded quantifiers over bodies that can take no row may be nested in one another.
+const MOST_NESTED: usize = 3;
 
 fn refused(answer: usize, offset: usize) -> Verdict
     ensures { λ r. ⌜ r ≡ refusal answer offset ⌝ }
@@ -24,6 +29,7 @@ fn refused(answer: usize, offset: usize) -> Verdict
         answer,
         offset,
         places: 0,
+        factor: 0,
         top: 0,
     }
 }
@@ -45,17 +51,20 @@ pub fn judge(text: &[u8], room: &mut [u16]) -> Verdict
         return refused(14, p.at);
     }
     let top = p.count - 1;
-    if has_empty_loop(room, top) {
+    let nested = nesting(room, top);
+    if MOST_NESTED < nested {
         return refused(6, 0);
     }
     let places = p.forks + p.places + 1;
     if 256 < places {
         return refused(7, 0);
     }
+    let factor = factor_of(nested);
     Verdict {
         answer: 0,
         offset: 0,
         places,
+        factor,
         top,
     }
 }

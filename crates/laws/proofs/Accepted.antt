@@ -1,11 +1,12 @@
 -- What is known of an accepted search: none of the tests for 1 to 12 and 14 is true, so the pattern
--- has a tree, P is 1 to 256, the rows are whole and at most 4,096, and the notes and the trail are
--- long enough. Everything that an implementation may rely on follows from these.
+-- has a tree, P is 1 to 256, at most three repetitions are nested, the rows are whole and at most
+-- 4,096, and the notes and the trail are long enough. Everything that an implementation may rely on
+-- follows from these.
 use mathlib.Core.Path.{_≡_, refl, sym, _∙_}
 use mathlib.Core.Bool.{Bool, true, false, not, true≢false}
 use mathlib.Core.List.{List, [], _∷_, _++_}
 use mathlib.Core.Option.{Option, none, some}
-use Prim.Native.Nat.{ℕ, _%_, _≤_}
+use Prim.Native.Nat.{ℕ, _%_, _≤_, _*_}
 use lib.Dec.{ltb, eqb}
 use lib.IntN.{ℤ}
 use lib.ListN.{length, getD}
@@ -13,11 +14,11 @@ use borrow.Author.Tests.{ltb-false, eqb-true, eqb-false}
 use Rattle.rules.specs.Basics.{pick, every}
 use Rattle.rules.specs.Rows.{tableOf}
 use Rattle.rules.specs.Query.{cut, misplaced, unfit, doubled, columnsOf, textOf}
-use Rattle.rules.specs.Language.{Tree, pattern, emptyLoop}
-use Rattle.rules.specs.Places.{unroll, places, placesOf}
+use Rattle.rules.specs.Language.{Tree, pattern, loopNesting}
+use Rattle.rules.specs.Places.{unroll, places, placesOf, factorOf}
 use Rattle.rules.specs.Walk.{pairs}
 use Rattle.rules.specs.Report.{bytesFor}
-use Rattle.rules.specs.Answers.{placesIn, taskOf, tooDeep, treeIn, noTree, hasEmptyLoop, P, tooMany, foreign, badRows, Buffers, pairsOf, shortNotes, shortTrail, endAnswer, Test, firstOf, refuses, queryTests, refusal, answerBy, walkWithin, answerWithin, walkOf, answerOf}
+use Rattle.rules.specs.Answers.{placesIn, taskOf, tooDeep, treeIn, noTree, P, tooMany, foreign, badRows, Buffers, pairsOf, shortNotes, shortTrail, endAnswer, Test, firstOf, refuses, queryTests, refusal, answerBy, walkWithin, answerWithin, walkOf, answerOf, nestedLoops, F}
 use Rattle.laws.proofs.Level.{or-false}
 use Rattle.laws.proofs.Stops.{tree-there}
 use Rattle.laws.proofs.FirstTrue.{end-accepted, allRefuse, first-refuses, none-true}
@@ -37,14 +38,14 @@ pub record Granted (q : List ℕ) (rows : List ℤ) (lent : Buffers) : Type 0 wh
   pub shallow : tooDeep q ≡ false
   pub tree : Tree pattern
   pub has-tree : treeIn q ≡ some tree
-  pub no-empty-loop : emptyLoop tree ≡ false
+  pub few-nested : loopNesting tree ≤ 3
   pub few : placesOf tree ≤ 256
   pub single : doubled q ≡ false
   pub known : foreign q ≡ false
   pub rows-whole : length rows % columnsOf q ≡ 0
   pub rows-few : tableOf (columnsOf q) rows .n ≤ 4096
-  pub notes-long : bytesFor (pairs (placesOf tree) (tableOf (columnsOf q) rows .n)) ≤ length (lent .notes)
-  pub trail-long : pairs (placesOf tree) (tableOf (columnsOf q) rows .n) ≤ length (lent .trail)
+  pub notes-long : bytesFor (pairs (placesOf tree * factorOf tree) (tableOf (columnsOf q) rows .n)) ≤ length (lent .notes)
+  pub trail-long : pairs (placesOf tree * factorOf tree) (tableOf (columnsOf q) rows .n) ≤ length (lent .trail)
 
 -- the tests that ask the query alone all stand for refusals
 pub query-tests-refuse : (q : List ℕ) → allRefuse (queryTests q) ≡ true
@@ -91,15 +92,15 @@ module _ (q : List ℕ) (rows : List ℤ) (lent : Buffers) where
 
   -- no test is true: those for answers 1 to 5, 14, 6 to 12, in this order
   pub granted-when : refusal q rows lent ≡ 0 → Granted q rows lent
-  unfolding refusal queryTests hasEmptyLoop tooMany P badRows shortNotes shortTrail pairsOf
+  unfolding refusal queryTests nestedLoops tooMany P F badRows shortNotes shortTrail pairsOf
   granted-when ok =
       let no : (i : ℕ) → getD refusals i (0, false) .1 ≡ false = none-true refusals all-refuse ok in
       let t = tree-of (treeIn q) (tree-there (textOf q) (no 4) (no 5)) in
       let r = or-false _ _ (no 10) in
-      let z6 : hasEmptyLoop (treeIn q) ≡ false = no 6 in
+      let z6 : nestedLoops (treeIn q) ≡ false = no 6 in
       let z7 : tooMany (treeIn q) ≡ false = no 7 in
-      let z11 : ltb (length (lent .notes)) (bytesFor (pairs (P (treeIn q)) (tableOf (columnsOf q) rows .n))) ≡ false = no 11 in
-      let z12 : ltb (length (lent .trail)) (pairs (P (treeIn q)) (tableOf (columnsOf q) rows .n)) ≡ false = no 12 in
+      let z11 : ltb (length (lent .notes)) (bytesFor (pairs (P (treeIn q) * F (treeIn q)) (tableOf (columnsOf q) rows .n))) ≡ false = no 11 in
+      let z12 : ltb (length (lent .trail)) (pairs (P (treeIn q) * F (treeIn q)) (tableOf (columnsOf q) rows .n)) ≡ false = no 12 in
       record {
         whole = no 0;
         ordered = no 1;
@@ -107,7 +108,7 @@ module _ (q : List ℕ) (rows : List ℤ) (lent : Buffers) where
         shallow = no 3;
         tree = t .0;
         has-tree = t .1;
-        no-empty-loop = rw (t .1) at z6;
+        few-nested = ltb-false _ _ (rw (t .1) at z6);
         few = ltb-false _ _ (rw (t .1) at z7);
         single = no 8;
         known = no 9;

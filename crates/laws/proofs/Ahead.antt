@@ -9,7 +9,7 @@ use lib.Dec.{eqb, leb}
 use lib.ListN.{length}
 use borrow.Author.Tests.{le-leb}
 use Rattle.rules.specs.Basics.{pick, inRange, isLetter}
-use Rattle.rules.specs.Language.{Form, star, plus, opt, exactly, atLeast, atMost, between, Rank, pattern, branch, factor, primary, Tree, one, more, last, next}
+use Rattle.rules.specs.Language.{Form, star, plus, opt, exactly, atLeast, atMost, between, Rank, pattern, branch, factor, primary, Tree, more, next}
 use Rattle.rules.specs.Reader.{Reading, got, bad, left, peek, rest, skip, isDigit, number, enough, reaching, bounded, Marked, unmarked, broken, marked, reluctant, shut, upTo, from, braces, quantifier, ended, under, altOn, altWith, seqOn, seqWith, timesOn, timesWith, closed, parted, simple, primaryOn, read}
 use Rattle.laws.proofs.GrammarSound.{pick-both, in-range, range-in}
 

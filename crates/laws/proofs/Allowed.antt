@@ -1,5 +1,5 @@
--- The search of a legal pattern on two terms, of which the first halts sooner: the second goes on
--- from where the first halts (`search-goes`), so it begins with the same matches and keeps what the
+-- The search of a pattern on two terms, of which the first halts sooner: the second goes on from
+-- where the first halts (`search-goes`), so it begins with the same matches and keeps what the
 -- first kept. From it, on any terms: the bounds on the steps. And an allowance that the search does
 -- not pass changes nothing (`search-allowed`), so 2P(n+1) is enough with skip past last row
 -- (`allowance-enough`).
@@ -20,7 +20,6 @@ use Rattle.rules.specs.Search.{Match, End, done, full, stuck, unfinished, Skip,
 use Rattle.rules.specs.Walk.{Ways, accept, try, Halt, outOfSteps, outOfRows, Halting, Outcome, found, failed, halted, orElse, close, enterUnless, tries, inside, insideBy, pairs, firstAt, pairWays}
 use Rattle.laws.proofs.Fuel.{sweep-enough, plan-on}
 use Rattle.laws.proofs.GoesOn.{keptBy, Keeps, tries-keeps, inside-keeps, Sooner, andThen, then-keeps, then-begins, then-finished, sweep-keeps, keeps-answer, search-onward}
-use Rattle.laws.proofs.Level.{legal}
 use Rattle.laws.proofs.Padded.{search-padded}
 use Rattle.laws.proofs.PatternWalk.{falls-in, top-in, starts-in, walk-bound, walk-each}
 use Rattle.laws.proofs.Rank.{rank}
@@ -125,7 +124,7 @@ module _ (h h₀ : Halting) (alike : (x : ℕ) → h .waits x ≡ h₀ .waits x)
             ap (λ (q : Attempted × Kept). onAnswer plan (sweep (walkAt h ways K first) plan k) i m l (q .0) (q .1)) (attempt-allowed i st (le-trans d c))
             ∙ answer-allowed (sweep (walkAt h ways K first) plan k) (sweep (walkAt h₀ ways K first) plan k) ih i m l (r .0) (r .1) c
 
--- ---- a legal pattern
+-- ---- a pattern
 
 -- the same terms where no more rows come and any number of steps is allowed
 abbrev pub ended-terms : Terms → Terms
@@ -142,7 +141,7 @@ allows-spent a none h s e = refl
 allows-spent none (some b) h s e = absurd h
 allows-spent (some a) (some b) h s e = lt-leb b s (omega (arith, leb-false a s e))
 
-module _ (t : Unrolled) (g : legal t ≡ true) (skip : Skip) (fits : ℕ → ℕ → List ℕ → Bool) where
+module _ (t : Unrolled) (skip : Skip) (fits : ℕ → ℕ → List ℕ → Bool) where
   abbrev P : ℕ
   P = length (places t)
 
@@ -169,8 +168,8 @@ module _ (t : Unrolled) (g : legal t ≡ true) (skip : Skip) (fits : ℕ → ℕ
         let w₂ = haltingOf terms₂ (places t) n₂ in
         let p₁ = planOf (places t) n₁ (terms₁ .more) skip fits in
         rw same
-        (search-onward w₁ w₂ (pairWays holds₁ n₁ (places t)) (pairWays holds₂ n₂ (places t)) sooner (rank t n₂) N (falls-in t g holds₂ n₂ (terms₂ .largest) few) N
-        (top-in t g holds₂ n₂ (terms₂ .largest) few) (firstAt P) p₁ n₂ (terms₂ .more) le rest (λ i h. starts-in t g holds₂ n₂ (terms₂ .largest) few i h .0) (plan-on (places t) n₁ (terms₁ .more) skip fits)
+        (search-onward w₁ w₂ (pairWays holds₁ n₁ (places t)) (pairWays holds₂ n₂ (places t)) sooner (rank t n₂) N (falls-in t holds₂ n₂ (terms₂ .largest) few) N
+        (top-in t holds₂ n₂ (terms₂ .largest) few) (firstAt P) p₁ n₂ (terms₂ .more) le rest (λ i h. starts-in t holds₂ n₂ (terms₂ .largest) few i h .0) (plan-on (places t) n₁ (terms₁ .more) skip fits)
         n₂ 0 0 0 (replicate N false, 0) (length-replicate N false) (omega arith)
         ∙ ap (andThen w₂ (pairWays holds₂ n₂ (places t)) N (firstAt P) (planOf (places t) n₂ (terms₂ .more) skip fits) 0 0)
         (sweep-enough (walkAt w₁ (pairWays holds₁ n₁ (places t)) N (firstAt P)) p₁ (plan-on (places t) n₁ (terms₁ .more) skip fits) n₂ 0 0 0 (replicate N false, 0) le))
@@ -221,11 +220,11 @@ module _ (t : Unrolled) (g : legal t ≡ true) (skip : Skip) (fits : ℕ → ℕ
     pub steps-whole : (terms : Terms) → n ≤ terms .largest → on terms .state .1 ≤ on (whole n) .state .1
     steps-whole terms le =
         le-trans (goes-keeps holds holds n n terms (ended-terms terms) refl (omega arith) le (ended-sooner terms) (ends (terms .more)) .steps)
-        (let e : on (ended-terms terms) .state .1 ≡ on (whole n) .state .1 = ap (λ (r : Swept Kept). r .state .1) (search-padded t g holds n (ended-terms terms) le skip fits) in omega (arith, e))
+        (let e : on (ended-terms terms) .state .1 ≡ on (whole n) .state .1 = ap (λ (r : Swept Kept). r .state .1) (search-padded t holds n (ended-terms terms) le skip fits) in omega (arith, e))
 
     -- so they are at most P n (n+3) / 2 in every mode
     pub search-each : (terms : Terms) → n ≤ terms .largest → 2 * on terms .state .1 ≤ P * (n * (n + 3))
-    search-each terms le = omega (arith, steps-whole terms le, walk-each t g holds n skip fits)
+    search-each terms le = omega (arith, steps-whole terms le, walk-each t holds n skip fits)
 
     -- a run with a larger allowance begins with the same matches
     pub allows-begins : (a b : Option ℕ) → Allows a b → Begins (on (within a n) .matches) (on (within b n) .matches)
@@ -242,16 +241,17 @@ module _ (t : Unrolled) (g : legal t ≡ true) (skip : Skip) (fits : ℕ → ℕ
         sweep-allowed (haltingOf (within (some a) n) (places t) n) (haltingOf (whole n) (places t) n) (λ x. refl) (λ s. refl) a (λ s lt. lt-leb a s lt) (pairWays holds n (places t))
         (pairs P n) (firstAt P) (planOf (places t) n false skip fits) n 0 0 0 (replicate (pairs P n) false, 0) b
 
-module _ (t : Unrolled) (g : legal t ≡ true) (fits : ℕ → ℕ → List ℕ → Bool) (holds : ℕ → ℕ → Bool) (n : ℕ) where
+module _ (t : Unrolled) (fits : ℕ → ℕ → List ℕ → Bool) (holds : ℕ → ℕ → Bool) (n : ℕ) where
   -- on any terms the steps are at most 2P(n+1) with skip past last row
   pub search-bound : (terms : Terms) → n ≤ terms .largest → walkSearch terms holds n (places t) pastLast fits .state .1 ≤ 2 * pairs (length (places t)) n
-  search-bound terms le = le-trans (steps-whole t g pastLast fits holds n terms le) (walk-bound t g holds n fits)
+  search-bound terms le = le-trans (steps-whole t pastLast fits holds n terms le) (walk-bound t holds n fits)
 
   -- so an allowance of 2P(n+1) is always enough there
   pub allowance-enough : (a : ℕ) → 2 * pairs (length (places t)) n ≤ a → walkSearch (within (some a) n) holds n (places t) pastLast fits ≡ walkSearch (whole n) holds n (places t) pastLast fits
-  allowance-enough a h = search-allowed t g pastLast fits holds n a (le-trans (walk-bound t g holds n fits) h)
+  allowance-enough a h = search-allowed t pastLast fits holds n a (le-trans (walk-bound t holds n fits) h)
 
--- ---- the steps within an allowance: it is not passed, and where the walk halts for it, it is used up
+-- ---- the steps within an allowance: it is not passed, and where the walk halts for it, it is used
+-- up
 
 module _ (a : ℕ) where
   abbrev WithinBy : Halt → ℕ → Type 0

@@ -1,8 +1,9 @@
--- The places of a pattern counted on its tree: P is the length of the list of places. What can take
--- no row and what is refused are told on the tree as on the unrolled pattern. And the count with a
--- cap of 257 at every node: it says whether P is at most 256, and it stays small.
+-- The places of a pattern counted on its tree: P times F is the length of the list of places. What
+-- can take no row and how deep repetitions of such bodies are nested are told on the tree as on the
+-- unrolled pattern. And the count with a cap of 257 at every node: it says whether P is at most
+-- 256, and it stays small.
 use mathlib.Core.Path.{_≡_, refl, ap, sym, _∙_}
-use mathlib.Core.Bool.{Bool, true, false, not, _&&_, _||_, false≢true}
+use mathlib.Core.Bool.{Bool, true, false, _&&_, _||_}
 use mathlib.Core.Logic.{_↔_}
 use mathlib.Core.Option.{Option, none, some}
 use Prim.Native.Nat.{ℕ, zero, suc, _+_, _-_, _*_, _≤_, suc-le-suc, min}
@@ -11,10 +12,10 @@ use native.Mathlib.Omega.{arith}
 use lib.ListN.{length}
 use lib.Dec.{eqb}
 use borrow.Author.Tests.{ne-eqb}
-use Rattle.rules.specs.Language.{Form, star, plus, opt, exactly, atLeast, atMost, between, lower, upper, InBounds, Rank, pattern, branch, factor, primary, Tree, one, more, last, next, bare, times, letter, caret, dollar, empty, group, nullable, unbounded, emptyLoop}
-use Rattle.rules.specs.Places.{Unrolled, uStar, uAlt, copies, options, behind, repeated, UnrolledAt, forked, unrolled, unroll, size, sizes, places, roundPlaces, fork, placeCount, placesOf}
+use Rattle.rules.specs.Language.{Form, star, plus, opt, exactly, atLeast, atMost, between, lower, upper, InBounds, Rank, pattern, branch, factor, primary, Tree, one, more, last, next, bare, times, letter, caret, dollar, empty, group, nullable, unbounded, deeper, loopNesting}
+use Rattle.rules.specs.Places.{Unrolled, uStar, uAlt, copies, options, behind, repeated, UnrolledAt, forked, unrolled, unroll, size, sizes, places, roundPlaces, fork, placeCount, placesOf, skips, anySkips, nest, nests, factorOf}
 use Rattle.laws.proofs.Bounds.{Bounds}
-use Rattle.laws.proofs.Level.{or-false, and-true, skips, anySkips, legal, allLegal}
+use Rattle.laws.proofs.Level.{or-false}
 use Rattle.laws.proofs.Rank.{places-length}
 
 -- two or more branches have a fork
@@ -71,9 +72,6 @@ pub unroll-size : (p : Tree pattern) → size (unroll p) + 1 ≡ placesOf p
 unfolding unroll placesOf
 unroll-size p = rw (forked-size p, unrolled-size p)
 
-pub places-counted : (p : Tree pattern) → length (places (unroll p)) ≡ placesOf p
-places-counted p = omega (arith, places-length (unroll p), unroll-size p)
-
 -- ---- what can take no row
 
 -- what follows the required copies can always be left out
@@ -97,7 +95,7 @@ copies-skips (suc m) t r h = rw (copies-skips m t r h, ne-eqb (suc m) 0 (λ (q :
     go false true = refl
     go false false = refl
 
-abbrev skipsAt : (k : Rank) → UnrolledAt k → Bool
+abbrev pub skipsAt : (k : Rank) → UnrolledAt k → Bool
 skipsAt pattern ts = anySkips ts
 skipsAt branch t = skips t
 skipsAt factor t = skips t
@@ -108,7 +106,7 @@ unfolding skips unrolled forked
 forked-skips (one b) = sym (mathlib.Core.Bool.or-false (skips (unrolled b)))
 forked-skips (more b p) = rw (forked-more b p)
 
-unrolled-skips : {k : Rank} (t : Tree k) → skipsAt k (unrolled t) ≡ nullable t
+pub unrolled-skips : {k : Rank} (t : Tree k) → skipsAt k (unrolled t) ≡ nullable t
 unfolding unrolled skips nullable repeated
 unrolled-skips (one b) = mathlib.Core.Bool.or-false (skips (unrolled b)) ∙ unrolled-skips b
 unrolled-skips (more b p) = rw (unrolled-skips b, unrolled-skips p)
@@ -128,101 +126,80 @@ pub nullable-skips : (p : Tree pattern) → nullable p ≡ skips (unroll p)
 unfolding unroll
 nullable-skips p = sym (forked-skips p ∙ unrolled-skips p)
 
--- ---- what is refused: an unbounded quantifier over a body that can take no row
+-- ---- how deep unbounded quantifiers over bodies that can take no row are nested: a quantifier
+-- with its bounds in order keeps at least one copy of its body
 
-abbrev legalAt : (k : Rank) → UnrolledAt k → Bool
-legalAt pattern ts = allLegal ts
-legalAt branch t = legal t
-legalAt factor t = legal t
-legalAt primary t = legal t
+deeper-le : (s : Bool) (m : ℕ) → m ≤ deeper s m
+deeper-le false m = omega arith
+deeper-le true m = omega arith
 
-forked-legal : (p : Tree pattern) → legal (forked (unrolled p)) ≡ allLegal (unrolled p)
-unfolding legal unrolled forked
-forked-legal (one b) = sym (mathlib.Core.Bool.and-true (legal (unrolled b)))
-forked-legal (more b p) = rw (forked-more b p)
+copies-nest : (m : ℕ) (t r : Unrolled) → nest t ≤ nest r → nest (copies m t r) ≡ nest r
+unfolding copies nest
+copies-nest zero t r h = refl
+copies-nest (suc m) t r h = omega (arith, copies-nest m t r h)
 
-copies-legal : (m : ℕ) (t r : Unrolled) → legal t ≡ true → legal r ≡ true → legal (copies m t r) ≡ true
-unfolding copies legal
-copies-legal zero t r h g = g
-copies-legal (suc m) t r h g = rw (h, copies-legal m t r h g)
+copies-some : (m : ℕ) (t r : Unrolled) → 1 ≤ m → nest r ≤ nest t → nest (copies m t r) ≡ nest t
+unfolding copies nest
+copies-some zero t r l h = absurd (omega arith)
+copies-some (suc zero) t r l h = omega arith
+copies-some (suc (suc m)) t r l h = omega (arith, copies-some (suc m) t r (omega arith) h)
 
-behind-legal : (hi : Option ℕ) (lo : ℕ) (lazy : Bool) (t : Unrolled) → (unbounded hi && skips t) ≡ false → legal t ≡ true → legal (behind hi lo lazy t) ≡ true
-unfolding behind legal unbounded
-behind-legal none lo lazy t h g = rw (h, g)
-behind-legal (some hi) lo lazy t h g = go (hi - lo)
-  where
-    go : (m : ℕ) → legal (options m lazy t) ≡ true
-    go zero = refl
-    go (suc m) = rw (g, go m)
+options-few : (m : ℕ) (lazy : Bool) (t : Unrolled) → nest (options m lazy t) ≤ nest t
+unfolding options nest
+options-few zero lazy t = omega arith
+options-few (suc m) lazy t = omega (arith, options-few m lazy t)
 
-unrolled-legal : {k : Rank} (t : Tree k) → emptyLoop t ≡ false → legalAt k (unrolled t) ≡ true
-unfolding unrolled legal emptyLoop repeated
-unrolled-legal (one b) h = rw (unrolled-legal b h)
-unrolled-legal (more b p) h = let g = or-false (emptyLoop b) (emptyLoop p) h in rw (unrolled-legal b (g .0), unrolled-legal p (g .1))
-unrolled-legal (last f) h = unrolled-legal f h
-unrolled-legal (next f b) h = let g = or-false (emptyLoop f) (emptyLoop b) h in rw (unrolled-legal f (g .0), unrolled-legal b (g .1))
-unrolled-legal (bare x) h = unrolled-legal x h
-unrolled-legal (times x f z) h =
-    let g = or-false (unbounded (upper f) && nullable x) (emptyLoop x) h in
-    copies-legal (lower f) (unrolled x) (behind (upper f) (lower f) z (unrolled x)) (unrolled-legal x (g .1))
-    (behind-legal (upper f) (lower f) z (unrolled x) (rw (unrolled-skips x) (g .0)) (unrolled-legal x (g .1)))
-unrolled-legal (letter c) h = refl
-unrolled-legal caret h = refl
-unrolled-legal dollar h = refl
-unrolled-legal empty h = refl
-unrolled-legal (group p) h = forked-legal p ∙ unrolled-legal p h
+options-nest : (m : ℕ) (lazy : Bool) (t : Unrolled) → 1 ≤ m → nest (options m lazy t) ≡ nest t
+unfolding options nest
+options-nest zero lazy t l = absurd (omega arith)
+options-nest (suc m) lazy t l = omega (arith, options-few m lazy t)
 
-pub legal-unroll : (p : Tree pattern) → emptyLoop p ≡ false → legal (unroll p) ≡ true
+repeated-nest : (f : Form) (lazy : Bool) (t : Unrolled) → InBounds f → nest (repeated f lazy t) ≡ deeper (unbounded (upper f) && skips t) (nest t)
+unfolding repeated copies behind lower upper InBounds unbounded nest
+repeated-nest star lazy t o = refl
+repeated-nest plus lazy t o = omega (arith, deeper-le (skips t) (nest t))
+repeated-nest opt lazy t o = options-nest 1 lazy t (omega arith)
+repeated-nest (exactly n) lazy t o = copies-some n t (options (n - n) lazy t) (o .0) (options-few (n - n) lazy t)
+repeated-nest (atLeast n) lazy t o = copies-nest n t (uStar lazy t) (deeper-le (skips t) (nest t))
+repeated-nest (atMost m) lazy t o = options-nest (m - 0) lazy t (omega arith)
+repeated-nest (between zero m) lazy t o = options-nest (m - 0) lazy t (omega arith)
+repeated-nest (between (suc n) m) lazy t o = copies-some (suc n) t (options (m - suc n) lazy t) (omega arith) (options-few (m - suc n) lazy t)
+
+abbrev nestAt : (k : Rank) → UnrolledAt k → ℕ
+nestAt pattern ts = nests ts
+nestAt branch t = nest t
+nestAt factor t = nest t
+nestAt primary t = nest t
+
+forked-nest : (p : Tree pattern) → nest (forked (unrolled p)) ≡ nests (unrolled p)
+unfolding nest unrolled forked
+forked-nest (one b) = omega arith
+forked-nest (more b p) = rw (forked-more b p)
+
+unrolled-nest : {k : Rank} (t : Tree k) → Bounds t → nestAt k (unrolled t) ≡ loopNesting t
+unfolding unrolled nest loopNesting Bounds
+unrolled-nest (one b) o = omega (arith, unrolled-nest b o)
+unrolled-nest (more b p) o = omega (arith, unrolled-nest b (o .0), unrolled-nest p (o .1))
+unrolled-nest (last f) o = unrolled-nest f o
+unrolled-nest (next f b) o = omega (arith, unrolled-nest f (o .0), unrolled-nest b (o .1))
+unrolled-nest (bare x) o = unrolled-nest x o
+unrolled-nest (times x f z) o = repeated-nest f z (unrolled x) (o .0) ∙ rw (unrolled-skips x, unrolled-nest x (o .1))
+unrolled-nest (letter c) o = refl
+unrolled-nest caret o = refl
+unrolled-nest dollar o = refl
+unrolled-nest empty o = refl
+unrolled-nest (group p) o = forked-nest p ∙ unrolled-nest p o
+
+pub nest-counted : (p : Tree pattern) → Bounds p → nest (unroll p) ≡ loopNesting p
 unfolding unroll
-legal-unroll p h = forked-legal p ∙ unrolled-legal p h
+nest-counted p o = forked-nest p ∙ unrolled-nest p o
 
--- ---- and only that, since a quantifier with its bounds in order keeps at least one copy of its
--- body
-
-copies-legal-to : (m : ℕ) (t r : Unrolled) → legal (copies m t r) ≡ true → (legal r ≡ true) × (1 ≤ m → legal t ≡ true)
-unfolding copies legal
-copies-legal-to zero t r h = (h, λ l. absurd (omega arith))
-copies-legal-to (suc m) t r h = let g = and-true (legal t) (legal (copies m t r)) h in (copies-legal-to m t r (g .1) .0, λ l. g .0)
-
-not-skips : (a b : Bool) → (not a && b) ≡ true → (a ≡ false) × (b ≡ true)
-not-skips true b e = absurd (false≢true e)
-not-skips false b e = (refl, e)
-
-options-legal-to : (m : ℕ) (lazy : Bool) (t : Unrolled) → 1 ≤ m → legal (options m lazy t) ≡ true → legal t ≡ true
-unfolding options legal
-options-legal-to zero lazy t l h = absurd (omega arith)
-options-legal-to (suc m) lazy t l h = and-true (legal t) (legal (options m lazy t)) h .0
-
-repeated-legal-to : (f : Form) (lazy : Bool) (t : Unrolled) → InBounds f → legal (repeated f lazy t) ≡ true → ((unbounded (upper f) && skips t) ≡ false) × (legal t ≡ true)
-unfolding repeated behind lower upper InBounds unbounded legal
-repeated-legal-to star lazy t o h = not-skips (skips t) (legal t) h
-repeated-legal-to plus lazy t o h = not-skips (skips t) (legal t) (copies-legal-to 1 t (uStar lazy t) h .0)
-repeated-legal-to opt lazy t o h = (refl, options-legal-to 1 lazy t (omega arith) h)
-repeated-legal-to (exactly n) lazy t o h = (refl, copies-legal-to n t (options (n - n) lazy t) h .1 (o .0))
-repeated-legal-to (atLeast n) lazy t o h = not-skips (skips t) (legal t) (copies-legal-to n t (uStar lazy t) h .0)
-repeated-legal-to (atMost m) lazy t o h = (refl, options-legal-to (m - 0) lazy t (omega arith) h)
-repeated-legal-to (between zero m) lazy t o h = (refl, options-legal-to (m - 0) lazy t (omega arith) h)
-repeated-legal-to (between (suc n) m) lazy t o h = (refl, copies-legal-to (suc n) t (options (m - suc n) lazy t) h .1 (omega arith))
-
-legal-tree : {k : Rank} (t : Tree k) → Bounds t → legalAt k (unrolled t) ≡ true → emptyLoop t ≡ false
-unfolding unrolled legal emptyLoop Bounds
-legal-tree (one b) o h = legal-tree b o (and-true (legal (unrolled b)) true h .0)
-legal-tree (more b p) o h = let g = and-true (legal (unrolled b)) (allLegal (unrolled p)) h in rw (legal-tree b (o .0) (g .0), legal-tree p (o .1) (g .1))
-legal-tree (last f) o h = legal-tree f o h
-legal-tree (next f b) o h = let g = and-true (legal (unrolled f)) (legal (unrolled b)) h in rw (legal-tree f (o .0) (g .0), legal-tree b (o .1) (g .1))
-legal-tree (bare x) o h = legal-tree x o h
-legal-tree (times x f z) o h =
-    let g = repeated-legal-to f z (unrolled x) (o .0) h in
-    rw (rw (unrolled-skips x) at (g .0), legal-tree x (o .1) (g .1))
-legal-tree (letter c) o h = refl
-legal-tree caret o h = refl
-legal-tree dollar o h = refl
-legal-tree empty o h = refl
-legal-tree (group p) o h = legal-tree p o (sym (forked-legal p) ∙ h)
-
-pub legal-exactly : (p : Tree pattern) → Bounds p → (emptyLoop p ≡ false) ↔ (legal (unroll p) ≡ true)
-unfolding unroll
-legal-exactly p o = (legal-unroll p, λ h. legal-tree p o (sym (forked-legal p) ∙ h))
+-- the list of places with flags is P times F long
+pub places-counted : (p : Tree pattern) → Bounds p → length (places (unroll p)) ≡ placesOf p * factorOf p
+unfolding factorOf
+places-counted p o =
+    let e : suc (size (unroll p)) ≡ placesOf p = omega (arith, unroll-size p) in
+    places-length (unroll p) ∙ rw (e, nest-counted p o)
 
 -- ---- the cap: where P is too large to count, 257 stands for it
 

@@ -5,26 +5,26 @@ use mathlib.Core.Bool.{Bool, true, false}
 use mathlib.Core.List.{List, [], _∷_, _++_, append-assoc, map-append}
 use mathlib.Core.Logic.{_⊎_, _↔_}
 use mathlib.Core.Option.{Option, none, some}
-use Prim.Native.Nat.{ℕ, _+_, _*_, _/_, _≤_, _<_}
+use Prim.Native.Nat.{ℕ, _+_, _*_, _/_, _≤_, _<_, suc, _%_, _^_}
 use native.Mathlib.Omega.{arith}
 use lib.IntN.{ℤ}
 use lib.ListN.{length, getD, drop}
 use Rattle.rules.specs.Basics.{Begins, wrote}
 use Rattle.rules.specs.Query.{textOf, parts}
-use Rattle.rules.specs.Language.{Tree, pattern, Written, emptyLoop}
-use Rattle.rules.specs.Places.{Place, unroll, places, placesOf}
+use Rattle.rules.specs.Language.{Tree, pattern, Written}
+use Rattle.rules.specs.Places.{Place, unroll, places, placesOf, size, factorOf, flagsAt}
 use Rattle.rules.specs.Readings.{SomeReading}
 use Rattle.rules.specs.Walk.{outOfSteps, outOfRows, IsOpen, pairs, firstAt, pairWays}
 use Rattle.rules.specs.Preferment.{Preferred, Reports}
 use Rattle.rules.specs.Search.{Match, End, done, full, stuck, unfinished, Finished, Kept, openOf, Skip, pastLast, Swept, Terms, within, whole, walkSearch, plainSearch, labels, endOf, plainFrom, shownOne, shown, shownEnd}
 use Rattle.rules.specs.Report.{numbersOf, labelsOf, fits, bytesFor, bitAt, notesOf, zeros}
-use Rattle.rules.specs.Answers.{treeIn, Task, taskOf, letterHolds, walkedOn, backtracked, Buffers, Memory, refusal, haltAnswer, endAnswer, answerBy, answerWithin, reportOf, walkWithin, plainOf, reportWithin, plainReport, accepted, searchWithin, searchOf}
+use Rattle.rules.specs.Answers.{treeIn, Task, taskOf, letterHolds, walkedOn, backtracked, Buffers, Memory, refusal, haltAnswer, endAnswer, answerBy, answerWithin, reportOf, walkWithin, plainOf, reportWithin, plainReport, accepted, searchWithin, searchOf, P, F}
 use Rattle.rules.specs.Entries.{entriesIn, entryOf, entriesOf}
 use Rattle.rules.specs.Demands.{reportIn, Demand2, Demand3, Demands, Allowing}
 use Rattle.laws.proofs.Accepted.{Granted, accepted-within, answer-within, granted-when, places-are}
 use Rattle.laws.proofs.Allowed.{search-bound, search-each, search-within, end-within, EndWithin, allows-begins, finished-whole, search-allowed, allowance-enough}
 use Rattle.laws.proofs.Bounds.{Bounds, written-bounds}
-use Rattle.laws.proofs.Counting.{legal-unroll, places-counted}
+use Rattle.laws.proofs.Counting.{places-counted, unroll-size, nest-counted}
 use Rattle.laws.proofs.DerivationReadings.{parses-reads}
 use Rattle.laws.proofs.EntriesRead.{entries-read, behind-wrote}
 use Rattle.laws.proofs.FirstDemand.{no-waiting}
@@ -43,20 +43,21 @@ use Rattle.laws.proofs.TreeReadings.{match-exactly}
 use Rattle.laws.proofs.Waits.{EndNoWait}
 use Rattle.laws.proofs.Walk.{All-at}
 use Rattle.rules.specs.Working.{All, Out}
+use Rattle.laws.proofs.UsedFlags.{unused-zero}
 
 -- ---- demand 2
 
-module _ (p : Tree pattern) (g : emptyLoop p ≡ false) (o : Bounds p) (pl : List Place) (e : pl ≡ places (unroll p)) (holds : ℕ → ℕ → Bool) (n : ℕ) where
+module _ (p : Tree pattern) (o : Bounds p) (pl : List Place) (e : pl ≡ places (unroll p)) (holds : ℕ → ℕ → Bool) (n : ℕ) where
   matches-exactly : (i : ℕ) → ((path : List ℕ) × (plainFrom holds n pl i ≡ some path)) ↔ SomeReading p holds n i
-  matches-exactly = rw e (match-exactly p holds n g o)
+  matches-exactly = rw e (match-exactly p holds n o)
 
   matches-preferred : (i j : ℕ) (w : List ℕ)
       → ((path : List ℕ) × ((plainFrom holds n pl i ≡ some path) × (endOf (length pl) path ≡ j) × (labels pl path ≡ w))) ↔ Preferred p holds n i j w
-  matches-preferred = rw e (found-is-greatest p g o holds n)
+  matches-preferred = rw e (found-is-greatest p o holds n)
 
   matches-reported : (skip : Skip) (room : ℕ → ℕ → List ℕ → Bool)
       → Reports p holds n skip room 0 0 0 (shown pl (plainSearch holds n pl skip room .matches)) (shownEnd pl (plainSearch holds n pl skip room .end))
-  matches-reported = rw e (plain-reports p g o holds n)
+  matches-reported = rw e (plain-reports p o holds n)
 
 -- what is shown of the first of the matches is the first of what is shown
 shown-append : (pl : List Place) (xs ys : List Match) → shown pl (xs ++ ys) ≡ shown pl xs ++ shown pl ys
@@ -70,14 +71,14 @@ begins-trans : {A : Type 0} (xs ys zs : List A) → Begins xs ys → Begins ys z
 begins-trans {A} xs ys zs a b = (a .0 ++ b .0, b .1 ∙ ap (λ (l : List A). l ++ b .0) (a .1) ∙ append-assoc xs (a .0) (b .0))
 
 -- for a task whose places are those of a pattern that is read, on any terms
-module _ (p : Tree pattern) (g : emptyLoop p ≡ false) (t : Task) (e : t .places ≡ places (unroll p)) (nums labs : ℕ) (terms : Terms) (le : t .table .n ≤ terms .largest) where
+module _ (p : Tree pattern) (t : Task) (e : t .places ≡ places (unroll p)) (nums labs : ℕ) (terms : Terms) (le : t .table .n ≤ terms .largest) where
   -- the walk follows plain backtracking
   pub task-follows : ((Finished (walkedOn terms t nums labs .end)) → (walkedOn terms t nums labs .matches ≡ backtracked t nums labs .matches) × (walkedOn terms t nums labs .end ≡ backtracked t nums labs .end))
       × Begins (walkedOn terms t nums labs .matches) (backtracked t nums labs .matches)
   unfolding walkedOn backtracked
   task-follows =
       rw e
-      (let f = search-follows (unroll p) (legal-unroll p g) (letterHolds t) (t .table .n) terms le (t .skip) (fits nums labs (t .measures)) in
+      (let f = search-follows (unroll p) (letterHolds t) (t .table .n) terms le (t .skip) (fits nums labs (t .measures)) in
       (f .whole, f .begins))
 
   pub second : Bounds p → Demand2 p t nums labs (walkedOn terms t nums labs)
@@ -86,12 +87,12 @@ module _ (p : Tree pattern) (g : emptyLoop p ≡ false) (t : Task) (e : t .place
       let h = letterHolds t in
       let n = t .table .n in
       let r = fits nums labs (t .measures) in
-      let told = matches-reported p g o (t .places) e h n (t .skip) r in
+      let told = matches-reported p o (t .places) e h n (t .skip) r in
       let unlimited = plainSearch h n (t .places) (t .skip) (λ m l w. true) in
-      let told-unlimited = matches-reported p g o (t .places) e h n (t .skip) (λ m l w. true) in
+      let told-unlimited = matches-reported p o (t .places) e h n (t .skip) (λ m l w. true) in
       record {
-        exists = matches-exactly p g o (t .places) e h n;
-        preferred = matches-preferred p g o (t .places) e h n;
+        exists = matches-exactly p o (t .places) e h n;
+        preferred = matches-preferred p o (t .places) e h n;
         reads = λ i j w x. parses-reads h n p (x .derivation) i j w (x .parses);
         all = shown (t .places) (backtracked t nums labs .matches);
         last = shownEnd (t .places) (backtracked t nums labs .end);
@@ -110,42 +111,41 @@ module _ (p : Tree pattern) (g : emptyLoop p ≡ false) (t : Task) (e : t .place
 
 -- ---- demand 3
 
-module _ (p : Tree pattern) (g : emptyLoop p ≡ false) (holds : ℕ → ℕ → Bool) (n : ℕ) where
+module _ (p : Tree pattern) (holds : ℕ → ℕ → Bool) (n : ℕ) where
   abbrev bound-by : Terms → Skip → (ℕ → ℕ → List ℕ → Bool) → Type 0
   bound-by terms skip room = skip ≡ pastLast → walkSearch terms holds n (places (unroll p)) skip room .state .1 ≤ 2 * pairs (length (places (unroll p))) n
 
   bounded : (terms : Terms) → n ≤ terms .largest → (skip : Skip) (room : ℕ → ℕ → List ℕ → Bool) → bound-by terms skip room
-  bounded terms le skip room e = rw e (search-bound (unroll p) (legal-unroll p g) room holds n terms le)
+  bounded terms le skip room e = rw e (search-bound (unroll p) room holds n terms le)
 
 -- no pair still open has failed
-task-out : (p : Tree pattern) (g : emptyLoop p ≡ false) (t : Task) (e : t .places ≡ places (unroll p)) (nums labs : ℕ) (terms : Terms) → t .table .n ≤ terms .largest
+task-out : (p : Tree pattern) (t : Task) (e : t .places ≡ places (unroll p)) (nums labs : ℕ) (terms : Terms) → t .table .n ≤ terms .largest
     → All (Out (walkedOn terms t nums labs .state .0)) (openOf (walkedOn terms t nums labs .end))
 unfolding walkedOn
-task-out p g t e nums labs terms le = rw e (search-out (unroll p) (legal-unroll p g) (letterHolds t) (t .table .n) terms le (t .skip) (fits nums labs (t .measures)))
+task-out p t e nums labs terms le = rw e (search-out (unroll p) (letterHolds t) (t .table .n) terms le (t .skip) (fits nums labs (t .measures)))
 
 -- the same for a task whose places are those of the pattern
-pub third : (p : Tree pattern) (g : emptyLoop p ≡ false) (t : Task) (e : t .places ≡ places (unroll p)) (nums labs : ℕ) (terms : Terms) → t .table .n ≤ terms .largest
+pub third : (p : Tree pattern) (t : Task) (e : t .places ≡ places (unroll p)) (nums labs : ℕ) (terms : Terms) → t .table .n ≤ terms .largest
     → Demand3 t (terms .largest) (walkedOn terms t nums labs) (backtracked t nums labs)
 unfolding walkedOn backtracked
-third p g t e nums labs terms le =
-    let l = legal-unroll p g in
+third p t e nums labs terms le =
     let h = letterHolds t in
     let n = t .table .n in
     let r = fits nums labs (t .measures) in
     record {
-      bound = rw e (bounded p g h n terms le (t .skip) r);
-      bound-each = rw e (search-each (unroll p) l (t .skip) r h n terms le);
-      sum = rw e (search-sum (unroll p) l h n terms le (t .skip) r);
+      bound = rw e (bounded p h n terms le (t .skip) r);
+      bound-each = rw e (search-each (unroll p) (t .skip) r h n terms le);
+      sum = rw e (search-sum (unroll p) h n terms le (t .skip) r);
       paths =
-          follows-each (Path h n (t .places)) (walkedOn terms t nums labs) (backtracked t nums labs) (task-follows p g t e nums labs terms le .1) (task-follows p g t e nums labs terms le .0)
+          follows-each (Path h n (t .places)) (walkedOn terms t nums labs) (backtracked t nums labs) (task-follows p t e nums labs terms le .1) (task-follows p t e nums labs terms le .0)
           (plain-each h n (t .places) (t .skip) r);
       still-open = λ w i x d.
           let o : (x ≡ []) ⊎ IsOpen (pairWays h n (t .places)) (firstAt (length (t .places)) i) x = rw d at (search-leads terms h n (t .places) (t .skip) r) in
-          (o, open-once (pairWays h n (t .places)) (rank (unroll p) n) (pairs (length (t .places)) n) (rw e (falls (unroll p) l h n)) o, λ y m. All-at (Out (walkedOn terms t nums labs .state .0)) m (rw d at (task-out p g t e nums labs terms le)));
-      failed = rw e (failed-no-path (unroll p) l h n terms le (t .skip) r);
-      pairs-kept = rw e (search-kept (unroll p) l h n terms le (t .skip) r);
-      like-all = task-follows p g t e nums labs terms le .0;
-      like-first = task-follows p g t e nums labs terms le .1;
+          (o, open-once (pairWays h n (t .places)) (rank (unroll p) n) (pairs (length (t .places)) n) (rw e (falls (unroll p) h n)) o, λ y m. All-at (Out (walkedOn terms t nums labs .state .0)) m (rw d at (task-out p t e nums labs terms le)));
+      failed = rw e (failed-no-path (unroll p) h n terms le (t .skip) r);
+      pairs-kept = rw e (search-kept (unroll p) h n terms le (t .skip) r);
+      like-all = task-follows p t e nums labs terms le .0;
+      like-first = task-follows p t e nums labs terms le .1;
     }
 
 -- ---- the report and the notes
@@ -165,10 +165,24 @@ pub search-accepted : (a : Option ℕ) (q : List ℕ) (rows : List ℤ) (lent : 
 unfolding searchWithin
 search-accepted a q rows lent ok = rw (accepted-within q rows lent a ok)
 
+-- ---- places and flags
+
+pub places-all : (q : List ℕ) (rows : List ℤ) (p : Tree pattern) → Bounds p → treeIn q ≡ some p → length (taskOf q rows .places) ≡ P (treeIn q) * F (treeIn q)
+unfolding P F
+places-all q rows p o e = ap length (places-are q rows p e) ∙ places-counted p o ∙ rw e
+
+pub flags-unused : (p : Tree pattern) → Bounds p → (t : Task) → t .places ≡ places (unroll p) → (nums labs : ℕ) (terms : Terms) (x : ℕ) → getD (walkedOn terms t nums labs .state .0) x false ≡ true
+    → x % factorOf p < 2 ^ flagsAt (unroll p) (x / factorOf p % placesOf p)
+unfolding walkedOn factorOf
+flags-unused p o t e nums labs terms x h =
+    let s : suc (size (unroll p)) ≡ placesOf p = omega (arith, unroll-size p) in
+    let h′ : getD (walkSearch terms (letterHolds t) (t .table .n) (places (unroll p)) (t .skip) (fits nums labs (t .measures)) .state .0) x false ≡ true = rw e at h in
+    rw (← nest-counted p o, ← s) (unused-zero (unroll p) terms (letterHolds t) (t .table .n) (t .skip) (fits nums labs (t .measures)) x h′)
+
 -- document 01's search of a pattern does not halt
-task-finished : (p : Tree pattern) (g : emptyLoop p ≡ false) (t : Task) (e : t .places ≡ places (unroll p)) (nums labs : ℕ) → Finished (walkedOn (whole (t .table .n)) t nums labs .end)
+task-finished : (p : Tree pattern) (t : Task) (e : t .places ≡ places (unroll p)) (nums labs : ℕ) → Finished (walkedOn (whole (t .table .n)) t nums labs .end)
 unfolding walkedOn
-task-finished p g t e nums labs = rw e (walk-finished (unroll p) (legal-unroll p g) (letterHolds t) (t .table .n) (t .skip) (fits nums labs (t .measures)))
+task-finished p t e nums labs = rw e (walk-finished (unroll p) (letterHolds t) (t .table .n) (t .skip) (fits nums labs (t .measures)))
 
 -- a search that has halted for steps has the answer 16
 halted-16 : (e : End Match) → EndNoWait e → (endAnswer e ≡ 16 → ⊥) → Finished e
@@ -192,20 +206,24 @@ module _ (a : Option ℕ) (q : List ℕ) (rows : List ℤ) (lent : Buffers) (ok 
   places-in : t .places ≡ places (unroll (g .tree))
   places-in = places-are q rows (g .tree) (g .has-tree)
 
-  counted : length (t .places) ≡ placesOf (g .tree)
-  counted = ap length places-in ∙ places-counted (g .tree)
+  bounds : Bounds (g .tree)
+  unfolding treeIn
+  bounds = written-bounds (tree-exactly (textOf q) (g .tree) .0 (g .has-tree))
+
+  counted : length (t .places) ≡ placesOf (g .tree) * factorOf (g .tree)
+  counted = ap length places-in ∙ places-counted (g .tree) bounds
 
   third-in : Demand3 t (t .table .n) r (plainOf q rows lent)
   unfolding walkWithin plainOf
-  third-in = third (g .tree) (g .no-empty-loop) t places-in (length (lent .numbers)) (length (lent .labels)) (within a (t .table .n)) (omega arith)
+  third-in = third (g .tree) t places-in (length (lent .numbers)) (length (lent .labels)) (within a (t .table .n)) (omega arith)
 
-  kept-all : length (r .state .0) ≡ pairs (placesOf (g .tree)) (t .table .n)
+  kept-all : length (r .state .0) ≡ pairs (placesOf (g .tree) * factorOf (g .tree)) (t .table .n)
   kept-all = third-in .pairs-kept ∙ ap (λ (k : ℕ). pairs k (t .table .n)) counted
 
   abbrev m : Memory
   m = accepted (reportWithin a q rows lent) (r .state) lent
 
-  noted-in : (x : ℕ) → x < 8 * bytesFor (pairs (placesOf (g .tree)) (t .table .n)) → bitAt (m .buffers .notes) x ≡ getD (r .state .0) x false
+  noted-in : (x : ℕ) → x < 8 * bytesFor (pairs (placesOf (g .tree) * factorOf (g .tree)) (t .table .n)) → bitAt (m .buffers .notes) x ≡ getD (r .state .0) x false
   unfolding accepted bitAt
   noted-in x h =
       let F : List Bool = r .state .0 in
@@ -213,13 +231,13 @@ module _ (a : Option ℕ) (q : List ℕ) (rows : List ℤ) (lent : Buffers) (ok 
       let l : x / 8 < length (notesOf F) = rw (length-notes F) (omega arith) in
       rw (front-wrote (lent .notes) (notesOf F) (x / 8) 0 l) (noted F x h′)
 
-  trail-in : m .buffers .trail ≡ wrote (lent .trail) 0 (zeros (pairs (placesOf (g .tree)) (t .table .n)))
+  trail-in : m .buffers .trail ≡ wrote (lent .trail) 0 (zeros (pairs (placesOf (g .tree) * factorOf (g .tree)) (t .table .n)))
   unfolding accepted
   trail-in = ap (λ (k : ℕ). wrote (lent .trail) 0 (zeros k)) kept-all
 
-  notes-behind : drop (bytesFor (pairs (placesOf (g .tree)) (t .table .n))) (m .buffers .notes) ≡ drop (bytesFor (pairs (placesOf (g .tree)) (t .table .n))) (lent .notes)
+  notes-behind : drop (bytesFor (pairs (placesOf (g .tree) * factorOf (g .tree)) (t .table .n))) (m .buffers .notes) ≡ drop (bytesFor (pairs (placesOf (g .tree) * factorOf (g .tree)) (t .table .n))) (lent .notes)
   unfolding accepted
-  notes-behind = behind-wrote (lent .notes) (notesOf (r .state .0)) (bytesFor (pairs (placesOf (g .tree)) (t .table .n))) (length-notes (r .state .0) ∙ ap bytesFor kept-all)
+  notes-behind = behind-wrote (lent .notes) (notesOf (r .state .0)) (bytesFor (pairs (placesOf (g .tree) * factorOf (g .tree)) (t .table .n))) (length-notes (r .state .0) ∙ ap bytesFor kept-all)
 
   report-in : (reportIn m ≡ reportWithin a q rows lent) × (m .result .answer ≡ endAnswer (r .end))
   unfolding accepted reportWithin reportOf
@@ -266,7 +284,7 @@ module _ (a : Option ℕ) (q : List ℕ) (rows : List ℤ) (lent : Buffers) (ok 
 
   finishes : a ≡ none → Finished (r .end)
   unfolding walkWithin
-  finishes n = rw n (task-finished (g .tree) (g .no-empty-loop) t places-in (length (lent .numbers)) (length (lent .labels)))
+  finishes n = rw n (task-finished (g .tree) t places-in (length (lent .numbers)) (length (lent .labels)))
 
   finishes-by : (m .result .answer ≡ 16 → ⊥) → Finished (r .end)
   finishes-by d = halted-16 (r .end) (no-waiting a q rows lent) (λ e. d (report-in .1 ∙ e))
@@ -279,8 +297,9 @@ module _ (a : Option ℕ) (q : List ℕ) (rows : List ℤ) (lent : Buffers) (ok 
       record {
         tree = p;
         written = w;
+        counted = places-all q rows p bounds (g .has-tree);
         P-counted = counted;
-        demand2 = second p (g .no-empty-loop) t places-in (length (lent .numbers)) (length (lent .labels)) (within a (t .table .n)) (omega arith) (written-bounds w);
+        demand2 = second p t places-in (length (lent .numbers)) (length (lent .labels)) (within a (t .table .n)) (omega arith) (written-bounds w);
         demand3 = third-in;
         finished = finishes;
         not-halted = finishes-by;
@@ -290,6 +309,7 @@ module _ (a : Option ℕ) (q : List ℕ) (rows : List ℤ) (lent : Buffers) (ok 
         bound-each = rw (steps-in, ← counted) (third-in .bound-each);
         sum = steps-in ∙ third-in .sum;
         noted = noted-in;
+        unused = flags-unused p bounds t places-in (length (lent .numbers)) (length (lent .labels)) (within a (t .table .n));
         trail = trail-in;
         notes-beyond = notes-behind;
         matches = counts-in .0;
@@ -309,22 +329,22 @@ demands a q rows lent after e ok = rw (e, search-accepted a q rows lent ok) (dem
 
 -- ---- allowances
 
-module _ (p : Tree pattern) (g : emptyLoop p ≡ false) (t : Task) (e : t .places ≡ places (unroll p)) (nums labs : ℕ) where
+module _ (p : Tree pattern) (t : Task) (e : t .places ≡ places (unroll p)) (nums labs : ℕ) where
   task-larger : (a b : ℕ) → a ≤ b → Begins (walkedOn (within (some a) (t .table .n)) t nums labs .matches) (walkedOn (within (some b) (t .table .n)) t nums labs .matches)
   unfolding walkedOn
-  task-larger a b h = rw e (allows-begins (unroll p) (legal-unroll p g) (t .skip) (fits nums labs (t .measures)) (letterHolds t) (t .table .n) (some a) (some b) h)
+  task-larger a b h = rw e (allows-begins (unroll p) (t .skip) (fits nums labs (t .measures)) (letterHolds t) (t .table .n) (some a) (some b) h)
 
   task-done : (a : ℕ) → Finished (walkedOn (within (some a) (t .table .n)) t nums labs .end) → walkedOn (within (some a) (t .table .n)) t nums labs ≡ walkedOn (whole (t .table .n)) t nums labs
   unfolding walkedOn
-  task-done a = rw e (λ f. sym (finished-whole (unroll p) (legal-unroll p g) (t .skip) (fits nums labs (t .measures)) (letterHolds t) (t .table .n) (some a) f))
+  task-done a = rw e (λ f. sym (finished-whole (unroll p) (t .skip) (fits nums labs (t .measures)) (letterHolds t) (t .table .n) (some a) f))
 
   task-unpassed : (a : ℕ) → walkedOn (whole (t .table .n)) t nums labs .state .1 ≤ a → walkedOn (within (some a) (t .table .n)) t nums labs ≡ walkedOn (whole (t .table .n)) t nums labs
   unfolding walkedOn
-  task-unpassed a = rw e (search-allowed (unroll p) (legal-unroll p g) (t .skip) (fits nums labs (t .measures)) (letterHolds t) (t .table .n) a)
+  task-unpassed a = rw e (search-allowed (unroll p) (t .skip) (fits nums labs (t .measures)) (letterHolds t) (t .table .n) a)
 
   task-enough : t .skip ≡ pastLast → (a : ℕ) → 2 * pairs (length (t .places)) (t .table .n) ≤ a → walkedOn (within (some a) (t .table .n)) t nums labs ≡ walkedOn (whole (t .table .n)) t nums labs
   unfolding walkedOn
-  task-enough s a = rw (s, e) (allowance-enough (unroll p) (legal-unroll p g) (fits nums labs (t .measures)) (letterHolds t) (t .table .n) a)
+  task-enough s a = rw (s, e) (allowance-enough (unroll p) (fits nums labs (t .measures)) (letterHolds t) (t .table .n) a)
 
 -- a search within an allowance leaves what the walk does
 walk-decides : (a b : Option ℕ) (q : List ℕ) (rows : List ℤ) (lent : Buffers) → walkWithin a q rows lent ≡ walkWithin b q rows lent → searchWithin a q rows lent ≡ searchWithin b q rows lent
@@ -345,8 +365,8 @@ allowing q rows lent ok =
     record {
       kept-to = λ a. end-within a (walkWithin (some a) q rows lent .end) (walkWithin (some a) q rows lent .state .1) (to a);
       used-up = λ a i p d. rw d at (to a);
-      done = λ b f. walk-decides (some b) none q rows lent (task-done p (a .no-empty-loop) t e nums labs b f);
-      larger = task-larger p (a .no-empty-loop) t e nums labs;
-      unpassed = λ b h. walk-decides (some b) none q rows lent (task-unpassed p (a .no-empty-loop) t e nums labs b h);
-      enough = λ s b h. walk-decides (some b) none q rows lent (task-enough p (a .no-empty-loop) t e nums labs s b h);
+      done = λ b f. walk-decides (some b) none q rows lent (task-done p t e nums labs b f);
+      larger = task-larger p t e nums labs;
+      unpassed = λ b h. walk-decides (some b) none q rows lent (task-unpassed p t e nums labs b h);
+      enough = λ s b h. walk-decides (some b) none q rows lent (task-enough p t e nums labs s b h);
     }

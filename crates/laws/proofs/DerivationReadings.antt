@@ -1,16 +1,21 @@
 -- Derivations against readings: a phrase reads rows exactly if one of its derivations parses them
--- (`reads-is`), and a derivation settles its labels and its end (`parses-word`).
-use mathlib.Core.Path.{_≡_, refl, ap, ap₂, sym, _∙_}
+-- (`reads-is`), and a derivation settles its labels and its end (`parses-word`). With R-3 too:
+-- every reading has a derivation that keeps its rule (`reads-kept`).
+use mathlib.Core.Path.{_≡_, refl, ap, ap₂, sym, _∙_, subst}
 use mathlib.Core.List.{List, [], _∷_, _++_, flatMap}
-use mathlib.Core.Bool.{Bool}
+use mathlib.Core.Bool.{Bool, true}
 use mathlib.Core.Logic.{inl, inr, ⊎-elim, _↔_}
-use Prim.Native.Nat.{ℕ, zero, suc, _+_}
+use Prim.Native.Nat.{ℕ, zero, suc, _+_, _≤_, _<_, zero-le, suc-le-suc}
 use native.Mathlib.Omega.{arith}
 use lib.ListN.{length, length-append}
-use Rattle.rules.specs.Clause627.{word}
-use Rattle.rules.specs.Language.{Rank, Tree, one, more, last, next, bare, times, letter, caret, dollar, empty, group}
-use Rattle.rules.specs.Preferment.{Derivation, InTurn, Parses}
-use Rattle.rules.specs.Readings.{Rounds, Reads}
+use Rattle.rules.specs.Language.{Rank, Tree, one, more, last, next, bare, times, letter, caret, dollar, empty, group, lower, upper, primary}
+use Rattle.rules.specs.Preferment.{Derivation, InTurn, Parses, word, emptyEnds, emptyEndsIn, keeps}
+use Rattle.rules.specs.Readings.{Rounds, Reads, Within}
+use mathlib.Core.Option.{Option, none, some}
+use native.Mathlib.Nat.{le-of-suc-le-suc, not-suc-le-zero}
+use borrow.Author.Tests.{lt-ltb}
+use Rattle.rules.specs.Basics.{every}
+use Rattle.laws.proofs.Level.{and-true}
 
 -- ---- readings
 
@@ -115,3 +120,90 @@ module _ (holds : ℕ → ℕ → Bool) (n : ℕ) where
       let p = parses-word t d i j w r in
       let q = parses-word t d i j′ w′ s in
       (p .rows ∙ sym (q .rows), p .labels ∙ sym (q .labels))
+
+-- ---- R-3's rule leaves no reading out: rounds that take no row and are not the last may be
+-- dropped
+
+-- d keeps the rule and parses
+abbrev pub KeptParses : {k : Rank} → (t : Tree k) → (ℕ → ℕ → Bool) → ℕ → Derivation t → ℕ → ℕ → List ℕ → Type 0
+KeptParses t holds n d i j w = (keeps t d ≡ true) × Parses t holds n d i j w
+
+ends-cons : {A : Type 0} (f : A → List ℕ) (d : A) (ds : List A) → 0 < length (f d) → emptyEnds f zero ds ≡ true → emptyEnds f zero (d ∷ ds) ≡ true
+unfolding emptyEnds
+ends-cons f d [] h e = refl
+ends-cons f d (c ∷ ds) h e = rw (lt-ltb 0 (length (f d)) h) e
+
+module _ {A : Type 0} (R : A → ℕ → ℕ → List ℕ → Type 0) (f : A → List ℕ) (spelt : (d : A) (i j : ℕ) (w : List ℕ) → R d i j w → Spells w (f d) i j) where
+  abbrev Thinned : ℕ → ℕ → ℕ → List ℕ → Type 0
+  Thinned lo i j w = (es : List A) × (lo ≤ length es) × (emptyEnds f lo es ≡ true) × InTurn R es i j w
+
+  drop-empty : (lo : ℕ) (ds : List A) (i j : ℕ) (w : List ℕ) → lo ≤ length ds → InTurn R ds i j w → Thinned lo i j w
+  unfolding InTurn emptyEnds
+  drop-empty zero [] i j w l r = ([], zero-le, refl, r)
+  drop-empty (suc lo) [] i j w l r = absurd (not-suc-le-zero l)
+  drop-empty (suc lo) (d ∷ ds) i j w l r =
+      let y = drop-empty lo ds (r .0) j (r .2) (le-of-suc-le-suc l) (r .4) in
+      (d ∷ y .0, suc-le-suc (y .1), y .2, (r .0, r .1, r .2, r .3, y .3, r .5))
+  drop-empty zero (d ∷ ds) i j w l r = go (f d) refl (drop-empty zero ds (r .0) j (r .2) zero-le (r .4))
+    where
+      go : (u : List ℕ) → f d ≡ u → Thinned zero (r .0) j (r .2) → Thinned zero i j w
+      go [] e y =
+          let z = spelt d i (r .0) (r .1) (r .3) in
+          let same : r .0 ≡ i = omega (arith, z .rows, ap length e) in
+          let word : w ≡ r .2 = r .5 ∙ ap (λ (u : List ℕ). u ++ r .2) (z .labels ∙ e) in
+          subst (λ (v : List ℕ). Thinned zero i j v) (sym word) (subst (λ (x : ℕ). Thinned zero x j (r .2)) same y)
+      go (c ∷ u) e y = (d ∷ y .0, zero-le, ends-cons f d (y .0) (omega (arith, ap length e)) (y .2), (r .0, r .1, r .2, r .3, y .3, r .5))
+
+-- rounds that each keep the rule
+pub rounds-kept : {A : Type 0} (keep : A → Bool) (S : A → ℕ → ℕ → List ℕ → Type 0) (ds : List A) (i j : ℕ) (w : List ℕ) → InTurn (λ d i j w. (keep d ≡ true) × S d i j w) ds i j w
+    → (every keep ds ≡ true) × InTurn S ds i j w
+unfolding InTurn every
+rounds-kept keep S [] i j w r = (refl, r)
+rounds-kept keep S (d ∷ ds) i j w r =
+    let y = rounds-kept keep S ds (r .0) j (r .2) (r .4) in
+    (rw (r .3 .0) (y .0), (r .0, r .1, r .2, r .3 .1, y .1, r .5))
+
+pub kept-rounds : {A : Type 0} (keep : A → Bool) (S : A → ℕ → ℕ → List ℕ → Type 0) (ds : List A) (i j : ℕ) (w : List ℕ) → every keep ds ≡ true → InTurn S ds i j w
+    → InTurn (λ d i j w. (keep d ≡ true) × S d i j w) ds i j w
+unfolding InTurn every
+kept-rounds keep S [] i j w h r = r
+kept-rounds keep S (d ∷ ds) i j w h r =
+    let g = and-true (keep d) (every keep ds) h in
+    (r .0, r .1, r .2, (g .0, r .3), kept-rounds keep S ds (r .0) j (r .2) (g .1) (r .4), r .5)
+
+module _ (holds : ℕ → ℕ → Bool) (n : ℕ) where
+  kept-word : {k : Rank} (t : Tree k) (d : Derivation t) (i j : ℕ) (w : List ℕ) → KeptParses t holds n d i j w → Spells w (word t d) i j
+  kept-word t d i j w r = parses-word holds n t d i j w (r .1)
+
+  -- rounds that keep the rule, and of an unbounded quantifier only those that take a row, behind
+  -- the required ones
+  round-list : (x : Tree primary) (lo : ℕ) (hi : Option ℕ) (ds : List (Derivation x)) (i j : ℕ) (w : List ℕ) → lo ≤ length ds → Within (length ds) hi
+      → InTurn (KeptParses x holds n) ds i j w → (es : List (Derivation x)) × ((lo ≤ length es) × Within (length es) hi) × (emptyEndsIn hi (word x) lo es ≡ true) × InTurn (KeptParses x holds n) es i j w
+  unfolding emptyEndsIn
+  round-list x lo none ds i j w l h r = let y = drop-empty (KeptParses x holds n) (word x) (kept-word x) lo ds i j w l r in (y .0, (y .1, tt), y .2, y .3)
+  round-list x lo (some hi) ds i j w l h r = (ds, (l, h), refl, r)
+
+  pub reads-kept : {k : Rank} (t : Tree k) (i j : ℕ) (w : List ℕ) → Reads t holds n i j w → (d : Derivation t) × KeptParses t holds n d i j w
+  unfolding Reads Derivation Parses keeps
+  reads-kept (one b) i j w m = reads-kept b i j w m
+  reads-kept (more b p) i j w m =
+      ⊎-elim
+      (λ (x : Reads b holds n i j w). let y = reads-kept b i j w x in (inl (y .0), y .1))
+      (λ (x : Reads p holds n i j w). let y = reads-kept p i j w x in (inr (y .0), y .1))
+      m
+  reads-kept (last f) i j w m = reads-kept f i j w m
+  reads-kept (next f b) i j w m =
+      let x = reads-kept f i (m .0) (m .1) (m .3) in
+      let y = reads-kept b (m .0) j (m .2) (m .4) in
+      ((x .0, y .0), (rw (x .1 .0) (y .1 .0), (m .0, m .1, m .2, x .1 .1, y .1 .1, m .5)))
+  reads-kept (bare x) i j w m = reads-kept x i j w m
+  reads-kept (times x f z) i j w m =
+      let y = rounds-in (λ i j w. Reads x holds n i j w) (KeptParses x holds n) (λ i j w r. reads-kept x i j w r) (m .0) i j w (m .3) in
+      let e = round-list x (lower f) (upper f) (y .0) i j w (rw (y .1) (m .1)) (rw (y .1) (m .2)) (y .2) in
+      let g = rounds-kept (λ d. keeps x d) (Parses x holds n) (e .0) i j w (e .3) in
+      ((e .0, e .1), (rw (e .2) (g .0), g .1))
+  reads-kept (letter c) i j w m = (tt, (refl, m))
+  reads-kept caret i j w m = (tt, (refl, m))
+  reads-kept dollar i j w m = (tt, (refl, m))
+  reads-kept empty i j w m = (tt, (refl, m))
+  reads-kept (group p) i j w m = reads-kept p i j w m

@@ -10,10 +10,10 @@ use native.Mathlib.Omega.{arith}
 use lib.ListN.{length}
 use lib.Dec.{eqb}
 use Rattle.rules.specs.Basics.{every}
-use Rattle.rules.specs.Clause627.{word, emptyLate, allowed, Preferred627}
-use Rattle.rules.specs.Language.{between, pattern, primary, Tree, one, more, last, next, bare, times, letter, empty, group, emptyLoop}
+use Rattle.rules.specs.Clause627.{emptyLate, allowed, Preferred627}
+use Rattle.rules.specs.Language.{between, pattern, primary, Tree, one, more, last, next, bare, times, letter, empty, group}
 use Rattle.rules.specs.Places.{unroll, places}
-use Rattle.rules.specs.Preferment.{Derivation, InTurn, Parses, RoundByRound, Prefers, Preferred}
+use Rattle.rules.specs.Preferment.{Derivation, InTurn, Parses, RoundByRound, Prefers, Preferred, word}
 use Rattle.rules.specs.Search.{labels}
 use Rattle.rules.specs.Walk.{pairWays, plain}
 use Rattle.laws.proofs.Bounds.{Bounds}
@@ -34,9 +34,9 @@ rows c (suc (suc i)) = eqb c 67
 
 -- document 01: through ( ( ) (B D) ) C
 pub by-places : Preferred differs rows 3 0 3 (66 ∷ 68 ∷ 67 ∷ [])
-unfolding emptyLoop Bounds labels unroll places pairWays plain
+unfolding Bounds labels unroll places pairWays plain
 by-places =
-    found-is-greatest differs refl ((((omega arith, omega arith, omega arith), (tt, (tt, (tt, tt)))), tt)) rows 3 0 3 (66 ∷ 68 ∷ 67 ∷ []) .0
+    found-is-greatest differs ((((omega arith, omega arith, omega arith), (tt, (tt, (tt, tt)))), tt)) rows 3 0 3 (66 ∷ 68 ∷ 67 ∷ []) .0
     (0 ∷ 1 ∷ 5 ∷ 6 ∷ 8 ∷ 21 ∷ 34 ∷ 47 ∷ [], (refl, refl, refl))
 
 -- ---- the clause: through (A A) C

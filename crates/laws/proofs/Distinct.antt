@@ -14,7 +14,6 @@ use Rattle.rules.specs.Basics.{has}
 use Rattle.rules.specs.Places.{Unrolled, Place, pLetter, pCaret, pDollar, pFork, pEnd, places}
 use Rattle.rules.specs.Search.{Skip, Attempted, hit, miss, halts, Swept, Plan, ended, noStart, below, withMatch, byFit, byNext, onAnswer, sweep, Kept, answered, walkAt, labelOf, labels, asksRow, Terms, haltingOf, planOf, walkSearch}
 use Rattle.rules.specs.Walk.{Ways, accept, try, Halting, Outcome, found, failed, halted, orElse, close, enterUnless, tries, inside, insideBy, orNext, firstOf, onto, plain, plainBy, passIf, waysAt, pairWays, pairs, pairAt, placeOf, positionOf, firstAt}
-use Rattle.laws.proofs.Level.{legal}
 use Rattle.laws.proofs.Rank.{rank}
 use Rattle.laws.proofs.PatternWalk.{falls-in, top-in, starts-in}
 use Rattle.laws.proofs.Walk.{All-map, InsidePost, inside-post}
@@ -270,12 +269,12 @@ plan-thin pl n more skip fits =
 
 -- The counted walk over thinned places is the walk over the places, on any terms: the same matches,
 -- failed pairs and steps.
-module _ (t : Unrolled) (g : legal t ≡ true) (holds : ℕ → ℕ → Bool) (n : ℕ) (terms : Terms) (le : n ≤ terms .largest) (skip : Skip) (fits : ℕ → ℕ → List ℕ → Bool) where
+module _ (t : Unrolled) (holds : ℕ → ℕ → Bool) (n : ℕ) (terms : Terms) (le : n ≤ terms .largest) (skip : Skip) (fits : ℕ → ℕ → List ℕ → Bool) where
   pub walk-thin : walkSearch terms holds n (thinned (places t)) skip fits ≡ walkSearch terms holds n (places t) skip fits
   unfolding walkSearch
   walk-thin =
       let N : ℕ = pairs (length (places t)) (terms .largest) in
       let e : pairWays holds n (thinned (places t)) ≡ (λ x. thin (pairWays holds n (places t) x)) = λ i x. thin-pairs holds n (places t) x i in
       rw (plan-thin (places t) n (terms .more) skip fits, halting-thin terms (places t) n, e, thinned-length (places t))
-      (search-thin (haltingOf terms (places t) n) (pairWays holds n (places t)) (rank t n) N (falls-in t g holds n (terms .largest) le) N (top-in t g holds n (terms .largest) le) (firstAt (length (places t)))
-      (planOf (places t) n (terms .more) skip fits) (λ i h. starts-in t g holds n (terms .largest) le i h .0) n 0 0 0 (replicate N false, 0) (length-replicate _ _))
+      (search-thin (haltingOf terms (places t) n) (pairWays holds n (places t)) (rank t n) N (falls-in t holds n (terms .largest) le) N (top-in t holds n (terms .largest) le) (firstAt (length (places t)))
+      (planOf (places t) n (terms .more) skip fits) (λ i h. starts-in t holds n (terms .largest) le i h .0) n 0 0 0 (replicate N false, 0) (length-replicate _ _))

@@ -15,7 +15,7 @@ use Rattle.rules.specs.Search.{Attempted, hit, miss, halts, Swept, Plan, ended,
 use Rattle.rules.specs.Walk.{Ways, accept, try, Halting, Outcome, found, failed, halted, orElse, close, enterUnless, tries, inside, insideBy, countTrue}
 use Rattle.laws.proofs.Bound.{path-apart, path-pairs, path-closed}
 use Rattle.laws.proofs.Plain.{plain-path, Sound, InsideSound, inside-sound}
-use Rattle.laws.proofs.Swept.{Unhalting, Unhalted, inside-unhalted, Answered, walk-sure}
+use Rattle.laws.proofs.Swept.{Unhalting, Unhalted, inside-unhalted, Answered, walk-sure, sweep-keeps}
 use Rattle.laws.proofs.Walk.{All-map, All-map₂, mark-in, count-mark, count-le, out-mark, Apart, InsidePost, inside-post}
 use Rattle.rules.specs.Working.{All, Falls, In, Out}
 
@@ -62,6 +62,25 @@ module _ (Q : ℕ → Type 0) where
       go ih true v e = λ z i. inl i
       go ih false accept e = λ z i. inl i
       go ih false (try ys) e = new-close F x (tries w (inside w ways k) F s ys) q (tries-new w (inside w ways k) ih ys (cl x ys e q) F s)
+
+  -- in a whole search only pairs with Q fail, if the starts have Q and ways keep it, whatever may
+  -- halt the walk
+  pub search-new : (w : Halting) (ways : ℕ → Ways) → Closed ways Q → (K : ℕ) (first : ℕ → ℕ) → ((i : ℕ) → Q (first i)) → (plan : Plan) (k i m l : ℕ) (st : Kept) → ((z : ℕ) → In (st .0) z → Q z)
+      → (z : ℕ) → In (sweep (walkAt w ways K first) plan k i m l st .state .0) z → Q z
+  search-new w ways cl K first qf plan = sweep-keeps (λ (st : Kept). (z : ℕ) → In (st .0) z → Q z) (walkAt w ways K first) one plan
+    where
+      one : (i : ℕ) (a : Kept) → ((z : ℕ) → In (a .0) z → Q z) → (z : ℕ) → In (walkAt w ways K first i a .1 .0) z → Q z
+      one i a h = go (getD (a .0) (first i) false) (w .spent (a .1))
+        where
+          on : (r : Outcome) → New (a .0) r → (z : ℕ) → In (answered r .1 .0) z → Q z
+          on (found p F s) n z j = ⊎-elim (λ x. h z x) (λ x. x) (n z j)
+          on (failed F s) n z j = ⊎-elim (λ x. h z x) (λ x. x) (n z j)
+          on (halted v p F s) n z j = ⊎-elim (λ x. h z x) (λ x. x) (n z j)
+
+          go : (t u : Bool) → (z : ℕ) → In (answered (enterUnless t u (inside w ways K) (a .0) (a .1) (first i)) .1 .0) z → Q z
+          go true u z j = h z j
+          go false true z j = h z j
+          go false false z j = on (inside w ways K (a .0) (suc (a .1)) (first i)) (inside-new w ways cl K (a .0) (suc (a .1)) (first i) (qf i)) z j
 
 -- ---- counting from a on
 

@@ -1,21 +1,22 @@
--- Where clause 6.2.7 of ISO/IEC 19075-5 leaves nothing out: if no quantifier over a body that can
--- take no row allows an optional round behind another round, every derivation is allowed
--- (`all-allowed`), so document 01 and the clause choose the same match (`same-match`).
--- proofs/Differs shows that they may differ elsewhere.
-use mathlib.Core.Path.{_≡_, refl}
+-- Clause 6.2.7 of ISO/IEC 19075-5 against R-3: where no bounded quantifier over a body that can
+-- take no row allows an optional round behind another round, and each unbounded one has lower bound
+-- 0, both leave the same derivations (`same-language`), so they choose the same match
+-- (`same-match`). proofs/Differs shows that they may differ elsewhere. And where no quantifier over
+-- such a body is unbounded, R-3 leaves nothing out (`base-kept`).
+use mathlib.Core.Path.{_≡_, refl, ap, sym, _∙_}
 use mathlib.Core.List.{List, [], _∷_, _++_, flatMap}
-use mathlib.Core.Bool.{Bool, true, false, not, _||_, true≢false, false≢true}
+use mathlib.Core.Bool.{Bool, true, false, not, _||_, true≢false, _&&_}
 use mathlib.Core.Logic.{_⊎_, inl, inr, ⊎-elim, _↔_}
 use mathlib.Core.Option.{Option, none, some}
-use Prim.Native.Nat.{ℕ, _-_, _≤_, _<_}
+use Prim.Native.Nat.{ℕ, _-_, _≤_, _<_, zero, suc}
 use native.Mathlib.Omega.{arith}
 use lib.ListN.{length, length-append}
 use lib.Dec.{ltb, leb, eqb}
-use borrow.Author.Tests.{eqb-false, lt-ltb, le-leb, leb-true, not-true}
+use borrow.Author.Tests.{eqb-false, lt-ltb, le-leb, leb-true, not-true, eqb-true}
 use Rattle.rules.specs.Basics.{every}
-use Rattle.rules.specs.Clause627.{word, emptyLate, allowed, Preferred627, atMostOne, noOptionalBehind}
-use Rattle.rules.specs.Language.{lower, upper, Rank, Tree, one, more, last, next, bare, times, letter, caret, dollar, empty, group, nullable}
-use Rattle.rules.specs.Preferment.{Derivation, Preferred}
+use Rattle.rules.specs.Clause627.{emptyLate, allowed, Preferred627, sameRounds, likeClause}
+use Rattle.rules.specs.Language.{lower, upper, Rank, Tree, one, more, last, next, bare, times, letter, caret, dollar, empty, group, nullable, unbounded, deeper, loopNesting, primary}
+use Rattle.rules.specs.Preferment.{Derivation, Preferred, word, emptyEnds, emptyEndsIn, keeps}
 use Rattle.rules.specs.Readings.{Within}
 use Rattle.laws.proofs.Level.{and-true, and-false, or-false}
 
@@ -50,7 +51,7 @@ takes-row dollar h d = absurd (true≢false h)
 takes-row empty h d = absurd (true≢false h)
 takes-row (group p) h d = takes-row p h d
 
--- ---- there the two languages are the same
+-- ---- where the two languages are the same
 
 or-cases : (a b : Bool) → (a || b) ≡ true → (a ≡ true) ⊎ (b ≡ true)
 or-cases true b e = inl refl
@@ -74,43 +75,96 @@ late-few f lo (d ∷ e ∷ ds) h =
     let l : length (d ∷ e ∷ ds) ≤ lo = ⊎-elim (λ (x : length (d ∷ e ∷ ds) ≤ lo). x) (λ (x : length (d ∷ e ∷ ds) ≤ 1). absurd (omega arith)) h in
     rw (le-leb 2 lo (omega arith)) (late-few f (lo - 1) (e ∷ ds) (inl (omega arith)))
 
-late : {A : Type 0} (f : A → List ℕ) (lo : ℕ) (hi : Option ℕ) (ds : List A) → Within (length ds) hi → atMostOne lo hi ≡ true → emptyLate f lo ds ≡ true
-unfolding atMostOne
-late f lo none ds w m = absurd (false≢true m)
-late f lo (some hi) ds w m =
-    late-few f lo ds
-    (⊎-elim (λ (x : leb hi lo ≡ true). inl (omega (arith, leb-true hi lo x))) (λ (x : leb hi 1 ≡ true). inr (omega (arith, leb-true hi 1 x))) (or-cases (leb hi lo) (leb hi 1) m))
+ends-row : {A : Type 0} (f : A → List ℕ) → ((d : A) → 0 < length (f d)) → (lo : ℕ) (ds : List A) → emptyEnds f lo ds ≡ true
+unfolding emptyEnds
+ends-row f h lo [] = refl
+ends-row f h (suc lo) (d ∷ ds) = ends-row f h lo ds
+ends-row f h zero (d ∷ []) = refl
+ends-row f h zero (d ∷ e ∷ ds) = rw (lt-ltb 0 (length (f d)) (h d)) (ends-row f h zero (e ∷ ds))
+
+ends-row-in : {A : Type 0} (hi : Option ℕ) (f : A → List ℕ) → ((d : A) → 0 < length (f d)) → (lo : ℕ) (ds : List A) → emptyEndsIn hi f lo ds ≡ true
+unfolding emptyEndsIn
+ends-row-in none f h lo ds = ends-row f h lo ds
+ends-row-in (some hi) f h lo ds = refl
+
+-- with lower bound 0 a round that takes no row is the last for both
+ends-late : {A : Type 0} (f : A → List ℕ) (ds : List A) → emptyEnds f 0 ds ≡ emptyLate f 0 ds
+unfolding emptyEnds emptyLate
+ends-late f [] = refl
+ends-late f (d ∷ []) = refl
+ends-late f (d ∷ e ∷ ds) = ap (λ (b : Bool). ltb 0 (length (f d)) && b) (ends-late f (e ∷ ds))
+
+same-in : {A : Type 0} (f : A → List ℕ) (lo : ℕ) (hi : Option ℕ) (ds : List A) → Within (length ds) hi → sameRounds lo hi ≡ true → emptyEndsIn hi f lo ds ≡ emptyLate f lo ds
+unfolding emptyEndsIn sameRounds
+same-in f lo none ds w m = let z : lo ≡ 0 = eqb-true lo 0 m in rw z (ends-late f ds)
+same-in f lo (some hi) ds w m =
+    sym (late-few f lo ds
+    (⊎-elim (λ (x : leb hi lo ≡ true). inl (omega (arith, leb-true hi lo x))) (λ (x : leb hi 1 ≡ true). inr (omega (arith, leb-true hi 1 x))) (or-cases (leb hi lo) (leb hi 1) m)))
 
 every-all : {A : Type 0} (f : A → Bool) → ((x : A) → f x ≡ true) → (xs : List A) → every f xs ≡ true
 unfolding every
 every-all f h [] = refl
 every-all f h (x ∷ xs) = rw (h x) (every-all f h xs)
 
-pub all-allowed : {k : Rank} (t : Tree k) → noOptionalBehind t ≡ true → (d : Derivation t) → allowed t d ≡ true
-unfolding Derivation allowed noOptionalBehind
-all-allowed (one b) h d = all-allowed b h d
-all-allowed (more b p) h (inl d) = all-allowed b (and-true (noOptionalBehind b) (noOptionalBehind p) h .0) d
-all-allowed (more b p) h (inr d) = all-allowed p (and-true (noOptionalBehind b) (noOptionalBehind p) h .1) d
-all-allowed (last f) h d = all-allowed f h d
-all-allowed (next f b) h d =
-    let g = and-true (noOptionalBehind f) (noOptionalBehind b) h in
-    rw (all-allowed f (g .0) (d .0)) (all-allowed b (g .1) (d .1))
-all-allowed (bare x) h d = all-allowed x h d
-all-allowed (times x f z) h d =
-    let g = and-true (not (nullable x) || atMostOne (lower f) (upper f)) (noOptionalBehind x) h in
-    let l : emptyLate (word x) (lower f) (d .0) ≡ true =
-    ⊎-elim (λ (y : not (nullable x) ≡ true). late-row (word x) (takes-row x (not-true (nullable x) y)) (lower f) (d .0))
-    (λ (y : atMostOne (lower f) (upper f) ≡ true). late (word x) (lower f) (upper f) (d .0) (d .1 .1) y) (or-cases (not (nullable x)) (atMostOne (lower f) (upper f)) (g .0)) in
-    rw l (every-all (λ y. allowed x y) (λ y. all-allowed x (g .1) y) (d .0))
-all-allowed (letter c) h d = refl
-all-allowed caret h d = refl
-all-allowed dollar h d = refl
-all-allowed empty h d = refl
-all-allowed (group p) h d = all-allowed p h d
+every-same : {A : Type 0} (f g : A → Bool) → ((x : A) → f x ≡ g x) → (xs : List A) → every f xs ≡ every g xs
+unfolding every
+every-same f g h [] = refl
+every-same f g h (x ∷ xs) = rw (h x, every-same f g h xs)
+
+pub same-language : {k : Rank} (t : Tree k) → likeClause t ≡ true → (d : Derivation t) → keeps t d ≡ allowed t d
+unfolding Derivation keeps allowed likeClause
+same-language (one b) h d = same-language b h d
+same-language (more b p) h (inl d) = same-language b (and-true (likeClause b) (likeClause p) h .0) d
+same-language (more b p) h (inr d) = same-language p (and-true (likeClause b) (likeClause p) h .1) d
+same-language (last f) h d = same-language f h d
+same-language (next f b) h d =
+    let g = and-true (likeClause f) (likeClause b) h in
+    rw (same-language f (g .0) (d .0), same-language b (g .1) (d .1))
+same-language (bare x) h d = same-language x h d
+same-language (times x f z) h d =
+    let g = and-true (not (nullable x) || sameRounds (lower f) (upper f)) (likeClause x) h in
+    let l : emptyEndsIn (upper f) (word x) (lower f) (d .0) ≡ emptyLate (word x) (lower f) (d .0) =
+    ⊎-elim
+    (λ (y : not (nullable x) ≡ true).
+    let r = takes-row x (not-true (nullable x) y) in
+    ends-row-in (upper f) (word x) r (lower f) (d .0) ∙ sym (late-row (word x) r (lower f) (d .0)))
+    (λ (y : sameRounds (lower f) (upper f) ≡ true). same-in (word x) (lower f) (upper f) (d .0) (d .1 .1) y) (or-cases (not (nullable x)) (sameRounds (lower f) (upper f)) (g .0)) in
+    rw (l, every-same (λ y. keeps x y) (λ y. allowed x y) (λ y. same-language x (g .1) y) (d .0))
+same-language (letter c) h d = refl
+same-language caret h d = refl
+same-language dollar h d = refl
+same-language empty h d = refl
+same-language (group p) h d = same-language p h d
 
 -- so the match is the same
-pub same-match : {k : Rank} {t : Tree k} {holds : ℕ → ℕ → Bool} {n i j : ℕ} {w : List ℕ} → noOptionalBehind t ≡ true → Preferred t holds n i j w ↔ Preferred627 t holds n i j w
+pub same-match : {k : Rank} {t : Tree k} {holds : ℕ → ℕ → Bool} {n i j : ℕ} {w : List ℕ} → likeClause t ≡ true → Preferred t holds n i j w ↔ Preferred627 t holds n i j w
 same-match {t} h = (
-  λ x. record { derivation = x .derivation; kept = all-allowed t h (x .derivation); parses = x .parses; greatest = λ e j w a r l. x .greatest e j w r l },
-  λ x. record { derivation = x .derivation; parses = x .parses; greatest = λ e j w r l. x .greatest e j w (all-allowed t h e) r l },
+  λ x. record { derivation = x .derivation; kept = sym (same-language t h (x .derivation)) ∙ x .kept; parses = x .parses; greatest = λ e j w a r l. x .greatest e j w (same-language t h e ∙ a) r l },
+  λ x. record { derivation = x .derivation; kept = same-language t h (x .derivation) ∙ x .kept; parses = x .parses; greatest = λ e j w a r l. x .greatest e j w (sym (same-language t h e) ∙ a) r l },
 )
+
+-- ---- document 01 alone
+
+base-rounds : (x : Tree primary) (hi : Option ℕ) (lo : ℕ) (s : Bool) → nullable x ≡ s → deeper (unbounded hi && s) (loopNesting x) ≡ 0
+    → (loopNesting x ≡ 0 → (y : Derivation x) → keeps x y ≡ true) → (ds : List (Derivation x)) → (emptyEndsIn hi (word x) lo ds && every (λ y. keeps x y) ds) ≡ true
+unfolding unbounded emptyEndsIn
+base-rounds x none lo true e g ih ds = absurd (omega arith)
+base-rounds x none lo false e g ih ds = rw (ends-row (word x) (takes-row x e) lo ds) (every-all (λ y. keeps x y) (ih g) ds)
+base-rounds x (some hi) lo s e g ih ds = every-all (λ y. keeps x y) (ih g) ds
+
+-- where no quantifier over a body that can take no row is unbounded, R-3's rule leaves nothing out
+pub base-kept : {k : Rank} (t : Tree k) → loopNesting t ≡ 0 → (d : Derivation t) → keeps t d ≡ true
+unfolding Derivation keeps loopNesting
+base-kept (one b) h d = base-kept b h d
+base-kept (more b p) h (inl d) = base-kept b (omega arith) d
+base-kept (more b p) h (inr d) = base-kept p (omega arith) d
+base-kept (last f) h d = base-kept f h d
+base-kept (next f b) h d = rw (base-kept f (omega arith) (d .0)) (base-kept b (omega arith) (d .1))
+base-kept (bare x) h d = base-kept x h d
+base-kept (times x f z) h d =
+    base-rounds x (upper f) (lower f) (nullable x) refl h (λ g y. base-kept x g y) (d .0)
+base-kept (letter c) h d = refl
+base-kept caret h d = refl
+base-kept dollar h d = refl
+base-kept empty h d = refl
+base-kept (group p) h d = base-kept p h d

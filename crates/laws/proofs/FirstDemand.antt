@@ -19,7 +19,7 @@ use Rattle.rules.specs.Walk.{outOfSteps, outOfRows}
 use Rattle.rules.specs.Search.{Match, End, done, full, stuck, unfinished}
 use Rattle.rules.specs.Reader.{treeOf}
 use Rattle.rules.specs.Report.{fits}
-use Rattle.rules.specs.Answers.{tooDeep, treeIn, noTree, hasEmptyLoop, tooMany, foreign, wrong, incomplete, offsetAt, badRows, taskOf, letterHolds, walkedOn, Buffers, shortNotes, shortTrail, Memory, firstOf, queryTests, refusal, refuses, haltAnswer, endAnswer, answerBy, walkWithin, answerWithin, reportWithin, reportOf, refused, accepted, searchWithin}
+use Rattle.rules.specs.Answers.{tooDeep, treeIn, noTree, nestedLoops, tooMany, foreign, wrong, incomplete, offsetAt, badRows, taskOf, letterHolds, walkedOn, Buffers, shortNotes, shortTrail, Memory, firstOf, queryTests, refusal, refuses, haltAnswer, endAnswer, answerBy, walkWithin, answerWithin, reportWithin, reportOf, refused, accepted, searchWithin}
 use Rattle.rules.specs.Demands.{Accepts, Demand1}
 use Rattle.laws.proofs.Accepted.{answer-within, unrefused, tree-of}
 use Rattle.laws.proofs.FirstTrue.{end-accepted}

@@ -1,6 +1,6 @@
 -- The bounds on depth and attempts in the definitions of plain backtracking, the counted walk and
--- the search are large enough: over a graph whose ways fall in rank, and so for every legal
--- pattern, a larger bound gives the same. And no path is longer than the number of pairs.
+-- the search are large enough: over a graph whose ways fall in rank, and so for every pattern, a
+-- larger bound gives the same. And no path is longer than the number of pairs.
 use mathlib.Core.Path.{_≡_, refl, ap}
 use mathlib.Core.List.{List}
 use mathlib.Core.Bool.{Bool, true, false}
@@ -14,7 +14,6 @@ use borrow.Author.Tests.{le-ltb}
 use Rattle.rules.specs.Places.{Unrolled, Place, places}
 use Rattle.rules.specs.Search.{Match, Skip, Attempted, hit, miss, halts, Swept, Plan, ended, noStart, below, byFit, byNext, onAnswer, sweep, answered, walkAt, plainAt, labels, endOf, Terms, haltingOf, planOf, walkSearch, plainSearch}
 use Rattle.rules.specs.Walk.{IsPath, here, there, Ways, pairs, firstAt, pairWays, plain, Halting, enterUnless, inside}
-use Rattle.laws.proofs.Level.{legal}
 use Rattle.laws.proofs.Plain.{plain-fuel}
 use Rattle.laws.proofs.Machine.{inside-fuel}
 use Rattle.laws.proofs.PatternWalk.{falls, top, falls-in, top-in}
@@ -75,21 +74,21 @@ pub plan-on : (pl : List Place) (n : ℕ) (more : Bool) (skip : Skip) (fits : �
 unfolding planOf
 plan-on pl n more skip fits i p j e = next-on skip i (endOf (length pl) p) (labels pl p) j e
 
--- ---- a legal pattern: the number of pairs is enough
+-- ---- a pattern: the number of pairs is enough
 
-module _ (t : Unrolled) (g : legal t ≡ true) (holds : ℕ → ℕ → Bool) (n : ℕ) where
+module _ (t : Unrolled) (holds : ℕ → ℕ → Bool) (n : ℕ) where
   abbrev P : ℕ
   P = length (places t)
 
   pub plain-enough : (K : ℕ) → pairs P n ≤ K → (x : ℕ) → plain (pairWays holds n (places t)) K x ≡ plain (pairWays holds n (places t)) (pairs P n) x
-  plain-enough K h x = plain-fuel (pairWays holds n (places t)) (rank t n) (pairs P n) (falls t g holds n) K (pairs P n) x (le-trans (top t g holds n x) h) (top t g holds n x)
+  plain-enough K h x = plain-fuel (pairWays holds n (places t)) (rank t n) (pairs P n) (falls t holds n) K (pairs P n) x (le-trans (top t holds n x) h) (top t holds n x)
 
   pub inside-enough : (w : Halting) (K : ℕ) → pairs P n ≤ K → (F : List Bool) (s x : ℕ) → inside w (pairWays holds n (places t)) K F s x ≡ inside w (pairWays holds n (places t)) (pairs P n) F s x
-  inside-enough w K h F s x = inside-fuel w (pairWays holds n (places t)) (rank t n) (pairs P n) (falls t g holds n) K (pairs P n) x (le-trans (top t g holds n x) h) (top t g holds n x) F s
+  inside-enough w K h F s x = inside-fuel w (pairWays holds n (places t)) (rank t n) (pairs P n) (falls t holds n) K (pairs P n) x (le-trans (top t holds n x) h) (top t holds n x) F s
 
   -- no path is longer
   pub path-short : (x : ℕ) (p : List ℕ) → IsPath (pairWays holds n (places t)) x p → length p ≤ pairs P n
-  path-short x p h = omega (arith, top t g holds n x, path-length (pairWays holds n (places t)) (rank t n) (pairs P n) (falls t g holds n) h)
+  path-short x p h = omega (arith, top t holds n x, path-length (pairWays holds n (places t)) (rank t n) (pairs P n) (falls t holds n) h)
 
   -- the whole searches, with any larger bounds
   module _ (skip : Skip) (fits : ℕ → ℕ → List ℕ → Bool) (K k : ℕ) (h : pairs P n ≤ K) (l : n ≤ k) where
@@ -121,5 +120,5 @@ module _ (t : Unrolled) (g : legal t ≡ true) (holds : ℕ → ℕ → Bool) (n
         go i F s true u = refl
         go i F s false true = refl
         go i F s false false =
-            inside-fuel w ways (rank t n) N (falls-in t g holds n (terms .largest) le) K N (firstAt P i) (le-trans (top-in t g holds n (terms .largest) le (firstAt P i)) h′)
-            (top-in t g holds n (terms .largest) le (firstAt P i)) F (suc s)
+            inside-fuel w ways (rank t n) N (falls-in t holds n (terms .largest) le) K N (firstAt P i) (le-trans (top-in t holds n (terms .largest) le (firstAt P i)) h′)
+            (top-in t holds n (terms .largest) le (firstAt P i)) F (suc s)

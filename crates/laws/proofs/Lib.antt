@@ -17,17 +17,19 @@ pub mod Bound
 pub mod EachStart
 pub mod Level
 pub mod Rank
-pub mod UnrolledReadings
 pub mod Starts
 pub mod PatternWalk
 pub mod Counting
 pub mod WholePattern
+pub mod UnrolledReadings
 pub mod TreeReadings
 pub mod Fuel
 pub mod GoesOn
 pub mod Padded
 pub mod Allowed
 pub mod Paths
+pub mod UsedFlags
+pub mod Base
 pub mod PrefermentOrder
 pub mod DerivationReadings
 pub mod DerivationPath
@@ -67,3 +69,5 @@ pub mod ThinGoes
 pub mod FirstDemand
 pub mod Lots
 pub mod LotLaws
+pub mod FewWays
+pub mod SameBehind

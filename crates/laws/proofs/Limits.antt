@@ -1,7 +1,7 @@
--- What an implementation may rely on for every accepted search: P is 1 to 256 and the length of the
--- list of places, n at most 4,096, the pairs at most 1,048,832, the matches at most n; what is
--- written fits the lent buffers, so that every buffer keeps its length; the steps fit 64 bits in
--- every skip mode.
+-- What an implementation may rely on for every accepted search: P is 1 to 256, F at most 8, P times
+-- F the length of the list of places, n at most 4,096, the pairs at most 8,390,656, the matches at
+-- most n; what is written fits the lent buffers, so that every buffer keeps its length; the steps
+-- fit 64 bits in every skip mode.
 use mathlib.Core.Path.{_≡_, refl, ap, ap₂, sym, _∙_}
 use mathlib.Core.Bool.{Bool, true, false}
 use mathlib.Core.List.{List, [], _∷_}
@@ -14,20 +14,23 @@ use lib.IntN.{ℤ}
 use lib.ListN.{length, length-append, replicate}
 use borrow.Author.Tests.{leb-true}
 use Rattle.rules.specs.Rows.{Table, tableOf}
-use Rattle.rules.specs.Query.{Measure, columnsOf, parts}
-use Rattle.rules.specs.Places.{Place, unroll, places, placesOf}
+use Rattle.rules.specs.Query.{Measure, columnsOf, parts, textOf}
+use Rattle.rules.specs.Places.{Place, unroll, places, placesOf, factorOf}
 use Rattle.rules.specs.Walk.{pairs, firstAt, pairWays}
 use Rattle.rules.specs.Search.{Match, Skip, Attempted, hit, miss, halts, Swept, Plan, Kept, labels, ended, noStart, below, byFit, byNext, onAnswer, sweep, Terms, within, haltingOf, planOf, walkAt, walkSearch}
 use Rattle.rules.specs.Report.{measureNumbers, matchNumbers, numbersOf, labelsOf, fits, twoOf, measured, notesOf}
-use Rattle.rules.specs.Answers.{Task, taskOf, walkedOn, Buffers, walkWithin, letterHolds, refusal}
-use Rattle.rules.specs.Language.{Tree, pattern}
+use Rattle.rules.specs.Answers.{Task, taskOf, walkedOn, Buffers, walkWithin, letterHolds, refusal, treeIn, P, F}
+use Rattle.rules.specs.Language.{Tree, pattern, loopNesting}
 use Rattle.laws.proofs.Accepted.{granted-when, places-are}
-use Rattle.laws.proofs.Counting.{legal-unroll, places-counted}
-use Rattle.laws.proofs.Level.{and-true, legal}
+use Rattle.laws.proofs.Counting.{places-counted}
+use Rattle.laws.proofs.Level.{and-true}
 use Rattle.laws.proofs.Noted.{length-notes}
 use Rattle.laws.proofs.PatternWalk.{search-kept}
 use Rattle.laws.proofs.Allowed.{search-each}
-use Rattle.laws.proofs.Rank.{places-length}
+use Rattle.laws.proofs.Rank.{places-length, some-state}
+use lib.Pow.{pow-mono}
+use Rattle.laws.proofs.Bounds.{Bounds, written-bounds}
+use Rattle.laws.proofs.Grammar.{tree-exactly}
 
 -- ---- the matches are no more than the attempts
 
@@ -131,11 +134,13 @@ module _ {S : Type 0} (att : ℕ → S → Attempted × S) (pl : List Place) (n 
 
 pub record Limits (a : Option ℕ) (q : List ℕ) (rows : List ℤ) (lent : Buffers) : Type 0 where
   pub some-place : 1 ≤ length (taskOf q rows .places)
-  pub few-places : length (taskOf q rows .places) ≤ 256
+  pub few-places : length (taskOf q rows .places) ≤ 2048
+  pub small-P : P (treeIn q) ≤ 256
+  pub small-F : F (treeIn q) ≤ 8
   pub few-rows : taskOf q rows .table .n ≤ 4096
-  pub few-pairs : pairs (length (taskOf q rows .places)) (taskOf q rows .table .n) ≤ 1048832
+  pub few-pairs : pairs (length (taskOf q rows .places)) (taskOf q rows .table .n) ≤ 8390656
   pub few-matches : length (walkWithin a q rows lent .matches) ≤ taskOf q rows .table .n
-  pub few-steps : walkWithin a q rows lent .state .1 ≤ 2149056512
+  pub few-steps : walkWithin a q rows lent .state .1 ≤ 17192452096
   -- what is written fits, and every buffer keeps its length
   pub numbers-fit : length (numbersOf (taskOf q rows .table) (taskOf q rows .measures) (taskOf q rows .places) 0 (walkWithin a q rows lent .matches)) ≤ length (lent .numbers)
   pub labels-fit : length (labelsOf (taskOf q rows .places) (walkWithin a q rows lent .matches)) ≤ length (lent .labels)
@@ -166,38 +171,44 @@ module _ (terms : Terms) (t : Task) (nums labs : ℕ) where
   unfolding walkedOn walkSearch
   written-few = sweep-few attempt (planOf (t .places) (t .table .n) (terms .more) (t .skip) (fits nums labs (t .measures))) (t .table .n) 0 0 0 (replicate N false, 0)
 
-  module _ (p : Tree pattern) (e : t .places ≡ places (unroll p)) (g : legal (unroll p) ≡ true) (le : t .table .n ≤ terms .largest) where
+  module _ (p : Tree pattern) (e : t .places ≡ places (unroll p)) (le : t .table .n ≤ terms .largest) where
     pub kept-all : length (walkedOn terms t nums labs .state .0) ≡ N
     unfolding walkedOn
-    kept-all = rw e (search-kept (unroll p) g (letterHolds t) (t .table .n) terms le (t .skip) (fits nums labs (t .measures)))
+    kept-all = rw e (search-kept (unroll p) (letterHolds t) (t .table .n) terms le (t .skip) (fits nums labs (t .measures)))
 
     pub cost-all : 2 * walkedOn terms t nums labs .state .1 ≤ length (t .places) * (t .table .n * (t .table .n + 3))
     unfolding walkedOn
-    cost-all = rw e (search-each (unroll p) g (t .skip) (fits nums labs (t .measures)) (letterHolds t) (t .table .n) terms le)
+    cost-all = rw e (search-each (unroll p) (t .skip) (fits nums labs (t .measures)) (letterHolds t) (t .table .n) terms le)
+
+few-factor : (p : Tree pattern) → loopNesting p ≤ 3 → factorOf p ≤ 8
+unfolding factorOf
+few-factor p h = pow-mono {i = loopNesting p} {j = 3} h
 
 pub limits : (a : Option ℕ) (q : List ℕ) (rows : List ℤ) (lent : Buffers) → refusal q rows lent ≡ 0 → Limits a q rows lent
-unfolding walkWithin
+unfolding walkWithin treeIn P F
 limits al q rows lent ok =
     let a = granted-when q rows lent ok in
     let p = a .tree in
     let e : taskOf q rows .places ≡ places (unroll p) = places-are q rows p (a .has-tree) in
-    let P : ℕ = length (taskOf q rows .places) in
+    let S : ℕ = length (taskOf q rows .places) in
     let n : ℕ = taskOf q rows .table .n in
-    let c : P ≡ placesOf p = ap length e ∙ places-counted p in
+    let o : Bounds p = written-bounds (tree-exactly (textOf q) p .0 (a .has-tree)) in
+    let c : S ≡ placesOf p * factorOf p = ap length e ∙ places-counted p o in
     let m : n ≡ tableOf (columnsOf q) rows .n = ap (λ (t : Table). t .n) (task-rows q rows) in
-    let few : P ≤ 256 = omega (arith, a .few) in
+    let few : S ≤ 256 * 8 = rw c (product-le (placesOf p) (factorOf p) 256 8 (a .few) (few-factor p (a .few-nested))) in
     let rs : n ≤ 4096 = omega (arith, a .rows-few) in
-    let ps : pairs P n ≤ 256 * 4097 = product-le P (suc n) 256 4097 few (omega arith) in
-    let g = legal-unroll p (a .no-empty-loop) in
+    let ps : pairs S n ≤ 2048 * 4097 = product-le S (suc n) 2048 4097 few (omega arith) in
     let ts : Terms = within al n in
-    let kept = kept-all ts (taskOf q rows) (length (lent .numbers)) (length (lent .labels)) p e g (omega arith) in
-    let cost = cost-all ts (taskOf q rows) (length (lent .numbers)) (length (lent .labels)) p e g (omega arith) in
-    let top : P * (n * (n + 3)) ≤ 256 * (4096 * 4099) = product-le P (n * (n + 3)) 256 (4096 * 4099) few (product-le n (n + 3) 4096 4099 rs (omega arith)) in
+    let kept = kept-all ts (taskOf q rows) (length (lent .numbers)) (length (lent .labels)) p e (omega arith) in
+    let cost = cost-all ts (taskOf q rows) (length (lent .numbers)) (length (lent .labels)) p e (omega arith) in
+    let top : S * (n * (n + 3)) ≤ 2048 * (4096 * 4099) = product-le S (n * (n + 3)) 2048 (4096 * 4099) few (product-le n (n + 3) 4096 4099 rs (omega arith)) in
     let w = written-fits ts (taskOf q rows) (length (lent .numbers)) (length (lent .labels)) in
-    let pairs-are : pairs (placesOf p) (tableOf (columnsOf q) rows .n) ≡ length (walkWithin al q rows lent .state .0) = sym (kept ∙ ap₂ (λ (x y : ℕ). pairs x y) c m) in
+    let pairs-are : pairs (placesOf p * factorOf p) (tableOf (columnsOf q) rows .n) ≡ length (walkWithin al q rows lent .state .0) = sym (kept ∙ ap₂ (λ (x y : ℕ). pairs x y) c m) in
     record {
-      some-place = rw (e, places-length (unroll p)) (omega arith);
+      some-place = rw (e, places-length (unroll p)) (some-state (unroll p));
       few-places = few;
+      small-P = rw (a .has-tree) (a .few);
+      small-F = rw (a .has-tree) (few-factor p (a .few-nested));
       few-rows = rs;
       few-pairs = ps;
       few-matches = written-few ts (taskOf q rows) (length (lent .numbers)) (length (lent .labels));

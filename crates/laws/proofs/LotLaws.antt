@@ -13,7 +13,7 @@ use borrow.Author.Tests.{eqb-true}
 use Rattle.rules.specs.Basics.{Begins, pick, wrote}
 use Rattle.rules.specs.Rows.{Table}
 use Rattle.rules.specs.Query.{textOf, parts, Measure}
-use Rattle.rules.specs.Language.{Tree, pattern, Written, emptyLoop}
+use Rattle.rules.specs.Language.{Tree, pattern, Written}
 use Rattle.rules.specs.Places.{Place, pFork, unroll, places}
 use Rattle.rules.specs.Walk.{outOfSteps, outOfRows, pairs, firstAt, pairWays}
 use Rattle.rules.specs.Search.{Match, End, done, full, stuck, unfinished, Finished, Skip, Swept, Kept, labels, Terms, within, haltingOf, planOf, walkSearch}
@@ -25,8 +25,7 @@ use Rattle.rules.specs.LotDemands.{Lot, Later, LotDemands, Adds, OneRun, Call, 
 use Rattle.laws.proofs.Accepted.{Granted, places-are, answer-within}
 use Rattle.laws.proofs.Allowed.{search-goes, goes-begins, goes-keeps, EndWithin, end-within, search-within}
 use Rattle.laws.proofs.Bounds.{written-bounds}
-use Rattle.laws.proofs.Counting.{legal-unroll}
-use Rattle.laws.proofs.Demands.{second, third, search-accepted}
+use Rattle.laws.proofs.Demands.{second, third, search-accepted, places-all, flags-unused}
 use Rattle.laws.proofs.Distinct.{walk-thin}
 use Rattle.laws.proofs.GoesOn.{Keeps, Sooner, andThen}
 use Rattle.laws.proofs.Grammar.{tree-exactly}
@@ -66,9 +65,9 @@ getD-pad [] k x = go k x
 getD-pad (a ∷ F) k zero = refl
 getD-pad (a ∷ F) k (suc x) = getD-pad F k x
 
--- ---- the walk of a legal pattern on rows that come later
+-- ---- the walk of a pattern on rows that come later
 
-module _ (p : Tree pattern) (g : emptyLoop p ≡ false) (pl : List Place) (e : pl ≡ places (unroll p)) (skip : Skip) (fit : ℕ → ℕ → List ℕ → Bool) (holds₁ holds₂ : ℕ → ℕ → Bool) (n₁ n₂ largest : ℕ)
+module _ (p : Tree pattern) (pl : List Place) (e : pl ≡ places (unroll p)) (skip : Skip) (fit : ℕ → ℕ → List ℕ → Bool) (holds₁ holds₂ : ℕ → ℕ → Bool) (n₁ n₂ largest : ℕ)
     (allowance : Option ℕ) (more₂ : Bool) (le : n₁ ≤ n₂) (few : n₂ ≤ largest) where
   abbrev terms₁ : Terms
   terms₁ = record { largest = largest; more = true; allowance = allowance }
@@ -81,34 +80,34 @@ module _ (p : Tree pattern) (g : emptyLoop p ≡ false) (pl : List Place) (e : p
   later-adds =
       rw e
       (λ sooner. (
-        goes-begins (unroll p) (legal-unroll p g) skip fit holds₁ holds₂ n₁ n₂ terms₁ terms₂ refl le few sooner (inl refl),
-        goes-keeps (unroll p) (legal-unroll p g) skip fit holds₁ holds₂ n₁ n₂ terms₁ terms₂ refl le few sooner (inl refl),
+        goes-begins (unroll p) skip fit holds₁ holds₂ n₁ n₂ terms₁ terms₂ refl le few sooner (inl refl),
+        goes-keeps (unroll p) skip fit holds₁ holds₂ n₁ n₂ terms₁ terms₂ refl le few sooner (inl refl),
       ))
 
   later-goes : Sooner (haltingOf terms₁ pl n₁) (haltingOf terms₂ pl n₂) (pairWays holds₁ n₁ pl) (pairWays holds₂ n₂ pl)
       → walkSearch terms₂ holds₂ n₂ pl skip fit
       ≡ andThen (haltingOf terms₂ pl n₂) (pairWays holds₂ n₂ pl) (pairs (length pl) largest) (firstAt (length pl)) (planOf pl n₂ more₂ skip fit) 0 0 (walkSearch terms₁ holds₁ n₁ pl skip fit)
-  later-goes = rw e (λ sooner. search-goes (unroll p) (legal-unroll p g) skip fit holds₁ holds₂ n₁ n₂ terms₁ terms₂ refl le few sooner (inl refl))
+  later-goes = rw e (λ sooner. search-goes (unroll p) skip fit holds₁ holds₂ n₁ n₂ terms₁ terms₂ refl le few sooner (inl refl))
 
   later-thin-goes : Sooner (haltingOf terms₁ pl n₁) (haltingOf terms₂ pl n₂) (pairWays holds₁ n₁ pl) (pairWays holds₂ n₂ pl)
       → walkSearch terms₂ holds₂ n₂ (thinned pl) skip fit
       ≡ andThen (haltingOf terms₂ (thinned pl) n₂) (pairWays holds₂ n₂ (thinned pl)) (pairs (length (thinned pl)) largest) (firstAt (length (thinned pl))) (planOf (thinned pl) n₂ more₂ skip fit) 0 0
       (walkSearch terms₁ holds₁ n₁ (thinned pl) skip fit)
-  later-thin-goes = rw e (λ sooner. thin-goes (unroll p) (legal-unroll p g) skip fit holds₁ holds₂ n₁ n₂ terms₁ terms₂ refl le few sooner (inl refl))
+  later-thin-goes = rw e (λ sooner. thin-goes (unroll p) skip fit holds₁ holds₂ n₁ n₂ terms₁ terms₂ refl le few sooner (inl refl))
 
   later-stays : Sooner (haltingOf terms₁ pl n₁) (haltingOf terms₂ pl n₂) (pairWays holds₁ n₁ pl) (pairWays holds₂ n₂ pl)
       → SettledEnd (walkSearch terms₁ holds₁ n₁ pl skip fit .end) → walkSearch terms₂ holds₂ n₂ pl skip fit ≡ walkSearch terms₁ holds₁ n₁ pl skip fit
-  later-stays = rw e (search-stays (unroll p) (legal-unroll p g) skip fit holds₁ holds₂ n₁ n₂ largest allowance more₂ le)
+  later-stays = rw e (search-stays (unroll p) skip fit holds₁ holds₂ n₁ n₂ largest allowance more₂ le)
 
 -- the rows of each match are there
-module _ (p : Tree pattern) (g : emptyLoop p ≡ false) (t₁ t₂ : Table) (ext : Extends t₁ t₂) (holds : ℕ → ℕ → Bool) where
-  rows-in : (xs : List Match) → Within (unroll p) (legal-unroll p g) holds (t₁ .n) xs → RowsIn t₁ t₂ ext (places (unroll p)) xs
+module _ (p : Tree pattern) (t₁ t₂ : Table) (ext : Extends t₁ t₂) (holds : ℕ → ℕ → Bool) where
+  rows-in : (xs : List Match) → Within (unroll p) holds (t₁ .n) xs → RowsIn t₁ t₂ ext (places (unroll p)) xs
   rows-in [] a = tt
   rows-in (x ∷ xs) a = (a .0, rows-in xs (a .1))
 
   matches-in : (pl : List Place) → pl ≡ places (unroll p) → (terms : Terms) → t₁ .n ≤ terms .largest → (skip : Skip) (fit : ℕ → ℕ → List ℕ → Bool)
       → RowsIn t₁ t₂ ext pl (walkSearch terms holds (t₁ .n) pl skip fit .matches)
-  matches-in pl e terms le skip fit = rw e (rows-in (walkSearch terms holds (t₁ .n) (places (unroll p)) skip fit .matches) (search-rows (unroll p) (legal-unroll p g) holds (t₁ .n) skip fit terms le))
+  matches-in pl e terms le skip fit = rw e (rows-in (walkSearch terms holds (t₁ .n) (places (unroll p)) skip fit .matches) (search-rows (unroll p) holds (t₁ .n) skip fit terms le))
 
 -- ---- what was named
 
@@ -181,9 +180,9 @@ module _ (s : Named) (ok : Begins-well s) where
     finished-in : (last : Bool) → last ≡ true → s .allowance ≡ none → Finished (lotWalk s rows present last .end)
     unfolding lotWalk walkedOn
     finished-in last a b =
-        let d = search-padded (unroll (given .tree)) (legal-unroll (given .tree) (given .no-empty-loop)) (letterHolds t) (t .table .n) (record { largest = s .largest; more = false; allowance = none }) few-rows (t .skip)
+        let d = search-padded (unroll (given .tree)) (letterHolds t) (t .table .n) (record { largest = s .largest; more = false; allowance = none }) few-rows (t .skip)
         (fits nums labs (t .measures)) in
-        rw (a, b, places-in, d) (walk-finished (unroll (given .tree)) (legal-unroll (given .tree) (given .no-empty-loop)) (letterHolds t) (t .table .n) (t .skip) (fits nums labs (t .measures)))
+        rw (a, b, places-in, d) (walk-finished (unroll (given .tree)) (letterHolds t) (t .table .n) (t .skip) (fits nums labs (t .measures)))
 
     not-done-in : (last : Bool) → last ≡ false → lotWalk s rows present last .end ≡ done → ⊥
     unfolding lotWalk walkedOn
@@ -207,19 +206,21 @@ module _ (s : Named) (ok : Begins-well s) where
     unfolding lotWalk walkedOn
     lot-thin last =
         rw places-in
-        (sym (walk-thin (unroll (given .tree)) (legal-unroll (given .tree) (given .no-empty-loop)) (letterHolds t) (t .table .n) (lotTerms s last) few-rows (t .skip) (fits nums labs (t .measures))))
+        (sym (walk-thin (unroll (given .tree)) (letterHolds t) (t .table .n) (lotTerms s last) few-rows (t .skip) (fits nums labs (t .measures))))
 
     lot-demands : (last : Bool) → LotDemands s rows present last
-    unfolding lotWalk treeIn
+    unfolding lotWalk presentTask treeIn
     lot-demands last =
         let w : Written (given .tree) (textOf q) = tree-exactly (textOf q) (given .tree) .0 (given .has-tree) in
         record {
           tree = given .tree;
           written = w;
+          counted = places-all q (presentRows q rows present) (given .tree) (written-bounds w) (given .has-tree);
           rows-present = task-n s ok rows present lot;
-          demand2 = second (given .tree) (given .no-empty-loop) t places-in nums labs (lotTerms s last) few-rows (written-bounds w);
-          demand3 = third (given .tree) (given .no-empty-loop) t places-in nums labs (lotTerms s last) few-rows;
+          demand2 = second (given .tree) t places-in nums labs (lotTerms s last) few-rows (written-bounds w);
+          demand3 = third (given .tree) t places-in nums labs (lotTerms s last) few-rows;
           noted = notes-in last;
+          unused = flags-unused (given .tree) (written-bounds w) t places-in nums labs (lotTerms s last);
           not-done = not-done-in last;
           no-wait = no-wait-in last;
           finished = finished-in last;
@@ -270,7 +271,7 @@ module _ (s : Named) (ok : Begins-well s) where
         → Begins (lotWalk s rows₁ n₁ false .matches) (lotWalk s rows₂ n₂ last .matches) × Keeps (lotWalk s rows₁ n₁ false .state) (lotWalk s rows₂ n₂ last .state)
     unfolding lotWalk walkedOn presentTask taskOf
     walks last =
-        later-adds tree (given₁ .no-empty-loop) (t₁ .places) e₁ (t₁ .skip) (fits nums labs (t₁ .measures)) (letterHolds t₁) (letterHolds t₂) (t₁ .table .n) (t₂ .table .n) (s .largest) (s .allowance) (not last) more-rows few₂
+        later-adds tree (t₁ .places) e₁ (t₁ .skip) (fits nums labs (t₁ .measures)) (letterHolds t₁) (letterHolds t₂) (t₁ .table .n) (t₂ .table .n) (s .largest) (s .allowance) (not last) more-rows few₂
         (sooner last)
 
     -- a later call's search goes on from where the earlier one waits, with its start, open pairs,
@@ -280,7 +281,7 @@ module _ (s : Named) (ok : Begins-well s) where
         (planOf (t₂ .places) (t₂ .table .n) (not last) (t₂ .skip) (fits nums labs (t₂ .measures))) 0 0 (lotWalk s rows₁ n₁ false)
     unfolding lotWalk walkedOn presentTask taskOf
     lot-goes last =
-        later-goes tree (given₁ .no-empty-loop) (t₁ .places) e₁ (t₁ .skip) (fits nums labs (t₁ .measures)) (letterHolds t₁) (letterHolds t₂) (t₁ .table .n) (t₂ .table .n) (s .largest) (s .allowance) (not last) more-rows few₂
+        later-goes tree (t₁ .places) e₁ (t₁ .skip) (fits nums labs (t₁ .measures)) (letterHolds t₁) (letterHolds t₂) (t₁ .table .n) (t₂ .table .n) (s .largest) (s .allowance) (not last) more-rows few₂
         (sooner last)
 
     -- the same over places with each way of a fork once
@@ -290,7 +291,7 @@ module _ (s : Named) (ok : Begins-well s) where
         (planOf (thinned (t₂ .places)) (t₂ .table .n) (not last) (t₂ .skip) (fits nums labs (t₂ .measures))) 0 0 (thinWalk rows₁ n₁ lot₁ false)
     unfolding presentTask taskOf
     lot-thin-goes last =
-        later-thin-goes tree (given₁ .no-empty-loop) (t₁ .places) e₁ (t₁ .skip) (fits nums labs (t₁ .measures)) (letterHolds t₁) (letterHolds t₂) (t₁ .table .n) (t₂ .table .n) (s .largest) (s .allowance) (not last) more-rows few₂
+        later-thin-goes tree (t₁ .places) e₁ (t₁ .skip) (fits nums labs (t₁ .measures)) (letterHolds t₁) (letterHolds t₂) (t₁ .table .n) (t₂ .table .n) (s .largest) (s .allowance) (not last) more-rows few₂
         (sooner last)
 
     -- the numbers of the matches so far are the same on the rows that are present later
@@ -299,7 +300,7 @@ module _ (s : Named) (ok : Begins-well s) where
     numbers-kept =
         let ext = task-extends s ok rows₁ rows₂ n₁ n₂ lot₁ lot₂ later in
         numbers-same (t₁ .table) (t₂ .table) ext (t₁ .measures) (t₁ .places) 0 (lotWalk s rows₁ n₁ false .matches) (measures-fit q (fitting s ok))
-        (matches-in tree (given₁ .no-empty-loop) (t₁ .table) (t₂ .table) ext (letterHolds t₁) (t₁ .places) e₁ (lotTerms s false) (few-rows rows₁ n₁ lot₁) (t₁ .skip) (fits nums labs (t₁ .measures)))
+        (matches-in tree (t₁ .table) (t₂ .table) ext (letterHolds t₁) (t₁ .places) e₁ (lotTerms s false) (few-rows rows₁ n₁ lot₁) (t₁ .skip) (fits nums labs (t₁ .measures)))
 
     numbers-begin : (xs ys : List Match) → Begins xs ys → numbersOf (t₁ .table) (t₁ .measures) (t₁ .places) 0 xs ≡ numbersOf (t₂ .table) (t₁ .measures) (t₁ .places) 0 xs
         → Begins (numbersOf (t₁ .table) (t₁ .measures) (t₁ .places) 0 xs) (numbersOf (t₂ .table) (t₁ .measures) (t₁ .places) 0 ys)
@@ -328,7 +329,7 @@ module _ (s : Named) (ok : Begins-well s) where
     walk-stays : (last : Bool) → stays (endAnswer (lotWalk s rows₁ n₁ false .end)) ≡ true → lotWalk s rows₂ n₂ last ≡ lotWalk s rows₁ n₁ false
     unfolding lotWalk walkedOn presentTask taskOf
     walk-stays last h =
-        later-stays tree (given₁ .no-empty-loop) (t₁ .places) e₁ (t₁ .skip) (fits nums labs (t₁ .measures)) (letterHolds t₁) (letterHolds t₂) (t₁ .table .n) (t₂ .table .n) (s .largest) (s .allowance) (not last) more-rows few₂
+        later-stays tree (t₁ .places) e₁ (t₁ .skip) (fits nums labs (t₁ .measures)) (letterHolds t₁) (letterHolds t₂) (t₁ .table .n) (t₂ .table .n) (s .largest) (s .allowance) (not last) more-rows few₂
         (sooner last) (settled-end (lotWalk s rows₁ n₁ false .end) h)
 
     report-kept : (a : ℕ) → reportOf a t₂ (s .lent) (lotWalk s rows₁ n₁ false) ≡ reportOf a t₁ (s .lent) (lotWalk s rows₁ n₁ false)
@@ -358,14 +359,14 @@ module _ (s : Named) (ok : Begins-well s) where
     once = walkWithin (s .allowance) q (presentRows q rows present) (s .lent)
 
     abbrev gap : List Bool
-    gap = beyond (unroll (given rows present lot .tree)) (legal-unroll (given rows present lot .tree) (given rows present lot .no-empty-loop)) (letterHolds task) (task .table .n) (s .largest)
+    gap = beyond (unroll (given rows present lot .tree)) (letterHolds task) (task .table .n) (s .largest)
 
     -- the last call's search is the one run, with an account for the pairs of rows that did not
     -- come
     padded-pattern : (pl : List Place) → pl ≡ places (unroll (given rows present lot .tree)) → (skip : Skip) (fit : ℕ → ℕ → List ℕ → Bool)
         → walkSearch (lotTerms s true) (letterHolds task) (task .table .n) pl skip fit ≡ padded gap (walkSearch (within (s .allowance) (task .table .n)) (letterHolds task) (task .table .n) pl skip fit)
     padded-pattern pl e skip fit =
-        rw e (search-padded (unroll (given rows present lot .tree)) (legal-unroll (given rows present lot .tree) (given rows present lot .no-empty-loop)) (letterHolds task) (task .table .n) (lotTerms s true) (few-rows rows present lot) skip fit)
+        rw e (search-padded (unroll (given rows present lot .tree)) (letterHolds task) (task .table .n) (lotTerms s true) (few-rows rows present lot) skip fit)
 
     padded-run : lotWalk s rows present true ≡ padded gap once
     unfolding lotWalk walkWithin walkedOn presentTask

@@ -22,7 +22,7 @@ use Rattle.rules.specs.Places.{Place, pLetter, pCaret, pDollar, pFork, pEnd}
 use Rattle.rules.specs.Walk.{Ways, pairs, passIf, pairAt, waysAt, pairWays, placeOf, positionOf}
 use Rattle.rules.specs.Search.{asksRow, haltingOf}
 use Rattle.rules.specs.Report.{bytesFor}
-use Rattle.rules.specs.Answers.{noTree, treeIn, wrong, incomplete, offsetAt, P, lettersIn, Task, taskOf, letterHolds, badRows, pairsOf, shortNotes, shortTrail, Test, firstOf, refuses, queryTests, refusal}
+use Rattle.rules.specs.Answers.{noTree, treeIn, wrong, incomplete, offsetAt, P, lettersIn, Task, taskOf, letterHolds, badRows, pairsOf, shortNotes, shortTrail, Test, firstOf, refuses, queryTests, refusal, F}
 use Rattle.rules.specs.Lots.{presentRows, Named, namedPairs, badLot, Progress, dollarIn, settles, looksAhead, lotTests, beginAnswer, callRefusal, presentTask}
 use Rattle.rules.specs.LotDemands.{Lot, Later}
 use Rattle.laws.proofs.Accepted.{Granted, query-tests-refuse, granted-when}
@@ -210,11 +210,12 @@ module _ (s : Named) (ok : Begins-well s) where
     pub now-unrefused : refusal q now (s .lent) ≡ 0
     unfolding refusal badRows shortNotes shortTrail pairsOf namedPairs firstOf
     now-unrefused =
-        let ps : pairs (P (treeIn q)) present ≤ namedPairs s = product-le (P (treeIn q)) (suc present) (P (treeIn q)) (suc (s .largest)) (omega arith) (omega (arith, lot .few)) in
+        let S : ℕ = P (treeIn q) * F (treeIn q) in
+        let ps : pairs S present ≤ namedPairs s = product-le S (suc present) S (suc (s .largest)) (omega arith) (omega (arith, lot .few)) in
         let m : length now % columnsOf q ≡ 0 = rw now-length (mul-mod-left present (columnsOf q)) in
         let b₁ : badRows q now ≡ false = rw (m, now-rows, le-ltb 4096 present (omega (arith, lot .few, ok .few))) in
-        let b₂ : shortNotes q now (s .lent) ≡ false = rw now-rows (le-ltb (length (s .lent .notes)) (bytesFor (pairs (P (treeIn q)) present)) (le-trans (bytes-more (pairs (P (treeIn q)) present) (namedPairs s) ps) (ok .notes-long))) in
-        let b₃ : shortTrail q now (s .lent) ≡ false = rw now-rows (le-ltb (length (s .lent .trail)) (pairs (P (treeIn q)) present) (le-trans ps (ok .trail-long))) in
+        let b₂ : shortNotes q now (s .lent) ≡ false = rw now-rows (le-ltb (length (s .lent .notes)) (bytesFor (pairs S present)) (le-trans (bytes-more (pairs S present) (namedPairs s) ps) (ok .notes-long))) in
+        let b₃ : shortTrail q now (s .lent) ≡ false = rw now-rows (le-ltb (length (s .lent .trail)) (pairs S present) (le-trans ps (ok .trail-long))) in
         first-after (queryTests q) ((10, badRows q now) ∷ (11, shortNotes q now (s .lent)) ∷ (12, shortTrail q now (s .lent)) ∷ []) (query-tests-refuse q) (ok .tests) ∙ rw (b₁, b₂, b₃)
 
     pub now-granted : Granted q now (s .lent)

@@ -16,7 +16,6 @@ use Rattle.rules.specs.Search.{Skip, Attempted, Swept, Plan, ended, noStart, be
 use Rattle.rules.specs.Walk.{Ways, accept, try, Halting, Outcome, found, failed, halted, orElse, close, enterUnless, tries, inside, insideBy, pairs, firstAt, pairWays}
 use Rattle.laws.proofs.Fuel.{walk-search-enough}
 use Rattle.laws.proofs.GoesOn.{keptBy, inside-keeps}
-use Rattle.laws.proofs.Level.{legal}
 use Rattle.laws.proofs.PatternWalk.{falls, starts}
 use Rattle.laws.proofs.Rank.{rank}
 use Rattle.laws.proofs.Walk.{All-map}
@@ -115,7 +114,7 @@ module _ (h : Halting) (ways : ℕ → Ways) (ρ : ℕ → ℕ) (N : ℕ) (falls
             rw (List·getD-append F G false (first i) (rw len lt), a .0)
             (pad-answer (sweep att plan k) ih i m l (enterUnless (getD F (first i) false) (h .spent s) (inside h ways K) F s (first i)) (a .1))
 
--- ---- a legal pattern
+-- ---- a pattern
 
 abbrev pub measuredBy : Terms → ℕ → Terms
 measuredBy terms n = record { largest = n; more = terms .more; allowance = terms .allowance }
@@ -123,7 +122,7 @@ measuredBy terms n = record { largest = n; more = terms .more; allowance = terms
 product-le : (a b c d : ℕ) → a ≤ c → b ≤ d → a * b ≤ c * d
 product-le a b c d h k = mul-le-mul h k
 
-module _ (t : Unrolled) (g : legal t ≡ true) (holds : ℕ → ℕ → Bool) (n : ℕ) where
+module _ (t : Unrolled) (holds : ℕ → ℕ → Bool) (n : ℕ) where
   abbrev P : ℕ
   P = length (places t)
 
@@ -144,7 +143,7 @@ module _ (t : Unrolled) (g : legal t ≡ true) (holds : ℕ → ℕ → Bool) (n
       let m : pairs P n ≤ pairs P L = more-pairs L le in
       let e : pairs P n + (pairs P L - pairs P n) ≡ pairs P L = omega arith in
       let r : replicate (pairs P L) false ≡ replicate (pairs P n) false ++ beyond L = sym (replicate-append-replicate (pairs P n) (pairs P L - pairs P n) false ∙ ap (λ (k : ℕ). replicate k false) e) in
-      let a = sweep-pad (haltingOf terms (places t) n) (pairWays holds n (places t)) (rank t n) (pairs P n) (falls t g holds n) (beyond L) (pairs P L) (firstAt P) (planOf (places t) n (terms .more) skip fits)
-      (λ i h. starts t g holds n i h .0) n 0 0 0 (replicate (pairs P n) false) 0 (length-replicate (pairs P n) false) in
+      let a = sweep-pad (haltingOf terms (places t) n) (pairWays holds n (places t)) (rank t n) (pairs P n) (falls t holds n) (beyond L) (pairs P L) (firstAt P) (planOf (places t) n (terms .more) skip fits)
+      (λ i h. starts t holds n i h .0) n 0 0 0 (replicate (pairs P n) false) 0 (length-replicate (pairs P n) false) in
       ap (λ (F : List Bool). sweep (walkAt (haltingOf terms (places t) n) (pairWays holds n (places t)) (pairs P L) (firstAt P)) (planOf (places t) n (terms .more) skip fits) n 0 0 0 (F, 0)) r
-      ∙ a ∙ ap (padded (beyond L)) (walk-search-enough t g holds n skip fits (pairs P L) n m (omega arith) (measuredBy terms n) (omega arith) m)
+      ∙ a ∙ ap (padded (beyond L)) (walk-search-enough t holds n skip fits (pairs P L) n m (omega arith) (measuredBy terms n) (omega arith) m)

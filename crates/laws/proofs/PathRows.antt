@@ -11,13 +11,13 @@ use lib.ListN.{length, getD}
 use lib.Arith.{digits-div}
 use lib.Dec.{ltb, eqb}
 use borrow.Author.Tests.{ltb-true}
-use Rattle.rules.specs.Places.{Unrolled, size, Place, pLetter, pCaret, pDollar, pFork, pEnd, places}
+use Rattle.rules.specs.Places.{Unrolled, Place, pLetter, pCaret, pDollar, pFork, pEnd, places}
 use Rattle.rules.specs.Search.{Match, Skip, Attempted, Plan, labels, labelOf, ended, noStart, below, byFit, byNext, onAnswer, sweep, plainly, plainAt, Terms, planOf, plainSearch, walkSearch}
 use Rattle.rules.specs.Walk.{IsPath, here, there, Ways, accept, try, passIf, waysAt, pairs, firstAt, pairWays, positionOf, placeOf, plain}
-use Rattle.laws.proofs.Level.{legal, and-true}
+use Rattle.laws.proofs.Level.{and-true}
 use Rattle.laws.proofs.PatternWalk.{starts, search-follows}
 use Rattle.laws.proofs.Plain.{plain-path}
-use Rattle.laws.proofs.Rank.{places-length, Edge, edges-at, levelsIn, places-edges}
+use Rattle.laws.proofs.Rank.{places-length, Edge, places-edges, Target, states, levelOf, some-state}
 use Rattle.laws.proofs.Walk.{All-at}
 use Rattle.rules.specs.Working.{All}
 
@@ -36,17 +36,17 @@ label-length (pDollar k) ls = omega arith
 label-length (pFork ks) ls = omega arith
 label-length pEnd ls = omega arith
 
-module _ (holds : ℕ → ℕ → Bool) (n : ℕ) (L : List ℕ) (P : ℕ) where
+module _ (holds : ℕ → ℕ → Bool) (n : ℕ) (lv : ℕ → ℕ) (P : ℕ) where
   -- a place's ways lead so many rows on, and not past n
   abbrev StepAt : ℕ → Place → Ways → Type 0
   StepAt i p accept = takes p ≡ 0
   StepAt i p (try ys) = All (λ y. (y / P ≡ i + takes p) × (i ≤ n → y / P ≤ n)) ys
 
-  fork-step : (i m : ℕ) (ks : List ℕ) → All (λ k. (k < P) × (getD L k 0 < m)) ks → All (λ y. (y / P ≡ i + 0) × (i ≤ n → y / P ≤ n)) (map (λ k. i * P + k) ks)
+  fork-step : (i m : ℕ) (ks : List ℕ) → All (Target lv P m) ks → All (λ y. (y / P ≡ i + 0) × (i ≤ n → y / P ≤ n)) (map (λ k. i * P + k) ks)
   fork-step i m [] a = tt
   fork-step i m (k ∷ ks) a = let d = digits-div i (a .0 .0) in ((omega arith, λ h. omega arith), fork-step i m ks (a .1))
 
-  at-step : (i m : ℕ) (p : Place) → Edge L P m p → StepAt i p (waysAt holds n P p i)
+  at-step : (i m : ℕ) (p : Place) → Edge lv P m p → StepAt i p (waysAt holds n P p i)
   unfolding waysAt
   at-step i m (pLetter c k) a = go (ltb i n && holds c i) refl
     where
@@ -66,18 +66,18 @@ module _ (holds : ℕ → ℕ → Bool) (n : ℕ) (L : List ℕ) (P : ℕ) where
   at-step i m (pFork ks) a = fork-step i m ks a
   at-step i m pEnd a = refl
 
-module _ (t : Unrolled) (g : legal t ≡ true) (holds : ℕ → ℕ → Bool) (n : ℕ) where
+module _ (t : Unrolled) (holds : ℕ → ℕ → Bool) (n : ℕ) where
   abbrev P : ℕ
   P = length (places t)
 
   abbrev placeOn : ℕ → Place
   placeOn x = getD (places t) (placeOf P x) (pFork [])
 
-  pair-step : (x : ℕ) → StepAt holds n (levelsIn t) P (positionOf P x) (placeOn x) (pairWays holds n (places t) x)
+  pair-step : (x : ℕ) → StepAt holds n (levelOf t) P (positionOf P x) (placeOn x) (pairWays holds n (places t) x)
   unfolding pairWays
   pair-step x =
-      at-step holds n (levelsIn t) P (x / P) (getD (levelsIn t) (x % P) 0) (placeOn x)
-      (rw (places-length t) (edges-at (levelsIn t) (suc (size t)) (levelsIn t) (places t) (places-edges t g) (x % suc (size t)) (rw (places-length t) (mod-lt x (omega arith))) (pFork [])))
+      at-step holds n (levelOf t) P (x / P) (levelOf t (x % P)) (placeOn x)
+      (rw (places-length t) (places-edges t (x % states t) (mod-lt x (some-state t))))
 
   -- a path has a label for each row it moves on
   path-rows : {x : ℕ} {p : List ℕ} → IsPath (pairWays holds n (places t)) x p → positionOf P x ≤ n → positionOf P x + length (labels (places t) p) ≤ n
@@ -93,7 +93,7 @@ module _ (t : Unrolled) (g : legal t ≡ true) (holds : ℕ → ℕ → Bool) (n
   -- a match at a row below n
   found-rows : (i : ℕ) (p : List ℕ) → i < n → plain (pairWays holds n (places t)) (pairs P n) (firstAt P i) ≡ some p → i + length (labels (places t) p) ≤ n
   found-rows i p h e =
-      let s = starts t g holds n i h .1 in
+      let s = starts t holds n i h .1 in
       rw s at (path-rows (plain-path (pairWays holds n (places t)) (pairs P n) (firstAt P i) p e) (rw s (omega arith)))
 
   -- ---- all matches
@@ -142,5 +142,5 @@ module _ (t : Unrolled) (g : legal t ≡ true) (holds : ℕ → ℕ → Bool) (n
     pub search-rows : (terms : Terms) → n ≤ terms .largest → Within (walkSearch terms holds n (places t) skip fits .matches)
     unfolding plainSearch
     search-rows terms le =
-        let f = search-follows t g holds n terms le skip fits in
+        let f = search-follows t holds n terms le skip fits in
         within-front (walkSearch terms holds n (places t) skip fits .matches) (plainSearch holds n (places t) skip fits .matches) (f .begins .0) (f .begins .1) (plain-within n 0 0 0 tt)

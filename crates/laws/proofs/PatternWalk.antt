@@ -1,5 +1,5 @@
--- The whole search over the graph of a legal unrolled pattern. On any terms: the walk's matches are
--- the first of plain backtracking's, all of them where it does not halt; its steps are the failed
+-- The whole search over the graph of an unrolled pattern. On any terms: the walk's matches are the
+-- first of plain backtracking's, all of them where it does not halt; its steps are the failed
 -- pairs, the pairs of the paths found and those still open. On document 01's terms: with skip past
 -- last row the steps are at most 2P(n+1), and in every mode at most P n (n+3) / 2.
 use mathlib.Core.Path.{_≡_, refl, ap}
@@ -12,14 +12,13 @@ use native.Mathlib.Omega.{arith}
 use lib.ListN.{length, getD, replicate, length-replicate}
 use lib.Arith.{digits-lt, digits-div}
 use lib.Dec.{ltb, eqb}
-use Rattle.rules.specs.Places.{Unrolled, size, Place, pLetter, pCaret, pDollar, pFork, pEnd, places}
+use Rattle.rules.specs.Places.{Unrolled, Place, pLetter, pCaret, pDollar, pFork, pEnd, places}
 use Rattle.rules.specs.Search.{Skip, pastLast, pathPairs, labels, endOf, Finished, openOf, Swept, foundIn, Kept, Terms, whole, haltingOf, planOf, walkAt, plainly, sweep, walkSearch, plainSearch}
 use Rattle.rules.specs.Walk.{Ways, accept, try, countTrue, passIf, waysAt, pairs, firstAt, pairWays, positionOf, plain}
 use Rattle.laws.proofs.Bound.{Onward, two-each}
 use Rattle.laws.proofs.EachStart.{Closed, cost, cost-is, walk-cost}
-use Rattle.laws.proofs.Level.{legal}
 use Rattle.laws.proofs.Plain.{plain-fuel, Sound}
-use Rattle.laws.proofs.Rank.{rank, places-length, pattern-falls, pattern-top, Edge, edges-at, levelsIn, places-edges}
+use Rattle.laws.proofs.Rank.{rank, places-length, pattern-falls, pattern-top, Edge, places-edges, Target, states, levelOf, some-state}
 use Rattle.laws.proofs.Starts.{next-on, next-past}
 use Rattle.laws.proofs.Swept.{Unhalting, sweep-finished, finished-open, walk-sure, Alike, Follows, follows-alike, Counted, walk-follows-plain, walk-counted}
 use Rattle.laws.proofs.Walk.{All-map}
@@ -27,7 +26,7 @@ use Rattle.rules.specs.Working.{All, Falls, In, Out}
 
 -- ---- no pair has failed at first
 
-none-in : (N : ℕ) (z : ℕ) → In (replicate N false) z → ⊥
+pub none-in : (N : ℕ) (z : ℕ) → In (replicate N false) z → ⊥
 none-in zero z h = false≢true h
 none-in (suc N) zero h = false≢true h
 none-in (suc N) (suc z) h = none-in N z h
@@ -39,7 +38,7 @@ none-count (suc N) = none-count N
 
 -- ---- no way leads back to an earlier position
 
-module _ (holds : ℕ → ℕ → Bool) (n : ℕ) (L : List ℕ) (P : ℕ) where
+module _ (holds : ℕ → ℕ → Bool) (n : ℕ) (lv : ℕ → ℕ) (P : ℕ) where
   abbrev OnwardAt : ℕ → Ways → Type 0
   OnwardAt i accept = Unit {0}
   OnwardAt i (try ys) = All (λ y. i ≤ y / P) ys
@@ -48,11 +47,11 @@ module _ (holds : ℕ → ℕ → Bool) (n : ℕ) (L : List ℕ) (P : ℕ) where
   pass-onward i j k h l true = (rw (digits-div j l) h, tt)
   pass-onward i j k h l false = tt
 
-  fork-onward : (i m : ℕ) (ks : List ℕ) → All (λ k. (k < P) × (getD L k 0 < m)) ks → OnwardAt i (try (map (λ k. i * P + k) ks))
+  fork-onward : (i m : ℕ) (ks : List ℕ) → All (Target lv P m) ks → OnwardAt i (try (map (λ k. i * P + k) ks))
   fork-onward i m [] a = tt
   fork-onward i m (k ∷ ks) a = (rw (digits-div i (a .0 .0)) (omega arith), fork-onward i m ks (a .1))
 
-  at-onward : (i m : ℕ) (p : Place) → Edge L P m p → OnwardAt i (waysAt holds n P p i)
+  at-onward : (i m : ℕ) (p : Place) → Edge lv P m p → OnwardAt i (waysAt holds n P p i)
   unfolding waysAt
   at-onward i m (pLetter c k) a = pass-onward i (suc i) k (omega arith) a (ltb i n && holds c i)
   at-onward i m (pCaret k) a = pass-onward i i k (omega arith) (a .0) (eqb i 0)
@@ -60,35 +59,35 @@ module _ (holds : ℕ → ℕ → Bool) (n : ℕ) (L : List ℕ) (P : ℕ) where
   at-onward i m (pFork ks) a = fork-onward i m ks a
   at-onward i m pEnd a = tt
 
-pattern-onward : (t : Unrolled) → legal t ≡ true → (holds : ℕ → ℕ → Bool) (n : ℕ) → Onward (pairWays holds n (places t)) (positionOf (length (places t)))
-unfolding pairWays
-pattern-onward t g holds n x ys e =
-    let P : ℕ = length (places t) in
-    let ed : Edge (levelsIn t) P (getD (levelsIn t) (x % P) 0) (getD (places t) (x % P) (pFork [])) =
-    rw (places-length t) (edges-at (levelsIn t) (suc (size t)) (levelsIn t) (places t) (places-edges t g) (x % suc (size t)) (rw (places-length t) (mod-lt x (omega arith))) (pFork [])) in
-    rw e at (at-onward holds n (levelsIn t) P (x / P) (getD (levelsIn t) (x % P) 0) (getD (places t) (x % P) (pFork [])) ed)
+some-place : (t : Unrolled) → 0 < length (places t)
+some-place t = rw (places-length t) (some-state t)
 
-module _ (t : Unrolled) (g : legal t ≡ true) (holds : ℕ → ℕ → Bool) (n : ℕ) where
+pattern-onward : (t : Unrolled) (holds : ℕ → ℕ → Bool) (n : ℕ) → Onward (pairWays holds n (places t)) (positionOf (length (places t)))
+unfolding pairWays
+pattern-onward t holds n x ys e =
+    let P : ℕ = length (places t) in
+    let ed : Edge (levelOf t) P (levelOf t (x % P)) (getD (places t) (x % P) (pFork [])) =
+    rw (places-length t) (places-edges t (x % states t) (mod-lt x (rw (places-length t) at (some-place t)))) in
+    rw e at (at-onward holds n (levelOf t) P (x / P) (levelOf t (x % P)) (getD (places t) (x % P) (pFork [])) ed)
+
+module _ (t : Unrolled) (holds : ℕ → ℕ → Bool) (n : ℕ) where
   abbrev ways : ℕ → Ways
   ways = pairWays holds n (places t)
 
   abbrev P : ℕ
   P = length (places t)
 
-  some-place : 0 < P
-  some-place = rw (places-length t) (omega arith)
-
   -- where pairs are counted for L rows: the rank falls along every way, and lies below the number
   -- of pairs; a start's first pair is a pair of its row
   module _ (L : ℕ) (le : n ≤ L) where
     pub falls-in : Falls ways (rank t n) (pairs P L)
-    falls-in = rw (places-length t) (pattern-falls t g holds n L le)
+    falls-in = rw (places-length t) (pattern-falls t holds n L le)
 
     pub top-in : (x : ℕ) → rank t n x < pairs P L
-    top-in x = rw (places-length t) (pattern-top t g holds n L le x)
+    top-in x = rw (places-length t) (pattern-top t holds n L le x)
 
     pub starts-in : (i : ℕ) → i < n → (firstAt P i < pairs P L) × (positionOf P (firstAt P i) ≡ i)
-    starts-in i h = (rw (mul-comm P (suc L)) (rw add-zero at (digits-lt {q = i} {m = suc L} (omega arith) some-place)), rw add-zero at (digits-div i some-place))
+    starts-in i h = (rw (mul-comm P (suc L)) (rw add-zero at (digits-lt {q = i} {m = suc L} (omega arith) (some-place t))), rw add-zero at (digits-div i (some-place t)))
 
   -- and where they are counted for the n rows themselves
   pub falls : Falls ways (rank t n) (pairs P n)
@@ -102,8 +101,8 @@ module _ (t : Unrolled) (g : legal t ≡ true) (holds : ℕ → ℕ → Bool) (n
 
   onward-first : (i : ℕ) → Closed ways (λ z. firstAt P i ≤ z)
   onward-first i x ys e h =
-      let a : i ≤ positionOf P x = le-div-iff-mul-le some-place .1 h in
-      All-map (λ y (r : positionOf P x ≤ positionOf P y). le-div-iff-mul-le some-place .0 (le-trans a r)) ys (pattern-onward t g holds n x ys e)
+      let a : i ≤ positionOf P x = le-div-iff-mul-le (some-place t) .1 h in
+      All-map (λ y (r : positionOf P x ≤ positionOf P y). le-div-iff-mul-le (some-place t) .0 (le-trans a r)) ys (pattern-onward t holds n x ys e)
 
   rest-pairs : (P i m : ℕ) → P * suc (i + m) ≤ i * P + P * suc m
   rest-pairs P i m = rw (mul-comm P (suc (i + m)), mul-comm P (suc m)) (omega arith)
@@ -198,6 +197,6 @@ module _ (t : Unrolled) (g : legal t ≡ true) (holds : ℕ → ℕ → Bool) (n
   unfolding walkSearch planOf
   walk-bound fits =
       let N : ℕ = pairs P n in
-      two-each ways (rank t n) N falls N top (positionOf P) (pattern-onward t g holds n) (firstAt P) (planOf (places t) n false pastLast fits) starts
+      two-each ways (rank t n) N falls N top (positionOf P) (pattern-onward t holds n) (firstAt P) (planOf (places t) n false pastLast fits) starts
       (λ i p j e. (next-past i (endOf P p) (labels (places t) p) j e, next-on pastLast i (endOf P p) (labels (places t) p) j e)) (haltingOf (whole n) (places t) n) whole-calm refl n 0 0 0
       (replicate N false) (length-replicate N false) (λ z i. absurd (none-in N z i)) (none-count N)

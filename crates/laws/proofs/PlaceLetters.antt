@@ -4,13 +4,17 @@ use mathlib.Core.Path.{_≡_, refl}
 use mathlib.Core.Bool.{Bool, true, false, true≢false}
 use mathlib.Core.List.{List, [], _∷_, _++_}
 use mathlib.Core.Option.{Option, none, some}
-use Prim.Native.Nat.{ℕ, zero, suc, _+_, _-_}
-use lib.ListN.{getD}
-use Rattle.rules.specs.Basics.{every}
-use Rattle.rules.specs.Language.{lower, upper, Rank, pattern, branch, factor, primary, Tree, one, more, last, next, bare, times, letter, caret, dollar, empty, group, letters, hasDollar}
-use Rattle.rules.specs.Places.{Unrolled, uLetter, uCaret, uDollar, uEmpty, uSeq, uAlt, uOpt, uStar, Branches, uNil, uCons, copies, options, behind, repeated, UnrolledAt, forked, unrolled, unroll, size, startOf, code, codes, Place, pLetter, pCaret, pDollar, pFork, pEnd, places}
+use Prim.Native.Nat.{ℕ, zero, suc, _+_, _-_, _*_, _/_, _%_, _^_}
+use lib.ListN.{getD, length, List·getD-eq-default}
+use Rattle.rules.specs.Basics.{every, pick, tabulate}
+use Rattle.rules.specs.Language.{lower, upper, Rank, pattern, branch, factor, primary, Tree, one, more, last, next, bare, times, letter, caret, dollar, empty, group, letters, hasDollar, deeper}
+use Rattle.rules.specs.Places.{Unrolled, uLetter, uCaret, uDollar, uEmpty, uSeq, uAlt, uOpt, uStar, Branches, uNil, uCons, copies, options, behind, repeated, UnrolledAt, forked, unrolled, unroll, size, startOf, code, codes, Place, pLetter, pCaret, pDollar, pFork, pEnd, places, skips, nest, stateAt, roundEnd, Flagged, flagged, flaggedPlaces, withFlags, spread}
 use Rattle.laws.proofs.Counting.{forked-more}
 use Rattle.laws.proofs.Level.{and-true, or-false}
+use lib.Dec.{ltb}
+use borrow.Author.Tests.{ltb-true, ltb-false}
+use Rattle.laws.proofs.Lists.{length-tabulate, getD-tabulate}
+use Rattle.laws.proofs.Rank.{noPlace}
 
 every-append : (f : ℕ → Bool) (xs ys : List ℕ) → every f (xs ++ ys) ≡ true → (every f xs ≡ true) × (every f ys ≡ true)
 unfolding every
@@ -44,35 +48,55 @@ module _ (f : ℕ → Bool) where
     PassesAll uNil = Unit {0}
     PassesAll (uCons t ts) = PassesIn t × PassesAll ts
 
-  abbrev Each : List Place → Type 0
+  -- so of every place of a list, whatever its flags
+  abbrev Each : List Flagged → Type 0
   Each [] = Unit {0}
-  Each (p ∷ ps) = Passes p × Each ps
+  Each (p ∷ ps) = ((φ : ℕ) → Passes (p .place φ)) × Each ps
 
-  each-append : (ps qs : List Place) → Each ps → Each qs → Each (ps ++ qs)
+  each-append : (ps qs : List Flagged) → Each ps → Each qs → Each (ps ++ qs)
   each-append [] qs a b = b
   each-append (p ∷ ps) qs a b = (a .0, each-append ps qs (a .1) b)
 
-  each-at : (ps : List Place) → Each ps → (q : ℕ) → Passes (getD ps q (pFork []))
-  each-at [] a q = tt
-  each-at (p ∷ ps) a zero = a .0
-  each-at (p ∷ ps) a (suc q) = each-at ps (a .1) q
+  each-at : (ps : List Flagged) → Each ps → (q φ : ℕ) → Passes (getD ps q noPlace .place φ)
+  each-at [] a q φ = tt
+  each-at (p ∷ ps) a zero φ = a .0 φ
+  each-at (p ∷ ps) a (suc q) φ = each-at ps (a .1) q φ
 
   mutual
     unfolding PassesIn code
 
-    code-passes : (t : Unrolled) (b k : ℕ) → PassesIn t → Each (code t b k)
-    code-passes (uLetter c) b k s = (s, tt)
-    code-passes uCaret b k s = (tt, tt)
-    code-passes uDollar b k s = absurd s
-    code-passes uEmpty b k s = tt
-    code-passes (uSeq x y) b k s = each-append (code x b (startOf y (b + size x) k)) (code y (b + size x) k) (code-passes x b (startOf y (b + size x) k) (s .0)) (code-passes y (b + size x) k (s .1))
-    code-passes (uAlt ts) b k s = (tt, codes-pass ts (suc b) k s)
-    code-passes (uOpt lazy t) b k s = (tt, code-passes t (suc b) k s)
-    code-passes (uStar lazy t) b k s = (tt, code-passes t (suc b) b s)
+    code-passes : (F : ℕ) (t : Unrolled) (d b : ℕ) (k : ℕ → ℕ) → PassesIn t → Each (code F t d b k)
+    code-passes F (uLetter c) d b k s = (λ φ. s, tt)
+    code-passes F uCaret d b k s = (λ φ. tt, tt)
+    code-passes F uDollar d b k s = absurd s
+    code-passes F uEmpty d b k s = tt
+    code-passes F (uSeq x y) d b k s =
+        each-append (code F x d b (startOf F y (b + size x) k)) (code F y d (b + size x) k) (code-passes F x d b (startOf F y (b + size x) k) (s .0)) (code-passes F y d (b + size x) k (s .1))
+    code-passes F (uAlt ts) d b k s = (λ φ. tt, codes-pass F ts d (suc b) k s)
+    code-passes F (uOpt lazy t) d b k s = (λ φ. tt, code-passes F t d (suc b) k s)
+    code-passes F (uStar lazy t) d b k s = (λ φ. tt, code-passes F t (deeper (skips t) d) (suc b) (roundEnd F (skips t) d b k) s)
 
-    codes-pass : (ts : Branches) (b k : ℕ) → PassesAll ts → Each (codes ts b k)
-    codes-pass uNil b k s = tt
-    codes-pass (uCons t ts) b k s = each-append (code t b k) (codes ts (b + size t) k) (code-passes t b k (s .0)) (codes-pass ts (b + size t) k (s .1))
+    codes-pass : (F : ℕ) (ts : Branches) (d b : ℕ) (k : ℕ → ℕ) → PassesAll ts → Each (codes F ts d b k)
+    codes-pass F uNil d b k s = tt
+    codes-pass F (uCons t ts) d b k s = each-append (code F t d b k) (codes F ts d (b + size t) k) (code-passes F t d b k (s .0)) (codes-pass F ts d (b + size t) k (s .1))
+
+  -- and of every place with flags
+  spread-passes : (F : ℕ) (ps : List Flagged) → Each ps → (s : ℕ) → Passes (getD (spread F ps) s (pFork []))
+  unfolding spread
+  spread-passes F ps a s = go (ltb s (length ps * F)) refl
+    where
+      state : ℕ → Place
+      state s = withFlags (getD ps (s / F) noPlace) (s % F)
+
+      either : (c : Bool) (p : Place) → Passes p → Passes (pick c p pEnd)
+      either true p x = x
+      either false p x = tt
+
+      go : (c : Bool) → ltb s (length ps * F) ≡ c → Passes (getD (tabulate (length ps * F) state) s (pFork []))
+      go true e =
+          rw (getD-tabulate (length ps * F) state s (pFork []) (ltb-true s (length ps * F) e))
+          (either (ltb (s % F) (2 ^ (getD ps (s / F) noPlace .flags))) (getD ps (s / F) noPlace .place (s % F)) (each-at ps a (s / F) (s % F)))
+      go false e = rw (List·getD-eq-default (tabulate (length ps * F) state) (pFork []) {n = s} (rw (length-tabulate (length ps * F) state) (ltb-false s (length ps * F) e))) tt
 
   copies-pass : (m : ℕ) (t r : Unrolled) → PassesIn t → PassesIn r → PassesIn (copies m t r)
   unfolding copies PassesIn
@@ -122,6 +146,9 @@ module _ (f : ℕ → Bool) where
   unrolled-passes (group p) l d = forked-passes p (unrolled-passes p l d)
 
   pub places-pass : (p : Tree pattern) → every f (letters p) ≡ true → hasDollar p ≡ false → (q : ℕ) → Passes (getD (places (unroll p)) q (pFork []))
-  unfolding places unroll
+  unfolding places flaggedPlaces unroll
   places-pass p l d q =
-      each-at (places (unroll p)) (each-append (code (unroll p) 0 (size (unroll p))) (pEnd ∷ []) (code-passes (unroll p) 0 (size (unroll p)) (forked-passes p (unrolled-passes p l d))) (tt, tt)) q
+      let t : Unrolled = unroll p in
+      let F : ℕ = 2 ^ nest t in
+      spread-passes F (flaggedPlaces F t)
+      (each-append (code F t 0 0 (stateAt F (size t))) (flagged 0 (λ φ. pEnd) ∷ []) (code-passes F t 0 0 (stateAt F (size t)) (forked-passes p (unrolled-passes p l d))) (λ φ. tt, tt)) q

@@ -11,20 +11,19 @@ use lib.ListN.{length}
 use lib.Dec.{ltb}
 use borrow.Author.Tests.{ltb-true, ltb-false}
 use Rattle.rules.specs.Basics.{Begins}
-use Rattle.rules.specs.Language.{pattern, Tree, emptyLoop}
+use Rattle.rules.specs.Language.{pattern, Tree}
 use Rattle.rules.specs.Places.{Place, places, unroll}
 use Rattle.rules.specs.Preferment.{Reports, finished, unmatched, matched, lost, stopped}
 use Rattle.rules.specs.Search.{plainFrom, End, done, full, Skip, shown, shownEnd, Swept, labels, endOf, nextStart, whole, plainly, ended, below, byFit, byNext, onAnswer, sweep, plainAt, planOf, walkSearch, plainSearch}
 use Rattle.rules.specs.Walk.{pairs, firstAt, pairWays}
 use Rattle.laws.proofs.Bounds.{Bounds}
-use Rattle.laws.proofs.Counting.{legal-unroll}
 use Rattle.laws.proofs.GreatestDerivation.{Answers, preferred, greatest-same}
 use Rattle.laws.proofs.PatternWalk.{walk-plain}
 use Rattle.laws.proofs.Starts.{next-on}
 
 -- ---- the walk's report
 
-module _ (p : Tree pattern) (g : emptyLoop p ≡ false) (o : Bounds p) (holds : ℕ → ℕ → Bool) (n : ℕ) (skip : Skip) (room : ℕ → ℕ → List ℕ → Bool) where
+module _ (p : Tree pattern) (o : Bounds p) (holds : ℕ → ℕ → Bool) (n : ℕ) (skip : Skip) (room : ℕ → ℕ → List ℕ → Bool) where
   abbrev pl : List Place
   pl = places (unroll p)
 
@@ -59,7 +58,7 @@ module _ (p : Tree pattern) (g : emptyLoop p ≡ false) (o : Bounds p) (holds : 
 
       go : ToldWith k → (b : Bool) → ltb i n ≡ b → Told i m l (below b (ended done st) (λ _. onAnswer (planOf pl n false skip room) (run k) i m l (plainly (plainFrom holds n (places (unroll p)) i)) st))
       go ih false e = finished (ltb-false i n e)
-      go ih true e = hit ih (ltb-true i n e) (plainFrom holds n (places (unroll p)) i) (preferred p g o holds n i)
+      go ih true e = hit ih (ltb-true i n e) (plainFrom holds n (places (unroll p)) i) (preferred p o holds n i)
 
   -- the matches written, and the one at which the search stops, are the greatest derivations at
   -- their starts, and no start is left out
@@ -69,7 +68,7 @@ module _ (p : Tree pattern) (g : emptyLoop p ≡ false) (o : Bounds p) (holds : 
 
   pub walk-reports : Reports p holds n skip room 0 0 0 (shown pl (walkSearch (whole n) holds n pl skip room .matches)) (shownEnd pl (walkSearch (whole n) holds n pl skip room .end))
   walk-reports =
-      let a = walk-plain (unroll p) (legal-unroll p g) holds n skip room in
+      let a = walk-plain (unroll p) holds n skip room in
       rw (a .matches, a .end) plain-reports
 
 -- ---- and there is one such report at most

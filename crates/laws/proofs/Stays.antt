@@ -16,7 +16,6 @@ use Rattle.rules.specs.Search.{Match, End, done, full, stuck, unfinished, Skip,
 use Rattle.rules.specs.Walk.{Ways, accept, try, outOfSteps, outOfRows, Halting, Outcome, found, failed, halted, orElse, close, enterUnless, tries, inside, insideBy, pairs, firstAt, pairWays}
 use Rattle.laws.proofs.Fuel.{sweep-enough, plan-on}
 use Rattle.laws.proofs.GoesOn.{Sooner, extended}
-use Rattle.laws.proofs.Level.{legal}
 
 abbrev pub Settled : Outcome → Type 0
 Settled (found p F s) = Unit {0}
@@ -147,9 +146,9 @@ module _ (h₁ h₂ : Halting) (ways₁ ways₂ : ℕ → Ways) (sooner : Sooner
             rw (lt-ltb i n₂ (le-trans (ltb-true i (plan .n) e) le))
             (ap (λ (q : Attempted × Kept). onAnswer plan₂ (sweep att₂ plan₂ k) i m l (q .0) (q .1)) d ∙ answer-stays (sweep att₂ plan₂ k) (sweep att₁ plan k) ih i m l (att₁ i st .0) (att₁ i st .1) b)
 
--- ---- a legal pattern
+-- ---- a pattern
 
-module _ (t : Unrolled) (g : legal t ≡ true) (skip : Skip) (fits : ℕ → ℕ → List ℕ → Bool) (holds₁ holds₂ : ℕ → ℕ → Bool) (n₁ n₂ largest : ℕ) (allowance : Option ℕ) (more₂ : Bool) (le : n₁ ≤ n₂) where
+module _ (t : Unrolled) (skip : Skip) (fits : ℕ → ℕ → List ℕ → Bool) (holds₁ holds₂ : ℕ → ℕ → Bool) (n₁ n₂ largest : ℕ) (allowance : Option ℕ) (more₂ : Bool) (le : n₁ ≤ n₂) where
   abbrev terms₁ : Terms
   terms₁ = record { largest = largest; more = true; allowance = allowance }
 

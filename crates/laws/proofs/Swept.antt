@@ -91,7 +91,32 @@ module _ {S : Type 0} (att : ℕ → S → Attempted × S) (sure : (i : ℕ) (st
       go ih false = rw last tt
       go ih true = finished-answer (sweep att plan k) ih i m l (att i st .0) (att i st .1) (sure i st)
 
--- and has no pair open
+-- ---- what every attempt keeps, the search keeps
+
+module _ {S : Type 0} (I : S → Type 0) (att : ℕ → S → Attempted × S) (keep : (i : ℕ) (st : S) → I st → I (att i st .1)) (plan : Plan) where
+  abbrev KeepsOn : (ℕ → ℕ → ℕ → S → Swept S) → Type 0
+  KeepsOn f = (i m l : ℕ) (st : S) → I st → I (f i m l st .state)
+
+  keeps-answer : (f : ℕ → ℕ → ℕ → S → Swept S) → KeepsOn f → (i m l : ℕ) (a : Attempted) (st : S) → I st → I (onAnswer plan f i m l a st .state)
+  keeps-answer f ih i m l miss st h = ih (suc i) m l st h
+  keeps-answer f ih i m l (halts w p) st h = h
+  keeps-answer f ih i m l (hit p) st h = go (plan .next i p) (plan .fits m l p)
+    where
+      go : (o : Option ℕ) (t : Bool) → I (byFit t (record { start = i; path = p }) st (λ _. byNext o st (λ j. f j (suc m) (l + plan .rows p) st)) .state)
+      go o false = h
+      go none true = h
+      go (some j) true = ih j (suc m) (l + plan .rows p) st h
+
+  pub sweep-keeps : (k : ℕ) → KeepsOn (sweep att plan k)
+  unfolding sweep
+  sweep-keeps zero i m l st h = h
+  sweep-keeps (suc k) i m l st h = go (sweep-keeps k) (ltb i (plan .n))
+    where
+      go : KeepsOn (sweep att plan k) → (t : Bool) → I (below t (ended (noStart (plan .more) i) st) (λ _. onAnswer plan (sweep att plan k) i m l (att i st .0) (att i st .1)) .state)
+      go ih false = h
+      go ih true = keeps-answer (sweep att plan k) ih i m l (att i st .0) (att i st .1) (keep i st h)
+
+-- and a finished search has no pair open
 pub finished-open : (e : End Match) → Finished e → openOf e ≡ []
 finished-open done f = refl
 finished-open (full m) f = refl

@@ -13,7 +13,7 @@ use native.Mathlib.Omega.{arith}
 use Rattle.rules.specs.Basics.{pick, bytes}
 use Rattle.rules.specs.Language.{star, plus, opt, between, Tree, pattern, one, more, last, next, bare, times, letter, caret, empty, group, Token, aLetter, aCaret, aDollar, opening, closing, aBar, aMark, tokens, spell, letterFirst, Written}
 use Rattle.rules.specs.Reader.{treeOf}
-use Rattle.rules.specs.Answers.{deep, wrong, incomplete, offsetAt, hasEmptyLoop, tooMany}
+use Rattle.rules.specs.Answers.{deep, wrong, incomplete, offsetAt, tooMany, nestedLoops}
 use Rattle.laws.proofs.Grammar.{tree-exactly, outside-exactly}
 
 infix 5 _⇒_
@@ -217,9 +217,9 @@ trees-hold = refl
 
 -- the first of answers 4, 5, 14, 6 and 7 that applies to a text, else 0
 unfoldable pub answerOf : List ℕ → ℕ
-unfolding deep wrong incomplete hasEmptyLoop tooMany treeOf
+unfolding deep wrong incomplete nestedLoops tooMany treeOf
 answerOf s =
-    pick (deep 0 0 s) 4 (pick (wrong s) 5 (pick (incomplete s) 14 (pick (hasEmptyLoop (treeOf s)) 6 (pick (tooMany (treeOf s)) 7 0))))
+    pick (deep 0 0 s) 4 (pick (wrong s) 5 (pick (incomplete s) 14 (pick (nestedLoops (treeOf s)) 6 (pick (tooMany (treeOf s)) 7 0))))
 
 unfoldable pub answerTable : List (String × ℕ)
 answerTable =
@@ -235,14 +235,21 @@ answerTable =
     ∷ (" ", 14)
     ∷ ("\t", 5)
     ∷ ("^**", 5)
-    -- 6: an unbounded quantifier over a body that can take no row
-    ∷ ("(A*)*", 6)
-    ∷ ("^*", 6)
-    ∷ ("$+", 6)
-    ∷ ("(){3,}", 6)
-    ∷ ("(A|^)*", 6)
-    ∷ ("(A? B*){0,}", 6)
-    ∷ ("A|B (C{,2})+", 6)
+    -- 6: more than three unbounded quantifiers over bodies that can take no row, nested in one
+    -- another
+    ∷ ("(A*)*", 0)
+    ∷ ("^*", 0)
+    ∷ ("$+", 0)
+    ∷ ("(){3,}", 0)
+    ∷ ("(A|^)*", 0)
+    ∷ ("(A? B*){0,}", 0)
+    ∷ ("A|B (C{,2})+", 0)
+    ∷ ("(((A*)*)*)*", 0)
+    ∷ ("((((A*)*)*)*)*", 6)
+    ∷ ("(((()*)*)*)*", 6)
+    ∷ ("(((()*){2})*)*", 0)
+    ∷ ("(((()*|A)* B)*)* (()*)*", 0)
+    ∷ ("(((()*|A)* B?)*)+", 6)
     ∷ ("A*", 0)
     ∷ ("(A+)+", 0)
     ∷ ("(A? B)+", 0)
@@ -254,7 +261,8 @@ answerTable =
     ∷ ("(A{51}){5}", 0)
     ∷ ("(A{16}){16}", 7)
     ∷ ("((A?){99}){3}", 7)
-    ∷ ("((A?){99}){3,}", 6)
+    ∷ ("((A?){99}){3,}", 7)
+    ∷ ("((((((A?){99}){2})*)*)*)*", 6)
     ∷ []
 
 pub answers-hold : map (λ r. answerOf (bytes (r .0))) answerTable ≡ map (λ r. r .1) answerTable

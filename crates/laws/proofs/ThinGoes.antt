@@ -15,7 +15,6 @@ use Rattle.rules.specs.Working.{All, Falls, distinct, thinned}
 use Rattle.laws.proofs.Distinct.{thin, fresh-all, thin-pairs, thinned-length, halting-thin, plan-thin}
 use Rattle.laws.proofs.Fuel.{sweep-enough, plan-on}
 use Rattle.laws.proofs.GoesOn.{Sooner, andThen, search-onward}
-use Rattle.laws.proofs.Level.{legal}
 use Rattle.laws.proofs.PatternWalk.{falls-in, top-in, starts-in}
 use Rattle.laws.proofs.Rank.{rank}
 
@@ -36,7 +35,7 @@ thin-sooner h₁ h₂ ways₁ ways₂ s = record { ways = λ x. go x (s .ways x)
     go x (inl e) = inl e
     go x (inr e) = inr (e .0, e .1, ap thin (e .2))
 
-module _ (t : Unrolled) (g : legal t ≡ true) (skip : Skip) (fits : ℕ → ℕ → List ℕ → Bool) (holds₁ holds₂ : ℕ → ℕ → Bool) (n₁ n₂ : ℕ) (terms₁ terms₂ : Terms)
+module _ (t : Unrolled) (skip : Skip) (fits : ℕ → ℕ → List ℕ → Bool) (holds₁ holds₂ : ℕ → ℕ → Bool) (n₁ n₂ : ℕ) (terms₁ terms₂ : Terms)
     (same : terms₁ .largest ≡ terms₂ .largest) (le : n₁ ≤ n₂) (few : n₂ ≤ terms₂ .largest)
     (sooner : Sooner (haltingOf terms₁ (places t) n₁) (haltingOf terms₂ (places t) n₂) (pairWays holds₁ n₁ (places t)) (pairWays holds₂ n₂ (places t)))
     (rest : (terms₁ .more ≡ true) ⊎ ((n₂ ≡ n₁) × (terms₂ .more ≡ false))) where
@@ -56,7 +55,7 @@ module _ (t : Unrolled) (g : legal t ≡ true) (skip : Skip) (fits : ℕ → ℕ
       let e₂ : pairWays holds₂ n₂ (thinned (places t)) ≡ v₂ = λ i x. thin-pairs holds₂ n₂ (places t) x i in
       rw (plan-thin (places t) n₁ (terms₁ .more) skip fits, plan-thin (places t) n₂ (terms₂ .more) skip fits, halting-thin terms₁ (places t) n₁, halting-thin terms₂ (places t) n₂, e₁, e₂, thinned-length (places t), same)
       (search-onward w₁ w₂ v₁ v₂ (thin-sooner w₁ w₂ (pairWays holds₁ n₁ (places t)) (pairWays holds₂ n₂ (places t)) sooner) (rank t n₂) N
-      (thin-falls (pairWays holds₂ n₂ (places t)) (rank t n₂) N (falls-in t g holds₂ n₂ (terms₂ .largest) few)) N (top-in t g holds₂ n₂ (terms₂ .largest) few) (firstAt P) p₁ n₂ (terms₂ .more) le rest
-      (λ i h. starts-in t g holds₂ n₂ (terms₂ .largest) few i h .0) (plan-on (places t) n₁ (terms₁ .more) skip fits) n₂ 0 0 0 (replicate N false, 0) (length-replicate N false) (omega arith)
+      (thin-falls (pairWays holds₂ n₂ (places t)) (rank t n₂) N (falls-in t holds₂ n₂ (terms₂ .largest) few)) N (top-in t holds₂ n₂ (terms₂ .largest) few) (firstAt P) p₁ n₂ (terms₂ .more) le rest
+      (λ i h. starts-in t holds₂ n₂ (terms₂ .largest) few i h .0) (plan-on (places t) n₁ (terms₁ .more) skip fits) n₂ 0 0 0 (replicate N false, 0) (length-replicate N false) (omega arith)
       ∙ ap (andThen w₂ v₂ N (firstAt P) (planOf (places t) n₂ (terms₂ .more) skip fits) 0 0)
       (sweep-enough (walkAt w₁ v₁ N (firstAt P)) p₁ (plan-on (places t) n₁ (terms₁ .more) skip fits) n₂ 0 0 0 (replicate N false, 0) le))

@@ -1,23 +1,26 @@
 -- The places of a pattern that is read, each fork's ways once: every place leads to places, a rank
 -- falls along every way of their pairs, and the letters are A to Z.
 use mathlib.Core.Path.{_≡_, refl, sym, _∙_}
-use mathlib.Core.Bool.{Bool, true}
+use mathlib.Core.Bool.{Bool, true, false}
 use mathlib.Core.List.{List, [], _∷_, _++_}
 use mathlib.Core.Option.{Option, none, some}
-use Prim.Native.Nat.{ℕ, zero, suc, _+_, _-_, _≤_, _<_}
+use Prim.Native.Nat.{ℕ, zero, suc, _+_, _-_, _≤_, _<_, _*_, _/_, _%_, _^_}
 use native.Mathlib.Omega.{arith}
-use lib.ListN.{length, getD}
-use Rattle.rules.specs.Language.{lower, upper, Rank, pattern, branch, factor, primary, Tree, one, more, last, next, bare, times, letter, caret, dollar, empty, group}
-use Rattle.rules.specs.Places.{Unrolled, uLetter, uCaret, uDollar, uEmpty, uSeq, uAlt, uOpt, uStar, Branches, uNil, uCons, copies, options, behind, repeated, UnrolledAt, forked, unrolled, unroll, size, startOf, code, codes, Place, pLetter, pCaret, pDollar, pFork, pEnd, places}
+use lib.ListN.{length, getD, List·getD-eq-default}
+use Rattle.rules.specs.Language.{lower, upper, Rank, pattern, branch, factor, primary, Tree, one, more, last, next, bare, times, letter, caret, dollar, empty, group, deeper}
+use Rattle.rules.specs.Places.{Unrolled, uLetter, uCaret, uDollar, uEmpty, uSeq, uAlt, uOpt, uStar, Branches, uNil, uCons, copies, options, behind, repeated, UnrolledAt, forked, unrolled, unroll, size, startOf, code, codes, Place, pLetter, pCaret, pDollar, pFork, pEnd, places, skips, nest, stateAt, roundEnd, Flagged, flagged, flaggedPlaces, withFlags, spread}
 use Rattle.rules.specs.Walk.{Ways, accept, try, pairs, pairWays}
 use Rattle.laws.proofs.Bounds.{Lettered}
 use Rattle.laws.proofs.Counting.{forked-more}
 use Rattle.laws.proofs.Distinct.{thin, fresh-all, thinned-at, thin-pairs}
 use Rattle.rules.specs.Working.{All, Falls, distinct, thinPlace, thinned}
-use Rattle.laws.proofs.Level.{legal}
 use Rattle.laws.proofs.PatternWalk.{falls}
-use Rattle.laws.proofs.Rank.{rank, Edge, edges-at, levelsIn, places-edges, places-length}
+use Rattle.laws.proofs.Rank.{rank, Edge, places-edges, places-length, Target, states, levelOf, noPlace}
 use Rattle.laws.proofs.Walk.{All-map}
+use lib.Dec.{ltb}
+use borrow.Author.Tests.{ltb-true, ltb-false}
+use Rattle.rules.specs.Basics.{pick, tabulate}
+use Rattle.laws.proofs.Lists.{length-tabulate, getD-tabulate}
 
 -- ---- where a place leads
 
@@ -29,19 +32,18 @@ Leads P (pDollar k) = k < P
 Leads P (pFork ks) = All (λ k. k < P) ks
 Leads P pEnd = Unit {0}
 
-edge-leads : (L : List ℕ) (P m : ℕ) (p : Place) → Edge L P m p → Leads P (thinPlace p)
+edge-leads : (lv : ℕ → ℕ) (P m : ℕ) (p : Place) → Edge lv P m p → Leads P (thinPlace p)
 unfolding thinPlace
-edge-leads L P m (pLetter c k) e = e
-edge-leads L P m (pCaret k) e = e .0
-edge-leads L P m (pDollar k) e = e .0
-edge-leads L P m (pFork ks) e = fresh-all (λ k. k < P) [] ks (All-map (λ k (r : (k < P) × (getD L k 0 < m)). r .0) ks e)
-edge-leads L P m pEnd e = tt
+edge-leads lv P m (pLetter c k) e = e
+edge-leads lv P m (pCaret k) e = e .0
+edge-leads lv P m (pDollar k) e = e .0
+edge-leads lv P m (pFork ks) e = fresh-all (λ k. k < P) [] ks (All-map (λ k (r : Target lv P m k). r .0) ks e)
+edge-leads lv P m pEnd e = tt
 
-pub thinned-leads : (t : Unrolled) → legal t ≡ true → (q : ℕ) → q < length (places t) → Leads (length (places t)) (getD (thinned (places t)) q (pFork []))
-thinned-leads t g q h =
+pub thinned-leads : (t : Unrolled) (q : ℕ) → q < length (places t) → Leads (length (places t)) (getD (thinned (places t)) q (pFork []))
+thinned-leads t q h =
     rw (thinned-at (places t) q)
-    (rw (places-length t) (edge-leads (levelsIn t) (suc (size t)) (getD (levelsIn t) q 0) (getD (places t) q (pFork []))
-    (edges-at (levelsIn t) (suc (size t)) (levelsIn t) (places t) (places-edges t g) q h (pFork []))))
+    (rw (places-length t) (edge-leads (levelOf t) (states t) (levelOf t q) (getD (places t) q (pFork [])) (places-edges t q (rw (places-length t) at h))))
 
 -- ---- the rank
 
@@ -52,9 +54,9 @@ thin-falls (try zs) ρ N x f ys e =
     let q : distinct zs ≡ ys = cc in
     rw (← q) (fresh-all (λ y. (ρ y < ρ x) × (x < N → y < N)) [] zs (f zs refl))
 
-pub thinned-falls : (t : Unrolled) → legal t ≡ true → (holds : ℕ → ℕ → Bool) (n : ℕ) → Falls (pairWays holds n (thinned (places t))) (rank t n) (pairs (length (places t)) n)
-thinned-falls t g holds n x ys e =
-    thin-falls (pairWays holds n (places t) x) (rank t n) (pairs (length (places t)) n) x (λ zs d. falls t g holds n x zs d) ys (sym (thin-pairs holds n (places t) x) ∙ e)
+pub thinned-falls : (t : Unrolled) (holds : ℕ → ℕ → Bool) (n : ℕ) → Falls (pairWays holds n (thinned (places t))) (rank t n) (pairs (length (places t)) n)
+thinned-falls t holds n x ys e =
+    thin-falls (pairWays holds n (places t) x) (rank t n) (pairs (length (places t)) n) x (λ zs d. falls t holds n x zs d) ys (sym (thin-pairs holds n (places t) x) ∙ e)
 
 -- ---- letters
 
@@ -82,36 +84,55 @@ unfoldable mutual
   SpeltAll uNil = Unit {0}
   SpeltAll (uCons t ts) = SpeltIn t × SpeltAll ts
 
--- true of every place of a list
-abbrev Every : List Place → Type 0
+-- true of every place of a list, whatever its flags
+abbrev Every : List Flagged → Type 0
 Every [] = Unit {0}
-Every (p ∷ ps) = Spelt p × Every ps
+Every (p ∷ ps) = ((φ : ℕ) → Spelt (p .place φ)) × Every ps
 
-every-append : (ps qs : List Place) → Every ps → Every qs → Every (ps ++ qs)
+every-append : (ps qs : List Flagged) → Every ps → Every qs → Every (ps ++ qs)
 every-append [] qs a b = b
 every-append (p ∷ ps) qs a b = (a .0, every-append ps qs (a .1) b)
 
-every-at : (ps : List Place) → Every ps → (q : ℕ) → Spelt (getD ps q (pFork []))
-every-at [] a q = tt
-every-at (p ∷ ps) a zero = a .0
-every-at (p ∷ ps) a (suc q) = every-at ps (a .1) q
+every-at : (ps : List Flagged) → Every ps → (q φ : ℕ) → Spelt (getD ps q noPlace .place φ)
+every-at [] a q φ = tt
+every-at (p ∷ ps) a zero φ = a .0 φ
+every-at (p ∷ ps) a (suc q) φ = every-at ps (a .1) q φ
 
 mutual
   unfolding SpeltIn code
 
-  code-spelt : (t : Unrolled) (b k : ℕ) → SpeltIn t → Every (code t b k)
-  code-spelt (uLetter c) b k s = (s, tt)
-  code-spelt uCaret b k s = (tt, tt)
-  code-spelt uDollar b k s = (tt, tt)
-  code-spelt uEmpty b k s = tt
-  code-spelt (uSeq x y) b k s = every-append (code x b (startOf y (b + size x) k)) (code y (b + size x) k) (code-spelt x b (startOf y (b + size x) k) (s .0)) (code-spelt y (b + size x) k (s .1))
-  code-spelt (uAlt ts) b k s = (tt, codes-spelt ts (suc b) k s)
-  code-spelt (uOpt lazy t) b k s = (tt, code-spelt t (suc b) k s)
-  code-spelt (uStar lazy t) b k s = (tt, code-spelt t (suc b) b s)
+  code-spelt : (F : ℕ) (t : Unrolled) (d b : ℕ) (k : ℕ → ℕ) → SpeltIn t → Every (code F t d b k)
+  code-spelt F (uLetter c) d b k s = (λ φ. s, tt)
+  code-spelt F uCaret d b k s = (λ φ. tt, tt)
+  code-spelt F uDollar d b k s = (λ φ. tt, tt)
+  code-spelt F uEmpty d b k s = tt
+  code-spelt F (uSeq x y) d b k s =
+      every-append (code F x d b (startOf F y (b + size x) k)) (code F y d (b + size x) k) (code-spelt F x d b (startOf F y (b + size x) k) (s .0)) (code-spelt F y d (b + size x) k (s .1))
+  code-spelt F (uAlt ts) d b k s = (λ φ. tt, codes-spelt F ts d (suc b) k s)
+  code-spelt F (uOpt lazy t) d b k s = (λ φ. tt, code-spelt F t d (suc b) k s)
+  code-spelt F (uStar lazy t) d b k s = (λ φ. tt, code-spelt F t (deeper (skips t) d) (suc b) (roundEnd F (skips t) d b k) s)
 
-  codes-spelt : (ts : Branches) (b k : ℕ) → SpeltAll ts → Every (codes ts b k)
-  codes-spelt uNil b k s = tt
-  codes-spelt (uCons t ts) b k s = every-append (code t b k) (codes ts (b + size t) k) (code-spelt t b k (s .0)) (codes-spelt ts (b + size t) k (s .1))
+  codes-spelt : (F : ℕ) (ts : Branches) (d b : ℕ) (k : ℕ → ℕ) → SpeltAll ts → Every (codes F ts d b k)
+  codes-spelt F uNil d b k s = tt
+  codes-spelt F (uCons t ts) d b k s = every-append (code F t d b k) (codes F ts d (b + size t) k) (code-spelt F t d b k (s .0)) (codes-spelt F ts d (b + size t) k (s .1))
+
+-- so of every place with flags
+spread-spelt : (F : ℕ) (ps : List Flagged) → Every ps → (s : ℕ) → Spelt (getD (spread F ps) s (pFork []))
+unfolding spread
+spread-spelt F ps a s = go (ltb s (length ps * F)) refl
+  where
+    state : ℕ → Place
+    state s = withFlags (getD ps (s / F) noPlace) (s % F)
+
+    either : (c : Bool) (p : Place) → Spelt p → Spelt (pick c p pEnd)
+    either true p x = x
+    either false p x = tt
+
+    go : (c : Bool) → ltb s (length ps * F) ≡ c → Spelt (getD (tabulate (length ps * F) state) s (pFork []))
+    go true e =
+        rw (getD-tabulate (length ps * F) state s (pFork []) (ltb-true s (length ps * F) e))
+        (either (ltb (s % F) (2 ^ (getD ps (s / F) noPlace .flags))) (getD ps (s / F) noPlace .place (s % F)) (every-at ps a (s / F) (s % F)))
+    go false e = rw (List·getD-eq-default (tabulate (length ps * F) state) (pFork []) {n = s} (rw (length-tabulate (length ps * F) state) (ltb-false s (length ps * F) e))) tt
 
 copies-spelt : (m : ℕ) (t r : Unrolled) → SpeltIn t → SpeltIn r → SpeltIn (copies m t r)
 unfolding copies SpeltIn
@@ -163,8 +184,11 @@ thin-spelt (pFork ks) s = s
 thin-spelt pEnd s = s
 
 pub thinned-spelt : (p : Tree pattern) → Lettered p → (q : ℕ) → Spelt (getD (thinned (places (unroll p))) q (pFork []))
-unfolding places unroll
+unfolding places flaggedPlaces unroll
 thinned-spelt p l q =
-    rw (thinned-at (places (unroll p)) q)
-    (thin-spelt (getD (places (unroll p)) q (pFork []))
-    (every-at (places (unroll p)) (every-append (code (unroll p) 0 (size (unroll p))) (pEnd ∷ []) (code-spelt (unroll p) 0 (size (unroll p)) (forked-spelt p (unrolled-spelt p l))) (tt, tt)) q))
+    let t : Unrolled = unroll p in
+    let F : ℕ = 2 ^ nest t in
+    rw (thinned-at (places t) q)
+    (thin-spelt (getD (places t) q (pFork []))
+    (spread-spelt F (flaggedPlaces F t)
+    (every-append (code F t 0 0 (stateAt F (size t))) (flagged 0 (λ φ. pEnd) ∷ []) (code-spelt F t 0 0 (stateAt F (size t)) (forked-spelt p (unrolled-spelt p l))) (λ φ. tt, tt)) q))

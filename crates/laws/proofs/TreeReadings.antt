@@ -2,27 +2,29 @@
 -- finds a path exactly where the tree has a reading, and the path found is one, with its end and
 -- its labels (demand 2: a start has a match exactly if some reading of the pattern exists there).
 -- And the rows that a reading takes are as many as its labels.
-use mathlib.Core.Path.{_≡_, refl, ap, _∙_}
+use mathlib.Core.Path.{_≡_, refl, ap, _∙_, sym, subst}
 use mathlib.Core.List.{List, [], _∷_, _++_, append-nil}
-use mathlib.Core.Bool.{Bool, false}
+use mathlib.Core.Bool.{Bool}
 use mathlib.Core.Logic.{inl, inr, ⊎-elim, _≢_, _↔_}
 use mathlib.Core.Option.{Option, none, some}
-use Prim.Native.Nat.{ℕ, zero, suc, _+_, _-_, _*_, _≤_, zero-le, suc-le-suc}
-use native.Mathlib.Nat.{add-zero, zero-add, suc-add, le-of-suc-le-suc, not-suc-le-zero}
+use Prim.Native.Nat.{ℕ, zero, suc, _+_, _-_, _≤_, zero-le, suc-le-suc, _^_}
+use native.Mathlib.Nat.{zero-add, suc-add, le-of-suc-le-suc, not-suc-le-zero}
 use native.Mathlib.Omega.{arith}
-use lib.ListN.{length, length-append}
+use lib.ListN.{length}
 use lib.Arith.{digits-div}
-use Rattle.rules.specs.Language.{lower, upper, Rank, pattern, branch, factor, primary, Tree, one, more, last, next, bare, times, letter, caret, dollar, empty, group, emptyLoop}
-use Rattle.rules.specs.Places.{Unrolled, uLetter, uCaret, uDollar, uEmpty, uSeq, uAlt, uOpt, uStar, Branches, uNil, uCons, copies, options, behind, repeated, UnrolledAt, forked, unrolled, unroll, size, startOf, places}
+use Rattle.rules.specs.Language.{lower, upper, Rank, pattern, branch, factor, primary, Tree, one, more, last, next, bare, times, letter, caret, dollar, empty, group}
+use Rattle.rules.specs.Places.{Unrolled, copies, options, behind, repeated, UnrolledAt, forked, unrolled, unroll, size, startOf, places, nest, stateAt, Flagged, flaggedPlaces}
 use Rattle.rules.specs.Readings.{Within, Rounds, Reads, SomeReading}
 use Rattle.rules.specs.Search.{plainFrom, lastOf, endOf, labels}
-use Rattle.rules.specs.Walk.{IsPath, here, there, accept, pairs, positionOf, firstAt, pairWays}
+use Rattle.rules.specs.Walk.{IsPath, here, there, accept, pairs, positionOf, firstAt, pairWays, pairAt}
 use Rattle.laws.proofs.Bounds.{Bounds, in-order}
-use Rattle.laws.proofs.Counting.{forked-more, legal-unroll}
+use Rattle.laws.proofs.Counting.{forked-more}
 use Rattle.laws.proofs.Paths.{path-found}
 use Rattle.laws.proofs.Plain.{plain-path}
-use Rattle.laws.proofs.UnrolledReadings.{ReadsU, ReadsAny, Ext, complete, Cut, sound}
-use Rattle.laws.proofs.WholePattern.{whole, first-place, small, ends-here, end-says}
+use Rattle.laws.proofs.UnrolledReadings.{ReadsU, ReadsAny, Ext, complete, Cut, sound, Taken, unrolled-taken}
+use Rattle.laws.proofs.WholePattern.{whole, first-place, small, ends-here, end-says, end-below}
+use Rattle.laws.proofs.DerivationPath.{took, no-flags}
+use Rattle.laws.proofs.Rank.{factorIn}
 
 -- ---- the tree and the unrolled pattern
 
@@ -30,11 +32,6 @@ rounds-map : (R S : ℕ → ℕ → List ℕ → Type 0) → ((i j : ℕ) (w : L
 unfolding Rounds
 rounds-map R S f zero i j w r = r
 rounds-map R S f (suc c) i j w r = (r .0, r .1, r .2, f i (r .0) (r .1) (r .3), rounds-map R S f c (r .0) j (r .2) (r .4), r .5)
-
--- a reading takes as many rows as it has labels, and none that is not there
-pub record Taken (n i j : ℕ) (w : List ℕ) : Type 0 where
-  pub rows : j ≡ i + length w
-  pub inside : i ≤ n → j ≤ n
 
 module _ (holds : ℕ → ℕ → Bool) (n : ℕ) where
   module _ (t : Unrolled) where
@@ -155,37 +152,8 @@ module _ (holds : ℕ → ℕ → Bool) (n : ℕ) where
 
   -- ---- the rows of a reading
 
-  none-taken : (i j : ℕ) (w : List ℕ) → j ≡ i → w ≡ [] → Taken n i j w
-  none-taken i j w e d = record { rows = rw d (omega arith); inside = λ h. omega arith }
-
-  taken-then : (i j k : ℕ) (u v w : List ℕ) → Taken n i j u → Taken n j k v → w ≡ u ++ v → Taken n i k w
-  taken-then i j k u v w a b e = record { rows = rw (e, length-append) (omega arith); inside = λ h. b .inside (a .inside h) }
-
-  rounds-taken : (R : ℕ → ℕ → List ℕ → Type 0) → ((i j : ℕ) (w : List ℕ) → R i j w → Taken n i j w) → (c i j : ℕ) (w : List ℕ) → Rounds R c i j w → Taken n i j w
-  unfolding Rounds
-  rounds-taken R f zero i j w r = none-taken i j w (r .0) (r .1)
-  rounds-taken R f (suc c) i j w r = taken-then i (r .0) j (r .1) (r .2) w (f i (r .0) (r .1) (r .3)) (rounds-taken R f c (r .0) j (r .2) (r .4)) (r .5)
-
-  mutual
-    unfolding ReadsU
-
-    unrolled-taken : (t : Unrolled) (i j : ℕ) (w : List ℕ) → ReadsU t holds n i j w → Taken n i j w
-    unrolled-taken (uLetter c) i j w r = record { rows = rw (r .3) (omega (arith, r .2)); inside = λ h. omega (arith, r .0, r .2) }
-    unrolled-taken uCaret i j w r = none-taken i j w (r .1) (r .2)
-    unrolled-taken uDollar i j w r = none-taken i j w (r .1) (r .2)
-    unrolled-taken uEmpty i j w r = none-taken i j w (r .0) (r .1)
-    unrolled-taken (uSeq s t) i j w r =
-        taken-then i (r .0) j (r .1) (r .2) w (unrolled-taken s i (r .0) (r .1) (r .3)) (unrolled-taken t (r .0) j (r .2) (r .4)) (r .5)
-    unrolled-taken (uAlt ts) i j w r = branches-taken ts i j w r
-    unrolled-taken (uOpt lazy t) i j w r = ⊎-elim (λ (s : (j ≡ i) × (w ≡ [])). none-taken i j w (s .0) (s .1)) (λ (s : ReadsU t holds n i j w). unrolled-taken t i j w s) r
-    unrolled-taken (uStar lazy t) i j w r = rounds-taken (λ i j w. ReadsU t holds n i j w) (λ i′ j′ w′ s. unrolled-taken t i′ j′ w′ s) (r .0) i j w (r .1)
-
-    branches-taken : (ts : Branches) (i j : ℕ) (w : List ℕ) → ReadsAny ts holds n i j w → Taken n i j w
-    branches-taken uNil i j w r = absurd r
-    branches-taken (uCons t ts) i j w r = ⊎-elim (λ (s : ReadsU t holds n i j w). unrolled-taken t i j w s) (λ (s : ReadsAny ts holds n i j w). branches-taken ts i j w s) r
-
   pub reads-taken : (p : Tree pattern) (i j : ℕ) (w : List ℕ) → Reads p holds n i j w → Taken n i j w
-  reads-taken p i j w m = unrolled-taken (unroll p) i j w (reads-unrolled p i j w m)
+  reads-taken p i j w m = unrolled-taken holds n (unroll p) i j w (reads-unrolled p i j w m)
 
 -- ---- paths
 
@@ -195,27 +163,50 @@ module _ (t : Unrolled) (holds : ℕ → ℕ → Bool) (n : ℕ) where
   stops e (here d) = refl
   stops e (there d m h) = let z : _≡_ {A = ℕ} 0 1 = cc in absurd (omega arith)
 
+  abbrev F : ℕ
+  F = factorIn t
+
+  abbrev Q : List Flagged
+  Q = flaggedPlaces F t
+
+  -- the pair of END
+  abbrev end : ℕ → ℕ
+  end j = pairAt (length (places t)) j (stateAt F (size t) 0)
+
+  enough : 2 ^ (0 + nest t) ≤ F
+  enough = let e : 0 + nest t ≡ nest t = omega arith in rw e (omega arith)
+
+  first-pair : (i : ℕ) → pairAt (length (places t)) i (startOf F t 0 (stateAt F (size t)) 0) ≡ firstAt (length (places t)) i
+  first-pair i = omega (arith, first-place t)
+
   -- a path from the first place is a reading
   pub path-reads : (i : ℕ) (path : List ℕ) → IsPath (pairWays holds n (places t)) (firstAt (length (places t)) i) path
       → ReadsU t holds n i (endOf (length (places t)) path) (labels (places t) path)
-  path-reads i path h = out (sound (places t) holds n t 0 (size t) (whole t) (omega (arith, (small t))) (small t) i path (rw (first-place t, add-zero) h))
+  unfolding places
+  path-reads i path h =
+      out (sound F Q holds n t 0 0 (stateAt F (size t)) (whole t) (omega (arith, (small t))) enough i 0 path (omega arith)
+      (subst (λ (x : ℕ). IsPath (pairWays holds n (places t)) x path) (sym (first-pair i)) h))
     where
-      out : Cut (places t) holds n (λ i j w. ReadsU t holds n i j w) i (size t) path → ReadsU t holds n i (endOf (length (places t)) path) (labels (places t) path)
+      out : Cut F Q holds n (λ i j w. ReadsU t holds n i j w) 0 i 0 (stateAt F (size t)) path → ReadsU t holds n i (endOf (length (places t)) path) (labels (places t) path)
       out c =
-          let s : c .rest ≡ (c .to * length (places t) + size t) ∷ [] = stops (ends-here t holds n (c .to)) (c .is) in
+          let x : IsPath (pairWays holds n (places t)) (end (c .to)) (c .rest) = rw (no-flags i (c .to)) at (c .is) in
+          let s : c .rest ≡ end (c .to) ∷ [] = stops (ends-here t holds n (c .to)) x in
           let w : labels (places t) path ≡ c .word = c .said ∙ ap (λ (l : List ℕ). c .word ++ labels (places t) l) s
-          ∙ ap (λ (l : List ℕ). c .word ++ l) (end-says t holds n (c .to)) ∙ append-nil (c .word) in
-          let j : endOf (length (places t)) path ≡ c .to = ap (positionOf (length (places t))) (c .ends ∙ ap (lastOf 0) s) ∙ digits-div (c .to) (small t) in
+          ∙ ap (λ (l : List ℕ). c .word ++ l) (end-says t (c .to)) ∙ append-nil (c .word) in
+          let j : endOf (length (places t)) path ≡ c .to = ap (positionOf (length (places t))) (c .ends ∙ ap (lastOf 0) s) ∙ digits-div (c .to) (end-below t) in
           rw (w, j) (c .reads)
 
   -- every reading has a path, which says it
   pub reads-path : (i j : ℕ) (w : List ℕ) → ReadsU t holds n i j w
       → (path : List ℕ) × (IsPath (pairWays holds n (places t)) (firstAt (length (places t)) i) path) × (endOf (length (places t)) path ≡ j) × (labels (places t) path ≡ w)
+  unfolding places
   reads-path i j w r =
-      let y : Ext (places t) holds n i (startOf t 0 (size t)) w ((j * length (places t) + size t) ∷ []) =
-      complete (places t) holds n t 0 (size t) (whole t) (omega (arith, (small t))) (small t) i j w r ((j * length (places t) + size t) ∷ []) (here (ends-here t holds n j)) in
-      let h : IsPath (pairWays holds n (places t)) (firstAt (length (places t)) i) (y .way) = rw (first-place t, add-zero) at (y .is) in
-      let d : labels (places t) (y .way) ≡ w = y .said ∙ ap (λ (l : List ℕ). w ++ l) (end-says t holds n j) ∙ append-nil w in
+      let x : IsPath (pairWays holds n (places t)) (end j) (end j ∷ []) = here (ends-here t holds n j) in
+      let x′ : IsPath (pairWays holds n (places t)) (pairAt (length (places t)) j (stateAt F (size t) (took 0 0 i j))) (end j ∷ []) = rw (no-flags i j) x in
+      let y : Ext F Q holds n i (startOf F t 0 (stateAt F (size t)) 0) w (end j ∷ []) =
+      complete F Q holds n t 0 0 (stateAt F (size t)) (whole t) (omega (arith, (small t))) enough i j 0 w (omega arith) r (end j ∷ []) x′ in
+      let h : IsPath (pairWays holds n (places t)) (firstAt (length (places t)) i) (y .way) = subst (λ (z : ℕ). IsPath (pairWays holds n (places t)) z (y .way)) (first-pair i) (y .is) in
+      let d : labels (places t) (y .way) ≡ w = y .said ∙ ap (λ (l : List ℕ). w ++ l) (end-says t j) ∙ append-nil w in
       let a = unrolled-taken holds n t i (endOf (length (places t)) (y .way)) (labels (places t) (y .way)) (path-reads i (y .way) h) in
       let b = unrolled-taken holds n t i j w r in
       (y .way, h, omega (arith, a .rows, b .rows, ap length d), d)
@@ -233,13 +224,13 @@ module _ (p : Tree pattern) (holds : ℕ → ℕ → Bool) (n : ℕ) where
       (path-reads (unroll p) holds n i path (plain-path (pairWays holds n (places (unroll p))) (pairs P n) (firstAt P i) path e))
 
   -- where there is a reading, a path is found
-  pub reading-found : emptyLoop p ≡ false → (i j : ℕ) (w : List ℕ) → Reads p holds n i j w → plainFrom holds n (places (unroll p)) i ≢ none
-  reading-found g i j w r = path-found (unroll p) (legal-unroll p g) holds n (reads-path (unroll p) holds n i j w (reads-unrolled holds n p i j w r) .1)
+  pub reading-found : (i j : ℕ) (w : List ℕ) → Reads p holds n i j w → plainFrom holds n (places (unroll p)) i ≢ none
+  reading-found i j w r = path-found (unroll p) holds n (reads-path (unroll p) holds n i j w (reads-unrolled holds n p i j w r) .1)
 
   -- a path is found at a start exactly if some reading exists there
-  pub match-exactly : emptyLoop p ≡ false → Bounds p → (i : ℕ) → ((path : List ℕ) × (plainFrom holds n (places (unroll p)) i ≡ some path)) ↔ SomeReading p holds n i
-  match-exactly g o i =
-      (λ f. (endOf P (f .0), labels (places (unroll p)) (f .0), found-reads o i (f .0) (f .1)), λ r. go (plainFrom holds n (places (unroll p)) i) refl (reading-found g i (r .0) (r .1) (r .2)))
+  pub match-exactly : Bounds p → (i : ℕ) → ((path : List ℕ) × (plainFrom holds n (places (unroll p)) i ≡ some path)) ↔ SomeReading p holds n i
+  match-exactly o i =
+      (λ f. (endOf P (f .0), labels (places (unroll p)) (f .0), found-reads o i (f .0) (f .1)), λ r. go (plainFrom holds n (places (unroll p)) i) refl (reading-found i (r .0) (r .1) (r .2)))
     where
       go : (a : Option (List ℕ)) → plainFrom holds n (places (unroll p)) i ≡ a → plainFrom holds n (places (unroll p)) i ≢ none → (path : List ℕ) × (plainFrom holds n (places (unroll p)) i ≡ some path)
       go none e h = absurd (h e)

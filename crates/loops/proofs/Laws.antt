@@ -5,12 +5,13 @@ use mathlib.Core.Path.{_≡_, refl, sym, ap, _∙_}
 use mathlib.Core.Bool.{Bool, true, false, _&&_, _||_}
 use mathlib.Core.List.{List}
 use mathlib.Core.Logic.{inl, inr}
-use Prim.Native.Nat.{ℕ, _+_, _*_, _-_, _≤_, _<_}
+use Prim.Native.Nat.{ℕ, suc, _+_, _*_, _-_, _≤_, _<_, _^_, min, max}
 use native.Mathlib.Omega.{arith}
 use lib.Dec.{eqb}
 use lib.ListN.{length}
 use borrow.Author.Tests.{eq-eqb, ne-eqb}
-use Rattle.rules.specs.Language.{pattern, factor, primary, Tree, one, more, last, bare, times, letter, caret, dollar, empty, group, nullable, emptyLoop}
+use Rattle.rules.specs.Basics.{pick}
+use Rattle.rules.specs.Language.{pattern, factor, primary, Tree, one, more, last, bare, times, letter, caret, dollar, empty, group, nullable, loopNesting, deeper}
 use Rattle.nodes.specs.Nodes.{nodeAt}
 use Rattle.nodes.specs.declared.Sort.{Sort}
 use Rattle.nodes.specs.declared.Sort.the-variants.{Letter, Anchor, Empty, Sequence, Alternation, Group}
@@ -18,7 +19,7 @@ use Rattle.nodes.specs.declared.Node.{Node}
 use Rattle.trees.specs.Held.{body, Top, At}
 use Rattle.trees.proofs.RoundLaws.{bound-eq}
 use Rattle.trees.proofs.ByNode.{IsAnchor, FactorAt, GroupAt, as-any, as-seq, as-alt, as-letter, as-anchor, as-empty, as-group, at-in, seq-left, seq-right, alt-left, alt-right, group-left}
-use Rattle.loops.specs.Loops.{Nullable, EmptyLoop}
+use Rattle.loops.specs.Loops.{Nullable, Nesting}
 
 clash : {A : Type 0} → _≡_ {A = ℕ} 0 1 → A
 clash e = absurd (omega arith)
@@ -65,13 +66,6 @@ module _ (Says : ℕ → Bool → Type 0) (s : List ℕ) (i j : ℕ) (L : Left S
 
     pub alt-call : (t : ℕ) → (nodeAt s i) .height ≡ t → n .sort ≡ Alternation → Below s t (n .left)
     alt-call t et e = let x = alt-left s j n en _ refl (L .here) e in (omega (arith, x .0, L .lower), x .1)
-
-    -- the same where the measure is twice the height, and one more for the function that is called
-    pub seq-look : (t : ℕ) → 2 * (nodeAt s i) .height ≡ t → n .sort ≡ Sequence → (2 * (nodeAt s (n .left)) .height + 1 < t) × At s (n .left)
-    seq-look t et e = let x = seq-call _ refl e in (omega (arith, x .0), x .1)
-
-    pub alt-look : (t : ℕ) → 2 * (nodeAt s i) .height ≡ t → n .sort ≡ Alternation → (2 * (nodeAt s (n .left)) .height + 1 < t) × At s (n .left)
-    alt-look t et e = let x = alt-call _ refl e in (omega (arith, x .0), x .1)
 
 -- ---- can take no row
 
@@ -140,94 +134,189 @@ module _ (s : List ℕ) (i j : ℕ) (L : Left (Nullable s) s i j) (n : Node) (en
 
 -- ---- unbounded over what can take no row
 
-and-false : (t : Bool) → ((t && false) || false) ≡ false
+-- The loop that began at node i is at node j, with so many such quantifiers around it, and with so
+-- deep a nesting behind it: the nesting of i's tree is the deeper of that and of j's inside those.
+pub record Deep (s : List ℕ) (i j around most : ℕ) : Type 0 where
+  pub here : At s j
+  pub lower : (nodeAt s j) .height ≤ (nodeAt s i) .height
+  pub so : (r : ℕ) → Nesting s j r → Nesting s i (min (max most (around + r)) 4)
+  pub few : (around ≤ 4) × (most ≤ 4)
+
+pub deep-begins : (s : List ℕ) (i : ℕ) → At s i → Deep s i i 0 0
+deep-begins s i a = record { here = a; lower = omega arith; so = λ r h p t. omega (arith, h p t); few = (omega arith, omega arith) }
+
+nest-factor : (s : List ℕ) (n : Node) (F : Tree factor) → FactorAt s n F → loopNesting F ≡ deeper (eqb (n .high) 100 && nullable (body F)) (loopNesting (body F))
+unfolding loopNesting
+nest-factor s n (bare x) q = rw (q .high) refl
+nest-factor s n (times x f z) q = rw (q .high, bound-eq f (q .bounds)) refl
+
+and-false : (t : Bool) → (t && false) ≡ false
 and-false true = refl
 and-false false = refl
 
-and-true : (t : Bool) → ((t && true) || false) ≡ t
-and-true true = refl
-and-true false = refl
+once : (t : Bool) → min (deeper (t && true) 0) 4 ≡ pick t 1 0
+once true = refl
+once false = refl
 
-loop-factor : (s : List ℕ) (n : Node) (F : Tree factor) → FactorAt s n F → emptyLoop F ≡ ((eqb (n .high) 100 && nullable (body F)) || emptyLoop (body F))
-unfolding emptyLoop
-loop-factor s n (bare x) q = rw (q .high) refl
-loop-factor s n (times x f z) q = rw (q .high, bound-eq f (q .bounds)) refl
+min-in : (a b : ℕ) → min (max (min a 4) b) 4 ≡ min (max a b) 4
+min-in a b = omega arith
 
-module _ (s : List ℕ) (i j : ℕ) (L : Left (EmptyLoop s) s i j) (n : Node) (en : n ≡ nodeAt s j) where
-  loop-body : (F : Tree factor) → FactorAt s n F → (x : Tree primary) → body F ≡ x → emptyLoop F ≡ ((eqb (n .high) 100 && nullable x) || emptyLoop x)
-  loop-body F q x z = loop-factor s n F q ∙ ap (λ (y : Tree primary). (eqb (n .high) 100 && nullable y) || emptyLoop y) z
+max-in : (m a c d : ℕ) → max (max m (a + c)) (a + d) ≡ max m (a + max c d)
+max-in m a c d = omega arith
 
-  pub loop-letter : (a : ℕ) → n .sort ≡ Letter a → EmptyLoop s i false
-  unfolding emptyLoop nullable
-  loop-letter a e =
-      L .so false (as-letter s j n en (λ p. false ≡ emptyLoop p) a e (λ F q z. sym (loop-body F q (letter a) z ∙ and-false (eqb (n .high) 100))))
+right-min : (most around c d r : ℕ) → r ≡ min (max most (around + c)) 4 → min (max r (around + d)) 4 ≡ min (max most (around + max c d)) 4
+right-min most around c d r e = rw e (min-in (max most (around + c)) (around + d) ∙ ap (λ (x : ℕ). min x 4) (max-in most around c d))
 
-  pub loop-anchor : (a : ℕ) → n .sort ≡ Anchor a → EmptyLoop s i (eqb (n .high) 100)
-  unfolding emptyLoop nullable
-  loop-anchor a e = L .so (eqb (n .high) 100) (as-anchor s j n en (λ p. eqb (n .high) 100 ≡ emptyLoop p) a e go)
-    where
-      go : (F : Tree factor) → FactorAt s n F → IsAnchor (body F) a → eqb (n .high) 100 ≡ emptyLoop (one (last F))
-      go F q (inl z) = sym (loop-body F q caret (z .0) ∙ and-true (eqb (n .high) 100))
-      go F q (inr z) = sym (loop-body F q dollar (z .0) ∙ and-true (eqb (n .high) 100))
+both-min : (a b c d : ℕ) → c ≡ min a 4 → d ≡ min b 4 → max c d ≡ min (max a b) 4
+both-min a b c d e f = rw (e, f) (omega arith)
 
-  pub loop-empty : n .sort ≡ Empty → EmptyLoop s i (eqb (n .high) 100)
-  unfolding emptyLoop nullable
-  loop-empty e =
-      L .so (eqb (n .high) 100) (as-empty s j n en (λ p. eqb (n .high) 100 ≡ emptyLoop p) e (λ F q z. sym (loop-body F q empty z ∙ and-true (eqb (n .high) 100))))
+left-min : (most around d r : ℕ) → r ≡ min (around + 1) 4 → min (max most (r + d)) 4 ≡ min (max most (around + min (suc d) 4)) 4
+left-min most around d r e = omega arith
 
-  pub loop-seq : (r1 : Bool) → n .sort ≡ Sequence → EmptyLoop s (n .left) r1 → r1 ≡ true → EmptyLoop s i true
-  unfolding emptyLoop
-  loop-seq r1 e f o =
-      L .so true (as-seq s j n en (λ p. true ≡ emptyLoop p) e (λ x b q. let z : emptyLoop x ≡ true = sym (f (one (last x)) (q .left)) ∙ o in rw z refl))
+no-max : (a r : ℕ) → r ≡ min (max 0 (a + 1)) 4 → r ≡ min (a + 1) 4
+no-max a r e = omega arith
 
-  pub loop-seq-second : (r1 : Bool) → n .sort ≡ Sequence → EmptyLoop s (n .left) r1 → r1 ≡ false → Left (EmptyLoop s) s i (n .right)
-  unfolding emptyLoop
-  loop-seq-second r1 e f o =
-      on (EmptyLoop s) s i j L (n .right) (seq-right s j n en _ refl (L .here) e)
-      (λ r g. as-seq s j n en (λ p. r ≡ emptyLoop p) e
-      (λ x b q. let z : emptyLoop x ≡ false = sym (f (one (last x)) (q .left)) ∙ o in rw z (g (one b) (q .right))))
+module _ (s : List ℕ) (i j around most : ℕ) (L : Deep s i j around most) where
+  pub deep-inside : 8 * j + 8 ≤ length s
+  deep-inside = at-in s j (L .here)
 
-  pub loop-alt : (r1 : Bool) → n .sort ≡ Alternation → EmptyLoop s (n .left) r1 → r1 ≡ true → EmptyLoop s i true
-  unfolding emptyLoop
-  loop-alt r1 e f o =
-      L .so true (as-alt s j n en (λ p. true ≡ emptyLoop p) e (λ b p q. let z : emptyLoop b ≡ true = sym (f (one b) (q .left)) ∙ o in rw z refl))
+  pub few-around : around ≤ 4
+  few-around = L .few .0
 
-  pub loop-alt-second : (r1 : Bool) → n .sort ≡ Alternation → EmptyLoop s (n .left) r1 → r1 ≡ false → Left (EmptyLoop s) s i (n .right)
-  unfolding emptyLoop
-  loop-alt-second r1 e f o =
-      on (EmptyLoop s) s i j L (n .right) (alt-right s j n en _ refl (L .here) e)
-      (λ r g. as-alt s j n en (λ p. r ≡ emptyLoop p) e
-      (λ b p q. let z : emptyLoop b ≡ false = sym (f (one b) (q .left)) ∙ o in rw z (g p (q .right))))
+  module _ (n : Node) (en : n ≡ nodeAt s j) where
+    nest-body : (F : Tree factor) → FactorAt s n F → (x : Tree primary) → body F ≡ x → loopNesting F ≡ deeper (eqb (n .high) 100 && nullable x) (loopNesting x)
+    nest-body F q x z = nest-factor s n F q ∙ ap (λ (y : Tree primary). deeper (eqb (n .high) 100 && nullable y) (loopNesting y)) z
 
-  loop-inside : (t : Bool) (F : Tree factor) → FactorAt s n F → (p : Tree pattern) → GroupAt s n F p → eqb (n .high) 100 ≡ t → emptyLoop F ≡ ((t && nullable p) || emptyLoop p)
-  unfolding emptyLoop nullable
-  loop-inside t F q p g e = loop-body F q (group p) (g .is) ∙ ap (λ (b : Bool). (b && nullable p) || emptyLoop p) e
+    -- the loop's measure falls
+    pub deep-seq-down : n .sort ≡ Sequence → (nodeAt s (n .right)) .height < (nodeAt s j) .height
+    deep-seq-down e = (seq-right s j n en _ refl (L .here) e) .0
 
-  -- the loop goes on inside the parentheses
-  loop-on : (t : Bool) → n .sort ≡ Group → eqb (n .high) 100 ≡ t → ((p : Tree pattern) → Top p (n .left) s → (t && nullable p) ≡ false) → Left (EmptyLoop s) s i (n .left)
-  unfolding emptyLoop
-  loop-on t e eh no-null =
-      on (EmptyLoop s) s i j L (n .left) (group-left s j n en _ refl (L .here) e)
-      (λ r f. as-group s j n en (λ p. r ≡ emptyLoop p) e
-      (λ F q p g. f p (g .inside) ∙ sym (loop-inside t F q p g eh ∙ ap (λ (b : Bool). b || emptyLoop p) (no-null p (g .inside)))))
+    pub deep-alt-down : n .sort ≡ Alternation → (nodeAt s (n .right)) .height < (nodeAt s j) .height
+    deep-alt-down e = (alt-right s j n en _ refl (L .here) e) .0
 
-  pub loop-group : n .sort ≡ Group → (n .high ≡ 100 → ⊥) → Left (EmptyLoop s) s i (n .left)
-  loop-group e nh = loop-on false e (ne-eqb (n .high) 100 nh) (λ p h. refl)
+    pub deep-group-down : n .sort ≡ Group → (nodeAt s (n .left)) .height < (nodeAt s j) .height
+    deep-group-down e = (group-left s j n en _ refl (L .here) e) .0
 
-  pub loop-group-rest : (t : Bool) → n .sort ≡ Group → n .high ≡ 100 → Nullable s (n .left) t → t ≡ false → Left (EmptyLoop s) s i (n .left)
-  loop-group-rest t e eh f o = loop-on true e (eq-eqb (n .high) 100 eh) (λ p h. sym (f p h) ∙ o)
+    pub deep-group-at : n .sort ≡ Group → At s (n .left)
+    deep-group-at e = (group-left s j n en _ refl (L .here) e) .1
 
-  pub loop-group-null : (t : Bool) → n .sort ≡ Group → n .high ≡ 100 → Nullable s (n .left) t → t ≡ true → EmptyLoop s i true
-  unfolding emptyLoop
-  loop-group-null t e eh f o =
-      L .so true (as-group s j n en (λ p. true ≡ emptyLoop p) e (λ F q p g.
-      let z : nullable p ≡ true = sym (f p (g .inside)) ∙ o in sym (loop-inside true F q p g (eq-eqb (n .high) 100 eh) ∙ ap (λ (b : Bool). (true && b) || emptyLoop p) z)))
+    -- a call on the left part: the measure is twice the height, and one more for the function that
+    -- is called
+    pub seq-look : (t : ℕ) → 2 * (nodeAt s i) .height ≡ t → n .sort ≡ Sequence → (2 * (nodeAt s (n .left)) .height + 1 < t) × At s (n .left)
+    seq-look t et e = let x = seq-left s j n en _ refl (L .here) e in (omega (arith, x .0, L .lower), x .1)
+
+    pub alt-look : (t : ℕ) → 2 * (nodeAt s i) .height ≡ t → n .sort ≡ Alternation → (2 * (nodeAt s (n .left)) .height + 1 < t) × At s (n .left)
+    alt-look t et e = let x = alt-left s j n en _ refl (L .here) e in (omega (arith, x .0, L .lower), x .1)
+
+    -- the loop ends
+    pub nest-letter : (a : ℕ) → n .sort ≡ Letter a → (r : ℕ) → r ≡ min (max most (around + 0)) 4 → Nesting s i r
+    unfolding loopNesting nullable
+    nest-letter a e r z =
+        rw z (L .so 0 (as-letter s j n en (λ p. 0 ≡ min (loopNesting p) 4) a e
+        (λ F q y. let f : loopNesting F ≡ deeper (eqb (n .high) 100 && false) 0 = nest-body F q (letter a) y in rw (f, and-false (eqb (n .high) 100)))))
+
+    at-anchor : (x : Tree primary) → nullable x ≡ true → loopNesting x ≡ 0 → (F : Tree factor) → FactorAt s n F → body F ≡ x → pick (eqb (n .high) 100) 1 0 ≡ min (loopNesting F) 4
+    at-anchor x u v F q z = rw (nest-body F q x z, u, v) (sym (once (eqb (n .high) 100)))
+
+    pub nest-anchor : (a : ℕ) → n .sort ≡ Anchor a → (c r : ℕ) → c ≡ pick (eqb (n .high) 100) 1 0 → r ≡ min (max most (around + c)) 4 → Nesting s i r
+    unfolding loopNesting nullable
+    nest-anchor a e c r y z = rw (z, y) (L .so (pick (eqb (n .high) 100) 1 0) (as-anchor s j n en (λ p. pick (eqb (n .high) 100) 1 0 ≡ min (loopNesting p) 4) a e go))
+      where
+        go : (F : Tree factor) → FactorAt s n F → IsAnchor (body F) a → pick (eqb (n .high) 100) 1 0 ≡ min (loopNesting (one (last F))) 4
+        go F q (inl w) = at-anchor caret refl refl F q (w .0)
+        go F q (inr w) = at-anchor dollar refl refl F q (w .0)
+
+    pub nest-empty : n .sort ≡ Empty → (c r : ℕ) → c ≡ pick (eqb (n .high) 100) 1 0 → r ≡ min (max most (around + c)) 4 → Nesting s i r
+    unfolding loopNesting nullable
+    nest-empty e c r y z =
+        rw (z, y) (L .so (pick (eqb (n .high) 100) 1 0) (as-empty s j n en (λ p. pick (eqb (n .high) 100) 1 0 ≡ min (loopNesting p) 4) e (λ F q w. at-anchor empty refl refl F q w)))
+
+    -- it goes on with the right part
+    on-right : (m c r : ℕ) → r ≡ min (max most (around + c)) 4 → ((nodeAt s m) .height < (nodeAt s j) .height) × At s m → ((d : ℕ) → Nesting s m d → Nesting s j (max c d)) → Deep s i m around r
+    on-right m c r z g f =
+        record {
+          here = g .1;
+          lower = omega (arith, g .0, L .lower);
+          so = λ d h p t. right-min most around c d r z ∙ L .so (max c d) (f d h) p t;
+          few = (L .few .0, omega (arith, z));
+        }
+
+    pub nest-seq : (c r : ℕ) → n .sort ≡ Sequence → Nesting s (n .left) c → r ≡ min (max most (around + c)) 4 → Deep s i (n .right) around r
+    unfolding loopNesting
+    nest-seq c r e f z =
+        on-right (n .right) c r z (seq-right s j n en _ refl (L .here) e)
+        (λ d h. as-seq s j n en (λ p. max c d ≡ min (loopNesting p) 4) e (λ x b q. both-min (loopNesting x) (loopNesting b) c d (f (one (last x)) (q .left)) (h (one b) (q .right))))
+
+    pub nest-alt : (c r : ℕ) → n .sort ≡ Alternation → Nesting s (n .left) c → r ≡ min (max most (around + c)) 4 → Deep s i (n .right) around r
+    unfolding loopNesting
+    nest-alt c r e f z =
+        on-right (n .right) c r z (alt-right s j n en _ refl (L .here) e)
+        (λ d h. as-alt s j n en (λ p. max c d ≡ min (loopNesting p) 4) e (λ b p q. both-min (loopNesting b) (loopNesting p) c d (f (one b) (q .left)) (h p (q .right))))
+
+    -- or inside the parentheses
+    on-left : (t : Bool) → n .sort ≡ Group → ((p : Tree pattern) → Top p (n .left) s → (eqb (n .high) 100 && nullable p) ≡ t) → (d : ℕ) → Nesting s (n .left) d → Nesting s j (min (deeper t d) 4)
+    unfolding loopNesting nullable
+    on-left t e u d h =
+        as-group s j n en (λ p. min (deeper t d) 4 ≡ min (loopNesting p) 4) e
+        (λ F q p g. let f : loopNesting F ≡ deeper (eqb (n .high) 100 && nullable p) (loopNesting p) = nest-body F q (group p) (g .is) in
+        rw (f, u p (g .inside)) (go t (loopNesting p) (h p (g .inside))))
+      where
+        go : (t : Bool) (m : ℕ) → d ≡ min m 4 → min (deeper t d) 4 ≡ min (deeper t m) 4
+        go true m k = omega arith
+        go false m k = omega arith
+
+    on-same : n .sort ≡ Group → ((p : Tree pattern) → Top p (n .left) s → (eqb (n .high) 100 && nullable p) ≡ false) → Deep s i (n .left) around most
+    on-same e u =
+        let g = group-left s j n en _ refl (L .here) e in
+        record {
+          here = g .1;
+          lower = omega (arith, g .0, L .lower);
+          so = λ d h p t. let w = L .so (min d 4) (on-left false e u d h) p t in omega (arith, w);
+          few = L .few;
+        }
+
+    pub nest-group : n .sort ≡ Group → (n .high ≡ 100 → ⊥) → Deep s i (n .left) around most
+    nest-group e nh = on-same e (λ p h. rw (ne-eqb (n .high) 100 nh))
+
+    pub nest-group-rest : (t : Bool) → n .sort ≡ Group → n .high ≡ 100 → Nullable s (n .left) t → t ≡ false → Deep s i (n .left) around most
+    nest-group-rest t e eh f o = on-same e (λ p h. let z : nullable p ≡ false = sym (f p h) ∙ o in rw (z, and-false (eqb (n .high) 100)))
+
+    pub nest-group-deeper : (t : Bool) (r : ℕ) → n .sort ≡ Group → n .high ≡ 100 → Nullable s (n .left) t → t ≡ true → r ≡ min (max 0 (around + 1)) 4 → Deep s i (n .left) r most
+    nest-group-deeper t r e eh f o z =
+        let g = group-left s j n en _ refl (L .here) e in
+        let u : (p : Tree pattern) → Top p (n .left) s → (eqb (n .high) 100 && nullable p) ≡ true = λ p h. let y : nullable p ≡ true = sym (f p h) ∙ o in rw (y, eq-eqb (n .high) 100 eh) refl in
+        record {
+          here = g .1;
+          lower = omega (arith, g .0, L .lower);
+          so = λ d h p v. left-min most around d r (no-max around r z) ∙ L .so (min (suc d) 4) (on-left true e u d h) p v;
+          few = (omega (arith, z), L .few .1);
+        }
 
 -- ---- a part
 
 -- a letter by its sort alone
-pub loop-letter-at : (s : List ℕ) (i : ℕ) (k : Sort) → At s i → k ≡ (nodeAt s i) .sort → (a : ℕ) → k ≡ Letter a → EmptyLoop s i false
-loop-letter-at s i k h ek a e = loop-letter s i i (begins (EmptyLoop s) s i h) (nodeAt s i) refl a (sym ek ∙ e)
+pub nest-letter-at : (s : List ℕ) (i : ℕ) (k : Sort) → At s i → k ≡ (nodeAt s i) .sort → (a : ℕ) → k ≡ Letter a → Nesting s i 0
+nest-letter-at s i k h ek a e = nest-letter s i i 0 0 (deep-begins s i h) (nodeAt s i) refl a (sym ek ∙ e) 0 refl
 
 pub one-less : (h t : ℕ) → 2 * h + 1 ≡ t → 2 * h < t
 one-less h t e = omega arith
+
+-- ---- numbers
+
+pub looped-once : (h : ℕ) → h ≡ 100 → _≡_ {A = ℕ} 1 (pick (eqb h 100) 1 0)
+looped-once h e = rw (eq-eqb h 100 e)
+
+pub looped-never : (h : ℕ) → (h ≡ 100 → ⊥) → _≡_ {A = ℕ} 0 (pick (eqb h 100) 1 0)
+looped-never h e = rw (ne-eqb h 100 e)
+
+pub factor-1 : (n : ℕ) → n ≡ 0 → _≡_ {A = ℕ} 1 (2 ^ n)
+factor-1 n e = rw e refl
+
+pub factor-2 : (n : ℕ) → n ≡ 1 → _≡_ {A = ℕ} 2 (2 ^ n)
+factor-2 n e = rw e refl
+
+pub factor-4 : (n : ℕ) → n ≡ 2 → _≡_ {A = ℕ} 4 (2 ^ n)
+factor-4 n e = rw e refl
+
+pub factor-8 : (n : ℕ) → n ≤ 3 → (n ≡ 0 → ⊥) → (n ≡ 1 → ⊥) → (n ≡ 2 → ⊥) → _≡_ {A = ℕ} 8 (2 ^ n)
+factor-8 n h a b c = let e : n ≡ 3 = omega arith in rw e refl

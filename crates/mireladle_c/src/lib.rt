@@ -12,8 +12,8 @@ ghost use Rattle.depot_state.specs.State.{Begun};
 ghost use Rattle.depots.specs.Calls.{Calls};
 ghost use Rattle.mireladle_c.specs.Told.{Told};
 
-// How much to lend: the answer 1 to 10 or 14, with the offset of 5 and 14, or 0 with P, n and the
-// number of pairs.
+// How much to lend: the answer 1 to 10 or 14, with the offset of 5 and 14, or 0 with P, n, the
+// number of pairs and R-3's factor F.
 #[repr(C)]
 pub struct Room {
     pub answer: usize,
@@ -21,6 +21,7 @@ pub struct Room {
     pub rows: usize,
     pub pairs: usize,
     pub offset: usize,
+    pub factor: usize,
 }
 
 // The search.
@@ -64,8 +65,9 @@ pub extern "C" fn mireladle_room(query: &[u8], rows: &[i32]) -> Room
         answer: size.answer,
         places: size.places,
         rows: size.rows,
-        pairs: size.places * (size.rows + 1),
+        pairs: size.places * size.factor * (size.rows + 1),
         offset: size.offset,
+        factor: size.factor,
     }
 }
 

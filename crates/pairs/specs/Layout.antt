@@ -47,7 +47,7 @@ N T n = pairs (P T) n
 
 -- the most pairs of a search, and the most rows
 abbrev pub mostPairs : ℕ
-mostPairs = 2097152
+mostPairs = 16777216
 
 abbrev pub mostRows : ℕ
 mostRows = 4096

@@ -29,6 +29,7 @@ pub fn judge_parts(s: &[u8], parts: Parts, room: &mut [u16], measures: &[u8; 24]
         answer: 0,
         offset: 0,
         places: v.places,
+        factor: v.factor,
         top: v.top,
         columns: parts.columns,
         skip: parts.skip,

@@ -4,18 +4,23 @@
 use mathlib.Core.Path.{_≡_, refl, sym, ap, _∙_}
 use mathlib.Core.Bool.{Bool, true, false}
 use mathlib.Core.List.{List, [], _∷_, _++_}
-use Prim.Native.Nat.{ℕ, zero, suc, _+_, _*_, _-_, _%_, _≤_, _<_}
+use Prim.Native.Nat.{ℕ, zero, suc, _+_, _*_, _-_, _/_, _%_, _≤_, _<_}
 use native.Mathlib.Omega.{arith}
 use lib.Dec.{ltb, eqb}
 use lib.ListN.{length, getD, set, length-append, length-set}
+use lib.Arith.{digits-div}
 use lib.Seq.{getD-set-same, getD-set-other}
 use borrow.Author.Tests.{lt-ltb, ltb-true, ne-eqb, eqb-true}
 use Rattle.rules.specs.Basics.{pick}
 use Rattle.rules.specs.Places.{Place, pLetter, pCaret, pDollar, pFork, pEnd}
 use Rattle.laws.proofs.ThinPlaces.{Spelt}
 use Rattle.table.specs.Table.{codeAt, firstAt, laterAt, countAt, span, laterBy, laterWays, waysOf, placeBy, placeAt, placesFrom}
-use Rattle.place_words.specs.Words.{putWays, putWords, putPlace, wayCount, waysIn, putPlaces, Fitting, Emitted}
+use Rattle.place_words.specs.Words.{putWays, putWords, putPlace, wayCount, waysIn, putPlaces, FitsOne, PutOne, Fitting, Emitted}
 use Rattle.place_codes.specs.Codes.{letterCode, forkCode, laterWord}
+use Rattle.place_codes.specs.Planes.{Planed, Low, slot}
+use Rattle.place_codes.specs.declared.Plane.{Plane}
+use Rattle.place_codes.specs.declared.Behind.{Behind}
+use Rattle.place_codes.proofs.CodeLaws.{slot-low}
 
 -- ---- the words of a place
 
@@ -83,10 +88,10 @@ words-length T q a b c d = simp length-set
 pub place-length : (T : List ℕ) (q w : ℕ) (p : Place) → length (putPlace T q w p) ≡ length T
 place-length T q w p = ap length (place-is T q w p) ∙ words-length _ q _ _ _ _ ∙ ways-length T w (waysFor p)
 
-pub places-length : (T : List ℕ) (q w : ℕ) (ps : List Place) → length (putPlaces T q w ps) ≡ length T
+pub places-length : (o : Plane) (T : List ℕ) (q w : ℕ) (ps : List Place) → length (putPlaces o T q w ps) ≡ length T
 unfolding putPlaces
-places-length T q w [] = refl
-places-length T q w (p ∷ ps) = places-length (putPlace T q w p) (suc q) (w + wayCount p) ps ∙ place-length T q w p
+places-length o T q w [] = refl
+places-length o T q w (p ∷ ps) = places-length o (putPlace T (slot o q) w p) (suc q) (w + wayCount p) ps ∙ place-length T (slot o q) w p
 
 -- ---- one after another
 
@@ -101,24 +106,25 @@ unfolding waysIn
 waysIn-append [] rs = omega arith
 waysIn-append (p ∷ ps) rs = omega (arith, waysIn-append ps rs)
 
-pub places-append : (T : List ℕ) (q w : ℕ) (ps rs : List Place) → putPlaces T q w (ps ++ rs) ≡ putPlaces (putPlaces T q w ps) (q + length ps) (w + waysIn ps) rs
+pub places-append : (o : Plane) (T : List ℕ) (q w : ℕ) (ps rs : List Place) → putPlaces o T q w (ps ++ rs) ≡ putPlaces o (putPlaces o T q w ps) (q + length ps) (w + waysIn ps) rs
 unfolding putPlaces waysIn
-places-append T q w [] rs = ap (λ (v : ℕ). putPlaces T v w rs) (let e : q ≡ q + 0 = omega arith in e)
-    ∙ ap (λ (v : ℕ). putPlaces T (q + 0) v rs) (let e : w ≡ w + 0 = omega arith in e)
-places-append T q w (p ∷ ps) rs =
-    places-append (putPlace T q w p) (suc q) (w + wayCount p) ps rs
-    ∙ ap (λ (v : ℕ). putPlaces (putPlaces (putPlace T q w p) (suc q) (w + wayCount p) ps) v (w + wayCount p + waysIn ps) rs)
+places-append o T q w [] rs = ap (λ (v : ℕ). putPlaces o T v w rs) (let e : q ≡ q + 0 = omega arith in e)
+    ∙ ap (λ (v : ℕ). putPlaces o T (q + 0) v rs) (let e : w ≡ w + 0 = omega arith in e)
+places-append o T q w (p ∷ ps) rs =
+    places-append o (putPlace T (slot o q) w p) (suc q) (w + wayCount p) ps rs
+    ∙ ap (λ (v : ℕ). putPlaces o (putPlaces o (putPlace T (slot o q) w p) (suc q) (w + wayCount p) ps) v (w + wayCount p + waysIn ps) rs)
     (let e : suc q + length ps ≡ q + suc (length ps) = omega arith in e)
-    ∙ ap (λ (v : ℕ). putPlaces (putPlaces (putPlace T q w p) (suc q) (w + wayCount p) ps) (q + suc (length ps)) v rs)
+    ∙ ap (λ (v : ℕ). putPlaces o (putPlaces o (putPlace T (slot o q) w p) (suc q) (w + wayCount p) ps) (q + suc (length ps)) v rs)
     (let e : w + wayCount p + waysIn ps ≡ w + (wayCount p + waysIn ps) = omega arith in e)
 
 -- ---- what is put, in two parts
 
-module _ (T : List ℕ) (b w k : ℕ) (xs ys : List Place) where
-  pub fit-left : (j : ℕ) → j ≤ 256 → Fitting T b w k (xs ++ ys) → Fitting T b w j xs
+module _ (o : Plane) (T : List ℕ) (b w : ℕ) (k : Behind) (xs ys : List Place) where
+  pub fit-left : (j : Behind) → Low j → Fitting o T b w k (xs ++ ys) → Fitting o T b w j xs
   fit-left j h f =
       record {
-        long = omega (arith, f .long, length-append xs ys);
+        planed = f .planed;
+        long = λ q l. f .long q (omega (arith, length-append xs ys));
         small = f .small;
         place = omega (arith, f .place, length-append xs ys);
         way = omega (arith, f .way, waysIn-append xs ys);
@@ -126,31 +132,48 @@ module _ (T : List ℕ) (b w k : ℕ) (xs ys : List Place) where
       }
 
   -- the second part begins at place v
-  pub fit-right : (T1 : List ℕ) (v r : ℕ) → v ≡ b + length xs → Emitted T T1 b w r xs → Fitting T b w k (xs ++ ys) → Fitting T1 v r k ys
+  pub fit-right : (T1 : List ℕ) (v r : ℕ) → v ≡ b + length xs → Emitted o T T1 b w r xs → Fitting o T b w k (xs ++ ys) → Fitting o T1 v r k ys
   fit-right T1 v r ev e f =
-      let l : length T1 ≡ length T = ap length (e .is) ∙ places-length T b w xs in
+      let l : length T1 ≡ length T = ap length (e .is) ∙ places-length o T b w xs in
       record {
-        long = omega (arith, f .long, length-append xs ys);
+        planed = f .planed;
+        long = λ q m. omega (arith, f .long q (omega (arith, length-append xs ys)), l);
         small = omega (arith, f .small);
         place = omega (arith, f .place, length-append xs ys);
         way = omega (arith, f .way, waysIn-append xs ys, e .way);
         behind = f .behind;
       }
 
-pub emitted-two : (T T1 T2 : List ℕ) (b w v r q : ℕ) (xs ys : List Place) → v ≡ b + length xs → Emitted T T1 b w r xs → Emitted T1 T2 v r q ys → Emitted T T2 b w q (xs ++ ys)
-emitted-two T T1 T2 b w v r q xs ys ev x y =
+pub emitted-two : (o : Plane) (T T1 T2 : List ℕ) (b w v r q : ℕ) (xs ys : List Place) → v ≡ b + length xs → Emitted o T T1 b w r xs → Emitted o T1 T2 v r q ys → Emitted o T T2 b w q (xs ++ ys)
+emitted-two o T T1 T2 b w v r q xs ys ev x y =
     record {
-      is = y .is ∙ ap (λ (U : List ℕ). putPlaces U v r ys) (x .is) ∙ ap (λ (u : ℕ). putPlaces (putPlaces T b w xs) u r ys) ev
-          ∙ ap (λ (u : ℕ). putPlaces (putPlaces T b w xs) (b + length xs) u ys) (x .way) ∙ sym (places-append T b w xs ys);
+      is = y .is ∙ ap (λ (U : List ℕ). putPlaces o U v r ys) (x .is) ∙ ap (λ (u : ℕ). putPlaces o (putPlaces o T b w xs) u r ys) ev
+          ∙ ap (λ (u : ℕ). putPlaces o (putPlaces o T b w xs) (b + length xs) u ys) (x .way) ∙ sym (places-append o T b w xs ys);
       way = omega (arith, x .way, y .way, waysIn-append xs ys);
     }
 
-pub emitted-none : (T : List ℕ) (b w : ℕ) → Emitted T T b w w []
+pub emitted-none : (o : Plane) (T : List ℕ) (b w : ℕ) → Emitted o T T b w w []
 unfolding putPlaces waysIn
-emitted-none T b w = record { is = refl; way = omega arith }
+emitted-none o T b w = record { is = refl; way = omega arith }
 
-pub emitted-length : (T exit : List ℕ) (b w r : ℕ) (pl : List Place) → Emitted T exit b w r pl → length exit ≡ length T
-emitted-length T exit b w r pl d = ap length (d .is) ∙ places-length T b w pl
+pub emitted-length : (o : Plane) (T exit : List ℕ) (b w r : ℕ) (pl : List Place) → Emitted o T exit b w r pl → length exit ≡ length T
+emitted-length o T exit b w r pl d = ap length (d .is) ∙ places-length o T b w pl
+
+-- one place of a plane
+module _ (o : Plane) (T : List ℕ) (b w : ℕ) (p : Place) where
+  pub fit-one : (k : Behind) (ps : List Place) → Fitting o T b w k (p ∷ ps) → FitsOne T (slot o b) w p
+  unfolding waysIn
+  fit-one k ps f =
+      record {
+        index = slot-low o b (f .planed) (omega (arith, f .place));
+        long = f .long b (omega arith);
+        small = f .small;
+        way = omega (arith, f .way);
+      }
+
+  pub emitted-one : (T1 : List ℕ) (r : ℕ) → PutOne T T1 (slot o b) w r p → Emitted o T T1 b w r (p ∷ [])
+  unfolding putPlaces waysIn
+  emitted-one T1 r d = record { is = d .is; way = omega (arith, d .way) }
 
 -- ---- words that are as they were
 
@@ -172,13 +195,14 @@ place-kept T q w p j h g =
     ap (λ (U : List ℕ). getD U j 0) (place-is T q w p) ∙ words-kept _ q _ _ _ _ j h
     ∙ ways-kept T w (waysFor p) j (λ a b. g a (omega (arith, count-is p)))
 
-pub places-kept : (T : List ℕ) (q w : ℕ) (ps : List Place) (j : ℕ) → (4 * q ≤ j → j < 4 * (q + length ps) → ⊥) → (w ≤ j → j < w + waysIn ps → ⊥)
-    → getD (putPlaces T q w ps) j 0 ≡ getD T j 0
+pub places-kept : (o : Plane) (T : List ℕ) (q w : ℕ) (ps : List Place) (j : ℕ)
+    → ((i : ℕ) → q ≤ i → i < q + length ps → 4 * slot o i ≤ j → j < 4 * slot o i + 4 → ⊥) → (w ≤ j → j < w + waysIn ps → ⊥)
+    → getD (putPlaces o T q w ps) j 0 ≡ getD T j 0
 unfolding putPlaces waysIn
-places-kept T q w [] j h g = refl
-places-kept T q w (p ∷ ps) j h g =
-    places-kept (putPlace T q w p) (suc q) (w + wayCount p) ps j (λ a b. h (omega arith) (omega arith)) (λ a b. g (omega arith) (omega arith))
-    ∙ place-kept T q w p j (λ a b. h (omega arith) (omega arith)) (λ a b. g (omega arith) (omega arith))
+places-kept o T q w [] j h g = refl
+places-kept o T q w (p ∷ ps) j h g =
+    places-kept o (putPlace T (slot o q) w p) (suc q) (w + wayCount p) ps j (λ i a b. h i (omega arith) (omega arith)) (λ a b. g (omega arith) (omega arith))
+    ∙ place-kept T (slot o q) w p j (λ a b. h q (omega arith) (omega arith) a b) (λ a b. g (omega arith) (omega arith))
 
 -- ---- words that are read back
 
@@ -381,23 +405,35 @@ module _ (T U : List ℕ) (q w : ℕ) (low : 4 * q + 4 ≤ w) where
       (words-put (putWays T w (waysFor p)) q _ _ _ _ (omega (arith, ways-length T w (waysFor p)))) in
       record { is = place-back p s l g h; keeps-to = rw (h .code, h .first, h .later, h .count) (keeps o q w r p s b e) }
 
--- places that were put are read back
-pub places-back : (T : List ℕ) (o q w r : ℕ) (ps : List Place) → o ≤ w → 4 * (q + length ps) ≤ w → w + waysIn ps ≤ length T → w + waysIn ps ≤ r
-    → ((i : ℕ) → i < length ps → Sound (getD ps i (pFork []))) → (i : ℕ) → i < length ps
-    → Back (putPlaces T q w ps) o (q + i) r (getD ps i (pFork []))
+-- entries of a plane are apart
+pub slots-apart : (o : Plane) (i q j : ℕ) → Planed o → (i ≡ q → ⊥) → 4 * slot o i ≤ j → j < 4 * slot o i + 4 → 4 * slot o q ≤ j → j < 4 * slot o q + 4 → ⊥
+unfolding slot
+slots-apart o i q j p n a b c d =
+    let e : i * o .factor + o .flags ≡ q * o .factor + o .flags = omega arith in
+    n (sym (digits-div i (p .flag)) ∙ ap (λ (x : ℕ). x / o .factor) e ∙ digits-div q (p .flag))
+
+-- places that were put are read back from any table that has their words and their ways
+pub places-back : (o : Plane) (T U : List ℕ) (from q w r : ℕ) (ps : List Place) → Planed o → from ≤ w → ((i : ℕ) → i < q + length ps → 4 * slot o i + 4 ≤ w) → w + waysIn ps ≤ length T → w + waysIn ps ≤ r
+    → ((i : ℕ) → i < length ps → Sound (getD ps i (pFork [])))
+    → ((i j : ℕ) → q ≤ i → i < q + length ps → 4 * slot o i ≤ j → j < 4 * slot o i + 4 → getD U j 0 ≡ getD (putPlaces o T q w ps) j 0)
+    → ((j : ℕ) → w ≤ j → j < w + waysIn ps → getD U j 0 ≡ getD (putPlaces o T q w ps) j 0)
+    → (i : ℕ) → i < length ps → Back U from (slot o (q + i)) r (getD ps i (pFork []))
 unfolding putPlaces waysIn
-places-back T o q w r [] g h l e s i b = absurd (omega arith)
-places-back T o q w r (p ∷ ps) g h l e s zero b =
+places-back o T U from q w r [] g below h l e s m n i b = absurd (omega arith)
+places-back o T U from q w r (p ∷ ps) g below h l e s m n zero b =
     let z : q + 0 ≡ q = omega arith in
+    let y = h q (omega arith) in
     rw z
-    (one-back T (putPlaces (putPlace T q w p) (suc q) (w + wayCount p) ps) q w (omega arith) p o r (s 0 b) g (omega arith) (omega arith)
-    (λ j x y. places-kept (putPlace T q w p) (suc q) (w + wayCount p) ps j (λ c d. omega arith) (λ c d. omega arith))
-    (λ j x y. places-kept (putPlace T q w p) (suc q) (w + wayCount p) ps j (λ c d. omega arith) (λ c d. omega arith)))
-places-back T o q w r (p ∷ ps) g h l e s (suc i) b =
+    (one-back T U (slot o q) w y p from r (s 0 b) below (omega arith) (omega arith)
+    (λ j u v. m q j (omega arith) (omega arith) u v
+    ∙ places-kept o (putPlace T (slot o q) w p) (suc q) (w + wayCount p) ps j (λ i c d x k. slots-apart o i q j g (λ f. omega arith) x k u v) (λ c d. omega arith))
+    (λ j u v. n j u (omega arith)
+    ∙ places-kept o (putPlace T (slot o q) w p) (suc q) (w + wayCount p) ps j (λ i c d x k. (let a = h i (omega arith) in omega arith)) (λ c d. omega arith)))
+places-back o T U from q w r (p ∷ ps) g below h l e s m n (suc i) b =
     let z : q + suc i ≡ suc q + i = omega arith in
     rw z
-    (places-back (putPlace T q w p) o (suc q) (w + wayCount p) r ps (omega arith) (omega arith) (omega (arith, place-length T q w p)) (omega arith)
-    (λ j c. s (suc j) (omega arith)) i (omega arith))
+    (places-back o (putPlace T (slot o q) w p) U from (suc q) (w + wayCount p) r ps g (omega arith) (λ j c. (let a = h j (omega arith) in omega arith)) (omega (arith, place-length T (slot o q) w p)) (omega arith)
+    (λ j c. s (suc j) (omega arith)) (λ i j c d. m i j (omega arith) (omega arith)) (λ j c d. n j (omega arith) (omega arith)) i (omega arith))
 
 -- so they are the table's places
 pub places-are : (U : List ℕ) (q : ℕ) (ps : List Place) → ((i : ℕ) → i < length ps → placeAt U (q + i) ≡ getD ps i (pFork []))

@@ -1,23 +1,18 @@
--- A fork's ways in a table: those that do not yet stand there are put, each once; and all forks of
--- a pattern have fewer than three ways to a place.
+-- A fork's ways in a table: those that do not yet stand there are put, each once.
 use mathlib.Core.Path.{_≡_, refl, sym, ap, _∙_}
 use mathlib.Core.Bool.{Bool, true, false, _||_, or-comm, true≢false}
 use mathlib.Core.List.{List, [], _∷_, _++_}
-use Prim.Native.Nat.{ℕ, zero, suc, _+_, _*_, _-_, _≤_, _<_, min}
+use Prim.Native.Nat.{ℕ, zero, suc, _+_, _-_, _≤_, _<_}
 use native.Mathlib.Omega.{arith}
 use lib.Dec.{eqb}
 use lib.ListN.{length, getD, set, length-set}
 use lib.Seq.{getD-set-same, getD-set-other}
-use borrow.Author.Tests.{eq-eqb, ne-eqb, eqb-true, eqb-false}
-use Rattle.rules.specs.Basics.{pick, has}
-use Rattle.rules.specs.Places.{Unrolled, uLetter, uCaret, uDollar, uEmpty, uSeq, uAlt, uOpt, uStar, Branches, uNil, uCons, size, sizes, startOf, startsOf, waysInTurn, code, codes}
+use borrow.Author.Tests.{eq-eqb, ne-eqb}
+use Rattle.rules.specs.Basics.{has}
 use Rattle.laws.proofs.Bounds.{has-append}
-use Rattle.laws.proofs.Distinct.{thinned-append}
-use Rattle.rules.specs.Working.{distinct, fresh, keepNew, thinPlace, thinned}
+use Rattle.rules.specs.Working.{fresh, keepNew}
 use Rattle.table.specs.Table.{span}
-use Rattle.place_codes.proofs.CodeLaws.{start-end, start-here}
-use Rattle.place_words.specs.Words.{putWays, wayCount, waysIn, WayPut, WayNeeds}
-use Rattle.place_words.proofs.TableLaws.{waysIn-append}
+use Rattle.place_words.specs.Words.{putWays, WayPut, WayNeeds}
 
 -- ---- a way among words
 
@@ -140,109 +135,3 @@ module _ (T : List ℕ) (from to y : ℕ) (ys : List ℕ) (T1 : List ℕ) (r1 : 
             order = omega (arith, n .order, q .1);
             len = ap length (q .0) ∙ length-set T to y;
           }
-
--- ---- how many ways
-
--- branches with places
-unfoldable pub someOf : Branches → ℕ
-unfolding size
-someOf uNil = 0
-someOf (uCons t ts) = min 1 (size t) + someOf ts
-
-pub start-by-size : (t : Unrolled) (b k : ℕ) → startOf t b k ≡ pick (eqb b (b + size t)) k b
-unfolding startOf size
-start-by-size (uLetter c) b k = start-here b (b + 1) k (λ e. omega arith)
-start-by-size uCaret b k = start-here b (b + 1) k (λ e. omega arith)
-start-by-size uDollar b k = start-here b (b + 1) k (λ e. omega arith)
-start-by-size uEmpty b k = start-end b (b + 0) k (omega arith)
-start-by-size (uSeq x y) b k = start-by-size x b (startOf y (b + size x) k) ∙ ap (λ (v : ℕ). pick (eqb b (b + size x)) v b) (start-by-size y (b + size x) k)
-    ∙ go (eqb b (b + size x)) refl
-  where
-    go : (t : Bool) → eqb b (b + size x) ≡ t → pick t (pick (eqb (b + size x) (b + size x + size y)) k (b + size x)) b ≡ pick (eqb b (b + (size x + size y))) k b
-    go true e =
-        let q : b + size x ≡ b = sym (eqb-true b (b + size x) e) in
-        let z : b + size x + size y ≡ b + (size x + size y) = omega arith in
-        rw (z, q) refl
-    go false e = let q = eqb-false b (b + size x) e in start-here b (b + (size x + size y)) k (λ u. q (omega arith))
-start-by-size (uAlt ts) b k = start-here b (b + suc (sizes ts)) k (λ e. omega arith)
-start-by-size (uOpt lazy t) b k = start-here b (b + suc (size t)) k (λ e. omega arith)
-start-by-size (uStar lazy t) b k = start-here b (b + suc (size t)) k (λ e. omega arith)
-
-keep-le : (t : Bool) (y : ℕ) (old new : List ℕ) (m : ℕ) → (t ≡ true → length old ≤ m) → (t ≡ false → suc (length new) ≤ m) → length (keepNew t y old new) ≤ m
-keep-le true y old new m f g = f refl
-keep-le false y old new m f g = g refl
-
-one-true : (b : Bool) → b ≡ true → _≡_ {A = ℕ} (pick b 0 1) 0
-one-true b e = ap (λ (x : Bool). pick {A = ℕ} x 0 1) e
-
-one-false : (b : Bool) → b ≡ false → _≡_ {A = ℕ} (pick b 0 1) 1
-one-false b e = ap (λ (x : Bool). pick {A = ℕ} x 0 1) e
-
-none-less : (a b : Bool) → pick (a || b) 0 1 ≤ pick b 0 1
-none-less true true = omega arith
-none-less true false = omega arith
-none-less false b = omega arith
-
--- the starts of branches, each once: one for each branch with places, and one for all others
-pub few-fresh : (ts : Branches) (b k : ℕ) (seen : List ℕ) → length (fresh seen (startsOf ts b k)) ≤ someOf ts + pick (has k seen) 0 1
-unfolding startsOf fresh someOf has
-few-fresh uNil b k seen = omega arith
-few-fresh (uCons t ts) b k seen = rw (start-by-size t b k) (go (eqb b (b + size t)) refl (few-fresh ts (b + size t) k))
-  where
-    go : (e : Bool) → eqb b (b + size t) ≡ e → ((s : List ℕ) → length (fresh s (startsOf ts (b + size t) k)) ≤ someOf ts + pick (has k s) 0 1)
-        → length (keepNew (has (pick e k b) seen) (pick e k b) (fresh seen (startsOf ts (b + size t) k)) (fresh (pick e k b ∷ seen) (startsOf ts (b + size t) k))) ≤ min 1
-        (size t) + someOf ts + pick (has k seen) 0 1
-    go true q ih =
-        keep-le (has k seen) k (fresh seen (startsOf ts (b + size t) k)) (fresh (k ∷ seen) (startsOf ts (b + size t) k)) _
-        (λ e. omega (arith, ih seen))
-        (λ e. omega (arith, ih (k ∷ seen), one-true (has k (k ∷ seen)) (ap (λ (x : Bool). x || has k seen) (eq-eqb k k refl)), one-false (has k seen) e))
-    go false q ih =
-        let n = eqb-false b (b + size t) q in
-        let z : min 1 (size t) ≡ 1 = some (size t) (λ e. n (omega arith)) in
-        keep-le (has b seen) b (fresh seen (startsOf ts (b + size t) k)) (fresh (b ∷ seen) (startsOf ts (b + size t) k)) _
-        (λ e. omega (arith, ih seen))
-        (λ e. omega (arith, ih (b ∷ seen), none-less (eqb b k) (has k seen)))
-      where
-        some : (m : ℕ) → (m ≡ 0 → ⊥) → min 1 m ≡ 1
-        some zero f = absurd (f refl)
-        some (suc m) f = omega arith
-
-pub two-ways : (lazy : Bool) (a b : ℕ) → length (distinct (waysInTurn lazy a b)) ≤ 2
-unfolding fresh has
-two-ways lazy a b = go lazy
-  where
-    pair : (x y : ℕ) → length (distinct (x ∷ y ∷ [])) ≤ 2
-    pair x y = let h = keep-le (eqb x y || false) y [] [] 1 (λ e. omega arith) (λ e. omega arith) in omega arith
-
-    go : (z : Bool) → length (distinct (waysInTurn z a b)) ≤ 2
-    go false = pair a b
-    go true = pair b a
-
--- a part's ways, and one more if it has places, are at most three to a place
-mutual
-  unfolding code size thinned waysIn wayCount thinPlace someOf
-
-  few-ways : (t : Unrolled) (b k : ℕ) → waysIn (thinned (code t b k)) + min 1 (size t) ≤ 3 * size t
-  few-ways (uLetter c) b k = omega arith
-  few-ways uCaret b k = omega arith
-  few-ways uDollar b k = omega arith
-  few-ways uEmpty b k = omega arith
-  few-ways (uSeq x y) b k =
-      rw (
-        thinned-append (code x b (startOf y (b + size x) k)) (code y (b + size x) k),
-        waysIn-append (thinned (code x b (startOf y (b + size x) k)))
-            (thinned (code y (b + size x) k)),
-      )
-      (omega (arith, few-ways x b (startOf y (b + size x) k), few-ways y (b + size x) k))
-  few-ways (uAlt ts) b k = omega (arith, few-fresh ts (suc b) k [], few-ways-of ts (suc b) k)
-  few-ways (uOpt lazy t) b k = omega (arith, two-ways lazy (startOf t (suc b) k) k, few-ways t (suc b) k)
-  few-ways (uStar lazy t) b k = omega (arith, two-ways lazy (startOf t (suc b) b) k, few-ways t (suc b) b)
-
-  few-ways-of : (ts : Branches) (b k : ℕ) → waysIn (thinned (codes ts b k)) + someOf ts ≤ 3 * sizes ts
-  few-ways-of uNil b k = omega arith
-  few-ways-of (uCons t ts) b k =
-      rw (thinned-append (code t b k) (codes ts (b + size t) k), waysIn-append (thinned (code t b k)) (thinned (codes ts (b + size t) k)))
-      (omega (arith, few-ways t b k, few-ways-of ts (b + size t) k))
-
-pub all-few : (t : Unrolled) (b k : ℕ) → waysIn (thinned (code t b k)) ≤ 3 * size t
-all-few t b k = omega (arith, few-ways t b k)

@@ -4,10 +4,14 @@ use mathlib.Core.Bool.{true, false}
 use mathlib.Core.List.{List, [], _∷_}
 use Prim.Native.Nat.{ℕ, suc, _+_, _*_, _-_, _≤_, _<_}
 use lib.ListN.{length, getD, set}
-use Rattle.rules.specs.Basics.{has}
-use Rattle.rules.specs.Places.{Place, pLetter, pCaret, pDollar, pFork, pEnd, code}
+use lib.Dec.{ltb}
+use Rattle.rules.specs.Basics.{pick, has}
+use Rattle.rules.specs.Places.{Place, pLetter, pCaret, pDollar, pFork, pEnd}
 use Rattle.table.specs.Table.{span}
 use Rattle.place_codes.specs.Codes.{letterCode, forkCode, laterWord}
+use Rattle.place_codes.specs.Planes.{Planed, Low, slot}
+use Rattle.place_codes.specs.declared.Plane.{Plane}
+use Rattle.place_codes.specs.declared.Behind.{Behind}
 
 -- ---- the table with places
 
@@ -43,27 +47,40 @@ unfolding wayCount
 waysIn [] = 0
 waysIn (p ∷ ps) = wayCount p + waysIn ps
 
--- places from q on, their ways from word w on
-unfoldable pub putPlaces : List ℕ → ℕ → ℕ → List Place → List ℕ
-unfolding putPlace wayCount
-putPlaces T q w [] = T
-putPlaces T q w (p ∷ ps) = putPlaces (putPlace T q w p) (suc q) (w + wayCount p) ps
+-- places from q on in the entries of a plane, their ways from word w on
+unfoldable pub putPlaces : Plane → List ℕ → ℕ → ℕ → List Place → List ℕ
+unfolding putPlace wayCount slot
+putPlaces o T q w [] = T
+putPlaces o T q w (p ∷ ps) = putPlaces o (putPlace T (slot o q) w p) (suc q) (w + wayCount p) ps
 
 -- ---- what is put where
 
--- the table has room for these places from place b on and for their ways from word w on, and all
--- numbers fit their words; k is the place behind them
-pub record Fitting (T : List ℕ) (b w k : ℕ) (pl : List Place) : Type 0 where
-  pub long : 4 * (b + length pl) ≤ length T
+-- the table has room for a place as entry q and for its ways from word w on
+pub record FitsOne (T : List ℕ) (q w : ℕ) (p : Place) : Type 0 where
+  pub index : q < 4096
+  pub long : 4 * q + 4 ≤ length T
+  pub small : length T < 65536
+  pub way : w + wayCount p ≤ length T
+
+-- it was put there, and r is the word behind its last way
+pub record PutOne (T exit : List ℕ) (q w r : ℕ) (p : Place) : Type 0 where
+  pub is : exit ≡ putPlace T q w p
+  pub way : r ≡ w + wayCount p
+
+-- the table has room in a plane for these places from place b on and for their ways from word w on,
+-- and all numbers fit their words; k is behind them
+pub record Fitting (o : Plane) (T : List ℕ) (b w : ℕ) (k : Behind) (pl : List Place) : Type 0 where
+  pub planed : Planed o
+  pub long : (q : ℕ) → q < b + length pl → 4 * slot o q + 4 ≤ length T
   pub small : length T < 65536
   pub place : b + length pl ≤ 256
   pub way : w + waysIn pl ≤ length T
-  pub behind : k ≤ 256
+  pub behind : Low k
 
--- these places were put from place b on, their ways from word w on, and r is the word behind the
--- last way
-pub record Emitted (T exit : List ℕ) (b w r : ℕ) (pl : List Place) : Type 0 where
-  pub is : exit ≡ putPlaces T b w pl
+-- these places were put in a plane from place b on, their ways from word w on, and r is the word
+-- behind the last way
+pub record Emitted (o : Plane) (T exit : List ℕ) (b w r : ℕ) (pl : List Place) : Type 0 where
+  pub is : exit ≡ putPlaces o T b w pl
   pub way : r ≡ w + waysIn pl
 
 -- place q has its words in the table, and each number fits its word
@@ -73,6 +90,18 @@ pub record Wording (T : List ℕ) (q code first later count : ℕ) : Type 0 wher
   pub first-fits : first < 65536
   pub later-fits : later < 65536
   pub count-fits : count < 65536
+
+-- place b without ways in a plane, where its flags have so many values
+unfoldable pub putSingle : List ℕ → Plane → ℕ → ℕ → ℕ → ℕ → List ℕ
+unfolding putWords slot
+putSingle T o b code k values = pick (ltb (o .flags) values) (putWords T (slot o b) code k 0 0) (putWords T (slot o b) 30 0 0 0)
+
+pub record Single (T : List ℕ) (o : Plane) (b code k : ℕ) : Type 0 where
+  pub planed : Planed o
+  pub place : b ≤ 256
+  pub long : 4 * slot o b + 4 ≤ length T
+  pub code-fits : code < 65536
+  pub first-fits : k < 65536
 
 -- ---- a fork's ways
 
@@ -97,4 +126,4 @@ pub record WayNeeds (T : List ℕ) (from to y : ℕ) : Type 0 where
   pub inside : to ≤ length T
   pub small : length T < 65536
   pub fits : has y (span T from (to - from)) ≡ false → to < length T
-  pub low : y ≤ 256
+  pub low : y < 65536

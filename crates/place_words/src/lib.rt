@@ -1,8 +1,11 @@
 // The words of the table of places, in the layout that crates/table reads: the words of a place,
 // and the ways of a fork. Promise: a way is put unless the fork has it. Weakness: a way is looked
 // for among all ways of its fork, so a fork of m ways costs m * m / 2 comparisons.
+use place_codes::Plane;
 use place_codes::fork_code;
 use place_codes::later_word;
+use place_codes::slot_of;
+use table::END;
 use table::WORDS;
 use table::word_at;
 ghost use mathlib.Core.Path.{_≡_};
@@ -10,7 +13,7 @@ ghost use Prim.Native.Nat.{_-_, _≤_};
 ghost use lib.ListN.{length};
 ghost use Rattle.rules.specs.Basics.{has};
 ghost use Rattle.table.specs.Table.{span};
-ghost use Rattle.place_words.specs.Words.{putWords, putFork, Wording, ForkNeeds, WayPut, WayNeeds};
+ghost use Rattle.place_words.specs.Words.{putWords, putFork, putSingle, Wording, Single, ForkNeeds, WayPut, WayNeeds};
 
 // The words of place q.
 fn put_words(table: &mut [u16], q: usize, code: usize, first: usize, later: usize, count: usize)
@@ -32,6 +35,27 @@ pub fn put_place(table: &mut [u16], b: usize, w: usize, code: usize, k: usize) -
 {
     put_words(table, b, code, k, 0, 0);
     w
+}
+
+// Place b without ways in a plane, where its flags have so many values: END where it does not have
+// the plane's flags.
+pub fn put_single(
+    table: &mut [u16],
+    o: Plane,
+    b: usize,
+    w: usize,
+    code: usize,
+    k: usize,
+    values: usize,
+) -> usize
+    requires { ⌜ Single (now table) o b code k ⌝ }
+    ensures { λ r. ⌜ (r ≡ w) × (now (table .exit) ≡ putSingle (now (table .entry)) o b code k values) ⌝ }
+{
+    let q = slot_of(o, b);
+    if o.flags < values {
+        return put_place(table, q, w, code, k);
+    }
+    put_place(table, q, w, END, 0)
 }
 
 // The words of the fork at place b, whose ways stand from word w to word `to`.

@@ -1,16 +1,18 @@
--- A table that holds the places of a tree without an empty loop can be walked: every place leads to
--- places, a rank falls along every way of their pairs, and it is below the number of pairs.
+-- A table that holds the places of a tree, with all values of their flags, can be walked: every
+-- place leads to places, a rank falls along every way of their pairs, and it is below the number of
+-- pairs.
 use mathlib.Core.Path.{_≡_, refl, ap, sym, _∙_}
-use mathlib.Core.Bool.{Bool, false}
+use mathlib.Core.Bool.{Bool}
 use mathlib.Core.List.{List, []}
-use Prim.Native.Nat.{ℕ, zero, suc, _+_, _<_}
+use Prim.Native.Nat.{ℕ, zero, suc, _+_, _*_, _<_}
 use native.Mathlib.Nat.{not-suc-le-zero}
 use native.Mathlib.Omega.{arith}
 use lib.ListN.{length, getD}
-use Rattle.rules.specs.Language.{Tree, pattern, emptyLoop}
-use Rattle.rules.specs.Places.{Place, pFork, unroll, places, placesOf}
+use Rattle.rules.specs.Language.{Tree, pattern}
+use Rattle.rules.specs.Places.{Place, pFork, unroll, places, placesOf, factorOf}
 use Rattle.rules.specs.Walk.{pairs, pairWays}
-use Rattle.laws.proofs.Counting.{legal-unroll, places-counted}
+use Rattle.laws.proofs.Bounds.{Bounds}
+use Rattle.laws.proofs.Counting.{places-counted}
 use Rattle.rules.specs.Working.{Falls, thinned}
 use Rattle.laws.proofs.PatternWalk.{top}
 use Rattle.laws.proofs.Rank.{rank}
@@ -41,22 +43,22 @@ module _ (T : List ℕ) where
 
 -- ---- the places of a tree
 
-module _ (T : List ℕ) (P : ℕ) (t : Tree pattern) (count : P ≡ placesOf t) (is : placesIn T P ≡ thinned (places (unroll t)))
-    (g : emptyLoop t ≡ false) where
+module _ (T : List ℕ) (P : ℕ) (t : Tree pattern) (count : P ≡ placesOf t * factorOf t) (is : placesIn T P ≡ thinned (places (unroll t)))
+    (g : Bounds t) where
   all-count : length (places (unroll t)) ≡ P
-  all-count = places-counted t ∙ sym count
+  all-count = places-counted t g ∙ sym count
 
   pub placed-leads : (q : ℕ) → q < P → Leads P (placeAt T q)
   placed-leads q h =
       let a : Leads (length (places (unroll t))) (getD (thinned (places (unroll t))) q (pFork [])) =
-      thinned-leads (unroll t) (legal-unroll t g) q (omega (arith, all-count)) in
+      thinned-leads (unroll t) q (omega (arith, all-count)) in
       let b : getD (thinned (places (unroll t))) q (pFork []) ≡ placeAt T q =
       ap (λ (ps : List Place). getD ps q (pFork [])) (sym is) ∙ in-at T P q h in
       rw (← b, ← all-count) a
 
   module _ (holds : ℕ → ℕ → Bool) (n : ℕ) where
     pub placed-falls : Falls (pairWays holds n (placesIn T P)) (rank (unroll t) n) (pairs P n)
-    placed-falls = rw (is, ← all-count) (thinned-falls (unroll t) (legal-unroll t g) holds n)
+    placed-falls = rw (is, ← all-count) (thinned-falls (unroll t) holds n)
 
     pub placed-bound : (x : ℕ) → rank (unroll t) n x < pairs P n
-    placed-bound x = rw (← all-count) (top (unroll t) (legal-unroll t g) holds n x)
+    placed-bound x = rw (← all-count) (top (unroll t) holds n x)

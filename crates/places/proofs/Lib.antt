@@ -1,4 +1,5 @@
 pub mod Spelling
+pub mod Planes
 pub mod Forking
 pub mod UnrollLaws
 pub mod Legal

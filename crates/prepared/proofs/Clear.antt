@@ -1,22 +1,27 @@
--- A query with no answer of its own: its pattern has no unbounded quantifier over a body that can
--- take no row, and not too many places. And no answer is the number that tells of a short table.
-use mathlib.Core.Path.{_≡_, refl}
+-- A query with no answer of its own: its pattern does not nest too many unbounded quantifiers over
+-- bodies that can take no row, and has not too many places. And no answer is the number that tells
+-- of a short table.
+use mathlib.Core.Path.{_≡_, refl, ap, sym, _∙_}
 use mathlib.Core.Bool.{Bool, true, false, _&&_}
 use mathlib.Core.List.{List, [], _∷_}
 use Prim.Native.Nat.{ℕ, _≤_}
 use lib.Dec.{leb}
 use lib.ListN.{getD}
+use lib.Pow.{pow-mono}
 use borrow.Author.Tests.{leb-true, ltb-false}
 use native.Mathlib.Omega.{arith}
+use mathlib.Core.Option.{some}
 use Rattle.rules.specs.Basics.{pick}
-use Rattle.rules.specs.Answers.{treeIn, hasEmptyLoop, tooMany, P, Test, firstOf, queryTests}
+use Rattle.rules.specs.Language.{Tree, pattern, loopNesting}
+use Rattle.rules.specs.Places.{factorOf}
+use Rattle.rules.specs.Answers.{treeIn, nestedLoops, tooMany, P, F, Test, firstOf, queryTests}
 use Rattle.laws.proofs.Accepted.{query-tests-refuse}
 use Rattle.laws.proofs.Choice.{and-left, and-right}
 use Rattle.laws.proofs.FirstTrue.{none-true}
 use Rattle.reading.specs.Reading.{queryAnswer}
 
 pub record Clear (q : List ℕ) : Type 0 where
-  pub loop : hasEmptyLoop (treeIn q) ≡ false
+  pub loop : nestedLoops (treeIn q) ≡ false
   pub many : tooMany (treeIn q) ≡ false
 
 pub clear-query : (q : List ℕ) → queryAnswer q ≡ 0 → Clear q
@@ -28,6 +33,12 @@ clear-query q e =
 pub few-places : (q : List ℕ) → queryAnswer q ≡ 0 → P (treeIn q) ≤ 256
 unfolding tooMany
 few-places q e = ltb-false 256 (P (treeIn q)) (clear-query q e .many)
+
+pub few-values : (q : List ℕ) → queryAnswer q ≡ 0 → (p : Tree pattern) → treeIn q ≡ some p → F (treeIn q) ≤ 8
+unfolding nestedLoops F factorOf
+few-values q e p t =
+    let h : loopNesting p ≤ 3 = ltb-false 3 (loopNesting p) (sym (ap nestedLoops t) ∙ clear-query q e .loop) in
+    rw t (pow-mono {i = loopNesting p} {j = 3} h)
 
 -- every answer of a query is at most 14
 upTo : List Test → Bool

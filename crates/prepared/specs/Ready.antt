@@ -4,11 +4,11 @@ use mathlib.Core.Path.{_≡_}
 use mathlib.Core.Bool.{false}
 use mathlib.Core.List.{List}
 use mathlib.Core.Option.{some}
-use Prim.Native.Nat.{ℕ, _+_, _≤_, _<_}
+use Prim.Native.Nat.{ℕ, _+_, _*_, _≤_, _<_}
 use lib.ListN.{length}
 use Rattle.rules.specs.Query.{parts, textOf}
-use Rattle.rules.specs.Language.{Tree, pattern, emptyLoop}
-use Rattle.rules.specs.Places.{places, unroll, placesOf}
+use Rattle.rules.specs.Language.{Tree, pattern}
+use Rattle.rules.specs.Places.{places, unroll, placesOf, factorOf}
 use Rattle.rules.specs.Answers.{treeIn, offsetAt}
 use Rattle.rules.specs.Working.{thinned}
 use Rattle.measure_list.specs.Measures.{Measurable}
@@ -28,9 +28,8 @@ pub record Ready (q T : List ℕ) (p : Prepared) : Type 0 where
   pub none : queryAnswer q ≡ 0
   pub tree : Tree pattern
   pub has-tree : treeIn q ≡ some tree
-  pub no-loop : emptyLoop tree ≡ false
-  pub places-are : p .places ≡ placesOf tree
-  pub few : p .places ≤ 256
+  pub places-are : p .places ≡ placesOf tree * factorOf tree
+  pub few : p .places ≤ 2048
   pub placed : placesIn T (p .places) ≡ thinned (places (unroll tree))
   pub sized : Sized T (p .places)
   pub columns-are : p .columns ≡ parts q .columns
@@ -55,10 +54,10 @@ pub record Given (q T : List ℕ) (p : Prepared) : Type 0 where
   pub ready : p .answer ≡ 0 → Ready q T p
 
 -- What preparing promises: that, unless it tells that there is no room; and there is, in a table of
--- 3,532 to 65,535 words.
+-- 16,076 to 65,535 words.
 pub record PreparedAs (q T T′ : List ℕ) (p : Prepared) : Type 0 where
   pub given : (p .answer ≡ 255 → ⊥) → Given q T′ p
-  pub no-room : p .answer ≡ 255 → 3532 ≤ length T → 65536 ≤ length T
+  pub no-room : p .answer ≡ 255 → 16076 ≤ length T → 65536 ≤ length T
   pub len : length T′ ≡ length T
 
 -- ---- the steps of the code
@@ -68,5 +67,5 @@ pub record Fills (s nodes defines measures : List ℕ) (q : Query) (T : List ℕ
   pub none : queryAnswer s ≡ 0
   pub measures₀ : List ℕ
   pub whole : Whole s measures₀ nodes defines measures q
-  pub room : needed s defines (q .places) (q .letters) ≤ length T
+  pub room : needed s defines (q .places * q .factor) (q .letters) ≤ length T
   pub small : length T < 65536

@@ -20,9 +20,9 @@ ghost use mathlib.Core.Path.{_≡_};
 ghost use Rattle.reading.specs.Reading.{Nodes};
 ghost use Rattle.prepared.specs.Ready.{refusal, Fills, Ready, PreparedAs};
 
-// A prepared query beside its table: its answer, with the offset of 5 and 14; where that is 0, its
-// places, the columns of a row, how many measures it has, the skip mode of its record, and the
-// letter that the skip names, 0 for none.
+// A prepared query beside its table: its answer, with the offset of 5 and 14; where that is 0, the
+// places in its table, one for each value of their flags, the columns of a row, how many measures
+// it has, the skip mode of its record, and the letter that the skip names, 0 for none.
 #[repr(C)]
 pub struct Prepared {
     pub answer: usize,
@@ -37,9 +37,9 @@ pub struct Prepared {
 // No answer of document 01: the table has too few words for the query, or more than 65,535.
 pub const NO_ROOM: usize = 255;
 
-// The words that are enough for every query: those of 256 places and their ways, 8 measures, 26
-// letters, and of each letter 50 for the entries of a DEFINE of kind 6.
-pub const MOST_WORDS: usize = 3532;
+// The words that are enough for every query: those of 256 places with 8 values of their flags and
+// their ways, 8 measures, 26 letters, and of each letter 50 for the entries of a DEFINE of kind 6.
+pub const MOST_WORDS: usize = 16076;
 
 fn not_prepared(answer: usize, offset: usize) -> Prepared
     ensures { λ r. ⌜ r ≡ refusal answer offset ⌝ }
@@ -69,19 +69,21 @@ fn fill(
     ensures ready { λ r. ⌜ (r .answer ≡ 0) × Ready (now (query .entry)) (now (table .exit)) r ⌝ }
 {
     let places = q.places;
+    let factor = q.factor;
     let columns = q.columns;
     let count = q.measures;
     let letters = q.letters;
-    let measured = PLACE_WORDS * places;
+    let entries = places * factor;
+    let measured = PLACE_WORDS * entries;
     put_in_table(measures, count, table, measured);
     let tests = measured + MEASURE_WORDS;
     put_tests(query, columns, defines, letters, table, tests);
-    let _end = unroll(nodes, q.top, places, table);
-    point(table, places, tests);
+    let _end = unroll(nodes, q.top, places, factor, table);
+    point(table, entries, tests);
     Prepared {
         answer: 0,
         offset: 0,
-        places,
+        places: entries,
         columns,
         count,
         skip: q.skip,
@@ -101,7 +103,8 @@ fn prepare_in(nodes: &mut [u16], query: &[u8], table: &mut [u16]) -> Prepared
     if answer != 0 {
         return not_prepared(answer, q.offset);
     }
-    let needed = words_needed(query, &defines, q.places, q.letters);
+    let entries = q.places * q.factor;
+    let needed = words_needed(query, &defines, entries, q.letters);
     if has_no_room(table.len(), needed) {
         return not_prepared(NO_ROOM, 0);
     }

@@ -15,7 +15,7 @@ use mathlib.Core.Option.{some}
 use Rattle.rules.specs.Basics.{pick, inRange, isLetter, every, has, tabulate}
 use Rattle.rules.specs.Query.{Measure, functionFits, cut, misplaced, unfit, doubled, columnsOf, textOf, parts}
 use Rattle.rules.specs.Language.{Tree, pattern, letters, Written}
-use Rattle.rules.specs.Answers.{tooDeep, treeIn, wrong, incomplete, hasEmptyLoop, tooMany, P, lettersIn, isForeign, foreign, Test, firstOf, refuses, queryTests, offsetAt, badRows, roomAnswer, roomOf}
+use Rattle.rules.specs.Answers.{tooDeep, treeIn, wrong, incomplete, nestedLoops, tooMany, P, F, lettersIn, isForeign, foreign, Test, firstOf, refuses, queryTests, offsetAt, badRows, roomAnswer, roomOf}
 use Rattle.rules.specs.Answers as A
 use Rattle.rules.specs.Rows.{tableOf}
 use Rattle.laws.proofs.Accepted.{tree-of, query-tests-refuse}
@@ -124,7 +124,7 @@ laterTests s =
     (4, tooDeep s)
     ∷ (5, wrong (textOf s))
     ∷ (14, incomplete (textOf s))
-    ∷ (6, hasEmptyLoop (treeIn s))
+    ∷ (6, nestedLoops (treeIn s))
     ∷ (7, tooMany (treeIn s))
     ∷ (8, doubled s)
     ∷ (9, foreign s)
@@ -278,7 +278,7 @@ module _ (s room room′ measures : List ℕ) (p : Parts) (j : JudgeRoom s room 
 
     -- none of them
     pub no-answer : (u : Bool) → p .twice ≡ false → u ≡ foreignIn (take (e - p .start) (drop (p .start) s)) measures (p .measures) (p .target) → u ≡ false
-        → JudgedParts s room′ measures p (record { answer = 0; offset = 0; places = v .places; top = v .top; columns = p .columns; skip = p .skip; target = p .target; measures = p .measures; letters = p .letters })
+        → JudgedParts s room′ measures p (record { answer = 0; offset = 0; places = v .places; factor = v .factor; top = v .top; columns = p .columns; skip = p .skip; target = p .target; measures = p .measures; letters = p .letters })
     unfolding treeIn offsetAt
     no-answer u d f y =
         record {
@@ -289,6 +289,7 @@ module _ (s room room′ measures : List ℕ) (p : Parts) (j : JudgeRoom s room 
                 tree = tree-is .0;
                 is = tree-is .1;
                 places = g .places ∙ ap (λ (a : ℕ). pick (eqb a 0) (P (treeOf (take (e - p .start) (drop (p .start) s)))) 0) z ∙ ap (λ (t : List ℕ). P (treeOf t)) the-text;
+                factor = g .factor ∙ ap (λ (a : ℕ). pick (eqb a 0) (F (treeOf (take (e - p .start) (drop (p .start) s)))) 0) z ∙ ap (λ (t : List ℕ). F (treeOf t)) the-text;
                 top = g .top z (tree-is .0) (ap treeOf the-text ∙ tree-is .1);
                 columns = refl;
                 skip = refl;
@@ -355,15 +356,15 @@ room-by-rows q bad e = first-after (queryTests q) ((10, bad) ∷ []) (query-test
 module _ (q measures₀ room defines measures : List ℕ) (r : Query)
     (a : Asked q measures₀ room defines measures r) (rows : List ℤ) where
   abbrev refusedRoom : ℕ → A.Room
-  refusedRoom n = record { answer = n; places = 0; rows = 0; offset = offsetAt (textOf q) n }
+  refusedRoom n = record { answer = n; places = 0; rows = 0; offset = offsetAt (textOf q) n; factor = 0 }
 
   room-not : (n : ℕ) → (n ≡ 0 → ⊥) → roomAnswer q (badRows q rows) ≡ n → refusedRoom n ≡ roomOf q rows
   unfolding roomOf
   room-not n d e = rw (e, ne-eqb n 0 d)
 
-  pub query-refuses : (x : Size) → (r .answer ≡ 0 → ⊥) → x ≡ record { answer = r .answer; places = 0; rows = 0; offset = r .offset } → asRoom x ≡ roomOf q rows
+  pub query-refuses : (x : Size) → (r .answer ≡ 0 → ⊥) → x ≡ record { answer = r .answer; places = 0; rows = 0; offset = r .offset; factor = 0 } → asRoom x ≡ roomOf q rows
   query-refuses x d e =
-      ap asRoom (e ∙ ap (λ (k : ℕ). record { answer = r .answer; places = 0; rows = 0; offset = k }) (a .offset)) ∙ room-not (r .answer) d (room-refused q (badRows q rows) (λ z. d (a .answer ∙ z)) ∙ sym (a .answer))
+      ap asRoom (e ∙ ap (λ (k : ℕ). record { answer = r .answer; places = 0; rows = 0; offset = k; factor = 0 }) (a .offset)) ∙ room-not (r .answer) d (room-refused q (badRows q rows) (λ z. d (a .answer ∙ z)) ∙ sym (a .answer))
 
   module _ (z : r .answer ≡ 0) where
     abbrev whole : Whole q measures₀ room defines measures r
@@ -387,13 +388,13 @@ module _ (q measures₀ room defines measures : List ℕ) (r : Query)
     unfolding badRows badCount tableOf
     bad-rows = rw (← the-columns)
 
-    pub rows-refused : (x : Size) (t : Bool) → t ≡ badCount (length rows) (r .columns) → t ≡ true → x ≡ record { answer = 10; places = 0; rows = 0; offset = 0 } → asRoom x ≡ roomOf q rows
+    pub rows-refused : (x : Size) (t : Bool) → t ≡ badCount (length rows) (r .columns) → t ≡ true → x ≡ record { answer = 10; places = 0; rows = 0; offset = 0; factor = 0 } → asRoom x ≡ roomOf q rows
     unfolding offsetAt
     rows-refused x t e f i = ap asRoom i ∙ ten (bad-rows ∙ sym e ∙ f)
 
     pub room-given : (t : Bool) → t ≡ badCount (length rows) (r .columns) → t ≡ false
-        → asRoom (record { answer = 0; places = r .places; rows = length rows / r .columns; offset = 0 }) ≡ roomOf q rows
+        → asRoom (record { answer = 0; places = r .places; rows = length rows / r .columns; offset = 0; factor = r .factor }) ≡ roomOf q rows
     unfolding tableOf roomOf
     room-given t e f =
         let x : roomAnswer q (badRows q rows) ≡ 0 = rows-answer ∙ ap (λ (b : Bool). pick b 10 0) (bad-rows ∙ sym e ∙ f) in
-        rw (x, ← the-columns, ← (whole .good .places))
+        rw (x, ← the-columns, ← (whole .good .places), ← (whole .good .factor))

@@ -14,7 +14,7 @@ use Rattle.rules.specs.Query.{Measure, doubled, textOf, parts}
 use Rattle.query.specs.Order.{firstAnswer}
 use Rattle.rules.specs.Language.{Tree, pattern}
 use Rattle.rules.specs.Answers as A
-use Rattle.rules.specs.Answers.{firstOf, queryTests, offsetAt, treeIn, P}
+use Rattle.rules.specs.Answers.{firstOf, queryTests, offsetAt, treeIn, P, F}
 use Rattle.trees.specs.Held.{Top}
 use Rattle.measure_list.specs.Measures.{Fits}
 use Rattle.table.specs.Measures.{measureIn, measuresIn}
@@ -39,7 +39,7 @@ unfolding firstOf queryTests
 queryAnswer s = firstOf (queryTests s)
 
 abbrev pub refusal : ℕ → ℕ → Query
-refusal a k = record { answer = a; offset = k; places = 0; top = 0; columns = 0; skip = 0; target = 0; measures = 0; letters = 0 }
+refusal a k = record { answer = a; offset = k; places = 0; factor = 0; top = 0; columns = 0; skip = 0; target = 0; measures = 0; letters = 0 }
 
 -- what judging the parts asks: the query has no answer 1 to 3, the parts and measures are the
 -- query's, the letter that the skip names is 0 or A to Z, it is told whether two DEFINEs are for
@@ -62,6 +62,7 @@ pub record GoodParts (s room : List ℕ) (p : Parts) (r : Query) : Type 0 where
   pub tree : Tree pattern
   pub is : treeIn s ≡ some tree
   pub places : r .places ≡ P (treeIn s)
+  pub factor : r .factor ≡ F (treeIn s)
   pub top : Top tree (r .top) room
   pub columns : r .columns ≡ p .columns
   pub skip : r .skip ≡ p .skip
@@ -108,4 +109,4 @@ pub record Asked (s measures₀ room defines measures : List ℕ) (r : Query) : 
 
 -- the room that a caller is told, as the rules have it
 abbrev pub asRoom : Size → A.Room
-asRoom r = record { answer = r .answer; places = r .places; rows = r .rows; offset = r .offset }
+asRoom r = record { answer = r .answer; places = r .places; rows = r .rows; offset = r .offset; factor = r .factor }

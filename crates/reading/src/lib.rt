@@ -4,12 +4,13 @@ ghost use Prim.Native.Nat.{_≤_, _<_};
 ghost use Rattle.reading.specs.Reading.{knownIn, foreignIn, refusal, shortText};
 
 // What a query asks: its answer 1 to 9 or 14, with the offset of 5 and 14, or 0; where it is 0, P,
-// the top node of its pattern's tree, and its parts, with the letter that the skip names (0 for
+// F, the top node of its pattern's tree, and its parts, with the letter that the skip names (0 for
 // none) and a number from which on no letter has a DEFINE.
 pub struct Query {
     pub answer: usize,
     pub offset: usize,
     pub places: usize,
+    pub factor: usize,
     pub top: usize,
     pub columns: usize,
     pub skip: usize,
@@ -18,12 +19,13 @@ pub struct Query {
     pub letters: usize,
 }
 
-// How much to lend: the answer 1 to 10 or 14, with the offset of 5 and 14, or 0 with P and n.
+// How much to lend: the answer 1 to 10 or 14, with the offset of 5 and 14, or 0 with P, n and F.
 pub struct Size {
     pub answer: usize,
     pub places: usize,
     pub rows: usize,
     pub offset: usize,
+    pub factor: usize,
 }
 
 // Whether the letter of a measure or of the skip stands in the pattern's text, or is 0: for all
@@ -62,6 +64,7 @@ pub fn refused(answer: usize, offset: usize) -> Query
         answer,
         offset,
         places: 0,
+        factor: 0,
         top: 0,
         columns: 0,
         skip: 0,
@@ -72,13 +75,14 @@ pub fn refused(answer: usize, offset: usize) -> Query
 }
 
 pub fn no_room(answer: usize, offset: usize) -> Size
-    ensures { λ r. ⌜ r ≡ record { answer = answer; places = 0; rows = 0; offset = offset } ⌝ }
+    ensures { λ r. ⌜ r ≡ record { answer = answer; places = 0; rows = 0; offset = offset; factor = 0 } ⌝ }
 {
     Size {
         answer,
         places: 0,
         rows: 0,
         offset,
+        factor: 0,
     }
 }
 

@@ -53,6 +53,7 @@ fn room_in(nodes: &mut [u16], query: &[u8], rows: &[i32]) -> Size
         places: q.places,
         rows: n,
         offset: 0,
+        factor: q.factor,
     }
 }
 

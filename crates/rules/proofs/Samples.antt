@@ -3,7 +3,7 @@ use mathlib.Core.Path.{refl}
 use mathlib.Core.Bool.{false≢true, true≢false}
 use Rattle.rules.specs.Basics.{every}
 use Rattle.rules.specs.Bench.{agrees}
-use Rattle.rules.specs.Samples.{skips, fullFirst, allowances, keepsTo, inTime, noRows, lots, keepsOn, lotRooms, lotRefusals, refusesSo, Preferences, comesTo, averages, averageSearches, truthTable, entryLists, truthSearches, aheadEntries}
+use Rattle.rules.specs.Samples.{skips, fullFirst, allowances, keepsTo, inTime, noRows, lots, keepsOn, lotRooms, lotRefusals, refusesSo, Preferences, comesTo, averages, averageSearches, truthTable, entryLists, truthSearches, aheadEntries, repetitions, shows, loopSkips, loopAllowances, loopsKeepTo, loopLots, loopRooms}
 use Rattle.rules.specs.Preferment.{Prefers}
 use lib.Dec.{T}
 
@@ -46,6 +46,26 @@ lot-rooms = tt
 pub lot-refusals : T (every refusesSo lotRefusals)
 unfolding every refusesSo lotRefusals
 lot-refusals = tt
+
+pub repetitions-hold : T (every shows repetitions)
+unfolding every shows repetitions
+repetitions-hold = tt
+
+pub loop-skips-hold : T (every agrees loopSkips)
+unfolding every agrees loopSkips
+loop-skips-hold = tt
+
+pub loop-allowances-hold : T (every loopsKeepTo loopAllowances)
+unfolding every loopsKeepTo loopAllowances
+loop-allowances-hold = tt
+
+pub loop-lots-hold : T (every keepsOn loopLots)
+unfolding every keepsOn loopLots
+loop-lots-hold = tt
+
+pub loop-rooms : T loopRooms
+unfolding loopRooms
+loop-rooms = tt
 
 pub preferences : Preferences
 unfolding Prefers

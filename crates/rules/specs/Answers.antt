@@ -1,19 +1,20 @@
 -- Document 01, "Report", the table of answers, and request R-1, which parts 14 from 5: a test for
--- each of 1 to 14 over the whole input, the first that applies, and from it the result and the
--- later content of all four lent buffers, as one function of all that goes in.
+-- each of 1 to 12 and 14 over the whole input, the first that applies, or else the answer of the
+-- search's end, and from it the result and the later content of all four lent buffers, as one
+-- function of all that goes in.
 use mathlib.Core.Bool.{Bool, true, false, not, _&&_, _||_}
 use mathlib.Core.List.{List, [], _∷_, _++_}
 use mathlib.Core.Option.{Option, none, some}
-use Prim.Native.Nat.{ℕ, _+_, _%_}
+use Prim.Native.Nat.{ℕ, _+_, _%_, _*_}
 use lib.Dec.{ltb, eqb}
 use lib.IntN.{ℤ}
 use lib.ListN.{length}
 use Rattle.rules.specs.Basics.{pick, every, has, wrote}
 use Rattle.rules.specs.Rows.{Table, tableOf, Condition, holds}
 use Rattle.rules.specs.Query.{cut, misplaced, unfit, doubled, columnsOf, textOf, Measure, parts}
-use Rattle.rules.specs.Language.{Tree, pattern, emptyLoop, letters}
+use Rattle.rules.specs.Language.{Tree, pattern, letters, loopNesting}
 use Rattle.rules.specs.Reader.{treeOf, stopOf}
-use Rattle.rules.specs.Places.{Place, unroll, places, placesOf}
+use Rattle.rules.specs.Places.{Place, unroll, places, placesOf, factorOf}
 use Rattle.rules.specs.Walk.{pairs, Halt, outOfSteps, outOfRows}
 use Rattle.rules.specs.Search.{Match, End, done, full, stuck, unfinished, Terms, within, whole, Skip, pastLast, toNext, toFirst, toLast, Swept, Kept, walkSearch, plainSearch}
 use Rattle.rules.specs.Report.{numbersOf, labelsOf, fits, bytesFor, notesOf, zeros}
@@ -58,17 +59,24 @@ unfoldable pub offsetAt : List ℕ → ℕ → ℕ
 unfolding stopOf
 offsetAt text a = pick (eqb a 5 || eqb a 14) (stopOf text) 0
 
--- Answer 6: an unbounded quantifier over a body that can take no row
-unfoldable pub hasEmptyLoop : Option (Tree pattern) → Bool
-unfolding emptyLoop
-hasEmptyLoop none = false
-hasEmptyLoop (some t) = emptyLoop t
+-- Answer 6: more than three unbounded quantifiers over bodies that can take no row, nested in one
+-- another
+unfoldable pub nestedLoops : Option (Tree pattern) → Bool
+unfolding loopNesting
+nestedLoops none = false
+nestedLoops (some t) = ltb 3 (loopNesting t)
 
 -- P, and answer 7: P above 256
 unfoldable pub P : Option (Tree pattern) → ℕ
 unfolding placesOf
 P none = 0
 P (some t) = placesOf t
+
+-- R-3: the factor F
+unfoldable pub F : Option (Tree pattern) → ℕ
+unfolding factorOf
+F none = 1
+F (some t) = factorOf t
 
 unfoldable pub tooMany : Option (Tree pattern) → Bool
 unfolding P
@@ -156,8 +164,8 @@ pub record Buffers : Type 0 where
 
 -- how many pairs a query has on these rows
 unfoldable pub pairsOf : List ℕ → List ℤ → ℕ
-unfolding P treeIn tableOf columnsOf
-pairsOf q rows = pairs (P (treeIn q)) (tableOf (columnsOf q) rows .n)
+unfolding P F treeIn tableOf columnsOf
+pairsOf q rows = pairs (P (treeIn q) * F (treeIn q)) (tableOf (columnsOf q) rows .n)
 
 -- Answers 11 and 12: notes, or trail, too short
 unfoldable pub shortNotes : List ℕ → List ℤ → Buffers → Bool
@@ -199,7 +207,7 @@ firstOf (t ∷ ts) = pick (t .1) (t .0) (firstOf ts)
 -- the tests that ask the query alone, in their order: 5 and 14 exclude each other and stand where 5
 -- stood
 unfoldable pub queryTests : List ℕ → List Test
-unfolding cut misplaced unfit tooDeep treeIn wrong incomplete hasEmptyLoop tooMany doubled foreign
+unfolding cut misplaced unfit tooDeep treeIn wrong incomplete nestedLoops tooMany doubled foreign
 queryTests q =
     (1, cut q)
     ∷ (2, misplaced q)
@@ -207,7 +215,7 @@ queryTests q =
     ∷ (4, tooDeep q)
     ∷ (5, wrong (textOf q))
     ∷ (14, incomplete (textOf q))
-    ∷ (6, hasEmptyLoop (treeIn q))
+    ∷ (6, nestedLoops (treeIn q))
     ∷ (7, tooMany (treeIn q))
     ∷ (8, doubled q)
     ∷ (9, foreign q)
@@ -334,10 +342,11 @@ searchOf q rows lent = searchWithin none q rows lent
 -- ---- how much to lend
 
 -- `room`: the answer 1 to 10 or 14 that a query and rows get whatever is lent, with its offset, or
--- 0; and where it is 0, P and n
+-- 0; and where it is 0, P, F and n
 pub record Room : Type 0 where
   pub answer : ℕ
   pub places : ℕ
+  pub factor : ℕ
   pub rows : ℕ
   pub offset : ℕ
 
@@ -346,8 +355,8 @@ unfolding firstOf queryTests
 roomAnswer q bad = firstOf (queryTests q ++ ((10, bad) ∷ []))
 
 unfoldable pub roomOf : List ℕ → List ℤ → Room
-unfolding roomAnswer badRows treeIn P tableOf columnsOf offsetAt textOf
+unfolding roomAnswer badRows treeIn P F tableOf columnsOf offsetAt textOf
 roomOf q rows =
     pick (eqb (roomAnswer q (badRows q rows)) 0)
-    (record { answer = 0; places = P (treeIn q); rows = tableOf (columnsOf q) rows .n; offset = 0 })
-    (record { answer = roomAnswer q (badRows q rows); places = 0; rows = 0; offset = offsetAt (textOf q) (roomAnswer q (badRows q rows)) })
+    (record { answer = 0; places = P (treeIn q); factor = F (treeIn q); rows = tableOf (columnsOf q) rows .n; offset = 0 })
+    (record { answer = roomAnswer q (badRows q rows); places = 0; factor = 0; rows = 0; offset = offsetAt (textOf q) (roomAnswer q (badRows q rows)) })

@@ -12,7 +12,7 @@ use lib.ListN.{length, take, replicate}
 use Rattle.rules.specs.Basics.{bytes}
 use Rattle.rules.specs.Search.{labels, shown}
 use Rattle.rules.specs.Report.{bytesFor}
-use Rattle.rules.specs.Answers.{treeIn, P, pairsOf, Buffers, taskOf, walkOf, searchOf}
+use Rattle.rules.specs.Answers.{treeIn, P, pairsOf, Buffers, taskOf, walkOf, searchOf, F}
 use Rattle.rules.specs.Program.{printed}
 
 -- ---- queries and rows
@@ -59,13 +59,14 @@ any n = replicate n (pos 0)
 
 -- ---- the sheet
 
--- a line: a query and rows; the answer, P, and the first row and labels of each match; the steps,
--- the report numbers and the printed lines where the sheet gives them
+-- a line: a query and rows; the answer, P, R-3's factor F, and the first row and labels of each
+-- match; the steps, the report numbers and the printed lines where the sheet gives them
 pub record Line : Type 0 where
   pub query : List ℕ
   pub rows : List ℤ
   pub answer : ℕ
   pub places : ℕ
+  pub factor : ℕ
   pub matches : List (ℕ × List ℕ)
   pub steps : Option ℕ
   pub numbers : Option (List ℤ)
@@ -74,13 +75,17 @@ pub record Line : Type 0 where
 -- a line of an accepted query, with its steps; one whose steps the sheet does not give; and one of
 -- a refused query
 abbrev pub line : List ℕ → List ℤ → ℕ → List (ℕ × List ℕ) → ℕ → Line
-line q rows p ms s = record { query = q; rows = rows; answer = 0; places = p; matches = ms; steps = some s; numbers = none; output = none }
+line q rows p ms s = record { query = q; rows = rows; answer = 0; places = p; factor = 1; matches = ms; steps = some s; numbers = none; output = none }
 
 abbrev pub unstepped : List ℕ → List ℤ → ℕ → List (ℕ × List ℕ) → Line
-unstepped q rows p ms = record { query = q; rows = rows; answer = 0; places = p; matches = ms; steps = none; numbers = none; output = none }
+unstepped q rows p ms = record { query = q; rows = rows; answer = 0; places = p; factor = 1; matches = ms; steps = none; numbers = none; output = none }
 
 abbrev pub refusal : List ℕ → ℕ → ℕ → Line
-refusal q p a = record { query = q; rows = []; answer = a; places = p; matches = []; steps = some 0; numbers = none; output = none }
+refusal q p a = record { query = q; rows = []; answer = a; places = p; factor = 1; matches = []; steps = some 0; numbers = none; output = none }
+
+-- a line of an accepted query with another factor
+abbrev pub flaggedLine : List ℕ → List ℤ → ℕ → ℕ → List (ℕ × List ℕ) → ℕ → Line
+flaggedLine q rows p f ms s = record { query = q; rows = rows; answer = 0; places = p; factor = f; matches = ms; steps = some s; numbers = none; output = none }
 
 -- a match at a row with labels
 abbrev pub at : ℕ → String → ℕ × List ℕ
@@ -96,6 +101,7 @@ sheet =
       rows = X;
       answer = 0;
       places = 5;
+      factor = 1;
       matches = at 1 "AAB" ∷ [];
       steps = some 12;
       numbers = some (pos 1 ∷ pos 1 ∷ pos 3 ∷ pos 1 ∷ pos 2 ∷ pos 1 ∷ pos 115 ∷ []);
@@ -116,8 +122,10 @@ sheet =
     -- W8 accepted, W9 refused
     ∷ unstepped (asks "(A{51}){5}" [] 0 []) [] 256 []
     ∷ refusal (asks "(A{16}){16}" [] 0 []) 257 7
-    -- W10: `(A*)*` refused, `(A?){3}` accepted
-    ∷ refusal (asks "(A*)*" [] 0 []) 4 6
+    -- W10 with R-3: `(A*)*` accepted, P 4 and F 2; `(A?){3}` accepted
+    ∷ flaggedLine (asks "(A*)*" [] 0 []) [] 4 2 [] 0
+    -- and `(A??)*` on a row where A holds gives an empty match
+    ∷ flaggedLine (asks "(A??)*" [] 0 []) (any 1) 4 2 (at 0 "" ∷ []) 3
     ∷ unstepped (asks "(A?){3}" [] 0 []) [] 7 []
     -- W11
     ∷ unstepped (asks "(A+)+" [] 0 []) [] 8 []
@@ -134,6 +142,7 @@ sheet =
       rows = any 1;
       answer = 0;
       places = 4;
+      factor = 1;
       matches = at 0 "A" ∷ [];
       steps = none;
       numbers = some (pos 1 ∷ pos 0 ∷ pos 1 ∷ pos 1 ∷ pos 0 ∷ pos 0 ∷ pos 0 ∷ []);
@@ -191,13 +200,14 @@ standardInput q rows = length q % 256 ∷ length q / 256 ∷ (q ++ rowBytes rows
 
 -- the definitions give what the line says
 unfoldable pub agrees : Line → Bool
-unfolding searchOf walkOf taskOf treeIn P printed labels
+unfolding searchOf walkOf taskOf treeIn P F printed labels
 agrees l =
     let lent = enough (l .query) (l .rows) in
     let after = searchOf (l .query) (l .rows) lent in
     eqb (after .result .answer) (l .answer)
     && (eqb (P (treeIn (l .query))) (l .places)
+    && (eqb (F (treeIn (l .query))) (l .factor)
     && (same sameMatch (shown (taskOf (l .query) (l .rows) .places) (walkOf (l .query) (l .rows) lent .matches)) (l .matches)
     && (ifGiven (eqb (after .result .steps)) (l .steps)
     && (ifGiven (λ ns. same equalZ (take (length ns) (after .buffers .numbers)) ns) (l .numbers)
-    && ifGiven (same eqb (printed (standardInput (l .query) (l .rows)))) (l .output)))))
+    && ifGiven (same eqb (printed (standardInput (l .query) (l .rows)))) (l .output))))))

@@ -1,35 +1,18 @@
 -- ISO/IEC 19075-5, clause 6.2.7, on rounds that take no row: the derivations that it leaves in the
--- parenthesised language. Document 01 leaves none out, and it decides: no rule of the search uses
--- this file. It is here to say where the two agree (crates/laws, EmptyRounds) and where they do not
--- (crates/laws, Differs).
+-- parenthesised language. Document 01 leaves none out in bounded quantifiers, and R-3 says what it
+-- leaves out in unbounded ones; these decide: no rule of the search uses this file. It is here to
+-- say where the two agree (proofs/EmptyRounds) and where they do not (proofs/Differs).
 use mathlib.Core.Path.{_≡_}
-use mathlib.Core.List.{List, [], _∷_, _++_, flatMap}
-use mathlib.Core.Bool.{Bool, true, false, not, _&&_, _||_}
+use mathlib.Core.List.{List, [], _∷_}
+use mathlib.Core.Bool.{Bool, true, not, _&&_, _||_}
 use mathlib.Core.Logic.{inl, inr}
 use mathlib.Core.Option.{Option, none, some}
 use Prim.Native.Nat.{ℕ, _-_}
 use lib.ListN.{length}
-use lib.Dec.{ltb, leb}
+use lib.Dec.{ltb, leb, eqb}
 use Rattle.rules.specs.Basics.{every}
 use Rattle.rules.specs.Language.{lower, upper, Rank, Tree, one, more, last, next, bare, times, letter, caret, dollar, empty, group, nullable}
-use Rattle.rules.specs.Preferment.{Derivation, Parses, Prefers}
-
--- the labels of a derivation: its parenthesised string without the special symbols, one label for
--- each row
-unfoldable pub word : {k : Rank} → (t : Tree k) → Derivation t → List ℕ
-unfolding Derivation flatMap
-word (one b) d = word b d
-word (more b p) (inl d) = word b d
-word (more b p) (inr d) = word p d
-word (last f) d = word f d
-word (next f b) d = word f (d .0) ++ word b (d .1)
-word (bare x) d = word x d
-word (times x f z) d = flatMap (λ y. word x y) (d .0)
-word (letter c) d = c ∷ []
-word caret d = []
-word dollar d = []
-word empty d = []
-word (group p) d = word p d
+use Rattle.rules.specs.Preferment.{Derivation, Parses, Prefers, word}
 
 -- A round that takes no row is left in the language only as the last round, or at one of the
 -- positions 1 to lo - 1 of a quantifier with lower bound lo: so the first round, where another
@@ -64,23 +47,25 @@ pub record Preferred627 {k : Rank} (t : Tree k) (holds : ℕ → ℕ → Bool) (
   pub parses : Parses t holds n derivation i j w
   pub greatest : (e : Derivation t) (j′ : ℕ) (w′ : List ℕ) → allowed t e ≡ true → Parses t holds n e i j′ w′ → Prefers t e derivation → ⊥
 
--- No quantifier over a body that can take no row allows an optional round behind another round: its
--- upper bound is at most its lower bound, or at most 1. The law `all-allowed` (crates/laws,
--- EmptyRounds) says that clause 6.2.7 then leaves nothing out.
-unfoldable pub atMostOne : ℕ → Option ℕ → Bool
-atMostOne lo none = false
-atMostOne lo (some hi) = leb hi lo || leb hi 1
+-- The clause and R-3 leave the same rounds of a body that can take no row: a bounded quantifier
+-- over it allows no optional round behind another round, as its upper bound is at most its lower
+-- bound, or at most 1; an unbounded one has lower bound 0, so that for both a round that takes no
+-- row is the last. The law `same-language` (proofs/EmptyRounds) says that they leave the same
+-- derivations then.
+unfoldable pub sameRounds : ℕ → Option ℕ → Bool
+sameRounds lo none = eqb lo 0
+sameRounds lo (some hi) = leb hi lo || leb hi 1
 
-unfoldable pub noOptionalBehind : {k : Rank} → Tree k → Bool
-unfolding nullable atMostOne lower upper
-noOptionalBehind (one b) = noOptionalBehind b
-noOptionalBehind (more b p) = noOptionalBehind b && noOptionalBehind p
-noOptionalBehind (last f) = noOptionalBehind f
-noOptionalBehind (next f b) = noOptionalBehind f && noOptionalBehind b
-noOptionalBehind (bare x) = noOptionalBehind x
-noOptionalBehind (times x f z) = (not (nullable x) || atMostOne (lower f) (upper f)) && noOptionalBehind x
-noOptionalBehind (letter c) = true
-noOptionalBehind caret = true
-noOptionalBehind dollar = true
-noOptionalBehind empty = true
-noOptionalBehind (group p) = noOptionalBehind p
+unfoldable pub likeClause : {k : Rank} → Tree k → Bool
+unfolding nullable sameRounds lower upper
+likeClause (one b) = likeClause b
+likeClause (more b p) = likeClause b && likeClause p
+likeClause (last f) = likeClause f
+likeClause (next f b) = likeClause f && likeClause b
+likeClause (bare x) = likeClause x
+likeClause (times x f z) = (not (nullable x) || sameRounds (lower f) (upper f)) && likeClause x
+likeClause (letter c) = true
+likeClause caret = true
+likeClause dollar = true
+likeClause empty = true
+likeClause (group p) = likeClause p

@@ -7,19 +7,19 @@ use mathlib.Core.Bool.{true, false}
 use mathlib.Core.List.{List, [], List·Memᴰ}
 use mathlib.Core.Logic.{_⊎_, _↔_}
 use mathlib.Core.Option.{Option, none, some}
-use Prim.Native.Nat.{ℕ, _+_, _*_, _≤_, _<_}
+use Prim.Native.Nat.{ℕ, _+_, _*_, _≤_, _<_, _/_, _%_, _^_}
 use lib.IntN.{ℤ}
 use lib.ListN.{length, getD, drop}
 use Rattle.rules.specs.Basics.{Begins, repeats, wrote}
 use Rattle.rules.specs.Query.{cut, misplaced, unfit, textOf, parts}
 use Rattle.rules.specs.Language.{Tree, pattern, Written, WrongAt, Unfinished}
-use Rattle.rules.specs.Places.{placesOf}
+use Rattle.rules.specs.Places.{unroll, placesOf, factorOf, flagsAt}
 use Rattle.rules.specs.Readings.{Reads, SomeReading}
 use Rattle.rules.specs.Preferment.{Preferred, Reports}
 use Rattle.rules.specs.Walk.{Halt, outOfSteps, pairs, firstAt, pairWays, IsPath, IsOpen, countTrue}
 use Rattle.rules.specs.Search.{Match, End, unfinished, Finished, pastLast, Swept, Kept, labels, endOf, shown, shownEnd, foundIn, openOf, pathPairs, plainFrom}
 use Rattle.rules.specs.Report.{numbersOf, labelsOf, fits, bytesFor, bitAt, zeros}
-use Rattle.rules.specs.Answers.{tooDeep, treeIn, Task, taskOf, letterHolds, Buffers, Memory, Report, refused, endAnswer, answerWithin, walkWithin, plainOf, plainReport, searchWithin, searchOf}
+use Rattle.rules.specs.Answers.{tooDeep, treeIn, Task, taskOf, letterHolds, Buffers, Memory, Report, refused, endAnswer, answerWithin, walkWithin, plainOf, plainReport, searchWithin, searchOf, P, F}
 use Rattle.rules.specs.Entries.{entriesIn, entriesOf}
 
 -- ---- what a caller sees
@@ -99,9 +99,9 @@ pub record Demand2 (p : Tree pattern) (t : Task) (nums labs : ℕ) (r : Swept Ke
 -- for a task, an account of the pairs of so many rows, the search r by the counted walk and b by
 -- plain backtracking
 pub record Demand3 (t : Task) (largest : ℕ) (r : Swept Kept) (b : Swept (Unit {0})) : Type 0 where
-  -- with skip past last row the steps are at most 2P(n+1)
+  -- with skip past last row the steps are at most 2P(n+1), with R-3's factor 2PF(n+1)
   pub bound : t .skip ≡ pastLast → r .state .1 ≤ 2 * pairs (length (t .places)) (t .table .n)
-  -- in every skip mode they are at most P n (n+3) / 2
+  -- in every skip mode they are at most P n (n+3) / 2, with R-3's factor PF n (n+3) / 2
   pub bound-each : 2 * r .state .1 ≤ length (t .places) * (t .table .n * (t .table .n + 3))
   -- the steps are the failed pairs plus the pairs on all paths found, path by path, plus the pairs
   -- still open where the walk has halted
@@ -125,10 +125,12 @@ pub record Demand3 (t : Task) (largest : ℕ) (r : Swept Kept) (b : Swept (Unit 
 -- ---- both, for an input, an allowance of steps (none: any number), and what a call leaves
 
 pub record Demands (a : Option ℕ) (q : List ℕ) (rows : List ℤ) (before : Buffers) (after : Memory) : Type 0 where
-  -- the pattern's one tree; P, counted on it, is the number of the places
+  -- the pattern's one tree; P and F, counted on it, tell the number of the places
   pub tree : Tree pattern
   pub written : Written tree (textOf q)
-  pub P-counted : length (taskOf q rows .places) ≡ placesOf tree
+  -- the list of places has each place once for each value of its flags (R-3): P times F
+  pub counted : length (taskOf q rows .places) ≡ P (treeIn q) * F (treeIn q)
+  pub P-counted : length (taskOf q rows .places) ≡ placesOf tree * factorOf tree
   pub demand2 : Demand2 tree (taskOf q rows) (length (before .numbers)) (length (before .labels)) (walkWithin a q rows before)
   pub demand3 : Demand3 (taskOf q rows) (taskOf q rows .table .n) (walkWithin a q rows before) (plainOf q rows before)
   -- document 01's search does not halt; one that halts returns 16, and no other does
@@ -137,19 +139,19 @@ pub record Demands (a : Option ℕ) (q : List ℕ) (rows : List ℤ) (before : B
   -- the answer tells how the walk ends, and the steps returned are the walk's
   pub ended : after .result .answer ≡ endAnswer (walkWithin a q rows before .end)
   pub steps : after .result .steps ≡ walkWithin a q rows before .state .1
-  -- they keep the bounds: 2P(n+1) with skip past last row, P n (n+3) / 2 in every skip mode
-  pub bound : taskOf q rows .skip ≡ pastLast → after .result .steps ≤ 2 * pairs (placesOf tree) (taskOf q rows .table .n)
-  pub bound-each : 2 * after .result .steps ≤ placesOf tree * (taskOf q rows .table .n * (taskOf q rows .table .n + 3))
+  -- they keep the bounds: 2PF(n+1) with skip past last row, PF n (n+3) / 2 in every skip mode
+  pub bound : taskOf q rows .skip ≡ pastLast → after .result .steps ≤ 2 * pairs (placesOf tree * factorOf tree) (taskOf q rows .table .n)
+  pub bound-each : 2 * after .result .steps ≤ placesOf tree * factorOf tree * (taskOf q rows .table .n * (taskOf q rows .table .n + 3))
   -- they are the failed pairs, those on all paths found, and those still open where it has halted
   pub sum : after .result .steps
       ≡ countTrue (walkWithin a q rows before .state .0) + pathPairs (foundIn (walkWithin a q rows before)) + length (openOf (walkWithin a q rows before .end))
   -- the failed pairs are exactly those noted, and spare bits are 0
-  pub noted : (x : ℕ) → x < 8 * bytesFor (pairs (placesOf tree) (taskOf q rows .table .n))
+  pub noted : (x : ℕ) → x < 8 * bytesFor (pairs (placesOf tree * factorOf tree) (taskOf q rows .table .n))
       → bitAt (after .buffers .notes) x ≡ getD (walkWithin a q rows before .state .0) x false
   -- the trail has a 0 for each pair; beyond, notes and trail are unchanged
-  pub trail : after .buffers .trail ≡ wrote (before .trail) 0 (zeros (pairs (placesOf tree) (taskOf q rows .table .n)))
-  pub notes-beyond : drop (bytesFor (pairs (placesOf tree) (taskOf q rows .table .n))) (after .buffers .notes)
-      ≡ drop (bytesFor (pairs (placesOf tree) (taskOf q rows .table .n))) (before .notes)
+  pub trail : after .buffers .trail ≡ wrote (before .trail) 0 (zeros (pairs (placesOf tree * factorOf tree) (taskOf q rows .table .n)))
+  pub notes-beyond : drop (bytesFor (pairs (placesOf tree * factorOf tree) (taskOf q rows .table .n))) (after .buffers .notes)
+      ≡ drop (bytesFor (pairs (placesOf tree * factorOf tree) (taskOf q rows .table .n))) (before .notes)
   -- the counts returned are those of the matches written and of their labels
   pub matches : after .result .matches ≡ length (walkWithin a q rows before .matches)
   pub label-count : after .result .labels ≡ length (labelsOf (taskOf q rows .places) (walkWithin a q rows before .matches))
@@ -166,6 +168,8 @@ pub record Demands (a : Option ℕ) (q : List ℕ) (rows : List ℤ) (before : B
   -- plain backtracking; where it has, its matches are the first of them
   pub like-plain : (after .result .answer ≡ 16 → ⊥) → reportIn after ≡ plainReport q rows before
   pub first-of-plain : Begins (entriesIn q after) (entriesOf (taskOf q rows .table) (taskOf q rows .measures) (shown (taskOf q rows .places) (plainOf q rows before .matches)))
+  -- the unused bits of a failed pair's flags are 0
+  pub unused : (x : ℕ) → getD (walkWithin a q rows before .state .0) x false ≡ true → x % factorOf tree < 2 ^ flagsAt (unroll tree) (x / factorOf tree % placesOf tree)
 
 -- ---- what an allowance does (R-13)
 
@@ -179,5 +183,5 @@ pub record Allowing (q : List ℕ) (rows : List ℤ) (lent : Buffers) : Type 0 w
   pub larger : (a b : ℕ) → a ≤ b → Begins (walkWithin (some a) q rows lent .matches) (walkWithin (some b) q rows lent .matches)
   -- an allowance that the search without one does not pass changes nothing
   pub unpassed : (a : ℕ) → walkWithin none q rows lent .state .1 ≤ a → searchWithin (some a) q rows lent ≡ searchOf q rows lent
-  -- an allowance of 2P(n+1) is always enough with skip past last row
+  -- an allowance of 2PF(n+1) is always enough with skip past last row
   pub enough : taskOf q rows .skip ≡ pastLast → (a : ℕ) → 2 * pairs (length (taskOf q rows .places)) (taskOf q rows .table .n) ≤ a → searchWithin (some a) q rows lent ≡ searchOf q rows lent

@@ -5,7 +5,7 @@ use mathlib.Core.Path.{_≡_}
 use mathlib.Core.Bool.{Bool, true, false, _&&_, _||_}
 use mathlib.Core.List.{List, [], _∷_, _++_}
 use mathlib.Core.Option.{Option, none, some}
-use Prim.Native.Nat.{ℕ, zero, suc, _+_, _/_, _%_, _≤_, _<_}
+use Prim.Native.Nat.{ℕ, zero, suc, _+_, _/_, _%_, _≤_, _<_, max}
 use lib.Dec.{ltb, eqb}
 use lib.ListN.{length, take}
 use Rattle.rules.specs.Basics.{pick}
@@ -210,20 +210,25 @@ unfoldable pub unbounded : Option ℕ → Bool
 unbounded none = true
 unbounded (some m) = false
 
--- an unbounded quantifier stands over a body that can take no row, which is refused in this build
-unfoldable pub emptyLoop : {k : Rank} → Tree k → Bool
+-- R-3: a quantifier that is unbounded over a body that can take no row adds one to the nesting
+abbrev pub deeper : Bool → ℕ → ℕ
+deeper false m = m
+deeper true m = suc m
+
+-- how many such quantifiers are nested in one another, at most
+unfoldable pub loopNesting : {k : Rank} → Tree k → ℕ
 unfolding nullable unbounded upper
-emptyLoop (one b) = emptyLoop b
-emptyLoop (more b p) = emptyLoop b || emptyLoop p
-emptyLoop (last f) = emptyLoop f
-emptyLoop (next f b) = emptyLoop f || emptyLoop b
-emptyLoop (bare x) = emptyLoop x
-emptyLoop (times x f z) = (unbounded (upper f) && nullable x) || emptyLoop x
-emptyLoop (letter c) = false
-emptyLoop caret = false
-emptyLoop dollar = false
-emptyLoop empty = false
-emptyLoop (group p) = emptyLoop p
+loopNesting (one b) = loopNesting b
+loopNesting (more b p) = max (loopNesting b) (loopNesting p)
+loopNesting (last f) = loopNesting f
+loopNesting (next f b) = max (loopNesting f) (loopNesting b)
+loopNesting (bare x) = loopNesting x
+loopNesting (times x f z) = deeper (unbounded (upper f) && nullable x) (loopNesting x)
+loopNesting (letter c) = 0
+loopNesting caret = 0
+loopNesting dollar = 0
+loopNesting empty = 0
+loopNesting (group p) = loopNesting p
 
 -- the letters that stand in a pattern
 unfoldable pub letters : {k : Rank} → Tree k → List ℕ

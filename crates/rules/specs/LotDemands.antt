@@ -4,7 +4,7 @@ use mathlib.Core.Path.{_≡_}
 use mathlib.Core.Bool.{Bool, true, false}
 use mathlib.Core.List.{List, [], _∷_}
 use mathlib.Core.Option.{none, some}
-use Prim.Native.Nat.{ℕ, _*_, _%_, _≤_, _<_}
+use Prim.Native.Nat.{ℕ, _*_, _%_, _≤_, _<_, _/_, _^_}
 use lib.IntN.{ℤ}
 use lib.ListN.{length, getD}
 use Rattle.rules.specs.Basics.{Begins}
@@ -13,9 +13,10 @@ use Rattle.rules.specs.Language.{Tree, pattern, Written}
 use Rattle.rules.specs.Walk.{outOfSteps, outOfRows}
 use Rattle.rules.specs.Search.{done, unfinished, Finished}
 use Rattle.rules.specs.Report.{numbersOf, labelsOf, bytesFor, bitAt}
-use Rattle.rules.specs.Answers.{Memory, backtracked, endAnswer, walkWithin, searchWithin}
+use Rattle.rules.specs.Answers.{Memory, backtracked, endAnswer, walkWithin, searchWithin, treeIn, P, F}
 use Rattle.rules.specs.Demands.{Demand2, Demand3}
 use Rattle.rules.specs.Lots.{Named, presentRows, presentTask, callRefusal, lotWalk, lotMemory, begun, stays, Called, callOf, Leaves}
+use Rattle.rules.specs.Places.{unroll, placesOf, factorOf, flagsAt}
 
 -- so many rows are present: the slice is whole rows and holds them, and they are no more than named
 pub record Lot (s : Named) (rows : List ℤ) (present : ℕ) : Type 0 where
@@ -33,6 +34,8 @@ pub record Later (s : Named) (rows₁ rows₂ : List ℤ) (n₁ n₂ : ℕ) : Ty
 pub record LotDemands (s : Named) (rows : List ℤ) (present : ℕ) (last : Bool) : Type 0 where
   pub tree : Tree pattern
   pub written : Written tree (textOf (s .query))
+  -- the list of places has each place once for each value of its flags: P times F
+  pub counted : length (presentTask s rows present .places) ≡ P (treeIn (s .query)) * F (treeIn (s .query))
   -- the table is that of the rows present
   pub rows-present : presentTask s rows present .table .n ≡ present
   -- the report holds the preferred matches on the rows present, or, where the walk waits or is out
@@ -43,6 +46,8 @@ pub record LotDemands (s : Named) (rows : List ℤ) (present : ℕ) (last : Bool
   pub demand3 : Demand3 (presentTask s rows present) (s .largest) (lotWalk s rows present last) (backtracked (presentTask s rows present) (length (s .lent .numbers)) (length (s .lent .labels)))
   -- the failed pairs are exactly those noted, and spare bits are 0
   pub noted : (x : ℕ) → x < 8 * bytesFor (length (lotWalk s rows present last .state .0)) → bitAt (lotMemory s rows present last .buffers .notes) x ≡ getD (lotWalk s rows present last .state .0) x false
+  -- and the unused bits of a failed pair's flags are 0
+  pub unused : (x : ℕ) → getD (lotWalk s rows present last .state .0) x false ≡ true → x % factorOf tree < 2 ^ flagsAt (unroll tree) (x / factorOf tree % placesOf tree)
   -- only a last call is done, and it never waits; without an allowance it does not halt
   pub not-done : last ≡ false → lotWalk s rows present last .end ≡ done → ⊥
   pub no-wait : last ≡ true → (i : ℕ) (p : List ℕ) → lotWalk s rows present last .end ≡ unfinished outOfRows i p → ⊥

@@ -18,7 +18,7 @@ use Rattle.rules.specs.Language.{Tree, pattern, hasDollar}
 use Rattle.rules.specs.Walk.{pairs}
 use Rattle.rules.specs.Search.{Swept, Kept, Terms}
 use Rattle.rules.specs.Report.{bytesFor}
-use Rattle.rules.specs.Answers.{treeIn, P, lettersIn, Task, taskOf, walkedOn, Buffers, Test, firstOf, queryTests, offsetAt, endAnswer, reportOf, Result, Memory, refused, accepted}
+use Rattle.rules.specs.Answers.{treeIn, P, lettersIn, Task, taskOf, walkedOn, Buffers, Test, firstOf, queryTests, offsetAt, endAnswer, reportOf, Result, Memory, refused, accepted, F}
 
 -- ---- R-11, "each call says how many are present now"
 
@@ -37,10 +37,10 @@ pub record Named : Type 0 where
   pub allowance : Option ℕ
   pub lent : Buffers
 
--- notes and trail are measured by the largest number of rows
+-- notes and trail are measured by the largest number of rows, with R-3's factor
 unfoldable pub namedPairs : Named → ℕ
-unfolding P treeIn
-namedPairs s = pairs (P (treeIn (s .query))) (s .largest)
+unfolding P F treeIn
+namedPairs s = pairs (P (treeIn (s .query)) * F (treeIn (s .query))) (s .largest)
 
 -- Answer 10 of a call: the slice is not whole rows, or more rows are said to be present than the
 -- largest number, or than the slice holds

@@ -1,10 +1,13 @@
 -- Document 01, "Places and preferment", on places: how a pattern is unrolled into numbered places,
 -- and P.
 use mathlib.Core.List.{List, [], _∷_, _++_}
-use mathlib.Core.Bool.{Bool, true, false}
+use mathlib.Core.Bool.{Bool, true, false, _&&_, _||_}
 use mathlib.Core.Option.{Option, none, some}
-use Prim.Native.Nat.{ℕ, zero, suc, _+_, _-_, _*_}
-use Rattle.rules.specs.Language.{Form, lower, upper, Rank, pattern, branch, factor, primary, Tree, one, more, last, next, bare, times, letter, caret, dollar, empty, group}
+use Prim.Native.Nat.{ℕ, zero, suc, _+_, _-_, _*_, _/_, _%_, _^_, max}
+use Rattle.rules.specs.Language.{Form, lower, upper, Rank, pattern, branch, factor, primary, Tree, one, more, last, next, bare, times, letter, caret, dollar, empty, group, loopNesting, deeper}
+use lib.Dec.{ltb}
+use lib.ListN.{length, getD}
+use Rattle.rules.specs.Basics.{pick, tabulate}
 
 -- ---- unrolled
 
@@ -79,14 +82,73 @@ unfoldable pub unroll : Tree pattern → Unrolled
 unfolding unrolled forked
 unroll p = forked (unrolled p)
 
+-- ---- flags
+
+-- R-3: the copy behind the fork of an unbounded quantifier over a body that can take no row has a
+-- flag, which says whether its present round has taken a row. Each place has a flag for each such
+-- copy that holds it. The flags are a number: the outermost is its lowest bit.
+
+-- can take no row
+unfoldable mutual
+  pub skips : Unrolled → Bool
+  skips (uLetter c) = false
+  skips uCaret = true
+  skips uDollar = true
+  skips uEmpty = true
+  skips (uSeq a b) = skips a && skips b
+  skips (uAlt ts) = anySkips ts
+  skips (uOpt lazy t) = true
+  skips (uStar lazy t) = true
+
+  pub anySkips : Branches → Bool
+  anySkips uNil = false
+  anySkips (uCons t ts) = skips t || anySkips ts
+
+-- how many such copies are nested in one another, at most; the law `nest-counted` (crates/laws,
+-- Counting) says that it is the tree's `loopNesting`
+unfoldable mutual
+  unfolding skips
+
+  pub nest : Unrolled → ℕ
+  nest (uLetter c) = 0
+  nest uCaret = 0
+  nest uDollar = 0
+  nest uEmpty = 0
+  nest (uSeq a b) = max (nest a) (nest b)
+  nest (uAlt ts) = nests ts
+  nest (uOpt lazy t) = nest t
+  nest (uStar lazy t) = deeper (skips t) (nest t)
+
+  pub nests : Branches → ℕ
+  nests uNil = 0
+  nests (uCons t ts) = max (nest t) (nests ts)
+
+-- all of d flags set
+abbrev pub full : ℕ → ℕ
+full d = 2 ^ d - 1
+
+-- A place with its flags is a number: place times F plus flags, where F is 2 to the power of the
+-- deepest nesting.
+abbrev pub stateAt : ℕ → ℕ → ℕ → ℕ
+stateAt F place flags = place * F + flags
+
 -- ---- places
 
--- a place with the places that it leads to; a fork's ways in the order in which they are tried
+-- a place with the places that it leads to, each with its flags; a fork's ways in the order in
+-- which they are tried
 pub data Place : Type 0 where
   pLetter : ℕ → ℕ → Place
   pCaret pDollar : ℕ → Place
   pFork : List ℕ → Place
   pEnd : Place
+
+-- a place, by its flags, and how many flags it has
+pub record Flagged : Type 0 where
+  pub flags : ℕ
+  pub place : ℕ → Place
+
+abbrev pub flagged : ℕ → (ℕ → Place) → Flagged
+flagged d p = record { flags = d; place = p }
 
 -- greedy (false) tries the copy before leaving; reluctant (true) tries leaving first
 abbrev pub waysInTurn : Bool → ℕ → ℕ → List ℕ
@@ -109,51 +171,84 @@ unfoldable mutual
   sizes uNil = 0
   sizes (uCons t ts) = size t + sizes ts
 
--- the place where t begins, if its places are numbered from b on and k is the place behind it
-unfoldable pub startOf : Unrolled → ℕ → ℕ → ℕ
+-- where t begins, by the flags, if its places are numbered from b on and `k` is what is behind it,
+-- by the flags
+unfoldable pub startOf : ℕ → Unrolled → ℕ → (ℕ → ℕ) → ℕ → ℕ
 unfolding size
-startOf (uLetter c) b k = b
-startOf uCaret b k = b
-startOf uDollar b k = b
-startOf uEmpty b k = k
-startOf (uSeq x y) b k = startOf x b (startOf y (b + size x) k)
-startOf (uAlt ts) b k = b
-startOf (uOpt lazy t) b k = b
-startOf (uStar lazy t) b k = b
+startOf F (uLetter c) b k φ = stateAt F b φ
+startOf F uCaret b k φ = stateAt F b φ
+startOf F uDollar b k φ = stateAt F b φ
+startOf F uEmpty b k φ = k φ
+startOf F (uSeq x y) b k φ = startOf F x b (startOf F y (b + size x) k) φ
+startOf F (uAlt ts) b k φ = stateAt F b φ
+startOf F (uOpt lazy t) b k φ = stateAt F b φ
+startOf F (uStar lazy t) b k φ = stateAt F b φ
 
-unfoldable pub startsOf : Branches → ℕ → ℕ → List ℕ
+unfoldable pub startsOf : ℕ → Branches → ℕ → (ℕ → ℕ) → ℕ → List ℕ
 unfolding size startOf
-startsOf uNil b k = []
-startsOf (uCons t ts) b k = startOf t b k ∷ startsOf ts (b + size t) k
+startsOf F uNil b k φ = []
+startsOf F (uCons t ts) b k φ = startOf F t b k φ ∷ startsOf F ts (b + size t) k φ
 
--- the places of t, numbered from b on from left to right, where k is the place behind it
+-- What is behind a round of the copy at the fork b, which has d flags, where k is behind the whole
+-- repetition. A body that always takes a row leads back to the fork. The copy of any other has a
+-- flag, number d: if it is set, the round has taken a row and leads back to the fork, which lacks
+-- that flag; else the round ends the repetition, and matching goes on behind it.
+abbrev pub roundEnd : ℕ → Bool → ℕ → ℕ → (ℕ → ℕ) → ℕ → ℕ
+roundEnd F false d b k φ = stateAt F b φ
+roundEnd F true d b k φ = pick (ltb φ (2 ^ d)) (k φ) (stateAt F b (φ - 2 ^ d))
+
+-- the places of t, which have d flags from what is around t, numbered from b on from left to right,
+-- where k is behind t. A letter that passes sets all flags that its place has; no other place
+-- changes a flag. A copy is entered with its own flag, number d, at 0, since the d flags of its
+-- fork are below 2 ^ d.
 unfoldable mutual
-  unfolding size startOf startsOf
+  unfolding skips size startOf startsOf
 
-  pub code : Unrolled → ℕ → ℕ → List Place
-  code (uLetter c) b k = pLetter c k ∷ []
-  code uCaret b k = pCaret k ∷ []
-  code uDollar b k = pDollar k ∷ []
-  code uEmpty b k = []
-  code (uSeq x y) b k = code x b (startOf y (b + size x) k) ++ code y (b + size x) k
-  code (uAlt ts) b k = pFork (startsOf ts (suc b) k) ∷ codes ts (suc b) k
-  code (uOpt lazy t) b k = pFork (waysInTurn lazy (startOf t (suc b) k) k) ∷ code t (suc b) k
-  code (uStar lazy t) b k = pFork (waysInTurn lazy (startOf t (suc b) b) k) ∷ code t (suc b) b
+  pub code : ℕ → Unrolled → ℕ → ℕ → (ℕ → ℕ) → List Flagged
+  code F (uLetter c) d b k = flagged d (λ φ. pLetter c (k (full d))) ∷ []
+  code F uCaret d b k = flagged d (λ φ. pCaret (k φ)) ∷ []
+  code F uDollar d b k = flagged d (λ φ. pDollar (k φ)) ∷ []
+  code F uEmpty d b k = []
+  code F (uSeq x y) d b k = code F x d b (startOf F y (b + size x) k) ++ code F y d (b + size x) k
+  code F (uAlt ts) d b k = flagged d (λ φ. pFork (startsOf F ts (suc b) k φ)) ∷ codes F ts d (suc b) k
+  code F (uOpt lazy t) d b k = flagged d (λ φ. pFork (waysInTurn lazy (startOf F t (suc b) k φ) (k φ))) ∷ code F t d (suc b) k
+  code F (uStar lazy t) d b k =
+      flagged d (λ φ. pFork (waysInTurn lazy (startOf F t (suc b) (roundEnd F (skips t) d b k) φ) (k φ)))
+      ∷ code F t (deeper (skips t) d) (suc b) (roundEnd F (skips t) d b k)
 
-  pub codes : Branches → ℕ → ℕ → List Place
-  codes uNil b k = []
-  codes (uCons t ts) b k = code t b k ++ codes ts (b + size t) k
+  pub codes : ℕ → Branches → ℕ → ℕ → (ℕ → ℕ) → List Flagged
+  codes F uNil d b k = []
+  codes F (uCons t ts) d b k = code F t d b k ++ codes F ts d (b + size t) k
 
--- all places, END last
-unfoldable pub places : Unrolled → List Place
+-- all places by their flags, END last
+unfoldable pub flaggedPlaces : ℕ → Unrolled → List Flagged
 unfolding size code
-places t = code t 0 (size t) ++ (pEnd ∷ [])
+flaggedPlaces F t = code F t 0 0 (stateAt F (size t)) ++ (flagged 0 (λ φ. pEnd) ∷ [])
+
+-- how many flags place q has
+unfoldable pub flagsAt : Unrolled → ℕ → ℕ
+unfolding nest flaggedPlaces
+flagsAt t q = getD (flaggedPlaces (2 ^ nest t) t) q (flagged 0 (λ φ. pFork [])) .flags
+
+-- a place with certain flags; bits beyond its flags are unused, and no way leads to a place with
+-- one of them set, so that it is of no consequence what stands there: END, which leads nowhere
+abbrev pub withFlags : Flagged → ℕ → Place
+withFlags p φ = pick (ltb φ (2 ^ p .flags)) (p .place φ) pEnd
+
+-- all places, each once for each of F values of its flags
+unfoldable pub spread : ℕ → List Flagged → List Place
+unfolding tabulate
+spread F ps = tabulate (length ps * F) (λ s. withFlags (getD ps (s / F) (flagged 0 (λ φ. pFork []))) (s % F))
+
+unfoldable pub places : Unrolled → List Place
+unfolding nest flaggedPlaces spread
+places t = spread (2 ^ nest t) (flaggedPlaces (2 ^ nest t) t)
 
 -- ---- P
 
--- P counts them all, END included. It is told on the tree itself, so that it can be computed where
--- the places are too many to list; the law `places-counted` (crates/laws, Counting) says that it is
--- the length of the list of places.
+-- P counts them all, END included, each once. It is told on the tree itself, so that it can be
+-- computed where the places are too many to list; the law `places-counted` (crates/laws, Counting)
+-- says that P times F is the length of the list of places with flags.
 
 -- the places of lo to hi rounds of a body with c places
 unfoldable pub roundPlaces : ℕ → Option ℕ → ℕ → ℕ
@@ -183,3 +278,9 @@ placeCount (group p) = fork p + placeCount p
 unfoldable pub placesOf : Tree pattern → ℕ
 unfolding placeCount fork
 placesOf p = fork p + placeCount p + 1
+
+-- R-3: the factor F, 2 to the power of the deepest nesting of unbounded quantifiers over bodies
+-- that can take no row
+unfoldable pub factorOf : Tree pattern → ℕ
+unfolding loopNesting
+factorOf p = 2 ^ loopNesting p

@@ -2,15 +2,17 @@
 -- pattern (its derivations), the rows that one reads, and their order of preferment; then the whole
 -- report told by that order. No place, walk or search is named here.
 use mathlib.Core.Path.{_≡_}
-use mathlib.Core.List.{List, [], _∷_, _++_}
-use mathlib.Core.Bool.{Bool, true, false}
+use mathlib.Core.List.{List, [], _∷_, _++_, flatMap}
+use mathlib.Core.Bool.{Bool, true, false, _&&_}
 use mathlib.Core.Logic.{_⊎_, inl, inr}
-use mathlib.Core.Option.{none, some}
-use Prim.Native.Nat.{ℕ, suc, _+_, _≤_, _<_}
+use mathlib.Core.Option.{none, some, Option}
+use Prim.Native.Nat.{ℕ, suc, _+_, _≤_, _<_, zero}
 use lib.ListN.{length}
 use Rattle.rules.specs.Language.{lower, upper, Rank, pattern, Tree, one, more, last, next, bare, times, letter, caret, dollar, empty, group}
 use Rattle.rules.specs.Readings.{Within}
 use Rattle.rules.specs.Search.{End, done, full, stuck, Skip, nextStart}
+use lib.Dec.{ltb}
+use Rattle.rules.specs.Basics.{every}
 
 -- ---- derivations
 
@@ -58,6 +60,54 @@ Parses dollar holds n d i j w = (i ≡ n) × (j ≡ i) × (w ≡ [])
 Parses empty holds n d i j w = (j ≡ i) × (w ≡ [])
 Parses (group p) holds n d i j w = Parses p holds n d i j w
 
+-- ---- R-3: a round that takes no row ends the repetition
+
+-- the labels of a derivation: its parenthesised string without the special symbols, one label for
+-- each row
+unfoldable pub word : {k : Rank} → (t : Tree k) → Derivation t → List ℕ
+unfolding Derivation flatMap
+word (one b) d = word b d
+word (more b p) (inl d) = word b d
+word (more b p) (inr d) = word p d
+word (last f) d = word f d
+word (next f b) d = word f (d .0) ++ word b (d .1)
+word (bare x) d = word x d
+word (times x f z) d = flatMap (λ y. word x y) (d .0)
+word (letter c) d = c ∷ []
+word caret d = []
+word dollar d = []
+word empty d = []
+word (group p) d = word p d
+
+-- behind the lo required rounds of an unbounded quantifier a round that takes no row is the last
+unfoldable pub emptyEnds : {A : Type 0} → (A → List ℕ) → ℕ → List A → Bool
+emptyEnds f lo [] = true
+emptyEnds f (suc lo) (d ∷ ds) = emptyEnds f lo ds
+emptyEnds f zero (d ∷ []) = true
+emptyEnds f zero (d ∷ e ∷ ds) = ltb 0 (length (f d)) && emptyEnds f zero (e ∷ ds)
+
+-- a bounded quantifier has no unbounded part
+unfoldable pub emptyEndsIn : {A : Type 0} → Option ℕ → (A → List ℕ) → ℕ → List A → Bool
+unfolding emptyEnds
+emptyEndsIn none f lo ds = emptyEnds f lo ds
+emptyEndsIn (some hi) f lo ds = true
+
+-- d keeps the rule, everywhere in it
+unfoldable pub keeps : {k : Rank} → (t : Tree k) → Derivation t → Bool
+unfolding Derivation emptyEndsIn word every lower upper
+keeps (one b) d = keeps b d
+keeps (more b p) (inl d) = keeps b d
+keeps (more b p) (inr d) = keeps p d
+keeps (last f) d = keeps f d
+keeps (next f b) d = keeps f (d .0) && keeps b (d .1)
+keeps (bare x) d = keeps x d
+keeps (times x f z) d = emptyEndsIn (upper f) (word x) (lower f) (d .0) && every (λ y. keeps x y) (d .0)
+keeps (letter c) d = true
+keeps caret d = true
+keeps dollar d = true
+keeps empty d = true
+keeps (group p) d = keeps p d
+
 -- ---- the order
 
 -- 6.2.1, alternation: all of the first branch, in their order, before all of the others, in theirs
@@ -100,12 +150,13 @@ Prefers (group p) d e = Prefers p d e
 abbrev pub NoneParses : {k : Rank} → (t : Tree k) → (ℕ → ℕ → Bool) → ℕ → ℕ → Type 0
 NoneParses t holds n i = (e : Derivation t) (j : ℕ) (w : List ℕ) → Parses t holds n e i j w → ⊥
 
--- some derivation reads from i to j with the labels w, and none that reads from i, to whatever end,
--- is preferred to it
+-- some derivation that keeps R-3's rule reads from i to j with the labels w, and none such that
+-- reads from i, to whatever end, is preferred to it
 pub record Preferred {k : Rank} (t : Tree k) (holds : ℕ → ℕ → Bool) (n i j : ℕ) (w : List ℕ) : Type 0 where
   pub derivation : Derivation t
+  pub kept : keeps t derivation ≡ true
   pub parses : Parses t holds n derivation i j w
-  pub greatest : (e : Derivation t) (j′ : ℕ) (w′ : List ℕ) → Parses t holds n e i j′ w′ → Prefers t e derivation → ⊥
+  pub greatest : (e : Derivation t) (j′ : ℕ) (w′ : List ℕ) → keeps t e ≡ true → Parses t holds n e i j′ w′ → Prefers t e derivation → ⊥
 
 -- ---- the whole report
 

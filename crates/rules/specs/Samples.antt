@@ -19,7 +19,7 @@ use Rattle.rules.specs.Walk.{countTrue}
 use Rattle.rules.specs.Search.{openOf}
 use Rattle.rules.specs.Answers.{pairsOf, Buffers, Result, taskOf, walkWithin, searchWithin, searchOf}
 use Rattle.rules.specs.Lots.{Named, Progress, begun, beginAnswer, lotWalk, callOf}
-use Rattle.rules.specs.Bench.{recordOf, asks, w1, X, any, Line, at, unstepped, refusal, same, equalZ, enough, line}
+use Rattle.rules.specs.Bench.{recordOf, asks, w1, X, any, Line, at, unstepped, refusal, same, equalZ, enough, line, aboveZero, agrees, ifGiven, flaggedLine}
 use Rattle.rules.specs.Report.{resultOf}
 
 -- ---- R-2, skip to a labelled row
@@ -32,7 +32,7 @@ asksTo text mode c = recordOf 1 (1 ∷ 0 ∷ []) ++ (recordOf 2 (bytes text) ++ 
 -- a line of a search that stops behind its last match, as the letter labels no row of it or its
 -- first row
 abbrev pub stuckLine : List ℕ → List ℤ → ℕ → List (ℕ × List ℕ) → Line
-stuckLine q rows p ms = record { query = q; rows = rows; answer = 15; places = p; matches = ms; steps = none; numbers = none; output = none }
+stuckLine q rows p ms = record { query = q; rows = rows; answer = 15; places = p; factor = 1; matches = ms; steps = none; numbers = none; output = none }
 
 unfoldable pub skips : List Line
 unfolding bytes
@@ -70,8 +70,7 @@ fullFirst =
 
 -- ---- R-13, an allowance of steps
 
--- W1 takes 12 steps and finds its match with the eighth: an allowance, the answer, the matches,
--- labels and steps returned, and how many pairs have failed
+-- an allowance, the answer, the matches, labels and steps returned, and how many pairs have failed
 pub record Allowed : Type 0 where
   pub allowance : ℕ
   pub answer : ℕ
@@ -83,6 +82,7 @@ pub record Allowed : Type 0 where
 abbrev pub allowed : ℕ → ℕ → ℕ → ℕ → ℕ → ℕ → Allowed
 allowed a n m l s f = record { allowance = a; answer = n; matches = m; labels = l; steps = s; failed = f }
 
+-- W1 takes 12 steps and finds its match with the eighth
 unfoldable pub allowances : List Allowed
 allowances =
     allowed 0 16 0 0 0 0
@@ -101,13 +101,17 @@ allowances =
     ∷ allowed 13 0 1 3 12 6
     ∷ []
 
-unfoldable pub keepsTo : Allowed → Bool
-unfolding searchWithin walkWithin countTrue w1
-keepsTo l =
-    let r = searchWithin (some (l .allowance)) w1 X (enough w1 X) .result in
-    let F = walkWithin (some (l .allowance)) w1 X (enough w1 X) .state .0 in
+unfoldable pub keepsWithin : List ℕ → List ℤ → Allowed → Bool
+unfolding searchWithin walkWithin countTrue
+keepsWithin q rows l =
+    let r = searchWithin (some (l .allowance)) q rows (enough q rows) .result in
+    let failed = walkWithin (some (l .allowance)) q rows (enough q rows) .state .0 in
     eqb (r .answer) (l .answer)
-    && (eqb (r .matches) (l .matches) && (eqb (r .labels) (l .labels) && (eqb (r .steps) (l .steps) && eqb (countTrue F) (l .failed))))
+    && (eqb (r .matches) (l .matches) && (eqb (r .labels) (l .labels) && (eqb (r .steps) (l .steps) && eqb (countTrue failed) (l .failed))))
+
+unfoldable pub keepsTo : Allowed → Bool
+unfolding keepsWithin w1
+keepsTo l = keepsWithin w1 X l
 
 -- what comes first in time is the answer: `A` to its first A takes two steps and is then stuck;
 -- with no room for its match it stops for that
@@ -316,6 +320,112 @@ refusesSo l =
     let r = callOf s begun (any 4) (l .present) false (s .lent) .memory .result in
     eqb (r .answer) (l .answer) && (eqb (r .offset) (l .offset) && eqb (r .matches) (pick (eqb (l .answer) 23) 3 0))
 
+-- ---- R-3, repetitions whose rounds may take no row
+
+-- a line, and the bytes of the notes where the search is accepted
+pub record Repetition : Type 0 where
+  pub line : Line
+  pub notes : Option (List ℕ)
+
+abbrev pub repetition : List ℕ → List ℤ → ℕ → ℕ → ℕ → List (ℕ × List ℕ) → ℕ → Option (List ℕ) → Repetition
+repetition q rows a p f ms s ns =
+    record { line = record { query = q; rows = rows; answer = a; places = p; factor = f; matches = ms; steps = some s; numbers = none; output = none }; notes = ns }
+
+unfoldable pub repetitions : List Repetition
+unfolding bytes
+repetitions =
+    repetition (asks "(A*)*" aboveZero 0 []) (pos 1 ∷ pos 1 ∷ pos 0 ∷ []) 0 4 2 (at 0 "AA" ∷ at 2 "" ∷ []) 14 (some (0 ∷ 0 ∷ 48 ∷ 0 ∷ []))
+    ∷ repetition (asks "(A*)*" aboveZero 1 []) (pos 1 ∷ pos 0 ∷ pos 1 ∷ []) 0 4 2 (at 0 "A" ∷ at 1 "" ∷ at 2 "A" ∷ []) 21 (some (0 ∷ 48 ∷ 0 ∷ 48 ∷ []))
+    ∷ repetition (asks "(A?)*" aboveZero 0 []) (pos 1 ∷ pos 1 ∷ pos 0 ∷ []) 0 4 2 (at 0 "AA" ∷ at 2 "" ∷ []) 13 (some (0 ∷ 0 ∷ 16 ∷ 0 ∷ []))
+    -- a round that takes no row ends the repetition, also where the fork prefers to leave
+    ∷ repetition (asks "(A??)*" [] 0 []) (pos 0 ∷ []) 0 4 2 (at 0 "" ∷ []) 3 (some (0 ∷ 0 ∷ []))
+    ∷ repetition (asks "(A*?)*? $" [] 0 []) (pos 0 ∷ pos 0 ∷ []) 0 5 2 (at 0 "AA" ∷ []) 13 (some (64 ∷ 0 ∷ 1 ∷ 0 ∷ []))
+    -- nested in one another: F is 4, 8; four of them are refused
+    ∷ repetition (asks "(()*)*" [] 0 []) (pos 0 ∷ []) 0 3 4 (at 0 "" ∷ []) 3 (some (0 ∷ 0 ∷ 0 ∷ []))
+    ∷ repetition (asks "((A*)*)*" aboveZero 0 []) (pos 1 ∷ pos 0 ∷ []) 0 5 4 (at 0 "A" ∷ at 1 "" ∷ []) 18 (some (0 ∷ 0 ∷ 0 ∷ 0 ∷ 11 ∷ 0 ∷ 0 ∷ 0 ∷ []))
+    ∷ repetition (asks "(((A*)*)*)*" aboveZero 0 []) (pos 1 ∷ []) 0 6 8 (at 0 "A" ∷ []) 20 (some (0 ∷ 0 ∷ 0 ∷ 0 ∷ 0 ∷ 0 ∷ 0 ∷ 0 ∷ 0 ∷ 0 ∷ 139 ∷ 0 ∷ []))
+    ∷ repetition (asks "((((A*)*)*)*)*" aboveZero 0 []) [] 6 7 16 [] 0 none
+    -- sequences, branches, anchors and `()` in the body; required copies keep their empty rounds
+    ∷ repetition (asks "(A? B?)* $" aboveZero 0 []) (pos 1 ∷ pos 0 ∷ []) 0 7 2 (at 0 "AB" ∷ []) 12 (some (0 ∷ 0 ∷ 0 ∷ 0 ∷ 17 ∷ 0 ∷ []))
+    ∷ repetition (asks "(A?){2,} B" aboveZero 0 []) (pos 1 ∷ pos 1 ∷ []) 0 9 2 (at 0 "AB" ∷ []) 13 (some (0 ∷ 0 ∷ 0 ∷ 65 ∷ 0 ∷ 80 ∷ 5 ∷ []))
+    ∷ repetition (asks "(A*|B)* C" aboveZero 0 []) (pos 0 ∷ pos 0 ∷ []) 0 7 2 (at 0 "C" ∷ at 1 "C" ∷ []) 12 (some (64 ∷ 0 ∷ 16 ∷ 0 ∷ 0 ∷ 0 ∷ []))
+    ∷ repetition (asks "(^ A?)* B" aboveZero 0 []) (pos 1 ∷ pos 0 ∷ []) 0 6 2 (at 0 "AB" ∷ []) 8 (some (0 ∷ 64 ∷ 0 ∷ 0 ∷ 0 ∷ []))
+    ∷ repetition (asks "((A?)*? B?)+ $" aboveZero 0 []) (pos 0 ∷ pos 1 ∷ []) 0 13 4 (at 0 "BB" ∷ []) 13 (some (0 ∷ 0 ∷ 0 ∷ 0 ∷ 0 ∷ 0 ∷ 0 ∷ 0 ∷ 0 ∷ 0 ∷ 0 ∷ 0 ∷ 0 ∷ 0 ∷ 0 ∷ 0 ∷ 0 ∷ 0 ∷ 1 ∷ 0 ∷ []))
+    ∷ repetition (asks "(()|A)* $" [] 0 []) (pos 0 ∷ pos 0 ∷ []) 0 5 2 (at 0 "AA" ∷ []) 12 (some (64 ∷ 0 ∷ 1 ∷ 0 ∷ []))
+    ∷ repetition (asks "((A|())* B)* $" aboveZero 1 []) (pos 0 ∷ pos 1 ∷ []) 0 7 2 (at 0 "BB" ∷ at 1 "B" ∷ []) 24 (some (64 ∷ 0 ∷ 16 ∷ 64 ∷ 21 ∷ 0 ∷ []))
+    ∷ repetition (asks "(A?? B??)* $" [] 1 []) (pos 0 ∷ pos 0 ∷ []) 0 7 2 (at 0 "BB" ∷ at 1 "B" ∷ []) 24 (some (0 ∷ 4 ∷ 0 ∷ 1 ∷ 0 ∷ 0 ∷ []))
+    ∷ []
+
+unfoldable pub shows : Repetition → Bool
+unfolding agrees searchOf
+shows r = agrees (r .line) && ifGiven (λ ns. same eqb (searchOf (r .line .query) (r .line .rows) (enough (r .line .query) (r .line .rows)) .buffers .notes) ns) (r .notes)
+
+-- to a labelled row: `(A??)*` has empty matches only; `(A?)*` takes all rows, then its last A
+-- alone, which is stuck
+abbrev pub stuckLoop : List ℕ → List ℤ → ℕ → ℕ → List (ℕ × List ℕ) → ℕ → Line
+stuckLoop q rows p f ms n = record { query = q; rows = rows; answer = 15; places = p; factor = f; matches = ms; steps = some n; numbers = none; output = none }
+
+unfoldable pub loopSkips : List Line
+unfolding bytes
+loopSkips =
+    flaggedLine (asksTo "(A??)*" 2 65) (any 3) 4 2 (at 0 "" ∷ at 1 "" ∷ at 2 "" ∷ []) 9
+    ∷ flaggedLine (asksTo "(A??)*" 3 65) (any 3) 4 2 (at 0 "" ∷ at 1 "" ∷ at 2 "" ∷ []) 9
+    ∷ stuckLoop (asksTo "(A?)*" 3 65) (any 3) 4 2 (at 0 "AAA" ∷ at 2 "A" ∷ []) 19
+    ∷ stuckLoop (asksTo "(A?)*" 2 65) (any 3) 4 2 (at 0 "AAA" ∷ []) 13
+    ∷ []
+
+-- `(A*)*`, where A is above 0
+unfoldable pub loops : List ℕ
+unfolding bytes
+loops = asks "(A*)*" aboveZero 0 []
+
+-- under an allowance: two A and a row that is none take 14 steps; the letter fails at the third row
+-- with the seventh, its flag set, and with the tenth, its flag 0; the first match ends with the
+-- eleventh
+unfoldable pub loopAllowances : List Allowed
+loopAllowances =
+    allowed 0 16 0 0 0 0
+    ∷ allowed 6 16 0 0 6 0
+    ∷ allowed 7 16 0 0 7 1
+    ∷ allowed 9 16 0 0 9 1
+    ∷ allowed 10 16 0 0 10 2
+    ∷ allowed 11 16 1 2 11 2
+    ∷ allowed 13 16 1 2 13 2
+    ∷ allowed 14 0 2 2 14 2
+    ∷ []
+
+unfoldable pub loopsKeepTo : Allowed → Bool
+unfolding keepsWithin loops
+loopsKeepTo l = keepsWithin loops (pos 1 ∷ pos 1 ∷ pos 0 ∷ []) l
+
+-- in two lots, of 5 rows at most, cut at each row of these 4
+abbrev pub fourRows : List ℤ
+fourRows = pos 1 ∷ pos 1 ∷ pos 0 ∷ pos 1 ∷ []
+
+unfoldable pub loopLots : List Lotted
+unfolding loops pairsOf
+loopLots =
+    (named loops 5 none, now fourRows 0 23 0 0 0 ∷ atLast fourRows 4 0 3 3 23 ∷ [])
+    ∷ (named loops 5 none, now fourRows 1 23 0 0 5 ∷ atLast fourRows 4 0 3 3 23 ∷ [])
+    ∷ (named loops 5 none, now fourRows 2 23 0 0 7 ∷ now fourRows 3 23 2 2 14 ∷ atLast fourRows 4 0 3 3 23 ∷ [])
+    ∷ (named loops 5 none, now fourRows 4 23 2 2 19 ∷ atLast fourRows 4 0 3 3 23 ∷ [])
+    ∷ []
+
+-- notes and trail are for 4 times 2 times 6 pairs; pairs 20 and 21, and 36 and 37, are the letter's
+-- at rows 2 and 4
+unfoldable pub loopRooms : Bool
+unfolding callOf pairsOf loops
+loopRooms =
+    let fitting : ℕ → ℕ → Named = λ n t. record { query = loops; largest = 5; allowance = none; lent = record { notes = replicate n 255; trail = replicate t 9; numbers = replicate 40 (pos 9); labels = replicate 40 9 } } in
+    let s = fitting 6 48 in
+    let first = callOf s begun fourRows 3 false (s .lent) in
+    let final = callOf s (first .progress) fourRows 4 true (first .memory .buffers) in
+    same eqb (first .memory .buffers .notes) (0 ∷ 0 ∷ 48 ∷ 0 ∷ 0 ∷ 0 ∷ [])
+    && (same eqb (final .memory .buffers .notes) (0 ∷ 0 ∷ 48 ∷ 0 ∷ 48 ∷ 0 ∷ [])
+    && (same eqb (final .memory .buffers .trail) (replicate 48 0)
+    && (eqb (callOf (fitting 5 48) begun fourRows 3 false (s .lent) .memory .result .answer) 11
+    && eqb (callOf (fitting 6 47) begun fourRows 3 false (s .lent) .memory .result .answer) 12)))
+
 -- ---- R-5, the average of a column
 
 -- a function, the values that it is over, and its result
@@ -373,7 +483,7 @@ averages =
 -- whole searches: AVG of all rows, of a letter's rows, of a letter without rows; there is no
 -- function 8
 abbrev pub averageLine : List ℕ → List ℤ → ℕ → List (ℕ × List ℕ) → List ℤ → Line
-averageLine q rows p ms ns = record { query = q; rows = rows; answer = 0; places = p; matches = ms; steps = none; numbers = some ns; output = none }
+averageLine q rows p ms ns = record { query = q; rows = rows; answer = 0; places = p; factor = 1; matches = ms; steps = none; numbers = some ns; output = none }
 
 unfoldable pub averageSearches : List Line
 unfolding bytes

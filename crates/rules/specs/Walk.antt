@@ -12,7 +12,9 @@ use Rattle.rules.specs.Places.{Place, pLetter, pCaret, pDollar, pFork, p
 
 -- ---- pairs
 
--- A pair is a number: position times P plus place. `pairs` counts those of n rows, whose positions
+-- A pair is a number: position times P plus place, where P is the length of the list of places.
+-- With R-3 the list has each place once for each value of its flags, F times, so a pair is
+-- (position times P plus place) times F plus flags. `pairs` counts those of n rows, whose positions
 -- are 0 to n.
 abbrev pub pairs : ℕ → ℕ → ℕ
 pairs P n = P * suc n

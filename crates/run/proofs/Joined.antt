@@ -4,7 +4,7 @@
 use mathlib.Core.Path.{_≡_, refl, sym, ap, _∙_}
 use mathlib.Core.Bool.{Bool, true, false, not}
 use mathlib.Core.List.{List, [], _∷_, _++_}
-use mathlib.Core.Option.{none}
+use mathlib.Core.Option.{Option, none, some}
 use Prim.Native.Nat.{ℕ, zero, suc, _+_, _*_, _%_, _/_, _≤_, _<_}
 use native.Mathlib.Nat.{mul-le-mul}
 use native.Mathlib.Numerals.{add-one}
@@ -21,7 +21,10 @@ use Rattle.rules.specs.Rows.{tableOf}
 use Rattle.rules.specs.Query.{columnsOf, textOf}
 use Rattle.rules.specs.Search.{Swept, Kept}
 use Rattle.rules.specs.Report.{bytesFor, numbersOf, labelsOf}
-use Rattle.rules.specs.Answers.{P, treeIn, tooMany, badRows, Task, taskOf, walked, Buffers, pairsOf, shortNotes, shortTrail, endAnswer, stopped, Test, firstOf, refuses, offsetAt, queryTests, refusal, answerOf, roomAnswer, Room, roomOf, reportOf, reportWithin, walkReport, walkWithin, walkOf, Memory, accepted, searchOf}
+use lib.Pow.{pow-mono}
+use Rattle.rules.specs.Language.{Tree, pattern, loopNesting}
+use Rattle.rules.specs.Places.{factorOf}
+use Rattle.rules.specs.Answers.{P, F, nestedLoops, treeIn, tooMany, badRows, Task, taskOf, walked, Buffers, pairsOf, shortNotes, shortTrail, endAnswer, stopped, Test, firstOf, refuses, offsetAt, queryTests, refusal, answerOf, roomAnswer, Room, roomOf, reportOf, reportWithin, walkReport, walkWithin, walkOf, Memory, accepted, searchOf}
 use Rattle.rules.specs.Program.{refusedText, tooLarge, searchText, rowsOf, printedFor}
 use Rattle.laws.proofs.Lists.{length-wrote}
 use Rattle.laws.proofs.Accepted.{answer-within, query-tests-refuse}
@@ -66,6 +69,14 @@ module _ (q : List ℕ) (rows : List ℤ) (ok : roomAnswer q (badRows q rows) �
   unfolding queryTests tooMany
   few-places = ltb-false _ _ (none-true (queryTests q) (query-tests-refuse q) no-query-answer 7)
 
+  few-values : F (treeIn q) ≤ 8
+  unfolding queryTests nestedLoops F factorOf
+  few-values = by (treeIn q) (none-true (queryTests q) (query-tests-refuse q) no-query-answer 6)
+    where
+      by : (t : Option (Tree pattern)) → nestedLoops t ≡ false → F t ≤ 8
+      by none e = omega arith
+      by (some p) e = pow-mono {i = loopNesting p} {j = 3} (ltb-false 3 (loopNesting p) e)
+
   few-rows : tableOf (columnsOf q) rows .n ≤ 4096
   unfolding badRows
   few-rows = ltb-false _ _ (or-false (not (eqb (length rows % columnsOf q) 0)) _ whole-rows .1)
@@ -100,8 +111,8 @@ module _ (r : List ℕ) (l array : List ℤ) (k : ℕ) (filled : array ≡ wrote
 
 -- what `room` says: all sizes and no answer, or an answer and zeros
 data Roomed (q : List ℕ) (rows : List ℤ) (z : Size) : Type 0 where
-  accepted-room : roomAnswer q (badRows q rows) ≡ 0 → z .answer ≡ 0 → z .places ≡ P (treeIn q) → z .rows ≡ tableOf (columnsOf q) rows .n → Roomed q rows z
-  refused-room : z .answer ≡ roomAnswer q (badRows q rows) → 0 < roomAnswer q (badRows q rows) → z .places ≡ 0 → z .rows ≡ 0 → Roomed q rows z
+  accepted-room : roomAnswer q (badRows q rows) ≡ 0 → z .answer ≡ 0 → z .places ≡ P (treeIn q) → z .factor ≡ F (treeIn q) → z .rows ≡ tableOf (columnsOf q) rows .n → Roomed q rows z
+  refused-room : z .answer ≡ roomAnswer q (badRows q rows) → 0 < roomAnswer q (badRows q rows) → z .places ≡ 0 → z .factor ≡ 0 → z .rows ≡ 0 → Roomed q rows z
 
 module _ (q : List ℕ) (rows : List ℤ) (z : Size) (e : asRoom z ≡ roomOf q rows) where
   roomed : Roomed q rows z
@@ -109,47 +120,55 @@ module _ (q : List ℕ) (rows : List ℤ) (z : Size) (e : asRoom z ≡ roomOf q 
   roomed = go (roomAnswer q (badRows q rows)) refl (eqb (roomAnswer q (badRows q rows)) 0) refl e
     where
       go : (a : ℕ) → roomAnswer q (badRows q rows) ≡ a → (t : Bool) → eqb a 0 ≡ t
-          → asRoom z ≡ pick t (record { answer = 0; places = P (treeIn q); rows = tableOf (columnsOf q) rows .n; offset = 0 })
-          (record { answer = a; places = 0; rows = 0; offset = offsetAt (textOf q) a }) → Roomed q rows z
+          → asRoom z ≡ pick t (record { answer = 0; places = P (treeIn q); factor = F (treeIn q); rows = tableOf (columnsOf q) rows .n; offset = 0 })
+          (record { answer = a; places = 0; factor = 0; rows = 0; offset = offsetAt (textOf q) a }) → Roomed q rows z
       go a h true g e =
-          accepted-room (h ∙ eqb-true a 0 g) (ap (λ (z : Room). z .answer) e) (ap (λ (z : Room). z .places) e) (ap (λ (z : Room). z .rows) e)
+          accepted-room (h ∙ eqb-true a 0 g) (ap (λ (z : Room). z .answer) e) (ap (λ (z : Room). z .places) e) (ap (λ (z : Room). z .factor) e) (ap (λ (z : Room). z .rows) e)
       go a h false g e =
-          refused-room (ap (λ (z : Room). z .answer) e ∙ sym h) (rw h (above a (eqb-false a 0 g))) (ap (λ (z : Room). z .places) e) (ap (λ (z : Room). z .rows) e)
+          refused-room (ap (λ (z : Room). z .answer) e ∙ sym h) (rw h (above a (eqb-false a 0 g))) (ap (λ (z : Room). z .places) e) (ap (λ (z : Room). z .factor) e) (ap (λ (z : Room). z .rows) e)
 
   -- the number of pairs can be computed
   pub room-rows : Fits w64 (z .rows + 1)
   room-rows = go roomed
     where
       go : Roomed q rows z → Fits w64 (z .rows + 1)
-      go (accepted-room ok a p n) = record { fits = omega (arith, n, few-rows q rows ok) }
-      go (refused-room a h p n) = record { fits = omega arith }
+      go (accepted-room ok a p v n) = record { fits = omega (arith, n, few-rows q rows ok) }
+      go (refused-room a h p v n) = record { fits = omega arith }
 
-  pub room-pairs : Fits w64 (z .places * (z .rows + 1))
+  few-entries : z .places * z .factor ≤ 2048
+  few-entries = go roomed
+    where
+      go : Roomed q rows z → z .places * z .factor ≤ 2048
+      go (accepted-room ok a p v n) = mul-le-mul (let hp : z .places ≤ 256 = omega (arith, p, few-places q rows ok) in hp) (let hf : z .factor ≤ 8 = omega (arith, v, few-values q rows ok) in hf)
+      go (refused-room a h p v n) = mul-le-mul (let hp : z .places ≤ 256 = omega arith in hp) (let hf : z .factor ≤ 8 = omega arith in hf)
+
+  pub room-entries : Fits w64 (z .places * z .factor)
+  room-entries = record { fits = omega (arith, few-entries) }
+
+  pub room-pairs : Fits w64 (z .places * z .factor * (z .rows + 1))
   room-pairs = go roomed
     where
-      go : Roomed q rows z → Fits w64 (z .places * (z .rows + 1))
-      go (accepted-room ok a p n) =
-          let hp : z .places ≤ 256 = omega (arith, p, few-places q rows ok) in
+      go : Roomed q rows z → Fits w64 (z .places * z .factor * (z .rows + 1))
+      go (accepted-room ok a p v n) =
           let hn : z .rows + 1 ≤ 4097 = omega (arith, n, few-rows q rows ok) in
-          let m : z .places * (z .rows + 1) ≤ 256 * 4097 = mul-le-mul hp hn in
+          let m : z .places * z .factor * (z .rows + 1) ≤ 2048 * 4097 = mul-le-mul few-entries hn in
           record { fits = omega arith }
-      go (refused-room a h p n) =
-          let hp : z .places ≤ 0 = omega arith in
+      go (refused-room a h p v n) =
           let hn : z .rows + 1 ≤ 1 = omega arith in
-          let m : z .places * (z .rows + 1) ≤ 0 * 1 = mul-le-mul hp hn in
+          let m : z .places * z .factor * (z .rows + 1) ≤ 2048 * 1 = mul-le-mul few-entries hn in
           record { fits = omega arith }
 
   -- the verdict on these numbers is the definition's
-  same-verdict : (bytes : ℕ) → verdictOf (z .answer) bytes (z .places * (z .rows + 1)) ≡ verdictOf (roomAnswer q (badRows q rows)) bytes (pairsOf q rows)
+  same-verdict : (bytes : ℕ) → verdictOf (z .answer) bytes (z .places * z .factor * (z .rows + 1)) ≡ verdictOf (roomAnswer q (badRows q rows)) bytes (pairsOf q rows)
   unfolding pairsOf
   same-verdict bytes = go roomed
     where
-      go : Roomed q rows z → verdictOf (z .answer) bytes (z .places * (z .rows + 1)) ≡ verdictOf (roomAnswer q (badRows q rows)) bytes (pairsOf q rows)
-      go (accepted-room ok a p n) = rw (a, ok, p, n, add-one)
-      go (refused-room a h p n) = rw a (pairs-spared (roomAnswer q (badRows q rows)) bytes (z .places * (z .rows + 1)) (pairsOf q rows) h)
+      go : Roomed q rows z → verdictOf (z .answer) bytes (z .places * z .factor * (z .rows + 1)) ≡ verdictOf (roomAnswer q (badRows q rows)) bytes (pairsOf q rows)
+      go (accepted-room ok a p v n) = rw (a, ok, p, v, n, add-one)
+      go (refused-room a h p v n) = rw a (pairs-spared (roomAnswer q (badRows q rows)) bytes (z .places * z .factor * (z .rows + 1)) (pairsOf q rows) h)
 
 module _ (q r : List ℕ) (l array : List ℤ) (k : ℕ) (filled : array ≡ wrote l 0 (rowsOf r)) (counted : k ≡ length (rowsOf r)) (z : Size) (e : asRoom z ≡ roomOf q (take k array))
-    (v : Verdict) (given : v ≡ verdictOf (z .answer) (length r) (z .places * (z .rows + 1))) where
+    (v : Verdict) (given : v ≡ verdictOf (z .answer) (length r) (z .places * z .factor * (z .rows + 1))) where
   verdict-is : v ≡ verdictOf (roomAnswer q (badRows q (take k array))) (length r) (pairsOf q (take k array))
   verdict-is = given ∙ same-verdict q (take k array) z e (length r)
 

@@ -63,7 +63,7 @@ fn run_query(query: &[u8], bytes: &[u8], out: &mut [u8]) -> usize
     let mut rows = [0i32; 8192];
     let count = input::rows_of(bytes, &mut rows);
     let size = room::room(query, &rows[..count]);
-    let pairs = size.places * (size.rows + 1);
+    let pairs = size.places * size.factor * (size.rows + 1);
     let verdict = input::verdict_of(size.answer, bytes.len(), pairs);
     match verdict {
         input::Verdict::Refused(answer) => header::put_refused(out, 0, answer),

@@ -19,8 +19,9 @@ use Rattle.rules.specs.Basics.{pick, every}
 use Rattle.rules.specs.Rows.{tableOf}
 use Rattle.rules.specs.Query.{columnsOf, textOf, parts}
 use Rattle.rules.specs.Report.{bytesFor}
+use Rattle.rules.specs.Language.{Tree, pattern}
 use Rattle.rules.specs.Answers as A
-use Rattle.rules.specs.Answers.{treeIn, P, badRows, Buffers, Memory, taskOf, pairsOf, shortNotes, shortTrail, endAnswer, Test, firstOf, refuses, offsetAt, queryTests, answerBy, answerWithin, walkWithin, reportWithin, reportOf, refused, accepted, searchWithin}
+use Rattle.rules.specs.Answers.{treeIn, P, F, badRows, Buffers, Memory, taskOf, pairsOf, shortNotes, shortTrail, endAnswer, Test, firstOf, refuses, offsetAt, queryTests, answerBy, answerWithin, walkWithin, reportWithin, reportOf, refused, accepted, searchWithin}
 use Rattle.rules.specs.Demands.{Accepts}
 use Rattle.laws.proofs.Accepted.{query-tests-refuse}
 use Rattle.laws.proofs.Demands.{demands, allowing}
@@ -130,7 +131,8 @@ module _ (al : ℕ) (q : List ℕ) (rows : List ℤ) (notes trail : List ℕ) (n
 
 -- ---- what a prepared query gives
 
--- so many entries that make good rows of so many columns, and their pairs with up to 256 places
+-- so many entries that make good rows of so many columns, and their pairs with up to 2,048 places
+-- of the table
 module _ (columns places entries : ℕ) (t : Bool) (et : t ≡ badCount entries columns) (f : t ≡ false) where
   few-rows : (entries % columns ≡ 0) × (entries / columns ≤ 4096)
   unfolding badCount
@@ -138,16 +140,16 @@ module _ (columns places entries : ℕ) (t : Bool) (et : t ≡ badCount entries 
       let g = or-false (not (eqb (entries % columns) 0)) (ltb 4096 (entries / columns)) (sym et ∙ f) in
       (eqb-true (entries % columns) 0 (not-false (eqb (entries % columns) 0) (g .0)), ltb-false 4096 (entries / columns) (g .1))
 
-  pairs-most : places ≤ 256 → places * (entries / columns + 1) ≤ 1048832
+  pairs-most : places ≤ 2048 → places * (entries / columns + 1) ≤ 8390656
   pairs-most few =
-      let k : places * (entries / columns + 1) ≤ 256 * 4097 = mul-le-mul few (let g : entries / columns + 1 ≤ 4097 = omega (arith, few-rows .1) in g) in
+      let k : places * (entries / columns + 1) ≤ 2048 * 4097 = mul-le-mul few (let g : entries / columns + 1 ≤ 4097 = omega (arith, few-rows .1) in g) in
       omega arith
 
 module _ (T : List ℕ) (p : Prepared) (a : Runs T p) (z : p .answer ≡ 0) where
   pub some-column : 1 ≤ p .columns
   some-column = a .given .ready z .some-columns
 
-  few-places : p .places ≤ 256
+  few-places : p .places ≤ 2048
   few-places = a .given .ready z .few
 
   module _ (entries : ℕ) (t : Bool) (et : t ≡ badCount entries (p .columns)) (f : t ≡ false) where
@@ -158,7 +160,7 @@ module _ (T : List ℕ) (p : Prepared) (a : Runs T p) (z : p .answer ≡ 0) wher
     pub pairs-fit : Fits w64 (p .places * (entries / p .columns + 1))
     pairs-fit = record { fits = omega (arith, pairs-most (p .columns) (p .places) entries t et f few-places) }
 
-    pub pairs-few : (k : ℕ) → k ≡ p .places * (entries / p .columns + 1) → k ≤ 1048832
+    pub pairs-few : (k : ℕ) → k ≡ p .places * (entries / p .columns + 1) → k ≤ 8390656
     pairs-few k e = omega (arith, pairs-most (p .columns) (p .places) entries t et f few-places, e)
 
 module _ (al : ℕ) (T : List ℕ) (p : Prepared) (rows : List ℤ) (notes trail : List ℕ) (numbers : List ℤ) (labels : List ℕ) where
@@ -187,9 +189,9 @@ module _ (al : ℕ) (T : List ℕ) (p : Prepared) (rows : List ℤ) (notes trail
     run-rows f o b q g = rows-refused al q rows notes trail numbers labels (g .ready z .none) (the-rows q g ∙ f) o b
 
     module _ (f : t ≡ false) where
-      the-places : (q : List ℕ) → Given q T p → p .places ≡ P (treeIn q)
-      unfolding P
-      the-places q g = g .ready z .places-are ∙ ap P (sym (g .ready z .has-tree))
+      the-places : (q : List ℕ) → Given q T p → p .places ≡ P (treeIn q) * F (treeIn q)
+      unfolding P F
+      the-places q g = g .ready z .places-are ∙ ap (λ (t : Option (Tree pattern)). P t * F t) (sym (g .ready z .has-tree))
 
       the-pairs : (q : List ℕ) → Given q T p → pairsOf q rows ≡ p .places * (n + 1)
       unfolding pairsOf tableOf
@@ -251,8 +253,8 @@ module _ (q T T′ : List ℕ) (p : Prepared) (h : PreparedAs q T T′ p) where
     pub has-run : (al : ℕ) (rows : List ℤ) (before : Buffers) (m : Memory) → ((q : List ℕ) → Given q T′ p → Promised (some al) q rows before m) → Promised (some al) q rows before m
     has-run al rows before m e = e q (h .given d)
 
-  -- a table of 3,532 words is enough
-  module _ (long : length T ≡ 3532) where
+  -- a table of 16,076 words is enough
+  module _ (long : length T ≡ 16076) where
     enough : p .answer ≡ 255 → ⊥
     enough e = let z = h .no-room e (omega arith) in absurd (omega arith)
 
@@ -281,7 +283,7 @@ module _ (q : List ℕ) (rows : List ℤ) (before : Buffers) where
       rw (z, t)
 
   -- more steps than any search takes: the allowance changes nothing
-  unpassed : (a : ℕ) → 2149056512 ≤ a → searchWithin (some a) q rows before ≡ searchWithin none q rows before
+  unpassed : (a : ℕ) → 17192452096 ≤ a → searchWithin (some a) q rows before ≡ searchWithin none q rows before
   unfolding A.searchOf
   unpassed a l = elim (ℕ-discrete (A.refusal q rows before) 0) [
     | yes z ↦ allowing q rows before z .unpassed a (le-trans (limits none q rows before z .few-steps) l)

@@ -56,6 +56,24 @@ pub fn run(
     walk_prepared(table, p, terms, rows, notes, trail, numbers, labels)
 }
 
+// The search of a query for which only the largest table is long enough: its pattern has places
+// with flags.
+fn search_largest(
+    query: &[u8],
+    rows: &[i32],
+    allowance: usize,
+    notes: &mut [u8],
+    trail: &mut [u32],
+    numbers: &mut [i64],
+    labels: &mut [u8],
+) -> Outcome
+    ensures { λ r. ⌜ Promised (some allowance) (now (query .entry)) (now (rows .entry)) (lent (now (notes .entry)) (now (trail .entry)) (now (numbers .entry)) (now (labels .entry))) (memory r (now (notes .exit)) (now (trail .exit)) (now (numbers .exit)) (now (labels .exit))) ⌝ }
+{
+    let mut table = [0u16; 16076];
+    let p = prepare(query, &mut table);
+    run(&table, p, rows, allowance, notes, trail, numbers, labels)
+}
+
 // The search of a query for which a small table is too short.
 fn search_large(
     query: &[u8],
@@ -70,6 +88,10 @@ fn search_large(
 {
     let mut table = [0u16; 3532];
     let p = prepare(query, &mut table);
+    let told = p.answer;
+    if told == NO_ROOM {
+        return search_largest(query, rows, allowance, notes, trail, numbers, labels);
+    }
     run(&table, p, rows, allowance, notes, trail, numbers, labels)
 }
 

@@ -22,7 +22,7 @@ pub fn bad_rows(entries: usize, columns: usize) -> bool
 // Answers 11 and 12: whether so many bytes of notes, a bit for each pair, or so many numbers of the
 // trail are too few for so many pairs; 0 if neither is.
 pub fn short_room(pairs: usize, notes: usize, trail: usize) -> usize
-    requires { ⌜ pairs ≤ 1048832 ⌝ }
+    requires { ⌜ pairs ≤ 8390656 ⌝ }
     ensures { λ r. ⌜ r ≡ shortFor pairs notes trail ⌝ }
 {
     if notes < (pairs + 7) / 8 {

@@ -18,8 +18,8 @@ use Rattle.rules.specs.Report.{fits, numbersOf, labelsOf}
 use Rattle.rules.specs.Answers.{treeIn, letterHolds, skipOf, taskOf, walkedOn}
 use Rattle.rules.specs.Working.{thinned}
 use Rattle.laws.proofs.Accepted.{places-are}
-use Rattle.laws.proofs.Bounds.{Lettered, written-letters}
-use Rattle.laws.proofs.Counting.{legal-unroll, places-counted}
+use Rattle.laws.proofs.Bounds.{Bounds, Lettered, written-bounds, written-letters}
+use Rattle.laws.proofs.Counting.{places-counted}
 use Rattle.laws.proofs.Distinct.{walk-thin}
 use Rattle.laws.proofs.Grammar.{tree-exactly}
 use Rattle.laws.proofs.PatternWalk.{search-kept}
@@ -88,6 +88,10 @@ module _ (q T : List ℕ) (p : Prepared) (a : Ready q T p) (terms : Terms) (rows
   unfolding treeIn
   the-lettered = written-letters (tree-exactly (textOf q) (a .tree) .0 (a .has-tree))
 
+  the-bounds : Bounds (a .tree)
+  unfolding treeIn
+  the-bounds = written-bounds (tree-exactly (textOf q) (a .tree) .0 (a .has-tree))
+
   -- ---- the task
 
   the-table : tableOf (p .columns) rows ≡ taskOf q rows .table
@@ -125,18 +129,18 @@ module _ (q T : List ℕ) (p : Prepared) (a : Ready q T p) (terms : Terms) (rows
   product-le : (x y z w : ℕ) → x ≤ z → y ≤ w → x * y ≤ z * w
   product-le x y z w h k = mul-le-mul h k
 
-  few-pairs : pairs (p .places) n < 2097152
-  few-pairs = let h : p .places * suc n ≤ 256 * 4097 = product-le (p .places) (suc n) 256 4097 (a .few) (let m = f .most in omega arith) in omega arith
+  few-pairs : pairs (p .places) n < W.mostPairs
+  few-pairs = let h : p .places * suc n ≤ 2048 * 4097 = product-le (p .places) (suc n) 2048 4097 (a .few) (let m = f .most in omega arith) in omega arith
 
   legal : W.Legal L holdsAt n
   unfolding W.graphOf
   legal =
       record {
         sized = a .sized;
-        leads = λ x h. same-leads (p .places) (placeAt T x) (placed-leads T (p .places) (a .tree) (a .places-are) (a .placed) (a .no-loop) x h);
+        leads = λ x h. same-leads (p .places) (placeAt T x) (placed-leads T (p .places) (a .tree) (a .places-are) (a .placed) the-bounds x h);
         ρ = rank (unroll (a .tree)) n;
-        falls = placed-falls T (p .places) (a .tree) (a .places-are) (a .placed) (a .no-loop) holdsAt n;
-        bound = placed-bound T (p .places) (a .tree) (a .places-are) (a .placed) (a .no-loop) holdsAt n;
+        falls = placed-falls T (p .places) (a .tree) (a .places-are) (a .placed) the-bounds holdsAt n;
+        bound = placed-bound T (p .places) (a .tree) (a .places-are) (a .placed) the-bounds holdsAt n;
         small = few-pairs;
         rows = f .most;
       }
@@ -164,7 +168,7 @@ module _ (q T : List ℕ) (p : Prepared) (a : Ready q T p) (terms : Terms) (rows
     found-by nums labs =
         rw (a .placed)
         (search-agrees holdsAt (letterHolds (taskOf q rows)) letters-agree n (thinned (places (unroll (a .tree)))) (thinned-spelt (a .tree) the-lettered) (on n) (skipIn (t .skip)) (fits nums labs (measuresIn T (measuresAt (p .places)) (p .count)))
-        ∙ walk-thin (unroll (a .tree)) (legal-unroll (a .tree) (a .no-loop)) (letterHolds (taskOf q rows)) n (on n) (omega arith) (skipIn (t .skip)) (fits nums labs (measuresIn T (measuresAt (p .places)) (p .count)))
+        ∙ walk-thin (unroll (a .tree)) (letterHolds (taskOf q rows)) n (on n) (omega arith) (skipIn (t .skip)) (fits nums labs (measuresIn T (measuresAt (p .places)) (p .count)))
         ∙ same-search (places (unroll (a .tree))) (taskOf q rows .places) n (taskOf q rows .table .n) (skipIn (t .skip)) (taskOf q rows .skip) (measuresIn T (measuresAt (p .places)) (p .count)) (taskOf q rows .measures) (sym the-places) the-rows (h .skip ∙ the-skip) the-measures)
       where
         same-search : (pl pl′ : List Place) (m m′ : ℕ) (o o′ : R.Skip) (x x′ : List Measure) → pl ≡ pl′ → m ≡ m′ → o ≡ o′ → x ≡ x′
@@ -186,8 +190,8 @@ module _ (q T : List ℕ) (p : Prepared) (a : Ready q T p) (terms : Terms) (rows
     pub counted : (nums labs : ℕ) → W.N (layoutOf T (t .size)) (t .size .rows) ≡ length (walkedOn (on (taskOf q rows .table .n)) (taskOf q rows) nums labs .state .0)
     unfolding walkedOn
     counted nums labs =
-        ap₂ (λ (x y : ℕ). pairs x y) (h .places ∙ a .places-are ∙ sym (places-counted (a .tree)) ∙ ap length (sym the-places)) (h .rows ∙ the-rows)
-        ∙ sym (rw the-places (search-kept (unroll (a .tree)) (legal-unroll (a .tree) (a .no-loop)) (letterHolds (taskOf q rows)) (taskOf q rows .table .n) (on (taskOf q rows .table .n)) (omega arith) (taskOf q rows .skip) (fits nums labs (taskOf q rows .measures))))
+        ap₂ (λ (x y : ℕ). pairs x y) (h .places ∙ a .places-are ∙ sym (places-counted (a .tree) the-bounds) ∙ ap length (sym the-places)) (h .rows ∙ the-rows)
+        ∙ sym (rw the-places (search-kept (unroll (a .tree)) (letterHolds (taskOf q rows)) (taskOf q rows .table .n) (on (taskOf q rows .table .n)) (omega arith) (taskOf q rows .skip) (fits nums labs (taskOf q rows .measures))))
 
 -- as the code asks it
 pub walk-searches : (T : List ℕ) (p : Prepared) (terms : Terms) (rows : List ℤ) (notes trail : List ℕ) → Walks T p terms rows notes trail → (t : Task) → TaskFor p terms t → Searches T rows t notes trail

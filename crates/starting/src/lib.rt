@@ -26,7 +26,7 @@ pub struct Terms {
 
 // What a prepared query asks on these terms.
 fn task_of(p: Prepared, terms: Terms) -> Task
-    requires { ⌜ p .places ≤ 256 ⌝ }
+    requires { ⌜ p .places ≤ 2048 ⌝ }
     ensures { λ r. ⌜ TaskFor p terms r ⌝ }
 {
     let places = p.places;

@@ -17,7 +17,7 @@ use Rattle.laws.proofs.Lists.{front-wrote, beyond-wrote}
 use Rattle.laws.proofs.Notes.{bitsOf-at, bitsFrom-length}
 use Rattle.rules.specs.Working.{bitsOf}
 use Rattle.laws.proofs.NotesWritten.{wrote-over, notes-written}
-use Rattle.pairs.specs.Layout.{P, N}
+use Rattle.pairs.specs.Layout.{P, N, mostPairs}
 use Rattle.matches.specs.declared.Sweep.{Sweep}
 use Rattle.matches.specs.declared.Task.{Task}
 use Rattle.matches.specs.Found.{Searches}
@@ -100,7 +100,7 @@ module _ (W : List ℕ) (rows : List ℤ) (task : Task) (n₀ t₀ : List ℕ) (
   pub rows-fit : A .n + 1 ≤ 4097
   rows-fit = let r = h .measured .few-rows in omega arith
 
-  pub pairs-fit : code < 2097152
+  pub pairs-fit : code < mostPairs
   pairs-fit = rw pairs-are (h .legal .small)
 
   pub bytes-fit : (code + 7) / 8 ≤ length n₀

@@ -6,9 +6,10 @@ use Prim.Native.Nat.{ℕ, _+_, _*_, _≤_, _<_}
 use lib.ListN.{length}
 use Rattle.table.specs.Table.{codeAt, firstAt, laterAt, countAt}
 
--- the most places of a pattern, and the most ways of a fork
+-- the most places of a table, one for each of 256 places and of 8 values of its flags, and the most
+-- ways of a fork
 abbrev pub mostPlaces : ℕ
-mostPlaces = 256
+mostPlaces = 2048
 
 abbrev pub mostWays : ℕ
 mostWays = 256

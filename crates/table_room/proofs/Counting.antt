@@ -20,5 +20,5 @@ module _ (s defines : List ℕ) (P letters : ℕ) (h : Sizing s defines P letter
   unfolding needed
   words-are = rw (et, em .0)
 
-  pub words-few : tests + 416 + more ≤ 3532
+  pub words-few : tests + 416 + more ≤ 16076
   words-few = let a = em .1 in let b = h .few in omega arith

@@ -3,19 +3,19 @@ use mathlib.Core.List.{List}
 use Prim.Native.Nat.{ℕ, _+_, _*_, _≤_}
 use Rattle.tests.specs.Prepared.{wordsFor, Countable}
 
--- Behind the words of P places and their ways, seven to a place at the most, stand the measures,
--- and behind these the tests of the letters.
+-- Behind the words of N entries and their ways, seven to an entry at the most, stand the measures,
+-- and behind these the tests of the letters. A place has an entry for each value of its flags.
 abbrev pub measuresAt : ℕ → ℕ
-measuresAt P = 7 * P
+measuresAt N = 7 * N
 
 abbrev pub testsAt : ℕ → ℕ
-testsAt P = 7 * P + 24
+testsAt N = 7 * N + 24
 
--- how many words a query of P places needs, by its DEFINEs
+-- how many words a query of N entries needs, by its DEFINEs
 unfoldable pub needed : List ℕ → List ℕ → ℕ → ℕ → ℕ
-needed s defines P letters = testsAt P + 416 + wordsFor s defines letters
+needed s defines N letters = testsAt N + 416 + wordsFor s defines letters
 
 -- how many words are needed can be counted
-pub record Sizing (s defines : List ℕ) (P letters : ℕ) : Type 0 where
-  pub few : P ≤ 256
+pub record Sizing (s defines : List ℕ) (N letters : ℕ) : Type 0 where
+  pub few : N ≤ 2048
   pub countable : Countable s defines letters

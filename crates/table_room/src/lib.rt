@@ -8,7 +8,7 @@ ghost use lib.Dec.{ltb};
 ghost use mathlib.Core.Bool.{_||_};
 ghost use Rattle.table_room.specs.Words.{measuresAt, testsAt, Sizing, needed};
 
-// A place's words and its ways are at most so many.
+// An entry's words and its ways are at most so many.
 pub const PLACE_WORDS: usize = 7;
 
 pub const MEASURE_WORDS: usize = 24;
@@ -17,20 +17,20 @@ const LETTER_WORDS: usize = 416;
 
 const LONGEST: usize = 65535;
 
-// Where the measures of a query with so many places begin in its table.
-pub fn measures_at(places: usize) -> usize
-    requires { ⌜ places ≤ 256 ⌝ }
-    ensures { λ r. ⌜ r ≡ measuresAt places ⌝ }
+// Where the measures of a query whose places have so many entries begin in its table.
+pub fn measures_at(entries: usize) -> usize
+    requires { ⌜ entries ≤ 2048 ⌝ }
+    ensures { λ r. ⌜ r ≡ measuresAt entries ⌝ }
 {
-    PLACE_WORDS * places
+    PLACE_WORDS * entries
 }
 
 // Where the tests of its letters begin.
-pub fn tests_at(places: usize) -> usize
-    requires { ⌜ places ≤ 256 ⌝ }
-    ensures { λ r. ⌜ r ≡ testsAt places ⌝ }
+pub fn tests_at(entries: usize) -> usize
+    requires { ⌜ entries ≤ 2048 ⌝ }
+    ensures { λ r. ⌜ r ≡ testsAt entries ⌝ }
 {
-    PLACE_WORDS * places + MEASURE_WORDS
+    PLACE_WORDS * entries + MEASURE_WORDS
 }
 
 // Whether a table of so many words has no room for a query that needs so many.
@@ -43,11 +43,11 @@ pub fn has_no_room(words: usize, needed: usize) -> bool
     LONGEST < words
 }
 
-// How many words a query of so many places needs.
-pub fn words_needed(query: &[u8], defines: &[usize; 26], places: usize, letters: usize) -> usize
-    requires { ⌜ Sizing (now query) (now defines) places letters ⌝ }
-    ensures { λ r. ⌜ (r ≡ needed (now (query .entry)) (now (defines .entry)) places letters) × (r ≤ 3532) ⌝ }
+// How many words a query of so many entries needs.
+pub fn words_needed(query: &[u8], defines: &[usize; 26], entries: usize, letters: usize) -> usize
+    requires { ⌜ Sizing (now query) (now defines) entries letters ⌝ }
+    ensures { λ r. ⌜ (r ≡ needed (now (query .entry)) (now (defines .entry)) entries letters) × (r ≤ 16076) ⌝ }
 {
     let more = words_for(query, defines, letters);
-    tests_at(places) + LETTER_WORDS + more
+    tests_at(entries) + LETTER_WORDS + more
 }

@@ -1,6 +1,5 @@
 -- `forks::two_ways` meets its contract. Laws: ForkLaws, TableLaws.
-use Rattle.forks.proofs.ForkLaws.{two-first, two-second, two-needs, two-done}
-use Rattle.place_words.proofs.TableLaws.{emitted-length}
+use Rattle.forks.proofs.ForkLaws.{two-first, two-second, two-needs, two-done, put-length}
 use Rattle.forks.proofs.two_ways.Statement.{statement}
 use Rattle.forks.proofs.two_ways.Tie as tie
 
@@ -15,7 +14,7 @@ put-fork-requires c κs = two-needs _ _ _ _ _ (c .before .before .before .before
     (c .before .before .before .before .before .before .before .put-way .ensures) _ _ (c .before .before .before .put-way2 .ensures)
 
 same-length : tie.Need-same-length
-same-length c = emitted-length _ _ _ _ _ _ (two-done _ _ _ _ _ (c .before .before .before .before .before .before .before .before .before .before .before .before .before .pre) _ _
+same-length c = put-length _ _ _ _ _ _ (two-done _ _ _ _ _ (c .before .before .before .before .before .before .before .before .before .before .before .before .before .pre) _ _
     (c .before .before .before .before .before .before .before .before .before .before .put-way .ensures) _ _ (c .before .before .before .before .before .before .put-way2 .ensures) _ _ (c .before .before .put-fork .ensures))
 
 returns : tie.Need-returns

@@ -4,6 +4,13 @@ use borrow.Author.Tests.{not-true, not-false}
 use borrow.Author.Needs.{needs}
 use Rattle.judge.proofs.judge.Statement.{statement}
 use Rattle.judge.proofs.judge.Tie as tie
+use Rattle.judge.proofs.judge.Reads as reads
+use Rattle.judge.proofs.judge.Lts as lts
+use Rattle.judge.proofs.refused.Reads as refused-reads
+use Rattle.loops.proofs.factor_of.Reads as factor-of-reads
+use Rattle.loops.proofs.nesting.Reads as nesting-reads
+use Rattle.pattern.proofs.read_text.Reads as read-text-reads
+use Rattle.scan.proofs.too_deep.Reads as too-deep-reads
 
 too-deep-requires : tie.Need-too-deep-requires
 too-deep-requires c κs = search needs
@@ -38,8 +45,8 @@ returns-3 c = search (needs, judge-incomplete, not-true)
 sub-top : tie.Need-sub-top
 sub-top c = search (needs, some-node, not-true, not-false)
 
-has-empty-loop-requires : tie.Need-has-empty-loop-requires
-has-empty-loop-requires c κs = search (needs, top-at, not-false)
+nesting-requires : tie.Need-nesting-requires
+nesting-requires c κs = search (needs, top-at, not-false)
 
 refused-requires-4 : tie.Need-refused-requires-4
 refused-requires-4 c κs = search needs
@@ -48,7 +55,7 @@ same-length-3 : tie.Need-same-length-3
 same-length-3 c = search needs
 
 returns-4 : tie.Need-returns-4
-returns-4 c = judge-loop _ _ _ _ (c .before .before .before .before .before .before .before .before .read-text .ensures) (c .before .before .before .before .before .before .before .before .before .before .before .before .before .before .pre) (not-false _ (c .before .before .before .before .before .if2 .left)) _ (c .before .before .before .before .before .before .before .before .before .before .before .too-deep .ensures) (c .before .before .before .before .before .before .before .before .before .before .if1 .left) _ (c .before .before .has-empty-loop .ensures) _ (c .before .if4 .taken) (c .refused4 .ensures)
+returns-4 c = judge-loop _ _ _ _ (c .before .before .before .before .before .before .before .before .read-text .ensures) (c .before .before .before .before .before .before .before .before .before .before .before .before .before .before .pre) (not-false _ (c .before .before .before .before .before .if2 .left)) _ (c .before .before .before .before .before .before .before .before .before .before .before .too-deep .ensures) (c .before .before .before .before .before .before .before .before .before .before .if1 .left) _ (c .before .before .nesting .ensures .0) _ (c .before .if4 .taken) (c .refused4 .ensures)
 
 add-places : tie.Need-add-places
 add-places c = search (needs, sum-fits, not-false)
@@ -63,13 +70,16 @@ same-length-4 : tie.Need-same-length-4
 same-length-4 c = search needs
 
 returns-5 : tie.Need-returns-5
-returns-5 c = judge-many _ _ _ _ (c .before .before .before .before .before .before .before .before .before .before .read-text .ensures) (c .before .before .before .before .before .before .before .before .before .before .before .before .before .before .before .before .pre) (not-false _ (c .before .before .before .before .before .before .before .if2 .left)) _ (c .before .before .before .before .before .before .before .before .before .before .before .before .before .too-deep .ensures) (c .before .before .before .before .before .before .before .before .before .before .before .before .if1 .left) _ (c .before .before .before .before .has-empty-loop .ensures) _ (c .before .before .before .if4 .left) (c .before .if5 .taken) (c .refused5 .ensures)
+returns-5 c = judge-many _ _ _ _ (c .before .before .before .before .before .before .before .before .before .before .read-text .ensures) (c .before .before .before .before .before .before .before .before .before .before .before .before .before .before .before .before .pre) (not-false _ (c .before .before .before .before .before .before .before .if2 .left)) _ (c .before .before .before .before .before .before .before .before .before .before .before .before .before .too-deep .ensures) (c .before .before .before .before .before .before .before .before .before .before .before .before .if1 .left) _ (c .before .before .before .before .nesting .ensures .0) _ (c .before .before .before .if4 .left) (c .before .if5 .taken) (c .refused5 .ensures)
+
+factor-of-requires : tie.Need-factor-of-requires
+factor-of-requires c κs = search needs
 
 same-length-5 : tie.Need-same-length-5
 same-length-5 c = search needs
 
 returns-6 : tie.Need-returns-6
-returns-6 c = judge-good _ _ _ _ (c .before .before .before .before .before .before .before .before .before .read-text .ensures) (c .before .before .before .before .before .before .before .before .before .before .before .before .before .before .before .pre) (not-false _ (c .before .before .before .before .before .before .if2 .left)) _ (c .before .before .before .before .before .before .before .before .before .before .before .before .too-deep .ensures) (c .before .before .before .before .before .before .before .before .before .before .before .if1 .left) _ (c .before .before .before .has-empty-loop .ensures) (c .before .before .if4 .left) (c .if5 .left)
+returns-6 c = judge-good _ _ _ _ (c .before .before .before .before .before .before .before .before .before .before .read-text .ensures) (c .before .before .before .before .before .before .before .before .before .before .before .before .before .before .before .before .pre) (not-false _ (c .before .before .before .before .before .before .before .if2 .left)) _ (c .before .before .before .before .before .before .before .before .before .before .before .before .before .too-deep .ensures) (c .before .before .before .before .before .before .before .before .before .before .before .before .if1 .left) _ (c .before .before .before .before .nesting .ensures .0) (c .before .before .before .if4 .left) (c .before .if5 .left) _ (c .factor-of .ensures .0)
 
 pub judge-spec : {M : Type 1} → statement M
 judge-spec =
@@ -86,7 +96,7 @@ judge-spec =
     same-length-2
     returns-3
     sub-top
-    has-empty-loop-requires
+    nesting-requires
     refused-requires-4
     same-length-3
     returns-4
@@ -95,5 +105,6 @@ judge-spec =
     refused-requires-5
     same-length-4
     returns-5
+    factor-of-requires
     same-length-5
     returns-6)

@@ -8,14 +8,17 @@ use Rattle.mireladle_c.proofs.mireladle_room.Tie as tie
 room-requires : tie.Need-room-requires
 room-requires c κs = search needs
 
-add-t4 : tie.Need-add-t4
-add-t4 c = let h = pairs-fit _ _ _ (c .before .room .ensures) in omega (arith, h .0)
+mul-t4 : tie.Need-mul-t4
+mul-t4 c = let h = pairs-fit _ _ _ (c .before .room .ensures) in omega (arith, h .1)
 
-mul-t5 : tie.Need-mul-t5
-mul-t5 c = let h = pairs-fit _ _ _ (c .before .before .room .ensures) in omega (arith, h .1)
+add-t5 : tie.Need-add-t5
+add-t5 c = let h = pairs-fit _ _ _ (c .before .before .room .ensures) in omega (arith, h .0)
+
+mul-t6 : tie.Need-mul-t6
+mul-t6 c = let h = pairs-fit _ _ _ (c .before .before .before .room .ensures) in omega (arith, h .2)
 
 returns : tie.Need-returns
 returns c = search needs
 
 pub mireladle-room-spec : {M : Type 1} → statement M
-mireladle-room-spec = tie.close (tie.spec room-requires add-t4 mul-t5 returns)
+mireladle-room-spec = tie.close (tie.spec room-requires mul-t4 add-t5 mul-t6 returns)

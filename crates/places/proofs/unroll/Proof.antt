@@ -1,28 +1,59 @@
--- `places::unroll` meets its contract by the laws of UnrollLaws.
+-- `places::unroll` meets its contract. Laws: UnrollLaws.
 use native.Mathlib.Omega.{arith}
-use Rattle.places.proofs.UnrollLaws.{some-place, unroll-emitting, end-words, unroll-length, unroll-done}
+use borrow.Author.Needs.{needs}
+use Rattle.places.proofs.UnrollLaws.{Filled, all-fits, none-filled, flat, more-filled, more-fits, more-length, unroll-done}
+use Prim.Native.Nat.{_-_}
 use Rattle.places.proofs.unroll.Statement.{statement}
 use Rattle.places.proofs.unroll.Tie as tie
+use Rattle.places.proofs.unroll.Reads as reads
+use Rattle.places.proofs.unroll.Lts as lts
+use Rattle.places.proofs.unroll_plane.Reads as unroll-plane-reads
 
-sub-last : tie.Need-sub-last
-sub-last c = some-place _ _ _ _ (c .before .before .pre)
+abbrev Inv-loop : tie.InvT-loop
+Inv-loop room top places factor table₀ way₀ flags₀ table way flags = Filled room top places factor table₀ table way flags
 
-mul-emit : tie.Need-mul-emit
-mul-emit c = omega arith
+abbrev μ-loop : tie.MeasureT-loop
+μ-loop room top places factor table₀ way₀ flags₀ table way flags = factor - flags
 
-emit-requires : tie.Need-emit-requires
-emit-requires c κs = unroll-emitting _ _ _ _ (c .before .before .before .pre) _ (omega arith)
+mul-way : tie.Need-mul-way Inv-loop μ-loop
+mul-way c = search (needs, all-fits)
 
-put-place-requires : tie.Need-put-place-requires
-put-place-requires c κs = end-words _ _ _ _ (c .before .before .before .before .before .before .before .pre) _ _ (c .before .before .before .emit .ensures)
+mul-way-2 : tie.Need-mul-way-2 Inv-loop μ-loop
+mul-way-2 c = search (needs, all-fits)
 
-same-length : tie.Need-same-length
-same-length c = unroll-length _ _ _ _ (c .before .before .before .before .before .before .before .before .before .before .pre) _ _ (c .before .before .before .before .before .before .emit .ensures) _ _
-    (c .before .before .put-place .ensures)
+loop-holds : tie.Need-loop-holds Inv-loop μ-loop
+loop-holds c = search (needs, none-filled)
 
-returns : tie.Need-returns
-returns c = λ h. unroll-done _ _ _ _ h _ _ (c .before .before .before .before .before .before .emit .ensures) _ _ (c .before .before .put-place .ensures)
+unroll-plane-requires : tie.Need-unroll-plane-requires Inv-loop μ-loop
+unroll-plane-requires c κs = search (needs, flat)
+
+add-flags : tie.Need-add-flags Inv-loop μ-loop
+add-flags c = search (needs, more-fits)
+
+loop-less : tie.Need-loop-less Inv-loop μ-loop
+loop-less c = omega arith
+
+loop-again : tie.Need-loop-again Inv-loop μ-loop
+loop-again c = search (needs, more-filled)
+
+same-length : tie.Need-same-length Inv-loop μ-loop
+same-length c = search needs
+
+returns : tie.Need-returns Inv-loop μ-loop
+returns c = λ h. unroll-done _ _ _ _ _ _ _ _ (c .before .loop .inv) (search needs) h
 
 pub unroll-spec : {M : Type 1} → statement M
 unroll-spec =
-    tie.close (tie.spec sub-last mul-emit emit-requires put-place-requires same-length returns)
+    tie.close
+    (tie.spec
+    Inv-loop
+    μ-loop
+    mul-way
+    mul-way-2
+    loop-holds
+    unroll-plane-requires
+    add-flags
+    loop-less
+    loop-again
+    same-length
+    returns)

@@ -1,9 +1,17 @@
 -- `prepared::fill` meets its contract by the laws of Filling.
 use mathlib.Core.Path.{refl}
-use Rattle.prepared.proofs.Filling.{fill-measured, fill-behind, fill-count, fill-room, fill-tests, fill-places, fill-points, fill-ready}
+use Rattle.prepared.proofs.Filling.{fill-entries, fill-measured, fill-behind, fill-count, fill-room, fill-tests, fill-places, fill-points, fill-ready}
 use borrow.Author.Needs.{needs}
 use Rattle.prepared.proofs.fill.Statement.{statement}
 use Rattle.prepared.proofs.fill.Tie as tie
+use Rattle.prepared.proofs.fill.Reads as reads
+use Rattle.prepared.proofs.fill.Lts as lts
+use Rattle.measure_list.proofs.put_in_table.Reads as put-in-table-reads
+use Rattle.places.proofs.unroll.Reads as unroll-reads
+use Rattle.tests.proofs.put_tests.Reads as put-tests-reads
+
+mul-entries : tie.Need-mul-entries
+mul-entries c = search (needs, fill-entries)
 
 mul-measured : tie.Need-mul-measured
 mul-measured c = search (needs, fill-measured)
@@ -33,6 +41,7 @@ pub fill-spec : {M : Type 1} → statement M
 fill-spec =
     tie.close
     (tie.spec
+    mul-entries
     mul-measured
     put-in-table-requires
     add-tests

@@ -1,5 +1,6 @@
 -- `prepared::prepare_in` meets its contract by the laws of Filling.
-use Rattle.prepared.proofs.Filling.{not-ready, sizing, too-short, may-fill, filled}
+use Rattle.prepared.proofs.Filling.{not-ready, all-fits, sizing, too-short, may-fill, filled}
+use mathlib.Core.List.{[]}
 use borrow.Author.Needs.{needs}
 use Rattle.prepared.proofs.prepare_in.Statement.{statement}
 use Rattle.prepared.proofs.prepare_in.Tie as tie
@@ -15,6 +16,9 @@ same-length c = search needs
 
 returns : tie.Need-returns
 returns c = search (needs, not-ready)
+
+mul-entries : tie.Need-mul-entries
+mul-entries c = all-fits _ _ _ _ _ _ (c .before .before .before .before .read-query .ensures) [] (c .before .if1 .left)
 
 words-needed-requires : tie.Need-words-needed-requires
 words-needed-requires c κs = search (needs, sizing)
@@ -32,7 +36,7 @@ returns-2 : tie.Need-returns-2
 returns-2 c = search (needs, too-short)
 
 fill-requires : tie.Need-fill-requires
-fill-requires c κs = may-fill _ _ _ _ _ _ (c .before .before .before .before .before .before .before .before .before .before .before .read-query .ensures) _ (c .before .before .before .before .before .before .before .before .if1 .left) _ (c .before .before .before .before .before .before .words-needed .ensures) _ (c .before .before .before .before .before .has-no-room .ensures) (c .before .before .before .before .if2 .left)
+fill-requires c κs = may-fill _ _ _ _ _ _ (c .before .before .before .before .before .before .before .before .before .before .before .before .read-query .ensures) _ (c .before .before .before .before .before .before .before .before .before .if1 .left) _ (c .before .before .before .before .before .before .words-needed .ensures) _ (c .before .before .before .before .before .has-no-room .ensures) (c .before .before .before .before .if2 .left)
 
 same-length-3 : tie.Need-same-length-3
 same-length-3 c = search needs
@@ -51,6 +55,7 @@ prepare-in-spec =
     not-prepared-requires
     same-length
     returns
+    mul-entries
     words-needed-requires
     has-no-room-requires
     not-prepared-requires-2

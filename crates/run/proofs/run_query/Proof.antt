@@ -1,7 +1,7 @@
 -- `run_query` prints what the verdict prints: one law of proofs/Joined for each.
 use native.Mathlib.Omega.{arith}
 use borrow.Author.Needs.{needs}
-use Rattle.run.proofs.Joined.{rows-within, rows-long, room-rows, room-pairs, query-refused, query-large, query-found, query-searched}
+use Rattle.run.proofs.Joined.{rows-within, rows-long, room-rows, room-entries, room-pairs, query-refused, query-large, query-found, query-searched}
 use Rattle.run.proofs.run_query.Statement.{statement}
 use Rattle.run.proofs.run_query.Tie as tie
 
@@ -20,11 +20,14 @@ slice-aggregate-room c = search (needs, rows-long)
 room-requires : tie.Need-room-requires
 room-requires c κs = search needs
 
+mul-pairs : tie.Need-mul-pairs
+mul-pairs c = search (needs, room-entries)
+
 add-pairs : tie.Need-add-pairs
 add-pairs c = search (needs, room-rows)
 
-mul-pairs : tie.Need-mul-pairs
-mul-pairs c = search room-pairs
+mul-pairs-2 : tie.Need-mul-pairs-2
+mul-pairs-2 c = search room-pairs
 
 verdict-of-requires : tie.Need-verdict-of-requires
 verdict-of-requires c κs = search needs
@@ -80,8 +83,9 @@ run-query-spec =
     array-share-prefix-rows
     slice-aggregate-room
     room-requires
-    add-pairs
     mul-pairs
+    add-pairs
+    mul-pairs-2
     verdict-of-requires
     enum-known-verdict
     put-refused-requires
