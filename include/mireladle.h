@@ -154,12 +154,21 @@ struct mireladle_verdict {
     uint64_t row;     /* where found is 1, the row of the last event 2; else 0 */
 };
 
+/* What the test of a letter returns. On the answers 1 to 10 and 14 all but the answer, and the offset of 5 and 14, are 0. */
+struct mireladle_tested {
+    uint64_t answer; /* 0, or 1 to 10 or 14 of enum mireladle_answer */
+    uint64_t holds;  /* 1 if the letter holds at the row, else 0 */
+    uint64_t judged; /* comparisons of its DEFINE of kind 3 that were judged */
+    uint64_t offset; /* as a search returns it */
+};
+
 /* The structs under names of one word. A function has the name of the second struct, so that C++
  * takes `mireladle_room` alone for the function, and the struct has to be written as
  * `struct mireladle_room` or as `mireladle_room_t`. */
 typedef struct mireladle_result mireladle_result_t;
 typedef struct mireladle_room mireladle_room_t;
 typedef struct mireladle_verdict mireladle_verdict_t;
+typedef struct mireladle_tested mireladle_tested_t;
 
 /*
  * Searches the rows for all matches of the query. A match is looked for from row 0 on, at one row after the other, but
@@ -339,6 +348,22 @@ struct mireladle_result mireladle_depots_partition(uint64_t *state, size_t state
                                                    uint32_t *trail, size_t trail_len,
                                                    int64_t *numbers, size_t numbers_len,
                                                    uint8_t *labels, size_t labels_len);
+
+/*
+ * Tests one letter of a query at one row, as the search does, and tells how far its DEFINE was judged: comparisons of
+ * kind 3 are judged in their order, up to and with the first that is not true (false or unknown), all of them where
+ * none is. A letter without DEFINE holds, with 0 judged; one of kind 6 is worked out whole, and 0 are told for it too.
+ *
+ *   letter  Any byte. One that is no letter 'A' to 'Z' has no DEFINE, so it holds; a letter that the pattern does not
+ *           have is tested by its DEFINE all the same.
+ *   row     Any number. At a row behind the last the comparisons are judged by the rows that they look at, so one that
+ *           looks back far enough can be true there; a search does not ask for such a row.
+ *
+ * query and rows are as for mireladle_search(): only read, and NULL only with length 0. Nothing else is touched. A query
+ * or rows that mireladle_room() refuses are refused here with the same answer and offset.
+ */
+struct mireladle_tested mireladle_test(const uint8_t *query, size_t query_len, const int32_t *rows, size_t rows_len,
+                                       uint8_t letter, size_t row);
 
 /*
  * A query's bytes

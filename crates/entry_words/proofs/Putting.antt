@@ -9,8 +9,6 @@ use native.Mathlib.Numerals.{add-one}
 use lib.Dec.{eqb, leb, ltb}
 use lib.ListN.{length, getD, set, length-set}
 use lib.Seq.{getD-set-same, getD-set-other}
-use mir.Syntax.{w16, w64}
-use mir.Val.{Fits}
 use borrow.Author.Tests.{eq-eqb, ne-eqb, leb-true, lt-ltb, le-ltb, eqb-true, eqb-false}
 use Rattle.rules.specs.Basics.{pick, inRange}
 use Rattle.rules.specs.Rows.{Comparison, Entry, compared, conj, disj, neg}
@@ -95,7 +93,7 @@ module _ (s : List ℕ) (columns p tag : ℕ) (T : List ℕ) (at : ℕ) (h : Ent
     byte-some : eqb (getD s p 0) 0 ≡ false
     byte-some = ne-eqb (getD s p 0) 0 (λ e. z (h .first ∙ e))
 
-    tag-few : tag ≤ 3
+    pub tag-few : tag ≤ 3
     unfolding entryFits
     tag-few =
         let e : pick (eqb (getD s p 0) 0) (comparisonFits s columns (p + 1)) (leb (getD s p 0) 3) ≡ true = h .fits in
@@ -103,12 +101,6 @@ module _ (s : List ℕ) (columns p tag : ℕ) (T : List ℕ) (at : ℕ) (h : Ent
         let y = leb-true (getD s p 0) 3 g in
         let f = h .first in
         omega arith
-
-    pub operator-fits : Fits w64 (15 + tag)
-    operator-fits = let a = tag-few in omega arith
-
-    pub operator-word : Fits w16 (15 + tag)
-    operator-word = let a = tag-few in omega arith
 
     pub one-there : at < length T
     one-there = let e = h .room in let g = words-operator tag z .0 in omega arith

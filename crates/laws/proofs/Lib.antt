@@ -2,6 +2,7 @@ pub mod Lists
 pub mod Signed
 pub mod Truths
 pub mod Formulas
+pub mod Judged
 pub mod GrammarSound
 pub mod GrammarComplete
 pub mod Grammar

@@ -2,7 +2,7 @@
 use mathlib.Core.Path.{_≡_, refl, sym, ap, _∙_}
 use mathlib.Core.Bool.{Bool, true, false, not, _&&_}
 use mathlib.Core.List.{List, [], _∷_}
-use Prim.Native.Nat.{ℕ, _+_, _*_, _-_, _/_, _≤_, _<_}
+use Prim.Native.Nat.{ℕ, _+_, _*_, _-_, _/_, _≤_, _<_, min}
 use native.Mathlib.Omega.{arith}
 use native.Mathlib.Nat.{mul-le-mul}
 use lib.Dec.{ltb, eqb}
@@ -102,6 +102,12 @@ pub behind-there : (T : List ℕ) (at count x : ℕ) → (1 < count → getD T (
     → x ≡ getD T (at + 1) 0 → x + (count - 1) * 5 ≤ length T
 behind-there T at count x there some many is-x = let a = there (omega arith) in omega arith
 
+-- a row of the partition
+row-here : (T : List ℕ) (tests : ℕ) (rows : List ℤ) (columns n row : ℕ) → row < n → Letters T tests rows columns n → (from : ℕ) → FarBack columns (row * columns) from → At rows columns n row from
+row-here T tests rows columns n row h letters from far =
+    let e : min row (n + 64) ≡ row = omega arith in
+    record { some = letters .some; few = letters .few; most = letters .most; all = letters .all; far = rw e far }
+
 module _ (T : List ℕ) (tests : ℕ) (rows : List ℤ) (columns n at row : ℕ) where
   -- what the promise says of a result
   abbrev Says : Bool → Type 0
@@ -138,7 +144,7 @@ module _ (T : List ℕ) (tests : ℕ) (rows : List ℤ) (columns n at row : ℕ)
       unfolding conditionIn
       by-entries a b f from far words r e =
           let k = entries-there T tests rows columns n at letters letter kind is-kind a b f in
-          let here : At rows columns n row from = record { some = letters .some; few = letters .few; most = letters .most; all = letters .all; is-row = is-row; far = far } in
+          let here : At rows columns n row from = row-here T tests rows columns n row is-row letters from far in
           rw (lt-ltb row n is-row, eq-eqb (getD T (at + 7) 0) 3 k) (e ∙ postfix-is T words rows columns n row from here (getD T (at + 2) 0) (getD T (at + 1) 0))
 
       module _ (tested : kind ≤ 1) where
@@ -153,7 +159,7 @@ module _ (T : List ℕ) (tests : ℕ) (rows : List ℤ) (columns n at row : ℕ)
 
         module _ (from : ℕ) (far : FarBack columns (row * columns) from) (t : Bool) (is-t : t ≡ readMet T rows from (at + 2)) (words : Words T) where
           here : At rows columns n row from
-          here = record { some = letters .some; few = letters .few; most = letters .most; all = letters .all; is-row = is-row; far = far }
+          here = row-here T tests rows columns n row is-row letters from far
 
           abbrev others : Bool
           others = holds (tableOf columns rows) row (allOf (comparisonsIn T columns (getD T (at + 1) 0) behind))

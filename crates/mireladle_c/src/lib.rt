@@ -3,6 +3,7 @@
 // include/mireladle.h says what a caller owes for the pointers, which no promise here can check.
 use bus_log::Verdict;
 use outcome::Outcome;
+use test_letter::Tested;
 ghost use mathlib.Core.Option.{none, some};
 ghost use lib.ListN.{length};
 ghost use Rattle.outcome.specs.Results.{lent, memory};
@@ -10,6 +11,7 @@ ghost use Rattle.search.specs.Promise.{Promised};
 ghost use Rattle.desk.specs.Promise.{Desk};
 ghost use Rattle.depot_state.specs.State.{Begun};
 ghost use Rattle.depots.specs.Calls.{Calls};
+ghost use Rattle.test_letter.specs.Tests.{TestedAs};
 ghost use Rattle.mireladle_c.specs.Told.{Told};
 
 // How much to lend: the answer 1 to 10 or 14, with the offset of 5 and 14, or 0 with P, n, the
@@ -108,4 +110,12 @@ pub extern "C" fn mireladle_depots_partition(
     ensures { λ r. ⌜ Calls (record { query = now (query .entry); rows = now (rows .entry); buffers = lent (now (notes .entry)) (now (trail .entry)) (now (numbers .entry)) (now (labels .entry)); state = now (state .entry); list = now (list .entry) }) (record { memory = memory r (now (notes .exit)) (now (trail .exit)) (now (numbers .exit)) (now (labels .exit)); state = now (state .exit); list = now (list .exit) }) ⌝ }
 {
     depots::partition(state, list, query, rows, notes, trail, numbers, labels)
+}
+
+// Whether a letter holds at a row, and how many comparisons were judged for it.
+#[no_mangle]
+pub extern "C" fn mireladle_test(query: &[u8], rows: &[i32], letter: u8, row: usize) -> Tested
+    ensures { λ r. ⌜ TestedAs (now (query .entry)) (now (rows .entry)) letter row r ⌝ }
+{
+    test_letter::test_letter(query, rows, letter, row)
 }

@@ -3,7 +3,7 @@ use mathlib.Core.Path.{refl}
 use mathlib.Core.Bool.{false≢true, true≢false}
 use Rattle.rules.specs.Basics.{every}
 use Rattle.rules.specs.Bench.{agrees}
-use Rattle.rules.specs.Samples.{skips, fullFirst, allowances, keepsTo, inTime, noRows, lots, keepsOn, lotRooms, lotRefusals, refusesSo, Preferences, comesTo, averages, averageSearches, truthTable, entryLists, truthSearches, aheadEntries, repetitions, shows, loopSkips, loopAllowances, loopsKeepTo, loopLots, loopRooms}
+use Rattle.rules.specs.Samples.{skips, fullFirst, allowances, keepsTo, inTime, noRows, lots, keepsOn, lotRooms, lotRefusals, refusesSo, Preferences, comesTo, averages, averageSearches, truthTable, entryLists, truthSearches, aheadEntries, judgedTable, repetitions, shows, loopSkips, loopAllowances, loopsKeepTo, loopLots, loopRooms}
 use Rattle.rules.specs.Preferment.{Prefers}
 use lib.Dec.{T}
 
@@ -86,3 +86,7 @@ truth-searches-hold = tt
 pub ahead-entries : T aheadEntries
 unfolding aheadEntries
 ahead-entries = tt
+
+pub judged-table-holds : T (every (λ b. b) judgedTable)
+unfolding every judgedTable
+judged-table-holds = tt

@@ -10,7 +10,7 @@ use lib.Dec.{ltb, eqb}
 use lib.IntN.{ℤ}
 use lib.ListN.{length}
 use Rattle.rules.specs.Basics.{pick, every, has, wrote}
-use Rattle.rules.specs.Rows.{Table, tableOf, Condition, holds}
+use Rattle.rules.specs.Rows.{Table, tableOf, Condition, holds, judged}
 use Rattle.rules.specs.Query.{cut, misplaced, unfit, doubled, columnsOf, textOf, Measure, parts}
 use Rattle.rules.specs.Language.{Tree, pattern, letters, loopNesting}
 use Rattle.rules.specs.Reader.{treeOf, stopOf}
@@ -360,3 +360,29 @@ roomOf q rows =
     pick (eqb (roomAnswer q (badRows q rows)) 0)
     (record { answer = 0; places = P (treeIn q); factor = F (treeIn q); rows = tableOf (columnsOf q) rows .n; offset = 0 })
     (record { answer = roomAnswer q (badRows q rows); places = 0; factor = 0; rows = 0; offset = offsetAt (textOf q) (roomAnswer q (badRows q rows)) })
+
+-- ---- a letter at a row (R-6)
+
+-- The public test of a letter at a row: the answer 1 to 10 or 14 as for `room`, with its offset, or
+-- 0; and where it is 0, whether the letter holds at the row and how many comparisons of its kind 3
+-- record were judged.
+pub record Tested : Type 0 where
+  pub answer : ℕ
+  pub holds : Bool
+  pub judged : ℕ
+  pub offset : ℕ
+
+-- Any letter may be asked for, in the pattern or not, and any row. A row at or behind n is judged
+-- by the rows that the comparisons read. A byte that is no letter has no DEFINE, so it holds and 0
+-- are judged. A refusal returns its number, false and 0.
+unfoldable pub testOf : List ℕ → List ℤ → ℕ → ℕ → Tested
+unfolding roomAnswer badRows taskOf letterHolds judged offsetAt textOf
+testOf q rows letter row =
+    pick (eqb (roomAnswer q (badRows q rows)) 0)
+    (record {
+      answer = 0;
+      holds = letterHolds (taskOf q rows) letter row;
+      judged = judged (taskOf q rows .table) row (taskOf q rows .condition letter);
+      offset = 0;
+    })
+    (record { answer = roomAnswer q (badRows q rows); holds = false; judged = 0; offset = offsetAt (textOf q) (roomAnswer q (badRows q rows)) })

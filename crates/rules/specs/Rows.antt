@@ -1,10 +1,10 @@
 -- Document 01, "Rows and query records", on rows and letters, with R-7: a table of rows, a
--- comparison at a row, which is true, false or unknown, a letter's condition, and when a letter
--- holds at a row.
+-- comparison at a row, which is true, false or unknown, a letter's condition, when a letter
+-- holds at a row, and how many of its comparisons are judged there (R-6).
 use mathlib.Core.Bool.{Bool, true, false, _&&_, _||_}
 use mathlib.Core.List.{List, [], _∷_}
 use mathlib.Core.Option.{Option, none, some}
-use Prim.Native.Nat.{ℕ, _+_, _*_, _/_}
+use Prim.Native.Nat.{ℕ, suc, _+_, _*_, _/_}
 use lib.Dec.{ltb, eqb}
 use lib.IntN.{ℤ, pos, negsuc, _+ℤ_}
 use lib.Signed.{ltZ, leZ}
@@ -178,6 +178,20 @@ conditionTruth t row (postfix es) = latest (resultsOf t row es [])
 unfoldable pub holds : Table → ℕ → Condition → Bool
 unfolding conditionTruth isYes
 holds t row c = isYes (conditionTruth t row c)
+
+-- ---- how many comparisons are judged (R-6)
+
+-- up to and with the first that is not met; all if none is
+unfoldable pub judgedIn : Table → ℕ → List Comparison → ℕ
+unfolding met
+judgedIn t row [] = 0
+judgedIn t row (c ∷ cs) = suc (pick (met t row c) (judgedIn t row cs) 0)
+
+-- of a letter's kind 3 record; 0 without such a record
+unfoldable pub judged : Table → ℕ → Condition → ℕ
+unfolding judgedIn
+judged t row (allOf cs) = judgedIn t row cs
+judged t row (postfix es) = 0
 
 -- the comparisons that a condition has
 unfoldable pub comparedIn : List Entry → List Comparison

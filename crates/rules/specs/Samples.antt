@@ -1,7 +1,7 @@
 -- Document 02: small searches as tables, run on the definitions, one table for each request; and of
 -- strings that clause 6.2 of ISO/IEC 19075-5 prints, which one is preferred. That the definitions
 -- agree with every line is proved in proofs/Samples.
-use mathlib.Core.Bool.{Bool, true, false, _&&_}
+use mathlib.Core.Bool.{Bool, true, false, not, _&&_}
 use mathlib.Core.List.{List, [], _∷_, _++_}
 use mathlib.Core.Logic.{inl, inr}
 use mathlib.Core.Option.{Option, none, some}
@@ -17,7 +17,7 @@ use Rattle.rules.specs.Language.{opt, lower, upper, pattern, Tree, one, 
 use Rattle.rules.specs.Preferment.{Derivation, Prefers}
 use Rattle.rules.specs.Walk.{countTrue}
 use Rattle.rules.specs.Search.{openOf}
-use Rattle.rules.specs.Answers.{pairsOf, Buffers, Result, taskOf, walkWithin, searchWithin, searchOf}
+use Rattle.rules.specs.Answers.{pairsOf, Buffers, Result, taskOf, walkWithin, searchWithin, searchOf, testOf}
 use Rattle.rules.specs.Lots.{Named, Progress, begun, beginAnswer, lotWalk, callOf}
 use Rattle.rules.specs.Bench.{recordOf, asks, w1, X, any, Line, at, unstepped, refusal, same, equalZ, enough, line, aboveZero, agrees, ifGiven, flaggedLine}
 use Rattle.rules.specs.Report.{resultOf}
@@ -658,6 +658,55 @@ aheadEntries =
     && (eqb (beginAnswer (named (asks "A" (defines 3 (ofTruth unknown ++ (0 ∷ (aheadBytes ++ OR)))) 0 []) 3 none)) 17
     && (eqb (beginAnswer (named (asks "B" (defines 2 (0 ∷ (aheadBytes ++ NOT))) 0 []) 3 none)) 0
     && eqb (beginAnswer (named (asks "A" (defines 2 (ofTruth unknown ++ NOT)) 0 []) 3 none)) 0))
+
+-- ---- R-6, how many comparisons are judged
+
+abbrev pub sameBit : Bool → Bool → Bool
+sameBit true b = b
+sameBit false b = not b
+
+-- at the first row of X: comparisons of a kind 3 record for A, whether A holds, and how many are
+-- judged
+abbrev pub judges : ℕ → List ℕ → Bool → ℕ → Bool
+unfolding testOf bytes
+judges count comparisons h k =
+    let r = testOf (asks "A" (recordOf 3 (65 ∷ count ∷ comparisons)) 0 []) X 65 0 in
+    eqb (r .answer) 0 && (sameBit (r .holds) h && eqb (r .judged) k)
+
+abbrev pub tests : List ℕ → List ℤ → ℕ → ℕ → ℕ → Bool → ℕ → Bool
+unfolding testOf
+tests q rows c row a h k = let r = testOf q rows c row in eqb (r .answer) a && (sameBit (r .holds) h && eqb (r .judged) k)
+
+unfoldable pub judgedTable : List Bool
+unfolding testOf bytes
+judgedTable =
+    judges 1 trueBytes true 1
+    ∷ judges 1 falseBytes false 1
+    -- unknown is unmet and ends the count, counted itself
+    ∷ judges 1 unknownBytes false 1
+    ∷ judges 3 (trueBytes ++ (trueBytes ++ trueBytes)) true 3
+    ∷ judges 3 (trueBytes ++ (falseBytes ++ trueBytes)) false 2
+    ∷ judges 3 (trueBytes ++ (trueBytes ++ falseBytes)) false 3
+    ∷ judges 3 (falseBytes ++ (falseBytes ++ falseBytes)) false 1
+    ∷ judges 3 (unknownBytes ++ (trueBytes ++ trueBytes)) false 1
+    ∷ judges 8 (trueBytes ++ (trueBytes ++ (trueBytes ++ (trueBytes ++ (trueBytes ++ (trueBytes ++ (trueBytes ++ unknownBytes))))))) false 8
+    -- no DEFINE, one of kind 6, one for a letter that is not in the pattern
+    ∷ tests (asks "A" [] 0 []) X 65 0 0 true 0
+    ∷ tests (asks "A" (defines 1 (ofTruth yes)) 0 []) X 65 0 0 true 0
+    ∷ tests (asks "A" (defines 1 (ofTruth unknown)) 0 []) X 65 0 0 false 0
+    ∷ tests (asks "B" (recordOf 3 (65 ∷ 2 ∷ (falseBytes ++ trueBytes))) 0 []) X 65 0 0 false 1
+    -- a byte that is no letter; rows at and behind n: column 0 unequal to 100 reads no row, PREV of
+    -- row 5 is row 4
+    ∷ tests (asks "A" (recordOf 3 (65 ∷ 1 ∷ trueBytes)) 0 []) X 0 0 0 true 0
+    ∷ tests (asks "A" (recordOf 3 (65 ∷ 2 ∷ (falseBytes ++ trueBytes))) 0 []) X 65 5 0 false 1
+    ∷ tests (asks "A" (recordOf 3 (65 ∷ 1 ∷ (0 ∷ 0xFF ∷ 1 ∷ 0 ∷ 0 ∷ 0 ∷ 0 ∷ 0 ∷ 130 ∷ 0 ∷ 0 ∷ 0 ∷ []))) 0 []) X 65 5 0 true 1
+    ∷ tests (asks "A" [] 0 []) X 65 5 0 true 0
+    -- refused: by the query, by the text (5 and 14), by the rows
+    ∷ tests [] X 65 0 2 false 0
+    ∷ tests (asks "A)" [] 0 []) X 65 0 5 false 0
+    ∷ tests (asks "(A" [] 0 []) X 65 0 14 false 0
+    ∷ tests (recordOf 1 (2 ∷ 0 ∷ []) ++ (recordOf 2 (65 ∷ []) ++ recordOf 4 (0 ∷ 0 ∷ []))) X 65 0 10 false 0
+    ∷ []
 
 -- ---- ISO/IEC 19075-5, clause 6.2, the order of preferment
 

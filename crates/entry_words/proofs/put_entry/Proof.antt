@@ -1,5 +1,6 @@
 -- `entry_words::put_entry` meets its contract by the laws of Putting.
-use Rattle.entry_words.proofs.Putting.{comparison-room, comparison-put, operator-fits, operator-word, one-there, operator-put}
+use Rattle.entry_words.proofs.Putting.{comparison-room, comparison-put, tag-few, one-there, operator-put}
+use native.Mathlib.Omega.{arith}
 use borrow.Author.Needs.{needs}
 use Rattle.entry_words.proofs.put_entry.Statement.{statement}
 use Rattle.entry_words.proofs.put_entry.Tie as tie
@@ -17,10 +18,10 @@ returns : tie.Need-returns
 returns c = search (needs, comparison-put)
 
 add-table : tie.Need-add-table
-add-table c = search (needs, operator-fits)
+add-table c = omega (arith, tag-few _ _ _ _ _ _ (c .before .before .before .pre) (c .if1 .left))
 
 cast-table : tie.Need-cast-table
-cast-table c = search (needs, operator-word)
+cast-table c = omega (arith, tag-few _ _ _ _ _ _ (c .before .before .before .pre) (c .if1 .left))
 
 mul-table : tie.Need-mul-table
 mul-table c = search needs
