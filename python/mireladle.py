@@ -72,7 +72,7 @@ from enum import IntEnum
 __all__ = [
     "AVG", "COUNT", "FIRST", "LAST", "MAX", "MIN", "SUM",
     "Answer", "Match", "PAST_LAST_ROW", "Query", "Refused", "Report", "Said", "TO_NEXT_ROW",
-    "Verdict", "col", "desk", "to_first", "to_last",
+    "Tested", "Verdict", "col", "desk", "to_first", "to_last",
 ]
 
 # ---- The C interface: what include/mireladle.h declares. test_mireladle.py compares the two.
@@ -147,12 +147,20 @@ class _Verdict(ctypes.Structure):
     _fields_ = [(name, _U64) for name in ("answer", "verdict", "found", "row")]
 
 
+class _Tested(ctypes.Structure):
+    _fields_ = [(name, _U64) for name in ("answer", "holds", "judged", "offset")]
+
+
 # Each function that is called: the struct that it returns, and its arguments. A pointer stands
 # before the length of what it points to.
 _FUNCTIONS = {
     "mireladle_room": (
         _Room,
         [ctypes.c_char_p, _SIZE, ctypes.POINTER(_I32), _SIZE],
+    ),
+    "mireladle_test": (
+        _Tested,
+        [ctypes.c_char_p, _SIZE, ctypes.POINTER(_I32), _SIZE, _U8, _SIZE],
     ),
     "mireladle_search_within": (
         _Result,
@@ -553,6 +561,26 @@ class Query:
         numbers, labels = lent[2][:result.matches * width], bytes(lent[3][:result.labels]).decode()
         return Report(Answer(result.answer), result.steps, self._matches(numbers, labels, width))
 
+    def test(self, rows, letter, row):
+        """Whether a letter holds at a row, counted from 0, and how many comparisons that took.
+
+        A DEFINE that lists comparisons is judged up to the first that is not met:
+
+        >>> query = Query(["a"], "A", {"A": [col("a") > 0, col("a") > col("a").prev(), col("a") < 9]})
+        >>> query.test([5, 7, 6], "A", 2)
+        Tested(holds=False, judged=2)
+        """
+        entries = _entries(rows, self.columns)
+        row = operator.index(row)
+        if not 0 <= row < 2**64:
+            raise ValueError(f"rows count from 0, and there is none with the number {row}")
+        tested = _library().mireladle_test(self.bytes, len(self.bytes), entries, len(entries),
+                                           _letter(letter), row)
+        if tested.answer:
+            detail = f" ({len(entries)} entries, {len(self.columns)} to a row)"
+            raise _refused(tested, self.bytes, detail)
+        return Tested(bool(tested.holds), tested.judged)
+
     def _matches(self, numbers, labels, width):
         matches, taken = [], 0
         for at in range(0, len(numbers), width):
@@ -563,6 +591,18 @@ class Query:
             matches.append(Match(number, first, labels[taken:taken + rows], measures))
             taken += rows
         return matches
+
+
+@dataclass(frozen=True)
+class Tested:
+    """Whether a letter holds at a row, and how many of its comparisons were judged.
+
+    They are judged up to and with the first that is not met. 0 are where a letter has no DEFINE, or
+    one with OR or NOT.
+    """
+
+    holds: bool
+    judged: int
 
 
 @dataclass(frozen=True)

@@ -30,7 +30,7 @@ sys.path.insert(0, HERE)
 import mireladle  # noqa: E402
 from mireladle import (  # noqa: E402
     AVG, COUNT, FIRST, LAST, MAX, MIN, PAST_LAST_ROW, SUM, TO_NEXT_ROW,
-    Answer, Query, Refused, Said, Verdict, col, desk, to_first, to_last)
+    Answer, Query, Refused, Said, Tested, Verdict, col, desk, to_first, to_last)
 
 A = col("a")
 W1_ROWS = [100, 110, 120, 115, 130]
@@ -60,7 +60,8 @@ class TheHeader(unittest.TestCase):
     header = read("include", "mireladle.h")
 
     def test_structs(self):
-        for struct_type in (mireladle._Result, mireladle._Room, mireladle._Verdict):
+        structs = (mireladle._Result, mireladle._Room, mireladle._Verdict, mireladle._Tested)
+        for struct_type in structs:
             name = "mireladle" + struct_type.__name__.lower()
             body = re.search(rf"struct {name} {{(.*?)\n}};", self.header, re.S).group(1)
             declared = re.findall(r"^ +(\w+) (\w+);", body, re.M)
@@ -90,6 +91,7 @@ class TheHeader(unittest.TestCase):
     def test_functions(self):
         kinds = {"const uint8_t *": ctypes.c_char_p, "size_t ": ctypes.c_size_t,
                  "const int32_t *": ctypes.POINTER(ctypes.c_int32), "uint64_t ": ctypes.c_uint64,
+                 "uint8_t ": ctypes.c_uint8,
                  "uint8_t *": ctypes.POINTER(ctypes.c_uint8),
                  "uint32_t *": ctypes.POINTER(ctypes.c_uint32),
                  "int64_t *": ctypes.POINTER(ctypes.c_int64)}
@@ -265,6 +267,27 @@ class Searches(unittest.TestCase):
         self.assertEqual((report.ending, report.steps, report.whole), (Answer.DONE, 12, True))
         self.assertEqual(report.matches, [
             mireladle.Match(1, 1, "AAB", {"COUNT(A)": 2, "LAST(B.price)": 115})])
+
+    def test_letters(self):
+        rising = [A > 0, A > A.prev(), A < 9]
+        query = Query(["a"], "A", {"A": rising, "B": ~(A > A.prev()), "C": A.prev() == 6})
+        rows = [5, 7, 9, -1, 6]
+        tested = [query.test(rows, "A", row) for row in range(5)]
+        self.assertEqual(tested, [Tested(False, 2), Tested(True, 3), Tested(False, 3),
+                                  Tested(False, 1), Tested(True, 3)])
+        self.assertEqual([query.test(rows, "B", row) for row in range(5)],
+                         [Tested(holds, 0) for holds in (False, False, False, True, False)])
+        # A letter without DEFINE, and rows behind the last.
+        self.assertEqual(query.test(rows, "Z", 0), Tested(True, 0))
+        self.assertEqual(query.test(rows, "C", 5), Tested(True, 1))
+        self.assertEqual(query.test(rows, "A", 2**64 - 1), Tested(False, 1))
+        self.assertEqual(query.test([], "A", 0), Tested(False, 1))
+        for wrong in (-1, 2**64):
+            with self.assertRaises(ValueError):
+                query.test(rows, "A", wrong)
+        with self.assertRaises(Refused) as caught:
+            query.test([0] * 4097, "A", 0)
+        self.assertEqual(caught.exception.answer, 10)
 
     def test_three_truths(self):
         def found(condition):

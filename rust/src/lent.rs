@@ -1,4 +1,4 @@
-//! The library's four functions as they are, on buffers that the caller lends: for callers who
+//! The library's functions as they are, on buffers that the caller lends: for callers who
 //! keep their buffers from one search to the next, or who read the notes. Most callers want
 //! [`Query::search`](crate::Query::search).
 //!
@@ -201,6 +201,39 @@ pub fn desk(
     }
 }
 
+/// What the test of a letter at a row returns. On an answer other than 0 all else but the offset of
+/// 5 and 14 is 0.
+#[repr(C)]
+#[derive(Clone, Copy, Debug, PartialEq, Eq, Hash)]
+pub struct LetterTest {
+    /// 0, or the answer of 1 to 10 or 14 that a search would give.
+    pub answer: u64,
+    /// 1 where the letter holds, else 0.
+    pub holds: u64,
+    /// How many comparisons of the letter's list were judged: up to and with the first that is not
+    /// met; 0 where it has no DEFINE, or one with OR or NOT.
+    pub judged: u64,
+    /// As a search returns it.
+    pub offset: u64,
+}
+
+/// Tests a letter, by its byte, at a row. A byte that is no letter has no DEFINE; a row behind the
+/// last is judged by what the comparisons read.
+pub fn test(query: &[u8], rows: &[i32], letter: u8, row: usize) -> LetterTest {
+    // SAFETY: both pointers come from slices with their lengths and are only read.
+    #[allow(unsafe_code)]
+    unsafe {
+        mireladle_test(
+            query.as_ptr(),
+            query.len(),
+            rows.as_ptr(),
+            rows.len(),
+            letter,
+            row,
+        )
+    }
+}
+
 // As in include/mireladle.h; nothing but the tests compares the two.
 extern "C" {
     fn mireladle_search(
@@ -253,4 +286,13 @@ extern "C" {
         labels: *mut u8,
         labels_len: usize,
     ) -> Judged;
+
+    fn mireladle_test(
+        query: *const u8,
+        query_len: usize,
+        rows: *const i32,
+        rows_len: usize,
+        letter: u8,
+        row: usize,
+    ) -> LetterTest;
 }

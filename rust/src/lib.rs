@@ -96,7 +96,7 @@ pub use desk::{Desk, Verdict, LOG_COLUMNS, LOG_ROWS};
 pub use error::Error;
 pub use expected::Expected;
 pub use measure::{Function, Measure};
-pub use query::{Query, QueryBuilder, Skip};
+pub use query::{Query, QueryBuilder, Skip, Tested};
 pub use report::{Ending, Limits, Match, Matches, Report};
 pub use rows::Rows;
 

@@ -348,12 +348,7 @@ impl Query {
     ///
     /// [`Error::WrongRows`] and [`Error::ColumnCount`], whatever the limits.
     pub fn search_within(&self, rows: Rows<'_>, limits: Limits) -> Result<Report, Error> {
-        if rows.columns() != self.shape.columns {
-            return Err(Error::ColumnCount {
-                query: self.shape.columns,
-                rows: rows.columns(),
-            });
-        }
+        self.check_columns(rows)?;
         let room = lent::room(&self.bytes, rows.entries());
         if room.answer != DONE {
             return Err(Error::from_answer(room.answer, room.offset));
@@ -372,6 +367,63 @@ impl Query {
         };
         Report::new(&outcome, numbers, labels, self.shape.measures)
     }
+}
+
+impl Query {
+    /// Tests a letter at a row, as a search does, and tells how many of its comparisons were judged:
+    /// a DEFINE that lists them stops at the first that is not met.
+    ///
+    /// A letter without DEFINE holds, and so does what is no letter `A` to `Z`. A row behind the last
+    /// is judged by what the comparisons read; a search never asks for one.
+    ///
+    /// ```
+    /// use mireladle::{col, Query, Rows, Tested};
+    ///
+    /// let query = Query::builder(1)
+    ///     .pattern("A")
+    ///     .define('A', [col(0).gt(0), col(0).gt(col(0).prev(1)), col(0).lt(9)])
+    ///     .build()?;
+    /// let rows = Rows::new(&[5, 7, 6], 1);
+    /// assert_eq!(query.test(rows, 'A', 1)?, Tested { holds: true, judged: 3 });
+    /// assert_eq!(query.test(rows, 'A', 2)?, Tested { holds: false, judged: 2 });
+    /// assert_eq!(query.test(rows, 'B', 0)?, Tested { holds: true, judged: 0 });
+    /// # Ok::<(), mireladle::Error>(())
+    /// ```
+    ///
+    /// # Errors
+    ///
+    /// [`Error::WrongRows`] and [`Error::ColumnCount`].
+    pub fn test(&self, rows: Rows<'_>, letter: char, row: usize) -> Result<Tested, Error> {
+        self.check_columns(rows)?;
+        let tested = lent::test(&self.bytes, rows.entries(), letter_byte(letter), row);
+        match tested.answer {
+            DONE => Ok(Tested {
+                holds: tested.holds != 0,
+                judged: length(tested.judged)?,
+            }),
+            answer => Err(Error::from_answer(answer, tested.offset)),
+        }
+    }
+
+    fn check_columns(&self, rows: Rows<'_>) -> Result<(), Error> {
+        match rows.columns() == self.shape.columns {
+            true => Ok(()),
+            false => Err(Error::ColumnCount {
+                query: self.shape.columns,
+                rows: rows.columns(),
+            }),
+        }
+    }
+}
+
+/// What the test of a letter at a row comes to: see [`Query::test`].
+#[derive(Clone, Copy, Debug, PartialEq, Eq, Hash)]
+pub struct Tested {
+    /// Whether the letter holds there.
+    pub holds: bool,
+    /// How many comparisons were judged: up to and with the first that is not met, or all; 0 of a
+    /// letter without DEFINE, and of a DEFINE with OR or NOT.
+    pub judged: usize,
 }
 
 impl AsRef<[u8]> for Query {

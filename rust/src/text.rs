@@ -60,7 +60,7 @@ mod width;
 mod words;
 
 pub use codes::Codes;
-pub use columns::{index_named, index_of, one_of_the_columns, MOST_COLUMNS};
+pub use columns::{as_written, index_named, index_of, one_of_the_columns, MOST_COLUMNS};
 pub use fault::{Fault, Marked};
 pub use lines::lines;
 pub use query::{read, read_with, Part, QueryColumn, QueryText, Warning};

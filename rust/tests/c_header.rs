@@ -76,6 +76,20 @@ int main(void) {
     if (said.verdict != MIRELADLE_HELD || said.found != 1 || said.row != 0) return 17;
     said = mireladle_desk(log + 1, 4, bits, sizeof bits, pairs, 24, numbers, 3, labels, 3);
     if (said.answer != MIRELADLE_DONE || said.verdict != MIRELADLE_UNREADABLE) return 18;
+    /* A above 3, and B not equal to 7: at the row both; A's comparison is counted, B's is not. */
+    const uint8_t tests[] = {2, 0, 1, 0, 1, 0, 1, 0, 2, 0, 'A',
+                             14, 0, 3, 0, 'A', 1, 0, 0, 5, 0, 0, 0, 0, 0, 3, 0, 0, 0,
+                             16, 0, 6, 0, 'B', 2, 0, 0, 0, 1, 0, 0, 0, 0, 0, 7, 0, 0, 0, 3,
+                             2, 0, 4, 0, 0, 0};
+    struct mireladle_tested tested = mireladle_test(tests, sizeof tests, &row, 1, 'A', 0);
+    if (sizeof tested != 32 || offsetof(struct mireladle_tested, offset) != 24) return 19;
+    if (tested.answer != MIRELADLE_DONE || tested.holds != 1 || tested.judged != 1) return 20;
+    tested = mireladle_test(tests, sizeof tests, &row, 1, 'B', 0);
+    if (tested.answer != MIRELADLE_DONE || tested.holds != 0 || tested.judged != 0) return 21;
+    tested = mireladle_test(tests, sizeof tests, NULL, 0, 'A', 0);
+    if (tested.answer != MIRELADLE_DONE || tested.holds != 0 || tested.judged != 1) return 22;
+    tested = mireladle_test(tests, sizeof tests - 1, &row, 1, 'A', 0);
+    if (tested.answer != MIRELADLE_QUERY_CUT || tested.holds + tested.judged + tested.offset != 0) return 23;
     return MIRELADLE_NOTES_LENGTH(30) == 4 && MIRELADLE_MATCH_LENGTH(2) == 7 ? 0 : 4;
 }
 "#;

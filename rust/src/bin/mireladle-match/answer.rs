@@ -11,8 +11,9 @@ use mireladle::text::screen::visible;
 use mireladle::text::QueryText;
 use mireladle::{Ending, Error, Query, Report, Rows};
 
-use crate::arguments::{Answer, Search, Searcher};
+use crate::arguments::{Answer, Place, Search, Searcher};
 use crate::columns::Layout;
+use crate::explain::Explained;
 use crate::failure::{named, refused, Failure, STOPPED, WRONG};
 use crate::input::{fields_of, Record};
 use crate::partitions::{Close, Partition, MOST_ROWS};
@@ -85,6 +86,13 @@ impl<'a> Answering<'a> {
                 Some(query.map_err(|error| Self::refusal(asked, error))?)
             }
         };
+        let parted = !layout.partition.is_empty();
+        if let (Answer::Explain(Place::Row(row)), true) = (search.answer, parted) {
+            return Err(Failure::Option(format!(
+                "--explain {row}: each partition has its own rows; name one by the line where it \
+                 begins, as --explain line=N"
+            )));
+        }
         Ok(Answering {
             search,
             asked,
@@ -103,7 +111,7 @@ impl<'a> Answering<'a> {
     pub fn keeps_records(search: &Search, text: &QueryText) -> bool {
         let rows = search.rows_of_matches || text.all_rows;
         match search.answer {
-            Answer::Table => true,
+            Answer::Table | Answer::Explain(_) => true,
             Answer::Json | Answer::Csv => rows,
             Answer::Count | Answer::Quiet | Answer::Bytes => false,
         }
@@ -244,6 +252,54 @@ impl<'a> Answering<'a> {
         tell(&format!("{name}: {}", why.trim_end_matches(": ")));
     }
 
+    /// What is told of a row, where the partition has it.
+    fn explain(&mut self, partition: &Partition, place: Place) -> Result<Vec<u8>, Failure> {
+        let row = match place {
+            Place::Row(row) => usize::try_from(row).ok(),
+            Place::Line(line) => partition.lines.iter().position(|it| *it == line),
+        };
+        let Some(row) = row.filter(|row| *row < partition.lines.len()) else {
+            return Ok(Vec::new());
+        };
+        let Some(query) = &self.query else {
+            return Ok(Vec::new());
+        };
+        let columns = u8::try_from(self.layout.entries()).unwrap_or(u8::MAX);
+        let explained = Explained {
+            query,
+            layout: self.layout,
+            rows: Rows::new(&partition.entries, columns),
+            row,
+        };
+        let letters = explained.letters();
+        let letters = letters.map_err(|error| Self::refusal(self.asked, error))?;
+        self.tally.matches = 1;
+        let cells = table::row_cells(self, partition, row);
+        let line = partition.lines.get(row).copied().unwrap_or(0);
+        let name = match self.layout.partition.is_empty() {
+            true => String::new(),
+            false => format!("{}: ", self.name(partition)),
+        };
+        Ok(format!("{name}row {row}, line {line}: {cells}\n\n{letters}").into_bytes())
+    }
+
+    /// A row that was asked for and is nowhere is a failure; one that was refused was told.
+    pub fn explained(&self) -> Result<(), Failure> {
+        let Answer::Explain(place) = self.search.answer else {
+            return Ok(());
+        };
+        if self.tally.matches > 0 || self.tally.refused {
+            return Ok(());
+        }
+        let path = named(&self.search.rows);
+        Err(Failure::Option(match place {
+            Place::Row(row) => format!("--explain {row}: {path} has no such row"),
+            Place::Line(line) => {
+                format!("--explain line={line}: no row of {path} begins at that line")
+            }
+        }))
+    }
+
     fn tell(&self, searched: &Searched<'_>) -> Vec<u8> {
         match (self.search.answer, self.tells_rows()) {
             (Answer::Table, false) => table::matches(self, searched),
@@ -252,7 +308,7 @@ impl<'a> Answering<'a> {
             (Answer::Json, true) => json::rows(self, searched),
             (Answer::Csv, false) => csv::matches(self, searched),
             (Answer::Csv, true) => csv::rows(self, searched),
-            (Answer::Count | Answer::Quiet | Answer::Bytes, _) => Vec::new(),
+            (Answer::Count | Answer::Quiet | Answer::Bytes | Answer::Explain(_), _) => Vec::new(),
         }
     }
 }
@@ -272,6 +328,9 @@ impl Close for Answering<'_> {
             self.tally.matches = 1;
             return Ok(self.program_input(&partition));
         }
+        if let Answer::Explain(place) = self.search.answer {
+            return self.explain(&partition, place);
+        }
         let report = self.report(&partition)?;
         let found = u64::try_from(report.len()).unwrap_or(u64::MAX);
         self.tally.matches = self.tally.matches.saturating_add(found);
@@ -290,18 +349,23 @@ impl Close for Answering<'_> {
     }
 }
 
+/// The cells of a row as they stand in the file.
+fn cells_of(partition: &Partition, row: usize, delimiter: u8) -> Vec<Vec<u8>> {
+    let bytes = partition.record(row);
+    let fields = fields_of(bytes, delimiter);
+    let record = Record {
+        line: 0,
+        bytes,
+        fields: &fields,
+    };
+    let cell = |index| record.cell(index).into_owned();
+    (0..fields.len()).map(cell).collect()
+}
+
 impl Searched<'_> {
     /// The cells of a row as they stand in the file.
     fn cells(&self, row: usize, delimiter: u8) -> Vec<Vec<u8>> {
-        let bytes = self.partition.record(row);
-        let fields = fields_of(bytes, delimiter);
-        let record = Record {
-            line: 0,
-            bytes,
-            fields: &fields,
-        };
-        let cell = |index| record.cell(index).into_owned();
-        (0..fields.len()).map(cell).collect()
+        cells_of(self.partition, row, delimiter)
     }
 
     /// The line where a row stands; of one behind the last row the line behind it.

@@ -10,7 +10,7 @@ use mireladle::text::screen::shown;
 use mireladle::Limits;
 
 use crate::failure::Failure;
-use crate::options::{COMMAND, STEPS};
+use crate::options::{COMMAND, EXPLAIN, STEPS};
 use crate::shared::given::{self, wrong, About, Given};
 use crate::terminal::Color;
 
@@ -60,6 +60,15 @@ pub enum Answer {
     Count,
     Quiet,
     Bytes,
+    /// Which letters hold at this row.
+    Explain(Place),
+}
+
+/// A row: by its number in the file's only partition, or by the line where it begins.
+#[derive(Clone, Copy, Debug, PartialEq, Eq)]
+pub enum Place {
+    Row(u64),
+    Line(u64),
 }
 
 /// Reads the command line.
@@ -110,11 +119,17 @@ fn exclusions(given: &Given) -> Result<(), Failure> {
     given.exclude("bytes", "steps", no_steps)?;
     given.exclude("program", "steps", library)?;
     given.exclude("bytes", "partition-by", ": the program reads one partition")?;
-    for one in ["quiet", "count", "bytes"] {
+    for one in ["quiet", "count", "bytes", "explain"] {
         for other in ["rows", "format"] {
             given.exclude(one, other, "")?;
         }
     }
+    for other in ["quiet", "count", "bytes"] {
+        given.exclude("explain", other, "")?;
+    }
+    let letters = ": only the library can be asked for a letter at a row";
+    given.exclude("explain", "program", letters)?;
+    given.exclude("explain", "steps", ": nothing is searched")?;
     given.exclude("quiet", "count", "")?;
     given.exclude("bytes", "quiet", "")?;
     given.exclude("bytes", "count", "")
@@ -130,11 +145,28 @@ fn answer(given: &Given) -> Result<Answer, Failure> {
     if given.has("bytes") {
         return Ok(Answer::Bytes);
     }
+    if let Some(text) = given.text("explain") {
+        return Ok(Answer::Explain(place(&text)?));
+    }
     Ok(match given.choice("format")?.as_deref() {
         Some("json") => Answer::Json,
         Some("csv") => Answer::Csv,
         _ => Answer::Table,
     })
+}
+
+/// The row behind `--explain`.
+fn place(text: &str) -> Result<Place, Failure> {
+    let place = match text.strip_prefix("line=") {
+        Some(line) => line.parse().map(Place::Line),
+        None => text.parse().map(Place::Row),
+    };
+    let digits = text.trim_start_matches("line=");
+    let plain = digits.bytes().all(|byte| byte.is_ascii_digit());
+    place
+        .ok()
+        .filter(|_| plain)
+        .ok_or_else(|| wrong(format!("--explain needs {EXPLAIN}, found {}", shown(text))))
 }
 
 fn searcher(given: &Given) -> Result<Searcher, Failure> {

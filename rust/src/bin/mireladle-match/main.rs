@@ -4,7 +4,7 @@
 //! least one match, 1 none, 2 wrong input, a refusal or an output that cannot be written, 3 stopped
 //! for want of room, of a row to skip to or of steps, 141 where the reader of the output left early,
 //! so that a script cannot take a part of a report for the whole. It never panics. Tested in
-//! tests/command.rs, tests/options.rs, tests/partitions.rs and tests/output.rs.
+//! tests/command.rs, tests/options.rs, tests/partitions.rs, tests/explain.rs and tests/output.rs.
 
 #![deny(unsafe_code)]
 #![cfg_attr(test, allow(clippy::restriction))]
@@ -12,6 +12,7 @@
 mod answer;
 mod arguments;
 mod columns;
+mod explain;
 mod options;
 mod program;
 #[path = "../shared/mod.rs"]
@@ -225,6 +226,7 @@ impl Reading<'_> {
         if read? {
             self.partitions.at_least_one();
             self.close_all()?;
+            self.answering.explained()?;
             let foot = self.answering.foot();
             self.write(&foot)?;
         }

@@ -11,11 +11,18 @@ pub const COMMAND: Command = Command {
     usages: &["[OPTIONS] QUERY ROWS", "[OPTIONS] -e TEXT [ROWS]"],
     groups: GROUPS,
     sections: SECTIONS,
-    needs: &[("steps", STEPS), ("program", "the program's path")],
+    needs: &[
+        ("steps", STEPS),
+        ("explain", EXPLAIN),
+        ("program", "the program's path"),
+    ],
 };
 
 /// What `--steps` needs.
 pub const STEPS: &str = "a whole number from 0 to 18446744073709551615";
+
+/// What `--explain` needs.
+pub const EXPLAIN: &str = "the number of a row from 0 on, or line=N";
 
 const GROUPS: &[Group] = &[
     Group {
@@ -114,6 +121,16 @@ const GROUPS: &[Group] = &[
                 Some('q'),
                 "Tell nothing; end at the first match, with exit status 0.",
             ),
+            valued(
+                "explain",
+                None,
+                "ROW",
+                "Search nothing, and tell which letters hold at a row and where the DEFINEs\n\
+                 of the others stop: each comparison that was judged, with the values that\n\
+                 were compared. ROW is the row's number as the table shows it, from 0, or\n\
+                 line=N for the row that begins at line N of ROWS; where the rows are parted\n\
+                 it is the latter.",
+            ),
             COLOR,
             flag(
                 "no-warnings",
@@ -197,6 +214,7 @@ with `stopped since` and why: there is no row to skip to behind the last match, 
 2    wrong input, a partition that was refused, or an output that cannot be written
 3    a search stopped, so that there may be further matches
 141  the reader of the output left before its end
+With --explain it is 0 where the row is there.
 Of several that apply 2 counts before 3, and 3 before 0 and 1; with --quiet it is 0
 where a match was found.",
     ),
@@ -208,6 +226,7 @@ mireladle-match --partition-by bus --order-by time query.txt log.csv
 mireladle-match -p bus -f json query.txt log.csv | jq .measures
 zcat log.csv.gz | mireladle-match -e 'pattern: A+ B' -e 'A: speed > PREV(speed)' \\
   -e 'B: speed = 0' -f csv -
-mireladle-match -q query.txt log.csv && echo found",
+mireladle-match -q query.txt log.csv && echo found
+mireladle-match -p bus --explain line=812 query.txt log.csv",
     ),
 ];

@@ -7,7 +7,8 @@ use mireladle::text::no_row_behind;
 use mireladle::text::screen::cut;
 use mireladle::{Ending, Match};
 
-use super::{Answering, Searched, Tally};
+use super::{cells_of, Answering, Searched, Tally};
+use crate::partitions::Partition;
 use crate::shared::table::{counted, shown_name, write_table};
 use crate::terminal::Style;
 
@@ -171,6 +172,17 @@ fn names(answering: &Answering<'_>, shown: &[usize]) -> Vec<String> {
     names.map(|name| shown_name(name)).collect()
 }
 
+/// A row's cells with the names of their columns: `time 545, event 2`.
+pub fn row_cells(answering: &Answering<'_>, partition: &Partition, row: usize) -> String {
+    let shown = answering.layout.shown();
+    let cells = cells_of(partition, row, answering.search.delimiter);
+    let cells = names(answering, &shown)
+        .into_iter()
+        .zip(shown_cells(&cells, &shown));
+    let cells: Vec<String> = cells.map(|(name, cell)| format!("{name} {cell}")).collect();
+    cells.join(", ")
+}
+
 fn cells(
     answering: &Answering<'_>,
     searched: &Searched<'_>,
@@ -178,6 +190,10 @@ fn cells(
     shown: &[usize],
 ) -> Vec<String> {
     let cells = searched.cells(row, answering.search.delimiter);
+    shown_cells(&cells, shown)
+}
+
+fn shown_cells(cells: &[Vec<u8>], shown: &[usize]) -> Vec<String> {
     let cell = |at: &usize| {
         let cell = cells.get(*at).map_or(&[][..], |cell| cell);
         // A long text would push the labels off the screen.
