@@ -56,6 +56,7 @@ pub fn searches() -> Vec<Workload> {
         ),
         prepared(),
         all_letters(),
+        first_unmet(),
         conditions(),
     ];
     searches.retain(|workload| !workload.prepared || cfg!(bench_c));
@@ -355,6 +356,24 @@ fn eight_comparisons(index: i32) -> [Comparison; 8] {
     ];
     comparisons[index as usize % 8] = col(0).eq(index);
     comparisons
+}
+
+/// Every letter with eight comparisons again, of which the first is met by the rows of one letter
+/// alone and the others by nearly all: a test that does not stop there costs eight times as much.
+fn first_unmet() -> Workload {
+    let branches: Vec<String> = ('A'..='Z').map(String::from).collect();
+    let mut query = pattern(8, &format!("({})+", branches.join("|")));
+    for (index, letter) in (0..).zip('A'..='Z') {
+        let mut comparisons = eight_comparisons(0);
+        comparisons[0] = col(0).eq(index);
+        query = query.define(letter, comparisons);
+    }
+    Workload::new(
+        "first-unmet",
+        "(A|B|..|Z)+, 26 letters of 8 comparisons, the first unmet at 25 of 26, 4,096 rows",
+        query.measure(Measure::min(1)).measure(Measure::max(1)),
+        vec![lettered_rows(MOST_ROWS)],
+    )
 }
 
 /// Letters whose conditions have 8 comparisons joined by AND, OR and NOT, most of which have to be
