@@ -5,9 +5,9 @@
 //! Every input gets an answer. Slices make sure of what C callers have to see to: valid pointers, and no overlap of
 //! what is written. All `unsafe` code of this crate stands here.
 
-/// Bytes of stack that a call of [`search()`], [`search_within()`], [`room()`] or [`desk()`] needs,
-/// 32 KiB; the C header's `MIRELADLE_STACK`. It is measured and not proved: the worst query that was
-/// found took 22,040, the desk 17,648, and the rest is reserve.
+/// Bytes of stack that a call of [`search()`], [`search_within()`], [`room()`], [`desk()`] or
+/// [`test()`] needs, 32 KiB; the C header's `MIRELADLE_STACK`. It is measured and not proved: the
+/// worst query that was found took 22,040, the desk 17,648, and the rest is reserve.
 ///
 /// Threads of the standard library have 2 MiB. One that is given less by
 /// [`stack_size`](std::thread::Builder::stack_size) needs at least 64 KiB, since the thread and this
