@@ -566,7 +566,8 @@ class Query:
 
         A DEFINE that lists comparisons is judged up to the first that is not met:
 
-        >>> query = Query(["a"], "A", {"A": [col("a") > 0, col("a") > col("a").prev(), col("a") < 9]})
+        >>> a = col("a")
+        >>> query = Query(["a"], "A", {"A": [a > 0, a > a.prev(), a < 9]})
         >>> query.test([5, 7, 6], "A", 2)
         Tested(holds=False, judged=2)
         """

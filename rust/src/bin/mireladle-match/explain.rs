@@ -1,7 +1,7 @@
-//! `--explain`: which letters hold at a row, and where each DEFINE stops. Whether a letter holds, and
-//! how many of its comparisons were judged, is the library's answer; the comparisons are read off the
-//! query's bytes, which are what the library judges, and shown with the values that they compare. A
-//! truth that stands beside a comparison is worked out here. Tested in tests/explain.rs.
+//! `--explain`: which letters hold at a row, and where each DEFINE stops. Whether a letter holds,
+//! and how many of its comparisons were judged, is the library's answer; the comparisons are read
+//! off the query's bytes, which are what the library judges, and shown with the values that they
+//! compare. A truth that stands beside a comparison is worked out here. Tested in tests/explain.rs.
 
 use mireladle::text::as_written;
 use mireladle::text::screen::{visible, width};
@@ -154,7 +154,8 @@ impl Explained<'_> {
         entry.map(|entry| i64::from(*entry)).ok_or(row)
     }
 
-    /// A value as the query writes it: a text that has this code in the column's table, or a number.
+    /// A value as the query writes it: a text that has this code in the column's table, or a
+    /// number.
     fn value(&self, column: u8, value: i64) -> String {
         let codes = self.layout.query.get(usize::from(column));
         let codes = codes.and_then(|(_, codes)| codes.as_ref());
