@@ -72,6 +72,9 @@ pub enum Error {
         /// What could stand behind it, where it is known: see [`Expected::behind`].
         expected: Option<Expected>,
     },
+    /// 20: a partition of the depot-by-month table gets no number, since 65,535 have one. No search gives this; see
+    /// [`Depots::partition`](crate::Depots::partition).
+    NoNumber,
     /// The rows were said to have another number of columns than the query is about.
     ColumnCount {
         /// The columns that the query is about.
@@ -118,11 +121,12 @@ impl Error {
                 offset,
                 expected: None,
             },
+            20 => Error::NoNumber,
             _ => Error::OtherLibrary { answer },
         }
     }
 
-    /// The number of the library's refusal, 1 to 12 or 14; none for the faults that this crate sees itself.
+    /// The number of the library's refusal, 1 to 12, 14 or 20; none for the faults that this crate sees itself.
     pub fn number(self) -> Option<u64> {
         match self {
             Error::QueryCut => Some(1),
@@ -138,6 +142,7 @@ impl Error {
             Error::NotesShort => Some(11),
             Error::TrailShort => Some(12),
             Error::PatternEnds { .. } => Some(14),
+            Error::NoNumber => Some(20),
             Error::ColumnCount { .. } | Error::OtherLibrary { .. } => None,
         }
     }
@@ -170,6 +175,9 @@ impl Error {
             Error::WrongRows => "the entries are not whole rows, or there are more than 4,096 rows",
             Error::NotesShort => "the notes are too short",
             Error::TrailShort => "the trail is too short",
+            Error::NoNumber => {
+                "the table takes no further partition: 65,535 have a number, or the list is full"
+            }
             Error::ColumnCount { .. } => "the rows have another number of columns than the query",
             Error::OtherLibrary { .. } => "the linked library is of another version",
         }
@@ -221,7 +229,7 @@ mod tests {
 
     #[test]
     fn each_refusal_keeps_its_number() {
-        for number in (1..=12).chain([14]) {
+        for number in (1..=12).chain([14, 20]) {
             assert_eq!(Error::from_answer(number, 0).number(), Some(number));
         }
         for other in [DONE, STOPPED, NO_SKIP_ROW, OUT_OF_STEPS, 17, u64::MAX] {

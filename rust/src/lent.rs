@@ -5,9 +5,9 @@
 //! Every input gets an answer. Slices make sure of what C callers have to see to: valid pointers, and no overlap of
 //! what is written. All `unsafe` code of this crate stands here.
 
-/// Bytes of stack that a call of [`search()`], [`search_within()`], [`room()`], [`desk()`] or
-/// [`test()`] needs, 32 KiB; the C header's `MIRELADLE_STACK`. It is measured and not proved: the
-/// worst query that was found took 22,040, the desk 17,648, and the rest is reserve.
+/// Bytes of stack that a call of [`search()`], or of any other function here, needs, 32 KiB; the C
+/// header's `MIRELADLE_STACK`. It is measured and not proved: the worst query that was found took
+/// 22,040, the desk 17,648, and the rest is reserve.
 ///
 /// Threads of the standard library have 2 MiB. One that is given less by
 /// [`stack_size`](std::thread::Builder::stack_size) needs at least 64 KiB, since the thread and this
@@ -234,6 +234,69 @@ pub fn test(query: &[u8], rows: &[i32], letter: u8, row: usize) -> LetterTest {
     }
 }
 
+/// The words of a depot-by-month table's state.
+pub const DEPOTS_LENGTH: usize = 773;
+/// Where in the state the cell for all else stands: behind those of depot 0 to 63 and month 1 to 12,
+/// of which that of a depot and a month is 12 times the depot, plus the month, less 1.
+pub const DEPOTS_OUTSIDE: usize = 768;
+/// Where in the state it stands how many partitions have a number.
+pub const DEPOTS_PARTITIONS: usize = 769;
+/// Where in the state it stands how many numbers of the list are used.
+pub const DEPOTS_LISTED: usize = 770;
+/// As many partitions as get a number.
+pub const MOST_PARTITIONS: usize = 65_535;
+
+/// Begins a depot-by-month table: all counts are 0, and the two columns, from 0, in which a row has
+/// its depot and its month are kept. The answer is 0, or 20 where the state is shorter than
+/// [`DEPOTS_LENGTH`], and then nothing is changed. Most callers want [`Depots`](crate::Depots).
+pub fn depots_begin(state: &mut [u64], depot: u64, month: u64) -> u64 {
+    // SAFETY: the pointer comes from an exclusive slice with its length.
+    #[allow(unsafe_code)]
+    unsafe {
+        mireladle_depots_begin(state.as_mut_ptr(), state.len(), depot, month)
+    }
+}
+
+/// Takes one partition into the table: searches its rows as [`search()`] does, and counts each match
+/// by the depot and the month in its first row. A partition that is refused or stopped adds nothing
+/// and gets two numbers of the list, its number from 1 and its answer. One behind
+/// [`MOST_PARTITIONS`], which is not searched, and one whose entry does not fit the list have answer
+/// 20 and zeros, and change neither state nor list. State and list are as the calls before left
+/// them; any other state gets an answer of which nothing is said.
+pub fn depots_partition(
+    state: &mut [u64],
+    list: &mut [u32],
+    query: &[u8],
+    rows: &[i32],
+    notes: &mut [u8],
+    trail: &mut [u32],
+    numbers: &mut [i64],
+    labels: &mut [u8],
+) -> Outcome {
+    // SAFETY: as for `search`.
+    #[allow(unsafe_code)]
+    unsafe {
+        mireladle_depots_partition(
+            state.as_mut_ptr(),
+            state.len(),
+            list.as_mut_ptr(),
+            list.len(),
+            query.as_ptr(),
+            query.len(),
+            rows.as_ptr(),
+            rows.len(),
+            notes.as_mut_ptr(),
+            notes.len(),
+            trail.as_mut_ptr(),
+            trail.len(),
+            numbers.as_mut_ptr(),
+            numbers.len(),
+            labels.as_mut_ptr(),
+            labels.len(),
+        )
+    }
+}
+
 // As in include/mireladle.h; nothing but the tests compares the two.
 extern "C" {
     fn mireladle_search(
@@ -295,4 +358,25 @@ extern "C" {
         letter: u8,
         row: usize,
     ) -> LetterTest;
+
+    fn mireladle_depots_begin(state: *mut u64, state_len: usize, depot: u64, month: u64) -> u64;
+
+    fn mireladle_depots_partition(
+        state: *mut u64,
+        state_len: usize,
+        list: *mut u32,
+        list_len: usize,
+        query: *const u8,
+        query_len: usize,
+        rows: *const i32,
+        rows_len: usize,
+        notes: *mut u8,
+        notes_len: usize,
+        trail: *mut u32,
+        trail_len: usize,
+        numbers: *mut i64,
+        numbers_len: usize,
+        labels: *mut u8,
+        labels_len: usize,
+    ) -> Outcome;
 }

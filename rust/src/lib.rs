@@ -58,6 +58,10 @@
 //!
 //! [`Desk`] says of a bus's log whether the bus may leave: cleared, held, or unreadable.
 //!
+//! # The depot-by-month table
+//!
+//! [`Depots`] runs a query over many partitions and counts its matches by depot and month.
+//!
 //! # Linking
 //!
 //! The build looks for `libmireladle_c.a` in `../target/staticlib` beside this package, where `rt staticlib mireladle_c`
@@ -80,6 +84,7 @@
 
 mod comparison;
 mod condition;
+mod depots;
 mod desk;
 mod error;
 mod expected;
@@ -92,6 +97,7 @@ pub mod text;
 
 pub use comparison::{col, Column, Comparison, Operand, Operator, Sum};
 pub use condition::Condition;
+pub use depots::{Depots, Listed, Taken, MONTHS, MOST_DEPOTS};
 pub use desk::{Desk, Verdict, LOG_COLUMNS, LOG_ROWS};
 pub use error::Error;
 pub use expected::Expected;

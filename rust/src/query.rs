@@ -433,7 +433,7 @@ impl AsRef<[u8]> for Query {
 }
 
 /// A number of the library as a length in memory.
-fn length(number: u64) -> Result<usize, Error> {
+pub(crate) fn length(number: u64) -> Result<usize, Error> {
     usize::try_from(number).map_err(|_| Error::OtherLibrary { answer: DONE })
 }
 

@@ -63,6 +63,6 @@ pub use codes::Codes;
 pub use columns::{as_written, index_named, index_of, one_of_the_columns, MOST_COLUMNS};
 pub use fault::{Fault, Marked};
 pub use lines::lines;
-pub use query::{read, read_with, Part, QueryColumn, QueryText, Warning};
+pub use query::{read, read_with, read_with_columns, Part, QueryColumn, QueryText, Warning};
 pub use skip::no_row_behind;
 pub use times::{seconds, Seconds};

@@ -55,6 +55,20 @@ impl<'a> Columns<'a> {
         }
     }
 
+    /// One more column, by its place among the names, which the text need not name.
+    pub fn add(&mut self, index: usize) {
+        let known = self.named.iter().any(|named| named.index == Some(index));
+        let name = self.names.and_then(|names| names.get(index));
+        if let Some(name) = name.filter(|_| !known) {
+            self.named.push(NamedColumn {
+                name: name.clone(),
+                index: Some(index),
+                line: 1,
+                column: 1,
+            });
+        }
+    }
+
     /// Passes the name of a column, and gives its place among those named.
     pub fn want(&mut self, words: &mut Words<'_>) -> Result<usize, Fault> {
         let found = self.find(words)?;

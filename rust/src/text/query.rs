@@ -155,7 +155,7 @@ impl QueryText {
 ///
 /// The first fault.
 pub fn read(text: &str) -> Result<QueryText, Fault> {
-    read_for(text, None)
+    read_for(text, Columns::new(None))
 }
 
 /// Reads a query's text over rows whose columns have these names. The columns of the query are
@@ -165,17 +165,45 @@ pub fn read(text: &str) -> Result<QueryText, Fault> {
 ///
 /// The first fault; a column that is not among the names is one.
 pub fn read_with(text: &str, names: &[String]) -> Result<QueryText, Fault> {
-    read_for(text, Some(names))
+    read_with_columns(text, names, &[])
 }
 
-fn read_for(text: &str, names: Option<&[String]>) -> Result<QueryText, Fault> {
+/// As [`read_with`], and the query has these columns too, each by its place among the names, whether
+/// the text names them or not: what its rows are told by, such as their depot. With those that the
+/// text names they are at most 8.
+///
+/// ```
+/// use mireladle::text;
+///
+/// let names = ["depot", "time", "event"].map(String::from);
+/// let text = text::read_with_columns("pattern: A\nA: event = 2\ndepot: North=0", &names, &[0])?;
+/// let names: Vec<&str> = text.columns.iter().map(|column| &*column.name).collect();
+/// assert_eq!(names, ["depot", "event"]);
+/// assert_eq!(text.columns[0].codes.as_ref().and_then(|codes| codes.code(b"North")), Some(0));
+/// # Ok::<(), text::Fault>(())
+/// ```
+///
+/// # Errors
+///
+/// The first fault, as of [`read_with`].
+pub fn read_with_columns(
+    text: &str,
+    names: &[String],
+    columns: &[usize],
+) -> Result<QueryText, Fault> {
+    let mut all = Columns::new(Some(names));
+    columns.iter().for_each(|column| all.add(*column));
+    read_for(text, all)
+}
+
+fn read_for(text: &str, columns: Columns<'_>) -> Result<QueryText, Fault> {
     let tokens = tokens(text);
     let mut reader = Reader {
         text,
         tokens: &tokens,
         at: 0,
         end: end_of(text),
-        columns: Columns::new(names),
+        columns,
         pattern: None,
         defines: Vec::new(),
         codes: Vec::new(),

@@ -1,11 +1,15 @@
-//! Answers: each partition is searched and told as a table, as JSON or as CSV, or only counted. What
+//! Answers: each partition is searched and told as a table, as JSON or as CSV, or only counted, in
+//! all or by depots and months. What
 //! the whole comes to is kept in a [`Tally`], from which the exit status follows.
 
 mod csv;
+mod depots;
 mod json;
 mod table;
 
 use std::path::Path;
+
+pub use depots::Counting;
 
 use mireladle::text::screen::visible;
 use mireladle::text::QueryText;
@@ -60,6 +64,8 @@ pub struct Answering<'a> {
     pub layout: &'a Layout,
     pub style: Style,
     query: Option<Query>,
+    /// The table of depots by months, where that is asked for.
+    counting: Option<Counting>,
     pub tally: Tally,
 }
 
@@ -77,6 +83,7 @@ impl<'a> Answering<'a> {
         asked: &'a Asked,
         layout: &'a Layout,
         style: Style,
+        counting: Option<Counting>,
     ) -> Result<Answering<'a>, Failure> {
         let query = match search.by {
             Searcher::Program(_) => None,
@@ -99,6 +106,7 @@ impl<'a> Answering<'a> {
             layout,
             style,
             query,
+            counting,
             tally: Tally::default(),
         })
     }
@@ -110,6 +118,9 @@ impl<'a> Answering<'a> {
     /// Whether records have to be kept to be told.
     pub fn keeps_records(search: &Search, text: &QueryText) -> bool {
         let rows = search.rows_of_matches || text.all_rows;
+        if search.depots.is_some() {
+            return false;
+        }
         match search.answer {
             Answer::Table | Answer::Explain(_) => true,
             Answer::Json | Answer::Csv => rows,
@@ -137,6 +148,9 @@ impl<'a> Answering<'a> {
 
     /// What stands in front of all partitions.
     pub fn head(&self) -> Vec<u8> {
+        if self.counting.is_some() {
+            return Vec::new();
+        }
         match (self.search.answer, self.tells_rows()) {
             (Answer::Csv, false) => csv::match_head(self),
             (Answer::Csv, true) => csv::row_head(self),
@@ -146,11 +160,38 @@ impl<'a> Answering<'a> {
 
     /// What stands behind all partitions.
     pub fn foot(&self) -> Vec<u8> {
+        if let Some(counting) = &self.counting {
+            return counting.told(self);
+        }
         match self.search.answer {
             Answer::Table if !self.layout.partition.is_empty() => table::foot(&self.tally),
             Answer::Count => format!("{}\n", self.tally.matches).into_bytes(),
             _ => Vec::new(),
         }
+    }
+
+    /// Draws the table of depots by months, where that is asked for.
+    pub fn draw(&self) -> Result<(), Failure> {
+        let (Some(path), Some(counting)) = (&self.search.svg, &self.counting) else {
+            return Ok(());
+        };
+        std::fs::write(path, counting.picture(self)).map_err(|error| Failure::File {
+            path: path.clone(),
+            error,
+        })
+    }
+
+    /// Has a partition counted in the table of depots by months.
+    fn count(&mut self, counting: &mut Counting, partition: &Partition) -> Result<(), Failure> {
+        let columns = u8::try_from(self.layout.entries()).unwrap_or(u8::MAX);
+        let other = Error::OtherLibrary { answer: 0 };
+        let query = self.query.as_ref().ok_or(other);
+        let taken = query.and_then(|query| counting.take(query, partition, columns));
+        let taken = taken.map_err(|error| Self::refusal(self.asked, error))?;
+        self.tally.matches = self.tally.matches.saturating_add(taken.matches);
+        self.tally.refused |= taken.refused;
+        self.tally.stopped |= taken.stopped;
+        Ok(())
     }
 
     /// The report of a partition.
@@ -197,7 +238,12 @@ impl<'a> Answering<'a> {
 
     /// A partition by its name: `bus=17, day=3`.
     fn name(&self, partition: &Partition) -> String {
-        let named = self.layout.partition.iter().zip(&partition.values);
+        self.named_by(&partition.values)
+    }
+
+    /// A partition's name by the values of the columns that part the rows.
+    fn named_by(&self, values: &[Vec<u8>]) -> String {
+        let named = self.layout.partition.iter().zip(values);
         let part = |(column, value): (&usize, &Vec<u8>)| {
             let name = self.layout.names.get(*column).map_or("", String::as_str);
             format!("{name}={}", String::from_utf8_lossy(value))
@@ -321,6 +367,13 @@ impl Close for Answering<'_> {
         if partition.count > MOST_ROWS {
             self.tally.refused = true;
             tell(&self.too_large(&partition, false));
+        }
+        if let Some(mut counting) = self.counting.take() {
+            let counted = self.count(&mut counting, &partition);
+            self.counting = Some(counting);
+            return counted.map(|()| Vec::new());
+        }
+        if partition.count > MOST_ROWS {
             return Ok(Vec::new());
         }
         if self.search.answer == Answer::Bytes {

@@ -10,7 +10,7 @@ use mireladle::text::screen::shown;
 use mireladle::Limits;
 
 use crate::failure::Failure;
-use crate::options::{COMMAND, EXPLAIN, STEPS};
+use crate::options::{COMMAND, DEPOTS, EXPLAIN, STEPS};
 use crate::shared::given::{self, wrong, About, Given};
 use crate::terminal::Color;
 
@@ -33,6 +33,10 @@ pub struct Search {
     pub header: bool,
     pub answer: Answer,
     pub rows_of_matches: bool,
+    /// The names of the columns of depots and months, where the matches are counted by them.
+    pub depots: Option<[String; 2]>,
+    /// Where the picture of that table goes.
+    pub svg: Option<PathBuf>,
     pub color: Color,
     pub warnings: bool,
 }
@@ -92,6 +96,7 @@ fn search(given: Given) -> Result<Search, Failure> {
             .map(|name| String::from(name.trim()))
             .collect(),
     };
+    let depots = depots(&given)?;
     let color = given.color()?;
     let delimiter = given.delimiter()?;
     let (query, rows) = files(&given)?;
@@ -107,6 +112,8 @@ fn search(given: Given) -> Result<Search, Failure> {
         header: !given.has("no-header"),
         answer,
         rows_of_matches: given.has("rows"),
+        depots,
+        svg: given.value("svg").map(PathBuf::from),
         color,
         warnings: !given.has("no-warnings"),
     })
@@ -124,15 +131,43 @@ fn exclusions(given: &Given) -> Result<(), Failure> {
             given.exclude(one, other, "")?;
         }
     }
-    for other in ["quiet", "count", "bytes"] {
+    for other in ["quiet", "count", "bytes", "depots"] {
         given.exclude("explain", other, "")?;
     }
     let letters = ": only the library can be asked for a letter at a row";
     given.exclude("explain", "program", letters)?;
     given.exclude("explain", "steps", ": nothing is searched")?;
+    for other in ["steps", "program"] {
+        given.exclude(
+            "depots",
+            other,
+            ": the library counts, without an allowance of steps",
+        )?;
+    }
+    for other in ["rows", "quiet", "count", "bytes"] {
+        given.exclude("depots", other, "")?;
+    }
     given.exclude("quiet", "count", "")?;
     given.exclude("bytes", "quiet", "")?;
     given.exclude("bytes", "count", "")
+}
+
+/// The two columns behind `--depots`.
+fn depots(given: &Given) -> Result<Option<[String; 2]>, Failure> {
+    let Some(text) = given.text("depots") else {
+        return match given.has("svg") {
+            true => Err(wrong("--svg needs --depots, the table that it draws")),
+            false => Ok(None),
+        };
+    };
+    let names: Vec<&str> = text.split(',').map(str::trim).collect();
+    match names[..] {
+        [depot, month] => Ok(Some([depot, month].map(String::from))),
+        _ => Err(wrong(format!(
+            "--depots needs {DEPOTS}, found {}",
+            shown(&text)
+        ))),
+    }
 }
 
 fn answer(given: &Given) -> Result<Answer, Failure> {

@@ -17,6 +17,15 @@ impl Reads for Option<Codes> {
     }
 }
 
+/// The places of the columns of depots and months in the file, where the matches are counted by them.
+pub fn depots(names: &[String], search: &Search) -> Result<Option<[usize; 2]>, Failure> {
+    let Some([depot, month]) = &search.depots else {
+        return Ok(None);
+    };
+    let [depot, month] = [depot, month].map(|name| find(names, name, "--depots"));
+    Ok(Some([depot?, month?]))
+}
+
 /// The columns that the command line and the query ask for.
 pub fn layout(names: Vec<String>, text: &QueryText, search: &Search) -> Result<Layout, Failure> {
     let parts = match search.partition_by.is_empty() {

@@ -4,7 +4,8 @@
 //! least one match, 1 none, 2 wrong input, a refusal or an output that cannot be written, 3 stopped
 //! for want of room, of a row to skip to or of steps, 141 where the reader of the output left early,
 //! so that a script cannot take a part of a report for the whole. It never panics. Tested in
-//! tests/command.rs, tests/options.rs, tests/partitions.rs, tests/explain.rs and tests/output.rs.
+//! tests/command.rs, tests/options.rs, tests/partitions.rs, tests/explain.rs, tests/depots.rs and
+//! tests/output.rs.
 
 #![deny(unsafe_code)]
 #![cfg_attr(test, allow(clippy::restriction))]
@@ -25,7 +26,7 @@ use std::process::ExitCode;
 use mireladle::text::screen::visible;
 use mireladle::text::{self, lines, Codes, Fault, QueryText};
 
-use answer::{Answering, Asked, MATCH};
+use answer::{Answering, Asked, Counting, MATCH};
 use arguments::{task, QuerySource, Search, Task};
 use columns::Layout;
 use failure::{named, Failure};
@@ -76,7 +77,10 @@ fn answer(search: &Search) -> Result<u8, Failure> {
         search.delimiter,
     )?;
     let mut or_not_text = |failure| not_text.take().unwrap_or(failure);
-    let text = read_query(&path, &source, &names).map_err(&mut or_not_text)?;
+    let counted_by = columns::depots(&names, search).map_err(&mut or_not_text)?;
+    let of_table = counted_by.unwrap_or_default();
+    let of_table = counted_by.map_or(&[][..], |_| &of_table);
+    let text = read_query(&path, &source, &names, of_table).map_err(&mut or_not_text)?;
     let layout = columns::layout(names, &text, search).map_err(or_not_text)?;
     if let Some(record) = first.as_ref().filter(|_| search.header) {
         layout::twice(&layout, &search.rows, record)?;
@@ -85,7 +89,9 @@ fn answer(search: &Search) -> Result<u8, Failure> {
         warn(&path, &text);
     }
     let asked = Asked { path, source, text };
-    let answering = Answering::new(search, &asked, &layout, Style::new(search.color))?;
+    let counting = counted_by.map(|columns| Counting::new(&asked.text, columns));
+    let style = Style::new(search.color);
+    let answering = Answering::new(search, &asked, &layout, style, counting)?;
     if !search.header {
         // The first line is a row.
         records.back();
@@ -192,8 +198,14 @@ fn not_text(bytes: &[u8], valid: usize) -> Fault {
     Fault::new(line, column, "text in UTF-8", found)
 }
 
-fn read_query(path: &str, source: &str, names: &[String]) -> Result<QueryText, Failure> {
-    let read = text::read_with(source, names);
+/// Reads the query, which has these columns of the file too.
+fn read_query(
+    path: &str,
+    source: &str,
+    names: &[String],
+    columns: &[usize],
+) -> Result<QueryText, Failure> {
+    let read = text::read_with_columns(source, names, columns);
     read.map_err(|fault| query_fault(Path::new(path), fault, source))
 }
 
@@ -231,6 +243,7 @@ impl Reading<'_> {
             self.write(&foot)?;
         }
         self.out.flush(self.answering.tally.stopped)?;
+        self.answering.draw()?;
         Ok(self.answering.status())
     }
 

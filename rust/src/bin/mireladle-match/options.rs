@@ -15,6 +15,8 @@ pub const COMMAND: Command = Command {
         ("steps", STEPS),
         ("explain", EXPLAIN),
         ("program", "the program's path"),
+        ("depots", DEPOTS),
+        ("svg", "the path of the file to write"),
     ],
 };
 
@@ -23,6 +25,9 @@ pub const STEPS: &str = "a whole number from 0 to 18446744073709551615";
 
 /// What `--explain` needs.
 pub const EXPLAIN: &str = "the number of a row from 0 on, or line=N";
+
+/// What `--depots` needs.
+pub const DEPOTS: &str = "two columns, DEPOT,MONTH";
 
 const GROUPS: &[Group] = &[
     Group {
@@ -116,6 +121,22 @@ const GROUPS: &[Group] = &[
                 Some('c'),
                 "Tell only how many matches there are in all.",
             ),
+            valued(
+                "depots",
+                None,
+                "DEPOT,MONTH",
+                "Count the matches of all partitions in a table of depots by months, by\n\
+                 these two columns of each match's first row: depot 0 to 63, month 1 to\n\
+                 12, all else in one cell called outside. A line of codes in the query\n\
+                 names the depots: `depot: North=0, South=1`. A partition that is refused\n\
+                 or stopped is not counted but named. --format tells the table, too.",
+            ),
+            valued(
+                "svg",
+                None,
+                "FILE",
+                "Draw the table of --depots into this file as well, as a heat map in SVG.",
+            ),
             flag(
                 "quiet",
                 Some('q'),
@@ -204,7 +225,11 @@ labels it A. Rows count from 0 in their partition, lines from 1 in the file.
 Partitions are told in the order in which they begin. The report of a search that
 stopped begins with `stopped for want of room`, which only the program does, or
 with `stopped since` and why: there is no row to skip to behind the last match, or
---steps allows no more.",
+--steps allows no more.
+With --depots it is the table of depots by months, then the count outside, and
+then the partitions that are not counted, each with its number in the order of
+the searches, from 1, and its answer. At most 65,535 partitions are counted; a
+further one is answer 20.",
     ),
     (
         "Exit status",
@@ -224,6 +249,7 @@ where a match was found.",
 mireladle-match query.txt log.csv
 mireladle-match --partition-by bus --order-by time query.txt log.csv
 mireladle-match -p bus -f json query.txt log.csv | jq .measures
+mireladle-match -p bus --depots depot,month --svg year.svg query.txt log.csv
 zcat log.csv.gz | mireladle-match -e 'pattern: A+ B' -e 'A: speed > PREV(speed)' \\
   -e 'B: speed = 0' -f csv -
 mireladle-match -q query.txt log.csv && echo found
