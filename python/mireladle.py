@@ -51,7 +51,7 @@ Verdict(said=<Said.CLEARED: 1>, last_refusal=None)
 >>> desk(log[:2])
 Verdict(said=<Said.HELD: 2>, last_refusal=1)
 
-The module needs Python 3.9 and the shared library libmireladle.so.0, which is loaded at the first
+The module needs Python 3.9 and the shared library libmireladle.so.1, which is loaded at the first
 query: the file that the environment variable MIRELADLE_LIBRARY names, or else the one in this
 module's folder, or else what the system's loader finds. include/mireladle.h tells the limits and
 the pattern language. Tested, not proved: test_mireladle.py.
@@ -77,7 +77,7 @@ __all__ = [
 
 # ---- The C interface: what include/mireladle.h declares. test_mireladle.py compares the two.
 
-SONAME = "libmireladle.so.0"
+SONAME = "libmireladle.so.1"
 _U8, _U32, _U64, _SIZE = ctypes.c_uint8, ctypes.c_uint32, ctypes.c_uint64, ctypes.c_size_t
 _I32, _I64 = ctypes.c_int32, ctypes.c_int64
 _NO_LIMIT = 2**64 - 1
@@ -124,7 +124,8 @@ _WORDS = {
        "DEFINE, offsets up to 64)",
     4: "more than 8 parentheses are open somewhere in the pattern",
     5: "the pattern text is wrong",
-    6: "a repetition without upper bound stands over something that can match without taking a row",
+    6: "more than 3 repetitions without upper bound, each of something that can match without "
+       "taking a row, are nested in one another",
     7: "the pattern, with its repetitions written out, has more than 256 places",
     8: "a letter has two DEFINEs",
     9: "a measure or the skip names a letter that is not in the pattern",
@@ -140,7 +141,7 @@ class _Result(ctypes.Structure):
 
 
 class _Room(ctypes.Structure):
-    _fields_ = [(name, _U64) for name in ("answer", "places", "rows", "pairs", "offset")]
+    _fields_ = [(name, _U64) for name in ("answer", "places", "rows", "pairs", "offset", "factor")]
 
 
 class _Verdict(ctypes.Structure):

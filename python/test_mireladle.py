@@ -24,7 +24,7 @@ HERE = os.path.dirname(os.path.abspath(__file__))
 ROOT = os.path.dirname(HERE)
 PROGRAM = os.path.join(ROOT, "target", "bin", "mireladle")
 os.environ.setdefault("MIRELADLE_LIBRARY",
-                      os.path.join(ROOT, "target", "shared", "libmireladle.so.0"))
+                      os.path.join(ROOT, "target", "shared", "libmireladle.so.1"))
 sys.path.insert(0, HERE)
 
 import mireladle  # noqa: E402
@@ -228,13 +228,22 @@ class Refusals(unittest.TestCase):
         said = self.refused(3, None, Query, 1, "A", {"A": ~~any_of_8})
         self.assertIn("DEFINE of A has 8 comparisons, and 17 entries", said)
         self.refused(4, None, Query, 1, "(" * 9 + "A" + ")" * 9)
-        self.refused(6, None, Query, 1, "(A*)*")
+        self.refused(6, None, Query, 1, "((((A*)*)*)*)*")
         self.refused(7, None, Query, 1, "(A{99}){3}")
         self.refused(9, None, Query, 1, "A", measures=[COUNT("B")])
         self.refused(9, None, Query, 1, "A", skip=to_first("B"))
         twice = bytearray(w1().bytes)
         twice[twice.index(b"B\x01")] = ord("A")
         self.refused(8, None, Query.from_bytes, twice)
+
+    def test_rounds_without_a_row(self):
+        above = {"A": col(0) > 0}
+        found = Query(1, "(A*)*", above).search([1, 1, 0])
+        self.assertEqual([(m.first_row, m.labels) for m in found], [(0, "AA"), (2, "")])
+        self.assertEqual(found.steps, 14)
+        found = Query(1, "(A??)*", above).search([1])
+        self.assertEqual([(m.first_row, m.labels) for m in found], [(0, "")])
+        self.assertEqual(len(Query(1, "(((A*)*)*)*").search([1])), 1)
 
     def test_patterns(self):
         said = self.refused(5, 5, Query, 1, "A{30,2}")
@@ -454,7 +463,7 @@ class Loading(unittest.TestCase):
 
     def test_a_library_that_is_not_there(self):
         ran = self.run_with(MIRELADLE_LIBRARY=os.path.join(HERE, "nothing.so"))
-        self.assertRegex(ran.stderr, r"OSError: libmireladle\.so\.0 cannot be loaded \(.*nothing")
+        self.assertRegex(ran.stderr, r"OSError: libmireladle\.so\.1 cannot be loaded \(.*nothing")
         self.assertEqual(ran.returncode, 1)
 
     def test_another_library(self):

@@ -51,7 +51,8 @@ pub enum Error {
         /// What could stand there, where it is known: see [`Expected::behind`].
         expected: Option<Expected>,
     },
-    /// 6: a repetition without upper bound of something that can match without taking a row.
+    /// 6: more than three repetitions without upper bound, each of something that can match without
+    /// taking a row, are nested in one another, as in `((((A*)*)*)*)*`.
     EmptyRepetition,
     /// 7: the unrolled pattern has more than 256 places.
     TooManyPlaces,
@@ -165,7 +166,8 @@ impl Error {
             Error::NotAPattern { .. } => "the pattern text is wrong",
             Error::PatternEnds { .. } => "the pattern text ends where it could go on to a pattern",
             Error::EmptyRepetition => {
-                "a repetition without upper bound stands over something that can match without taking a row"
+                "more than 3 repetitions without upper bound, each of something that can match without \
+                 taking a row, are nested in one another"
             }
             Error::TooManyPlaces => "the pattern, with its repetitions written out, has more than 256 places",
             Error::DefinedTwice => "a letter has two DEFINEs",

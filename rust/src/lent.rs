@@ -5,15 +5,15 @@
 //! Every input gets an answer. Slices make sure of what C callers have to see to: valid pointers, and no overlap of
 //! what is written. All `unsafe` code of this crate stands here.
 
-/// Bytes of stack that a call of [`search()`], or of any other function here, needs, 32 KiB; the C
+/// Bytes of stack that a call of [`search()`], or of any other function here, needs, 64 KiB; the C
 /// header's `MIRELADLE_STACK`. It is measured and not proved: the worst query that was found took
 /// 22,040, the desk 17,648, and the rest is reserve.
 ///
 /// Threads of the standard library have 2 MiB. One that is given less by
-/// [`stack_size`](std::thread::Builder::stack_size) needs at least 64 KiB, since the thread and this
+/// [`stack_size`](std::thread::Builder::stack_size) needs at least 96 KiB, since the thread and this
 /// crate take some as well. With too little a long pattern overflows the stack, which ends the
 /// process.
-pub const STACK: usize = 32_768;
+pub const STACK: usize = 65_536;
 
 /// What a search returns. On the answers 1 to 12 and 14 all but the answer, and the offset of 5 and 14, are 0.
 #[repr(C)]
@@ -26,7 +26,7 @@ pub struct Outcome {
     pub matches: u64,
     /// Label bytes in the report.
     pub labels: u64,
-    /// Steps: how many pairs of a place and a position were entered.
+    /// Steps: how many pairs of a place, a position and flags were entered.
     pub steps: u64,
     /// On 5 the byte of the pattern text, from 0, at which it is wrong; on 14 its length; else 0.
     pub offset: u64,
@@ -43,10 +43,13 @@ pub struct Room {
     pub places: u64,
     /// n, the rows.
     pub rows: u64,
-    /// P(n+1): the numbers of the trail, and the bits of the notes.
+    /// PF(n+1): the numbers of the trail, and the bits of the notes.
     pub pairs: u64,
     /// As a search returns it.
     pub offset: u64,
+    /// F, 2 to the power of how deep repetitions without upper bound, of something that can match
+    /// without taking a row, are nested: 1, 2, 4 or 8.
+    pub factor: u64,
 }
 
 impl Room {
@@ -72,9 +75,9 @@ pub fn room(query: &[u8], rows: &[i32]) -> Room {
 /// measure 1 and the result or 0 and 0 for null; and the labels of its rows, as bytes `A` to `Z`.
 ///
 /// On the answers 1 to 12 and 14 no buffer is changed. On 0, 13, 15 and 16 bit (position times P
-/// plus place) of the notes, the lowest bit of a byte first, is 1 exactly if that pair has failed;
-/// the spare bits of the last byte and the first [`Room::pairs`] numbers of the trail are 0; what
-/// lies behind that, and behind the report, is unchanged.
+/// plus place) times F plus flags of the notes, the lowest bit of a byte first, is 1 exactly if that
+/// pair has failed; the spare bits of the last byte and the first [`Room::pairs`] numbers of the
+/// trail are 0; what lies behind that, and behind the report, is unchanged.
 pub fn search(
     query: &[u8],
     rows: &[i32],

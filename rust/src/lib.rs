@@ -75,7 +75,7 @@
 //!
 //! # Stack
 //!
-//! A thread with a small stack needs at least 64 KiB to search, or to build a query; see
+//! A thread with a small stack needs at least 96 KiB to search, or to build a query; see
 //! [`lent::STACK`].
 
 #![deny(missing_docs)]

@@ -264,6 +264,7 @@ pub struct Query {
     bytes: Vec<u8>,
     shape: Shape,
     places: u64,
+    factor: u64,
 }
 
 impl Query {
@@ -298,6 +299,7 @@ impl Query {
             bytes,
             shape,
             places: room.places,
+            factor: room.factor,
         })
     }
 
@@ -321,12 +323,31 @@ impl Query {
         self.shape.measures
     }
 
-    /// P: the places of the unrolled pattern, at most 256. A search of n rows takes at most 2P(n+1)
-    /// steps where it skips past the last row, and at most Pn(n+3)/2 where it skips to the next
-    /// row, or to the first or last row with a letter: that can be seconds, see the README and
-    /// [`Limits::steps`].
+    /// P: the places of the unrolled pattern, at most 256. With F, the
+    /// [factor](Query::factor), a search of n rows takes at most 2PF(n+1) steps where it skips past
+    /// the last row, and at most PFn(n+3)/2 where it skips to the next row, or to the first or last
+    /// row with a letter: that can be seconds, see the README and [`Limits::steps`].
     pub fn places(&self) -> u64 {
         self.places
+    }
+
+    /// F: 2 to the power of how deep repetitions without upper bound, of something that can match
+    /// without taking a row, are nested in the pattern. It is 1 for most patterns, 2 for `(A*)*`,
+    /// at most 8.
+    ///
+    /// ```
+    /// use mireladle::{Error, Query};
+    /// let factor = |pattern: &str| {
+    ///     let query = Query::builder(1).pattern(pattern).build();
+    ///     query.map(|query| query.factor())
+    /// };
+    /// assert_eq!(factor("(A+ B)*"), Ok(1));
+    /// assert_eq!(factor("(A* B?)*"), Ok(2));
+    /// assert_eq!(factor("(((A*)*)*)*"), Ok(8));
+    /// assert_eq!(factor("((((A*)*)*)*)*"), Err(Error::EmptyRepetition));
+    /// ```
+    pub fn factor(&self) -> u64 {
+        self.factor
     }
 
     /// Searches rows for all matches, without limits. A match is looked for at one row after the

@@ -67,8 +67,8 @@ impl Limits {
 
     /// So many steps at most, so that a search ends after a time in proportion to them, with
     /// [`Ending::OutOfSteps`] where it is not done by then. A query of P
-    /// [places](crate::Query::places) that skips past the last row takes at most 2P(n+1) steps for
-    /// n rows, so that more than that is no limit.
+    /// [places](crate::Query::places) and the [factor](crate::Query::factor) F that skips past the
+    /// last row takes at most 2PF(n+1) steps for n rows, so that more than that is no limit.
     pub const fn steps(mut self, most: u64) -> Self {
         self.steps = Some(most);
         self
@@ -203,8 +203,8 @@ impl Report {
         self.ending
     }
 
-    /// The steps of the search: how many pairs of a place in the pattern and a position in the rows it entered. Of a
-    /// stopped search the steps for the match that did not fit are counted too. Of one that ran out
+    /// The steps of the search: how many pairs of a place in the pattern and a position in the rows it entered (with
+    /// flags where its [factor](crate::Query::factor) is above 1). Of a stopped search the steps for the match that did not fit are counted too. Of one that ran out
     /// of steps they are those that it was allowed.
     pub fn steps(&self) -> u64 {
         self.steps

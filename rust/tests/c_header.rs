@@ -37,8 +37,8 @@ const BOTH: &str = r#"
 int main(void) {
     struct mireladle_room room = mireladle_room(NULL, 0, NULL, 0);
     struct mireladle_result result = mireladle_search(NULL, 0, NULL, 0, NULL, 0, NULL, 0, NULL, 0, NULL, 0);
-    if (sizeof room != 40 || sizeof result != 40 || offsetof(struct mireladle_result, offset) != 32) return 1;
-    if (room.answer != MIRELADLE_WRONG_RECORDS || room.places + room.rows + room.pairs + room.offset != 0) return 2;
+    if (sizeof room != 48 || sizeof result != 40 || offsetof(struct mireladle_result, offset) != 32) return 1;
+    if (room.answer != MIRELADLE_WRONG_RECORDS || room.places + room.rows + room.pairs + room.offset + room.factor != 0) return 2;
     if (result.answer != MIRELADLE_WRONG_RECORDS || result.matches + result.labels + result.steps != 0) return 3;
     /* The names of one word; in C++ the struct's own name alone is the function. */
     const mireladle_room_t again = mireladle_room(NULL, 0, NULL, 0);

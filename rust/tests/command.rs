@@ -260,7 +260,7 @@ fn a_search_that_needs_no_further_step_says_why_it_stopped() {
     assert_eq!(first_line("9"), (3, String::from(no_row)));
     assert_eq!(first_line("10"), (3, String::from(no_row)));
     // A refusal does not depend on the steps.
-    let query = file("steps-refused.txt", "pattern: (A*)*\nA: true");
+    let query = file("steps-refused.txt", "pattern: ((((A*)*)*)*)*\nA: true");
     let output = run(&["--steps", "0", &query, &rows]);
     assert_eq!((status(&output), text(&output.stdout)), (2, ""));
     assert!(text(&output.stderr).starts_with("refused 6: "));

@@ -25,6 +25,11 @@ fn free(pattern: &str) -> QueryBuilder {
     Query::builder(1).pattern(pattern)
 }
 
+/// The same, but `A` holds above 0 alone.
+fn above_0(pattern: &str) -> QueryBuilder {
+    free(pattern).define('A', [col(0).gt(0)])
+}
+
 fn search(query: &QueryBuilder, entries: &[i32]) -> Report {
     query
         .build()
@@ -77,7 +82,6 @@ fn w2_without_rows() {
 
 #[test]
 fn w3_and_w4_empty_matches() {
-    let above_0 = |pattern| free(pattern).define('A', [col(0).gt(0)]);
     assert_eq!(
         found(&above_0("A*"), &[1, 1, 0]),
         (matches(&[(0, "AA"), (2, "")]), 9)
@@ -101,11 +105,60 @@ fn w5_to_w7_branches_skips_and_anchors() {
 fn w8_to_w12_places_and_refused_patterns() {
     assert_eq!(places("(A{51}){5}"), Ok(256));
     assert_eq!(places("(A{16}){16}"), Err(Error::TooManyPlaces));
-    assert_eq!(places("(A*)*"), Err(Error::EmptyRepetition));
     assert_eq!(places("(A?){3}"), Ok(7));
     assert_eq!(places("(A+)+"), Ok(8));
     assert!(places("((((((((A))))))))").is_ok());
     assert_eq!(places("(((((((((A)))))))))"), Err(Error::TooDeep));
+}
+
+/// Places, factor, matches and steps where the rounds of a repetition may take no row.
+#[test]
+fn a_round_without_a_row_ends_its_repetition() {
+    let of = |pattern: &str| {
+        let query = free(pattern).build().unwrap();
+        (query.places(), query.factor())
+    };
+    assert_eq!(of("(A*)*"), (4, 2));
+    assert_eq!(of("((A*)*)*"), (5, 4));
+    assert_eq!(of("(((A*)*)*)*"), (6, 8));
+    assert_eq!(places("((((A*)*)*)*)*"), Err(Error::EmptyRepetition));
+    assert_eq!(of("(A+)+"), (8, 1));
+    assert_eq!(
+        found(&above_0("(A*)*"), &[1, 1, 0]),
+        (matches(&[(0, "AA"), (2, "")]), 14)
+    );
+    let each = above_0("(A*)*").skip(Skip::ToNextRow);
+    let overlapping = matches(&[(0, "A"), (1, ""), (2, "A")]);
+    assert_eq!(found(&each, &[1, 0, 1]), (overlapping, 21));
+    assert_eq!(found(&free("(A??)*"), &[0]), (matches(&[(0, "")]), 3));
+    assert_eq!(
+        found(&above_0("((A*)*)*"), &[1, 0]),
+        (matches(&[(0, "A"), (1, "")]), 18)
+    );
+    assert_eq!(
+        found(&above_0("(((A*)*)*)*"), &[1]),
+        (matches(&[(0, "A")]), 20)
+    );
+}
+
+/// The room that the library asks for, and which bit of the notes a failed pair has.
+#[test]
+fn flags_take_room_in_notes_and_trail() {
+    let query = above_0("(A*)*").build().unwrap();
+    let rows = [1, 1, 0];
+    let room = lent::room(query.as_bytes(), &rows);
+    assert_eq!((room.answer, room.places, room.rows), (0, 4, 3));
+    assert_eq!((room.factor, room.pairs, room.notes()), (2, 32, 4));
+    let run = |notes: &mut [u8], trail: &mut [u32]| {
+        let (query, numbers) = (query.as_bytes(), &mut [0; 9]);
+        lent::search(query, &rows, notes, trail, numbers, &mut [0; 3]).answer
+    };
+    let (mut notes, mut trail) = ([255; 5], [9; 33]);
+    assert_eq!(run(&mut notes, &mut trail), 0);
+    assert_eq!(notes, [0, 0, 48, 0, 255]);
+    assert_eq!((&trail[..32], trail[32]), (&[0; 32][..], 9));
+    assert_eq!(run(&mut notes[..3], &mut trail), 11);
+    assert_eq!(run(&mut notes, &mut trail[..31]), 12);
 }
 
 #[test]

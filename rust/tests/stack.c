@@ -552,7 +552,7 @@ static void random_quantifier(struct text *to)
         put(to, "?");
 }
 
-/* One that is no answer 6 behind something that can take no row, and seldom many places. */
+/* One without flags behind something that can take no row, and seldom many places. */
 static void random_bound(struct text *to)
 {
     static const char *const BOUND[] = {"?", "??", "{1}", "{,1}", "{2}"};
@@ -702,6 +702,56 @@ static void named_queries(void)
     finish_accepted();
 }
 
+/* Three repetitions in one another, each of something that can take no row, with 256 places: the
+ * largest table that there is. */
+static const char *const LARGEST = "(((A{,99}B{,27})*)*)*";
+
+static void check_the_largest(void)
+{
+    static struct bytes query;
+    make_query(&query, LARGEST, strlen(LARGEST), BARE);
+    const struct mireladle_room room = mireladle_room(query.at, query.length, NULL, 0);
+    if (room.answer != MIRELADLE_DONE || room.places != MIRELADLE_MAX_PLACES || room.factor != MIRELADLE_MAX_FACTOR)
+        fail("the largest table is not that of 256 places with three flags");
+}
+
+/* Repetitions whose rounds may take no row, from none to four in one another, around many shapes. */
+static void rounds_without_rows(void)
+{
+    static const char *const INNER[] = {
+        "A*", "^", "()", "A??", "A?B*", "A|()", "A{,99}B{,27}", "A{,99}B{,26}|C", "(A?){9}", "A* B* C* D* E*",
+        "^(A?|B?(C?|D?(E?|F?(G?|H?))))",
+    };
+    static const char *const LOOP[] = {")*", ")*?", ")+", "){2,}"};
+    struct text text;
+    check_the_largest();
+    begin("256 places with three flags");
+    try_text(LARGEST, strlen(LARGEST));
+    finish_accepted();
+    begin("the same, 26 DEFINEs, 8 measures");
+    struct parts joined = FULL;
+    joined.joined = true;
+    try_parts(LARGEST, strlen(LARGEST), FULL, FEW_ROWS);
+    try_parts(LARGEST, strlen(LARGEST), joined, FEW_ROWS);
+    try_parts(LARGEST, strlen(LARGEST), joined, MIRELADLE_MAX_ROWS);
+    finish_accepted();
+    begin("rounds that may take no row");
+    for (size_t i = 0; i < COUNT(INNER); i++)
+        for (size_t l = 0; l < COUNT(LOOP); l++)
+            for (size_t around = 0; around <= 4; around++)
+                for (size_t loops = 0; loops <= 4; loops++) {
+                    text.length = 0;
+                    put_times(&text, "(", around);
+                    put_times(&text, "(", loops);
+                    put(&text, INNER[i]);
+                    put_times(&text, LOOP[l], loops);
+                    put_times(&text, ")?", around);
+                    try_text(text.at, text.length);
+                    try_parts(text.at, text.length, FULL, FEW_ROWS);
+                }
+    finish_accepted();
+}
+
 /* ---- the desk */
 
 static int32_t log_rows[(MIRELADLE_MAX_ROWS + 1) * LOG_COLUMNS];
@@ -755,6 +805,7 @@ static void *all_shapes(void *nothing)
     beyond_the_limits();
     random_texts();
     full_queries();
+    rounds_without_rows();
     logs();
     return nothing;
 }

@@ -11,7 +11,7 @@ use std::process::Command;
 
 const ROOT: &str = concat!(env!("CARGO_MANIFEST_DIR"), "/..");
 /// What the documents tell a caller to give a thread.
-const THREAD: usize = 64 << 10;
+const THREAD: usize = 96 << 10;
 
 /// The compiler `cc`, or the one that CC names, makes the program; it prints its table either way.
 #[test]
@@ -57,7 +57,8 @@ fn the_crate_names_the_number_of_the_header() {
 #[test]
 fn a_thread_with_the_stack_that_the_documents_name() {
     let branches = format!("{}^{}{}", "(".repeat(8), "|^".repeat(119), ")".repeat(8));
-    let accepted = ["^".repeat(255), branches];
+    let flags = String::from("(((A{,99}B{,27})*)*)*");
+    let accepted = ["^".repeat(255), branches, flags];
     let refused = format!("{}{}", "(".repeat(8), "^".repeat(248));
     let search = move || {
         let found = accepted.map(|text| {
@@ -70,5 +71,5 @@ fn a_thread_with_the_stack_that_the_documents_name() {
         .stack_size(THREAD)
         .spawn(search)
         .unwrap();
-    assert_eq!(thread.join().unwrap(), ([1, 1], true));
+    assert_eq!(thread.join().unwrap(), ([1, 1, 1], true));
 }
