@@ -1,7 +1,8 @@
 //! An engine for the rules of document 01 and of R-2, not verified, in safe Rust and as
 //! fast as we could make it: the yardstick for the product's speed. It has the
 //! product's face and effects: the same answer, counts and steps, and the same
-//! content of all four lent buffers. A query is prepared, which makes the tables
+//! content of all four lent buffers. Repetitions whose rounds may take no row, as in
+//! `(A*)*`, which R-3 allows, it still refuses with 6, so its pairs have no flags. A query is prepared, which makes the tables
 //! of `engine/tables.rs`, and run over rows; `search` does both. The walk is that
 //! of document 01, with notes and a trail in the lent buffers; see
 //! `engine/walk.rs`.
@@ -149,6 +150,7 @@ pub fn room(query: &[u8], rows: &[i32]) -> Room {
         rows: n,
         pairs: places * (n + 1),
         offset: 0,
+        factor: u64::from(answer == 0),
     }
 }
 
