@@ -17,6 +17,7 @@ pub mod mix;
 pub mod random;
 pub mod scramble;
 pub mod stdin;
+pub mod tested;
 pub mod texts;
 
 pub use draft::{Draft, Input, Room, Size};

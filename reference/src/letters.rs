@@ -1,6 +1,6 @@
 //! The letters at the rows: comparisons with exact sums, rows that are not there, and
 //! conditions of three truths. From document 01, "Rows and query records", below the
-//! table, and document 02, R-7.
+//! table, and document 02, R-7; the test of one letter from R-6.
 //! Sums are taken in 64 bits, where two 32-bit numbers cannot wrap.
 
 use crate::query::{Comparison, Condition, Define, Meaning, Query, Reference};
@@ -15,7 +15,7 @@ impl Held {
     /// The rows are whole: their number divides by the columns.
     pub fn new(query: &Query, rows: &[i32]) -> Held {
         let n = rows.len() / query.columns;
-        Held::by(n, |letter, row| holds(query, rows, letter, row))
+        Held::by(n, |letter, row| holds(query, rows, letter, row as u64))
     }
 
     /// So many rows, at which the letters hold as is told.
@@ -44,7 +44,7 @@ pub enum Truth {
 }
 
 /// True alone lets a letter hold; one without DEFINE always does.
-pub fn holds(query: &Query, rows: &[i32], letter: u8, row: usize) -> bool {
+pub fn holds(query: &Query, rows: &[i32], letter: u8, row: u64) -> bool {
     query
         .defines
         .iter()
@@ -52,7 +52,7 @@ pub fn holds(query: &Query, rows: &[i32], letter: u8, row: usize) -> bool {
         .all(|define| is_met(define, rows, query.columns, row))
 }
 
-fn is_met(define: &Define, rows: &[i32], columns: usize, row: usize) -> bool {
+fn is_met(define: &Define, rows: &[i32], columns: usize, row: u64) -> bool {
     let compared = |comparison: &Comparison| compare(comparison, rows, columns, row);
     match &define.meaning {
         Meaning::All(comparisons) => comparisons.iter().all(|it| compared(it) == Truth::True),
@@ -96,7 +96,7 @@ pub fn not(one: Truth) -> Truth {
 
 /// A comparison that reads a row outside the partition is unknown, also if its
 /// operator is "unequal".
-pub fn compare(comparison: &Comparison, rows: &[i32], columns: usize, row: usize) -> Truth {
+pub fn compare(comparison: &Comparison, rows: &[i32], columns: usize, row: u64) -> Truth {
     let left = entry(comparison.left, rows, columns, row);
     let added = match comparison.right {
         None => Some(0),
@@ -120,9 +120,40 @@ pub fn compare(comparison: &Comparison, rows: &[i32], columns: usize, row: usize
     }
 }
 
-/// A column's entry, some rows off the given one; None where no row is.
-fn entry(reference: Reference, rows: &[i32], columns: usize, row: usize) -> Option<i64> {
+/// A column's entry, some rows off the given one; None where no row is. The given one
+/// may be any number, a row or not, and the sum never wraps.
+fn entry(reference: Reference, rows: &[i32], columns: usize, row: u64) -> Option<i64> {
     let n = rows.len() / columns;
-    let read = usize::try_from(row as i64 + reference.offset).ok()?;
+    let read = usize::try_from(i128::from(row) + i128::from(reference.offset)).ok()?;
     (read < n).then(|| i64::from(rows[read * columns + reference.column]))
+}
+
+/// What a test of a letter tells.
+#[derive(Clone, Copy, Debug, PartialEq, Eq)]
+pub struct Tested {
+    pub holds: bool,
+    /// Comparisons of its kind 3 record up to and with the first that is not met, or all;
+    /// 0 without such a record.
+    pub judged: usize,
+}
+
+/// Tests a letter, in the pattern or not, at a row, there or not: behind the rows its
+/// comparisons come to what they read. A byte that is no letter has no record.
+pub fn test(query: &Query, rows: &[i32], letter: u8, row: u64) -> Tested {
+    let mut own = query.defines.iter().filter(|it| it.letter == letter);
+    let comparisons = match own.next().map(|define| &define.meaning) {
+        Some(Meaning::All(comparisons)) => comparisons.as_slice(),
+        Some(Meaning::One(_)) | None => &[],
+    };
+    let mut judged = 0;
+    for comparison in comparisons {
+        judged += 1;
+        if compare(comparison, rows, query.columns, row) != Truth::True {
+            break;
+        }
+    }
+    Tested {
+        holds: holds(query, rows, letter, row),
+        judged,
+    }
 }

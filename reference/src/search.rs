@@ -5,7 +5,7 @@
 //! document 02, R-2 (starts at a labelled row, answer 15, the bound of steps), R-5
 //! (the average) and R-13 (an allowance of steps, answer 16).
 
-use crate::letters::Held;
+use crate::letters::{self, Held};
 use crate::pattern::{self, Pattern};
 use crate::places::{self, Place};
 use crate::query::{self, Function, Measure, Query, Skip};
@@ -124,6 +124,19 @@ pub fn room(query: &[u8], rows: &[i32]) -> (u8, usize, usize) {
     match accept(query, rows) {
         Ok(accepted) => (DONE, accepted.places.len(), accepted.n()),
         Err(answer) => (answer, 0, 0),
+    }
+}
+
+/// The test of a letter at a row (document 02, R-6): answer, 1 if the letter holds,
+/// comparisons judged and offset; of a query or rows that are refused the answer with its
+/// offset.
+pub fn test(query: &[u8], rows: &[i32], letter: u8, row: u64) -> [u64; 4] {
+    match accept(query, rows) {
+        Ok(accepted) => {
+            let tested = letters::test(&accepted.query, rows, letter, row);
+            [DONE.into(), tested.holds.into(), tested.judged as u64, 0]
+        }
+        Err(answer) => [answer.into(), 0, 0, offset(query, answer)],
     }
 }
 

@@ -24,7 +24,7 @@ fn held(draft: &Draft) -> Vec<usize> {
     let read = query::read(&draft.query()).expect("a query that is right");
     let n = draft.rows.len() / read.columns;
     (0..n)
-        .filter(|&row| letters::holds(&read, &draft.rows, b'A', row))
+        .filter(|&row| letters::holds(&read, &draft.rows, b'A', row as u64))
         .collect()
 }
 
@@ -343,7 +343,7 @@ fn random_conditions() {
                 bytes[2] = operator;
                 let draft = Draft::new(columns, b"A", rows.clone()).define(b'A', &[bytes]);
                 let read = query::read(&draft.query()).expect("right fields");
-                letters::holds(&read, &rows, b'A', row)
+                letters::holds(&read, &rows, b'A', row as u64)
             };
             let opposite = [0, 2, 1, 6, 5, 4, 3][usize::from(entry[3])];
             match (is_met(entry[3]), is_met(opposite)) {
@@ -358,7 +358,10 @@ fn random_conditions() {
         for row in 0..n {
             let expected = judged_again(&entries, &|entry| alone(entry, row));
             let expected = expected.expect("well formed");
-            assert_eq!(letters::holds(&read, &rows, b'A', row), expected == 2);
+            assert_eq!(
+                letters::holds(&read, &rows, b'A', row as u64),
+                expected == 2
+            );
             held[usize::from(expected)] += 1;
         }
     }

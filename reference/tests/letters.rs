@@ -116,8 +116,8 @@ fn random_defines() {
             let expected = body[2..]
                 .chunks(12)
                 .all(|bytes| met_again(bytes, &rows, columns, row));
-            assert_eq!(letters::holds(&read, &rows, b'K', row), expected);
-            assert!(letters::holds(&read, &rows, b'L', row));
+            assert_eq!(letters::holds(&read, &rows, b'K', row as u64), expected);
+            assert!(letters::holds(&read, &rows, b'L', row as u64));
             held[usize::from(expected)] += 1;
         }
     }

@@ -22,7 +22,7 @@ pub struct At<'a> {
 
 impl At<'_> {
     fn compare(&self, comparison: &Comparison) -> Truth {
-        compare(comparison, self.rows, self.columns, self.row)
+        compare(comparison, self.rows, self.columns, self.row as u64)
     }
 
     /// What a condition comes to by other tables.
