@@ -164,7 +164,7 @@ fn every_small_choice() {
 #[test]
 fn every_byte_as_a_letter() {
     let with_record = every_letter().filter(check).count();
-    assert_eq!(with_record, 3 * 19);
+    assert_eq!(with_record, 4 * 19);
 }
 
 #[test]

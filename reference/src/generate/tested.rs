@@ -72,6 +72,7 @@ pub fn every_letter() -> impl Iterator<Item = Test> {
     let draft = Draft::new(2, b"A B C", vec![1, 5, 2, 5, 3, 5])
         .define(b'A', &[with_number(1, 0, 1, 5), with_number(0, -1, 1, 2)])
         .condition(b'B', &[conditions::compare(with_number(1, -2, 1, 5))])
+        .define(b'N', &[with_number(0, 1, 5, 0), with_number(1, 64, 1, 5)])
         .define(b'Q', &[with_column((0, -1), 3, (0, 0), 0)])
         .define(b'Z', &[with_number(0, -64, 2, 9), with_number(0, 64, 2, 9)]);
     (0..=255).flat_map(move |letter| {

@@ -1,5 +1,5 @@
 //! One comparison: an input, whether it is searched, within its allowance if it has
-//! one, or judged for room, and the seed of the noise. The product and the reference
+//! one, judged for room, or a letter of it tested, and the seed of the noise. The product and the reference
 //! are lent the same, and what they return and leave has to be the same in every item.
 
 use crate::engine::{Engine, Five, Reference};
@@ -14,6 +14,11 @@ pub static CALLS: AtomicUsize = AtomicUsize::new(0);
 pub enum Call {
     Search,
     Room,
+    /// The test of this letter at this row.
+    Test {
+        letter: u8,
+        row: u64,
+    },
 }
 
 #[derive(Clone, Debug, PartialEq, Eq)]
@@ -34,6 +39,7 @@ impl Case {
         let returned = match self.call {
             Call::Search => engine.search(&mut lent),
             Call::Room => engine.room(&mut lent),
+            Call::Test { letter, row } => engine.test(&mut lent, letter, row),
         };
         (returned, lent)
     }
@@ -43,11 +49,12 @@ impl Case {
         self.run_on(product, lent.clone()) == self.run_on(&Reference, lent)
     }
 
-    /// What the four returned numbers are called.
-    pub fn names(&self) -> [&'static str; 5] {
+    /// What the returned numbers are called.
+    pub fn names(&self) -> &'static [&'static str] {
         match self.call {
-            Call::Search => ["answer", "matches", "labels", "steps", "offset"],
-            Call::Room => ["answer", "P", "n", "pairs", "offset"],
+            Call::Search => &["answer", "matches", "labels", "steps", "offset"],
+            Call::Room => &["answer", "P", "n", "pairs", "offset"],
+            Call::Test { .. } => &["answer", "holds", "judged", "offset"],
         }
     }
 }

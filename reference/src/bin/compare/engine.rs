@@ -1,7 +1,8 @@
 //! What those that are compared have in common, and the reference as one of them.
 //! They take what they are lent and return five numbers: a search its answer,
 //! matches, labels, steps and offset; a judgement of room its answer, P, n,
-//! P(n+1) and offset. A search is made within the allowance it is lent, if any.
+//! P(n+1) and offset; a test of a letter its answer, whether it holds, comparisons judged,
+//! offset and 0. A search is made within the allowance it is lent, if any.
 
 use crate::lent::Lent;
 use reference::search::{self, Outcome};
@@ -11,6 +12,7 @@ pub type Five = [u64; 5];
 pub trait Engine {
     fn search(&self, lent: &mut Lent) -> Five;
     fn room(&self, lent: &mut Lent) -> Five;
+    fn test(&self, lent: &mut Lent, letter: u8, row: u64) -> Five;
 }
 
 pub struct Reference;
@@ -28,6 +30,16 @@ impl Engine for Reference {
         let offset = search::offset(lent.query.items(), answer);
         [answer.into(), places as u64, n as u64, pairs as u64, offset]
     }
+
+    fn test(&self, lent: &mut Lent, letter: u8, row: u64) -> Five {
+        let tested = search::test(lent.query.items(), lent.rows.items(), letter, row);
+        padded(tested)
+    }
+}
+
+/// Four numbers and a 0.
+pub fn padded([answer, one, other, last]: [u64; 4]) -> Five {
+    [answer, one, other, last, 0]
 }
 
 /// The numbers of a search's outcome.

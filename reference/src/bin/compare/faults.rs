@@ -3,11 +3,12 @@
 //! at another row after a match, by stopping elsewhere, or by changing what it returns
 //! or leaves. Each has to be found and shrunk. Those of searches within an allowance
 //! stand in `allowance`, those of averages in `average`, those of conditions in
-//! `condition`.
+//! `condition`, those of tests of a letter in `tested`.
 
 mod allowance;
 mod average;
 mod condition;
+mod tested;
 
 use crate::engine::{five, Engine, Five};
 use crate::lent::{Guarded, Lent};
@@ -45,7 +46,9 @@ enum Wrong {
     Ends(fn(&mut Search)),
     /// Judges room in another way.
     Judges(fn(&mut Five, &Lent)),
-    /// Tells of a pattern's text in another way, by either call, where 1 to 3 do not apply.
+    /// Tests a letter in another way.
+    Tests(fn(&mut Five, &tested::Test)),
+    /// Tells of a pattern's text in another way, by any call, where 1 to 3 do not apply.
     Tells(fn(&mut Five, &[u8])),
 }
 
@@ -91,6 +94,14 @@ impl Engine for Faulty<'_> {
             wrong(&mut returned, lent);
         }
         self.told(&mut returned, lent);
+        returned
+    }
+
+    fn test(&self, lent: &mut Lent, letter: u8, row: u64) -> Five {
+        let mut returned = self.called(lent, |lent| self.engine.test(lent, letter, row));
+        if let Wrong::Tests(wrong) = self.fault.wrong {
+            wrong(&mut returned, &tested::Test::new(lent, letter, row));
+        }
         returned
     }
 }
@@ -296,7 +307,8 @@ const fn tells(name: &'static str, about: &'static str, wrong: fn(&mut Five, &[u
 
 pub fn all() -> impl Iterator<Item = &'static Fault> {
     let of_all = FAULTS.iter().chain(&allowance::FAULTS);
-    of_all.chain(&average::FAULTS).chain(&condition::FAULTS)
+    let of_all = of_all.chain(&average::FAULTS).chain(&condition::FAULTS);
+    of_all.chain(&tested::FAULTS)
 }
 
 static FAULTS: [Fault; 90] = [

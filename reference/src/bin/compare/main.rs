@@ -31,6 +31,7 @@ mod program;
 mod readable;
 mod shrink;
 mod streams;
+mod tested;
 #[cfg(test)]
 mod tests;
 mod within;

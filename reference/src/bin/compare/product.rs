@@ -2,12 +2,16 @@
 //! declares it. Pointers and lengths are those of buffers that live through the call,
 //! and no two of them overlap: that is all the header asks for.
 
-use crate::engine::{Engine, Five};
+use crate::engine::{padded, Engine, Five};
 use crate::lent::Lent;
 
 /// The five numbers of either result, one behind the other.
 #[repr(C)]
 struct Result(Five);
+
+/// The four numbers of a test.
+#[repr(C)]
+struct Tested([u64; 4]);
 
 extern "C" {
     fn mireladle_search(
@@ -47,6 +51,15 @@ extern "C" {
         rows: *const i32,
         rows_len: usize,
     ) -> Result;
+
+    fn mireladle_test(
+        query: *const u8,
+        query_len: usize,
+        rows: *const i32,
+        rows_len: usize,
+        letter: u8,
+        row: usize,
+    ) -> Tested;
 }
 
 pub struct Product;
@@ -69,6 +82,20 @@ impl Engine for Product {
             )
         };
         result.0
+    }
+
+    fn test(&self, lent: &mut Lent, letter: u8, row: u64) -> Five {
+        let tested = unsafe {
+            mireladle_test(
+                lent.query.pointer(),
+                lent.query.len(),
+                lent.rows.pointer(),
+                lent.rows.len(),
+                letter,
+                row as usize,
+            )
+        };
+        padded(tested.0)
     }
 }
 

@@ -34,6 +34,10 @@ pub fn describe(case: &Case) -> String {
         (Call::Search, None) => "mireladle_search".to_string(),
         (Call::Search, Some(most)) => format!("mireladle_search_within, allowance {most}"),
         (Call::Room, _) => "mireladle_room".to_string(),
+        (Call::Test { letter, row }, _) => {
+            let letter = [letter].escape_ascii().to_string();
+            format!("mireladle_test, letter `{letter}`, row {row}")
+        }
     };
     let mut text = format!("  {call}, noise {}\n", case.noise);
     for line in query_lines(&input.query) {

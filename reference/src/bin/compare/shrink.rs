@@ -1,9 +1,10 @@
 //! Making a case on which the two differ smaller, as long as they still differ
 //! on it in some way: fewer rows and columns, fewer records and comparisons, a
-//! shorter pattern, smaller numbers, smaller buffers, a smaller allowance or none.
+//! shorter pattern, smaller numbers, smaller buffers, a smaller allowance or none, a
+//! smaller row to test.
 //! Greedy, so the result is small and not the smallest.
 
-use crate::case::Case;
+use crate::case::{Call, Case};
 use crate::engine::Engine;
 use reference::generate::{allowances, conditions};
 use reference::query::{COMPARISON_BYTES, CONDITION, DEFINE, MEASURE, SKIP, TEXT};
@@ -41,7 +42,8 @@ impl Shrinking<'_> {
         let numbers = self.smaller_numbers();
         let buffers = self.smaller_buffers();
         let allowance = self.smaller_allowance();
-        rows || columns || records || bodies || numbers || buffers || allowance
+        let tested = self.smaller_row();
+        rows || columns || records || bodies || numbers || buffers || allowance || tested
     }
 
     /// Takes a changed case over if the two still differ on it; with its allowance, or
@@ -302,6 +304,27 @@ impl Shrinking<'_> {
                     false => less /= 2,
                 }
             }
+        }
+        any
+    }
+
+    /// The row of a test, and A as its letter.
+    fn smaller_row(&mut self) -> bool {
+        let mut any = false;
+        while let Call::Test { letter, row } = self.case.call {
+            let smaller = [
+                (b'A', row),
+                (letter, 0),
+                (letter, row / 2),
+                (letter, row.saturating_sub(1)),
+            ];
+            let taken = smaller
+                .into_iter()
+                .any(|(letter, row)| self.take(|case| case.call = Call::Test { letter, row }));
+            if !taken {
+                break;
+            }
+            any = true;
         }
         any
     }

@@ -1,10 +1,11 @@
 //! The streams of cases: inputs listed in full, random ones and damaged ones,
 //! for the search and for the judgement of room; those of searches within an
-//! allowance are made in `within`, those with conditions in `conditions`. A stream has a usual length, which is that of the
+//! allowance are made in `within`, those with conditions in `conditions`,
+//! tests of a letter in `tested`. A stream has a usual length, which is that of the
 //! gate; the random ones can be run with other seeds and for longer.
 
 use crate::case::{Call, Case};
-use crate::{conditions, within};
+use crate::{conditions, tested, within};
 use reference::generate::damage::damage_twice;
 use reference::generate::draft::{
     self, with_column, with_number, Draft, Input, Numbers, Room, LARGE, MIDDLE, SMALL,
@@ -48,7 +49,7 @@ const fn random(
     }
 }
 
-pub const STREAMS: [Stream; 40] = [
+pub const STREAMS: [Stream; 43] = [
     listed(
         "texts",
         "room: every text of up to 5 bytes over two alphabets",
@@ -204,6 +205,22 @@ pub const STREAMS: [Stream; 40] = [
         "queries whose letters have conditions, up to 6 rows, some up to 60",
         20_000,
         conditions::random,
+    ),
+    listed(
+        "tested",
+        "tests of a letter with every choice of up to 5 truths, and of 8",
+        tested::every_truth,
+    ),
+    listed(
+        "tested-letters",
+        "tests of every byte as a letter, at rows that are there and not",
+        tested::every_byte,
+    ),
+    random(
+        "tests",
+        "tests of letters of all sorts at rows of all sorts, up to 60 rows",
+        60_000,
+        tested::random,
     ),
     listed(
         "within-small",
