@@ -13,6 +13,7 @@ pub mod conditions;
 pub mod damage;
 pub mod draft;
 pub mod limits;
+pub mod logs;
 pub mod mix;
 pub mod random;
 pub mod scramble;
