@@ -1,5 +1,6 @@
 //! One comparison: an input, whether it is searched, within its allowance if it has
-//! one, judged for room, or a letter of it tested, and the seed of the noise. The product and the reference
+//! one, judged for room, a letter of it tested, or its rows judged by the release desk,
+//! and the seed of the noise. The product and the reference
 //! are lent the same, and what they return and leave has to be the same in every item.
 
 use crate::engine::{Engine, Five, Reference};
@@ -19,6 +20,8 @@ pub enum Call {
         letter: u8,
         row: u64,
     },
+    /// The release desk, which takes no query.
+    Desk,
 }
 
 #[derive(Clone, Debug, PartialEq, Eq)]
@@ -40,6 +43,7 @@ impl Case {
             Call::Search => engine.search(&mut lent),
             Call::Room => engine.room(&mut lent),
             Call::Test { letter, row } => engine.test(&mut lent, letter, row),
+            Call::Desk => engine.desk(&mut lent),
         };
         (returned, lent)
     }
@@ -55,6 +59,7 @@ impl Case {
             Call::Search => &["answer", "matches", "labels", "steps", "offset"],
             Call::Room => &["answer", "P", "n", "pairs", "offset"],
             Call::Test { .. } => &["answer", "holds", "judged", "offset"],
+            Call::Desk => &["answer", "verdict", "found", "row"],
         }
     }
 }

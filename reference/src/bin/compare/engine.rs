@@ -2,9 +2,11 @@
 //! They take what they are lent and return five numbers: a search its answer,
 //! matches, labels, steps and offset; a judgement of room its answer, P, n,
 //! P(n+1) and offset; a test of a letter its answer, whether it holds, comparisons judged,
-//! offset and 0. A search is made within the allowance it is lent, if any.
+//! offset and 0; the release desk its answer, verdict, whether a row is told, that row and
+//! 0. A search is made within the allowance it is lent, if any.
 
 use crate::lent::Lent;
+use reference::desk;
 use reference::search::{self, Outcome};
 
 pub type Five = [u64; 5];
@@ -13,6 +15,7 @@ pub trait Engine {
     fn search(&self, lent: &mut Lent) -> Five;
     fn room(&self, lent: &mut Lent) -> Five;
     fn test(&self, lent: &mut Lent, letter: u8, row: u64) -> Five;
+    fn desk(&self, lent: &mut Lent) -> Five;
 }
 
 pub struct Reference;
@@ -34,6 +37,11 @@ impl Engine for Reference {
     fn test(&self, lent: &mut Lent, letter: u8, row: u64) -> Five {
         let tested = search::test(lent.query.items(), lent.rows.items(), letter, row);
         padded(tested)
+    }
+
+    fn desk(&self, lent: &mut Lent) -> Five {
+        let (_, rows, buffers) = lent.parts();
+        padded(desk::desk(rows, buffers))
     }
 }
 

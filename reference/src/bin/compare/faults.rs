@@ -3,11 +3,13 @@
 //! at another row after a match, by stopping elsewhere, or by changing what it returns
 //! or leaves. Each has to be found and shrunk. Those of searches within an allowance
 //! stand in `allowance`, those of averages in `average`, those of conditions in
-//! `condition`, those of tests of a letter in `tested`.
+//! `condition`, those of tests of a letter in `tested`, those of the release desk in
+//! `desk`.
 
 mod allowance;
 mod average;
 mod condition;
+mod desk;
 mod tested;
 
 use crate::engine::{five, Engine, Five};
@@ -48,6 +50,8 @@ enum Wrong {
     Judges(fn(&mut Five, &Lent)),
     /// Tests a letter in another way.
     Tests(fn(&mut Five, &tested::Test)),
+    /// Judges the rows of a log in another way.
+    Decides(fn(&mut desk::Desk)),
     /// Tells of a pattern's text in another way, by any call, where 1 to 3 do not apply.
     Tells(fn(&mut Five, &[u8])),
 }
@@ -101,6 +105,19 @@ impl Engine for Faulty<'_> {
         let mut returned = self.called(lent, |lent| self.engine.test(lent, letter, row));
         if let Wrong::Tests(wrong) = self.fault.wrong {
             wrong(&mut returned, &tested::Test::new(lent, letter, row));
+        }
+        returned
+    }
+
+    fn desk(&self, lent: &mut Lent) -> Five {
+        let before = lent.clone();
+        let mut returned = self.called(lent, |lent| self.engine.desk(lent));
+        if let Wrong::Decides(wrong) = self.fault.wrong {
+            wrong(&mut desk::Desk {
+                before: &before,
+                lent,
+                returned: &mut returned,
+            });
         }
         returned
     }
@@ -308,7 +325,7 @@ const fn tells(name: &'static str, about: &'static str, wrong: fn(&mut Five, &[u
 pub fn all() -> impl Iterator<Item = &'static Fault> {
     let of_all = FAULTS.iter().chain(&allowance::FAULTS);
     let of_all = of_all.chain(&average::FAULTS).chain(&condition::FAULTS);
-    of_all.chain(&tested::FAULTS)
+    of_all.chain(&tested::FAULTS).chain(&desk::FAULTS)
 }
 
 static FAULTS: [Fault; 90] = [

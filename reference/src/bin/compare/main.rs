@@ -20,6 +20,7 @@
 
 mod case;
 mod conditions;
+mod desk;
 mod engine;
 mod every;
 mod faults;

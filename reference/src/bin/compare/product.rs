@@ -9,9 +9,9 @@ use crate::lent::Lent;
 #[repr(C)]
 struct Result(Five);
 
-/// The four numbers of a test.
+/// The four numbers of a test, or of a verdict.
 #[repr(C)]
-struct Tested([u64; 4]);
+struct Four([u64; 4]);
 
 extern "C" {
     fn mireladle_search(
@@ -59,7 +59,20 @@ extern "C" {
         rows_len: usize,
         letter: u8,
         row: usize,
-    ) -> Tested;
+    ) -> Four;
+
+    fn mireladle_desk(
+        rows: *const i32,
+        rows_len: usize,
+        notes: *mut u8,
+        notes_len: usize,
+        trail: *mut u32,
+        trail_len: usize,
+        numbers: *mut i64,
+        numbers_len: usize,
+        labels: *mut u8,
+        labels_len: usize,
+    ) -> Four;
 }
 
 pub struct Product;
@@ -96,6 +109,24 @@ impl Engine for Product {
             )
         };
         padded(tested.0)
+    }
+
+    fn desk(&self, lent: &mut Lent) -> Five {
+        let verdict = unsafe {
+            mireladle_desk(
+                lent.rows.pointer(),
+                lent.rows.len(),
+                lent.notes.pointer(),
+                lent.notes.len(),
+                lent.trail.pointer(),
+                lent.trail.len(),
+                lent.numbers.pointer(),
+                lent.numbers.len(),
+                lent.labels.pointer(),
+                lent.labels.len(),
+            )
+        };
+        padded(verdict.0)
     }
 }
 

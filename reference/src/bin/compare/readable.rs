@@ -38,19 +38,22 @@ pub fn describe(case: &Case) -> String {
             let letter = [letter].escape_ascii().to_string();
             format!("mireladle_test, letter `{letter}`, row {row}")
         }
+        (Call::Desk, _) => "mireladle_desk".to_string(),
     };
     let mut text = format!("  {call}, noise {}\n", case.noise);
-    for line in query_lines(&input.query) {
-        let _ = writeln!(text, "  {line}");
+    if case.call != Call::Desk {
+        for line in query_lines(&input.query) {
+            let _ = writeln!(text, "  {line}");
+        }
+        let _ = writeln!(text, "  query: {}", hexadecimal(&input.query));
     }
-    let _ = writeln!(text, "  query: {}", hexadecimal(&input.query));
     let _ = writeln!(
         text,
         "  rows, {} entries: {}",
         input.rows.len(),
         list(&input.rows)
     );
-    if case.call == Call::Search {
+    if matches!(case.call, Call::Search | Call::Desk) {
         let _ = writeln!(
             text,
             "  lent: notes {}, trail {}, numbers {}, labels {}",

@@ -6,6 +6,7 @@
 
 use crate::case::{Call, Case};
 use crate::engine::Engine;
+use reference::desk;
 use reference::generate::{allowances, conditions};
 use reference::query::{COMPARISON_BYTES, CONDITION, DEFINE, MEASURE, SKIP, TEXT};
 use std::time::{Duration, Instant};
@@ -108,7 +109,7 @@ impl Shrinking<'_> {
     }
 
     fn fewer_rows(&mut self) -> bool {
-        let columns = Parts::of(&self.case.input.query).columns();
+        let columns = self.case.columns();
         let whole = self.remove_runs(
             |case| case.input.rows.len() / columns,
             |case, at, length| {
@@ -347,6 +348,14 @@ impl Shrinking<'_> {
 }
 
 impl Case {
+    /// Entries of a row.
+    fn columns(&self) -> usize {
+        match self.call {
+            Call::Desk => desk::COLUMNS,
+            _ => Parts::of(&self.input.query).columns(),
+        }
+    }
+
     fn length_mut(&mut self, buffer: usize) -> &mut usize {
         match buffer {
             0 => &mut self.input.notes,

@@ -1,11 +1,11 @@
 //! The streams of cases: inputs listed in full, random ones and damaged ones,
 //! for the search and for the judgement of room; those of searches within an
 //! allowance are made in `within`, those with conditions in `conditions`,
-//! tests of a letter in `tested`. A stream has a usual length, which is that of the
+//! tests of a letter in `tested`, logs for the release desk in `desk`. A stream has a usual length, which is that of the
 //! gate; the random ones can be run with other seeds and for longer.
 
 use crate::case::{Call, Case};
-use crate::{conditions, tested, within};
+use crate::{conditions, desk, tested, within};
 use reference::generate::damage::damage_twice;
 use reference::generate::draft::{
     self, with_column, with_number, Draft, Input, Numbers, Room, LARGE, MIDDLE, SMALL,
@@ -49,7 +49,7 @@ const fn random(
     }
 }
 
-pub const STREAMS: [Stream; 43] = [
+pub const STREAMS: [Stream; 45] = [
     listed(
         "texts",
         "room: every text of up to 5 bytes over two alphabets",
@@ -223,6 +223,17 @@ pub const STREAMS: [Stream; 43] = [
         tested::random,
     ),
     listed(
+        "logs",
+        "the release desk: every log of up to 3 rows, of 4 with fewer sorts, and at limits",
+        desk::every_log,
+    ),
+    random(
+        "desk",
+        "the release desk: logs that clear and that nearly do, up to some hundred rows",
+        40_000,
+        desk::random,
+    ),
+    listed(
         "within-small",
         "every allowance of every pattern of up to 4 or 5 bytes on all rows of 0 and 1, up to 2",
         within::every_small_input,
@@ -275,7 +286,7 @@ pub const STREAMS: [Stream; 43] = [
 ];
 
 /// Cases of one call, each with a noise of its own.
-fn calls(call: Call, seed: u64, inputs: impl Iterator<Item = Input> + 'static) -> Cases {
+pub fn calls(call: Call, seed: u64, inputs: impl Iterator<Item = Input> + 'static) -> Cases {
     let mut random = Random::new(seed ^ 0x6E6F_6973_6500);
     Box::new(inputs.map(move |input| Case {
         call,
