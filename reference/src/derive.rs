@@ -12,7 +12,8 @@ pub struct Written {
 }
 
 /// Takes the first match, then each time the next one that starts behind the last row of
-/// the one taken, or behind the start row of an empty one; and numbers them anew.
+/// the one taken, or behind the start row of an empty one; and numbers them anew. Ends
+/// where a match is not whole.
 pub fn past_last_row(to_next_row: &Written, numbers_per_match: usize) -> Written {
     let mut taken = Written {
         numbers: Vec::new(),
@@ -22,9 +23,11 @@ pub fn past_last_row(to_next_row: &Written, numbers_per_match: usize) -> Written
     // The first row that the next match may start at.
     let mut free = 0;
     let mut labels = to_next_row.labels.as_slice();
-    for one in to_next_row.numbers.chunks(numbers_per_match) {
+    for one in to_next_row.numbers.chunks_exact(numbers_per_match) {
         let (first, rows) = (one[1], one[2]);
-        let (own, later) = labels.split_at(rows as usize);
+        let Some((own, later)) = labels.split_at_checked(rows as usize) else {
+            break;
+        };
         labels = later;
         if first < free {
             continue;

@@ -2,14 +2,21 @@
 //! one, judged for room, a letter of it tested, or its rows judged by the release desk,
 //! and the seed of the noise. The product and the reference
 //! are lent the same, and what they return and leave has to be the same in every item.
+//! Of reports that are derived from one another (document 02, R-9) both are the
+//! product's own.
 
 use crate::engine::{Engine, Five, Reference};
 use crate::lent::Lent;
+use reference::derive::{self, Written};
 use reference::generate::Input;
+use reference::{query, search};
 use std::sync::atomic::{AtomicUsize, Ordering};
 
 /// How many calls were begun, for who watches that they come to their end.
 pub static CALLS: AtomicUsize = AtomicUsize::new(0);
+
+/// What a call returned, and what was lent to it as it left that.
+pub type Ran = (Five, Lent);
 
 #[derive(Clone, Copy, Debug, PartialEq, Eq)]
 pub enum Call {
@@ -22,6 +29,8 @@ pub enum Call {
     },
     /// The release desk, which takes no query.
     Desk,
+    /// A search in mode 0, with room for all of mode 1, from which its report is derived.
+    Derive,
 }
 
 #[derive(Clone, Debug, PartialEq, Eq)]
@@ -32,15 +41,27 @@ pub struct Case {
 }
 
 impl Case {
-    /// What a call returns and what it leaves in all it was lent.
-    pub fn run(&self, engine: &dyn Engine) -> (Five, Lent) {
-        self.run_on(engine, Lent::new(&self.input, self.noise))
+    /// What a call of the product returns and leaves in all it was lent, and what it
+    /// should.
+    pub fn both(&self, product: &dyn Engine) -> [Ran; 2] {
+        let lent = Lent::new(&self.input, self.noise);
+        if self.call == Call::Derive {
+            return derived(product, lent);
+        }
+        let returned = self.run_on(product, lent.clone());
+        [returned, self.run_on(&Reference, lent)]
     }
 
-    fn run_on(&self, engine: &dyn Engine, mut lent: Lent) -> (Five, Lent) {
+    /// What a call of the reference returns and leaves.
+    #[cfg(test)]
+    pub fn expected(&self) -> Ran {
+        self.run_on(&Reference, Lent::new(&self.input, self.noise))
+    }
+
+    fn run_on(&self, engine: &dyn Engine, mut lent: Lent) -> Ran {
         CALLS.fetch_add(1, Ordering::Relaxed);
         let returned = match self.call {
-            Call::Search => engine.search(&mut lent),
+            Call::Search | Call::Derive => engine.search(&mut lent),
             Call::Room => engine.room(&mut lent),
             Call::Test { letter, row } => engine.test(&mut lent, letter, row),
             Call::Desk => engine.desk(&mut lent),
@@ -49,8 +70,8 @@ impl Case {
     }
 
     pub fn agrees(&self, product: &dyn Engine) -> bool {
-        let lent = Lent::new(&self.input, self.noise);
-        self.run_on(product, lent.clone()) == self.run_on(&Reference, lent)
+        let [returned, expected] = self.both(product);
+        returned == expected
     }
 
     /// What the returned numbers are called.
@@ -60,6 +81,44 @@ impl Case {
             Call::Room => &["answer", "P", "n", "pairs", "offset"],
             Call::Test { .. } => &["answer", "holds", "judged", "offset"],
             Call::Desk => &["answer", "verdict", "found", "row"],
+            Call::Derive => &["answer", "matches", "labels"],
         }
     }
+}
+
+/// The product's search in mode 0, and the same with the report that is derived from its
+/// search in mode 1; steps, notes and trail are none of it.
+fn derived(product: &dyn Engine, mut lent: Lent) -> [Ran; 2] {
+    let mut other = lent.clone();
+    let mode_1 = derive::to_next_row(lent.query.items());
+    if mode_1.len() == other.query.len() {
+        other.query.items_mut().copy_from_slice(&mode_1);
+    }
+    let mut expected = lent.clone();
+    CALLS.fetch_add(2, Ordering::Relaxed);
+    let [answer, matches, labels, ..] = product.search(&mut lent);
+    let returned = [answer, matches, labels, 0, 0];
+    let [answer, matches, labels, ..] = product.search(&mut other);
+    let per_match = query::read(lent.query.items()).map_or(3, |it| 3 + 2 * it.measures.len());
+    let written = Written {
+        numbers: first(other.numbers.items(), matches as usize * per_match),
+        labels: first(other.labels.items(), labels as usize),
+        matches,
+    };
+    let mut wanted = [answer, 0, 0, 0, 0];
+    if search::was_walked(answer as u8) {
+        let taken = derive::past_last_row(&written, per_match);
+        wanted[1] = taken.matches;
+        wanted[2] = taken.labels.len() as u64;
+        expected.numbers.items_mut()[..taken.numbers.len()].copy_from_slice(&taken.numbers);
+        expected.labels.items_mut()[..taken.labels.len()].copy_from_slice(&taken.labels);
+    }
+    expected.notes = lent.notes.clone();
+    expected.trail = lent.trail.clone();
+    [(returned, lent), (wanted, expected)]
+}
+
+/// The first so many items, or all.
+fn first<T: Clone>(items: &[T], count: usize) -> Vec<T> {
+    items[..count.min(items.len())].to_vec()
 }

@@ -2,7 +2,7 @@
 //! it: what is printed of a difference.
 
 use crate::case::{Call, Case};
-use crate::engine::{Engine, Reference};
+use crate::engine::Engine;
 use reference::query::{
     self, Comparison, Condition, Function, Meaning, Measure, Query, Record, Reference as Entry,
     Skip, CONDITION, DEFINE, MEASURE, SHAPE, SKIP, TEXT,
@@ -11,8 +11,7 @@ use std::fmt::{Display, Write};
 
 /// The case and how the two differ on it.
 pub fn difference(product: &dyn Engine, case: &Case) -> String {
-    let (returned, left) = case.run(product);
-    let (expected, expected_left) = case.run(&Reference);
+    let [(returned, left), (expected, expected_left)] = case.both(product);
     let mut text = describe(case);
     for (name, (product, reference)) in case.names().iter().zip(returned.iter().zip(&expected)) {
         let mark = if product == reference { "  " } else { "* " };
@@ -39,6 +38,7 @@ pub fn describe(case: &Case) -> String {
             format!("mireladle_test, letter `{letter}`, row {row}")
         }
         (Call::Desk, _) => "mireladle_desk".to_string(),
+        (Call::Derive, _) => "mireladle_search, against what its report in mode 1 says".to_string(),
     };
     let mut text = format!("  {call}, noise {}\n", case.noise);
     if case.call != Call::Desk {
@@ -53,7 +53,7 @@ pub fn describe(case: &Case) -> String {
         input.rows.len(),
         list(&input.rows)
     );
-    if matches!(case.call, Call::Search | Call::Desk) {
+    if matches!(case.call, Call::Search | Call::Desk | Call::Derive) {
         let _ = writeln!(
             text,
             "  lent: notes {}, trail {}, numbers {}, labels {}",

@@ -1,11 +1,12 @@
 //! The streams of cases: inputs listed in full, random ones and damaged ones,
 //! for the search and for the judgement of room; those of searches within an
 //! allowance are made in `within`, those with conditions in `conditions`,
-//! tests of a letter in `tested`, logs for the release desk in `desk`. A stream has a usual length, which is that of the
+//! tests of a letter in `tested`, logs for the release desk in `desk`, reports derived from
+//! one another in `derived`. A stream has a usual length, which is that of the
 //! gate; the random ones can be run with other seeds and for longer.
 
 use crate::case::{Call, Case};
-use crate::{conditions, desk, tested, within};
+use crate::{conditions, derived, desk, tested, within};
 use reference::generate::damage::damage_twice;
 use reference::generate::draft::{
     self, with_column, with_number, Draft, Input, Numbers, Room, LARGE, MIDDLE, SMALL,
@@ -49,7 +50,7 @@ const fn random(
     }
 }
 
-pub const STREAMS: [Stream; 45] = [
+pub const STREAMS: [Stream; 47] = [
     listed(
         "texts",
         "room: every text of up to 5 bytes over two alphabets",
@@ -234,6 +235,17 @@ pub const STREAMS: [Stream; 45] = [
         desk::random,
     ),
     listed(
+        "derived-tables",
+        "the report of mode 0 from that of mode 1: patterns on every truth table, up to 4 rows",
+        derived::every_table,
+    ),
+    random(
+        "derived",
+        "the report of mode 0 from that of mode 1, up to 60 rows, some up to 500",
+        20_000,
+        derived::random,
+    ),
+    listed(
         "within-small",
         "every allowance of every pattern of up to 4 or 5 bytes on all rows of 0 and 1, up to 2",
         within::every_small_input,
@@ -347,7 +359,7 @@ fn every_small_input(seed: u64) -> Cases {
 }
 
 /// Patterns with letters that hold together, in which the order of ways tells.
-const TABLED: [&[u8]; 32] = [
+pub const TABLED: [&[u8]; 32] = [
     b"A B",
     b"A | A B",
     b"A B | A",

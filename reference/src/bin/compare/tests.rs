@@ -25,7 +25,7 @@ fn the_steps_keep_to_the_bounds() {
     for stream in &STREAMS {
         let cases = (stream.cases)(8).take(600);
         for case in cases.filter(|case| case.call == Call::Search) {
-            let (returned, _) = case.run(&Reference);
+            let (returned, _) = case.expected();
             let Ok(accepted) = search::accept(&case.input.query, &case.input.rows) else {
                 continue;
             };
@@ -47,7 +47,7 @@ fn the_listed_words_end_in_each_way() {
     let labelled = STREAMS.iter().find(|stream| stream.name == "labelled");
     let mut answers = [0; 16];
     for case in (labelled.expect("a stream of that name").cases)(1) {
-        let (returned, _) = case.run(&Reference);
+        let (returned, _) = case.expected();
         answers[returned[0] as usize] += 1;
     }
     let ends = [0, 9, 13, 15];
@@ -67,7 +67,7 @@ fn the_allowances_end_in_each_way() {
     for stream in STREAMS.iter().filter(within) {
         for case in (stream.cases)(9).take(4_000) {
             assert!(case.input.allowance.is_some());
-            let (returned, _) = case.run(&Reference);
+            let (returned, _) = case.expected();
             answers[returned[0] as usize] += 1;
             let log = allowances::log_of(&case.input);
             let found = log.map_or(Vec::new(), |log| allowances::points(&log));
@@ -102,6 +102,22 @@ fn each_fault_is_found_and_shrunk() {
         assert!(small.input.rows.len() <= found.case.input.rows.len());
         let text = readable::difference(&faulty, &small);
         assert!(text.contains("  * "), "{}: {text}", fault.name);
+    }
+}
+
+/// Faults that the two reports of one query tell apart, by their stream alone.
+#[test]
+fn derived_reports_find_faults() {
+    let derived = STREAMS.iter().find(|stream| stream.name == "derived");
+    let derived = derived.expect("a stream of that name");
+    for name in ["label", "labels-reversed", "last-match", "numbers-behind"] {
+        let fault = faults::all().find(|fault| fault.name == name);
+        let faulty = Faulty {
+            engine: &Reference,
+            fault: fault.expect("a fault of that name"),
+        };
+        let mut cases = (derived.cases)(1).take(2_000);
+        assert!(cases.any(|case| !case.agrees(&faulty)), "{name}");
     }
 }
 
