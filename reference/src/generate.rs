@@ -10,6 +10,7 @@ pub mod allowances;
 pub mod averages;
 pub mod beginnings;
 pub mod conditions;
+pub mod cuttings;
 pub mod damage;
 pub mod draft;
 pub mod limits;

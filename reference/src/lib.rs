@@ -10,6 +10,7 @@ pub mod desk;
 pub mod generate;
 pub mod letters;
 pub mod log;
+pub mod lots;
 pub mod pattern;
 pub mod places;
 pub mod program;

@@ -93,8 +93,8 @@ impl Accepted {
     }
 }
 
-/// Judges a query and rows: the parts, or the lowest of the answers 1 to 10.
-pub fn accept(query: &[u8], rows: &[i32]) -> Result<Accepted, u8> {
+/// Judges a query alone: the parts, or the lowest of the answers 1 to 9.
+pub fn accept_query(query: &[u8]) -> Result<(Query, Pattern), u8> {
     let query = query::read(query)?;
     let pattern = pattern::judge(&query.text)?;
     if query::letter_is_defined_twice(&query) {
@@ -106,6 +106,12 @@ pub fn accept(query: &[u8], rows: &[i32]) -> Result<Accepted, u8> {
     if !measured || !known(query.skip.letter()) {
         return Err(9);
     }
+    Ok((query, pattern))
+}
+
+/// Judges a query and rows: the parts, or the lowest of the answers 1 to 10.
+pub fn accept(query: &[u8], rows: &[i32]) -> Result<Accepted, u8> {
+    let (query, pattern) = accept_query(query)?;
     if !rows.len().is_multiple_of(query.columns) || rows.len() / query.columns > MOST_ROWS {
         return Err(10);
     }
@@ -294,7 +300,7 @@ fn take_starts(
             Attempt::NoMatch => Some(start + 1),
             Attempt::Match(path) => {
                 let labels = labels_on(&accepted.places, &path);
-                let results = results(accepted, rows, start, &labels);
+                let results = results(&accepted.query, rows, start, &labels);
                 if !report.append(start, &labels, &results) {
                     return Some(STOPPED);
                 }
@@ -336,13 +342,11 @@ pub fn labels_on(places: &[Place], path: &[Pair]) -> Vec<u8> {
 }
 
 /// The results of the measures in order; null is None.
-fn results(accepted: &Accepted, rows: &[i32], start: usize, labels: &[u8]) -> Vec<Option<i64>> {
-    let columns = accepted.query.columns;
-    accepted
-        .query
+pub fn results(query: &Query, rows: &[i32], start: usize, labels: &[u8]) -> Vec<Option<i64>> {
+    query
         .measures
         .iter()
-        .map(|measure| result(measure, rows, columns, start, labels))
+        .map(|measure| result(measure, rows, query.columns, start, labels))
         .collect()
 }
 
@@ -385,51 +389,62 @@ fn average(entries: &[i64]) -> i64 {
     }
 }
 
+/// How much of a report is written.
+#[derive(Clone, Copy, Debug, Default, PartialEq, Eq)]
+pub struct Extent {
+    pub matches: usize,
+    pub numbers: usize,
+    pub labels: usize,
+}
+
 /// The two report buffers and how much of them is written.
-struct Report<'a> {
+pub struct Report<'a> {
     numbers: &'a mut [i64],
     labels: &'a mut [u8],
-    matches: usize,
-    numbers_written: usize,
-    labels_written: usize,
+    pub written: Extent,
 }
 
 impl<'a> Report<'a> {
     fn new(numbers: &'a mut [i64], labels: &'a mut [u8]) -> Report<'a> {
+        Report::behind(numbers, labels, Extent::default())
+    }
+
+    /// A report that goes on behind what is written already.
+    pub fn behind(numbers: &'a mut [i64], labels: &'a mut [u8], written: Extent) -> Report<'a> {
         Report {
             numbers,
             labels,
-            matches: 0,
-            numbers_written: 0,
-            labels_written: 0,
+            written,
         }
     }
 
     /// Writes a match whole, or changes nothing if it does not fit whole.
-    fn append(&mut self, start: usize, labels: &[u8], results: &[Option<i64>]) -> bool {
-        let mut written = vec![self.matches as i64 + 1, start as i64, labels.len() as i64];
+    pub fn append(&mut self, start: usize, labels: &[u8], results: &[Option<i64>]) -> bool {
+        let before = self.written;
+        let mut written = vec![before.matches as i64 + 1, start as i64, labels.len() as i64];
         for result in results {
             written.push(i64::from(result.is_some()));
             written.push(result.unwrap_or(0));
         }
-        let numbers_end = self.numbers_written + written.len();
-        let labels_end = self.labels_written + labels.len();
-        if numbers_end > self.numbers.len() || labels_end > self.labels.len() {
+        let after = Extent {
+            matches: before.matches + 1,
+            numbers: before.numbers + written.len(),
+            labels: before.labels + labels.len(),
+        };
+        if after.numbers > self.numbers.len() || after.labels > self.labels.len() {
             return false;
         }
-        self.numbers[self.numbers_written..numbers_end].copy_from_slice(&written);
-        self.labels[self.labels_written..labels_end].copy_from_slice(labels);
-        self.matches += 1;
-        self.numbers_written = numbers_end;
-        self.labels_written = labels_end;
+        self.numbers[before.numbers..after.numbers].copy_from_slice(&written);
+        self.labels[before.labels..after.labels].copy_from_slice(labels);
+        self.written = after;
         true
     }
 
-    fn outcome(&self, answer: u8, steps: u64) -> Outcome {
+    pub fn outcome(&self, answer: u8, steps: u64) -> Outcome {
         Outcome {
             answer,
-            matches: self.matches as u64,
-            labels: self.labels_written as u64,
+            matches: self.written.matches as u64,
+            labels: self.written.labels as u64,
             steps,
             offset: 0,
         }
@@ -437,7 +452,7 @@ impl<'a> Report<'a> {
 }
 
 /// One bit for each pair, lowest bit first; spare bits of the last byte are 0.
-fn write_notes(notes: &mut [u8], failed: &[bool]) {
+pub fn write_notes(notes: &mut [u8], failed: &[bool]) {
     for (byte, eight) in notes.iter_mut().zip(failed.chunks(8)) {
         *byte = 0;
         for (bit, &has_failed) in eight.iter().enumerate() {

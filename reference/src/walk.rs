@@ -73,9 +73,10 @@ impl Ground<'_> {
 }
 
 /// A pair entered and not yet decided, and the turns it has had.
-struct Entered {
-    pair: Pair,
-    turns: usize,
+#[derive(Clone, Debug, PartialEq, Eq)]
+pub struct Entered {
+    pub pair: Pair,
+    pub turns: usize,
 }
 
 /// The counted walk: one for a whole search. Its steps never pass the allowance, if
