@@ -81,11 +81,7 @@ impl Writer<'_> {
         let mut start = 0;
         while start < accepted.n() {
             self.events.push(Event::Begins(start));
-            let first = Pair {
-                place: 0,
-                position: start,
-            };
-            let Some(mut path) = self.try_pair(first) else {
+            let Some(mut path) = self.try_pair(Pair::new(0, start)) else {
                 start += 1;
                 continue;
             };

@@ -5,7 +5,7 @@
 
 use crate::letters::Held;
 use crate::pattern::{Pattern, Primary};
-use crate::places::{self, Place};
+use crate::places::{self, Place, Repetition};
 use crate::query::Query;
 use crate::search::{self, Buffers, Extent, Outcome, Report, DONE, MOST_ROWS};
 use crate::search::{SPENT, STOPPED, STUCK};
@@ -57,6 +57,8 @@ pub struct Lot<'a> {
 struct Present<'a> {
     query: Query,
     places: Vec<Place>,
+    rounds: Vec<Vec<Repetition>>,
+    factor: usize,
     held: Held,
     rows: &'a [i32],
     last: bool,
@@ -86,9 +88,8 @@ impl Feed {
             Err(answer) => return Outcome::refused(lot.query, answer),
         };
         self.before = lot.present;
-        self.walk
-            .failed
-            .resize(self.pairs(present.places.len()), false);
+        let pairs = self.pairs(present.places.len(), present.factor);
+        self.walk.failed.resize(pairs, false);
         let mut report = Report::behind(numbers, labels, self.walk.written);
         let answer = self.walk.go_on(&present, self.allowance, &mut report);
         self.walk.written = report.written;
@@ -101,9 +102,9 @@ impl Feed {
         outcome
     }
 
-    /// P(N+1), where the largest n is N.
-    fn pairs(&self, places: usize) -> usize {
-        places * (self.largest as usize + 1)
+    /// P(N+1)F, where the largest n is N.
+    fn pairs(&self, places: usize, factor: usize) -> usize {
+        places * (self.largest as usize + 1) * factor
     }
 
     /// The lowest of the refusals in their order: 1 to 9, 17, 10, 11, 12, 21.
@@ -118,8 +119,9 @@ impl Feed {
         if !whole || self.largest > MOST_ROWS as u64 || too_many {
             return Err(10);
         }
-        let places = places::unroll(&pattern);
-        let pairs = self.pairs(places.len());
+        let (places, rounds) = places::lay(&pattern);
+        let factor = pattern.factor();
+        let pairs = self.pairs(places.len(), factor);
         if notes < pairs.div_ceil(8) {
             return Err(11);
         }
@@ -134,6 +136,8 @@ impl Feed {
             held: Held::new(&query, rows),
             query,
             places,
+            rounds,
+            factor,
             rows,
             last: lot.last,
         })
@@ -179,6 +183,8 @@ impl Walk {
     fn go_on(&mut self, present: &Present, allowance: Option<u64>, report: &mut Report) -> u8 {
         let ground = Ground {
             places: &present.places,
+            rounds: &present.rounds,
+            factor: present.factor,
             held: &present.held,
         };
         let n = present.held.row_count();
@@ -187,11 +193,7 @@ impl Walk {
                 if self.start == n {
                     return if present.last { DONE } else { WAITS };
                 }
-                let first = Pair {
-                    place: 0,
-                    position: self.start,
-                };
-                match self.try_pair(&ground, first, allowance) {
+                match self.try_pair(&ground, Pair::new(0, self.start), allowance) {
                     Tried::Entered => {}
                     Tried::HasFailed => self.start += 1,
                     Tried::NotAllowed => return SPENT,

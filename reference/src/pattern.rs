@@ -1,13 +1,15 @@
 //! The pattern: reading a text to a tree, and what is judged of the text and
 //! the tree alone: answers 4 to 7 and 14, the number of places P, and the letters that
 //! answer 9 asks for. From document 01, "Pattern language", with the count of
-//! "Places and preferment". The text is cut into tokens first, so that spaces
+//! "Places and preferment", and document 02, R-3, for repetitions of nothing. The text is cut into tokens first, so that spaces
 //! and touching letters are settled before the grammar is read.
 
 use std::collections::BTreeSet;
 
 pub const MOST_PLACES: u128 = 256;
 pub const DEEPEST_PARENTHESES: i64 = 8;
+/// So many repetitions of a body that can take no row may be nested in one another.
+pub const DEEPEST_REPETITIONS: usize = 3;
 
 /// Branches parted by `|`; at least one.
 #[derive(Clone, Debug, PartialEq, Eq)]
@@ -63,7 +65,7 @@ pub fn judge(text: &[u8]) -> Result<Pattern, u8> {
     let Some(pattern) = read(text) else {
         return Err(if begins(text) { 14 } else { 5 });
     };
-    if pattern.repeats_nothing_without_end() {
+    if pattern.nesting() > DEEPEST_REPETITIONS {
         return Err(6);
     }
     if pattern.count_with_end() > MOST_PLACES {
@@ -301,9 +303,15 @@ impl Pattern {
         self.branches.iter().any(Branch::can_take_no_row)
     }
 
-    /// Answer 6, wherever in the tree the quantifier stands.
-    pub fn repeats_nothing_without_end(&self) -> bool {
-        self.factors().any(Factor::repeats_nothing_without_end)
+    /// How many unbounded repetitions of a body that can take no row are nested in one
+    /// another where most are.
+    pub fn nesting(&self) -> usize {
+        self.factors().map(Factor::nesting).max().unwrap_or(0)
+    }
+
+    /// F.
+    pub fn factor(&self) -> usize {
+        1 << self.nesting()
     }
 
     /// P: all places, END included.
@@ -352,13 +360,17 @@ impl Factor {
         self.quantifier.low == 0 || self.primary.can_take_no_row()
     }
 
-    fn repeats_nothing_without_end(&self) -> bool {
-        let here = self.quantifier.high.is_none() && self.primary.can_take_no_row();
+    /// An unbounded repetition of a body that can take no row.
+    pub fn repeats_nothing(&self) -> bool {
+        self.quantifier.high.is_none() && self.primary.can_take_no_row()
+    }
+
+    fn nesting(&self) -> usize {
         let inside = match &self.primary {
-            Primary::Group(inner) => inner.repeats_nothing_without_end(),
-            _ => false,
+            Primary::Group(inner) => inner.nesting(),
+            _ => 0,
         };
-        here || inside
+        inside + usize::from(self.repeats_nothing())
     }
 
     /// The copies that must stand, then a fork and a copy for each further one;

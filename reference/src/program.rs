@@ -40,7 +40,7 @@ fn print(stdin: &[u8]) -> String {
     if row_bytes.len() % 4 != 0 {
         return refused(10);
     }
-    if places * (n + 1) > MOST_PAIRS {
+    if places * (n + 1) * search::factor(query) > MOST_PAIRS {
         return too_large();
     }
     searched(query, &rows, places, n)
@@ -62,7 +62,7 @@ fn whole_numbers(bytes: &[u8]) -> Vec<i32> {
 }
 
 fn searched(query: &[u8], rows: &[i32], places: usize, n: usize) -> String {
-    let (notes, trail) = search::working_room(places, n);
+    let (notes, trail) = search::working_room(places, n, search::factor(query));
     let mut numbers = vec![0; REPORT_NUMBERS];
     let mut labels = vec![0; LABEL_BYTES];
     let outcome = search::search(

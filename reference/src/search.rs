@@ -2,12 +2,12 @@
 //! in the four lent buffers afterwards; once with the counted walk and once with
 //! plain backtracking. From document 01, "Places and preferment" (starts) and
 //! "Report" (matches, measures, working room, table of answers); and from
-//! document 02, R-2 (starts at a labelled row, answer 15, the bound of steps), R-5
-//! (the average) and R-13 (an allowance of steps, answer 16).
+//! document 02, R-2 (starts at a labelled row, answer 15, the bound of steps), R-3 (the
+//! factor F), R-5 (the average) and R-13 (an allowance of steps, answer 16).
 
 use crate::letters::{self, Held};
 use crate::pattern::{self, Pattern};
-use crate::places::{self, Place};
+use crate::places::{self, Place, Repetition};
 use crate::query::{self, Function, Measure, Query, Skip};
 use crate::walk::{Attempt, Counted, Ground, Pair, Plain};
 
@@ -63,6 +63,8 @@ pub struct Accepted {
     pub query: Query,
     pub pattern: Pattern,
     pub places: Vec<Place>,
+    /// For each place the repetitions that its flags are of.
+    pub rounds: Vec<Vec<Repetition>>,
     pub held: Held,
 }
 
@@ -74,8 +76,15 @@ impl Accepted {
     pub fn ground(&self) -> Ground<'_> {
         Ground {
             places: &self.places,
+            rounds: &self.rounds,
+            factor: self.factor(),
             held: &self.held,
         }
+    }
+
+    /// F.
+    pub fn factor(&self) -> usize {
+        self.pattern.factor()
     }
 
     /// The numbers that one match takes in the report.
@@ -83,9 +92,11 @@ impl Accepted {
         3 + 2 * self.query.measures.len()
     }
 
-    /// The papers' bound of the steps: 2P(n+1) in mode 0, Pn(n+3)/2 in the others.
+    /// The papers' bound of the steps, each with the factor F: 2P(n+1) in mode 0,
+    /// Pn(n+3)/2 in the others.
     pub fn most_steps(&self) -> u64 {
-        let (places, n) = (self.places.len() as u64, self.n() as u64);
+        let places = (self.places.len() * self.factor()) as u64;
+        let n = self.n() as u64;
         match self.query.skip {
             Skip::PastLastRow => 2 * places * (n + 1),
             Skip::ToNextRow | Skip::ToFirst(_) | Skip::ToLast(_) => places * n * (n + 3) / 2,
@@ -115,12 +126,13 @@ pub fn accept(query: &[u8], rows: &[i32]) -> Result<Accepted, u8> {
     if !rows.len().is_multiple_of(query.columns) || rows.len() / query.columns > MOST_ROWS {
         return Err(10);
     }
-    let places = places::unroll(&pattern);
+    let (places, rounds) = places::lay(&pattern);
     let held = Held::new(&query, rows);
     Ok(Accepted {
         query,
         pattern,
         places,
+        rounds,
         held,
     })
 }
@@ -131,6 +143,11 @@ pub fn room(query: &[u8], rows: &[i32]) -> (u8, usize, usize) {
         Ok(accepted) => (DONE, accepted.places.len(), accepted.n()),
         Err(answer) => (answer, 0, 0),
     }
+}
+
+/// F of a query that has none of the answers 1 to 9; else 0.
+pub fn factor(query: &[u8]) -> usize {
+    accept_query(query).map_or(0, |(_, pattern)| pattern.factor())
 }
 
 /// The test of a letter at a row (document 02, R-6): answer, 1 if the letter holds,
@@ -146,9 +163,9 @@ pub fn test(query: &[u8], rows: &[i32], letter: u8, row: u64) -> [u64; 4] {
     }
 }
 
-/// The working room that P and n call for: bytes of notes, numbers of trail.
-pub fn working_room(places: usize, n: usize) -> (usize, usize) {
-    let pairs = places * (n + 1);
+/// The working room that P, n and F call for: bytes of notes, numbers of trail.
+pub fn working_room(places: usize, n: usize, factor: usize) -> (usize, usize) {
+    let pairs = places * (n + 1) * factor;
     (pairs.div_ceil(8), pairs)
 }
 
@@ -272,7 +289,8 @@ fn accept_with_room(
     trail: usize,
 ) -> Result<Accepted, u8> {
     let accepted = accept(query, rows)?;
-    let (notes_needed, trail_needed) = working_room(accepted.places.len(), accepted.n());
+    let (notes_needed, trail_needed) =
+        working_room(accepted.places.len(), accepted.n(), accepted.factor());
     if notes < notes_needed {
         return Err(11);
     }

@@ -1,17 +1,35 @@
 //! The two walks over pairs of place and position: the counted walk, which
 //! keeps failed pairs and counts its entries through one whole search, and plain
 //! backtracking, which keeps none. From document 01, "Places and preferment"; the
-//! allowance, which binds the counted walk alone, from document 02, R-13.
+//! allowance, which binds the counted walk alone, from document 02, R-13, and the flags
+//! of a pair from R-3.
 //! Neither calls itself, since a path may be a million pairs long; and the two
 //! keep their books differently, so that one can witness for the other.
 
 use crate::letters::Held;
-use crate::places::Place;
+use crate::pattern::DEEPEST_REPETITIONS;
+use crate::places::{Place, Repetition, Way};
 
 #[derive(Clone, Copy, Debug, PartialEq, Eq, PartialOrd, Ord)]
 pub struct Pair {
     pub place: usize,
     pub position: usize,
+    pub flags: Flags,
+}
+
+/// For each repetition whose copy behind the fork holds the place, the outermost first,
+/// whether its present round has taken a row; behind those all are false.
+pub type Flags = [bool; DEEPEST_REPETITIONS];
+
+impl Pair {
+    /// No round has taken a row, or there is none.
+    pub fn new(place: usize, position: usize) -> Pair {
+        Pair {
+            place,
+            position,
+            flags: Flags::default(),
+        }
+    }
 }
 
 /// What an attempt comes to.
@@ -26,21 +44,27 @@ pub enum Attempt {
     GaveUp,
 }
 
-/// The places, and which letter holds at which row.
+/// The places, for each the repetitions that its flags are of, the factor F, and which
+/// letter holds at which row.
 #[derive(Clone, Copy)]
 pub struct Ground<'a> {
     pub places: &'a [Place],
+    pub rounds: &'a [Vec<Repetition>],
+    pub factor: usize,
     pub held: &'a Held,
 }
 
 impl Ground<'_> {
+    /// P(n+1)F.
     pub fn pairs(&self) -> usize {
-        self.places.len() * (self.held.row_count() + 1)
+        self.places.len() * (self.held.row_count() + 1) * self.factor
     }
 
-    /// The number of a pair in the notes.
+    /// The number of a pair in the notes: its flags are packed from the lowest bit up.
     pub fn number(&self, pair: Pair) -> usize {
-        pair.position * self.places.len() + pair.place
+        let flags = pair.flags.iter().rev();
+        let packed = flags.fold(0, |packed, &flag| 2 * packed + usize::from(flag));
+        (pair.position * self.places.len() + pair.place) * self.factor + packed
     }
 
     pub fn is_end(&self, pair: Pair) -> bool {
@@ -50,25 +74,53 @@ impl Ground<'_> {
     /// The pair that this one tries at its turn `turn`, counted from 0. None
     /// where there is none: no way is left, or the place does not pass.
     pub fn tried(&self, pair: Pair, turn: usize) -> Option<Pair> {
-        let Pair { place, position } = pair;
+        let position = pair.position;
         let n = self.held.row_count();
-        let (passes, next, behind) = match &self.places[place] {
+        let (passes, next) = match &self.places[pair.place] {
             Place::Letter { letter, next } => {
                 let passes = position < n && self.held.holds(*letter, position);
-                (passes, *next, position + 1)
+                (passes, self.follow(self.with_row(pair), next))
             }
-            Place::First { next } => (position == 0, *next, position),
-            Place::Last { next } => (position == n, *next, position),
-            Place::Fork { ways } => {
-                let place = *ways.get(turn)?;
-                return Some(Pair { place, position });
-            }
+            Place::First { next } => (position == 0, self.follow(pair, next)),
+            Place::Last { next } => (position == n, self.follow(pair, next)),
+            Place::Fork { ways } => return Some(self.follow(pair, ways.get(turn)?)),
             Place::End => return None,
         };
-        (passes && turn == 0).then_some(Pair {
-            place: next,
-            position: behind,
-        })
+        (passes && turn == 0).then_some(next)
+    }
+
+    /// One row on: all rounds that the place is in have taken it.
+    fn with_row(&self, pair: Pair) -> Pair {
+        let count = self.rounds[pair.place].len();
+        Pair {
+            position: pair.position + 1,
+            flags: std::array::from_fn(|at| at < count),
+            ..pair
+        }
+    }
+
+    /// The pair that a way leads to. A round that goes on keeps its flag; one that is
+    /// entered has taken no row.
+    fn follow(&self, from: Pair, way: &Way) -> Pair {
+        let mut way = way;
+        let place = loop {
+            match way {
+                Way::To(place) => break *place,
+                Way::Round { of, fork, .. } if self.has_taken(from, *of) => break *fork,
+                Way::Round { behind, .. } => way = behind,
+            }
+        };
+        let mut pair = Pair::new(place, from.position);
+        for (flag, of) in pair.flags.iter_mut().zip(&self.rounds[place]) {
+            *flag = self.has_taken(from, *of);
+        }
+        pair
+    }
+
+    /// Whether a pair is in a round of this repetition that has taken a row.
+    fn has_taken(&self, pair: Pair, of: Repetition) -> bool {
+        let rounds = self.rounds[pair.place].iter();
+        rounds.zip(pair.flags).any(|(it, flag)| *it == of && flag)
     }
 }
 
@@ -112,10 +164,7 @@ impl<'a> Counted<'a> {
     /// they are the open pairs.
     pub fn attempt(&mut self, start: usize) -> Attempt {
         let mut path = Vec::new();
-        let first = Pair {
-            place: 0,
-            position: start,
-        };
+        let first = Pair::new(0, start);
         let mut allowed = self.try_pair(first, &mut path);
         while let (true, Some(top)) = (allowed, path.last_mut()) {
             let pair = top.pair;
@@ -182,10 +231,7 @@ impl<'a> Plain<'a> {
     }
 
     pub fn attempt(&mut self, start: usize) -> Attempt {
-        self.attempt_from(Pair {
-            place: 0,
-            position: start,
-        })
+        self.attempt_from(Pair::new(0, start))
     }
 
     /// The pairs that wait to be tried, the next one on top, each with the

@@ -37,19 +37,15 @@ fn ends_with(draft: &Draft, allowance: u64) -> (u8, u64, u64, u64) {
     )
 }
 
-/// The pairs noted as failed, by their bits.
-fn noted(notes: &[u8], places: usize, n: usize) -> BTreeSet<Pair> {
-    let pairs = (0..=n).flat_map(|position| (0..places).map(move |place| Pair { place, position }));
-    let is_noted = |pair: &Pair| {
-        let bit = pair.position * places + pair.place;
-        notes[bit / 8] >> (bit % 8) & 1 == 1
-    };
-    pairs.filter(is_noted).collect()
+/// The pairs noted as failed by a search of a draft.
+fn noted_of(draft: &Draft, called: &Called) -> BTreeSet<Pair> {
+    let accepted = search::accept(&draft.query(), &draft.rows).expect("accepted");
+    noted(&called.notes, &accepted, accepted.n())
 }
 
 /// Pairs written as (place, position).
 fn pairs(of: &[(usize, usize)]) -> Vec<Pair> {
-    let pair = |&(place, position)| Pair { place, position };
+    let pair = |&(place, position): &(usize, usize)| Pair::new(place, position);
     of.iter().map(pair).collect()
 }
 
@@ -101,7 +97,7 @@ fn w1_within_every_allowance() {
         };
         assert_eq!(called.outcome, outcome);
         let failed: BTreeSet<Pair> = pairs(failed).into_iter().collect();
-        assert_eq!(noted(&called.notes, 5, 5), failed, "{allowance}");
+        assert_eq!(noted_of(&w1(), &called), failed, "{allowance}");
         assert_eq!(called.open, pairs(open), "{allowance}");
         assert_eq!(called.trail, [0; 30]);
         // The match takes five numbers and three labels; before it nothing is written.
@@ -187,14 +183,14 @@ fn what_is_not_entered_is_not_counted() {
     // With (2,3) the fork (0,3) fails as well, and with it (1,2).
     let ninth = within(&draft, 9);
     let failed = pairs(&[(1, 3), (2, 3), (0, 3), (1, 2)]);
-    assert_eq!(noted(&ninth.notes, 4, 3), failed.into_iter().collect());
+    assert_eq!(noted_of(&draft, &ninth), failed.into_iter().collect());
     let open = pairs(&[(0, 0), (1, 0), (0, 1), (1, 1), (0, 2)]);
     assert_eq!((ninth.outcome.answer, ninth.open), (16, open));
     // One short of the end: all have failed but (0,0) and (2,0), and (0,0) is open.
     let eleventh = within(&draft, 11);
     assert_eq!(ends_with(&draft, 11), (16, 0, 0, 11));
     assert_eq!(eleventh.open, pairs(&[(0, 0)]));
-    assert_eq!(noted(&eleventh.notes, 4, 3).len(), 10);
+    assert_eq!(noted_of(&draft, &eleventh).len(), 10);
     // A fork of two ways to one pair: `()? B` takes (0,0) and (1,0) and tries (1,0)
     // again, which has failed by then.
     let twice = above(free(b"()? B", 1), b'B', 1);
@@ -298,7 +294,7 @@ fn refusals_come_first() {
         (3, free(b"A", 3).with_skip(9, 0)),
         (4, free(b"(((((((((", 3)),
         (5, free(b"A)", 3)),
-        (6, free(b"(A*)*", 3)),
+        (6, free(b"((((A*)*)*)*)*", 3)),
         (7, free(b"(A{99}){99}", 3)),
         (8, free(b"A", 3).define(b'A', &held).define(b'A', &held)),
         (9, free(b"A", 3).measure(1, b'B', 0)),
@@ -420,8 +416,8 @@ impl<'a> Compared<'a> {
         assert_eq!(outcome.matches, cut.matches);
         assert_eq!(called.open, cut.open);
         assert_eq!(called.pairs_on_paths, cut.on_paths);
-        let (places, n) = (self.accepted.places.len(), self.accepted.n());
-        assert_eq!(noted(&called.notes, places, n), cut.failed);
+        let n = self.accepted.n();
+        assert_eq!(noted(&called.notes, &self.accepted, n), cut.failed);
         let counted = cut.failed.len() + cut.open.len();
         assert_eq!(outcome.steps, counted as u64 + called.pairs_on_paths);
         if allowance >= self.whole.outcome.steps {
@@ -479,7 +475,8 @@ impl<'a> Compared<'a> {
 
     /// 2P(n+1) steps are enough in mode 0, and the bound of the others is there.
     fn check_bound(&self) {
-        let (places, n) = (self.accepted.places.len() as u64, self.accepted.n() as u64);
+        let places = (self.accepted.places.len() * self.accepted.factor()) as u64;
+        let n = self.accepted.n() as u64;
         if self.accepted.query.skip == Skip::PastLastRow {
             assert_eq!(self.check(2 * places * (n + 1)), self.whole);
         }

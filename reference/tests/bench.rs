@@ -110,7 +110,13 @@ fn w8_and_w9() {
 
 #[test]
 fn w10_and_w11() {
-    assert_eq!(answer_of_text(b"(A*)*"), 6);
+    // By document 02, R-3.
+    assert_eq!(answer_of_text(b"(A*)*"), 0);
+    assert_eq!(places_of(b"(A*)*"), 4);
+    assert_eq!(
+        pattern::read(b"(A*)*").expect("in the language").factor(),
+        2
+    );
     assert_eq!(answer_of_text(b"(A?){3}"), 0);
     assert_eq!(places_of(b"(A?){3}"), 7);
     assert_eq!(places_of(b"(A+)+"), 8);
@@ -252,9 +258,12 @@ fn measures() {
 fn places_as_written() {
     use reference::places::{unroll, Place};
     let laid = |text: &[u8]| unroll(&pattern::judge(text).expect("not refused"));
-    let letter = |letter, next| Place::Letter { letter, next };
+    let letter = |letter, next: usize| Place::Letter {
+        letter,
+        next: next.into(),
+    };
     let fork = |ways: &[usize]| Place::Fork {
-        ways: ways.to_vec(),
+        ways: ways.iter().map(|&way| way.into()).collect(),
     };
     assert_eq!(laid(b"()"), [Place::End]);
     assert_eq!(
@@ -273,8 +282,8 @@ fn places_as_written() {
     let branches = [
         fork(&[1, 4, 3]),
         letter(b'A', 2),
-        Place::First { next: 4 },
-        Place::Last { next: 4 },
+        Place::First { next: 4.into() },
+        Place::Last { next: 4.into() },
         letter(b'B', 5),
         Place::End,
     ];

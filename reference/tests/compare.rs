@@ -44,7 +44,8 @@ fn check(input: &Input) -> Called {
 /// In mode 0 at most 2P(n+1) steps; in modes 1 to 3 at most Pn(n+3)/2, which is a
 /// whole number since n or n+3 is even.
 fn check_bound(accepted: &Accepted, steps: u64) {
-    let (places, n) = (accepted.places.len() as u64, accepted.n() as u64);
+    let places = (accepted.places.len() * accepted.factor()) as u64;
+    let n = accepted.n() as u64;
     match accepted.query.skip {
         Skip::PastLastRow => assert!(steps <= 2 * places * (n + 1)),
         _ => assert!(2 * steps <= places * n * (n + 3)),
@@ -313,10 +314,18 @@ impl Tree<'_> {
         labels: &mut Vec<u8>,
         then: Then,
     ) -> bool {
+        // In the unbounded part a round without a row ends the repetition.
+        let unbounded = factor.quantifier.high.is_none() && done >= factor.quantifier.low;
         let copy = |labels: &mut Vec<u8>, then: Then| {
-            self.primary(&factor.primary, at, labels, &mut |at, labels| {
-                self.factor(factor, done + 1, at, labels, then)
-            })
+            self.primary(
+                &factor.primary,
+                at,
+                labels,
+                &mut |behind, labels| match unbounded && behind == at {
+                    true => then(behind, labels),
+                    false => self.factor(factor, done + 1, behind, labels, then),
+                },
+            )
         };
         if done < factor.quantifier.low {
             return copy(labels, then);
@@ -376,13 +385,7 @@ fn compare_attempts(accepted: &Accepted) {
             Attempt::Match(path) => Some(path),
             _ => None,
         };
-        assert_eq!(
-            path,
-            calls.try_pair(Pair {
-                place: 0,
-                position: start
-            })
-        );
+        assert_eq!(path, calls.try_pair(Pair::new(0, start)));
         assert_eq!(counted.steps(), calls.steps);
         assert_eq!(counted.failed(), calls.failed);
         let labels = path
@@ -402,20 +405,21 @@ fn compare_attempts(accepted: &Accepted) {
         };
         assert_eq!(path, plain);
     }
-    check_failed_pairs(&ground, counted.failed());
+    check_failed_pairs(accepted, counted.failed());
 }
 
 /// A failed pair fails by plain backtracking too; none that succeeds is noted.
-fn check_failed_pairs(ground: &Ground, failed: &[bool]) {
-    for position in 0..=ground.held.row_count() {
-        for place in 0..ground.places.len() {
-            let pair = Pair { place, position };
-            if failed[ground.number(pair)] {
-                let attempt = Plain::new(*ground, 100_000).attempt_from(pair);
-                assert!(!matches!(attempt, Attempt::Match(_)));
-            }
+fn check_failed_pairs(accepted: &Accepted, failed: &[bool]) {
+    let ground = accepted.ground();
+    let mut of_pairs = 0;
+    for pair in every_pair(accepted, accepted.n()) {
+        if failed[ground.number(pair)] {
+            of_pairs += 1;
+            let attempt = Plain::new(ground, 100_000).attempt_from(pair);
+            assert!(!matches!(attempt, Attempt::Match(_)));
         }
     }
+    assert_eq!(of_pairs, failed.iter().filter(|failed| **failed).count());
 }
 
 #[test]

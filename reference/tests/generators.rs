@@ -206,7 +206,7 @@ fn small_inputs_are_small() {
         let input = mix::input(&mut random, &SMALL, number);
         let (answer, places, n) = search::room(&input.query, &input.rows);
         if answer == 0 {
-            assert!(n <= 6 && places * (n + 1) <= 120);
+            assert!(n <= 6 && places * (n + 1) * search::factor(&input.query) <= 120);
         }
     }
 }
@@ -253,7 +253,7 @@ fn texts_of_a_wanted_number_of_places() {
         let text = texts::with_places(places).expect("short enough");
         let tree = pattern::read(&text).expect("in the language");
         assert_eq!(tree.count_with_end(), places);
-        assert!(!tree.repeats_nothing_without_end());
+        assert_eq!(tree.nesting(), 0);
     }
     assert_eq!(texts::with_places(0), None);
     assert_eq!(texts::with_places(1 << 70), None);
@@ -312,9 +312,10 @@ fn every_beginning_with_a_byte_changed() {
             answers[usize::from(answer_of_text(&text))] += 1;
         }
     }
-    for answer in [0, 5, 6, 14] {
+    for answer in [0, 5, 14] {
         assert!(answers[answer] > 500, "{answers:?}");
     }
+    assert!(answers[6] > 50, "{answers:?}");
 }
 
 /// The answers with their offsets that braces bring, by how many bytes before the end.
@@ -357,7 +358,7 @@ fn texts_deep_and_long() {
 }
 
 /// How many pairs are noted as failed; the spare bits are 0.
-fn noted(called: &Called, pairs: usize) -> u32 {
+fn bits(called: &Called, pairs: usize) -> u32 {
     let notes = &called.notes[..pairs.div_ceil(8)];
     notes.iter().map(|byte| byte.count_ones()).sum()
 }
@@ -374,7 +375,8 @@ fn allowances_at_points() {
         };
         let (_, places, n) = search::room(&input.query, &input.rows);
         let run = |allowance| call(&input.within(allowance));
-        let noted = |called: &Called| noted(called, places * (n + 1));
+        let pairs = places * (n + 1) * search::factor(&input.query);
+        let noted = |called: &Called| bits(called, pairs);
         for (point, at) in allowances::points(&log) {
             seen.insert(point);
             let (called, before) = (run(at), run(at.saturating_sub(1)));

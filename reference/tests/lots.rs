@@ -132,17 +132,6 @@ fn from_scratch(accepted: &Accepted, input: &Input, last: bool) -> Done {
     done
 }
 
-/// The pairs whose bit is set.
-fn noted(notes: &[u8], places: usize, pairs: usize) -> BTreeSet<Pair> {
-    (0..pairs)
-        .filter(|bit| notes[bit / 8] >> (bit % 8) & 1 == 1)
-        .map(|bit| Pair {
-            place: bit % places,
-            position: bit / places,
-        })
-        .collect()
-}
-
 /// The refusal of a call by the papers' order, apart from those after the end; each is
 /// judged for itself and the first in the order is taken.
 fn refusal(cut: &Cut, call: &Call, before: u64) -> Option<u8> {
@@ -169,7 +158,7 @@ fn refusal(cut: &Cut, call: &Call, before: u64) -> Option<u8> {
     if named || call.present > slice || call.entries % columns != 0 {
         return Some(10);
     }
-    let pairs = accepted.places.len() * (cut.largest as usize + 1);
+    let pairs = accepted.places.len() * (cut.largest as usize + 1) * accepted.factor();
     match () {
         () if cut.input.notes * 8 < pairs => Some(11),
         () if cut.input.trail < pairs => Some(12),
@@ -221,9 +210,9 @@ fn check_walked(cut: &Cut, call: &Call, outcome: Outcome, feed: &Feed, lent: &Le
         (done.matches, done.labels.len() as u64, 0)
     );
     assert_eq!(lent.labels[..done.labels.len()], done.labels[..]);
-    let places = accepted.places.len();
-    let pairs = places * (cut.largest as usize + 1);
-    assert_eq!(noted(&lent.notes, places, pairs), done.failed);
+    let largest = cut.largest as usize;
+    let pairs = accepted.places.len() * (largest + 1) * accepted.factor();
+    assert_eq!(noted(&lent.notes, &accepted, largest), done.failed);
     let spare = pairs..pairs.next_multiple_of(8);
     assert!(spare
         .into_iter()

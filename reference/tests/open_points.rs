@@ -7,7 +7,7 @@ use common::*;
 use reference::generate::draft::{define_body, with_column, with_number, Draft, Room, Tail};
 use reference::generate::stdin;
 use reference::pattern;
-use reference::places::{unroll, Place};
+use reference::places::{unroll, Place, Way};
 use reference::program::program;
 use reference::query::{DEFINE, MEASURE, SHAPE, SKIP, TEXT};
 use reference::search;
@@ -41,16 +41,16 @@ fn point_1_over_the_whole_query() {
 fn point_1_each_next_answer() {
     // One cause after another is taken away; the answer climbs each time.
     let one = [with_number(0, 0, 1, 0)];
-    let mut draft = Draft::new(2, b"(A?)* (A{99}){99} )", vec![1])
+    let mut draft = Draft::new(2, b"(((^*)*)*)* (A{99}){99} )", vec![1])
         .define(b'Q', &one)
         .define(b'Q', &one)
         .measure(1, b'B', 0);
     draft.notes = Room::Nothing;
     draft.trail = Room::Nothing;
     assert_eq!(answer(&draft), 5);
-    *draft.body_mut(TEXT).unwrap() = b"(A?)* (A{99}){99}".to_vec();
+    *draft.body_mut(TEXT).unwrap() = b"(((^*)*)*)* (A{99}){99}".to_vec();
     assert_eq!(answer(&draft), 6);
-    *draft.body_mut(TEXT).unwrap() = b"(A?) (A{99}){99}".to_vec();
+    *draft.body_mut(TEXT).unwrap() = b"((^*)*)* (A{99}){99}".to_vec();
     assert_eq!(answer(&draft), 7);
     *draft.body_mut(TEXT).unwrap() = b"(A?) (A{9}){9}".to_vec();
     assert_eq!(answer(&draft), 8);
@@ -182,19 +182,15 @@ fn point_7_anchors_and_six_before_seven() {
     for text in ["^?", "(){99}", "()?", "${2}", "^{,3}", "()??", "(()){5}"] {
         assert_eq!(answer_of_text(text.as_bytes()), 0, "{text}");
     }
-    for text in [
-        "^*",
-        "$+",
-        "(){3,}",
-        "()*",
-        "((A?){99}){3,}",
-        "(A|())+",
-        "(A* B?)*?",
-    ] {
-        assert_eq!(answer_of_text(text.as_bytes()), 6, "{text}");
+    for text in ["^*", "$+", "(){3,}", "()*", "(A|())+", "(A* B?)*?"] {
+        assert_eq!(answer_of_text(text.as_bytes()), 0, "{text}");
     }
-    let both = pattern::read(b"((A?){99}){3,}").unwrap();
-    assert!(both.repeats_nothing_without_end() && both.count_with_end() > 256);
+    // Four repetitions of nothing in one another, and more than 256 places.
+    let both = b"(((((A?){99}){3,})*)*)*";
+    assert_eq!(answer_of_text(both), 6);
+    let both = pattern::read(both).unwrap();
+    assert!(both.nesting() == 4 && both.count_with_end() > 256);
+    assert_eq!(answer_of_text(b"((A?){99}){3,}"), 7);
 }
 
 #[test]
@@ -211,7 +207,7 @@ fn point_8_the_empty_pattern() {
 #[test]
 fn point_9_one_fork_of_many_ways() {
     let places = unroll(&pattern::read(b"A|B|C|D").unwrap());
-    let ways = vec![1, 2, 3, 4];
+    let ways = [1, 2, 3, 4].map(Way::To).to_vec();
     assert_eq!(places[0], Place::Fork { ways });
     assert_eq!(places.len(), 6);
 }

@@ -96,7 +96,7 @@ fn pairs(stdin: &[u8]) -> usize {
     let number = |four: &[u8]| i32::from_le_bytes([four[0], four[1], four[2], four[3]]);
     let rows: Vec<i32> = row_bytes.chunks_exact(4).map(number).collect();
     match search::room(behind_length(query), &rows) {
-        (DONE, places, n) => places * (n + 1),
+        (DONE, places, n) => places * (n + 1) * search::factor(behind_length(query)),
         _ => 0,
     }
 }

@@ -99,7 +99,7 @@ fn pairs(stdin: &[u8]) -> usize {
         .map(|word| i32::from_le_bytes([word[0], word[1], word[2], word[3]]))
         .collect();
     let (_, places, n) = search::room(query, &rows);
-    places * (n + 1)
+    places * (n + 1) * search::factor(query)
 }
 
 fn list<T: Display>(items: &[T]) -> String {

@@ -76,8 +76,8 @@ pub fn points(log: &Log) -> Vec<(Point, u64)> {
 /// too many pairs.
 pub fn log_of(input: &Input) -> Option<Log> {
     let accepted = search::accept(&input.query, &input.rows).ok()?;
-    let (notes, trail) = search::working_room(accepted.places.len(), accepted.n());
-    if input.notes < notes || input.trail < trail {
+    let pairs = accepted.ground().pairs();
+    if input.notes < pairs.div_ceil(8) || input.trail < pairs {
         return None;
     }
     Log::new(&accepted, input.numbers, input.labels)

@@ -31,11 +31,16 @@ pub fn with_a_byte_changed(text: Vec<u8>) -> impl Iterator<Item = Vec<u8>> {
     })
 }
 
-/// A text of the language, one in four with larger bounds.
+/// A text of the language, one in five with larger bounds, one with repetitions nested in
+/// one another.
 pub fn good(random: &mut Random) -> Vec<u8> {
     loop {
-        let text = match random.below(4) {
+        let text = match random.below(5) {
             0 => with_large_bounds(random),
+            1 => {
+                let deep = 2 + random.below(4);
+                texts::nested(random, deep)
+            }
             _ => texts::accepted(random, 256),
         };
         if text.len() <= LONGEST {
@@ -80,7 +85,7 @@ pub fn braces() -> impl Iterator<Item = Vec<u8>> {
 
 /// What stands before the parentheses: nothing, good, wrong or unfinished texts, and ones that are
 /// a 6 or a 7 where the whole is in the language.
-const FRONTS: [&[u8]; 11] = [
+const FRONTS: [&[u8]; 12] = [
     b"",
     b"A",
     b")",
@@ -90,7 +95,8 @@ const FRONTS: [&[u8]; 11] = [
     b"A{0,0}",
     b"A{3,2",
     b"()",
-    b"(A*)*",
+    b"(((A*)*)*)*",
+    b"((((A*)*)*)*)*",
     b"(A{99}){99}",
 ];
 

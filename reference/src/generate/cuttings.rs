@@ -71,7 +71,8 @@ pub fn with_largest(draft: &Draft, largest: u64, rooms: [Room; 4]) -> Input {
     let [_, _, numbers, labels] = draft.needs();
     let query = draft.query();
     let places = search::room(&query, &[]).1;
-    let (notes, trail) = search::working_room(places, largest.min(5_000) as usize);
+    let rows = largest.min(5_000) as usize;
+    let (notes, trail) = search::working_room(places, rows, search::factor(&query));
     let needs = [notes, trail, numbers, labels];
     let length = |at: usize| rooms[at].length(needs[at]);
     draft.with_lengths([length(0), length(1), length(2), length(3)])
@@ -223,7 +224,7 @@ pub fn random(random: &mut Random, size: &Size, number: usize) -> Cut {
 }
 
 /// Patterns without `$` in which the order of ways tells, with empty matches and `^`.
-pub const TEXTS: [&[u8]; 16] = [
+pub const TEXTS: [&[u8]; 20] = [
     b"A B",
     b"A | A B",
     b"A* B",
@@ -240,6 +241,10 @@ pub const TEXTS: [&[u8]; 16] = [
     b"(() | A){,2} B",
     b"(A?){3} B",
     b"A{2} | B{2}",
+    b"(A*)* B",
+    b"(A??)*? B",
+    b"((A?)*|B)* A",
+    b"(^|A)* B",
 ];
 
 /// One record of each sort that looks ahead, in a letter of the pattern or not, and a

@@ -261,7 +261,7 @@ impl Draft {
         if answer != DONE {
             return [2, 3, 4, 5];
         }
-        let (notes, trail) = search::working_room(places, n);
+        let (notes, trail) = search::working_room(places, n, search::factor(&query));
         let (numbers, labels) = report_needs(&query, &self.rows, notes, trail);
         [notes, trail, numbers, labels]
     }

@@ -1,8 +1,8 @@
 //! Inputs at the limits that document 01 states, and one beyond each: places,
 //! parentheses, text bytes, DEFINEs, comparisons, measures, offsets, rows; and
 //! texts that the judgement of texts easily gets wrong. The large searches that go
-//! on at a labelled row are from document 02, R-2, those with averages from R-5, and
-//! records of kind 6 from R-7.
+//! on at a labelled row are from document 02, R-2, those with the factor F from R-3,
+//! those with averages from R-5, and records of kind 6 from R-7.
 
 use super::conditions::{self, compare, operator, Entry};
 use super::draft::{with_column, with_number, Draft, Room};
@@ -11,7 +11,7 @@ use crate::query::{AND, COMPARE, COMPARISON_BYTES, CONDITION, NOT};
 
 /// All of them. Some are large: 1,048,832 pairs, or 8,390,656 labels.
 pub fn all() -> Vec<Draft> {
-    [small(), of_large_searches()].concat()
+    [small(), of_large_searches(), of_nested_repetitions()].concat()
 }
 
 /// All but the large searches.
@@ -36,7 +36,7 @@ pub fn of_texts() -> Vec<Draft> {
 }
 
 pub fn limit_texts() -> Vec<Vec<u8>> {
-    let written: [&[u8]; 26] = [
+    let written: [&[u8]; 38] = [
         b"(A{51}){5}",
         b"(A{16}){16}",
         b"A{99} A{99} A{57}",
@@ -63,6 +63,19 @@ pub fn limit_texts() -> Vec<Vec<u8>> {
         b"(A*){99} (A*){28} A A",
         b"((((((((A{2}){2}){2}){2}){2}){2}){2}){2})",
         b"(((((((A{2}){2}){2}){2}){2}){2}){2})",
+        // Repetitions of nothing, three and four in one another, and with 256 places.
+        b"(((A*)*)*)*",
+        b"((((A*)*)*)*)*",
+        b"(((()*)*)*)",
+        b"(((()*)*)*)*",
+        b"((((A?)*)*)* B)*",
+        b"((((A?)*)*)* B?)*",
+        b"(((A?)*)*)* (((A?)*)*)*",
+        b"((A?){127})*",
+        b"((A?){128})*",
+        b"(((A?){42})*)* (A{50}){3} B{18}",
+        b"((((A?){99})*)*)* A{54}",
+        b"((((A?){99})*)*)* A{55}",
     ];
     let mut limit: Vec<Vec<u8>> = written.iter().map(|text| text.to_vec()).collect();
     limit.push(texts::largest());
@@ -249,6 +262,17 @@ pub fn of_large_searches() -> Vec<Draft> {
     drafts.extend(to_labelled_rows());
     drafts.extend(averages());
     drafts
+}
+
+/// Large searches with the factor F: 1,048,832 pairs by F, and long walks of which each
+/// round takes a row or ends the repetition.
+pub fn of_nested_repetitions() -> Vec<Draft> {
+    let never = with_number(0, 0, 1, 0);
+    vec![
+        Draft::new(1, b"(((A?)*)*)* B", ones(2_000)).define(b'B', &[never]),
+        Draft::new(1, b"((A??)*? B?)*?", ones(1_000)).to_next_row(),
+        Draft::new(1, b"((((A?){14})*)*)*", ones(4_096)),
+    ]
 }
 
 /// Matches of 4,096 rows with sums at both ends, one beside them, and 2,048 below 0.

@@ -153,7 +153,7 @@ pub fn needs(rows: &[i32]) -> [usize; 4] {
     if answer != 0 {
         return [2, 3, 4, 5];
     }
-    let (notes, trail) = search::working_room(places, n);
+    let (notes, trail) = search::working_room(places, n, 1);
     let (mut numbers, mut labels) = (vec![0; 3], vec![0; n]);
     let outcome = search::search(
         &desk::query(),

@@ -6,7 +6,7 @@ use super::damage::{damage, damage_twice};
 use super::draft::{self, Draft, Input, Numbers, Room, Size};
 use super::random::Random;
 use super::texts;
-use crate::pattern;
+use crate::pattern::{self, Pattern};
 
 /// The input with this number in the stream.
 pub fn input(random: &mut Random, size: &Size, number: usize) -> Input {
@@ -74,7 +74,8 @@ pub fn near_limit(random: &mut Random, size: &Size) -> Draft {
 }
 
 fn on_many_rows(random: &mut Random, size: &Size, text: &[u8]) -> Draft {
-    let places = pattern::judge(text).map_or(1, |tree| tree.count_with_end());
+    let with_factor = |tree: Pattern| tree.count_with_end() * tree.factor() as u128;
+    let places = pattern::judge(text).map_or(1, with_factor);
     let most_rows = (size.pairs / places as usize)
         .saturating_sub(1)
         .min(size.rows);

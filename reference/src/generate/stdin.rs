@@ -1,6 +1,6 @@
 //! Standard inputs for the program: a length, a query and rows, whole or cut,
 //! and those that it prints `too large` for. From document 01, "Report"; those
-//! that end in a 15 are from document 02, R-2, averages from R-5.
+//! that end in a 15 are from document 02, R-2, the factor F from R-3, averages from R-5.
 
 use super::draft::{Draft, Input, Numbers, Size, MIDDLE, SMALL};
 use super::random::Random;
@@ -124,6 +124,13 @@ fn many_pairs(random: &mut Random) -> Vec<u8> {
         (&b"(A{50}){4} A{49}"[..], 63),
         (&b"(A{50}){4} A{49}"[..], 64),
         (&b"(A{16}){16}"[..], 64),
+        // P is 4 and F 2; 8 and 8.
+        (&b"(A*)*"[..], 1_999),
+        (&b"(A*)*"[..], 2_000),
+        (&b"(((A*)*)* B?)"[..], 570),
+        (&b"(((A*)*)*)* B"[..], 284),
+        (&b"(((A*)*)*)* B"[..], 285),
+        (&b"(((A*)*)*)* B"[..], 286),
     ]);
     of_input(&Draft::new(1, text, vec![1; n]).finish())
 }

@@ -1,6 +1,7 @@
 //! Pattern texts: random trees written with random spaces and forms, texts that
 //! are refused with each of the answers 4 to 7 and 14, adversarial ones, and all
-//! texts over a small alphabet. From document 01, "Pattern language".
+//! texts over a small alphabet. From document 01, "Pattern language"; repetitions of
+//! bodies that can take no row, nested in one another or not, from document 02, R-3.
 
 use super::random::Random;
 use crate::pattern::{self, Branch, Factor, Pattern, Primary, Quantifier, ONCE};
@@ -25,7 +26,7 @@ pub fn shape(random: &mut Random) -> Shape {
         branches: 1 + random.below(3),
         factors: 1 + random.below(4),
         bound: random.pick(&[1, 2, 3, 3, 5]),
-        endless: false,
+        endless: random.chance(30),
     }
 }
 
@@ -176,7 +177,7 @@ fn form(random: &mut Random, quantifier: Quantifier) -> Vec<u8> {
     (random.pick(&forms) + mark).into_bytes()
 }
 
-/// A text that is not refused, with at most the given number of places.
+/// A text that is not refused, with at most the given number of places times F.
 pub fn accepted(random: &mut Random, most_places: u128) -> Vec<u8> {
     for _ in 0..100 {
         let shape = shape(random);
@@ -193,7 +194,7 @@ pub fn accepted(random: &mut Random, most_places: u128) -> Vec<u8> {
 }
 
 fn fits(text: &[u8], most_places: u128) -> bool {
-    let few_places = |tree: Pattern| tree.count_with_end() <= most_places;
+    let few_places = |tree: Pattern| tree.count_with_end() * tree.factor() as u128 <= most_places;
     text.len() <= MOST_TEXT && pattern::judge(text).is_ok_and(few_places)
 }
 
@@ -204,7 +205,7 @@ pub fn refused(random: &mut Random, answer: u8) -> Vec<u8> {
             4 => too_deep(random),
             5 => outside(random),
             14 => unfinished(random),
-            6 => endless(random),
+            6 => too_nested(random),
             _ => too_many_places(random),
         };
         if text.len() <= MOST_TEXT && pattern::judge(&text).err() == Some(answer) {
@@ -362,34 +363,53 @@ pub fn heap(random: &mut Random) -> Vec<u8> {
         .collect()
 }
 
-const ENDLESS: [&[u8]; 14] = [
-    b"(A*)*",
-    b"^*",
-    b"$+",
-    b"(){3,}",
-    b"()*",
-    b"(A?){0,}",
-    b"((A?){99}){3,}",
-    b"(A|B*)+",
-    b"(A|())*?",
-    b"(^ $)*",
-    b"(A{,3} B?)+?",
-    b"((A B)?)*",
-    b"A ((B|C{0,2})+) D",
-    b"(()*)*",
+/// More than three repetitions of nothing in one another; some have too many places too.
+const TOO_NESTED: [&[u8]; 12] = [
+    b"((((A*)*)*)*)*",
+    b"(((^*)*)*)*",
+    b"(((()*)+){2,})*",
+    b"((((A?)*)+?){3,}?)*",
+    b"A ((((B|())* C?)* | D)+ A??)* B",
+    b"(((((A?){99})*)*)*)*",
+    b"((((((((A*)*)*)*)*)*)*)*)",
+    b"((((A??)*?)*?)*?)*?",
+    b"(((($)*)*)*){0,} A",
+    b"((((A*)*)*)* B?)*",
+    b"((((A|B*)*)*)*)*",
+    b"(((A?)*)*){2} ((((A?)*)*)*)+",
 ];
 
-fn endless(random: &mut Random) -> Vec<u8> {
+/// Four or more of them around a body.
+fn too_nested(random: &mut Random) -> Vec<u8> {
     if random.chance(40) {
-        return random.pick(&ENDLESS).to_vec();
+        return random.pick(&TOO_NESTED).to_vec();
     }
-    let shape = Shape {
-        endless: true,
-        depth: 3,
-        ..shape(random)
-    };
-    let tree = tree(random, &shape);
-    write(random, &tree, 10)
+    let deep = 4 + random.below(3);
+    let body = nested(random, deep);
+    match random.chance(50) {
+        true => body,
+        false => [b"A? ", &body[..], b" | B"].concat(),
+    }
+}
+
+/// So many repetitions of nothing in one another, each around the one before and perhaps
+/// something beside it that can take no row.
+pub fn nested(random: &mut Random, deep: usize) -> Vec<u8> {
+    let bodies: [&[u8]; 10] = [
+        b"A?", b"A??", b"A*", b"B*?", b"()", b"^", b"A|()", b"()|B", b"A? B?", b"(A|B)?",
+    ];
+    let mut text = random.pick(&bodies).to_vec();
+    for _ in 0..deep {
+        let quantifier = random.pick(&[&b"*"[..], b"*", b"*?", b"+", b"+?", b"{0,}", b"{2,}?"]);
+        text = match random.below(6) {
+            0 => [b"(", &text[..], b"|A)", quantifier].concat(),
+            1 => [b"(B|", &text[..], b")", quantifier].concat(),
+            2 => [b"((", &text[..], b") A?)", quantifier].concat(),
+            3 => [b"(B?? (", &text[..], b"))", quantifier].concat(),
+            _ => [b"(", &text[..], b")", quantifier].concat(),
+        };
+    }
+    text
 }
 
 const MANY: [&[u8]; 8] = [
@@ -514,13 +534,64 @@ pub const ADVERSARIAL: [&[u8]; 32] = [
     b"(A ^)+ | B",
 ];
 
-/// An adversarial text with at most so many places: one of the list, or one
-/// with a repeat count of its own. None if neither is small enough.
+/// Repetitions of bodies that can take no row: with anchors and `()`, reluctant ones, in
+/// one another, beside one another and with something behind them.
+pub const NESTED: [&[u8]; 40] = [
+    b"(A*)*",
+    b"(A*)* B",
+    b"(A??)*",
+    b"(A??)* B",
+    b"(A?)*? B",
+    b"(A*)+",
+    b"(A|B*)+ A",
+    b"(A|())* B",
+    b"(()|A)* B",
+    b"(()|A)*? B",
+    b"()*",
+    b"()*? A",
+    b"(){3,} A",
+    b"^* A",
+    b"(^|A)* B",
+    b"(A ^?)* B",
+    b"$* A",
+    b"(A|$)*",
+    b"((A|B)* $?)*",
+    b"(A? B?)*",
+    b"(A?? B??)*? A",
+    b"(A B | A?)* B",
+    b"((A*)*)*",
+    b"((A?)*)* B",
+    b"((A??)*?)* B",
+    b"((A*)* B?)*",
+    b"((A|B*)*|())* A",
+    b"(((A?)*)*)*",
+    b"(((A?)* B?)* A?)* B",
+    b"(((A??)*?)*?)*? B",
+    b"(((()|A)*|B)*)*",
+    b"(A*)* (B*)*",
+    b"((A*)*){2}",
+    b"((A*)* B){1,2}",
+    b"(A?){2,} B",
+    b"((A?){2,}|B)*",
+    b"((^ A)*|B)* A",
+    b"(A (B?)* A)*",
+    b"(A (B?)* | B)* A",
+    b"(()*)*",
+];
+
+/// An adversarial text with at most so many places times F: one of the lists, or one
+/// with a repeat count of its own, or nested at random. None if none is small enough.
 pub fn adversarial(random: &mut Random, most_places: u128) -> Option<Vec<u8>> {
     for _ in 0..20 {
-        let text = match random.chance(50) {
-            true => random.pick(&ADVERSARIAL).to_vec(),
-            false => adversarial_with_count(random),
+        let text = match random.below(8) {
+            0..=2 => random.pick(&ADVERSARIAL).to_vec(),
+            3 => random.pick(&NESTED).to_vec(),
+            4 => {
+                let deep = 1 + random.below(3);
+                let body = nested(random, deep);
+                random.pick(&[body.clone(), [&body[..], b" B"].concat()])
+            }
+            _ => adversarial_with_count(random),
         };
         if fits(&text, most_places) {
             return Some(text);
@@ -567,7 +638,11 @@ fn digits(mut number: usize, length: usize, alphabet: &[u8]) -> Vec<u8> {
 pub fn any(random: &mut Random) -> Vec<u8> {
     let text = match random.below(20) {
         0..=6 => accepted(random, 256),
-        7..=8 => endless(random),
+        7 => too_nested(random),
+        8 => {
+            let deep = random.below(5);
+            nested(random, deep)
+        }
         9..=11 => {
             let text = accepted(random, 60);
             mutated(random, text)

@@ -4,8 +4,9 @@
 #![allow(dead_code)]
 
 use reference::generate::draft::{with_number, Draft, Input};
-use reference::search::{self, Outcome};
+use reference::search::{self, Accepted, Outcome};
 use reference::walk::{Attempt, Pair};
+use std::collections::BTreeSet;
 
 /// What every index of a buffer holds before a call.
 pub const FILL: u8 = 7;
@@ -67,6 +68,40 @@ pub fn call_plain(input: &Input, patience: u64) -> Option<(Outcome, Vec<i64>, Ve
         patience,
     )?;
     Some((outcome, numbers, labels))
+}
+
+/// All pairs that there are up to a position, with all flags that their places have.
+pub fn every_pair(accepted: &Accepted, last: usize) -> Vec<Pair> {
+    let flags = |place: usize, packed: usize| {
+        let count = accepted.rounds[place].len();
+        std::array::from_fn(|at| at < count && packed >> at & 1 == 1)
+    };
+    let at = |position: usize| {
+        (0..accepted.places.len()).flat_map(move |place| {
+            (0..1 << accepted.rounds[place].len()).map(move |packed| Pair {
+                place,
+                position,
+                flags: flags(place, packed),
+            })
+        })
+    };
+    (0..=last).flat_map(at).collect()
+}
+
+/// The pairs noted as failed, by their bits up to a position; no other bit is set.
+pub fn noted(notes: &[u8], accepted: &Accepted, last: usize) -> BTreeSet<Pair> {
+    let (places, factor) = (accepted.places.len(), accepted.factor());
+    let is_noted = |pair: &Pair| {
+        let packed = (0..3).map(|at| usize::from(pair.flags[at]) << at);
+        let bit = (pair.position * places + pair.place) * factor + packed.sum::<usize>();
+        notes[bit / 8] >> (bit % 8) & 1 == 1
+    };
+    let all = every_pair(accepted, last).into_iter();
+    let found: BTreeSet<Pair> = all.filter(is_noted).collect();
+    let bytes = (places * (last + 1) * factor).div_ceil(8);
+    let ones: u32 = notes[..bytes].iter().map(|byte| byte.count_ones()).sum();
+    assert_eq!(ones as usize, found.len(), "a bit of no pair is set");
+    found
 }
 
 /// The answer for a query that is otherwise right, with this text.

@@ -29,7 +29,8 @@ impl Engine for Reference {
 
     fn room(&self, lent: &mut Lent) -> Five {
         let (answer, places, n) = search::room(lent.query.items(), lent.rows.items());
-        let (_, pairs) = search::working_room(places, n);
+        let factor = search::factor(lent.query.items());
+        let (_, pairs) = search::working_room(places, n, factor);
         let offset = search::offset(lent.query.items(), answer);
         [answer.into(), places as u64, n as u64, pairs as u64, offset]
     }

@@ -251,10 +251,10 @@ impl Search<'_> {
         *self.returned = [answer, 0, 0, 0, 0];
     }
 
-    /// P and P(n+1), where the search ended.
+    /// PF and P(n+1)F, where the search ended.
     fn sizes(&self) -> Option<(usize, usize)> {
         let accepted = self.accepted.as_ref().filter(|_| self.ended())?;
-        let places = accepted.places.len();
+        let places = accepted.places.len() * accepted.factor();
         Some((places, places * (accepted.n() + 1)))
     }
 
@@ -602,7 +602,7 @@ static FAULTS: [Fault; 90] = [
         "a short trail comes before short notes",
         |search| {
             if let (true, Some(accepted)) = (search.is(11), &search.accepted) {
-                if search.lent.trail.len() < accepted.places.len() * (accepted.n() + 1) {
+                if search.lent.trail.len() < accepted.ground().pairs() {
                     search.returned[0] = 12;
                 }
             }

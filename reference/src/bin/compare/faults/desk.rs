@@ -78,7 +78,7 @@ impl Desk<'_> {
             return;
         }
         let n = self.rows().len();
-        let (notes, trail) = search::working_room(20, n);
+        let (notes, trail) = search::working_room(20, n, 1);
         let outcome = search::search(
             &wanted.query(1),
             self.before.rows.items(),
