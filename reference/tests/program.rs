@@ -9,7 +9,7 @@ use reference::search::{self, DONE, STUCK};
 
 type Fault = fn(&[u8]) -> Vec<u8>;
 
-const FAULTS: [(&str, Fault); 12] = [
+const FAULTS: [(&str, Fault); 14] = [
     ("reads a byte too little", |stdin| {
         program(start(stdin, 2 + LONGEST_QUERY + MOST_ROW_BYTES))
     }),
@@ -31,6 +31,18 @@ const FAULTS: [(&str, Fault); 12] = [
     ("16,000 pairs are too large", |stdin| match pairs(stdin) {
         MOST_PAIRS => b"too large\n".to_vec(),
         _ => program(stdin),
+    }),
+    ("pairs without the factor F", |stdin| {
+        match pairs(stdin) > MOST_PAIRS && pairs(stdin) / factor(stdin) <= MOST_PAIRS {
+            true => b"matches 0 steps 0\n".to_vec(),
+            false => program(stdin),
+        }
+    }),
+    ("pairs with a factor of 8", |stdin| {
+        match pairs(stdin) / factor(stdin).max(1) * 8 > MOST_PAIRS {
+            true => b"too large\n".to_vec(),
+            false => program(stdin),
+        }
     }),
     ("more than 16,000 pairs before a refusal", |stdin| {
         let cut = !(stdin.len() - rows_at(stdin)).is_multiple_of(4);
@@ -99,6 +111,11 @@ fn pairs(stdin: &[u8]) -> usize {
         (DONE, places, n) => places * (n + 1) * search::factor(behind_length(query)),
         _ => 0,
     }
+}
+
+fn factor(stdin: &[u8]) -> usize {
+    let (query, _) = stdin.split_at(rows_at(stdin));
+    search::factor(behind_length(query))
 }
 
 /// The answer of the search that the program makes, or of one with less room.

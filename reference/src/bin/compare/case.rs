@@ -5,7 +5,7 @@
 //! Of reports that are derived from one another (document 02, R-9) both are the
 //! product's own.
 
-use crate::engine::{Engine, Five, Reference};
+use crate::engine::{Engine, Reference, Six};
 use crate::lent::Lent;
 use reference::derive::{self, Written};
 use reference::generate::Input;
@@ -16,7 +16,7 @@ use std::sync::atomic::{AtomicUsize, Ordering};
 pub static CALLS: AtomicUsize = AtomicUsize::new(0);
 
 /// What a call returned, and what was lent to it as it left that.
-pub type Ran = (Five, Lent);
+pub type Ran = (Six, Lent);
 
 #[derive(Clone, Copy, Debug, PartialEq, Eq)]
 pub enum Call {
@@ -78,7 +78,7 @@ impl Case {
     pub fn names(&self) -> &'static [&'static str] {
         match self.call {
             Call::Search => &["answer", "matches", "labels", "steps", "offset"],
-            Call::Room => &["answer", "P", "n", "pairs", "offset"],
+            Call::Room => &["answer", "P", "n", "pairs", "offset", "F"],
             Call::Test { .. } => &["answer", "holds", "judged", "offset"],
             Call::Desk => &["answer", "verdict", "found", "row"],
             Call::Derive => &["answer", "matches", "labels"],
@@ -97,7 +97,7 @@ fn derived(product: &dyn Engine, mut lent: Lent) -> [Ran; 2] {
     let mut expected = lent.clone();
     CALLS.fetch_add(2, Ordering::Relaxed);
     let [answer, matches, labels, ..] = product.search(&mut lent);
-    let returned = [answer, matches, labels, 0, 0];
+    let returned = [answer, matches, labels, 0, 0, 0];
     let [answer, matches, labels, ..] = product.search(&mut other);
     let per_match = query::read(lent.query.items()).map_or(3, |it| 3 + 2 * it.measures.len());
     let written = Written {
@@ -105,7 +105,7 @@ fn derived(product: &dyn Engine, mut lent: Lent) -> [Ran; 2] {
         labels: first(other.labels.items(), labels as usize),
         matches,
     };
-    let mut wanted = [answer, 0, 0, 0, 0];
+    let mut wanted = [answer, 0, 0, 0, 0, 0];
     if search::was_walked(answer as u8) {
         let taken = derive::past_last_row(&written, per_match);
         wanted[1] = taken.matches;

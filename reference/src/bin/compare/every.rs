@@ -2,7 +2,7 @@
 //! by the reference. A text is put where the one before lay in what both are lent,
 //! so that nothing is made anew for each: 12 million texts of up to 6 bytes take
 //! less than a minute. Promised for each text is what a case of room compares: the
-//! five numbers, query and rows with their zones. Weaknesses: room only, one row,
+//! six numbers, query and rows with their zones. Weaknesses: room only, one row,
 //! no DEFINE; and a block of texts lies at the same address between the same noise.
 
 use crate::case::{Call, Case, CALLS};

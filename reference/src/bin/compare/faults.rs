@@ -4,15 +4,16 @@
 //! or leaves. Each has to be found and shrunk. Those of searches within an allowance
 //! stand in `allowance`, those of averages in `average`, those of conditions in
 //! `condition`, those of tests of a letter in `tested`, those of the release desk in
-//! `desk`.
+//! `desk`, those of repetitions of nothing in `nested`.
 
 mod allowance;
 mod average;
 mod condition;
 mod desk;
+mod nested;
 mod tested;
 
-use crate::engine::{five, Engine, Five};
+use crate::engine::{six, Engine, Six};
 use crate::lent::{Guarded, Lent};
 use reference::generate::Random;
 use reference::letters::Held;
@@ -44,23 +45,25 @@ enum Wrong {
     Stops(fn(&Event) -> bool),
     /// Judges conditions in another way, and the reference searches by that.
     Means(condition::Holds),
+    /// Lays the places in another way, and the reference searches on those.
+    Lays(fn(&mut Accepted)),
     /// Ends a search in another way.
     Ends(fn(&mut Search)),
     /// Judges room in another way.
-    Judges(fn(&mut Five, &Lent)),
+    Judges(fn(&mut Six, &Lent)),
     /// Tests a letter in another way.
-    Tests(fn(&mut Five, &tested::Test)),
+    Tests(fn(&mut Six, &tested::Test)),
     /// Judges the rows of a log in another way.
     Decides(fn(&mut desk::Desk)),
     /// Tells of a pattern's text in another way, by any call, where 1 to 3 do not apply.
-    Tells(fn(&mut Five, &[u8])),
+    Tells(fn(&mut Six, &[u8])),
 }
 
 /// A search that was right so far.
 struct Search<'a> {
     before: &'a Lent,
     lent: &'a mut Lent,
-    returned: &'a mut Five,
+    returned: &'a mut Six,
     /// Where the query and the rows have none of the answers 1 to 10.
     accepted: Option<Accepted>,
 }
@@ -72,7 +75,7 @@ pub struct Faulty<'a> {
 }
 
 impl Engine for Faulty<'_> {
-    fn search(&self, lent: &mut Lent) -> Five {
+    fn search(&self, lent: &mut Lent) -> Six {
         let before = lent.clone();
         let mut returned = self.called(lent, |lent| self.allowed(lent));
         let mut search = Search {
@@ -86,13 +89,14 @@ impl Engine for Faulty<'_> {
             Wrong::GoesOn(rule) => search.go_on_by(rule),
             Wrong::Stops(wrong) => search.stop_before(wrong),
             Wrong::Means(wrong) => search.mean(wrong),
+            Wrong::Lays(wrong) => search.lay(wrong),
             _ => {}
         }
         self.told(&mut returned, &before);
         returned
     }
 
-    fn room(&self, lent: &mut Lent) -> Five {
+    fn room(&self, lent: &mut Lent) -> Six {
         let mut returned = self.called(lent, |lent| self.engine.room(lent));
         if let Wrong::Judges(wrong) = self.fault.wrong {
             wrong(&mut returned, lent);
@@ -101,7 +105,7 @@ impl Engine for Faulty<'_> {
         returned
     }
 
-    fn test(&self, lent: &mut Lent, letter: u8, row: u64) -> Five {
+    fn test(&self, lent: &mut Lent, letter: u8, row: u64) -> Six {
         let mut returned = self.called(lent, |lent| self.engine.test(lent, letter, row));
         if let Wrong::Tests(wrong) = self.fault.wrong {
             wrong(&mut returned, &tested::Test::new(lent, letter, row));
@@ -109,7 +113,7 @@ impl Engine for Faulty<'_> {
         returned
     }
 
-    fn desk(&self, lent: &mut Lent) -> Five {
+    fn desk(&self, lent: &mut Lent) -> Six {
         let before = lent.clone();
         let mut returned = self.called(lent, |lent| self.engine.desk(lent));
         if let Wrong::Decides(wrong) = self.fault.wrong {
@@ -125,7 +129,7 @@ impl Engine for Faulty<'_> {
 
 impl Faulty<'_> {
     /// A call with what the engine reads in the place of query and rows.
-    fn called(&self, lent: &mut Lent, call: impl Fn(&mut Lent) -> Five) -> Five {
+    fn called(&self, lent: &mut Lent, call: impl Fn(&mut Lent) -> Six) -> Six {
         let Wrong::Reads(wrong) = self.fault.wrong else {
             return call(lent);
         };
@@ -144,7 +148,7 @@ impl Faulty<'_> {
 
 impl Faulty<'_> {
     /// A search within what the engine takes for its allowance.
-    fn allowed(&self, lent: &mut Lent) -> Five {
+    fn allowed(&self, lent: &mut Lent) -> Six {
         let Wrong::Allows(wrong) = self.fault.wrong else {
             return self.engine.search(lent);
         };
@@ -158,7 +162,7 @@ impl Faulty<'_> {
 }
 
 impl Faulty<'_> {
-    fn told(&self, returned: &mut Five, lent: &Lent) {
+    fn told(&self, returned: &mut Six, lent: &Lent) {
         let Wrong::Tells(wrong) = self.fault.wrong else {
             return;
         };
@@ -192,7 +196,7 @@ impl Search<'_> {
         let allowance = self.lent.allowance;
         let (query, rows, buffers) = self.lent.parts();
         let outcome = search::search_by_rule(query, rows, allowance, buffers, rule, &mut |_| {});
-        *self.returned = five(outcome);
+        *self.returned = six(outcome);
     }
 
     /// Searches again with another meaning of conditions.
@@ -211,7 +215,21 @@ impl Search<'_> {
         });
         let outcome =
             search::search_accepted(&accepted, rows, allowance, buffers, next_start, &mut |_| {});
-        *self.returned = five(outcome);
+        *self.returned = six(outcome);
+    }
+
+    /// Searches again on other places.
+    fn lay(&mut self, wrong: fn(&mut Accepted)) {
+        let Some(mut accepted) = self.accepted.clone().filter(|_| self.ended()) else {
+            return;
+        };
+        *self.lent = self.before.clone();
+        let allowance = self.lent.allowance;
+        wrong(&mut accepted);
+        let (_, rows, buffers) = self.lent.parts();
+        let outcome =
+            search::search_accepted(&accepted, rows, allowance, buffers, next_start, &mut |_| {});
+        *self.returned = six(outcome);
     }
 
     /// Whether the match that did not fit would have ended the search all the same.
@@ -248,7 +266,7 @@ impl Search<'_> {
 
     fn refuse(&mut self, answer: u64) {
         *self.lent = self.before.clone();
-        *self.returned = [answer, 0, 0, 0, 0];
+        *self.returned = [answer, 0, 0, 0, 0, 0];
     }
 
     /// PF and P(n+1)F, where the search ended.
@@ -306,7 +324,7 @@ const fn goes_on(name: &'static str, about: &'static str, wrong: Rule) -> Fault 
     }
 }
 
-const fn judges(name: &'static str, about: &'static str, wrong: fn(&mut Five, &Lent)) -> Fault {
+const fn judges(name: &'static str, about: &'static str, wrong: fn(&mut Six, &Lent)) -> Fault {
     Fault {
         name,
         about,
@@ -314,7 +332,7 @@ const fn judges(name: &'static str, about: &'static str, wrong: fn(&mut Five, &L
     }
 }
 
-const fn tells(name: &'static str, about: &'static str, wrong: fn(&mut Five, &[u8])) -> Fault {
+const fn tells(name: &'static str, about: &'static str, wrong: fn(&mut Six, &[u8])) -> Fault {
     Fault {
         name,
         about,
@@ -325,7 +343,8 @@ const fn tells(name: &'static str, about: &'static str, wrong: fn(&mut Five, &[u
 pub fn all() -> impl Iterator<Item = &'static Fault> {
     let of_all = FAULTS.iter().chain(&allowance::FAULTS);
     let of_all = of_all.chain(&average::FAULTS).chain(&condition::FAULTS);
-    of_all.chain(&tested::FAULTS).chain(&desk::FAULTS)
+    let of_all = of_all.chain(&tested::FAULTS).chain(&desk::FAULTS);
+    of_all.chain(&nested::FAULTS)
 }
 
 static FAULTS: [Fault; 90] = [
@@ -761,7 +780,7 @@ static FAULTS: [Fault; 90] = [
         "room-pairs",
         "room leaves out the position behind the rows",
         |returned, _| {
-            returned[3] = returned[1] * returned[2];
+            returned[3] = returned[1] * returned[2] * returned[5];
         },
     ),
     judges(
@@ -835,7 +854,7 @@ static FAULTS: [Fault; 90] = [
                 let last = text[text.len() - 1];
                 let small = last.is_ascii_digit() && text[brace..].contains(&b',');
                 if small && pattern::read(&[b"A", &whole[..]].concat()).is_none() {
-                    *returned = [WRONG, 0, 0, 0, text.len() as u64 - 1];
+                    *returned = [WRONG, 0, 0, 0, text.len() as u64 - 1, 0];
                 }
             }
         },
@@ -866,7 +885,7 @@ static FAULTS: [Fault; 90] = [
     ),
     tells("wrong-first", "5 comes before 4", |returned, text| {
         if returned[0] == DEEP && !pattern::begins(text) {
-            *returned = [WRONG, 0, 0, 0, pattern::offset(text)];
+            *returned = [WRONG, 0, 0, 0, pattern::offset(text), 0];
         }
     }),
     tells("unfinished-first", "14 comes before 4", |returned, text| {
@@ -1099,17 +1118,17 @@ const DEEP: u64 = 4;
 const WRONG: u64 = 5;
 const UNFINISHED: u64 = 14;
 
-fn tells_where(returned: &Five) -> bool {
+fn tells_where(returned: &Six) -> bool {
     matches!(returned[0], WRONG | UNFINISHED)
 }
 
 /// As 14 is returned for a text.
-fn unfinished(text: &[u8]) -> Five {
-    [UNFINISHED, 0, 0, 0, text.len() as u64]
+fn unfinished(text: &[u8]) -> Six {
+    [UNFINISHED, 0, 0, 0, text.len() as u64, 0]
 }
 
 /// Where the braces begin that are open at the offset.
-fn open_brace(returned: &Five, text: &[u8]) -> Option<usize> {
+fn open_brace(returned: &Six, text: &[u8]) -> Option<usize> {
     let before = &text[..returned[4] as usize];
     let brace = before.iter().rposition(|&byte| byte == b'{')?;
     (!before[brace..].contains(&b'}')).then_some(brace)
@@ -1152,7 +1171,7 @@ fn change_comparisons(query: &mut Vec<u8>, change: impl Fn(&mut [u8])) {
 }
 
 /// A judgement of 7 for a P that is small once it has wrapped.
-fn wrap_places(returned: &mut Five, lent: &Lent, modulus: u128) {
+fn wrap_places(returned: &mut Six, lent: &Lent, modulus: u128) {
     if returned[0] != 7 {
         return;
     }
@@ -1161,6 +1180,6 @@ fn wrap_places(returned: &mut Five, lent: &Lent, modulus: u128) {
         .and_then(|query| pattern::read(&query.text));
     let wrapped = tree.map_or(0, |tree| tree.count_with_end() % modulus);
     if (1..=256).contains(&wrapped) {
-        *returned = [0, wrapped as u64, 1, 2 * wrapped as u64, 0];
+        *returned = [0, wrapped as u64, 1, 2 * wrapped as u64, 0, 1];
     }
 }

@@ -27,6 +27,7 @@ mod every;
 mod faults;
 #[cfg_attr(any(test, not(mireladle)), allow(dead_code))]
 mod lent;
+mod nested;
 #[cfg(all(mireladle, not(test)))]
 mod product;
 mod program;

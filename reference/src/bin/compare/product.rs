@@ -2,12 +2,16 @@
 //! declares it. Pointers and lengths are those of buffers that live through the call,
 //! and no two of them overlap: that is all the header asks for.
 
-use crate::engine::{padded, Engine, Five};
+use crate::engine::{padded, Engine, Six};
 use crate::lent::Lent;
 
-/// The five numbers of either result, one behind the other.
+/// The five numbers of a search, one behind the other.
 #[repr(C)]
-struct Result(Five);
+struct Result([u64; 5]);
+
+/// The six of a judgement of room.
+#[repr(C)]
+struct Room(Six);
 
 /// The four numbers of a test, or of a verdict.
 #[repr(C)]
@@ -50,7 +54,7 @@ extern "C" {
         query_len: usize,
         rows: *const i32,
         rows_len: usize,
-    ) -> Result;
+    ) -> Room;
 
     fn mireladle_test(
         query: *const u8,
@@ -78,14 +82,14 @@ extern "C" {
 pub struct Product;
 
 impl Engine for Product {
-    fn search(&self, lent: &mut Lent) -> Five {
+    fn search(&self, lent: &mut Lent) -> Six {
         match lent.allowance {
             Some(allowance) => within(lent, allowance),
             None => search(lent),
         }
     }
 
-    fn room(&self, lent: &mut Lent) -> Five {
+    fn room(&self, lent: &mut Lent) -> Six {
         let result = unsafe {
             mireladle_room(
                 lent.query.pointer(),
@@ -97,7 +101,7 @@ impl Engine for Product {
         result.0
     }
 
-    fn test(&self, lent: &mut Lent, letter: u8, row: u64) -> Five {
+    fn test(&self, lent: &mut Lent, letter: u8, row: u64) -> Six {
         let tested = unsafe {
             mireladle_test(
                 lent.query.pointer(),
@@ -111,7 +115,7 @@ impl Engine for Product {
         padded(tested.0)
     }
 
-    fn desk(&self, lent: &mut Lent) -> Five {
+    fn desk(&self, lent: &mut Lent) -> Six {
         let verdict = unsafe {
             mireladle_desk(
                 lent.rows.pointer(),
@@ -130,7 +134,7 @@ impl Engine for Product {
     }
 }
 
-fn search(lent: &mut Lent) -> Five {
+fn search(lent: &mut Lent) -> Six {
     let result = unsafe {
         mireladle_search(
             lent.query.pointer(),
@@ -147,10 +151,10 @@ fn search(lent: &mut Lent) -> Five {
             lent.labels.len(),
         )
     };
-    result.0
+    padded(result.0)
 }
 
-fn within(lent: &mut Lent, allowance: u64) -> Five {
+fn within(lent: &mut Lent, allowance: u64) -> Six {
     let result = unsafe {
         mireladle_search_within(
             lent.query.pointer(),
@@ -168,5 +172,5 @@ fn within(lent: &mut Lent, allowance: u64) -> Five {
             lent.labels.len(),
         )
     };
-    result.0
+    padded(result.0)
 }

@@ -2,11 +2,12 @@
 //! for the search and for the judgement of room; those of searches within an
 //! allowance are made in `within`, those with conditions in `conditions`,
 //! tests of a letter in `tested`, logs for the release desk in `desk`, reports derived from
-//! one another in `derived`. A stream has a usual length, which is that of the
-//! gate; the random ones can be run with other seeds and for longer.
+//! one another in `derived`, repetitions of nothing in `nested`. A stream has a usual
+//! length, which is that of the gate; the random ones can be run with other seeds and
+//! for longer.
 
 use crate::case::{Call, Case};
-use crate::{conditions, derived, desk, tested, within};
+use crate::{conditions, derived, desk, nested, tested, within};
 use reference::generate::damage::damage_twice;
 use reference::generate::draft::{
     self, with_column, with_number, Draft, Input, Numbers, Room, LARGE, MIDDLE, SMALL,
@@ -50,7 +51,7 @@ const fn random(
     }
 }
 
-pub const STREAMS: [Stream; 47] = [
+pub const STREAMS: [Stream; 51] = [
     listed(
         "texts",
         "room: every text of up to 5 bytes over two alphabets",
@@ -244,6 +245,28 @@ pub const STREAMS: [Stream; 47] = [
         "the report of mode 0 from that of mode 1, up to 60 rows, some up to 500",
         20_000,
         derived::random,
+    ),
+    listed(
+        "nested-tables",
+        "repetitions of nothing on every truth table of two letters, up to 3 rows",
+        nested::every_table,
+    ),
+    listed(
+        "nested-small",
+        "every pattern of up to 7 bytes that repeats nothing, on all rows of 0 and 1, up to 2",
+        nested::every_small,
+    ),
+    random(
+        "nested",
+        "repetitions of nothing, nested in one another, up to 60 rows; some refused",
+        16_000,
+        nested::random,
+    ),
+    random(
+        "within-nested",
+        "allowances at all sorts of points of searches that repeat nothing",
+        16_000,
+        nested::within_allowances,
     ),
     listed(
         "within-small",

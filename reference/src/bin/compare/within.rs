@@ -9,7 +9,7 @@ use reference::generate::draft::{self, Input, Numbers, LARGE, MIDDLE, SMALL};
 use reference::generate::{allowances, limits, mix, Random};
 
 /// The allowances that an input is searched within.
-type Choice = fn(&mut Random, &Input) -> Vec<u64>;
+pub type Choice = fn(&mut Random, &Input) -> Vec<u64>;
 
 /// Searches each input within the allowances of the choice.
 fn within(seed: u64, inputs: impl Iterator<Item = Input> + 'static, choice: Choice) -> Cases {
@@ -22,7 +22,7 @@ fn within(seed: u64, inputs: impl Iterator<Item = Input> + 'static, choice: Choi
 }
 
 /// The same for inputs that are made one by one from a number and a generator.
-fn made(seed: u64, make: fn(&mut Random, usize) -> Input, choice: Choice) -> Cases {
+pub fn made(seed: u64, make: fn(&mut Random, usize) -> Input, choice: Choice) -> Cases {
     let mut random = Random::new(seed);
     let inputs = (0..).map(move |number| make(&mut random, number));
     within(seed, inputs, choice)

@@ -3,7 +3,7 @@
 //! where the search was refused or stopped; and one whose search is not the desk's.
 
 use super::{Fault, Wrong};
-use crate::engine::Five;
+use crate::engine::Six;
 use crate::lent::Lent;
 use reference::desk::{self, Verdict, ACCEPTED, BASE, COLUMNS, EVENT, OFFERED, PATCH, REFUSED};
 use reference::generate::draft::{with_column, with_number, Draft};
@@ -13,7 +13,7 @@ use reference::search;
 pub struct Desk<'a> {
     pub before: &'a Lent,
     pub lent: &'a mut Lent,
-    pub returned: &'a mut Five,
+    pub returned: &'a mut Six,
 }
 
 /// What a wrong desk looks for: a pattern of O, R and C, and which of base and patch
@@ -65,7 +65,7 @@ impl Desk<'_> {
 
     fn tell(&mut self, verdict: Verdict) {
         let [answer, verdict, found, row] = desk::numbered(verdict);
-        *self.returned = [answer, verdict, found, row, 0];
+        *self.returned = [answer, verdict, found, row, 0, 0];
     }
 
     fn held(&self) -> Verdict {
@@ -320,7 +320,7 @@ pub static FAULTS: [Fault; 30] = [
     }),
     decides("desk-odd-first", "unreadable comes before a stop", |desk| {
         if desk.returned[0] == 13 {
-            *desk.returned = [0; 5];
+            *desk.returned = [0; 6];
             match desk.readable() {
                 true => desk.returned[0] = 13,
                 false => desk.tell(Verdict::Unreadable),

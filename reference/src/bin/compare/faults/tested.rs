@@ -3,7 +3,7 @@
 //! refuses where it should not, or the other way round.
 
 use super::{Fault, Wrong};
-use crate::engine::Five;
+use crate::engine::Six;
 use crate::lent::Lent;
 use reference::letters::{self, compare, Truth};
 use reference::query::{Comparison, Meaning, Query, Reference};
@@ -94,7 +94,7 @@ impl Test {
         Some([tested.holds.into(), tested.judged as u64])
     }
 
-    fn tell(&self, returned: &mut Five, letter: u8, row: u64) {
+    fn tell(&self, returned: &mut Six, letter: u8, row: u64) {
         if let Some([holds, judged]) = self.of(letter, row) {
             returned[1] = holds;
             returned[2] = judged;
@@ -102,7 +102,7 @@ impl Test {
     }
 }
 
-const fn tests(name: &'static str, about: &'static str, wrong: fn(&mut Five, &Test)) -> Fault {
+const fn tests(name: &'static str, about: &'static str, wrong: fn(&mut Six, &Test)) -> Fault {
     Fault {
         name,
         about,
@@ -235,7 +235,7 @@ pub static FAULTS: [Fault; 22] = [
         "a byte that is no letter is a 3",
         |returned, test| {
             if returned[0] == 0 && !test.letter.is_ascii_uppercase() {
-                *returned = [3, 0, 0, 0, 0];
+                *returned = [3, 0, 0, 0, 0, 0];
             }
         },
     ),
@@ -260,7 +260,7 @@ pub static FAULTS: [Fault; 22] = [
         "a row behind the rows is a 10",
         |returned, test| {
             if returned[0] == 0 && test.row >= test.n() {
-                *returned = [10, 0, 0, 0, 0];
+                *returned = [10, 0, 0, 0, 0, 0];
             }
         },
     ),
