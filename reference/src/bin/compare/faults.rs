@@ -32,6 +32,21 @@ pub struct Fault {
     wrong: Wrong,
 }
 
+impl Fault {
+    /// Beginnings of the names of the streams that have to show it: those of its own call
+    /// or its own sort of query, or all.
+    pub fn shown_by(&self) -> &'static [&'static str] {
+        match self.wrong {
+            Wrong::Tests(_) => &["tested", "tests"],
+            Wrong::Decides(_) => &["desk", "logs"],
+            Wrong::Begins(_) | Wrong::Asks(_) | Wrong::Feeds(_) => &["lots"],
+            Wrong::Means(_) => &["condition"],
+            Wrong::Lays(_) => &["nested"],
+            _ => &[""],
+        }
+    }
+}
+
 enum Wrong {
     /// Reads another query or other rows.
     Reads(fn(&mut Vec<u8>, &mut Vec<i32>)),

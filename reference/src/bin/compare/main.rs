@@ -55,6 +55,8 @@ const SEED: u64 = 1;
 const PRINTED: usize = 3;
 /// How many cases of each stream a fault may pass unseen.
 const UNSEEN: usize = 3_000;
+/// How long a fault's case is shrunk in the gate.
+const SHRINKING: Duration = Duration::from_millis(200);
 /// How many standard inputs the program gets in the gate.
 const STDINS: usize = 4_000;
 
@@ -276,7 +278,8 @@ impl Run<'_> {
             self.counts.failed += 1;
             return;
         };
-        let small = shrink::shrink(&faulty, &case);
+        let time = if print { shrink::TIME } else { SHRINKING };
+        let small = shrink::shrink_within(&faulty, &case, time);
         let sizes = |case: &Case| (case.input.query.len(), case.input.rows.len());
         let ((query, rows), (small_query, small_rows)) = (sizes(&case), sizes(&small));
         println!(
@@ -297,10 +300,15 @@ struct Found {
     case: Case,
 }
 
-/// Takes a case of each stream in turn.
+/// Takes a case of each stream in turn that has to show the fault.
 fn find(faulty: &Faulty) -> Option<Found> {
+    let shows = |stream: &&Stream| {
+        let mut fronts = faulty.fault.shown_by().iter();
+        fronts.any(|front| stream.name.starts_with(front))
+    };
     let mut streams: Vec<(&'static str, Cases)> = STREAMS
         .iter()
+        .filter(shows)
         .map(|stream| (stream.name, (stream.cases)(SEED)))
         .collect();
     let mut seen = 0;

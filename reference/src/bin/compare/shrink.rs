@@ -13,14 +13,19 @@ use std::time::{Duration, Instant};
 
 /// The most cases that are tried for one shrinking, and how long that may take.
 const TRIES: usize = 20_000;
-const TIME: Duration = Duration::from_secs(3);
+pub const TIME: Duration = Duration::from_secs(3);
 
 pub fn shrink(product: &dyn Engine, case: &Case) -> Case {
+    shrink_within(product, case, TIME)
+}
+
+/// The same with less time, or more.
+pub fn shrink_within(product: &dyn Engine, case: &Case, time: Duration) -> Case {
     let mut shrinking = Shrinking {
         product,
         case: case.clone(),
         tries: 0,
-        begun: Instant::now(),
+        end: Instant::now() + time,
     };
     while shrinking.round() {}
     shrinking.case
@@ -30,7 +35,7 @@ struct Shrinking<'a> {
     product: &'a dyn Engine,
     case: Case,
     tries: usize,
-    begun: Instant,
+    end: Instant,
 }
 
 impl Shrinking<'_> {
@@ -52,7 +57,7 @@ impl Shrinking<'_> {
     fn take(&mut self, change: impl FnOnce(&mut Case)) -> bool {
         let mut changed = self.case.clone();
         change(&mut changed);
-        let spent = self.tries == TRIES || self.begun.elapsed() > TIME;
+        let spent = self.tries == TRIES || Instant::now() > self.end;
         if changed == self.case || spent {
             return false;
         }

@@ -96,7 +96,7 @@ fn each_fault_is_found_and_shrunk() {
         let Some(found) = find(&faulty) else {
             panic!("{} is not found", fault.name);
         };
-        let small = shrink::shrink(&faulty, &found.case);
+        let small = shrink::shrink_within(&faulty, &found.case, SHRINKING);
         assert!(!small.agrees(&faulty), "{}", fault.name);
         assert!(small.input.query.len() <= found.case.input.query.len());
         assert!(small.input.rows.len() <= found.case.input.rows.len());
