@@ -28,7 +28,7 @@ use lib.Dec.{eqb, T}
 use lib.IntN.{ℤ, pos, negsuc}
 use lib.ListN.{replicate}
 use Rattle.rules.specs.Reader.{treeOf}
-use Rattle.rules.specs.Answers.{deep, wrong, incomplete, hasEmptyLoop, tooMany, P, firstOf, offsetAt, Buffers, Memory, searchOf, searchWithin}
+use Rattle.rules.specs.Answers.{deep, wrong, incomplete, nestedLoops, tooMany, P, firstOf, offsetAt, Buffers, Memory, searchOf, searchWithin}
 use Rattle.rules.specs.Program.{printed}
 use Rattle.rules.specs.Bench.{same, equalZ}
 
@@ -44,8 +44,8 @@ sameBuffers m notes trail numbers labels =
     same eqb (m .buffers .notes) notes && (same eqb (m .buffers .trail) trail && (same equalZ (m .buffers .numbers) numbers && same eqb (m .buffers .labels) labels))
 
 abbrev textAnswer : List ℕ → ℕ
-unfolding deep treeOf wrong incomplete hasEmptyLoop tooMany firstOf
-textAnswer t = firstOf ((4, deep 0 0 t) ∷ (5, wrong t) ∷ (14, incomplete t) ∷ (6, hasEmptyLoop (treeOf t)) ∷ (7, tooMany (treeOf t)) ∷ [])
+unfolding deep treeOf wrong incomplete nestedLoops tooMany firstOf
+textAnswer t = firstOf ((4, deep 0 0 t) ∷ (5, wrong t) ∷ (14, incomplete t) ∷ (6, nestedLoops (treeOf t)) ∷ (7, tooMany (treeOf t)) ∷ [])
 ";
 
 fn main() -> ExitCode {
@@ -153,7 +153,7 @@ fn text(out: &mut impl Write, number: usize, case: &cases::TextCase) -> io::Resu
     if case.answer == 0 {
         agrees += &format!(" && eqb (P (treeOf {text})) {}", case.places);
     }
-    let opened = "deep treeOf wrong incomplete hasEmptyLoop tooMany firstOf offsetAt P";
+    let opened = "deep treeOf wrong incomplete nestedLoops tooMany firstOf offsetAt P";
     writeln!(
         out,
         "text{number}-agrees : T ({agrees})\nunfolding {opened}\ntext{number}-agrees = tt\n"
