@@ -3,7 +3,7 @@
 //! answer of the table in document 01 and for pairs of answers, texts that go
 //! wrong at each byte, inputs at the limits, rooms of every critical length,
 //! allowances that end at every sort of event, sums beside multiples of their count,
-//! and conditions of three truths.
+//! conditions of three truths, and sequences of partitions.
 //! The right results are not stored here: `search` and `program` give them.
 
 pub mod allowances;
@@ -16,6 +16,7 @@ pub mod draft;
 pub mod limits;
 pub mod logs;
 pub mod mix;
+pub mod partitions;
 pub mod random;
 pub mod scramble;
 pub mod stdin;

@@ -5,6 +5,7 @@
 //! module `generate` makes.
 
 pub mod cases;
+pub mod depots;
 pub mod derive;
 pub mod desk;
 pub mod generate;
