@@ -1,14 +1,17 @@
 //! One comparison: an input, whether it is searched, within its allowance if it has
-//! one, judged for room, a letter of it tested, or its rows judged by the release desk,
-//! and the seed of the noise. The product and the reference
-//! are lent the same, and what they return and leave has to be the same in every item.
+//! one, judged for room, a letter of it tested, its rows judged by the release desk, or
+//! taken into a table behind other partitions, and the seed of the noise. The product
+//! and the reference are lent the same, and what they return and leave has to be the same
+//! in every item.
 //! Of reports that are derived from one another (document 02, R-9) both are the
-//! product's own.
+//! product's own. Of partitions all calls are compared, up to the first that differs.
 
 use crate::engine::{Engine, Reference, Six};
-use crate::lent::Lent;
+use crate::lent::{Guarded, Lent, Table};
+use reference::depots::Reports;
 use reference::derive::{self, Written};
-use reference::generate::Input;
+use reference::generate::partitions::Sequence;
+use reference::generate::{Input, Random};
 use reference::{query, search};
 use std::sync::atomic::{AtomicUsize, Ordering};
 
@@ -18,7 +21,7 @@ pub static CALLS: AtomicUsize = AtomicUsize::new(0);
 /// What a call returned, and what was lent to it as it left that.
 pub type Ran = (Six, Lent);
 
-#[derive(Clone, Copy, Debug, PartialEq, Eq)]
+#[derive(Clone, Debug, PartialEq, Eq)]
 pub enum Call {
     Search,
     Room,
@@ -31,6 +34,8 @@ pub enum Call {
     Desk,
     /// A search in mode 0, with room for all of mode 1, from which its report is derived.
     Derive,
+    /// A partition taken into a depot-by-month table, behind those of the sequence.
+    Partition(Box<Sequence>),
 }
 
 #[derive(Clone, Debug, PartialEq, Eq)]
@@ -48,6 +53,9 @@ impl Case {
         if self.call == Call::Derive {
             return derived(product, lent);
         }
+        if let Call::Partition(sequence) = &self.call {
+            return self.in_turn(product, sequence);
+        }
         let returned = self.run_on(product, lent.clone());
         [returned, self.run_on(&Reference, lent)]
     }
@@ -60,13 +68,59 @@ impl Case {
 
     fn run_on(&self, engine: &dyn Engine, mut lent: Lent) -> Ran {
         CALLS.fetch_add(1, Ordering::Relaxed);
-        let returned = match self.call {
-            Call::Search | Call::Derive => engine.search(&mut lent),
+        let returned = match &self.call {
+            Call::Search | Call::Derive | Call::Partition(_) => engine.search(&mut lent),
             Call::Room => engine.room(&mut lent),
-            Call::Test { letter, row } => engine.test(&mut lent, letter, row),
+            Call::Test { letter, row } => engine.test(&mut lent, *letter, *row),
             Call::Desk => engine.desk(&mut lent),
         };
         (returned, lent)
+    }
+
+    /// The calls of a sequence and of the case's own input, by both, up to the first that
+    /// differs. A table that cannot be begun takes no partition.
+    fn in_turn(&self, product: &dyn Engine, sequence: &Sequence) -> [Ran; 2] {
+        let random = &mut Random::new(self.noise);
+        let mut table = Table {
+            state: Guarded::new(random, sequence.state),
+            list: Guarded::new(random, sequence.list),
+            depot: sequence.depot,
+            month: sequence.month,
+        };
+        let mut lend = |input: &Input, table: &Table| {
+            let mut lent = Lent::new(input, random.draw());
+            lent.table = Some(table.clone());
+            CALLS.fetch_add(1, Ordering::Relaxed);
+            [lent.clone(), lent]
+        };
+        let inputs = || sequence.partitions.iter().chain([&self.input]);
+        let mut both = lend(&self.input, &table).map(|lent| ([0; 6], lent));
+        both[0].0 = product.begin(&mut both[0].1);
+        both[1].0 = Reference.begin(&mut both[1].1);
+        if both[0] != both[1] || both[1].0[0] != 0 {
+            return both;
+        }
+        let mut reports = [(); 2].map(|()| Reports {
+            depot: sequence.depot,
+            month: sequence.month,
+            all: sequence.before.clone(),
+        });
+        if let Some(begun) = &both[1].1.table {
+            table = begun.clone();
+            reports[1].write(table.state.items_mut(), table.list.items_mut());
+        }
+        for input in inputs() {
+            both = lend(input, &table).map(|lent| ([0; 6], lent));
+            both[0].0 = product.partition(&mut both[0].1, &mut reports[0]);
+            both[1].0 = Reference.partition(&mut both[1].1, &mut reports[1]);
+            if both[0] != both[1] {
+                break;
+            }
+            if let Some(left) = &both[1].1.table {
+                table = left.clone();
+            }
+        }
+        both
     }
 
     pub fn agrees(&self, product: &dyn Engine) -> bool {
@@ -76,8 +130,10 @@ impl Case {
 
     /// What the returned numbers are called.
     pub fn names(&self) -> &'static [&'static str] {
-        match self.call {
-            Call::Search => &["answer", "matches", "labels", "steps", "offset"],
+        match &self.call {
+            Call::Search | Call::Partition(_) => {
+                &["answer", "matches", "labels", "steps", "offset"]
+            }
             Call::Room => &["answer", "P", "n", "pairs", "offset", "F"],
             Call::Test { .. } => &["answer", "holds", "judged", "offset"],
             Call::Desk => &["answer", "verdict", "found", "row"],

@@ -3,9 +3,12 @@
 //! call does not have are 0: a search its answer, matches, labels, steps and offset; a
 //! judgement of room its answer, P, n, P(n+1)F, offset and F; a test of a letter its
 //! answer, whether it holds, comparisons judged and offset; the release desk its answer,
-//! verdict, whether a row is told and that row. A search is made within the allowance it is lent, if any.
+//! verdict, whether a row is told and that row; a partition taken into a table what its
+//! search does; the beginning of a table its answer. A search is made within the allowance
+//! it is lent, if any.
 
 use crate::lent::Lent;
+use reference::depots::{self, Reports};
 use reference::desk;
 use reference::search::{self, Outcome, DONE};
 
@@ -16,6 +19,11 @@ pub trait Engine {
     fn room(&self, lent: &mut Lent) -> Six;
     fn test(&self, lent: &mut Lent, letter: u8, row: u64) -> Six;
     fn desk(&self, lent: &mut Lent) -> Six;
+    /// Begins the table that is lent.
+    fn begin(&self, lent: &mut Lent) -> Six;
+    /// Takes a partition into the table that is lent; beside it the engine has the
+    /// reports so far, if it keeps them.
+    fn partition(&self, lent: &mut Lent, reports: &mut Reports) -> Six;
 }
 
 pub struct Reference;
@@ -54,6 +62,24 @@ impl Engine for Reference {
     fn desk(&self, lent: &mut Lent) -> Six {
         let (_, rows, buffers) = lent.parts();
         padded(desk::desk(rows, buffers))
+    }
+
+    fn begin(&self, lent: &mut Lent) -> Six {
+        let answer = lent.table.as_mut().map_or(0, |table| {
+            let (depot, month) = (table.depot, table.month);
+            depots::begin(table.state.items_mut(), depot, month)
+        });
+        padded([answer.into(), 0, 0, 0])
+    }
+
+    fn partition(&self, lent: &mut Lent, reports: &mut Reports) -> Six {
+        let list = lent.table.as_ref().map_or(0, |table| table.list.len());
+        let (query, rows, buffers) = lent.parts();
+        let outcome = reports.take(list, query, rows, buffers);
+        if let Some(table) = &mut lent.table {
+            reports.write(table.state.items_mut(), table.list.items_mut());
+        }
+        six(outcome)
     }
 }
 

@@ -4,17 +4,20 @@
 //! or leaves. Each has to be found and shrunk. Those of searches within an allowance
 //! stand in `allowance`, those of averages in `average`, those of conditions in
 //! `condition`, those of tests of a letter in `tested`, those of the release desk in
-//! `desk`, those of repetitions of nothing in `nested`.
+//! `desk`, those of repetitions of nothing in `nested`, those of the depot-by-month
+//! table in `depots`.
 
 mod allowance;
 mod average;
 mod condition;
+mod depots;
 mod desk;
 mod nested;
 mod tested;
 
 use crate::engine::{six, Engine, Six};
 use crate::lent::{Guarded, Lent};
+use reference::depots::Reports;
 use reference::generate::Random;
 use reference::letters::Held;
 use reference::log::Event;
@@ -39,7 +42,7 @@ impl Fault {
         match self.wrong {
             Wrong::Tests(_) => &["tested", "tests"],
             Wrong::Decides(_) => &["desk", "logs"],
-            Wrong::Begins(_) | Wrong::Asks(_) | Wrong::Feeds(_) => &["lots"],
+            Wrong::Begins(_) | Wrong::Takes(_) => &["depots"],
             Wrong::Means(_) => &["condition"],
             Wrong::Lays(_) => &["nested"],
             _ => &[""],
@@ -70,6 +73,10 @@ enum Wrong {
     Tests(fn(&mut Six, &tested::Test)),
     /// Judges the rows of a log in another way.
     Decides(fn(&mut desk::Desk)),
+    /// Begins a table in another way.
+    Begins(fn(&mut depots::Taken)),
+    /// Takes a partition into a table in another way.
+    Takes(fn(&mut depots::Taken)),
     /// Tells of a pattern's text in another way, by any call, where 1 to 3 do not apply.
     Tells(fn(&mut Six, &[u8])),
 }
@@ -138,6 +145,33 @@ impl Engine for Faulty<'_> {
                 returned: &mut returned,
             });
         }
+        returned
+    }
+
+    fn begin(&self, lent: &mut Lent) -> Six {
+        let before = lent.clone();
+        let mut returned = self.engine.begin(lent);
+        if let Wrong::Begins(wrong) = self.fault.wrong {
+            wrong(&mut depots::Taken {
+                before: &before,
+                lent,
+                returned: &mut returned,
+            });
+        }
+        returned
+    }
+
+    fn partition(&self, lent: &mut Lent, reports: &mut Reports) -> Six {
+        let Wrong::Takes(wrong) = self.fault.wrong else {
+            return self.engine.partition(lent, reports);
+        };
+        let before = lent.clone();
+        let mut returned = self.engine.partition(lent, reports);
+        wrong(&mut depots::Taken {
+            before: &before,
+            lent,
+            returned: &mut returned,
+        });
         returned
     }
 }
@@ -359,7 +393,7 @@ pub fn all() -> impl Iterator<Item = &'static Fault> {
     let of_all = FAULTS.iter().chain(&allowance::FAULTS);
     let of_all = of_all.chain(&average::FAULTS).chain(&condition::FAULTS);
     let of_all = of_all.chain(&tested::FAULTS).chain(&desk::FAULTS);
-    of_all.chain(&nested::FAULTS)
+    of_all.chain(&nested::FAULTS).chain(&depots::FAULTS)
 }
 
 static FAULTS: [Fault; 90] = [

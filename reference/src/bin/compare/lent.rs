@@ -1,5 +1,5 @@
 //! What a call is lent: query, rows and the four buffers, each between two guard
-//! zones; and the allowance it is made with. Zones and buffers are filled with noise
+//! zones; the allowance it is made with; and state and list of a table. Zones and buffers are filled with noise
 //! beforehand, so that a byte left unwritten, written though it should not be, or read
 //! outside of what was lent makes a difference.
 
@@ -22,7 +22,7 @@ macro_rules! noise {
     };
 }
 
-noise!(u8, u32, i32, i64);
+noise!(u8, u32, u64, i32, i64);
 
 /// The fewest items of a zone; up to as many more are added, so that bytes begin
 /// at any address.
@@ -96,6 +96,16 @@ impl<T: Noise> Guarded<T> {
     }
 }
 
+/// A depot-by-month table, kept from call to call.
+#[derive(Clone, PartialEq)]
+pub struct Table {
+    pub state: Guarded<u64>,
+    pub list: Guarded<u32>,
+    /// The columns that it is begun with.
+    pub depot: u64,
+    pub month: u64,
+}
+
 /// All that one call is lent, and its allowance, if it is made with one.
 #[derive(Clone, PartialEq)]
 pub struct Lent {
@@ -106,6 +116,7 @@ pub struct Lent {
     pub numbers: Guarded<i64>,
     pub labels: Guarded<u8>,
     pub allowance: Option<u64>,
+    pub table: Option<Table>,
 }
 
 impl Lent {
@@ -119,6 +130,7 @@ impl Lent {
             numbers: Guarded::new(random, input.numbers),
             labels: Guarded::new(random, input.labels),
             allowance: input.allowance,
+            table: None,
         }
     }
 
@@ -135,6 +147,7 @@ impl Lent {
 
     /// What differs after a call of the reference from what the product left.
     pub fn differences(&self, product: &Lent) -> Vec<String> {
+        let tables = || self.table.as_ref().zip(product.table.as_ref());
         [
             self.query.difference("query", &product.query),
             self.rows.difference("rows", &product.rows),
@@ -142,6 +155,8 @@ impl Lent {
             self.trail.difference("trail", &product.trail),
             self.numbers.difference("numbers", &product.numbers),
             self.labels.difference("labels", &product.labels),
+            tables().and_then(|(own, other)| own.state.difference("state", &other.state)),
+            tables().and_then(|(own, other)| own.list.difference("list", &other.list)),
         ]
         .into_iter()
         .flatten()

@@ -20,6 +20,7 @@
 
 mod case;
 mod conditions;
+mod depots;
 mod derived;
 mod desk;
 mod engine;

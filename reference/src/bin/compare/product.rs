@@ -4,6 +4,7 @@
 
 use crate::engine::{padded, Engine, Six};
 use crate::lent::Lent;
+use reference::depots::Reports;
 
 /// The five numbers of a search, one behind the other.
 #[repr(C)]
@@ -77,6 +78,27 @@ extern "C" {
         labels: *mut u8,
         labels_len: usize,
     ) -> Four;
+
+    fn mireladle_depots_begin(state: *mut u64, state_len: usize, depot: u64, month: u64) -> u64;
+
+    fn mireladle_depots_partition(
+        state: *mut u64,
+        state_len: usize,
+        list: *mut u32,
+        list_len: usize,
+        query: *const u8,
+        query_len: usize,
+        rows: *const i32,
+        rows_len: usize,
+        notes: *mut u8,
+        notes_len: usize,
+        trail: *mut u32,
+        trail_len: usize,
+        numbers: *mut i64,
+        numbers_len: usize,
+        labels: *mut u8,
+        labels_len: usize,
+    ) -> Result;
 }
 
 pub struct Product;
@@ -131,6 +153,45 @@ impl Engine for Product {
             )
         };
         padded(verdict.0)
+    }
+
+    fn begin(&self, lent: &mut Lent) -> Six {
+        let answer = lent.table.as_mut().map_or(0, |table| unsafe {
+            mireladle_depots_begin(
+                table.state.pointer(),
+                table.state.len(),
+                table.depot,
+                table.month,
+            )
+        });
+        padded([answer, 0, 0, 0])
+    }
+
+    fn partition(&self, lent: &mut Lent, _: &mut Reports) -> Six {
+        let Some(table) = &mut lent.table else {
+            return [0; 6];
+        };
+        let result = unsafe {
+            mireladle_depots_partition(
+                table.state.pointer(),
+                table.state.len(),
+                table.list.pointer(),
+                table.list.len(),
+                lent.query.pointer(),
+                lent.query.len(),
+                lent.rows.pointer(),
+                lent.rows.len(),
+                lent.notes.pointer(),
+                lent.notes.len(),
+                lent.trail.pointer(),
+                lent.trail.len(),
+                lent.numbers.pointer(),
+                lent.numbers.len(),
+                lent.labels.pointer(),
+                lent.labels.len(),
+            )
+        };
+        padded(result.0)
     }
 }
 

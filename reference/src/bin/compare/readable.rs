@@ -3,6 +3,8 @@
 
 use crate::case::{Call, Case};
 use crate::engine::Engine;
+use reference::depots::Report;
+use reference::generate::partitions::Sequence;
 use reference::query::{
     self, Comparison, Condition, Function, Meaning, Measure, Query, Record, Reference as Entry,
     Skip, CONDITION, DEFINE, MEASURE, SHAPE, SKIP, TEXT,
@@ -29,15 +31,16 @@ pub fn difference(product: &dyn Engine, case: &Case) -> String {
 /// The case alone.
 pub fn describe(case: &Case) -> String {
     let input = &case.input;
-    let call = match (case.call, input.allowance) {
+    let call = match (&case.call, input.allowance) {
         (Call::Search, None) => "mireladle_search".to_string(),
         (Call::Search, Some(most)) => format!("mireladle_search_within, allowance {most}"),
         (Call::Room, _) => "mireladle_room".to_string(),
         (Call::Test { letter, row }, _) => {
-            let letter = [letter].escape_ascii().to_string();
+            let letter = [*letter].escape_ascii().to_string();
             format!("mireladle_test, letter `{letter}`, row {row}")
         }
         (Call::Desk, _) => "mireladle_desk".to_string(),
+        (Call::Partition(sequence), _) => table(sequence),
         (Call::Derive, _) => "mireladle_search, against what its report in mode 1 says".to_string(),
     };
     let mut text = format!("  {call}, noise {}\n", case.noise);
@@ -53,12 +56,35 @@ pub fn describe(case: &Case) -> String {
         input.rows.len(),
         list(&input.rows)
     );
-    if matches!(case.call, Call::Search | Call::Desk | Call::Derive) {
+    if !matches!(case.call, Call::Room | Call::Test { .. }) {
         let _ = writeln!(
             text,
             "  lent: notes {}, trail {}, numbers {}, labels {}",
             input.notes, input.trail, input.numbers, input.labels
         );
+    }
+    text
+}
+
+/// A table and the partitions before the last.
+fn table(sequence: &Sequence) -> String {
+    const MOST: usize = 8;
+    let mut text = format!(
+        "mireladle_depots_partition, columns {} and {}, state {}, list {}",
+        sequence.depot, sequence.month, sequence.state, sequence.list
+    );
+    for report in &sequence.before {
+        let Report { times, answer, .. } = report;
+        let matches = report.firsts.len();
+        let _ = write!(text, "; {times} before, answer {answer}, matches {matches}");
+    }
+    for input in sequence.partitions.iter().take(MOST) {
+        let (query, rows) = (hexadecimal(&input.query), list(&input.rows));
+        let _ = write!(text, "\n  behind query {query}, rows {rows}");
+    }
+    let more = sequence.partitions.len().saturating_sub(MOST);
+    if more > 0 {
+        let _ = write!(text, "\n  and {more} more");
     }
     text
 }

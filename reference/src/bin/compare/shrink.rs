@@ -1,14 +1,17 @@
 //! Making a case on which the two differ smaller, as long as they still differ
 //! on it in some way: fewer rows and columns, fewer records and comparisons, a
 //! shorter pattern, smaller numbers, smaller buffers, a smaller allowance or none, a
-//! smaller row to test.
+//! smaller row to test, fewer partitions before the last, a shorter list.
 //! Greedy, so the result is small and not the smallest.
 
 use crate::case::{Call, Case};
 use crate::engine::Engine;
+use reference::depots::{ENTRY, WORDS};
 use reference::desk;
+use reference::generate::partitions::Sequence;
 use reference::generate::{allowances, conditions};
 use reference::query::{COMPARISON_BYTES, CONDITION, DEFINE, MEASURE, SKIP, TEXT};
+use reference::search::DONE;
 use std::time::{Duration, Instant};
 
 /// The most cases that are tried for one shrinking, and how long that may take.
@@ -41,6 +44,7 @@ struct Shrinking<'a> {
 impl Shrinking<'_> {
     /// Tries every sort of change; false if none was of use.
     fn round(&mut self) -> bool {
+        let partitions = self.fewer_partitions();
         let rows = self.fewer_rows();
         let columns = self.fewer_columns();
         let records = self.fewer_records();
@@ -49,7 +53,15 @@ impl Shrinking<'_> {
         let buffers = self.smaller_buffers();
         let allowance = self.smaller_allowance();
         let tested = self.smaller_row();
-        rows || columns || records || bodies || numbers || buffers || allowance || tested
+        partitions
+            || rows
+            || columns
+            || records
+            || bodies
+            || numbers
+            || buffers
+            || allowance
+            || tested
     }
 
     /// Takes a changed case over if the two still differ on it; with its allowance, or
@@ -82,6 +94,45 @@ impl Shrinking<'_> {
             input,
             ..changed.clone()
         })
+    }
+
+    /// Ends a sequence earlier, takes partitions and reports out, and shortens the list.
+    fn fewer_partitions(&mut self) -> bool {
+        let Call::Partition(sequence) = &self.case.call else {
+            return false;
+        };
+        let mut any = false;
+        for (at, input) in sequence.partitions.clone().into_iter().enumerate() {
+            any = self.take(|case| {
+                case.change_sequence(|it| it.partitions.truncate(at));
+                case.input = input;
+            });
+            if any {
+                break;
+            }
+        }
+        any |= self.remove_runs(
+            |case| case.sequence().map_or(0, |it| it.partitions.len()),
+            |case, at, length| {
+                case.change_sequence(|it| drop(it.partitions.drain(at..at + length)));
+            },
+        );
+        any |= self.remove_runs(
+            |case| case.sequence().map_or(0, |it| it.before.len()),
+            |case, at, length| {
+                case.change_sequence(|it| drop(it.before.drain(at..at + length)));
+            },
+        );
+        let used = |it: &Sequence| {
+            let used = it.before.iter().filter(|report| report.answer != DONE);
+            ENTRY * used.map(|report| report.times as usize).sum::<usize>()
+        };
+        for most in 0..4 {
+            any |= self.take(|case| {
+                case.change_sequence(|it| it.list = it.list.min(used(it) + most));
+            });
+        }
+        any | self.take(|case| case.change_sequence(|it| it.state = it.state.min(WORDS)))
     }
 
     /// Takes out runs of items: long ones first, each half as long as the one
@@ -355,9 +406,22 @@ impl Shrinking<'_> {
 impl Case {
     /// Entries of a row.
     fn columns(&self) -> usize {
-        match self.call {
+        match &self.call {
             Call::Desk => desk::COLUMNS,
             _ => Parts::of(&self.input.query).columns(),
+        }
+    }
+
+    fn sequence(&self) -> Option<&Sequence> {
+        match &self.call {
+            Call::Partition(sequence) => Some(sequence),
+            _ => None,
+        }
+    }
+
+    fn change_sequence(&mut self, change: impl FnOnce(&mut Sequence)) {
+        if let Call::Partition(sequence) = &mut self.call {
+            change(sequence);
         }
     }
 

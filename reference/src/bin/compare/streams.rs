@@ -2,12 +2,12 @@
 //! for the search and for the judgement of room; those of searches within an
 //! allowance are made in `within`, those with conditions in `conditions`,
 //! tests of a letter in `tested`, logs for the release desk in `desk`, reports derived from
-//! one another in `derived`, repetitions of nothing in `nested`. A stream has a usual
-//! length, which is that of the gate; the random ones can be run with other seeds and
-//! for longer.
+//! one another in `derived`, repetitions of nothing in `nested`, partitions of a table in
+//! `depots`. A stream has a usual length, which is that of the gate; the random ones can
+//! be run with other seeds and for longer.
 
 use crate::case::{Call, Case};
-use crate::{conditions, derived, desk, nested, tested, within};
+use crate::{conditions, depots, derived, desk, nested, tested, within};
 use reference::generate::damage::damage_twice;
 use reference::generate::draft::{
     self, with_column, with_number, Draft, Input, Numbers, Room, LARGE, MIDDLE, SMALL,
@@ -51,7 +51,7 @@ const fn random(
     }
 }
 
-pub const STREAMS: [Stream; 51] = [
+pub const STREAMS: [Stream; 54] = [
     listed(
         "texts",
         "room: every text of up to 5 bytes over two alphabets",
@@ -269,6 +269,22 @@ pub const STREAMS: [Stream; 51] = [
         nested::within_allowances,
     ),
     listed(
+        "depots-cells",
+        "a table of one partition: every depot and month about the table, and far off",
+        depots::every_cell,
+    ),
+    listed(
+        "depots-sequences",
+        "tables: every three sorts of partitions, lists of each length, up to the last number",
+        depots::every_sequence,
+    ),
+    random(
+        "depots",
+        "tables of random partitions, refused and stopped ones among them",
+        8_000,
+        depots::random,
+    ),
+    listed(
         "within-small",
         "every allowance of every pattern of up to 4 or 5 bytes on all rows of 0 and 1, up to 2",
         within::every_small_input,
@@ -324,7 +340,7 @@ pub const STREAMS: [Stream; 51] = [
 pub fn calls(call: Call, seed: u64, inputs: impl Iterator<Item = Input> + 'static) -> Cases {
     let mut random = Random::new(seed ^ 0x6E6F_6973_6500);
     Box::new(inputs.map(move |input| Case {
-        call,
+        call: call.clone(),
         input,
         noise: random.draw(),
     }))
