@@ -1,7 +1,7 @@
 //! Links the library of preparing and running, where it is there: `rt staticlib bench_c` builds it,
 //! and so does `bench/run`. Without it the bench has no workload `prepared`. And looks whether the
-//! product's library, which the package `mireladle` links, has an allowance of steps: an older one
-//! that MIRELADLE_LIB names has not, and the bench then has no table of allowances.
+//! product's library, which the package `mireladle` links, has an allowance of steps and the
+//! depot-by-month table: an older one that MIRELADLE_LIB names has not, and neither is measured.
 
 use std::env;
 use std::fs;
@@ -9,7 +9,16 @@ use std::path::PathBuf;
 
 fn main() {
     link_bench_c();
-    look_for_allowance();
+    look_for(
+        "mireladle_search_within",
+        "search_within",
+        "no allowances are measured",
+    );
+    look_for(
+        "mireladle_depots_partition",
+        "depots",
+        "no depot-by-month table is measured",
+    );
 }
 
 fn link_bench_c() {
@@ -30,19 +39,20 @@ fn link_bench_c() {
     }
 }
 
-fn look_for_allowance() {
-    println!("cargo:rustc-check-cfg=cfg(search_within)");
+/// Sets a name for `cfg` where the product's library has a function, and warns where it has not.
+fn look_for(function: &str, known: &str, otherwise: &str) {
+    println!("cargo:rustc-check-cfg=cfg({known})");
     // The build script of `mireladle` tells which library it links.
     let library = PathBuf::from(env::var_os("DEP_MIRELADLE_C_LIBRARY").unwrap_or_default());
     println!("cargo:rerun-if-changed={}", library.display());
     // A name in the archive's table of symbols ends in a byte 0.
-    let name = b"mireladle_search_within\0";
+    let name = format!("{function}\0").into_bytes();
     let archive = fs::read(&library).unwrap_or_default();
     if archive.windows(name.len()).any(|bytes| bytes == name) {
-        println!("cargo:rustc-cfg=search_within");
+        println!("cargo:rustc-cfg={known}");
     } else {
         println!(
-            "cargo:warning={} has no mireladle_search_within: no allowances are measured",
+            "cargo:warning={} has no {function}: {otherwise}",
             library.display()
         );
     }

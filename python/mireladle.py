@@ -103,6 +103,7 @@ class Answer(IntEnum):
     PATTERN_ENDS = 14
     NO_SKIP_ROW = 15
     OUT_OF_STEPS = 16
+    NO_NUMBER = 20
 
 
 class Said(IntEnum):
@@ -133,6 +134,7 @@ _WORDS = {
     11: "the notes are too short",
     12: "the trail is too short",
     14: "the pattern text ends where it could go on to a pattern",
+    20: "the depot-by-month table takes no further partition",
 }
 
 

@@ -3,7 +3,8 @@
 //! all lent buffers are compared; a difference ends the bench with an error.
 //! Where the library of crates/bench_c is linked, one workload is run by both with
 //! a query that is prepared once. Where the product's library has allowances of
-//! steps, a long search is run by the product with several.
+//! steps, a long search is run by the product with several; where it has the depot-by-month table,
+//! as many partitions as it takes are counted by both.
 //! Options: --quick (some ten seconds in all), --only NAME (workloads that have
 //! NAME in their name), --markdown (tables for docs/PERFORMANCE.md), --check
 //! (compares and measures nothing; the last line is `N passed, M failed`).
@@ -13,6 +14,8 @@
 
 mod allowances;
 mod clock;
+#[cfg(depots)]
+mod depots;
 mod engine;
 mod output;
 #[cfg(bench_c)]
@@ -140,6 +143,12 @@ fn check(options: &Options) -> Result<(), String> {
     for reading in wanted_readings(options) {
         count(readings::compare(&reading));
     }
+    #[cfg(depots)]
+    if options.wants("depots") {
+        for workload in depots::all() {
+            count(depots::compare(&workload).map(|_| ()));
+        }
+    }
     let allowances = wanted_allowances(options);
     if !allowances.is_empty() {
         match allowances::Search::new() {
@@ -178,6 +187,14 @@ fn measure_all(options: &Options) -> Result<(), String> {
         .map(|reading| measure_reading(reading, options.plan))
         .collect();
     print(READING, Columns::Calls, measured?);
+    #[cfg(depots)]
+    if options.wants("depots") {
+        let measured: Result<Vec<Measured>, String> = depots::all()
+            .into_iter()
+            .map(|workload| depots::measure(workload, options.plan))
+            .collect();
+        print("The depot-by-month table", Columns::Searches, measured?);
+    }
     let allowances = wanted_allowances(options);
     if !allowances.is_empty() {
         any = true;

@@ -90,6 +90,27 @@ pub fn growth_in_places() -> Vec<Workload> {
         .into()
 }
 
+#[cfg_attr(not(depots), allow(dead_code))]
+/// As many partitions as the depot-by-month table takes, each of 60 rows of depot, month and value.
+pub fn depots() -> Workload {
+    let mut random = Random::new(4);
+    let query = pattern(3, "A+ B")
+        .define('A', [col(2).gt(previous(2))])
+        .define('B', [col(2).lt(previous(2))]);
+    let partition = |_| {
+        let mut rows = Vec::with_capacity(180);
+        // Some have no depot, and some months are none.
+        let (depot, month) = (random.below(66) as i32, random.below(14) as i32);
+        for row in 0..60 {
+            rows.extend([depot, month + row / 30, random.below(100) as i32]);
+        }
+        rows
+    };
+    let partitions = (0..65_535).map(partition).collect();
+    let about = "A+ B on 65,535 partitions of 60 rows, counted by depot and month";
+    Workload::new("depots", about, query, partitions)
+}
+
 /// The longest search to the next row that was found, with half of the rows that
 /// there can be: 268 million steps.
 pub fn longest() -> Workload {

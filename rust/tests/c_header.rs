@@ -90,6 +90,28 @@ int main(void) {
     if (tested.answer != MIRELADLE_DONE || tested.holds != 0 || tested.judged != 1) return 22;
     tested = mireladle_test(tests, sizeof tests - 1, &row, 1, 'A', 0);
     if (tested.answer != MIRELADLE_QUERY_CUT || tested.holds + tested.judged + tested.offset != 0) return 23;
+    /* The depot-by-month table: each row is a match, and the first column is depot and month. */
+    uint64_t state[MIRELADLE_DEPOTS_LENGTH];
+    uint32_t list[2] = {9, 9};
+    const uint8_t each[] = {2, 0, 1, 0, 1, 0, 1, 0, 2, 0, 'A', 2, 0, 4, 0, 0, 0};
+    const int32_t months[] = {5, 5, 13};
+    int64_t three[9];
+    if (MIRELADLE_NO_NUMBER != 20 || MIRELADLE_MAX_PARTITIONS != 65535) return 24;
+    if (mireladle_depots_begin(state, 772, 0, 0) != MIRELADLE_NO_NUMBER) return 25;
+    if (mireladle_depots_begin(state, 773, 0, 0) != MIRELADLE_DONE) return 26;
+    result = mireladle_depots_partition(state, 773, list, 2, each, sizeof each, months, 3, bits, sizeof bits,
+                                        pairs, 24, three, 9, labels, 3);
+    if (result.answer != MIRELADLE_DONE || result.matches != 3 || labels[2] != 'A') return 27;
+    if (state[MIRELADLE_DEPOTS_CELL(5, 5)] != 2 || state[MIRELADLE_DEPOTS_OUTSIDE] != 1) return 28;
+    if (state[MIRELADLE_DEPOTS_PARTITIONS] != 1 || state[MIRELADLE_DEPOTS_LISTED] != 0) return 29;
+    for (int call = 0; call < 2; call++) {
+        /* No trail: refused and listed, and then no room in the list. */
+        result = mireladle_depots_partition(state, 773, list, 2, each, sizeof each, months, 3, bits, sizeof bits,
+                                            NULL, 0, three, 9, labels, 3);
+        if (result.answer != (uint64_t)(call == 0 ? MIRELADLE_TRAIL_SHORT : MIRELADLE_NO_NUMBER)) return 30;
+        if (list[0] != 2 || list[1] != MIRELADLE_TRAIL_SHORT) return 31;
+        if (state[MIRELADLE_DEPOTS_PARTITIONS] != 2 || state[MIRELADLE_DEPOTS_LISTED] != 2) return 32;
+    }
     return MIRELADLE_NOTES_LENGTH(30) == 4 && MIRELADLE_MATCH_LENGTH(2) == 7 ? 0 : 4;
 }
 "#;
