@@ -347,6 +347,7 @@ module _ (s : List ℕ) (top P F : ℕ) (T0 : List ℕ) where
             many = λ q l. keeps q l .many;
             ways = λ q l. keeps q l .ways;
           };
+          behind = λ q l. keeps q l .behind;
           few = (f .low, omega (arith, f .high, none));
           kept = λ j l. f .kept j l;
           len = f .len;

@@ -134,6 +134,14 @@ stateAt F place flags = place * F + flags
 
 -- ---- places
 
+-- The places of `A+ B`: A, then a fork and a copy of A that leads back to it, then B, then END.
+--   0  A      leads to 1
+--   1  fork   tries 2, one more A, and then 3, which leaves
+--   2  A      leads back to 1
+--   3  B      leads to 4
+--   4  END
+-- So P is 5. `A+? B` differs at place 1 alone, which tries 3 before 2.
+
 -- a place with the places that it leads to, each with its flags; a fork's ways in the order in
 -- which they are tried
 pub data Place : Type 0 where

@@ -110,6 +110,10 @@ keeps (group p) d = keeps p d
 
 -- ---- the order
 
+-- `(A|B)+` over two rows at which both letters hold has six derivations. From the most preferred on
+-- their labels are AA, AB, A, BA, BB, B: the first round decides first, and of two that begin alike
+-- the longer is preferred. For `(A|B)+?` it is the shorter: A, AA, AB, B, BA, BB.
+
 -- 6.2.1, alternation: all of the first branch, in their order, before all of the others, in theirs
 unfoldable pub FirstBranch : {A B : Type 0} → (A → A → Type 0) → (B → B → Type 0) → A ⊎ B → A ⊎ B → Type 0
 FirstBranch P Q (inl d) (inl e) = P d e

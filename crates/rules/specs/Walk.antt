@@ -100,6 +100,14 @@ plain ways (suc k) x = plainBy (ways x) (plain ways k) x
 
 -- ---- the counted walk: a pair that has failed is not entered again, and each entry is one step
 
+-- The walk of W1 of the bench sheet: `A+ B` (its places stand in specs/Places) on 100, 110, 120, 115,
+-- 130, where A, above the row before, holds at rows 1, 2 and 4, and B, below it, at row 3. Pairs are
+-- written (place, position), in the order in which they are entered.
+--   start 0   (0,0) fails
+--   start 1   (0,1) (1,2) (2,2) (1,3); (2,3) fails; (3,3) (4,4), which is END: rows 1 to 3, AAB
+--   start 4   (0,4) (1,5); (2,5) fails; (3,5) fails; so (1,5) and (0,4) fail
+-- 12 entries: 6 pairs that failed, and 6 on the path found.
+
 -- Why a walk halts before its end (document 02): the next entry would pass the allowance of steps
 -- (R-13), or a row is asked for that is not yet present (R-11).
 pub data Halt : Type 0 where

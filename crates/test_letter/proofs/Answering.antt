@@ -87,7 +87,7 @@ module _ (T : List ℕ) (p : Prepared) (a : Asks T p) (z : p .answer ≡ 0) wher
   pub few-columns : p .columns ≤ 8
   few-columns = a .given .ready z .most-columns
 
-  pub few-places : p .places ≤ 256
+  pub few-places : p .places ≤ 2048
   few-places = a .given .ready z .few
 
   -- so few rows
