@@ -154,7 +154,8 @@ struct mireladle_verdict {
     uint64_t row;     /* where found is 1, the row of the last event 2; else 0 */
 };
 
-/* What the test of a letter returns. On the answers 1 to 10 and 14 all but the answer, and the offset of 5 and 14, are 0. */
+/* What the test of a letter returns. On the answers 1 to 10 and 14 all but the answer, and the offset of 5 and 14, are
+ * 0. */
 struct mireladle_tested {
     uint64_t answer; /* 0, or 1 to 10 or 14 of enum mireladle_answer */
     uint64_t holds;  /* 1 if the letter holds at the row, else 0 */
@@ -202,8 +203,9 @@ typedef struct mireladle_tested mireladle_tested_t;
  *                     byte 0 ends them.
  *                     notes: bit (position * P + place) * F + flags, the lowest bit of a byte
  *                     first, is 1 exactly if that pair was entered and failed. The flags of a
- *                     place are packed from the lowest bit up, the outermost repetition first. A pair that is still open when
- *                     the search stops has not failed. Spare bits of the last byte used are 0.
+ *                     place are packed from the lowest bit up, the outermost repetition first. A
+ *                     pair that is still open when the search stops has not failed. Spare bits of
+ *                     the last byte used are 0.
  *                     trail: the first P * F * (n + 1) numbers are 0.
  *                     Whatever lies behind that, in each of the four, is unchanged.
  *
@@ -256,9 +258,9 @@ struct mireladle_result mireladle_search_within(const uint8_t *query, size_t que
                                                 uint8_t *labels, size_t labels_len);
 
 /*
- * Judges a query and rows and tells how much working room their search takes: answer 0 with P, F, n and P * F * (n + 1), or
- * the answer of 1 to 10 or 14 that mireladle_search() would give, with its offset. With rows_len 0 it judges the query
- * alone.
+ * Judges a query and rows and tells how much working room their search takes: answer 0 with P, F, n and
+ * P * F * (n + 1), or the answer of 1 to 10 or 14 that mireladle_search() would give, with its offset. With rows_len 0
+ * it judges the query alone.
  * query and rows are as for mireladle_search(): only read, and NULL only with length 0. Nothing else is touched.
  */
 #if defined(__cplusplus) && defined(__GNUC__)
@@ -359,8 +361,8 @@ struct mireladle_result mireladle_depots_partition(uint64_t *state, size_t state
  *   row     Any number. At a row behind the last the comparisons are judged by the rows that they look at, so one that
  *           looks back far enough can be true there; a search does not ask for such a row.
  *
- * query and rows are as for mireladle_search(): only read, and NULL only with length 0. Nothing else is touched. A query
- * or rows that mireladle_room() refuses are refused here with the same answer and offset.
+ * query and rows are as for mireladle_search(): only read, and NULL only with length 0. Nothing else is touched. A
+ * query or rows that mireladle_room() refuses are refused here with the same answer and offset.
  */
 struct mireladle_tested mireladle_test(const uint8_t *query, size_t query_len, const int32_t *rows, size_t rows_len,
                                        uint8_t letter, size_t row);
@@ -412,9 +414,10 @@ struct mireladle_tested mireladle_test(const uint8_t *query, size_t query_len, c
  * A pattern is made of letters, ^ (before the first row), $ (behind the last row), () (nothing), sequences, branches
  * parted by |, the left one tried first, parentheses, and the quantifiers * + ? {n} {n,} {,m} {n,m}, greedy, or
  * reluctant with a ? directly behind them. Where what a quantifier without upper bound stands on can match without
- * taking a row, a round behind the required ones that takes no row ends the repetition. No quantifier stands on another without parentheses, and no text or branch
- * is empty. Bounds are 0 to 99, without leading zero; an upper bound is at least 1 and not below the lower one, and n
- * in {n} is at least 1. Spaces may stand between these, but not inside the braces, and have to stand between letters.
+ * taking a row, as in (A*)*, a round behind the required ones that takes no row ends the repetition. No quantifier
+ * stands on another without parentheses, and no text or branch is empty. Bounds are 0 to 99, without leading zero; an
+ * upper bound is at least 1 and not below the lower one, and n in {n} is at least 1. Spaces may stand between these,
+ * but not inside the braces, and have to stand between letters.
  */
 
 #ifdef __cplusplus

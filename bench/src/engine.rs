@@ -2,10 +2,10 @@
 //! fast as we could make it: the yardstick for the product's speed. It has the
 //! product's face and effects: the same answer, counts and steps, and the same
 //! content of all four lent buffers. Repetitions whose rounds may take no row, as in
-//! `(A*)*`, which R-3 allows, it still refuses with 6, so its pairs have no flags. A query is prepared, which makes the tables
-//! of `engine/tables.rs`, and run over rows; `search` does both. The walk is that
-//! of document 01, with notes and a trail in the lent buffers; see
-//! `engine/walk.rs`.
+//! `(A*)*`, which R-3 allows, it still refuses with 6, so its pairs have no flags. A
+//! query is prepared, which makes the tables of `engine/tables.rs`, and run over rows;
+//! `search` does both. The walk is that of document 01, with notes and a trail in the
+//! lent buffers; see `engine/walk.rs`.
 
 #![forbid(unsafe_code)]
 
