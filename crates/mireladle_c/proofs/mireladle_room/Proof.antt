@@ -15,7 +15,7 @@ add-t5 : tie.Need-add-t5
 add-t5 c = let h = pairs-fit _ _ _ (c .before .before .room .ensures) in omega (arith, h .0)
 
 mul-t6 : tie.Need-mul-t6
-mul-t6 c = let h = pairs-fit _ _ _ (c .before .before .before .room .ensures) in omega (arith, h .2)
+mul-t6 c = let h = pairs-fit _ _ _ (c .before .before .room .ensures) in omega (arith, h .2)
 
 returns : tie.Need-returns
 returns c = search needs
