@@ -209,7 +209,7 @@ fn column_outside() {
     let draft = Draft::new(2, b"A", vec![1, 2]);
     let mut texts = vec![(draft.finish(), 3)];
     texts.push((Draft::new(2, b"A", Vec::new()).finish(), 3));
-    for text in [&b"((((((((("[..], b"A)", b"(A", b"(A*)*", b"(A{16}){17}"] {
+    for text in [&b"((((((((("[..], b"A)", b"(A", b"((((A*)*)*)*)*", b"(A{16}){17}"] {
         texts.push((Draft::new(2, text, vec![1, 2, 3]).finish(), 3));
     }
     texts.push((draft.clone().measure(1, b'B', 0).finish(), 3));
@@ -356,7 +356,7 @@ fn listed_sequences() {
 #[test]
 fn random_sequences() {
     let mut random = Random::new(71);
-    let made = (0..4_000).map(|number| partitions::random(&mut random, number));
+    let made = (0..5_000).map(|number| partitions::random(&mut random, number));
     let answers = check(made);
     for answer in (0..=15).chain([20]) {
         assert!(
