@@ -44,10 +44,9 @@ extern "C" {
 #define MIRELADLE_MAX_MEASURES 8
 #define MIRELADLE_MAX_OFFSET 64       /* rows that PREV or NEXT looks away */
 
-/* Bytes of stack that a call needs, 64 KiB. Measured, not proved: of some 60,000 queries with F 1
- * the worst took 22,040 (8 nested groups with parts); A+ B takes 17,536. Only a pattern with F above
- * 1 can need the largest table, of 31,372 bytes, beside those. The number of rows makes no
- * difference. */
+/* Bytes of stack that a call needs, 64 KiB. Measured, not proved: of some 60,000 queries the worst
+ * took 61,520 (8 nested groups with parts); A+ B takes 51,024, and 256 places with F 8 take 52,560.
+ * Room for the largest table is set aside in every call. The number of rows makes no difference. */
 #define MIRELADLE_STACK 65536
 
 /* Bytes of notes that a number of pairs calls for; the trail takes one number for each pair. */

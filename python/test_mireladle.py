@@ -239,10 +239,10 @@ class Refusals(unittest.TestCase):
     def test_rounds_without_a_row(self):
         above = {"A": col(0) > 0}
         found = Query(1, "(A*)*", above).search([1, 1, 0])
-        self.assertEqual([(m.first_row, m.labels) for m in found], [(0, "AA"), (2, "")])
+        self.assertEqual([(m.first, m.labels) for m in found], [(0, "AA"), (2, "")])
         self.assertEqual(found.steps, 14)
         found = Query(1, "(A??)*", above).search([1])
-        self.assertEqual([(m.first_row, m.labels) for m in found], [(0, "")])
+        self.assertEqual([(m.first, m.labels) for m in found], [(0, "")])
         self.assertEqual(len(Query(1, "(((A*)*)*)*").search([1])), 1)
 
     def test_patterns(self):

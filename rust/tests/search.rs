@@ -401,7 +401,7 @@ fn every_refusal_by_its_number() {
         (3, free("A").measure(Measure::sum(1)).build()),
         (4, free("(((((((((").build()),
         (5, free("A \u{E9}").build()),
-        (6, free("()*").build()),
+        (6, free("((((()*)*)*)*)*").build()),
         (7, free("(A{99}){99}").build()),
         (8, twice.build()),
         (9, free("A").measure(Measure::count().of('B')).build()),
