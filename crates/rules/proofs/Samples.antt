@@ -3,7 +3,7 @@ use mathlib.Core.Path.{refl}
 use mathlib.Core.Bool.{false≢true, true≢false}
 use Rattle.rules.specs.Basics.{every}
 use Rattle.rules.specs.Bench.{agrees}
-use Rattle.rules.specs.Samples.{skips, fullFirst, allowances, keepsTo, inTime, noRows, lots, keepsOn, lotRooms, lotRefusals, refusesSo, Preferences, comesTo, averages, averageSearches, truthTable, entryLists, truthSearches, aheadEntries, judgedTable, repetitions, shows, loopSkips, loopAllowances, loopsKeepTo, loopLots, loopRooms}
+use Rattle.rules.specs.Samples.{skips, fullFirst, allowances, keepsTo, inTime, noRows, lots, keepsOn, lotRooms, lotRefusals, refusesSo, Preferences, comesTo, averages, averageSearches, truthTable, entryLists, truthSearches, aheadEntries, judgedTable, repetitions, shows, loopSkips, loopAllowances, loopsKeepTo, loopLots, loopRooms, keptRounds}
 use Rattle.rules.specs.Preferment.{Prefers}
 use lib.Dec.{T}
 
@@ -66,6 +66,10 @@ loop-lots-hold = tt
 pub loop-rooms : T loopRooms
 unfolding loopRooms
 loop-rooms = tt
+
+pub kept-rounds-hold : T (every (λ b. b) keptRounds)
+unfolding every keptRounds
+kept-rounds-hold = tt
 
 pub preferences : Preferences
 unfolding Prefers

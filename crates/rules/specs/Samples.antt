@@ -14,7 +14,7 @@ use lib.ListN.{replicate, take}
 use Rattle.rules.specs.Basics.{pick, bytes}
 use Rattle.rules.specs.Rows.{Truth, yes, no, unknown, conditionTruth}
 use Rattle.rules.specs.Language.{opt, lower, upper, pattern, Tree, one, more, last, bare, times, letter}
-use Rattle.rules.specs.Preferment.{Derivation, Prefers}
+use Rattle.rules.specs.Preferment.{Derivation, Prefers, emptyEnds}
 use Rattle.rules.specs.Walk.{countTrue}
 use Rattle.rules.specs.Search.{openOf}
 use Rattle.rules.specs.Answers.{pairsOf, Buffers, Result, taskOf, walkWithin, searchWithin, searchOf, testOf}
@@ -425,6 +425,18 @@ loopRooms =
     && (same eqb (final .memory .buffers .trail) (replicate 48 0)
     && (eqb (callOf (fitting 5 48) begun fourRows 3 false (s .lent) .memory .result .answer) 11
     && eqb (callOf (fitting 6 47) begun fourRows 3 false (s .lent) .memory .result .answer) 12)))
+
+-- Behind the required rounds of a repetition only the last may take no row; a round is told by the
+-- labels of its rows.
+unfoldable pub keptRounds : List Bool
+unfolding emptyEnds
+keptRounds =
+    let kept : ℕ → List (List ℕ) → Bool = emptyEnds (λ w. w) in
+    kept 0 ((65 ∷ []) ∷ [] ∷ [])
+    ∷ not (kept 0 ([] ∷ (65 ∷ []) ∷ []))
+    ∷ kept 1 ([] ∷ (65 ∷ []) ∷ [])
+    ∷ not (kept 1 ([] ∷ [] ∷ (65 ∷ []) ∷ []))
+    ∷ []
 
 -- ---- R-5, the average of a column
 
