@@ -436,6 +436,7 @@ keptRounds =
     ∷ not (kept 0 ([] ∷ (65 ∷ []) ∷ []))
     ∷ kept 1 ([] ∷ (65 ∷ []) ∷ [])
     ∷ not (kept 1 ([] ∷ [] ∷ (65 ∷ []) ∷ []))
+    ∷ kept 2 ([] ∷ [] ∷ (65 ∷ []) ∷ [])
     ∷ []
 
 -- ---- R-5, the average of a column
