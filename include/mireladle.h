@@ -108,9 +108,19 @@ enum mireladle_answer {
      * mireladle_search_within() gives this. The matches found by then stand whole in the report;
      * there may be others. Where 13 or 15 comes first, that is the answer. */
     MIRELADLE_OUT_OF_STEPS = 16,
+    /* The query looks ahead: its pattern has a `$`, or a letter of the pattern reads a row behind its own. Only
+     * mireladle_more() and mireladle_last() give this, ranked after 9: rows that are still to come could change what
+     * was found. */
+    MIRELADLE_LOOKS_AHEAD = 17,
     /* A partition of the depot-by-month table gets no number, or the state is too short: see
      * mireladle_depots_partition(). No search gives this. */
-    MIRELADLE_NO_NUMBER = 20
+    MIRELADLE_NO_NUMBER = 20,
+    /* A call of a search by lots is out of order: it says that fewer rows are present than a call before it, or comes
+     * after the end was declared. Only mireladle_more() and mireladle_last() give this. */
+    MIRELADLE_OUT_OF_ORDER = 21,
+    /* The search waits for a row that is not yet present. Only mireladle_more() gives this. The matches found so far
+     * stand whole in the report, and the counts and steps are those of all calls so far. */
+    MIRELADLE_WAITING = 23
 };
 
 /* What a search returns. On the answers 1 to 12 and 14 all but the answer, and the offset of 5 and 14, are 0. */
@@ -121,6 +131,21 @@ struct mireladle_result {
     uint64_t steps;   /* pairs entered; on 13 the search for the match that did not fit is counted
                        * too; on 16 the steps that were allowed */
     uint64_t offset;  /* on 5 the byte of the pattern text, from 0, at which it is wrong; on 14 its length; else 0 */
+};
+
+/* What is kept of a search by lots between its calls. mireladle_begin() writes it, mireladle_more() and mireladle_last()
+ * alter it; a caller keeps it and may copy it, but writes nothing into it. */
+struct mireladle_feed {
+    uint64_t largest;   /* the largest number of rows, as named */
+    uint64_t allowance; /* the steps allowed over all calls, as named */
+    uint64_t present;   /* rows present at the latest call that was not refused */
+    uint64_t begun;     /* 0 until a call has not been refused, then 1 */
+    uint64_t answer;    /* the answer of that call; MIRELADLE_WAITING before the first */
+    uint64_t row;       /* the start at which the search goes on */
+    uint64_t matches;   /* matches in the report */
+    uint64_t labels;    /* label bytes in the report */
+    uint64_t steps;     /* pairs entered, over all calls */
+    uint64_t opened;    /* pairs still open, where the search waits inside an attempt */
 };
 
 /* What the working room of a search is measured by. On the answers 1 to 10 and 14 all but the answer, and the offset of
@@ -169,6 +194,7 @@ typedef struct mireladle_result mireladle_result_t;
 typedef struct mireladle_room mireladle_room_t;
 typedef struct mireladle_verdict mireladle_verdict_t;
 typedef struct mireladle_tested mireladle_tested_t;
+typedef struct mireladle_feed mireladle_feed_t;
 
 /*
  * Searches the rows for all matches of the query. A match is looked for from row 0 on, at one row after the other, but
@@ -418,6 +444,41 @@ struct mireladle_tested mireladle_test(const uint8_t *query, size_t query_len, c
  * upper bound is at least 1 and not below the lower one, and n in {n} is at least 1. Spaces may stand between these,
  * but not inside the braces, and have to stand between letters.
  */
+
+/*
+ * A search whose rows come in lots (R-11). mireladle_begin() names the largest number of rows that there may be, by
+ * which notes and trail are measured, and the steps allowed over all calls (UINT64_MAX for any number); it looks at
+ * nothing else. Then come any number of mireladle_more(), each with the rows present so far, and one mireladle_last(),
+ * which declares the end and may bring rows too. Any cutting into lots gives by the end the report and the steps of the
+ * one search of all rows: mireladle_search_within().
+ *
+ * Rows once present do not change, and between the calls the query, the notes, the trail and both report buffers are the
+ * same, of the same lengths. `rows` may be longer than what is present: what lies behind the present rows is not read.
+ * Each call appends its matches behind those of earlier calls; a match is in the report as soon as the walk reaches END.
+ *
+ * The answers of a call, in rank: 13, 15 and 16 stay the answer of every later call, with the same counts; after the end
+ * 21; then 1 to 9 and 14 of the query, 17, 10 (the largest number is above 4,096, the entries are not whole rows, or more
+ * rows are said to be present than named first or than `rows` holds), 11 and 12 by the largest number, 21 (fewer rows
+ * than before). All of these change nothing, neither a buffer nor the feed, and return zeros but for 13, 15 and 16. Any
+ * other call searches: 23 while more rows are waited for, 0 only from the last call, else 13, 15 or 16.
+ * At 23 the first P * F * (largest + 1) numbers of the trail are left free; at 0, 13, 15 and 16 they are 0.
+ * A feed that no call wrote gets some answer; nothing outside the lent buffers is read or written.
+ */
+void mireladle_begin(struct mireladle_feed *feed, uint64_t largest, uint64_t allowance);
+struct mireladle_result mireladle_more(struct mireladle_feed *feed,
+                                       const uint8_t *query, size_t query_len,
+                                       const int32_t *rows, size_t rows_len, uint64_t present,
+                                       uint8_t *notes, size_t notes_len,
+                                       uint32_t *trail, size_t trail_len,
+                                       int64_t *numbers, size_t numbers_len,
+                                       uint8_t *labels, size_t labels_len);
+struct mireladle_result mireladle_last(struct mireladle_feed *feed,
+                                       const uint8_t *query, size_t query_len,
+                                       const int32_t *rows, size_t rows_len, uint64_t present,
+                                       uint8_t *notes, size_t notes_len,
+                                       uint32_t *trail, size_t trail_len,
+                                       int64_t *numbers, size_t numbers_len,
+                                       uint8_t *labels, size_t labels_len);
 
 #ifdef __cplusplus
 }

@@ -2,6 +2,7 @@
 // one of its name, with the same promise. A slice passes as a pointer and a length in elements;
 // include/mireladle.h says what a caller owes for the pointers, which no promise here can check.
 use bus_log::Verdict;
+use lots::Feed;
 use outcome::Outcome;
 use test_letter::Tested;
 ghost use mathlib.Core.Option.{none, some};
@@ -118,4 +119,48 @@ pub extern "C" fn mireladle_test(query: &[u8], rows: &[i32], letter: u8, row: us
     ensures { λ r. ⌜ TestedAs (now (query .entry)) (now (rows .entry)) letter row r ⌝ }
 {
     test_letter::test_letter(query, rows, letter, row)
+}
+
+// A search by lots begins: the largest number of rows and the steps allowed are named.
+#[no_mangle]
+pub extern "C" fn mireladle_begin(feed: &mut Feed, largest: usize, allowance: usize) {
+    *feed = lots::begin(largest, allowance);
+}
+
+// A lot of rows, behind which more may come.
+#[no_mangle]
+pub extern "C" fn mireladle_more(
+    feed: &mut Feed,
+    query: &[u8],
+    rows: &[i32],
+    present: usize,
+    notes: &mut [u8],
+    trail: &mut [u32],
+    numbers: &mut [i64],
+    labels: &mut [u8],
+) -> Outcome {
+    let before = *feed;
+    let fed = feeding::more(before, query, rows, present, notes, trail, numbers, labels);
+    let after = fed.feed;
+    *feed = after;
+    fed.outcome
+}
+
+// The last lot: the end is declared.
+#[no_mangle]
+pub extern "C" fn mireladle_last(
+    feed: &mut Feed,
+    query: &[u8],
+    rows: &[i32],
+    present: usize,
+    notes: &mut [u8],
+    trail: &mut [u32],
+    numbers: &mut [i64],
+    labels: &mut [u8],
+) -> Outcome {
+    let before = *feed;
+    let fed = feeding::last(before, query, rows, present, notes, trail, numbers, labels);
+    let after = fed.feed;
+    *feed = after;
+    fed.outcome
 }
