@@ -1,26 +1,10 @@
+-- `entering::enter` meets its contract by the laws of Small and Letter.
 use native.Mathlib.Omega.{arith}
-<<<<<<< ours
-use Rattle.pairs.proofs.Small.{fork-small, fork-inside, anchor-small, anchor-inside, enter-fork, anchor-shut, enter-end, enter-anchor}
-use Rattle.entering.proofs.Letter.{low-code, letter-shut, next-inside, letter-stuck, letter-opens}
-=======
-use Rattle.pairs.proofs.Small.{fork-small, fork-inside, letter-inside, anchor-small, anchor-inside, enter-fork, enter-letter, enter-absent, enter-shut, enter-stuck, anchor-shut, enter-end, enter-anchor}
->>>>>>> theirs
+use Rattle.pairs.proofs.Small.{fork-small, fork-inside, letter-inside, anchor-small, anchor-inside, enter-fork, enter-absent, anchor-shut, enter-end, enter-anchor}
+use Rattle.entering.proofs.Letter.{low-code, letter-shut, letter-stuck, letter-opens}
 use borrow.Author.Needs.{needs}
 use Rattle.entering.proofs.enter.Statement.{statement}
 use Rattle.entering.proofs.enter.Tie as tie
-use Rattle.entering.proofs.enter.Reads as reads
-use Rattle.entering.proofs.enter.Lts as lts
-use Rattle.entering.proofs.letter_passes.Reads as letter-passes-reads
-use Rattle.pairs.proofs.absent.Reads as absent-reads
-use Rattle.pairs.proofs.anchor_passes.Reads as anchor-passes-reads
-use Rattle.pairs.proofs.entry_at.Reads as entry-at-reads
-use Rattle.pairs.proofs.failed.Reads as failed-reads
-use Rattle.pairs.proofs.fails.Reads as fails-reads
-use Rattle.pairs.proofs.fork_entry.Reads as fork-entry-reads
-use Rattle.pairs.proofs.push.Reads as push-reads
-use Rattle.pairs.proofs.tried.Reads as tried-reads
-use Rattle.table.proofs.code_at.Reads as code-at-reads
-use Rattle.table.proofs.first_at.Reads as first-at-reads
 
 add-steps : tie.Need-add-steps
 add-steps c = omega arith
@@ -70,13 +54,8 @@ fails-requires c κs = search needs
 same-length-4 : tie.Need-same-length-4
 same-length-4 c = omega arith
 
-<<<<<<< ours
-returns-2 : tie.Need-returns-2
-returns-2 c = search (needs, letter-shut)
-=======
 returns-3 : tie.Need-returns-3
-returns-3 c = search (needs, enter-shut)
->>>>>>> theirs
+returns-3 c = search (needs, letter-shut)
 
 first-at-requires : tie.Need-first-at-requires
 first-at-requires c κs = search needs
@@ -88,7 +67,7 @@ add-failed : tie.Need-add-failed
 add-failed c = omega arith
 
 failed-requires : tie.Need-failed-requires
-failed-requires c κs = search (needs, next-inside)
+failed-requires c κs = search (needs, letter-inside)
 
 fails-requires-2 : tie.Need-fails-requires-2
 fails-requires-2 c κs = search needs
@@ -96,13 +75,8 @@ fails-requires-2 c κs = search needs
 same-length-5 : tie.Need-same-length-5
 same-length-5 c = omega arith
 
-<<<<<<< ours
-returns-3 : tie.Need-returns-3
-returns-3 c = search (needs, letter-stuck)
-=======
 returns-4 : tie.Need-returns-4
-returns-4 c = enter-stuck _ _ _ _ _ _ _ _ _ (c .before .before .before .before .before .before .before .before .before .before .before .before .before .before .before .before .before .before .before .before .pre .1) _ (c .before .before .before .before .before .before .before .before .before .before .before .before .before .before .before .code-at .ensures) (omega arith) (omega arith) _ (c .before .before .before .before .before .before .before .before .before .before .letter-passes .ensures) (c .before .before .before .before .before .before .before .before .before .if4 .left) _ (c .before .before .before .before .before .before .before .before .first-at .ensures) _ (c .before .before .before .before .before .failed .ensures) (c .before .before .before .before .if5 .taken) _ _ (c .before .before .fails2 .ensures)
->>>>>>> theirs
+returns-4 c = letter-stuck _ _ _ _ _ _ _ _ _ (c .before .before .before .before .before .before .before .before .before .before .before .before .before .before .before .before .before .before .before .before .pre .1) _ (c .before .before .before .before .before .before .before .before .before .before .before .before .before .before .before .code-at .ensures) (omega arith) (omega arith) _ (c .before .before .before .before .before .before .before .before .before .before .letter-passes .ensures) (c .before .before .before .before .before .before .before .before .before .if4 .left) _ (c .before .before .before .before .before .before .before .before .first-at .ensures) _ (c .before .before .before .before .before .failed .ensures) (c .before .before .before .before .if5 .taken) _ _ (c .before .before .fails2 .ensures)
 
 push-requires-2 : tie.Need-push-requires-2
 push-requires-2 c κs = search needs
@@ -116,16 +90,11 @@ add-next c = omega arith
 same-length-6 : tie.Need-same-length-6
 same-length-6 c = omega arith
 
-<<<<<<< ours
-returns-4 : tie.Need-returns-4
-returns-4 c = search (needs, letter-opens)
-=======
 same-length-7 : tie.Need-same-length-7
 same-length-7 c = omega arith
 
 returns-5 : tie.Need-returns-5
-returns-5 c = enter-letter _ _ _ _ _ _ _ _ _ (c .before .before .before .before .before .before .before .before .before .before .before .before .before .before .before .before .before .before .before .before .pre .1) _ (c .before .before .before .before .before .before .before .before .before .before .before .before .before .before .before .code-at .ensures) (omega arith) (omega arith) _ (c .before .before .before .before .before .before .before .before .before .before .letter-passes .ensures) (c .before .before .before .before .before .before .before .before .before .if4 .left) _ (c .before .before .before .before .before .before .before .before .first-at .ensures) _ (c .before .before .before .before .before .failed .ensures) (c .before .before .before .before .if5 .left) _ (c .before .before .push2 .ensures)
->>>>>>> theirs
+returns-5 c = letter-opens _ _ _ _ _ _ _ _ _ (c .before .before .before .before .before .before .before .before .before .before .before .before .before .before .before .before .before .before .before .before .pre .1) _ (c .before .before .before .before .before .before .before .before .before .before .before .before .before .before .before .code-at .ensures) (omega arith) (omega arith) _ (c .before .before .before .before .before .before .before .before .before .before .letter-passes .ensures) (c .before .before .before .before .before .before .before .before .before .if4 .left) _ (c .before .before .before .before .before .before .before .before .first-at .ensures) _ (c .before .before .before .before .before .failed .ensures) (c .before .before .before .before .if5 .left) _ (c .before .before .push2 .ensures)
 
 anchor-passes-requires : tie.Need-anchor-passes-requires
 anchor-passes-requires c κs = search needs
