@@ -132,22 +132,17 @@ module _ (q T : List ℕ) (p : Prepared) (a : Ready q T p) (terms : Terms) (rows
   product-le : (x y z w : ℕ) → x ≤ z → y ≤ w → x * y ≤ z * w
   product-le x y z w h k = mul-le-mul h k
 
-<<<<<<< ours
-  few-pairs : pairs (p .places) n < W.mostPairs
-  few-pairs = let h : p .places * suc n ≤ 2048 * 4097 = product-le (p .places) (suc n) 2048 4097 (a .few) (let m = f .most in omega arith) in omega arith
-=======
   most-rows : n ≤ 4096
   most-rows = let m = f .most in let l = f .few in omega arith
 
-  all-pairs : pairs (p .places) (terms .largest) < 2097152
-  all-pairs = let h : p .places * suc (terms .largest) ≤ 256 * 4097 = product-le (p .places) (suc (terms .largest)) 256 4097 (a .few) (let m = f .most in omega arith) in omega arith
+  all-pairs : pairs (p .places) (terms .largest) < W.mostPairs
+  all-pairs = let h : p .places * suc (terms .largest) ≤ 2048 * 4097 = product-le (p .places) (suc (terms .largest)) 2048 4097 (a .few) (let m = f .most in omega arith) in omega arith
 
   pub more-pairs : pairs (p .places) n ≤ pairs (p .places) (terms .largest)
   more-pairs = product-le (p .places) (suc n) (p .places) (suc (terms .largest)) (omega arith) (let l = f .few in omega arith)
 
-  few-pairs : pairs (p .places) n < 2097152
+  few-pairs : pairs (p .places) n < W.mostPairs
   few-pairs = let m = more-pairs in let l = all-pairs in omega arith
->>>>>>> theirs
 
   legal : W.Legal L holdsAt n
   unfolding W.graphOf
@@ -167,13 +162,8 @@ module _ (q T : List ℕ) (p : Prepared) (a : Ready q T p) (terms : Terms) (rows
     searches-by =
         let e = f .all in
         record {
-<<<<<<< ours
-          letters = (record { tests-there = a .tests; some = a .some-columns; few = a .most-columns; most = f .most; all = f .all }, a .pointed);
-          measured = record { few = a .count-few; few-rows = f .most; there = omega arith; measurable = a .measurable };
-=======
           letters = record { tests-there = a .tests; some = a .some-columns; few = a .most-columns; most = most-rows; all = f .all };
           measured = record { few = a .count-few; few-rows = most-rows; there = omega arith; measurable = a .measurable };
->>>>>>> theirs
           legal = legal;
           noted = let m = more-pairs in let b = f .noted in omega arith;
           trailed = let m = more-pairs in let b = f .trailed in omega arith;
@@ -227,9 +217,9 @@ pub walk-searches : (T : List ℕ) (p : Prepared) (terms : Terms) (rows : List �
 walk-searches T p terms rows notes trail w t h =
     (may-search (w .query) T p (w .ready) terms rows notes trail (w .fed) t h, may-measure (w .query) T p (w .ready) terms rows notes trail (w .fed) t h)
 
-pub walk-terms : (T : List ℕ) (p : Prepared) (terms : Terms) (rows : List ℤ) (notes trail : List ℕ) → Walks T p terms rows notes trail → (p .places ≤ 256) × (terms .largest ≤ 4096)
+pub walk-terms : (T : List ℕ) (p : Prepared) (terms : Terms) (rows : List ℤ) (notes trail : List ℕ) → Walks T p terms rows notes trail → (p .places ≤ 2048) × (terms .largest ≤ 4096)
 walk-terms T p terms rows notes trail w = (w .ready .few, w .fed .most)
 
 -- the pairs of the task
-pub task-pairs : (places largest : ℕ) → places ≤ 256 → largest ≤ 4096 → places * (largest + 1) ≤ 256 * 4097
+pub task-pairs : (places largest : ℕ) → places ≤ 2048 → largest ≤ 4096 → places * (largest + 1) ≤ 2048 * 4097
 task-pairs places largest a b = mul-le-mul a (let z : largest + 1 ≤ 4097 = omega arith in z)

@@ -152,24 +152,10 @@ module _ (W : List ℕ) (rows : List ℤ) (task : Task) (n₀ t₀ : List ℕ) (
   abbrev M : ℕ
   M = N (A .layout) (A .n)
 
-<<<<<<< ours
-  abbrev code : ℕ
-  code = P (A .layout) * (A .n + 1)
-
-  pub pairs-are : code ≡ M
-  pairs-are = ap (λ (k : ℕ). P (A .layout) * k) (add-one (A .n))
-
-  pub rows-fit : A .n + 1 ≤ 4097
-  rows-fit = let r = h .measured .few-rows in omega arith
-
-  pub pairs-fit : code < mostPairs
-  pairs-fit = rw pairs-are (h .legal .small)
-=======
   abbrev B : ℕ
   B = bytesFor (task .pairs)
->>>>>>> theirs
 
-  pub pairs-fit : task .pairs + 7 < 2097159
+  pub pairs-fit : task .pairs + 7 < mostPairs + 7
   pairs-fit = let a = m .small in omega arith
 
   pub bytes-fit : (task .pairs + 7) / 8 ≤ length n₀

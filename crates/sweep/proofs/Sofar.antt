@@ -20,12 +20,7 @@ use Rattle.laws.proofs.Appended.{wrote-none, wrote-on, length-wrote-at, numbers
 use Rattle.laws.proofs.Limits.{match-long, numbers-long}
 use Rattle.rules.specs.Working.{bitsOf}
 use Rattle.laws.proofs.Starts.{next-on}
-<<<<<<< ours
-use Rattle.pairs.specs.Layout.{P, N, graphOf, mostPairs}
-use Rattle.pairs.specs.State.{allowing}
-=======
 use Rattle.pairs.specs.Layout.{P, N, graphOf, haltsIn}
->>>>>>> theirs
 use Rattle.pairs.proofs.Ways.{in-length}
 use Rattle.matches.specs.declared.Sweep.{Sweep}
 use Rattle.matches.specs.declared.Task.{Task}
@@ -81,42 +76,6 @@ module _ (W : List ℕ) (rows : List ℤ) (task : Task) (num₁ : List ℤ) (lab
     so-labels : length labs ≡ length lab₁
     so-labels = let b = h .labs-le in let c = h .l-is in rw (h .labels-is) (length-wrote-at lab₁ 0 (labelsOf (pl A) (h .done)) (omega arith))
 
-<<<<<<< ours
-    module _ (lt : i .row < A .n) where
-      steps-fit : i .steps + M A < 18446744073709551616
-      steps-fit =
-          let s = h .searches .legal .small in
-          let r = h .searches .measured .few-rows in
-          let a : suc (i .row) * M A ≤ A .n * M A = mul-le-mul-right (M A) lt in
-          let b : A .n * M A ≤ 4096 * mostPairs = mul-le-mul r (let z : M A ≤ mostPairs = omega arith in z) in
-          let c : suc (i .row) * M A ≡ i .row * M A + M A = suc-mul (i .row) (M A) in
-          let d = h .steps in
-          omega arith
-
-      pub so-visits : Visits W rows task notes trail labs i
-      so-visits =
-          record {
-            searches =
-                record {
-                  letters = h .searches .letters;
-                  measured = h .searches .measured;
-                  legal = h .searches .legal;
-                  noted = rw (h .notes-long) (h .searches .noted);
-                  trailed = rw (h .trail-long) (h .searches .trailed);
-                };
-            row = lt;
-            steps = steps-fit;
-            few = h .few;
-            labels = rw so-labels (h .labs-le);
-          }
-
-      not-over : h .stop ≡ false
-      not-over = go (h .stop) refl
-        where
-          go : (b : Bool) → h .stop ≡ b → h .stop ≡ false
-          go true e = absurd (let r = h .over e .0 in omega arith)
-          go false e = e
-=======
     -- no match is left to find: the search is over so
     ends : (e : End Match) (F′ : List Bool) (s′ : ℕ) → sw (h .fuel) (i .row) (i .matches) (i .labels) (F, i .steps) ≡ record { matches = []; end = e; state = (F′, s′) }
         → goal ≡ record { matches = h .done; end = e; state = (F′, s′) }
@@ -159,7 +118,6 @@ module _ (W : List ℕ) (rows : List ℤ) (task : Task) (num₁ : List ℤ) (lab
         (over-came (R.unfinished outOfRows (i .row) []) notes F (i .steps) refl numbers labs _
         (off ge ∙ ap (λ (b : Bool). record { matches = []; end = R.noStart b (i .row); state = (F, i .steps) }) em) refl refl refl refl
         (λ j p (d : R.unfinished outOfRows (i .row) [] ≡ R.unfinished outOfRows j p). let a : i .row ≡ j = cc in let b : [] ≡ p = cc in (a, ap length b)) refl refl)
->>>>>>> theirs
 
     module _ (lt : i .row < A .n) where
       abbrev att : Attempted × Kept

@@ -19,7 +19,7 @@ use Rattle.laws.proofs.Notes.{bitsFrom-length}
 use Rattle.rules.specs.Working.{bitsOf}
 use Rattle.laws.proofs.Walk.{InsidePost, inside-post}
 use Rattle.pairs.specs.declared.Walk.{Walk}
-use Rattle.pairs.specs.Layout.{Layout, P, N, graphOf, haltsIn}
+use Rattle.pairs.specs.Layout.{Layout, P, N, graphOf, haltsIn, mostPairs}
 use Rattle.pairs.specs.Step.{pairIn, pairOf, stack, beforeBy, before, outcomeBy, resultBy}
 use Rattle.pairs.specs.State.{Good, Stands, Ready, Done, Quiet}
 use Rattle.pairs.proofs.Trails.{stack-length}
@@ -101,7 +101,7 @@ module _ (W : List ℕ) (rows : List ℤ) (task : Task) (trail labs : List ℕ) 
   pub tell-row : Tells W rows task trail labs i w → i .row + 1 ≤ 4097
   tell-row h = let a = h .row in omega arith
 
-  pub tell-top : Tells W rows task trail labs i w → w .top + 1 ≤ 2097152
+  pub tell-top : Tells W rows task trail labs i w → w .top + 1 ≤ mostPairs
   tell-top h = let a = h .top in omega arith
 
   pub tell-reports : Tells W rows task trail labs i w → (w .status ≡ 1 → ⊥) → (w .status ≡ 3 → ⊥) → (w .top ≡ 0 → ⊥) → Reports W rows task trail labs i w

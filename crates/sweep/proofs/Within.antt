@@ -20,7 +20,7 @@ use Rattle.laws.proofs.Appended.{wrote-none, wrote-on, length-wrote-at, numbers
 use Rattle.laws.proofs.Limits.{match-long, numbers-long}
 use Rattle.rules.specs.Working.{bitsOf}
 use Rattle.laws.proofs.Starts.{next-on}
-use Rattle.pairs.specs.Layout.{P, N, graphOf, haltsIn}
+use Rattle.pairs.specs.Layout.{P, N, graphOf, haltsIn, mostPairs}
 use Rattle.pairs.proofs.Ways.{in-length}
 use Rattle.matches.specs.declared.Sweep.{Sweep}
 use Rattle.matches.specs.declared.Task.{Task}
@@ -42,7 +42,7 @@ module _ (W : List ℕ) (rows : List ℤ) (task : Task) (notes trail : List ℕ)
       let s = h .searches .legal .small in
       let r = h .searches .measured .few-rows in
       let a : suc (i .row) * M A ≤ A .n * M A = mul-le-mul-right (M A) lt in
-      let b : A .n * M A ≤ 4096 * 2097152 = mul-le-mul r (let z : M A ≤ 2097152 = omega arith in z) in
+      let b : A .n * M A ≤ 4096 * mostPairs = mul-le-mul r (let z : M A ≤ mostPairs = omega arith in z) in
       let c : suc (i .row) * M A ≡ i .row * M A + M A = suc-mul (i .row) (M A) in
       let d = h .steps in
       omega arith
