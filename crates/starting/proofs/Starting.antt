@@ -162,7 +162,7 @@ module _ (q T : List ℕ) (p : Prepared) (a : Ready q T p) (terms : Terms) (rows
     searches-by =
         let e = f .all in
         record {
-          letters = record { tests-there = a .tests; some = a .some-columns; few = a .most-columns; most = most-rows; all = f .all };
+          letters = (record { tests-there = a .tests; some = a .some-columns; few = a .most-columns; most = most-rows; all = f .all }, a .pointed);
           measured = record { few = a .count-few; few-rows = most-rows; there = omega arith; measurable = a .measurable };
           legal = legal;
           noted = let m = more-pairs in let b = f .noted in omega arith;
