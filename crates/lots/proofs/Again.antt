@@ -22,7 +22,6 @@ use Rattle.laws.proofs.GoesOn.{Sooner, andThen, resumed, resumedBy, rowsIn, beh
 use Rattle.laws.proofs.Machine.{firstOpen}
 use Rattle.laws.proofs.Padded.{padded, more-pairs, search-padded}
 use Rattle.laws.proofs.PatternWalk.{top, starts, search-kept}
-use Rattle.laws.proofs.Level.{legal}
 use Rattle.laws.proofs.Rank.{rank}
 use Rattle.laws.proofs.ThinGoes.{thin-goes}
 use Rattle.laws.proofs.ThinPlaces.{thinned-falls}
@@ -65,7 +64,7 @@ gap-out : (F : List Bool) (k : ℕ) (p : List ℕ) → All (Out F) p → All (Ou
 gap-out F k [] a = tt
 gap-out F k (x ∷ p) a = (gap-at F k x ∙ a .0, gap-out F k p (a .1))
 
-module _ (t : Unrolled) (g : legal t ≡ true) (skip : Skip) (fit : ℕ → ℕ → List ℕ → Bool) (holds₁ holds₂ : ℕ → ℕ → Bool) (n₁ n₂ a : ℕ) (more : Bool) (le : n₁ ≤ n₂)
+module _ (t : Unrolled) (skip : Skip) (fit : ℕ → ℕ → List ℕ → Bool) (holds₁ holds₂ : ℕ → ℕ → Bool) (n₁ n₂ a : ℕ) (more : Bool) (le : n₁ ≤ n₂)
     (sooner : Sooner (haltingOf (record { largest = n₂; more = true; allowance = some a }) (places t) n₁) (haltingOf (record { largest = n₂; more = more; allowance = some a }) (places t) n₂)
     (pairWays holds₁ n₁ (places t)) (pairWays holds₂ n₂ (places t))) where
   abbrev pub pl : List Place
@@ -102,8 +101,8 @@ module _ (t : Unrolled) (g : legal t ≡ true) (skip : Skip) (fit : ℕ → ℕ 
 
   earlier-is : walkSearch terms₁ holds₁ n₁ pl skip fit ≡ padded gap earlier
   earlier-is =
-      walk-thin t g holds₁ n₁ terms₁ le skip fit ∙ search-padded t g holds₁ n₁ terms₁ le skip fit
-      ∙ ap (padded gap) (sym (walk-thin t g holds₁ n₁ (record { largest = n₁; more = true; allowance = some a }) (omega arith) skip fit))
+      walk-thin t holds₁ n₁ terms₁ le skip fit ∙ search-padded t holds₁ n₁ terms₁ le skip fit
+      ∙ ap (padded gap) (sym (walk-thin t holds₁ n₁ (record { largest = n₁; more = true; allowance = some a }) (omega arith) skip fit))
 
   abbrev halts₂ : Halting
   halts₂ = haltingOf terms₂ pl n₂
@@ -121,29 +120,29 @@ module _ (t : Unrolled) (g : legal t ≡ true) (skip : Skip) (fit : ℕ → ℕ 
   F₂ = earlier .state .0 ++ gap
 
   long₁ : length (earlier .state .0) ≡ pairs (length pl) n₁
-  long₁ = ap (λ (r : Swept Kept). length (r .state .0)) (walk-thin t g holds₁ n₁ (record { largest = n₁; more = true; allowance = some a }) (omega arith) skip fit)
-      ∙ search-kept t g holds₁ n₁ (record { largest = n₁; more = true; allowance = some a }) (omega arith) skip fit ∙ ap (λ (k : ℕ). pairs k n₁) (sym (thinned-length (places t)))
+  long₁ = ap (λ (r : Swept Kept). length (r .state .0)) (walk-thin t holds₁ n₁ (record { largest = n₁; more = true; allowance = some a }) (omega arith) skip fit)
+      ∙ search-kept t holds₁ n₁ (record { largest = n₁; more = true; allowance = some a }) (omega arith) skip fit ∙ ap (λ (k : ℕ). pairs k n₁) (sym (thinned-length (places t)))
 
   pub long₂ : length F₂ ≡ N₂
   long₂ =
       let e = length-append (earlier .state .0) gap in
       let f = length-replicate (pairs (length (places t)) n₂ - pairs (length (places t)) n₁) false in
-      let m = more-pairs t g holds₁ n₁ n₂ le in
+      let m = more-pairs t holds₁ n₁ n₂ le in
       let d = long₁ in
       let k : length pl ≡ length (places t) = thinned-length (places t) in
       rw (e, f, d, k) (omega arith)
 
   falls₁ : Falls (pairWays holds₁ n₁ pl) (rank t n₁) (pairs (length pl) n₁)
-  falls₁ = rw (thinned-length (places t)) (thinned-falls t g holds₁ n₁)
+  falls₁ = rw (thinned-length (places t)) (thinned-falls t holds₁ n₁)
 
   falls₂ : Falls ways₂ (rank t n₂) N₂
-  falls₂ = rw (thinned-length (places t)) (thinned-falls t g holds₂ n₂)
+  falls₂ = rw (thinned-length (places t)) (thinned-falls t holds₂ n₂)
 
   tops : (n : ℕ) (holds : ℕ → ℕ → Bool) (x : ℕ) → rank t n x < pairs (length pl) n
-  tops n holds x = rw (thinned-length (places t)) (top t g holds n x)
+  tops n holds x = rw (thinned-length (places t)) (top t holds n x)
 
   firsts : (n : ℕ) (holds : ℕ → ℕ → Bool) (i : ℕ) → i < n → firstAt (length pl) i < pairs (length pl) n
-  firsts n holds i h = rw (thinned-length (places t)) (starts t g holds n i h .0)
+  firsts n holds i h = rw (thinned-length (places t)) (starts t holds n i h .0)
 
   starts-in : (n : ℕ) (holds : ℕ → ℕ → Bool) (b : Bool) (i : ℕ) → i < planOf pl n b skip fit .n → firstAt (length pl) i < pairs (length pl) n
   unfolding planOf
@@ -181,7 +180,7 @@ module _ (t : Unrolled) (g : legal t ≡ true) (skip : Skip) (fit : ℕ → ℕ 
         let st : Kept = (F₂, earlier .state .1 - length p) in
         let on : ℕ → Swept Kept = λ l. sweep (walkAt halts₂ ways₂ N₂ (firstAt (length pl))) plan₂ n₂ i (length ms) l st in
         let a : walkSearch terms₂ holds₂ n₂ pl skip fit ≡ andThen halts₂ ways₂ N₂ (firstAt (length pl)) plan₂ 0 0 (walkSearch terms₁ holds₁ n₁ pl skip fit) =
-        thin-goes t g skip fit holds₁ holds₂ n₁ n₂ terms₁ terms₂ refl le (omega arith) sooner (inl refl) in
+        thin-goes t skip fit holds₁ holds₂ n₁ n₂ terms₁ terms₂ refl le (omega arith) sooner (inl refl) in
         let b : andThen halts₂ ways₂ N₂ (firstAt (length pl)) plan₂ 0 0 (walkSearch terms₁ holds₁ n₁ pl skip fit) ≡ andThen halts₂ ways₂ N₂ (firstAt (length pl)) plan₂ 0 0 (padded gap earlier) =
         ap (andThen halts₂ ways₂ N₂ (firstAt (length pl)) plan₂ 0 0) earlier-is in
         let z₁ : 0 + length ms ≡ length ms = omega arith in

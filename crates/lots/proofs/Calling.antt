@@ -32,7 +32,7 @@ use Rattle.outcome.specs.Results.{memory}
 use Rattle.lots.specs.declared.Feed.{Feed}
 use Rattle.lots.specs.Feeds.{keptIn}
 use Rattle.lots.proofs.Standing.{stands, later-noted}
-use Rattle.lots.proofs.Leaving.{leaves}
+use Rattle.lots.proofs.Leaving.{leaves, waits-told}
 
 drop-at : (k : ℕ) (a b : List ℕ) → drop k a ≡ drop k b → (i : ℕ) → k ≤ i → length a ≡ length b → getD a i 0 ≡ getD b i 0
 drop-at zero a b e i l len = ap (λ (v : List ℕ). getD v i 0) e
@@ -88,6 +88,13 @@ module _ (s : Named) (begins : beginAnswer s ≡ 0) (a : ℕ) (al : s .allowance
         leaves s begins a al T p ready rows₂ n₂ lot₂ last t task notes trail fed notes′ trail′ numbers′ labels′ r o eo (came .reported) noted zeroed (w .trailed .trail-long ∙ long-trail)
         (w .trailed .trail-beyond ∙ trail-beyond) room
 
+    -- and tells where it waits
+    pub later-waits : (o : Outcome) → o ≡ record { answer = r .end; matches = r .matches; labels = r .labels; steps = r .steps; offset = 0 }
+        → (i : ℕ) (u : List ℕ) → lotWalk s rows₂ n₂ last .end ≡ unfinished outOfRows i u → (r .row ≡ i) × (r .opened ≡ length u)
+    later-waits o eo =
+        waits-told s begins a al T p ready rows₂ n₂ lot₂ last t task notes trail fed notes′ trail′ numbers′ labels′ r o eo (came .reported) noted zeroed (w .trailed .trail-long ∙ long-trail)
+        (w .trailed .trail-beyond ∙ trail-beyond) room
+
 -- the first call does too
 module _ (s : Named) (begins : beginAnswer s ≡ 0) (a : ℕ) (al : s .allowance ≡ some a) (T : List ℕ) (p : Prepared) (ready : Ready (s .query) T p) (rows : List ℤ) (n : ℕ) (lot : Lot s rows n) (last : Bool)
     (t : C.Task) (task : TaskFor p (record { rows = n; largest = s .largest; allowance = a; more = not last }) t)
@@ -98,4 +105,10 @@ module _ (s : Named) (begins : beginAnswer s ≡ 0) (a : ℕ) (al : s .allowance
       → Leaves s (lotMemory s rows n last) (memory o notes trail numbers labels)
   first-leaves o eo =
       leaves s begins a al T p ready rows n lot last t task (s .lent .notes) (s .lent .trail) fed notes trail numbers labels r o eo (d .reported) (d .notes-is) (d .trailed .zeroed) (d .trailed .trail-long)
+      (d .trailed .trail-beyond) room
+
+  pub first-waits : (o : Outcome) → o ≡ record { answer = r .end; matches = r .matches; labels = r .labels; steps = r .steps; offset = 0 }
+      → (i : ℕ) (u : List ℕ) → lotWalk s rows n last .end ≡ unfinished outOfRows i u → (r .row ≡ i) × (r .opened ≡ length u)
+  first-waits o eo =
+      waits-told s begins a al T p ready rows n lot last t task (s .lent .notes) (s .lent .trail) fed notes trail numbers labels r o eo (d .reported) (d .notes-is) (d .trailed .zeroed) (d .trailed .trail-long)
       (d .trailed .trail-beyond) room

@@ -10,17 +10,19 @@ use native.Mathlib.Omega.{arith}
 use lib.IntN.{ℤ}
 use lib.ListN.{length, drop, replicate, length-append, length-replicate}
 use Rattle.rules.specs.Basics.{wrote}
+use Rattle.rules.specs.Query.{textOf}
 use Rattle.rules.specs.Places.{Unrolled, unroll, places}
-use Rattle.rules.specs.Search.{Swept, Kept, Terms, walkSearch}
-use Rattle.rules.specs.Walk.{pairs}
+use Rattle.rules.specs.Search.{unfinished, Swept, Kept, Terms, walkSearch}
+use Rattle.rules.specs.Walk.{outOfRows, pairs}
 use Rattle.rules.specs.Report.{fits, labelsOf, numbersOf, notesOf, zeros}
-use Rattle.rules.specs.Answers.{treeIn, P, letterHolds, Task, taskOf, walkedOn, endAnswer, reportOf, Result, Memory, accepted}
+use Rattle.rules.specs.Answers.{treeIn, letterHolds, Task, taskOf, walkedOn, endAnswer, reportOf, Result, Memory, accepted}
 use Rattle.rules.specs.Lots.{Named, presentRows, presentTask, namedPairs, beginAnswer, lotTerms, lotWalk, lotMemory, Leaves}
 use Rattle.rules.specs.LotDemands.{Lot}
 use Rattle.laws.proofs.Accepted.{places-are}
 use Rattle.laws.proofs.Appended.{length-wrote-at}
-use Rattle.laws.proofs.Counting.{legal-unroll, places-counted}
-use Rattle.laws.proofs.Level.{legal}
+use Rattle.laws.proofs.Bounds.{Bounds, written-bounds}
+use Rattle.laws.proofs.Grammar.{tree-exactly}
+use Rattle.laws.proofs.Counting.{places-counted}
 use Rattle.laws.proofs.Lots.{Begins-well, begins-well, task-n}
 use Rattle.laws.proofs.Padded.{padded, beyond, more-pairs, search-padded}
 use Rattle.laws.proofs.PatternWalk.{search-kept}
@@ -36,6 +38,7 @@ use Rattle.starting.proofs.Starting.{found, numbered, labelled, counted}
 use Rattle.pairs.specs.Layout.{N, layoutOf}
 use Rattle.outcome.specs.declared.Outcome.{Outcome}
 use Rattle.outcome.specs.Results.{memory}
+use Rattle.lots.proofs.Pairs.{named-pairs}
 
 -- what lies behind what was written is as it was
 drop-wrote : (l vs : List ℕ) → drop (length vs) (wrote l 0 vs) ≡ drop (length vs) l
@@ -70,8 +73,9 @@ module _ (s : Named) (begins : beginAnswer s ≡ 0) (a : ℕ) (al : s .allowance
   abbrev U : Unrolled
   U = unroll (ready .tree)
 
-  g : legal U ≡ true
-  g = legal-unroll (ready .tree) (ready .no-loop)
+  bounds : Bounds (ready .tree)
+  unfolding treeIn
+  bounds = written-bounds (tree-exactly (textOf q) (ready .tree) .0 (ready .has-tree))
 
   abbrev R : Swept Kept
   R = searchOf (askedOf T part t) nums labs
@@ -88,31 +92,30 @@ module _ (s : Named) (begins : beginAnswer s ≡ 0) (a : ℕ) (al : s .allowance
   places₂ = places-are q part (ready .tree) (ready .has-tree)
 
   abbrev gap : List Bool
-  gap = beyond U g (letterHolds t₂) (t₂ .table .n) (s .largest)
+  gap = beyond U (letterHolds t₂) (t₂ .table .n) (s .largest)
 
   few : t₂ .table .n ≤ s .largest
   few = rw (task-n s ok rows n lot) (lot .few)
 
   walk-is : lotWalk s rows n last ≡ padded gap D
   unfolding lotWalk walkedOn
-  walk-is = rw (al, places₂) (search-padded U g (letterHolds t₂) (t₂ .table .n) (record { largest = s .largest; more = not last; allowance = some a }) few (t₂ .skip) (fits nums labs (t₂ .measures)))
+  walk-is = rw (al, places₂) (search-padded U (letterHolds t₂) (t₂ .table .n) (record { largest = s .largest; more = not last; allowance = some a }) few (t₂ .skip) (fits nums labs (t₂ .measures)))
 
   D-long : length (D .state .0) ≡ N (layoutOf T (t .size)) (t .size .rows)
   unfolding presentTask
   D-long = sym (counted q T p ready (record { rows = n; largest = s .largest; allowance = a; more = not last }) part notes₁ trail₁ fed t task nums labs)
 
   pairs-are : t .pairs ≡ namedPairs s
-  unfolding namedPairs P
-  pairs-are = task .pairs-are ∙ ap₂ (λ (x y : ℕ). x * y) (ready .places-are ∙ ap P (sym (ready .has-tree))) (add-one (s .largest))
+  pairs-are = task .pairs-are ∙ sym (named-pairs s T p ready)
 
   -- the failed pairs of the rows there are, with those of rows that are not there, are as many as
   -- the pairs
   D-pairs : length (D .state .0) ≡ pairs (length (places U)) (t₂ .table .n)
   unfolding walkedOn
-  D-pairs = rw places₂ (search-kept U g (letterHolds t₂) (t₂ .table .n) (record { largest = t₂ .table .n; more = not last; allowance = some a }) (omega arith) (t₂ .skip) (fits nums labs (t₂ .measures)))
+  D-pairs = rw places₂ (search-kept U (letterHolds t₂) (t₂ .table .n) (record { largest = t₂ .table .n; more = not last; allowance = some a }) (omega arith) (t₂ .skip) (fits nums labs (t₂ .measures)))
 
   count-is : t .pairs ≡ pairs (length (places U)) (s .largest)
-  count-is = task .pairs-are ∙ ap₂ (λ (x y : ℕ). x * y) (ready .places-are ∙ sym (places-counted (ready .tree))) (add-one (s .largest))
+  count-is = task .pairs-are ∙ ap₂ (λ (x y : ℕ). x * y) (ready .places-are ∙ sym (places-counted (ready .tree) bounds)) (add-one (s .largest))
 
   kept-is : gapped (t .pairs) (R .state .0) ≡ lotWalk s rows n last .state .0
   kept-is =
@@ -122,7 +125,7 @@ module _ (s : Named) (begins : beginAnswer s ≡ 0) (a : ℕ) (al : s .allowance
 
   kept-long : length (lotWalk s rows n last .state .0) ≡ t .pairs
   kept-long =
-      let m = more-pairs U g (letterHolds t₂) (t₂ .table .n) (s .largest) few in
+      let m = more-pairs U (letterHolds t₂) (t₂ .table .n) (s .largest) few in
       let e : length (lotWalk s rows n last .state .0) ≡ length (D .state .0 ++ gap) = ap (λ (r : Swept Kept). length (r .state .0)) walk-is in
       let f = length-append (D .state .0) gap in
       let h = length-replicate (pairs (length (places U)) (s .largest) - pairs (length (places U)) (t₂ .table .n)) false in
@@ -145,6 +148,10 @@ module _ (s : Named) (begins : beginAnswer s ≡ 0) (a : ℕ) (al : s .allowance
 
     steps-are : r .steps ≡ walk .state .1
     steps-are = reported .steps ∙ ap (λ (w : Swept Kept). w .state .1) R-is ∙ sym (ap (λ (w : Swept Kept). w .state .1) walk-is)
+
+    -- where it waits, the start of its attempt and how many pairs are open are told
+    pub waits-told : (i : ℕ) (u : List ℕ) → walk .end ≡ unfinished outOfRows i u → (r .row ≡ i) × (r .opened ≡ length u)
+    waits-told i u e = reported .waits i u (ap (λ (w : Swept Kept). w .end) R-is ∙ sym (ap (λ (w : Swept Kept). w .end) walk-is) ∙ e)
 
     zeros-long : (k : ℕ) → length (zeros k) ≡ k
     unfolding zeros

@@ -4,3 +4,4 @@ pub mod Standing
 pub mod Leaving
 pub mod Advancing
 pub mod Calling
+pub mod Pairs

@@ -15,24 +15,22 @@ use lib.IntN.{ℤ}
 use lib.ListN.{length, getD, drop, replicate, length-append, length-replicate, List·getD-eq-default}
 use lib.Seq.{ext-getD}
 use Rattle.rules.specs.Basics.{wrote}
-use Rattle.rules.specs.Rows.{Table, Comparison, tableOf, holds}
+use Rattle.rules.specs.Rows.{Table, Condition, tableOf, holds}
 use Rattle.rules.specs.Query.{textOf, parts}
 use Rattle.rules.specs.Places.{Place, pLetter, pCaret, pDollar, pFork, pEnd, Unrolled, unroll, places}
 use Rattle.rules.specs.Search.{Match, End, unfinished, openOf, Skip, Swept, Kept, Terms, haltingOf, planOf, walkSearch, walkAt, sweep}
 use Rattle.rules.specs.Walk.{outOfRows, pairs, firstAt, passIf, pairAt, positionOf, placeOf, waysAt, pairWays}
 use Rattle.rules.specs.Report.{fits, bitOf, bitAt, bytesFor, notesOf, labelsOf, numbersOf}
-use Rattle.rules.specs.Answers.{P, treeIn, letterHolds, skipOf, Task, taskOf, walkedOn, reportOf, accepted}
+use Rattle.rules.specs.Answers.{treeIn, letterHolds, skipOf, Task, taskOf, walkedOn, reportOf, accepted}
 use Rattle.rules.specs.Working.{bitsOf, thinned}
 use Rattle.rules.specs.Lots.{Named, presentRows, presentTask, namedPairs, settles, beginAnswer, lotTerms, lotWalk, lotMemory}
 use Rattle.rules.specs.LotDemands.{Lot, Later, LotDemands, Lots}
 use Rattle.laws.proofs.Accepted.{places-are}
 use Rattle.laws.proofs.Appended.{length-wrote-at}
 use Rattle.laws.proofs.Bounds.{Lettered, written-letters}
-use Rattle.laws.proofs.Counting.{legal-unroll}
 use Rattle.laws.proofs.Distinct.{walk-thin, thinned-length}
 use Rattle.laws.proofs.GoesOn.{Sooner}
 use Rattle.laws.proofs.Grammar.{tree-exactly}
-use Rattle.laws.proofs.Level.{legal}
 use Rattle.laws.proofs.Limits.{numbers-long}
 use Rattle.laws.proofs.Lists.{beyond-wrote}
 use Rattle.laws.proofs.Noted.{length-notes}
@@ -46,7 +44,7 @@ use Rattle.laws.proofs.PlaceLetters.{Passes, places-pass}
 use Rattle.laws.proofs.Present.{Extends, RowsIn, numbers-same, measures-fit}
 use Rattle.laws.proofs.ThinPlaces.{Spelt, thinned-spelt}
 use Rattle.table.specs.Table.{placesIn}
-use Rattle.table.specs.Tests.{holdsIn, definedIn, testAt}
+use Rattle.table.specs.Tests.{holdsIn, conditionIn, testAt}
 use Rattle.table.specs.Measures.{measuresIn}
 use Rattle.table_room.specs.Words.{measuresAt, testsAt}
 use Rattle.skips.specs.Skips.{skipIn}
@@ -61,6 +59,7 @@ use Rattle.pairs.specs.Layout.{haltsIn}
 use Rattle.pairs.proofs.Ways.{in-length}
 use Rattle.sweep.specs.Searched.{pre, swp, SoFar, gapped}
 use Rattle.starting.proofs.Starting.{numbered, labelled}
+use Rattle.lots.proofs.Pairs.{named-pairs}
 use Rattle.lots.proofs.Again.{earlier, gap-at, long₂, again}
 
 -- letters that agree lead the same ways
@@ -98,9 +97,6 @@ module _ (s : Named) (begins : beginAnswer s ≡ 0) (a : ℕ) (al : s .allowance
   abbrev U : Unrolled
   U = unroll (ready .tree)
 
-  g : legal U ≡ true
-  g = legal-unroll (ready .tree) (ready .no-loop)
-
   abbrev nums : ℕ
   nums = length (s .lent .numbers)
 
@@ -131,10 +127,10 @@ module _ (s : Named) (begins : beginAnswer s ≡ 0) (a : ℕ) (al : s .allowance
       (places U) passes m₂ (some a)
 
   abbrev early : Swept Kept
-  early = earlier U g (t₂ .skip) fit (letterHolds t₁) (letterHolds t₂) m₁ m₂ a (not last) le sooner
+  early = earlier U (t₂ .skip) fit (letterHolds t₁) (letterHolds t₂) m₁ m₂ a (not last) le sooner
 
   abbrev gap : List Bool
-  gap = beyond U g (letterHolds t₁) m₁ (s .largest)
+  gap = beyond U (letterHolds t₁) m₁ (s .largest)
 
   few₁ : m₁ ≤ s .largest
   few₁ = rw (task-n s ok rows₁ n₁ lot₁) (lot₁ .few)
@@ -144,8 +140,8 @@ module _ (s : Named) (begins : beginAnswer s ≡ 0) (a : ℕ) (al : s .allowance
   unfolding lotWalk walkedOn presentTask taskOf
   early-is =
       rw (al, places₁)
-      (search-padded U g (letterHolds t₁) m₁ (record { largest = s .largest; more = true; allowance = some a }) few₁ (t₂ .skip) fit
-      ∙ ap (padded gap) (sym (walk-thin U g (letterHolds t₁) m₁ (record { largest = m₁; more = true; allowance = some a }) (omega arith) (t₂ .skip) fit)))
+      (search-padded U (letterHolds t₁) m₁ (record { largest = s .largest; more = true; allowance = some a }) few₁ (t₂ .skip) fit
+      ∙ ap (padded gap) (sym (walk-thin U (letterHolds t₁) m₁ (record { largest = m₁; more = true; allowance = some a }) (omega arith) (t₂ .skip) fit)))
 
   demanded : LotDemands s rows₁ n₁ false
   demanded = lots s begins .demands rows₁ n₁ false lot₁
@@ -176,7 +172,7 @@ module _ (s : Named) (begins : beginAnswer s ≡ 0) (a : ℕ) (al : s .allowance
         (early .state .0 ++ replicate (pairs (length (places U)) n - pairs (length (places U)) m₁) false, early .state .1 - length u))
 
     goes-on : Goes n₂
-    goes-on = subst Goes (task-n s ok rows₂ n₂ lot₂) (again U g (t₂ .skip) fit (letterHolds t₁) (letterHolds t₂) m₁ m₂ a (not last) le sooner i u end₁ few within)
+    goes-on = subst Goes (task-n s ok rows₂ n₂ lot₂) (again U (t₂ .skip) fit (letterHolds t₁) (letterHolds t₂) m₁ m₂ a (not last) le sooner i u end₁ few within)
 
     -- ---- the same by the table of the prepared query
 
@@ -224,8 +220,8 @@ module _ (s : Named) (begins : beginAnswer s ≡ 0) (a : ℕ) (al : s .allowance
       letter-is c lo hi x =
           let l : c - 65 < 26 = omega arith in
           let e : 65 + (c - 65) ≡ c = omega arith in
-          let y : definedIn T (p .columns) (testAt (testsAt (p .places)) (c - 65)) ≡ parts q .comparisons c = ready .letters (c - 65) l ∙ ap (λ (k : ℕ). parts q .comparisons k) e in
-          ap₂ (λ (w : Table) (cs : List Comparison). holds w x cs) (ap (λ (k : ℕ). tableOf k part) (ready .columns-are)) y
+          let y : conditionIn T (p .columns) (testAt (testsAt (p .places)) (c - 65)) ≡ parts q .condition c = ready .letters (c - 65) l ∙ ap (λ (k : ℕ). parts q .condition k) e in
+          ap₂ (λ (w : Table) (d : Condition). holds w x d) (ap (λ (k : ℕ). tableOf k part) (ready .columns-are)) y
 
       lettered : Lettered (ready .tree)
       unfolding treeIn
@@ -257,7 +253,7 @@ module _ (s : Named) (begins : beginAnswer s ≡ 0) (a : ℕ) (al : s .allowance
         F-long : length F ≡ M
         F-long =
             subst (λ (n : ℕ). length (early .state .0 ++ replicate (pairs (length (places U)) n - pairs (length (places U)) m₁) false) ≡ pairs (length (thinned (places U))) n) (task-n s ok rows₂ n₂ lot₂)
-            (long₂ U g (t₂ .skip) fit (letterHolds t₁) (letterHolds t₂) m₁ m₂ a (not last) le sooner)
+            (long₂ U (t₂ .skip) fit (letterHolds t₁) (letterHolds t₂) m₁ m₂ a (not last) le sooner)
             ∙ ap (λ (k : ℕ). pairs k n₂) places-long
 
         -- all pairs of the rows present are kept account of
@@ -282,7 +278,7 @@ module _ (s : Named) (begins : beginAnswer s ≡ 0) (a : ℕ) (al : s .allowance
         done-is = ap (λ (r : Swept Kept). r .matches) early-is
 
         -- their numbers are the same on the rows that are present now
-        in-rows : (xs : List Match) → Within U g (letterHolds t₁) m₁ xs → RowsIn (t₁ .table) (t₂ .table) (task-extends s ok rows₁ rows₂ n₁ n₂ lot₁ lot₂ later) (places U) xs
+        in-rows : (xs : List Match) → Within U (letterHolds t₁) m₁ xs → RowsIn (t₁ .table) (t₂ .table) (task-extends s ok rows₁ rows₂ n₁ n₂ lot₁ lot₂ later) (places U) xs
         in-rows [] w = tt
         in-rows (x ∷ xs) w = (w .0, in-rows xs (w .1))
 
@@ -293,7 +289,7 @@ module _ (s : Named) (begins : beginAnswer s ≡ 0) (a : ℕ) (al : s .allowance
             (placed (t₁ .places) places₁)
           where
             placed : (v : List Place) → v ≡ places U → RowsIn (t₁ .table) (t₂ .table) (task-extends s ok rows₁ rows₂ n₁ n₂ lot₁ lot₂ later) v (walkSearch (lotTerms s false) (letterHolds t₁) m₁ v (t₂ .skip) fit .matches)
-            placed v e = rw e (in-rows (walkSearch (lotTerms s false) (letterHolds t₁) m₁ (places U) (t₂ .skip) fit .matches) (search-rows U g (letterHolds t₁) m₁ (t₂ .skip) fit (lotTerms s false) few₁))
+            placed v e = rw e (in-rows (walkSearch (lotTerms s false) (letterHolds t₁) m₁ (places U) (t₂ .skip) fit .matches) (search-rows U (letterHolds t₁) m₁ (t₂ .skip) fit (lotTerms s false) few₁))
 
         -- what was written fits in the room
         long-enough : {X : Type 0} (l vs w : List X) → w ≡ wrote l 0 vs → length w ≡ length l → length vs ≤ length l
@@ -392,10 +388,7 @@ module _ (s : Named) (begins : beginAnswer s ≡ 0) (a : ℕ) (al : s .allowance
               omega arith
 
           room₀ : bytesFor (p .places * (s .largest + 1)) ≤ length (s .lent .notes)
-          unfolding namedPairs P
-          room₀ =
-              let e : namedPairs s ≡ p .places * (s .largest + 1) = sym (ap₂ (λ (x y : ℕ). x * y) (ready .places-are ∙ ap P (sym (ready .has-tree))) (add-one (s .largest))) in
-              rw e at (ok .notes-long)
+          room₀ = rw (named-pairs s T p ready) at (ok .notes-long)
 
           notes-are : notes ≡ wrote (s .lent .notes) 0 (notesOf (before₁ .state .0))
           unfolding lotMemory accepted
