@@ -14,7 +14,7 @@ ghost use Rattle.ahead.specs.Looking.{StandsFor};
 // Whether the query looks ahead that the table stands for.
 pub fn looks_ahead(table: &[u16], p: Prepared) -> bool
     requires { ⌜ StandsFor (now table) p ⌝ }
-    ensures { λ r. ⌜ (q : List ℕ) → Ready q (now (table .entry)) p → r ≡ looksAhead q ⌝ }
+    ensures { λ r. ⌜ ((q : List ℕ) → Ready q (now (table .entry)) p → r ≡ looksAhead q) ⌝ }
 {
     let places = p.places;
     let columns = p.columns;

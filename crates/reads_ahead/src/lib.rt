@@ -123,7 +123,12 @@ fn letter_ahead(table: &[u16], at: usize, columns: usize) -> bool
     ensures { λ r. ⌜ r ≡ letterAhead (now (table .entry)) columns at ⌝ }
 {
     if word_at(table, at + KIND) == BY_ENTRIES {
-        return entries_ahead(table, word_at(table, at + MORE), word_at(table, at + ENTRIES), columns);
+        return entries_ahead(
+            table,
+            word_at(table, at + MORE),
+            word_at(table, at + ENTRIES),
+            columns,
+        );
     }
     let count = word_at(table, at);
     if count == 0 {
