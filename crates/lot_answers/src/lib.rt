@@ -1,9 +1,14 @@
-// The refusals of a call with a lot of rows (R-11) behind those of the query: 10, 11, 12 and 21, in
-// rank, on numbers alone.
-// Promise: the answer is that of `lotTests` of the rules behind 17, 0 where none applies.
+// The refusals of a call with a lot of rows (R-11) behind those of the query and 17: answers 10, 11,
+// 12 and 21 by rank, decided on numbers.
+// Promise: an equation with specs/Lot. Where the query has no answer of its own and does not look
+// ahead, that is the refusal of the rules for the call whose numbers they are (proofs/Refusals).
+use sizes::MOST_ROWS;
+use sizes::short_room;
+ghost use mathlib.Core.Path.{_≡_};
+ghost use Rattle.lot_answers.specs.Lot.{Small, badNumbers, lotAnswer};
 
-// What the answers of a call are judged by: the places with their flags, the columns of a row, the
-// largest number of rows, the rows present now and before, and the lengths of the slices.
+// What a call is judged by: the places with their flags, the columns of a row, the largest number
+// of rows, the rows present now and before, and the lengths of the rows' slice, notes and trail.
 pub struct Measured {
     pub places: usize,
     pub columns: usize,
@@ -15,10 +20,11 @@ pub struct Measured {
     pub trail: usize,
 }
 
-pub const MOST_ROWS: usize = 4096;
-
-// Answer 10.
-fn bad_lot(m: Measured) -> bool {
+// Answer 10. The product is small, as it is made only behind the tests of the numbers in it.
+fn bad_lot(m: Measured) -> bool
+    requires { ⌜ Small m ⌝ }
+    ensures { λ r. ⌜ r ≡ badNumbers m ⌝ }
+{
     if MOST_ROWS < m.largest {
         return true;
     }
@@ -31,16 +37,18 @@ fn bad_lot(m: Measured) -> bool {
     m.entries < m.present * m.columns
 }
 
-pub fn lot_answer(m: Measured) -> usize {
+// The answer 10, 11, 12 or 21 of a call, or 0. Notes and trail are measured by the largest number of
+// rows, so that they are long enough for every later call too.
+pub fn lot_answer(m: Measured) -> usize
+    requires { ⌜ Small m ⌝ }
+    ensures { λ r. ⌜ r ≡ lotAnswer m ⌝ }
+{
     if bad_lot(m) {
         return 10;
     }
-    let pairs = m.places * (m.largest + 1);
-    if m.notes < (pairs + 7) / 8 {
-        return 11;
-    }
-    if m.trail < pairs {
-        return 12;
+    let short = short_room(m.places * (m.largest + 1), m.notes, m.trail);
+    if short != 0 {
+        return short;
     }
     if m.present < m.before {
         return 21;
