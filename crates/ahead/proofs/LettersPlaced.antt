@@ -5,7 +5,6 @@
 use mathlib.Core.Path.{_≡_, refl}
 use mathlib.Core.Bool.{Bool, true, false}
 use mathlib.Core.List.{List, [], _∷_, _++_}
-use mathlib.Core.Option.{none, some}
 use Prim.Native.Nat.{ℕ, zero, suc, _+_, _-_, _*_, _^_, _≤_, _<_}
 use native.Mathlib.Omega.{arith}
 use native.Mathlib.Nat.{mul-le-mul}
@@ -13,7 +12,7 @@ use lib.ListN.{getD, length}
 use lib.Pow.{pow-pos}
 use Rattle.rules.specs.Basics.{every}
 use Rattle.rules.specs.Language.{Form, star, plus, opt, exactly, atLeast, atMost, between, lower, upper, InBounds, Rank, pattern, branch, factor, primary, Tree, one, more, last, next, bare, times, letter, caret, dollar, empty, group, letters, hasDollar, deeper}
-use Rattle.rules.specs.Places.{Unrolled, uLetter, uCaret, uDollar, uEmpty, uSeq, uAlt, uOpt, uStar, Branches, uNil, uCons, copies, options, behind, repeated, UnrolledAt, forked, unrolled, unroll, size, startOf, code, codes, Place, pFork, pEnd, places, skips, nest, stateAt, roundEnd, Flagged, flagged, flaggedPlaces, spread}
+use Rattle.rules.specs.Places.{Unrolled, uLetter, uCaret, uDollar, uEmpty, uSeq, uAlt, uOpt, uStar, Branches, uNil, uCons, copies, options, behind, repeated, UnrolledAt, forked, unrolled, unroll, size, startOf, code, codes, pFork, pEnd, places, skips, nest, stateAt, roundEnd, Flagged, flagged, flaggedPlaces, spread}
 use Rattle.laws.proofs.Bounds.{Bounds}
 use Rattle.laws.proofs.Counting.{forked-more}
 use Rattle.laws.proofs.Level.{and-true}

@@ -3,20 +3,19 @@
 use mathlib.Core.Path.{_≡_, refl, sym, ap, _∙_}
 use mathlib.Core.Bool.{Bool, true, false, not, _||_}
 use mathlib.Core.List.{List, []}
-use mathlib.Core.Option.{Option, some}
-use Prim.Native.Nat.{ℕ, suc, _+_, _*_, _≤_, _<_}
+use mathlib.Core.Option.{some}
+use Prim.Native.Nat.{ℕ, _+_, _*_, _≤_, _<_}
 use native.Mathlib.Omega.{arith}
 use lib.Dec.{ltb, eqb}
 use lib.ListN.{length, getD}
-use borrow.Author.Tests.{ltb-true, ltb-false, eqb-true, lt-ltb, ne-eqb}
-use Rattle.rules.specs.Basics.{pick, every}
-use Rattle.rules.specs.Rows.{Condition, comparisonsIn}
+use borrow.Author.Tests.{ltb-true, ltb-false, eqb-true, ne-eqb}
+use Rattle.rules.specs.Basics.{every}
 use Rattle.rules.specs.Query.{parts, textOf}
-use Rattle.rules.specs.Language.{Tree, pattern, letters, hasDollar}
+use Rattle.rules.specs.Language.{letters, hasDollar}
 use Rattle.rules.specs.Places.{Place, pLetter, pCaret, pDollar, pFork, pEnd, unroll, places}
 use Rattle.rules.specs.Answers.{treeIn, lettersIn}
 use Rattle.rules.specs.Lots.{dollarIn, settles, looksAhead}
-use Rattle.rules.specs.Working.{thinPlace, thinned}
+use Rattle.rules.specs.Working.{thinPlace}
 use Rattle.laws.proofs.Bounds.{Bounds, written-bounds}
 use Rattle.laws.proofs.Choice.{decided, clash}
 use Rattle.laws.proofs.Counting.{places-counted}
@@ -24,13 +23,12 @@ use Rattle.laws.proofs.Distinct.{thinned-at}
 use Rattle.laws.proofs.Grammar.{tree-exactly}
 use Rattle.laws.proofs.Level.{or-false}
 use Rattle.laws.proofs.PlaceLetters.{Passes, places-pass}
-use Rattle.table.specs.Table.{codeAt, firstAt, laterAt, waysOf, placeBy, placeAt, placesIn}
-use Rattle.table.specs.Tests.{conditionIn, testAt, Tests}
-use Rattle.table_room.specs.Words.{testsAt}
+use Rattle.table.specs.Table.{codeAt, laterAt, placeBy, placeAt}
+use Rattle.table.specs.Tests.{conditionIn}
 use Rattle.places.proofs.Legal.{in-at}
 use Rattle.prepared.specs.Ready.{Ready}
 use Rattle.prepared.specs.declared.Prepared.{Prepared}
-use Rattle.reads_ahead.specs.Ahead.{Columns, someAhead, letterAhead, placeAhead, Readable}
+use Rattle.reads_ahead.specs.Ahead.{someAhead, letterAhead, placeAhead, Readable}
 use Rattle.ahead.specs.Looking.{StandsFor}
 use Rattle.ahead.proofs.LettersPlaced.{places-back}
 

@@ -1,5 +1,5 @@
--- What telling whether a query looks ahead asks: the table and its numbers stand for some query that
--- has no answer of its own.
+-- What telling whether a query looks ahead asks: the table and its numbers stand for some query
+-- that has no answer of its own.
 use mathlib.Core.List.{List}
 use Prim.Native.Nat.{ℕ}
 use Rattle.prepared.specs.Ready.{Ready}

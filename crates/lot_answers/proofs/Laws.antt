@@ -1,15 +1,14 @@
 -- One law for each way through the two functions.
-use mathlib.Core.Path.{_≡_, refl, sym, ap, _∙_}
+use mathlib.Core.Path.{_≡_, refl, sym, _∙_}
 use mathlib.Core.Bool.{Bool, true, false}
 use Prim.Native.Nat.{ℕ, suc, _+_, _*_, _%_, _≤_, _<_}
 use native.Mathlib.Omega.{arith}
 use native.Mathlib.Nat.{mul-le-mul}
 use mir.Syntax.{w64}
 use mir.Val.{Fits}
-use lib.Dec.{ltb, eqb}
+use lib.Dec.{ltb}
 use borrow.Author.Tests.{lt-ltb, le-ltb, ltb-false, ne-eqb, eq-eqb}
 use Rattle.rules.specs.Basics.{pick}
-use Rattle.rules.specs.Walk.{pairs}
 use Rattle.rules.specs.Report.{bytesFor}
 use Rattle.rules.specs.Answers.{firstOf}
 use Rattle.laws.proofs.Choice.{decided, clash}

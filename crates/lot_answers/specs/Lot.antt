@@ -1,5 +1,5 @@
--- Answers 10, 11, 12 and 21 of a call with a lot of rows (R-11) by its numbers, and when the numbers
--- are those of a call of the rules.
+-- Answers 10, 11, 12 and 21 of a call with a lot of rows (R-11) by its numbers, and when the
+-- numbers are those of a call of the rules.
 use mathlib.Core.Path.{_≡_}
 use mathlib.Core.Bool.{Bool, not, _||_}
 use mathlib.Core.List.{List, [], _∷_}

@@ -1,5 +1,5 @@
-// The refusals of a call with a lot of rows (R-11) behind those of the query and 17: answers 10, 11,
-// 12 and 21 by rank, decided on numbers.
+// The refusals of a call with a lot of rows (R-11), behind those of the query and 17: answers 10,
+// 11, 12 and 21 by rank, decided on numbers.
 // Promise: an equation with specs/Lot. Where the query has no answer of its own and does not look
 // ahead, that is the refusal of the rules for the call whose numbers they are (proofs/Refusals).
 use sizes::MOST_ROWS;
@@ -37,8 +37,8 @@ fn bad_lot(m: Measured) -> bool
     m.entries < m.present * m.columns
 }
 
-// The answer 10, 11, 12 or 21 of a call, or 0. Notes and trail are measured by the largest number of
-// rows, so that they are long enough for every later call too.
+// The answer 10, 11, 12 or 21 of a call, or 0. Notes and trail are measured by the largest number
+// of rows, so that they are long enough for every later call too.
 pub fn lot_answer(m: Measured) -> usize
     requires { ⌜ Small m ⌝ }
     ensures { λ r. ⌜ r ≡ lotAnswer m ⌝ }

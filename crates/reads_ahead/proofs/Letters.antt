@@ -1,5 +1,5 @@
--- The comparisons of a letter, in the loops over them, and a place by its letter: a law for each way
--- through the code.
+-- The comparisons of a letter, in the loops over them, and a place by its letter: a law for each
+-- way through the code.
 use mathlib.Core.Path.{_≡_, refl, sym, ap, _∙_}
 use mathlib.Core.Bool.{Bool, true, false, not, _&&_}
 use mathlib.Core.List.{List, [], _∷_, _++_}
@@ -7,14 +7,14 @@ use Prim.Native.Nat.{ℕ, zero, suc, _+_, _*_, _-_, _≤_, _<_}
 use native.Mathlib.Omega.{arith}
 use lib.Dec.{ltb, eqb}
 use lib.ListN.{length, getD}
-use borrow.Author.Tests.{lt-ltb, le-ltb, eq-eqb, ne-eqb, ltb-true, ltb-false}
+use borrow.Author.Tests.{lt-ltb, le-ltb, eq-eqb, ne-eqb}
 use Rattle.rules.specs.Basics.{pick, every, tabulate}
 use Rattle.rules.specs.Rows as R
-use Rattle.rules.specs.Rows.{Comparison, Entry, compared, conj, disj, neg, comparedIn, allOf, postfix}
+use Rattle.rules.specs.Rows.{Comparison, comparedIn}
 use Rattle.rules.specs.Lots.{ahead}
 use Rattle.laws.proofs.Choice.{decided}
 use Rattle.table.specs.Table.{codeAt, laterAt}
-use Rattle.table.specs.Tests.{comparisonIn, comparisonsIn, definedIn, entryIn, entryWords, entriesIn, entriesBehind, conditionIn, Entries}
+use Rattle.table.specs.Tests.{comparisonIn, comparisonsIn, definedIn, entryIn, entryWords, entriesIn, entriesBehind, conditionIn}
 use Rattle.entry_words.proofs.Same.{behind-low}
 use Rattle.reads_ahead.specs.Ahead.{Columns, someAhead, entryAhead, letterAhead, placeAhead, Readable}
 

@@ -26,7 +26,8 @@ spot-ahead-requires-2 : tie.Need-spot-ahead-requires-2
 spot-ahead-requires-2 c κs = search needs
 
 returns-2 : tie.Need-returns-2
-returns-2 c = search (needs, right-ahead)
+returns-2 c =
+    right-ahead _ _ _ _ (c .before .before .before .before .word-at .ensures .0) _ (c .before .before .before .spot-ahead .ensures) (c .before .before .if1 .left) _ (c .before .word-at2 .ensures .0) _ (c .spot-ahead2 .ensures)
 
 pub comparison-ahead-spec : {M : Type 1} → statement M
 comparison-ahead-spec =
