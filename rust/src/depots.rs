@@ -3,7 +3,6 @@
 //! owns the state, the list and the buffers, and reads them. Its weakness: the list is lent for all
 //! 65,535 partitions, half a megabyte. Tested in tests/depots.rs.
 
-use crate::error::{DONE, NO_SKIP_ROW, OUT_OF_STEPS, STOPPED};
 use crate::lent::{self, DEPOTS_LENGTH, DEPOTS_LISTED, DEPOTS_OUTSIDE, DEPOTS_PARTITIONS};
 use crate::query::length;
 use crate::{Ending, Error, Limits, Query, Rows};
@@ -115,13 +114,8 @@ impl Depots {
             &mut self.numbers,
             &mut self.labels,
         );
-        let ending = match outcome.answer {
-            DONE => Ending::Done,
-            STOPPED => Ending::Stopped,
-            NO_SKIP_ROW => Ending::NoSkipRow,
-            OUT_OF_STEPS => Ending::OutOfSteps,
-            refused => return Err(Error::from_answer(refused, outcome.offset)),
-        };
+        let ending = Ending::of(outcome.answer)
+            .ok_or_else(|| Error::from_answer(outcome.answer, outcome.offset))?;
         Ok(Taken {
             ending,
             matches: outcome.matches,
