@@ -63,6 +63,25 @@ pub fn searches() -> Vec<Workload> {
     searches
 }
 
+/// Rows that are fed in lots: attempts that end soon, and one that is open from the first row to the
+/// last.
+#[cfg(lots)]
+pub fn in_lots() -> Vec<Workload> {
+    let rising = (0..MOST_ROWS as i32).collect();
+    vec![
+        Workload {
+            name: "lots".to_string(),
+            ..rise_and_fall()
+        },
+        Workload::new(
+            "open-lots",
+            "the same on 4,096 rows that only rise: one attempt is open over all of them",
+            rise_and_fall_query(),
+            vec![rising],
+        ),
+    ]
+}
+
 /// The same pattern with the rows doubled, three times.
 pub fn growth_in_rows() -> Vec<Workload> {
     [512, 1024, 2048, 4096]
