@@ -4,7 +4,6 @@
 //! 65,535 partitions, half a megabyte. Tested in tests/depots.rs.
 
 use crate::lent::{self, DEPOTS_LENGTH, DEPOTS_LISTED, DEPOTS_OUTSIDE, DEPOTS_PARTITIONS};
-use crate::query::length;
 use crate::{Ending, Error, Limits, Query, Rows};
 
 /// The depots of the table, numbered from 0.
@@ -126,7 +125,7 @@ impl Depots {
 
     /// Sees to it that the buffers are long enough for n rows.
     fn lend(&mut self, query: &Query, n: usize) -> Result<(), Error> {
-        let pairs = n.saturating_add(1).saturating_mul(length(query.places())?);
+        let pairs = query.pairs(n)?;
         let limits = Limits::default();
         at_least(&mut self.notes, pairs.div_ceil(8));
         at_least(&mut self.trail, pairs);

@@ -79,8 +79,7 @@ impl Feed {
     /// [`Error::TooManyRows`] for more than 4,096 rows.
     pub fn new(query: &Query, largest: usize, limits: Limits) -> Result<Feed, Error> {
         let n = largest.min(MOST_ROWS);
-        let pairs = query.places().saturating_mul(query.factor());
-        let pairs = length(pairs)?.saturating_mul(n.saturating_add(1));
+        let pairs = query.pairs(n)?;
         let named = u64::try_from(largest).unwrap_or(u64::MAX);
         let mut feed = Feed {
             largest,

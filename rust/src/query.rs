@@ -431,6 +431,12 @@ impl Query {
         }
     }
 
+    /// PF(n+1): the numbers of the trail, and the bits of the notes, that a search of n rows takes.
+    pub(crate) fn pairs(&self, n: usize) -> Result<usize, Error> {
+        let places = length(self.places.saturating_mul(self.factor))?;
+        Ok(places.saturating_mul(n.saturating_add(1)))
+    }
+
     /// Refuses rows of another number of columns.
     pub(crate) fn check_columns(&self, rows: Rows<'_>) -> Result<(), Error> {
         match rows.columns() == self.shape.columns {
