@@ -68,10 +68,10 @@ impl Feed {
     /// A feed for up to so many rows, within limits. The steps that they allow count over all lots,
     /// and so does the room for the report.
     ///
-    /// The buffers are made for so many rows at once: some 4.2 bytes for each pair, of which there
-    /// are P times F for each row (see [`Query::places`] and [`Query::factor`]), and the room for
-    /// the report, which is n(n+1)/2 bytes of labels where matches may overlap. They are filled only
-    /// as far as rows come.
+    /// The buffers are made for so many rows at once: a little more than 4 bytes for each pair, of
+    /// which there are P times F for each row (see [`Query::places`] and [`Query::factor`]), and the
+    /// room for the report, of which the labels are n(n+1)/2 bytes where matches may overlap. For
+    /// 4,096 rows and `A+ B` that is some 190 KB.
     ///
     /// # Errors
     ///

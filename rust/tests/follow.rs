@@ -286,6 +286,47 @@ fn quiet_ends_at_the_first_match() {
     drop(input);
 }
 
+/// A reader that left is noticed with the next match.
+#[test]
+fn a_reader_that_leaves_ends_it() {
+    let mut child = Command::new(COMMAND)
+        .args(["--follow", "-e", RISING, "-"])
+        .stdin(Stdio::piped())
+        .stdout(Stdio::piped())
+        .stderr(Stdio::piped())
+        .spawn()
+        .unwrap();
+    let mut input = child.stdin.take().unwrap();
+    let mut output = BufReader::new(child.stdout.take().unwrap());
+    write(&mut input, "price\n1\n2\n1\n");
+    let mut line = String::new();
+    output.read_line(&mut line).unwrap();
+    assert_eq!(line, "match 1, lines 3 to 4, AB\n");
+    drop(output);
+    write(&mut input, "2\n1\n");
+    let ended = child.wait_with_output().unwrap();
+    assert_eq!((ended.status.code(), &*ended.stderr), (Some(141), &b""[..]));
+    drop(input);
+}
+
+#[test]
+fn a_first_line_may_be_a_row_and_lines_may_end_in_two_bytes() {
+    let mut running = Running::new(&[
+        "--follow",
+        "--no-header",
+        "-e",
+        &RISING.replace("price", "c0"),
+        "-",
+    ]);
+    let mut input = running.input();
+    write(&mut input, "1\r\n2\r\n1\r");
+    running.is_silent();
+    write(&mut input, "\n");
+    assert_eq!(running.line(), "match 1, lines 2 to 3, AB");
+    drop(input);
+    assert_eq!(running.end(), (0, vec![], String::new()));
+}
+
 #[test]
 fn a_query_that_looks_ahead_is_refused_before_the_first_row() {
     let ahead =
