@@ -279,7 +279,7 @@ zcat log.csv.gz | mireladle-match -e 'pattern: A+ B' -e 'A: speed > PREV(speed)'
   -e 'B: speed = 0' -f csv -
 mireladle-match -q query.txt log.csv && echo found
 ssh depot tail -n +1 -f log.csv | mireladle-match -p bus --follow -f json query.txt -
-logger > log.csv & mireladle-match -p bus --follow --pid $! query.txt log.csv
+collect > log.csv & mireladle-match -p bus --follow --pid $! query.txt log.csv
 mireladle-match -p bus --explain line=812 query.txt log.csv",
     ),
 ];
