@@ -49,11 +49,14 @@ pub fn change_offsets(draft: &mut Draft, change: impl Fn(i8) -> i8) {
     }
 }
 
-/// Without `$` and without a look at later rows.
+/// Without `$` and without a look at later rows. Some go on at labelled rows more than
+/// once, and some have repetitions of nothing.
 pub fn suited(random: &mut Random, size: &Size) -> Draft {
     let mut draft = loop {
-        let draft = match random.below(4) {
-            0 => mix::adversarial(random, size),
+        let draft = match random.below(12) {
+            0..=2 => mix::adversarial(random, size),
+            3 => mix::jumping(random, size),
+            4 => nested(random, size),
             _ => mix::lively(random, size),
         };
         let text = draft.place_of(TEXT).map(|at| &draft.records[at].1);
@@ -63,6 +66,15 @@ pub fn suited(random: &mut Random, size: &Size) -> Draft {
     };
     change_offsets(&mut draft, |offset| -offset.abs());
     draft
+}
+
+/// A nest of up to three repetitions of nothing.
+fn nested(random: &mut Random, size: &Size) -> Draft {
+    let deep = 1 + random.below(3);
+    let body = texts::nested(random, deep);
+    let text = random.pick(&[body.clone(), [&body[..], b" B"].concat()]);
+    let n = random.below(size.rows.min(9));
+    draft::with_text(random, size, Numbers::Low, &text, n)
 }
 
 /// The input of a draft in lots: notes and trail are measured by the largest n, numbers
@@ -78,7 +90,7 @@ pub fn with_largest(draft: &Draft, largest: u64, rooms: [Room; 4]) -> Input {
     draft.with_lengths([length(0), length(1), length(2), length(3)])
 }
 
-fn whole(present: usize, entries: usize, last: bool) -> Call {
+pub fn whole(present: usize, entries: usize, last: bool) -> Call {
     Call {
         present: present as u64,
         entries,
@@ -133,11 +145,19 @@ pub fn cut(random: &mut Random, draft: &Draft) -> Cut {
         let present = random.below(all + 2);
         calls.push(whole(present, all * columns, random.chance(50)));
     }
+    let report = |random: &mut Random| {
+        let part = Room::Part(random.below(100));
+        let mostly_enough = [Room::Exact, Room::Exact, Room::More(7), Room::OneMore];
+        match random.chance(70) {
+            true => random.pick(&mostly_enough),
+            false => random.pick(&[Room::OneShort, part]),
+        }
+    };
     let rooms = [
         random.pick(&[Room::Exact, Room::OneMore]),
         random.pick(&[Room::Exact, Room::OneMore]),
-        random.pick(&[Room::Exact, Room::Exact, Room::OneShort, Room::OneMore]),
-        random.pick(&[Room::Exact, Room::Exact, Room::OneShort, Room::OneMore]),
+        report(random),
+        report(random),
     ];
     Cut {
         input: with_largest(draft, largest, rooms),
