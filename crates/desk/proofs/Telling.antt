@@ -15,8 +15,8 @@ use Rattle.rules.specs.Basics.{pick}
 use Rattle.rules.specs.Rows.{Table}
 use Rattle.rules.specs.Query.{textOf}
 use Rattle.rules.specs.Language.{Tree, pattern, Written}
-use Rattle.rules.specs.Readings.{SomeReading}
-use Rattle.rules.specs.Preferment.{Preferred, Reports}
+use Rattle.rules.specs.Readings.{SomeReading, rowSets}
+use Rattle.rules.specs.Preferment.{Preferred, Reports, setting}
 use Rattle.rules.specs.Search.{Match, done, toNext, shown}
 use Rattle.rules.specs.Report.{fits}
 use Rattle.rules.specs.Answers.{treeIn, taskOf, letterHolds, Buffers, Memory, walkWithin, searchOf}
@@ -52,7 +52,7 @@ module _ (rows : List ℤ) (before : Buffers) (after : Memory) (y : Demands none
   room = fits (length (before .numbers)) (length (before .labels)) (taskOf deskQuery rows .measures)
 
   abbrev Told : List Match → Type 0
-  Told xs = Reports deskTree H n toNext room 0 0 0 (shown (taskOf deskQuery rows .places) xs) done
+  Told xs = Reports (setting deskTree (rowSets n H) toNext room) 0 0 0 (shown (taskOf deskQuery rows .places) xs) done
 
   told-here : Told (walkWithin none deskQuery rows before .matches)
   told-here = told none deskQuery rows before after y z (written-desk (y .tree) (y .written)) refl (ap (λ (t : Table). t .n) (desk-table rows)) (desk-mode rows)
@@ -61,13 +61,13 @@ module _ (rows : List ℤ) (before : Buffers) (after : Memory) (y : Demands none
   none-cleared r false e = refl
   none-cleared r true e = absurd (clash (cleared-reading rows e))
     where
-      clash : (i : ℕ) × ((i < n) × SomeReading deskTree H n i) → ⊥
+      clash : (i : ℕ) × ((i < n) × SomeReading (rowSets n H) deskTree i) → ⊥
       clash (i, (lt, (j, w, s))) = let x = reads-parses H n deskTree i j w s in none-written deskTree H n room r i (omega arith) lt (x .0) j w (x .1)
 
   one-cleared : (x : Match) (xs : List Match) → Told (x ∷ xs) → cleared (logOf rows) ≡ true
   one-cleared x xs r = on (one-written deskTree H n room r)
     where
-      on : (i : ℕ) × (j : ℕ) × (w : List ℕ) × Preferred deskTree H n i j w → cleared (logOf rows) ≡ true
+      on : (i : ℕ) × (j : ℕ) × (w : List ℕ) × Preferred (rowSets n H) deskTree i j w → cleared (logOf rows) ≡ true
       on (i, j, w, y) = reading-cleared rows i (j, w, parses-reads H n deskTree (y .derivation) i j w (y .parses))
 
   abbrev Clears : ℕ → Type 0
@@ -82,7 +82,7 @@ module _ (rows : List ℤ) (before : Buffers) (after : Memory) (y : Demands none
   matches-clear = rw (y .matches) (by-matches (walkWithin none deskQuery rows before .matches) told-here)
 
 pattern-clears : (rows : List ℤ) (p : Tree pattern) → Written p (textOf deskQuery)
-    → (cleared (logOf rows) ≡ true) ↔ ((i : ℕ) × ((i < logOf rows .n) × SomeReading p (letterHolds (taskOf deskQuery rows)) (logOf rows .n) i))
+    → (cleared (logOf rows) ≡ true) ↔ ((i : ℕ) × ((i < logOf rows .n) × SomeReading (rowSets (logOf rows .n) (letterHolds (taskOf deskQuery rows))) p i))
 pattern-clears rows p w = rw (written-desk p w) (cleared-exactly rows)
 
 -- ---- what a verdict of 1 tells

@@ -13,9 +13,9 @@ use Rattle.rules.specs.Basics.{Begins, wrote}
 use Rattle.rules.specs.Query.{textOf, parts}
 use Rattle.rules.specs.Language.{Tree, pattern, Written}
 use Rattle.rules.specs.Places.{Place, unroll, places, placesOf, size, factorOf, flagsAt}
-use Rattle.rules.specs.Readings.{SomeReading}
+use Rattle.rules.specs.Readings.{SomeReading, rowSets}
 use Rattle.rules.specs.Walk.{outOfSteps, outOfRows, IsOpen, pairs, firstAt, pairWays}
-use Rattle.rules.specs.Preferment.{Preferred, Reports}
+use Rattle.rules.specs.Preferment.{Preferred, Reports, setting}
 use Rattle.rules.specs.Search.{Match, End, done, full, stuck, unfinished, Finished, Kept, openOf, Skip, pastLast, Swept, Terms, within, whole, walkSearch, plainSearch, labels, endOf, plainFrom, shownOne, shown, shownEnd}
 use Rattle.rules.specs.Report.{numbersOf, labelsOf, fits, bytesFor, bitAt, notesOf, zeros}
 use Rattle.rules.specs.Answers.{treeIn, Task, taskOf, letterHolds, walkedOn, backtracked, Buffers, Memory, refusal, haltAnswer, endAnswer, answerBy, answerWithin, reportOf, walkWithin, plainOf, reportWithin, plainReport, accepted, searchWithin, searchOf, P, F}
@@ -48,15 +48,15 @@ use Rattle.laws.proofs.UsedFlags.{unused-zero}
 -- ---- demand 2
 
 module _ (p : Tree pattern) (o : Bounds p) (pl : List Place) (e : pl ≡ places (unroll p)) (holds : ℕ → ℕ → Bool) (n : ℕ) where
-  matches-exactly : (i : ℕ) → ((path : List ℕ) × (plainFrom holds n pl i ≡ some path)) ↔ SomeReading p holds n i
+  matches-exactly : (i : ℕ) → ((path : List ℕ) × (plainFrom holds n pl i ≡ some path)) ↔ SomeReading (rowSets n holds) p i
   matches-exactly = rw e (match-exactly p holds n o)
 
   matches-preferred : (i j : ℕ) (w : List ℕ)
-      → ((path : List ℕ) × ((plainFrom holds n pl i ≡ some path) × (endOf (length pl) path ≡ j) × (labels pl path ≡ w))) ↔ Preferred p holds n i j w
+      → ((path : List ℕ) × ((plainFrom holds n pl i ≡ some path) × (endOf (length pl) path ≡ j) × (labels pl path ≡ w))) ↔ Preferred (rowSets n holds) p i j w
   matches-preferred = rw e (found-is-greatest p o holds n)
 
   matches-reported : (skip : Skip) (room : ℕ → ℕ → List ℕ → Bool)
-      → Reports p holds n skip room 0 0 0 (shown pl (plainSearch holds n pl skip room .matches)) (shownEnd pl (plainSearch holds n pl skip room .end))
+      → Reports (setting p (rowSets n holds) skip room) 0 0 0 (shown pl (plainSearch holds n pl skip room .matches)) (shownEnd pl (plainSearch holds n pl skip room .end))
   matches-reported = rw e (plain-reports p o holds n)
 
 -- what is shown of the first of the matches is the first of what is shown

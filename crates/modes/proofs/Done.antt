@@ -9,7 +9,8 @@ use native.Mathlib.Omega.{arith}
 use lib.IntN.{ℤ}
 use lib.ListN.{length}
 use Rattle.rules.specs.Language.{Tree, pattern}
-use Rattle.rules.specs.Preferment.{Reports}
+use Rattle.rules.specs.Readings.{rowSets}
+use Rattle.rules.specs.Preferment.{Reports, setting}
 use Rattle.rules.specs.Walk.{outOfSteps, outOfRows}
 use Rattle.rules.specs.Search.{Match, End, done, full, stuck, unfinished, Skip, shown, shownEnd}
 use Rattle.rules.specs.Report.{fits}
@@ -28,7 +29,7 @@ is-done (unfinished outOfRows i p) z = absurd (omega arith)
 -- a report stays one where its pattern, letters, number of rows, mode, matches and end are replaced
 -- by equal ones
 carried : {p p′ : Tree pattern} {holds holds′ : ℕ → ℕ → Bool} {n n′ : ℕ} {skip skip′ : Skip} {room : ℕ → ℕ → List ℕ → Bool} {ms ms′ : List (ℕ × List ℕ)} {end end′ : End (ℕ × List ℕ)}
-    → p ≡ p′ → holds ≡ holds′ → n ≡ n′ → skip ≡ skip′ → ms ≡ ms′ → end ≡ end′ → Reports p holds n skip room 0 0 0 ms end → Reports p′ holds′ n′ skip′ room 0 0 0 ms′ end′
+    → p ≡ p′ → holds ≡ holds′ → n ≡ n′ → skip ≡ skip′ → ms ≡ ms′ → end ≡ end′ → Reports (setting p (rowSets n holds) skip room) 0 0 0 ms end → Reports (setting p′ (rowSets n′ holds′) skip′ room) 0 0 0 ms′ end′
 carried a b c d e f r = rw (a, b, c, d, e, f) at r
 
 -- the matches that a done search has written, told by preferment

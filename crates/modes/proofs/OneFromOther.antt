@@ -16,7 +16,8 @@ use Rattle.rules.specs.Basics.{pick}
 use Rattle.rules.specs.Rows.{Table}
 use Rattle.rules.specs.Query.{Measure, textOf, parts}
 use Rattle.rules.specs.Language.{Tree, pattern, Written}
-use Rattle.rules.specs.Preferment.{Preferred, NoneParses, Reports, finished, unmatched, matched}
+use Rattle.rules.specs.Readings.{rowSets}
+use Rattle.rules.specs.Preferment.{Preferred, NoneParses, Reports, finished, unmatched, matched, setting}
 use Rattle.rules.specs.Search.{done, pastLast, toNext, nextStart}
 use Rattle.rules.specs.Report.{fits}
 use Rattle.rules.specs.Answers.{taskOf, skipOf, letterHolds, Buffers, Memory, refusal}
@@ -33,7 +34,7 @@ use Rattle.modes.proofs.SkipByte.{SameButSkip, same-but-skip, mode-set}
 
 -- ---- a preferred match ends as many rows behind its start as it has labels
 
-ends-behind : {p : Tree pattern} {holds : ℕ → ℕ → Bool} {n i j : ℕ} {w : List ℕ} → Preferred p holds n i j w → j ≡ i + length w
+ends-behind : {p : Tree pattern} {holds : ℕ → ℕ → Bool} {n i j : ℕ} {w : List ℕ} → Preferred (rowSets n holds) p i j w → j ≡ i + length w
 ends-behind {p} {holds} {n} {i} {j} {w} x = let s = parses-word holds n p (x .derivation) i j w (x .parses) in rw (s .labels) (s .rows)
 
 -- the next start behind it, past its last row
@@ -71,14 +72,14 @@ one-next i j w k e = some-is e
 module _ (p : Tree pattern) (holds : ℕ → ℕ → Bool) (n : ℕ) (room : ℕ → ℕ → List ℕ → Bool) where
   -- what mode 0 still writes from row i on, behind m matches with l labels, where it ends as done
   abbrev Past : ℕ → ℕ → ℕ → List (ℕ × List ℕ) → Type 0
-  Past i m l ms = Reports p holds n pastLast room i m l ms done
+  Past i m l ms = Reports (setting p (rowSets n holds) pastLast room) i m l ms done
 
   past-end : {i m l : ℕ} {ms : List (ℕ × List ℕ)} → n ≤ i → Past i m l ms → ms ≡ []
   past-end h (finished f) = refl
   past-end h (unmatched lt x r) = absurd (omega arith)
   past-end h (matched lt x b d r) = absurd (omega arith)
 
-  past-none : {i m l : ℕ} {ms : List (ℕ × List ℕ)} → i < n → NoneParses p holds n i → Past i m l ms → Past (suc i) m l ms
+  past-none : {i m l : ℕ} {ms : List (ℕ × List ℕ)} → i < n → NoneParses (rowSets n holds) p i → Past i m l ms → Past (suc i) m l ms
   past-none h u (finished f) = absurd (omega arith)
   past-none h u (unmatched lt x r) = r
   past-none h u (matched {j = j} {w = w} lt x b d r) = absurd (u (x .derivation) j w (x .parses))
@@ -89,7 +90,7 @@ module _ (p : Tree pattern) (holds : ℕ → ℕ → Bool) (n : ℕ) (room : ℕ
     pub is : ms ≡ (i, w) ∷ rest
     pub goes : Past (past i j) (suc m) (l + length w) rest
 
-  past-match : {i j m l : ℕ} {w : List ℕ} {ms : List (ℕ × List ℕ)} → i < n → Preferred p holds n i j w → Past i m l ms → Took i j m l w ms
+  past-match : {i j m l : ℕ} {w : List ℕ} {ms : List (ℕ × List ℕ)} → i < n → Preferred (rowSets n holds) p i j w → Past i m l ms → Took i j m l w ms
   past-match h y (finished f) = absurd (omega arith)
   past-match {j = j} {w = w} h y (unmatched lt x r) = absurd (x (y .derivation) j w (y .parses))
   past-match {i = i} {j = j} {m = m} {l = l} {w = w} h y (matched {j = j′} {k = k} {w = v} {ms = rest} lt x b d r) =
@@ -99,7 +100,7 @@ module _ (p : Tree pattern) (holds : ℕ → ℕ → Bool) (n : ℕ) (room : ℕ
 
 module _ (p : Tree pattern) (holds : ℕ → ℕ → Bool) (n : ℕ) (room room′ : ℕ → ℕ → List ℕ → Bool) (t : Table) (measures : List Measure) where
   abbrev Each : ℕ → ℕ → ℕ → List (ℕ × List ℕ) → Type 0
-  Each i m l ms = Reports p holds n toNext room′ i m l ms done
+  Each i m l ms = Reports (setting p (rowSets n holds) toNext room′) i m l ms done
 
   -- what mode 1 still writes starts at row k or behind it, so choosing may begin anywhere up to k
   from-before : {k m l : ℕ} {ms : List (ℕ × List ℕ)} → Each k m l ms → (i : ℕ) → i ≤ k → chosenFrom i (entriesOf t measures ms) ≡ chosenFrom k (entriesOf t measures ms)

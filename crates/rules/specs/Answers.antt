@@ -1,7 +1,7 @@
--- Document 01, "Report", the table of answers, and request R-1, which parts 14 from 5: a test for
--- each of 1 to 12 and 14 over the whole input, the first that applies, or else the answer of the
--- search's end, and from it the result and the later content of all four lent buffers, as one
--- function of all that goes in.
+-- Rules: document 01, "Report", the table of answers, with R-1, R-2, R-3, R-6, R-11 and R-13. A test
+-- for each of 1 to 12 and 14 over the whole input, the first that applies, or else the answer of
+-- the search's end, and from it the result and the later content of all four lent buffers, as one
+-- function of all that goes in; how much to lend (`roomOf`); a letter at a row (`testOf`).
 use mathlib.Core.Bool.{Bool, true, false, not, _&&_, _||_}
 use mathlib.Core.List.{List, [], _∷_, _++_}
 use mathlib.Core.Option.{Option, none, some}

@@ -1,9 +1,9 @@
--- The tender's demands, in the words of the definitions: demand 1 for every input, demands 2 and 3
+-- Demands: the tender's, in the words of the definitions. Demand 1 for every input, demands 2 and 3
 -- for every search that is accepted, in every skip mode and with every allowance of steps, whether
 -- it ends as done, stopped or halted. They speak of what a call returns and of the memory that it
--- leaves. `demand1` and `demands` (crates/laws, Demands) prove them.
+-- leaves. `demand1` (crates/laws, FirstDemand) and `demands` (crates/laws, Demands) prove them.
 use mathlib.Core.Path.{_≡_}
-use mathlib.Core.Bool.{true, false}
+use mathlib.Core.Bool.{Bool, true, false}
 use mathlib.Core.List.{List, [], List·Memᴰ}
 use mathlib.Core.Logic.{_⊎_, _↔_}
 use mathlib.Core.Option.{Option, none, some}
@@ -14,8 +14,8 @@ use Rattle.rules.specs.Basics.{Begins, repeats, wrote}
 use Rattle.rules.specs.Query.{cut, misplaced, unfit, textOf, parts}
 use Rattle.rules.specs.Language.{Tree, pattern, Written, WrongAt, Unfinished}
 use Rattle.rules.specs.Places.{unroll, placesOf, factorOf, flagsAt}
-use Rattle.rules.specs.Readings.{Reads, SomeReading}
-use Rattle.rules.specs.Preferment.{Preferred, Reports}
+use Rattle.rules.specs.Readings.{RowSets, rowSets, Reads, SomeReading}
+use Rattle.rules.specs.Preferment.{Preferred, Setting, setting, Shown, Reports}
 use Rattle.rules.specs.Walk.{Halt, outOfSteps, pairs, firstAt, pairWays, IsPath, IsOpen, countTrue}
 use Rattle.rules.specs.Search.{Match, End, unfinished, Finished, pastLast, Swept, Kept, labels, endOf, shown, shownEnd, foundIn, openOf, pathPairs, plainFrom}
 use Rattle.rules.specs.Report.{numbersOf, labelsOf, fits, bytesFor, bitAt, zeros}
@@ -61,6 +61,14 @@ pub record Demand1 (a : Option ℕ) (q : List ℕ) (rows : List ℤ) (before : B
 
 -- ---- demand 2
 
+-- what a pattern sees of a task's rows
+abbrev pub setsOf : Task → RowSets
+setsOf t = rowSets (t .table .n) (letterHolds t)
+
+-- what a report for a task with the pattern p is of, where this is what fits
+abbrev pub settingOf : Tree pattern → Task → (ℕ → ℕ → List ℕ → Bool) → Setting
+settingOf p t fits = setting p (setsOf t) (t .skip) fits
+
 -- a match at the start i, which is the path of the first success there, has its end at j and the
 -- labels w
 abbrev pub MatchAt : Task → ℕ → ℕ → List ℕ → Type 0
@@ -70,28 +78,28 @@ MatchAt t i j w =
 -- for a task with the pattern p and so many report numbers and label bytes, the search r
 pub record Demand2 (p : Tree pattern) (t : Task) (nums labs : ℕ) (r : Swept Kept) : Type 0 where
   -- a start has a match exactly if some reading of the pattern exists there
-  pub exists : (i : ℕ) → ((path : List ℕ) × (plainFrom (letterHolds t) (t .table .n) (t .places) i ≡ some path)) ↔ SomeReading p (letterHolds t) (t .table .n) i
+  pub exists : (i : ℕ) → ((path : List ℕ) × (plainFrom (letterHolds t) (t .table .n) (t .places) i ≡ some path)) ↔ SomeReading (setsOf t) p i
   -- the match is the preferred one: its end and its labels are those of the greatest derivation
   -- that reads there
-  pub preferred : (i j : ℕ) (w : List ℕ) → MatchAt t i j w ↔ Preferred p (letterHolds t) (t .table .n) i j w
+  pub preferred : (i j : ℕ) (w : List ℕ) → MatchAt t i j w ↔ Preferred (setsOf t) p i j w
   -- and so a reading
-  pub reads : (i j : ℕ) (w : List ℕ) → Preferred p (letterHolds t) (t .table .n) i j w → Reads p (letterHolds t) (t .table .n) i j w
+  pub reads : (i j : ℕ) (w : List ℕ) → Preferred (setsOf t) p i j w → Reads (setsOf t) p i j w
   -- the matches that preferment gives: the preferred ones at the starts that the skip mode lets us
   -- try, in order, each with its labels, up to the one that does not fit or that names no next
   -- start
-  pub all : List (ℕ × List ℕ)
-  pub last : End (ℕ × List ℕ)
-  pub report : Reports p (letterHolds t) (t .table .n) (t .skip) (fits nums labs (t .measures)) 0 0 0 all last
+  pub all : List Shown
+  pub last : End Shown
+  pub report : Reports (settingOf p t (fits nums labs (t .measures))) 0 0 0 all last
   -- and there is no other such report
-  pub only : (ms : List (ℕ × List ℕ)) (end : End (ℕ × List ℕ)) → Reports p (letterHolds t) (t .table .n) (t .skip) (fits nums labs (t .measures)) 0 0 0 ms end
+  pub only : (ms : List Shown) (end : End Shown) → Reports (settingOf p t (fits nums labs (t .measures))) 0 0 0 ms end
       → (ms ≡ all) × (end ≡ last)
   -- the report holds exactly these, and ends so; one that is halted holds the first of them
   pub holds-all : Finished (r .end) → (shown (t .places) (r .matches) ≡ all) × (shownEnd (t .places) (r .end) ≡ last)
   pub holds-first : Begins (shown (t .places) (r .matches)) all
   -- with room for every match there is a report too, and this one holds the first of its matches
-  pub unlimited : List (ℕ × List ℕ)
-  pub unlimited-last : End (ℕ × List ℕ)
-  pub unlimited-report : Reports p (letterHolds t) (t .table .n) (t .skip) (λ m l w. true) 0 0 0 unlimited unlimited-last
+  pub unlimited : List Shown
+  pub unlimited-last : End Shown
+  pub unlimited-report : Reports (settingOf p t (λ m l w. true)) 0 0 0 unlimited unlimited-last
   pub first-of-unlimited : Begins (shown (t .places) (r .matches)) unlimited
 
 -- ---- demand 3

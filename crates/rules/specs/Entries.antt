@@ -1,6 +1,6 @@
--- A report as a caller finds it: the matches read back from the numbers and the label bytes that a
--- search leaves, each with its first row, its labels and its measures; and what a match found at a
--- start has to read as. `Demands` says that the one is the other.
+-- A demand's words. A report as a caller finds it: the matches read back from the numbers and the
+-- label bytes that a search leaves, each with its first row, its labels and its measures; and what
+-- a match found at a start has to read as. `Demands` says that the one is the other.
 use mathlib.Core.List.{List, [], _∷_, map}
 use Prim.Native.Nat.{ℕ, zero, suc, _+_, _*_}
 use lib.IntN.{ℤ, pos, natAbs}

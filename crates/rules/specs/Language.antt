@@ -1,6 +1,6 @@
--- Document 01, "Pattern language": trees, their tokens, and the texts that spell them; then what
--- can take no row. A text is in the language exactly if some tree is `Written` in it. No reading of
--- a text is described here.
+-- Rules: document 01, "Pattern language", with R-1 and R-3. Trees, their tokens, and the texts that
+-- spell them; then what can take no row. A text is in the language exactly if some tree is
+-- `Written` in it. No reading of a text is described here.
 use mathlib.Core.Path.{_≡_}
 use mathlib.Core.Bool.{Bool, true, false, _&&_, _||_}
 use mathlib.Core.List.{List, [], _∷_, _++_}

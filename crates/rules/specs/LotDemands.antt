@@ -1,4 +1,4 @@
--- What R-11 demands of a search by lots, in the words of the definitions (specs/Lots). `lots`
+-- Demands: what R-11 asks of a search by lots, in the words of the definitions (specs/Lots). `lots`
 -- (crates/laws, LotLaws) proves all of it for whatever is named first without a refusal.
 use mathlib.Core.Path.{_≡_}
 use mathlib.Core.Bool.{Bool, true, false}

@@ -1,6 +1,6 @@
--- Document 02, R-11: rows that come in lots. What a call answers and leaves is told by what was
--- named first, the rows present now and whether the end is declared; of the earlier calls only so
--- far as a stopped search stays stopped, and as a call after the end, or with fewer rows than
+-- Rules: document 02, R-11, rows that come in lots. What a call answers and leaves is told by what
+-- was named first, the rows present now and whether the end is declared; of the earlier calls only
+-- so far as a stopped search stays stopped, and as a call after the end, or with fewer rows than
 -- before, is refused. Where the earlier cuts were plays no part.
 use mathlib.Core.Path.{_≡_}
 use mathlib.Core.Bool.{Bool, false, not, _||_}

@@ -1,5 +1,5 @@
--- Document 01, the last paragraph of "Report": what the program prints, as a function from the
--- bytes of standard input to the bytes of standard output.
+-- Rules: document 01, the last paragraph of "Report". What the program prints, as a function from
+-- the bytes of standard input to the bytes of standard output.
 use mathlib.Core.Bool.{not, _||_}
 use mathlib.Core.List.{List, [], _∷_, _++_}
 use mathlib.Core.Option.{Option, none, some}
@@ -22,7 +22,8 @@ digitsOf zero n = []
 digitsOf (suc k) n = pick (ltb n 10) ((48 + n) ∷ []) (digitsOf k (n / 10) ++ ((48 + n % 10) ∷ []))
 
 -- all digits of a number: a number below 10 ^ 20, as every number here is, has at most 20, and any
--- number has no more than one more than itself
+-- number has no more than one more than itself. The law `decimal-is` (crates/laws, Decimal) says
+-- that the two bounds give the same, and `decimal-value` that the digits spell the number.
 unfoldable pub decimal : ℕ → List ℕ
 unfolding digitsOf
 decimal n = digitsOf (pick (ltb n 100000000000000000000) 20 (suc n)) n

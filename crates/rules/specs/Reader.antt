@@ -1,6 +1,6 @@
--- Not a rule of the paper: how the tree of a text is computed, so that definitions which need it
--- can be run. The law `tree-exactly` (crates/laws, Grammar) says that `treeOf text` is `some p`
--- exactly if p is `Written` in the text, so nothing below has to be believed. Recursive descent
+-- No rule. How the tree of a text is computed, so that definitions which need it can be run. The law
+-- `tree-exactly` (crates/laws, Grammar) says that `treeOf text` is `some p` exactly if p is
+-- `Written` in the text (specs/Language), so nothing below has to be believed. Recursive descent
 -- over the bytes: each reader begins at its first byte and ends behind its last token and the
 -- spaces there. A reader that finds nothing stops at the first byte with which no text of the
 -- language begins that way, or at the end; `wrong-exactly` and `incomplete-exactly` (crates/laws,
@@ -186,7 +186,8 @@ unfolding parted simple
 primaryOn true again s = parted (eqb (peek (skip (rest s))) 41) again (skip (rest s))
 primaryOn false again s = simple s
 
--- what the reader of a rank finds; the number bounds the depth of the readers
+-- what the reader of a rank finds; the number bounds the depth of the readers. The law `read-enough`
+-- (crates/laws, Depth) says that `depth`, below, is enough.
 unfoldable pub read : ℕ → (k : Rank) → List ℕ → Reading (Tree k)
 unfolding altWith seqWith timesWith primaryOn
 read zero k s = bad s

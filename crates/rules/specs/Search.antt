@@ -1,6 +1,7 @@
--- Document 01, "Places and preferment", on starts: where attempts begin, how the search goes on
--- behind a match, and the two whole searches, by the counted walk and by plain backtracking, which
--- take starts, write matches and answer by the same rules.
+-- Rules: document 01, "Places and preferment", its third to fifth paragraphs, with R-2, R-11 and
+-- R-13. Where attempts begin, how the search goes on behind a match, and the two whole searches, by
+-- the counted walk and by plain backtracking, which take starts, write matches and answer by the
+-- same rules.
 use mathlib.Core.List.{List, [], _∷_, _++_, map}
 use mathlib.Core.Bool.{Bool, true, false, not, _&&_}
 use mathlib.Core.Option.{Option, none, some}
@@ -162,7 +163,7 @@ module _ {S : Type 0} where
   onAnswer plan on i m l (hit p) st = byFit (plan .fits m l p) (record { start = i; path = p }) st (λ _. byNext (plan .next i p) st (λ j. on j (suc m) (l + plan .rows p) st))
 
   -- the search from the start i on; attempts begin at rows below n only. k bounds the number of
-  -- attempts, and n is enough (crates/laws, Fuel).
+  -- attempts; the law `sweep-enough` (crates/laws, Fuel) says that n is enough.
   unfoldable pub sweep : (ℕ → S → Attempted × S) → Plan → ℕ → ℕ → ℕ → ℕ → S → Swept S
   sweep attempt plan zero i m l st = ended (noStart (plan .more) i) st
   sweep attempt plan (suc k) i m l st = below (ltb i (plan .n)) (ended (noStart (plan .more) i) st) (λ _. let r = attempt i st in onAnswer plan (sweep attempt plan k) i m l (r .0) (r .1))
@@ -244,6 +245,9 @@ planOf pl n more skip fits =
       rows = λ p. length (labels pl p);
       fits = λ m l p. fits m l (labels pl p);
     }
+
+-- `walk-search-enough` and `plain-search-enough` (crates/laws, Fuel) say that larger bounds on depth
+-- and attempts change neither search.
 
 -- by the counted walk: at first no pair has failed, and the count of steps is 0; the first start is
 -- row 0. `holds c i`: letter c holds at row i; `skip`: the skip mode; `fits m l w`: a match with

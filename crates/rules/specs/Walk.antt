@@ -1,6 +1,7 @@
--- Document 01, "Places and preferment", on pairs: the graph of the pairs (place, position); plain
--- backtracking; and the counted walk with its failed pairs and steps. Both walks are over any
--- graph, and both searches use them over the same one.
+-- Rules: document 01, "Places and preferment", its second, fourth and fifth paragraphs, with R-11
+-- and R-13. The graph of the pairs (place, position); plain backtracking; and the counted walk with
+-- its failed pairs and steps. Both walks are over any graph, and both searches use them over the
+-- same one.
 use mathlib.Core.Path.{_≡_}
 use mathlib.Core.List.{List, [], _∷_, map, List·Memᴰ}
 use mathlib.Core.Bool.{Bool, true, false, _&&_}
@@ -160,7 +161,8 @@ insideBy h true w f F s x = halted outOfRows (x ∷ []) F s
 insideBy h false accept f F s x = found (x ∷ []) F s
 insideBy h false (try ys) f F s x = close x (tries h f F s ys)
 
--- what comes of a pair that has been entered; k bounds the depth as it does for `plain`
+-- what comes of a pair that has been entered; k bounds the depth as it does for `plain`, and the law
+-- `inside-enough` (crates/laws, Fuel) says that the number of pairs is enough for it
 unfoldable pub inside : Halting → (ℕ → Ways) → ℕ → List Bool → ℕ → ℕ → Outcome
 unfolding insideBy
 inside h ways zero F s x = failed F s

@@ -1,6 +1,6 @@
--- Notions that no rule of the papers names. The crates' own specs use them to say what their code
--- does: notes as bits, a stack of open pairs, a graph without a circle of ways that take no row,
--- and forks that list each way once. Whoever reads the rules alone need not read them.
+-- No rule. Notions that no rule of the papers names. The crates' own specs use them to say what
+-- their code does: notes as bits, a stack of open pairs, a graph without a circle of ways that take
+-- no row, and forks that list each way once.
 use mathlib.Core.Path.{_≡_}
 use mathlib.Core.List.{List, [], _∷_, reverseAux}
 use mathlib.Core.Bool.{Bool, true, false}
