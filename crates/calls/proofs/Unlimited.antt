@@ -78,9 +78,9 @@ module _ (s : Named) where
           let b : walkSearch (lotTerms s last) (letterHolds t) (t .table .n) (t .places) (t .skip) (fits (length (s .lent .numbers)) (length (s .lent .labels)) (t .measures)) .state .1 ≤ 18446744073709551615 =
           (let z = steps-few s begins rows n lot last in omega arith) in
           let w : (o : Option ℕ) → o ≡ none
-              → walkSearch (record { largest = s .largest; more = not last; allowance = o }) (letterHolds t) (t .table .n) (t .places) (t .skip) (fits (length (s .lent .numbers)) (length (s .lent .labels)) (t .measures)) .state .1 ≤ 18446744073709551615
-              → walkSearch (record { largest = s .largest; more = not last; allowance = some 18446744073709551615 }) (letterHolds t) (t .table .n) (t .places) (t .skip) (fits (length (s .lent .numbers)) (length (s .lent .labels)) (t .measures))
-              ≡ walkSearch (record { largest = s .largest; more = not last; allowance = o }) (letterHolds t) (t .table .n) (t .places) (t .skip) (fits (length (s .lent .numbers)) (length (s .lent .labels)) (t .measures)) =
+          → walkSearch (record { largest = s .largest; more = not last; allowance = o }) (letterHolds t) (t .table .n) (t .places) (t .skip) (fits (length (s .lent .numbers)) (length (s .lent .labels)) (t .measures)) .state .1 ≤ 18446744073709551615
+          → walkSearch (record { largest = s .largest; more = not last; allowance = some 18446744073709551615 }) (letterHolds t) (t .table .n) (t .places) (t .skip) (fits (length (s .lent .numbers)) (length (s .lent .labels)) (t .measures))
+          ≡ walkSearch (record { largest = s .largest; more = not last; allowance = o }) (letterHolds t) (t .table .n) (t .places) (t .skip) (fits (length (s .lent .numbers)) (length (s .lent .labels)) (t .measures)) =
           λ o d c. rw d (allowed (s .largest) (not last) (letterHolds t) (t .table .n) (t .places) (t .skip) (fits (length (s .lent .numbers)) (length (s .lent .labels)) (t .measures)) 18446744073709551615 (rw d at c)) in
           w (s .allowance) e b
 

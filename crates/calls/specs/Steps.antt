@@ -31,6 +31,10 @@ after r notes trail numbers labels = record { feed = r .feed; memory = memory (r
 abbrev pub refusing : Feed → ℕ → ℕ → Fed
 refusing f a k = record { feed = f; outcome = refusal a k }
 
+-- the same, and the result is as before
+abbrev pub asBefore : Feed → Fed
+asBefore f = record { feed = f; outcome = record { answer = f .answer; matches = f .matches; labels = f .labels; steps = f .steps; offset = 0 } }
+
 -- the terms of a call's search
 abbrev pub termsOf : Call → Terms
 termsOf c = record { rows = c .present; largest = c .feed .largest; allowance = c .feed .allowance; more = not (c .last) }

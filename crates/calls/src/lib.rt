@@ -137,7 +137,16 @@ pub fn call_prepared(
     }
     if within(feed, labels.len()) {
         let entries = present * columns;
-        return go(table, p, call, &rows[..entries], notes, trail, numbers, labels);
+        return go(
+            table,
+            p,
+            call,
+            &rows[..entries],
+            notes,
+            trail,
+            numbers,
+            labels,
+        );
     }
     refuse(feed, OUT_OF_ORDER, 0)
 }

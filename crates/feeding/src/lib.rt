@@ -15,8 +15,9 @@ use prepared::NO_ROOM;
 use prepared::prepare;
 ghost use mathlib.Core.Path.{_≡_};
 ghost use mathlib.Core.Bool.{true, false};
-ghost use Rattle.calls.specs.Steps.{before, after};
-ghost use Rattle.feeding.specs.Calls.{Calls, asBefore};
+ghost use Rattle.outcome.specs.Results.{lent, memory};
+ghost use Rattle.calls.specs.Steps.{before as asked, after as left, asBefore};
+ghost use Rattle.feeding.specs.Calls.{Calls};
 
 // Answers: done, and more rows are waited for.
 const DONE: usize = 0;
@@ -48,7 +49,7 @@ fn feed_largest(
     call: Call,
 ) -> Fed
     requires { ⌜ call .feed .answer ≡ 23 ⌝ }
-    ensures { λ r. ⌜ Calls (before call (now (query .entry)) (now (rows .entry)) (now (notes .entry)) (now (trail .entry)) (now (numbers .entry)) (now (labels .entry))) (after r (now (notes .exit)) (now (trail .exit)) (now (numbers .exit)) (now (labels .exit))) ⌝ }
+    ensures { λ r. ⌜ Calls (asked call (now (query .entry)) (now (rows .entry)) (now (notes .entry)) (now (trail .entry)) (now (numbers .entry)) (now (labels .entry))) (left r (now (notes .exit)) (now (trail .exit)) (now (numbers .exit)) (now (labels .exit))) ⌝ }
 {
     let mut table = [0u16; 16076];
     let p = prepare(query, &mut table);
@@ -66,7 +67,7 @@ fn feed_large(
     call: Call,
 ) -> Fed
     requires { ⌜ call .feed .answer ≡ 23 ⌝ }
-    ensures { λ r. ⌜ Calls (before call (now (query .entry)) (now (rows .entry)) (now (notes .entry)) (now (trail .entry)) (now (numbers .entry)) (now (labels .entry))) (after r (now (notes .exit)) (now (trail .exit)) (now (numbers .exit)) (now (labels .exit))) ⌝ }
+    ensures { λ r. ⌜ Calls (asked call (now (query .entry)) (now (rows .entry)) (now (notes .entry)) (now (trail .entry)) (now (numbers .entry)) (now (labels .entry))) (left r (now (notes .exit)) (now (trail .exit)) (now (numbers .exit)) (now (labels .exit))) ⌝ }
 {
     let mut table = [0u16; 3532];
     let p = prepare(query, &mut table);
@@ -89,7 +90,7 @@ fn feed_waiting(
     call: Call,
 ) -> Fed
     requires { ⌜ call .feed .answer ≡ 23 ⌝ }
-    ensures { λ r. ⌜ Calls (before call (now (query .entry)) (now (rows .entry)) (now (notes .entry)) (now (trail .entry)) (now (numbers .entry)) (now (labels .entry))) (after r (now (notes .exit)) (now (trail .exit)) (now (numbers .exit)) (now (labels .exit))) ⌝ }
+    ensures { λ r. ⌜ Calls (asked call (now (query .entry)) (now (rows .entry)) (now (notes .entry)) (now (trail .entry)) (now (numbers .entry)) (now (labels .entry))) (left r (now (notes .exit)) (now (trail .exit)) (now (numbers .exit)) (now (labels .exit))) ⌝ }
 {
     let mut table = [0u16; 768];
     let p = prepare(query, &mut table);
@@ -110,7 +111,7 @@ fn feed(
     labels: &mut [u8],
     call: Call,
 ) -> Fed
-    ensures { λ r. ⌜ Calls (before call (now (query .entry)) (now (rows .entry)) (now (notes .entry)) (now (trail .entry)) (now (numbers .entry)) (now (labels .entry))) (after r (now (notes .exit)) (now (trail .exit)) (now (numbers .exit)) (now (labels .exit))) ⌝ }
+    ensures { λ r. ⌜ Calls (asked call (now (query .entry)) (now (rows .entry)) (now (notes .entry)) (now (trail .entry)) (now (numbers .entry)) (now (labels .entry))) (left r (now (notes .exit)) (now (trail .exit)) (now (numbers .exit)) (now (labels .exit))) ⌝ }
 {
     let kept = call.feed;
     let answer = kept.answer;
