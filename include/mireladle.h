@@ -298,10 +298,12 @@ struct mireladle_result mireladle_search_within(const uint8_t *query, size_t que
  * However the rows are cut into lots, by the end report and steps are those of one
  * mireladle_search_within() of all rows. examples/feed.c is a whole program.
  *
- *   feed       What is kept between the calls of one search. mireladle_begin() writes it whole; of a
- *              feed that it did not write, nothing is said but that each call gives an answer and
- *              touches nothing beside the feed and the lent buffers.
- *   largest    The most rows that there may be in the end, by which notes and trail are measured. One
+ *   feed       What is kept between the calls of one search; not NULL, and apart from all else that
+ *              is lent. mireladle_begin() writes it whole. Of a feed that it did not write nothing is
+ *              said but that each call gives an answer, and touches nothing beside the feed and the
+ *              lent buffers.
+ *   largest    The most rows that there may be in the end, by which notes and trail are measured:
+ *              P * F * (largest + 1) pairs, of which mireladle_room() tells P and F without rows. One
  *              above 4,096 is answer 10 of each later call; mireladle_begin() itself refuses nothing.
  *   allowance  The steps that all calls together may take; UINT64_MAX is no limit.
  *   rows       All rows so far, from the first on. At each call those present before are the same.
@@ -324,8 +326,8 @@ struct mireladle_result mireladle_search_within(const uint8_t *query, size_t que
  *   21            Fewer rows are present than at a call before. As many are allowed.
  *
  * None of these changes anything, not even the feed, so that a call which is refused may be made
- * again with other rows; and all but 13, 15 and 16 return zeros. In every other case the call searches
- * on:
+ * again with other rows; and all but 13, 15 and 16 return zeros. In every other case the call goes on
+ * with the search:
  *
  *   23            From mireladle_more(): the search waits for a row. matches and labels count all that
  *                 was found so far, of which the earlier calls told the front, and steps are those of
