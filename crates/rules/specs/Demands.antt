@@ -16,8 +16,8 @@ use Rattle.rules.specs.Language.{Tree, pattern, Written, WrongAt, Unfini
 use Rattle.rules.specs.Places.{unroll, placesOf, factorOf, flagsAt}
 use Rattle.rules.specs.Readings.{RowSets, rowSets, Reads, SomeReading}
 use Rattle.rules.specs.Preferment.{Preferred, Setting, setting, Shown, Reports}
-use Rattle.rules.specs.Walk.{Halt, outOfSteps, pairs, firstAt, pairWays, IsPath, IsOpen, countTrue}
-use Rattle.rules.specs.Search.{Match, End, unfinished, Finished, pastLast, Swept, Kept, labels, endOf, shown, shownEnd, foundIn, openOf, pathPairs, plainFrom}
+use Rattle.rules.specs.Walk.{Halt, outOfSteps, pairs, firstAt, pairWays, IsPath, IsOpen, countTrue, Kept}
+use Rattle.rules.specs.Search.{Match, End, unfinished, Finished, pastLast, Swept, labels, endOf, shown, shownEnd, foundIn, openOf, pathPairs, plainFrom}
 use Rattle.rules.specs.Report.{numbersOf, labelsOf, fits, bytesFor, bitAt, zeros}
 use Rattle.rules.specs.Answers.{tooDeep, treeIn, Task, taskOf, letterHolds, Buffers, Memory, Report, refused, endAnswer, answerWithin, walkWithin, plainOf, plainReport, searchWithin, searchOf, P, F}
 use Rattle.rules.specs.Entries.{entriesIn, entriesOf}
@@ -108,23 +108,23 @@ pub record Demand2 (p : Tree pattern) (t : Task) (nums labs : ℕ) (r : Swept Ke
 -- plain backtracking
 pub record Demand3 (t : Task) (largest : ℕ) (r : Swept Kept) (b : Swept (Unit {0})) : Type 0 where
   -- with skip past last row the steps are at most 2P(n+1), with R-3's factor 2PF(n+1)
-  pub bound : t .skip ≡ pastLast → r .state .1 ≤ 2 * pairs (length (t .places)) (t .table .n)
+  pub bound : t .skip ≡ pastLast → r .state .steps ≤ 2 * pairs (length (t .places)) (t .table .n)
   -- in every skip mode they are at most P n (n+3) / 2, with R-3's factor PF n (n+3) / 2
-  pub bound-each : 2 * r .state .1 ≤ length (t .places) * (t .table .n * (t .table .n + 3))
+  pub bound-each : 2 * r .state .steps ≤ length (t .places) * (t .table .n * (t .table .n + 3))
   -- the steps are the failed pairs plus the pairs on all paths found, path by path, plus the pairs
   -- still open where the walk has halted
-  pub sum : r .state .1 ≡ countTrue (r .state .0) + pathPairs (foundIn r) + length (openOf (r .end))
+  pub sum : r .state .steps ≡ countTrue (r .state .failed) + pathPairs (foundIn r) + length (openOf (r .end))
   -- each path found is one from its start to END, each pair having led to the next
   pub paths : (m : Match) → List·Memᴰ m (foundIn r) → IsPath (pairWays (letterHolds t) (t .table .n) (t .places)) (firstAt (length (t .places)) (m .start)) (m .path)
   -- those still open are pairs of the unfinished attempt, each having led to the next, none twice, and have
   -- not failed; there is none where the attempt has not begun
   pub still-open : (h : Halt) (i : ℕ) (p : List ℕ) → r .end ≡ unfinished h i p
       → ((p ≡ []) ⊎ IsOpen (pairWays (letterHolds t) (t .table .n) (t .places)) (firstAt (length (t .places)) i) p)
-      × (repeats p ≡ false) × ((x : ℕ) → List·Memᴰ x p → getD (r .state .0) x false ≡ false)
+      × (repeats p ≡ false) × ((x : ℕ) → List·Memᴰ x p → getD (r .state .failed) x false ≡ false)
   -- from a failed pair there is no reading of the rest
-  pub failed : (x : ℕ) → getD (r .state .0) x false ≡ true → (path : List ℕ) → IsPath (pairWays (letterHolds t) (t .table .n) (t .places)) x path → ⊥
+  pub failed : (x : ℕ) → getD (r .state .failed) x false ≡ true → (path : List ℕ) → IsPath (pairWays (letterHolds t) (t .table .n) (t .places)) x path → ⊥
   -- every pair is kept account of
-  pub pairs-kept : length (r .state .0) ≡ pairs (length (t .places)) largest
+  pub pairs-kept : length (r .state .failed) ≡ pairs (length (t .places)) largest
   -- the matches and the end are those of plain backtracking; where the walk has halted, its matches
   -- are the first of them
   pub like-all : Finished (r .end) → (r .matches ≡ b .matches) × (r .end ≡ b .end)
@@ -146,16 +146,16 @@ pub record Demands (a : Option ℕ) (q : List ℕ) (rows : List ℤ) (before : B
   pub not-halted : (after .result .answer ≡ 16 → ⊥) → Finished (walkWithin a q rows before .end)
   -- the answer tells how the walk ends, and the steps returned are the walk's
   pub ended : after .result .answer ≡ endAnswer (walkWithin a q rows before .end)
-  pub steps : after .result .steps ≡ walkWithin a q rows before .state .1
+  pub steps : after .result .steps ≡ walkWithin a q rows before .state .steps
   -- they keep the bounds: 2PF(n+1) with skip past last row, PF n (n+3) / 2 in every skip mode
   pub bound : taskOf q rows .skip ≡ pastLast → after .result .steps ≤ 2 * pairs (placesOf tree * factorOf tree) (taskOf q rows .table .n)
   pub bound-each : 2 * after .result .steps ≤ placesOf tree * factorOf tree * (taskOf q rows .table .n * (taskOf q rows .table .n + 3))
   -- they are the failed pairs, those on all paths found, and those still open where it has halted
   pub sum : after .result .steps
-      ≡ countTrue (walkWithin a q rows before .state .0) + pathPairs (foundIn (walkWithin a q rows before)) + length (openOf (walkWithin a q rows before .end))
+      ≡ countTrue (walkWithin a q rows before .state .failed) + pathPairs (foundIn (walkWithin a q rows before)) + length (openOf (walkWithin a q rows before .end))
   -- the failed pairs are exactly those noted, and spare bits are 0
   pub noted : (x : ℕ) → x < 8 * bytesFor (pairs (placesOf tree * factorOf tree) (taskOf q rows .table .n))
-      → bitAt (after .buffers .notes) x ≡ getD (walkWithin a q rows before .state .0) x false
+      → bitAt (after .buffers .notes) x ≡ getD (walkWithin a q rows before .state .failed) x false
   -- the trail has a 0 for each pair; beyond, notes and trail are unchanged
   pub trail : after .buffers .trail ≡ wrote (before .trail) 0 (zeros (pairs (placesOf tree * factorOf tree) (taskOf q rows .table .n)))
   pub notes-beyond : drop (bytesFor (pairs (placesOf tree * factorOf tree) (taskOf q rows .table .n))) (after .buffers .notes)
@@ -177,19 +177,19 @@ pub record Demands (a : Option ℕ) (q : List ℕ) (rows : List ℤ) (before : B
   pub like-plain : (after .result .answer ≡ 16 → ⊥) → reportIn after ≡ plainReport q rows before
   pub first-of-plain : Begins (entriesIn q after) (entriesOf (taskOf q rows .table) (taskOf q rows .measures) (shown (taskOf q rows .places) (plainOf q rows before .matches)))
   -- the unused bits of a failed pair's flags are 0
-  pub unused : (x : ℕ) → getD (walkWithin a q rows before .state .0) x false ≡ true → x % factorOf tree < 2 ^ flagsAt (unroll tree) (x / factorOf tree % placesOf tree)
+  pub unused : (x : ℕ) → getD (walkWithin a q rows before .state .failed) x false ≡ true → x % factorOf tree < 2 ^ flagsAt (unroll tree) (x / factorOf tree % placesOf tree)
 
 -- ---- what an allowance does (R-13)
 
 pub record Allowing (q : List ℕ) (rows : List ℤ) (lent : Buffers) : Type 0 where
   -- it is not passed, and where the search halts for it, it is used up
-  pub kept-to : (a : ℕ) → walkWithin (some a) q rows lent .state .1 ≤ a
-  pub used-up : (a i : ℕ) (p : List ℕ) → walkWithin (some a) q rows lent .end ≡ unfinished outOfSteps i p → walkWithin (some a) q rows lent .state .1 ≡ a
+  pub kept-to : (a : ℕ) → walkWithin (some a) q rows lent .state .steps ≤ a
+  pub used-up : (a i : ℕ) (p : List ℕ) → walkWithin (some a) q rows lent .end ≡ unfinished outOfSteps i p → walkWithin (some a) q rows lent .state .steps ≡ a
   -- a search that does not halt within it is document 01's
   pub done : (a : ℕ) → Finished (walkWithin (some a) q rows lent .end) → searchWithin (some a) q rows lent ≡ searchOf q rows lent
   -- a run with a larger allowance begins with the same matches
   pub larger : (a b : ℕ) → a ≤ b → Begins (walkWithin (some a) q rows lent .matches) (walkWithin (some b) q rows lent .matches)
   -- an allowance that the search without one does not pass changes nothing
-  pub unpassed : (a : ℕ) → walkWithin none q rows lent .state .1 ≤ a → searchWithin (some a) q rows lent ≡ searchOf q rows lent
+  pub unpassed : (a : ℕ) → walkWithin none q rows lent .state .steps ≤ a → searchWithin (some a) q rows lent ≡ searchOf q rows lent
   -- an allowance of 2PF(n+1) is always enough with skip past last row
   pub enough : taskOf q rows .skip ≡ pastLast → (a : ℕ) → 2 * pairs (length (taskOf q rows .places)) (taskOf q rows .table .n) ≤ a → searchWithin (some a) q rows lent ≡ searchOf q rows lent

@@ -15,8 +15,8 @@ use Rattle.rules.specs.Basics.{pick, every}
 use Rattle.rules.specs.Rows.{Comparison, comparisonsIn}
 use Rattle.rules.specs.Query.{columnsOf, textOf, parts}
 use Rattle.rules.specs.Language.{Tree, pattern, hasDollar}
-use Rattle.rules.specs.Walk.{pairs}
-use Rattle.rules.specs.Search.{Swept, Kept, Terms}
+use Rattle.rules.specs.Walk.{pairs, Kept}
+use Rattle.rules.specs.Search.{Swept, Terms}
 use Rattle.rules.specs.Report.{bytesFor}
 use Rattle.rules.specs.Answers.{treeIn, P, lettersIn, Task, taskOf, walkedOn, Buffers, Test, firstOf, queryTests, offsetAt, endAnswer, reportOf, Result, Memory, refused, accepted, F}
 

@@ -10,9 +10,10 @@ use lib.ListN.{length, take, drop}
 use Rattle.rules.specs.Basics.{pick, tabulate, le16, le32, signed32, bytes}
 use Rattle.rules.specs.Rows.{Table}
 use Rattle.rules.specs.Query.{Measure}
-use Rattle.rules.specs.Search.{Match, Swept, Kept, labels}
+use Rattle.rules.specs.Search.{Match, Swept, labels}
 use Rattle.rules.specs.Report.{measured}
 use Rattle.rules.specs.Answers.{badRows, roomAnswer, pairsOf, Task, taskOf, walked, stopped}
+use Rattle.rules.specs.Walk.{Kept}
 
 -- ---- numbers in decimal
 
@@ -69,7 +70,7 @@ matchLines t k (x ∷ xs) = matchLine (t .table) (t .measures) (suc k) (x .start
 unfoldable pub headerLine : Swept Kept → List ℕ
 unfolding bytes decimal stopped
 headerLine r =
-    pick (stopped r) (bytes "stopped ") (bytes "matches ") ++ (decimal (length (r .matches)) ++ (bytes " steps " ++ (decimal (r .state .1) ++ (10 ∷ []))))
+    pick (stopped r) (bytes "stopped ") (bytes "matches ") ++ (decimal (length (r .matches)) ++ (bytes " steps " ++ (decimal (r .state .steps) ++ (10 ∷ []))))
 
 unfoldable pub searchText : Task → Swept Kept → List ℕ
 unfolding headerLine matchLines

@@ -108,7 +108,7 @@ allowances =
 unfoldable pub keepsWithin : List ℕ → List ℤ → Allowed → Bool
 unfolding searchWithin walkWithin countTrue
 keepsWithin q rows l =
-    let failed = walkWithin (some (l .allowance)) q rows (enough q rows) .state .0 in
+    let failed = walkWithin (some (l .allowance)) q rows (enough q rows) .state .failed in
     equalResult (searchWithin (some (l .allowance)) q rows (enough q rows) .result) (l .result) && eqb (countTrue failed) (l .failed)
 
 unfoldable pub keepsTo : Allowed → Bool
