@@ -12,9 +12,9 @@ use lib.Dec.{leb}
 use lib.ListN.{length, getD, replicate, length-append, length-replicate}
 use borrow.Author.Tests.{lt-leb}
 use Rattle.rules.specs.Places.{Place, Unrolled, places}
-use Rattle.rules.specs.Search.{Match, End, unfinished, Skip, Swept, Kept, Plan, Terms, haltingOf, labels, planOf, walkSearch, walkAt, sweep, withMatch}
+use Rattle.rules.specs.Search.{Match, End, unfinished, Skip, Swept, Plan, Terms, haltingOf, labels, planOf, walkSearch, walkAt, sweep, withMatch, seek, standAt}
 use Rattle.rules.specs.Report.{labelsOf}
-use Rattle.rules.specs.Walk.{Ways, Halting, outOfRows, pairs, firstAt, pairWays}
+use Rattle.rules.specs.Walk.{Ways, Halting, outOfRows, pairs, firstAt, pairWays, Kept, asKept, tried}
 use Rattle.rules.specs.Working.{All, Falls, Out, thinned}
 use Rattle.laws.proofs.Distinct.{thin, thin-pairs, halting-thin, walk-thin, thinned-length}
 use Rattle.laws.proofs.Fuel.{plan-on}
@@ -94,12 +94,12 @@ module _ (t : Unrolled) (skip : Skip) (fit : ℕ → ℕ → List ℕ → Bool) 
   -- the earlier search, with an account for the rows that were there, and for those that are there
   -- now
   abbrev pub earlier : Swept Kept
-  earlier = walkSearch (record { largest = n₁; more = true; allowance = some a }) holds₁ n₁ pl skip fit
+  earlier = walkSearch (record { largest = n₁; more = true; allowance = some a }) (seek holds₁ n₁ pl skip fit)
 
   abbrev pub gap : List Bool
   gap = replicate (pairs (length (places t)) n₂ - pairs (length (places t)) n₁) false
 
-  earlier-is : walkSearch terms₁ holds₁ n₁ pl skip fit ≡ padded gap earlier
+  earlier-is : walkSearch terms₁ (seek holds₁ n₁ pl skip fit) ≡ padded gap earlier
   earlier-is =
       walk-thin t holds₁ n₁ terms₁ le skip fit ∙ search-padded t holds₁ n₁ terms₁ le skip fit
       ∙ ap (padded gap) (sym (walk-thin t holds₁ n₁ (record { largest = n₁; more = true; allowance = some a }) (omega arith) skip fit))
@@ -117,15 +117,15 @@ module _ (t : Unrolled) (skip : Skip) (fit : ℕ → ℕ → List ℕ → Bool) 
   plan₂ = planOf pl n₂ more skip fit
 
   abbrev pub F₂ : List Bool
-  F₂ = earlier .state .0 ++ gap
+  F₂ = earlier .state .failed ++ gap
 
-  long₁ : length (earlier .state .0) ≡ pairs (length pl) n₁
-  long₁ = ap (λ (r : Swept Kept). length (r .state .0)) (walk-thin t holds₁ n₁ (record { largest = n₁; more = true; allowance = some a }) (omega arith) skip fit)
+  long₁ : length (earlier .state .failed) ≡ pairs (length pl) n₁
+  long₁ = ap (λ (r : Swept Kept). length (r .state .failed)) (walk-thin t holds₁ n₁ (record { largest = n₁; more = true; allowance = some a }) (omega arith) skip fit)
       ∙ search-kept t holds₁ n₁ (record { largest = n₁; more = true; allowance = some a }) (omega arith) skip fit ∙ ap (λ (k : ℕ). pairs k n₁) (sym (thinned-length (places t)))
 
   pub long₂ : length F₂ ≡ N₂
   long₂ =
-      let e = length-append (earlier .state .0) gap in
+      let e = length-append (earlier .state .failed) gap in
       let f = length-replicate (pairs (length (places t)) n₂ - pairs (length (places t)) n₁) false in
       let m = more-pairs t holds₁ n₁ n₂ le in
       let d = long₁ in
@@ -148,48 +148,48 @@ module _ (t : Unrolled) (skip : Skip) (fit : ℕ → ℕ → List ℕ → Bool) 
   unfolding planOf
   starts-in n holds b i h = firsts n holds i h
 
-  module _ (i : ℕ) (p : List ℕ) (end : earlier .end ≡ unfinished outOfRows i p) (few : length p ≤ earlier .state .1) (within : earlier .state .1 ≤ a) where
+  module _ (i : ℕ) (p : List ℕ) (end : earlier .end ≡ unfinished outOfRows i p) (few : length p ≤ earlier .state .steps) (within : earlier .state .steps ≤ a) where
     traced : EndTraced (haltingOf (record { largest = n₁; more = true; allowance = some a }) pl n₁) (pairWays holds₁ n₁ pl) (rank t n₁) (pairs (length pl) n₁) falls₁ (pairs (length pl) n₁) (tops n₁ holds₁) (firstAt (length pl))
         (planOf pl n₁ true skip fit) (starts-in n₁ holds₁ true) (earlier .end) (earlier .state)
     unfolding walkSearch planOf
     traced =
         sweep-traced (haltingOf (record { largest = n₁; more = true; allowance = some a }) pl n₁) (pairWays holds₁ n₁ pl) (rank t n₁) (pairs (length pl) n₁) falls₁ (pairs (length pl) n₁) (tops n₁ holds₁) (firstAt (length pl))
-        (planOf pl n₁ true skip fit) (starts-in n₁ holds₁ true) n₁ 0 0 0 (replicate (pairs (length pl) n₁) false, 0) (length-replicate (pairs (length pl) n₁) false)
+        (planOf pl n₁ true skip fit) (starts-in n₁ holds₁ true) n₁ 0 0 0 (asKept (replicate (pairs (length pl) n₁) false) 0) (length-replicate (pairs (length pl) n₁) false)
 
     traced₂ : (p ≡ []) ⊎ ((i < n₂) × Trace halts₂ ways₂ F₂ (firstAt (length pl) i) p × All (Out F₂) p)
     unfolding planOf
     traced₂ =
         ⊎-elim (λ (d : p ≡ []). inl d)
-        (λ (d : (i < n₁) × Trace (haltingOf (record { largest = n₁; more = true; allowance = some a }) pl n₁) (pairWays holds₁ n₁ pl) (earlier .state .0) (firstAt (length pl) i) p × All (Out (earlier .state .0)) p).
+        (λ (d : (i < n₁) × Trace (haltingOf (record { largest = n₁; more = true; allowance = some a }) pl n₁) (pairWays holds₁ n₁ pl) (earlier .state .failed) (firstAt (length pl) i) p × All (Out (earlier .state .failed)) p).
         inr (
           omega (arith, d .0, le),
-          gap-trace halts₂ ways₂ (earlier .state .0) (pairs (length (places t)) n₂ - pairs (length (places t)) n₁) (firstAt (length pl) i) p
-              (trace-later (haltingOf (record { largest = n₁; more = true; allowance = some a }) pl n₁) halts₂ (pairWays holds₁ n₁ pl) ways₂ thin-sooner (earlier .state .0) (firstAt (length pl) i) p (d .1)),
-          gap-out (earlier .state .0) (pairs (length (places t)) n₂ - pairs (length (places t)) n₁) p (d .2),
+          gap-trace halts₂ ways₂ (earlier .state .failed) (pairs (length (places t)) n₂ - pairs (length (places t)) n₁) (firstAt (length pl) i) p
+              (trace-later (haltingOf (record { largest = n₁; more = true; allowance = some a }) pl n₁) halts₂ (pairWays holds₁ n₁ pl) ways₂ thin-sooner (earlier .state .failed) (firstAt (length pl) i) p (d .1)),
+          gap-out (earlier .state .failed) (pairs (length (places t)) n₂ - pairs (length (places t)) n₁) p (d .2),
         )) (rw end at traced)
 
-    unspent : (j : ℕ) → j < earlier .state .1 → halts₂ .spent j ≡ false
+    unspent : (j : ℕ) → j < earlier .state .steps → halts₂ .spent j ≡ false
     unfolding haltingOf
     unspent j l = lt-leb a j (omega (arith, l, within))
 
-    pub again : walkSearch terms₂ holds₂ n₂ pl skip fit
-        ≡ pre (earlier .matches) (sweep (walkAt halts₂ ways₂ N₂ (firstAt (length pl))) plan₂ n₂ i (length (earlier .matches)) (length (labelsOf pl (earlier .matches))) (F₂, earlier .state .1 - length p))
+    pub again : walkSearch terms₂ (seek holds₂ n₂ pl skip fit)
+        ≡ pre (earlier .matches) (sweep (walkAt halts₂ ways₂ N₂ (firstAt (length pl))) plan₂ n₂ (standAt i (length (earlier .matches)) (length (labelsOf pl (earlier .matches)))) (asKept F₂ (earlier .state .steps - length p)))
     unfolding planOf
     again =
         let ms : List Match = earlier .matches in
-        let st : Kept = (F₂, earlier .state .1 - length p) in
-        let on : ℕ → Swept Kept = λ l. sweep (walkAt halts₂ ways₂ N₂ (firstAt (length pl))) plan₂ n₂ i (length ms) l st in
-        let a : walkSearch terms₂ holds₂ n₂ pl skip fit ≡ andThen halts₂ ways₂ N₂ (firstAt (length pl)) plan₂ 0 0 (walkSearch terms₁ holds₁ n₁ pl skip fit) =
+        let st : Kept = (asKept F₂ (earlier .state .steps - length p)) in
+        let on : ℕ → Swept Kept = λ l. sweep (walkAt halts₂ ways₂ N₂ (firstAt (length pl))) plan₂ n₂ (standAt i (length ms) l) st in
+        let a : walkSearch terms₂ (seek holds₂ n₂ pl skip fit) ≡ andThen halts₂ ways₂ N₂ (firstAt (length pl)) plan₂ 0 0 (walkSearch terms₁ (seek holds₁ n₁ pl skip fit)) =
         thin-goes t skip fit holds₁ holds₂ n₁ n₂ terms₁ terms₂ refl le (omega arith) sooner (inl refl) in
-        let b : andThen halts₂ ways₂ N₂ (firstAt (length pl)) plan₂ 0 0 (walkSearch terms₁ holds₁ n₁ pl skip fit) ≡ andThen halts₂ ways₂ N₂ (firstAt (length pl)) plan₂ 0 0 (padded gap earlier) =
+        let b : andThen halts₂ ways₂ N₂ (firstAt (length pl)) plan₂ 0 0 (walkSearch terms₁ (seek holds₁ n₁ pl skip fit)) ≡ andThen halts₂ ways₂ N₂ (firstAt (length pl)) plan₂ 0 0 (padded gap earlier) =
         ap (andThen halts₂ ways₂ N₂ (firstAt (length pl)) plan₂ 0 0) earlier-is in
         let z₁ : 0 + length ms ≡ length ms = omega arith in
         let z₂ : 0 + rowsIn plan₂ ms ≡ rowsIn plan₂ ms = omega arith in
-        let c₀ : andThen halts₂ ways₂ N₂ (firstAt (length pl)) plan₂ 0 0 (padded gap earlier) ≡ resumedBy halts₂ ways₂ N₂ (firstAt (length pl)) plan₂ (earlier .end) 0 0 ms (F₂, earlier .state .1) = refl in
-        let c₁ : resumedBy halts₂ ways₂ N₂ (firstAt (length pl)) plan₂ (earlier .end) 0 0 ms (F₂, earlier .state .1) ≡ resumedBy halts₂ ways₂ N₂ (firstAt (length pl)) plan₂ (unfinished outOfRows i p) 0 0 ms (F₂, earlier .state .1) =
-        ap (λ (e : End Match). resumedBy halts₂ ways₂ N₂ (firstAt (length pl)) plan₂ e 0 0 ms (F₂, earlier .state .1)) end in
-        let c₂ : resumedBy halts₂ ways₂ N₂ (firstAt (length pl)) plan₂ (unfinished outOfRows i p) 0 0 ms (F₂, earlier .state .1) ≡ behind ms (resumed halts₂ ways₂ N₂ (firstAt (length pl)) plan₂ i p (length ms) (rowsIn plan₂ ms) (F₂, earlier .state .1)) =
-        ap₂ (λ (x y : ℕ). behind ms (resumed halts₂ ways₂ N₂ (firstAt (length pl)) plan₂ i p x y (F₂, earlier .state .1))) z₁ z₂ in
-        let d : resumed halts₂ ways₂ N₂ (firstAt (length pl)) plan₂ i p (length ms) (rowsIn plan₂ ms) (F₂, earlier .state .1) ≡ on (rowsIn plan₂ ms) =
-        goes-again halts₂ ways₂ (rank t n₂) N₂ falls₂ N₂ (tops n₂ holds₂) (firstAt (length pl)) plan₂ (starts-in n₂ holds₂ more) (plan-on pl n₂ more skip fit) i p (length ms) (rowsIn plan₂ ms) F₂ (earlier .state .1) long₂ traced₂ few unspent in
+        let c₀ : andThen halts₂ ways₂ N₂ (firstAt (length pl)) plan₂ 0 0 (padded gap earlier) ≡ resumedBy halts₂ ways₂ N₂ (firstAt (length pl)) plan₂ (earlier .end) 0 0 ms (asKept F₂ (earlier .state .steps)) = refl in
+        let c₁ : resumedBy halts₂ ways₂ N₂ (firstAt (length pl)) plan₂ (earlier .end) 0 0 ms (asKept F₂ (earlier .state .steps)) ≡ resumedBy halts₂ ways₂ N₂ (firstAt (length pl)) plan₂ (unfinished outOfRows i p) 0 0 ms (asKept F₂ (earlier .state .steps)) =
+        ap (λ (e : End Match). resumedBy halts₂ ways₂ N₂ (firstAt (length pl)) plan₂ e 0 0 ms (asKept F₂ (earlier .state .steps))) end in
+        let c₂ : resumedBy halts₂ ways₂ N₂ (firstAt (length pl)) plan₂ (unfinished outOfRows i p) 0 0 ms (asKept F₂ (earlier .state .steps)) ≡ behind ms (resumed halts₂ ways₂ N₂ (firstAt (length pl)) plan₂ i p (length ms) (rowsIn plan₂ ms) (asKept F₂ (earlier .state .steps))) =
+        ap₂ (λ (x y : ℕ). behind ms (resumed halts₂ ways₂ N₂ (firstAt (length pl)) plan₂ i p x y (asKept F₂ (earlier .state .steps)))) z₁ z₂ in
+        let d : resumed halts₂ ways₂ N₂ (firstAt (length pl)) plan₂ i p (length ms) (rowsIn plan₂ ms) (asKept F₂ (earlier .state .steps)) ≡ on (rowsIn plan₂ ms) =
+        goes-again halts₂ ways₂ (rank t n₂) N₂ falls₂ N₂ (tops n₂ holds₂) (firstAt (length pl)) plan₂ (starts-in n₂ holds₂ more) (plan-on pl n₂ more skip fit) i p (length ms) (rowsIn plan₂ ms) F₂ (earlier .state .steps) long₂ traced₂ few unspent in
         a ∙ b ∙ c₀ ∙ c₁ ∙ c₂ ∙ ap (behind ms) d ∙ behind-pre ms (on (rowsIn plan₂ ms)) ∙ ap (λ (l : ℕ). pre ms (on l)) (rows-are pl n₂ more skip fit ms)

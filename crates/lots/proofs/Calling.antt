@@ -11,8 +11,8 @@ use native.Mathlib.Omega.{arith}
 use lib.IntN.{ℤ}
 use lib.ListN.{length, getD, drop}
 use Rattle.rules.specs.Basics.{wrote}
-use Rattle.rules.specs.Search.{unfinished, Swept, Kept}
-use Rattle.rules.specs.Walk.{outOfRows, pairs}
+use Rattle.rules.specs.Search.{unfinished, Swept}
+use Rattle.rules.specs.Walk.{outOfRows, pairs, Kept}
 use Rattle.rules.specs.Report.{labelsOf, notesOf, zeros, bitAt}
 use Rattle.rules.specs.Working.{bitsOf}
 use Rattle.rules.specs.Lots.{Named, presentRows, presentTask, beginAnswer, lotWalk, lotMemory, Leaves}
@@ -50,14 +50,14 @@ module _ (s : Named) (begins : beginAnswer s ≡ 0) (a : ℕ) (al : s .allowance
     (long-numbers : length numbers ≡ length (s .lent .numbers)) (long-labels : length labels ≡ length (s .lent .labels)) (long-trail : length trail ≡ length (s .lent .trail))
     (trail-beyond : drop (t .pairs) trail ≡ drop (t .pairs) (s .lent .trail)) (room : t .pairs ≤ length (s .lent .trail))
     (f : Feed) (row : f .row ≡ i) (matched : f .matches ≡ length (lotWalk s rows₁ n₁ false .matches)) (labelled : f .labels ≡ length (labelsOf (presentTask s rows₂ n₂ .places) (lotWalk s rows₁ n₁ false .matches)))
-    (stepped : f .steps ≡ lotWalk s rows₁ n₁ false .state .1) (opened : f .opened ≡ length u) where
+    (stepped : f .steps ≡ lotWalk s rows₁ n₁ false .state .steps) (opened : f .opened ≡ length u) where
   abbrev part : List ℤ
   part = presentRows (s .query) rows₂ n₂
 
   abbrev R : Swept Kept
   R = searchOf (askedOf T part t) (length (s .lent .numbers)) (length (s .lent .labels))
 
-  from-is : keptIn f ≡ record { end = 0; row = i; matches = length (lotWalk s rows₁ n₁ false .matches); labels = length (labelsOf (presentTask s rows₂ n₂ .places) (lotWalk s rows₁ n₁ false .matches)); steps = lotWalk s rows₁ n₁ false .state .1 - length u; opened = 0 }
+  from-is : keptIn f ≡ record { end = 0; row = i; matches = length (lotWalk s rows₁ n₁ false .matches); labels = length (labelsOf (presentTask s rows₂ n₂ .places) (lotWalk s rows₁ n₁ false .matches)); steps = lotWalk s rows₁ n₁ false .state .steps - length u; opened = 0 }
   from-is = rw (row, matched, labelled, stepped, opened) refl
 
   module _ (notes′ trail′ : List ℕ) (numbers′ : List ℤ) (labels′ : List ℕ) (r : Sweep) (w : WentOn T part t notes trail numbers labels (keptIn f) notes′ trail′ numbers′ labels′ r)
@@ -70,11 +70,11 @@ module _ (s : Named) (begins : beginAnswer s ≡ 0) (a : ℕ) (al : s .allowance
     pairs-same : N (layoutOf T (t .size)) (t .size .rows) ≡ pairs (p .places) n₂
     pairs-same = ap₂ (λ (x y : ℕ). pairs x y) (task .places) (task .rows)
 
-    noted : notes′ ≡ wrote (s .lent .notes) 0 (notesOf (gapped (t .pairs) (R .state .0)))
+    noted : notes′ ≡ wrote (s .lent .notes) 0 (notesOf (gapped (t .pairs) (R .state .failed)))
     noted =
         rw (task .pairs-are)
         (later-noted s begins a al T p ready rows₁ rows₂ n₁ n₂ lot₁ lot₂ later last i u end t task notes trail numbers labels fed (left .notes) (left .numbers) (left .labels) long-numbers long-labels
-        notes′ (R .state .0) (ap (λ (k : ℕ). bitsOf notes′ k) (sym pairs-same) ∙ came .kept) (λ z l. w .notes-beyond z (rw pairs-same l)) (w .notes-long) bytes bytes₀)
+        notes′ (R .state .failed) (ap (λ (k : ℕ). bitsOf notes′ k) (sym pairs-same) ∙ came .kept) (λ z l. w .notes-beyond z (rw pairs-same l)) (w .notes-long) bytes bytes₀)
 
     zeroed : (r .end ≡ 23 → ⊥) → trail′ ≡ wrote (s .lent .trail) 0 (zeros (t .pairs))
     zeroed e =

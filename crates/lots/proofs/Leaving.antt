@@ -12,8 +12,8 @@ use lib.ListN.{length, drop, replicate, length-append, length-replicate}
 use Rattle.rules.specs.Basics.{wrote}
 use Rattle.rules.specs.Query.{textOf}
 use Rattle.rules.specs.Places.{Unrolled, unroll, places}
-use Rattle.rules.specs.Search.{unfinished, Swept, Kept, Terms, walkSearch}
-use Rattle.rules.specs.Walk.{outOfRows, pairs}
+use Rattle.rules.specs.Search.{unfinished, Swept, Terms, walkSearch}
+use Rattle.rules.specs.Walk.{outOfRows, pairs, Kept, asKept}
 use Rattle.rules.specs.Report.{fits, labelsOf, numbersOf, notesOf, zeros}
 use Rattle.rules.specs.Answers.{treeIn, letterHolds, Task, taskOf, walkedOn, endAnswer, reportOf, Result, Memory, accepted}
 use Rattle.rules.specs.Lots.{Named, presentRows, presentTask, namedPairs, beginAnswer, lotTerms, lotWalk, lotMemory, Leaves}
@@ -85,7 +85,7 @@ module _ (s : Named) (begins : beginAnswer s ≡ 0) (a : ℕ) (al : s .allowance
 
   R-is : R ≡ D
   unfolding presentTask
-  R-is = found q T p ready (record { rows = n; largest = s .largest; allowance = a; more = not last }) part notes₁ trail₁ fed t task nums labs
+  R-is = found q (asKept T p) ready (record { rows = n; largest = s .largest; allowance = a; more = not last }) part notes₁ trail₁ fed t task nums labs
 
   places₂ : t₂ .places ≡ places U
   unfolding presentTask
@@ -101,7 +101,7 @@ module _ (s : Named) (begins : beginAnswer s ≡ 0) (a : ℕ) (al : s .allowance
   unfolding lotWalk walkedOn
   walk-is = rw (al, places₂) (search-padded U (letterHolds t₂) (t₂ .table .n) (record { largest = s .largest; more = not last; allowance = some a }) few (t₂ .skip) (fits nums labs (t₂ .measures)))
 
-  D-long : length (D .state .0) ≡ N (layoutOf T (t .size)) (t .size .rows)
+  D-long : length (D .state .failed) ≡ N (layoutOf T (t .size)) (t .size .rows)
   unfolding presentTask
   D-long = sym (counted q T p ready (record { rows = n; largest = s .largest; allowance = a; more = not last }) part notes₁ trail₁ fed t task nums labs)
 
@@ -110,31 +110,31 @@ module _ (s : Named) (begins : beginAnswer s ≡ 0) (a : ℕ) (al : s .allowance
 
   -- the failed pairs of the rows there are, with those of rows that are not there, are as many as
   -- the pairs
-  D-pairs : length (D .state .0) ≡ pairs (length (places U)) (t₂ .table .n)
+  D-pairs : length (D .state .failed) ≡ pairs (length (places U)) (t₂ .table .n)
   unfolding walkedOn
   D-pairs = rw places₂ (search-kept U (letterHolds t₂) (t₂ .table .n) (record { largest = t₂ .table .n; more = not last; allowance = some a }) (omega arith) (t₂ .skip) (fits nums labs (t₂ .measures)))
 
   count-is : t .pairs ≡ pairs (length (places U)) (s .largest)
   count-is = task .pairs-are ∙ ap₂ (λ (x y : ℕ). x * y) (ready .places-are ∙ sym (places-counted (ready .tree) bounds)) (add-one (s .largest))
 
-  kept-is : gapped (t .pairs) (R .state .0) ≡ lotWalk s rows n last .state .0
+  kept-is : gapped (t .pairs) (R .state .failed) ≡ lotWalk s rows n last .state .failed
   kept-is =
-      ap (λ (r : Swept Kept). gapped (t .pairs) (r .state .0)) R-is
-      ∙ ap₂ (λ (x y : ℕ). D .state .0 ++ replicate (x - y) false) count-is D-pairs
-      ∙ sym (ap (λ (r : Swept Kept). r .state .0) walk-is)
+      ap (λ (r : Swept Kept). gapped (t .pairs) (r .state .failed)) R-is
+      ∙ ap₂ (λ (x y : ℕ). D .state .failed ++ replicate (x - y) false) count-is D-pairs
+      ∙ sym (ap (λ (r : Swept Kept). r .state .failed) walk-is)
 
-  kept-long : length (lotWalk s rows n last .state .0) ≡ t .pairs
+  kept-long : length (lotWalk s rows n last .state .failed) ≡ t .pairs
   kept-long =
       let m = more-pairs U (letterHolds t₂) (t₂ .table .n) (s .largest) few in
-      let e : length (lotWalk s rows n last .state .0) ≡ length (D .state .0 ++ gap) = ap (λ (r : Swept Kept). length (r .state .0)) walk-is in
-      let f = length-append (D .state .0) gap in
+      let e : length (lotWalk s rows n last .state .failed) ≡ length (D .state .failed ++ gap) = ap (λ (r : Swept Kept). length (r .state .failed)) walk-is in
+      let f = length-append (D .state .failed) gap in
       let h = length-replicate (pairs (length (places U)) (s .largest) - pairs (length (places U)) (t₂ .table .n)) false in
       let k = D-pairs in
       let c = count-is in
       omega arith
 
   module _ (notes trail : List ℕ) (numbers : List ℤ) (labels : List ℕ) (r : Sweep) (o : Outcome) (eo : o ≡ record { answer = r .end; matches = r .matches; labels = r .labels; steps = r .steps; offset = 0 })
-      (reported : Reported (askedOf T part t) R (s .lent .numbers) (s .lent .labels) numbers labels r) (noted : notes ≡ wrote (s .lent .notes) 0 (notesOf (gapped (t .pairs) (R .state .0))))
+      (reported : Reported (askedOf T part t) R (s .lent .numbers) (s .lent .labels) numbers labels r) (noted : notes ≡ wrote (s .lent .notes) 0 (notesOf (gapped (t .pairs) (R .state .failed))))
       (zeroed : (r .end ≡ 23 → ⊥) → trail ≡ wrote (s .lent .trail) 0 (zeros (t .pairs))) (trail-long : length trail ≡ length (s .lent .trail)) (trail-beyond : drop (t .pairs) trail ≡ drop (t .pairs) (s .lent .trail))
       (room : t .pairs ≤ length (s .lent .trail)) where
     abbrev walk : Swept Kept
@@ -146,8 +146,8 @@ module _ (s : Named) (begins : beginAnswer s ≡ 0) (a : ℕ) (al : s .allowance
     end-is : r .end ≡ endAnswer (walk .end)
     end-is = reported .end ∙ ap (λ (w : Swept Kept). endAnswer (w .end)) R-is ∙ sym (ap (λ (w : Swept Kept). endAnswer (w .end)) walk-is)
 
-    steps-are : r .steps ≡ walk .state .1
-    steps-are = reported .steps ∙ ap (λ (w : Swept Kept). w .state .1) R-is ∙ sym (ap (λ (w : Swept Kept). w .state .1) walk-is)
+    steps-are : r .steps ≡ walk .state .steps
+    steps-are = reported .steps ∙ ap (λ (w : Swept Kept). w .state .steps) R-is ∙ sym (ap (λ (w : Swept Kept). w .state .steps) walk-is)
 
     -- where it waits, the start of its attempt and how many pairs are open are told
     pub waits-told : (i : ℕ) (u : List ℕ) → walk .end ≡ unfinished outOfRows i u → (r .row ≡ i) × (r .opened ≡ length u)
@@ -164,7 +164,7 @@ module _ (s : Named) (begins : beginAnswer s ≡ 0) (a : ℕ) (al : s .allowance
         labelled q T p ready (record { rows = n; largest = s .largest; allowance = a; more = not last }) part notes₁ trail₁ fed t task (R .matches) ∙ ap (labelsOf (t₂ .places)) matches-are in
         let m : r .matches ≡ length (walk .matches) = reported .matches ∙ ap length matches-are in
         let l : r .labels ≡ length (labelsOf (t₂ .places) (walk .matches)) = reported .labels ∙ ap length ms in
-        let b : zeros (t .pairs) ≡ zeros (length (walk .state .0)) = ap zeros (sym kept-long) in
+        let b : zeros (t .pairs) ≡ zeros (length (walk .state .failed)) = ap zeros (sym kept-long) in
         let z : length (zeros (t .pairs)) ≡ t .pairs = zeros-long (t .pairs) in
         record {
           result = rw (eo, end-is, m, l, steps-are) refl;
@@ -173,7 +173,7 @@ module _ (s : Named) (begins : beginAnswer s ≡ 0) (a : ℕ) (al : s .allowance
               ∙ ap (numbersOf (t₂ .table) (t₂ .measures) (t₂ .places) 0) matches-are);
           labels = reported .labels-is ∙ ap (wrote (s .lent .labels) 0) ms;
           trail = λ e. zeroed (λ (h : r .end ≡ 23). e (sym end-is ∙ h)) ∙ ap (wrote (s .lent .trail) 0) b;
-          trail-length = trail-long ∙ sym (length-wrote-at (s .lent .trail) 0 (zeros (length (walk .state .0))) (let c = ap length b in omega arith));
+          trail-length = trail-long ∙ sym (length-wrote-at (s .lent .trail) 0 (zeros (length (walk .state .failed))) (let c = ap length b in omega arith));
           trail-beyond =
               ap (λ (k : ℕ). drop k trail) (sym pairs-are) ∙ trail-beyond
               ∙ sym (ap₂ (λ (k : ℕ) (v : List ℕ). drop k (wrote (s .lent .trail) 0 v)) (sym pairs-are ∙ sym z) (sym b) ∙ drop-wrote (s .lent .trail) (zeros (t .pairs)) ∙ ap (λ (k : ℕ). drop k (s .lent .trail)) z);

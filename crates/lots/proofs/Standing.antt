@@ -18,8 +18,8 @@ use Rattle.rules.specs.Basics.{wrote}
 use Rattle.rules.specs.Rows.{Table, Condition, tableOf, holds}
 use Rattle.rules.specs.Query.{textOf, parts}
 use Rattle.rules.specs.Places.{Place, pLetter, pCaret, pDollar, pFork, pEnd, Unrolled, unroll, places}
-use Rattle.rules.specs.Search.{Match, End, unfinished, openOf, Skip, Swept, Kept, Terms, haltingOf, planOf, walkSearch, walkAt, sweep}
-use Rattle.rules.specs.Walk.{outOfRows, pairs, firstAt, passIf, pairAt, positionOf, placeOf, waysAt, pairWays}
+use Rattle.rules.specs.Search.{Match, End, unfinished, openOf, Skip, Swept, Terms, haltingOf, planOf, walkSearch, walkAt, sweep, seek, standAt}
+use Rattle.rules.specs.Walk.{outOfRows, pairs, firstAt, passIf, pairAt, positionOf, placeOf, waysAt, pairWays, Kept, asKept}
 use Rattle.rules.specs.Report.{fits, bitOf, bitAt, bytesFor, notesOf, labelsOf, numbersOf}
 use Rattle.rules.specs.Answers.{treeIn, letterHolds, skipOf, Task, taskOf, walkedOn, reportOf, accepted}
 use Rattle.rules.specs.Working.{bitsOf, thinned}
@@ -150,26 +150,26 @@ module _ (s : Named) (begins : beginAnswer s ≡ 0) (a : ℕ) (al : s .allowance
     end₁ : early .end ≡ unfinished outOfRows i u
     end₁ = sym (ap (λ (r : Swept Kept). r .end) early-is) ∙ end
 
-    steps-is : before₁ .state .1 ≡ early .state .1
-    steps-is = ap (λ (r : Swept Kept). r .state .1) early-is
+    steps-is : before₁ .state .steps ≡ early .state .steps
+    steps-is = ap (λ (r : Swept Kept). r .state .steps) early-is
 
-    few : length u ≤ early .state .1
+    few : length u ≤ early .state .steps
     few =
         let o : length (openOf (before₁ .end)) ≡ length u = ap (λ (e : End Match). length (openOf e)) end in
         let d = demanded .demand3 .sum in
         let e = steps-is in
         omega arith
 
-    within : early .state .1 ≤ a
+    within : early .state .steps ≤ a
     within = let k = demanded .kept-to a al in let e = steps-is in omega arith
 
     -- the later search goes on from there, with n rows
     abbrev Goes : ℕ → Type 0
     Goes n =
-        walkSearch (record { largest = n; more = not last; allowance = some a }) (letterHolds t₂) n (thinned (places U)) (t₂ .skip) fit
+        walkSearch (record { largest = n; more = not last; allowance = some a }) (seek (letterHolds t₂) n (thinned (places U)) (t₂ .skip) fit)
         ≡ pre (early .matches) (sweep (walkAt (haltingOf (record { largest = n; more = not last; allowance = some a }) (thinned (places U)) n) (pairWays (letterHolds t₂) n (thinned (places U))) (pairs (length (thinned (places U))) n)
-        (firstAt (length (thinned (places U))))) (planOf (thinned (places U)) n (not last) (t₂ .skip) fit) n i (length (early .matches)) (length (labelsOf (thinned (places U)) (early .matches)))
-        (early .state .0 ++ replicate (pairs (length (places U)) n - pairs (length (places U)) m₁) false, early .state .1 - length u))
+        (firstAt (length (thinned (places U))))) (planOf (thinned (places U)) n (not last) (t₂ .skip) fit) n (standAt i (length (early .matches)) (length (labelsOf (thinned (places U)) (early .matches))))
+        (asKept (early .state .failed ++ replicate (pairs (length (places U)) n - pairs (length (places U)) m₁) false) (early .state .steps - length u)))
 
     goes-on : Goes n₂
     goes-on = subst Goes (task-n s ok rows₂ n₂ lot₂) (again U (t₂ .skip) fit (letterHolds t₁) (letterHolds t₂) m₁ m₂ a (not last) le sooner i u end₁ few within)
@@ -231,8 +231,8 @@ module _ (s : Named) (begins : beginAnswer s ≡ 0) (a : ℕ) (al : s .allowance
       ways-are = agreeing (holdsIn T (testsAt (p .places)) (p .columns) part) (letterHolds t₂) letter-is n₂ (thinned (places U)) (thinned-spelt (ready .tree) lettered)
 
       -- the search of the task is the matches so far and then the search from the start
-      sought : searchOf A nums labs ≡ pre (early .matches) (swp A nums labs n₂ i (length (early .matches)) (length (labelsOf pl (early .matches)))
-          (early .state .0 ++ replicate (pairs (length (places U)) n₂ - pairs (length (places U)) m₁) false, early .state .1 - length u))
+      sought : searchOf A nums labs ≡ pre (early .matches) (swp A nums labs n₂ (standAt i (length (early .matches)) (length (labelsOf pl (early .matches))))
+          (asKept (early .state .failed ++ replicate (pairs (length (places U)) n₂ - pairs (length (places U)) m₁) false) (early .state .steps - length u)))
       unfolding searchOf walkSearch haltsIn
       sought = rw (ready .placed, skip-is, measures-is, ways-are) goes-on
 
@@ -245,21 +245,21 @@ module _ (s : Named) (begins : beginAnswer s ≡ 0) (a : ℕ) (al : s .allowance
         M = pairs (p .places) n₂
 
         abbrev F : List Bool
-        F = early .state .0 ++ replicate (pairs (length (places U)) n₂ - pairs (length (places U)) m₁) false
+        F = early .state .failed ++ replicate (pairs (length (places U)) n₂ - pairs (length (places U)) m₁) false
 
         places-long : length (thinned (places U)) ≡ p .places
         places-long = ap length (sym (ready .placed)) ∙ in-length T (p .places)
 
         F-long : length F ≡ M
         F-long =
-            subst (λ (n : ℕ). length (early .state .0 ++ replicate (pairs (length (places U)) n - pairs (length (places U)) m₁) false) ≡ pairs (length (thinned (places U))) n) (task-n s ok rows₂ n₂ lot₂)
+            subst (λ (n : ℕ). length (early .state .failed ++ replicate (pairs (length (places U)) n - pairs (length (places U)) m₁) false) ≡ pairs (length (thinned (places U))) n) (task-n s ok rows₂ n₂ lot₂)
             (long₂ U (t₂ .skip) fit (letterHolds t₁) (letterHolds t₂) m₁ m₂ a (not last) le sooner)
             ∙ ap (λ (k : ℕ). pairs k n₂) places-long
 
         -- all pairs of the rows present are kept account of
-        kept-long : M ≤ length (before₁ .state .0)
+        kept-long : M ≤ length (before₁ .state .failed)
         kept-long =
-            let e : length (before₁ .state .0) ≡ pairs (length (t₁ .places)) (s .largest) = demanded .demand3 .pairs-kept in
+            let e : length (before₁ .state .failed) ≡ pairs (length (t₁ .places)) (s .largest) = demanded .demand3 .pairs-kept in
             let f : length (t₁ .places) ≡ p .places = ap length places₁ ∙ sym (thinned-length (places U)) ∙ places-long in
             rw (e, f) (mul-le-mul (let z : p .places ≤ p .places = omega arith in z) (let z : suc n₂ ≤ suc (s .largest) = (let l = lot₂ .few in omega arith) in z))
 
@@ -270,8 +270,8 @@ module _ (s : Named) (begins : beginAnswer s ≡ 0) (a : ℕ) (al : s .allowance
             (λ x l.
             let k : x < M = rw (bitsFrom-length notes M 0) at l in
             let m = kept-long in
-            bitsOf-at notes M x k ∙ ap (λ (v : List ℕ). bitAt v x) en ∙ demanded .noted x (omega arith) ∙ ap (λ (r : Swept Kept). getD (r .state .0) x false) early-is
-            ∙ gap-at (early .state .0) (pairs (length (places U)) (s .largest) - pairs (length (places U)) m₁) x ∙ sym (gap-at (early .state .0) (pairs (length (places U)) n₂ - pairs (length (places U)) m₁) x))
+            bitsOf-at notes M x k ∙ ap (λ (v : List ℕ). bitAt v x) en ∙ demanded .noted x (omega arith) ∙ ap (λ (r : Swept Kept). getD (r .state .failed) x false) early-is
+            ∙ gap-at (early .state .failed) (pairs (length (places U)) (s .largest) - pairs (length (places U)) m₁) x ∙ sym (gap-at (early .state .failed) (pairs (length (places U)) n₂ - pairs (length (places U)) m₁) x))
 
         -- the matches of both accounts are the same
         done-is : before₁ .matches ≡ early .matches
@@ -288,8 +288,8 @@ module _ (s : Named) (begins : beginAnswer s ≡ 0) (a : ℕ) (al : s .allowance
             numbers-same (t₁ .table) (t₂ .table) (task-extends s ok rows₁ rows₂ n₁ n₂ lot₁ lot₂ later) (t₁ .measures) (t₁ .places) 0 (before₁ .matches) (measures-fit q (fitting s ok))
             (placed (t₁ .places) places₁)
           where
-            placed : (v : List Place) → v ≡ places U → RowsIn (t₁ .table) (t₂ .table) (task-extends s ok rows₁ rows₂ n₁ n₂ lot₁ lot₂ later) v (walkSearch (lotTerms s false) (letterHolds t₁) m₁ v (t₂ .skip) fit .matches)
-            placed v e = rw e (in-rows (walkSearch (lotTerms s false) (letterHolds t₁) m₁ (places U) (t₂ .skip) fit .matches) (search-rows U (letterHolds t₁) m₁ (t₂ .skip) fit (lotTerms s false) few₁))
+            placed : (v : List Place) → v ≡ places U → RowsIn (t₁ .table) (t₂ .table) (task-extends s ok rows₁ rows₂ n₁ n₂ lot₁ lot₂ later) v (walkSearch (lotTerms s false) (seek (letterHolds t₁) m₁ v (t₂ .skip) fit) .matches)
+            placed v e = rw e (in-rows (walkSearch (lotTerms s false) (seek (letterHolds t₁) m₁ (places U) (t₂ .skip) fit) .matches) (search-rows U (letterHolds t₁) m₁ (t₂ .skip) fit (lotTerms s false) few₁))
 
         -- what was written fits in the room
         long-enough : {X : Type 0} (l vs w : List X) → w ≡ wrote l 0 vs → length w ≡ length l → length vs ≤ length l
@@ -316,7 +316,7 @@ module _ (s : Named) (begins : beginAnswer s ≡ 0) (a : ℕ) (al : s .allowance
         labels-at = rw task-is at (labelled q T p ready (record { rows = n₂; largest = s .largest; allowance = a; more = not last }) part notes trail fed t task (before₁ .matches))
 
         abbrev from : Sweep
-        from = record { end = 0; row = i; matches = length (before₁ .matches); labels = length (labelsOf (t₂ .places) (before₁ .matches)); steps = before₁ .state .1 - length u; opened = 0 }
+        from = record { end = 0; row = i; matches = length (before₁ .matches); labels = length (labelsOf (t₂ .places) (before₁ .matches)); steps = before₁ .state .steps - length u; opened = 0 }
 
         stands-by : SoFar T part by (s .lent .numbers) (s .lent .labels) (searchOf A nums labs) notes numbers labels from
         stands-by =
@@ -342,12 +342,12 @@ module _ (s : Named) (begins : beginAnswer s ≡ 0) (a : ℕ) (al : s .allowance
                 let l = numbers-long (A .rows) (A .measures) (S.pl A) 0 (before₁ .matches) in
                 omega arith
 
-            total : pre (before₁ .matches) (swp A nums labs n₂ i (length (before₁ .matches)) (length (labelsOf (t₂ .places) (before₁ .matches))) (bitsOf notes M, before₁ .state .1 - length u)) ≡ searchOf A nums labs
+            total : pre (before₁ .matches) (swp A nums labs n₂ (standAt i (length (before₁ .matches)) (length (labelsOf (t₂ .places) (before₁ .matches)))) (asKept (bitsOf notes M) (before₁ .state .steps - length u))) ≡ searchOf A nums labs
             total =
-                ap (λ (k : ℕ). pre (before₁ .matches) (swp A nums labs n₂ i (length (before₁ .matches)) k (bitsOf notes M, before₁ .state .1 - length u))) (sym (ap length labels-at))
-                ∙ ap (λ (G : List Bool). pre (before₁ .matches) (swp A nums labs n₂ i (length (before₁ .matches)) (length (labelsOf pl (before₁ .matches))) (G, before₁ .state .1 - length u))) bits
-                ∙ ap (λ (k : ℕ). pre (before₁ .matches) (swp A nums labs n₂ i (length (before₁ .matches)) (length (labelsOf pl (before₁ .matches))) (F, k - length u))) steps-is
-                ∙ ap (λ (ms : List Match). pre ms (swp A nums labs n₂ i (length ms) (length (labelsOf pl ms)) (F, early .state .1 - length u))) done-is
+                ap (λ (k : ℕ). pre (before₁ .matches) (swp A nums labs n₂ (standAt i (length (before₁ .matches)) k) (asKept (bitsOf notes M) (before₁ .state .steps - length u)))) (sym (ap length labels-at))
+                ∙ ap (λ (G : List Bool). pre (before₁ .matches) (swp A nums labs n₂ (standAt i (length (before₁ .matches)) (length (labelsOf pl (before₁ .matches)))) (asKept G (before₁ .state .steps - length u)))) bits
+                ∙ ap (λ (k : ℕ). pre (before₁ .matches) (swp A nums labs n₂ (standAt i (length (before₁ .matches)) (length (labelsOf pl (before₁ .matches)))) (F, k - length u))) steps-is
+                ∙ ap (λ (ms : List Match). pre ms (swp A nums labs n₂ (standAt i (length ms) (length (labelsOf pl ms))) (asKept F (early .state .steps - length u)))) done-is
                 ∙ sym sought
 
         -- the search stands so far
@@ -357,15 +357,15 @@ module _ (s : Named) (begins : beginAnswer s ≡ 0) (a : ℕ) (al : s .allowance
         -- ---- and what it leaves in notes and trail, by the buffers as they were named
 
         -- no pair of a row that is not there has failed
-        none-beyond : (x : ℕ) → M ≤ x → getD (before₁ .state .0) x false ≡ false
+        none-beyond : (x : ℕ) → M ≤ x → getD (before₁ .state .failed) x false ≡ false
         none-beyond x l =
-            let e = length-append (early .state .0) (replicate (pairs (length (places U)) n₂ - pairs (length (places U)) m₁) false) in
+            let e = length-append (early .state .failed) (replicate (pairs (length (places U)) n₂ - pairs (length (places U)) m₁) false) in
             let f = F-long in
-            ap (λ (r : Swept Kept). getD (r .state .0) x false) early-is
-            ∙ gap-at (early .state .0) (pairs (length (places U)) (s .largest) - pairs (length (places U)) m₁) x
-            ∙ List·getD-eq-default (early .state .0) false (let z : length (early .state .0) ≤ x = omega arith in z)
+            ap (λ (r : Swept Kept). getD (r .state .failed) x false) early-is
+            ∙ gap-at (early .state .failed) (pairs (length (places U)) (s .largest) - pairs (length (places U)) m₁) x
+            ∙ List·getD-eq-default (early .state .failed) false (let z : length (early .state .failed) ≤ x = omega arith in z)
 
-        pairs-kept : length (before₁ .state .0) ≡ p .places * (s .largest + 1)
+        pairs-kept : length (before₁ .state .failed) ≡ p .places * (s .largest + 1)
         pairs-kept =
             demanded .demand3 .pairs-kept
             ∙ ap₂ (λ (x y : ℕ). x * y) (ap length places₁ ∙ sym (thinned-length (places U)) ∙ places-long) (sym (add-one (s .largest)))
@@ -390,21 +390,21 @@ module _ (s : Named) (begins : beginAnswer s ≡ 0) (a : ℕ) (al : s .allowance
           room₀ : bytesFor (p .places * (s .largest + 1)) ≤ length (s .lent .notes)
           room₀ = rw (named-pairs s T p ready) at (ok .notes-long)
 
-          notes-are : notes ≡ wrote (s .lent .notes) 0 (notesOf (before₁ .state .0))
+          notes-are : notes ≡ wrote (s .lent .notes) 0 (notesOf (before₁ .state .failed))
           unfolding lotMemory accepted
           notes-are = en
 
           long₀ : length notes ≡ length (s .lent .notes)
           long₀ =
-              rw notes-are (length-wrote-at (s .lent .notes) 0 (notesOf (before₁ .state .0))
-              (let a = length-notes (before₁ .state .0) in let b = room₀ in let c = ap bytesFor pairs-kept in omega arith))
+              rw notes-are (length-wrote-at (s .lent .notes) 0 (notesOf (before₁ .state .failed))
+              (let a = length-notes (before₁ .state .failed) in let b = room₀ in let c = ap bytesFor pairs-kept in omega arith))
 
           bits-in : (x : ℕ) → x < 8 * bytesFor (length G) → bitAt notes′ x ≡ getD G x false
           bits-in x l = elim (decLt x M) [
             | yes k ↦ sym (bitsOf-at notes′ M x k) ∙ ap (λ (K : List Bool). getD K x false) kept ∙ sym (gap-at R (p .places * (s .largest + 1) - length R) x)
             | no k ↦
                 let g : M ≤ x = omega arith in
-                let c : bytesFor (length G) ≡ bytesFor (length (before₁ .state .0)) = ap bytesFor (G-long ∙ sym pairs-kept) in
+                let c : bytesFor (length G) ≡ bytesFor (length (before₁ .state .failed)) = ap bytesFor (G-long ∙ sym pairs-kept) in
                 beyond′ x g ∙ ap (λ (v : List ℕ). bitAt v x) en ∙ demanded .noted x (rw c at l) ∙ none-beyond x g
                 ∙ sym (gap-at R (p .places * (s .largest + 1) - length R) x ∙ List·getD-eq-default R false (let b = R-long in let z : length R ≤ x = omega arith in z))
           ]
@@ -412,11 +412,11 @@ module _ (s : Named) (begins : beginAnswer s ≡ 0) (a : ℕ) (al : s .allowance
           same-beyond : (x : ℕ) → 8 * bytesFor (length G) ≤ x → bitAt notes′ x ≡ bitAt (s .lent .notes) x
           unfolding bytesFor bitAt
           same-beyond x l =
-              let a = length-notes (before₁ .state .0) in
+              let a = length-notes (before₁ .state .failed) in
               let b = G-long in
               let c = pairs-kept in
               let d = kept-long in
-              beyond′ x (omega arith) ∙ ap (λ (v : ℕ). eqb (bitOf (x % 8) v) 1) (ap (λ (v : List ℕ). getD v (x / 8) 0) notes-are ∙ beyond-wrote (s .lent .notes) (notesOf (before₁ .state .0)) (x / 8) 0 (omega arith))
+              beyond′ x (omega arith) ∙ ap (λ (v : ℕ). eqb (bitOf (x % 8) v) 1) (ap (λ (v : List ℕ). getD v (x / 8) 0) notes-are ∙ beyond-wrote (s .lent .notes) (notesOf (before₁ .state .failed)) (x / 8) 0 (omega arith))
 
           -- the notes hold the failed pairs of the later search
           pub later-noted : notes′ ≡ wrote (s .lent .notes) 0 (notesOf (gapped (p .places * (s .largest + 1)) R))

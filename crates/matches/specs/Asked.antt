@@ -9,13 +9,14 @@ use Rattle.rules.specs.Places.{Place}
 use Rattle.rules.specs.Query.{Measure}
 use Rattle.rules.specs.Report.{fits}
 use Rattle.rules.specs.Rows.{Table, tableOf}
-use Rattle.rules.specs.Search.{Skip, Swept, Kept, labels, Terms, walkSearch}
+use Rattle.rules.specs.Search.{Skip, Swept, labels, Terms, walkSearch, seek}
 use Rattle.pairs.specs.Step.{stack}
 use Rattle.pairs.specs.Layout.{Layout, P, layoutOf, lettersOf}
 use Rattle.skips.specs.Skips.{skipIn}
 use Rattle.table.specs.Table.{placesIn}
 use Rattle.table.specs.Measures.{measuresIn}
 use Rattle.matches.specs.declared.Task.{Task}
+use Rattle.rules.specs.Walk.{Kept}
 
 -- the layout of the places, when a letter holds at a row, the number of rows, whether more may
 -- come, the skip mode, the rows, and the measures
@@ -51,7 +52,7 @@ termsOf A = record { largest = A .n; more = A .more; allowance = some (A .layout
 -- bytes
 unfoldable pub searchOf : Asked → ℕ → ℕ → Swept Kept
 unfolding walkSearch placesIn fits
-searchOf A nums labs = walkSearch (termsOf A) (A .holds) (A .n) (pl A) (A .skip) (fits nums labs (A .measures))
+searchOf A nums labs = walkSearch (termsOf A) (seek (A .holds) (A .n) (pl A) (A .skip) (fits nums labs (A .measures)))
 
 -- the path on the trail where there are P places, from its first pair to its last, and its labels
 abbrev pub pathOn : ℕ → List ℕ → ℕ → List ℕ

@@ -10,8 +10,8 @@ use lib.ListN.{length, getD}
 use Rattle.rules.specs.Answers.{haltAnswer}
 use Rattle.rules.specs.Basics.{wrote}
 use Rattle.rules.specs.Report.{bitAt, matchNumbers, fits}
-use Rattle.rules.specs.Search.{Kept, Attempted, hit, miss, halts, answered, labels, nextStart, endOf}
-use Rattle.rules.specs.Walk.{Halt, outOfSteps, outOfRows}
+use Rattle.rules.specs.Search.{Attempted, hit, miss, halts, answered, labels, nextStart, endOf}
+use Rattle.rules.specs.Walk.{Halt, outOfSteps, outOfRows, Kept}
 use Rattle.rules.specs.Working.{bitsOf}
 use Rattle.measure_list.specs.Measures.{Measurable}
 use Rattle.pairs.specs.declared.Walk.{Walk}
@@ -143,10 +143,10 @@ abbrev pub attemptAt : Asked → List Bool → ℕ → ℕ → Attempted × Kept
 attemptAt A F s i = answered (attemptBy (haltsIn (A .layout) (A .more) (A .n)) (A .layout) (A .holds) (A .n) F s i)
 
 pub record Visited (A : Asked) (notes notes′ trail trail′ : List ℕ) (numbers numbers′ : List ℤ) (labs labs′ : List ℕ) (i r : Sweep) : Type 0 where
-  pub kept : bitsOf notes′ (N (A .layout) (A .n)) ≡ (attemptAt A (bitsOf notes (N (A .layout) (A .n))) (i .steps) (i .row)) .1 .0
-  pub told : Told A ((attemptAt A (bitsOf notes (N (A .layout) (A .n))) (i .steps) (i .row)) .0) i ((attemptAt A (bitsOf notes (N (A .layout) (A .n))) (i .steps) (i .row)) .1 .1) numbers numbers′ labs labs′ r
+  pub kept : bitsOf notes′ (N (A .layout) (A .n)) ≡ (attemptAt A (bitsOf notes (N (A .layout) (A .n))) (i .steps) (i .row)) .1 .failed
+  pub told : Told A ((attemptAt A (bitsOf notes (N (A .layout) (A .n))) (i .steps) (i .row)) .0) i ((attemptAt A (bitsOf notes (N (A .layout) (A .n))) (i .steps) (i .row)) .1 .steps) numbers numbers′ labs labs′ r
   pub notes-long : length notes′ ≡ length notes
   pub trail-long : length trail′ ≡ length trail
   pub notes-beyond : (z : ℕ) → N (A .layout) (A .n) ≤ z → bitAt notes′ z ≡ bitAt notes z
   pub trail-beyond : (k : ℕ) → N (A .layout) (A .n) ≤ k → getD trail′ k 0 ≡ getD trail k 0
-  pub more : (attemptAt A (bitsOf notes (N (A .layout) (A .n))) (i .steps) (i .row)) .1 .1 ≤ i .steps + N (A .layout) (A .n)
+  pub more : (attemptAt A (bitsOf notes (N (A .layout) (A .n))) (i .steps) (i .row)) .1 .steps ≤ i .steps + N (A .layout) (A .n)

@@ -15,7 +15,7 @@ use borrow.Author.Tests.{eq-eqb, ne-eqb}
 use lib.ListN.{length, getD, set, length-set}
 use lib.Seq.{getD-set-same, getD-set-other}
 use Rattle.rules.specs.Report.{bitAt}
-use Rattle.rules.specs.Walk.{accept, try, Halting, outOfSteps, Outcome, found, halted, countTrue}
+use Rattle.rules.specs.Walk.{accept, try, Halting, outOfSteps, Outcome, found, halted, countTrue, asKept, tried}
 use Rattle.laws.proofs.Machine.{firstOpen, resume-accept, resume-pop, resume-push, resume-spent, open-room, open-push, open-pop}
 use Rattle.rules.specs.Working.{All, Open, bitsOf, marked, resume}
 use Rattle.laws.proofs.Notes.{bitsOf-at, bitsFrom-length, bits-mark, bit-keep}
@@ -28,7 +28,7 @@ use Rattle.pairs.specs.State.{Onto, Linked, Passing, Word, rowFrom, wayA
 use Rattle.pairs.proofs.Ways.{second-is, pair-row, pair-place, ways-end, ways-are, leads-each}
 use Rattle.pairs.proofs.Trails.{second-most, word-row, word-place, entry-place, entry-row, entry-way, stack-length, stack-push, stack-top, linked-under}
 
-pub path-is : (P : ℕ) (trail : List ℕ) (F : List Bool) (s t : ℕ) → 0 < t → found (reverseAux (stack P trail t) []) F s ≡ outcomeBy P t trail F s
+pub path-is : (P : ℕ) (trail : List ℕ) (F : List Bool) (s t : ℕ) → 0 < t → found (reverseAux (stack P trail t) []) (asKept F s) ≡ outcomeBy P t trail F s
 unfolding outcomeBy
 path-is P trail F s zero h = absurd (not-suc-le-zero h)
 path-is P trail F s (suc t) h = refl
@@ -107,7 +107,7 @@ unfolding facing
 faces-on H T holds n notes trail w x e = rw e
 
 pub faces-halt : (H : Halting) (T : Layout) (holds : ℕ → ℕ → Bool) (n : ℕ) (notes trail : List ℕ) (w : Walk) (x : ℕ) → H .spent (w .steps) ≡ true
-    → facing H T holds n notes trail w x ≡ halted outOfSteps (reverseAux (stack (P T) trail (w .top)) []) (bitsOf notes (N T n)) (w .steps)
+    → facing H T holds n notes trail w x ≡ halted outOfSteps (reverseAux (stack (P T) trail (w .top)) []) (asKept (bitsOf notes (N T n)) (w .steps))
 unfolding facing
 faces-halt H T holds n notes trail w x e = rw e
 
@@ -465,7 +465,7 @@ module _ (H : Halting) (T : Layout) (holds : ℕ → ℕ → Bool) (n : ℕ) (qu
   unfolding resumed
   top-end h =
       let d : graphOf T holds n x ≡ accept = ways-end T holds n (placeIn e) (rowIn e) (top-word .place) h in
-      let a : resume H (graphOf T holds n) (N T n) (stack (P T) trail (w .top)) F (w .steps) ≡ found (reverseAux (stack (P T) trail (w .top)) []) F (w .steps) =
+      let a : resume H (graphOf T holds n) (N T n) (stack (P T) trail (w .top)) (asKept F (w .steps)) ≡ found (reverseAux (stack (P T) trail (w .top)) []) (asKept F (w .steps)) =
       rw top-is (resume-accept H (graphOf T holds n) (g .legal .ρ) (N T n) (g .legal .falls) (N T n) (g .legal .bound) (stack (P T) trail (w .top - 1)) F (w .steps) x (quiet x x-passes) d) in
       a ∙ path-is (P T) trail F (w .steps) (w .top) going
 

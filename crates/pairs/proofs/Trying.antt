@@ -17,7 +17,7 @@ use Rattle.rules.specs.Basics.{pick}
 use Rattle.rules.specs.Report.{bitAt}
 use Rattle.rules.specs.Places.{Place, pLetter, pCaret, pDollar, pFork, pEnd}
 use Rattle.rules.specs.Search.{asksRow, haltingOf}
-use Rattle.rules.specs.Walk.{try, Halting}
+use Rattle.rules.specs.Walk.{try, Halting, tried}
 use Rattle.laws.proofs.Machine.{firstOpen}
 use Rattle.laws.proofs.Notes.{bitsOf-at}
 use Rattle.rules.specs.Working.{bitsOf}

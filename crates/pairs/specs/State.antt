@@ -10,7 +10,7 @@ use lib.Dec.{eqb}
 use lib.ListN.{length, getD}
 use Rattle.rules.specs.Places.{Place, pLetter, pCaret, pDollar, pFork, pEnd}
 use Rattle.rules.specs.Report.{bitAt}
-use Rattle.rules.specs.Walk.{Halting, outOfSteps, Outcome, halted, enterUnless, inside, countTrue}
+use Rattle.rules.specs.Walk.{Halting, outOfSteps, Outcome, halted, enterUnless, inside, countTrue, Kept, asKept, tried}
 use Rattle.rules.specs.Working.{All, Open, bitsOf, resume}
 use Rattle.pairs.specs.declared.Walk.{Walk}
 use Rattle.pairs.specs.Layout.{Layout, P, N, Sized, Legal, second, leftFrom, graphOf, passesBy, waitsBy}
@@ -148,18 +148,18 @@ rest T trail w = restAt T trail (w .top)
 
 -- what the open pairs come to by the recursive walk
 unfoldable pub resumed : Halting → Layout → (ℕ → ℕ → Bool) → ℕ → List ℕ → List ℕ → Walk → Outcome
-resumed H T holds n notes trail w = resume H (graphOf T holds n) (N T n) (stack (P T) trail (w .top)) (bitsOf notes (N T n)) (w .steps)
+resumed H T holds n notes trail w = resume H (graphOf T holds n) (N T n) (stack (P T) trail (w .top)) (asKept (bitsOf notes (N T n)) (w .steps))
 
 -- what they come to once the pair x is entered
 unfoldable pub entering : Halting → Layout → (ℕ → ℕ → Bool) → ℕ → List ℕ → List ℕ → Walk → ℕ → Outcome
-entering H T holds n notes trail w x = resume H (graphOf T holds n) (N T n) (x ∷ stack (P T) trail (w .top)) (bitsOf notes (N T n)) (suc (w .steps))
+entering H T holds n notes trail w x = resume H (graphOf T holds n) (N T n) (x ∷ stack (P T) trail (w .top)) (asKept (bitsOf notes (N T n)) (suc (w .steps)))
 
 -- what they come to where the pair x is the next to be entered: where no step is left, the walk
 -- halts with them
 unfoldable pub facing : Halting → Layout → (ℕ → ℕ → Bool) → ℕ → List ℕ → List ℕ → Walk → ℕ → Outcome
 unfolding entering
 facing H T holds n notes trail w x =
-    pick (H .spent (w .steps)) (halted outOfSteps (reverseAux (stack (P T) trail (w .top)) []) (bitsOf notes (N T n)) (w .steps)) (entering H T holds n notes trail w x)
+    pick (H .spent (w .steps)) (halted outOfSteps (reverseAux (stack (P T) trail (w .top)) []) (asKept (bitsOf notes (N T n)) (w .steps))) (entering H T holds n notes trail w x)
 
 -- what the state comes to
 unfoldable pub comes : Halting → Layout → (ℕ → ℕ → Bool) → ℕ → List ℕ → List ℕ → Walk → Outcome
@@ -270,7 +270,7 @@ pub record Ready (T : Layout) (holds : ℕ → ℕ → Bool) (n : ℕ) (notes tr
 -- an attempt at row i by the definition, with the failed pairs F and s steps before it: it tries
 -- the pair of the first place and the start
 abbrev pub attemptBy : Halting → Layout → (ℕ → ℕ → Bool) → ℕ → List Bool → ℕ → ℕ → Outcome
-attemptBy H T holds n F s i = enterUnless (getD F (i * P T) false) (H .spent s) (inside H (graphOf T holds n) (N T n)) F s (i * P T)
+attemptBy H T holds n F s i = enterUnless (getD F (i * P T) false) (H .spent s) (inside H (graphOf T holds n) (N T n)) (asKept F s) (i * P T)
 
 -- what an attempt leaves: its result is the definition's; with a path, the trail's first `top`
 -- numbers are the path and the walk is at END; where it has halted, they are the open pairs, and no

@@ -13,7 +13,7 @@ use lib.Dec.{ltb, eqb}
 use lib.ListN.{length, getD, set}
 use Rattle.rules.specs.Basics.{pick}
 use Rattle.rules.specs.Report.{bitAt}
-use Rattle.rules.specs.Walk.{Outcome, found, failed, outOfSteps, outOfRows, halted}
+use Rattle.rules.specs.Walk.{Outcome, found, failed, outOfSteps, outOfRows, halted, Kept, asKept}
 use Rattle.rules.specs.Working.{marked}
 use Rattle.table.specs.Table.{codeAt, firstAt, countAt}
 use Rattle.table.specs.Sized.{mostPlaces}
@@ -118,16 +118,16 @@ before w = beforeBy (eqb (w .status) 3) w
 -- the attempt's result in memory: no open pair, or the open pairs are the path
 unfoldable pub outcomeBy : ℕ → ℕ → List ℕ → List Bool → ℕ → Outcome
 unfolding stack
-outcomeBy P zero trail F s = failed F s
-outcomeBy P (suc t) trail F s = found (reverseAux (stack P trail (suc t)) []) F s
+outcomeBy P zero trail F s = failed (asKept F s)
+outcomeBy P (suc t) trail F s = found (reverseAux (stack P trail (suc t)) []) (asKept F s)
 
 -- the same of an attempt that may have halted: where a pair is to be entered, no step is left, and
 -- the open pairs stay open; where one waits, it is open too
 unfoldable pub resultBy : ℕ → List ℕ → List Bool → Walk → Outcome
 unfolding stack outcomeBy
 resultBy P trail F w =
-    pick (eqb (w .status) 1) (halted outOfSteps (reverseAux (stack P trail (w .top)) []) F (w .steps))
-    (pick (eqb (w .status) 3) (halted outOfRows (reverseAux (pairOf w ∷ stack P trail (w .top)) []) F (w .steps)) (outcomeBy P (w .top) trail F (w .steps)))
+    pick (eqb (w .status) 1) (halted outOfSteps (reverseAux (stack P trail (w .top)) []) (asKept F (w .steps)))
+    (pick (eqb (w .status) 3) (halted outOfRows (reverseAux (pairOf w ∷ stack P trail (w .top)) []) (asKept F (w .steps))) (outcomeBy P (w .top) trail F (w .steps)))
 
 -- ---- what entering a pair requires
 

@@ -19,7 +19,7 @@ use borrow.Author.Tests.{le-ltb, ltb-false, eqb-true, eqb-false}
 use Rattle.rules.specs.Basics.{pick, every, wrote}
 use Rattle.rules.specs.Rows.{tableOf}
 use Rattle.rules.specs.Query.{columnsOf, textOf}
-use Rattle.rules.specs.Search.{Swept, Kept}
+use Rattle.rules.specs.Search.{Swept}
 use Rattle.rules.specs.Report.{bytesFor, numbersOf, labelsOf}
 use lib.Pow.{pow-mono}
 use Rattle.rules.specs.Language.{Tree, pattern, loopNesting}
@@ -42,6 +42,7 @@ use Rattle.input.proofs.Verdicts.{pairs-spared, searched, printed-verdict}
 use Rattle.header.specs.Report.{reportText}
 use Rattle.text.proofs.Printed.{report-printed}
 use Rattle.run.specs.Run.{Found}
+use Rattle.rules.specs.Walk.{Kept}
 
 -- ---- what is lent is enough
 
@@ -217,7 +218,7 @@ module _ (q : List ℕ) (rows : List ℤ) (lent : Buffers) (ok : refusal q rows 
   unfolding accepted walkReport reportWithin reportOf walkOf
   matches-kept = ap (λ (m : Memory). m .result .matches) search-is
 
-  steps-kept : searchOf q rows lent .result .steps ≡ swept .state .1
+  steps-kept : searchOf q rows lent .result .steps ≡ swept .state .steps
   unfolding accepted
   steps-kept = ap (λ (m : Memory). m .result .steps) search-is
 

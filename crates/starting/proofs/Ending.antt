@@ -9,8 +9,8 @@ use native.Mathlib.Omega.{arith}
 use lib.IntN.{ℤ}
 use lib.ListN.{length, replicate}
 use Rattle.rules.specs.Basics.{wrote}
-use Rattle.rules.specs.Search.{Match, End, done, full, stuck, unfinished, Swept, Kept, within}
-use Rattle.rules.specs.Walk.{outOfSteps, outOfRows, pairs}
+use Rattle.rules.specs.Search.{Match, End, done, full, stuck, unfinished, Swept, within}
+use Rattle.rules.specs.Walk.{outOfSteps, outOfRows, pairs, Kept}
 use Rattle.rules.specs.Report.{fits, numbersOf, labelsOf, notesOf, zeros}
 use Rattle.rules.specs.Answers.{taskOf, letterHolds, walkedOn, walkWithin, haltAnswer, endAnswer, reportOf, accepted}
 use Rattle.matches.specs.Asked as S
@@ -57,16 +57,16 @@ module _ (T : List ℕ) (p : Prepared) (terms : Terms) (rows : List ℤ) (notes 
       let m : s .matches ≡ length (W .matches) = g .reported .matches ∙ ap (λ (w : Swept Kept). length (w .matches)) f in
       let l : s .labels ≡ length (labelsOf (taskOf q rows .places) (W .matches)) =
       g .reported .labels ∙ ap length (labelled q T p a terms rows notes trail fed t h (R .matches)) ∙ ap (λ (w : Swept Kept). length (labelsOf (taskOf q rows .places) (w .matches))) f in
-      let st : s .steps ≡ W .state .1 = g .reported .steps ∙ ap (λ (w : Swept Kept). w .state .1) f in
+      let st : s .steps ≡ W .state .steps = g .reported .steps ∙ ap (λ (w : Swept Kept). w .state .steps) f in
       let nu : num′ ≡ wrote num 0 (numbersOf (taskOf q rows .table) (taskOf q rows .measures) (taskOf q rows .places) 0 (W .matches)) =
       g .reported .numbers-is ∙ ap (wrote num 0) (numbered q T p a terms rows notes trail fed t h 0 (R .matches) ∙ ap (λ (w : Swept Kept). numbersOf (taskOf q rows .table) (taskOf q rows .measures) (taskOf q rows .places) 0 (w .matches)) f) in
       let la : lab′ ≡ wrote lab 0 (labelsOf (taskOf q rows .places) (W .matches)) =
       g .reported .labels-is ∙ ap (wrote lab 0) (labelled q T p a terms rows notes trail fed t h (R .matches) ∙ ap (λ (w : Swept Kept). labelsOf (taskOf q rows .places) (w .matches)) f) in
-      let kn : N (layoutOf T (t .size)) (t .size .rows) ≡ length (W .state .0) =
+      let kn : N (layoutOf T (t .size)) (t .size .rows) ≡ length (W .state .failed) =
       counted q T p a terms rows notes trail fed t h (length num) (length lab)
-      ∙ ap (λ (b : Bool). length (walkedOn (record { largest = taskOf q rows .table .n; more = b; allowance = some (terms .allowance) }) (taskOf q rows) (length num) (length lab) .state .0)) (w .no-more) in
-      let pn : t .pairs ≡ length (W .state .0) = h .pairs-are ∙ ap (λ (k : ℕ). p .places * k) (add-one (terms .largest)) ∙ ap (λ (k : ℕ). pairs (p .places) k) (w .whole) ∙ sym (ap₂ (λ (x y : ℕ). pairs x y) (h .places) (h .rows)) ∙ kn in
-      let ga : gapped (t .pairs) (W .state .0) ≡ W .state .0 = (let z : t .pairs - length (W .state .0) ≡ 0 = omega arith in ap (λ (k : ℕ). W .state .0 ++ replicate k false) z ∙ append-nil (W .state .0)) in
-      let no : notes′ ≡ wrote notes 0 (notesOf (W .state .0)) = g .notes-is ∙ ap (λ (w : Swept Kept). wrote notes 0 (notesOf (gapped (t .pairs) (w .state .0)))) f ∙ ap (λ (F : List Bool). wrote notes 0 (notesOf F)) ga in
-      let tr : trail′ ≡ wrote trail 0 (zeros (length (W .state .0))) = g .trailed .zeroed (λ (z : s .end ≡ 23). never-waits q (sym end ∙ z)) ∙ ap (λ (k : ℕ). wrote trail 0 (zeros k)) pn in
+      ∙ ap (λ (b : Bool). length (walkedOn (record { largest = taskOf q rows .table .n; more = b; allowance = some (terms .allowance) }) (taskOf q rows) (length num) (length lab) .state .failed)) (w .no-more) in
+      let pn : t .pairs ≡ length (W .state .failed) = h .pairs-are ∙ ap (λ (k : ℕ). p .places * k) (add-one (terms .largest)) ∙ ap (λ (k : ℕ). pairs (p .places) k) (w .whole) ∙ sym (ap₂ (λ (x y : ℕ). pairs x y) (h .places) (h .rows)) ∙ kn in
+      let ga : gapped (t .pairs) (W .state .failed) ≡ W .state .failed = (let z : t .pairs - length (W .state .failed) ≡ 0 = omega arith in ap (λ (k : ℕ). W .state .failed ++ replicate k false) z ∙ append-nil (W .state .failed)) in
+      let no : notes′ ≡ wrote notes 0 (notesOf (W .state .failed)) = g .notes-is ∙ ap (λ (w : Swept Kept). wrote notes 0 (notesOf (gapped (t .pairs) (w .state .failed)))) f ∙ ap (λ (F : List Bool). wrote notes 0 (notesOf F)) ga in
+      let tr : trail′ ≡ wrote trail 0 (zeros (length (W .state .failed))) = g .trailed .zeroed (λ (z : s .end ≡ 23). never-waits q (sym end ∙ z)) ∙ ap (λ (k : ℕ). wrote trail 0 (zeros k)) pn in
       rw (e, end, m, l, st, nu, la, no, tr)

@@ -14,7 +14,7 @@ use Rattle.rules.specs.Query.{Measure, textOf, parts}
 use Rattle.rules.specs.Places.{Place, pLetter, pCaret, pDollar, pFork, pEnd, unroll, places}
 use Rattle.rules.specs.Walk.{pairs}
 use Rattle.rules.specs.Search as R
-use Rattle.rules.specs.Search.{Match, walkSearch}
+use Rattle.rules.specs.Search.{Match, walkSearch, seek}
 use Rattle.rules.specs.Report.{fits, numbersOf, labelsOf}
 use Rattle.rules.specs.Answers.{treeIn, letterHolds, skipOf, taskOf, walkedOn}
 use Rattle.rules.specs.Working.{thinned}
@@ -191,7 +191,7 @@ module _ (q T : List ℕ) (p : Prepared) (a : Ready q T p) (terms : Terms) (rows
         ∙ same-search (places (unroll (a .tree))) (taskOf q rows .places) n (taskOf q rows .table .n) (skipIn (t .skip)) (taskOf q rows .skip) (measuresIn T (measuresAt (p .places)) (p .count)) (taskOf q rows .measures) (sym the-places) the-rows (h .skip ∙ the-skip) the-measures)
       where
         same-search : (pl pl′ : List Place) (m m′ : ℕ) (o o′ : R.Skip) (x x′ : List Measure) → pl ≡ pl′ → m ≡ m′ → o ≡ o′ → x ≡ x′
-            → walkSearch (on m) (letterHolds (taskOf q rows)) m pl o (fits nums labs x) ≡ walkSearch (on m′) (letterHolds (taskOf q rows)) m′ pl′ o′ (fits nums labs x′)
+            → walkSearch (on m) (seek (letterHolds (taskOf q rows)) m pl o (fits nums labs x)) ≡ walkSearch (on m′) (seek (letterHolds (taskOf q rows)) m′ pl′ o′ (fits nums labs x′))
         same-search pl pl′ m m′ o o′ x x′ e f h i = rw (e, f, h, i)
 
     pub found : (nums labs : ℕ) → S.searchOf (askedOf T rows t) nums labs ≡ walkedOn (on (taskOf q rows .table .n)) (taskOf q rows) nums labs
@@ -206,7 +206,7 @@ module _ (q T : List ℕ) (p : Prepared) (a : Ready q T p) (terms : Terms) (rows
     pub labelled : (xs : List Match) → labelsOf (placesIn T (t .size .places)) xs ≡ labelsOf (taskOf q rows .places) xs
     labelled xs = rw (h .places, a .placed, the-places) (labels-of-thin (places (unroll (a .tree))) xs)
 
-    pub counted : (nums labs : ℕ) → W.N (layoutOf T (t .size)) (t .size .rows) ≡ length (walkedOn (on (taskOf q rows .table .n)) (taskOf q rows) nums labs .state .0)
+    pub counted : (nums labs : ℕ) → W.N (layoutOf T (t .size)) (t .size .rows) ≡ length (walkedOn (on (taskOf q rows .table .n)) (taskOf q rows) nums labs .state .failed)
     unfolding walkedOn
     counted nums labs =
         ap₂ (λ (x y : ℕ). pairs x y) (h .places ∙ a .places-are ∙ sym (places-counted (a .tree) the-bounds) ∙ ap length (sym the-places)) (h .rows ∙ the-rows)

@@ -216,7 +216,7 @@ module _ (W : List ℕ) (rows : List ℤ) (task : Task) (n₀ t₀ : List ℕ) (
         came = d .came num₀ lab₀ (searchOf A (length num₀) (length lab₀)) (so-first W rows task n₁ num₀ lab₀ none-failed)
 
         F : List Bool
-        F = (searchOf A (length num₀) (length lab₀)) .state .0
+        F = (searchOf A (length num₀) (length lab₀)) .state .failed
 
         G : List Bool
         G = gapped (task .pairs) F

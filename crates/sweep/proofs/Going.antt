@@ -7,7 +7,7 @@ use mathlib.Core.Bool.{true, false}
 use Prim.Native.Nat.{ℕ, _-_, _≤_, _<_}
 use lib.IntN.{ℤ}
 use lib.ListN.{length}
-use Rattle.rules.specs.Search.{Swept, Kept}
+use Rattle.rules.specs.Search.{Swept}
 use Rattle.pairs.specs.Layout.{N, layoutOf}
 use Rattle.matches.specs.declared.Sweep.{Sweep}
 use Rattle.matches.specs.declared.Task.{Task}
@@ -16,6 +16,7 @@ use Rattle.matches.specs.Found.{Visits, Visited}
 use Rattle.sweep.specs.Searched.{Sound, Beyond, SoFar, Searched}
 use Rattle.sweep.proofs.Within.{sound-visits, sound-more, sound-less, sound-numbers, sound-labels, beyond-none, beyond-more}
 use Rattle.sweep.proofs.Sofar.{so-more, so-over, so-all, so-waits}
+use Rattle.rules.specs.Walk.{Kept}
 
 pub record Going (T : List ℕ) (rows : List ℤ) (task : Task) (n₁ t₁ : List ℕ) (numbers₁ : List ℤ) (labs₁ : List ℕ) (i₁ : Sweep)
     (notes trail : List ℕ) (numbers : List ℤ) (labs : List ℕ) (i : Sweep) : Type 0 where

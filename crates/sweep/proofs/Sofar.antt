@@ -14,8 +14,8 @@ use Rattle.rules.specs.Answers.{haltAnswer, endAnswer}
 use Rattle.rules.specs.Basics.{wrote}
 use Rattle.rules.specs.Report.{bitAt, matchNumbers, numbersOf, labelsOf, fits}
 use Rattle.rules.specs.Search as R
-use Rattle.rules.specs.Search.{Match, End, Swept, Plan, Kept, Attempted, hit, miss, halts, haltingOf, sweep, byFit, byNext, onAnswer, withMatch, walkAt, labels, endOf, planOf, walkSearch}
-use Rattle.rules.specs.Walk.{Halt, outOfSteps, outOfRows, pairs, firstAt, pairWays}
+use Rattle.rules.specs.Search.{Match, End, Swept, Plan, Attempted, hit, miss, halts, haltingOf, sweep, onAnswer, withMatch, walkAt, labels, endOf, planOf, walkSearch, Standing, standAt, onMatch}
+use Rattle.rules.specs.Walk.{Halt, outOfSteps, outOfRows, pairs, firstAt, pairWays, Kept, asKept}
 use Rattle.laws.proofs.Appended.{wrote-none, wrote-on, length-wrote-at, numbers-on, labels-on, fits-room}
 use Rattle.laws.proofs.Limits.{match-long, numbers-long}
 use Rattle.rules.specs.Working.{bitsOf}
@@ -32,12 +32,12 @@ abbrev pub M : Asked → ℕ
 M A = N (A .layout) (A .n)
 
 sweep-on : (att : ℕ → Kept → Attempted × Kept) (plan : Plan) (k i m l : ℕ) (kept : Kept) → i < plan .n
-    → sweep att plan (suc k) i m l kept ≡ onAnswer plan (sweep att plan k) i m l ((att i kept) .0) ((att i kept) .1)
+    → sweep att plan (suc k) (standAt i m l) kept ≡ onAnswer plan (sweep att plan k) (standAt i m l) ((att i kept) .0) ((att i kept) .1)
 unfolding sweep
 sweep-on att plan k i m l kept h = rw (lt-ltb i (plan .n) h)
 
 sweep-off : (att : ℕ → Kept → Attempted × Kept) (plan : Plan) (k i m l : ℕ) (kept : Kept) → plan .n ≤ i
-    → sweep att plan k i m l kept ≡ record { matches = []; end = R.noStart (plan .more) i; state = kept }
+    → sweep att plan k (standAt i m l) kept ≡ record { matches = []; end = R.noStart (plan .more) i; state = kept }
 unfolding sweep
 sweep-off att plan zero i m l kept h = refl
 sweep-off att plan (suc k) i m l kept h = rw (le-ltb i (plan .n) h)
@@ -51,7 +51,7 @@ module _ (W : List ℕ) (rows : List ℤ) (task : Task) (num₁ : List ℤ) (lab
   abbrev A : Asked
   A = askedOf W rows task
 
-  abbrev sw : ℕ → ℕ → ℕ → ℕ → Kept → Swept Kept
+  abbrev sw : ℕ → Standing → Kept → Swept Kept
   sw = swp A (length num₁) (length lab₁)
 
   abbrev fit : ℕ → ℕ → List ℕ → Bool
@@ -77,12 +77,12 @@ module _ (W : List ℕ) (rows : List ℤ) (task : Task) (num₁ : List ℤ) (lab
     so-labels = let b = h .labs-le in let c = h .l-is in rw (h .labels-is) (length-wrote-at lab₁ 0 (labelsOf (pl A) (h .done)) (omega arith))
 
     -- no match is left to find: the search is over so
-    ends : (e : End Match) (F′ : List Bool) (s′ : ℕ) → sw (h .fuel) (i .row) (i .matches) (i .labels) (F, i .steps) ≡ record { matches = []; end = e; state = (F′, s′) }
-        → goal ≡ record { matches = h .done; end = e; state = (F′, s′) }
-    ends e F′ s′ d = sym (h .total) ∙ ap (pre (h .done)) d ∙ ap (λ (l : List Match). record { matches = l; end = e; state = (F′, s′) }) (append-nil (h .done))
+    ends : (e : End Match) (F′ : List Bool) (s′ : ℕ) → sw (h .fuel) (standAt (i .row) (i .matches) (i .labels)) (asKept F (i .steps)) ≡ record { matches = []; end = e; state = asKept F′ s′ }
+        → goal ≡ record { matches = h .done; end = e; state = asKept F′ s′ }
+    ends e F′ s′ d = sym (h .total) ∙ ap (pre (h .done)) d ∙ ap (λ (l : List Match). record { matches = l; end = e; state = asKept F′ s′ }) (append-nil (h .done))
 
     over-came : (e : End Match) (notes′ : List ℕ) (F′ : List Bool) (s′ : ℕ) (eF : bitsOf notes′ (M A) ≡ F′) (numbers′ : List ℤ) (labs′ : List ℕ) (r : Sweep)
-        → sw (h .fuel) (i .row) (i .matches) (i .labels) (F, i .steps) ≡ record { matches = []; end = e; state = (F′, s′) }
+        → sw (h .fuel) (standAt (i .row) (i .matches) (i .labels)) (asKept F (i .steps)) ≡ record { matches = []; end = e; state = asKept F′ s′ }
         → r .end ≡ endAnswer e → r .matches ≡ i .matches → r .labels ≡ i .labels → r .steps ≡ s′ → WaitsAt e r → numbers′ ≡ numbers → labs′ ≡ labs
         → Came A num₁ lab₁ goal notes′ numbers′ labs′ r
     over-came e notes′ F′ s′ eF numbers′ labs′ r d ee em el es ew en eb =
@@ -100,14 +100,14 @@ module _ (W : List ℕ) (rows : List ℤ) (task : Task) (num₁ : List ℤ) (lab
         })
 
     -- no row is there to start at
-    off : A .n ≤ i .row → sw (h .fuel) (i .row) (i .matches) (i .labels) (F, i .steps) ≡ record { matches = []; end = R.noStart (A .more) (i .row); state = (F, i .steps) }
+    off : A .n ≤ i .row → sw (h .fuel) (standAt (i .row) (i .matches) (i .labels)) (asKept F (i .steps)) ≡ record { matches = []; end = R.noStart (A .more) (i .row); state = asKept F (i .steps) }
     unfolding planOf
-    off ge = sweep-off walks plan (h .fuel) (i .row) (i .matches) (i .labels) (F, i .steps) ge
+    off ge = sweep-off walks plan (h .fuel) (i .row) (i .matches) (i .labels) (asKept F (i .steps)) ge
 
     pub so-all : A .n ≤ i .row → A .more ≡ false → Came A num₁ lab₁ goal notes numbers labs i
     unfolding endAnswer
     so-all ge em =
-        over-came R.done notes F (i .steps) refl numbers labs i (off ge ∙ ap (λ (b : Bool). record { matches = []; end = R.noStart b (i .row); state = (F, i .steps) }) em) (h .going) refl refl refl
+        over-came R.done notes F (i .steps) refl numbers labs i (off ge ∙ ap (λ (b : Bool). record { matches = []; end = R.noStart b (i .row); state = asKept F (i .steps) }) em) (h .going) refl refl refl
         (λ j p (d : R.done ≡ R.unfinished outOfRows j p). let z : _≡_ {A = ℕ} 0 1 = cc in absurd (omega arith)) refl refl
 
     pub so-waits : A .n ≤ i .row → A .more ≡ true → (r : Sweep) → r ≡ record { end = 23; row = i .row; matches = i .matches; labels = i .labels; steps = i .steps; opened = 0 }
@@ -116,24 +116,24 @@ module _ (W : List ℕ) (rows : List ℤ) (task : Task) (num₁ : List ℤ) (lab
     so-waits ge em r er =
         rw er
         (over-came (R.unfinished outOfRows (i .row) []) notes F (i .steps) refl numbers labs _
-        (off ge ∙ ap (λ (b : Bool). record { matches = []; end = R.noStart b (i .row); state = (F, i .steps) }) em) refl refl refl refl
+        (off ge ∙ ap (λ (b : Bool). record { matches = []; end = R.noStart b (i .row); state = asKept F (i .steps) }) em) refl refl refl refl
         (λ j p (d : R.unfinished outOfRows (i .row) [] ≡ R.unfinished outOfRows j p). let a : i .row ≡ j = cc in let b : [] ≡ p = cc in (a, ap length b)) refl refl)
 
     module _ (lt : i .row < A .n) where
       abbrev att : Attempted × Kept
       att = attemptAt A F (i .steps) (i .row)
 
-      att-same : walks (i .row) (F, i .steps) ≡ att
+      att-same : walks (i .row) (asKept F (i .steps)) ≡ att
       unfolding graphOf
       att-same = rw (in-length (A .layout .words) (P (A .layout)))
 
       -- the definition's next step
-      rest-is : (k : ℕ) → h .fuel ≡ suc k → sw (h .fuel) (i .row) (i .matches) (i .labels) (F, i .steps) ≡ onAnswer plan (sw k) (i .row) (i .matches) (i .labels) (att .0) (att .1)
+      rest-is : (k : ℕ) → h .fuel ≡ suc k → sw (h .fuel) (standAt (i .row) (i .matches) (i .labels)) (asKept F (i .steps)) ≡ onAnswer plan (sw k) (standAt (i .row) (i .matches) (i .labels)) (att .0) (att .1)
       unfolding planOf
       rest-is k e =
-          ap (λ (f : ℕ). sw f (i .row) (i .matches) (i .labels) (F, i .steps)) e
-          ∙ sweep-on walks plan k (i .row) (i .matches) (i .labels) (F, i .steps) lt
-          ∙ ap (λ (a : Attempted × Kept). onAnswer plan (sw k) (i .row) (i .matches) (i .labels) (a .0) (a .1)) att-same
+          ap (λ (f : ℕ). sw f (standAt (i .row) (i .matches) (i .labels)) (asKept F (i .steps))) e
+          ∙ sweep-on walks plan k (i .row) (i .matches) (i .labels) (asKept F (i .steps)) lt
+          ∙ ap (λ (a : Attempted × Kept). onAnswer plan (sw k) (standAt (i .row) (i .matches) (i .labels)) (a .0) (a .1)) att-same
 
       module _ (notes′ trail trail′ : List ℕ) (numbers′ : List ℤ) (labs′ : List ℕ) (r : Sweep) (v : Visited A notes notes′ trail trail′ numbers numbers′ labs labs′ i r) where
         -- it goes on, or has come to its goal
@@ -143,10 +143,10 @@ module _ (W : List ℕ) (rows : List ℤ) (task : Task) (num₁ : List ℤ) (lab
 
         module _ (k : ℕ) (ek : h .fuel ≡ suc k) (F′ : List Bool) (s′ : ℕ) (eF : bitsOf notes′ (M A) ≡ F′) where
           -- no match
-          quiet-on : att ≡ (miss, (F′, s′)) → Quiet numbers numbers′ labs labs′ r (swept 0 (i .row + 1) (i .matches) (i .labels) s′) → Goal r
+          quiet-on : att ≡ (miss, asKept F′ s′) → Quiet numbers numbers′ labs labs′ r (swept 0 (i .row + 1) (i .matches) (i .labels) s′) → Goal r
           quiet-on ea q =
-              let e : sw (h .fuel) (i .row) (i .matches) (i .labels) (F, i .steps) ≡ sw k (suc (i .row)) (i .matches) (i .labels) (F′, s′) =
-              rest-is k ek ∙ ap (λ (a : Attempted × Kept). onAnswer plan (sw k) (i .row) (i .matches) (i .labels) (a .0) (a .1)) ea in
+              let e : sw (h .fuel) (standAt (i .row) (i .matches) (i .labels)) (asKept F (i .steps)) ≡ sw k (standAt (suc (i .row)) (i .matches) (i .labels)) (asKept F′ s′) =
+              rest-is k ek ∙ ap (λ (a : Attempted × Kept). onAnswer plan (sw k) (standAt (i .row) (i .matches) (i .labels)) (a .0) (a .1)) ea in
               let o : i .row + 1 ≡ suc (i .row) = omega arith in
               let en = h .enough in
               subst Goal (sym (q .sweep-is)) (record {
@@ -169,7 +169,7 @@ module _ (W : List ℕ) (rows : List ℤ) (task : Task) (num₁ : List ℤ) (lab
 
           -- nothing is written, and the search is over
           over-on : (e : End Match) (to : Sweep) → (to .end ≡ 0 → ⊥) → to .end ≡ endAnswer e → to .matches ≡ i .matches → to .labels ≡ i .labels → to .steps ≡ s′ → WaitsAt e to
-              → sw (h .fuel) (i .row) (i .matches) (i .labels) (F, i .steps) ≡ record { matches = []; end = e; state = (F′, s′) }
+              → sw (h .fuel) (standAt (i .row) (i .matches) (i .labels)) (asKept F (i .steps)) ≡ record { matches = []; end = e; state = asKept F′ s′ }
               → Quiet numbers numbers′ labs labs′ r to → Goal r
           over-on e to not-going ee em el es ew d q =
               subst Goal (sym (q .sweep-is)) (record {
@@ -178,11 +178,11 @@ module _ (W : List ℕ) (rows : List ℤ) (task : Task) (num₁ : List ℤ) (lab
               })
 
           -- the attempt has halted
-          halted-on : (w : Halt) (p : List ℕ) → att ≡ (halts w p, (F′, s′)) → Quiet numbers numbers′ labs labs′ r (sweptAt w p (i .row) (i .matches) (i .labels) s′) → Goal r
+          halted-on : (w : Halt) (p : List ℕ) → att ≡ (halts w p, asKept F′ s′) → Quiet numbers numbers′ labs labs′ r (sweptAt w p (i .row) (i .matches) (i .labels) s′) → Goal r
           unfolding endAnswer haltAnswer
           halted-on w p ea q =
               over-on (R.unfinished w (i .row) p) (sweptAt w p (i .row) (i .matches) (i .labels) s′) (some w) refl refl refl refl (waits w)
-              (rest-is k ek ∙ ap (λ (a : Attempted × Kept). onAnswer plan (sw k) (i .row) (i .matches) (i .labels) (a .0) (a .1)) ea) q
+              (rest-is k ek ∙ ap (λ (a : Attempted × Kept). onAnswer plan (sw k) (standAt (i .row) (i .matches) (i .labels)) (a .0) (a .1)) ea) q
             where
               some : (w : Halt) → haltAnswer w ≡ 0 → ⊥
               some outOfSteps e = let z : _≡_ {A = ℕ} 16 0 = e in omega arith
@@ -192,20 +192,20 @@ module _ (W : List ℕ) (rows : List ℤ) (task : Task) (num₁ : List ℤ) (lab
               waits outOfSteps j u d = let z : _≡_ {A = ℕ} 0 1 = cc in absurd (omega arith)
               waits outOfRows j u d = let a : i .row ≡ j = cc in let b : p ≡ u = cc in (a, ap length b)
 
-          module _ (p : List ℕ) (ea : att ≡ (hit p, (F′, s′))) where
+          module _ (p : List ℕ) (ea : att ≡ (hit p, asKept F′ s′)) where
             abbrev t : Match
             t = record { start = i .row; path = p }
 
             abbrev on : ℕ → Swept Kept
-            on j = sw k j (suc (i .matches)) (i .labels + length (labels (pl A) p)) (F′, s′)
+            on j = sw k (standAt j (suc (i .matches)) (i .labels + length (labels (pl A) p))) (asKept F′ s′)
 
             rest-fit : (b : Bool) → fit (i .matches) (i .labels) (labels (pl A) p) ≡ b
-                → sw (h .fuel) (i .row) (i .matches) (i .labels) (F, i .steps) ≡ byFit b t (F′, s′) (λ _. byNext (nextAt A (i .row) p) (F′, s′) on)
+                → sw (h .fuel) (standAt (i .row) (i .matches) (i .labels)) (asKept F (i .steps)) ≡ onMatch b (nextAt A (i .row) p) t (asKept F′ s′) on
             unfolding planOf
             rest-fit b eb =
                 rest-is k ek
-                ∙ ap (λ (a : Attempted × Kept). onAnswer plan (sw k) (i .row) (i .matches) (i .labels) (a .0) (a .1)) ea
-                ∙ ap (λ (c : Bool). byFit c t (F′, s′) (λ _. byNext (nextAt A (i .row) p) (F′, s′) on)) eb
+                ∙ ap (λ (a : Attempted × Kept). onAnswer plan (sw k) (standAt (i .row) (i .matches) (i .labels)) (a .0) (a .1)) ea
+                ∙ ap (λ (c : Bool). onMatch c (nextAt A (i .row) p) t (asKept F′ s′) on) eb
 
             no-wait : (e : End Match) (o : Sweep) → ((j : ℕ) (u : List ℕ) → e ≡ R.unfinished outOfRows j u → ⊥) → WaitsAt e o
             no-wait e o f j u d = absurd (f j u d)
@@ -259,7 +259,7 @@ module _ (W : List ℕ) (rows : List ℤ) (task : Task) (num₁ : List ℤ) (lab
                 let o : i .matches + 1 ≡ suc (i .matches) = omega arith in
                 let ge : i .row < nx = next-on (A .skip) (i .row) (endOf (length (pl A)) p) (labels (pl A) p) nx ex in
                 let en = h .enough in
-                let e : sw (h .fuel) (i .row) (i .matches) (i .labels) (F, i .steps) ≡ withMatch t (on nx) = rest-fit true eb ∙ ap (λ (y : Option ℕ). withMatch t (byNext y (F′, s′) on)) ex in
+                let e : sw (h .fuel) (standAt (i .row) (i .matches) (i .labels)) (asKept F (i .steps)) ≡ withMatch t (on nx) = rest-fit true eb ∙ ap (λ (y : Option ℕ). onMatch true y t (asKept F′ s′) on) ex in
                 subst Goal (sym (q .sweep-is)) (record {
                   over = λ f. absurd (f refl);
                   on = λ _. record {
@@ -278,8 +278,8 @@ module _ (W : List ℕ) (rows : List ℤ) (task : Task) (num₁ : List ℤ) (lab
                   };
                 })
             by-next none ex eb q =
-                let e : sw (h .fuel) (i .row) (i .matches) (i .labels) (F, i .steps) ≡ withMatch t (record { matches = []; end = R.stuck; state = (F′, s′) }) = rest-fit true eb ∙ ap (λ (y : Option ℕ). withMatch t (byNext y (F′, s′) on)) ex in
-                let g : goal ≡ record { matches = h .done ++ (t ∷ []); end = R.stuck; state = (F′, s′) } = sym (h .total) ∙ ap (pre (h .done)) e in
+                let e : sw (h .fuel) (standAt (i .row) (i .matches) (i .labels)) (asKept F (i .steps)) ≡ withMatch t (record { matches = []; end = R.stuck; state = asKept F′ s′ }) = rest-fit true eb ∙ ap (λ (y : Option ℕ). onMatch true y t (asKept F′ s′) on) ex in
+                let g : goal ≡ record { matches = h .done ++ (t ∷ []); end = R.stuck; state = asKept F′ s′ } = sym (h .total) ∙ ap (pre (h .done)) e in
                 subst Goal (sym (q .sweep-is)) (record {
                   on = λ z. absurd (let y : _≡_ {A = ℕ} 15 0 = z in omega arith);
                   over = λ _. rw g (record {
@@ -300,14 +300,14 @@ module _ (W : List ℕ) (rows : List ℤ) (task : Task) (num₁ : List ℤ) (lab
             by-fit true eb q = by-next (nextAt A (i .row) p) refl eb q
             by-fit false eb q = full-on eb q
 
-          by-att : (o : Attempted) → att ≡ (o, (F′, s′)) → Told A o i s′ numbers numbers′ labs labs′ r → Goal r
+          by-att : (o : Attempted) → att ≡ (o, asKept F′ s′) → Told A o i s′ numbers numbers′ labs labs′ r → Goal r
           by-att miss ea q = quiet-on ea q
           by-att (halts w p) ea q = halted-on w p ea q
           by-att (hit p) ea q = by-fit p ea (fit (i .matches) (i .labels) (labels (pl A) p)) refl (rw (so-numbers, so-labels) at q)
 
         by-fuel : (f : ℕ) → h .fuel ≡ f → Goal r
         by-fuel zero e = absurd (let en = h .enough in omega arith)
-        by-fuel (suc k) e = by-att k e (att .1 .0) (att .1 .1) (v .kept) (att .0) refl (v .told)
+        by-fuel (suc k) e = by-att k e (att .1 .failed) (att .1 .steps) (v .kept) (att .0) refl (v .told)
 
         pub so-more : r .end ≡ 0 → SoFar W rows task num₁ lab₁ goal notes′ numbers′ labs′ r
         so-more e = by-fuel (h .fuel) refl .on e

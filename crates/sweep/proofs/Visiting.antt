@@ -11,8 +11,8 @@ use lib.ListN.{length, getD}
 use borrow.Author.Tests.{eq-eqb, ne-eqb}
 use Rattle.rules.specs.Answers.{haltAnswer}
 use Rattle.rules.specs.Basics.{pick}
-use Rattle.rules.specs.Search.{Kept, Attempted, hit, halts, answered}
-use Rattle.rules.specs.Walk.{Ways, accept, try, Halting, outOfSteps, outOfRows, Outcome, found, failed, halted, close, tries, enterUnless, inside, insideBy, countTrue}
+use Rattle.rules.specs.Search.{Attempted, hit, halts, answered}
+use Rattle.rules.specs.Walk.{Ways, accept, try, Halting, outOfSteps, outOfRows, Outcome, found, failed, halted, close, tries, enterUnless, inside, insideBy, countTrue, Kept, asKept}
 use mathlib.Core.Logic.{inl}
 use Rattle.laws.proofs.Machine.{open-room}
 use Rattle.laws.proofs.Notes.{bitsFrom-length}
@@ -38,26 +38,26 @@ headOf [] = 0
 headOf (x ∷ p) = x
 
 abbrev HeadIs : ℕ → Outcome → Type 0
-HeadIs x (found p F s) = headOf p ≡ x
-HeadIs x (failed F s) = Unit {0}
-HeadIs x (halted h p F s) = Unit {0}
+HeadIs x (found p kept) = headOf p ≡ x
+HeadIs x (failed kept) = Unit {0}
+HeadIs x (halted h p kept) = Unit {0}
 
-inside-head : (H : Halting) (ways : ℕ → Ways) (k : ℕ) (F : List Bool) (s x : ℕ) → HeadIs x (inside H ways k F s x)
+inside-head : (H : Halting) (ways : ℕ → Ways) (k : ℕ) (F : List Bool) (s x : ℕ) → HeadIs x (inside H ways k (asKept F s) x)
 unfolding inside insideBy
 inside-head H ways zero F s x = tt
 inside-head H ways (suc k) F s x = go (H .waits x) (ways x)
   where
     closed : (r : Outcome) → HeadIs x (close x r)
-    closed (found p F s) = refl
-    closed (failed F s) = tt
-    closed (halted h p F s) = tt
+    closed (found p kept) = refl
+    closed (failed kept) = tt
+    closed (halted h p kept) = tt
 
-    go : (b : Bool) (w : Ways) → HeadIs x (insideBy H b w (inside H ways k) F s x)
+    go : (b : Bool) (w : Ways) → HeadIs x (insideBy H b w (inside H ways k) (asKept F s) x)
     go true w = tt
     go false accept = refl
-    go false (try ys) = closed (tries H (inside H ways k) F s ys)
+    go false (try ys) = closed (tries H (inside H ways k) (asKept F s) ys)
 
-enter-head : (b u : Bool) (H : Halting) (ways : ℕ → Ways) (k : ℕ) (F : List Bool) (s x : ℕ) → HeadIs x (enterUnless b u (inside H ways k) F s x)
+enter-head : (b u : Bool) (H : Halting) (ways : ℕ → Ways) (k : ℕ) (F : List Bool) (s x : ℕ) → HeadIs x (enterUnless b u (inside H ways k) (asKept F s) x)
 enter-head true u H ways k F s x = tt
 enter-head false true H ways k F s x = tt
 enter-head false false H ways k F s x = inside-head H ways k F (suc s) x
@@ -78,13 +78,13 @@ result-over : (P : ℕ) (trail : List ℕ) (F : List Bool) (w : Walk) → (w .st
 unfolding resultBy
 result-over P trail F w e c = rw (ne-eqb (w .status) 1 e, ne-eqb (w .status) 3 c)
 
-answered-by : (P : ℕ) (trail : List ℕ) (F : List Bool) (w : Walk) → answered (resultBy P trail F w) ≡ (cameTo P trail w, (F, w .steps))
+answered-by : (P : ℕ) (trail : List ℕ) (F : List Bool) (w : Walk) → answered (resultBy P trail F w) ≡ (cameTo P trail w, asKept F (w .steps))
 unfolding resultBy outcomeBy cameTo
 answered-by P trail F w = go (eqb (w .status) 1) (eqb (w .status) 3) (w .top) (waitsOn P trail w)
   where
     go : (b c : Bool) (t : ℕ) (q : List ℕ)
-        → answered (pick b (halted outOfSteps (pathOn P trail t) F (w .steps)) (pick c (halted outOfRows q F (w .steps)) (outcomeBy P t trail F (w .steps))))
-        ≡ (pick b (halts outOfSteps (pathOn P trail t)) (pick c (halts outOfRows q) (byTop P trail t)), (F, w .steps))
+        → answered (pick b (halted outOfSteps (pathOn P trail t) (asKept F (w .steps))) (pick c (halted outOfRows q (asKept F (w .steps))) (outcomeBy P t trail F (w .steps))))
+        ≡ (pick b (halts outOfSteps (pathOn P trail t)) (pick c (halts outOfRows q) (byTop P trail t)), asKept F (w .steps))
     go true c t q = refl
     go false true t q = refl
     go false false zero q = refl
@@ -135,19 +135,19 @@ module _ (W : List ℕ) (rows : List ℤ) (task : Task) (trail labs : List ℕ) 
 
 -- the steps of an outcome, and how many pairs are open or have failed
 abbrev stepsOf : Outcome → ℕ
-stepsOf (found p F s) = s
-stepsOf (failed F s) = s
-stepsOf (halted h p F s) = s
+stepsOf (found p kept) = kept .steps
+stepsOf (failed kept) = kept .steps
+stepsOf (halted h p kept) = kept .steps
 
 abbrev heldBy : Outcome → ℕ
-heldBy (found p F s) = length p + countTrue F
-heldBy (failed F s) = countTrue F
-heldBy (halted h p F s) = length p + countTrue F
+heldBy (found p kept) = length p + countTrue (kept .failed)
+heldBy (failed kept) = countTrue (kept .failed)
+heldBy (halted h p kept) = length p + countTrue (kept .failed)
 
 steps-by : (ρ : ℕ → ℕ) (N : ℕ) (F : List Bool) (s x : ℕ) (o : Outcome) → heldBy o ≤ N → InsidePost ρ F (suc s) x o → stepsOf o ≤ s + N
-steps-by ρ N F s x (found p F′ s′) l d = let q = d .sum in omega arith
-steps-by ρ N F s x (failed F′ s′) l d = let q = d .sum in omega arith
-steps-by ρ N F s x (halted h p F′ s′) l d = let q = d .sum in omega arith
+steps-by ρ N F s x (found p kept′) l d = let q = d .sum in omega arith
+steps-by ρ N F s x (failed kept′) l d = let q = d .sum in omega arith
+steps-by ρ N F s x (halted h p kept′) l d = let q = d .sum in omega arith
 
 module _ (P : ℕ) (trail : List ℕ) (F : List Bool) (w : Walk) where
   path-long : (t : ℕ) → length (pathOn P trail t) ≡ t
@@ -157,7 +157,7 @@ module _ (P : ℕ) (trail : List ℕ) (F : List Bool) (w : Walk) where
   unfolding resultBy outcomeBy
   result-steps = go (eqb (w .status) 1) (eqb (w .status) 3) (w .top)
     where
-      go : (b c : Bool) (t : ℕ) → stepsOf (pick b (halted outOfSteps (pathOn P trail t) F (w .steps)) (pick c (halted outOfRows (waitsOn P trail w) F (w .steps)) (outcomeBy P t trail F (w .steps)))) ≡ w .steps
+      go : (b c : Bool) (t : ℕ) → stepsOf (pick b (halted outOfSteps (pathOn P trail t) (asKept F (w .steps))) (pick c (halted outOfRows (waitsOn P trail w) (asKept F (w .steps))) (outcomeBy P t trail F (w .steps)))) ≡ w .steps
       go true c t = refl
       go false true t = refl
       go false false zero = refl
@@ -175,7 +175,7 @@ module _ (P : ℕ) (trail : List ℕ) (F : List Bool) (w : Walk) where
       by zero = omega arith
       by (suc t) = let a = path-long (suc t) in omega arith
 
-      go : (b c : Bool) → heldBy (pick b (halted outOfSteps (pathOn P trail (w .top)) F (w .steps)) (pick c (halted outOfRows (waitsOn P trail w) F (w .steps)) (outcomeBy P (w .top) trail F (w .steps)))) ≤ pick c (w .top + 1) (w .top) + countTrue F
+      go : (b c : Bool) → heldBy (pick b (halted outOfSteps (pathOn P trail (w .top)) (asKept F (w .steps))) (pick c (halted outOfRows (waitsOn P trail w) (asKept F (w .steps))) (outcomeBy P (w .top) trail F (w .steps)))) ≤ pick c (w .top + 1) (w .top) + countTrue F
       go true true = let a = path-long (w .top) in omega arith
       go true false = let a = path-long (w .top) in omega arith
       go false true = let a = waits-long P trail w in omega arith
@@ -215,7 +215,7 @@ module _ (W : List ℕ) (rows : List ℤ) (task : Task) (notes trail labs : List
     abbrev F₁ : List Bool
     F₁ = bitsOf notes₁ M
 
-    att-is : att ≡ (cameTo (P T) trail₁ w, (F₁, w .steps))
+    att-is : att ≡ (cameTo (P T) trail₁ w, asKept F₁ (w .steps))
     att-is = ap answered (d .same) ∙ answered-by (P T) trail₁ F₁ w
 
     -- all open pairs are pairs that have not failed
@@ -247,7 +247,7 @@ module _ (W : List ℕ) (rows : List ℤ) (task : Task) (notes trail labs : List
     steps-more : w .steps ≤ i .steps + M
     steps-more = rw (result-steps (P T) trail₁ F₁ w) at (go (getD F (i .row * P T) false) refl (H .spent (i .steps)) (d .same))
       where
-        go : (b : Bool) → getD F (i .row * P T) false ≡ b → (u : Bool) → enterUnless b u (inside H (graphOf T (A .holds) (A .n)) M) F (i .steps) (i .row * P T) ≡ resultBy (P T) trail₁ F₁ w
+        go : (b : Bool) → getD F (i .row * P T) false ≡ b → (u : Bool) → enterUnless b u (inside H (graphOf T (A .holds) (A .n)) M) (asKept F (i .steps)) (i .row * P T) ≡ resultBy (P T) trail₁ F₁ w
             → stepsOf (resultBy (P T) trail₁ F₁ w) ≤ i .steps + M
         go true o u e = rw (← e) (omega arith)
         go false o true e = rw (← e) (omega arith)

@@ -14,8 +14,8 @@ use Rattle.rules.specs.Answers.{haltAnswer, endAnswer}
 use Rattle.rules.specs.Basics.{wrote}
 use Rattle.rules.specs.Report.{bitAt, matchNumbers, numbersOf, labelsOf, fits}
 use Rattle.rules.specs.Search as R
-use Rattle.rules.specs.Search.{Match, End, Swept, Plan, Kept, Attempted, hit, miss, halts, haltingOf, sweep, byFit, byNext, onAnswer, withMatch, walkAt, labels, endOf, planOf, walkSearch}
-use Rattle.rules.specs.Walk.{Halt, outOfSteps, outOfRows, pairs, firstAt, pairWays}
+use Rattle.rules.specs.Search.{Match, End, Swept, Plan, Attempted, hit, miss, halts, haltingOf, sweep, onAnswer, walkAt, labels, endOf, planOf, walkSearch}
+use Rattle.rules.specs.Walk.{Halt, outOfSteps, outOfRows, pairs, firstAt, pairWays, Kept}
 use Rattle.laws.proofs.Appended.{wrote-none, wrote-on, length-wrote-at, numbers-on, labels-on, fits-room}
 use Rattle.laws.proofs.Limits.{match-long, numbers-long}
 use Rattle.rules.specs.Working.{bitsOf}
@@ -143,7 +143,7 @@ module _ (W : List ℕ) (rows : List ℤ) (task : Task) (notes trail : List ℕ)
     by-att (hit p) s ls q = by-fit p s ls (fits (length numbers) (length labs) (A .measures) (i .matches) (i .labels) (labels (pl A) p)) refl q
 
     keeps : Keeps r
-    keeps = by-att (att .0) (att .1 .1) (v .more) (v .told)
+    keeps = by-att (att .0) (att .1 .steps) (v .more) (v .told)
 
     pub sound-more : r .end ≡ 0 → Sound W rows task notes′ trail′ labs′ r
     sound-more e = keeps .sound e

@@ -9,8 +9,8 @@ use lib.ListN.{length, getD, drop, replicate}
 use Rattle.rules.specs.Answers.{endAnswer}
 use Rattle.rules.specs.Basics.{pick, wrote}
 use Rattle.rules.specs.Report.{bitAt, numbersOf, labelsOf, notesOf, zeros, fits}
-use Rattle.rules.specs.Search.{Match, End, unfinished, Swept, Kept, Attempted, hit, miss, halts, walkAt, sweep, planOf}
-use Rattle.rules.specs.Walk.{outOfSteps, outOfRows, pairs, firstAt, pairWays}
+use Rattle.rules.specs.Search.{Match, End, unfinished, Swept, Attempted, hit, miss, halts, walkAt, sweep, planOf, Standing, standAt}
+use Rattle.rules.specs.Walk.{outOfSteps, outOfRows, pairs, firstAt, pairWays, Kept, asKept}
 use Rattle.rules.specs.Working.{bitsOf}
 use Rattle.pairs.specs.declared.Walk.{Walk}
 use Rattle.pairs.specs.Layout.{N, layoutOf, haltsIn, mostPairs}
@@ -65,10 +65,10 @@ abbrev pub pre : List Match → Swept Kept → Swept Kept
 pre ms r = record { matches = ms ++ r .matches; end = r .end; state = r .state }
 
 -- the definition's search from a start on
-abbrev pub swp : Asked → ℕ → ℕ → ℕ → ℕ → ℕ → ℕ → Kept → Swept Kept
-swp A nums labs k i m l kept =
+abbrev pub swp : Asked → ℕ → ℕ → ℕ → Standing → Kept → Swept Kept
+swp A nums labs k at kept =
     sweep (walkAt (haltsIn (A .layout) (A .more) (A .n)) (pairWays (A .holds) (A .n) (pl A)) (pairs (length (pl A)) (A .n)) (firstAt (length (pl A))))
-    (planOf (pl A) (A .n) (A .more) (A .skip) (fits nums labs (A .measures))) k i m l kept
+    (planOf (pl A) (A .n) (A .more) (A .skip) (fits nums labs (A .measures))) k at kept
 
 -- The search stands so far, in the buffers whose report began as num₁ and lab₁: the matches done
 -- are written, and what the definition's search still comes to from here on makes the goal of it.
@@ -76,7 +76,7 @@ pub record SoFar (T : List ℕ) (rows : List ℤ) (task : Task) (num₁ : List �
   pub fuel : ℕ
   pub done : List Match
   pub enough : task .size .rows ≤ i .row + fuel
-  pub total : pre done (swp (askedOf T rows task) (length num₁) (length lab₁) fuel (i .row) (i .matches) (i .labels) (bitsOf notes (N (layoutOf T (task .size)) (task .size .rows)), i .steps)) ≡ goal
+  pub total : pre done (swp (askedOf T rows task) (length num₁) (length lab₁) fuel (standAt (i .row) (i .matches) (i .labels)) (asKept (bitsOf notes (N (layoutOf T (task .size)) (task .size .rows))) (i .steps))) ≡ goal
   pub going : i .end ≡ 0
   pub none-open : i .opened ≡ 0
   pub m-is : i .matches ≡ length done
@@ -95,7 +95,7 @@ pub record Reported (A : Asked) (W : Swept Kept) (num₁ : List ℤ) (lab₁ : L
   pub end : r .end ≡ endAnswer (W .end)
   pub matches : r .matches ≡ length (W .matches)
   pub labels : r .labels ≡ length (labelsOf (pl A) (W .matches))
-  pub steps : r .steps ≡ W .state .1
+  pub steps : r .steps ≡ W .state .steps
   pub waits : WaitsAt (W .end) r
   pub numbers-is : numbers ≡ wrote num₁ 0 (numbersOf (A .rows) (A .measures) (pl A) 0 (W .matches))
   pub labels-is : labs ≡ wrote lab₁ 0 (labelsOf (pl A) (W .matches))
@@ -103,7 +103,7 @@ pub record Reported (A : Asked) (W : Swept Kept) (num₁ : List ℤ) (lab₁ : L
 -- the search has come to its goal
 pub record Came (A : Asked) (num₁ : List ℤ) (lab₁ : List ℕ) (goal : Swept Kept) (notes : List ℕ) (numbers : List ℤ) (labs : List ℕ) (r : Sweep) : Type 0 where
   pub reported : Reported A goal num₁ lab₁ numbers labs r
-  pub kept : bitsOf notes (N (A .layout) (A .n)) ≡ goal .state .0
+  pub kept : bitsOf notes (N (A .layout) (A .n)) ≡ goal .state .failed
 
 -- what the loop over the starts leaves: whatever goal the search had stood so far for, it has come
 -- to it
@@ -143,5 +143,5 @@ gapped pairs F = F ++ replicate (pairs - length F) false
 -- it waits.
 pub record Answered (T : List ℕ) (rows : List ℤ) (task : Task) (n₀ t₀ : List ℕ) (num₀ : List ℤ) (lab₀ : List ℕ) (notes trail : List ℕ) (numbers : List ℤ) (labs : List ℕ) (r : Sweep) : Type 0 where
   pub reported : Reported (askedOf T rows task) (searchOf (askedOf T rows task) (length num₀) (length lab₀)) num₀ lab₀ numbers labs r
-  pub notes-is : notes ≡ wrote n₀ 0 (notesOf (gapped (task .pairs) ((searchOf (askedOf T rows task) (length num₀) (length lab₀)) .state .0)))
+  pub notes-is : notes ≡ wrote n₀ 0 (notesOf (gapped (task .pairs) ((searchOf (askedOf T rows task) (length num₀) (length lab₀)) .state .failed)))
   pub trailed : Trailed (task .pairs) t₀ trail r

@@ -11,12 +11,13 @@ use lib.Seq.{take-append-seam, drop-append-seam, drop-at}
 use Rattle.rules.specs.Basics.{bytes, wrote}
 use Rattle.rules.specs.Rows.{Table}
 use Rattle.rules.specs.Query.{Measure}
-use Rattle.rules.specs.Search.{Match, Swept, Kept, labels}
+use Rattle.rules.specs.Search.{Match, Swept, labels}
 use Rattle.rules.specs.Report.{measured, twoOf, measureNumbers, matchNumbers, numbersOf, labelsOf}
 use Rattle.rules.specs.Answers.{Task, stopped}
 use Rattle.rules.specs.Program.{signedDecimal, measureText, measuresText, matchLine, matchLines, headerLine, searchText}
 use Rattle.laws.proofs.Limits.{match-long}
 use Rattle.header.specs.Report.{numberAt, headerText, resultsText, fieldText, lineText, linesText, reportText}
+use Rattle.rules.specs.Walk.{Kept}
 
 pub results-printed : (t : Table) (row : ℕ) (ls : List ℕ) (ms : List Measure) (rest : List ℤ)
     → resultsText (length ms) (measureNumbers t row ls ms ++ rest) ≡ measuresText t row ls ms
@@ -72,7 +73,7 @@ lines-printed t k (x ∷ xs) ns ls = go (labels (t .places) (x .path)) (lines-pr
 -- With the promise of the search, the numbers and labels of its matches in front of what the lent
 -- buffers held, the report is the search's text.
 pub report-printed : (t : Task) (r : Swept Kept) (numbers : List ℤ) (labelBytes : List ℕ)
-    → reportText (stopped r) (length (r .matches)) (r .state .1) (length (t .measures))
+    → reportText (stopped r) (length (r .matches)) (r .state .steps) (length (t .measures))
     (wrote numbers 0 (numbersOf (t .table) (t .measures) (t .places) 0 (r .matches)))
     (wrote labelBytes 0 (labelsOf (t .places) (r .matches)))
     ≡ searchText t r

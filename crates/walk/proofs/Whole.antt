@@ -11,7 +11,7 @@ use native.Mathlib.Omega.{arith}
 use borrow.Author.Tests.{eq-eqb, ne-eqb}
 use lib.ListN.{length, getD}
 use Rattle.rules.specs.Report.{bitAt}
-use Rattle.rules.specs.Walk.{Halting, enterUnless, inside}
+use Rattle.rules.specs.Walk.{Halting, enterUnless, inside, asKept}
 use Rattle.laws.proofs.Machine.{resume-one, resume-waits}
 use Rattle.rules.specs.Working.{bitsOf, resume}
 use Rattle.laws.proofs.Notes.{bitsOf-at}
@@ -262,10 +262,10 @@ comes-out : (H : Halting) (T : Layout) (holds : ℕ → ℕ → Bool) (n : ℕ) 
 unfolding resumed stack resume outcomeBy
 comes-out H T holds n quiet notes trail w g last = go (w .top) refl
   where
-    none : (t : ℕ) → t ≡ 0 → resume H (graphOf T holds n) (N T n) (stack (P T) trail t) (bitsOf notes (N T n)) (w .steps) ≡ outcomeBy (P T) t trail (bitsOf notes (N T n)) (w .steps)
+    none : (t : ℕ) → t ≡ 0 → resume H (graphOf T holds n) (N T n) (stack (P T) trail t) (asKept (bitsOf notes (N T n)) (w .steps)) ≡ outcomeBy (P T) t trail (bitsOf notes (N T n)) (w .steps)
     none t e = rw e
 
-    go : (t : ℕ) → w .top ≡ t → resume H (graphOf T holds n) (N T n) (stack (P T) trail (w .top)) (bitsOf notes (N T n)) (w .steps) ≡ outcomeBy (P T) (w .top) trail (bitsOf notes (N T n)) (w .steps)
+    go : (t : ℕ) → w .top ≡ t → resume H (graphOf T holds n) (N T n) (stack (P T) trail (w .top)) (asKept (bitsOf notes (N T n)) (w .steps)) ≡ outcomeBy (P T) (w .top) trail (bitsOf notes (N T n)) (w .steps)
     go zero e = none (w .top) e
     go (suc t) e = let l : 0 < w .top = omega arith in top-end H T holds n quiet notes trail w g l (rw (last l .spot .place) (last l .end))
 
@@ -366,7 +366,7 @@ module _ (H : Halting) (T : Layout) (holds : ℕ → ℕ → Bool) (n : ℕ) (qu
   first-same false o = rw (bit-is T holds n notes trail i s h false o) (go (H .spent s) refl)
     where
       go : (u : Bool) → H .spent s ≡ u
-          → facing H T holds n notes trail (walkAt 0 s 0 i (i * P T) 1) (i * P T + 0) ≡ enterUnless false (H .spent s) (inside H (graphOf T holds n) (N T n)) (bitsOf notes (N T n)) s (i * P T)
+          → facing H T holds n notes trail (walkAt 0 s 0 i (i * P T) 1) (i * P T + 0) ≡ enterUnless false (H .spent s) (inside H (graphOf T holds n) (N T n)) (asKept (bitsOf notes (N T n)) s) (i * P T)
       go true d = rw d
       go false d =
           let z : i * P T + 0 ≡ i * P T = omega arith in
