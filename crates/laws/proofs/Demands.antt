@@ -19,7 +19,7 @@ use Rattle.rules.specs.Preferment.{Preferred, Reports, setting}
 use Rattle.rules.specs.Search.{Match, End, done, full, stuck, unfinished, Finished, openOf, Skip, pastLast, Swept, Terms, within, whole, walkSearch, plainSearch, labels, endOf, plainFrom, shownOne, shown, shownEnd, seek}
 use Rattle.rules.specs.Report.{numbersOf, labelsOf, fits, bytesFor, bitAt, notesOf, zeros}
 use Rattle.rules.specs.Answers.{treeIn, Task, taskOf, letterHolds, walkedOn, backtracked, Buffers, Memory, refusal, haltAnswer, endAnswer, answerBy, answerWithin, reportOf, walkWithin, plainOf, reportWithin, plainReport, accepted, searchWithin, searchOf, P, F}
-use Rattle.rules.specs.Entries.{entriesIn, entryOf, entriesOf}
+use Rattle.rules.specs.Entries.{reportedIn, reportedOne, reportedAll}
 use Rattle.rules.specs.Demands.{reportIn, Demand2, Demand3, Demands, Allowing}
 use Rattle.laws.proofs.Accepted.{Granted, accepted-within, answer-within, granted-when, places-are}
 use Rattle.laws.proofs.Allowed.{search-bound, search-each, search-within, end-within, EndWithin, allows-begins, finished-whole, search-allowed, allowance-enough}
@@ -247,8 +247,8 @@ module _ (a : Option ℕ) (q : List ℕ) (rows : List ℤ) (lent : Buffers) (ok 
   unfolding accepted reportWithin reportOf
   counts-in = (refl, refl)
 
-  entries-in : entriesIn q m ≡ entriesOf (t .table) (t .measures) (shown (t .places) (r .matches))
-  unfolding entriesIn accepted reportWithin reportOf wrote taskOf
+  entries-in : reportedIn q m ≡ reportedAll (t .table) (t .measures) (shown (t .places) (r .matches))
+  unfolding reportedIn accepted reportWithin reportOf wrote taskOf
   entries-in =
       entries-read (t .table) (t .measures) (t .places) 0 (r .matches) (drop (0 + length (numbersOf (t .table) (t .measures) (t .places) 0 (r .matches))) (lent .numbers))
       (drop (0 + length (labelsOf (t .places) (r .matches))) (lent .labels))
@@ -272,11 +272,11 @@ module _ (a : Option ℕ) (q : List ℕ) (rows : List ℤ) (lent : Buffers) (ok 
   like f =
       report-same (answerWithin a q rows lent) (answerBy q rows lent (plainOf q rows lent)) t lent r (plainOf q rows lent) (answer-same q rows lent r (plainOf q rows lent) (third-in .like-all f .1)) (third-in .like-all f .0)
 
-  first-plain : Begins (entriesIn q m) (entriesOf (t .table) (t .measures) (shown (t .places) (plainOf q rows lent .matches)))
+  first-plain : Begins (reportedIn q m) (reportedAll (t .table) (t .measures) (shown (t .places) (plainOf q rows lent .matches)))
   first-plain =
       rw entries-in
       (let b = shown-begins (t .places) (r .matches) (plainOf q rows lent .matches) (third-in .like-first) in
-      (entriesOf (t .table) (t .measures) (b .0), ap (entriesOf (t .table) (t .measures)) (b .1) ∙ map-append (entryOf (t .table) (t .measures)) (shown (t .places) (r .matches)) (b .0)))
+      (reportedAll (t .table) (t .measures) (b .0), ap (reportedAll (t .table) (t .measures)) (b .1) ∙ map-append (reportedOne (t .table) (t .measures)) (shown (t .places) (r .matches)) (b .0)))
 
   steps-in : m .result .steps ≡ r .state .steps
   unfolding accepted

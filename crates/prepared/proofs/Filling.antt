@@ -33,7 +33,7 @@ use Rattle.reading.specs.Reading.{queryAnswer, Asked}
 use Rattle.reading.specs.declared.Query.{Query}
 use Rattle.prepared.specs.declared.Prepared.{Prepared}
 use Rattle.table_room.specs.Words.{measuresAt, testsAt, needed, Sizing}
-use Rattle.prepared.specs.Ready.{refusal, Ready, Fills, PreparedAs}
+use Rattle.prepared.specs.Ready.{refusedPrepared, Ready, Fills, PreparedAs}
 use Rattle.prepared.proofs.Clear.{few-places, few-values, no-answer}
 
 -- ---- the table is filled
@@ -184,7 +184,7 @@ module _ (s nodes defines measures : List ℕ) (q : Query) (T₀ : List ℕ) (f 
 -- ---- the ways through `prepare_in`
 
 module _ (s measures₀ nodes defines measures : List ℕ) (q : Query) (a : Asked s measures₀ nodes defines measures q) (T : List ℕ) where
-  pub not-ready : (q .answer ≡ 0 → ⊥) → (p : Prepared) → p ≡ refusal (q .answer) (q .offset) → PreparedAs s T T p
+  pub not-ready : (q .answer ≡ 0 → ⊥) → (p : Prepared) → p ≡ refusedPrepared (q .answer) (q .offset) → PreparedAs s T T p
   not-ready d p e =
       rw e
       (record {
@@ -215,7 +215,7 @@ module _ (s measures₀ nodes defines measures : List ℕ) (q : Query) (a : Aske
         }
 
     module _ (k : ℕ) (ek : (k ≡ needed s defines (q .places * q .factor) (q .letters)) × (k ≤ 16076)) (t : Bool) (et : t ≡ (ltb (length T) k || ltb 65535 (length T))) where
-      pub too-short : t ≡ true → (p : Prepared) → p ≡ refusal 255 0 → PreparedAs s T T p
+      pub too-short : t ≡ true → (p : Prepared) → p ≡ refusedPrepared 255 0 → PreparedAs s T T p
       too-short f p e =
           rw e
           (record {

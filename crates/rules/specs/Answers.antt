@@ -117,17 +117,17 @@ pub record Task : Type 0 where
 unfoldable pub skipOf : ℕ → ℕ → Skip
 skipOf mode c = pick (eqb mode 0) pastLast (pick (eqb mode 1) toNext (pick (eqb mode 2) (toFirst c) (toLast c)))
 
-unfoldable pub placesIn : Option (Tree pattern) → List Place
+unfoldable pub placesOfTree : Option (Tree pattern) → List Place
 unfolding unroll places
-placesIn none = []
-placesIn (some t) = places (unroll t)
+placesOfTree none = []
+placesOfTree (some t) = places (unroll t)
 
 unfoldable pub taskOf : List ℕ → List ℤ → Task
-unfolding treeIn placesIn tableOf parts skipOf
+unfolding treeIn placesOfTree tableOf parts skipOf
 taskOf q rows =
     record {
       table = tableOf (parts q .columns) rows;
-      places = placesIn (treeIn q);
+      places = placesOfTree (treeIn q);
       condition = parts q .condition;
       skip = skipOf (parts q .skip) (parts q .skipLetter);
       measures = parts q .measures;

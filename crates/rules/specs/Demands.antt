@@ -20,7 +20,7 @@ use Rattle.rules.specs.Walk.{Halt, outOfSteps, pairs, firstAt, pairWays,
 use Rattle.rules.specs.Search.{Match, End, unfinished, Finished, pastLast, Swept, labels, endOf, shown, shownEnd, foundIn, openOf, pathPairs, plainFrom}
 use Rattle.rules.specs.Report.{numbersOf, labelsOf, fits, bytesFor, bitAt, zeros}
 use Rattle.rules.specs.Answers.{tooDeep, treeIn, Task, taskOf, letterHolds, Buffers, Memory, Report, refused, endAnswer, answerWithin, walkWithin, plainOf, plainReport, searchWithin, searchOf, P, F}
-use Rattle.rules.specs.Entries.{entriesIn, entriesOf}
+use Rattle.rules.specs.Entries.{reportedIn, reportedAll}
 
 -- ---- what a caller sees
 
@@ -165,7 +165,7 @@ pub record Demands (a : Option ℕ) (q : List ℕ) (rows : List ℤ) (before : B
   pub label-count : after .result .labels ≡ length (labelsOf (taskOf q rows .places) (walkWithin a q rows before .matches))
   -- read from the report's buffers, the matches are those of the walk, in order, each with its
   -- labels and with the measures of its rows
-  pub reported : entriesIn q after ≡ entriesOf (taskOf q rows .table) (taskOf q rows .measures) (shown (taskOf q rows .places) (walkWithin a q rows before .matches))
+  pub reported : reportedIn q after ≡ reportedAll (taskOf q rows .table) (taskOf q rows .measures) (shown (taskOf q rows .places) (walkWithin a q rows before .matches))
   -- each match's numbers lead with its own, counted from 1; beyond them both buffers are unchanged
   pub numbers : after .buffers .numbers
       ≡ wrote (before .numbers) 0 (numbersOf (taskOf q rows .table) (taskOf q rows .measures) (taskOf q rows .places) 0 (walkWithin a q rows before .matches))
@@ -175,7 +175,7 @@ pub record Demands (a : Option ℕ) (q : List ℕ) (rows : List ℤ) (before : B
   -- where the search has not halted, the answer, the counts and both report buffers are those of
   -- plain backtracking; where it has, its matches are the first of them
   pub like-plain : (after .result .answer ≡ 16 → ⊥) → reportIn after ≡ plainReport q rows before
-  pub first-of-plain : Begins (entriesIn q after) (entriesOf (taskOf q rows .table) (taskOf q rows .measures) (shown (taskOf q rows .places) (plainOf q rows before .matches)))
+  pub first-of-plain : Begins (reportedIn q after) (reportedAll (taskOf q rows .table) (taskOf q rows .measures) (shown (taskOf q rows .places) (plainOf q rows before .matches)))
   -- the unused bits of a failed pair's flags are 0
   pub unused : (x : ℕ) → getD (walkWithin a q rows before .state .failed) x false ≡ true → x % factorOf tree < 2 ^ flagsAt (unroll tree) (x / factorOf tree % placesOf tree)
 

@@ -19,7 +19,7 @@ use Rattle.rules.specs.Walk.{countTrue}
 use Rattle.rules.specs.Search.{openOf}
 use Rattle.rules.specs.Answers.{pairsOf, Buffers, Result, taskOf, walkWithin, searchWithin, searchOf, Tested, testOf}
 use Rattle.rules.specs.Lots.{Named, Progress, begun, beginAnswer, lotWalk, callOf}
-use Rattle.rules.specs.Bench.{recordOf, asks, w1, X, any, Line, at, unstepped, refusal, same, equalZ, enough, line, aboveZero, agrees, ifGiven, withFactor, answering}
+use Rattle.rules.specs.Bench.{recordBytes, asks, w1, X, any, Line, at, unstepped, refusedLine, same, equalZ, enough, line, aboveZero, agrees, ifGiven, withFactor, answering}
 use Rattle.rules.specs.Report.{resultOf}
 
 -- ---- R-2, skip to a labelled row
@@ -27,7 +27,7 @@ use Rattle.rules.specs.Report.{resultOf}
 -- a query of one column whose skip record has a mode and a letter
 abbrev pub asksTo : String → ℕ → ℕ → List ℕ
 unfolding bytes
-asksTo text mode c = recordOf 1 (1 ∷ 0 ∷ []) ++ (recordOf 2 (bytes text) ++ recordOf 4 (mode ∷ c ∷ []))
+asksTo text mode c = recordBytes 1 (1 ∷ 0 ∷ []) ++ (recordBytes 2 (bytes text) ++ recordBytes 4 (mode ∷ c ∷ []))
 
 -- a line of a search that stops behind its last match, as the letter labels no row of it or its
 -- first row
@@ -53,12 +53,12 @@ skips =
     ∷ unstepped (asksTo "A*?" 2 65) (any 3) 3 (at 0 "" ∷ at 1 "" ∷ at 2 "" ∷ [])
     -- modes 0 and 1 demand 0, modes 2 and 3 a letter; there is no mode 4; a letter that is not in
     -- the pattern is 9
-    ∷ refusal (asksTo "A" 0 65) 2 3
-    ∷ refusal (asksTo "A" 1 65) 2 3
-    ∷ refusal (asksTo "A" 2 0) 2 3
-    ∷ refusal (asksTo "A" 3 64) 2 3
-    ∷ refusal (asksTo "A" 4 65) 2 3
-    ∷ refusal (asksTo "A" 3 66) 2 9
+    ∷ refusedLine (asksTo "A" 0 65) 2 3
+    ∷ refusedLine (asksTo "A" 1 65) 2 3
+    ∷ refusedLine (asksTo "A" 2 0) 2 3
+    ∷ refusedLine (asksTo "A" 3 64) 2 3
+    ∷ refusedLine (asksTo "A" 4 65) 2 3
+    ∷ refusedLine (asksTo "A" 3 66) 2 9
     ∷ []
 
 -- a match that does not fit is 13, also where it would name no next start
@@ -173,7 +173,7 @@ keepsOn l = tells (l .0) begun (l .0 .lent) (l .1)
 abbrev pub twoColumns : Named
 unfolding bytes pairsOf
 twoColumns =
-    let q : List ℕ = recordOf 1 (2 ∷ 0 ∷ []) ++ (recordOf 2 (bytes "A") ++ recordOf 4 (0 ∷ 0 ∷ [])) in
+    let q : List ℕ = recordBytes 1 (2 ∷ 0 ∷ []) ++ (recordBytes 2 (bytes "A") ++ recordBytes 4 (0 ∷ 0 ∷ [])) in
     record { query = q; largest = 2; allowance = none; lent = enough q (any 4) }
 
 -- the same with room for one match in the report
@@ -267,10 +267,10 @@ lotRooms =
 
 -- DEFINE c with offset 1 on the left, or on the right: above the constant 0, or above a column
 abbrev pub aheadLeft : ℕ → List ℕ
-aheadLeft c = recordOf 3 (c ∷ 1 ∷ 0 ∷ 1 ∷ 5 ∷ 0 ∷ 0 ∷ 0 ∷ 0 ∷ 0 ∷ 0 ∷ 0 ∷ 0 ∷ 0 ∷ [])
+aheadLeft c = recordBytes 3 (c ∷ 1 ∷ 0 ∷ 1 ∷ 5 ∷ 0 ∷ 0 ∷ 0 ∷ 0 ∷ 0 ∷ 0 ∷ 0 ∷ 0 ∷ 0 ∷ [])
 
 abbrev pub aheadRight : ℕ → List ℕ
-aheadRight c = recordOf 3 (c ∷ 1 ∷ 0 ∷ 0 ∷ 5 ∷ 1 ∷ 0 ∷ 1 ∷ 0 ∷ 0 ∷ 0 ∷ 0 ∷ 0 ∷ 0 ∷ [])
+aheadRight c = recordBytes 3 (c ∷ 1 ∷ 0 ∷ 0 ∷ 5 ∷ 1 ∷ 0 ∷ 1 ∷ 0 ∷ 0 ∷ 0 ∷ 0 ∷ 0 ∷ 0 ∷ [])
 
 -- a first call with so many of four rows present, buffers for 3: the answer and its offset
 pub record Refused : Type 0 where
@@ -294,7 +294,7 @@ lotRefusals =
     ∷ refusedAt (asks "A" (aheadRight 65) 0 []) 3 3 17 0
     ∷ refusedAt (asks "A" (aheadLeft 66) 0 []) 3 3 23 0
     -- 9 ranks before 17, and 17 before 10
-    ∷ refusedAt (asks "A $" [] 0 (recordOf 5 (1 ∷ 66 ∷ 0 ∷ 0 ∷ []))) 3 3 9 0
+    ∷ refusedAt (asks "A $" [] 0 (recordBytes 5 (1 ∷ 66 ∷ 0 ∷ 0 ∷ []))) 3 3 9 0
     ∷ refusedAt (asks "A $" [] 0 []) 4097 5 17 0
     -- 10 before 11: a largest number above 4,096, more rows than it, more than the slice holds
     ∷ refusedAt (asks "A" [] 0 []) 4097 3 10 0
@@ -493,12 +493,12 @@ averageLine q rows p ms ns = record { query = q; rows = rows; answer = 0; places
 unfoldable pub averageSearches : List Line
 unfolding bytes
 averageSearches =
-    averageLine (asks "A A" [] 0 (recordOf 5 (7 ∷ 0 ∷ 0 ∷ 0 ∷ []))) (minus 3 ∷ minus 4 ∷ []) 3 (at 0 "AA" ∷ []) (pos 1 ∷ pos 0 ∷ pos 2 ∷ pos 1 ∷ minus 3 ∷ [])
-    ∷ averageLine (asks "A+ B C?" [] 0 (recordOf 5 (7 ∷ 65 ∷ 0 ∷ 0 ∷ []) ++ recordOf 5 (7 ∷ 67 ∷ 0 ∷ 0 ∷ []))) (pos 3 ∷ pos 4 ∷ pos 9 ∷ []) 7 (at 0 "AAB" ∷ [])
+    averageLine (asks "A A" [] 0 (recordBytes 5 (7 ∷ 0 ∷ 0 ∷ 0 ∷ []))) (minus 3 ∷ minus 4 ∷ []) 3 (at 0 "AA" ∷ []) (pos 1 ∷ pos 0 ∷ pos 2 ∷ pos 1 ∷ minus 3 ∷ [])
+    ∷ averageLine (asks "A+ B C?" [] 0 (recordBytes 5 (7 ∷ 65 ∷ 0 ∷ 0 ∷ []) ++ recordBytes 5 (7 ∷ 67 ∷ 0 ∷ 0 ∷ []))) (pos 3 ∷ pos 4 ∷ pos 9 ∷ []) 7 (at 0 "AAB" ∷ [])
     (pos 1 ∷ pos 0 ∷ pos 3 ∷ pos 1 ∷ pos 3 ∷ pos 0 ∷ pos 0 ∷ [])
-    ∷ refusal (asks "A" [] 0 (recordOf 5 (8 ∷ 0 ∷ 0 ∷ 0 ∷ []))) 2 3
-    ∷ refusal (asks "A" [] 0 (recordOf 5 (7 ∷ 0 ∷ 1 ∷ 0 ∷ []))) 2 3
-    ∷ refusal (asks "A" [] 0 (recordOf 5 (7 ∷ 66 ∷ 0 ∷ 0 ∷ []))) 2 9
+    ∷ refusedLine (asks "A" [] 0 (recordBytes 5 (8 ∷ 0 ∷ 0 ∷ 0 ∷ []))) 2 3
+    ∷ refusedLine (asks "A" [] 0 (recordBytes 5 (7 ∷ 0 ∷ 1 ∷ 0 ∷ []))) 2 3
+    ∷ refusedLine (asks "A" [] 0 (recordBytes 5 (7 ∷ 66 ∷ 0 ∷ 0 ∷ []))) 2 9
     ∷ []
 
 -- ---- R-7, OR, NOT and the third truth
@@ -536,7 +536,7 @@ NOT = 3 ∷ []
 -- a DEFINE of kind 6 for A with so many entries; and the truth of A at the first row of X where
 -- that is its DEFINE
 abbrev pub defines : ℕ → List ℕ → List ℕ
-defines count entries = recordOf 6 (65 ∷ count ∷ entries)
+defines count entries = recordBytes 6 (65 ∷ count ∷ entries)
 
 unfoldable pub truthAtFirst : List ℕ → Truth
 unfolding conditionTruth taskOf bytes
@@ -601,19 +601,19 @@ entryLists =
     -- 16 entries
     ∷ sameTruth (truthAtFirst (defines 16 (ofTruth unknown ++ (NOT ++ (NOT ++ (NOT ++ (NOT ++ (NOT ++ (NOT ++ (NOT ++ (NOT ++ (NOT ++ (NOT ++ (NOT ++ (NOT ++ (NOT ++ (ofTruth yes ++ OR))))))))))))))))) yes
     -- kind 3: all that are not false, one unknown
-    ∷ sameTruth (truthAtFirst (recordOf 3 (65 ∷ 2 ∷ (trueBytes ++ unknownBytes)))) unknown
-    ∷ sameTruth (truthAtFirst (recordOf 3 (65 ∷ 2 ∷ (unknownBytes ++ falseBytes)))) no
-    ∷ sameTruth (truthAtFirst (recordOf 3 (65 ∷ 2 ∷ (trueBytes ++ trueBytes)))) yes
+    ∷ sameTruth (truthAtFirst (recordBytes 3 (65 ∷ 2 ∷ (trueBytes ++ unknownBytes)))) unknown
+    ∷ sameTruth (truthAtFirst (recordBytes 3 (65 ∷ 2 ∷ (unknownBytes ++ falseBytes)))) no
+    ∷ sameTruth (truthAtFirst (recordBytes 3 (65 ∷ 2 ∷ (trueBytes ++ trueBytes)))) yes
     -- no DEFINE, or one for another letter
     ∷ sameTruth (truthAtFirst []) yes
-    ∷ sameTruth (truthAtFirst (recordOf 6 (66 ∷ 1 ∷ ofTruth no))) yes
+    ∷ sameTruth (truthAtFirst (recordBytes 6 (66 ∷ 1 ∷ ofTruth no))) yes
     ∷ []
 
 -- so many free letters' DEFINEs, from a letter on, by turns of kind 3 and of kind 6
 abbrev pub manyDefines : ℕ → ℕ → List ℕ
 manyDefines zero c = []
-manyDefines (suc zero) c = recordOf 3 (c ∷ 1 ∷ trueBytes)
-manyDefines (suc (suc k)) c = recordOf 3 (c ∷ 1 ∷ trueBytes) ++ (recordOf 6 (suc c ∷ 1 ∷ ofTruth yes) ++ manyDefines k (suc (suc c)))
+manyDefines (suc zero) c = recordBytes 3 (c ∷ 1 ∷ trueBytes)
+manyDefines (suc (suc k)) c = recordBytes 3 (c ∷ 1 ∷ trueBytes) ++ (recordBytes 6 (suc c ∷ 1 ∷ ofTruth yes) ++ manyDefines k (suc (suc c)))
 
 -- whole searches
 unfoldable pub truthSearches : List Line
@@ -624,31 +624,31 @@ truthSearches =
     -- 100 or unequal to PREV: every row
     ∷ unstepped (asks "A" (defines 4 (ofTruth unknown ++ (NOT ++ (ofTruth yes ++ OR)))) 0 []) X 2 (at 0 "A" ∷ at 1 "A" ∷ at 2 "A" ∷ at 3 "A" ∷ at 4 "A" ∷ [])
     -- kinds 3 and 6 in any order
-    ∷ unstepped (asks "A B" (recordOf 6 (66 ∷ 2 ∷ (ofTruth yes ++ NOT)) ++ recordOf 3 (65 ∷ 1 ∷ trueBytes)) 0 []) X 3 (at 0 "AB" ∷ [])
+    ∷ unstepped (asks "A B" (recordBytes 6 (66 ∷ 2 ∷ (ofTruth yes ++ NOT)) ++ recordBytes 3 (65 ∷ 1 ∷ trueBytes)) 0 []) X 3 (at 0 "AB" ∷ [])
     -- 26 of both kinds together are accepted, 27 are 2
     ∷ unstepped (asks "A" (manyDefines 26 65) 0 []) [] 2 []
-    ∷ refusal (asks "A" (manyDefines 26 65 ++ defines 1 (ofTruth yes)) 0 []) 2 2
+    ∷ refusedLine (asks "A" (manyDefines 26 65 ++ defines 1 (ofTruth yes)) 0 []) 2 2
     -- two DEFINEs for A are 8, of whatever kinds
-    ∷ refusal (asks "A" (defines 1 (ofTruth yes) ++ defines 1 (ofTruth yes)) 0 []) 2 8
-    ∷ refusal (asks "A" (recordOf 3 (65 ∷ 1 ∷ trueBytes) ++ defines 1 (ofTruth yes)) 0 []) 2 8
+    ∷ refusedLine (asks "A" (defines 1 (ofTruth yes) ++ defines 1 (ofTruth yes)) 0 []) 2 8
+    ∷ refusedLine (asks "A" (recordBytes 3 (65 ∷ 1 ∷ trueBytes) ++ defines 1 (ofTruth yes)) 0 []) 2 8
     -- runs short: NOT of nothing, AND of one, OR of one; leaves two results
-    ∷ refusal (asks "A" (defines 1 NOT) 0 []) 2 3
-    ∷ refusal (asks "A" (defines 2 (ofTruth yes ++ AND)) 0 []) 2 3
-    ∷ refusal (asks "A" (defines 2 (ofTruth yes ++ OR)) 0 []) 2 3
-    ∷ refusal (asks "A" (defines 3 (ofTruth yes ++ (AND ++ ofTruth yes))) 0 []) 2 3
-    ∷ refusal (asks "A" (defines 2 (ofTruth yes ++ ofTruth yes)) 0 []) 2 3
+    ∷ refusedLine (asks "A" (defines 1 NOT) 0 []) 2 3
+    ∷ refusedLine (asks "A" (defines 2 (ofTruth yes ++ AND)) 0 []) 2 3
+    ∷ refusedLine (asks "A" (defines 2 (ofTruth yes ++ OR)) 0 []) 2 3
+    ∷ refusedLine (asks "A" (defines 3 (ofTruth yes ++ (AND ++ ofTruth yes))) 0 []) 2 3
+    ∷ refusedLine (asks "A" (defines 2 (ofTruth yes ++ ofTruth yes)) 0 []) 2 3
     -- a count of 0 and of 17; byte 4; a byte too many, one too few; no letter; a comparison that
     -- does not fit
-    ∷ refusal (asks "A" (defines 0 []) 0 []) 2 3
-    ∷ refusal (asks "A" (defines 17 (ofTruth yes ++ replicate 16 3)) 0 []) 2 3
+    ∷ refusedLine (asks "A" (defines 0 []) 0 []) 2 3
+    ∷ refusedLine (asks "A" (defines 17 (ofTruth yes ++ replicate 16 3)) 0 []) 2 3
     ∷ unstepped (asks "A" (defines 16 (ofTruth yes ++ replicate 15 3)) 0 []) [] 2 []
-    ∷ refusal (asks "A" (defines 2 (ofTruth yes ++ (4 ∷ []))) 0 []) 2 3
-    ∷ refusal (asks "A" (defines 1 (ofTruth yes ++ (3 ∷ []))) 0 []) 2 3
-    ∷ refusal (asks "A" (defines 2 (ofTruth yes)) 0 []) 2 3
-    ∷ refusal (asks "A" (recordOf 6 (64 ∷ 1 ∷ ofTruth yes)) 0 []) 2 3
-    ∷ refusal (asks "A" (defines 1 (0 ∷ 1 ∷ 0 ∷ 1 ∷ 0 ∷ 0 ∷ 0 ∷ 0 ∷ 0 ∷ 100 ∷ 0 ∷ 0 ∷ 0 ∷ [])) 0 []) 2 3
+    ∷ refusedLine (asks "A" (defines 2 (ofTruth yes ++ (4 ∷ []))) 0 []) 2 3
+    ∷ refusedLine (asks "A" (defines 1 (ofTruth yes ++ (3 ∷ []))) 0 []) 2 3
+    ∷ refusedLine (asks "A" (defines 2 (ofTruth yes)) 0 []) 2 3
+    ∷ refusedLine (asks "A" (recordBytes 6 (64 ∷ 1 ∷ ofTruth yes)) 0 []) 2 3
+    ∷ refusedLine (asks "A" (defines 1 (0 ∷ 1 ∷ 0 ∷ 1 ∷ 0 ∷ 0 ∷ 0 ∷ 0 ∷ 0 ∷ 100 ∷ 0 ∷ 0 ∷ 0 ∷ [])) 0 []) 2 3
     -- a DEFINE behind the skip record is 2
-    ∷ refusal (asks "A" [] 0 (defines 1 (ofTruth yes))) 2 2
+    ∷ refusedLine (asks "A" [] 0 (defines 1 (ofTruth yes))) 2 2
     ∷ []
 
 -- 17 in lots: an offset above 0 among a kind 6 DEFINE's entries, also under NOT; not for a letter
@@ -675,7 +675,7 @@ sameBit false b = not b
 abbrev pub judges : ℕ → List ℕ → Bool → ℕ → Bool
 unfolding testOf bytes
 judges count comparisons h k =
-    let r = testOf (asks "A" (recordOf 3 (65 ∷ count ∷ comparisons)) 0 []) X 65 0 in
+    let r = testOf (asks "A" (recordBytes 3 (65 ∷ count ∷ comparisons)) 0 []) X 65 0 in
     eqb (r .answer) 0 && (sameBit (r .holds) h && eqb (r .judged) k)
 
 -- what the test of a letter says, with its offset: the answer, whether the letter holds, and how
@@ -707,18 +707,18 @@ judgedTable =
     ∷ tests (asks "A" [] 0 []) 65 0 (says 0 true 0 0)
     ∷ tests (asks "A" (defines 1 (ofTruth yes)) 0 []) 65 0 (says 0 true 0 0)
     ∷ tests (asks "A" (defines 1 (ofTruth unknown)) 0 []) 65 0 (says 0 false 0 0)
-    ∷ tests (asks "B" (recordOf 3 (65 ∷ 2 ∷ (falseBytes ++ trueBytes))) 0 []) 65 0 (says 0 false 1 0)
+    ∷ tests (asks "B" (recordBytes 3 (65 ∷ 2 ∷ (falseBytes ++ trueBytes))) 0 []) 65 0 (says 0 false 1 0)
     -- a byte that is no letter; rows at and behind n: column 0 unequal to 100 reads no row, PREV of
     -- row 5 is row 4
-    ∷ tests (asks "A" (recordOf 3 (65 ∷ 1 ∷ trueBytes)) 0 []) 0 0 (says 0 true 0 0)
-    ∷ tests (asks "A" (recordOf 3 (65 ∷ 2 ∷ (falseBytes ++ trueBytes))) 0 []) 65 5 (says 0 false 1 0)
-    ∷ tests (asks "A" (recordOf 3 (65 ∷ 1 ∷ (0 ∷ 0xFF ∷ 1 ∷ 0 ∷ 0 ∷ 0 ∷ 0 ∷ 0 ∷ 130 ∷ 0 ∷ 0 ∷ 0 ∷ []))) 0 []) 65 5 (says 0 true 1 0)
+    ∷ tests (asks "A" (recordBytes 3 (65 ∷ 1 ∷ trueBytes)) 0 []) 0 0 (says 0 true 0 0)
+    ∷ tests (asks "A" (recordBytes 3 (65 ∷ 2 ∷ (falseBytes ++ trueBytes))) 0 []) 65 5 (says 0 false 1 0)
+    ∷ tests (asks "A" (recordBytes 3 (65 ∷ 1 ∷ (0 ∷ 0xFF ∷ 1 ∷ 0 ∷ 0 ∷ 0 ∷ 0 ∷ 0 ∷ 130 ∷ 0 ∷ 0 ∷ 0 ∷ []))) 0 []) 65 5 (says 0 true 1 0)
     ∷ tests (asks "A" [] 0 []) 65 5 (says 0 true 0 0)
     -- refused: by the query, by the text (5 and 14), by the rows
     ∷ tests [] 65 0 (says 2 false 0 0)
     ∷ tests (asks "A)" [] 0 []) 65 0 (says 5 false 0 1)
     ∷ tests (asks "(A" [] 0 []) 65 0 (says 14 false 0 2)
-    ∷ tests (recordOf 1 (2 ∷ 0 ∷ []) ++ (recordOf 2 (65 ∷ []) ++ recordOf 4 (0 ∷ 0 ∷ []))) 65 0 (says 10 false 0 0)
+    ∷ tests (recordBytes 1 (2 ∷ 0 ∷ []) ++ (recordBytes 2 (65 ∷ []) ++ recordBytes 4 (0 ∷ 0 ∷ []))) 65 0 (says 10 false 0 0)
     ∷ []
 
 -- ---- ISO/IEC 19075-5, clause 6.2, the order of preferment
