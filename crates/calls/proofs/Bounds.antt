@@ -11,8 +11,8 @@ use lib.Dec.{ltb}
 use lib.IntN.{ℤ}
 use lib.ListN.{length, drop, replicate, length-replicate}
 use Rattle.rules.specs.Basics.{wrote}
-use Rattle.rules.specs.Walk.{Halt, outOfSteps, outOfRows, pairs, firstAt, pairWays}
-use Rattle.rules.specs.Search.{Match, End, done, full, stuck, unfinished, openOf, Attempted, hit, miss, halts, Swept, Plan, ended, noStart, below, withMatch, byFit, byNext, onAnswer, sweep, Kept, walkAt, haltingOf, planOf, walkSearch}
+use Rattle.rules.specs.Walk.{Halt, outOfSteps, outOfRows, pairs, firstAt, pairWays, Kept, asKept}
+use Rattle.rules.specs.Search.{Match, End, done, full, stuck, unfinished, openOf, Attempted, hit, miss, halts, Swept, Plan, ended, noStart, below, withMatch, Standing, standAt, oneRowOn, behindMatch, onMatch, onAnswer, sweep, walkAt, haltingOf, planOf, walkSearch}
 use Rattle.rules.specs.Report.{fits, numbersOf, labelsOf, notesOf, zeros, bytesFor}
 use Rattle.rules.specs.Answers.{letterHolds, Task, walkedOn, haltAnswer, endAnswer, reportOf, Buffers, Memory, accepted}
 use Rattle.rules.specs.Lots.{Named, presentRows, presentTask, namedPairs, beginAnswer, stays, lotTerms, lotWalk, lotMemory, Leaves}
@@ -34,28 +34,29 @@ module _ {S : Type 0} (att : ℕ → S → Attempted × S) (plan : Plan) (on : (
   off false i st h j u e = let z : _≡_ {A = ℕ} 0 1 = cc in absurd (omega arith)
   off true i st h j u e = let z : i ≡ j = cc in omega arith
 
-  abbrev Rest : (ℕ → ℕ → ℕ → S → Swept S) → Type 0
-  Rest f = (i m l : ℕ) (st : S) → Behind (f i m l st) i
+  abbrev Rest : (Standing → S → Swept S) → Type 0
+  Rest f = (at : Standing) (st : S) → Behind (f at st) (at .start)
 
-  fit : (f : ℕ → ℕ → ℕ → S → Swept S) → Rest f → (i m l : ℕ) (p : List ℕ) (st : S) (o : Option ℕ) → plan .next i p ≡ o → (t : Bool)
-      → Behind (byFit t (record { start = i; path = p }) st (λ _. byNext o st (λ j. f j (suc m) (l + plan .rows p) st))) i
-  fit f ih i m l p st o d false h j u e = let z : _≡_ {A = ℕ} 0 1 = cc in absurd (omega arith)
-  fit f ih i m l p st none d true h j u e = let z : _≡_ {A = ℕ} 0 1 = cc in absurd (omega arith)
-  fit f ih i m l p st (some v) d true h j u e = omega (arith, ih v (suc m) (l + plan .rows p) st h j u e, on i p v d)
+  fit : (f : Standing → S → Swept S) → Rest f → (at : Standing) (p : List ℕ) (st : S) (t : Bool) (o : Option ℕ) → plan .next (at .start) p ≡ o
+      → Behind (onMatch t o (record { start = at .start; path = p }) st (λ j. f (behindMatch plan at p j) st)) (at .start)
+  fit f ih at p st false o d h j u e = let z : _≡_ {A = ℕ} 0 1 = cc in absurd (omega arith)
+  fit f ih at p st true none d h j u e = let z : _≡_ {A = ℕ} 0 1 = cc in absurd (omega arith)
+  fit f ih at p st true (some v) d h j u e = omega (arith, ih (behindMatch plan at p v) st h j u e, on (at .start) p v d)
 
-  by : (f : ℕ → ℕ → ℕ → S → Swept S) → Rest f → (i m l : ℕ) (o : Attempted) (st : S) → Behind (onAnswer plan f i m l o st) i
-  by f ih i m l miss st h j u e = omega (arith, ih (suc i) m l st h j u e)
-  by f ih i m l (halts w p) st h j u e = let z : i ≡ j = cc in omega arith
-  by f ih i m l (hit p) st h j u e = fit f ih i m l p st (plan .next i p) refl (plan .fits m l p) h j u e
+  by : (f : Standing → S → Swept S) → Rest f → (at : Standing) (o : Attempted) (st : S) → Behind (onAnswer plan f at o st) (at .start)
+  by f ih at miss st h j u e = omega (arith, ih (oneRowOn at) st h j u e)
+  by f ih at (halts w p) st h j u e = let z : at .start ≡ j = cc in omega arith
+  by f ih at (hit p) st h j u e = fit f ih at p st (plan .fits (at .matches) (at .labels) p) (plan .next (at .start) p) refl h j u e
 
   sweep-behind : (k : ℕ) → Rest (sweep att plan k)
   unfolding sweep
-  sweep-behind zero i m l st = off (plan .more) i st
-  sweep-behind (suc k) i m l st = start (sweep-behind k) (ltb i (plan .n))
+  sweep-behind zero at st = off (plan .more) (at .start) st
+  sweep-behind (suc k) at st = start (sweep-behind k) (ltb (at .start) (plan .n))
     where
-      start : Rest (sweep att plan k) → (t : Bool) → Behind (below t (ended (noStart (plan .more) i) st) (λ _. onAnswer plan (sweep att plan k) i m l (att i st .0) (att i st .1))) i
-      start ih false = off (plan .more) i st
-      start ih true = by (sweep att plan k) ih i m l (att i st .0) (att i st .1)
+      start : Rest (sweep att plan k) → (t : Bool)
+          → Behind (below t (ended (noStart (plan .more) (at .start)) st) (λ _. onAnswer plan (sweep att plan k) at (att (at .start) st .0) (att (at .start) st .1))) (at .start)
+      start ih false = off (plan .more) (at .start) st
+      start ih true = by (sweep att plan k) ih at (att (at .start) st .0) (att (at .start) st .1)
 
 -- ---- how it may end
 
@@ -122,7 +123,7 @@ module _ (s : Named) (begins : beginAnswer s ≡ 0) (rows : List ℤ) (n : ℕ) 
   unfolding lotMemory accepted reportOf
   labels-are = refl
 
-  pub steps-are : left .result .steps ≡ walk .state .1
+  pub steps-are : left .result .steps ≡ walk .state .steps
   unfolding lotMemory accepted
   steps-are = refl
 
@@ -156,16 +157,16 @@ module _ (s : Named) (begins : beginAnswer s ≡ 0) (rows : List ℤ) (n : ℕ) 
       let b = sweep-behind (walkAt (haltingOf (lotTerms s last) (t .places) (t .table .n)) (pairWays (letterHolds t) (t .table .n) (t .places)) (pairs (length (t .places)) (s .largest)) (firstAt (length (t .places))))
       (planOf (t .places) (t .table .n) (not last) (t .skip) (fits (length (s .lent .numbers)) (length (s .lent .labels)) (t .measures)))
       (plan-on (t .places) (t .table .n) (not last) (t .skip) (fits (length (s .lent .numbers)) (length (s .lent .labels)) (t .measures)))
-      (t .table .n) 0 0 0 (replicate (pairs (length (t .places)) (s .largest)) false, 0) outOfRows i p e in
+      (t .table .n) (standAt 0 0 0) (asKept (replicate (pairs (length (t .places)) (s .largest)) false) 0) outOfRows i p e in
       omega arith
 
-  pub opened-within : (i : ℕ) (p : List ℕ) → walk .end ≡ unfinished outOfRows i p → length p ≤ walk .state .1
+  pub opened-within : (i : ℕ) (p : List ℕ) → walk .end ≡ unfinished outOfRows i p → length p ≤ walk .state .steps
   opened-within i p e =
       let o : length (openOf (walk .end)) ≡ length p = ap (λ (x : End Match). length (openOf x)) e in
       let d = demanded .demand3 .sum in
       omega arith
 
-  pub steps-few : walk .state .1 ≤ 17192452096
+  pub steps-few : walk .state .steps ≤ 17192452096
   unfolding presentTask
   steps-few =
       let S : ℕ = length (t .places) in
@@ -197,30 +198,30 @@ module _ (s : Named) (begins : beginAnswer s ≡ 0) (rows : List ℤ) (n : ℕ) 
   unfolding lotMemory accepted reportOf
   labels-kept = let f = labels-fit in length-wrote-at (s .lent .labels) 0 (labelsOf (t .places) (walk .matches)) (omega arith)
 
-  pairs-are : length (walk .state .0) ≡ namedPairs s
+  pairs-are : length (walk .state .failed) ≡ namedPairs s
   unfolding namedPairs
   pairs-are = demanded .demand3 .pairs-kept ∙ ap (λ (k : ℕ). pairs k (s .largest)) (demanded .counted)
 
   pub notes-kept : length (left .buffers .notes) ≡ length (s .lent .notes)
   unfolding lotMemory accepted
   notes-kept =
-      let a = length-notes (walk .state .0) in
+      let a = length-notes (walk .state .failed) in
       let b = ap bytesFor pairs-are in
       let c = ok .notes-long in
-      length-wrote-at (s .lent .notes) 0 (notesOf (walk .state .0)) (omega arith)
+      length-wrote-at (s .lent .notes) 0 (notesOf (walk .state .failed)) (omega arith)
 
-  zeros-long : length (zeros (length (walk .state .0))) ≡ namedPairs s
+  zeros-long : length (zeros (length (walk .state .failed))) ≡ namedPairs s
   unfolding zeros
-  zeros-long = length-replicate (length (walk .state .0)) 0 ∙ pairs-are
+  zeros-long = length-replicate (length (walk .state .failed)) 0 ∙ pairs-are
 
-  trail-room : 0 + length (zeros (length (walk .state .0))) ≤ length (s .lent .trail)
+  trail-room : 0 + length (zeros (length (walk .state .failed))) ≤ length (s .lent .trail)
   trail-room = let a = zeros-long in let b = ok .trail-long in omega arith
 
   pub trail-kept : length (left .buffers .trail) ≡ length (s .lent .trail)
   unfolding lotMemory accepted
-  trail-kept = length-wrote-at (s .lent .trail) 0 (zeros (length (walk .state .0))) trail-room
+  trail-kept = length-wrote-at (s .lent .trail) 0 (zeros (length (walk .state .failed))) trail-room
 
   -- and beyond the pairs the trail is as it was
   pub trail-beyond : drop (namedPairs s) (left .buffers .trail) ≡ drop (namedPairs s) (s .lent .trail)
   unfolding lotMemory accepted
-  trail-beyond = ap (λ (k : ℕ). drop k (wrote (s .lent .trail) 0 (zeros (length (walk .state .0))))) (sym zeros-long) ∙ behind (s .lent .trail) (zeros (length (walk .state .0))) ∙ ap (λ (k : ℕ). drop k (s .lent .trail)) zeros-long
+  trail-beyond = ap (λ (k : ℕ). drop k (wrote (s .lent .trail) 0 (zeros (length (walk .state .failed))))) (sym zeros-long) ∙ behind (s .lent .trail) (zeros (length (walk .state .failed))) ∙ ap (λ (k : ℕ). drop k (s .lent .trail)) zeros-long

@@ -11,8 +11,8 @@ use native.Mathlib.Omega.{arith}
 use lib.IntN.{ℤ}
 use lib.ListN.{length}
 use Rattle.rules.specs.Basics.{pick}
-use Rattle.rules.specs.Walk.{outOfRows}
-use Rattle.rules.specs.Search.{End, unfinished, Swept, Kept, Match}
+use Rattle.rules.specs.Walk.{outOfRows, Kept}
+use Rattle.rules.specs.Search.{End, unfinished, Swept, Match}
 use Rattle.rules.specs.Report.{labelsOf}
 use Rattle.rules.specs.Answers.{Buffers, Memory, Result}
 use Rattle.rules.specs.Lots.{Named, Progress, begun, presentTask, stays, lotTests, namedPairs, badLot, callRefusal, lotWalk, lotMemory, Called, callOf, Leaves}
@@ -131,7 +131,7 @@ module _ (s : Named) (pr : Progress) (rows₁ : List ℤ) (f : Feed) (b : Buffer
             sym (ap (λ (x : Result). x .matches) (r ∙ st .result)) ∙ matches-are s (u .begins) rows₁ n (u .lot) la in
             let l : f .labels ≡ length (labelsOf (presentTask s rows₁ n .places) (lotWalk s rows₁ n la .matches)) =
             sym (ap (λ (x : Result). x .labels) (r ∙ st .result)) ∙ labels-are s (u .begins) rows₁ n (u .lot) la in
-            let t : f .steps ≡ lotWalk s rows₁ n la .state .1 = sym (ap (λ (x : Result). x .steps) (r ∙ st .result)) ∙ steps-are s (u .begins) rows₁ n (u .lot) la in
+            let t : f .steps ≡ lotWalk s rows₁ n la .state .steps = sym (ap (λ (x : Result). x .steps) (r ∙ st .result)) ∙ steps-are s (u .begins) rows₁ n (u .lot) la in
             let a = matches-behind s (u .begins) rows₁ n (u .lot) la (w .0) (w .1 .0) (w .1 .1) in
             let c = labels-fit s (u .begins) rows₁ n (u .lot) la in
             let g = labels-long in

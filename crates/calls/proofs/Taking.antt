@@ -13,8 +13,8 @@ use lib.IntN.{ℤ}
 use lib.ListN.{length, getD, take, drop, length-take}
 use Rattle.rules.specs.Basics.{pick}
 use Rattle.rules.specs.Query.{columnsOf, parts}
-use Rattle.rules.specs.Walk.{outOfRows, pairs}
-use Rattle.rules.specs.Search.{unfinished, Swept, Kept}
+use Rattle.rules.specs.Walk.{outOfRows, pairs, Kept}
+use Rattle.rules.specs.Search.{unfinished, Swept}
 use Rattle.rules.specs.Report.{labelsOf, bytesFor}
 use Rattle.rules.specs.Answers.{taskOf, Buffers, Memory, Result}
 use Rattle.rules.specs.Lots.{Named, Progress, presentRows, presentTask, namedPairs, beginAnswer, stays, callRefusal, lotWalk, lotMemory, Called, callOf, Leaves}
@@ -184,7 +184,7 @@ module _ (s : Named) (T : List ℕ) (p : Prepared) (ready : Ready (s .query) T p
         sym (ap (λ (x : Result). x .labels) result-is) ∙ labels-are s (u .begins) rows₁ n₁ (u .lot) false
         ∙ ap (λ (pl : List _). length (labelsOf pl (lotWalk s rows₁ n₁ false .matches))) places-same
 
-    stepped : c .feed .steps ≡ lotWalk s rows₁ n₁ false .state .1
+    stepped : c .feed .steps ≡ lotWalk s rows₁ n₁ false .state .steps
     stepped = sym (ap (λ (x : Result). x .steps) result-is) ∙ steps-are s (u .begins) rows₁ n₁ (u .lot) false
 
     long-trail : length trail ≡ length (s .lent .trail)

@@ -12,8 +12,8 @@ use lib.ListN.{length, replicate}
 use borrow.Author.Tests.{lt-leb, eqb-true}
 use Rattle.rules.specs.Basics.{pick}
 use Rattle.rules.specs.Query.{textOf}
-use Rattle.rules.specs.Walk.{pairs, firstAt, pairWays}
-use Rattle.rules.specs.Search.{Skip, Swept, Kept, haltingOf, planOf, walkSearch}
+use Rattle.rules.specs.Walk.{pairs, firstAt, pairWays, Kept, asKept}
+use Rattle.rules.specs.Search.{Skip, Swept, seek, haltingOf, planOf, walkSearch}
 use Rattle.rules.specs.Places.{Place}
 use Rattle.rules.specs.Report.{fits}
 use Rattle.rules.specs.Answers.{letterHolds, Task, walkedOn, endAnswer, reportOf, Buffers, Memory, offsetAt, refused, accepted}
@@ -25,12 +25,12 @@ use Rattle.calls.proofs.Bounds.{steps-few}
 
 -- an allowance that the search does not pass changes nothing
 allowed : (largest : ℕ) (more : Bool) (holds : ℕ → ℕ → Bool) (n : ℕ) (pl : List Place) (skip : Skip) (fit : ℕ → ℕ → List ℕ → Bool) (a : ℕ)
-    → walkSearch (record { largest = largest; more = more; allowance = none }) holds n pl skip fit .state .1 ≤ a
-    → walkSearch (record { largest = largest; more = more; allowance = some a }) holds n pl skip fit ≡ walkSearch (record { largest = largest; more = more; allowance = none }) holds n pl skip fit
+    → walkSearch (record { largest = largest; more = more; allowance = none }) (seek holds n pl skip fit) .state .steps ≤ a
+    → walkSearch (record { largest = largest; more = more; allowance = some a }) (seek holds n pl skip fit) ≡ walkSearch (record { largest = largest; more = more; allowance = none }) (seek holds n pl skip fit)
 unfolding walkSearch haltingOf planOf
 allowed largest more holds n pl skip fit a b =
     sweep-allowed (haltingOf (record { largest = largest; more = more; allowance = some a }) pl n) (haltingOf (record { largest = largest; more = more; allowance = none }) pl n) (λ x. refl) (λ s. refl) a
-    (λ s lt. lt-leb a s lt) (pairWays holds n pl) (pairs (length pl) largest) (firstAt (length pl)) (planOf pl n more skip fit) n 0 0 0 (replicate (pairs (length pl) largest) false, 0) b
+    (λ s lt. lt-leb a s lt) (pairWays holds n pl) (pairs (length pl) largest) (firstAt (length pl)) (planOf pl n more skip fit) n 0 0 0 (asKept (replicate (pairs (length pl) largest) false) 0) b
 
 -- a call that is not refused: whatever was named may begin
 pub call-begins : (s : Named) (p : Progress) (rows : List ℤ) (present : ℕ) → callRefusal s p rows present ≡ 0 → beginAnswer s ≡ 0
@@ -75,12 +75,12 @@ module _ (s : Named) where
       unfolding lotWalk walkedOn presentTask
       walk-same =
           let t : Task = presentTask s rows n in
-          let b : walkSearch (lotTerms s last) (letterHolds t) (t .table .n) (t .places) (t .skip) (fits (length (s .lent .numbers)) (length (s .lent .labels)) (t .measures)) .state .1 ≤ 18446744073709551615 =
+          let b : walkSearch (lotTerms s last) (seek (letterHolds t) (t .table .n) (t .places) (t .skip) (fits (length (s .lent .numbers)) (length (s .lent .labels)) (t .measures))) .state .steps ≤ 18446744073709551615 =
           (let z = steps-few s begins rows n lot last in omega arith) in
           let w : (o : Option ℕ) → o ≡ none
-          → walkSearch (record { largest = s .largest; more = not last; allowance = o }) (letterHolds t) (t .table .n) (t .places) (t .skip) (fits (length (s .lent .numbers)) (length (s .lent .labels)) (t .measures)) .state .1 ≤ 18446744073709551615
-          → walkSearch (record { largest = s .largest; more = not last; allowance = some 18446744073709551615 }) (letterHolds t) (t .table .n) (t .places) (t .skip) (fits (length (s .lent .numbers)) (length (s .lent .labels)) (t .measures))
-          ≡ walkSearch (record { largest = s .largest; more = not last; allowance = o }) (letterHolds t) (t .table .n) (t .places) (t .skip) (fits (length (s .lent .numbers)) (length (s .lent .labels)) (t .measures)) =
+          → walkSearch (record { largest = s .largest; more = not last; allowance = o }) (seek (letterHolds t) (t .table .n) (t .places) (t .skip) (fits (length (s .lent .numbers)) (length (s .lent .labels)) (t .measures))) .state .steps ≤ 18446744073709551615
+          → walkSearch (record { largest = s .largest; more = not last; allowance = some 18446744073709551615 }) (seek (letterHolds t) (t .table .n) (t .places) (t .skip) (fits (length (s .lent .numbers)) (length (s .lent .labels)) (t .measures)))
+          ≡ walkSearch (record { largest = s .largest; more = not last; allowance = o }) (seek (letterHolds t) (t .table .n) (t .places) (t .skip) (fits (length (s .lent .numbers)) (length (s .lent .labels)) (t .measures))) =
           λ o d c. rw d (allowed (s .largest) (not last) (letterHolds t) (t .table .n) (t .places) (t .skip) (fits (length (s .lent .numbers)) (length (s .lent .labels)) (t .measures)) 18446744073709551615 (rw d at c)) in
           w (s .allowance) e b
 
