@@ -11,7 +11,7 @@ use std::path::Path;
 use std::process::{Child, ChildStdin, Command, Stdio};
 use std::sync::mpsc::{channel, Receiver, RecvTimeoutError};
 use std::thread::{sleep, spawn};
-use std::time::Duration;
+use std::time::{Duration, Instant};
 
 const COMMAND: &str = env!("CARGO_BIN_EXE_mireladle-match");
 const ROOT: &str = concat!(env!("CARGO_MANIFEST_DIR"), "/..");
@@ -72,17 +72,36 @@ impl Running {
         assert_eq!(self.child.try_wait().unwrap(), None);
     }
 
-    /// Exit status, the lines that are left, and messages.
+    /// Exit status, the lines that are left, and messages of a command that has to end.
     fn end(mut self) -> (i32, Vec<String>, String) {
-        let mut messages = String::new();
-        let stderr = self.child.stderr.as_mut().unwrap();
-        stderr.read_to_string(&mut messages).unwrap();
-        let status = self.child.wait().unwrap();
+        let mut stderr = self.child.stderr.take().unwrap();
+        let messages = spawn(move || {
+            let mut messages = String::new();
+            stderr.read_to_string(&mut messages).unwrap();
+            messages
+        });
+        let began = Instant::now();
+        let status = loop {
+            if let Some(status) = self.child.try_wait().unwrap() {
+                break status;
+            }
+            assert!(began.elapsed() < LONG, "it does not end");
+            sleep(Duration::from_millis(5));
+        };
         let status = status
             .code()
             .unwrap_or_else(|| 128 + status.signal().unwrap());
+        let messages = messages.join().unwrap();
         let messages = messages.replace(env!("CARGO_TARGET_TMPDIR"), "");
         (status, self.lines.iter().collect(), messages)
+    }
+}
+
+/// A test that fails leaves no command behind that follows a file for ever.
+impl Drop for Running {
+    fn drop(&mut self) {
+        let _ = self.child.kill();
+        let _ = self.child.wait();
     }
 }
 
