@@ -7,6 +7,7 @@ use super::draft::{self, Draft, Input, Numbers, Room, Size};
 use super::mix;
 use super::random::Random;
 use super::texts;
+use crate::pattern;
 use crate::query::{COMPARE, CONDITION, DEFINE, TEXT};
 use crate::search;
 
@@ -68,14 +69,26 @@ pub fn suited(random: &mut Random, size: &Size) -> Draft {
     draft
 }
 
-/// A nest of up to three repetitions of nothing.
+/// A nest of up to three repetitions of nothing, on a row or more.
 fn nested(random: &mut Random, size: &Size) -> Draft {
-    let deep = 1 + random.below(3);
-    let body = texts::nested(random, deep);
-    let text = random.pick(&[body.clone(), [&body[..], b" B"].concat()]);
-    let n = random.below(size.rows.min(9));
-    draft::with_text(random, size, Numbers::Low, &text, n)
+    let pairs = size.pairs.max(FEWEST_PAIRS);
+    loop {
+        let deep = 1 + random.below(3);
+        let body = texts::nested(random, deep);
+        let text = random.pick(&[body.clone(), [&body[..], b" B"].concat()]);
+        let Ok(tree) = pattern::judge(&text) else {
+            continue;
+        };
+        let most_rows = pairs / (tree.count_with_end() as usize * tree.factor());
+        if most_rows > 2 {
+            let n = 1 + random.below(size.rows.min(most_rows - 1));
+            return draft::with_text(random, size, Numbers::Low, &text, n);
+        }
+    }
 }
+
+/// What a nest needs to show something.
+const FEWEST_PAIRS: usize = 600;
 
 /// The input of a draft in lots: notes and trail are measured by the largest n, numbers
 /// and labels by the whole table in one run.
@@ -126,7 +139,10 @@ pub fn cut(random: &mut Random, draft: &Draft) -> Cut {
     let largest = (n + random.pick(&[0, 0, 1, 3, all])) as u64;
     let mut calls = Vec::new();
     let mut present = random.pick(&[0, 0, 1, n]).min(n);
-    let most_calls = 3 + random.below(10);
+    let most_calls = match random.chance(15) {
+        true => 2 * n,
+        false => 3 + random.below(10),
+    };
     while present < n && calls.len() < most_calls {
         push(random, &mut calls, present, all, columns, largest);
         present = match random.below(4) {

@@ -317,13 +317,13 @@ pub const STREAMS: [Stream; 63] = [
     random(
         "any-feed",
         "feeds that no call wrote, with any buffers: what lies outside stays as it is",
-        20_000,
+        8_000,
         lots::any_feed,
     ),
     random(
         "lots",
         "lots: random cuttings of inputs of all sorts, with odd calls, up to 8 rows",
-        20_000,
+        12_000,
         lots::random,
     ),
     random(
