@@ -142,10 +142,13 @@ impl Feed {
         words
     }
 
-    /// Takes other numbers for those that were named first.
+    /// Takes another allowance for the one that was named first. Another largest n is
+    /// another search, which begins anew.
     pub fn rename(&mut self, largest: u64, allowance: u64) {
-        self.largest = largest;
-        self.allowance = (allowance != WITHOUT).then_some(allowance);
+        match largest == self.largest {
+            true => self.allowance = (allowance != WITHOUT).then_some(allowance),
+            false => *self = Feed::begin(largest, allowance),
+        }
     }
 
     /// P(N+1)F, where the largest n is N.
