@@ -58,8 +58,9 @@ const SEED: u64 = 1;
 const PRINTED: usize = 3;
 /// How many cases of each stream a fault may pass unseen.
 const UNSEEN: usize = 3_000;
-/// How long a fault's case is shrunk in the gate.
-const SHRINKING: Duration = Duration::from_millis(100);
+/// How long a fault's case is shrunk in the gate, where only that it is found is of
+/// interest.
+const SHRINKING: Duration = Duration::from_millis(20);
 /// How many standard inputs the program gets in the gate.
 const STDINS: usize = 4_000;
 

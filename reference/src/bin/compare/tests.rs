@@ -1,5 +1,5 @@
 //! The comparison itself, with the reference in the place of the product: it
-//! agrees with itself, each fault put on it is found, and what is found shrinks.
+//! agrees with itself, faults put on it are found, and what is found shrinks.
 
 use super::*;
 use crate::case::Call;
@@ -116,9 +116,11 @@ fn the_lots_end_in_each_way() {
     assert!(stays > 2_000, "{stays}");
 }
 
+/// Of all faults one in eight: `compare` itself puts every one of them on the product, and
+/// `compare --itself --fault` on the reference.
 #[test]
-fn each_fault_is_found_and_shrunk() {
-    for fault in faults::all() {
+fn faults_are_found_and_shrunk() {
+    for fault in faults::all().step_by(8) {
         let faulty = Faulty::new(&Reference, fault);
         let Some(found) = find(&faulty, fault) else {
             panic!("{} is not found", fault.name);
