@@ -98,7 +98,7 @@ module _ (s nodes defines measures : List ℕ) (q : Query) (T₀ : List ℕ) (f 
       let e : length (textOf s) ≡ min (f .whole .parts .len) (length (drop (f .whole .parts .start) s)) = ap length (sym (d .text)) ∙ length-take _ _ in
       omega (arith, e, d .short)
 
-  module _ (T₁ : List ℕ) (m : M.Tabled measures (q .measures) T₀ T₁ (measuresAt (q .places * q .factor))) where
+  module _ (T₁ : List ℕ) (m : M.MeasuresTabled measures (q .measures) T₀ T₁ (measuresAt (q .places * q .factor))) where
     pub fill-tests : T.Preparable s (q .columns) defines (q .letters) T₁ (testsAt (q .places * q .factor))
     fill-tests =
         record {
@@ -132,8 +132,8 @@ module _ (s nodes defines measures : List ℕ) (q : Query) (T₀ : List ℕ) (f 
             small = let l = f .small in let a = t .len in let b = m .long in omega arith;
           }
 
-      module _ (T₃ : List ℕ) (end : ℕ) (u : (h : E.Unrolling nodes (q .top) (q .places) (q .factor) T₂) → E.Tabled (h .tree) (q .places * q .factor) T₂ T₃ end) where
-        tabled : E.Tabled tree (q .places * q .factor) T₂ T₃ end
+      module _ (T₃ : List ℕ) (end : ℕ) (u : (h : E.Unrolling nodes (q .top) (q .places) (q .factor) T₂) → E.PlacesTabled (h .tree) (q .places * q .factor) T₂ T₃ end) where
+        tabled : E.PlacesTabled tree (q .places * q .factor) T₂ T₃ end
         unfolding fill-places
         tabled = u fill-places
 
