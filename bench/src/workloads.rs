@@ -46,6 +46,7 @@ pub fn searches() -> Vec<Workload> {
         valley(),
         offers(),
         nested(),
+        empty_rounds(),
         optional(),
         all_places(),
         overlapping(),
@@ -280,6 +281,21 @@ fn nested_query() -> QueryBuilder {
 fn nested_rows(n: usize) -> Vec<i32> {
     let mut random = Random::new(400);
     (0..n).map(|_| random.below(100) as i32).collect()
+}
+
+/// Repetitions whose rounds may take no row, two of them nested: F is 4. A and B
+/// overlap, and C never holds, so that every attempt fails in all its ways.
+fn empty_rounds() -> Workload {
+    let query = pattern(1, "((A*)* B?)* C")
+        .define('A', [col(0).lt(60)])
+        .define('B', [col(0).ge(40)])
+        .define('C', [col(0).gt(1_000)]);
+    Workload::new(
+        "empty-rounds",
+        "((A*)* B?)* C with no C, F = 4, 4,096 rows",
+        query,
+        vec![nested_rows(MOST_ROWS)],
+    )
 }
 
 fn optional() -> Workload {
