@@ -283,7 +283,7 @@ impl Holders {
         let mut holders = Vec::new();
         if I::FLAGGED {
             holders = vec![MOST_PLACES as u16; MOST_PLACES];
-            // An inner fork stands behind an outer one, so that it has the last word.
+            // An inner fork stands behind an outer one, so that what it writes stays.
             for fork in 0..pattern.count {
                 let copy = Pattern::flagged_copy(pattern.places[fork]);
                 holders[fork + 1..][..copy].fill(fork as u16);
