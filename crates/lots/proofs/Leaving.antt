@@ -85,7 +85,7 @@ module _ (s : Named) (begins : beginAnswer s ≡ 0) (a : ℕ) (al : s .allowance
 
   R-is : R ≡ D
   unfolding presentTask
-  R-is = found q (asKept T p) ready (record { rows = n; largest = s .largest; allowance = a; more = not last }) part notes₁ trail₁ fed t task nums labs
+  R-is = found q T p ready (record { rows = n; largest = s .largest; allowance = a; more = not last }) part notes₁ trail₁ fed t task nums labs
 
   places₂ : t₂ .places ≡ places U
   unfolding presentTask

@@ -346,7 +346,7 @@ module _ (s : Named) (begins : beginAnswer s ≡ 0) (a : ℕ) (al : s .allowance
             total =
                 ap (λ (k : ℕ). pre (before₁ .matches) (swp A nums labs n₂ (standAt i (length (before₁ .matches)) k) (asKept (bitsOf notes M) (before₁ .state .steps - length u)))) (sym (ap length labels-at))
                 ∙ ap (λ (G : List Bool). pre (before₁ .matches) (swp A nums labs n₂ (standAt i (length (before₁ .matches)) (length (labelsOf pl (before₁ .matches)))) (asKept G (before₁ .state .steps - length u)))) bits
-                ∙ ap (λ (k : ℕ). pre (before₁ .matches) (swp A nums labs n₂ (standAt i (length (before₁ .matches)) (length (labelsOf pl (before₁ .matches)))) (F, k - length u))) steps-is
+                ∙ ap (λ (k : ℕ). pre (before₁ .matches) (swp A nums labs n₂ (standAt i (length (before₁ .matches)) (length (labelsOf pl (before₁ .matches)))) (asKept F (k - length u)))) steps-is
                 ∙ ap (λ (ms : List Match). pre ms (swp A nums labs n₂ (standAt i (length ms) (length (labelsOf pl ms))) (asKept F (early .state .steps - length u)))) done-is
                 ∙ sym sought
 
