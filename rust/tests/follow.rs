@@ -425,8 +425,10 @@ fn more_rows_than_a_search_takes_are_refused_behind_what_was_found() {
     // One partition: nothing is waited for behind it.
     let mut running = Running::new(&query);
     let mut input = running.input();
-    write(&mut input, &format!("bus,price\n{}", rows("B1", 4097)));
+    write(&mut input, &format!("bus,price\n{}", rows("B1", 4096)));
     assert!(running.line().starts_with("match 1, lines 2 to 4097, AAA"));
+    running.is_silent();
+    write(&mut input, "B1,1\n");
     let message =
         "refused 10: standard input has more than 4,096 rows, and a search takes at most \
                    4,096; part it by --partition-by COLUMN, such as a day, or search a part of the \
@@ -535,11 +537,13 @@ fn a_wrong_row_is_an_error_with_its_line_behind_what_was_found() {
     let mut input = running.input();
     write(&mut input, "price\n2\n");
     assert_eq!(running.line(), "match 1, line 2, A");
-    write(&mut input, "1\n");
+    // What comes together with the wrong row, but before it, is told.
+    write(&mut input, "3\n1\n");
     let message =
-        "standard input:3:1: expected rows in the order of `price`, and so nothing below \
-                   that of line 2, found `1`\n    1\n    ^\n";
-    assert_eq!(running.end(), (2, vec![], String::from(message)));
+        "standard input:4:1: expected rows in the order of `price`, and so nothing below \
+                   that of line 3, found `1`\n    1\n    ^\n";
+    let second = vec![String::from("match 2, line 3, A")];
+    assert_eq!(running.end(), (2, second, String::from(message)));
     drop(input);
 }
 
