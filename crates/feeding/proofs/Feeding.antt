@@ -1,49 +1,18 @@
--- The ways through a call: it is made over the prepared query where the search waits, it is out of
--- order after the end, and where the search has stopped the result is as before.
+-- A call where the search does not wait: it is out of order after the end, and where the search has
+-- stopped the result is as before.
 use mathlib.Core.Path.{_≡_, refl, sym, _∙_, subst}
 use mathlib.Core.Bool.{Bool, true, false}
 use mathlib.Core.List.{List}
-use Prim.Native.Nat.{ℕ, _≤_}
-use native.Mathlib.Omega.{arith}
+use Prim.Native.Nat.{ℕ}
 use lib.IntN.{ℤ}
-use lib.ListN.{length}
 use Rattle.rules.specs.Answers.{Buffers, refused}
 use Rattle.rules.specs.Lots.{Named, Progress, callOf, unchanged}
-use Rattle.prepared.specs.Ready.{Given, PreparedAs}
-use Rattle.prepared.specs.declared.Prepared.{Prepared}
 use Rattle.outcome.specs.Results.{lent}
 use Rattle.calls.specs.declared.Call.{Call}
 use Rattle.calls.specs.declared.Fed.{Fed}
 use Rattle.calls.specs.Calls.{Stands, takenUp, Made, Calls}
-use Rattle.calls.specs.Steps.{before, after, refusing, asBefore, Told}
+use Rattle.calls.specs.Steps.{before, after, refusing, asBefore}
 use Rattle.calls.proofs.Standing.{is-stopped, done-going, done-ended, made-by, same-leaves}
-
--- ---- prepared, then called
-
-module _ (q T T′ : List ℕ) (p : Prepared) (h : PreparedAs q T T′ p) where
-  module _ (d : p .answer ≡ 255 → ⊥) where
-    pub may-call : Told T′ p
-    may-call = record { query = q; given = h .given d }
-
-    pub has-called : (c : Call) (rows : List ℤ) (notes trail : List ℕ) (numbers : List ℤ) (labels : List ℕ) (r : Fed) (notes′ trail′ : List ℕ) (numbers′ : List ℤ) (labels′ : List ℕ)
-        → ((q : List ℕ) → Given q T′ p → Calls (before c q rows notes trail numbers labels) (after r notes′ trail′ numbers′ labels′))
-        → Calls (before c q rows notes trail numbers labels) (after r notes′ trail′ numbers′ labels′)
-    has-called c rows notes trail numbers labels r notes′ trail′ numbers′ labels′ e = e q (h .given d)
-
-  -- a table of 16,076 words is enough
-  module _ (long : length T ≡ 16076) where
-    pub enough : p .answer ≡ 255 → ⊥
-    enough e = let z = h .no-room e (omega arith) in absurd (omega arith)
-
-    pub may-call-large : Told T′ p
-    may-call-large = may-call enough
-
-    pub has-called-large : (c : Call) (rows : List ℤ) (notes trail : List ℕ) (numbers : List ℤ) (labels : List ℕ) (r : Fed) (notes′ trail′ : List ℕ) (numbers′ : List ℤ) (labels′ : List ℕ)
-        → ((q : List ℕ) → Given q T′ p → Calls (before c q rows notes trail numbers labels) (after r notes′ trail′ numbers′ labels′))
-        → Calls (before c q rows notes trail numbers labels) (after r notes′ trail′ numbers′ labels′)
-    has-called-large = has-called enough
-
--- ---- where the search does not wait
 
 module _ (c : Call) (q : List ℕ) (rows : List ℤ) (notes trail : List ℕ) (numbers : List ℤ) (labels : List ℕ) where
   abbrev b : Buffers

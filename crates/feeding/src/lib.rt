@@ -1,18 +1,15 @@
 // The two calls of a search by lots (R-11), by value: what is kept goes in and comes out, with the
 // result. Where the search has stopped the result is as before; after the end a call is refused;
-// any other call prepares the query and is made over it (crates/calls).
+// any other call prepares the query and is made over it (crates/query_calls).
 // Promise: for what earlier calls left, result, buffers and what is kept are those of `callOf` of
-// the rules (specs/Calls). Any other state gets an answer too, which is left free.
-// Weakness: each call prepares the query anew, since nothing kept is relied on.
+// the rules (specs/Calls). Weakness: any other state gets an answer too, and which one is left free.
 use calls::Call;
 use calls::Fed;
 use calls::OUT_OF_ORDER;
-use calls::call_prepared;
 use calls::refuse;
 use lots::Feed;
 use outcome::Outcome;
-use prepared::NO_ROOM;
-use prepared::prepare;
+use query_calls::call_waiting;
 ghost use mathlib.Core.Path.{_≡_};
 ghost use mathlib.Core.Bool.{true, false};
 ghost use Rattle.outcome.specs.Results.{lent, memory};
@@ -38,69 +35,6 @@ fn as_before(feed: Feed) -> Fed
     Fed { feed, outcome }
 }
 
-// A call with a query for which only the largest table is long enough.
-fn feed_largest(
-    query: &[u8],
-    rows: &[i32],
-    notes: &mut [u8],
-    trail: &mut [u32],
-    numbers: &mut [i64],
-    labels: &mut [u8],
-    call: Call,
-) -> Fed
-    requires { ⌜ call .feed .answer ≡ 23 ⌝ }
-    ensures { λ r. ⌜ Calls (asked call (now (query .entry)) (now (rows .entry)) (now (notes .entry)) (now (trail .entry)) (now (numbers .entry)) (now (labels .entry))) (left r (now (notes .exit)) (now (trail .exit)) (now (numbers .exit)) (now (labels .exit))) ⌝ }
-{
-    let mut table = [0u16; 16076];
-    let p = prepare(query, &mut table);
-    call_prepared(&table, p, call, rows, notes, trail, numbers, labels)
-}
-
-// A call with a query for which a small table is too short.
-fn feed_large(
-    query: &[u8],
-    rows: &[i32],
-    notes: &mut [u8],
-    trail: &mut [u32],
-    numbers: &mut [i64],
-    labels: &mut [u8],
-    call: Call,
-) -> Fed
-    requires { ⌜ call .feed .answer ≡ 23 ⌝ }
-    ensures { λ r. ⌜ Calls (asked call (now (query .entry)) (now (rows .entry)) (now (notes .entry)) (now (trail .entry)) (now (numbers .entry)) (now (labels .entry))) (left r (now (notes .exit)) (now (trail .exit)) (now (numbers .exit)) (now (labels .exit))) ⌝ }
-{
-    let mut table = [0u16; 3532];
-    let p = prepare(query, &mut table);
-    let told = p.answer;
-    if told == NO_ROOM {
-        return feed_largest(query, rows, notes, trail, numbers, labels, call);
-    }
-    call_prepared(&table, p, call, rows, notes, trail, numbers, labels)
-}
-
-// A call where the search waits. A small table is tried first: it is enough for most queries, and
-// clearing a large one takes longer than the search of a few rows.
-fn feed_waiting(
-    query: &[u8],
-    rows: &[i32],
-    notes: &mut [u8],
-    trail: &mut [u32],
-    numbers: &mut [i64],
-    labels: &mut [u8],
-    call: Call,
-) -> Fed
-    requires { ⌜ call .feed .answer ≡ 23 ⌝ }
-    ensures { λ r. ⌜ Calls (asked call (now (query .entry)) (now (rows .entry)) (now (notes .entry)) (now (trail .entry)) (now (numbers .entry)) (now (labels .entry))) (left r (now (notes .exit)) (now (trail .exit)) (now (numbers .exit)) (now (labels .exit))) ⌝ }
-{
-    let mut table = [0u16; 768];
-    let p = prepare(query, &mut table);
-    let told = p.answer;
-    if told == NO_ROOM {
-        return feed_large(query, rows, notes, trail, numbers, labels, call);
-    }
-    call_prepared(&table, p, call, rows, notes, trail, numbers, labels)
-}
-
 // A call: 13, 15 and 16 stay the answer, and after the end a call is out of order.
 fn feed(
     query: &[u8],
@@ -116,7 +50,7 @@ fn feed(
     let kept = call.feed;
     let answer = kept.answer;
     if answer == WAITING {
-        return feed_waiting(query, rows, notes, trail, numbers, labels, call);
+        return call_waiting(query, rows, notes, trail, numbers, labels, call);
     }
     if answer == DONE {
         return refuse(kept, OUT_OF_ORDER, 0);

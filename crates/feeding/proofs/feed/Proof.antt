@@ -4,8 +4,8 @@ use borrow.Author.Needs.{needs}
 use Rattle.feeding.proofs.feed.Statement.{statement}
 use Rattle.feeding.proofs.feed.Tie as tie
 
-feed-waiting-requires : tie.Need-feed-waiting-requires
-feed-waiting-requires c κs = search needs
+call-waiting-requires : tie.Need-call-waiting-requires
+call-waiting-requires c κs = search needs
 
 same-length : tie.Need-same-length
 same-length c = search needs
@@ -38,7 +38,7 @@ pub feed-spec : {M : Type 1} → statement M
 feed-spec =
     tie.close
     (tie.spec
-    feed-waiting-requires
+    call-waiting-requires
     same-length
     same-length-2
     same-length-3

@@ -1,8 +1,8 @@
--- `feeding::feed_large` meets its contract by the laws of Feeding.
-use Rattle.feeding.proofs.Feeding.{may-call, has-called}
+-- `query_calls::call_waiting` meets its contract by the laws of Preparing.
+use Rattle.query_calls.proofs.Preparing.{may-call, has-called}
 use borrow.Author.Needs.{needs}
-use Rattle.feeding.proofs.feed_large.Statement.{statement}
-use Rattle.feeding.proofs.feed_large.Tie as tie
+use Rattle.query_calls.proofs.call_waiting.Statement.{statement}
+use Rattle.query_calls.proofs.call_waiting.Tie as tie
 
 slice-aggregate-prepare : tie.Need-slice-aggregate-prepare
 slice-aggregate-prepare c = search needs
@@ -10,8 +10,8 @@ slice-aggregate-prepare c = search needs
 prepare-requires : tie.Need-prepare-requires
 prepare-requires c κs = search needs
 
-feed-largest-requires : tie.Need-feed-largest-requires
-feed-largest-requires c κs = search needs
+call-large-requires : tie.Need-call-large-requires
+call-large-requires c κs = search needs
 
 same-length : tie.Need-same-length
 same-length c = search needs
@@ -49,13 +49,13 @@ same-length-8 c = search needs
 returns-2 : tie.Need-returns-2
 returns-2 c = search (needs, has-called)
 
-pub feed-large-spec : {M : Type 1} → statement M
-feed-large-spec =
+pub call-waiting-spec : {M : Type 1} → statement M
+call-waiting-spec =
     tie.close
     (tie.spec
     slice-aggregate-prepare
     prepare-requires
-    feed-largest-requires
+    call-large-requires
     same-length
     same-length-2
     same-length-3

@@ -1,8 +1,8 @@
--- `feeding::feed_largest` meets its contract by the laws of Feeding.
-use Rattle.feeding.proofs.Feeding.{may-call-large, has-called-large}
+-- `query_calls::call_largest` meets its contract by the laws of Preparing.
+use Rattle.query_calls.proofs.Preparing.{may-call-large, has-called-large}
 use borrow.Author.Needs.{needs}
-use Rattle.feeding.proofs.feed_largest.Statement.{statement}
-use Rattle.feeding.proofs.feed_largest.Tie as tie
+use Rattle.query_calls.proofs.call_largest.Statement.{statement}
+use Rattle.query_calls.proofs.call_largest.Tie as tie
 
 slice-aggregate-prepare : tie.Need-slice-aggregate-prepare
 slice-aggregate-prepare c = search needs
@@ -31,8 +31,8 @@ same-length-4 c = search needs
 returns : tie.Need-returns
 returns c = search (needs, has-called-large)
 
-pub feed-largest-spec : {M : Type 1} → statement M
-feed-largest-spec =
+pub call-largest-spec : {M : Type 1} → statement M
+call-largest-spec =
     tie.close
     (tie.spec
     slice-aggregate-prepare
