@@ -56,9 +56,9 @@ use Rattle.outcome.proofs.Outcome.Laws as O′
 use Rattle.lots.specs.declared.Feed.{Feed}
 use Rattle.lots.proofs.Feed as T
 use Rattle.lots.proofs.Feed.Laws as T′
-use Rattle.feeding.specs.declared.Fed.{Fed}
-use Rattle.feeding.proofs.Fed as F
-use Rattle.feeding.proofs.Fed.Laws as F′
+use Rattle.calls.specs.declared.Fed.{Fed}
+use Rattle.calls.proofs.Fed as F
+use Rattle.calls.proofs.Fed.Laws as F′
 use Rattle.feeding.proofs.more as callee
 
 -- ---- the call's MIR
