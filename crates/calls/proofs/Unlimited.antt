@@ -1,5 +1,5 @@
--- Without an allowance: the largest number of 64 bits is an allowance that no search by lots passes,
--- so whatever is named without one is as if it were named with that.
+-- Without an allowance: the largest number of 64 bits is an allowance that no search by lots
+-- passes, so whatever is named without one is as if it were named with that.
 use mathlib.Core.Path.{_≡_, refl, ap, sym, _∙_}
 use mathlib.Core.Bool.{Bool, true, false, not}
 use mathlib.Core.List.{List}

@@ -1,5 +1,6 @@
--- A call of a search by lots (R-11): what the state that is kept between calls stands for (`Stands`),
--- and what a call promises (`Calls`). The definition of a call is `callOf` of the rules, specs/Lots.
+-- A call of a search by lots (R-11): what the state that is kept between calls stands for
+-- (`Stands`), and what a call promises (`Calls`). The definition of a call is `callOf` of the rules,
+-- specs/Lots.
 use mathlib.Core.Path.{_≡_}
 use mathlib.Core.Bool.{Bool, false}
 use mathlib.Core.List.{List}

@@ -1,5 +1,5 @@
--- Calls one behind the other (R-11): any cutting of the rows into lots gives the search of the whole
--- table in one run.
+-- Calls one behind the other (R-11): any cutting of the rows into lots gives the search of the
+-- whole table in one run.
 use mathlib.Core.Path.{_≡_}
 use mathlib.Core.Bool.{Bool, true, false}
 use mathlib.Core.List.{List, [], _∷_}

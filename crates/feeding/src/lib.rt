@@ -2,7 +2,8 @@
 // result. Where the search has stopped the result is as before; after the end a call is refused;
 // any other call prepares the query and is made over it (crates/query_calls).
 // Promise: for what earlier calls left, result, buffers and what is kept are those of `callOf` of
-// the rules (specs/Calls). Weakness: any other state gets an answer too, and which one is left free.
+// the rules (specs/Calls). Weakness: any other state gets an answer too, and which one is left
+// free.
 use calls::Call;
 use calls::Fed;
 use calls::OUT_OF_ORDER;

@@ -1,5 +1,5 @@
-// A call of a search by lots (R-11) where the search waits: the query is prepared in a table that is
-// long enough, and the call is made over it (crates/calls).
+// A call of a search by lots (R-11) where the search waits: the query is prepared in a table that
+// is long enough, and the call is made over it (crates/calls).
 // Promise: that of a call (crates/calls, specs/Calls). Weakness: each call prepares the query anew,
 // since nothing kept is relied on.
 use calls::Call;
