@@ -1,7 +1,8 @@
 //! Links the library of preparing and running, where it is there: `rt staticlib bench_c` builds it,
 //! and so does `bench/run`. Without it the bench has no workload `prepared`. And looks whether the
-//! product's library, which the package `mireladle` links, has an allowance of steps and the
-//! depot-by-month table: an older one that MIRELADLE_LIB names has not, and neither is measured.
+//! product's library, which the package `mireladle` links, has an allowance of steps, the
+//! depot-by-month table and rows in lots: what an older one that MIRELADLE_LIB names has not is not
+//! measured.
 
 use std::env;
 use std::fs;
@@ -19,6 +20,7 @@ fn main() {
         "depots",
         "no depot-by-month table is measured",
     );
+    look_for("mireladle_more", "lots", "no rows in lots are measured");
 }
 
 fn link_bench_c() {

@@ -105,15 +105,28 @@ enum mireladle_answer {
      * fit gives 13, whatever its labels. */
     MIRELADLE_NO_SKIP_ROW = 15,
     /* The search stopped since its next step would have been one more than it was allowed. Only
-     * mireladle_search_within() gives this. The matches found by then stand whole in the report;
+     * mireladle_search_within() and searches by lots give this. The matches found by then stand whole in the report;
      * there may be others. Where 13 or 15 comes first, that is the answer. */
     MIRELADLE_OUT_OF_STEPS = 16,
+    /* The query looks ahead: its pattern has a `$`, or a letter of the pattern reads a row behind its
+     * own, in any comparison of its DEFINE. Rows that are still to come could then change what was
+     * found, so no search by lots takes it. Only mireladle_more() and mireladle_last() give this,
+     * ranked after 9. */
+    MIRELADLE_LOOKS_AHEAD = 17,
     /* A partition of the depot-by-month table gets no number, or the state is too short: see
      * mireladle_depots_partition(). No search gives this. */
-    MIRELADLE_NO_NUMBER = 20
+    MIRELADLE_NO_NUMBER = 20,
+    /* A call of a search by lots is out of order: fewer rows are present than at a call before, or
+     * the end was declared. Only mireladle_more() and mireladle_last() give this. */
+    MIRELADLE_OUT_OF_ORDER = 21,
+    /* The search waits for a row that is not yet present: a match is to be looked for from there on,
+     * or a letter is to be tested there. The matches found so far stand whole in the report. Only
+     * mireladle_more() gives this. */
+    MIRELADLE_WAITING = 23
 };
 
-/* What a search returns. On the answers 1 to 12 and 14 all but the answer, and the offset of 5 and 14, are 0. */
+/* What a search returns. On the answers 1 to 12, 14, 17, 20 and 21 all but the answer, and the offset
+ * of 5 and 14, are 0. */
 struct mireladle_result {
     uint64_t answer;  /* one of enum mireladle_answer */
     uint64_t matches; /* matches in the report */
@@ -121,6 +134,21 @@ struct mireladle_result {
     uint64_t steps;   /* pairs entered; on 13 the search for the match that did not fit is counted
                        * too; on 16 the steps that were allowed */
     uint64_t offset;  /* on 5 the byte of the pattern text, from 0, at which it is wrong; on 14 its length; else 0 */
+};
+
+/* What is kept of a search by lots between its calls: mireladle_begin() writes it, mireladle_more()
+ * and mireladle_last() alter it. A caller may read and copy it, and writes nothing into it. */
+struct mireladle_feed {
+    uint64_t largest;   /* the largest number of rows, as named */
+    uint64_t allowance; /* the steps allowed over all calls, as named */
+    uint64_t present;   /* rows present at the latest call that was not refused */
+    uint64_t begun;     /* 0 until a call has not been refused, then 1 */
+    uint64_t answer;    /* the answer of that call; before the first MIRELADLE_WAITING */
+    uint64_t row;       /* the start at which the search goes on */
+    uint64_t matches;   /* matches in the report */
+    uint64_t labels;    /* label bytes in the report */
+    uint64_t steps;     /* pairs entered, over all calls */
+    uint64_t opened;    /* pairs still open, where the search waits inside an attempt */
 };
 
 /* What the working room of a search is measured by. On the answers 1 to 10 and 14 all but the answer, and the offset of
@@ -169,6 +197,7 @@ typedef struct mireladle_result mireladle_result_t;
 typedef struct mireladle_room mireladle_room_t;
 typedef struct mireladle_verdict mireladle_verdict_t;
 typedef struct mireladle_tested mireladle_tested_t;
+typedef struct mireladle_feed mireladle_feed_t;
 
 /*
  * Searches the rows for all matches of the query. A match is looked for from row 0 on, at one row after the other, but
@@ -255,6 +284,79 @@ struct mireladle_result mireladle_search_within(const uint8_t *query, size_t que
                                                 uint32_t *trail, size_t trail_len,
                                                 int64_t *numbers, size_t numbers_len,
                                                 uint8_t *labels, size_t labels_len);
+
+/*
+ * A search whose rows come in lots: it goes on with each lot, and each match is in the report as
+ * soon as it is found. mireladle_begin() comes first, then mireladle_more() for each lot, and at the
+ * end mireladle_last(), which declares that no further row comes, and may bring rows too:
+ *
+ *     mireladle_begin(&feed, largest, UINT64_MAX);
+ *     while (more rows come)
+ *         result = mireladle_more(&feed, query, query_len, rows, rows_len, present, ..);
+ *     result = mireladle_last(&feed, query, query_len, rows, rows_len, present, ..);
+ *
+ * However the rows are cut into lots, by the end report and steps are those of one
+ * mireladle_search_within() of all rows. examples/feed.c is a whole program.
+ *
+ *   feed       What is kept between the calls of one search; not NULL, and apart from all else that
+ *              is lent. mireladle_begin() writes it whole. Of a feed that it did not write nothing is
+ *              said but that each call gives an answer, and touches nothing beside the feed and the
+ *              lent buffers.
+ *   largest    The most rows that there may be in the end, by which notes and trail are measured:
+ *              P * F * (largest + 1) pairs, of which mireladle_room() tells P and F without rows. One
+ *              above 4,096 is answer 10 of each later call; mireladle_begin() itself refuses nothing.
+ *   allowance  The steps that all calls together may take; UINT64_MAX is no limit.
+ *   rows       All rows so far, from the first on. At each call those present before are the same.
+ *   present    How many rows are present now. rows may be longer; what lies behind the rows present
+ *              is not read.
+ *   query, notes, trail, numbers, labels
+ *              As for mireladle_search(), with largest in the place of n, and the same at each call:
+ *              of the same lengths, and as the call before left them. The first call finds what it
+ *              needs, whatever the buffers hold.
+ *
+ * The answers, in their rank:
+ *
+ *   13, 15, 16    The search stopped in an earlier call: the same result as then.
+ *   21            The end was declared in an earlier call.
+ *   1 to 9, 14    The query is refused, with its offset on 5 and 14.
+ *   17            The query looks ahead.
+ *   10            largest is above 4,096, the entries are not whole rows, or present is above largest
+ *                 or above the rows that there are.
+ *   11, 12        Notes or trail are too short for largest.
+ *   21            Fewer rows are present than at a call before. As many are allowed.
+ *
+ * None of these changes anything, not even the feed, so that a call which is refused may be made
+ * again with other rows; and all but 13, 15 and 16 return zeros. In every other case the call goes on
+ * with the search:
+ *
+ *   23            From mireladle_more(): the search waits for a row. matches and labels count all that
+ *                 was found so far, of which the earlier calls told the front, and steps are those of
+ *                 all calls. The first P * F * (largest + 1) numbers of the trail are left free.
+ *   0             From mireladle_last(): the report is whole.
+ *   13, 15, 16    As for mireladle_search_within(), over all calls, from either of the two.
+ *
+ * Numbers, labels and notes, and on 0, 13, 15 and 16 the trail, are then as stated for
+ * mireladle_search(), with largest in the place of n. A pair that is still open has not failed.
+ *
+ * A call takes the steps for its new rows and, over again, those for the pairs still open, which are
+ * not counted twice; and it reads the query anew. So a lot of many rows takes less time than many
+ * lots of one.
+ */
+void mireladle_begin(struct mireladle_feed *feed, uint64_t largest, uint64_t allowance);
+struct mireladle_result mireladle_more(struct mireladle_feed *feed,
+                                       const uint8_t *query, size_t query_len,
+                                       const int32_t *rows, size_t rows_len, uint64_t present,
+                                       uint8_t *notes, size_t notes_len,
+                                       uint32_t *trail, size_t trail_len,
+                                       int64_t *numbers, size_t numbers_len,
+                                       uint8_t *labels, size_t labels_len);
+struct mireladle_result mireladle_last(struct mireladle_feed *feed,
+                                       const uint8_t *query, size_t query_len,
+                                       const int32_t *rows, size_t rows_len, uint64_t present,
+                                       uint8_t *notes, size_t notes_len,
+                                       uint32_t *trail, size_t trail_len,
+                                       int64_t *numbers, size_t numbers_len,
+                                       uint8_t *labels, size_t labels_len);
 
 /*
  * Judges a query and rows and tells how much working room their search takes: answer 0 with P, F, n and

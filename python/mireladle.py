@@ -42,6 +42,18 @@ A search that stops before its end raises nothing: the matches found by then sta
 >>> len(stopped), stopped.whole, stopped.ending
 (1, False, <Answer.OUT_OF_STEPS: 16>)
 
+Rows that come in lots go into a feed, which gives with each lot the matches that are new. In the end
+they are those of one search of all rows:
+
+>>> feed = query.feed(largest=1000)
+>>> for lot in ([100, 110, 120], [115], [130]):
+...     print([match.labels for match in feed.push(lot)])
+[]
+['AAB']
+[]
+>>> feed.finish().ending
+<Answer.DONE: 0>
+
 The release desk says of a bus's log whether the bus may leave: rows of time, event (1 offered,
 2 refused, 3 accepted), base number and patch number, in order of time.
 
@@ -71,7 +83,7 @@ from enum import IntEnum
 
 __all__ = [
     "AVG", "COUNT", "FIRST", "LAST", "MAX", "MIN", "SUM",
-    "Answer", "Match", "PAST_LAST_ROW", "Query", "Refused", "Report", "Said", "TO_NEXT_ROW",
+    "Answer", "Feed", "Match", "PAST_LAST_ROW", "Query", "Refused", "Report", "Said", "TO_NEXT_ROW",
     "Tested", "Verdict", "col", "desk", "to_first", "to_last",
 ]
 
@@ -84,7 +96,10 @@ _NO_LIMIT = 2**64 - 1
 
 
 class Answer(IntEnum):
-    """The library's answers: refusals, but for 0 and the searches that stop, 13, 15 and 16."""
+    """The library's answers: refusals, but for 0, the searches that stop, 13, 15 and 16, and 23.
+
+    23 is that of a feed that waits for further rows.
+    """
 
     DONE = 0
     QUERY_CUT = 1
@@ -103,7 +118,10 @@ class Answer(IntEnum):
     PATTERN_ENDS = 14
     NO_SKIP_ROW = 15
     OUT_OF_STEPS = 16
+    LOOKS_AHEAD = 17
     NO_NUMBER = 20
+    OUT_OF_ORDER = 21
+    WAITING = 23
 
 
 class Said(IntEnum):
@@ -114,7 +132,8 @@ class Said(IntEnum):
     UNREADABLE = 3
 
 
-_WITH_REPORT = {Answer.DONE, Answer.STOPPED, Answer.NO_SKIP_ROW, Answer.OUT_OF_STEPS}
+_WITH_REPORT = {Answer.DONE, Answer.STOPPED, Answer.NO_SKIP_ROW, Answer.OUT_OF_STEPS,
+                Answer.WAITING}
 
 _WORDS = {
     1: "the query breaks off inside a record",
@@ -134,7 +153,10 @@ _WORDS = {
     11: "the notes are too short",
     12: "the trail is too short",
     14: "the pattern text ends where it could go on to a pattern",
+    17: "the query looks ahead, so that rows which are still to come could change what was found",
     20: "the depot-by-month table takes no further partition",
+    21: "the call is out of order: the end was declared before it, or it has fewer rows than a call "
+        "before it",
 }
 
 
@@ -154,8 +176,17 @@ class _Tested(ctypes.Structure):
     _fields_ = [(name, _U64) for name in ("answer", "holds", "judged", "offset")]
 
 
-# Each function that is called: the struct that it returns, and its arguments. A pointer stands
-# before the length of what it points to.
+class _Feed(ctypes.Structure):
+    _fields_ = [(name, _U64) for name in ("largest", "allowance", "present", "begun", "answer",
+                                          "row", "matches", "labels", "steps", "opened")]
+
+
+_WITH_A_LOT = [ctypes.POINTER(_Feed), ctypes.c_char_p, _SIZE, ctypes.POINTER(_I32), _SIZE, _U64,
+               ctypes.POINTER(_U8), _SIZE, ctypes.POINTER(_U32), _SIZE,
+               ctypes.POINTER(_I64), _SIZE, ctypes.POINTER(_U8), _SIZE]
+
+# Each function that is called: the struct that it returns, if any, and its arguments. A pointer
+# stands before the length of what it points to, but for that to a feed.
 _FUNCTIONS = {
     "mireladle_room": (
         _Room,
@@ -171,6 +202,9 @@ _FUNCTIONS = {
          ctypes.POINTER(_U8), _SIZE, ctypes.POINTER(_U32), _SIZE,
          ctypes.POINTER(_I64), _SIZE, ctypes.POINTER(_U8), _SIZE],
     ),
+    "mireladle_begin": (None, [ctypes.POINTER(_Feed), _U64, _U64]),
+    "mireladle_more": (_Result, _WITH_A_LOT),
+    "mireladle_last": (_Result, _WITH_A_LOT),
     "mireladle_desk": (
         _Verdict,
         [ctypes.POINTER(_I32), _SIZE,
@@ -545,24 +579,34 @@ class Query:
         entries = _entries(rows, self.columns)
         count = len(entries)
         given = (self.bytes, len(self.bytes), entries, count)
-        allowance = _NO_LIMIT if steps is None else operator.index(steps)
-        if not 0 <= allowance <= _NO_LIMIT:
-            raise ValueError(f"steps are 0 to 2^64 - 1, not {steps}")
+        allowance = _allowance(steps)
         room = _library().mireladle_room(*given)
         if room.answer:
             raise _refused(room, self.bytes, f" ({count} entries, {len(self.columns)} to a row)")
-        n, width = room.rows, 3 + 2 * len(self.titles)
-        lent = (
-            (_U8 * ((room.pairs + 7) // 8))(),
-            (_U32 * room.pairs)(),
-            (_I64 * (n * width))(),
-            (_U8 * (n * (n + 1) // 2 if self._overlaps else n))(),
-        )
+        width = self._width()
+        lent = self._lent(room.pairs, room.rows)
         result = _library().mireladle_search_within(*given, allowance, *_sized(lent))
         if result.answer not in _WITH_REPORT:
             raise _refused(result, self.bytes)
         numbers, labels = lent[2][:result.matches * width], bytes(lent[3][:result.labels]).decode()
         return Report(Answer(result.answer), result.steps, self._matches(numbers, labels, width))
+
+    def feed(self, largest=4096, steps=None):
+        """A search of these rows in lots, as they come: see `Feed`."""
+        return Feed(self, largest, steps)
+
+    def _width(self):
+        """Numbers that a match takes in the report."""
+        return 3 + 2 * len(self.titles)
+
+    def _lent(self, pairs, n):
+        """Buffers for so many pairs, and for every match in n rows."""
+        return (
+            (_U8 * ((pairs + 7) // 8))(),
+            (_U32 * pairs)(),
+            (_I64 * (n * self._width()))(),
+            (_U8 * (n * (n + 1) // 2 if self._overlaps else n))(),
+        )
 
     def test(self, rows, letter, row):
         """Whether a letter holds at a row, counted from 0, and how many comparisons that took.
@@ -597,6 +641,118 @@ class Query:
         return matches
 
 
+def _allowance(steps):
+    allowance = _NO_LIMIT if steps is None else operator.index(steps)
+    if not 0 <= allowance <= _NO_LIMIT:
+        raise ValueError(f"steps are 0 to 2^64 - 1, not {steps}")
+    return allowance
+
+
+class Feed:
+    """A search whose rows come in lots, up to `largest` of them, in `steps` steps over all lots.
+
+    `push` searches on with a lot, and `finish` declares that no further row comes. Each gives a
+    report of the matches that are new; these are numbered on, and their rows count from the first
+    row of the first lot. The report's `ending` is WAITING while further rows may come and DONE at
+    the end, and its `steps` are those of all lots so far. A search that stops stays so: later
+    reports have the same ending and no match.
+
+    A query that looks ahead, by a `$` or by `next`, is refused with LOOKS_AHEAD, since a later row
+    could undo a match; more rows than `largest` are refused with WRONG_ROWS, and what comes after
+    `finish` with OUT_OF_ORDER. A refusal changes nothing: the feed can go on with other rows. All
+    buffers are made at the beginning, for `largest` rows.
+    """
+
+    def __init__(self, query, largest=4096, steps=None):
+        self.query = query
+        self.largest = operator.index(largest)
+        allowance = _allowance(steps)
+        if not 0 <= self.largest <= _NO_LIMIT:
+            raise ValueError(f"the largest number of rows is 0 to 4,096, not {largest}")
+        room = _library().mireladle_room(query.bytes, len(query.bytes), None, 0)
+        # What is larger is refused by the first call.
+        n = min(self.largest, _MOST_ROWS)
+        self._lent = query._lent(room.places * room.factor * (n + 1), n)
+        self._entries = array("i")
+        self._state = _Feed()
+        self._handed = (0, 0)
+        _library().mireladle_begin(self._state, self.largest, allowance)
+        # Without a row nothing but the query and the largest number can be refused.
+        self._report(_library().mireladle_more, 0)
+
+    @property
+    def present(self):
+        """How many rows there are so far."""
+        return self._state.present
+
+    def push(self, rows):
+        """Searches on with these rows, of any form that `Query.search` takes; what is new."""
+        came = _entries(rows, self.query.columns)
+        self._entries.frombytes(memoryview(came).cast("B"))
+        columns = len(self.query.columns)
+        try:
+            return self._report(_library().mireladle_more, self.present + len(came) // columns)
+        finally:
+            # A call that is refused, or that comes behind a stop, takes none of its rows.
+            del self._entries[self.present * columns:]
+
+    def finish(self):
+        """Declares that no further row comes; what is new by that."""
+        return self._report(_library().mireladle_last, self.present)
+
+    def _report(self, call, present):
+        query, (matches, labels) = self.query, self._handed
+        count = len(self._entries)
+        result = call(self._state, query.bytes, len(query.bytes),
+                      (_I32 * count).from_buffer(self._entries), count, present,
+                      *_sized(self._lent))
+        if result.answer not in _WITH_REPORT:
+            raise self._refused(result, present)
+        self._handed = (result.matches, result.labels)
+        width = query._width()
+        numbers = self._lent[2][matches * width:result.matches * width]
+        letters = bytes(self._lent[3][labels:result.labels]).decode()
+        return Report(Answer(result.answer), result.steps, query._matches(numbers, letters, width))
+
+    def _refused(self, result, present):
+        if result.answer == Answer.LOOKS_AHEAD:
+            return Refused(result.answer, None, f": {_ahead(self.query.bytes)}")
+        most = min(self.largest, _MOST_ROWS)
+        rows = max(present, self.largest if self.largest > _MOST_ROWS else 0)
+        detail = f" ({rows} rows, and the feed takes at most {most})" if rows > most else (
+            f" ({len(self._entries)} entries, {len(self.query.columns)} to a row)")
+        return _refused(result, self.query.bytes, detail)
+
+
+_MOST_ROWS = 4096
+
+
+def _ahead(data):
+    """What of a query looks ahead, in words."""
+    text = next(body for kind, body in _records(data) if kind == _PATTERN)
+    if b"$" in text:
+        return f"its pattern has a `$` at byte {text.index(b'$')}, counted from 0"
+    for kind, body in _records(data):
+        if kind in (_DEFINE, _CONDITION) and body[0] in text:
+            rows = max((offset for comparison in _comparisons(kind, body[2:])
+                        for offset in struct.unpack("<xb3xb6x", comparison)), default=0)
+            if rows > 0:
+                return f"{chr(body[0])} reads " + ("the next row" if rows == 1 else f"{rows} rows on")
+    return "by what is not known"
+
+
+def _comparisons(kind, entries):
+    """The comparisons of a DEFINE, 12 bytes each; of kind 6 a byte 0 stands before each."""
+    at = 0
+    while at < len(entries):
+        if kind == _CONDITION:
+            at += 1
+            if entries[at - 1]:
+                continue
+        yield entries[at:at + 12]
+        at += 12
+
+
 @dataclass(frozen=True)
 class Tested:
     """Whether a letter holds at a row, and how many of its comparisons were judged.
@@ -629,7 +785,10 @@ class Match:
 
 @dataclass(frozen=True)
 class Report:
-    """The matches of a search, its steps, and how it ended: with DONE all matches are there."""
+    """The matches of a search, its steps, and how it ended: with DONE all matches are there.
+
+    Of a feed's lot they are the matches that are new.
+    """
 
     ending: Answer
     steps: int

@@ -30,7 +30,7 @@ sys.path.insert(0, HERE)
 import mireladle  # noqa: E402
 from mireladle import (  # noqa: E402
     AVG, COUNT, FIRST, LAST, MAX, MIN, PAST_LAST_ROW, SUM, TO_NEXT_ROW,
-    Answer, Query, Refused, Said, Tested, Verdict, col, desk, to_first, to_last)
+    Answer, Feed, Query, Refused, Said, Tested, Verdict, col, desk, to_first, to_last)
 
 A = col("a")
 W1_ROWS = [100, 110, 120, 115, 130]
@@ -60,7 +60,8 @@ class TheHeader(unittest.TestCase):
     header = read("include", "mireladle.h")
 
     def test_structs(self):
-        structs = (mireladle._Result, mireladle._Room, mireladle._Verdict, mireladle._Tested)
+        structs = (mireladle._Result, mireladle._Room, mireladle._Verdict, mireladle._Tested,
+                   mireladle._Feed)
         for struct_type in structs:
             name = "mireladle" + struct_type.__name__.lower()
             body = re.search(rf"struct {name} {{(.*?)\n}};", self.header, re.S).group(1)
@@ -94,10 +95,12 @@ class TheHeader(unittest.TestCase):
                  "uint8_t ": ctypes.c_uint8,
                  "uint8_t *": ctypes.POINTER(ctypes.c_uint8),
                  "uint32_t *": ctypes.POINTER(ctypes.c_uint32),
-                 "int64_t *": ctypes.POINTER(ctypes.c_int64)}
+                 "int64_t *": ctypes.POINTER(ctypes.c_int64),
+                 "struct mireladle_feed *": ctypes.POINTER(mireladle._Feed)}
         for name, (result, arguments) in mireladle._FUNCTIONS.items():
-            declared = re.search(rf"^struct (\w+) {name}\((.*?)\);", self.header, re.S | re.M)
-            self.assertEqual(declared.group(1), "mireladle" + result.__name__.lower())
+            declared = re.search(rf"^(?:struct )?(\w+) {name}\((.*?)\);", self.header, re.S | re.M)
+            returned = "mireladle" + result.__name__.lower() if result else "void"
+            self.assertEqual(declared.group(1), returned)
             said = [re.fullmatch(r"(.*[ *])\w+", part.strip()).group(1)
                     for part in declared.group(2).split(",")]
             self.assertEqual([kinds[kind] for kind in said], arguments)
@@ -387,6 +390,102 @@ class Searches(unittest.TestCase):
         for rows in ("12", b"12", bytearray(4), 7):
             with self.assertRaises(TypeError):
                 Query(["a"], "A").search(rows)
+
+
+class Lots(unittest.TestCase):
+    def fed(self, query, rows, ends, steps=None):
+        """All matches, the steps and the ending of rows in lots that end at these rows."""
+        feed = query.feed(len(rows), steps)
+        matches, begin = [], 0
+        for end in ends:
+            report = feed.push(rows[begin:end])
+            self.assertNotEqual(report.ending, Answer.DONE)
+            self.assertFalse(report.whole)
+            matches += report.matches
+            begin = end
+        report = feed.finish()
+        return matches + report.matches, report.steps, report.ending
+
+    def test_every_cutting_of_w1(self):
+        one = w1().search(W1_ROWS)
+        for bits in range(2**5):
+            ends = [row for row in range(5) if bits >> row & 1] + [5]
+            fed = self.fed(w1(), W1_ROWS, ends)
+            self.assertEqual(fed, (one.matches, one.steps, one.ending))
+
+    def test_random_cuttings_of_random_queries(self):
+        chance = random.Random(35)
+        fed = matches = ahead = 0
+        while fed < 300:
+            columns = chance.randint(1, 3)
+            try:
+                query = some_query(chance, columns)
+                query.feed(0)
+            except Refused as refused:
+                ahead += refused.answer == Answer.LOOKS_AHEAD
+                continue
+            rows = [[chance.randint(-3, 3) for _ in range(columns)]
+                    for _ in range(chance.randrange(30))]
+            ends = sorted(chance.randint(0, len(rows)) for _ in range(chance.randrange(5)))
+            steps = chance.choice([None, None, chance.randrange(200)])
+            one = query.search(rows, steps)
+            self.assertEqual(self.fed(query, rows, ends + [len(rows)], steps),
+                             (one.matches, one.steps, one.ending))
+            fed += 1
+            matches += len(one)
+        self.assertGreater(matches, 200)
+        self.assertGreater(ahead, 50)
+
+    def test_a_match_comes_with_its_last_row(self):
+        feed = Feed(w1(), 5)
+        lots = [[match.rows for match in feed.push([price])] for price in W1_ROWS]
+        self.assertEqual(lots, [[], [], [], [range(1, 4)], []])
+        self.assertEqual((feed.present, feed.largest), (5, 5))
+        self.assertEqual(feed.push([]).ending, Answer.WAITING)
+
+    def test_refusals_change_nothing(self):
+        feed = w1().feed(3)
+        feed.push([100])
+        with self.assertRaisesRegex(Refused, "4 rows, and the feed takes at most 3") as raised:
+            feed.push([1, 2, 3])
+        self.assertEqual(raised.exception.answer, Answer.WRONG_ROWS)
+        with self.assertRaises(ValueError):
+            feed.push([110, "x"])
+        two = Query(["a", "b"], "A").feed(3)
+        with self.assertRaisesRegex(Refused, r"\(3 entries, 2 to a row\)"):
+            two.push(array("i", [1, 2, 3]))
+        self.assertEqual((feed.present, two.present), (1, 0))
+        self.assertEqual(found(feed.push(array("i", [110, 90]))), [(1, "AB")])
+        self.assertEqual(feed.finish().ending, Answer.DONE)
+        for late in (feed.finish, lambda: feed.push([1]), lambda: feed.push([])):
+            with self.assertRaises(Refused) as raised:
+                late()
+            self.assertEqual(raised.exception.answer, Answer.OUT_OF_ORDER)
+        for largest in (4097, 2**64 - 1):
+            with self.assertRaisesRegex(Refused, "refused 10: .*takes at most 4096"):
+                w1().feed(largest)
+        for largest in (-1, 2**64):
+            with self.assertRaises(ValueError):
+                w1().feed(largest)
+
+    def test_what_looks_ahead(self):
+        for pattern, condition, words in (
+                ("A B $", A > 1, "its pattern has a `\\$` at byte 4, counted from 0$"),
+                ("A", A.next() > 1, "A reads the next row$"),
+                ("A", [A > 1, A.prev() < A.next(9)], "A reads 9 rows on$"),
+                ("A", (A > 1) | ~(A.next(2) == A.next(3)), "A reads 3 rows on$")):
+            with self.assertRaisesRegex(Refused, "refused 17: the query looks ahead.*: " + words):
+                Query(["a"], pattern, {"A": condition}).feed()
+        Query(["a"], "B", {"A": A.next() > 1}).feed()
+
+    def test_a_search_that_stops_stays_so(self):
+        feed = Query(1, "A").feed(4, steps=3)
+        for rows, matches in (([7, 8], [(0, "A")]), ([9], []), ([0] * 9, [])):
+            report = feed.push(rows)
+            self.assertEqual((found(report), report.steps, report.ending),
+                             (matches, 3, Answer.OUT_OF_STEPS))
+        self.assertEqual(feed.present, 2)
+        self.assertEqual(feed.finish().ending, Answer.OUT_OF_STEPS)
 
 
 def by_hand(log):

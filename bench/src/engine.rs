@@ -1,11 +1,11 @@
-//! An engine for the rules of document 01 and of R-2, not verified, in safe Rust and as
-//! fast as we could make it: the yardstick for the product's speed. It has the
-//! product's face and effects: the same answer, counts and steps, and the same
-//! content of all four lent buffers. Repetitions whose rounds may take no row, as in
-//! `(A*)*`, which R-3 allows, it still refuses with 6, so its pairs have no flags. A
-//! query is prepared, which makes the tables of `engine/tables.rs`, and run over rows;
-//! `search` does both. The walk is that of document 01, with notes and a trail in the
-//! lent buffers; see `engine/walk.rs`.
+//! An engine for the rules of document 01 and of, not verified, in safe
+//! Rust and as fast as we could make it: the yardstick for the product's speed. It has
+//! the product's face and effects: the same answer, counts and steps, and the same
+//! content of all four lent buffers. A query is prepared, which makes the tables of
+//! `engine/tables.rs`, and run over rows; `search` does both. The walk is that of
+//! document 01, with notes and a trail in the lent buffers; see `engine/walk.rs`. Where
+//! a pattern has repetitions whose rounds may take no row, as `(A*)*`, each place has a
+//! record for each value of its flags, and the same walk runs over those.
 
 #![forbid(unsafe_code)]
 
@@ -23,7 +23,7 @@ use mireladle::lent::{Outcome, Room};
 use pattern::Pattern;
 use query::{Measure, Query};
 use report::Report;
-use tables::Tables;
+use tables::{Number, Tables};
 use walk::Ending;
 
 const DONE: u64 = 0;
@@ -44,7 +44,8 @@ pub fn search(
         let query = query::read(query)?;
         let mut pattern = Pattern::new();
         judge(&query, &mut pattern)?;
-        let Lent { rows, notes, trail } = Lent::new(&query, pattern.count, rows, notes, trail)?;
+        let places = pattern.count * pattern.factor;
+        let Lent { rows, notes, trail } = Lent::new(&query, places, rows, notes, trail)?;
         let mut report = Report::new(numbers, labels, query.measures());
         let (ending, steps) = walk::search(&query, &pattern, rows, notes, trail, &mut report);
         Ok(ended(ending, steps, &report))
@@ -60,9 +61,10 @@ pub struct Prepared<'a> {
 
 /// Tables of the size that the pattern needs.
 enum Filled {
-    Small(Box<Tables<16>>),
-    Middle(Box<Tables<64>>),
-    Large(Box<Tables<256>>),
+    Small(Box<Tables<u8, 16>>),
+    Middle(Box<Tables<u8, 64>>),
+    Large(Box<Tables<u8, 256>>),
+    Flagged(Box<Tables<u16, 2048>>),
 }
 
 /// Prepares a query, or gives the lowest of the answers 1 to 9 that applies.
@@ -71,6 +73,7 @@ pub fn prepare(query: &[u8]) -> Result<Prepared<'_>, u64> {
     let mut pattern = Pattern::new();
     judge(&query, &mut pattern)?;
     let tables = match pattern.count {
+        _ if pattern.factor > 1 => Filled::Flagged(filled(&query, &pattern)),
         0..=16 => Filled::Small(filled(&query, &pattern)),
         17..=64 => Filled::Middle(filled(&query, &pattern)),
         _ => Filled::Large(filled(&query, &pattern)),
@@ -78,7 +81,7 @@ pub fn prepare(query: &[u8]) -> Result<Prepared<'_>, u64> {
     Ok(Prepared { query, tables })
 }
 
-fn filled<const N: usize>(query: &Query, pattern: &Pattern) -> Box<Tables<N>> {
+fn filled<I: Number, const N: usize>(query: &Query, pattern: &Pattern) -> Box<Tables<I, N>> {
     let mut tables = Box::new(Tables::new());
     tables.fill(query, pattern);
     tables
@@ -99,6 +102,7 @@ impl Prepared<'_> {
             Filled::Small(tables) => tables.count,
             Filled::Middle(tables) => tables.count,
             Filled::Large(tables) => tables.count,
+            Filled::Flagged(tables) => tables.count,
         };
         let mut accepted = || {
             let Lent { rows, notes, trail } = Lent::new(query, places, rows, notes, trail)?;
@@ -107,6 +111,9 @@ impl Prepared<'_> {
                 Filled::Small(tables) => walk::run(query, tables, rows, notes, trail, &mut report),
                 Filled::Middle(tables) => walk::run(query, tables, rows, notes, trail, &mut report),
                 Filled::Large(tables) => walk::run(query, tables, rows, notes, trail, &mut report),
+                Filled::Flagged(tables) => {
+                    walk::run(query, tables, rows, notes, trail, &mut report)
+                }
             };
             Ok(ended(ending, steps, &report))
         };
@@ -138,28 +145,28 @@ fn refused(answer: u64) -> Outcome {
     }
 }
 
-/// P, n and P(n+1), or the lowest of the answers 1 to 10 that applies.
+/// P, F, n and P * F * (n+1), or the lowest of the answers 1 to 10 that applies.
 pub fn room(query: &[u8], rows: &[i32]) -> Room {
-    let (answer, places, n) = match sizes(query, rows) {
-        Ok((places, n)) => (0, places as u64, n as u64),
-        Err(answer) => (answer, 0, 0),
+    let (answer, [places, factor, n]) = match sizes(query, rows) {
+        Ok(sizes) => (0, sizes.map(|size| size as u64)),
+        Err(answer) => (answer, [0; 3]),
     };
     Room {
         answer,
         places,
         rows: n,
-        pairs: places * (n + 1),
+        pairs: places * factor * (n + 1),
         offset: 0,
-        factor: u64::from(answer == 0),
+        factor,
     }
 }
 
-fn sizes(query: &[u8], rows: &[i32]) -> Result<(usize, usize), u64> {
+fn sizes(query: &[u8], rows: &[i32]) -> Result<[usize; 3], u64> {
     let query = query::read(query)?;
     let mut pattern = Pattern::new();
     judge(&query, &mut pattern)?;
     let rows = Rows::new(rows, query.columns)?;
-    Ok((pattern.count, rows.n))
+    Ok([pattern.count, pattern.factor, rows.n])
 }
 
 /// Reads the pattern of a query that has none of the answers 1 to 3, or gives the
@@ -188,7 +195,7 @@ struct Lent<'a> {
 }
 
 impl<'a> Lent<'a> {
-    /// For a query of so many places; or the lowest of the answers 10 to 12 that
+    /// For a query of so many places with flags, P * F; or the lowest of the answers 10 to 12 that
     /// applies.
     fn new(
         query: &Query,

@@ -4,7 +4,8 @@
 //! Where the library of crates/bench_c is linked, one workload is run by both with
 //! a query that is prepared once. Where the product's library has allowances of
 //! steps, a long search is run by the product with several; where it has the depot-by-month table,
-//! as many partitions as it takes are counted by both.
+//! as many partitions as it takes are counted by both; where it takes rows in lots, lots of several
+//! sizes are run against one search of all rows.
 //! Options: --quick (some ten seconds in all), --only NAME (workloads that have
 //! NAME in their name), --markdown (tables for docs/PERFORMANCE.md), --check
 //! (compares and measures nothing; the last line is `N passed, M failed`).
@@ -17,6 +18,8 @@ mod clock;
 #[cfg(depots)]
 mod depots;
 mod engine;
+#[cfg(lots)]
+mod lots;
 mod output;
 #[cfg(bench_c)]
 mod prepared;
@@ -149,6 +152,12 @@ fn check(options: &Options) -> Result<(), String> {
             count(depots::compare(&workload).map(|_| ()));
         }
     }
+    #[cfg(lots)]
+    if options.wants("lots") {
+        for workload in lots::all() {
+            count(lots::compare(&workload).map(|_| ()));
+        }
+    }
     let allowances = wanted_allowances(options);
     if !allowances.is_empty() {
         match allowances::Search::new() {
@@ -194,6 +203,11 @@ fn measure_all(options: &Options) -> Result<(), String> {
             .map(|workload| depots::measure(workload, options.plan))
             .collect();
         print("The depot-by-month table", Columns::Searches, measured?);
+    }
+    #[cfg(lots)]
+    if options.wants("lots") {
+        any = true;
+        lots::measure(options.plan, options.markdown)?;
     }
     let allowances = wanted_allowances(options);
     if !allowances.is_empty() {

@@ -46,6 +46,7 @@ pub fn searches() -> Vec<Workload> {
         valley(),
         offers(),
         nested(),
+        empty_rounds(),
         optional(),
         all_places(),
         overlapping(),
@@ -61,6 +62,25 @@ pub fn searches() -> Vec<Workload> {
     ];
     searches.retain(|workload| !workload.prepared || cfg!(bench_c));
     searches
+}
+
+/// Rows that are fed in lots: attempts that end soon, and one that is open from the first row to the
+/// last.
+#[cfg(lots)]
+pub fn in_lots() -> Vec<Workload> {
+    let rising = (0..MOST_ROWS as i32).collect();
+    vec![
+        Workload {
+            name: "lots".to_string(),
+            ..rise_and_fall()
+        },
+        Workload::new(
+            "open-lots",
+            "the same on 4,096 rows that only rise: one attempt is open over all of them",
+            rise_and_fall_query(),
+            vec![rising],
+        ),
+    ]
 }
 
 /// The same pattern with the rows doubled, three times.
@@ -261,6 +281,21 @@ fn nested_query() -> QueryBuilder {
 fn nested_rows(n: usize) -> Vec<i32> {
     let mut random = Random::new(400);
     (0..n).map(|_| random.below(100) as i32).collect()
+}
+
+/// Repetitions whose rounds may take no row, two of them nested: F is 4. A and B
+/// overlap, and C never holds, so that every attempt fails in all its ways.
+fn empty_rounds() -> Workload {
+    let query = pattern(1, "((A*)* B?)* C")
+        .define('A', [col(0).lt(60)])
+        .define('B', [col(0).ge(40)])
+        .define('C', [col(0).gt(1_000)]);
+    Workload::new(
+        "empty-rounds",
+        "((A*)* B?)* C with no C, F = 4, 4,096 rows",
+        query,
+        vec![nested_rows(MOST_ROWS)],
+    )
 }
 
 fn optional() -> Workload {

@@ -3,7 +3,7 @@
 //! answer of the table in document 01 and for pairs of answers, texts that go
 //! wrong at each byte, inputs at the limits, rooms of every critical length,
 //! allowances that end at every sort of event, sums beside multiples of their count,
-//! conditions of three truths, and sequences of partitions.
+//! conditions of three truths, sequences of partitions, and tables cut into lots.
 //! The right results are not stored here: `search` and `program` give them.
 
 pub mod allowances;
@@ -13,7 +13,9 @@ pub mod conditions;
 pub mod cuttings;
 pub mod damage;
 pub mod draft;
+pub mod feeds;
 pub mod limits;
+pub mod listed_cuttings;
 pub mod logs;
 pub mod mix;
 pub mod partitions;

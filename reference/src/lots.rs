@@ -28,10 +28,23 @@ pub struct Feed {
     allowance: Option<u64>,
     /// The rows present at the last call that was not refused.
     before: u64,
-    /// How the search ended, once it has.
-    ended: Option<Outcome>,
+    /// What that call came to.
+    latest: Option<Outcome>,
     walk: Walk,
 }
+
+/// The numbers that the C face keeps of a feed, and where each of them stands.
+pub const WORDS: usize = 10;
+pub const LARGEST: usize = 0;
+pub const ALLOWANCE: usize = 1;
+pub const PRESENT: usize = 2;
+pub const BEGUN: usize = 3;
+pub const ANSWER: usize = 4;
+pub const ROW: usize = 5;
+pub const MATCHES: usize = 6;
+pub const LABELS: usize = 7;
+pub const STEPS: usize = 8;
+pub const OPENED: usize = 9;
 
 /// The walk as it stands: nothing is under way where the path is empty.
 #[derive(Clone, Debug, Default)]
@@ -70,7 +83,7 @@ impl Feed {
             largest,
             allowance: (allowance != WITHOUT).then_some(allowance),
             before: 0,
-            ended: None,
+            latest: None,
             walk: Walk::default(),
         }
     }
@@ -78,7 +91,7 @@ impl Feed {
     /// The end comes first: 13, 15 and 16 stay the answer, and after 0 any call is 21. Then
     /// the refusals, which change nothing.
     pub fn call(&mut self, lot: Lot, (notes, trail, numbers, labels): Buffers) -> Outcome {
-        match self.ended {
+        match self.ended() {
             Some(ended) if ended.answer == DONE => return Outcome::refused(lot.query, BACKWARDS),
             Some(ended) => return ended,
             None => {}
@@ -97,9 +110,45 @@ impl Feed {
         let outcome = report.outcome(answer, self.walk.steps);
         if answer != WAITS {
             trail[..self.walk.failed.len()].fill(0);
-            self.ended = Some(outcome);
         }
+        self.latest = Some(outcome);
         outcome
+    }
+
+    /// How the search ended, once it has.
+    pub fn ended(&self) -> Option<Outcome> {
+        self.latest.filter(|latest| latest.answer != WAITS)
+    }
+
+    /// The rows present at the last call that was not refused.
+    pub fn present(&self) -> u64 {
+        self.before
+    }
+
+    /// The feed as the C face keeps it, by the header's struct: the answer is that of the
+    /// latest call that was not refused, and 23 before the first.
+    pub fn words(&self) -> [u64; WORDS] {
+        let mut words = [0; WORDS];
+        words[LARGEST] = self.largest;
+        words[ALLOWANCE] = self.allowance.unwrap_or(WITHOUT);
+        words[PRESENT] = self.before;
+        words[BEGUN] = self.latest.is_some().into();
+        words[ANSWER] = self.latest.map_or(WAITS, |latest| latest.answer).into();
+        words[ROW] = self.walk.start as u64;
+        words[MATCHES] = self.walk.written.matches as u64;
+        words[LABELS] = self.walk.written.labels as u64;
+        words[STEPS] = self.walk.steps;
+        words[OPENED] = self.walk.path.len() as u64;
+        words
+    }
+
+    /// Takes another allowance for the one that was named first. Another largest n is
+    /// another search, which begins anew.
+    pub fn rename(&mut self, largest: u64, allowance: u64) {
+        match largest == self.largest {
+            true => self.allowance = (allowance != WITHOUT).then_some(allowance),
+            false => *self = Feed::begin(largest, allowance),
+        }
     }
 
     /// P(N+1)F, where the largest n is N.

@@ -209,7 +209,13 @@ fn column_outside() {
     let draft = Draft::new(2, b"A", vec![1, 2]);
     let mut texts = vec![(draft.finish(), 3)];
     texts.push((Draft::new(2, b"A", Vec::new()).finish(), 3));
-    for text in [&b"((((((((("[..], b"A)", b"(A", b"((((A*)*)*)*)*", b"(A{16}){17}"] {
+    for text in [
+        &b"((((((((("[..],
+        b"A)",
+        b"(A",
+        b"((((A*)*)*)*)*",
+        b"(A{16}){17}",
+    ] {
         texts.push((Draft::new(2, text, vec![1, 2, 3]).finish(), 3));
     }
     texts.push((draft.clone().measure(1, b'B', 0).finish(), 3));

@@ -3,9 +3,7 @@
 //! owns the state, the list and the buffers, and reads them. Its weakness: the list is lent for all
 //! 65,535 partitions, half a megabyte. Tested in tests/depots.rs.
 
-use crate::error::{DONE, NO_SKIP_ROW, OUT_OF_STEPS, STOPPED};
 use crate::lent::{self, DEPOTS_LENGTH, DEPOTS_LISTED, DEPOTS_OUTSIDE, DEPOTS_PARTITIONS};
-use crate::query::length;
 use crate::{Ending, Error, Limits, Query, Rows};
 
 /// The depots of the table, numbered from 0.
@@ -115,13 +113,8 @@ impl Depots {
             &mut self.numbers,
             &mut self.labels,
         );
-        let ending = match outcome.answer {
-            DONE => Ending::Done,
-            STOPPED => Ending::Stopped,
-            NO_SKIP_ROW => Ending::NoSkipRow,
-            OUT_OF_STEPS => Ending::OutOfSteps,
-            refused => return Err(Error::from_answer(refused, outcome.offset)),
-        };
+        let ending = Ending::of(outcome.answer)
+            .ok_or_else(|| Error::from_answer(outcome.answer, outcome.offset))?;
         Ok(Taken {
             ending,
             matches: outcome.matches,
@@ -132,7 +125,7 @@ impl Depots {
 
     /// Sees to it that the buffers are long enough for n rows.
     fn lend(&mut self, query: &Query, n: usize) -> Result<(), Error> {
-        let pairs = n.saturating_add(1).saturating_mul(length(query.places())?);
+        let pairs = query.pairs(n)?;
         let limits = Limits::default();
         at_least(&mut self.notes, pairs.div_ceil(8));
         at_least(&mut self.trail, pairs);

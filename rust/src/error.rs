@@ -1,7 +1,7 @@
-//! Why a query or a search was refused: the library's answers 1 to 12 and 14 by name and in plain
-//! words, and the few faults that only this crate can see. Each answer of the library has exactly
-//! one error, and keeps its number. Of a pattern that is wrong the place is told, and what could
-//! stand there.
+//! Why a query or a search was refused: the library's answers 1 to 12, 14, 17, 20 and 21 by name and
+//! in plain words, and the few faults that only this crate can see. Each answer of the library has
+//! an error that keeps its number. Of a pattern that is wrong the place is told, and what could stand
+//! there; of a query that looks ahead, by what it does.
 
 use std::fmt;
 
@@ -15,6 +15,10 @@ pub(crate) const STOPPED: u64 = 13;
 pub(crate) const NO_SKIP_ROW: u64 = 15;
 /// The answer of a search that ran out of steps.
 pub(crate) const OUT_OF_STEPS: u64 = 16;
+/// The answer of a query that looks ahead, to a call with a lot of rows.
+pub(crate) const LOOKS_AHEAD: u64 = 17;
+/// The answer of a search that waits for further rows.
+pub(crate) const WAITING: u64 = 23;
 
 /// Why there is no query or no report.
 ///
@@ -73,9 +77,27 @@ pub enum Error {
         /// What could stand behind it, where it is known: see [`Expected::behind`].
         expected: Option<Expected>,
     },
+    /// 10 as well, told apart for rows that come in lots: there are more of them than the
+    /// [`Feed`](crate::Feed) was made for, or it was to be made for more than 4,096.
+    TooManyRows {
+        /// The rows that there would be.
+        rows: usize,
+        /// The most that are possible.
+        most: usize,
+    },
+    /// 17: the query looks ahead, so that rows which are still to come could change what was found.
+    /// Only a [`Feed`](crate::Feed) gives this.
+    LooksAhead {
+        /// What looks ahead, where it is known.
+        by: Option<Ahead>,
+    },
     /// 20: a partition of the depot-by-month table gets no number, since 65,535 have one. No search gives this; see
     /// [`Depots::partition`](crate::Depots::partition).
     NoNumber,
+    /// 21: a call with a lot of rows is out of order. Of a [`Feed`](crate::Feed): its end was declared
+    /// before. Of [`lent::more`](crate::lent::more) and [`lent::last`](crate::lent::last) also: fewer
+    /// rows are said to be present than before.
+    OutOfOrder,
     /// The rows were said to have another number of columns than the query is about.
     ColumnCount {
         /// The columns that the query is about.
@@ -90,10 +112,40 @@ pub enum Error {
     },
 }
 
+/// What of a query looks ahead.
+#[derive(Clone, Copy, Debug, PartialEq, Eq, Hash)]
+#[non_exhaustive]
+pub enum Ahead {
+    /// The pattern has a `$`, which holds only behind the last row.
+    End {
+        /// The byte's offset in the pattern's text, from 0.
+        offset: usize,
+    },
+    /// A letter of the pattern reads a row behind its own, by `NEXT`.
+    Letter {
+        /// The letter.
+        letter: char,
+        /// How many rows on, where it reads furthest.
+        rows: u8,
+    },
+}
+
+impl fmt::Display for Ahead {
+    fn fmt(&self, f: &mut fmt::Formatter<'_>) -> fmt::Result {
+        match self {
+            Ahead::End { offset } => {
+                write!(f, "its pattern has a `$` at byte {offset}, counted from 0")
+            }
+            Ahead::Letter { letter, rows: 1 } => write!(f, "{letter} reads the next row"),
+            Ahead::Letter { letter, rows } => write!(f, "{letter} reads {rows} rows on"),
+        }
+    }
+}
+
 impl Error {
-    /// The error that stands for an answer other than 0, 13, 15 and 16, which have a report (see
+    /// The error that stands for an answer other than 0, 13, 15, 16 and 23, which have a report (see
     /// [`Ending`](crate::Ending)), with the offset that came with it. It does not know what was
-    /// expected, since it does not know the pattern's text.
+    /// expected, or what looks ahead, since it does not know the query.
     ///
     /// ```
     /// use mireladle::Error;
@@ -122,12 +174,15 @@ impl Error {
                 offset,
                 expected: None,
             },
+            LOOKS_AHEAD => Error::LooksAhead { by: None },
             20 => Error::NoNumber,
+            21 => Error::OutOfOrder,
             _ => Error::OtherLibrary { answer },
         }
     }
 
-    /// The number of the library's refusal, 1 to 12, 14 or 20; none for the faults that this crate sees itself.
+    /// The number of the library's refusal, 1 to 12, 14, 17, 20 or 21; none for the faults that this
+    /// crate sees itself.
     pub fn number(self) -> Option<u64> {
         match self {
             Error::QueryCut => Some(1),
@@ -139,11 +194,13 @@ impl Error {
             Error::TooManyPlaces => Some(7),
             Error::DefinedTwice => Some(8),
             Error::MeasureLetter => Some(9),
-            Error::WrongRows => Some(10),
+            Error::WrongRows | Error::TooManyRows { .. } => Some(10),
             Error::NotesShort => Some(11),
             Error::TrailShort => Some(12),
             Error::PatternEnds { .. } => Some(14),
+            Error::LooksAhead { .. } => Some(LOOKS_AHEAD),
             Error::NoNumber => Some(20),
+            Error::OutOfOrder => Some(21),
             Error::ColumnCount { .. } | Error::OtherLibrary { .. } => None,
         }
     }
@@ -177,6 +234,15 @@ impl Error {
             Error::WrongRows => "the entries are not whole rows, or there are more than 4,096 rows",
             Error::NotesShort => "the notes are too short",
             Error::TrailShort => "the trail is too short",
+            Error::TooManyRows { .. } => "there are too many rows",
+            Error::LooksAhead { .. } => {
+                "the query looks ahead, so that rows which are still to come could change what was \
+                 found"
+            }
+            Error::OutOfOrder => {
+                "the call is out of order: the end was declared before it, or it has fewer rows than \
+                 a call before it"
+            }
             Error::NoNumber => {
                 "the table takes no further partition: 65,535 have a number, or the list is full"
             }
@@ -192,6 +258,10 @@ impl fmt::Display for Error {
         match self {
             Error::ColumnCount { query, rows } => write!(f, " ({rows}, not {query})"),
             Error::OtherLibrary { answer } => write!(f, " (answer {answer})"),
+            Error::TooManyRows { rows, most } => {
+                write!(f, ": {rows}, and at most {most} are possible")
+            }
+            Error::LooksAhead { by: Some(by) } => write!(f, ": {by}"),
             Error::ConditionTooLong {
                 letter,
                 comparisons,
@@ -231,10 +301,18 @@ mod tests {
 
     #[test]
     fn each_refusal_keeps_its_number() {
-        for number in (1..=12).chain([14, 20]) {
+        for number in (1..=12).chain([14, 17, 20, 21]) {
             assert_eq!(Error::from_answer(number, 0).number(), Some(number));
         }
-        for other in [DONE, STOPPED, NO_SKIP_ROW, OUT_OF_STEPS, 17, u64::MAX] {
+        for other in [
+            DONE,
+            STOPPED,
+            NO_SKIP_ROW,
+            OUT_OF_STEPS,
+            18,
+            WAITING,
+            u64::MAX,
+        ] {
             assert_eq!(Error::from_answer(other, 0).number(), None);
         }
     }
@@ -242,9 +320,10 @@ mod tests {
     #[test]
     fn each_refusal_has_words_of_its_own() {
         let words: std::collections::HashSet<String> = (1..=14)
+            .chain([17, 20, 21])
             .map(|number| Error::from_answer(number, 0).to_string())
             .collect();
-        assert_eq!(words.len(), 14);
+        assert_eq!(words.len(), 17);
         // Whoever built the query from parts knows no records: the limits tell what to look for.
         let (records, field) = (
             Error::WrongRecords.to_string(),
@@ -268,5 +347,37 @@ mod tests {
             columns.to_string(),
             "the rows have another number of columns than the query (3, not 1)"
         );
+        let rows = Error::TooManyRows { rows: 12, most: 9 };
+        assert_eq!(
+            (rows.number(), rows.to_string()),
+            (
+                Some(10),
+                String::from("there are too many rows: 12, and at most 9 are possible")
+            )
+        );
+        for (by, end) in [
+            (
+                Ahead::End { offset: 4 },
+                ": its pattern has a `$` at byte 4, counted from 0",
+            ),
+            (
+                Ahead::Letter {
+                    letter: 'B',
+                    rows: 1,
+                },
+                ": B reads the next row",
+            ),
+            (
+                Ahead::Letter {
+                    letter: 'B',
+                    rows: 9,
+                },
+                ": B reads 9 rows on",
+            ),
+        ] {
+            let ahead = Error::LooksAhead { by: Some(by) };
+            assert_eq!(ahead.number(), Some(17));
+            assert!(ahead.to_string().ends_with(end), "{ahead}");
+        }
     }
 }

@@ -19,8 +19,8 @@ pub const STACK: usize = 65_536;
 #[repr(C)]
 #[derive(Clone, Copy, Debug, PartialEq, Eq, Hash)]
 pub struct Outcome {
-    /// 0 done, 13, 15 and 16 stopped, 1 to 12 and 14 refused; see [`Ending`](crate::Ending) for the
-    /// first four and [`Error`](crate::Error) for the refusals.
+    /// 0 done, 13, 15 and 16 stopped, 23 waits for further rows, all others refused; see
+    /// [`Ending`](crate::Ending) for the first five and [`Error`](crate::Error) for the refusals.
     pub answer: u64,
     /// Matches in the report.
     pub matches: u64,
@@ -300,8 +300,196 @@ pub fn depots_partition(
     }
 }
 
+/// What is kept of a search by lots between its calls. [`begin`] makes it, [`more`] and [`last`] alter
+/// it; it may be copied. Any other numbers in it get an answer of which nothing is said.
+#[repr(C)]
+#[derive(Clone, Copy, Debug, PartialEq, Eq, Hash)]
+pub struct FeedState {
+    /// The largest number of rows, as it was named.
+    pub largest: u64,
+    /// The steps allowed over all calls, as they were named.
+    pub allowance: u64,
+    /// The rows present at the latest call that was not refused.
+    pub present: u64,
+    /// 0 until a call has not been refused, then 1.
+    pub begun: u64,
+    /// The answer of that call; 23 before the first.
+    pub answer: u64,
+    /// The start at which the search goes on.
+    pub row: u64,
+    /// Matches in the report.
+    pub matches: u64,
+    /// Label bytes in the report.
+    pub labels: u64,
+    /// Steps over all calls.
+    pub steps: u64,
+    /// Pairs that are still open, where the search waits inside an attempt.
+    pub opened: u64,
+}
+
+/// Begins a search whose rows come in lots: names the largest number of rows that there may be and
+/// the steps allowed over all calls, [`u64::MAX`] for any number. It judges nothing: [`more`] and
+/// [`last`] do. Most callers want [`Feed`](crate::Feed).
+///
+/// ```
+/// use mireladle::{lent, Query};
+///
+/// let query = Query::builder(1).pattern("A A").build()?;
+/// let (query, rows) = (query.as_bytes(), [7, 8, 9]);
+/// let room = lent::room(query, &rows);
+/// let (mut notes, mut trail) = (vec![0; room.notes() as usize], vec![0; room.pairs as usize]);
+/// let (mut numbers, mut labels) = ([0; 9], [0; 3]);
+/// let mut feed = lent::begin(3, u64::MAX);
+/// let mut answers = Vec::new();
+/// for present in [1, 2, 3, 2] {
+///     let outcome = lent::more(
+///         &mut feed, query, &rows, present, &mut notes, &mut trail, &mut numbers, &mut labels,
+///     );
+///     answers.push((outcome.answer, outcome.matches));
+/// }
+/// // The match is there with its second row. Fewer rows than before are refused.
+/// assert_eq!(answers, [(23, 0), (23, 1), (23, 1), (21, 0)]);
+/// let outcome = lent::last(
+///     &mut feed, query, &rows, 3, &mut notes, &mut trail, &mut numbers, &mut labels,
+/// );
+/// assert_eq!((outcome.answer, outcome.matches), (0, 1));
+/// # Ok::<(), mireladle::Error>(())
+/// ```
+pub fn begin(largest: u64, allowance: u64) -> FeedState {
+    let mut feed = FeedState {
+        largest: 0,
+        allowance: 0,
+        present: 0,
+        begun: 0,
+        answer: 0,
+        row: 0,
+        matches: 0,
+        labels: 0,
+        steps: 0,
+        opened: 0,
+    };
+    // SAFETY: the pointer comes from an exclusive reference.
+    #[allow(unsafe_code)]
+    unsafe {
+        mireladle_begin(&mut feed, largest, allowance);
+    }
+    feed
+}
+
+/// A lot of rows, behind which more may come: of `rows`, which hold all so far, so many are present
+/// now. What lies behind them is not read. Query and buffers are those of all other calls of this
+/// feed, as these left them, and notes and trail are measured by the largest number of rows.
+///
+/// Answer 23: the search waits for further rows; numbers and labels have all matches found so far,
+/// and the outcome counts them. 13, 15 and 16 are as for [`search_within`], and stay the answer of
+/// every later call. Refusals change nothing: those of the query, 17 for one that looks ahead, 10
+/// for more rows than were named, or than the slice holds, 11, 12, and 21 for fewer rows than
+/// before or after the end.
+pub fn more(
+    feed: &mut FeedState,
+    query: &[u8],
+    rows: &[i32],
+    present: u64,
+    notes: &mut [u8],
+    trail: &mut [u32],
+    numbers: &mut [i64],
+    labels: &mut [u8],
+) -> Outcome {
+    // SAFETY: as for `search`; the feed is an exclusive reference too.
+    #[allow(unsafe_code)]
+    unsafe {
+        mireladle_more(
+            feed,
+            query.as_ptr(),
+            query.len(),
+            rows.as_ptr(),
+            rows.len(),
+            present,
+            notes.as_mut_ptr(),
+            notes.len(),
+            trail.as_mut_ptr(),
+            trail.len(),
+            numbers.as_mut_ptr(),
+            numbers.len(),
+            labels.as_mut_ptr(),
+            labels.len(),
+        )
+    }
+}
+
+/// The last lot: as [`more`], and the end is declared. The answer is 0 in the place of 23, with the
+/// report, the steps and the buffers of one [`search_within`] of all rows present, but that notes
+/// and trail are measured by the largest number of rows.
+pub fn last(
+    feed: &mut FeedState,
+    query: &[u8],
+    rows: &[i32],
+    present: u64,
+    notes: &mut [u8],
+    trail: &mut [u32],
+    numbers: &mut [i64],
+    labels: &mut [u8],
+) -> Outcome {
+    // SAFETY: as for `more`.
+    #[allow(unsafe_code)]
+    unsafe {
+        mireladle_last(
+            feed,
+            query.as_ptr(),
+            query.len(),
+            rows.as_ptr(),
+            rows.len(),
+            present,
+            notes.as_mut_ptr(),
+            notes.len(),
+            trail.as_mut_ptr(),
+            trail.len(),
+            numbers.as_mut_ptr(),
+            numbers.len(),
+            labels.as_mut_ptr(),
+            labels.len(),
+        )
+    }
+}
+
 // As in include/mireladle.h; nothing but the tests compares the two.
 extern "C" {
+    fn mireladle_begin(feed: *mut FeedState, largest: u64, allowance: u64);
+
+    fn mireladle_more(
+        feed: *mut FeedState,
+        query: *const u8,
+        query_len: usize,
+        rows: *const i32,
+        rows_len: usize,
+        present: u64,
+        notes: *mut u8,
+        notes_len: usize,
+        trail: *mut u32,
+        trail_len: usize,
+        numbers: *mut i64,
+        numbers_len: usize,
+        labels: *mut u8,
+        labels_len: usize,
+    ) -> Outcome;
+
+    fn mireladle_last(
+        feed: *mut FeedState,
+        query: *const u8,
+        query_len: usize,
+        rows: *const i32,
+        rows_len: usize,
+        present: u64,
+        notes: *mut u8,
+        notes_len: usize,
+        trail: *mut u32,
+        trail_len: usize,
+        numbers: *mut i64,
+        numbers_len: usize,
+        labels: *mut u8,
+        labels_len: usize,
+    ) -> Outcome;
+
     fn mireladle_search(
         query: *const u8,
         query_len: usize,

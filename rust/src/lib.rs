@@ -54,6 +54,10 @@
 //! # Ok::<(), mireladle::Error>(())
 //! ```
 //!
+//! # Rows that come in lots
+//!
+//! [`Feed`] searches rows while they come, and hands out each match as soon as it is found.
+//!
 //! # The release desk
 //!
 //! [`Desk`] says of a bus's log whether the bus may leave: cleared, held, or unreadable.
@@ -88,6 +92,7 @@ mod depots;
 mod desk;
 mod error;
 mod expected;
+mod feed;
 pub mod lent;
 mod measure;
 mod query;
@@ -99,8 +104,9 @@ pub use comparison::{col, Column, Comparison, Operand, Operator, Sum};
 pub use condition::Condition;
 pub use depots::{Depots, Listed, Taken, MONTHS, MOST_DEPOTS};
 pub use desk::{Desk, Verdict, LOG_COLUMNS, LOG_ROWS};
-pub use error::Error;
+pub use error::{Ahead, Error};
 pub use expected::Expected;
+pub use feed::Feed;
 pub use measure::{Function, Measure};
 pub use query::{Query, QueryBuilder, Skip, Tested};
 pub use report::{Ending, Limits, Match, Matches, Report};

@@ -3,7 +3,7 @@
 //! that the library refuses them, with its own number.
 
 use crate::condition::Condition;
-use crate::error::{Error, DONE};
+use crate::error::{Ahead, Error, DONE};
 use crate::expected::Expected;
 use crate::lent;
 use crate::measure::{letter_byte, Measure};
@@ -18,6 +18,11 @@ const SKIP: u16 = 4;
 const MEASURE: u16 = 5;
 /// Stands where kind 3 does.
 const CONDITION: u16 = 6;
+
+/// Bytes of a comparison, and where in it its two offsets stand.
+const COMPARISON: usize = 12;
+const LEFT_OFFSET: usize = 1;
+const RIGHT_OFFSET: usize = 5;
 
 /// Where the search goes on after a match with rows. After an empty match it goes one row on.
 ///
@@ -426,7 +431,14 @@ impl Query {
         }
     }
 
-    fn check_columns(&self, rows: Rows<'_>) -> Result<(), Error> {
+    /// PF(n+1): the numbers of the trail, and the bits of the notes, that a search of n rows takes.
+    pub(crate) fn pairs(&self, n: usize) -> Result<usize, Error> {
+        let places = length(self.places.saturating_mul(self.factor))?;
+        Ok(places.saturating_mul(n.saturating_add(1)))
+    }
+
+    /// Refuses rows of another number of columns.
+    pub(crate) fn check_columns(&self, rows: Rows<'_>) -> Result<(), Error> {
         match rows.columns() == self.shape.columns {
             true => Ok(()),
             false => Err(Error::ColumnCount {
@@ -435,6 +447,59 @@ impl Query {
             }),
         }
     }
+}
+
+impl Query {
+    /// What of the query looks ahead, as the library's answer 17 has it: a `$`, or the first letter
+    /// of the pattern, in the order of the DEFINEs, that reads a row behind its own.
+    pub(crate) fn looks_ahead(&self) -> Option<Ahead> {
+        let (_, text) = records(&self.bytes).find(|(kind, _)| *kind == PATTERN)?;
+        if let Some(offset) = text.iter().position(|byte| *byte == b'$') {
+            return Some(Ahead::End { offset });
+        }
+        records(&self.bytes).find_map(|(kind, body)| {
+            let (letter, rows) = furthest(kind, body)?;
+            // In the text of a pattern every letter stands for itself.
+            let asked = rows > 0 && text.contains(&letter);
+            asked.then_some(Ahead::Letter {
+                letter: char::from(letter),
+                rows,
+            })
+        })
+    }
+}
+
+/// The letter of a DEFINE, and how many rows behind its own it reads, where it reads furthest.
+fn furthest(kind: u16, body: &[u8]) -> Option<(u8, u8)> {
+    let [letter, _, entries @ ..] = body else {
+        return None;
+    };
+    let ahead = |comparison: &[u8]| {
+        let offset = |at: usize| {
+            let byte = comparison.get(at).copied().unwrap_or(0);
+            u8::try_from(i8::from_le_bytes([byte])).unwrap_or(0)
+        };
+        offset(LEFT_OFFSET).max(offset(RIGHT_OFFSET))
+    };
+    let rows = match kind {
+        DEFINE => entries.chunks_exact(COMPARISON).map(ahead).max(),
+        CONDITION => comparisons(entries).map(ahead).max(),
+        _ => return None,
+    };
+    Some((*letter, rows.unwrap_or(0)))
+}
+
+/// The comparisons among the entries of a DEFINE of kind 6.
+fn comparisons(mut entries: &[u8]) -> impl Iterator<Item = &[u8]> {
+    std::iter::from_fn(move || loop {
+        let (first, behind) = entries.split_first()?;
+        entries = behind;
+        if *first == 0 {
+            let comparison = behind.get(..COMPARISON)?;
+            entries = behind.get(COMPARISON..)?;
+            return Some(comparison);
+        }
+    })
 }
 
 /// What the test of a letter at a row comes to: see [`Query::test`].

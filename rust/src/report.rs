@@ -5,7 +5,7 @@ use std::iter::FusedIterator;
 use std::ops::Range;
 use std::slice::ChunksExact;
 
-use crate::error::{Error, DONE, NO_SKIP_ROW, OUT_OF_STEPS, STOPPED};
+use crate::error::{Error, DONE, NO_SKIP_ROW, OUT_OF_STEPS, STOPPED, WAITING};
 use crate::lent::Outcome;
 use crate::query::Skip;
 
@@ -15,7 +15,7 @@ const HEAD: usize = 3;
 const MEASURE: usize = 2;
 
 /// How many numbers a match takes in the report.
-fn numbers_per_match(measures: usize) -> usize {
+pub(crate) fn numbers_per_match(measures: usize) -> usize {
     measures.saturating_mul(MEASURE).saturating_add(HEAD)
 }
 
@@ -113,6 +113,23 @@ pub enum Ending {
     /// 16: the next step would have been one more than [`Limits::steps`] allows. The report holds
     /// all matches that were found by then, and the same search with more steps begins with them.
     OutOfSteps,
+    /// 23: it has not ended, but waits for a row that is not yet there. Only a
+    /// [`Feed`](crate::Feed) gives this.
+    Waiting,
+}
+
+impl Ending {
+    /// The ending that an answer says; none where it is a refusal.
+    pub(crate) fn of(answer: u64) -> Option<Ending> {
+        match answer {
+            DONE => Some(Ending::Done),
+            STOPPED => Some(Ending::Stopped),
+            NO_SKIP_ROW => Some(Ending::NoSkipRow),
+            OUT_OF_STEPS => Some(Ending::OutOfSteps),
+            WAITING => Some(Ending::Waiting),
+            _ => None,
+        }
+    }
 }
 
 /// The matches of one search, in order.
@@ -141,13 +158,8 @@ impl Report {
         mut labels: Vec<u8>,
         measures: usize,
     ) -> Result<Report, Error> {
-        let ending = match outcome.answer {
-            DONE => Ending::Done,
-            STOPPED => Ending::Stopped,
-            NO_SKIP_ROW => Ending::NoSkipRow,
-            OUT_OF_STEPS => Ending::OutOfSteps,
-            refused => return Err(Error::from_answer(refused, outcome.offset)),
-        };
+        let ending = Ending::of(outcome.answer)
+            .ok_or_else(|| Error::from_answer(outcome.answer, outcome.offset))?;
         let strange = Error::OtherLibrary {
             answer: outcome.answer,
         };
@@ -386,8 +398,12 @@ mod tests {
         assert_eq!(report.matches().next().map(|it| it.rows()), Some(4..6));
         let none = Report::new(&outcome(16, 0, 0), vec![], vec![], 3).unwrap();
         assert_eq!((none.ending(), none.is_empty()), (Ending::OutOfSteps, true));
-        let unknown = Report::new(&outcome(17, 0, 0), vec![], vec![], 0);
-        assert_eq!(unknown, Err(Error::OtherLibrary { answer: 17 }));
+        let waits = Report::new(&outcome(23, 1, 1), vec![1, 0, 1, 0], b"A".to_vec(), 0).unwrap();
+        assert_eq!((waits.ending(), waits.len()), (Ending::Waiting, 1));
+        let refused = Report::new(&outcome(17, 0, 0), vec![], vec![], 0);
+        assert_eq!(refused, Err(Error::LooksAhead { by: None }));
+        let unknown = Report::new(&outcome(18, 0, 0), vec![], vec![], 0);
+        assert_eq!(unknown, Err(Error::OtherLibrary { answer: 18 }));
     }
 
     #[test]

@@ -1,6 +1,6 @@
 //! The C header and its example, by the compilers `cc` and `c++` (or those that CC and CXX name): both languages take
-//! the header without a warning, its structs have the size that this crate declares, and the examples print W1's match and
-//! the desk's verdicts.
+//! the header without a warning, its structs have the size that this crate declares, and the examples print W1's match,
+//! the desk's verdicts and the matches of a log that comes row by row.
 
 #![allow(clippy::restriction)]
 
@@ -112,6 +112,32 @@ int main(void) {
         if (list[0] != 2 || list[1] != MIRELADLE_TRAIL_SHORT) return 31;
         if (state[MIRELADLE_DEPOTS_PARTITIONS] != 2 || state[MIRELADLE_DEPOTS_LISTED] != 2) return 32;
     }
+    /* Rows in lots: each row is a match, which is there with its row; the slice is longer than that. */
+    struct mireladle_feed feed;
+    mireladle_feed_t begun;
+    if (sizeof feed != 80 || offsetof(struct mireladle_feed, opened) != 72) return 33;
+    if (MIRELADLE_LOOKS_AHEAD != 17 || MIRELADLE_OUT_OF_ORDER != 21 || MIRELADLE_WAITING != 23) return 34;
+    mireladle_begin(&feed, 3, UINT64_MAX);
+    begun = feed;
+    if (feed.largest != 3 || feed.allowance != UINT64_MAX || feed.answer != MIRELADLE_WAITING) return 35;
+    result = mireladle_more(&feed, NULL, 0, NULL, 0, 0, NULL, 0, NULL, 0, NULL, 0, NULL, 0);
+    if (result.answer != MIRELADLE_WRONG_RECORDS || feed.begun != 0) return 36;
+    for (uint64_t present = 0; present < 3; present++) {
+        result = mireladle_more(&feed, each, sizeof each, months, 3, present, bits, sizeof bits, pairs, 24, three, 9,
+                                labels, 3);
+        if (result.answer != MIRELADLE_WAITING || result.matches != present) return 37;
+        if (feed.present != present || feed.begun != 1 || feed.steps != result.steps) return 38;
+    }
+    begun = feed;
+    result = mireladle_more(&feed, each, sizeof each, months, 3, 1, bits, sizeof bits, pairs, 24, three, 9, labels, 3);
+    if (result.answer != MIRELADLE_OUT_OF_ORDER || result.matches + result.steps != 0) return 39;
+    if (feed.present != begun.present || feed.steps != begun.steps || feed.answer != begun.answer) return 40;
+    result = mireladle_more(&feed, each, sizeof each, months, 3, 4, bits, sizeof bits, pairs, 24, three, 9, labels, 3);
+    if (result.answer != MIRELADLE_WRONG_ROWS) return 41;
+    result = mireladle_last(&feed, each, sizeof each, months, 3, 3, bits, sizeof bits, pairs, 24, three, 9, labels, 3);
+    if (result.answer != MIRELADLE_DONE || result.matches != 3 || three[6] != 3 || three[7] != 2) return 42;
+    result = mireladle_last(&feed, each, sizeof each, months, 3, 3, bits, sizeof bits, pairs, 24, three, 9, labels, 3);
+    if (result.answer != MIRELADLE_OUT_OF_ORDER) return 43;
     return MIRELADLE_NOTES_LENGTH(30) == 4 && MIRELADLE_MATCH_LENGTH(2) == 7 ? 0 : 4;
 }
 "#;
@@ -178,4 +204,21 @@ no rows: held
 a row that is not whole: refused 10
 ";
     assert_eq!(example("desk"), expected);
+}
+
+#[test]
+fn the_example_prints_each_match_with_its_last_row() {
+    let expected = "\
+row 0: event 1
+row 1: event 2
+row 2: event 2
+row 3: event 3
+  match 1: rows 0 to 3
+row 4: event 1
+row 5: event 1
+row 6: event 3
+  match 2: rows 5 to 6
+the end: answer 0, 2 matches in 18 steps
+";
+    assert_eq!(example("feed"), expected);
 }

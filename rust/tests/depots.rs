@@ -42,6 +42,23 @@ fn cell(row: &[i32]) -> Option<(u8, u8)> {
     inside.then_some((row[0] as u8, row[1] as u8))
 }
 
+/// The buffers are measured with the pattern's factor too.
+#[test]
+fn rounds_that_may_take_no_row_are_counted() {
+    let query = Query::builder(3)
+        .pattern("(A*)* B")
+        .define('A', [col(2).eq(1)]);
+    let query = query.define('B', [col(2).eq(2)]).build().unwrap();
+    assert_eq!(query.factor(), 2);
+    let mut depots = Depots::new(0, 1);
+    let taken = depots.partition(&query, Rows::new(&[3, 4, 1, 3, 4, 1, 3, 4, 2], 3));
+    assert_eq!(
+        taken.map(|it| (it.ending, it.matches)),
+        Ok((Ending::Done, 1))
+    );
+    assert_eq!(depots.cell(3, 4), Some(1));
+}
+
 #[test]
 fn counts_and_list_are_those_of_the_reports() {
     let mut random = Random(4);

@@ -24,6 +24,8 @@ fn version_help_and_manual() {
     let help = printed(&["-h"]);
     for part in [
         "--partition-by COLUMN",
+        "--follow\n",
+        "--pid PID\n",
         "Examples:",
         "Exit status:",
         "141  the reader",
@@ -45,7 +47,10 @@ fn completions_are_offered() {
          _mireladle_match; echo \"${{COMPREPLY[*]}}\""
     );
     let output = Command::new("bash").args(["-c", &line]).output().unwrap();
-    assert_eq!(String::from_utf8_lossy(&output.stdout), "--format\njson\n");
+    assert_eq!(
+        String::from_utf8_lossy(&output.stdout),
+        "--follow --format\njson\n"
+    );
     assert!(printed(&["--completions=zsh"]).starts_with("#compdef mireladle-match\n"));
     assert!(printed(&["--completions", "fish"]).contains("-l format -s f -x -a 'table json csv'"));
 }

@@ -1,7 +1,7 @@
 /*
- * Measures how much stack a call of mireladle_search(), mireladle_search_within(), mireladle_room()
- * and mireladle_test() takes, over many shapes of queries, and a call of mireladle_desk(), over logs
- * of every verdict.
+ * Measures how much stack a call of mireladle_search(), mireladle_search_within(), mireladle_room(),
+ * mireladle_test(), mireladle_more() and mireladle_last() takes, over many shapes of queries, and a
+ * call of mireladle_desk(), over logs of every verdict.
  *
  * Everything runs on a thread whose stack is a region of this program's own. Before each call the
  * region is painted with a pattern; afterwards the lowest word that differs tells how deep the call
@@ -103,9 +103,9 @@ static uint8_t labels[MIRELADLE_MAX_ROWS];
 static struct {
     const char *name;
     unsigned queries, accepted;
-    size_t search, within, room, test;
+    size_t search, within, room, test, lots;
 } shape;
-static size_t worst_search, worst_within, worst_room, worst_test, worst_desk;
+static size_t worst_search, worst_within, worst_room, worst_test, worst_lots, worst_desk;
 
 /* The worst query of all, and the worst accepted one. */
 struct worst {
@@ -146,10 +146,40 @@ NOINLINE static size_t depth_of_test(const uint8_t *query, size_t length, size_t
     return depth_below((uintptr_t)__builtin_frame_address(0));
 }
 
+NOINLINE static size_t depth_of_more(struct mireladle_feed *feed, const uint8_t *query, size_t length,
+                                     size_t entries, uint64_t present)
+{
+    paint();
+    mireladle_more(feed, query, length, rows, entries, present, notes, sizeof notes, trail, MIRELADLE_MAX_PAIRS,
+                   numbers, MIRELADLE_MAX_ROWS * MATCH, labels, sizeof labels);
+    return depth_below((uintptr_t)__builtin_frame_address(0));
+}
+
+NOINLINE static size_t depth_of_last(struct mireladle_feed *feed, const uint8_t *query, size_t length,
+                                     size_t entries, uint64_t present, uint64_t *answer)
+{
+    paint();
+    *answer = mireladle_last(feed, query, length, rows, entries, present, notes, sizeof notes, trail,
+                             MIRELADLE_MAX_PAIRS, numbers, MIRELADLE_MAX_ROWS * MATCH, labels, sizeof labels).answer;
+    return depth_below((uintptr_t)__builtin_frame_address(0));
+}
+
 static void raise_to(size_t *most, size_t depth)
 {
     if (*most < depth)
         *most = depth;
+}
+
+/* The rows in three lots: none, half of them, and all, with which the end is declared. */
+static size_t depth_of_lots(const uint8_t *query, size_t length, size_t entries, uint64_t *answer)
+{
+    const uint64_t n = length > 4 && query[4] != 0 ? entries / query[4] : 0;
+    struct mireladle_feed feed;
+    mireladle_begin(&feed, n, UINT64_MAX);
+    size_t depth = depth_of_more(&feed, query, length, entries, 0);
+    raise_to(&depth, depth_of_more(&feed, query, length, entries, n / 2));
+    raise_to(&depth, depth_of_last(&feed, query, length, entries, n, answer));
+    return depth;
 }
 
 static void keep_worst(struct worst *worst, size_t depth, const uint8_t *query, size_t length)
@@ -164,27 +194,33 @@ static void keep_worst(struct worst *worst, size_t depth, const uint8_t *query, 
 /* All functions on one query. */
 static void measure(const uint8_t *query, size_t length, size_t entries)
 {
-    uint64_t searched, allowed, judged, tested;
+    uint64_t searched, allowed, judged, tested, fed;
     const size_t search = depth_of_search(query, length, entries, &searched);
     const size_t within = depth_of_within(query, length, entries, &allowed);
     const size_t room = depth_of_room(query, length, entries, &judged);
     const size_t test = depth_of_test(query, length, entries, &tested);
+    const size_t lots = depth_of_lots(query, length, entries, &fed);
     const bool accepted =
         searched == MIRELADLE_DONE || searched == MIRELADLE_STOPPED || searched == MIRELADLE_NO_SKIP_ROW;
     if (allowed != searched || tested != judged || (accepted ? judged != MIRELADLE_DONE : judged != searched))
         fail("the functions answer differently");
+    if (fed != searched && !(fed == MIRELADLE_LOOKS_AHEAD && (accepted || searched > MIRELADLE_MEASURE_LETTER)))
+        fail("the rows in lots are answered differently");
     shape.queries++;
     raise_to(&shape.search, search);
     raise_to(&shape.within, within);
     raise_to(&shape.room, room);
     raise_to(&shape.test, test);
+    raise_to(&shape.lots, lots);
     raise_to(&worst_search, search);
     raise_to(&worst_within, within);
     raise_to(&worst_room, room);
     raise_to(&worst_test, test);
+    raise_to(&worst_lots, lots);
     size_t depth = search > room ? search : room;
     raise_to(&depth, within);
     raise_to(&depth, test);
+    raise_to(&depth, lots);
     keep_worst(&worst_query, depth, query, length);
     if (accepted) {
         shape.accepted++;
@@ -200,8 +236,8 @@ static void begin(const char *name)
 
 static void finish(void)
 {
-    printf("%-52s %6u queries %6u accepted %7zu search %7zu within %7zu room %7zu test\n", shape.name, shape.queries,
-           shape.accepted, shape.search, shape.within, shape.room, shape.test);
+    printf("%-52s %6u queries %6u accepted %7zu search %7zu within %7zu room %7zu test %7zu lots\n", shape.name,
+           shape.queries, shape.accepted, shape.search, shape.within, shape.room, shape.test, shape.lots);
 }
 
 /* A shape that is there for what accepted queries take, or refused ones. */
@@ -826,7 +862,7 @@ int main(void)
         fail("no thread on the region");
     print_worst("query", &worst_query);
     print_worst("accepted query", &worst_accepted);
-    printf("worst: search %zu, within %zu, room %zu, test %zu, desk %zu; MIRELADLE_STACK is %d\n", worst_search,
-           worst_within, worst_room, worst_test, worst_desk, MIRELADLE_STACK);
+    printf("worst: search %zu, within %zu, room %zu, test %zu, lots %zu, desk %zu; MIRELADLE_STACK is %d\n",
+           worst_search, worst_within, worst_room, worst_test, worst_lots, worst_desk, MIRELADLE_STACK);
     return worst_query.depth <= MIRELADLE_STACK && worst_desk <= MIRELADLE_STACK ? 0 : 1;
 }

@@ -5,7 +5,7 @@
 
 #![allow(clippy::restriction)]
 
-use mireladle::{lent, Query, Rows};
+use mireladle::{lent, Feed, Limits, Query, Rows};
 use std::path::Path;
 use std::process::Command;
 
@@ -63,6 +63,9 @@ fn a_thread_with_the_stack_that_the_documents_name() {
     let search = move || {
         let found = accepted.map(|text| {
             let query = Query::builder(1).pattern(&text).build().unwrap();
+            let mut feed = Feed::new(&query, 3, Limits::default()).unwrap();
+            feed.push(Rows::new(&[1, 2, 3], 1)).unwrap();
+            feed.finish().unwrap();
             query.search(Rows::new(&[1, 2, 3], 1)).unwrap().len()
         });
         (found, Query::builder(1).pattern(&refused).build().is_err())

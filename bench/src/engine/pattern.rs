@@ -6,6 +6,8 @@
 
 pub const MOST_PLACES: usize = 256;
 const DEEPEST_PARENTHESES: i32 = 8;
+/// Of repetitions without end whose rounds may take no row.
+const DEEPEST_NESTING: u8 = 3;
 
 /// What a place is; a letter is its own byte, A to Z.
 pub const FIRST: u8 = b'^';
@@ -27,7 +29,8 @@ pub const LEAVE: u8 = 0;
 pub struct Place {
     pub sort: u8,
     pub next: u8,
-    /// Of an alternation's fork: its part of `branches`.
+    /// Of an alternation's fork: its part of `branches`. Of the fork of a repetition
+    /// whose rounds may take no row: no `from`, and how many places its copy has.
     pub from: u8,
     pub count: u8,
 }
@@ -37,6 +40,8 @@ pub struct Pattern {
     pub places: [Place; MOST_PLACES],
     /// P, END included.
     pub count: usize,
+    /// F: how many values the flags of a place can have.
+    pub factor: usize,
     /// Ways of alternations, as distances from the fork or LEAVE, without
     /// repeats. The copies of a fork share them.
     pub branches: [u8; 256],
@@ -54,6 +59,7 @@ impl Pattern {
                 count: 0,
             }; MOST_PLACES],
             count: 0,
+            factor: 1,
             branches: [LEAVE; 256],
             letters: 0,
         }
@@ -62,6 +68,15 @@ impl Pattern {
     /// The ways of an alternation's fork; there is at least one.
     pub fn branches_of(&self, fork: Place) -> &[u8] {
         &self.branches[usize::from(fork.from)..][..usize::from(fork.count)]
+    }
+
+    /// How many places the copy of a repetition has whose rounds may take no row, if
+    /// this is the fork of one that has places; otherwise 0.
+    pub fn flagged_copy(place: Place) -> usize {
+        match place.sort {
+            GREEDY | RELUCTANT => usize::from(place.count),
+            _ => 0,
+        }
     }
 }
 
@@ -79,13 +94,12 @@ pub fn read(text: &[u8], pattern: &mut Pattern) -> Result<(), u64> {
         branches: 0,
         open: [0; 256],
         open_count: 0,
-        endless: false,
         too_many: false,
     };
-    if reader.pattern().is_none() || reader.at < text.len() {
+    let Some(Part { nesting, .. }) = reader.pattern().filter(|_| reader.at >= text.len()) else {
         return Err(5);
-    }
-    if reader.endless {
+    };
+    if nesting > DEEPEST_NESTING {
         return Err(6);
     }
     if reader.too_many {
@@ -93,6 +107,7 @@ pub fn read(text: &[u8], pattern: &mut Pattern) -> Result<(), u64> {
     }
     // The last place is END already, as nothing was laid there.
     pattern.count += 1;
+    pattern.factor = 1 << nesting;
     Ok(())
 }
 
@@ -106,9 +121,23 @@ fn parentheses_pass_eight(text: &[u8]) -> bool {
     most > DEEPEST_PARENTHESES
 }
 
-/// Whether what was read can take no row; no value where the text is outside
-/// the language.
-type Read = Option<bool>;
+/// What was read: whether it can take no row, and how deep repetitions without end
+/// are nested in it whose rounds may take no row.
+#[derive(Clone, Copy)]
+struct Part {
+    can_take_no_row: bool,
+    nesting: u8,
+}
+
+/// No value where the text is outside the language.
+type Read = Option<Part>;
+
+fn single(can_take_no_row: bool) -> Part {
+    Part {
+        can_take_no_row,
+        nesting: 0,
+    }
+}
 
 struct Reader<'a> {
     text: &'a [u8],
@@ -121,8 +150,6 @@ struct Reader<'a> {
     /// There are at most two for each `|`, so they fit.
     open: [u8; 256],
     open_count: usize,
-    /// An unbounded quantifier stands over a body that can take no row.
-    endless: bool,
     /// There are more places than are allowed, and no more are laid.
     too_many: bool,
 }
@@ -143,9 +170,9 @@ impl Reader<'_> {
     fn pattern(&mut self) -> Read {
         let start = self.pattern.count;
         let own = self.open_count;
-        let mut can_take_no_row = self.branch()?;
+        let mut part = self.branch()?;
         if self.peek() != b'|' {
-            return Some(can_take_no_row);
+            return Some(part);
         }
         self.push_open(start + 1);
         if self.room_for(1) {
@@ -157,13 +184,15 @@ impl Reader<'_> {
         while self.peek() == b'|' {
             self.at += 1;
             self.push_open(self.pattern.count);
-            can_take_no_row |= self.branch()?;
+            let branch = self.branch()?;
+            part.can_take_no_row |= branch.can_take_no_row;
+            part.nesting = part.nesting.max(branch.nesting);
         }
         if !self.too_many {
             self.lay_fork_of_branches(start, own);
         }
         self.open_count = own;
-        Some(can_take_no_row)
+        Some(part)
     }
 
     fn push_open(&mut self, start: usize) {
@@ -215,22 +244,24 @@ impl Reader<'_> {
     }
 
     fn branch(&mut self) -> Read {
-        let mut can_take_no_row = self.factor()?;
+        let mut part = self.factor()?;
         while !matches!(self.peek(), 0 | b'|' | b')') {
-            can_take_no_row &= self.factor()?;
+            let factor = self.factor()?;
+            part.can_take_no_row &= factor.can_take_no_row;
+            part.nesting = part.nesting.max(factor.nesting);
         }
-        Some(can_take_no_row)
+        Some(part)
     }
 
     fn factor(&mut self) -> Read {
         let start = self.pattern.count;
-        let can_take_no_row = self.primary()?;
+        let mut part = self.primary()?;
         let (low, high) = match self.peek() {
             b'*' => (0, None),
             b'+' => (1, None),
             b'?' => (0, Some(1)),
             b'{' => self.bounds()?,
-            _ => return Some(can_take_no_row),
+            _ => return Some(part),
         };
         self.at += 1;
         let sort = match self.text.get(self.at) {
@@ -240,10 +271,13 @@ impl Reader<'_> {
         self.at += usize::from(sort == RELUCTANT);
         match high {
             Some(high) => self.repeat(start, low, high, sort),
-            None if can_take_no_row => self.endless = true,
-            None => self.repeat_without_end(start, low, sort),
+            None => {
+                self.repeat_without_end(start, low, sort, part.can_take_no_row);
+                part.nesting += u8::from(part.can_take_no_row);
+            }
         }
-        Some(can_take_no_row || low == 0)
+        part.can_take_no_row |= low == 0;
+        Some(part)
     }
 
     fn primary(&mut self) -> Read {
@@ -256,11 +290,11 @@ impl Reader<'_> {
                 }
                 self.pattern.letters |= 1 << (byte - b'A');
                 self.lay(byte);
-                Some(false)
+                Some(single(false))
             }
             FIRST | LAST => {
                 self.lay(byte);
-                Some(true)
+                Some(single(true))
             }
             b'(' => self.parenthesis(),
             _ => None,
@@ -269,15 +303,15 @@ impl Reader<'_> {
 
     /// What stands behind an opening parenthesis: nothing, or a pattern.
     fn parenthesis(&mut self) -> Read {
-        let can_take_no_row = match self.peek() {
-            b')' => true,
+        let part = match self.peek() {
+            b')' => single(true),
             _ => self.pattern()?,
         };
         if self.peek() != b')' {
             return None;
         }
         self.at += 1;
-        Some(can_take_no_row)
+        Some(part)
     }
 
     /// The bounds in braces, up to the closing one, which is not taken.
@@ -371,9 +405,10 @@ impl Reader<'_> {
         self.pattern.count = end;
     }
 
-    /// Makes `low` copies, then a fork and a copy that leads back to it. The
-    /// body takes a row, so it has places.
-    fn repeat_without_end(&mut self, start: usize, low: usize, sort: u8) {
+    /// Makes `low` copies, then a fork and a copy that leads back to it. Where a round
+    /// may take no row, the fork is marked with the size of its copy; if that has no
+    /// places, both ways of the fork lead behind it.
+    fn repeat_without_end(&mut self, start: usize, low: usize, sort: u8, flagged: bool) {
         let body = self.pattern.count - start;
         if !self.room_for(low * body + 1) {
             return;
@@ -383,7 +418,11 @@ impl Reader<'_> {
         self.pattern
             .places
             .copy_within(start..start + body, fork + 1);
+        let sort = if body == 0 { ONE_WAY } else { sort };
         self.lay_at(fork, sort, 1 + body);
+        if flagged {
+            self.pattern.places[fork].count = body as u8;
+        }
         self.lead_out(fork + 1, end, fork);
         self.pattern.count = end;
     }

@@ -1,11 +1,12 @@
 //! The bench sheet of document 01, W1 to W12, run on the engine; with them what
 //! the paper says of the lent buffers when a search is done, stopped or refused;
-//! the skips to a labelled row of R-2; the average of R-5; and the conditions of R-7.
+//! the skips to a labelled row of R-2; repetitions whose rounds may take no row, R-3;
+//! the average of R-5; and the conditions of R-7.
 
 use super::query::first_entry;
 use super::{prepare, refused, room, search};
 use crate::random::Random;
-use mireladle::lent::Outcome;
+use mireladle::lent::{self, Outcome, Room};
 use mireladle::{col, Measure, Query, QueryBuilder, Skip};
 
 /// What every index of a buffer holds before a search.
@@ -211,7 +212,7 @@ fn w8_w9_most_places() {
 
 #[test]
 fn w10_w11_repeated() {
-    assert_eq!(answer("(A*)*"), 6);
+    assert_eq!(places("(A*)*"), 4);
     assert_eq!(places("(A?){3}"), 7);
     assert_eq!(places("(A+)+"), 8);
 }
@@ -267,6 +268,8 @@ fn prepared_runs_are_searches() {
         free("(A|B)+ C?").define('A', near),
         free("(A?){30} B"),
         free("(A?){99} B").define('B', near),
+        free("((A*)* B?)* C").define('B', near),
+        free("(((A?){5}|B)*? C??)*").define('C', near),
     ];
     for query in queries.map(|query| query.to_bytes()) {
         let prepared = prepare(&query).unwrap_or_else(|answer| panic!("answer {answer}"));
@@ -280,7 +283,165 @@ fn prepared_runs_are_searches() {
             }
         }
     }
-    assert!(prepare(&free("(A*)*").to_bytes()).is_err_and(|answer| answer == 6));
+    assert!(prepare(&free("((((A*)*)*)*)*").to_bytes()).is_err_and(|answer| answer == 6));
+}
+
+/// P, F, matches, steps and the bytes of the notes, worked out by hand for the rules'
+/// own table (crates/rules, specs/Samples).
+#[test]
+fn rounds_that_take_no_row() {
+    type Case<'a> = (
+        QueryBuilder,
+        &'a [i32],
+        [u64; 2],
+        &'a [(i64, &'a str)],
+        u64,
+        &'a [u8],
+    );
+    let cases: [Case; 11] = [
+        (
+            above_zero("(A*)*"),
+            &[1, 1, 0],
+            [4, 2],
+            &[(0, "AA"), (2, "")],
+            14,
+            &[0, 0, 48, 0],
+        ),
+        (
+            above_zero("(A*)*").skip(Skip::ToNextRow),
+            &[1, 0, 1],
+            [4, 2],
+            &[(0, "A"), (1, ""), (2, "A")],
+            21,
+            &[0, 48, 0, 48],
+        ),
+        (free("(A??)*"), &[0], [4, 2], &[(0, "")], 3, &[0, 0]),
+        (
+            free("(A*?)*? $"),
+            &[0, 0],
+            [5, 2],
+            &[(0, "AA")],
+            13,
+            &[64, 0, 1, 0],
+        ),
+        (free("(()*)*"), &[0], [3, 4], &[(0, "")], 3, &[0, 0, 0]),
+        (
+            above_zero("((A*)*)*"),
+            &[1, 0],
+            [5, 4],
+            &[(0, "A"), (1, "")],
+            18,
+            &[0, 0, 0, 0, 11, 0, 0, 0],
+        ),
+        (
+            above_zero("(((A*)*)*)*"),
+            &[1],
+            [6, 8],
+            &[(0, "A")],
+            20,
+            &[0, 0, 0, 0, 0, 0, 0, 0, 0, 0, 139, 0],
+        ),
+        (
+            above_zero("(A?){2,} B"),
+            &[1, 1],
+            [9, 2],
+            &[(0, "AB")],
+            13,
+            &[0, 0, 0, 65, 0, 80, 5],
+        ),
+        (
+            above_zero("(A*|B)* C"),
+            &[0, 0],
+            [7, 2],
+            &[(0, "C"), (1, "C")],
+            12,
+            &[64, 0, 16, 0, 0, 0],
+        ),
+        (
+            above_zero("(^ A?)* B"),
+            &[1, 0],
+            [6, 2],
+            &[(0, "AB")],
+            8,
+            &[0, 64, 0, 0, 0],
+        ),
+        (
+            above_zero("((A|())* B)* $").skip(Skip::ToNextRow),
+            &[0, 1],
+            [7, 2],
+            &[(0, "BB"), (1, "B")],
+            24,
+            &[64, 0, 16, 64, 21, 0],
+        ),
+    ];
+    for (query, rows, sizes, matches, steps, notes) in cases {
+        let query = query.to_bytes();
+        let room = room(&query, rows);
+        assert_eq!([room.places, room.factor], sizes, "{query:?}");
+        let searched = searched(&query, rows);
+        assert_eq!(searched.result.answer, 0, "{query:?}");
+        assert_eq!(searched.matches(), matches, "{query:?}");
+        assert_eq!(searched.result.steps, steps, "{query:?}");
+        assert_eq!(searched.notes[..notes.len()], *notes, "{query:?}");
+    }
+    assert_eq!(answer("((((A*)*)*)*)*"), 6);
+    assert_eq!(answer("((((A*)*)*)+ B)*"), 0);
+}
+
+/// A pattern with parentheses nested so deep, in which most repetitions have no end.
+fn random_pattern(random: &mut Random, deep: usize) -> String {
+    let parts = 1 + random.below(3);
+    let mut text = String::new();
+    for part in 0..parts {
+        if part > 0 && random.chance(30) {
+            text.push('|');
+        }
+        match random.below(if deep == 0 { 5 } else { 12 }) {
+            0..=2 => text.push(char::from(b'A' + random.below(3) as u8)),
+            3 => text.push_str("()"),
+            4 => text.push(if random.chance(50) { '^' } else { '$' }),
+            _ => text += &format!("({})", random_pattern(random, deep - 1)),
+        }
+        let quantifiers = ["", "", "*", "*?", "+", "?", "??", "{2,}", "{1,2}"];
+        text += quantifiers[random.below(quantifiers.len() as u64) as usize];
+        text.push(' ');
+    }
+    text
+}
+
+/// Both engines agree on random patterns, most of which have places with flags.
+#[test]
+fn random_rounds_as_the_product() {
+    let mut random = Random::new(3);
+    let mut seen = [0; 4];
+    for round in 0..20_000 {
+        let text = random_pattern(&mut random, 3);
+        let query = above_zero(&text)
+            .define('B', [col(0).lt(2)])
+            .skip(match round % 3 {
+                0 => Skip::ToNextRow,
+                _ => Skip::PastLastRow,
+            })
+            .to_bytes();
+        let rows: Vec<i32> = (0..random.below(7))
+            .map(|_| random.below(3) as i32)
+            .collect();
+        let room = room(&query, &rows);
+        let product = lent::room(&query, &rows);
+        let sizes = |room: Room| (room.answer, room.places, room.factor, room.pairs);
+        assert_eq!(sizes(room), sizes(product), "{text}");
+        let rooms = [2048, 16_384, 64, 64];
+        let found = searched_with(&query, &rows, rooms);
+        let expected = left(rooms, |notes, trail, numbers, labels| {
+            lent::search(&query, &rows, notes, trail, numbers, labels)
+        });
+        assert_eq!(found, expected, "{text} on {rows:?}");
+        if room.answer == 0 {
+            seen[room.factor.trailing_zeros() as usize] += 1;
+        }
+    }
+    // No factor is rare.
+    assert!(seen.iter().all(|&count| count > 500), "{seen:?}");
 }
 
 /// S is free; U is above the row before.

@@ -8,7 +8,7 @@ use super::letters::{Comparison, Rows, Test};
 use super::pattern::Pattern;
 use super::query::{Query, Skip};
 use super::report::Report;
-use super::tables::{Place, Sort, Tables, Way, OPEN, PAIR, WAY};
+use super::tables::{Number, Place, Sort, Tables, Way, INVERSE, PAIR, WAY};
 
 const BIT: [u8; 8] = [1, 2, 4, 8, 16, 32, 64, 128];
 
@@ -32,14 +32,19 @@ pub fn search(
     trail: &mut [u32],
     report: &mut Report,
 ) -> (Ending, u64) {
+    if pattern.factor > 1 {
+        return search_flagged(query, pattern, rows, notes, trail, report);
+    }
     match pattern.count {
-        0..=16 => search_sized::<16>(query, pattern, rows, notes, trail, report),
-        17..=64 => search_sized::<64>(query, pattern, rows, notes, trail, report),
-        _ => search_sized::<256>(query, pattern, rows, notes, trail, report),
+        0..=16 => search_sized::<u8, 16>(query, pattern, rows, notes, trail, report),
+        17..=64 => search_sized::<u8, 64>(query, pattern, rows, notes, trail, report),
+        _ => search_sized::<u8, 256>(query, pattern, rows, notes, trail, report),
     }
 }
 
-fn search_sized<const N: usize>(
+/// The same where places have flags.
+#[inline(never)]
+fn search_flagged(
     query: &Query,
     pattern: &Pattern,
     rows: Rows,
@@ -47,7 +52,22 @@ fn search_sized<const N: usize>(
     trail: &mut [u32],
     report: &mut Report,
 ) -> (Ending, u64) {
-    let mut tables = Tables::<N>::new();
+    match pattern.count * pattern.factor {
+        0..=64 => search_sized::<u16, 64>(query, pattern, rows, notes, trail, report),
+        65..=256 => search_sized::<u16, 256>(query, pattern, rows, notes, trail, report),
+        _ => search_sized::<u16, 2048>(query, pattern, rows, notes, trail, report),
+    }
+}
+
+fn search_sized<I: Number, const N: usize>(
+    query: &Query,
+    pattern: &Pattern,
+    rows: Rows,
+    notes: &mut [u8],
+    trail: &mut [u32],
+    report: &mut Report,
+) -> (Ending, u64) {
+    let mut tables = Tables::<I, N>::new();
     tables.fill(query, pattern);
     run(query, &tables, rows, notes, trail, report)
 }
@@ -55,17 +75,17 @@ fn search_sized<const N: usize>(
 /// The same by tables that are filled. Inlined, so that no register is needed for
 /// tables that lie in the frame.
 #[inline(always)]
-pub fn run<const N: usize>(
+pub fn run<I: Number, const N: usize>(
     query: &Query,
-    tables: &Tables<N>,
+    tables: &Tables<I, N>,
     rows: Rows,
     notes: &mut [u8],
     trail: &mut [u32],
     report: &mut Report,
 ) -> (Ending, u64) {
     notes.fill(0);
-    // END is never on the trail, so at most P - 1 places at n + 1 positions are,
-    // and the last n entries are free to say which letter took each row.
+    // END is never on the trail, so at most P - 1 places at n + 1 positions are, with
+    // their flags, and the last n entries are free to say which letter took each row.
     let (path, taken) = trail.split_at_mut(trail.len() - rows.n);
     let mut walk = Walk {
         tables,
@@ -76,7 +96,7 @@ pub fn run<const N: usize>(
         trail: path,
         taken,
         steps: 0,
-        place: 0,
+        place: I::default(),
         position: 0,
         pair: 0,
         top: 0,
@@ -124,9 +144,9 @@ fn rows_to_letter<const N: usize>(skip: Skip, letters: &[u8; N], taken: &[u32]) 
     row.unwrap_or(0)
 }
 
-struct Walk<'a, const N: usize> {
-    tables: &'a Tables<N>,
-    /// P and its inverse, as the tables have them.
+struct Walk<'a, I, const N: usize> {
+    tables: &'a Tables<I, N>,
+    /// P * F and its inverse, as the tables have them.
     places: usize,
     inverse: u64,
     rows: Rows<'a>,
@@ -135,8 +155,8 @@ struct Walk<'a, const N: usize> {
     /// For each row on the path, the place of the letter that took it.
     taken: &'a mut [u32],
     steps: u64,
-    /// The pair that is tried or entered: its place, position and number.
-    place: u8,
+    /// The pair that is tried or entered: its place with flags, position and number.
+    place: I,
     position: usize,
     pair: usize,
     /// How many pairs are on the trail.
@@ -151,11 +171,11 @@ enum Entered {
     Fails,
 }
 
-impl<const N: usize> Walk<'_, N> {
+impl<I: Number, const N: usize> Walk<'_, I, N> {
     /// One attempt. If it succeeds, the position is the one behind the match.
     #[inline(always)]
     fn attempt(&mut self, start: usize) -> bool {
-        self.place = 0;
+        self.place = I::default();
         self.position = start;
         self.pair = start * self.places;
         self.top = 0;
@@ -179,7 +199,7 @@ impl<const N: usize> Walk<'_, N> {
     fn enter(&mut self) -> Entered {
         self.steps += 1;
         let tables = self.tables;
-        let place = &tables.places[usize::from(self.place) % N];
+        let place = &tables.places[self.place.index() % N];
         match place.sort {
             Sort::ForkConstant => self.enter_fork_of_letter(place, Test::Constant),
             Sort::ForkColumn => self.enter_fork_of_letter(place, Test::Column),
@@ -213,7 +233,7 @@ impl<const N: usize> Walk<'_, N> {
     }
 
     #[inline(always)]
-    fn enter_letter(&mut self, place: &Place, test: Test) -> Entered {
+    fn enter_letter(&mut self, place: &Place<I>, test: Test) -> Entered {
         if !self.holds(&place.comparison, test) {
             self.note(self.pair);
             return Entered::Fails;
@@ -226,19 +246,20 @@ impl<const N: usize> Walk<'_, N> {
     /// Enters a fork and the letter behind it, which is its first way. If the
     /// letter has failed or fails, the second way is taken at once.
     #[inline(always)]
-    fn enter_fork_of_letter(&mut self, fork: &Place, test: Test) -> Entered {
-        let letter = self.pair + 1;
+    fn enter_fork_of_letter(&mut self, fork: &Place<I>, test: Test) -> Entered {
+        let factor = self.tables.factor();
+        let letter = self.pair + factor;
         if !self.has_failed(letter) {
             self.steps += 1;
             if self.holds(&fork.comparison, test) {
                 self.push(self.pair as u32 | fork.entry);
                 self.push(letter as u32);
-                self.take_row(self.place.wrapping_add(1), fork);
+                self.take_row(I::new(self.place.index() + factor), fork);
                 return Entered::Leads;
             }
             self.note(letter);
         }
-        let way = self.way(fork.entry);
+        let way = self.way(self.pair as u32 | fork.entry);
         self.push(self.pair as u32 | way.entry);
         self.place = way.place;
         self.pair = moved(self.pair, way.step);
@@ -246,14 +267,14 @@ impl<const N: usize> Walk<'_, N> {
     }
 
     #[inline(always)]
-    fn enter_fork(&mut self, fork: &Place) -> Entered {
+    fn enter_fork(&mut self, fork: &Place<I>) -> Entered {
         self.push(self.pair as u32 | fork.entry);
         self.lead(fork);
         Entered::Leads
     }
 
     #[inline(always)]
-    fn enter_anchor(&mut self, place: &Place, position: usize) -> Entered {
+    fn enter_anchor(&mut self, place: &Place<I>, position: usize) -> Entered {
         if self.position != position {
             self.note(self.pair);
             return Entered::Fails;
@@ -270,14 +291,14 @@ impl<const N: usize> Walk<'_, N> {
         while self.top > 0 {
             let entry = self.trail[self.top - 1];
             let open = (entry & PAIR) as usize;
-            if entry & OPEN != 0 {
+            if entry >= WAY {
                 let way = self.way(entry);
                 let pair = moved(open, way.step);
                 if !self.has_failed(pair) {
                     self.trail[self.top - 1] = open as u32 | way.entry;
                     self.place = way.place;
                     self.pair = pair;
-                    self.position = ((open as u64 * self.inverse) >> 32) as usize;
+                    self.position = ((open as u64 * self.inverse) >> INVERSE) as usize;
                     return true;
                 }
                 if way.entry != 0 {
@@ -292,8 +313,15 @@ impl<const N: usize> Walk<'_, N> {
     }
 
     #[inline(always)]
-    fn way(&self, entry: u32) -> Way {
-        self.tables.ways[(entry / WAY) as usize % N]
+    fn way(&self, entry: u32) -> Way<I> {
+        let way = (entry / WAY) as usize;
+        if !I::FLAGGED {
+            return self.tables.ways[way % N];
+        }
+        // The flags are the pair's lowest bits, as F is a power of two.
+        let factor = self.tables.factor();
+        let flags = entry as usize & (factor - 1);
+        self.tables.ways[(way * factor + flags) % N]
     }
 
     #[inline(always)]
@@ -304,14 +332,14 @@ impl<const N: usize> Walk<'_, N> {
 
     /// Takes the row by a letter, and leads where that does.
     #[inline(always)]
-    fn take_row(&mut self, letter: u8, place: &Place) {
-        self.taken[self.position] = u32::from(letter);
+    fn take_row(&mut self, letter: I, place: &Place<I>) {
+        self.taken[self.position] = letter.index() as u32;
         self.lead(place);
         self.position += 1;
     }
 
     #[inline(always)]
-    fn lead(&mut self, place: &Place) {
+    fn lead(&mut self, place: &Place<I>) {
         self.place = place.next;
         self.pair = moved(self.pair, place.step);
     }

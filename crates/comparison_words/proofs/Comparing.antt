@@ -15,7 +15,7 @@ use Rattle.rules.specs.Rows.{Comparison}
 use Rattle.rules.specs.Query.{offsetFits, leftFits, rightFits, comparisonFits, comparisonAt}
 use Rattle.laws.proofs.Choice.{and-left, and-right}
 use Rattle.table.specs.Tests.{offsetOf, columnOf, numberIn, comparisonIn}
-use Rattle.comparison_words.specs.Words.{spotOf, setFive, putComparison, ComparisonPut}
+use Rattle.comparison_words.specs.Words.{spotOf, setFive, putComparison, ComparisonPut, comparisonWords}
 use Rattle.comparison_words.proofs.Moving.{offset-near, spot-column, spot-offset}
 
 -- ---- what fits
@@ -79,7 +79,7 @@ module _ (T : List ℕ) (at a b c d e : ℕ) where
   abbrev s4 : List ℕ
   s4 = set s3 (at + 3) d
 
-  pub five-other : (j : ℕ) → (at ≤ j → j < at + 5 → ⊥) → getD (setFive T at a b c d e) j 0 ≡ getD T j 0
+  pub five-other : (j : ℕ) → (at ≤ j → j < at + 5 → ⊥) → getD (setFive T at (comparisonWords a b c d e)) j 0 ≡ getD T j 0
   unfolding setFive
   five-other j h =
       getD-set-other s4 (at + 4) j e 0 (λ q. h (omega arith) (omega arith))
@@ -88,35 +88,35 @@ module _ (T : List ℕ) (at a b c d e : ℕ) where
       ∙ getD-set-other s1 (at + 1) j b 0 (λ q. h (omega arith) (omega arith))
       ∙ getD-set-other T at j a 0 (λ q. h (omega arith) (omega arith))
 
-  pub five-long : length (setFive T at a b c d e) ≡ length T
+  pub five-long : length (setFive T at (comparisonWords a b c d e)) ≡ length T
   unfolding setFive
   five-long = simp length-set
 
   module _ (room : at + 5 ≤ length T) where
-    pub five-0 : getD (setFive T at a b c d e) at 0 ≡ a
+    pub five-0 : getD (setFive T at (comparisonWords a b c d e)) at 0 ≡ a
     unfolding setFive
     five-0 =
         getD-set-other s4 (at + 4) at e 0 (λ q. omega arith) ∙ getD-set-other s3 (at + 3) at d 0 (λ q. omega arith)
         ∙ getD-set-other s2 (at + 2) at c 0 (λ q. omega arith) ∙ getD-set-other s1 (at + 1) at b 0 (λ q. omega arith)
         ∙ getD-set-same T at a 0 (omega arith)
 
-    pub five-1 : getD (setFive T at a b c d e) (at + 1) 0 ≡ b
+    pub five-1 : getD (setFive T at (comparisonWords a b c d e)) (at + 1) 0 ≡ b
     unfolding setFive
     five-1 =
         getD-set-other s4 (at + 4) (at + 1) e 0 (λ q. omega arith) ∙ getD-set-other s3 (at + 3) (at + 1) d 0 (λ q. omega arith)
         ∙ getD-set-other s2 (at + 2) (at + 1) c 0 (λ q. omega arith) ∙ getD-set-same s1 (at + 1) b 0 (simp length-set (omega arith))
 
-    pub five-2 : getD (setFive T at a b c d e) (at + 2) 0 ≡ c
+    pub five-2 : getD (setFive T at (comparisonWords a b c d e)) (at + 2) 0 ≡ c
     unfolding setFive
     five-2 =
         getD-set-other s4 (at + 4) (at + 2) e 0 (λ q. omega arith) ∙ getD-set-other s3 (at + 3) (at + 2) d 0 (λ q. omega arith)
         ∙ getD-set-same s2 (at + 2) c 0 (simp length-set (omega arith))
 
-    pub five-3 : getD (setFive T at a b c d e) (at + 3) 0 ≡ d
+    pub five-3 : getD (setFive T at (comparisonWords a b c d e)) (at + 3) 0 ≡ d
     unfolding setFive
     five-3 = getD-set-other s4 (at + 4) (at + 3) e 0 (λ q. omega arith) ∙ getD-set-same s3 (at + 3) d 0 (simp length-set (omega arith))
 
-    pub five-4 : getD (setFive T at a b c d e) (at + 4) 0 ≡ e
+    pub five-4 : getD (setFive T at (comparisonWords a b c d e)) (at + 4) 0 ≡ e
     unfolding setFive
     five-4 = getD-set-same s4 (at + 4) e 0 (simp length-set (omega arith))
 
@@ -149,7 +149,7 @@ module _ (s : List ℕ) (columns p : ℕ) (fits : comparisonFits s columns p ≡
   right-spot = spotOf columns (signed8 (getD s (p + 5) 0)) (getD s (p + 4) 0)
 
   abbrev after : List ℕ
-  after = setFive T at sort left-spot right-spot (le16 s (p + 8)) (le16 s (p + 10))
+  after = setFive T at (comparisonWords sort left-spot right-spot (le16 s (p + 8)) (le16 s (p + 10)))
 
   word-0 : getD after at 0 ≡ sort
   word-0 = five-0 T at sort left-spot right-spot (le16 s (p + 8)) (le16 s (p + 10)) room
@@ -189,7 +189,7 @@ module _ (s : List ℕ) (columns p : ℕ) (fits : comparisonFits s columns p ≡
   -- what the code writes
   module _ (T′ : List ℕ) (a b w x y z : ℕ) (ea : a ≡ getD s (p + 2) 0) (eb : b ≡ getD s (p + 3) 0)
       (ew : w ≡ left-spot) (ex : x ≡ spotOf columns (signed8 (getD s (p + 4 + 1) 0)) (getD s (p + 4) 0)) (ey : y ≡ le16 s (p + 8)) (ez : z ≡ le16 s (p + 10))
-      (e : T′ ≡ setFive T at (a + b * 8) w x y z) where
+      (e : T′ ≡ setFive T at (comparisonWords (a + b * 8) w x y z)) where
     right-is : x ≡ right-spot
     right-is = ex ∙ ap (λ (i : ℕ). spotOf columns (signed8 (getD s i 0)) (getD s (p + 4) 0)) (let q : p + 4 + 1 ≡ p + 5 = omega arith in q)
 

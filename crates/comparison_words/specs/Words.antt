@@ -18,9 +18,20 @@ use Rattle.table.specs.Tests.{comparisonIn, comparisonsIn}
 unfoldable pub spotOf : ℕ → ℤ → ℕ → ℕ
 spotOf columns offset column = natAbs (pos 64 +ℤ offset) * columns + column
 
--- five words from `at` on
-unfoldable pub setFive : List ℕ → ℕ → ℕ → ℕ → ℕ → ℕ → ℕ → List ℕ
-setFive T at a b c d e = set (set (set (set (set T at a) (at + 1) b) (at + 2) c) (at + 3) d) (at + 4) e
+-- its operator with its right kind, its two spots, and the halves of its number
+pub record ComparisonWords : Type 0 where
+  pub operator : ℕ
+  pub left : ℕ
+  pub right : ℕ
+  pub low : ℕ
+  pub high : ℕ
+
+abbrev pub comparisonWords : ℕ → ℕ → ℕ → ℕ → ℕ → ComparisonWords
+comparisonWords a b c d e = record { operator = a; left = b; right = c; low = d; high = e }
+
+-- these five words from `at` on
+unfoldable pub setFive : List ℕ → ℕ → ComparisonWords → List ℕ
+setFive T at w = set (set (set (set (set T at (w .operator)) (at + 1) (w .left)) (at + 2) (w .right)) (at + 3) (w .low)) (at + 4) (w .high)
 
 pub record FiveRoom (T : List ℕ) (at a b c d e : ℕ) : Type 0 where
   pub room : at + 5 ≤ length T
@@ -34,10 +45,14 @@ pub record FiveRoom (T : List ℕ) (at a b c d e : ℕ) : Type 0 where
 unfoldable pub putComparison : List ℕ → ℕ → ℕ → List ℕ → ℕ → List ℕ
 unfolding spotOf setFive le16 signed8
 putComparison s columns p T at =
-    setFive T at (getD s (p + 2) 0 + getD s (p + 3) 0 * 8)
-    (spotOf columns (signed8 (getD s (p + 1) 0)) (getD s p 0))
-    (spotOf columns (signed8 (getD s (p + 5) 0)) (getD s (p + 4) 0))
-    (le16 s (p + 8)) (le16 s (p + 10))
+    setFive T at
+    (record {
+      operator = getD s (p + 2) 0 + getD s (p + 3) 0 * 8;
+      left = spotOf columns (signed8 (getD s (p + 1) 0)) (getD s p 0);
+      right = spotOf columns (signed8 (getD s (p + 5) 0)) (getD s (p + 4) 0);
+      low = le16 s (p + 8);
+      high = le16 s (p + 10);
+    })
 
 pub record ComparisonRoom (s : List ℕ) (columns p : ℕ) (T : List ℕ) (at : ℕ) : Type 0 where
   pub few : columns ≤ 8

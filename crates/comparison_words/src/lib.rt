@@ -14,7 +14,7 @@ ghost use lib.Signed.{leZ};
 ghost use lib.ListN.{length, getD};
 ghost use Rattle.rules.specs.Basics.{signed8};
 ghost use Rattle.rules.specs.Query.{offsetFits};
-ghost use Rattle.comparison_words.specs.Words.{spotOf, setFive, FiveRoom, ComparisonRoom, ComparisonPut, ComparisonsRoom, ComparisonsPut};
+ghost use Rattle.comparison_words.specs.Words.{spotOf, setFive, FiveRoom, ComparisonRoom, ComparisonPut, ComparisonsRoom, ComparisonsPut, comparisonWords};
 
 // The bytes of a comparison in the query, and its words in the table.
 pub const COMPARISON_BYTES: usize = 12;
@@ -46,7 +46,7 @@ fn spot_at(query: &[u8], columns: usize, i: usize) -> usize
 // Five words from word `at` on.
 fn put_five(table: &mut [u16], at: usize, a: usize, b: usize, c: usize, d: usize, e: usize)
     requires { ⌜ FiveRoom (now table) at a b c d e ⌝ }
-    ensures { λ _. ⌜ now (table .exit) ≡ setFive (now (table .entry)) at a b c d e ⌝ }
+    ensures { λ _. ⌜ now (table .exit) ≡ setFive (now (table .entry)) at (comparisonWords a b c d e) ⌝ }
 {
     table[at] = a as u16;
     table[at + 1] = b as u16;

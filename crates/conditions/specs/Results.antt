@@ -25,20 +25,22 @@ unfolding truthNot
 turnLatest [] = []
 turnLatest (a ∷ rs) = truthNot a ∷ rs
 
--- the results behind the entry at word `at`, the latest first
-unfoldable pub readResult : List ℕ → List ℤ → ℕ → ℕ → List Truth → List Truth
-unfolding readTruth joinLatest turnLatest truthAnd truthOr
-readResult T rows from at rs =
-    pick (ltb (getD T at 0) 16) (readTruth T rows from at ∷ rs)
-    (pick (eqb (getD T at 0) 16) (joinLatest truthAnd rs)
-    (pick (eqb (getD T at 0) 17) (joinLatest truthOr rs)
-    (turnLatest rs)))
+-- by a table, the rows' entries, and the first entry that a comparison may read
+module _ (T : List ℕ) (rows : List ℤ) (from : ℕ) where
+  -- the results behind the entry at word `at`, the latest first
+  unfoldable pub readResult : ℕ → List Truth → List Truth
+  unfolding readTruth joinLatest turnLatest truthAnd truthOr
+  readResult at rs =
+      pick (ltb (getD T at 0) 16) (readTruth T rows from at ∷ rs)
+      (pick (eqb (getD T at 0) 16) (joinLatest truthAnd rs)
+      (pick (eqb (getD T at 0) 17) (joinLatest truthOr rs)
+      (turnLatest rs)))
 
--- those behind so many entries from word `at` on
-unfoldable pub readResults : List ℕ → List ℤ → ℕ → ℕ → ℕ → List Truth → List Truth
-unfolding readResult entryWords
-readResults T rows from zero at rs = rs
-readResults T rows from (suc k) at rs = readResults T rows from k (at + entryWords T at) (readResult T rows from at rs)
+  -- those behind so many entries from word `at` on
+  unfoldable pub readResults : ℕ → ℕ → List Truth → List Truth
+  unfolding readResult entryWords
+  readResults zero at rs = rs
+  readResults (suc k) at rs = readResults k (at + entryWords T at) (readResult at rs)
 
 -- ---- numbers that stand for results
 

@@ -5,7 +5,8 @@
 // Promise: the condition holds exactly if its one result is true (specs/Results), which at each row
 // of the partition is `holds` of the rules (proofs/Rules). Weakness: the entries must lie in the
 // table and leave one result, which the caller has to see to; all of them are looked at, even where
-// the first ones decide.
+// the first ones decide. `condition_holds` is for the search alone: a second caller would keep it as
+// a call in the walk's loop, so the public test of a letter has a loop of its own (crates/judging).
 use comparisons::COLUMN;
 use comparisons::LEFT;
 use comparisons::RIGHT;
@@ -29,7 +30,7 @@ const NO: usize = 0;
 
 const UNKNOWN: usize = 1;
 
-const YES: usize = 2;
+pub const YES: usize = 2;
 
 // So many truths have a place in the number of results.
 const TRUTHS: usize = 4;
@@ -40,9 +41,9 @@ const AND: usize = 16;
 const OR: usize = 17;
 
 // The words of a letter: where its entries stand, and how many they are.
-const FROM: usize = 1;
+pub const FROM: usize = 1;
 
-const COUNT: usize = 2;
+pub const COUNT: usize = 2;
 
 // ---- a comparison
 
@@ -107,7 +108,7 @@ fn joined(word: usize, results: usize) -> usize
 // ---- entries
 
 // The results behind the entry at word `at`, which is `word`.
-fn after_entry(
+pub fn after_entry(
     table: &[u16],
     at: usize,
     word: usize,
@@ -125,7 +126,7 @@ fn after_entry(
 }
 
 // How many words an entry takes that begins with this word.
-fn entry_words(word: usize) -> usize
+pub fn entry_words(word: usize) -> usize
     ensures { λ r. ⌜ (r ≡ pick (ltb word 16) 5 1) × (r ≤ 5) ⌝ }
 {
     if word < AND {

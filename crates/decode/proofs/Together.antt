@@ -19,7 +19,7 @@ use Rattle.records.specs.Read.{recordOf, recordsAt, readAt}
 use Rattle.query.specs.Order.{firstAnswer}
 use Rattle.records.proofs.Reading.{found, read-more, field-first}
 use Rattle.query.proofs.Order.{columns-at}
-use Rattle.decode.specs.Layout.{Room, Decoded}
+use Rattle.decode.specs.Layout.{DecodeRoom, Decoded}
 use Rattle.define_list.specs.declared.Behind.{Behind}
 use Rattle.decode.specs.declared.Head.{Head}
 use Rattle.decode.specs.declared.Tail.{Tail}
@@ -213,7 +213,7 @@ module _ (s : List ℕ) (at : ℕ) (measures₀ : List ℕ) (room : TailRoom s a
 
 -- ---- all
 
-module _ (s measures₀ : List ℕ) (room : Room s measures₀) (h : Head) (f : HeadOf s h) (defines : List ℕ) (v : Behind) (d : PutDefines s (h .next) defines v) where
+module _ (s measures₀ : List ℕ) (room : DecodeRoom s measures₀) (h : Head) (f : HeadOf s h) (defines : List ℕ) (v : Behind) (d : PutDefines s (h .next) defines v) where
   pub decoded : (measures : List ℕ) (t : Tail) → TailOf s (v .at) measures₀ measures t
       → Decoded s measures₀ defines measures (record { columns = h .columns; start = h .start; len = h .len; skip = t .skip; target = t .target; measures = t .measures; twice = v .twice; letters = v .letters })
   unfolding parts

@@ -15,12 +15,12 @@ use Rattle.rules.specs.Basics.{isLetter}
 use Rattle.rules.specs.Query.{doubled, parts}
 use Rattle.query.specs.Order.{firstAnswer}
 use Rattle.define_list.specs.Defines.{Letter}
-use Rattle.measure_list.specs.Measures.{Fits}
+use Rattle.measure_list.specs.Measures.{MeasureFits}
 use Rattle.table.specs.Measures.{measureIn, measuresIn}
 use Rattle.decode.specs.declared.Parts.{Parts}
 
 -- a query with no answer 1 to 3, and room for its measures
-pub record Room (s measures : List ℕ) : Type 0 where
+pub record DecodeRoom (s measures : List ℕ) : Type 0 where
   pub clean : firstAnswer s ≡ 0
   pub long : length measures ≡ 24
 
@@ -42,7 +42,7 @@ pub record Decoded (s measures₀ defines measures : List ℕ) (p : Parts) : Typ
   pub letters : (l : ℕ) → l < 26 → Letter s (p .columns) (getD defines l 0) (parts s .condition (65 + l))
   pub measured : measuresIn measures 0 (p .measures) ≡ parts s .measures
   pub few : p .measures ≤ 8
-  pub fit : (k : ℕ) → k < p .measures → Fits (p .columns) (measureIn measures 0 k)
+  pub fit : (k : ℕ) → k < p .measures → MeasureFits (p .columns) (measureIn measures 0 k)
   pub rest : (j : ℕ) → p .measures * 3 ≤ j → getD measures j 0 ≡ getD measures₀ j 0
   pub doubled : p .twice ≡ doubled s
   pub upto : p .letters ≤ 26

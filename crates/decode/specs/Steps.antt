@@ -9,7 +9,7 @@ use Rattle.rules.specs.Basics.{isLetter}
 use Rattle.rules.specs.Query.{records, field, firstOfKind, columnsOf, defined, textOf, conditionFrom, measuresFrom}
 use Rattle.records.specs.Read.{recordsAt}
 use Rattle.query.specs.Ahead.{Ahead}
-use Rattle.measure_list.specs.Measures.{Fits}
+use Rattle.measure_list.specs.Measures.{MeasureFits}
 use Rattle.table.specs.Measures.{measureIn, measuresIn}
 use Rattle.decode.specs.declared.Head.{Head}
 use Rattle.decode.specs.declared.Tail.{Tail}
@@ -42,5 +42,5 @@ pub record TailOf (s : List ℕ) (at : ℕ) (measures₀ measures : List ℕ) (t
   pub lettered : (eqb (t .target) 0 || isLetter (t .target)) ≡ true
   pub is : measuresIn measures 0 (t .measures) ≡ measuresFrom s (recordsAt s at)
   pub few : t .measures ≤ 8
-  pub fit : (k : ℕ) → k < t .measures → Fits (columnsOf s) (measureIn measures 0 k)
+  pub fit : (k : ℕ) → k < t .measures → MeasureFits (columnsOf s) (measureIn measures 0 k)
   pub rest : (j : ℕ) → t .measures * 3 ≤ j → getD measures j 0 ≡ getD measures₀ j 0

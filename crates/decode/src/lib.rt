@@ -10,7 +10,7 @@ use records::byte;
 use records::record_at;
 ghost use mathlib.Core.Path.{_≡_};
 ghost use Rattle.query.specs.Order.{firstAnswer};
-ghost use Rattle.decode.specs.Layout.{Room, Decoded};
+ghost use Rattle.decode.specs.Layout.{DecodeRoom, Decoded};
 ghost use Rattle.decode.specs.Steps.{HeadOf, TailRoom, TailOf};
 
 // What a query says besides its letters and measures: the columns, where the pattern's text lies,
@@ -117,7 +117,7 @@ fn read_tail(s: &[u8], at: usize, measures: &mut [u8; 24]) -> Tail
 // All parts of a query. The records stand in order: the shape and the text, the DEFINEs, the skip
 // and the measures.
 pub fn decode(s: &[u8], defines: &mut [usize; 26], measures: &mut [u8; 24]) -> Parts
-    requires { ⌜ Room (now s) (now measures) ⌝ }
+    requires { ⌜ DecodeRoom (now s) (now measures) ⌝ }
     ensures { λ r. ⌜ Decoded (now (s .entry)) (now (measures .entry)) (now (defines .exit)) (now (measures .exit)) r ⌝ }
 {
     let h = read_head(s);

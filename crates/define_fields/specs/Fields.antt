@@ -12,6 +12,7 @@ fitsAt s columns p k = comparisonFits s columns (p + k * 12)
 
 -- k entries of kind 6 from index p on end at index `end`, fit, and leave one result where d are
 -- there before them
-unfoldable pub entriesGood : List ℕ → ℕ → ℕ → ℕ → ℕ → ℕ → Bool
-unfolding entriesEnd entriesFit readEntries leavesOne
-entriesGood s columns end k d p = eqb end (entriesEnd s k p) && (entriesFit s columns k p && leavesOne d (readEntries s k p))
+module _ (s : List ℕ) (columns end : ℕ) where
+  unfoldable pub entriesGood : ℕ → ℕ → ℕ → Bool
+  unfolding entriesEnd entriesFit readEntries leavesOne
+  entriesGood k d p = eqb end (entriesEnd s k p) && (entriesFit s columns k p && leavesOne d (readEntries s k p))

@@ -12,14 +12,14 @@ use lib.Seq.{sets-eq}
 use borrow.Author.Tests.{leb-true, ne-eqb}
 use Rattle.rules.specs.Basics.{tabulate, wrote}
 use Rattle.rules.specs.Working.{All}
-use Rattle.rules.specs.Entries.{Entry}
+use Rattle.rules.specs.Entries.{Reported}
 use Rattle.laws.proofs.Appended.{wrote-none}
 use Rattle.laws.proofs.Lists.{length-wrote}
-use Rattle.tally.specs.Table.{Named, Report, matchCell, occurs, belonging, counted, cells, listed}
+use Rattle.tally.specs.Table.{NamedColumns, DepotReport, matchCell, occurs, belonging, counted, cells, listed}
 use Rattle.tally.specs.Counting.{allUp}
 use Rattle.tally.proofs.Tallying.{counted-on, listed-on, refused-none, done-all, cells-refused, cells-done, cells-long, match-cells, occurs-few, all-up-front, list-on, listed-done}
-use Rattle.depot_state.specs.State.{stateOf, Stands, Begun}
-use Rattle.depot_state.specs.Steps.{namedIn, entryFits, listWith, stateWith, stateUp}
+use Rattle.depot_state.specs.State.{stateOf, StateStands, Begun}
+use Rattle.depot_state.specs.Steps.{namedIn, listFits, listWith, stateWith, stateUp}
 use Rattle.depot_state.proofs.Words.{rep-on, getD-tail, set-tail, new-words}
 
 -- ---- a new state
@@ -33,15 +33,15 @@ unfolding tabulate
 no-counts zero = refl
 no-counts (suc n) = ap (λ (l : List ℕ). l ++ (0 ∷ [])) (no-counts n) ∙ rep-last n
 
-cells-none : (w : Named) → cells w [] ≡ replicate 769 0
+cells-none : (w : NamedColumns) → cells w [] ≡ replicate 769 0
 unfolding cells counted
 cells-none w = no-counts 769
 
-state-none : (w : Named) (rest : List ℕ) → stateOf w [] rest ≡ replicate 769 0 ++ (0 ∷ 0 ∷ w .depot ∷ w .month ∷ rest)
+state-none : (w : NamedColumns) (rest : List ℕ) → stateOf w [] rest ≡ replicate 769 0 ++ (0 ∷ 0 ∷ w .depot ∷ w .month ∷ rest)
 unfolding stateOf
 state-none w rest = ap (λ (l : List ℕ). l ++ (0 ∷ 0 ∷ w .depot ∷ w .month ∷ rest)) (cells-none w)
 
-new-stands : (w : Named) (state state′ list : List ℕ) → state′ ≡ replicate 769 0 ++ (0 ∷ 0 ∷ w .depot ∷ w .month ∷ drop 773 state) → Stands w [] list (drop 773 state) state′ list
+new-stands : (w : NamedColumns) (state state′ list : List ℕ) → state′ ≡ replicate 769 0 ++ (0 ∷ 0 ∷ w .depot ∷ w .month ∷ drop 773 state) → StateStands w [] list (drop 773 state) state′ list
 unfolding listed counted
 new-stands w state state′ list e =
     record {
@@ -70,7 +70,7 @@ two-written l u a b h = let z : u + 1 ≡ suc u = add-one u in rw z (sets-eq (a 
 
 -- ---- the words of a state that stands for reports
 
-module _ (w : Named) (rs : List Report) (list₀ rest state list : List ℕ) (s : Stands w rs list₀ rest state list) where
+module _ (w : NamedColumns) (rs : List DepotReport) (list₀ rest state list : List ℕ) (s : StateStands w rs list₀ rest state list) where
   abbrev tail : List ℕ
   tail = length rs ∷ length (listed 0 rs) ∷ w .depot ∷ w .month ∷ rest
 
@@ -99,14 +99,14 @@ module _ (w : Named) (rs : List Report) (list₀ rest state list : List ℕ) (s 
   list-long : length list ≡ length list₀
   list-long = ap length (s .list-is) ∙ length-wrote list₀ (listed 0 rs) (s .room)
 
-  pub fits-when : entryFits state list ≡ leb (length (listed 0 rs) + 2) (length list₀)
-  unfolding entryFits
+  pub fits-when : listFits state list ≡ leb (length (listed 0 rs) + 2) (length list₀)
+  unfolding listFits
   fits-when = rw (listed-are, list-long)
 
   -- ---- one report more
 
-  module _ (r : Report) (left : length rs < 65535) where
-    abbrev rs′ : List Report
+  module _ (r : DepotReport) (left : length rs < 65535) where
+    abbrev rs′ : List DepotReport
     rs′ = rs ++ (r ∷ [])
 
     one-longer : length rs′ ≡ length rs + 1
@@ -114,7 +114,7 @@ module _ (w : Named) (rs : List Report) (list₀ rest state list : List ℕ) (s 
 
     -- ---- refused or stopped
 
-    module _ (d : r .answer ≡ 0 → ⊥) (fits : entryFits state list ≡ true) where
+    module _ (d : r .answer ≡ 0 → ⊥) (fits : listFits state list ≡ true) where
       two-longer : length (listed 0 rs′) ≡ length (listed 0 rs) + 2
       two-longer =
           let e = listed-on 0 rs r in
@@ -142,7 +142,7 @@ module _ (w : Named) (rs : List Report) (list₀ rest state list : List ℕ) (s 
           (two-written list u (length rs + 1) (r .answer) (omega (arith, inside, list-long))
           ∙ ap₂ (λ (l : List ℕ) (k : ℕ). wrote l u (k ∷ r .answer ∷ [])) (s .list-is) (add-one (length rs)) ∙ list-on list₀ rs r d (s .room))
 
-      pub stands-listed : Stands w rs′ list₀ rest (stateWith state) (listWith state list (r .answer))
+      pub stands-listed : StateStands w rs′ list₀ rest (stateWith state) (listWith state list (r .answer))
       stands-listed =
           record {
             state-is = state-listed;
@@ -162,7 +162,7 @@ module _ (w : Named) (rs : List Report) (list₀ rest state list : List ℕ) (s 
       all-below [] a = tt
       all-below (c ∷ l) (a, b) = (rw (cells-long w rs) a, all-below l b)
 
-      map-long : (es : List Entry) → length (map (matchCell w (r .rows)) es) ≡ length es
+      map-long : (es : List Reported) → length (map (matchCell w (r .rows)) es) ≡ length es
       map-long [] = refl
       map-long (e ∷ es) = ap suc (map-long es)
 
@@ -177,7 +177,7 @@ module _ (w : Named) (rs : List Report) (list₀ rest state list : List ℕ) (s 
           rw partitions-are (ap (λ (l : List ℕ). set l 769 p) a ∙ f
           ∙ ap₂ (λ (x : ℕ) (l : List ℕ). cells w rs′ ++ (x ∷ length l ∷ w .depot ∷ w .month ∷ rest)) (sym one-longer) (sym (listed-done rs r z)))
 
-      pub stands-counted : Stands w rs′ list₀ rest (stateUp state cs) list
+      pub stands-counted : StateStands w rs′ list₀ rest (stateUp state cs) list
       stands-counted =
           record {
             state-is = state-counted;

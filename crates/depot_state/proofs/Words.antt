@@ -16,7 +16,7 @@ use Rattle.rules.specs.Rows.{tableOf}
 use Rattle.tally.specs.Counting.{allUp, cellsIn, Countable}
 use Rattle.tally.proofs.Reading.{all-up-long}
 use Rattle.named.proofs.Shapes.{shape-is}
-use Rattle.depot_state.specs.Steps.{namedIn, entryFits, cellsNamed, stateUp, Listing, Counts}
+use Rattle.depot_state.specs.Steps.{namedIn, listFits, cellsNamed, stateUp, Listing, Counts}
 
 -- ---- zeros at the front
 
@@ -96,16 +96,16 @@ new-words s₀ a b h =
 -- ---- an entry of the list
 
 module _ (state list : List ℕ) where
-  pub no-room : length list < 2 → false ≡ entryFits state list
-  unfolding entryFits
+  pub no-room : length list < 2 → false ≡ listFits state list
+  unfolding listFits
   no-room h = sym (lt-leb (getD state 770 0 + 2) (length list) (omega arith))
 
-  pub less-room : 2 ≤ length list → length list - 2 < getD state 770 0 → false ≡ entryFits state list
-  unfolding entryFits
+  pub less-room : 2 ≤ length list → length list - 2 < getD state 770 0 → false ≡ listFits state list
+  unfolding listFits
   less-room g h = sym (lt-leb (getD state 770 0 + 2) (length list) (omega arith))
 
-  pub some-room : 2 ≤ length list → getD state 770 0 ≤ length list - 2 → true ≡ entryFits state list
-  unfolding entryFits
+  pub some-room : 2 ≤ length list → getD state 770 0 ≤ length list - 2 → true ≡ listFits state list
+  unfolding listFits
   some-room g h = sym (le-leb (getD state 770 0 + 2) (length list) (omega arith))
 
   pub second-there : (v : ℕ) → 2 ≤ length list → getD state 770 0 ≤ length list - 2 → getD state 770 0 + 1 < length (set list (getD state 770 0) v)

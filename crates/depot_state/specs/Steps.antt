@@ -10,16 +10,16 @@ use lib.ListN.{length, getD, set}
 use Rattle.rules.specs.Basics.{pick}
 use Rattle.rules.specs.Rows.{tableOf}
 use Rattle.rules.specs.Query.{misplaced, columnsOf, parts}
-use Rattle.tally.specs.Table.{Named}
+use Rattle.tally.specs.Table.{NamedColumns}
 use Rattle.tally.specs.Counting.{allUp, cellsIn, Countable}
 
 -- the columns that a state names
-unfoldable pub namedIn : List ℕ → Named
+unfoldable pub namedIn : List ℕ → NamedColumns
 namedIn state = record { depot = getD state 771 0; month = getD state 772 0 }
 
 -- an entry of the list fits behind those used
-unfoldable pub entryFits : List ℕ → List ℕ → Bool
-entryFits state list = leb (getD state 770 0 + 2) (length list)
+unfoldable pub listFits : List ℕ → List ℕ → Bool
+listFits state list = leb (getD state 770 0 + 2) (length list)
 
 -- an entry is appended: the partition's number and its answer
 unfoldable pub listWith : List ℕ → List ℕ → ℕ → List ℕ

@@ -11,7 +11,7 @@ ghost use Prim.Native.Nat.{_≤_};
 ghost use lib.ListN.{length, drop, replicate};
 ghost use Rattle.rules.specs.Basics.{pick};
 ghost use Rattle.depot_state.specs.State.{Begun};
-ghost use Rattle.depot_state.specs.Steps.{entryFits, listWith, stateWith, stateUp, cellsNamed, Listing, Counts};
+ghost use Rattle.depot_state.specs.Steps.{listFits, listWith, stateWith, stateUp, cellsNamed, Listing, Counts};
 
 // Where the words stand, and how many there are.
 pub const PARTITIONS: usize = 769;
@@ -55,7 +55,7 @@ pub fn begin(state: &mut [usize], depot: usize, month: usize) -> usize
 // A partition that was refused or stopped, appended to the list if its entry fits.
 pub fn list_one(state: &mut [usize], list: &mut [u32], answer: usize) -> bool
     requires { ⌜ Listing (now state) answer ⌝ }
-    ensures { λ r. ⌜ (r ≡ entryFits (now (state .entry)) (now (list .entry))) × (now (state .exit) ≡ pick r (stateWith (now (state .entry))) (now (state .entry))) × (now (list .exit) ≡ pick r (listWith (now (state .entry)) (now (list .entry)) answer) (now (list .entry))) ⌝ }
+    ensures { λ r. ⌜ (r ≡ listFits (now (state .entry)) (now (list .entry))) × (now (state .exit) ≡ pick r (stateWith (now (state .entry))) (now (state .entry))) × (now (list .exit) ≡ pick r (listWith (now (state .entry)) (now (list .entry)) answer) (now (list .entry))) ⌝ }
 {
     let used = state[LISTED];
     if list.len() < 2 {

@@ -18,7 +18,7 @@ use Rattle.rules.specs.Walk.{outOfSteps, outOfRows}
 use Rattle.rules.specs.Search.{Match, End, done, full, stuck, unfinished}
 use Rattle.rules.specs.Answers as A
 use Rattle.rules.specs.Answers.{Buffers, Memory, Test, firstOf, queryTests, haltAnswer, endAnswer, answerBy, answerWithin, walkWithin, refused, searchOf}
-use Rattle.rules.specs.Entries.{entriesIn}
+use Rattle.rules.specs.Entries.{reportedIn}
 use Rattle.laws.proofs.Accepted.{granted-when}
 use Rattle.laws.proofs.Choice.{and-left, and-right}
 use Rattle.laws.proofs.FirstDemand.{result-answer, unrefused-by}
@@ -26,13 +26,13 @@ use Rattle.outcome.specs.declared.Outcome.{Outcome}
 use Rattle.outcome.specs.Results.{lent, memory, refusal}
 use Rattle.search.specs.Promise.{Promised}
 use Rattle.named.specs.Outside.{outside, isThree}
-use Rattle.tally.specs.Table.{Named, Report, matchCell, listed}
+use Rattle.tally.specs.Table.{NamedColumns, DepotReport, matchCell, listed}
 use Rattle.tally.specs.Counting.{cellsIn, Countable}
-use Rattle.depot_state.specs.State.{Stands}
-use Rattle.depot_state.specs.Steps.{namedIn, entryFits, listWith, stateWith, stateUp, cellsNamed, Listing, Counts}
+use Rattle.depot_state.specs.State.{StateStands}
+use Rattle.depot_state.specs.Steps.{namedIn, listFits, listWith, stateWith, stateUp, cellsNamed, Listing, Counts}
 use Rattle.depot_state.proofs.Standing.{partitions-are, named-are, state-long, fits-when, stands-listed, stands-counted}
-use Rattle.depots.specs.Partition.{partitionOf, reportOf, Parted}
-use Rattle.depots.specs.Calls.{Input, Output, partitionIn, reportIn, Call, Calls}
+use Rattle.depots.specs.Partition.{partitionOf, depotReport, Parted}
+use Rattle.depots.specs.Calls.{Input, Output, partitionIn, depotReportIn, DepotCall, Calls}
 use Rattle.depots.proofs.Firsts.{countable, few-matches, cells-are}
 
 -- ---- answers are small
@@ -64,7 +64,7 @@ module _ (q : List ℕ) (rows : List ℤ) (before : Buffers) where
       go true = end-below (walkWithin none q rows before .end)
       go false = omega (arith, refusal-below)
 
-  partition-below : (w : Named) → partitionOf w q rows before .result .answer ≤ 23
+  partition-below : (w : NamedColumns) → partitionOf w q rows before .result .answer ≤ 23
   unfolding partitionOf refused searchOf
   partition-below w = go (isThree q (w .depot) (w .month))
     where
@@ -113,12 +113,12 @@ module _ (q : List ℕ) (rows : List ℤ) (notes trail : List ℕ) (numbers : Li
     abbrev after : Memory
     after = memory r notes′ trail′ numbers′ labels′
 
-    parted : (w : Named) → namedIn state ≡ w → Parted w q rows before after
+    parted : (w : NamedColumns) → namedIn state ≡ w → Parted w q rows before after
     unfolding namedIn
     parted w e = let z : Parted (namedIn state) q rows before after = p in rw e at z
 
-    is-answer : (w : Named) → namedIn state ≡ w → reportOf w q rows before .answer ≡ r .answer
-    unfolding reportOf
+    is-answer : (w : NamedColumns) → namedIn state ≡ w → depotReport w q rows before .answer ≡ r .answer
+    unfolding depotReport
     is-answer w e = ap (λ (m : Memory). m .result .answer) (sym (parted w e .whole))
 
     pub answer-small : r .answer < 4294967296
@@ -128,7 +128,7 @@ module _ (q : List ℕ) (rows : List ℤ) (notes trail : List ℕ) (numbers : Li
 
     module _ (left : getD state 769 0 < 65535) where
       -- refused or stopped
-      module _ (d : r .answer ≡ 0 → ⊥) (t : Bool) (e : t ≡ entryFits state list) (state′ : List ℕ) (es : state′ ≡ pick t (stateWith state) state) (list′ : List ℕ)
+      module _ (d : r .answer ≡ 0 → ⊥) (t : Bool) (e : t ≡ listFits state list) (state′ : List ℕ) (es : state′ ≡ pick t (stateWith state) state) (list′ : List ℕ)
           (el : list′ ≡ pick t (listWith state list (r .answer)) list) where
         pub call-listed : t ≡ true → Calls input (record { memory = after; state = state′; list = list′ })
         call-listed f =
@@ -137,11 +137,11 @@ module _ (q : List ℕ) (rows : List ℤ) (notes trail : List ℕ) (numbers : Li
                   let c = partitions-are w rs list₀ rest state list s in
                   let n = named-are w rs list₀ rest state list s in
                   let a = is-answer w n in
-                  let fits : entryFits state list ≡ true = sym e ∙ f in
+                  let fits : listFits state list ≡ true = sym e ∙ f in
                   let l : length (listed 0 rs) + 2 ≤ length list₀ = leb-true (length (listed 0 rs) + 2) (length list₀) (sym (fits-when w rs list₀ rest state list s) ∙ fits) in
-                  let new = stands-listed w rs list₀ rest state list s (reportOf w q rows before) (omega (arith, c)) (λ z. d (sym a ∙ z)) fits in
+                  let new = stands-listed w rs list₀ rest state list s (depotReport w q rows before) (omega (arith, c)) (λ z. d (sym a ∙ z)) fits in
                   let s₁ : state′ ≡ stateWith state = es ∙ rw f in
-                  let l₁ : list′ ≡ listWith state list (reportOf w q rows before .answer) = el ∙ rw (f, a) in
+                  let l₁ : list′ ≡ listWith state list (depotReport w q rows before .answer) = el ∙ rw (f, a) in
                   record {
                     further = λ g. absurd (omega (arith, c));
                     unlisted = λ g d g′. absurd (omega (arith, l));
@@ -167,8 +167,8 @@ module _ (q : List ℕ) (rows : List ℤ) (notes trail : List ℕ) (numbers : Li
                   };
             }
           where
-            no-room : (w : Named) (rs : List Report) (list₀ rest : List ℕ) → Stands w rs list₀ rest state list → reportOf w q rows before .answer ≡ r .answer
-                → (reportOf w q rows before .answer ≡ 0) ⊎ (length (listed 0 rs) + 2 ≤ length list₀) → ⊥
+            no-room : (w : NamedColumns) (rs : List DepotReport) (list₀ rest : List ℕ) → StateStands w rs list₀ rest state list → depotReport w q rows before .answer ≡ r .answer
+                → (depotReport w q rows before .answer ≡ 0) ⊎ (length (listed 0 rs) + 2 ≤ length list₀) → ⊥
             no-room w rs list₀ rest s a (inl z) = d (sym a ∙ z)
             no-room w rs list₀ rest s a (inr h) = true≢false (sym (le-leb (length (listed 0 rs) + 2) (length list₀) h) ∙ sym (fits-when w rs list₀ rest state list s) ∙ sym e ∙ f)
 
@@ -215,19 +215,19 @@ module _ (q : List ℕ) (rows : List ℤ) (notes trail : List ℕ) (numbers : Li
               countable = countable q rows before after (promised .demands (inl z)) z accepted (namedIn state) (both-inside .0) (both-inside .1) state (omega arith);
             }
 
-        cells-named : (w : Named) → namedIn state ≡ w → cellsNamed state q rows numbers′ (r .matches) ≡ map (matchCell w (tableOf (columnsOf q) rows)) (entriesIn q after)
+        cells-named : (w : NamedColumns) → namedIn state ≡ w → cellsNamed state q rows numbers′ (r .matches) ≡ map (matchCell w (tableOf (columnsOf q) rows)) (reportedIn q after)
         unfolding cellsNamed
         cells-named w e =
-            ap (λ (v : Named). cellsIn (tableOf (columnsOf q) rows) v numbers′ (3 + 2 * length (parts q .measures)) (r .matches)) e ∙ cells-are q rows before after (promised .demands (inl z)) z accepted w
+            ap (λ (v : NamedColumns). cellsIn (tableOf (columnsOf q) rows) v numbers′ (3 + 2 * length (parts q .measures)) (r .matches)) e ∙ cells-are q rows before after (promised .demands (inl z)) z accepted w
 
-        report-is : (w : Named) → namedIn state ≡ w → reportOf w q rows before ≡ record { answer = r .answer; rows = tableOf (columnsOf q) rows; matches = entriesIn q after }
-        unfolding reportOf
-        report-is w e = ap (λ (m : Memory). record { answer = m .result .answer; rows = tableOf (columnsOf q) rows; matches = entriesIn q m }) (sym (parted w e .whole))
+        report-is : (w : NamedColumns) → namedIn state ≡ w → depotReport w q rows before ≡ record { answer = r .answer; rows = tableOf (columnsOf q) rows; matches = reportedIn q after }
+        unfolding depotReport
+        report-is w e = ap (λ (m : Memory). record { answer = m .result .answer; rows = tableOf (columnsOf q) rows; matches = reportedIn q m }) (sym (parted w e .whole))
 
-        few : (w : Named) → namedIn state ≡ w → length (reportOf w q rows before .matches) ≤ 4096
+        few : (w : NamedColumns) → namedIn state ≡ w → length (depotReport w q rows before .matches) ≤ 4096
         few w e = rw (report-is w e) (few-matches q rows before after (promised .demands (inl z)) z accepted)
 
-        cells-of : (w : Named) → namedIn state ≡ w → cellsNamed state q rows numbers′ (r .matches) ≡ map (matchCell w (reportOf w q rows before .rows)) (reportOf w q rows before .matches)
+        cells-of : (w : NamedColumns) → namedIn state ≡ w → cellsNamed state q rows numbers′ (r .matches) ≡ map (matchCell w (depotReport w q rows before .rows)) (depotReport w q rows before .matches)
         cells-of w e = rw (report-is w e) (cells-named w e)
 
         pub call-counted : (state′ : List ℕ) → state′ ≡ stateUp state (cellsNamed state q rows numbers′ (r .matches)) → Calls input (record { memory = after; state = state′; list = list })
@@ -237,8 +237,8 @@ module _ (q : List ℕ) (rows : List ℤ) (notes trail : List ℕ) (numbers : Li
                   let c = partitions-are w rs list₀ rest state list s in
                   let n = named-are w rs list₀ rest state list s in
                   let a = is-answer w n in
-                  let new = stands-counted w rs list₀ rest state list s (reportOf w q rows before) (omega (arith, c)) (a ∙ z) (few w n) in
-                  let s₁ : state′ ≡ stateUp state (map (matchCell w (reportOf w q rows before .rows)) (reportOf w q rows before .matches)) = es ∙ ap (stateUp state) (cells-of w n) in
+                  let new = stands-counted w rs list₀ rest state list s (depotReport w q rows before) (omega (arith, c)) (a ∙ z) (few w n) in
+                  let s₁ : state′ ≡ stateUp state (map (matchCell w (depotReport w q rows before .rows)) (depotReport w q rows before .matches)) = es ∙ ap (stateUp state) (cells-of w n) in
                   record {
                     further = λ g. absurd (omega (arith, c));
                     unlisted = λ g d g′. absurd (d (a ∙ z));

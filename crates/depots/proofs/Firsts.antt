@@ -17,16 +17,17 @@ use Rattle.rules.specs.Rows.{Table, tableOf, entry}
 use Rattle.rules.specs.Query.{Measure, columnsOf, parts}
 use Rattle.rules.specs.Language.{Tree, pattern}
 use Rattle.rules.specs.Places.{Place}
-use Rattle.rules.specs.Preferment.{Reports, finished, unmatched, matched, lost, stopped}
+use Rattle.rules.specs.Readings.{rowSets}
+use Rattle.rules.specs.Preferment.{Reports, finished, unmatched, matched, lost, stopped, setting}
 use Rattle.rules.specs.Search.{Match, End, Skip, labels, shown}
 use Rattle.rules.specs.Report.{matchNumbers, numbersOf}
 use Rattle.rules.specs.Answers.{Task, taskOf, Buffers, Memory, refusal, walkWithin}
-use Rattle.rules.specs.Entries.{Entry, entriesIn, entryOf, entriesOf}
+use Rattle.rules.specs.Entries.{Reported, reportedIn, reportedOne, reportedAll}
 use Rattle.rules.specs.Demands.{Demands}
 use Rattle.laws.proofs.Limits.{match-long, numbers-long, limits}
 use Rattle.laws.proofs.Lists.{length-wrote, front-wrote}
 use Rattle.modes.proofs.Done.{told}
-use Rattle.tally.specs.Table.{Named, cellOf, matchCell}
+use Rattle.tally.specs.Table.{NamedColumns, cellOf, matchCell}
 use Rattle.tally.specs.Counting.{cellIn, cellsIn, RowAt, Countable}
 
 -- the start of match i
@@ -60,7 +61,7 @@ rowOf (x ∷ xs) zero = x .0
 rowOf (x ∷ xs) (suc i) = rowOf xs i
 
 rows-below : {p : Tree pattern} {holds : ℕ → ℕ → Bool} {n : ℕ} {skip : Skip} {room : ℕ → ℕ → List ℕ → Bool} {at m l : ℕ} {ms : List (ℕ × List ℕ)} {end : End (ℕ × List ℕ)}
-    → Reports p holds n skip room at m l ms end → (i : ℕ) → i < length ms → rowOf ms i < n
+    → Reports (setting p (rowSets n holds) skip room) at m l ms end → (i : ℕ) → i < length ms → rowOf ms i < n
 rows-below (finished f) i h = absurd (omega arith)
 rows-below (unmatched lt x r) i h = rows-below r i h
 rows-below (matched lt x b d r) zero h = lt
@@ -143,7 +144,7 @@ module _ (q : List ℕ) (rows : List ℤ) (before : Buffers) (after : Memory) (y
   unfolding taskOf parts tableOf
   rows-are = refl
 
-  module _ (w : Named) (hd : w .depot < columnsOf q) (hm : w .month < columnsOf q) where
+  module _ (w : NamedColumns) (hd : w .depot < columnsOf q) (hm : w .month < columnsOf q) where
     row-stands : (i : ℕ) → i < length xs → RowAt rows (columnsOf q) w (after .buffers .numbers) (i * stride + 1)
     row-stands i h =
         let e = first-is i h in
@@ -159,36 +160,36 @@ module _ (q : List ℕ) (rows : List ℤ) (before : Buffers) (after : Memory) (y
     pub countable : (counts : List ℕ) → 769 ≤ length counts → Countable counts rows (columnsOf q) w (after .buffers .numbers) (3 + 2 * length (parts q .measures)) (after .result .matches)
     countable counts l = rw (y .matches, measures-are q rows) (record { long = l; firsts = row-stands })
 
-  pub few-matches : length (entriesIn q after) ≤ 4096
+  pub few-matches : length (reportedIn q after) ≤ 4096
   few-matches =
       let l = limits none q rows before ok in
       rw (y .reported) (rw (entries-long (shown (t .places) xs)) (rw (shown-long (t .places) xs) (omega (arith, l .few-matches, l .few-rows))))
     where
-      entries-long : (ys : List (ℕ × List ℕ)) → length (entriesOf (t .table) (t .measures) ys) ≡ length ys
+      entries-long : (ys : List (ℕ × List ℕ)) → length (reportedAll (t .table) (t .measures) ys) ≡ length ys
       entries-long [] = refl
       entries-long (y ∷ ys) = ap suc (entries-long ys)
 
   -- the cell of a match that starts at row k
-  cellFrom : Named → ℕ → ℕ
+  cellFrom : NamedColumns → ℕ → ℕ
   cellFrom w k = cellOf (entry (t .table) k (w .depot)) (entry (t .table) k (w .month))
 
-  map-cells : (w : Named) (ms : List Match) → map (matchCell w (t .table)) (entriesOf (t .table) (t .measures) (shown (t .places) ms)) ≡ map (λ (m : Match). cellFrom w (m .start)) ms
-  unfolding matchCell entryOf cellFrom
+  map-cells : (w : NamedColumns) (ms : List Match) → map (matchCell w (t .table)) (reportedAll (t .table) (t .measures) (shown (t .places) ms)) ≡ map (λ (m : Match). cellFrom w (m .start)) ms
+  unfolding matchCell reportedOne cellFrom
   map-cells w [] = refl
   map-cells w (m ∷ ms) = ap (λ (l : List ℕ). cellFrom w (m .start) ∷ l) (map-cells w ms)
 
-  cell-is : (w : Named) (i : ℕ) → i < length xs → cellIn (t .table) w (after .buffers .numbers) (i * stride + 1) ≡ cellFrom w (startOf xs i)
+  cell-is : (w : NamedColumns) (i : ℕ) → i < length xs → cellIn (t .table) w (after .buffers .numbers) (i * stride + 1) ≡ cellFrom w (startOf xs i)
   unfolding cellIn cellFrom
   cell-is w i h = ap (λ (k : ℤ). cellOf (entry (t .table) (natAbs k) (w .depot)) (entry (t .table) (natAbs k) (w .month))) (first-is i h)
 
-  cells-task : (w : Named) → cellsIn (t .table) w (after .buffers .numbers) stride (length xs) ≡ map (matchCell w (t .table)) (entriesOf (t .table) (t .measures) (shown (t .places) xs))
+  cells-task : (w : NamedColumns) → cellsIn (t .table) w (after .buffers .numbers) stride (length xs) ≡ map (matchCell w (t .table)) (reportedAll (t .table) (t .measures) (shown (t .places) xs))
   unfolding cellsIn
   cells-task w = tabulate-starts (cellFrom w) (λ i. cellIn (t .table) w (after .buffers .numbers) (i * stride + 1)) xs (cell-is w) ∙ sym (map-cells w xs)
 
   -- the cells that are counted are those of the report's matches
-  pub cells-are : (w : Named) → cellsIn (tableOf (columnsOf q) rows) w (after .buffers .numbers) (3 + 2 * length (parts q .measures)) (after .result .matches)
-      ≡ map (matchCell w (tableOf (columnsOf q) rows)) (entriesIn q after)
+  pub cells-are : (w : NamedColumns) → cellsIn (tableOf (columnsOf q) rows) w (after .buffers .numbers) (3 + 2 * length (parts q .measures)) (after .result .matches)
+      ≡ map (matchCell w (tableOf (columnsOf q) rows)) (reportedIn q after)
   cells-are w =
       let m : cellsIn (tableOf (columnsOf q) rows) w (after .buffers .numbers) (3 + 2 * length (parts q .measures)) (length xs)
-      ≡ map (matchCell w (tableOf (columnsOf q) rows)) (entriesOf (t .table) (t .measures) (shown (t .places) xs)) = rw (table-is q rows, measures-are q rows) (cells-task w) in
+      ≡ map (matchCell w (tableOf (columnsOf q) rows)) (reportedAll (t .table) (t .measures) (shown (t .places) xs)) = rw (table-is q rows, measures-are q rows) (cells-task w) in
       ap (cellsIn (tableOf (columnsOf q) rows) w (after .buffers .numbers) (3 + 2 * length (parts q .measures))) (y .matches) ∙ m ∙ ap (map (matchCell w (tableOf (columnsOf q) rows))) (sym (y .reported))

@@ -8,9 +8,9 @@ use Prim.Native.Nat.{ℕ, _+_, _≤_, _<_}
 use lib.IntN.{ℤ}
 use lib.ListN.{length}
 use Rattle.rules.specs.Answers.{Buffers, Memory, refused}
-use Rattle.tally.specs.Table.{Named, Report, listed}
-use Rattle.depot_state.specs.State.{Stands}
-use Rattle.depots.specs.Partition.{partitionOf, reportOf}
+use Rattle.tally.specs.Table.{NamedColumns, DepotReport, listed}
+use Rattle.depot_state.specs.State.{StateStands}
+use Rattle.depots.specs.Partition.{partitionOf, depotReport}
 
 -- what goes in: the query, the rows, the search's lent buffers, the state and the list
 pub record Input : Type 0 where
@@ -27,26 +27,26 @@ pub record Output : Type 0 where
   pub list : List ℕ
 
 -- the partition's memory, where the named columns are w, and its report
-abbrev pub partitionIn : Named → Input → Memory
+abbrev pub partitionIn : NamedColumns → Input → Memory
 partitionIn w i = partitionOf w (i .query) (i .rows) (i .buffers)
 
-abbrev pub reportIn : Named → Input → Report
-reportIn w i = reportOf w (i .query) (i .rows) (i .buffers)
+abbrev pub depotReportIn : NamedColumns → Input → DepotReport
+depotReportIn w i = depotReport w (i .query) (i .rows) (i .buffers)
 
 -- The state and the list stand for the reports rs.
-pub record Call (w : Named) (rs : List Report) (list₀ rest : List ℕ) (i : Input) (o : Output) : Type 0 where
+pub record DepotCall (w : NamedColumns) (rs : List DepotReport) (list₀ rest : List ℕ) (i : Input) (o : Output) : Type 0 where
   -- A further partition is not searched: 20 and zeros, and nothing changes.
   pub further : 65535 ≤ length rs → (o .memory ≡ refused 20 0 (i .buffers)) × (o .state ≡ i .state) × (o .list ≡ i .list)
   -- One that is refused or stopped and whose entry does not fit gets 20 and zeros, and takes no
   -- number: state and list do not change, and the search's buffers are left as its own answer
   -- leaves them.
-  pub unlisted : length rs < 65535 → (reportIn w i .answer ≡ 0 → ⊥) → length list₀ < length (listed 0 rs) + 2
+  pub unlisted : length rs < 65535 → (depotReportIn w i .answer ≡ 0 → ⊥) → length list₀ < length (listed 0 rs) + 2
       → (o .memory ≡ refused 20 0 (partitionIn w i .buffers)) × (o .state ≡ i .state) × (o .list ≡ i .list)
   -- Any other takes the next number and gets its own result; state and list stand for its report
   -- too. One that is done needs no entry.
-  pub numbered : length rs < 65535 → (reportIn w i .answer ≡ 0) ⊎ (length (listed 0 rs) + 2 ≤ length list₀)
-      → (o .memory ≡ partitionIn w i) × Stands w (rs ++ (reportIn w i ∷ [])) list₀ rest (o .state) (o .list)
+  pub numbered : length rs < 65535 → (depotReportIn w i .answer ≡ 0) ⊎ (length (listed 0 rs) + 2 ≤ length list₀)
+      → (o .memory ≡ partitionIn w i) × StateStands w (rs ++ (depotReportIn w i ∷ [])) list₀ rest (o .state) (o .list)
 
 -- for whatever reports they stand; any other state gets an answer, left free
 pub record Calls (i : Input) (o : Output) : Type 0 where
-  pub call : (w : Named) (rs : List Report) (list₀ rest : List ℕ) → Stands w rs list₀ rest (i .state) (i .list) → Call w rs list₀ rest i o
+  pub call : (w : NamedColumns) (rs : List DepotReport) (list₀ rest : List ℕ) → StateStands w rs list₀ rest (i .state) (i .list) → DepotCall w rs list₀ rest i o

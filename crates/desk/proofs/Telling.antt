@@ -1,5 +1,5 @@
 -- The desk's answer from the search's promise alone: a done search of the desk's query holds a match
--- exactly if the log is cleared; and one law for each way through the code.
+-- exactly if the log is cleared; and what is said of its answer and its matches is the desk's verdict.
 use mathlib.Core.Path.{_≡_, refl, sym, ap, _∙_}
 use mathlib.Core.Bool.{Bool, true, false, true≢false}
 use mathlib.Core.List.{List, [], _∷_}
@@ -10,13 +10,13 @@ use native.Mathlib.Omega.{arith}
 use lib.Dec.{eqb}
 use lib.IntN.{ℤ}
 use lib.ListN.{length}
-use borrow.Author.Tests.{eq-eqb, ne-eqb, eqb-true}
+use borrow.Author.Tests.{eq-eqb, eqb-true}
 use Rattle.rules.specs.Basics.{pick}
 use Rattle.rules.specs.Rows.{Table}
 use Rattle.rules.specs.Query.{textOf}
 use Rattle.rules.specs.Language.{Tree, pattern, Written}
-use Rattle.rules.specs.Readings.{SomeReading}
-use Rattle.rules.specs.Preferment.{Preferred, Reports}
+use Rattle.rules.specs.Readings.{SomeReading, rowSets}
+use Rattle.rules.specs.Preferment.{Preferred, Reports, setting}
 use Rattle.rules.specs.Search.{Match, done, toNext, shown}
 use Rattle.rules.specs.Report.{fits}
 use Rattle.rules.specs.Answers.{treeIn, taskOf, letterHolds, Buffers, Memory, walkWithin, searchOf}
@@ -32,6 +32,7 @@ use Rattle.bus_log.specs.Log.{logOf, unreadable, cleared, lastRefusal, handed, 
 use Rattle.desk_query.specs.Query.{deskQuery}
 use Rattle.desk_query.proofs.Letters.{deskTree, desk-tree, desk-table, desk-mode}
 use Rattle.desk_query.proofs.Clearing.{cleared-exactly, cleared-reading, reading-cleared, none-written, one-written}
+use Rattle.verdicts.specs.Verdicts.{verdictBy}
 use Rattle.desk.specs.Promise.{deskOf, Desk}
 
 -- ---- the report
@@ -51,7 +52,7 @@ module _ (rows : List ℤ) (before : Buffers) (after : Memory) (y : Demands none
   room = fits (length (before .numbers)) (length (before .labels)) (taskOf deskQuery rows .measures)
 
   abbrev Told : List Match → Type 0
-  Told xs = Reports deskTree H n toNext room 0 0 0 (shown (taskOf deskQuery rows .places) xs) done
+  Told xs = Reports (setting deskTree (rowSets n H) toNext room) 0 0 0 (shown (taskOf deskQuery rows .places) xs) done
 
   told-here : Told (walkWithin none deskQuery rows before .matches)
   told-here = told none deskQuery rows before after y z (written-desk (y .tree) (y .written)) refl (ap (λ (t : Table). t .n) (desk-table rows)) (desk-mode rows)
@@ -60,13 +61,13 @@ module _ (rows : List ℤ) (before : Buffers) (after : Memory) (y : Demands none
   none-cleared r false e = refl
   none-cleared r true e = absurd (clash (cleared-reading rows e))
     where
-      clash : (i : ℕ) × ((i < n) × SomeReading deskTree H n i) → ⊥
+      clash : (i : ℕ) × ((i < n) × SomeReading (rowSets n H) deskTree i) → ⊥
       clash (i, (lt, (j, w, s))) = let x = reads-parses H n deskTree i j w s in none-written deskTree H n room r i (omega arith) lt (x .0) j w (x .1)
 
   one-cleared : (x : Match) (xs : List Match) → Told (x ∷ xs) → cleared (logOf rows) ≡ true
   one-cleared x xs r = on (one-written deskTree H n room r)
     where
-      on : (i : ℕ) × (j : ℕ) × (w : List ℕ) × Preferred deskTree H n i j w → cleared (logOf rows) ≡ true
+      on : (i : ℕ) × (j : ℕ) × (w : List ℕ) × Preferred (rowSets n H) deskTree i j w → cleared (logOf rows) ≡ true
       on (i, j, w, y) = reading-cleared rows i (j, w, parses-reads H n deskTree (y .derivation) i j w (y .parses))
 
   abbrev Clears : ℕ → Type 0
@@ -81,7 +82,7 @@ module _ (rows : List ℤ) (before : Buffers) (after : Memory) (y : Demands none
   matches-clear = rw (y .matches) (by-matches (walkWithin none deskQuery rows before .matches) told-here)
 
 pattern-clears : (rows : List ℤ) (p : Tree pattern) → Written p (textOf deskQuery)
-    → (cleared (logOf rows) ≡ true) ↔ ((i : ℕ) × ((i < logOf rows .n) × SomeReading p (letterHolds (taskOf deskQuery rows)) (logOf rows .n) i))
+    → (cleared (logOf rows) ≡ true) ↔ ((i : ℕ) × ((i < logOf rows .n) × SomeReading (rowSets (logOf rows .n) (letterHolds (taskOf deskQuery rows))) p i))
 pattern-clears rows p w = rw (written-desk p w) (cleared-exactly rows)
 
 -- ---- what a verdict of 1 tells
@@ -111,7 +112,7 @@ desk-says rows before e = go (eqb (searchOf deskQuery rows before .result .answe
 desk-is : (rows : List ℤ) (before after : Buffers) (v : Verdict) → v ≡ deskOf rows before → after ≡ searchOf deskQuery rows before .buffers → Desk rows before after v
 desk-is rows before after v e b = record { verdict = e; buffers = b; only-cleared = λ c. desk-says rows before (sym (ap (λ (x : Verdict). x .verdict) e) ∙ c); by-pattern = pattern-clears rows }
 
--- ---- the ways through the code
+-- ---- the verdict
 
 module _ (rows : List ℤ) (before : Buffers) (r : Outcome) (notes trail : List ℕ) (numbers : List ℤ) (labels : List ℕ) (p : Promised none deskQuery rows before (memory r notes trail numbers labels)) where
   is-answer : r .answer ≡ searchOf deskQuery rows before .result .answer
@@ -122,27 +123,27 @@ module _ (rows : List ℤ) (before : Buffers) (r : Outcome) (notes trail : List 
   unfolding searchOf
   buffers-are = ap (λ (m : Memory). m .buffers) (p .whole)
 
-  pub desk-handed : (r .answer ≡ 0 → ⊥) → (v : Verdict) → v ≡ handed (r .answer) → Desk rows before (lent notes trail numbers labels) v
-  unfolding deskOf
-  desk-handed d v e = desk-is rows before (lent notes trail numbers labels) v (e ∙ rw (← is-answer, ne-eqb (r .answer) 0 d)) buffers-are
-
   module _ (z : r .answer ≡ 0) where
-    says : (v : Verdict) → v ≡ verdictOf (logOf rows) → Desk rows before (lent notes trail numbers labels) v
-    unfolding deskOf
-    says v e = desk-is rows before (lent notes trail numbers labels) v (rw (← is-answer, eq-eqb (r .answer) 0 z) e) buffers-are
-
     clears : (r .matches ≡ 0 → cleared (logOf rows) ≡ false) × ((r .matches ≡ 0 → ⊥) → cleared (logOf rows) ≡ true)
     clears = matches-clear rows before (memory r notes trail numbers labels) (p .demands (inl z)) z
 
-    module _ (u : Bool) (e : u ≡ unreadable (logOf rows)) where
-      pub desk-unreadable : u ≡ true → (v : Verdict) → v ≡ said 3 → Desk rows before (lent notes trail numbers labels) v
-      unfolding verdictOf
-      desk-unreadable t v h = says v (h ∙ rw (sym e ∙ t))
+    -- where there is a match the log is cleared
+    by-match : (m : Bool) → eqb (r .matches) 0 ≡ m → pick m (heldAt (lastRefusal (logOf rows))) (said 1) ≡ pick (cleared (logOf rows)) (said 1) (heldAt (lastRefusal (logOf rows)))
+    by-match true f = rw (clears .0 (eqb-true (r .matches) 0 f))
+    by-match false f = rw (clears .1 (λ e. true≢false (sym (eq-eqb (r .matches) 0 e) ∙ f)))
 
-      pub desk-cleared : u ≡ false → (r .matches ≡ 0 → ⊥) → (v : Verdict) → v ≡ said 1 → Desk rows before (lent notes trail numbers labels) v
-      unfolding verdictOf
-      desk-cleared t m v h = says v (h ∙ rw (sym e ∙ t, clears .1 m))
+    by-log : pick (unreadable (logOf rows)) (said 3) (pick (eqb (r .matches) 0) (heldAt (lastRefusal (logOf rows))) (said 1)) ≡ verdictOf (logOf rows)
+    unfolding verdictOf
+    by-log = ap (pick (unreadable (logOf rows)) (said 3)) (by-match (eqb (r .matches) 0) refl)
 
-      pub desk-held : u ≡ false → r .matches ≡ 0 → (v : Verdict) → v ≡ heldAt (lastRefusal (logOf rows)) → Desk rows before (lent notes trail numbers labels) v
-      unfolding verdictOf
-      desk-held t m v h = says v (rw (sym e ∙ t, clears .0 m) h)
+  is-desk : verdictBy (logOf rows) (r .answer) (r .matches) ≡ deskOf rows before
+  unfolding verdictBy deskOf
+  is-desk = rw (← is-answer) (go (eqb (r .answer) 0) refl)
+    where
+      go : (t : Bool) → eqb (r .answer) 0 ≡ t
+          → pick t (pick (unreadable (logOf rows)) (said 3) (pick (eqb (r .matches) 0) (heldAt (lastRefusal (logOf rows))) (said 1))) (handed (r .answer)) ≡ pick t (verdictOf (logOf rows)) (handed (r .answer))
+      go true f = by-log (eqb-true (r .answer) 0 f)
+      go false f = refl
+
+  pub desk-told : (v : Verdict) → v ≡ verdictBy (logOf rows) (r .answer) (r .matches) → Desk rows before (lent notes trail numbers labels) v
+  desk-told v e = desk-is rows before (lent notes trail numbers labels) v (e ∙ is-desk) buffers-are

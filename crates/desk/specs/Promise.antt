@@ -11,7 +11,7 @@ use lib.IntN.{ℤ}
 use Rattle.rules.specs.Basics.{pick}
 use Rattle.rules.specs.Query.{textOf}
 use Rattle.rules.specs.Language.{Tree, pattern, Written}
-use Rattle.rules.specs.Readings.{SomeReading}
+use Rattle.rules.specs.Readings.{SomeReading, rowSets}
 use Rattle.rules.specs.Answers.{taskOf, letterHolds, Buffers, searchOf}
 use Rattle.bus_log.specs.declared.Verdict.{Verdict}
 use Rattle.bus_log.specs.Log.{logOf, unreadable, cleared, handed, verdictOf}
@@ -32,4 +32,4 @@ pub record Desk (rows : List ℤ) (before after : Buffers) (v : Verdict) : Type 
   pub only-cleared : v .verdict ≡ 1 → (cleared (logOf rows) ≡ true) × (unreadable (logOf rows) ≡ false) × (searchOf deskQuery rows before .result .answer ≡ 0)
   -- a log ends so exactly if the query's pattern `O R* C $` has a reading at some row
   pub by-pattern : (p : Tree pattern) → Written p (textOf deskQuery)
-      → (cleared (logOf rows) ≡ true) ↔ ((i : ℕ) × ((i < logOf rows .n) × SomeReading p (letterHolds (taskOf deskQuery rows)) (logOf rows .n) i))
+      → (cleared (logOf rows) ≡ true) ↔ ((i : ℕ) × ((i < logOf rows .n) × SomeReading (rowSets (logOf rows .n) (letterHolds (taskOf deskQuery rows))) p i))

@@ -1,14 +1,9 @@
 // The release desk (request R-14): from a bus's log, rows of (time, event, base number, patch
 // number), the verdict cleared, held or unreadable. It searches the log for `O R* C $` and rests on
 // the search's promise alone. The verdict is that of the rows in plain words (crates/bus_log), for
-// every input.
-use bus_log::CLEARED;
-use bus_log::UNREADABLE;
+// every input. What follows from the search's answer and matches is decided in crates/verdicts.
 use bus_log::Verdict;
-use bus_log::handed;
-use bus_log::held;
-use bus_log::is_unreadable;
-use bus_log::said;
+use verdicts::verdict_on;
 ghost use Rattle.outcome.specs.Results.{lent};
 ghost use Rattle.desk.specs.Promise.{Desk};
 
@@ -153,15 +148,5 @@ pub fn desk(
         0,
     ];
     let end = search::search(&query, rows, notes, trail, numbers, labels);
-    let answer = end.answer;
-    if answer != 0 {
-        return handed(answer);
-    }
-    if is_unreadable(rows) {
-        return said(UNREADABLE);
-    }
-    if end.matches != 0 {
-        return said(CLEARED);
-    }
-    held(rows)
+    verdict_on(rows, end.answer, end.matches)
 }

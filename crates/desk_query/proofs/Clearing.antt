@@ -14,8 +14,8 @@ use lib.ListN.{length}
 use borrow.Author.Tests.{eqb-true, eq-eqb, ltb-true, ltb-false}
 use Rattle.rules.specs.Basics.{everyBelow}
 use Rattle.rules.specs.Language.{Tree, pattern, lower, upper}
-use Rattle.rules.specs.Readings.{Rounds, Reads, SomeReading}
-use Rattle.rules.specs.Preferment.{Preferred, NoneParses, Reports, finished, unmatched, matched}
+use Rattle.rules.specs.Readings.{Rounds, Reads, SomeReading, rowSets}
+use Rattle.rules.specs.Preferment.{Preferred, NoneParses, Reports, finished, unmatched, matched, setting}
 use Rattle.rules.specs.Search.{done, toNext}
 use Rattle.rules.specs.Answers.{taskOf, letterHolds}
 use Rattle.laws.proofs.Choice.{and-left, and-right}
@@ -127,7 +127,7 @@ module _ (rows : List ℤ) where
     accepted : (isEvent (logOf rows) 3 (suc i + k) && asBefore (logOf rows) (suc i + k)) ≡ true
     ends : suc (suc i + k) ≡ n
 
-  reading-released : (i : ℕ) → SomeReading deskTree H n i → (k : ℕ) × Released i k
+  reading-released : (i : ℕ) → SomeReading (rowSets n H) deskTree i → (k : ℕ) × Released i k
   unfolding Reads
   reading-released i (j, w, (i₁, u₁, v₁, o, (i₂, u₂, v₂, (k, lo, hi, rs), (i₃, u₃, v₃, a, e, q₃), q₂), q₁)) = (k, at (rounds-hold H n 82 k i₁ i₂ u₂ rs))
     where
@@ -146,11 +146,11 @@ module _ (rows : List ℤ) where
               let x : (suc i + m < n) × (H 82 (suc i + m) ≡ true) = rw (← f) (r m h) in
               sym (refusal-holds rows (suc i + m) (x .0)) ∙ x .1
 
-  released-reading : (i k : ℕ) → Released i k → SomeReading deskTree H n i
+  released-reading : (i k : ℕ) → Released i k → SomeReading (rowSets n H) deskTree i
   unfolding Reads
   released-reading i k r = on (hold-rounds H n 82 k (suc i) (λ m h. (omega (arith, r .ends), refusal-holds rows (suc i + m) (omega (arith, r .ends)) ∙ r .refused m h)))
     where
-      on : (w : List ℕ) × Rounds (Once H n 82) k (suc i) (suc i + k) w → SomeReading deskTree H n i
+      on : (w : List ℕ) × Rounds (Once H n 82) k (suc i) (suc i + k) w → SomeReading (rowSets n H) deskTree i
       on (w, rs) =
           let a : H 67 (suc i + k) ≡ true = acceptance-holds rows (suc i + k) (omega (arith, r .ends)) ∙ r .accepted in
           let o : H 79 i ≡ true = offer-holds rows i (omega (arith, r .ends)) ∙ r .offered in (
@@ -191,14 +191,14 @@ module _ (rows : List ℤ) where
       rw (r .offered, below-every k (λ m. isEvent (logOf rows) 2 (suc i + m) && asBefore (logOf rows) (suc i + m)) (r .refused), r .accepted, eq-eqb (suc (suc i + k)) n (r .ends))
 
   -- some reading of the pattern exists at a row of the log exactly if the log is cleared
-  pub cleared-reading : cleared (logOf rows) ≡ true → (i : ℕ) × ((i < n) × SomeReading deskTree H n i)
+  pub cleared-reading : cleared (logOf rows) ≡ true → (i : ℕ) × ((i < n) × SomeReading (rowSets n H) deskTree i)
   unfolding cleared
   cleared-reading e =
       let a = some-below n (λ i. someBelow n (λ k. released (logOf rows) i k)) e in
       let b = some-below n (λ k. released (logOf rows) (a .number) k) (a .true-of) in
       (a .number, (a .below, released-reading (a .number) (b .number) (released-parts (a .number) (b .number) (b .true-of))))
 
-  pub reading-cleared : (i : ℕ) → SomeReading deskTree H n i → cleared (logOf rows) ≡ true
+  pub reading-cleared : (i : ℕ) → SomeReading (rowSets n H) deskTree i → cleared (logOf rows) ≡ true
   unfolding cleared
   reading-cleared i s = on (reading-released i s)
     where
@@ -208,22 +208,22 @@ module _ (rows : List ℤ) where
           (below-some n (λ k. released (logOf rows) i k) k (omega (arith, r .ends)) (parts-released i k r))
 
   -- both: the pattern has a reading at some row exactly if the log is cleared
-  pub cleared-exactly : (cleared (logOf rows) ≡ true) ↔ ((i : ℕ) × ((i < n) × SomeReading deskTree H n i))
+  pub cleared-exactly : (cleared (logOf rows) ≡ true) ↔ ((i : ℕ) × ((i < n) × SomeReading (rowSets n H) deskTree i))
   cleared-exactly = (cleared-reading, λ x. reading-cleared (x .0) (x .1 .1))
 
 -- ---- a report in skip mode 1 that is done
 
 module _ (p : Tree pattern) (holds : ℕ → ℕ → Bool) (n : ℕ) (room : ℕ → ℕ → List ℕ → Bool) where
   -- no match is written: no start has one
-  pub none-written : {k m l : ℕ} → Reports p holds n toNext room k m l [] done → (i : ℕ) → k ≤ i → i < n → NoneParses p holds n i
+  pub none-written : {k m l : ℕ} → Reports (setting p (rowSets n holds) toNext room) k m l [] done → (i : ℕ) → k ≤ i → i < n → NoneParses (rowSets n holds) p i
   none-written (finished f) i h g = absurd (omega arith)
   none-written {k = k} (unmatched lt x r) i h g = go (λ i h g. none-written r i h g) (ltb k i) refl
     where
-      go : ((i : ℕ) → suc k ≤ i → i < n → NoneParses p holds n i) → (t : Bool) → ltb k i ≡ t → NoneParses p holds n i
+      go : ((i : ℕ) → suc k ≤ i → i < n → NoneParses (rowSets n holds) p i) → (t : Bool) → ltb k i ≡ t → NoneParses (rowSets n holds) p i
       go ih true e = ih i (ltb-true k i e) g
       go ih false e = let z : i ≡ k = omega (arith, ltb-false k i e) in rw z x
 
   -- a match is written: some start has one
-  pub one-written : {k m l : ℕ} {x : ℕ × List ℕ} {ms : List (ℕ × List ℕ)} → Reports p holds n toNext room k m l (x ∷ ms) done → (i : ℕ) × (j : ℕ) × (w : List ℕ) × Preferred p holds n i j w
+  pub one-written : {k m l : ℕ} {x : ℕ × List ℕ} {ms : List (ℕ × List ℕ)} → Reports (setting p (rowSets n holds) toNext room) k m l (x ∷ ms) done → (i : ℕ) × (j : ℕ) × (w : List ℕ) × Preferred (rowSets n holds) p i j w
   one-written (unmatched lt x r) = one-written r
   one-written (matched {i = i} {j = j} {w = w} lt x b d r) = (i, j, w, x)

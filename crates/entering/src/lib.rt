@@ -3,6 +3,7 @@ use letters::letter_holds;
 use pairs::ENTER;
 use pairs::FOUND;
 use pairs::Walk;
+use pairs::absent;
 use pairs::anchor_passes;
 use pairs::entry_at;
 use pairs::failed;
@@ -21,22 +22,23 @@ ghost use mathlib.Core.Path.{_≡_};
 ghost use Prim.Native.Nat.{_+_, _*_, _<_, _≤_};
 ghost use lib.ListN.{length};
 ghost use Rattle.table.specs.Table.{codeAt, firstAt};
-ghost use Rattle.pairs.specs.Layout.{layoutOf, lettersOf, Tested, passesBy, entryOf};
+ghost use Rattle.pairs.specs.Layout.{layoutOf, lettersOf, Tested, passesBy, waitsBy, entryOf};
 ghost use Rattle.pairs.specs.Step.{mem, enteredBy, Enters};
 
-// Whether the letter of place q passes at the row: there is a row, and it holds there.
+// Whether the letter of place q passes at a row: it holds there.
 fn letter_passes(table: &[u16], rows: &[i32], size: Extent, q: usize, row: usize) -> bool
-    requires { ⌜ (row ≤ size .rows) × (q < size .places) × (4 * q + 4 ≤ length (now table)) × (codeAt (now table) q < 26) × Tested (now table) (now rows) size ⌝ }
+    requires { ⌜ (row < size .rows) × (q < size .places) × (4 * q + 4 ≤ length (now table)) × (codeAt (now table) q < 26) × Tested (now table) (now rows) size ⌝ }
     ensures { λ r. ⌜ r ≡ passesBy (lettersOf (now (table .entry)) (now (rows .entry)) size) (size .rows) (codeAt (now (table .entry)) q) row ⌝ }
 {
     letter_holds(table, rows, size, later_at(table, q), row)
 }
 
-// The pair of w is entered: one step, counted here and nowhere else. A letter or anchor that does
-// not pass fails at once, and so does a letter whose next pair has failed, so that it is not put on
-// the trail only to be taken back. Any other pair is open, and tries the first place that it leads
-// to, but for END, which leads nowhere. A fork of two ways or more that leads first to the place
-// behind it has a code of its own, since then the walk need not wait for a table to tell the place.
+// The pair of w is entered: one step, counted here and nowhere else. A letter whose row is not
+// there waits for it, where more rows may come. A letter or anchor that does not pass fails at
+// once, and so does a letter whose next pair has failed, so that it is not put on the trail only to
+// be taken back. Any other pair is open, and tries the first place that it leads to, but for END,
+// which leads nowhere. A fork of two ways or more that leads first to the place behind it has a
+// code of its own, since then the walk need not wait for a table to tell the place.
 pub fn enter(
     table: &[u16],
     rows: &[i32],
@@ -46,7 +48,7 @@ pub fn enter(
     w: Walk,
 ) -> Walk
     requires { ⌜ Tested (now table) (now rows) size × Enters (layoutOf (now table) size) (size .rows) (now notes) (now trail) w ⌝ }
-    ensures { λ r. ⌜ mem (now (notes .exit)) (now (trail .exit)) r ≡ enteredBy (passesBy (lettersOf (now (table .entry)) (now (rows .entry)) size) (size .rows) (codeAt (now (table .entry)) (w .place)) (w .row)) (mem (now (notes .entry)) (now
+    ensures { λ r. ⌜ mem (now (notes .exit)) (now (trail .exit)) r ≡ enteredBy (waitsBy (size .more) (size .rows) (codeAt (now (table .entry)) (w .place)) (w .row)) (passesBy (lettersOf (now (table .entry)) (now (rows .entry)) size) (size .rows) (codeAt (now (table .entry)) (w .place)) (w .row)) (mem (now (notes .entry)) (now
         (trail .entry)) w) (codeAt (now (table .entry)) (w .place)) (entryOf (now (table .entry)) (w .place)) (firstAt (now (table .entry)) (w .place)) (size .places) ⌝ }
 {
     let steps = w.steps + 1;
@@ -60,6 +62,9 @@ pub fn enter(
         return tried(notes, top + 1, steps, q + 1, row, base);
     }
     if c < LETTERS {
+        if row >= size.rows {
+            return absent(notes, w, steps, size.more);
+        }
         if !letter_passes(table, rows, size, q, row) {
             return fails(notes, w, steps);
         }

@@ -24,7 +24,7 @@ use Rattle.nodes.proofs.Sort.{the-type}
 use Rattle.trees.specs.Held.{Top, At}
 use Rattle.trees.proofs.ByNode.{as-any, as-alt, at-in, alt-left, alt-right, top-places}
 use Rattle.table.specs.Table.{span}
-use Rattle.place_words.specs.Words.{putWays, putWords, putPlace, putFork, ForkNeeds, wayCount, FitsOne, PutOne, Fitting, Emitted, Wording, WayPut, WayNeeds}
+use Rattle.place_words.specs.Words.{putWays, putWords, putPlace, putFork, ForkNeeds, wayCount, FitsOne, PutOne, Fitting, Emitted, Wording, WayPut, WayNeeds, placeWords}
 use Rattle.place_codes.specs.Codes.{laterWord}
 use Rattle.place_codes.specs.Planes.{Planed, slot, startNo}
 use Rattle.place_codes.specs.declared.Plane.{Plane}
@@ -217,7 +217,7 @@ module _ (o : Plane) (T : List ℕ) (b w : ℕ) (k : Behind) (p : Place) (f : Fi
     unused-words l =
         record { long = unused-here l .long; code-fits = omega arith; first-fits = omega arith; later-fits = omega arith; count-fits = omega arith }
 
-    pub unused-done : k .values ≤ o .flags → (T1 : List ℕ) (r : ℕ) → (r ≡ w) × (T1 ≡ putWords T q 30 0 0 0) → Emitted o T T1 b w r (used o k p ∷ [])
+    pub unused-done : k .values ≤ o .flags → (T1 : List ℕ) (r : ℕ) → (r ≡ w) × (T1 ≡ putWords T q (placeWords 30 0 0 0)) → Emitted o T T1 b w r (used o k p ∷ [])
     unfolding used putPlace wayCount
     unused-done l T1 r d = let z : PutOne T T1 q w r pEnd = record { is = d .1; way = omega (arith, d .0) } in rw (le-ltb (o .flags) (k .values) l) (emitted-one o T b w pEnd T1 r (rw eq at z))
 
@@ -231,7 +231,7 @@ module _ (o : Plane) (T : List ℕ) (b w : ℕ) (lazy : Bool) (copy : ℕ) (k : 
     pub part-words : k .values ≤ o .flags → Wording T q 30 0 0 0
     part-words = unused-words o T b w k (choice lazy copy (k .here)) (h .fits) q (eq .0)
 
-    pub part-none : k .values ≤ o .flags → (T1 : List ℕ) (r : ℕ) → (r ≡ w) × (T1 ≡ putWords T q 30 0 0 0) → Emitted o T T1 b w r (choicePlaces o lazy copy k)
+    pub part-none : k .values ≤ o .flags → (T1 : List ℕ) (r : ℕ) → (r ≡ w) × (T1 ≡ putWords T q (placeWords 30 0 0 0)) → Emitted o T T1 b w r (choicePlaces o lazy copy k)
     part-none = unused-done o T b w k (choice lazy copy (k .here)) (h .fits) q (eq .0)
 
     pub part-choose : o .flags < k .values → Choosing T q w lazy copy (k .here)
@@ -282,7 +282,7 @@ module _ (o : Plane) (s : List ℕ) (i : ℕ) (n : Node) (en : n ≡ nodeAt s i)
       alt : Alt (h .tree)
       alt = alt-facts (h .tree) (h .top) (h .place)
 
-      new-list : newStarts o T from to (h .tree) b k ≡ fresh (span T from (to - from)) (y ∷ startsIn o (unrolled (alt .rest)) (b + m) k)
+      new-list : newStarts o (span T from (to - from)) (h .tree) b k ≡ fresh (span T from (to - from)) (y ∷ startsIn o (unrolled (alt .rest)) (b + m) k)
       new-list = ap (fresh (span T from (to - from))) (alt .starts ∙ ap (λ (v : ℕ). v ∷ startsIn o (unrolled (alt .rest)) (b + m) k) (sym (ey .0)))
 
       start-way : WayNeeds T from to y
@@ -301,7 +301,7 @@ module _ (o : Plane) (s : List ℕ) (i : ℕ) (n : Node) (en : n ≡ nodeAt s i)
         after2 : AfterWay T from to y (startsIn o (unrolled (alt .rest)) (b + m) k) T1 r1 start-way p
         after2 = after-way T from to y (startsIn o (unrolled (alt .rest)) (b + m) k) T1 r1 start-way p
 
-        rest-list : r1 + length (newStarts o T1 from r1 (alt .rest) (b + m) k) ≡ to + length (newStarts o T from to (h .tree) b k)
+        rest-list : r1 + length (newStarts o (span T1 from (r1 - from)) (alt .rest) (b + m) k) ≡ to + length (newStarts o (span T from (to - from)) (h .tree) b k)
         rest-list = ap (λ (ks : List ℕ). r1 + length ks) (sym (after2 .seen)) ∙ after2 .count ∙ ap (λ (ks : List ℕ). to + length ks) (sym new-list)
 
         next-start : Starting o s (n .right) T1 from r1 (b + m) k
@@ -366,7 +366,7 @@ module _ (o : Plane) (s : List ℕ) (i : ℕ) (n : Node) (en : n ≡ nodeAt s i)
     some-branch (more x p) d S = one-start (unrolled p) (unrolled x) S (no-places (more x p) d)
 
     module _ (h : Starting o s i T from to b k) where
-      none-list : newStarts o T from to (h .tree) b k ≡ fresh (span T from (to - from)) (k ∷ [])
+      none-list : newStarts o (span T from (to - from)) (h .tree) b k ≡ fresh (span T from (to - from)) (k ∷ [])
       none-list = some-branch (h .tree) (ap (λ (y : Node). y .places) en ∙ top-places s i (h .tree) (h .top)) (span T from (to - from))
 
       none-way : WayNeeds T from to k
@@ -412,7 +412,7 @@ module _ (o : Plane) (s : List ℕ) (i : ℕ) (n : Node) (en : n ≡ nodeAt s i)
         (λ x p q h. absurd (e (q .sort)))
 
     module _ (h : Starting o s i T from to b k) (y : ℕ) (ey : (y ≡ startNo o b (b + n .places) k) × (y < 4096)) where
-      last-list : newStarts o T from to (h .tree) b k ≡ fresh (span T from (to - from)) (y ∷ [])
+      last-list : newStarts o (span T from (to - from)) (h .tree) b k ≡ fresh (span T from (to - from)) (y ∷ [])
       last-list = ap (fresh (span T from (to - from))) ((single (h .tree) (h .top) (h .place)) .starts ∙ ap (λ (v : ℕ). v ∷ []) (sym (ey .0)))
 
       last-way : WayNeeds T from to y
@@ -510,7 +510,7 @@ module _ (o : Plane) (s : List ℕ) (i : ℕ) (T : List ℕ) (b w : ℕ) (k : Be
   ways : List ℕ
   ways = distinct (startsIn o (unrolled (h .tree)) (b + 1) (k .here))
 
-  starts-all : newStarts o T w w (h .tree) (b + 1) (k .here) ≡ ways
+  starts-all : newStarts o (span T w (w - w)) (h .tree) (b + 1) (k .here) ≡ ways
   unfolding ways
   starts-all = ap (λ (v : List ℕ). fresh v (startsIn o (unrolled (h .tree)) (b + 1) (k .here))) (span-none T w)
 
@@ -541,7 +541,7 @@ module _ (o : Plane) (s : List ℕ) (i : ℕ) (T : List ℕ) (b w : ℕ) (k : Be
     unfolding ways
     forking-words = unused-words o T b w k (pFork ways) (h .fits) q (eq .0)
 
-    pub forking-none : k .values ≤ o .flags → (T1 : List ℕ) (r : ℕ) → (r ≡ w) × (T1 ≡ putWords T q 30 0 0 0) → Emitted o T T1 b w r (forkPlaces o (h .tree) b k)
+    pub forking-none : k .values ≤ o .flags → (T1 : List ℕ) (r : ℕ) → (r ≡ w) × (T1 ≡ putWords T q (placeWords 30 0 0 0)) → Emitted o T T1 b w r (forkPlaces o (h .tree) b k)
     unfolding ways
     forking-none = unused-done o T b w k (pFork ways) (h .fits) q (eq .0)
 

@@ -19,9 +19,9 @@ use Rattle.place_codes.specs.declared.Plane.{Plane}
 use Rattle.place_codes.specs.declared.Behind.{Behind}
 use Rattle.forks.specs.PlaneCode.{used, flagsCopy, startsIn, planeOf, planesOf}
 
--- the starts of the branches of p that do not stand in the words from `from` to `to`, each once
-abbrev pub newStarts : Plane → List ℕ → ℕ → ℕ → Tree pattern → ℕ → ℕ → List ℕ
-newStarts o T from to p b k = fresh (span T from (to - from)) (startsIn o (unrolled p) b k)
+-- the starts of the branches of p that were not seen, each once
+abbrev pub newStarts : Plane → List ℕ → Tree pattern → ℕ → ℕ → List ℕ
+newStarts o seen p b k = fresh seen (startsIn o (unrolled p) b k)
 
 pub record Starting (o : Plane) (s : List ℕ) (i : ℕ) (T : List ℕ) (from to b k : ℕ) : Type 0 where
   pub planed : Planed o
@@ -29,13 +29,13 @@ pub record Starting (o : Plane) (s : List ℕ) (i : ℕ) (T : List ℕ) (from to
   pub top : Top tree i s
   pub order : from ≤ to
   pub small : length T < 65536
-  pub way : to + length (newStarts o T from to tree b k) ≤ length T
+  pub way : to + length (newStarts o (span T from (to - from)) tree b k) ≤ length T
   pub place : b + sizes (unrolled tree) ≤ 256
   pub behind : k < 4096
 
 pub record Started (o : Plane) (s : List ℕ) (i : ℕ) (T : List ℕ) (from to b k : ℕ) (exit : List ℕ) (r : ℕ) (h : Starting o s i T from to b k) : Type 0 where
-  pub is : exit ≡ putWays T to (newStarts o T from to (h .tree) b k)
-  pub way : r ≡ to + length (newStarts o T from to (h .tree) b k)
+  pub is : exit ≡ putWays T to (newStarts o (span T from (to - from)) (h .tree) b k)
+  pub way : r ≡ to + length (newStarts o (span T from (to - from)) (h .tree) b k)
 
 -- a fork of two ways, as entry q
 abbrev pub twoPlaces : ℕ → ℕ → Place
@@ -75,24 +75,27 @@ pub record Forking (o : Plane) (s : List ℕ) (i : ℕ) (T : List ℕ) (b w : �
 
 -- ---- a tree's places
 
-abbrev pub treePlaces : Plane → Tree pattern → ℕ → Behind → List Place
-treePlaces o p b k = thinned (planeOf o (unroll p) b k)
-
--- the branches' places, without the fork of an alternation
-abbrev pub branchPlaces : Plane → Tree pattern → ℕ → Behind → List Place
-branchPlaces o p b k = thinned (planesOf o (unrolled p) b k)
-
--- a factor's body, without its quantifier
-abbrev pub bodyPlaces : Plane → Tree factor → ℕ → Behind → List Place
-bodyPlaces o F b k = thinned (planeOf o (unrolled (body F)) b k)
-
 -- n copies, then m times a fork and a copy, or for m = 100 a fork and a copy that leads back to it
 unfoldable pub turns : ℕ → ℕ → Bool → Unrolled → Unrolled
 unfolding copies options
 turns n m lazy t = copies n t (pick (eqb m 100) (uStar lazy t) (options m lazy t))
 
-abbrev pub turnPlaces : Plane → ℕ → ℕ → Tree factor → ℕ → Behind → List Place
-turnPlaces o n m F b k = thinned (planeOf o (turns n m (lazyOf F) (unrolled (body F))) b k)
+-- in a plane, numbered from b on, where k is behind them
+module _ (o : Plane) where
+  abbrev pub treePlaces : Tree pattern → ℕ → Behind → List Place
+  treePlaces p b k = thinned (planeOf o (unroll p) b k)
+
+  -- the branches' places, without the fork of an alternation
+  abbrev pub branchPlaces : Tree pattern → ℕ → Behind → List Place
+  branchPlaces p b k = thinned (planesOf o (unrolled p) b k)
+
+  -- a factor's body, without its quantifier
+  abbrev pub bodyPlaces : Tree factor → ℕ → Behind → List Place
+  bodyPlaces F b k = thinned (planeOf o (unrolled (body F)) b k)
+
+  -- the turns of a factor's body
+  abbrev pub turnPlaces : ℕ → ℕ → Tree factor → ℕ → Behind → List Place
+  turnPlaces n m F b k = thinned (planeOf o (turns n m (lazyOf F) (unrolled (body F))) b k)
 
 pub record Emitting (o : Plane) (s : List ℕ) (i : ℕ) (T : List ℕ) (b w : ℕ) (k : Behind) : Type 0 where
   pub tree : Tree pattern
@@ -156,7 +159,7 @@ pub record Unrolling (s : List ℕ) (top P F : ℕ) (T : List ℕ) : Type 0 wher
 -- The table holds the places of the tree with all values of their flags, each fork's ways once, and
 -- keeps to what the walk relies on; the ways stand behind the words of all places and end before the
 -- word r, and from there on no word is changed.
-pub record Tabled (p : Tree pattern) (N : ℕ) (T exit : List ℕ) (r : ℕ) : Type 0 where
+pub record PlacesTabled (p : Tree pattern) (N : ℕ) (T exit : List ℕ) (r : ℕ) : Type 0 where
   pub is : placesIn exit N ≡ thinned (places (unroll p))
   pub sized : Sized exit N
   pub behind : (q : ℕ) → q < N → 2 < countAt exit q → 4 * N ≤ laterAt exit q

@@ -17,7 +17,7 @@ use borrow.Author.Tests.{ltb-true, ltb-false, eq-eqb, ne-eqb}
 use Rattle.rules.specs.Basics.{pick, bytes}
 use Rattle.rules.specs.Program.{decimal, signedDecimal, labelsText, refusedText}
 use Rattle.put.specs.Put.{Put}
-use Rattle.header.specs.Report.{numberAt, headerText, fieldText, resultText, resultsText, lineText, linesText, reportText, reportRoom}
+use Rattle.header.specs.Report.{numberAt, headerText, fieldText, resultText, resultsText, lineText, linesText, reportText, reportRoom, heading}
 use Rattle.put.proofs.Digits.{few-digits}
 use Rattle.put.proofs.Signed.{held, number-long}
 use Rattle.put.proofs.Writing.{put-long, put-both, Partly, partly-none, partly-from, partly-room, partly-more, partly-all}
@@ -63,49 +63,49 @@ unfolding bytes
 outcome-long true = refl
 outcome-long false = refl
 
-module _ (l : List ℕ) (at : ℕ) (st : Bool) (k s : ℕ) (room : at + length (headerText st k s) ≤ length l) where
+module _ (l : List ℕ) (at : ℕ) (st : Bool) (k s : ℕ) (room : at + length (headerText (heading st k s)) ≤ length l) where
   abbrev outcome : List ℕ
   outcome = pick st (bytes "stopped ") (bytes "matches ")
 
   abbrev rest-1 : List ℕ
   rest-1 = bytes " steps " ++ (decimal s ++ (10 ∷ []))
 
-  header-0 : Partly l at (headerText st k s) l at (outcome ++ (decimal k ++ rest-1))
+  header-0 : Partly l at (headerText (heading st k s)) l at (outcome ++ (decimal k ++ rest-1))
   unfolding headerText
-  header-0 = partly-none (headerText st k s) (omega arith)
+  header-0 = partly-none (headerText (heading st k s)) (omega arith)
 
   pub header-room : at + 8 ≤ length l
   header-room = omega (arith, outcome-long st, partly-room room outcome (decimal k ++ rest-1) header-0)
 
   module _ (m1 : List ℕ) (b1 : ℕ) (p1 : Put l at (pick st (bytes "stopped ") (bytes "matches ")) m1 b1) where
-    header-1 : Partly l at (headerText st k s) m1 b1 (decimal k ++ rest-1)
+    header-1 : Partly l at (headerText (heading st k s)) m1 b1 (decimal k ++ rest-1)
     header-1 = partly-more outcome (decimal k ++ rest-1) header-0 p1
 
     pub header-room-1 : b1 + length (decimal k) ≤ length m1
     header-room-1 = partly-room room (decimal k) rest-1 header-1
 
     module _ (m2 : List ℕ) (b2 : ℕ) (p2 : Put m1 b1 (decimal k) m2 b2) where
-      header-2 : Partly l at (headerText st k s) m2 b2 rest-1
+      header-2 : Partly l at (headerText (heading st k s)) m2 b2 rest-1
       header-2 = partly-more (decimal k) rest-1 header-1 p2
 
       pub header-room-2 : b2 + length (bytes " steps ") ≤ length m2
       header-room-2 = partly-room room (bytes " steps ") (decimal s ++ (10 ∷ [])) header-2
 
       module _ (m3 : List ℕ) (b3 : ℕ) (p3 : Put m2 b2 (bytes " steps ") m3 b3) where
-        header-3 : Partly l at (headerText st k s) m3 b3 (decimal s ++ (10 ∷ []))
+        header-3 : Partly l at (headerText (heading st k s)) m3 b3 (decimal s ++ (10 ∷ []))
         header-3 = partly-more (bytes " steps ") (decimal s ++ (10 ∷ [])) header-2 p3
 
         pub header-room-3 : b3 + length (decimal s) ≤ length m3
         header-room-3 = partly-room room (decimal s) (10 ∷ []) header-3
 
         module _ (m4 : List ℕ) (b4 : ℕ) (p4 : Put m3 b3 (decimal s) m4 b4) where
-          header-4 : Partly l at (headerText st k s) m4 b4 (10 ∷ [])
+          header-4 : Partly l at (headerText (heading st k s)) m4 b4 (10 ∷ [])
           header-4 = partly-more (decimal s) (10 ∷ []) header-3 p4
 
           pub header-room-4 : b4 < length m4
           header-room-4 = omega (arith, partly-room room (10 ∷ []) [] header-4)
 
-          pub put-head : (o : List ℕ) (e : ℕ) → Put m4 b4 (10 ∷ []) o e → Put l at (headerText st k s) o e
+          pub put-head : (o : List ℕ) (e : ℕ) → Put m4 b4 (10 ∷ []) o e → Put l at (headerText (heading st k s)) o e
           put-head o e p5 = partly-all (partly-more (10 ∷ []) [] header-4 p5)
 
 -- ---- a number and one space
@@ -189,7 +189,7 @@ module _ (l : List ℕ) (at : ℕ) (st : Bool) (o : List ℕ) (e : ℕ) where
 
 -- ---- how long the pieces are
 
-pub header-long : (st : Bool) (k s : ℕ) → k < 2 ^ 64 → s < 2 ^ 64 → length (headerText st k s) ≤ 56
+pub header-long : (st : Bool) (k s : ℕ) → k < 2 ^ 64 → s < 2 ^ 64 → length (headerText (heading st k s)) ≤ 56
 unfolding headerText bytes
 header-long st k s hk hs =
     simp length-append (omega (arith, outcome-long st, few-digits 19 k (omega arith), few-digits 19 s (omega arith)))
@@ -457,13 +457,13 @@ module _ (l : List ℕ) (at k0 w : ℕ) (ns : List ℤ) (ls n : List ℕ) (k fir
 
 module _ (l : List ℕ) (at : ℕ) (st : Bool) (k s w : ℕ) (ns : List ℤ) (ls : List ℕ) (fits : k * (3 + 2 * w) ≤ length ns)
     (room : at + reportRoom (length ns) (length ls) ≤ length l) (fk : k < 2 ^ 64) (fs : s < 2 ^ 64) where
-  pub report-room : at + length (headerText st k s) ≤ length l
+  pub report-room : at + length (headerText (heading st k s)) ≤ length l
   report-room = omega (arith, header-long st k s fk fs)
 
-  module _ (m : List ℕ) (b : ℕ) (p : Put l at (headerText st k s) m b) where
+  module _ (m : List ℕ) (b : ℕ) (p : Put l at (headerText (heading st k s)) m b) where
     pub report-room-1 : b + (22 * (k * (3 + 2 * w)) + length ls) ≤ length m
-    report-room-1 = omega (arith, header-long st k s fk fs, p .ends, put-long l at (headerText st k s) m b p)
+    report-room-1 = omega (arith, header-long st k s fk fs, p .ends, put-long l at (headerText (heading st k s)) m b p)
 
-    pub put-whole : (o : List ℕ) (e : ℕ) → Put m b (linesText k w ns ls) o e → Put l at (reportText st k s w ns ls) o e
+    pub put-whole : (o : List ℕ) (e : ℕ) → Put m b (linesText k w ns ls) o e → Put l at (reportText (heading st k s) w ns ls) o e
     unfolding reportText
-    put-whole o e q = put-both l at (headerText st k s) m b (linesText k w ns ls) o e p q
+    put-whole o e q = put-both l at (headerText (heading st k s)) m b (linesText k w ns ls) o e p q

@@ -14,10 +14,19 @@ use Rattle.rules.specs.Program.{decimal, signedDecimal, labelsText}
 abbrev pub numberAt : List ℤ → ℕ → ℤ
 numberAt ns i = getD ns i (pos 0)
 
+-- what a report's first line says: whether the search stopped, the matches and the steps
+pub record Heading : Type 0 where
+  pub stopped : Bool
+  pub matches : ℕ
+  pub steps : ℕ
+
+abbrev pub heading : Bool → ℕ → ℕ → Heading
+heading stopped m steps = record { stopped = stopped; matches = m; steps = steps }
+
 -- `matches M steps S`, or `stopped M steps S`
-unfoldable pub headerText : Bool → ℕ → ℕ → List ℕ
+unfoldable pub headerText : Heading → List ℕ
 unfolding bytes decimal
-headerText stopped m steps = pick stopped (bytes "stopped ") (bytes "matches ") ++ (decimal m ++ (bytes " steps " ++ (decimal steps ++ (10 ∷ []))))
+headerText h = pick (h .stopped) (bytes "stopped ") (bytes "matches ") ++ (decimal (h .matches) ++ (bytes " steps " ++ (decimal (h .steps) ++ (10 ∷ []))))
 
 -- a measure's two numbers: 0 and 0 for null, else 1 and the result
 unfoldable pub resultText : ℤ → ℤ → List ℕ
@@ -49,9 +58,10 @@ linesText zero w ns ls = []
 linesText (suc m) w ns ls =
     lineText w ns (take (natAbs (numberAt ns 2)) ls) ++ linesText m w (drop (3 + 2 * w) ns) (drop (natAbs (numberAt ns 2)) ls)
 
-unfoldable pub reportText : Bool → ℕ → ℕ → ℕ → List ℤ → List ℕ → List ℕ
+-- the whole text, with w measures
+unfoldable pub reportText : Heading → ℕ → List ℤ → List ℕ → List ℕ
 unfolding headerText linesText
-reportText stopped m steps w ns ls = headerText stopped m steps ++ linesText m w ns ls
+reportText h w ns ls = headerText h ++ linesText (h .matches) w ns ls
 
 -- Room that is enough for the text, for so many numbers and labels: a header has at most 56 bytes,
 -- and a line at most 22 for each of its numbers and one for each of its labels.

@@ -8,7 +8,7 @@ ghost use lib.ListN.{length};
 ghost use Rattle.rules.specs.Basics.{pick, bytes};
 ghost use Rattle.rules.specs.Program.{refusedText, tooLarge};
 ghost use Rattle.put.specs.Put.{Put};
-ghost use Rattle.header.specs.Report.{headerText};
+ghost use Rattle.header.specs.Report.{headerText, heading};
 
 // `refused N`
 pub fn put_refused(out: &mut [u8], at: usize, answer: u64) -> usize
@@ -30,8 +30,8 @@ pub fn put_too_large(out: &mut [u8], at: usize) -> usize
 
 // `matches M steps S`, or `stopped M steps S`
 pub fn put_header(out: &mut [u8], at: usize, stopped: bool, matches: usize, steps: u64) -> usize
-    requires { ⌜ at + length (headerText stopped matches steps) ≤ length (now out) ⌝ }
-    ensures { λ r. ⌜ Put (now (out .entry)) at (headerText stopped matches steps) (now (out .exit)) r ⌝ }
+    requires { ⌜ at + length (headerText (heading stopped matches steps)) ≤ length (now out) ⌝ }
+    ensures { λ r. ⌜ Put (now (out .entry)) at (headerText (heading stopped matches steps)) (now (out .exit)) r ⌝ }
 {
     let count = put_outcome(out, at, stopped);
     let word = put_decimal(out, count, matches as u64);

@@ -14,34 +14,34 @@ use Rattle.rules.specs.Program.{refusedText, tooLarge, rowsOf, printedFor}
 use Rattle.laws.proofs.Accepted.{query-tests-refuse}
 use Rattle.laws.proofs.FirstTrue.{first-after, first-wider, none-before}
 use Rattle.input.specs.declared.Verdict.the-variants.{Refused, TooLarge, Search}
-use Rattle.input.specs.Verdict.{verdictOf, printedVerdict}
+use Rattle.input.specs.Verdict.{inputVerdict, printedVerdict}
 
 -- ---- the code's ways through the tests
 
 module _ (answer bytes pairs : ℕ) where
-  pub by-answer : 0 < answer → Refused answer ≡ verdictOf answer bytes pairs
-  unfolding verdictOf
+  pub by-answer : 0 < answer → Refused answer ≡ inputVerdict answer bytes pairs
+  unfolding inputVerdict
   by-answer h = simp (lt-ltb 0 answer h)
 
   module _ (a : answer ≤ 0) where
-    pub by-bytes : (bytes % 4 ≡ 0 → ⊥) → Refused 10 ≡ verdictOf answer bytes pairs
-    unfolding verdictOf
+    pub by-bytes : (bytes % 4 ≡ 0 → ⊥) → Refused 10 ≡ inputVerdict answer bytes pairs
+    unfolding inputVerdict
     by-bytes d = simp (le-ltb 0 answer a, ne-eqb (bytes % 4) 0 d)
 
     module _ (w : bytes % 4 ≡ 0) where
-      pub by-pairs : 16000 < pairs → TooLarge ≡ verdictOf answer bytes pairs
-      unfolding verdictOf
+      pub by-pairs : 16000 < pairs → TooLarge ≡ inputVerdict answer bytes pairs
+      unfolding inputVerdict
       by-pairs h = simp (le-ltb 0 answer a, eq-eqb (bytes % 4) 0 w, lt-ltb 16000 pairs h)
 
-      pub to-search : pairs ≤ 16000 → Search ≡ verdictOf answer bytes pairs
-      unfolding verdictOf
+      pub to-search : pairs ≤ 16000 → Search ≡ inputVerdict answer bytes pairs
+      unfolding inputVerdict
       to-search h = simp (le-ltb 0 answer a, eq-eqb (bytes % 4) 0 w, le-ltb 16000 pairs h)
 
 -- ---- what the cases give
 
 -- what a search may rely on
-pub searched : (answer bytes pairs : ℕ) → verdictOf answer bytes pairs ≡ Search → (answer ≡ 0) × (pairs ≤ 16000)
-unfolding verdictOf
+pub searched : (answer bytes pairs : ℕ) → inputVerdict answer bytes pairs ≡ Search → (answer ≡ 0) × (pairs ≤ 16000)
+unfolding inputVerdict
 searched answer bytes pairs e = go _ (not (eqb (bytes % 4) 0)) _ refl refl e
   where
     go : (a b c : Bool) → ltb 0 answer ≡ a → ltb 16000 pairs ≡ c
@@ -52,7 +52,7 @@ searched answer bytes pairs e = go _ (not (eqb (bytes % 4) 0)) _ refl refl e
     go false false false ea ec e = (omega (arith, ltb-false 0 answer ea), ltb-false 16000 pairs ec)
 
 -- with an answer the number of pairs does not matter
-pub pairs-spared : (answer bytes p p′ : ℕ) → 0 < answer → verdictOf answer bytes p ≡ verdictOf answer bytes p′
+pub pairs-spared : (answer bytes p p′ : ℕ) → 0 < answer → inputVerdict answer bytes p ≡ inputVerdict answer bytes p′
 pairs-spared answer bytes p p′ h = sym (by-answer answer bytes p h) ∙ by-answer answer bytes p′ h
 
 -- row bytes that are no whole numbers are a 10 where there is no other answer, and change no other
@@ -67,8 +67,8 @@ module _ (q : List ℕ) (bad : Bool) where
 
 -- the program prints what the cases print
 pub printed-verdict : (q r : List ℕ)
-    → printedFor q r ≡ printedVerdict (verdictOf (roomAnswer q (badRows q (rowsOf r))) (length r) (pairsOf q (rowsOf r))) q r
-unfolding printedFor verdictOf printedVerdict
+    → printedFor q r ≡ printedVerdict (inputVerdict (roomAnswer q (badRows q (rowsOf r))) (length r) (pairsOf q (rowsOf r))) q r
+unfolding printedFor inputVerdict printedVerdict
 printed-verdict q r = go (ltb 0 (roomAnswer q bad)) (not (eqb (length r % 4) 0)) (ltb 16000 (pairsOf q (rowsOf r))) refl
   where
     bad : Bool

@@ -13,14 +13,14 @@ use Rattle.input.specs.declared.Verdict.the-variants.{Refused, TooLarge,
 
 -- In this order: an answer; row bytes that are no multiple of 4 are a 10; more than 16,000 pairs
 -- are too large; then the search.
-unfoldable pub verdictOf : ℕ → ℕ → ℕ → Verdict
-verdictOf answer bytes pairs =
+unfoldable pub inputVerdict : ℕ → ℕ → ℕ → Verdict
+inputVerdict answer bytes pairs =
     pick (ltb 0 answer) (Refused answer)
     (pick (not (eqb (bytes % 4) 0)) (Refused 10)
     (pick (ltb 16000 pairs) TooLarge Search))
 
 -- what the program prints of a query and its row bytes in each case; the law `printed-verdict`
--- (proofs/Verdicts) says that this of `verdictOf` is `printedFor`
+-- (proofs/Verdicts) says that this of `inputVerdict` is `printedFor`
 unfoldable pub printedVerdict : Verdict → List ℕ → List ℕ → List ℕ
 unfolding refusedText tooLarge searchText taskOf walked rowsOf
 printedVerdict (Refused a) q r = refusedText a

@@ -12,7 +12,7 @@ ghost use lib.ListN.{length};
 ghost use Rattle.rules.specs.Basics.{wrote};
 ghost use Rattle.rules.specs.Program.{rowsOf};
 ghost use Rattle.input.specs.Input.{inputOf};
-ghost use Rattle.input.specs.Verdict.{verdictOf};
+ghost use Rattle.input.specs.Verdict.{inputVerdict};
 
 // The most pairs that the program searches.
 const MOST_PAIRS: usize = 16000;
@@ -66,7 +66,7 @@ pub fn input_of(s: &[u8]) -> Input
 // there is one; a 10, where the bytes are no whole numbers; `too large`, where there are too many
 // pairs; and else the report of the search.
 pub fn verdict_of(answer: usize, bytes: usize, pairs: usize) -> Verdict
-    ensures { λ r. ⌜ r ≡ verdictOf answer bytes pairs ⌝ }
+    ensures { λ r. ⌜ r ≡ inputVerdict answer bytes pairs ⌝ }
 {
     if 0 < answer {
         return Verdict::Refused(answer as u64);

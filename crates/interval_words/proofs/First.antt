@@ -9,7 +9,7 @@ use Rattle.rules.specs.Basics.{signed32}
 use Rattle.rules.specs.Rows.{Comparison}
 use Rattle.rules.specs.Query.{comparisonAt}
 use Rattle.table.specs.Tests.{numberIn, comparisonIn, word64, raised, raisedWord, testedBy, lowOf, widthOf, First}
-use Rattle.interval_words.specs.Interval.{numberAt, IntervalPut}
+use Rattle.interval_words.specs.Interval.{writtenNumber, IntervalPut}
 
 -- ---- the same words
 
@@ -64,8 +64,8 @@ module _ (T : List ℕ) (columns at : ℕ) (s : List ℕ) (p : ℕ) (is : compar
   unfolding comparisonIn comparisonAt
   kind-is = ap (λ (c : Comparison). c .rightKind) is
 
-  number-is : numberIn T at ≡ numberAt s p
-  unfolding comparisonIn comparisonAt numberAt
+  number-is : numberIn T at ≡ writtenNumber s p
+  unfolding comparisonIn comparisonAt writtenNumber
   number-is = ap (λ (c : Comparison). c .number) is
 
 -- the comparison and its interval stand in T
@@ -73,12 +73,12 @@ module _ (s : List ℕ) (columns p : ℕ) (T₀ T : List ℕ) (at : ℕ) (put : 
   op-is : getD T (at + 2) 0 % 8 ≡ getD s (p + 2) 0
   op-is = operator-is T columns (at + 2) s p is
 
-  x-is : raised (numberIn T (at + 2)) ≡ raised (numberAt s p)
+  x-is : raised (numberIn T (at + 2)) ≡ raised (writtenNumber s p)
   x-is = ap raised (number-is T columns (at + 2) s p is)
 
   pub first-put : First T at
   first-put = record {
     kind = put .kind-is ∙ ap testedBy (sym (kind-is T columns (at + 2) s p is));
-    low = put .low-is ∙ ap (λ (o : ℕ). lowOf o (raised (numberAt s p))) (sym op-is) ∙ ap (lowOf (getD T (at + 2) 0 % 8)) (sym x-is);
-    width = put .width-is ∙ ap (λ (o : ℕ). widthOf o (raised (numberAt s p))) (sym op-is) ∙ ap (widthOf (getD T (at + 2) 0 % 8)) (sym x-is);
+    low = put .low-is ∙ ap (λ (o : ℕ). lowOf o (raised (writtenNumber s p))) (sym op-is) ∙ ap (lowOf (getD T (at + 2) 0 % 8)) (sym x-is);
+    width = put .width-is ∙ ap (λ (o : ℕ). widthOf o (raised (writtenNumber s p))) (sym op-is) ∙ ap (widthOf (getD T (at + 2) 0 % 8)) (sym x-is);
   }

@@ -14,7 +14,7 @@ use borrow.Author.Tests.{le-ltb}
 use Rattle.laws.proofs.Signed.{read-back}
 use Rattle.rules.specs.Basics.{le32, signed32}
 use Rattle.table.specs.Tests.{raised}
-use Rattle.interval_words.specs.Interval.{numberAt}
+use Rattle.interval_words.specs.Interval.{writtenNumber}
 
 raised-some : (d : ℤ) → mag d < 2147483648 → 0 < raised d
 unfolding raised
@@ -65,7 +65,7 @@ raise-number number d f e h =
 
 -- the number of the comparison at index p: w its four bytes, z these as a signed number
 pub raised-at : (s : List ℕ) (p w : ℕ) (z : ℤ) (r : ℕ) → w ≡ le32 s (p + 8) → (z ≡ signed32 w) × (mag z < 2147483648) →
-    (r ≡ raised (toZ w32 (ofZ w32 z))) × (0 < r) × (r < 17179869184) → (r ≡ raised (numberAt s p)) × (0 < r) × (r < 17179869184)
-unfolding numberAt
+    (r ≡ raised (toZ w32 (ofZ w32 z))) × (0 < r) × (r < 17179869184) → (r ≡ raised (writtenNumber s p)) × (0 < r) × (r < 17179869184)
+unfolding writtenNumber
 raised-at s p w z r e f g =
     (g .0 ∙ ap raised (toZ-ofZ (record { sfits = f .1 }) ∙ f .0 ∙ ap signed32 e), g .1, g .2)

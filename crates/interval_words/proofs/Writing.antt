@@ -6,7 +6,7 @@ use native.Mathlib.Omega.{arith}
 use lib.ListN.{length, getD, set, length-set}
 use lib.Seq.{getD-set-same, getD-set-other}
 use Rattle.table.specs.Tests.{word64, raised, raisedWord, testedBy, lowOf, widthOf}
-use Rattle.interval_words.specs.Interval.{numberAt, Word64Put, NineRoom, NinePut, IntervalPut}
+use Rattle.interval_words.specs.Interval.{writtenNumber, Word64Put, NineRoom, NinePut, IntervalPut}
 use Rattle.interval_words.proofs.First.{word64-same}
 
 -- ---- four words
@@ -96,7 +96,7 @@ module _ (T : List ℕ) (at kind : ℕ) (h : NineRoom T at kind) where
 -- ---- those of a comparison
 
 module _ (s : List ℕ) (p : ℕ) (T T′ : List ℕ) (at op right kind x first low width : ℕ) (e-op : op ≡ getD s (p + 2) 0) (e-right : right ≡ getD s (p + 3) 0) (e-kind : kind ≡ testedBy right)
-    (e-x : x ≡ raised (numberAt s p)) (e-first : first ≡ lowOf op x) (e-low : (low + 8589934592) % 18446744073709551616 ≡ first) (e-width : width ≡ widthOf op x)
+    (e-x : x ≡ raised (writtenNumber s p)) (e-first : first ≡ lowOf op x) (e-low : (low + 8589934592) % 18446744073709551616 ≡ first) (e-width : width ≡ widthOf op x)
     (put : NinePut T T′ at kind low width) where
   pub interval-put : IntervalPut s p T T′ at
   unfolding raisedWord

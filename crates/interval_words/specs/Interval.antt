@@ -10,9 +10,9 @@ use Rattle.rules.specs.Basics.{le32, signed32}
 use Rattle.table.specs.Tests.{word64, raised, raisedWord, testedBy, lowOf, widthOf}
 
 -- the number of the comparison
-unfoldable pub numberAt : List ℕ → ℕ → ℤ
+unfoldable pub writtenNumber : List ℕ → ℕ → ℤ
 unfolding signed32 le32
-numberAt s p = signed32 (le32 s (p + 8))
+writtenNumber s p = signed32 (le32 s (p + 8))
 
 -- a number of 64 bits stands in four words from `at` on
 pub record Word64Put (T T′ : List ℕ) (at x : ℕ) : Type 0 where
@@ -40,6 +40,6 @@ pub record IntervalRoom (s : List ℕ) (p : ℕ) (T : List ℕ) (at : ℕ) : Typ
 pub record IntervalPut (s : List ℕ) (p : ℕ) (T T′ : List ℕ) (at : ℕ) : Type 0 where
   pub len : length T′ ≡ length T
   pub kind-is : getD T′ (at + 7) 0 ≡ testedBy (getD s (p + 3) 0)
-  pub low-is : raisedWord (word64 T′ (at + 8)) ≡ lowOf (getD s (p + 2) 0) (raised (numberAt s p))
-  pub width-is : word64 T′ (at + 12) ≡ widthOf (getD s (p + 2) 0) (raised (numberAt s p))
+  pub low-is : raisedWord (word64 T′ (at + 8)) ≡ lowOf (getD s (p + 2) 0) (raised (writtenNumber s p))
+  pub width-is : word64 T′ (at + 12) ≡ widthOf (getD s (p + 2) 0) (raised (writtenNumber s p))
   pub kept : (j : ℕ) → (at + 7 ≤ j → j < at + 16 → ⊥) → getD T′ j 0 ≡ getD T j 0

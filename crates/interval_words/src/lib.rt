@@ -11,7 +11,7 @@ ghost use mathlib.Core.Path.{_≡_};
 ghost use Prim.Native.Nat.{_+_, _≤_, _<_};
 ghost use lib.ListN.{length};
 ghost use Rattle.table.specs.Tests.{raised, testedBy, lowOf, widthOf};
-ghost use Rattle.interval_words.specs.Interval.{numberAt, Word64Put, NineRoom, NinePut, IntervalRoom, IntervalPut};
+ghost use Rattle.interval_words.specs.Interval.{writtenNumber, Word64Put, NineRoom, NinePut, IntervalRoom, IntervalPut};
 
 // What a number is raised by: no number that a comparison meets is then below 0.
 const RAISE: i64 = 8589934592;
@@ -63,7 +63,7 @@ fn raise_number(number: i32) -> u64
 // The number of the comparison at index p, raised.
 fn raised_at(query: &[u8], p: usize) -> u64
     requires { ⌜ p + 12 ≤ length (now query) ⌝ }
-    ensures { λ r. ⌜ (r ≡ raised (numberAt (now (query .entry)) p)) × (0 < r) × (r < 17179869184) ⌝ }
+    ensures { λ r. ⌜ (r ≡ raised (writtenNumber (now (query .entry)) p)) × (0 < r) × (r < 17179869184) ⌝ }
 {
     raise_number(signed_word(le32_at(query, p + 8)))
 }

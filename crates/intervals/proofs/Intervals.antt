@@ -12,31 +12,31 @@ use Rattle.rules.specs.Rows.{compares}
 use Rattle.laws.proofs.Choice.{decided}
 use Rattle.laws.proofs.Signed.{mag-add}
 use Rattle.table.specs.Tests.{raised, raisedWord, lowOf, widthOf}
-use Rattle.intervals.specs.Intervals.{within}
+use Rattle.intervals.specs.Intervals.{inInterval}
 use Rattle.intervals.proofs.Raising.{raised-some, raised-few, raised-lt, raised-le, raised-sum, raised-difference}
 
 -- ---- in an interval or not
 
 module _ (x low width : ℕ) where
-  in-above : low ≤ x → x ≤ low + width → within x low width ≡ true
-  unfolding within
+  in-above : low ≤ x → x ≤ low + width → inInterval x low width ≡ true
+  unfolding inInterval
   in-above h g = simp (le-leb low x h) (le-leb (x - low) width (omega arith))
 
-  out-above : low ≤ x → low + width < x → within x low width ≡ false
-  unfolding within
+  out-above : low ≤ x → low + width < x → inInterval x low width ≡ false
+  unfolding inInterval
   out-above h g = simp (le-leb low x h) (lt-leb (x - low) width (omega arith))
 
-  in-below : x < low → 18446744073709551616 + x ≤ low + width → within x low width ≡ true
-  unfolding within
+  in-below : x < low → 18446744073709551616 + x ≤ low + width → inInterval x low width ≡ true
+  unfolding inInterval
   in-below h g = simp (lt-leb low x h) (le-leb (18446744073709551616 + x - low) width (omega arith))
 
-  out-below : x < low → low + width < 18446744073709551616 + x → within x low width ≡ false
-  unfolding within
+  out-below : x < low → low + width < 18446744073709551616 + x → inInterval x low width ≡ false
+  unfolding inInterval
   out-below h g = simp (lt-leb low x h) (lt-leb (18446744073709551616 + x - low) width (omega arith))
 
   -- the code's test, of the difference that wraps
-  pub wraps-within : (y r : ℕ) → y ≡ x → (r + low) % 18446744073709551616 ≡ y → r < 18446744073709551616 → low < 18446744073709551616 → leb r width ≡ within x low width
-  unfolding within
+  pub wraps-within : (y r : ℕ) → y ≡ x → (r + low) % 18446744073709551616 ≡ y → r < 18446744073709551616 → low < 18446744073709551616 → leb r width ≡ inInterval x low width
+  unfolding inInterval
   wraps-within y r q e h g =
       decided (leb low x)
       (λ t. let l = leb-true low x t in simp t (ap (λ (k : ℕ). leb k width) (let z : r ≡ x - low = omega arith in z)))
@@ -45,7 +45,7 @@ module _ (x low width : ℕ) where
 -- the same where the interval's first number is told less 2 ^ 33, and as much is taken from the
 -- raised number
 pub plain-within : (x low width y u r : ℕ) → y ≡ x → (u + 8589934592) % 18446744073709551616 ≡ y → (r + low) % 18446744073709551616 ≡ u
-    → r < 18446744073709551616 → low < 18446744073709551616 → leb r width ≡ within x (raisedWord low) width
+    → r < 18446744073709551616 → low < 18446744073709551616 → leb r width ≡ inInterval x (raisedWord low) width
 unfolding raisedWord
 plain-within x low width y u r q e f h g =
     wraps-within x ((low + 8589934592) % 18446744073709551616) width y r q
@@ -57,42 +57,42 @@ order d x f g h = decided (ltb d x) (λ e. f (ltb-true d x e)) (λ e. decided (l
 -- ---- on raised numbers: a is as far from b as d is from x
 
 module _ (a b d x : ℕ) (e : a + x ≡ d + b) (few : d < 17179869184) (some : 0 < x) (most : x < 17179869184) where
-  equal-is : within d x 0 ≡ (leb a b && leb b a)
+  equal-is : inInterval d x 0 ≡ (leb a b && leb b a)
   equal-is =
       order d x
       (λ l. rw (out-below d x 0 l (omega arith), le-leb a b (omega arith), lt-leb b a (omega arith)))
       (λ l. rw (in-above d x 0 (omega arith) (omega arith), le-leb a b (omega arith), le-leb b a (omega arith)))
       (λ l. rw (out-above d x 0 (omega arith) (omega arith), lt-leb a b (omega arith)))
 
-  unequal-is : within d (x + 1) 18446744073709551614 ≡ (ltb a b || ltb b a)
+  unequal-is : inInterval d (x + 1) 18446744073709551614 ≡ (ltb a b || ltb b a)
   unequal-is =
       order d x
       (λ l. rw (in-below d (x + 1) 18446744073709551614 (omega arith) (omega arith), lt-ltb a b (omega arith)))
       (λ l. rw (out-below d (x + 1) 18446744073709551614 (omega arith) (omega arith), le-ltb a b (omega arith), le-ltb b a (omega arith)))
       (λ l. rw (in-above d (x + 1) 18446744073709551614 (omega arith) (omega arith), le-ltb a b (omega arith), lt-ltb b a (omega arith)))
 
-  less-is : within d 0 (x - 1) ≡ ltb a b
+  less-is : inInterval d 0 (x - 1) ≡ ltb a b
   less-is =
       order d x
       (λ l. rw (in-above d 0 (x - 1) (omega arith) (omega arith), lt-ltb a b (omega arith)))
       (λ l. rw (out-above d 0 (x - 1) (omega arith) (omega arith), le-ltb a b (omega arith)))
       (λ l. rw (out-above d 0 (x - 1) (omega arith) (omega arith), le-ltb a b (omega arith)))
 
-  most-is : within d 0 x ≡ leb a b
+  most-is : inInterval d 0 x ≡ leb a b
   most-is =
       order d x
       (λ l. rw (in-above d 0 x (omega arith) (omega arith), le-leb a b (omega arith)))
       (λ l. rw (in-above d 0 x (omega arith) (omega arith), le-leb a b (omega arith)))
       (λ l. rw (out-above d 0 x (omega arith) (omega arith), lt-leb a b (omega arith)))
 
-  greater-is : within d (x + 1) (18446744073709551614 - x) ≡ ltb b a
+  greater-is : inInterval d (x + 1) (18446744073709551614 - x) ≡ ltb b a
   greater-is =
       order d x
       (λ l. rw (out-below d (x + 1) (18446744073709551614 - x) (omega arith) (omega arith), le-ltb b a (omega arith)))
       (λ l. rw (out-below d (x + 1) (18446744073709551614 - x) (omega arith) (omega arith), le-ltb b a (omega arith)))
       (λ l. rw (in-above d (x + 1) (18446744073709551614 - x) (omega arith) (omega arith), lt-ltb b a (omega arith)))
 
-  least-is : within d x (18446744073709551615 - x) ≡ leb b a
+  least-is : inInterval d x (18446744073709551615 - x) ≡ leb b a
   least-is =
       order d x
       (λ l. rw (out-below d x (18446744073709551615 - x) (omega arith) (omega arith), lt-leb b a (omega arith)))
@@ -103,7 +103,7 @@ module _ (a b d x : ℕ) (e : a + x ≡ d + b) (few : d < 17179869184) (some : 0
 
 module _ (op : ℕ) (a b d x : ℤ) (ha : mag a < 4294967297) (hb : mag b < 4294967297) (hd : mag d < 4294967296) (hx : mag x < 4294967296)
     (e : raised a + raised x ≡ raised d + raised b) where
-  operator-is : within (raised d) (lowOf op (raised x)) (widthOf op (raised x)) ≡ compares op a b
+  operator-is : inInterval (raised d) (lowOf op (raised x)) (widthOf op (raised x)) ≡ compares op a b
   unfolding compares lowOf widthOf
   operator-is =
       let few = raised-few d (omega arith) in
@@ -121,12 +121,12 @@ module _ (op : ℕ) (a b d x : ℤ) (ha : mag a < 4294967297) (hb : mag b < 4294
       (λ f5. simp (f1, f2, f3, f4, f5, ba) (least-is (raised a) (raised b) (raised d) (raised x) e few some most))))))
 
 -- a number against a number
-pub number-is : (op : ℕ) (a x : ℤ) → mag a < 2147483648 → mag x < 2147483648 → within (raised a) (lowOf op (raised x)) (widthOf op (raised x)) ≡ compares op a x
+pub number-is : (op : ℕ) (a x : ℤ) → mag a < 2147483648 → mag x < 2147483648 → inInterval (raised a) (lowOf op (raised x)) (widthOf op (raised x)) ≡ compares op a x
 number-is op a x h g = operator-is op a x a x (omega arith) (omega arith) (omega arith) (omega arith) refl
 
 -- an entry against an entry and a number
 pub column-is : (op : ℕ) (a b x : ℤ) → mag a < 2147483648 → mag b < 2147483648 → mag x < 2147483648 → mag (a -ℤ b) < 4294967296
-    → within (raised (a -ℤ b)) (lowOf op (raised x)) (widthOf op (raised x)) ≡ compares op a (b +ℤ x)
+    → inInterval (raised (a -ℤ b)) (lowOf op (raised x)) (widthOf op (raised x)) ≡ compares op a (b +ℤ x)
 column-is op a b x h g f k =
     let m = mag-add b x in
     let s = raised-sum b x (omega arith) (omega arith) in

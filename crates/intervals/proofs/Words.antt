@@ -11,7 +11,7 @@ use mir.Syntax.{w64}
 use mir.Val.{toZ, ofZ}
 use Rattle.laws.proofs.Signed.{read-back}
 use Rattle.table.specs.Tests.{word64, raised, raisedWord}
-use Rattle.intervals.specs.Intervals.{within}
+use Rattle.intervals.specs.Intervals.{inInterval}
 
 pub four-words : (T : List ℕ) (at a b c d : ℕ) → a ≡ getD T at 0 → b ≡ getD T (at + 1) 0 → c ≡ getD T (at + 2) 0 → d ≡ getD T (at + 3) 0
     → a + b * 65536 + (c * 4294967296 + d * 281474976710656) ≡ word64 T at
@@ -23,5 +23,5 @@ pub held-few : (d : ℤ) → mag d < 4294967296 → mag (toZ w64 (ofZ w64 d)) < 
 held-few d h = rw (read-back d (omega arith)) h
 
 pub from-words : (T : List ℕ) (at low width : ℕ) (d : ℤ) (r : Bool) → low ≡ word64 T at → width ≡ word64 T (at + 4) → mag d < 4294967296
-    → r ≡ within (raised (toZ w64 (ofZ w64 d))) (raisedWord low) width → r ≡ within (raised d) (raisedWord (word64 T at)) (word64 T (at + 4))
+    → r ≡ inInterval (raised (toZ w64 (ofZ w64 d))) (raisedWord low) width → r ≡ inInterval (raised d) (raisedWord (word64 T at)) (word64 T (at + 4))
 from-words T at low width d r el ew h e = e ∙ rw (read-back d (omega arith), el, ew) refl

@@ -6,5 +6,5 @@ use lib.Dec.{leb}
 use Rattle.rules.specs.Basics.{pick}
 
 -- the number lies in the interval
-unfoldable pub within : ℕ → ℕ → ℕ → Bool
-within x low width = leb (pick (leb low x) (x - low) (18446744073709551616 + x - low)) width
+unfoldable pub inInterval : ℕ → ℕ → ℕ → Bool
+inInterval x low width = leb (pick (leb low x) (x - low) (18446744073709551616 + x - low)) width

@@ -11,7 +11,7 @@ ghost use lib.IntN.{_-ℤ_};
 ghost use lib.Signed.{mag};
 ghost use lib.ListN.{length};
 ghost use Rattle.table.specs.Tests.{word64, raised, raisedWord};
-ghost use Rattle.intervals.specs.Intervals.{within};
+ghost use Rattle.intervals.specs.Intervals.{inInterval};
 
 // The words of the interval's first number; behind them stands how many more there are.
 const WIDTH: usize = 4;
@@ -48,7 +48,7 @@ fn word64_at(table: &[u16], at: usize) -> u64
 // 2^33, so that the compiler takes away nothing and raises nothing.
 fn inside(d: i64, low: u64, width: u64) -> bool
     requires { ⌜ mag d < 4294967296 ⌝ }
-    ensures { λ r. ⌜ r ≡ within (raised d) (raisedWord low) width ⌝ }
+    ensures { λ r. ⌜ r ≡ inInterval (raised d) (raisedWord low) width ⌝ }
 {
     let plain = std::num::wrapping_sub_u64(raise(d), RAISED_BY);
     std::num::wrapping_sub_u64(plain, low) <= width
@@ -57,7 +57,7 @@ fn inside(d: i64, low: u64, width: u64) -> bool
 // The same for the interval at word `at` of the table.
 pub fn inside_at(table: &[u16], at: usize, d: i64) -> bool
     requires { ⌜ (at + 8 ≤ length (now table)) × (mag d < 4294967296) ⌝ }
-    ensures { λ r. ⌜ r ≡ within (raised d) (raisedWord (word64 (now (table .entry)) at)) (word64 (now (table .entry)) (at + 4)) ⌝ }
+    ensures { λ r. ⌜ r ≡ inInterval (raised d) (raisedWord (word64 (now (table .entry)) at)) (word64 (now (table .entry)) (at + 4)) ⌝ }
 {
     let low = word64_at(table, at);
     let width = word64_at(table, at + WIDTH);

@@ -20,7 +20,7 @@ use Rattle.primaries.specs.Readers.{Fits, Parsed, ParsedAs, TextSays}
 use Rattle.trees.specs.Held.{Top, At}
 use Rattle.trees.proofs.Holds.{pattern-nodes}
 use Rattle.pattern.proofs.TextLaws.{text-top}
-use Rattle.judge.specs.Judged.{textTests, textAnswer, refusal, Judging}
+use Rattle.judge.specs.Judged.{textTests, textAnswer, refusedVerdict, Judging}
 use Rattle.loops.specs.Loops.{Nesting}
 use Rattle.judge.specs.declared.Verdict.{Verdict}
 
@@ -35,7 +35,7 @@ module _ (s m0 m1 : List ℕ) where
   unfolding textAnswer textTests
   answer-is a b c d e e1 e2 e3 e4 e5 = rw (e1, e2, e3, e4, e5) refl
 
-  pub judge-deep : (t : Bool) (r : Verdict) → t ≡ deep 0 0 s → t ≡ true → r ≡ refusal 4 0 → Judging s m0 m0 r
+  pub judge-deep : (t : Bool) (r : Verdict) → t ≡ deep 0 0 s → t ≡ true → r ≡ refusedVerdict 4 0 → Judging s m0 m0 r
   unfolding firstOf offsetAt
   judge-deep t r e o er =
       rw er
@@ -50,7 +50,7 @@ module _ (s m0 m1 : List ℕ) where
         go none q = refl
         go (some t) q = absurd (true≢false (sym (q .ok) ∙ e))
 
-    pub judge-wrong : (r : Verdict) → p .at < length s → r ≡ refusal 5 (p .at) → Judging s m0 m1 r
+    pub judge-wrong : (r : Verdict) → p .at < length s → r ≡ refusedVerdict 5 (p .at) → Judging s m0 m1 r
     unfolding firstOf offsetAt wrong
     judge-wrong r l er =
         rw er (record {
@@ -63,7 +63,7 @@ module _ (s m0 m1 : List ℕ) where
           len = h .len;
         })
 
-    pub judge-incomplete : (r : Verdict) → length s ≤ p .at → r ≡ refusal 14 (p .at) → Judging s m0 m1 r
+    pub judge-incomplete : (r : Verdict) → length s ≤ p .at → r ≡ refusedVerdict 14 (p .at) → Judging s m0 m1 r
     unfolding firstOf offsetAt wrong incomplete
     judge-incomplete r l er =
         let i = stop-inside s in
@@ -154,7 +154,7 @@ module _ (s m0 m1 : List ℕ) where
       unfolding tooMany P
       many t e = ap tooMany (tree-of .is) ∙ e
 
-      pub judge-loop : (r : Verdict) → 3 < l → r ≡ refusal 6 0 → Judging s m0 m1 r
+      pub judge-loop : (r : Verdict) → 3 < l → r ≡ refusedVerdict 6 0 → Judging s m0 m1 r
       unfolding firstOf offsetAt
       judge-loop r ol er = rw er (record {
         answer = sym (answer-is false false false true _ (sym ed ∙ nd) not-wrong not-incomplete (deep-nest ol) refl);
@@ -166,7 +166,7 @@ module _ (s m0 m1 : List ℕ) where
         len = h .len;
       })
 
-      pub judge-many : (r : Verdict) → l ≤ 3 → 256 < p .forks + p .places + 1 → r ≡ refusal 7 0 → Judging s m0 m1 r
+      pub judge-many : (r : Verdict) → l ≤ 3 → 256 < p .forks + p .places + 1 → r ≡ refusedVerdict 7 0 → Judging s m0 m1 r
       unfolding firstOf offsetAt
       judge-many r ol g er =
           rw er (record {

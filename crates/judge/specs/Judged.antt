@@ -23,8 +23,8 @@ unfoldable pub textAnswer : List ℕ → ℕ
 unfolding firstOf textTests
 textAnswer s = firstOf (textTests s)
 
-abbrev pub refusal : ℕ → ℕ → Verdict
-refusal a k = record { answer = a; offset = k; places = 0; factor = 0; top = 0 }
+abbrev pub refusedVerdict : ℕ → ℕ → Verdict
+refusedVerdict a k = record { answer = a; offset = k; places = 0; factor = 0; top = 0 }
 
 -- what `judge` promises: the answer and its offset; where it is 0, P and F, and the room holds the
 -- text's tree with its top at node `top`; words behind the tree's own room are as they were

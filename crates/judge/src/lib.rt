@@ -6,7 +6,7 @@ use pattern::read_text;
 use scan::too_deep;
 ghost use mathlib.Core.Path.{_≡_};
 ghost use Rattle.primaries.specs.Readers.{Fits};
-ghost use Rattle.judge.specs.Judged.{refusal, Judging};
+ghost use Rattle.judge.specs.Judged.{refusedVerdict, Judging};
 
 // answer: 0 if the pattern is good, else 4, 5, 14, 6 or 7. offset: the byte at which its text is
 // wrong (5), or the text's length (14); else 0. places: P, factor: F, and top: the top node of its
@@ -23,7 +23,7 @@ pub struct Verdict {
 const MOST_NESTED: usize = 3;
 
 fn refused(answer: usize, offset: usize) -> Verdict
-    ensures { λ r. ⌜ r ≡ refusal answer offset ⌝ }
+    ensures { λ r. ⌜ r ≡ refusedVerdict answer offset ⌝ }
 {
     Verdict {
         answer,

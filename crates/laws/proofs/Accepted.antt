@@ -18,7 +18,7 @@ use Rattle.rules.specs.Language.{Tree, pattern, loopNesting}
 use Rattle.rules.specs.Places.{unroll, places, placesOf, factorOf}
 use Rattle.rules.specs.Walk.{pairs}
 use Rattle.rules.specs.Report.{bytesFor}
-use Rattle.rules.specs.Answers.{placesIn, taskOf, tooDeep, treeIn, noTree, P, tooMany, foreign, badRows, Buffers, pairsOf, shortNotes, shortTrail, endAnswer, Test, firstOf, refuses, queryTests, refusal, answerBy, walkWithin, answerWithin, walkOf, answerOf, nestedLoops, F}
+use Rattle.rules.specs.Answers.{placesOfTree, taskOf, tooDeep, treeIn, noTree, P, tooMany, foreign, badRows, Buffers, pairsOf, shortNotes, shortTrail, endAnswer, Test, firstOf, refuses, queryTests, refusal, answerBy, walkWithin, answerWithin, walkOf, answerOf, nestedLoops, F}
 use Rattle.laws.proofs.Level.{or-false}
 use Rattle.laws.proofs.Stops.{tree-there}
 use Rattle.laws.proofs.FirstTrue.{end-accepted, allRefuse, first-refuses, none-true}
@@ -133,5 +133,5 @@ module _ (q : List ℕ) (rows : List ℤ) (lent : Buffers) where
 
 -- the places of the search are those of the tree
 pub places-are : (q : List ℕ) (rows : List ℤ) (p : Tree pattern) → treeIn q ≡ some p → taskOf q rows .places ≡ places (unroll p)
-unfolding taskOf placesIn
+unfolding taskOf placesOfTree
 places-are q rows p e = rw e

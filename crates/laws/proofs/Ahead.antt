@@ -10,7 +10,7 @@ use lib.ListN.{length}
 use borrow.Author.Tests.{le-leb}
 use Rattle.rules.specs.Basics.{pick, inRange, isLetter}
 use Rattle.rules.specs.Language.{Form, star, plus, opt, exactly, atLeast, atMost, between, Rank, pattern, branch, factor, primary, Tree, more, next}
-use Rattle.rules.specs.Reader.{Reading, got, bad, left, peek, rest, skip, isDigit, number, enough, reaching, bounded, Marked, unmarked, broken, marked, reluctant, shut, upTo, from, braces, quantifier, ended, under, altOn, altWith, seqOn, seqWith, timesOn, timesWith, closed, parted, simple, primaryOn, read}
+use Rattle.rules.specs.Reader.{Reading, got, bad, left, peek, rest, skipSpaces, isDigit, number, boundReached, reaching, bounded, Marked, unmarked, broken, marked, reluctant, shut, upTo, from, braces, quantifier, branchEnds, under, altOn, altWith, seqOn, seqWith, timesOn, timesWith, closed, parted, simple, primaryOn, read}
 use Rattle.laws.proofs.GrammarSound.{pick-both, in-range, range-in}
 
 rest-shorter : (s : List ℕ) → length (rest s) ≤ length s
@@ -18,11 +18,11 @@ unfolding rest
 rest-shorter [] = omega arith
 rest-shorter (b ∷ s) = omega arith
 
-skip-shorter : (s : List ℕ) → length (skip s) ≤ length s
-unfolding skip
+skip-shorter : (s : List ℕ) → length (skipSpaces s) ≤ length s
+unfolding skipSpaces
 skip-shorter [] = omega arith
 skip-shorter (b ∷ s) =
-    pick-both (λ (x : List ℕ). length x ≤ suc (length s)) (eqb b 32) (skip s) (b ∷ s) (λ e. omega (arith, skip-shorter s)) (λ e. omega arith)
+    pick-both (λ (x : List ℕ). length x ≤ suc (length s)) (eqb b 32) (skipSpaces s) (b ∷ s) (λ e. omega (arith, skip-shorter s)) (λ e. omega arith)
 
 -- other bytes v in place of the last m
 module _ (m : ℕ) (v : List ℕ) where
@@ -44,26 +44,26 @@ module _ (m : ℕ) (v : List ℕ) where
   other-rest [] h = absurd (omega arith)
   other-rest (b ∷ s) h = ap rest (other-on b s (omega arith))
 
-  pub other-skip : (s : List ℕ) → m < length (skip s) → skip (other s) ≡ other (skip s)
-  unfolding skip
+  pub other-skip : (s : List ℕ) → m < length (skipSpaces s) → skipSpaces (other s) ≡ other (skipSpaces s)
+  unfolding skipSpaces
   other-skip [] = λ h. absurd (omega arith)
   other-skip (b ∷ s) = go (other-skip s) (eqb b 32) refl
     where
-      go : (m < length (skip s) → skip (other s) ≡ other (skip s)) → (t : Bool) → eqb b 32 ≡ t → m < length (pick t (skip s) (b ∷ s))
-          → skip (other (b ∷ s)) ≡ other (pick t (skip s) (b ∷ s))
-      go f true e h = ap skip (other-on b s (omega (arith, skip-shorter s))) ∙ rw e (f h)
-      go f false e h = ap skip (other-on b s (omega arith)) ∙ rw e (sym (other-on b s (omega arith)))
+      go : (m < length (skipSpaces s) → skipSpaces (other s) ≡ other (skipSpaces s)) → (t : Bool) → eqb b 32 ≡ t → m < length (pick t (skipSpaces s) (b ∷ s))
+          → skipSpaces (other (b ∷ s)) ≡ other (pick t (skipSpaces s) (b ∷ s))
+      go f true e h = ap skipSpaces (other-on b s (omega (arith, skip-shorter s))) ∙ rw e (f h)
+      go f false e h = ap skipSpaces (other-on b s (omega arith)) ∙ rw e (sym (other-on b s (omega arith)))
 
   -- behind a byte and the spaces there
   record Behind (s : List ℕ) : Type 0 where
     long : m < length s
     first : peek (other s) ≡ peek s
-    skips : skip (rest (other s)) ≡ other (skip (rest s))
+    skips : skipSpaces (rest (other s)) ≡ other (skipSpaces (rest s))
 
-  behind : (s : List ℕ) → m < length (skip (rest s)) → Behind s
+  behind : (s : List ℕ) → m < length (skipSpaces (rest s)) → Behind s
   behind s h =
       let k : m < length s = omega (arith, skip-shorter (rest s), rest-shorter s) in
-      record { long = k; first = other-peek s k; skips = ap skip (other-rest s k) ∙ other-skip (rest s) h }
+      record { long = k; first = other-peek s k; skips = ap skipSpaces (other-rest s k) ∙ other-skip (rest s) h }
 
   -- ---- the same, with other bytes
 
@@ -124,12 +124,12 @@ module _ (m : ℕ) (v : List ℕ) where
           let e : number s ≡ bad s = rw z refl in
           subst (λ (r : Reading ℕ). Same s r (number (other s))) (sym e) (λ h. (h, simp (other-peek s h, z)))
 
-  reaching-is : (n : ℕ) (s : List ℕ) → inRange 49 57 (peek s) ≡ true → leb n (10 * (peek s - 48) + 9) ≡ true → reaching n s ≡ enough n (rest s) (number s)
+  reaching-is : (n : ℕ) (s : List ℕ) → inRange 49 57 (peek s) ≡ true → leb n (10 * (peek s - 48) + 9) ≡ true → reaching n s ≡ boundReached n (rest s) (number s)
   unfolding reaching
   reaching-is n s z y = rw (z, y) refl
 
   reaching-same : (n : ℕ) (s : List ℕ) → Same s (reaching n s) (reaching n (other s))
-  unfolding Same reaching enough through left isDigit
+  unfolding Same reaching boundReached through left isDigit
   reaching-same n s =
       pick-both (λ (r : Reading ℕ). Same s r (reaching n (other s))) (inRange 49 57 (peek s)) _ _
       (λ z. pick-both (λ (r : Reading ℕ). Same s r (reaching n (other s))) (leb n (10 * (peek s - 48) + 9)) _ _
@@ -138,18 +138,18 @@ module _ (m : ℕ) (v : List ℕ) where
       (λ z h. (h, simp (other-peek s h, z)))
     where
       far : inRange 49 57 (peek s) ≡ true → leb n (10 * (peek s - 48) + 9) ≡ true → (r : Reading ℕ) → length (left r) ≤ length (rest s)
-          → (m < length (rest s) → number (other s) ≡ through r) → Same s (enough n (rest s) r) (reaching n (other s))
+          → (m < length (rest s) → number (other s) ≡ through r) → Same s (boundReached n (rest s) r) (reaching n (other s))
       far z y r b f = go r b f
         where
-          is : m < length s → reaching n (other s) ≡ enough n (rest (other s)) (number (other s))
+          is : m < length s → reaching n (other s) ≡ boundReached n (rest (other s)) (number (other s))
           is l = reaching-is n (other s) (ap (inRange 49 57) (other-peek s l) ∙ z) (ap (λ (b : ℕ). leb n (10 * (b - 48) + 9)) (other-peek s l) ∙ y)
 
-          go : (r : Reading ℕ) → length (left r) ≤ length (rest s) → (m < length (rest s) → number (other s) ≡ through r) → Same s (enough n (rest s) r) (reaching n (other s))
-          go (bad u) b f = λ h. let l : m < length s = omega (arith, rest-shorter s) in (l, is l ∙ ap (enough n (rest (other s))) (f (omega arith)))
+          go : (r : Reading ℕ) → length (left r) ≤ length (rest s) → (m < length (rest s) → number (other s) ≡ through r) → Same s (boundReached n (rest s) r) (reaching n (other s))
+          go (bad u) b f = λ h. let l : m < length s = omega (arith, rest-shorter s) in (l, is l ∙ ap (boundReached n (rest (other s))) (f (omega arith)))
           go (got x u) b f =
               pick-both (λ (r : Reading ℕ). Same s r (reaching n (other s))) (leb n x) _ _
-              (λ w h. let l : m < length s = omega (arith, rest-shorter s) in (l, is l ∙ ap (enough n (rest (other s))) (f (omega arith)) ∙ rw w refl))
-              (λ w h. let l : m < length s = omega (arith, rest-shorter s) in (l, is l ∙ ap (enough n (rest (other s))) (f h) ∙ rw (w, other-rest s l) refl))
+              (λ w h. let l : m < length s = omega (arith, rest-shorter s) in (l, is l ∙ ap (boundReached n (rest (other s))) (f (omega arith)) ∙ rw w refl))
+              (λ w h. let l : m < length s = omega (arith, rest-shorter s) in (l, is l ∙ ap (boundReached n (rest (other s))) (f h) ∙ rw (w, other-rest s l) refl))
 
   -- ---- quantifiers
 
@@ -244,25 +244,25 @@ module _ (m : ℕ) (v : List ℕ) where
   alt-same again s (bad u) r′ f h = λ l. let k = h l in (k .0, ap (altWith again) (k .1))
   alt-same again s (got b u) r′ f h = on (eqb (peek u) 124) refl
     where
-      second : eqb (peek u) 124 ≡ true → (r : Reading (Tree pattern)) → Same (skip (rest u)) r (again (other (skip (rest u)))) → Same s (under (more b) r) (altWith again r′)
+      second : eqb (peek u) 124 ≡ true → (r : Reading (Tree pattern)) → Same (skipSpaces (rest u)) r (again (other (skipSpaces (rest u)))) → Same s (under (more b) r) (altWith again r′)
       second e (bad w) g = λ l. let k = g l in let d = behind u (k .0) in let c = h (d .long) in (c .0, ap (altWith again) (c .1) ∙ rw (d .first, e, d .skips, k .1) refl)
       second e (got p w) g = λ l. let k = g l in let d = behind u (k .0) in let c = h (d .long) in (c .0, ap (altWith again) (c .1) ∙ rw (d .first, e, d .skips, k .1) refl)
 
       on : (t : Bool) → eqb (peek u) 124 ≡ t → Same s (altOn t again b u) (altWith again r′)
-      on true e = second e (again (skip (rest u))) (f (skip (rest u)))
+      on true e = second e (again (skipSpaces (rest u))) (f (skipSpaces (rest u)))
       on false e = λ l. let c = h l in (c .0, ap (altWith again) (c .1) ∙ rw (other-peek u l, e) refl)
 
   seq-same : (again : List ℕ → Reading (Tree branch)) (s : List ℕ) (r r′ : Reading (Tree factor)) → ((u : List ℕ) → Same u (again u) (again (other u))) → Same s r r′
       → Same s (seqWith again r) (seqWith again r′)
   unfolding seqWith seqOn Same under
   seq-same again s (bad u) r′ f h = λ l. let k = h l in (k .0, ap (seqWith again) (k .1))
-  seq-same again s (got b u) r′ f h = on (ended (peek u)) refl
+  seq-same again s (got b u) r′ f h = on (branchEnds (peek u)) refl
     where
-      second : ended (peek u) ≡ false → (r : Reading (Tree branch)) → Same u r (again (other u)) → Same s (under (next b) r) (seqWith again r′)
+      second : branchEnds (peek u) ≡ false → (r : Reading (Tree branch)) → Same u r (again (other u)) → Same s (under (next b) r) (seqWith again r′)
       second e (bad w) g = λ l. let k = g l in let c = h (k .0) in (c .0, ap (seqWith again) (c .1) ∙ rw (other-peek u (k .0), e, k .1) refl)
       second e (got p w) g = λ l. let k = g l in let c = h (k .0) in (c .0, ap (seqWith again) (c .1) ∙ rw (other-peek u (k .0), e, k .1) refl)
 
-      on : (t : Bool) → ended (peek u) ≡ t → Same s (seqOn t again b u) (seqWith again r′)
+      on : (t : Bool) → branchEnds (peek u) ≡ t → Same s (seqOn t again b u) (seqWith again r′)
       on true e = λ l. let c = h l in (c .0, ap (seqWith again) (c .1) ∙ rw (other-peek u l, e) refl)
       on false e = second e (again u) (f u)
 
@@ -312,9 +312,9 @@ module _ (m : ℕ) (v : List ℕ) where
       → (t : Bool) → eqb (peek s) 40 ≡ t → Same s (primaryOn t again s) (primaryOn (eqb (peek (other s)) 40) again (other s))
   unfolding primaryOn Same
   primary-same again s f true e =
-      go (parted (eqb (peek (skip (rest s))) 41) again (skip (rest s))) (parted-same again (skip (rest s)) f (eqb (peek (skip (rest s))) 41) refl)
+      go (parted (eqb (peek (skipSpaces (rest s))) 41) again (skipSpaces (rest s))) (parted-same again (skipSpaces (rest s)) f (eqb (peek (skipSpaces (rest s))) 41) refl)
     where
-      go : (r : Reading (Tree primary)) → Same (skip (rest s)) r (parted (eqb (peek (other (skip (rest s)))) 41) again (other (skip (rest s))))
+      go : (r : Reading (Tree primary)) → Same (skipSpaces (rest s)) r (parted (eqb (peek (other (skipSpaces (rest s)))) 41) again (other (skipSpaces (rest s))))
           → Same s r (primaryOn (eqb (peek (other s)) 40) again (other s))
       go (bad u) g = λ l. let k = g l in let d = behind s (k .0) in (d .long, rw (d .first, e, d .skips) (k .1))
       go (got x u) g = λ l. let k = g l in let d = behind s (k .0) in (d .long, rw (d .first, e, d .skips) (k .1))

@@ -16,8 +16,8 @@ use lib.Dec.{ltb, leb}
 use borrow.Author.Tests.{leb-true, leb-false, lt-leb}
 use Rattle.rules.specs.Basics.{Begins}
 use Rattle.rules.specs.Places.{Unrolled, Place, places}
-use Rattle.rules.specs.Search.{Match, End, done, full, stuck, unfinished, Skip, pastLast, Finished, Attempted, hit, miss, halts, Swept, Plan, ended, noStart, below, withMatch, byFit, byNext, onAnswer, sweep, Kept, answered, walkAt, Terms, within, whole, spentOf, haltingOf, planOf, walkSearch}
-use Rattle.rules.specs.Walk.{Ways, accept, try, Halt, outOfSteps, outOfRows, Halting, Outcome, found, failed, halted, orElse, close, enterUnless, tries, inside, insideBy, pairs, firstAt, pairWays}
+use Rattle.rules.specs.Search.{Match, End, done, full, stuck, unfinished, Skip, pastLast, Finished, Attempted, hit, miss, halts, Swept, Plan, ended, noStart, below, withMatch, onAnswer, sweep, answered, walkAt, Terms, within, whole, spentOf, haltingOf, planOf, walkSearch, Standing, onMatch, seek, standAt}
+use Rattle.rules.specs.Walk.{Ways, accept, try, Halt, outOfSteps, outOfRows, Halting, Outcome, found, failed, halted, orElse, close, enterUnless, tries, inside, insideBy, pairs, firstAt, pairWays, Kept, asKept, oneStep}
 use Rattle.laws.proofs.Fuel.{sweep-enough, plan-on}
 use Rattle.laws.proofs.GoesOn.{keptBy, Keeps, tries-keeps, inside-keeps, Sooner, andThen, then-keeps, then-begins, then-finished, sweep-keeps, keeps-answer, search-onward}
 use Rattle.laws.proofs.Padded.{search-padded}
@@ -29,84 +29,84 @@ use Rattle.laws.proofs.Rank.{rank}
 -- h and h₀ wait alike; h₀ allows any number of steps, h at least a
 module _ (h h₀ : Halting) (alike : (x : ℕ) → h .waits x ≡ h₀ .waits x) (free : (s : ℕ) → h₀ .spent s ≡ false) (a : ℕ) (left : (s : ℕ) → s < a → h .spent s ≡ false) (ways : ℕ → Ways) where
   abbrev AllowedAt : ℕ → Type 0
-  AllowedAt k = (F : List Bool) (s x : ℕ) → keptBy (inside h₀ ways k F s x) .1 ≤ a → inside h ways k F s x ≡ inside h₀ ways k F s x
+  AllowedAt k = (F : List Bool) (s x : ℕ) → keptBy (inside h₀ ways k (asKept F s) x) .steps ≤ a → inside h ways k (asKept F s) x ≡ inside h₀ ways k (asKept F s) x
 
-  tries-allowed : (k : ℕ) → AllowedAt k → (ys : List ℕ) (F : List Bool) (s : ℕ) → keptBy (tries h₀ (inside h₀ ways k) F s ys) .1 ≤ a
-      → tries h (inside h ways k) F s ys ≡ tries h₀ (inside h₀ ways k) F s ys
+  tries-allowed : (k : ℕ) → AllowedAt k → (ys : List ℕ) (F : List Bool) (s : ℕ) → keptBy (tries h₀ (inside h₀ ways k) (asKept F s) ys) .steps ≤ a
+      → tries h (inside h ways k) (asKept F s) ys ≡ tries h₀ (inside h₀ ways k) (asKept F s) ys
   unfolding tries
   tries-allowed k ih [] F s b = refl
   tries-allowed k ih (y ∷ ys) F s b = go (λ F′ s′. tries-allowed k ih ys F′ s′) (getD F y false) (rw (free s) at b)
     where
       Rest : Type 0
-      Rest = (F′ : List Bool) (s′ : ℕ) → keptBy (tries h₀ (inside h₀ ways k) F′ s′ ys) .1 ≤ a → tries h (inside h ways k) F′ s′ ys ≡ tries h₀ (inside h₀ ways k) F′ s′ ys
+      Rest = (F′ : List Bool) (s′ : ℕ) → keptBy (tries h₀ (inside h₀ ways k) (asKept F′ s′) ys) .steps ≤ a → tries h (inside h ways k) (asKept F′ s′) ys ≡ tries h₀ (inside h₀ ways k) (asKept F′ s′) ys
 
       -- an entry's own steps are within the total
-      within-total : (r : Outcome) → keptBy (orElse r (λ F′ s′. tries h₀ (inside h₀ ways k) F′ s′ ys)) .1 ≤ a → keptBy r .1 ≤ a
-      within-total (found p F′ s′) c = c
-      within-total (failed F′ s′) c = le-trans (tries-keeps h₀ (inside h₀ ways k) (inside-keeps h₀ ways k) ys F′ s′ .steps) c
-      within-total (halted w p F′ s′) c = c
+      within-total : (r : Outcome) → keptBy (orElse r (λ kept′. tries h₀ (inside h₀ ways k) kept′ ys)) .steps ≤ a → keptBy r .steps ≤ a
+      within-total (found p kept′) c = c
+      within-total (failed kept′) c = le-trans (tries-keeps h₀ (inside h₀ ways k) (inside-keeps h₀ ways k) ys (kept′ .failed) (kept′ .steps) .steps) c
+      within-total (halted w p kept′) c = c
 
-      after : Rest → (r : Outcome) → keptBy (orElse r (λ F′ s′. tries h₀ (inside h₀ ways k) F′ s′ ys)) .1 ≤ a
-          → orElse r (λ F′ s′. tries h (inside h ways k) F′ s′ ys) ≡ orElse r (λ F′ s′. tries h₀ (inside h₀ ways k) F′ s′ ys)
-      after rest (found p F′ s′) c = refl
-      after rest (failed F′ s′) c = rest F′ s′ c
-      after rest (halted w p F′ s′) c = refl
+      after : Rest → (r : Outcome) → keptBy (orElse r (λ kept′. tries h₀ (inside h₀ ways k) kept′ ys)) .steps ≤ a
+          → orElse r (λ kept′. tries h (inside h ways k) kept′ ys) ≡ orElse r (λ kept′. tries h₀ (inside h₀ ways k) kept′ ys)
+      after rest (found p kept′) c = refl
+      after rest (failed kept′) c = rest (kept′ .failed) (kept′ .steps) c
+      after rest (halted w p kept′) c = refl
 
-      go : Rest → (t : Bool) → keptBy (orElse (enterUnless t false (inside h₀ ways k) F s y) (λ F′ s′. tries h₀ (inside h₀ ways k) F′ s′ ys)) .1 ≤ a
-          → orElse (enterUnless t (h .spent s) (inside h ways k) F s y) (λ F′ s′. tries h (inside h ways k) F′ s′ ys)
-          ≡ orElse (enterUnless t (h₀ .spent s) (inside h₀ ways k) F s y) (λ F′ s′. tries h₀ (inside h₀ ways k) F′ s′ ys)
+      go : Rest → (t : Bool) → keptBy (orElse (enterUnless t false (inside h₀ ways k) (asKept F s) y) (λ kept′. tries h₀ (inside h₀ ways k) kept′ ys)) .steps ≤ a
+          → orElse (enterUnless t (h .spent s) (inside h ways k) (asKept F s) y) (λ kept′. tries h (inside h ways k) kept′ ys)
+          ≡ orElse (enterUnless t (h₀ .spent s) (inside h₀ ways k) (asKept F s) y) (λ kept′. tries h₀ (inside h₀ ways k) kept′ ys)
       go rest true c = rest F s c
       go rest false c =
-          let r = inside h₀ ways k F (suc s) y in
+          let r = inside h₀ ways k (asKept F (suc s)) y in
           let d = within-total r c in
           rw (free s, left s (le-trans (inside-keeps h₀ ways k F (suc s) y .steps) d), ih F (suc s) y d) (after rest r c)
 
-  close-steps : (x : ℕ) (r : Outcome) → keptBy (close x r) .1 ≡ keptBy r .1
-  close-steps x (found p F s) = refl
-  close-steps x (failed F s) = refl
-  close-steps x (halted w p F s) = refl
+  close-steps : (x : ℕ) (r : Outcome) → keptBy (close x r) .steps ≡ keptBy r .steps
+  close-steps x (found p kept) = refl
+  close-steps x (failed kept) = refl
+  close-steps x (halted w p kept) = refl
 
   inside-allowed : (k : ℕ) → AllowedAt k
   unfolding inside insideBy
   inside-allowed zero F s x b = refl
   inside-allowed (suc k) F s x b = rw (alike x) (go (inside-allowed k) (h₀ .waits x) (ways x) b)
     where
-      go : AllowedAt k → (u : Bool) (w : Ways) → keptBy (insideBy h₀ u w (inside h₀ ways k) F s x) .1 ≤ a → insideBy h u w (inside h ways k) F s x ≡ insideBy h₀ u w (inside h₀ ways k) F s x
+      go : AllowedAt k → (u : Bool) (w : Ways) → keptBy (insideBy h₀ u w (inside h₀ ways k) (asKept F s) x) .steps ≤ a → insideBy h u w (inside h ways k) (asKept F s) x ≡ insideBy h₀ u w (inside h₀ ways k) (asKept F s) x
       go ih true w c = refl
       go ih false accept c = refl
-      go ih false (try ys) c = ap (close x) (tries-allowed k ih ys F s (rw (close-steps x (tries h₀ (inside h₀ ways k) F s ys)) at c))
+      go ih false (try ys) c = ap (close x) (tries-allowed k ih ys F s (rw (close-steps x (tries h₀ (inside h₀ ways k) (asKept F s) ys)) at c))
 
   module _ (K : ℕ) (first : ℕ → ℕ) (plan : Plan) where
-    abbrev AllowedOn : (ℕ → ℕ → ℕ → Kept → Swept Kept) → (ℕ → ℕ → ℕ → Kept → Swept Kept) → Type 0
-    AllowedOn f g = (i m l : ℕ) (st : Kept) → g i m l st .state .1 ≤ a → f i m l st ≡ g i m l st
+    abbrev AllowedOn : (Standing → Kept → Swept Kept) → (Standing → Kept → Swept Kept) → Type 0
+    AllowedOn f g = (i m l : ℕ) (st : Kept) → g (standAt i m l) st .state .steps ≤ a → f (standAt i m l) st ≡ g (standAt i m l) st
 
-    answer-allowed : (f g : ℕ → ℕ → ℕ → Kept → Swept Kept) → AllowedOn f g → (i m l : ℕ) (o : Attempted) (st : Kept) → onAnswer plan g i m l o st .state .1 ≤ a
-        → onAnswer plan f i m l o st ≡ onAnswer plan g i m l o st
+    answer-allowed : (f g : Standing → Kept → Swept Kept) → AllowedOn f g → (i m l : ℕ) (o : Attempted) (st : Kept) → onAnswer plan g (standAt i m l) o st .state .steps ≤ a
+        → onAnswer plan f (standAt i m l) o st ≡ onAnswer plan g (standAt i m l) o st
     answer-allowed f g ih i m l miss st b = ih (suc i) m l st b
     answer-allowed f g ih i m l (halts w p) st b = refl
     answer-allowed f g ih i m l (hit p) st b = go (plan .next i p) (plan .fits m l p) b
       where
-        go : (o : Option ℕ) (t : Bool) → byFit t (record { start = i; path = p }) st (λ _. byNext o st (λ j. g j (suc m) (l + plan .rows p) st)) .state .1 ≤ a
-            → byFit t (record { start = i; path = p }) st (λ _. byNext o st (λ j. f j (suc m) (l + plan .rows p) st))
-            ≡ byFit t (record { start = i; path = p }) st (λ _. byNext o st (λ j. g j (suc m) (l + plan .rows p) st))
+        go : (o : Option ℕ) (t : Bool) → onMatch t o (record { start = i; path = p }) st (λ j. g (standAt j (suc m) (l + plan .rows p)) st) .state .steps ≤ a
+            → onMatch t o (record { start = i; path = p }) st (λ j. f (standAt j (suc m) (l + plan .rows p)) st)
+            ≡ onMatch t o (record { start = i; path = p }) st (λ j. g (standAt j (suc m) (l + plan .rows p)) st)
         go o false c = refl
         go none true c = refl
         go (some j) true c = ap (withMatch (record { start = i; path = p })) (ih j (suc m) (l + plan .rows p) st c)
 
-    answered-steps : (r : Outcome) → answered r .1 .1 ≡ keptBy r .1
-    answered-steps (found p F s) = refl
-    answered-steps (failed F s) = refl
-    answered-steps (halted w p F s) = refl
+    answered-steps : (r : Outcome) → answered r .1 .steps ≡ keptBy r .steps
+    answered-steps (found p kept) = refl
+    answered-steps (failed kept) = refl
+    answered-steps (halted w p kept) = refl
 
-    attempt-allowed : (i : ℕ) (st : Kept) → walkAt h₀ ways K first i st .1 .1 ≤ a → walkAt h ways K first i st ≡ walkAt h₀ ways K first i st
-    attempt-allowed i st b = ap answered (go (getD (st .0) (first i) false) (rw (free (st .1)) at b))
+    attempt-allowed : (i : ℕ) (st : Kept) → walkAt h₀ ways K first i st .1 .steps ≤ a → walkAt h ways K first i st ≡ walkAt h₀ ways K first i st
+    attempt-allowed i st b = ap answered (go (getD (st .failed) (first i) false) (rw (free (st .steps)) at b))
       where
-        go : (t : Bool) → answered (enterUnless t false (inside h₀ ways K) (st .0) (st .1) (first i)) .1 .1 ≤ a
-            → enterUnless t (h .spent (st .1)) (inside h ways K) (st .0) (st .1) (first i) ≡ enterUnless t (h₀ .spent (st .1)) (inside h₀ ways K) (st .0) (st .1) (first i)
+        go : (t : Bool) → answered (enterUnless t false (inside h₀ ways K) st (first i)) .1 .steps ≤ a
+            → enterUnless t (h .spent (st .steps)) (inside h ways K) st (first i) ≡ enterUnless t (h₀ .spent (st .steps)) (inside h₀ ways K) st (first i)
         go true c = refl
         go false c =
-            let d : keptBy (inside h₀ ways K (st .0) (suc (st .1)) (first i)) .1 ≤ a = rw (answered-steps (inside h₀ ways K (st .0) (suc (st .1)) (first i))) at c in
-            rw (free (st .1), left (st .1) (le-trans (inside-keeps h₀ ways K (st .0) (suc (st .1)) (first i) .steps) d)) (inside-allowed K (st .0) (suc (st .1)) (first i) d)
+            let d : keptBy (inside h₀ ways K (oneStep st) (first i)) .steps ≤ a = rw (answered-steps (inside h₀ ways K (oneStep st) (first i))) at c in
+            rw (free (st .steps), left (st .steps) (le-trans (inside-keeps h₀ ways K (st .failed) (suc (st .steps)) (first i) .steps) d)) (inside-allowed K (st .failed) (suc (st .steps)) (first i) d)
 
     pub sweep-allowed : (k : ℕ) → AllowedOn (sweep (walkAt h ways K first) plan k) (sweep (walkAt h₀ ways K first) plan k)
     unfolding sweep
@@ -114,14 +114,14 @@ module _ (h h₀ : Halting) (alike : (x : ℕ) → h .waits x ≡ h₀ .waits x)
     sweep-allowed (suc k) i m l st b = go (sweep-allowed k) (ltb i (plan .n)) b
       where
         go : AllowedOn (sweep (walkAt h ways K first) plan k) (sweep (walkAt h₀ ways K first) plan k) → (t : Bool)
-            → below t (ended (noStart (plan .more) i) st) (λ _. onAnswer plan (sweep (walkAt h₀ ways K first) plan k) i m l (walkAt h₀ ways K first i st .0) (walkAt h₀ ways K first i st .1)) .state .1 ≤ a
-            → below t (ended (noStart (plan .more) i) st) (λ _. onAnswer plan (sweep (walkAt h ways K first) plan k) i m l (walkAt h ways K first i st .0) (walkAt h ways K first i st .1))
-            ≡ below t (ended (noStart (plan .more) i) st) (λ _. onAnswer plan (sweep (walkAt h₀ ways K first) plan k) i m l (walkAt h₀ ways K first i st .0) (walkAt h₀ ways K first i st .1))
+            → below t (ended (noStart (plan .more) i) st) (λ _. onAnswer plan (sweep (walkAt h₀ ways K first) plan k) (standAt i m l) (walkAt h₀ ways K first i st .0) (walkAt h₀ ways K first i st .1)) .state .steps ≤ a
+            → below t (ended (noStart (plan .more) i) st) (λ _. onAnswer plan (sweep (walkAt h ways K first) plan k) (standAt i m l) (walkAt h ways K first i st .0) (walkAt h ways K first i st .1))
+            ≡ below t (ended (noStart (plan .more) i) st) (λ _. onAnswer plan (sweep (walkAt h₀ ways K first) plan k) (standAt i m l) (walkAt h₀ ways K first i st .0) (walkAt h₀ ways K first i st .1))
         go ih false c = refl
         go ih true c =
             let r = walkAt h₀ ways K first i st in
             let d = keeps-answer h₀ ways K first plan (sweep (walkAt h₀ ways K first) plan k) (sweep-keeps h₀ ways K first plan k) i m l (r .0) (r .1) .steps in
-            ap (λ (q : Attempted × Kept). onAnswer plan (sweep (walkAt h ways K first) plan k) i m l (q .0) (q .1)) (attempt-allowed i st (le-trans d c))
+            ap (λ (q : Attempted × Kept). onAnswer plan (sweep (walkAt h ways K first) plan k) (standAt i m l) (q .0) (q .1)) (attempt-allowed i st (le-trans d c))
             ∙ answer-allowed (sweep (walkAt h ways K first) plan k) (sweep (walkAt h₀ ways K first) plan k) ih i m l (r .0) (r .1) c
 
 -- ---- a pattern
@@ -151,10 +151,10 @@ module _ (t : Unrolled) (skip : Skip) (fits : ℕ → ℕ → List ℕ → Bool)
       (sooner : Sooner (haltingOf terms₁ (places t) n₁) (haltingOf terms₂ (places t) n₂) (pairWays holds₁ n₁ (places t)) (pairWays holds₂ n₂ (places t)))
       (rest : (terms₁ .more ≡ true) ⊎ ((n₂ ≡ n₁) × (terms₂ .more ≡ false))) where
     abbrev one : Swept Kept
-    one = walkSearch terms₁ holds₁ n₁ (places t) skip fits
+    one = walkSearch terms₁ (seek holds₁ n₁ (places t) skip fits)
 
     abbrev two : Swept Kept
-    two = walkSearch terms₂ holds₂ n₂ (places t) skip fits
+    two = walkSearch terms₂ (seek holds₂ n₂ (places t) skip fits)
 
     -- the second goes on from where the first halts
     abbrev pub resumeOne : Swept Kept
@@ -170,9 +170,9 @@ module _ (t : Unrolled) (skip : Skip) (fits : ℕ → ℕ → List ℕ → Bool)
         rw same
         (search-onward w₁ w₂ (pairWays holds₁ n₁ (places t)) (pairWays holds₂ n₂ (places t)) sooner (rank t n₂) N (falls-in t holds₂ n₂ (terms₂ .largest) few) N
         (top-in t holds₂ n₂ (terms₂ .largest) few) (firstAt P) p₁ n₂ (terms₂ .more) le rest (λ i h. starts-in t holds₂ n₂ (terms₂ .largest) few i h .0) (plan-on (places t) n₁ (terms₁ .more) skip fits)
-        n₂ 0 0 0 (replicate N false, 0) (length-replicate N false) (omega arith)
+        n₂ 0 0 0 (asKept (replicate N false) 0) (length-replicate N false) (omega arith)
         ∙ ap (andThen w₂ (pairWays holds₂ n₂ (places t)) N (firstAt P) (planOf (places t) n₂ (terms₂ .more) skip fits) 0 0)
-        (sweep-enough (walkAt w₁ (pairWays holds₁ n₁ (places t)) N (firstAt P)) p₁ (plan-on (places t) n₁ (terms₁ .more) skip fits) n₂ 0 0 0 (replicate N false, 0) le))
+        (sweep-enough (walkAt w₁ (pairWays holds₁ n₁ (places t)) N (firstAt P)) p₁ (plan-on (places t) n₁ (terms₁ .more) skip fits) n₂ 0 0 0 (asKept (replicate N false) 0) le))
 
     -- it begins with the same matches, and keeps what was kept
     pub goes-begins : Begins (one .matches) (two .matches)
@@ -189,7 +189,7 @@ module _ (t : Unrolled) (skip : Skip) (fits : ℕ → ℕ → List ℕ → Bool)
 
   module _ (holds : ℕ → ℕ → Bool) (n : ℕ) where
     abbrev on : Terms → Swept Kept
-    on terms = walkSearch terms holds n (places t) skip fits
+    on terms = walkSearch terms (seek holds n (places t) skip fits)
 
     -- a larger allowance halts no sooner
     pub allows-sooner : (largest : ℕ) (more : Bool) (a b : Option ℕ) → Allows a b
@@ -217,13 +217,13 @@ module _ (t : Unrolled) (skip : Skip) (fits : ℕ → ℕ → List ℕ → Bool)
     ends false = inr (refl, refl)
 
     -- on any terms no more steps are taken than on document 01's
-    pub steps-whole : (terms : Terms) → n ≤ terms .largest → on terms .state .1 ≤ on (whole n) .state .1
+    pub steps-whole : (terms : Terms) → n ≤ terms .largest → on terms .state .steps ≤ on (whole n) .state .steps
     steps-whole terms le =
         le-trans (goes-keeps holds holds n n terms (ended-terms terms) refl (omega arith) le (ended-sooner terms) (ends (terms .more)) .steps)
-        (let e : on (ended-terms terms) .state .1 ≡ on (whole n) .state .1 = ap (λ (r : Swept Kept). r .state .1) (search-padded t holds n (ended-terms terms) le skip fits) in omega (arith, e))
+        (let e : on (ended-terms terms) .state .steps ≡ on (whole n) .state .steps = ap (λ (r : Swept Kept). r .state .steps) (search-padded t holds n (ended-terms terms) le skip fits) in omega (arith, e))
 
     -- so they are at most P n (n+3) / 2 in every mode
-    pub search-each : (terms : Terms) → n ≤ terms .largest → 2 * on terms .state .1 ≤ P * (n * (n + 3))
+    pub search-each : (terms : Terms) → n ≤ terms .largest → 2 * on terms .state .steps ≤ P * (n * (n + 3))
     search-each terms le = omega (arith, steps-whole terms le, walk-each t holds n skip fits)
 
     -- a run with a larger allowance begins with the same matches
@@ -235,19 +235,19 @@ module _ (t : Unrolled) (skip : Skip) (fits : ℕ → ℕ → List ℕ → Bool)
     finished-whole a f = goes-finished holds holds n n (within a n) (whole n) refl (omega arith) (omega arith) (allows-sooner n false a none tt) (inr (refl, refl)) f
 
     -- an allowance that the search does not pass changes nothing
-    pub search-allowed : (a : ℕ) → on (whole n) .state .1 ≤ a → on (within (some a) n) ≡ on (whole n)
+    pub search-allowed : (a : ℕ) → on (whole n) .state .steps ≤ a → on (within (some a) n) ≡ on (whole n)
     unfolding walkSearch haltingOf planOf
     search-allowed a b =
         sweep-allowed (haltingOf (within (some a) n) (places t) n) (haltingOf (whole n) (places t) n) (λ x. refl) (λ s. refl) a (λ s lt. lt-leb a s lt) (pairWays holds n (places t))
-        (pairs P n) (firstAt P) (planOf (places t) n false skip fits) n 0 0 0 (replicate (pairs P n) false, 0) b
+        (pairs P n) (firstAt P) (planOf (places t) n false skip fits) n 0 0 0 (asKept (replicate (pairs P n) false) 0) b
 
 module _ (t : Unrolled) (fits : ℕ → ℕ → List ℕ → Bool) (holds : ℕ → ℕ → Bool) (n : ℕ) where
   -- on any terms the steps are at most 2P(n+1) with skip past last row
-  pub search-bound : (terms : Terms) → n ≤ terms .largest → walkSearch terms holds n (places t) pastLast fits .state .1 ≤ 2 * pairs (length (places t)) n
+  pub search-bound : (terms : Terms) → n ≤ terms .largest → walkSearch terms (seek holds n (places t) pastLast fits) .state .steps ≤ 2 * pairs (length (places t)) n
   search-bound terms le = le-trans (steps-whole t pastLast fits holds n terms le) (walk-bound t holds n fits)
 
   -- so an allowance of 2P(n+1) is always enough there
-  pub allowance-enough : (a : ℕ) → 2 * pairs (length (places t)) n ≤ a → walkSearch (within (some a) n) holds n (places t) pastLast fits ≡ walkSearch (whole n) holds n (places t) pastLast fits
+  pub allowance-enough : (a : ℕ) → 2 * pairs (length (places t)) n ≤ a → walkSearch (within (some a) n) (seek holds n (places t) pastLast fits) ≡ walkSearch (whole n) (seek holds n (places t) pastLast fits)
   allowance-enough a h = search-allowed t pastLast fits holds n a (le-trans (walk-bound t holds n fits) h)
 
 -- ---- the steps within an allowance: it is not passed, and where the walk halts for it, it is used
@@ -259,9 +259,9 @@ module _ (a : ℕ) where
   WithinBy outOfRows s = s ≤ a
 
   abbrev pub Within : Outcome → Type 0
-  Within (found p F s) = s ≤ a
-  Within (failed F s) = s ≤ a
-  Within (halted w p F s) = WithinBy w s
+  Within (found p kept) = (kept .steps) ≤ a
+  Within (failed kept) = (kept .steps) ≤ a
+  Within (halted w p kept) = WithinBy w (kept .steps)
 
   abbrev pub EndWithin : End Match → ℕ → Type 0
   EndWithin done s = s ≤ a
@@ -270,57 +270,57 @@ module _ (a : ℕ) where
   EndWithin (unfinished w i p) s = WithinBy w s
 
   module _ (h : Halting) (halts-at : (s : ℕ) → h .spent s ≡ leb a s) where
-    within-or : (r : Outcome) (f : List Bool → ℕ → Outcome) → Within r → ((F : List Bool) (s : ℕ) → s ≤ a → Within (f F s)) → Within (orElse r f)
-    within-or (found p F s) f b k = b
-    within-or (failed F s) f b k = k F s b
-    within-or (halted w p F s) f b k = b
+    within-or : (r : Outcome) (f : Kept → Outcome) → Within r → ((F : List Bool) (s : ℕ) → s ≤ a → Within (f (asKept F s))) → Within (orElse r f)
+    within-or (found p kept) f b k = b
+    within-or (failed kept) f b k = k (kept .failed) (kept .steps) b
+    within-or (halted w p kept) f b k = b
 
     within-close : (x : ℕ) (r : Outcome) → Within r → Within (close x r)
-    within-close x (found p F s) b = b
-    within-close x (failed F s) b = b
-    within-close x (halted w p F s) b = b
+    within-close x (found p kept) b = b
+    within-close x (failed kept) b = b
+    within-close x (halted w p kept) b = b
 
-    tried-within : (f : List Bool → ℕ → ℕ → Outcome) → ((F : List Bool) (s y : ℕ) → s ≤ a → Within (f F s y)) → (F : List Bool) (s y : ℕ) → s ≤ a → (t : Bool) → Within (enterUnless t (h .spent s) f F s y)
+    tried-within : (f : Kept → ℕ → Outcome) → ((F : List Bool) (s y : ℕ) → s ≤ a → Within (f (asKept F s) y)) → (F : List Bool) (s y : ℕ) → s ≤ a → (t : Bool) → Within (enterUnless t (h .spent s) f (asKept F s) y)
     tried-within f k F s y b t = rw (halts-at s) (go t (leb a s) refl)
       where
-        go : (t u : Bool) → leb a s ≡ u → Within (enterUnless t u f F s y)
+        go : (t u : Bool) → leb a s ≡ u → Within (enterUnless t u f (asKept F s) y)
         go true u e = b
         go false true e = omega (arith, leb-true a s e)
         go false false e = k F (suc s) y (leb-false a s e)
 
-    tries-within : (f : List Bool → ℕ → ℕ → Outcome) → ((F : List Bool) (s y : ℕ) → s ≤ a → Within (f F s y)) → (ys : List ℕ) (F : List Bool) (s : ℕ) → s ≤ a → Within (tries h f F s ys)
+    tries-within : (f : Kept → ℕ → Outcome) → ((F : List Bool) (s y : ℕ) → s ≤ a → Within (f (asKept F s) y)) → (ys : List ℕ) (F : List Bool) (s : ℕ) → s ≤ a → Within (tries h f (asKept F s) ys)
     unfolding tries
     tries-within f k [] F s b = b
     tries-within f k (y ∷ ys) F s b =
-        within-or (enterUnless (getD F y false) (h .spent s) f F s y) (λ F′ s′. tries h f F′ s′ ys) (tried-within f k F s y b (getD F y false)) (λ F′ s′ c. tries-within f k ys F′ s′ c)
+        within-or (enterUnless (getD F y false) (h .spent s) f (asKept F s) y) (λ kept′. tries h f kept′ ys) (tried-within f k F s y b (getD F y false)) (λ F′ s′ c. tries-within f k ys F′ s′ c)
 
     module _ (ways : ℕ → Ways) where
-      inside-within : (k : ℕ) (F : List Bool) (s x : ℕ) → s ≤ a → Within (inside h ways k F s x)
+      inside-within : (k : ℕ) (F : List Bool) (s x : ℕ) → s ≤ a → Within (inside h ways k (asKept F s) x)
       unfolding inside insideBy
       inside-within zero F s x b = b
       inside-within (suc k) F s x b = go (inside-within k) (h .waits x) (ways x)
         where
-          go : ((F : List Bool) (s x : ℕ) → s ≤ a → Within (inside h ways k F s x)) → (u : Bool) (w : Ways) → Within (insideBy h u w (inside h ways k) F s x)
+          go : ((F : List Bool) (s x : ℕ) → s ≤ a → Within (inside h ways k (asKept F s) x)) → (u : Bool) (w : Ways) → Within (insideBy h u w (inside h ways k) (asKept F s) x)
           go ih true w = b
           go ih false accept = b
-          go ih false (try ys) = within-close x (tries h (inside h ways k) F s ys) (tries-within (inside h ways k) ih ys F s b)
+          go ih false (try ys) = within-close x (tries h (inside h ways k) (asKept F s) ys) (tries-within (inside h ways k) ih ys F s b)
 
       module _ (K : ℕ) (first : ℕ → ℕ) (plan : Plan) where
-        abbrev WithinOn : (ℕ → ℕ → ℕ → Kept → Swept Kept) → Type 0
-        WithinOn f = (i m l : ℕ) (st : Kept) → st .1 ≤ a → EndWithin (f i m l st .end) (f i m l st .state .1)
+        abbrev WithinOn : (Standing → Kept → Swept Kept) → Type 0
+        WithinOn f = (i m l : ℕ) (st : Kept) → st .steps ≤ a → EndWithin (f (standAt i m l) st .end) (f (standAt i m l) st .state .steps)
 
-        answer-within : (f : ℕ → ℕ → ℕ → Kept → Swept Kept) → WithinOn f → (i m l : ℕ) (r : Outcome) → Within r
-            → EndWithin (onAnswer plan f i m l (answered r .0) (answered r .1) .end) (onAnswer plan f i m l (answered r .0) (answered r .1) .state .1)
-        answer-within f ih i m l (failed F s) b = ih (suc i) m l (F, s) b
-        answer-within f ih i m l (halted w p F s) b = b
-        answer-within f ih i m l (found p F s) b = go (plan .next i p) (plan .fits m l p)
+        answer-within : (f : Standing → Kept → Swept Kept) → WithinOn f → (i m l : ℕ) (r : Outcome) → Within r
+            → EndWithin (onAnswer plan f (standAt i m l) (answered r .0) (answered r .1) .end) (onAnswer plan f (standAt i m l) (answered r .0) (answered r .1) .state .steps)
+        answer-within f ih i m l (failed kept) b = ih (suc i) m l kept b
+        answer-within f ih i m l (halted w p kept) b = b
+        answer-within f ih i m l (found p kept) b = go (plan .next i p) (plan .fits m l p)
           where
             go : (o : Option ℕ) (t : Bool)
-                → EndWithin (byFit t (record { start = i; path = p }) (F, s) (λ _. byNext o (F, s) (λ j. f j (suc m) (l + plan .rows p) (F, s))) .end)
-                (byFit t (record { start = i; path = p }) (F, s) (λ _. byNext o (F, s) (λ j. f j (suc m) (l + plan .rows p) (F, s))) .state .1)
+                → EndWithin (onMatch t o (record { start = i; path = p }) kept (λ j. f (standAt j (suc m) (l + plan .rows p)) kept) .end)
+                (onMatch t o (record { start = i; path = p }) kept (λ j. f (standAt j (suc m) (l + plan .rows p)) kept) .state .steps)
             go o false = b
             go none true = b
-            go (some j) true = ih j (suc m) (l + plan .rows p) (F, s) b
+            go (some j) true = ih j (suc m) (l + plan .rows p) kept b
 
         none-within : (more : Bool) (i s : ℕ) → s ≤ a → EndWithin (noStart more i) s
         none-within false i s b = b
@@ -328,16 +328,16 @@ module _ (a : ℕ) where
 
         sweep-within : (k : ℕ) → WithinOn (sweep (walkAt h ways K first) plan k)
         unfolding sweep
-        sweep-within zero i m l st b = none-within (plan .more) i (st .1) b
+        sweep-within zero i m l st b = none-within (plan .more) i (st .steps) b
         sweep-within (suc k) i m l st b = go (sweep-within k) (ltb i (plan .n))
           where
             go : WithinOn (sweep (walkAt h ways K first) plan k) → (t : Bool)
-                → EndWithin (below t (ended (noStart (plan .more) i) st) (λ _. onAnswer plan (sweep (walkAt h ways K first) plan k) i m l (walkAt h ways K first i st .0) (walkAt h ways K first i st .1)) .end)
-                (below t (ended (noStart (plan .more) i) st) (λ _. onAnswer plan (sweep (walkAt h ways K first) plan k) i m l (walkAt h ways K first i st .0) (walkAt h ways K first i st .1)) .state .1)
-            go ih false = none-within (plan .more) i (st .1) b
+                → EndWithin (below t (ended (noStart (plan .more) i) st) (λ _. onAnswer plan (sweep (walkAt h ways K first) plan k) (standAt i m l) (walkAt h ways K first i st .0) (walkAt h ways K first i st .1)) .end)
+                (below t (ended (noStart (plan .more) i) st) (λ _. onAnswer plan (sweep (walkAt h ways K first) plan k) (standAt i m l) (walkAt h ways K first i st .0) (walkAt h ways K first i st .1)) .state .steps)
+            go ih false = none-within (plan .more) i (st .steps) b
             go ih true =
-                answer-within (sweep (walkAt h ways K first) plan k) ih i m l (enterUnless (getD (st .0) (first i) false) (h .spent (st .1)) (inside h ways K) (st .0) (st .1) (first i))
-                (tried-within (inside h ways K) (inside-within K) (st .0) (st .1) (first i) b (getD (st .0) (first i) false))
+                answer-within (sweep (walkAt h ways K first) plan k) ih i m l (enterUnless (getD (st .failed) (first i) false) (h .spent (st .steps)) (inside h ways K) st (first i))
+                (tried-within (inside h ways K) (inside-within K) (st .failed) (st .steps) (first i) b (getD (st .failed) (first i) false))
 
   pub end-within : (e : End Match) (s : ℕ) → EndWithin e s → s ≤ a
   end-within done s b = b
@@ -348,8 +348,8 @@ module _ (a : ℕ) where
 
   -- on any terms with this allowance, over any places
   pub search-within : (largest : ℕ) (more : Bool) (holds : ℕ → ℕ → Bool) (n : ℕ) (pl : List Place) (skip : Skip) (fits : ℕ → ℕ → List ℕ → Bool)
-      → EndWithin (walkSearch (record { largest = largest; more = more; allowance = some a }) holds n pl skip fits .end) (walkSearch (record { largest = largest; more = more; allowance = some a }) holds n pl skip fits .state .1)
+      → EndWithin (walkSearch (record { largest = largest; more = more; allowance = some a }) (seek holds n pl skip fits) .end) (walkSearch (record { largest = largest; more = more; allowance = some a }) (seek holds n pl skip fits) .state .steps)
   unfolding walkSearch haltingOf
   search-within largest more holds n pl skip fits =
       sweep-within (haltingOf (record { largest = largest; more = more; allowance = some a }) pl n) (λ s. refl) (pairWays holds n pl) (pairs (length pl) largest) (firstAt (length pl)) (planOf pl n more skip fits) n
-      0 0 0 (replicate (pairs (length pl) largest) false, 0) (omega arith)
+      0 0 0 (asKept (replicate (pairs (length pl) largest) false) 0) (omega arith)

@@ -13,6 +13,7 @@ use lib.Pow.{pow-pos}
 use borrow.Author.Tests.{lt-ltb}
 use Rattle.rules.specs.Language.{deeper, Rank, pattern, Tree, loopNesting}
 use Rattle.rules.specs.Places.{Unrolled, uLetter, uCaret, uDollar, uEmpty, uSeq, uAlt, uOpt, uStar, Branches, uNil, uCons, skips, nest, nests, stateAt, size, startOf, startsOf, roundEnd, code, codes, waysInTurn, Place, pLetter, pCaret, pDollar, pFork, pEnd, Flagged, flagged, flaggedPlaces, withFlags, spread, unroll, places, factorOf}
+use Rattle.rules.specs.Readings.{RowSets}
 use Rattle.rules.specs.Preferment.{Derivation, Parses, Prefers, Preferred}
 use Rattle.laws.proofs.Bounds.{Bounds}
 use Rattle.laws.proofs.Counting.{nest-counted}
@@ -149,13 +150,13 @@ pub base-tree : (p : Tree pattern) → Bounds p → loopNesting p ≡ 0 → plac
 base-tree p o h = base-places (unroll p) (nest-counted p o ∙ h)
 
 -- the match that document 01 prefers, without R-3's rule
-pub record Preferred01 {k : Rank} (t : Tree k) (holds : ℕ → ℕ → Bool) (n i j : ℕ) (w : List ℕ) : Type 0 where
+pub record Preferred01 (rows : RowSets) {k : Rank} (t : Tree k) (i j : ℕ) (w : List ℕ) : Type 0 where
   pub derivation : Derivation t
-  pub parses : Parses t holds n derivation i j w
-  pub greatest : (e : Derivation t) (j′ : ℕ) (w′ : List ℕ) → Parses t holds n e i j′ w′ → Prefers t e derivation → ⊥
+  pub parses : Parses rows t derivation i j w
+  pub greatest : (e : Derivation t) (j′ : ℕ) (w′ : List ℕ) → Parses rows t e i j′ w′ → Prefers t e derivation → ⊥
 
 -- is the one that R-3 prefers
-pub base-preferred : {k : Rank} {t : Tree k} {holds : ℕ → ℕ → Bool} {n i j : ℕ} {w : List ℕ} → loopNesting t ≡ 0 → Preferred t holds n i j w ↔ Preferred01 t holds n i j w
+pub base-preferred : {rows : RowSets} {k : Rank} {t : Tree k} {i j : ℕ} {w : List ℕ} → loopNesting t ≡ 0 → Preferred rows t i j w ↔ Preferred01 rows t i j w
 base-preferred {t} h = (
   λ x. record { derivation = x .derivation; parses = x .parses; greatest = λ e j w r l. x .greatest e j w (base-kept t h e) r l },
   λ x. record { derivation = x .derivation; kept = base-kept t h (x .derivation); parses = x .parses; greatest = λ e j w a r l. x .greatest e j w r l },

@@ -11,8 +11,8 @@ use native.Mathlib.Omega.{arith}
 use lib.ListN.{length, length-append}
 use lib.Dec.{ltb, eqb}
 use borrow.Author.Tests.{ltb-true, eqb-true, eqb-false, not-true}
-use Rattle.rules.specs.Search.{pathPairs, Match, done, Finished, Plan, ended, below, byFit, byNext, onAnswer, sweep, foundIn, walkAt, plainly, plainAt, lastOf}
-use Rattle.rules.specs.Walk.{IsPath, here, there, Ways, try, Halting, countTrue, orNext, firstOf, onto, plain, plainBy}
+use Rattle.rules.specs.Search.{pathPairs, Match, done, Finished, Plan, ended, below, onAnswer, sweep, foundIn, walkAt, plainly, plainAt, lastOf, onMatch, standAt}
+use Rattle.rules.specs.Walk.{IsPath, here, there, Ways, try, Halting, countTrue, orNext, firstOf, onto, plain, plainBy, asKept}
 use Rattle.laws.proofs.Plain.{plain-path, plain-down, Sound}
 use Rattle.laws.proofs.Swept.{Counted, Unhalting, closed, sweep-finished, finished-open, walk-sure, walk-follows-plain, walk-counted}
 use Rattle.laws.proofs.Walk.{All-map, All-append, All-at, Apart, room, out-of-not-in}
@@ -159,7 +159,7 @@ module _ (ways : ℕ → Ways) (K : ℕ) (first pos : ℕ → ℕ) (plan : Plan)
   spaced-from i j h [] a = tt
   spaced-from i j h (m ∷ ms) a = (le-trans h (a .0), a .1, a .2, a .3)
 
-  pub plain-spaced : (k i m l : ℕ) (st : Unit {0}) → Spaced ways K first pos plan i (foundIn (sweep (plainAt ways K first) (closed plan) k i m l st))
+  pub plain-spaced : (k i m l : ℕ) (st : Unit {0}) → Spaced ways K first pos plan i (foundIn (sweep (plainAt ways K first) (closed plan) k (standAt i m l) st))
   unfolding sweep
   plain-spaced zero i m l st = tt
   plain-spaced (suc k) i m l st = go (plain-spaced k) (ltb i (plan .n)) refl
@@ -167,22 +167,22 @@ module _ (ways : ℕ → Ways) (K : ℕ) (first pos : ℕ → ℕ) (plan : Plan)
       alone : (p : List ℕ) → (j : ℕ) × (pos (lastOf 0 p) ≤ j) × (i < j) × Spaced ways K first pos plan j []
       alone p = (max (pos (lastOf 0 p)) (suc i), omega arith, omega arith, tt)
 
-      fit : ((i m l : ℕ) (st : Unit {0}) → Spaced ways K first pos plan i (foundIn (sweep (plainAt ways K first) (closed plan) k i m l st)))
+      fit : ((i m l : ℕ) (st : Unit {0}) → Spaced ways K first pos plan i (foundIn (sweep (plainAt ways K first) (closed plan) k (standAt i m l) st)))
           → i < plan .n → (p : List ℕ) → plain ways K (first i) ≡ some p → (o : Option ℕ) → plan .next i p ≡ o → (t : Bool)
-          → Spaced ways K first pos plan i (foundIn (byFit t (record { start = i; path = p }) st (λ _. byNext o st (λ j. sweep (plainAt ways K first) (closed plan) k j (suc m) (l + plan .rows p) st))))
+          → Spaced ways K first pos plan i (foundIn (onMatch t o (record { start = i; path = p }) st (λ j. sweep (plainAt ways K first) (closed plan) k (standAt j (suc m) (l + plan .rows p)) st)))
       fit ih h p e o d false = (omega arith, h, e, alone p)
       fit ih h p e none d true = (omega arith, h, e, alone p)
       fit ih h p e (some j) d true = let c = past i p j d in (omega arith, h, e, (j, c .0, c .1, ih j (suc m) (l + plan .rows p) st))
 
-      on : ((i m l : ℕ) (st : Unit {0}) → Spaced ways K first pos plan i (foundIn (sweep (plainAt ways K first) (closed plan) k i m l st)))
+      on : ((i m l : ℕ) (st : Unit {0}) → Spaced ways K first pos plan i (foundIn (sweep (plainAt ways K first) (closed plan) k (standAt i m l) st)))
           → i < plan .n → (o : Option (List ℕ)) → plain ways K (first i) ≡ o
-          → Spaced ways K first pos plan i (foundIn (onAnswer (closed plan) (sweep (plainAt ways K first) (closed plan) k) i m l (plainly o) st))
-      on ih h none e = spaced-from i (suc i) (omega arith) (foundIn (sweep (plainAt ways K first) (closed plan) k (suc i) m l st)) (ih (suc i) m l st)
+          → Spaced ways K first pos plan i (foundIn (onAnswer (closed plan) (sweep (plainAt ways K first) (closed plan) k) (standAt i m l) (plainly o) st))
+      on ih h none e = spaced-from i (suc i) (omega arith) (foundIn (sweep (plainAt ways K first) (closed plan) k (standAt (suc i) m l) st)) (ih (suc i) m l st)
       on ih h (some p) e = fit ih h p e (plan .next i p) refl (plan .fits m l p)
 
-      go : ((i m l : ℕ) (st : Unit {0}) → Spaced ways K first pos plan i (foundIn (sweep (plainAt ways K first) (closed plan) k i m l st)))
+      go : ((i m l : ℕ) (st : Unit {0}) → Spaced ways K first pos plan i (foundIn (sweep (plainAt ways K first) (closed plan) k (standAt i m l) st)))
           → (t : Bool) → ltb i (plan .n) ≡ t
-          → Spaced ways K first pos plan i (foundIn (below t (ended done st) (λ _. onAnswer (closed plan) (sweep (plainAt ways K first) (closed plan) k) i m l (plainly (plain ways K (first i))) st)))
+          → Spaced ways K first pos plan i (foundIn (below t (ended done st) (λ _. onAnswer (closed plan) (sweep (plainAt ways K first) (closed plan) k) (standAt i m l) (plainly (plain ways K (first i))) st)))
       go ih false e = tt
       go ih true e = on ih (ltb-true i (plan .n) e) (plain ways K (first i)) refl
 
@@ -283,14 +283,14 @@ module _ (ways : ℕ → Ways) (ρ : ℕ → ℕ) (N : ℕ) (falls : Falls ways 
 
   -- the steps of a search that begins with no failed pair and that nothing halts
   pub two-each : (w : Halting) → Unhalting w → plan .more ≡ false → (k i m l : ℕ) (F : List Bool) → length F ≡ N → Sound ways K F → countTrue F ≡ 0
-      → (sweep (walkAt w ways K first) plan k i m l (F, 0)) .state .1 ≤ 2 * N
+      → (sweep (walkAt w ways K first) plan k (standAt i m l) (asKept F 0)) .state .steps ≤ 2 * N
   two-each w calm last k i m l F len h none-yet =
-      let r = sweep (walkAt w ways K first) plan k i m l (F, 0) in
-      let c : Counted N (F, 0) r = walk-counted w ways ρ N falls K top first plan (λ i h. starts i h .0) k i m l (F, 0) len in
-      let fin : Finished (r .end) = sweep-finished (walkAt w ways K first) (walk-sure w calm ways K first) plan last k i m l (F, 0) in
-      let a = walk-follows-plain w ways ρ N falls K top first plan k i m l (F, 0) h in
-      let G : List Bool = r .state .0 in
-      let same : foundIn (sweep (plainAt ways K first) (closed plan) k i m l tt) ≡ foundIn r = rw (a .whole fin .0, a .whole fin .1) in
+      let r = sweep (walkAt w ways K first) plan k (standAt i m l) (asKept F 0) in
+      let c : Counted N (asKept F 0) r = walk-counted w ways ρ N falls K top first plan (λ i h. starts i h .0) k i m l (asKept F 0) len in
+      let fin : Finished (r .end) = sweep-finished (walkAt w ways K first) (walk-sure w calm ways K first) plan last k i m l (asKept F 0) in
+      let a = walk-follows-plain w ways ρ N falls K top first plan k i m l (asKept F 0) h in
+      let G : List Bool = r .state .failed in
+      let same : foundIn (sweep (plainAt ways K first) (closed plan) k (standAt i m l) tt) ≡ foundIn r = rw (a .whole fin .0, a .whole fin .1) in
       let sp : Spaced ways K first pos plan i (foundIn r) = rw same at (plain-spaced ways K first pos plan past k i m l tt) in
       let hd = heads-ok G (c .len) (a .state) i (foundIn r) sp in
       let tl = tails-ok G (c .len) (a .state) i (foundIn r) sp in

@@ -13,13 +13,13 @@ use Rattle.rules.specs.Basics.{Begins, wrote}
 use Rattle.rules.specs.Query.{textOf, parts}
 use Rattle.rules.specs.Language.{Tree, pattern, Written}
 use Rattle.rules.specs.Places.{Place, unroll, places, placesOf, size, factorOf, flagsAt}
-use Rattle.rules.specs.Readings.{SomeReading}
-use Rattle.rules.specs.Walk.{outOfSteps, outOfRows, IsOpen, pairs, firstAt, pairWays}
-use Rattle.rules.specs.Preferment.{Preferred, Reports}
-use Rattle.rules.specs.Search.{Match, End, done, full, stuck, unfinished, Finished, Kept, openOf, Skip, pastLast, Swept, Terms, within, whole, walkSearch, plainSearch, labels, endOf, plainFrom, shownOne, shown, shownEnd}
+use Rattle.rules.specs.Readings.{SomeReading, rowSets}
+use Rattle.rules.specs.Walk.{outOfSteps, outOfRows, IsOpen, pairs, firstAt, pairWays, Kept}
+use Rattle.rules.specs.Preferment.{Preferred, Reports, setting}
+use Rattle.rules.specs.Search.{Match, End, done, full, stuck, unfinished, Finished, openOf, Skip, pastLast, Swept, Terms, within, whole, walkSearch, plainSearch, labels, endOf, plainFrom, shownOne, shown, shownEnd, seek}
 use Rattle.rules.specs.Report.{numbersOf, labelsOf, fits, bytesFor, bitAt, notesOf, zeros}
 use Rattle.rules.specs.Answers.{treeIn, Task, taskOf, letterHolds, walkedOn, backtracked, Buffers, Memory, refusal, haltAnswer, endAnswer, answerBy, answerWithin, reportOf, walkWithin, plainOf, reportWithin, plainReport, accepted, searchWithin, searchOf, P, F}
-use Rattle.rules.specs.Entries.{entriesIn, entryOf, entriesOf}
+use Rattle.rules.specs.Entries.{reportedIn, reportedOne, reportedAll}
 use Rattle.rules.specs.Demands.{reportIn, Demand2, Demand3, Demands, Allowing}
 use Rattle.laws.proofs.Accepted.{Granted, accepted-within, answer-within, granted-when, places-are}
 use Rattle.laws.proofs.Allowed.{search-bound, search-each, search-within, end-within, EndWithin, allows-begins, finished-whole, search-allowed, allowance-enough}
@@ -48,15 +48,15 @@ use Rattle.laws.proofs.UsedFlags.{unused-zero}
 -- ---- demand 2
 
 module _ (p : Tree pattern) (o : Bounds p) (pl : List Place) (e : pl ≡ places (unroll p)) (holds : ℕ → ℕ → Bool) (n : ℕ) where
-  matches-exactly : (i : ℕ) → ((path : List ℕ) × (plainFrom holds n pl i ≡ some path)) ↔ SomeReading p holds n i
+  matches-exactly : (i : ℕ) → ((path : List ℕ) × (plainFrom holds n pl i ≡ some path)) ↔ SomeReading (rowSets n holds) p i
   matches-exactly = rw e (match-exactly p holds n o)
 
   matches-preferred : (i j : ℕ) (w : List ℕ)
-      → ((path : List ℕ) × ((plainFrom holds n pl i ≡ some path) × (endOf (length pl) path ≡ j) × (labels pl path ≡ w))) ↔ Preferred p holds n i j w
+      → ((path : List ℕ) × ((plainFrom holds n pl i ≡ some path) × (endOf (length pl) path ≡ j) × (labels pl path ≡ w))) ↔ Preferred (rowSets n holds) p i j w
   matches-preferred = rw e (found-is-greatest p o holds n)
 
   matches-reported : (skip : Skip) (room : ℕ → ℕ → List ℕ → Bool)
-      → Reports p holds n skip room 0 0 0 (shown pl (plainSearch holds n pl skip room .matches)) (shownEnd pl (plainSearch holds n pl skip room .end))
+      → Reports (setting p (rowSets n holds) skip room) 0 0 0 (shown pl (plainSearch (seek holds n pl skip room) .matches)) (shownEnd pl (plainSearch (seek holds n pl skip room) .end))
   matches-reported = rw e (plain-reports p o holds n)
 
 -- what is shown of the first of the matches is the first of what is shown
@@ -88,7 +88,7 @@ module _ (p : Tree pattern) (t : Task) (e : t .places ≡ places (unroll p)) (nu
       let n = t .table .n in
       let r = fits nums labs (t .measures) in
       let told = matches-reported p o (t .places) e h n (t .skip) r in
-      let unlimited = plainSearch h n (t .places) (t .skip) (λ m l w. true) in
+      let unlimited = plainSearch (seek h n (t .places) (t .skip) (λ m l w. true)) in
       let told-unlimited = matches-reported p o (t .places) e h n (t .skip) (λ m l w. true) in
       record {
         exists = matches-exactly p o (t .places) e h n;
@@ -113,14 +113,14 @@ module _ (p : Tree pattern) (t : Task) (e : t .places ≡ places (unroll p)) (nu
 
 module _ (p : Tree pattern) (holds : ℕ → ℕ → Bool) (n : ℕ) where
   abbrev bound-by : Terms → Skip → (ℕ → ℕ → List ℕ → Bool) → Type 0
-  bound-by terms skip room = skip ≡ pastLast → walkSearch terms holds n (places (unroll p)) skip room .state .1 ≤ 2 * pairs (length (places (unroll p))) n
+  bound-by terms skip room = skip ≡ pastLast → walkSearch terms (seek holds n (places (unroll p)) skip room) .state .steps ≤ 2 * pairs (length (places (unroll p))) n
 
   bounded : (terms : Terms) → n ≤ terms .largest → (skip : Skip) (room : ℕ → ℕ → List ℕ → Bool) → bound-by terms skip room
   bounded terms le skip room e = rw e (search-bound (unroll p) room holds n terms le)
 
 -- no pair still open has failed
 task-out : (p : Tree pattern) (t : Task) (e : t .places ≡ places (unroll p)) (nums labs : ℕ) (terms : Terms) → t .table .n ≤ terms .largest
-    → All (Out (walkedOn terms t nums labs .state .0)) (openOf (walkedOn terms t nums labs .end))
+    → All (Out (walkedOn terms t nums labs .state .failed)) (openOf (walkedOn terms t nums labs .end))
 unfolding walkedOn
 task-out p t e nums labs terms le = rw e (search-out (unroll p) (letterHolds t) (t .table .n) terms le (t .skip) (fits nums labs (t .measures)))
 
@@ -141,7 +141,7 @@ third p t e nums labs terms le =
           (plain-each h n (t .places) (t .skip) r);
       still-open = λ w i x d.
           let o : (x ≡ []) ⊎ IsOpen (pairWays h n (t .places)) (firstAt (length (t .places)) i) x = rw d at (search-leads terms h n (t .places) (t .skip) r) in
-          (o, open-once (pairWays h n (t .places)) (rank (unroll p) n) (pairs (length (t .places)) n) (rw e (falls (unroll p) h n)) o, λ y m. All-at (Out (walkedOn terms t nums labs .state .0)) m (rw d at (task-out p t e nums labs terms le)));
+          (o, open-once (pairWays h n (t .places)) (rank (unroll p) n) (pairs (length (t .places)) n) (rw e (falls (unroll p) h n)) o, λ y m. All-at (Out (walkedOn terms t nums labs .state .failed)) m (rw d at (task-out p t e nums labs terms le)));
       failed = rw e (failed-no-path (unroll p) h n terms le (t .skip) r);
       pairs-kept = rw e (search-kept (unroll p) h n terms le (t .skip) r);
       like-all = task-follows p t e nums labs terms le .0;
@@ -171,12 +171,12 @@ pub places-all : (q : List ℕ) (rows : List ℤ) (p : Tree pattern) → Bounds 
 unfolding P F
 places-all q rows p o e = ap length (places-are q rows p e) ∙ places-counted p o ∙ rw e
 
-pub flags-unused : (p : Tree pattern) → Bounds p → (t : Task) → t .places ≡ places (unroll p) → (nums labs : ℕ) (terms : Terms) (x : ℕ) → getD (walkedOn terms t nums labs .state .0) x false ≡ true
+pub flags-unused : (p : Tree pattern) → Bounds p → (t : Task) → t .places ≡ places (unroll p) → (nums labs : ℕ) (terms : Terms) (x : ℕ) → getD (walkedOn terms t nums labs .state .failed) x false ≡ true
     → x % factorOf p < 2 ^ flagsAt (unroll p) (x / factorOf p % placesOf p)
 unfolding walkedOn factorOf
 flags-unused p o t e nums labs terms x h =
     let s : suc (size (unroll p)) ≡ placesOf p = omega (arith, unroll-size p) in
-    let h′ : getD (walkSearch terms (letterHolds t) (t .table .n) (places (unroll p)) (t .skip) (fits nums labs (t .measures)) .state .0) x false ≡ true = rw e at h in
+    let h′ : getD (walkSearch terms (seek (letterHolds t) (t .table .n) (places (unroll p)) (t .skip) (fits nums labs (t .measures))) .state .failed) x false ≡ true = rw e at h in
     rw (← nest-counted p o, ← s) (unused-zero (unroll p) terms (letterHolds t) (t .table .n) (t .skip) (fits nums labs (t .measures)) x h′)
 
 -- document 01's search of a pattern does not halt
@@ -217,16 +217,16 @@ module _ (a : Option ℕ) (q : List ℕ) (rows : List ℤ) (lent : Buffers) (ok 
   unfolding walkWithin plainOf
   third-in = third (g .tree) t places-in (length (lent .numbers)) (length (lent .labels)) (within a (t .table .n)) (omega arith)
 
-  kept-all : length (r .state .0) ≡ pairs (placesOf (g .tree) * factorOf (g .tree)) (t .table .n)
+  kept-all : length (r .state .failed) ≡ pairs (placesOf (g .tree) * factorOf (g .tree)) (t .table .n)
   kept-all = third-in .pairs-kept ∙ ap (λ (k : ℕ). pairs k (t .table .n)) counted
 
   abbrev m : Memory
   m = accepted (reportWithin a q rows lent) (r .state) lent
 
-  noted-in : (x : ℕ) → x < 8 * bytesFor (pairs (placesOf (g .tree) * factorOf (g .tree)) (t .table .n)) → bitAt (m .buffers .notes) x ≡ getD (r .state .0) x false
+  noted-in : (x : ℕ) → x < 8 * bytesFor (pairs (placesOf (g .tree) * factorOf (g .tree)) (t .table .n)) → bitAt (m .buffers .notes) x ≡ getD (r .state .failed) x false
   unfolding accepted bitAt
   noted-in x h =
-      let F : List Bool = r .state .0 in
+      let F : List Bool = r .state .failed in
       let h′ : x < 8 * bytesFor (length F) = rw kept-all h in
       let l : x / 8 < length (notesOf F) = rw (length-notes F) (omega arith) in
       rw (front-wrote (lent .notes) (notesOf F) (x / 8) 0 l) (noted F x h′)
@@ -237,7 +237,7 @@ module _ (a : Option ℕ) (q : List ℕ) (rows : List ℤ) (lent : Buffers) (ok 
 
   notes-behind : drop (bytesFor (pairs (placesOf (g .tree) * factorOf (g .tree)) (t .table .n))) (m .buffers .notes) ≡ drop (bytesFor (pairs (placesOf (g .tree) * factorOf (g .tree)) (t .table .n))) (lent .notes)
   unfolding accepted
-  notes-behind = behind-wrote (lent .notes) (notesOf (r .state .0)) (bytesFor (pairs (placesOf (g .tree) * factorOf (g .tree)) (t .table .n))) (length-notes (r .state .0) ∙ ap bytesFor kept-all)
+  notes-behind = behind-wrote (lent .notes) (notesOf (r .state .failed)) (bytesFor (pairs (placesOf (g .tree) * factorOf (g .tree)) (t .table .n))) (length-notes (r .state .failed) ∙ ap bytesFor kept-all)
 
   report-in : (reportIn m ≡ reportWithin a q rows lent) × (m .result .answer ≡ endAnswer (r .end))
   unfolding accepted reportWithin reportOf
@@ -247,8 +247,8 @@ module _ (a : Option ℕ) (q : List ℕ) (rows : List ℤ) (lent : Buffers) (ok 
   unfolding accepted reportWithin reportOf
   counts-in = (refl, refl)
 
-  entries-in : entriesIn q m ≡ entriesOf (t .table) (t .measures) (shown (t .places) (r .matches))
-  unfolding entriesIn accepted reportWithin reportOf wrote taskOf
+  entries-in : reportedIn q m ≡ reportedAll (t .table) (t .measures) (shown (t .places) (r .matches))
+  unfolding reportedIn accepted reportWithin reportOf wrote taskOf
   entries-in =
       entries-read (t .table) (t .measures) (t .places) 0 (r .matches) (drop (0 + length (numbersOf (t .table) (t .measures) (t .places) 0 (r .matches))) (lent .numbers))
       (drop (0 + length (labelsOf (t .places) (r .matches))) (lent .labels))
@@ -272,13 +272,13 @@ module _ (a : Option ℕ) (q : List ℕ) (rows : List ℤ) (lent : Buffers) (ok 
   like f =
       report-same (answerWithin a q rows lent) (answerBy q rows lent (plainOf q rows lent)) t lent r (plainOf q rows lent) (answer-same q rows lent r (plainOf q rows lent) (third-in .like-all f .1)) (third-in .like-all f .0)
 
-  first-plain : Begins (entriesIn q m) (entriesOf (t .table) (t .measures) (shown (t .places) (plainOf q rows lent .matches)))
+  first-plain : Begins (reportedIn q m) (reportedAll (t .table) (t .measures) (shown (t .places) (plainOf q rows lent .matches)))
   first-plain =
       rw entries-in
       (let b = shown-begins (t .places) (r .matches) (plainOf q rows lent .matches) (third-in .like-first) in
-      (entriesOf (t .table) (t .measures) (b .0), ap (entriesOf (t .table) (t .measures)) (b .1) ∙ map-append (entryOf (t .table) (t .measures)) (shown (t .places) (r .matches)) (b .0)))
+      (reportedAll (t .table) (t .measures) (b .0), ap (reportedAll (t .table) (t .measures)) (b .1) ∙ map-append (reportedOne (t .table) (t .measures)) (shown (t .places) (r .matches)) (b .0)))
 
-  steps-in : m .result .steps ≡ r .state .1
+  steps-in : m .result .steps ≡ r .state .steps
   unfolding accepted
   steps-in = refl
 
@@ -338,7 +338,7 @@ module _ (p : Tree pattern) (t : Task) (e : t .places ≡ places (unroll p)) (nu
   unfolding walkedOn
   task-done a = rw e (λ f. sym (finished-whole (unroll p) (t .skip) (fits nums labs (t .measures)) (letterHolds t) (t .table .n) (some a) f))
 
-  task-unpassed : (a : ℕ) → walkedOn (whole (t .table .n)) t nums labs .state .1 ≤ a → walkedOn (within (some a) (t .table .n)) t nums labs ≡ walkedOn (whole (t .table .n)) t nums labs
+  task-unpassed : (a : ℕ) → walkedOn (whole (t .table .n)) t nums labs .state .steps ≤ a → walkedOn (within (some a) (t .table .n)) t nums labs ≡ walkedOn (whole (t .table .n)) t nums labs
   unfolding walkedOn
   task-unpassed a = rw e (search-allowed (unroll p) (t .skip) (fits nums labs (t .measures)) (letterHolds t) (t .table .n) a)
 
@@ -360,10 +360,10 @@ allowing q rows lent ok =
     let e = places-are q rows p (a .has-tree) in
     let nums = length (lent .numbers) in
     let labs = length (lent .labels) in
-    let to : (a : ℕ) → EndWithin a (walkWithin (some a) q rows lent .end) (walkWithin (some a) q rows lent .state .1) =
+    let to : (a : ℕ) → EndWithin a (walkWithin (some a) q rows lent .end) (walkWithin (some a) q rows lent .state .steps) =
     λ a. search-within a (t .table .n) false (letterHolds t) (t .table .n) (t .places) (t .skip) (fits nums labs (t .measures)) in
     record {
-      kept-to = λ a. end-within a (walkWithin (some a) q rows lent .end) (walkWithin (some a) q rows lent .state .1) (to a);
+      kept-to = λ a. end-within a (walkWithin (some a) q rows lent .end) (walkWithin (some a) q rows lent .state .steps) (to a);
       used-up = λ a i p d. rw d at (to a);
       done = λ b f. walk-decides (some b) none q rows lent (task-done p t e nums labs b f);
       larger = task-larger p t e nums labs;

@@ -11,25 +11,25 @@ use lib.ListN.{length}
 use borrow.Author.Tests.{eqb-true}
 use Rattle.rules.specs.Basics.{isLetter}
 use Rattle.rules.specs.Language.{Rank, pattern, branch, factor, primary, Tree, more, next, aMark, spell, spaces}
-use Rattle.rules.specs.Reader.{Reading, got, bad, peek, rest, skip, Marked, unmarked, broken, marked, quantifier, ended, under, altOn, altWith, seqOn, seqWith, timesOn, timesWith, closed, parted, simple, primaryOn, read, rankOf, depth, whole, treeOf}
+use Rattle.rules.specs.Reader.{Reading, got, bad, peek, rest, skipSpaces, Marked, unmarked, broken, marked, quantifier, branchEnds, under, altOn, altWith, seqOn, seqWith, timesOn, timesWith, closed, parted, simple, primaryOn, read, rankOf, depth, wholeTree, treeOf}
 use Rattle.laws.proofs.GrammarSound.{pick-both, in-letters, peeked, skipped, marked-spelled}
 use Rattle.laws.proofs.GrammarComplete.{spaces-length, mark-longer}
 
 -- ---- what is left is shorter
 
-pub skip-shorter : (s : List ℕ) → length (skip s) ≤ length s
+pub skip-shorter : (s : List ℕ) → length (skipSpaces s) ≤ length s
 skip-shorter s =
     let k = skipped s in
-    let e : length s ≡ length (spaces (k .0) (skip s)) = ap length (k .1) in
-    omega (arith, spaces-length (k .0) (skip s))
+    let e : length s ≡ length (spaces (k .0) (skipSpaces s)) = ap length (k .1) in
+    omega (arith, spaces-length (k .0) (skipSpaces s))
 
 -- behind a byte that is not 0, and spaces
-rest-shorter : (s : List ℕ) (b : ℕ) → 1 ≤ b → peek s ≡ b → length (skip (rest s)) < length s
+rest-shorter : (s : List ℕ) (b : ℕ) → 1 ≤ b → peek s ≡ b → length (skipSpaces (rest s)) < length s
 rest-shorter s b h e =
     let l : length s ≡ suc (length (rest s)) = ap length (peeked s b h e) in
     omega (arith, skip-shorter (rest s))
 
-byte-shorter : (s : List ℕ) (b : ℕ) → 1 ≤ b → eqb (peek s) b ≡ true → length (skip (rest s)) < length s
+byte-shorter : (s : List ℕ) (b : ℕ) → 1 ≤ b → eqb (peek s) b ≡ true → length (skipSpaces (rest s)) < length s
 byte-shorter s b h e = rest-shorter s b h (eqb-true (peek s) b e)
 
 unfoldable pub Shorter : {A : Type 0} → List ℕ → Reading A → Type 0
@@ -49,14 +49,14 @@ alt-shorter again s (got b u) f h = on (eqb (peek u) 124) refl
   where
     on : (t : Bool) → eqb (peek u) 124 ≡ t → Shorter s (altOn t again b u)
     on true e =
-        under-shorter (more b) s (skip (rest u)) (again (skip (rest u))) (omega (arith, byte-shorter u 124 (omega arith) e)) (f (skip (rest u)))
+        under-shorter (more b) s (skipSpaces (rest u)) (again (skipSpaces (rest u))) (omega (arith, byte-shorter u 124 (omega arith) e)) (f (skipSpaces (rest u)))
     on false e = h
 
 seq-shorter : (again : List ℕ → Reading (Tree branch)) (s : List ℕ) (r : Reading (Tree factor))
     → ((u : List ℕ) → Shorter u (again u)) → Shorter s r → Shorter s (seqWith again r)
 unfolding Shorter seqWith seqOn
 seq-shorter again s (bad w) f h = tt
-seq-shorter again s (got b u) f h = on (ended (peek u))
+seq-shorter again s (got b u) f h = on (branchEnds (peek u))
   where
     on : (t : Bool) → Shorter s (seqOn t again b u)
     on true = h
@@ -99,7 +99,7 @@ primary-shorter : (again : List ℕ → Reading (Tree pattern)) (s : List ℕ) �
 unfolding primaryOn
 primary-shorter again s f true e =
     let l = byte-shorter s 40 (omega arith) e in
-    parted-shorter again s (skip (rest s)) (eqb (peek (skip (rest s))) 41) refl (omega arith) f
+    parted-shorter again s (skipSpaces (rest s)) (eqb (peek (skipSpaces (rest s))) 41) refl (omega arith) f
 primary-shorter again s f false e = simple-shorter s
 
 pub read-shorter : (n : ℕ) (k : Rank) (s : List ℕ) → Shorter s (read n k s)
@@ -119,14 +119,14 @@ alt-same f g s (bad w) h e = refl
 alt-same f g s (got b u) h e = on (eqb (peek u) 124) refl
   where
     on : (t : Bool) → eqb (peek u) 124 ≡ t → altOn t f b u ≡ altOn t g b u
-    on true q = ap (under (more b)) (e (skip (rest u)) (omega (arith, byte-shorter u 124 (omega arith) q)))
+    on true q = ap (under (more b)) (e (skipSpaces (rest u)) (omega (arith, byte-shorter u 124 (omega arith) q)))
     on false q = refl
 
 seq-same : (f g : List ℕ → Reading (Tree branch)) (s : List ℕ) (r : Reading (Tree factor)) → Shorter s r
     → ((u : List ℕ) → length u < length s → f u ≡ g u) → seqWith f r ≡ seqWith g r
 unfolding Shorter seqWith seqOn
 seq-same f g s (bad w) h e = refl
-seq-same f g s (got b u) h e = on (ended (peek u))
+seq-same f g s (got b u) h e = on (branchEnds (peek u))
   where
     on : (t : Bool) → seqOn t f b u ≡ seqOn t g b u
     on true = refl
@@ -135,11 +135,11 @@ seq-same f g s (got b u) h e = on (ended (peek u))
 primary-same : (f g : List ℕ → Reading (Tree pattern)) (s : List ℕ) → ((u : List ℕ) → length u < length s → f u ≡ g u)
     → (t : Bool) → eqb (peek s) 40 ≡ t → primaryOn t f s ≡ primaryOn t g s
 unfolding primaryOn parted
-primary-same f g s e true q = on (eqb (peek (skip (rest s))) 41)
+primary-same f g s e true q = on (eqb (peek (skipSpaces (rest s))) 41)
   where
-    on : (t : Bool) → parted t f (skip (rest s)) ≡ parted t g (skip (rest s))
+    on : (t : Bool) → parted t f (skipSpaces (rest s)) ≡ parted t g (skipSpaces (rest s))
     on true = refl
-    on false = ap closed (e (skip (rest s)) (byte-shorter s 40 (omega arith) q))
+    on false = ap closed (e (skipSpaces (rest s)) (byte-shorter s 40 (omega arith) q))
 primary-same f g s e false q = refl
 
 pub read-enough : (n m : ℕ) (k : Rank) (s : List ℕ) → depth k s ≤ n → depth k s ≤ m → read n k s ≡ read m k s
@@ -156,6 +156,6 @@ read-enough (suc n) (suc m) factor s h g = ap timesWith (read-enough n m primary
 read-enough (suc n) (suc m) primary s h g =
     primary-same (read n pattern) (read m pattern) s (λ u l. read-enough n m pattern u (omega arith) (omega arith)) (eqb (peek s) 40) refl
 
-pub tree-by-depth : (n : ℕ) (s : List ℕ) → depth pattern (skip s) ≤ n → treeOf s ≡ whole (read n pattern (skip s))
+pub tree-by-depth : (n : ℕ) (s : List ℕ) → depth pattern (skipSpaces s) ≤ n → treeOf s ≡ wholeTree (read n pattern (skipSpaces s))
 unfolding treeOf depth rankOf
-tree-by-depth n s h = ap whole (read-enough (4 * length s + 4) n pattern (skip s) (omega (arith, skip-shorter s)) h)
+tree-by-depth n s h = ap wholeTree (read-enough (4 * length s + 4) n pattern (skipSpaces s) (omega (arith, skip-shorter s)) h)

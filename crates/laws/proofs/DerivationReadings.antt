@@ -10,7 +10,7 @@ use native.Mathlib.Omega.{arith}
 use lib.ListN.{length, length-append}
 use Rattle.rules.specs.Language.{Rank, Tree, one, more, last, next, bare, times, letter, caret, dollar, empty, group, lower, upper, primary}
 use Rattle.rules.specs.Preferment.{Derivation, InTurn, Parses, word, emptyEnds, emptyEndsIn, keeps}
-use Rattle.rules.specs.Readings.{Rounds, Reads, Within}
+use Rattle.rules.specs.Readings.{Rounds, Reads, Within, RowSets, rowSets}
 use mathlib.Core.Option.{Option, none, some}
 use native.Mathlib.Nat.{le-of-suc-le-suc, not-suc-le-zero}
 use borrow.Author.Tests.{lt-ltb}
@@ -34,13 +34,13 @@ module _ {A : Type 0} (R : ℕ → ℕ → List ℕ → Type 0) (S : A → ℕ �
   rounds-out f (d ∷ ds) i j w r = (r .0, r .1, r .2, f d i (r .0) (r .1) (r .3), rounds-out f ds (r .0) j (r .2) (r .4), r .5)
 
 module _ (holds : ℕ → ℕ → Bool) (n : ℕ) where
-  pub reads-parses : {k : Rank} (t : Tree k) (i j : ℕ) (w : List ℕ) → Reads t holds n i j w → (d : Derivation t) × Parses t holds n d i j w
+  pub reads-parses : {k : Rank} (t : Tree k) (i j : ℕ) (w : List ℕ) → Reads (rowSets n holds) t i j w → (d : Derivation t) × Parses (rowSets n holds) t d i j w
   unfolding Reads Derivation Parses
   reads-parses (one b) i j w m = reads-parses b i j w m
   reads-parses (more b p) i j w m =
       ⊎-elim
-      (λ (x : Reads b holds n i j w). let y = reads-parses b i j w x in (inl (y .0), y .1))
-      (λ (x : Reads p holds n i j w). let y = reads-parses p i j w x in (inr (y .0), y .1))
+      (λ (x : Reads (rowSets n holds) b i j w). let y = reads-parses b i j w x in (inl (y .0), y .1))
+      (λ (x : Reads (rowSets n holds) p i j w). let y = reads-parses p i j w x in (inr (y .0), y .1))
       m
   reads-parses (last f) i j w m = reads-parses f i j w m
   reads-parses (next f b) i j w m =
@@ -49,7 +49,7 @@ module _ (holds : ℕ → ℕ → Bool) (n : ℕ) where
       ((x .0, y .0), (m .0, m .1, m .2, x .1, y .1, m .5))
   reads-parses (bare x) i j w m = reads-parses x i j w m
   reads-parses (times x f z) i j w m =
-      let y = rounds-in (λ i j w. Reads x holds n i j w) (Parses x holds n) (λ i j w r. reads-parses x i j w r) (m .0) i j w (m .3) in
+      let y = rounds-in (λ i j w. Reads (rowSets n holds) x i j w) (Parses (rowSets n holds) x) (λ i j w r. reads-parses x i j w r) (m .0) i j w (m .3) in
       ((y .0, (rw (y .1) (m .1), rw (y .1) (m .2))), y .2)
   reads-parses (letter c) i j w m = (tt, m)
   reads-parses caret i j w m = (tt, m)
@@ -57,7 +57,7 @@ module _ (holds : ℕ → ℕ → Bool) (n : ℕ) where
   reads-parses empty i j w m = (tt, m)
   reads-parses (group p) i j w m = reads-parses p i j w m
 
-  pub parses-reads : {k : Rank} (t : Tree k) (d : Derivation t) (i j : ℕ) (w : List ℕ) → Parses t holds n d i j w → Reads t holds n i j w
+  pub parses-reads : {k : Rank} (t : Tree k) (d : Derivation t) (i j : ℕ) (w : List ℕ) → Parses (rowSets n holds) t d i j w → Reads (rowSets n holds) t i j w
   unfolding Reads Derivation Parses
   parses-reads (one b) d i j w r = parses-reads b d i j w r
   parses-reads (more b p) (inl d) i j w r = inl (parses-reads b d i j w r)
@@ -69,7 +69,7 @@ module _ (holds : ℕ → ℕ → Bool) (n : ℕ) where
     length (d .0),
     d .1 .0,
     d .1 .1,
-    rounds-out (λ i j w. Reads x holds n i j w) (Parses x holds n) (λ d i j w r. parses-reads x d i j w r) (d .0) i j w r,
+    rounds-out (λ i j w. Reads (rowSets n holds) x i j w) (Parses (rowSets n holds) x) (λ d i j w r. parses-reads x d i j w r) (d .0) i j w r,
   )
   parses-reads (letter c) d i j w r = r
   parses-reads caret d i j w r = r
@@ -77,7 +77,7 @@ module _ (holds : ℕ → ℕ → Bool) (n : ℕ) where
   parses-reads empty d i j w r = r
   parses-reads (group p) d i j w r = parses-reads p d i j w r
 
-  pub reads-is : {k : Rank} (t : Tree k) (i j : ℕ) (w : List ℕ) → Reads t holds n i j w ↔ ((d : Derivation t) × Parses t holds n d i j w)
+  pub reads-is : {k : Rank} (t : Tree k) (i j : ℕ) (w : List ℕ) → Reads (rowSets n holds) t i j w ↔ ((d : Derivation t) × Parses (rowSets n holds) t d i j w)
   reads-is t i j w = (λ m. reads-parses t i j w m, λ x. parses-reads t (x .0) i j w (x .1))
 
 -- ---- labels
@@ -98,7 +98,7 @@ in-turn-spells R f h (d ∷ ds) i j w r =
     spells-then w (r .1) (r .2) (f d) (flatMap f ds) i (r .0) j (r .5) (h d i (r .0) (r .1) (r .3)) (in-turn-spells R f h ds (r .0) j (r .2) (r .4))
 
 module _ (holds : ℕ → ℕ → Bool) (n : ℕ) where
-  pub parses-word : {k : Rank} (t : Tree k) (d : Derivation t) (i j : ℕ) (w : List ℕ) → Parses t holds n d i j w → Spells w (word t d) i j
+  pub parses-word : {k : Rank} (t : Tree k) (d : Derivation t) (i j : ℕ) (w : List ℕ) → Parses (rowSets n holds) t d i j w → Spells w (word t d) i j
   unfolding Derivation Parses word
   parses-word (one b) d i j w r = parses-word b d i j w r
   parses-word (more b p) (inl d) i j w r = parses-word b d i j w r
@@ -107,7 +107,7 @@ module _ (holds : ℕ → ℕ → Bool) (n : ℕ) where
   parses-word (next f b) d i j w r =
       spells-then w (r .1) (r .2) (word f (d .0)) (word b (d .1)) i (r .0) j (r .5) (parses-word f (d .0) i (r .0) (r .1) (r .3)) (parses-word b (d .1) (r .0) j (r .2) (r .4))
   parses-word (bare x) d i j w r = parses-word x d i j w r
-  parses-word (times x f z) d i j w r = in-turn-spells (Parses x holds n) (λ y. word x y) (λ d i j w r. parses-word x d i j w r) (d .0) i j w r
+  parses-word (times x f z) d i j w r = in-turn-spells (Parses (rowSets n holds) x) (λ y. word x y) (λ d i j w r. parses-word x d i j w r) (d .0) i j w r
   parses-word (letter c) d i j w r = record { labels = r .3; rows = omega (arith, r .2) }
   parses-word caret d i j w r = record { labels = r .2; rows = omega (arith, r .1) }
   parses-word dollar d i j w r = record { labels = r .2; rows = omega (arith, r .1) }
@@ -115,7 +115,7 @@ module _ (holds : ℕ → ℕ → Bool) (n : ℕ) where
   parses-word (group p) d i j w r = parses-word p d i j w r
 
   -- two readings by one derivation from one row are the same
-  pub parses-one : {k : Rank} (t : Tree k) (d : Derivation t) (i j j′ : ℕ) (w w′ : List ℕ) → Parses t holds n d i j w → Parses t holds n d i j′ w′ → (j ≡ j′) × (w ≡ w′)
+  pub parses-one : {k : Rank} (t : Tree k) (d : Derivation t) (i j j′ : ℕ) (w w′ : List ℕ) → Parses (rowSets n holds) t d i j w → Parses (rowSets n holds) t d i j′ w′ → (j ≡ j′) × (w ≡ w′)
   parses-one t d i j j′ w w′ r s =
       let p = parses-word t d i j w r in
       let q = parses-word t d i j′ w′ s in
@@ -125,8 +125,8 @@ module _ (holds : ℕ → ℕ → Bool) (n : ℕ) where
 -- dropped
 
 -- d keeps the rule and parses
-abbrev pub KeptParses : {k : Rank} → (t : Tree k) → (ℕ → ℕ → Bool) → ℕ → Derivation t → ℕ → ℕ → List ℕ → Type 0
-KeptParses t holds n d i j w = (keeps t d ≡ true) × Parses t holds n d i j w
+abbrev pub KeptParses : RowSets → {k : Rank} → (t : Tree k) → Derivation t → ℕ → ℕ → List ℕ → Type 0
+KeptParses rows t d i j w = (keeps t d ≡ true) × Parses rows t d i j w
 
 ends-cons : {A : Type 0} (f : A → List ℕ) (d : A) (ds : List A) → 0 < length (f d) → emptyEnds f zero ds ≡ true → emptyEnds f zero (d ∷ ds) ≡ true
 unfolding emptyEnds
@@ -172,24 +172,24 @@ kept-rounds keep S (d ∷ ds) i j w h r =
     (r .0, r .1, r .2, (g .0, r .3), kept-rounds keep S ds (r .0) j (r .2) (g .1) (r .4), r .5)
 
 module _ (holds : ℕ → ℕ → Bool) (n : ℕ) where
-  kept-word : {k : Rank} (t : Tree k) (d : Derivation t) (i j : ℕ) (w : List ℕ) → KeptParses t holds n d i j w → Spells w (word t d) i j
+  kept-word : {k : Rank} (t : Tree k) (d : Derivation t) (i j : ℕ) (w : List ℕ) → KeptParses (rowSets n holds) t d i j w → Spells w (word t d) i j
   kept-word t d i j w r = parses-word holds n t d i j w (r .1)
 
   -- rounds that keep the rule, and of an unbounded quantifier only those that take a row, behind
   -- the required ones
   round-list : (x : Tree primary) (lo : ℕ) (hi : Option ℕ) (ds : List (Derivation x)) (i j : ℕ) (w : List ℕ) → lo ≤ length ds → Within (length ds) hi
-      → InTurn (KeptParses x holds n) ds i j w → (es : List (Derivation x)) × ((lo ≤ length es) × Within (length es) hi) × (emptyEndsIn hi (word x) lo es ≡ true) × InTurn (KeptParses x holds n) es i j w
+      → InTurn (KeptParses (rowSets n holds) x) ds i j w → (es : List (Derivation x)) × ((lo ≤ length es) × Within (length es) hi) × (emptyEndsIn hi (word x) lo es ≡ true) × InTurn (KeptParses (rowSets n holds) x) es i j w
   unfolding emptyEndsIn
-  round-list x lo none ds i j w l h r = let y = drop-empty (KeptParses x holds n) (word x) (kept-word x) lo ds i j w l r in (y .0, (y .1, tt), y .2, y .3)
+  round-list x lo none ds i j w l h r = let y = drop-empty (KeptParses (rowSets n holds) x) (word x) (kept-word x) lo ds i j w l r in (y .0, (y .1, tt), y .2, y .3)
   round-list x lo (some hi) ds i j w l h r = (ds, (l, h), refl, r)
 
-  pub reads-kept : {k : Rank} (t : Tree k) (i j : ℕ) (w : List ℕ) → Reads t holds n i j w → (d : Derivation t) × KeptParses t holds n d i j w
+  pub reads-kept : {k : Rank} (t : Tree k) (i j : ℕ) (w : List ℕ) → Reads (rowSets n holds) t i j w → (d : Derivation t) × KeptParses (rowSets n holds) t d i j w
   unfolding Reads Derivation Parses keeps
   reads-kept (one b) i j w m = reads-kept b i j w m
   reads-kept (more b p) i j w m =
       ⊎-elim
-      (λ (x : Reads b holds n i j w). let y = reads-kept b i j w x in (inl (y .0), y .1))
-      (λ (x : Reads p holds n i j w). let y = reads-kept p i j w x in (inr (y .0), y .1))
+      (λ (x : Reads (rowSets n holds) b i j w). let y = reads-kept b i j w x in (inl (y .0), y .1))
+      (λ (x : Reads (rowSets n holds) p i j w). let y = reads-kept p i j w x in (inr (y .0), y .1))
       m
   reads-kept (last f) i j w m = reads-kept f i j w m
   reads-kept (next f b) i j w m =
@@ -198,9 +198,9 @@ module _ (holds : ℕ → ℕ → Bool) (n : ℕ) where
       ((x .0, y .0), (rw (x .1 .0) (y .1 .0), (m .0, m .1, m .2, x .1 .1, y .1 .1, m .5)))
   reads-kept (bare x) i j w m = reads-kept x i j w m
   reads-kept (times x f z) i j w m =
-      let y = rounds-in (λ i j w. Reads x holds n i j w) (KeptParses x holds n) (λ i j w r. reads-kept x i j w r) (m .0) i j w (m .3) in
+      let y = rounds-in (λ i j w. Reads (rowSets n holds) x i j w) (KeptParses (rowSets n holds) x) (λ i j w r. reads-kept x i j w r) (m .0) i j w (m .3) in
       let e = round-list x (lower f) (upper f) (y .0) i j w (rw (y .1) (m .1)) (rw (y .1) (m .2)) (y .2) in
-      let g = rounds-kept (λ d. keeps x d) (Parses x holds n) (e .0) i j w (e .3) in
+      let g = rounds-kept (λ d. keeps x d) (Parses (rowSets n holds) x) (e .0) i j w (e .3) in
       ((e .0, e .1), (rw (e .2) (g .0), g .1))
   reads-kept (letter c) i j w m = (tt, (refl, m))
   reads-kept caret i j w m = (tt, (refl, m))

@@ -13,6 +13,7 @@ use Rattle.rules.specs.Basics.{every}
 use Rattle.rules.specs.Clause627.{emptyLate, allowed, Preferred627}
 use Rattle.rules.specs.Language.{between, pattern, primary, Tree, one, more, last, next, bare, times, letter, empty, group}
 use Rattle.rules.specs.Places.{unroll, places}
+use Rattle.rules.specs.Readings.{rowSets}
 use Rattle.rules.specs.Preferment.{Derivation, InTurn, Parses, RoundByRound, Prefers, Preferred, word}
 use Rattle.rules.specs.Search.{labels}
 use Rattle.rules.specs.Walk.{pairWays, plain}
@@ -33,7 +34,7 @@ rows c (suc zero) = eqb c 65 || eqb c 68
 rows c (suc (suc i)) = eqb c 67
 
 -- document 01: through ( ( ) (B D) ) C
-pub by-places : Preferred differs rows 3 0 3 (66 ∷ 68 ∷ 67 ∷ [])
+pub by-places : Preferred (rowSets 3 rows) differs 0 3 (66 ∷ 68 ∷ 67 ∷ [])
 unfolding Bounds labels unroll places pairWays plain
 by-places =
     found-is-greatest differs ((((omega arith, omega arith, omega arith), (tt, (tt, (tt, tt)))), tt)) rows 3 0 3 (66 ∷ 68 ∷ 67 ∷ []) .0
@@ -52,7 +53,7 @@ chosen = ((two, (zero-le, few)), tt)
     few : 2 ≤ 2
     few = omega arith
 
-chosen-parses : Parses differs rows 3 chosen 0 3 (65 ∷ 65 ∷ 67 ∷ [])
+chosen-parses : Parses (rowSets 3 rows) differs chosen 0 3 (65 ∷ 65 ∷ 67 ∷ [])
 unfolding Parses
 chosen-parses = (
   2,
@@ -85,7 +86,7 @@ apart : (d : Unit {0} × Unit {0}) (e : Unit {0}) → _≡_ {A = Unit {0} ⊎ (U
 apart d e h = let z : _≡_ {A = ℕ} 0 1 = cc in omega arith
 
 -- no rounds that the clause allows and behind which C holds are preferred to A A
-first-two : (ds : List (Derivation body)) (x : ℕ) (u : List ℕ) → length ds ≤ 2 → emptyLate (word body) 0 ds ≡ true → InTurn (Parses body rows 3) ds 0 x u → rows 67 x ≡ true
+first-two : (ds : List (Derivation body)) (x : ℕ) (u : List ℕ) → length ds ≤ 2 → emptyLate (word body) 0 ds ≡ true → InTurn (Parses (rowSets 3 rows) body) ds 0 x u → rows 67 x ≡ true
     → RoundByRound false (Prefers body) ds two → ⊥
 unfolding Derivation Parses Prefers emptyLate word
 first-two [] x u h k r c l = false≢true l
@@ -99,11 +100,11 @@ first-two (inr (inl d) ∷ inr (inl e) ∷ g ∷ ds) x u h k r c l = omega arith
 first-two (inr (inl d) ∷ inr (inr e) ∷ ds) x u h k r c l = never (λ z. z) (λ z. never (λ y. y) (λ y. apart e tt (y .0)) (z .1)) l
 first-two (inr (inr d) ∷ ds) x u h k r c l = never (λ z. z) (λ z. apart d tt (z .0)) l
 
-pub by-clause : Preferred627 differs rows 3 0 3 (65 ∷ 65 ∷ 67 ∷ [])
+pub by-clause : Preferred627 (rowSets 3 rows) differs 0 3 (65 ∷ 65 ∷ 67 ∷ [])
 unfolding Derivation Parses Prefers allowed
 by-clause = record { derivation = chosen; kept = refl; parses = chosen-parses; greatest = better }
   where
-    better : (e : Derivation differs) (j : ℕ) (w : List ℕ) → allowed differs e ≡ true → Parses differs rows 3 e 0 j w → Prefers differs e chosen → ⊥
+    better : (e : Derivation differs) (j : ℕ) (w : List ℕ) → allowed differs e ≡ true → Parses (rowSets 3 rows) differs e 0 j w → Prefers differs e chosen → ⊥
     better e j w k r l =
         let ds = e .0 .0 in
         let late = and-true (emptyLate (word body) 0 ds) (every (λ y. allowed body y) ds) (and-true (emptyLate (word body) 0 ds && every (λ y. allowed body y) ds) true k .0) .0 in

@@ -12,8 +12,8 @@ use lib.Dec.{ltb, eqb}
 use borrow.Author.Tests.{eqb-true, eqb-false, eq-eqb, ne-eqb, ltb-true}
 use Rattle.rules.specs.Basics.{has}
 use Rattle.rules.specs.Places.{Unrolled, Place, pLetter, pCaret, pDollar, pFork, pEnd, places}
-use Rattle.rules.specs.Search.{Skip, Attempted, hit, miss, halts, Swept, Plan, ended, noStart, below, withMatch, byFit, byNext, onAnswer, sweep, Kept, answered, walkAt, labelOf, labels, asksRow, Terms, haltingOf, planOf, walkSearch}
-use Rattle.rules.specs.Walk.{Ways, accept, try, Halting, Outcome, found, failed, halted, orElse, close, enterUnless, tries, inside, insideBy, orNext, firstOf, onto, plain, plainBy, passIf, waysAt, pairWays, pairs, pairAt, placeOf, positionOf, firstAt}
+use Rattle.rules.specs.Search.{Skip, Attempted, hit, miss, halts, Swept, Plan, ended, noStart, below, withMatch, onAnswer, sweep, answered, walkAt, labelOf, labels, asksRow, Terms, haltingOf, planOf, walkSearch, Standing, onMatch, seek, standAt}
+use Rattle.rules.specs.Walk.{Ways, accept, try, Halting, Outcome, found, failed, halted, orElse, close, enterUnless, tries, inside, insideBy, orNext, firstOf, onto, plain, plainBy, passIf, waysAt, pairWays, pairs, pairAt, placeOf, positionOf, firstAt, Kept, asKept, oneStep}
 use Rattle.laws.proofs.Rank.{rank}
 use Rattle.laws.proofs.PatternWalk.{falls-in, top-in, starts-in}
 use Rattle.laws.proofs.Walk.{All-map, InsidePost, inside-post}
@@ -70,35 +70,35 @@ plain-thin ways (suc k) x = go (plain-thin ways k) (ways x)
 
 module _ (v : Halting) (ways : ℕ → Ways) (ρ : ℕ → ℕ) (N : ℕ) (falls : Falls ways ρ N) where
   abbrev SameAt : ℕ → Type 0
-  SameAt k = (F : List Bool) (s y : ℕ) → ρ y < k → y < N → length F ≡ N → Out F y → inside v (λ z. thin (ways z)) k F s y ≡ inside v ways k F s y
+  SameAt k = (F : List Bool) (s y : ℕ) → ρ y < k → y < N → length F ≡ N → Out F y → inside v (λ z. thin (ways z)) k (asKept F s) y ≡ inside v ways k (asKept F s) y
 
   tries-fresh : (k : ℕ) → SameAt k → (ys : List ℕ) → All (λ y. (ρ y < k) × (y < N)) ys → (seen : List ℕ) (F : List Bool) (s : ℕ) → length F ≡ N → All (In F) seen
-      → tries v (inside v (λ z. thin (ways z)) k) F s (fresh seen ys) ≡ tries v (inside v ways k) F s ys
+      → tries v (inside v (λ z. thin (ways z)) k) (asKept F s) (fresh seen ys) ≡ tries v (inside v ways k) (asKept F s) ys
   unfolding tries fresh
   tries-fresh k ih [] a seen F s len h = refl
   tries-fresh k ih (y ∷ ys) a seen F s len h = go (has y seen) refl (tries-fresh k ih ys (a .1))
     where
       dying : (r : Outcome) → InsidePost ρ F (suc s) y r
-          → ((seen : List ℕ) (F : List Bool) (s : ℕ) → length F ≡ N → All (In F) seen → tries v (inside v (λ z. thin (ways z)) k) F s (fresh seen ys) ≡ tries v (inside v ways k) F s ys)
-          → orElse r (λ F′ s′. tries v (inside v (λ z. thin (ways z)) k) F′ s′ (fresh (y ∷ seen) ys)) ≡ orElse r (λ F′ s′. tries v (inside v ways k) F′ s′ ys)
-      dying (found p G t) d rest = refl
-      dying (halted w p G t) d rest = refl
-      dying (failed G t) d rest = rest (y ∷ seen) G t (d .grew .len ∙ len) (d .it, All-map (λ z (i : In F z). d .grew .keeps z i) seen h)
+          → ((seen : List ℕ) (F : List Bool) (s : ℕ) → length F ≡ N → All (In F) seen → tries v (inside v (λ z. thin (ways z)) k) (asKept F s) (fresh seen ys) ≡ tries v (inside v ways k) (asKept F s) ys)
+          → orElse r (λ kept′. tries v (inside v (λ z. thin (ways z)) k) kept′ (fresh (y ∷ seen) ys)) ≡ orElse r (λ kept′. tries v (inside v ways k) kept′ ys)
+      dying (found p later) d rest = refl
+      dying (halted w p later) d rest = refl
+      dying (failed later) d rest = rest (y ∷ seen) (later .failed) (later .steps) (d .grew .len ∙ len) (d .it, All-map (λ z (i : In F z). d .grew .keeps z i) seen h)
 
       entered : (b : Bool) → getD F y false ≡ b → (u : Bool)
-          → ((seen : List ℕ) (F : List Bool) (s : ℕ) → length F ≡ N → All (In F) seen → tries v (inside v (λ z. thin (ways z)) k) F s (fresh seen ys) ≡ tries v (inside v ways k) F s ys)
-          → orElse (enterUnless b u (inside v (λ z. thin (ways z)) k) F s y) (λ F′ s′. tries v (inside v (λ z. thin (ways z)) k) F′ s′ (fresh (y ∷ seen) ys))
-          ≡ orElse (enterUnless b u (inside v ways k) F s y) (λ F′ s′. tries v (inside v ways k) F′ s′ ys)
+          → ((seen : List ℕ) (F : List Bool) (s : ℕ) → length F ≡ N → All (In F) seen → tries v (inside v (λ z. thin (ways z)) k) (asKept F s) (fresh seen ys) ≡ tries v (inside v ways k) (asKept F s) ys)
+          → orElse (enterUnless b u (inside v (λ z. thin (ways z)) k) (asKept F s) y) (λ kept′. tries v (inside v (λ z. thin (ways z)) k) kept′ (fresh (y ∷ seen) ys))
+          ≡ orElse (enterUnless b u (inside v ways k) (asKept F s) y) (λ kept′. tries v (inside v ways k) kept′ ys)
       entered true e u rest = rest (y ∷ seen) F s len (e, h)
       entered false e true rest = refl
       entered false e false rest =
-          ap (λ (r : Outcome). orElse r (λ F′ s′. tries v (inside v (λ z. thin (ways z)) k) F′ s′ (fresh (y ∷ seen) ys))) (ih F (suc s) y (a .0 .0) (a .0 .1) len e)
-          ∙ dying (inside v ways k F (suc s) y) (inside-post v ways ρ N falls k F (suc s) y (a .0 .0) (a .0 .1) len e) rest
+          ap (λ (r : Outcome). orElse r (λ kept′. tries v (inside v (λ z. thin (ways z)) k) kept′ (fresh (y ∷ seen) ys))) (ih F (suc s) y (a .0 .0) (a .0 .1) len e)
+          ∙ dying (inside v ways k (asKept F (suc s)) y) (inside-post v ways ρ N falls k F (suc s) y (a .0 .0) (a .0 .1) len e) rest
 
       go : (b : Bool) → has y seen ≡ b
-          → ((seen : List ℕ) (F : List Bool) (s : ℕ) → length F ≡ N → All (In F) seen → tries v (inside v (λ z. thin (ways z)) k) F s (fresh seen ys) ≡ tries v (inside v ways k) F s ys)
-          → tries v (inside v (λ z. thin (ways z)) k) F s (keepNew b y (fresh seen ys) (fresh (y ∷ seen) ys))
-          ≡ orElse (enterUnless (getD F y false) (v .spent s) (inside v ways k) F s y) (λ F′ s′. tries v (inside v ways k) F′ s′ ys)
+          → ((seen : List ℕ) (F : List Bool) (s : ℕ) → length F ≡ N → All (In F) seen → tries v (inside v (λ z. thin (ways z)) k) (asKept F s) (fresh seen ys) ≡ tries v (inside v ways k) (asKept F s) ys)
+          → tries v (inside v (λ z. thin (ways z)) k) (asKept F s) (keepNew b y (fresh seen ys) (fresh (y ∷ seen) ys))
+          ≡ orElse (enterUnless (getD F y false) (v .spent s) (inside v ways k) (asKept F s) y) (λ kept′. tries v (inside v ways k) kept′ ys)
       go true d rest = let n : In F y = has-all (In F) y seen d h in rw n (rest seen F s len h)
       go false d rest = entered (getD F y false) refl (v .spent s) rest
 
@@ -108,7 +108,7 @@ module _ (v : Halting) (ways : ℕ → Ways) (ρ : ℕ → ℕ) (N : ℕ) (falls
   inside-thin zero F s x hx lt len o = absurd (not-suc-le-zero hx)
   inside-thin (suc k) F s x hx lt len o = go (inside-thin k) (v .waits x) (ways x) refl
     where
-      go : SameAt k → (u : Bool) (w : Ways) → ways x ≡ w → insideBy v u (thin w) (inside v (λ z. thin (ways z)) k) F s x ≡ insideBy v u w (inside v ways k) F s x
+      go : SameAt k → (u : Bool) (w : Ways) → ways x ≡ w → insideBy v u (thin w) (inside v (λ z. thin (ways z)) k) (asKept F s) x ≡ insideBy v u w (inside v ways k) (asKept F s) x
       go ih true w e = refl
       go ih false accept e = refl
       go ih false (try ys) e =
@@ -123,34 +123,34 @@ module _ (v : Halting) (ways : ℕ → Ways) (ρ : ℕ → ℕ) (N : ℕ) (falls
   abbrev thinnedOne : ℕ → Kept → Attempted × Kept
   thinnedOne = walkAt v (λ z. thin (ways z)) K first
 
-  attempt-thin : (i : ℕ) (st : Kept) → i < plan .n → length (st .0) ≡ N → (thinnedOne i st ≡ one i st) × (length (one i st .1 .0) ≡ N)
-  attempt-thin i st h len = go (getD (st .0) (first i) false) refl (v .spent (st .1))
+  attempt-thin : (i : ℕ) (st : Kept) → i < plan .n → length (st .failed) ≡ N → (thinnedOne i st ≡ one i st) × (length (one i st .1 .failed) ≡ N)
+  attempt-thin i st h len = go (getD (st .failed) (first i) false) refl (v .spent (st .steps))
     where
-      after : (r : Outcome) → InsidePost ρ (st .0) (suc (st .1)) (first i) r → length (answered r .1 .0) ≡ N
-      after (found p F s) d = d .grew .len ∙ len
-      after (failed F s) d = d .grew .len ∙ len
-      after (halted w p F s) d = d .grew .len ∙ len
+      after : (r : Outcome) → InsidePost ρ (st .failed) (suc (st .steps)) (first i) r → length (answered r .1 .failed) ≡ N
+      after (found p kept) d = d .grew .len ∙ len
+      after (failed kept) d = d .grew .len ∙ len
+      after (halted w p kept) d = d .grew .len ∙ len
 
-      go : (b : Bool) → getD (st .0) (first i) false ≡ b → (u : Bool)
-          → (answered (enterUnless b u (inside v (λ z. thin (ways z)) K) (st .0) (st .1) (first i)) ≡ answered (enterUnless b u (inside v ways K) (st .0) (st .1) (first i)))
-          × (length (answered (enterUnless b u (inside v ways K) (st .0) (st .1) (first i)) .1 .0) ≡ N)
+      go : (b : Bool) → getD (st .failed) (first i) false ≡ b → (u : Bool)
+          → (answered (enterUnless b u (inside v (λ z. thin (ways z)) K) st (first i)) ≡ answered (enterUnless b u (inside v ways K) st (first i)))
+          × (length (answered (enterUnless b u (inside v ways K) st (first i)) .1 .failed) ≡ N)
       go true e u = (refl, len)
       go false e true = (refl, len)
       go false e false = (
-        ap answered (inside-thin v ways ρ N falls K (st .0) (suc (st .1)) (first i) (top (first i)) (starts i h) len e),
-        after (inside v ways K (st .0) (suc (st .1)) (first i)) (inside-post v ways ρ N falls K (st .0) (suc (st .1)) (first i) (top (first i)) (starts i h) len e),
+        ap answered (inside-thin v ways ρ N falls K (st .failed) (suc (st .steps)) (first i) (top (first i)) (starts i h) len e),
+        after (inside v ways K (oneStep st) (first i)) (inside-post v ways ρ N falls K (st .failed) (suc (st .steps)) (first i) (top (first i)) (starts i h) len e),
       )
 
-  abbrev SameOn : (ℕ → ℕ → ℕ → Kept → Swept Kept) → (ℕ → ℕ → ℕ → Kept → Swept Kept) → Type 0
-  SameOn f g = (i m l : ℕ) (st : Kept) → length (st .0) ≡ N → f i m l st ≡ g i m l st
+  abbrev SameOn : (Standing → Kept → Swept Kept) → (Standing → Kept → Swept Kept) → Type 0
+  SameOn f g = (i m l : ℕ) (st : Kept) → length (st .failed) ≡ N → f (standAt i m l) st ≡ g (standAt i m l) st
 
-  same-answer : (f g : ℕ → ℕ → ℕ → Kept → Swept Kept) → SameOn f g → (i m l : ℕ) (o : Attempted) (st : Kept) → length (st .0) ≡ N → onAnswer plan f i m l o st ≡ onAnswer plan g i m l o st
+  same-answer : (f g : Standing → Kept → Swept Kept) → SameOn f g → (i m l : ℕ) (o : Attempted) (st : Kept) → length (st .failed) ≡ N → onAnswer plan f (standAt i m l) o st ≡ onAnswer plan g (standAt i m l) o st
   same-answer f g h i m l miss st len = h (suc i) m l st len
   same-answer f g h i m l (halts w p) st len = refl
   same-answer f g h i m l (hit p) st len = go (plan .next i p) (plan .fits m l p)
     where
-      go : (o : Option ℕ) (b : Bool) → byFit b (record { start = i; path = p }) st (λ _. byNext o st (λ j. f j (suc m) (l + plan .rows p) st))
-          ≡ byFit b (record { start = i; path = p }) st (λ _. byNext o st (λ j. g j (suc m) (l + plan .rows p) st))
+      go : (o : Option ℕ) (b : Bool) → onMatch b o (record { start = i; path = p }) st (λ j. f (standAt j (suc m) (l + plan .rows p)) st)
+          ≡ onMatch b o (record { start = i; path = p }) st (λ j. g (standAt j (suc m) (l + plan .rows p)) st)
       go o false = refl
       go none true = refl
       go (some j) true = ap (withMatch (record { start = i; path = p })) (h j (suc m) (l + plan .rows p) st len)
@@ -162,11 +162,11 @@ module _ (v : Halting) (ways : ℕ → Ways) (ρ : ℕ → ℕ) (N : ℕ) (falls
   search-thin (suc k) i m l st len = go (search-thin k) (ltb i (plan .n)) refl
     where
       go : SameOn (sweep thinnedOne plan k) (sweep one plan k) → (b : Bool) → ltb i (plan .n) ≡ b
-          → below b (ended (noStart (plan .more) i) st) (λ _. onAnswer plan (sweep thinnedOne plan k) i m l (thinnedOne i st .0) (thinnedOne i st .1)) ≡ below b (ended (noStart (plan .more) i) st) (λ _. onAnswer plan (sweep one plan k) i m l (one i st .0) (one i st .1))
+          → below b (ended (noStart (plan .more) i) st) (λ _. onAnswer plan (sweep thinnedOne plan k) (standAt i m l) (thinnedOne i st .0) (thinnedOne i st .1)) ≡ below b (ended (noStart (plan .more) i) st) (λ _. onAnswer plan (sweep one plan k) (standAt i m l) (one i st .0) (one i st .1))
       go ih false e = refl
       go ih true e =
           let a = attempt-thin i st (ltb-true i (plan .n) e) len in
-          ap (λ (r : Attempted × Kept). onAnswer plan (sweep thinnedOne plan k) i m l (r .0) (r .1)) (a .0)
+          ap (λ (r : Attempted × Kept). onAnswer plan (sweep thinnedOne plan k) (standAt i m l) (r .0) (r .1)) (a .0)
           ∙ same-answer (sweep thinnedOne plan k) (sweep one plan k) ih i m l (one i st .0) (one i st .1) (a .1)
 
 -- ---- places
@@ -270,11 +270,11 @@ plan-thin pl n more skip fits =
 -- The counted walk over thinned places is the walk over the places, on any terms: the same matches,
 -- failed pairs and steps.
 module _ (t : Unrolled) (holds : ℕ → ℕ → Bool) (n : ℕ) (terms : Terms) (le : n ≤ terms .largest) (skip : Skip) (fits : ℕ → ℕ → List ℕ → Bool) where
-  pub walk-thin : walkSearch terms holds n (thinned (places t)) skip fits ≡ walkSearch terms holds n (places t) skip fits
+  pub walk-thin : walkSearch terms (seek holds n (thinned (places t)) skip fits) ≡ walkSearch terms (seek holds n (places t) skip fits)
   unfolding walkSearch
   walk-thin =
       let N : ℕ = pairs (length (places t)) (terms .largest) in
       let e : pairWays holds n (thinned (places t)) ≡ (λ x. thin (pairWays holds n (places t) x)) = λ i x. thin-pairs holds n (places t) x i in
       rw (plan-thin (places t) n (terms .more) skip fits, halting-thin terms (places t) n, e, thinned-length (places t))
       (search-thin (haltingOf terms (places t) n) (pairWays holds n (places t)) (rank t n) N (falls-in t holds n (terms .largest) le) N (top-in t holds n (terms .largest) le) (firstAt (length (places t)))
-      (planOf (places t) n (terms .more) skip fits) (λ i h. starts-in t holds n (terms .largest) le i h .0) n 0 0 0 (replicate N false, 0) (length-replicate _ _))
+      (planOf (places t) n (terms .more) skip fits) (λ i h. starts-in t holds n (terms .largest) le i h .0) n 0 0 0 (asKept (replicate N false) 0) (length-replicate _ _))

@@ -17,7 +17,7 @@ use Rattle.rules.specs.Basics.{every}
 use Rattle.rules.specs.Clause627.{emptyLate, allowed, Preferred627, sameRounds, likeClause}
 use Rattle.rules.specs.Language.{lower, upper, Rank, Tree, one, more, last, next, bare, times, letter, caret, dollar, empty, group, nullable, unbounded, deeper, loopNesting, primary}
 use Rattle.rules.specs.Preferment.{Derivation, Preferred, word, emptyEnds, emptyEndsIn, keeps}
-use Rattle.rules.specs.Readings.{Within}
+use Rattle.rules.specs.Readings.{Within, RowSets}
 use Rattle.laws.proofs.Level.{and-true, and-false, or-false}
 
 -- ---- what cannot take no row takes one
@@ -137,7 +137,7 @@ same-language empty h d = refl
 same-language (group p) h d = same-language p h d
 
 -- so the match is the same
-pub same-match : {k : Rank} {t : Tree k} {holds : ℕ → ℕ → Bool} {n i j : ℕ} {w : List ℕ} → likeClause t ≡ true → Preferred t holds n i j w ↔ Preferred627 t holds n i j w
+pub same-match : {rows : RowSets} {k : Rank} {t : Tree k} {i j : ℕ} {w : List ℕ} → likeClause t ≡ true → Preferred rows t i j w ↔ Preferred627 rows t i j w
 same-match {t} h = (
   λ x. record { derivation = x .derivation; kept = sym (same-language t h (x .derivation)) ∙ x .kept; parses = x .parses; greatest = λ e j w a r l. x .greatest e j w (same-language t h e ∙ a) r l },
   λ x. record { derivation = x .derivation; kept = same-language t h (x .derivation) ∙ x .kept; parses = x .parses; greatest = λ e j w a r l. x .greatest e j w (sym (same-language t h e) ∙ a) r l },

@@ -14,7 +14,7 @@ use lib.ListN.{length, take, drop, take-append-drop}
 use borrow.Author.Tests.{ne-eqb}
 use Rattle.rules.specs.Basics.{pick}
 use Rattle.rules.specs.Query.{cut, misplaced, unfit, textOf}
-use Rattle.rules.specs.Language.{Tree, pattern, Written, WrongAt, Begins}
+use Rattle.rules.specs.Language.{Tree, pattern, Written, WrongAt, BeginsText}
 use Rattle.rules.specs.Walk.{outOfSteps, outOfRows}
 use Rattle.rules.specs.Search.{Match, End, done, full, stuck, unfinished}
 use Rattle.rules.specs.Reader.{treeOf}
@@ -113,7 +113,7 @@ module _ (a : Option ℕ) (q : List ℕ) (rows : List ℤ) (lent : Buffers) wher
   wrong-outside : (k : ℕ) → WrongAt (textOf q) k → (p : Tree pattern) → Written p (textOf q) → ⊥
   wrong-outside k w p x =
       let e : take (k + 1) (textOf q) ++ drop (k + 1) (textOf q) ≡ textOf q = take-append-drop (k + 1) (textOf q) in
-      let b : Begins (take (k + 1) (textOf q) ++ drop (k + 1) (textOf q)) = rw e (written-begins p (textOf q) x) in
+      let b : BeginsText (take (k + 1) (textOf q) ++ drop (k + 1) (textOf q)) = rw e (written-begins p (textOf q) x) in
       w .ends (begins-front (take (k + 1) (textOf q)) (drop (k + 1) (textOf q)) b)
 
   abbrev Outside : Type 0

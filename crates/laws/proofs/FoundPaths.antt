@@ -11,7 +11,7 @@ use lib.ListN.{length}
 use Rattle.rules.specs.Basics.{Begins}
 use Rattle.rules.specs.Places.{Place}
 use Rattle.rules.specs.Walk.{pairs, firstAt, pairWays, plain, IsPath}
-use Rattle.rules.specs.Search.{Match, End, done, full, stuck, unfinished, Finished, Skip, Attempted, hit, miss, halts, Swept, Plan, planOf, ended, noStart, below, byFit, byNext, onAnswer, sweep, plainly, plainAt, plainSearch, fullOf, foundIn}
+use Rattle.rules.specs.Search.{Match, End, done, full, stuck, unfinished, Finished, Skip, Attempted, hit, miss, halts, Swept, Plan, planOf, ended, noStart, below, onAnswer, sweep, plainly, plainAt, plainSearch, fullOf, foundIn, onMatch, seek, standAt}
 use Rattle.laws.proofs.Plain.{plain-path}
 
 -- ---- what holds of each path that an attempt finds holds of each match found
@@ -37,24 +37,24 @@ module _ {S : Type 0} (att : ℕ → S → Attempted × S) (plan : Plan) (Q : Ma
   no-start true i st = none-in
   no-start false i st = none-in
 
-  pub sweep-each : (k i m l : ℕ) (st : S) → Each (sweep att plan k i m l st)
+  pub sweep-each : (k i m l : ℕ) (st : S) → Each (sweep att plan k (standAt i m l) st)
   unfolding sweep
   sweep-each zero i m l st = no-start (plan .more) i st
   sweep-each (suc k) i m l st = start (sweep-each k) (ltb i (plan .n))
     where
-      fit : ((i m l : ℕ) (st : S) → Each (sweep att plan k i m l st)) → (p : List ℕ) → Q (record { start = i; path = p }) → (su : S) (o : Option ℕ) (t : Bool)
-          → Each (byFit t (record { start = i; path = p }) su (λ _. byNext o su (λ j. sweep att plan k j (suc m) (l + plan .rows p) su)))
+      fit : ((i m l : ℕ) (st : S) → Each (sweep att plan k (standAt i m l) st)) → (p : List ℕ) → Q (record { start = i; path = p }) → (su : S) (o : Option ℕ) (t : Bool)
+          → Each (onMatch t o (record { start = i; path = p }) su (λ j. sweep att plan k (standAt j (suc m) (l + plan .rows p)) su))
       fit ih p q su o false = first-or (record { start = i; path = p }) [] q none-in
       fit ih p q su none true = first-or (record { start = i; path = p }) [] q none-in
-      fit ih p q su (some j) true = first-or (record { start = i; path = p }) (foundIn (sweep att plan k j (suc m) (l + plan .rows p) su)) q (ih j (suc m) (l + plan .rows p) su)
+      fit ih p q su (some j) true = first-or (record { start = i; path = p }) (foundIn (sweep att plan k (standAt j (suc m) (l + plan .rows p)) su)) q (ih j (suc m) (l + plan .rows p) su)
 
-      on : ((i m l : ℕ) (st : S) → Each (sweep att plan k i m l st)) → (o : Attempted) → att i st .0 ≡ o → (su : S) → Each (onAnswer plan (sweep att plan k) i m l o su)
+      on : ((i m l : ℕ) (st : S) → Each (sweep att plan k (standAt i m l) st)) → (o : Attempted) → att i st .0 ≡ o → (su : S) → Each (onAnswer plan (sweep att plan k) (standAt i m l) o su)
       on ih miss e su = ih (suc i) m l su
       on ih (halts w p) e su = none-in
       on ih (hit p) e su = fit ih p (h i st p e) su (plan .next i p) (plan .fits m l p)
 
-      start : ((i m l : ℕ) (st : S) → Each (sweep att plan k i m l st)) → (t : Bool)
-          → Each (below t (ended (noStart (plan .more) i) st) (λ _. onAnswer plan (sweep att plan k) i m l (att i st .0) (att i st .1)))
+      start : ((i m l : ℕ) (st : S) → Each (sweep att plan k (standAt i m l) st)) → (t : Bool)
+          → Each (below t (ended (noStart (plan .more) i) st) (λ _. onAnswer plan (sweep att plan k) (standAt i m l) (att i st .0) (att i st .1)))
       start ih false = no-start (plan .more) i st
       start ih true = on ih (att i st .0) refl (att i st .1)
 
@@ -68,7 +68,7 @@ module _ (holds : ℕ → ℕ → Bool) (n : ℕ) (pl : List Place) where
   some-hit none p e = let z : _≡_ {A = ℕ} 0 1 = cc in absurd (omega arith)
   some-hit (some q) p e = cc
 
-  pub plain-each : (skip : Skip) (fits : ℕ → ℕ → List ℕ → Bool) (x : Match) → List·Memᴰ x (foundIn (plainSearch holds n pl skip fits)) → Path x
+  pub plain-each : (skip : Skip) (fits : ℕ → ℕ → List ℕ → Bool) (x : Match) → List·Memᴰ x (foundIn (plainSearch (seek holds n pl skip fits))) → Path x
   unfolding plainSearch
   plain-each skip fits =
       sweep-each (plainAt (pairWays holds n pl) (pairs (length pl) n) (firstAt (length pl))) (planOf pl n false skip fits) Path

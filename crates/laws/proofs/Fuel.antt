@@ -12,8 +12,8 @@ use lib.ListN.{length, getD, replicate}
 use lib.Dec.{ltb}
 use borrow.Author.Tests.{le-ltb}
 use Rattle.rules.specs.Places.{Unrolled, Place, places}
-use Rattle.rules.specs.Search.{Match, Skip, Attempted, hit, miss, halts, Swept, Plan, ended, noStart, below, byFit, byNext, onAnswer, sweep, answered, walkAt, plainAt, labels, endOf, Terms, haltingOf, planOf, walkSearch, plainSearch}
-use Rattle.rules.specs.Walk.{IsPath, here, there, Ways, pairs, firstAt, pairWays, plain, Halting, enterUnless, inside}
+use Rattle.rules.specs.Search.{onMatch, withMatch, Match, Skip, Attempted, hit, miss, halts, Swept, Plan, ended, noStart, below, onAnswer, sweep, answered, walkAt, plainAt, labels, endOf, Terms, haltingOf, planOf, walkSearch, plainSearch, Standing, seek, standAt}
+use Rattle.rules.specs.Walk.{IsPath, here, there, Ways, pairs, firstAt, pairWays, plain, Halting, enterUnless, inside, asKept}
 use Rattle.laws.proofs.Plain.{plain-fuel}
 use Rattle.laws.proofs.Machine.{inside-fuel}
 use Rattle.laws.proofs.PatternWalk.{falls, top, falls-in, top-in}
@@ -33,28 +33,27 @@ module _ (ways : ℕ → Ways) (ρ : ℕ → ℕ) (N : ℕ) (falls : Falls ways 
 -- ---- the search
 
 module _ {S : Type 0} (att alt : ℕ → S → Attempted × S) (same : (i : ℕ) (st : S) → att i st ≡ alt i st) (plan : Plan) (on : (i : ℕ) (p : List ℕ) (j : ℕ) → plan .next i p ≡ some j → i < j) where
-  abbrev pub SameFrom : (ℕ → ℕ → ℕ → S → Swept S) → (ℕ → ℕ → ℕ → S → Swept S) → ℕ → Type 0
-  SameFrom f g i = (j m l : ℕ) (st : S) → i < j → f j m l st ≡ g j m l st
+  abbrev pub SameFrom : (Standing → S → Swept S) → (Standing → S → Swept S) → ℕ → Type 0
+  SameFrom f g i = (j m l : ℕ) (st : S) → i < j → f (standAt j m l) st ≡ g (standAt j m l) st
 
-  same-fit : (m : Match) (st : S) (f g : Unit {0} → Swept S) → f tt ≡ g tt → (t : Bool) → byFit t m st f ≡ byFit t m st g
-  same-fit m st f g e false = refl
-  same-fit m st f g e true = rw e
-
-  pub same-answer : (f g : ℕ → ℕ → ℕ → S → Swept S) (i : ℕ) → SameFrom f g i → (m l : ℕ) (o : Attempted) (st : S) → onAnswer plan f i m l o st ≡ onAnswer plan g i m l o st
+  pub same-answer : (f g : Standing → S → Swept S) (i : ℕ) → SameFrom f g i → (m l : ℕ) (o : Attempted) (st : S) → onAnswer plan f (standAt i m l) o st ≡ onAnswer plan g (standAt i m l) o st
   same-answer f g i e m l miss st = e (suc i) m l st (omega arith)
   same-answer f g i e m l (halts w p) st = refl
-  same-answer f g i e m l (hit p) st = same-fit (record { start = i; path = p }) st _ _ (go (plan .next i p) refl) (plan .fits m l p)
+  same-answer f g i e m l (hit p) st = go (plan .fits m l p) (plan .next i p) refl
     where
-      go : (o : Option ℕ) → plan .next i p ≡ o → byNext o st (λ j. f j (suc m) (l + plan .rows p) st) ≡ byNext o st (λ j. g j (suc m) (l + plan .rows p) st)
-      go none d = refl
-      go (some j) d = e j (suc m) (l + plan .rows p) st (on i p j d)
+      go : (t : Bool) (o : Option ℕ) → plan .next i p ≡ o
+          → onMatch t o (record { start = i; path = p }) st (λ j. f (standAt j (suc m) (l + plan .rows p)) st)
+          ≡ onMatch t o (record { start = i; path = p }) st (λ j. g (standAt j (suc m) (l + plan .rows p)) st)
+      go false o d = refl
+      go true none d = refl
+      go true (some j) d = ap (withMatch (record { start = i; path = p })) (e j (suc m) (l + plan .rows p) st (on i p j d))
 
   same-below : (f g : Unit {0} → Swept S) (out : Swept S) → f tt ≡ g tt → (t : Bool) → below t out f ≡ below t out g
   same-below f g out e false = refl
   same-below f g out e true = e
 
   -- attempts that are the same, with any two bounds that reach the last row
-  pub sweep-fuel : (k h i m l : ℕ) (st : S) → plan .n ≤ i + k → plan .n ≤ i + h → sweep att plan k i m l st ≡ sweep alt plan h i m l st
+  pub sweep-fuel : (k h i m l : ℕ) (st : S) → plan .n ≤ i + k → plan .n ≤ i + h → sweep att plan k (standAt i m l) st ≡ sweep alt plan h (standAt i m l) st
   unfolding sweep
   sweep-fuel zero zero i m l st a b = refl
   sweep-fuel zero (suc h) i m l st a b = rw (le-ltb i (plan .n) (omega arith))
@@ -66,7 +65,7 @@ module _ {S : Type 0} (att alt : ℕ → S → Attempted × S) (same : (i : ℕ)
 
 -- more attempts than there are rows change nothing
 pub sweep-enough : {S : Type 0} (att : ℕ → S → Attempted × S) (plan : Plan) → ((i : ℕ) (p : List ℕ) (j : ℕ) → plan .next i p ≡ some j → i < j)
-    → (k i m l : ℕ) (st : S) → plan .n ≤ k → sweep att plan k i m l st ≡ sweep att plan (plan .n) i m l st
+    → (k i m l : ℕ) (st : S) → plan .n ≤ k → sweep att plan k (standAt i m l) st ≡ sweep att plan (plan .n) (standAt i m l) st
 sweep-enough att plan on k i m l st h = sweep-fuel att att (λ i st. refl) plan on k (plan .n) i m l st (omega arith) (omega arith)
 
 -- in every skip mode the next start lies behind
@@ -83,7 +82,7 @@ module _ (t : Unrolled) (holds : ℕ → ℕ → Bool) (n : ℕ) where
   pub plain-enough : (K : ℕ) → pairs P n ≤ K → (x : ℕ) → plain (pairWays holds n (places t)) K x ≡ plain (pairWays holds n (places t)) (pairs P n) x
   plain-enough K h x = plain-fuel (pairWays holds n (places t)) (rank t n) (pairs P n) (falls t holds n) K (pairs P n) x (le-trans (top t holds n x) h) (top t holds n x)
 
-  pub inside-enough : (w : Halting) (K : ℕ) → pairs P n ≤ K → (F : List Bool) (s x : ℕ) → inside w (pairWays holds n (places t)) K F s x ≡ inside w (pairWays holds n (places t)) (pairs P n) F s x
+  pub inside-enough : (w : Halting) (K : ℕ) → pairs P n ≤ K → (F : List Bool) (s x : ℕ) → inside w (pairWays holds n (places t)) K (asKept F s) x ≡ inside w (pairWays holds n (places t)) (pairs P n) (asKept F s) x
   inside-enough w K h F s x = inside-fuel w (pairWays holds n (places t)) (rank t n) (pairs P n) (falls t holds n) K (pairs P n) x (le-trans (top t holds n x) h) (top t holds n x) F s
 
   -- no path is longer
@@ -92,20 +91,20 @@ module _ (t : Unrolled) (holds : ℕ → ℕ → Bool) (n : ℕ) where
 
   -- the whole searches, with any larger bounds
   module _ (skip : Skip) (fits : ℕ → ℕ → List ℕ → Bool) (K k : ℕ) (h : pairs P n ≤ K) (l : n ≤ k) where
-    pub plain-search-enough : sweep (plainAt (pairWays holds n (places t)) K (firstAt P)) (planOf (places t) n false skip fits) k 0 0 0 tt ≡ plainSearch holds n (places t) skip fits
+    pub plain-search-enough : sweep (plainAt (pairWays holds n (places t)) K (firstAt P)) (planOf (places t) n false skip fits) k (standAt 0 0 0) tt ≡ plainSearch (seek holds n (places t) skip fits)
     unfolding plainSearch planOf
     plain-search-enough =
         sweep-fuel (plainAt (pairWays holds n (places t)) K (firstAt P)) (plainAt (pairWays holds n (places t)) (pairs P n) (firstAt P))
         (λ i st. rw (plain-enough K h (firstAt P i))) (planOf (places t) n false skip fits) (plan-on (places t) n false skip fits) k n 0 0 0 tt (omega arith) (omega arith)
 
     pub walk-search-enough : (terms : Terms) → n ≤ terms .largest → pairs P (terms .largest) ≤ K
-        → sweep (walkAt (haltingOf terms (places t) n) (pairWays holds n (places t)) K (firstAt P)) (planOf (places t) n (terms .more) skip fits) k 0 0 0 (replicate (pairs P (terms .largest)) false, 0)
-        ≡ walkSearch terms holds n (places t) skip fits
+        → sweep (walkAt (haltingOf terms (places t) n) (pairWays holds n (places t)) K (firstAt P)) (planOf (places t) n (terms .more) skip fits) k (standAt 0 0 0) (asKept (replicate (pairs P (terms .largest)) false) 0)
+        ≡ walkSearch terms (seek holds n (places t) skip fits)
     unfolding walkSearch planOf
     walk-search-enough terms le h′ =
         sweep-fuel (walkAt w ways K (firstAt P)) (walkAt w ways N (firstAt P))
-        (λ i st. ap answered (go i (st .0) (st .1) (getD (st .0) (firstAt P i) false) (w .spent (st .1)))) (planOf (places t) n (terms .more) skip fits)
-        (plan-on (places t) n (terms .more) skip fits) k n 0 0 0 (replicate N false, 0) (omega arith) (omega arith)
+        (λ i st. ap answered (go i (st .failed) (st .steps) (getD (st .failed) (firstAt P i) false) (w .spent (st .steps)))) (planOf (places t) n (terms .more) skip fits)
+        (plan-on (places t) n (terms .more) skip fits) k n 0 0 0 (asKept (replicate N false) 0) (omega arith) (omega arith)
       where
         N : ℕ
         N = pairs P (terms .largest)
@@ -116,7 +115,7 @@ module _ (t : Unrolled) (holds : ℕ → ℕ → Bool) (n : ℕ) where
         ways : ℕ → Ways
         ways = pairWays holds n (places t)
 
-        go : (i : ℕ) (F : List Bool) (s : ℕ) (b u : Bool) → enterUnless b u (inside w ways K) F s (firstAt P i) ≡ enterUnless b u (inside w ways N) F s (firstAt P i)
+        go : (i : ℕ) (F : List Bool) (s : ℕ) (b u : Bool) → enterUnless b u (inside w ways K) (asKept F s) (firstAt P i) ≡ enterUnless b u (inside w ways N) (asKept F s) (firstAt P i)
         go i F s true u = refl
         go i F s false true = refl
         go i F s false false =

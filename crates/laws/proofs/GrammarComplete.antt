@@ -14,7 +14,7 @@ use lib.ListN.{length}
 use borrow.Author.Tests.{ltb-true, ltb-false, le-leb, eq-eqb, ne-eqb}
 use Rattle.rules.specs.Basics.{pick, isLetter}
 use Rattle.rules.specs.Language.{Form, star, plus, opt, exactly, atLeast, atMost, between, InBounds, Rank, pattern, branch, factor, primary, Tree, one, more, last, next, bare, times, letter, caret, dollar, empty, group, Token, aLetter, aCaret, aDollar, opening, closing, aBar, aMark, tokens, digits, mark, spell, Proper, lettered, letterFirst, spaces, Laid, Written}
-use Rattle.rules.specs.Reader.{Reading, got, peek, rest, skip, isDigit, number, enough, reaching, bounded, marked, reluctant, shut, upTo, from, braces, quantifier, ended, under, altOn, altWith, seqOn, seqWith, timesOn, timesWith, closed, parted, simple, primaryOn, read, rankOf, depth, whole, treeOf}
+use Rattle.rules.specs.Reader.{Reading, got, peek, rest, skipSpaces, isDigit, number, boundReached, reaching, bounded, marked, reluctant, shut, upTo, from, braces, quantifier, branchEnds, under, altOn, altWith, seqOn, seqWith, timesOn, timesWith, closed, parted, simple, primaryOn, read, rankOf, depth, wholeTree, treeOf}
 use Rattle.laws.proofs.GrammarSound.{range-in, letter-in}
 
 -- ---- what may follow: a phrase of a rank is followed by the end, or by a token of at least that
@@ -41,8 +41,8 @@ record Facts (c b : ℕ) : Type 0 where
   mark-3 : 1 ≤ c → b ≡ 63 → ⊥
   mark-4 : 1 ≤ c → b ≡ 123 → ⊥
   part : 3 ≤ c → b ≡ 124 → ⊥
-  stop : 2 ≤ c → ended b ≡ true
-  going : c ≡ 1 → ended b ≡ false
+  stop : 2 ≤ c → branchEnds b ≡ true
+  going : c ≡ 1 → branchEnds b ≡ false
 
 at-mark : (b : ℕ) → (b ≡ 32 → ⊥) → Facts 0 b
 at-mark b h =
@@ -57,7 +57,7 @@ at-mark b h =
       going = λ c. absurd (omega arith);
     }
 
-at-start : (b : ℕ) → (b ≡ 32 → ⊥) → (b ≡ 42 → ⊥) → (b ≡ 43 → ⊥) → (b ≡ 63 → ⊥) → (b ≡ 123 → ⊥) → ended b ≡ false → Facts 1 b
+at-start : (b : ℕ) → (b ≡ 32 → ⊥) → (b ≡ 42 → ⊥) → (b ≡ 43 → ⊥) → (b ≡ 63 → ⊥) → (b ≡ 123 → ⊥) → branchEnds b ≡ false → Facts 1 b
 at-start b h1 h2 h3 h4 h5 e =
     record {
       space = h1;
@@ -70,8 +70,8 @@ at-start b h1 h2 h3 h4 h5 e =
       going = λ c. e;
     }
 
-letter-goes : (b : ℕ) → 65 ≤ b → b ≤ 90 → ended b ≡ false
-unfolding ended
+letter-goes : (b : ℕ) → 65 ≤ b → b ≤ 90 → branchEnds b ≡ false
+unfolding branchEnds
 letter-goes b l h = simp (ne-eqb b 0 (λ e. omega arith), ne-eqb b 124 (λ e. omega arith), ne-eqb b 41 (λ e. omega arith))
 
 mark-facts : (f : Form) (u : List ℕ) → Facts 0 (peek (mark f u))
@@ -85,7 +85,7 @@ mark-facts (atMost m) u = at-mark 123 (λ e. omega arith)
 mark-facts (between n m) u = at-mark 123 (λ e. omega arith)
 
 token-facts : (t : Token) (u : List ℕ) → Proper t → Facts (class t) (peek (spell t u))
-unfolding class peek spell Proper ended
+unfolding class peek spell Proper branchEnds
 token-facts (aLetter b) u p =
     let l = p .0 in
     let h = p .1 in
@@ -119,7 +119,7 @@ token-facts (aMark f true) u p = mark-facts f (63 ∷ u)
 token-facts (aMark f false) u p = mark-facts f u
 
 facts : (ts : List Token) (r : List ℕ) → Laid ts r → Facts (classes ts) (peek r)
-unfolding Laid classes peek ended
+unfolding Laid classes peek branchEnds
 facts [] r h =
     rw h (record {
       space = λ e. omega arith;
@@ -150,8 +150,8 @@ starts (group p) ts = refl
 
 -- ---- spaces
 
-skip-spaces : (n : ℕ) (r : List ℕ) → (peek r ≡ 32 → ⊥) → skip (spaces n r) ≡ r
-unfolding spaces skip peek
+skip-spaces : (n : ℕ) (r : List ℕ) → (peek r ≡ 32 → ⊥) → skipSpaces (spaces n r) ≡ r
+unfolding spaces skipSpaces peek
 skip-spaces zero [] h = refl
 skip-spaces zero (b ∷ r) h = simp (ne-eqb b 32 h)
 skip-spaces (suc n) r h = skip-spaces n r h
@@ -222,7 +222,7 @@ first-digit m s l h = go (ltb m 10) refl
     go false e = let k = ltb-false m 10 e in (omega arith, omega arith, omega arith)
 
 reaching-finds : (n m c : ℕ) (s : List ℕ) → 1 ≤ m → n ≤ m → m ≤ 99 → isDigit c ≡ false → reaching n (digits m (c ∷ s)) ≡ got m (c ∷ s)
-unfolding reaching enough
+unfolding reaching boundReached
 reaching-finds n m c s l r h d =
     let f = first-digit m (c ∷ s) l h in
     let a : leb n (10 * (peek (digits m (c ∷ s)) - 48) + 9) ≡ true = le-leb n (10 * (peek (digits m (c ∷ s)) - 48) + 9) (omega (arith, f .2)) in
@@ -297,10 +297,10 @@ find-one m s ts b c h =
     }
 
 -- behind a token of one byte: the spaces are skipped
-after : (ts : List Token) (b n : ℕ) (u v : List ℕ) → u ≡ b ∷ spaces n v → Laid ts v → (skip (rest u) ≡ v) × (length v < length u) × (peek u ≡ b)
+after : (ts : List Token) (b n : ℕ) (u v : List ℕ) → u ≡ b ∷ spaces n v → Laid ts v → (skipSpaces (rest u) ≡ v) × (length v < length u) × (peek u ≡ b)
 unfolding rest peek
 after ts b n u v q h = (
-  ap (λ (x : List ℕ). skip (rest x)) q ∙ skip-spaces n v ((facts ts v h) .space),
+  ap (λ (x : List ℕ). skipSpaces (rest x)) q ∙ skip-spaces n v ((facts ts v h) .space),
   (let l : length u ≡ suc (length (spaces n v)) = ap length q in omega (arith, spaces-length n v)),
   ap peek q,
 )
@@ -453,8 +453,8 @@ find-group m s ts p h f =
     let b = after ts 41 (l .0) (g .left) (l .1) (l .2) (l .5) in
     record { left = l .1; is = simp (a .2, a .0, n, g .is, b .2, b .0); laid = l .5; less = omega (arith, a .1, g .less, b .1) }
   where
-    not-shut : (b : ℕ) → ended b ≡ false → eqb b 41 ≡ false
-    not-shut b e = ne-eqb b 41 (λ q. true≢false (sym (ap ended q) ∙ e))
+    not-shut : (b : ℕ) → branchEnds b ≡ false → eqb b 41 ≡ false
+    not-shut b e = ne-eqb b 41 (λ q. true≢false (sym (ap branchEnds q) ∙ e))
 
 at-suc : (P : ℕ → Type 0) (k : ℕ) → ((m : ℕ) → k ≤ m → P (suc m)) → (n : ℕ) → k + 1 ≤ n → P n
 at-suc P k f zero h = absurd (omega arith)
@@ -485,13 +485,13 @@ finds (group p) ts s m c l = at-suc (λ m. Found primary (group p) ts s (read m 
 -- ---- whole texts
 
 pub written-found : (p : Tree pattern) (s : List ℕ) → Written p s → treeOf s ≡ some p
-unfolding treeOf Laid classes rankOf depth whole
+unfolding treeOf Laid classes rankOf depth wholeTree
 written-found p s w =
     let k = facts (tokens p []) (w .rest) (w .laid) in
-    let e : skip s ≡ w .rest = ap skip (w .is) ∙ skip-spaces (w .front) (w .rest) (k .space) in
+    let e : skipSpaces s ≡ w .rest = ap skipSpaces (w .is) ∙ skip-spaces (w .front) (w .rest) (k .space) in
     let l : length s ≡ w .front + length (w .rest) = ap length (w .is) ∙ spaces-length (w .front) (w .rest) in
     let f = finds p [] (w .rest) (4 * length s + 4) (omega arith) (w .laid) (omega arith) in
     rw e (rw (f .is) (ended-there (f .left) (f .laid)))
   where
-    ended-there : (u : List ℕ) → u ≡ [] → whole (got p u) ≡ some p
+    ended-there : (u : List ℕ) → u ≡ [] → wholeTree (got p u) ≡ some p
     ended-there u q = rw q refl

@@ -13,8 +13,8 @@ use lib.Dec.{eqb, leb, ltb}
 use lib.ListN.{length}
 use borrow.Author.Tests.{eqb-true, eqb-false, ne-eqb, leb-true, le-leb, lt-ltb, le-ltb}
 use Rattle.rules.specs.Basics.{pick, inRange, isLetter}
-use Rattle.rules.specs.Language.{Form, star, plus, opt, exactly, atLeast, atMost, between, InBounds, Rank, pattern, branch, factor, primary, Tree, one, more, last, next, bare, times, letter, caret, group, Token, aLetter, aCaret, aDollar, opening, closing, aBar, aMark, tokens, digits, mark, spell, Proper, lettered, letterFirst, spaces, Laid, Written, Begins}
-use Rattle.rules.specs.Reader.{Reading, got, bad, left, peek, rest, skip, isDigit, number, enough, reaching, bounded, Marked, unmarked, broken, marked, reluctant, shut, upTo, from, braces, quantifier, ended, under, altOn, altWith, seqOn, seqWith, timesOn, timesWith, closed, parted, simple, primaryOn, read, whole, treeOf}
+use Rattle.rules.specs.Language.{Form, star, plus, opt, exactly, atLeast, atMost, between, InBounds, Rank, pattern, branch, factor, primary, Tree, one, more, last, next, bare, times, letter, caret, group, Token, aLetter, aCaret, aDollar, opening, closing, aBar, aMark, tokens, digits, mark, spell, Proper, lettered, letterFirst, spaces, Laid, Written, BeginsText}
+use Rattle.rules.specs.Reader.{Reading, got, bad, left, peek, rest, skipSpaces, isDigit, number, boundReached, reaching, bounded, Marked, unmarked, broken, marked, reluctant, shut, upTo, from, braces, quantifier, branchEnds, under, altOn, altWith, seqOn, seqWith, timesOn, timesWith, closed, parted, simple, primaryOn, read, wholeTree, treeOf}
 
 -- ---- tests and bytes
 
@@ -52,12 +52,12 @@ unfolding peek rest
 peeked [] b h e = absurd (omega arith)
 peeked (c ∷ s) b h e = ap (λ (x : ℕ). x ∷ s) e
 
-pub skipped : (s : List ℕ) → (n : ℕ) × (s ≡ spaces n (skip s))
-unfolding skip spaces
+pub skipped : (s : List ℕ) → (n : ℕ) × (s ≡ spaces n (skipSpaces s))
+unfolding skipSpaces spaces
 skipped [] = (0, refl)
 skipped (b ∷ s) = go (eqb b 32) refl (skipped s)
   where
-    go : (t : Bool) → eqb b 32 ≡ t → (n : ℕ) × (s ≡ spaces n (skip s)) → (n : ℕ) × (b ∷ s ≡ spaces n (pick t (skip s) (b ∷ s)))
+    go : (t : Bool) → eqb b 32 ≡ t → (n : ℕ) × (s ≡ spaces n (skipSpaces s)) → (n : ℕ) × (b ∷ s ≡ spaces n (pick t (skipSpaces s) (b ∷ s)))
     go true e h = (suc (h .0), ap (λ (x : ℕ). x ∷ s) (eqb-true _ _ e) ∙ ap (λ (x : List ℕ). 32 ∷ x) (h .1))
     go false e h = (0, refl)
 
@@ -152,22 +152,22 @@ spelled-leads t n s u l p e =
       laid = λ ts r k h. (n, r, spell-front t n r, p, (λ i j. absurd (true≢false (sym i ∙ l))), k);
     }
 
-token-leads : (t : Token) (s w : List ℕ) → lettered t ≡ false → Proper t → s ≡ spell t w → Leads s (skip w) (λ ts. t ∷ ts)
-token-leads t s w l p e = let k = skipped w in spelled-leads t (k .0) s (skip w) l p (e ∙ ap (spell t) (k .1))
+token-leads : (t : Token) (s w : List ℕ) → lettered t ≡ false → Proper t → s ≡ spell t w → Leads s (skipSpaces w) (λ ts. t ∷ ts)
+token-leads t s w l p e = let k = skipped w in spelled-leads t (k .0) s (skipSpaces w) l p (e ∙ ap (spell t) (k .1))
 
 -- a letter that no letter follows, and spaces
-letter-leads : (b : ℕ) (s w : List ℕ) → 65 ≤ b → b ≤ 90 → isLetter (peek w) ≡ false → s ≡ b ∷ w → Leads s (skip w) (λ ts. aLetter b ∷ ts)
+letter-leads : (b : ℕ) (s w : List ℕ) → 65 ≤ b → b ≤ 90 → isLetter (peek w) ≡ false → s ≡ b ∷ w → Leads s (skipSpaces w) (λ ts. aLetter b ∷ ts)
 unfolding Laid letterFirst spell peek spaces
 letter-leads b s w l g i e =
     let k = skipped w in
     record {
       front = b ∷ spaces (k .0) [];
-      is = e ∙ ap (λ (x : List ℕ). b ∷ x) (k .1 ∙ sym (spaces-front (k .0) (skip w)));
+      is = e ∙ ap (λ (x : List ℕ). b ∷ x) (k .1 ∙ sym (spaces-front (k .0) (skipSpaces w)));
       first = λ ts z. rw e (letter-in b l g);
       laid = λ ts r m h. (k .0, r, ap (λ (x : List ℕ). b ∷ x) (spaces-front (k .0) r), (l, g), (λ x y. gap (k .0) (k .1) (h y)), m);
     }
   where
-    gap : (n : ℕ) → w ≡ spaces n (skip w) → isLetter (peek (skip w)) ≡ true → 1 ≤ n
+    gap : (n : ℕ) → w ≡ spaces n (skipSpaces w) → isLetter (peek (skipSpaces w)) ≡ true → 1 ≤ n
     gap zero q y = absurd (true≢false (sym y ∙ ap (λ (x : List ℕ). isLetter (peek x)) (sym q) ∙ i))
     gap (suc n) q y = omega arith
 
@@ -282,14 +282,14 @@ number-begun s l h = simp (range-in 48 57 (peek s) (omega arith) h, ne-eqb (peek
 
 -- an upper bound
 reaching-good : (n : ℕ) (s : List ℕ) → n ≤ 99 → GoodN (max 1 n) s (reaching n s)
-unfolding reaching GoodN enough digits
+unfolding reaching GoodN boundReached digits
 reaching-good n s small =
     pick-both (GoodN (max 1 n) s) (inRange 49 57 (peek s)) _ _
     (λ d. let k = in-range 49 57 (peek s) d in let q = peeked s (peek s) (omega arith) refl in
     pick-both (GoodN (max 1 n) s) (leb n (10 * (peek s - 48) + 9)) _ _
     (λ e. let l = leb-true n (10 * (peek s - 48) + 9) e in
-    subst (λ (r : Reading ℕ). GoodN (max 1 n) s (enough n (rest s) r)) (sym (number-begun s (k .0) (k .1)))
-    (pick-both (λ (r : Reading ℕ). GoodN (max 1 n) s (enough n (rest s) r)) (isDigit (peek (rest s))) _ _
+    subst (λ (r : Reading ℕ). GoodN (max 1 n) s (boundReached n (rest s) r)) (sym (number-begun s (k .0) (k .1)))
+    (pick-both (λ (r : Reading ℕ). GoodN (max 1 n) s (boundReached n (rest s) r)) (isDigit (peek (rest s))) _ _
     (λ f. let m = in-digits (peek (rest s)) f in let p = peeked (rest s) (peek (rest s)) (omega arith) refl in
     pick-both (GoodN (max 1 n) s) (leb n (10 * (peek s - 48) + (peek (rest s) - 48))) _ _
     (λ g. let w = leb-true n (10 * (peek s - 48) + (peek (rest s) - 48)) g in
@@ -441,18 +441,18 @@ unfolding altWith Good under tokens spell Proper lettered altOn
 alt-good again s (bad v) f h = (one (h .0), h .1)
 alt-good again s (got b u) f h = on (eqb (peek u) 124) refl
   where
-    second : Leads u (skip (rest u)) (λ ts. aBar ∷ ts) → (r : Reading (Tree pattern)) → Good (skip (rest u)) r → Good s (under (more b) r)
-    second q (bad v) g = (more b (g .0), then-ends s u v (tokens b) _ h (then-ends u (skip (rest u)) v (λ ts. aBar ∷ ts) (tokens (g .0)) q (g .1)))
-    second q (got p v) g = then-leads s u v (tokens b) _ h (then-leads u (skip (rest u)) v (λ ts. aBar ∷ ts) (tokens p) q g)
+    second : Leads u (skipSpaces (rest u)) (λ ts. aBar ∷ ts) → (r : Reading (Tree pattern)) → Good (skipSpaces (rest u)) r → Good s (under (more b) r)
+    second q (bad v) g = (more b (g .0), then-ends s u v (tokens b) _ h (then-ends u (skipSpaces (rest u)) v (λ ts. aBar ∷ ts) (tokens (g .0)) q (g .1)))
+    second q (got p v) g = then-leads s u v (tokens b) _ h (then-leads u (skipSpaces (rest u)) v (λ ts. aBar ∷ ts) (tokens p) q g)
 
     on : (t : Bool) → eqb (peek u) 124 ≡ t → Good s (altOn t again b u)
-    on true e = second (token-leads aBar u (rest u) refl tt (peeked u 124 (omega arith) (eqb-true _ _ e))) (again (skip (rest u))) (f (skip (rest u)))
+    on true e = second (token-leads aBar u (rest u) refl tt (peeked u 124 (omega arith) (eqb-true _ _ e))) (again (skipSpaces (rest u))) (f (skipSpaces (rest u)))
     on false e = h
 
 seq-good : (again : List ℕ → Reading (Tree branch)) (s : List ℕ) (r : Reading (Tree factor)) → ((u : List ℕ) → Good u (again u)) → Good s r → Good s (seqWith again r)
 unfolding seqWith Good under tokens seqOn
 seq-good again s (bad v) f h = (last (h .0), h .1)
-seq-good again s (got b u) f h = on (ended (peek u))
+seq-good again s (got b u) f h = on (branchEnds (peek u))
   where
     second : (r : Reading (Tree branch)) → Good u r → Good s (under (next b) r)
     second (bad v) g = (next b (g .0), then-ends s u v (tokens b) (tokens (g .0)) h (g .1))
@@ -472,24 +472,24 @@ times-good s (got x u) h = on (quantifier u) (quantifier-good u)
     on (broken v) g = (times x (g .0) false, then-ends s u v (tokens x) (λ ts. aMark (g .0) false ∷ ts) h (g .1))
     on (marked f z r) g = then-leads s u r (tokens x) (λ ts. aMark f z ∷ ts) h (spelled-leads (aMark f z) (g .0) u r refl (g .1) (g .2))
 
-closed-good : (s u : List ℕ) (r : Reading (Tree pattern)) → Leads s (skip u) (λ ts. opening ∷ ts) → Good (skip u) r → Good s (closed r)
+closed-good : (s u : List ℕ) (r : Reading (Tree pattern)) → Leads s (skipSpaces u) (λ ts. opening ∷ ts) → Good (skipSpaces u) r → Good s (closed r)
 unfolding closed Good tokens lettered Proper spell
 closed-good s u (bad v) a h =
-    (group (h .0), then-ends s (skip u) v (λ ts. opening ∷ ts) _ a (then-closing (skip u) v (tokens (h .0)) (h .1)))
+    (group (h .0), then-ends s (skipSpaces u) v (λ ts. opening ∷ ts) _ a (then-closing (skipSpaces u) v (tokens (h .0)) (h .1)))
 closed-good s u (got p v) a h =
     pick-both (Good s) (eqb (peek v) 41) _ _
-    (λ z. then-leads s (skip u) (skip (rest v)) (λ ts. opening ∷ ts) _ a
-    (then-leads (skip u) v (skip (rest v)) (tokens p) (λ ts. closing ∷ ts) h
+    (λ z. then-leads s (skipSpaces u) (skipSpaces (rest v)) (λ ts. opening ∷ ts) _ a
+    (then-leads (skipSpaces u) v (skipSpaces (rest v)) (tokens p) (λ ts. closing ∷ ts) h
     (token-leads closing v (rest v) refl tt (peeked v 41 (omega arith) (eqb-true _ _ z)))))
-    (λ z. (group p, then-ends s (skip u) v (λ ts. opening ∷ ts) _ a (then-ends (skip u) v v (tokens p) (λ ts. closing ∷ ts) h (closing-ends v))))
+    (λ z. (group p, then-ends s (skipSpaces u) v (λ ts. opening ∷ ts) _ a (then-ends (skipSpaces u) v v (tokens p) (λ ts. closing ∷ ts) h (closing-ends v))))
 
 parted-good : (again : List ℕ → Reading (Tree pattern)) (s u : List ℕ) → ((v : List ℕ) → Good v (again v)) → s ≡ 40 ∷ u
-    → (t : Bool) → eqb (peek (skip u)) 41 ≡ t → Good s (parted t again (skip u))
+    → (t : Bool) → eqb (peek (skipSpaces u)) 41 ≡ t → Good s (parted t again (skipSpaces u))
 unfolding parted Good tokens lettered Proper spell
 parted-good again s u f e true z =
-    then-leads s (skip u) (skip (rest (skip u))) (λ ts. opening ∷ ts) (λ ts. closing ∷ ts) (token-leads opening s u refl tt e)
-    (token-leads closing (skip u) (rest (skip u)) refl tt (peeked (skip u) 41 (omega arith) (eqb-true _ _ z)))
-parted-good again s u f e false z = closed-good s u (again (skip u)) (token-leads opening s u refl tt e) (f (skip u))
+    then-leads s (skipSpaces u) (skipSpaces (rest (skipSpaces u))) (λ ts. opening ∷ ts) (λ ts. closing ∷ ts) (token-leads opening s u refl tt e)
+    (token-leads closing (skipSpaces u) (rest (skipSpaces u)) refl tt (peeked (skipSpaces u) 41 (omega arith) (eqb-true _ _ z)))
+parted-good again s u f e false z = closed-good s u (again (skipSpaces u)) (token-leads opening s u refl tt e) (f (skipSpaces u))
 
 simple-good : (s : List ℕ) → Good s (simple s)
 unfolding simple Good tokens lettered Proper spell
@@ -504,7 +504,7 @@ simple-good s =
 
 primary-good : (again : List ℕ → Reading (Tree pattern)) (s : List ℕ) → ((v : List ℕ) → Good v (again v)) → (t : Bool) → eqb (peek s) 40 ≡ t → Good s (primaryOn t again s)
 unfolding primaryOn
-primary-good again s f true e = parted-good again s (rest s) f (peeked s 40 (omega arith) (eqb-true _ _ e)) (eqb (peek (skip (rest s))) 41) refl
+primary-good again s f true e = parted-good again s (rest s) f (peeked s 40 (omega arith) (eqb-true _ _ e)) (eqb (peek (skipSpaces (rest s))) 41) refl
 primary-good again s f false e = simple-good s
 
 -- `^` as a tree of any rank
@@ -525,27 +525,27 @@ read-good (suc n) primary s = primary-good (read n pattern) s (read-good n patte
 
 -- a whole text
 pub found-written : (p : Tree pattern) (s : List ℕ) → treeOf s ≡ some p → Written p s
-unfolding treeOf Good whole Laid letterFirst
-found-written p s e = go (read (4 * length s + 4) pattern (skip s)) (read-good (4 * length s + 4) pattern (skip s)) e
+unfolding treeOf Good wholeTree Laid letterFirst
+found-written p s e = go (read (4 * length s + 4) pattern (skipSpaces s)) (read-good (4 * length s + 4) pattern (skipSpaces s)) e
   where
-    go : (r : Reading (Tree pattern)) → Good (skip s) r → whole r ≡ some p → Written p s
+    go : (r : Reading (Tree pattern)) → Good (skipSpaces s) r → wholeTree r ≡ some p → Written p s
     go (bad v) h q = let z : _≡_ {A = ℕ} 0 1 = cc in absurd (omega arith)
     go (got x []) h q =
         let k = skipped s in let i : x ≡ p = cc in
-        let l : Laid (tokens x []) (skip s) = subst (Laid (tokens x [])) (sym (h .is)) (h .laid [] [] refl (λ z. absurd (false≢true z))) in
-        record { front = k .0; rest = skip s; is = k .1; laid = subst (λ (y : Tree pattern). Laid (tokens y []) (skip s)) i l }
+        let l : Laid (tokens x []) (skipSpaces s) = subst (Laid (tokens x [])) (sym (h .is)) (h .laid [] [] refl (λ z. absurd (false≢true z))) in
+        record { front = k .0; rest = skipSpaces s; is = k .1; laid = subst (λ (y : Tree pattern). Laid (tokens y []) (skipSpaces s)) i l }
     go (got x (b ∷ u)) h q = let z : _≡_ {A = ℕ} 0 1 = cc in absurd (omega arith)
 
 -- what is read of a text, at any depth, begins a text of the language
-pub read-begins : (n : ℕ) (s : List ℕ) → (w : List ℕ) × (s ≡ w ++ left (read n pattern (skip s))) × Begins w
-unfolding Begins spaces Good left Laid letterFirst
-read-begins n s = go (read n pattern (skip s)) (read-good n pattern (skip s))
+pub read-begins : (n : ℕ) (s : List ℕ) → (w : List ℕ) × (s ≡ w ++ left (read n pattern (skipSpaces s))) × BeginsText w
+unfolding BeginsText spaces Good left Laid letterFirst
+read-begins n s = go (read n pattern (skipSpaces s)) (read-good n pattern (skipSpaces s))
   where
     begun : (m : ℕ) (w v : List ℕ) → spaces m w ++ v ≡ spaces m (w ++ v)
     begun zero w v = refl
     begun (suc m) w v = ap (λ (x : List ℕ). 32 ∷ x) (begun m w v)
 
-    go : (r : Reading (Tree pattern)) → Good (skip s) r → (w : List ℕ) × (s ≡ w ++ left r) × Begins w
+    go : (r : Reading (Tree pattern)) → Good (skipSpaces s) r → (w : List ℕ) × (s ≡ w ++ left r) × BeginsText w
     go (bad u) h =
         let k = skipped s in let a = h .1 in (
           spaces (k .0) (a .front),

@@ -17,6 +17,7 @@ use lib.Dec.{ltb, eqb}
 use borrow.Author.Tests.{ltb-true, eqb-true, lt-ltb, eq-eqb}
 use Rattle.rules.specs.Language.{lower, upper, Rank, pattern, branch, factor, primary, Tree, one, more, last, next, bare, times, letter, caret, dollar, empty, group}
 use Rattle.rules.specs.Places.{UnrolledAt, forked, unrolled, unroll, repeated, size, startOf, code, Place, pLetter, pCaret, pDollar, places, fork, skips, nest, full, stateAt, startsOf, Flagged, flaggedPlaces, spread}
+use Rattle.rules.specs.Readings.{rowSets}
 use Rattle.rules.specs.Preferment.{Derivation, Parses, Prefers, NoneParses, Preferred, InTurn, word, emptyEndsIn, keeps, RoundByRound, FirstBranch, Lexicographic}
 use Rattle.rules.specs.Search.{plainFrom, labels, lastOf, endOf}
 use Rattle.rules.specs.Walk.{Ways, pairs, pairAt, positionOf, waysAt, pairWays, plain, plainBy, firstAt, firstOf}
@@ -56,7 +57,7 @@ module _ (F : ℕ) (Q : List Flagged) (holds : ℕ → ℕ → Bool) (n : ℕ) (
   finds-forked R L T (more b p) x = rw (forked-more b p) (finds-alt F Q holds n f down R L T (unrolled (more b p)) x)
 
   abbrev Kept : {k : Rank} → (t : Tree k) → Reading (Derivation t)
-  Kept t = KeptParses t holds n
+  Kept t = KeptParses (rowSets n holds) t
 
   taking : {k : Rank} (t : Tree k) → Taking (Kept t) (word t)
   taking t e i j w r = parses-word holds n t e i j w (r .1) .rows
@@ -110,8 +111,8 @@ module _ (F : ℕ) (Q : List Flagged) (holds : ℕ → ℕ → Bool) (n : ℕ) (
       (λ e g. RoundByRound z (Prefers x) (e .0) (g .0)) (Kept (times x q z)) (Prefers (times x q z))
       (λ e j p. CopyRuns (Runs x F S) (size (unrolled x)) (BehindRuns (Runs x F S) F S (skips (unrolled x)) (size (unrolled x)) (upper q) (lower q)) (lower q) d b i φ (e .0) j p) (λ e. e) i
       (λ e j w r. let g = and-true (emptyEndsIn (upper q) (word x) (lower q) (e .0)) (every (λ y. keeps x y) (e .0)) (r .0) in
-      (g .0, kept-rounds (λ y. keeps x y) (Parses x holds n) (e .0) i j w (g .1) (r .1)))
-      (λ e j w r. let g = rounds-kept (λ y. keeps x y) (Parses x holds n) (e .0) i j w (r .1) in (e, (rw (r .0) (g .0), g .1), refl)) (λ e g l. l)
+      (g .0, kept-rounds (λ y. keeps x y) (Parses (rowSets n holds) x) (e .0) i j w (g .1) (r .1)))
+      (λ e j w r. let g = rounds-kept (λ y. keeps x y) (Parses (rowSets n holds) x) (e .0) i j w (r .1) in (e, (rw (r .0) (g .0), g .1), refl)) (λ e g l. l)
       (f (pairAt S i (startOf F (unrolled (times x q z)) b k φ)))
       (finds-rounds F Q holds n f down (Kept x) (Prefers x) (Runs x F S) z (unrolled x) (word x) (taking x) (moves x) (finds x (o .1)) (lower q) (upper q) (in-order q (o .0)) d b k a hb hf i φ v)
   finds (letter c) o = λ d b k a hb hf i φ v.
@@ -137,11 +138,11 @@ module _ (F : ℕ) (Q : List Flagged) (holds : ℕ → ℕ → Bool) (n : ℕ) (
 
 -- a path found is that of the greatest derivation, with its end and its labels
 pub record Found (p : Tree pattern) (holds : ℕ → ℕ → Bool) (n i : ℕ) (path : List ℕ) : Type 0 where
-  pub best : Preferred p holds n i (endOf (length (places (unroll p))) path) (labels (places (unroll p)) path)
+  pub best : Preferred (rowSets n holds) p i (endOf (length (places (unroll p))) path) (labels (places (unroll p)) path)
   pub goes : PathOf p (best .derivation) i (endOf (length (places (unroll p))) path) path
 
 abbrev pub Answers : (p : Tree pattern) → (ℕ → ℕ → Bool) → ℕ → ℕ → Option (List ℕ) → Type 0
-Answers p holds n i none = NoneParses p holds n i
+Answers p holds n i none = NoneParses (rowSets n holds) p i
 Answers p holds n i (some path) = Found p holds n i path
 
 last-of : (a x : ℕ) (xs : List ℕ) → lastOf a (xs ++ (x ∷ [])) ≡ x
@@ -169,7 +170,7 @@ module _ (p : Tree pattern) (o : Bounds p) (holds : ℕ → ℕ → Bool) (n : �
 
   -- what is found behind the whole pattern, at END
   abbrev AtEnd : ℕ → Option (List ℕ) → Type 0
-  AtEnd i r = Post pl (λ j. f (end j)) (KeptParses p holds n) (Prefers p) (ForkRuns (Runs p F (length pl)) F (length pl) (fork p) 0 0 i 0) i r
+  AtEnd i r = Post pl (λ j. f (end j)) (KeptParses (rowSets n holds) p) (Prefers p) (ForkRuns (Runs p F (length pl)) F (length pl) (fork p) 0 0 i 0) i r
 
   answer : (i : ℕ) (r : Option (List ℕ)) → AtEnd i r → Answers p holds n i r
   answer i none c = λ e j w r.
@@ -203,10 +204,10 @@ module _ (p : Tree pattern) (o : Bounds p) (holds : ℕ → ℕ → Bool) (n : �
       let e : 0 + nest (unroll p) ≡ nest (unroll p) = omega arith in
       let hf : 2 ^ (0 + nest (unroll p)) ≤ F = rw e (omega arith) in
       let found : AtEnd i (f (pairAt (length pl) i (startOf F (unroll p) 0 (stateAt F (size (unroll p))) 0))) =
-      post-behind pl (λ j. f (end j)) (Behind F Q holds n f down (stateAt F (size (unroll p))) 0 0 i) (KeptParses p holds n) (Prefers p)
+      post-behind pl (λ j. f (end j)) (Behind F Q holds n f down (stateAt F (size (unroll p))) 0 0 i) (KeptParses (rowSets n holds) p) (Prefers p)
       (ForkRuns (Runs p F (length pl)) F (length pl) (fork p) 0 0 i 0) i (λ e j w r. ap (λ (ψ : ℕ). f (pairAt (length pl) j (stateAt F (size (unroll p)) ψ))) (no-flags i j))
       (f (pairAt (length pl) i (startOf F (unroll p) 0 (stateAt F (size (unroll p))) 0)))
-      (finds-forked F Q holds n f down (KeptParses p holds n) (Prefers p) (Runs p F (length pl)) p (finds F Q holds n f down p o) 0 0 (stateAt F (size (unroll p))) (whole (unroll p))
+      (finds-forked F Q holds n f down (KeptParses (rowSets n holds) p) (Prefers p) (Runs p F (length pl)) p (finds F Q holds n f down p o) 0 0 (stateAt F (size (unroll p))) (whole (unroll p))
       (omega (arith, small (unroll p))) hf i 0 (omega arith)) in
       let z : pairAt (length pl) i (startOf F (unroll p) 0 (stateAt F (size (unroll p))) 0) ≡ firstAt (length pl) i = omega (arith, first-place (unroll p)) in
       answer i (plainFrom holds n (places (unroll p)) i) (subst (λ (x : ℕ). AtEnd i (f x)) z found)
@@ -214,7 +215,7 @@ module _ (p : Tree pattern) (o : Bounds p) (holds : ℕ → ℕ → Bool) (n : �
 -- ---- there is one greatest derivation at most
 
 module _ {k : Rank} {t : Tree k} {holds : ℕ → ℕ → Bool} {n i j j′ : ℕ} {w w′ : List ℕ} where
-  pub greatest-one : (x : Preferred t holds n i j w) (y : Preferred t holds n i j′ w′) → x .derivation ≡ y .derivation
+  pub greatest-one : (x : Preferred (rowSets n holds) t i j w) (y : Preferred (rowSets n holds) t i j′ w′) → x .derivation ≡ y .derivation
   greatest-one x y = go (total-order t .compare (x .derivation) (y .derivation))
     where
       go : Compared (Prefers t) (x .derivation) (y .derivation) → x .derivation ≡ y .derivation
@@ -223,12 +224,12 @@ module _ {k : Rank} {t : Tree k} {holds : ℕ → ℕ → Bool} {n i j j′ : �
       go (after l) = absurd (x .greatest (y .derivation) j′ w′ (y .kept) (y .parses) l)
 
   -- and so one end and one list of labels
-  pub greatest-same : Preferred t holds n i j w → Preferred t holds n i j′ w′ → (j ≡ j′) × (w ≡ w′)
+  pub greatest-same : Preferred (rowSets n holds) t i j w → Preferred (rowSets n holds) t i j′ w′ → (j ≡ j′) × (w ≡ w′)
   greatest-same x y = parses-one holds n t (x .derivation) i j j′ w w′ (x .parses) (rw (greatest-one x y) (y .parses))
 
 -- every other derivation that keeps the rule and parses from there comes after it
-pub others-after : {k : Rank} {t : Tree k} {holds : ℕ → ℕ → Bool} {n i j : ℕ} {w : List ℕ} (x : Preferred t holds n i j w) (e : Derivation t) (j′ : ℕ) (w′ : List ℕ)
-    → keeps t e ≡ true → Parses t holds n e i j′ w′ → (e ≡ x .derivation) ⊎ Prefers t (x .derivation) e
+pub others-after : {k : Rank} {t : Tree k} {holds : ℕ → ℕ → Bool} {n i j : ℕ} {w : List ℕ} (x : Preferred (rowSets n holds) t i j w) (e : Derivation t) (j′ : ℕ) (w′ : List ℕ)
+    → keeps t e ≡ true → Parses (rowSets n holds) t e i j′ w′ → (e ≡ x .derivation) ⊎ Prefers t (x .derivation) e
 others-after {t} x e j′ w′ h r = go (total-order t .compare e (x .derivation))
   where
     go : Compared (Prefers t) e (x .derivation) → (e ≡ x .derivation) ⊎ Prefers t (x .derivation) e
@@ -244,29 +245,29 @@ module _ (p : Tree pattern) (o : Bounds p) (holds : ℕ → ℕ → Bool) (n : �
 
   -- a path is found with these labels, up to this row, exactly if they are those of the greatest
   -- derivation
-  pub found-is-greatest : (i j : ℕ) (w : List ℕ) → ((path : List ℕ) × Finding i j w path) ↔ Preferred p holds n i j w
+  pub found-is-greatest : (i j : ℕ) (w : List ℕ) → ((path : List ℕ) × Finding i j w path) ↔ Preferred (rowSets n holds) p i j w
   found-is-greatest i j w = (to, λ x. from x (plainFrom holds n (places (unroll p)) i) refl (preferred p o holds n i))
     where
-      to : (path : List ℕ) × Finding i j w path → Preferred p holds n i j w
+      to : (path : List ℕ) × Finding i j w path → Preferred (rowSets n holds) p i j w
       to x =
           let a : Answers p holds n i (some (x .0)) = rw (x .1 .0) at (preferred p o holds n i) in
           rw (x .1 .1, x .1 .2) at (a .best)
 
-      from : Preferred p holds n i j w → (r : Option (List ℕ)) → plainFrom holds n (places (unroll p)) i ≡ r → Answers p holds n i r → (path : List ℕ) × Finding i j w path
+      from : Preferred (rowSets n holds) p i j w → (r : Option (List ℕ)) → plainFrom holds n (places (unroll p)) i ≡ r → Answers p holds n i r → (path : List ℕ) × Finding i j w path
       from x none e a = absurd (a (x .derivation) j w (x .parses))
       from x (some path) e a = let s = greatest-same (a .best) x in (path, (e, s .0, s .1))
 
   -- the path found is that of the greatest derivation
   pub path-is-greatest : (i : ℕ) (path : List ℕ) → (plainFrom holds n (places (unroll p)) i ≡ some path)
-      ↔ ((j : ℕ) × (w : List ℕ) × (x : Preferred p holds n i j w) × PathOf p (x .derivation) i j path)
+      ↔ ((j : ℕ) × (w : List ℕ) × (x : Preferred (rowSets n holds) p i j w) × PathOf p (x .derivation) i j path)
   path-is-greatest i path = (to, λ x. from x (plainFrom holds n (places (unroll p)) i) refl (preferred p o holds n i))
     where
-      to : plainFrom holds n (places (unroll p)) i ≡ some path → (j : ℕ) × (w : List ℕ) × (x : Preferred p holds n i j w) × PathOf p (x .derivation) i j path
+      to : plainFrom holds n (places (unroll p)) i ≡ some path → (j : ℕ) × (w : List ℕ) × (x : Preferred (rowSets n holds) p i j w) × PathOf p (x .derivation) i j path
       to e =
           let a : Answers p holds n i (some path) = rw e at (preferred p o holds n i) in
           (endOf (length (places (unroll p))) path, labels (places (unroll p)) path, a .best, a .goes)
 
-      from : (j : ℕ) × (w : List ℕ) × (x : Preferred p holds n i j w) × PathOf p (x .derivation) i j path
+      from : (j : ℕ) × (w : List ℕ) × (x : Preferred (rowSets n holds) p i j w) × PathOf p (x .derivation) i j path
           → (r : Option (List ℕ)) → plainFrom holds n (places (unroll p)) i ≡ r → Answers p holds n i r → plainFrom holds n (places (unroll p)) i ≡ some path
       from x none e a = absurd (a (x .2 .derivation) (x .0) (x .1) (x .2 .parses))
       from x (some q) e a =
@@ -274,12 +275,12 @@ module _ (p : Tree pattern) (o : Bounds p) (holds : ℕ → ℕ → Bool) (n : �
           e ∙ ap (λ (l : List ℕ). some l) (path-one y (x .3))
 
   -- nothing is found exactly if no derivation parses
-  pub none-is-none : (i : ℕ) → (plainFrom holds n (places (unroll p)) i ≡ none) ↔ NoneParses p holds n i
+  pub none-is-none : (i : ℕ) → (plainFrom holds n (places (unroll p)) i ≡ none) ↔ NoneParses (rowSets n holds) p i
   none-is-none i = (λ e. to e, λ x. from x (plainFrom holds n (places (unroll p)) i) refl (preferred p o holds n i))
     where
-      to : plainFrom holds n (places (unroll p)) i ≡ none → NoneParses p holds n i
+      to : plainFrom holds n (places (unroll p)) i ≡ none → NoneParses (rowSets n holds) p i
       to e = rw e at (preferred p o holds n i)
 
-      from : NoneParses p holds n i → (r : Option (List ℕ)) → plainFrom holds n (places (unroll p)) i ≡ r → Answers p holds n i r → plainFrom holds n (places (unroll p)) i ≡ none
+      from : NoneParses (rowSets n holds) p i → (r : Option (List ℕ)) → plainFrom holds n (places (unroll p)) i ≡ r → Answers p holds n i r → plainFrom holds n (places (unroll p)) i ≡ none
       from x none e a = e
       from x (some path) e a = absurd (x (a .best .derivation) (endOf (length (places (unroll p))) path) (labels (places (unroll p)) path) (a .best .parses))

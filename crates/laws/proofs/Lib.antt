@@ -10,6 +10,7 @@ pub mod Bounds
 pub mod Sizes
 pub mod Depth
 pub mod Texts
+pub mod Samples
 pub mod Walk
 pub mod Plain
 pub mod Machine

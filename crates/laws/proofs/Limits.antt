@@ -16,8 +16,8 @@ use borrow.Author.Tests.{leb-true}
 use Rattle.rules.specs.Rows.{Table, tableOf}
 use Rattle.rules.specs.Query.{Measure, columnsOf, parts, textOf}
 use Rattle.rules.specs.Places.{Place, unroll, places, placesOf, factorOf}
-use Rattle.rules.specs.Walk.{pairs, firstAt, pairWays}
-use Rattle.rules.specs.Search.{Match, Skip, Attempted, hit, miss, halts, Swept, Plan, Kept, labels, ended, noStart, below, byFit, byNext, onAnswer, sweep, Terms, within, haltingOf, planOf, walkAt, walkSearch}
+use Rattle.rules.specs.Walk.{pairs, firstAt, pairWays, Kept, asKept}
+use Rattle.rules.specs.Search.{Match, Skip, Attempted, hit, miss, halts, Swept, Plan, labels, ended, noStart, below, onAnswer, sweep, Terms, within, haltingOf, planOf, walkAt, walkSearch, Standing, onMatch, standAt}
 use Rattle.rules.specs.Report.{measureNumbers, matchNumbers, numbersOf, labelsOf, fits, twoOf, measured, notesOf}
 use Rattle.rules.specs.Answers.{Task, taskOf, walkedOn, Buffers, walkWithin, letterHolds, refusal, treeIn, P, F}
 use Rattle.rules.specs.Language.{Tree, pattern, loopNesting}
@@ -34,24 +34,24 @@ use Rattle.laws.proofs.Grammar.{tree-exactly}
 
 -- ---- the matches are no more than the attempts
 
-sweep-few : {S : Type 0} (att : ℕ → S → Attempted × S) (plan : Plan) (k i m l : ℕ) (st : S) → length (sweep att plan k i m l st .matches) ≤ k
+sweep-few : {S : Type 0} (att : ℕ → S → Attempted × S) (plan : Plan) (k i m l : ℕ) (st : S) → length (sweep att plan k (standAt i m l) st .matches) ≤ k
 unfolding sweep
 sweep-few att plan zero i m l st = omega arith
 sweep-few att plan (suc k) i m l st = start (sweep-few att plan k) (ltb i (plan .n))
   where
-    fit : ((i m l : ℕ) (st : _) → length (sweep att plan k i m l st .matches) ≤ k) → (p : List ℕ) (su : _) (o : Option ℕ) (t : Bool)
-        → length (byFit t (record { start = i; path = p }) su (λ _. byNext o su (λ j. sweep att plan k j (suc m) (l + plan .rows p) su)) .matches) ≤ suc k
+    fit : ((i m l : ℕ) (st : _) → length (sweep att plan k (standAt i m l) st .matches) ≤ k) → (p : List ℕ) (su : _) (o : Option ℕ) (t : Bool)
+        → length (onMatch t o (record { start = i; path = p }) su (λ j. sweep att plan k (standAt j (suc m) (l + plan .rows p)) su) .matches) ≤ suc k
     fit ih p su o false = omega arith
     fit ih p su none true = omega arith
     fit ih p su (some j) true = omega (arith, ih j (suc m) (l + plan .rows p) su)
 
-    on : ((i m l : ℕ) (st : _) → length (sweep att plan k i m l st .matches) ≤ k) → (o : Attempted) (su : _) → length (onAnswer plan (sweep att plan k) i m l o su .matches) ≤ suc k
+    on : ((i m l : ℕ) (st : _) → length (sweep att plan k (standAt i m l) st .matches) ≤ k) → (o : Attempted) (su : _) → length (onAnswer plan (sweep att plan k) (standAt i m l) o su .matches) ≤ suc k
     on ih miss su = omega (arith, ih (suc i) m l su)
     on ih (halts w p) su = omega arith
     on ih (hit p) su = fit ih p su (plan .next i p) (plan .fits m l p)
 
-    start : ((i m l : ℕ) (st : _) → length (sweep att plan k i m l st .matches) ≤ k) → (t : Bool)
-        → length (below t (ended (noStart (plan .more) i) st) (λ _. onAnswer plan (sweep att plan k) i m l (att i st .0) (att i st .1)) .matches) ≤ suc k
+    start : ((i m l : ℕ) (st : _) → length (sweep att plan k (standAt i m l) st .matches) ≤ k) → (t : Bool)
+        → length (below t (ended (noStart (plan .more) i) st) (λ _. onAnswer plan (sweep att plan k) (standAt i m l) (att i st .0) (att i st .1)) .matches) ≤ suc k
     start ih false = omega arith
     start ih true = on ih (att i st .0) (att i st .1)
 
@@ -87,16 +87,16 @@ module _ {S : Type 0} (att : ℕ → S → Attempted × S) (pl : List Place) (n 
   abbrev plan : Plan
   plan = planOf pl n more skip (fits nums labs ms)
 
-  abbrev FitsOn : (ℕ → ℕ → ℕ → S → Swept S) → Type 0
-  FitsOn f = (i m l : ℕ) (st : S) → m * (3 + 2 * length ms) ≤ nums → l ≤ labs → Fitting nums labs ms pl m l (f i m l st .matches)
+  abbrev FitsOn : (Standing → S → Swept S) → Type 0
+  FitsOn f = (i m l : ℕ) (st : S) → m * (3 + 2 * length ms) ≤ nums → l ≤ labs → Fitting nums labs ms pl m l (f (standAt i m l) st .matches)
 
   no-match : (m l : ℕ) → m * (3 + 2 * length ms) ≤ nums → l ≤ labs → Fitting nums labs ms pl m l []
   unfolding labelsOf
   no-match m l a b = record { numbers = let e : m + 0 ≡ m = omega arith in rw e a; labels = omega arith }
 
-  fit-on : (f : ℕ → ℕ → ℕ → S → Swept S) → FitsOn f → (i m l : ℕ) (p : List ℕ) (st : S) → m * (3 + 2 * length ms) ≤ nums → l ≤ labs
+  fit-on : (f : Standing → S → Swept S) → FitsOn f → (i m l : ℕ) (p : List ℕ) (st : S) → m * (3 + 2 * length ms) ≤ nums → l ≤ labs
       → (o : Option ℕ) (t : Bool) → fits nums labs ms m l (labels pl p) ≡ t
-      → Fitting nums labs ms pl m l (byFit t (record { start = i; path = p }) st (λ _. byNext o st (λ j. f j (suc m) (l + length (labels pl p)) st)) .matches)
+      → Fitting nums labs ms pl m l (onMatch t o (record { start = i; path = p }) st (λ j. f (standAt j (suc m) (l + length (labels pl p))) st) .matches)
   unfolding labelsOf fits
   fit-on f ih i m l p st a b o false e = no-match m l a b
   fit-on f ih i m l p st a b o true e = further (fits-both e) o
@@ -110,12 +110,12 @@ module _ {S : Type 0} (att : ℕ → S → Attempted × S) (pl : List Place) (n 
           record { numbers = rw e (r .numbers); labels = simp length-append (omega (arith, r .labels)) }
 
       further : (suc m * (3 + 2 * length ms) ≤ nums) × (l + length (labels pl p) ≤ labs) → (o : Option ℕ)
-          → Fitting nums labs ms pl m l (record { start = i; path = p } ∷ byNext o st (λ j. f j (suc m) (l + length (labels pl p)) st) .matches)
+          → Fitting nums labs ms pl m l (onMatch true o (record { start = i; path = p }) st (λ j. f (standAt j (suc m) (l + length (labels pl p))) st) .matches)
       further c none = behind [] (no-match (suc m) (l + length (labels pl p)) (c .0) (c .1))
-      further c (some j) = behind (f j (suc m) (l + length (labels pl p)) st .matches) (ih j (suc m) (l + length (labels pl p)) st (c .0) (c .1))
+      further c (some j) = behind (f (standAt j (suc m) (l + length (labels pl p))) st .matches) (ih j (suc m) (l + length (labels pl p)) st (c .0) (c .1))
 
-  answer-on : (f : ℕ → ℕ → ℕ → S → Swept S) → FitsOn f → (i m l : ℕ) (o : Attempted) (st : S) → m * (3 + 2 * length ms) ≤ nums → l ≤ labs
-      → Fitting nums labs ms pl m l (onAnswer plan f i m l o st .matches)
+  answer-on : (f : Standing → S → Swept S) → FitsOn f → (i m l : ℕ) (o : Attempted) (st : S) → m * (3 + 2 * length ms) ≤ nums → l ≤ labs
+      → Fitting nums labs ms pl m l (onAnswer plan f (standAt i m l) o st .matches)
   unfolding planOf
   answer-on f ih i m l miss st a b = ih (suc i) m l st a b
   answer-on f ih i m l (halts w p) st a b = no-match m l a b
@@ -126,7 +126,7 @@ module _ {S : Type 0} (att : ℕ → S → Attempted × S) (pl : List Place) (n 
   sweep-fits zero i m l st a b = no-match m l a b
   sweep-fits (suc k) i m l st a b = go (sweep-fits k) (ltb i n)
     where
-      go : FitsOn (sweep att plan k) → (t : Bool) → Fitting nums labs ms pl m l (below t (ended (noStart more i) st) (λ _. onAnswer plan (sweep att plan k) i m l (att i st .0) (att i st .1)) .matches)
+      go : FitsOn (sweep att plan k) → (t : Bool) → Fitting nums labs ms pl m l (below t (ended (noStart more i) st) (λ _. onAnswer plan (sweep att plan k) (standAt i m l) (att i st .0) (att i st .1)) .matches)
       go ih false = no-match m l a b
       go ih true = answer-on (sweep att plan k) ih i m l (att i st .0) (att i st .1) a b
 
@@ -140,12 +140,12 @@ pub record Limits (a : Option ℕ) (q : List ℕ) (rows : List ℤ) (lent : Buff
   pub few-rows : taskOf q rows .table .n ≤ 4096
   pub few-pairs : pairs (length (taskOf q rows .places)) (taskOf q rows .table .n) ≤ 8390656
   pub few-matches : length (walkWithin a q rows lent .matches) ≤ taskOf q rows .table .n
-  pub few-steps : walkWithin a q rows lent .state .1 ≤ 17192452096
+  pub few-steps : walkWithin a q rows lent .state .steps ≤ 17192452096
   -- what is written fits, and every buffer keeps its length
   pub numbers-fit : length (numbersOf (taskOf q rows .table) (taskOf q rows .measures) (taskOf q rows .places) 0 (walkWithin a q rows lent .matches)) ≤ length (lent .numbers)
   pub labels-fit : length (labelsOf (taskOf q rows .places) (walkWithin a q rows lent .matches)) ≤ length (lent .labels)
-  pub notes-fit : length (notesOf (walkWithin a q rows lent .state .0)) ≤ length (lent .notes)
-  pub trail-fit : length (walkWithin a q rows lent .state .0) ≤ length (lent .trail)
+  pub notes-fit : length (notesOf (walkWithin a q rows lent .state .failed)) ≤ length (lent .notes)
+  pub trail-fit : length (walkWithin a q rows lent .state .failed) ≤ length (lent .trail)
 
 -- the task's table is the rows by the shape's columns
 pub task-rows : (q : List ℕ) (rows : List ℤ) → taskOf q rows .table ≡ tableOf (columnsOf q) rows
@@ -165,18 +165,18 @@ module _ (terms : Terms) (t : Task) (nums labs : ℕ) where
 
   pub written-fits : Fitting nums labs (t .measures) (t .places) 0 0 (walkedOn terms t nums labs .matches)
   unfolding walkedOn walkSearch
-  written-fits = sweep-fits attempt (t .places) (t .table .n) (terms .more) (t .skip) nums labs (t .measures) (t .table .n) 0 0 0 (replicate N false, 0) (omega arith) (omega arith)
+  written-fits = sweep-fits attempt (t .places) (t .table .n) (terms .more) (t .skip) nums labs (t .measures) (t .table .n) 0 0 0 (asKept (replicate N false) 0) (omega arith) (omega arith)
 
   pub written-few : length (walkedOn terms t nums labs .matches) ≤ t .table .n
   unfolding walkedOn walkSearch
-  written-few = sweep-few attempt (planOf (t .places) (t .table .n) (terms .more) (t .skip) (fits nums labs (t .measures))) (t .table .n) 0 0 0 (replicate N false, 0)
+  written-few = sweep-few attempt (planOf (t .places) (t .table .n) (terms .more) (t .skip) (fits nums labs (t .measures))) (t .table .n) 0 0 0 (asKept (replicate N false) 0)
 
   module _ (p : Tree pattern) (e : t .places ≡ places (unroll p)) (le : t .table .n ≤ terms .largest) where
-    pub kept-all : length (walkedOn terms t nums labs .state .0) ≡ N
+    pub kept-all : length (walkedOn terms t nums labs .state .failed) ≡ N
     unfolding walkedOn
     kept-all = rw e (search-kept (unroll p) (letterHolds t) (t .table .n) terms le (t .skip) (fits nums labs (t .measures)))
 
-    pub cost-all : 2 * walkedOn terms t nums labs .state .1 ≤ length (t .places) * (t .table .n * (t .table .n + 3))
+    pub cost-all : 2 * walkedOn terms t nums labs .state .steps ≤ length (t .places) * (t .table .n * (t .table .n + 3))
     unfolding walkedOn
     cost-all = rw e (search-each (unroll p) (t .skip) (fits nums labs (t .measures)) (letterHolds t) (t .table .n) terms le)
 
@@ -203,7 +203,7 @@ limits al q rows lent ok =
     let cost = cost-all ts (taskOf q rows) (length (lent .numbers)) (length (lent .labels)) p e (omega arith) in
     let top : S * (n * (n + 3)) ≤ 2048 * (4096 * 4099) = product-le S (n * (n + 3)) 2048 (4096 * 4099) few (product-le n (n + 3) 4096 4099 rs (omega arith)) in
     let w = written-fits ts (taskOf q rows) (length (lent .numbers)) (length (lent .labels)) in
-    let pairs-are : pairs (placesOf p * factorOf p) (tableOf (columnsOf q) rows .n) ≡ length (walkWithin al q rows lent .state .0) = sym (kept ∙ ap₂ (λ (x y : ℕ). pairs x y) c m) in
+    let pairs-are : pairs (placesOf p * factorOf p) (tableOf (columnsOf q) rows .n) ≡ length (walkWithin al q rows lent .state .failed) = sym (kept ∙ ap₂ (λ (x y : ℕ). pairs x y) c m) in
     record {
       some-place = rw (e, places-length (unroll p)) (some-state (unroll p));
       few-places = few;
@@ -215,6 +215,6 @@ limits al q rows lent ok =
       few-steps = omega (arith, cost, top);
       numbers-fit = rw (numbers-long (taskOf q rows .table) (taskOf q rows .measures) (taskOf q rows .places) 0 (walkWithin al q rows lent .matches)) (omega (arith, w .numbers));
       labels-fit = omega (arith, w .labels);
-      notes-fit = rw (length-notes (walkWithin al q rows lent .state .0), ← pairs-are) (a .notes-long);
+      notes-fit = rw (length-notes (walkWithin al q rows lent .state .failed), ← pairs-are) (a .notes-long);
       trail-fit = rw (← pairs-are) (a .trail-long);
     }

@@ -15,8 +15,8 @@ use Rattle.rules.specs.Rows.{Table}
 use Rattle.rules.specs.Query.{textOf, parts, Measure}
 use Rattle.rules.specs.Language.{Tree, pattern, Written}
 use Rattle.rules.specs.Places.{Place, pFork, unroll, places}
-use Rattle.rules.specs.Walk.{outOfSteps, outOfRows, pairs, firstAt, pairWays}
-use Rattle.rules.specs.Search.{Match, End, done, full, stuck, unfinished, Finished, Skip, Swept, Kept, labels, Terms, within, haltingOf, planOf, walkSearch}
+use Rattle.rules.specs.Walk.{outOfSteps, outOfRows, pairs, firstAt, pairWays, Kept}
+use Rattle.rules.specs.Search.{Match, End, done, full, stuck, unfinished, Finished, Skip, Swept, labels, Terms, within, haltingOf, planOf, walkSearch, seek}
 use Rattle.rules.specs.Report.{numbersOf, labelsOf, matchNumbers, fits, bytesFor, bitAt, notesOf}
 use Rattle.rules.specs.Answers.{treeIn, offsetAt, Task, taskOf, letterHolds, walkedOn, Buffers, haltAnswer, endAnswer, Report, reportOf, Result, Memory, refused, accepted, walkWithin, reportWithin, searchWithin}
 use Rattle.rules.specs.Working.{thinned}
@@ -76,7 +76,7 @@ module _ (p : Tree pattern) (pl : List Place) (e : pl ≡ places (unroll p)) (sk
   terms₂ = record { largest = largest; more = more₂; allowance = allowance }
 
   later-adds : Sooner (haltingOf terms₁ pl n₁) (haltingOf terms₂ pl n₂) (pairWays holds₁ n₁ pl) (pairWays holds₂ n₂ pl)
-      → Begins (walkSearch terms₁ holds₁ n₁ pl skip fit .matches) (walkSearch terms₂ holds₂ n₂ pl skip fit .matches) × Keeps (walkSearch terms₁ holds₁ n₁ pl skip fit .state) (walkSearch terms₂ holds₂ n₂ pl skip fit .state)
+      → Begins (walkSearch terms₁ (seek holds₁ n₁ pl skip fit) .matches) (walkSearch terms₂ (seek holds₂ n₂ pl skip fit) .matches) × Keeps (walkSearch terms₁ (seek holds₁ n₁ pl skip fit) .state) (walkSearch terms₂ (seek holds₂ n₂ pl skip fit) .state)
   later-adds =
       rw e
       (λ sooner. (
@@ -85,18 +85,18 @@ module _ (p : Tree pattern) (pl : List Place) (e : pl ≡ places (unroll p)) (sk
       ))
 
   later-goes : Sooner (haltingOf terms₁ pl n₁) (haltingOf terms₂ pl n₂) (pairWays holds₁ n₁ pl) (pairWays holds₂ n₂ pl)
-      → walkSearch terms₂ holds₂ n₂ pl skip fit
-      ≡ andThen (haltingOf terms₂ pl n₂) (pairWays holds₂ n₂ pl) (pairs (length pl) largest) (firstAt (length pl)) (planOf pl n₂ more₂ skip fit) 0 0 (walkSearch terms₁ holds₁ n₁ pl skip fit)
+      → walkSearch terms₂ (seek holds₂ n₂ pl skip fit)
+      ≡ andThen (haltingOf terms₂ pl n₂) (pairWays holds₂ n₂ pl) (pairs (length pl) largest) (firstAt (length pl)) (planOf pl n₂ more₂ skip fit) 0 0 (walkSearch terms₁ (seek holds₁ n₁ pl skip fit))
   later-goes = rw e (λ sooner. search-goes (unroll p) skip fit holds₁ holds₂ n₁ n₂ terms₁ terms₂ refl le few sooner (inl refl))
 
   later-thin-goes : Sooner (haltingOf terms₁ pl n₁) (haltingOf terms₂ pl n₂) (pairWays holds₁ n₁ pl) (pairWays holds₂ n₂ pl)
-      → walkSearch terms₂ holds₂ n₂ (thinned pl) skip fit
+      → walkSearch terms₂ (seek holds₂ n₂ (thinned pl) skip fit)
       ≡ andThen (haltingOf terms₂ (thinned pl) n₂) (pairWays holds₂ n₂ (thinned pl)) (pairs (length (thinned pl)) largest) (firstAt (length (thinned pl))) (planOf (thinned pl) n₂ more₂ skip fit) 0 0
-      (walkSearch terms₁ holds₁ n₁ (thinned pl) skip fit)
+      (walkSearch terms₁ (seek holds₁ n₁ (thinned pl) skip fit))
   later-thin-goes = rw e (λ sooner. thin-goes (unroll p) skip fit holds₁ holds₂ n₁ n₂ terms₁ terms₂ refl le few sooner (inl refl))
 
   later-stays : Sooner (haltingOf terms₁ pl n₁) (haltingOf terms₂ pl n₂) (pairWays holds₁ n₁ pl) (pairWays holds₂ n₂ pl)
-      → SettledEnd (walkSearch terms₁ holds₁ n₁ pl skip fit .end) → walkSearch terms₂ holds₂ n₂ pl skip fit ≡ walkSearch terms₁ holds₁ n₁ pl skip fit
+      → SettledEnd (walkSearch terms₁ (seek holds₁ n₁ pl skip fit) .end) → walkSearch terms₂ (seek holds₂ n₂ pl skip fit) ≡ walkSearch terms₁ (seek holds₁ n₁ pl skip fit)
   later-stays = rw e (search-stays (unroll p) skip fit holds₁ holds₂ n₁ n₂ largest allowance more₂ le)
 
 -- the rows of each match are there
@@ -106,8 +106,8 @@ module _ (p : Tree pattern) (t₁ t₂ : Table) (ext : Extends t₁ t₂) (holds
   rows-in (x ∷ xs) a = (a .0, rows-in xs (a .1))
 
   matches-in : (pl : List Place) → pl ≡ places (unroll p) → (terms : Terms) → t₁ .n ≤ terms .largest → (skip : Skip) (fit : ℕ → ℕ → List ℕ → Bool)
-      → RowsIn t₁ t₂ ext pl (walkSearch terms holds (t₁ .n) pl skip fit .matches)
-  matches-in pl e terms le skip fit = rw e (rows-in (walkSearch terms holds (t₁ .n) (places (unroll p)) skip fit .matches) (search-rows (unroll p) holds (t₁ .n) skip fit terms le))
+      → RowsIn t₁ t₂ ext pl (walkSearch terms (seek holds (t₁ .n) pl skip fit) .matches)
+  matches-in pl e terms le skip fit = rw e (rows-in (walkSearch terms (seek holds (t₁ .n) (places (unroll p)) skip fit) .matches) (search-rows (unroll p) holds (t₁ .n) skip fit terms le))
 
 -- ---- what was named
 
@@ -169,11 +169,11 @@ module _ (s : Named) (ok : Begins-well s) where
     unfolding presentTask
     places-in = places-are q (presentRows q rows present) (given .tree) (given .has-tree)
 
-    notes-in : (last : Bool) (x : ℕ) → x < 8 * bytesFor (length (lotWalk s rows present last .state .0))
-        → bitAt (lotMemory s rows present last .buffers .notes) x ≡ getD (lotWalk s rows present last .state .0) x false
+    notes-in : (last : Bool) (x : ℕ) → x < 8 * bytesFor (length (lotWalk s rows present last .state .failed))
+        → bitAt (lotMemory s rows present last .buffers .notes) x ≡ getD (lotWalk s rows present last .state .failed) x false
     unfolding lotMemory accepted bitAt
     notes-in last x h =
-        let F : List Bool = lotWalk s rows present last .state .0 in
+        let F : List Bool = lotWalk s rows present last .state .failed in
         let l : x / 8 < length (notesOf F) = rw (length-notes F) (omega arith) in
         rw (front-wrote (s .lent .notes) (notesOf F) (x / 8) 0 l) (noted F x h)
 
@@ -194,13 +194,13 @@ module _ (s : Named) (ok : Begins-well s) where
     no-wait-in last a =
         rw a (no-rows-end (lotWalk s rows present true .end) (search-no-wait (s .largest) (s .allowance) (letterHolds t) (t .table .n) (t .places) (t .skip) (fits nums labs (t .measures))))
 
-    within-in : (last : Bool) (a : ℕ) → s .allowance ≡ some a → EndWithin a (lotWalk s rows present last .end) (lotWalk s rows present last .state .1)
+    within-in : (last : Bool) (a : ℕ) → s .allowance ≡ some a → EndWithin a (lotWalk s rows present last .end) (lotWalk s rows present last .state .steps)
     unfolding lotWalk walkedOn
     within-in last a e = rw e (search-within a (s .largest) (not last) (letterHolds t) (t .table .n) (t .places) (t .skip) (fits nums labs (t .measures)))
 
     -- the search over the same places with each way of a fork once
     abbrev pub thinWalk : Bool → Swept Kept
-    thinWalk last = walkSearch (lotTerms s last) (letterHolds t) (t .table .n) (thinned (t .places)) (t .skip) (fits nums labs (t .measures))
+    thinWalk last = walkSearch (lotTerms s last) (seek (letterHolds t) (t .table .n) (thinned (t .places)) (t .skip) (fits nums labs (t .measures)))
 
     pub lot-thin : (last : Bool) → lotWalk s rows present last ≡ thinWalk last
     unfolding lotWalk walkedOn
@@ -224,7 +224,7 @@ module _ (s : Named) (ok : Begins-well s) where
           not-done = not-done-in last;
           no-wait = no-wait-in last;
           finished = finished-in last;
-          kept-to = λ a e. end-within a (lotWalk s rows present last .end) (lotWalk s rows present last .state .1) (within-in last a e);
+          kept-to = λ a e. end-within a (lotWalk s rows present last .end) (lotWalk s rows present last .state .steps) (within-in last a e);
           used-up = λ a i p e d. rw d at (within-in last a e);
         }
 
@@ -364,7 +364,7 @@ module _ (s : Named) (ok : Begins-well s) where
     -- the last call's search is the one run, with an account for the pairs of rows that did not
     -- come
     padded-pattern : (pl : List Place) → pl ≡ places (unroll (given rows present lot .tree)) → (skip : Skip) (fit : ℕ → ℕ → List ℕ → Bool)
-        → walkSearch (lotTerms s true) (letterHolds task) (task .table .n) pl skip fit ≡ padded gap (walkSearch (within (s .allowance) (task .table .n)) (letterHolds task) (task .table .n) pl skip fit)
+        → walkSearch (lotTerms s true) (seek (letterHolds task) (task .table .n) pl skip fit) ≡ padded gap (walkSearch (within (s .allowance) (task .table .n)) (seek (letterHolds task) (task .table .n) pl skip fit))
     padded-pattern pl e skip fit =
         rw e (search-padded (unroll (given rows present lot .tree)) (letterHolds task) (task .table .n) (lotTerms s true) (few-rows rows present lot) skip fit)
 
@@ -395,8 +395,8 @@ module _ (s : Named) (ok : Begins-well s) where
         record {
           matches = ap (λ (r : Swept Kept). r .matches) padded-run;
           end = ap (λ (r : Swept Kept). r .end) padded-run;
-          steps = ap (λ (r : Swept Kept). r .state .1) padded-run;
-          failed = λ x. ap (λ (r : Swept Kept). getD (r .state .0) x false) padded-run ∙ getD-pad (once .state .0) missing x;
+          steps = ap (λ (r : Swept Kept). r .state .steps) padded-run;
+          failed = λ x. ap (λ (r : Swept Kept). getD (r .state .failed) x false) padded-run ∙ getD-pad (once .state .failed) missing x;
           result = run-memory;
           numbers = run-numbers;
           label-bytes = run-labels;

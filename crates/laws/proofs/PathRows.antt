@@ -12,7 +12,7 @@ use lib.Arith.{digits-div}
 use lib.Dec.{ltb, eqb}
 use borrow.Author.Tests.{ltb-true}
 use Rattle.rules.specs.Places.{Unrolled, Place, pLetter, pCaret, pDollar, pFork, pEnd, places}
-use Rattle.rules.specs.Search.{Match, Skip, Attempted, Plan, labels, labelOf, ended, noStart, below, byFit, byNext, onAnswer, sweep, plainly, plainAt, Terms, planOf, plainSearch, walkSearch}
+use Rattle.rules.specs.Search.{Match, Skip, Attempted, Plan, labels, labelOf, ended, noStart, below, onAnswer, sweep, plainly, plainAt, Terms, planOf, plainSearch, walkSearch, onMatch, seek, standAt}
 use Rattle.rules.specs.Walk.{IsPath, here, there, Ways, accept, try, passIf, waysAt, pairs, firstAt, pairWays, positionOf, placeOf, plain}
 use Rattle.laws.proofs.Level.{and-true}
 use Rattle.laws.proofs.PatternWalk.{starts, search-follows}
@@ -117,30 +117,30 @@ module _ (t : Unrolled) (holds : ℕ → ℕ → Bool) (n : ℕ) where
     abbrev att : ℕ → Unit {0} → Attempted × Unit {0}
     att = plainAt (pairWays holds n (places t)) (pairs P n) (firstAt P)
 
-    plain-within : (k i m l : ℕ) (st : Unit {0}) → Within (sweep att plan k i m l st .matches)
+    plain-within : (k i m l : ℕ) (st : Unit {0}) → Within (sweep att plan k (standAt i m l) st .matches)
     unfolding sweep planOf
     plain-within zero i m l st = tt
     plain-within (suc k) i m l st = go (plain-within k) (ltb i n) refl
       where
-        fit : ((i m l : ℕ) (st : Unit {0}) → Within (sweep att plan k i m l st .matches)) → i < n → (p : List ℕ) → plain (pairWays holds n (places t)) (pairs P n) (firstAt P i) ≡ some p → (o : Option ℕ) (b : Bool)
-            → Within (byFit b (record { start = i; path = p }) st (λ _. byNext o st (λ j. sweep att plan k j (suc m) (l + plan .rows p) st)) .matches)
+        fit : ((i m l : ℕ) (st : Unit {0}) → Within (sweep att plan k (standAt i m l) st .matches)) → i < n → (p : List ℕ) → plain (pairWays holds n (places t)) (pairs P n) (firstAt P i) ≡ some p → (o : Option ℕ) (b : Bool)
+            → Within (onMatch b o (record { start = i; path = p }) st (λ j. sweep att plan k (standAt j (suc m) (l + plan .rows p)) st) .matches)
         fit ih h p e o false = tt
         fit ih h p e none true = (found-rows i p h e, tt)
         fit ih h p e (some j) true = (found-rows i p h e, ih j (suc m) (l + plan .rows p) st)
 
-        on : ((i m l : ℕ) (st : Unit {0}) → Within (sweep att plan k i m l st .matches)) → i < n → (o : Option (List ℕ)) → plain (pairWays holds n (places t)) (pairs P n) (firstAt P i) ≡ o
-            → Within (onAnswer plan (sweep att plan k) i m l (plainly o) st .matches)
+        on : ((i m l : ℕ) (st : Unit {0}) → Within (sweep att plan k (standAt i m l) st .matches)) → i < n → (o : Option (List ℕ)) → plain (pairWays holds n (places t)) (pairs P n) (firstAt P i) ≡ o
+            → Within (onAnswer plan (sweep att plan k) (standAt i m l) (plainly o) st .matches)
         on ih h none e = ih (suc i) m l st
         on ih h (some p) e = fit ih h p e (plan .next i p) (plan .fits m l p)
 
-        go : ((i m l : ℕ) (st : Unit {0}) → Within (sweep att plan k i m l st .matches)) → (b : Bool) → ltb i n ≡ b
-            → Within (below b (ended (noStart false i) st) (λ _. onAnswer plan (sweep att plan k) i m l (plainly (plain (pairWays holds n (places t)) (pairs P n) (firstAt P i))) st) .matches)
+        go : ((i m l : ℕ) (st : Unit {0}) → Within (sweep att plan k (standAt i m l) st .matches)) → (b : Bool) → ltb i n ≡ b
+            → Within (below b (ended (noStart false i) st) (λ _. onAnswer plan (sweep att plan k) (standAt i m l) (plainly (plain (pairWays holds n (places t)) (pairs P n) (firstAt P i))) st) .matches)
         go ih false e = tt
         go ih true e = on ih (ltb-true i n e) (plain (pairWays holds n (places t)) (pairs P n) (firstAt P i)) refl
 
     -- on any terms
-    pub search-rows : (terms : Terms) → n ≤ terms .largest → Within (walkSearch terms holds n (places t) skip fits .matches)
+    pub search-rows : (terms : Terms) → n ≤ terms .largest → Within (walkSearch terms (seek holds n (places t) skip fits) .matches)
     unfolding plainSearch
     search-rows terms le =
         let f = search-follows t holds n terms le skip fits in
-        within-front (walkSearch terms holds n (places t) skip fits .matches) (plainSearch holds n (places t) skip fits .matches) (f .begins .0) (f .begins .1) (plain-within n 0 0 0 tt)
+        within-front (walkSearch terms (seek holds n (places t) skip fits) .matches) (plainSearch (seek holds n (places t) skip fits) .matches) (f .begins .0) (f .begins .1) (plain-within n 0 0 0 tt)

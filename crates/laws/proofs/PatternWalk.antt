@@ -13,8 +13,8 @@ use lib.ListN.{length, getD, replicate, length-replicate}
 use lib.Arith.{digits-lt, digits-div}
 use lib.Dec.{ltb, eqb}
 use Rattle.rules.specs.Places.{Unrolled, Place, pLetter, pCaret, pDollar, pFork, pEnd, places}
-use Rattle.rules.specs.Search.{Skip, pastLast, pathPairs, labels, endOf, Finished, openOf, Swept, foundIn, Kept, Terms, whole, haltingOf, planOf, walkAt, plainly, sweep, walkSearch, plainSearch}
-use Rattle.rules.specs.Walk.{Ways, accept, try, countTrue, passIf, waysAt, pairs, firstAt, pairWays, positionOf, plain}
+use Rattle.rules.specs.Search.{Skip, pastLast, pathPairs, labels, endOf, Finished, openOf, Swept, foundIn, Terms, whole, haltingOf, planOf, walkAt, plainly, sweep, walkSearch, plainSearch, seek, standAt}
+use Rattle.rules.specs.Walk.{Ways, accept, try, countTrue, passIf, waysAt, pairs, firstAt, pairWays, positionOf, plain, Kept, asKept}
 use Rattle.laws.proofs.Bound.{Onward, two-each}
 use Rattle.laws.proofs.EachStart.{Closed, cost, cost-is, walk-cost}
 use Rattle.laws.proofs.Plain.{plain-fuel, Sound}
@@ -114,7 +114,7 @@ module _ (t : Unrolled) (holds : ℕ → ℕ → Bool) (n : ℕ) where
     N = pairs P (terms .largest)
 
     abbrev searched : Swept Kept
-    searched = walkSearch terms holds n (places t) skip fits
+    searched = walkSearch terms (seek holds n (places t) skip fits)
 
     -- plain backtracking's bound on depth may be that of the larger number of rows
     same-plain : plain ways N ≡ plain ways (pairs P n)
@@ -122,34 +122,34 @@ module _ (t : Unrolled) (holds : ℕ → ℕ → Bool) (n : ℕ) where
 
     -- the matches are the first of plain backtracking's, all of them and with its end where the
     -- search does not halt, and every failed pair has no path
-    pub search-follows : Follows (λ (st : Kept). Sound ways (pairs P n) (st .0)) searched (plainSearch holds n (places t) skip fits)
+    pub search-follows : Follows (λ (st : Kept). Sound ways (pairs P n) (st .failed)) searched (plainSearch (seek holds n (places t) skip fits))
     unfolding walkSearch plainSearch planOf
     search-follows = go (plain ways (pairs P n)) same-plain
       where
         go : (f : ℕ → Option (List ℕ)) → plain ways N ≡ f
-            → Follows {T = Unit {0}} (λ (st : Kept). (z : ℕ) → In (st .0) z → f z ≡ none) searched
-            (sweep (λ (i : ℕ) (st : Unit {0}). (plainly (f (firstAt P i)), tt)) (planOf (places t) n false skip fits) n 0 0 0 tt)
+            → Follows {T = Unit {0}} (λ (st : Kept). (z : ℕ) → In (st .failed) z → f z ≡ none) searched
+            (sweep (λ (i : ℕ) (st : Unit {0}). (plainly (f (firstAt P i)), tt)) (planOf (places t) n false skip fits) n (standAt 0 0 0) tt)
         go f e =
             rw (← e)
             (walk-follows-plain (haltingOf terms (places t) n) ways (rank t n) N (falls-in (terms .largest) le) N (top-in (terms .largest) le) (firstAt P)
-            (planOf (places t) n (terms .more) skip fits) n 0 0 0 (replicate N false, 0) (λ z i. absurd (none-in N z i)))
+            (planOf (places t) n (terms .more) skip fits) n 0 0 0 (asKept (replicate N false) 0) (λ z i. absurd (none-in N z i)))
 
-    search-counted : Counted N (replicate N false, 0) searched
+    search-counted : Counted N (asKept (replicate N false) 0) searched
     unfolding walkSearch planOf
     search-counted =
         walk-counted (haltingOf terms (places t) n) ways (rank t n) N (falls-in (terms .largest) le) N (top-in (terms .largest) le) (firstAt P) (planOf (places t) n (terms .more) skip fits)
-        (λ i h. starts-in (terms .largest) le i h .0) n 0 0 0 (replicate N false, 0) (length-replicate N false)
+        (λ i h. starts-in (terms .largest) le i h .0) n 0 0 0 (asKept (replicate N false) 0) (length-replicate N false)
 
     -- there is a mark for each pair
-    pub search-kept : length (searched .state .0) ≡ N
+    pub search-kept : length (searched .state .failed) ≡ N
     search-kept = search-counted .len
 
     -- the steps are the failed pairs, the pairs of the paths found, and the pairs still open
-    pub search-sum : searched .state .1 ≡ countTrue (searched .state .0) + pathPairs (foundIn searched) + length (openOf (searched .end))
+    pub search-sum : searched .state .steps ≡ countTrue (searched .state .failed) + pathPairs (foundIn searched) + length (openOf (searched .end))
     search-sum = omega (arith, search-counted .sum, none-count N)
 
     -- and these have not failed
-    pub search-out : All (Out (searched .state .0)) (openOf (searched .end))
+    pub search-out : All (Out (searched .state .failed)) (openOf (searched .end))
     search-out = search-counted .out
 
   -- ---- on document 01's terms
@@ -161,39 +161,39 @@ module _ (t : Unrolled) (holds : ℕ → ℕ → Bool) (n : ℕ) where
 
   module _ (skip : Skip) (fits : ℕ → ℕ → List ℕ → Bool) where
     abbrev walk : Swept Kept
-    walk = walkSearch (whole n) holds n (places t) skip fits
+    walk = walkSearch (whole n) (seek holds n (places t) skip fits)
 
     pub walk-finished : Finished (walk .end)
     unfolding walkSearch planOf
     walk-finished =
         sweep-finished (walkAt (haltingOf (whole n) (places t) n) ways (pairs P n) (firstAt P)) (walk-sure (haltingOf (whole n) (places t) n) whole-calm ways (pairs P n) (firstAt P))
-        (planOf (places t) n false skip fits) refl n 0 0 0 (replicate (pairs P n) false, 0)
+        (planOf (places t) n false skip fits) refl n 0 0 0 (asKept (replicate (pairs P n) false) 0)
 
     -- the matches and the end are those of plain backtracking, and every failed pair has no path
-    pub walk-plain : Alike (λ (st : Kept) (_ : Unit {0}). Sound ways (pairs P n) (st .0)) walk (plainSearch holds n (places t) skip fits)
+    pub walk-plain : Alike (λ (st : Kept) (_ : Unit {0}). Sound ways (pairs P n) (st .failed)) walk (plainSearch (seek holds n (places t) skip fits))
     walk-plain = follows-alike (search-follows (whole n) (omega arith) skip fits) walk-finished
 
     -- there is a mark for each pair
-    pub walk-kept : length (walk .state .0) ≡ pairs P n
+    pub walk-kept : length (walk .state .failed) ≡ pairs P n
     walk-kept = search-kept (whole n) (omega arith) skip fits
 
     -- the steps are the failed pairs and the pairs of the paths found
-    pub walk-sum : walk .state .1 ≡ countTrue (walk .state .0) + pathPairs (foundIn walk)
+    pub walk-sum : walk .state .steps ≡ countTrue (walk .state .failed) + pathPairs (foundIn walk)
     walk-sum = omega (arith, search-sum (whole n) (omega arith) skip fits, ap length (finished-open (walk .end) walk-finished))
 
     -- in every mode the steps are at most P n (n+3) / 2
-    pub walk-each : 2 * walk .state .1 ≤ P * (n * (n + 3))
+    pub walk-each : 2 * walk .state .steps ≤ P * (n * (n + 3))
     unfolding walkSearch planOf
     walk-each =
         let N : ℕ = pairs P n in
         let c = walk-cost (haltingOf (whole n) (places t) n) whole-calm ways (rank t n) N falls N top (firstAt P) (planOf (places t) n false skip fits) P
         (λ i h. (starts i h .0, let e : i + (n - i) ≡ n = omega arith in rw e at (rest-pairs P i (n - i)))) onward-first
-        (λ i p j e. next-on skip i (endOf P p) (labels (places t) p) j e) n 0 0 0 (replicate N false, 0) (length-replicate N false, λ z i. absurd (none-in N z i)) in
-        let c′ : walk .state .1 ≤ 0 + cost P n = rw (sub-zero n) at c in
+        (λ i p j e. next-on skip i (endOf P p) (labels (places t) p) j e) n 0 0 0 (asKept (replicate N false) 0) (length-replicate N false, λ z i. absurd (none-in N z i)) in
+        let c′ : walk .state .steps ≤ 0 + cost P n = rw (sub-zero n) at c in
         omega (arith, c′, cost-is P n)
 
   -- past the last row the steps are at most 2P(n+1)
-  pub walk-bound : (fits : ℕ → ℕ → List ℕ → Bool) → walkSearch (whole n) holds n (places t) pastLast fits .state .1 ≤ 2 * pairs P n
+  pub walk-bound : (fits : ℕ → ℕ → List ℕ → Bool) → walkSearch (whole n) (seek holds n (places t) pastLast fits) .state .steps ≤ 2 * pairs P n
   unfolding walkSearch planOf
   walk-bound fits =
       let N : ℕ = pairs P n in

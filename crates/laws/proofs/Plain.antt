@@ -8,7 +8,7 @@ use Prim.Native.Nat.{ℕ, zero, suc, _<_}
 use native.Mathlib.Nat.{le-trans, not-suc-le-zero}
 use native.Mathlib.Omega.{arith}
 use lib.ListN.{getD, set}
-use Rattle.rules.specs.Walk.{IsPath, here, there, Ways, accept, try, Halting, Outcome, found, failed, halted, orElse, close, enterUnless, tries, inside, insideBy, orNext, firstOf, onto, plain, plainBy}
+use Rattle.rules.specs.Walk.{IsPath, here, there, Ways, accept, try, Halting, Outcome, found, failed, halted, orElse, close, enterUnless, tries, inside, insideBy, orNext, firstOf, onto, plain, plainBy, asKept}
 use Rattle.laws.proofs.Walk.{All-map, mark-in}
 use Rattle.rules.specs.Working.{All, Falls, In}
 
@@ -90,14 +90,14 @@ module _ (ways : ℕ → Ways) (K : ℕ) where
   Sound F = (z : ℕ) → In F z → plain ways K z ≡ none
 
   abbrev pub TriesSound : List ℕ → Outcome → Type 0
-  TriesSound ys (found p F s) = (firstOf (plain ways K) ys ≡ some p) × Sound F
-  TriesSound ys (failed F s) = (firstOf (plain ways K) ys ≡ none) × Sound F
-  TriesSound ys (halted h p F s) = Sound F
+  TriesSound ys (found p kept) = (firstOf (plain ways K) ys ≡ some p) × Sound (kept .failed)
+  TriesSound ys (failed kept) = (firstOf (plain ways K) ys ≡ none) × Sound (kept .failed)
+  TriesSound ys (halted h p kept) = Sound (kept .failed)
 
   abbrev pub InsideSound : ℕ → Outcome → Type 0
-  InsideSound x (found p F s) = (plain ways K x ≡ some p) × Sound F
-  InsideSound x (failed F s) = (plain ways K x ≡ none) × Sound F
-  InsideSound x (halted h p F s) = Sound F
+  InsideSound x (found p kept) = (plain ways K x ≡ some p) × Sound (kept .failed)
+  InsideSound x (failed kept) = (plain ways K x ≡ none) × Sound (kept .failed)
+  InsideSound x (halted h p kept) = Sound (kept .failed)
 
 module _ (ways : ℕ → Ways) (ρ : ℕ → ℕ) (N : ℕ) (falls : Falls ways ρ N) (K : ℕ) (top : (x : ℕ) → ρ x < K) where
   -- plain backtracking with enough fuel, one pair down
@@ -109,30 +109,30 @@ module _ (ways : ℕ → Ways) (ρ : ℕ → ℕ) (N : ℕ) (falls : Falls ways 
   sound-mark F x e h z i = ⊎-elim (λ j. h z j) (λ (q : z ≡ x). rw q e) (mark-in F x z i)
 
   abbrev SoundAt : Halting → ℕ → Type 0
-  SoundAt w k = (F : List Bool) (s y : ℕ) → ρ y < k → Sound ways K F → InsideSound ways K y (inside w ways k F s y)
+  SoundAt w k = (F : List Bool) (s y : ℕ) → ρ y < k → Sound ways K F → InsideSound ways K y (inside w ways k (asKept F s) y)
 
   -- whatever may halt the walk
-  pub tries-sound : (w : Halting) (k : ℕ) → SoundAt w k → (ys : List ℕ) → All (λ y. ρ y < k) ys → (F : List Bool) (s : ℕ) → Sound ways K F → TriesSound ways K ys (tries w (inside w ways k) F s ys)
+  pub tries-sound : (w : Halting) (k : ℕ) → SoundAt w k → (ys : List ℕ) → All (λ y. ρ y < k) ys → (F : List Bool) (s : ℕ) → Sound ways K F → TriesSound ways K ys (tries w (inside w ways k) (asKept F s) ys)
   unfolding tries firstOf
   tries-sound w k ih [] a F s h = (refl, h)
   tries-sound w k ih (y ∷ ys) a F s h = go (λ F′ s′. tries-sound w k ih ys (a .1) F′ s′) (getD F y false) refl (w .spent s)
     where
       behind : (r : Outcome) → plain ways K y ≡ none → TriesSound ways K ys r → TriesSound ways K (y ∷ ys) r
-      behind (found p F′ s′) e t = (rw e (t .0), t .1)
-      behind (failed F′ s′) e t = (rw e (t .0), t .1)
-      behind (halted v p F′ s′) e t = t
+      behind (found p kept′) e t = (rw e (t .0), t .1)
+      behind (failed kept′) e t = (rw e (t .0), t .1)
+      behind (halted v p kept′) e t = t
 
-      after : ((F′ : List Bool) (s′ : ℕ) → Sound ways K F′ → TriesSound ways K ys (tries w (inside w ways k) F′ s′ ys))
-          → (r : Outcome) → InsideSound ways K y r → TriesSound ways K (y ∷ ys) (orElse r (λ F′ s′. tries w (inside w ways k) F′ s′ ys))
-      after rest (found p F′ s′) t = (firstOf-some (plain ways K) y ys p (t .0), t .1)
-      after rest (failed F′ s′) t = behind (tries w (inside w ways k) F′ s′ ys) (t .0) (rest F′ s′ (t .1))
-      after rest (halted v p F′ s′) t = t
+      after : ((F′ : List Bool) (s′ : ℕ) → Sound ways K F′ → TriesSound ways K ys (tries w (inside w ways k) (asKept F′ s′) ys))
+          → (r : Outcome) → InsideSound ways K y r → TriesSound ways K (y ∷ ys) (orElse r (λ kept′. tries w (inside w ways k) kept′ ys))
+      after rest (found p kept′) t = (firstOf-some (plain ways K) y ys p (t .0), t .1)
+      after rest (failed kept′) t = behind (tries w (inside w ways k) kept′ ys) (t .0) (rest (kept′ .failed) (kept′ .steps) (t .1))
+      after rest (halted v p kept′) t = t
 
-      go : ((F′ : List Bool) (s′ : ℕ) → Sound ways K F′ → TriesSound ways K ys (tries w (inside w ways k) F′ s′ ys))
-          → (t : Bool) → getD F y false ≡ t → (u : Bool) → TriesSound ways K (y ∷ ys) (orElse (enterUnless t u (inside w ways k) F s y) (λ F′ s′. tries w (inside w ways k) F′ s′ ys))
-      go rest true e u = behind (tries w (inside w ways k) F s ys) (h y e) (rest F s h)
+      go : ((F′ : List Bool) (s′ : ℕ) → Sound ways K F′ → TriesSound ways K ys (tries w (inside w ways k) (asKept F′ s′) ys))
+          → (t : Bool) → getD F y false ≡ t → (u : Bool) → TriesSound ways K (y ∷ ys) (orElse (enterUnless t u (inside w ways k) (asKept F s) y) (λ kept′. tries w (inside w ways k) kept′ ys))
+      go rest true e u = behind (tries w (inside w ways k) (asKept F s) ys) (h y e) (rest F s h)
       go rest false e true = h
-      go rest false e false = after rest (inside w ways k F (suc s) y) (ih F (suc s) y (a .0) h)
+      go rest false e false = after rest (inside w ways k (asKept F (suc s)) y) (ih F (suc s) y (a .0) h)
 
   pub inside-sound : (w : Halting) (k : ℕ) → SoundAt w k
   unfolding inside insideBy plainBy
@@ -140,13 +140,13 @@ module _ (ways : ℕ → Ways) (ρ : ℕ → ℕ) (N : ℕ) (falls : Falls ways 
   inside-sound w (suc k) F s x hx h = go (inside-sound w k) (w .waits x) (ways x) refl
     where
       put : (ys : List ℕ) → ways x ≡ try ys → (r : Outcome) → TriesSound ways K ys r → InsideSound ways K x (close x r)
-      put ys e (found p F′ s′) t = (plain-down x ∙ rw (e, t .0), t .1)
-      put ys e (failed F′ s′) t = let d : plain ways K x ≡ none = plain-down x ∙ rw (e, t .0) in (d, sound-mark F′ x d (t .1))
-      put ys e (halted v p F′ s′) t = t
+      put ys e (found p kept′) t = (plain-down x ∙ rw (e, t .0), t .1)
+      put ys e (failed kept′) t = let d : plain ways K x ≡ none = plain-down x ∙ rw (e, t .0) in (d, sound-mark (kept′ .failed) x d (t .1))
+      put ys e (halted v p kept′) t = t
 
-      go : SoundAt w k → (u : Bool) (y : Ways) → ways x ≡ y → InsideSound ways K x (insideBy w u y (inside w ways k) F s x)
+      go : SoundAt w k → (u : Bool) (y : Ways) → ways x ≡ y → InsideSound ways K x (insideBy w u y (inside w ways k) (asKept F s) x)
       go ih true y e = h
       go ih false accept e = (plain-down x ∙ rw e, h)
       go ih false (try ys) e =
-          put ys e (tries w (inside w ways k) F s ys)
+          put ys e (tries w (inside w ways k) (asKept F s) ys)
           (tries-sound w k ih ys (All-map (λ y (r : (ρ y < ρ x) × (x < N → y < N)). omega arith) ys (falls x ys e)) F s h)

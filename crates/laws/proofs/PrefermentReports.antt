@@ -13,8 +13,9 @@ use borrow.Author.Tests.{ltb-true, ltb-false}
 use Rattle.rules.specs.Basics.{Begins}
 use Rattle.rules.specs.Language.{pattern, Tree}
 use Rattle.rules.specs.Places.{Place, places, unroll}
-use Rattle.rules.specs.Preferment.{Reports, finished, unmatched, matched, lost, stopped}
-use Rattle.rules.specs.Search.{plainFrom, End, done, full, Skip, shown, shownEnd, Swept, labels, endOf, nextStart, whole, plainly, ended, below, byFit, byNext, onAnswer, sweep, plainAt, planOf, walkSearch, plainSearch}
+use Rattle.rules.specs.Readings.{rowSets}
+use Rattle.rules.specs.Preferment.{Reports, finished, unmatched, matched, lost, stopped, setting}
+use Rattle.rules.specs.Search.{Standing, onMatch, plainFrom, End, done, full, Skip, shown, shownEnd, Swept, labels, endOf, nextStart, whole, plainly, ended, below, onAnswer, sweep, plainAt, planOf, walkSearch, plainSearch, seek, standAt}
 use Rattle.rules.specs.Walk.{pairs, firstAt, pairWays}
 use Rattle.laws.proofs.Bounds.{Bounds}
 use Rattle.laws.proofs.GreatestDerivation.{Answers, preferred, greatest-same}
@@ -28,14 +29,14 @@ module _ (p : Tree pattern) (o : Bounds p) (holds : ℕ → ℕ → Bool) (n : �
   pl = places (unroll p)
 
   -- the search by plain backtracking, from a start on
-  abbrev run : ℕ → ℕ → ℕ → ℕ → Unit {0} → Swept (Unit {0})
+  abbrev run : ℕ → Standing → Unit {0} → Swept (Unit {0})
   run = sweep (plainAt (pairWays holds n pl) (pairs (length pl) n) (firstAt (length pl))) (planOf pl n false skip room)
 
   abbrev Told : ℕ → ℕ → ℕ → Swept (Unit {0}) → Type 0
-  Told i m l r = Reports p holds n skip room i m l (shown pl (r .matches)) (shownEnd pl (r .end))
+  Told i m l r = Reports (setting p (rowSets n holds) skip room) i m l (shown pl (r .matches)) (shownEnd pl (r .end))
 
   abbrev ToldWith : ℕ → Type 0
-  ToldWith k = (i m l : ℕ) (st : Unit {0}) → n ≤ i + k → Told i m l (run k i m l st)
+  ToldWith k = (i m l : ℕ) (st : Unit {0}) → n ≤ i + k → Told i m l (run k (standAt i m l) st)
 
   swept : (k : ℕ) → ToldWith k
   unfolding sweep planOf
@@ -47,26 +48,26 @@ module _ (p : Tree pattern) (o : Bounds p) (holds : ℕ → ℕ → Bool) (n : �
       on path = nextStart skip i (endOf (length pl) path) (labels pl path)
 
       fit : ToldWith k → i < n → (path : List ℕ) → Answers p holds n i (some path) → (o : Option ℕ) → on path ≡ o → (b : Bool) → room m l (labels pl path) ≡ b
-          → Told i m l (byFit b (record { start = i; path = path }) st (λ _. byNext o st (λ j. run k j (suc m) (l + length (labels pl path)) st)))
+          → Told i m l (onMatch b o (record { start = i; path = path }) st (λ j. run k (standAt j (suc m) (l + length (labels pl path))) st))
       fit ih lt path a o d false e = stopped lt (a .best) e
       fit ih lt path a none d true e = lost lt (a .best) e d
       fit ih lt path a (some j) d true e = matched lt (a .best) e d (ih j (suc m) (l + length (labels pl path)) st (omega (arith, next-on skip i (endOf (length pl) path) (labels pl path) j d)))
 
-      hit : ToldWith k → i < n → (r : Option (List ℕ)) → Answers p holds n i r → Told i m l (onAnswer (planOf pl n false skip room) (run k) i m l (plainly r) st)
+      hit : ToldWith k → i < n → (r : Option (List ℕ)) → Answers p holds n i r → Told i m l (onAnswer (planOf pl n false skip room) (run k) (standAt i m l) (plainly r) st)
       hit ih lt none a = unmatched lt a (ih (suc i) m l st (omega arith))
       hit ih lt (some path) a = fit ih lt path a (on path) refl (room m l (labels pl path)) refl
 
-      go : ToldWith k → (b : Bool) → ltb i n ≡ b → Told i m l (below b (ended done st) (λ _. onAnswer (planOf pl n false skip room) (run k) i m l (plainly (plainFrom holds n (places (unroll p)) i)) st))
+      go : ToldWith k → (b : Bool) → ltb i n ≡ b → Told i m l (below b (ended done st) (λ _. onAnswer (planOf pl n false skip room) (run k) (standAt i m l) (plainly (plainFrom holds n (places (unroll p)) i)) st))
       go ih false e = finished (ltb-false i n e)
       go ih true e = hit ih (ltb-true i n e) (plainFrom holds n (places (unroll p)) i) (preferred p o holds n i)
 
   -- the matches written, and the one at which the search stops, are the greatest derivations at
   -- their starts, and no start is left out
-  pub plain-reports : Reports p holds n skip room 0 0 0 (shown pl (plainSearch holds n pl skip room .matches)) (shownEnd pl (plainSearch holds n pl skip room .end))
+  pub plain-reports : Reports (setting p (rowSets n holds) skip room) 0 0 0 (shown pl (plainSearch (seek holds n pl skip room) .matches)) (shownEnd pl (plainSearch (seek holds n pl skip room) .end))
   unfolding plainSearch
   plain-reports = swept n 0 0 0 tt (omega arith)
 
-  pub walk-reports : Reports p holds n skip room 0 0 0 (shown pl (walkSearch (whole n) holds n pl skip room .matches)) (shownEnd pl (walkSearch (whole n) holds n pl skip room .end))
+  pub walk-reports : Reports (setting p (rowSets n holds) skip room) 0 0 0 (shown pl (walkSearch (whole n) (seek holds n pl skip room) .matches)) (shownEnd pl (walkSearch (whole n) (seek holds n pl skip room) .end))
   walk-reports =
       let a = walk-plain (unroll p) holds n skip room in
       rw (a .matches, a .end) plain-reports
@@ -86,8 +87,8 @@ module _ (p : Tree pattern) (holds : ℕ → ℕ → Bool) (n : ℕ) (skip : Ski
   none-some : {a : ℕ} → _≡_ {A = Option ℕ} none (some a) → ⊥
   none-some e = let z : _≡_ {A = ℕ} 0 1 = cc in omega arith
 
-  pub reports-one : {i m l : ℕ} {ms ms′ : List (ℕ × List ℕ)} {end end′ : End (ℕ × List ℕ)} → Reports p holds n skip room i m l ms end
-      → Reports p holds n skip room i m l ms′ end′ → (ms ≡ ms′) × (end ≡ end′)
+  pub reports-one : {i m l : ℕ} {ms ms′ : List (ℕ × List ℕ)} {end end′ : End (ℕ × List ℕ)} → Reports (setting p (rowSets n holds) skip room) i m l ms end
+      → Reports (setting p (rowSets n holds) skip room) i m l ms′ end′ → (ms ≡ ms′) × (end ≡ end′)
   reports-one (finished h) (finished h′) = (refl, refl)
   reports-one (finished h) (unmatched lt x r) = absurd (omega arith)
   reports-one (finished h) (matched lt x b d r) = absurd (omega arith)
@@ -103,7 +104,7 @@ module _ (p : Tree pattern) (holds : ℕ → ℕ → Bool) (n : ℕ) (skip : Ski
   reports-one (matched {i = i} {j = j} {k = k} {m = m} {l = l} {w = w} lt x b d r) (matched {j = j′} {k = k′} {w = v} {ms = ks} {end = end} lt′ x′ b′ d′ r′) =
       let s = greatest-same x x′ in
       let q : k′ ≡ k = some-same (sym d′ ∙ next-same i j′ j v w (sym (s .0)) (sym (s .1)) ∙ d) in
-      let r₁ : Reports p holds n skip room k (suc m) (l + length w) ks end = rw (← q, s .1) r′ in
+      let r₁ : Reports (setting p (rowSets n holds) skip room) k (suc m) (l + length w) ks end = rw (← q, s .1) r′ in
       let y = reports-one r r₁ in
       (ap₂ (λ (u : List ℕ) (z : List (ℕ × List ℕ)). (i, u) ∷ z) (s .1) (y .0), y .1)
   reports-one (matched {i = i} {j = j} {k = k} {w = w} lt x b d r) (lost {j = j′} {w = v} lt′ x′ b′ d′) =
@@ -130,9 +131,9 @@ module _ (p : Tree pattern) (holds : ℕ → ℕ → Bool) (n : ℕ) (skip : Ski
   begins-on x y xs ys e b = (b .0, ap₂ (λ (z : ℕ × List ℕ) (zs : List (ℕ × List ℕ)). z ∷ zs) (sym e) (b .1))
 
   abbrev Unlimited : ℕ → ℕ → ℕ → List (ℕ × List ℕ) → End (ℕ × List ℕ) → Type 0
-  Unlimited i m l ms end = Reports p holds n skip (λ m l w. true) i m l ms end
+  Unlimited i m l ms end = Reports (setting p (rowSets n holds) skip (λ m l w. true)) i m l ms end
 
-  pub reports-begin : {i m l m′ l′ : ℕ} {ms ms′ : List (ℕ × List ℕ)} {end end′ : End (ℕ × List ℕ)} → Reports p holds n skip room i m l ms end → Unlimited i m′ l′ ms′ end′ → Begins ms ms′
+  pub reports-begin : {i m l m′ l′ : ℕ} {ms ms′ : List (ℕ × List ℕ)} {end end′ : End (ℕ × List ℕ)} → Reports (setting p (rowSets n holds) skip room) i m l ms end → Unlimited i m′ l′ ms′ end′ → Begins ms ms′
   reports-begin {ms′ = ms′} (finished h) r′ = (ms′, refl)
   reports-begin {ms′ = ms′} (stopped lt x b) r′ = (ms′, refl)
   reports-begin (unmatched lt x r) (finished h′) = absurd (omega arith)

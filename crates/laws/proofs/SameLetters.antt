@@ -8,7 +8,7 @@ use lib.Dec.{ltb}
 use lib.ListN.{length, getD}
 use Rattle.rules.specs.Places.{Place, pLetter, pCaret, pDollar, pFork, pEnd}
 use Rattle.rules.specs.Walk.{passIf, pairAt, positionOf, placeOf, waysAt, pairWays}
-use Rattle.rules.specs.Search.{Skip, Terms, walkSearch}
+use Rattle.rules.specs.Search.{Skip, Terms, walkSearch, seek}
 use Rattle.laws.proofs.ThinPlaces.{Spelt}
 
 module _ (holds holds′ : ℕ → ℕ → Bool) (agree : (c : ℕ) → 65 ≤ c → c ≤ 90 → (i : ℕ) → holds c i ≡ holds′ c i) (n : ℕ) where
@@ -21,7 +21,7 @@ module _ (holds holds′ : ℕ → ℕ → Bool) (agree : (c : ℕ) → 65 ≤ c
   ways-agree P pEnd s i = refl
 
   pub search-agrees : (pl : List Place) → ((q : ℕ) → Spelt (getD pl q (pFork []))) → (terms : Terms) (skip : Skip) (fits : ℕ → ℕ → List ℕ → Bool)
-      → walkSearch terms holds n pl skip fits ≡ walkSearch terms holds′ n pl skip fits
+      → walkSearch terms (seek holds n pl skip fits) ≡ walkSearch terms (seek holds′ n pl skip fits)
   unfolding walkSearch pairWays
   search-agrees pl s terms skip fits =
       let e : pairWays holds n pl ≡ pairWays holds′ n pl = λ i x. ways-agree (length pl) (getD pl (placeOf (length pl) x) (pFork [])) (s (placeOf (length pl) x)) (positionOf (length pl) x) i in

@@ -16,8 +16,8 @@ use lib.ListN.{length, take, drop, take-append-drop, length-append}
 use lib.Seq.{take-append-le, take-append-add, take-length}
 use borrow.Author.Tests.{lt-ltb, ltb-false, ltb-true, eq-eqb, eqb-true, eqb-false, lt-leb}
 use Rattle.rules.specs.Basics.{pick}
-use Rattle.rules.specs.Language.{Tree, pattern, Written, Begins, WrongAt, Unfinished}
-use Rattle.rules.specs.Reader.{Reading, got, bad, left, skip, read, depth, rankOf, whole, treeOf, stopOf}
+use Rattle.rules.specs.Language.{Tree, pattern, Written, BeginsText, WrongAt, Unfinished}
+use Rattle.rules.specs.Reader.{Reading, got, bad, left, skipSpaces, read, depth, rankOf, wholeTree, treeOf, stopOf}
 use Rattle.rules.specs.Query.{textOf}
 use Rattle.rules.specs.Answers.{noTree, wrong, incomplete, offsetAt, badRows, Buffers, shortNotes, shortTrail, endAnswer, Test, queryTests, refusal, answerBy, refuses, refused, walkWithin, answerWithin, searchWithin}
 use Rattle.laws.proofs.GrammarSound.{read-begins, found-written}
@@ -27,13 +27,13 @@ use Rattle.laws.proofs.FirstTrue.{end-accepted, applies, given-applies}
 use Rattle.laws.proofs.Ahead.{other, other-on, other-skip, Same, read-same}
 
 -- the beginning of what begins a text of the language does so too
-pub begins-front : (a b : List ℕ) → Begins (a ++ b) → Begins a
-unfolding Begins
+pub begins-front : (a b : List ℕ) → BeginsText (a ++ b) → BeginsText a
+unfolding BeginsText
 begins-front a b h = (b ++ h .0, h .1, subst (Written (h .1)) (append-assoc a b (h .0)) (h .2))
 
 -- a text of the language begins one
-pub written-begins : (p : Tree pattern) (s : List ℕ) → Written p s → Begins s
-unfolding Begins
+pub written-begins : (p : Tree pattern) (s : List ℕ) → Written p s → BeginsText s
+unfolding BeginsText
 written-begins p s h = ([], p, subst (Written p) (sym (append-nil s)) h)
 
 -- ---- bytes that are exchanged
@@ -49,51 +49,51 @@ other-is b (c ∷ w) u v = other-on (length u) v c (w ++ (b ∷ u)) (rw (length-
 
 -- ---- no text of the language begins with what is read and the byte at which reading stops
 
-module _ (text w : List ℕ) (b : ℕ) (u : List ℕ) (e : text ≡ w ++ (b ∷ u)) (l : left (read (4 * length text + 4) pattern (skip text)) ≡ b ∷ u) (v : List ℕ) where
+module _ (text w : List ℕ) (b : ℕ) (u : List ℕ) (e : text ≡ w ++ (b ∷ u)) (l : left (read (4 * length text + 4) pattern (skipSpaces text)) ≡ b ∷ u) (v : List ℕ) where
   abbrev t : List ℕ
   t = w ++ (b ∷ v)
 
   abbrev N : ℕ
   N = 4 * length text + 4 + (4 * length t + 4)
 
-  at-depth : read (4 * length text + 4) pattern (skip text) ≡ read N pattern (skip text)
+  at-depth : read (4 * length text + 4) pattern (skipSpaces text) ≡ read N pattern (skipSpaces text)
   unfolding depth rankOf
-  at-depth = read-enough (4 * length text + 4) N pattern (skip text) (omega (arith, skip-shorter text)) (omega (arith, skip-shorter text))
+  at-depth = read-enough (4 * length text + 4) N pattern (skipSpaces text) (omega (arith, skip-shorter text)) (omega (arith, skip-shorter text))
 
   exchanged : other (length u) v text ≡ t
   exchanged = ap (other (length u) v) e ∙ other-is b w u v
 
   -- with the byte b the readers stop at it, whatever follows
-  stops-too : (r : Reading (Tree pattern)) → left r ≡ b ∷ u → Same (length u) v (skip text) r (read N pattern (other (length u) v (skip text))) → whole (read N pattern (skip t)) ≡ none
-  unfolding Same left whole
+  stops-too : (r : Reading (Tree pattern)) → left r ≡ b ∷ u → Same (length u) v (skipSpaces text) r (read N pattern (other (length u) v (skipSpaces text))) → wholeTree (read N pattern (skipSpaces t)) ≡ none
+  unfolding Same left wholeTree
   stops-too (bad x) q h =
       let k = h (rw q (omega arith)) in
-      ap (λ (y : List ℕ). whole (read N pattern (skip y))) (sym exchanged) ∙ rw (other-skip (length u) v text (k .0), k .1) refl
+      ap (λ (y : List ℕ). wholeTree (read N pattern (skipSpaces y))) (sym exchanged) ∙ rw (other-skip (length u) v text (k .0), k .1) refl
   stops-too (got p x) q h =
       let k = h (rw q (omega arith)) in
       let z : other (length u) v x ≡ b ∷ other (length u) v u = ap (other (length u) v) q ∙ other-on (length u) v b u (omega arith) in
-      ap (λ (y : List ℕ). whole (read N pattern (skip y))) (sym exchanged) ∙ rw (other-skip (length u) v text (k .0), k .1, z) refl
+      ap (λ (y : List ℕ). wholeTree (read N pattern (skipSpaces y))) (sym exchanged) ∙ rw (other-skip (length u) v text (k .0), k .1, z) refl
 
   pub no-tree : treeOf t ≡ none
   unfolding depth rankOf
   no-tree =
       tree-by-depth N t (omega (arith, skip-shorter t))
-      ∙ stops-too (read N pattern (skip text)) (ap left (sym at-depth) ∙ l) (read-same (length u) v N pattern (skip text))
+      ∙ stops-too (read N pattern (skipSpaces text)) (ap left (sym at-depth) ∙ l) (read-same (length u) v N pattern (skipSpaces text))
 
 -- ---- where reading stops
 
 -- what is read of a text, up to where reading stops
 record Stopped (text : List ℕ) : Type 0 where
   front : List ℕ
-  is : text ≡ front ++ left (read (4 * length text + 4) pattern (skip text))
-  begun : Begins front
+  is : text ≡ front ++ left (read (4 * length text + 4) pattern (skipSpaces text))
+  begun : BeginsText front
   stop : stopOf text ≡ length front
 
 stopped : (text : List ℕ) → Stopped text
 unfolding stopOf
 stopped text =
     let k = read-begins (4 * length text + 4) text in
-    let n : length text ≡ length (k .0) + length (left (read (4 * length text + 4) pattern (skip text))) = ap length (k .1) ∙ length-append (k .0) _ in
+    let n : length text ≡ length (k .0) + length (left (read (4 * length text + 4) pattern (skipSpaces text))) = ap length (k .1) ∙ length-append (k .0) _ in
     record { front = k .0; is = k .1; begun = k .2; stop = omega arith }
 
 pub stop-inside : (text : List ℕ) → stopOf text ≤ length text
@@ -101,18 +101,18 @@ unfolding stopOf
 stop-inside text = omega arith
 
 -- up to there, every beginning of the text begins a text of the language
-pub stop-begins : (text : List ℕ) (j : ℕ) → j ≤ stopOf text → Begins (take j text)
+pub stop-begins : (text : List ℕ) (j : ℕ) → j ≤ stopOf text → BeginsText (take j text)
 stop-begins text j h =
     let k = stopped text in
     let i : take j text ≡ take j (k .front) = ap (take j) (k .is) ∙ take-append-le j (k .front) _ (omega (arith, k .stop)) in
-    subst Begins (sym i) (begins-front (take j (k .front)) (drop j (k .front)) (subst Begins (sym (take-append-drop j (k .front))) (k .begun)))
+    subst BeginsText (sym i) (begins-front (take j (k .front)) (drop j (k .front)) (subst BeginsText (sym (take-append-drop j (k .front))) (k .begun)))
 
 -- and with the byte there, none
-pub stop-ends : (text : List ℕ) → stopOf text < length text → Begins (take (stopOf text + 1) text) → ⊥
-unfolding Begins
-stop-ends text h g = go (left (read (4 * length text + 4) pattern (skip text))) refl
+pub stop-ends : (text : List ℕ) → stopOf text < length text → BeginsText (take (stopOf text + 1) text) → ⊥
+unfolding BeginsText
+stop-ends text h g = go (left (read (4 * length text + 4) pattern (skipSpaces text))) refl
   where
-    go : (x : List ℕ) → left (read (4 * length text + 4) pattern (skip text)) ≡ x → ⊥
+    go : (x : List ℕ) → left (read (4 * length text + 4) pattern (skipSpaces text)) ≡ x → ⊥
     go [] e =
         let k = stopped text in
         let n : length text ≡ length (k .front) + 0 = ap length (k .is ∙ ap (λ (x : List ℕ). k .front ++ x) e) ∙ length-append (k .front) [] in
@@ -167,7 +167,7 @@ wrong-exactly text k = (there, back)
         let q : stopOf text ≡ k = omega (arith, a, b) in
         let l : stopOf text < length text = omega (arith, h .inside) in
         let n : noTree (treeOf text) ≡ true = no-tree-of text λ p w.
-        h .ends (begins-front (take (k + 1) text) (drop (k + 1) text) (subst Begins (sym (take-append-drop (k + 1) text)) (written-begins p text w))) in
+        h .ends (begins-front (take (k + 1) text) (drop (k + 1) text) (subst BeginsText (sym (take-append-drop (k + 1) text)) (written-begins p text w))) in
         (rw (n, lt-ltb (stopOf text) (length text) l) refl, q)
 
 -- Answer 14: the text ends but could go on exactly if the test is true
@@ -179,12 +179,12 @@ incomplete-exactly text = (there, back)
     there h =
         let t = (and-eq-true-iff (noTree (treeOf text)) (eqb (stopOf text) (length text))) .0 h in
         let l = eqb-true (stopOf text) (length text) (t .1) in
-        record { begins = subst Begins (take-length text) (stop-begins text (length text) (omega arith)); outside = not-written text (t .0) }
+        record { begins = subst BeginsText (take-length text) (stop-begins text (length text) (omega arith)); outside = not-written text (t .0) }
 
     back : Unfinished text → incomplete text ≡ true
     back h =
         let a : stopOf text < length text → ⊥ = λ l. stop-ends text l
-        (begins-front (take (stopOf text + 1) text) (drop (stopOf text + 1) text) (subst Begins (sym (take-append-drop (stopOf text + 1) text)) (h .begins))) in
+        (begins-front (take (stopOf text + 1) text) (drop (stopOf text + 1) text) (subst BeginsText (sym (take-append-drop (stopOf text + 1) text)) (h .begins))) in
         let q : stopOf text ≡ length text = omega (arith, a, stop-inside text) in
         rw (no-tree-of text (h .outside), eq-eqb (stopOf text) (length text) q) refl
 

@@ -11,8 +11,8 @@ use lib.ListN.{length, getD}
 use lib.Dec.{ltb}
 use borrow.Author.Tests.{ltb-true}
 use Rattle.rules.specs.Basics.{Begins}
-use Rattle.rules.specs.Search.{pathPairs, Match, End, done, full, stuck, unfinished, Finished, openOf, Attempted, hit, miss, halts, Swept, Plan, ended, noStart, below, withMatch, byFit, byNext, onAnswer, sweep, foundIn, Kept, answered, walkAt, plainly, plainAt}
-use Rattle.rules.specs.Walk.{Ways, accept, try, Halting, Outcome, found, failed, halted, orElse, close, enterUnless, tries, inside, insideBy, countTrue, plain}
+use Rattle.rules.specs.Search.{pathPairs, Match, End, done, full, stuck, unfinished, Finished, openOf, Attempted, hit, miss, halts, Swept, Plan, ended, noStart, below, withMatch, onAnswer, sweep, foundIn, answered, walkAt, plainly, plainAt, Standing, onMatch, standAt}
+use Rattle.rules.specs.Walk.{Ways, accept, try, Halting, Outcome, found, failed, halted, orElse, close, enterUnless, tries, inside, insideBy, countTrue, plain, Kept, asKept, oneStep}
 use Rattle.laws.proofs.Plain.{Sound, InsideSound, inside-sound}
 use Rattle.laws.proofs.Walk.{InsidePost, inside-post}
 use Rattle.rules.specs.Working.{All, Falls, Out}
@@ -24,42 +24,42 @@ abbrev pub Unhalting : Halting → Type 0
 Unhalting h = ((s : ℕ) → h .spent s ≡ false) × ((x : ℕ) → h .waits x ≡ false)
 
 abbrev pub Unhalted : Outcome → Type 0
-Unhalted (found p F s) = Unit {0}
-Unhalted (failed F s) = Unit {0}
-Unhalted (halted w p F s) = ⊥
+Unhalted (found p kept) = Unit {0}
+Unhalted (failed kept) = Unit {0}
+Unhalted (halted w p kept) = ⊥
 
 module _ (h : Halting) (calm : Unhalting h) where
-  unhalted-or : (r : Outcome) (next : List Bool → ℕ → Outcome) → Unhalted r → ((F : List Bool) (s : ℕ) → Unhalted (next F s)) → Unhalted (orElse r next)
-  unhalted-or (found p F s) next a b = tt
-  unhalted-or (failed F s) next a b = b F s
-  unhalted-or (halted w p F s) next a b = a
+  unhalted-or : (r : Outcome) (next : Kept → Outcome) → Unhalted r → ((F : List Bool) (s : ℕ) → Unhalted (next (asKept F s))) → Unhalted (orElse r next)
+  unhalted-or (found p kept) next a b = tt
+  unhalted-or (failed kept) next a b = b (kept .failed) (kept .steps)
+  unhalted-or (halted w p kept) next a b = a
 
   unhalted-close : (x : ℕ) (r : Outcome) → Unhalted r → Unhalted (close x r)
-  unhalted-close x (found p F s) a = tt
-  unhalted-close x (failed F s) a = tt
-  unhalted-close x (halted w p F s) a = a
+  unhalted-close x (found p kept) a = tt
+  unhalted-close x (failed kept) a = tt
+  unhalted-close x (halted w p kept) a = a
 
-  pub tried-unhalted : (f : List Bool → ℕ → ℕ → Outcome) → ((F : List Bool) (s y : ℕ) → Unhalted (f F s y)) → (F : List Bool) (s y : ℕ) (t : Bool) → Unhalted (enterUnless t (h .spent s) f F s y)
+  pub tried-unhalted : (f : Kept → ℕ → Outcome) → ((F : List Bool) (s y : ℕ) → Unhalted (f (asKept F s) y)) → (F : List Bool) (s y : ℕ) (t : Bool) → Unhalted (enterUnless t (h .spent s) f (asKept F s) y)
   tried-unhalted f g F s y t = rw (calm .0 s) (go t)
     where
-      go : (t : Bool) → Unhalted (enterUnless t false f F s y)
+      go : (t : Bool) → Unhalted (enterUnless t false f (asKept F s) y)
       go true = tt
       go false = g F (suc s) y
 
-  tries-unhalted : (f : List Bool → ℕ → ℕ → Outcome) → ((F : List Bool) (s y : ℕ) → Unhalted (f F s y)) → (ys : List ℕ) (F : List Bool) (s : ℕ) → Unhalted (tries h f F s ys)
+  tries-unhalted : (f : Kept → ℕ → Outcome) → ((F : List Bool) (s y : ℕ) → Unhalted (f (asKept F s) y)) → (ys : List ℕ) (F : List Bool) (s : ℕ) → Unhalted (tries h f (asKept F s) ys)
   unfolding tries
   tries-unhalted f g [] F s = tt
   tries-unhalted f g (y ∷ ys) F s =
-      unhalted-or (enterUnless (getD F y false) (h .spent s) f F s y) (λ F′ s′. tries h f F′ s′ ys) (tried-unhalted f g F s y (getD F y false)) (λ F′ s′. tries-unhalted f g ys F′ s′)
+      unhalted-or (enterUnless (getD F y false) (h .spent s) f (asKept F s) y) (λ kept′. tries h f kept′ ys) (tried-unhalted f g F s y (getD F y false)) (λ F′ s′. tries-unhalted f g ys F′ s′)
 
-  pub inside-unhalted : (ways : ℕ → Ways) (k : ℕ) (F : List Bool) (s x : ℕ) → Unhalted (inside h ways k F s x)
+  pub inside-unhalted : (ways : ℕ → Ways) (k : ℕ) (F : List Bool) (s x : ℕ) → Unhalted (inside h ways k (asKept F s) x)
   unfolding inside insideBy
   inside-unhalted ways zero F s x = tt
   inside-unhalted ways (suc k) F s x = rw (calm .1 x) (go (inside-unhalted ways k) (ways x))
     where
-      go : ((F : List Bool) (s y : ℕ) → Unhalted (inside h ways k F s y)) → (w : Ways) → Unhalted (insideBy h false w (inside h ways k) F s x)
+      go : ((F : List Bool) (s y : ℕ) → Unhalted (inside h ways k (asKept F s) y)) → (w : Ways) → Unhalted (insideBy h false w (inside h ways k) (asKept F s) x)
       go ih accept = tt
-      go ih (try ys) = unhalted-close x (tries h (inside h ways k) F s ys) (tries-unhalted (inside h ways k) ih ys F s)
+      go ih (try ys) = unhalted-close x (tries h (inside h ways k) (asKept F s) ys) (tries-unhalted (inside h ways k) ih ys F s)
 
 -- ---- a search that nothing halts is finished
 
@@ -69,15 +69,15 @@ Answered miss = Unit {0}
 Answered (halts w p) = ⊥
 
 module _ {S : Type 0} (att : ℕ → S → Attempted × S) (sure : (i : ℕ) (st : S) → Answered (att i st .0)) (plan : Plan) (last : plan .more ≡ false) where
-  abbrev FinishedOn : (ℕ → ℕ → ℕ → S → Swept S) → Type 0
-  FinishedOn f = (i m l : ℕ) (st : S) → Finished (f i m l st .end)
+  abbrev FinishedOn : (Standing → S → Swept S) → Type 0
+  FinishedOn f = (i m l : ℕ) (st : S) → Finished (f (standAt i m l) st .end)
 
-  finished-answer : (f : ℕ → ℕ → ℕ → S → Swept S) → FinishedOn f → (i m l : ℕ) (a : Attempted) (st : S) → Answered a → Finished (onAnswer plan f i m l a st .end)
+  finished-answer : (f : Standing → S → Swept S) → FinishedOn f → (i m l : ℕ) (a : Attempted) (st : S) → Answered a → Finished (onAnswer plan f (standAt i m l) a st .end)
   finished-answer f ih i m l miss st h = ih (suc i) m l st
   finished-answer f ih i m l (halts w p) st h = h
   finished-answer f ih i m l (hit p) st h = go (plan .next i p) (plan .fits m l p)
     where
-      go : (o : Option ℕ) (t : Bool) → Finished (byFit t (record { start = i; path = p }) st (λ _. byNext o st (λ j. f j (suc m) (l + plan .rows p) st)) .end)
+      go : (o : Option ℕ) (t : Bool) → Finished (onMatch t o (record { start = i; path = p }) st (λ j. f (standAt j (suc m) (l + plan .rows p)) st) .end)
       go o false = tt
       go none true = tt
       go (some j) true = ih j (suc m) (l + plan .rows p) st
@@ -87,22 +87,22 @@ module _ {S : Type 0} (att : ℕ → S → Attempted × S) (sure : (i : ℕ) (st
   sweep-finished zero i m l st = rw last tt
   sweep-finished (suc k) i m l st = go (sweep-finished k) (ltb i (plan .n))
     where
-      go : FinishedOn (sweep att plan k) → (t : Bool) → Finished (below t (ended (noStart (plan .more) i) st) (λ _. onAnswer plan (sweep att plan k) i m l (att i st .0) (att i st .1)) .end)
+      go : FinishedOn (sweep att plan k) → (t : Bool) → Finished (below t (ended (noStart (plan .more) i) st) (λ _. onAnswer plan (sweep att plan k) (standAt i m l) (att i st .0) (att i st .1)) .end)
       go ih false = rw last tt
       go ih true = finished-answer (sweep att plan k) ih i m l (att i st .0) (att i st .1) (sure i st)
 
 -- ---- what every attempt keeps, the search keeps
 
 module _ {S : Type 0} (I : S → Type 0) (att : ℕ → S → Attempted × S) (keep : (i : ℕ) (st : S) → I st → I (att i st .1)) (plan : Plan) where
-  abbrev KeepsOn : (ℕ → ℕ → ℕ → S → Swept S) → Type 0
-  KeepsOn f = (i m l : ℕ) (st : S) → I st → I (f i m l st .state)
+  abbrev KeepsOn : (Standing → S → Swept S) → Type 0
+  KeepsOn f = (i m l : ℕ) (st : S) → I st → I (f (standAt i m l) st .state)
 
-  keeps-answer : (f : ℕ → ℕ → ℕ → S → Swept S) → KeepsOn f → (i m l : ℕ) (a : Attempted) (st : S) → I st → I (onAnswer plan f i m l a st .state)
+  keeps-answer : (f : Standing → S → Swept S) → KeepsOn f → (i m l : ℕ) (a : Attempted) (st : S) → I st → I (onAnswer plan f (standAt i m l) a st .state)
   keeps-answer f ih i m l miss st h = ih (suc i) m l st h
   keeps-answer f ih i m l (halts w p) st h = h
   keeps-answer f ih i m l (hit p) st h = go (plan .next i p) (plan .fits m l p)
     where
-      go : (o : Option ℕ) (t : Bool) → I (byFit t (record { start = i; path = p }) st (λ _. byNext o st (λ j. f j (suc m) (l + plan .rows p) st)) .state)
+      go : (o : Option ℕ) (t : Bool) → I (onMatch t o (record { start = i; path = p }) st (λ j. f (standAt j (suc m) (l + plan .rows p)) st) .state)
       go o false = h
       go none true = h
       go (some j) true = ih j (suc m) (l + plan .rows p) st h
@@ -112,7 +112,7 @@ module _ {S : Type 0} (I : S → Type 0) (att : ℕ → S → Attempted × S) (k
   sweep-keeps zero i m l st h = h
   sweep-keeps (suc k) i m l st h = go (sweep-keeps k) (ltb i (plan .n))
     where
-      go : KeepsOn (sweep att plan k) → (t : Bool) → I (below t (ended (noStart (plan .more) i) st) (λ _. onAnswer plan (sweep att plan k) i m l (att i st .0) (att i st .1)) .state)
+      go : KeepsOn (sweep att plan k) → (t : Bool) → I (below t (ended (noStart (plan .more) i) st) (λ _. onAnswer plan (sweep att plan k) (standAt i m l) (att i st .0) (att i st .1)) .state)
       go ih false = h
       go ih true = keeps-answer (sweep att plan k) ih i m l (att i st .0) (att i st .1) (keep i st h)
 
@@ -124,14 +124,14 @@ finished-open stuck f = refl
 finished-open (unfinished h i p) f = absurd f
 
 answered-sure : (r : Outcome) → Unhalted r → Answered (answered r .0)
-answered-sure (found p F s) h = tt
-answered-sure (failed F s) h = tt
-answered-sure (halted w p F s) h = h
+answered-sure (found p kept) h = tt
+answered-sure (failed kept) h = tt
+answered-sure (halted w p kept) h = h
 
 pub walk-sure : (h : Halting) → Unhalting h → (ways : ℕ → Ways) (K : ℕ) (first : ℕ → ℕ) (i : ℕ) (st : Kept) → Answered (walkAt h ways K first i st .0)
 walk-sure h calm ways K first i st =
-    answered-sure (enterUnless (getD (st .0) (first i) false) (h .spent (st .1)) (inside h ways K) (st .0) (st .1) (first i))
-    (tried-unhalted h calm (inside h ways K) (inside-unhalted h calm ways K) (st .0) (st .1) (first i) (getD (st .0) (first i) false))
+    answered-sure (enterUnless (getD (st .failed) (first i) false) (h .spent (st .steps)) (inside h ways K) st (first i))
+    (tried-unhalted h calm (inside h ways K) (inside-unhalted h calm ways K) (st .failed) (st .steps) (first i) (getD (st .failed) (first i) false))
 
 -- ---- two ways to make attempts, of which the first may halt and else answers as the second does
 
@@ -161,8 +161,8 @@ LikeAnswer (halts h p) b = Unit {0}
 
 module _ {S T : Type 0} (I : S → Type 0) (att : ℕ → S → Attempted × S) (alt : ℕ → T → Attempted × T)
     (like : (i : ℕ) (st : S) (su : T) → I st → LikeAnswer (att i st .0) (alt i su .0) × I ((att i st) .1)) (plan : Plan) where
-  abbrev FollowsOn : (ℕ → ℕ → ℕ → S → Swept S) → (ℕ → ℕ → ℕ → T → Swept T) → Type 0
-  FollowsOn f g = (i m l : ℕ) (st : S) (su : T) → I st → Follows I (f i m l st) (g i m l su)
+  abbrev FollowsOn : (Standing → S → Swept S) → (Standing → T → Swept T) → Type 0
+  FollowsOn f g = (i m l : ℕ) (st : S) (su : T) → I st → Follows I (f (standAt i m l) st) (g (standAt i m l) su)
 
   -- the same end and no match
   follows-end : (e : End Match) (st : S) (su : T) → I st → Follows {S = S} {T = T} I (ended e st) (ended e su)
@@ -180,18 +180,18 @@ module _ {S T : Type 0} (I : S → Type 0) (att : ℕ → S → Attempted × S) 
         state = f .state;
       }
 
-  follows-answer : (f : ℕ → ℕ → ℕ → S → Swept S) (g : ℕ → ℕ → ℕ → T → Swept T) → FollowsOn f g → (i m l : ℕ) (a b : Attempted) (st : S) (su : T) → LikeAnswer a b → I st
-      → Follows I (onAnswer plan f i m l a st) (onAnswer (closed plan) g i m l b su)
+  follows-answer : (f : Standing → S → Swept S) (g : Standing → T → Swept T) → FollowsOn f g → (i m l : ℕ) (a b : Attempted) (st : S) (su : T) → LikeAnswer a b → I st
+      → Follows I (onAnswer plan f (standAt i m l) a st) (onAnswer (closed plan) g (standAt i m l) b su)
   follows-answer f g ih i m l miss b st su e h = rw e (ih (suc i) m l st su h)
-  follows-answer f g ih i m l (halts w p) b st su e h = follows-halt (unfinished w i p) (λ z. z) st h (onAnswer (closed plan) g i m l b su)
+  follows-answer f g ih i m l (halts w p) b st su e h = follows-halt (unfinished w i p) (λ z. z) st h (onAnswer (closed plan) g (standAt i m l) b su)
   follows-answer f g ih i m l (hit p) b st su e h = rw e (go (plan .next i p) (plan .fits m l p))
     where
       go : (o : Option ℕ) (t : Bool)
-          → Follows I (byFit t (record { start = i; path = p }) st (λ _. byNext o st (λ j. f j (suc m) (l + plan .rows p) st)))
-          (byFit t (record { start = i; path = p }) su (λ _. byNext o su (λ j. g j (suc m) (l + plan .rows p) su)))
+          → Follows I (onMatch t o (record { start = i; path = p }) st (λ j. f (standAt j (suc m) (l + plan .rows p)) st))
+          (onMatch t o (record { start = i; path = p }) su (λ j. g (standAt j (suc m) (l + plan .rows p)) su))
       go o false = follows-end (full (record { start = i; path = p })) st su h
       go none true = follows-match (record { start = i; path = p }) (ended stuck st) (ended stuck su) (follows-end stuck st su h)
-      go (some j) true = follows-match (record { start = i; path = p }) (f j (suc m) (l + plan .rows p) st) (g j (suc m) (l + plan .rows p) su) (ih j (suc m) (l + plan .rows p) st su h)
+      go (some j) true = follows-match (record { start = i; path = p }) (f (standAt j (suc m) (l + plan .rows p)) st) (g (standAt j (suc m) (l + plan .rows p)) su) (ih j (suc m) (l + plan .rows p) st su h)
 
   follows-none : (more : Bool) (i : ℕ) (st : S) (su : T) → I st → Follows {S = S} {T = T} I (ended (noStart more i) st) (ended done su)
   follows-none false i st su h = follows-end done st su h
@@ -203,8 +203,8 @@ module _ {S T : Type 0} (I : S → Type 0) (att : ℕ → S → Attempted × S) 
   sweep-follows (suc k) i m l st su h = go (sweep-follows k) (ltb i (plan .n))
     where
       go : FollowsOn (sweep att plan k) (sweep alt (closed plan) k) → (t : Bool)
-          → Follows I (below t (ended (noStart (plan .more) i) st) (λ _. onAnswer plan (sweep att plan k) i m l (att i st .0) (att i st .1)))
-          (below t (ended done su) (λ _. onAnswer (closed plan) (sweep alt (closed plan) k) i m l (alt i su .0) (alt i su .1)))
+          → Follows I (below t (ended (noStart (plan .more) i) st) (λ _. onAnswer plan (sweep att plan k) (standAt i m l) (att i st .0) (att i st .1)))
+          (below t (ended done su) (λ _. onAnswer (closed plan) (sweep alt (closed plan) k) (standAt i m l) (alt i su .0) (alt i su .1)))
       go ih false = follows-none (plan .more) i st su h
       go ih true =
           let a = like i st su h in
@@ -214,73 +214,73 @@ module _ {S T : Type 0} (I : S → Type 0) (att : ℕ → S → Attempted × S) 
 
 module _ (h : Halting) (ways : ℕ → Ways) (ρ : ℕ → ℕ) (N : ℕ) (falls : Falls ways ρ N) (K : ℕ) (top : (x : ℕ) → ρ x < K) (first : ℕ → ℕ) where
   abbrev pub SoundKept : Kept → Type 0
-  SoundKept st = Sound ways K (st .0)
+  SoundKept st = Sound ways K (st .failed)
 
   walk-plain-at : (i : ℕ) (st : Kept) (su : Unit {0}) → SoundKept st
       → LikeAnswer (walkAt h ways K first i st .0) (plainAt ways K first i su .0) × SoundKept ((walkAt h ways K first i st) .1)
-  walk-plain-at i st su a = go (getD (st .0) (first i) false) refl (h .spent (st .1))
+  walk-plain-at i st su a = go (getD (st .failed) (first i) false) refl (h .spent (st .steps))
     where
       on : (r : Outcome) → InsideSound ways K (first i) r → LikeAnswer (answered r .0) (plainly (plain ways K (first i))) × SoundKept (answered r .1)
-      on (found p F s) t = (ap plainly (t .0), t .1)
-      on (failed F s) t = (ap plainly (t .0), t .1)
-      on (halted w p F s) t = (tt, t)
+      on (found p kept) t = (ap plainly (t .0), t .1)
+      on (failed kept) t = (ap plainly (t .0), t .1)
+      on (halted w p kept) t = (tt, t)
 
-      go : (t : Bool) → getD (st .0) (first i) false ≡ t → (u : Bool)
-          → LikeAnswer (answered (enterUnless t u (inside h ways K) (st .0) (st .1) (first i)) .0) (plainly (plain ways K (first i))) × SoundKept (answered (enterUnless t u (inside h ways K) (st .0) (st .1) (first i)) .1)
+      go : (t : Bool) → getD (st .failed) (first i) false ≡ t → (u : Bool)
+          → LikeAnswer (answered (enterUnless t u (inside h ways K) st (first i)) .0) (plainly (plain ways K (first i))) × SoundKept (answered (enterUnless t u (inside h ways K) st (first i)) .1)
       go true e u = (ap plainly (a (first i) e), a)
       go false e true = (tt, a)
-      go false e false = on (inside h ways K (st .0) (suc (st .1)) (first i)) (inside-sound ways ρ N falls K top h K (st .0) (suc (st .1)) (first i) (top (first i)) a)
+      go false e false = on (inside h ways K (oneStep st) (first i)) (inside-sound ways ρ N falls K top h K (st .failed) (suc (st .steps)) (first i) (top (first i)) a)
 
   pub walk-follows-plain : (plan : Plan) (k i m l : ℕ) (st : Kept) → SoundKept st
-      → Follows SoundKept (sweep (walkAt h ways K first) plan k i m l st) (sweep (plainAt ways K first) (closed plan) k i m l tt)
+      → Follows SoundKept (sweep (walkAt h ways K first) plan k (standAt i m l) st) (sweep (plainAt ways K first) (closed plan) k (standAt i m l) tt)
   walk-follows-plain plan k i m l st a = sweep-follows SoundKept (walkAt h ways K first) (plainAt ways K first) walk-plain-at plan k i m l st tt a
 
 -- ---- the steps of the whole search
 
 pub record Counted (N : ℕ) (st : Kept) (r : Swept Kept) : Type 0 where
-  pub len : length (r .state .0) ≡ N
-  pub sum : r .state .1 + countTrue (st .0) ≡ st .1 + countTrue (r .state .0) + pathPairs (foundIn r) + length (openOf (r .end))
-  pub out : All (Out (r .state .0)) (openOf (r .end))
+  pub len : length (r .state .failed) ≡ N
+  pub sum : r .state .steps + countTrue (st .failed) ≡ st .steps + countTrue (r .state .failed) + pathPairs (foundIn r) + length (openOf (r .end))
+  pub out : All (Out (r .state .failed)) (openOf (r .end))
 
 module _ (h : Halting) (ways : ℕ → Ways) (ρ : ℕ → ℕ) (N : ℕ) (falls : Falls ways ρ N) (K : ℕ) (top : (x : ℕ) → ρ x < K) (first : ℕ → ℕ) (plan : Plan)
     (starts : (i : ℕ) → i < plan .n → first i < N) where
-  abbrev CountedOn : (ℕ → ℕ → ℕ → Kept → Swept Kept) → Type 0
-  CountedOn f = (i m l : ℕ) (st : Kept) → length (st .0) ≡ N → Counted N st (f i m l st)
+  abbrev CountedOn : (Standing → Kept → Swept Kept) → Type 0
+  CountedOn f = (i m l : ℕ) (st : Kept) → length (st .failed) ≡ N → Counted N st (f (standAt i m l) st)
 
   -- the attempt's own count
   abbrev AttemptCounted : Kept → Attempted → Kept → Type 0
-  AttemptCounted st miss su = (length (su .0) ≡ N) × (su .1 + countTrue (st .0) ≡ st .1 + countTrue (su .0))
-  AttemptCounted st (hit p) su = (length (su .0) ≡ N) × (su .1 + countTrue (st .0) ≡ st .1 + countTrue (su .0) + length p)
-  AttemptCounted st (halts w p) su = (length (su .0) ≡ N) × (su .1 + countTrue (st .0) ≡ st .1 + countTrue (su .0) + length p) × All (Out (su .0)) p
+  AttemptCounted st miss su = (length (su .failed) ≡ N) × (su .steps + countTrue (st .failed) ≡ st .steps + countTrue (su .failed))
+  AttemptCounted st (hit p) su = (length (su .failed) ≡ N) × (su .steps + countTrue (st .failed) ≡ st .steps + countTrue (su .failed) + length p)
+  AttemptCounted st (halts w p) su = (length (su .failed) ≡ N) × (su .steps + countTrue (st .failed) ≡ st .steps + countTrue (su .failed) + length p) × All (Out (su .failed)) p
 
-  attempt-counted : (i : ℕ) (st : Kept) → i < plan .n → length (st .0) ≡ N → AttemptCounted st (walkAt h ways K first i st .0) (walkAt h ways K first i st .1)
-  attempt-counted i st lt len = go (getD (st .0) (first i) false) refl (h .spent (st .1))
+  attempt-counted : (i : ℕ) (st : Kept) → i < plan .n → length (st .failed) ≡ N → AttemptCounted st (walkAt h ways K first i st .0) (walkAt h ways K first i st .1)
+  attempt-counted i st lt len = go (getD (st .failed) (first i) false) refl (h .spent (st .steps))
     where
-      on : (r : Outcome) → InsidePost ρ (st .0) (suc (st .1)) (first i) r → AttemptCounted st (answered r .0) (answered r .1)
-      on (found p F s) t = (t .grew .len ∙ len, omega arith)
-      on (failed F s) t = (t .grew .len ∙ len, omega arith)
-      on (halted w p F s) t = (t .grew .len ∙ len, omega arith, t .off)
+      on : (r : Outcome) → InsidePost ρ (st .failed) (suc (st .steps)) (first i) r → AttemptCounted st (answered r .0) (answered r .1)
+      on (found p kept) t = (t .grew .len ∙ len, omega arith)
+      on (failed kept) t = (t .grew .len ∙ len, omega arith)
+      on (halted w p kept) t = (t .grew .len ∙ len, omega arith, t .off)
 
-      go : (t : Bool) → getD (st .0) (first i) false ≡ t → (u : Bool)
-          → AttemptCounted st (answered (enterUnless t u (inside h ways K) (st .0) (st .1) (first i)) .0) (answered (enterUnless t u (inside h ways K) (st .0) (st .1) (first i)) .1)
+      go : (t : Bool) → getD (st .failed) (first i) false ≡ t → (u : Bool)
+          → AttemptCounted st (answered (enterUnless t u (inside h ways K) st (first i)) .0) (answered (enterUnless t u (inside h ways K) st (first i)) .1)
       go true e u = (len, refl)
       go false e true = (len, omega arith, tt)
       go false e false =
-          on (inside h ways K (st .0) (suc (st .1)) (first i))
-          (inside-post h ways ρ N falls K (st .0) (suc (st .1)) (first i) (top (first i)) (starts i lt) len e)
+          on (inside h ways K (oneStep st) (first i))
+          (inside-post h ways ρ N falls K (st .failed) (suc (st .steps)) (first i) (top (first i)) (starts i lt) len e)
 
-  counted-answer : (f : ℕ → ℕ → ℕ → Kept → Swept Kept) → CountedOn f → (i m l : ℕ) (st : Kept) (o : Attempted) (su : Kept) → AttemptCounted st o su
-      → Counted N st (onAnswer plan f i m l o su)
+  counted-answer : (f : Standing → Kept → Swept Kept) → CountedOn f → (i m l : ℕ) (st : Kept) (o : Attempted) (su : Kept) → AttemptCounted st o su
+      → Counted N st (onAnswer plan f (standAt i m l) o su)
   counted-answer f ih i m l st miss su a = let c = ih (suc i) m l su (a .0) in record { len = c .len; sum = omega (arith, c .sum, a .1); out = c .out }
   counted-answer f ih i m l st (halts w p) su a = record { len = a .0; sum = omega (arith, a .1); out = a .2 }
   counted-answer f ih i m l st (hit p) su a = go (plan .next i p) (plan .fits m l p)
     where
-      go : (o : Option ℕ) (t : Bool) → Counted N st (byFit t (record { start = i; path = p }) su (λ _. byNext o su (λ j. f j (suc m) (l + plan .rows p) su)))
+      go : (o : Option ℕ) (t : Bool) → Counted N st (onMatch t o (record { start = i; path = p }) su (λ j. f (standAt j (suc m) (l + plan .rows p)) su))
       go o false = record { len = a .0; sum = omega (arith, a .1); out = tt }
       go none true = record { len = a .0; sum = omega (arith, a .1); out = tt }
       go (some j) true = let c = ih j (suc m) (l + plan .rows p) su (a .0) in record { len = c .len; sum = omega (arith, c .sum, a .1); out = c .out }
 
-  none-counted : (more : Bool) (i : ℕ) (st : Kept) → length (st .0) ≡ N → Counted N st (ended (noStart more i) st)
+  none-counted : (more : Bool) (i : ℕ) (st : Kept) → length (st .failed) ≡ N → Counted N st (ended (noStart more i) st)
   none-counted false i st len = record { len = len; sum = omega arith; out = tt }
   none-counted true i st len = record { len = len; sum = omega arith; out = tt }
 
@@ -290,7 +290,7 @@ module _ (h : Halting) (ways : ℕ → Ways) (ρ : ℕ → ℕ) (N : ℕ) (falls
   walk-counted (suc k) i m l st len = go (walk-counted k) (ltb i (plan .n)) refl
     where
       go : CountedOn (sweep (walkAt h ways K first) plan k) → (t : Bool) → ltb i (plan .n) ≡ t
-          → Counted N st (below t (ended (noStart (plan .more) i) st) (λ _. onAnswer plan (sweep (walkAt h ways K first) plan k) i m l (walkAt h ways K first i st .0) (walkAt h ways K first i st .1)))
+          → Counted N st (below t (ended (noStart (plan .more) i) st) (λ _. onAnswer plan (sweep (walkAt h ways K first) plan k) (standAt i m l) (walkAt h ways K first i st .0) (walkAt h ways K first i st .1)))
       go ih false e = none-counted (plan .more) i st len
       go ih true e =
           counted-answer (sweep (walkAt h ways K first) plan k) ih i m l st (walkAt h ways K first i st .0) (walkAt h ways K first i st .1)

@@ -9,8 +9,8 @@ use Prim.Native.Nat.{ℕ, _≤_, _<_}
 use native.Mathlib.Omega.{arith}
 use lib.ListN.{length, replicate, length-replicate}
 use Rattle.rules.specs.Places.{Unrolled, places}
-use Rattle.rules.specs.Search.{Skip, Terms, haltingOf, planOf, walkAt, walkSearch}
-use Rattle.rules.specs.Walk.{Ways, accept, try, Halting, pairs, firstAt, pairWays}
+use Rattle.rules.specs.Search.{Skip, Terms, haltingOf, planOf, walkAt, walkSearch, seek, standAt, sweep, Swept}
+use Rattle.rules.specs.Walk.{Ways, accept, try, Halting, pairs, firstAt, pairWays, asKept, Kept}
 use Rattle.rules.specs.Working.{All, Falls, distinct, thinned}
 use Rattle.laws.proofs.Distinct.{thin, fresh-all, thin-pairs, thinned-length, halting-thin, plan-thin}
 use Rattle.laws.proofs.Fuel.{sweep-enough, plan-on}
@@ -39,11 +39,17 @@ module _ (t : Unrolled) (skip : Skip) (fits : ℕ → ℕ → List ℕ → Bool)
     (same : terms₁ .largest ≡ terms₂ .largest) (le : n₁ ≤ n₂) (few : n₂ ≤ terms₂ .largest)
     (sooner : Sooner (haltingOf terms₁ (places t) n₁) (haltingOf terms₂ (places t) n₂) (pairWays holds₁ n₁ (places t)) (pairWays holds₂ n₂ (places t)))
     (rest : (terms₁ .more ≡ true) ⊎ ((n₂ ≡ n₁) × (terms₂ .more ≡ false))) where
-  pub thin-goes : walkSearch terms₂ holds₂ n₂ (thinned (places t)) skip fits
+  -- the two searches as sweeps over the thinned places
+  abbrev swept : (ℕ → ℕ → Bool) → ℕ → Terms → Swept Kept
+  swept holds n terms =
+      sweep (walkAt (haltingOf terms (thinned (places t)) n) (pairWays holds n (thinned (places t))) (pairs (length (thinned (places t))) (terms .largest)) (firstAt (length (thinned (places t)))))
+      (planOf (thinned (places t)) n (terms .more) skip fits) n (standAt 0 0 0) (asKept (replicate (pairs (length (thinned (places t))) (terms .largest)) false) 0)
+
+  sweeps-go : swept holds₂ n₂ terms₂
       ≡ andThen (haltingOf terms₂ (thinned (places t)) n₂) (pairWays holds₂ n₂ (thinned (places t))) (pairs (length (thinned (places t))) (terms₂ .largest)) (firstAt (length (thinned (places t))))
-      (planOf (thinned (places t)) n₂ (terms₂ .more) skip fits) 0 0 (walkSearch terms₁ holds₁ n₁ (thinned (places t)) skip fits)
-  unfolding walkSearch planOf
-  thin-goes =
+      (planOf (thinned (places t)) n₂ (terms₂ .more) skip fits) 0 0 (swept holds₁ n₁ terms₁)
+  unfolding planOf haltingOf
+  sweeps-go =
       let P : ℕ = length (places t) in
       let N : ℕ = pairs P (terms₂ .largest) in
       let w₁ = haltingOf terms₁ (places t) n₁ in
@@ -56,6 +62,12 @@ module _ (t : Unrolled) (skip : Skip) (fits : ℕ → ℕ → List ℕ → Bool)
       rw (plan-thin (places t) n₁ (terms₁ .more) skip fits, plan-thin (places t) n₂ (terms₂ .more) skip fits, halting-thin terms₁ (places t) n₁, halting-thin terms₂ (places t) n₂, e₁, e₂, thinned-length (places t), same)
       (search-onward w₁ w₂ v₁ v₂ (thin-sooner w₁ w₂ (pairWays holds₁ n₁ (places t)) (pairWays holds₂ n₂ (places t)) sooner) (rank t n₂) N
       (thin-falls (pairWays holds₂ n₂ (places t)) (rank t n₂) N (falls-in t holds₂ n₂ (terms₂ .largest) few)) N (top-in t holds₂ n₂ (terms₂ .largest) few) (firstAt P) p₁ n₂ (terms₂ .more) le rest
-      (λ i h. starts-in t holds₂ n₂ (terms₂ .largest) few i h .0) (plan-on (places t) n₁ (terms₁ .more) skip fits) n₂ 0 0 0 (replicate N false, 0) (length-replicate N false) (omega arith)
+      (λ i h. starts-in t holds₂ n₂ (terms₂ .largest) few i h .0) (plan-on (places t) n₁ (terms₁ .more) skip fits) n₂ 0 0 0 (asKept (replicate N false) 0) (length-replicate N false) (omega arith)
       ∙ ap (andThen w₂ v₂ N (firstAt P) (planOf (places t) n₂ (terms₂ .more) skip fits) 0 0)
-      (sweep-enough (walkAt w₁ v₁ N (firstAt P)) p₁ (plan-on (places t) n₁ (terms₁ .more) skip fits) n₂ 0 0 0 (replicate N false, 0) le))
+      (sweep-enough (walkAt w₁ v₁ N (firstAt P)) p₁ (plan-on (places t) n₁ (terms₁ .more) skip fits) n₂ 0 0 0 (asKept (replicate N false) 0) le))
+
+  pub thin-goes : walkSearch terms₂ (seek holds₂ n₂ (thinned (places t)) skip fits)
+      ≡ andThen (haltingOf terms₂ (thinned (places t)) n₂) (pairWays holds₂ n₂ (thinned (places t))) (pairs (length (thinned (places t))) (terms₂ .largest)) (firstAt (length (thinned (places t))))
+      (planOf (thinned (places t)) n₂ (terms₂ .more) skip fits) 0 0 (walkSearch terms₁ (seek holds₁ n₁ (thinned (places t)) skip fits))
+  unfolding walkSearch
+  thin-goes = sweeps-go

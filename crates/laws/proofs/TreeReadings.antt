@@ -14,7 +14,7 @@ use lib.ListN.{length}
 use lib.Arith.{digits-div}
 use Rattle.rules.specs.Language.{lower, upper, Rank, pattern, branch, factor, primary, Tree, one, more, last, next, bare, times, letter, caret, dollar, empty, group}
 use Rattle.rules.specs.Places.{Unrolled, copies, options, behind, repeated, UnrolledAt, forked, unrolled, unroll, size, startOf, places, nest, stateAt, Flagged, flaggedPlaces}
-use Rattle.rules.specs.Readings.{Within, Rounds, Reads, SomeReading}
+use Rattle.rules.specs.Readings.{Within, Rounds, Reads, SomeReading, rowSets}
 use Rattle.rules.specs.Search.{plainFrom, lastOf, endOf, labels}
 use Rattle.rules.specs.Walk.{IsPath, here, there, accept, pairs, positionOf, firstAt, pairWays, pairAt}
 use Rattle.laws.proofs.Bounds.{Bounds, in-order}
@@ -98,11 +98,11 @@ module _ (holds : ℕ → ℕ → Bool) (n : ℕ) where
   reads-forked (one b) i j w r = inl r
   reads-forked (more b p) i j w r = rw (forked-more b p) at r
 
-  tree-unrolled : {k : Rank} (t : Tree k) (i j : ℕ) (w : List ℕ) → Reads t holds n i j w → ReadsAt k (unrolled t) i j w
+  tree-unrolled : {k : Rank} (t : Tree k) (i j : ℕ) (w : List ℕ) → Reads (rowSets n holds) t i j w → ReadsAt k (unrolled t) i j w
   unfolding Reads unrolled ReadsU repeated
   tree-unrolled (one b) i j w m = inl (tree-unrolled b i j w m)
   tree-unrolled (more b p) i j w m =
-      ⊎-elim (λ (x : Reads b holds n i j w). inl (tree-unrolled b i j w x)) (λ (x : Reads p holds n i j w). inr (tree-unrolled p i j w x)) m
+      ⊎-elim (λ (x : Reads (rowSets n holds) b i j w). inl (tree-unrolled b i j w x)) (λ (x : Reads (rowSets n holds) p i j w). inr (tree-unrolled p i j w x)) m
   tree-unrolled (last f) i j w m = tree-unrolled f i j w m
   tree-unrolled (next f b) i j w m = (m .0, m .1, m .2, tree-unrolled f i (m .0) (m .1) (m .3), tree-unrolled b (m .0) j (m .2) (m .4), m .5)
   tree-unrolled (bare x) i j w m = tree-unrolled x i j w m
@@ -111,7 +111,7 @@ module _ (holds : ℕ → ℕ → Bool) (n : ℕ) where
       let d : ℕ = m .0 - lo in
       let e : lo + d ≡ m .0 = omega (arith, m .1) in
       let r : Rounds (λ i j w. ReadsU (unrolled x) holds n i j w) (lo + d) i j w =
-      rw e (rounds-map (λ i j w. Reads x holds n i j w) (λ i j w. ReadsU (unrolled x) holds n i j w) (λ i′ j′ w′ y. tree-unrolled x i′ j′ w′ y) (m .0) i j w (m .3)) in
+      rw e (rounds-map (λ i j w. Reads (rowSets n holds) x i j w) (λ i j w. ReadsU (unrolled x) holds n i j w) (λ i′ j′ w′ y. tree-unrolled x i′ j′ w′ y) (m .0) i j w (m .3)) in
       copies-from (unrolled x) (behind (upper f) lo z (unrolled x)) d (λ i′ j′ w′ y. behind-from (unrolled x) (upper f) lo z d i′ j′ w′ (rw e (m .2)) y) lo i j w r
   tree-unrolled (letter c) i j w m = m
   tree-unrolled caret i j w m = m
@@ -119,7 +119,7 @@ module _ (holds : ℕ → ℕ → Bool) (n : ℕ) where
   tree-unrolled empty i j w m = m
   tree-unrolled (group p) i j w m = forked-reads p i j w (tree-unrolled p i j w m)
 
-  unrolled-tree : {k : Rank} (t : Tree k) → Bounds t → (i j : ℕ) (w : List ℕ) → ReadsAt k (unrolled t) i j w → Reads t holds n i j w
+  unrolled-tree : {k : Rank} (t : Tree k) → Bounds t → (i j : ℕ) (w : List ℕ) → ReadsAt k (unrolled t) i j w → Reads (rowSets n holds) t i j w
   unfolding Reads unrolled ReadsU repeated Bounds
   unrolled-tree (one b) o i j w m = ⊎-elim (λ (x : ReadsU (unrolled b) holds n i j w). unrolled-tree b o i j w x) (λ (x : ⊥). absurd x) m
   unrolled-tree (more b p) o i j w m =
@@ -134,7 +134,7 @@ module _ (holds : ℕ → ℕ → Bool) (n : ℕ) where
         lo + r .0,
         omega arith,
         r .1,
-        rounds-map (λ i j w. ReadsU (unrolled x) holds n i j w) (λ i j w. Reads x holds n i j w) (λ i′ j′ w′ y. unrolled-tree x (o .1) i′ j′ w′ y) (lo + r .0) i j w (r .2),
+        rounds-map (λ i j w. ReadsU (unrolled x) holds n i j w) (λ i j w. Reads (rowSets n holds) x i j w) (λ i′ j′ w′ y. unrolled-tree x (o .1) i′ j′ w′ y) (lo + r .0) i j w (r .2),
       )
   unrolled-tree (letter c) o i j w m = m
   unrolled-tree caret o i j w m = m
@@ -142,17 +142,17 @@ module _ (holds : ℕ → ℕ → Bool) (n : ℕ) where
   unrolled-tree empty o i j w m = m
   unrolled-tree (group p) o i j w m = unrolled-tree p o i j w (reads-forked p i j w m)
 
-  pub reads-unrolled : (p : Tree pattern) (i j : ℕ) (w : List ℕ) → Reads p holds n i j w → ReadsU (unroll p) holds n i j w
+  pub reads-unrolled : (p : Tree pattern) (i j : ℕ) (w : List ℕ) → Reads (rowSets n holds) p i j w → ReadsU (unroll p) holds n i j w
   unfolding unroll
   reads-unrolled p i j w m = forked-reads p i j w (tree-unrolled p i j w m)
 
-  pub unrolled-reads : (p : Tree pattern) → Bounds p → (i j : ℕ) (w : List ℕ) → ReadsU (unroll p) holds n i j w → Reads p holds n i j w
+  pub unrolled-reads : (p : Tree pattern) → Bounds p → (i j : ℕ) (w : List ℕ) → ReadsU (unroll p) holds n i j w → Reads (rowSets n holds) p i j w
   unfolding unroll
   unrolled-reads p o i j w m = unrolled-tree p o i j w (reads-forked p i j w m)
 
   -- ---- the rows of a reading
 
-  pub reads-taken : (p : Tree pattern) (i j : ℕ) (w : List ℕ) → Reads p holds n i j w → Taken n i j w
+  pub reads-taken : (p : Tree pattern) (i j : ℕ) (w : List ℕ) → Reads (rowSets n holds) p i j w → Taken n i j w
   reads-taken p i j w m = unrolled-taken holds n (unroll p) i j w (reads-unrolled p i j w m)
 
 -- ---- paths
@@ -218,17 +218,17 @@ module _ (p : Tree pattern) (holds : ℕ → ℕ → Bool) (n : ℕ) where
   P = length (places (unroll p))
 
   -- the path found is a reading
-  pub found-reads : Bounds p → (i : ℕ) (path : List ℕ) → plainFrom holds n (places (unroll p)) i ≡ some path → Reads p holds n i (endOf P path) (labels (places (unroll p)) path)
+  pub found-reads : Bounds p → (i : ℕ) (path : List ℕ) → plainFrom holds n (places (unroll p)) i ≡ some path → Reads (rowSets n holds) p i (endOf P path) (labels (places (unroll p)) path)
   found-reads o i path e =
       unrolled-reads holds n p o i (endOf P path) (labels (places (unroll p)) path)
       (path-reads (unroll p) holds n i path (plain-path (pairWays holds n (places (unroll p))) (pairs P n) (firstAt P i) path e))
 
   -- where there is a reading, a path is found
-  pub reading-found : (i j : ℕ) (w : List ℕ) → Reads p holds n i j w → plainFrom holds n (places (unroll p)) i ≢ none
+  pub reading-found : (i j : ℕ) (w : List ℕ) → Reads (rowSets n holds) p i j w → plainFrom holds n (places (unroll p)) i ≢ none
   reading-found i j w r = path-found (unroll p) holds n (reads-path (unroll p) holds n i j w (reads-unrolled holds n p i j w r) .1)
 
   -- a path is found at a start exactly if some reading exists there
-  pub match-exactly : Bounds p → (i : ℕ) → ((path : List ℕ) × (plainFrom holds n (places (unroll p)) i ≡ some path)) ↔ SomeReading p holds n i
+  pub match-exactly : Bounds p → (i : ℕ) → ((path : List ℕ) × (plainFrom holds n (places (unroll p)) i ≡ some path)) ↔ SomeReading (rowSets n holds) p i
   match-exactly o i =
       (λ f. (endOf P (f .0), labels (places (unroll p)) (f .0), found-reads o i (f .0) (f .1)), λ r. go (plainFrom holds n (places (unroll p)) i) refl (reading-found i (r .0) (r .1) (r .2)))
     where

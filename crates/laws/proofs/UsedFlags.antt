@@ -15,8 +15,8 @@ use borrow.Author.Tests.{ltb-true, ltb-false}
 use Rattle.rules.specs.Basics.{pick}
 use Rattle.rules.specs.Language.{deeper}
 use Rattle.rules.specs.Places.{Unrolled, uLetter, uCaret, uDollar, uEmpty, uSeq, uAlt, uOpt, uStar, Branches, uNil, uCons, skips, nest, nests, full, stateAt, size, sizes, startOf, startsOf, roundEnd, code, codes, waysInTurn, Place, pLetter, pCaret, pDollar, pFork, pEnd, Flagged, flagged, flaggedPlaces, flagsAt, withFlags, spread, places}
-use Rattle.rules.specs.Search.{Skip, Terms, haltingOf, planOf, walkSearch}
-use Rattle.rules.specs.Walk.{Ways, accept, try, passIf, pairs, pairAt, firstAt, waysAt, pairWays}
+use Rattle.rules.specs.Search.{Skip, Terms, haltingOf, planOf, walkSearch, seek}
+use Rattle.rules.specs.Walk.{Ways, accept, try, passIf, pairs, pairAt, firstAt, waysAt, pairWays, asKept}
 use Rattle.laws.proofs.EachStart.{Closed, search-new}
 use Rattle.laws.proofs.Level.{nest-low, nest-here, nest-inner, wider}
 use Rattle.laws.proofs.Lists.{getD-tabulate}
@@ -213,9 +213,9 @@ module _ (t : Unrolled) where
       rw (e, digits-mod (i * suc (size t)) (pow-pos (nest t))) (pow-pos _)
 
   -- only pairs whose unused bits are 0 are kept as failed, on any terms
-  pub unused-zero : (terms : Terms) (holds : ℕ → ℕ → Bool) (n : ℕ) (skip : Skip) (fits : ℕ → ℕ → List ℕ → Bool) (x : ℕ) → In (walkSearch terms holds n (places t) skip fits .state .0) x → Unused x
+  pub unused-zero : (terms : Terms) (holds : ℕ → ℕ → Bool) (n : ℕ) (skip : Skip) (fits : ℕ → ℕ → List ℕ → Bool) (x : ℕ) → In (walkSearch terms (seek holds n (places t) skip fits) .state .failed) x → Unused x
   unfolding walkSearch
   unused-zero terms holds n skip fits =
       let N : ℕ = pairs (length (places t)) (terms .largest) in
       search-new Unused (haltingOf terms (places t) n) (pairWays holds n (places t)) (ways-unused holds n) N (firstAt (length (places t))) first-unused (planOf (places t) n (terms .more) skip fits) n 0 0 0
-      (replicate N false, 0) (λ z i. absurd (none-in N z i))
+      (asKept (replicate N false) 0) (λ z i. absurd (none-in N z i))

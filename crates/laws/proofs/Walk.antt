@@ -9,7 +9,7 @@ use native.Mathlib.Nat.{le-trans, le-of-suc-le-suc, not-suc-le-zero}
 use native.Mathlib.Omega.{arith}
 use lib.ListN.{length, getD, set, length-set}
 use lib.Seq.{getD-set-same, getD-set-other}
-use Rattle.rules.specs.Walk.{Ways, accept, try, Halting, Outcome, found, failed, halted, orElse, close, enterUnless, tries, inside, insideBy, countTrue}
+use Rattle.rules.specs.Walk.{Ways, accept, try, Halting, Outcome, found, failed, halted, orElse, close, enterUnless, tries, inside, insideBy, countTrue, asKept}
 use Rattle.rules.specs.Working.{All, In, Out, Rising, Falls}
 
 pub All-map : {P Q : ℕ → Type 0} → ((y : ℕ) → P y → Q y) → (ys : List ℕ) → All P ys → All Q ys
@@ -148,51 +148,51 @@ pub record InsideFound (ρ : ℕ → ℕ) (F : List Bool) (s x : ℕ) (p : List 
 
 -- what a halt leaves, p being the pairs still open, is what a path found would
 abbrev pub TriesPost : (ℕ → ℕ) → ℕ → List Bool → ℕ → List ℕ → Outcome → Type 0
-TriesPost ρ b F s ys (found p F′ s′) = TriesFound ρ b F s p F′ s′
-TriesPost ρ b F s ys (failed F′ s′) = TriesDead ρ b F s ys F′ s′
-TriesPost ρ b F s ys (halted h p F′ s′) = TriesFound ρ b F s p F′ s′
+TriesPost ρ b F s ys (found p kept′) = TriesFound ρ b F s p (kept′ .failed) (kept′ .steps)
+TriesPost ρ b F s ys (failed kept′) = TriesDead ρ b F s ys (kept′ .failed) (kept′ .steps)
+TriesPost ρ b F s ys (halted h p kept′) = TriesFound ρ b F s p (kept′ .failed) (kept′ .steps)
 
 abbrev pub InsidePost : (ℕ → ℕ) → List Bool → ℕ → ℕ → Outcome → Type 0
-InsidePost ρ F s x (found p F′ s′) = InsideFound ρ F s x p F′ s′
-InsidePost ρ F s x (failed F′ s′) = InsideDead ρ F s x F′ s′
-InsidePost ρ F s x (halted h p F′ s′) = InsideFound ρ F s x p F′ s′
+InsidePost ρ F s x (found p kept′) = InsideFound ρ F s x p (kept′ .failed) (kept′ .steps)
+InsidePost ρ F s x (failed kept′) = InsideDead ρ F s x (kept′ .failed) (kept′ .steps)
+InsidePost ρ F s x (halted h p kept′) = InsideFound ρ F s x p (kept′ .failed) (kept′ .steps)
 
 module _ (ρ : ℕ → ℕ) (b : ℕ) (F : List Bool) (s y : ℕ) (ys : List ℕ) where
   -- the first pair had failed before
   skipped : (r : Outcome) → In F y → TriesPost ρ b F s ys r → TriesPost ρ b F s (y ∷ ys) r
-  skipped (found p F′ s′) i t = t
-  skipped (failed F′ s′) i t = record { grew = t .grew; all = (t .grew .keeps y i, t .all); sum = t .sum }
-  skipped (halted h p F′ s′) i t = t
+  skipped (found p kept′) i t = t
+  skipped (failed kept′) i t = record { grew = t .grew; all = (t .grew .keeps y i, t .all); sum = t .sum }
+  skipped (halted h p kept′) i t = t
 
   -- the first pair has failed now
   after : (F₁ : List Bool) (s₁ : ℕ) → ρ y < b → InsideDead ρ F (suc s) y F₁ s₁ → (r : Outcome) → TriesPost ρ b F₁ s₁ ys r → TriesPost ρ b F s (y ∷ ys) r
-  after F₁ s₁ h d (found p F′ s′) t =
-      record { grew = grew-trans ρ _ _ b F F₁ F′ h (omega arith) (d .grew) (t .grew); off = t .off; sum = omega arith }
-  after F₁ s₁ h d (failed F′ s′) t =
-      record { grew = grew-trans ρ _ _ b F F₁ F′ h (omega arith) (d .grew) (t .grew); all = (t .grew .keeps y (d .it), t .all); sum = omega arith }
-  after F₁ s₁ h d (halted w p F′ s′) t =
-      record { grew = grew-trans ρ _ _ b F F₁ F′ h (omega arith) (d .grew) (t .grew); off = t .off; sum = omega arith }
+  after F₁ s₁ h d (found p kept′) t =
+      record { grew = grew-trans ρ _ _ b F F₁ (kept′ .failed) h (omega arith) (d .grew) (t .grew); off = t .off; sum = omega arith }
+  after F₁ s₁ h d (failed kept′) t =
+      record { grew = grew-trans ρ _ _ b F F₁ (kept′ .failed) h (omega arith) (d .grew) (t .grew); all = (t .grew .keeps y (d .it), t .all); sum = omega arith }
+  after F₁ s₁ h d (halted w p kept′) t =
+      record { grew = grew-trans ρ _ _ b F F₁ (kept′ .failed) h (omega arith) (d .grew) (t .grew); off = t .off; sum = omega arith }
 
 module _ (h : Halting) (ways : ℕ → Ways) (ρ : ℕ → ℕ) (N : ℕ) where
   abbrev pub InsideAt : ℕ → Type 0
-  InsideAt k = (F : List Bool) (s y : ℕ) → ρ y < k → y < N → length F ≡ N → Out F y → InsidePost ρ F s y (inside h ways k F s y)
+  InsideAt k = (F : List Bool) (s y : ℕ) → ρ y < k → y < N → length F ≡ N → Out F y → InsidePost ρ F s y (inside h ways k (asKept F s) y)
 
   -- one more pair to try
   tries-cons : (k : ℕ) → InsideAt k → (b : ℕ) → b ≤ k → (F : List Bool) (s y : ℕ) (ys : List ℕ) → length F ≡ N → ρ y < b → y < N
-      → ((F′ : List Bool) (s′ : ℕ) → length F′ ≡ N → TriesPost ρ b F′ s′ ys (tries h (inside h ways k) F′ s′ ys))
+      → ((F′ : List Bool) (s′ : ℕ) → length F′ ≡ N → TriesPost ρ b F′ s′ ys (tries h (inside h ways k) (asKept F′ s′) ys))
       → (t : Bool) → getD F y false ≡ t → (u : Bool)
-      → TriesPost ρ b F s (y ∷ ys) (orElse (enterUnless t u (inside h ways k) F s y) (λ F′ s′. tries h (inside h ways k) F′ s′ ys))
-  tries-cons k ih b hb F s y ys len hy lt rest true e u = skipped ρ b F s y ys (tries h (inside h ways k) F s ys) e (rest F s len)
+      → TriesPost ρ b F s (y ∷ ys) (orElse (enterUnless t u (inside h ways k) (asKept F s) y) (λ kept′. tries h (inside h ways k) kept′ ys))
+  tries-cons k ih b hb F s y ys len hy lt rest true e u = skipped ρ b F s y ys (tries h (inside h ways k) (asKept F s) ys) e (rest F s len)
   tries-cons k ih b hb F s y ys len hy lt rest false e true = record { grew = grew-refl ρ b F; off = tt; sum = omega arith }
-  tries-cons k ih b hb F s y ys len hy lt rest false e false = go (inside h ways k F (suc s) y) (ih F (suc s) y (le-trans hy hb) lt len e)
+  tries-cons k ih b hb F s y ys len hy lt rest false e false = go (inside h ways k (asKept F (suc s)) y) (ih F (suc s) y (le-trans hy hb) lt len e)
     where
-      go : (r : Outcome) → InsidePost ρ F (suc s) y r → TriesPost ρ b F s (y ∷ ys) (orElse r (λ F′ s′. tries h (inside h ways k) F′ s′ ys))
-      go (found p F′ s′) d = record { grew = grew-trans ρ _ _ b F F F′ hy (omega arith) (grew-refl ρ _ F) (d .grew); off = d .off; sum = omega arith }
-      go (failed F′ s′) d = after ρ b F s y ys F′ s′ hy d (tries h (inside h ways k) F′ s′ ys) (rest F′ s′ (d .grew .len ∙ len))
-      go (halted w p F′ s′) d = record { grew = grew-trans ρ _ _ b F F F′ hy (omega arith) (grew-refl ρ _ F) (d .grew); off = d .off; sum = omega arith }
+      go : (r : Outcome) → InsidePost ρ F (suc s) y r → TriesPost ρ b F s (y ∷ ys) (orElse r (λ kept′. tries h (inside h ways k) kept′ ys))
+      go (found p kept′) d = record { grew = grew-trans ρ _ _ b F F (kept′ .failed) hy (omega arith) (grew-refl ρ _ F) (d .grew); off = d .off; sum = omega arith }
+      go (failed kept′) d = after ρ b F s y ys (kept′ .failed) (kept′ .steps) hy d (tries h (inside h ways k) kept′ ys) (rest (kept′ .failed) (kept′ .steps) (d .grew .len ∙ len))
+      go (halted w p kept′) d = record { grew = grew-trans ρ _ _ b F F (kept′ .failed) hy (omega arith) (grew-refl ρ _ F) (d .grew); off = d .off; sum = omega arith }
 
   tries-post : (k : ℕ) → InsideAt k → (b : ℕ) → b ≤ k → (ys : List ℕ) → All (λ y. (ρ y < b) × (y < N)) ys
-      → (F : List Bool) (s : ℕ) → length F ≡ N → TriesPost ρ b F s ys (tries h (inside h ways k) F s ys)
+      → (F : List Bool) (s : ℕ) → length F ≡ N → TriesPost ρ b F s ys (tries h (inside h ways k) (asKept F s) ys)
   unfolding tries
   tries-post k ih b hb [] a F s len = record { grew = grew-refl ρ b F; all = tt; sum = refl }
   tries-post k ih b hb (y ∷ ys) a F s len =
@@ -203,17 +203,17 @@ module _ (h : Halting) (ways : ℕ → Ways) (ρ : ℕ → ℕ) (N : ℕ) where
   still-out F F′ x o g = out-of-not-in F′ x (λ i. ⊎-elim (λ j. true≢false (sym j ∙ o)) (λ r. omega arith) (g .new x i))
 
   close-post : (F : List Bool) (s x : ℕ) (ys : List ℕ) → length F ≡ N → x < N → Out F x → (r : Outcome) → TriesPost ρ (ρ x) F s ys r → InsidePost ρ F s x (close x r)
-  close-post F s x ys len lt o (found p F′ s′) t =
-      record { grew = t .grew; off = (still-out F F′ x o (t .grew), t .off); sum = omega arith }
-  close-post F s x ys len lt o (failed F′ s′) t =
-      let l : x < length F′ = rw (t .grew .len) (omega arith) in
+  close-post F s x ys len lt o (found p kept′) t =
+      record { grew = t .grew; off = (still-out F (kept′ .failed) x o (t .grew), t .off); sum = omega arith }
+  close-post F s x ys len lt o (failed kept′) t =
+      let l : x < length (kept′ .failed) = rw (t .grew .len) (omega arith) in
       record {
-        grew = grew-trans ρ (ρ x) (suc (ρ x)) (suc (ρ x)) F F′ (set F′ x true) (omega arith) (omega arith) (t .grew) (grew-mark ρ (suc (ρ x)) F′ x (omega arith));
-        it = getD-set-same F′ x true false l;
-        sum = omega (arith, t .sum, count-mark F′ x l (still-out F F′ x o (t .grew)));
+        grew = grew-trans ρ (ρ x) (suc (ρ x)) (suc (ρ x)) F (kept′ .failed) (set (kept′ .failed) x true) (omega arith) (omega arith) (t .grew) (grew-mark ρ (suc (ρ x)) (kept′ .failed) x (omega arith));
+        it = getD-set-same (kept′ .failed) x true false l;
+        sum = omega (arith, t .sum, count-mark (kept′ .failed) x l (still-out F (kept′ .failed) x o (t .grew)));
       }
-  close-post F s x ys len lt o (halted w p F′ s′) t =
-      record { grew = t .grew; off = (still-out F F′ x o (t .grew), t .off); sum = omega arith }
+  close-post F s x ys len lt o (halted w p kept′) t =
+      record { grew = t .grew; off = (still-out F (kept′ .failed) x o (t .grew), t .off); sum = omega arith }
 
 module _ (h : Halting) (ways : ℕ → Ways) (ρ : ℕ → ℕ) (N : ℕ) (falls : Falls ways ρ N) where
   pub inside-post : (k : ℕ) → InsideAt h ways ρ N k
@@ -222,10 +222,10 @@ module _ (h : Halting) (ways : ℕ → Ways) (ρ : ℕ → ℕ) (N : ℕ) (falls
   inside-post (suc k) F s x hx lt len o = go (inside-post k) (h .waits x) (ways x) refl
     where
       go : InsideAt h ways ρ N k → (u : Bool) (w : Ways) → ways x ≡ w
-          → InsidePost ρ F s x (insideBy h u w (inside h ways k) F s x)
+          → InsidePost ρ F s x (insideBy h u w (inside h ways k) (asKept F s) x)
       go ih true w e = record { grew = grew-refl ρ (ρ x) F; off = (o, tt); sum = omega arith }
       go ih false accept e = record { grew = grew-refl ρ (ρ x) F; off = (o, tt); sum = omega arith }
       go ih false (try ys) e =
-          close-post h ways ρ N F s x ys len lt o (tries h (inside h ways k) F s ys)
+          close-post h ways ρ N F s x ys len lt o (tries h (inside h ways k) (asKept F s) ys)
           (tries-post h ways ρ N k ih (ρ x) (le-of-suc-le-suc hx) ys
           (All-map (λ y (r : (ρ y < ρ x) × (x < N → y < N)). (r .0, r .1 lt)) ys (falls x ys e)) F s len)

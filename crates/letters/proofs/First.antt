@@ -18,7 +18,7 @@ use Rattle.laws.proofs.Signed.{mag-add, read-back}
 use Rattle.table.specs.Tests.{numberIn, word64, raised, raisedWord, testedBy, lowOf, widthOf, First}
 use Rattle.comparisons.specs.Spots.{spotIndex, readMet}
 use Rattle.comparisons.proofs.Reading.{Words, left-missing, right-missing, number-met, column-met}
-use Rattle.intervals.specs.Intervals.{within}
+use Rattle.intervals.specs.Intervals.{inInterval}
 use Rattle.intervals.proofs.Intervals.{number-is, column-is}
 
 abbrev held : ℤ → ℤ
@@ -79,11 +79,11 @@ module _ (T : List ℕ) (rows : List ℤ) (from at : ℕ) where
 
   module _ (first : First T at) (d : ℤ) where
     -- the interval where the code reads it
-    interval-is : within (raised d) (raisedWord (word64 T (at + 8))) (word64 T (at + 8 + 4))
-        ≡ within (raised d) (lowOf operator (raised number)) (widthOf operator (raised number))
+    interval-is : inInterval (raised d) (raisedWord (word64 T (at + 8))) (word64 T (at + 8 + 4))
+        ≡ inInterval (raised d) (lowOf operator (raised number)) (widthOf operator (raised number))
     interval-is =
-        ap (λ (k : ℕ). within (raised d) k (word64 T (at + 8 + 4))) (first .low)
-        ∙ ap (within (raised d) (lowOf operator (raised number)))
+        ap (λ (k : ℕ). inInterval (raised d) k (word64 T (at + 8 + 4))) (first .low)
+        ∙ ap (inInterval (raised d) (lowOf operator (raised number)))
         (ap (word64 T) (let e : at + 8 + 4 ≡ at + 12 = omega arith in e) ∙ first .width)
 
   module _ (x : ℕ) (is-x : x ≡ spotIndex from (getD T (at + 3) 0)) where
@@ -99,7 +99,7 @@ module _ (T : List ℕ) (rows : List ℤ) (from at : ℕ) where
         abbrev few-number : mag number < 2147483648
         few-number = number-short T words (at + 2)
 
-        pub by-number : (t : Bool) → (getD T (at + 7) 0 ≡ 1 → ⊥) → t ≡ within (raised (held a)) (raisedWord (word64 T (at + 8))) (word64 T (at + 8 + 4)) → t ≡ readMet T rows from (at + 2)
+        pub by-number : (t : Bool) → (getD T (at + 7) 0 ≡ 1 → ⊥) → t ≡ inInterval (raised (held a)) (raisedWord (word64 T (at + 8))) (word64 T (at + 8 + 4)) → t ≡ readMet T rows from (at + 2)
         by-number t h e =
             let s : mag (held a) < 2147483648 = rw (small a few-a) few-a in
             let f : t ≡ compares operator (held a) number = e ∙ interval-is first (held a) ∙ number-is operator (held a) number s few-number in
@@ -108,13 +108,13 @@ module _ (T : List ℕ) (rows : List ℤ) (from at : ℕ) where
 
         pub by-column : (y : ℕ) (b d : ℤ) (t : Bool) → getD T (at + 7) 0 ≡ 1 → y ≡ spotIndex from (getD T (at + 4) 0) → y < length rows → b ≡ getD rows y (pos 0)
             → mag b < 2147483648 → d ≡ held a -ℤ held b → mag d < 4294967296
-            → t ≡ within (raised (held d)) (raisedWord (word64 T (at + 8))) (word64 T (at + 8 + 4)) → t ≡ readMet T rows from (at + 2)
+            → t ≡ inInterval (raised (held d)) (raisedWord (word64 T (at + 8))) (word64 T (at + 8 + 4)) → t ≡ readMet T rows from (at + 2)
         by-column y b d t column is-y right is-b few-b is-d few-d e =
             let q : d ≡ a -ℤ b = is-d ∙ ap (λ (z : ℤ). z -ℤ held b) (small a few-a) ∙ ap (λ (z : ℤ). a -ℤ z) (small b few-b) in
             let v : held d ≡ a -ℤ b = read-back d (omega arith) ∙ q in
             let k : mag (a -ℤ b) < 4294967296 = rw q at few-d in
             let f : t ≡ compares operator a (b +ℤ number) =
-            e ∙ ap (λ (z : ℤ). within (raised z) (raisedWord (word64 T (at + 8))) (word64 T (at + 8 + 4))) v ∙ interval-is first (a -ℤ b)
+            e ∙ ap (λ (z : ℤ). inInterval (raised z) (raisedWord (word64 T (at + 8))) (word64 T (at + 8 + 4))) v ∙ interval-is first (a -ℤ b)
             ∙ column-is operator a b number few-a few-b few-number k in
             column-met T rows from (at + 2) x (is-x ∙ left-word) there a is-a few-a number refl few-number (getD T (at + 2) 0) refl
             (column-kind _ (sym (first .kind) ∙ column)) y (is-y ∙ right-word) t b (held b +ℤ held number) right is-b few-b refl

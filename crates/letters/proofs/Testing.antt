@@ -10,7 +10,7 @@ use lib.IntN.{ℤ}
 use lib.ListN.{length, getD}
 use mir.Syntax.{w64}
 use mir.Val.{Fits}
-use borrow.Author.Tests.{lt-ltb, le-ltb, eq-eqb, ne-eqb, eqb-true, eqb-false, not-true, not-false}
+use borrow.Author.Tests.{lt-ltb, eq-eqb, ne-eqb, eqb-true, eqb-false, not-true, not-false}
 use Rattle.rules.specs.Basics.{pick, every}
 use Rattle.rules.specs.Rows.{tableOf, met, isYes, latest, allOf, holds}
 use Rattle.laws.proofs.Choice.{decided}
@@ -112,9 +112,6 @@ module _ (T : List ℕ) (tests : ℕ) (rows : List ℤ) (columns n at row : ℕ)
   -- what the promise says of a result
   abbrev Says : Bool → Type 0
   Says t = t ≡ (ltb row n && holds (tableOf columns rows) row (conditionIn T columns at))
-
-  pub behind-last : n ≤ row → Says false
-  behind-last h = rw (le-ltb row n h) refl
 
   module _ (is-row : row < n) (letters : Letters T tests rows columns n) where
     pub base-fits : Fits w64 (row * columns)

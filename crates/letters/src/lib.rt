@@ -5,9 +5,10 @@
 // comparison with a column and one with a number are two ways from end to end: where they were one
 // again behind the test, its answer would be kept as a number and tested once more.
 // A letter whose DEFINE is of kind 6 has a way of its own (crates/conditions).
-// Promise: no letter holds at position n, behind the last row; at a row the answer is `holds` of
-// the rules, of the condition that the words tell. Weakness: the comparisons behind the first
-// stand in another part of the table, and are judged in the order of the query.
+// Promise: at a row the answer is `holds` of the rules, of the condition that the words tell.
+// Weakness: the comparisons behind the first stand in another part of the table, and are judged in
+// the order of the query; and it has to be a row: position n, behind the last one, is not asked
+// about.
 use comparisons::entry;
 use comparisons::far_back;
 use comparisons::first_unmet;
@@ -90,12 +91,9 @@ fn others_met(table: &[u16], at: usize, count: usize, rows: &[i32], from: u64) -
 
 // Whether the letter whose words begin at word `at` holds at a row.
 pub fn letter_holds(table: &[u16], rows: &[i32], size: Extent, at: usize, row: usize) -> bool
-    requires { ⌜ (row ≤ size .rows) × LetterAt (size .tests) at × Letters (now table) (size .tests) (now rows) (size .columns) (size .rows) ⌝ }
+    requires { ⌜ (row < size .rows) × LetterAt (size .tests) at × Letters (now table) (size .tests) (now rows) (size .columns) (size .rows) ⌝ }
     ensures { λ r. ⌜ r ≡ (ltb row (size .rows) && holds (tableOf (size .columns) (now (rows .entry))) row (conditionIn (now (table .entry)) (size .columns) at)) ⌝ }
 {
-    if row >= size.rows {
-        return false;
-    }
     let kind = word_at(table, at + KIND);
     let from = far_back(size.columns, row * size.columns);
     if kind == COLUMN {

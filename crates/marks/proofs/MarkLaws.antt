@@ -9,9 +9,9 @@ use lib.Dec.{eqb}
 use lib.ListN.{length, drop}
 use borrow.Author.Tests.{le-leb, lt-leb, eq-eqb, ne-eqb}
 use Rattle.rules.specs.Language.{Form, star, plus, opt, exactly, atLeast, atMost, between, lower, upper}
-use Rattle.rules.specs.Reader.{got, peek, rest, skip, number, bounded, Marked, unmarked, broken, marked, reluctant, shut, upTo, from, braces, quantifier}
+use Rattle.rules.specs.Reader.{got, peek, rest, skipSpaces, number, bounded, Marked, unmarked, broken, marked, reluctant, shut, upTo, from, braces, quantifier}
 use Rattle.marks.specs.Shows.{codeOf, highest, highOf, Codes, boundedBy, Shows}
-use Rattle.text_bytes.specs.Numerals.{Numeral, Reached}
+use Rattle.text_bytes.specs.Numerals.{Numeral, BoundReached}
 use Rattle.marks.specs.declared.Mark.{Mark}
 use Rattle.marks.specs.declared.Mark.the-variants.{Unmarked, Broken, Found}
 use Rattle.text_bytes.specs.declared.Value.{Value}
@@ -36,13 +36,13 @@ module _ (s : List ℕ) (at b : ℕ) (eb : b ≡ peek (drop at s)) where
     found-is : (f : Form) (z : Bool) → Codes f form low high → Found form low high z to ≡ Found (codeOf f) (lower f) (highOf f) z to
     found-is f z k = rw (k .code, k .from, k .upto) refl
 
-    pub reluctant-yes : b ≡ 63 → (drop to s ≡ skip (drop (at + 1) s)) × (at + 1 ≤ to) × (to ≤ length s) → Reluct s at form low high (Found form low high true to)
+    pub reluctant-yes : b ≡ 63 → (drop to s ≡ skipSpaces (drop (at + 1) s)) × (at + 1 ≤ to) × (to ≤ length s) → Reluct s at form low high (Found form low high true to)
     unfolding reluctant Shows
     reluctant-yes e h f k =
         simp (eq-eqb (peek (drop at s)) 63 (sym eb ∙ e), rest-drop s at)
         (record { to = to; is = found-is f true k; rest = sym (h .0); on = omega (arith, h .1); inside = h .2 })
 
-    pub reluctant-no : (b ≡ 63 → ⊥) → (drop to s ≡ skip (drop at s)) × (at ≤ to) × (to ≤ length s) → Reluct s at form low high (Found form low high false to)
+    pub reluctant-no : (b ≡ 63 → ⊥) → (drop to s ≡ skipSpaces (drop at s)) × (at ≤ to) × (to ≤ length s) → Reluct s at form low high (Found form low high false to)
     unfolding reluctant Shows
     reluctant-no e h f k =
         simp (ne-eqb (peek (drop at s)) 63 (λ x. e (eb ∙ x)))
@@ -82,13 +82,13 @@ unfolding bounded
 between-by n m l = record { none = λ h. simp (lt-leb 1 m h); fine = λ h g. simp (le-leb 1 m h, le-leb n m g, le-leb m 99 l) }
 
 module _ (s : List ℕ) (at b : ℕ) (eb : b ≡ peek (drop at s)) (m : Value) where
-  pub up-bad : (n : ℕ) → (b ≡ 125 → ⊥) → Reached s at n m → m .ok ≡ false → Shows s at (Broken (m .at)) (upTo n (drop at s))
+  pub up-bad : (n : ℕ) → (b ≡ 125 → ⊥) → BoundReached s at n m → m .ok ≡ false → Shows s at (Broken (m .at)) (upTo n (drop at s))
   unfolding upTo shut Shows
   up-bad n e h o =
       rw (ne-eqb (peek (drop at s)) 125 (λ x. e (eb ∙ x)), says-bad s at m _ (h .numeral .says) o)
       (record { to = m .at; is = refl; rest = refl; inside = h .numeral .inside })
 
-  pub up-got : (n : ℕ) (r : Mark) → (b ≡ 125 → ⊥) → Reached s at n m → m .ok ≡ true → Shut s (m .at) 7 n (m .value) r → Shows s at r (upTo n (drop at s))
+  pub up-got : (n : ℕ) (r : Mark) → (b ≡ 125 → ⊥) → BoundReached s at n m → m .ok ≡ true → Shut s (m .at) 7 n (m .value) r → Shows s at r (upTo n (drop at s))
   unfolding upTo codeOf lower highOf highest upper
   up-got n r e h o g =
       let k = says-got s at m _ (h .numeral .says) o in
@@ -96,13 +96,13 @@ module _ (s : List ℕ) (at b : ℕ) (eb : b ≡ peek (drop at s)) (m : Value) w
       (weaken s at (m .at) r _ (k .on) (g (between n) (record { code = refl; from = refl; upto = refl }) (between-by n (m .value) (k .small))))
 
   -- `{,`
-  pub brace-comma-bad : b ≡ 44 → Reached s (at + 1) 1 m → m .ok ≡ false → Shows s at (Broken (m .at)) (braces (drop at s))
+  pub brace-comma-bad : b ≡ 44 → BoundReached s (at + 1) 1 m → m .ok ≡ false → Shows s at (Broken (m .at)) (braces (drop at s))
   unfolding braces shut Shows
   brace-comma-bad e h o =
       rw (eq-eqb (peek (drop at s)) 44 (sym eb ∙ e), rest-drop s at, says-bad s (at + 1) m _ (h .numeral .says) o)
       (record { to = m .at; is = refl; rest = refl; inside = h .numeral .inside })
 
-  pub brace-comma : (r : Mark) → b ≡ 44 → Reached s (at + 1) 1 m → m .ok ≡ true → Shut s (m .at) 6 0 (m .value) r → Shows s at r (braces (drop at s))
+  pub brace-comma : (r : Mark) → b ≡ 44 → BoundReached s (at + 1) 1 m → m .ok ≡ true → Shut s (m .at) 6 0 (m .value) r → Shows s at r (braces (drop at s))
   unfolding braces codeOf lower highOf highest upper
   brace-comma r e h o g =
       let k = says-got s (at + 1) m _ (h .numeral .says) o in

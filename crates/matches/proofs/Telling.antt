@@ -21,10 +21,10 @@ use Rattle.laws.proofs.Lists.{length-tabulate}
 use Rattle.table.specs.Measures.{measuresIn}
 use Rattle.measures.specs.Measures.{Appendable}
 use Rattle.pairs.specs.declared.Walk.{Walk}
-use Rattle.pairs.specs.Layout.{Layout, P, layoutOf}
+use Rattle.pairs.specs.Layout.{Layout, P, layout, layoutOf, second}
 use Rattle.table.specs.Table.{waysOf, placeAt, placesIn, codeAt, firstAt}
 use Rattle.pairs.specs.Step.{pairIn, stack, pairOf}
-use Rattle.pairs.specs.State.{takes}
+use Rattle.pairs.specs.State.{takes, Word}
 use Rattle.pairs.proofs.Ways.{in-length, by-high}
 use Rattle.pairs.proofs.Trails.{path-top, path-linked, path-row, path-at}
 use Rattle.matches.specs.declared.Sweep.{Sweep}
@@ -129,7 +129,7 @@ module _ (W : List ℕ) (rows : List ℤ) (task : Task) (trail labs : List ℕ) 
   taken-is : length ls ≡ taken
   taken-is = let r = rows-are in omega arith
 
-  on-is : labelsOn T trail (w .top) ≡ ls
+  on-is : labelsOn (layout W (task .size .places) 0) trail (w .top) ≡ ls
   unfolding labelsOn
   on-is = refl
 
@@ -141,10 +141,18 @@ module _ (W : List ℕ) (rows : List ℤ) (task : Task) (trail labs : List ℕ) 
       rooms : (i .matches * (3 + 2 * count) + (3 + 2 * count) ≤ nums) × (i .labels + taken ≤ length labs)
       rooms = rw (measures-count W (task .measures) count, taken-is) at (fits-room nums (length labs) ms (i .matches) (i .labels) ls (sym fits-is ∙ et))
 
-      pub tell-labels : Labels T trail labs (w .top) (i .labels + taken)
-      tell-labels = record { some = h .path .sized .some; long = h .path .sized .long; trailed = h .path .room; words = h .path .words; end-room = rooms .1; enough = rw (on-is, taken-is) (omega arith) }
+      -- the labels are those of the places, however many steps are allowed
+      abbrev T₀ : Layout
+      T₀ = layout W (task .size .places) 0
 
-      module _ (labs′ : List ℕ) (el : labs′ ≡ wrote labs (i .labels + taken - length (labelsOn T trail (w .top))) (labelsOn T trail (w .top))) where
+      word-as : (e : ℕ) → Word T e → Word T₀ e
+      unfolding second
+      word-as e x = record { place = x .place; some = x .some; behind = x .behind; before = x .before }
+
+      pub tell-labels : Labels T₀ trail labs (w .top) (i .labels + taken)
+      tell-labels = record { some = h .path .sized .some; long = h .path .sized .long; trailed = h .path .room; words = λ k l. word-as _ (h .path .words k l); end-room = rooms .1; enough = rw (on-is, taken-is) (omega arith) }
+
+      module _ (labs′ : List ℕ) (el : labs′ ≡ wrote labs (i .labels + taken - length (labelsOn T₀ trail (w .top))) (labelsOn T₀ trail (w .top))) where
         written : labs′ ≡ wrote labs (i .labels) ls
         written =
             let k : i .labels + taken - length ls ≡ i .labels = let t = taken-is in omega arith in
@@ -207,5 +215,5 @@ module _ (W : List ℕ) (rows : List ℤ) (task : Task) (trail labs : List ℕ) 
 
     pub tell-full : (numbers : List ℤ) → nums ≡ length numbers → r ≡ false
         → Told (askedOf W rows task) (hit p) i (w .steps) numbers numbers labs labs
-        (record { end = 13; row = n; matches = i .matches; labels = i .labels; steps = w .steps })
+        (record { end = 13; row = n; matches = i .matches; labels = i .labels; steps = w .steps; opened = 0 })
     tell-full numbers en et = rw (← en, sym fits-is ∙ et) (record { numbers-is = refl; labels-is = refl; sweep-is = refl })

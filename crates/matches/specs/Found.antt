@@ -10,14 +10,15 @@ use lib.ListN.{length, getD}
 use Rattle.rules.specs.Answers.{haltAnswer}
 use Rattle.rules.specs.Basics.{wrote}
 use Rattle.rules.specs.Report.{bitAt, matchNumbers, fits}
-use Rattle.rules.specs.Search.{Kept, Attempted, hit, miss, halts, answered, labels, nextStart, endOf}
+use Rattle.rules.specs.Search.{Attempted, hit, miss, halts, answered, labels, nextStart, endOf}
+use Rattle.rules.specs.Walk.{Halt, outOfSteps, outOfRows, Kept}
 use Rattle.rules.specs.Working.{bitsOf}
 use Rattle.measure_list.specs.Measures.{Measurable}
 use Rattle.pairs.specs.declared.Walk.{Walk}
-use Rattle.pairs.specs.Layout.{Layout, P, N, Legal, layoutOf, lettersOf, Tested}
+use Rattle.pairs.specs.Layout.{Layout, P, N, Legal, haltsIn, layoutOf, lettersOf, Tested}
 use Rattle.table.specs.Table.{codeAt}
 use Rattle.pairs.specs.Step.{pairIn}
-use Rattle.pairs.specs.State.{Word, OnPath, allowing, attemptBy}
+use Rattle.pairs.specs.State.{Word, OnPath, attemptBy}
 use Rattle.matches.specs.declared.Sweep.{Sweep}
 use Rattle.matches.specs.declared.Task.{Task}
 use Rattle.matches.specs.Asked.{Asked, pl, width, labelsOn}
@@ -53,7 +54,16 @@ pub record Labels (T : Layout) (trail labs : List ℕ) (top end : ℕ) : Type 0 
 -- ---- the report of a path
 
 abbrev pub swept : ℕ → ℕ → ℕ → ℕ → ℕ → Sweep
-swept end row m l s = record { end = end; row = row; matches = m; labels = l; steps = s }
+swept end row m l s = record { end = end; row = row; matches = m; labels = l; steps = s; opened = 0 }
+
+-- a search that has halted in the attempt at a row: where it waits, it tells how many pairs are
+-- open
+abbrev pub openBy : Halt → List ℕ → ℕ
+openBy outOfSteps p = 0
+openBy outOfRows p = length p
+
+abbrev pub sweptAt : Halt → List ℕ → ℕ → ℕ → ℕ → ℕ → Sweep
+sweptAt h p row m l s = record { end = haltAnswer h; row = row; matches = m; labels = l; steps = s; opened = openBy h p }
 
 -- behind a match that is written the search goes on at its next start; where there is none it is
 -- over, with end 15
@@ -86,7 +96,7 @@ ToldBy false A p i s numbers numbers′ labs labs′ r = Quiet numbers numbers�
 -- search is over and nothing is written
 abbrev pub Told : Asked → Attempted → Sweep → ℕ → List ℤ → List ℤ → List ℕ → List ℕ → Sweep → Type 0
 Told A miss i s numbers numbers′ labs labs′ r = Quiet numbers numbers′ labs labs′ r (swept 0 (i .row + 1) (i .matches) (i .labels) s)
-Told A (halts h p) i s numbers numbers′ labs labs′ r = Quiet numbers numbers′ labs labs′ r (swept (haltAnswer h) (A .n) (i .matches) (i .labels) s)
+Told A (halts h p) i s numbers numbers′ labs labs′ r = Quiet numbers numbers′ labs labs′ r (sweptAt h p (i .row) (i .matches) (i .labels) s)
 Told A (hit p) i s numbers numbers′ labs labs′ r =
     ToldBy (fits (length numbers) (length labs) (A .measures) (i .matches) (i .labels) (labels (pl A) p)) A p i s numbers numbers′ labs labs′ r
 
@@ -130,13 +140,13 @@ pub record Visits (T : List ℕ) (rows : List ℤ) (task : Task) (notes trail la
 
 -- the attempt at a start by the definition, with the failed pairs F and s steps before it
 abbrev pub attemptAt : Asked → List Bool → ℕ → ℕ → Attempted × Kept
-attemptAt A F s i = answered (attemptBy (allowing (A .allowance)) (A .layout) (A .holds) (A .n) F s i)
+attemptAt A F s i = answered (attemptBy (haltsIn (A .layout) (A .more) (A .n)) (A .layout) (A .holds) (A .n) F s i)
 
 pub record Visited (A : Asked) (notes notes′ trail trail′ : List ℕ) (numbers numbers′ : List ℤ) (labs labs′ : List ℕ) (i r : Sweep) : Type 0 where
-  pub kept : bitsOf notes′ (N (A .layout) (A .n)) ≡ (attemptAt A (bitsOf notes (N (A .layout) (A .n))) (i .steps) (i .row)) .1 .0
-  pub told : Told A ((attemptAt A (bitsOf notes (N (A .layout) (A .n))) (i .steps) (i .row)) .0) i ((attemptAt A (bitsOf notes (N (A .layout) (A .n))) (i .steps) (i .row)) .1 .1) numbers numbers′ labs labs′ r
+  pub kept : bitsOf notes′ (N (A .layout) (A .n)) ≡ (attemptAt A (bitsOf notes (N (A .layout) (A .n))) (i .steps) (i .row)) .1 .failed
+  pub told : Told A ((attemptAt A (bitsOf notes (N (A .layout) (A .n))) (i .steps) (i .row)) .0) i ((attemptAt A (bitsOf notes (N (A .layout) (A .n))) (i .steps) (i .row)) .1 .steps) numbers numbers′ labs labs′ r
   pub notes-long : length notes′ ≡ length notes
   pub trail-long : length trail′ ≡ length trail
   pub notes-beyond : (z : ℕ) → N (A .layout) (A .n) ≤ z → bitAt notes′ z ≡ bitAt notes z
   pub trail-beyond : (k : ℕ) → N (A .layout) (A .n) ≤ k → getD trail′ k 0 ≡ getD trail k 0
-  pub more : (attemptAt A (bitsOf notes (N (A .layout) (A .n))) (i .steps) (i .row)) .1 .1 ≤ i .steps + N (A .layout) (A .n)
+  pub more : (attemptAt A (bitsOf notes (N (A .layout) (A .n))) (i .steps) (i .row)) .1 .steps ≤ i .steps + N (A .layout) (A .n)

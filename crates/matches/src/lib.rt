@@ -23,17 +23,20 @@ ghost use Rattle.skips.specs.Skips.{startIn};
 ghost use Rattle.matches.specs.Asked.{askedOf, labelsOn, pathOn};
 ghost use Rattle.matches.specs.Found.{OneMore, PutsLabel, Labels, sweptOn, Told, Reports};
 
-// What a search is asked beside its table: its extent, the word of the table at which the measures
-// begin, how many they are, and where it goes on behind a match.
+// What a search is asked beside its table: its extent, the number of pairs of the largest number of
+// rows, the word of the table at which the measures begin, how many they are, and where it goes on
+// behind a match.
 pub struct Task {
     pub size: Extent,
+    pub pairs: usize,
     pub measures: usize,
     pub count: usize,
     pub skip: Skip,
 }
 
-// A search under way: how it ended, if it did; the next start, the matches and labels written, and
-// the steps.
+// A search under way: how it ended, if it did; the next start, or the one at which it waits; the
+// matches and labels written; the steps; and, where it waits in an attempt, how many pairs are
+// open.
 #[repr(C)]
 pub struct Sweep {
     pub end: usize,
@@ -41,10 +44,11 @@ pub struct Sweep {
     pub matches: usize,
     pub labels: usize,
     pub steps: usize,
+    pub opened: usize,
 }
 
 // How a search ends, by its answer: it is done, the next match does not fit, the match written last
-// names no start to go on at, or no step is left for the next entry.
+// names no start to go on at, no step is left for the next entry, or it waits for a row.
 pub const DONE: usize = 0;
 
 pub const FULL: usize = 13;
@@ -52,6 +56,8 @@ pub const FULL: usize = 13;
 pub const STUCK: usize = 15;
 
 pub const OUT_OF_STEPS: usize = 16;
+
+pub const OUT_OF_ROWS: usize = 23;
 
 // A code of a letter as its label.
 fn label_of(c: usize) -> u8
@@ -83,8 +89,8 @@ fn put_labels(
     top: usize,
     end: usize,
 )
-    requires { ⌜ Labels (layout (now table) places) (now trail) (now labels) top end ⌝ }
-    ensures { λ _. ⌜ now (labels .exit) ≡ wrote (now (labels .entry)) (end - length (labelsOn (layout (now (table .entry)) places) (now (trail .entry)) top)) (labelsOn (layout (now (table .entry)) places) (now (trail .entry)) top) ⌝ }
+    requires { ⌜ Labels (layout (now table) places 0) (now trail) (now labels) top end ⌝ }
+    ensures { λ _. ⌜ now (labels .exit) ≡ wrote (now (labels .entry)) (end - length (labelsOn (layout (now (table .entry)) places 0) (now (trail .entry)) top)) (labelsOn (layout (now (table .entry)) places 0) (now (trail .entry)) top) ⌝ }
 {
     let mut k = top;
     let mut e = end;
@@ -106,6 +112,7 @@ fn behind_match(next: Next, rows: usize, matches: usize, labels: usize, steps: u
             matches,
             labels,
             steps,
+            opened: 0,
         };
     };
     Sweep {
@@ -114,6 +121,7 @@ fn behind_match(next: Next, rows: usize, matches: usize, labels: usize, steps: u
         matches,
         labels,
         steps,
+        opened: 0,
     }
 }
 
@@ -168,5 +176,6 @@ pub fn write_match(
         matches: m,
         labels: l,
         steps: w.steps,
+        opened: 0,
     }
 }

@@ -18,7 +18,7 @@ use Rattle.records.proofs.Records.{records-end}
 use Rattle.records.proofs.Reading.{found, read-more, read-cut}
 use Rattle.table.specs.Measures.{measureIn, measuresIn}
 use Rattle.query.specs.Ahead.{Ahead}
-use Rattle.measure_list.specs.Measures.{Fits, setThree, measureOf, MeasuresRoom, PutMeasures}
+use Rattle.measure_list.specs.Measures.{MeasureFits, setThree, measureOf, MeasuresRoom, PutMeasures}
 use Rattle.measure_list.specs.declared.Measure.{Measure as Three}
 use Rattle.measure_list.proofs.Keeping.{kept-three}
 use Rattle.measure_list.proofs.OneMeasure.{measure-old, measure-new, measures-more}
@@ -29,7 +29,7 @@ pub record Counting (s : List ℕ) (from : ℕ) (measures₀ measures : List ℕ
   pub few : count ≤ 8
   pub ahead : Ahead s 3 (8 - count) at
   pub is : measuresIn measures 0 count ++ measuresFrom s (recordsAt s at) ≡ measuresFrom s (recordsAt s from)
-  pub fit : (k : ℕ) → k < count → Fits (columnsOf s) (measureIn measures 0 k)
+  pub fit : (k : ℕ) → k < count → MeasureFits (columnsOf s) (measureIn measures 0 k)
   pub rest : (j : ℕ) → count * 3 ≤ j → getD measures j 0 ≡ getD measures₀ j 0
 
 module _ (s : List ℕ) (from : ℕ) (measures₀ : List ℕ) where

@@ -9,7 +9,7 @@ use lib.ListN.{length, getD}
 use borrow.Author.Tests.{ltb-true, ltb-false}
 use Rattle.laws.proofs.Choice.{decided}
 use Rattle.table.specs.Measures.{measureIn, measuresIn}
-use Rattle.measure_list.specs.Measures.{Fits, setThree, measureOf, Tabled, Measurable}
+use Rattle.measure_list.specs.Measures.{MeasureFits, setThree, measureOf, MeasuresTabled, Measurable}
 use Rattle.measure_list.specs.declared.Measure.{Measure as Three}
 use Rattle.measure_list.proofs.Keeping.{kept-three, three-0, three-1, three-2}
 use Rattle.measure_list.proofs.OneMeasure.{tabulate-same, measure-old, measure-new}
@@ -30,7 +30,7 @@ module _ (T T' : List ℕ) (at count : ℕ) (few : count ≤ 8) (same : (j : ℕ
   measures-kept = tabulate-same count (measureIn T' at) (measureIn T at) measure-kept
 
   -- so what was put stands in the other table too
-  pub tabled-kept : (measures T₀ : List ℕ) → Tabled measures count T₀ T at → Tabled measures count T' T' at
+  pub tabled-kept : (measures T₀ : List ℕ) → MeasuresTabled measures count T₀ T at → MeasuresTabled measures count T' T' at
   tabled-kept measures T₀ t = record {
     long = refl;
     is = measures-kept ∙ t .is;
@@ -48,8 +48,8 @@ module _ (T T' : List ℕ) (at count : ℕ) (few : count ≤ 8) (same : (j : ℕ
   }
 
 -- measures that fit can be read from the table into which they were put
-pub put-measurable : (measures : List ℕ) (count : ℕ) (T₀ T : List ℕ) (at columns : ℕ) → Tabled measures count T₀ T at → at + count * 3 ≤ length T
-    → ((k : ℕ) → k < count → Fits columns (measureIn measures 0 k)) → Measurable T at count columns
+pub put-measurable : (measures : List ℕ) (count : ℕ) (T₀ T : List ℕ) (at columns : ℕ) → MeasuresTabled measures count T₀ T at → at + count * 3 ≤ length T
+    → ((k : ℕ) → k < count → MeasureFits columns (measureIn measures 0 k)) → Measurable T at count columns
 put-measurable measures count T₀ T at columns t h f = record { inside = h; bytes = t .bytes; fit = λ k g. rw (t .each k g) (f k g) }
 
 -- ---- the loop
@@ -81,7 +81,7 @@ module _ (measures : List ℕ) (count : ℕ) (T₀ : List ℕ) (at : ℕ) where
     pub tabling-room : k < count → at + k * 3 + 3 ≤ length T
     tabling-room h = let f = t .few in let r = t .room in let l = t .long in omega arith
 
-    pub tabling-all : count ≤ k → Tabled measures count T₀ T at
+    pub tabling-all : count ≤ k → MeasuresTabled measures count T₀ T at
     unfolding measuresIn
     tabling-all h =
         let e : k ≡ count = let u = t .upto in omega arith in

@@ -12,8 +12,8 @@ use Rattle.table.specs.Measures.{measureIn, measuresIn}
 use Rattle.measure_list.specs.declared.Measure.{Measure as Three}
 
 -- a measure's function, letter and column are within their values
-abbrev pub Fits : ℕ → Measure → Type 0
-Fits columns m = functionFits columns (m .function) (m .letter) (m .column) ≡ true
+abbrev pub MeasureFits : ℕ → Measure → Type 0
+MeasureFits columns m = functionFits columns (m .function) (m .letter) (m .column) ≡ true
 
 -- the measure of three bytes
 abbrev pub measureOf : Three → Measure
@@ -32,12 +32,12 @@ pub record PutMeasures (s : List ℕ) (from : ℕ) (measures₀ measures : List 
   pub long : length measures ≡ 24
   pub is : measuresIn measures 0 r ≡ measuresFrom s (recordsAt s from)
   pub few : r ≤ 8
-  pub fit : (k : ℕ) → k < r → Fits (columnsOf s) (measureIn measures 0 k)
+  pub fit : (k : ℕ) → k < r → MeasureFits (columnsOf s) (measureIn measures 0 k)
   pub rest : (j : ℕ) → r * 3 ≤ j → getD measures j 0 ≡ getD measures₀ j 0
 
 -- the first `count` measures are words of the table T from word `at` on, each below 256; the words
 -- before them and behind them are those of T₀
-pub record Tabled (measures : List ℕ) (count : ℕ) (T₀ T : List ℕ) (at : ℕ) : Type 0 where
+pub record MeasuresTabled (measures : List ℕ) (count : ℕ) (T₀ T : List ℕ) (at : ℕ) : Type 0 where
   pub long : length T ≡ length T₀
   pub is : measuresIn T at count ≡ measuresIn measures 0 count
   pub each : (k : ℕ) → k < count → measureIn T at k ≡ measureIn measures 0 k
@@ -50,4 +50,4 @@ pub record Tabled (measures : List ℕ) (count : ℕ) (T₀ T : List ℕ) (at : 
 pub record Measurable (T : List ℕ) (at count columns : ℕ) : Type 0 where
   pub inside : at + count * 3 ≤ length T
   pub bytes : (j : ℕ) → at ≤ j → j < at + count * 3 → getD T j 0 < 256
-  pub fit : (k : ℕ) → k < count → Fits columns (measureIn T at k)
+  pub fit : (k : ℕ) → k < count → MeasureFits columns (measureIn T at k)

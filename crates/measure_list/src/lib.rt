@@ -1,6 +1,6 @@
 // The measures of a query: the type Measure, a lent array of three bytes for each of up to 8, and
 // the same measures as words of a table. A query comes here with no answer 1 to 3. What the array
-// and the table hold afterwards: specs/Measures, `PutMeasures` and `Tabled`.
+// and the table hold afterwards: specs/Measures, `PutMeasures` and `MeasuresTabled`.
 use records::Read;
 use records::record_at;
 ghost use mathlib.Core.Path.{_≡_};
@@ -8,7 +8,7 @@ ghost use Prim.Native.Nat.{_+_, _*_, _≤_, _<_};
 ghost use lib.ListN.{length};
 ghost use Rattle.rules.specs.Query.{measureAt};
 ghost use Rattle.table.specs.Measures.{measureIn};
-ghost use Rattle.measure_list.specs.Measures.{measureOf, setThree, MeasuresRoom, PutMeasures, Tabled};
+ghost use Rattle.measure_list.specs.Measures.{measureOf, setThree, MeasuresRoom, PutMeasures, MeasuresTabled};
 
 // A measure of the query: the number of its function, the letter of its rows or 0 for all rows, and
 // its column.
@@ -116,7 +116,7 @@ fn put_words(m: Measure, table: &mut [u16], at: usize)
 // The first `count` measures of the array as words of a table, from word `at` on.
 pub fn put_in_table(measures: &[u8; 24], count: usize, table: &mut [u16], at: usize)
     requires { ⌜ (count ≤ 8) × (at + 24 ≤ length (now table)) ⌝ }
-    ensures { λ r. ⌜ Tabled (now (measures .entry)) count (now (table .entry)) (now (table .exit)) at ⌝ }
+    ensures { λ r. ⌜ MeasuresTabled (now (measures .entry)) count (now (table .entry)) (now (table .exit)) at ⌝ }
 {
     let mut k = 0;
     while k < count {

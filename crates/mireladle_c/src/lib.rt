@@ -1,9 +1,14 @@
 // The face for C and Rust callers, built by `rt staticlib mireladle_c`: each function is the proved
 // one of its name, with the same promise. A slice passes as a pointer and a length in elements;
-// include/mireladle.h says what a caller owes for the pointers, which no promise here can check.
+// include/mireladle.h says what a caller owes for the pointers, which no promise here can check. The
+// state of a search by lots is lent as a pointer too; the borrow checker does not cover these three
+// functions, and crates/lending has the laws that prove them.
 use bus_log::Verdict;
+use lots::Feed;
 use outcome::Outcome;
 use test_letter::Tested;
+ghost use mathlib.Core.Path.{_≡_};
+ghost use mathlib.Core.Bool.{true, false};
 ghost use mathlib.Core.Option.{none, some};
 ghost use lib.ListN.{length};
 ghost use Rattle.outcome.specs.Results.{lent, memory};
@@ -12,6 +17,8 @@ ghost use Rattle.desk.specs.Promise.{Desk};
 ghost use Rattle.depot_state.specs.State.{Begun};
 ghost use Rattle.depots.specs.Calls.{Calls};
 ghost use Rattle.test_letter.specs.Tests.{TestedAs};
+ghost use Rattle.lots.specs.Feeds.{newFeed};
+ghost use Rattle.feeding.specs.Calls.{Calls as LotCalls};
 ghost use Rattle.mireladle_c.specs.Told.{Told};
 
 // How much to lend: the answer 1 to 10 or 14, with the offset of 5 and 14, or 0 with P, n, the
@@ -118,4 +125,55 @@ pub extern "C" fn mireladle_test(query: &[u8], rows: &[i32], letter: u8, row: us
     ensures { λ r. ⌜ TestedAs (now (query .entry)) (now (rows .entry)) letter row r ⌝ }
 {
     test_letter::test_letter(query, rows, letter, row)
+}
+
+// A search by lots begins: the largest number of rows and the steps allowed are named.
+#[no_mangle]
+pub extern "C" fn mireladle_begin(feed: &mut Feed, largest: usize, allowance: usize)
+    ensures { λ _. ⌜ now (feed .exit) ≡ newFeed largest allowance ⌝ }
+{
+    let after = lots::begin(largest, allowance);
+    *feed = after;
+}
+
+// A lot of rows, behind which more may come.
+#[no_mangle]
+pub extern "C" fn mireladle_more(
+    feed: &mut Feed,
+    query: &[u8],
+    rows: &[i32],
+    present: usize,
+    notes: &mut [u8],
+    trail: &mut [u32],
+    numbers: &mut [i64],
+    labels: &mut [u8],
+) -> Outcome
+    ensures { λ r. ⌜ LotCalls (record { feed = now (feed .entry); query = now (query .entry); rows = now (rows .entry); present = present; last = false; buffers = lent (now (notes .entry)) (now (trail .entry)) (now (numbers .entry)) (now (labels .entry)) }) (record { feed = now (feed .exit); memory = memory r (now (notes .exit)) (now (trail .exit)) (now (numbers .exit)) (now (labels .exit)) }) ⌝ }
+{
+    let before = *feed;
+    let fed = feeding::more(before, query, rows, present, notes, trail, numbers, labels);
+    let after = fed.feed;
+    *feed = after;
+    fed.outcome
+}
+
+// The last lot: the end is declared.
+#[no_mangle]
+pub extern "C" fn mireladle_last(
+    feed: &mut Feed,
+    query: &[u8],
+    rows: &[i32],
+    present: usize,
+    notes: &mut [u8],
+    trail: &mut [u32],
+    numbers: &mut [i64],
+    labels: &mut [u8],
+) -> Outcome
+    ensures { λ r. ⌜ LotCalls (record { feed = now (feed .entry); query = now (query .entry); rows = now (rows .entry); present = present; last = true; buffers = lent (now (notes .entry)) (now (trail .entry)) (now (numbers .entry)) (now (labels .entry)) }) (record { feed = now (feed .exit); memory = memory r (now (notes .exit)) (now (trail .exit)) (now (numbers .exit)) (now (labels .exit)) }) ⌝ }
+{
+    let before = *feed;
+    let fed = feeding::last(before, query, rows, present, notes, trail, numbers, labels);
+    let after = fed.feed;
+    *feed = after;
+    fed.outcome
 }

@@ -16,24 +16,25 @@ use Rattle.rules.specs.Basics.{pick}
 use Rattle.rules.specs.Rows.{Table}
 use Rattle.rules.specs.Query.{Measure, textOf, parts}
 use Rattle.rules.specs.Language.{Tree, pattern, Written}
-use Rattle.rules.specs.Preferment.{Preferred, NoneParses, Reports, finished, unmatched, matched}
+use Rattle.rules.specs.Readings.{rowSets}
+use Rattle.rules.specs.Preferment.{Preferred, NoneParses, Reports, finished, unmatched, matched, setting}
 use Rattle.rules.specs.Search.{done, pastLast, toNext, nextStart}
 use Rattle.rules.specs.Report.{fits}
 use Rattle.rules.specs.Answers.{taskOf, skipOf, letterHolds, Buffers, Memory, refusal}
-use Rattle.rules.specs.Entries.{Entry, entriesIn, entryOf, entriesOf}
+use Rattle.rules.specs.Entries.{Reported, reportedIn, reportedOne, reportedAll}
 use Rattle.rules.specs.Demands.{Demands}
 use Rattle.laws.proofs.Accepted.{granted-when}
 use Rattle.laws.proofs.DerivationReadings.{parses-word}
 use Rattle.laws.proofs.FirstDemand.{unrefused-by}
 use Rattle.laws.proofs.Grammar.{one-tree}
 use Rattle.laws.proofs.GreatestDerivation.{greatest-same}
-use Rattle.modes.specs.Chosen.{behind, chosenFrom, chosen, inMode, OneFromOther}
+use Rattle.modes.specs.Chosen.{startBehind, chosenFrom, chosen, inMode, OneFromOther}
 use Rattle.modes.proofs.Done.{written, told}
 use Rattle.modes.proofs.SkipByte.{SameButSkip, same-but-skip, mode-set}
 
 -- ---- a preferred match ends as many rows behind its start as it has labels
 
-ends-behind : {p : Tree pattern} {holds : ℕ → ℕ → Bool} {n i j : ℕ} {w : List ℕ} → Preferred p holds n i j w → j ≡ i + length w
+ends-behind : {p : Tree pattern} {holds : ℕ → ℕ → Bool} {n i j : ℕ} {w : List ℕ} → Preferred (rowSets n holds) p i j w → j ≡ i + length w
 ends-behind {p} {holds} {n} {i} {j} {w} x = let s = parses-word holds n p (x .derivation) i j w (x .parses) in rw (s .labels) (s .rows)
 
 -- the next start behind it, past its last row
@@ -47,8 +48,8 @@ past-on i j = go (ltb i j) refl
     go true e = ltb-true i j e
     go false e = omega arith
 
-behind-is : (t : Table) (ms : List Measure) (i j : ℕ) (w : List ℕ) → j ≡ i + length w → past i j ≡ behind (entryOf t ms (i, w))
-unfolding behind entryOf
+behind-is : (t : Table) (ms : List Measure) (i j : ℕ) (w : List ℕ) → j ≡ i + length w → past i j ≡ startBehind (reportedOne t ms (i, w))
+unfolding startBehind reportedOne
 behind-is t ms i j w e = rw e (go w)
   where
     go : (w : List ℕ) → pick (ltb i (i + length w)) (i + length w) (suc i) ≡ pick (eqb (length w) 0) (suc i) (i + length w)
@@ -71,14 +72,14 @@ one-next i j w k e = some-is e
 module _ (p : Tree pattern) (holds : ℕ → ℕ → Bool) (n : ℕ) (room : ℕ → ℕ → List ℕ → Bool) where
   -- what mode 0 still writes from row i on, behind m matches with l labels, where it ends as done
   abbrev Past : ℕ → ℕ → ℕ → List (ℕ × List ℕ) → Type 0
-  Past i m l ms = Reports p holds n pastLast room i m l ms done
+  Past i m l ms = Reports (setting p (rowSets n holds) pastLast room) i m l ms done
 
   past-end : {i m l : ℕ} {ms : List (ℕ × List ℕ)} → n ≤ i → Past i m l ms → ms ≡ []
   past-end h (finished f) = refl
   past-end h (unmatched lt x r) = absurd (omega arith)
   past-end h (matched lt x b d r) = absurd (omega arith)
 
-  past-none : {i m l : ℕ} {ms : List (ℕ × List ℕ)} → i < n → NoneParses p holds n i → Past i m l ms → Past (suc i) m l ms
+  past-none : {i m l : ℕ} {ms : List (ℕ × List ℕ)} → i < n → NoneParses (rowSets n holds) p i → Past i m l ms → Past (suc i) m l ms
   past-none h u (finished f) = absurd (omega arith)
   past-none h u (unmatched lt x r) = r
   past-none h u (matched {j = j} {w = w} lt x b d r) = absurd (u (x .derivation) j w (x .parses))
@@ -89,7 +90,7 @@ module _ (p : Tree pattern) (holds : ℕ → ℕ → Bool) (n : ℕ) (room : ℕ
     pub is : ms ≡ (i, w) ∷ rest
     pub goes : Past (past i j) (suc m) (l + length w) rest
 
-  past-match : {i j m l : ℕ} {w : List ℕ} {ms : List (ℕ × List ℕ)} → i < n → Preferred p holds n i j w → Past i m l ms → Took i j m l w ms
+  past-match : {i j m l : ℕ} {w : List ℕ} {ms : List (ℕ × List ℕ)} → i < n → Preferred (rowSets n holds) p i j w → Past i m l ms → Took i j m l w ms
   past-match h y (finished f) = absurd (omega arith)
   past-match {j = j} {w = w} h y (unmatched lt x r) = absurd (x (y .derivation) j w (y .parses))
   past-match {i = i} {j = j} {m = m} {l = l} {w = w} h y (matched {j = j′} {k = k} {w = v} {ms = rest} lt x b d r) =
@@ -99,11 +100,11 @@ module _ (p : Tree pattern) (holds : ℕ → ℕ → Bool) (n : ℕ) (room : ℕ
 
 module _ (p : Tree pattern) (holds : ℕ → ℕ → Bool) (n : ℕ) (room room′ : ℕ → ℕ → List ℕ → Bool) (t : Table) (measures : List Measure) where
   abbrev Each : ℕ → ℕ → ℕ → List (ℕ × List ℕ) → Type 0
-  Each i m l ms = Reports p holds n toNext room′ i m l ms done
+  Each i m l ms = Reports (setting p (rowSets n holds) toNext room′) i m l ms done
 
   -- what mode 1 still writes starts at row k or behind it, so choosing may begin anywhere up to k
-  from-before : {k m l : ℕ} {ms : List (ℕ × List ℕ)} → Each k m l ms → (i : ℕ) → i ≤ k → chosenFrom i (entriesOf t measures ms) ≡ chosenFrom k (entriesOf t measures ms)
-  unfolding chosenFrom entryOf
+  from-before : {k m l : ℕ} {ms : List (ℕ × List ℕ)} → Each k m l ms → (i : ℕ) → i ≤ k → chosenFrom i (reportedAll t measures ms) ≡ chosenFrom k (reportedAll t measures ms)
+  unfolding chosenFrom reportedOne
   from-before (finished f) i h = refl
   from-before {k = k} (unmatched lt x r) i h = from-before r i (omega arith) ∙ sym (from-before r k (omega arith))
   from-before {k = k} (matched lt x b d r) i h = rw (le-ltb k i (omega arith), le-ltb k k (omega arith))
@@ -111,14 +112,14 @@ module _ (p : Tree pattern) (holds : ℕ → ℕ → Bool) (n : ℕ) (room room�
   -- Mode 1 stands at row i′ and still writes ms′. Where mode 0 stands at row i′ or behind it, what
   -- it still writes is chosen from ms′.
   abbrev Chooses : ℕ → List (ℕ × List ℕ) → Type 0
-  Chooses i′ ms′ = (i m l : ℕ) (ms : List (ℕ × List ℕ)) → i′ ≤ i → Past p holds n room i m l ms → entriesOf t measures ms ≡ chosenFrom i (entriesOf t measures ms′)
+  Chooses i′ ms′ = (i m l : ℕ) (ms : List (ℕ × List ℕ)) → i′ ≤ i → Past p holds n room i m l ms → reportedAll t measures ms ≡ chosenFrom i (reportedAll t measures ms′)
 
   chosen-from : {i′ m′ l′ : ℕ} {ms′ : List (ℕ × List ℕ)} → Each i′ m′ l′ ms′ → Chooses i′ ms′
-  unfolding chosenFrom entryOf
-  chosen-from (finished f) i m l ms h s = ap (entriesOf t measures) (past-end p holds n room (omega arith) s)
+  unfolding chosenFrom reportedOne
+  chosen-from (finished f) i m l ms h s = ap (reportedAll t measures) (past-end p holds n room (omega arith) s)
   chosen-from {i′ = i′} (unmatched {ms = ms′} lt x r) i m l ms h s = go (λ i m l ms h s. chosen-from r i m l ms h s) (ltb i′ i) refl
     where
-      go : Chooses (suc i′) ms′ → (b : Bool) → ltb i′ i ≡ b → entriesOf t measures ms ≡ chosenFrom i (entriesOf t measures ms′)
+      go : Chooses (suc i′) ms′ → (b : Bool) → ltb i′ i ≡ b → reportedAll t measures ms ≡ chosenFrom i (reportedAll t measures ms′)
       go ih true e = ih i m l ms (ltb-true i′ i e) s
       go ih false e =
           let q : i ≡ i′ = omega (arith, ltb-false i′ i e) in
@@ -130,15 +131,15 @@ module _ (p : Tree pattern) (holds : ℕ → ℕ → Bool) (n : ℕ) (room room�
       on = one-next i′ j w k d
 
       go : Chooses k ms′ → (b : Bool) → ltb i′ i ≡ b
-          → entriesOf t measures ms ≡ pick b (chosenFrom i (entriesOf t measures ms′)) (entryOf t measures (i′, w) ∷ chosenFrom (behind (entryOf t measures (i′, w))) (entriesOf t measures ms′))
+          → reportedAll t measures ms ≡ pick b (chosenFrom i (reportedAll t measures ms′)) (reportedOne t measures (i′, w) ∷ chosenFrom (startBehind (reportedOne t measures (i′, w))) (reportedAll t measures ms′))
       go ih true e = ih i m l ms (omega (arith, on, ltb-true i′ i e)) s
       go ih false e =
           let q : i ≡ i′ = omega (arith, ltb-false i′ i e) in
           let s₁ : Past p holds n room i′ m l ms = rw q at s in
           let u = past-match p holds n room lt x s₁ in
           let y = ih (past i′ j) (suc m) (l + length w) (u .rest) (omega (arith, on, past-on i′ j)) (u .goes) in
-          let z : past i′ j ≡ behind (entryOf t measures (i′, w)) = behind-is t measures i′ j w (ends-behind x) in
-          rw (u .is) (ap (λ (es : List Entry). entryOf t measures (i′, w) ∷ es) (y ∙ ap (λ (row : ℕ). chosenFrom row (entriesOf t measures ms′)) z))
+          let z : past i′ j ≡ startBehind (reportedOne t measures (i′, w)) = behind-is t measures i′ j w (ends-behind x) in
+          rw (u .is) (ap (λ (es : List Reported). reportedOne t measures (i′, w) ∷ es) (y ∙ ap (λ (row : ℕ). chosenFrom row (reportedAll t measures ms′)) z))
 
 -- ---- for inputs
 
@@ -167,7 +168,7 @@ mode-1 q rows e = rw e
 -- two searches of a query that differs in its skip mode alone
 module _ (a a′ : Option ℕ) (q q′ : List ℕ) (rows : List ℤ) (before before′ : Buffers) (after after′ : Memory) (same : SameButSkip q q′) (m : parts q .skip ≡ 0) (m′ : parts q′ .skip ≡ 1)
     (y : Demands a q rows before after) (y′ : Demands a′ q′ rows before′ after′) (z : after .result .answer ≡ 0) (z′ : after′ .result .answer ≡ 0) where
-  from-demands : entriesIn q after ≡ chosen (entriesIn q′ after′)
+  from-demands : reportedIn q after ≡ chosen (reportedIn q′ after′)
   unfolding chosen
   from-demands =
       let t = taskOf q rows in
@@ -176,8 +177,8 @@ module _ (a a′ : Option ℕ) (q q′ : List ℕ) (rows : List ℤ) (before bef
       let r = told a q rows before after y z refl refl refl (mode-0 q rows m) in
       let r′ = told a′ q′ rows before′ after′ y′ z′ (one-tree w′ (y .written)) (same-holds q q′ rows same) (ap (λ (x : Table). x .n) (same-table q q′ rows same)) (mode-1 q′ rows m′) in
       let c = chosen-from (y .tree) (letterHolds t) (t .table .n) (fits (length (before .numbers)) (length (before .labels)) (t .measures)) (fits (length (before′ .numbers)) (length (before′ .labels)) (t′ .measures)) (t .table) (t .measures) r′ 0 0 0 _ (omega arith) r in
-      let s : entriesOf (t .table) (t .measures) (written a′ q′ rows before′ after′ y′ z′) ≡ entriesOf (t′ .table) (t′ .measures) (written a′ q′ rows before′ after′ y′ z′) =
-      ap₂ (λ (x : Table) (ms : List Measure). entriesOf x ms (written a′ q′ rows before′ after′ y′ z′)) (sym (same-table q q′ rows same)) (sym (same-measured q q′ rows same)) in
+      let s : reportedAll (t .table) (t .measures) (written a′ q′ rows before′ after′ y′ z′) ≡ reportedAll (t′ .table) (t′ .measures) (written a′ q′ rows before′ after′ y′ z′) =
+      ap₂ (λ (x : Table) (ms : List Measure). reportedAll x ms (written a′ q′ rows before′ after′ y′ z′)) (sym (same-table q q′ rows same)) (sym (same-measured q q′ rows same)) in
       y .reported ∙ c ∙ ap (chosenFrom 0) (s ∙ sym (y′ .reported))
 
 -- ---- what is promised

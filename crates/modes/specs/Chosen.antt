@@ -11,25 +11,25 @@ use lib.ListN.{length, set}
 use Rattle.rules.specs.Basics.{pick}
 use Rattle.rules.specs.Query.{records, firstOfKind, parts}
 use Rattle.rules.specs.Answers.{Buffers, Memory}
-use Rattle.rules.specs.Entries.{Entry, entriesIn}
+use Rattle.rules.specs.Entries.{Reported, reportedIn}
 use Rattle.search.specs.Promise.{Promised}
 
 -- ---- choosing
 
 -- the row behind the last row of a match; for an empty match, the row behind its start row
-unfoldable pub behind : Entry → ℕ
-behind e = pick (eqb (length (e .labels)) 0) (suc (e .first)) (e .first + length (e .labels))
+unfoldable pub startBehind : Reported → ℕ
+startBehind e = pick (eqb (length (e .labels)) 0) (suc (e .first)) (e .first + length (e .labels))
 
 -- the first match that starts at this row or behind it, then each time the next one that starts
 -- behind the one taken
-unfoldable pub chosenFrom : ℕ → List Entry → List Entry
-unfolding behind
+unfoldable pub chosenFrom : ℕ → List Reported → List Reported
+unfolding startBehind
 chosenFrom row [] = []
-chosenFrom row (e ∷ es) = pick (ltb (e .first) row) (chosenFrom row es) (e ∷ chosenFrom (behind e) es)
+chosenFrom row (e ∷ es) = pick (ltb (e .first) row) (chosenFrom row es) (e ∷ chosenFrom (startBehind e) es)
 
 -- of a report: its first match, then each time the next one that starts behind the last row of the
 -- one taken
-unfoldable pub chosen : List Entry → List Entry
+unfoldable pub chosen : List Reported → List Reported
 unfolding chosenFrom
 chosen es = chosenFrom 0 es
 
@@ -58,4 +58,4 @@ OneFromOther =
     → Promised a′ (inMode 1 q) rows before′ after′
     → after .result .answer ≡ 0
     → after′ .result .answer ≡ 0
-    → entriesIn q after ≡ chosen (entriesIn (inMode 1 q) after′)
+    → reportedIn q after ≡ chosen (reportedIn (inMode 1 q) after′)

@@ -26,9 +26,9 @@ wordOf Sequence = 768
 wordOf Alternation = 1024
 wordOf Group = 1280
 
-abbrev pub bitOf : Bool → ℕ
-bitOf true = 1
-bitOf false = 0
+abbrev pub bitOfBool : Bool → ℕ
+bitOfBool true = 1
+bitOfBool false = 0
 
 unfoldable pub nodeAt : List ℕ → ℕ → Node
 unfolding sortOf
@@ -47,7 +47,7 @@ nodeAt s i =
 
 unfoldable pub putNode : List ℕ → ℕ → Node → List ℕ
 putNode s i n =
-    set (set (set (set (set (set (set (set s (i * 8) (wordOf (n .sort))) (i * 8 + 1) (n .form * 2 + bitOf (n .lazy))) (i * 8 + 2) (n .low)) (i * 8 + 3) (n .high))
+    set (set (set (set (set (set (set (set s (i * 8) (wordOf (n .sort))) (i * 8 + 1) (n .form * 2 + bitOfBool (n .lazy))) (i * 8 + 2) (n .low)) (i * 8 + 3) (n .high))
     (i * 8 + 4) (n .left)) (i * 8 + 5) (n .right)) (i * 8 + 6) (n .height)) (i * 8 + 7) (n .places)
 
 -- a node whose numbers fit their words

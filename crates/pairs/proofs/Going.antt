@@ -3,7 +3,7 @@
 use mathlib.Core.Path.{_≡_, refl, sym, ap, _∙_}
 use mathlib.Core.List.{List, [], _∷_, reverseAux, map}
 use mathlib.Core.Bool.{Bool, true, false, false≢true}
-use mathlib.Core.Logic.{_≢_}
+use mathlib.Core.Logic.{_≢_, inl, inr, ⊎-elim}
 use mathlib.Core.Option.{none, some}
 use Prim.Native.Nat.{ℕ, zero, suc, _+_, _-_, _*_, _/_, _%_, _≤_, _<_}
 use native.Mathlib.Nat.{le-of-suc-le-suc, not-suc-le-zero, div-lt-iff-lt-mul, mul-comm}
@@ -15,9 +15,7 @@ use borrow.Author.Tests.{eq-eqb, ne-eqb}
 use lib.ListN.{length, getD, set, length-set}
 use lib.Seq.{getD-set-same, getD-set-other}
 use Rattle.rules.specs.Report.{bitAt}
-use Rattle.rules.specs.Walk.{accept, try, Halting, outOfSteps, Outcome, found, halted, countTrue}
-use Rattle.rules.specs.Places.{Place}
-use Rattle.rules.specs.Search.{within, haltingOf}
+use Rattle.rules.specs.Walk.{accept, try, Halting, outOfSteps, Outcome, found, halted, countTrue, asKept, tried}
 use Rattle.laws.proofs.Machine.{firstOpen, resume-accept, resume-pop, resume-push, resume-spent, open-room, open-push, open-pop}
 use Rattle.rules.specs.Working.{All, Open, bitsOf, marked, resume}
 use Rattle.laws.proofs.Notes.{bitsOf-at, bitsFrom-length, bits-mark, bit-keep}
@@ -26,14 +24,27 @@ use Rattle.pairs.specs.declared.Walk.{Walk}
 use Rattle.pairs.specs.Layout.{Layout, P, N, second, graphOf, passesBy, entryOf, mostPairs}
 use Rattle.table.specs.Table.{waysOf, codeAt}
 use Rattle.pairs.specs.Step.{oneUnless, placeIn, rowIn, wayIn, pairIn, stack, walkAt, outcomeBy}
-use Rattle.pairs.specs.State.{Onto, Linked, Passing, Word, rowFrom, wayAt, Led, Stuck, Good, Next, Stands, State, left, resumed, entering, facing, comes, Reached, Quiet, allowing}
+use Rattle.pairs.specs.State.{Onto, Linked, Passing, Word, rowFrom, wayAt, Led, Stuck, Good, Next, Stands, State, left, resumed, entering, facing, comes, Reached, Quiet, Roomy}
 use Rattle.pairs.proofs.Ways.{second-is, pair-row, pair-place, ways-end, ways-are, leads-each}
 use Rattle.pairs.proofs.Trails.{second-most, word-row, word-place, entry-place, entry-row, entry-way, stack-length, stack-push, stack-top, linked-under}
 
-pub path-is : (P : ℕ) (trail : List ℕ) (F : List Bool) (s t : ℕ) → 0 < t → found (reverseAux (stack P trail t) []) F s ≡ outcomeBy P t trail F s
+pub path-is : (P : ℕ) (trail : List ℕ) (F : List Bool) (s t : ℕ) → 0 < t → found (reverseAux (stack P trail t) []) (asKept F s) ≡ outcomeBy P t trail F s
 unfolding outcomeBy
 path-is P trail F s zero h = absurd (not-suc-le-zero h)
 path-is P trail F s (suc t) h = refl
+
+-- ---- room on the trail
+
+module _ (T : Layout) (n : ℕ) (trail : List ℕ) where
+  pub roomy-on : (trail′ : List ℕ) (t s t′ s′ : ℕ) → length trail′ ≡ length trail → t′ + s ≤ t + s′ → (s ≤ T .limit → s′ ≤ T .limit) → Roomy T n trail t s → Roomy T n trail′ t′ s′
+  roomy-on trail′ t s t′ s′ len le most r =
+      ⊎-elim (λ (a : N T n ≤ length trail). inl (rw len a)) (λ (b : (t + T .limit ≤ length trail + s) × (s ≤ T .limit)). inr (rw len (omega (arith, b .0, le)), most (b .1))) r
+
+  pub roomy-top : (t s : ℕ) → t ≤ N T n → Roomy T n trail t s → t ≤ length trail
+  roomy-top t s l r = ⊎-elim (λ (a : N T n ≤ length trail). omega (arith, a, l)) (λ (b : (t + T .limit ≤ length trail + s) × (s ≤ T .limit)). omega (arith, b .0, b .1)) r
+
+  pub roomy-next : (t s : ℕ) → t < N T n → s < T .limit → Roomy T n trail t s → t < length trail
+  roomy-next t s l few r = ⊎-elim (λ (a : N T n ≤ length trail). omega (arith, a, l)) (λ (b : (t + T .limit ≤ length trail + s) × (s ≤ T .limit)). omega (arith, b .0, few)) r
 
 -- ---- a good state
 
@@ -70,6 +81,9 @@ one-two e = omega arith
 pub two-one : _≡_ {A = ℕ} 2 1 → ⊥
 two-one e = omega arith
 
+pub zero-three : _≡_ {A = ℕ} 0 3 → ⊥
+zero-three e = omega arith
+
 -- a pair that is tried is not END and open
 pub not-two : (b : Bool) → oneUnless b ≡ 2 → ⊥
 unfolding oneUnless
@@ -93,14 +107,9 @@ unfolding facing
 faces-on H T holds n notes trail w x e = rw e
 
 pub faces-halt : (H : Halting) (T : Layout) (holds : ℕ → ℕ → Bool) (n : ℕ) (notes trail : List ℕ) (w : Walk) (x : ℕ) → H .spent (w .steps) ≡ true
-    → facing H T holds n notes trail w x ≡ halted outOfSteps (reverseAux (stack (P T) trail (w .top)) []) (bitsOf notes (N T n)) (w .steps)
+    → facing H T holds n notes trail w x ≡ halted outOfSteps (reverseAux (stack (P T) trail (w .top)) []) (asKept (bitsOf notes (N T n)) (w .steps))
 unfolding facing
 faces-halt H T holds n notes trail w x e = rw e
-
--- an allowance of a steps is the definition's, where all rows are there
-pub allowing-is : (a n k : ℕ) (pl : List Place) → haltingOf (within (some a) n) pl k ≡ allowing a
-unfolding haltingOf
-allowing-is a n k pl = refl
 
 -- a state comes to itself
 pub reached-none : (H : Halting) (T : Layout) (holds : ℕ → ℕ → Bool) (n : ℕ) (notes trail : List ℕ) (w : Walk) → State T holds n notes trail w
@@ -144,7 +153,8 @@ module _ (T : Layout) (notes notes′ : List ℕ) (e y : ℕ) (l : Led T notes e
 
 -- ---- a pair is entered
 
-module _ (H : Halting) (quiet : Quiet H) (T : Layout) (holds : ℕ → ℕ → Bool) (n : ℕ) (notes trail : List ℕ) (w : Walk) (q row base : ℕ) (h : Next T holds n notes trail w q row base) where
+module _ (H : Halting) (T : Layout) (holds : ℕ → ℕ → Bool) (n : ℕ) (quiet : Quiet H T holds n) (notes trail : List ℕ) (w : Walk) (q row base : ℕ) (h : Next T holds n notes trail w q row base)
+    (few : w .steps < T .limit) where
   abbrev y : ℕ
   y = base + q
 
@@ -187,7 +197,7 @@ module _ (H : Halting) (quiet : Quiet H) (T : Layout) (holds : ℕ → ℕ → B
   next-noted = let b = below in let no = h .good .noted in let sm = h .good .legal .small in (omega arith, omega arith)
 
   pub next-room : w .top < length trail
-  next-room = let r = room in let tr = h .good .trailed in omega arith
+  next-room = let r = room in roomy-next T n trail (w .top) (w .steps) (omega arith) few (h .good .trailed)
 
   pub next-small : w .top < mostPairs
   next-small = let r = room in let sm = h .good .legal .small in omega arith
@@ -264,7 +274,7 @@ module _ (H : Halting) (quiet : Quiet H) (T : Layout) (holds : ℕ → ℕ → B
         record {
           legal = g .legal;
           noted = g .noted;
-          trailed = rw (length-set trail (w .top) v) (g .trailed);
+          trailed = roomy-on T n trail (set trail (w .top) v) (w .top) (w .steps) (w .top + 1) (w .steps + 1) (length-set trail (w .top) v) (omega arith) (λ _. omega (arith, few)) (g .trailed);
           opened = rw stack-is (h .opened);
           linked = rw stack-is (h .linked);
           passing = rw stack-is (y-passes, g .passing);
@@ -305,6 +315,7 @@ module _ (H : Halting) (quiet : Quiet H) (T : Layout) (holds : ℕ → ℕ → B
               next = λ d. absurd (two-one d);
               stuck = λ _ d. absurd (d refl);
               ends = λ _. record { spot = rw open-top (record { place = v-place; row = v-row; base = h .base-is }); end = l };
+              known = omega arith;
             }
 
     pub open-less : (k r b d : ℕ) → left (N T n) notes (walkAt (w .top + 1) (w .steps + 1) k r b d) < left (N T n) notes w
@@ -312,7 +323,7 @@ module _ (H : Halting) (quiet : Quiet H) (T : Layout) (holds : ℕ → ℕ → B
     open-less k r b d = let a = room in omega arith
 
   -- no way of it is open
-  module _ (ys : List ℕ) (tries : graphOf T holds n y ≡ try ys) (closed : firstOpen G ys ≡ none) where
+  module _ (still : H .waits y ≡ false) (ys : List ℕ) (tries : graphOf T holds n y ≡ try ys) (closed : firstOpen G ys ≡ none) where
     abbrev G′ : List Bool
     G′ = bitsOf (marked notes y) (N T n)
 
@@ -337,7 +348,7 @@ module _ (H : Halting) (quiet : Quiet H) (T : Layout) (holds : ℕ → ℕ → B
         record {
           legal = g .legal;
           noted = simp length-set (g .noted);
-          trailed = g .trailed;
+          trailed = roomy-on T n trail trail (w .top) (w .steps) (w .top) (w .steps + 1) refl (omega arith) (λ _. omega (arith, few)) (g .trailed);
           opened = rw bits-is (open-pop (g .legal .ρ) (N T n) G (stack (P T) trail (w .top)) y (h .opened));
           linked = g .linked;
           passing = g .passing;
@@ -347,13 +358,13 @@ module _ (H : Halting) (quiet : Quiet H) (T : Layout) (holds : ℕ → ℕ → B
         }
 
     shut-stands : Stands T holds n (marked notes y) trail (walkAt (w .top) (w .steps + 1) (w .place) (w .row) (w .base) 0)
-    shut-stands = record { next = λ d. absurd (never d); ends = λ d. absurd (zero-two d); stuck = λ _ _ l. led-stuck T notes (marked notes y) _ _ (h .led l) keeps shut-marked }
+    shut-stands = record { next = λ d. absurd (never d); ends = λ d. absurd (zero-two d); known = omega arith; stuck = λ _ _ l. led-stuck T notes (marked notes y) _ _ (h .led l) keeps shut-marked }
 
     shut-same : resumed H T holds n (marked notes y) trail (walkAt (w .top) (w .steps + 1) (w .place) (w .row) (w .base) 0) ≡ then
     unfolding resumed entering
     shut-same =
         rw (bits-is, add-one (w .steps))
-        (sym (resume-pop H (graphOf T holds n) (h .good .legal .ρ) (N T n) (h .good .legal .falls) (N T n) (h .good .legal .bound) (stack (P T) trail (w .top)) G (suc (w .steps)) y ys (quiet y) tries closed))
+        (sym (resume-pop H (graphOf T holds n) (h .good .legal .ρ) (N T n) (h .good .legal .falls) (N T n) (h .good .legal .bound) (stack (P T) trail (w .top)) G (suc (w .steps)) y ys still tries closed))
 
     pub shut-reached : Reached H T holds n notes trail then (marked notes y) trail (walkAt (w .top) (w .steps + 1) (w .place) (w .row) (w .base) 0)
     unfolding marked
@@ -396,7 +407,7 @@ each-map Q b (k ∷ ks) a (suc m) l = each-map Q b ks (a .1) m (le-of-suc-le-suc
 
 -- ---- the last open pair
 
-module _ (H : Halting) (quiet : Quiet H) (T : Layout) (holds : ℕ → ℕ → Bool) (n : ℕ) (notes trail : List ℕ) (w : Walk) (g : Good T holds n notes trail w) (going : 0 < w .top) where
+module _ (H : Halting) (T : Layout) (holds : ℕ → ℕ → Bool) (n : ℕ) (quiet : Quiet H T holds n) (notes trail : List ℕ) (w : Walk) (g : Good T holds n notes trail w) (going : 0 < w .top) where
   abbrev e : ℕ
   e = getD trail (w .top - 1) 0
 
@@ -446,13 +457,16 @@ module _ (H : Halting) (quiet : Quiet H) (T : Layout) (holds : ℕ → ℕ → B
       let a : All (Passing T holds n) (x ∷ stack (P T) trail (w .top - 1)) = rw top-is at (g .passing) in
       rw (row-is, place-is) at (a .0)
 
+  x-passes : Passing T holds n x
+  x-passes = let a : All (Passing T holds n) (x ∷ stack (P T) trail (w .top - 1)) = rw top-is at (g .passing) in a .0
+
   -- END is on top: the open pairs are the path
   pub top-end : 29 < codeAt (T .words) (placeIn e) → resumed H T holds n notes trail w ≡ outcomeBy (P T) (w .top) trail (bitsOf notes (N T n)) (w .steps)
   unfolding resumed
   top-end h =
       let d : graphOf T holds n x ≡ accept = ways-end T holds n (placeIn e) (rowIn e) (top-word .place) h in
-      let a : resume H (graphOf T holds n) (N T n) (stack (P T) trail (w .top)) F (w .steps) ≡ found (reverseAux (stack (P T) trail (w .top)) []) F (w .steps) =
-      rw top-is (resume-accept H (graphOf T holds n) (g .legal .ρ) (N T n) (g .legal .falls) (N T n) (g .legal .bound) (stack (P T) trail (w .top - 1)) F (w .steps) x (quiet x) d) in
+      let a : resume H (graphOf T holds n) (N T n) (stack (P T) trail (w .top)) (asKept F (w .steps)) ≡ found (reverseAux (stack (P T) trail (w .top)) []) (asKept F (w .steps)) =
+      rw top-is (resume-accept H (graphOf T holds n) (g .legal .ρ) (N T n) (g .legal .falls) (N T n) (g .legal .bound) (stack (P T) trail (w .top - 1)) F (w .steps) x (quiet x x-passes) d) in
       a ∙ path-is (P T) trail F (w .steps) (w .top) going
 
   module _ (more : codeAt (T .words) (placeIn e) ≤ 29) where
@@ -519,12 +533,12 @@ module _ (H : Halting) (quiet : Quiet H) (T : Layout) (holds : ℕ → ℕ → B
                 faces-halt H T holds n notes trail w (base + q) d
                 ∙ rw top-is
                 (sym (resume-spent H (graphOf T holds n) (g .legal .ρ) (N T n) (g .legal .falls) (N T n) (g .legal .bound) (stack (P T) trail (w .top - 1)) F (w .steps) x ys (wayAt T e m)
-                (quiet x) tries first d))
+                (quiet x x-passes) tries first d))
             go false d =
                 faces-on H T holds n notes trail w (base + q) d
                 ∙ rw (top-is, y-is)
                 (sym (resume-push H (graphOf T holds n) (g .legal .ρ) (N T n) (g .legal .falls) (N T n) (g .legal .bound) (stack (P T) trail (w .top - 1)) F (w .steps) x ys (wayAt T e m)
-                (quiet x) tries first d (bitsFrom-length notes (N T n) 0) way-below open-way))
+                (quiet x x-passes) tries first d (bitsFrom-length notes (N T n) 0) way-below open-way))
 
     -- all its ways have failed: it fails
     module _ (all : (m : ℕ) → m < length ks → bitAt notes (wayAt T e m) ≡ true) where
@@ -559,7 +573,7 @@ module _ (H : Halting) (quiet : Quiet H) (T : Layout) (holds : ℕ → ℕ → B
             record {
               legal = g .legal;
               noted = simp length-set (g .noted);
-              trailed = g .trailed;
+              trailed = roomy-on T n trail trail (w .top) (w .steps) (w .top - 1) (w .steps) refl (omega arith) (λ l. l) (g .trailed);
               opened = rw marked-is (open-pop (g .legal .ρ) (N T n) F (stack (P T) trail (w .top - 1)) x opened);
               linked = linked-under T x (stack (P T) trail (w .top - 1)) linked;
               passing = a .1;
@@ -571,7 +585,7 @@ module _ (H : Halting) (quiet : Quiet H) (T : Layout) (holds : ℕ → ℕ → B
         -- the pair below had tried it last
         leave-stands : Stands T holds n (marked notes x) trail under
         leave-stands =
-            record { next = λ d. absurd (never d); ends = λ d. absurd (zero-two d); stuck = λ _ _ l. below (w .top - 1) refl l }
+            record { next = λ d. absurd (never d); ends = λ d. absurd (zero-two d); known = omega arith; stuck = λ _ _ l. below (w .top - 1) refl l }
           where
             below : (t : ℕ) → w .top - 1 ≡ t → 0 < t → Stuck T (marked notes x) (getD trail (t - 1) 0)
             below zero d l = absurd (not-suc-le-zero l)
@@ -584,7 +598,7 @@ module _ (H : Halting) (quiet : Quiet H) (T : Layout) (holds : ℕ → ℕ → B
         unfolding resumed
         leave-same =
             rw (top-is, marked-is)
-            (sym (resume-pop H (graphOf T holds n) (g .legal .ρ) (N T n) (g .legal .falls) (N T n) (g .legal .bound) (stack (P T) trail (w .top - 1)) F (w .steps) x ys (quiet x) tries shut))
+            (sym (resume-pop H (graphOf T holds n) (g .legal .ρ) (N T n) (g .legal .falls) (N T n) (g .legal .bound) (stack (P T) trail (w .top - 1)) F (w .steps) x ys (quiet x x-passes) tries shut))
 
         pub leave-reached : Reached H T holds n notes trail (resumed H T holds n notes trail w) (marked notes x) trail under
         unfolding marked

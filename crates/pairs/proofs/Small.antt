@@ -9,15 +9,15 @@ use lib.Dec.{eqb, ltb}
 use lib.IntN.{ℤ}
 use lib.ListN.{length, set}
 use borrow.Author.Tests.{ne-eqb, lt-ltb, le-ltb}
+use Rattle.rules.specs.Basics.{pick}
 use Rattle.rules.specs.Report.{bitAt}
 use Rattle.rules.specs.Rows.{tableOf, holds}
 use Rattle.rules.specs.Working.{marked}
 use Rattle.table.specs.Tests.{testAt, conditionIn, holdsIn}
 use Rattle.pairs.specs.declared.Walk.{Walk}
 use Rattle.table.specs.Table.{codeAt, firstAt, countAt}
-use Rattle.pairs.specs.Layout.{layout, P, entryOf, passesBy, mostPairs}
-use Rattle.pairs.specs.Step.{oneUnless, mem, walkAt, tryAt, after, opens, openedBy, openIf, enteredBy, Noted, Enters}
-use Rattle.pairs.proofs.Trying.{letter-in}
+use Rattle.pairs.specs.Layout.{layout, P, entryOf, passesBy, waitsBy, mostPairs}
+use Rattle.pairs.specs.Step.{oneUnless, mem, walkAt, tryAt, after, opens, openedBy, openIf, enteredBy, absentNotes, absentStatus, Noted, Enters}
 
 -- ---- a letter
 
@@ -70,28 +70,41 @@ tried-is notes top steps q row base f d e g = rw (g, e)
 
 module _ (notes trail : List ℕ) (w : Walk) (c v k P : ℕ) (p : Bool) (trail′ : List ℕ) (et : trail′ ≡ set trail (w .top) (w .row * 2048 + v)) (r : Walk) where
   pub entered-letter : true ≡ p → c < 26 → (x : ℕ) → x ≡ k → bitAt notes (w .base + P + x) ≡ false → r ≡ walkAt (w .top + 1) (w .steps + 1) x (w .row + 1) (w .base + P) 1
-      → mem notes trail′ r ≡ enteredBy p (mem notes trail w) c v k P
+      → mem notes trail′ r ≡ enteredBy false p (mem notes trail w) c v k P
   unfolding enteredBy opens openIf openedBy oneUnless
   entered-letter e l x ex o er = let b : bitAt notes (w .base + P + k) ≡ false = rw ex at o in rw (← e, lt-ltb c 26 l, b, et, er, ex, lt-ltb c 26 l, b)
 
-  pub entered-other : true ≡ p → 26 ≤ c → c ≤ 29 → (x : ℕ) → x ≡ k → r ≡ tryAt notes (w .top + 1) (w .steps + 1) x (w .row) (w .base) → mem notes trail′ r ≡ enteredBy p (mem notes trail w) c v k P
+  pub entered-other : true ≡ p → 26 ≤ c → c ≤ 29 → (x : ℕ) → x ≡ k → r ≡ tryAt notes (w .top + 1) (w .steps + 1) x (w .row) (w .base) → mem notes trail′ r ≡ enteredBy false p (mem notes trail w) c v k P
   unfolding enteredBy opens openIf openedBy
   entered-other e l m x ex er = rw (← e, le-ltb c 26 l, et, er, ex, le-ltb c 26 l, le-ltb 29 c m)
 
-  pub entered-end : true ≡ p → 29 < c → r ≡ walkAt (w .top + 1) (w .steps + 1) (w .place) (w .row) (w .base) 2 → mem notes trail′ r ≡ enteredBy p (mem notes trail w) c v k P
+  pub entered-end : true ≡ p → 29 < c → r ≡ walkAt (w .top + 1) (w .steps + 1) (w .place) (w .row) (w .base) 2 → mem notes trail′ r ≡ enteredBy false p (mem notes trail w) c v k P
   unfolding enteredBy opens openIf openedBy
   entered-end e l er = let z : 26 ≤ c = omega arith in rw (← e, le-ltb c 26 z, et, er, le-ltb c 26 z, lt-ltb 29 c l)
 
 -- it fails at once
 module _ (notes trail : List ℕ) (w : Walk) (c v k P : ℕ) (p : Bool) (notes′ : List ℕ) (en : notes′ ≡ marked notes (w .base + w .place)) (r : Walk)
     (er : r ≡ walkAt (w .top) (w .steps + 1) (w .place) (w .row) (w .base) 0) where
-  pub entered-shut : false ≡ p → mem notes′ trail r ≡ enteredBy p (mem notes trail w) c v k P
+  pub entered-shut : false ≡ p → mem notes′ trail r ≡ enteredBy false p (mem notes trail w) c v k P
   unfolding enteredBy opens openIf
   entered-shut e = rw (← e, en, er)
 
-  pub entered-stuck : true ≡ p → c < 26 → (x : ℕ) → x ≡ k → bitAt notes (w .base + P + x) ≡ true → mem notes′ trail r ≡ enteredBy p (mem notes trail w) c v k P
+  pub entered-stuck : true ≡ p → c < 26 → (x : ℕ) → x ≡ k → bitAt notes (w .base + P + x) ≡ true → mem notes′ trail r ≡ enteredBy false p (mem notes trail w) c v k P
   unfolding enteredBy opens openIf
   entered-stuck e l x ex o = let b : bitAt notes (w .base + P + k) ≡ true = rw ex at o in rw (← e, lt-ltb c 26 l, b, en, er)
+
+-- a letter whose row is not there waits for it, or fails
+module _ (notes : List ℕ) (w : Walk) (s : ℕ) (more : Bool) where
+  abbrev pub Absent : List ℕ → Walk → Type 0
+  Absent notes′ r = (notes′ ≡ absentNotes more notes (w .base + w .place)) × (r ≡ walkAt (w .top) s (w .place) (w .row) (w .base) (absentStatus more))
+
+  pub absent-more : more ≡ true → Absent notes (walkAt (w .top) s (w .place) (w .row) (w .base) 3)
+  unfolding absentNotes absentStatus
+  absent-more e = rw e (refl, refl)
+
+  pub absent-none : more ≡ false → (notes′ : List ℕ) (r : Walk) → (notes′ ≡ marked notes (w .base + w .place)) × (r ≡ walkAt (w .top) s (w .place) (w .row) (w .base) 0) → Absent notes′ r
+  unfolding absentNotes absentStatus
+  absent-none e notes′ r f = rw e f
 
 -- ---- the way behind a way
 
@@ -122,7 +135,7 @@ module _ (words : List ℕ) (q k : ℕ) (ek : k ≡ countAt words q) (few : q < 
 
 -- ---- what `enter` needs and does, one law for each way through its code
 
-module _ (n : ℕ) (words : List ℕ) (P : ℕ) (notes trail : List ℕ) (w : Walk) (h : Enters (layout words P) n notes trail w) (c : ℕ) (ec : (c ≡ codeAt words (w .place)) × (c < 65536)) where
+module _ (n : ℕ) (words : List ℕ) (P a : ℕ) (notes trail : List ℕ) (w : Walk) (h : Enters (layout words P a) n notes trail w) (c : ℕ) (ec : (c ≡ codeAt words (w .place)) × (c < 65536)) where
   fork-noted : c ≡ 28 → Noted notes (w .base + (w .place + 1))
   fork-noted e = let z : codeAt words (w .place) ≡ 28 = sym (ec .0) ∙ e in rw (h .near z .0) at (h .other (omega arith) (omega arith))
 
@@ -142,10 +155,36 @@ module _ (n : ℕ) (words : List ℕ) (P : ℕ) (notes trail : List ℕ) (w : Wa
     pub anchor-inside : 26 ≤ c → c ≤ 29 → (w .base + x) / 8 < length notes
     anchor-inside l m = anchor-noted l m .1
 
-    pub letter-inside : (holds : ℕ → ℕ → Bool) (r : Bool) → c < 26 → r ≡ passesBy holds n c (w .row) → not r ≡ false → (w .base + P + x) / 8 < length notes
-    letter-inside holds r l e t = let a : Noted notes (w .base + P + x) = rw (ex .0) (h .letter (omega (arith, ec .0)) (letter-in holds n c (w .row) l (sym e ∙ open-of r t))) in a .1
+    pub letter-inside : c < 26 → w .row < n → (w .base + P + x) / 8 < length notes
+    letter-inside l t = let a : Noted notes (w .base + P + x) = rw (ex .0) (h .letter (omega (arith, ec .0)) t) in a .1
 
-module _ (holds : ℕ → ℕ → Bool) (n : ℕ) (words : List ℕ) (P : ℕ) (notes trail : List ℕ) (w : Walk) (h : Enters (layout words P) n notes trail w) where
+-- whether a place waits: only a letter does, and only where there is no row
+module _ (more : Bool) (n c i : ℕ) where
+  never-more : (b : Bool) → (b && false) ≡ false
+  never-more true = refl
+  never-more false = refl
+
+  still-other : 26 ≤ c → waitsBy more n c i ≡ false
+  unfolding waitsBy
+  still-other l = rw (le-ltb c 26 l) (never-more more)
+
+  still-there : c < 26 → i < n → waitsBy more n c i ≡ false
+  unfolding waitsBy
+  still-there m l = rw (lt-ltb c 26 m, lt-ltb i n l) (never-more more)
+
+absent-waits : (more : Bool) (n c i : ℕ) → c < 26 → n ≤ i → waitsBy more n c i ≡ more
+unfolding waitsBy
+absent-waits more n c i m l = rw (lt-ltb c 26 m, le-ltb i n l) (go more)
+  where
+    go : (b : Bool) → (b && true) ≡ b
+    go true = refl
+    go false = refl
+
+absent-shut : (holds : ℕ → ℕ → Bool) (n c i : ℕ) → c < 26 → n ≤ i → false ≡ passesBy holds n c i
+unfolding passesBy
+absent-shut holds n c i m l = rw (lt-ltb c 26 m, le-ltb i n l) refl
+
+module _ (holds : ℕ → ℕ → Bool) (n : ℕ) (words : List ℕ) (P a : ℕ) (more : Bool) (notes trail : List ℕ) (w : Walk) (h : Enters (layout words P a) n notes trail w) where
   abbrev code : ℕ
   code = codeAt words (w .place)
 
@@ -155,9 +194,15 @@ module _ (holds : ℕ → ℕ → Bool) (n : ℕ) (words : List ℕ) (P : ℕ) (
   abbrev passing : Bool
   passing = passesBy holds n code (w .row)
 
+  abbrev waits : Bool
+  waits = waitsBy more n code (w .row)
+
   -- what `enter` promises
   abbrev pub EntersTo : List ℕ → List ℕ → Walk → Type 0
-  EntersTo notes′ trail′ r = mem notes′ trail′ r ≡ enteredBy passing (mem notes trail w) code entry (firstAt words (w .place)) P
+  EntersTo notes′ trail′ r = mem notes′ trail′ r ≡ enteredBy waits passing (mem notes trail w) code entry (firstAt words (w .place)) P
+
+  still-enters : waits ≡ false → (notes′ trail′ : List ℕ) (r : Walk) → mem notes′ trail′ r ≡ enteredBy false passing (mem notes trail w) code entry (firstAt words (w .place)) P → EntersTo notes′ trail′ r
+  still-enters e notes′ trail′ r g = rw e g
 
   abbrev Pushed : ℕ → List ℕ → Type 0
   Pushed v trail′ = trail′ ≡ set trail (w .top) (w .row * 2048 + v)
@@ -177,45 +222,72 @@ module _ (holds : ℕ → ℕ → Bool) (n : ℕ) (words : List ℕ) (P : ℕ) (
     enter-fork e v ev trail′ et r er =
         let z : code ≡ 28 = sym as-code ∙ e in
         let u : v ≡ entry = ev ∙ entry-two words (w .place) (h .near z .1) in
-        entered-other notes trail w code entry (firstAt words (w .place)) P passing trail′ (pushed v trail′ u et) r (passes-fork holds n code (w .row) z) (omega arith) (omega arith)
-        (w .place + 1) (sym (h .near z .0)) er
+        still-enters (still-other more n code (w .row) (omega arith)) notes trail′ r
+        (entered-other notes trail w code entry (firstAt words (w .place)) P passing trail′ (pushed v trail′ u et) r (passes-fork holds n code (w .row) z) (omega arith) (omega arith)
+        (w .place + 1) (sym (h .near z .0)) er)
 
-    module _ (p : Bool) (ep : p ≡ passesBy holds n c (w .row)) where
+    -- a letter whose row is not there
+    pub enter-absent : c < 26 → n ≤ w .row → (notes′ : List ℕ) (r : Walk) → Absent notes w (w .steps + 1) more notes′ r → EntersTo notes′ trail r
+    unfolding absentNotes absentStatus enteredBy
+    enter-absent l m notes′ r f = rw (f .0, f .1, absent-waits more n code (w .row) (omega (arith, as-code, l)) m) (go more)
+      where
+        go : (b : Bool) → mem (pick b notes (marked notes (w .base + w .place))) trail (walkAt (w .top) (w .steps + 1) (w .place) (w .row) (w .base) (pick b 3 0))
+            ≡ enteredBy b passing (mem notes trail w) code entry (firstAt words (w .place)) P
+        go true = refl
+        go false = entered-shut notes trail w code entry (firstAt words (w .place)) P passing _ refl _ refl (absent-shut holds n code (w .row) (omega (arith, as-code, l)) m)
+
+    module _ (still : waits ≡ false) (p : Bool) (ep : p ≡ passesBy holds n c (w .row)) where
       as-passing : p ≡ passing
       as-passing = ep ∙ ap (λ (x : ℕ). passesBy holds n x (w .row)) as-code
 
       -- it does not pass
+      shut : not p ≡ true → (notes′ : List ℕ) (r : Walk) → Fallen notes′ r → EntersTo notes′ trail r
+      shut t notes′ r f = still-enters still notes′ trail r (entered-shut notes trail w code entry (firstAt words (w .place)) P passing notes′ (f .0) r (f .1) (sym (shut-of p t) ∙ as-passing))
+
+      passes : not p ≡ false → true ≡ passing
+      passes t = sym (open-of p t) ∙ as-passing
+
+    -- a letter whose row is there
+    module _ (l : c < 26) (there : w .row < n) (p : Bool) (ep : p ≡ passesBy holds n c (w .row)) where
+      low : code < 26
+      low = omega (arith, as-code, l)
+
+      still-letter : waits ≡ false
+      still-letter = still-there more n code (w .row) low there
+
       pub enter-shut : not p ≡ true → (notes′ : List ℕ) (r : Walk) → Fallen notes′ r → EntersTo notes′ trail r
-      enter-shut t notes′ r f = entered-shut notes trail w code entry (firstAt words (w .place)) P passing notes′ (f .0) r (f .1) (sym (shut-of p t) ∙ as-passing)
+      enter-shut = shut still-letter p ep
 
-      module _ (t : not p ≡ false) where
-        passes : true ≡ passing
-        passes = sym (open-of p t) ∙ as-passing
+      -- its next pair has failed or not
+      module _ (t : not p ≡ false) (x : ℕ) (ex : (x ≡ firstAt words (w .place)) × (x < 65536)) (f : Bool) (ef : f ≡ bitAt notes (w .base + P + x)) where
+        pub enter-stuck : f ≡ true → (notes′ : List ℕ) (r : Walk) → Fallen notes′ r → EntersTo notes′ trail r
+        enter-stuck o notes′ r g =
+            still-enters still-letter notes′ trail r
+            (entered-stuck notes trail w code entry (firstAt words (w .place)) P passing notes′ (g .0) r (g .1) (passes still-letter p ep t) low x (ex .0) (sym ef ∙ o))
 
-        -- a letter, whose next pair has failed or not
-        module _ (l : c < 26) (x : ℕ) (ex : (x ≡ firstAt words (w .place)) × (x < 65536)) (f : Bool) (ef : f ≡ bitAt notes (w .base + P + x)) where
-          low : code < 26
-          low = omega (arith, as-code, l)
-
-          pub enter-stuck : f ≡ true → (notes′ : List ℕ) (r : Walk) → Fallen notes′ r → EntersTo notes′ trail r
-          enter-stuck o notes′ r g = entered-stuck notes trail w code entry (firstAt words (w .place)) P passing notes′ (g .0) r (g .1) passes low x (ex .0) (sym ef ∙ o)
-
-          pub enter-letter : f ≡ false → (trail′ : List ℕ) → Pushed (w .place) trail′
-              → EntersTo notes trail′ (walkAt (w .top + 1) (w .steps + 1) x (w .row + 1) (w .base + P) 1)
-          enter-letter o trail′ et =
-              let v : w .place ≡ entry = entry-one words (w .place) (omega (arith, h .one (omega (arith, low)))) in
-              entered-letter notes trail w code entry (firstAt words (w .place)) P passing trail′ (pushed (w .place) trail′ v et) _ passes low x (ex .0) (sym ef ∙ o) refl
+        pub enter-letter : f ≡ false → (trail′ : List ℕ) → Pushed (w .place) trail′
+            → EntersTo notes trail′ (walkAt (w .top + 1) (w .steps + 1) x (w .row + 1) (w .base + P) 1)
+        enter-letter o trail′ et =
+            let v : w .place ≡ entry = entry-one words (w .place) (omega (arith, h .one (omega (arith, low)))) in
+            still-enters still-letter notes trail′ _
+            (entered-letter notes trail w code entry (firstAt words (w .place)) P passing trail′ (pushed (w .place) trail′ v et) _ (passes still-letter p ep t) low x (ex .0) (sym ef ∙ o) refl)
 
     -- any other place, of which it is told whether it passes, whatever letters hold
-    module _ (p : Bool) (ea : (holds : ℕ → ℕ → Bool) → p ≡ passesBy holds n c (w .row)) where
+    module _ (high : 26 ≤ c) (p : Bool) (ea : (holds : ℕ → ℕ → Bool) → p ≡ passesBy holds n c (w .row)) where
+      still-anchor : waits ≡ false
+      still-anchor = still-other more n code (w .row) (omega (arith, as-code, high))
+
       pub anchor-shut : not p ≡ true → (notes′ : List ℕ) (r : Walk) → Fallen notes′ r → EntersTo notes′ trail r
-      anchor-shut = enter-shut p (ea holds)
+      anchor-shut = shut still-anchor p (ea holds)
 
       module _ (t : not p ≡ false) (v : ℕ) (ev : (v ≡ entry) × (v < 16779264)) (trail′ : List ℕ) (et : Pushed v trail′) where
         pub enter-end : 29 < c → EntersTo notes trail′ (walkAt (w .top + 1) (w .steps + 1) (w .place) (w .row) (w .base) 2)
-        enter-end l = entered-end notes trail w code entry (firstAt words (w .place)) P passing trail′ (pushed v trail′ (ev .0) et) _ (passes p (ea holds) t) (omega (arith, as-code, l)) refl
+        enter-end l =
+            still-enters still-anchor notes trail′ _
+            (entered-end notes trail w code entry (firstAt words (w .place)) P passing trail′ (pushed v trail′ (ev .0) et) _ (passes still-anchor p (ea holds) t) (omega (arith, as-code, l)) refl)
 
-        pub enter-anchor : 26 ≤ c → c ≤ 29 → (x : ℕ) → (x ≡ firstAt words (w .place)) × (x < 65536) → (r : Walk) → r ≡ tryAt notes (w .top + 1) (w .steps + 1) x (w .row) (w .base)
+        pub enter-anchor : c ≤ 29 → (x : ℕ) → (x ≡ firstAt words (w .place)) × (x < 65536) → (r : Walk) → r ≡ tryAt notes (w .top + 1) (w .steps + 1) x (w .row) (w .base)
             → EntersTo notes trail′ r
-        enter-anchor l m x ex r er =
-            entered-other notes trail w code entry (firstAt words (w .place)) P passing trail′ (pushed v trail′ (ev .0) et) r (passes p (ea holds) t) (omega (arith, as-code, l)) (omega (arith, as-code, m)) x (ex .0) er
+        enter-anchor m x ex r er =
+            still-enters still-anchor notes trail′ r
+            (entered-other notes trail w code entry (firstAt words (w .place)) P passing trail′ (pushed v trail′ (ev .0) et) r (passes still-anchor p (ea holds) t) (omega (arith, as-code, high)) (omega (arith, as-code, m)) x (ex .0) er)

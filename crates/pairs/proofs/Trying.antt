@@ -5,27 +5,29 @@ use mathlib.Core.List.{List, [], _∷_}
 use mathlib.Core.Bool.{Bool, true, false, not, _&&_}
 use mathlib.Core.Option.{none}
 use mathlib.Core.Logic.{_≢_}
-use Prim.Native.Nat.{ℕ, suc, _+_, _-_, _*_, _≤_, _<_, suc-le-suc}
-use native.Mathlib.Nat.{mul-comm, not-suc-le-zero, suc-mul}
+use Prim.Native.Nat.{ℕ, suc, _+_, _-_, _*_, _/_, _%_, _≤_, _<_, suc-le-suc}
+use native.Mathlib.Nat.{mul-comm, not-suc-le-zero, suc-mul, mod-lt}
 use native.Mathlib.Decide.{ℕ-discrete}
 use native.Mathlib.Omega.{arith}
 use lib.Arith.{digits-lt}
-use lib.Dec.{ltb}
+use lib.Dec.{ltb, eqb}
 use lib.ListN.{length, getD, set}
-use borrow.Author.Tests.{ltb-true, ltb-false, lt-ltb}
+use borrow.Author.Tests.{ltb-true, ltb-false, lt-ltb, ne-eqb, lt-leb, le-leb}
 use Rattle.rules.specs.Basics.{pick}
 use Rattle.rules.specs.Report.{bitAt}
-use Rattle.rules.specs.Walk.{try, Halting}
+use Rattle.rules.specs.Places.{Place, pLetter, pCaret, pDollar, pFork, pEnd}
+use Rattle.rules.specs.Search.{asksRow, haltingOf}
+use Rattle.rules.specs.Walk.{try, Halting, tried}
 use Rattle.laws.proofs.Machine.{firstOpen}
 use Rattle.laws.proofs.Notes.{bitsOf-at}
 use Rattle.rules.specs.Working.{bitsOf}
 use Rattle.laws.proofs.Level.{and-true}
 use Rattle.pairs.specs.declared.Walk.{Walk}
-use Rattle.pairs.specs.Layout.{Layout, P, N, graphOf, passesBy, entryOf}
-use Rattle.table.specs.Table.{waysOf, codeAt, firstAt}
-use Rattle.pairs.specs.Step.{Mem, mem, placeIn, walkAt, oneUnless, tryAt, opens, openedBy, openIf, enteredBy, Noted, Enters}
-use Rattle.pairs.specs.State.{rowFrom, wayAt, reach, Led, Good, Next, Stands, resumed, entering, facing, comes, Reached, Goes, Onward, Quiet}
-use Rattle.pairs.proofs.Ways.{ways-length, ways-first, ways-shut, ways-letter, takes-row, takes-no-row, leads-each}
+use Rattle.pairs.specs.Layout.{Layout, P, N, Sized, graphOf, passesBy, waitsBy, haltsIn, entryOf}
+use Rattle.table.specs.Table.{waysOf, placeBy, placeAt, codeAt, firstAt}
+use Rattle.pairs.specs.Step.{Mem, mem, placeIn, walkAt, oneUnless, tryAt, opens, openedBy, openIf, waiting, enteredBy, before, Noted, Enters}
+use Rattle.pairs.specs.State.{Passing, Fair, rowFrom, wayAt, reach, Led, Good, Next, Stands, resumed, entering, facing, comes, Reached, Goes, Onward, Quiet}
+use Rattle.pairs.proofs.Ways.{in-length, in-at, ways-length, ways-first, ways-shut, ways-letter, takes-row, takes-no-row, leads-each}
 use Rattle.pairs.proofs.Going.{good-as, never, zero-two, one-two, comes-idle, comes-next, faces-on, led-stuck, next-few, next-noted, next-out, next-room, next-small, next-steps, next-word, next-row, v-place, v-row, v-way, open-good, open-top, open-resumed, open-reached, open-end, open-less, shut-reached, shut-less, way-below, top-next, next-same}
 
 pub pair-in : (P n q row base : ℕ) → base ≡ row * P → q < P → row ≤ n → base + q < P * suc n
@@ -52,7 +54,7 @@ next-as T holds n notes trail w q row base x r b d h =
 -- ---- the last open pair tries its way m, where the ways before it have failed and the next way is
 -- the one behind it
 
-module _ (H : Halting) (quiet : Quiet H) (T : Layout) (holds : ℕ → ℕ → Bool) (n : ℕ) (notes trail : List ℕ) (w : Walk) (g : Good T holds n notes trail w) (going : 0 < w .top)
+module _ (H : Halting) (T : Layout) (holds : ℕ → ℕ → Bool) (n : ℕ) (quiet : Quiet H T holds n) (notes trail : List ℕ) (w : Walk) (g : Good T holds n notes trail w) (going : 0 < w .top)
     (more : codeAt (T .words) (placeIn (getD trail (w .top - 1) 0)) ≤ 29) (m : ℕ) (inside : m < length (waysOf (T .words) (placeIn (getD trail (w .top - 1) 0))))
     (reaches : reach T (getD trail (w .top - 1) 0) ≡ suc m) (before : (i : ℕ) → i < m → bitAt notes (wayAt T (getD trail (w .top - 1) 0) i) ≡ true)
     (q row base : ℕ) (eq : q ≡ getD (waysOf (T .words) (placeIn (getD trail (w .top - 1) 0))) m 0) (er : row ≡ rowFrom T (getD trail (w .top - 1) 0)) (eb : base ≡ row * P T) where
@@ -74,7 +76,7 @@ module _ (H : Halting) (quiet : Quiet H) (T : Layout) (holds : ℕ → ℕ → B
 
   pub turn-noted : Noted notes (base + q)
   turn-noted =
-      let b : base + q < N T n = rw y-is at (way-below H quiet T holds n notes trail w g going more m inside) in
+      let b : base + q < N T n = rw y-is at (way-below H T holds n quiet notes trail w g going more m inside) in
       let no = g .noted in
       let sm = g .legal .small in
       (omega arith, omega arith)
@@ -93,18 +95,20 @@ module _ (H : Halting) (quiet : Quiet H) (T : Layout) (holds : ℕ → ℕ → B
         next = λ d. absurd (never d);
         stuck = λ _ _ _. led-stuck T notes notes e (base + q) led (λ z h. h) eb;
         ends = λ d. absurd (zero-two d);
+        known = omega arith;
       }
   stands false o =
       record {
-        next = λ _. next-as T holds n notes trail w q row base q row base 1 (top-next H quiet T holds n notes trail w g going more m inside before q row base eq er eb led o);
+        next = λ _. next-as T holds n notes trail w q row base q row base 1 (top-next H T holds n quiet notes trail w g going more m inside before q row base eq er eb led o);
         stuck = λ d. absurd (d refl);
         ends = λ d. absurd (one-two d);
+        known = omega arith;
       }
 
   same : (b : Bool) → bitAt notes (base + q) ≡ b → comes H T holds n notes trail (State-of b) ≡ resumed H T holds n notes trail w
   unfolding resumed entering facing oneUnless
   same true o = comes-idle H T holds n notes trail (State-of true) never
-  same false o = comes-next H T holds n notes trail (State-of false) refl ∙ next-same H quiet T holds n notes trail w g going more m inside before q row base eq er eb led o
+  same false o = comes-next H T holds n notes trail (State-of false) refl ∙ next-same H T holds n quiet notes trail w g going more m inside before q row base eq er eb led o
 
   pub turn-tried : Reached H T holds n notes trail (resumed H T holds n notes trail w) notes trail (tryAt notes (w .top) (w .steps) q row base)
   turn-tried =
@@ -120,8 +124,8 @@ module _ (H : Halting) (quiet : Quiet H) (T : Layout) (holds : ℕ → ℕ → B
 
 -- ---- the walk's pair is entered
 
-module _ (H : Halting) (quiet : Quiet H) (T : Layout) (holds : ℕ → ℕ → Bool) (n : ℕ) (notes trail : List ℕ) (w : Walk) (h : Goes T holds n notes trail w)
-    (unspent : H .spent (w .steps) ≡ false) where
+module _ (H : Halting) (T : Layout) (holds : ℕ → ℕ → Bool) (n : ℕ) (quiet : Quiet H T holds n) (notes trail : List ℕ) (w : Walk) (h : Goes T holds n notes trail w)
+    (unspent : H .spent (w .steps) ≡ false) (few : w .steps < T .limit) where
   abbrev q : ℕ
   q = w .place
 
@@ -160,17 +164,17 @@ module _ (H : Halting) (quiet : Quiet H) (T : Layout) (holds : ℕ → ℕ → B
         words = let l = z .long in let p = nx .place in omega arith;
         places = z .few;
         one = z .one q (nx .place);
-        row = next-row H quiet T holds n notes trail w q (w .row) (w .base) nx;
-        few = next-few H quiet T holds n notes trail w q (w .row) (w .base) nx;
-        noted = next-noted H quiet T holds n notes trail w q (w .row) (w .base) nx;
-        out = next-out H quiet T holds n notes trail w q (w .row) (w .base) nx;
-        word = next-word H quiet T holds n notes trail w q (w .row) (w .base) nx;
-        room = next-room H quiet T holds n notes trail w q (w .row) (w .base) nx;
-        small = next-small H quiet T holds n notes trail w q (w .row) (w .base) nx;
-        steps = next-steps H quiet T holds n notes trail w q (w .row) (w .base) nx;
+        row = next-row H T holds n quiet notes trail w q (w .row) (w .base) nx few;
+        few = next-few H T holds n quiet notes trail w q (w .row) (w .base) nx few;
+        noted = next-noted H T holds n quiet notes trail w q (w .row) (w .base) nx few;
+        out = next-out H T holds n quiet notes trail w q (w .row) (w .base) nx few;
+        word = next-word H T holds n quiet notes trail w q (w .row) (w .base) nx few;
+        room = next-room H T holds n quiet notes trail w q (w .row) (w .base) nx few;
+        small = next-small H T holds n quiet notes trail w q (w .row) (w .base) nx few;
+        steps = next-steps H T holds n quiet notes trail w q (w .row) (w .base) nx few;
         near = λ e. z .near q (nx .place) e;
         letter = λ l r. noted (w .base + P T + k) (pair-in (P T) n k (w .row + 1) (w .base + P T) ahead-is (first-place (omega arith)) (omega arith));
-        other = λ _ l. noted (w .base + k) (pair-in (P T) n k (w .row) (w .base) (nx .base-is) (first-place l) (next-row H quiet T holds n notes trail w q (w .row) (w .base) nx));
+        other = λ _ l. noted (w .base + k) (pair-in (P T) n k (w .row) (w .base) (nx .base-is) (first-place l) (next-row H T holds n quiet notes trail w q (w .row) (w .base) nx few));
       }
 
   abbrev OnTo : Mem → Type 0
@@ -192,39 +196,39 @@ module _ (H : Halting) (quiet : Quiet H) (T : Layout) (holds : ℕ → ℕ → B
     w₁ = walkAt (w .top + 1) (w .steps + 1) q (w .row) (w .base) 0
 
     top-is : getD trail₁ (w .top + 1 - 1) 0 ≡ v
-    top-is = open-top H quiet T holds n notes trail w q (w .row) (w .base) nx p
+    top-is = open-top H T holds n quiet notes trail w q (w .row) (w .base) nx few p
 
     place-is : placeIn (getD trail₁ (w .top + 1 - 1) 0) ≡ q
-    place-is = rw top-is (v-place H quiet T holds n notes trail w q (w .row) (w .base) nx p)
+    place-is = rw top-is (v-place H T holds n quiet notes trail w q (w .row) (w .base) nx few p)
 
     reach-one : reach T (getD trail₁ (w .top + 1 - 1) 0) ≡ 1
     unfolding reach
-    reach-one = rw (top-is, v-place H quiet T holds n notes trail w q (w .row) (w .base) nx p, v-way H quiet T holds n notes trail w q (w .row) (w .base) nx p) (omega arith)
+    reach-one = rw (top-is, v-place H T holds n quiet notes trail w q (w .row) (w .base) nx few p, v-way H T holds n quiet notes trail w q (w .row) (w .base) nx few p) (omega arith)
 
     first-tried : Reached H T holds n notes trail₁ (resumed H T holds n notes trail₁ w₁) notes trail₁ (tryAt notes (w .top + 1) (w .steps + 1) k row base)
     first-tried =
-        turn-tried H quiet T holds n notes trail₁ w₁ (open-good H quiet T holds n notes trail w q (w .row) (w .base) nx p 0) (omega arith) (rw place-is l) 0 (rw place-is some-way) reach-one
+        turn-tried H T holds n quiet notes trail₁ w₁ (open-good H T holds n quiet notes trail w q (w .row) (w .base) nx few p 0) (omega arith) (rw place-is l) 0 (rw place-is some-way) reach-one
         (λ i b. absurd (not-suc-le-zero b)) k row base (rw place-is (sym (ways-first T q))) (rw top-is er) eb
 
     onward : OnTo (mem notes trail₁ (tryAt notes (w .top + 1) (w .steps + 1) k row base))
     onward =
         record {
           reached = to _ _ _
-              (open-reached H quiet T holds n notes trail w q (w .row) (w .base) nx p _ (first-tried .good) (first-tried .stands)
-              (first-tried .same ∙ open-resumed H quiet T holds n notes trail w q (w .row) (w .base) nx p 0));
-          less = open-less H quiet T holds n notes trail w q (w .row) (w .base) nx p k row base _;
+              (open-reached H T holds n quiet notes trail w q (w .row) (w .base) nx few p _ (first-tried .good) (first-tried .stands)
+              (first-tried .same ∙ open-resumed H T holds n quiet notes trail w q (w .row) (w .base) nx few p 0));
+          less = open-less H T holds n quiet notes trail w q (w .row) (w .base) nx few p k row base _;
         }
 
   -- a letter
   row-ahead : passing ≡ true → c < 26 → w .row + 1 ≡ rowFrom T v
   unfolding rowFrom
   row-ahead p l =
-      rw (v-place H quiet T holds n notes trail w q (w .row) (w .base) nx p, v-row H quiet T holds n notes trail w q (w .row) (w .base) nx p, takes-row T holds n q (w .row) (nx .place) l)
+      rw (v-place H T holds n quiet notes trail w q (w .row) (w .base) nx few p, v-row H T holds n quiet notes trail w q (w .row) (w .base) nx few p, takes-row T holds n q (w .row) (nx .place) l)
 
   row-same : passing ≡ true → 26 ≤ c → w .row ≡ rowFrom T v
   unfolding rowFrom
   row-same p l =
-      rw (v-place H quiet T holds n notes trail w q (w .row) (w .base) nx p, v-row H quiet T holds n notes trail w q (w .row) (w .base) nx p, takes-no-row T holds n q (w .row) (nx .place) l)
+      rw (v-place H T holds n quiet notes trail w q (w .row) (w .base) nx few p, v-row H T holds n quiet notes trail w q (w .row) (w .base) nx few p, takes-no-row T holds n q (w .row) (nx .place) l)
       (omega arith)
 
   opened : passing ≡ true → OnTo (mem notes (set trail (w .top) v) (openedBy c k (P T) notes w))
@@ -237,8 +241,8 @@ module _ (H : Halting) (quiet : Quiet H) (T : Layout) (holds : ℕ → ℕ → B
       go true ea b eb = let l = ltb-true c 26 ea in onward p (omega arith) (w .row + 1) (w .base + P T) (row-ahead p l) ahead-is
       go false ea true eb =
           record {
-            reached = to _ _ _ (open-end H quiet T holds n notes trail w q (w .row) (w .base) nx p (ltb-true 29 c eb));
-            less = open-less H quiet T holds n notes trail w q (w .row) (w .base) nx p q (w .row) (w .base) 2;
+            reached = to _ _ _ (open-end H T holds n quiet notes trail w q (w .row) (w .base) nx few p (ltb-true 29 c eb));
+            less = open-less H T holds n quiet notes trail w q (w .row) (w .base) nx few p q (w .row) (w .base) 2;
           }
       go false ea false eb =
           let l = ltb-false c 26 ea in
@@ -247,35 +251,89 @@ module _ (H : Halting) (quiet : Quiet H) (T : Layout) (holds : ℕ → ℕ → B
 
   -- it fails at once, where none of its ways is open: it does not pass and has none, or it is a
   -- letter whose one pair has failed
-  shuts : (ys : List ℕ) → graphOf T holds n (w .base + q) ≡ try ys → firstOpen (bitsOf notes (N T n)) ys ≡ none → OnTo (openIf false (mem notes trail w) c (entryOf (T .words) q) k (P T))
+  shuts : H .waits (w .base + q) ≡ false → (ys : List ℕ) → graphOf T holds n (w .base + q) ≡ try ys → firstOpen (bitsOf notes (N T n)) ys ≡ none → OnTo (openIf false (mem notes trail w) c (entryOf (T .words) q) k (P T))
   unfolding openIf
-  shuts ys t e =
+  shuts still ys t e =
       record {
-        reached = to _ _ _ (shut-reached H quiet T holds n notes trail w q (w .row) (w .base) nx ys t e);
-        less = shut-less H quiet T holds n notes trail w q (w .row) (w .base) nx ys t e;
+        reached = to _ _ _ (shut-reached H T holds n quiet notes trail w q (w .row) (w .base) nx few still ys t e);
+        less = shut-less H T holds n quiet notes trail w q (w .row) (w .base) nx few still ys t e;
       }
 
-  shut-none : passing ≡ false → OnTo (openIf false (mem notes trail w) c (entryOf (T .words) q) k (P T))
+  shut-none : H .waits (w .base + q) ≡ false → passing ≡ false → OnTo (openIf false (mem notes trail w) c (entryOf (T .words) q) k (P T))
   unfolding firstOpen
-  shut-none p = shuts [] (rw (nx .base-is) (ways-shut T holds n q (w .row) (nx .place) p)) refl
+  shut-none still p = shuts still [] (rw (nx .base-is) (ways-shut T holds n q (w .row) (nx .place) p)) refl
 
-  shut-one : passing ≡ true → c < 26 → bitAt notes (w .base + P T + k) ≡ true → OnTo (openIf false (mem notes trail w) c (entryOf (T .words) q) k (P T))
+  shut-one : H .waits (w .base + q) ≡ false → passing ≡ true → c < 26 → bitAt notes (w .base + P T + k) ≡ true → OnTo (openIf false (mem notes trail w) c (entryOf (T .words) q) k (P T))
   unfolding firstOpen
-  shut-one p l e =
+  shut-one still p l e =
       let r = letter-in holds n c (w .row) l p in
       let b : w .base + P T + k < N T n = pair-in (P T) n k (w .row + 1) (w .base + P T) ahead-is (first-place (omega arith)) (omega arith) in
       let o : w .row + 1 ≡ suc (w .row) = omega arith in
-      shuts ((w .base + P T + k) ∷ []) (rw (ahead-is, o, nx .base-is) (ways-letter T holds n q (w .row) (nx .place) l p)) (rw (bitsOf-at notes (N T n) (w .base + P T + k) b, e))
+      shuts still ((w .base + P T + k) ∷ []) (rw (ahead-is, o, nx .base-is) (ways-letter T holds n q (w .row) (nx .place) l p)) (rw (bitsOf-at notes (N T n) (w .base + P T + k) b, e))
 
-  entered : (p : Bool) → passing ≡ p → (a : Bool) → ltb c 26 ≡ a → (b : Bool) → bitAt notes (w .base + P T + k) ≡ b
+  entered : H .waits (w .base + q) ≡ false → (p : Bool) → passing ≡ p → (a : Bool) → ltb c 26 ≡ a → (b : Bool) → bitAt notes (w .base + P T + k) ≡ b
       → OnTo (openIf (p && not (a && b)) (mem notes trail w) c (entryOf (T .words) q) k (P T))
   unfolding openIf
-  entered true ep true ea true eb = shut-one ep (ltb-true c 26 ea) eb
-  entered true ep true ea false eb = opened ep
-  entered true ep false ea b eb = opened ep
-  entered false ep a ea b eb = shut-none ep
+  entered still true ep true ea true eb = shut-one still ep (ltb-true c 26 ea) eb
+  entered still true ep true ea false eb = opened ep
+  entered still true ep false ea b eb = opened ep
+  entered still false ep a ea b eb = shut-none still ep
 
-  pub goes-on : (notes′ trail′ : List ℕ) (r : Walk) → mem notes′ trail′ r ≡ enteredBy passing (mem notes trail w) c (entryOf (T .words) q) k (P T)
+  -- it does not wait
+  pub goes-on : H .waits (w .base + q) ≡ false → (notes′ trail′ : List ℕ) (r : Walk) → mem notes′ trail′ r ≡ enteredBy false passing (mem notes trail w) c (entryOf (T .words) q) k (P T)
       → Onward H T holds n notes trail w notes′ trail′ r
   unfolding enteredBy opens
-  goes-on notes′ trail′ r e = subst OnTo (sym e) (entered passing refl (ltb c 26) refl (bitAt notes (w .base + P T + k)) refl)
+  goes-on still notes′ trail′ r e = subst OnTo (sym e) (entered still passing refl (ltb c 26) refl (bitAt notes (w .base + P T + k)) refl)
+
+-- ---- an entered pair waits, or it does not
+
+pub three-one : _≡_ {A = ℕ} 3 1 → ⊥
+three-one e = omega arith
+
+-- the walk before the entry that waits, and before any other
+pub before-waiting : (w : Walk) → w .status ≡ 1 → before (waiting w) ≡ w
+unfolding before
+before-waiting w d = let e : w .steps + 1 - 1 ≡ w .steps = omega arith in rw (e, ← d) refl
+
+pub before-other : (w : Walk) → (w .status ≡ 3 → ⊥) → before w ≡ w
+unfolding before
+before-other w d = rw (ne-eqb (w .status) 3 d) refl
+
+-- a pair that passes does not wait
+pub fair-quiet : (H : Halting) (T : Layout) (more : Bool) (holds : ℕ → ℕ → Bool) (n : ℕ) → Fair H T more n → Quiet H T holds n
+unfolding Passing waitsBy
+fair-quiet H T more holds n f x p = f .waits x ∙ go (ltb (codeAt (T .words) (x % P T)) 26) refl
+  where
+    none : (b : Bool) → (b && false) ≡ false
+    none true = refl
+    none false = refl
+
+    go : (b : Bool) → ltb (codeAt (T .words) (x % P T)) 26 ≡ b → (more && (b && not (ltb (x / P T) n))) ≡ false
+    go false e = none more
+    go true e = let l = letter-in holds n (codeAt (T .words) (x % P T)) (x / P T) (ltb-true _ 26 e) p in rw (lt-ltb (x / P T) n l) (none more)
+
+-- what halts a walk by the definition is fair to it
+module _ (T : Layout) (sized : Sized T) (more : Bool) (n : ℕ) where
+  asks-is : (q : ℕ) → asksRow (placeAt (T .words) q) ≡ ltb (codeAt (T .words) q) 26
+  unfolding placeAt placeBy
+  asks-is q = go (ltb (codeAt (T .words) q) 26) (eqb (codeAt (T .words) q) 26) (eqb (codeAt (T .words) q) 27) (ltb (codeAt (T .words) q) 30)
+    where
+      go : (a b c d : Bool) → asksRow (pick a (pLetter (codeAt (T .words) q + 65) (firstAt (T .words) q)) (pick b (pCaret (firstAt (T .words) q)) (pick c (pDollar (firstAt (T .words) q)) (pick d (pFork (waysOf (T .words) q)) pEnd)))) ≡ a
+      go true b c d = refl
+      go false true c d = refl
+      go false false true d = refl
+      go false false false true = refl
+      go false false false false = refl
+
+  waits-is : (x : ℕ) → haltsIn T more n .waits x ≡ waitsBy more n (codeAt (T .words) (x % P T)) (x / P T)
+  unfolding haltsIn haltingOf waitsBy
+  waits-is x =
+      rw (in-length (T .words) (P T), in-at (T .words) (P T) (x % P T) (mod-lt x (sized .some)), asks-is (x % P T)) refl
+
+  pub halts-fair : Fair (haltsIn T more n) T more n
+  unfolding haltsIn haltingOf
+  halts-fair = record { spends = λ s l. lt-leb (T .limit) s l; waits = waits-is }
+
+  pub halts-spent : (s : ℕ) → T .limit ≤ s → haltsIn T more n .spent s ≡ true
+  unfolding haltsIn haltingOf
+  halts-spent s l = le-leb (T .limit) s l

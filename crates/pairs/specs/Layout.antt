@@ -1,13 +1,16 @@
--- The layout of a walk: the words of the table of places (crates/table) and how many places there
--- are; the graph of the pairs that they stand for; and what the walk relies on.
+-- The layout of a walk: the words of the table of places (crates/table), how many places there are
+-- and how many steps are allowed; the graph of the pairs that they stand for; and what the walk
+-- relies on.
 use mathlib.Core.List.{List}
 use lib.IntN.{ℤ}
-use mathlib.Core.Bool.{Bool, true, _&&_}
+use mathlib.Core.Bool.{Bool, true, not, _&&_}
+use mathlib.Core.Option.{some}
 use Prim.Native.Nat.{ℕ, _+_, _-_, _*_, _≤_, _<_}
 use lib.Dec.{ltb, eqb}
 use Rattle.rules.specs.Basics.{pick}
 use Rattle.rules.specs.Places.{Place, pLetter, pCaret, pDollar, pFork, pEnd}
-use Rattle.rules.specs.Walk.{Ways, pairs, pairWays}
+use Rattle.rules.specs.Search.{haltingOf}
+use Rattle.rules.specs.Walk.{Ways, pairs, pairWays, Halting}
 use Rattle.rules.specs.Working.{All, Falls}
 use Rattle.table.specs.Table.{countAt, placeAt, placesIn}
 use Rattle.table.specs.Sized as S
@@ -17,15 +20,16 @@ use Rattle.table.specs.declared.Extent.{Extent}
 pub record Layout : Type 0 where
   pub words : List ℕ
   pub places : ℕ
+  pub limit : ℕ
 
-abbrev pub layout : List ℕ → ℕ → Layout
-layout ws P = record { words = ws; places = P }
+abbrev pub layout : List ℕ → ℕ → ℕ → Layout
+layout ws P a = record { words = ws; places = P; limit = a }
 
 -- ---- a prepared query by its table T and the extent of its search
 
--- its places
+-- its places, and the steps that it is allowed
 abbrev pub layoutOf : List ℕ → Extent → Layout
-layoutOf T size = layout T (size .places)
+layoutOf T size = layout T (size .places) (size .allowance)
 
 -- which letters hold at a row
 abbrev pub lettersOf : List ℕ → List ℤ → Extent → ℕ → ℕ → Bool
@@ -76,6 +80,17 @@ graphOf T holds n = pairWays holds n (placesIn (T .words) (P T))
 -- at 0, `$` at n, any other everywhere
 unfoldable pub passesBy : (ℕ → ℕ → Bool) → ℕ → ℕ → ℕ → Bool
 passesBy holds n c i = pick (ltb c 26) (ltb i n && holds (c + 65) i) (pick (eqb c 26) (eqb i 0) (pick (eqb c 27) (eqb i n) true))
+
+-- a place of this code waits at position i where more rows than n may come: a letter whose row is
+-- not yet there
+unfoldable pub waitsBy : Bool → ℕ → ℕ → ℕ → Bool
+waitsBy more n c i = more && (ltb c 26 && not (ltb i n))
+
+-- when the walk halts: just before the entry that would pass the steps allowed, and, where more
+-- rows than n may come, at a letter whose row is not yet there
+unfoldable pub haltsIn : Layout → Bool → ℕ → Halting
+unfolding placesIn haltingOf
+haltsIn T more n = haltingOf (record { largest = n; more = more; allowance = some (T .limit) }) (placesIn (T .words) (P T)) n
 
 -- ---- what the walk relies on
 

@@ -3,16 +3,17 @@
 -- A number holds a pair's place in its low 11 bits, its row in the 13 bits above, and in the 8 bits
 -- above them the number, in its fork, of the way that the pair tries next (0: none is left), so
 -- that it goes on where it was left. The walk stands at the pair that was tried last; its status
--- says whether that pair is to be entered (1), is END and open (2), or neither (0).
+-- says whether that pair is to be entered (1), is END and open (2), was entered and waits for a row
+-- (3), or none of these (0).
 use mathlib.Core.Path.{_≡_}
 use mathlib.Core.List.{List, [], _∷_, reverseAux}
 use mathlib.Core.Bool.{Bool, true, false, not, _&&_}
-use Prim.Native.Nat.{ℕ, zero, suc, _+_, _*_, _/_, _%_, _≤_, _<_}
+use Prim.Native.Nat.{ℕ, zero, suc, _+_, _-_, _*_, _/_, _%_, _≤_, _<_}
 use lib.Dec.{ltb, eqb}
 use lib.ListN.{length, getD, set}
 use Rattle.rules.specs.Basics.{pick}
 use Rattle.rules.specs.Report.{bitAt}
-use Rattle.rules.specs.Walk.{Outcome, found, failed, outOfSteps, halted}
+use Rattle.rules.specs.Walk.{Outcome, found, failed, outOfSteps, outOfRows, halted, Kept, asKept}
 use Rattle.rules.specs.Working.{marked}
 use Rattle.table.specs.Table.{codeAt, firstAt, countAt}
 use Rattle.table.specs.Sized.{mostPlaces}
@@ -87,22 +88,46 @@ openIf true m c v k P = mem (m .notes) (set (m .trail) (m .walk .top) (m .walk .
 openIf false m c v k P =
     mem (marked (m .notes) (pairOf (m .walk))) (m .trail) (walkAt (m .walk .top) (m .walk .steps + 1) (m .walk .place) (m .walk .row) (m .walk .base) 0)
 
--- The pair of the walk is entered, which is one step.
-unfoldable pub enteredBy : Bool → Mem → ℕ → ℕ → ℕ → ℕ → Mem
+-- The pair was entered and waits: nothing is changed but for the step.
+abbrev pub waiting : Walk → Walk
+waiting w = walkAt (w .top) (w .steps + 1) (w .place) (w .row) (w .base) 3
+
+-- The pair of the walk is entered, which is one step; it waits or it does not.
+unfoldable pub enteredBy : Bool → Bool → Mem → ℕ → ℕ → ℕ → ℕ → Mem
 unfolding opens openIf
-enteredBy passes m c v k P = openIf (opens passes c k P (m .notes) (m .walk)) m c v k P
+enteredBy true passes m c v k P = mem (m .notes) (m .trail) (waiting (m .walk))
+enteredBy false passes m c v k P = openIf (opens passes c k P (m .notes) (m .walk)) m c v k P
+
+-- The same of a letter whose row is not there: it waits where more rows may come, and else it
+-- fails.
+unfoldable pub absentNotes : Bool → List ℕ → ℕ → List ℕ
+unfolding marked
+absentNotes more notes x = pick more notes (marked notes x)
+
+unfoldable pub absentStatus : Bool → ℕ
+absentStatus more = pick more 3 0
+
+-- The walk before the entry that waits; any other is itself.
+abbrev pub beforeBy : Bool → Walk → Walk
+beforeBy true w = walkAt (w .top) (w .steps - 1) (w .place) (w .row) (w .base) 1
+beforeBy false w = w
+
+unfoldable pub before : Walk → Walk
+before w = beforeBy (eqb (w .status) 3) w
 
 -- the attempt's result in memory: no open pair, or the open pairs are the path
 unfoldable pub outcomeBy : ℕ → ℕ → List ℕ → List Bool → ℕ → Outcome
 unfolding stack
-outcomeBy P zero trail F s = failed F s
-outcomeBy P (suc t) trail F s = found (reverseAux (stack P trail (suc t)) []) F s
+outcomeBy P zero trail F s = failed (asKept F s)
+outcomeBy P (suc t) trail F s = found (reverseAux (stack P trail (suc t)) []) (asKept F s)
 
 -- the same of an attempt that may have halted: where a pair is to be entered, no step is left, and
--- the open pairs stay open
+-- the open pairs stay open; where one waits, it is open too
 unfoldable pub resultBy : ℕ → List ℕ → List Bool → Walk → Outcome
 unfolding stack outcomeBy
-resultBy P trail F w = pick (eqb (w .status) 1) (halted outOfSteps (reverseAux (stack P trail (w .top)) []) F (w .steps)) (outcomeBy P (w .top) trail F (w .steps))
+resultBy P trail F w =
+    pick (eqb (w .status) 1) (halted outOfSteps (reverseAux (stack P trail (w .top)) []) (asKept F (w .steps)))
+    (pick (eqb (w .status) 3) (halted outOfRows (reverseAux (pairOf w ∷ stack P trail (w .top)) []) (asKept F (w .steps))) (outcomeBy P (w .top) trail F (w .steps)))
 
 -- ---- what entering a pair requires
 

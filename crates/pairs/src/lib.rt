@@ -11,7 +11,7 @@ ghost use lib.ListN.{length, set, getD};
 ghost use Rattle.rules.specs.Report.{bitAt};
 ghost use Rattle.rules.specs.Working.{marked};
 ghost use Rattle.pairs.specs.Layout.{passesBy, entryOf, mostPairs};
-ghost use Rattle.pairs.specs.Step.{walkAt, oneUnless, tryAt, after, wentOn, placeIn, rowIn, wayIn};
+ghost use Rattle.pairs.specs.Step.{walkAt, oneUnless, tryAt, absentNotes, absentStatus, after, wentOn, placeIn, rowIn, wayIn};
 
 // Where a walk is: how many pairs are open, and the steps so far; the pair that was tried last, by
 // its place, its row and its row times P; and what is to be done about that pair. All are numbers,
@@ -27,12 +27,14 @@ pub struct Walk {
 }
 
 // The statuses: the pair tried last has failed, or was left, so the walk goes back; it is to be
-// entered; it is END, and open.
+// entered; it is END, and open; it was entered, and waits for a row that is not yet there.
 pub const BACK: usize = 0;
 
 pub const ENTER: usize = 1;
 
 pub const FOUND: usize = 2;
+
+pub const WAITS: usize = 3;
 
 // A number of the trail: its place in the low bits, its row above, and above that the way that is
 // tried next.
@@ -167,6 +169,25 @@ pub fn fails(notes: &mut [u8], w: Walk, steps: usize) -> Walk
         base: w.base,
         status: BACK,
     }
+}
+
+// The pair of w, which was entered with this step, asks for a row that is not there: it waits for
+// it where more rows may come, and else it fails.
+pub fn absent(notes: &mut [u8], w: Walk, steps: usize, more: bool) -> Walk
+    requires { ⌜ (w .base + w .place < mostPairs) × ((w .base + w .place) / 8 < length (now notes)) × (bitAt (now notes) (w .base + w .place) ≡ false) ⌝ }
+    ensures { λ r. ⌜ (now (notes .exit) ≡ absentNotes more (now (notes .entry)) (w .base + w .place)) × (r ≡ walkAt (w .top) steps (w .place) (w .row) (w .base) (absentStatus more)) ⌝ }
+{
+    if more {
+        return Walk {
+            top: w.top,
+            steps,
+            place: w.place,
+            row: w.row,
+            base: w.base,
+            status: WAITS,
+        };
+    }
+    fails(notes, w, steps)
 }
 
 // The way behind way j of a fork with so many ways; 0 for none.

@@ -7,14 +7,14 @@ use native.Mathlib.Omega.{arith}
 use lib.ListN.{length, drop}
 use Rattle.rules.specs.Language.{Rank, pattern, branch, factor, Tree, one, last, Written, Laid, letterFirst, spaces, tokens}
 use Rattle.rules.specs.Places.{placeCount}
-use Rattle.rules.specs.Reader.{peek, ended, read, depth}
+use Rattle.rules.specs.Reader.{peek, branchEnds, read, depth}
 use Rattle.laws.proofs.GrammarSound.{Leads, Good, read-good}
 use Rattle.laws.proofs.Bounds.{Bounds, Lettered, written-bounds, written-letters}
 use Rattle.nodes.specs.Nodes.{nodeAt}
 use Rattle.nodes.specs.declared.Sort.{Sort}
 use Rattle.nodes.specs.declared.Sort.the-variants.{Sequence, Alternation}
 use Rattle.trees.specs.Written.{nodeCount, height}
-use Rattle.primaries.specs.Readers.{Joined, Kept, Fits, Reads, SkipTo}
+use Rattle.primaries.specs.Readers.{Joined, KeptOutside, Fits, PhraseReads, SkipTo}
 use Rattle.trees.specs.Held.{Held}
 use Rattle.phrases.specs.Chain.{many, Pending, JoinedAll, Chained}
 use Rattle.primaries.specs.declared.Step.{Step}
@@ -37,7 +37,7 @@ pub record PartOf (to : ℕ) (m1 : List ℕ) (f : Step) : Type 0 where
   pub placed : f .places ≡ min (placeCount tree) 257
   pub held : Held tree to m1
 
-part-factor : (s : List ℕ) (from to : ℕ) (m m1 : List ℕ) (f : Step) → Reads factor s from to m m1 f → f .ok ≡ true → 8 * f .count ≤ length m → PartOf to m1 f
+part-factor : (s : List ℕ) (from to : ℕ) (m m1 : List ℕ) (f : Step) → PhraseReads factor s from to m m1 f → f .ok ≡ true → 8 * f .count ≤ length m → PartOf to m1 f
 unfolding Good tokens Bounds Lettered Held nodeCount height placeCount
 part-factor s from to m m1 f h o l =
     let n = depth factor (drop from s) in
@@ -52,7 +52,7 @@ part-factor s from to m m1 f h o l =
       held = subst (Held (x .tree) to) (sym (x .wrote)) (written-held (x .tree) to m (b .0) (b .1) (omega (arith, x .count)));
     }
 
-part-branch : (s : List ℕ) (from to : ℕ) (m m1 : List ℕ) (f : Step) → Reads branch s from to m m1 f → f .ok ≡ true → 8 * f .count ≤ length m → PartOf to m1 f
+part-branch : (s : List ℕ) (from to : ℕ) (m m1 : List ℕ) (f : Step) → PhraseReads branch s from to m m1 f → f .ok ≡ true → 8 * f .count ≤ length m → PartOf to m1 f
 unfolding Good tokens Bounds Lettered Held nodeCount height placeCount
 part-branch s from to m m1 f h o l =
     let n = depth branch (drop from s) in
@@ -67,7 +67,7 @@ part-branch s from to m m1 f h o l =
       held = subst (Held (x .tree) to) (sym (x .wrote)) (written-held (x .tree) to m (b .0) (b .1) (omega (arith, x .count)));
     }
 
-node-kept : (lo hi : ℕ) (s t : List ℕ) (j : ℕ) → Kept lo hi s t → 8 * j + 8 ≤ lo → nodeAt t j ≡ nodeAt s j
+node-kept : (lo hi : ℕ) (s t : List ℕ) (j : ℕ) → KeptOutside lo hi s t → 8 * j + 8 ≤ lo → nodeAt t j ≡ nodeAt s j
 unfolding nodeAt
 node-kept lo hi s t j k l =
     rw (
@@ -90,8 +90,8 @@ pub record Begun (k : Rank) (s : List ℕ) (at c : ℕ) (m0 : List ℕ) (sort : 
   pub fits : 8 * (to + many parts + 2 * (length s - from)) ≤ length m
   pub small : to + many parts + 2 * (length s - from) < 60000
   pub len : length m ≡ length m0
-  pub fails : (t : List ℕ) (r : Step) → Reads k s from to m t r → r .ok ≡ false → Reads k s at c m0 t r
-  pub done : (t : List ℕ) (r : Step) → Reads k s from to m t r → r .ok ≡ true → (u : List ℕ) (w : Step) → JoinedAll sort forks parts to t r u w → Reads k s at c m0 u w
+  pub fails : (t : List ℕ) (r : Step) → PhraseReads k s from to m t r → r .ok ≡ false → PhraseReads k s at c m0 t r
+  pub done : (t : List ℕ) (r : Step) → PhraseReads k s from to m t r → r .ok ≡ true → (u : List ℕ) (w : Step) → JoinedAll sort forks parts to t r u w → PhraseReads k s at c m0 u w
 
 pub begun-none : (k : Rank) (s : List ℕ) (at c : ℕ) (m : List ℕ) (sort : Sort) (forks : ℕ) → Fits s at m c → Begun k s at c m sort forks at c m
 unfolding Pending JoinedAll many
@@ -112,7 +112,7 @@ module _ (k : Rank) (s : List ℕ) (at c : ℕ) (m0 : List ℕ) (sort : Sort) (f
   pub begun-fits : Fits s from m to
   begun-fits = record { in-text = g .in-text; fits = omega (arith, g .fits); small = omega (arith, g .small) }
 
-  module _ (k2 : Rank) (m1 : List ℕ) (f : Step) (h : Reads k2 s from to m m1 f) where
+  module _ (k2 : Rank) (m1 : List ℕ) (f : Step) (h : PhraseReads k2 s from to m m1 f) where
     pub begun-length : length m1 ≡ length m0
     begun-length = h .len ∙ g .len
 
@@ -133,7 +133,7 @@ module _ (k : Rank) (s : List ℕ) (at c : ℕ) (m0 : List ℕ) (sort : Sort) (f
             few-places = w .few-places;
           }
 
-      begun-done : Reads k s from to m m1 f → (u : List ℕ) (w : Step) → ((i : Chained m1 c to f) → JoinedAll sort forks (i .parts) to m1 f u w) → Reads k s at c m0 u w
+      begun-done : PhraseReads k s from to m m1 f → (u : List ℕ) (w : Step) → ((i : Chained m1 c to f) → JoinedAll sort forks (i .parts) to m1 f u w) → PhraseReads k s at c m0 u w
       begun-done x u w j =
           let v = h .on o in
           g .done m1 f x o u w (j (record {
@@ -150,8 +150,8 @@ module _ (k : Rank) (s : List ℕ) (at c : ℕ) (m0 : List ℕ) (sort : Sort) (f
       begun-less then ln li = let w = h .on o in omega (arith, w .on)
 
       begun-more : (p : PartOf to m1 f) (then : ℕ) → f .at ≤ then → then ≤ length s
-          → ((t : List ℕ) (r : Step) → Reads k s then (f .count) m1 t r → r .ok ≡ false → Reads k s from to m t r)
-          → ((t : List ℕ) (r : Step) → Reads k s then (f .count) m1 t r → r .ok ≡ true → (u : List ℕ) (w : Step) → Joined t u sort forks f r w → Reads k s from to m u w)
+          → ((t : List ℕ) (r : Step) → PhraseReads k s then (f .count) m1 t r → r .ok ≡ false → PhraseReads k s from to m t r)
+          → ((t : List ℕ) (r : Step) → PhraseReads k s then (f .count) m1 t r → r .ok ≡ true → (u : List ℕ) (w : Step) → Joined t u sort forks f r w → PhraseReads k s from to m u w)
           → Begun k s at c m0 sort forks then (f .count) m1
       unfolding Pending JoinedAll many
       begun-more p then ln li fl dn =
@@ -173,12 +173,12 @@ module _ (k : Rank) (s : List ℕ) (at c : ℕ) (m0 : List ℕ) (sort : Sort) (f
           }
 
 -- a branch: its parts are factors
-module _ (s : List ℕ) (at c : ℕ) (m0 : List ℕ) (from to : ℕ) (m : List ℕ) (g : Begun branch s at c m0 Sequence 0 from to m) (m1 : List ℕ) (f : Step) (h : Reads factor s from to m m1 f) where
-  pub branch-unread : f .ok ≡ false → Reads branch s at c m0 m1 f
+module _ (s : List ℕ) (at c : ℕ) (m0 : List ℕ) (from to : ℕ) (m : List ℕ) (g : Begun branch s at c m0 Sequence 0 from to m) (m1 : List ℕ) (f : Step) (h : PhraseReads factor s from to m m1 f) where
+  pub branch-unread : f .ok ≡ false → PhraseReads branch s at c m0 m1 f
   branch-unread e = g .fails m1 f (branch-fails s from to m m1 f h e) e
 
-  module _ (o : f .ok ≡ true) (y : ℕ) (ey : y ≡ peek (drop (f .at) s)) (b : Bool) (eb : b ≡ ended y) where
-    pub branch-whole : b ≡ true → (u : List ℕ) (w : Step) → ((i : Chained m1 c to f) → JoinedAll Sequence 0 (i .parts) to m1 f u w) → Reads branch s at c m0 u w
+  module _ (o : f .ok ≡ true) (y : ℕ) (ey : y ≡ peek (drop (f .at) s)) (b : Bool) (eb : b ≡ branchEnds y) where
+    pub branch-whole : b ≡ true → (u : List ℕ) (w : Step) → ((i : Chained m1 c to f) → JoinedAll Sequence 0 (i .parts) to m1 f u w) → PhraseReads branch s at c m0 u w
     branch-whole e = begun-done branch s at c m0 Sequence 0 from to m g factor m1 f h o (branch-ends s from to m m1 f h y ey o (sym eb ∙ e))
 
     pub branch-less : length s - f .at < length s - from
@@ -191,12 +191,12 @@ module _ (s : List ℕ) (at c : ℕ) (m0 : List ℕ) (from to : ℕ) (m : List �
         (λ t r x q. branch-more-fails s from to m m1 f h t r x y ey o (sym eb ∙ e) q) (λ t r x q u v j. branch-more s from to m m1 f h t r x y ey o (sym eb ∙ e) u v q j)
 
 -- a pattern: its parts are branches
-module _ (s : List ℕ) (at c : ℕ) (m0 : List ℕ) (from to : ℕ) (m : List ℕ) (g : Begun pattern s at c m0 Alternation 1 from to m) (m1 : List ℕ) (f : Step) (h : Reads branch s from to m m1 f) where
-  pub pattern-unread : f .ok ≡ false → Reads pattern s at c m0 m1 f
+module _ (s : List ℕ) (at c : ℕ) (m0 : List ℕ) (from to : ℕ) (m : List ℕ) (g : Begun pattern s at c m0 Alternation 1 from to m) (m1 : List ℕ) (f : Step) (h : PhraseReads branch s from to m m1 f) where
+  pub pattern-unread : f .ok ≡ false → PhraseReads pattern s at c m0 m1 f
   pattern-unread e = g .fails m1 f (pattern-fails s from to m m1 f h e) e
 
   module _ (o : f .ok ≡ true) (y : ℕ) (ey : y ≡ peek (drop (f .at) s)) where
-    pub pattern-whole : (y ≡ 124 → ⊥) → (u : List ℕ) (w : Step) → ((i : Chained m1 c to f) → JoinedAll Alternation 1 (i .parts) to m1 f u w) → Reads pattern s at c m0 u w
+    pub pattern-whole : (y ≡ 124 → ⊥) → (u : List ℕ) (w : Step) → ((i : Chained m1 c to f) → JoinedAll Alternation 1 (i .parts) to m1 f u w) → PhraseReads pattern s at c m0 u w
     pattern-whole e = begun-done pattern s at c m0 Alternation 1 from to m g branch m1 f h o (pattern-ends s from to m m1 f h y ey o e)
 
     pub pattern-less : (then : ℕ) → SkipTo s (f .at + 1) then → length s - then < length s - from

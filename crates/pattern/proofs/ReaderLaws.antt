@@ -11,7 +11,7 @@ use borrow.Author.Tests.{eq-eqb, ne-eqb, eqb-true, eqb-false}
 use Rattle.rules.specs.Basics.{isLetter}
 use Rattle.rules.specs.Places.{roundPlaces, fork, placeCount}
 use Rattle.rules.specs.Language.{Form, lower, upper, Rank, pattern, branch, factor, primary, Tree, one, more, last, next, bare, times, empty, group}
-use Rattle.rules.specs.Reader.{Reading, got, bad, left, peek, rest, skip, Marked, unmarked, broken, marked, quantifier, ended, under, altOn, altWith, seqOn, seqWith, timesOn, timesWith, closed, parted, simple, primaryOn, read, rankOf, depth}
+use Rattle.rules.specs.Reader.{Reading, got, bad, left, peek, rest, skipSpaces, Marked, unmarked, broken, marked, quantifier, branchEnds, under, altOn, altWith, seqOn, seqWith, timesOn, timesWith, closed, parted, simple, primaryOn, read, rankOf, depth}
 use Rattle.text_bytes.proofs.ByteLaws.{inside, rest-drop}
 use Rattle.nodes.specs.Nodes.{putNode}
 use Rattle.laws.proofs.GrammarSound.{pick-both}
@@ -20,8 +20,8 @@ use Rattle.nodes.proofs.Put.{put-other, put-length}
 use Rattle.nodes.specs.declared.Sort.{Sort}
 use Rattle.nodes.specs.declared.Sort.the-variants.{Empty, Sequence, Alternation, Group}
 use Rattle.nodes.specs.declared.Node.{Node}
-use Rattle.trees.specs.Written.{plain, withMark, nodeCount, height, own, written}
-use Rattle.primaries.specs.Readers.{forkOf, Kept, Fits, Unread, Says, On, Reads, SaysHead, Wrote, HeadOn, SimpleSays, ReadsHead, FitsHead, stepTo, FinishedMark, FinishedAs, Finished, Joined, SkipTo, EmptyIs, ShutNeeds, Shut, ShutIs}
+use Rattle.trees.specs.Written.{plainNode, withMark, nodeCount, height, own, written}
+use Rattle.primaries.specs.Readers.{forkOf, KeptOutside, Fits, Unread, Says, On, PhraseReads, SaysHead, Wrote, HeadOn, SimpleSays, ReadsHead, FitsHead, stepTo, FinishedMark, FinishedAs, FactorFinished, Joined, SkipTo, EmptyIs, ShutNeeds, Shut, ShutIs}
 use Rattle.primaries.proofs.PrimaryLaws.{leaf-on}
 use Rattle.primaries.specs.declared.Step.{Step}
 use Rattle.primaries.specs.declared.Head.{Head}
@@ -34,16 +34,16 @@ at-suc : (P : ℕ → Type 0) (k : ℕ) → ((m : ℕ) → k ≤ m → P (suc m)
 at-suc P k f zero h = absurd (omega arith)
 at-suc P k f (suc m) h = f m (omega arith)
 
-kept-none : (lo hi : ℕ) (s : List ℕ) → Kept lo hi s s
+kept-none : (lo hi : ℕ) (s : List ℕ) → KeptOutside lo hi s s
 kept-none lo hi s j h = refl
 
-kept-wide : (lo hi lo2 hi2 : ℕ) (s t : List ℕ) → lo2 ≤ lo → hi ≤ hi2 → Kept lo hi s t → Kept lo2 hi2 s t
+kept-wide : (lo hi lo2 hi2 : ℕ) (s t : List ℕ) → lo2 ≤ lo → hi ≤ hi2 → KeptOutside lo hi s t → KeptOutside lo2 hi2 s t
 kept-wide lo hi lo2 hi2 s t l h k j f = k j (λ a b. f (omega arith) (omega arith))
 
-kept-on : (lo hi : ℕ) (s t u : List ℕ) → Kept lo hi s t → Kept lo hi t u → Kept lo hi s u
+kept-on : (lo hi : ℕ) (s t u : List ℕ) → KeptOutside lo hi s t → KeptOutside lo hi t u → KeptOutside lo hi s u
 kept-on lo hi s t u k g j f = g j f ∙ k j f
 
-kept-put : (s t : List ℕ) (i : ℕ) (n : Node) → t ≡ putNode s i n → Kept (8 * i) (8 * i + 8) s t
+kept-put : (s t : List ℕ) (i : ℕ) (n : Node) → t ≡ putNode s i n → KeptOutside (8 * i) (8 * i + 8) s t
 kept-put s t i n e j f = ap (λ (u : List ℕ). getD u j 0) e ∙ put-other s i j n f
 
 -- ---- the readers' answers
@@ -88,8 +88,8 @@ abbrev room-of : List ℕ → ℕ → ℕ → ℕ
 room-of s at c = 8 * (c + 2 * (length s - at))
 
 -- an answer of no reading
-no-reading : (k : Rank) (s : List ℕ) (at c : ℕ) (m t : List ℕ) (r : Step) → r .ok ≡ false → Kept (8 * c) (room-of s at c) m t → length t ≡ length m
-    → ((n : ℕ) → 4 * length (drop at s) + rankOf k ≤ n → (read (suc n) k (drop at s) ≡ bad (drop (r .at) s)) × (r .at ≤ length s)) → Reads k s at c m t r
+no-reading : (k : Rank) (s : List ℕ) (at c : ℕ) (m t : List ℕ) (r : Step) → r .ok ≡ false → KeptOutside (8 * c) (room-of s at c) m t → length t ≡ length m
+    → ((n : ℕ) → 4 * length (drop at s) + rankOf k ≤ n → (read (suc n) k (drop at s) ≡ bad (drop (r .at) s)) × (r .at ≤ length s)) → PhraseReads k s at c m t r
 unfolding depth Says
 no-reading k s at c m t r e kp l f =
     record {
@@ -101,8 +101,8 @@ no-reading k s at c m t r e kp l f =
     }
 
 -- an answer of a reading
-a-reading : (k : Rank) (s : List ℕ) (at c : ℕ) (m t : List ℕ) (r : Step) → r .ok ≡ true → On s at c r → Kept (8 * c) (room-of s at c) m t → length t ≡ length m
-    → ((n : ℕ) → 4 * length (drop at s) + rankOf k ≤ n → Read k s c m t r (read (suc n) k (drop at s))) → Reads k s at c m t r
+a-reading : (k : Rank) (s : List ℕ) (at c : ℕ) (m t : List ℕ) (r : Step) → r .ok ≡ true → On s at c r → KeptOutside (8 * c) (room-of s at c) m t → length t ≡ length m
+    → ((n : ℕ) → 4 * length (drop at s) + rankOf k ≤ n → Read k s c m t r (read (suc n) k (drop at s))) → PhraseReads k s at c m t r
 unfolding depth Says
 a-reading k s at c m t r e o kp l f =
     record {
@@ -114,8 +114,8 @@ a-reading k s at c m t r e o kp l f =
     }
 
 -- the room of a later reader lies in the room
-later : (s : List ℕ) (at c to d : ℕ) (m t : List ℕ) → at ≤ to → to ≤ length s → c ≤ d → d ≤ c + 2 * (to - at) → Kept (8 * d) (room-of s to d) m t
-    → Kept (8 * c) (room-of s at c) m t
+later : (s : List ℕ) (at c to d : ℕ) (m t : List ℕ) → at ≤ to → to ≤ length s → c ≤ d → d ≤ c + 2 * (to - at) → KeptOutside (8 * d) (room-of s to d) m t
+    → KeptOutside (8 * c) (room-of s at c) m t
 later s at c to d m t h l g e k = kept-wide (8 * d) (room-of s to d) (8 * c) (room-of s at c) m t (omega arith) (omega arith) k
 
 -- ---- two parts joined
@@ -138,8 +138,8 @@ module _ (s : List ℕ) (at c : ℕ) (m0 m1 m2 m3 : List ℕ) (a b w : Step) (to
         few-forks = omega arith;
       }
 
-  joins-kept : On s at c a → a .at ≤ to → to ≤ length s → On s to (a .count) b → Joined m2 m3 k fk a b w → Kept (8 * c) (room-of s at c) m0 m1
-      → Kept (8 * a .count) (room-of s to (a .count)) m1 m2 → Kept (8 * c) (room-of s at c) m0 m3
+  joins-kept : On s at c a → a .at ≤ to → to ≤ length s → On s to (a .count) b → Joined m2 m3 k fk a b w → KeptOutside (8 * c) (room-of s at c) m0 m1
+      → KeptOutside (8 * a .count) (room-of s to (a .count)) m1 m2 → KeptOutside (8 * c) (room-of s at c) m0 m3
   joins-kept o l i q j k1 k2 =
       kept-on (8 * c) (room-of s at c) m0 m1 m3 k1
       (kept-on (8 * c) (room-of s at c) m1 m2 m3 (later s at c to (a .count) m1 m2 (omega (arith, o .on)) i (omega (arith, o .some)) (omega (arith, o .few)) k2)
@@ -147,7 +147,7 @@ module _ (s : List ℕ) (at c : ℕ) (m0 m1 m2 m3 : List ℕ) (a b w : Step) (to
       (omega (arith, o .some, q .some, o .few, q .few, q .inside, o .on, q .on)) (kept-put m2 m3 (b .count) _ (j .wrote))))
 
   joins-wrote : (v : List ℕ) (ca cb ha hb pa pb : ℕ) → a .count ≡ ca → b .count ≡ cb → a .height ≡ ha → b .height ≡ hb → a .places ≡ min pa 257 → b .places ≡ min pb 257 → m2 ≡ v
-      → Joined m2 m3 k fk a b w → m3 ≡ putNode v cb (plain k (ca - 1) (cb - 1) (max ha hb + 1) (min (pa + pb) 257))
+      → Joined m2 m3 k fk a b w → m3 ≡ putNode v cb (plainNode k (ca - 1) (cb - 1) (max ha hb + 1) (min (pa + pb) 257))
   joins-wrote v ca cb ha hb pa pb e1 e2 e3 e4 e6 e7 e5 j = let q : min (a .places + b .places) 257 ≡ min (pa + pb) 257 = omega arith in j .wrote ∙ rw (e1, e2, e3, e4, q, e5) refl
 
 -- ---- pattern
@@ -161,7 +161,7 @@ module _ (n : ℕ) (u : List ℕ) where
   unfolding read altWith altOn
   alt-one b v e h = simp (e, ne-eqb (peek v) 124 h)
 
-  alt-two : (b : Tree branch) (v w : List ℕ) (x : Reading (Tree pattern)) → read n branch u ≡ got b v → peek v ≡ 124 → skip (rest v) ≡ w → read n pattern w ≡ x
+  alt-two : (b : Tree branch) (v w : List ℕ) (x : Reading (Tree pattern)) → read n branch u ≡ got b v → peek v ≡ 124 → skipSpaces (rest v) ≡ w → read n pattern w ≡ x
       → read (suc n) pattern u ≡ under (more b) x
   unfolding read altWith altOn
   alt-two b v w x e h g f = simp (e, eq-eqb (peek v) 124 h, g, f)
@@ -170,23 +170,23 @@ module _ (n : ℕ) (u : List ℕ) where
   unfolding read seqWith
   seq-bad v e = simp e
 
-  seq-one : (f : Tree factor) (v : List ℕ) → read n factor u ≡ got f v → ended (peek v) ≡ true → read (suc n) branch u ≡ got (last f) v
+  seq-one : (f : Tree factor) (v : List ℕ) → read n factor u ≡ got f v → branchEnds (peek v) ≡ true → read (suc n) branch u ≡ got (last f) v
   unfolding read seqWith seqOn
   seq-one f v e h = simp (e, h)
 
-  seq-two : (f : Tree factor) (v : List ℕ) (x : Reading (Tree branch)) → read n factor u ≡ got f v → ended (peek v) ≡ false → read n branch v ≡ x
+  seq-two : (f : Tree factor) (v : List ℕ) (x : Reading (Tree branch)) → read n factor u ≡ got f v → branchEnds (peek v) ≡ false → read n branch v ≡ x
       → read (suc n) branch u ≡ under (next f) x
   unfolding read seqWith seqOn
   seq-two f v x e h g = simp (e, h, g)
 
-module _ (s : List ℕ) (at c : ℕ) (m0 m1 : List ℕ) (b : Step) (h : Reads branch s at c m0 m1 b) where
-  pub pattern-fails : b .ok ≡ false → Reads pattern s at c m0 m1 b
+module _ (s : List ℕ) (at c : ℕ) (m0 m1 : List ℕ) (b : Step) (h : PhraseReads branch s at c m0 m1 b) where
+  pub pattern-fails : b .ok ≡ false → PhraseReads pattern s at c m0 m1 b
   unfolding rankOf depth
   pattern-fails e = no-reading pattern s at c m0 m1 b e (h .kept) (h .len) λ n d.
       let x = says-bad branch s c m0 m1 b _ (h .says n (omega arith)) e in (alt-bad n (drop at s) _ (x .0), x .1)
 
   module _ (y : ℕ) (ey : y ≡ peek (drop (b .at) s)) (o : b .ok ≡ true) where
-    pub pattern-ends : (y ≡ 124 → ⊥) → Reads pattern s at c m0 m1 b
+    pub pattern-ends : (y ≡ 124 → ⊥) → PhraseReads pattern s at c m0 m1 b
     unfolding rankOf depth nodeCount height fork placeCount written
     pattern-ends ny = a-reading pattern s at c m0 m1 b o (h .on o) (h .kept) (h .len) λ n d.
         let x = says-got branch s c m0 m1 b _ (h .says n (omega arith)) o in
@@ -201,11 +201,11 @@ module _ (s : List ℕ) (at c : ℕ) (m0 m1 : List ℕ) (b : Step) (h : Reads br
         }
 
     module _ (is-bar : y ≡ 124) (from : ℕ) (k : SkipTo s (b .at + 1) from) where
-      behind : skip (rest (drop (b .at) s)) ≡ drop from s
-      behind = ap skip (rest-drop s (b .at)) ∙ sym (k .0)
+      behind : skipSpaces (rest (drop (b .at) s)) ≡ drop from s
+      behind = ap skipSpaces (rest-drop s (b .at)) ∙ sym (k .0)
 
-      module _ (m2 : List ℕ) (r : Step) (g : Reads pattern s from (b .count) m1 m2 r) where
-        pub pattern-more-fails : r .ok ≡ false → Reads pattern s at c m0 m2 r
+      module _ (m2 : List ℕ) (r : Step) (g : PhraseReads pattern s from (b .count) m1 m2 r) where
+        pub pattern-more-fails : r .ok ≡ false → PhraseReads pattern s at c m0 m2 r
         unfolding rankOf depth under
         pattern-more-fails e =
             let w = h .on o in
@@ -217,7 +217,7 @@ module _ (s : List ℕ) (at c : ℕ) (m0 m1 : List ℕ) (b : Step) (h : Reads br
             let z = says-bad pattern s (b .count) m1 m2 r _ (g .says n (omega (arith, w .on, w .inside, k .1, k .2, length-drop at s, length-drop from s))) e in
             (alt-two n (drop at s) _ _ (drop from s) (bad (drop (r .at) s)) (x .is) (sym ey ∙ is-bar) behind (z .0), z .1)
 
-        pub pattern-more : (m3 : List ℕ) (z : Step) → r .ok ≡ true → Joined m2 m3 Alternation 1 b r z → Reads pattern s at c m0 m3 z
+        pub pattern-more : (m3 : List ℕ) (z : Step) → r .ok ≡ true → Joined m2 m3 Alternation 1 b r z → PhraseReads pattern s at c m0 m3 z
         unfolding rankOf depth under nodeCount height fork placeCount written
         pattern-more m3 z e j =
             let w = h .on o in let q = g .on e in
@@ -244,17 +244,17 @@ module _ (s : List ℕ) (at c : ℕ) (m0 m1 : List ℕ) (b : Step) (h : Reads br
 
 -- ---- branch
 
-ended-at : (y b : ℕ) → y ≡ b → ended b ≡ ended y
-ended-at y b e = ap ended (sym e)
+ended-at : (y b : ℕ) → y ≡ b → branchEnds b ≡ branchEnds y
+ended-at y b e = ap branchEnds (sym e)
 
-module _ (s : List ℕ) (at c : ℕ) (m0 m1 : List ℕ) (b : Step) (h : Reads factor s at c m0 m1 b) where
-  pub branch-fails : b .ok ≡ false → Reads branch s at c m0 m1 b
+module _ (s : List ℕ) (at c : ℕ) (m0 m1 : List ℕ) (b : Step) (h : PhraseReads factor s at c m0 m1 b) where
+  pub branch-fails : b .ok ≡ false → PhraseReads branch s at c m0 m1 b
   unfolding rankOf depth
   branch-fails e = no-reading branch s at c m0 m1 b e (h .kept) (h .len) λ n d.
       let x = says-bad factor s c m0 m1 b _ (h .says n (omega arith)) e in (seq-bad n (drop at s) _ (x .0), x .1)
 
   module _ (y : ℕ) (ey : y ≡ peek (drop (b .at) s)) (o : b .ok ≡ true) where
-    pub branch-ends : ended y ≡ true → Reads branch s at c m0 m1 b
+    pub branch-ends : branchEnds y ≡ true → PhraseReads branch s at c m0 m1 b
     unfolding rankOf depth nodeCount height fork placeCount written
     branch-ends ny = a-reading branch s at c m0 m1 b o (h .on o) (h .kept) (h .len) λ n d.
         let x = says-got factor s c m0 m1 b _ (h .says n (omega arith)) o in
@@ -268,9 +268,9 @@ module _ (s : List ℕ) (at c : ℕ) (m0 m1 : List ℕ) (b : Step) (h : Reads fa
           wrote = x .wrote;
         }
 
-  module _ (m2 : List ℕ) (r : Step) (g : Reads branch s (b .at) (b .count) m1 m2 r) where
-    module _ (y : ℕ) (ey : y ≡ peek (drop (b .at) s)) (o : b .ok ≡ true) (ne : ended y ≡ false) where
-      pub branch-more-fails : r .ok ≡ false → Reads branch s at c m0 m2 r
+  module _ (m2 : List ℕ) (r : Step) (g : PhraseReads branch s (b .at) (b .count) m1 m2 r) where
+    module _ (y : ℕ) (ey : y ≡ peek (drop (b .at) s)) (o : b .ok ≡ true) (ne : branchEnds y ≡ false) where
+      pub branch-more-fails : r .ok ≡ false → PhraseReads branch s at c m0 m2 r
       unfolding rankOf depth under
       branch-more-fails e =
           let w = h .on o in
@@ -282,7 +282,7 @@ module _ (s : List ℕ) (at c : ℕ) (m0 m1 : List ℕ) (b : Step) (h : Reads fa
           let z = says-bad branch s (b .count) m1 m2 r _ (g .says n (omega (arith, w .on, w .inside, length-drop at s, length-drop (b .at) s))) e in
           (seq-two n (drop at s) _ _ (bad (drop (r .at) s)) (x .is) (ended-at y _ ey ∙ ne) (z .0), z .1)
 
-      pub branch-more : (m3 : List ℕ) (z : Step) → r .ok ≡ true → Joined m2 m3 Sequence 0 b r z → Reads branch s at c m0 m3 z
+      pub branch-more : (m3 : List ℕ) (z : Step) → r .ok ≡ true → Joined m2 m3 Sequence 0 b r z → PhraseReads branch s at c m0 m3 z
       unfolding rankOf depth under nodeCount height fork placeCount written
       branch-more m3 z e j =
           let w = h .on o in let q = g .on e in
@@ -322,7 +322,7 @@ module _ (n : ℕ) (u : List ℕ) where
   times-got x v k e q = simp (e, q)
 
 module _ (s : List ℕ) (at c : ℕ) (m0 m1 : List ℕ) (p : Head) (h : ReadsHead s at c m0 m1 p) where
-  pub factor-fails : (r : Step) → p .ok ≡ false → (r .ok ≡ false) × (r .at ≡ p .at) → Reads factor s at c m0 m1 r
+  pub factor-fails : (r : Step) → p .ok ≡ false → (r .ok ≡ false) × (r .at ≡ p .at) → PhraseReads factor s at c m0 m1 r
   unfolding rankOf depth
   factor-fails r e er = no-reading factor s at c m0 m1 r (er .0) (h .kept) (h .len) λ n d.
       let x = head-bad s c p _ (h .says n (omega arith)) e in
@@ -342,7 +342,7 @@ module _ (s : List ℕ) (at c : ℕ) (m0 m1 : List ℕ) (p : Head) (h : ReadsHea
       }
 
   module _ (m2 : List ℕ) (r : Step) (o : p .ok ≡ true) where
-    put-kept : (n : Node) → m2 ≡ putNode m1 (p .count) n → Kept (8 * c) (room-of s at c) m0 m2
+    put-kept : (n : Node) → m2 ≡ putNode m1 (p .count) n → KeptOutside (8 * c) (room-of s at c) m0 m2
     put-kept n e =
         let w = h .on o in
         kept-on (8 * c) (room-of s at c) m0 m1 m2 (h .kept)
@@ -362,7 +362,7 @@ module _ (s : List ℕ) (at c : ℕ) (m0 m1 : List ℕ) (p : Head) (h : ReadsHea
           few-forks = omega arith;
         })
 
-    factor-bare : quantifier (drop (p .at) s) ≡ unmarked → r ≡ stepTo (p .at) p (p .node .places) → m2 ≡ putNode m1 (p .count) (p .node) → Reads factor s at c m0 m2 r
+    factor-bare : quantifier (drop (p .at) s) ≡ unmarked → r ≡ stepTo (p .at) p (p .node .places) → m2 ≡ putNode m1 (p .count) (p .node) → PhraseReads factor s at c m0 m2 r
     unfolding rankOf depth nodeCount height placeCount written timesOn
     factor-bare q e w =
         a-reading factor s at c m0 m2 r (ap (λ (x : Step). x .ok) e) (step-on (p .at) (p .node .places) ((h .on o) .few-places) (omega arith) ((h .on o) .inside) e)
@@ -380,14 +380,14 @@ module _ (s : List ℕ) (at c : ℕ) (m0 m1 : List ℕ) (p : Head) (h : ReadsHea
               ∙ ap (λ (y : List ℕ). putNode y (c + nodeCount (x .tree)) (own (x .tree) c)) (x .wrote);
         }
 
-    factor-broken : (u : List ℕ) → quantifier (drop (p .at) s) ≡ broken u → Unread s (r .ok) (r .at) u → m2 ≡ m1 → Reads factor s at c m0 m2 r
+    factor-broken : (u : List ℕ) → quantifier (drop (p .at) s) ≡ broken u → Unread s (r .ok) (r .at) u → m2 ≡ m1 → PhraseReads factor s at c m0 m2 r
     unfolding rankOf depth timesOn
     factor-broken u q e w =
-        no-reading factor s at c m0 m2 r (e .fails) (subst (Kept (8 * c) (room-of s at c) m0) (sym w) (h .kept)) (ap length w ∙ h .len) λ n d.
+        no-reading factor s at c m0 m2 r (e .fails) (subst (KeptOutside (8 * c) (room-of s at c) m0) (sym w) (h .kept)) (ap length w ∙ h .len) λ n d.
         let x = head-got s c m0 m1 p _ (h .says n (omega arith)) (h .wrote n (omega arith)) o in
         (times-got n (drop at s) _ _ (broken u) (x .is) q ∙ ap bad (e .rest), e .inside)
 
-    factor-marked : (f : Form) (z : Bool) (u : List ℕ) → quantifier (drop (p .at) s) ≡ marked f z u → FinishedMark s m1 m2 p r f z u → Reads factor s at c m0 m2 r
+    factor-marked : (f : Form) (z : Bool) (u : List ℕ) → quantifier (drop (p .at) s) ≡ marked f z u → FinishedMark s m1 m2 p r f z u → PhraseReads factor s at c m0 m2 r
     unfolding rankOf depth nodeCount height placeCount written timesOn
     factor-marked f z u q g =
         let e = g .is in
@@ -409,11 +409,11 @@ module _ (s : List ℕ) (at c : ℕ) (m0 m1 : List ℕ) (p : Head) (h : ReadsHea
               ∙ ap (λ (y : List ℕ). putNode y (c + nodeCount (x .tree)) (withMark (own (x .tree) c) f z)) (x .wrote);
         }
 
-    pub factor-ends : Finished s m1 m2 p r → Reads factor s at c m0 m2 r
+    pub factor-ends : FactorFinished s m1 m2 p r → PhraseReads factor s at c m0 m2 r
     unfolding FinishedAs
     factor-ends g = by (quantifier (drop (p .at) s)) refl (g .ends)
       where
-        by : (k : Marked) → quantifier (drop (p .at) s) ≡ k → FinishedAs s m1 m2 p r k → Reads factor s at c m0 m2 r
+        by : (k : Marked) → quantifier (drop (p .at) s) ≡ k → FinishedAs s m1 m2 p r k → PhraseReads factor s at c m0 m2 r
         by unmarked q f = factor-bare q (f .0) (f .1)
         by (broken u) q f = factor-broken u q (f .0) (f .1)
         by (marked f z u) q e = factor-marked f z u q e
@@ -432,15 +432,15 @@ module _ (n : ℕ) (u : List ℕ) where
   unfolding read primaryOn
   prim-simple h = simp (ne-eqb (peek u) 40 h)
 
-  prim-empty : (v : List ℕ) → peek u ≡ 40 → skip (rest u) ≡ v → peek v ≡ 41 → read (suc n) primary u ≡ got empty (skip (rest v))
+  prim-empty : (v : List ℕ) → peek u ≡ 40 → skipSpaces (rest u) ≡ v → peek v ≡ 41 → read (suc n) primary u ≡ got empty (skipSpaces (rest v))
   unfolding read primaryOn parted
   prim-empty v h e g = simp (eq-eqb (peek u) 40 h, e, eq-eqb (peek v) 41 g)
 
-  prim-group : (v : List ℕ) (x : Reading (Tree pattern)) → peek u ≡ 40 → skip (rest u) ≡ v → (peek v ≡ 41 → ⊥) → read n pattern v ≡ x → read (suc n) primary u ≡ closed x
+  prim-group : (v : List ℕ) (x : Reading (Tree pattern)) → peek u ≡ 40 → skipSpaces (rest u) ≡ v → (peek v ≡ 41 → ⊥) → read n pattern v ≡ x → read (suc n) primary u ≡ closed x
   unfolding read primaryOn parted
   prim-group v x h e g f = simp (eq-eqb (peek u) 40 h, e, ne-eqb (peek v) 41 g, f)
 
-shut-got : (p : Tree pattern) (v : List ℕ) → peek v ≡ 41 → closed (got p v) ≡ got (group p) (skip (rest v))
+shut-got : (p : Tree pattern) (v : List ℕ) → peek v ≡ 41 → closed (got p v) ≡ got (group p) (skipSpaces (rest v))
 unfolding closed
 shut-got p v h = simp (eq-eqb (peek v) 41 h)
 
@@ -449,7 +449,7 @@ unfolding closed
 shut-bad p v h = simp (ne-eqb (peek v) 41 h)
 
 -- an answer of no reading, and of a reading
-no-head-reading : (s : List ℕ) (at c : ℕ) (m t : List ℕ) (r : Head) → r .ok ≡ false → Kept (8 * c) (room-of s at c) m t → length t ≡ length m
+no-head-reading : (s : List ℕ) (at c : ℕ) (m t : List ℕ) (r : Head) → r .ok ≡ false → KeptOutside (8 * c) (room-of s at c) m t → length t ≡ length m
     → ((n : ℕ) → 4 * length (drop at s) ≤ n → (read (suc n) primary (drop at s) ≡ bad (drop (r .at) s)) × (r .at ≤ length s)) → ReadsHead s at c m t r
 unfolding depth rankOf SaysHead Wrote
 no-head-reading s at c m t r e kp l f =
@@ -462,7 +462,7 @@ no-head-reading s at c m t r e kp l f =
       len = l;
     }
 
-a-head-reading : (s : List ℕ) (at c : ℕ) (m t : List ℕ) (r : Head) → r .ok ≡ true → HeadOn s at c r → Kept (8 * c) (room-of s at c) m t → length t ≡ length m
+a-head-reading : (s : List ℕ) (at c : ℕ) (m t : List ℕ) (r : Head) → r .ok ≡ true → HeadOn s at c r → KeptOutside (8 * c) (room-of s at c) m t → length t ≡ length m
     → ((n : ℕ) → 4 * length (drop at s) ≤ n → ReadHead s c m t r (read (suc n) primary (drop at s))) → ReadsHead s at c m t r
 unfolding depth rankOf SaysHead Wrote
 a-head-reading s at c m t r e o kp l f =
@@ -490,19 +490,19 @@ module _ (s : List ℕ) (at c : ℕ) (m0 : List ℕ) (b : ℕ) (eb : b ≡ peek 
       }
 
   module _ (op : b ≡ 40) (from : ℕ) (k : SkipTo s (at + 1) from) (y : ℕ) (ey : y ≡ peek (drop from s)) where
-    opened : skip (rest (drop at s)) ≡ drop from s
-    opened = ap skip (rest-drop s at) ∙ sym (k .0)
+    opened : skipSpaces (rest (drop at s)) ≡ drop from s
+    opened = ap skipSpaces (rest-drop s at) ∙ sym (k .0)
 
     pub primary-empty : (r : Head) → y ≡ 41 → EmptyIs s from c r → ReadsHead s at c m0 m0 r
     unfolding nodeCount own written
     primary-empty r e g =
         let q = g .skips in
         a-head-reading s at c m0 m0 r (ap (λ (x : Head). x .ok) (g .is)) (subst (HeadOn s at c) (sym (g .is))
-        (leaf-on s at c (g .to) Empty 0 (plain Empty 0 0 0 0) (omega arith) (omega (arith, k .1, q .1)) (q .2) refl))
+        (leaf-on s at c (g .to) Empty 0 (plainNode Empty 0 0 0 0) (omega arith) (omega (arith, k .1, q .1)) (q .2) refl))
         (kept-none (8 * c) (room-of s at c) m0) refl λ i d.
         record {
           tree = empty;
-          is = prim-empty i (drop at s) (drop from s) (sym eb ∙ op) opened (sym ey ∙ e) ∙ ap (got empty) (ap skip (rest-drop s from) ∙ sym (q .0))
+          is = prim-empty i (drop at s) (drop from s) (sym eb ∙ op) opened (sym ey ∙ e) ∙ ap (got empty) (ap skipSpaces (rest-drop s from) ∙ sym (q .0))
               ∙ ap (λ (j : ℕ). got empty (drop j s)) (sym (ap (λ (x : Head). x .at) (g .is)));
           count = ap (λ (x : Head). x .count) (g .is) ∙ (let z : c ≡ c + 0 = omega arith in z);
           node = ap (λ (x : Head). x .node) (g .is);
@@ -514,8 +514,8 @@ module _ (s : List ℕ) (at c : ℕ) (m0 : List ℕ) (b : ℕ) (eb : b ≡ peek 
         let i = inside s at 40 (omega arith) (sym eb ∙ op) in
         (omega (arith, k .1, k .2), record { in-text = k .2; fits = omega (arith, k .1, k .2, f .fits); small = omega (arith, k .1, k .2, f .small) })
 
-    module _ (f : Fits s at m0 c) (m1 : List ℕ) (p : Step) (h : Reads pattern s from c m0 m1 p) where
-      inner-kept : Kept (8 * c) (room-of s at c) m0 m1
+    module _ (f : Fits s at m0 c) (m1 : List ℕ) (p : Step) (h : PhraseReads pattern s from c m0 m1 p) where
+      inner-kept : KeptOutside (8 * c) (room-of s at c) m0 m1
       inner-kept = kept-wide (8 * c) (room-of s from c) (8 * c) (room-of s at c) m0 m1 (omega arith) (omega (arith, k .1, k .2)) (h .kept)
 
       deep : (n : ℕ) → 4 * length (drop at s) ≤ n → depth pattern (drop from s) ≤ n
@@ -575,12 +575,12 @@ module _ (s : List ℕ) (at c : ℕ) (m0 : List ℕ) (b : ℕ) (eb : b ≡ peek 
             let x = says-got pattern s c m0 m1 p _ (h .says i (deep i d)) o in
             record {
               tree = group (x .tree);
-              is = read-inner i _ (x .is) ∙ shut-got (x .tree) (drop (p .at) s) e ∙ ap (got (group (x .tree))) (ap skip (rest-drop s (p .at)) ∙ sym (l .0))
+              is = read-inner i _ (x .is) ∙ shut-got (x .tree) (drop (p .at) s) e ∙ ap (got (group (x .tree))) (ap skipSpaces (rest-drop s (p .at)) ∙ sym (l .0))
                   ∙ ap (λ (j : ℕ). got (group (x .tree)) (drop j s)) (sym (ap (λ (x : Head). x .at) (q .is)));
               count = ap (λ (x : Head). x .count) (q .is) ∙ x .count;
-              node = ap (λ (x : Head). x .node) (q .is) ∙ ap (λ (i : ℕ). plain Group (i - 1) 0 (p .height + 1) (min (p .forks + p .places) 257)) (x .count)
-                  ∙ ap (λ (i : ℕ). plain Group (c + nodeCount (x .tree) - 1) 0 (i + 1) (min (p .forks + p .places) 257)) (x .high)
-                  ∙ ap (plain Group (c + nodeCount (x .tree) - 1) 0 (height (x .tree) + 1))
+              node = ap (λ (x : Head). x .node) (q .is) ∙ ap (λ (i : ℕ). plainNode Group (i - 1) 0 (p .height + 1) (min (p .forks + p .places) 257)) (x .count)
+                  ∙ ap (λ (i : ℕ). plainNode Group (c + nodeCount (x .tree) - 1) 0 (i + 1) (min (p .forks + p .places) 257)) (x .high)
+                  ∙ ap (plainNode Group (c + nodeCount (x .tree) - 1) 0 (height (x .tree) + 1))
                   (let e1 = x .placed in let e2 = x .forked in let e3 : min (p .forks + p .places) 257 ≡ min (fork (x .tree) + placeCount (x .tree)) 257 = omega arith in e3);
               wrote = x .wrote;
             }

@@ -8,9 +8,9 @@ use native.Mathlib.Omega.{arith}
 use lib.ListN.{length, getD, drop, length-drop}
 use lib.Seq.{drop-length, drop-cons}
 use Rattle.rules.specs.Language.{pattern, Tree, last}
-use Rattle.rules.specs.Reader.{Reading, got, bad, left, skip, read, rankOf, depth, whole, treeOf, stopOf}
+use Rattle.rules.specs.Reader.{Reading, got, bad, left, skipSpaces, read, rankOf, depth, wholeTree, treeOf, stopOf}
 use Rattle.trees.specs.Written.{nodeCount}
-use Rattle.primaries.specs.Readers.{Fits, Reads, SkipTo, ParsedAs, TextSays, Parsed}
+use Rattle.primaries.specs.Readers.{Fits, PhraseReads, SkipTo, ParsedAs, TextSays, Parsed}
 use Rattle.primaries.specs.declared.Step.{Step}
 use Rattle.trees.specs.Held.{Top}
 use Rattle.laws.proofs.GrammarSound.{found-written}
@@ -23,10 +23,10 @@ use Rattle.pattern.proofs.ReaderLaws.{Read, says-bad, says-got}
 pub text-fits : (s : List ℕ) (from : ℕ) (m : List ℕ) → Fits s 0 m 0 → SkipTo s 0 from → Fits s from m 0
 text-fits s from m f k = record { in-text = k .2; fits = omega (arith, f .fits, k .2); small = omega (arith, f .small) }
 
-module _ (s : List ℕ) (from : ℕ) (m0 m1 : List ℕ) (p : Step) (k : SkipTo s 0 from) (h : Reads pattern s from 0 m0 m1 p) where
-  text-is : treeOf s ≡ whole (read (4 * length s + 4) pattern (drop from s))
+module _ (s : List ℕ) (from : ℕ) (m0 m1 : List ℕ) (p : Step) (k : SkipTo s 0 from) (h : PhraseReads pattern s from 0 m0 m1 p) where
+  text-is : treeOf s ≡ wholeTree (read (4 * length s + 4) pattern (drop from s))
   unfolding treeOf
-  text-is = ap (λ (u : List ℕ). whole (read (4 * length s + 4) pattern u)) (sym (k .0))
+  text-is = ap (λ (u : List ℕ). wholeTree (read (4 * length s + 4) pattern u)) (sym (k .0))
 
   enough : depth pattern (drop from s) ≤ 4 * length s + 4
   unfolding depth rankOf
@@ -39,12 +39,12 @@ module _ (s : List ℕ) (from : ℕ) (m0 m1 : List ℕ) (p : Step) (k : SkipTo s
   stop-at : (x : Reading (Tree pattern)) (j : ℕ) → read (4 * length s + 4) pattern (drop from s) ≡ x → left x ≡ drop j s → j ≤ length s → j ≡ stopOf s
   unfolding stopOf
   stop-at x j e q i =
-      let a : length (left (read (4 * length s + 4) pattern (skip s))) ≡ length (drop j s) =
+      let a : length (left (read (4 * length s + 4) pattern (skipSpaces s))) ≡ length (drop j s) =
       ap (λ (u : List ℕ). length (left (read (4 * length s + 4) pattern u))) (sym (k .0)) ∙ ap (λ (r : Reading (Tree pattern)). length (left r)) e ∙ ap length q in
       omega (arith, length-drop j s)
 
   pub text-none : p .ok ≡ false → TextSays s m0 m1 p
-  unfolding ParsedAs whole left
+  unfolding ParsedAs wholeTree left
   text-none e =
       let x = says-bad pattern s 0 m0 m1 p _ (h .says _ enough) e in
       record { says = rw (text-is, x .0) e; stop = stop-at (bad (drop (p .at) s)) (p .at) (x .0) refl (x .1); kept = text-kept; len = h .len }
@@ -58,13 +58,13 @@ module _ (s : List ℕ) (from : ℕ) (m0 m1 : List ℕ) (p : Step) (k : SkipTo s
     stopped = stop-at (got (found .tree) (drop (p .at) s)) (p .at) (found .is) refl ((h .on o) .inside)
 
     pub text-rest : (r : Step) → (p .at ≡ length s → ⊥) → (r .ok ≡ false) × (r .at ≡ p .at) → TextSays s m0 m1 r
-    unfolding ParsedAs whole
+    unfolding ParsedAs wholeTree
     text-rest r n e =
         let l : p .at < length s = omega (arith, (h .on o) .inside, n) in
         record { says = rw (text-is, found .is, drop-cons s (p .at) 0 l) (e .0); stop = e .1 ∙ stopped; kept = text-kept; len = h .len }
 
     pub text-whole : p .at ≡ length s → TextSays s m0 m1 p
-    unfolding ParsedAs whole
+    unfolding ParsedAs wholeTree
     text-whole e =
         let q : drop (p .at) s ≡ [] = ap (λ (i : ℕ). drop i s) e ∙ drop-length s in
         record {

@@ -15,12 +15,12 @@ use primaries::simple;
 use text_bytes::peek;
 use text_bytes::skip;
 ghost use Rattle.rules.specs.Language.{Rank};
-ghost use Rattle.primaries.specs.Readers.{Fits, Reads, ReadsHead, TextSays};
+ghost use Rattle.primaries.specs.Readers.{Fits, PhraseReads, ReadsHead, TextSays};
 
 // pattern: branch, or branch | pattern. As for a branch.
 fn pattern(text: &[u8], at: usize, room: &mut [u16], count: usize) -> Step
     requires { ⌜ Fits (now text) at (now room) count ⌝ }
-    ensures { λ r. ⌜ Reads Rank.pattern (now (text .entry)) at count (now (room .entry)) (now (room .exit)) r ⌝ }
+    ensures { λ r. ⌜ PhraseReads Rank.pattern (now (text .entry)) at count (now (room .entry)) (now (room .exit)) r ⌝ }
 {
     let mut from = at;
     let mut end = count;
@@ -43,7 +43,7 @@ fn pattern(text: &[u8], at: usize, room: &mut [u16], count: usize) -> Step
 // last on, so that a long sequence takes no more stack than a short one.
 fn branch(text: &[u8], at: usize, room: &mut [u16], count: usize) -> Step
     requires { ⌜ Fits (now text) at (now room) count ⌝ }
-    ensures { λ r. ⌜ Reads Rank.branch (now (text .entry)) at count (now (room .entry)) (now (room .exit)) r ⌝ }
+    ensures { λ r. ⌜ PhraseReads Rank.branch (now (text .entry)) at count (now (room .entry)) (now (room .exit)) r ⌝ }
 {
     let mut from = at;
     let mut end = count;
@@ -65,7 +65,7 @@ fn branch(text: &[u8], at: usize, room: &mut [u16], count: usize) -> Step
 // factor: primary, and at most one quantifier
 fn factor(text: &[u8], at: usize, room: &mut [u16], count: usize) -> Step
     requires { ⌜ Fits (now text) at (now room) count ⌝ }
-    ensures { λ r. ⌜ Reads Rank.factor (now (text .entry)) at count (now (room .entry)) (now (room .exit)) r ⌝ }
+    ensures { λ r. ⌜ PhraseReads Rank.factor (now (text .entry)) at count (now (room .entry)) (now (room .exit)) r ⌝ }
 {
     let p = primary(text, at, room, count);
     let ok = p.ok;

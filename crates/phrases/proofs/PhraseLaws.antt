@@ -10,7 +10,7 @@ use lib.ListN.{drop}
 use borrow.Author.Tests.{eq-eqb, ne-eqb}
 use Rattle.rules.specs.Places.{roundPlaces}
 use Rattle.rules.specs.Language.{Form, star, plus, opt, exactly, atLeast, atMost, between, lower, upper, InBounds, branch}
-use Rattle.rules.specs.Reader.{left, rest, Marked, unmarked, broken, marked, quantifier, ended}
+use Rattle.rules.specs.Reader.{left, rest, Marked, unmarked, broken, marked, quantifier, branchEnds}
 use Rattle.marks.specs.Shows.{codeOf, highest, highOf, Shows}
 use Rattle.marks.specs.declared.Mark.{Mark}
 use Rattle.marks.specs.declared.Mark.the-variants.{Unmarked, Broken, Found}
@@ -20,15 +20,15 @@ use Rattle.laws.proofs.GrammarSound.{marked-in}
 use Rattle.trees.proofs.RoundLaws.{form-order, rounds-eq}
 use Rattle.nodes.specs.declared.Sort.{Sort}
 use Rattle.nodes.specs.declared.Node.{Node}
-use Rattle.trees.specs.Written.{plain, height, roundsOf, InOrder}
-use Rattle.primaries.specs.Readers.{Holding, FitsHead, stepTo, FinishedAs, Finished, Joins, Joined}
+use Rattle.trees.specs.Written.{plainNode, height, roundsOf, InOrder}
+use Rattle.primaries.specs.Readers.{Holding, FitsHead, stepTo, FinishedAs, FactorFinished, Joins, Joined}
 use Rattle.primaries.specs.declared.Step.{Step}
 use Rattle.primaries.specs.declared.Head.{Head}
 
 -- ---- join
 
 pub join-small : (m : List ℕ) (a b : Step) (k : Sort) (h q : ℕ) (n : Node) → Joins m a b → h ≡ max (a .height) (b .height) → q ≡ min (a .places + b .places) 257
-    → n ≡ plain k (a .count - 1) (b .count - 1) (h + 1) q → Small n
+    → n ≡ plainNode k (a .count - 1) (b .count - 1) (h + 1) q → Small n
 join-small m a b k h q n j eh eq en =
     rw en (record {
       form = omega arith;
@@ -42,7 +42,7 @@ join-small m a b k h q n j eh eq en =
     })
 
 pub join-is : (m t : List ℕ) (a b : Step) (k : Sort) (f h q : ℕ) (n : Node) → h ≡ max (a .height) (b .height) → q ≡ min (a .places + b .places) 257
-    → n ≡ plain k (a .count - 1) (b .count - 1) (h + 1) q
+    → n ≡ plainNode k (a .count - 1) (b .count - 1) (h + 1) q
     → t ≡ putNode m (b .count) n → Joined m t k f a b (record { ok = true; at = b .at; count = b .count + 1; height = h + 1; places = q; forks = f })
 join-is m t a b k f h q n eh eq en et = record { is = rw (eh, eq) refl; wrote = et ∙ ap (putNode m (b .count)) (en ∙ rw (eh, eq) refl) }
 
@@ -60,7 +60,7 @@ form-small (between n m) i = (omega arith, omega (arith, i .1, i .2), omega (ari
 
 module _ (s m : List ℕ) (p : Head) (q : Mark) where
   pub finish-none : (t : List ℕ) (r : Step) → Shows s (p .at) q (quantifier (drop (p .at) s)) → q ≡ Unmarked
-      → (r ≡ stepTo (p .at) p (p .node .places)) × (t ≡ putNode m (p .count) (p .node)) → Finished s m t p r
+      → (r ≡ stepTo (p .at) p (p .node .places)) × (t ≡ putNode m (p .count) (p .node)) → FactorFinished s m t p r
   unfolding Shows FinishedAs
   finish-none t r h e g = record { ends = by (quantifier (drop (p .at) s)) h }
     where
@@ -69,7 +69,7 @@ module _ (s m : List ℕ) (p : Head) (q : Mark) where
       by (broken u) h = let i = h .is in let z : _≡_ {A = ℕ} 0 1 = cc in absurd (omega arith)
       by (marked f z u) h = let i = h .is in let z : _≡_ {A = ℕ} 0 1 = cc in absurd (omega arith)
 
-  pub finish-broken : (to : ℕ) (r : Step) → Shows s (p .at) q (quantifier (drop (p .at) s)) → q ≡ Broken to → (r .ok ≡ false) × (r .at ≡ to) → Finished s m m p r
+  pub finish-broken : (to : ℕ) (r : Step) → Shows s (p .at) q (quantifier (drop (p .at) s)) → q ≡ Broken to → (r .ok ≡ false) × (r .at ≡ to) → FactorFinished s m m p r
   unfolding Shows FinishedAs
   finish-broken to r h e g = record { ends = by (quantifier (drop (p .at) s)) h }
     where
@@ -108,7 +108,7 @@ module _ (s m : List ℕ) (p : Head) (q : Mark) where
               .node .right;
           height = p .node .height;
           places = q2;
-        })) → Finished s m t p r
+        })) → FactorFinished s m t p r
     unfolding Shows FinishedAs
     finish-found t r eq h e g = record { ends = by (quantifier (drop (p .at) s)) refl h }
       where
@@ -190,14 +190,14 @@ module _ (s m : List ℕ) (p : Head) (q : Mark) where
 
 -- ---- where a branch ends
 
-pub ends-zero : (y : ℕ) → y ≡ 0 → true ≡ ended y
-unfolding ended
+pub ends-zero : (y : ℕ) → y ≡ 0 → true ≡ branchEnds y
+unfolding branchEnds
 ends-zero y e = simp (eq-eqb y 0 e)
 
-pub ends-bar : (y : ℕ) → (y ≡ 0 → ⊥) → y ≡ 124 → true ≡ ended y
-unfolding ended
+pub ends-bar : (y : ℕ) → (y ≡ 0 → ⊥) → y ≡ 124 → true ≡ branchEnds y
+unfolding branchEnds
 ends-bar y n e = simp (ne-eqb y 0 n, eq-eqb y 124 e)
 
-pub ends-shut : (y : ℕ) → (y ≡ 0 → ⊥) → (y ≡ 124 → ⊥) → eqb y 41 ≡ ended y
-unfolding ended
+pub ends-shut : (y : ℕ) → (y ≡ 0 → ⊥) → (y ≡ 124 → ⊥) → eqb y 41 ≡ branchEnds y
+unfolding branchEnds
 ends-shut y n m = simp (ne-eqb y 0 n, ne-eqb y 124 m)

@@ -26,11 +26,13 @@ unfoldable pub Pending : List (Tree pattern) → ℕ → ℕ → List ℕ → Ty
 Pending [] c to s = to ≡ c
 Pending (p ∷ ps) c to s = (lo : ℕ) × (to ≡ lo + nodeCount p) × Held p lo s × Pending ps c lo s
 
--- the room and the answer once all of them are joined to r, one after the other
-unfoldable pub JoinedAll : Sort → ℕ → List (Tree pattern) → ℕ → List ℕ → Step → List ℕ → Step → Type 0
-JoinedAll k forks [] to m r t w = (t ≡ m) × (w ≡ r)
-JoinedAll k forks (p ∷ ps) to m r t w =
-    (m1 : List ℕ) × (r1 : Step) × Joined m m1 k forks (partAt p to) r r1 × JoinedAll k forks ps (to - nodeCount p) m1 r1 t w
+-- Parts whose nodes end before `to` are joined, one after the other, by nodes of a sort: from the
+-- room m and the answer r to the room t and the answer w.
+module _ (k : Sort) (forks : ℕ) where
+  unfoldable pub JoinedAll : List (Tree pattern) → ℕ → List ℕ → Step → List ℕ → Step → Type 0
+  JoinedAll [] to m r t w = (t ≡ m) × (w ≡ r)
+  JoinedAll (p ∷ ps) to m r t w =
+      (m1 : List ℕ) × (r1 : Step) × Joined m m1 k forks (partAt p to) r r1 × JoinedAll ps (to - nodeCount p) m1 r1 t w
 
 pub record Chained (s : List ℕ) (c to : ℕ) (r : Step) : Type 0 where
   pub parts : List (Tree pattern)

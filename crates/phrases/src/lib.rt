@@ -16,10 +16,10 @@ use trees::rounds;
 ghost use mathlib.Core.Path.{_≡_};
 ghost use Prim.Native.Nat.{_+_, max};
 ghost use mathlib.Core.Bool.{true, false};
-ghost use Rattle.rules.specs.Reader.{ended};
+ghost use Rattle.rules.specs.Reader.{branchEnds};
 ghost use Rattle.nodes.specs.Nodes.{putNode};
 ghost use Rattle.phrases.specs.Chain.{Chained, JoinedAll};
-ghost use Rattle.primaries.specs.Readers.{FitsHead, Finished, Joins, Joined, Holding};
+ghost use Rattle.primaries.specs.Readers.{FitsHead, FactorFinished, Joins, Joined, Holding};
 
 pub fn no_step(at: usize, count: usize) -> Step
     ensures { λ r. ⌜ (r .ok ≡ false) × (r .at ≡ at) ⌝ }
@@ -79,7 +79,7 @@ fn settle(room: &mut [u16], count: usize, node: Node, at: usize) -> Step
 // A primary that is read, with the quantifier behind it.
 pub fn finish(text: &[u8], room: &mut [u16], p: Head) -> Step
     requires { ⌜ FitsHead (now text) (now room) p ⌝ }
-    ensures { λ r. ⌜ Finished (now (text .entry)) (now (room .entry)) (now (room .exit)) p r ⌝ }
+    ensures { λ r. ⌜ FactorFinished (now (text .entry)) (now (room .entry)) (now (room .exit)) p r ⌝ }
 {
     let at = p.at;
     let count = p.count;
@@ -114,7 +114,7 @@ pub fn finish(text: &[u8], room: &mut [u16], p: Head) -> Step
 
 // Whether a branch ends before the byte y; 0 stands for the text's end.
 pub fn ends(y: u8) -> bool
-    ensures { λ r. ⌜ r ≡ ended y ⌝ }
+    ensures { λ r. ⌜ r ≡ branchEnds y ⌝ }
 {
     if y == 0 {
         return true;

@@ -15,7 +15,7 @@ use Rattle.rules.specs.Basics.{pick}
 use Rattle.rules.specs.Places.{Place, pLetter, pCaret, pDollar, pFork, pEnd}
 use Rattle.laws.proofs.ThinPlaces.{Spelt}
 use Rattle.table.specs.Table.{codeAt, firstAt, laterAt, countAt, span, laterBy, laterWays, waysOf, placeBy, placeAt, placesFrom}
-use Rattle.place_words.specs.Words.{putWays, putWords, putPlace, wayCount, waysIn, putPlaces, FitsOne, PutOne, Fitting, Emitted}
+use Rattle.place_words.specs.Words.{putWays, putWords, putPlace, wayCount, waysIn, putPlaces, FitsOne, PutOne, Fitting, Emitted, placeWords}
 use Rattle.place_codes.specs.Codes.{letterCode, forkCode, laterWord}
 use Rattle.place_codes.specs.Planes.{Planed, Low, slot}
 use Rattle.place_codes.specs.declared.Plane.{Plane}
@@ -53,7 +53,7 @@ laterFor w (pFork ks) = laterWord (getD ks 1 0) w (length ks)
 laterFor w pEnd = 0
 
 place-is : (T : List ℕ) (q w : ℕ) (p : Place)
-    → putPlace T q w p ≡ putWords (putWays T w (waysFor p)) q (codeFor q p) (firstFor p) (laterFor w p) (length (waysFor p))
+    → putPlace T q w p ≡ putWords (putWays T w (waysFor p)) q (placeWords (codeFor q p) (firstFor p) (laterFor w p) (length (waysFor p)))
 unfolding putPlace putWays
 place-is T q w (pLetter c k) = refl
 place-is T q w (pCaret k) = refl
@@ -77,11 +77,11 @@ ways-length T w [] = refl
 ways-length T w (k ∷ ks) = ways-length (set T w k) (suc w) ks ∙ length-set T w k
 
 pub words-are : (T : List ℕ) (q a b c d : ℕ)
-    → set (set (set (set T (4 * q) a) (4 * q + 1) b) (4 * q + 2) c) (4 * q + 3) d ≡ putWords T q a b c d
+    → set (set (set (set T (4 * q) a) (4 * q + 1) b) (4 * q + 2) c) (4 * q + 3) d ≡ putWords T q (placeWords a b c d)
 unfolding putWords
 words-are T q a b c d = refl
 
-pub words-length : (T : List ℕ) (q a b c d : ℕ) → length (putWords T q a b c d) ≡ length T
+pub words-length : (T : List ℕ) (q a b c d : ℕ) → length (putWords T q (placeWords a b c d)) ≡ length T
 unfolding putWords
 words-length T q a b c d = simp length-set
 
@@ -177,7 +177,7 @@ module _ (o : Plane) (T : List ℕ) (b w : ℕ) (p : Place) where
 
 -- ---- words that are as they were
 
-words-kept : (T : List ℕ) (q a b c d j : ℕ) → (4 * q ≤ j → j < 4 * q + 4 → ⊥) → getD (putWords T q a b c d) j 0 ≡ getD T j 0
+words-kept : (T : List ℕ) (q a b c d j : ℕ) → (4 * q ≤ j → j < 4 * q + 4 → ⊥) → getD (putWords T q (placeWords a b c d)) j 0 ≡ getD T j 0
 unfolding putWords
 words-kept T q a b c d j h =
     getD-set-other (set (set (set T (4 * q) a) (4 * q + 1) b) (4 * q + 2) c) (4 * q + 3) j d 0 (λ e. h (omega arith) (omega arith))
@@ -248,7 +248,7 @@ record Words (U : List ℕ) (q a b c d : ℕ) : Type 0 where
   later : laterAt U q ≡ c
   count : countAt U q ≡ d
 
-words-put : (T : List ℕ) (q a b c d : ℕ) → 4 * q + 4 ≤ length T → Words (putWords T q a b c d) q a b c d
+words-put : (T : List ℕ) (q a b c d : ℕ) → 4 * q + 4 ≤ length T → Words (putWords T q (placeWords a b c d)) q a b c d
 unfolding putWords
 words-put T q a b c d h =
     let l1 = length-set T (4 * q) a in
@@ -400,7 +400,7 @@ module _ (T U : List ℕ) (q w : ℕ) (low : 4 * q + 4 ≤ w) where
       → ((j : ℕ) → w ≤ j → j < w + wayCount p → getD U j 0 ≡ getD (putPlace T q w p) j 0) → Back U o q r p
   one-back p o r s b l e f g =
       let h : Words U q (codeFor q p) (firstFor p) (laterFor w p) (length (waysFor p)) =
-      words-same (putWords (putWays T w (waysFor p)) q (codeFor q p) (firstFor p) (laterFor w p) (length (waysFor p))) U q _ _ _ _
+      words-same (putWords (putWays T w (waysFor p)) q (placeWords (codeFor q p) (firstFor p) (laterFor w p) (length (waysFor p)))) U q _ _ _ _
       (λ j a b. f j a b ∙ ap (λ (X : List ℕ). getD X j 0) (place-is T q w p))
       (words-put (putWays T w (waysFor p)) q _ _ _ _ (omega (arith, ways-length T w (waysFor p)))) in
       record { is = place-back p s l g h; keeps-to = rw (h .code, h .first, h .later, h .count) (keeps o q w r p s b e) }

@@ -20,20 +20,29 @@ unfoldable pub putWays : List ℕ → ℕ → List ℕ → List ℕ
 putWays T w [] = T
 putWays T w (k ∷ ks) = putWays (set T w k) (suc w) ks
 
--- the four words of place q
-unfoldable pub putWords : List ℕ → ℕ → ℕ → ℕ → ℕ → ℕ → List ℕ
-putWords T q code first later count =
-    set (set (set (set T (4 * q) code) (4 * q + 1) first) (4 * q + 2) later) (4 * q + 3) count
+-- the four words of a place
+pub record PlaceWords : Type 0 where
+  pub code : ℕ
+  pub first : ℕ
+  pub later : ℕ
+  pub count : ℕ
+
+abbrev pub placeWords : ℕ → ℕ → ℕ → ℕ → PlaceWords
+placeWords code first later count = record { code = code; first = first; later = later; count = count }
+
+-- these words as those of place q
+unfoldable pub putWords : List ℕ → ℕ → PlaceWords → List ℕ
+putWords T q w = set (set (set (set T (4 * q) (w .code)) (4 * q + 1) (w .first)) (4 * q + 2) (w .later)) (4 * q + 3) (w .count)
 
 -- place q, the ways of a fork from word w on
 unfoldable pub putPlace : List ℕ → ℕ → ℕ → Place → List ℕ
 unfolding putWords putWays
-putPlace T q w (pLetter c k) = putWords T q (letterCode c) k 0 0
-putPlace T q w (pCaret k) = putWords T q 26 k 0 0
-putPlace T q w (pDollar k) = putWords T q 27 k 0 0
+putPlace T q w (pLetter c k) = putWords T q (placeWords (letterCode c) k 0 0)
+putPlace T q w (pCaret k) = putWords T q (placeWords 26 k 0 0)
+putPlace T q w (pDollar k) = putWords T q (placeWords 27 k 0 0)
 putPlace T q w (pFork ks) =
-    putWords (putWays T w ks) q (forkCode (getD ks 0 0) (q + 1) (length ks)) (getD ks 0 0) (laterWord (getD ks 1 0) w (length ks)) (length ks)
-putPlace T q w pEnd = putWords T q 30 0 0 0
+    putWords (putWays T w ks) q (placeWords (forkCode (getD ks 0 0) (q + 1) (length ks)) (getD ks 0 0) (laterWord (getD ks 1 0) w (length ks)) (length ks))
+putPlace T q w pEnd = putWords T q (placeWords 30 0 0 0)
 
 unfoldable pub wayCount : Place → ℕ
 wayCount (pLetter c k) = 0
@@ -91,10 +100,10 @@ pub record Wording (T : List ℕ) (q code first later count : ℕ) : Type 0 wher
   pub later-fits : later < 65536
   pub count-fits : count < 65536
 
--- place b without ways in a plane, where its flags have so many values
-unfoldable pub putSingle : List ℕ → Plane → ℕ → ℕ → ℕ → ℕ → List ℕ
+-- place b without ways in a plane, with these words, where its flags have so many values
+unfoldable pub putSingle : List ℕ → Plane → ℕ → PlaceWords → ℕ → List ℕ
 unfolding putWords slot
-putSingle T o b code k values = pick (ltb (o .flags) values) (putWords T (slot o b) code k 0 0) (putWords T (slot o b) 30 0 0 0)
+putSingle T o b w values = pick (ltb (o .flags) values) (putWords T (slot o b) w) (putWords T (slot o b) (placeWords 30 0 0 0))
 
 pub record Single (T : List ℕ) (o : Plane) (b code k : ℕ) : Type 0 where
   pub planed : Planed o
@@ -108,7 +117,7 @@ pub record Single (T : List ℕ) (o : Plane) (b code k : ℕ) : Type 0 where
 -- the words of the fork at place q, whose ways stand from word w to word `to`
 abbrev pub putFork : List ℕ → ℕ → ℕ → ℕ → List ℕ
 putFork T q w to =
-    putWords T q (forkCode (getD T w 0) (q + 1) (to - w)) (getD T w 0) (laterWord (getD T (w + 1) 0) w (to - w)) (to - w)
+    putWords T q (placeWords (forkCode (getD T w 0) (q + 1) (to - w)) (getD T w 0) (laterWord (getD T (w + 1) 0) w (to - w)) (to - w))
 
 pub record ForkNeeds (T : List ℕ) (q w to : ℕ) : Type 0 where
   pub long : 4 * q + 4 ≤ length T

@@ -13,12 +13,12 @@ ghost use Prim.Native.Nat.{_-_, _≤_};
 ghost use lib.ListN.{length};
 ghost use Rattle.rules.specs.Basics.{has};
 ghost use Rattle.table.specs.Table.{span};
-ghost use Rattle.place_words.specs.Words.{putWords, putFork, putSingle, Wording, Single, ForkNeeds, WayPut, WayNeeds};
+ghost use Rattle.place_words.specs.Words.{putWords, putFork, putSingle, Wording, Single, ForkNeeds, WayPut, WayNeeds, placeWords};
 
 // The words of place q.
 fn put_words(table: &mut [u16], q: usize, code: usize, first: usize, later: usize, count: usize)
     requires { ⌜ Wording (now table) q code first later count ⌝ }
-    ensures { λ _. ⌜ now (table .exit) ≡ putWords (now (table .entry)) q code first later count ⌝ }
+    ensures { λ _. ⌜ now (table .exit) ≡ putWords (now (table .entry)) q (placeWords code first later count) ⌝ }
 {
     let at = WORDS * q;
     table[at] = code as u16;
@@ -31,7 +31,7 @@ fn put_words(table: &mut [u16], q: usize, code: usize, first: usize, later: usiz
 // the last way, here w, as all functions do that put places.
 pub fn put_place(table: &mut [u16], b: usize, w: usize, code: usize, k: usize) -> usize
     requires { ⌜ Wording (now table) b code k 0 0 ⌝ }
-    ensures { λ r. ⌜ (r ≡ w) × (now (table .exit) ≡ putWords (now (table .entry)) b code k 0 0) ⌝ }
+    ensures { λ r. ⌜ (r ≡ w) × (now (table .exit) ≡ putWords (now (table .entry)) b (placeWords code k 0 0)) ⌝ }
 {
     put_words(table, b, code, k, 0, 0);
     w
@@ -49,7 +49,7 @@ pub fn put_single(
     values: usize,
 ) -> usize
     requires { ⌜ Single (now table) o b code k ⌝ }
-    ensures { λ r. ⌜ (r ≡ w) × (now (table .exit) ≡ putSingle (now (table .entry)) o b code k values) ⌝ }
+    ensures { λ r. ⌜ (r ≡ w) × (now (table .exit) ≡ putSingle (now (table .entry)) o b (placeWords code k 0 0) values) ⌝ }
 {
     let q = slot_of(o, b);
     if o.flags < values {

@@ -27,8 +27,8 @@ use Rattle.place_codes.specs.Planes.{Planed, Low, slot, behind, stateBy}
 use Rattle.place_codes.specs.declared.Plane.{Plane}
 use Rattle.place_codes.specs.declared.Behind.{Behind}
 use Rattle.place_codes.proofs.CodeLaws.{slot-low, product-low}
-use Rattle.place_words.specs.Words.{putWords, putPlace, wayCount, waysIn, putPlaces, Wording, PutOne, Emitted}
-use Rattle.forks.specs.Emitting.{treePlaces, Emitting, Unrolling, Tabled}
+use Rattle.place_words.specs.Words.{putWords, putPlace, wayCount, waysIn, putPlaces, Wording, PutOne, Emitted, placeWords}
+use Rattle.forks.specs.Emitting.{treePlaces, Emitting, Unrolling, PlacesTabled}
 use Rattle.place_words.proofs.TableLaws.{Sound, Keeps, Back, waysIn-append, places-length, words-length, places-back, places-are, places-kept, emitted-two, emitted-one}
 use Rattle.unrolling.proofs.CodeLaws.{tree-length}
 use Rattle.places.specs.Flat.{Flat, planePlaces}
@@ -114,14 +114,14 @@ module _ (o : Plane) (s : List ℕ) (top P : ℕ) (T : List ℕ) (w : ℕ) (h : 
             count-fits = omega arith;
           }
 
-      pub plane-done : (T2 : List ℕ) (to : ℕ) → (to ≡ r) × (T2 ≡ putWords T1 q 30 0 0 0) → Emitted o T T2 0 w to (planePlaces o (h .tree) P)
+      pub plane-done : (T2 : List ℕ) (to : ℕ) → (to ≡ r) × (T2 ≡ putWords T1 q (placeWords 30 0 0 0)) → Emitted o T T2 0 w to (planePlaces o (h .tree) P)
       unfolding putPlace wayCount
       plane-done T2 to e =
-          let z : PutOne T1 T2 (slot o (P - 1)) r to pEnd = record { is = e .1 ∙ ap (λ (x : ℕ). putWords T1 x 30 0 0 0) (eq .0); way = omega (arith, e .0) } in
+          let z : PutOne T1 T2 (slot o (P - 1)) r to pEnd = record { is = e .1 ∙ ap (λ (x : ℕ). putWords T1 x (placeWords 30 0 0 0)) (eq .0); way = omega (arith, e .0) } in
           emitted-two o T T1 T2 0 w (P - 1) r to (treePlaces o (h .tree) 0 (stateBy o 1 (P - 1))) (pEnd ∷ []) (omega (arith, long (stateBy o 1 (P - 1)))) put
           (emitted-one o T1 (P - 1) r pEnd T2 to z)
 
-      pub plane-length : (T2 : List ℕ) → T2 ≡ putWords T1 q 30 0 0 0 → length T2 ≡ length T
+      pub plane-length : (T2 : List ℕ) → T2 ≡ putWords T1 q (placeWords 30 0 0 0) → length T2 ≡ length T
       plane-length T2 e = ap length e ∙ words-length T1 q 30 0 0 0 ∙ same
 
 -- ---- all planes
@@ -326,7 +326,7 @@ module _ (s : List ℕ) (top P F : ℕ) (T0 : List ℕ) where
     keeps : (q : ℕ) → q < P * F → Keeps (4 * (P * F)) q (length T) (codeAt T q) (firstAt T q) (laterAt T q) (countAt T q)
     keeps q l = each q l .keeps-to
 
-    pub unroll-done : Tabled (h .tree) (P * F) T0 T way
+    pub unroll-done : PlacesTabled (h .tree) (P * F) T0 T way
     unfolding placesIn
     unroll-done =
         let last : F - flags ≡ 0 = omega arith in

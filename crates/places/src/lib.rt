@@ -10,7 +10,7 @@ use table::END;
 use table::WORDS;
 use unrolling::emit;
 ghost use Rattle.place_words.specs.Words.{Emitted};
-ghost use Rattle.forks.specs.Emitting.{Unrolling, Tabled};
+ghost use Rattle.forks.specs.Emitting.{Unrolling, PlacesTabled};
 ghost use Rattle.places.specs.Flat.{Flat, planePlaces};
 ghost use Prim.Native.Nat.{_*_};
 
@@ -44,7 +44,7 @@ fn unroll_plane(
 // word behind the last way.
 pub fn unroll(room: &[u16], top: usize, places: usize, factor: usize, table: &mut [u16]) -> usize
     requires { ⌜ Unrolling (now room) top places factor (now table) ⌝ }
-    ensures { λ r. ⌜ ((h : Unrolling (now (room .entry)) top places factor (now (table .entry))) → Tabled (h .tree) (places * factor) (now (table .entry)) (now (table .exit)) r) ⌝ }
+    ensures { λ r. ⌜ ((h : Unrolling (now (room .entry)) top places factor (now (table .entry))) → PlacesTabled (h .tree) (places * factor) (now (table .entry)) (now (table .exit)) r) ⌝ }
 {
     let mut way = WORDS * (places * factor);
     let mut flags = 0usize;

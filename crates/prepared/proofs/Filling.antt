@@ -33,7 +33,7 @@ use Rattle.reading.specs.Reading.{queryAnswer, Asked}
 use Rattle.reading.specs.declared.Query.{Query}
 use Rattle.prepared.specs.declared.Prepared.{Prepared}
 use Rattle.table_room.specs.Words.{measuresAt, testsAt, needed, Sizing}
-use Rattle.prepared.specs.Ready.{refusal, Ready, Fills, PreparedAs}
+use Rattle.prepared.specs.Ready.{refusedPrepared, Ready, Fills, PreparedAs}
 use Rattle.prepared.proofs.Clear.{few-places, few-values, no-answer}
 
 -- ---- the table is filled
@@ -98,7 +98,7 @@ module _ (s nodes defines measures : List ℕ) (q : Query) (T₀ : List ℕ) (f 
       let e : length (textOf s) ≡ min (f .whole .parts .len) (length (drop (f .whole .parts .start) s)) = ap length (sym (d .text)) ∙ length-take _ _ in
       omega (arith, e, d .short)
 
-  module _ (T₁ : List ℕ) (m : M.Tabled measures (q .measures) T₀ T₁ (measuresAt (q .places * q .factor))) where
+  module _ (T₁ : List ℕ) (m : M.MeasuresTabled measures (q .measures) T₀ T₁ (measuresAt (q .places * q .factor))) where
     pub fill-tests : T.Preparable s (q .columns) defines (q .letters) T₁ (testsAt (q .places * q .factor))
     fill-tests =
         record {
@@ -132,8 +132,8 @@ module _ (s nodes defines measures : List ℕ) (q : Query) (T₀ : List ℕ) (f 
             small = let l = f .small in let a = t .len in let b = m .long in omega arith;
           }
 
-      module _ (T₃ : List ℕ) (end : ℕ) (u : (h : E.Unrolling nodes (q .top) (q .places) (q .factor) T₂) → E.Tabled (h .tree) (q .places * q .factor) T₂ T₃ end) where
-        tabled : E.Tabled tree (q .places * q .factor) T₂ T₃ end
+      module _ (T₃ : List ℕ) (end : ℕ) (u : (h : E.Unrolling nodes (q .top) (q .places) (q .factor) T₂) → E.PlacesTabled (h .tree) (q .places * q .factor) T₂ T₃ end) where
+        tabled : E.PlacesTabled tree (q .places * q .factor) T₂ T₃ end
         unfolding fill-places
         tabled = u fill-places
 
@@ -184,7 +184,7 @@ module _ (s nodes defines measures : List ℕ) (q : Query) (T₀ : List ℕ) (f 
 -- ---- the ways through `prepare_in`
 
 module _ (s measures₀ nodes defines measures : List ℕ) (q : Query) (a : Asked s measures₀ nodes defines measures q) (T : List ℕ) where
-  pub not-ready : (q .answer ≡ 0 → ⊥) → (p : Prepared) → p ≡ refusal (q .answer) (q .offset) → PreparedAs s T T p
+  pub not-ready : (q .answer ≡ 0 → ⊥) → (p : Prepared) → p ≡ refusedPrepared (q .answer) (q .offset) → PreparedAs s T T p
   not-ready d p e =
       rw e
       (record {
@@ -215,7 +215,7 @@ module _ (s measures₀ nodes defines measures : List ℕ) (q : Query) (a : Aske
         }
 
     module _ (k : ℕ) (ek : (k ≡ needed s defines (q .places * q .factor) (q .letters)) × (k ≤ 16076)) (t : Bool) (et : t ≡ (ltb (length T) k || ltb 65535 (length T))) where
-      pub too-short : t ≡ true → (p : Prepared) → p ≡ refusal 255 0 → PreparedAs s T T p
+      pub too-short : t ≡ true → (p : Prepared) → p ≡ refusedPrepared 255 0 → PreparedAs s T T p
       too-short f p e =
           rw e
           (record {

@@ -45,8 +45,8 @@ pub record Ready (q T : List ℕ) (p : Prepared) : Type 0 where
   pub target-is : p .target ≡ parts q .skipLetter
 
 -- a query that is not prepared
-abbrev pub refusal : ℕ → ℕ → Prepared
-refusal a k = record { answer = a; offset = k; places = 0; columns = 0; count = 0; skip = 0; target = 0 }
+abbrev pub refusedPrepared : ℕ → ℕ → Prepared
+refusedPrepared a k = record { answer = a; offset = k; places = 0; columns = 0; count = 0; skip = 0; target = 0 }
 
 -- what is told of a query: its own answer with its offset, or 0 where it is ready
 pub record Given (q T : List ℕ) (p : Prepared) : Type 0 where

@@ -18,7 +18,7 @@ use table_room::words_needed;
 use tests::put_tests;
 ghost use mathlib.Core.Path.{_≡_};
 ghost use Rattle.reading.specs.Reading.{Nodes};
-ghost use Rattle.prepared.specs.Ready.{refusal, Fills, Ready, PreparedAs};
+ghost use Rattle.prepared.specs.Ready.{refusedPrepared, Fills, Ready, PreparedAs};
 
 // A prepared query beside its table: its answer, with the offset of 5 and 14; where that is 0, the
 // places in its table, one for each value of their flags, the columns of a row, how many measures
@@ -42,7 +42,7 @@ pub const NO_ROOM: usize = 255;
 pub const MOST_WORDS: usize = 16076;
 
 fn not_prepared(answer: usize, offset: usize) -> Prepared
-    ensures { λ r. ⌜ r ≡ refusal answer offset ⌝ }
+    ensures { λ r. ⌜ r ≡ refusedPrepared answer offset ⌝ }
 {
     Prepared {
         answer,

@@ -11,12 +11,12 @@ use lib.Dec.{eqb}
 use lib.ListN.{length, drop}
 use borrow.Author.Tests.{eq-eqb, ne-eqb}
 use Rattle.rules.specs.Basics.{isLetter}
-use Rattle.rules.specs.Reader.{left, peek, rest, skip, simple}
+use Rattle.rules.specs.Reader.{left, peek, rest, skipSpaces, simple}
 use Rattle.text_bytes.proofs.ByteLaws.{inside, rest-drop}
 use Rattle.nodes.specs.declared.Sort.{Sort}
 use Rattle.nodes.specs.declared.Sort.the-variants.{Letter, Anchor, Empty, Group}
 use Rattle.nodes.specs.declared.Node.{Node}
-use Rattle.trees.specs.Written.{plain, nodeCount, height, own}
+use Rattle.trees.specs.Written.{plainNode, nodeCount, height, own}
 use Rattle.primaries.specs.Readers.{Unread, SaysHead, HeadOn, SimpleSays, SkipTo, EmptyIs, ShutNeeds, ShutIs}
 use Rattle.primaries.specs.declared.Step.{Step}
 use Rattle.primaries.specs.declared.Head.{Head}
@@ -26,7 +26,7 @@ clash p q = absurd (true≢false (sym p ∙ q))
 
 -- ---- letters and anchors
 
-pub leaf-on : (s : List ℕ) (at c to : ℕ) (k : Sort) (w : ℕ) (n : Node) → w ≤ 1 → at + 1 ≤ to → to ≤ length s → n ≡ plain k 0 0 0 w
+pub leaf-on : (s : List ℕ) (at c to : ℕ) (k : Sort) (w : ℕ) (n : Node) → w ≤ 1 → at + 1 ≤ to → to ≤ length s → n ≡ plainNode k 0 0 0 w
     → HeadOn s at c (record { ok = true; at = to; count = c; node = n })
 leaf-on s at c to k w n hw h l e =
     record {
@@ -51,36 +51,36 @@ module _ (s : List ℕ) (at c b : ℕ) (eb : b ≡ peek (drop at s)) where
   is-ne k e = ne-eqb (peek (drop at s)) k (λ x. e (eb ∙ x))
 
   module _ (to : ℕ) (n : Node) where
-    pub simple-caret : b ≡ 94 → SkipTo s (at + 1) to → n ≡ plain (Anchor b) 0 0 0 1 → SimpleSays s at c (record { ok = true; at = to; count = c; node = n })
+    pub simple-caret : b ≡ 94 → SkipTo s (at + 1) to → n ≡ plainNode (Anchor b) 0 0 0 1 → SimpleSays s at c (record { ok = true; at = to; count = c; node = n })
     unfolding simple SaysHead nodeCount own
     simple-caret e k en =
         record {
           says = simp (is-eq 94 e) (record {
             ok = refl;
-            rest = ap skip (rest-drop s at) ∙ sym (k .0);
+            rest = ap skipSpaces (rest-drop s at) ∙ sym (k .0);
             count = omega arith;
             node = en
-                ∙ ap (λ (x : ℕ). plain (Anchor x) 0 0 0 1) e;
+                ∙ ap (λ (x : ℕ). plainNode (Anchor x) 0 0 0 1) e;
           });
           on = λ o. leaf-on s at c to (Anchor b) 1 n (omega arith) (k .1) (k .2) en;
         }
 
-    pub simple-dollar : b ≡ 36 → SkipTo s (at + 1) to → n ≡ plain (Anchor b) 0 0 0 1 → SimpleSays s at c (record { ok = true; at = to; count = c; node = n })
+    pub simple-dollar : b ≡ 36 → SkipTo s (at + 1) to → n ≡ plainNode (Anchor b) 0 0 0 1 → SimpleSays s at c (record { ok = true; at = to; count = c; node = n })
     unfolding simple SaysHead nodeCount own
     simple-dollar e k en =
         record {
           says = simp (is-ne 94 (λ x. omega arith), is-eq 36 e) (record {
             ok = refl;
-            rest = ap skip (rest-drop s at) ∙ sym (k .0);
+            rest = ap skipSpaces (rest-drop s at) ∙ sym (k .0);
             count = omega arith;
             node = en
-                ∙ ap (λ (x : ℕ). plain (Anchor x) 0 0 0 1) e;
+                ∙ ap (λ (x : ℕ). plainNode (Anchor x) 0 0 0 1) e;
           });
           on = λ o. leaf-on s at c to (Anchor b) 1 n (omega arith) (k .1) (k .2) en;
         }
 
     pub simple-letter : (t u : Bool) (d : ℕ) → (b ≡ 94 → ⊥) → (b ≡ 36 → ⊥) → t ≡ isLetter b → t ≡ true → d ≡ peek (drop (at + 1) s) → u ≡ isLetter d → u ≡ false
-        → SkipTo s (at + 1) to → n ≡ plain (Letter b) 0 0 0 1 → SimpleSays s at c (record { ok = true; at = to; count = c; node = n })
+        → SkipTo s (at + 1) to → n ≡ plainNode (Letter b) 0 0 0 1 → SimpleSays s at c (record { ok = true; at = to; count = c; node = n })
     unfolding simple SaysHead nodeCount own
     simple-letter t u d e1 e2 et ot ed eu ou k en =
         record {
@@ -90,7 +90,7 @@ module _ (s : List ℕ) (at c b : ℕ) (eb : b ≡ peek (drop at s)) where
             (let z : isLetter (peek (drop at s)) ≡ true = ap isLetter (sym eb) ∙ sym et ∙ ot in z),
             (let z : isLetter (peek (rest (drop at s))) ≡ false = ap (λ (x : List ℕ). isLetter (peek x)) (rest-drop s at) ∙ ap isLetter (sym ed) ∙ sym eu ∙ ou in z),
           )
-              (record { ok = refl; rest = ap skip (rest-drop s at) ∙ sym (k .0); count = omega arith; node = en ∙ ap (λ (x : ℕ). plain (Letter x) 0 0 0 1) eb });
+              (record { ok = refl; rest = ap skipSpaces (rest-drop s at) ∙ sym (k .0); count = omega arith; node = en ∙ ap (λ (x : ℕ). plainNode (Letter x) 0 0 0 1) eb });
           on = λ o. leaf-on s at c to (Letter b) 1 n (omega arith) (k .1) (k .2) en;
         }
 
@@ -135,7 +135,7 @@ before-end s at b k eb e h = inside s at k h (sym eb ∙ e)
 
 -- ---- parentheses
 
-pub empty-is : (s : List ℕ) (at c to : ℕ) (n : Node) → SkipTo s (at + 1) to → n ≡ plain Empty 0 0 0 0 → EmptyIs s at c (record { ok = true; at = to; count = c; node = n })
+pub empty-is : (s : List ℕ) (at c to : ℕ) (n : Node) → SkipTo s (at + 1) to → n ≡ plainNode Empty 0 0 0 0 → EmptyIs s at c (record { ok = true; at = to; count = c; node = n })
 empty-is s at c to n k e = record { to = to; skips = k; is = rw e refl }
 
 module _ (s : List ℕ) (p : Step) where
@@ -155,7 +155,7 @@ module _ (s : List ℕ) (p : Step) where
     pub shut-open : (r : Head) → (b ≡ 41 → ⊥) → (r .ok ≡ false) × (r .at ≡ p .at) → ShutIs s p r
     shut-open r nb er = record { unread = λ x. er; open-still = λ x y. er; shuts = λ x y. absurd (nb (eb ∙ y)) }
 
-    pub shut-whole : (to q : ℕ) (n : Node) → b ≡ 41 → SkipTo s (p .at + 1) to → q ≡ min (p .forks + p .places) 257 → n ≡ plain Group (p .count - 1) 0 (p .height + 1) q
+    pub shut-whole : (to q : ℕ) (n : Node) → b ≡ 41 → SkipTo s (p .at + 1) to → q ≡ min (p .forks + p .places) 257 → n ≡ plainNode Group (p .count - 1) 0 (p .height + 1) q
         → ShutIs s p (record { ok = true; at = to; count = p .count; node = n })
     shut-whole to q n eb2 k eq en =
         record { unread = λ x. clash o x; open-still = λ x y. absurd (y (sym eb ∙ eb2)); shuts = λ x y. record { to = to; skips = k; is = rw (en, eq) refl } }

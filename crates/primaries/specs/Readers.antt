@@ -7,7 +7,7 @@ use mathlib.Core.Option.{Option, none, some}
 use Prim.Native.Nat.{ℕ, _+_, _*_, _-_, _≤_, _<_, max, min}
 use lib.ListN.{length, getD, drop}
 use Rattle.rules.specs.Language.{Form, lower, upper, Rank, pattern, branch, factor, primary, Tree}
-use Rattle.rules.specs.Reader.{Reading, got, bad, peek, skip, Marked, unmarked, broken, marked, quantifier, simple, read, depth, treeOf, stopOf}
+use Rattle.rules.specs.Reader.{Reading, got, bad, peek, skipSpaces, Marked, unmarked, broken, marked, quantifier, simple, read, depth, treeOf, stopOf}
 use Rattle.rules.specs.Places.{roundPlaces, fork, placeCount}
 use Rattle.nodes.specs.Nodes.{putNode, Small}
 use Rattle.nodes.specs.declared.Sort.{Sort}
@@ -15,7 +15,7 @@ use Rattle.nodes.specs.declared.Sort.the-variants.{Empty, Group}
 use Rattle.nodes.specs.declared.Node.{Node}
 use Rattle.primaries.specs.declared.Step.{Step}
 use Rattle.primaries.specs.declared.Head.{Head}
-use Rattle.trees.specs.Written.{plain, withMark, nodeCount, height, own, written}
+use Rattle.trees.specs.Written.{plainNode, withMark, nodeCount, height, own, written}
 
 -- an alternation's fork
 abbrev pub forkOf : (k : Rank) → Tree k → ℕ
@@ -27,8 +27,8 @@ forkOf primary t = 0
 -- ---- what the readers need and promise
 
 -- words outside lo to hi are as they were
-abbrev pub Kept : ℕ → ℕ → List ℕ → List ℕ → Type 0
-Kept lo hi s t = (j : ℕ) → (lo ≤ j → j < hi → ⊥) → getD t j 0 ≡ getD s j 0
+abbrev pub KeptOutside : ℕ → ℕ → List ℕ → List ℕ → Type 0
+KeptOutside lo hi s t = (j : ℕ) → (lo ≤ j → j < hi → ⊥) → getD t j 0 ≡ getD s j 0
 
 -- room for two nodes for each byte that is left
 pub record Fits (text : List ℕ) (at : ℕ) (room : List ℕ) (count : ℕ) : Type 0 where
@@ -36,7 +36,7 @@ pub record Fits (text : List ℕ) (at : ℕ) (room : List ℕ) (count : ℕ) : T
   pub fits : 8 * (count + 2 * (length text - at)) ≤ length room
   pub small : count + 2 * (length text - at) < 60000
 
-pub record Done (k : Rank) (text : List ℕ) (c : ℕ) (room exit : List ℕ) (r : Step) (x : Tree k) (u : List ℕ) : Type 0 where
+pub record PhraseDone (k : Rank) (text : List ℕ) (c : ℕ) (room exit : List ℕ) (r : Step) (x : Tree k) (u : List ℕ) : Type 0 where
   pub ok : r .ok ≡ true
   pub rest : u ≡ drop (r .at) text
   pub count : r .count ≡ c + nodeCount x
@@ -52,9 +52,11 @@ pub record Unread (text : List ℕ) (ok : Bool) (at : ℕ) (u : List ℕ) : Type
   pub rest : u ≡ drop at text
   pub inside : at ≤ length text
 
-unfoldable pub Says : (k : Rank) → List ℕ → ℕ → List ℕ → List ℕ → Step → Reading (Tree k) → Type 0
-Says k text c room exit r (bad u) = Unread text (r .ok) (r .at) u
-Says k text c room exit r (got x u) = Done k text c room exit r x u
+-- the answer r of the reader of a rank, and the room as it leaves it, say what is read
+module _ (k : Rank) (text : List ℕ) (c : ℕ) (room exit : List ℕ) (r : Step) where
+  unfoldable pub Says : Reading (Tree k) → Type 0
+  Says (bad u) = Unread text (r .ok) (r .at) u
+  Says (got x u) = PhraseDone k text c room exit r x u
 
 pub record On (text : List ℕ) (at c : ℕ) (r : Step) : Type 0 where
   pub on : at < r .at
@@ -67,10 +69,10 @@ pub record On (text : List ℕ) (at c : ℕ) (r : Step) : Type 0 where
 
 -- what the reader of a rank promises of its answer r: at every depth that is enough it says what is
 -- read
-pub record Reads (k : Rank) (text : List ℕ) (at c : ℕ) (room exit : List ℕ) (r : Step) : Type 0 where
+pub record PhraseReads (k : Rank) (text : List ℕ) (at c : ℕ) (room exit : List ℕ) (r : Step) : Type 0 where
   pub says : (n : ℕ) → depth k (drop at text) ≤ n → Says k text c room exit r (read n k (drop at text))
   pub on : r .ok ≡ true → On text at c r
-  pub kept : Kept (8 * c) (8 * (c + 2 * (length text - at))) room exit
+  pub kept : KeptOutside (8 * c) (8 * (c + 2 * (length text - at))) room exit
   pub len : length exit ≡ length room
 
 -- the same for a primary
@@ -106,7 +108,7 @@ pub record ReadsHead (text : List ℕ) (at c : ℕ) (room exit : List ℕ) (r : 
   pub says : (n : ℕ) → depth primary (drop at text) ≤ n → SaysHead text c r (read n primary (drop at text))
   pub wrote : (n : ℕ) → depth primary (drop at text) ≤ n → Wrote c room exit (read n primary (drop at text))
   pub on : r .ok ≡ true → HeadOn text at c r
-  pub kept : Kept (8 * c) (8 * (c + 2 * (length text - at))) room exit
+  pub kept : KeptOutside (8 * c) (8 * (c + 2 * (length text - at))) room exit
   pub len : length exit ≡ length room
 
 -- ---- the steps
@@ -132,12 +134,14 @@ pub record FinishedMark (text room exit : List ℕ) (p : Head) (r : Step) (f : F
   pub inside : to ≤ length text
   pub wrote : exit ≡ putNode room (p .count) (withMark (p .node) f z)
 
-unfoldable pub FinishedAs : List ℕ → List ℕ → List ℕ → Head → Step → Marked → Type 0
-FinishedAs text room exit p r unmarked = (r ≡ stepTo (p .at) p (p .node .places)) × (exit ≡ putNode room (p .count) (p .node))
-FinishedAs text room exit p r (broken u) = Unread text (r .ok) (r .at) u × (exit ≡ room)
-FinishedAs text room exit p r (marked f z u) = FinishedMark text room exit p r f z u
+-- a primary p is finished to a factor with the answer r, by the quantifier behind it
+module _ (text room exit : List ℕ) (p : Head) (r : Step) where
+  unfoldable pub FinishedAs : Marked → Type 0
+  FinishedAs unmarked = (r ≡ stepTo (p .at) p (p .node .places)) × (exit ≡ putNode room (p .count) (p .node))
+  FinishedAs (broken u) = Unread text (r .ok) (r .at) u × (exit ≡ room)
+  FinishedAs (marked f z u) = FinishedMark text room exit p r f z u
 
-pub record Finished (text room exit : List ℕ) (p : Head) (r : Step) : Type 0 where
+pub record FactorFinished (text room exit : List ℕ) (p : Head) (r : Step) : Type 0 where
   pub ends : FinishedAs text room exit p r (quantifier (drop (p .at) text))
 
 pub record Joins (room : List ℕ) (a b : Step) : Type 0 where
@@ -152,16 +156,16 @@ pub record Joins (room : List ℕ) (a b : Step) : Type 0 where
 
 pub record Joined (room exit : List ℕ) (k : Sort) (forks : ℕ) (a b r : Step) : Type 0 where
   pub is : r ≡ record { ok = true; at = b .at; count = b .count + 1; height = max (a .height) (b .height) + 1; places = min (a .places + b .places) 257; forks = forks }
-  pub wrote : exit ≡ putNode room (b .count) (plain k (a .count - 1) (b .count - 1) (max (a .height) (b .height) + 1) (min (a .places + b .places) 257))
+  pub wrote : exit ≡ putNode room (b .count) (plainNode k (a .count - 1) (b .count - 1) (max (a .height) (b .height) + 1) (min (a .places + b .places) 257))
 
 -- spaces are skipped from `at` to `to`
 abbrev pub SkipTo : List ℕ → ℕ → ℕ → Type 0
-SkipTo s at to = (drop to s ≡ skip (drop at s)) × (at ≤ to) × (to ≤ length s)
+SkipTo s at to = (drop to s ≡ skipSpaces (drop at s)) × (at ≤ to) × (to ≤ length s)
 
 pub record EmptyIs (text : List ℕ) (at c : ℕ) (r : Head) : Type 0 where
   pub to : ℕ
   pub skips : SkipTo text (at + 1) to
-  pub is : r ≡ record { ok = true; at = to; count = c; node = plain Empty 0 0 0 0 }
+  pub is : r ≡ record { ok = true; at = to; count = c; node = plainNode Empty 0 0 0 0 }
 
 pub record ShutNeeds (p : Step) : Type 0 where
   pub some : p .ok ≡ true → 1 ≤ p .count
@@ -172,7 +176,7 @@ pub record ShutNeeds (p : Step) : Type 0 where
 pub record Shut (text : List ℕ) (p : Step) (r : Head) : Type 0 where
   pub to : ℕ
   pub skips : SkipTo text (p .at + 1) to
-  pub is : r ≡ record { ok = true; at = to; count = p .count; node = plain Group (p .count - 1) 0 (p .height + 1) (min (p .forks + p .places) 257) }
+  pub is : r ≡ record { ok = true; at = to; count = p .count; node = plainNode Group (p .count - 1) 0 (p .height + 1) (min (p .forks + p .places) 257) }
 
 pub record ShutIs (text : List ℕ) (p : Step) (r : Head) : Type 0 where
   pub unread : p .ok ≡ false → (r .ok ≡ false) × (r .at ≡ p .at)

@@ -5,7 +5,7 @@ use nodes::Sort;
 ghost use mathlib.Core.Path.{_≡_};
 ghost use Prim.Native.Nat.{_+_, _*_, _≤_, _<_};
 ghost use lib.ListN.{length};
-ghost use Rattle.nodes.specs.Nodes.{putNode, wordOf, bitOf, Small};
+ghost use Rattle.nodes.specs.Nodes.{putNode, wordOf, bitOfBool, Small};
 
 fn word_of(s: Sort) -> u16
     ensures { λ r. ⌜ r ≡ wordOf s ⌝ }
@@ -21,7 +21,7 @@ fn word_of(s: Sort) -> u16
 }
 
 fn bit_of(b: bool) -> usize
-    ensures { λ r. ⌜ (r ≡ bitOf b) × (r ≤ 1) ⌝ }
+    ensures { λ r. ⌜ (r ≡ bitOfBool b) × (r ≤ 1) ⌝ }
 {
     if b { 1 } else { 0 }
 }
@@ -29,7 +29,7 @@ fn bit_of(b: bool) -> usize
 // A form and its reluctant mark in one word.
 fn form_word(form: usize, lazy: bool) -> u16
     requires { ⌜ form < 32768 ⌝ }
-    ensures { λ r. ⌜ r ≡ form * 2 + bitOf lazy ⌝ }
+    ensures { λ r. ⌜ r ≡ form * 2 + bitOfBool lazy ⌝ }
 {
     (form * 2 + bit_of(lazy)) as u16
 }

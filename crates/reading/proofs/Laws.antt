@@ -32,11 +32,11 @@ use Rattle.judge.specs.declared.Verdict.{Verdict}
 use Rattle.judge.specs.Judged.{textTests, textAnswer, Judging}
 use Rattle.reading.specs.declared.Query.{Query}
 use Rattle.reading.specs.declared.Size.{Size}
-use Rattle.measure_list.specs.Measures.{Fits}
+use Rattle.measure_list.specs.Measures.{MeasureFits}
 use Rattle.table.specs.Measures.{measureIn, measuresIn}
 use Rattle.decode.specs.Layout.{Decoded}
-use Rattle.decode.specs.Layout.{Room}
-use Rattle.reading.specs.Reading.{knownIn, foreignIn, queryAnswer, refusal, JudgeRoom, JudgedParts, Nodes, Space, Whole, Asked, asRoom}
+use Rattle.decode.specs.Layout.{DecodeRoom}
+use Rattle.reading.specs.Reading.{knownIn, foreignIn, queryAnswer, refusedQuery, JudgeRoom, JudgedParts, Nodes, Space, Whole, Asked, asRoom}
 
 -- ---- letters
 
@@ -212,7 +212,7 @@ unfolding isForeign lettersIn treeIn
 foreign-one s p e l h = rw e (ap not (letter-known p (textOf s) l (tree-exactly (textOf s) p .0 e) h))
 
 -- answer 9 by the text
-pub foreign-is : (s measures : List ℕ) (count columns target : ℕ) (p : Tree pattern) → treeIn s ≡ some p → ((k : ℕ) → k < count → Fits columns (measureIn measures 0 k))
+pub foreign-is : (s measures : List ℕ) (count columns target : ℕ) (p : Tree pattern) → treeIn s ≡ some p → ((k : ℕ) → k < count → MeasureFits columns (measureIn measures 0 k))
     → measuresIn measures 0 count ≡ parts s .measures → target ≡ parts s .skipLetter → (eqb target 0 || isLetter target) ≡ true → foreign s ≡ foreignIn (textOf s) measures count target
 unfolding foreign foreignIn measuresIn
 foreign-is s measures count columns target p e f q g h =
@@ -243,11 +243,11 @@ module _ (s room room′ measures : List ℕ) (p : Parts) (j : JudgeRoom s room 
   the-offset : v .offset ≡ offsetAt (textOf s) (v .answer)
   the-offset = g .offset ∙ ap (λ (t : List ℕ). offsetAt t (v .answer)) the-text
 
-  refused-is : (a k : ℕ) (r : Query) → (a ≡ 0 → ⊥) → a ≡ queryAnswer s → k ≡ offsetAt (textOf s) a → r ≡ refusal a k → JudgedParts s room′ measures p r
+  refused-is : (a k : ℕ) (r : Query) → (a ≡ 0 → ⊥) → a ≡ queryAnswer s → k ≡ offsetAt (textOf s) a → r ≡ refusedQuery a k → JudgedParts s room′ measures p r
   refused-is a k r d q o b = rw b (record { answer = q; offset = o; good = λ z. absurd (d z) })
 
   -- answers 4 to 7 and 14
-  pub text-answers : (r : Query) → (v .answer ≡ 0 → ⊥) → r ≡ refusal (v .answer) (v .offset) → JudgedParts s room′ measures p r
+  pub text-answers : (r : Query) → (v .answer ≡ 0 → ⊥) → r ≡ refusedQuery (v .answer) (v .offset) → JudgedParts s room′ measures p r
   text-answers r d b = refused-is (v .answer) (v .offset) r d (the-answer ∙ by-text s (j .clean) (λ z. d (the-answer ∙ z))) the-offset b
 
   module _ (z : v .answer ≡ 0) where
@@ -255,7 +255,7 @@ module _ (s room room′ measures : List ℕ) (p : Parts) (j : JudgeRoom s room 
     parts-answer = by-parts s (j .clean) (sym the-answer ∙ z)
 
     -- answer 8
-    pub defines-answer : (r : Query) → p .twice ≡ true → r ≡ refusal 8 0 → JudgedParts s room′ measures p r
+    pub defines-answer : (r : Query) → p .twice ≡ true → r ≡ refusedQuery 8 0 → JudgedParts s room′ measures p r
     unfolding offsetAt
     defines-answer r d b = refused-is 8 0 r (λ x. omega arith) (sym (parts-answer ∙ ap (λ (u : Bool). pick u 8 (pick (foreign s) 9 0)) (sym (j .doubled) ∙ d))) refl b
 
@@ -272,7 +272,7 @@ module _ (s room room′ measures : List ℕ) (p : Parts) (j : JudgeRoom s room 
 
     -- answer 9
     pub letters-answer : (r : Query) (u : Bool) → p .twice ≡ false → u ≡ foreignIn (take (e - p .start) (drop (p .start) s)) measures (p .measures) (p .target) → u ≡ true
-        → r ≡ refusal 9 0 → JudgedParts s room′ measures p r
+        → r ≡ refusedQuery 9 0 → JudgedParts s room′ measures p r
     unfolding offsetAt
     letters-answer r u d f y b = refused-is 9 0 r (λ x. omega arith) (sym (both u d f ∙ ap (λ (x : Bool). pick x 9 0) y)) refl b
 
@@ -303,7 +303,7 @@ module _ (s room room′ measures : List ℕ) (p : Parts) (j : JudgeRoom s room 
 
 module _ (s measures₀ : List ℕ) where
   -- answers 1 to 3
-  pub first-answers : (room defines measures : List ℕ) (a : ℕ) (r : Query) → a ≡ firstAnswer s → (a ≡ 0 → ⊥) → r ≡ refusal a 0
+  pub first-answers : (room defines measures : List ℕ) (a : ℕ) (r : Query) → a ≡ firstAnswer s → (a ≡ 0 → ⊥) → r ≡ refusedQuery a 0
       → Asked s measures₀ room defines measures r
   first-answers room defines measures a r e d b =
       rw b (record {
@@ -313,7 +313,7 @@ module _ (s measures₀ : List ℕ) where
       })
 
   -- what decoding asks
-  pub may-decode : (room : List ℕ) (a : ℕ) → Space s room measures₀ → a ≡ firstAnswer s → a ≡ 0 → Room s measures₀
+  pub may-decode : (room : List ℕ) (a : ℕ) → Space s room measures₀ → a ≡ firstAnswer s → a ≡ 0 → DecodeRoom s measures₀
   may-decode room a p e z = record { clean = sym e ∙ z; long = p .long }
 
   -- and judging

@@ -16,7 +16,7 @@ use Rattle.rules.specs.Language.{Tree, pattern}
 use Rattle.rules.specs.Answers as A
 use Rattle.rules.specs.Answers.{firstOf, queryTests, offsetAt, treeIn, P, F}
 use Rattle.trees.specs.Held.{Top}
-use Rattle.measure_list.specs.Measures.{Fits}
+use Rattle.measure_list.specs.Measures.{MeasureFits}
 use Rattle.table.specs.Measures.{measureIn, measuresIn}
 use Rattle.decode.specs.Layout.{Decoded}
 use Rattle.decode.specs.declared.Parts.{Parts}
@@ -38,8 +38,8 @@ unfoldable pub queryAnswer : List ℕ → ℕ
 unfolding firstOf queryTests
 queryAnswer s = firstOf (queryTests s)
 
-abbrev pub refusal : ℕ → ℕ → Query
-refusal a k = record { answer = a; offset = k; places = 0; factor = 0; top = 0; columns = 0; skip = 0; target = 0; measures = 0; letters = 0 }
+abbrev pub refusedQuery : ℕ → ℕ → Query
+refusedQuery a k = record { answer = a; offset = k; places = 0; factor = 0; top = 0; columns = 0; skip = 0; target = 0; measures = 0; letters = 0 }
 
 -- what judging the parts asks: the query has no answer 1 to 3, the parts and measures are the
 -- query's, the letter that the skip names is 0 or A to Z, it is told whether two DEFINEs are for
@@ -50,7 +50,7 @@ pub record JudgeRoom (s room measures : List ℕ) (p : Parts) : Type 0 where
   pub inside : p .start + p .len ≤ length s
   pub short : p .len ≤ 256
   pub few : p .measures ≤ 8
-  pub fit : (k : ℕ) → k < p .measures → Fits (p .columns) (measureIn measures 0 k)
+  pub fit : (k : ℕ) → k < p .measures → MeasureFits (p .columns) (measureIn measures 0 k)
   pub measured : measuresIn measures 0 (p .measures) ≡ parts s .measures
   pub target : p .target ≡ parts s .skipLetter
   pub lettered : (eqb (p .target) 0 || isLetter (p .target)) ≡ true

@@ -1,7 +1,7 @@
 // What reading a query comes to, letters that its pattern does not name, and how long its text is.
 ghost use mathlib.Core.Path.{_≡_};
 ghost use Prim.Native.Nat.{_≤_, _<_};
-ghost use Rattle.reading.specs.Reading.{knownIn, foreignIn, refusal, shortText};
+ghost use Rattle.reading.specs.Reading.{knownIn, foreignIn, refusedQuery, shortText};
 
 // What a query asks: its answer 1 to 9 or 14, with the offset of 5 and 14, or 0; where it is 0, P,
 // F, the top node of its pattern's tree, and its parts, with the letter that the skip names (0 for
@@ -58,7 +58,7 @@ pub fn has_foreign(text: &[u8], measures: &[u8; 24], count: usize, target: usize
 }
 
 pub fn refused(answer: usize, offset: usize) -> Query
-    ensures { λ r. ⌜ r ≡ refusal answer offset ⌝ }
+    ensures { λ r. ⌜ r ≡ refusedQuery answer offset ⌝ }
 {
     Query {
         answer,

@@ -1,7 +1,7 @@
--- Document 01, "Report", the table of answers, and request R-1, which parts 14 from 5: a test for
--- each of 1 to 12 and 14 over the whole input, the first that applies, or else the answer of the
--- search's end, and from it the result and the later content of all four lent buffers, as one
--- function of all that goes in.
+-- Rules: document 01, "Report", the table of answers, with R-1, R-2, R-3, R-6, R-11 and R-13. A test
+-- for each of 1 to 12 and 14 over the whole input, the first that applies, or else the answer of
+-- the search's end, and from it the result and the later content of all four lent buffers, as one
+-- function of all that goes in; how much to lend (`roomOf`); a letter at a row (`testOf`).
 use mathlib.Core.Bool.{Bool, true, false, not, _&&_, _||_}
 use mathlib.Core.List.{List, [], _∷_, _++_}
 use mathlib.Core.Option.{Option, none, some}
@@ -15,8 +15,8 @@ use Rattle.rules.specs.Query.{cut, misplaced, unfit, doubled, columnsOf,
 use Rattle.rules.specs.Language.{Tree, pattern, letters, loopNesting}
 use Rattle.rules.specs.Reader.{treeOf, stopOf}
 use Rattle.rules.specs.Places.{Place, unroll, places, placesOf, factorOf}
-use Rattle.rules.specs.Walk.{pairs, Halt, outOfSteps, outOfRows}
-use Rattle.rules.specs.Search.{Match, End, done, full, stuck, unfinished, Terms, within, whole, Skip, pastLast, toNext, toFirst, toLast, Swept, Kept, walkSearch, plainSearch}
+use Rattle.rules.specs.Walk.{pairs, Halt, outOfSteps, outOfRows, Kept}
+use Rattle.rules.specs.Search.{Match, End, done, full, stuck, unfinished, Terms, within, whole, Skip, pastLast, toNext, toFirst, toLast, Swept, walkSearch, plainSearch, Sought, seek}
 use Rattle.rules.specs.Report.{numbersOf, labelsOf, fits, bytesFor, notesOf, zeros}
 
 -- ---- the pattern's answers
@@ -117,17 +117,17 @@ pub record Task : Type 0 where
 unfoldable pub skipOf : ℕ → ℕ → Skip
 skipOf mode c = pick (eqb mode 0) pastLast (pick (eqb mode 1) toNext (pick (eqb mode 2) (toFirst c) (toLast c)))
 
-unfoldable pub placesIn : Option (Tree pattern) → List Place
+unfoldable pub placesOfTree : Option (Tree pattern) → List Place
 unfolding unroll places
-placesIn none = []
-placesIn (some t) = places (unroll t)
+placesOfTree none = []
+placesOfTree (some t) = places (unroll t)
 
 unfoldable pub taskOf : List ℕ → List ℤ → Task
-unfolding treeIn placesIn tableOf parts skipOf
+unfolding treeIn placesOfTree tableOf parts skipOf
 taskOf q rows =
     record {
       table = tableOf (parts q .columns) rows;
-      places = placesIn (treeIn q);
+      places = placesOfTree (treeIn q);
       condition = parts q .condition;
       skip = skipOf (parts q .skip) (parts q .skipLetter);
       measures = parts q .measures;
@@ -138,11 +138,14 @@ unfoldable pub letterHolds : Task → ℕ → ℕ → Bool
 unfolding holds
 letterHolds t c i = holds (t .table) i (t .condition c)
 
--- the search by the counted walk on these terms, on document 01's, and by plain backtracking, for
--- so many report numbers and label bytes
+-- what is searched for a task, for so many report numbers and label bytes
+abbrev pub soughtFor : Task → ℕ → ℕ → Sought
+soughtFor t nums labs = seek (letterHolds t) (t .table .n) (t .places) (t .skip) (fits nums labs (t .measures))
+
+-- the search by the counted walk on these terms, on document 01's, and by plain backtracking
 unfoldable pub walkedOn : Terms → Task → ℕ → ℕ → Swept Kept
 unfolding walkSearch letterHolds fits
-walkedOn terms t nums labs = walkSearch terms (letterHolds t) (t .table .n) (t .places) (t .skip) (fits nums labs (t .measures))
+walkedOn terms t nums labs = walkSearch terms (soughtFor t nums labs)
 
 unfoldable pub walked : Task → ℕ → ℕ → Swept Kept
 unfolding walkedOn
@@ -150,7 +153,7 @@ walked t nums labs = walkedOn (whole (t .table .n)) t nums labs
 
 unfoldable pub backtracked : Task → ℕ → ℕ → Swept (Unit {0})
 unfolding plainSearch letterHolds fits
-backtracked t nums labs = plainSearch (letterHolds t) (t .table .n) (t .places) (t .skip) (fits nums labs (t .measures))
+backtracked t nums labs = plainSearch (soughtFor t nums labs)
 
 -- ---- the answer
 
@@ -281,10 +284,10 @@ unfoldable pub accepted : Report → Kept → Buffers → Memory
 unfolding notesOf zeros wrote
 accepted r kept lent =
     record {
-      result = record { answer = r .answer; matches = r .matches; labels = r .labels; steps = kept .1; offset = 0 };
+      result = record { answer = r .answer; matches = r .matches; labels = r .labels; steps = kept .steps; offset = 0 };
       buffers = record {
-        notes = wrote (lent .notes) 0 (notesOf (kept .0));
-        trail = wrote (lent .trail) 0 (zeros (length (kept .0)));
+        notes = wrote (lent .notes) 0 (notesOf (kept .failed));
+        trail = wrote (lent .trail) 0 (zeros (length (kept .failed)));
         numbers = r .numbers;
         labels = r .labelBytes;
       };

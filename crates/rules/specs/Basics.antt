@@ -1,5 +1,5 @@
--- Words that every other file uses: choosing by a test, tests over lists, little-endian numbers,
--- two's complement, and a list written into a buffer. None of them is a rule of document 01.
+-- No rule. Words that every other file uses: choosing by a test, tests over lists, little-endian
+-- numbers, two's complement, and a list written into a buffer.
 use mathlib.Core.Path.{_≡_}
 use mathlib.Core.Bool.{Bool, true, false, _&&_, _||_}
 use mathlib.Core.List.{List, [], _∷_, _++_}

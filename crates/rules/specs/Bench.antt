@@ -1,5 +1,5 @@
--- Document 01, "Bench sheet": W1 to W12 as one table, and some easy slips behind them. The
--- statement that the definitions agree with every line is `sheet-holds` (proofs/Bench).
+-- Worked cases: document 01, "Bench sheet". W1 to W12 as one table, and some easy slips behind them.
+-- The statement that the definitions agree with every line is `sheet-holds` (proofs/Bench).
 use mathlib.Core.Bool.{Bool, true, false, _&&_}
 use mathlib.Core.List.{List, [], _∷_, _++_}
 use mathlib.Core.Option.{Option, none, some}
@@ -11,6 +11,7 @@ use lib.Signed.{leZ}
 use lib.ListN.{length, take, replicate}
 use Rattle.rules.specs.Basics.{bytes}
 use Rattle.rules.specs.Search.{labels, shown}
+use Rattle.rules.specs.Preferment.{Shown}
 use Rattle.rules.specs.Report.{bytesFor}
 use Rattle.rules.specs.Answers.{treeIn, P, pairsOf, Buffers, taskOf, walkOf, searchOf, F}
 use Rattle.rules.specs.Program.{printed}
@@ -19,12 +20,12 @@ use Rattle.rules.specs.Program.{printed}
 
 -- a record of a body of fewer than 256 bytes; and a query of one column: its pattern, its DEFINEs,
 -- its skip mode, its measures
-abbrev pub recordOf : ℕ → List ℕ → List ℕ
-recordOf kind body = length body ∷ 0 ∷ kind ∷ 0 ∷ body
+abbrev pub recordBytes : ℕ → List ℕ → List ℕ
+recordBytes kind body = length body ∷ 0 ∷ kind ∷ 0 ∷ body
 
 abbrev pub asks : String → List ℕ → ℕ → List ℕ → List ℕ
 unfolding bytes
-asks text defines mode measures = recordOf 1 (1 ∷ 0 ∷ []) ++ (recordOf 2 (bytes text) ++ (defines ++ (recordOf 4 (mode ∷ 0 ∷ []) ++ measures)))
+asks text defines mode measures = recordBytes 1 (1 ∷ 0 ∷ []) ++ (recordBytes 2 (bytes text) ++ (defines ++ (recordBytes 4 (mode ∷ 0 ∷ []) ++ measures)))
 
 -- W1's query with COUNT(A) and LAST(B, column 0), as the sheet's bytes
 unfoldable pub w1 : List ℕ
@@ -40,11 +41,11 @@ w1 =
 
 -- DEFINE A above 0: column 0 of this row (offset 0), greater (5), the constant (0) 0
 abbrev pub aboveZero : List ℕ
-aboveZero = recordOf 3 (0x41 ∷ 1 ∷ 0 ∷ 0 ∷ 5 ∷ 0 ∷ 0 ∷ 0 ∷ 0 ∷ 0 ∷ 0 ∷ 0 ∷ 0 ∷ 0 ∷ [])
+aboveZero = recordBytes 3 (0x41 ∷ 1 ∷ 0 ∷ 0 ∷ 5 ∷ 0 ∷ 0 ∷ 0 ∷ 0 ∷ 0 ∷ 0 ∷ 0 ∷ 0 ∷ 0 ∷ [])
 
 -- DEFINE A unequal (2) to PREV
 abbrev pub unequalPrev : List ℕ
-unequalPrev = recordOf 3 (0x41 ∷ 1 ∷ 0 ∷ 0 ∷ 2 ∷ 1 ∷ 0 ∷ 0xFF ∷ 0 ∷ 0 ∷ 0 ∷ 0 ∷ 0 ∷ 0 ∷ [])
+unequalPrev = recordBytes 3 (0x41 ∷ 1 ∷ 0 ∷ 0 ∷ 2 ∷ 1 ∷ 0 ∷ 0xFF ∷ 0 ∷ 0 ∷ 0 ∷ 0 ∷ 0 ∷ 0 ∷ [])
 
 -- X is one column 100, 110, 120, 115, 130
 abbrev pub X : List ℤ
@@ -67,28 +68,53 @@ pub record Line : Type 0 where
   pub answer : ℕ
   pub places : ℕ
   pub factor : ℕ
-  pub matches : List (ℕ × List ℕ)
+  pub matches : List Shown
   pub steps : Option ℕ
   pub numbers : Option (List ℤ)
   pub output : Option (List ℕ)
 
 -- a line of an accepted query, with its steps; one whose steps the sheet does not give; and one of
 -- a refused query
-abbrev pub line : List ℕ → List ℤ → ℕ → List (ℕ × List ℕ) → ℕ → Line
+abbrev pub line : List ℕ → List ℤ → ℕ → List Shown → ℕ → Line
 line q rows p ms s = record { query = q; rows = rows; answer = 0; places = p; factor = 1; matches = ms; steps = some s; numbers = none; output = none }
 
-abbrev pub unstepped : List ℕ → List ℤ → ℕ → List (ℕ × List ℕ) → Line
+abbrev pub unstepped : List ℕ → List ℤ → ℕ → List Shown → Line
 unstepped q rows p ms = record { query = q; rows = rows; answer = 0; places = p; factor = 1; matches = ms; steps = none; numbers = none; output = none }
 
-abbrev pub refusal : List ℕ → ℕ → ℕ → Line
-refusal q p a = record { query = q; rows = []; answer = a; places = p; factor = 1; matches = []; steps = some 0; numbers = none; output = none }
+abbrev pub refusedLine : List ℕ → ℕ → ℕ → Line
+refusedLine q p a = record { query = q; rows = []; answer = a; places = p; factor = 1; matches = []; steps = some 0; numbers = none; output = none }
 
--- a line of an accepted query with another factor
-abbrev pub flaggedLine : List ℕ → List ℤ → ℕ → ℕ → List (ℕ × List ℕ) → ℕ → Line
-flaggedLine q rows p f ms s = record { query = q; rows = rows; answer = 0; places = p; factor = f; matches = ms; steps = some s; numbers = none; output = none }
+-- the same line with another factor, and with another answer
+abbrev pub withFactor : ℕ → Line → Line
+withFactor f l =
+    record {
+      query = l .query;
+      rows = l .rows;
+      answer = l .answer;
+      places = l .places;
+      factor = f;
+      matches = l .matches;
+      steps = l .steps;
+      numbers = l .numbers;
+      output = l .output;
+    }
+
+abbrev pub answering : ℕ → Line → Line
+answering a l =
+    record {
+      query = l .query;
+      rows = l .rows;
+      answer = a;
+      places = l .places;
+      factor = l .factor;
+      matches = l .matches;
+      steps = l .steps;
+      numbers = l .numbers;
+      output = l .output;
+    }
 
 -- a match at a row with labels
-abbrev pub at : ℕ → String → ℕ × List ℕ
+abbrev pub at : ℕ → String → Shown
 unfolding bytes
 at row ls = (row, bytes ls)
 
@@ -121,24 +147,24 @@ sheet =
     ∷ unstepped (asks "A $" [] 0 []) (any 2) 3 (at 1 "A" ∷ [])
     -- W8 accepted, W9 refused
     ∷ unstepped (asks "(A{51}){5}" [] 0 []) [] 256 []
-    ∷ refusal (asks "(A{16}){16}" [] 0 []) 257 7
+    ∷ refusedLine (asks "(A{16}){16}" [] 0 []) 257 7
     -- W10 with R-3: `(A*)*` accepted, P 4 and F 2; `(A?){3}` accepted
-    ∷ flaggedLine (asks "(A*)*" [] 0 []) [] 4 2 [] 0
+    ∷ withFactor 2 (line (asks "(A*)*" [] 0 []) [] 4 [] 0)
     -- and `(A??)*` on a row where A holds gives an empty match
-    ∷ flaggedLine (asks "(A??)*" [] 0 []) (any 1) 4 2 (at 0 "" ∷ []) 3
+    ∷ withFactor 2 (line (asks "(A??)*" [] 0 []) (any 1) 4 (at 0 "" ∷ []) 3)
     ∷ unstepped (asks "(A?){3}" [] 0 []) [] 7 []
     -- W11
     ∷ unstepped (asks "(A+)+" [] 0 []) [] 8 []
     -- W12: `A` in 8 parentheses accepted, in 9 refused
     ∷ unstepped (asks "((((((((A))))))))" [] 0 []) [] 2 []
-    ∷ refusal (asks "(((((((((A)))))))))" [] 0 []) 2 4
+    ∷ refusedLine (asks "(((((((((A)))))))))" [] 0 []) 2 4
     -- beyond the sheet, easy slips: the preferred match is not the longest
     ∷ unstepped (asks "A | A B" [] 0 []) (any 2) 5 (at 0 "A" ∷ at 1 "A" ∷ [])
     -- a pair on the path of a match has not failed: with skip to next row it is entered again
     ∷ line (asks "A*" [] 1 []) (any 2) 3 (at 0 "AA" ∷ at 1 "A" ∷ []) 11
     -- COUNT of no rows is 0, and LAST of no rows is null
     ∷ record {
-      query = asks "A | B" [] 0 (recordOf 5 (1 ∷ 0x42 ∷ 0 ∷ 0 ∷ []) ++ recordOf 5 (6 ∷ 0x42 ∷ 0 ∷ 0 ∷ []));
+      query = asks "A | B" [] 0 (recordBytes 5 (1 ∷ 0x42 ∷ 0 ∷ 0 ∷ []) ++ recordBytes 5 (6 ∷ 0x42 ∷ 0 ∷ 0 ∷ []));
       rows = any 1;
       answer = 0;
       places = 4;
@@ -153,11 +179,11 @@ sheet =
     -- leaving at any fork goes straight behind the whole factor: fork, A, END
     ∷ line (asks "A{,3}" aboveZero 0 []) (any 1) 7 (at 0 "" ∷ []) 3
     -- no space stands inside a token, and two letters do not touch
-    ∷ refusal (asks "A{ 1}" [] 0 []) 0 5
-    ∷ refusal (asks "AB" [] 0 []) 0 5
+    ∷ refusedLine (asks "A{ 1}" [] 0 []) 0 5
+    ∷ refusedLine (asks "AB" [] 0 []) 0 5
     -- a parenthesis closed before any is opened counts: at most 8 are open here
-    ∷ refusal (asks ")(((((((((" [] 0 []) 0 5
-    ∷ refusal (asks ")((((((((((" [] 0 []) 0 4
+    ∷ refusedLine (asks ")(((((((((" [] 0 []) 0 5
+    ∷ refusedLine (asks ")((((((((((" [] 0 []) 0 4
     ∷ []
 
 -- ---- what agreeing with a line is
@@ -176,7 +202,7 @@ ifGiven f (some x) = f x
 abbrev pub equalZ : ℤ → ℤ → Bool
 equalZ a b = leZ a b && leZ b a
 
-abbrev pub sameMatch : ℕ × List ℕ → ℕ × List ℕ → Bool
+abbrev pub sameMatch : Shown → Shown → Bool
 sameMatch a b = eqb (a .0) (b .0) && same eqb (a .1) (b .1)
 
 -- buffers that are just enough for the notes and the trail, and more than enough for the report

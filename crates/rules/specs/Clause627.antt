@@ -1,7 +1,7 @@
--- ISO/IEC 19075-5, clause 6.2.7, on rounds that take no row: the derivations that it leaves in the
--- parenthesised language. Document 01 leaves none out in bounded quantifiers, and R-3 says what it
--- leaves out in unbounded ones; these decide: no rule of the search uses this file. It is here to
--- say where the two agree (proofs/EmptyRounds) and where they do not (proofs/Differs).
+-- No rule. ISO/IEC 19075-5, clause 6.2.7, on rounds that take no row: the derivations that it leaves
+-- in the parenthesised language. Document 01 leaves none out in bounded quantifiers, and R-3 says
+-- what it leaves out in unbounded ones; these decide, and no rule uses this file. It is here to say
+-- where the two agree (crates/laws, EmptyRounds) and where they do not (crates/laws, Differs).
 use mathlib.Core.Path.{_≡_}
 use mathlib.Core.List.{List, [], _∷_}
 use mathlib.Core.Bool.{Bool, true, not, _&&_, _||_}
@@ -12,6 +12,7 @@ use lib.ListN.{length}
 use lib.Dec.{ltb, leb, eqb}
 use Rattle.rules.specs.Basics.{every}
 use Rattle.rules.specs.Language.{lower, upper, Rank, Tree, one, more, last, next, bare, times, letter, caret, dollar, empty, group, nullable}
+use Rattle.rules.specs.Readings.{RowSets}
 use Rattle.rules.specs.Preferment.{Derivation, Parses, Prefers, word}
 
 -- A round that takes no row is left in the language only as the last round, or at one of the
@@ -41,16 +42,16 @@ allowed (group p) d = allowed p d
 
 -- the match that the clause prefers: as `Preferred`, among the derivations that it leaves in the
 -- language
-pub record Preferred627 {k : Rank} (t : Tree k) (holds : ℕ → ℕ → Bool) (n i j : ℕ) (w : List ℕ) : Type 0 where
+pub record Preferred627 (rows : RowSets) {k : Rank} (t : Tree k) (i j : ℕ) (w : List ℕ) : Type 0 where
   pub derivation : Derivation t
   pub kept : allowed t derivation ≡ true
-  pub parses : Parses t holds n derivation i j w
-  pub greatest : (e : Derivation t) (j′ : ℕ) (w′ : List ℕ) → allowed t e ≡ true → Parses t holds n e i j′ w′ → Prefers t e derivation → ⊥
+  pub parses : Parses rows t derivation i j w
+  pub greatest : (e : Derivation t) (j′ : ℕ) (w′ : List ℕ) → allowed t e ≡ true → Parses rows t e i j′ w′ → Prefers t e derivation → ⊥
 
 -- The clause and R-3 leave the same rounds of a body that can take no row: a bounded quantifier
 -- over it allows no optional round behind another round, as its upper bound is at most its lower
 -- bound, or at most 1; an unbounded one has lower bound 0, so that for both a round that takes no
--- row is the last. The law `same-language` (proofs/EmptyRounds) says that they leave the same
+-- row is the last. The law `same-language` (crates/laws, EmptyRounds) says that they leave the same
 -- derivations then.
 unfoldable pub sameRounds : ℕ → Option ℕ → Bool
 sameRounds lo none = eqb lo 0

@@ -1,9 +1,9 @@
--- The tender's demands, in the words of the definitions: demand 1 for every input, demands 2 and 3
+-- Demands: the tender's, in the words of the definitions. Demand 1 for every input, demands 2 and 3
 -- for every search that is accepted, in every skip mode and with every allowance of steps, whether
 -- it ends as done, stopped or halted. They speak of what a call returns and of the memory that it
--- leaves. `demand1` and `demands` (crates/laws, Demands) prove them.
+-- leaves. `demand1` (crates/laws, FirstDemand) and `demands` (crates/laws, Demands) prove them.
 use mathlib.Core.Path.{_≡_}
-use mathlib.Core.Bool.{true, false}
+use mathlib.Core.Bool.{Bool, true, false}
 use mathlib.Core.List.{List, [], List·Memᴰ}
 use mathlib.Core.Logic.{_⊎_, _↔_}
 use mathlib.Core.Option.{Option, none, some}
@@ -14,13 +14,13 @@ use Rattle.rules.specs.Basics.{Begins, repeats, wrote}
 use Rattle.rules.specs.Query.{cut, misplaced, unfit, textOf, parts}
 use Rattle.rules.specs.Language.{Tree, pattern, Written, WrongAt, Unfinished}
 use Rattle.rules.specs.Places.{unroll, placesOf, factorOf, flagsAt}
-use Rattle.rules.specs.Readings.{Reads, SomeReading}
-use Rattle.rules.specs.Preferment.{Preferred, Reports}
-use Rattle.rules.specs.Walk.{Halt, outOfSteps, pairs, firstAt, pairWays, IsPath, IsOpen, countTrue}
-use Rattle.rules.specs.Search.{Match, End, unfinished, Finished, pastLast, Swept, Kept, labels, endOf, shown, shownEnd, foundIn, openOf, pathPairs, plainFrom}
+use Rattle.rules.specs.Readings.{RowSets, rowSets, Reads, SomeReading}
+use Rattle.rules.specs.Preferment.{Preferred, Setting, setting, Shown, Reports}
+use Rattle.rules.specs.Walk.{Halt, outOfSteps, pairs, firstAt, pairWays, IsPath, IsOpen, countTrue, Kept}
+use Rattle.rules.specs.Search.{Match, End, unfinished, Finished, pastLast, Swept, labels, endOf, shown, shownEnd, foundIn, openOf, pathPairs, plainFrom}
 use Rattle.rules.specs.Report.{numbersOf, labelsOf, fits, bytesFor, bitAt, zeros}
 use Rattle.rules.specs.Answers.{tooDeep, treeIn, Task, taskOf, letterHolds, Buffers, Memory, Report, refused, endAnswer, answerWithin, walkWithin, plainOf, plainReport, searchWithin, searchOf, P, F}
-use Rattle.rules.specs.Entries.{entriesIn, entriesOf}
+use Rattle.rules.specs.Entries.{reportedIn, reportedAll}
 
 -- ---- what a caller sees
 
@@ -61,6 +61,14 @@ pub record Demand1 (a : Option ℕ) (q : List ℕ) (rows : List ℤ) (before : B
 
 -- ---- demand 2
 
+-- what a pattern sees of a task's rows
+abbrev pub setsOf : Task → RowSets
+setsOf t = rowSets (t .table .n) (letterHolds t)
+
+-- what a report for a task with the pattern p is of, where this is what fits
+abbrev pub settingOf : Tree pattern → Task → (ℕ → ℕ → List ℕ → Bool) → Setting
+settingOf p t fits = setting p (setsOf t) (t .skip) fits
+
 -- a match at the start i, which is the path of the first success there, has its end at j and the
 -- labels w
 abbrev pub MatchAt : Task → ℕ → ℕ → List ℕ → Type 0
@@ -70,28 +78,28 @@ MatchAt t i j w =
 -- for a task with the pattern p and so many report numbers and label bytes, the search r
 pub record Demand2 (p : Tree pattern) (t : Task) (nums labs : ℕ) (r : Swept Kept) : Type 0 where
   -- a start has a match exactly if some reading of the pattern exists there
-  pub exists : (i : ℕ) → ((path : List ℕ) × (plainFrom (letterHolds t) (t .table .n) (t .places) i ≡ some path)) ↔ SomeReading p (letterHolds t) (t .table .n) i
+  pub exists : (i : ℕ) → ((path : List ℕ) × (plainFrom (letterHolds t) (t .table .n) (t .places) i ≡ some path)) ↔ SomeReading (setsOf t) p i
   -- the match is the preferred one: its end and its labels are those of the greatest derivation
   -- that reads there
-  pub preferred : (i j : ℕ) (w : List ℕ) → MatchAt t i j w ↔ Preferred p (letterHolds t) (t .table .n) i j w
+  pub preferred : (i j : ℕ) (w : List ℕ) → MatchAt t i j w ↔ Preferred (setsOf t) p i j w
   -- and so a reading
-  pub reads : (i j : ℕ) (w : List ℕ) → Preferred p (letterHolds t) (t .table .n) i j w → Reads p (letterHolds t) (t .table .n) i j w
+  pub reads : (i j : ℕ) (w : List ℕ) → Preferred (setsOf t) p i j w → Reads (setsOf t) p i j w
   -- the matches that preferment gives: the preferred ones at the starts that the skip mode lets us
   -- try, in order, each with its labels, up to the one that does not fit or that names no next
   -- start
-  pub all : List (ℕ × List ℕ)
-  pub last : End (ℕ × List ℕ)
-  pub report : Reports p (letterHolds t) (t .table .n) (t .skip) (fits nums labs (t .measures)) 0 0 0 all last
+  pub all : List Shown
+  pub last : End Shown
+  pub report : Reports (settingOf p t (fits nums labs (t .measures))) 0 0 0 all last
   -- and there is no other such report
-  pub only : (ms : List (ℕ × List ℕ)) (end : End (ℕ × List ℕ)) → Reports p (letterHolds t) (t .table .n) (t .skip) (fits nums labs (t .measures)) 0 0 0 ms end
+  pub only : (ms : List Shown) (end : End Shown) → Reports (settingOf p t (fits nums labs (t .measures))) 0 0 0 ms end
       → (ms ≡ all) × (end ≡ last)
   -- the report holds exactly these, and ends so; one that is halted holds the first of them
   pub holds-all : Finished (r .end) → (shown (t .places) (r .matches) ≡ all) × (shownEnd (t .places) (r .end) ≡ last)
   pub holds-first : Begins (shown (t .places) (r .matches)) all
   -- with room for every match there is a report too, and this one holds the first of its matches
-  pub unlimited : List (ℕ × List ℕ)
-  pub unlimited-last : End (ℕ × List ℕ)
-  pub unlimited-report : Reports p (letterHolds t) (t .table .n) (t .skip) (λ m l w. true) 0 0 0 unlimited unlimited-last
+  pub unlimited : List Shown
+  pub unlimited-last : End Shown
+  pub unlimited-report : Reports (settingOf p t (λ m l w. true)) 0 0 0 unlimited unlimited-last
   pub first-of-unlimited : Begins (shown (t .places) (r .matches)) unlimited
 
 -- ---- demand 3
@@ -100,23 +108,23 @@ pub record Demand2 (p : Tree pattern) (t : Task) (nums labs : ℕ) (r : Swept Ke
 -- plain backtracking
 pub record Demand3 (t : Task) (largest : ℕ) (r : Swept Kept) (b : Swept (Unit {0})) : Type 0 where
   -- with skip past last row the steps are at most 2P(n+1), with R-3's factor 2PF(n+1)
-  pub bound : t .skip ≡ pastLast → r .state .1 ≤ 2 * pairs (length (t .places)) (t .table .n)
+  pub bound : t .skip ≡ pastLast → r .state .steps ≤ 2 * pairs (length (t .places)) (t .table .n)
   -- in every skip mode they are at most P n (n+3) / 2, with R-3's factor PF n (n+3) / 2
-  pub bound-each : 2 * r .state .1 ≤ length (t .places) * (t .table .n * (t .table .n + 3))
+  pub bound-each : 2 * r .state .steps ≤ length (t .places) * (t .table .n * (t .table .n + 3))
   -- the steps are the failed pairs plus the pairs on all paths found, path by path, plus the pairs
   -- still open where the walk has halted
-  pub sum : r .state .1 ≡ countTrue (r .state .0) + pathPairs (foundIn r) + length (openOf (r .end))
+  pub sum : r .state .steps ≡ countTrue (r .state .failed) + pathPairs (foundIn r) + length (openOf (r .end))
   -- each path found is one from its start to END, each pair having led to the next
   pub paths : (m : Match) → List·Memᴰ m (foundIn r) → IsPath (pairWays (letterHolds t) (t .table .n) (t .places)) (firstAt (length (t .places)) (m .start)) (m .path)
   -- those still open are pairs of the unfinished attempt, each having led to the next, none twice, and have
   -- not failed; there is none where the attempt has not begun
   pub still-open : (h : Halt) (i : ℕ) (p : List ℕ) → r .end ≡ unfinished h i p
       → ((p ≡ []) ⊎ IsOpen (pairWays (letterHolds t) (t .table .n) (t .places)) (firstAt (length (t .places)) i) p)
-      × (repeats p ≡ false) × ((x : ℕ) → List·Memᴰ x p → getD (r .state .0) x false ≡ false)
+      × (repeats p ≡ false) × ((x : ℕ) → List·Memᴰ x p → getD (r .state .failed) x false ≡ false)
   -- from a failed pair there is no reading of the rest
-  pub failed : (x : ℕ) → getD (r .state .0) x false ≡ true → (path : List ℕ) → IsPath (pairWays (letterHolds t) (t .table .n) (t .places)) x path → ⊥
+  pub failed : (x : ℕ) → getD (r .state .failed) x false ≡ true → (path : List ℕ) → IsPath (pairWays (letterHolds t) (t .table .n) (t .places)) x path → ⊥
   -- every pair is kept account of
-  pub pairs-kept : length (r .state .0) ≡ pairs (length (t .places)) largest
+  pub pairs-kept : length (r .state .failed) ≡ pairs (length (t .places)) largest
   -- the matches and the end are those of plain backtracking; where the walk has halted, its matches
   -- are the first of them
   pub like-all : Finished (r .end) → (r .matches ≡ b .matches) × (r .end ≡ b .end)
@@ -138,16 +146,16 @@ pub record Demands (a : Option ℕ) (q : List ℕ) (rows : List ℤ) (before : B
   pub not-halted : (after .result .answer ≡ 16 → ⊥) → Finished (walkWithin a q rows before .end)
   -- the answer tells how the walk ends, and the steps returned are the walk's
   pub ended : after .result .answer ≡ endAnswer (walkWithin a q rows before .end)
-  pub steps : after .result .steps ≡ walkWithin a q rows before .state .1
+  pub steps : after .result .steps ≡ walkWithin a q rows before .state .steps
   -- they keep the bounds: 2PF(n+1) with skip past last row, PF n (n+3) / 2 in every skip mode
   pub bound : taskOf q rows .skip ≡ pastLast → after .result .steps ≤ 2 * pairs (placesOf tree * factorOf tree) (taskOf q rows .table .n)
   pub bound-each : 2 * after .result .steps ≤ placesOf tree * factorOf tree * (taskOf q rows .table .n * (taskOf q rows .table .n + 3))
   -- they are the failed pairs, those on all paths found, and those still open where it has halted
   pub sum : after .result .steps
-      ≡ countTrue (walkWithin a q rows before .state .0) + pathPairs (foundIn (walkWithin a q rows before)) + length (openOf (walkWithin a q rows before .end))
+      ≡ countTrue (walkWithin a q rows before .state .failed) + pathPairs (foundIn (walkWithin a q rows before)) + length (openOf (walkWithin a q rows before .end))
   -- the failed pairs are exactly those noted, and spare bits are 0
   pub noted : (x : ℕ) → x < 8 * bytesFor (pairs (placesOf tree * factorOf tree) (taskOf q rows .table .n))
-      → bitAt (after .buffers .notes) x ≡ getD (walkWithin a q rows before .state .0) x false
+      → bitAt (after .buffers .notes) x ≡ getD (walkWithin a q rows before .state .failed) x false
   -- the trail has a 0 for each pair; beyond, notes and trail are unchanged
   pub trail : after .buffers .trail ≡ wrote (before .trail) 0 (zeros (pairs (placesOf tree * factorOf tree) (taskOf q rows .table .n)))
   pub notes-beyond : drop (bytesFor (pairs (placesOf tree * factorOf tree) (taskOf q rows .table .n))) (after .buffers .notes)
@@ -157,7 +165,7 @@ pub record Demands (a : Option ℕ) (q : List ℕ) (rows : List ℤ) (before : B
   pub label-count : after .result .labels ≡ length (labelsOf (taskOf q rows .places) (walkWithin a q rows before .matches))
   -- read from the report's buffers, the matches are those of the walk, in order, each with its
   -- labels and with the measures of its rows
-  pub reported : entriesIn q after ≡ entriesOf (taskOf q rows .table) (taskOf q rows .measures) (shown (taskOf q rows .places) (walkWithin a q rows before .matches))
+  pub reported : reportedIn q after ≡ reportedAll (taskOf q rows .table) (taskOf q rows .measures) (shown (taskOf q rows .places) (walkWithin a q rows before .matches))
   -- each match's numbers lead with its own, counted from 1; beyond them both buffers are unchanged
   pub numbers : after .buffers .numbers
       ≡ wrote (before .numbers) 0 (numbersOf (taskOf q rows .table) (taskOf q rows .measures) (taskOf q rows .places) 0 (walkWithin a q rows before .matches))
@@ -167,21 +175,21 @@ pub record Demands (a : Option ℕ) (q : List ℕ) (rows : List ℤ) (before : B
   -- where the search has not halted, the answer, the counts and both report buffers are those of
   -- plain backtracking; where it has, its matches are the first of them
   pub like-plain : (after .result .answer ≡ 16 → ⊥) → reportIn after ≡ plainReport q rows before
-  pub first-of-plain : Begins (entriesIn q after) (entriesOf (taskOf q rows .table) (taskOf q rows .measures) (shown (taskOf q rows .places) (plainOf q rows before .matches)))
+  pub first-of-plain : Begins (reportedIn q after) (reportedAll (taskOf q rows .table) (taskOf q rows .measures) (shown (taskOf q rows .places) (plainOf q rows before .matches)))
   -- the unused bits of a failed pair's flags are 0
-  pub unused : (x : ℕ) → getD (walkWithin a q rows before .state .0) x false ≡ true → x % factorOf tree < 2 ^ flagsAt (unroll tree) (x / factorOf tree % placesOf tree)
+  pub unused : (x : ℕ) → getD (walkWithin a q rows before .state .failed) x false ≡ true → x % factorOf tree < 2 ^ flagsAt (unroll tree) (x / factorOf tree % placesOf tree)
 
 -- ---- what an allowance does (R-13)
 
 pub record Allowing (q : List ℕ) (rows : List ℤ) (lent : Buffers) : Type 0 where
   -- it is not passed, and where the search halts for it, it is used up
-  pub kept-to : (a : ℕ) → walkWithin (some a) q rows lent .state .1 ≤ a
-  pub used-up : (a i : ℕ) (p : List ℕ) → walkWithin (some a) q rows lent .end ≡ unfinished outOfSteps i p → walkWithin (some a) q rows lent .state .1 ≡ a
+  pub kept-to : (a : ℕ) → walkWithin (some a) q rows lent .state .steps ≤ a
+  pub used-up : (a i : ℕ) (p : List ℕ) → walkWithin (some a) q rows lent .end ≡ unfinished outOfSteps i p → walkWithin (some a) q rows lent .state .steps ≡ a
   -- a search that does not halt within it is document 01's
   pub done : (a : ℕ) → Finished (walkWithin (some a) q rows lent .end) → searchWithin (some a) q rows lent ≡ searchOf q rows lent
   -- a run with a larger allowance begins with the same matches
   pub larger : (a b : ℕ) → a ≤ b → Begins (walkWithin (some a) q rows lent .matches) (walkWithin (some b) q rows lent .matches)
   -- an allowance that the search without one does not pass changes nothing
-  pub unpassed : (a : ℕ) → walkWithin none q rows lent .state .1 ≤ a → searchWithin (some a) q rows lent ≡ searchOf q rows lent
+  pub unpassed : (a : ℕ) → walkWithin none q rows lent .state .steps ≤ a → searchWithin (some a) q rows lent ≡ searchOf q rows lent
   -- an allowance of 2PF(n+1) is always enough with skip past last row
   pub enough : taskOf q rows .skip ≡ pastLast → (a : ℕ) → 2 * pairs (length (taskOf q rows .places)) (taskOf q rows .table .n) ≤ a → searchWithin (some a) q rows lent ≡ searchOf q rows lent

@@ -1,6 +1,6 @@
--- Document 01, "Pattern language": trees, their tokens, and the texts that spell them; then what
--- can take no row. A text is in the language exactly if some tree is `Written` in it. No reading of
--- a text is described here.
+-- Rules: document 01, "Pattern language", with R-1 and R-3. Trees, their tokens, and the texts that
+-- spell them; then what can take no row. A text is in the language exactly if some tree is
+-- `Written` in it. No reading of a text is described here.
 use mathlib.Core.Path.{_≡_}
 use mathlib.Core.Bool.{Bool, true, false, _&&_, _||_}
 use mathlib.Core.List.{List, [], _∷_, _++_}
@@ -173,19 +173,19 @@ pub record Written (p : Tree pattern) (text : List ℕ) : Type 0 where
 
 -- a text begins a text of the language: with some bytes behind it, or none, a tree is written in
 -- it. Neither the text's length nor the limit of parentheses plays a part.
-unfoldable pub Begins : List ℕ → Type 0
-Begins s = (v : List ℕ) × (p : Tree pattern) × Written p (s ++ v)
+unfoldable pub BeginsText : List ℕ → Type 0
+BeginsText s = (v : List ℕ) × (p : Tree pattern) × Written p (s ++ v)
 
 -- the text is wrong at byte k: what stands before k, and each beginning of that, begins a text of
 -- the language, and with byte k it begins none
 pub record WrongAt (text : List ℕ) (k : ℕ) : Type 0 where
   pub inside : k < length text
-  pub begins : (j : ℕ) → j ≤ k → Begins (take j text)
-  pub ends : Begins (take (k + 1) text) → ⊥
+  pub begins : (j : ℕ) → j ≤ k → BeginsText (take j text)
+  pub ends : BeginsText (take (k + 1) text) → ⊥
 
 -- the text ends but could go on: it begins a text of the language and is none
 pub record Unfinished (text : List ℕ) : Type 0 where
-  pub begins : Begins text
+  pub begins : BeginsText text
   pub outside : (p : Tree pattern) → Written p text → ⊥
 
 -- ---- what a pattern can do

@@ -1,4 +1,4 @@
--- What R-11 demands of a search by lots, in the words of the definitions (specs/Lots). `lots`
+-- Demands: what R-11 asks of a search by lots, in the words of the definitions (specs/Lots). `lots`
 -- (crates/laws, LotLaws) proves all of it for whatever is named first without a refusal.
 use mathlib.Core.Path.{_≡_}
 use mathlib.Core.Bool.{Bool, true, false}
@@ -45,17 +45,17 @@ pub record LotDemands (s : Named) (rows : List ℤ) (present : ℕ) (last : Bool
   -- backtracking on the rows present
   pub demand3 : Demand3 (presentTask s rows present) (s .largest) (lotWalk s rows present last) (backtracked (presentTask s rows present) (length (s .lent .numbers)) (length (s .lent .labels)))
   -- the failed pairs are exactly those noted, and spare bits are 0
-  pub noted : (x : ℕ) → x < 8 * bytesFor (length (lotWalk s rows present last .state .0)) → bitAt (lotMemory s rows present last .buffers .notes) x ≡ getD (lotWalk s rows present last .state .0) x false
+  pub noted : (x : ℕ) → x < 8 * bytesFor (length (lotWalk s rows present last .state .failed)) → bitAt (lotMemory s rows present last .buffers .notes) x ≡ getD (lotWalk s rows present last .state .failed) x false
   -- and the unused bits of a failed pair's flags are 0
-  pub unused : (x : ℕ) → getD (lotWalk s rows present last .state .0) x false ≡ true → x % factorOf tree < 2 ^ flagsAt (unroll tree) (x / factorOf tree % placesOf tree)
+  pub unused : (x : ℕ) → getD (lotWalk s rows present last .state .failed) x false ≡ true → x % factorOf tree < 2 ^ flagsAt (unroll tree) (x / factorOf tree % placesOf tree)
   -- only a last call is done, and it never waits; without an allowance it does not halt
   pub not-done : last ≡ false → lotWalk s rows present last .end ≡ done → ⊥
   pub no-wait : last ≡ true → (i : ℕ) (p : List ℕ) → lotWalk s rows present last .end ≡ unfinished outOfRows i p → ⊥
   pub finished : last ≡ true → s .allowance ≡ none → Finished (lotWalk s rows present last .end)
   -- an allowance is not passed by all calls together, and where the search halts for it, it is used
   -- up
-  pub kept-to : (a : ℕ) → s .allowance ≡ some a → lotWalk s rows present last .state .1 ≤ a
-  pub used-up : (a i : ℕ) (p : List ℕ) → s .allowance ≡ some a → lotWalk s rows present last .end ≡ unfinished outOfSteps i p → lotWalk s rows present last .state .1 ≡ a
+  pub kept-to : (a : ℕ) → s .allowance ≡ some a → lotWalk s rows present last .state .steps ≤ a
+  pub used-up : (a i : ℕ) (p : List ℕ) → s .allowance ≡ some a → lotWalk s rows present last .end ≡ unfinished outOfSteps i p → lotWalk s rows present last .state .steps ≡ a
 
 -- ---- a later call only adds
 
@@ -66,17 +66,17 @@ pub record Adds (s : Named) (rows₁ rows₂ : List ℤ) (n₁ n₂ : ℕ) (last
       (numbersOf (presentTask s rows₂ n₂ .table) (presentTask s rows₂ n₂ .measures) (presentTask s rows₂ n₂ .places) 0 (lotWalk s rows₂ n₂ last .matches))
   pub labels : Begins (labelsOf (presentTask s rows₁ n₁ .places) (lotWalk s rows₁ n₁ false .matches)) (labelsOf (presentTask s rows₂ n₂ .places) (lotWalk s rows₂ n₂ last .matches))
   -- no failed pair is lost, and the steps do not fall
-  pub failed : (x : ℕ) → getD (lotWalk s rows₁ n₁ false .state .0) x false ≡ true → getD (lotWalk s rows₂ n₂ last .state .0) x false ≡ true
-  pub steps : lotWalk s rows₁ n₁ false .state .1 ≤ lotWalk s rows₂ n₂ last .state .1
+  pub failed : (x : ℕ) → getD (lotWalk s rows₁ n₁ false .state .failed) x false ≡ true → getD (lotWalk s rows₂ n₂ last .state .failed) x false ≡ true
+  pub steps : lotWalk s rows₁ n₁ false .state .steps ≤ lotWalk s rows₂ n₂ last .state .steps
 
 -- ---- any cutting gives by the end the search of the whole table in one run
 
 pub record OneRun (s : Named) (rows : List ℤ) (present : ℕ) : Type 0 where
   pub matches : lotWalk s rows present true .matches ≡ walkWithin (s .allowance) (s .query) (presentRows (s .query) rows present) (s .lent) .matches
   pub end : lotWalk s rows present true .end ≡ walkWithin (s .allowance) (s .query) (presentRows (s .query) rows present) (s .lent) .end
-  pub steps : lotWalk s rows present true .state .1 ≡ walkWithin (s .allowance) (s .query) (presentRows (s .query) rows present) (s .lent) .state .1
+  pub steps : lotWalk s rows present true .state .steps ≡ walkWithin (s .allowance) (s .query) (presentRows (s .query) rows present) (s .lent) .state .steps
   -- the same pairs have failed, and none of a row that did not come
-  pub failed : (x : ℕ) → getD (lotWalk s rows present true .state .0) x false ≡ getD (walkWithin (s .allowance) (s .query) (presentRows (s .query) rows present) (s .lent) .state .0) x false
+  pub failed : (x : ℕ) → getD (lotWalk s rows present true .state .failed) x false ≡ getD (walkWithin (s .allowance) (s .query) (presentRows (s .query) rows present) (s .lent) .state .failed) x false
   -- the result and both report buffers are those of the one run
   pub result : lotMemory s rows present true .result ≡ searchWithin (s .allowance) (s .query) (presentRows (s .query) rows present) (s .lent) .result
   pub numbers : lotMemory s rows present true .buffers .numbers ≡ searchWithin (s .allowance) (s .query) (presentRows (s .query) rows present) (s .lent) .buffers .numbers

@@ -1,6 +1,6 @@
--- Document 02, R-11: rows that come in lots. What a call answers and leaves is told by what was
--- named first, the rows present now and whether the end is declared; of the earlier calls only so
--- far as a stopped search stays stopped, and as a call after the end, or with fewer rows than
+-- Rules: document 02, R-11, rows that come in lots. What a call answers and leaves is told by what
+-- was named first, the rows present now and whether the end is declared; of the earlier calls only
+-- so far as a stopped search stays stopped, and as a call after the end, or with fewer rows than
 -- before, is refused. Where the earlier cuts were plays no part.
 use mathlib.Core.Path.{_≡_}
 use mathlib.Core.Bool.{Bool, false, not, _||_}
@@ -15,8 +15,8 @@ use Rattle.rules.specs.Basics.{pick, every}
 use Rattle.rules.specs.Rows.{Comparison, comparisonsIn}
 use Rattle.rules.specs.Query.{columnsOf, textOf, parts}
 use Rattle.rules.specs.Language.{Tree, pattern, hasDollar}
-use Rattle.rules.specs.Walk.{pairs}
-use Rattle.rules.specs.Search.{Swept, Kept, Terms}
+use Rattle.rules.specs.Walk.{pairs, Kept}
+use Rattle.rules.specs.Search.{Swept, Terms}
 use Rattle.rules.specs.Report.{bytesFor}
 use Rattle.rules.specs.Answers.{treeIn, P, lettersIn, Task, taskOf, walkedOn, Buffers, Test, firstOf, queryTests, offsetAt, endAnswer, reportOf, Result, Memory, refused, accepted, F}
 

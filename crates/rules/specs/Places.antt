@@ -1,5 +1,5 @@
--- Document 01, "Places and preferment", on places: how a pattern is unrolled into numbered places,
--- and P.
+-- Rules: document 01, "Places and preferment", its first paragraph, with R-3. How a pattern is
+-- unrolled into numbered places, and P and F.
 use mathlib.Core.List.{List, [], _∷_, _++_}
 use mathlib.Core.Bool.{Bool, true, false, _&&_, _||_}
 use mathlib.Core.Option.{Option, none, some}
@@ -179,74 +179,77 @@ unfoldable mutual
   sizes uNil = 0
   sizes (uCons t ts) = size t + sizes ts
 
--- where t begins, by the flags, if its places are numbered from b on and `k` is what is behind it,
--- by the flags
-unfoldable pub startOf : ℕ → Unrolled → ℕ → (ℕ → ℕ) → ℕ → ℕ
-unfolding size
-startOf F (uLetter c) b k φ = stateAt F b φ
-startOf F uCaret b k φ = stateAt F b φ
-startOf F uDollar b k φ = stateAt F b φ
-startOf F uEmpty b k φ = k φ
-startOf F (uSeq x y) b k φ = startOf F x b (startOf F y (b + size x) k) φ
-startOf F (uAlt ts) b k φ = stateAt F b φ
-startOf F (uOpt lazy t) b k φ = stateAt F b φ
-startOf F (uStar lazy t) b k φ = stateAt F b φ
+-- F is the factor: how many values of the flags a place is listed with
+module _ (F : ℕ) where
+  -- where a part begins, by the flags, if its places are numbered `from` a number on; `after` is
+  -- what comes behind it, by the flags
+  unfoldable pub startOf : Unrolled → ℕ → (ℕ → ℕ) → ℕ → ℕ
+  unfolding size
+  startOf (uLetter c) from after flags = stateAt F from flags
+  startOf uCaret from after flags = stateAt F from flags
+  startOf uDollar from after flags = stateAt F from flags
+  startOf uEmpty from after flags = after flags
+  startOf (uSeq x y) from after flags = startOf x from (startOf y (from + size x) after) flags
+  startOf (uAlt ts) from after flags = stateAt F from flags
+  startOf (uOpt lazy t) from after flags = stateAt F from flags
+  startOf (uStar lazy t) from after flags = stateAt F from flags
 
-unfoldable pub startsOf : ℕ → Branches → ℕ → (ℕ → ℕ) → ℕ → List ℕ
-unfolding size startOf
-startsOf F uNil b k φ = []
-startsOf F (uCons t ts) b k φ = startOf F t b k φ ∷ startsOf F ts (b + size t) k φ
+  unfoldable pub startsOf : Branches → ℕ → (ℕ → ℕ) → ℕ → List ℕ
+  unfolding size startOf
+  startsOf uNil from after flags = []
+  startsOf (uCons t ts) from after flags = startOf t from after flags ∷ startsOf ts (from + size t) after flags
 
--- What is behind a round of the copy at the fork b, which has d flags, where k is behind the whole
--- repetition. A body that always takes a row leads back to the fork. The copy of any other has a
--- flag, number d: if it is set, the round has taken a row and leads back to the fork, which lacks
--- that flag; else the round ends the repetition, and matching goes on behind it.
-abbrev pub roundEnd : ℕ → Bool → ℕ → ℕ → (ℕ → ℕ) → ℕ → ℕ
-roundEnd F false d b k φ = stateAt F b φ
-roundEnd F true d b k φ = pick (ltb φ (2 ^ d)) (k φ) (stateAt F b (φ - 2 ^ d))
+  -- What comes behind a round of the copy at the fork `from`, which has d flags, where `after` is
+  -- behind the whole repetition. A body that always takes a row leads back to the fork. The copy of
+  -- any other (true) has a flag, number d: if it is set, the round has taken a row and leads back
+  -- to the fork, which lacks that flag; else the round ends the repetition, and matching goes on
+  -- behind it.
+  abbrev pub roundEnd : Bool → ℕ → ℕ → (ℕ → ℕ) → ℕ → ℕ
+  roundEnd false d from after flags = stateAt F from flags
+  roundEnd true d from after flags = pick (ltb flags (2 ^ d)) (after flags) (stateAt F from (flags - 2 ^ d))
 
--- the places of t, which have d flags from what is around t, numbered from b on from left to right,
--- where k is behind t. A letter that passes sets all flags that its place has; no other place
--- changes a flag. A copy is entered with its own flag, number d, at 0, since the d flags of its
--- fork are below 2 ^ d.
-unfoldable mutual
-  unfolding skips size startOf startsOf
+  -- the places of a part, which have d flags from what is around it, numbered `from` a number on
+  -- from left to right. A letter that passes sets all flags that its place has; no other place
+  -- changes a flag. A copy is entered with its own flag, number d, at 0, since the d flags of its
+  -- fork are below 2 ^ d.
+  unfoldable mutual
+    unfolding skips size startOf startsOf
 
-  pub code : ℕ → Unrolled → ℕ → ℕ → (ℕ → ℕ) → List Flagged
-  code F (uLetter c) d b k = flagged d (λ φ. pLetter c (k (full d))) ∷ []
-  code F uCaret d b k = flagged d (λ φ. pCaret (k φ)) ∷ []
-  code F uDollar d b k = flagged d (λ φ. pDollar (k φ)) ∷ []
-  code F uEmpty d b k = []
-  code F (uSeq x y) d b k = code F x d b (startOf F y (b + size x) k) ++ code F y d (b + size x) k
-  code F (uAlt ts) d b k = flagged d (λ φ. pFork (startsOf F ts (suc b) k φ)) ∷ codes F ts d (suc b) k
-  code F (uOpt lazy t) d b k = flagged d (λ φ. pFork (waysInTurn lazy (startOf F t (suc b) k φ) (k φ))) ∷ code F t d (suc b) k
-  code F (uStar lazy t) d b k =
-      flagged d (λ φ. pFork (waysInTurn lazy (startOf F t (suc b) (roundEnd F (skips t) d b k) φ) (k φ)))
-      ∷ code F t (deeper (skips t) d) (suc b) (roundEnd F (skips t) d b k)
+    pub code : Unrolled → ℕ → ℕ → (ℕ → ℕ) → List Flagged
+    code (uLetter c) d from after = flagged d (λ flags. pLetter c (after (full d))) ∷ []
+    code uCaret d from after = flagged d (λ flags. pCaret (after flags)) ∷ []
+    code uDollar d from after = flagged d (λ flags. pDollar (after flags)) ∷ []
+    code uEmpty d from after = []
+    code (uSeq x y) d from after = code x d from (startOf y (from + size x) after) ++ code y d (from + size x) after
+    code (uAlt ts) d from after = flagged d (λ flags. pFork (startsOf ts (suc from) after flags)) ∷ codes ts d (suc from) after
+    code (uOpt lazy t) d from after = flagged d (λ flags. pFork (waysInTurn lazy (startOf t (suc from) after flags) (after flags))) ∷ code t d (suc from) after
+    code (uStar lazy t) d from after =
+        flagged d (λ flags. pFork (waysInTurn lazy (startOf t (suc from) (roundEnd (skips t) d from after) flags) (after flags)))
+        ∷ code t (deeper (skips t) d) (suc from) (roundEnd (skips t) d from after)
 
-  pub codes : ℕ → Branches → ℕ → ℕ → (ℕ → ℕ) → List Flagged
-  codes F uNil d b k = []
-  codes F (uCons t ts) d b k = code F t d b k ++ codes F ts d (b + size t) k
+    pub codes : Branches → ℕ → ℕ → (ℕ → ℕ) → List Flagged
+    codes uNil d from after = []
+    codes (uCons t ts) d from after = code t d from after ++ codes ts d (from + size t) after
 
--- all places by their flags, END last
-unfoldable pub flaggedPlaces : ℕ → Unrolled → List Flagged
-unfolding size code
-flaggedPlaces F t = code F t 0 0 (stateAt F (size t)) ++ (flagged 0 (λ φ. pEnd) ∷ [])
+  -- all places by their flags, END last
+  unfoldable pub flaggedPlaces : Unrolled → List Flagged
+  unfolding size code
+  flaggedPlaces t = code t 0 0 (stateAt F (size t)) ++ (flagged 0 (λ flags. pEnd) ∷ [])
 
 -- how many flags place q has
 unfoldable pub flagsAt : Unrolled → ℕ → ℕ
 unfolding nest flaggedPlaces
-flagsAt t q = getD (flaggedPlaces (2 ^ nest t) t) q (flagged 0 (λ φ. pFork [])) .flags
+flagsAt t q = getD (flaggedPlaces (2 ^ nest t) t) q (flagged 0 (λ flags. pFork [])) .flags
 
 -- a place with certain flags; bits beyond its flags are unused, and no way leads to a place with
 -- one of them set, so that it is of no consequence what stands there: END, which leads nowhere
 abbrev pub withFlags : Flagged → ℕ → Place
-withFlags p φ = pick (ltb φ (2 ^ p .flags)) (p .place φ) pEnd
+withFlags p flags = pick (ltb flags (2 ^ p .flags)) (p .place flags) pEnd
 
 -- all places, each once for each of F values of its flags
 unfoldable pub spread : ℕ → List Flagged → List Place
 unfolding tabulate
-spread F ps = tabulate (length ps * F) (λ s. withFlags (getD ps (s / F) (flagged 0 (λ φ. pFork []))) (s % F))
+spread F ps = tabulate (length ps * F) (λ s. withFlags (getD ps (s / F) (flagged 0 (λ flags. pFork []))) (s % F))
 
 unfoldable pub places : Unrolled → List Place
 unfolding nest flaggedPlaces spread

@@ -1,6 +1,7 @@
--- ISO/IEC 19075-5, clause 6.2, on the pattern as it is written: the parenthesised strings of a
--- pattern (its derivations), the rows that one reads, and their order of preferment; then the whole
--- report told by that order. No place, walk or search is named here.
+-- Rules: ISO/IEC 19075-5, clause 6.2, which the tender's demand 2 names, with R-3, on the pattern as
+-- it is written. The parenthesised strings of a pattern (its derivations), the rows that one reads,
+-- and their order of preferment; then the whole report told by that order. No place or walk is
+-- named here.
 use mathlib.Core.Path.{_≡_}
 use mathlib.Core.List.{List, [], _∷_, _++_, flatMap}
 use mathlib.Core.Bool.{Bool, true, false, _&&_}
@@ -9,7 +10,7 @@ use mathlib.Core.Option.{none, some, Option}
 use Prim.Native.Nat.{ℕ, suc, _+_, _≤_, _<_, zero}
 use lib.ListN.{length}
 use Rattle.rules.specs.Language.{lower, upper, Rank, pattern, Tree, one, more, last, next, bare, times, letter, caret, dollar, empty, group}
-use Rattle.rules.specs.Readings.{Within}
+use Rattle.rules.specs.Readings.{Within, RowSets}
 use Rattle.rules.specs.Search.{End, done, full, stuck, Skip, nextStart}
 use lib.Dec.{ltb}
 use Rattle.rules.specs.Basics.{every}
@@ -34,10 +35,11 @@ Derivation (group p) = Derivation p
 
 -- ---- the rows that a derivation reads
 
--- the rounds, one behind the other
-unfoldable pub InTurn : {A : Type 0} → (A → ℕ → ℕ → List ℕ → Type 0) → List A → ℕ → ℕ → List ℕ → Type 0
-InTurn R [] i j w = (j ≡ i) × (w ≡ [])
-InTurn R (d ∷ ds) i k w = (j : ℕ) × (u : List ℕ) × (v : List ℕ) × (R d i j u) × (InTurn R ds j k v) × (w ≡ u ++ v)
+-- the rounds, one behind the other, of what R says of one round
+module _ {A : Type 0} (R : A → ℕ → ℕ → List ℕ → Type 0) where
+  unfoldable pub InTurn : List A → ℕ → ℕ → List ℕ → Type 0
+  InTurn [] i j w = (j ≡ i) × (w ≡ [])
+  InTurn (d ∷ ds) i k w = (j : ℕ) × (u : List ℕ) × (v : List ℕ) × (R d i j u) × (InTurn ds j k v) × (w ≡ u ++ v)
 
 -- what is asked of the branch taken
 abbrev pub Either : {A B : Type 0} → (A → Type 0) → (B → Type 0) → A ⊎ B → Type 0
@@ -46,19 +48,20 @@ Either R S (inr e) = S e
 
 -- d reads the rows i to j, not j itself, with the labels w, every letter holding at its row and
 -- every anchor at its position
-unfoldable pub Parses : {k : Rank} → (t : Tree k) → (ℕ → ℕ → Bool) → ℕ → Derivation t → ℕ → ℕ → List ℕ → Type 0
-unfolding Derivation InTurn
-Parses (one b) holds n d i j w = Parses b holds n d i j w
-Parses (more b p) holds n d i j w = Either (λ x. Parses b holds n x i j w) (λ x. Parses p holds n x i j w) d
-Parses (last f) holds n d i j w = Parses f holds n d i j w
-Parses (next f b) holds n d i k w = (j : ℕ) × (u : List ℕ) × (v : List ℕ) × (Parses f holds n (d .0) i j u) × (Parses b holds n (d .1) j k v) × (w ≡ u ++ v)
-Parses (bare x) holds n d i j w = Parses x holds n d i j w
-Parses (times x f z) holds n d i j w = InTurn (Parses x holds n) (d .0) i j w
-Parses (letter c) holds n d i j w = (i < n) × (holds c i ≡ true) × (j ≡ suc i) × (w ≡ c ∷ [])
-Parses caret holds n d i j w = (i ≡ 0) × (j ≡ i) × (w ≡ [])
-Parses dollar holds n d i j w = (i ≡ n) × (j ≡ i) × (w ≡ [])
-Parses empty holds n d i j w = (j ≡ i) × (w ≡ [])
-Parses (group p) holds n d i j w = Parses p holds n d i j w
+module _ (rows : RowSets) where
+  unfoldable pub Parses : {k : Rank} → (t : Tree k) → Derivation t → ℕ → ℕ → List ℕ → Type 0
+  unfolding Derivation InTurn
+  Parses (one b) d i j w = Parses b d i j w
+  Parses (more b p) d i j w = Either (λ x. Parses b x i j w) (λ x. Parses p x i j w) d
+  Parses (last f) d i j w = Parses f d i j w
+  Parses (next f b) d i k w = (j : ℕ) × (u : List ℕ) × (v : List ℕ) × (Parses f (d .0) i j u) × (Parses b (d .1) j k v) × (w ≡ u ++ v)
+  Parses (bare x) d i j w = Parses x d i j w
+  Parses (times x f z) d i j w = InTurn (Parses x) (d .0) i j w
+  Parses (letter c) d i j w = (i < rows .n) × (rows .holds c i ≡ true) × (j ≡ suc i) × (w ≡ c ∷ [])
+  Parses caret d i j w = (i ≡ 0) × (j ≡ i) × (w ≡ [])
+  Parses dollar d i j w = (i ≡ rows .n) × (j ≡ i) × (w ≡ [])
+  Parses empty d i j w = (j ≡ i) × (w ≡ [])
+  Parses (group p) d i j w = Parses p d i j w
 
 -- ---- R-3: a round that takes no row ends the repetition
 
@@ -151,28 +154,45 @@ Prefers (group p) d e = Prefers p d e
 -- ---- the match at a start
 
 -- no derivation reads from i on
-abbrev pub NoneParses : {k : Rank} → (t : Tree k) → (ℕ → ℕ → Bool) → ℕ → ℕ → Type 0
-NoneParses t holds n i = (e : Derivation t) (j : ℕ) (w : List ℕ) → Parses t holds n e i j w → ⊥
+abbrev pub NoneParses : RowSets → {k : Rank} → Tree k → ℕ → Type 0
+NoneParses rows t i = (e : Derivation t) (j : ℕ) (w : List ℕ) → Parses rows t e i j w → ⊥
 
 -- some derivation that keeps R-3's rule reads from i to j with the labels w, and none such that
 -- reads from i, to whatever end, is preferred to it
-pub record Preferred {k : Rank} (t : Tree k) (holds : ℕ → ℕ → Bool) (n i j : ℕ) (w : List ℕ) : Type 0 where
+pub record Preferred (rows : RowSets) {k : Rank} (t : Tree k) (i j : ℕ) (w : List ℕ) : Type 0 where
   pub derivation : Derivation t
   pub kept : keeps t derivation ≡ true
-  pub parses : Parses t holds n derivation i j w
-  pub greatest : (e : Derivation t) (j′ : ℕ) (w′ : List ℕ) → keeps t e ≡ true → Parses t holds n e i j′ w′ → Prefers t e derivation → ⊥
+  pub parses : Parses rows t derivation i j w
+  pub greatest : (e : Derivation t) (j′ : ℕ) (w′ : List ℕ) → keeps t e ≡ true → Parses rows t e i j′ w′ → Prefers t e derivation → ⊥
 
 -- ---- the whole report
 
--- `Reports t holds n skip room i m l ms end`: from the start i on, behind m matches with l labels,
--- the matches written are ms, start and labels each, and `end` tells how it ends: done, at the
--- match that does not fit, or behind a match that names no next start. `room m l w`: a match with
--- the labels w fits behind m matches with l labels.
-pub data Reports (t : Tree pattern) (holds : ℕ → ℕ → Bool) (n : ℕ) (skip : Skip) (room : ℕ → ℕ → List ℕ → Bool) : ℕ → ℕ → ℕ → List (ℕ × List ℕ) → End (ℕ × List ℕ) → Type 0 where
-  finished : {i m l : ℕ} → n ≤ i → Reports t holds n skip room i m l [] done
-  unmatched : {i m l : ℕ} {ms : List (ℕ × List ℕ)} {end : End (ℕ × List ℕ)} → i < n → NoneParses t holds n i → Reports t holds n skip room (suc i) m l ms end
-      → Reports t holds n skip room i m l ms end
-  matched : {i j k m l : ℕ} {w : List ℕ} {ms : List (ℕ × List ℕ)} {end : End (ℕ × List ℕ)} → i < n → Preferred t holds n i j w → room m l w ≡ true
-      → nextStart skip i j w ≡ some k → Reports t holds n skip room k (suc m) (l + length w) ms end → Reports t holds n skip room i m l ((i, w) ∷ ms) end
-  lost : {i j m l : ℕ} {w : List ℕ} → i < n → Preferred t holds n i j w → room m l w ≡ true → nextStart skip i j w ≡ none → Reports t holds n skip room i m l ((i, w) ∷ []) stuck
-  stopped : {i j m l : ℕ} {w : List ℕ} → i < n → Preferred t holds n i j w → room m l w ≡ false → Reports t holds n skip room i m l [] (full (i, w))
+-- what a report is of: a pattern over a partition, with a skip mode and the room there is;
+-- `fits m l w`: a match with the labels w fits behind m matches with l labels
+pub record Setting : Type 0 where
+  pub tree : Tree pattern
+  pub rows : RowSets
+  pub skip : Skip
+  pub fits : ℕ → ℕ → List ℕ → Bool
+
+abbrev pub setting : Tree pattern → RowSets → Skip → (ℕ → ℕ → List ℕ → Bool) → Setting
+setting t rows skip fits = record { tree = t; rows = rows; skip = skip; fits = fits }
+
+-- a match as a report tells it: its start and its labels
+abbrev pub Shown : Type 0
+Shown = ℕ × List ℕ
+
+-- `Reports s i m l ms end`: from the start i on, behind m matches with l labels, the matches written
+-- are ms, and `end` tells how it ends.
+pub data Reports (s : Setting) : ℕ → ℕ → ℕ → List Shown → End Shown → Type 0 where
+  -- no row is left to start at: done
+  finished : {i m l : ℕ} → s .rows .n ≤ i → Reports s i m l [] done
+  -- no match at the start: the next start is one row on
+  unmatched : {i m l : ℕ} {ms : List Shown} {end : End Shown} → i < s .rows .n → NoneParses (s .rows) (s .tree) i → Reports s (suc i) m l ms end → Reports s i m l ms end
+  -- a match that fits is written, and the skip mode names the next start
+  matched : {i j k m l : ℕ} {w : List ℕ} {ms : List Shown} {end : End Shown} → i < s .rows .n → Preferred (s .rows) (s .tree) i j w → s .fits m l w ≡ true
+      → nextStart (s .skip) i j w ≡ some k → Reports s k (suc m) (l + length w) ms end → Reports s i m l ((i, w) ∷ ms) end
+  -- a match that fits is written, and names no next start: there it ends
+  lost : {i j m l : ℕ} {w : List ℕ} → i < s .rows .n → Preferred (s .rows) (s .tree) i j w → s .fits m l w ≡ true → nextStart (s .skip) i j w ≡ none → Reports s i m l ((i, w) ∷ []) stuck
+  -- a match that does not fit is not written: there it ends
+  stopped : {i j m l : ℕ} {w : List ℕ} → i < s .rows .n → Preferred (s .rows) (s .tree) i j w → s .fits m l w ≡ false → Reports s i m l [] (full (i, w))

@@ -1,5 +1,5 @@
--- Document 01, the last paragraph of "Report": what the program prints, as a function from the
--- bytes of standard input to the bytes of standard output.
+-- Rules: document 01, the last paragraph of "Report". What the program prints, as a function from
+-- the bytes of standard input to the bytes of standard output.
 use mathlib.Core.Bool.{not, _||_}
 use mathlib.Core.List.{List, [], _∷_, _++_}
 use mathlib.Core.Option.{Option, none, some}
@@ -10,9 +10,10 @@ use lib.ListN.{length, take, drop}
 use Rattle.rules.specs.Basics.{pick, tabulate, le16, le32, signed32, bytes}
 use Rattle.rules.specs.Rows.{Table}
 use Rattle.rules.specs.Query.{Measure}
-use Rattle.rules.specs.Search.{Match, Swept, Kept, labels}
+use Rattle.rules.specs.Search.{Match, Swept, labels}
 use Rattle.rules.specs.Report.{measured}
 use Rattle.rules.specs.Answers.{badRows, roomAnswer, pairsOf, Task, taskOf, walked, stopped}
+use Rattle.rules.specs.Walk.{Kept}
 
 -- ---- numbers in decimal
 
@@ -22,7 +23,8 @@ digitsOf zero n = []
 digitsOf (suc k) n = pick (ltb n 10) ((48 + n) ∷ []) (digitsOf k (n / 10) ++ ((48 + n % 10) ∷ []))
 
 -- all digits of a number: a number below 10 ^ 20, as every number here is, has at most 20, and any
--- number has no more than one more than itself
+-- number has no more than one more than itself. The law `decimal-is` (crates/laws, Decimal) says
+-- that the two bounds give the same, and `decimal-value` that the digits spell the number.
 unfoldable pub decimal : ℕ → List ℕ
 unfolding digitsOf
 decimal n = digitsOf (pick (ltb n 100000000000000000000) 20 (suc n)) n
@@ -68,7 +70,7 @@ matchLines t k (x ∷ xs) = matchLine (t .table) (t .measures) (suc k) (x .start
 unfoldable pub headerLine : Swept Kept → List ℕ
 unfolding bytes decimal stopped
 headerLine r =
-    pick (stopped r) (bytes "stopped ") (bytes "matches ") ++ (decimal (length (r .matches)) ++ (bytes " steps " ++ (decimal (r .state .1) ++ (10 ∷ []))))
+    pick (stopped r) (bytes "stopped ") (bytes "matches ") ++ (decimal (length (r .matches)) ++ (bytes " steps " ++ (decimal (r .state .steps) ++ (10 ∷ []))))
 
 unfoldable pub searchText : Task → Swept Kept → List ℕ
 unfolding headerLine matchLines

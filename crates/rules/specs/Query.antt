@@ -1,6 +1,6 @@
--- Document 01, "Rows and query records", on the query's bytes: its records or that it is cut, the
--- kinds and their order, the fields of each kind, and the parts that a query is made of. The tests
--- for answers 1, 2, 3 and 8 stand here, each over the whole query.
+-- Rules: document 01, "Rows and query records", on the query's bytes, with R-2, R-5 and R-7. Its
+-- records or that it is cut, the kinds and their order, the fields of each kind, and the parts that
+-- a query is made of. The tests for answers 1, 2, 3 and 8 stand here, each over the whole query.
 use mathlib.Core.Bool.{Bool, true, false, not, _&&_, _||_}
 use mathlib.Core.List.{List, [], _∷_}
 use Prim.Native.Nat.{ℕ, zero, suc, _+_, _-_, _*_}
@@ -57,7 +57,9 @@ unfolding behindOn wholeAt
 behindFrom zero s at = at
 behindFrom (suc k) s at = behindOn (wholeAt s at) (behindFrom k s) s at
 
--- the query's records; a record takes 4 bytes at least, so there are fewer records than bytes
+-- the query's records; a record takes 4 bytes at least, so there are fewer records than bytes. The
+-- laws `records-enough` and `behind-enough` (crates/laws, QueryFuel) say that with any larger number
+-- than the bytes the records, and the index behind them, are the same.
 unfoldable pub records : List ℕ → List Record
 unfolding recordsFrom
 records s = recordsFrom (length s) s 0

@@ -1,6 +1,6 @@
--- Not a rule of the paper: how the tree of a text is computed, so that definitions which need it
--- can be run. The law `tree-exactly` (crates/laws, Grammar) says that `treeOf text` is `some p`
--- exactly if p is `Written` in the text, so nothing below has to be believed. Recursive descent
+-- No rule. How the tree of a text is computed, so that definitions which need it can be run. The law
+-- `tree-exactly` (crates/laws, Grammar) says that `treeOf text` is `some p` exactly if p is
+-- `Written` in the text (specs/Language), so nothing below has to be believed. Recursive descent
 -- over the bytes: each reader begins at its first byte and ends behind its last token and the
 -- spaces there. A reader that finds nothing stops at the first byte with which no text of the
 -- language begins that way, or at the end; `wrong-exactly` and `incomplete-exactly` (crates/laws,
@@ -35,9 +35,9 @@ rest [] = []
 rest (b ∷ s) = s
 
 -- behind the spaces
-unfoldable pub skip : List ℕ → List ℕ
-skip [] = []
-skip (b ∷ s) = pick (eqb b 32) (skip s) (b ∷ s)
+unfoldable pub skipSpaces : List ℕ → List ℕ
+skipSpaces [] = []
+skipSpaces (b ∷ s) = pick (eqb b 32) (skipSpaces s) (b ∷ s)
 
 unfoldable pub isDigit : ℕ → Bool
 unfolding inRange
@@ -58,13 +58,13 @@ number s =
 -- An upper bound: a number that is 1 at least and n at least, n being 0 to 99. Its first digit is 1
 -- to 9 and begins some number that is n at least, or else it is wrong there. A number that is below
 -- n all the same is wrong at u, behind its first digit: at its second, or where it has none.
-unfoldable pub enough : ℕ → List ℕ → Reading ℕ → Reading ℕ
-enough n u (bad v) = bad v
-enough n u (got m v) = pick (leb n m) (got m v) (bad u)
+unfoldable pub boundReached : ℕ → List ℕ → Reading ℕ → Reading ℕ
+boundReached n u (bad v) = bad v
+boundReached n u (got m v) = pick (leb n m) (got m v) (bad u)
 
 unfoldable pub reaching : ℕ → List ℕ → Reading ℕ
-unfolding inRange enough number
-reaching n s = pick (inRange 49 57 (peek s)) (pick (leb n (10 * (peek s - 48) + 9)) (enough n (rest s) (number s)) (bad s)) (bad s)
+unfolding inRange boundReached number
+reaching n s = pick (inRange 49 57 (peek s)) (pick (leb n (10 * (peek s - 48) + 9)) (boundReached n (rest s) (number s)) (bad s)) (bad s)
 
 unfoldable pub bounded : Form → Bool
 bounded star = true
@@ -84,8 +84,8 @@ pub data Marked : Type 0 where
 
 -- behind a quantifier: the reluctant mark, if it is there, and spaces
 unfoldable pub reluctant : Form → List ℕ → Marked
-unfolding peek rest skip
-reluctant f s = pick (eqb (peek s) 63) (marked f true (skip (rest s))) (marked f false (skip s))
+unfolding peek rest skipSpaces
+reluctant f s = pick (eqb (peek s) 63) (marked f true (skipSpaces (rest s))) (marked f false (skipSpaces s))
 
 -- behind the last bound: `}`, and the bounds are in order
 unfoldable pub shut : (ℕ → Form) → Reading ℕ → Marked
@@ -120,8 +120,8 @@ quantifier s =
 -- ---- the four readers
 
 -- a branch ends at the text's end, at `|` and at `)`
-unfoldable pub ended : ℕ → Bool
-ended b = pick (eqb b 0) true (pick (eqb b 124) true (eqb b 41))
+unfoldable pub branchEnds : ℕ → Bool
+branchEnds b = pick (eqb b 0) true (pick (eqb b 124) true (eqb b 41))
 
 -- what is found, under a constructor
 unfoldable pub under : {A B : Type 0} → (A → B) → Reading A → Reading B
@@ -130,8 +130,8 @@ under f (got x s) = got (f x) s
 
 -- branch, or branch | pattern
 unfoldable pub altOn : Bool → (List ℕ → Reading (Tree pattern)) → Tree branch → List ℕ → Reading (Tree pattern)
-unfolding under rest skip
-altOn true again b s = under (more b) (again (skip (rest s)))
+unfolding under rest skipSpaces
+altOn true again b s = under (more b) (again (skipSpaces (rest s)))
 altOn false again b s = got (one b) s
 
 unfoldable pub altWith : (List ℕ → Reading (Tree pattern)) → Reading (Tree branch) → Reading (Tree pattern)
@@ -146,9 +146,9 @@ seqOn true again f s = got (last f) s
 seqOn false again f s = under (next f) (again s)
 
 unfoldable pub seqWith : (List ℕ → Reading (Tree branch)) → Reading (Tree factor) → Reading (Tree branch)
-unfolding seqOn peek ended
+unfolding seqOn peek branchEnds
 seqWith again (bad u) = bad u
-seqWith again (got f s) = seqOn (ended (peek s)) again f s
+seqWith again (got f s) = seqOn (branchEnds (peek s)) again f s
 
 -- primary, or primary and quantifier
 unfoldable pub timesOn : Tree primary → List ℕ → Marked → Reading (Tree factor)
@@ -163,30 +163,31 @@ timesWith (got x s) = timesOn x s (quantifier s)
 
 -- behind a pattern in parentheses: `)`
 unfoldable pub closed : Reading (Tree pattern) → Reading (Tree primary)
-unfolding peek rest skip
+unfolding peek rest skipSpaces
 closed (bad u) = bad u
-closed (got p s) = pick (eqb (peek s) 41) (got (group p) (skip (rest s))) (bad s)
+closed (got p s) = pick (eqb (peek s) 41) (got (group p) (skipSpaces (rest s))) (bad s)
 
 -- behind `(` and spaces: `)`, or a pattern and `)`
 unfoldable pub parted : Bool → (List ℕ → Reading (Tree pattern)) → List ℕ → Reading (Tree primary)
 unfolding closed
-parted true again s = got empty (skip (rest s))
+parted true again s = got empty (skipSpaces (rest s))
 parted false again s = closed (again s)
 
 -- no parenthesis: a letter that no letter follows, or an anchor
 unfoldable pub simple : List ℕ → Reading (Tree primary)
-unfolding isLetter peek rest skip
+unfolding isLetter peek rest skipSpaces
 simple s =
-    pick (eqb (peek s) 94) (got caret (skip (rest s)))
-    (pick (eqb (peek s) 36) (got dollar (skip (rest s)))
-    (pick (isLetter (peek s)) (pick (isLetter (peek (rest s))) (bad (rest s)) (got (letter (peek s)) (skip (rest s)))) (bad s)))
+    pick (eqb (peek s) 94) (got caret (skipSpaces (rest s)))
+    (pick (eqb (peek s) 36) (got dollar (skipSpaces (rest s)))
+    (pick (isLetter (peek s)) (pick (isLetter (peek (rest s))) (bad (rest s)) (got (letter (peek s)) (skipSpaces (rest s)))) (bad s)))
 
 unfoldable pub primaryOn : Bool → (List ℕ → Reading (Tree pattern)) → List ℕ → Reading (Tree primary)
 unfolding parted simple
-primaryOn true again s = parted (eqb (peek (skip (rest s))) 41) again (skip (rest s))
+primaryOn true again s = parted (eqb (peek (skipSpaces (rest s))) 41) again (skipSpaces (rest s))
 primaryOn false again s = simple s
 
--- what the reader of a rank finds; the number bounds the depth of the readers
+-- what the reader of a rank finds; the number bounds the depth of the readers. The law `read-enough`
+-- (crates/laws, Depth) says that `depth`, below, is enough.
 unfoldable pub read : ℕ → (k : Rank) → List ℕ → Reading (Tree k)
 unfolding altWith seqWith timesWith primaryOn
 read zero k s = bad s
@@ -208,17 +209,17 @@ depth k s = 4 * length s + rankOf k + 1
 
 -- ---- a whole text
 
-unfoldable pub whole : Reading (Tree pattern) → Option (Tree pattern)
-whole (bad u) = none
-whole (got p []) = some p
-whole (got p (b ∷ s)) = none
+unfoldable pub wholeTree : Reading (Tree pattern) → Option (Tree pattern)
+wholeTree (bad u) = none
+wholeTree (got p []) = some p
+wholeTree (got p (b ∷ s)) = none
 
 -- the tree of a text, if it has one
 unfoldable pub treeOf : List ℕ → Option (Tree pattern)
-unfolding whole read skip
-treeOf s = whole (read (4 * length s + 4) pattern (skip s))
+unfolding wholeTree read skipSpaces
+treeOf s = wholeTree (read (4 * length s + 4) pattern (skipSpaces s))
 
 -- where reading stops: how many bytes are read
 unfoldable pub stopOf : List ℕ → ℕ
-unfolding left read skip
-stopOf s = length s - length (left (read (4 * length s + 4) pattern (skip s)))
+unfolding left read skipSpaces
+stopOf s = length s - length (left (read (4 * length s + 4) pattern (skipSpaces s)))

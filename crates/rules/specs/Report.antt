@@ -1,5 +1,5 @@
--- Document 01, "Report": measures, what one match appends to the numbers and the labels, when it
--- fits, and what the notes and the trail hold afterwards.
+-- Rules: document 01, "Report", with R-5. Measures, what one match appends to the numbers and the
+-- labels, when it fits, and what the notes and the trail hold afterwards.
 use mathlib.Core.Bool.{Bool, false, _&&_, _||_}
 use mathlib.Core.List.{List, [], _∷_, _++_}
 use mathlib.Core.Option.{Option, none, some}

@@ -1,6 +1,6 @@
--- Document 01, "Rows and query records", on rows and letters, with R-7: a table of rows, a
--- comparison at a row, which is true, false or unknown, a letter's condition, when a letter
--- holds at a row, and how many of its comparisons are judged there (R-6).
+-- Rules: document 01, "Rows and query records", on rows and letters, with R-6 and R-7. A table of
+-- rows, a comparison at a row, which is true, false or unknown, a letter's condition, when a letter
+-- holds at a row, and how many of its comparisons are judged there.
 use mathlib.Core.Bool.{Bool, true, false, _&&_, _||_}
 use mathlib.Core.List.{List, [], _∷_}
 use mathlib.Core.Option.{Option, none, some}
@@ -139,7 +139,7 @@ pub data Condition : Type 0 where
 
 -- What an entry makes of the results so far, the latest first. With fewer results than it needs it
 -- does nothing; in an accepted query no entry runs short, and one result is left (law `one-left`,
--- proofs/Truths).
+-- crates/laws, Truths).
 unfoldable pub resultOn : Table → ℕ → Entry → List Truth → List Truth
 unfolding truth truthAnd truthOr truthNot
 resultOn t row (compared c) rs = truth t row c ∷ rs
@@ -174,7 +174,7 @@ conditionTruth t row (allOf cs) = allTruth t row cs
 conditionTruth t row (postfix es) = latest (resultsOf t row es [])
 
 -- A letter holds only on true. That one of kind 3 holds at a row when all its comparisons are met
--- is the law `all-met` (proofs/Truths); one without DEFINE has none, so it always holds.
+-- is the law `all-met` (crates/laws, Truths); one without DEFINE has none, so it always holds.
 unfoldable pub holds : Table → ℕ → Condition → Bool
 unfolding conditionTruth isYes
 holds t row c = isYes (conditionTruth t row c)

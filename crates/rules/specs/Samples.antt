@@ -1,6 +1,6 @@
--- Document 02: small searches as tables, run on the definitions, one table for each request; and of
--- strings that clause 6.2 of ISO/IEC 19075-5 prints, which one is preferred. That the definitions
--- agree with every line is proved in proofs/Samples.
+-- Worked cases: document 02. Small searches as tables, run on the definitions, one table for each
+-- request; and of strings that clause 6.2 of ISO/IEC 19075-5 prints, which one is preferred. That
+-- the definitions agree with every line is proved in proofs/Samples.
 use mathlib.Core.Bool.{Bool, true, false, not, _&&_}
 use mathlib.Core.List.{List, [], _∷_, _++_}
 use mathlib.Core.Logic.{inl, inr}
@@ -14,12 +14,12 @@ use lib.ListN.{replicate, take}
 use Rattle.rules.specs.Basics.{pick, bytes}
 use Rattle.rules.specs.Rows.{Truth, yes, no, unknown, conditionTruth}
 use Rattle.rules.specs.Language.{opt, lower, upper, pattern, Tree, one, more, last, bare, times, letter}
-use Rattle.rules.specs.Preferment.{Derivation, Prefers, emptyEnds}
+use Rattle.rules.specs.Preferment.{Derivation, Prefers, emptyEnds, Shown}
 use Rattle.rules.specs.Walk.{countTrue}
 use Rattle.rules.specs.Search.{openOf}
-use Rattle.rules.specs.Answers.{pairsOf, Buffers, Result, taskOf, walkWithin, searchWithin, searchOf, testOf}
+use Rattle.rules.specs.Answers.{pairsOf, Buffers, Result, taskOf, walkWithin, searchWithin, searchOf, Tested, testOf}
 use Rattle.rules.specs.Lots.{Named, Progress, begun, beginAnswer, lotWalk, callOf}
-use Rattle.rules.specs.Bench.{recordOf, asks, w1, X, any, Line, at, unstepped, refusal, same, equalZ, enough, line, aboveZero, agrees, ifGiven, flaggedLine}
+use Rattle.rules.specs.Bench.{recordBytes, asks, w1, X, any, Line, at, unstepped, refusedLine, same, equalZ, enough, line, aboveZero, agrees, ifGiven, withFactor, answering}
 use Rattle.rules.specs.Report.{resultOf}
 
 -- ---- R-2, skip to a labelled row
@@ -27,12 +27,12 @@ use Rattle.rules.specs.Report.{resultOf}
 -- a query of one column whose skip record has a mode and a letter
 abbrev pub asksTo : String → ℕ → ℕ → List ℕ
 unfolding bytes
-asksTo text mode c = recordOf 1 (1 ∷ 0 ∷ []) ++ (recordOf 2 (bytes text) ++ recordOf 4 (mode ∷ c ∷ []))
+asksTo text mode c = recordBytes 1 (1 ∷ 0 ∷ []) ++ (recordBytes 2 (bytes text) ++ recordBytes 4 (mode ∷ c ∷ []))
 
 -- a line of a search that stops behind its last match, as the letter labels no row of it or its
 -- first row
-abbrev pub stuckLine : List ℕ → List ℤ → ℕ → List (ℕ × List ℕ) → Line
-stuckLine q rows p ms = record { query = q; rows = rows; answer = 15; places = p; factor = 1; matches = ms; steps = none; numbers = none; output = none }
+abbrev pub stuckLine : List ℕ → List ℤ → ℕ → List Shown → Line
+stuckLine q rows p ms = answering 15 (unstepped q rows p ms)
 
 unfoldable pub skips : List Line
 unfolding bytes
@@ -53,12 +53,12 @@ skips =
     ∷ unstepped (asksTo "A*?" 2 65) (any 3) 3 (at 0 "" ∷ at 1 "" ∷ at 2 "" ∷ [])
     -- modes 0 and 1 demand 0, modes 2 and 3 a letter; there is no mode 4; a letter that is not in
     -- the pattern is 9
-    ∷ refusal (asksTo "A" 0 65) 2 3
-    ∷ refusal (asksTo "A" 1 65) 2 3
-    ∷ refusal (asksTo "A" 2 0) 2 3
-    ∷ refusal (asksTo "A" 3 64) 2 3
-    ∷ refusal (asksTo "A" 4 65) 2 3
-    ∷ refusal (asksTo "A" 3 66) 2 9
+    ∷ refusedLine (asksTo "A" 0 65) 2 3
+    ∷ refusedLine (asksTo "A" 1 65) 2 3
+    ∷ refusedLine (asksTo "A" 2 0) 2 3
+    ∷ refusedLine (asksTo "A" 3 64) 2 3
+    ∷ refusedLine (asksTo "A" 4 65) 2 3
+    ∷ refusedLine (asksTo "A" 3 66) 2 9
     ∷ []
 
 -- a match that does not fit is 13, also where it would name no next start
@@ -70,44 +70,46 @@ fullFirst =
 
 -- ---- R-13, an allowance of steps
 
--- an allowance, the answer, the matches, labels and steps returned, and how many pairs have failed
+-- a result without an offset: the answer, the matches, the labels and the steps
+abbrev pub gets : ℕ → ℕ → ℕ → ℕ → Result
+gets a m l s = record { answer = a; matches = m; labels = l; steps = s; offset = 0 }
+
+abbrev pub equalResult : Result → Result → Bool
+equalResult r t = eqb (r .answer) (t .answer) && (eqb (r .matches) (t .matches) && (eqb (r .labels) (t .labels) && (eqb (r .steps) (t .steps) && eqb (r .offset) (t .offset))))
+
+-- an allowance, the result, and how many pairs have failed
 pub record Allowed : Type 0 where
   pub allowance : ℕ
-  pub answer : ℕ
-  pub matches : ℕ
-  pub labels : ℕ
-  pub steps : ℕ
+  pub result : Result
   pub failed : ℕ
 
-abbrev pub allowed : ℕ → ℕ → ℕ → ℕ → ℕ → ℕ → Allowed
-allowed a n m l s f = record { allowance = a; answer = n; matches = m; labels = l; steps = s; failed = f }
+abbrev pub allowed : ℕ → Result → ℕ → Allowed
+allowed a r f = record { allowance = a; result = r; failed = f }
 
 -- W1 takes 12 steps and finds its match with the eighth
 unfoldable pub allowances : List Allowed
 allowances =
-    allowed 0 16 0 0 0 0
-    ∷ allowed 1 16 0 0 1 1
-    ∷ allowed 2 16 0 0 2 1
-    ∷ allowed 3 16 0 0 3 1
-    ∷ allowed 4 16 0 0 4 1
-    ∷ allowed 5 16 0 0 5 1
-    ∷ allowed 6 16 0 0 6 2
-    ∷ allowed 7 16 0 0 7 2
-    ∷ allowed 8 16 1 3 8 2
-    ∷ allowed 9 16 1 3 9 2
-    ∷ allowed 10 16 1 3 10 2
-    ∷ allowed 11 16 1 3 11 3
-    ∷ allowed 12 0 1 3 12 6
-    ∷ allowed 13 0 1 3 12 6
+    allowed 0 (gets 16 0 0 0) 0
+    ∷ allowed 1 (gets 16 0 0 1) 1
+    ∷ allowed 2 (gets 16 0 0 2) 1
+    ∷ allowed 3 (gets 16 0 0 3) 1
+    ∷ allowed 4 (gets 16 0 0 4) 1
+    ∷ allowed 5 (gets 16 0 0 5) 1
+    ∷ allowed 6 (gets 16 0 0 6) 2
+    ∷ allowed 7 (gets 16 0 0 7) 2
+    ∷ allowed 8 (gets 16 1 3 8) 2
+    ∷ allowed 9 (gets 16 1 3 9) 2
+    ∷ allowed 10 (gets 16 1 3 10) 2
+    ∷ allowed 11 (gets 16 1 3 11) 3
+    ∷ allowed 12 (gets 0 1 3 12) 6
+    ∷ allowed 13 (gets 0 1 3 12) 6
     ∷ []
 
 unfoldable pub keepsWithin : List ℕ → List ℤ → Allowed → Bool
 unfolding searchWithin walkWithin countTrue
 keepsWithin q rows l =
-    let r = searchWithin (some (l .allowance)) q rows (enough q rows) .result in
-    let failed = walkWithin (some (l .allowance)) q rows (enough q rows) .state .0 in
-    eqb (r .answer) (l .answer)
-    && (eqb (r .matches) (l .matches) && (eqb (r .labels) (l .labels) && (eqb (r .steps) (l .steps) && eqb (countTrue failed) (l .failed))))
+    let failed = walkWithin (some (l .allowance)) q rows (enough q rows) .state .failed in
+    equalResult (searchWithin (some (l .allowance)) q rows (enough q rows) .result) (l .result) && eqb (countTrue failed) (l .failed)
 
 unfoldable pub keepsTo : Allowed → Bool
 unfolding keepsWithin w1
@@ -138,25 +140,19 @@ noRows = eqb (searchWithin (some 0) w1 [] (enough w1 []) .result .answer) 0
 abbrev pub named : List ℕ → ℕ → Option ℕ → Named
 named q n a = record { query = q; largest = n; allowance = a; lent = enough q (any n) }
 
--- a call: the slice, how many of its rows are present, and whether it declares the end; and what it
--- returns
+-- a call: the slice, how many of its rows are present, and whether it declares the end; and its
+-- result
 pub record Told : Type 0 where
   pub rows : List ℤ
   pub present : ℕ
   pub ends : Bool
-  pub answer : ℕ
-  pub matches : ℕ
-  pub labels : ℕ
-  pub steps : ℕ
+  pub result : Result
 
-abbrev pub now : List ℤ → ℕ → ℕ → ℕ → ℕ → ℕ → Told
-now rows k a m l n = record { rows = rows; present = k; ends = false; answer = a; matches = m; labels = l; steps = n }
+abbrev pub now : List ℤ → ℕ → Result → Told
+now rows k r = record { rows = rows; present = k; ends = false; result = r }
 
-abbrev pub atLast : List ℤ → ℕ → ℕ → ℕ → ℕ → ℕ → Told
-atLast rows k a m l n = record { rows = rows; present = k; ends = true; answer = a; matches = m; labels = l; steps = n }
-
-abbrev pub returns : Result → ℕ → ℕ → ℕ → ℕ → Bool
-returns r a m l n = eqb (r .answer) a && (eqb (r .matches) m && (eqb (r .labels) l && eqb (r .steps) n))
+abbrev pub atLast : List ℤ → ℕ → Result → Told
+atLast rows k r = record { rows = rows; present = k; ends = true; result = r }
 
 -- calls one behind the other, each with the buffers as the one before left them
 unfoldable pub tells : Named → Progress → Buffers → List Told → Bool
@@ -164,7 +160,7 @@ unfolding callOf
 tells s p lent [] = true
 tells s p lent (c ∷ cs) =
     let r = callOf s p (c .rows) (c .present) (c .ends) lent in
-    returns (r .memory .result) (c .answer) (c .matches) (c .labels) (c .steps) && tells s (r .progress) (r .memory .buffers) cs
+    equalResult (r .memory .result) (c .result) && tells s (r .progress) (r .memory .buffers) cs
 
 abbrev pub Lotted : Type 0
 Lotted = Named × List Told
@@ -177,7 +173,7 @@ keepsOn l = tells (l .0) begun (l .0 .lent) (l .1)
 abbrev pub twoColumns : Named
 unfolding bytes pairsOf
 twoColumns =
-    let q : List ℕ = recordOf 1 (2 ∷ 0 ∷ []) ++ (recordOf 2 (bytes "A") ++ recordOf 4 (0 ∷ 0 ∷ [])) in
+    let q : List ℕ = recordBytes 1 (2 ∷ 0 ∷ []) ++ (recordBytes 2 (bytes "A") ++ recordBytes 4 (0 ∷ 0 ∷ [])) in
     record { query = q; largest = 2; allowance = none; lent = enough q (any 4) }
 
 -- the same with room for one match in the report
@@ -195,58 +191,58 @@ unfolding w1 bytes pairsOf
 lots =
     -- W1 in two lots, cut at each row: by the end the one run's 0, 1, 3, 12; then 21. No row: the
     -- first attempt waits
-    (named w1 5 none, now X 0 23 0 0 0 ∷ atLast X 5 0 1 3 12 ∷ now X 5 21 0 0 0 ∷ [])
+    (named w1 5 none, now X 0 (gets 23 0 0 0) ∷ atLast X 5 (gets 0 1 3 12) ∷ now X 5 (gets 21 0 0 0) ∷ [])
     -- it fails at row 0, and the next attempt waits
-    ∷ (named w1 5 none, now X 1 23 0 0 1 ∷ atLast X 5 0 1 3 12 ∷ [])
+    ∷ (named w1 5 none, now X 1 (gets 23 0 0 1) ∷ atLast X 5 (gets 0 1 3 12) ∷ [])
     -- the second A waits, its entry counted; with the third row it passes, and the third A waits
-    ∷ (named w1 5 none, now X 2 23 0 0 4 ∷ now X 3 23 0 0 6 ∷ atLast X 5 0 1 3 12 ∷ [])
+    ∷ (named w1 5 none, now X 2 (gets 23 0 0 4) ∷ now X 3 (gets 23 0 0 6) ∷ atLast X 5 (gets 0 1 3 12) ∷ [])
     -- the match is handed out, and the attempt at row 4 waits; then all rows are there, but the end
     -- is not declared
-    ∷ (named w1 5 none, now X 4 23 1 3 8 ∷ now X 5 23 1 3 11 ∷ atLast X 5 0 1 3 12 ∷ [])
+    ∷ (named w1 5 none, now X 4 (gets 23 1 3 8) ∷ now X 5 (gets 23 1 3 11) ∷ atLast X 5 (gets 0 1 3 12) ∷ [])
     -- more rows than named, and fewer than before, change nothing, and no last call so refused
     -- declares the end; the same count again; an end with fewer rows than named
     ∷ (
       named w1 5 none,
-      now X 4 23 1 3 8
-          ∷ now (X ++ X) 6 10 0 0 0
-          ∷ atLast (X ++ X) 6 10 0 0 0
-          ∷ now X 3 21 0 0 0
-          ∷ atLast X 3 21 0 0 0
-          ∷ now X 4 23 1 3 8
-          ∷ atLast X 4 0 1 3 8
+      now X 4 (gets 23 1 3 8)
+          ∷ now (X ++ X) 6 (gets 10 0 0 0)
+          ∷ atLast (X ++ X) 6 (gets 10 0 0 0)
+          ∷ now X 3 (gets 21 0 0 0)
+          ∷ atLast X 3 (gets 21 0 0 0)
+          ∷ now X 4 (gets 23 1 3 8)
+          ∷ atLast X 4 (gets 0 1 3 8)
           -- after the end 21 comes first, also to a second last call
-          ∷ now X 5 21 0 0 0
-          ∷ atLast X 5 21 0 0 0
-          ∷ now (X ++ X) 6 21 0 0 0
+          ∷ now X 5 (gets 21 0 0 0)
+          ∷ atLast X 5 (gets 21 0 0 0)
+          ∷ now (X ++ X) 6 (gets 21 0 0 0)
           ∷ [],
     )
     -- more rows than the slice holds; this ranks before fewer rows than before
-    ∷ (named w1 9 none, now X 6 10 0 0 0 ∷ now X 5 23 1 3 11 ∷ now (take 3 X) 4 10 0 0 0 ∷ now (take 3 X) 3 21 0 0 0 ∷ [])
+    ∷ (named w1 9 none, now X 6 (gets 10 0 0 0) ∷ now X 5 (gets 23 1 3 11) ∷ now (take 3 X) 4 (gets 10 0 0 0) ∷ now (take 3 X) 3 (gets 21 0 0 0) ∷ [])
     -- the slice may hold more rows than are named, and what lies behind those present is not read
-    ∷ (named w1 3 none, now X 3 23 0 0 6 ∷ atLast X 3 0 0 0 9 ∷ [])
+    ∷ (named w1 3 none, now X 3 (gets 23 0 0 6) ∷ atLast X 3 (gets 0 0 0 9) ∷ [])
     -- a slice that is not whole rows
-    ∷ (twoColumns, now (any 3) 1 10 0 0 0 ∷ now (any 4) 1 23 1 1 2 ∷ now (any 4) 2 23 2 2 4 ∷ [])
+    ∷ (twoColumns, now (any 3) 1 (gets 10 0 0 0) ∷ now (any 4) 1 (gets 23 1 1 2) ∷ now (any 4) 2 (gets 23 2 2 4) ∷ [])
     -- forks, `^` and END do not wait: an empty match is handed out, and `^` fails behind the row
-    ∷ (named (asks "A*?" [] 0 []) 2 none, now (any 2) 0 23 0 0 0 ∷ now (any 2) 1 23 1 0 2 ∷ atLast (any 2) 2 0 2 0 4 ∷ [])
-    ∷ (named (asks "A ^" [] 0 []) 2 none, now (any 2) 1 23 0 0 2 ∷ atLast (any 2) 1 0 0 0 2 ∷ [])
+    ∷ (named (asks "A*?" [] 0 []) 2 none, now (any 2) 0 (gets 23 0 0 0) ∷ now (any 2) 1 (gets 23 1 0 2) ∷ atLast (any 2) 2 (gets 0 2 0 4) ∷ [])
+    ∷ (named (asks "A ^" [] 0 []) 2 none, now (any 2) 1 (gets 23 0 0 2) ∷ atLast (any 2) 1 (gets 0 0 0 2) ∷ [])
     -- a letter without DEFINE waits too, also behind the last row that can come
-    ∷ (named (asks "A*" [] 0 []) 2 none, now (any 2) 1 23 0 0 4 ∷ now (any 2) 2 23 0 0 6 ∷ atLast (any 2) 2 0 1 2 7 ∷ [])
+    ∷ (named (asks "A*" [] 0 []) 2 none, now (any 2) 1 (gets 23 0 0 4) ∷ now (any 2) 2 (gets 23 0 0 6) ∷ atLast (any 2) 2 (gets 0 1 2 7) ∷ [])
     -- 13 stays the answer to every later call, after a last call too
     ∷ (
       oneMatch (named (asks "A" [] 0 []) 3 none),
-      now (any 3) 1 23 1 1 2 ∷ now (any 3) 2 13 1 1 4 ∷ now (any 3) 1 13 1 1 4 ∷ now (any 3) 4 13 1 1 4 ∷ atLast (any 3) 3 13 1 1 4 ∷ now (any 3) 3 13 1 1 4 ∷ [],
+      now (any 3) 1 (gets 23 1 1 2) ∷ now (any 3) 2 (gets 13 1 1 4) ∷ now (any 3) 1 (gets 13 1 1 4) ∷ now (any 3) 4 (gets 13 1 1 4) ∷ atLast (any 3) 3 (gets 13 1 1 4) ∷ now (any 3) 3 (gets 13 1 1 4) ∷ [],
     )
-    ∷ (oneMatch (named (asks "A" [] 0 []) 3 none), atLast (any 3) 2 13 1 1 4 ∷ now (any 3) 2 13 1 1 4 ∷ atLast (any 3) 3 13 1 1 4 ∷ [])
+    ∷ (oneMatch (named (asks "A" [] 0 []) 3 none), atLast (any 3) 2 (gets 13 1 1 4) ∷ now (any 3) 2 (gets 13 1 1 4) ∷ atLast (any 3) 3 (gets 13 1 1 4) ∷ [])
     -- 15 in the call that reaches END, also where no further row is there; it stays
-    ∷ (named (asksTo "A" 2 65) 3 none, now (any 3) 1 15 1 1 2 ∷ atLast (any 3) 3 15 1 1 2 ∷ now (any 3) 3 15 1 1 2 ∷ [])
+    ∷ (named (asksTo "A" 2 65) 3 none, now (any 3) 1 (gets 15 1 1 2) ∷ atLast (any 3) 3 (gets 15 1 1 2) ∷ now (any 3) 3 (gets 15 1 1 2) ∷ [])
     -- an allowance counts over all calls; 16 stays
-    ∷ (named w1 5 (some 6), now X 2 23 0 0 4 ∷ now X 4 16 0 0 6 ∷ atLast X 2 16 0 0 6 ∷ now X 6 16 0 0 6 ∷ [])
+    ∷ (named w1 5 (some 6), now X 2 (gets 23 0 0 4) ∷ now X 4 (gets 16 0 0 6) ∷ atLast X 2 (gets 16 0 0 6) ∷ now X 6 (gets 16 0 0 6) ∷ [])
     -- the entry that waits may be the last allowed; one that would pass the allowance is not made
-    ∷ (named w1 5 (some 4), now X 2 23 0 0 4 ∷ now X 3 16 0 0 4 ∷ [])
-    ∷ (named w1 5 (some 3), now X 2 16 0 0 3 ∷ [])
+    ∷ (named w1 5 (some 4), now X 2 (gets 23 0 0 4) ∷ now X 3 (gets 16 0 0 4) ∷ [])
+    ∷ (named w1 5 (some 3), now X 2 (gets 16 0 0 3) ∷ [])
     -- with the allowance just used up, an attempt at an absent row waits, and is none at the end
-    ∷ (named w1 5 (some 8), now X 4 23 1 3 8 ∷ now X 5 16 1 3 8 ∷ [])
-    ∷ (named w1 5 (some 8), now X 4 23 1 3 8 ∷ atLast X 4 0 1 3 8 ∷ [])
+    ∷ (named w1 5 (some 8), now X 4 (gets 23 1 3 8) ∷ now X 5 (gets 16 1 3 8) ∷ [])
+    ∷ (named w1 5 (some 8), now X 4 (gets 23 1 3 8) ∷ atLast X 4 (gets 0 1 3 8) ∷ [])
     ∷ []
 
 -- notes and trail are kept by the largest number of rows: W1, at most 5 rows, 4 of them present.
@@ -271,10 +267,10 @@ lotRooms =
 
 -- DEFINE c with offset 1 on the left, or on the right: above the constant 0, or above a column
 abbrev pub aheadLeft : ℕ → List ℕ
-aheadLeft c = recordOf 3 (c ∷ 1 ∷ 0 ∷ 1 ∷ 5 ∷ 0 ∷ 0 ∷ 0 ∷ 0 ∷ 0 ∷ 0 ∷ 0 ∷ 0 ∷ 0 ∷ [])
+aheadLeft c = recordBytes 3 (c ∷ 1 ∷ 0 ∷ 1 ∷ 5 ∷ 0 ∷ 0 ∷ 0 ∷ 0 ∷ 0 ∷ 0 ∷ 0 ∷ 0 ∷ 0 ∷ [])
 
 abbrev pub aheadRight : ℕ → List ℕ
-aheadRight c = recordOf 3 (c ∷ 1 ∷ 0 ∷ 0 ∷ 5 ∷ 1 ∷ 0 ∷ 1 ∷ 0 ∷ 0 ∷ 0 ∷ 0 ∷ 0 ∷ 0 ∷ [])
+aheadRight c = recordBytes 3 (c ∷ 1 ∷ 0 ∷ 0 ∷ 5 ∷ 1 ∷ 0 ∷ 1 ∷ 0 ∷ 0 ∷ 0 ∷ 0 ∷ 0 ∷ 0 ∷ [])
 
 -- a first call with so many of four rows present, buffers for 3: the answer and its offset
 pub record Refused : Type 0 where
@@ -298,7 +294,7 @@ lotRefusals =
     ∷ refusedAt (asks "A" (aheadRight 65) 0 []) 3 3 17 0
     ∷ refusedAt (asks "A" (aheadLeft 66) 0 []) 3 3 23 0
     -- 9 ranks before 17, and 17 before 10
-    ∷ refusedAt (asks "A $" [] 0 (recordOf 5 (1 ∷ 66 ∷ 0 ∷ 0 ∷ []))) 3 3 9 0
+    ∷ refusedAt (asks "A $" [] 0 (recordBytes 5 (1 ∷ 66 ∷ 0 ∷ 0 ∷ []))) 3 3 9 0
     ∷ refusedAt (asks "A $" [] 0 []) 4097 5 17 0
     -- 10 before 11: a largest number above 4,096, more rows than it, more than the slice holds
     ∷ refusedAt (asks "A" [] 0 []) 4097 3 10 0
@@ -327,33 +323,32 @@ pub record Repetition : Type 0 where
   pub line : Line
   pub notes : Option (List ℕ)
 
-abbrev pub repetition : List ℕ → List ℤ → ℕ → ℕ → ℕ → List (ℕ × List ℕ) → ℕ → Option (List ℕ) → Repetition
-repetition q rows a p f ms s ns =
-    record { line = record { query = q; rows = rows; answer = a; places = p; factor = f; matches = ms; steps = some s; numbers = none; output = none }; notes = ns }
+abbrev pub repetition : Line → Option (List ℕ) → Repetition
+repetition l ns = record { line = l; notes = ns }
 
 unfoldable pub repetitions : List Repetition
 unfolding bytes
 repetitions =
-    repetition (asks "(A*)*" aboveZero 0 []) (pos 1 ∷ pos 1 ∷ pos 0 ∷ []) 0 4 2 (at 0 "AA" ∷ at 2 "" ∷ []) 14 (some (0 ∷ 0 ∷ 48 ∷ 0 ∷ []))
-    ∷ repetition (asks "(A*)*" aboveZero 1 []) (pos 1 ∷ pos 0 ∷ pos 1 ∷ []) 0 4 2 (at 0 "A" ∷ at 1 "" ∷ at 2 "A" ∷ []) 21 (some (0 ∷ 48 ∷ 0 ∷ 48 ∷ []))
-    ∷ repetition (asks "(A?)*" aboveZero 0 []) (pos 1 ∷ pos 1 ∷ pos 0 ∷ []) 0 4 2 (at 0 "AA" ∷ at 2 "" ∷ []) 13 (some (0 ∷ 0 ∷ 16 ∷ 0 ∷ []))
+    repetition (withFactor 2 (line (asks "(A*)*" aboveZero 0 []) (pos 1 ∷ pos 1 ∷ pos 0 ∷ []) 4 (at 0 "AA" ∷ at 2 "" ∷ []) 14)) (some (0 ∷ 0 ∷ 48 ∷ 0 ∷ []))
+    ∷ repetition (withFactor 2 (line (asks "(A*)*" aboveZero 1 []) (pos 1 ∷ pos 0 ∷ pos 1 ∷ []) 4 (at 0 "A" ∷ at 1 "" ∷ at 2 "A" ∷ []) 21)) (some (0 ∷ 48 ∷ 0 ∷ 48 ∷ []))
+    ∷ repetition (withFactor 2 (line (asks "(A?)*" aboveZero 0 []) (pos 1 ∷ pos 1 ∷ pos 0 ∷ []) 4 (at 0 "AA" ∷ at 2 "" ∷ []) 13)) (some (0 ∷ 0 ∷ 16 ∷ 0 ∷ []))
     -- a round that takes no row ends the repetition, also where the fork prefers to leave
-    ∷ repetition (asks "(A??)*" [] 0 []) (pos 0 ∷ []) 0 4 2 (at 0 "" ∷ []) 3 (some (0 ∷ 0 ∷ []))
-    ∷ repetition (asks "(A*?)*? $" [] 0 []) (pos 0 ∷ pos 0 ∷ []) 0 5 2 (at 0 "AA" ∷ []) 13 (some (64 ∷ 0 ∷ 1 ∷ 0 ∷ []))
+    ∷ repetition (withFactor 2 (line (asks "(A??)*" [] 0 []) (pos 0 ∷ []) 4 (at 0 "" ∷ []) 3)) (some (0 ∷ 0 ∷ []))
+    ∷ repetition (withFactor 2 (line (asks "(A*?)*? $" [] 0 []) (pos 0 ∷ pos 0 ∷ []) 5 (at 0 "AA" ∷ []) 13)) (some (64 ∷ 0 ∷ 1 ∷ 0 ∷ []))
     -- nested in one another: F is 4, 8; four of them are refused
-    ∷ repetition (asks "(()*)*" [] 0 []) (pos 0 ∷ []) 0 3 4 (at 0 "" ∷ []) 3 (some (0 ∷ 0 ∷ 0 ∷ []))
-    ∷ repetition (asks "((A*)*)*" aboveZero 0 []) (pos 1 ∷ pos 0 ∷ []) 0 5 4 (at 0 "A" ∷ at 1 "" ∷ []) 18 (some (0 ∷ 0 ∷ 0 ∷ 0 ∷ 11 ∷ 0 ∷ 0 ∷ 0 ∷ []))
-    ∷ repetition (asks "(((A*)*)*)*" aboveZero 0 []) (pos 1 ∷ []) 0 6 8 (at 0 "A" ∷ []) 20 (some (0 ∷ 0 ∷ 0 ∷ 0 ∷ 0 ∷ 0 ∷ 0 ∷ 0 ∷ 0 ∷ 0 ∷ 139 ∷ 0 ∷ []))
-    ∷ repetition (asks "((((A*)*)*)*)*" aboveZero 0 []) [] 6 7 16 [] 0 none
+    ∷ repetition (withFactor 4 (line (asks "(()*)*" [] 0 []) (pos 0 ∷ []) 3 (at 0 "" ∷ []) 3)) (some (0 ∷ 0 ∷ 0 ∷ []))
+    ∷ repetition (withFactor 4 (line (asks "((A*)*)*" aboveZero 0 []) (pos 1 ∷ pos 0 ∷ []) 5 (at 0 "A" ∷ at 1 "" ∷ []) 18)) (some (0 ∷ 0 ∷ 0 ∷ 0 ∷ 11 ∷ 0 ∷ 0 ∷ 0 ∷ []))
+    ∷ repetition (withFactor 8 (line (asks "(((A*)*)*)*" aboveZero 0 []) (pos 1 ∷ []) 6 (at 0 "A" ∷ []) 20)) (some (0 ∷ 0 ∷ 0 ∷ 0 ∷ 0 ∷ 0 ∷ 0 ∷ 0 ∷ 0 ∷ 0 ∷ 139 ∷ 0 ∷ []))
+    ∷ repetition (answering 6 (withFactor 16 (line (asks "((((A*)*)*)*)*" aboveZero 0 []) [] 7 [] 0))) none
     -- sequences, branches, anchors and `()` in the body; required copies keep their empty rounds
-    ∷ repetition (asks "(A? B?)* $" aboveZero 0 []) (pos 1 ∷ pos 0 ∷ []) 0 7 2 (at 0 "AB" ∷ []) 12 (some (0 ∷ 0 ∷ 0 ∷ 0 ∷ 17 ∷ 0 ∷ []))
-    ∷ repetition (asks "(A?){2,} B" aboveZero 0 []) (pos 1 ∷ pos 1 ∷ []) 0 9 2 (at 0 "AB" ∷ []) 13 (some (0 ∷ 0 ∷ 0 ∷ 65 ∷ 0 ∷ 80 ∷ 5 ∷ []))
-    ∷ repetition (asks "(A*|B)* C" aboveZero 0 []) (pos 0 ∷ pos 0 ∷ []) 0 7 2 (at 0 "C" ∷ at 1 "C" ∷ []) 12 (some (64 ∷ 0 ∷ 16 ∷ 0 ∷ 0 ∷ 0 ∷ []))
-    ∷ repetition (asks "(^ A?)* B" aboveZero 0 []) (pos 1 ∷ pos 0 ∷ []) 0 6 2 (at 0 "AB" ∷ []) 8 (some (0 ∷ 64 ∷ 0 ∷ 0 ∷ 0 ∷ []))
-    ∷ repetition (asks "((A?)*? B?)+ $" aboveZero 0 []) (pos 0 ∷ pos 1 ∷ []) 0 13 4 (at 0 "BB" ∷ []) 13 (some (0 ∷ 0 ∷ 0 ∷ 0 ∷ 0 ∷ 0 ∷ 0 ∷ 0 ∷ 0 ∷ 0 ∷ 0 ∷ 0 ∷ 0 ∷ 0 ∷ 0 ∷ 0 ∷ 0 ∷ 0 ∷ 1 ∷ 0 ∷ []))
-    ∷ repetition (asks "(()|A)* $" [] 0 []) (pos 0 ∷ pos 0 ∷ []) 0 5 2 (at 0 "AA" ∷ []) 12 (some (64 ∷ 0 ∷ 1 ∷ 0 ∷ []))
-    ∷ repetition (asks "((A|())* B)* $" aboveZero 1 []) (pos 0 ∷ pos 1 ∷ []) 0 7 2 (at 0 "BB" ∷ at 1 "B" ∷ []) 24 (some (64 ∷ 0 ∷ 16 ∷ 64 ∷ 21 ∷ 0 ∷ []))
-    ∷ repetition (asks "(A?? B??)* $" [] 1 []) (pos 0 ∷ pos 0 ∷ []) 0 7 2 (at 0 "BB" ∷ at 1 "B" ∷ []) 24 (some (0 ∷ 4 ∷ 0 ∷ 1 ∷ 0 ∷ 0 ∷ []))
+    ∷ repetition (withFactor 2 (line (asks "(A? B?)* $" aboveZero 0 []) (pos 1 ∷ pos 0 ∷ []) 7 (at 0 "AB" ∷ []) 12)) (some (0 ∷ 0 ∷ 0 ∷ 0 ∷ 17 ∷ 0 ∷ []))
+    ∷ repetition (withFactor 2 (line (asks "(A?){2,} B" aboveZero 0 []) (pos 1 ∷ pos 1 ∷ []) 9 (at 0 "AB" ∷ []) 13)) (some (0 ∷ 0 ∷ 0 ∷ 65 ∷ 0 ∷ 80 ∷ 5 ∷ []))
+    ∷ repetition (withFactor 2 (line (asks "(A*|B)* C" aboveZero 0 []) (pos 0 ∷ pos 0 ∷ []) 7 (at 0 "C" ∷ at 1 "C" ∷ []) 12)) (some (64 ∷ 0 ∷ 16 ∷ 0 ∷ 0 ∷ 0 ∷ []))
+    ∷ repetition (withFactor 2 (line (asks "(^ A?)* B" aboveZero 0 []) (pos 1 ∷ pos 0 ∷ []) 6 (at 0 "AB" ∷ []) 8)) (some (0 ∷ 64 ∷ 0 ∷ 0 ∷ 0 ∷ []))
+    ∷ repetition (withFactor 4 (line (asks "((A?)*? B?)+ $" aboveZero 0 []) (pos 0 ∷ pos 1 ∷ []) 13 (at 0 "BB" ∷ []) 13)) (some (0 ∷ 0 ∷ 0 ∷ 0 ∷ 0 ∷ 0 ∷ 0 ∷ 0 ∷ 0 ∷ 0 ∷ 0 ∷ 0 ∷ 0 ∷ 0 ∷ 0 ∷ 0 ∷ 0 ∷ 0 ∷ 1 ∷ 0 ∷ []))
+    ∷ repetition (withFactor 2 (line (asks "(()|A)* $" [] 0 []) (pos 0 ∷ pos 0 ∷ []) 5 (at 0 "AA" ∷ []) 12)) (some (64 ∷ 0 ∷ 1 ∷ 0 ∷ []))
+    ∷ repetition (withFactor 2 (line (asks "((A|())* B)* $" aboveZero 1 []) (pos 0 ∷ pos 1 ∷ []) 7 (at 0 "BB" ∷ at 1 "B" ∷ []) 24)) (some (64 ∷ 0 ∷ 16 ∷ 64 ∷ 21 ∷ 0 ∷ []))
+    ∷ repetition (withFactor 2 (line (asks "(A?? B??)* $" [] 1 []) (pos 0 ∷ pos 0 ∷ []) 7 (at 0 "BB" ∷ at 1 "B" ∷ []) 24)) (some (0 ∷ 4 ∷ 0 ∷ 1 ∷ 0 ∷ 0 ∷ []))
     ∷ []
 
 unfoldable pub shows : Repetition → Bool
@@ -362,16 +357,13 @@ shows r = agrees (r .line) && ifGiven (λ ns. same eqb (searchOf (r .line .query
 
 -- to a labelled row: `(A??)*` has empty matches only; `(A?)*` takes all rows, then its last A
 -- alone, which is stuck
-abbrev pub stuckLoop : List ℕ → List ℤ → ℕ → ℕ → List (ℕ × List ℕ) → ℕ → Line
-stuckLoop q rows p f ms n = record { query = q; rows = rows; answer = 15; places = p; factor = f; matches = ms; steps = some n; numbers = none; output = none }
-
 unfoldable pub loopSkips : List Line
 unfolding bytes
 loopSkips =
-    flaggedLine (asksTo "(A??)*" 2 65) (any 3) 4 2 (at 0 "" ∷ at 1 "" ∷ at 2 "" ∷ []) 9
-    ∷ flaggedLine (asksTo "(A??)*" 3 65) (any 3) 4 2 (at 0 "" ∷ at 1 "" ∷ at 2 "" ∷ []) 9
-    ∷ stuckLoop (asksTo "(A?)*" 3 65) (any 3) 4 2 (at 0 "AAA" ∷ at 2 "A" ∷ []) 19
-    ∷ stuckLoop (asksTo "(A?)*" 2 65) (any 3) 4 2 (at 0 "AAA" ∷ []) 13
+    withFactor 2 (line (asksTo "(A??)*" 2 65) (any 3) 4 (at 0 "" ∷ at 1 "" ∷ at 2 "" ∷ []) 9)
+    ∷ withFactor 2 (line (asksTo "(A??)*" 3 65) (any 3) 4 (at 0 "" ∷ at 1 "" ∷ at 2 "" ∷ []) 9)
+    ∷ answering 15 (withFactor 2 (line (asksTo "(A?)*" 3 65) (any 3) 4 (at 0 "AAA" ∷ at 2 "A" ∷ []) 19))
+    ∷ answering 15 (withFactor 2 (line (asksTo "(A?)*" 2 65) (any 3) 4 (at 0 "AAA" ∷ []) 13))
     ∷ []
 
 -- `(A*)*`, where A is above 0
@@ -384,14 +376,14 @@ loops = asks "(A*)*" aboveZero 0 []
 -- eleventh
 unfoldable pub loopAllowances : List Allowed
 loopAllowances =
-    allowed 0 16 0 0 0 0
-    ∷ allowed 6 16 0 0 6 0
-    ∷ allowed 7 16 0 0 7 1
-    ∷ allowed 9 16 0 0 9 1
-    ∷ allowed 10 16 0 0 10 2
-    ∷ allowed 11 16 1 2 11 2
-    ∷ allowed 13 16 1 2 13 2
-    ∷ allowed 14 0 2 2 14 2
+    allowed 0 (gets 16 0 0 0) 0
+    ∷ allowed 6 (gets 16 0 0 6) 0
+    ∷ allowed 7 (gets 16 0 0 7) 1
+    ∷ allowed 9 (gets 16 0 0 9) 1
+    ∷ allowed 10 (gets 16 0 0 10) 2
+    ∷ allowed 11 (gets 16 1 2 11) 2
+    ∷ allowed 13 (gets 16 1 2 13) 2
+    ∷ allowed 14 (gets 0 2 2 14) 2
     ∷ []
 
 unfoldable pub loopsKeepTo : Allowed → Bool
@@ -405,10 +397,10 @@ fourRows = pos 1 ∷ pos 1 ∷ pos 0 ∷ pos 1 ∷ []
 unfoldable pub loopLots : List Lotted
 unfolding loops pairsOf
 loopLots =
-    (named loops 5 none, now fourRows 0 23 0 0 0 ∷ atLast fourRows 4 0 3 3 23 ∷ [])
-    ∷ (named loops 5 none, now fourRows 1 23 0 0 5 ∷ atLast fourRows 4 0 3 3 23 ∷ [])
-    ∷ (named loops 5 none, now fourRows 2 23 0 0 7 ∷ now fourRows 3 23 2 2 14 ∷ atLast fourRows 4 0 3 3 23 ∷ [])
-    ∷ (named loops 5 none, now fourRows 4 23 2 2 19 ∷ atLast fourRows 4 0 3 3 23 ∷ [])
+    (named loops 5 none, now fourRows 0 (gets 23 0 0 0) ∷ atLast fourRows 4 (gets 0 3 3 23) ∷ [])
+    ∷ (named loops 5 none, now fourRows 1 (gets 23 0 0 5) ∷ atLast fourRows 4 (gets 0 3 3 23) ∷ [])
+    ∷ (named loops 5 none, now fourRows 2 (gets 23 0 0 7) ∷ now fourRows 3 (gets 23 2 2 14) ∷ atLast fourRows 4 (gets 0 3 3 23) ∷ [])
+    ∷ (named loops 5 none, now fourRows 4 (gets 23 2 2 19) ∷ atLast fourRows 4 (gets 0 3 3 23) ∷ [])
     ∷ []
 
 -- notes and trail are for 4 times 2 times 6 pairs; pairs 20 and 21, and 36 and 37, are the letter's
@@ -495,18 +487,18 @@ averages =
 
 -- whole searches: AVG of all rows, of a letter's rows, of a letter without rows; there is no
 -- function 8
-abbrev pub averageLine : List ℕ → List ℤ → ℕ → List (ℕ × List ℕ) → List ℤ → Line
+abbrev pub averageLine : List ℕ → List ℤ → ℕ → List Shown → List ℤ → Line
 averageLine q rows p ms ns = record { query = q; rows = rows; answer = 0; places = p; factor = 1; matches = ms; steps = none; numbers = some ns; output = none }
 
 unfoldable pub averageSearches : List Line
 unfolding bytes
 averageSearches =
-    averageLine (asks "A A" [] 0 (recordOf 5 (7 ∷ 0 ∷ 0 ∷ 0 ∷ []))) (minus 3 ∷ minus 4 ∷ []) 3 (at 0 "AA" ∷ []) (pos 1 ∷ pos 0 ∷ pos 2 ∷ pos 1 ∷ minus 3 ∷ [])
-    ∷ averageLine (asks "A+ B C?" [] 0 (recordOf 5 (7 ∷ 65 ∷ 0 ∷ 0 ∷ []) ++ recordOf 5 (7 ∷ 67 ∷ 0 ∷ 0 ∷ []))) (pos 3 ∷ pos 4 ∷ pos 9 ∷ []) 7 (at 0 "AAB" ∷ [])
+    averageLine (asks "A A" [] 0 (recordBytes 5 (7 ∷ 0 ∷ 0 ∷ 0 ∷ []))) (minus 3 ∷ minus 4 ∷ []) 3 (at 0 "AA" ∷ []) (pos 1 ∷ pos 0 ∷ pos 2 ∷ pos 1 ∷ minus 3 ∷ [])
+    ∷ averageLine (asks "A+ B C?" [] 0 (recordBytes 5 (7 ∷ 65 ∷ 0 ∷ 0 ∷ []) ++ recordBytes 5 (7 ∷ 67 ∷ 0 ∷ 0 ∷ []))) (pos 3 ∷ pos 4 ∷ pos 9 ∷ []) 7 (at 0 "AAB" ∷ [])
     (pos 1 ∷ pos 0 ∷ pos 3 ∷ pos 1 ∷ pos 3 ∷ pos 0 ∷ pos 0 ∷ [])
-    ∷ refusal (asks "A" [] 0 (recordOf 5 (8 ∷ 0 ∷ 0 ∷ 0 ∷ []))) 2 3
-    ∷ refusal (asks "A" [] 0 (recordOf 5 (7 ∷ 0 ∷ 1 ∷ 0 ∷ []))) 2 3
-    ∷ refusal (asks "A" [] 0 (recordOf 5 (7 ∷ 66 ∷ 0 ∷ 0 ∷ []))) 2 9
+    ∷ refusedLine (asks "A" [] 0 (recordBytes 5 (8 ∷ 0 ∷ 0 ∷ 0 ∷ []))) 2 3
+    ∷ refusedLine (asks "A" [] 0 (recordBytes 5 (7 ∷ 0 ∷ 1 ∷ 0 ∷ []))) 2 3
+    ∷ refusedLine (asks "A" [] 0 (recordBytes 5 (7 ∷ 66 ∷ 0 ∷ 0 ∷ []))) 2 9
     ∷ []
 
 -- ---- R-7, OR, NOT and the third truth
@@ -544,7 +536,7 @@ NOT = 3 ∷ []
 -- a DEFINE of kind 6 for A with so many entries; and the truth of A at the first row of X where
 -- that is its DEFINE
 abbrev pub defines : ℕ → List ℕ → List ℕ
-defines count entries = recordOf 6 (65 ∷ count ∷ entries)
+defines count entries = recordBytes 6 (65 ∷ count ∷ entries)
 
 unfoldable pub truthAtFirst : List ℕ → Truth
 unfolding conditionTruth taskOf bytes
@@ -609,19 +601,19 @@ entryLists =
     -- 16 entries
     ∷ sameTruth (truthAtFirst (defines 16 (ofTruth unknown ++ (NOT ++ (NOT ++ (NOT ++ (NOT ++ (NOT ++ (NOT ++ (NOT ++ (NOT ++ (NOT ++ (NOT ++ (NOT ++ (NOT ++ (NOT ++ (ofTruth yes ++ OR))))))))))))))))) yes
     -- kind 3: all that are not false, one unknown
-    ∷ sameTruth (truthAtFirst (recordOf 3 (65 ∷ 2 ∷ (trueBytes ++ unknownBytes)))) unknown
-    ∷ sameTruth (truthAtFirst (recordOf 3 (65 ∷ 2 ∷ (unknownBytes ++ falseBytes)))) no
-    ∷ sameTruth (truthAtFirst (recordOf 3 (65 ∷ 2 ∷ (trueBytes ++ trueBytes)))) yes
+    ∷ sameTruth (truthAtFirst (recordBytes 3 (65 ∷ 2 ∷ (trueBytes ++ unknownBytes)))) unknown
+    ∷ sameTruth (truthAtFirst (recordBytes 3 (65 ∷ 2 ∷ (unknownBytes ++ falseBytes)))) no
+    ∷ sameTruth (truthAtFirst (recordBytes 3 (65 ∷ 2 ∷ (trueBytes ++ trueBytes)))) yes
     -- no DEFINE, or one for another letter
     ∷ sameTruth (truthAtFirst []) yes
-    ∷ sameTruth (truthAtFirst (recordOf 6 (66 ∷ 1 ∷ ofTruth no))) yes
+    ∷ sameTruth (truthAtFirst (recordBytes 6 (66 ∷ 1 ∷ ofTruth no))) yes
     ∷ []
 
 -- so many free letters' DEFINEs, from a letter on, by turns of kind 3 and of kind 6
 abbrev pub manyDefines : ℕ → ℕ → List ℕ
 manyDefines zero c = []
-manyDefines (suc zero) c = recordOf 3 (c ∷ 1 ∷ trueBytes)
-manyDefines (suc (suc k)) c = recordOf 3 (c ∷ 1 ∷ trueBytes) ++ (recordOf 6 (suc c ∷ 1 ∷ ofTruth yes) ++ manyDefines k (suc (suc c)))
+manyDefines (suc zero) c = recordBytes 3 (c ∷ 1 ∷ trueBytes)
+manyDefines (suc (suc k)) c = recordBytes 3 (c ∷ 1 ∷ trueBytes) ++ (recordBytes 6 (suc c ∷ 1 ∷ ofTruth yes) ++ manyDefines k (suc (suc c)))
 
 -- whole searches
 unfoldable pub truthSearches : List Line
@@ -632,31 +624,31 @@ truthSearches =
     -- 100 or unequal to PREV: every row
     ∷ unstepped (asks "A" (defines 4 (ofTruth unknown ++ (NOT ++ (ofTruth yes ++ OR)))) 0 []) X 2 (at 0 "A" ∷ at 1 "A" ∷ at 2 "A" ∷ at 3 "A" ∷ at 4 "A" ∷ [])
     -- kinds 3 and 6 in any order
-    ∷ unstepped (asks "A B" (recordOf 6 (66 ∷ 2 ∷ (ofTruth yes ++ NOT)) ++ recordOf 3 (65 ∷ 1 ∷ trueBytes)) 0 []) X 3 (at 0 "AB" ∷ [])
+    ∷ unstepped (asks "A B" (recordBytes 6 (66 ∷ 2 ∷ (ofTruth yes ++ NOT)) ++ recordBytes 3 (65 ∷ 1 ∷ trueBytes)) 0 []) X 3 (at 0 "AB" ∷ [])
     -- 26 of both kinds together are accepted, 27 are 2
     ∷ unstepped (asks "A" (manyDefines 26 65) 0 []) [] 2 []
-    ∷ refusal (asks "A" (manyDefines 26 65 ++ defines 1 (ofTruth yes)) 0 []) 2 2
+    ∷ refusedLine (asks "A" (manyDefines 26 65 ++ defines 1 (ofTruth yes)) 0 []) 2 2
     -- two DEFINEs for A are 8, of whatever kinds
-    ∷ refusal (asks "A" (defines 1 (ofTruth yes) ++ defines 1 (ofTruth yes)) 0 []) 2 8
-    ∷ refusal (asks "A" (recordOf 3 (65 ∷ 1 ∷ trueBytes) ++ defines 1 (ofTruth yes)) 0 []) 2 8
+    ∷ refusedLine (asks "A" (defines 1 (ofTruth yes) ++ defines 1 (ofTruth yes)) 0 []) 2 8
+    ∷ refusedLine (asks "A" (recordBytes 3 (65 ∷ 1 ∷ trueBytes) ++ defines 1 (ofTruth yes)) 0 []) 2 8
     -- runs short: NOT of nothing, AND of one, OR of one; leaves two results
-    ∷ refusal (asks "A" (defines 1 NOT) 0 []) 2 3
-    ∷ refusal (asks "A" (defines 2 (ofTruth yes ++ AND)) 0 []) 2 3
-    ∷ refusal (asks "A" (defines 2 (ofTruth yes ++ OR)) 0 []) 2 3
-    ∷ refusal (asks "A" (defines 3 (ofTruth yes ++ (AND ++ ofTruth yes))) 0 []) 2 3
-    ∷ refusal (asks "A" (defines 2 (ofTruth yes ++ ofTruth yes)) 0 []) 2 3
+    ∷ refusedLine (asks "A" (defines 1 NOT) 0 []) 2 3
+    ∷ refusedLine (asks "A" (defines 2 (ofTruth yes ++ AND)) 0 []) 2 3
+    ∷ refusedLine (asks "A" (defines 2 (ofTruth yes ++ OR)) 0 []) 2 3
+    ∷ refusedLine (asks "A" (defines 3 (ofTruth yes ++ (AND ++ ofTruth yes))) 0 []) 2 3
+    ∷ refusedLine (asks "A" (defines 2 (ofTruth yes ++ ofTruth yes)) 0 []) 2 3
     -- a count of 0 and of 17; byte 4; a byte too many, one too few; no letter; a comparison that
     -- does not fit
-    ∷ refusal (asks "A" (defines 0 []) 0 []) 2 3
-    ∷ refusal (asks "A" (defines 17 (ofTruth yes ++ replicate 16 3)) 0 []) 2 3
+    ∷ refusedLine (asks "A" (defines 0 []) 0 []) 2 3
+    ∷ refusedLine (asks "A" (defines 17 (ofTruth yes ++ replicate 16 3)) 0 []) 2 3
     ∷ unstepped (asks "A" (defines 16 (ofTruth yes ++ replicate 15 3)) 0 []) [] 2 []
-    ∷ refusal (asks "A" (defines 2 (ofTruth yes ++ (4 ∷ []))) 0 []) 2 3
-    ∷ refusal (asks "A" (defines 1 (ofTruth yes ++ (3 ∷ []))) 0 []) 2 3
-    ∷ refusal (asks "A" (defines 2 (ofTruth yes)) 0 []) 2 3
-    ∷ refusal (asks "A" (recordOf 6 (64 ∷ 1 ∷ ofTruth yes)) 0 []) 2 3
-    ∷ refusal (asks "A" (defines 1 (0 ∷ 1 ∷ 0 ∷ 1 ∷ 0 ∷ 0 ∷ 0 ∷ 0 ∷ 0 ∷ 100 ∷ 0 ∷ 0 ∷ 0 ∷ [])) 0 []) 2 3
+    ∷ refusedLine (asks "A" (defines 2 (ofTruth yes ++ (4 ∷ []))) 0 []) 2 3
+    ∷ refusedLine (asks "A" (defines 1 (ofTruth yes ++ (3 ∷ []))) 0 []) 2 3
+    ∷ refusedLine (asks "A" (defines 2 (ofTruth yes)) 0 []) 2 3
+    ∷ refusedLine (asks "A" (recordBytes 6 (64 ∷ 1 ∷ ofTruth yes)) 0 []) 2 3
+    ∷ refusedLine (asks "A" (defines 1 (0 ∷ 1 ∷ 0 ∷ 1 ∷ 0 ∷ 0 ∷ 0 ∷ 0 ∷ 0 ∷ 100 ∷ 0 ∷ 0 ∷ 0 ∷ [])) 0 []) 2 3
     -- a DEFINE behind the skip record is 2
-    ∷ refusal (asks "A" [] 0 (defines 1 (ofTruth yes))) 2 2
+    ∷ refusedLine (asks "A" [] 0 (defines 1 (ofTruth yes))) 2 2
     ∷ []
 
 -- 17 in lots: an offset above 0 among a kind 6 DEFINE's entries, also under NOT; not for a letter
@@ -683,12 +675,20 @@ sameBit false b = not b
 abbrev pub judges : ℕ → List ℕ → Bool → ℕ → Bool
 unfolding testOf bytes
 judges count comparisons h k =
-    let r = testOf (asks "A" (recordOf 3 (65 ∷ count ∷ comparisons)) 0 []) X 65 0 in
+    let r = testOf (asks "A" (recordBytes 3 (65 ∷ count ∷ comparisons)) 0 []) X 65 0 in
     eqb (r .answer) 0 && (sameBit (r .holds) h && eqb (r .judged) k)
 
-abbrev pub tests : List ℕ → List ℤ → ℕ → ℕ → ℕ → Bool → ℕ → Bool
+-- what the test of a letter says, with its offset: the answer, whether the letter holds, and how
+-- many comparisons are judged
+abbrev pub says : ℕ → Bool → ℕ → ℕ → Tested
+says a h k o = record { answer = a; holds = h; judged = k; offset = o }
+
+-- a query over X, a letter and a row
+abbrev pub tests : List ℕ → ℕ → ℕ → Tested → Bool
 unfolding testOf
-tests q rows c row a h k = let r = testOf q rows c row in eqb (r .answer) a && (sameBit (r .holds) h && eqb (r .judged) k)
+tests q c row t =
+    let r = testOf q X c row in
+    eqb (r .answer) (t .answer) && (sameBit (r .holds) (t .holds) && (eqb (r .judged) (t .judged) && eqb (r .offset) (t .offset)))
 
 unfoldable pub judgedTable : List Bool
 unfolding testOf bytes
@@ -704,21 +704,21 @@ judgedTable =
     ∷ judges 3 (unknownBytes ++ (trueBytes ++ trueBytes)) false 1
     ∷ judges 8 (trueBytes ++ (trueBytes ++ (trueBytes ++ (trueBytes ++ (trueBytes ++ (trueBytes ++ (trueBytes ++ unknownBytes))))))) false 8
     -- no DEFINE, one of kind 6, one for a letter that is not in the pattern
-    ∷ tests (asks "A" [] 0 []) X 65 0 0 true 0
-    ∷ tests (asks "A" (defines 1 (ofTruth yes)) 0 []) X 65 0 0 true 0
-    ∷ tests (asks "A" (defines 1 (ofTruth unknown)) 0 []) X 65 0 0 false 0
-    ∷ tests (asks "B" (recordOf 3 (65 ∷ 2 ∷ (falseBytes ++ trueBytes))) 0 []) X 65 0 0 false 1
+    ∷ tests (asks "A" [] 0 []) 65 0 (says 0 true 0 0)
+    ∷ tests (asks "A" (defines 1 (ofTruth yes)) 0 []) 65 0 (says 0 true 0 0)
+    ∷ tests (asks "A" (defines 1 (ofTruth unknown)) 0 []) 65 0 (says 0 false 0 0)
+    ∷ tests (asks "B" (recordBytes 3 (65 ∷ 2 ∷ (falseBytes ++ trueBytes))) 0 []) 65 0 (says 0 false 1 0)
     -- a byte that is no letter; rows at and behind n: column 0 unequal to 100 reads no row, PREV of
     -- row 5 is row 4
-    ∷ tests (asks "A" (recordOf 3 (65 ∷ 1 ∷ trueBytes)) 0 []) X 0 0 0 true 0
-    ∷ tests (asks "A" (recordOf 3 (65 ∷ 2 ∷ (falseBytes ++ trueBytes))) 0 []) X 65 5 0 false 1
-    ∷ tests (asks "A" (recordOf 3 (65 ∷ 1 ∷ (0 ∷ 0xFF ∷ 1 ∷ 0 ∷ 0 ∷ 0 ∷ 0 ∷ 0 ∷ 130 ∷ 0 ∷ 0 ∷ 0 ∷ []))) 0 []) X 65 5 0 true 1
-    ∷ tests (asks "A" [] 0 []) X 65 5 0 true 0
+    ∷ tests (asks "A" (recordBytes 3 (65 ∷ 1 ∷ trueBytes)) 0 []) 0 0 (says 0 true 0 0)
+    ∷ tests (asks "A" (recordBytes 3 (65 ∷ 2 ∷ (falseBytes ++ trueBytes))) 0 []) 65 5 (says 0 false 1 0)
+    ∷ tests (asks "A" (recordBytes 3 (65 ∷ 1 ∷ (0 ∷ 0xFF ∷ 1 ∷ 0 ∷ 0 ∷ 0 ∷ 0 ∷ 0 ∷ 130 ∷ 0 ∷ 0 ∷ 0 ∷ []))) 0 []) 65 5 (says 0 true 1 0)
+    ∷ tests (asks "A" [] 0 []) 65 5 (says 0 true 0 0)
     -- refused: by the query, by the text (5 and 14), by the rows
-    ∷ tests [] X 65 0 2 false 0
-    ∷ tests (asks "A)" [] 0 []) X 65 0 5 false 0
-    ∷ tests (asks "(A" [] 0 []) X 65 0 14 false 0
-    ∷ tests (recordOf 1 (2 ∷ 0 ∷ []) ++ (recordOf 2 (65 ∷ []) ++ recordOf 4 (0 ∷ 0 ∷ []))) X 65 0 10 false 0
+    ∷ tests [] 65 0 (says 2 false 0 0)
+    ∷ tests (asks "A)" [] 0 []) 65 0 (says 5 false 0 1)
+    ∷ tests (asks "(A" [] 0 []) 65 0 (says 14 false 0 2)
+    ∷ tests (recordBytes 1 (2 ∷ 0 ∷ []) ++ (recordBytes 2 (65 ∷ []) ++ recordBytes 4 (0 ∷ 0 ∷ []))) 65 0 (says 10 false 0 0)
     ∷ []
 
 -- ---- ISO/IEC 19075-5, clause 6.2, the order of preferment

@@ -1,6 +1,7 @@
--- Document 01, "Places and preferment", on starts: where attempts begin, how the search goes on
--- behind a match, and the two whole searches, by the counted walk and by plain backtracking, which
--- take starts, write matches and answer by the same rules.
+-- Rules: document 01, "Places and preferment", its third to fifth paragraphs, with R-2, R-11 and
+-- R-13. Where attempts begin, how the search goes on behind a match, and the two whole searches, by
+-- the counted walk and by plain backtracking, which take starts, write matches and answer by the
+-- same rules.
 use mathlib.Core.List.{List, [], _∷_, _++_, map}
 use mathlib.Core.Bool.{Bool, true, false, not, _&&_}
 use mathlib.Core.Option.{Option, none, some}
@@ -9,7 +10,7 @@ use lib.ListN.{length, getD, replicate}
 use lib.Dec.{ltb, leb, eqb}
 use Rattle.rules.specs.Basics.{pick}
 use Rattle.rules.specs.Places.{Place, pLetter, pCaret, pDollar, pFork, pEnd}
-use Rattle.rules.specs.Walk.{Ways, pairs, positionOf, placeOf, firstAt, pairWays, plain, Halt, outOfRows, Halting, Outcome, found, failed, halted, enterUnless, inside}
+use Rattle.rules.specs.Walk.{Ways, pairs, positionOf, placeOf, firstAt, pairWays, plain, Halt, outOfRows, Halting, Kept, asKept, Outcome, found, failed, halted, tried, inside}
 
 -- ---- matches
 
@@ -116,6 +117,16 @@ pub record Plan : Type 0 where
   pub rows : List ℕ → ℕ
   pub fits : ℕ → ℕ → List ℕ → Bool
 
+-- where a search stands: the row of the next start, and how many matches, with how many labels, are
+-- written
+pub record Standing : Type 0 where
+  pub start : ℕ
+  pub matches : ℕ
+  pub labels : ℕ
+
+abbrev pub standAt : ℕ → ℕ → ℕ → Standing
+standAt i m l = record { start = i; matches = m; labels = l }
+
 -- what a search comes to: the matches written, how it ends, and what the attempts kept
 pub record Swept (S : Type 0) : Type 0 where
   pub matches : List Match
@@ -133,6 +144,14 @@ abbrev pub noStart : Bool → ℕ → End Match
 noStart false i = done
 noStart true i = unfinished outOfRows i []
 
+-- after no match the next start is one row on; behind a match that is written it is the row j that
+-- the match names
+abbrev pub oneRowOn : Standing → Standing
+oneRowOn at = standAt (suc (at .start)) (at .matches) (at .labels)
+
+abbrev pub behindMatch : Plan → Standing → List ℕ → ℕ → Standing
+behindMatch plan at p j = standAt j (suc (at .matches)) (at .labels + plan .rows p)
+
 module _ {S : Type 0} where
   abbrev pub ended : End Match → S → Swept S
   ended e st = record { matches = []; end = e; state = st }
@@ -144,43 +163,41 @@ module _ {S : Type 0} where
   abbrev pub withMatch : Match → Swept S → Swept S
   withMatch m r = record { matches = m ∷ r .matches; end = r .end; state = r .state }
 
-  -- a match that does not fit whole ends the search, and no later, smaller match is tried
-  abbrev pub byFit : Bool → Match → S → (Unit {0} → Swept S) → Swept S
-  byFit false m st go = ended (full m) st
-  byFit true m st go = withMatch m (go tt)
+  -- A match that does not fit whole ends the search, and no later, smaller match is tried; one that
+  -- names no next start is written, and ends the search; any other is written, and the search goes
+  -- on at the start that it names.
+  abbrev pub onMatch : Bool → Option ℕ → Match → S → (ℕ → Swept S) → Swept S
+  onMatch false next m st go = ended (full m) st
+  onMatch true none m st go = withMatch m (ended stuck st)
+  onMatch true (some j) m st go = withMatch m (go j)
 
-  -- a match that names no next start is written, and ends the search
-  abbrev pub byNext : Option ℕ → S → (ℕ → Swept S) → Swept S
-  byNext none st go = ended stuck st
-  byNext (some j) st go = go j
+  -- behind an attempt: a miss; a halt; a match
+  abbrev pub onAnswer : Plan → (Standing → S → Swept S) → Standing → Attempted → S → Swept S
+  onAnswer plan on at miss st = on (oneRowOn at) st
+  onAnswer plan on at (halts h p) st = ended (unfinished h (at .start) p) st
+  onAnswer plan on at (hit p) st =
+      onMatch (plan .fits (at .matches) (at .labels) p) (plan .next (at .start) p) (record { start = at .start; path = p }) st (λ j. on (behindMatch plan at p j) st)
 
-  -- behind the attempt at the start i, where m matches with l labels are written: after no match
-  -- the next start is one row on
-  abbrev pub onAnswer : Plan → (ℕ → ℕ → ℕ → S → Swept S) → ℕ → ℕ → ℕ → Attempted → S → Swept S
-  onAnswer plan on i m l miss st = on (suc i) m l st
-  onAnswer plan on i m l (halts h p) st = ended (unfinished h i p) st
-  onAnswer plan on i m l (hit p) st = byFit (plan .fits m l p) (record { start = i; path = p }) st (λ _. byNext (plan .next i p) st (λ j. on j (suc m) (l + plan .rows p) st))
-
-  -- the search from the start i on; attempts begin at rows below n only. k bounds the number of
-  -- attempts, and n is enough (crates/laws, Fuel).
-  unfoldable pub sweep : (ℕ → S → Attempted × S) → Plan → ℕ → ℕ → ℕ → ℕ → S → Swept S
-  sweep attempt plan zero i m l st = ended (noStart (plan .more) i) st
-  sweep attempt plan (suc k) i m l st = below (ltb i (plan .n)) (ended (noStart (plan .more) i) st) (λ _. let r = attempt i st in onAnswer plan (sweep attempt plan k) i m l (r .0) (r .1))
+  -- the search from where it stands on; attempts begin at rows below n only. k bounds the number of
+  -- attempts; the law `sweep-enough` (crates/laws, Fuel) says that n is enough.
+  unfoldable pub sweep : (ℕ → S → Attempted × S) → Plan → ℕ → Standing → S → Swept S
+  sweep attempt plan zero at st = ended (noStart (plan .more) (at .start)) st
+  sweep attempt plan (suc k) at st =
+      below (ltb (at .start) (plan .n)) (ended (noStart (plan .more) (at .start)) st)
+      (λ _. let r = attempt (at .start) st in onAnswer plan (sweep attempt plan k) at (r .0) (r .1))
 
 -- ---- attempts
 
--- what the counted walk keeps through one whole search: the failed pairs and the steps
-abbrev pub Kept : Type 0
-Kept = List Bool × ℕ
-
+-- the counted walk keeps its failed pairs and its steps through one whole search
 abbrev pub answered : Outcome → Attempted × Kept
-answered (found p F s) = (hit p, (F, s))
-answered (failed F s) = (miss, (F, s))
-answered (halted h p F s) = (halts h p, (F, s))
+answered (found p kept) = (hit p, kept)
+answered (failed kept) = (miss, kept)
+answered (halted h p kept) = (halts h p, kept)
 
 -- an attempt tries the pair of the first place and the start
-abbrev pub walkAt : Halting → (ℕ → Ways) → ℕ → (ℕ → ℕ) → ℕ → Kept → Attempted × Kept
-walkAt h ways K first i st = answered (enterUnless (getD (st .0) (first i) false) (h .spent (st .1)) (inside h ways K) (st .0) (st .1) (first i))
+module _ (h : Halting) (ways : ℕ → Ways) where
+  abbrev pub walkAt : ℕ → (ℕ → ℕ) → ℕ → Kept → Attempted × Kept
+  walkAt K first i kept = answered (tried h (inside h ways K) kept (first i))
 
 -- plain backtracking keeps nothing, and never halts
 abbrev pub plainly : Option (List ℕ) → Attempted
@@ -245,21 +262,39 @@ planOf pl n more skip fits =
       fits = λ m l p. fits m l (labels pl p);
     }
 
--- by the counted walk: at first no pair has failed, and the count of steps is 0; the first start is
--- row 0. `holds c i`: letter c holds at row i; `skip`: the skip mode; `fits m l w`: a match with
--- the labels w fits behind m matches with l labels.
-unfoldable pub walkSearch : Terms → (ℕ → ℕ → Bool) → ℕ → List Place → Skip → (ℕ → ℕ → List ℕ → Bool) → Swept Kept
+-- what is searched: the number of rows; whether letter c holds at row i, `holds c i`; the places; the
+-- skip mode; and whether a match with the labels w fits behind m matches with l labels, `fits m l w`
+pub record Sought : Type 0 where
+  pub holds : ℕ → ℕ → Bool
+  pub n : ℕ
+  pub places : List Place
+  pub skip : Skip
+  pub fits : ℕ → ℕ → List ℕ → Bool
+
+abbrev pub seek : (ℕ → ℕ → Bool) → ℕ → List Place → Skip → (ℕ → ℕ → List ℕ → Bool) → Sought
+seek holds n pl skip fits = record { holds = holds; n = n; places = pl; skip = skip; fits = fits }
+
+-- `walk-search-enough` and `plain-search-enough` (crates/laws, Fuel) say that larger bounds on depth
+-- and attempts change neither search. In both the first start is row 0.
+
+-- by the counted walk: at first no pair has failed, and the count of steps is 0
+unfoldable pub walkSearch : Terms → Sought → Swept Kept
 unfolding planOf pairWays haltingOf inside sweep
-walkSearch terms holds n pl skip fits =
+walkSearch terms sought =
+    let n = sought .n in
+    let pl = sought .places in
     let N = pairs (length pl) (terms .largest) in
-    sweep (walkAt (haltingOf terms pl n) (pairWays holds n pl) N (firstAt (length pl))) (planOf pl n (terms .more) skip fits) n 0 0 0 (replicate N false, 0)
+    sweep (walkAt (haltingOf terms pl n) (pairWays (sought .holds) n pl) N (firstAt (length pl))) (planOf pl n (terms .more) (sought .skip) (sought .fits)) n (standAt 0 0 0)
+    (asKept (replicate N false) 0)
 
 -- by plain backtracking, on the rows present
-unfoldable pub plainSearch : (ℕ → ℕ → Bool) → ℕ → List Place → Skip → (ℕ → ℕ → List ℕ → Bool) → Swept (Unit {0})
+unfoldable pub plainSearch : Sought → Swept (Unit {0})
 unfolding planOf pairWays plain sweep
-plainSearch holds n pl skip fits =
+plainSearch sought =
+    let n = sought .n in
+    let pl = sought .places in
     let N = pairs (length pl) n in
-    sweep (plainAt (pairWays holds n pl) N (firstAt (length pl))) (planOf pl n false skip fits) n 0 0 0 tt
+    sweep (plainAt (pairWays (sought .holds) n pl) N (firstAt (length pl))) (planOf pl n false (sought .skip) (sought .fits)) n (standAt 0 0 0) tt
 
 -- all matches found: those written, and the one that does not fit
 abbrev pub fullOf : End Match → List Match

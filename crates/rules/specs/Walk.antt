@@ -1,6 +1,7 @@
--- Document 01, "Places and preferment", on pairs: the graph of the pairs (place, position); plain
--- backtracking; and the counted walk with its failed pairs and steps. Both walks are over any
--- graph, and both searches use them over the same one.
+-- Rules: document 01, "Places and preferment", its second, fourth and fifth paragraphs, with R-11
+-- and R-13. The graph of the pairs (place, position); plain backtracking; and the counted walk with
+-- its failed pairs and steps. Both walks are over any graph, and both searches use them over the
+-- same one.
 use mathlib.Core.Path.{_≡_}
 use mathlib.Core.List.{List, [], _∷_, map, List·Memᴰ}
 use mathlib.Core.Bool.{Bool, true, false, _&&_}
@@ -120,51 +121,73 @@ pub record Halting : Type 0 where
   pub spent : ℕ → Bool
   pub waits : ℕ → Bool
 
--- what comes of a pair: a path, or a failure, or a halt with the pairs still open, which are those
--- entered and not failed, each having led to the next; with the failed pairs and the steps by then.
--- The failed pairs are a list of Booleans, one for each pair.
-pub data Outcome : Type 0 where
-  found : List ℕ → List Bool → ℕ → Outcome
-  failed : List Bool → ℕ → Outcome
-  halted : Halt → List ℕ → List Bool → ℕ → Outcome
+-- what the walk keeps: which pairs have failed, a Boolean for each pair, and the steps
+pub record Kept : Type 0 where
+  pub failed : List Bool
+  pub steps : ℕ
 
-abbrev pub orElse : Outcome → (List Bool → ℕ → Outcome) → Outcome
-orElse (found p F s) next = found p F s
-orElse (failed F s) next = next F s
-orElse (halted h p F s) next = halted h p F s
+abbrev pub asKept : List Bool → ℕ → Kept
+asKept F s = record { failed = F; steps = s }
+
+abbrev pub hasFailed : Kept → ℕ → Bool
+hasFailed kept y = getD (kept .failed) y false
+
+-- an entry is one step; a pair that fails is kept as failed
+abbrev pub oneStep : Kept → Kept
+oneStep kept = asKept (kept .failed) (suc (kept .steps))
+
+abbrev pub keepFailed : ℕ → Kept → Kept
+keepFailed x kept = asKept (set (kept .failed) x true) (kept .steps)
+
+-- what comes of a pair: a path, or a failure, or a halt with the pairs still open, which are those
+-- entered and not failed, each having led to the next; with what is kept by then
+pub data Outcome : Type 0 where
+  found : List ℕ → Kept → Outcome
+  failed : Kept → Outcome
+  halted : Halt → List ℕ → Kept → Outcome
+
+abbrev pub orElse : Outcome → (Kept → Outcome) → Outcome
+orElse (found p kept) next = found p kept
+orElse (failed kept) next = next kept
+orElse (halted h p kept) next = halted h p kept
 
 -- an entered pair whose tries came to an outcome leads the path, or it fails and is kept as failed,
 -- or it stays open
 abbrev pub close : ℕ → Outcome → Outcome
-close x (found p F s) = found (x ∷ p) F s
-close x (failed F s) = failed (set F x true) s
-close x (halted h p F s) = halted h (x ∷ p) F s
+close x (found p kept) = found (x ∷ p) kept
+close x (failed kept) = failed (keepFailed x kept)
+close x (halted h p kept) = halted h (x ∷ p) kept
 
 -- a pair is tried: one that has failed is not entered, and trying it never succeeds; any other is
 -- entered, which is one step, END included; but where the steps are spent, the walk halts just
 -- before that entry
-abbrev pub enterUnless : Bool → Bool → (List Bool → ℕ → ℕ → Outcome) → List Bool → ℕ → ℕ → Outcome
-enterUnless true spent inside F s y = failed F s
-enterUnless false true inside F s y = halted outOfSteps [] F s
-enterUnless false false inside F s y = inside F (suc s) y
+abbrev pub enterUnless : Bool → Bool → (Kept → ℕ → Outcome) → Kept → ℕ → Outcome
+enterUnless true spent inside kept y = failed kept
+enterUnless false true inside kept y = halted outOfSteps [] kept
+enterUnless false false inside kept y = inside (oneStep kept) y
 
--- pairs are tried in order until one succeeds
-unfoldable pub tries : Halting → (List Bool → ℕ → ℕ → Outcome) → List Bool → ℕ → List ℕ → Outcome
-tries h inside F s [] = failed F s
-tries h inside F s (y ∷ ys) = orElse (enterUnless (getD F y false) (h .spent s) inside F s y) (λ F′ s′. tries h inside F′ s′ ys)
+module _ (h : Halting) where
+  abbrev pub tried : (Kept → ℕ → Outcome) → Kept → ℕ → Outcome
+  tried inside kept y = enterUnless (hasFailed kept y) (h .spent (kept .steps)) inside kept y
 
--- an entered pair that waits halts the walk, its entry counted
-unfoldable pub insideBy : Halting → Bool → Ways → (List Bool → ℕ → ℕ → Outcome) → List Bool → ℕ → ℕ → Outcome
-unfolding tries
-insideBy h true w f F s x = halted outOfRows (x ∷ []) F s
-insideBy h false accept f F s x = found (x ∷ []) F s
-insideBy h false (try ys) f F s x = close x (tries h f F s ys)
+  -- pairs are tried in order until one succeeds
+  unfoldable pub tries : (Kept → ℕ → Outcome) → Kept → List ℕ → Outcome
+  tries inside kept [] = failed kept
+  tries inside kept (y ∷ ys) = orElse (tried inside kept y) (λ later. tries inside later ys)
 
--- what comes of a pair that has been entered; k bounds the depth as it does for `plain`
-unfoldable pub inside : Halting → (ℕ → Ways) → ℕ → List Bool → ℕ → ℕ → Outcome
-unfolding insideBy
-inside h ways zero F s x = failed F s
-inside h ways (suc k) F s x = insideBy h (h .waits x) (ways x) (inside h ways k) F s x
+  -- an entered pair that waits halts the walk, its entry counted
+  unfoldable pub insideBy : Bool → Ways → (Kept → ℕ → Outcome) → Kept → ℕ → Outcome
+  unfolding tries
+  insideBy true w inside kept x = halted outOfRows (x ∷ []) kept
+  insideBy false accept inside kept x = found (x ∷ []) kept
+  insideBy false (try ys) inside kept x = close x (tries inside kept ys)
+
+  -- what comes of a pair that has been entered; k bounds the depth as it does for `plain`, and the
+  -- law `inside-enough` (crates/laws, Fuel) says that the number of pairs is enough for it
+  unfoldable pub inside : (ℕ → Ways) → ℕ → Kept → ℕ → Outcome
+  unfolding insideBy
+  inside ways zero kept x = failed kept
+  inside ways (suc k) kept x = insideBy (h .waits x) (ways x) (inside ways k) kept x
 
 -- how many pairs have failed
 unfoldable pub countTrue : List Bool → ℕ

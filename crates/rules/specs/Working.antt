@@ -1,6 +1,6 @@
--- Notions that no rule of the papers names. The crates' own specs use them to say what their code
--- does: notes as bits, a stack of open pairs, a graph without a circle of ways that take no row,
--- and forks that list each way once. Whoever reads the rules alone need not read them.
+-- No rule. Notions that no rule of the papers names. The crates' own specs use them to say what
+-- their code does: notes as bits, a stack of open pairs, a graph without a circle of ways that take
+-- no row, and forks that list each way once.
 use mathlib.Core.Path.{_≡_}
 use mathlib.Core.List.{List, [], _∷_, reverseAux}
 use mathlib.Core.Bool.{Bool, true, false}
@@ -9,7 +9,7 @@ use lib.ListN.{getD, set}
 use Rattle.rules.specs.Basics.{has}
 use Rattle.rules.specs.Places.{Place, pLetter, pCaret, pDollar, pFork, pEnd}
 use Rattle.rules.specs.Report.{bitAt}
-use Rattle.rules.specs.Walk.{Ways, try, Halting, Outcome, found, failed, halted, orElse, inside}
+use Rattle.rules.specs.Walk.{Ways, try, Halting, Outcome, found, failed, halted, orElse, inside, Kept}
 
 -- all numbers of a list
 abbrev pub All : (ℕ → Type 0) → List ℕ → Type 0
@@ -57,15 +57,15 @@ pub record Open (ρ : ℕ → ℕ) (N : ℕ) (F : List Bool) (st : List ℕ) : T
 
 -- the open pairs below lead the path, and stay open where the walk halts
 abbrev pub lift : List ℕ → Outcome → Outcome
-lift st (found p F s) = found (reverseAux st p) F s
-lift st (failed F s) = failed F s
-lift st (halted w p F s) = halted w (reverseAux st p) F s
+lift st (found p kept) = found (reverseAux st p) kept
+lift st (failed kept) = failed kept
+lift st (halted w p kept) = halted w (reverseAux st p) kept
 
 -- what the recursive walk makes of a state: the last open pair goes on, and if it fails, the one
 -- below
-unfoldable pub resume : Halting → (ℕ → Ways) → ℕ → List ℕ → List Bool → ℕ → Outcome
-resume h ways K [] F s = failed F s
-resume h ways K (x ∷ st) F s = orElse (lift st (inside h ways K F s x)) (λ F′ s′. resume h ways K st F′ s′)
+unfoldable pub resume : Halting → (ℕ → Ways) → ℕ → List ℕ → Kept → Outcome
+resume h ways K [] kept = failed kept
+resume h ways K (x ∷ st) kept = orElse (lift st (inside h ways K kept x)) (λ later. resume h ways K st later)
 
 -- ---- forks that list each way once
 

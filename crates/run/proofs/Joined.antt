@@ -19,7 +19,7 @@ use borrow.Author.Tests.{le-ltb, ltb-false, eqb-true, eqb-false}
 use Rattle.rules.specs.Basics.{pick, every, wrote}
 use Rattle.rules.specs.Rows.{tableOf}
 use Rattle.rules.specs.Query.{columnsOf, textOf}
-use Rattle.rules.specs.Search.{Swept, Kept}
+use Rattle.rules.specs.Search.{Swept}
 use Rattle.rules.specs.Report.{bytesFor, numbersOf, labelsOf}
 use lib.Pow.{pow-mono}
 use Rattle.rules.specs.Language.{Tree, pattern, loopNesting}
@@ -37,11 +37,12 @@ use Rattle.reading.specs.Reading.{asRoom}
 use Rattle.put.specs.Put.{Put}
 use Rattle.input.specs.declared.Verdict.{Verdict}
 use Rattle.input.specs.declared.Verdict.the-variants.{Refused, TooLarge, Search}
-use Rattle.input.specs.Verdict.{verdictOf, printedVerdict}
+use Rattle.input.specs.Verdict.{inputVerdict, printedVerdict}
 use Rattle.input.proofs.Verdicts.{pairs-spared, searched, printed-verdict}
-use Rattle.header.specs.Report.{reportText}
+use Rattle.header.specs.Report.{reportText, heading}
 use Rattle.text.proofs.Printed.{report-printed}
 use Rattle.run.specs.Run.{Found}
+use Rattle.rules.specs.Walk.{Kept}
 
 -- ---- what is lent is enough
 
@@ -159,22 +160,22 @@ module _ (q : List ℕ) (rows : List ℤ) (z : Size) (e : asRoom z ≡ roomOf q 
           record { fits = omega arith }
 
   -- the verdict on these numbers is the definition's
-  same-verdict : (bytes : ℕ) → verdictOf (z .answer) bytes (z .places * z .factor * (z .rows + 1)) ≡ verdictOf (roomAnswer q (badRows q rows)) bytes (pairsOf q rows)
+  same-verdict : (bytes : ℕ) → inputVerdict (z .answer) bytes (z .places * z .factor * (z .rows + 1)) ≡ inputVerdict (roomAnswer q (badRows q rows)) bytes (pairsOf q rows)
   unfolding pairsOf
   same-verdict bytes = go roomed
     where
-      go : Roomed q rows z → verdictOf (z .answer) bytes (z .places * z .factor * (z .rows + 1)) ≡ verdictOf (roomAnswer q (badRows q rows)) bytes (pairsOf q rows)
+      go : Roomed q rows z → inputVerdict (z .answer) bytes (z .places * z .factor * (z .rows + 1)) ≡ inputVerdict (roomAnswer q (badRows q rows)) bytes (pairsOf q rows)
       go (accepted-room ok a p v n) = rw (a, ok, p, v, n, add-one)
       go (refused-room a h p v n) = rw a (pairs-spared (roomAnswer q (badRows q rows)) bytes (z .places * z .factor * (z .rows + 1)) (pairsOf q rows) h)
 
 module _ (q r : List ℕ) (l array : List ℤ) (k : ℕ) (filled : array ≡ wrote l 0 (rowsOf r)) (counted : k ≡ length (rowsOf r)) (z : Size) (e : asRoom z ≡ roomOf q (take k array))
-    (v : Verdict) (given : v ≡ verdictOf (z .answer) (length r) (z .places * z .factor * (z .rows + 1))) where
-  verdict-is : v ≡ verdictOf (roomAnswer q (badRows q (take k array))) (length r) (pairsOf q (take k array))
+    (v : Verdict) (given : v ≡ inputVerdict (z .answer) (length r) (z .places * z .factor * (z .rows + 1))) where
+  verdict-is : v ≡ inputVerdict (roomAnswer q (badRows q (take k array))) (length r) (pairsOf q (take k array))
   verdict-is = given ∙ same-verdict q (take k array) z e (length r)
 
   prints : (w : Verdict) → v ≡ w → printedFor q r ≡ printedVerdict w q r
   prints w h =
-      let i : v ≡ verdictOf (roomAnswer q (badRows q (rowsOf r))) (length r) (pairsOf q (rowsOf r)) = rw (← (same r l array k filled counted)) verdict-is in
+      let i : v ≡ inputVerdict (roomAnswer q (badRows q (rowsOf r))) (length r) (pairsOf q (rowsOf r)) = rw (← (same r l array k filled counted)) verdict-is in
       printed-verdict q r ∙ ap (λ (u : Verdict). printedVerdict u q r) (sym i ∙ h)
 
   -- what is written into the buffer o is the text of the way that is taken
@@ -217,7 +218,7 @@ module _ (q : List ℕ) (rows : List ℤ) (lent : Buffers) (ok : refusal q rows 
   unfolding accepted walkReport reportWithin reportOf walkOf
   matches-kept = ap (λ (m : Memory). m .result .matches) search-is
 
-  steps-kept : searchOf q rows lent .result .steps ≡ swept .state .1
+  steps-kept : searchOf q rows lent .result .steps ≡ swept .state .steps
   unfolding accepted
   steps-kept = ap (λ (m : Memory). m .result .steps) search-is
 
@@ -246,7 +247,7 @@ module _ (q : List ℕ) (rows : List ℤ) (lent : Buffers) (ok : refusal q rows 
       (rw numbers-long at f)
 
   pub search-printed : length (lent .numbers) ≡ 8192 → length (lent .labels) ≡ 65536
-      → reportText (not (eqb (searchOf q rows lent .result .answer) 0)) (searchOf q rows lent .result .matches) (searchOf q rows lent .result .steps) (length (taskOf q rows .measures))
+      → reportText (heading (not (eqb (searchOf q rows lent .result .answer) 0)) (searchOf q rows lent .result .matches) (searchOf q rows lent .result .steps)) (length (taskOf q rows .measures))
       (searchOf q rows lent .buffers .numbers) (searchOf q rows lent .buffers .labels)
       ≡ searchText (taskOf q rows) (walked (taskOf q rows) 8192 65536)
   unfolding stopped

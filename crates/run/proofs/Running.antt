@@ -24,16 +24,16 @@ use Rattle.input.specs.declared.Input.{Input}
 use Rattle.input.specs.declared.Input.the-variants.{Refused, TooLarge, Go}
 use Rattle.input.specs.Input.{inputOf, printedInput}
 use Rattle.put.specs.Put.{Put}
-use Rattle.header.specs.Report.{reportText}
+use Rattle.header.specs.Report.{reportText, heading}
 use Rattle.input.proofs.Inputs.{Parted, parted, printed-input, prefix-decides}
 use Rattle.put.proofs.Writing.{put-long}
-use Rattle.run.specs.Run.{Ran, Counted, Found}
+use Rattle.run.specs.Run.{ProgramRan, MeasureCount, Found}
 use Rattle.run.proofs.Joined.{room-accepts, no-query-answer, search-numbers, search-printed}
 
 -- ---- the measures
 
 pub measures-counted : (q measures₀ room defines measures : List ℕ) (r : Query)
-    → Asked q measures₀ room defines measures r → Counted q (r .measures)
+    → Asked q measures₀ room defines measures r → MeasureCount q (r .measures)
 unfolding measuresIn
 measures-counted q measures₀ room defines measures r a =
     record {
@@ -46,7 +46,7 @@ measures-counted q measures₀ room defines measures r a =
 -- with one, and k is the number of measures
 
 module _ (q : List ℕ) (rows : List ℤ) (f : Found q rows) (notes′ trail′ : List ℕ) (numbers′ : List ℤ) (labels′ : List ℕ) (r : Outcome) (notes trail : List ℕ) (numbers : List ℤ) (labels : List ℕ)
-    (p : Promised none q rows (lent notes′ trail′ numbers′ labels′) (memory r notes trail numbers labels)) (k : ℕ) (c : Counted q k) (hn : length notes′ ≡ 2000) (ht : length trail′ ≡ 16000) where
+    (p : Promised none q rows (lent notes′ trail′ numbers′ labels′) (memory r notes trail numbers labels)) (k : ℕ) (c : MeasureCount q k) (hn : length notes′ ≡ 2000) (ht : length trail′ ≡ 16000) where
   abbrev L : Buffers
   L = lent notes′ trail′ numbers′ labels′
 
@@ -67,17 +67,17 @@ module _ (q : List ℕ) (rows : List ℤ) (f : Found q rows) (notes′ trail′ 
       t _ whole
 
   report-is : (M : Memory) → M ≡ searchOf q rows L → length numbers′ ≡ 8192 → length labels′ ≡ 65536
-      → reportText (not (eqb (M .result .answer) 0)) (M .result .matches) (M .result .steps) k (M .buffers .numbers) (M .buffers .labels)
+      → reportText (heading (not (eqb (M .result .answer) 0)) (M .result .matches) (M .result .steps)) k (M .buffers .numbers) (M .buffers .labels)
       ≡ searchText (taskOf q rows) (walked (taskOf q rows) 8192 65536)
   report-is M e n l = rw (e, measures) (search-printed q rows L accepts n l)
 
   pub report-put : length numbers′ ≡ 8192 → length labels′ ≡ 65536 → (o m : List ℕ) (b : ℕ)
-      → Put o 0 (reportText (not (eqb (r .answer) 0)) (r .matches) (r .steps) k numbers labels) m b → Put o 0 (searchText (taskOf q rows) (walked (taskOf q rows) 8192 65536)) m b
+      → Put o 0 (reportText (heading (not (eqb (r .answer) 0)) (r .matches) (r .steps)) k numbers labels) m b → Put o 0 (searchText (taskOf q rows) (walked (taskOf q rows) 8192 65536)) m b
   report-put n l o m b w = rw (← (report-is _ whole n l)) w
 
 -- ---- the whole input
 
-ran : (s l m : List ℕ) (b : ℕ) (t : List ℕ) → printed s ≡ t → Put l 0 t m b → Ran s l m b
+ran : (s l m : List ℕ) (b : ℕ) (t : List ℕ) → printed s ≡ t → Put l 0 t m b → ProgramRan s l m b
 ran s l m b t e p = record { text = rw e p; enough = λ u h. prefix-decides u ∙ ap printed h }
 
 module _ (s : List ℕ) (i : Input) (given : i ≡ inputOf s) where
@@ -88,22 +88,22 @@ module _ (s : List ℕ) (i : Input) (given : i ≡ inputOf s) where
   pub case-parted : (rows : ℕ) → i ≡ Go rows → Parted s rows
   case-parted rows h = parted s rows (sym given ∙ h)
 
-  pub ran-refused : (l m : List ℕ) (b a : ℕ) → i ≡ Refused a → Put l 0 (refusedText a) m b → Ran s l m b
+  pub ran-refused : (l m : List ℕ) (b a : ℕ) → i ≡ Refused a → Put l 0 (refusedText a) m b → ProgramRan s l m b
   unfolding printedInput
   ran-refused l m b a h p = ran s l m b (refusedText a) (case (Refused a) h) p
 
-  pub ran-large : (l m : List ℕ) (b : ℕ) → i ≡ TooLarge → Put l 0 tooLarge m b → Ran s l m b
+  pub ran-large : (l m : List ℕ) (b : ℕ) → i ≡ TooLarge → Put l 0 tooLarge m b → ProgramRan s l m b
   unfolding printedInput
   ran-large l m b h p = ran s l m b tooLarge (case TooLarge h) p
 
-  pub ran-query : (l m : List ℕ) (b rows : ℕ) → i ≡ Go rows → Put l 0 (printedFor (take (rows - 2) (drop 2 s)) (take (length s - rows) (drop rows s))) m b → Ran s l m b
+  pub ran-query : (l m : List ℕ) (b rows : ℕ) → i ≡ Go rows → Put l 0 (printedFor (take (rows - 2) (drop 2 s)) (take (length s - rows) (drop rows s))) m b → ProgramRan s l m b
   unfolding printedInput
   ran-query l m b rows h p =
       let w : take (length s - rows) (drop rows s) ≡ drop rows s = take-all (length s - rows) (drop rows s) (simp length-drop (omega arith)) in
       ran s l m b _ (case (Go rows) h) (rw w at p)
 
 -- the text lies within the buffer, and is all that is counted
-module _ (s l m : List ℕ) (b : ℕ) (r : Ran s l m b) where
+module _ (s l m : List ℕ) (b : ℕ) (r : ProgramRan s l m b) where
   pub ran-within : b ≤ length m
   ran-within = let p = r .text in omega (arith, put-long l 0 (printed s) m b p)
 

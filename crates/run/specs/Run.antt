@@ -14,12 +14,12 @@ use Rattle.input.specs.Input.{mostRead}
 
 -- The text is what the program prints of these bytes. They need be no more of its standard input
 -- than the first 36,867 bytes: it prints the same of any input that goes on behind them.
-pub record Ran (input before after : List ℕ) (behind : ℕ) : Type 0 where
+pub record ProgramRan (input before after : List ℕ) (behind : ℕ) : Type 0 where
   pub text : Put before 0 (printed input) after behind
   pub enough : (s : List ℕ) → take mostRead s ≡ input → printed s ≡ printed input
 
 -- k is the number of measures, for a query with no answer 1 to 9
-pub record Counted (q : List ℕ) (k : ℕ) : Type 0 where
+pub record MeasureCount (q : List ℕ) (k : ℕ) : Type 0 where
   pub is : queryAnswer q ≡ 0 → k ≡ length (parts q .measures)
 
 -- a query and rows that get no answer 1 to 10 and have at most 16,000 pairs: they are searched

@@ -8,11 +8,11 @@ ghost use lib.ListN.{length};
 ghost use Rattle.rules.specs.Answers.{taskOf, walked};
 ghost use Rattle.rules.specs.Program.{searchText, printedFor};
 ghost use Rattle.put.specs.Put.{Put};
-ghost use Rattle.run.specs.Run.{Counted, Found, Ran};
+ghost use Rattle.run.specs.Run.{MeasureCount, Found, ProgramRan};
 
 // How many measures a query with no answer 1 to 9 has.
 fn measures_of(query: &[u8]) -> usize
-    ensures { λ r. ⌜ Counted (now (query .entry)) r ⌝ }
+    ensures { λ r. ⌜ MeasureCount (now (query .entry)) r ⌝ }
 {
     let mut nodes = [0u16; 4096];
     let mut defines = [0usize; 26];
@@ -76,7 +76,7 @@ fn run_query(query: &[u8], bytes: &[u8], out: &mut [u8]) -> usize
 // is.
 pub fn run(input: &[u8], out: &mut [u8]) -> usize
     requires { ⌜ 245820 ≤ length (now out) ⌝ }
-    ensures { λ r. ⌜ Ran (now (input .entry)) (now (out .entry)) (now (out .exit)) r ⌝ }
+    ensures { λ r. ⌜ ProgramRan (now (input .entry)) (now (out .entry)) (now (out .exit)) r ⌝ }
 {
     let case = input::input_of(input);
     match case {

@@ -224,7 +224,7 @@ module _ (al : ℕ) (T : List ℕ) (p : Prepared) (rows : List ℤ) (notes trail
           )
 
           -- the walk may begin
-          pub run-walks : Runs T p → Walks T p (record { rows = n; allowance = al }) rows notes trail
+          pub run-walks : Runs T p → Walks T p (record { rows = n; largest = n; allowance = al; more = false }) rows notes trail
           unfolding bytesFor
           run-walks a =
               let s : n + 1 ≡ suc n = add-one n in
@@ -235,7 +235,9 @@ module _ (al : ℕ) (T : List ℕ) (p : Prepared) (rows : List ℤ) (notes trail
               record {
                 query = a .query;
                 ready = a .given .ready z;
-                fed = record { most = w .1; all = omega (arith, d, w .0); noted = omega (arith, f′); trailed = rw (← pp) (both-long .1) };
+                whole = refl;
+                no-more = refl;
+                fed = record { most = w .1; few = omega arith; all = omega (arith, d, w .0); noted = omega (arith, f′); trailed = rw (← pp) (both-long .1) };
               }
 
           -- done, stopped or halted

@@ -52,7 +52,12 @@ pub fn run(
     if short != 0 {
         return refused(short, 0);
     }
-    let terms = Terms { rows: n, allowance };
+    let terms = Terms {
+        rows: n,
+        largest: n,
+        allowance,
+        more: false,
+    };
     walk_prepared(table, p, terms, rows, notes, trail, numbers, labels)
 }
 

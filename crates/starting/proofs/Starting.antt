@@ -5,6 +5,7 @@ use mathlib.Core.List.{List}
 use mathlib.Core.Option.{some}
 use Prim.Native.Nat.{ℕ, suc, _+_, _-_, _*_, _/_, _≤_, _<_}
 use native.Mathlib.Nat.{mul-le-mul, mul-div-cancel}
+use native.Mathlib.Numerals.{add-one}
 use native.Mathlib.Omega.{arith}
 use lib.IntN.{ℤ}
 use lib.ListN.{length}
@@ -13,7 +14,7 @@ use Rattle.rules.specs.Query.{Measure, textOf, parts}
 use Rattle.rules.specs.Places.{Place, pLetter, pCaret, pDollar, pFork, pEnd, unroll, places}
 use Rattle.rules.specs.Walk.{pairs}
 use Rattle.rules.specs.Search as R
-use Rattle.rules.specs.Search.{Match, within, walkSearch}
+use Rattle.rules.specs.Search.{Match, walkSearch, seek}
 use Rattle.rules.specs.Report.{fits, numbersOf, labelsOf}
 use Rattle.rules.specs.Answers.{treeIn, letterHolds, skipOf, taskOf, walkedOn}
 use Rattle.rules.specs.Working.{thinned}
@@ -34,6 +35,7 @@ use Rattle.pairs.specs.Layout.{layoutOf}
 use Rattle.matches.specs.Asked as S
 use Rattle.matches.specs.Asked.{askedOf}
 use Rattle.matches.specs.Found.{Searches}
+use Rattle.sweep.specs.Searched.{Measures}
 use Rattle.skips.specs.Skips.{skipIn}
 use Rattle.skips.specs.declared.Skip.{Skip}
 use Rattle.matches.specs.declared.Task.{Task}
@@ -57,32 +59,33 @@ same-leads P pEnd l = l
 abbrev taskBy : Prepared → Terms → Task → Task
 taskBy p terms t =
     record {
-      size = record { rows = terms .rows; columns = p .columns; places = p .places; tests = testsAt (p .places); allowance = terms .allowance };
+      size = record { rows = terms .rows; columns = p .columns; places = p .places; tests = testsAt (p .places); allowance = terms .allowance; more = terms .more };
+      pairs = p .places * (terms .largest + 1);
       measures = measuresAt (p .places);
       count = p .count;
       skip = t .skip;
     }
 
-abbrev mk : ℕ → ℕ → ℕ → ℕ → ℕ → ℕ → ℕ → Skip → Task
-mk rows columns places tests allowance measures count skip = record { size = record { rows = rows; columns = columns; places = places; tests = tests; allowance = allowance }; measures = measures; count = count; skip = skip }
+abbrev mk : ℕ → ℕ → ℕ → ℕ → ℕ → Bool → ℕ → ℕ → ℕ → Skip → Task
+mk rows columns places tests allowance more pairs measures count skip = record { size = record { rows = rows; columns = columns; places = places; tests = tests; allowance = allowance; more = more }; pairs = pairs; measures = measures; count = count; skip = skip }
 
 task-is : (p : Prepared) (terms : Terms) (t : Task) → TaskFor p terms t → t ≡ taskBy p terms t
 task-is p terms t f =
-    let e : mk (t .size .rows) (t .size .columns) (t .size .places) (t .size .tests) (t .size .allowance) (t .measures) (t .count) (t .skip) ≡ taskBy p terms t = rw (f .rows, f .columns, f .places, f .tests, f .allowance, f .measures, f .count) in e
+    let e : mk (t .size .rows) (t .size .columns) (t .size .places) (t .size .tests) (t .size .allowance) (t .size .more) (t .pairs) (t .measures) (t .count) (t .skip) ≡ taskBy p terms t = rw (f .rows, f .columns, f .places, f .tests, f .allowance, f .more, f .pairs-are, f .measures, f .count) in e
 
-module _ (q T : List ℕ) (p : Prepared) (a : Ready q T p) (terms : Terms) (rows : List ℤ) (notes trail : List ℕ) (f : Fed p (terms .rows) rows notes trail) where
+module _ (q T : List ℕ) (p : Prepared) (a : Ready q T p) (terms : Terms) (rows : List ℤ) (notes trail : List ℕ) (f : Fed p terms rows notes trail) where
   abbrev n : ℕ
   n = terms .rows
 
   -- on what terms the definition searches
   abbrev on : ℕ → R.Terms
-  on m = within (some (terms .allowance)) m
+  on m = record { largest = m; more = terms .more; allowance = some (terms .allowance) }
 
   abbrev holdsAt : ℕ → ℕ → Bool
   holdsAt = holdsIn T (testsAt (p .places)) (p .columns) rows
 
   abbrev L : W.Layout
-  L = W.layout T (p .places)
+  L = W.layout T (p .places) (terms .allowance)
 
   the-lettered : Lettered (a .tree)
   unfolding treeIn
@@ -129,8 +132,17 @@ module _ (q T : List ℕ) (p : Prepared) (a : Ready q T p) (terms : Terms) (rows
   product-le : (x y z w : ℕ) → x ≤ z → y ≤ w → x * y ≤ z * w
   product-le x y z w h k = mul-le-mul h k
 
+  most-rows : n ≤ 4096
+  most-rows = let m = f .most in let l = f .few in omega arith
+
+  all-pairs : pairs (p .places) (terms .largest) < W.mostPairs
+  all-pairs = let h : p .places * suc (terms .largest) ≤ 2048 * 4097 = product-le (p .places) (suc (terms .largest)) 2048 4097 (a .few) (let m = f .most in omega arith) in omega arith
+
+  pub more-pairs : pairs (p .places) n ≤ pairs (p .places) (terms .largest)
+  more-pairs = product-le (p .places) (suc n) (p .places) (suc (terms .largest)) (omega arith) (let l = f .few in omega arith)
+
   few-pairs : pairs (p .places) n < W.mostPairs
-  few-pairs = let h : p .places * suc n ≤ 2048 * 4097 = product-le (p .places) (suc n) 2048 4097 (a .few) (let m = f .most in omega arith) in omega arith
+  few-pairs = let m = more-pairs in let l = all-pairs in omega arith
 
   legal : W.Legal L holdsAt n
   unfolding W.graphOf
@@ -142,24 +154,31 @@ module _ (q T : List ℕ) (p : Prepared) (a : Ready q T p) (terms : Terms) (rows
         falls = placed-falls T (p .places) (a .tree) (a .places-are) (a .placed) the-bounds holdsAt n;
         bound = placed-bound T (p .places) (a .tree) (a .places-are) (a .placed) the-bounds holdsAt n;
         small = few-pairs;
-        rows = f .most;
+        rows = most-rows;
       }
 
   module _ (t : Task) (h : TaskFor p terms t) where
     searches-by : Searches T rows (taskBy p terms t) notes trail
     searches-by =
-        let m = f .most in
         let e = f .all in
         record {
-          letters = (record { tests-there = a .tests; some = a .some-columns; few = a .most-columns; most = f .most; all = f .all }, a .pointed);
-          measured = record { few = a .count-few; few-rows = f .most; there = omega arith; measurable = a .measurable };
+          letters = (record { tests-there = a .tests; some = a .some-columns; few = a .most-columns; most = most-rows; all = f .all }, a .pointed);
+          measured = record { few = a .count-few; few-rows = most-rows; there = omega arith; measurable = a .measurable };
           legal = legal;
-          noted = f .noted;
-          trailed = f .trailed;
+          noted = let m = more-pairs in let b = f .noted in omega arith;
+          trailed = let m = more-pairs in let b = f .trailed in omega arith;
         }
 
     pub may-search : Searches T rows t notes trail
     may-search = rw (task-is p terms t h) searches-by
+
+    measures-by : Measures T (taskBy p terms t) notes trail
+    measures-by =
+        let e : p .places * (terms .largest + 1) ≡ pairs (p .places) (terms .largest) = ap (λ (k : ℕ). p .places * k) (add-one (terms .largest)) in
+        record { more = rw e more-pairs; small = rw e all-pairs; noted = rw e (f .noted); trailed = rw e (f .trailed) }
+
+    pub may-measure : Measures T t notes trail
+    may-measure = rw (task-is p terms t h) measures-by
 
     -- ---- and what they come to
 
@@ -172,7 +191,7 @@ module _ (q T : List ℕ) (p : Prepared) (a : Ready q T p) (terms : Terms) (rows
         ∙ same-search (places (unroll (a .tree))) (taskOf q rows .places) n (taskOf q rows .table .n) (skipIn (t .skip)) (taskOf q rows .skip) (measuresIn T (measuresAt (p .places)) (p .count)) (taskOf q rows .measures) (sym the-places) the-rows (h .skip ∙ the-skip) the-measures)
       where
         same-search : (pl pl′ : List Place) (m m′ : ℕ) (o o′ : R.Skip) (x x′ : List Measure) → pl ≡ pl′ → m ≡ m′ → o ≡ o′ → x ≡ x′
-            → walkSearch (on m) (letterHolds (taskOf q rows)) m pl o (fits nums labs x) ≡ walkSearch (on m′) (letterHolds (taskOf q rows)) m′ pl′ o′ (fits nums labs x′)
+            → walkSearch (on m) (seek (letterHolds (taskOf q rows)) m pl o (fits nums labs x)) ≡ walkSearch (on m′) (seek (letterHolds (taskOf q rows)) m′ pl′ o′ (fits nums labs x′))
         same-search pl pl′ m m′ o o′ x x′ e f h i = rw (e, f, h, i)
 
     pub found : (nums labs : ℕ) → S.searchOf (askedOf T rows t) nums labs ≡ walkedOn (on (taskOf q rows .table .n)) (taskOf q rows) nums labs
@@ -187,12 +206,20 @@ module _ (q T : List ℕ) (p : Prepared) (a : Ready q T p) (terms : Terms) (rows
     pub labelled : (xs : List Match) → labelsOf (placesIn T (t .size .places)) xs ≡ labelsOf (taskOf q rows .places) xs
     labelled xs = rw (h .places, a .placed, the-places) (labels-of-thin (places (unroll (a .tree))) xs)
 
-    pub counted : (nums labs : ℕ) → W.N (layoutOf T (t .size)) (t .size .rows) ≡ length (walkedOn (on (taskOf q rows .table .n)) (taskOf q rows) nums labs .state .0)
+    pub counted : (nums labs : ℕ) → W.N (layoutOf T (t .size)) (t .size .rows) ≡ length (walkedOn (on (taskOf q rows .table .n)) (taskOf q rows) nums labs .state .failed)
     unfolding walkedOn
     counted nums labs =
         ap₂ (λ (x y : ℕ). pairs x y) (h .places ∙ a .places-are ∙ sym (places-counted (a .tree) the-bounds) ∙ ap length (sym the-places)) (h .rows ∙ the-rows)
         ∙ sym (rw the-places (search-kept (unroll (a .tree)) (letterHolds (taskOf q rows)) (taskOf q rows .table .n) (on (taskOf q rows .table .n)) (omega arith) (taskOf q rows .skip) (fits nums labs (taskOf q rows .measures))))
 
 -- as the code asks it
-pub walk-searches : (T : List ℕ) (p : Prepared) (terms : Terms) (rows : List ℤ) (notes trail : List ℕ) → Walks T p terms rows notes trail → (t : Task) → TaskFor p terms t → Searches T rows t notes trail
-walk-searches T p terms rows notes trail w t h = may-search (w .query) T p (w .ready) terms rows notes trail (w .fed) t h
+pub walk-searches : (T : List ℕ) (p : Prepared) (terms : Terms) (rows : List ℤ) (notes trail : List ℕ) → Walks T p terms rows notes trail → (t : Task) → TaskFor p terms t → Searches T rows t notes trail × Measures T t notes trail
+walk-searches T p terms rows notes trail w t h =
+    (may-search (w .query) T p (w .ready) terms rows notes trail (w .fed) t h, may-measure (w .query) T p (w .ready) terms rows notes trail (w .fed) t h)
+
+pub walk-terms : (T : List ℕ) (p : Prepared) (terms : Terms) (rows : List ℤ) (notes trail : List ℕ) → Walks T p terms rows notes trail → (p .places ≤ 2048) × (terms .largest ≤ 4096)
+walk-terms T p terms rows notes trail w = (w .ready .few, w .fed .most)
+
+-- the pairs of the task
+pub task-pairs : (places largest : ℕ) → places ≤ 2048 → largest ≤ 4096 → places * (largest + 1) ≤ 2048 * 4097
+task-pairs places largest a b = mul-le-mul a (let z : largest + 1 ≤ 4097 = omega arith in z)

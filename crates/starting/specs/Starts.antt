@@ -2,7 +2,8 @@
 use mathlib.Core.Path.{_≡_}
 use mathlib.Core.List.{List}
 use mathlib.Core.Option.{some}
-use Prim.Native.Nat.{ℕ, _*_, _≤_}
+use mathlib.Core.Bool.{false}
+use Prim.Native.Nat.{ℕ, _+_, _*_, _≤_}
 use lib.IntN.{ℤ}
 use lib.ListN.{length}
 use Rattle.rules.specs.Walk.{pairs}
@@ -24,6 +25,8 @@ ended a q rows before =
 pub record TaskFor (p : Prepared) (terms : Terms) (t : Task) : Type 0 where
   pub rows : t .size .rows ≡ terms .rows
   pub allowance : t .size .allowance ≡ terms .allowance
+  pub more : t .size .more ≡ terms .more
+  pub pairs-are : t .pairs ≡ p .places * (terms .largest + 1)
   pub columns : t .size .columns ≡ p .columns
   pub places : t .size .places ≡ p .places
   pub tests : t .size .tests ≡ testsAt (p .places)
@@ -31,15 +34,19 @@ pub record TaskFor (p : Prepared) (terms : Terms) (t : Task) : Type 0 where
   pub count : t .count ≡ p .count
   pub skip : skipIn (t .skip) ≡ skipOf (p .skip) (p .target)
 
--- whole rows, at most 4,096, and working room for their pairs
-pub record Fed (p : Prepared) (n : ℕ) (rows : List ℤ) (notes trail : List ℕ) : Type 0 where
-  pub most : n ≤ 4096
-  pub all : length rows ≡ n * p .columns
-  pub noted : pairs (p .places) n ≤ 8 * length notes
-  pub trailed : pairs (p .places) n ≤ length trail
+-- whole rows, no more than the largest number, which is at most 4,096, and working room for its
+-- pairs
+pub record Fed (p : Prepared) (terms : Terms) (rows : List ℤ) (notes trail : List ℕ) : Type 0 where
+  pub most : terms .largest ≤ 4096
+  pub few : terms .rows ≤ terms .largest
+  pub all : length rows ≡ terms .rows * p .columns
+  pub noted : pairs (p .places) (terms .largest) ≤ 8 * length notes
+  pub trailed : pairs (p .places) (terms .largest) ≤ length trail
 
--- what the search asks: a query that is prepared, and these
+-- what the search asks: a query that is prepared, and these; and that all rows are there
 pub record Walks (T : List ℕ) (p : Prepared) (terms : Terms) (rows : List ℤ) (notes trail : List ℕ) : Type 0 where
   pub query : List ℕ
   pub ready : Ready query T p
-  pub fed : Fed p (terms .rows) rows notes trail
+  pub fed : Fed p terms rows notes trail
+  pub whole : terms .largest ≡ terms .rows
+  pub no-more : terms .more ≡ false

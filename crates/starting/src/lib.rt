@@ -17,36 +17,42 @@ ghost use Rattle.outcome.specs.Results.{lent, memory};
 ghost use Rattle.prepared.specs.Ready.{Ready};
 ghost use Rattle.starting.specs.Starts.{ended, TaskFor, Walks};
 
-// On what terms a prepared query is searched for: how many rows there are, and how many steps are
-// allowed.
+// On what terms a prepared query is searched for: how many rows there are, the largest number there
+// may be, by which notes and trail are measured, how many steps are allowed, and whether more rows
+// may come.
 pub struct Terms {
     pub rows: usize,
+    pub largest: usize,
     pub allowance: usize,
+    pub more: bool,
 }
 
 // What a prepared query asks on these terms.
-fn task_of(p: Prepared, terms: Terms) -> Task
-    requires { ⌜ p .places ≤ 2048 ⌝ }
+pub fn task_of(p: Prepared, terms: Terms) -> Task
+    requires { ⌜ (p .places ≤ 2048) × (terms .largest ≤ 4096) ⌝ }
     ensures { λ r. ⌜ TaskFor p terms r ⌝ }
 {
     let places = p.places;
+    let pairs = places * (terms.largest + 1);
     let size = Extent {
         rows: terms.rows,
         columns: p.columns,
         places,
         tests: tests_at(places),
         allowance: terms.allowance,
+        more: terms.more,
     };
     let skip = skip_of(p.skip, p.target);
     Task {
         size,
+        pairs,
         measures: measures_at(places),
         count: p.count,
         skip,
     }
 }
 
-// The search of a prepared query on these terms.
+// The search of a prepared query on these terms, where all rows are there.
 pub fn walk_prepared(
     table: &[u16],
     p: Prepared,

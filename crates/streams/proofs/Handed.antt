@@ -5,14 +5,14 @@ use mathlib.Core.List.{List}
 use Prim.Native.Nat.{ℕ, _≤_, _<_}
 use native.Mathlib.Omega.{arith}
 use lib.ListN.{length, take}
-use Rattle.run.specs.Run.{Ran}
+use Rattle.run.specs.Run.{ProgramRan}
 use Rattle.run.proofs.Running.{ran-count, ran-long}
 use Rattle.streams.specs.declared.Ended.{Ended}
 use Rattle.streams.specs.declared.Ended.the-variants.{Entire, Cut, Unread}
 use Rattle.streams.specs.Streams.{Read, Prints, Said}
 
 -- the text of the input s is the first `end` bytes of m
-module _ (s l m : List ℕ) (end written : ℕ) (r : Ran s l m end) where
+module _ (s l m : List ℕ) (end written : ℕ) (r : ProgramRan s l m end) where
   whole-input : Read s (length s)
   whole-input = record { long = refl; enough = r .enough }
 

@@ -103,10 +103,12 @@ unfolding definedIn entriesIn
 conditionIn T columns at =
     pick (eqb (getD T (at + 7) 0) 3) (postfix (entriesIn T columns (getD T (at + 2) 0) (getD T (at + 1) 0))) (allOf (definedIn T columns at))
 
--- a letter, by its character, holds at a row
-unfoldable pub holdsIn : List ℕ → ℕ → ℕ → List ℤ → ℕ → ℕ → Bool
-unfolding holds conditionIn
-holdsIn T tests columns rows c i = holds (tableOf columns rows) i (conditionIn T columns (testAt tests (c - 65)))
+-- by a table whose tests begin at a word, and rows of so many columns: a letter, by its character,
+-- holds at a row
+module _ (T : List ℕ) (tests columns : ℕ) (rows : List ℤ) where
+  unfoldable pub holdsIn : ℕ → ℕ → Bool
+  unfolding holds conditionIn
+  holdsIn c i = holds (tableOf columns rows) i (conditionIn T columns (testAt tests (c - 65)))
 
 -- ---- the first comparison as an interval
 

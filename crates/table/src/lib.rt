@@ -11,7 +11,7 @@ ghost use Rattle.table.specs.Table.{codeAt, firstAt, laterAt, countAt, l
 ghost use Rattle.table.specs.Sized.{LaterIn};
 
 // How far a search reaches: the rows n, the columns of a row, the places P, the word of the table
-// at which the letters' tests begin, and how many steps are allowed.
+// at which the letters' tests begin, how many steps are allowed, and whether more rows may come.
 #[repr(C)]
 pub struct Extent {
     pub rows: usize,
@@ -19,6 +19,7 @@ pub struct Extent {
     pub places: usize,
     pub tests: usize,
     pub allowance: usize,
+    pub more: bool,
 }
 
 // The words of a place.

@@ -6,10 +6,10 @@ use Prim.Native.Nat.{ℕ}
 use lib.IntN.{ℤ, pos, negsuc}
 use lib.ListN.{length}
 use Rattle.rules.specs.Rows.{Table}
-use Rattle.rules.specs.Entries.{Entry}
-use Rattle.tally.specs.Table.{Named, Report, counted, cells, listed}
+use Rattle.rules.specs.Entries.{Reported}
+use Rattle.tally.specs.Table.{NamedColumns, DepotReport, counted, cells, listed}
 
-abbrev named : Named
+abbrev named : NamedColumns
 named = record { depot = 1; month = 2 }
 
 abbrev row : ℕ → ℤ → ℤ → List ℤ
@@ -19,18 +19,18 @@ row value depot month = pos value ∷ depot ∷ month ∷ []
 abbrev rows : Table
 rows = record { columns = 3; n = 5; entries = row 9 (pos 3) (pos 5) ++ (row 9 (pos 4) (pos 6) ++ (row 9 (pos 64) (pos 6) ++ (row 9 (pos 3) (pos 13) ++ row 9 (negsuc 0) (pos 1)))) }
 
-abbrev match : ℕ → List ℕ → Entry
+abbrev match : ℕ → List ℕ → Reported
 match first labels = record { first = first; labels = labels; measures = [] }
 
 -- two matches of rows 0 and 1, one of row 2, an empty one at row 3, one of row 4
-abbrev matches : List Entry
+abbrev matches : List Reported
 matches = match 0 (65 ∷ 66 ∷ []) ∷ match 0 (65 ∷ 66 ∷ []) ∷ match 2 (65 ∷ []) ∷ match 3 [] ∷ match 4 (65 ∷ []) ∷ []
 
-abbrev report : ℕ → Report
+abbrev report : ℕ → DepotReport
 report answer = record { answer = answer; rows = rows; matches = matches }
 
 -- done, stopped, done, refused, out of steps
-abbrev reports : List Report
+abbrev reports : List DepotReport
 reports = report 0 ∷ report 13 ∷ report 0 ∷ record { answer = 3; rows = rows; matches = [] } ∷ report 16 ∷ []
 
 -- a match counts by its first row, in the done reports alone; row 1 is the first of none

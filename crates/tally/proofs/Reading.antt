@@ -15,7 +15,7 @@ use borrow.Author.Tests.{lt-ltb, le-ltb}
 use Rattle.rules.specs.Basics.{tabulate}
 use Rattle.rules.specs.Rows.{tableOf, entry}
 use Rattle.laws.proofs.Lists.{length-tabulate}
-use Rattle.tally.specs.Table.{Named, cellOf}
+use Rattle.tally.specs.Table.{NamedColumns, cellOf}
 use Rattle.tally.specs.Counting.{oneMore, up, allUp, cellIn, cellsIn, RowAt, Countable}
 
 -- ---- one row
@@ -71,12 +71,12 @@ all-up-on l [] c = refl
 all-up-on l (d ∷ cs) c = all-up-on (up l d) cs c
 
 -- the first i matches have been counted
-pub record Counting (cells₀ cells : List ℕ) (rows : List ℤ) (columns : ℕ) (w : Named) (numbers : List ℤ) (stride m i : ℕ) : Type 0 where
+pub record Counting (cells₀ cells : List ℕ) (rows : List ℤ) (columns : ℕ) (w : NamedColumns) (numbers : List ℤ) (stride m i : ℕ) : Type 0 where
   pub asked : Countable cells₀ rows columns w numbers stride m
   pub at-most : i ≤ m
   pub is : cells ≡ allUp cells₀ (cellsIn (tableOf columns rows) w numbers stride i)
 
-module _ (cells₀ : List ℕ) (rows : List ℤ) (columns : ℕ) (w : Named) (numbers : List ℤ) (stride m : ℕ) where
+module _ (cells₀ : List ℕ) (rows : List ℤ) (columns : ℕ) (w : NamedColumns) (numbers : List ℤ) (stride m : ℕ) where
   pub counting-none : Countable cells₀ rows columns w numbers stride m → Counting cells₀ cells₀ rows columns w numbers stride m 0
   unfolding cellsIn allUp
   counting-none a = record { asked = a; at-most = omega arith; is = refl }

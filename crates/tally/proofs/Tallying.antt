@@ -13,22 +13,22 @@ use borrow.Author.Tests.{lt-ltb, leb-true, eqb-true, eqb-false, eq-eqb, ne-eqb}
 use Rattle.rules.specs.Basics.{pick, tabulate, wrote}
 use Rattle.rules.specs.Rows.{Table, entry}
 use Rattle.rules.specs.Working.{All}
-use Rattle.rules.specs.Entries.{Entry}
+use Rattle.rules.specs.Entries.{Reported}
 use Rattle.laws.proofs.Appended.{wrote-on}
 use Rattle.laws.proofs.Choice.{and-left, and-right}
 use Rattle.laws.proofs.Lists.{length-tabulate, getD-tabulate}
-use Rattle.tally.specs.Table.{Named, Report, known, cellOf, matchCell, occurs, belonging, counted, cells, listed}
+use Rattle.tally.specs.Table.{NamedColumns, DepotReport, known, cellOf, matchCell, occurs, belonging, counted, cells, listed}
 use Rattle.tally.specs.Counting.{oneMore, up, allUp}
 use Rattle.tally.proofs.Reading.{up-long}
 
 -- ---- one report more
 
-pub counted-on : (w : Named) (c : ℕ) (rs : List Report) (r : Report) → counted w c (rs ++ (r ∷ [])) ≡ counted w c rs + belonging w c r
+pub counted-on : (w : NamedColumns) (c : ℕ) (rs : List DepotReport) (r : DepotReport) → counted w c (rs ++ (r ∷ [])) ≡ counted w c rs + belonging w c r
 unfolding counted
 counted-on w c [] r = omega arith
 counted-on w c (x ∷ rs) r = omega (arith, counted-on w c rs r)
 
-pub listed-on : (k : ℕ) (rs : List Report) (r : Report) → listed k (rs ++ (r ∷ [])) ≡ listed k rs ++ pick (eqb (r .answer) 0) [] (suc (k + length rs) ∷ r .answer ∷ [])
+pub listed-on : (k : ℕ) (rs : List DepotReport) (r : DepotReport) → listed k (rs ++ (r ∷ [])) ≡ listed k rs ++ pick (eqb (r .answer) 0) [] (suc (k + length rs) ∷ r .answer ∷ [])
 unfolding listed
 listed-on k [] r = go (eqb (r .answer) 0)
   where
@@ -51,15 +51,15 @@ listed-on k (x ∷ rs) r = go (listed-on (suc k) rs r) (eqb (x .answer) 0)
 tabulate-same : (n : ℕ) (f g : ℕ → ℕ) → ((k : ℕ) → f k ≡ g k) → tabulate n f ≡ tabulate n g
 tabulate-same n f g e = ap (tabulate n) (fun-ext e)
 
-pub refused-none : (w : Named) (c : ℕ) (r : Report) → (r .answer ≡ 0 → ⊥) → belonging w c r ≡ 0
+pub refused-none : (w : NamedColumns) (c : ℕ) (r : DepotReport) → (r .answer ≡ 0 → ⊥) → belonging w c r ≡ 0
 unfolding belonging
 refused-none w c r d = rw (ne-eqb (r .answer) 0 d)
 
-pub done-all : (w : Named) (c : ℕ) (r : Report) → r .answer ≡ 0 → belonging w c r ≡ occurs c (map (matchCell w (r .rows)) (r .matches))
+pub done-all : (w : NamedColumns) (c : ℕ) (r : DepotReport) → r .answer ≡ 0 → belonging w c r ≡ occurs c (map (matchCell w (r .rows)) (r .matches))
 unfolding belonging
 done-all w c r z = rw (eq-eqb (r .answer) 0 z)
 
-pub cells-refused : (w : Named) (rs : List Report) (r : Report) → (r .answer ≡ 0 → ⊥) → cells w (rs ++ (r ∷ [])) ≡ cells w rs
+pub cells-refused : (w : NamedColumns) (rs : List DepotReport) (r : DepotReport) → (r .answer ≡ 0 → ⊥) → cells w (rs ++ (r ∷ [])) ≡ cells w rs
 unfolding cells
 cells-refused w rs r d = tabulate-same 769 (λ c. counted w c (rs ++ (r ∷ []))) (λ c. counted w c rs) (λ c. omega (arith, counted-on w c rs r, refused-none w c r d))
 
@@ -112,7 +112,7 @@ cell-there d m = go (known d m) (cell-below d m)
 abbrev pub Cells : List ℕ → Type 0
 Cells cs = All (λ c. c < 769) cs
 
-pub match-cells : (w : Named) (t : Table) (es : List Entry) → Cells (map (matchCell w t) es)
+pub match-cells : (w : NamedColumns) (t : Table) (es : List Reported) → Cells (map (matchCell w t) es)
 unfolding matchCell
 match-cells w t [] = tt
 match-cells w t (e ∷ es) = (cell-there (entry t (e .first) (w .depot)) (entry t (e .first) (w .month)), match-cells w t es)
@@ -140,7 +140,7 @@ all-up f (x ∷ cs) (b, bs) room =
     less c true = omega (arith, room c)
     less c false = omega (arith, room c)
 
-pub cells-done : (w : Named) (rs : List Report) (r : Report) → r .answer ≡ 0 → ((c : ℕ) → counted w c rs + length (r .matches) < 18446744073709551615)
+pub cells-done : (w : NamedColumns) (rs : List DepotReport) (r : DepotReport) → r .answer ≡ 0 → ((c : ℕ) → counted w c rs + length (r .matches) < 18446744073709551615)
     → allUp (cells w rs) (map (matchCell w (r .rows)) (r .matches)) ≡ cells w (rs ++ (r ∷ []))
 unfolding cells
 cells-done w rs r z room =
@@ -148,12 +148,12 @@ cells-done w rs r z room =
     all-up (λ c. counted w c rs) cs (match-cells w (r .rows) (r .matches)) (λ c. rw (map-long (r .matches)) (room c))
     ∙ tabulate-same 769 (λ c. counted w c rs + occurs c cs) (λ c. counted w c (rs ++ (r ∷ []))) (λ c. omega (arith, counted-on w c rs r, done-all w c r z))
   where
-    map-long : (es : List Entry) → length (map (matchCell w (r .rows)) es) ≡ length es
+    map-long : (es : List Reported) → length (map (matchCell w (r .rows)) es) ≡ length es
     map-long [] = refl
     map-long (e ∷ es) = ap suc (map-long es)
 
 -- how many cells there are
-pub cells-long : (w : Named) (rs : List Report) → length (cells w rs) ≡ 769
+pub cells-long : (w : NamedColumns) (rs : List DepotReport) → length (cells w rs) ≡ 769
 unfolding cells
 cells-long w rs = length-tabulate 769 (λ c. counted w c rs)
 
@@ -172,7 +172,7 @@ all-up-front xs ys (c ∷ cs) (b, bs) =
 -- ---- the list
 
 -- an entry written behind those of the reports so far is the list with this report
-pub list-on : (list : List ℕ) (rs : List Report) (r : Report) → (r .answer ≡ 0 → ⊥) → length (listed 0 rs) ≤ length list
+pub list-on : (list : List ℕ) (rs : List DepotReport) (r : DepotReport) → (r .answer ≡ 0 → ⊥) → length (listed 0 rs) ≤ length list
     → wrote (wrote list 0 (listed 0 rs)) (length (listed 0 rs)) (suc (length rs) ∷ r .answer ∷ []) ≡ wrote list 0 (listed 0 (rs ++ (r ∷ [])))
 list-on list rs r d h =
     let two : List ℕ = suc (length rs) ∷ r .answer ∷ [] in
@@ -182,5 +182,5 @@ list-on list rs r d h =
     let w : wrote (wrote list 0 (listed 0 rs)) (0 + length (listed 0 rs)) two ≡ wrote list 0 (listed 0 rs ++ two) = wrote-on list 0 (listed 0 rs) (omega arith) two in
     rw (z, f) (rw e at w)
 
-pub listed-done : (rs : List Report) (r : Report) → r .answer ≡ 0 → listed 0 (rs ++ (r ∷ [])) ≡ listed 0 rs
+pub listed-done : (rs : List DepotReport) (r : DepotReport) → r .answer ≡ 0 → listed 0 (rs ++ (r ∷ [])) ≡ listed 0 rs
 listed-done rs r z = listed-on 0 rs r ∙ rw (eq-eqb (r .answer) 0 z) (append-nil (listed 0 rs))

@@ -32,7 +32,7 @@ use Rattle.prepared.specs.declared.Prepared.{Prepared}
 use Rattle.judging.specs.Judging.{holdsFrom, judgedFrom, Judgeable}
 use Rattle.judging.proofs.Rules.{holds-judged}
 use Rattle.test_letter.specs.declared.Tested.{Tested}
-use Rattle.test_letter.specs.Tests.{Asks, TestedAs, refusal, tested}
+use Rattle.test_letter.specs.Tests.{Asks, TestedAs, refusedTest, tested}
 
 -- ---- a result
 
@@ -48,7 +48,7 @@ fitting q e = none-true (queryTests q) (query-tests-refuse q) e 2
 
 module _ (q : List ℕ) (rows : List ℤ) (letter row : ℕ) where
   -- a refusal
-  refuses : (a k : ℕ) → roomAnswer q (badRows q rows) ≡ a → (a ≡ 0 → ⊥) → k ≡ offsetAt (textOf q) a → (r : Tested) → r ≡ refusal a k → TestedAs q rows letter row r
+  refuses : (a k : ℕ) → roomAnswer q (badRows q rows) ≡ a → (a ≡ 0 → ⊥) → k ≡ offsetAt (textOf q) a → (r : Tested) → r ≡ refusedTest a k → TestedAs q rows letter row r
   unfolding testOf
   refuses a k e d o r b =
       let z : eqb (roomAnswer q (badRows q rows)) 0 ≡ false = ne-eqb (roomAnswer q (badRows q rows)) 0 (λ w. d (sym e ∙ w)) in
@@ -62,11 +62,11 @@ module _ (q : List ℕ) (rows : List ℤ) (letter row : ℕ) where
   unfolding roomAnswer queryAnswer firstOf
   rows-answer e = first-after (queryTests q) ((10, badRows q rows) ∷ []) (query-tests-refuse q) e
 
-  pub query-refused : (a k : ℕ) → a ≡ queryAnswer q → k ≡ offsetAt (textOf q) a → (a ≡ 0 → ⊥) → (r : Tested) → r ≡ refusal a k → TestedAs q rows letter row r
+  pub query-refused : (a k : ℕ) → a ≡ queryAnswer q → k ≡ offsetAt (textOf q) a → (a ≡ 0 → ⊥) → (r : Tested) → r ≡ refusedTest a k → TestedAs q rows letter row r
   query-refused a k e o d r b = refuses a k (query-answer (λ z. d (e ∙ z)) ∙ sym e) d o r b
 
   module _ (z : queryAnswer q ≡ 0) where
-    pub rows-refused : badRows q rows ≡ true → (r : Tested) → r ≡ refusal 10 0 → TestedAs q rows letter row r
+    pub rows-refused : badRows q rows ≡ true → (r : Tested) → r ≡ refusedTest 10 0 → TestedAs q rows letter row r
     unfolding offsetAt
     rows-refused t r b = refuses 10 0 (rows-answer z ∙ rw t refl) (λ w. omega arith) refl r b
 
@@ -118,7 +118,7 @@ base-fits near columns a b = let m : near * columns ≤ 4160 * 8 = mul-le-mul a 
 -- ---- the ways
 
 module _ (T : List ℕ) (p : Prepared) (rows : List ℤ) (letter row : ℕ) where
-  pub test-refuses : (p .answer ≡ 0 → ⊥) → (r : Tested) → r ≡ refusal (p .answer) (p .offset) → (q : List ℕ) → Given q T p → TestedAs q rows letter row r
+  pub test-refuses : (p .answer ≡ 0 → ⊥) → (r : Tested) → r ≡ refusedTest (p .answer) (p .offset) → (q : List ℕ) → Given q T p → TestedAs q rows letter row r
   test-refuses d r b q g = query-refused q rows letter row (p .answer) (p .offset) (g .refused d .0) (g .refused d .1) d r b
 
   module _ (z : p .answer ≡ 0) (t : Bool) (et : t ≡ badCount (length rows) (p .columns)) where
@@ -130,7 +130,7 @@ module _ (T : List ℕ) (p : Prepared) (rows : List ℤ) (letter row : ℕ) wher
     unfolding badRows badCount tableOf
     the-rows q g = rw (← the-columns q g) (sym et)
 
-    pub test-rows : t ≡ true → (r : Tested) → r ≡ refusal 10 0 → (q : List ℕ) → Given q T p → TestedAs q rows letter row r
+    pub test-rows : t ≡ true → (r : Tested) → r ≡ refusedTest 10 0 → (q : List ℕ) → Given q T p → TestedAs q rows letter row r
     test-rows f r b q g = rows-refused q rows letter row (g .ready z .none) (the-rows q g ∙ f) r b
 
     module _ (f : t ≡ false) where

@@ -18,8 +18,8 @@ pub record TestedAs (q : List ℕ) (rows : List ℤ) (letter row : ℕ) (r : Tes
   pub offset : r .offset ≡ testOf q rows letter row .offset
 
 -- a refusal, and a test that was made
-abbrev pub refusal : ℕ → ℕ → Tested
-refusal a k = record { answer = a; holds = 0; judged = 0; offset = k }
+abbrev pub refusedTest : ℕ → ℕ → Tested
+refusedTest a k = record { answer = a; holds = 0; judged = 0; offset = k }
 
 abbrev pub tested : Bool → ℕ → Tested
 tested h k = record { answer = 0; holds = pick h 1 0; judged = k; offset = 0 }

@@ -13,7 +13,7 @@ ghost use mathlib.Core.Path.{_≡_};
 ghost use mathlib.Core.List.{List};
 ghost use Prim.Native.Nat.{ℕ, _+_, _≤_, min};
 ghost use Rattle.prepared.specs.Ready.{Given};
-ghost use Rattle.test_letter.specs.Tests.{Asks, TestedAs, refusal, tested};
+ghost use Rattle.test_letter.specs.Tests.{Asks, TestedAs, refusedTest, tested};
 
 // The letters A and Z, and the words of a letter in the table.
 const FIRST_LETTER: usize = 65;
@@ -36,7 +36,7 @@ pub struct Tested {
 }
 
 fn refused(answer: usize, offset: usize) -> Tested
-    ensures { λ r. ⌜ r ≡ refusal answer offset ⌝ }
+    ensures { λ r. ⌜ r ≡ refusedTest answer offset ⌝ }
 {
     Tested {
         answer,

@@ -13,7 +13,7 @@ use Rattle.rules.specs.Basics.{le16}
 use Rattle.laws.proofs.Choice.{decided}
 use Rattle.define_list.specs.Defines.{kindAt, definedAt}
 use Rattle.table.specs.Tests.{testAt, conditionIn}
-use Rattle.tests.specs.Prepared.{moreOf, wordsFor, Told, Counted, Countable, Preparable, Prepared, LetterRoom, LetterPut, LettersPut, NoneRoom, NonePut}
+use Rattle.tests.specs.Prepared.{moreOf, wordsFor, PointsBetween, TestCounted, TestsCountable, Preparable, Prepared, LetterRoom, LetterPut, LettersPut, NoneRoom, NonePut}
 use Rattle.tests.proofs.Telling.{told-wider, told-same, condition-same}
 use Rattle.tests.proofs.Putting.{more-none, more-some, more-entries, defined-none, letter-free, told-none}
 
@@ -23,7 +23,7 @@ module _ (s : List ℕ) (d : ℕ) where
   pub none-counted : d ≡ 0 → (0 ≡ moreOf s d) × (0 ≤ 50)
   none-counted z = (sym (more-none s d z), omega arith)
 
-  module _ (h : Counted s d) (o : d ≡ 0 → ⊥) (x : ℕ) (e : x ≡ getD s (d + 1) 0) (k : ℕ) (ek : k ≡ le16 s (d - 2)) where
+  module _ (h : TestCounted s d) (o : d ≡ 0 → ⊥) (x : ℕ) (e : x ≡ getD s (d + 1) 0) (k : ℕ) (ek : k ≡ le16 s (d - 2)) where
     pub some-counted : k ≡ 3 → ((x - 1) * 5 ≡ moreOf s d) × ((x - 1) * 5 ≤ 50)
     unfolding kindAt
     some-counted z = (let m = more-some s d o (sym ek ∙ z) in omega arith, let f = h .few (sym ek ∙ z) in omega arith)
@@ -49,18 +49,18 @@ words-upto s defines l (suc m) h =
 
 -- the letters below l are counted
 pub record Counting (s defines : List ℕ) (letters words l : ℕ) : Type 0 where
-  pub asked : Countable s defines letters
+  pub asked : TestsCountable s defines letters
   pub upto : l ≤ letters
   pub is : words ≡ wordsFor s defines l
   pub few : words ≤ l * 50
 
 module _ (s defines : List ℕ) (letters : ℕ) where
-  pub counting-none : Countable s defines letters → Counting s defines letters 0 0
+  pub counting-none : TestsCountable s defines letters → Counting s defines letters 0 0
   unfolding wordsFor
   counting-none h = record { asked = h; upto = omega arith; is = refl; few = omega arith }
 
   module _ (words l : ℕ) (h : Counting s defines letters words l) where
-    pub counting-room : l < letters → (getD defines l 0 ≡ 0 → ⊥) → Counted s (getD defines l 0)
+    pub counting-room : l < letters → (getD defines l 0 ≡ 0 → ⊥) → TestCounted s (getD defines l 0)
     counting-room g = h .asked .counted l (let u = h .asked .upto in omega arith)
 
     pub counting-more : l < letters → (m : ℕ) → (m ≡ moreOf s (getD defines l 0)) × (m ≤ 50) → Counting s defines letters (words + m) (l + 1)
@@ -153,7 +153,7 @@ module _ (s : List ℕ) (columns : ℕ) (defines : List ℕ) (letters : ℕ) (T�
           len = one .len ∙ h .put .len;
           is = each (λ m. conditionIn T′ columns (testAt tests m) ≡ definedAt s (getD defines m 0)) (one .is)
               (λ m f. condition-same T T′ (testAt tests m) (tests + 416) (tests + 416 + wordsFor s defines l) (h .put .told m f) (own-kept m f) reach-kept columns ∙ h .put .is m f);
-          told = each (λ m. Told T′ (testAt tests m) (tests + 416) (tests + 416 + wordsFor s defines (l + 1)))
+          told = each (λ m. PointsBetween T′ (testAt tests m) (tests + 416) (tests + 416 + wordsFor s defines (l + 1)))
               (told-wider T′ (testAt tests l) more r (tests + 416) (tests + 416 + wordsFor s defines (l + 1)) (let b = h .is-more in omega arith) (let b = now-more in omega arith) (one .told))
               (λ m f. told-wider T′ (testAt tests m) (tests + 416) (tests + 416 + wordsFor s defines l) (tests + 416) (tests + 416 + wordsFor s defines (l + 1)) (omega arith) (let d = words-next s defines l in omega arith)
               (told-same T T′ (testAt tests m) (tests + 416) (tests + 416 + wordsFor s defines l) (h .put .told m f) (own-kept m f) reach-kept (one .len)));

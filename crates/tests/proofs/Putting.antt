@@ -14,7 +14,7 @@ use Rattle.rules.specs.Query.{comparisonAt, readEntries, leavesOne}
 use Rattle.laws.proofs.Choice.{and-left, and-right}
 use Rattle.define_list.specs.Defines.{comparisonsAt, kindAt, definedAt}
 use Rattle.table.specs.Tests.{comparisonIn, comparisonsIn, definedIn, entryIn, entryWords, entriesIn, conditionIn, testedBy}
-use Rattle.tests.specs.Prepared.{moreOf, Told, LetterRoom, DefineRoom, LetterPut}
+use Rattle.tests.specs.Prepared.{moreOf, PointsBetween, LetterRoom, TestRoom, LetterPut}
 use Rattle.tests.proofs.Telling.{by-comparisons, by-entries}
 use Rattle.entry_words.specs.Words.{PostfixRoom, PostfixPut}
 use Rattle.comparison_words.specs.Words.{ComparisonRoom, ComparisonPut, ComparisonsRoom, ComparisonsPut}
@@ -75,7 +75,7 @@ pub letter-free : (T : List ℕ) (columns at : ℕ) → getD T at 0 ≡ 0 → ge
 letter-free T columns at h k = by-comparisons T columns at (λ z. omega arith) ∙ ap allOf (none-defined T columns at h)
 
 -- and what its words keep to, wherever they point
-pub told-none : (T : List ℕ) (at low high : ℕ) → getD T at 0 ≡ 0 → getD T (at + 7) 0 ≡ 2 → Told T at low high
+pub told-none : (T : List ℕ) (at low high : ℕ) → getD T at 0 ≡ 0 → getD T (at + 7) 0 ≡ 2 → PointsBetween T at low high
 told-none T at low high h k = record {
   first = λ o. absurd (omega arith);
   free = λ o n. k;
@@ -110,7 +110,7 @@ module _ (s : List ℕ) (columns d : ℕ) (T : List ℕ) (at more : ℕ) (h : Le
   pub header-read : (d ≡ 0 → ⊥) → d - 2 + 1 < length s
   header-read o = let a = h .body o .header in let b = h .body o .there in omega arith
 
-  pub define-room : (d ≡ 0 → ⊥) → (k : ℕ) → k ≡ le16 s (d - 2) → k ≡ 3 → DefineRoom s columns d T at more
+  pub define-room : (d ≡ 0 → ⊥) → (k : ℕ) → k ≡ le16 s (d - 2) → k ≡ 3 → TestRoom s columns d T at more
   unfolding kindAt
   define-room o k ek z = record {
     few = h .few;
@@ -174,7 +174,7 @@ tested-low x e = by (eqb x 1) e
     by true q = absurd (omega arith)
     by false q = absurd (omega arith)
 
-module _ (s : List ℕ) (columns d : ℕ) (T : List ℕ) (at more : ℕ) (h : DefineRoom s columns d T at more) (count : ℕ) (is-count : count ≡ getD s (d + 1) 0) where
+module _ (s : List ℕ) (columns d : ℕ) (T : List ℕ) (at more : ℕ) (h : TestRoom s columns d T at more) (count : ℕ) (is-count : count ≡ getD s (d + 1) 0) where
   -- its first two words are put, whatever they are: then there is room for its comparisons
   module _ (a b : ℕ) where
     pub first-room : ComparisonRoom s columns (d + 2) (set (set T at a) (at + 1) b) (at + 2)

@@ -13,7 +13,7 @@ use Rattle.table.specs.Tests.{testAt, definedIn, entriesIn, entriesBehind, cond
 use Rattle.comparison_words.proofs.Same.{defined-same}
 use Rattle.entry_words.proofs.Same.{behind-same, in-same}
 use Rattle.interval_words.proofs.First.{first-same}
-use Rattle.tests.specs.Prepared.{Told}
+use Rattle.tests.specs.Prepared.{PointsBetween}
 
 -- ---- a letter's condition, by how it is tested
 
@@ -28,7 +28,7 @@ module _ (T : List ℕ) (columns at : ℕ) where
 
 -- ---- wider
 
-pub told-wider : (T : List ℕ) (at low high low′ high′ : ℕ) → low′ ≤ low → high ≤ high′ → Told T at low high → Told T at low′ high′
+pub told-wider : (T : List ℕ) (at low high low′ high′ : ℕ) → low′ ≤ low → high ≤ high′ → PointsBetween T at low high → PointsBetween T at low′ high′
 told-wider T at low high low′ high′ a b h = record {
   first = h .first;
   free = h .free;
@@ -41,7 +41,7 @@ told-wider T at low high low′ high′ a b h = record {
 
 -- ---- the same words
 
-module _ (T T′ : List ℕ) (at low high : ℕ) (h : Told T at low high) (own : (j : ℕ) → at ≤ j → j < at + 16 → getD T′ j 0 ≡ getD T j 0)
+module _ (T T′ : List ℕ) (at low high : ℕ) (h : PointsBetween T at low high) (own : (j : ℕ) → at ≤ j → j < at + 16 → getD T′ j 0 ≡ getD T j 0)
     (reach : (j : ℕ) → low ≤ j → j < high → getD T′ j 0 ≡ getD T j 0) where
   word-0 : getD T′ at 0 ≡ getD T at 0
   word-0 = own at (omega arith) (omega arith)
@@ -65,7 +65,7 @@ module _ (T T′ : List ℕ) (at low high : ℕ) (h : Told T at low high) (own :
     entries-same : (columns : ℕ) → entriesIn T′ columns (getD T′ (at + 2) 0) (getD T′ (at + 1) 0) ≡ entriesIn T columns (getD T (at + 2) 0) (getD T (at + 1) 0)
     entries-same columns = rw (word-1, word-2) (in-same T T′ columns (getD T (at + 2) 0) (getD T (at + 1) 0) entries-kept)
 
-  pub told-same : length T′ ≡ length T → Told T′ at low high
+  pub told-same : length T′ ≡ length T → PointsBetween T′ at low high
   told-same len = record {
     first = λ o. first-same T T′ at own (h .first (let e = word-0 in omega arith));
     free = λ o n. word-7 ∙ h .free (sym word-0 ∙ o) (λ z. n (word-7 ∙ z));
@@ -96,7 +96,7 @@ module _ (T T′ : List ℕ) (at low high : ℕ) (h : Told T at low high) (own :
 
 -- ---- all letters
 
-pub tests-told : (T : List ℕ) (tests : ℕ) → tests + 416 ≤ length T → ((l : ℕ) → l < 26 → Told T (testAt tests l) tests (length T)) → Tests T tests
+pub tests-told : (T : List ℕ) (tests : ℕ) → tests + 416 ≤ length T → ((l : ℕ) → l < 26 → PointsBetween T (testAt tests l) tests (length T)) → Tests T tests
 tests-told T tests long told = record {
   long = long;
   more = λ l f o. told l f .upto o;

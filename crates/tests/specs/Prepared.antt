@@ -26,22 +26,22 @@ wordsFor s defines zero = 0
 wordsFor s defines (suc l) = wordsFor s defines l + moreOf s (getD defines l 0)
 
 -- the kind and the count of a body can be read, and the count is 1 to 8 or 1 to 16 by the kind
-pub record Counted (s : List ℕ) (d : ℕ) : Type 0 where
+pub record TestCounted (s : List ℕ) (d : ℕ) : Type 0 where
   pub header : 4 ≤ d
   pub there : d + 2 ≤ length s
   pub one : 1 ≤ getD s (d + 1) 0
   pub few : kindAt s d ≡ 3 → getD s (d + 1) 0 ≤ 8
   pub most : getD s (d + 1) 0 ≤ 16
 
-pub record Countable (s defines : List ℕ) (letters : ℕ) : Type 0 where
+pub record TestsCountable (s defines : List ℕ) (letters : ℕ) : Type 0 where
   pub upto : letters ≤ 26
-  pub counted : (l : ℕ) → l < 26 → (getD defines l 0 ≡ 0 → ⊥) → Counted s (getD defines l 0)
+  pub counted : (l : ℕ) → l < 26 → (getD defines l 0 ≡ 0 → ⊥) → TestCounted s (getD defines l 0)
 
 -- ---- what the words of a letter keep to
 
 -- The words at word `at` say what they say twice alike, and those to which they point lie from word
 -- `low` on, before word `high`.
-pub record Told (T : List ℕ) (at low high : ℕ) : Type 0 where
+pub record PointsBetween (T : List ℕ) (at low high : ℕ) : Type 0 where
   pub first : 0 < getD T at 0 → First T at
   pub free : getD T at 0 ≡ 0 → (getD T (at + 7) 0 ≡ 3 → ⊥) → getD T (at + 7) 0 ≡ 2
   pub from : 1 < getD T at 0 → low ≤ getD T (at + 1) 0
@@ -67,7 +67,7 @@ pub record Preparable (s : List ℕ) (columns : ℕ) (defines : List ℕ) (lette
 -- `tests` are as they were.
 pub record Prepared (s : List ℕ) (columns : ℕ) (defines T T′ : List ℕ) (tests : ℕ) : Type 0 where
   pub long : tests + 416 ≤ length T′
-  pub told : (l : ℕ) → l < 26 → Told T′ (testAt tests l) tests (length T′)
+  pub told : (l : ℕ) → l < 26 → PointsBetween T′ (testAt tests l) tests (length T′)
   pub is : (l : ℕ) → l < 26 → conditionIn T′ columns (testAt tests l) ≡ definedAt s (getD defines l 0)
   pub len : length T′ ≡ length T
   pub kept : (j : ℕ) → j < tests → getD T′ j 0 ≡ getD T j 0
@@ -84,7 +84,7 @@ pub record LetterRoom (s : List ℕ) (columns d : ℕ) (T : List ℕ) (at more :
   pub small : length T < 65536
 
 -- the same of a letter that has a DEFINE of kind 3
-pub record DefineRoom (s : List ℕ) (columns d : ℕ) (T : List ℕ) (at more : ℕ) : Type 0 where
+pub record TestRoom (s : List ℕ) (columns d : ℕ) (T : List ℕ) (at more : ℕ) : Type 0 where
   pub few : columns ≤ 8
   pub some : d ≡ 0 → ⊥
   pub kind : kindAt s d ≡ 3
@@ -98,7 +98,7 @@ pub record LetterPut (s : List ℕ) (columns d : ℕ) (T T′ : List ℕ) (at mo
   pub behind : r ≡ more + moreOf s d
   pub len : length T′ ≡ length T
   pub is : conditionIn T′ columns at ≡ definedAt s d
-  pub told : Told T′ at more r
+  pub told : PointsBetween T′ at more r
   pub kept : (j : ℕ) → (at ≤ j → j < at + 16 → ⊥) → (more ≤ j → j < r → ⊥) → getD T′ j 0 ≡ getD T j 0
 
 -- ---- the letters below a number, and those from it on
@@ -106,7 +106,7 @@ pub record LetterPut (s : List ℕ) (columns d : ℕ) (T T′ : List ℕ) (at mo
 pub record LettersPut (s : List ℕ) (columns : ℕ) (defines T T′ : List ℕ) (tests letters : ℕ) : Type 0 where
   pub len : length T′ ≡ length T
   pub is : (l : ℕ) → l < letters → conditionIn T′ columns (testAt tests l) ≡ definedAt s (getD defines l 0)
-  pub told : (l : ℕ) → l < letters → Told T′ (testAt tests l) (tests + 416) (tests + 416 + wordsFor s defines letters)
+  pub told : (l : ℕ) → l < letters → PointsBetween T′ (testAt tests l) (tests + 416) (tests + 416 + wordsFor s defines letters)
   pub kept : (j : ℕ) → j < tests → getD T′ j 0 ≡ getD T j 0
 
 pub record NoneRoom (T : List ℕ) (tests letters : ℕ) : Type 0 where

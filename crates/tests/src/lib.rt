@@ -15,8 +15,8 @@ use records::ALL_OF;
 use table::LETTERS;
 ghost use mathlib.Core.Path.{_≡_};
 ghost use Prim.Native.Nat.{_+_, _≤_, _<_};
-ghost use Rattle.tests.specs.Prepared.{moreOf, wordsFor, Counted, Countable, Preparable, Prepared};
-ghost use Rattle.tests.specs.Prepared.{LetterRoom, DefineRoom, LetterPut, LettersPut, NoneRoom, NonePut};
+ghost use Rattle.tests.specs.Prepared.{moreOf, wordsFor, TestCounted, TestsCountable, Preparable, Prepared};
+ghost use Rattle.tests.specs.Prepared.{LetterRoom, TestRoom, LetterPut, LettersPut, NoneRoom, NonePut};
 
 // The words of a letter, and which of them tells how it is tested.
 const LETTER_WORDS: usize = 16;
@@ -31,7 +31,7 @@ const FREE: u16 = 2;
 // The words of the comparisons behind the first, or of the entries, where the DEFINE's body starts
 // at index d.
 fn more_of(query: &[u8], d: usize) -> usize
-    requires { ⌜ ((d ≡ 0 → ⊥) → Counted (now query) d) ⌝ }
+    requires { ⌜ ((d ≡ 0 → ⊥) → TestCounted (now query) d) ⌝ }
     ensures { λ r. ⌜ (r ≡ moreOf (now (query .entry)) d) × (r ≤ 50) ⌝ }
 {
     if d == 0 {
@@ -46,7 +46,7 @@ fn more_of(query: &[u8], d: usize) -> usize
 
 // How many words the tests of the letters below `letters` take behind the 416 of all letters.
 pub fn words_for(query: &[u8], defines: &[usize; 26], letters: usize) -> usize
-    requires { ⌜ Countable (now query) (now defines) letters ⌝ }
+    requires { ⌜ TestsCountable (now query) (now defines) letters ⌝ }
     ensures { λ r. ⌜ (r ≡ wordsFor (now (query .entry)) (now (defines .entry)) letters) × (r ≤ 1300) ⌝ }
 {
     let mut words = 0;
@@ -69,7 +69,7 @@ fn put_defined(
     at: usize,
     more: usize,
 ) -> usize
-    requires { ⌜ DefineRoom (now query) columns d (now table) at more ⌝ }
+    requires { ⌜ TestRoom (now query) columns d (now table) at more ⌝ }
     ensures { λ r. ⌜ LetterPut (now (query .entry)) columns d (now (table .entry)) (now (table .exit)) at more r ⌝ }
 {
     let count = wide8(query[d + 1]);

@@ -11,12 +11,13 @@ use lib.Seq.{take-append-seam, drop-append-seam, drop-at}
 use Rattle.rules.specs.Basics.{bytes, wrote}
 use Rattle.rules.specs.Rows.{Table}
 use Rattle.rules.specs.Query.{Measure}
-use Rattle.rules.specs.Search.{Match, Swept, Kept, labels}
+use Rattle.rules.specs.Search.{Match, Swept, labels}
 use Rattle.rules.specs.Report.{measured, twoOf, measureNumbers, matchNumbers, numbersOf, labelsOf}
 use Rattle.rules.specs.Answers.{Task, stopped}
 use Rattle.rules.specs.Program.{signedDecimal, measureText, measuresText, matchLine, matchLines, headerLine, searchText}
 use Rattle.laws.proofs.Limits.{match-long}
-use Rattle.header.specs.Report.{numberAt, headerText, resultsText, fieldText, lineText, linesText, reportText}
+use Rattle.header.specs.Report.{numberAt, headerText, resultsText, fieldText, lineText, linesText, reportText, heading}
+use Rattle.rules.specs.Walk.{Kept}
 
 pub results-printed : (t : Table) (row : ℕ) (ls : List ℕ) (ms : List Measure) (rest : List ℤ)
     → resultsText (length ms) (measureNumbers t row ls ms ++ rest) ≡ measuresText t row ls ms
@@ -72,7 +73,7 @@ lines-printed t k (x ∷ xs) ns ls = go (labels (t .places) (x .path)) (lines-pr
 -- With the promise of the search, the numbers and labels of its matches in front of what the lent
 -- buffers held, the report is the search's text.
 pub report-printed : (t : Task) (r : Swept Kept) (numbers : List ℤ) (labelBytes : List ℕ)
-    → reportText (stopped r) (length (r .matches)) (r .state .1) (length (t .measures))
+    → reportText (heading (stopped r) (length (r .matches)) (r .state .steps)) (length (t .measures))
     (wrote numbers 0 (numbersOf (t .table) (t .measures) (t .places) 0 (r .matches)))
     (wrote labelBytes 0 (labelsOf (t .places) (r .matches)))
     ≡ searchText t r
@@ -84,11 +85,11 @@ report-printed t r numbers labelBytes =
     (drop (0 + length (labelsOf (t .places) (r .matches))) labelBytes))
 
 -- document 01's own example, and a line with `-`, `null`, 0 and a number below 0
-pub example : reportText false 1 12 2 (pos 1 ∷ pos 1 ∷ pos 3 ∷ pos 1 ∷ pos 2 ∷ pos 1 ∷ pos 115 ∷ []) (bytes "AAB") ≡ bytes "matches 1 steps 12\n1 1 3 AAB 2 115\n"
+pub example : reportText (heading false 1 12) 2 (pos 1 ∷ pos 1 ∷ pos 3 ∷ pos 1 ∷ pos 2 ∷ pos 1 ∷ pos 115 ∷ []) (bytes "AAB") ≡ bytes "matches 1 steps 12\n1 1 3 AAB 2 115\n"
 unfolding reportText bytes
 example = refl
 
-pub example-empty : reportText true 1 7 3 (pos 1 ∷ pos 40 ∷ pos 0 ∷ pos 0 ∷ pos 0 ∷ pos 1 ∷ pos 0 ∷ pos 1 ∷ negsuc 114 ∷ []) []
+pub example-empty : reportText (heading true 1 7) 3 (pos 1 ∷ pos 40 ∷ pos 0 ∷ pos 0 ∷ pos 0 ∷ pos 1 ∷ pos 0 ∷ pos 1 ∷ negsuc 114 ∷ []) []
     ≡ bytes "stopped 1 steps 7\n1 40 0 - null 0 -115\n"
 unfolding reportText bytes
 example-empty = refl

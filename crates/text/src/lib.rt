@@ -9,7 +9,7 @@ ghost use mathlib.Core.Path.{_≡_};
 ghost use Prim.Native.Nat.{_+_, _*_, _≤_, min};
 ghost use lib.ListN.{length};
 ghost use Rattle.put.specs.Put.{Put};
-ghost use Rattle.header.specs.Report.{linesText, reportText, reportRoom};
+ghost use Rattle.header.specs.Report.{linesText, reportText, reportRoom, heading};
 
 // As many of the labels left as a match has rows; all of them where there are fewer.
 fn least(rows: u64, left: usize) -> usize
@@ -62,7 +62,7 @@ pub fn put_report(
 ) -> usize
     requires { ⌜ matches * (3 + 2 * measures) ≤ length (now numbers) ⌝ }
     requires { ⌜ at + reportRoom (length (now numbers)) (length (now labels)) ≤ length (now out) ⌝ }
-    ensures { λ r. ⌜ Put (now (out .entry)) at (reportText stopped matches steps measures (now (numbers .entry)) (now (labels .entry))) (now (out .exit)) r ⌝ }
+    ensures { λ r. ⌜ Put (now (out .entry)) at (reportText (heading stopped matches steps) measures (now (numbers .entry)) (now (labels .entry))) (now (out .exit)) r ⌝ }
 {
     let lines = put_header(out, at, stopped, matches, steps);
     put_lines(out, lines, matches, measures, numbers, labels)

@@ -11,9 +11,9 @@ use lib.ListN.{length, getD, drop, drop-of-length-le}
 use lib.Seq.{drop-cons}
 use borrow.Author.Tests.{le-leb, lt-leb, eq-eqb, ne-eqb}
 use Rattle.rules.specs.Basics.{pick, inRange, isLetter}
-use Rattle.rules.specs.Reader.{Reading, got, bad, peek, rest, skip, isDigit, number, enough, reaching}
+use Rattle.rules.specs.Reader.{Reading, got, bad, peek, rest, skipSpaces, isDigit, number, boundReached, reaching}
 use Rattle.laws.proofs.GrammarSound.{in-range, range-in, number-begun}
-use Rattle.text_bytes.specs.Numerals.{SaysNumber, noNumber, Numeral, Reached}
+use Rattle.text_bytes.specs.Numerals.{SaysNumber, noNumber, Numeral, BoundReached}
 use Rattle.text_bytes.specs.declared.Value.{Value}
 
 -- ---- bytes
@@ -40,13 +40,13 @@ rest-drop s at = elim (decLt at (length s)) [
 
 -- ---- spaces
 
-pub stays : (u : List ℕ) → (peek u ≡ 32 → ⊥) → skip u ≡ u
-unfolding peek skip
+pub stays : (u : List ℕ) → (peek u ≡ 32 → ⊥) → skipSpaces u ≡ u
+unfolding peek skipSpaces
 stays [] f = refl
 stays (b ∷ u) f = simp (ne-eqb b 32 f)
 
 pub record Skipped (s : List ℕ) (at to : ℕ) : Type 0 where
-  pub same : skip (drop at s) ≡ skip (drop to s)
+  pub same : skipSpaces (drop at s) ≡ skipSpaces (drop to s)
   pub on : at ≤ to
   pub in-text : to ≤ length s
 
@@ -56,14 +56,14 @@ module _ (s : List ℕ) (at : ℕ) where
 
   module _ (to b : ℕ) where
     pub skip-more : Skipped s at to → b ≡ peek (drop to s) → b ≡ 32 → Skipped s at (to + 1)
-    unfolding skip
+    unfolding skipSpaces
     skip-more h eb e =
         let l = inside s to 32 (omega arith) (sym eb ∙ e) in
         let q : drop to s ≡ 32 ∷ drop (to + 1) s = drop-cons s to 0 l ∙ ap (λ (x : ℕ). x ∷ drop (suc to) s) (byte s to l ∙ sym eb ∙ e)
         ∙ ap (λ (k : ℕ). 32 ∷ drop k s) (let i : suc to ≡ to + 1 = omega arith in i) in
-        record { same = h .same ∙ ap skip q; on = omega (arith, h .on); in-text = omega arith }
+        record { same = h .same ∙ ap skipSpaces q; on = omega (arith, h .on); in-text = omega arith }
 
-    pub skip-all : Skipped s at to → b ≡ peek (drop to s) → (b ≡ 32 → ⊥) → (drop to s ≡ skip (drop at s)) × (at ≤ to) × (to ≤ length s)
+    pub skip-all : Skipped s at to → b ≡ peek (drop to s) → (b ≡ 32 → ⊥) → (drop to s ≡ skipSpaces (drop at s)) × (at ≤ to) × (to ≤ length s)
     skip-all h eb e = (sym (h .same ∙ stays (drop to s) (λ q. e (eb ∙ q))), h .on, h .in-text)
 
 pub skip-less : (s : List ℕ) (to b : ℕ) → b ≡ peek (drop to s) → b ≡ 32 → length s - (to + 1) < length s - to
@@ -165,17 +165,17 @@ says-got s at m (got v u) h e = record { is = rw (h .rest, h .value) refl; small
 -- ---- upper bounds
 
 module _ (s : List ℕ) (at low b : ℕ) (eb : b ≡ peek (drop at s)) where
-  wrong-here : (r : Value) → at ≤ length s → reaching low (drop at s) ≡ bad (drop at s) → r ≡ noNumber at → Reached s at low r
+  wrong-here : (r : Value) → at ≤ length s → reaching low (drop at s) ≡ bad (drop at s) → r ≡ noNumber at → BoundReached s at low r
   unfolding SaysNumber
   wrong-here r h e er =
       rw er (record { numeral = record { says = rw e (refl, refl); inside = h; small = omega arith }; least = λ o. absurd (false≢true o) })
 
-  pub reach-below : (r : Value) → at ≤ length s → b < 49 → r ≡ noNumber at → Reached s at low r
+  pub reach-below : (r : Value) → at ≤ length s → b < 49 → r ≡ noNumber at → BoundReached s at low r
   unfolding reaching inRange
   reach-below r h l = wrong-here r h (simp (lt-leb 49 (peek (drop at s)) (omega arith)))
 
   module _ (l : 49 ≤ b) where
-    pub reach-above : (r : Value) → at ≤ length s → 57 < b → r ≡ noNumber at → Reached s at low r
+    pub reach-above : (r : Value) → at ≤ length s → 57 < b → r ≡ noNumber at → BoundReached s at low r
     unfolding reaching inRange
     reach-above r h g = wrong-here r h (simp (le-leb 49 (peek (drop at s)) (omega arith), lt-leb (peek (drop at s)) 57 (omega arith)))
 
@@ -183,12 +183,12 @@ module _ (s : List ℕ) (at low b : ℕ) (eb : b ≡ peek (drop at s)) where
       digit : inRange 49 57 (peek (drop at s)) ≡ true
       digit = range-in 49 57 (peek (drop at s)) (omega arith) (omega arith)
 
-      pub reach-short : (r : Value) (v : ℕ) → at ≤ length s → v ≡ b → 10 * (v - 48) + 9 < low → r ≡ noNumber at → Reached s at low r
+      pub reach-short : (r : Value) (v : ℕ) → at ≤ length s → v ≡ b → 10 * (v - 48) + 9 < low → r ≡ noNumber at → BoundReached s at low r
       unfolding reaching
       reach-short r v h e k = wrong-here r h (simp (digit, lt-leb low (10 * (peek (drop at s) - 48) + 9) (omega arith)))
 
       module _ (v : ℕ) (m : Value) (ev : v ≡ b) (k : low ≤ 10 * (v - 48) + 9) (h : Numeral s at m (number (drop at s))) where
-        reach-number : reaching low (drop at s) ≡ enough low (rest (drop at s)) (number (drop at s))
+        reach-number : reaching low (drop at s) ≡ boundReached low (rest (drop at s)) (number (drop at s))
         unfolding reaching
         reach-number = rw (digit, le-leb low (10 * (peek (drop at s) - 48) + 9) (omega arith)) refl
 
@@ -206,19 +206,19 @@ module _ (s : List ℕ) (at low b : ℕ) (eb : b ≡ peek (drop at s)) where
         there : Got s at m (number (drop at s))
         there = says-got s at m _ (h .says) (got-one (number (drop at s)) refl (h .says))
 
-        pub reach-less : (r : Value) → m .value < low → r ≡ noNumber (at + 1) → Reached s at low r
-        unfolding SaysNumber enough
+        pub reach-less : (r : Value) → m .value < low → r ≡ noNumber (at + 1) → BoundReached s at low r
+        unfolding SaysNumber boundReached
         reach-less r f er =
             let i = inside s at b (omega arith) (sym eb) in
             let e : reaching low (drop at s) ≡ bad (drop (at + 1) s) =
-            reach-number ∙ ap (enough low (rest (drop at s))) (there .is) ∙ rw (lt-leb low (m .value) f) (ap bad (rest-drop s at)) in
+            reach-number ∙ ap (boundReached low (rest (drop at s))) (there .is) ∙ rw (lt-leb low (m .value) f) (ap bad (rest-drop s at)) in
             rw er (record { numeral = record { says = rw e (refl, refl); inside = omega arith; small = omega arith }; least = λ o. absurd (false≢true o) })
 
-        pub reach-found : low ≤ m .value → Reached s at low m
-        unfolding SaysNumber enough
+        pub reach-found : low ≤ m .value → BoundReached s at low m
+        unfolding SaysNumber boundReached
         reach-found f =
             let e : reaching low (drop at s) ≡ got (m .value) (drop (m .at) s) =
-            reach-number ∙ ap (enough low (rest (drop at s))) (there .is) ∙ rw (le-leb low (m .value) f) refl in
+            reach-number ∙ ap (boundReached low (rest (drop at s))) (there .is) ∙ rw (le-leb low (m .value) f) refl in
             record {
               numeral = record {
                 says = rw e (record { ok = got-one (number (drop at s)) refl (h .says); value = refl; small = there .small; rest = refl; on = there .on; inside = there .inside });
@@ -228,7 +228,7 @@ module _ (s : List ℕ) (at low b : ℕ) (eb : b ≡ peek (drop at s)) where
               least = λ o. f;
             }
 
-pub reached-least : (s : List ℕ) (at low : ℕ) (m : Value) → Reached s at low m → m .ok ≡ true → low ≤ m .value
+pub reached-least : (s : List ℕ) (at low : ℕ) (m : Value) → BoundReached s at low m → m .ok ≡ true → low ≤ m .value
 reached-least s at low m h o = h .least o
 
 pub next-in : (s : List ℕ) (at b k : ℕ) → b ≡ peek (drop at s) → b ≡ k → 1 ≤ k → at + 1 ≤ length s

@@ -30,6 +30,6 @@ pub record Numeral (s : List ℕ) (at : ℕ) (r : Value) (x : Reading ℕ) : Typ
   pub small : r .value ≤ 99
 
 -- and what `reaching` promises
-pub record Reached (s : List ℕ) (at low : ℕ) (r : Value) : Type 0 where
+pub record BoundReached (s : List ℕ) (at low : ℕ) (r : Value) : Type 0 where
   pub numeral : Numeral s at r (reaching low (drop at s))
   pub least : r .ok ≡ true → low ≤ r .value

@@ -5,8 +5,8 @@ ghost use mathlib.Core.Path.{_≡_};
 ghost use Prim.Native.Nat.{_≤_};
 ghost use lib.ListN.{length, drop};
 ghost use Rattle.rules.specs.Basics.{isLetter};
-ghost use Rattle.rules.specs.Reader.{peek as peeked, skip as skipped, isDigit, number as numbered};
-ghost use Rattle.text_bytes.specs.Numerals.{Numeral, Reached, noNumber};
+ghost use Rattle.rules.specs.Reader.{peek as peeked, skipSpaces as skipped, isDigit, number as numbered};
+ghost use Rattle.text_bytes.specs.Numerals.{Numeral, BoundReached, noNumber};
 
 // A number and where it ends, or where there is none.
 pub struct Value {
@@ -93,7 +93,7 @@ pub fn number(text: &[u8], at: usize) -> Value
 // its second makes none, there it is wrong.
 pub fn reaching(text: &[u8], at: usize, low: usize) -> Value
     requires { ⌜ at ≤ length (now text) ⌝ }
-    ensures { λ r. ⌜ Reached (now (text .entry)) at low r ⌝ }
+    ensures { λ r. ⌜ BoundReached (now (text .entry)) at low r ⌝ }
 {
     let b = peek(text, at);
     if b < b'1' {

@@ -13,7 +13,7 @@ use Rattle.transfer.specs.declared.Step.{Step}
 use Rattle.transfer.specs.declared.Step.the-variants.{Go, Still, Broken}
 use Rattle.transfer.specs.declared.Reading.{Reading}
 use Rattle.transfer.specs.declared.Reading.the-variants.{Whole, Unread}
-use Rattle.transfer.specs.Transfer.{stepOf, Ahead, Steps, Within}
+use Rattle.transfer.specs.Transfer.{stepOf, StreamAhead, Steps, ReadWithin}
 
 -- ---- the code's ways through the decision on a call
 
@@ -66,7 +66,7 @@ steps n at left moved failed interrupted r e h = rw e (go failed interrupted)
 
 -- a call that goes on: m is the number of bytes afterwards, which is the same
 module _ (n m at left at′ left′ : ℕ) (r : Step) (s : Steps n at left r) (e : r ≡ Go at′ left′) (same : m ≡ n) where
-  ahead : Ahead n at left at′ left′
+  ahead : StreamAhead n at left at′ left′
   unfolding Steps
   ahead = rw e at s
 
@@ -78,17 +78,17 @@ module _ (n m at left at′ left′ : ℕ) (r : Step) (s : Steps n at left r) (e
 
 -- ---- an input that was read to its end
 
-pub read-within : (n count : ℕ) → count ≤ n → Within n (Whole count)
-unfolding Within
+pub read-within : (n count : ℕ) → count ≤ n → ReadWithin n (Whole count)
+unfolding ReadWithin
 read-within n count h = h
 
-pub read-not : (n : ℕ) → Within n Unread
-unfolding Within
+pub read-not : (n : ℕ) → ReadWithin n Unread
+unfolding ReadWithin
 read-not n = tt
 
-module _ (buf : List ℕ) (n count : ℕ) (r : Reading) (w : Within n r) (e : r ≡ Whole count) (l : length buf ≡ n) where
+module _ (buf : List ℕ) (n count : ℕ) (r : Reading) (w : ReadWithin n r) (e : r ≡ Whole count) (l : length buf ≡ n) where
   pub whole-within : count ≤ length buf
-  unfolding Within
+  unfolding ReadWithin
   whole-within = let h : count ≤ n = rw e at w in omega arith
 
   pub whole-long : count ≡ length (take count buf)

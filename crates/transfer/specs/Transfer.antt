@@ -19,16 +19,16 @@ stepOf true false moved at left = Broken
 stepOf false interrupted moved at left = pick (eqb moved 0) Still (Go (at + moved) left)
 
 -- the next call's place lies within n bytes, and fewer calls are left to make
-pub record Ahead (n at left at′ left′ : ℕ) : Type 0 where
+pub record StreamAhead (n at left at′ left′ : ℕ) : Type 0 where
   pub within : at′ ≤ n
   pub less : n - at′ + left′ < n - at + left
 
 unfoldable pub Steps : ℕ → ℕ → ℕ → Step → Type 0
-Steps n at left (Go at′ left′) = Ahead n at left at′ left′
+Steps n at left (Go at′ left′) = StreamAhead n at left at′ left′
 Steps n at left Still = Unit {0}
 Steps n at left Broken = Unit {0}
 
 -- an input that was read to its end lies within n bytes
-unfoldable pub Within : ℕ → Reading → Type 0
-Within n (Whole count) = count ≤ n
-Within n Unread = Unit {0}
+unfoldable pub ReadWithin : ℕ → Reading → Type 0
+ReadWithin n (Whole count) = count ≤ n
+ReadWithin n Unread = Unit {0}

@@ -16,7 +16,7 @@ ghost use Prim.Native.Nat.{_+_, _≤_};
 ghost use lib.ListN.{length, take};
 ghost use mir.Syntax.{w64};
 ghost use mir.Val.{Fits};
-ghost use Rattle.transfer.specs.Transfer.{stepOf, Steps, Within};
+ghost use Rattle.transfer.specs.Transfer.{stepOf, Steps, ReadWithin};
 
 // How often in all a call that a signal interrupted is made again.
 const MOST_INTERRUPTIONS: usize = 1000;
@@ -85,7 +85,7 @@ fn write_more(fd: i32, text: &[u8], at: usize, left: usize) -> Step
 // Reads until the input ends or the buffer is full. Where it says `Unread`, errno still has the
 // reason.
 pub fn read_whole(fd: i32, buf: &mut [u8]) -> Reading
-    ensures { λ r. ⌜ Within (length (now (buf .entry))) r ⌝ }
+    ensures { λ r. ⌜ ReadWithin (length (now (buf .entry))) r ⌝ }
 {
     let mut at = 0;
     let mut left = MOST_INTERRUPTIONS;

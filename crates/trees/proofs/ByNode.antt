@@ -15,8 +15,8 @@ use Rattle.marks.specs.Shows.{highOf}
 use Rattle.nodes.specs.Nodes.{nodeAt}
 use Rattle.nodes.specs.declared.Sort.the-variants.{Letter, Anchor, Empty, Sequence, Alternation, Group}
 use Rattle.nodes.specs.declared.Node.{Node}
-use Rattle.trees.specs.Written.{plain, withMark, nodeCount, height, own, InOrder}
-use Rattle.trees.specs.Held.{body, lowOf, highestOf, lazyOf, Held, Top, At}
+use Rattle.trees.specs.Written.{plainNode, withMark, nodeCount, height, own, InOrder}
+use Rattle.trees.specs.Held.{body, lowerOf, highestOf, lazyOf, Held, Top, At}
 use Rattle.trees.proofs.RoundLaws.{form-order}
 use Rattle.trees.proofs.Holds.{factor-nodes, branch-nodes, pattern-nodes}
 
@@ -52,7 +52,7 @@ pub record FactorAt (s : List ℕ) (n : Node) (F : Tree factor) : Type 0 where
   pub sort : n .sort ≡ (own (body F) base) .sort
   pub left : n .left ≡ (own (body F) base) .left
   pub high-is : n .height ≡ height (body F)
-  pub low : n .low ≡ lowOf F
+  pub low : n .low ≡ lowerOf F
   pub high : n .high ≡ highestOf F
   pub lazy : n .lazy ≡ lazyOf F
   pub bounds : Bounded F
@@ -129,7 +129,7 @@ seq-at : (s : List ℕ) (n : Node) (f : Tree factor) (b : Tree branch) (c : ℕ)
     → Held (next f b) c s → SeqAt s n f b
 unfolding Held nodeCount
 seq-at s n f b c e l h =
-    let q : n ≡ plain Sequence (c + nodeCount f - 1) (c + nodeCount f + nodeCount b - 1) (max (height f) (height b) + 1) (min (placeCount f + placeCount b) 257) = e ∙ h .2 in
+    let q : n ≡ plainNode Sequence (c + nodeCount f - 1) (c + nodeCount f + nodeCount b - 1) (max (height f) (height b) + 1) (min (placeCount f + placeCount b) 257) = e ∙ h .2 in
     let el : n .left ≡ c + nodeCount f - 1 = ap (λ (y : Node). y .left) q in
     let er : n .right ≡ c + nodeCount f + nodeCount b - 1 = ap (λ (y : Node). y .right) q in
     record {
@@ -145,7 +145,7 @@ alt-at : (s : List ℕ) (n : Node) (b : Tree branch) (p : Tree pattern) (c : ℕ
     → Held (more b p) c s → AltAt s n b p
 unfolding Held nodeCount
 alt-at s n b p c e l h =
-    let q : n ≡ plain Alternation (c + nodeCount b - 1) (c + nodeCount b + nodeCount p - 1) (max (height b) (height p) + 1) (min (placeCount b + placeCount p) 257) = e ∙ h .2 in
+    let q : n ≡ plainNode Alternation (c + nodeCount b - 1) (c + nodeCount b + nodeCount p - 1) (max (height b) (height p) + 1) (min (placeCount b + placeCount p) 257) = e ∙ h .2 in
     let el : n .left ≡ c + nodeCount b - 1 = ap (λ (y : Node). y .left) q in
     let er : n .right ≡ c + nodeCount b + nodeCount p - 1 = ap (λ (y : Node). y .right) q in
     record {

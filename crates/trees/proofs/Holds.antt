@@ -11,7 +11,7 @@ use Rattle.rules.specs.Places.{placeCount}
 use Rattle.nodes.specs.Nodes.{nodeAt, putNode}
 use Rattle.nodes.specs.declared.Sort.the-variants.{Sequence, Alternation}
 use Rattle.nodes.specs.declared.Node.{Node}
-use Rattle.trees.specs.Written.{plain, withMark, nodeCount, height, own, written}
+use Rattle.trees.specs.Written.{plainNode, withMark, nodeCount, height, own, written}
 use Rattle.trees.specs.Held.{Held}
 use Rattle.laws.proofs.Bounds.{Bounds, Lettered}
 use Rattle.nodes.proofs.Put.{SmallSort, read-put, node-other, put-length}
@@ -102,7 +102,7 @@ written-held (one b) c s h d l = written-held b c s h d l
 written-held (more b p) c s h d l =
     let u = written b c s in
     let v = written p (c + nodeCount b) u in
-    let n : Node = plain Alternation (c + nodeCount b - 1) (c + nodeCount b + nodeCount p - 1) (max (height b) (height p) + 1) (min (placeCount b + placeCount p) 257) in (
+    let n : Node = plainNode Alternation (c + nodeCount b - 1) (c + nodeCount b + nodeCount p - 1) (max (height b) (height p) + 1) (min (placeCount b + placeCount p) 257) in (
       held-same b c u (putNode v (c + nodeCount b + nodeCount p) n) (λ j a e2. node-other v (c + nodeCount b + nodeCount p) j n (λ e. omega arith)
           ∙ written-below p (c + nodeCount b) u j e2) (written-held b c s (h .0) (d .0) (omega arith)),
       held-same p (c + nodeCount b) v (putNode v (c + nodeCount b + nodeCount p) n) (λ j a e2. node-other v (c + nodeCount b + nodeCount p) j n (λ e. omega arith))
@@ -113,7 +113,7 @@ written-held (last f) c s h d l = written-held f c s h d l
 written-held (next b p) c s h d l =
     let u = written b c s in
     let v = written p (c + nodeCount b) u in
-    let n : Node = plain Sequence (c + nodeCount b - 1) (c + nodeCount b + nodeCount p - 1) (max (height b) (height p) + 1) (min (placeCount b + placeCount p) 257) in (
+    let n : Node = plainNode Sequence (c + nodeCount b - 1) (c + nodeCount b + nodeCount p - 1) (max (height b) (height p) + 1) (min (placeCount b + placeCount p) 257) in (
       held-same b c u (putNode v (c + nodeCount b + nodeCount p) n) (λ j a e2. node-other v (c + nodeCount b + nodeCount p) j n (λ e. omega arith)
           ∙ written-below p (c + nodeCount b) u j e2) (written-held b c s (h .0) (d .0) (omega arith)),
       held-same p (c + nodeCount b) v (putNode v (c + nodeCount b + nodeCount p) n) (λ j a e2. node-other v (c + nodeCount b + nodeCount p) j n (λ e. omega arith))

@@ -9,7 +9,7 @@ use Rattle.rules.specs.Places.{placeCount}
 use Rattle.marks.specs.Shows.{highOf}
 use Rattle.nodes.specs.Nodes.{nodeAt}
 use Rattle.nodes.specs.declared.Sort.the-variants.{Sequence, Alternation}
-use Rattle.trees.specs.Written.{plain, withMark, nodeCount, height, own}
+use Rattle.trees.specs.Written.{plainNode, withMark, nodeCount, height, own}
 
 -- a factor's primary, and its bounds, 1 and 1 without a quantifier
 
@@ -17,9 +17,9 @@ abbrev pub body : Tree factor → Tree primary
 body (bare x) = x
 body (times x f z) = x
 
-abbrev pub lowOf : Tree factor → ℕ
-lowOf (bare x) = 1
-lowOf (times x f z) = lower f
+abbrev pub lowerOf : Tree factor → ℕ
+lowerOf (bare x) = 1
+lowerOf (times x f z) = lower f
 
 abbrev pub highestOf : Tree factor → ℕ
 highestOf (bare x) = 1
@@ -34,11 +34,11 @@ unfoldable pub Held : {k : Rank} → Tree k → ℕ → List ℕ → Type 0
 unfolding nodeCount height own InBounds
 Held (one b) c s = Held b c s
 Held (more b p) c s =
-    Held b c s × Held p (c + nodeCount b) s × (nodeAt s (c + nodeCount b + nodeCount p) ≡ plain Alternation (c + nodeCount b - 1) (c + nodeCount b + nodeCount p - 1)
+    Held b c s × Held p (c + nodeCount b) s × (nodeAt s (c + nodeCount b + nodeCount p) ≡ plainNode Alternation (c + nodeCount b - 1) (c + nodeCount b + nodeCount p - 1)
     (max (height b) (height p) + 1) (min (placeCount b + placeCount p) 257))
 Held (last f) c s = Held f c s
 Held (next f b) c s =
-    Held f c s × Held b (c + nodeCount f) s × (nodeAt s (c + nodeCount f + nodeCount b) ≡ plain Sequence (c + nodeCount f - 1) (c + nodeCount f + nodeCount b - 1)
+    Held f c s × Held b (c + nodeCount f) s × (nodeAt s (c + nodeCount f + nodeCount b) ≡ plainNode Sequence (c + nodeCount f - 1) (c + nodeCount f + nodeCount b - 1)
     (max (height f) (height b) + 1) (min (placeCount f + placeCount b) 257))
 Held (bare x) c s = Held x c s × (nodeAt s (c + nodeCount x) ≡ own x c)
 Held (times x f z) c s = Held x c s × (InBounds f) × (nodeAt s (c + nodeCount x) ≡ withMark (own x c) f z)

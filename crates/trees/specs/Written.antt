@@ -13,8 +13,8 @@ use Rattle.nodes.specs.declared.Sort.the-variants.{Letter, Anchor, Empty, Seque
 use Rattle.nodes.specs.declared.Node.{Node}
 
 -- a node with no quantifier
-abbrev pub plain : Sort → ℕ → ℕ → ℕ → ℕ → Node
-plain k l r h n = record { sort = k; form = 0; lazy = false; low = 1; high = 1; left = l; right = r; height = h; places = n }
+abbrev pub plainNode : Sort → ℕ → ℕ → ℕ → ℕ → Node
+plainNode k l r h n = record { sort = k; form = 0; lazy = false; low = 1; high = 1; left = l; right = r; height = h; places = n }
 
 -- a node with a quantifier
 abbrev pub withMark : Node → Form → Bool → Node
@@ -66,22 +66,22 @@ roundsOf low high c = pick (eqb high 100) (low * c + (1 + c)) (low * c + (high -
 -- a primary's own node, where its parts' nodes begin at c
 unfoldable pub own : Tree primary → ℕ → Node
 unfolding nodeCount height fork placeCount
-own (letter b) c = plain (Letter b) 0 0 0 1
-own caret c = plain (Anchor 94) 0 0 0 1
-own dollar c = plain (Anchor 36) 0 0 0 1
-own empty c = plain Empty 0 0 0 0
-own (group p) c = plain Group (c + nodeCount p - 1) 0 (height p + 1) (min (fork p + placeCount p) 257)
+own (letter b) c = plainNode (Letter b) 0 0 0 1
+own caret c = plainNode (Anchor 94) 0 0 0 1
+own dollar c = plainNode (Anchor 36) 0 0 0 1
+own empty c = plainNode Empty 0 0 0 0
+own (group p) c = plainNode Group (c + nodeCount p - 1) 0 (height p + 1) (min (fork p + placeCount p) 257)
 
 -- the room with a tree's nodes from c on; of a primary only its parts' nodes
 unfoldable pub written : {k : Rank} → Tree k → ℕ → List ℕ → List ℕ
 unfolding nodeCount height own placeCount
 written (one b) c s = written b c s
 written (more b p) c s =
-    putNode (written p (c + nodeCount b) (written b c s)) (c + nodeCount b + nodeCount p) (plain Alternation (c + nodeCount b - 1) (c + nodeCount b + nodeCount p - 1)
+    putNode (written p (c + nodeCount b) (written b c s)) (c + nodeCount b + nodeCount p) (plainNode Alternation (c + nodeCount b - 1) (c + nodeCount b + nodeCount p - 1)
     (max (height b) (height p) + 1) (min (placeCount b + placeCount p) 257))
 written (last f) c s = written f c s
 written (next f b) c s =
-    putNode (written b (c + nodeCount f) (written f c s)) (c + nodeCount f + nodeCount b) (plain Sequence (c + nodeCount f - 1) (c + nodeCount f + nodeCount b - 1)
+    putNode (written b (c + nodeCount f) (written f c s)) (c + nodeCount f + nodeCount b) (plainNode Sequence (c + nodeCount f - 1) (c + nodeCount f + nodeCount b - 1)
     (max (height f) (height b) + 1) (min (placeCount f + placeCount b) 257))
 written (bare x) c s = putNode (written x c s) (c + nodeCount x) (own x c)
 written (times x f z) c s = putNode (written x c s) (c + nodeCount x) (withMark (own x c) f z)

@@ -8,11 +8,11 @@ ghost use mathlib.Core.Path.{_≡_};
 ghost use Prim.Native.Nat.{_+_, _≤_, min};
 ghost use Rattle.rules.specs.Language.{Rank, Tree};
 ghost use Rattle.trees.specs.Held.{Top, At};
-ghost use Rattle.trees.specs.Written.{nodeCount, plain, InOrder, roundsOf};
+ghost use Rattle.trees.specs.Written.{nodeCount, plainNode, InOrder, roundsOf};
 
 // A node without a quantifier.
 pub fn plain_node(sort: Sort, left: usize, right: usize, height: usize, places: usize) -> Node
-    ensures { λ r. ⌜ r ≡ plain sort left right height places ⌝ }
+    ensures { λ r. ⌜ r ≡ plainNode sort left right height places ⌝ }
 {
     Node {
         sort,

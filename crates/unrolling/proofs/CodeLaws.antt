@@ -15,7 +15,7 @@ use Rattle.laws.proofs.Counting.{forked-more, forked-size, unrolled-size}
 use Rattle.laws.proofs.Distinct.{thinned-append, thinned-length}
 use Rattle.rules.specs.Working.{distinct, thinPlace, thinned}
 use Rattle.marks.specs.Shows.{highest, highOf}
-use Rattle.trees.specs.Held.{body, lowOf, highestOf, lazyOf}
+use Rattle.trees.specs.Held.{body, lowerOf, highestOf, lazyOf}
 use Rattle.trees.proofs.ByNode.{Bounded}
 use Rattle.place_codes.specs.Planes.{startBy, roundBy}
 use Rattle.place_codes.proofs.CodeLaws.{start-end}
@@ -207,13 +207,13 @@ turn-behind (atMost n) z t m i e = some-turns n 0 z t m (i .1) e
 turn-behind (between l n) z t m i e = some-turns n l z t m (i .2) e
 
 module _ (o : Plane) where
-  pub factor-places : (F : Tree factor) (B : ℕ) (K : Behind) (n m : ℕ) → Bounded F → n ≡ lowOf F → m ≡ pick (eqb (highestOf F) 100) 100 (highestOf F - lowOf F)
+  pub factor-places : (F : Tree factor) (B : ℕ) (K : Behind) (n m : ℕ) → Bounded F → n ≡ lowerOf F → m ≡ pick (eqb (highestOf F) 100) 100 (highestOf F - lowerOf F)
       → treePlaces o (one (last F)) B K ≡ turnPlaces o n m F B K
   unfolding unroll unrolled forked turns repeated
   factor-places (bare x) B K n m i en em = rw (en, em) (bare-code o (unrolled x) B K)
   factor-places (times x f z) B K n m i en em = rw en (ap (λ (r : Unrolled). thinned (planeOf o (copies (lower f) (unrolled x) r) B K)) (sym (turn-behind f z (unrolled x) m i em)))
 
-  pub factor-size : (F : Tree factor) (B : ℕ) (K : Behind) (n m : ℕ) → Bounded F → n ≡ lowOf F → m ≡ pick (eqb (highestOf F) 100) 100 (highestOf F - lowOf F)
+  pub factor-size : (F : Tree factor) (B : ℕ) (K : Behind) (n m : ℕ) → Bounded F → n ≡ lowerOf F → m ≡ pick (eqb (highestOf F) 100) 100 (highestOf F - lowerOf F)
       → size (turns n m (lazyOf F) (unrolled (body F))) ≡ placeCount F
   unfolding fork
   factor-size F B K n m i en em =

@@ -20,9 +20,9 @@ use Rattle.nodes.specs.Nodes.{nodeAt}
 use Rattle.nodes.specs.declared.Sort.{Sort}
 use Rattle.nodes.specs.declared.Sort.the-variants.{Letter, Anchor, Empty, Sequence, Alternation, Group}
 use Rattle.nodes.specs.declared.Node.{Node}
-use Rattle.trees.specs.Held.{body, lowOf, highestOf, lazyOf, Top, At}
+use Rattle.trees.specs.Held.{body, lowerOf, highestOf, lazyOf, Top, At}
 use Rattle.trees.proofs.ByNode.{IsAnchor, FactorAt, GroupAt, as-any, as-seq, as-alt, as-letter, as-anchor, as-empty, as-group, at-in, seq-left, seq-right, alt-left, alt-right, group-left, top-places}
-use Rattle.place_words.specs.Words.{putWords, putSingle, putPlace, wayCount, Fitting, Emitted, Single}
+use Rattle.place_words.specs.Words.{putWords, putSingle, putPlace, wayCount, Fitting, Emitted, Single, placeWords}
 use Rattle.place_codes.specs.Codes.{letterCode, anchorCode}
 use Rattle.place_codes.specs.Planes.{Planed, Low, slot, startBy, roundBy}
 use Rattle.place_codes.specs.declared.Plane.{Plane}
@@ -281,7 +281,7 @@ module _ (o : Plane) (s : List ℕ) (i : ℕ) (n : Node) (en : n ≡ nodeAt s i)
       factor-top : Top (one (last (F .of))) i s
       factor-top = subst (λ (p : Tree pattern). Top p i s) (F .is) (h .top)
 
-      more-is : m ≡ pick (eqb (highestOf (F .of)) 100) 100 (highestOf (F .of) - lowOf (F .of))
+      more-is : m ≡ pick (eqb (highestOf (F .of)) 100) 100 (highestOf (F .of) - lowerOf (F .of))
       more-is = em ∙ ap (λ (v : ℕ). pick (eqb v 100) 100 (v - n .low)) (F .seen .high) ∙ ap (λ (v : ℕ). pick (eqb (highestOf (F .of)) 100) 100 (highestOf (F .of) - v))
           (F .seen .low)
 
@@ -731,12 +731,12 @@ pub body-in : (o : Plane) (s : List ℕ) (i : ℕ) (T : List ℕ) (b w : ℕ) (k
 body-in o s i T b w k h = at-in s i (record { tree = one (last (h .of)); is = h .top })
 
 -- the one place of a letter or an anchor
-simple-put : (o : Plane) (T T1 : List ℕ) (b w r : ℕ) (k : Behind) (p : Place) (v x : ℕ) → wayCount p ≡ 0 → putPlace T (slot o b) w p ≡ putWords T (slot o b) v x 0 0
-    → (r ≡ w) × (T1 ≡ putSingle T o b v x (k .values)) → Emitted o T T1 b w r (used o k p ∷ [])
+simple-put : (o : Plane) (T T1 : List ℕ) (b w r : ℕ) (k : Behind) (p : Place) (v x : ℕ) → wayCount p ≡ 0 → putPlace T (slot o b) w p ≡ putWords T (slot o b) (placeWords v x 0 0)
+    → (r ≡ w) × (T1 ≡ putSingle T o b (placeWords v x 0 0) (k .values)) → Emitted o T T1 b w r (used o k p ∷ [])
 unfolding used putSingle putPlace wayCount
 simple-put o T T1 b w r k p v x ew ep d = go (ltb (o .flags) (k .values)) (d .1)
   where
-    go : (t : Bool) → T1 ≡ pick t (putWords T (slot o b) v x 0 0) (putWords T (slot o b) 30 0 0 0) → Emitted o T T1 b w r (pick t p pEnd ∷ [])
+    go : (t : Bool) → T1 ≡ pick t (putWords T (slot o b) (placeWords v x 0 0)) (putWords T (slot o b) (placeWords 30 0 0 0)) → Emitted o T T1 b w r (pick t p pEnd ∷ [])
     go true e = emitted-one o T b w p T1 r (record { is = e ∙ sym ep; way = omega (arith, d .0, ew) })
     go false e = emitted-one o T b w pEnd T1 r (record { is = e; way = omega (arith, d .0) })
 
@@ -771,11 +771,11 @@ module _ (o : Plane) (s : List ℕ) (i : ℕ) (n : Node) (en : n ≡ nodeAt s i)
     pub letter-words : Single T o b v (k .set)
     letter-words = one-fits (used o k (pLetter a (k .set))) (subst (Fitting o T b w k) is-letter (h .fits)) v (k .set) (ev .1) (h .fits .behind .set)
 
-    pub letter-done : (T1 : List ℕ) (r : ℕ) → (r ≡ w) × (T1 ≡ putSingle T o b v (k .set) (k .values)) → Emitted o T T1 b w r (bodyPlaces o (h .of) b k)
+    pub letter-done : (T1 : List ℕ) (r : ℕ) → (r ≡ w) × (T1 ≡ putSingle T o b (placeWords v (k .set) 0 0) (k .values)) → Emitted o T T1 b w r (bodyPlaces o (h .of) b k)
     unfolding putPlace wayCount
     letter-done T1 r d =
         subst (Emitted o T T1 b w r) (sym is-letter)
-        (simple-put o T T1 b w r k (pLetter a (k .set)) v (k .set) refl (sym (ap (λ (x : ℕ). putWords T (slot o b) x (k .set) 0 0) (ev .0))) d)
+        (simple-put o T T1 b w r k (pLetter a (k .set)) v (k .set) refl (sym (ap (λ (x : ℕ). putWords T (slot o b) (placeWords x (k .set) 0 0)) (ev .0))) d)
 
   module _ (a : ℕ) (e : n .sort ≡ Anchor a) (h : Bodying o s i T b w k) (v : ℕ) (ev : (v ≡ anchorCode a) × (v < 65536)) where
     abbrev AnchorIs : Tree factor → Type 0
@@ -787,7 +787,7 @@ module _ (o : Plane) (s : List ℕ) (i : ℕ) (n : Node) (en : n ≡ nodeAt s i)
     record AnchorPlace : Type 0 where
       place : Place
       is : bodyPlaces o (h .of) b k ≡ used o k place ∷ []
-      words : putPlace T (slot o b) w place ≡ putWords T (slot o b) v (k .here) 0 0
+      words : putPlace T (slot o b) w place ≡ putWords T (slot o b) (placeWords v (k .here) 0 0)
       ways : wayCount place ≡ 0
 
     anchor-place : AnchorPlace
@@ -799,21 +799,21 @@ module _ (o : Plane) (s : List ℕ) (i : ℕ) (n : Node) (en : n ≡ nodeAt s i)
             record {
               place = pCaret (k .here);
               is = ap (λ (x : Tree primary). thinned (planeOf o (unrolled x) b k)) (j .0) ∙ ap (λ (p : Place). p ∷ []) (thin-single o k (pCaret (k .here)) refl);
-              words = sym (ap (λ (x : ℕ). putWords T (slot o b) x (k .here) 0 0) (ev .0 ∙ ap anchorCode (j .1)));
+              words = sym (ap (λ (x : ℕ). putWords T (slot o b) (placeWords x (k .here) 0 0)) (ev .0 ∙ ap anchorCode (j .1)));
               ways = refl;
             }
         go (inr j) =
             record {
               place = pDollar (k .here);
               is = ap (λ (x : Tree primary). thinned (planeOf o (unrolled x) b k)) (j .0) ∙ ap (λ (p : Place). p ∷ []) (thin-single o k (pDollar (k .here)) refl);
-              words = sym (ap (λ (x : ℕ). putWords T (slot o b) x (k .here) 0 0) (ev .0 ∙ ap anchorCode (j .1)));
+              words = sym (ap (λ (x : ℕ). putWords T (slot o b) (placeWords x (k .here) 0 0)) (ev .0 ∙ ap anchorCode (j .1)));
               ways = refl;
             }
 
     pub anchor-words : Single T o b v (k .here)
     anchor-words = one-fits (used o k (anchor-place .place)) (subst (Fitting o T b w k) (anchor-place .is) (h .fits)) v (k .here) (ev .1) (h .fits .behind .here)
 
-    pub anchor-done : (T1 : List ℕ) (r : ℕ) → (r ≡ w) × (T1 ≡ putSingle T o b v (k .here) (k .values)) → Emitted o T T1 b w r (bodyPlaces o (h .of) b k)
+    pub anchor-done : (T1 : List ℕ) (r : ℕ) → (r ≡ w) × (T1 ≡ putSingle T o b (placeWords v (k .here) 0 0) (k .values)) → Emitted o T T1 b w r (bodyPlaces o (h .of) b k)
     anchor-done T1 r d =
         subst (Emitted o T T1 b w r) (sym (anchor-place .is))
         (simple-put o T T1 b w r k (anchor-place .place) v (k .here) (anchor-place .ways) (anchor-place .words) d)

@@ -23,7 +23,7 @@ use Rattle.pairs.specs.Step.{oneUnless, placeIn, rowIn, wayIn, pairIn, stack, w
 use Rattle.pairs.specs.State.{Word, rowFrom, wayAt, reach, Led, Stuck, Good, left, restAt, resumed, comes, Reached, Backs, Backward, Quiet}
 use Rattle.pairs.proofs.Ways.{left-none, left-some, ways-length, ways-later, second-is, takes-no-row}
 use Rattle.pairs.proofs.Trails.{went-place, went-row, went-way, stack-same}
-use Rattle.pairs.proofs.Going.{zero-two, not-two, good-room, comes-idle, top-word, top-below, top-out, top-byte, leave-reached, leave-less}
+use Rattle.pairs.proofs.Going.{zero-two, not-two, roomy-on, roomy-top, good-room, comes-idle, top-word, top-below, top-out, top-byte, leave-reached, leave-less}
 use Rattle.pairs.proofs.Trying.{turn-noted, turn-tried}
 
 -- ---- the way behind a way
@@ -65,7 +65,7 @@ unfolding restAt
 rest-top T trail zero h = absurd (not-suc-le-zero h)
 rest-top T trail (suc t) h = let i : suc t - 1 ≡ t = omega arith in rw i
 
-module _ (H : Halting) (quiet : Quiet H) (T : Layout) (holds : ℕ → ℕ → Bool) (n : ℕ) (notes trail : List ℕ) (w : Walk) (h : Backs T holds n notes trail w) where
+module _ (H : Halting) (T : Layout) (holds : ℕ → ℕ → Bool) (n : ℕ) (quiet : Quiet H T holds n) (notes trail : List ℕ) (w : Walk) (h : Backs T holds n notes trail w) where
   abbrev e : ℕ
   e = getD trail (w .top - 1) 0
 
@@ -85,16 +85,16 @@ module _ (H : Halting) (quiet : Quiet H) (T : Layout) (holds : ℕ → ℕ → B
   comes-is = sym (comes-idle H T holds n notes trail w (h .idle .down))
 
   word : Word T e
-  word = top-word H quiet T holds n notes trail w g (h .going)
+  word = top-word H T holds n quiet notes trail w g (h .going)
 
   below : rowIn e * P T + q < N T n
-  below = top-below H quiet T holds n notes trail w g (h .going)
+  below = top-below H T holds n quiet notes trail w g (h .going)
 
   top-room : w .top ≤ N T n
   top-room = let r = good-room T holds n notes trail w g in omega arith
 
   pub back-at : w .top - 1 < length trail
-  back-at = let r = top-room in let t = g .trailed in let k = h .going in omega arith
+  back-at = let r = roomy-top T n trail (w .top) (w .steps) top-room (g .trailed) in let k = h .going in omega arith
 
   pub back-put : (a : ℕ) → a < 256 → (w .top - 1 < length trail) × (a < 256)
   back-put a l = (back-at, l)
@@ -104,9 +104,9 @@ module _ (H : Halting) (quiet : Quiet H) (T : Layout) (holds : ℕ → ℕ → B
   popped : ((m : ℕ) → m < length (waysOf (T .words) q) → bitAt notes (wayAt T e m) ≡ true) → (x r b : ℕ)
       → Backward H T holds n notes trail w (marked notes (rowIn e * P T + q)) trail (walkAt (w .top - 1) (w .steps) x r b 0)
   popped all x r b =
-      let l = leave-less H quiet T holds n notes trail w g (h .going) (stuck .going) all x r b in
+      let l = leave-less H T holds n quiet notes trail w g (h .going) (stuck .going) all x r b in
       record {
-        reached = rw comes-is at (leave-reached H quiet T holds n notes trail w g (h .going) (stuck .going) all x r b);
+        reached = rw comes-is at (leave-reached H T holds n quiet notes trail w g (h .going) (stuck .going) all x r b);
         found = zero-two;
         less = omega arith;
         fewer = λ c. absurd (omega arith);
@@ -199,7 +199,7 @@ module _ (H : Halting) (quiet : Quiet H) (T : Layout) (holds : ℕ → ℕ → B
     on-top = getD-set-same trail (w .top - 1) v 0 back-at
 
     stack-is : stack (P T) trail₂ (w .top) ≡ stack (P T) trail (w .top)
-    stack-is = stack-same (P T) trail (w .top) v (h .going) (let r = top-room in let t = g .trailed in omega arith) v-pair
+    stack-is = stack-same (P T) trail (w .top) v (h .going) (roomy-top T n trail (w .top) (w .steps) top-room (g .trailed)) v-pair
 
     went-words : (k : ℕ) → k < w .top → Word T (getD trail₂ k 0)
     went-words k l = elim (ℕ-discrete k (w .top - 1)) [
@@ -224,7 +224,7 @@ module _ (H : Halting) (quiet : Quiet H) (T : Layout) (holds : ℕ → ℕ → B
         record {
           legal = g .legal;
           noted = g .noted;
-          trailed = rw (length-set trail (w .top - 1) v) (g .trailed);
+          trailed = roomy-on T n trail (set trail (w .top - 1) v) (w .top) (w .steps) (w .top) (w .steps) (length-set trail (w .top - 1) v) (omega arith) (λ l. l) (g .trailed);
           opened = rw stack-is (g .opened);
           linked = rw stack-is (g .linked);
           passing = rw stack-is (g .passing);
@@ -283,14 +283,14 @@ module _ (H : Halting) (quiet : Quiet H) (T : Layout) (holds : ℕ → ℕ → B
       way-is = rw (on-top, v-place) way-here
 
       way-noted : Noted notes (rowIn e * P T + k)
-      way-noted = turn-noted H quiet T holds n notes trail₂ w went-good (h .going) code-is m inside reaches before k (rowIn e) (rowIn e * P T) way-is row-from refl
+      way-noted = turn-noted H T holds n quiet notes trail₂ w went-good (h .going) code-is m inside reaches before k (rowIn e) (rowIn e * P T) way-is row-from refl
 
       -- the pair of the way is tried
       way-tried : Backward H T holds n notes trail w notes trail₂ (tryAt notes (w .top) (w .steps) k (rowIn e) (rowIn e * P T))
       unfolding left
       way-tried =
           let t : Reached H T holds n notes trail₂ (resumed H T holds n notes trail₂ w) notes trail₂ (tryAt notes (w .top) (w .steps) k (rowIn e) (rowIn e * P T)) =
-          turn-tried H quiet T holds n notes trail₂ w went-good (h .going) code-is m inside reaches before k (rowIn e) (rowIn e * P T) way-is row-from refl in
+          turn-tried H T holds n quiet notes trail₂ w went-good (h .going) code-is m inside reaches before k (rowIn e) (rowIn e * P T) way-is row-from refl in
           let o = top-room in
           let gg = h .going in
           record {
@@ -352,7 +352,7 @@ module _ (H : Halting) (quiet : Quiet H) (T : Layout) (holds : ℕ → ℕ → B
     back-pair = rw (p-is, r-is) (let b = below in let s = g .legal .small in omega arith)
 
     pub back-marks : ((r * P T + p) / 8 < length notes) × (bitAt notes (r * P T + p) ≡ false)
-    back-marks = rw (p-is, r-is) (top-byte H quiet T holds n notes trail w g (h .going), top-out H quiet T holds n notes trail w g (h .going))
+    back-marks = rw (p-is, r-is) (top-byte H T holds n quiet notes trail w g (h .going), top-out H T holds n quiet notes trail w g (h .going))
 
     as-read : (notes′ : List ℕ) → notes′ ≡ marked notes (r * P T + p)
         → Backward H T holds n notes trail w (marked notes (rowIn e * P T + q)) trail (walkAt (w .top - 1) (w .steps) q (rowIn e) (rowIn e * P T) 0)

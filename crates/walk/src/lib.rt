@@ -3,13 +3,13 @@
 // entered in one function only, `enter`, which counts the entry, and it is called in one place. No
 // pair is entered that has failed, so an attempt takes no more steps than there are pairs. An
 // attempt is `begin`, which tries its first pair, and `go_on`, which walks from a state on until no
-// pair is to be entered or END is open, or until no step is left of the allowance: then it halts
-// just before the next entry, with its pair still to be entered. The promise is `Done`
-// (crates/pairs/specs/State): the result is the definition's.
+// pair is to be entered or END is open; or until no step is left of the allowance: then it halts
+// just before the next entry, with its pair still to be entered; or until a letter waits for a row
+// that is not yet there. The promise is `Done` (crates/pairs/specs/State): the result is the
+// definition's.
 use entering::enter;
 use pairs::BACK;
 use pairs::ENTER;
-use pairs::FOUND;
 use pairs::Walk;
 use pairs::failed;
 use pairs::mark;
@@ -25,9 +25,10 @@ use table::count_at;
 use table::later_way;
 ghost use mathlib.Core.Path.{_≡_};
 ghost use Prim.Native.Nat.{_+_, _*_};
-ghost use Rattle.pairs.specs.Layout.{layoutOf, lettersOf, Tested};
+ghost use Rattle.rules.specs.Walk.{Halting};
+ghost use Rattle.pairs.specs.Layout.{layoutOf, lettersOf, haltsIn, Tested};
 ghost use Rattle.pairs.specs.Step.{Noted, tryAt};
-ghost use Rattle.pairs.specs.State.{allowing, Goes, Backing, Backward, Descended, Idling, Retreated, Moves, Ran, Ready, Done};
+ghost use Rattle.pairs.specs.State.{Fair, Goes, Backing, Backward, Descended, Idling, Retreated, Moves, Ran, Ready, Done};
 
 // On from a pair that is to be entered, while there is one and a step is left. The status is tested
 // behind each entry and the steps at the loop's head: so the compiler goes on from each way through
@@ -41,8 +42,8 @@ fn descend(
     from: Walk,
 ) -> Walk
     requires { ⌜ Tested (now table) (now rows) size × Goes (layoutOf (now table) size) (lettersOf (now table) (now rows) size) (size .rows) (now notes) (now trail) from ⌝ }
-    ensures { λ r. ⌜ Descended (allowing (size .allowance)) (layoutOf (now (table .entry)) size) (lettersOf (now (table .entry)) (now (rows .entry)) size) (size .rows) (now (notes .entry)) (now
-        (trail .entry)) from (now (notes .exit)) (now (trail .exit)) r ⌝ }
+    ensures { λ r. ⌜ ((H : Halting) → Fair H (layoutOf (now (table .entry)) size) (size .more) (size .rows) → Descended H (layoutOf (now (table .entry)) size) (lettersOf (now (table .entry)) (now (rows .entry)) size) (size .rows) (now (notes .entry)) (now
+        (trail .entry)) from (now (notes .exit)) (now (trail .exit)) r) ⌝ }
 {
     let mut w = from;
     while w.steps < size.allowance {
@@ -120,7 +121,7 @@ fn retreat(table: &[u16], notes: &mut [u8], trail: &mut [u32], size: Extent, fro
     w
 }
 
-// The walk from a state on, until no pair is to be entered, or END is open, or no step is left.
+// The walk from a state on, until no pair is to be entered, or END is open, or it halts.
 pub fn go_on(
     table: &[u16],
     rows: &[i32],
@@ -130,17 +131,13 @@ pub fn go_on(
     from: Walk,
 ) -> Walk
     requires { ⌜ Tested (now table) (now rows) size × Moves (layoutOf (now table) size) (lettersOf (now table) (now rows) size) (size .rows) (now notes) (now trail) from ⌝ }
-    ensures { λ r. ⌜ Ran (allowing (size .allowance)) (layoutOf (now (table .entry)) size) (lettersOf (now (table .entry)) (now (rows .entry)) size) (size .rows) (now (notes .entry)) (now (trail
-        .entry)) from (now (notes .exit)) (now (trail .exit)) r ⌝ }
+    ensures { λ r. ⌜ ((H : Halting) → Fair H (layoutOf (now (table .entry)) size) (size .more) (size .rows) → Ran H (layoutOf (now (table .entry)) size) (lettersOf (now (table .entry)) (now (rows .entry)) size) (size .rows) (now (notes .entry)) (now (trail
+        .entry)) from (now (notes .exit)) (now (trail .exit)) r) ⌝ }
 {
     let mut w = from;
     while w.status == ENTER {
         w = descend(table, rows, notes, trail, size, w);
-        let status = w.status;
-        if status == FOUND {
-            return w;
-        }
-        if status == ENTER {
+        if w.status != BACK {
             return w;
         }
         w = retreat(table, notes, trail, size, w);
@@ -167,7 +164,7 @@ pub fn attempt(
     steps: usize,
 ) -> Walk
     requires { ⌜ Tested (now table) (now rows) size × Ready (layoutOf (now table) size) (lettersOf (now table) (now rows) size) (size .rows) (now notes) (now trail) row steps ⌝ }
-    ensures { λ r. ⌜ Done (allowing (size .allowance)) (layoutOf (now (table .entry)) size) (lettersOf (now (table .entry)) (now (rows .entry)) size) (size .rows) (now (notes .entry)) (now (trail .entry)) row steps (now (notes .exit)) (now (trail .exit)) r ⌝ }
+    ensures { λ r. ⌜ Done (haltsIn (layoutOf (now (table .entry)) size) (size .more) (size .rows)) (layoutOf (now (table .entry)) size) (lettersOf (now (table .entry)) (now (rows .entry)) size) (size .rows) (now (notes .entry)) (now (trail .entry)) row steps (now (notes .exit)) (now (trail .exit)) r ⌝ }
 {
     let first = begin(notes, size.places, row, steps);
     go_on(table, rows, notes, trail, size, first)

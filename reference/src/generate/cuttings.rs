@@ -7,6 +7,7 @@ use super::draft::{self, Draft, Input, Numbers, Room, Size};
 use super::mix;
 use super::random::Random;
 use super::texts;
+use crate::pattern;
 use crate::query::{COMPARE, CONDITION, DEFINE, TEXT};
 use crate::search;
 
@@ -49,11 +50,14 @@ pub fn change_offsets(draft: &mut Draft, change: impl Fn(i8) -> i8) {
     }
 }
 
-/// Without `$` and without a look at later rows.
+/// Without `$` and without a look at later rows. Some go on at labelled rows more than
+/// once, and some have repetitions of nothing.
 pub fn suited(random: &mut Random, size: &Size) -> Draft {
     let mut draft = loop {
-        let draft = match random.below(4) {
-            0 => mix::adversarial(random, size),
+        let draft = match random.below(12) {
+            0..=2 => mix::adversarial(random, size),
+            3 => mix::jumping(random, size),
+            4 => nested(random, size),
             _ => mix::lively(random, size),
         };
         let text = draft.place_of(TEXT).map(|at| &draft.records[at].1);
@@ -64,6 +68,27 @@ pub fn suited(random: &mut Random, size: &Size) -> Draft {
     change_offsets(&mut draft, |offset| -offset.abs());
     draft
 }
+
+/// A nest of up to three repetitions of nothing, on a row or more.
+fn nested(random: &mut Random, size: &Size) -> Draft {
+    let pairs = size.pairs.max(FEWEST_PAIRS);
+    loop {
+        let deep = 1 + random.below(3);
+        let body = texts::nested(random, deep);
+        let text = random.pick(&[body.clone(), [&body[..], b" B"].concat()]);
+        let Ok(tree) = pattern::judge(&text) else {
+            continue;
+        };
+        let most_rows = pairs / (tree.count_with_end() as usize * tree.factor());
+        if most_rows > 2 {
+            let n = 1 + random.below(size.rows.min(most_rows - 1));
+            return draft::with_text(random, size, Numbers::Low, &text, n);
+        }
+    }
+}
+
+/// What a nest needs to show something.
+const FEWEST_PAIRS: usize = 600;
 
 /// The input of a draft in lots: notes and trail are measured by the largest n, numbers
 /// and labels by the whole table in one run.
@@ -78,7 +103,7 @@ pub fn with_largest(draft: &Draft, largest: u64, rooms: [Room; 4]) -> Input {
     draft.with_lengths([length(0), length(1), length(2), length(3)])
 }
 
-fn whole(present: usize, entries: usize, last: bool) -> Call {
+pub fn whole(present: usize, entries: usize, last: bool) -> Call {
     Call {
         present: present as u64,
         entries,
@@ -114,7 +139,10 @@ pub fn cut(random: &mut Random, draft: &Draft) -> Cut {
     let largest = (n + random.pick(&[0, 0, 1, 3, all])) as u64;
     let mut calls = Vec::new();
     let mut present = random.pick(&[0, 0, 1, n]).min(n);
-    let most_calls = 3 + random.below(10);
+    let most_calls = match random.chance(15) {
+        true => 2 * n,
+        false => 3 + random.below(10),
+    };
     while present < n && calls.len() < most_calls {
         push(random, &mut calls, present, all, columns, largest);
         present = match random.below(4) {
@@ -133,11 +161,19 @@ pub fn cut(random: &mut Random, draft: &Draft) -> Cut {
         let present = random.below(all + 2);
         calls.push(whole(present, all * columns, random.chance(50)));
     }
+    let report = |random: &mut Random| {
+        let part = Room::Part(random.below(100));
+        let mostly_enough = [Room::Exact, Room::Exact, Room::More(7), Room::OneMore];
+        match random.chance(70) {
+            true => random.pick(&mostly_enough),
+            false => random.pick(&[Room::OneShort, part]),
+        }
+    };
     let rooms = [
         random.pick(&[Room::Exact, Room::OneMore]),
         random.pick(&[Room::Exact, Room::OneMore]),
-        random.pick(&[Room::Exact, Room::Exact, Room::OneShort, Room::OneMore]),
-        random.pick(&[Room::Exact, Room::Exact, Room::OneShort, Room::OneMore]),
+        report(random),
+        report(random),
     ];
     Cut {
         input: with_largest(draft, largest, rooms),

@@ -14,7 +14,7 @@ use super::pattern::{PatternText, LONGEST_PATTERN};
 use super::skip::{letter_of, skip};
 use super::words::{letter, tokens, without_comment, Token, Word, Words};
 use crate::condition::MOST_ENTRIES;
-use crate::{Error, Query, QueryBuilder, Skip};
+use crate::{Ahead, Error, Query, QueryBuilder, Skip};
 
 const MOST_DEFINES: usize = 26;
 
@@ -79,6 +79,7 @@ pub struct Part {
 #[derive(Clone, Debug, Default, PartialEq, Eq)]
 struct Parts {
     pattern: Option<Part>,
+    defines: Vec<(char, Part)>,
     defined_again: Option<Part>,
     skip: Option<Part>,
     measures: Option<Part>,
@@ -95,6 +96,13 @@ impl QueryText {
             | Error::TooManyPlaces => self.parts.pattern.as_ref(),
             Error::DefinedTwice => self.parts.defined_again.as_ref(),
             Error::MeasureLetter => self.strange_letter(),
+            Error::LooksAhead { by: Some(by) } => match by {
+                Ahead::End { .. } => self.parts.pattern.as_ref(),
+                Ahead::Letter { letter, .. } => {
+                    let mut defines = self.parts.defines.iter();
+                    defines.find(|it| it.0 == letter).map(|it| &it.1)
+                }
+            },
             _ => None,
         }
     }
@@ -414,6 +422,7 @@ impl<'a> Reader<'a> {
         if again && self.parts.defined_again.is_none() {
             self.parts.defined_again = Some(self.shown_part(token));
         }
+        self.parts.defines.push((letter, self.shown_part(token)));
         self.defines.push(Define {
             letter,
             condition,

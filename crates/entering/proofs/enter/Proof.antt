@@ -1,7 +1,7 @@
--- `entering::enter` meets its contract by the laws of Small.
+-- `entering::enter` meets its contract by the laws of Small and Letter.
 use native.Mathlib.Omega.{arith}
-use Rattle.pairs.proofs.Small.{fork-small, fork-inside, anchor-small, anchor-inside, enter-fork, anchor-shut, enter-end, enter-anchor}
-use Rattle.entering.proofs.Letter.{low-code, letter-shut, next-inside, letter-stuck, letter-opens}
+use Rattle.pairs.proofs.Small.{fork-small, fork-inside, letter-inside, anchor-small, anchor-inside, enter-fork, enter-absent, anchor-shut, enter-end, enter-anchor}
+use Rattle.entering.proofs.Letter.{low-code, letter-shut, letter-stuck, letter-opens}
 use borrow.Author.Needs.{needs}
 use Rattle.entering.proofs.enter.Statement.{statement}
 use Rattle.entering.proofs.enter.Tie as tie
@@ -36,17 +36,26 @@ same-length-2 c = omega arith
 returns : tie.Need-returns
 returns c = search (needs, enter-fork)
 
+absent-requires : tie.Need-absent-requires
+absent-requires c κs = search needs
+
+same-length-3 : tie.Need-same-length-3
+same-length-3 c = omega arith
+
+returns-2 : tie.Need-returns-2
+returns-2 c = enter-absent _ _ _ _ _ _ _ _ _ (c .before .before .before .before .before .before .before .before .before .before .before .before .before .pre .1) _ (c .before .before .before .before .before .before .before .before .code-at .ensures) (omega arith) (omega arith) _ _ (c .before .before .absent .ensures)
+
 letter-passes-requires : tie.Need-letter-passes-requires
 letter-passes-requires c κs = search (needs, low-code)
 
 fails-requires : tie.Need-fails-requires
 fails-requires c κs = search needs
 
-same-length-3 : tie.Need-same-length-3
-same-length-3 c = omega arith
+same-length-4 : tie.Need-same-length-4
+same-length-4 c = omega arith
 
-returns-2 : tie.Need-returns-2
-returns-2 c = search (needs, letter-shut)
+returns-3 : tie.Need-returns-3
+returns-3 c = search (needs, letter-shut)
 
 first-at-requires : tie.Need-first-at-requires
 first-at-requires c κs = search needs
@@ -58,16 +67,16 @@ add-failed : tie.Need-add-failed
 add-failed c = omega arith
 
 failed-requires : tie.Need-failed-requires
-failed-requires c κs = search (needs, next-inside)
+failed-requires c κs = search (needs, letter-inside)
 
 fails-requires-2 : tie.Need-fails-requires-2
 fails-requires-2 c κs = search needs
 
-same-length-4 : tie.Need-same-length-4
-same-length-4 c = omega arith
+same-length-5 : tie.Need-same-length-5
+same-length-5 c = omega arith
 
-returns-3 : tie.Need-returns-3
-returns-3 c = search (needs, letter-stuck)
+returns-4 : tie.Need-returns-4
+returns-4 c = letter-stuck _ _ _ _ _ _ _ _ _ (c .before .before .before .before .before .before .before .before .before .before .before .before .before .before .before .before .before .before .before .before .pre .1) _ (c .before .before .before .before .before .before .before .before .before .before .before .before .before .before .before .code-at .ensures) (omega arith) (omega arith) _ (c .before .before .before .before .before .before .before .before .before .before .letter-passes .ensures) (c .before .before .before .before .before .before .before .before .before .if4 .left) _ (c .before .before .before .before .before .before .before .before .first-at .ensures) _ (c .before .before .before .before .before .failed .ensures) (c .before .before .before .before .if5 .taken) _ _ (c .before .before .fails2 .ensures)
 
 push-requires-2 : tie.Need-push-requires-2
 push-requires-2 c κs = search needs
@@ -78,14 +87,14 @@ add-opened c = omega arith
 add-next : tie.Need-add-next
 add-next c = omega arith
 
-same-length-5 : tie.Need-same-length-5
-same-length-5 c = omega arith
-
 same-length-6 : tie.Need-same-length-6
 same-length-6 c = omega arith
 
-returns-4 : tie.Need-returns-4
-returns-4 c = search (needs, letter-opens)
+same-length-7 : tie.Need-same-length-7
+same-length-7 c = omega arith
+
+returns-5 : tie.Need-returns-5
+returns-5 c = letter-opens _ _ _ _ _ _ _ _ _ (c .before .before .before .before .before .before .before .before .before .before .before .before .before .before .before .before .before .before .before .before .pre .1) _ (c .before .before .before .before .before .before .before .before .before .before .before .before .before .before .before .code-at .ensures) (omega arith) (omega arith) _ (c .before .before .before .before .before .before .before .before .before .before .letter-passes .ensures) (c .before .before .before .before .before .before .before .before .before .if4 .left) _ (c .before .before .before .before .before .before .before .before .first-at .ensures) _ (c .before .before .before .before .before .failed .ensures) (c .before .before .before .before .if5 .left) _ (c .before .before .push2 .ensures)
 
 anchor-passes-requires : tie.Need-anchor-passes-requires
 anchor-passes-requires c κs = search needs
@@ -93,11 +102,11 @@ anchor-passes-requires c κs = search needs
 fails-requires-3 : tie.Need-fails-requires-3
 fails-requires-3 c κs = search needs
 
-same-length-7 : tie.Need-same-length-7
-same-length-7 c = omega arith
+same-length-8 : tie.Need-same-length-8
+same-length-8 c = omega arith
 
-returns-5 : tie.Need-returns-5
-returns-5 c = anchor-shut _ _ _ _ _ _ _ (c .before .before .before .before .before .before .before .before .before .before .before .before .before .pre .1) _ (c .before .before .before .before .before .before .before .before .code-at .ensures) _ (c .before .before .before .before .before .anchor-passes .ensures) (c .before .before .before .before .if5 .taken) _ _ (c .before .before .fails3 .ensures)
+returns-6 : tie.Need-returns-6
+returns-6 c = search (needs, anchor-shut)
 
 entry-at-requires : tie.Need-entry-at-requires
 entry-at-requires c κs = (omega arith, omega arith)
@@ -108,11 +117,11 @@ push-requires-3 c κs = search needs
 add-opened-2 : tie.Need-add-opened-2
 add-opened-2 c = omega arith
 
-same-length-8 : tie.Need-same-length-8
-same-length-8 c = omega arith
+same-length-9 : tie.Need-same-length-9
+same-length-9 c = omega arith
 
-returns-6 : tie.Need-returns-6
-returns-6 c = search (needs, enter-end)
+returns-7 : tie.Need-returns-7
+returns-7 c = search (needs, enter-end)
 
 add-tried-3 : tie.Need-add-tried-3
 add-tried-3 c = omega arith
@@ -123,14 +132,14 @@ first-at-requires-2 c κs = search needs
 tried-requires-2 : tie.Need-tried-requires-2
 tried-requires-2 c κs = search (needs, anchor-small, anchor-inside)
 
-same-length-9 : tie.Need-same-length-9
-same-length-9 c = omega arith
-
 same-length-10 : tie.Need-same-length-10
 same-length-10 c = omega arith
 
-returns-7 : tie.Need-returns-7
-returns-7 c = search (needs, enter-anchor)
+same-length-11 : tie.Need-same-length-11
+same-length-11 c = omega arith
+
+returns-8 : tie.Need-returns-8
+returns-8 c = search (needs, enter-anchor)
 
 pub enter-spec : {M : Type 1} → statement M
 enter-spec =
@@ -146,35 +155,38 @@ enter-spec =
     same-length
     same-length-2
     returns
-    letter-passes-requires
-    fails-requires
+    absent-requires
     same-length-3
     returns-2
+    letter-passes-requires
+    fails-requires
+    same-length-4
+    returns-3
     first-at-requires
     add-ahead
     add-failed
     failed-requires
     fails-requires-2
-    same-length-4
-    returns-3
+    same-length-5
+    returns-4
     push-requires-2
     add-opened
     add-next
-    same-length-5
     same-length-6
-    returns-4
-    anchor-passes-requires
-    fails-requires-3
     same-length-7
     returns-5
+    anchor-passes-requires
+    fails-requires-3
+    same-length-8
+    returns-6
     entry-at-requires
     push-requires-3
     add-opened-2
-    same-length-8
-    returns-6
+    same-length-9
+    returns-7
     add-tried-3
     first-at-requires-2
     tried-requires-2
-    same-length-9
     same-length-10
-    returns-7)
+    same-length-11
+    returns-8)

@@ -11,8 +11,8 @@ add-word-at c = search needs
 word-at-requires : tie.Need-word-at-requires
 word-at-requires c κs = search needs
 
-condition-holds-requires : tie.Need-condition-holds-requires
-condition-holds-requires c κs = entries-stand _ _ (c .before .before .before .pre) _ (c .before .word-at .ensures .0) (c .if1 .taken)
+entries-hold-requires : tie.Need-entries-hold-requires
+entries-hold-requires c κs = entries-stand _ _ (c .before .before .before .pre) _ (c .before .word-at .ensures .0) (c .if1 .taken)
 
 returns : tie.Need-returns
 returns c = search (needs, by-entries)
@@ -65,7 +65,7 @@ judge-letter-spec =
     (tie.spec
     add-word-at
     word-at-requires
-    condition-holds-requires
+    entries-hold-requires
     returns
     word-at-requires-2
     returns-2

@@ -1,13 +1,10 @@
 -- `letters::letter_holds` meets its contract by the laws of Testing.
-use Rattle.letters.proofs.Testing.{behind-last, free-holds, base-fits, first-there, others-there, some-counted, first-unmet, by-others, entries-stand, by-entries}
+use Rattle.letters.proofs.Testing.{free-holds, base-fits, first-there, others-there, some-counted, first-unmet, by-others, entries-stand, by-entries}
 use mathlib.Core.Path.{sym, _∙_}
 use native.Mathlib.Omega.{arith}
 use borrow.Author.Needs.{needs}
 use Rattle.letters.proofs.letter_holds.Statement.{statement}
 use Rattle.letters.proofs.letter_holds.Tie as tie
-
-returns : tie.Need-returns
-returns c = behind-last _ (c .before .before .before .args .size .tests) _ _ (c .before .before .before .args .size .rows) _ (c .before .before .before .args .row) (omega arith)
 
 add-word-at : tie.Need-add-word-at
 add-word-at c = omega arith
@@ -23,71 +20,70 @@ far-back-requires c κs = search needs
 
 column-met-requires : tie.Need-column-met-requires
 column-met-requires c κs =
-    (search needs, first-there _ _ _ _ _ _ (c .before .before .before .before .before .before .before .pre .2) (c .before .before .before .before .before .before .before .pre .1) _ (c .before .before .before .word-at .ensures .0) (let e = c .if2 .taken in omega arith), sym (c .before .before .before .word-at .ensures .0) ∙ c .if2 .taken)
+    (search needs, first-there _ _ _ _ _ _ (c .before .before .before .before .before .pre .2) (c .before .before .before .before .before .pre .1) _ (c .before .before .before .word-at .ensures .0) (let e = c .if1 .taken in omega arith), sym (c .before .before .before .word-at .ensures .0) ∙ c .if1 .taken)
 
-returns-2 : tie.Need-returns-2
-returns-2 c =
-    first-unmet _ _ _ _ _ _ _ (omega arith) (c .before .before .before .before .before .before .before .before .before .pre .2) (c .before .before .before .before .before .before .before .before .before .pre .1) _ (c .before .before .before .before .before .word-at .ensures .0) (let e = c .before .before .if2 .taken in omega arith) _ (c .before .before .before .far-back .ensures) _ (c .before .column-met .ensures) (search needs) (c .if3 .taken)
+returns : tie.Need-returns
+returns c =
+    first-unmet _ _ _ _ _ _ _ (omega arith) (c .before .before .before .before .before .before .before .pre .2) (c .before .before .before .before .before .before .before .pre .1) _ (c .before .before .before .before .before .word-at .ensures .0) (let e = c .before .before .if1 .taken in omega arith) _ (c .before .before .before .far-back .ensures) _ (c .before .column-met .ensures) (search needs) (c .if2 .taken)
 
 word-at-requires-2 : tie.Need-word-at-requires-2
 word-at-requires-2 c κs = search needs
 
 others-met-requires : tie.Need-others-met-requires
 others-met-requires c κs =
-    (search needs, some-counted _ _ _ _ _ _ (c .before .before .before .before .before .before .before .before .before .before .pre .2) (c .before .before .before .before .before .before .before .before .before .before .pre .1) _ (c .before .before .before .before .before .before .word-at .ensures .0) (let e = c .before .before .before .if2 .taken in omega arith) _ (c .word-at2 .ensures .0), others-there _ _ _ _ _ _ (c .before .before .before .before .before .before .before .before .before .before .pre .2) (c .before .before .before .before .before .before .before .before .before .before .pre .1) _ (c .before .before .before .before .before .before .word-at .ensures .0) _ (c .word-at2 .ensures .0))
+    (search needs, some-counted _ _ _ _ _ _ (c .before .before .before .before .before .before .before .before .pre .2) (c .before .before .before .before .before .before .before .before .pre .1) _ (c .before .before .before .before .before .before .word-at .ensures .0) (let e = c .before .before .before .if1 .taken in omega arith) _ (c .word-at2 .ensures .0), others-there _ _ _ _ _ _ (c .before .before .before .before .before .before .before .before .pre .2) (c .before .before .before .before .before .before .before .before .pre .1) _ (c .before .before .before .before .before .before .word-at .ensures .0) _ (c .word-at2 .ensures .0))
 
-returns-3 : tie.Need-returns-3
-returns-3 c =
-    by-others _ _ _ _ _ _ _ (omega arith) (c .before .before .before .before .before .before .before .before .before .before .before .pre .2) (c .before .before .before .before .before .before .before .before .before .before .before .pre .1) _ (c .before .before .before .before .before .before .before .word-at .ensures .0) (let e = c .before .before .before .before .if2 .taken in omega arith) _ (c .before .before .before .before .before .far-back .ensures) _ (c .before .before .before .column-met .ensures) (search needs) _ _ (c .before .before .if3 .left) (c .before .word-at2 .ensures .0) (c .others-met .ensures)
+returns-2 : tie.Need-returns-2
+returns-2 c =
+    by-others _ _ _ _ _ _ _ (omega arith) (c .before .before .before .before .before .before .before .before .before .pre .2) (c .before .before .before .before .before .before .before .before .before .pre .1) _ (c .before .before .before .before .before .before .before .word-at .ensures .0) (let e = c .before .before .before .before .if1 .taken in omega arith) _ (c .before .before .before .before .before .far-back .ensures) _ (c .before .before .before .column-met .ensures) (search needs) _ _ (c .before .before .if2 .left) (c .before .word-at2 .ensures .0) (c .others-met .ensures)
 
 number-met-requires : tie.Need-number-met-requires
 number-met-requires c κs =
-    (search needs, first-there _ _ _ _ _ _ (c .before .before .before .before .before .before .before .before .pre .2) (c .before .before .before .before .before .before .before .before .pre .1) _ (c .before .before .before .before .word-at .ensures .0) (let e = c .if4 .taken in omega arith), λ e. c .before .if2 .left (c .before .before .before .before .word-at .ensures .0 ∙ e))
+    (search needs, first-there _ _ _ _ _ _ (c .before .before .before .before .before .before .pre .2) (c .before .before .before .before .before .before .pre .1) _ (c .before .before .before .before .word-at .ensures .0) (let e = c .if3 .taken in omega arith), λ e. c .before .if1 .left (c .before .before .before .before .word-at .ensures .0 ∙ e))
 
-returns-4 : tie.Need-returns-4
-returns-4 c =
-    first-unmet _ _ _ _ _ _ _ (omega arith) (c .before .before .before .before .before .before .before .before .before .before .pre .2) (c .before .before .before .before .before .before .before .before .before .before .pre .1) _ (c .before .before .before .before .before .before .word-at .ensures .0) (let e = c .before .before .if4 .taken in omega arith) _ (c .before .before .before .before .far-back .ensures) _ (c .before .number-met .ensures) (search needs) (c .if5 .taken)
+returns-3 : tie.Need-returns-3
+returns-3 c =
+    first-unmet _ _ _ _ _ _ _ (omega arith) (c .before .before .before .before .before .before .before .before .pre .2) (c .before .before .before .before .before .before .before .before .pre .1) _ (c .before .before .before .before .before .before .word-at .ensures .0) (let e = c .before .before .if3 .taken in omega arith) _ (c .before .before .before .before .far-back .ensures) _ (c .before .number-met .ensures) (search needs) (c .if4 .taken)
 
 word-at-requires-3 : tie.Need-word-at-requires-3
 word-at-requires-3 c κs = search needs
 
 others-met-requires-2 : tie.Need-others-met-requires-2
 others-met-requires-2 c κs =
-    (search needs, some-counted _ _ _ _ _ _ (c .before .before .before .before .before .before .before .before .before .before .before .pre .2) (c .before .before .before .before .before .before .before .before .before .before .before .pre .1) _ (c .before .before .before .before .before .before .before .word-at .ensures .0) (let e = c .before .before .before .if4 .taken in omega arith) _ (c .word-at3 .ensures .0), others-there _ _ _ _ _ _ (c .before .before .before .before .before .before .before .before .before .before .before .pre .2) (c .before .before .before .before .before .before .before .before .before .before .before .pre .1) _ (c .before .before .before .before .before .before .before .word-at .ensures .0) _ (c .word-at3 .ensures .0))
+    (search needs, some-counted _ _ _ _ _ _ (c .before .before .before .before .before .before .before .before .before .pre .2) (c .before .before .before .before .before .before .before .before .before .pre .1) _ (c .before .before .before .before .before .before .before .word-at .ensures .0) (let e = c .before .before .before .if3 .taken in omega arith) _ (c .word-at3 .ensures .0), others-there _ _ _ _ _ _ (c .before .before .before .before .before .before .before .before .before .pre .2) (c .before .before .before .before .before .before .before .before .before .pre .1) _ (c .before .before .before .before .before .before .before .word-at .ensures .0) _ (c .word-at3 .ensures .0))
+
+returns-4 : tie.Need-returns-4
+returns-4 c =
+    by-others _ _ _ _ _ _ _ (omega arith) (c .before .before .before .before .before .before .before .before .before .before .pre .2) (c .before .before .before .before .before .before .before .before .before .before .pre .1) _ (c .before .before .before .before .before .before .before .before .word-at .ensures .0) (let e = c .before .before .before .before .if3 .taken in omega arith) _ (c .before .before .before .before .before .before .far-back .ensures) _ (c .before .before .before .number-met .ensures) (search needs) _ _ (c .before .before .if4 .left) (c .before .word-at3 .ensures .0) (c .others-met2 .ensures)
 
 returns-5 : tie.Need-returns-5
-returns-5 c =
-    by-others _ _ _ _ _ _ _ (omega arith) (c .before .before .before .before .before .before .before .before .before .before .before .before .pre .2) (c .before .before .before .before .before .before .before .before .before .before .before .before .pre .1) _ (c .before .before .before .before .before .before .before .before .word-at .ensures .0) (let e = c .before .before .before .before .if4 .taken in omega arith) _ (c .before .before .before .before .before .before .far-back .ensures) _ (c .before .before .before .number-met .ensures) (search needs) _ _ (c .before .before .if5 .left) (c .before .word-at3 .ensures .0) (c .others-met2 .ensures)
-
-returns-6 : tie.Need-returns-6
-returns-6 c = search (needs, free-holds)
+returns-5 c = search (needs, free-holds)
 
 condition-holds-requires : tie.Need-condition-holds-requires
 condition-holds-requires c κs =
-    entries-stand _ _ _ _ _ _ (c .before .before .before .before .before .before .before .before .before .pre .2) (c .before .before .before .before .before .before .before .before .before .pre .1) _ (c .before .before .before .before .before .word-at .ensures .0) (c .before .before .if2 .left) (c .before .if4 .left) (c .if6 .left)
+    entries-stand _ _ _ _ _ _ (c .before .before .before .before .before .before .before .pre .2) (c .before .before .before .before .before .before .before .pre .1) _ (c .before .before .before .before .before .word-at .ensures .0) (c .before .before .if1 .left) (c .before .if3 .left) (c .if5 .left)
 
-returns-7 : tie.Need-returns-7
-returns-7 c = search (needs, by-entries)
+returns-6 : tie.Need-returns-6
+returns-6 c = search (needs, by-entries)
 
 pub letter-holds-spec : {M : Type 1} → statement M
 letter-holds-spec =
     tie.close
     (tie.spec
-    returns
     add-word-at
     word-at-requires
     mul-far-back
     far-back-requires
     column-met-requires
-    returns-2
+    returns
     word-at-requires-2
     others-met-requires
-    returns-3
+    returns-2
     number-met-requires
-    returns-4
+    returns-3
     word-at-requires-3
     others-met-requires-2
+    returns-4
     returns-5
-    returns-6
     condition-holds-requires
-    returns-7)
+    returns-6)

@@ -8,7 +8,7 @@ use Rattle.matches.proofs.put_labels.Tie as tie
 
 abbrev Inv-loop : tie.InvT-loop
 Inv-loop words places trail labels₀ top end k₀ e₀ labels k e =
-    Labelling (layout words places) trail labels₀ top end labels k e
+    Labelling (layout words places 0) trail labels₀ top end labels k e
 
 abbrev μ-loop : tie.MeasureT-loop
 μ-loop words places trail labels₀ top end k₀ e₀ labels k e = k

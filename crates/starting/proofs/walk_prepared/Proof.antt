@@ -1,15 +1,15 @@
 -- `starting::walk_prepared` meets its contract by the laws of Starting and Ending.
-use Rattle.starting.proofs.Starting.{walk-searches}
+use Rattle.starting.proofs.Starting.{walk-searches, walk-terms}
 use Rattle.starting.proofs.Ending.{run-ended}
 use borrow.Author.Needs.{needs}
 use Rattle.starting.proofs.walk_prepared.Statement.{statement}
 use Rattle.starting.proofs.walk_prepared.Tie as tie
 
 task-of-requires : tie.Need-task-of-requires
-task-of-requires c κs = search needs
+task-of-requires c κs = walk-terms _ _ _ _ _ _ (c .before .before .before .before .pre)
 
 search-requires : tie.Need-search-requires
-search-requires c κs = search (needs, walk-searches)
+search-requires c κs = walk-searches _ _ _ _ _ _ (c .before .before .before .before .before .before .before .before .before .pre) _ (c .before .before .before .before .task-of .ensures)
 
 finished-requires : tie.Need-finished-requires
 finished-requires c κs = search needs

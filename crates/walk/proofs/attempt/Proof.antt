@@ -1,5 +1,5 @@
 -- `walk::attempt` meets its contract by the laws of Whole.
-use Rattle.walk.proofs.Whole.{first-small, first-inside, first-moves, attempt-done}
+use Rattle.walk.proofs.Whole.{first-small, first-inside, first-moves, attempt-halts}
 use borrow.Author.Needs.{needs}
 use Rattle.walk.proofs.attempt.Statement.{statement}
 use Rattle.walk.proofs.attempt.Tie as tie
@@ -17,7 +17,7 @@ same-length-2 : tie.Need-same-length-2
 same-length-2 c = search needs
 
 returns : tie.Need-returns
-returns c = search (needs, attempt-done)
+returns c = search (needs, attempt-halts)
 
 pub attempt-spec : {M : Type 1} → statement M
 attempt-spec = tie.close (tie.spec begin-requires go-on-requires same-length same-length-2 returns)

@@ -1,62 +1,67 @@
--- `walk::go_on` meets its contract by the laws of Whole. The invariant and the measure of its loop
--- come first.
-use mathlib.Core.Path.{refl}
+use Rattle.rules.specs.Walk.{Halting}
 use borrow.Author.Needs.{needs}
-use Rattle.walk.proofs.Whole.{Running, run-none, run-goes, run-end, run-found, run-halt, run-idling, run-more, run-less}
-use Rattle.pairs.specs.State.{allowing, left}
-use Rattle.pairs.specs.Layout.{layoutOf, lettersOf, N}
+use Rattle.pairs.proofs.Trying.{halts-fair, fair-quiet}
+use Rattle.walk.proofs.Whole.{Running, run-none, run-goes, run-end, run-stop, run-idling, run-more, run-less}
+use Rattle.pairs.specs.State.{Fair, left}
+use Rattle.pairs.specs.Layout.{layoutOf, lettersOf, haltsIn, N}
 use Rattle.walk.proofs.go_on.Statement.{statement}
 use Rattle.walk.proofs.go_on.Tie as tie
+use Rattle.walk.proofs.go_on.Reads as reads
+use Rattle.walk.proofs.go_on.Lts as lts
+use Rattle.walk.proofs.descend.Reads as descend-reads
+use Rattle.walk.proofs.retreat.Reads as retreat-reads
 
 abbrev Inv-loop : tie.InvT-loop
 Inv-loop table rows notes₀ trail₀ size w₀ notes trail w =
-    Running (allowing (size .allowance)) (layoutOf table size) (lettersOf table rows size) (size .rows) notes₀ trail₀ w₀ notes trail w
+    (H : Halting) → Fair H (layoutOf table size) (size .more) (size .rows) → Running H (layoutOf table size) (lettersOf table rows size) (size .rows) notes₀ trail₀ w₀ notes trail w
 
 abbrev μ-loop : tie.MeasureT-loop
 μ-loop table rows notes₀ trail₀ size w₀ notes trail w =
     left (N (layoutOf table size) (size .rows)) notes w
 
+-- src/lib.rt:138:5
 loop-holds : tie.Need-loop-holds Inv-loop μ-loop
-loop-holds c = search (needs, run-none)
+loop-holds c = λ H f. run-none _ _ _ _ _ _ _ (c .before .before .before .pre .1)
 
+-- src/lib.rt:139:9
 descend-requires : tie.Need-descend-requires Inv-loop μ-loop
-descend-requires c κs = search (needs, run-goes)
+descend-requires c κs = ((c .before .before .before .before .before .before .before .before .pre .0), run-goes _ _ _ _ (fair-quiet _ _ _ _ _ (halts-fair _ ((c .before .before .before .before .before .before .before .before .pre .1 .state .good .legal .sized)) _ _)) _ _ _ _ _ _ ((c .before .before .before .before .loop .inv) _ (halts-fair _ ((c .before .before .before .before .before .before .before .before .pre .1 .state .good .legal .sized)) _ _)) (c .before .before .if1 .taken))
 
+-- src/lib.rt:141:13
 same-length : tie.Need-same-length Inv-loop μ-loop
-same-length c = search (needs, run-found)
+same-length c = (run-stop _ _ _ _ (fair-quiet _ _ _ _ _ (halts-fair _ ((c .before .before .before .before .before .before .before .before .before .before .before .before .before .before .before .pre .1 .state .good .legal .sized)) _ _)) _ _ _ _ _ _ ((c .before .before .before .before .before .before .before .before .before .before .before .loop .inv) _ (halts-fair _ ((c .before .before .before .before .before .before .before .before .before .before .before .before .before .before .before .pre .1 .state .good .legal .sized)) _ _)) _ _ _ ((c .before .before .before .before .before .before .descend .ensures) _ (halts-fair _ ((c .before .before .before .before .before .before .before .before .before .before .before .before .before .before .before .pre .1 .state .good .legal .sized)) _ _)) (c .if2 .taken)) .reached .notes-long
 
+-- src/lib.rt:141:13
 same-length-2 : tie.Need-same-length-2 Inv-loop μ-loop
-same-length-2 c = search (needs, run-found)
+same-length-2 c = (run-stop _ _ _ _ (fair-quiet _ _ _ _ _ (halts-fair _ ((c .before .before .before .before .before .before .before .before .before .before .before .before .before .before .before .pre .1 .state .good .legal .sized)) _ _)) _ _ _ _ _ _ ((c .before .before .before .before .before .before .before .before .before .before .before .loop .inv) _ (halts-fair _ ((c .before .before .before .before .before .before .before .before .before .before .before .before .before .before .before .pre .1 .state .good .legal .sized)) _ _)) _ _ _ ((c .before .before .before .before .before .before .descend .ensures) _ (halts-fair _ ((c .before .before .before .before .before .before .before .before .before .before .before .before .before .before .before .pre .1 .state .good .legal .sized)) _ _)) (c .if2 .taken)) .reached .trail-long
 
+-- src/lib.rt:141:13
 returns : tie.Need-returns Inv-loop μ-loop
-returns c = search (needs, run-found)
+returns c = λ H f. run-stop _ _ _ _ (fair-quiet _ _ _ _ _ f) _ _ _ _ _ _ ((c .before .before .before .before .before .before .before .before .before .before .before .loop .inv) H f) _ _ _ ((c .before .before .before .before .before .before .descend .ensures) H f) (c .if2 .taken)
 
-same-length-3 : tie.Need-same-length-3 Inv-loop μ-loop
-same-length-3 c = search (needs, run-halt)
-
-same-length-4 : tie.Need-same-length-4 Inv-loop μ-loop
-same-length-4 c = search (needs, run-halt)
-
-returns-2 : tie.Need-returns-2 Inv-loop μ-loop
-returns-2 c = search (needs, run-halt)
-
+-- src/lib.rt:143:9
 retreat-requires : tie.Need-retreat-requires Inv-loop μ-loop
-retreat-requires c κs = search (needs, run-idling)
+retreat-requires c κs = run-idling _ _ _ _ (fair-quiet _ _ _ _ _ (halts-fair _ ((c .before .before .before .before .before .before .before .before .before .before .before .before .before .before .before .before .before .pre .1 .state .good .legal .sized)) _ _)) _ _ _ _ _ _ ((c .before .before .before .before .before .before .before .before .before .before .before .before .before .loop .inv) _ (halts-fair _ ((c .before .before .before .before .before .before .before .before .before .before .before .before .before .before .before .before .before .pre .1 .state .good .legal .sized)) _ _)) _ _ _ ((c .before .before .before .before .before .before .before .before .descend .ensures) _ (halts-fair _ ((c .before .before .before .before .before .before .before .before .before .before .before .before .before .before .before .before .before .pre .1 .state .good .legal .sized)) _ _)) (c .before .before .if2 .left)
 
+-- src/lib.rt:138:5
 loop-less : tie.Need-loop-less Inv-loop μ-loop
-loop-less c = run-less _ (λ x. refl) _ _ _ _ _ _ _ _ _ (c .before .before .before .before .before .before .before .before .before .before .before .before .before .before .before .before .before .before .loop .inv) _ _ _ (c .before .before .before .before .before .before .before .before .before .before .before .before .before .descend .ensures) (c .before .before .before .before .before .before .before .before .if2 .left) (c .before .before .before .before .before .before .before .if3 .left) _ _ _ (c .before .before .before .before .retreat .ensures)
+loop-less c = run-less _ _ _ _ (fair-quiet _ _ _ _ _ (halts-fair _ ((c .before .before .before .before .before .before .before .before .before .before .before .before .before .before .before .before .before .before .before .before .before .before .pre .1 .state .good .legal .sized)) _ _)) _ _ _ _ _ _ ((c .before .before .before .before .before .before .before .before .before .before .before .before .before .before .before .before .before .before .loop .inv) _ (halts-fair _ ((c .before .before .before .before .before .before .before .before .before .before .before .before .before .before .before .before .before .before .before .before .before .before .pre .1 .state .good .legal .sized)) _ _)) _ _ _ ((c .before .before .before .before .before .before .before .before .before .before .before .before .before .descend .ensures) _ (halts-fair _ ((c .before .before .before .before .before .before .before .before .before .before .before .before .before .before .before .before .before .before .before .before .before .before .pre .1 .state .good .legal .sized)) _ _)) (c .before .before .before .before .before .before .before .if2 .left) _ _ _ (c .before .before .before .before .retreat .ensures)
 
+-- src/lib.rt:138:5
 loop-again : tie.Need-loop-again Inv-loop μ-loop
-loop-again c = search (needs, run-more)
+loop-again c = λ H f. run-more _ _ _ _ (fair-quiet _ _ _ _ _ f) _ _ _ _ _ _ ((c .before .before .before .before .before .before .before .before .before .before .before .before .before .before .before .before .before .before .loop .inv) H f) _ _ _ ((c .before .before .before .before .before .before .before .before .before .before .before .before .before .descend .ensures) H f) (c .before .before .before .before .before .before .before .if2 .left) _ _ _ (c .before .before .before .before .retreat .ensures)
 
-same-length-5 : tie.Need-same-length-5 Inv-loop μ-loop
-same-length-5 c = search needs
+-- src/lib.rt:125:1
+same-length-3 : tie.Need-same-length-3 Inv-loop μ-loop
+same-length-3 c = (c .before .before .loop .inv) _ (halts-fair _ ((c .before .before .before .before .before .before .pre .1 .state .good .legal .sized)) _ _) .reached .notes-long
 
-same-length-6 : tie.Need-same-length-6 Inv-loop μ-loop
-same-length-6 c = search needs
+-- src/lib.rt:125:1
+same-length-4 : tie.Need-same-length-4 Inv-loop μ-loop
+same-length-4 c = (c .before .before .loop .inv) _ (halts-fair _ ((c .before .before .before .before .before .before .pre .1 .state .good .legal .sized)) _ _) .reached .trail-long
 
-returns-3 : tie.Need-returns-3 Inv-loop μ-loop
-returns-3 c = search (needs, run-end)
+-- src/lib.rt:125:1
+returns-2 : tie.Need-returns-2 Inv-loop μ-loop
+returns-2 c = λ H f. run-end _ _ _ _ (fair-quiet _ _ _ _ _ f) _ _ _ _ _ _ ((c .before .before .loop .inv) H f) (c .if1 .left)
 
 pub go-on-spec : {M : Type 1} → statement M
 go-on-spec =
@@ -69,12 +74,9 @@ go-on-spec =
     same-length
     same-length-2
     returns
-    same-length-3
-    same-length-4
-    returns-2
     retreat-requires
     loop-less
     loop-again
-    same-length-5
-    same-length-6
-    returns-3)
+    same-length-3
+    same-length-4
+    returns-2)

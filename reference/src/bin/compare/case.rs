@@ -1,12 +1,14 @@
 //! One comparison: an input, whether it is searched, within its allowance if it has
-//! one, judged for room, a letter of it tested, its rows judged by the release desk, or
-//! taken into a table behind other partitions, and the seed of the noise. The product
-//! and the reference are lent the same, and what they return and leave has to be the same
-//! in every item.
+//! one, judged for room, a letter of it tested, its rows judged by the release desk,
+//! taken into a table behind other partitions, or searched in lots, and the seed of the
+//! noise. The product and the reference are lent the same, and what they return and leave
+//! has to be the same in every item.
 //! Of reports that are derived from one another (document 02, R-9) both are the
-//! product's own. Of partitions all calls are compared, up to the first that differs.
+//! product's own. Of partitions and of lots all calls are compared, up to the first that
+//! differs.
 
 use crate::engine::{Engine, Reference, Six};
+use crate::in_lots::{self, Lots};
 use crate::lent::{Guarded, Lent, Table};
 use reference::depots::Reports;
 use reference::derive::{self, Written};
@@ -36,6 +38,8 @@ pub enum Call {
     Derive,
     /// A partition taken into a depot-by-month table, behind those of the sequence.
     Partition(Box<Sequence>),
+    /// A search of the input's rows in lots.
+    Lots(Box<Lots>),
 }
 
 #[derive(Clone, Debug, PartialEq, Eq)]
@@ -56,6 +60,9 @@ impl Case {
         if let Call::Partition(sequence) = &self.call {
             return self.in_turn(product, sequence);
         }
+        if let Call::Lots(lots) = &self.call {
+            return in_lots::in_lots(product, lots, &self.input, self.noise);
+        }
         let returned = self.run_on(product, lent.clone());
         [returned, self.run_on(&Reference, lent)]
     }
@@ -69,7 +76,9 @@ impl Case {
     fn run_on(&self, engine: &dyn Engine, mut lent: Lent) -> Ran {
         CALLS.fetch_add(1, Ordering::Relaxed);
         let returned = match &self.call {
-            Call::Search | Call::Derive | Call::Partition(_) => engine.search(&mut lent),
+            Call::Search | Call::Derive | Call::Partition(_) | Call::Lots(_) => {
+                engine.search(&mut lent)
+            }
             Call::Room => engine.room(&mut lent),
             Call::Test { letter, row } => engine.test(&mut lent, *letter, *row),
             Call::Desk => engine.desk(&mut lent),
@@ -131,7 +140,7 @@ impl Case {
     /// What the returned numbers are called.
     pub fn names(&self) -> &'static [&'static str] {
         match &self.call {
-            Call::Search | Call::Partition(_) => {
+            Call::Search | Call::Partition(_) | Call::Lots(_) => {
                 &["answer", "matches", "labels", "steps", "offset"]
             }
             Call::Room => &["answer", "P", "n", "pairs", "offset", "F"],

@@ -4,12 +4,13 @@
 //! judgement of room its answer, P, n, P(n+1)F, offset and F; a test of a letter its
 //! answer, whether it holds, comparisons judged and offset; the release desk its answer,
 //! verdict, whether a row is told and that row; a partition taken into a table what its
-//! search does; the beginning of a table its answer. A search is made within the allowance
-//! it is lent, if any.
+//! search does; the beginning of a table its answer; a call of a search in lots what a
+//! search does. A search is made within the allowance it is lent, if any.
 
 use crate::lent::Lent;
 use reference::depots::{self, Reports};
 use reference::desk;
+use reference::lots::{Feed, Lot, WITHOUT};
 use reference::search::{self, Outcome, DONE};
 
 pub type Six = [u64; 6];
@@ -24,6 +25,19 @@ pub trait Engine {
     /// Takes a partition into the table that is lent; beside it the engine has the
     /// reports so far, if it keeps them.
     fn partition(&self, lent: &mut Lent, reports: &mut Reports) -> Six;
+    /// Names the largest n and the allowance of a search in lots, in the feed that is lent.
+    fn name(&self, lent: &mut Lent);
+    /// A call of the search in lots; beside the feed that is lent the engine has the walk
+    /// so far, if it keeps one.
+    fn lot(&self, lent: &mut Lent, feed: &mut Feed, asked: Asked) -> Six;
+}
+
+/// What a call of a search in lots says: how many rows are present, and whether that is
+/// the end.
+#[derive(Clone, Copy, Debug, PartialEq, Eq)]
+pub struct Asked {
+    pub present: u64,
+    pub last: bool,
 }
 
 pub struct Reference;
@@ -78,6 +92,33 @@ impl Engine for Reference {
         let outcome = reports.take(list, query, rows, buffers);
         if let Some(table) = &mut lent.table {
             reports.write(table.state.items_mut(), table.list.items_mut());
+        }
+        six(outcome)
+    }
+
+    fn name(&self, lent: &mut Lent) {
+        let largest = lent.feed.as_ref().map_or(0, |feed| feed.largest);
+        let words = Feed::begin(largest, lent.allowance.unwrap_or(WITHOUT)).words();
+        lent.feed_mut().copy_from_slice(&words);
+    }
+
+    /// What was named is taken from the words, the rest from the walk. The words change
+    /// where a call is not refused.
+    fn lot(&self, lent: &mut Lent, feed: &mut Feed, asked: Asked) -> Six {
+        if let [largest, allowance, ..] = *lent.feed() {
+            feed.rename(largest, allowance);
+        }
+        let before = feed.words();
+        let (query, rows, buffers) = lent.parts();
+        let lot = Lot {
+            query,
+            rows,
+            present: asked.present,
+            last: asked.last,
+        };
+        let outcome = feed.call(lot, buffers);
+        if feed.words() != before {
+            lent.feed_mut().copy_from_slice(&feed.words());
         }
         six(outcome)
     }

@@ -5,22 +5,24 @@
 //! stand in `allowance`, those of averages in `average`, those of conditions in
 //! `condition`, those of tests of a letter in `tested`, those of the release desk in
 //! `desk`, those of repetitions of nothing in `nested`, those of the depot-by-month
-//! table in `depots`.
+//! table in `depots`, those of searches in lots in `lots`.
 
 mod allowance;
 mod average;
 mod condition;
 mod depots;
 mod desk;
+mod lots;
 mod nested;
 mod tested;
 
-use crate::engine::{six, Engine, Six};
+use crate::engine::{six, Asked, Engine, Six};
 use crate::lent::{Guarded, Lent};
 use reference::depots::Reports;
 use reference::generate::Random;
 use reference::letters::Held;
 use reference::log::Event;
+use reference::lots::{Feed, ALLOWANCE, LARGEST};
 use reference::pattern;
 use reference::query::{
     self, Function, Skip, COMPARISON_BYTES, DEFINE, FIRST, MEASURE, MIN, MOST_TEXT, PAST_LAST_ROW,
@@ -28,6 +30,7 @@ use reference::query::{
 };
 use reference::readings;
 use reference::search::{self, next_start, Accepted, Rule, DONE, STOPPED, STUCK};
+use std::cell::Cell;
 
 pub struct Fault {
     pub name: &'static str,
@@ -36,17 +39,20 @@ pub struct Fault {
 }
 
 impl Fault {
-    /// Beginnings of the names of the streams that have to show it: those of its own call
-    /// or its own sort of query, or all.
-    pub fn shown_by(&self) -> &'static [&'static str] {
-        match self.wrong {
+    /// Whether the stream of this name has to show it: those of its own call or its own
+    /// sort of query, or all but those of searches in lots.
+    pub fn is_shown_by(&self, stream: &str) -> bool {
+        let fronts: &[&str] = match self.wrong {
             Wrong::Tests(_) => &["tested", "tests"],
             Wrong::Decides(_) => &["desk", "logs"],
             Wrong::Begins(_) | Wrong::Takes(_) => &["depots"],
             Wrong::Means(_) => &["condition"],
             Wrong::Lays(_) => &["nested"],
-            _ => &[""],
-        }
+            Wrong::Names(_) | Wrong::Asks(_) | Wrong::Feeds(_) => &["lots"],
+            Wrong::Trusts(_) => &["any-feed"],
+            _ => return !stream.starts_with("lots") && stream != "any-feed",
+        };
+        fronts.iter().any(|front| stream.starts_with(front))
     }
 }
 
@@ -77,6 +83,15 @@ enum Wrong {
     Begins(fn(&mut depots::Taken)),
     /// Takes a partition into a table in another way.
     Takes(fn(&mut depots::Taken)),
+    /// Names a search in lots in another way.
+    Names(fn(&mut Lent)),
+    /// Reads something else than it is called with, or another allowance, in a call of a
+    /// search in lots.
+    Asks(fn(&mut Lent, &mut Asked)),
+    /// Answers a call of a search in lots in another way.
+    Feeds(fn(&mut lots::Fed)),
+    /// The same, with a feed that no call wrote.
+    Trusts(fn(&mut lots::Fed)),
     /// Tells of a pattern's text in another way, by any call, where 1 to 3 do not apply.
     Tells(fn(&mut Six, &[u8])),
 }
@@ -92,8 +107,20 @@ struct Search<'a> {
 
 /// An engine with one fault.
 pub struct Faulty<'a> {
-    pub engine: &'a dyn Engine,
-    pub fault: &'a Fault,
+    engine: &'a dyn Engine,
+    fault: &'a Fault,
+    /// What a fault of searches in lots keeps from call to call.
+    kept: Cell<u64>,
+}
+
+impl<'a> Faulty<'a> {
+    pub fn new(engine: &'a dyn Engine, fault: &'a Fault) -> Faulty<'a> {
+        Faulty {
+            engine,
+            fault,
+            kept: Cell::new(0),
+        }
+    }
 }
 
 impl Engine for Faulty<'_> {
@@ -172,6 +199,54 @@ impl Engine for Faulty<'_> {
             lent,
             returned: &mut returned,
         });
+        returned
+    }
+
+    fn name(&self, lent: &mut Lent) {
+        self.kept.set(0);
+        self.engine.name(lent);
+        if let Wrong::Names(wrong) = self.fault.wrong {
+            wrong(lent);
+        }
+    }
+
+    fn lot(&self, lent: &mut Lent, feed: &mut Feed, asked: Asked) -> Six {
+        match self.fault.wrong {
+            Wrong::Asks(wrong) => self.asked(lent, feed, asked, wrong),
+            Wrong::Feeds(wrong) | Wrong::Trusts(wrong) => {
+                let before = lent.clone();
+                let mut returned = self.engine.lot(lent, feed, asked);
+                wrong(&mut lots::Fed {
+                    before: &before,
+                    lent,
+                    returned: &mut returned,
+                    asked,
+                    kept: &self.kept,
+                });
+                returned
+            }
+            _ => self.engine.lot(lent, feed, asked),
+        }
+    }
+}
+
+impl Faulty<'_> {
+    /// A call of a search in lots with what the engine reads instead; the query and what was
+    /// named first stay as they are.
+    fn asked(
+        &self,
+        lent: &mut Lent,
+        feed: &mut Feed,
+        mut asked: Asked,
+        wrong: fn(&mut Lent, &mut Asked),
+    ) -> Six {
+        let before = lent.clone();
+        wrong(lent, &mut asked);
+        let returned = self.engine.lot(lent, feed, asked);
+        lent.query = before.query.clone();
+        for word in [LARGEST, ALLOWANCE] {
+            lent.feed_mut()[word] = before.feed()[word];
+        }
         returned
     }
 }
@@ -393,7 +468,8 @@ pub fn all() -> impl Iterator<Item = &'static Fault> {
     let of_all = FAULTS.iter().chain(&allowance::FAULTS);
     let of_all = of_all.chain(&average::FAULTS).chain(&condition::FAULTS);
     let of_all = of_all.chain(&tested::FAULTS).chain(&desk::FAULTS);
-    of_all.chain(&nested::FAULTS).chain(&depots::FAULTS)
+    let of_all = of_all.chain(&nested::FAULTS).chain(&depots::FAULTS);
+    of_all.chain(&lots::FAULTS)
 }
 
 static FAULTS: [Fault; 90] = [

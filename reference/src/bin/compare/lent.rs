@@ -1,7 +1,8 @@
 //! What a call is lent: query, rows and the four buffers, each between two guard
-//! zones; the allowance it is made with; and state and list of a table. Zones and buffers are filled with noise
-//! beforehand, so that a byte left unwritten, written though it should not be, or read
-//! outside of what was lent makes a difference.
+//! zones; the allowance it is made with; state and list of a table; and the feed of a
+//! search in lots. Zones and buffers are filled with noise beforehand, so that a byte left
+//! unwritten, written though it should not be, or read outside of what was lent makes a
+//! difference.
 
 use reference::generate::{Input, Random};
 use reference::search::Buffers;
@@ -106,6 +107,14 @@ pub struct Table {
     pub month: u64,
 }
 
+/// The feed of a search in lots, kept from call to call.
+#[derive(Clone, PartialEq)]
+pub struct Kept {
+    pub words: Guarded<u64>,
+    /// The largest n that is named first.
+    pub largest: u64,
+}
+
 /// All that one call is lent, and its allowance, if it is made with one.
 #[derive(Clone, PartialEq)]
 pub struct Lent {
@@ -117,6 +126,7 @@ pub struct Lent {
     pub labels: Guarded<u8>,
     pub allowance: Option<u64>,
     pub table: Option<Table>,
+    pub feed: Option<Kept>,
 }
 
 impl Lent {
@@ -131,7 +141,18 @@ impl Lent {
             labels: Guarded::new(random, input.labels),
             allowance: input.allowance,
             table: None,
+            feed: None,
         }
+    }
+
+    /// The words of the feed, none where no feed is lent.
+    pub fn feed(&self) -> &[u64] {
+        self.feed.as_ref().map_or(&[], |feed| feed.words.items())
+    }
+
+    pub fn feed_mut(&mut self) -> &mut [u64] {
+        let feed = self.feed.as_mut();
+        feed.map_or(&mut [], |feed| feed.words.items_mut())
     }
 
     /// Query, rows and the four buffers, to be searched.
@@ -148,6 +169,7 @@ impl Lent {
     /// What differs after a call of the reference from what the product left.
     pub fn differences(&self, product: &Lent) -> Vec<String> {
         let tables = || self.table.as_ref().zip(product.table.as_ref());
+        let feeds = self.feed.as_ref().zip(product.feed.as_ref());
         [
             self.query.difference("query", &product.query),
             self.rows.difference("rows", &product.rows),
@@ -157,6 +179,7 @@ impl Lent {
             self.labels.difference("labels", &product.labels),
             tables().and_then(|(own, other)| own.state.difference("state", &other.state)),
             tables().and_then(|(own, other)| own.list.difference("list", &other.list)),
+            feeds.and_then(|(own, other)| own.words.difference("feed", &other.words)),
         ]
         .into_iter()
         .flatten()

@@ -26,8 +26,10 @@ mod desk;
 mod engine;
 mod every;
 mod faults;
+mod in_lots;
 #[cfg_attr(any(test, not(mireladle)), allow(dead_code))]
 mod lent;
+mod lots;
 mod nested;
 #[cfg(all(mireladle, not(test)))]
 mod product;
@@ -56,8 +58,9 @@ const SEED: u64 = 1;
 const PRINTED: usize = 3;
 /// How many cases of each stream a fault may pass unseen.
 const UNSEEN: usize = 3_000;
-/// How long a fault's case is shrunk in the gate.
-const SHRINKING: Duration = Duration::from_millis(200);
+/// How long a fault's case is shrunk in the gate, where only that it is found is of
+/// interest.
+const SHRINKING: Duration = Duration::from_millis(20);
 /// How many standard inputs the program gets in the gate.
 const STDINS: usize = 4_000;
 
@@ -270,11 +273,8 @@ impl Run<'_> {
     }
 
     fn fault(&mut self, fault: &Fault, print: bool) {
-        let faulty = Faulty {
-            engine: self.product,
-            fault,
-        };
-        let Some(Found { stream, seen, case }) = find(&faulty) else {
+        let faulty = Faulty::new(self.product, fault);
+        let Some(Found { stream, seen, case }) = find(&faulty, fault) else {
             println!("fault {} ({}): NOT FOUND", fault.name, fault.about);
             self.counts.failed += 1;
             return;
@@ -302,14 +302,10 @@ struct Found {
 }
 
 /// Takes a case of each stream in turn that has to show the fault.
-fn find(faulty: &Faulty) -> Option<Found> {
-    let shows = |stream: &&Stream| {
-        let mut fronts = faulty.fault.shown_by().iter();
-        fronts.any(|front| stream.name.starts_with(front))
-    };
+fn find(faulty: &Faulty, fault: &Fault) -> Option<Found> {
     let mut streams: Vec<(&'static str, Cases)> = STREAMS
         .iter()
-        .filter(shows)
+        .filter(|stream| fault.is_shown_by(stream.name))
         .map(|stream| (stream.name, (stream.cases)(SEED)))
         .collect();
     let mut seen = 0;

@@ -2,9 +2,10 @@
 //! declares it. Pointers and lengths are those of buffers that live through the call,
 //! and no two of them overlap: that is all the header asks for.
 
-use crate::engine::{padded, Engine, Six};
+use crate::engine::{padded, Asked, Engine, Six};
 use crate::lent::Lent;
 use reference::depots::Reports;
+use reference::lots::{Feed, WITHOUT};
 
 /// The five numbers of a search, one behind the other.
 #[repr(C)]
@@ -99,6 +100,42 @@ extern "C" {
         labels: *mut u8,
         labels_len: usize,
     ) -> Result;
+
+    fn mireladle_begin(feed: *mut u64, largest: u64, allowance: u64);
+
+    fn mireladle_more(
+        feed: *mut u64,
+        query: *const u8,
+        query_len: usize,
+        rows: *const i32,
+        rows_len: usize,
+        present: u64,
+        notes: *mut u8,
+        notes_len: usize,
+        trail: *mut u32,
+        trail_len: usize,
+        numbers: *mut i64,
+        numbers_len: usize,
+        labels: *mut u8,
+        labels_len: usize,
+    ) -> Result;
+
+    fn mireladle_last(
+        feed: *mut u64,
+        query: *const u8,
+        query_len: usize,
+        rows: *const i32,
+        rows_len: usize,
+        present: u64,
+        notes: *mut u8,
+        notes_len: usize,
+        trail: *mut u32,
+        trail_len: usize,
+        numbers: *mut i64,
+        numbers_len: usize,
+        labels: *mut u8,
+        labels_len: usize,
+    ) -> Result;
 }
 
 pub struct Product;
@@ -181,6 +218,42 @@ impl Engine for Product {
                 lent.query.len(),
                 lent.rows.pointer(),
                 lent.rows.len(),
+                lent.notes.pointer(),
+                lent.notes.len(),
+                lent.trail.pointer(),
+                lent.trail.len(),
+                lent.numbers.pointer(),
+                lent.numbers.len(),
+                lent.labels.pointer(),
+                lent.labels.len(),
+            )
+        };
+        padded(result.0)
+    }
+
+    fn name(&self, lent: &mut Lent) {
+        if let Some(feed) = &mut lent.feed {
+            let allowance = lent.allowance.unwrap_or(WITHOUT);
+            unsafe { mireladle_begin(feed.words.pointer(), feed.largest, allowance) }
+        }
+    }
+
+    fn lot(&self, lent: &mut Lent, _: &mut Feed, asked: Asked) -> Six {
+        let Some(feed) = &mut lent.feed else {
+            return [0; 6];
+        };
+        let call = match asked.last {
+            true => mireladle_last,
+            false => mireladle_more,
+        };
+        let result = unsafe {
+            call(
+                feed.words.pointer(),
+                lent.query.pointer(),
+                lent.query.len(),
+                lent.rows.pointer(),
+                lent.rows.len(),
+                asked.present,
                 lent.notes.pointer(),
                 lent.notes.len(),
                 lent.trail.pointer(),

@@ -3,6 +3,7 @@
 
 use crate::case::{Call, Case};
 use crate::engine::Engine;
+use crate::in_lots::Lots;
 use reference::depots::Report;
 use reference::generate::partitions::Sequence;
 use reference::query::{
@@ -41,6 +42,7 @@ pub fn describe(case: &Case) -> String {
         }
         (Call::Desk, _) => "mireladle_desk".to_string(),
         (Call::Partition(sequence), _) => table(sequence),
+        (Call::Lots(lots), allowance) => in_lots(lots, allowance),
         (Call::Derive, _) => "mireladle_search, against what its report in mode 1 says".to_string(),
     };
     let mut text = format!("  {call}, noise {}\n", case.noise);
@@ -85,6 +87,28 @@ fn table(sequence: &Sequence) -> String {
     let more = sequence.partitions.len().saturating_sub(MOST);
     if more > 0 {
         let _ = write!(text, "\n  and {more} more");
+    }
+    text
+}
+
+/// A search in lots: what is named, and the calls.
+fn in_lots(lots: &Lots, allowance: Option<u64>) -> String {
+    const MOST: usize = 40;
+    let mut text = format!("mireladle_begin, largest {}", lots.largest);
+    if let Some((words, behind)) = &lots.words {
+        let _ = write!(text, ", behind {behind} calls any feed: {}", list(words));
+    }
+    if let Some(most) = allowance {
+        let _ = write!(text, ", allowance {most}");
+    }
+    for call in lots.calls.iter().take(MOST) {
+        let name = if call.last { "last" } else { "more" };
+        let (present, entries) = (call.present, call.entries);
+        let _ = write!(text, "; {name} {present} of {entries} entries");
+    }
+    let more = lots.calls.len().saturating_sub(MOST);
+    if more > 0 {
+        let _ = write!(text, "; and {more} more");
     }
     text
 }

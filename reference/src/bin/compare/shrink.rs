@@ -1,15 +1,19 @@
 //! Making a case on which the two differ smaller, as long as they still differ
 //! on it in some way: fewer rows and columns, fewer records and comparisons, a
 //! shorter pattern, smaller numbers, smaller buffers, a smaller allowance or none, a
-//! smaller row to test, fewer partitions before the last, a shorter list.
+//! smaller row to test, fewer partitions before the last, a shorter list, fewer lots and
+//! smaller ones.
 //! Greedy, so the result is small and not the smallest.
 
 use crate::case::{Call, Case};
 use crate::engine::Engine;
-use reference::depots::{ENTRY, WORDS};
+use crate::in_lots::Lots;
+use reference::depots::{ENTRY, WORDS as STATE};
 use reference::desk;
+use reference::generate::cuttings::Call as Lot;
 use reference::generate::partitions::Sequence;
 use reference::generate::{allowances, conditions};
+use reference::lots::WORDS;
 use reference::query::{COMPARISON_BYTES, CONDITION, DEFINE, MEASURE, SKIP, TEXT};
 use reference::search::DONE;
 use std::time::{Duration, Instant};
@@ -45,6 +49,7 @@ impl Shrinking<'_> {
     /// Tries every sort of change; false if none was of use.
     fn round(&mut self) -> bool {
         let partitions = self.fewer_partitions();
+        let lots = self.fewer_lots();
         let rows = self.fewer_rows();
         let columns = self.fewer_columns();
         let records = self.fewer_records();
@@ -54,6 +59,7 @@ impl Shrinking<'_> {
         let allowance = self.smaller_allowance();
         let tested = self.smaller_row();
         partitions
+            || lots
             || rows
             || columns
             || records
@@ -132,7 +138,66 @@ impl Shrinking<'_> {
                 case.change_sequence(|it| it.list = it.list.min(used(it) + most));
             });
         }
-        any | self.take(|case| case.change_sequence(|it| it.state = it.state.min(WORDS)))
+        any | self.take(|case| case.change_sequence(|it| it.state = it.state.min(STATE)))
+    }
+
+    /// Takes calls out of a search in lots, and rows with what counts them, and makes the
+    /// counts smaller.
+    fn fewer_lots(&mut self) -> bool {
+        if self.case.lots().is_none() {
+            return false;
+        }
+        let calls = self.remove_runs(
+            |case| case.lots().map_or(0, |it| it.calls.len()),
+            |case, at, length| {
+                case.change_lots(|it| drop(it.calls.drain(at..at + length)));
+            },
+        );
+        let columns = self.case.columns();
+        let rows = self.remove_runs(
+            |case| case.input.rows.len() / columns,
+            |case, at, length| {
+                case.input.rows.drain(at * columns..(at + length) * columns);
+                case.change_lots(|it| without_rows(it, at, length, columns));
+            },
+        );
+        let counts = self.smaller_counts();
+        calls || rows || counts
+    }
+
+    /// Smaller counts of rows in the calls, and no end; a smaller largest n; words of 0.
+    fn smaller_counts(&mut self) -> bool {
+        let mut any = false;
+        for at in 0..self.case.lots().map_or(0, |it| it.calls.len()) {
+            let entries = self.case.input.rows.len();
+            any |= self.take(|case| case.change_call(at, |it| it.last = false));
+            any |=
+                self.take(|case| case.change_call(at, |it| it.entries = it.entries.min(entries)));
+            any |= self.take(|case| case.change_call(at, |it| it.present = 0));
+            while self.take(|case| case.change_call(at, |it| it.present /= 2)) {
+                any = true;
+            }
+            while self.take(|case| {
+                case.change_call(at, |it| it.present = it.present.saturating_sub(1));
+            }) {
+                any = true;
+            }
+        }
+        while self.take(|case| case.change_lots(|it| it.largest /= 2))
+            || self.take(|case| case.change_lots(|it| it.largest = it.largest.saturating_sub(1)))
+        {
+            any = true;
+        }
+        for word in 0..WORDS {
+            any |= self.take(|case| {
+                case.change_lots(|it| {
+                    if let Some((words, _)) = &mut it.words {
+                        words[word] = 0;
+                    }
+                });
+            });
+        }
+        any
     }
 
     /// Takes out runs of items: long ones first, each half as long as the one
@@ -419,6 +484,27 @@ impl Case {
         }
     }
 
+    fn lots(&self) -> Option<&Lots> {
+        match &self.call {
+            Call::Lots(lots) => Some(lots),
+            _ => None,
+        }
+    }
+
+    fn change_lots(&mut self, change: impl FnOnce(&mut Lots)) {
+        if let Call::Lots(lots) = &mut self.call {
+            change(lots);
+        }
+    }
+
+    fn change_call(&mut self, at: usize, change: impl FnOnce(&mut Lot)) {
+        self.change_lots(|lots| {
+            if let Some(call) = lots.calls.get_mut(at) {
+                change(call);
+            }
+        });
+    }
+
     fn change_sequence(&mut self, change: impl FnOnce(&mut Sequence)) {
         if let Call::Partition(sequence) = &mut self.call {
             change(sequence);
@@ -439,6 +525,18 @@ impl Case {
         change(&mut parts);
         self.input.query = parts.bytes();
     }
+}
+
+/// The calls and the largest n without these rows.
+fn without_rows(lots: &mut Lots, at: usize, length: usize, columns: usize) {
+    let (at, length) = (at as u64, length as u64);
+    let left = |count: u64| count - length.min(count.saturating_sub(at));
+    for call in &mut lots.calls {
+        call.present = left(call.present);
+        let rows = left((call.entries / columns) as u64) as usize;
+        call.entries = rows * columns + call.entries % columns;
+    }
+    lots.largest = left(lots.largest);
 }
 
 /// All pairs of numbers below the count, the second not below the first.

@@ -7,7 +7,7 @@
 //! be run with other seeds and for longer.
 
 use crate::case::{Call, Case};
-use crate::{conditions, depots, derived, desk, nested, tested, within};
+use crate::{conditions, depots, derived, desk, lots, nested, tested, within};
 use reference::generate::damage::damage_twice;
 use reference::generate::draft::{
     self, with_column, with_number, Draft, Input, Numbers, Room, LARGE, MIDDLE, SMALL,
@@ -51,7 +51,7 @@ const fn random(
     }
 }
 
-pub const STREAMS: [Stream; 54] = [
+pub const STREAMS: [Stream; 63] = [
     listed(
         "texts",
         "room: every text of up to 5 bytes over two alphabets",
@@ -283,6 +283,54 @@ pub const STREAMS: [Stream; 54] = [
         "tables of random partitions, refused and stopped ones among them",
         8_000,
         depots::random,
+    ),
+    listed(
+        "lots-cuttings",
+        "lots: every cutting of every truth table of two letters, up to 3 rows",
+        lots::every_small,
+    ),
+    listed(
+        "lots-odd",
+        "lots: each odd call at each place of every cutting of some tables",
+        lots::every_odd_call,
+    ),
+    listed(
+        "lots-within",
+        "lots: every allowance of every cutting of some tables",
+        lots::within_every_allowance,
+    ),
+    listed(
+        "lots-rooms",
+        "lots: short report rooms of every cutting of some tables, with calls after the stop",
+        lots::in_every_room,
+    ),
+    listed(
+        "lots-ranks",
+        "lots: queries that look ahead and others, with answers before and behind 17",
+        lots::ranks,
+    ),
+    listed(
+        "lots-limits",
+        "lots: up to 4,096 rows in a few lots, and slices of more",
+        lots::at_limits,
+    ),
+    random(
+        "any-feed",
+        "feeds that no call wrote, with any buffers: what lies outside stays as it is",
+        8_000,
+        lots::any_feed,
+    ),
+    random(
+        "lots",
+        "lots: random cuttings of inputs of all sorts, with odd calls, up to 8 rows",
+        12_000,
+        lots::random,
+    ),
+    random(
+        "lots-middle",
+        "lots: the same up to 60 rows, some up to 500",
+        1_000,
+        lots::middle,
     ),
     listed(
         "within-small",

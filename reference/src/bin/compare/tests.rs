@@ -1,5 +1,5 @@
 //! The comparison itself, with the reference in the place of the product: it
-//! agrees with itself, each fault put on it is found, and what is found shrinks.
+//! agrees with itself, faults put on it are found, and what is found shrinks.
 
 use super::*;
 use crate::case::Call;
@@ -86,14 +86,43 @@ fn the_allowances_end_in_each_way() {
     assert!(POINTS.iter().all(often), "{points:?}");
 }
 
+/// The streams of searches in lots hold each answer that a call can have, and each way to
+/// go on behind one.
 #[test]
-fn each_fault_is_found_and_shrunk() {
-    for fault in faults::all() {
-        let faulty = Faulty {
-            engine: &Reference,
-            fault,
-        };
-        let Some(found) = find(&faulty) else {
+fn the_lots_end_in_each_way() {
+    let mut answers = [0; 24];
+    let mut stays = 0;
+    let lots = |stream: &&Stream| stream.name.starts_with("lots");
+    for stream in STREAMS.iter().filter(lots) {
+        for case in (stream.cases)(10).take(6_000) {
+            let Call::Lots(lots) = &case.call else {
+                panic!("{}", stream.name);
+            };
+            let told = in_lots::told(lots, &case.input);
+            told.iter().for_each(|&it| answers[it as usize] += 1);
+            let ends = |two: &&[u64]| [13, 15, 16].contains(&two[0]);
+            stays += told.windows(2).filter(ends).count();
+        }
+    }
+    let known = (0..=17).chain([21, 23]);
+    assert!(known.clone().all(|it| answers[it] > 50), "{answers:?}");
+    assert_eq!(
+        known.map(|it| answers[it]).sum::<usize>(),
+        answers.iter().sum()
+    );
+    for answer in [0, 10, 11, 12, 13, 15, 16, 17, 21, 23] {
+        assert!(answers[answer] > 500, "{answers:?}");
+    }
+    assert!(stays > 2_000, "{stays}");
+}
+
+/// Of all faults one in eight: `compare` itself puts every one of them on the product, and
+/// `compare --itself --fault` on the reference.
+#[test]
+fn faults_are_found_and_shrunk() {
+    for fault in faults::all().step_by(8) {
+        let faulty = Faulty::new(&Reference, fault);
+        let Some(found) = find(&faulty, fault) else {
             panic!("{} is not found", fault.name);
         };
         let small = shrink::shrink_within(&faulty, &found.case, SHRINKING);
@@ -112,10 +141,7 @@ fn derived_reports_find_faults() {
     let derived = derived.expect("a stream of that name");
     for name in ["label", "labels-reversed", "last-match", "numbers-behind"] {
         let fault = faults::all().find(|fault| fault.name == name);
-        let faulty = Faulty {
-            engine: &Reference,
-            fault: fault.expect("a fault of that name"),
-        };
+        let faulty = Faulty::new(&Reference, fault.expect("a fault of that name"));
         let mut cases = (derived.cases)(1).take(2_000);
         assert!(cases.any(|case| !case.agrees(&faulty)), "{name}");
     }
@@ -124,10 +150,7 @@ fn derived_reports_find_faults() {
 #[test]
 fn a_large_case_becomes_small() {
     let fault = faults::all().find(|fault| fault.name == "greedy");
-    let faulty = Faulty {
-        engine: &Reference,
-        fault: fault.expect("a fault of that name"),
-    };
+    let faulty = Faulty::new(&Reference, fault.expect("a fault of that name"));
     let middle = STREAMS.iter().find(|stream| stream.name == "middle");
     let middle = middle.expect("a stream of that name");
     let large = (0..)
@@ -184,10 +207,7 @@ fn every_text_in_place() {
 #[test]
 fn a_fault_is_found_in_place() {
     let fault = faults::all().find(|fault| fault.name == "offset-far");
-    let faulty = Faulty {
-        engine: &Reference,
-        fault: fault.expect("a fault of that name"),
-    };
+    let faulty = Faulty::new(&Reference, fault.expect("a fault of that name"));
     let mut run = Run {
         product: &faulty,
         show: false,

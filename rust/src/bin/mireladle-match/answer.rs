@@ -1,15 +1,17 @@
-//! Answers: each partition is searched and told as a table, as JSON or as CSV, or only counted, in
-//! all or by depots and months. What
-//! the whole comes to is kept in a [`Tally`], from which the exit status follows.
+//! Answers: each partition is searched, whole or while its rows come, and told as a table, as JSON or
+//! as CSV, or only counted, in all or by depots and months. What the whole comes to is kept in a
+//! [`Tally`], from which the exit status follows.
 
 mod csv;
 mod depots;
+mod follow;
 mod json;
 mod table;
 
 use std::path::Path;
 
 pub use depots::Counting;
+use follow::Feeds;
 
 use mireladle::text::screen::visible;
 use mireladle::text::QueryText;
@@ -66,6 +68,8 @@ pub struct Answering<'a> {
     query: Option<Query>,
     /// The table of depots by months, where that is asked for.
     counting: Option<Counting>,
+    /// The searches that go on, where rows are followed.
+    feeds: Feeds,
     pub tally: Tally,
 }
 
@@ -107,8 +111,10 @@ impl<'a> Answering<'a> {
             style,
             query,
             counting,
+            feeds: Feeds::default(),
             tally: Tally::default(),
         })
+        .and_then(Answering::can_follow)
     }
 
     fn refusal(asked: &Asked, error: Error) -> Failure {
@@ -122,6 +128,7 @@ impl<'a> Answering<'a> {
             return false;
         }
         match search.answer {
+            Answer::Table if search.follow.is_some() => rows,
             Answer::Table | Answer::Explain(_) => true,
             Answer::Json | Answer::Csv => rows,
             Answer::Count | Answer::Quiet | Answer::Bytes => false,
@@ -287,7 +294,8 @@ impl<'a> Answering<'a> {
 
     /// Tells what stopped a search, where the answer has no place for it.
     fn tell_stopped(&self, searched: &Searched<'_>) {
-        if self.search.answer == Answer::Table && !self.tells_rows() {
+        let in_table = self.search.follow.is_none() && !self.tells_rows();
+        if self.search.answer == Answer::Table && in_table {
             return;
         }
         let name = match self.layout.partition.is_empty() {
@@ -348,6 +356,7 @@ impl<'a> Answering<'a> {
 
     fn tell(&self, searched: &Searched<'_>) -> Vec<u8> {
         match (self.search.answer, self.tells_rows()) {
+            (Answer::Table, false) if self.search.follow.is_some() => follow::lines(self, searched),
             (Answer::Table, false) => table::matches(self, searched),
             (Answer::Table, true) => table::rows(self, searched),
             (Answer::Json, false) => json::matches(self, searched),
@@ -364,6 +373,9 @@ impl Close for Answering<'_> {
 
     fn close(&mut self, partition: Partition) -> Result<Vec<u8>, Failure> {
         self.tally.partitions = self.tally.partitions.saturating_add(1);
+        if self.search.follow.is_some() {
+            return self.search_to_end(partition);
+        }
         if partition.count > MOST_ROWS {
             self.tally.refused = true;
             tell(&self.too_large(&partition, false));

@@ -10,8 +10,9 @@ use mireladle::text::screen::shown;
 use mireladle::Limits;
 
 use crate::failure::Failure;
-use crate::options::{COMMAND, DEPOTS, EXPLAIN, STEPS};
+use crate::options::{COMMAND, DEPOTS, EXPLAIN, PID, STEPS};
 use crate::shared::given::{self, wrong, About, Given};
+use crate::shared::growing::Writer;
 use crate::terminal::Color;
 
 /// What the command line asks for.
@@ -29,6 +30,8 @@ pub struct Search {
     pub order_by: Option<String>,
     pub sort: bool,
     pub grouped: bool,
+    /// How the rows are followed, where they are searched while they come.
+    pub follow: Option<Follow>,
     pub delimiter: u8,
     pub header: bool,
     pub answer: Answer,
@@ -39,6 +42,13 @@ pub struct Search {
     pub svg: Option<PathBuf>,
     pub color: Color,
     pub warnings: bool,
+}
+
+/// How rows are followed.
+#[derive(Clone, Copy, Debug, PartialEq, Eq)]
+pub struct Follow {
+    /// The process with whose end a file ends.
+    pub writer: Option<Writer>,
 }
 
 /// Where the query's text comes from.
@@ -108,6 +118,7 @@ fn search(given: Given) -> Result<Search, Failure> {
         order_by: given.text("order-by"),
         sort: given.has("sort"),
         grouped: given.has("grouped"),
+        follow: follow(&given)?,
         delimiter,
         header: !given.has("no-header"),
         answer,
@@ -118,6 +129,16 @@ fn search(given: Given) -> Result<Search, Failure> {
         warnings: !given.has("no-warnings"),
     })
 }
+
+/// What cannot be done while rows come, and why.
+const NOT_FOLLOWED: [(&str, &str); 6] = [
+    ("sort", ": a row that is still to come may belong in front"),
+    ("program", ": the program reads whole partitions"),
+    ("depots", ": the table counts whole partitions"),
+    ("count", ": how many there are is known only at the end"),
+    ("explain", ": nothing is searched"),
+    ("bytes", ": nothing is searched"),
+];
 
 fn exclusions(given: &Given) -> Result<(), Failure> {
     let no_steps = ": what the program reads has no place for a number of steps";
@@ -147,9 +168,26 @@ fn exclusions(given: &Given) -> Result<(), Failure> {
     for other in ["rows", "quiet", "count", "bytes"] {
         given.exclude("depots", other, "")?;
     }
+    for (other, why) in NOT_FOLLOWED {
+        given.exclude("follow", other, why)?;
+    }
     given.exclude("quiet", "count", "")?;
     given.exclude("bytes", "quiet", "")?;
     given.exclude("bytes", "count", "")
+}
+
+/// Whether and how rows are followed.
+fn follow(given: &Given) -> Result<Option<Follow>, Failure> {
+    let writer = match given.text("pid") {
+        None => None,
+        Some(_) if !given.has("follow") => return Err(wrong("--pid needs --follow")),
+        Some(text) => {
+            let number = text.parse().ok().filter(|number| *number > 0);
+            let wrong = || wrong(format!("--pid needs {PID}, found {}", shown(&text)));
+            Some(Writer(number.ok_or_else(wrong)?))
+        }
+    };
+    Ok(given.has("follow").then_some(Follow { writer }))
 }
 
 /// The two columns behind `--depots`.

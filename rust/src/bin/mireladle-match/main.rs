@@ -3,9 +3,10 @@
 //! text that it cannot read, the number and the reason of every refusal, and an exit status: 0 at
 //! least one match, 1 none, 2 wrong input, a refusal or an output that cannot be written, 3 stopped
 //! for want of room, of a row to skip to or of steps, 141 where the reader of the output left early,
-//! so that a script cannot take a part of a report for the whole. It never panics. Tested in
-//! tests/command.rs, tests/options.rs, tests/partitions.rs, tests/explain.rs, tests/depots.rs and
-//! tests/output.rs.
+//! so that a script cannot take a part of a report for the whole. Rows that are followed are searched
+//! while they come: what has been read is searched before the command waits for more. It never
+//! panics. Tested in tests/command.rs, tests/options.rs, tests/partitions.rs, tests/explain.rs,
+//! tests/depots.rs, tests/follow.rs and tests/output.rs.
 
 #![deny(unsafe_code)]
 #![cfg_attr(test, allow(clippy::restriction))]
@@ -27,15 +28,16 @@ use mireladle::text::screen::visible;
 use mireladle::text::{self, lines, Codes, Fault, QueryText};
 
 use answer::{Answering, Asked, Counting, MATCH};
-use arguments::{task, QuerySource, Search, Task};
+use arguments::{task, Follow, QuerySource, Search, Task};
 use columns::Layout;
 use failure::{named, Failure};
+use growing::Writer;
 use input::{Records, Source};
 use options::COMMAND;
 use output::Out;
 use partitions::{last_records, Added, Closing, Handling, Partitions};
 use reading::{blank_line, column_names, record, unread};
-use shared::{failure, input, layout, output, partitions, reading, terminal};
+use shared::{failure, growing, input, layout, output, partitions, reading, terminal};
 use terminal::{tell, Progress, Style};
 
 fn main() -> ExitCode {
@@ -65,9 +67,7 @@ fn run(task: &Task) -> Result<u8, Failure> {
 fn answer(search: &Search) -> Result<u8, Failure> {
     let (path, source) = query_source(&search.query)?;
     let file = Source::open(&search.rows).map_err(unread(&search.rows))?;
-    let mut records = file
-        .records(search.delimiter)
-        .map_err(unread(&search.rows))?;
+    let mut records = records_of(&file, search)?;
     let mut fields = Vec::new();
     let first = record(&search.rows, &mut records, &mut fields)?;
     let (names, mut not_text) = column_names(
@@ -96,13 +96,13 @@ fn answer(search: &Search) -> Result<u8, Failure> {
         // The first line is a row.
         records.back();
     }
+    // How long a file is that grows is not known.
+    let length = file.length.filter(|_| search.follow.is_none());
     let closing = match search.grouped {
         true => Closing::AtNext,
-        false if is_read_twice(&file, &layout) => {
+        false if is_read_twice(length, &layout) => {
             let closing = ends_of_partitions(search, &file, &layout)?;
-            records = file
-                .records(search.delimiter)
-                .map_err(unread(&search.rows))?;
+            records = records_of(&file, search)?;
             if search.header {
                 record(&search.rows, &mut records, &mut fields)?;
             }
@@ -114,14 +114,18 @@ fn answer(search: &Search) -> Result<u8, Failure> {
         sort: search.sort,
         keep_records: Answering::keeps_records(search, &asked.text),
         keep_faults: false,
-        advice: " (--sort sorts them)",
+        in_lots: search.follow.is_some(),
+        advice: match search.follow {
+            Some(_) => "",
+            None => " (--sort sorts them)",
+        },
     };
     let reading = Reading {
         search,
         partitions: Partitions::new(&layout, closing, handling),
         answering,
-        progress: Progress::new(file.length),
-        length: file.length,
+        progress: Progress::new(length),
+        length,
         out: Out::new()?,
     };
     reading.run(&mut records)
@@ -130,17 +134,34 @@ fn answer(search: &Search) -> Result<u8, Failure> {
 /// A file that is smaller is kept in memory.
 const LARGE_FILE: u64 = 32_000_000;
 
-/// Whether a file is read once before, to find out where each partition ends.
-fn is_read_twice(file: &Source, layout: &Layout) -> bool {
-    let large = file.length.is_some_and(|length| length >= LARGE_FILE);
+/// The records of the file, from its beginning on.
+fn records_of(file: &Source, search: &Search) -> Result<Records, Failure> {
+    let records = match search.follow {
+        None => file.records(search.delimiter),
+        Some(Follow { writer: Some(_) }) if !file.can_grow => {
+            let (path, end) = (named(&search.rows), "its own end is the end");
+            return Err(Failure::Option(format!(
+                "--pid: {path} is no file that grows, and {end}"
+            )));
+        }
+        Some(Follow { writer: Some(_) }) if !Writer::can_be_seen() => {
+            let reason = "--pid: without /proc the end of a process cannot be seen";
+            return Err(Failure::Option(String::from(reason)));
+        }
+        Some(Follow { writer }) => file.followed(search.delimiter, writer),
+    };
+    records.map_err(unread(&search.rows))
+}
+
+/// Whether a file of this length is read once before, to find out where each partition ends.
+fn is_read_twice(length: Option<u64>, layout: &Layout) -> bool {
+    let large = length.is_some_and(|length| length >= LARGE_FILE);
     large && !layout.partition.is_empty()
 }
 
 /// Where each partition ends, by a first reading of the file.
 fn ends_of_partitions(search: &Search, file: &Source, layout: &Layout) -> Result<Closing, Failure> {
-    let mut records = file
-        .records(search.delimiter)
-        .map_err(unread(&search.rows))?;
+    let mut records = records_of(file, search)?;
     Ok(last_records(&mut records, &layout.partition, search.header))
 }
 
@@ -234,6 +255,10 @@ impl Reading<'_> {
         let head = self.answering.head();
         self.write(&head)?;
         let read = self.read(records);
+        if read.is_err() {
+            // What came before a wrong row is told, whether it came together with it or not.
+            self.search_what_came()?;
+        }
         self.progress.end();
         if read? {
             self.partitions.at_least_one();
@@ -253,6 +278,12 @@ impl Reading<'_> {
         let mut blank: Option<(u64, Vec<u8>)> = None;
         let mut count = 0_u64;
         loop {
+            if self.search.follow.is_some() && records.has_to_wait(&mut fields) {
+                self.search_what_came()?;
+                if self.answering.has_enough() || self.answering.has_ended() {
+                    return Ok(!self.answering.has_enough());
+                }
+            }
             let taken = records.taken;
             let Some(record) = reading::record(&self.search.rows, records, &mut fields)? else {
                 return Ok(true);
@@ -284,9 +315,25 @@ impl Reading<'_> {
         }
     }
 
+    /// Searches the rows that have come since the last time, and tells the matches that are new.
+    fn search_what_came(&mut self) -> Result<(), Failure> {
+        self.progress.end();
+        while let Some(partition) = self.partitions.next_with_rows() {
+            let ready = self.answering.search_on(partition)?;
+            self.write(&ready)?;
+            if self.answering.has_enough() {
+                break;
+            }
+        }
+        // The head of a CSV file has to be there as well.
+        self.out.flush(self.answering.tally.stopped)
+    }
+
     /// Whether the rest of a file is too long, or may be, to be read only to count its rows.
     fn is_not_worth_counting(&self) -> bool {
-        self.length.map_or(true, |length| length >= LARGE_FILE)
+        let short = self.length.is_some_and(|length| length < LARGE_FILE);
+        // What is followed is searched first up to the last row that a search takes.
+        !short && self.search.follow.is_none()
     }
 
     /// Answers what is still open.
@@ -307,7 +354,8 @@ impl Reading<'_> {
     fn write(&mut self, bytes: &[u8]) -> Result<(), Failure> {
         let stopped = self.answering.tally.stopped;
         self.out.write(bytes, stopped)?;
-        match self.length.is_none() && self.search.grouped {
+        let comes_by_and_by = self.length.is_none() && self.search.grouped;
+        match comes_by_and_by || self.search.follow.is_some() {
             true => self.out.flush(stopped),
             false => Ok(()),
         }

@@ -15,6 +15,7 @@ pub const COMMAND: Command = Command {
         ("steps", STEPS),
         ("explain", EXPLAIN),
         ("program", "the program's path"),
+        ("pid", PID),
         ("depots", DEPOTS),
         ("svg", "the path of the file to write"),
     ],
@@ -25,6 +26,9 @@ pub const STEPS: &str = "a whole number from 0 to 18446744073709551615";
 
 /// What `--explain` needs.
 pub const EXPLAIN: &str = "the number of a row from 0 on, or line=N";
+
+/// What `--pid` needs.
+pub const PID: &str = "the number of a process";
 
 /// What `--depots` needs.
 pub const DEPOTS: &str = "two columns, DEPOT,MONTH";
@@ -61,6 +65,21 @@ const GROUPS: &[Group] = &[
                 "The rows of each partition stand together: answer each partition when\n\
                  the next begins, and keep none of them. A partition that begins again\n\
                  is an error. For pipes; of a large file it is found out.",
+            ),
+            flag(
+                "follow",
+                None,
+                "Search the rows while they come, and tell each match as soon as it is\n\
+                 found. A file is followed as by tail -f: it may grow, and ROWS is read\n\
+                 until an interrupt, or as --pid says. A pipe, and standard input, end\n\
+                 where they end. A query that looks ahead, by $ or NEXT, is refused.",
+            ),
+            valued(
+                "pid",
+                None,
+                "PID",
+                "With --follow: the file ends when the process PID has ended, and what it\n\
+                 wrote is read.",
             ),
             DELIMITER,
             TAB,
@@ -226,6 +245,11 @@ Partitions are told in the order in which they begin. The report of a search tha
 stopped begins with `stopped for want of room`, which only the program does, or
 with `stopped since` and why: there is no row to skip to behind the last match, or
 --steps allows no more.
+With --follow each match is a line of its own: its partition, its number in it, the
+lines of the file where it begins and ends, its labels and its measures; with --rows
+its rows, and with --format a record as without --follow. Each is written at once.
+The matches of one partition come in their order; a match that could still take
+further rows comes when they are there, or at the end.
 With --depots it is the table of depots by months, then the count outside, and
 then the partitions that are not counted, each with its number in the order of
 the searches, from 1, and its answer. At most 65,535 partitions are counted; a
@@ -239,7 +263,8 @@ further one is answer 20.",
 2    wrong input, a partition that was refused, or an output that cannot be written
 3    a search stopped, so that there may be further matches
 141  the reader of the output left before its end
-With --explain it is 0 where the row is there.
+With --explain it is 0 where the row is there. A file that is followed ends only by
+--pid or by an interrupt, which ends the command by its signal.
 Of several that apply 2 counts before 3, and 3 before 0 and 1; with --quiet it is 0
 where a match was found.",
     ),
@@ -253,6 +278,8 @@ mireladle-match -p bus --depots depot,month --svg year.svg query.txt log.csv
 zcat log.csv.gz | mireladle-match -e 'pattern: A+ B' -e 'A: speed > PREV(speed)' \\
   -e 'B: speed = 0' -f csv -
 mireladle-match -q query.txt log.csv && echo found
+ssh depot tail -n +1 -f log.csv | mireladle-match -p bus --follow -f json query.txt -
+collect > log.csv & mireladle-match -p bus --follow --pid $! query.txt log.csv
 mireladle-match -p bus --explain line=812 query.txt log.csv",
     ),
 ];

@@ -1,5 +1,5 @@
-//! Rows as they are read: a file or standard input, record by record, in memory for one record at a
-//! time. A record is a line, or several where a quoted field goes over line ends; lines end in LF, CR
+//! Rows as they are read: a file, one that grows, or standard input, record by record, in memory for
+//! one record at a time. A record is a line, or several where a quoted field goes over line ends; lines end in LF, CR
 //! LF or CR alone. Fields are parted by a byte and may be quoted. Nothing is judged of a field but
 //! where it ends, so that columns which nobody asks for may hold anything, text of any encoding and
 //! bytes of any value. Its weakness: an opening quote that is never closed takes the rest of the
@@ -12,6 +12,8 @@ use std::path::Path;
 
 use mireladle::text::screen::shown;
 use mireladle::text::Fault;
+
+use super::growing::{Growing, Writer};
 
 /// Bytes that are read at once.
 const CHUNK: usize = 1 << 18;
@@ -142,6 +144,8 @@ pub struct Records {
 /// A file of rows, or standard input.
 pub struct Source {
     file: Option<File>,
+    /// Whether it is a file that can grow, and no pipe or terminal.
+    pub can_grow: bool,
     /// The length of a file that can be read again.
     pub length: Option<u64>,
 }
@@ -152,6 +156,7 @@ impl Source {
         if path.as_os_str() == "-" {
             return Ok(Source {
                 file: None,
+                can_grow: false,
                 length: None,
             });
         }
@@ -161,7 +166,21 @@ impl Source {
         let length = Some(about.len()).filter(|length| about.is_file() && *length > 0);
         Ok(Source {
             file: Some(file),
+            can_grow: about.is_file(),
             length,
+        })
+    }
+
+    /// Its records from the beginning on, as they come. A file that can grow ends once the process
+    /// that writes it has ended, where that is known; all else ends where it ends.
+    pub fn followed(&self, delimiter: u8, writer: Option<Writer>) -> io::Result<Records> {
+        Ok(match &self.file {
+            Some(file) if self.can_grow => {
+                let file = file.try_clone()?;
+                Records::new(Box::new(Growing::new(file, writer)), delimiter)
+            }
+            Some(file) => Records::new(Box::new(file.try_clone()?), delimiter),
+            None => Records::new(Box::new(io::stdin()), delimiter),
         })
     }
 
@@ -177,7 +196,13 @@ impl Source {
                 Box::new(file.take(length))
             }
         };
-        Ok(Records {
+        Ok(Records::new(source, delimiter))
+    }
+}
+
+impl Records {
+    fn new(source: Box<dyn Read>, delimiter: u8) -> Records {
+        Records {
             source,
             buffer: vec![0; CHUNK],
             at: 0,
@@ -187,11 +212,15 @@ impl Source {
             line: 1,
             before: (0, 1),
             taken: 0,
-        })
+        }
     }
-}
 
-impl Records {
+    /// Whether the next record has to be waited for: what was read holds none that is whole.
+    pub fn has_to_wait(&self, fields: &mut Vec<Field>) -> bool {
+        let bytes = self.buffer.get(self.at..self.filled).unwrap_or(&[]);
+        bytes.is_empty() || split(bytes, self.delimiter, self.ended, fields).is_none()
+    }
+
     /// The next record; none behind the last. A mark of the encoding in front of all is left out.
     pub fn next<'a>(&'a mut self, fields: &'a mut Vec<Field>) -> Result<Option<Record<'a>>, Stop> {
         loop {

@@ -6,6 +6,7 @@
 pub mod csv;
 pub mod failure;
 pub mod given;
+pub mod growing;
 pub mod help;
 pub mod input;
 pub mod json;

@@ -21,9 +21,11 @@ pub const MOST_ROWS: u64 = 4096;
 /// The rows of one partition.
 #[derive(Default)]
 pub struct Partition {
+    /// Its number, from 0, in the order in which partitions begin.
+    pub number: u64,
     /// The cells of the columns that part the rows.
     pub values: Vec<Vec<u8>>,
-    /// The entries, row by row.
+    /// The entries, row by row; of rows that are taken in lots those that are not taken yet.
     pub entries: Vec<i32>,
     /// The line of each row.
     pub lines: Vec<u64>,
@@ -49,6 +51,13 @@ impl Partition {
         let start = start.copied().unwrap_or(0);
         let end = self.ends.get(row).copied().unwrap_or(start);
         self.kept.get(start..end).unwrap_or(&[])
+    }
+
+    /// Forgets all rows, but not how many there are.
+    pub fn forget_rows(&mut self) {
+        (self.entries, self.lines) = (Vec::new(), Vec::new());
+        (self.kept, self.ends) = (Vec::new(), Vec::new());
+        self.keys = Vec::new();
     }
 
     /// Puts the rows into the order of their keys; equal ones stay as they stand.
@@ -110,6 +119,9 @@ pub struct Handling {
     pub keep_records: bool,
     /// A fault in one is kept with its partition, and does not end the reading.
     pub keep_faults: bool,
+    /// They are taken in lots, as they come, from the partitions that [`Partitions::next_with_rows`]
+    /// tells.
+    pub in_lots: bool,
     /// What is said behind the fault of one that is out of order.
     pub advice: &'static str,
 }
@@ -124,6 +136,8 @@ pub struct Partitions<'a, R> {
     slots: VecDeque<Slot>,
     /// The number of the first slot, from 0.
     first: u64,
+    /// The slots with rows that are not taken yet, where they are taken in lots.
+    with_rows: VecDeque<u64>,
     /// The values of the record at hand, and those of the one before with its slot.
     key: Vec<u8>,
     current_key: Vec<u8>,
@@ -143,6 +157,7 @@ impl<'a, R: Reads> Partitions<'a, R> {
             closed: HashSet::new(),
             slots: VecDeque::new(),
             first: 0,
+            with_rows: VecDeque::new(),
             key: Vec::new(),
             current_key: Vec::new(),
             current: None,
@@ -212,7 +227,7 @@ impl<'a, R: Reads> Partitions<'a, R> {
             None => {
                 self.open.insert(self.key.clone(), next);
                 self.slots
-                    .push_back(Slot::Open(Box::new(self.begun(record))));
+                    .push_back(Slot::Open(Box::new(self.begun(record, next))));
                 next
             }
         };
@@ -221,7 +236,7 @@ impl<'a, R: Reads> Partitions<'a, R> {
         Ok(slot)
     }
 
-    /// Closes the partition before, where a file is grouped, and sees to it that the record's was
+    /// Closes the partition before, where a file is grouped, once it is seen that the record's was
     /// not closed yet.
     fn close_current<C: Close>(
         &mut self,
@@ -229,25 +244,26 @@ impl<'a, R: Reads> Partitions<'a, R> {
         close: &mut C,
         ready: &mut Vec<u8>,
     ) -> Result<(), Added<C>> {
-        if let Some(slot) = self.current.take() {
-            self.open.remove(&self.current_key);
-            self.closed.insert(hash(&self.current_key));
-            self.close_slot(slot, close, ready)?;
+        if self.closed.contains(&hash(&self.key)) {
+            let column = self.layout.partition.first().copied().unwrap_or(0);
+            let expected = "rows of one partition together, as --grouped says";
+            let (mut fault, line) = record.fault(column, expected);
+            fault.found = format!("{} once more", fault.found);
+            return Err(Added::Fault(fault, line));
         }
-        if !self.closed.contains(&hash(&self.key)) {
+        let Some(slot) = self.current.take() else {
             return Ok(());
-        }
-        let column = self.layout.partition.first().copied().unwrap_or(0);
-        let expected = "rows of one partition together, as --grouped says";
-        let (mut fault, line) = record.fault(column, expected);
-        fault.found = format!("{} once more", fault.found);
-        Err(Added::Fault(fault, line))
+        };
+        self.open.remove(&self.current_key);
+        self.closed.insert(hash(&self.current_key));
+        self.close_slot(slot, close, ready)
     }
 
     /// A partition that begins with this record.
-    fn begun(&self, record: &Record<'_>) -> Partition {
+    fn begun(&self, record: &Record<'_>, number: u64) -> Partition {
         let cell = |column: &usize| record.cell(*column).into_owned();
         Partition {
+            number,
             values: self.layout.partition.iter().map(cell).collect(),
             last_record: match &self.closing {
                 Closing::Known(last) => last.get(&hash(&self.key)).copied(),
@@ -264,6 +280,13 @@ impl<'a, R: Reads> Partitions<'a, R> {
             return Ok(false);
         };
         partition.count = partition.count.saturating_add(1);
+        let first_too_many = partition.count == MOST_ROWS.saturating_add(1);
+        if self.handling.in_lots && partition.entries.is_empty() {
+            // One that gets too large is told once; its further rows are nobody's.
+            if partition.count <= MOST_ROWS || first_too_many {
+                self.with_rows.push_back(slot);
+            }
+        }
         if partition.count <= MOST_ROWS && partition.fault.is_none() {
             let row = Row {
                 layout: self.layout,
@@ -275,11 +298,9 @@ impl<'a, R: Reads> Partitions<'a, R> {
                 Err(fault) if self.handling.keep_faults => partition.fault = Some(fault),
                 Err((fault, line)) => return Err(Added::Fault(fault, line)),
             }
-        } else if partition.count == MOST_ROWS.saturating_add(1) {
+        } else if first_too_many && !self.handling.in_lots {
             // Only counted from here on.
-            (partition.entries, partition.lines) = (Vec::new(), Vec::new());
-            (partition.kept, partition.ends) = (Vec::new(), Vec::new());
-            partition.keys = Vec::new();
+            partition.forget_rows();
         }
         Ok(partition.last_record == Some(self.records))
     }
@@ -322,6 +343,24 @@ impl<'a, R: Reads> Partitions<'a, R> {
         let mut ready = Vec::new();
         self.close_slot(self.first, close, &mut ready)?;
         Ok(Some(ready))
+    }
+
+    /// The next partition with rows that are not taken yet, where they are taken in lots: each once,
+    /// in the order of their first such rows.
+    pub fn next_with_rows(&mut self) -> Option<&mut Partition> {
+        while let Some(slot) = self.with_rows.pop_front() {
+            // One that was closed meanwhile has handed on its rows.
+            let at = slot.checked_sub(self.first);
+            let at = at.and_then(|at| usize::try_from(at).ok());
+            let open = |slot: &Slot| matches!(slot, Slot::Open(_));
+            if at.and_then(|at| self.slots.get(at)).is_some_and(open) {
+                return match self.slots.get_mut(at?) {
+                    Some(Slot::Open(partition)) => Some(partition),
+                    _ => None,
+                };
+            }
+        }
+        None
     }
 
     /// Where the rows are not parted there is one partition, also without rows.

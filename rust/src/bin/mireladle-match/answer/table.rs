@@ -109,7 +109,7 @@ pub fn stopped(answering: &Answering<'_>, searched: &Searched<'_>) -> String {
         no_row_behind(answering.asked.text.skip, number, last.labels())
     };
     match searched.report.ending() {
-        Ending::Done => String::new(),
+        Ending::Done | Ending::Waiting => String::new(),
         Ending::NoSkipRow => match searched.report.matches().last().and_then(why) {
             Some(why) => format!("stopped since {why}: "),
             None => String::from("stopped: "),

@@ -1,0 +1,2 @@
+pub mod LettersPlaced
+pub mod Looking
