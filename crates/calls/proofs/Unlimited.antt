@@ -17,7 +17,7 @@ use Rattle.rules.specs.Search.{Skip, Swept, seek, haltingOf, planOf, walkSearch
 use Rattle.rules.specs.Places.{Place}
 use Rattle.rules.specs.Report.{fits}
 use Rattle.rules.specs.Answers.{letterHolds, Task, walkedOn, endAnswer, reportOf, Buffers, Memory, offsetAt, refused, accepted}
-use Rattle.rules.specs.Lots.{Named, Progress, presentTask, namedPairs, badLot, lotTests, beginAnswer, callRefusal, lotTerms, lotWalk, lotMemory, stays, Called, unchanged, callOf, Leaves}
+use Rattle.rules.specs.Lots.{Named, Progress, presentTask, namedPairs, badLot, lotTests, beginAnswer, callRefusal, lotTerms, lotWalk, lotMemory, stays, Called, unchanged, arrived, callOf, Leaves}
 use Rattle.rules.specs.LotDemands.{Lot, Later}
 use Rattle.laws.proofs.Allowed.{sweep-allowed}
 use Rattle.laws.proofs.Lots.{tests-well, call-well}
@@ -88,7 +88,7 @@ module _ (s : Named) where
       unfolding lotMemory presentTask
       memory-same = ap (λ (r : Swept Kept). accepted (reportOf (endAnswer (r .end)) (presentTask s rows n) (s .lent) r) (r .state) (s .lent)) walk-same
 
-    pub call-same : (p : Progress) (rows : List ℤ) (n : ℕ) (last : Bool) (now : Buffers) → callOf (limited s) p rows n last now ≡ callOf s p rows n last now
+    pub call-same : (p : Progress) (rows : List ℤ) (n : ℕ) (last : Bool) (now : Buffers) → callOf (limited s) p (arrived rows n) last now ≡ callOf s p (arrived rows n) last now
     unfolding callOf
     call-same p rows n last now = rw (refusal-same p rows n) (go (stays (p .result .answer)) (p .ended) (eqb (callRefusal s p rows n) 0) refl)
       where

@@ -20,8 +20,8 @@ use Rattle.rules.specs.Search.{Match, End, done, full, stuck, unfinished, Finis
 use Rattle.rules.specs.Report.{numbersOf, labelsOf, matchNumbers, fits, bytesFor, bitAt, notesOf}
 use Rattle.rules.specs.Answers.{treeIn, offsetAt, Task, taskOf, letterHolds, walkedOn, Buffers, haltAnswer, endAnswer, Report, reportOf, Result, Memory, refused, accepted, walkWithin, reportWithin, searchWithin}
 use Rattle.rules.specs.Working.{thinned}
-use Rattle.rules.specs.Lots.{presentRows, Named, Progress, settles, beginAnswer, callRefusal, presentTask, lotTerms, lotWalk, lotMemory, stays, Called, callOf, Leaves}
-use Rattle.rules.specs.LotDemands.{Lot, Later, LotDemands, Adds, OneRun, Call, start, Lead, Lots}
+use Rattle.rules.specs.Lots.{presentRows, Named, Progress, settles, beginAnswer, callRefusal, presentTask, lotTerms, lotWalk, lotMemory, stays, Called, Arrived, arrived, callOf, Leaves}
+use Rattle.rules.specs.LotDemands.{Lot, Later, LotDemands, Adds, OneRun, start, Lead, Lots}
 use Rattle.laws.proofs.Accepted.{Granted, places-are, answer-within}
 use Rattle.laws.proofs.Allowed.{search-goes, goes-begins, goes-keeps, EndWithin, end-within, search-within}
 use Rattle.laws.proofs.Bounds.{written-bounds}
@@ -419,12 +419,12 @@ module _ (s : Named) (ok : Begins-well s) where
     few : k .progress .present ≤ present
     stopped : stays (k .progress .result .answer) ≡ true → _≡_ {A = Memory} (record { result = k .progress .result; buffers = k .memory .buffers }) (lotMemory s rows present true)
 
-  kept-on : (rows : List ℤ) (present : ℕ) → Lot s rows present → (k : Called) → Kept-to rows present k → (c : Call)
-      → (callRefusal s (k .progress) (c .0) (c .1) ≡ 0 → Later s (c .0) rows (c .1) present)
-      → (got : Memory) → Leaves s (callOf s (k .progress) (c .0) (c .1) false (k .memory .buffers) .memory) got
-      → Kept-to rows present (record { progress = callOf s (k .progress) (c .0) (c .1) false (k .memory .buffers) .progress; memory = got })
+  kept-on : (rows : List ℤ) (present : ℕ) → Lot s rows present → (k : Called) → Kept-to rows present k → (c : Arrived)
+      → (callRefusal s (k .progress) (c .rows) (c .present) ≡ 0 → Later s (c .rows) rows (c .present) present)
+      → (got : Memory) → Leaves s (callOf s (k .progress) c false (k .memory .buffers) .memory) got
+      → Kept-to rows present (record { progress = callOf s (k .progress) c false (k .memory .buffers) .progress; memory = got })
   unfolding callOf refused
-  kept-on rows present lot k h c later got = go (stays (p .result .answer)) refl (p .ended) (h .going) (eqb (callRefusal s p (c .0) (c .1)) 0) refl
+  kept-on rows present lot k h c later got = go (stays (p .result .answer)) refl (p .ended) (h .going) (eqb (callRefusal s p (c .rows) (c .present)) 0) refl
     where
       p : Progress
       p = k .progress
@@ -437,14 +437,14 @@ module _ (s : Named) (ok : Begins-well s) where
 
       next : Called
       next = record {
-        progress = record { present = c .1; ended = false; result = lotMemory s (c .0) (c .1) false .result };
-        memory = lotMemory s (c .0) (c .1) false;
+        progress = record { present = c .present; ended = false; result = lotMemory s (c .rows) (c .present) false .result };
+        memory = lotMemory s (c .rows) (c .present) false;
       }
 
       no : Called
-      no = record { progress = p; memory = refused (callRefusal s p (c .0) (c .1)) (offsetAt (textOf q) (callRefusal s p (c .0) (c .1))) now }
+      no = record { progress = p; memory = refused (callRefusal s p (c .rows) (c .present)) (offsetAt (textOf q) (callRefusal s p (c .rows) (c .present))) now }
 
-      go : (a : Bool) → stays (p .result .answer) ≡ a → (b : Bool) → b ≡ false → (d : Bool) → eqb (callRefusal s p (c .0) (c .1)) 0 ≡ d
+      go : (a : Bool) → stays (p .result .answer) ≡ a → (b : Bool) → b ≡ false → (d : Bool) → eqb (callRefusal s p (c .rows) (c .present)) 0 ≡ d
           → Leaves s (pick a (record { progress = p; memory = record { result = p .result; buffers = now } }) (pick b (record { progress = p; memory = refused 21 0 now }) (pick d next no)) .memory) got
           → Kept-to rows present (record { progress = pick a (record { progress = p; memory = record { result = p .result; buffers = now } }) (pick b (record { progress = p; memory = refused 21 0 now }) (pick d next no)) .progress; memory = got })
       go true e b _ d _ l =
@@ -453,18 +453,18 @@ module _ (s : Named) (ok : Begins-well s) where
       go false e true z d _ l = absurd (true≢false z)
       go false e false z false _ l = same (p .result) e
       go false e false z true r l =
-          let u : callRefusal s p (c .0) (c .1) ≡ 0 = eqb-true (callRefusal s p (c .0) (c .1)) 0 r in
+          let u : callRefusal s p (c .rows) (c .present) ≡ 0 = eqb-true (callRefusal s p (c .rows) (c .present)) 0 r in
           let v = later u in
           record {
             going = refl;
             few = v .more;
             stopped = λ y.
-                let w : got ≡ lotMemory s (c .0) (c .1) false = leaves-same s (lotMemory s (c .0) (c .1) false) got (stays-answer (lotMemory s (c .0) (c .1) false .result .answer) y) l in
-                rw w (sym (lot-stays (c .0) rows (c .1) present (call-well s p (c .0) (c .1) u .1) lot v true (rw (memory-answer (c .0) (c .1) false) at y)));
+                let w : got ≡ lotMemory s (c .rows) (c .present) false = leaves-same s (lotMemory s (c .rows) (c .present) false) got (stays-answer (lotMemory s (c .rows) (c .present) false .result .answer) y) l in
+                rw w (sym (lot-stays (c .rows) rows (c .present) present (call-well s p (c .rows) (c .present) u .1) lot v true (rw (memory-answer (c .rows) (c .present) false) at y)));
           }
 
   call-last : (rows : List ℤ) (present : ℕ) → Lot s rows present → (k : Called) → Kept-to rows present k
-      → callOf s (k .progress) rows present true (k .memory .buffers) .memory ≡ lotMemory s rows present true
+      → callOf s (k .progress) (arrived rows present) true (k .memory .buffers) .memory ≡ lotMemory s rows present true
   unfolding callOf
   call-last rows present lot k h =
       go (stays (p .result .answer)) refl (p .ended) (h .going) (eqb (callRefusal s p rows present) 0) (rw (call-unrefused s ok p rows present lot (h .few)) refl)
@@ -492,19 +492,19 @@ module _ (s : Named) (ok : Begins-well s) where
       go false z false x false y = absurd (false≢true y)
       go false z false x true y = refl
 
-  led : (rows : List ℤ) (present : ℕ) → Lot s rows present → (cs : List Call) (k k′ : Called) → Kept-to rows present k → Lead s rows present k cs k′ → Kept-to rows present k′
+  led : (rows : List ℤ) (present : ℕ) → Lot s rows present → (cs : List Arrived) (k k′ : Called) → Kept-to rows present k → Lead s (arrived rows present) k cs k′ → Kept-to rows present k′
   unfolding Lead
   led rows present lot [] k k′ h e = rw (← e) h
   led rows present lot (c ∷ cs) k k′ h e =
-      led rows present lot cs (record { progress = callOf s (k .progress) (c .0) (c .1) false (k .memory .buffers) .progress; memory = e .1 .0 }) k′
+      led rows present lot cs (record { progress = callOf s (k .progress) c false (k .memory .buffers) .progress; memory = e .1 .0 }) k′
       (kept-on rows present lot k h c (e .0) (e .1 .0) (e .1 .1 .0)) (e .1 .1 .1)
 
   start-kept : (rows : List ℤ) (present : ℕ) → Kept-to rows present (start s)
   unfolding stays
   start-kept rows present = record { going = refl; few = omega arith; stopped = λ h. absurd (false≢true h) }
 
-  pub lot-cutting : (cs : List Call) (rows : List ℤ) (present : ℕ) (k : Called) (got : Memory) → Lot s rows present → Lead s rows present (start s) cs k
-      → Leaves s (callOf s (k .progress) rows present true (k .memory .buffers) .memory) got → got ≡ lotMemory s rows present true
+  pub lot-cutting : (cs : List Arrived) (rows : List ℤ) (present : ℕ) (k : Called) (got : Memory) → Lot s rows present → Lead s (arrived rows present) (start s) cs k
+      → Leaves s (callOf s (k .progress) (arrived rows present) true (k .memory .buffers) .memory) got → got ≡ lotMemory s rows present true
   lot-cutting cs rows present k got lot lead l =
       let e = call-last rows present lot k (led rows present lot cs (start s) k (start-kept rows present) lead) in
       leaves-same s (lotMemory s rows present true) got (last-answer rows present lot) (rw e at l)
