@@ -15,7 +15,7 @@ use Rattle.rules.specs.Query.{textOf}
 use Rattle.rules.specs.Walk.{pairs, firstAt, pairWays, Kept, asKept}
 use Rattle.rules.specs.Search.{Skip, Swept, seek, haltingOf, planOf, walkSearch}
 use Rattle.rules.specs.Places.{Place}
-use Rattle.rules.specs.Report.{fits}
+use Rattle.rules.specs.Report.{lentRoom, fits}
 use Rattle.rules.specs.Answers.{letterHolds, Task, walkedOn, endAnswer, reportOf, Buffers, Memory, offsetAt, refused, accepted}
 use Rattle.rules.specs.Lots.{Named, Progress, presentTask, namedPairs, badLot, lotTests, beginAnswer, callRefusal, lotTerms, lotWalk, lotMemory, stays, Called, unchanged, arrived, callOf, Leaves}
 use Rattle.rules.specs.LotDemands.{Lot, Later}
@@ -75,13 +75,13 @@ module _ (s : Named) where
       unfolding lotWalk walkedOn presentTask
       walk-same =
           let t : Task = presentTask s rows n in
-          let b : walkSearch (lotTerms s last) (seek (letterHolds t) (t .table .n) (t .places) (t .skip) (fits (length (s .lent .numbers)) (length (s .lent .labels)) (t .measures))) .state .steps ≤ 18446744073709551615 =
+          let b : walkSearch (lotTerms s last) (seek (letterHolds t) (t .table .n) (t .places) (t .skip) (fits (lentRoom (length (s .lent .numbers)) (length (s .lent .labels)) (t .measures)))) .state .steps ≤ 18446744073709551615 =
           (let z = steps-few s begins rows n lot last in omega arith) in
           let w : (o : Option ℕ) → o ≡ none
-          → walkSearch (record { largest = s .largest; more = not last; allowance = o }) (seek (letterHolds t) (t .table .n) (t .places) (t .skip) (fits (length (s .lent .numbers)) (length (s .lent .labels)) (t .measures))) .state .steps ≤ 18446744073709551615
-          → walkSearch (record { largest = s .largest; more = not last; allowance = some 18446744073709551615 }) (seek (letterHolds t) (t .table .n) (t .places) (t .skip) (fits (length (s .lent .numbers)) (length (s .lent .labels)) (t .measures)))
-          ≡ walkSearch (record { largest = s .largest; more = not last; allowance = o }) (seek (letterHolds t) (t .table .n) (t .places) (t .skip) (fits (length (s .lent .numbers)) (length (s .lent .labels)) (t .measures))) =
-          λ o d c. rw d (allowed (s .largest) (not last) (letterHolds t) (t .table .n) (t .places) (t .skip) (fits (length (s .lent .numbers)) (length (s .lent .labels)) (t .measures)) 18446744073709551615 (rw d at c)) in
+          → walkSearch (record { largest = s .largest; more = not last; allowance = o }) (seek (letterHolds t) (t .table .n) (t .places) (t .skip) (fits (lentRoom (length (s .lent .numbers)) (length (s .lent .labels)) (t .measures)))) .state .steps ≤ 18446744073709551615
+          → walkSearch (record { largest = s .largest; more = not last; allowance = some 18446744073709551615 }) (seek (letterHolds t) (t .table .n) (t .places) (t .skip) (fits (lentRoom (length (s .lent .numbers)) (length (s .lent .labels)) (t .measures))))
+          ≡ walkSearch (record { largest = s .largest; more = not last; allowance = o }) (seek (letterHolds t) (t .table .n) (t .places) (t .skip) (fits (lentRoom (length (s .lent .numbers)) (length (s .lent .labels)) (t .measures)))) =
+          λ o d c. rw d (allowed (s .largest) (not last) (letterHolds t) (t .table .n) (t .places) (t .skip) (fits (lentRoom (length (s .lent .numbers)) (length (s .lent .labels)) (t .measures))) 18446744073709551615 (rw d at c)) in
           w (s .allowance) e b
 
       pub memory-same : lotMemory (limited s) rows n last ≡ lotMemory s rows n last

@@ -17,7 +17,7 @@ use Rattle.rules.specs.Language.{Tree, pattern, Written}
 use Rattle.rules.specs.Places.{Place, pFork, unroll, places}
 use Rattle.rules.specs.Walk.{outOfSteps, outOfRows, pairs, firstAt, pairWays, Kept}
 use Rattle.rules.specs.Search.{Match, End, done, full, stuck, unfinished, Finished, Skip, Swept, labels, Terms, within, haltingOf, planOf, walkSearch, seek}
-use Rattle.rules.specs.Report.{numbersOf, labelsOf, matchNumbers, fits, bytesFor, bitAt, notesOf}
+use Rattle.rules.specs.Report.{numbersOf, labelsOf, matchNumbers, lentRoom, fits, bytesFor, bitAt, notesOf}
 use Rattle.rules.specs.Answers.{treeIn, offsetAt, Task, taskOf, letterHolds, walkedOn, Buffers, haltAnswer, endAnswer, Report, reportOf, Result, Memory, refused, accepted, walkWithin, reportWithin, searchWithin}
 use Rattle.rules.specs.Working.{thinned}
 use Rattle.rules.specs.Lots.{presentRows, Named, Progress, settles, beginAnswer, callRefusal, presentTask, lotTerms, lotWalk, lotMemory, stays, Called, Arrived, arrived, callOf, Leaves}
@@ -181,32 +181,32 @@ module _ (s : Named) (ok : Begins-well s) where
     unfolding lotWalk walkedOn
     finished-in last a b =
         let d = search-padded (unroll (given .tree)) (letterHolds t) (t .table .n) (record { largest = s .largest; more = false; allowance = none }) few-rows (t .skip)
-        (fits nums labs (t .measures)) in
-        rw (a, b, places-in, d) (walk-finished (unroll (given .tree)) (letterHolds t) (t .table .n) (t .skip) (fits nums labs (t .measures)))
+        (fits (lentRoom nums labs (t .measures))) in
+        rw (a, b, places-in, d) (walk-finished (unroll (given .tree)) (letterHolds t) (t .table .n) (t .skip) (fits (lentRoom nums labs (t .measures))))
 
     not-done-in : (last : Bool) → last ≡ false → lotWalk s rows present last .end ≡ done → ⊥
     unfolding lotWalk walkedOn
     not-done-in last a =
-        rw a (not-done-end (lotWalk s rows present false .end) (search-not-done (s .largest) (s .allowance) (letterHolds t) (t .table .n) (t .places) (t .skip) (fits nums labs (t .measures))))
+        rw a (not-done-end (lotWalk s rows present false .end) (search-not-done (s .largest) (s .allowance) (letterHolds t) (t .table .n) (t .places) (t .skip) (fits (lentRoom nums labs (t .measures)))))
 
     pub no-wait-in : (last : Bool) → last ≡ true → (i : ℕ) (p : List ℕ) → lotWalk s rows present last .end ≡ unfinished outOfRows i p → ⊥
     unfolding lotWalk walkedOn
     no-wait-in last a =
-        rw a (no-rows-end (lotWalk s rows present true .end) (search-no-wait (s .largest) (s .allowance) (letterHolds t) (t .table .n) (t .places) (t .skip) (fits nums labs (t .measures))))
+        rw a (no-rows-end (lotWalk s rows present true .end) (search-no-wait (s .largest) (s .allowance) (letterHolds t) (t .table .n) (t .places) (t .skip) (fits (lentRoom nums labs (t .measures)))))
 
     within-in : (last : Bool) (a : ℕ) → s .allowance ≡ some a → EndWithin a (lotWalk s rows present last .end) (lotWalk s rows present last .state .steps)
     unfolding lotWalk walkedOn
-    within-in last a e = rw e (search-within a (s .largest) (not last) (letterHolds t) (t .table .n) (t .places) (t .skip) (fits nums labs (t .measures)))
+    within-in last a e = rw e (search-within a (s .largest) (not last) (letterHolds t) (t .table .n) (t .places) (t .skip) (fits (lentRoom nums labs (t .measures))))
 
     -- the search over the same places with each way of a fork once
     abbrev pub thinWalk : Bool → Swept Kept
-    thinWalk last = walkSearch (lotTerms s last) (seek (letterHolds t) (t .table .n) (thinned (t .places)) (t .skip) (fits nums labs (t .measures)))
+    thinWalk last = walkSearch (lotTerms s last) (seek (letterHolds t) (t .table .n) (thinned (t .places)) (t .skip) (fits (lentRoom nums labs (t .measures))))
 
     pub lot-thin : (last : Bool) → lotWalk s rows present last ≡ thinWalk last
     unfolding lotWalk walkedOn
     lot-thin last =
         rw places-in
-        (sym (walk-thin (unroll (given .tree)) (letterHolds t) (t .table .n) (lotTerms s last) few-rows (t .skip) (fits nums labs (t .measures))))
+        (sym (walk-thin (unroll (given .tree)) (letterHolds t) (t .table .n) (lotTerms s last) few-rows (t .skip) (fits (lentRoom nums labs (t .measures)))))
 
     lot-demands : (last : Bool) → LotDemands s rows present last
     unfolding lotWalk presentTask treeIn
@@ -271,27 +271,27 @@ module _ (s : Named) (ok : Begins-well s) where
         → Begins (lotWalk s rows₁ n₁ false .matches) (lotWalk s rows₂ n₂ last .matches) × Keeps (lotWalk s rows₁ n₁ false .state) (lotWalk s rows₂ n₂ last .state)
     unfolding lotWalk walkedOn presentTask taskOf
     walks last =
-        later-adds tree (t₁ .places) e₁ (t₁ .skip) (fits nums labs (t₁ .measures)) (letterHolds t₁) (letterHolds t₂) (t₁ .table .n) (t₂ .table .n) (s .largest) (s .allowance) (not last) more-rows few₂
+        later-adds tree (t₁ .places) e₁ (t₁ .skip) (fits (lentRoom nums labs (t₁ .measures))) (letterHolds t₁) (letterHolds t₂) (t₁ .table .n) (t₂ .table .n) (s .largest) (s .allowance) (not last) more-rows few₂
         (sooner last)
 
     -- a later call's search goes on from where the earlier one waits, with its start, open pairs,
     -- failed pairs and steps
     pub lot-goes : (last : Bool) → lotWalk s rows₂ n₂ last
         ≡ andThen (haltingOf (lotTerms s last) (t₂ .places) (t₂ .table .n)) (pairWays (letterHolds t₂) (t₂ .table .n) (t₂ .places)) (pairs (length (t₂ .places)) (s .largest)) (firstAt (length (t₂ .places)))
-        (planOf (t₂ .places) (t₂ .table .n) (not last) (t₂ .skip) (fits nums labs (t₂ .measures))) 0 0 (lotWalk s rows₁ n₁ false)
+        (planOf (t₂ .places) (t₂ .table .n) (not last) (t₂ .skip) (fits (lentRoom nums labs (t₂ .measures)))) 0 0 (lotWalk s rows₁ n₁ false)
     unfolding lotWalk walkedOn presentTask taskOf
     lot-goes last =
-        later-goes tree (t₁ .places) e₁ (t₁ .skip) (fits nums labs (t₁ .measures)) (letterHolds t₁) (letterHolds t₂) (t₁ .table .n) (t₂ .table .n) (s .largest) (s .allowance) (not last) more-rows few₂
+        later-goes tree (t₁ .places) e₁ (t₁ .skip) (fits (lentRoom nums labs (t₁ .measures))) (letterHolds t₁) (letterHolds t₂) (t₁ .table .n) (t₂ .table .n) (s .largest) (s .allowance) (not last) more-rows few₂
         (sooner last)
 
     -- the same over places with each way of a fork once
     pub lot-thin-goes : (last : Bool) → thinWalk rows₂ n₂ lot₂ last
         ≡ andThen (haltingOf (lotTerms s last) (thinned (t₂ .places)) (t₂ .table .n)) (pairWays (letterHolds t₂) (t₂ .table .n) (thinned (t₂ .places)))
         (pairs (length (thinned (t₂ .places))) (s .largest)) (firstAt (length (thinned (t₂ .places))))
-        (planOf (thinned (t₂ .places)) (t₂ .table .n) (not last) (t₂ .skip) (fits nums labs (t₂ .measures))) 0 0 (thinWalk rows₁ n₁ lot₁ false)
+        (planOf (thinned (t₂ .places)) (t₂ .table .n) (not last) (t₂ .skip) (fits (lentRoom nums labs (t₂ .measures)))) 0 0 (thinWalk rows₁ n₁ lot₁ false)
     unfolding presentTask taskOf
     lot-thin-goes last =
-        later-thin-goes tree (t₁ .places) e₁ (t₁ .skip) (fits nums labs (t₁ .measures)) (letterHolds t₁) (letterHolds t₂) (t₁ .table .n) (t₂ .table .n) (s .largest) (s .allowance) (not last) more-rows few₂
+        later-thin-goes tree (t₁ .places) e₁ (t₁ .skip) (fits (lentRoom nums labs (t₁ .measures))) (letterHolds t₁) (letterHolds t₂) (t₁ .table .n) (t₂ .table .n) (s .largest) (s .allowance) (not last) more-rows few₂
         (sooner last)
 
     -- the numbers of the matches so far are the same on the rows that are present later
@@ -300,7 +300,7 @@ module _ (s : Named) (ok : Begins-well s) where
     numbers-kept =
         let ext = task-extends s ok rows₁ rows₂ n₁ n₂ lot₁ lot₂ later in
         numbers-same (t₁ .table) (t₂ .table) ext (t₁ .measures) (t₁ .places) 0 (lotWalk s rows₁ n₁ false .matches) (measures-fit q (fitting s ok))
-        (matches-in tree (t₁ .table) (t₂ .table) ext (letterHolds t₁) (t₁ .places) e₁ (lotTerms s false) (few-rows rows₁ n₁ lot₁) (t₁ .skip) (fits nums labs (t₁ .measures)))
+        (matches-in tree (t₁ .table) (t₂ .table) ext (letterHolds t₁) (t₁ .places) e₁ (lotTerms s false) (few-rows rows₁ n₁ lot₁) (t₁ .skip) (fits (lentRoom nums labs (t₁ .measures))))
 
     numbers-begin : (xs ys : List Match) → Begins xs ys → numbersOf (t₁ .table) (t₁ .measures) (t₁ .places) 0 xs ≡ numbersOf (t₂ .table) (t₁ .measures) (t₁ .places) 0 xs
         → Begins (numbersOf (t₁ .table) (t₁ .measures) (t₁ .places) 0 xs) (numbersOf (t₂ .table) (t₁ .measures) (t₁ .places) 0 ys)
@@ -329,7 +329,7 @@ module _ (s : Named) (ok : Begins-well s) where
     walk-stays : (last : Bool) → stays (endAnswer (lotWalk s rows₁ n₁ false .end)) ≡ true → lotWalk s rows₂ n₂ last ≡ lotWalk s rows₁ n₁ false
     unfolding lotWalk walkedOn presentTask taskOf
     walk-stays last h =
-        later-stays tree (t₁ .places) e₁ (t₁ .skip) (fits nums labs (t₁ .measures)) (letterHolds t₁) (letterHolds t₂) (t₁ .table .n) (t₂ .table .n) (s .largest) (s .allowance) (not last) more-rows few₂
+        later-stays tree (t₁ .places) e₁ (t₁ .skip) (fits (lentRoom nums labs (t₁ .measures))) (letterHolds t₁) (letterHolds t₂) (t₁ .table .n) (t₂ .table .n) (s .largest) (s .allowance) (not last) more-rows few₂
         (sooner last) (settled-end (lotWalk s rows₁ n₁ false .end) h)
 
     report-kept : (a : ℕ) → reportOf a t₂ (s .lent) (lotWalk s rows₁ n₁ false) ≡ reportOf a t₁ (s .lent) (lotWalk s rows₁ n₁ false)
@@ -370,7 +370,7 @@ module _ (s : Named) (ok : Begins-well s) where
 
     padded-run : lotWalk s rows present true ≡ padded gap once
     unfolding lotWalk walkWithin walkedOn presentTask
-    padded-run = padded-pattern (task .places) (places-in rows present lot) (task .skip) (fits nums labs (task .measures))
+    padded-run = padded-pattern (task .places) (places-in rows present lot) (task .skip) (fits (lentRoom nums labs (task .measures)))
 
     -- what is returned and reported depends on the matches, the end and the steps alone
     run-memory : lotMemory s rows present true .result ≡ searchWithin (s .allowance) q (presentRows q rows present) (s .lent) .result

@@ -19,7 +19,7 @@ use Rattle.rules.specs.Language.{Tree, pattern, Written}
 use Rattle.rules.specs.Readings.{rowSets}
 use Rattle.rules.specs.Preferment.{Preferred, NoneParses, Reports, finished, unmatched, matched, setting}
 use Rattle.rules.specs.Search.{done, pastLast, toNext, nextStart}
-use Rattle.rules.specs.Report.{fits}
+use Rattle.rules.specs.Report.{lentRoom, fits}
 use Rattle.rules.specs.Answers.{taskOf, skipOf, letterHolds, Buffers, Memory, refusal}
 use Rattle.rules.specs.Entries.{Reported, reportedIn, reportedOne, reportedAll}
 use Rattle.rules.specs.Demands.{Demands}
@@ -176,7 +176,7 @@ module _ (a a′ : Option ℕ) (q q′ : List ℕ) (rows : List ℤ) (before bef
       let w′ : Written (y′ .tree) (textOf q) = rw (← same .text) (y′ .written) in
       let r = told a q rows before after y z refl refl refl (mode-0 q rows m) in
       let r′ = told a′ q′ rows before′ after′ y′ z′ (one-tree w′ (y .written)) (same-holds q q′ rows same) (ap (λ (x : Table). x .n) (same-table q q′ rows same)) (mode-1 q′ rows m′) in
-      let c = chosen-from (y .tree) (letterHolds t) (t .table .n) (fits (length (before .numbers)) (length (before .labels)) (t .measures)) (fits (length (before′ .numbers)) (length (before′ .labels)) (t′ .measures)) (t .table) (t .measures) r′ 0 0 0 _ (omega arith) r in
+      let c = chosen-from (y .tree) (letterHolds t) (t .table .n) (fits (lentRoom (length (before .numbers)) (length (before .labels)) (t .measures))) (fits (lentRoom (length (before′ .numbers)) (length (before′ .labels)) (t′ .measures))) (t .table) (t .measures) r′ 0 0 0 _ (omega arith) r in
       let s : reportedAll (t .table) (t .measures) (written a′ q′ rows before′ after′ y′ z′) ≡ reportedAll (t′ .table) (t′ .measures) (written a′ q′ rows before′ after′ y′ z′) =
       ap₂ (λ (x : Table) (ms : List Measure). reportedAll x ms (written a′ q′ rows before′ after′ y′ z′)) (sym (same-table q q′ rows same)) (sym (same-measured q q′ rows same)) in
       y .reported ∙ c ∙ ap (chosenFrom 0) (s ∙ sym (y′ .reported))
