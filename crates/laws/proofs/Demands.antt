@@ -16,7 +16,7 @@ use Rattle.rules.specs.Places.{Place, unroll, places, placesOf, size, factorOf,
 use Rattle.rules.specs.Readings.{SomeReading, rowSets}
 use Rattle.rules.specs.Walk.{outOfSteps, outOfRows, IsOpen, pairs, firstAt, pairWays, Kept}
 use Rattle.rules.specs.Preferment.{Preferred, Reports, setting}
-use Rattle.rules.specs.Search.{Match, End, done, full, stuck, unfinished, Finished, openOf, Skip, pastLast, Swept, Terms, within, whole, walkSearch, plainSearch, labels, endOf, plainFrom, shownOne, shown, shownEnd, seek}
+use Rattle.rules.specs.Search.{Match, End, done, full, stuck, unfinished, Finished, openOf, Skip, pastLast, Swept, Terms, within, whole, walkSearch, plainSearch, labels, endOf, plainFrom, shownOne, shown, shownEnd, seek, standAt}
 use Rattle.rules.specs.Report.{numbersOf, labelsOf, lentRoom, fits, bytesFor, bitAt, notesOf, zeros}
 use Rattle.rules.specs.Answers.{treeIn, Task, taskOf, letterHolds, walkedOn, backtracked, Buffers, Memory, refusal, haltAnswer, endAnswer, answerBy, answerWithin, reportOf, walkWithin, plainOf, reportWithin, plainReport, accepted, searchWithin, searchOf, P, F}
 use Rattle.rules.specs.Entries.{reportedIn, reportedOne, reportedAll}
@@ -56,7 +56,7 @@ module _ (p : Tree pattern) (o : Bounds p) (pl : List Place) (e : pl ≡ places 
   matches-preferred = rw e (found-is-greatest p o holds n)
 
   matches-reported : (skip : Skip) (room : ℕ → ℕ → List ℕ → Bool)
-      → Reports (setting p (rowSets n holds) skip room) 0 0 0 (shown pl (plainSearch (seek holds n pl skip room) .matches)) (shownEnd pl (plainSearch (seek holds n pl skip room) .end))
+      → Reports (setting p (rowSets n holds) skip room) (standAt 0 0 0) (shown pl (plainSearch (seek holds n pl skip room) .matches)) (shownEnd pl (plainSearch (seek holds n pl skip room) .end))
   matches-reported = rw e (plain-reports p o holds n)
 
 -- what is shown of the first of the matches is the first of what is shown

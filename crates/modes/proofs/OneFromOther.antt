@@ -18,7 +18,7 @@ use Rattle.rules.specs.Query.{Measure, textOf, parts}
 use Rattle.rules.specs.Language.{Tree, pattern, Written}
 use Rattle.rules.specs.Readings.{rowSets}
 use Rattle.rules.specs.Preferment.{Preferred, NoneParses, Reports, finished, unmatched, matched, setting}
-use Rattle.rules.specs.Search.{done, pastLast, toNext, nextStart}
+use Rattle.rules.specs.Search.{done, pastLast, toNext, nextStart, standAt}
 use Rattle.rules.specs.Report.{lentRoom, fits}
 use Rattle.rules.specs.Answers.{taskOf, skipOf, letterHolds, Buffers, Memory, refusal}
 use Rattle.rules.specs.Entries.{Reported, reportedIn, reportedOne, reportedAll}
@@ -72,7 +72,7 @@ one-next i j w k e = some-is e
 module _ (p : Tree pattern) (holds : ℕ → ℕ → Bool) (n : ℕ) (room : ℕ → ℕ → List ℕ → Bool) where
   -- what mode 0 still writes from row i on, behind m matches with l labels, where it ends as done
   abbrev Past : ℕ → ℕ → ℕ → List (ℕ × List ℕ) → Type 0
-  Past i m l ms = Reports (setting p (rowSets n holds) pastLast room) i m l ms done
+  Past i m l ms = Reports (setting p (rowSets n holds) pastLast room) (standAt i m l) ms done
 
   past-end : {i m l : ℕ} {ms : List (ℕ × List ℕ)} → n ≤ i → Past i m l ms → ms ≡ []
   past-end h (finished f) = refl
@@ -100,7 +100,7 @@ module _ (p : Tree pattern) (holds : ℕ → ℕ → Bool) (n : ℕ) (room : ℕ
 
 module _ (p : Tree pattern) (holds : ℕ → ℕ → Bool) (n : ℕ) (room room′ : ℕ → ℕ → List ℕ → Bool) (t : Table) (measures : List Measure) where
   abbrev Each : ℕ → ℕ → ℕ → List (ℕ × List ℕ) → Type 0
-  Each i m l ms = Reports (setting p (rowSets n holds) toNext room′) i m l ms done
+  Each i m l ms = Reports (setting p (rowSets n holds) toNext room′) (standAt i m l) ms done
 
   -- what mode 1 still writes starts at row k or behind it, so choosing may begin anywhere up to k
   from-before : {k m l : ℕ} {ms : List (ℕ × List ℕ)} → Each k m l ms → (i : ℕ) → i ≤ k → chosenFrom i (reportedAll t measures ms) ≡ chosenFrom k (reportedAll t measures ms)
