@@ -13,7 +13,7 @@ use lib.ListN.{length, drop, replicate, length-replicate}
 use Rattle.rules.specs.Basics.{wrote}
 use Rattle.rules.specs.Walk.{Halt, outOfSteps, outOfRows, pairs, firstAt, pairWays, Kept, asKept}
 use Rattle.rules.specs.Search.{Match, End, done, full, stuck, unfinished, openOf, Attempted, hit, miss, halts, Swept, Plan, ended, noStart, below, withMatch, Standing, standAt, oneRowOn, behindMatch, onMatch, onAnswer, sweep, walkAt, haltingOf, planOf, walkSearch}
-use Rattle.rules.specs.Report.{fits, numbersOf, labelsOf, notesOf, zeros, bytesFor}
+use Rattle.rules.specs.Report.{lentRoom, fits, numbersOf, labelsOf, notesOf, zeros, bytesFor}
 use Rattle.rules.specs.Answers.{letterHolds, Task, walkedOn, haltAnswer, endAnswer, reportOf, Buffers, Memory, accepted}
 use Rattle.rules.specs.Lots.{Named, presentRows, presentTask, namedPairs, beginAnswer, stays, lotTerms, lotWalk, lotMemory, Leaves}
 use Rattle.rules.specs.LotDemands.{Lot, LotDemands}
@@ -155,8 +155,8 @@ module _ (s : Named) (begins : beginAnswer s ≡ 0) (rows : List ℤ) (n : ℕ) 
   unfolding lotWalk walkedOn walkSearch
   matches-behind i p e =
       let b = sweep-behind (walkAt (haltingOf (lotTerms s last) (t .places) (t .table .n)) (pairWays (letterHolds t) (t .table .n) (t .places)) (pairs (length (t .places)) (s .largest)) (firstAt (length (t .places))))
-      (planOf (t .places) (t .table .n) (not last) (t .skip) (fits (length (s .lent .numbers)) (length (s .lent .labels)) (t .measures)))
-      (plan-on (t .places) (t .table .n) (not last) (t .skip) (fits (length (s .lent .numbers)) (length (s .lent .labels)) (t .measures)))
+      (planOf (t .places) (t .table .n) (not last) (t .skip) (fits (lentRoom (length (s .lent .numbers)) (length (s .lent .labels)) (t .measures))))
+      (plan-on (t .places) (t .table .n) (not last) (t .skip) (fits (lentRoom (length (s .lent .numbers)) (length (s .lent .labels)) (t .measures))))
       (t .table .n) (standAt 0 0 0) (asKept (replicate (pairs (length (t .places)) (s .largest)) false) 0) outOfRows i p e in
       omega arith
 

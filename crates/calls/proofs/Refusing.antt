@@ -21,7 +21,7 @@ use Rattle.rules.specs.Language.{Tree, pattern}
 use Rattle.rules.specs.Report.{bytesFor}
 use Rattle.rules.specs.Walk.{pairs}
 use Rattle.rules.specs.Answers.{treeIn, P, F, Buffers, Test, firstOf, queryTests, offsetAt, refuses, refused}
-use Rattle.rules.specs.Lots.{Named, Progress, looksAhead, callRefusal, unchanged, callOf}
+use Rattle.rules.specs.Lots.{Named, Progress, looksAhead, callRefusal, unchanged, arrived, callOf}
 use Rattle.rules.specs.LotDemands.{Later}
 use Rattle.laws.proofs.FirstTrue.{allRefuse, none-true}
 use Rattle.laws.proofs.Level.{or-false, and-true}
@@ -160,7 +160,7 @@ module _ (T : List ℕ) (p : Prepared) (c : Call) (waiting : c .feed .answer ≡
 
   module _ (s : Named) (pr : Progress) (rows₁ : List ℤ) (st : Stands s pr rows₁ (c .feed) b) (a k : ℕ) (d : a ≡ 0 → ⊥) (e : callRefusal s pr rows (c .present) ≡ a)
       (ek : k ≡ offsetAt (textOf (s .query)) a) where
-    call-refused : callOf s pr rows (c .present) (c .last) b ≡ unchanged pr (refused a k b)
+    call-refused : callOf s pr (arrived rows (c .present)) (c .last) b ≡ unchanged pr (refused a k b)
     unfolding callOf
     call-refused = rw (waits-going s pr rows₁ (c .feed) b st waiting, waits-unended s pr rows₁ (c .feed) b st waiting, e, ne-eqb a 0 d, ek) refl
 

@@ -15,7 +15,7 @@ use Rattle.rules.specs.Walk.{outOfRows, Kept}
 use Rattle.rules.specs.Search.{End, unfinished, Swept, Match}
 use Rattle.rules.specs.Report.{labelsOf}
 use Rattle.rules.specs.Answers.{Buffers, Memory, Result}
-use Rattle.rules.specs.Lots.{Named, Progress, begun, presentTask, stays, lotTests, namedPairs, badLot, callRefusal, lotWalk, lotMemory, Called, callOf, Leaves}
+use Rattle.rules.specs.Lots.{Named, Progress, begun, presentTask, stays, lotTests, namedPairs, badLot, callRefusal, lotWalk, lotMemory, Called, arrived, callOf, Leaves}
 use Rattle.lots.specs.declared.Feed.{Feed}
 use Rattle.lots.specs.Feeds.{newFeed, Within}
 use Rattle.calls.specs.Calls.{Before, After, Allowance, New, TakenUp, Stands, takenUp, Made}
@@ -144,7 +144,7 @@ module _ (s : Named) (pr : Progress) (rows₁ : List ℤ) (f : Feed) (b : Buffer
 -- ---- a call by what it comes to
 
 module _ (s : Named) (pr : Progress) (rows₁ : List ℤ) (i : Before) (o : After) where
-  pub made-by : (k : Called) (t : Bool) → callOf s pr (i .rows) (i .present) (i .last) (i .buffers) ≡ k → takenUp s pr (i .rows) (i .present) ≡ t → Leaves s (k .memory) (o .memory)
+  pub made-by : (k : Called) (t : Bool) → callOf s pr (arrived (i .rows) (i .present)) (i .last) (i .buffers) ≡ k → takenUp s pr (i .rows) (i .present) ≡ t → Leaves s (k .memory) (o .memory)
       → Stands s (k .progress) (pick t (i .rows) rows₁) (o .feed) (o .memory .buffers) → (t ≡ false → (o .feed ≡ i .feed) × (o .memory .buffers ≡ i .buffers)) → Made s pr rows₁ i o
   made-by k t ek et l st kept =
       record {
@@ -212,7 +212,7 @@ module _ (s : Named) (e : s .allowance ≡ none) where
 
   pub made-free : (pr : Progress) (rows₁ : List ℤ) (i : Before) (o : After) → Made (limited s) pr rows₁ i o → Made s pr rows₁ i o
   made-free pr rows₁ i o m =
-      made-by s pr rows₁ i o (callOf (limited s) pr (i .rows) (i .present) (i .last) (i .buffers)) (takenUp (limited s) pr (i .rows) (i .present)) (sym (call-same s e pr (i .rows) (i .present) (i .last) (i .buffers)))
-      (sym (taken-same pr (i .rows) (i .present))) (leaves-free s (callOf (limited s) pr (i .rows) (i .present) (i .last) (i .buffers) .memory) (o .memory) (m .leaves))
-      (stands-free (callOf (limited s) pr (i .rows) (i .present) (i .last) (i .buffers) .progress) (pick (takenUp (limited s) pr (i .rows) (i .present)) (i .rows) rows₁) (o .feed) (o .memory .buffers) (m .stands))
+      made-by s pr rows₁ i o (callOf (limited s) pr (arrived (i .rows) (i .present)) (i .last) (i .buffers)) (takenUp (limited s) pr (i .rows) (i .present)) (sym (call-same s e pr (i .rows) (i .present) (i .last) (i .buffers)))
+      (sym (taken-same pr (i .rows) (i .present))) (leaves-free s (callOf (limited s) pr (arrived (i .rows) (i .present)) (i .last) (i .buffers) .memory) (o .memory) (m .leaves))
+      (stands-free (callOf (limited s) pr (arrived (i .rows) (i .present)) (i .last) (i .buffers) .progress) (pick (takenUp (limited s) pr (i .rows) (i .present)) (i .rows) rows₁) (o .feed) (o .memory .buffers) (m .stands))
       (m .kept)

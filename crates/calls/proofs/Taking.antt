@@ -17,7 +17,7 @@ use Rattle.rules.specs.Walk.{outOfRows, pairs, Kept}
 use Rattle.rules.specs.Search.{unfinished, Swept}
 use Rattle.rules.specs.Report.{labelsOf, bytesFor}
 use Rattle.rules.specs.Answers.{taskOf, Buffers, Memory, Result}
-use Rattle.rules.specs.Lots.{Named, Progress, presentRows, presentTask, namedPairs, beginAnswer, stays, callRefusal, lotWalk, lotMemory, Called, callOf, Leaves}
+use Rattle.rules.specs.Lots.{Named, Progress, presentRows, presentTask, namedPairs, beginAnswer, stays, callRefusal, lotWalk, lotMemory, Called, arrived, callOf, Leaves}
 use Rattle.rules.specs.LotDemands.{Lot, Later}
 use Rattle.laws.proofs.Lots.{Begins-well, begins-well, call-well}
 use Rattle.prepared.specs.Ready.{Ready}
@@ -213,7 +213,7 @@ module _ (s : Named) (T : List ℕ) (p : Prepared) (ready : Ready (s .query) T p
   abbrev next : Progress
   next = record { present = n; ended = c .last; result = want .result }
 
-  call-is : callOf s pr rows n (c .last) b ≡ record { progress = next; memory = want }
+  call-is : callOf s pr (arrived rows n) (c .last) b ≡ record { progress = next; memory = want }
   unfolding callOf
   call-is = rw (waits-going s pr rows₁ (c .feed) b st waiting, waits-unended s pr rows₁ (c .feed) b st waiting, granted) refl
 

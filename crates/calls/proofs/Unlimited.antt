@@ -15,9 +15,9 @@ use Rattle.rules.specs.Query.{textOf}
 use Rattle.rules.specs.Walk.{pairs, firstAt, pairWays, Kept, asKept}
 use Rattle.rules.specs.Search.{Skip, Swept, seek, haltingOf, planOf, walkSearch}
 use Rattle.rules.specs.Places.{Place}
-use Rattle.rules.specs.Report.{fits}
+use Rattle.rules.specs.Report.{lentRoom, fits}
 use Rattle.rules.specs.Answers.{letterHolds, Task, walkedOn, endAnswer, reportOf, Buffers, Memory, offsetAt, refused, accepted}
-use Rattle.rules.specs.Lots.{Named, Progress, presentTask, namedPairs, badLot, lotTests, beginAnswer, callRefusal, lotTerms, lotWalk, lotMemory, stays, Called, unchanged, callOf, Leaves}
+use Rattle.rules.specs.Lots.{Named, Progress, presentTask, namedPairs, badLot, lotTests, beginAnswer, callRefusal, lotTerms, lotWalk, lotMemory, stays, Called, unchanged, arrived, callOf, Leaves}
 use Rattle.rules.specs.LotDemands.{Lot, Later}
 use Rattle.laws.proofs.Allowed.{sweep-allowed}
 use Rattle.laws.proofs.Lots.{tests-well, call-well}
@@ -75,20 +75,20 @@ module _ (s : Named) where
       unfolding lotWalk walkedOn presentTask
       walk-same =
           let t : Task = presentTask s rows n in
-          let b : walkSearch (lotTerms s last) (seek (letterHolds t) (t .table .n) (t .places) (t .skip) (fits (length (s .lent .numbers)) (length (s .lent .labels)) (t .measures))) .state .steps ≤ 18446744073709551615 =
+          let b : walkSearch (lotTerms s last) (seek (letterHolds t) (t .table .n) (t .places) (t .skip) (fits (lentRoom (length (s .lent .numbers)) (length (s .lent .labels)) (t .measures)))) .state .steps ≤ 18446744073709551615 =
           (let z = steps-few s begins rows n lot last in omega arith) in
           let w : (o : Option ℕ) → o ≡ none
-          → walkSearch (record { largest = s .largest; more = not last; allowance = o }) (seek (letterHolds t) (t .table .n) (t .places) (t .skip) (fits (length (s .lent .numbers)) (length (s .lent .labels)) (t .measures))) .state .steps ≤ 18446744073709551615
-          → walkSearch (record { largest = s .largest; more = not last; allowance = some 18446744073709551615 }) (seek (letterHolds t) (t .table .n) (t .places) (t .skip) (fits (length (s .lent .numbers)) (length (s .lent .labels)) (t .measures)))
-          ≡ walkSearch (record { largest = s .largest; more = not last; allowance = o }) (seek (letterHolds t) (t .table .n) (t .places) (t .skip) (fits (length (s .lent .numbers)) (length (s .lent .labels)) (t .measures))) =
-          λ o d c. rw d (allowed (s .largest) (not last) (letterHolds t) (t .table .n) (t .places) (t .skip) (fits (length (s .lent .numbers)) (length (s .lent .labels)) (t .measures)) 18446744073709551615 (rw d at c)) in
+          → walkSearch (record { largest = s .largest; more = not last; allowance = o }) (seek (letterHolds t) (t .table .n) (t .places) (t .skip) (fits (lentRoom (length (s .lent .numbers)) (length (s .lent .labels)) (t .measures)))) .state .steps ≤ 18446744073709551615
+          → walkSearch (record { largest = s .largest; more = not last; allowance = some 18446744073709551615 }) (seek (letterHolds t) (t .table .n) (t .places) (t .skip) (fits (lentRoom (length (s .lent .numbers)) (length (s .lent .labels)) (t .measures))))
+          ≡ walkSearch (record { largest = s .largest; more = not last; allowance = o }) (seek (letterHolds t) (t .table .n) (t .places) (t .skip) (fits (lentRoom (length (s .lent .numbers)) (length (s .lent .labels)) (t .measures)))) =
+          λ o d c. rw d (allowed (s .largest) (not last) (letterHolds t) (t .table .n) (t .places) (t .skip) (fits (lentRoom (length (s .lent .numbers)) (length (s .lent .labels)) (t .measures))) 18446744073709551615 (rw d at c)) in
           w (s .allowance) e b
 
       pub memory-same : lotMemory (limited s) rows n last ≡ lotMemory s rows n last
       unfolding lotMemory presentTask
       memory-same = ap (λ (r : Swept Kept). accepted (reportOf (endAnswer (r .end)) (presentTask s rows n) (s .lent) r) (r .state) (s .lent)) walk-same
 
-    pub call-same : (p : Progress) (rows : List ℤ) (n : ℕ) (last : Bool) (now : Buffers) → callOf (limited s) p rows n last now ≡ callOf s p rows n last now
+    pub call-same : (p : Progress) (rows : List ℤ) (n : ℕ) (last : Bool) (now : Buffers) → callOf (limited s) p (arrived rows n) last now ≡ callOf s p (arrived rows n) last now
     unfolding callOf
     call-same p rows n last now = rw (refusal-same p rows n) (go (stays (p .result .answer)) (p .ended) (eqb (callRefusal s p rows n) 0) refl)
       where

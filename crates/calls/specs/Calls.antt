@@ -14,7 +14,7 @@ use Rattle.rules.specs.Basics.{pick}
 use Rattle.rules.specs.Walk.{outOfRows}
 use Rattle.rules.specs.Search.{unfinished}
 use Rattle.rules.specs.Answers.{Buffers, Memory}
-use Rattle.rules.specs.Lots.{Named, Progress, begun, stays, beginAnswer, callRefusal, lotWalk, lotMemory, callOf, Leaves}
+use Rattle.rules.specs.Lots.{Named, Progress, begun, stays, beginAnswer, callRefusal, lotWalk, lotMemory, arrived, callOf, Leaves}
 use Rattle.rules.specs.LotDemands.{Lot, Later}
 use Rattle.lots.specs.declared.Feed.{Feed}
 use Rattle.lots.specs.Feeds.{newFeed}
@@ -80,8 +80,8 @@ takenUp s p rows present = pick (stays (p .result .answer)) false (pick (p .ende
 -- of the definition, with the rows of this call where it is taken up, and with those before where
 -- not; then what is kept and the buffers are unchanged.
 pub record Made (s : Named) (p : Progress) (rows₁ : List ℤ) (i : Before) (o : After) : Type 0 where
-  pub leaves : Leaves s (callOf s p (i .rows) (i .present) (i .last) (i .buffers) .memory) (o .memory)
-  pub stands : Stands s (callOf s p (i .rows) (i .present) (i .last) (i .buffers) .progress) (pick (takenUp s p (i .rows) (i .present)) (i .rows) rows₁) (o .feed) (o .memory .buffers)
+  pub leaves : Leaves s (callOf s p (arrived (i .rows) (i .present)) (i .last) (i .buffers) .memory) (o .memory)
+  pub stands : Stands s (callOf s p (arrived (i .rows) (i .present)) (i .last) (i .buffers) .progress) (pick (takenUp s p (i .rows) (i .present)) (i .rows) rows₁) (o .feed) (o .memory .buffers)
   pub kept : takenUp s p (i .rows) (i .present) ≡ false → (o .feed ≡ i .feed) × (o .memory .buffers ≡ i .buffers)
 
 -- The promise of a call, for whatever was named with this query and whatever the earlier calls came

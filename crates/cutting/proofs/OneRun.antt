@@ -13,8 +13,8 @@ use borrow.Author.Tests.{eqb-true}
 use Rattle.rules.specs.Basics.{pick}
 use Rattle.rules.specs.Query.{columnsOf, textOf}
 use Rattle.rules.specs.Answers.{Buffers, Memory, offsetAt, refused}
-use Rattle.rules.specs.Lots.{Named, Progress, begun, presentRows, beginAnswer, stays, callRefusal, lotMemory, Called, unchanged, callOf, Leaves}
-use Rattle.rules.specs.LotDemands.{Lot, Later, Call, start, Lead, Lots}
+use Rattle.rules.specs.Lots.{Named, Progress, begun, presentRows, beginAnswer, stays, callRefusal, lotMemory, Called, unchanged, Arrived, arrived, callOf, Leaves}
+use Rattle.rules.specs.LotDemands.{Lot, Later, start, Lead, Lots}
 use Rattle.laws.proofs.LotLaws.{lots}
 use Rattle.laws.proofs.Lots.{call-well}
 use Rattle.lots.specs.declared.Feed.{Feed}
@@ -32,7 +32,7 @@ take-first (suc a) (suc b) (x ∷ l) h = ap (λ (v : List _). x ∷ v) (take-fir
 
 -- what holds of the rows kept and of those of a call that is taken up holds behind the call
 behind : (s : Named) (p : Progress) (rows₁ rows : List ℤ) (n : ℕ) (last : Bool) (b : Buffers) (Has : List ℤ → ℕ → Type 0) → Has rows₁ (p .present) → (callRefusal s p rows n ≡ 0 → Has rows n)
-    → Has (pick (takenUp s p rows n) rows rows₁) (callOf s p rows n last b .progress .present)
+    → Has (pick (takenUp s p rows n) rows rows₁) (callOf s p (arrived rows n) last b .progress .present)
 unfolding callOf takenUp refused
 behind s p rows₁ rows n last b Has x y = go (stays (p .result .answer)) (p .ended) (eqb (callRefusal s p rows n) 0) refl
   where
@@ -67,15 +67,15 @@ module _ (s : Named) (begins : beginAnswer s ≡ 0) (rows : List ℤ) (n : ℕ) 
       }
 
   -- calls that follow one another are a lead, and what is kept then stands for its end
-  record Led (p : Progress) (m : Memory) (cs : List Call) (f′ : Feed) (b′ : Buffers) : Type 0 where
+  record Led (p : Progress) (m : Memory) (cs : List Arrived) (f′ : Feed) (b′ : Buffers) : Type 0 where
     to : Called
-    lead : Lead s rows n (record { progress = p; memory = m }) cs to
+    lead : Lead s (arrived rows n) (record { progress = p; memory = m }) cs to
     kept : List ℤ
     stands : Stands s (to .progress) kept f′ b′
     first : First q rows n kept (to .progress .present)
     buffers : to .memory .buffers ≡ b′
 
-  led : (cs : List Call) (p : Progress) (rows₁ : List ℤ) (f : Feed) (m : Memory) (f′ : Feed) (b′ : Buffers) → Stands s p rows₁ f (m .buffers) → First q rows n rows₁ (p .present)
+  led : (cs : List Arrived) (p : Progress) (rows₁ : List ℤ) (f : Feed) (m : Memory) (f′ : Feed) (b′ : Buffers) → Stands s p rows₁ f (m .buffers) → First q rows n rows₁ (p .present)
       → Follow q rows n f (m .buffers) cs f′ b′ → Led p m cs f′ b′
   unfolding Follow Lead Calls
   led [] p rows₁ f m f′ b′ st fi e =
@@ -89,10 +89,10 @@ module _ (s : Named) (begins : beginAnswer s ≡ 0) (rows : List ℤ) (n : ℕ) 
       }
   led (c ∷ cs) p rows₁ f m f′ b′ st fi e =
       let o : After = e .1 .0 in
-      let made : Made s p rows₁ (into q f (m .buffers) (c .0) (c .1) false) o = e .1 .1 .0 s p rows₁ refl st (λ z. later-of rows₁ (c .0) (p .present) (c .1) fi (e .0) (call-well s p (c .0) (c .1) z .2)) in
-      let next : Progress = callOf s p (c .0) (c .1) false (m .buffers) .progress in
-      let g : First q rows n (pick (takenUp s p (c .0) (c .1)) (c .0) rows₁) (next .present) = behind s p rows₁ (c .0) (c .1) false (m .buffers) (First q rows n) fi (λ _. e .0) in
-      let r = led cs next (pick (takenUp s p (c .0) (c .1)) (c .0) rows₁) (o .feed) (o .memory) f′ b′ (made .stands) g (e .1 .1 .1) in
+      let made : Made s p rows₁ (into q f (m .buffers) (c .rows) (c .present) false) o = e .1 .1 .0 s p rows₁ refl st (λ z. later-of rows₁ (c .rows) (p .present) (c .present) fi (e .0) (call-well s p (c .rows) (c .present) z .2)) in
+      let next : Progress = callOf s p (arrived (c .rows) (c .present)) false (m .buffers) .progress in
+      let g : First q rows n (pick (takenUp s p (c .rows) (c .present)) (c .rows) rows₁) (next .present) = behind s p rows₁ (c .rows) (c .present) false (m .buffers) (First q rows n) fi (λ _. e .0) in
+      let r = led cs next (pick (takenUp s p (c .rows) (c .present)) (c .rows) rows₁) (o .feed) (o .memory) f′ b′ (made .stands) g (e .1 .1 .1) in
       record {
         to = r .to;
         lead = (λ z. record { more = e .0 .0; same = e .0 .1 }, (o .memory, (made .leaves, r .lead)));
@@ -102,7 +102,7 @@ module _ (s : Named) (begins : beginAnswer s ≡ 0) (rows : List ℤ) (n : ℕ) 
         buffers = r .buffers;
       }
 
-  pub as-one-run : Lot s rows n → (a : ℕ) → Allowance (s .allowance) a → (cs : List Call) (f : Feed) (b : Buffers) → Follow q rows n (newFeed (s .largest) a) (s .lent) cs f b
+  pub as-one-run : Lot s rows n → (a : ℕ) → Allowance (s .allowance) a → (cs : List Arrived) (f : Feed) (b : Buffers) → Follow q rows n (newFeed (s .largest) a) (s .lent) cs f b
       → (o : After) → Calls (into q f b rows n true) o → AsOneRun s rows n (o .memory)
   unfolding Calls presentRows
   as-one-run lot a al cs f b follow o call =
@@ -111,7 +111,7 @@ module _ (s : Named) (begins : beginAnswer s ≡ 0) (rows : List ℤ) (n : ℕ) 
       let st : Stands s (k .progress) (r .kept) f b = r .stands in
       let made : Made s (k .progress) (r .kept) (into q f b rows n true) o =
       call s (k .progress) (r .kept) refl st (λ z. later-of (r .kept) rows (k .progress .present) n (r .first) (omega arith, refl) (r .first .0)) in
-      let l : Leaves s (callOf s (k .progress) rows n true (k .memory .buffers) .memory) (o .memory) = subst (λ (x : Buffers). Leaves s (callOf s (k .progress) rows n true x .memory) (o .memory)) (sym (r .buffers)) (made .leaves) in
+      let l : Leaves s (callOf s (k .progress) (arrived rows n) true (k .memory .buffers) .memory) (o .memory) = subst (λ (x : Buffers). Leaves s (callOf s (k .progress) (arrived rows n) true x .memory) (o .memory)) (sym (r .buffers)) (made .leaves) in
       let w : o .memory ≡ lotMemory s rows n true = lots s begins .cutting cs rows n k (o .memory) lot (r .lead) l in
       let one = lots s begins .one-run rows n lot in
       record {

@@ -6,8 +6,7 @@ use mathlib.Core.List.{List, [], _∷_}
 use Prim.Native.Nat.{ℕ, _≤_}
 use lib.IntN.{ℤ}
 use Rattle.rules.specs.Answers.{Buffers, Memory, searchWithin}
-use Rattle.rules.specs.Lots.{Named, presentRows, lotMemory}
-use Rattle.rules.specs.LotDemands.{Call}
+use Rattle.rules.specs.Lots.{Named, presentRows, lotMemory, Arrived}
 use Rattle.lots.specs.declared.Feed.{Feed}
 use Rattle.calls.specs.Calls.{Before, After, Calls}
 
@@ -21,12 +20,12 @@ into q f buffers lot present last = record { feed = f; query = q; rows = lot; pr
 
 -- Calls, of which none is the last, lead from what is kept and the buffers to what is kept and the
 -- buffers then: each finds what the one before left. Any may be refused.
-unfoldable pub Follow : List ℕ → List ℤ → ℕ → Feed → Buffers → List Call → Feed → Buffers → Type 0
+unfoldable pub Follow : List ℕ → List ℤ → ℕ → Feed → Buffers → List Arrived → Feed → Buffers → Type 0
 unfolding presentRows Calls
 Follow q rows n f buffers [] f′ buffers′ = (f ≡ f′) × (buffers ≡ buffers′)
 Follow q rows n f buffers (c ∷ cs) f′ buffers′ =
-    First q rows n (c .0) (c .1)
-    × ((o : After) × (Calls (into q f buffers (c .0) (c .1) false) o × Follow q rows n (o .feed) (o .memory .buffers) cs f′ buffers′))
+    First q rows n (c .rows) (c .present)
+    × ((o : After) × (Calls (into q f buffers (c .rows) (c .present) false) o × Follow q rows n (o .feed) (o .memory .buffers) cs f′ buffers′))
 
 -- what the last call leaves: its result and both report buffers are those of the one run, and notes
 -- and trail are as the definition of the last call says

@@ -19,7 +19,7 @@ use Rattle.rules.specs.Language.{Tree, pattern}
 use Rattle.rules.specs.Places.{Place}
 use Rattle.rules.specs.Readings.{rowSets}
 use Rattle.rules.specs.Preferment.{Reports, finished, unmatched, matched, lost, stopped, setting}
-use Rattle.rules.specs.Search.{Match, End, Skip, labels, shown}
+use Rattle.rules.specs.Search.{Match, End, Skip, labels, shown, standAt}
 use Rattle.rules.specs.Report.{matchNumbers, numbersOf}
 use Rattle.rules.specs.Answers.{Task, taskOf, Buffers, Memory, refusal, walkWithin}
 use Rattle.rules.specs.Entries.{Reported, reportedIn, reportedOne, reportedAll}
@@ -61,7 +61,7 @@ rowOf (x ∷ xs) zero = x .0
 rowOf (x ∷ xs) (suc i) = rowOf xs i
 
 rows-below : {p : Tree pattern} {holds : ℕ → ℕ → Bool} {n : ℕ} {skip : Skip} {room : ℕ → ℕ → List ℕ → Bool} {at m l : ℕ} {ms : List (ℕ × List ℕ)} {end : End (ℕ × List ℕ)}
-    → Reports (setting p (rowSets n holds) skip room) at m l ms end → (i : ℕ) → i < length ms → rowOf ms i < n
+    → Reports (setting p (rowSets n holds) skip room) (standAt at m l) ms end → (i : ℕ) → i < length ms → rowOf ms i < n
 rows-below (finished f) i h = absurd (omega arith)
 rows-below (unmatched lt x r) i h = rows-below r i h
 rows-below (matched lt x b d r) zero h = lt

@@ -17,8 +17,8 @@ use Rattle.rules.specs.Query.{textOf}
 use Rattle.rules.specs.Language.{Tree, pattern, Written}
 use Rattle.rules.specs.Readings.{SomeReading, rowSets}
 use Rattle.rules.specs.Preferment.{Preferred, Reports, setting}
-use Rattle.rules.specs.Search.{Match, done, toNext, shown}
-use Rattle.rules.specs.Report.{fits}
+use Rattle.rules.specs.Search.{Match, done, toNext, shown, standAt}
+use Rattle.rules.specs.Report.{lentRoom, fits}
 use Rattle.rules.specs.Answers.{treeIn, taskOf, letterHolds, Buffers, Memory, walkWithin, searchOf}
 use Rattle.rules.specs.Demands.{Demands}
 use Rattle.laws.proofs.DerivationReadings.{parses-reads, reads-parses}
@@ -49,10 +49,10 @@ module _ (rows : List ℤ) (before : Buffers) (after : Memory) (y : Demands none
   H = letterHolds (taskOf deskQuery rows)
 
   abbrev room : ℕ → ℕ → List ℕ → Bool
-  room = fits (length (before .numbers)) (length (before .labels)) (taskOf deskQuery rows .measures)
+  room = fits (lentRoom (length (before .numbers)) (length (before .labels)) (taskOf deskQuery rows .measures))
 
   abbrev Told : List Match → Type 0
-  Told xs = Reports (setting deskTree (rowSets n H) toNext room) 0 0 0 (shown (taskOf deskQuery rows .places) xs) done
+  Told xs = Reports (setting deskTree (rowSets n H) toNext room) (standAt 0 0 0) (shown (taskOf deskQuery rows .places) xs) done
 
   told-here : Told (walkWithin none deskQuery rows before .matches)
   told-here = told none deskQuery rows before after y z (written-desk (y .tree) (y .written)) refl (ap (λ (t : Table). t .n) (desk-table rows)) (desk-mode rows)

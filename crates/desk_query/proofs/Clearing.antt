@@ -16,7 +16,7 @@ use Rattle.rules.specs.Basics.{everyBelow}
 use Rattle.rules.specs.Language.{Tree, pattern, lower, upper}
 use Rattle.rules.specs.Readings.{Rounds, Reads, SomeReading, rowSets}
 use Rattle.rules.specs.Preferment.{Preferred, NoneParses, Reports, finished, unmatched, matched, setting}
-use Rattle.rules.specs.Search.{done, toNext}
+use Rattle.rules.specs.Search.{done, toNext, standAt}
 use Rattle.rules.specs.Answers.{taskOf, letterHolds}
 use Rattle.laws.proofs.Choice.{and-left, and-right}
 use Rattle.bus_log.specs.Log.{logOf, isEvent, asBefore, someBelow, released, cleared}
@@ -215,7 +215,7 @@ module _ (rows : List ℤ) where
 
 module _ (p : Tree pattern) (holds : ℕ → ℕ → Bool) (n : ℕ) (room : ℕ → ℕ → List ℕ → Bool) where
   -- no match is written: no start has one
-  pub none-written : {k m l : ℕ} → Reports (setting p (rowSets n holds) toNext room) k m l [] done → (i : ℕ) → k ≤ i → i < n → NoneParses (rowSets n holds) p i
+  pub none-written : {k m l : ℕ} → Reports (setting p (rowSets n holds) toNext room) (standAt k m l) [] done → (i : ℕ) → k ≤ i → i < n → NoneParses (rowSets n holds) p i
   none-written (finished f) i h g = absurd (omega arith)
   none-written {k = k} (unmatched lt x r) i h g = go (λ i h g. none-written r i h g) (ltb k i) refl
     where
@@ -224,6 +224,6 @@ module _ (p : Tree pattern) (holds : ℕ → ℕ → Bool) (n : ℕ) (room : ℕ
       go ih false e = let z : i ≡ k = omega (arith, ltb-false k i e) in rw z x
 
   -- a match is written: some start has one
-  pub one-written : {k m l : ℕ} {x : ℕ × List ℕ} {ms : List (ℕ × List ℕ)} → Reports (setting p (rowSets n holds) toNext room) k m l (x ∷ ms) done → (i : ℕ) × (j : ℕ) × (w : List ℕ) × Preferred (rowSets n holds) p i j w
+  pub one-written : {k m l : ℕ} {x : ℕ × List ℕ} {ms : List (ℕ × List ℕ)} → Reports (setting p (rowSets n holds) toNext room) (standAt k m l) (x ∷ ms) done → (i : ℕ) × (j : ℕ) × (w : List ℕ) × Preferred (rowSets n holds) p i j w
   one-written (unmatched lt x r) = one-written r
   one-written (matched {i = i} {j = j} {w = w} lt x b d r) = (i, j, w, x)

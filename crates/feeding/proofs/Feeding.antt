@@ -6,7 +6,7 @@ use mathlib.Core.List.{List}
 use Prim.Native.Nat.{ℕ}
 use lib.IntN.{ℤ}
 use Rattle.rules.specs.Answers.{Buffers, refused}
-use Rattle.rules.specs.Lots.{Named, Progress, callOf, unchanged}
+use Rattle.rules.specs.Lots.{Named, Progress, arrived, callOf, unchanged}
 use Rattle.outcome.specs.Results.{lent}
 use Rattle.calls.specs.declared.Call.{Call}
 use Rattle.calls.specs.declared.Fed.{Fed}
@@ -23,7 +23,7 @@ module _ (c : Call) (q : List ℕ) (rows : List ℤ) (notes trail : List ℕ) (n
 
   -- after the end
   module _ (z : c .feed .answer ≡ 0) (s : Named) (pr : Progress) (rows₁ : List ℤ) (st : Stands s pr rows₁ (c .feed) b) where
-    call-done : callOf s pr rows (c .present) (c .last) b ≡ unchanged pr (refused 21 0 b)
+    call-done : callOf s pr (arrived rows (c .present)) (c .last) b ≡ unchanged pr (refused 21 0 b)
     unfolding callOf
     call-done = rw (done-going s pr rows₁ (c .feed) b st z, done-ended s pr rows₁ (c .feed) b st z) refl
 
@@ -44,7 +44,7 @@ module _ (c : Call) (q : List ℕ) (rows : List ℤ) (notes trail : List ℕ) (n
 
   -- where it has stopped
   module _ (x : c .feed .answer ≡ 23 → ⊥) (y : c .feed .answer ≡ 0 → ⊥) (s : Named) (pr : Progress) (rows₁ : List ℤ) (st : Stands s pr rows₁ (c .feed) b) where
-    call-stopped : callOf s pr rows (c .present) (c .last) b ≡ unchanged pr (record { result = pr .result; buffers = b })
+    call-stopped : callOf s pr (arrived rows (c .present)) (c .last) b ≡ unchanged pr (record { result = pr .result; buffers = b })
     unfolding callOf
     call-stopped = rw (is-stopped s pr rows₁ (c .feed) b st x y) refl
 

@@ -259,8 +259,8 @@ module _ (a : ℕ) where
   WithinBy outOfRows s = s ≤ a
 
   abbrev pub Within : Outcome → Type 0
-  Within (found p kept) = (kept .steps) ≤ a
-  Within (failed kept) = (kept .steps) ≤ a
+  Within (found p kept) = kept .steps ≤ a
+  Within (failed kept) = kept .steps ≤ a
   Within (halted w p kept) = WithinBy w (kept .steps)
 
   abbrev pub EndWithin : End Match → ℕ → Type 0

@@ -14,7 +14,7 @@ use Rattle.rules.specs.Rows.{Table}
 use Rattle.rules.specs.Query.{Measure}
 use Rattle.rules.specs.Places.{Place}
 use Rattle.rules.specs.Search.{Match, labels}
-use Rattle.rules.specs.Report.{matchNumbers, numbersOf, labelsOf, fits}
+use Rattle.rules.specs.Report.{matchNumbers, numbersOf, labelsOf, lentRoom, fits}
 use Rattle.laws.proofs.Level.{and-true}
 use Rattle.laws.proofs.Limits.{numbers-long}
 
@@ -71,7 +71,7 @@ labels-on pl (y ∷ xs) x = ap (λ (v : List ℕ). labels pl (y .path) ++ v) (la
 
 -- where a match fits whole, there is room for its numbers behind those of the matches before it,
 -- and for its labels
-pub fits-room : (nums labs : ℕ) (ms : List Measure) (m l : ℕ) (ls : List ℕ) → fits nums labs ms m l ls ≡ true
+pub fits-room : (nums labs : ℕ) (ms : List Measure) (m l : ℕ) (ls : List ℕ) → fits (lentRoom nums labs ms) m l ls ≡ true
     → (m * (3 + 2 * length ms) + (3 + 2 * length ms) ≤ nums) × (l + length ls ≤ labs)
 unfolding fits
 fits-room nums labs ms m l ls e =

@@ -16,8 +16,8 @@ use Rattle.rules.specs.Places.{Place, unroll, places, placesOf, size, factorOf,
 use Rattle.rules.specs.Readings.{SomeReading, rowSets}
 use Rattle.rules.specs.Walk.{outOfSteps, outOfRows, IsOpen, pairs, firstAt, pairWays, Kept}
 use Rattle.rules.specs.Preferment.{Preferred, Reports, setting}
-use Rattle.rules.specs.Search.{Match, End, done, full, stuck, unfinished, Finished, openOf, Skip, pastLast, Swept, Terms, within, whole, walkSearch, plainSearch, labels, endOf, plainFrom, shownOne, shown, shownEnd, seek}
-use Rattle.rules.specs.Report.{numbersOf, labelsOf, fits, bytesFor, bitAt, notesOf, zeros}
+use Rattle.rules.specs.Search.{Match, End, done, full, stuck, unfinished, Finished, openOf, Skip, pastLast, Swept, Terms, within, whole, walkSearch, plainSearch, labels, endOf, plainFrom, shownOne, shown, shownEnd, seek, standAt}
+use Rattle.rules.specs.Report.{numbersOf, labelsOf, lentRoom, fits, bytesFor, bitAt, notesOf, zeros}
 use Rattle.rules.specs.Answers.{treeIn, Task, taskOf, letterHolds, walkedOn, backtracked, Buffers, Memory, refusal, haltAnswer, endAnswer, answerBy, answerWithin, reportOf, walkWithin, plainOf, reportWithin, plainReport, accepted, searchWithin, searchOf, P, F}
 use Rattle.rules.specs.Entries.{reportedIn, reportedOne, reportedAll}
 use Rattle.rules.specs.Demands.{reportIn, Demand2, Demand3, Demands, Allowing}
@@ -56,7 +56,7 @@ module _ (p : Tree pattern) (o : Bounds p) (pl : List Place) (e : pl ≡ places 
   matches-preferred = rw e (found-is-greatest p o holds n)
 
   matches-reported : (skip : Skip) (room : ℕ → ℕ → List ℕ → Bool)
-      → Reports (setting p (rowSets n holds) skip room) 0 0 0 (shown pl (plainSearch (seek holds n pl skip room) .matches)) (shownEnd pl (plainSearch (seek holds n pl skip room) .end))
+      → Reports (setting p (rowSets n holds) skip room) (standAt 0 0 0) (shown pl (plainSearch (seek holds n pl skip room) .matches)) (shownEnd pl (plainSearch (seek holds n pl skip room) .end))
   matches-reported = rw e (plain-reports p o holds n)
 
 -- what is shown of the first of the matches is the first of what is shown
@@ -78,7 +78,7 @@ module _ (p : Tree pattern) (t : Task) (e : t .places ≡ places (unroll p)) (nu
   unfolding walkedOn backtracked
   task-follows =
       rw e
-      (let f = search-follows (unroll p) (letterHolds t) (t .table .n) terms le (t .skip) (fits nums labs (t .measures)) in
+      (let f = search-follows (unroll p) (letterHolds t) (t .table .n) terms le (t .skip) (fits (lentRoom nums labs (t .measures))) in
       (f .whole, f .begins))
 
   pub second : Bounds p → Demand2 p t nums labs (walkedOn terms t nums labs)
@@ -86,7 +86,7 @@ module _ (p : Tree pattern) (t : Task) (e : t .places ≡ places (unroll p)) (nu
   second o =
       let h = letterHolds t in
       let n = t .table .n in
-      let r = fits nums labs (t .measures) in
+      let r = fits (lentRoom nums labs (t .measures)) in
       let told = matches-reported p o (t .places) e h n (t .skip) r in
       let unlimited = plainSearch (seek h n (t .places) (t .skip) (λ m l w. true)) in
       let told-unlimited = matches-reported p o (t .places) e h n (t .skip) (λ m l w. true) in
@@ -122,7 +122,7 @@ module _ (p : Tree pattern) (holds : ℕ → ℕ → Bool) (n : ℕ) where
 task-out : (p : Tree pattern) (t : Task) (e : t .places ≡ places (unroll p)) (nums labs : ℕ) (terms : Terms) → t .table .n ≤ terms .largest
     → All (Out (walkedOn terms t nums labs .state .failed)) (openOf (walkedOn terms t nums labs .end))
 unfolding walkedOn
-task-out p t e nums labs terms le = rw e (search-out (unroll p) (letterHolds t) (t .table .n) terms le (t .skip) (fits nums labs (t .measures)))
+task-out p t e nums labs terms le = rw e (search-out (unroll p) (letterHolds t) (t .table .n) terms le (t .skip) (fits (lentRoom nums labs (t .measures))))
 
 -- the same for a task whose places are those of the pattern
 pub third : (p : Tree pattern) (t : Task) (e : t .places ≡ places (unroll p)) (nums labs : ℕ) (terms : Terms) → t .table .n ≤ terms .largest
@@ -131,7 +131,7 @@ unfolding walkedOn backtracked
 third p t e nums labs terms le =
     let h = letterHolds t in
     let n = t .table .n in
-    let r = fits nums labs (t .measures) in
+    let r = fits (lentRoom nums labs (t .measures)) in
     record {
       bound = rw e (bounded p h n terms le (t .skip) r);
       bound-each = rw e (search-each (unroll p) (t .skip) r h n terms le);
@@ -176,13 +176,13 @@ pub flags-unused : (p : Tree pattern) → Bounds p → (t : Task) → t .places 
 unfolding walkedOn factorOf
 flags-unused p o t e nums labs terms x h =
     let s : suc (size (unroll p)) ≡ placesOf p = omega (arith, unroll-size p) in
-    let h′ : getD (walkSearch terms (seek (letterHolds t) (t .table .n) (places (unroll p)) (t .skip) (fits nums labs (t .measures))) .state .failed) x false ≡ true = rw e at h in
-    rw (← nest-counted p o, ← s) (unused-zero (unroll p) terms (letterHolds t) (t .table .n) (t .skip) (fits nums labs (t .measures)) x h′)
+    let h′ : getD (walkSearch terms (seek (letterHolds t) (t .table .n) (places (unroll p)) (t .skip) (fits (lentRoom nums labs (t .measures)))) .state .failed) x false ≡ true = rw e at h in
+    rw (← nest-counted p o, ← s) (unused-zero (unroll p) terms (letterHolds t) (t .table .n) (t .skip) (fits (lentRoom nums labs (t .measures))) x h′)
 
 -- document 01's search of a pattern does not halt
 task-finished : (p : Tree pattern) (t : Task) (e : t .places ≡ places (unroll p)) (nums labs : ℕ) → Finished (walkedOn (whole (t .table .n)) t nums labs .end)
 unfolding walkedOn
-task-finished p t e nums labs = rw e (walk-finished (unroll p) (letterHolds t) (t .table .n) (t .skip) (fits nums labs (t .measures)))
+task-finished p t e nums labs = rw e (walk-finished (unroll p) (letterHolds t) (t .table .n) (t .skip) (fits (lentRoom nums labs (t .measures))))
 
 -- a search that has halted for steps has the answer 16
 halted-16 : (e : End Match) → EndNoWait e → (endAnswer e ≡ 16 → ⊥) → Finished e
@@ -332,19 +332,19 @@ demands a q rows lent after e ok = rw (e, search-accepted a q rows lent ok) (dem
 module _ (p : Tree pattern) (t : Task) (e : t .places ≡ places (unroll p)) (nums labs : ℕ) where
   task-larger : (a b : ℕ) → a ≤ b → Begins (walkedOn (within (some a) (t .table .n)) t nums labs .matches) (walkedOn (within (some b) (t .table .n)) t nums labs .matches)
   unfolding walkedOn
-  task-larger a b h = rw e (allows-begins (unroll p) (t .skip) (fits nums labs (t .measures)) (letterHolds t) (t .table .n) (some a) (some b) h)
+  task-larger a b h = rw e (allows-begins (unroll p) (t .skip) (fits (lentRoom nums labs (t .measures))) (letterHolds t) (t .table .n) (some a) (some b) h)
 
   task-done : (a : ℕ) → Finished (walkedOn (within (some a) (t .table .n)) t nums labs .end) → walkedOn (within (some a) (t .table .n)) t nums labs ≡ walkedOn (whole (t .table .n)) t nums labs
   unfolding walkedOn
-  task-done a = rw e (λ f. sym (finished-whole (unroll p) (t .skip) (fits nums labs (t .measures)) (letterHolds t) (t .table .n) (some a) f))
+  task-done a = rw e (λ f. sym (finished-whole (unroll p) (t .skip) (fits (lentRoom nums labs (t .measures))) (letterHolds t) (t .table .n) (some a) f))
 
   task-unpassed : (a : ℕ) → walkedOn (whole (t .table .n)) t nums labs .state .steps ≤ a → walkedOn (within (some a) (t .table .n)) t nums labs ≡ walkedOn (whole (t .table .n)) t nums labs
   unfolding walkedOn
-  task-unpassed a = rw e (search-allowed (unroll p) (t .skip) (fits nums labs (t .measures)) (letterHolds t) (t .table .n) a)
+  task-unpassed a = rw e (search-allowed (unroll p) (t .skip) (fits (lentRoom nums labs (t .measures))) (letterHolds t) (t .table .n) a)
 
   task-enough : t .skip ≡ pastLast → (a : ℕ) → 2 * pairs (length (t .places)) (t .table .n) ≤ a → walkedOn (within (some a) (t .table .n)) t nums labs ≡ walkedOn (whole (t .table .n)) t nums labs
   unfolding walkedOn
-  task-enough s a = rw (s, e) (allowance-enough (unroll p) (fits nums labs (t .measures)) (letterHolds t) (t .table .n) a)
+  task-enough s a = rw (s, e) (allowance-enough (unroll p) (fits (lentRoom nums labs (t .measures))) (letterHolds t) (t .table .n) a)
 
 -- a search within an allowance leaves what the walk does
 walk-decides : (a b : Option ℕ) (q : List ℕ) (rows : List ℤ) (lent : Buffers) → walkWithin a q rows lent ≡ walkWithin b q rows lent → searchWithin a q rows lent ≡ searchWithin b q rows lent
@@ -361,7 +361,7 @@ allowing q rows lent ok =
     let nums = length (lent .numbers) in
     let labs = length (lent .labels) in
     let to : (a : ℕ) → EndWithin a (walkWithin (some a) q rows lent .end) (walkWithin (some a) q rows lent .state .steps) =
-    λ a. search-within a (t .table .n) false (letterHolds t) (t .table .n) (t .places) (t .skip) (fits nums labs (t .measures)) in
+    λ a. search-within a (t .table .n) false (letterHolds t) (t .table .n) (t .places) (t .skip) (fits (lentRoom nums labs (t .measures))) in
     record {
       kept-to = λ a. end-within a (walkWithin (some a) q rows lent .end) (walkWithin (some a) q rows lent .state .steps) (to a);
       used-up = λ a i p d. rw d at (to a);

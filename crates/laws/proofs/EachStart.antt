@@ -22,9 +22,9 @@ use Rattle.rules.specs.Working.{All, Falls, In, Out}
 -- ---- what fails in an attempt lies where its pairs lie
 
 abbrev noted : Outcome → List Bool
-noted (found p kept) = (kept .failed)
-noted (failed kept) = (kept .failed)
-noted (halted w p kept) = (kept .failed)
+noted (found p kept) = kept .failed
+noted (failed kept) = kept .failed
+noted (halted w p kept) = kept .failed
 
 abbrev pub Closed : (ℕ → Ways) → (ℕ → Type 0) → Type 0
 Closed ways Q = (x : ℕ) (ys : List ℕ) → ways x ≡ try ys → Q x → All Q ys
@@ -130,9 +130,9 @@ front-same a F G l k n = ap countTrue (take-same a G F l (λ z h. go z h (getD F
     go z h false e false d = d ∙ sym e
 
 abbrev stepsOf : Outcome → ℕ
-stepsOf (found p kept) = (kept .steps)
-stepsOf (failed kept) = (kept .steps)
-stepsOf (halted w p kept) = (kept .steps)
+stepsOf (found p kept) = kept .steps
+stepsOf (failed kept) = kept .steps
+stepsOf (halted w p kept) = kept .steps
 
 module _ (h : Halting) (calm : Unhalting h) (ways : ℕ → Ways) (ρ : ℕ → ℕ) (N : ℕ) (falls : Falls ways ρ N) (K : ℕ) (top : (x : ℕ) → ρ x < K) where
   pub attempt-bound : (a : ℕ) → Closed ways (λ z. a ≤ z) → (F : List Bool) (s x : ℕ) → length F ≡ N → Sound ways K F → Out F x → x < N → a ≤ x

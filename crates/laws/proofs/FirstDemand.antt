@@ -18,7 +18,7 @@ use Rattle.rules.specs.Language.{Tree, pattern, Written, WrongAt, BeginsText}
 use Rattle.rules.specs.Walk.{outOfSteps, outOfRows}
 use Rattle.rules.specs.Search.{Match, End, done, full, stuck, unfinished}
 use Rattle.rules.specs.Reader.{treeOf}
-use Rattle.rules.specs.Report.{fits}
+use Rattle.rules.specs.Report.{lentRoom, fits}
 use Rattle.rules.specs.Answers.{tooDeep, treeIn, noTree, nestedLoops, tooMany, foreign, wrong, incomplete, offsetAt, badRows, taskOf, letterHolds, walkedOn, Buffers, shortNotes, shortTrail, Memory, firstOf, queryTests, refusal, refuses, haltAnswer, endAnswer, answerBy, walkWithin, answerWithin, reportWithin, reportOf, refused, accepted, searchWithin}
 use Rattle.rules.specs.Demands.{Accepts, Demand1}
 use Rattle.laws.proofs.Accepted.{answer-within, unrefused, tree-of}
@@ -59,7 +59,7 @@ module _ (a : Option ℕ) (q : List ℕ) (rows : List ℤ) (lent : Buffers) wher
   unfolding walkWithin walkedOn
   no-waiting =
       search-no-wait (taskOf q rows .table .n) a (letterHolds (taskOf q rows)) (taskOf q rows .table .n) (taskOf q rows .places) (taskOf q rows .skip)
-      (fits (length (lent .numbers)) (length (lent .labels)) (taskOf q rows .measures))
+      (fits (lentRoom (length (lent .numbers)) (length (lent .labels)) (taskOf q rows .measures)))
 
   -- where no test of a refusal is true the answer accepts, and where it accepts none is
   pub accepts-when : refusal q rows lent ≡ 0 → Accepts (answerWithin a q rows lent)

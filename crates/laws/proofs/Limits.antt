@@ -18,7 +18,7 @@ use Rattle.rules.specs.Query.{Measure, columnsOf, parts, textOf}
 use Rattle.rules.specs.Places.{Place, unroll, places, placesOf, factorOf}
 use Rattle.rules.specs.Walk.{pairs, firstAt, pairWays, Kept, asKept}
 use Rattle.rules.specs.Search.{Match, Skip, Attempted, hit, miss, halts, Swept, Plan, labels, ended, noStart, below, onAnswer, sweep, Terms, within, haltingOf, planOf, walkAt, walkSearch, Standing, onMatch, standAt}
-use Rattle.rules.specs.Report.{measureNumbers, matchNumbers, numbersOf, labelsOf, fits, twoOf, measured, notesOf}
+use Rattle.rules.specs.Report.{measureNumbers, matchNumbers, numbersOf, labelsOf, lentRoom, fits, twoOf, measured, notesOf}
 use Rattle.rules.specs.Answers.{Task, taskOf, walkedOn, Buffers, walkWithin, letterHolds, refusal, treeIn, P, F}
 use Rattle.rules.specs.Language.{Tree, pattern, loopNesting}
 use Rattle.laws.proofs.Accepted.{granted-when, places-are}
@@ -85,7 +85,7 @@ pub record Fitting (nums labs : ℕ) (ms : List Measure) (pl : List Place) (m l 
 
 module _ {S : Type 0} (att : ℕ → S → Attempted × S) (pl : List Place) (n : ℕ) (more : Bool) (skip : Skip) (nums labs : ℕ) (ms : List Measure) where
   abbrev plan : Plan
-  plan = planOf pl n more skip (fits nums labs ms)
+  plan = planOf pl n more skip (fits (lentRoom nums labs ms))
 
   abbrev FitsOn : (Standing → S → Swept S) → Type 0
   FitsOn f = (i m l : ℕ) (st : S) → m * (3 + 2 * length ms) ≤ nums → l ≤ labs → Fitting nums labs ms pl m l (f (standAt i m l) st .matches)
@@ -95,13 +95,13 @@ module _ {S : Type 0} (att : ℕ → S → Attempted × S) (pl : List Place) (n 
   no-match m l a b = record { numbers = let e : m + 0 ≡ m = omega arith in rw e a; labels = omega arith }
 
   fit-on : (f : Standing → S → Swept S) → FitsOn f → (i m l : ℕ) (p : List ℕ) (st : S) → m * (3 + 2 * length ms) ≤ nums → l ≤ labs
-      → (o : Option ℕ) (t : Bool) → fits nums labs ms m l (labels pl p) ≡ t
+      → (o : Option ℕ) (t : Bool) → fits (lentRoom nums labs ms) m l (labels pl p) ≡ t
       → Fitting nums labs ms pl m l (onMatch t o (record { start = i; path = p }) st (λ j. f (standAt j (suc m) (l + length (labels pl p))) st) .matches)
   unfolding labelsOf fits
   fit-on f ih i m l p st a b o false e = no-match m l a b
   fit-on f ih i m l p st a b o true e = further (fits-both e) o
     where
-      fits-both : fits nums labs ms m l (labels pl p) ≡ true → (suc m * (3 + 2 * length ms) ≤ nums) × (l + length (labels pl p) ≤ labs)
+      fits-both : fits (lentRoom nums labs ms) m l (labels pl p) ≡ true → (suc m * (3 + 2 * length ms) ≤ nums) × (l + length (labels pl p) ≤ labs)
       fits-both e = let c = and-true _ _ e in (leb-true _ _ (c .0), leb-true _ _ (c .1))
 
       behind : (xs : List Match) → Fitting nums labs ms pl (suc m) (l + length (labels pl p)) xs → Fitting nums labs ms pl m l (record { start = i; path = p } ∷ xs)
@@ -119,7 +119,7 @@ module _ {S : Type 0} (att : ℕ → S → Attempted × S) (pl : List Place) (n 
   unfolding planOf
   answer-on f ih i m l miss st a b = ih (suc i) m l st a b
   answer-on f ih i m l (halts w p) st a b = no-match m l a b
-  answer-on f ih i m l (hit p) st a b = fit-on f ih i m l p st a b (plan .next i p) (fits nums labs ms m l (labels pl p)) refl
+  answer-on f ih i m l (hit p) st a b = fit-on f ih i m l p st a b (plan .next i p) (fits (lentRoom nums labs ms) m l (labels pl p)) refl
 
   pub sweep-fits : (k : ℕ) → FitsOn (sweep att plan k)
   unfolding sweep planOf
@@ -169,16 +169,16 @@ module _ (terms : Terms) (t : Task) (nums labs : ℕ) where
 
   pub written-few : length (walkedOn terms t nums labs .matches) ≤ t .table .n
   unfolding walkedOn walkSearch
-  written-few = sweep-few attempt (planOf (t .places) (t .table .n) (terms .more) (t .skip) (fits nums labs (t .measures))) (t .table .n) 0 0 0 (asKept (replicate N false) 0)
+  written-few = sweep-few attempt (planOf (t .places) (t .table .n) (terms .more) (t .skip) (fits (lentRoom nums labs (t .measures)))) (t .table .n) 0 0 0 (asKept (replicate N false) 0)
 
   module _ (p : Tree pattern) (e : t .places ≡ places (unroll p)) (le : t .table .n ≤ terms .largest) where
     pub kept-all : length (walkedOn terms t nums labs .state .failed) ≡ N
     unfolding walkedOn
-    kept-all = rw e (search-kept (unroll p) (letterHolds t) (t .table .n) terms le (t .skip) (fits nums labs (t .measures)))
+    kept-all = rw e (search-kept (unroll p) (letterHolds t) (t .table .n) terms le (t .skip) (fits (lentRoom nums labs (t .measures))))
 
     pub cost-all : 2 * walkedOn terms t nums labs .state .steps ≤ length (t .places) * (t .table .n * (t .table .n + 3))
     unfolding walkedOn
-    cost-all = rw e (search-each (unroll p) (t .skip) (fits nums labs (t .measures)) (letterHolds t) (t .table .n) terms le)
+    cost-all = rw e (search-each (unroll p) (t .skip) (fits (lentRoom nums labs (t .measures))) (letterHolds t) (t .table .n) terms le)
 
 few-factor : (p : Tree pattern) → loopNesting p ≤ 3 → factorOf p ≤ 8
 unfolding factorOf

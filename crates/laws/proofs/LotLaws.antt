@@ -17,11 +17,11 @@ use Rattle.rules.specs.Language.{Tree, pattern, Written}
 use Rattle.rules.specs.Places.{Place, pFork, unroll, places}
 use Rattle.rules.specs.Walk.{outOfSteps, outOfRows, pairs, firstAt, pairWays, Kept}
 use Rattle.rules.specs.Search.{Match, End, done, full, stuck, unfinished, Finished, Skip, Swept, labels, Terms, within, haltingOf, planOf, walkSearch, seek}
-use Rattle.rules.specs.Report.{numbersOf, labelsOf, matchNumbers, fits, bytesFor, bitAt, notesOf}
+use Rattle.rules.specs.Report.{numbersOf, labelsOf, matchNumbers, lentRoom, fits, bytesFor, bitAt, notesOf}
 use Rattle.rules.specs.Answers.{treeIn, offsetAt, Task, taskOf, letterHolds, walkedOn, Buffers, haltAnswer, endAnswer, Report, reportOf, Result, Memory, refused, accepted, walkWithin, reportWithin, searchWithin}
 use Rattle.rules.specs.Working.{thinned}
-use Rattle.rules.specs.Lots.{presentRows, Named, Progress, settles, beginAnswer, callRefusal, presentTask, lotTerms, lotWalk, lotMemory, stays, Called, callOf, Leaves}
-use Rattle.rules.specs.LotDemands.{Lot, Later, LotDemands, Adds, OneRun, Call, start, Lead, Lots}
+use Rattle.rules.specs.Lots.{presentRows, Named, Progress, settles, beginAnswer, callRefusal, presentTask, lotTerms, lotWalk, lotMemory, stays, Called, Arrived, arrived, callOf, Leaves}
+use Rattle.rules.specs.LotDemands.{Lot, Later, LotDemands, Adds, OneRun, start, Lead, Lots}
 use Rattle.laws.proofs.Accepted.{Granted, places-are, answer-within}
 use Rattle.laws.proofs.Allowed.{search-goes, goes-begins, goes-keeps, EndWithin, end-within, search-within}
 use Rattle.laws.proofs.Bounds.{written-bounds}
@@ -181,32 +181,32 @@ module _ (s : Named) (ok : Begins-well s) where
     unfolding lotWalk walkedOn
     finished-in last a b =
         let d = search-padded (unroll (given .tree)) (letterHolds t) (t .table .n) (record { largest = s .largest; more = false; allowance = none }) few-rows (t .skip)
-        (fits nums labs (t .measures)) in
-        rw (a, b, places-in, d) (walk-finished (unroll (given .tree)) (letterHolds t) (t .table .n) (t .skip) (fits nums labs (t .measures)))
+        (fits (lentRoom nums labs (t .measures))) in
+        rw (a, b, places-in, d) (walk-finished (unroll (given .tree)) (letterHolds t) (t .table .n) (t .skip) (fits (lentRoom nums labs (t .measures))))
 
     not-done-in : (last : Bool) → last ≡ false → lotWalk s rows present last .end ≡ done → ⊥
     unfolding lotWalk walkedOn
     not-done-in last a =
-        rw a (not-done-end (lotWalk s rows present false .end) (search-not-done (s .largest) (s .allowance) (letterHolds t) (t .table .n) (t .places) (t .skip) (fits nums labs (t .measures))))
+        rw a (not-done-end (lotWalk s rows present false .end) (search-not-done (s .largest) (s .allowance) (letterHolds t) (t .table .n) (t .places) (t .skip) (fits (lentRoom nums labs (t .measures)))))
 
     pub no-wait-in : (last : Bool) → last ≡ true → (i : ℕ) (p : List ℕ) → lotWalk s rows present last .end ≡ unfinished outOfRows i p → ⊥
     unfolding lotWalk walkedOn
     no-wait-in last a =
-        rw a (no-rows-end (lotWalk s rows present true .end) (search-no-wait (s .largest) (s .allowance) (letterHolds t) (t .table .n) (t .places) (t .skip) (fits nums labs (t .measures))))
+        rw a (no-rows-end (lotWalk s rows present true .end) (search-no-wait (s .largest) (s .allowance) (letterHolds t) (t .table .n) (t .places) (t .skip) (fits (lentRoom nums labs (t .measures)))))
 
     within-in : (last : Bool) (a : ℕ) → s .allowance ≡ some a → EndWithin a (lotWalk s rows present last .end) (lotWalk s rows present last .state .steps)
     unfolding lotWalk walkedOn
-    within-in last a e = rw e (search-within a (s .largest) (not last) (letterHolds t) (t .table .n) (t .places) (t .skip) (fits nums labs (t .measures)))
+    within-in last a e = rw e (search-within a (s .largest) (not last) (letterHolds t) (t .table .n) (t .places) (t .skip) (fits (lentRoom nums labs (t .measures))))
 
     -- the search over the same places with each way of a fork once
     abbrev pub thinWalk : Bool → Swept Kept
-    thinWalk last = walkSearch (lotTerms s last) (seek (letterHolds t) (t .table .n) (thinned (t .places)) (t .skip) (fits nums labs (t .measures)))
+    thinWalk last = walkSearch (lotTerms s last) (seek (letterHolds t) (t .table .n) (thinned (t .places)) (t .skip) (fits (lentRoom nums labs (t .measures))))
 
     pub lot-thin : (last : Bool) → lotWalk s rows present last ≡ thinWalk last
     unfolding lotWalk walkedOn
     lot-thin last =
         rw places-in
-        (sym (walk-thin (unroll (given .tree)) (letterHolds t) (t .table .n) (lotTerms s last) few-rows (t .skip) (fits nums labs (t .measures))))
+        (sym (walk-thin (unroll (given .tree)) (letterHolds t) (t .table .n) (lotTerms s last) few-rows (t .skip) (fits (lentRoom nums labs (t .measures)))))
 
     lot-demands : (last : Bool) → LotDemands s rows present last
     unfolding lotWalk presentTask treeIn
@@ -271,27 +271,27 @@ module _ (s : Named) (ok : Begins-well s) where
         → Begins (lotWalk s rows₁ n₁ false .matches) (lotWalk s rows₂ n₂ last .matches) × Keeps (lotWalk s rows₁ n₁ false .state) (lotWalk s rows₂ n₂ last .state)
     unfolding lotWalk walkedOn presentTask taskOf
     walks last =
-        later-adds tree (t₁ .places) e₁ (t₁ .skip) (fits nums labs (t₁ .measures)) (letterHolds t₁) (letterHolds t₂) (t₁ .table .n) (t₂ .table .n) (s .largest) (s .allowance) (not last) more-rows few₂
+        later-adds tree (t₁ .places) e₁ (t₁ .skip) (fits (lentRoom nums labs (t₁ .measures))) (letterHolds t₁) (letterHolds t₂) (t₁ .table .n) (t₂ .table .n) (s .largest) (s .allowance) (not last) more-rows few₂
         (sooner last)
 
     -- a later call's search goes on from where the earlier one waits, with its start, open pairs,
     -- failed pairs and steps
     pub lot-goes : (last : Bool) → lotWalk s rows₂ n₂ last
         ≡ andThen (haltingOf (lotTerms s last) (t₂ .places) (t₂ .table .n)) (pairWays (letterHolds t₂) (t₂ .table .n) (t₂ .places)) (pairs (length (t₂ .places)) (s .largest)) (firstAt (length (t₂ .places)))
-        (planOf (t₂ .places) (t₂ .table .n) (not last) (t₂ .skip) (fits nums labs (t₂ .measures))) 0 0 (lotWalk s rows₁ n₁ false)
+        (planOf (t₂ .places) (t₂ .table .n) (not last) (t₂ .skip) (fits (lentRoom nums labs (t₂ .measures)))) 0 0 (lotWalk s rows₁ n₁ false)
     unfolding lotWalk walkedOn presentTask taskOf
     lot-goes last =
-        later-goes tree (t₁ .places) e₁ (t₁ .skip) (fits nums labs (t₁ .measures)) (letterHolds t₁) (letterHolds t₂) (t₁ .table .n) (t₂ .table .n) (s .largest) (s .allowance) (not last) more-rows few₂
+        later-goes tree (t₁ .places) e₁ (t₁ .skip) (fits (lentRoom nums labs (t₁ .measures))) (letterHolds t₁) (letterHolds t₂) (t₁ .table .n) (t₂ .table .n) (s .largest) (s .allowance) (not last) more-rows few₂
         (sooner last)
 
     -- the same over places with each way of a fork once
     pub lot-thin-goes : (last : Bool) → thinWalk rows₂ n₂ lot₂ last
         ≡ andThen (haltingOf (lotTerms s last) (thinned (t₂ .places)) (t₂ .table .n)) (pairWays (letterHolds t₂) (t₂ .table .n) (thinned (t₂ .places)))
         (pairs (length (thinned (t₂ .places))) (s .largest)) (firstAt (length (thinned (t₂ .places))))
-        (planOf (thinned (t₂ .places)) (t₂ .table .n) (not last) (t₂ .skip) (fits nums labs (t₂ .measures))) 0 0 (thinWalk rows₁ n₁ lot₁ false)
+        (planOf (thinned (t₂ .places)) (t₂ .table .n) (not last) (t₂ .skip) (fits (lentRoom nums labs (t₂ .measures)))) 0 0 (thinWalk rows₁ n₁ lot₁ false)
     unfolding presentTask taskOf
     lot-thin-goes last =
-        later-thin-goes tree (t₁ .places) e₁ (t₁ .skip) (fits nums labs (t₁ .measures)) (letterHolds t₁) (letterHolds t₂) (t₁ .table .n) (t₂ .table .n) (s .largest) (s .allowance) (not last) more-rows few₂
+        later-thin-goes tree (t₁ .places) e₁ (t₁ .skip) (fits (lentRoom nums labs (t₁ .measures))) (letterHolds t₁) (letterHolds t₂) (t₁ .table .n) (t₂ .table .n) (s .largest) (s .allowance) (not last) more-rows few₂
         (sooner last)
 
     -- the numbers of the matches so far are the same on the rows that are present later
@@ -300,7 +300,7 @@ module _ (s : Named) (ok : Begins-well s) where
     numbers-kept =
         let ext = task-extends s ok rows₁ rows₂ n₁ n₂ lot₁ lot₂ later in
         numbers-same (t₁ .table) (t₂ .table) ext (t₁ .measures) (t₁ .places) 0 (lotWalk s rows₁ n₁ false .matches) (measures-fit q (fitting s ok))
-        (matches-in tree (t₁ .table) (t₂ .table) ext (letterHolds t₁) (t₁ .places) e₁ (lotTerms s false) (few-rows rows₁ n₁ lot₁) (t₁ .skip) (fits nums labs (t₁ .measures)))
+        (matches-in tree (t₁ .table) (t₂ .table) ext (letterHolds t₁) (t₁ .places) e₁ (lotTerms s false) (few-rows rows₁ n₁ lot₁) (t₁ .skip) (fits (lentRoom nums labs (t₁ .measures))))
 
     numbers-begin : (xs ys : List Match) → Begins xs ys → numbersOf (t₁ .table) (t₁ .measures) (t₁ .places) 0 xs ≡ numbersOf (t₂ .table) (t₁ .measures) (t₁ .places) 0 xs
         → Begins (numbersOf (t₁ .table) (t₁ .measures) (t₁ .places) 0 xs) (numbersOf (t₂ .table) (t₁ .measures) (t₁ .places) 0 ys)
@@ -329,7 +329,7 @@ module _ (s : Named) (ok : Begins-well s) where
     walk-stays : (last : Bool) → stays (endAnswer (lotWalk s rows₁ n₁ false .end)) ≡ true → lotWalk s rows₂ n₂ last ≡ lotWalk s rows₁ n₁ false
     unfolding lotWalk walkedOn presentTask taskOf
     walk-stays last h =
-        later-stays tree (t₁ .places) e₁ (t₁ .skip) (fits nums labs (t₁ .measures)) (letterHolds t₁) (letterHolds t₂) (t₁ .table .n) (t₂ .table .n) (s .largest) (s .allowance) (not last) more-rows few₂
+        later-stays tree (t₁ .places) e₁ (t₁ .skip) (fits (lentRoom nums labs (t₁ .measures))) (letterHolds t₁) (letterHolds t₂) (t₁ .table .n) (t₂ .table .n) (s .largest) (s .allowance) (not last) more-rows few₂
         (sooner last) (settled-end (lotWalk s rows₁ n₁ false .end) h)
 
     report-kept : (a : ℕ) → reportOf a t₂ (s .lent) (lotWalk s rows₁ n₁ false) ≡ reportOf a t₁ (s .lent) (lotWalk s rows₁ n₁ false)
@@ -370,7 +370,7 @@ module _ (s : Named) (ok : Begins-well s) where
 
     padded-run : lotWalk s rows present true ≡ padded gap once
     unfolding lotWalk walkWithin walkedOn presentTask
-    padded-run = padded-pattern (task .places) (places-in rows present lot) (task .skip) (fits nums labs (task .measures))
+    padded-run = padded-pattern (task .places) (places-in rows present lot) (task .skip) (fits (lentRoom nums labs (task .measures)))
 
     -- what is returned and reported depends on the matches, the end and the steps alone
     run-memory : lotMemory s rows present true .result ≡ searchWithin (s .allowance) q (presentRows q rows present) (s .lent) .result
@@ -419,12 +419,12 @@ module _ (s : Named) (ok : Begins-well s) where
     few : k .progress .present ≤ present
     stopped : stays (k .progress .result .answer) ≡ true → _≡_ {A = Memory} (record { result = k .progress .result; buffers = k .memory .buffers }) (lotMemory s rows present true)
 
-  kept-on : (rows : List ℤ) (present : ℕ) → Lot s rows present → (k : Called) → Kept-to rows present k → (c : Call)
-      → (callRefusal s (k .progress) (c .0) (c .1) ≡ 0 → Later s (c .0) rows (c .1) present)
-      → (got : Memory) → Leaves s (callOf s (k .progress) (c .0) (c .1) false (k .memory .buffers) .memory) got
-      → Kept-to rows present (record { progress = callOf s (k .progress) (c .0) (c .1) false (k .memory .buffers) .progress; memory = got })
+  kept-on : (rows : List ℤ) (present : ℕ) → Lot s rows present → (k : Called) → Kept-to rows present k → (c : Arrived)
+      → (callRefusal s (k .progress) (c .rows) (c .present) ≡ 0 → Later s (c .rows) rows (c .present) present)
+      → (got : Memory) → Leaves s (callOf s (k .progress) c false (k .memory .buffers) .memory) got
+      → Kept-to rows present (record { progress = callOf s (k .progress) c false (k .memory .buffers) .progress; memory = got })
   unfolding callOf refused
-  kept-on rows present lot k h c later got = go (stays (p .result .answer)) refl (p .ended) (h .going) (eqb (callRefusal s p (c .0) (c .1)) 0) refl
+  kept-on rows present lot k h c later got = go (stays (p .result .answer)) refl (p .ended) (h .going) (eqb (callRefusal s p (c .rows) (c .present)) 0) refl
     where
       p : Progress
       p = k .progress
@@ -437,14 +437,14 @@ module _ (s : Named) (ok : Begins-well s) where
 
       next : Called
       next = record {
-        progress = record { present = c .1; ended = false; result = lotMemory s (c .0) (c .1) false .result };
-        memory = lotMemory s (c .0) (c .1) false;
+        progress = record { present = c .present; ended = false; result = lotMemory s (c .rows) (c .present) false .result };
+        memory = lotMemory s (c .rows) (c .present) false;
       }
 
       no : Called
-      no = record { progress = p; memory = refused (callRefusal s p (c .0) (c .1)) (offsetAt (textOf q) (callRefusal s p (c .0) (c .1))) now }
+      no = record { progress = p; memory = refused (callRefusal s p (c .rows) (c .present)) (offsetAt (textOf q) (callRefusal s p (c .rows) (c .present))) now }
 
-      go : (a : Bool) → stays (p .result .answer) ≡ a → (b : Bool) → b ≡ false → (d : Bool) → eqb (callRefusal s p (c .0) (c .1)) 0 ≡ d
+      go : (a : Bool) → stays (p .result .answer) ≡ a → (b : Bool) → b ≡ false → (d : Bool) → eqb (callRefusal s p (c .rows) (c .present)) 0 ≡ d
           → Leaves s (pick a (record { progress = p; memory = record { result = p .result; buffers = now } }) (pick b (record { progress = p; memory = refused 21 0 now }) (pick d next no)) .memory) got
           → Kept-to rows present (record { progress = pick a (record { progress = p; memory = record { result = p .result; buffers = now } }) (pick b (record { progress = p; memory = refused 21 0 now }) (pick d next no)) .progress; memory = got })
       go true e b _ d _ l =
@@ -453,18 +453,18 @@ module _ (s : Named) (ok : Begins-well s) where
       go false e true z d _ l = absurd (true≢false z)
       go false e false z false _ l = same (p .result) e
       go false e false z true r l =
-          let u : callRefusal s p (c .0) (c .1) ≡ 0 = eqb-true (callRefusal s p (c .0) (c .1)) 0 r in
+          let u : callRefusal s p (c .rows) (c .present) ≡ 0 = eqb-true (callRefusal s p (c .rows) (c .present)) 0 r in
           let v = later u in
           record {
             going = refl;
             few = v .more;
             stopped = λ y.
-                let w : got ≡ lotMemory s (c .0) (c .1) false = leaves-same s (lotMemory s (c .0) (c .1) false) got (stays-answer (lotMemory s (c .0) (c .1) false .result .answer) y) l in
-                rw w (sym (lot-stays (c .0) rows (c .1) present (call-well s p (c .0) (c .1) u .1) lot v true (rw (memory-answer (c .0) (c .1) false) at y)));
+                let w : got ≡ lotMemory s (c .rows) (c .present) false = leaves-same s (lotMemory s (c .rows) (c .present) false) got (stays-answer (lotMemory s (c .rows) (c .present) false .result .answer) y) l in
+                rw w (sym (lot-stays (c .rows) rows (c .present) present (call-well s p (c .rows) (c .present) u .1) lot v true (rw (memory-answer (c .rows) (c .present) false) at y)));
           }
 
   call-last : (rows : List ℤ) (present : ℕ) → Lot s rows present → (k : Called) → Kept-to rows present k
-      → callOf s (k .progress) rows present true (k .memory .buffers) .memory ≡ lotMemory s rows present true
+      → callOf s (k .progress) (arrived rows present) true (k .memory .buffers) .memory ≡ lotMemory s rows present true
   unfolding callOf
   call-last rows present lot k h =
       go (stays (p .result .answer)) refl (p .ended) (h .going) (eqb (callRefusal s p rows present) 0) (rw (call-unrefused s ok p rows present lot (h .few)) refl)
@@ -492,19 +492,19 @@ module _ (s : Named) (ok : Begins-well s) where
       go false z false x false y = absurd (false≢true y)
       go false z false x true y = refl
 
-  led : (rows : List ℤ) (present : ℕ) → Lot s rows present → (cs : List Call) (k k′ : Called) → Kept-to rows present k → Lead s rows present k cs k′ → Kept-to rows present k′
+  led : (rows : List ℤ) (present : ℕ) → Lot s rows present → (cs : List Arrived) (k k′ : Called) → Kept-to rows present k → Lead s (arrived rows present) k cs k′ → Kept-to rows present k′
   unfolding Lead
   led rows present lot [] k k′ h e = rw (← e) h
   led rows present lot (c ∷ cs) k k′ h e =
-      led rows present lot cs (record { progress = callOf s (k .progress) (c .0) (c .1) false (k .memory .buffers) .progress; memory = e .1 .0 }) k′
+      led rows present lot cs (record { progress = callOf s (k .progress) c false (k .memory .buffers) .progress; memory = e .1 .0 }) k′
       (kept-on rows present lot k h c (e .0) (e .1 .0) (e .1 .1 .0)) (e .1 .1 .1)
 
   start-kept : (rows : List ℤ) (present : ℕ) → Kept-to rows present (start s)
   unfolding stays
   start-kept rows present = record { going = refl; few = omega arith; stopped = λ h. absurd (false≢true h) }
 
-  pub lot-cutting : (cs : List Call) (rows : List ℤ) (present : ℕ) (k : Called) (got : Memory) → Lot s rows present → Lead s rows present (start s) cs k
-      → Leaves s (callOf s (k .progress) rows present true (k .memory .buffers) .memory) got → got ≡ lotMemory s rows present true
+  pub lot-cutting : (cs : List Arrived) (rows : List ℤ) (present : ℕ) (k : Called) (got : Memory) → Lot s rows present → Lead s (arrived rows present) (start s) cs k
+      → Leaves s (callOf s (k .progress) (arrived rows present) true (k .memory .buffers) .memory) got → got ≡ lotMemory s rows present true
   lot-cutting cs rows present k got lot lead l =
       let e = call-last rows present lot k (led rows present lot cs (start s) k (start-kept rows present) lead) in
       leaves-same s (lotMemory s rows present true) got (last-answer rows present lot) (rw e at l)

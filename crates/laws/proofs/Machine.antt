@@ -161,7 +161,7 @@ module _ (h : Halting) (ways : ℕ → Ways) (ρ : ℕ → ℕ) (N : ℕ) (falls
     where
       fact : (r : Outcome) → InsidePost ρ F (suc s) y r → (F′ : List Bool) (s′ : ℕ) → r ≡ failed (asKept F′ s′) → ((z : ℕ) → In F z → In F′ z) × In F′ y
       fact (found p later) a F′ s′ d = let z : _≡_ {A = ℕ} 0 1 = cc in absurd (omega arith)
-      fact (failed later) a F′ s′ d = let q : F′ ≡ (later .failed) = cc in rw q (a .grew .keeps, a .it)
+      fact (failed later) a F′ s′ d = let q : F′ ≡ later .failed = cc in rw q (a .grew .keeps, a .it)
       fact (halted w p later) a F′ s′ d = let z : _≡_ {A = ℕ} 0 1 = cc in absurd (omega arith)
 
       kept : (F′ : List Bool) (s′ : ℕ) → inside h ways K (asKept F (suc s)) y ≡ failed (asKept F′ s′) → ((z : ℕ) → In F z → In F′ z) × In F′ y

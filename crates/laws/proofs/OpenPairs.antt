@@ -13,7 +13,7 @@ use borrow.Author.Tests.{ne-eqb}
 use Rattle.rules.specs.Basics.{has, repeats}
 use Rattle.rules.specs.Places.{Place}
 use Rattle.rules.specs.Search.{Match, End, done, full, stuck, unfinished, Skip, Swept, Plan, ended, noStart, below, onAnswer, sweep, answered, walkAt, Terms, haltingOf, planOf, walkSearch, Standing, onMatch, seek, standAt}
-use Rattle.rules.specs.Walk.{IsOpen, lastOpen, openBefore, Ways, accept, try, Halting, Outcome, found, failed, halted, orElse, close, enterUnless, tries, inside, insideBy, pairs, firstAt, pairWays, Kept, asKept, oneStep, tried}
+use Rattle.rules.specs.Walk.{IsOpen, lastOpen, openBefore, Ways, accept, try, Halting, Outcome, found, failed, halted, orElse, close, enterUnless, tries, inside, insideBy, pairs, firstAt, pairWays, Kept, asKept, oneStep}
 use Rattle.laws.proofs.Walk.{All-map, All-at, Apart}
 use Rattle.rules.specs.Working.{All, Falls}
 

@@ -33,7 +33,7 @@ module _ (p : Tree pattern) (o : Bounds p) (holds : ℕ → ℕ → Bool) (n : �
   run = sweep (plainAt (pairWays holds n pl) (pairs (length pl) n) (firstAt (length pl))) (planOf pl n false skip room)
 
   abbrev Told : ℕ → ℕ → ℕ → Swept (Unit {0}) → Type 0
-  Told i m l r = Reports (setting p (rowSets n holds) skip room) i m l (shown pl (r .matches)) (shownEnd pl (r .end))
+  Told i m l r = Reports (setting p (rowSets n holds) skip room) (standAt i m l) (shown pl (r .matches)) (shownEnd pl (r .end))
 
   abbrev ToldWith : ℕ → Type 0
   ToldWith k = (i m l : ℕ) (st : Unit {0}) → n ≤ i + k → Told i m l (run k (standAt i m l) st)
@@ -63,11 +63,11 @@ module _ (p : Tree pattern) (o : Bounds p) (holds : ℕ → ℕ → Bool) (n : �
 
   -- the matches written, and the one at which the search stops, are the greatest derivations at
   -- their starts, and no start is left out
-  pub plain-reports : Reports (setting p (rowSets n holds) skip room) 0 0 0 (shown pl (plainSearch (seek holds n pl skip room) .matches)) (shownEnd pl (plainSearch (seek holds n pl skip room) .end))
+  pub plain-reports : Reports (setting p (rowSets n holds) skip room) (standAt 0 0 0) (shown pl (plainSearch (seek holds n pl skip room) .matches)) (shownEnd pl (plainSearch (seek holds n pl skip room) .end))
   unfolding plainSearch
   plain-reports = swept n 0 0 0 tt (omega arith)
 
-  pub walk-reports : Reports (setting p (rowSets n holds) skip room) 0 0 0 (shown pl (walkSearch (whole n) (seek holds n pl skip room) .matches)) (shownEnd pl (walkSearch (whole n) (seek holds n pl skip room) .end))
+  pub walk-reports : Reports (setting p (rowSets n holds) skip room) (standAt 0 0 0) (shown pl (walkSearch (whole n) (seek holds n pl skip room) .matches)) (shownEnd pl (walkSearch (whole n) (seek holds n pl skip room) .end))
   walk-reports =
       let a = walk-plain (unroll p) holds n skip room in
       rw (a .matches, a .end) plain-reports
@@ -87,8 +87,8 @@ module _ (p : Tree pattern) (holds : ℕ → ℕ → Bool) (n : ℕ) (skip : Ski
   none-some : {a : ℕ} → _≡_ {A = Option ℕ} none (some a) → ⊥
   none-some e = let z : _≡_ {A = ℕ} 0 1 = cc in omega arith
 
-  pub reports-one : {i m l : ℕ} {ms ms′ : List (ℕ × List ℕ)} {end end′ : End (ℕ × List ℕ)} → Reports (setting p (rowSets n holds) skip room) i m l ms end
-      → Reports (setting p (rowSets n holds) skip room) i m l ms′ end′ → (ms ≡ ms′) × (end ≡ end′)
+  pub reports-one : {i m l : ℕ} {ms ms′ : List (ℕ × List ℕ)} {end end′ : End (ℕ × List ℕ)} → Reports (setting p (rowSets n holds) skip room) (standAt i m l) ms end
+      → Reports (setting p (rowSets n holds) skip room) (standAt i m l) ms′ end′ → (ms ≡ ms′) × (end ≡ end′)
   reports-one (finished h) (finished h′) = (refl, refl)
   reports-one (finished h) (unmatched lt x r) = absurd (omega arith)
   reports-one (finished h) (matched lt x b d r) = absurd (omega arith)
@@ -104,7 +104,7 @@ module _ (p : Tree pattern) (holds : ℕ → ℕ → Bool) (n : ℕ) (skip : Ski
   reports-one (matched {i = i} {j = j} {k = k} {m = m} {l = l} {w = w} lt x b d r) (matched {j = j′} {k = k′} {w = v} {ms = ks} {end = end} lt′ x′ b′ d′ r′) =
       let s = greatest-same x x′ in
       let q : k′ ≡ k = some-same (sym d′ ∙ next-same i j′ j v w (sym (s .0)) (sym (s .1)) ∙ d) in
-      let r₁ : Reports (setting p (rowSets n holds) skip room) k (suc m) (l + length w) ks end = rw (← q, s .1) r′ in
+      let r₁ : Reports (setting p (rowSets n holds) skip room) (standAt k (suc m) (l + length w)) ks end = rw (← q, s .1) r′ in
       let y = reports-one r r₁ in
       (ap₂ (λ (u : List ℕ) (z : List (ℕ × List ℕ)). (i, u) ∷ z) (s .1) (y .0), y .1)
   reports-one (matched {i = i} {j = j} {k = k} {w = w} lt x b d r) (lost {j = j′} {w = v} lt′ x′ b′ d′) =
@@ -131,9 +131,9 @@ module _ (p : Tree pattern) (holds : ℕ → ℕ → Bool) (n : ℕ) (skip : Ski
   begins-on x y xs ys e b = (b .0, ap₂ (λ (z : ℕ × List ℕ) (zs : List (ℕ × List ℕ)). z ∷ zs) (sym e) (b .1))
 
   abbrev Unlimited : ℕ → ℕ → ℕ → List (ℕ × List ℕ) → End (ℕ × List ℕ) → Type 0
-  Unlimited i m l ms end = Reports (setting p (rowSets n holds) skip (λ m l w. true)) i m l ms end
+  Unlimited i m l ms end = Reports (setting p (rowSets n holds) skip (λ m l w. true)) (standAt i m l) ms end
 
-  pub reports-begin : {i m l m′ l′ : ℕ} {ms ms′ : List (ℕ × List ℕ)} {end end′ : End (ℕ × List ℕ)} → Reports (setting p (rowSets n holds) skip room) i m l ms end → Unlimited i m′ l′ ms′ end′ → Begins ms ms′
+  pub reports-begin : {i m l m′ l′ : ℕ} {ms ms′ : List (ℕ × List ℕ)} {end end′ : End (ℕ × List ℕ)} → Reports (setting p (rowSets n holds) skip room) (standAt i m l) ms end → Unlimited i m′ l′ ms′ end′ → Begins ms ms′
   reports-begin {ms′ = ms′} (finished h) r′ = (ms′, refl)
   reports-begin {ms′ = ms′} (stopped lt x b) r′ = (ms′, refl)
   reports-begin (unmatched lt x r) (finished h′) = absurd (omega arith)

@@ -13,7 +13,7 @@ use lib.Dec.{ltb}
 use borrow.Author.Tests.{ltb-true, lt-ltb}
 use Rattle.rules.specs.Places.{Unrolled, places}
 use Rattle.rules.specs.Search.{Match, End, done, full, stuck, unfinished, Skip, Attempted, hit, miss, halts, Swept, Plan, ended, noStart, below, withMatch, onAnswer, sweep, answered, walkAt, Terms, haltingOf, planOf, walkSearch, Standing, onMatch, seek, standAt}
-use Rattle.rules.specs.Walk.{Ways, accept, try, outOfSteps, outOfRows, Halting, Outcome, found, failed, halted, orElse, close, enterUnless, tries, inside, insideBy, pairs, firstAt, pairWays, Kept, asKept, tried}
+use Rattle.rules.specs.Walk.{Ways, accept, try, outOfSteps, outOfRows, Halting, Outcome, found, failed, halted, orElse, close, enterUnless, tries, inside, insideBy, pairs, firstAt, pairWays, Kept, asKept}
 use Rattle.laws.proofs.Fuel.{sweep-enough, plan-on}
 use Rattle.laws.proofs.GoesOn.{Sooner, extended}
 

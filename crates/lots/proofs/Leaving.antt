@@ -14,7 +14,7 @@ use Rattle.rules.specs.Query.{textOf}
 use Rattle.rules.specs.Places.{Unrolled, unroll, places}
 use Rattle.rules.specs.Search.{unfinished, Swept, Terms, walkSearch}
 use Rattle.rules.specs.Walk.{outOfRows, pairs, Kept, asKept}
-use Rattle.rules.specs.Report.{fits, labelsOf, numbersOf, notesOf, zeros}
+use Rattle.rules.specs.Report.{lentRoom, fits, labelsOf, numbersOf, notesOf, zeros}
 use Rattle.rules.specs.Answers.{treeIn, letterHolds, Task, taskOf, walkedOn, endAnswer, reportOf, Result, Memory, accepted}
 use Rattle.rules.specs.Lots.{Named, presentRows, presentTask, namedPairs, beginAnswer, lotTerms, lotWalk, lotMemory, Leaves}
 use Rattle.rules.specs.LotDemands.{Lot}
@@ -99,7 +99,7 @@ module _ (s : Named) (begins : beginAnswer s ≡ 0) (a : ℕ) (al : s .allowance
 
   walk-is : lotWalk s rows n last ≡ padded gap D
   unfolding lotWalk walkedOn
-  walk-is = rw (al, places₂) (search-padded U (letterHolds t₂) (t₂ .table .n) (record { largest = s .largest; more = not last; allowance = some a }) few (t₂ .skip) (fits nums labs (t₂ .measures)))
+  walk-is = rw (al, places₂) (search-padded U (letterHolds t₂) (t₂ .table .n) (record { largest = s .largest; more = not last; allowance = some a }) few (t₂ .skip) (fits (lentRoom nums labs (t₂ .measures))))
 
   D-long : length (D .state .failed) ≡ N (layoutOf T (t .size)) (t .size .rows)
   unfolding presentTask
@@ -112,7 +112,7 @@ module _ (s : Named) (begins : beginAnswer s ≡ 0) (a : ℕ) (al : s .allowance
   -- the pairs
   D-pairs : length (D .state .failed) ≡ pairs (length (places U)) (t₂ .table .n)
   unfolding walkedOn
-  D-pairs = rw places₂ (search-kept U (letterHolds t₂) (t₂ .table .n) (record { largest = t₂ .table .n; more = not last; allowance = some a }) (omega arith) (t₂ .skip) (fits nums labs (t₂ .measures)))
+  D-pairs = rw places₂ (search-kept U (letterHolds t₂) (t₂ .table .n) (record { largest = t₂ .table .n; more = not last; allowance = some a }) (omega arith) (t₂ .skip) (fits (lentRoom nums labs (t₂ .measures))))
 
   count-is : t .pairs ≡ pairs (length (places U)) (s .largest)
   count-is = task .pairs-are ∙ ap₂ (λ (x y : ℕ). x * y) (ready .places-are ∙ sym (places-counted (ready .tree) bounds)) (add-one (s .largest))

@@ -20,7 +20,7 @@ use Rattle.rules.specs.Query.{textOf, parts}
 use Rattle.rules.specs.Places.{Place, pLetter, pCaret, pDollar, pFork, pEnd, Unrolled, unroll, places}
 use Rattle.rules.specs.Search.{Match, End, unfinished, openOf, Skip, Swept, Terms, haltingOf, planOf, walkSearch, walkAt, sweep, seek, standAt}
 use Rattle.rules.specs.Walk.{outOfRows, pairs, firstAt, passIf, pairAt, positionOf, placeOf, waysAt, pairWays, Kept, asKept}
-use Rattle.rules.specs.Report.{fits, bitOf, bitAt, bytesFor, notesOf, labelsOf, numbersOf}
+use Rattle.rules.specs.Report.{lentRoom, fits, bitOf, bitAt, bytesFor, notesOf, labelsOf, numbersOf}
 use Rattle.rules.specs.Answers.{treeIn, letterHolds, skipOf, Task, taskOf, walkedOn, reportOf, accepted}
 use Rattle.rules.specs.Working.{bitsOf, thinned}
 use Rattle.rules.specs.Lots.{Named, presentRows, presentTask, namedPairs, settles, beginAnswer, lotTerms, lotWalk, lotMemory}
@@ -104,7 +104,7 @@ module _ (s : Named) (begins : beginAnswer s ≡ 0) (a : ℕ) (al : s .allowance
   labs = length (s .lent .labels)
 
   abbrev fit : ℕ → ℕ → List ℕ → Bool
-  fit = fits nums labs (t₂ .measures)
+  fit = fits (lentRoom nums labs (t₂ .measures))
 
   -- the search of the earlier call
   abbrev before₁ : Swept Kept

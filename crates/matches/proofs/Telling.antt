@@ -13,7 +13,7 @@ use lib.ListN.{length, getD, take, drop}
 use lib.Seq.{length-take-le, take-at, drop-at}
 use Rattle.rules.specs.Basics.{wrote}
 use Rattle.rules.specs.Query as Q
-use Rattle.rules.specs.Report.{fits, matchNumbers}
+use Rattle.rules.specs.Report.{lentRoom, fits, matchNumbers}
 use Rattle.rules.specs.Rows.{tableOf}
 use Rattle.rules.specs.Search.{Skip, hit, labels, lastOf, endOf, nextStart}
 use Rattle.laws.proofs.Appended.{length-wrote-at, fits-room}
@@ -133,8 +133,8 @@ module _ (W : List ℕ) (rows : List ℤ) (task : Task) (trail labs : List ℕ) 
   unfolding labelsOn
   on-is = refl
 
-  module _ (nums : ℕ) (r : Bool) (ef : (xs : List Q.Measure) (vs : List ℕ) → length xs ≡ count → length vs ≡ taken → r ≡ fits nums (length labs) xs (i .matches) (i .labels) vs) where
-    fits-is : r ≡ fits nums (length labs) ms (i .matches) (i .labels) ls
+  module _ (nums : ℕ) (r : Bool) (ef : (xs : List Q.Measure) (vs : List ℕ) → length xs ≡ count → length vs ≡ taken → r ≡ fits (lentRoom nums (length labs) xs) (i .matches) (i .labels) vs) where
+    fits-is : r ≡ fits (lentRoom nums (length labs) ms) (i .matches) (i .labels) ls
     fits-is = ef ms ls (measures-count W (task .measures) count) taken-is
 
     module _ (et : r ≡ true) where

@@ -7,7 +7,7 @@ use lib.IntN.{ℤ}
 use lib.ListN.{length}
 use Rattle.rules.specs.Places.{Place}
 use Rattle.rules.specs.Query.{Measure}
-use Rattle.rules.specs.Report.{fits}
+use Rattle.rules.specs.Report.{lentRoom, fits}
 use Rattle.rules.specs.Rows.{Table, tableOf}
 use Rattle.rules.specs.Search.{Skip, Swept, labels, Terms, walkSearch, seek}
 use Rattle.pairs.specs.Step.{stack}
@@ -52,7 +52,7 @@ termsOf A = record { largest = A .n; more = A .more; allowance = some (A .layout
 -- bytes
 unfoldable pub searchOf : Asked → ℕ → ℕ → Swept Kept
 unfolding walkSearch placesIn fits
-searchOf A nums labs = walkSearch (termsOf A) (seek (A .holds) (A .n) (pl A) (A .skip) (fits nums labs (A .measures)))
+searchOf A nums labs = walkSearch (termsOf A) (seek (A .holds) (A .n) (pl A) (A .skip) (fits (lentRoom nums labs (A .measures))))
 
 -- the path on the trail where there are P places, from its first pair to its last, and its labels
 abbrev pub pathOn : ℕ → List ℕ → ℕ → List ℕ

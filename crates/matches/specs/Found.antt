@@ -9,7 +9,7 @@ use lib.IntN.{ℤ}
 use lib.ListN.{length, getD}
 use Rattle.rules.specs.Answers.{haltAnswer}
 use Rattle.rules.specs.Basics.{wrote}
-use Rattle.rules.specs.Report.{bitAt, matchNumbers, fits}
+use Rattle.rules.specs.Report.{bitAt, matchNumbers, lentRoom, fits}
 use Rattle.rules.specs.Search.{Attempted, hit, miss, halts, answered, labels, nextStart, endOf}
 use Rattle.rules.specs.Walk.{Halt, outOfSteps, outOfRows, Kept}
 use Rattle.rules.specs.Working.{bitsOf}
@@ -98,7 +98,7 @@ abbrev pub Told : Asked → Attempted → Sweep → ℕ → List ℤ → List �
 Told A miss i s numbers numbers′ labs labs′ r = Quiet numbers numbers′ labs labs′ r (swept 0 (i .row + 1) (i .matches) (i .labels) s)
 Told A (halts h p) i s numbers numbers′ labs labs′ r = Quiet numbers numbers′ labs labs′ r (sweptAt h p (i .row) (i .matches) (i .labels) s)
 Told A (hit p) i s numbers numbers′ labs labs′ r =
-    ToldBy (fits (length numbers) (length labs) (A .measures) (i .matches) (i .labels) (labels (pl A) p)) A p i s numbers numbers′ labs labs′ r
+    ToldBy (fits (lentRoom (length numbers) (length labs) (A .measures)) (i .matches) (i .labels) (labels (pl A) p)) A p i s numbers numbers′ labs labs′ r
 
 -- the measures in the table can be read from the rows
 pub record Measured (T : List ℕ) (rows : List ℤ) (task : Task) : Type 0 where

@@ -12,8 +12,8 @@ use Rattle.rules.specs.Language.{Tree, pattern}
 use Rattle.rules.specs.Readings.{rowSets}
 use Rattle.rules.specs.Preferment.{Reports, setting}
 use Rattle.rules.specs.Walk.{outOfSteps, outOfRows}
-use Rattle.rules.specs.Search.{Match, End, done, full, stuck, unfinished, Skip, shown, shownEnd}
-use Rattle.rules.specs.Report.{fits}
+use Rattle.rules.specs.Search.{Match, End, done, full, stuck, unfinished, Skip, shown, shownEnd, standAt}
+use Rattle.rules.specs.Report.{lentRoom, fits}
 use Rattle.rules.specs.Answers.{taskOf, letterHolds, Buffers, Memory, haltAnswer, endAnswer, walkWithin}
 use Rattle.rules.specs.Demands.{Demands}
 
@@ -29,7 +29,7 @@ is-done (unfinished outOfRows i p) z = absurd (omega arith)
 -- a report stays one where its pattern, letters, number of rows, mode, matches and end are replaced
 -- by equal ones
 carried : {p p′ : Tree pattern} {holds holds′ : ℕ → ℕ → Bool} {n n′ : ℕ} {skip skip′ : Skip} {room : ℕ → ℕ → List ℕ → Bool} {ms ms′ : List (ℕ × List ℕ)} {end end′ : End (ℕ × List ℕ)}
-    → p ≡ p′ → holds ≡ holds′ → n ≡ n′ → skip ≡ skip′ → ms ≡ ms′ → end ≡ end′ → Reports (setting p (rowSets n holds) skip room) 0 0 0 ms end → Reports (setting p′ (rowSets n′ holds′) skip′ room) 0 0 0 ms′ end′
+    → p ≡ p′ → holds ≡ holds′ → n ≡ n′ → skip ≡ skip′ → ms ≡ ms′ → end ≡ end′ → Reports (setting p (rowSets n holds) skip room) (standAt 0 0 0) ms end → Reports (setting p′ (rowSets n′ holds′) skip′ room) (standAt 0 0 0) ms′ end′
 carried a b c d e f r = rw (a, b, c, d, e, f) at r
 
 -- the matches that a done search has written, told by preferment
@@ -41,7 +41,7 @@ module _ (a : Option ℕ) (q : List ℕ) (rows : List ℤ) (before : Buffers) (a
   ends = is-done (walkWithin a q rows before .end) (sym z ∙ y .ended)
 
   pub told : {p : Tree pattern} {holds : ℕ → ℕ → Bool} {n : ℕ} {skip : Skip} → y .tree ≡ p → letterHolds (taskOf q rows) ≡ holds → taskOf q rows .table .n ≡ n → taskOf q rows .skip ≡ skip
-      → Reports (setting p (rowSets n holds) skip (fits (length (before .numbers)) (length (before .labels)) (taskOf q rows .measures))) 0 0 0 written done
+      → Reports (setting p (rowSets n holds) skip (fits (lentRoom (length (before .numbers)) (length (before .labels)) (taskOf q rows .measures)))) (standAt 0 0 0) written done
   told e h n s =
       let f = y .demand2 .holds-all (y .not-halted (λ x. let w : _≡_ {A = ℕ} 0 16 = sym z ∙ x in absurd (omega arith))) in
       carried e h n s (sym (f .0)) (sym (f .1) ∙ ap (shownEnd (taskOf q rows .places)) ends) (y .demand2 .report)

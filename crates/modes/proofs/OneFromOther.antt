@@ -18,8 +18,8 @@ use Rattle.rules.specs.Query.{Measure, textOf, parts}
 use Rattle.rules.specs.Language.{Tree, pattern, Written}
 use Rattle.rules.specs.Readings.{rowSets}
 use Rattle.rules.specs.Preferment.{Preferred, NoneParses, Reports, finished, unmatched, matched, setting}
-use Rattle.rules.specs.Search.{done, pastLast, toNext, nextStart}
-use Rattle.rules.specs.Report.{fits}
+use Rattle.rules.specs.Search.{done, pastLast, toNext, nextStart, standAt}
+use Rattle.rules.specs.Report.{lentRoom, fits}
 use Rattle.rules.specs.Answers.{taskOf, skipOf, letterHolds, Buffers, Memory, refusal}
 use Rattle.rules.specs.Entries.{Reported, reportedIn, reportedOne, reportedAll}
 use Rattle.rules.specs.Demands.{Demands}
@@ -72,7 +72,7 @@ one-next i j w k e = some-is e
 module _ (p : Tree pattern) (holds : ℕ → ℕ → Bool) (n : ℕ) (room : ℕ → ℕ → List ℕ → Bool) where
   -- what mode 0 still writes from row i on, behind m matches with l labels, where it ends as done
   abbrev Past : ℕ → ℕ → ℕ → List (ℕ × List ℕ) → Type 0
-  Past i m l ms = Reports (setting p (rowSets n holds) pastLast room) i m l ms done
+  Past i m l ms = Reports (setting p (rowSets n holds) pastLast room) (standAt i m l) ms done
 
   past-end : {i m l : ℕ} {ms : List (ℕ × List ℕ)} → n ≤ i → Past i m l ms → ms ≡ []
   past-end h (finished f) = refl
@@ -100,7 +100,7 @@ module _ (p : Tree pattern) (holds : ℕ → ℕ → Bool) (n : ℕ) (room : ℕ
 
 module _ (p : Tree pattern) (holds : ℕ → ℕ → Bool) (n : ℕ) (room room′ : ℕ → ℕ → List ℕ → Bool) (t : Table) (measures : List Measure) where
   abbrev Each : ℕ → ℕ → ℕ → List (ℕ × List ℕ) → Type 0
-  Each i m l ms = Reports (setting p (rowSets n holds) toNext room′) i m l ms done
+  Each i m l ms = Reports (setting p (rowSets n holds) toNext room′) (standAt i m l) ms done
 
   -- what mode 1 still writes starts at row k or behind it, so choosing may begin anywhere up to k
   from-before : {k m l : ℕ} {ms : List (ℕ × List ℕ)} → Each k m l ms → (i : ℕ) → i ≤ k → chosenFrom i (reportedAll t measures ms) ≡ chosenFrom k (reportedAll t measures ms)
@@ -176,7 +176,7 @@ module _ (a a′ : Option ℕ) (q q′ : List ℕ) (rows : List ℤ) (before bef
       let w′ : Written (y′ .tree) (textOf q) = rw (← same .text) (y′ .written) in
       let r = told a q rows before after y z refl refl refl (mode-0 q rows m) in
       let r′ = told a′ q′ rows before′ after′ y′ z′ (one-tree w′ (y .written)) (same-holds q q′ rows same) (ap (λ (x : Table). x .n) (same-table q q′ rows same)) (mode-1 q′ rows m′) in
-      let c = chosen-from (y .tree) (letterHolds t) (t .table .n) (fits (length (before .numbers)) (length (before .labels)) (t .measures)) (fits (length (before′ .numbers)) (length (before′ .labels)) (t′ .measures)) (t .table) (t .measures) r′ 0 0 0 _ (omega arith) r in
+      let c = chosen-from (y .tree) (letterHolds t) (t .table .n) (fits (lentRoom (length (before .numbers)) (length (before .labels)) (t .measures))) (fits (lentRoom (length (before′ .numbers)) (length (before′ .labels)) (t′ .measures))) (t .table) (t .measures) r′ 0 0 0 _ (omega arith) r in
       let s : reportedAll (t .table) (t .measures) (written a′ q′ rows before′ after′ y′ z′) ≡ reportedAll (t′ .table) (t′ .measures) (written a′ q′ rows before′ after′ y′ z′) =
       ap₂ (λ (x : Table) (ms : List Measure). reportedAll x ms (written a′ q′ rows before′ after′ y′ z′)) (sym (same-table q q′ rows same)) (sym (same-measured q q′ rows same)) in
       y .reported ∙ c ∙ ap (chosenFrom 0) (s ∙ sym (y′ .reported))

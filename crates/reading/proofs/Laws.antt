@@ -50,10 +50,10 @@ letter-looked text l r d e = rw (e, ne-eqb l 0 d)
 
 -- ---- the loop over the measures
 
--- the first k measures' letters are known
-pub record Known (text measures : List ℕ) (count k : ℕ) : Type 0 where
+-- whether the letters of the first k measures and the one that the skip names are known
+pub record Known (text measures : List ℕ) (count target k : ℕ) (known : Bool) : Type 0 where
   pub within : k ≤ count
-  pub is : every (λ (m : Measure). knownIn text (m .letter)) (measuresIn measures 0 k) ≡ true
+  pub is : known ≡ (every (λ (m : Measure). knownIn text (m .letter)) (measuresIn measures 0 k) && knownIn text target)
 
 module _ {A : Type 0} (g : A → Bool) where
   every-append : (xs ys : List A) → every g (xs ++ ys) ≡ (every g xs && every g ys)
@@ -74,44 +74,39 @@ module _ {A : Type 0} (g : A → Bool) where
   unfolding tabulate every
   every-more f n = every-append (tabulate n f) (f n ∷ []) ∙ ap (λ (t : Bool). every g (tabulate n f) && t) (and-one (g (f n)))
 
-  and-none : (t : Bool) → (t && false) ≡ false
-  and-none true = refl
-  and-none false = refl
+-- the last two of three may change places
+swap : (a b c : Bool) → ((a && b) && c) ≡ ((a && c) && b)
+swap true true true = refl
+swap true true false = refl
+swap true false true = refl
+swap true false false = refl
+swap false b c = refl
 
-  -- one element that is not so decides
-  every-stop : (f : ℕ → A) (n k : ℕ) → k < n → g (f k) ≡ false → every g (tabulate n f) ≡ false
-  every-stop f zero k h e = absurd (not-suc-le-zero h)
-  every-stop f (suc n) k h e = every-more f n ∙ go (λ l. every-stop f n k l e) (ltb k n) refl
-    where
-      go : (k < n → every g (tabulate n f) ≡ false) → (t : Bool) → ltb k n ≡ t → (every g (tabulate n f) && g (f n)) ≡ false
-      go ih true q = rw (ih (ltb-true k n q))
-      go ih false q =
-          let z : k ≡ n = omega (arith, ltb-false k n q) in
-          let w : g (f n) ≡ false = ap (λ (i : ℕ). g (f i)) (sym z) ∙ e in
-          rw w (and-none (every g (tabulate n f)))
+not-both : (a b : Bool) → not (a && b) ≡ (not a || not b)
+not-both true b = refl
+not-both false b = refl
 
 module _ (text measures : List ℕ) (count : ℕ) where
-  pub known-none : Known text measures count 0
+  pub known-none : (target : ℕ) (r : Bool) → r ≡ knownIn text target → Known text measures count target 0 r
   unfolding every measuresIn tabulate
-  known-none = record { within = omega arith; is = refl }
+  known-none target r e = record { within = omega arith; is = e }
 
-  pub known-more : (k : ℕ) (m : Measure) (r : Bool) → Known text measures count k → k < count → m ≡ measureIn measures 0 k → r ≡ knownIn text (m .letter) → not r ≡ false
-      → Known text measures count (k + 1)
+  pub known-more : (target k : ℕ) (known : Bool) (m : Measure) (r : Bool) → Known text measures count target k known → k < count → m ≡ measureIn measures 0 k → r ≡ knownIn text (m .letter)
+      → (both : Bool) → both ≡ (known && r) → Known text measures count target (k + 1) both
   unfolding measuresIn
-  known-more k m r i h e q d =
-      let t : knownIn text (measureIn measures 0 k .letter) ≡ true = ap (λ (m : Measure). knownIn text (m .letter)) (sym e) ∙ sym q ∙ not-false r d in
-      record { within = omega arith; is = rw (add-one, every-more (λ (m : Measure). knownIn text (m .letter)) (measureIn measures 0) k, i .is) t }
+  known-more target k known m r i h e q both f =
+      let t : r ≡ knownIn text (measureIn measures 0 k .letter) = q ∙ ap (λ (m : Measure). knownIn text (m .letter)) e in
+      let g : (known && r) ≡ (every (λ (m : Measure). knownIn text (m .letter)) (measuresIn measures 0 (k + 1)) && knownIn text target) =
+      rw (add-one, every-more (λ (m : Measure). knownIn text (m .letter)) (measureIn measures 0) k, i .is, t)
+      (swap (every (λ (m : Measure). knownIn text (m .letter)) (measuresIn measures 0 k)) (knownIn text target) (knownIn text (measureIn measures 0 k .letter)))
+      in
+      record { within = omega arith; is = f ∙ g }
 
-  pub known-stop : (k : ℕ) (m : Measure) (r : Bool) → k < count → m ≡ measureIn measures 0 k → r ≡ knownIn text (m .letter) → not r ≡ true → (target : ℕ) → true ≡ foreignIn text measures count target
-  unfolding foreignIn measuresIn
-  known-stop k m r h e q d target =
-      let z : knownIn text (measureIn measures 0 k .letter) ≡ false = ap (λ (m : Measure). knownIn text (m .letter)) (sym e) ∙ sym q ∙ not-true r d in
-      rw (every-stop (λ (m : Measure). knownIn text (m .letter)) (measureIn measures 0) count k h z)
-
-  -- behind the measures the letter that the skip names decides
-  pub known-all : (k : ℕ) → Known text measures count k → count ≤ k → (target : ℕ) (r : Bool) → r ≡ knownIn text target → not r ≡ foreignIn text measures count target
+  pub known-all : (target k : ℕ) (known : Bool) → Known text measures count target k known → count ≤ k → not known ≡ foreignIn text measures count target
   unfolding foreignIn
-  known-all k i h target r q = let e : count ≡ k = omega (arith, i .within) in rw (e, i .is, q)
+  known-all target k known i h =
+      let e : count ≡ k = omega (arith, i .within) in
+      rw (e, i .is) (not-both (every (λ (m : Measure). knownIn text (m .letter)) (measuresIn measures 0 k)) (knownIn text target))
 
 -- ---- the answer from its parts
 

@@ -1,5 +1,6 @@
 // What reading a query comes to, letters that its pattern does not name, and how long its text is.
 ghost use mathlib.Core.Path.{_≡_};
+ghost use mathlib.Core.Bool.{_&&_};
 ghost use Prim.Native.Nat.{_≤_, _<_};
 ghost use Rattle.reading.specs.Reading.{knownIn, foreignIn, refusedQuery, shortText};
 
@@ -39,22 +40,31 @@ fn is_known(text: &[u8], letter: u8) -> bool
     scan::has_byte(text, letter)
 }
 
+fn both(a: bool, b: bool) -> bool
+    ensures { λ r. ⌜ r ≡ (a && b) ⌝ }
+{
+    if a {
+        return b;
+    }
+    false
+}
+
 // Whether some measure's letter, or the letter that the skip names, does not stand in the pattern's
-// text.
+// text. The loop goes over all measures: leaving it at the first such letter makes every turn
+// longer.
 pub fn has_foreign(text: &[u8], measures: &[u8; 24], count: usize, target: usize) -> bool
     requires { ⌜ (count ≤ 8) × (target < 256) ⌝ }
     ensures { λ r. ⌜ r ≡ foreignIn (now (text .entry)) (now (measures .entry)) count target ⌝ }
 {
+    let letter = target as u8;
+    let mut known = is_known(text, letter);
     let mut k = 0;
     while k < count {
         let m = measure_list::measure_at(measures, k);
-        if !is_known(text, m.letter) {
-            return true;
-        }
+        known = both(known, is_known(text, m.letter));
         k += 1;
     }
-    let letter = target as u8;
-    !is_known(text, letter)
+    !known
 }
 
 pub fn refused(answer: usize, offset: usize) -> Query

@@ -19,7 +19,7 @@ use Rattle.rules.specs.Basics.{wrote, tabulate, isLetter, inRange}
 use Rattle.rules.specs.Rows.{Table}
 use Rattle.rules.specs.Query as Q
 use Rattle.rules.specs.Query.{functionFits}
-use Rattle.rules.specs.Report.{twoOf, measured, measureNumbers, matchNumbers, fits}
+use Rattle.rules.specs.Report.{twoOf, measured, measureNumbers, matchNumbers, lentRoom, fits}
 use Rattle.laws.proofs.Choice.{and-left, and-right}
 use Rattle.laws.proofs.Lists.{length-tabulate}
 use Rattle.laws.proofs.Limits.{match-long}
@@ -179,7 +179,7 @@ room-small count matches c m = mul-le-mul (let e : matches + 1 ≤ 4097 = omega 
 
 module _ (nums labs count matches written taken : ℕ) (w : written ≤ labs) where
   abbrev Says : Bool → Type 0
-  Says r = (ms : List Q.Measure) (ls : List ℕ) → length ms ≡ count → length ls ≡ taken → r ≡ fits nums labs ms matches written ls
+  Says r = (ms : List Q.Measure) (ls : List ℕ) → length ms ≡ count → length ls ≡ taken → r ≡ fits (lentRoom nums labs ms) matches written ls
 
   pub no-room : nums < (matches + 1) * (3 + 2 * count) → Says false
   unfolding fits

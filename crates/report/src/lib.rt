@@ -17,7 +17,7 @@ ghost use Rattle.rules.specs.Rows.{tableOf, entry};
 ghost use Rattle.rules.specs.Query as Q;
 ghost use Rattle.table.specs.Measures.{measureIn, measuresIn};
 ghost use Rattle.measure_list.specs.Measures.{measureOf};
-ghost use Rattle.rules.specs.Report.{measureNumbers, matchNumbers, fits};
+ghost use Rattle.rules.specs.Report.{measureNumbers, matchNumbers, lentRoom, fits};
 ghost use Rattle.measures.specs.Measures.{numbersFor, ThreeBytes, Reportable, Appendable};
 
 // Where a query's measures stand in its table, how many they are, and the columns of a row.
@@ -137,7 +137,7 @@ pub fn fits_whole(
     taken: usize,
 ) -> bool
     requires { ⌜ (count ≤ 8) × (matches ≤ 4096) × (written ≤ labs) ⌝ }
-    ensures { λ r. ⌜ ((ms : List Q.Measure) (ls : List ℕ) → length ms ≡ count → length ls ≡ taken → r ≡ fits nums labs ms matches written ls) ⌝ }
+    ensures { λ r. ⌜ ((ms : List Q.Measure) (ls : List ℕ) → length ms ≡ count → length ls ≡ taken → r ≡ fits (lentRoom nums labs ms) matches written ls) ⌝ }
 {
     if nums < (matches + 1) * (3 + 2 * count) {
         return false;

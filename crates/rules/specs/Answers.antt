@@ -17,7 +17,7 @@ use Rattle.rules.specs.Reader.{treeOf, stopOf}
 use Rattle.rules.specs.Places.{Place, unroll, places, placesOf, factorOf}
 use Rattle.rules.specs.Walk.{pairs, Halt, outOfSteps, outOfRows, Kept}
 use Rattle.rules.specs.Search.{Match, End, done, full, stuck, unfinished, Terms, within, whole, Skip, pastLast, toNext, toFirst, toLast, Swept, walkSearch, plainSearch, Sought, seek}
-use Rattle.rules.specs.Report.{numbersOf, labelsOf, fits, bytesFor, notesOf, zeros}
+use Rattle.rules.specs.Report.{numbersOf, labelsOf, lentRoom, fits, bytesFor, notesOf, zeros}
 
 -- ---- the pattern's answers
 
@@ -140,7 +140,7 @@ letterHolds t c i = holds (t .table) i (t .condition c)
 
 -- what is searched for a task, for so many report numbers and label bytes
 abbrev pub soughtFor : Task → ℕ → ℕ → Sought
-soughtFor t nums labs = seek (letterHolds t) (t .table .n) (t .places) (t .skip) (fits nums labs (t .measures))
+soughtFor t nums labs = seek (letterHolds t) (t .table .n) (t .places) (t .skip) (fits (lentRoom nums labs (t .measures)))
 
 -- the search by the counted walk on these terms, on document 01's, and by plain backtracking
 unfoldable pub walkedOn : Terms → Task → ℕ → ℕ → Swept Kept

@@ -17,8 +17,8 @@ use Rattle.rules.specs.Places.{unroll, placesOf, factorOf, flagsAt}
 use Rattle.rules.specs.Readings.{RowSets, rowSets, Reads, SomeReading}
 use Rattle.rules.specs.Preferment.{Preferred, Setting, setting, Shown, Reports}
 use Rattle.rules.specs.Walk.{Halt, outOfSteps, pairs, firstAt, pairWays, IsPath, IsOpen, countTrue, Kept}
-use Rattle.rules.specs.Search.{Match, End, unfinished, Finished, pastLast, Swept, labels, endOf, shown, shownEnd, foundIn, openOf, pathPairs, plainFrom}
-use Rattle.rules.specs.Report.{numbersOf, labelsOf, fits, bytesFor, bitAt, zeros}
+use Rattle.rules.specs.Search.{Match, End, unfinished, Finished, pastLast, Swept, labels, endOf, shown, shownEnd, foundIn, openOf, pathPairs, plainFrom, standAt}
+use Rattle.rules.specs.Report.{numbersOf, labelsOf, lentRoom, fits, bytesFor, bitAt, zeros}
 use Rattle.rules.specs.Answers.{tooDeep, treeIn, Task, taskOf, letterHolds, Buffers, Memory, Report, refused, endAnswer, answerWithin, walkWithin, plainOf, plainReport, searchWithin, searchOf, P, F}
 use Rattle.rules.specs.Entries.{reportedIn, reportedAll}
 
@@ -89,9 +89,9 @@ pub record Demand2 (p : Tree pattern) (t : Task) (nums labs : ℕ) (r : Swept Ke
   -- start
   pub all : List Shown
   pub last : End Shown
-  pub report : Reports (settingOf p t (fits nums labs (t .measures))) 0 0 0 all last
+  pub report : Reports (settingOf p t (fits (lentRoom nums labs (t .measures)))) (standAt 0 0 0) all last
   -- and there is no other such report
-  pub only : (ms : List Shown) (end : End Shown) → Reports (settingOf p t (fits nums labs (t .measures))) 0 0 0 ms end
+  pub only : (ms : List Shown) (end : End Shown) → Reports (settingOf p t (fits (lentRoom nums labs (t .measures)))) (standAt 0 0 0) ms end
       → (ms ≡ all) × (end ≡ last)
   -- the report holds exactly these, and ends so; one that is halted holds the first of them
   pub holds-all : Finished (r .end) → (shown (t .places) (r .matches) ≡ all) × (shownEnd (t .places) (r .end) ≡ last)
@@ -99,7 +99,7 @@ pub record Demand2 (p : Tree pattern) (t : Task) (nums labs : ℕ) (r : Swept Ke
   -- with room for every match there is a report too, and this one holds the first of its matches
   pub unlimited : List Shown
   pub unlimited-last : End Shown
-  pub unlimited-report : Reports (settingOf p t (λ m l w. true)) 0 0 0 unlimited unlimited-last
+  pub unlimited-report : Reports (settingOf p t (λ m l w. true)) (standAt 0 0 0) unlimited unlimited-last
   pub first-of-unlimited : Begins (shown (t .places) (r .matches)) unlimited
 
 -- ---- demand 3

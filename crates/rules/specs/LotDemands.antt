@@ -15,7 +15,7 @@ use Rattle.rules.specs.Search.{done, unfinished, Finished}
 use Rattle.rules.specs.Report.{numbersOf, labelsOf, bytesFor, bitAt}
 use Rattle.rules.specs.Answers.{Memory, backtracked, endAnswer, walkWithin, searchWithin, treeIn, P, F}
 use Rattle.rules.specs.Demands.{Demand2, Demand3}
-use Rattle.rules.specs.Lots.{Named, presentRows, presentTask, callRefusal, lotWalk, lotMemory, begun, stays, Called, callOf, Leaves}
+use Rattle.rules.specs.Lots.{Named, presentRows, presentTask, callRefusal, lotWalk, lotMemory, begun, stays, Called, Arrived, arrived, callOf, Leaves}
 use Rattle.rules.specs.Places.{unroll, placesOf, factorOf, flagsAt}
 
 -- so many rows are present: the slice is whole rows and holds them, and they are no more than named
@@ -84,25 +84,21 @@ pub record OneRun (s : Named) (rows : List ℤ) (present : ℕ) : Type 0 where
 
 -- ---- calls, one behind the other
 
--- a call: the slice as it is then, and how many of its rows are present
-abbrev pub Call : Type 0
-Call = List ℤ × ℕ
-
 -- before the first call
 abbrev pub start : Named → Called
 start s = record { progress = begun; memory = record { result = begun .result; buffers = s .lent } }
 
--- Calls of which none is the last lead from the first to the second: each finds the buffers as the
--- one before left them. Any may be refused; one that is not has rows that the last call, with these
--- rows present, has too.
-unfoldable pub Lead : Named → List ℤ → ℕ → Called → List Call → Called → Type 0
+-- Calls of which none is the last, told by what has arrived at each, lead from the first to the
+-- second: each finds the buffers as the one before left them. Any may be refused; one that is not
+-- has rows that the last call, with `lot`, has too.
+unfoldable pub Lead : Named → Arrived → Called → List Arrived → Called → Type 0
 unfolding callOf callRefusal
-Lead s rows present k [] k′ = k ≡ k′
-Lead s rows present k (c ∷ cs) k′ =
-    (callRefusal s (k .progress) (c .0) (c .1) ≡ 0 → Later s (c .0) rows (c .1) present)
+Lead s lot k [] k′ = k ≡ k′
+Lead s lot k (c ∷ cs) k′ =
+    (callRefusal s (k .progress) (c .rows) (c .present) ≡ 0 → Later s (c .rows) (lot .rows) (c .present) (lot .present))
     × ((got : Memory)
-    × (Leaves s (callOf s (k .progress) (c .0) (c .1) false (k .memory .buffers) .memory) got
-    × Lead s rows present (record { progress = callOf s (k .progress) (c .0) (c .1) false (k .memory .buffers) .progress; memory = got }) cs k′))
+    × (Leaves s (callOf s (k .progress) c false (k .memory .buffers) .memory) got
+    × Lead s lot (record { progress = callOf s (k .progress) c false (k .memory .buffers) .progress; memory = got }) cs k′))
 
 -- ---- all of it
 
@@ -115,5 +111,5 @@ pub record Lots (s : Named) : Type 0 where
   pub one-run : (rows : List ℤ) (present : ℕ) → Lot s rows present → OneRun s rows present
   -- whatever the calls before: the last call leaves what the search on the rows present does, and
   -- so returns and reports what the one run does
-  pub cutting : (cs : List Call) (rows : List ℤ) (present : ℕ) (k : Called) (got : Memory) → Lot s rows present → Lead s rows present (start s) cs k
-      → Leaves s (callOf s (k .progress) rows present true (k .memory .buffers) .memory) got → got ≡ lotMemory s rows present true
+  pub cutting : (cs : List Arrived) (rows : List ℤ) (present : ℕ) (k : Called) (got : Memory) → Lot s rows present → Lead s (arrived rows present) (start s) cs k
+      → Leaves s (callOf s (k .progress) (arrived rows present) true (k .memory .buffers) .memory) got → got ≡ lotMemory s rows present true

@@ -148,21 +148,30 @@ pub record Called : Type 0 where
 abbrev pub unchanged : Progress → Memory → Called
 unchanged p m = record { progress = p; memory = m }
 
--- A call with so many rows present, the last or not, that finds the buffers as they are `now`.
+-- what has arrived when a call is made: the slice as it is then, and how many of its rows are
+-- present
+pub record Arrived : Type 0 where
+  pub rows : List ℤ
+  pub present : ℕ
+
+abbrev pub arrived : List ℤ → ℕ → Arrived
+arrived rows present = record { rows = rows; present = present }
+
+-- A call with what has arrived, the last or not, that finds the buffers as they are `now`.
 -- Where the search has stopped, the result is as before; after the end the answer is 21; then the
 -- refusals by rank; none of these changes anything. Any other call comes to the search on the rows
 -- present, and the last one declares the end.
-unfoldable pub callOf : Named → Progress → List ℤ → ℕ → Bool → Buffers → Called
+unfoldable pub callOf : Named → Progress → Arrived → Bool → Buffers → Called
 unfolding stays callRefusal offsetAt textOf lotMemory refused
-callOf s p rows present last now =
+callOf s p lot last now =
     pick (stays (p .result .answer)) (unchanged p (record { result = p .result; buffers = now }))
     (pick (p .ended) (unchanged p (refused 21 0 now))
-    (pick (eqb (callRefusal s p rows present) 0)
+    (pick (eqb (callRefusal s p (lot .rows) (lot .present)) 0)
     (record {
-      progress = record { present = present; ended = last; result = lotMemory s rows present last .result };
-      memory = lotMemory s rows present last;
+      progress = record { present = lot .present; ended = last; result = lotMemory s (lot .rows) (lot .present) last .result };
+      memory = lotMemory s (lot .rows) (lot .present) last;
     })
-    (unchanged p (refused (callRefusal s p rows present) (offsetAt (textOf (s .query)) (callRefusal s p rows present)) now))))
+    (unchanged p (refused (callRefusal s p (lot .rows) (lot .present)) (offsetAt (textOf (s .query)) (callRefusal s p (lot .rows) (lot .present))) now))))
 
 -- What R-11 leaves free, with what holds of it: a call leaves what `callOf` says, but at 23 the
 -- first numbers of the trail, one for each pair, may be any. Its length, and what lies beyond, are

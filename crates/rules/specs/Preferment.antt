@@ -11,7 +11,7 @@ use Prim.Native.Nat.{ℕ, suc, _+_, _≤_, _<_, zero}
 use lib.ListN.{length}
 use Rattle.rules.specs.Language.{lower, upper, Rank, pattern, Tree, one, more, last, next, bare, times, letter, caret, dollar, empty, group}
 use Rattle.rules.specs.Readings.{Within, RowSets}
-use Rattle.rules.specs.Search.{End, done, full, stuck, Skip, nextStart}
+use Rattle.rules.specs.Search.{End, done, full, stuck, Skip, nextStart, Standing, standAt}
 use lib.Dec.{ltb}
 use Rattle.rules.specs.Basics.{every}
 
@@ -182,17 +182,17 @@ setting t rows skip fits = record { tree = t; rows = rows; skip = skip; fits = f
 abbrev pub Shown : Type 0
 Shown = ℕ × List ℕ
 
--- `Reports s i m l ms end`: from the start i on, behind m matches with l labels, the matches written
--- are ms, and `end` tells how it ends.
-pub data Reports (s : Setting) : ℕ → ℕ → ℕ → List Shown → End Shown → Type 0 where
+-- `Reports s (standAt i m l) ms end`: from the start i on, behind m matches with l labels, the
+-- matches written are ms, and `end` tells how it ends.
+pub data Reports (s : Setting) : Standing → List Shown → End Shown → Type 0 where
   -- no row is left to start at: done
-  finished : {i m l : ℕ} → s .rows .n ≤ i → Reports s i m l [] done
+  finished : {i m l : ℕ} → s .rows .n ≤ i → Reports s (standAt i m l) [] done
   -- no match at the start: the next start is one row on
-  unmatched : {i m l : ℕ} {ms : List Shown} {end : End Shown} → i < s .rows .n → NoneParses (s .rows) (s .tree) i → Reports s (suc i) m l ms end → Reports s i m l ms end
+  unmatched : {i m l : ℕ} {ms : List Shown} {end : End Shown} → i < s .rows .n → NoneParses (s .rows) (s .tree) i → Reports s (standAt (suc i) m l) ms end → Reports s (standAt i m l) ms end
   -- a match that fits is written, and the skip mode names the next start
   matched : {i j k m l : ℕ} {w : List ℕ} {ms : List Shown} {end : End Shown} → i < s .rows .n → Preferred (s .rows) (s .tree) i j w → s .fits m l w ≡ true
-      → nextStart (s .skip) i j w ≡ some k → Reports s k (suc m) (l + length w) ms end → Reports s i m l ((i, w) ∷ ms) end
+      → nextStart (s .skip) i j w ≡ some k → Reports s (standAt k (suc m) (l + length w)) ms end → Reports s (standAt i m l) ((i, w) ∷ ms) end
   -- a match that fits is written, and names no next start: there it ends
-  lost : {i j m l : ℕ} {w : List ℕ} → i < s .rows .n → Preferred (s .rows) (s .tree) i j w → s .fits m l w ≡ true → nextStart (s .skip) i j w ≡ none → Reports s i m l ((i, w) ∷ []) stuck
+  lost : {i j m l : ℕ} {w : List ℕ} → i < s .rows .n → Preferred (s .rows) (s .tree) i j w → s .fits m l w ≡ true → nextStart (s .skip) i j w ≡ none → Reports s (standAt i m l) ((i, w) ∷ []) stuck
   -- a match that does not fit is not written: there it ends
-  stopped : {i j m l : ℕ} {w : List ℕ} → i < s .rows .n → Preferred (s .rows) (s .tree) i j w → s .fits m l w ≡ false → Reports s i m l [] (full (i, w))
+  stopped : {i j m l : ℕ} {w : List ℕ} → i < s .rows .n → Preferred (s .rows) (s .tree) i j w → s .fits m l w ≡ false → Reports s (standAt i m l) [] (full (i, w))

@@ -89,10 +89,20 @@ unfolding labels
 labelsOf pl [] = []
 labelsOf pl (x ∷ xs) = labels pl (x .path) ++ labelsOf pl xs
 
+-- the room that a report has: so many numbers and so many labels are lent, for matches with these
+-- measures
+pub record LentRoom : Type 0 where
+  pub numbers : ℕ
+  pub labels : ℕ
+  pub measures : List Measure
+
+abbrev pub lentRoom : ℕ → ℕ → List Measure → LentRoom
+lentRoom nums labs ms = record { numbers = nums; labels = labs; measures = ms }
+
 -- A match with these labels fits whole behind m matches with l labels: its numbers, 3 and 2 for
--- each measure, in a room of `nums` numbers, and its labels in a room of `labs` bytes.
-unfoldable pub fits : ℕ → ℕ → List Measure → ℕ → ℕ → List ℕ → Bool
-fits nums labs ms m l ls = leb (suc m * (3 + 2 * length ms)) nums && leb (l + length ls) labs
+-- each measure, and its labels.
+unfoldable pub fits : LentRoom → ℕ → ℕ → List ℕ → Bool
+fits room m l ls = leb (suc m * (3 + 2 * length (room .measures))) (room .numbers) && leb (l + length ls) (room .labels)
 
 -- ---- notes and trail
 

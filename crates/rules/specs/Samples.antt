@@ -18,7 +18,7 @@ use Rattle.rules.specs.Preferment.{Derivation, Prefers, emptyEnds, Shown
 use Rattle.rules.specs.Walk.{countTrue}
 use Rattle.rules.specs.Search.{openOf}
 use Rattle.rules.specs.Answers.{pairsOf, Buffers, Result, taskOf, walkWithin, searchWithin, searchOf, Tested, testOf}
-use Rattle.rules.specs.Lots.{Named, Progress, begun, beginAnswer, lotWalk, callOf}
+use Rattle.rules.specs.Lots.{Named, Progress, begun, beginAnswer, lotWalk, arrived, callOf}
 use Rattle.rules.specs.Bench.{recordBytes, asks, w1, X, any, Line, at, unstepped, refusedLine, same, equalZ, enough, line, aboveZero, agrees, ifGiven, withFactor, answering}
 use Rattle.rules.specs.Report.{resultOf}
 
@@ -159,7 +159,7 @@ unfoldable pub tells : Named → Progress → Buffers → List Told → Bool
 unfolding callOf
 tells s p lent [] = true
 tells s p lent (c ∷ cs) =
-    let r = callOf s p (c .rows) (c .present) (c .ends) lent in
+    let r = callOf s p (arrived (c .rows) (c .present)) (c .ends) lent in
     equalResult (r .memory .result) (c .result) && tells s (r .progress) (r .memory .buffers) cs
 
 abbrev pub Lotted : Type 0
@@ -253,9 +253,9 @@ unfoldable pub lotRooms : Bool
 unfolding callOf lotWalk w1 pairsOf
 lotRooms =
     let s = named w1 5 none in
-    let first = callOf s begun X 4 false (s .lent) in
-    let final = callOf s (first .progress) X 4 true (first .memory .buffers) in
-    let later = callOf s (first .progress) X 3 false (s .lent) in
+    let first = callOf s begun (arrived X 4) false (s .lent) in
+    let final = callOf s (first .progress) (arrived X 4) true (first .memory .buffers) in
+    let later = callOf s (first .progress) (arrived X 3) false (s .lent) in
     same eqb (first .memory .buffers .notes) (1 ∷ 0 ∷ 2 ∷ 0 ∷ [])
     && (same eqb (final .memory .buffers .notes) (1 ∷ 0 ∷ 2 ∷ 0 ∷ [])
     && (same eqb (final .memory .buffers .trail) (replicate 30 0)
@@ -313,7 +313,7 @@ unfoldable pub refusesSo : Refused → Bool
 unfolding callOf pairsOf
 refusesSo l =
     let s : Named = record { query = l .query; largest = l .largest; allowance = none; lent = enough (l .query) (any 3) } in
-    let r = callOf s begun (any 4) (l .present) false (s .lent) .memory .result in
+    let r = callOf s begun (arrived (any 4) (l .present)) false (s .lent) .memory .result in
     eqb (r .answer) (l .answer) && (eqb (r .offset) (l .offset) && eqb (r .matches) (pick (eqb (l .answer) 23) 3 0))
 
 -- ---- R-3, repetitions whose rounds may take no row
@@ -410,13 +410,13 @@ unfolding callOf pairsOf loops
 loopRooms =
     let fitting : ℕ → ℕ → Named = λ n t. record { query = loops; largest = 5; allowance = none; lent = record { notes = replicate n 255; trail = replicate t 9; numbers = replicate 40 (pos 9); labels = replicate 40 9 } } in
     let s = fitting 6 48 in
-    let first = callOf s begun fourRows 3 false (s .lent) in
-    let final = callOf s (first .progress) fourRows 4 true (first .memory .buffers) in
+    let first = callOf s begun (arrived fourRows 3) false (s .lent) in
+    let final = callOf s (first .progress) (arrived fourRows 4) true (first .memory .buffers) in
     same eqb (first .memory .buffers .notes) (0 ∷ 0 ∷ 48 ∷ 0 ∷ 0 ∷ 0 ∷ [])
     && (same eqb (final .memory .buffers .notes) (0 ∷ 0 ∷ 48 ∷ 0 ∷ 48 ∷ 0 ∷ [])
     && (same eqb (final .memory .buffers .trail) (replicate 48 0)
-    && (eqb (callOf (fitting 5 48) begun fourRows 3 false (s .lent) .memory .result .answer) 11
-    && eqb (callOf (fitting 6 47) begun fourRows 3 false (s .lent) .memory .result .answer) 12)))
+    && (eqb (callOf (fitting 5 48) begun (arrived fourRows 3) false (s .lent) .memory .result .answer) 11
+    && eqb (callOf (fitting 6 47) begun (arrived fourRows 3) false (s .lent) .memory .result .answer) 12)))
 
 -- Behind the required rounds of a repetition only the last may take no row; a round is told by the
 -- labels of its rows.

@@ -144,8 +144,8 @@ abbrev pub noStart : Bool → ℕ → End Match
 noStart false i = done
 noStart true i = unfinished outOfRows i []
 
--- after no match the next start is one row on; behind a match that is written it is the row j that
--- the match names
+-- after a miss the next start is one row on; behind a match, by its path p, that is written it is
+-- the row j that the match names
 abbrev pub oneRowOn : Standing → Standing
 oneRowOn at = standAt (suc (at .start)) (at .matches) (at .labels)
 
@@ -163,23 +163,25 @@ module _ {S : Type 0} where
   abbrev pub withMatch : Match → Swept S → Swept S
   withMatch m r = record { matches = m ∷ r .matches; end = r .end; state = r .state }
 
-  -- A match that does not fit whole ends the search, and no later, smaller match is tried; one that
-  -- names no next start is written, and ends the search; any other is written, and the search goes
-  -- on at the start that it names.
+  -- A match, by whether it fits and by the next start that it names. One that does not fit whole
+  -- ends the search, and no later, smaller match is tried; one that names no next start is written,
+  -- and ends the search; any other is written, and the search goes on at the start that it names.
   abbrev pub onMatch : Bool → Option ℕ → Match → S → (ℕ → Swept S) → Swept S
   onMatch false next m st go = ended (full m) st
   onMatch true none m st go = withMatch m (ended stuck st)
   onMatch true (some j) m st go = withMatch m (go j)
 
-  -- behind an attempt: a miss; a halt; a match
+  -- Behind an attempt: after a miss the search goes on, one row on; where the attempt halts, the
+  -- search is unfinished; a match is as `onMatch` says.
   abbrev pub onAnswer : Plan → (Standing → S → Swept S) → Standing → Attempted → S → Swept S
   onAnswer plan on at miss st = on (oneRowOn at) st
   onAnswer plan on at (halts h p) st = ended (unfinished h (at .start) p) st
   onAnswer plan on at (hit p) st =
       onMatch (plan .fits (at .matches) (at .labels) p) (plan .next (at .start) p) (record { start = at .start; path = p }) st (λ j. on (behindMatch plan at p j) st)
 
-  -- the search from where it stands on; attempts begin at rows below n only. k bounds the number of
-  -- attempts; the law `sweep-enough` (crates/laws, Fuel) says that n is enough.
+  -- The search from where it stands on. Attempts begin at rows below n only: where no row is left to
+  -- start at, the search ends; else it makes an attempt, and goes on behind it. k bounds the number
+  -- of attempts; the law `sweep-enough` (crates/laws, Fuel) says that n is enough.
   unfoldable pub sweep : (ℕ → S → Attempted × S) → Plan → ℕ → Standing → S → Swept S
   sweep attempt plan zero at st = ended (noStart (plan .more) (at .start)) st
   sweep attempt plan (suc k) at st =
@@ -188,7 +190,7 @@ module _ {S : Type 0} where
 
 -- ---- attempts
 
--- the counted walk keeps its failed pairs and its steps through one whole search
+-- by the counted walk, which keeps its failed pairs and its steps through one whole search
 abbrev pub answered : Outcome → Attempted × Kept
 answered (found p kept) = (hit p, kept)
 answered (failed kept) = (miss, kept)

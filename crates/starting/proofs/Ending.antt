@@ -11,7 +11,7 @@ use lib.ListN.{length, replicate}
 use Rattle.rules.specs.Basics.{wrote}
 use Rattle.rules.specs.Search.{Match, End, done, full, stuck, unfinished, Swept, within}
 use Rattle.rules.specs.Walk.{outOfSteps, outOfRows, pairs, Kept}
-use Rattle.rules.specs.Report.{fits, numbersOf, labelsOf, notesOf, zeros}
+use Rattle.rules.specs.Report.{lentRoom, fits, numbersOf, labelsOf, notesOf, zeros}
 use Rattle.rules.specs.Answers.{taskOf, letterHolds, walkedOn, walkWithin, haltAnswer, endAnswer, reportOf, accepted}
 use Rattle.matches.specs.Asked as S
 use Rattle.matches.specs.Asked.{askedOf}
@@ -43,7 +43,7 @@ module _ (T : List ℕ) (p : Prepared) (terms : Terms) (rows : List ℤ) (notes 
   unfolding walkedOn
   never-waits q =
       waits-not (walkedOn (within (some (terms .allowance)) (taskOf q rows .table .n)) (taskOf q rows) (length num) (length lab) .end)
-      (no-rows-end _ (search-no-wait (taskOf q rows .table .n) (some (terms .allowance)) (letterHolds (taskOf q rows)) (taskOf q rows .table .n) (taskOf q rows .places) (taskOf q rows .skip) (fits (length num) (length lab) (taskOf q rows .measures))))
+      (no-rows-end _ (search-no-wait (taskOf q rows .table .n) (some (terms .allowance)) (letterHolds (taskOf q rows)) (taskOf q rows .table .n) (taskOf q rows .places) (taskOf q rows .skip) (fits (lentRoom (length num) (length lab) (taskOf q rows .measures)))))
 
   pub run-ended : (r : Outcome) → r ≡ record { answer = s .end; matches = s .matches; labels = s .labels; steps = s .steps; offset = 0 }
       → (q : List ℕ) → Ready q T p → memory r notes′ trail′ num′ lab′ ≡ ended (terms .allowance) q rows (lent notes trail num lab)

@@ -15,7 +15,7 @@ use Rattle.rules.specs.Places.{Place, pLetter, pCaret, pDollar, pFork, pEnd, un
 use Rattle.rules.specs.Walk.{pairs}
 use Rattle.rules.specs.Search as R
 use Rattle.rules.specs.Search.{Match, walkSearch, seek}
-use Rattle.rules.specs.Report.{fits, numbersOf, labelsOf}
+use Rattle.rules.specs.Report.{lentRoom, fits, numbersOf, labelsOf}
 use Rattle.rules.specs.Answers.{treeIn, letterHolds, skipOf, taskOf, walkedOn}
 use Rattle.rules.specs.Working.{thinned}
 use Rattle.laws.proofs.Accepted.{places-are}
@@ -186,12 +186,12 @@ module _ (q T : List ℕ) (p : Prepared) (a : Ready q T p) (terms : Terms) (rows
     unfolding S.searchOf walkedOn
     found-by nums labs =
         rw (a .placed)
-        (search-agrees holdsAt (letterHolds (taskOf q rows)) letters-agree n (thinned (places (unroll (a .tree)))) (thinned-spelt (a .tree) the-lettered) (on n) (skipIn (t .skip)) (fits nums labs (measuresIn T (measuresAt (p .places)) (p .count)))
-        ∙ walk-thin (unroll (a .tree)) (letterHolds (taskOf q rows)) n (on n) (omega arith) (skipIn (t .skip)) (fits nums labs (measuresIn T (measuresAt (p .places)) (p .count)))
+        (search-agrees holdsAt (letterHolds (taskOf q rows)) letters-agree n (thinned (places (unroll (a .tree)))) (thinned-spelt (a .tree) the-lettered) (on n) (skipIn (t .skip)) (fits (lentRoom nums labs (measuresIn T (measuresAt (p .places)) (p .count))))
+        ∙ walk-thin (unroll (a .tree)) (letterHolds (taskOf q rows)) n (on n) (omega arith) (skipIn (t .skip)) (fits (lentRoom nums labs (measuresIn T (measuresAt (p .places)) (p .count))))
         ∙ same-search (places (unroll (a .tree))) (taskOf q rows .places) n (taskOf q rows .table .n) (skipIn (t .skip)) (taskOf q rows .skip) (measuresIn T (measuresAt (p .places)) (p .count)) (taskOf q rows .measures) (sym the-places) the-rows (h .skip ∙ the-skip) the-measures)
       where
         same-search : (pl pl′ : List Place) (m m′ : ℕ) (o o′ : R.Skip) (x x′ : List Measure) → pl ≡ pl′ → m ≡ m′ → o ≡ o′ → x ≡ x′
-            → walkSearch (on m) (seek (letterHolds (taskOf q rows)) m pl o (fits nums labs x)) ≡ walkSearch (on m′) (seek (letterHolds (taskOf q rows)) m′ pl′ o′ (fits nums labs x′))
+            → walkSearch (on m) (seek (letterHolds (taskOf q rows)) m pl o (fits (lentRoom nums labs x))) ≡ walkSearch (on m′) (seek (letterHolds (taskOf q rows)) m′ pl′ o′ (fits (lentRoom nums labs x′)))
         same-search pl pl′ m m′ o o′ x x′ e f h i = rw (e, f, h, i)
 
     pub found : (nums labs : ℕ) → S.searchOf (askedOf T rows t) nums labs ≡ walkedOn (on (taskOf q rows .table .n)) (taskOf q rows) nums labs
@@ -210,7 +210,7 @@ module _ (q T : List ℕ) (p : Prepared) (a : Ready q T p) (terms : Terms) (rows
     unfolding walkedOn
     counted nums labs =
         ap₂ (λ (x y : ℕ). pairs x y) (h .places ∙ a .places-are ∙ sym (places-counted (a .tree) the-bounds) ∙ ap length (sym the-places)) (h .rows ∙ the-rows)
-        ∙ sym (rw the-places (search-kept (unroll (a .tree)) (letterHolds (taskOf q rows)) (taskOf q rows .table .n) (on (taskOf q rows .table .n)) (omega arith) (taskOf q rows .skip) (fits nums labs (taskOf q rows .measures))))
+        ∙ sym (rw the-places (search-kept (unroll (a .tree)) (letterHolds (taskOf q rows)) (taskOf q rows .table .n) (on (taskOf q rows .table .n)) (omega arith) (taskOf q rows .skip) (fits (lentRoom nums labs (taskOf q rows .measures)))))
 
 -- as the code asks it
 pub walk-searches : (T : List ℕ) (p : Prepared) (terms : Terms) (rows : List ℤ) (notes trail : List ℕ) → Walks T p terms rows notes trail → (t : Task) → TaskFor p terms t → Searches T rows t notes trail × Measures T t notes trail

@@ -12,7 +12,7 @@ use lib.ListN.{length, getD, replicate, length-append}
 use borrow.Author.Tests.{lt-ltb, le-ltb}
 use Rattle.rules.specs.Answers.{haltAnswer, endAnswer}
 use Rattle.rules.specs.Basics.{wrote}
-use Rattle.rules.specs.Report.{bitAt, matchNumbers, numbersOf, labelsOf, fits}
+use Rattle.rules.specs.Report.{bitAt, matchNumbers, numbersOf, labelsOf, lentRoom, fits}
 use Rattle.rules.specs.Search as R
 use Rattle.rules.specs.Search.{Match, End, Swept, Plan, Attempted, hit, miss, halts, haltingOf, sweep, onAnswer, withMatch, walkAt, labels, endOf, planOf, walkSearch, Standing, standAt, onMatch}
 use Rattle.rules.specs.Walk.{Halt, outOfSteps, outOfRows, pairs, firstAt, pairWays, Kept, asKept}
@@ -55,7 +55,7 @@ module _ (W : List ℕ) (rows : List ℤ) (task : Task) (num₁ : List ℤ) (lab
   sw = swp A (length num₁) (length lab₁)
 
   abbrev fit : ℕ → ℕ → List ℕ → Bool
-  fit = fits (length num₁) (length lab₁) (A .measures)
+  fit = fits (lentRoom (length num₁) (length lab₁) (A .measures))
 
   abbrev plan : Plan
   plan = planOf (pl A) (A .n) (A .more) (A .skip) fit

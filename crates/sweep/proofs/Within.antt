@@ -12,7 +12,7 @@ use lib.ListN.{length, getD, replicate, length-append}
 use borrow.Author.Tests.{lt-ltb, le-ltb}
 use Rattle.rules.specs.Answers.{haltAnswer, endAnswer}
 use Rattle.rules.specs.Basics.{wrote}
-use Rattle.rules.specs.Report.{bitAt, matchNumbers, numbersOf, labelsOf, fits}
+use Rattle.rules.specs.Report.{bitAt, matchNumbers, numbersOf, labelsOf, lentRoom, fits}
 use Rattle.rules.specs.Search as R
 use Rattle.rules.specs.Search.{Match, End, Swept, Plan, Attempted, hit, miss, halts, haltingOf, sweep, onAnswer, walkAt, labels, endOf, planOf, walkSearch}
 use Rattle.rules.specs.Walk.{Halt, outOfSteps, outOfRows, pairs, firstAt, pairWays, Kept}
@@ -93,7 +93,7 @@ module _ (W : List ℕ) (rows : List ℤ) (task : Task) (notes trail : List ℕ)
           labels-long = ap length (q .labels-is);
         })
 
-    module _ (p : List ℕ) (s : ℕ) (ls : s ≤ i .steps + M A) (eb : fits (length numbers) (length labs) (A .measures) (i .matches) (i .labels) (labels (pl A) p) ≡ true) where
+    module _ (p : List ℕ) (s : ℕ) (ls : s ≤ i .steps + M A) (eb : fits (lentRoom (length numbers) (length labs) (A .measures)) (i .matches) (i .labels) (labels (pl A) p) ≡ true) where
       fr : (i .matches * width A + width A ≤ length numbers) × (i .labels + length (labels (pl A) p) ≤ length labs)
       fr = fits-room (length numbers) (length labs) (A .measures) (i .matches) (i .labels) (labels (pl A) p) eb
 
@@ -123,7 +123,7 @@ module _ (W : List ℕ) (rows : List ℤ) (task : Task) (notes trail : List ℕ)
                 labels-long = labs-long;
               }
 
-    by-fit : (p : List ℕ) (s : ℕ) → s ≤ i .steps + M A → (b : Bool) → fits (length numbers) (length labs) (A .measures) (i .matches) (i .labels) (labels (pl A) p) ≡ b
+    by-fit : (p : List ℕ) (s : ℕ) → s ≤ i .steps + M A → (b : Bool) → fits (lentRoom (length numbers) (length labs) (A .measures)) (i .matches) (i .labels) (labels (pl A) p) ≡ b
         → ToldBy b A p i s numbers numbers′ labs labs′ r → Keeps r
     by-fit p s ls true eb q = written-keeps p s ls eb (nextAt A (i .row) p) refl q
     by-fit p s ls false eb q = quiet-keeps (swept 13 (A .n) (i .matches) (i .labels) s) q (inl (λ (e : _≡_ {A = ℕ} 13 0). omega arith))
@@ -140,7 +140,7 @@ module _ (W : List ℕ) (rows : List ℤ) (task : Task) (notes trail : List ℕ)
         let k = ap length (q .labels-is) in
         quiet-keeps (swept 0 (i .row + 1) (i .matches) (i .labels) s) q (inr (omega arith, omega arith, ls, omega arith))
     by-att (halts w p) s ls q = quiet-keeps (sweptAt w p (i .row) (i .matches) (i .labels) s) q (inl (halt-some w))
-    by-att (hit p) s ls q = by-fit p s ls (fits (length numbers) (length labs) (A .measures) (i .matches) (i .labels) (labels (pl A) p)) refl q
+    by-att (hit p) s ls q = by-fit p s ls (fits (lentRoom (length numbers) (length labs) (A .measures)) (i .matches) (i .labels) (labels (pl A) p)) refl q
 
     keeps : Keeps r
     keeps = by-att (att .0) (att .1 .steps) (v .more) (v .told)

@@ -8,7 +8,7 @@ use lib.IntN.{ℤ}
 use lib.ListN.{length, getD, drop, replicate}
 use Rattle.rules.specs.Answers.{endAnswer}
 use Rattle.rules.specs.Basics.{pick, wrote}
-use Rattle.rules.specs.Report.{bitAt, numbersOf, labelsOf, notesOf, zeros, fits}
+use Rattle.rules.specs.Report.{bitAt, numbersOf, labelsOf, notesOf, zeros, lentRoom, fits}
 use Rattle.rules.specs.Search.{Match, End, unfinished, Swept, Attempted, hit, miss, halts, walkAt, sweep, planOf, Standing, standAt}
 use Rattle.rules.specs.Walk.{outOfSteps, outOfRows, pairs, firstAt, pairWays, Kept, asKept}
 use Rattle.rules.specs.Working.{bitsOf}
@@ -68,7 +68,7 @@ pre ms r = record { matches = ms ++ r .matches; end = r .end; state = r .state }
 abbrev pub swp : Asked → ℕ → ℕ → ℕ → Standing → Kept → Swept Kept
 swp A nums labs k at kept =
     sweep (walkAt (haltsIn (A .layout) (A .more) (A .n)) (pairWays (A .holds) (A .n) (pl A)) (pairs (length (pl A)) (A .n)) (firstAt (length (pl A))))
-    (planOf (pl A) (A .n) (A .more) (A .skip) (fits nums labs (A .measures))) k at kept
+    (planOf (pl A) (A .n) (A .more) (A .skip) (fits (lentRoom nums labs (A .measures)))) k at kept
 
 -- The search stands so far, in the buffers whose report began as num₁ and lab₁: the matches done
 -- are written, and what the definition's search still comes to from here on makes the goal of it.
