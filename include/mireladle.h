@@ -45,9 +45,8 @@ extern "C" {
 #define MIRELADLE_MAX_OFFSET 64       /* rows that PREV or NEXT looks away */
 
 /* Bytes of stack that a call needs, 64 KiB. Measured, not proved: of some 60,000 queries the worst
- * took 58,984 in one search and 56,728 in lots (8 nested groups with branches). A+ B takes 3,680 in
- * one search, but 51,472 in lots, where room for the largest table is set aside in every call. The
- * number of rows makes no difference. */
+ * took 62,384 in lots and 61,536 in one search (8 nested groups with parts); A+ B takes 51,040.
+ * Room for the largest table is set aside in every call. The number of rows makes no difference. */
 #define MIRELADLE_STACK 65536
 
 /* Bytes of notes that a number of pairs calls for; the trail takes one number for each pair. */
@@ -332,16 +331,16 @@ struct mireladle_result mireladle_search_within(const uint8_t *query, size_t que
  *
  *   23            From mireladle_more(): the search waits for a row. matches and labels count all that
  *                 was found so far, of which the earlier calls told the front, and steps are those of
- *                 all calls. What the first P * F * (largest + 1) numbers of the trail hold is left
- *                 free; the next call finds it there.
+ *                 all calls. The first P * F * (largest + 1) numbers of the trail are left free.
  *   0             From mireladle_last(): the report is whole.
  *   13, 15, 16    As for mireladle_search_within(), over all calls, from either of the two.
  *
  * Numbers, labels and notes, and on 0, 13, 15 and 16 the trail, are then as stated for
  * mireladle_search(), with largest in the place of n. A pair that is still open has not failed.
  *
- * A call's work is that of its new rows: the search is taken up where it waited, by the trail. But it
- * reads the query anew, so a lot of many rows takes less time than many lots of one.
+ * A call takes the steps for its new rows and, over again, those for the pairs still open, which are
+ * not counted twice; and it reads the query anew. So a lot of many rows takes less time than many
+ * lots of one.
  */
 void mireladle_begin(struct mireladle_feed *feed, uint64_t largest, uint64_t allowance);
 struct mireladle_result mireladle_more(struct mireladle_feed *feed,

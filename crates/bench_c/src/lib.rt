@@ -7,12 +7,12 @@ ghost use Rattle.std.specs.Prelude.{List, ℕ};
 ghost use Rattle.std.proofs.Math.Option.{some};
 ghost use Rattle.outcome.specs.Results.{lent, memory};
 ghost use Rattle.prepared.specs.Ready.{Given, PreparedAs};
-ghost use Rattle.running.specs.Promise.{Promised};
-ghost use Rattle.running.specs.Runs.{Runs};
+ghost use Rattle.search.specs.Promise.{Promised};
+ghost use Rattle.search.specs.Runs.{Runs};
 
-use no_limit::NO_LIMIT;
 use outcome::Outcome;
 use prepared::Prepared;
+use search::NO_LIMIT;
 
 // A query prepared.
 #[unsafe(no_mangle)]
@@ -36,5 +36,5 @@ pub extern "C" fn mireladle_bench_run(
     requires { Runs table.now p }
     ensures { (q : List ℕ) → Given q table.now p → Promised (some 18446744073709551615) q rows.now (lent notes.old trail.old numbers.old labels.old) (memory result notes.new trail.new numbers.new labels.new) }
 {
-    running::run(table, p, rows, NO_LIMIT, notes, trail, numbers, labels)
+    search::run(table, p, rows, NO_LIMIT, notes, trail, numbers, labels)
 }

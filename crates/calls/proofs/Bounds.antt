@@ -110,9 +110,9 @@ module _ (s : Named) (begins : begin_answer s ≡ 0) (rows : List ℤ) (n : ℕ)
   demanded : LotDemands s rows n last
   demanded = (lots s begins).demands rows n last lot
 
-  answer-is : left.result.answer ≡ end_answer walk.end
+  answer_is : left.result.answer ≡ end_answer walk.end
   unfolding lot_memory accepted report_of
-  answer-is = refl
+  answer_is = refl
 
   -- the numbers of the result
   pub matches-are : left.result.matches ≡ length walk.matches
@@ -128,8 +128,8 @@ module _ (s : Named) (begins : begin_answer s ≡ 0) (rows : List ℤ) (n : ℕ)
   steps_are = refl
 
   -- any other answer than 0 and 23 stays
-  pub answer-stays : (left.result.answer ≡ 23 → ⊥) → (left.result.answer ≡ 0 → ⊥) → stays left.result.answer ≡ true
-  answer-stays d z = rw answer-is (ends_how walk.end (λ e. d (answer-is ∙ e)) (λ e. z (answer-is ∙ e)))
+  pub answer_stays : (left.result.answer ≡ 23 → ⊥) → (left.result.answer ≡ 0 → ⊥) → stays left.result.answer ≡ true
+  answer_stays d z = rw answer_is (ends_how walk.end (λ e. d (answer_is ∙ e)) (λ e. z (answer_is ∙ e)))
 
   -- 23 is the answer of a call that was not the last, 0 of the last one
   pub waits-more : left.result.answer ≡ 23 → last ≡ false
@@ -137,17 +137,17 @@ module _ (s : Named) (begins : begin_answer s ≡ 0) (rows : List ℤ) (n : ℕ)
     where
       by : (b : Bool) → last ≡ b → last ≡ false
       by false d = d
-      by true d = let w = is-waiting walk.end (sym answer-is ∙ e) in absurd (demanded.no_wait d w.0 w.1.0 w.1.1)
+      by true d = let w = is-waiting walk.end (sym answer_is ∙ e) in absurd (demanded.no_wait d w.0 w.1.0 w.1.1)
 
   pub done-last : left.result.answer ≡ 0 → last ≡ true
   done-last e = by last refl
     where
       by : (b : Bool) → last ≡ b → last ≡ true
       by true d = d
-      by false d = absurd (demanded.not_done d (is-done walk.end (sym answer-is ∙ e)))
+      by false d = absurd (demanded.not_done d (is-done walk.end (sym answer_is ∙ e)))
 
   pub waiting-end : left.result.answer ≡ 23 → (i : ℕ) × ((p : List ℕ) × (walk.end ≡ unfinished out_of_rows i p))
-  waiting-end e = is-waiting walk.end (sym answer-is ∙ e)
+  waiting-end e = is-waiting walk.end (sym answer_is ∙ e)
 
   -- ---- numbers within their bounds
 
@@ -214,12 +214,12 @@ module _ (s : Named) (begins : begin_answer s ≡ 0) (rows : List ℤ) (n : ℕ)
   unfolding zeros
   zeros-long = length-replicate (length walk.state.failed) 0 ∙ pairs_are
 
-  trail-room : 0 + length (zeros (length walk.state.failed)) ≤ length s.lent.trail
-  trail-room = let a = zeros-long in let b = ok.trail_long in omega arith
+  trail_room : 0 + length (zeros (length walk.state.failed)) ≤ length s.lent.trail
+  trail_room = let a = zeros-long in let b = ok.trail_long in omega arith
 
-  pub trail-kept : length left.buffers.trail ≡ length s.lent.trail
+  pub trail_kept : length left.buffers.trail ≡ length s.lent.trail
   unfolding lot_memory accepted
-  trail-kept = length-wrote_at s.lent.trail 0 (zeros (length walk.state.failed)) trail-room
+  trail_kept = length-wrote_at s.lent.trail 0 (zeros (length walk.state.failed)) trail_room
 
   -- and beyond the pairs the trail is as it was
   pub trail_beyond : drop (named_pairs s) left.buffers.trail ≡ drop (named_pairs s) s.lent.trail

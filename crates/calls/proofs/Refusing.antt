@@ -99,18 +99,18 @@ no_offset text m = go (bad_numbers m) (ltb m.notes (bytes_for (pairs m.places m.
 
 -- the numbers kept lie within their bounds
 abbrev pub in_bounds : Feed → ℕ → Bool
-in_bounds f room = leb f.matches f.row && (leb f.labels room && (leb f.opened f.steps && leb f.steps 2305843009213693952))
+in_bounds f room = leb f.matches f.row && (leb f.labels room && (leb f.opened f.steps && leb f.steps 4611686018427387904))
 
 bounds_within : (f : Feed) (labs : List ℕ) → in_bounds f (length labs) ≡ true → Within labs f
 bounds_within f labs e =
-    let a = and-true (leb f.matches f.row) (leb f.labels (length labs) && (leb f.opened f.steps && leb f.steps 2305843009213693952)) e in
-    let b = and-true (leb f.labels (length labs)) (leb f.opened f.steps && leb f.steps 2305843009213693952) a.1 in
-    let c = and-true (leb f.opened f.steps) (leb f.steps 2305843009213693952) b.1 in
+    let a = and-true (leb f.matches f.row) (leb f.labels (length labs) && (leb f.opened f.steps && leb f.steps 4611686018427387904)) e in
+    let b = and-true (leb f.labels (length labs)) (leb f.opened f.steps && leb f.steps 4611686018427387904) a.1 in
+    let c = and-true (leb f.opened f.steps) (leb f.steps 4611686018427387904) b.1 in
     record { few = leb-true _ _ a.0; labels = leb-true _ _ b.0; opened = leb-true _ _ c.0; steps = leb-true _ _ c.1 }
 
 within-bounds : (f : Feed) (labs : List ℕ) → Within labs f → in_bounds f (length labs) ≡ true
 within-bounds f labs w =
-    rw (le-leb f.matches f.row w.few, le-leb f.labels (length labs) w.labels, le-leb f.opened f.steps w.opened, le-leb f.steps 2305843009213693952 w.steps) refl
+    rw (le-leb f.matches f.row w.few, le-leb f.labels (length labs) w.labels, le-leb f.opened f.steps w.opened, le-leb f.steps 4611686018427387904 w.steps) refl
 
 module _ (T : List ℕ) (p : Prepared) (told : Told T p) (z : p.answer ≡ 0) where
   ready_of : Ready told.query T p

@@ -19,7 +19,7 @@ use Rattle.rules.specs.Lots.{Named, Progress, begun, present_task, stays, lot_te
 use Rattle.lots.specs.declared.Feed.{Feed}
 use Rattle.lots.specs.Feeds.{new_feed, Within}
 use Rattle.calls.specs.Calls.{Before, After, Allowance, New, TakenUp, Stands, taken_up, Made}
-use Rattle.calls.proofs.Bounds.{answer-stays, waits-more, done-last, waiting-end, matches-are, labels-are, steps_are, matches-behind, opened_within, steps_few, labels_fit, numbers-kept, labels-kept, notes_kept, trail-kept}
+use Rattle.calls.proofs.Bounds.{answer_stays, waits-more, done-last, waiting-end, matches-are, labels-are, steps_are, matches-behind, opened_within, steps_few, labels_fit, numbers-kept, labels-kept, notes_kept, trail_kept}
 use Rattle.calls.proofs.Unlimited.{limited, lot_limited, lot_free, begins-same, leaves-limited, leaves_free, walk_same, memory-same, call_same}
 
 -- `begin` gives a state that stands for what was named
@@ -51,7 +51,7 @@ module _ (s : Named) (pr : Progress) (rows₁ : List ℤ) (f : Feed) (b : Buffer
   pub trail_long : length b.trail ≡ length s.lent.trail
   trail_long =
       either (λ z. ap (λ (x : Buffers). length x.trail) (st.new z).named)
-      (λ d. let u = st.was_taken_up d in u.left.trail_length ∙ trail-kept s u.begins rows₁ pr.present u.lot pr.ended)
+      (λ d. let u = st.was_taken_up d in u.left.trail_length ∙ trail_kept s u.begins rows₁ pr.present u.lot pr.ended)
 
   pub numbers_long : length b.numbers ≡ length s.lent.numbers
   numbers_long =
@@ -65,11 +65,11 @@ module _ (s : Named) (pr : Progress) (rows₁ : List ℤ) (f : Feed) (b : Buffer
 
   -- ---- how it goes on
 
-  pub answer-is : pr.result.answer ≡ f.answer
-  answer-is = ap (λ (r : Result). r.answer) st.result
+  pub answer_is : pr.result.answer ≡ f.answer
+  answer_is = ap (λ (r : Result). r.answer) st.result
 
   left-answer : (d : f.begun ≡ 0 → ⊥) → (lot_memory s rows₁ pr.present pr.ended).result.answer ≡ f.answer
-  left-answer d = sym (ap (λ (r : Result). r.answer) (st.was_taken_up d).left.result) ∙ answer-is
+  left-answer d = sym (ap (λ (r : Result). r.answer) (st.was_taken_up d).left.result) ∙ answer_is
 
   new_answer : f.begun ≡ 0 → f.answer ≡ 23
   new_answer z = ap (λ (x : Feed). x.answer) (st.new z).feed
@@ -81,10 +81,10 @@ module _ (s : Named) (pr : Progress) (rows₁ : List ℤ) (f : Feed) (b : Buffer
       (λ d.
       let u = st.was_taken_up d in
       let e = left-answer d in
-      ap stays (answer-is ∙ sym e) ∙ answer-stays s u.begins rows₁ pr.present u.lot pr.ended (λ h. x (sym e ∙ h)) (λ h. y (sym e ∙ h)))
+      ap stays (answer_is ∙ sym e) ∙ answer_stays s u.begins rows₁ pr.present u.lot pr.ended (λ h. x (sym e ∙ h)) (λ h. y (sym e ∙ h)))
 
   by_answer : (a : ℕ) → f.answer ≡ a → stays pr.result.answer ≡ stays a
-  by_answer a e = ap stays (answer-is ∙ e)
+  by_answer a e = ap stays (answer_is ∙ e)
 
   -- 0: the end was declared
   pub done-going : f.answer ≡ 0 → stays pr.result.answer ≡ false
@@ -176,7 +176,6 @@ module _ (s : Named) (e : s.allowance ≡ none) where
               left = subst (λ (m : Memory). Leaves (limited s) m (record { result = pr.result; buffers = b })) (sym (memory-same s e u.begins rows pr.present u.lot pr.ended))
                   (leaves-limited s (lot_memory s rows pr.present pr.ended) (record { result = pr.result; buffers = b }) u.left);
               waits = λ i p h. u.waits i p (sym (ap (λ (r : Swept Kept). r.end) (walk_same s e u.begins rows pr.present u.lot pr.ended)) ∙ h);
-              held = λ i p h. u.held i p (sym (ap (λ (r : Swept Kept). r.end) (walk_same s e u.begins rows pr.present u.lot pr.ended)) ∙ h);
               bytes = u.bytes;
             };
       }
@@ -203,7 +202,6 @@ module _ (s : Named) (e : s.allowance ≡ none) where
               left = subst (λ (m : Memory). Leaves s m (record { result = pr.result; buffers = b })) (memory-same s e begins rows pr.present lot pr.ended)
                   (leaves_free s (lot_memory (limited s) rows pr.present pr.ended) (record { result = pr.result; buffers = b }) u.left);
               waits = λ i p h. u.waits i p (ap (λ (r : Swept Kept). r.end) (walk_same s e begins rows pr.present lot pr.ended) ∙ h);
-              held = λ i p h. u.held i p (ap (λ (r : Swept Kept). r.end) (walk_same s e begins rows pr.present lot pr.ended) ∙ h);
               bytes = u.bytes;
             };
       }

@@ -16,7 +16,7 @@ use Rattle.rules.specs.Query.{columns_of, parts}
 use Rattle.rules.specs.Walk.{out_of_rows, pairs, Kept}
 use Rattle.rules.specs.Search.{unfinished, Swept}
 use Rattle.rules.specs.Report.{labels_of, bytes_for}
-use Rattle.rules.specs.Answers.{tree_in, P, F, task_of, Buffers, Memory, Result}
+use Rattle.rules.specs.Answers.{task_of, Buffers, Memory, Result}
 use Rattle.rules.specs.Lots.{Named, Progress, present_rows, present_task, named_pairs, begin_answer, stays, call_refusal, lot_walk, lot_memory, Called, arrived, call_of, Leaves}
 use Rattle.rules.specs.LotDemands.{Lot, Later}
 use Rattle.laws.proofs.Lots.{Begins_well, begins-well, call-well}
@@ -24,16 +24,15 @@ use Rattle.prepared.specs.Ready.{Ready}
 use Rattle.prepared.specs.declared.Prepared.{Prepared}
 use Rattle.matches.specs.declared.Sweep.{Sweep}
 use Rattle.matches.specs.declared.Task as C
-use Rattle.pairs.specs.Step.{Held}
-use Rattle.sweep.specs.Searched.{Answered}
+use Rattle.sweep.specs.Searched.{WentOn, Answered}
 use Rattle.starting.specs.declared.Terms.{Terms}
 use Rattle.starting.specs.Starts as S
 use Rattle.outcome.specs.declared.Outcome.{Outcome}
 use Rattle.outcome.specs.Results.{lent, memory}
 use Rattle.lots.specs.declared.Feed.{Feed}
-use Rattle.lots.specs.Feeds.{Resumed}
-use Rattle.lots.proofs.Pairs.{named-pairs, named-places}
-use Rattle.lots.proofs.Calling.{first-leaves, first-waits, first-held, later-leaves, later-waits, later-held}
+use Rattle.lots.specs.Feeds.{kept_in}
+use Rattle.lots.proofs.Pairs.{named-pairs}
+use Rattle.lots.proofs.Calling.{first-leaves, first-waits, later-leaves, later-waits}
 use Rattle.calls.specs.declared.Call.{Call}
 use Rattle.calls.specs.declared.Fed.{Fed}
 use Rattle.calls.specs.Calls.{TakenUp, Stands, taken_up, Made}
@@ -103,13 +102,6 @@ module _ (s : Named) (T : List ℕ) (p : Prepared) (ready : Ready s.query T p) (
   pairs_are : t.pairs ≡ named_pairs s
   pairs_are = task.pairs_are ∙ sym (named-pairs s T p ready)
 
-  -- how many places the query has, by the definition and in the prepared query
-  abbrev places : ℕ
-  places = P (tree_in s.query) * F (tree_in s.query)
-
-  places_are : p.places ≡ places
-  places_are = named-places s T p ready
-
   room : t.pairs ≤ length s.lent.trail
   room = let e = pairs_are in let l = ok.trail_long in omega arith
 
@@ -150,11 +142,6 @@ module _ (s : Named) (T : List ℕ) (p : Prepared) (ready : Ready s.query T p) (
     waits-first : (i : ℕ) (u : List ℕ) → (lot_walk s rows n c.last).end ≡ unfinished out_of_rows i u → (sweep.row ≡ i) × (sweep.opened ≡ length u)
     waits-first = first-waits s begins a al T p ready rows n lot c.last t task (fed_in s.lent.notes s.lent.trail refl refl) room notes' trail' numbers' labels' sweep answered o refl
 
-    held_first : (i : ℕ) (v : List ℕ) → (lot_walk s rows n c.last).end ≡ unfinished out_of_rows i v → Held places trail' v
-    held_first i v e =
-        subst (λ (k : ℕ). Held k trail' v) places_are
-        (first-held s begins a al T p ready rows n lot c.last t task (fed_in s.lent.notes s.lent.trail refl refl) room notes' trail' numbers' labels' sweep answered i v e)
-
     bytes-first : (k : ℕ) → get_or s.lent.notes k 0 < 256
     bytes-first = subst (λ (x : Buffers). (k : ℕ) → get_or x.notes k 0 < 256) named w.bytes₁
 
@@ -185,11 +172,6 @@ module _ (s : Named) (T : List ℕ) (p : Prepared) (ready : Ready s.query T p) (
     stopped-at : (c.feed.row ≡ waited.0) × (c.feed.opened ≡ length waited.1.0)
     stopped-at = waits_there waited.0 waited.1.0 waited.1.1
 
-    held-there : Held p.places trail waited.1.0
-    held-there =
-        subst (λ (k : ℕ). Held k trail waited.1.0) (sym places_are)
-        (u.held waited.0 waited.1.0 (ap (λ (e : Bool). (lot_walk s rows₁ n₁ e).end) unended ∙ waited.1.1))
-
     matched : c.feed.matches ≡ length (lot_walk s rows₁ n₁ false).matches
     matched = sym (ap (λ (x : Result). x.matches) result_is) ∙ matches-are s u.begins rows₁ n₁ u.lot false
 
@@ -211,27 +193,20 @@ module _ (s : Named) (T : List ℕ) (p : Prepared) (ready : Ready s.query T p) (
     beyond : drop t.pairs trail ≡ drop t.pairs s.lent.trail
     beyond = ap (λ (k : ℕ). drop k trail) pairs_are ∙ left.trail_beyond ∙ trail_beyond s u.begins rows₁ n₁ u.lot false ∙ ap (λ (k : ℕ). drop k s.lent.trail) (sym pairs_are)
 
-    resumed : Resumed T present t notes trail numbers labels c.feed notes' trail' numbers' labels' sweep
-    resumed = subst (λ (x : List ℤ). Resumed T x t notes trail numbers labels c.feed notes' trail' numbers' labels' sweep) part-is (w.advanced.later d)
+    went_on : WentOn T present t notes trail numbers labels (kept_in c.feed) notes' trail' numbers' labels' sweep
+    went_on = subst (λ (x : List ℤ). WentOn T x t notes trail numbers labels (kept_in c.feed) notes' trail' numbers' labels' sweep) part-is (w.advanced.later d)
 
     leaves_later : Leaves s want (memory o notes' trail' numbers' labels')
     leaves_later =
         later-leaves s begins a al T p ready rows₁ rows n₁ n u.lot lot later c.last waited.0 waited.1.0 waited.1.1 t task notes trail numbers labels
         (fed_in notes trail (notes_long s pr rows₁ c.feed b st) long_trail) (relabelled s (lot_memory s rows₁ n₁ false) pr.result b left) (numbers_long s pr rows₁ c.feed b st)
-        (labels_long s pr rows₁ c.feed b st) long_trail beyond room c.feed stopped-at.0 matched labelled stepped stopped-at.1 held-there notes' trail' numbers' labels' sweep resumed w.bytes u.bytes o refl
+        (labels_long s pr rows₁ c.feed b st) long_trail beyond room c.feed stopped-at.0 matched labelled stepped stopped-at.1 notes' trail' numbers' labels' sweep went_on w.bytes u.bytes o refl
 
     waits-later : (i : ℕ) (v : List ℕ) → (lot_walk s rows n c.last).end ≡ unfinished out_of_rows i v → (sweep.row ≡ i) × (sweep.opened ≡ length v)
     waits-later =
         later-waits s begins a al T p ready rows₁ rows n₁ n u.lot lot later c.last waited.0 waited.1.0 waited.1.1 t task notes trail numbers labels
         (fed_in notes trail (notes_long s pr rows₁ c.feed b st) long_trail) (relabelled s (lot_memory s rows₁ n₁ false) pr.result b left) (numbers_long s pr rows₁ c.feed b st)
-        (labels_long s pr rows₁ c.feed b st) long_trail beyond room c.feed stopped-at.0 matched labelled stepped stopped-at.1 held-there notes' trail' numbers' labels' sweep resumed w.bytes u.bytes o refl
-
-    held-later : (i : ℕ) (v : List ℕ) → (lot_walk s rows n c.last).end ≡ unfinished out_of_rows i v → Held places trail' v
-    held-later i v e =
-        subst (λ (k : ℕ). Held k trail' v) places_are
-        (later-held s begins a al T p ready rows₁ rows n₁ n u.lot lot later c.last waited.0 waited.1.0 waited.1.1 t task notes trail numbers labels
-        (fed_in notes trail (notes_long s pr rows₁ c.feed b st) long_trail) (relabelled s (lot_memory s rows₁ n₁ false) pr.result b left) (numbers_long s pr rows₁ c.feed b st)
-        (labels_long s pr rows₁ c.feed b st) long_trail beyond room c.feed stopped-at.0 matched labelled stepped stopped-at.1 held-there notes' trail' numbers' labels' sweep resumed w.bytes u.bytes i v e)
+        (labels_long s pr rows₁ c.feed b st) long_trail beyond room c.feed stopped-at.0 matched labelled stepped stopped-at.1 notes' trail' numbers' labels' sweep went_on w.bytes u.bytes o refl
 
   -- ---- either
 
@@ -247,9 +222,8 @@ module _ (s : Named) (T : List ℕ) (p : Prepared) (ready : Ready s.query T p) (
   is-taken = rw (waits-going s pr rows₁ c.feed b st waiting, waits-unended s pr rows₁ c.feed b st waiting, granted) refl
 
   made-when : Leaves s want (memory o notes' trail' numbers' labels') → ((i : ℕ) (v : List ℕ) → (lot_walk s rows n c.last).end ≡ unfinished out_of_rows i v → (sweep.row ≡ i) × (sweep.opened ≡ length v))
-      → ((i : ℕ) (v : List ℕ) → (lot_walk s rows n c.last).end ≡ unfinished out_of_rows i v → Held places trail' v)
       → ((k : ℕ) → get_or s.lent.notes k 0 < 256) → Made s pr rows₁ (before c q rows notes trail numbers labels) (after (record { feed = kept_by c sweep; outcome = o }) notes' trail' numbers' labels')
-  made-when l waits held bytes =
+  made-when l waits bytes =
       made_by s pr rows₁ (before c q rows notes trail numbers labels) (after (record { feed = kept_by c sweep; outcome = o }) notes' trail' numbers' labels')
       (record { progress = next; memory = want }) true call-is is-taken l
       (record {
@@ -258,12 +232,12 @@ module _ (s : Named) (T : List ℕ) (p : Prepared) (ready : Ready s.query T p) (
         present = refl;
         result = sym l.result;
         new = λ z. absurd (omega arith);
-        was_taken_up = λ _. record { begins = begins; lot = lot; left = relabelled s want (memory o notes' trail' numbers' labels').result b' l; waits = waits; held = held; bytes = bytes };
+        was_taken_up = λ _. record { begins = begins; lot = lot; left = relabelled s want (memory o notes' trail' numbers' labels').result b' l; waits = waits; bytes = bytes };
       }) (λ z. absurd (true≢false z))
 
   pub taken_made : Made s pr rows₁ (before c q rows notes trail numbers labels) (after r notes' trail' numbers' labels')
   taken_made =
       subst (λ (x : Fed). Made s pr rows₁ (before c q rows notes trail numbers labels) (after x notes' trail' numbers' labels')) (sym w.result) (elim (ℕ_discrete c.feed.begun 0) [
-        | yes z ↦ made-when (leaves-first z) (waits-first z) (held_first z) (bytes-first z)
-        | no d ↦ made-when (leaves_later d) (waits-later d) (held-later d) (u d).bytes
+        | yes z ↦ made-when (leaves-first z) (waits-first z) (bytes-first z)
+        | no d ↦ made-when (leaves_later d) (waits-later d) (u d).bytes
       ])

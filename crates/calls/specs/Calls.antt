@@ -1,15 +1,14 @@
 -- A call of a search by lots (R-11): what the state that is kept between calls stands for
 -- (`Stands`), and what a call promises (`Calls`). The definition of a call is `call_of` of the rules,
 -- specs/Lots.
-use Rattle.std.specs.Prelude.{◌≡◌, Bool, false, List, ◌⊎◌, ℕ, ◌*◌, ◌<◌, eqb, ℤ, length, get_or}
+use Rattle.std.specs.Prelude.{◌≡◌, Bool, false, List, ◌⊎◌, ℕ, ◌<◌, eqb, ℤ, length, get_or}
 use Rattle.std.proofs.Math.Option.{Option, none, some}
 use Rattle.rules.specs.Basics.{pick}
 use Rattle.rules.specs.Walk.{out_of_rows}
 use Rattle.rules.specs.Search.{unfinished}
-use Rattle.rules.specs.Answers.{tree_in, P, F, Buffers, Memory}
+use Rattle.rules.specs.Answers.{Buffers, Memory}
 use Rattle.rules.specs.Lots.{Named, Progress, begun, stays, begin_answer, call_refusal, lot_walk, lot_memory, arrived, call_of, Leaves}
 use Rattle.rules.specs.LotDemands.{Lot, Later}
-use Rattle.pairs.specs.Step.{Held}
 use Rattle.lots.specs.declared.Feed.{Feed}
 use Rattle.lots.specs.Feeds.{new_feed}
 
@@ -44,14 +43,12 @@ pub record New (s : Named) (p : Progress) (f : Feed) (buffers : Buffers) : Type 
   pub named : buffers ≡ s.lent
 
 -- behind it: the buffers are as the latest call that was taken up left them, with these rows; and
--- where the search waits, the start of its attempt and how many pairs are open are kept, and the
--- trail holds these pairs
+-- where the search waits, the start of its attempt and how many pairs are open are kept
 pub record TakenUp (s : Named) (p : Progress) (rows : List ℤ) (f : Feed) (buffers : Buffers) : Type 0 where
   pub begins : begin_answer s ≡ 0
   pub lot : Lot s rows p.present
   pub left : Leaves s (lot_memory s rows p.present p.ended) (record { result = p.result; buffers = buffers })
   pub waits : (i : ℕ) (u : List ℕ) → (lot_walk s rows p.present p.ended).end ≡ unfinished out_of_rows i u → (f.row ≡ i) × (f.opened ≡ length u)
-  pub held : (i : ℕ) (u : List ℕ) → (lot_walk s rows p.present p.ended).end ≡ unfinished out_of_rows i u → Held (P (tree_in s.query) * F (tree_in s.query)) buffers.trail u
   pub bytes : (k : ℕ) → get_or s.lent.notes k 0 < 256
 
 -- What is kept, with the buffers as they are, stands for what was named and for the progress so

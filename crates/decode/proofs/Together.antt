@@ -15,7 +15,7 @@ use Rattle.records.specs.declared.Read.{Read}
 use Rattle.records.specs.declared.Read.TheVariants.{Record as Whole, Cut}
 use Rattle.rules.specs.Basics.{is_letter}
 use Rattle.rules.specs.Query.{Record, records, field, first_of_kind, columns_of, is_define, defined, text_of, condition_from, measures_from, parts}
-use Rattle.records.specs.Read.{record_of, records_at, read_at, Uncut}
+use Rattle.records.specs.Read.{record_of, records_at, read_at}
 use Rattle.query.specs.Order.{first_answer}
 use Rattle.records.proofs.Reading.{found, read_more, field-first}
 use Rattle.query.proofs.Order.{columns-at}
@@ -27,7 +27,7 @@ use Rattle.query.specs.Ahead.{Ahead}
 use Rattle.decode.specs.Steps.{HeadOf, TailRoom, TailOf}
 use Rattle.define_list.specs.Defines.{PutDefines}
 use Rattle.measure_list.specs.Measures.{MeasuresRoom, PutMeasures}
-use Rattle.query.proofs.Going.{at-start, before-end, uncut, not-cut, this_fits, shape_next, text-next, skip_next, shape_says, text_says, skip_says}
+use Rattle.query.proofs.Going.{at-start, before-end, not-cut, this_fits, shape_next, text-next, skip_next, shape_says, text_says, skip_says}
 use Rattle.define_list.proofs.Defines.{other-kind, not-define}
 
 -- ---- a record of another kind in front
@@ -55,8 +55,8 @@ module _ (s : List ℕ) (clean : first_answer s ≡ 0) where
   start : Ahead s 0 0 0
   start = at-start s clean
 
-  pub first-uncut : Uncut s 0
-  first-uncut = uncut s 0 0 0 start (before-end s 0 0 0 start (λ e. omega arith))
+  pub first-inside : 0 < length s
+  first-inside = before-end s 0 0 0 start (λ e. omega arith)
 
   module _ (r1 : Read) (e1 : r1 ≡ read_at s 0) where
     pub first-whole : r1 ≡ Cut → ⊥
@@ -79,8 +79,8 @@ module _ (s : List ℕ) (clean : first_answer s ≡ 0) where
       columns_are : columns_of s ≡ get_or s b1 0
       columns_are = columns-at s k1 b1 m1 (records_at s n1) shape.0 (sym all_records)
 
-      pub second-uncut : Uncut s n1
-      second-uncut = uncut s 1 0 n1 shape.1 (before-end s 1 0 n1 shape.1 (λ e. omega arith))
+      pub second-inside : n1 < length s
+      second-inside = before-end s 1 0 n1 shape.1 (λ e. omega arith)
 
       module _ (r2 : Read) (e2 : r2 ≡ read_at s n1) where
         pub second-whole : r2 ≡ Cut → ⊥
@@ -160,8 +160,8 @@ module _ (s : List ℕ) (clean : first_answer s ≡ 0) where
 -- ---- the skip and the measures
 
 module _ (s : List ℕ) (at : ℕ) (measures₀ : List ℕ) (room : TailRoom s at measures₀) where
-  pub skip_uncut : Uncut s at
-  skip_uncut = uncut s 2 0 at room.ahead (before-end s 2 0 at room.ahead (λ e. omega arith))
+  pub skip_there : at < length s
+  skip_there = before-end s 2 0 at room.ahead (λ e. omega arith)
 
   module _ (r : Read) (e : r ≡ read_at s at) where
     pub skip_whole : r ≡ Cut → ⊥
@@ -213,7 +213,7 @@ module _ (s : List ℕ) (at : ℕ) (measures₀ : List ℕ) (room : TailRoom s a
 
 -- ---- all
 
-module _ (s defines₀ measures₀ : List ℕ) (room : DecodeRoom s defines₀ measures₀) (h : Head) (f : HeadOf s h) (defines : List ℕ) (v : Behind) (d : PutDefines s h.next defines v) where
+module _ (s measures₀ : List ℕ) (room : DecodeRoom s measures₀) (h : Head) (f : HeadOf s h) (defines : List ℕ) (v : Behind) (d : PutDefines s h.next defines v) where
   pub decoded : (measures : List ℕ) (t : Tail) → TailOf s v.at measures₀ measures t
       → Decoded s measures₀ defines measures (record { columns = h.columns; start = h.start; len = h.len; skip = t.skip; target = t.target; measures = t.measures; twice = v.twice; letters = v.letters })
   unfolding parts

@@ -5,7 +5,7 @@
 -- letter has two DEFINEs, of which the first counts. Left free, since no answer depends on it:
 -- `letters` may be any number up to 26 from which on no letter has a DEFINE; only the time that
 -- preparing the tests takes does.
-use Rattle.std.specs.Prelude.{◌≡◌, true, ◌||◌, List, ℕ, ◌+◌, ◌*◌, ◌≤◌, ◌<◌, eqb, length, get_or, take, drop, replicate}
+use Rattle.std.specs.Prelude.{◌≡◌, true, ◌||◌, List, ℕ, ◌+◌, ◌*◌, ◌≤◌, ◌<◌, eqb, length, get_or, take, drop}
 use Rattle.rules.specs.Basics.{is_letter}
 use Rattle.rules.specs.Query.{doubled, parts}
 use Rattle.query.specs.Order.{first_answer}
@@ -14,10 +14,9 @@ use Rattle.measure_list.specs.Measures.{MeasureFits}
 use Rattle.table.specs.Measures.{measure_in, measures_in}
 use Rattle.decode.specs.declared.Parts.{Parts}
 
--- a query with no answer 1 to 3, entries for its DEFINEs, all free, and room for its measures
-pub record DecodeRoom (s defines measures : List ℕ) : Type 0 where
+-- a query with no answer 1 to 3, and room for its measures
+pub record DecodeRoom (s measures : List ℕ) : Type 0 where
   pub clean : first_answer s ≡ 0
-  pub clear : defines ≡ replicate 26 0
   pub long : length measures ≡ 24
 
 -- What decoding leaves: the numbers of `p` and the arrays are the query's parts, and what the

@@ -10,7 +10,7 @@ ghost use Rattle.decode.specs.Steps.{HeadOf, TailRoom, TailOf};
 
 use define_list::put_defines;
 use measure_list::put_measures;
-use records::{Read, byte, whole_at};
+use records::{Read, byte, record_at};
 
 // What a query says besides its letters and measures: the columns, where the pattern's text lies,
 // the skip mode, the letter that the skip names (0 for none), how many measures there are, whether
@@ -48,7 +48,7 @@ fn read_head(s: &[u8]) -> Head
         start: shape,
         len: _,
         next: second,
-    } = whole_at(s, 0)
+    } = record_at(s, 0)
     else {
         return Head {
             columns: 0,
@@ -62,7 +62,7 @@ fn read_head(s: &[u8]) -> Head
         start,
         len,
         next,
-    } = whole_at(s, second)
+    } = record_at(s, second)
     else {
         return Head {
             columns: 0,
@@ -98,7 +98,7 @@ fn read_tail(s: &[u8], at: usize, measures: &mut [u8; 24]) -> Tail
         start,
         len: _,
         next,
-    } = whole_at(s, at)
+    } = record_at(s, at)
     else {
         return Tail {
             skip: 0,
@@ -119,7 +119,7 @@ fn read_tail(s: &[u8], at: usize, measures: &mut [u8; 24]) -> Tail
 // All parts of a query. The records stand in order: the shape and the text, the DEFINEs, the skip
 // and the measures.
 pub fn decode(s: &[u8], defines: &mut [usize; 26], measures: &mut [u8; 24]) -> Parts
-    requires { DecodeRoom s.now defines.old measures.old }
+    requires { DecodeRoom s.now measures.old }
     ensures { Decoded s.now measures.old defines.new measures.new result }
 {
     let h = read_head(s);

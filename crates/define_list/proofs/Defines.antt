@@ -17,13 +17,13 @@ use Rattle.rules.specs.Rows.{all_of}
 use Rattle.rules.specs.Query.{Record, record_at, kinds, one_of, some_of, none_left, is_define, is_measure, field, first_of_kind, columns_of, defined, comparisons_of, entries_of, condition_of, condition_from, measures_from}
 use Rattle.laws.proofs.Truths.{entries-behind}
 use Rattle.laws.proofs.Choice.{decided, clash, and_left, and_right}
-use Rattle.records.specs.Read.{record_of, records_at, read_at, Uncut}
+use Rattle.records.specs.Read.{record_of, records_at, read_at}
 use Rattle.query.specs.Order.{rest_of}
 use Rattle.records.proofs.Reading.{found, read_more, field-first}
 use Rattle.define_list.specs.Defines.{comparisons_at, kind_at, defined_at, Body}
 use Rattle.query.specs.Ahead.{Ahead}
 use Rattle.define_list.specs.Defines.{DefineRoom, PutDefine, DefinesRoom, PutDefines}
-use Rattle.query.proofs.Going.{before-end, uncut, not-cut, this_fits, define_next, defines-over, Says, define_says, SaysEntries, postfix-says}
+use Rattle.query.proofs.Going.{before-end, not-cut, this_fits, define_next, defines-over, Says, define_says, SaysEntries, postfix-says}
 use Rattle.define_list.proofs.Twice.{Twice, twice-none, twice-more, twice-over}
 
 -- ---- one DEFINE, by the ways through `put_define`
@@ -147,8 +147,8 @@ unfolding defined_at
 not-defined s d e = simp (eq-eqb d 0 e)
 
 module _ (s : List ℕ) (from : ℕ) where
-  pub lettering_none : (defines : List ℕ) → DefinesRoom s from defines → Lettering s from defines from false 0
-  lettering_none defines r = rw r.clear (record {
+  pub lettering_none : DefinesRoom s from → Lettering s from (replicate 26 0) from false 0
+  lettering_none r = record {
     left = 26;
     ahead = r.ahead;
     counted = length-replicate {A = ℕ} 26 0;
@@ -159,14 +159,11 @@ module _ (s : List ℕ) (from : ℕ) where
     told = twice-none s from r.all;
     upto = omega arith;
     free = λ l g h. get_or-replicate {A = ℕ} 26 l 0 0 h;
-  })
+  }
 
   module _ (defines : List ℕ) (at : ℕ) (twice : Bool) (letters : ℕ) (h : Lettering s from defines at twice letters) where
     lettering_inside : at < length s
     lettering_inside = before-end s 2 h.left at h.ahead (λ e. omega arith)
-
-    pub lettering_uncut : Uncut s at
-    lettering_uncut = uncut s 2 h.left at h.ahead lettering_inside
 
     -- the skip is still to come
     pub lettering_end : length s ≤ at → PutDefines s from defines (record { at = at; twice = twice; letters = letters })

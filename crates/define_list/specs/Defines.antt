@@ -5,7 +5,7 @@
 -- kind 6 the letter's byte, the count of its entries, and the entries. They are read where they
 -- stand. Of two DEFINEs for one letter the first counts, and it is told that there are two (answer
 -- 8).
-use Rattle.std.specs.Prelude.{◌≡◌, Bool, true, false, List, [], ℕ, ◌+◌, ◌*◌, ◌-◌, ◌≤◌, ◌<◌, eqb, length, get_or, set, replicate}
+use Rattle.std.specs.Prelude.{◌≡◌, Bool, true, false, List, [], ℕ, ◌+◌, ◌*◌, ◌-◌, ◌≤◌, ◌<◌, eqb, length, get_or, set}
 use Rattle.rules.specs.Basics.{pick, tabulate, le16}
 use Rattle.rules.specs.Rows.{Comparison, Condition, all_of, postfix}
 use Rattle.rules.specs.Query.{comparison_at, comparison_fits, entries_fit, entries_end, read_entries, leaves_one, records, first_of_kind, columns_of, defined, doubled, condition_from, measures_from}
@@ -77,11 +77,10 @@ pub record PutDefine (s : List ℕ) (start : ℕ) (defines₀ defines : List ℕ
   pub taken : (get_or defines₀ (get_or s start 0 - 65) 0 ≡ 0 → ⊥) → (defines ≡ defines₀) × (before ≡ true)
   pub put : get_or defines₀ (get_or s start 0 - 65) 0 ≡ 0 → (defines ≡ set defines₀ (get_or s start 0 - 65) start) × (before ≡ false)
 
--- all DEFINEs, from an index on: they are those of the query; no entry is taken yet
-pub record DefinesRoom (s : List ℕ) (from : ℕ) (defines : List ℕ) : Type 0 where
+-- all DEFINEs, from an index on: they are those of the query
+pub record DefinesRoom (s : List ℕ) (from : ℕ) : Type 0 where
   pub ahead : Ahead s 2 26 from
   pub all : defined s (records_at s from) ≡ defined s (records s)
-  pub clear : defines ≡ replicate 26 0
 
 -- behind them stands the skip
 pub record PutDefines (s : List ℕ) (from : ℕ) (defines : List ℕ) (r : Behind) : Type 0 where

@@ -4,7 +4,7 @@
 ghost use Rattle.std.specs.Prelude.{◌≡◌, ◌||◌, ◌-◌, max, get_or};
 ghost use Rattle.define_list.specs.Defines.{DefineRoom, PutDefine, DefinesRoom, PutDefines};
 
-use records::{Read, byte, is_define, whole_at};
+use records::{Read, byte, is_define, record_at};
 
 // The DEFINE whose body starts at this index; answers whether its letter had one before. The first
 // DEFINE of a letter counts.
@@ -48,12 +48,12 @@ pub struct Behind {
     pub letters: usize,
 }
 
-// The DEFINEs from an index on, where no entry of the array is taken yet. None of their records is
-// cut, since the skip stands behind them.
+// The DEFINEs from an index on.
 pub fn put_defines(s: &[u8], from: usize, defines: &mut [usize; 26]) -> Behind
-    requires { DefinesRoom s.now from defines.old }
+    requires { DefinesRoom s.now from }
     ensures { PutDefines s.now from defines.new result }
 {
+    *defines = [0usize; 26];
     let mut at = from;
     let mut twice = false;
     let mut letters = 0;
@@ -63,7 +63,7 @@ pub fn put_defines(s: &[u8], from: usize, defines: &mut [usize; 26]) -> Behind
             start,
             len: _,
             next,
-        } = whole_at(s, at)
+        } = record_at(s, at)
         else {
             return Behind { at, twice, letters };
         };

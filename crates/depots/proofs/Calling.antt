@@ -5,12 +5,12 @@ use mathlib.Core.List.{List, [], ◌∷◌, ◌++◌, map}
 use mathlib.Core.Logic.{◌⊎◌, inl, inr}
 use mathlib.Core.Option.{none}
 use Prim.Native.Nat.{ℕ, ◌+◌, ◌*◌, ◌≤◌, ◌<◌}
-use native.Mathlib.Decide.{ℕ_discrete}
+use native.Mathlib.Nat.{le_trans}
 use native.Mathlib.Omega.{arith}
 use lib.Dec.{eqb, leb, ltb}
 use lib.IntN.{ℤ}
 use lib.ListN.{length, get_or}
-use borrow.Author.Tests.{leb-true, lt-leb, le-leb, ltb-true, ltb-false}
+use borrow.Author.Tests.{leb-true, lt-leb, le-leb, ltb-true}
 use Rattle.rules.specs.Basics.{pick, every}
 use Rattle.rules.specs.Rows.{table_of}
 use Rattle.rules.specs.Query.{cut, misplaced, columns_of, parts}
@@ -24,15 +24,13 @@ use Rattle.laws.proofs.Choice.{and_left, and_right}
 use Rattle.laws.proofs.FirstDemand.{result_answer, unrefused_by}
 use Rattle.outcome.specs.declared.Outcome.{Outcome}
 use Rattle.outcome.specs.Results.{lent, memory, refusal}
-use Rattle.running.specs.Promise.{Promised}
+use Rattle.search.specs.Promise.{Promised}
 use Rattle.named.specs.Outside.{outside, is_three}
 use Rattle.tally.specs.Table.{NamedColumns, DepotReport, match_cell, listed}
 use Rattle.tally.specs.Counting.{cells_in, Countable}
 use Rattle.depot_state.specs.State.{StateStands}
 use Rattle.depot_state.specs.Steps.{named_in, list_fits, list_with, state_with, state_up, cells_named, Listing, Counts}
 use Rattle.depot_state.proofs.Standing.{partitions_are, named-are, state_long, fits-when, stands_listed, stands_counted}
-use Rattle.settle.specs.Settled.{is_full, Settles, Settled}
-use Rattle.settle.proofs.Laws.{number-left, state_long as state-long-enough}
 use Rattle.depots.specs.Partition.{partition_of, depot_report, Parted}
 use Rattle.depots.specs.Calls.{Input, Output, partition_in, depot_report_in, DepotCall, Calls}
 use Rattle.depots.proofs.Firsts.{countable, few_matches, cells_are}
@@ -58,9 +56,9 @@ module _ (q : List ℕ) (rows : List ℤ) (before : Buffers) where
   unfolding A.refusal query_tests every
   refusal-below = first_below (query_tests q ++ ((10, A.bad_rows q rows) ∷ (11, A.short_notes q rows before) ∷ (12, A.short_trail q rows before) ∷ [])) 14 refl
 
-  answer-below : answer_within none q rows before ≤ 23
+  answer_below : answer_within none q rows before ≤ 23
   unfolding answer_within answer_by
-  answer-below = go (eqb (A.refusal q rows before) 0)
+  answer_below = go (eqb (A.refusal q rows before) 0)
     where
       go : (t : Bool) → pick t (end_answer (walk_within none q rows before).end) (A.refusal q rows before) ≤ 23
       go true = end_below (walk_within none q rows before).end
@@ -72,7 +70,7 @@ module _ (q : List ℕ) (rows : List ℤ) (before : Buffers) where
     where
       go : (t : Bool) → (pick t (refused 3 0 before) (search_of q rows before)).result.answer ≤ 23
       go true = omega arith
-      go false = omega (arith, result_answer none q rows before, answer-below)
+      go false = omega (arith, result_answer none q rows before, answer_below)
 
 -- ---- the search of a partition
 
@@ -97,11 +95,11 @@ module _ (q : List ℕ) (rows : List ℤ) (notes trail : List ℕ) (numbers : Li
   input = record { query = q; rows = rows; buffers = before; state = state; list = list }
 
   -- a state that is too short stands for nothing
-  call-short : length state < 773 → (r : Outcome) → r ≡ refusal 20 0 → Calls input (record { memory = memory r notes trail numbers labels; state = state; list = list })
+  pub call-short : length state < 773 → (r : Outcome) → r ≡ refusal 20 0 → Calls input (record { memory = memory r notes trail numbers labels; state = state; list = list })
   call-short h r e = record { call = λ w rs list₀ rest s. absurd (omega (arith, state_long w rs list₀ rest state list s)) }
 
   -- a further partition
-  call-further : 65535 ≤ get_or state 769 0 → (r : Outcome) → r ≡ refusal 20 0 → Calls input (record { memory = memory r notes trail numbers labels; state = state; list = list })
+  pub call-further : 65535 ≤ get_or state 769 0 → (r : Outcome) → r ≡ refusal 20 0 → Calls input (record { memory = memory r notes trail numbers labels; state = state; list = list })
   unfolding refused
   call-further h r e =
       record {
@@ -109,16 +107,6 @@ module _ (q : List ℕ) (rows : List ℤ) (notes trail : List ℕ) (numbers : Li
             let p = partitions_are w rs list₀ rest state list s in
             record { further = λ g. (rw e, refl, refl); unlisted = λ g d f. absurd (omega (arith, p)); numbered = λ g f. absurd (omega (arith, p)) };
       }
-
-  -- no number is left
-  pub call-full : (t : Bool) → t ≡ is_full state → t ≡ true → (r : Outcome) → r ≡ refusal 20 0 → Calls input (record { memory = memory r notes trail numbers labels; state = state; list = list })
-  unfolding is_full
-  call-full t e f r b = go (ltb (length state) 773) (ltb (get_or state 769 0) 65535) refl refl (sym e ∙ f)
-    where
-      go : (u v : Bool) → ltb (length state) 773 ≡ u → ltb (get_or state 769 0) 65535 ≡ v → (u || not v) ≡ true → Calls input (record { memory = memory r notes trail numbers labels; state = state; list = list })
-      go true v eu ev g = call-short (ltb-true (length state) 773 eu) r b
-      go false false eu ev g = call-further (ltb-false (get_or state 769 0) 65535 ev) r b
-      go false true eu ev g = absurd (true≢false (sym g))
 
   module _ (r : Outcome) (notes' trail' : List ℕ) (numbers' : List ℤ) (labels' : List ℕ)
       (p : Parted (record { depot = get_or state 771 0; month = get_or state 772 0 }) q rows before (memory r notes' trail' numbers' labels')) where
@@ -133,8 +121,8 @@ module _ (q : List ℕ) (rows : List ℤ) (notes trail : List ℕ) (numbers : Li
     unfolding depot_report
     is-answer w e = ap (λ (m : Memory). m.result.answer) (sym (parted w e).whole)
 
-    answer-small : r.answer < 4294967296
-    answer-small =
+    pub answer_small : r.answer < 4294967296
+    answer_small =
         let e : r.answer ≡ (partition_of (record { depot = get_or state 771 0; month = get_or state 772 0 }) q rows before).result.answer = ap (λ (m : Memory). m.result.answer) p.whole in
         omega (arith, e, partition_below q rows before (record { depot = get_or state 771 0; month = get_or state 772 0 }))
 
@@ -142,7 +130,7 @@ module _ (q : List ℕ) (rows : List ℤ) (notes trail : List ℕ) (numbers : Li
       -- refused or stopped
       module _ (d : r.answer ≡ 0 → ⊥) (t : Bool) (e : t ≡ list_fits state list) (state' : List ℕ) (es : state' ≡ pick t (state_with state) state) (list' : List ℕ)
           (el : list' ≡ pick t (list_with state list r.answer) list) where
-        call-listed : t ≡ true → Calls input (record { memory = after; state = state'; list = list' })
+        pub call-listed : t ≡ true → Calls input (record { memory = after; state = state'; list = list' })
         call-listed f =
             record {
               call = λ w rs list₀ rest s.
@@ -161,7 +149,7 @@ module _ (q : List ℕ) (rows : List ℤ) (notes trail : List ℕ) (numbers : Li
                   };
             }
 
-        call-unlisted : t ≡ false → (o : Outcome) → o ≡ refusal 20 0 → Calls input (record { memory = memory o notes' trail' numbers' labels'; state = state'; list = list' })
+        pub call-unlisted : t ≡ false → (o : Outcome) → o ≡ refusal 20 0 → Calls input (record { memory = memory o notes' trail' numbers' labels'; state = state'; list = list' })
         unfolding refused
         call-unlisted f o eo =
             record {
@@ -217,7 +205,7 @@ module _ (q : List ℕ) (rows : List ℤ) (notes trail : List ℕ) (numbers : Li
             in_shape true false false true ea eb ec em h = absurd (true≢false em)
             in_shape false b false true ea eb ec em h = absurd (true≢false em)
 
-        counts_asked : 773 ≤ length state → Counts state q rows numbers' r.matches
+        pub counts_asked : 773 ≤ length state → Counts state q rows numbers' r.matches
         unfolding named_in
         counts_asked h =
             record {
@@ -242,7 +230,7 @@ module _ (q : List ℕ) (rows : List ℤ) (notes trail : List ℕ) (numbers : Li
         cells_of : (w : NamedColumns) → named_in state ≡ w → cells_named state q rows numbers' r.matches ≡ map (match_cell w (depot_report w q rows before).rows) (depot_report w q rows before).matches
         cells_of w e = rw (report-is w e) (cells-named w e)
 
-        call-counted : (state' : List ℕ) → state' ≡ state_up state (cells_named state q rows numbers' r.matches) → Calls input (record { memory = after; state = state'; list = list })
+        pub call-counted : (state' : List ℕ) → state' ≡ state_up state (cells_named state q rows numbers' r.matches) → Calls input (record { memory = after; state = state'; list = list })
         call-counted state' es =
             record {
               call = λ w rs list₀ rest s.
@@ -257,33 +245,3 @@ module _ (q : List ℕ) (rows : List ℤ) (notes trail : List ℕ) (numbers : Li
                     numbered = λ g h. ((parted w n).whole, rw s₁ new);
                   };
             }
-
-      -- what settling asks, and what it comes to
-      settling : 773 ≤ length state → Settles state q rows numbers' r
-      settling h = record { listing = record { long = h; left = left; small = answer-small }; counts = λ z. counts_asked z h }
-
-      call_by : (state' list' : List ℕ) (o : Outcome) → Settled state list q rows numbers' r state' list' o → Calls input (record { memory = memory o notes' trail' numbers' labels'; state = state'; list = list' })
-      call_by state' list' o s = elim (ℕ_discrete r.answer 0) [
-        | yes z ↦ (let x = s.counted z in rw (x.0, x.2) (call-counted z state' x.1))
-        | no d ↦ by-fit d (list_fits state list) refl
-      ]
-        where
-          by-fit : (r.answer ≡ 0 → ⊥) → (t : Bool) → list_fits state list ≡ t → Calls input (record { memory = memory o notes' trail' numbers' labels'; state = state'; list = list' })
-          by-fit d true f =
-              let x = s.appended d in
-              let e : o ≡ r = x.0 ∙ rw f refl in
-              rw e (call-listed d (list_fits state list) refl state' x.1 list' x.2 f)
-          by-fit d false f =
-              let x = s.appended d in
-              let e : o ≡ refusal 20 0 = x.0 ∙ rw f refl in
-              call-unlisted d (list_fits state list) refl state' x.1 list' x.2 f o e
-
--- behind the search, where a number is left
-module _ (q : List ℕ) (rows : List ℤ) (notes trail : List ℕ) (numbers : List ℤ) (labels state : List ℕ) (r : Outcome) (notes' trail' : List ℕ) (numbers' : List ℤ) (labels' : List ℕ)
-    (p : Parted (record { depot = get_or state 771 0; month = get_or state 772 0 }) q rows (lent notes trail numbers labels) (memory r notes' trail' numbers' labels')) (t : Bool) (e : t ≡ is_full state) (f : t ≡ false) where
-  pub settle_asked : Settles state q rows numbers' r
-  settle_asked = settling q rows notes trail numbers labels state [] r notes' trail' numbers' labels' p (number-left state t e f) (state-long-enough state t e f)
-
-  pub call_settled : (list state' list' : List ℕ) (o : Outcome) → Settled state list q rows numbers' r state' list' o
-      → Calls (record { query = q; rows = rows; buffers = lent notes trail numbers labels; state = state; list = list }) (record { memory = memory o notes' trail' numbers' labels'; state = state'; list = list' })
-  call_settled list = call_by q rows notes trail numbers labels state list r notes' trail' numbers' labels' p (number-left state t e f)

@@ -124,8 +124,8 @@ module _ (q : List ℕ) (rows : List ℤ) (before : Buffers) (after : Memory) (y
   written = numbers_of t.table t.measures t.places 0 xs
 
   -- the first row of match i stands in the report numbers
-  first_is : (i : ℕ) → i < length xs → get_or after.buffers.numbers (i * stride + 1) (pos 0) ≡ pos (start_of xs i)
-  first_is i h =
+  first-is : (i : ℕ) → i < length xs → get_or after.buffers.numbers (i * stride + 1) (pos 0) ≡ pos (start_of xs i)
+  first-is i h =
       let l : i * stride + 1 < length written = rw (numbers_long t.table t.measures t.places 0 xs) (within i (length xs) stride h (omega arith)) in
       rw y.numbers (front_wrote before.numbers written (i * stride + 1) (pos 0) l ∙ first-stands t.table t.measures t.places 0 xs i h)
 
@@ -147,7 +147,7 @@ module _ (q : List ℕ) (rows : List ℤ) (before : Buffers) (after : Memory) (y
   module _ (w : NamedColumns) (hd : w.depot < columns_of q) (hm : w.month < columns_of q) where
     row-stands : (i : ℕ) → i < length xs → RowAt rows (columns_of q) w after.buffers.numbers (i * stride + 1)
     row-stands i h =
-        let e = first_is i h in
+        let e = first-is i h in
         let b : start_of xs i < length rows / columns_of q = rw (← rows_are) (below i h) in
         record {
           there = there i h;
@@ -180,7 +180,7 @@ module _ (q : List ℕ) (rows : List ℤ) (before : Buffers) (after : Memory) (y
 
   cell_is : (w : NamedColumns) (i : ℕ) → i < length xs → cell_in t.table w after.buffers.numbers (i * stride + 1) ≡ cell_from w (start_of xs i)
   unfolding cell_in cell_from
-  cell_is w i h = ap (λ (k : ℤ). cell_of (entry t.table (nat_abs k) w.depot) (entry t.table (nat_abs k) w.month)) (first_is i h)
+  cell_is w i h = ap (λ (k : ℤ). cell_of (entry t.table (nat_abs k) w.depot) (entry t.table (nat_abs k) w.month)) (first-is i h)
 
   cells-task : (w : NamedColumns) → cells_in t.table w after.buffers.numbers stride (length xs) ≡ map (match_cell w t.table) (reported_all t.table t.measures (shown t.places xs))
   unfolding cells_in

@@ -7,7 +7,7 @@ use Rattle.rules.specs.Rows.{table_of}
 use Rattle.rules.specs.Query.{columns_of}
 use Rattle.rules.specs.Answers.{Buffers, Memory, refused, search_of}
 use Rattle.rules.specs.Entries.{reported_in}
-use Rattle.running.specs.Promise.{Promised}
+use Rattle.search.specs.Promise.{Promised}
 use Rattle.named.specs.Outside.{is_three}
 use Rattle.tally.specs.Table.{NamedColumns, DepotReport}
 

@@ -6,10 +6,12 @@ ghost use Rattle.outcome.specs.Results.{lent, memory};
 ghost use Rattle.depots.specs.Partition.{Parted};
 ghost use Rattle.depots.specs.Calls.{Calls};
 
-use depot_state::{DEPOT, MONTH, NO_NUMBER};
+use depot_state::{DEPOT, LENGTH, MONTH, NO_NUMBER, PARTITIONS, count_done, list_one};
 use named::is_three;
 use outcome::{Outcome, refused};
-use settle::{is_full, settle};
+
+// As many partitions as get a number.
+pub const MOST: usize = 65535;
 
 // The search of one partition, or answer 3 where a named column is outside the shape.
 fn search_partition(
@@ -43,11 +45,23 @@ pub fn partition(
 ) -> Outcome
     ensures { Calls (record { query = query.entry.now; rows = rows.now; buffers = lent notes.old trail.old numbers.old labels.old; state = state.old; list = list.old }) (record { memory = memory result notes.new trail.new numbers.new labels.new; state = state.new; list = list.new }) }
 {
-    if is_full(state) {
+    if state.len() < LENGTH {
+        return refused(NO_NUMBER, 0);
+    }
+    let taken = state[PARTITIONS];
+    if MOST <= taken {
         return refused(NO_NUMBER, 0);
     }
     let depot = state[DEPOT];
     let month = state[MONTH];
     let r = search_partition(query, depot, month, rows, notes, trail, numbers, labels);
-    settle(state, list, query, rows, numbers, r)
+    let answer = r.answer;
+    if answer != 0 {
+        if list_one(state, list, answer) {
+            return r;
+        }
+        return refused(NO_NUMBER, 0);
+    }
+    count_done(state, query, rows, numbers, r.matches);
+    r
 }

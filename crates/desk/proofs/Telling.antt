@@ -25,7 +25,7 @@ use Rattle.laws.proofs.DerivationReadings.{parses_reads, reads_parses}
 use Rattle.laws.proofs.Grammar.{tree-exactly}
 use Rattle.outcome.specs.declared.Outcome.{Outcome}
 use Rattle.outcome.specs.Results.{lent, memory}
-use Rattle.running.specs.Promise.{Promised}
+use Rattle.search.specs.Promise.{Promised}
 use Rattle.modes.proofs.Done.{told}
 use Rattle.bus_log.specs.declared.Verdict.{Verdict}
 use Rattle.bus_log.specs.Log.{log_of, unreadable, cleared, last_refusal, handed, said, held_at, verdict_of}

@@ -1,16 +1,16 @@
 -- Laws of the values of fields: each is one way through one function.
-use mathlib.Core.Path.{◌≡◌, refl, sym, ap, ◌∙◌}
+use mathlib.Core.Path.{◌≡◌, refl, sym, ◌∙◌}
 use mathlib.Core.Bool.{Bool, true, false, not, ◌&&◌, ◌||◌}
 use Prim.Native.Nat.{ℕ, ◌+◌, ◌-◌, ◌≤◌, ◌<◌}
 use native.Mathlib.Omega.{arith}
 use lib.Dec.{eqb, ltb, leb}
-use borrow.Author.Tests.{eq-eqb, ne_eqb, lt-ltb, le-ltb, ltb-true, ltb-false, le-leb, lt-leb, leb-true, leb-false}
+use borrow.Author.Tests.{eq-eqb, ne_eqb, lt-ltb, le-ltb, le-leb, leb-true, leb-false}
 use Rattle.rules.specs.Basics.{pick, in_range, is_letter, signed8}
 use Rattle.rules.specs.Query.{offset_fits, left_fits, right_fits, function_fits}
 
 -- ---- an offset byte
 
-offset_low : (b : ℕ) → b < 128 → leb b 64 ≡ offset_fits b
+pub offset_low : (b : ℕ) → b < 128 → leb b 64 ≡ offset_fits b
 unfolding offset_fits signed8
 offset_low b h = simp (lt-ltb b 128 h)
 
@@ -25,24 +25,9 @@ same_test a b c d f g = by (leb a b) refl
         other true q e = absurd (let z = g (leb-true c d q) in let y = leb-false a b e in omega arith)
         other false q e = q
 
-offset_high : (b : ℕ) → b < 256 → 128 ≤ b → leb 192 b ≡ offset_fits b
+pub offset_high : (b : ℕ) → b < 256 → 128 ≤ b → leb 192 b ≡ offset_fits b
 unfolding offset_fits signed8
 offset_high b h g = simp (le-ltb b 128 g) (same_test 192 b (255 - b) 63 (λ x. omega arith) (λ x. omega arith) ∙ sym (mathlib.Core.Bool.and-true (leb (255 - b) 63)))
-
-or-none : (t : Bool) → (t || false) ≡ t
-or-none true = refl
-or-none false = refl
-
-pub offset_is : (b : ℕ) → b < 256 → (t u r : Bool) → r ≡ (t || u) → t ≡ leb b 64 → u ≡ leb 192 b → r ≡ offset_fits b
-offset_is b h t u r er et eu = by (ltb b 128) refl
-  where
-    by : (x : Bool) → ltb b 128 ≡ x → r ≡ offset_fits b
-    by true e =
-        let l = ltb-true b 128 e in
-        er ∙ ap (λ (v : Bool). t || v) (eu ∙ lt-leb 192 b (omega arith)) ∙ or-none t ∙ et ∙ offset_low b l
-    by false e =
-        let g = ltb-false b 128 e in
-        er ∙ ap (λ (v : Bool). v || u) (et ∙ lt-leb b 64 (omega arith)) ∙ eu ∙ offset_high b h g
 
 -- ---- straight code, by its callees' results
 

@@ -47,12 +47,15 @@ pub fn within(lo: usize, hi: usize, x: usize) -> bool
     both(at_most(lo, x), at_most(x, hi))
 }
 
-// An offset byte from -64 to 64. Both tests are made, which the compiler joins to one.
+// An offset byte from -64 to 64.
 fn offset_fits(b: usize) -> bool
     requires { b < 256 }
     ensures { result ≡ offset_fits b }
 {
-    either(at_most(b, 64), at_most(192, b))
+    if b < 128 {
+        return b <= 64;
+    }
+    192 <= b
 }
 
 // The right side of a comparison.

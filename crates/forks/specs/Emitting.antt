@@ -1,12 +1,10 @@
 -- What the functions that unroll a tree into a table need and promise: forks, parts of a tree, and
 -- the whole.
-use Rattle.std.specs.Prelude.{◌≡◌, Bool, true, List, [], ◌∷◌, ◌⊎◌, ℕ, ◌+◌, ◌*◌, ◌-◌, ◌≤◌, ◌<◌, eqb, length, get_or}
+use Rattle.std.specs.Prelude.{◌≡◌, Bool, true, List, [], ◌∷◌, ℕ, ◌+◌, ◌*◌, ◌-◌, ◌≤◌, ◌<◌, eqb, length, get_or}
 use Rattle.rules.specs.Basics.{pick, is_letter, every}
 use Rattle.rules.specs.Language.{pattern, factor, Tree, one, last, letters, Written, nullable}
 use Rattle.rules.specs.Places.{Unrolled, u_star, copies, options, unrolled, unroll, Place, p_fork, ways_in_turn, size, sizes, places, fork, place_count, places_of, factor_of}
 use Rattle.rules.specs.Working.{distinct, fresh, thinned}
-use Rattle.nodes.specs.declared.Sort.{Sort}
-use Rattle.nodes.specs.declared.Sort.TheVariants.{Sequence}
 use Rattle.trees.specs.Held.{body, lazy_of, Top}
 use Rattle.table.specs.Table.{later_at, count_at, span, places_in}
 use Rattle.table.specs.Sized.{Sized}
@@ -103,15 +101,6 @@ pub record Branching (o : Plane) (s : List ℕ) (i : ℕ) (T : List ℕ) (b w : 
   pub tree : Tree pattern
   pub top : Top tree i s
   pub fits : Fitting o T b w k (branch_places o tree b k)
-
--- the first part of the node at i, which has this sort: its left one, or all of it
-abbrev pub FirstPart : Sort → ℕ → ℕ → ℕ → Type 0
-FirstPart k left i r = ((k ≡ Sequence) × (r ≡ left)) ⊎ ((k ≡ Sequence → ⊥) × (r ≡ i))
-
-pub record Factoring (o : Plane) (s : List ℕ) (i : ℕ) (T : List ℕ) (b w : ℕ) (k : Behind) : Type 0 where
-  pub of : Tree factor
-  pub top : Top (one (last of)) i s
-  pub fits : Fitting o T b w k (tree_places o (one (last of)) b k)
 
 pub record Bodying (o : Plane) (s : List ℕ) (i : ℕ) (T : List ℕ) (b w : ℕ) (k : Behind) : Type 0 where
   pub of : Tree factor

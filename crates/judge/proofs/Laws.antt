@@ -30,16 +30,16 @@ clash e = absurd (omega arith)
 -- ---- the verdict
 
 module _ (s m0 m1 : List ℕ) where
-  answer-is : (a b c d e : Bool) → deep 0 0 s ≡ a → wrong s ≡ b → incomplete s ≡ c → nested_loops (tree_of s) ≡ d → too_many (tree_of s) ≡ e
+  answer_is : (a b c d e : Bool) → deep 0 0 s ≡ a → wrong s ≡ b → incomplete s ≡ c → nested_loops (tree_of s) ≡ d → too_many (tree_of s) ≡ e
       → text_answer s ≡ first_of ((4, a) ∷ (5, b) ∷ (14, c) ∷ (6, d) ∷ (7, e) ∷ [])
   unfolding text_answer text_tests
-  answer-is a b c d e e1 e2 e3 e4 e5 = rw (e1, e2, e3, e4, e5) refl
+  answer_is a b c d e e1 e2 e3 e4 e5 = rw (e1, e2, e3, e4, e5) refl
 
   pub judge_deep : (t : Bool) (r : Verdict) → t ≡ deep 0 0 s → t ≡ true → r ≡ refused_verdict 4 0 → Judging s m0 m0 r
   unfolding first_of offset_at
   judge_deep t r e o er =
       rw er
-      (record { answer = sym (answer-is true _ _ _ _ (sym e ∙ o) refl refl refl refl); offset = refl; places = refl; factor = refl; top = λ z. clash (omega arith); kept = λ j l. refl; len = refl })
+      (record { answer = sym (answer_is true _ _ _ _ (sym e ∙ o) refl refl refl refl); offset = refl; places = refl; factor = refl; top = λ z. clash (omega arith); kept = λ j l. refl; len = refl })
 
   module _ (d : Bool) (ed : d ≡ deep 0 0 s) (nd : d ≡ false) (p : Step) (h : TextSays s m0 m1 p) (e : p.ok ≡ false) where
     outside : no_tree (tree_of s) ≡ true
@@ -54,7 +54,7 @@ module _ (s m0 m1 : List ℕ) where
     unfolding first_of offset_at wrong
     judge_wrong r l er =
         rw er (record {
-          answer = sym (answer-is false true _ _ _ (sym ed ∙ nd) (rw (outside, lt-ltb (stop_of s) (length s) (omega (arith, h.stop))) refl) refl refl refl);
+          answer = sym (answer_is false true _ _ _ (sym ed ∙ nd) (rw (outside, lt-ltb (stop_of s) (length s) (omega (arith, h.stop))) refl) refl refl refl);
           offset = h.stop;
           places = refl;
           factor = refl;
@@ -70,7 +70,7 @@ module _ (s m0 m1 : List ℕ) where
         let q : stop_of s ≡ length s = omega (arith, h.stop) in
         rw er (record {
           answer =
-              sym (answer-is false false true _ _ (sym ed ∙ nd) (rw (outside, le-ltb (stop_of s) (length s) (omega arith)) refl)
+              sym (answer_is false false true _ _ (sym ed ∙ nd) (rw (outside, le-ltb (stop_of s) (length s) (omega arith)) refl)
               (rw (outside, eq-eqb (stop_of s) (length s) q) refl) refl refl);
           offset = h.stop;
           places = refl;
@@ -157,7 +157,7 @@ module _ (s m0 m1 : List ℕ) where
       pub judge_loop : (r : Verdict) → 3 < l → r ≡ refused_verdict 6 0 → Judging s m0 m1 r
       unfolding first_of offset_at
       judge_loop r ol er = rw er (record {
-        answer = sym (answer-is false false false true _ (sym ed ∙ nd) not-wrong not-incomplete (deep-nest ol) refl);
+        answer = sym (answer_is false false false true _ (sym ed ∙ nd) not-wrong not-incomplete (deep-nest ol) refl);
         offset = refl;
         places = refl;
         factor = refl;
@@ -170,7 +170,7 @@ module _ (s m0 m1 : List ℕ) where
       unfolding first_of offset_at
       judge_many r ol g er =
           rw er (record {
-            answer = sym (answer-is false false false false true (sym ed ∙ nd) not-wrong not-incomplete (few_nest ol) (many true (lt-ltb 256 (places_of tree-of.tree) (counted.1 g))));
+            answer = sym (answer_is false false false false true (sym ed ∙ nd) not-wrong not-incomplete (few_nest ol) (many true (lt-ltb 256 (places_of tree-of.tree) (counted.1 g))));
             offset = refl;
             places = refl;
             factor = refl;
@@ -183,7 +183,7 @@ module _ (s m0 m1 : List ℕ) where
       unfolding first_of offset_at P
       judge_good ol g m em =
           record {
-            answer = sym (answer-is false false false false false (sym ed ∙ nd) not-wrong not-incomplete (few_nest ol) (many false (le-ltb 256 (places_of tree-of.tree) (omega (arith, counted.2 g)))));
+            answer = sym (answer_is false false false false false (sym ed ∙ nd) not-wrong not-incomplete (few_nest ol) (many false (le-ltb 256 (places_of tree-of.tree) (omega (arith, counted.2 g)))));
             offset = refl;
             places = sym (ap P tree-of.is ∙ counted.2 g);
             factor = factor-is ol m em;

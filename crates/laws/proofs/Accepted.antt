@@ -83,12 +83,12 @@ module _ (q : List ℕ) (rows : List ℤ) (lent : Buffers) where
   unfolding answer_within answer_by refusal query_tests
   unrefused a ok = refused-in (first_of refusals) (end_answer (walk_within a q rows lent).end) (λ d. first-refuses refusals all_refuse_lem d) ok
 
-  pub answer-within : (a : Option ℕ) → refusal q rows lent ≡ 0 → answer_within a q rows lent ≡ end_answer (walk_within a q rows lent).end
+  pub answer_within_lem : (a : Option ℕ) → refusal q rows lent ≡ 0 → answer_within a q rows lent ≡ end_answer (walk_within a q rows lent).end
   unfolding answer_within answer_by
-  answer-within a ok = rw ok
+  answer_within_lem a ok = rw ok
 
   pub accepted-within : (a : Option ℕ) → refusal q rows lent ≡ 0 → AcceptedWithin a q rows lent
-  accepted-within a ok = rw (answer-within a ok) (end-accepted (walk_within a q rows lent).end)
+  accepted-within a ok = rw (answer_within_lem a ok) (end-accepted (walk_within a q rows lent).end)
 
   -- no test is true: those for answers 1 to 5, 14, 6 to 12, in this order
   pub granted_when : refusal q rows lent ≡ 0 → Granted q rows lent
@@ -124,9 +124,9 @@ module _ (q : List ℕ) (rows : List ℤ) (lent : Buffers) where
     unfolding answer_of
     none-refused = unrefused none ok
 
-    pub answer-is : answer_of q rows lent ≡ end_answer (walk_of q rows lent).end
+    pub answer_is : answer_of q rows lent ≡ end_answer (walk_of q rows lent).end
     unfolding answer_of walk_of
-    answer-is = answer-within none none-refused
+    answer_is = answer_within_lem none none-refused
 
     pub granted : Granted q rows lent
     granted = granted_when none-refused

@@ -80,11 +80,11 @@ module _ (h h₀ : Halting) (alike : (x : ℕ) → h.waits x ≡ h₀.waits x) (
     abbrev AllowedOn : (Standing → Kept → Swept Kept) → (Standing → Kept → Swept Kept) → Type 0
     AllowedOn f g = (i m l : ℕ) (st : Kept) → (g (stand_at i m l) st).state.steps ≤ a → f (stand_at i m l) st ≡ g (stand_at i m l) st
 
-    answer-allowed : (f g : Standing → Kept → Swept Kept) → AllowedOn f g → (i m l : ℕ) (o : Attempted) (st : Kept) → (on_answer plan g (stand_at i m l) o st).state.steps ≤ a
+    answer_allowed : (f g : Standing → Kept → Swept Kept) → AllowedOn f g → (i m l : ℕ) (o : Attempted) (st : Kept) → (on_answer plan g (stand_at i m l) o st).state.steps ≤ a
         → on_answer plan f (stand_at i m l) o st ≡ on_answer plan g (stand_at i m l) o st
-    answer-allowed f g ih i m l miss st b = ih (suc i) m l st b
-    answer-allowed f g ih i m l (halts w p) st b = refl
-    answer-allowed f g ih i m l (hit p) st b = go (plan.next i p) (plan.fits m l p) b
+    answer_allowed f g ih i m l miss st b = ih (suc i) m l st b
+    answer_allowed f g ih i m l (halts w p) st b = refl
+    answer_allowed f g ih i m l (hit p) st b = go (plan.next i p) (plan.fits m l p) b
       where
         go : (o : Option ℕ) (t : Bool) → (on_match t o (record { start = i; path = p }) st (λ j. g (stand_at j (suc m) (l + plan.rows p)) st)).state.steps ≤ a
             → on_match t o (record { start = i; path = p }) st (λ j. f (stand_at j (suc m) (l + plan.rows p)) st)
@@ -122,7 +122,7 @@ module _ (h h₀ : Halting) (alike : (x : ℕ) → h.waits x ≡ h₀.waits x) (
             let r = walk_at h₀ ways K first i st in
             let d = (keeps-answer h₀ ways K first plan (sweep (walk_at h₀ ways K first) plan k) (sweep-keeps h₀ ways K first plan k) i m l r.0 r.1).steps in
             ap (λ (q : Attempted × Kept). on_answer plan (sweep (walk_at h ways K first) plan k) (stand_at i m l) q.0 q.1) (attempt-allowed i st (le_trans d c))
-            ∙ answer-allowed (sweep (walk_at h ways K first) plan k) (sweep (walk_at h₀ ways K first) plan k) ih i m l r.0 r.1 c
+            ∙ answer_allowed (sweep (walk_at h ways K first) plan k) (sweep (walk_at h₀ ways K first) plan k) ih i m l r.0 r.1 c
 
 -- ---- a pattern
 
@@ -309,11 +309,11 @@ module _ (a : ℕ) where
         abbrev WithinOn : (Standing → Kept → Swept Kept) → Type 0
         WithinOn f = (i m l : ℕ) (st : Kept) → st.steps ≤ a → EndWithin (f (stand_at i m l) st).end (f (stand_at i m l) st).state.steps
 
-        answer-within : (f : Standing → Kept → Swept Kept) → WithinOn f → (i m l : ℕ) (r : Outcome) → Within r
+        answer_within_lem : (f : Standing → Kept → Swept Kept) → WithinOn f → (i m l : ℕ) (r : Outcome) → Within r
             → EndWithin (on_answer plan f (stand_at i m l) (answered r).0 (answered r).1).end (on_answer plan f (stand_at i m l) (answered r).0 (answered r).1).state.steps
-        answer-within f ih i m l (failed kept) b = ih (suc i) m l kept b
-        answer-within f ih i m l (halted w p kept) b = b
-        answer-within f ih i m l (found p kept) b = go (plan.next i p) (plan.fits m l p)
+        answer_within_lem f ih i m l (failed kept) b = ih (suc i) m l kept b
+        answer_within_lem f ih i m l (halted w p kept) b = b
+        answer_within_lem f ih i m l (found p kept) b = go (plan.next i p) (plan.fits m l p)
           where
             go : (o : Option ℕ) (t : Bool)
                 → EndWithin (on_match t o (record { start = i; path = p }) kept (λ j. f (stand_at j (suc m) (l + plan.rows p)) kept)).end
@@ -336,7 +336,7 @@ module _ (a : ℕ) where
                 (below t (ended (no_start plan.more i) st) (λ _. on_answer plan (sweep (walk_at h ways K first) plan k) (stand_at i m l) (walk_at h ways K first i st).0 (walk_at h ways K first i st).1)).state.steps
             go ih false = none_within plan.more i st.steps b
             go ih true =
-                answer-within (sweep (walk_at h ways K first) plan k) ih i m l (enter_unless (get_or st.failed (first i) false) (h.spent st.steps) (inside h ways K) st (first i))
+                answer_within_lem (sweep (walk_at h ways K first) plan k) ih i m l (enter_unless (get_or st.failed (first i) false) (h.spent st.steps) (inside h ways K) st (first i))
                 (tried-within (inside h ways K) (inside-within K) st.failed st.steps (first i) b (get_or st.failed (first i) false))
 
   pub end-within : (e : End Match) (s : ℕ) → EndWithin e s → s ≤ a

@@ -48,30 +48,30 @@ abbrev pub Onward : (ℕ → Ways) → (ℕ → ℕ) → Type 0
 Onward ways pos = (x : ℕ) (ys : List ℕ) → ways x ≡ try ys → All (λ y. pos x ≤ pos y) ys
 
 module _ (ways : ℕ → Ways) (ρ : ℕ → ℕ) (N : ℕ) (falls : Falls ways ρ N) where
-  path-below : {x : ℕ} {p : List ℕ} → IsPath ways x p → All (λ z. ρ z ≤ ρ x) p
-  path-below (here e) = (omega arith, tt)
-  path-below {x} (there {y = y} {ys = ys} {p = p} e m h) =
+  path_below : {x : ℕ} {p : List ℕ} → IsPath ways x p → All (λ z. ρ z ≤ ρ x) p
+  path_below (here e) = (omega arith, tt)
+  path_below {x} (there {y = y} {ys = ys} {p = p} e m h) =
       let d = All-at (λ y. (ρ y < ρ x) × (x < N → y < N)) m (falls x ys e) in
-      (omega arith, All-map (λ z (r : ρ z ≤ ρ y). omega arith) p (path-below h))
+      (omega arith, All-map (λ z (r : ρ z ≤ ρ y). omega arith) p (path_below h))
 
-  pub path-apart : {x : ℕ} {p : List ℕ} → IsPath ways x p → Apart p
-  path-apart (here e) = (tt, tt)
-  path-apart {x} (there {y = y} {ys = ys} {p = p} e m h) =
+  pub path_apart : {x : ℕ} {p : List ℕ} → IsPath ways x p → Apart p
+  path_apart (here e) = (tt, tt)
+  path_apart {x} (there {y = y} {ys = ys} {p = p} e m h) =
       let d = All-at (λ y. (ρ y < ρ x) × (x < N → y < N)) m (falls x ys e) in
-      (All-map {Q = λ z. z ≢ x} (λ z (r : ρ z ≤ ρ y) (q : z ≡ x). let c : ρ z ≡ ρ x = ap ρ q in omega arith) p (path-below h), path-apart h)
+      (All-map {Q = λ z. z ≢ x} (λ z (r : ρ z ≤ ρ y) (q : z ≡ x). let c : ρ z ≡ ρ x = ap ρ q in omega arith) p (path_below h), path_apart h)
 
-  pub path-pairs : {x : ℕ} {p : List ℕ} → x < N → IsPath ways x p → All (λ z. z < N) p
-  path-pairs lt (here e) = (lt, tt)
-  path-pairs {x} lt (there {ys = ys} e m h) = (lt, path-pairs ((All-at (λ y. (ρ y < ρ x) × (x < N → y < N)) m (falls x ys e)).1 lt) h)
+  pub path_pairs_lem : {x : ℕ} {p : List ℕ} → x < N → IsPath ways x p → All (λ z. z < N) p
+  path_pairs_lem lt (here e) = (lt, tt)
+  path_pairs_lem {x} lt (there {ys = ys} e m h) = (lt, path_pairs_lem ((All-at (λ y. (ρ y < ρ x) × (x < N → y < N)) m (falls x ys e)).1 lt) h)
 
-  pub path-lives : (K : ℕ) → ((x : ℕ) → ρ x < K) → {x : ℕ} {p : List ℕ} → IsPath ways x p → All (λ z. plain ways K z ≢ none) p
-  path-lives K top (here e) = (plain-complete ways ρ N falls K top (here e), tt)
-  path-lives K top (there e m h) = (plain-complete ways ρ N falls K top (there e m h), path-lives K top h)
+  pub path_lives : (K : ℕ) → ((x : ℕ) → ρ x < K) → {x : ℕ} {p : List ℕ} → IsPath ways x p → All (λ z. plain ways K z ≢ none) p
+  path_lives K top (here e) = (plain-complete ways ρ N falls K top (here e), tt)
+  path_lives K top (there e m h) = (plain-complete ways ρ N falls K top (there e m h), path_lives K top h)
 
 -- what holds of a pair and of all that it leads to holds along a path
-pub path-closed : (ways : ℕ → Ways) (Q : ℕ → Type 0) → ((x : ℕ) (ys : List ℕ) → ways x ≡ try ys → Q x → All Q ys) → {x : ℕ} {p : List ℕ} → Q x → IsPath ways x p → All Q p
-path-closed ways Q cl q (here e) = (q, tt)
-path-closed ways Q cl {x} q (there {ys = ys} e m h) = (q, path-closed ways Q cl (All-at Q m (cl x ys e q)) h)
+pub path_closed : (ways : ℕ → Ways) (Q : ℕ → Type 0) → ((x : ℕ) (ys : List ℕ) → ways x ≡ try ys → Q x → All Q ys) → {x : ℕ} {p : List ℕ} → Q x → IsPath ways x p → All Q p
+path_closed ways Q cl q (here e) = (q, tt)
+path_closed ways Q cl {x} q (there {ys = ys} e m h) = (q, path_closed ways Q cl (All-at Q m (cl x ys e q)) h)
 
 -- what is said to come before a path does not matter for its last pair
 pub last-same : {ways : ℕ → Ways} {x : ℕ} {p : List ℕ} (a b : ℕ) → IsPath ways x p → last_of a p ≡ last_of b p
@@ -79,11 +79,11 @@ last-same a b (here e) = refl
 last-same a b (there e m h) = refl
 
 module _ (ways : ℕ → Ways) (pos : ℕ → ℕ) (onward : Onward ways pos) where
-  pub path-from : {x : ℕ} {p : List ℕ} → IsPath ways x p → All (λ z. pos x ≤ pos z) p
-  path-from (here e) = (omega arith, tt)
-  path-from {x} (there {y = y} {ys = ys} {p = p} e m h) =
+  pub path_from : {x : ℕ} {p : List ℕ} → IsPath ways x p → All (λ z. pos x ≤ pos z) p
+  path_from (here e) = (omega arith, tt)
+  path_from {x} (there {y = y} {ys = ys} {p = p} e m h) =
       let d = All-at (λ y. pos x ≤ pos y) m (onward x ys e) in
-      (omega arith, All-map (λ z (r : pos y ≤ pos z). omega arith) p (path-from h))
+      (omega arith, All-map (λ z (r : pos y ≤ pos z). omega arith) p (path_from h))
 
   last-from : {x : ℕ} {p : List ℕ} (a : ℕ) → IsPath ways x p → pos x ≤ pos (last_of a p)
   last-from a (here e) = omega arith
@@ -92,12 +92,12 @@ module _ (ways : ℕ → Ways) (pos : ℕ → ℕ) (onward : Onward ways pos) wh
       let i : pos y ≤ pos (last_of x p) = last-from x h in
       omega arith
 
-  pub path-upto : {x : ℕ} {p : List ℕ} (a : ℕ) → IsPath ways x p → All (λ z. pos z ≤ pos (last_of a p)) p
-  path-upto a (here e) = (omega arith, tt)
-  path-upto {x} a (there {y = y} {ys = ys} {p = p} e m h) =
+  pub path_upto : {x : ℕ} {p : List ℕ} (a : ℕ) → IsPath ways x p → All (λ z. pos z ≤ pos (last_of a p)) p
+  path_upto a (here e) = (omega arith, tt)
+  path_upto {x} a (there {y = y} {ys = ys} {p = p} e m h) =
       let d = All-at (λ y. pos x ≤ pos y) m (onward x ys e) in
       let i : pos y ≤ pos (last_of x p) = last-from x h in
-      (omega arith, path-upto x h)
+      (omega arith, path_upto x h)
 
 -- ---- a part of a list
 
@@ -236,22 +236,22 @@ from-part pos b F q xs f =
 module _ (ways : ℕ → Ways) (ρ : ℕ → ℕ) (N : ℕ) (falls : Falls ways ρ N) (K : ℕ) (top : (x : ℕ) → ρ x < K) (pos : ℕ → ℕ) (onward : Onward ways pos)
     (first : ℕ → ℕ) (plan : Plan) (starts : (i : ℕ) → i < plan.n → (first i < N) × (pos (first i) ≡ i))
     (past : (i : ℕ) (p : List ℕ) (j : ℕ) → plan.next i p ≡ some j → (pos (last_of 0 p) ≤ j) × (i < j)) where
-  path-ok : (F : List Bool) → length F ≡ N → Sound ways K F → (i : ℕ) (p : List ℕ) → i < plan.n → plain ways K (first i) ≡ some p → From pos i F p
-  path-ok F len h i p lt e =
+  path_ok : (F : List Bool) → length F ≡ N → Sound ways K F → (i : ℕ) (p : List ℕ) → i < plan.n → plain ways K (first i) ≡ some p → From pos i F p
+  path_ok F len h i p lt e =
       let w = plain-path ways K (first i) p e in
       let st = starts i lt in
       record {
-        apart = path-apart ways ρ N falls w;
-        from = rw st.1 at (path-from ways pos onward w);
-        out = All-map {Q = Out F} (λ z (r : plain ways K z ≢ none). out-of_not_in F z (λ j. r (h z j))) p (path-lives ways ρ N falls K top w);
-        pairs = rw len (path-pairs ways ρ N falls st.0 w);
+        apart = path_apart ways ρ N falls w;
+        from = rw st.1 at (path_from ways pos onward w);
+        out = All-map {Q = Out F} (λ z (r : plain ways K z ≢ none). out-of_not_in F z (λ j. r (h z j))) p (path_lives ways ρ N falls K top w);
+        pairs = rw len (path_pairs_lem ways ρ N falls st.0 w);
       }
 
   heads_ok : (F : List Bool) → length F ≡ N → Sound ways K F → (i : ℕ) (ms : List Match) → Spaced ways K first pos plan i ms → From pos i F (joined (head_of pos) ms)
   heads_ok F len h i [] a = record { apart = tt; from = tt; out = tt; pairs = tt }
   heads_ok F len h i (m ∷ ms) a =
       let q : ℕ → Bool = λ z. eqb (pos z) m.start in
-      let f : From pos m.start F m.path = path-ok F len h m.start m.path a.1 a.2 in
+      let f : From pos m.start F m.path = path_ok F len h m.start m.path a.1 a.2 in
       let nx = a.3 in
       from-down pos m.start i F (joined (head_of pos) (m ∷ ms)) a.0
       (from-append pos m.start nx.0 F (head_of pos m) (joined (head_of pos) ms) (omega arith)
@@ -263,7 +263,7 @@ module _ (ways : ℕ → Ways) (ρ : ℕ → ℕ) (N : ℕ) (falls : Falls ways 
   tails_ok F len h i [] a = record { apart = tt; from = tt; out = tt; pairs = tt }
   tails_ok F len h i (m ∷ ms) a =
       let q : ℕ → Bool = λ z. not (eqb (pos z) m.start) in
-      let f : From pos m.start F m.path = path-ok F len h m.start m.path a.1 a.2 in
+      let f : From pos m.start F m.path = path_ok F len h m.start m.path a.1 a.2 in
       let g : From pos m.start F (tail_of pos m) = from-part pos m.start F q m.path f in
       let nx = a.3 in
       let w = plain-path ways K (first m.start) m.path a.2 in
@@ -275,7 +275,7 @@ module _ (ways : ℕ → Ways) (ρ : ℕ → ℕ) (N : ℕ) (falls : Falls ways 
         out = g.out;
         pairs = g.pairs;
       })
-      (All-map (λ z (r : (pos z ≤ pos (last_of 0 m.path)) × (q z ≡ true)). omega arith) (tail_of pos m) (part-all q _ m.path (path-upto ways pos onward 0 w)))
+      (All-map (λ z (r : (pos z ≤ pos (last_of 0 m.path)) × (q z ≡ true)). omega arith) (tail_of pos m) (part-all q _ m.path (path_upto ways pos onward 0 w)))
       (tails_ok F len h nx.0 ms nx.3))
     where
       later : (x b : ℕ) → b ≤ x → not (eqb x b) ≡ true → b < x

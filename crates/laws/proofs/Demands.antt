@@ -21,7 +21,7 @@ use Rattle.rules.specs.Report.{numbers_of, labels_of, lent_room, fits, bytes_for
 use Rattle.rules.specs.Answers.{tree_in, Task, task_of, letter_holds, walked_on, backtracked, Buffers, Memory, refusal, halt_answer, end_answer, answer_by, answer_within, report_of, walk_within, plain_of, report_within, plain_report, accepted, search_within, search_of, P, F}
 use Rattle.rules.specs.Entries.{reported_in, reported_one, reported_all}
 use Rattle.rules.specs.Demands.{report_in, Demand2, Demand3, Demands, Allowing}
-use Rattle.laws.proofs.Accepted.{Granted, accepted-within, answer-within, granted_when, places_are}
+use Rattle.laws.proofs.Accepted.{Granted, accepted-within, answer_within_lem, granted_when, places_are}
 use Rattle.laws.proofs.Allowed.{search_bound, search_each, search_within_lem, end-within, EndWithin, allows_begins, finished-whole, search_allowed, allowance_enough}
 use Rattle.laws.proofs.Bounds.{Bounds, written-bounds}
 use Rattle.laws.proofs.Counting.{places-counted, unroll-size, nest-counted}
@@ -155,9 +155,9 @@ report-same : {S T : Type 0} (a b : ℕ) (t : Task) (lent : Buffers) (r : Swept 
 unfolding report_of
 report-same a b t lent r s e f = rw (e, f)
 
-answer-same : {S T : Type 0} (q : List ℕ) (rows : List ℤ) (lent : Buffers) (r : Swept S) (s : Swept T) → r.end ≡ s.end → answer_by q rows lent r ≡ answer_by q rows lent s
+answer_same : {S T : Type 0} (q : List ℕ) (rows : List ℤ) (lent : Buffers) (r : Swept S) (s : Swept T) → r.end ≡ s.end → answer_by q rows lent r ≡ answer_by q rows lent s
 unfolding answer_by
-answer-same q rows lent r s e = rw e
+answer_same q rows lent r s e = rw e
 
 -- an accepted search leaves what its report and its failed pairs say
 pub search_accepted : (a : Option ℕ) (q : List ℕ) (rows : List ℤ) (lent : Buffers) → refusal q rows lent ≡ 0
@@ -231,9 +231,9 @@ module _ (a : Option ℕ) (q : List ℕ) (rows : List ℤ) (lent : Buffers) (ok 
       let l : x / 8 < length (notes_of F) = rw (length-notes F) (omega arith) in
       rw (front_wrote lent.notes (notes_of F) (x / 8) 0 l) (noted F x h')
 
-  trail-in : m.buffers.trail ≡ wrote lent.trail 0 (zeros (pairs (places_of g.tree * factor_of g.tree) t.table.n))
+  trail_in : m.buffers.trail ≡ wrote lent.trail 0 (zeros (pairs (places_of g.tree * factor_of g.tree) t.table.n))
   unfolding accepted
-  trail-in = ap (λ (k : ℕ). wrote lent.trail 0 (zeros k)) kept_all
+  trail_in = ap (λ (k : ℕ). wrote lent.trail 0 (zeros k)) kept_all
 
   notes_behind : drop (bytes_for (pairs (places_of g.tree * factor_of g.tree) t.table.n)) m.buffers.notes ≡ drop (bytes_for (pairs (places_of g.tree * factor_of g.tree) t.table.n)) lent.notes
   unfolding accepted
@@ -241,7 +241,7 @@ module _ (a : Option ℕ) (q : List ℕ) (rows : List ℤ) (lent : Buffers) (ok 
 
   report-in : (report_in m ≡ report_within a q rows lent) × (m.result.answer ≡ end_answer r.end)
   unfolding accepted report_within report_of
-  report-in = (refl, answer-within q rows lent a ok)
+  report-in = (refl, answer_within_lem q rows lent a ok)
 
   counts_in : (m.result.matches ≡ length r.matches) × (m.result.labels ≡ length (labels_of t.places r.matches))
   unfolding accepted report_within report_of
@@ -270,7 +270,7 @@ module _ (a : Option ℕ) (q : List ℕ) (rows : List ℤ) (lent : Buffers) (ok 
   like : Finished r.end → report_within a q rows lent ≡ plain_report q rows lent
   unfolding report_within plain_report answer_within
   like f =
-      report-same (answer_within a q rows lent) (answer_by q rows lent (plain_of q rows lent)) t lent r (plain_of q rows lent) (answer-same q rows lent r (plain_of q rows lent) (third_in.like_all f).1) (third_in.like_all f).0
+      report-same (answer_within a q rows lent) (answer_by q rows lent (plain_of q rows lent)) t lent r (plain_of q rows lent) (answer_same q rows lent r (plain_of q rows lent) (third_in.like_all f).1) (third_in.like_all f).0
 
   first_plain : Begins (reported_in q m) (reported_all t.table t.measures (shown t.places (plain_of q rows lent).matches))
   first_plain =
@@ -310,7 +310,7 @@ module _ (a : Option ℕ) (q : List ℕ) (rows : List ℤ) (lent : Buffers) (ok 
         sum = steps_in ∙ third_in.sum;
         noted = noted_in;
         unused = flags_unused p bounds t places-in (length lent.numbers) (length lent.labels) (within a t.table.n);
-        trail = trail-in;
+        trail = trail_in;
         notes_beyond = notes_behind;
         matches = counts_in.0;
         label_count = counts_in.1;

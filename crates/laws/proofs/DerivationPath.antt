@@ -1,5 +1,5 @@
 -- The path of a derivation: the pairs (place, flags, position) that it goes through, in the places
--- of document 01 and R-3 (`Runs`, `PathOf`). A derivation has one path at most (`path-one`).
+-- of document 01 and R-3 (`Runs`, `PathOf`). A derivation has one path at most (`path_one`).
 use mathlib.Core.Path.{◌≡◌, ap, ap₂, sym, ◌∙◌, subst, refl}
 use mathlib.Core.List.{List, [], ◌∷◌, ◌++◌}
 use mathlib.Core.Logic.{inl, inr, ◌⊎◌, ⊎_elim}
@@ -222,8 +222,8 @@ runs_one F S empty d b i φ e j j' p p' r r' = both-same j j' i p p' [] r r'
 runs_one F S (group t) d b i φ e j j' p p' r r' =
     fork-one (λ d b i φ e j p. Runs t F S d b i φ e j p) (λ d b i φ e j j' p p' a a'. runs_one F S t d b i φ e j j' p p' a a') F S (fork t) d b i φ e j j' p p' r r'
 
-pub path-one : {t : Tree pattern} {e : Derivation t} {i j j' : ℕ} {p p' : List ℕ} → PathOf t e i j p → PathOf t e i j' p' → p ≡ p'
-path-one {t} {e} {i} {j} {j'} x y =
+pub path_one : {t : Tree pattern} {e : Derivation t} {i j j' : ℕ} {p p' : List ℕ} → PathOf t e i j p → PathOf t e i j' p' → p ≡ p'
+path_one {t} {e} {i} {j} {j'} x y =
     let F : ℕ = 2 ^ nest (unroll t) in
     let S : ℕ = length (places (unroll t)) in
     let a = fork-one (Runs t F S) (runs_one F S t) F S (fork t) 0 0 i 0 e j j' x.pairs y.pairs x.runs y.runs in

@@ -13,7 +13,7 @@ use lib.Dec.{ltb}
 use borrow.Author.Tests.{ltb-true}
 use Rattle.rules.specs.Search.{Attempted, hit, miss, halts, Swept, Plan, ended, no_start, below, on_answer, sweep, answered, walk_at, Standing, on_match, stand_at}
 use Rattle.rules.specs.Walk.{Ways, accept, try, Halting, Outcome, found, failed, halted, or_else, close, enter_unless, tries, inside, inside_by, count_true, Kept, as_kept, one_step}
-use Rattle.laws.proofs.Bound.{path-apart, path-pairs, path-closed}
+use Rattle.laws.proofs.Bound.{path_apart, path_pairs_lem, path_closed}
 use Rattle.laws.proofs.Plain.{plain-path, Sound, InsideSound, inside-sound}
 use Rattle.laws.proofs.Swept.{Unhalting, Unhalted, inside-unhalted, Answered, walk-sure, sweep-keeps}
 use Rattle.laws.proofs.Walk.{All-map, All-map₂, mark-in, count-mark, count-le, out-mark, Apart, InsidePost, inside-post}
@@ -147,7 +147,7 @@ module _ (h : Halting) (calm : Unhalting h) (ways : ℕ → Ways) (ρ : ℕ → 
           let w = plain-path ways K x p i.0 in
           let fr = front_same a F later.failed h.grew.len h.grew.keeps nw in
           let lg : length later.failed ≡ N = h.grew.len ∙ len in
-          let rm = room-from a p later.failed (path-apart ways ρ N falls w) h.off (rw lg (path-pairs ways ρ N falls lt w)) (path-closed ways (λ z. a ≤ z) cl ax w) in
+          let rm = room-from a p later.failed (path_apart ways ρ N falls w) h.off (rw lg (path_pairs_lem ways ρ N falls lt w)) (path_closed ways (λ z. a ≤ z) cl ax w) in
           omega (arith, h.sum, fr, count-split a F, count-split a later.failed, rm, lg)
       go (failed later) u h i nw =
           let fr = front_same a F later.failed h.grew.len h.grew.keeps nw in

@@ -21,7 +21,7 @@ use Rattle.rules.specs.Reader.{tree_of}
 use Rattle.rules.specs.Report.{lent_room, fits}
 use Rattle.rules.specs.Answers.{too_deep, tree_in, no_tree, nested_loops, too_many, foreign, wrong, incomplete, offset_at, bad_rows, task_of, letter_holds, walked_on, Buffers, short_notes, short_trail, Memory, first_of, query_tests, refusal, refuses, halt_answer, end_answer, answer_by, walk_within, answer_within, report_within, report_of, refused, accepted, search_within}
 use Rattle.rules.specs.Demands.{Accepts, Demand1}
-use Rattle.laws.proofs.Accepted.{answer-within, unrefused, tree-of}
+use Rattle.laws.proofs.Accepted.{answer_within_lem, unrefused, tree-of}
 use Rattle.laws.proofs.FirstTrue.{end-accepted}
 use Rattle.laws.proofs.Grammar.{tree-exactly, one_tree}
 use Rattle.laws.proofs.Stops.{begins-front, written-begins, tree-there, refusal_is, answered-5, answered-14}
@@ -63,7 +63,7 @@ module _ (a : Option ℕ) (q : List ℕ) (rows : List ℤ) (lent : Buffers) wher
 
   -- where no test of a refusal is true the answer accepts, and where it accepts none is
   pub accepts_when : refusal q rows lent ≡ 0 → Accepts (answer_within a q rows lent)
-  accepts_when z = rw (answer-within q rows lent a z) (end-accepts (walk_within a q rows lent).end no-waiting)
+  accepts_when z = rw (answer_within_lem q rows lent a z) (end-accepts (walk_within a q rows lent).end no-waiting)
 
   pub unrefused_by : Accepts (answer_within a q rows lent) → refusal q rows lent ≡ 0
   unrefused_by h = unrefused q rows lent a (accepting (answer_within a q rows lent) h)

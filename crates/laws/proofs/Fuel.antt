@@ -26,9 +26,9 @@ use Rattle.rules.specs.Working.{Falls}
 
 module _ (ways : ℕ → Ways) (ρ : ℕ → ℕ) (N : ℕ) (falls : Falls ways ρ N) where
   -- a path has at most as many pairs as its first pair's rank and one more
-  pub path-length : {x : ℕ} {p : List ℕ} → IsPath ways x p → length p ≤ suc (ρ x)
-  path-length (here e) = omega arith
-  path-length {x} (there {y = y} {ys = ys} e m h) = omega (arith, path-length h, (All-at (λ y. (ρ y < ρ x) × (x < N → y < N)) m (falls x ys e)).0)
+  pub path_length : {x : ℕ} {p : List ℕ} → IsPath ways x p → length p ≤ suc (ρ x)
+  path_length (here e) = omega arith
+  path_length {x} (there {y = y} {ys = ys} e m h) = omega (arith, path_length h, (All-at (λ y. (ρ y < ρ x) × (x < N → y < N)) m (falls x ys e)).0)
 
 -- ---- the search
 
@@ -86,8 +86,8 @@ module _ (t : Unrolled) (holds : ℕ → ℕ → Bool) (n : ℕ) where
   inside-enough w K h F s x = inside-fuel w (pair_ways holds n (places t)) (rank t n) (pairs P n) (falls t holds n) K (pairs P n) x (le_trans (top t holds n x) h) (top t holds n x) F s
 
   -- no path is longer
-  pub path-short : (x : ℕ) (p : List ℕ) → IsPath (pair_ways holds n (places t)) x p → length p ≤ pairs P n
-  path-short x p h = omega (arith, top t holds n x, path-length (pair_ways holds n (places t)) (rank t n) (pairs P n) (falls t holds n) h)
+  pub path_short : (x : ℕ) (p : List ℕ) → IsPath (pair_ways holds n (places t)) x p → length p ≤ pairs P n
+  path_short x p h = omega (arith, top t holds n x, path_length (pair_ways holds n (places t)) (rank t n) (pairs P n) (falls t holds n) h)
 
   -- the whole searches, with any larger bounds
   module _ (skip : Skip) (fits : ℕ → ℕ → List ℕ → Bool) (K k : ℕ) (h : pairs P n ≤ K) (l : n ≤ k) where

@@ -430,11 +430,11 @@ module _ (h₁ h₂ : Halting) (ways₁ ways₂ : ℕ → Ways) (sooner : Sooner
   same_from k i m l st e = sweep-fuel att₂ att₂ (λ i st. refl) plan₂ later k n₂ i m l st e (omega arith)
 
   -- behind an attempt
-  answer-same : (k : ℕ) → Same k → (i m l : ℕ) → n₂ ≤ i + suc k → (r : Outcome) → Opens r → length (kept_by r).failed ≡ N
+  answer_same : (k : ℕ) → Same k → (i m l : ℕ) → n₂ ≤ i + suc k → (r : Outcome) → Opens r → length (kept_by r).failed ≡ N
       → on_answer plan₂ (sweep att₂ plan₂ k) (stand_at i m l) (answered (onward h₁ h₂ ways₁ ways₂ sooner ρ N falls K top r)).0 (answered (onward h₁ h₂ ways₁ ways₂ sooner ρ N falls K top r)).1
       ≡ next m l (on_answer plan (sweep att₁ plan k) (stand_at i m l) (answered r).0 (answered r).1)
-  answer-same k ih i m l e (failed kept) o len = ih (suc i) m l kept len (omega arith)
-  answer-same k ih i m l e (found p kept) o len = go (plan.next i p) refl (plan.fits m l p)
+  answer_same k ih i m l e (failed kept) o len = ih (suc i) m l kept len (omega arith)
+  answer_same k ih i m l e (found p kept) o len = go (plan.next i p) refl (plan.fits m l p)
     where
       go : (q : Option ℕ) → plan.next i p ≡ q → (t : Bool)
           → on_match t q (record { start = i; path = p }) kept (λ j. sweep att₂ plan₂ k (stand_at j (suc m) (l + plan.rows p)) kept)
@@ -444,8 +444,8 @@ module _ (h₁ h₂ : Halting) (ways₁ ways₂ : ℕ → Ways) (sooner : Sooner
       go (some j) d true =
           ap (with_match (record { start = i; path = p })) (ih j (suc m) (l + plan.rows p) kept len (omega (arith, later i p j d)))
           ∙ sym (then-match h₂ ways₂ K first plan₂ m l (record { start = i; path = p }) (sweep att₁ plan k (stand_at j (suc m) (l + plan.rows p)) kept))
-  answer-same k ih i m l e (halted w [] kept) o len = absurd o
-  answer-same k ih i m l e (halted w (x ∷ p) kept) o len =
+  answer_same k ih i m l e (halted w [] kept) o len = absurd o
+  answer_same k ih i m l e (halted w (x ∷ p) kept) o len =
       let z : m + 0 ≡ m = omega arith in
       let y : l + 0 ≡ l = omega arith in
       rw (z, y)
@@ -491,7 +491,7 @@ module _ (h₁ h₂ : Halting) (ways₁ ways₂ : ℕ → Ways) (sooner : Sooner
           rw (lt-ltb i n₂ (le_trans lt le), d, sooner.steps st.steps c)
           (ap (λ (r : Outcome). on_answer plan₂ (sweep att₂ plan₂ k) (stand_at i m l) (answered r).0 (answered r).1)
           (inside-onward h₁ h₂ ways₁ ways₂ sooner ρ N falls K top K st.failed len (suc st.steps) (first i) (top (first i)) (starts i (le_trans lt le)))
-          ∙ answer-same k ih i m l e (inside h₁ ways₁ K (one_step st) (first i)) (inside-opens h₁ ways₁ K st.failed (suc st.steps) (first i))
+          ∙ answer_same k ih i m l e (inside h₁ ways₁ K (one_step st) (first i)) (inside-opens h₁ ways₁ K st.failed (suc st.steps) (first i))
           ((inside-keeps h₁ ways₁ K st.failed (suc st.steps) (first i)).len ∙ len))
 
       go : Same k → (t : Bool) → ltb i plan.n ≡ t

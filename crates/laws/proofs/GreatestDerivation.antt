@@ -23,7 +23,7 @@ use Rattle.rules.specs.Search.{plain_from, labels, last_of, end_of}
 use Rattle.rules.specs.Walk.{Ways, pairs, pair_at, position_of, ways_at, pair_ways, plain, plain_by, first_at, first_of}
 use Rattle.laws.proofs.Bounds.{Bounds, in_order}
 use Rattle.laws.proofs.Counting.{forked-more, unrolled-skips}
-use Rattle.laws.proofs.DerivationPath.{Routes, ForkRuns, Runs, PathOf, path-one, CopyRuns, BehindRuns, took, took-none, took-rows, no-flags}
+use Rattle.laws.proofs.DerivationPath.{Routes, ForkRuns, Runs, PathOf, path_one, CopyRuns, BehindRuns, took, took-none, took-rows, no-flags}
 use Rattle.laws.proofs.DerivationReadings.{parses_one, KeptParses, parses_word, parses_reads, reads_kept, rounds_kept, kept_rounds_lem}
 use Rattle.laws.proofs.Level.{and-true}
 use Rattle.laws.proofs.PlainFinds.{Reading, Order, Post, Finds, FindsOne, labels_append, through, pass_by, finds_one, finds_only, finds_first, finds_alt, finds_seq, finds_rounds, Taking, Onward, Then, ThenRuns, Or, OrRuns, Behind, post_behind, instead}
@@ -258,9 +258,9 @@ module _ (p : Tree pattern) (o : Bounds p) (holds : ℕ → ℕ → Bool) (n : �
       from x (some path) e a = let s = greatest_same a.best x in (path, (e, s.0, s.1))
 
   -- the path found is that of the greatest derivation
-  pub path-is_greatest : (i : ℕ) (path : List ℕ) → (plain_from holds n (places (unroll p)) i ≡ some path)
+  pub path_is_greatest : (i : ℕ) (path : List ℕ) → (plain_from holds n (places (unroll p)) i ≡ some path)
       ↔ ((j : ℕ) × (w : List ℕ) × (x : Preferred (row_sets n holds) p i j w) × PathOf p x.derivation i j path)
-  path-is_greatest i path = (to, λ x. from x (plain_from holds n (places (unroll p)) i) refl (preferred p o holds n i))
+  path_is_greatest i path = (to, λ x. from x (plain_from holds n (places (unroll p)) i) refl (preferred p o holds n i))
     where
       to : plain_from holds n (places (unroll p)) i ≡ some path → (j : ℕ) × (w : List ℕ) × (x : Preferred (row_sets n holds) p i j w) × PathOf p x.derivation i j path
       to e =
@@ -272,7 +272,7 @@ module _ (p : Tree pattern) (o : Bounds p) (holds : ℕ → ℕ → Bool) (n : �
       from x none e a = absurd (a x.2.derivation x.0 x.1 x.2.parses)
       from x (some q) e a =
           let y : PathOf p x.2.derivation i (end_of (length (places (unroll p))) q) q = rw (greatest_one a.best x.2) at a.goes in
-          e ∙ ap (λ (l : List ℕ). some l) (path-one y x.3)
+          e ∙ ap (λ (l : List ℕ). some l) (path_one y x.3)
 
   -- nothing is found exactly if no derivation parses
   pub none-is_none : (i : ℕ) → (plain_from holds n (places (unroll p)) i ≡ none) ↔ NoneParses (row_sets n holds) p i

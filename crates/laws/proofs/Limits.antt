@@ -114,12 +114,12 @@ module _ {S : Type 0} (att : ℕ → S → Attempted × S) (pl : List Place) (n 
       further c none = behind [] (no-match (suc m) (l + length (labels pl p)) c.0 c.1)
       further c (some j) = behind (f (stand_at j (suc m) (l + length (labels pl p))) st).matches (ih j (suc m) (l + length (labels pl p)) st c.0 c.1)
 
-  answer-on : (f : Standing → S → Swept S) → FitsOn f → (i m l : ℕ) (o : Attempted) (st : S) → m * (3 + 2 * length ms) ≤ nums → l ≤ labs
+  answer_on : (f : Standing → S → Swept S) → FitsOn f → (i m l : ℕ) (o : Attempted) (st : S) → m * (3 + 2 * length ms) ≤ nums → l ≤ labs
       → Fitting nums labs ms pl m l (on_answer plan f (stand_at i m l) o st).matches
   unfolding plan_of
-  answer-on f ih i m l miss st a b = ih (suc i) m l st a b
-  answer-on f ih i m l (halts w p) st a b = no-match m l a b
-  answer-on f ih i m l (hit p) st a b = fit_on f ih i m l p st a b (plan.next i p) (fits (lent_room nums labs ms) m l (labels pl p)) refl
+  answer_on f ih i m l miss st a b = ih (suc i) m l st a b
+  answer_on f ih i m l (halts w p) st a b = no-match m l a b
+  answer_on f ih i m l (hit p) st a b = fit_on f ih i m l p st a b (plan.next i p) (fits (lent_room nums labs ms) m l (labels pl p)) refl
 
   pub sweep-fits : (k : ℕ) → FitsOn (sweep att plan k)
   unfolding sweep plan_of
@@ -128,7 +128,7 @@ module _ {S : Type 0} (att : ℕ → S → Attempted × S) (pl : List Place) (n 
     where
       go : FitsOn (sweep att plan k) → (t : Bool) → Fitting nums labs ms pl m l (below t (ended (no_start more i) st) (λ _. on_answer plan (sweep att plan k) (stand_at i m l) (att i st).0 (att i st).1)).matches
       go ih false = no-match m l a b
-      go ih true = answer-on (sweep att plan k) ih i m l (att i st).0 (att i st).1 a b
+      go ih true = answer_on (sweep att plan k) ih i m l (att i st).0 (att i st).1 a b
 
 -- ---- for an accepted input, within an allowance
 

@@ -22,7 +22,7 @@ use Rattle.rules.specs.Answers.{tree_in, offset_at, Task, task_of, letter_holds,
 use Rattle.rules.specs.Working.{thinned}
 use Rattle.rules.specs.Lots.{present_rows, Named, Progress, settles, begin_answer, call_refusal, present_task, lot_terms, lot_walk, lot_memory, stays, Called, Arrived, arrived, call_of, Leaves}
 use Rattle.rules.specs.LotDemands.{Lot, Later, LotDemands, Adds, OneRun, start, Lead, Lots}
-use Rattle.laws.proofs.Accepted.{Granted, places_are, answer-within}
+use Rattle.laws.proofs.Accepted.{Granted, places_are, answer_within_lem}
 use Rattle.laws.proofs.Allowed.{search_goes, goes_begins, goes_keeps, EndWithin, end-within, search_within_lem}
 use Rattle.laws.proofs.Bounds.{written-bounds}
 use Rattle.laws.proofs.Demands.{second, third, search_accepted, places-all, flags_unused}
@@ -377,7 +377,7 @@ module _ (s : Named) (ok : Begins_well s) where
     unfolding lot_memory report_within report_of accepted present_task
     run-memory =
         let u = now-unrefused s ok rows present lot in
-        rw (search_accepted s.allowance q (present_rows q rows present) s.lent u, answer-within q (present_rows q rows present) s.lent s.allowance u, padded-run) refl
+        rw (search_accepted s.allowance q (present_rows q rows present) s.lent u, answer_within_lem q (present_rows q rows present) s.lent s.allowance u, padded-run) refl
 
     run-numbers : (lot_memory s rows present true).buffers.numbers ≡ (search_within s.allowance q (present_rows q rows present) s.lent).buffers.numbers
     unfolding lot_memory report_within report_of accepted present_task

@@ -79,13 +79,13 @@ module _ (h : Halting) (ways : ℕ → Ways) where
     none-leads false i = tt
     none-leads true i = inl refl
 
-    answer-leads : (f : Standing → Kept → Swept Kept) → LeadsOn f → (i m l : ℕ) (r : Outcome) → (LeadsAmong (first i ∷ []) r) → EndLeads (on_answer plan f (stand_at i m l) (answered r).0 (answered r).1).end
-    answer-leads f ih i m l (failed kept) a = ih (suc i) m l kept
-    answer-leads f ih i m l (halted w p kept) a = ⊎_elim (λ q. inl q) (λ (b : (y : ℕ) × (Memᴰ y (first i ∷ [])) × IsOpen ways y p). inr (only b.0 b.1 b.2)) a
+    answer_leads : (f : Standing → Kept → Swept Kept) → LeadsOn f → (i m l : ℕ) (r : Outcome) → (LeadsAmong (first i ∷ []) r) → EndLeads (on_answer plan f (stand_at i m l) (answered r).0 (answered r).1).end
+    answer_leads f ih i m l (failed kept) a = ih (suc i) m l kept
+    answer_leads f ih i m l (halted w p kept) a = ⊎_elim (λ q. inl q) (λ (b : (y : ℕ) × (Memᴰ y (first i ∷ [])) × IsOpen ways y p). inr (only b.0 b.1 b.2)) a
       where
         only : (y : ℕ) → Memᴰ y (first i ∷ []) → IsOpen ways y p → IsOpen ways (first i) p
         only y m o = All-at (λ z. IsOpen ways z p → IsOpen ways (first i) p) m (λ x. x, tt) o
-    answer-leads f ih i m l (found p kept) a = go (plan.next i p) (plan.fits m l p)
+    answer_leads f ih i m l (found p kept) a = go (plan.next i p) (plan.fits m l p)
       where
         go : (o : Option ℕ) (t : Bool) → EndLeads (on_match t o (record { start = i; path = p }) kept (λ j. f (stand_at j (suc m) (l + plan.rows p)) kept)).end
         go o false = tt
@@ -111,7 +111,7 @@ module _ (h : Halting) (ways : ℕ → Ways) where
             → EndLeads (below t (ended (no_start plan.more i) st) (λ _. on_answer plan (sweep (walk_at h ways K first) plan k) (stand_at i m l) (walk_at h ways K first i st).0 (walk_at h ways K first i st).1)).end
         go ih false = none-leads plan.more i
         go ih true =
-            answer-leads (sweep (walk_at h ways K first) plan k) ih i m l (enter_unless (get_or st.failed (first i) false) (h.spent st.steps) (inside h ways K) st (first i)) (tried (get_or st.failed (first i) false) (h.spent st.steps))
+            answer_leads (sweep (walk_at h ways K first) plan k) ih i m l (enter_unless (get_or st.failed (first i) false) (h.spent st.steps) (inside h ways K) st (first i)) (tried (get_or st.failed (first i) false) (h.spent st.steps))
 
 -- over any places, on any terms
 pub search_leads : (terms : Terms) (holds : ℕ → ℕ → Bool) (n : ℕ) (pl : List Place) (skip : Skip) (fits : ℕ → ℕ → List ℕ → Bool)

@@ -80,21 +80,21 @@ module _ (t : Unrolled) (holds : ℕ → ℕ → Bool) (n : ℕ) where
       (rw (places-length t) (places-edges t (x % states t) (mod-lt x (some-state t))))
 
   -- a path has a label for each row it moves on
-  path-rows : {x : ℕ} {p : List ℕ} → IsPath (pair_ways holds n (places t)) x p → position_of P x ≤ n → position_of P x + length (labels (places t) p) ≤ n
+  path_rows : {x : ℕ} {p : List ℕ} → IsPath (pair_ways holds n (places t)) x p → position_of P x ≤ n → position_of P x + length (labels (places t) p) ≤ n
   unfolding labels
-  path-rows {x} (here e) h =
+  path_rows {x} (here e) h =
       let d : takes (place_on x) ≡ 0 = rw e at (pair_step x) in
       omega (arith, label_length (place_on x) [], d)
-  path-rows {x} (there {y = y} {ys = ys} {p = p} e m r) h =
+  path_rows {x} (there {y = y} {ys = ys} {p = p} e m r) h =
       let a : All (λ y. (y / P ≡ x / P + takes (place_on x)) × (x / P ≤ n → y / P ≤ n)) ys = rw e at (pair_step x) in
       let b = All-at (λ y. (y / P ≡ x / P + takes (place_on x)) × (x / P ≤ n → y / P ≤ n)) m a in
-      omega (arith, label_length (place_on x) (labels (places t) p), path-rows r (b.1 h), b.0)
+      omega (arith, label_length (place_on x) (labels (places t) p), path_rows r (b.1 h), b.0)
 
   -- a match at a row below n
   found_rows : (i : ℕ) (p : List ℕ) → i < n → plain (pair_ways holds n (places t)) (pairs P n) (first_at P i) ≡ some p → i + length (labels (places t) p) ≤ n
   found_rows i p h e =
       let s = (starts t holds n i h).1 in
-      rw s at (path-rows (plain-path (pair_ways holds n (places t)) (pairs P n) (first_at P i) p e) (rw s (omega arith)))
+      rw s at (path_rows (plain-path (pair_ways holds n (places t)) (pairs P n) (first_at P i) p e) (rw s (omega arith)))
 
   -- ---- all matches
 

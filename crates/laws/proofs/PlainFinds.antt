@@ -704,10 +704,10 @@ module _ (F : ℕ) (Q : List Flagged) (holds : ℕ → ℕ → Bool) (n : ℕ) (
     Copied Z (suc m) [] i j w = ⊥
     Copied Z (suc m) (e ∷ es) i k w = (j : ℕ) × (u : List ℕ) × (v : List ℕ) × (R e i j u) × (Copied Z m es j k v) × (w ≡ u ++ v)
 
-    copied-forward : (Z : Reading (List A)) → Onward Z → (m : ℕ) → Onward (Copied Z m)
-    copied-forward Z on zero es i j w r = on es i j w r
-    copied-forward Z on (suc m) [] i j w r = absurd r
-    copied-forward Z on (suc m) (e ∷ es) i j w r = le_trans (forward e i r.0 r.1 r.3) (copied-forward Z on m es r.0 j r.2 r.4)
+    copied_forward : (Z : Reading (List A)) → Onward Z → (m : ℕ) → Onward (Copied Z m)
+    copied_forward Z on zero es i j w r = on es i j w r
+    copied_forward Z on (suc m) [] i j w r = absurd r
+    copied_forward Z on (suc m) (e ∷ es) i j w r = le_trans (forward e i r.0 r.1 r.3) (copied_forward Z on m es r.0 j r.2 r.4)
 
     finds_copies : (r : Unrolled) (Z : Reading (List A)) → Onward Z → (U : Routes (List A)) → Finds Z Prefer U r → (m : ℕ)
         → Finds (Copied Z m) Prefer (CopyRuns T (size t) U m) (copies m t r)
@@ -717,7 +717,7 @@ module _ (F : ℕ) (Q : List Flagged) (holds : ℕ → ℕ → Bool) (n : ℕ) (
         one-round pl (Behind k d φ i) R L (Copied Z m) (Copied Z (suc m)) i (λ e es j w s. s) (λ e es j w s. s)
         (ThenRuns (T d b i φ) (λ x. CopyRuns T (size t) U m d (b + size t) x (took d φ i x))) (CopyRuns T (size t) U (suc m) d b i φ) (λ e es j p s. s)
         lazy (λ j w s. s) (f (pair i (start_of F (u_seq t (copies m t r)) b k φ)))
-        (finds_seq R L (Copied Z m) Prefer T (CopyRuns T (size t) U m) t (copies m t r) word tk (copied-forward Z on m) body (finds_copies r Z on U x m) d b k a hb hf i φ v)
+        (finds_seq R L (Copied Z m) Prefer T (CopyRuns T (size t) U m) t (copies m t r) word tk (copied_forward Z on m) body (finds_copies r Z on U x m) d b k a hb hf i φ v)
 
     -- ---- the languages told by the numbers of rounds, and by the rule for rounds that take no row
 

@@ -107,11 +107,11 @@ module _ (h₁ h₂ : Halting) (ways₁ ways₂ : ℕ → Ways) (sooner : Sooner
     settled-answer (halted out_of_steps p kept) g i m l a = tt
     settled-answer (halted out_of_rows p kept) g i m l a = a
 
-    answer-stays : (f g : Standing → Kept → Swept Kept) → StaysOn f g → (i m l : ℕ) (o : Attempted) (st : Kept) → SettledEnd (on_answer plan g (stand_at i m l) o st).end
+    answer_stays : (f g : Standing → Kept → Swept Kept) → StaysOn f g → (i m l : ℕ) (o : Attempted) (st : Kept) → SettledEnd (on_answer plan g (stand_at i m l) o st).end
         → on_answer plan₂ f (stand_at i m l) o st ≡ on_answer plan g (stand_at i m l) o st
-    answer-stays f g ih i m l miss st a = ih (suc i) m l st a
-    answer-stays f g ih i m l (halts w p) st a = refl
-    answer-stays f g ih i m l (hit p) st a = go (plan.next i p) (plan.fits m l p) a
+    answer_stays f g ih i m l miss st a = ih (suc i) m l st a
+    answer_stays f g ih i m l (halts w p) st a = refl
+    answer_stays f g ih i m l (hit p) st a = go (plan.next i p) (plan.fits m l p) a
       where
         go : (o : Option ℕ) (t : Bool) → SettledEnd (on_match t o (record { start = i; path = p }) st (λ j. g (stand_at j (suc m) (l + plan.rows p)) st)).end
             → on_match t o (record { start = i; path = p }) st (λ j. f (stand_at j (suc m) (l + plan.rows p)) st)
@@ -144,7 +144,7 @@ module _ (h₁ h₂ : Halting) (ways₁ ways₂ : ℕ → Ways) (sooner : Sooner
             let c = settled-answer r (sweep att₁ plan k) i m l b in
             let d : att₂ i st ≡ att₁ i st = rw (same st.steps) (ap answered (tried (get_or st.failed (first i) false) (h₁.spent st.steps) c)) in
             rw (lt-ltb i n₂ (le_trans (ltb-true i plan.n e) le))
-            (ap (λ (q : Attempted × Kept). on_answer plan₂ (sweep att₂ plan₂ k) (stand_at i m l) q.0 q.1) d ∙ answer-stays (sweep att₂ plan₂ k) (sweep att₁ plan k) ih i m l (att₁ i st).0 (att₁ i st).1 b)
+            (ap (λ (q : Attempted × Kept). on_answer plan₂ (sweep att₂ plan₂ k) (stand_at i m l) q.0 q.1) d ∙ answer_stays (sweep att₂ plan₂ k) (sweep att₁ plan k) ih i m l (att₁ i st).0 (att₁ i st).1 b)
 
 -- ---- a pattern
 

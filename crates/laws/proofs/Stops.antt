@@ -64,12 +64,12 @@ module _ (text w : List ℕ) (b : ℕ) (u : List ℕ) (e : text ≡ w ++ (b ∷ 
   exchanged = ap (other (length u) v) e ∙ other-is b w u v
 
   -- with the byte b the readers stop at it, whatever follows
-  stops-too : (r : Reading (Tree pattern)) → left r ≡ b ∷ u → Same (length u) v (skip_spaces text) r (read N pattern (other (length u) v (skip_spaces text))) → whole_tree (read N pattern (skip_spaces t)) ≡ none
+  stops_too : (r : Reading (Tree pattern)) → left r ≡ b ∷ u → Same (length u) v (skip_spaces text) r (read N pattern (other (length u) v (skip_spaces text))) → whole_tree (read N pattern (skip_spaces t)) ≡ none
   unfolding Same left whole_tree
-  stops-too (bad x) q h =
+  stops_too (bad x) q h =
       let k = h (rw q (omega arith)) in
       ap (λ (y : List ℕ). whole_tree (read N pattern (skip_spaces y))) (sym exchanged) ∙ rw (other-skip (length u) v text k.0, k.1) refl
-  stops-too (got p x) q h =
+  stops_too (got p x) q h =
       let k = h (rw q (omega arith)) in
       let z : other (length u) v x ≡ b ∷ other (length u) v u = ap (other (length u) v) q ∙ other-on (length u) v b u (omega arith) in
       ap (λ (y : List ℕ). whole_tree (read N pattern (skip_spaces y))) (sym exchanged) ∙ rw (other-skip (length u) v text k.0, k.1, z) refl
@@ -78,7 +78,7 @@ module _ (text w : List ℕ) (b : ℕ) (u : List ℕ) (e : text ≡ w ++ (b ∷ 
   unfolding depth rank_of
   no-tree =
       tree-by_depth N t (omega (arith, skip_shorter t))
-      ∙ stops-too (read N pattern (skip_spaces text)) (ap left (sym at-depth) ∙ l) (read_same (length u) v N pattern (skip_spaces text))
+      ∙ stops_too (read N pattern (skip_spaces text)) (ap left (sym at-depth) ∙ l) (read_same (length u) v N pattern (skip_spaces text))
 
 -- ---- where reading stops
 

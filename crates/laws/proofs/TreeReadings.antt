@@ -19,7 +19,7 @@ use Rattle.rules.specs.Search.{plain_from, last_of, end_of, labels}
 use Rattle.rules.specs.Walk.{IsPath, here, there, accept, pairs, position_of, first_at, pair_ways, pair_at}
 use Rattle.laws.proofs.Bounds.{Bounds, in_order}
 use Rattle.laws.proofs.Counting.{forked-more}
-use Rattle.laws.proofs.Paths.{path-found}
+use Rattle.laws.proofs.Paths.{path_found}
 use Rattle.laws.proofs.Plain.{plain-path}
 use Rattle.laws.proofs.UnrolledReadings.{ReadsU, ReadsAny, Ext, complete, Cut, sound, Taken, unrolled-taken}
 use Rattle.laws.proofs.WholePattern.{whole, first-place, small, ends_here, end-says, end_below}
@@ -180,10 +180,10 @@ module _ (t : Unrolled) (holds : ℕ → ℕ → Bool) (n : ℕ) where
   first-pair i = omega (arith, first-place t)
 
   -- a path from the first place is a reading
-  pub path-reads : (i : ℕ) (path : List ℕ) → IsPath (pair_ways holds n (places t)) (first_at (length (places t)) i) path
+  pub path_reads : (i : ℕ) (path : List ℕ) → IsPath (pair_ways holds n (places t)) (first_at (length (places t)) i) path
       → ReadsU t holds n i (end_of (length (places t)) path) (labels (places t) path)
   unfolding places
-  path-reads i path h =
+  path_reads i path h =
       out (sound F Q holds n t 0 0 (state_at F (size t)) (whole t) (omega (arith, (small t))) enough i 0 path (omega arith)
       (subst (λ (x : ℕ). IsPath (pair_ways holds n (places t)) x path) (sym (first-pair i)) h))
     where
@@ -207,7 +207,7 @@ module _ (t : Unrolled) (holds : ℕ → ℕ → Bool) (n : ℕ) where
       complete F Q holds n t 0 0 (state_at F (size t)) (whole t) (omega (arith, (small t))) enough i j 0 w (omega arith) r (end j ∷ []) x' in
       let h : IsPath (pair_ways holds n (places t)) (first_at (length (places t)) i) y.way = subst (λ (z : ℕ). IsPath (pair_ways holds n (places t)) z y.way) (first-pair i) y.is in
       let d : labels (places t) y.way ≡ w = y.said ∙ ap (λ (l : List ℕ). w ++ l) (end-says t j) ∙ append-nil w in
-      let a = unrolled-taken holds n t i (end_of (length (places t)) y.way) (labels (places t) y.way) (path-reads i y.way h) in
+      let a = unrolled-taken holds n t i (end_of (length (places t)) y.way) (labels (places t) y.way) (path_reads i y.way h) in
       let b = unrolled-taken holds n t i j w r in
       (y.way, h, omega (arith, a.rows, b.rows, ap length d), d)
 
@@ -221,11 +221,11 @@ module _ (p : Tree pattern) (holds : ℕ → ℕ → Bool) (n : ℕ) where
   pub found-reads : Bounds p → (i : ℕ) (path : List ℕ) → plain_from holds n (places (unroll p)) i ≡ some path → Reads (row_sets n holds) p i (end_of P path) (labels (places (unroll p)) path)
   found-reads o i path e =
       unrolled-reads holds n p o i (end_of P path) (labels (places (unroll p)) path)
-      (path-reads (unroll p) holds n i path (plain-path (pair_ways holds n (places (unroll p))) (pairs P n) (first_at P i) path e))
+      (path_reads (unroll p) holds n i path (plain-path (pair_ways holds n (places (unroll p))) (pairs P n) (first_at P i) path e))
 
   -- where there is a reading, a path is found
   pub reading_found : (i j : ℕ) (w : List ℕ) → Reads (row_sets n holds) p i j w → plain_from holds n (places (unroll p)) i ≢ none
-  reading_found i j w r = path-found (unroll p) holds n (reads_path (unroll p) holds n i j w (reads_unrolled holds n p i j w r)).1
+  reading_found i j w r = path_found (unroll p) holds n (reads_path (unroll p) holds n i j w (reads_unrolled holds n p i j w r)).1
 
   -- a path is found at a start exactly if some reading exists there
   pub match-exactly : Bounds p → (i : ℕ) → ((path : List ℕ) × (plain_from holds n (places (unroll p)) i ≡ some path)) ↔ SomeReading (row_sets n holds) p i

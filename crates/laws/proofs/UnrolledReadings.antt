@@ -266,9 +266,9 @@ module _ (F : ℕ) (Q : List Flagged) (holds : ℕ → ℕ → Bool) (n : ℕ) w
     begins : p ≡ x ∷ rest
     ends : last_of 0 p ≡ last_of 0 rest
 
-  path-on : {x : ℕ} {p : List ℕ} (ys : List ℕ) → pair_ways holds n pl x ≡ try ys → IsPath (pair_ways holds n pl) x p → (y : ℕ) × (Memᴰ y ys) × (On x y p)
-  path-on ys e (here d) = let z : ◌≡◌ {A = ℕ} 0 1 = cc in absurd (omega arith)
-  path-on {x} ys e (there {y = y} {ys = zs} {p = p} d m h) =
+  path_on_lem : {x : ℕ} {p : List ℕ} (ys : List ℕ) → pair_ways holds n pl x ≡ try ys → IsPath (pair_ways holds n pl) x p → (y : ℕ) × (Memᴰ y ys) × (On x y p)
+  path_on_lem ys e (here d) = let z : ◌≡◌ {A = ℕ} 0 1 = cc in absurd (omega arith)
+  path_on_lem {x} ys e (there {y = y} {ys = zs} {p = p} d m h) =
       let q : zs ≡ ys = cc in
       (y, rw q at m, record { rest = p; is = h; begins = refl; ends = last-same x 0 h })
 
@@ -285,16 +285,16 @@ module _ (F : ℕ) (Q : List Flagged) (holds : ℕ → ℕ → Bool) (n : ℕ) w
       → IsPath (pair_ways holds n pl) (node i (state_at F b φ)) p → Forked i (ks φ) p
   unfolding ways_at
   cut-fork i b φ d ks p h v f e x =
-      let r = path-on (map (λ k. node i k) (ks φ)) (node-ways F Q b φ d (λ φ. p_fork (ks φ)) h v f e holds n i) x in
+      let r = path_on_lem (map (λ k. node i k) (ks φ)) (node-ways F Q b φ d (λ φ. p_fork (ks φ)) h v f e holds n i) x in
       let m = mem-unmap (λ k. node i k) r.0 (ks φ) r.1 in
       (m.0, m.1, r.2.rest, rw m.2 at r.2.is, ap (labels pl) r.2.begins ∙ node-label F Q b φ d (λ φ. p_fork (ks φ)) h v f e i r.2.rest, r.2.ends, ap length r.2.begins)
 
   cut-pass : (i j b φ d s : ℕ) (q : ℕ → Place) (c : Bool) (p : List ℕ) → b < length Q → φ < 2 ^ d → 2 ^ d ≤ F → get_or Q b no_place ≡ flagged d q
       → ways_at holds n (length pl) (q φ) i ≡ pass_if c (node j s) → IsPath (pair_ways holds n pl) (node i (state_at F b φ)) p
       → (c ≡ true) × (r : List ℕ) × (IsPath (pair_ways holds n pl) (node j s) r) × (labels pl p ≡ label_of (q φ) (labels pl r)) × (last_of 0 p ≡ last_of 0 r) × (length p ≡ suc (length r))
-  cut-pass i j b φ d s q false p h v f e y x = let r = path-on [] (node-ways F Q b φ d q h v f e holds n i ∙ y) x in absurd (mathlib.Core.List.Memᴰ.not-nil r.1)
+  cut-pass i j b φ d s q false p h v f e y x = let r = path_on_lem [] (node-ways F Q b φ d q h v f e holds n i ∙ y) x in absurd (mathlib.Core.List.Memᴰ.not-nil r.1)
   cut-pass i j b φ d s q true p h v f e y x =
-      let r = path-on (node j s ∷ []) (node-ways F Q b φ d q h v f e holds n i ∙ y) x in
+      let r = path_on_lem (node j s ∷ []) (node-ways F Q b φ d q h v f e holds n i ∙ y) x in
       (refl, r.2.rest, rw (mathlib.Core.List.Memᴰ.eq_of_singleton r.1) at r.2.is, ap (labels pl) r.2.begins ∙ node-label F Q b φ d q h v f e i r.2.rest, r.2.ends, ap length r.2.begins)
 
   order_cases : (lazy : Bool) (z x y : ℕ) → Memᴰ z (ways_in_turn lazy x y) → (z ≡ x) ⊎ (z ≡ y)

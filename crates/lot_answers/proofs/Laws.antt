@@ -48,9 +48,9 @@ module _ (m : Measured) where
   unfolding bad_numbers
   named_small e = decided (ltb 4096 m.largest) (λ t. clash (sym (rw t at e))) (λ t. ltb-false 4096 m.largest t)
 
-  pub answer-bad : (b : Bool) → b ≡ bad_numbers m → b ≡ true → 10 ≡ lot_answer m
+  pub answer_bad : (b : Bool) → b ≡ bad_numbers m → b ≡ true → 10 ≡ lot_answer m
   unfolding lot_answer first_of
-  answer-bad b is_b e = rw (← is_b, e) refl
+  answer_bad b is_b e = rw (← is_b, e) refl
 
   module _ (b : Bool) (is_b : b ≡ bad_numbers m) (good : b ≡ false) where
     small_named : m.largest ≤ 4096
@@ -75,9 +75,9 @@ module _ (m : Measured) where
     behind-bad = let e : suc m.largest ≡ m.largest + 1 = omega arith in rw (← is_b, good, e) refl
 
     module _ (short : ℕ) (is-short : short ≡ short_for (m.places * (m.largest + 1)) m.notes m.trail) where
-      pub answer-short : (short ≡ 0 → ⊥) → short ≡ lot_answer m
+      pub answer_short : (short ≡ 0 → ⊥) → short ≡ lot_answer m
       unfolding short_for
-      answer-short d = by (ltb m.notes (bytes_for (m.places * (m.largest + 1)))) (ltb m.trail (m.places * (m.largest + 1))) is-short ∙ sym behind-bad
+      answer_short d = by (ltb m.notes (bytes_for (m.places * (m.largest + 1)))) (ltb m.trail (m.places * (m.largest + 1))) is-short ∙ sym behind-bad
         where
           by : (t u : Bool) → short ≡ pick t 11 (pick u 12 0) → short ≡ pick t 11 (pick u 12 (pick (ltb m.present m.before) 21 0))
           by true u e = e
@@ -93,8 +93,8 @@ module _ (m : Measured) where
           by false true e = absurd (let y : ◌≡◌ {A = ℕ} 0 12 = e in omega arith)
           by false false e = refl
 
-      pub answer-fewer : short ≡ 0 → m.present < m.before → 21 ≡ lot_answer m
-      answer-fewer z h = sym (not_short z ∙ rw (lt-ltb m.present m.before h) refl)
+      pub answer_fewer : short ≡ 0 → m.present < m.before → 21 ≡ lot_answer m
+      answer_fewer z h = sym (not_short z ∙ rw (lt-ltb m.present m.before h) refl)
 
-      pub answer-none : short ≡ 0 → m.before ≤ m.present → 0 ≡ lot_answer m
-      answer-none z h = sym (not_short z ∙ rw (le-ltb m.present m.before h) refl)
+      pub answer_none : short ≡ 0 → m.before ≤ m.present → 0 ≡ lot_answer m
+      answer_none z h = sym (not_short z ∙ rw (le-ltb m.present m.before h) refl)

@@ -1,30 +1,32 @@
--- A later call's search: it is the matches of the earlier call, and then what the search comes to
--- that goes on from the open pairs of that one (`again`); and these are open still (`opens_still`).
+-- A later call's search, by the table of the prepared query: it is the matches of the earlier call
+-- and then the search from the start at which that one waited, with the steps of its open pairs
+-- taken back.
 use mathlib.Core.Path.{◌≡◌, refl, ap, ap₂, sym, ◌∙◌}
 use mathlib.Core.List.{List, [], ◌∷◌, ◌++◌}
-use mathlib.Core.Bool.{Bool, true, false}
+use mathlib.Core.Bool.{Bool, true, false, not}
 use mathlib.Core.Logic.{◌⊎◌, inl, inr, ⊎_elim}
-use mathlib.Core.Option.{some}
-use Prim.Native.Nat.{ℕ, zero, suc, ◌+◌, ◌-◌, ◌≤◌, ◌<◌}
+use mathlib.Core.Option.{Option, none, some}
+use Prim.Native.Nat.{ℕ, zero, suc, ◌+◌, ◌-◌, ◌*◌, ◌≤◌, ◌<◌}
 use native.Mathlib.Omega.{arith}
+use lib.Dec.{leb}
 use lib.ListN.{length, get_or, replicate, length-append, length-replicate}
 use borrow.Author.Tests.{lt-leb}
 use Rattle.rules.specs.Places.{Place, Unrolled, places}
-use Rattle.rules.specs.Search.{Match, End, unfinished, Skip, Swept, Plan, Terms, halting_of, labels, plan_of, walk_search, with_match, seek}
+use Rattle.rules.specs.Search.{Match, End, unfinished, Skip, Swept, Plan, Terms, halting_of, labels, plan_of, walk_search, walk_at, sweep, with_match, seek, stand_at}
 use Rattle.rules.specs.Report.{labels_of}
 use Rattle.rules.specs.Walk.{Ways, Halting, out_of_rows, pairs, first_at, pair_ways, Kept, as_kept, tried}
-use Rattle.rules.specs.Working.{All, Falls, In, Out, thinned}
+use Rattle.rules.specs.Working.{All, Falls, Out, thinned}
 use Rattle.laws.proofs.Distinct.{thin, thin-pairs, halting_thin, walk-thin, thinned-length}
+use Rattle.laws.proofs.Fuel.{plan-on}
 use Rattle.laws.proofs.GoesOn.{Sooner, and_then, resumed, resumed_by, rows_in, behind}
+use Rattle.laws.proofs.Machine.{first_open}
 use Rattle.laws.proofs.Padded.{padded, more-pairs, search_padded}
 use Rattle.laws.proofs.PatternWalk.{top, starts, search_kept}
 use Rattle.laws.proofs.Rank.{rank}
 use Rattle.laws.proofs.ThinGoes.{thin-goes}
 use Rattle.laws.proofs.ThinPlaces.{thinned-falls}
 use Rattle.sweep.specs.Searched.{pre}
-use Rattle.traces.specs.Traces.{Trace, Opened}
-use Rattle.traces.proofs.Retrace.{trace_later}
-use Rattle.lots.proofs.Retrace.{EndTraced, sweep-traced}
+use Rattle.lots.proofs.Retrace.{Trace, trace_later, EndTraced, sweep-traced, goes_again}
 
 behind-pre : (ms : List Match) (r : Swept Kept) → behind ms r ≡ pre ms r
 behind-pre [] r = refl
@@ -47,16 +49,16 @@ gap_at [] k x = none-at k x
 gap_at (b ∷ F) k zero = refl
 gap_at (b ∷ F) k (suc x) = gap_at F k x
 
-gap-in : (F : List Bool) (k : ℕ) (p : List ℕ) → All (In F) p → All (In (F ++ replicate k false)) p
-gap-in F k [] a = tt
-gap-in F k (x ∷ p) a = (gap_at F k x ∙ a.0, gap-in F k p a.1)
+gap-first : (F : List Bool) (k : ℕ) (ys : List ℕ) → first_open (F ++ replicate k false) ys ≡ first_open F ys
+unfolding first_open
+gap-first F k [] = refl
+gap-first F k (y ∷ ys) = rw (gap_at F k y, gap-first F k ys) refl
 
 gap-trace : (h : Halting) (ways : ℕ → Ways) (F : List Bool) (k x : ℕ) (p : List ℕ) → Trace h ways F x p → Trace h ways (F ++ replicate k false) x p
 gap-trace h ways F k x [] a = a
 gap-trace h ways F k x (z ∷ []) a = a
 gap-trace h ways F k x (z ∷ (y ∷ p)) a =
-    let b = a.1 in
-    (a.0, record { before = b.before; after = b.after; still = b.still; tried = b.tried; failed = gap-in F k b.before b.failed; out = gap_at F k y ∙ b.out }, gap-trace h ways F k y (y ∷ p) a.2)
+    (a.0, record { ys = a.1.ys; still = a.1.still; tried = a.1.tried; first = gap-first F k a.1.ys ∙ a.1.first }, gap-trace h ways F k y (y ∷ p) a.2)
 
 gap-out : (F : List Bool) (k : ℕ) (p : List ℕ) → All (Out F) p → All (Out (F ++ replicate k false)) p
 gap-out F k [] a = tt
@@ -170,29 +172,24 @@ module _ (t : Unrolled) (skip : Skip) (fit : ℕ → ℕ → List ℕ → Bool) 
     unfolding halting_of
     unspent j l = lt-leb a j (omega (arith, l, within))
 
-    -- no attempt has begun, or the open pairs are open still
-    pub opens_still : (p ≡ []) ⊎ ((i < n₂) × Opened halts₂ ways₂ N₂ F₂ (first_at (length pl) i) p earlier.state.steps)
-    opens_still =
-        ⊎_elim (λ (d : p ≡ []). inl d)
-        (λ (d : (i < n₂) × Trace halts₂ ways₂ F₂ (first_at (length pl) i) p × All (Out F₂) p).
-        inr (d.0, record { trace = d.1; out = d.2; first = firsts n₂ holds₂ i d.0; long = long₂; few = few; unspent = unspent })) traced₂
-
     pub again : walk_search terms₂ (seek holds₂ n₂ pl skip fit)
-        ≡ pre earlier.matches (resumed halts₂ ways₂ N₂ (first_at (length pl)) plan₂ i p (length earlier.matches) (length (labels_of pl earlier.matches)) (as_kept F₂ earlier.state.steps))
+        ≡ pre earlier.matches (sweep (walk_at halts₂ ways₂ N₂ (first_at (length pl))) plan₂ n₂ (stand_at i (length earlier.matches) (length (labels_of pl earlier.matches))) (as_kept F₂ (earlier.state.steps - length p)))
     unfolding plan_of
     again =
         let ms : List Match = earlier.matches in
-        let st : Kept = as_kept F₂ earlier.state.steps in
-        let on : ℕ → Swept Kept = λ l. resumed halts₂ ways₂ N₂ (first_at (length pl)) plan₂ i p (length ms) l st in
+        let st : Kept = (as_kept F₂ (earlier.state.steps - length p)) in
+        let on : ℕ → Swept Kept = λ l. sweep (walk_at halts₂ ways₂ N₂ (first_at (length pl))) plan₂ n₂ (stand_at i (length ms) l) st in
         let a : walk_search terms₂ (seek holds₂ n₂ pl skip fit) ≡ and_then halts₂ ways₂ N₂ (first_at (length pl)) plan₂ 0 0 (walk_search terms₁ (seek holds₁ n₁ pl skip fit)) =
         thin-goes t skip fit holds₁ holds₂ n₁ n₂ terms₁ terms₂ refl le (omega arith) sooner (inl refl) in
         let b : and_then halts₂ ways₂ N₂ (first_at (length pl)) plan₂ 0 0 (walk_search terms₁ (seek holds₁ n₁ pl skip fit)) ≡ and_then halts₂ ways₂ N₂ (first_at (length pl)) plan₂ 0 0 (padded gap earlier) =
         ap (and_then halts₂ ways₂ N₂ (first_at (length pl)) plan₂ 0 0) earlier-is in
         let z₁ : 0 + length ms ≡ length ms = omega arith in
         let z₂ : 0 + rows_in plan₂ ms ≡ rows_in plan₂ ms = omega arith in
-        let c₀ : and_then halts₂ ways₂ N₂ (first_at (length pl)) plan₂ 0 0 (padded gap earlier) ≡ resumed_by halts₂ ways₂ N₂ (first_at (length pl)) plan₂ earlier.end 0 0 ms st = refl in
-        let c₁ : resumed_by halts₂ ways₂ N₂ (first_at (length pl)) plan₂ earlier.end 0 0 ms st ≡ resumed_by halts₂ ways₂ N₂ (first_at (length pl)) plan₂ (unfinished out_of_rows i p) 0 0 ms st =
-        ap (λ (e : End Match). resumed_by halts₂ ways₂ N₂ (first_at (length pl)) plan₂ e 0 0 ms st) end in
-        let c₂ : resumed_by halts₂ ways₂ N₂ (first_at (length pl)) plan₂ (unfinished out_of_rows i p) 0 0 ms st ≡ behind ms (on (rows_in plan₂ ms)) =
-        ap₂ (λ (x y : ℕ). behind ms (resumed halts₂ ways₂ N₂ (first_at (length pl)) plan₂ i p x y st)) z₁ z₂ in
-        a ∙ b ∙ c₀ ∙ c₁ ∙ c₂ ∙ behind-pre ms (on (rows_in plan₂ ms)) ∙ ap (λ (l : ℕ). pre ms (on l)) (rows_are pl n₂ more skip fit ms)
+        let c₀ : and_then halts₂ ways₂ N₂ (first_at (length pl)) plan₂ 0 0 (padded gap earlier) ≡ resumed_by halts₂ ways₂ N₂ (first_at (length pl)) plan₂ earlier.end 0 0 ms (as_kept F₂ earlier.state.steps) = refl in
+        let c₁ : resumed_by halts₂ ways₂ N₂ (first_at (length pl)) plan₂ earlier.end 0 0 ms (as_kept F₂ earlier.state.steps) ≡ resumed_by halts₂ ways₂ N₂ (first_at (length pl)) plan₂ (unfinished out_of_rows i p) 0 0 ms (as_kept F₂ earlier.state.steps) =
+        ap (λ (e : End Match). resumed_by halts₂ ways₂ N₂ (first_at (length pl)) plan₂ e 0 0 ms (as_kept F₂ earlier.state.steps)) end in
+        let c₂ : resumed_by halts₂ ways₂ N₂ (first_at (length pl)) plan₂ (unfinished out_of_rows i p) 0 0 ms (as_kept F₂ earlier.state.steps) ≡ behind ms (resumed halts₂ ways₂ N₂ (first_at (length pl)) plan₂ i p (length ms) (rows_in plan₂ ms) (as_kept F₂ earlier.state.steps)) =
+        ap₂ (λ (x y : ℕ). behind ms (resumed halts₂ ways₂ N₂ (first_at (length pl)) plan₂ i p x y (as_kept F₂ earlier.state.steps))) z₁ z₂ in
+        let d : resumed halts₂ ways₂ N₂ (first_at (length pl)) plan₂ i p (length ms) (rows_in plan₂ ms) (as_kept F₂ earlier.state.steps) ≡ on (rows_in plan₂ ms) =
+        goes_again halts₂ ways₂ (rank t n₂) N₂ falls₂ N₂ (tops n₂ holds₂) (first_at (length pl)) plan₂ (starts_in_lem n₂ holds₂ more) (plan-on pl n₂ more skip fit) i p (length ms) (rows_in plan₂ ms) F₂ earlier.state.steps long₂ traced₂ few unspent in
+        a ∙ b ∙ c₀ ∙ c₁ ∙ c₂ ∙ ap (behind ms) d ∙ behind-pre ms (on (rows_in plan₂ ms)) ∙ ap (λ (l : ℕ). pre ms (on l)) (rows_are pl n₂ more skip fit ms)

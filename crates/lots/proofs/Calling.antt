@@ -1,12 +1,11 @@
 -- A later call that is not refused leaves what the definition says (`later-leaves`), where what is
--- kept stands for the call before: its report and notes are in the buffers, it waited at the start,
--- with as many open pairs, that is told, and these are on the trail. Where the call waits, all this
--- holds of it too (`later-waits`, `later-held`).
-use mathlib.Core.Path.{◌≡◌, refl, ap, ap₂, sym, subst, ◌∙◌}
+-- kept stands for the call before: its report and notes are in the buffers, and it waited at the
+-- start, with the open pairs, that is told.
+use mathlib.Core.Path.{◌≡◌, refl, ap, ap₂, sym, ◌∙◌}
 use mathlib.Core.List.{List, [], ◌∷◌}
 use mathlib.Core.Bool.{Bool, false, not}
 use mathlib.Core.Option.{some}
-use Prim.Native.Nat.{ℕ, zero, suc, ◌≤◌, ◌<◌}
+use Prim.Native.Nat.{ℕ, zero, suc, ◌+◌, ◌-◌, ◌*◌, ◌≤◌, ◌<◌}
 use native.Mathlib.Nat.{not-suc-le-zero, le_of_suc-le-suc}
 use native.Mathlib.Omega.{arith}
 use lib.IntN.{ℤ}
@@ -14,27 +13,26 @@ use lib.ListN.{length, get_or, drop}
 use Rattle.rules.specs.Basics.{wrote}
 use Rattle.rules.specs.Search.{unfinished, Swept}
 use Rattle.rules.specs.Walk.{out_of_rows, pairs, Kept}
-use Rattle.rules.specs.Report.{labels_of, notes_of, zeros}
+use Rattle.rules.specs.Report.{labels_of, notes_of, zeros, bit_at}
 use Rattle.rules.specs.Working.{bits_of}
 use Rattle.rules.specs.Lots.{Named, present_rows, present_task, begin_answer, lot_walk, lot_memory, Leaves}
 use Rattle.rules.specs.LotDemands.{Lot, Later}
 use Rattle.laws.proofs.NotesWritten.{wrote-over}
-use Rattle.pairs.specs.Step.{Held}
-use Rattle.resuming.specs.Taken.{pairs_in}
+use Rattle.pairs.specs.Layout.{N, layout_of}
 use Rattle.prepared.specs.Ready.{Ready}
 use Rattle.prepared.specs.declared.Prepared.{Prepared}
 use Rattle.matches.specs.declared.Task as C
 use Rattle.matches.specs.declared.Sweep.{Sweep}
 use Rattle.matches.specs.Asked.{asked_of, search_of}
-use Rattle.sweep.specs.Searched.{HeldAt, Came, gapped, Answered}
+use Rattle.sweep.specs.Searched.{Came, WentOn, gapped, Answered}
 use Rattle.sweep.proofs.Clearing.{zeros-long}
 use Rattle.starting.specs.Starts.{TaskFor, Fed}
 use Rattle.outcome.specs.declared.Outcome.{Outcome}
 use Rattle.outcome.specs.Results.{memory}
 use Rattle.lots.specs.declared.Feed.{Feed}
-use Rattle.lots.specs.Feeds.{Resumed}
+use Rattle.lots.specs.Feeds.{kept_in}
 use Rattle.lots.proofs.Standing.{stands, later-noted}
-use Rattle.lots.proofs.Leaving.{end_same, leaves, waits-told}
+use Rattle.lots.proofs.Leaving.{leaves, waits-told}
 
 drop_at : (k : ℕ) (a b : List ℕ) → drop k a ≡ drop k b → (i : ℕ) → k ≤ i → length a ≡ length b → get_or a i 0 ≡ get_or b i 0
 drop_at zero a b e i l len = ap (λ (v : List ℕ). get_or v i 0) e
@@ -52,26 +50,24 @@ module _ (s : Named) (begins : begin_answer s ≡ 0) (a : ℕ) (al : s.allowance
     (long-numbers : length numbers ≡ length s.lent.numbers) (long-labels : length labels ≡ length s.lent.labels) (long_trail : length trail ≡ length s.lent.trail)
     (trail_beyond : drop t.pairs trail ≡ drop t.pairs s.lent.trail) (room : t.pairs ≤ length s.lent.trail)
     (f : Feed) (row : f.row ≡ i) (matched : f.matches ≡ length (lot_walk s rows₁ n₁ false).matches) (labelled : f.labels ≡ length (labels_of (present_task s rows₂ n₂).places (lot_walk s rows₁ n₁ false).matches))
-    (stepped : f.steps ≡ (lot_walk s rows₁ n₁ false).state.steps) (opened : f.opened ≡ length u)
-    (held : Held p.places trail u) where
+    (stepped : f.steps ≡ (lot_walk s rows₁ n₁ false).state.steps) (opened : f.opened ≡ length u) where
   abbrev part : List ℤ
   part = present_rows s.query rows₂ n₂
 
   abbrev R : Swept Kept
   R = search_of (asked_of T part t) (length s.lent.numbers) (length s.lent.labels)
 
-  module _ (notes' trail' : List ℕ) (numbers' : List ℤ) (labels' : List ℕ) (r : Sweep) (w : Resumed T part t notes trail numbers labels f notes' trail' numbers' labels' r)
+  from_is : kept_in f ≡ record { end = 0; row = i; matches = length (lot_walk s rows₁ n₁ false).matches; labels = length (labels_of (present_task s rows₂ n₂).places (lot_walk s rows₁ n₁ false).matches); steps = (lot_walk s rows₁ n₁ false).state.steps - length u; opened = 0 }
+  from_is = rw (row, matched, labelled, stepped, opened) refl
+
+  module _ (notes' trail' : List ℕ) (numbers' : List ℤ) (labels' : List ℕ) (r : Sweep) (w : WentOn T part t notes trail numbers labels (kept_in f) notes' trail' numbers' labels' r)
       (bytes : (k : ℕ) → get_or notes' k 0 < 256) (bytes₀ : (k : ℕ) → get_or s.lent.notes k 0 < 256) where
-    came_held : Came (asked_of T part t) s.lent.numbers s.lent.labels R notes' numbers' labels' r × HeldAt t.size.places R.end trail'
-    came_held =
-        w.came s.lent.numbers s.lent.labels R
-        (stands s begins a al T p ready rows₁ rows₂ n₁ n₂ lot₁ lot₂ later last i u end t task notes trail numbers labels fed left.notes left.numbers left.labels long-numbers long-labels
-        f row matched labelled stepped opened held)
-
     came : Came (asked_of T part t) s.lent.numbers s.lent.labels R notes' numbers' labels' r
-    came = came_held.0
+    came =
+        w.came s.lent.numbers s.lent.labels R
+        (rw from_is (stands s begins a al T p ready rows₁ rows₂ n₁ n₂ lot₁ lot₂ later last i u end t task notes trail numbers labels fed left.notes left.numbers left.labels long-numbers long-labels))
 
-    pairs-same : pairs_in T t.size ≡ pairs p.places n₂
+    pairs-same : N (layout_of T t.size) t.size.rows ≡ pairs p.places n₂
     pairs-same = ap₂ (λ (x y : ℕ). pairs x y) task.places task.rows
 
     noted : notes' ≡ wrote s.lent.notes 0 (notes_of (gapped t.pairs R.state.failed))
@@ -92,17 +88,12 @@ module _ (s : Named) (begins : begin_answer s ≡ 0) (a : ℕ) (al : s.allowance
         leaves s begins a al T p ready rows₂ n₂ lot₂ last t task notes trail fed notes' trail' numbers' labels' r o eo came.reported noted zeroed (w.trailed.trail_long ∙ long_trail)
         (w.trailed.trail_beyond ∙ trail_beyond) room
 
-    -- tells where it waits
+    -- and tells where it waits
     pub later-waits : (o : Outcome) → o ≡ record { answer = r.end; matches = r.matches; labels = r.labels; steps = r.steps; offset = 0 }
         → (i : ℕ) (u : List ℕ) → (lot_walk s rows₂ n₂ last).end ≡ unfinished out_of_rows i u → (r.row ≡ i) × (r.opened ≡ length u)
     later-waits o eo =
         waits-told s begins a al T p ready rows₂ n₂ lot₂ last t task notes trail fed notes' trail' numbers' labels' r o eo came.reported noted zeroed (w.trailed.trail_long ∙ long_trail)
         (w.trailed.trail_beyond ∙ trail_beyond) room
-
-    -- and then holds its open pairs
-    pub later-held : (i : ℕ) (u : List ℕ) → (lot_walk s rows₂ n₂ last).end ≡ unfinished out_of_rows i u → Held p.places trail' u
-    later-held i u e =
-        subst (λ (k : ℕ). Held k trail' u) task.places (came_held.1 i u (end_same s begins a al T p ready rows₂ n₂ lot₂ last t task notes trail fed ∙ e))
 
 -- the first call does too
 module _ (s : Named) (begins : begin_answer s ≡ 0) (a : ℕ) (al : s.allowance ≡ some a) (T : List ℕ) (p : Prepared) (ready : Ready s.query T p) (rows : List ℤ) (n : ℕ) (lot : Lot s rows n) (last : Bool)
@@ -121,7 +112,3 @@ module _ (s : Named) (begins : begin_answer s ≡ 0) (a : ℕ) (al : s.allowance
   first-waits o eo =
       waits-told s begins a al T p ready rows n lot last t task s.lent.notes s.lent.trail fed notes trail numbers labels r o eo d.reported d.notes_is d.trailed.zeroed d.trailed.trail_long
       d.trailed.trail_beyond room
-
-  pub first-held : (i : ℕ) (u : List ℕ) → (lot_walk s rows n last).end ≡ unfinished out_of_rows i u → Held p.places trail u
-  first-held i u e =
-      subst (λ (k : ℕ). Held k trail u) task.places (d.held i u (end_same s begins a al T p ready rows n lot last t task s.lent.notes s.lent.trail fed ∙ e))

@@ -2,9 +2,9 @@
 -- where the notes hold the failed pairs and the trail is zeros unless it waits.
 use mathlib.Core.Path.{◌≡◌, refl, ap, ap₂, sym, ◌∙◌}
 use mathlib.Core.List.{List, [], ◌∷◌, ◌++◌}
-use mathlib.Core.Bool.{Bool, false, not}
+use mathlib.Core.Bool.{Bool, true, false, not}
 use mathlib.Core.Option.{some}
-use Prim.Native.Nat.{ℕ, ◌+◌, ◌-◌, ◌*◌, ◌≤◌}
+use Prim.Native.Nat.{ℕ, zero, suc, ◌+◌, ◌-◌, ◌*◌, ◌≤◌, ◌<◌}
 use native.Mathlib.Numerals.{add-one}
 use native.Mathlib.Omega.{arith}
 use lib.IntN.{ℤ}
@@ -12,11 +12,11 @@ use lib.ListN.{length, drop, replicate, length-append, length-replicate}
 use Rattle.rules.specs.Basics.{wrote}
 use Rattle.rules.specs.Query.{text_of}
 use Rattle.rules.specs.Places.{Unrolled, unroll, places}
-use Rattle.rules.specs.Search.{unfinished, Swept}
-use Rattle.rules.specs.Walk.{out_of_rows, pairs, Kept}
+use Rattle.rules.specs.Search.{unfinished, Swept, Terms, walk_search}
+use Rattle.rules.specs.Walk.{out_of_rows, pairs, Kept, as_kept}
 use Rattle.rules.specs.Report.{lent_room, fits, labels_of, numbers_of, notes_of, zeros}
-use Rattle.rules.specs.Answers.{tree_in, letter_holds, Task, walked_on, end_answer, report_of, accepted}
-use Rattle.rules.specs.Lots.{Named, present_rows, present_task, named_pairs, begin_answer, lot_walk, lot_memory, Leaves}
+use Rattle.rules.specs.Answers.{tree_in, letter_holds, Task, task_of, walked_on, end_answer, report_of, Result, Memory, accepted}
+use Rattle.rules.specs.Lots.{Named, present_rows, present_task, named_pairs, begin_answer, lot_terms, lot_walk, lot_memory, Leaves}
 use Rattle.rules.specs.LotDemands.{Lot}
 use Rattle.laws.proofs.Accepted.{places_are}
 use Rattle.laws.proofs.Appended.{length-wrote_at}
@@ -133,10 +133,6 @@ module _ (s : Named) (begins : begin_answer s ≡ 0) (a : ℕ) (al : s.allowance
       let c = count-is in
       omega arith
 
-  -- the search by the table ends as the definition's
-  pub end_same : R.end ≡ (lot_walk s rows n last).end
-  end_same = ap (λ (w : Swept Kept). w.end) R-is ∙ sym (ap (λ (w : Swept Kept). w.end) walk_is)
-
   module _ (notes trail : List ℕ) (numbers : List ℤ) (labels : List ℕ) (r : Sweep) (o : Outcome) (eo : o ≡ record { answer = r.end; matches = r.matches; labels = r.labels; steps = r.steps; offset = 0 })
       (reported : Reported (asked_of T part t) R s.lent.numbers s.lent.labels numbers labels r) (noted : notes ≡ wrote s.lent.notes 0 (notes_of (gapped t.pairs R.state.failed)))
       (zeroed : (r.end ≡ 23 → ⊥) → trail ≡ wrote s.lent.trail 0 (zeros t.pairs)) (trail_long : length trail ≡ length s.lent.trail) (trail_beyond : drop t.pairs trail ≡ drop t.pairs s.lent.trail)
@@ -148,14 +144,14 @@ module _ (s : Named) (begins : begin_answer s ≡ 0) (a : ℕ) (al : s.allowance
     matches-are = ap (λ (w : Swept Kept). w.matches) R-is ∙ sym (ap (λ (w : Swept Kept). w.matches) walk_is)
 
     end_is : r.end ≡ end_answer walk.end
-    end_is = reported.end ∙ ap end_answer end_same
+    end_is = reported.end ∙ ap (λ (w : Swept Kept). end_answer w.end) R-is ∙ sym (ap (λ (w : Swept Kept). end_answer w.end) walk_is)
 
     steps_are : r.steps ≡ walk.state.steps
     steps_are = reported.steps ∙ ap (λ (w : Swept Kept). w.state.steps) R-is ∙ sym (ap (λ (w : Swept Kept). w.state.steps) walk_is)
 
     -- where it waits, the start of its attempt and how many pairs are open are told
     pub waits-told : (i : ℕ) (u : List ℕ) → walk.end ≡ unfinished out_of_rows i u → (r.row ≡ i) × (r.opened ≡ length u)
-    waits-told i u e = reported.waits i u (end_same ∙ e)
+    waits-told i u e = reported.waits i u (ap (λ (w : Swept Kept). w.end) R-is ∙ sym (ap (λ (w : Swept Kept). w.end) walk_is) ∙ e)
 
     zeros-long : (k : ℕ) → length (zeros k) ≡ k
     unfolding zeros

@@ -1,12 +1,11 @@
 -- What a search that waited is taken up with: the matches, the failed pairs and the steps that the
--- earlier call left, the start at which it waited and its open pairs on the trail, stand for the
--- later call's search (`stands`).
+-- earlier call left, and the start at which it waited, stand so far for the later call's search
+-- (`stands`).
 use mathlib.Core.Path.{◌≡◌, refl, ap, ap₂, subst, sym, ◌∙◌}
 use mathlib.Core.List.{List, [], ◌∷◌, ◌++◌}
 use mathlib.Core.Bool.{Bool, true, false, not, ◌&&◌}
-use mathlib.Core.Logic.{◌⊎◌}
-use mathlib.Core.Option.{some}
-use Prim.Native.Nat.{ℕ, suc, ◌+◌, ◌-◌, ◌*◌, ◌/◌, ◌%◌, ◌≤◌, ◌<◌}
+use mathlib.Core.Option.{Option, none, some}
+use Prim.Native.Nat.{ℕ, zero, suc, ◌+◌, ◌-◌, ◌*◌, ◌/◌, ◌%◌, ◌≤◌, ◌<◌}
 use native.Mathlib.Decide.{dec_lt}
 use native.Mathlib.Numerals.{add-one}
 use native.Mathlib.Nat.{mul-le-mul}
@@ -19,18 +18,18 @@ use Rattle.rules.specs.Basics.{wrote}
 use Rattle.rules.specs.Rows.{Table, Condition, table_of, holds}
 use Rattle.rules.specs.Query.{text_of, parts}
 use Rattle.rules.specs.Places.{Place, p_letter, p_caret, p_dollar, p_fork, p_end, Unrolled, unroll, places}
-use Rattle.rules.specs.Search.{Match, End, unfinished, open_of, Swept, halting_of, plan_of, walk_search, seek}
-use Rattle.rules.specs.Walk.{Ways, Halting, out_of_rows, pairs, first_at, pass_if, pair_at, position_of, place_of, ways_at, pair_ways, Kept, as_kept}
+use Rattle.rules.specs.Search.{Match, End, unfinished, open_of, Skip, Swept, Terms, halting_of, plan_of, walk_search, walk_at, sweep, seek, stand_at}
+use Rattle.rules.specs.Walk.{out_of_rows, pairs, first_at, pass_if, pair_at, position_of, place_of, ways_at, pair_ways, Kept, as_kept}
 use Rattle.rules.specs.Report.{lent_room, fits, bit_of, bit_at, bytes_for, notes_of, labels_of, numbers_of}
 use Rattle.rules.specs.Answers.{tree_in, letter_holds, skip_of, Task, task_of, walked_on, report_of, accepted}
 use Rattle.rules.specs.Working.{bits_of, thinned}
-use Rattle.rules.specs.Lots.{Named, present_rows, present_task, settles, begin_answer, lot_terms, lot_walk, lot_memory}
-use Rattle.rules.specs.LotDemands.{Lot, Later, LotDemands}
+use Rattle.rules.specs.Lots.{Named, present_rows, present_task, named_pairs, settles, begin_answer, lot_terms, lot_walk, lot_memory}
+use Rattle.rules.specs.LotDemands.{Lot, Later, LotDemands, Lots}
 use Rattle.laws.proofs.Accepted.{places_are}
 use Rattle.laws.proofs.Appended.{length-wrote_at}
 use Rattle.laws.proofs.Bounds.{Lettered, written-letters}
 use Rattle.laws.proofs.Distinct.{walk-thin, thinned-length}
-use Rattle.laws.proofs.GoesOn.{Sooner, stack-goes, resumed}
+use Rattle.laws.proofs.GoesOn.{Sooner}
 use Rattle.laws.proofs.Grammar.{tree-exactly}
 use Rattle.laws.proofs.Limits.{numbers_long}
 use Rattle.laws.proofs.Lists.{beyond-wrote}
@@ -42,7 +41,7 @@ use Rattle.laws.proofs.Notes.{bits_of-at, bits_from-length}
 use Rattle.laws.proofs.Padded.{padded, beyond, search_padded}
 use Rattle.laws.proofs.PathRows.{Within, search_rows}
 use Rattle.laws.proofs.PlaceLetters.{Passes, places-pass}
-use Rattle.laws.proofs.Present.{RowsIn, numbers-same, measures_fit}
+use Rattle.laws.proofs.Present.{Extends, RowsIn, numbers-same, measures_fit}
 use Rattle.laws.proofs.ThinPlaces.{Spelt, thinned-spelt}
 use Rattle.table.specs.Table.{places_in}
 use Rattle.table.specs.Tests.{holds_in, condition_in, test_at}
@@ -50,22 +49,18 @@ use Rattle.table.specs.Measures.{measures_in}
 use Rattle.table_room.specs.Words.{measures_at, tests_at}
 use Rattle.skips.specs.Skips.{skip_in}
 use Rattle.matches.specs.declared.Task as C
+use Rattle.matches.specs.declared.Sweep.{Sweep}
 use Rattle.matches.specs.Asked as S
 use Rattle.matches.specs.Asked.{Asked, asked_of, search_of}
 use Rattle.starting.specs.Starts.{TaskFor, Fed}
 use Rattle.prepared.specs.Ready.{Ready}
 use Rattle.prepared.specs.declared.Prepared.{Prepared}
-use Rattle.pairs.specs.Layout.{halts_in, graph_of}
-use Rattle.pairs.specs.Step.{Held}
+use Rattle.pairs.specs.Layout.{halts_in}
 use Rattle.pairs.proofs.Ways.{in_length}
-use Rattle.traces.specs.Traces.{comes_of, Opened}
-use Rattle.resuming.specs.Taken.{pairs_in, graph_in, halting_in}
-use Rattle.sweep.specs.Searched.{pre, gapped}
-use Rattle.starting.proofs.Starting.{task_by, task-is, numbered, labelled}
-use Rattle.lots.specs.declared.Feed.{Feed}
-use Rattle.lots.specs.Feeds.{plan_in, behind_attempt, resumed_at, Resumes}
+use Rattle.sweep.specs.Searched.{pre, swp, SoFar, gapped}
+use Rattle.starting.proofs.Starting.{numbered, labelled}
 use Rattle.lots.proofs.Pairs.{named-pairs}
-use Rattle.lots.proofs.Again.{earlier, gap_at, long₂, opens_still, again}
+use Rattle.lots.proofs.Again.{earlier, gap_at, long₂, again}
 
 -- letters that agree lead the same ways
 agreeing : (holds₁ holds₂ : ℕ → ℕ → Bool) → ((c : ℕ) → 65 ≤ c → c ≤ 90 → (i : ℕ) → holds₁ c i ≡ holds₂ c i) → (n : ℕ) (pl : List Place) → ((q : ℕ) → Spelt (get_or pl q (p_fork []))) → pair_ways holds₁ n pl ≡ pair_ways holds₂ n pl
@@ -78,17 +73,6 @@ agreeing holds₁ holds₂ agree n pl spelt = λ i x. at (length pl) (get_or pl 
     at P (p_dollar k) w i = refl
     at P (p_fork ks) w i = refl
     at P p_end w i = refl
-
--- a search that goes on from its open pairs, by the places of the table
-resumed-is : (T : List ℕ) (rows : List ℤ) (task : C.Task) (nums labs i : ℕ) (p : List ℕ) (m l : ℕ) (F : List Bool) (k : ℕ) → resumed_at T rows task nums labs i p m l (as_kept F k)
-    ≡ resumed (halts_in (asked_of T rows task).layout task.size.more task.size.rows) (pair_ways (asked_of T rows task).holds task.size.rows (S.pl (asked_of T rows task)))
-    (pairs (length (S.pl (asked_of T rows task))) task.size.rows) (first_at (length (S.pl (asked_of T rows task)))) (plan_in (asked_of T rows task) nums labs) i p m l (as_kept F k)
-unfolding plan_of graph_of
-resumed-is T rows task nums labs i [] m l F k = refl
-resumed-is T rows task nums labs i (x ∷ p) m l F k =
-    ap (behind_attempt T rows task nums labs i m l)
-    (ap (λ (P : ℕ). comes_of (halting_in T task.size) (graph_in T rows task.size) (pairs P task.size.rows) (x ∷ p) (as_kept F k)) (sym (in_length T task.size.places))
-    ∙ stack-goes (halting_in T task.size) (graph_in T rows task.size) (pairs (length (S.pl (asked_of T rows task))) task.size.rows) (x ∷ p) F k)
 
 module _ (s : Named) (begins : begin_answer s ≡ 0) (a : ℕ) (al : s.allowance ≡ some a) (T : List ℕ) (p : Prepared) (ready : Ready s.query T p) (rows₁ rows₂ : List ℤ) (n₁ n₂ : ℕ)
     (lot₁ : Lot s rows₁ n₁) (lot₂ : Lot s rows₂ n₂) (later : Later s rows₁ rows₂ n₁ n₂) (last : Bool) where
@@ -179,31 +163,16 @@ module _ (s : Named) (begins : begin_answer s ≡ 0) (a : ℕ) (al : s.allowance
     within : early.state.steps ≤ a
     within = let k = demanded.kept_to a al in let e = steps_is in omega arith
 
-    -- the failed pairs of the earlier search, with those of n rows
-    abbrev failed : ℕ → List Bool
-    failed n = early.state.failed ++ replicate (pairs (length (places U)) n - pairs (length (places U)) m₁) false
-
-    abbrev halts : ℕ → Halting
-    halts n = halting_of (record { largest = n; more = not last; allowance = some a }) (thinned (places U)) n
-
-    abbrev graph : ℕ → ℕ → Ways
-    graph n = pair_ways (letter_holds t₂) n (thinned (places U))
-
-    -- the later search goes on from there, with n rows, and the open pairs are open still
+    -- the later search goes on from there, with n rows
     abbrev Goes : ℕ → Type 0
     Goes n =
         walk_search (record { largest = n; more = not last; allowance = some a }) (seek (letter_holds t₂) n (thinned (places U)) t₂.skip fit)
-        ≡ pre early.matches (resumed (halts n) (graph n) (pairs (length (thinned (places U))) n) (first_at (length (thinned (places U)))) (plan_of (thinned (places U)) n (not last) t₂.skip fit) i u
-        (length early.matches) (length (labels_of (thinned (places U)) early.matches)) (as_kept (failed n) early.state.steps))
+        ≡ pre early.matches (sweep (walk_at (halting_of (record { largest = n; more = not last; allowance = some a }) (thinned (places U)) n) (pair_ways (letter_holds t₂) n (thinned (places U))) (pairs (length (thinned (places U))) n)
+        (first_at (length (thinned (places U))))) (plan_of (thinned (places U)) n (not last) t₂.skip fit) n (stand_at i (length early.matches) (length (labels_of (thinned (places U)) early.matches)))
+        (as_kept (early.state.failed ++ replicate (pairs (length (places U)) n - pairs (length (places U)) m₁) false) (early.state.steps - length u)))
 
     goes_on : Goes n₂
     goes_on = subst Goes (task-n s ok rows₂ n₂ lot₂) (again U t₂.skip fit (letter_holds t₁) (letter_holds t₂) m₁ m₂ a (not last) le sooner i u end₁ few within)
-
-    abbrev Opens : ℕ → Type 0
-    Opens n = (u ≡ []) ⊎ ((i < n) × Opened (halts n) (graph n) (pairs (length (thinned (places U))) n) (failed n) (i * length (thinned (places U))) u early.state.steps)
-
-    opens-on : Opens n₂
-    opens-on = subst Opens (task-n s ok rows₂ n₂ lot₂) (opens_still U t₂.skip fit (letter_holds t₁) (letter_holds t₂) m₁ m₂ a (not last) le sooner i u end₁ few within)
 
     -- ---- the same by the table of the prepared query
 
@@ -216,10 +185,23 @@ module _ (s : Named) (begins : begin_answer s ≡ 0) (a : ℕ) (al : s.allowance
 
       -- the task of a prepared query, by its numbers
       abbrev by : C.Task
-      by = task_by p (record { rows = n₂; largest = s.largest; allowance = a; more = not last }) t
+      by =
+          record {
+            size = record { rows = n₂; columns = p.columns; places = p.places; tests = tests_at p.places; allowance = a; more = not last };
+            pairs = p.places * (s.largest + 1);
+            measures = measures_at p.places;
+            count = p.count;
+            skip = t.skip;
+          }
 
-      by-is : t ≡ by
-      by-is = task-is p (record { rows = n₂; largest = s.largest; allowance = a; more = not last }) t task
+      abbrev mk : ℕ → ℕ → ℕ → ℕ → ℕ → Bool → ℕ → ℕ → ℕ → C.Task
+      mk rows columns places tests allowance more pairs measures count =
+          record { size = record { rows = rows; columns = columns; places = places; tests = tests; allowance = allowance; more = more }; pairs = pairs; measures = measures; count = count; skip = t.skip }
+
+      task-is : t ≡ by
+      task-is =
+          let e : mk t.size.rows t.size.columns t.size.places t.size.tests t.size.allowance t.size.more t.pairs t.measures t.count ≡ by =
+          rw (task.rows, task.columns, task.places, task.tests, task.allowance, task.more, task.pairs_are, task.measures, task.count) in e
 
       abbrev A : Asked
       A = asked_of T part by
@@ -248,22 +230,11 @@ module _ (s : Named) (begins : begin_answer s ≡ 0) (a : ℕ) (al : s.allowance
       ways-are : pair_ways (holds_in T (tests_at p.places) p.columns part) n₂ (thinned (places U)) ≡ pair_ways (letter_holds t₂) n₂ (thinned (places U))
       ways-are = agreeing (holds_in T (tests_at p.places) p.columns part) (letter_holds t₂) letter-is n₂ (thinned (places U)) (thinned-spelt ready.tree lettered)
 
-      places-long : length (thinned (places U)) ≡ p.places
-      places-long = ap length (sym ready.placed) ∙ in_length T p.places
-
-      -- the search of the task is the matches so far and then the search from the open pairs
-      by-places : search_of A nums labs ≡ pre early.matches (resumed (halts_in A.layout (not last) n₂) (pair_ways A.holds n₂ pl) (pairs (length pl) n₂) (first_at (length pl)) (plan_in A nums labs) i u
-          (length early.matches) (length (labels_of pl early.matches)) (as_kept (failed n₂) early.state.steps))
+      -- the search of the task is the matches so far and then the search from the start
+      sought : search_of A nums labs ≡ pre early.matches (swp A nums labs n₂ (stand_at i (length early.matches) (length (labels_of pl early.matches)))
+          (as_kept (early.state.failed ++ replicate (pairs (length (places U)) n₂ - pairs (length (places U)) m₁) false) (early.state.steps - length u)))
       unfolding search_of walk_search halts_in
-      by-places = rw (ready.placed, skip_is, measures_is, ways-are) goes_on
-
-      sought : search_of A nums labs ≡ pre early.matches (resumed_at T part by nums labs i u (length early.matches) (length (labels_of pl early.matches)) (as_kept (failed n₂) early.state.steps))
-      sought = by-places ∙ ap (pre early.matches) (sym (resumed-is T part by nums labs i u (length early.matches) (length (labels_of pl early.matches)) (failed n₂) early.state.steps))
-
-      -- and these are open still
-      opens_in : (u ≡ []) ⊎ ((i < n₂) × Opened (halting_in T by.size) (graph_in T part by.size) (pairs_in T by.size) (failed n₂) (i * p.places) u early.state.steps)
-      unfolding halts_in graph_of
-      opens_in = rw (ready.placed, ways-are, ← places-long) opens-on
+      sought = rw (ready.placed, skip_is, measures_is, ways-are) goes_on
 
       -- ---- in memory
 
@@ -274,7 +245,10 @@ module _ (s : Named) (begins : begin_answer s ≡ 0) (a : ℕ) (al : s.allowance
         M = pairs p.places n₂
 
         abbrev F : List Bool
-        F = failed n₂
+        F = early.state.failed ++ replicate (pairs (length (places U)) n₂ - pairs (length (places U)) m₁) false
+
+        places-long : length (thinned (places U)) ≡ p.places
+        places-long = ap length (sym ready.placed) ∙ in_length T p.places
 
         F-long : length F ≡ M
         F-long =
@@ -335,52 +309,50 @@ module _ (s : Named) (begins : begin_answer s ≡ 0) (a : ℕ) (al : s.allowance
 
         numbers-at : numbers_of A.rows A.measures (S.pl A) 0 before₁.matches ≡ numbers_of t₂.table t₂.measures t₂.places 0 before₁.matches
         unfolding present_task
-        numbers-at = rw by-is at (numbered q T p ready (record { rows = n₂; largest = s.largest; allowance = a; more = not last }) part notes trail fed t task 0 before₁.matches)
+        numbers-at = rw task-is at (numbered q T p ready (record { rows = n₂; largest = s.largest; allowance = a; more = not last }) part notes trail fed t task 0 before₁.matches)
 
         labels_at : labels_of (S.pl A) before₁.matches ≡ labels_of t₂.places before₁.matches
         unfolding present_task
-        labels_at = rw by-is at (labelled q T p ready (record { rows = n₂; largest = s.largest; allowance = a; more = not last }) part notes trail fed t task before₁.matches)
+        labels_at = rw task-is at (labelled q T p ready (record { rows = n₂; largest = s.largest; allowance = a; more = not last }) part notes trail fed t task before₁.matches)
 
-        module _ (f : Feed) (row : f.row ≡ i) (matched : f.matches ≡ length before₁.matches) (labelled : f.labels ≡ length (labels_of t₂.places before₁.matches)) (stepped : f.steps ≡ before₁.state.steps)
-            (opened : f.opened ≡ length u) (held : Held p.places trail u) where
-          opens : (u ≡ []) ⊎ ((f.row < n₂) × Opened (halting_in T by.size) (graph_in T part by.size) (pairs_in T by.size) (bits_of notes M) (f.row * p.places) u f.steps)
-          opens = rw (row, stepped, steps_is, bits) opens_in
+        abbrev from : Sweep
+        from = record { end = 0; row = i; matches = length before₁.matches; labels = length (labels_of t₂.places before₁.matches); steps = before₁.state.steps - length u; opened = 0 }
 
-          total : pre before₁.matches (resumed_at T part by nums labs f.row u f.matches f.labels (as_kept (bits_of notes M) f.steps)) ≡ search_of A nums labs
-          total =
-              rw (row, matched, labelled, stepped)
-              (ap (λ (k : ℕ). pre before₁.matches (resumed_at T part by nums labs i u (length before₁.matches) k (as_kept (bits_of notes M) before₁.state.steps))) (sym (ap length labels_at))
-              ∙ ap₂ (λ (G : List Bool) (k : ℕ). pre before₁.matches (resumed_at T part by nums labs i u (length before₁.matches) (length (labels_of pl before₁.matches)) (as_kept G k))) bits steps_is
-              ∙ ap (λ (ms : List Match). pre ms (resumed_at T part by nums labs i u (length ms) (length (labels_of pl ms)) (as_kept F early.state.steps))) done-is
-              ∙ sym sought)
+        stands_by : SoFar T part by s.lent.numbers s.lent.labels (search_of A nums labs) notes numbers labels from
+        stands_by =
+            record {
+              fuel = n₂;
+              done = before₁.matches;
+              enough = omega arith;
+              total = total;
+              going = refl;
+              none_open = refl;
+              m_is = refl;
+              l_is = sym (ap length labels_at);
+              numbers_is = numbers-in ∙ ap (wrote s.lent.numbers 0) (sym numbers-at);
+              labels_is = labels_in ∙ ap (wrote s.lent.labels 0) (sym labels_at);
+              nums = nums-in;
+              labs_le = long_enough s.lent.labels (labels_of t₂.places before₁.matches) labels labels_in long-labels;
+            }
+          where
+            nums-in : length before₁.matches * S.width A ≤ nums
+            nums-in =
+                let e = long_enough s.lent.numbers (numbers_of t₂.table t₂.measures t₂.places 0 before₁.matches) numbers numbers-in long-numbers in
+                let f = ap length numbers-at in
+                let l = numbers_long A.rows A.measures (S.pl A) 0 before₁.matches in
+                omega arith
 
-          nums-in : length before₁.matches * S.width A ≤ nums
-          nums-in =
-              let e = long_enough s.lent.numbers (numbers_of t₂.table t₂.measures t₂.places 0 before₁.matches) numbers numbers-in long-numbers in
-              let f = ap length numbers-at in
-              let l = numbers_long A.rows A.measures (S.pl A) 0 before₁.matches in
-              omega arith
+            total : pre before₁.matches (swp A nums labs n₂ (stand_at i (length before₁.matches) (length (labels_of t₂.places before₁.matches))) (as_kept (bits_of notes M) (before₁.state.steps - length u))) ≡ search_of A nums labs
+            total =
+                ap (λ (k : ℕ). pre before₁.matches (swp A nums labs n₂ (stand_at i (length before₁.matches) k) (as_kept (bits_of notes M) (before₁.state.steps - length u)))) (sym (ap length labels_at))
+                ∙ ap (λ (G : List Bool). pre before₁.matches (swp A nums labs n₂ (stand_at i (length before₁.matches) (length (labels_of pl before₁.matches))) (as_kept G (before₁.state.steps - length u)))) bits
+                ∙ ap (λ (k : ℕ). pre before₁.matches (swp A nums labs n₂ (stand_at i (length before₁.matches) (length (labels_of pl before₁.matches))) (as_kept F (k - length u)))) steps_is
+                ∙ ap (λ (ms : List Match). pre ms (swp A nums labs n₂ (stand_at i (length ms) (length (labels_of pl ms))) (as_kept F (early.state.steps - length u)))) done-is
+                ∙ sym sought
 
-          stands_by : Resumes T part by s.lent.numbers s.lent.labels (search_of A nums labs) notes trail numbers labels f
-          stands_by =
-              record {
-                done = before₁.matches;
-                pairs = u;
-                opened = opened;
-                held = held;
-                opens = opens;
-                total = total;
-                m_is = matched;
-                l_is = labelled ∙ sym (ap length labels_at);
-                numbers_is = numbers-in ∙ ap (wrote s.lent.numbers 0) (sym numbers-at);
-                labels_is = labels_in ∙ ap (wrote s.lent.labels 0) (sym labels_at);
-                nums = rw matched nums-in;
-                labs_le = rw labelled (long_enough s.lent.labels (labels_of t₂.places before₁.matches) labels labels_in long-labels);
-              }
-
-          -- what is kept stands for the later search
-          pub stands : Resumes T part t s.lent.numbers s.lent.labels (search_of (asked_of T part t) nums labs) notes trail numbers labels f
-          stands = rw by-is stands_by
+        -- the search stands so far
+        pub stands : SoFar T part t s.lent.numbers s.lent.labels (search_of (asked_of T part t) nums labs) notes numbers labels from
+        stands = rw task-is stands_by
 
         -- ---- and what it leaves in notes and trail, by the buffers as they were named
 

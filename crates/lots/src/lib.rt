@@ -1,18 +1,15 @@
 // Rows that come in lots (R-11): what is kept of a search between calls, and how it is taken up. A
-// search that waited is taken up at its open pairs (crates/resuming), which the call before left on
-// the trail. It waits again, with the open pairs of then on the trail; or it goes on from the start
-// of its attempt, where the pairs that have failed are in the notes, so that it comes straight to
-// the pairs that are open now, and the steps of their entries are taken back before. The trail is a
-// hint, tested before it is used, and no content of a buffer is relied on: any notes and trail, and
-// any numbers within their bounds (`within`), are a search to go on with. What the call before kept
-// stands for the later search, and each call leaves what its definition says (proofs/Standing,
-// Calling). Weakness: a path that is found is made again from its start, and each call prepares its
-// query again.
+// search that waited goes on from the start of its attempt: the pairs that have failed are in the
+// notes, so it comes straight back to the pair that waited, by the pairs that were open, and the
+// steps of their entries are taken back before. No trail is kept, and no content of a buffer is
+// relied on: any notes, and any numbers within their bounds (`within`), are a search to go on with.
+// What the call before kept stands for the later search, and each call leaves what its definition
+// says (proofs/Standing, Calling). Weakness: a call's work is that of its new rows and of the open
+// pairs, each of which is entered once more.
 ghost use Rattle.std.specs.Prelude.{◌≡◌, ◌&&◌, ◌≤◌, leb};
-ghost use Rattle.lots.specs.Feeds.{new_feed, waiting_at, starting_at, Continues, Resumed, Advances, Advanced};
+ghost use Rattle.lots.specs.Feeds.{new_feed, kept_in, Advances, Advanced};
 
-use matches::{DONE, OUT_OF_ROWS, Sweep, Task};
-use resuming::{Taken, take_up};
+use matches::{DONE, Sweep, Task};
 use sweep::{go_on, search};
 
 // What is kept between calls: the largest number of rows and the steps allowed, as they were named;
@@ -37,7 +34,7 @@ pub struct Feed {
 const WAITING: usize = 23;
 
 // As many steps as a search by lots may have taken: more than any takes.
-const MOST_STEPS: usize = 2305843009213693952;
+const MOST_STEPS: usize = 4611686018427387904;
 
 // The largest number of rows and the steps allowed are named; no row has come.
 pub fn begin(largest: usize, allowance: usize) -> Feed
@@ -59,7 +56,7 @@ pub fn begin(largest: usize, allowance: usize) -> Feed
 
 // Whether what is kept lies within its bounds, with room for so many labels.
 pub fn within(feed: Feed, room: usize) -> bool
-    ensures { result ≡ (leb feed.matches feed.row && (leb feed.labels room && (leb feed.opened feed.steps && leb feed.steps 2305843009213693952))) }
+    ensures { result ≡ (leb feed.matches feed.row && (leb feed.labels room && (leb feed.opened feed.steps && leb feed.steps 4611686018427387904))) }
 {
     if feed.row < feed.matches {
         return false;
@@ -73,73 +70,20 @@ pub fn within(feed: Feed, room: usize) -> bool
     feed.steps <= MOST_STEPS
 }
 
-// The search waits again, in the same attempt.
-fn waiting(feed: Feed, taken: Taken) -> Sweep
-    ensures { result ≡ waiting_at feed taken }
-{
-    Sweep {
-        end: OUT_OF_ROWS,
-        row: feed.row,
-        matches: feed.matches,
-        labels: feed.labels,
-        steps: taken.steps,
-        opened: taken.opened,
-    }
-}
-
-// The search goes on from the start of its attempt, with the steps of its open pairs taken back.
-fn starting(feed: Feed, taken: Taken) -> Sweep
-    requires { taken.opened ≤ taken.steps }
-    ensures { result ≡ starting_at feed taken }
+// Where the search goes on: at the start at which it waited, with the steps of its open pairs taken
+// back.
+fn taken_up(feed: Feed) -> Sweep
+    requires { feed.opened ≤ feed.steps }
+    ensures { result ≡ kept_in feed }
 {
     Sweep {
         end: DONE,
         row: feed.row,
         matches: feed.matches,
         labels: feed.labels,
-        steps: taken.steps - taken.opened,
+        steps: feed.steps - feed.opened,
         opened: 0,
     }
-}
-
-// A search that waited goes on. Nothing of the trail beyond the pairs is lent to be taken up with,
-// and so none of it is changed.
-fn resume(
-    table: &[u16],
-    rows: &[i32],
-    notes: &mut [u8],
-    trail: &mut [u32],
-    numbers: &mut [i64],
-    labels: &mut [u8],
-    task: Task,
-    feed: Feed,
-) -> Sweep
-    requires { Continues table.now rows.now task notes.old trail.old labels.old feed }
-    ensures { Resumed table.now rows.now task notes.old trail.old numbers.old labels.old feed notes.new trail.new numbers.new labels.new result }
-{
-    let pairs = task.pairs;
-    let taken = take_up(
-        table,
-        rows,
-        notes,
-        &mut trail[..pairs],
-        task,
-        feed.opened,
-        feed.steps,
-    );
-    if taken.waits {
-        return waiting(feed, taken);
-    }
-    go_on(
-        table,
-        rows,
-        notes,
-        trail,
-        numbers,
-        labels,
-        task,
-        starting(feed, taken),
-    )
 }
 
 // The search of a call that is not refused: the first one clears the notes, a later one goes on.
@@ -159,5 +103,14 @@ pub fn advance(
     if feed.begun == 0 {
         return search(table, rows, notes, trail, numbers, labels, task);
     }
-    resume(table, rows, notes, trail, numbers, labels, task, feed)
+    go_on(
+        table,
+        rows,
+        notes,
+        trail,
+        numbers,
+        labels,
+        task,
+        taken_up(feed),
+    )
 }

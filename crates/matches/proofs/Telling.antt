@@ -15,7 +15,7 @@ use Rattle.rules.specs.Basics.{wrote}
 use Rattle.rules.specs.Query as Q
 use Rattle.rules.specs.Report.{lent_room, fits, match_numbers}
 use Rattle.rules.specs.Rows.{table_of}
-use Rattle.rules.specs.Search.{Skip, labels, last_of, end_of, next_start}
+use Rattle.rules.specs.Search.{Skip, hit, labels, last_of, end_of, next_start}
 use Rattle.laws.proofs.Appended.{length-wrote_at, fits-room}
 use Rattle.laws.proofs.Lists.{length-tabulate}
 use Rattle.table.specs.Measures.{measures_in}
@@ -26,14 +26,14 @@ use Rattle.table.specs.Table.{ways_of, place_at, places_in, code_at, first_at}
 use Rattle.pairs.specs.Step.{pair_in, stack, pair_of}
 use Rattle.pairs.specs.State.{takes, Word}
 use Rattle.pairs.proofs.Ways.{in_length, by_high}
-use Rattle.pairs.proofs.Trails.{path-top, path-linked, path-row, path-at}
+use Rattle.pairs.proofs.Trails.{path_top, path_linked, path_row, path_at}
 use Rattle.matches.specs.declared.Sweep.{Sweep}
 use Rattle.matches.specs.declared.Task.{Task}
 use Rattle.skips.specs.Skips.{skip_in, start_in}
 use Rattle.skips.specs.declared.Next.{Next}
 use Rattle.skips.specs.declared.Next.TheVariants.{Start, Nowhere}
 use Rattle.matches.specs.Asked.{asked_of, path_on, labels_on}
-use Rattle.matches.specs.Found.{Labels, swept, swept_on, Shown, Reports}
+use Rattle.matches.specs.Found.{Labels, swept, swept_on, Told, Reports}
 use Rattle.matches.proofs.Labelled.{Ends, rows_taken}
 
 -- behind a match that is written
@@ -96,7 +96,7 @@ module _ (W : List ℕ) (rows : List ℤ) (task : Task) (trail labs : List ℕ) 
   taken = w.row - i.row
 
   stack_is : stack (P T) trail w.top ≡ pair_of w ∷ stack (P T) trail (w.top - 1)
-  stack_is = path-top T trail w h.path h.going
+  stack_is = path_top T trail w h.path h.going
 
   ends : Ends T (pair_of w ∷ stack (P T) trail (w.top - 1)) i.row
   ends =
@@ -109,9 +109,9 @@ module _ (W : List ℕ) (rows : List ℤ) (task : Task) (trail labs : List ℕ) 
 
   rows_are : i.row + length ls ≡ w.row
   rows_are =
-      let r = rows_taken T h.path.sized.some (pair_of w) (stack (P T) trail (w.top - 1)) i.row (path-linked T trail w h.path h.going) ends in
-      let a = path-row T trail w h.path h.going in
-      let t : takes (place_at T.words (pair_of w % P T)) ≡ 0 = rw (path-at T trail w h.path h.going) (takes-end T w.place h.last) in
+      let r = rows_taken T h.path.sized.some (pair_of w) (stack (P T) trail (w.top - 1)) i.row (path_linked T trail w h.path h.going) ends in
+      let a = path_row T trail w h.path h.going in
+      let t : takes (place_at T.words (pair_of w % P T)) ≡ 0 = rw (path_at T trail w h.path h.going) (takes-end T w.place h.last) in
       rw stack_is (omega arith)
 
   pub tell_at : i.matches * (3 + 2 * count) ≤ 4096 * 19
@@ -198,13 +198,13 @@ module _ (W : List ℕ) (rows : List ℤ) (task : Task) (trail labs : List ℕ) 
         next-is : (skip : Skip) → next_start skip i.row (end_of (length (places_in T.words (P T))) p) ls ≡ next_start skip i.row w.row ls
         next-is skip =
             let l : last_of 0 p ≡ pair_of w = ap (λ (s : List ℕ). last_of 0 (reverse_aux s [])) stack_is ∙ last_up 0 (pair_of w) [] (stack (P T) trail (w.top - 1)) in
-            ap (λ (j : ℕ). next_start skip i.row j ls) (rw (l, in_length T.words (P T)) (path-row T trail w h.path h.going))
+            ap (λ (j : ℕ). next_start skip i.row j ls) (rw (l, in_length T.words (P T)) (path_row T trail w h.path h.going))
 
         pub tell_fits : (numbers numbers' : List ℤ) (nx : Next) (o : Sweep) → nums ≡ length numbers
             → numbers' ≡ wrote numbers (i.matches * (3 + 2 * count)) (match_numbers (table_of columns rows) ms (i.matches + 1) i.row (take (i.labels + taken - i.labels) (drop i.labels labs')))
             → start_in nx ≡ next_start (skip_in task.skip) i.row w.row (take (i.labels + taken - i.labels) (drop i.labels labs'))
             → o ≡ swept_on (start_in nx) n (i.matches + 1) (i.labels + taken) w.steps
-            → Shown (asked_of W rows task) p i w.steps numbers numbers' labs labs' o
+            → Told (asked_of W rows task) (hit p) i w.steps numbers numbers' labs labs' o
         tell_fits numbers numbers' nx o en e ex eo =
             let s : start_in nx ≡ next_start (skip_in task.skip) i.row (end_of (length (places_in T.words (P T))) p) ls = (rw part-is at ex) ∙ sym (next-is (skip_in task.skip)) in
             rw (← en, sym fits-is ∙ et) (record {
@@ -214,6 +214,6 @@ module _ (W : List ℕ) (rows : List ℤ) (task : Task) (trail labs : List ℕ) 
             })
 
     pub tell_full : (numbers : List ℤ) → nums ≡ length numbers → r ≡ false
-        → Shown (asked_of W rows task) p i w.steps numbers numbers labs labs
+        → Told (asked_of W rows task) (hit p) i w.steps numbers numbers labs labs
         (record { end = 13; row = n; matches = i.matches; labels = i.labels; steps = w.steps; opened = 0 })
     tell_full numbers en et = rw (← en, sym fits-is ∙ et) (record { numbers_is = refl; labels_is = refl; sweep_is = refl })

@@ -16,8 +16,7 @@ use Rattle.matches.specs.declared.Task.{Task}
 use Rattle.rules.specs.Walk.{Kept}
 
 -- the layout of the places, when a letter holds at a row, the number of rows, whether more may
--- come, the skip mode, the rows, and the measures; the place at which attempts begin, and how far
--- the next start lies behind one that found nothing
+-- come, the skip mode, the rows, and the measures
 pub record Asked : Type 0 where
   pub layout : Layout
   pub holds : ℕ → ℕ → Bool
@@ -26,23 +25,14 @@ pub record Asked : Type 0 where
   pub skip : Skip
   pub rows : Table
   pub measures : List Measure
-  pub first : ℕ
-  pub stride : ℕ
+
+abbrev pub asked : Layout → (ℕ → ℕ → Bool) → ℕ → Bool → Skip → Table → List Measure → Asked
+asked T holds n more skip rows ms = record { layout = T; holds = holds; n = n; more = more; skip = skip; rows = rows; measures = ms }
 
 -- what a prepared query asks of rows, by its table T and its task
 abbrev pub asked_of : List ℕ → List ℤ → Task → Asked
 asked_of T rows task =
-    record {
-      layout = layout_of T task.size;
-      holds = letters_of T rows task.size;
-      n = task.size.rows;
-      more = task.size.more;
-      skip = skip_in task.skip;
-      rows = table_of task.size.columns rows;
-      measures = measures_in T task.measures task.count;
-      first = task.first;
-      stride = task.stride;
-    }
+    asked (layout_of T task.size) (letters_of T rows task.size) task.size.rows task.size.more (skip_in task.skip) (table_of task.size.columns rows) (measures_in T task.measures task.count)
 
 abbrev pub pl : Asked → List Place
 pl A = places_in A.layout.words (P A.layout)

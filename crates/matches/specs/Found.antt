@@ -1,9 +1,9 @@
 -- A path that was found: its labels, its report, and what one start of the search leaves.
-use Rattle.std.specs.Prelude.{◌≡◌, List, ◌∷◌, Bool, true, false, ℕ, ◌+◌, ◌*◌, ◌≤◌, ◌<◌, ltb, ℤ, length, get_or}
+use Rattle.std.specs.Prelude.{◌≡◌, List, ◌∷◌, Bool, true, false, ℕ, ◌+◌, ◌-◌, ◌*◌, ◌≤◌, ◌<◌, ltb, ℤ, length, get_or}
 use Rattle.std.proofs.Math.Option.{Option, none, some}
 use Rattle.rules.specs.Answers.{halt_answer}
 use Rattle.rules.specs.Basics.{wrote}
-use Rattle.rules.specs.Report.{match_numbers, lent_room, fits}
+use Rattle.rules.specs.Report.{bit_at, match_numbers, lent_room, fits}
 use Rattle.rules.specs.Search.{Attempted, hit, miss, halts, answered, labels, next_start, end_of}
 use Rattle.rules.specs.Walk.{Halt, out_of_steps, out_of_rows, Kept}
 use Rattle.rules.specs.Working.{bits_of}
@@ -11,8 +11,8 @@ use Rattle.measure_list.specs.Measures.{Measurable}
 use Rattle.pairs.specs.declared.Walk.{Walk}
 use Rattle.pairs.specs.Layout.{Layout, P, N, Legal, halts_in, layout_of, letters_of, Tested}
 use Rattle.table.specs.Table.{code_at}
-use Rattle.pairs.specs.Step.{pair_in, Held}
-use Rattle.pairs.specs.State.{Roomy, Word, OnPath, tried_by, DoneAt}
+use Rattle.pairs.specs.Step.{pair_in}
+use Rattle.pairs.specs.State.{Word, OnPath, attempt_by}
 use Rattle.matches.specs.declared.Sweep.{Sweep}
 use Rattle.matches.specs.declared.Task.{Task}
 use Rattle.matches.specs.Asked.{Asked, pl, width, labels_on}
@@ -50,9 +50,14 @@ pub record Labels (T : Layout) (trail labs : List ℕ) (top end : ℕ) : Type 0 
 abbrev pub swept : ℕ → ℕ → ℕ → ℕ → ℕ → Sweep
 swept end row m l s = record { end = end; row = row; matches = m; labels = l; steps = s; opened = 0 }
 
--- a search that has halted in the attempt at a row tells how many pairs are open
+-- a search that has halted in the attempt at a row: where it waits, it tells how many pairs are
+-- open
+abbrev pub open_by : Halt → List ℕ → ℕ
+open_by out_of_steps p = 0
+open_by out_of_rows p = length p
+
 abbrev pub swept_at : Halt → List ℕ → ℕ → ℕ → ℕ → ℕ → Sweep
-swept_at h p row m l s = record { end = halt_answer h; row = row; matches = m; labels = l; steps = s; opened = length p }
+swept_at h p row m l s = record { end = halt_answer h; row = row; matches = m; labels = l; steps = s; opened = open_by h p }
 
 -- behind a match that is written the search goes on at its next start; where there is none it is
 -- over, with end 15
@@ -81,21 +86,13 @@ ToldBy true A p i s numbers numbers' labs labs' r =
     Written A p i numbers numbers' labs labs' r (swept_on (next_at A i.row p) A.n (i.matches + 1) (i.labels + length (labels (pl A) p)) s)
 ToldBy false A p i s numbers numbers' labs labs' r = Quiet numbers numbers' labs labs' r (swept 13 A.n i.matches i.labels s)
 
-abbrev pub Shown : Asked → List ℕ → Sweep → ℕ → List ℤ → List ℤ → List ℕ → List ℕ → Sweep → Type 0
-Shown A p i s numbers numbers' labs labs' r =
-    ToldBy (fits (lent_room (length numbers) (length labs) A.measures) i.matches i.labels (labels (pl A) p)) A p i s numbers numbers' labs labs' r
-
--- where the stride is above 1, the path is not reported: it is told as one that has halted is
-abbrev pub ToldIf : Bool → Asked → List ℕ → Sweep → ℕ → List ℤ → List ℤ → List ℕ → List ℕ → Sweep → Type 0
-ToldIf true A p i s numbers numbers' labs labs' r = Quiet numbers numbers' labs labs' r (swept_at out_of_steps p i.row i.matches i.labels s)
-ToldIf false A p i s numbers numbers' labs labs' r = Shown A p i s numbers numbers' labs labs' r
-
--- what came of an attempt, told: after none the search goes on a stride on; where it has halted,
--- the search is over and nothing is written
+-- what came of an attempt, told: after none the search goes on one row on; where it has halted, the
+-- search is over and nothing is written
 abbrev pub Told : Asked → Attempted → Sweep → ℕ → List ℤ → List ℤ → List ℕ → List ℕ → Sweep → Type 0
-Told A miss i s numbers numbers' labs labs' r = Quiet numbers numbers' labs labs' r (swept 0 (i.row + A.stride) i.matches i.labels s)
+Told A miss i s numbers numbers' labs labs' r = Quiet numbers numbers' labs labs' r (swept 0 (i.row + 1) i.matches i.labels s)
 Told A (halts h p) i s numbers numbers' labs labs' r = Quiet numbers numbers' labs labs' r (swept_at h p i.row i.matches i.labels s)
-Told A (hit p) i s numbers numbers' labs labs' r = ToldIf (ltb 1 A.stride) A p i s numbers numbers' labs labs' r
+Told A (hit p) i s numbers numbers' labs labs' r =
+    ToldBy (fits (lent_room (length numbers) (length labs) A.measures) i.matches i.labels (labels (pl A) p)) A p i s numbers numbers' labs labs' r
 
 -- the measures in the table can be read from the rows
 pub record Measured (T : List ℕ) (rows : List ℤ) (task : Task) : Type 0 where
@@ -127,42 +124,23 @@ pub record Searches (T : List ℕ) (rows : List ℤ) (task : Task) (notes trail 
   pub noted : N (layout_of T task.size) task.size.rows ≤ 8 * length notes
   pub trailed : N (layout_of T task.size) task.size.rows ≤ length trail
 
--- What the attempts of a task ask, with s steps before them. There is room on the trail for all
--- pairs, or for as many as there are steps left: so a part of the trail will do for an attempt that
--- is allowed few steps. An attempt that is reported begins at the first place.
-pub record Attempts (T : List ℕ) (rows : List ℤ) (task : Task) (notes trail : List ℕ) (s : ℕ) : Type 0 where
-  pub letters : Tested T rows task.size
-  pub measured : Measured T rows task
-  pub legal : Legal (layout_of T task.size) (letters_of T rows task.size) task.size.rows
-  pub noted : N (layout_of T task.size) task.size.rows ≤ 8 * length notes
-  pub trailed : Roomy (layout_of T task.size) task.size.rows trail 0 s
-  pub place : task.first < P (layout_of T task.size)
-  pub least : 1 ≤ task.stride
-  pub most : task.stride ≤ 4097
-  pub begins : task.stride ≤ 1 → task.first ≡ 0
-
 -- and a start
 pub record Visits (T : List ℕ) (rows : List ℤ) (task : Task) (notes trail labs : List ℕ) (i : Sweep) : Type 0 where
-  pub attempts : Attempts T rows task notes trail i.steps
+  pub searches : Searches T rows task notes trail
   pub row : i.row < task.size.rows
   pub steps : i.steps + N (layout_of T task.size) task.size.rows < 18446744073709551616
   pub few : i.matches ≤ i.row
   pub labels : i.labels ≤ length labs
 
--- the first pair of the attempt at a start
-abbrev pub first_pair : Asked → ℕ → ℕ
-first_pair A i = i * P A.layout + A.first
-
 -- the attempt at a start by the definition, with the failed pairs F and s steps before it
 abbrev pub attempt_at : Asked → List Bool → ℕ → ℕ → Attempted × Kept
-attempt_at A F s i = answered (tried_by (halts_in A.layout A.more A.n) A.layout A.holds A.n F s (first_pair A i))
+attempt_at A F s i = answered (attempt_by (halts_in A.layout A.more A.n) A.layout A.holds A.n F s i)
 
--- what one start leaves: what its walk does; the attempt, told; where it waits, the trail holds its
--- open pairs
 pub record Visited (A : Asked) (notes notes' trail trail' : List ℕ) (numbers numbers' : List ℤ) (labs labs' : List ℕ) (i r : Sweep) : Type 0 where
-  pub walk : Walk
-  pub done : DoneAt (halts_in A.layout A.more A.n) A.layout A.holds A.n notes trail (first_pair A i.row) i.steps notes' trail' walk
   pub kept : bits_of notes' (N A.layout A.n) ≡ (attempt_at A (bits_of notes (N A.layout A.n)) i.steps i.row).1.failed
   pub told : Told A (attempt_at A (bits_of notes (N A.layout A.n)) i.steps i.row).0 i (attempt_at A (bits_of notes (N A.layout A.n)) i.steps i.row).1.steps numbers numbers' labs labs' r
+  pub notes_long : length notes' ≡ length notes
+  pub trail_long : length trail' ≡ length trail
+  pub notes_beyond : (z : ℕ) → N A.layout A.n ≤ z → bit_at notes' z ≡ bit_at notes z
+  pub trail_beyond : (k : ℕ) → N A.layout A.n ≤ k → get_or trail' k 0 ≡ get_or trail k 0
   pub more : (attempt_at A (bits_of notes (N A.layout A.n)) i.steps i.row).1.steps ≤ i.steps + N A.layout A.n
-  pub held : (p : List ℕ) → (attempt_at A (bits_of notes (N A.layout A.n)) i.steps i.row).0 ≡ halts out_of_rows p → Held (P A.layout) trail' p

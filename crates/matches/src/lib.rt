@@ -2,11 +2,12 @@
 // how the search goes on behind it.
 ghost use Rattle.std.specs.Prelude.{◌≡◌, ◌+◌, ◌-◌, ◌<◌, length};
 ghost use Rattle.rules.specs.Basics.{wrote};
+ghost use Rattle.rules.specs.Search.{hit};
 ghost use Rattle.table.specs.Table.{code_at};
 ghost use Rattle.pairs.specs.Layout.{layout};
 ghost use Rattle.skips.specs.Skips.{start_in};
 ghost use Rattle.matches.specs.Asked.{asked_of, labels_on, path_on};
-ghost use Rattle.matches.specs.Found.{OneMore, PutsLabel, Labels, swept_on, Shown, Reports};
+ghost use Rattle.matches.specs.Found.{OneMore, PutsLabel, Labels, swept_on, Told, Reports};
 
 use pairs::{Walk, open_at, place_of};
 use report::{Measures, fits_whole, put_match};
@@ -15,12 +16,7 @@ use table::{Extent, LETTERS, code_at};
 
 // What a search is asked beside its table: its extent, the number of pairs of the largest number of
 // rows, the word of the table at which the measures begin, how many they are, and where it goes on
-// behind a match. Its attempts begin at the place `first`, and behind one that found nothing the
-// next start lies `stride` rows on: 0 and 1 in a search. One attempt alone, from any pair
-// (sweep::alone), has the pair's place and a stride that leads beyond all rows. So it is made by
-// the search's own loop, which stays the one caller of the walk: a second one would have the
-// compiler call the walk in place of copying it, which costs a search up to a third. A path that is
-// found with a stride above 1 is not reported.
+// behind a match.
 #[derive(Drop)]
 pub struct Task {
     pub size: Extent,
@@ -28,8 +24,6 @@ pub struct Task {
     pub measures: usize,
     pub count: usize,
     pub skip: Skip,
-    pub first: usize,
-    pub stride: usize,
 }
 
 // A search under way: how it ended, if it did; the next start, or the one at which it waits; the
@@ -45,9 +39,6 @@ pub struct Sweep {
     pub steps: usize,
     pub opened: usize,
 }
-
-// The stride that leads beyond all rows from any of them.
-pub const BEYOND_ROWS: usize = 4097;
 
 // How a search ends, by its answer: it is done, the next match does not fit, the match written last
 // names no start to go on at, no step is left for the next entry, or it waits for a row.
@@ -140,7 +131,7 @@ pub fn write_match(
     w: Walk,
 ) -> Sweep
     requires { Reports table.now rows.now task trail.now labels.old i w }
-    ensures { Shown (asked_of table.now rows.now task) (path_on task.size.places trail.now w.top) i w.steps numbers.old numbers.new labels.old labels.new result }
+    ensures { Told (asked_of table.now rows.now task) (hit (path_on task.size.places trail.now w.top)) i w.steps numbers.old numbers.new labels.old labels.new result }
 {
     let size = task.size;
     let count = task.count;

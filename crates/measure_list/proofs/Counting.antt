@@ -13,7 +13,7 @@ use Rattle.records.specs.declared.Read.TheVariants.{Record as Whole, Cut}
 use Rattle.rules.specs.Basics.{keep, tabulate}
 use Rattle.rules.specs.Query.{Record, columns_of, Measure, measure_at, measures_from, function_fits}
 use Rattle.laws.proofs.Choice.{decided}
-use Rattle.records.specs.Read.{records_at, read_at, Uncut}
+use Rattle.records.specs.Read.{records_at, read_at}
 use Rattle.records.proofs.Records.{records-end}
 use Rattle.records.proofs.Reading.{found, read_more, read-cut}
 use Rattle.table.specs.Measures.{measure_in, measures_in}
@@ -22,7 +22,7 @@ use Rattle.measure_list.specs.Measures.{MeasureFits, set_three, measure_of, Meas
 use Rattle.measure_list.specs.declared.Measure.{Measure as Three}
 use Rattle.measure_list.proofs.Keeping.{kept_three}
 use Rattle.measure_list.proofs.OneMeasure.{measure_old, measure_new, measures_more}
-use Rattle.query.proofs.Going.{uncut, this_fits, measure_next, measure_says}
+use Rattle.query.proofs.Going.{this_fits, measure_next, measure_says}
 
 pub record Counting (s : List ℕ) (from : ℕ) (measures₀ measures : List ℕ) (at count : ℕ) : Type 0 where
   pub long : length measures ≡ 24
@@ -50,9 +50,6 @@ module _ (s : List ℕ) (from : ℕ) (measures₀ : List ℕ) where
 
     pub counting_all : length s ≤ at → PutMeasures s from measures₀ measures count
     counting_all w = ended (records-end s at w)
-
-    pub counting_uncut : at < length s → Uncut s at
-    counting_uncut w = uncut s 3 (8 - count) at h.ahead w
 
     module _ (r : Read) (e : r ≡ read_at s at) where
       pub counting_cut : r ≡ Cut → PutMeasures s from measures₀ measures count

@@ -6,7 +6,7 @@ ghost use Rattle.rules.specs.Query.{measure_at};
 ghost use Rattle.table.specs.Measures.{measure_in};
 ghost use Rattle.measure_list.specs.Measures.{measure_of, set_three, MeasuresRoom, PutMeasures, MeasuresTabled};
 
-use records::{Read, whole_at};
+use records::{Read, record_at};
 
 // A measure of the query: the number of its function, the letter of its rows or 0 for all rows, and
 // its column.
@@ -84,7 +84,7 @@ pub fn put_measures(s: &[u8], from: usize, measures: &mut [u8; 24]) -> usize
             start,
             len: _,
             next,
-        } = whole_at(s, at)
+        } = record_at(s, at)
         else {
             return count;
         };

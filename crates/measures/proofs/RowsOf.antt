@@ -110,16 +110,16 @@ module _ (t : Table) (f letter column : ℕ) where
     other : (k : ℕ) → k ≤ 5 → eqb f k ≡ false
     other k u = ne_eqb f k (λ e. omega arith)
 
-    back-stays : (a : ℤ) (xs : List ℤ) (x : ℤ) → join_all f a (xs ++ (x ∷ [])) ≡ x
+    back_stays : (a : ℤ) (xs : List ℤ) (x : ℤ) → join_all f a (xs ++ (x ∷ [])) ≡ x
     unfolding join_all joined
-    back-stays a [] x = simp
+    back_stays a [] x = simp
         (other 2 (omega arith), other 3 (omega arith), other 4 (omega arith), other 5 (omega arith), eq-eqb f 6 h)
-    back-stays a (y ∷ xs) x = back-stays (joined f a y) xs x
+    back_stays a (y ∷ xs) x = back_stays (joined f a y) xs x
 
     over_back : (xs : List ℤ) (x : ℤ) → over_some f (xs ++ (x ∷ [])) ≡ some x
     unfolding over_some join_all
     over_back [] x = refl
-    over_back (y ∷ xs) x = ap some (back-stays y xs x)
+    over_back (y ∷ xs) x = ap some (back_stays y xs x)
 
   module _ (first : ℕ) (ls : List ℕ) where
     abbrev two : List ℤ

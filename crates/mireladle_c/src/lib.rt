@@ -6,20 +6,32 @@
 ghost use Rattle.std.specs.Prelude.{◌≡◌, true, false, length};
 ghost use Rattle.std.proofs.Math.Option.{none, some};
 ghost use Rattle.outcome.specs.Results.{lent, memory};
-ghost use Rattle.running.specs.Promise.{Promised};
+ghost use Rattle.search.specs.Promise.{Promised};
 ghost use Rattle.desk.specs.Promise.{Desk};
 ghost use Rattle.depot_state.specs.State.{Begun};
 ghost use Rattle.depots.specs.Calls.{Calls};
 ghost use Rattle.test_letter.specs.Tests.{TestedAs};
 ghost use Rattle.lots.specs.Feeds.{new_feed};
 ghost use Rattle.feeding.specs.Calls.{Calls as LotCalls};
-ghost use Rattle.room_told.specs.Told.{Told};
+ghost use Rattle.mireladle_c.specs.Told.{Told};
 
 use bus_log::Verdict;
 use lots::Feed;
 use outcome::Outcome;
-use room_told::{Room, tell};
-use test_results::Tested;
+use test_letter::Tested;
+
+// How much to lend: the answer 1 to 10 or 14, with the offset of 5 and 14, or 0 with P, n, the
+// number of pairs and R-3's factor F.
+#[repr(C)]
+#[derive(Drop)]
+pub struct Room {
+    pub answer: usize,
+    pub places: usize,
+    pub rows: usize,
+    pub pairs: usize,
+    pub offset: usize,
+    pub factor: usize,
+}
 
 // The search.
 #[unsafe(no_mangle)]
@@ -57,7 +69,15 @@ pub extern "C" fn mireladle_search_within(
 pub extern "C" fn mireladle_room(query: &[u8], rows: &[i32]) -> Room
     ensures { Told query.now rows.now result }
 {
-    tell(room::room(query, rows))
+    let size = room::room(query, rows);
+    Room {
+        answer: size.answer,
+        places: size.places,
+        rows: size.rows,
+        pairs: size.places * size.factor * (size.rows + 1),
+        offset: size.offset,
+        factor: size.factor,
+    }
 }
 
 // The release desk's verdict on a bus's log.

@@ -7,7 +7,7 @@ use Rattle.rules.specs.Basics.{pick}
 use Rattle.rules.specs.Query.{records, first_of_kind, parts}
 use Rattle.rules.specs.Answers.{Buffers, Memory}
 use Rattle.rules.specs.Entries.{Reported, reported_in}
-use Rattle.running.specs.Promise.{Promised}
+use Rattle.search.specs.Promise.{Promised}
 
 -- ---- choosing
 

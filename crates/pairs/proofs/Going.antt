@@ -28,10 +28,10 @@ use Rattle.pairs.specs.State.{Onto, Linked, Passing, Word, row_from, way_at, Led
 use Rattle.pairs.proofs.Ways.{second_is, pair_row, pair_place, ways-end, ways-are, leads_each}
 use Rattle.pairs.proofs.Trails.{second-most, word_row, word-place, entry_place, entry_row, entry-way, stack-length, stack_push, stack_top, linked_under}
 
-pub path-is : (P : ℕ) (trail : List ℕ) (F : List Bool) (s t : ℕ) → 0 < t → found (reverse_aux (stack P trail t) []) (as_kept F s) ≡ outcome_by P t trail F s
+pub path_is : (P : ℕ) (trail : List ℕ) (F : List Bool) (s t : ℕ) → 0 < t → found (reverse_aux (stack P trail t) []) (as_kept F s) ≡ outcome_by P t trail F s
 unfolding outcome_by
-path-is P trail F s zero h = absurd (not-suc-le-zero h)
-path-is P trail F s (suc t) h = refl
+path_is P trail F s zero h = absurd (not-suc-le-zero h)
+path_is P trail F s (suc t) h = refl
 
 -- ---- room on the trail
 
@@ -467,7 +467,7 @@ module _ (H : Halting) (T : Layout) (holds : ℕ → ℕ → Bool) (n : ℕ) (qu
       let d : graph_of T holds n x ≡ accept = ways-end T holds n (place_in e) (row_in e) top_word.place h in
       let a : resume H (graph_of T holds n) (N T n) (stack (P T) trail w.top) (as_kept F w.steps) ≡ found (reverse_aux (stack (P T) trail w.top) []) (as_kept F w.steps) =
       rw top_is (resume-accept H (graph_of T holds n) g.legal.ρ (N T n) g.legal.falls (N T n) g.legal.bound (stack (P T) trail (w.top - 1)) F w.steps x (quiet x x-passes) d) in
-      a ∙ path-is (P T) trail F w.steps w.top going
+      a ∙ path_is (P T) trail F w.steps w.top going
 
   module _ (more : code_at T.words (place_in e) ≤ 29) where
     abbrev ks : List ℕ

@@ -1,13 +1,12 @@
 -- The trail as a stack of open pairs.
 use mathlib.Core.Path.{◌≡◌, refl, sym, ap, ◌∙◌}
-use mathlib.Core.List.{List, [], ◌∷◌, reverse_aux}
+use mathlib.Core.List.{List, [], ◌∷◌}
 use mathlib.Core.Bool.{Bool, true, false}
 use lib.Dec.{ltb}
 use Rattle.rules.specs.Basics.{pick}
 use Rattle.table.specs.Table.{count_at}
 use Prim.Native.Nat.{ℕ, zero, suc, ◌+◌, ◌-◌, ◌*◌, ◌/◌, ◌%◌, ◌≤◌, ◌<◌}
 use native.Mathlib.Nat.{not-suc-le-zero}
-use native.Mathlib.Decide.{dec_lt}
 use native.Mathlib.Numerals.{add-one}
 use native.Mathlib.Omega.{arith}
 use lib.Arith.{digits_div, digits_mod}
@@ -96,31 +95,6 @@ module _ (P : ℕ) where
   stack_same trail t v h l e =
       stack_top (set trail (t - 1) v) t h ∙ rw (get_or-set_same trail (t - 1) v 0 (omega arith), stack_set trail (t - 1) v (t - 1) (omega arith), e) (sym (stack_top trail t h))
 
--- ---- the open pairs, the first entered first
-
-pub up-long : (xs q : List ℕ) → length (reverse_aux xs q) ≡ length xs + length q
-up-long [] q = omega arith
-up-long (x ∷ xs) q = let r = up-long xs (x ∷ q) in omega arith
-
-up_at : (xs q : List ℕ) (k : ℕ) → get_or (reverse_aux xs q) (length xs + k) 0 ≡ get_or q k 0
-up_at [] q k = let e : 0 + k ≡ k = omega arith in rw e
-up_at (x ∷ xs) q k = let e : suc (length xs) + k ≡ length xs + suc k = omega arith in rw e (up_at xs (x ∷ q) (suc k))
-
-module _ (P : ℕ) (trail : List ℕ) where
-  pub stack-up : (t : ℕ) (q : List ℕ) → length (reverse_aux (stack P trail t) q) ≡ t + length q
-  stack-up t q = up-long (stack P trail t) q ∙ rw (stack-length P trail t)
-
-  pub stack_at : (t : ℕ) (q : List ℕ) (k : ℕ) → k < t → get_or (reverse_aux (stack P trail t) q) k 0 ≡ pair_in P (get_or trail k 0)
-  unfolding stack
-  stack_at zero q k l = absurd (not-suc-le-zero l)
-  stack_at (suc t) q k l = elim (dec_lt k t) [
-    | yes g ↦ stack_at t (pair_in P (get_or trail t 0) ∷ q) k g
-    | no g ↦
-        let e : k ≡ t = omega arith in
-        let z : t ≡ length (stack P trail t) + 0 = (let s = stack-length P trail t in omega arith) in
-        rw e (ap (λ (j : ℕ). get_or (reverse_aux (stack P trail t) (pair_in P (get_or trail t 0) ∷ q)) j 0) z ∙ up_at (stack P trail t) (pair_in P (get_or trail t 0) ∷ q) 0)
-  ]
-
 -- ---- a path on the trail
 
 module _ (T : Layout) where
@@ -138,17 +112,17 @@ module _ (T : Layout) (trail : List ℕ) (w : Walk) (h : OnPath T trail w) (goin
   word : Word T e
   word = h.words (w.top - 1) (omega arith)
 
-  pub path-place : w.place < P T
-  path-place = rw (← (h.spot going).place) word.place
+  pub path_place : w.place < P T
+  path_place = rw (← (h.spot going).place) word.place
 
-  pub path-top : stack (P T) trail w.top ≡ pair_of w ∷ stack (P T) trail (w.top - 1)
-  path-top = rw (← spot_pair (P T) w e (h.spot going)) (stack_top (P T) trail w.top going)
+  pub path_top : stack (P T) trail w.top ≡ pair_of w ∷ stack (P T) trail (w.top - 1)
+  path_top = rw (← spot_pair (P T) w e (h.spot going)) (stack_top (P T) trail w.top going)
 
-  pub path-linked : Linked T (pair_of w ∷ stack (P T) trail (w.top - 1))
-  path-linked = rw path-top at h.linked
+  pub path_linked : Linked T (pair_of w ∷ stack (P T) trail (w.top - 1))
+  path_linked = rw path_top at h.linked
 
-  pub path-row : pair_of w / P T ≡ w.row
-  path-row = rw (h.spot going).base (digits_div w.row path-place)
+  pub path_row : pair_of w / P T ≡ w.row
+  path_row = rw (h.spot going).base (digits_div w.row path_place)
 
-  pub path-at : pair_of w % P T ≡ w.place
-  path-at = rw (h.spot going).base (digits_mod w.row path-place)
+  pub path_at : pair_of w % P T ≡ w.place
+  path_at = rw (h.spot going).base (digits_mod w.row path_place)

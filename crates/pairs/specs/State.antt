@@ -254,24 +254,23 @@ pub record Ran (H : Halting) (T : Layout) (holds : ℕ → ℕ → Bool) (n : �
   pub reached : Reached H T holds n n₁ t₁ (comes H T holds n n₁ t₁ w₁) notes trail (before w)
   pub over : Over H T trail w
 
--- what trying any pair asks, that of place q at row i, where no pair is open and s steps were taken
--- before it
-pub record ReadyAt (T : Layout) (holds : ℕ → ℕ → Bool) (n : ℕ) (notes trail : List ℕ) (q i s : ℕ) : Type 0 where
+-- what an attempt at row i asks, with s steps before it
+pub record Ready (T : Layout) (holds : ℕ → ℕ → Bool) (n : ℕ) (notes trail : List ℕ) (i s : ℕ) : Type 0 where
   pub legal : Legal T holds n
   pub noted : N T n ≤ 8 * length notes
   pub trailed : Roomy T n trail 0 s
-  pub place : q < P T
-  pub row : i ≤ n
+  pub row : i < n
   pub steps : s + N T n < 18446744073709551616
 
--- the pair x tried by the definition, with the failed pairs F and s steps before it
-abbrev pub tried_by : Halting → Layout → (ℕ → ℕ → Bool) → ℕ → List Bool → ℕ → ℕ → Outcome
-tried_by H T holds n F s x = enter_unless (get_or F x false) (H.spent s) (inside H (graph_of T holds n) (N T n)) (as_kept F s) x
+-- an attempt at row i by the definition, with the failed pairs F and s steps before it: it tries
+-- the pair of the first place and the start
+abbrev pub attempt_by : Halting → Layout → (ℕ → ℕ → Bool) → ℕ → List Bool → ℕ → ℕ → Outcome
+attempt_by H T holds n F s i = enter_unless (get_or F (i * P T) false) (H.spent s) (inside H (graph_of T holds n) (N T n)) (as_kept F s) (i * P T)
 
--- what trying the pair x leaves: its result is the definition's; with a path, the trail's first
--- `top` numbers are the path and the walk is at END; where it has halted, they are the open pairs,
--- and no step is left, or one more pair waits
-pub record DoneAt (H : Halting) (T : Layout) (holds : ℕ → ℕ → Bool) (n : ℕ) (n₁ t₁ : List ℕ) (x s : ℕ) (notes trail : List ℕ) (w : Walk) : Type 0 where
-  pub same : tried_by H T holds n (bits_of n₁ (N T n)) s x ≡ result_by (P T) trail (bits_of notes (N T n)) w
-  pub reached : Reached H T holds n n₁ t₁ (tried_by H T holds n (bits_of n₁ (N T n)) s x) notes trail (before w)
+-- what an attempt leaves: its result is the definition's; with a path, the trail's first `top`
+-- numbers are the path and the walk is at END; where it has halted, they are the open pairs, and no
+-- step is left, or one more pair waits
+pub record Done (H : Halting) (T : Layout) (holds : ℕ → ℕ → Bool) (n : ℕ) (n₁ t₁ : List ℕ) (i s : ℕ) (notes trail : List ℕ) (w : Walk) : Type 0 where
+  pub same : attempt_by H T holds n (bits_of n₁ (N T n)) s i ≡ result_by (P T) trail (bits_of notes (N T n)) w
+  pub reached : Reached H T holds n n₁ t₁ (attempt_by H T holds n (bits_of n₁ (N T n)) s i) notes trail (before w)
   pub over : Over H T trail w

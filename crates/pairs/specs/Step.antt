@@ -53,11 +53,6 @@ unfoldable pub stack : ℕ → List ℕ → ℕ → List ℕ
 stack P trail zero = []
 stack P trail (suc t) = pair_in P (get_or trail t 0) ∷ stack P trail t
 
--- The trail holds the open pairs p, each at its index, but for the last of them: that one waits, or
--- is the next to be entered, and is not yet on the trail.
-unfoldable pub Held : ℕ → List ℕ → List ℕ → Type 0
-Held P trail p = (k : ℕ) → suc k < length p → pair_in P (get_or trail k 0) ≡ get_or p k 0
-
 -- the pair at which the walk stands
 abbrev pub pair_of : Walk → ℕ
 pair_of w = w.base + w.place

@@ -33,7 +33,6 @@ use Rattle.reading.specs.Reading.{query_answer, Asked}
 use Rattle.reading.specs.declared.Query.{Query}
 use Rattle.prepared.specs.declared.Prepared.{Prepared}
 use Rattle.table_room.specs.Words.{measures_at, tests_at, needed, Sizing}
-use Rattle.table_room.proofs.Counting.{needed-few}
 use Rattle.prepared.specs.Ready.{refused_prepared, Ready, Fills, PreparedAs}
 use Rattle.prepared.proofs.Clear.{few_places, few_values, no_answer}
 
@@ -215,26 +214,26 @@ module _ (s measures₀ nodes defines measures : List ℕ) (q : Query) (a : Aske
           countable = countable s w.parts.columns defines q.letters (omega (arith, w.good.letters, w.decoded.upto)) (λ l h d. (w.decoded.letters l h).body d);
         }
 
-    module _ (t : Bool) (et : t ≡ (ltb (length T) (needed s defines (q.places * q.factor) q.letters) || ltb 65535 (length T))) where
+    module _ (k : ℕ) (ek : (k ≡ needed s defines (q.places * q.factor) q.letters) × (k ≤ 16076)) (t : Bool) (et : t ≡ (ltb (length T) k || ltb 65535 (length T))) where
       pub too_short : t ≡ true → (p : Prepared) → p ≡ refused_prepared 255 0 → PreparedAs s T T p
       too_short f p e =
           rw e
           (record {
             given = λ d. absurd (d refl);
-            no_room = λ _ l. by (ltb (length T) (needed s defines (q.places * q.factor) q.letters)) refl l;
+            no_room = λ _ l. by (ltb (length T) k) refl l;
             len = refl;
           })
         where
-          by : (b : Bool) → ltb (length T) (needed s defines (q.places * q.factor) q.letters) ≡ b → 16076 ≤ length T → 65536 ≤ length T
-          by true g l = absurd (let y = ltb-true (length T) _ g in let x = needed-few s defines (q.places * q.factor) q.letters sizing in omega arith)
+          by : (b : Bool) → ltb (length T) k ≡ b → 16076 ≤ length T → 65536 ≤ length T
+          by true g l = absurd (let y = ltb-true (length T) k g in let x = ek.1 in omega arith)
           by false g l = let y = ltb-true 65535 (length T) (sym (rw g at et) ∙ f) in omega arith
 
       pub may_fill : t ≡ false → Fills s nodes defines measures q T
       may_fill f =
-          let g = or-false (ltb (length T) (needed s defines (q.places * q.factor) q.letters)) (ltb 65535 (length T)) (sym et ∙ f) in
-          let x = ltb-false (length T) _ g.0 in
+          let g = or-false (ltb (length T) k) (ltb 65535 (length T)) (sym et ∙ f) in
+          let x = ltb-false (length T) k g.0 in
           let y = ltb-false 65535 (length T) g.1 in
-          record { none = none; measures₀ = measures₀; whole = a.good z; room = x; small = omega arith }
+          record { none = none; measures₀ = measures₀; whole = a.good z; room = rw (← ek.0) x; small = omega arith }
 
   pub filled : (T' : List ℕ) → length T' ≡ length T → (p : Prepared) → (p.answer ≡ 0) × Ready s T' p → PreparedAs s T T' p
   filled T' l p h =

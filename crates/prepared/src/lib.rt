@@ -5,8 +5,8 @@
 // Promise (specs/Ready): an answer 1 to 9 or 14 with its offset; or the table and the numbers stand
 // for the query; or the table is too short, which one of MOST_WORDS words never is. Weakness: the
 // words that nothing reads are left as they are.
-ghost use Rattle.std.specs.Prelude.{◌≡◌, true};
-ghost use Rattle.reading.specs.Reading.{Nodes, short_text};
+ghost use Rattle.std.specs.Prelude.{◌≡◌};
+ghost use Rattle.reading.specs.Reading.{Nodes};
 ghost use Rattle.prepared.specs.Ready.{refused_prepared, Fills, Ready, PreparedAs};
 
 use letter_places::point;
@@ -14,7 +14,7 @@ use measure_list::put_in_table;
 use places::unroll;
 use reading::{Query, text_is_short};
 use room::read_query;
-use table_room::{MEASURE_WORDS, PLACE_WORDS, lacks_room};
+use table_room::{MEASURE_WORDS, PLACE_WORDS, has_no_room, words_needed};
 use tests::put_tests;
 
 // A prepared query beside its table: its answer, with the offset of 5 and 14; where that is 0, the
@@ -102,28 +102,21 @@ fn prepare_in(nodes: &mut [u16], query: &[u8], table: &mut [u16]) -> Prepared
         return not_prepared(answer, q.offset);
     }
     let entries = q.places * q.factor;
-    if lacks_room(table.len(), query, &defines, entries, q.letters) {
+    let needed = words_needed(query, &defines, entries, q.letters);
+    if has_no_room(table.len(), needed) {
         return not_prepared(NO_ROOM, 0);
     }
     fill(query, nodes, &defines, &measures, q, table)
 }
 
-// A query prepared whose text is short: a small room for its tree is enough, and clearing a large
-// one takes longer than reading the query.
-pub fn prepare_short(query: &[u8], table: &mut [u16]) -> Prepared
-    requires { short_text query.now ≡ true }
-    ensures { PreparedAs query.now table.old table.new result }
-{
-    let mut nodes = [0u16; 256];
-    prepare_in(&mut nodes, query, table)
-}
-
-// A query prepared.
+// A query prepared. A short text gets a small room for its tree, since clearing a large one takes
+// longer than reading the query.
 pub fn prepare(query: &[u8], table: &mut [u16]) -> Prepared
     ensures { PreparedAs query.now table.old table.new result }
 {
     if text_is_short(query) {
-        return prepare_short(query, table);
+        let mut nodes = [0u16; 256];
+        return prepare_in(&mut nodes, query, table);
     }
     let mut nodes = [0u16; 4096];
     prepare_in(&mut nodes, query, table)

@@ -7,36 +7,34 @@ use Prim.Native.Nat.{ℕ, zero, suc, ◌+◌, ◌*◌, ◌-◌, ◌≤◌, ◌<�
 use native.Mathlib.Omega.{arith}
 use lib.Dec.{eqb, leb}
 use lib.ListN.{length, get_or}
-use borrow.Author.Tests.{eq-eqb, ne_eqb, eqb-true, leb-true, leb-false, ltb-false, not-false}
+use borrow.Author.Tests.{eq-eqb, ne_eqb, eqb-true, leb-true, leb-false, not-false}
 use Rattle.records.specs.declared.Read.{Read}
 use Rattle.records.specs.declared.Read.TheVariants.{Record as Whole, Cut}
 use Rattle.rules.specs.Basics.{pick, in_range, is_letter, every, every_below}
-use Rattle.rules.specs.Query.{Record, records, behind_from, one_of, some_of, none_left, is_define, is_measure, in_order, kinds, misplaced, field, shape_fits, text_fits, comparison_fits, define_fits, entries_fit, entries_end, read_entries, entries_of, leaves_one, postfix_fits, skip_fits, function_fits, measure_fits, record_fits, columns_of, unfit, cut}
+use Rattle.rules.specs.Query.{Record, records, one_of, some_of, none_left, is_define, is_measure, in_order, kinds, misplaced, field, shape_fits, text_fits, comparison_fits, define_fits, entries_fit, entries_end, read_entries, entries_of, leaves_one, postfix_fits, skip_fits, function_fits, measure_fits, record_fits, columns_of, unfit, cut}
 use Rattle.laws.proofs.Choice.{decided, clash, and_left, and_right}
-use Rattle.records.specs.Read.{record_of, records_at, read_at, Uncut}
+use Rattle.records.specs.Read.{record_of, records_at, read_at}
 use Rattle.query.specs.Order.{rest_of, first_answer}
-use Rattle.records.proofs.Records.{records-end, behind_at, behind_more, behind-none}
-use Rattle.records.proofs.Reading.{found, cut-there, read_more, read-cut}
+use Rattle.records.proofs.Records.{records-end}
+use Rattle.records.proofs.Reading.{found, read_more, read-cut}
 use Rattle.query.proofs.Order.{rest-nil}
 use Rattle.query.specs.Ahead.{Ahead}
 
 -- ---- the start
 
-clean : (s : List ℕ) → first_answer s ≡ 0 → (cut s ≡ false) × (misplaced s ≡ false) × (unfit s ≡ false)
+clean : (s : List ℕ) → first_answer s ≡ 0 → (misplaced s ≡ false) × (unfit s ≡ false)
 unfolding first_answer
 clean s e = by (cut s) (misplaced s) (unfit s) e
   where
-    by : (a b c : Bool) → pick {A = ℕ} a 1 (pick b 2 (pick c 3 0)) ≡ 0 → (a ≡ false) × (b ≡ false) × (c ≡ false)
+    by : (a b c : Bool) → pick {A = ℕ} a 1 (pick b 2 (pick c 3 0)) ≡ 0 → (b ≡ false) × (c ≡ false)
     by true b c q = absurd (omega arith)
     by false true c q = absurd (omega arith)
     by false false true q = absurd (omega arith)
-    by false false false q = (refl, refl, refl)
+    by false false false q = (refl, refl)
 
 pub at-start : (s : List ℕ) → first_answer s ≡ 0 → Ahead s 0 0 0
-unfolding cut misplaced unfit in_order rest_of records records_at
-at-start s e =
-    let c = clean s e in
-    record { upto = omega arith; whole = ltb-false (behind_from (length s) s 0) (length s) c.0; order = not-false _ c.1; fits = not-false _ c.2 }
+unfolding misplaced unfit in_order rest_of records records_at
+at-start s e = let c = clean s e in record { upto = omega arith; order = not-false _ c.0; fits = not-false _ c.1 }
 
 -- ---- the order, taken apart
 
@@ -79,14 +77,6 @@ module _ (s : List ℕ) (a l at : ℕ) (h : Ahead s a l at) where
   pub before-end : (a ≡ 3 → ⊥) → at < length s
   before-end f = decided (leb (suc at) (length s)) (λ t. leb-true (suc at) (length s) t) (λ t. absurd (f (ended (records-end s at (let y = leb-false (suc at) (length s) t in omega arith)))))
 
-  -- the record that is there is whole
-  pub uncut : at < length s → Uncut s at
-  unfolding behind_at
-  uncut l = record {
-    there = l;
-    whole = λ q. let z : behind_at s at ≡ at = behind-none s at (cut-there s at (read_at s at) refl q) in omega (arith, h.whole, z);
-  }
-
   pub not-cut : (r : Read) → (a ≡ 3 → ⊥) → r ≡ read_at s at → r ≡ Cut → ⊥
   not-cut r f e q = f (ended (read-cut s at r e q))
 
@@ -102,15 +92,8 @@ module _ (s : List ℕ) (a l at : ℕ) (h : Ahead s a l at) where
     pub this_fits : record_fits s (columns_of s) (record_of k b m) ≡ true
     this_fits = and_left _ _ both-fit
 
-    whole-on : length s ≤ behind_from (length s) s n
-    unfolding behind_at
-    whole-on =
-        let f = found s at r k b m n e q in
-        let z : behind_at s at ≡ behind_at s n = behind_more s at f.is ∙ ap (behind_at s) f.behind in
-        omega (arith, h.whole, z)
-
     go_on : (a' l' : ℕ) → rest_of a' l' (kinds (records_at s n)) ≡ true → Ahead s a' l' n
-    go_on a' l' o = record { upto = (found s at r k b m n e q).inside; whole = whole-on; order = o; fits = and_right (record_fits s (columns_of s) (record_of k b m)) _ both-fit }
+    go_on a' l' o = record { upto = (found s at r k b m n e q).inside; order = o; fits = and_right (record_fits s (columns_of s) (record_of k b m)) _ both-fit }
 
     at_stage : (i : ℕ) → a ≡ i → rest_of i l (k ∷ kinds (records_at s n)) ≡ true
     at_stage i w = ap (λ (j : ℕ). rest_of j l (k ∷ kinds (records_at s n))) (sym w) ∙ ordered
@@ -135,7 +118,6 @@ module _ (s : List ℕ) (a l at : ℕ) (h : Ahead s a l at) where
     defines-over w f =
         record {
           upto = h.upto;
-          whole = h.whole;
           order = ap (λ (x : List Record). rest_of 2 0 (kinds x)) (read_more s at r k b m n e q)
               ∙ some_out is_define (one_of 4 (some_of 8 is_measure none_left)) k (kinds (records_at s n)) l f (at_stage 2 w);
           fits = h.fits;

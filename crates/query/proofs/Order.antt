@@ -17,7 +17,7 @@ use Rattle.laws.proofs.Choice.{decided}
 use Rattle.records.specs.Read.{records_at, record_of, read_at}
 use Rattle.query.specs.Order.{rest_of, Follows, first_answer}
 use Rattle.records.proofs.Records.{records-end}
-use Rattle.records.proofs.Reading.{found, read_more, Along, along_none, along_more, along_cut, along_all, field-first}
+use Rattle.records.proofs.Reading.{read_more, Along, along_none, along_more, along_cut, along_all, field-first}
 
 -- ---- the order of kinds
 
@@ -152,14 +152,12 @@ rest-nil left (suc (suc (suc (suc k)))) =
 -- ---- what the pass has seen
 
 -- At the index `at`, in the stage a with l: the order of the whole query is that of the kinds to
--- come. The columns are the first byte of the first record's body, which are those of the query up
--- to a kind out of order; up to there, the fields of the whole query fit exactly if those seen do
--- (`fit`) and those to come.
+-- come. Up to a kind out of order, the columns are those of the shape once that was read, and the
+-- fields of the whole query fit exactly if those seen do (`fit`) and those to come.
 pub record Judged (s : List ℕ) (at a l columns : ℕ) (fit : Bool) : Type 0 where
   pub along : Along s at
   pub order : rest_of a l (kinds (records_at s at)) ≡ in_order (kinds (records s))
-  pub first : a ≡ 0 → at ≡ 0
-  pub byte : columns ≡ get_or s 4 0
+  pub first : a ≡ 0 → records_at s at ≡ records s
   pub shape : 0 < a → a < 4 → columns ≡ columns_of s
   pub fits : a < 4 → (fit && every (record_fits s (columns_of s)) (records_at s at)) ≡ every (record_fits s (columns_of s)) (records s)
 
@@ -170,47 +168,35 @@ columns-at s k b l rs e q =
     ∙ ap (λ (t : Bool). Rattle.rules.specs.Query.field s (pick t (record_of k b l) (first_of_kind 1 rs)) 0) (eq-eqb k 1 e) ∙ field-first s k b l
 
 module _ (s : List ℕ) where
-  pub judged-none : (columns : ℕ) → columns ≡ get_or s 4 0 → Judged s 0 0 0 columns true
+  pub judged-none : Judged s 0 0 0 0 true
   unfolding rest_of in_order records records_at
-  judged-none columns ec =
-      record { along = along_none s; order = refl; first = λ e. refl; byte = ec; shape = λ h g. absurd (omega arith); fits = λ h. refl }
+  judged-none = record { along = along_none s; order = refl; first = λ e. refl; shape = λ h g. absurd (omega arith); fits = λ h. refl }
 
   module _ (at a l columns : ℕ) (fit : Bool) (h : Judged s at a l columns fit) (r : Read) (k b m n : ℕ) (e : r ≡ read_at s at) (q : r ≡ Whole k b m n) where
-    -- the first record is the first of all
-    all_from : at ≡ 0 → record_of k b m ∷ records_at s n ≡ records s
-    unfolding records records_at
-    all_from z = sym (read_more s at r k b m n e q) ∙ ap (records_at s) z
-
-    columns-first : a ≡ 0 → k ≡ 1 → columns ≡ columns_of s
-    columns-first z f =
-        let w = h.first z in
-        let i = (found s at r k b m n e q).header in
-        h.byte ∙ ap (λ (j : ℕ). get_or s j 0) (let y : 4 ≡ b = omega arith in y) ∙ sym (columns-at s k b m (records_at s n) f (all_from w))
-
-    columns-known : a < 4 → (a ≡ 0 → k ≡ 1) → columns ≡ columns_of s
-    columns-known g f =
+    columns-known : (c : ℕ) → c ≡ pick (eqb a 0) (get_or s b 0) columns → a < 4 → (a ≡ 0 → k ≡ 1) → c ≡ columns_of s
+    columns-known c ec g f =
         decided (eqb a 0)
-        (λ t. let z = eqb-true a 0 t in columns-first z (f z))
-        (λ t. let z = eqb-false a 0 t in h.shape (let y : 0 < a = omega arith in y) g)
+        (λ t. let z = eqb-true a 0 t in ec ∙ ap (λ (u : Bool). pick u (get_or s b 0) columns) t
+        ∙ sym (columns-at s k b m (records_at s n) (f z) (sym (read_more s at r k b m n e q) ∙ h.first z)))
+        (λ t. let z = eqb-false a 0 t in ec ∙ ap (λ (u : Bool). pick u (get_or s b 0) columns) t ∙ h.shape (let y : 0 < a = omega arith in y) g)
 
-    fits_on : (v : Bool) → v ≡ (fit && record_fits s columns (record_of k b m)) → columns ≡ columns_of s → a < 4
+    fits_on : (c : ℕ) (v : Bool) → v ≡ (fit && record_fits s c (record_of k b m)) → c ≡ columns_of s → a < 4
         → (v && every (record_fits s (columns_of s)) (records_at s n)) ≡ every (record_fits s (columns_of s)) (records s)
     unfolding every
-    fits_on v ev ec g =
+    fits_on c v ev ec g =
         ap (λ (u : Bool). u && every (record_fits s (columns_of s)) (records_at s n)) (ev ∙ ap (λ (i : ℕ). fit && record_fits s i (record_of k b m)) ec)
         ∙ and_assoc fit (record_fits s (columns_of s) (record_of k b m)) (every (record_fits s (columns_of s)) (records_at s n))
         ∙ ap (λ (x : List Record). fit && every (record_fits s (columns_of s)) x) (sym (read_more s at r k b m n e q)) ∙ h.fits g
 
-    pub judged-more : (a' l' : ℕ) (v : Bool) → v ≡ (fit && record_fits s columns (record_of k b m)) → Follows a' l' a l k → Judged s n a' l' columns v
+    pub judged-more : (c a' l' : ℕ) (v : Bool) → c ≡ pick (eqb a 0) (get_or s b 0) columns → v ≡ (fit && record_fits s c (record_of k b m)) → Follows a' l' a l k → Judged s n a' l' c v
     unfolding kinds
-    judged-more a' l' v ev f =
+    judged-more c a' l' v ec ev f =
         record {
           along = along_more s at r k b m n h.along e q;
           order = f.rest (kinds (records_at s n)) ∙ ap (λ (x : List Record). rest_of a l (kinds x)) (sym (read_more s at r k b m n e q)) ∙ h.order;
           first = λ z. absurd (let y = f.on in omega arith);
-          byte = h.byte;
-          shape = λ y g. columns-known (f.known g) (f.first g);
-          fits = λ g. fits_on v ev (columns-known (f.known g) (f.first g)) (f.known g);
+          shape = λ y g. columns-known c ec (f.known g) (f.first g);
+          fits = λ g. fits_on c v ev (columns-known c ec (f.known g) (f.first g)) (f.known g);
         }
 
   -- ---- the three answers
@@ -243,7 +229,13 @@ module _ (s : List ℕ) where
     unfolding first_answer misplaced unfit
     judged-0 e f = simp (along_all s at h.along end, ordered, eq-eqb a 3 e, fitting e, not-false fit f)
 
--- ---- one record, by the ways through `still_fit`
+-- ---- one record, by the ways through `columns_by` and `still_fit`
+
+pub columns-first : (a x y columns : ℕ) → a ≡ 0 → x ≡ y → x ≡ pick (eqb a 0) y columns
+columns-first a x y columns e q = simp (eq-eqb a 0 e) q
+
+pub columns-later : (a y columns : ℕ) → (a ≡ 0 → ⊥) → columns ≡ pick (eqb a 0) y columns
+columns-later a y columns e = simp (ne_eqb a 0 e)
 
 pub unfit-before : (fit t : Bool) → not fit ≡ true → false ≡ (fit && t)
 unfit-before fit t e = ap (λ (u : Bool). u && t) (sym (not-true fit e))

@@ -1,14 +1,12 @@
 -- A query with no answer 1 to 3 read in its order: what stands from an index on.
 use Rattle.std.specs.Prelude.{◌≡◌, true, List, ℕ, ◌≤◌, length}
 use Rattle.rules.specs.Basics.{every}
-use Rattle.rules.specs.Query.{behind_from, kinds, record_fits, columns_of}
+use Rattle.rules.specs.Query.{kinds, record_fits, columns_of}
 use Rattle.records.specs.Read.{records_at}
 use Rattle.query.specs.Order.{rest_of}
 
--- from an index on, the records stand in order from a stage on, their fields fit, and none is cut:
--- the whole ones go up to the query's end
+-- from an index on, the records stand in order from a stage on, and their fields fit
 pub record Ahead (s : List ℕ) (stage left at : ℕ) : Type 0 where
   pub upto : at ≤ length s
   pub order : rest_of stage left (kinds (records_at s at)) ≡ true
-  pub whole : length s ≤ behind_from (length s) s at
   pub fits : every (record_fits s (columns_of s)) (records_at s at) ≡ true

@@ -2,16 +2,14 @@
 // Record or Cut. The promises are equations with document 01's tests over the whole query, for all
 // byte strings; records are read by the crate records, and the rules for their fields stand in the
 // crate fields.
-ghost use Rattle.std.specs.Prelude.{◌≡◌, true, false, ◌&&◌, ◌+◌, ◌-◌, ◌≤◌, ◌<◌, length, get_or};
+ghost use Rattle.std.specs.Prelude.{◌≡◌, true, false, ◌&&◌, ◌+◌, ◌-◌, ◌≤◌, ◌<◌, length, get_or, eqb};
+ghost use Rattle.rules.specs.Basics.{pick};
 ghost use Rattle.rules.specs.Query.{record_fits};
 ghost use Rattle.records.specs.Read.{record_of};
 ghost use Rattle.query.specs.Order.{Follows, first_answer};
 
 use numbers::wide8;
 use records::{Read, is_define, record_at};
-
-// Where the body of the first record starts, whose first byte is the columns.
-const SHAPE: usize = 4;
 
 // Where a pass stands in the order of kinds: it expects 0 the shape, 1 the text, 2 up to `left`
 // DEFINEs and the skip, 3 up to `left` measures; 4 is behind a kind out of order.
@@ -82,6 +80,18 @@ fn byte_or_zero(s: &[u8], at: usize) -> usize
     if at < s.len() { wide8(s[at]) } else { 0 }
 }
 
+// The columns that a record's fields are judged by: those of the record itself where it is the
+// first, else those known before it.
+fn columns_by(s: &[u8], stage: Stage, columns: usize, start: usize) -> usize
+    ensures { result ≡ pick (eqb stage.at 0) (get_or s.now start 0) columns }
+{
+    let at = stage.at;
+    if at == 0 {
+        return byte_or_zero(s, start);
+    }
+    columns
+}
+
 // Whether all fields fit up to this record, where `fit` says it of the records before it.
 fn still_fit(s: &[u8], fit: bool, columns: usize, kind: usize, start: usize, len: usize) -> bool
     requires { start + len ≤ length s.now }
@@ -94,14 +104,13 @@ fn still_fit(s: &[u8], fit: bool, columns: usize, kind: usize, start: usize, len
 }
 
 // The lowest of the answers 1, 2 and 3 that applies, or 0. A 1 in the last bytes beats all else,
-// and a late 2 beats an early 3, so 2 and 3 are given only at the end. Fields are judged by the
-// columns of the first record, which are read before the loop.
+// and a late 2 beats an early 3, so 2 and 3 are given only at the end.
 pub fn first_answer(s: &[u8]) -> usize
     ensures { result ≡ first_answer s.now }
 {
     let mut at = 0;
     let mut stage = Stage { at: 0, left: 0 };
-    let columns = byte_or_zero(s, SHAPE);
+    let mut columns = 0;
     let mut fit = true;
     while at < s.len() {
         let Read::Record {
@@ -113,6 +122,7 @@ pub fn first_answer(s: &[u8]) -> usize
         else {
             return 1;
         };
+        columns = columns_by(s, stage, columns, start);
         fit = still_fit(s, fit, columns, kind, start, len);
         stage = after(stage, kind);
         at = next;

@@ -134,9 +134,9 @@ unfolding query_answer query_tests first_answer first_of all_refuse every refuse
 later s e = first-after (first_tests s) (later_tests s) refl e
 
 -- an answer 1 to 3 is the query's, and has no offset
-pub first_is : (s : List ℕ) → (first_answer s ≡ 0 → ⊥) → first_answer s ≡ query_answer s
+pub first-is : (s : List ℕ) → (first_answer s ≡ 0 → ⊥) → first_answer s ≡ query_answer s
 unfolding query_answer query_tests first_answer first_of
-first_is s d = sym (first-before (first_tests s) (later_tests s) d)
+first-is s d = sym (first-before (first_tests s) (later_tests s) d)
 
 first-offset : (s t : List ℕ) → offset_at t (first_answer s) ≡ 0
 unfolding first_answer offset_at
@@ -302,14 +302,14 @@ module _ (s measures₀ : List ℕ) where
       → Asked s measures₀ room defines measures r
   first-answers room defines measures a r e d b =
       rw b (record {
-        answer = e ∙ first_is s (λ z. d (e ∙ z));
+        answer = e ∙ first-is s (λ z. d (e ∙ z));
         offset = sym (ap (offset_at (text_of s)) e ∙ first-offset s (text_of s));
         good = λ z. absurd (d z);
       })
 
   -- what decoding asks
-  pub may_decode : (room defines : List ℕ) (a : ℕ) → Space s room defines measures₀ → a ≡ first_answer s → a ≡ 0 → DecodeRoom s defines measures₀
-  may_decode room defines a p e z = record { clean = sym e ∙ z; clear = p.clear; long = p.long }
+  pub may_decode : (room : List ℕ) (a : ℕ) → Space s room measures₀ → a ≡ first_answer s → a ≡ 0 → DecodeRoom s measures₀
+  may_decode room a p e z = record { clean = sym e ∙ z; long = p.long }
 
   -- and judging
   pub may_judge : (room defines measures : List ℕ) (p : Parts) (a : ℕ)

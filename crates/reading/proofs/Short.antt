@@ -63,12 +63,6 @@ short_nodes s room t q e l =
     let h : text_length s ≤ 16 = leb-true (text_length s) 16 (and_right (leb 8 (length s)) (leb (text_length s) 16) (sym q ∙ e)) in
     record { enough = λ z. omega (arith, text-length s z) }
 
-pub short_room : (s room : List ℕ) → short_text s ≡ true → length room ≡ 256 → Nodes s room
-short_room s room e l = short_nodes s room (short_text s) refl e l
-
-pub is-short : (s : List ℕ) (t : Bool) → t ≡ short_text s → t ≡ true → short_text s ≡ true
-is-short s t q e = sym q ∙ e
-
 -- ---- the ways through `text_is_short`
 
 module _ (s : List ℕ) where

@@ -2,7 +2,7 @@
 -- where it is 0 the pattern's tree in the lent words, and in the lent arrays where the DEFINE of
 -- each letter stands in the query and the measures (decode's specs/Layout says how); and how much
 -- to lend.
-use Rattle.std.specs.Prelude.{◌≡◌, Bool, true, not, ◌&&◌, ◌||◌, List, ℕ, ◌+◌, ◌*◌, ◌≤◌, ◌<◌, eqb, leb, length, take, drop, replicate}
+use Rattle.std.specs.Prelude.{◌≡◌, Bool, true, not, ◌&&◌, ◌||◌, List, ℕ, ◌+◌, ◌*◌, ◌≤◌, ◌<◌, eqb, leb, length, take, drop}
 use Rattle.std.proofs.Math.Option.{some}
 use Rattle.rules.specs.Basics.{is_letter, every, has, le16}
 use Rattle.rules.specs.Query.{Measure, doubled, text_of, parts}
@@ -91,11 +91,9 @@ unfoldable pub short_text : List ℕ → Bool
 unfolding text_length
 short_text s = leb 8 (length s) && leb (text_length s) 16
 
--- what reading a query is lent: such words, entries for the DEFINEs, all free, and room for the
--- measures
-pub record Space (s room defines measures : List ℕ) : Type 0 where
+-- what reading a query is lent: such words, and room for the measures
+pub record Space (s room measures : List ℕ) : Type 0 where
   pub nodes : Nodes s room
-  pub clear : defines ≡ replicate 26 0
   pub long : length measures ≡ 24
 
 -- what `read_query` promises

@@ -11,7 +11,7 @@ use Rattle.records.specs.declared.Read.{Read}
 use Rattle.records.specs.declared.Read.TheVariants.{Record as Whole, Cut}
 use Rattle.rules.specs.Basics.{pick, le16}
 use Rattle.rules.specs.Query.{Record, whole_at, record_at, next_at, field, cut}
-use Rattle.records.specs.Read.{records_at, record_of, read_at, Uncut}
+use Rattle.records.specs.Read.{records_at, record_of, read_at}
 use Rattle.records.proofs.Records.{behind_at, whole-yes, whole-short, whole-past, within, records-more, records-none, behind_more, cut-is}
 
 module _ (s : List ℕ) (at : ℕ) where
@@ -34,7 +34,6 @@ pub record Found (s : List ℕ) (at k b l n : ℕ) : Type 0 where
   pub behind : next_at s at ≡ n
   pub on : at + 4 ≤ n
   pub inside : n ≤ length s
-  pub header : at + 4 ≡ b
   pub body : b + l ≡ n
 
 module _ (s : List ℕ) (at : ℕ) where
@@ -46,7 +45,7 @@ module _ (s : List ℕ) (at : ℕ) where
       let e2 : at + 4 ≡ b = cc in
       let e3 : le16 s at ≡ l = cc in
       let e4 : at + 4 + le16 s at ≡ n = cc in
-      record { is = e; that = cc; behind = e4; on = omega arith; inside = omega arith; header = e2; body = omega arith }
+      record { is = e; that = cc; behind = e4; on = omega arith; inside = omega arith; body = omega arith }
   by_whole false e k b l n q = absurd (let z : ◌≡◌ {A = ℕ} 0 1 = cc in omega arith)
 
   pub found : (r : Read) (k b l n : ℕ) → r ≡ read_at s at → r ≡ Whole k b l n → Found s at k b l n
@@ -60,26 +59,6 @@ module _ (s : List ℕ) (at : ℕ) where
   pub cut-there : (r : Read) → r ≡ read_at s at → r ≡ Cut → whole_at s at ≡ false
   unfolding read_at
   cut-there r e q = not-whole (whole_at s at) refl (sym e ∙ q)
-
--- ---- a record that is known to be whole
-
-module _ (s : List ℕ) (at : ℕ) (h : Uncut s at) where
-  by-cut : (t : Bool) → whole_at s at ≡ t → (pick t (Whole (le16 s (at + 2)) (at + 4) (le16 s at) (next_at s at)) Cut ≡ Cut → ⊥) → whole_at s at ≡ true
-  by-cut true e f = e
-  by-cut false e f = absurd (f refl)
-
-  pub uncut_inside : at + 4 + le16 s at ≤ length s
-  unfolding read_at
-  uncut_inside = let w = within s at (by-cut (whole_at s at) refl h.whole) in omega arith
-
-  pub length-there : at + 1 < length s
-  length-there = omega (arith, uncut_inside)
-
-  pub kind_there : at + 2 + 1 < length s
-  kind_there = omega (arith, uncut_inside)
-
-  pub uncut_is : (k l : ℕ) → k ≡ le16 s (at + 2) → l ≡ le16 s at → Whole k (at + 4) l (at + 4 + l) ≡ read_at s at
-  uncut_is k l ek el = let i = uncut_inside in is_whole s at k l ek el h.there (omega arith) (omega arith)
 
 -- ---- the records from an index on, by what was read there
 

@@ -1,5 +1,5 @@
 -- What the reader of records answers, by document 01's definitions: the record at an index, or Cut.
-use Rattle.std.specs.Prelude.{◌≡◌, List, ℕ, ◌+◌, ◌<◌, length}
+use Rattle.std.specs.Prelude.{List, ℕ, ◌+◌, length}
 use Rattle.rules.specs.Basics.{pick, le16}
 use Rattle.rules.specs.Query.{Record, whole_at, next_at, records_from}
 use Rattle.records.specs.declared.Read.{Read}
@@ -18,8 +18,3 @@ records_at s at = records_from (length s) s at
 unfoldable pub read_at : List ℕ → ℕ → Read
 unfolding whole_at next_at le16
 read_at s at = pick (whole_at s at) (Whole (le16 s (at + 2)) (at + 4) (le16 s at) (next_at s at)) Cut
-
--- at an index below the query's end the query is not cut
-pub record Uncut (s : List ℕ) (at : ℕ) : Type 0 where
-  pub there : at < length s
-  pub whole : read_at s at ≡ Cut → ⊥

@@ -2,7 +2,7 @@
 // The promise is an equation with document 01's definition, at every index inside the query.
 ghost use Rattle.std.specs.Prelude.{◌≡◌, ◌+◌, ◌-◌, ◌<◌, length, get_or};
 ghost use Rattle.rules.specs.Query.{is_define};
-ghost use Rattle.records.specs.Read.{read_at, Uncut};
+ghost use Rattle.records.specs.Read.{read_at};
 
 use numbers::{le16_at, wide8};
 
@@ -46,22 +46,6 @@ pub fn record_at(s: &[u8], at: usize) -> Read
         return Read::Cut;
     }
     let kind = le16_at(s, at + 2);
-    Read::Record {
-        kind,
-        start,
-        len,
-        next: start + len,
-    }
-}
-
-// The record at an index at which the query is not cut: nothing is tested.
-pub fn whole_at(s: &[u8], at: usize) -> Read
-    requires { Uncut s.now at }
-    ensures { result ≡ read_at s.now at }
-{
-    let len = le16_at(s, at);
-    let kind = le16_at(s, at + 2);
-    let start = at + 4;
     Read::Record {
         kind,
         start,

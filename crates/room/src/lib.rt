@@ -17,7 +17,7 @@ pub fn read_query(
     defines: &mut [usize; 26],
     measures: &mut [u8; 24],
 ) -> Query
-    requires { Space s.now room.old defines.old measures.old }
+    requires { Space s.now room.old measures.old }
     ensures { Asked s.now measures.old room.new defines.new measures.new result }
 {
     let first = query::first_answer(s);

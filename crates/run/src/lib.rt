@@ -1,13 +1,56 @@
 // The program between reading and writing, as one function on slices: `run` writes what document 01
-// has the program print of an input, for every input (specs/Run); the laws are in proofs/Running
-// and in crates/searched, proofs/Joined. The query is read three times: for its room, and twice
-// where it is searched.
+// has the program print of an input, for every input (specs/Run); the laws are in proofs/Joined and
+// proofs/Running. It lends the search 8,192 report numbers, 65,536 label bytes and room for 16,000
+// pairs, all on the stack. The query is read three times: for its room, by the search, and for the
+// number of its measures, by which the report's numbers are parted.
 ghost use Rattle.std.specs.Prelude.{◌≤◌, length};
-ghost use Rattle.rules.specs.Program.{printed_for};
+ghost use Rattle.rules.specs.Answers.{task_of, walked};
+ghost use Rattle.rules.specs.Program.{search_text, printed_for};
 ghost use Rattle.put.specs.Put.{Put};
-ghost use Rattle.run.specs.Run.{ProgramRan};
+ghost use Rattle.run.specs.Run.{MeasureCount, Found, ProgramRan};
 
-use searched::run_search;
+// How many measures a query with no answer 1 to 9 has.
+fn measures_of(query: &[u8]) -> usize
+    ensures { MeasureCount query.now result }
+{
+    let mut nodes = [0u16; 4096];
+    let mut defines = [0usize; 26];
+    let mut measures = [0u8; 24];
+    let q = room::read_query(query, &mut nodes, &mut defines, &mut measures);
+    q.measures
+}
+
+// The search of a query and rows that are not refused and have at most 16,000 pairs, and its report
+// as text.
+fn run_search(query: &[u8], rows: &[i32], out: &mut [u8]) -> usize
+    requires found { Found query.now rows.now }
+    requires in_bounds { 245820 ≤ length out.old }
+    ensures { Put out.old 0 (search_text (task_of query.now rows.now) (walked (task_of query.now rows.now) 8192 65536)) out.new result }
+{
+    let mut notes = [0u8; 2000];
+    let mut trail = [0u32; 16000];
+    let mut numbers = [0i64; 8192];
+    let mut labels = [0u8; 65536];
+    let end = search::search(
+        query,
+        rows,
+        &mut notes,
+        &mut trail,
+        &mut numbers,
+        &mut labels,
+    );
+    let measures = measures_of(query);
+    text::put_report(
+        out,
+        0,
+        end.answer != 0,
+        end.matches,
+        end.steps as u64,
+        measures,
+        &numbers,
+        &labels,
+    )
+}
 
 // A query and its row bytes, by the verdict on them. Where there is an answer, `room` says 0 places
 // and 0 rows, so the number of pairs can be computed first.

@@ -2,7 +2,7 @@
 -- so far.
 use mathlib.Core.Path.{◌≡◌, refl, sym, ap, ◌∙◌}
 use mathlib.Core.Bool.{Bool, true, false, ◌||◌}
-use mathlib.Core.List.{List, [], ◌∷◌}
+use mathlib.Core.List.{List, ◌∷◌}
 use Prim.Native.Nat.{ℕ, suc, ◌+◌, ◌-◌, ◌≤◌, ◌<◌}
 use native.Mathlib.Omega.{arith}
 use mir.Val.{Fits as Fits-in}
@@ -77,25 +77,6 @@ module _ (s : List ℕ) (d : Depth) (i : ℕ) (h : Deep s d i) where
 
     pub deep-sum : length s < 60000 → Fits-in w64 (r.closed + 8)
     deep-sum f = record { fits = omega (arith, few_more.1) }
-
--- so few bytes open no more than 8
-shallow : (o c : ℕ) (s : List ℕ) → o + length s ≤ c + 8 → deep o c s ≡ false
-unfolding deep
-shallow o c [] h = refl
-shallow o c (b ∷ s) h = by (eqb b 40) (eqb b 41) (λ o' c' g. shallow o' c' s g)
-  where
-    in_range : (o' c' : ℕ) → (o' + length s ≤ c' + 8 → deep o' c' s ≡ false) → o' + length s ≤ c' + 8 → pick (ltb (c' + 8) o') true (deep o' c' s) ≡ false
-    in_range o' c' f g = ap (λ (t : Bool). pick t true (deep o' c' s)) (le-ltb (c' + 8) o' (omega arith)) ∙ f g
-
-    by : (x y : Bool) → ((o' c' : ℕ) → o' + length s ≤ c' + 8 → deep o' c' s ≡ false)
-        → pick (ltb (pick y (c + 1) c + 8) (pick x (o + 1) o)) true (deep (pick x (o + 1) o) (pick y (c + 1) c) s) ≡ false
-    by true true f = in_range (o + 1) (c + 1) (f (o + 1) (c + 1)) (omega arith)
-    by true false f = in_range (o + 1) c (f (o + 1) c) (omega arith)
-    by false true f = in_range o (c + 1) (f o (c + 1)) (omega arith)
-    by false false f = in_range o c (f o c) (omega arith)
-
-pub deep-short : (s : List ℕ) → length s ≤ 8 → false ≡ deep 0 0 s
-deep-short s h = sym (shallow 0 0 s (omega arith))
 
 -- ---- a byte in a text
 

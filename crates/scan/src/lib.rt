@@ -33,18 +33,11 @@ fn behind(b: u8, d: Depth) -> Depth
     d
 }
 
-// So many parentheses may be open.
-const MOST_OPEN: usize = 8;
-
-// Whether parentheses opened less closed pass 8 at some byte. In a text of up to 8 bytes they do not,
-// so that its bytes need not be looked at.
+// Whether parentheses opened less closed pass 8 at some byte.
 pub fn too_deep(text: &[u8]) -> bool
     requires { length text.now < 60000 }
     ensures { result ≡ deep 0 0 text.now }
 {
-    if text.len() <= MOST_OPEN {
-        return false;
-    }
     let mut d = Depth {
         opened: 0,
         closed: 0,
@@ -52,7 +45,7 @@ pub fn too_deep(text: &[u8]) -> bool
     let mut i = 0usize;
     while i < text.len() {
         d = behind(text[i], d);
-        if d.closed + MOST_OPEN < d.opened {
+        if d.closed + 8 < d.opened {
             return true;
         }
         i = i + 1;

@@ -1,1 +1,1 @@
-pub mod Unlimited
+pub mod Answering

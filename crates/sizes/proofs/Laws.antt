@@ -21,9 +21,9 @@ module _ (pairs notes trail : ℕ) where
   unfolding short_for bytes_for
   notes_short h = rw (lt-ltb notes ((pairs + 7) / 8) h)
 
-  pub trail-short : (pairs + 7) / 8 ≤ notes → trail < pairs → 12 ≡ short_for pairs notes trail
+  pub trail_short : (pairs + 7) / 8 ≤ notes → trail < pairs → 12 ≡ short_for pairs notes trail
   unfolding short_for bytes_for
-  trail-short g h = rw (le-ltb notes ((pairs + 7) / 8) g, lt-ltb trail pairs h)
+  trail_short g h = rw (le-ltb notes ((pairs + 7) / 8) g, lt-ltb trail pairs h)
 
   pub both_long : (pairs + 7) / 8 ≤ notes → pairs ≤ trail → 0 ≡ short_for pairs notes trail
   unfolding short_for bytes_for

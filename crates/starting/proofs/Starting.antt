@@ -1,5 +1,5 @@
 -- What the sweep asks, from a query that is prepared: the table stands for the query's search.
-use mathlib.Core.Path.{◌≡◌, refl, ap, ap₂, sym, ◌∙◌}
+use mathlib.Core.Path.{◌≡◌, ap, ap₂, sym, ◌∙◌}
 use mathlib.Core.Bool.{Bool}
 use mathlib.Core.List.{List}
 use mathlib.Core.Option.{some}
@@ -56,7 +56,7 @@ same-leads P (p_fork ks) l = l
 same-leads P p_end l = l
 
 -- the task of a prepared query, by its numbers
-abbrev pub task_by : Prepared → Terms → Task → Task
+abbrev task_by : Prepared → Terms → Task → Task
 task_by p terms t =
     record {
       size = record { rows = terms.rows; columns = p.columns; places = p.places; tests = tests_at p.places; allowance = terms.allowance; more = terms.more };
@@ -64,16 +64,14 @@ task_by p terms t =
       measures = measures_at p.places;
       count = p.count;
       skip = t.skip;
-      first = 0;
-      stride = 1;
     }
 
-abbrev mk : ℕ → ℕ → ℕ → ℕ → ℕ → Bool → ℕ → ℕ → ℕ → Skip → ℕ → ℕ → Task
-mk rows columns places tests allowance more pairs measures count skip first stride = record { size = record { rows = rows; columns = columns; places = places; tests = tests; allowance = allowance; more = more }; pairs = pairs; measures = measures; count = count; skip = skip; first = first; stride = stride }
+abbrev mk : ℕ → ℕ → ℕ → ℕ → ℕ → Bool → ℕ → ℕ → ℕ → Skip → Task
+mk rows columns places tests allowance more pairs measures count skip = record { size = record { rows = rows; columns = columns; places = places; tests = tests; allowance = allowance; more = more }; pairs = pairs; measures = measures; count = count; skip = skip }
 
-pub task-is : (p : Prepared) (terms : Terms) (t : Task) → TaskFor p terms t → t ≡ task_by p terms t
+task-is : (p : Prepared) (terms : Terms) (t : Task) → TaskFor p terms t → t ≡ task_by p terms t
 task-is p terms t f =
-    let e : mk t.size.rows t.size.columns t.size.places t.size.tests t.size.allowance t.size.more t.pairs t.measures t.count t.skip t.first t.stride ≡ task_by p terms t = rw (f.rows, f.columns, f.places, f.tests, f.allowance, f.more, f.pairs_are, f.measures, f.count, f.first_is, f.stride_is) in e
+    let e : mk t.size.rows t.size.columns t.size.places t.size.tests t.size.allowance t.size.more t.pairs t.measures t.count t.skip ≡ task_by p terms t = rw (f.rows, f.columns, f.places, f.tests, f.allowance, f.more, f.pairs_are, f.measures, f.count) in e
 
 module _ (q T : List ℕ) (p : Prepared) (a : Ready q T p) (terms : Terms) (rows : List ℤ) (notes trail : List ℕ) (f : Fed p terms rows notes trail) where
   abbrev n : ℕ
@@ -177,7 +175,7 @@ module _ (q T : List ℕ) (p : Prepared) (a : Ready q T p) (terms : Terms) (rows
     measures_by : Measures T (task_by p terms t) notes trail
     measures_by =
         let e : p.places * (terms.largest + 1) ≡ pairs p.places terms.largest = ap (λ (k : ℕ). p.places * k) (add-one terms.largest) in
-        record { plain = (refl, refl); more = rw e more-pairs; small = rw e all_pairs; noted = rw e f.noted; trailed = rw e f.trailed }
+        record { more = rw e more-pairs; small = rw e all_pairs; noted = rw e f.noted; trailed = rw e f.trailed }
 
     pub may_measure : Measures T t notes trail
     may_measure = rw (task-is p terms t h) measures_by

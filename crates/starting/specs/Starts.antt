@@ -16,8 +16,7 @@ unfolding accepted report_of end_answer walk_within task_of
 ended a q rows before =
     accepted (report_of (end_answer (walk_within (some a) q rows before).end) (task_of q rows) before (walk_within (some a) q rows before)) (walk_within (some a) q rows before).state before
 
--- what a prepared query asks on these terms; it is a search: its attempts begin at the first place,
--- and each row is a start
+-- what a prepared query asks on these terms
 pub record TaskFor (p : Prepared) (terms : Terms) (t : Task) : Type 0 where
   pub rows : t.size.rows ≡ terms.rows
   pub allowance : t.size.allowance ≡ terms.allowance
@@ -29,8 +28,6 @@ pub record TaskFor (p : Prepared) (terms : Terms) (t : Task) : Type 0 where
   pub measures : t.measures ≡ measures_at p.places
   pub count : t.count ≡ p.count
   pub skip : skip_in t.skip ≡ skip_of p.skip p.target
-  pub first_is : t.first ≡ 0
-  pub stride_is : t.stride ≡ 1
 
 -- whole rows, no more than the largest number, which is at most 4,096, and working room for its
 -- pairs

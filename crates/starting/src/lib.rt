@@ -1,7 +1,7 @@
 // The search over a prepared query and rows that are whole, with working room that is long enough:
 // all starts are tried, and the result says how it ended. Promise: result and all four buffers are
 // those of the definition's search of the query that the table stands for (specs/Starts).
-// Weakness: it tests nothing; who calls it has tested the rows and the room (crates/running).
+// Weakness: it tests nothing; who calls it has tested the rows and the room (crates/search).
 ghost use Rattle.std.specs.Prelude.{◌≡◌, List, ℕ, ◌≤◌};
 ghost use Rattle.outcome.specs.Results.{lent, memory};
 ghost use Rattle.prepared.specs.Ready.{Ready};
@@ -47,8 +47,6 @@ pub fn task_of(p: Prepared, terms: Terms) -> Task
         measures: measures_at(places),
         count: p.count,
         skip,
-        first: 0,
-        stride: 1,
     }
 }
 

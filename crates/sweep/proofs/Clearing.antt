@@ -3,7 +3,6 @@
 use mathlib.Core.Path.{◌≡◌, refl, sym, ap, ◌∙◌}
 use mathlib.Core.List.{List, [], ◌∷◌, ◌++◌}
 use mathlib.Core.Bool.{Bool, false}
-use mathlib.Core.Logic.{inl}
 use Prim.Native.Nat.{ℕ, zero, suc, ◌+◌, ◌-◌, ◌*◌, ◌/◌, ◌%◌, ◌≤◌, ◌<◌}
 use native.Mathlib.Numerals.{add-one}
 use native.Mathlib.Decide.{dec_lt}
@@ -11,22 +10,19 @@ use native.Mathlib.Omega.{arith}
 use lib.IntN.{ℤ}
 use lib.ListN.{length, get_or, set, take, drop, replicate, length-append, length-replicate, get_or-replicate, get_or-eq_default}
 use lib.Seq.{ext_get_or, set_split}
-use Rattle.rules.specs.Answers.{halt_answer, end_answer}
 use Rattle.rules.specs.Basics.{wrote}
 use Rattle.rules.specs.Report.{bytes_for, bit_of, bit_at, zeros}
-use Rattle.rules.specs.Search.{Swept}
-use Rattle.rules.specs.Walk.{Kept}
 use Rattle.laws.proofs.Appended.{wrote_none, wrote_on, length-wrote_at}
 use Rattle.laws.proofs.Lists.{front_wrote, beyond-wrote}
 use Rattle.laws.proofs.Notes.{bits_of-at, bits_from-length}
 use Rattle.rules.specs.Working.{bits_of}
 use Rattle.laws.proofs.NotesWritten.{wrote-over, notes_written}
-use Rattle.pairs.specs.Layout.{N, most_pairs}
+use Rattle.pairs.specs.Layout.{P, N, most_pairs}
 use Rattle.matches.specs.declared.Sweep.{Sweep}
 use Rattle.matches.specs.declared.Task.{Task}
 use Rattle.matches.specs.Found.{Searches}
 use Rattle.matches.specs.Asked.{Asked, search_of, asked_of}
-use Rattle.sweep.specs.Searched.{Starts, Sound, SoFar, HeldAt, Came, Searched, Measures, WentOn, gapped, Answered}
+use Rattle.sweep.specs.Searched.{Sound, Came, Searched, Measures, WentOn, gapped, Answered}
 use Rattle.sweep.proofs.Sofar.{so_first}
 
 -- ---- zeros
@@ -76,29 +72,6 @@ module _ (s₀ : List ℕ) (count : ℕ) where
 
 -- ---- the search from a start on
 
--- a search that goes on is a loop over its starts
-pub sound_starts : (W : List ℕ) (rows : List ℤ) (task : Task) (notes trail labs : List ℕ) (i : Sweep) → Sound W rows task notes trail labs i × Measures W task notes trail → Starts W rows task notes trail labs i
-sound_starts W rows task notes trail labs i a =
-    let h = a.0 in
-    let plain = a.1.plain in
-    let some = h.searches.legal.sized.some in
-    record {
-      attempts = record {
-        letters = h.searches.letters;
-        measured = h.searches.measured;
-        legal = h.searches.legal;
-        noted = h.searches.noted;
-        trailed = inl h.searches.trailed;
-        place = let f = plain.0 in omega arith;
-        least = let f = plain.1 in omega arith;
-        most = let f = plain.1 in omega arith;
-        begins = λ _. plain.0;
-      };
-      few = h.few;
-      labels = h.labels;
-      steps = h.steps;
-    }
-
 drop-same : (k : ℕ) (a b : List ℕ) → length a ≡ length b → ((i : ℕ) → k ≤ i → get_or a i 0 ≡ get_or b i 0) → drop k a ≡ drop k b
 drop-same zero a b e f = ext_get_or 0 a b e (λ i l. f i (omega arith))
 drop-same (suc k) [] [] e f = refl
@@ -123,12 +96,10 @@ module _ (W : List ℕ) (rows : List ℤ) (task : Task) (n₁ t₁ : List ℕ) (
           trail_beyond = drop-same task.pairs trail t₁ d.beyond.trail_long (λ k h. d.beyond.trail_beyond k (omega arith));
         };
         came = d.came;
-        held = d.held;
       }
 
-  pub went_on : (r.end ≡ 23 → ⊥) → (trail' : List ℕ) → trail' ≡ wrote trail 0 (zeros task.pairs) → WentOn W rows task n₁ t₁ numbers₁ labs₁ i notes trail' numbers labs r
-  unfolding end_answer halt_answer
-  went_on over trail' et =
+  pub went_on : (trail' : List ℕ) → trail' ≡ wrote trail 0 (zeros task.pairs) → WentOn W rows task n₁ t₁ numbers₁ labs₁ i notes trail' numbers labs r
+  went_on trail' et =
       let e : trail' ≡ wrote t₁ 0 (zeros task.pairs) = et ∙ wrote-over 0 trail t₁ (zeros task.pairs) d.beyond.trail_long (rw (zeros-long task.pairs) m.trailed) beyond in
       let k : length trail' ≡ length t₁ = rw e (length-wrote_at t₁ 0 (zeros task.pairs) (let a = zeros-long task.pairs in let b = m.trailed in omega arith)) in
       record {
@@ -140,14 +111,10 @@ module _ (W : List ℕ) (rows : List ℤ) (task : Task) (n₁ t₁ : List ℕ) (
           trail_beyond = drop-same task.pairs trail' t₁ k (λ j h. ap (λ (s : List ℕ). get_or s j 0) e ∙ beyond-wrote t₁ (zeros task.pairs) j 0 (rw (zeros-long task.pairs) h));
         };
         came = d.came;
-        held = waits-not;
       }
     where
       beyond : (k : ℕ) → length (zeros task.pairs) ≤ k → get_or trail k 0 ≡ get_or t₁ k 0
       beyond k h = let l = m.more in let z = zeros-long task.pairs in d.beyond.trail_beyond k (omega arith)
-
-      waits-not : (num₁ : List ℤ) (lab₁ : List ℕ) (goal : Swept Kept) → SoFar W rows task num₁ lab₁ goal n₁ numbers₁ labs₁ i → HeldAt task.size.places goal.end trail'
-      waits-not num₁ lab₁ goal s j p e = absurd (over ((d.came num₁ lab₁ goal s).reported.end ∙ ap end_answer e))
 
 -- ---- the search
 
@@ -230,7 +197,7 @@ module _ (W : List ℕ) (rows : List ℤ) (task : Task) (n₀ t₀ : List ℕ) (
         }
 
     pub cleared-measures : Measures W task n₁ t₀
-    cleared-measures = record { plain = m.plain; more = m.more; small = m.small; noted = rw long₁ m.noted; trailed = m.trailed }
+    cleared-measures = record { more = m.more; small = m.small; noted = rw long₁ m.noted; trailed = m.trailed }
 
     pub search_done : (num₀ : List ℤ) (lab₀ notes trail : List ℕ) (numbers : List ℤ) (labs : List ℕ) (r : Sweep)
         → ((k : ℕ) → get_or notes k 0 < 256) → ((k : ℕ) → get_or n₀ k 0 < 256)
@@ -243,14 +210,10 @@ module _ (W : List ℕ) (rows : List ℤ) (task : Task) (n₀ t₀ : List ℕ) (
           notes_is = notes_written n₀ notes G (d.notes_long ∙ long₁) (rw G-long room₀) bs bs₀ bits
               (λ x l. d.notes_beyond x (let g = G-long in let b = m.more in omega arith) ∙ same_bit x (let g = G-long in omega arith));
           trailed = d.trailed;
-          held = d.held num₀ lab₀ (search_of A (length num₀) (length lab₀)) so_begun;
         }
       where
-        so_begun : SoFar W rows task num₀ lab₀ (search_of A (length num₀) (length lab₀)) n₁ num₀ lab₀ (record { end = 0; row = 0; matches = 0; labels = 0; steps = 0; opened = 0 })
-        so_begun = so_first W rows task m.plain n₁ num₀ lab₀ none-failed
-
         came : Came A num₀ lab₀ (search_of A (length num₀) (length lab₀)) notes numbers labs r
-        came = d.came num₀ lab₀ (search_of A (length num₀) (length lab₀)) so_begun
+        came = d.came num₀ lab₀ (search_of A (length num₀) (length lab₀)) (so_first W rows task n₁ num₀ lab₀ none-failed)
 
         F : List Bool
         F = (search_of A (length num₀) (length lab₀)).state.failed

@@ -2,31 +2,31 @@
 use mathlib.Core.Path.{◌≡◌, refl, sym, ap, ◌∙◌, subst}
 use mathlib.Core.List.{List, [], ◌∷◌, ◌++◌, append_assoc, append-nil}
 use mathlib.Core.Bool.{Bool, true, false}
+use mathlib.Core.Logic.{◌⊎◌, inl, inr, ⊎_elim}
 use mathlib.Core.Option.{Option, none, some}
-use Prim.Native.Nat.{ℕ, zero, suc, ◌+◌, ◌*◌, ◌≤◌, ◌<◌}
-use native.Mathlib.Nat.{suc-mul}
+use Prim.Native.Nat.{ℕ, zero, suc, ◌+◌, ◌-◌, ◌*◌, ◌≤◌, ◌<◌}
+use native.Mathlib.Nat.{suc-mul, mul-le-mul, mul-le-mul_right}
 use native.Mathlib.Omega.{arith}
 use lib.IntN.{ℤ}
-use lib.ListN.{length, replicate, length-append}
+use lib.ListN.{length, get_or, replicate, length-append}
 use borrow.Author.Tests.{lt-ltb, le-ltb}
 use Rattle.rules.specs.Answers.{halt_answer, end_answer}
 use Rattle.rules.specs.Basics.{wrote}
-use Rattle.rules.specs.Report.{match_numbers, numbers_of, labels_of, lent_room, fits}
+use Rattle.rules.specs.Report.{bit_at, match_numbers, numbers_of, labels_of, lent_room, fits}
 use Rattle.rules.specs.Search as R
 use Rattle.rules.specs.Search.{Match, End, Swept, Plan, Attempted, hit, miss, halts, halting_of, sweep, on_answer, with_match, walk_at, labels, end_of, plan_of, walk_search, Standing, stand_at, on_match}
 use Rattle.rules.specs.Walk.{Halt, out_of_steps, out_of_rows, pairs, first_at, pair_ways, Kept, as_kept}
 use Rattle.laws.proofs.Appended.{wrote_none, wrote_on, length-wrote_at, numbers_on, labels-on, fits-room}
-use Rattle.laws.proofs.Limits.{numbers_long}
+use Rattle.laws.proofs.Limits.{match-long, numbers_long}
 use Rattle.rules.specs.Working.{bits_of}
 use Rattle.laws.proofs.Starts.{next-on}
 use Rattle.pairs.specs.Layout.{P, N, graph_of, halts_in}
-use Rattle.pairs.specs.Step.{Held}
 use Rattle.pairs.proofs.Ways.{in_length}
 use Rattle.matches.specs.declared.Sweep.{Sweep}
 use Rattle.matches.specs.declared.Task.{Task}
 use Rattle.matches.specs.Asked.{Asked, pl, width, search_of, asked_of}
-use Rattle.matches.specs.Found.{swept, swept_at, swept_on, next_at, Quiet, Written, ToldBy, Shown, Told, first_pair, attempt_at, Visited}
-use Rattle.sweep.specs.Searched.{pre, swp, Plain, SoFar, WaitsAt, HeldAt, Came}
+use Rattle.matches.specs.Found.{swept, open_by, swept_at, swept_on, next_at, Quiet, Written, ToldBy, Told, Visits, attempt_at, Visited, Searches}
+use Rattle.sweep.specs.Searched.{Sound, Beyond, pre, swp, SoFar, WaitsAt, Came, Searched}
 
 abbrev pub M : Asked → ℕ
 M A = N A.layout A.n
@@ -104,15 +104,6 @@ module _ (W : List ℕ) (rows : List ℤ) (task : Task) (num₁ : List ℤ) (lab
     unfolding plan_of
     off ge = sweep-off walks plan h.fuel i.row i.matches i.labels (as_kept F i.steps) ge
 
-    -- and so no pair is open
-    pub so_none_open : A.n ≤ i.row → (trail : List ℕ) → HeldAt (P A.layout) goal.end trail
-    unfolding Held
-    so_none_open ge trail = rw (ends (R.no_start A.more i.row) F i.steps (off ge)) (none_open A.more)
-      where
-        none_open : (b : Bool) → HeldAt (P A.layout) (R.no_start b i.row) trail
-        none_open true j p d k l = let q : [] ≡ p = cc in let e : 0 ≡ length p = ap length q in absurd (omega arith)
-        none_open false j p d k l = let z : ◌≡◌ {A = ℕ} 0 1 = cc in absurd (omega arith)
-
     pub so_all : A.n ≤ i.row → A.more ≡ false → Came A num₁ lab₁ goal notes numbers labs i
     unfolding end_answer
     so_all ge em =
@@ -134,7 +125,7 @@ module _ (W : List ℕ) (rows : List ℤ) (task : Task) (num₁ : List ℤ) (lab
 
       att-same : walks i.row (as_kept F i.steps) ≡ att
       unfolding graph_of
-      att-same = let z : first_pair A i.row ≡ i.row * P A.layout = (let p = h.plain.0 in omega arith) in rw (in_length A.layout.words (P A.layout), z)
+      att-same = rw (in_length A.layout.words (P A.layout))
 
       -- the definition's next step
       rest-is : (k : ℕ) → h.fuel ≡ suc k → sw h.fuel (stand_at i.row i.matches i.labels) (as_kept F i.steps) ≡ on_answer plan (sw k) (stand_at i.row i.matches i.labels) att.0 att.1
@@ -149,22 +140,18 @@ module _ (W : List ℕ) (rows : List ℤ) (task : Task) (num₁ : List ℤ) (lab
         record Goal (q : Sweep) : Type 0 where
           on : q.end ≡ 0 → SoFar W rows task num₁ lab₁ goal notes' numbers' labs' q
           over : (q.end ≡ 0 → ⊥) → Came A num₁ lab₁ goal notes' numbers' labs' q
-          held : (q.end ≡ 0 → ⊥) → HeldAt (P A.layout) goal.end trail'
 
         module _ (k : ℕ) (ek : h.fuel ≡ suc k) (F' : List Bool) (s' : ℕ) (eF : bits_of notes' (M A) ≡ F') where
           -- no match
-          quiet_on : att ≡ (miss, as_kept F' s') → Quiet numbers numbers' labs labs' r (swept 0 (i.row + A.stride) i.matches i.labels s') → Goal r
+          quiet_on : att ≡ (miss, as_kept F' s') → Quiet numbers numbers' labs labs' r (swept 0 (i.row + 1) i.matches i.labels s') → Goal r
           quiet_on ea q =
               let e : sw h.fuel (stand_at i.row i.matches i.labels) (as_kept F i.steps) ≡ sw k (stand_at (suc i.row) i.matches i.labels) (as_kept F' s') =
               rest-is k ek ∙ ap (λ (a : Attempted × Kept). on_answer plan (sw k) (stand_at i.row i.matches i.labels) a.0 a.1) ea in
-              let u = h.plain.1 in
-              let o : i.row + A.stride ≡ suc i.row = omega arith in
+              let o : i.row + 1 ≡ suc i.row = omega arith in
               let en = h.enough in
               subst Goal (sym q.sweep_is) (record {
                 over = λ f. absurd (f refl);
-                held = λ f. absurd (f refl);
                 on = λ _. record {
-                  plain = h.plain;
                   fuel = k;
                   done = h.done;
                   enough = omega arith;
@@ -181,21 +168,20 @@ module _ (W : List ℕ) (rows : List ℤ) (task : Task) (num₁ : List ℤ) (lab
               })
 
           -- nothing is written, and the search is over
-          over_on : (e : End Match) (to : Sweep) → (to.end ≡ 0 → ⊥) → to.end ≡ end_answer e → to.matches ≡ i.matches → to.labels ≡ i.labels → to.steps ≡ s' → WaitsAt e to → HeldAt (P A.layout) e trail'
+          over_on : (e : End Match) (to : Sweep) → (to.end ≡ 0 → ⊥) → to.end ≡ end_answer e → to.matches ≡ i.matches → to.labels ≡ i.labels → to.steps ≡ s' → WaitsAt e to
               → sw h.fuel (stand_at i.row i.matches i.labels) (as_kept F i.steps) ≡ record { matches = []; end = e; state = as_kept F' s' }
               → Quiet numbers numbers' labs labs' r to → Goal r
-          over_on e to not-Going ee em el es ew eh d q =
+          over_on e to not-Going ee em el es ew d q =
               subst Goal (sym q.sweep_is) (record {
                 on = λ z. absurd (not-Going z);
                 over = λ _. over_came e notes' F' s' eF numbers' labs' to d ee em el es ew q.numbers_is q.labels_is;
-                held = λ _. rw (ends e F' s' d) eh;
               })
 
           -- the attempt has halted
           halted-on : (w : Halt) (p : List ℕ) → att ≡ (halts w p, as_kept F' s') → Quiet numbers numbers' labs labs' r (swept_at w p i.row i.matches i.labels s') → Goal r
           unfolding end_answer halt_answer
           halted-on w p ea q =
-              over_on (R.unfinished w i.row p) (swept_at w p i.row i.matches i.labels s') (some w) refl refl refl refl (waits w) (opens w ea)
+              over_on (R.unfinished w i.row p) (swept_at w p i.row i.matches i.labels s') (some w) refl refl refl refl (waits w)
               (rest-is k ek ∙ ap (λ (a : Attempted × Kept). on_answer plan (sw k) (stand_at i.row i.matches i.labels) a.0 a.1) ea) q
             where
               some : (w : Halt) → halt_answer w ≡ 0 → ⊥
@@ -205,10 +191,6 @@ module _ (W : List ℕ) (rows : List ℤ) (task : Task) (num₁ : List ℤ) (lab
               waits : (w : Halt) → WaitsAt (R.unfinished w i.row p) (swept_at w p i.row i.matches i.labels s')
               waits out_of_steps j u d = let z : ◌≡◌ {A = ℕ} 0 1 = cc in absurd (omega arith)
               waits out_of_rows j u d = let a : i.row ≡ j = cc in let b : p ≡ u = cc in (a, ap length b)
-
-              opens : (w : Halt) → att ≡ (halts w p, as_kept F' s') → HeldAt (P A.layout) (R.unfinished w i.row p) trail'
-              opens out_of_steps e j u d = let z : ◌≡◌ {A = ℕ} 0 1 = cc in absurd (omega arith)
-              opens out_of_rows e j u d = let b : p ≡ u = cc in v.held u (ap (λ (a : Attempted × Kept). a.0) e ∙ ap (halts out_of_rows) b)
 
           module _ (p : List ℕ) (ea : att ≡ (hit p, as_kept F' s')) where
             abbrev t : Match
@@ -225,27 +207,15 @@ module _ (W : List ℕ) (rows : List ℤ) (task : Task) (num₁ : List ℤ) (lab
                 ∙ ap (λ (a : Attempted × Kept). on_answer plan (sw k) (stand_at i.row i.matches i.labels) a.0 a.1) ea
                 ∙ ap (λ (c : Bool). on_match c (next_at A i.row p) t (as_kept F' s') on) eb
 
-            abbrev Never : End Match → Type 0
-            Never e = (j : ℕ) (u : List ℕ) → e ≡ R.unfinished out_of_rows j u → ⊥
-
-            no_wait : (e : End Match) (o : Sweep) → Never e → WaitsAt e o
+            no_wait : (e : End Match) (o : Sweep) → ((j : ℕ) (u : List ℕ) → e ≡ R.unfinished out_of_rows j u → ⊥) → WaitsAt e o
             no_wait e o f j u d = absurd (f j u d)
-
-            no-open : (e : End Match) → Never e → HeldAt (P A.layout) e trail'
-            no-open e f j u d = absurd (f j u d)
-
-            not_full : Never (R.full t)
-            not_full j u d = let z : ◌≡◌ {A = ℕ} 0 1 = cc in omega arith
-
-            not_stuck : Never R.stuck
-            not_stuck j u d = let z : ◌≡◌ {A = ℕ} 0 1 = cc in omega arith
 
             -- a match that does not fit
             full-on : fit i.matches i.labels (labels (pl A) p) ≡ false → Quiet numbers numbers' labs labs' r (swept 13 A.n i.matches i.labels s') → Goal r
             unfolding end_answer
             full-on eb q =
                 over_on (R.full t) (swept 13 A.n i.matches i.labels s') (λ (e : ◌≡◌ {A = ℕ} 13 0). omega arith) refl refl refl refl
-                (no_wait (R.full t) (swept 13 A.n i.matches i.labels s') not_full) (no-open (R.full t) not_full) (rest-fit false eb) q
+                (no_wait (R.full t) (swept 13 A.n i.matches i.labels s') (λ j u (d : R.full t ≡ R.unfinished out_of_rows j u). let z : ◌≡◌ {A = ℕ} 0 1 = cc in omega arith)) (rest-fit false eb) q
 
             -- a match that fits is written
             module _ (eb : fit i.matches i.labels (labels (pl A) p) ≡ true) (to : Sweep) (q : Written A p i numbers numbers' labs labs' r to) where
@@ -292,9 +262,7 @@ module _ (W : List ℕ) (rows : List ℤ) (task : Task) (num₁ : List ℤ) (lab
                 let e : sw h.fuel (stand_at i.row i.matches i.labels) (as_kept F i.steps) ≡ with_match t (on nx) = rest-fit true eb ∙ ap (λ (y : Option ℕ). on_match true y t (as_kept F' s') on) ex in
                 subst Goal (sym q.sweep_is) (record {
                   over = λ f. absurd (f refl);
-                  held = λ f. absurd (f refl);
                   on = λ _. record {
-                    plain = h.plain;
                     fuel = k;
                     done = h.done ++ (t ∷ []);
                     enough = omega arith;
@@ -320,13 +288,12 @@ module _ (W : List ℕ) (rows : List ℤ) (task : Task) (num₁ : List ℤ) (lab
                       matches = m-on eb _ q;
                       labels = l_on eb _ q;
                       steps = refl;
-                      waits = no_wait R.stuck (swept 15 A.n (i.matches + 1) (i.labels + length (labels (pl A) p)) s') not_stuck;
+                      waits = no_wait R.stuck (swept 15 A.n (i.matches + 1) (i.labels + length (labels (pl A) p)) s') (λ j u (d : R.stuck ≡ R.unfinished out_of_rows j u). let z : ◌≡◌ {A = ℕ} 0 1 = cc in omega arith);
                       numbers_is = numbers-at eb _ q;
                       labels_is = labels_at eb _ q;
                     };
                     kept = eF;
                   });
-                  held = λ _. rw g (no-open R.stuck not_stuck);
                 })
 
             by-fit : (b : Bool) → fit i.matches i.labels (labels (pl A) p) ≡ b → ToldBy b A p i s' numbers numbers' labs labs' r → Goal r
@@ -336,10 +303,7 @@ module _ (W : List ℕ) (rows : List ℤ) (task : Task) (num₁ : List ℤ) (lab
           by-att : (o : Attempted) → att ≡ (o, as_kept F' s') → Told A o i s' numbers numbers' labs labs' r → Goal r
           by-att miss ea q = quiet_on ea q
           by-att (halts w p) ea q = halted-on w p ea q
-          by-att (hit p) ea q =
-              let l = h.plain.1 in
-              let z : Shown A p i s' numbers numbers' labs labs' r = rw (le-ltb 1 A.stride (omega arith)) at q in
-              by-fit p ea (fit i.matches i.labels (labels (pl A) p)) refl (rw (so_numbers, so_labels) at z)
+          by-att (hit p) ea q = by-fit p ea (fit i.matches i.labels (labels (pl A) p)) refl (rw (so_numbers, so_labels) at q)
 
         by-fuel : (f : ℕ) → h.fuel ≡ f → Goal r
         by-fuel zero e = absurd (let en = h.enough in omega arith)
@@ -351,18 +315,14 @@ module _ (W : List ℕ) (rows : List ℤ) (task : Task) (num₁ : List ℤ) (lab
         pub so_over : (r.end ≡ 0 → ⊥) → Came A num₁ lab₁ goal notes' numbers' labs' r
         so_over e = (by-fuel h.fuel refl).over e
 
-        pub so_held : (r.end ≡ 0 → ⊥) → HeldAt (P A.layout) goal.end trail'
-        so_held e = (by-fuel h.fuel refl).held e
-
 -- ---- the search from its beginning
 
-pub so_first : (W : List ℕ) (rows : List ℤ) (task : Task) → Plain task → (notes : List ℕ) (numbers : List ℤ) (labs : List ℕ)
+pub so_first : (W : List ℕ) (rows : List ℤ) (task : Task) (notes : List ℕ) (numbers : List ℤ) (labs : List ℕ)
     → bits_of notes (M (asked_of W rows task)) ≡ replicate (M (asked_of W rows task)) false
     → SoFar W rows task numbers labs (search_of (asked_of W rows task) (length numbers) (length labs)) notes numbers labs (record { end = 0; row = 0; matches = 0; labels = 0; steps = 0; opened = 0 })
 unfolding search_of walk_search halting_of halts_in numbers_of labels_of
-so_first W rows task plain-task notes numbers labs none-failed =
+so_first W rows task notes numbers labs none-failed =
     record {
-      plain = plain-task;
       fuel = task.size.rows;
       done = [];
       enough = omega arith;

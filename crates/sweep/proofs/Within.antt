@@ -1,48 +1,46 @@
 -- The loop over the starts: its numbers stay within their bounds, whatever the buffers hold.
 use mathlib.Core.Path.{◌≡◌, refl, sym, ap, ◌∙◌, subst}
-use mathlib.Core.List.{List}
+use mathlib.Core.List.{List, [], ◌∷◌, ◌++◌, append_assoc, append-nil}
 use mathlib.Core.Bool.{Bool, true, false}
 use mathlib.Core.Logic.{◌⊎◌, inl, inr, ⊎_elim}
 use mathlib.Core.Option.{Option, none, some}
-use Prim.Native.Nat.{ℕ, suc, ◌+◌, ◌-◌, ◌*◌, ◌≤◌, ◌<◌}
+use Prim.Native.Nat.{ℕ, zero, suc, ◌+◌, ◌-◌, ◌*◌, ◌≤◌, ◌<◌}
 use native.Mathlib.Nat.{suc-mul, mul-le-mul, mul-le-mul_right}
 use native.Mathlib.Omega.{arith}
 use lib.IntN.{ℤ}
-use lib.ListN.{length}
-use lib.Dec.{ltb, eqb}
-use borrow.Author.Tests.{eqb-true}
-use Rattle.rules.specs.Answers.{halt_answer}
-use Rattle.rules.specs.Report.{lent_room, fits}
+use lib.ListN.{length, get_or, replicate, length-append}
+use borrow.Author.Tests.{lt-ltb, le-ltb}
+use Rattle.rules.specs.Answers.{halt_answer, end_answer}
+use Rattle.rules.specs.Basics.{wrote}
+use Rattle.rules.specs.Report.{bit_at, match_numbers, numbers_of, labels_of, lent_room, fits}
 use Rattle.rules.specs.Search as R
-use Rattle.rules.specs.Search.{Attempted, hit, miss, halts, labels, end_of}
-use Rattle.rules.specs.Walk.{Halt, out_of_steps, out_of_rows, pairs, Kept}
-use Rattle.laws.proofs.Appended.{length-wrote_at, fits-room}
+use Rattle.rules.specs.Search.{Match, End, Swept, Plan, Attempted, hit, miss, halts, halting_of, sweep, on_answer, walk_at, labels, end_of, plan_of, walk_search}
+use Rattle.rules.specs.Walk.{Halt, out_of_steps, out_of_rows, pairs, first_at, pair_ways, Kept}
+use Rattle.laws.proofs.Appended.{wrote_none, wrote_on, length-wrote_at, numbers_on, labels-on, fits-room}
 use Rattle.laws.proofs.Limits.{match-long, numbers_long}
 use Rattle.rules.specs.Working.{bits_of}
 use Rattle.laws.proofs.Starts.{next-on}
-use Rattle.pairs.specs.Layout.{N, most_pairs}
+use Rattle.pairs.specs.Layout.{P, N, graph_of, halts_in, most_pairs}
+use Rattle.pairs.proofs.Ways.{in_length}
 use Rattle.matches.specs.declared.Sweep.{Sweep}
 use Rattle.matches.specs.declared.Task.{Task}
-use Rattle.matches.specs.Asked.{Asked, pl, width, asked_of}
-use Rattle.matches.specs.Found.{swept, swept_at, swept_on, next_at, Quiet, Written, ToldBy, ToldIf, Told, Attempts, Visits, attempt_at, Visited}
-use Rattle.sweep.specs.Searched.{Starts, Beyond}
-use Rattle.sweep.proofs.Visiting.{visited_steps}
-use Rattle.pairs.specs.Step.{before_by, before}
-use Rattle.pairs.specs.State.{Roomy, Good}
+use Rattle.matches.specs.Asked.{Asked, pl, width, search_of, asked_of}
+use Rattle.matches.specs.Found.{swept, open_by, swept_at, swept_on, next_at, Quiet, Written, ToldBy, Told, Visits, attempt_at, Visited, Searches}
+use Rattle.sweep.specs.Searched.{Sound, Beyond, pre, swp, SoFar, WaitsAt, Came, Searched}
 
 abbrev M : Asked → ℕ
 M A = N A.layout A.n
 
 -- ---- the numbers stay within their bounds, whatever the buffers hold
 
-module _ (W : List ℕ) (rows : List ℤ) (task : Task) (notes trail : List ℕ) (numbers : List ℤ) (labs : List ℕ) (i : Sweep) (h : Starts W rows task notes trail labs i) (lt : i.row < task.size.rows) where
+module _ (W : List ℕ) (rows : List ℤ) (task : Task) (notes trail : List ℕ) (numbers : List ℤ) (labs : List ℕ) (i : Sweep) (h : Sound W rows task notes trail labs i) (lt : i.row < task.size.rows) where
   abbrev A : Asked
   A = asked_of W rows task
 
   steps_fit : i.steps + M A < 18446744073709551616
   steps_fit =
-      let s = h.attempts.legal.small in
-      let r = h.attempts.measured.few_rows in
+      let s = h.searches.legal.small in
+      let r = h.searches.measured.few_rows in
       let a : suc i.row * M A ≤ A.n * M A = mul-le-mul_right (M A) lt in
       let b : A.n * M A ≤ 4096 * most_pairs = mul-le-mul r (let z : M A ≤ most_pairs = omega arith in z) in
       let c : suc i.row * M A ≡ i.row * M A + M A = suc-mul i.row (M A) in
@@ -50,46 +48,20 @@ module _ (W : List ℕ) (rows : List ℤ) (task : Task) (notes trail : List ℕ)
       omega arith
 
   pub sound_visits : Visits W rows task notes trail labs i
-  sound_visits = record { attempts = h.attempts; row = lt; steps = steps_fit; few = h.few; labels = h.labels }
+  sound_visits = record { searches = h.searches; row = lt; steps = steps_fit; few = h.few; labels = h.labels }
 
   module _ (notes' trail' : List ℕ) (numbers' : List ℤ) (labs' : List ℕ) (r : Sweep) (v : Visited A notes notes' trail trail' numbers numbers' labs labs' i r) where
     abbrev att : Attempted × Kept
     att = attempt_at A (bits_of notes (M A)) i.steps i.row
 
-    abbrev Room : ℕ → Type 0
-    Room s = Roomy A.layout A.n trail' 0 s
-
-    -- there is room for the attempts that follow
-    room-on : Room v.walk.steps
-    unfolding before
-    room-on = go (eqb v.walk.status 3) refl
-      where
-        up : (s s' k : ℕ) → Roomy A.layout A.n trail' k s → s ≤ s' → (s ≤ A.layout.limit → s' ≤ A.layout.limit) → Room s'
-        up s s' k (inl l) le f = inl l
-        up s s' k (inr l) le f = let a = l.0 in inr (omega arith, f l.1)
-
-        go : (b : Bool) → eqb v.walk.status 3 ≡ b → Room v.walk.steps
-        go true e =
-            let k : before v.walk ≡ before_by true v.walk = ap (λ (b : Bool). before_by b v.walk) e in
-            let g : Good A.layout A.holds A.n notes' trail' (before_by true v.walk) = rw k at v.done.reached.good in
-            up (v.walk.steps - 1) v.walk.steps v.walk.top g.trailed (omega arith) (λ _. (v.done.over.waited (eqb-true v.walk.status 3 e)).left)
-        go false e =
-            let k : before v.walk ≡ v.walk = ap (λ (b : Bool). before_by b v.walk) e in
-            let g : Good A.layout A.holds A.n notes' trail' v.walk = rw k at v.done.reached.good in
-            up v.walk.steps v.walk.steps v.walk.top g.trailed (omega arith) (λ l. l)
-
-    attempts_on : (s : ℕ) → Room s → Attempts W rows task notes' trail' s
-    attempts_on s room =
+    searches_on : Searches W rows task notes' trail'
+    searches_on =
         record {
-          letters = h.attempts.letters;
-          measured = h.attempts.measured;
-          legal = h.attempts.legal;
-          noted = rw v.done.reached.notes_long h.attempts.noted;
-          trailed = room;
-          place = h.attempts.place;
-          least = h.attempts.least;
-          most = h.attempts.most;
-          begins = h.attempts.begins;
+          letters = h.searches.letters;
+          measured = h.searches.measured;
+          legal = h.searches.legal;
+          noted = rw v.notes_long h.searches.noted;
+          trailed = rw v.trail_long h.searches.trailed;
         }
 
     by_row : (s j : ℕ) → s ≤ i.steps + M A → suc i.row ≤ j → s ≤ 4611686018427387904 + j * M A
@@ -101,16 +73,16 @@ module _ (W : List ℕ) (rows : List ℤ) (task : Task) (notes trail : List ℕ)
 
     -- what holds of it where it goes on, and of the lengths in any case
     record Keeps (q : Sweep) : Type 0 where
-      sound : q.end ≡ 0 → Starts W rows task notes' trail' labs' q
+      sound : q.end ≡ 0 → Sound W rows task notes' trail' labs' q
       rises : q.end ≡ 0 → i.row < q.row
       numbers_long : length numbers' ≡ length numbers
       labels_long : length labs' ≡ length labs
 
     abbrev On : ℕ → ℕ → ℕ → ℕ → Type 0
-    On row m l s = (m ≤ row) × (l ≤ length labs') × (s ≤ i.steps + M A) × (suc i.row ≤ row) × Room s
+    On row m l s = (m ≤ row) × (l ≤ length labs') × (s ≤ i.steps + M A) × (suc i.row ≤ row)
 
-    on-sound : (end row m l s o : ℕ) → On row m l s → Starts W rows task notes' trail' labs' (record { end = end; row = row; matches = m; labels = l; steps = s; opened = o })
-    on-sound end row m l s o a = record { attempts = attempts_on s a.4; few = a.0; labels = a.1; steps = by_row s row a.2 a.3 }
+    on-sound : (end row m l s o : ℕ) → On row m l s → Sound W rows task notes' trail' labs' (record { end = end; row = row; matches = m; labels = l; steps = s; opened = o })
+    on-sound end row m l s o a = record { searches = searches_on; few = a.0; labels = a.1; steps = by_row s row a.2 a.3 }
 
     quiet_keeps : (to : Sweep) → Quiet numbers numbers' labs labs' r to → ((to.end ≡ 0 → ⊥) ⊎ On to.row to.matches to.labels to.steps) → Keeps r
     quiet_keeps to q o =
@@ -121,7 +93,7 @@ module _ (W : List ℕ) (rows : List ℤ) (task : Task) (notes trail : List ℕ)
           labels_long = ap length q.labels_is;
         })
 
-    module _ (p : List ℕ) (s : ℕ) (ls : s ≤ i.steps + M A) (room : Room s) (eb : fits (lent_room (length numbers) (length labs) A.measures) i.matches i.labels (labels (pl A) p) ≡ true) where
+    module _ (p : List ℕ) (s : ℕ) (ls : s ≤ i.steps + M A) (eb : fits (lent_room (length numbers) (length labs) A.measures) i.matches i.labels (labels (pl A) p) ≡ true) where
       fr : (i.matches * width A + width A ≤ length numbers) × (i.labels + length (labels (pl A) p) ≤ length labs)
       fr = fits-room (length numbers) (length labs) A.measures i.matches i.labels (labels (pl A) p) eb
 
@@ -145,40 +117,35 @@ module _ (W : List ℕ) (rows : List ℤ) (task : Task) (notes trail : List ℕ)
               let b = fr.1 in
               let c = labs-long in
               record {
-                sound = λ _. on-sound 0 nx (i.matches + 1) (i.labels + length (labels (pl A) p)) s 0 (omega arith, omega arith, ls, u, room);
+                sound = λ _. on-sound 0 nx (i.matches + 1) (i.labels + length (labels (pl A) p)) s 0 (omega arith, omega arith, ls, u);
                 rises = λ _. u;
                 numbers_long = nums;
                 labels_long = labs-long;
               }
 
-    by-fit : (p : List ℕ) (s : ℕ) → s ≤ i.steps + M A → Room s → (b : Bool) → fits (lent_room (length numbers) (length labs) A.measures) i.matches i.labels (labels (pl A) p) ≡ b
+    by-fit : (p : List ℕ) (s : ℕ) → s ≤ i.steps + M A → (b : Bool) → fits (lent_room (length numbers) (length labs) A.measures) i.matches i.labels (labels (pl A) p) ≡ b
         → ToldBy b A p i s numbers numbers' labs labs' r → Keeps r
-    by-fit p s ls room true eb q = written_keeps p s ls room eb (next_at A i.row p) refl q
-    by-fit p s ls room false eb q = quiet_keeps (swept 13 A.n i.matches i.labels s) q (inl (λ (e : ◌≡◌ {A = ℕ} 13 0). omega arith))
+    by-fit p s ls true eb q = written_keeps p s ls eb (next_at A i.row p) refl q
+    by-fit p s ls false eb q = quiet_keeps (swept 13 A.n i.matches i.labels s) q (inl (λ (e : ◌≡◌ {A = ℕ} 13 0). omega arith))
 
     halt_some : (w : Halt) → halt_answer w ≡ 0 → ⊥
     unfolding halt_answer
     halt_some out_of_steps e = let z : ◌≡◌ {A = ℕ} 16 0 = e in omega arith
     halt_some out_of_rows e = let z : ◌≡◌ {A = ℕ} 23 0 = e in omega arith
 
-    by-path : (p : List ℕ) (s : ℕ) → s ≤ i.steps + M A → Room s → (b : Bool) → ToldIf b A p i s numbers numbers' labs labs' r → Keeps r
-    by-path p s ls room true q = quiet_keeps (swept_at out_of_steps p i.row i.matches i.labels s) q (inl (halt_some out_of_steps))
-    by-path p s ls room false q = by-fit p s ls room (fits (lent_room (length numbers) (length labs) A.measures) i.matches i.labels (labels (pl A) p)) refl q
-
-    by-att : (o : Attempted) (s : ℕ) → s ≤ i.steps + M A → Room s → Told A o i s numbers numbers' labs labs' r → Keeps r
-    by-att miss s ls room q =
+    by-att : (o : Attempted) (s : ℕ) → s ≤ i.steps + M A → Told A o i s numbers numbers' labs labs' r → Keeps r
+    by-att miss s ls q =
         let f = h.few in
         let l = h.labels in
-        let d = h.attempts.least in
         let k = ap length q.labels_is in
-        quiet_keeps (swept 0 (i.row + A.stride) i.matches i.labels s) q (inr (omega arith, omega arith, ls, omega arith, room))
-    by-att (halts w p) s ls room q = quiet_keeps (swept_at w p i.row i.matches i.labels s) q (inl (halt_some w))
-    by-att (hit p) s ls room q = by-path p s ls room (ltb 1 A.stride) q
+        quiet_keeps (swept 0 (i.row + 1) i.matches i.labels s) q (inr (omega arith, omega arith, ls, omega arith))
+    by-att (halts w p) s ls q = quiet_keeps (swept_at w p i.row i.matches i.labels s) q (inl (halt_some w))
+    by-att (hit p) s ls q = by-fit p s ls (fits (lent_room (length numbers) (length labs) A.measures) i.matches i.labels (labels (pl A) p)) refl q
 
     keeps : Keeps r
-    keeps = by-att att.0 att.1.steps v.more (rw (visited_steps A notes notes' trail trail' numbers numbers' labs labs' i r v) room-on) v.told
+    keeps = by-att att.0 att.1.steps v.more v.told
 
-    pub sound_more : r.end ≡ 0 → Starts W rows task notes' trail' labs' r
+    pub sound_more : r.end ≡ 0 → Sound W rows task notes' trail' labs' r
     sound_more e = keeps.sound e
 
     pub sound_less : r.end ≡ 0 → A.n - r.row < A.n - i.row
@@ -199,8 +166,8 @@ pub beyond-more : (A : Asked) (n₁ t₁ notes trail notes' trail' : List ℕ) (
     → Visited A notes notes' trail trail' numbers numbers' labs labs' i r → Beyond (M A) n₁ t₁ notes' trail'
 beyond-more A n₁ t₁ notes trail notes' trail' numbers numbers' labs labs' i r h v =
     record {
-      notes_long = v.done.reached.notes_long ∙ h.notes_long;
-      trail_long = v.done.reached.trail_long ∙ h.trail_long;
-      notes_beyond = λ z l. v.done.reached.notes_beyond z l ∙ h.notes_beyond z l;
-      trail_beyond = λ z l. v.done.reached.trail_beyond z l ∙ h.trail_beyond z l;
+      notes_long = v.notes_long ∙ h.notes_long;
+      trail_long = v.trail_long ∙ h.trail_long;
+      notes_beyond = λ z l. v.notes_beyond z l ∙ h.notes_beyond z l;
+      trail_beyond = λ z l. v.trail_beyond z l ∙ h.trail_beyond z l;
     }

@@ -1,40 +1,21 @@
 // The whole search by the counted walk: all starts, each with one attempt; the matches written as
 // they are found; and the buffers left as the report says. A search that has waited for a row goes
 // on from the start of its attempt (`go_on`): the pairs that have failed are in the notes, so the
-// attempt comes straight to the pair that waited, and enters none but those that were open. One
-// attempt can be made alone, from any pair (`alone`), by the same loop, so that the walk has one
-// caller.
-ghost use Rattle.std.specs.Prelude.{◌≡◌, ◌+◌, ◌*◌, ◌≤◌, length};
+// attempt comes straight to the pair that waited, and enters none but those that were open.
+ghost use Rattle.std.specs.Prelude.{◌≡◌, ◌≤◌, length};
 ghost use Rattle.rules.specs.Basics.{wrote};
 ghost use Rattle.rules.specs.Report.{zeros};
 ghost use Rattle.matches.specs.Asked.{asked_of};
 ghost use Rattle.matches.specs.Found.{Told, Visits, Visited, Searches};
-ghost use Rattle.pairs.specs.Layout.{layout_of, letters_of, halts_in, Tested};
-ghost use Rattle.pairs.specs.State.{ReadyAt, DoneAt};
-ghost use Rattle.sweep.specs.Searched.{came_to, Tells, Starts, Sound, Searched, Alone, Tries, Measures, WentOn, Answered};
+ghost use Rattle.sweep.specs.Searched.{came_to, Tells, Sound, Searched, Measures, WentOn, Answered};
 
-use matches::{BEYOND_ROWS, DONE, OUT_OF_ROWS, OUT_OF_STEPS, Sweep, Task, write_match};
-use pairs::{ENTER, WAITS, Walk, tried};
-
-// An attempt stops with its open pairs on the trail: no step is left for the next entry, or it was
-// made alone, and they are a path, which is not reported. Both are told alike: who asked for the
-// attempt goes on from the open pairs, and the compiler has one way out of the loop for both.
-fn stopped(i: Sweep, w: Walk) -> Sweep
-    ensures { result ≡ record { end = 16; row = i.row; matches = i.matches; labels = i.labels; steps = w.steps; opened = w.top } }
-{
-    Sweep {
-        end: OUT_OF_STEPS,
-        row: i.row,
-        matches: i.matches,
-        labels: i.labels,
-        steps: w.steps,
-        opened: w.top,
-    }
-}
+use matches::{DONE, OUT_OF_ROWS, OUT_OF_STEPS, Sweep, Task, write_match};
+use pairs::{ENTER, WAITS, Walk};
+use walk::attempt;
 
 // What an attempt at a start came to. Where it has halted, no step is left or a row is waited for,
-// and the search is over for now; where no pair is open it found nothing, and the search goes on a
-// stride on; else the path is on the trail, and is reported unless the attempt was made alone.
+// and the search is over for now; where no pair is open it found nothing, and the search goes on
+// one row on; else the path is on the trail.
 fn tell(
     table: &[u16],
     rows: &[i32],
@@ -49,7 +30,14 @@ fn tell(
     ensures { Told (asked_of table.now rows.now task) (came_to task.size.places trail.now w) i w.steps numbers.old numbers.new labels.old labels.new result }
 {
     if w.status == ENTER {
-        return stopped(i, w);
+        return Sweep {
+            end: OUT_OF_STEPS,
+            row: i.row,
+            matches: i.matches,
+            labels: i.labels,
+            steps: w.steps,
+            opened: 0,
+        };
     }
     if w.status == WAITS {
         let opened = w.top + 1;
@@ -63,7 +51,7 @@ fn tell(
         };
     }
     if w.top == 0 {
-        let after = i.row + task.stride;
+        let after = i.row + 1;
         return Sweep {
             end: DONE,
             row: after,
@@ -73,27 +61,7 @@ fn tell(
             opened: 0,
         };
     }
-    if 1 < task.stride {
-        return stopped(i, w);
-    }
     write_match(table, rows, trail, numbers, labels, task, i, w)
-}
-
-// The attempt at a start: its first pair is tried, and the walk goes on from there.
-fn attempt(
-    table: &[u16],
-    rows: &[i32],
-    notes: &mut [u8],
-    trail: &mut [u32],
-    task: Task,
-    i: Sweep,
-) -> Walk
-    requires { Tested table.now rows.now task.size × ReadyAt (layout_of table.now task.size) (letters_of table.now rows.now task.size) task.size.rows notes.old trail.old task.first i.row i.steps }
-    ensures { DoneAt (halts_in (layout_of table.now task.size) task.size.more task.size.rows) (layout_of table.now task.size) (letters_of table.now rows.now task.size) task.size.rows notes.old trail.old (i.row * task.size.places + task.first) i.steps notes.new trail.new result }
-{
-    let size = task.size;
-    let from = tried(notes, 0, i.steps, task.first, i.row, i.row * size.places);
-    walk::go_on(table, rows, notes, trail, size, from)
 }
 
 // One start: the attempt there, and what it came to.
@@ -110,7 +78,7 @@ fn visit(
     requires { Visits table.now rows.now task notes.old trail.old labels.old i }
     ensures { Visited (asked_of table.now rows.now task) notes.old notes.new trail.old trail.new numbers.entry.now numbers.new labels.old labels.new i result }
 {
-    let w = attempt(table, rows, notes, trail, task, i);
+    let w = attempt(table, rows, notes, trail, task.size, i.row, i.steps);
     tell(table, rows, trail, numbers, labels, task, i, w)
 }
 
@@ -139,7 +107,7 @@ fn starts(
     task: Task,
     from: Sweep,
 ) -> Sweep
-    requires { Starts table.now rows.now task notes.old trail.old labels.old from }
+    requires { Sound table.now rows.now task notes.old trail.old labels.old from }
     ensures { Searched table.now rows.now task notes.old trail.old numbers.old labels.old from notes.new trail.new numbers.new labels.new result }
 {
     let size = task.size;
@@ -226,53 +194,4 @@ pub fn search(
         opened: 0,
     };
     go_on(table, rows, notes, trail, numbers, labels, task, first)
-}
-
-// One attempt alone, from the pair of a place and a row, with so many steps before it: the loop over
-// the starts begins at that row, and the stride leads beyond all rows. Nothing is reported, so the
-// report's room is of no use.
-pub fn alone(
-    table: &[u16],
-    rows: &[i32],
-    notes: &mut [u8],
-    trail: &mut [u32],
-    task: Task,
-    place: usize,
-    row: usize,
-    steps: usize,
-) -> Sweep
-    requires { Tries table.now rows.now task notes.old trail.old place row steps }
-    ensures { Alone table.now rows.now task.size notes.old trail.old (row * task.size.places + place) steps notes.new trail.new result }
-{
-    let size = task.size;
-    let skip = task.skip;
-    let one = Task {
-        size,
-        pairs: task.pairs,
-        measures: task.measures,
-        count: task.count,
-        skip,
-        first: place,
-        stride: BEYOND_ROWS,
-    };
-    let from = Sweep {
-        end: DONE,
-        row,
-        matches: 0,
-        labels: 0,
-        steps,
-        opened: 0,
-    };
-    let mut numbers = [0i64; 1];
-    let mut labels = [0u8; 1];
-    starts(
-        table,
-        rows,
-        notes,
-        trail,
-        &mut numbers,
-        &mut labels,
-        one,
-        from,
-    )
 }

@@ -13,9 +13,6 @@ pub const MEASURE_WORDS: usize = 24;
 
 const LETTER_WORDS: usize = 416;
 
-// A letter's comparisons behind the first, or its entries, take at most so many.
-const MOST_MORE: usize = 50;
-
 const LONGEST: usize = 65535;
 
 // Where the measures of a query whose places have so many entries begin in its table.
@@ -51,24 +48,4 @@ pub fn words_needed(query: &[u8], defines: &[usize; 26], entries: usize, letters
 {
     let more = words_for(query, defines, letters);
     tests_at(entries) + LETTER_WORDS + more
-}
-
-// Whether a table of so many words has no room for a query of so many entries. Where it has room for
-// all that so many letters can need, their words are not counted.
-pub fn lacks_room(
-    words: usize,
-    query: &[u8],
-    defines: &[usize; 26],
-    entries: usize,
-    letters: usize,
-) -> bool
-    requires { Sizing query.now defines.now entries letters }
-    ensures { result ≡ (ltb words (needed query.now defines.now entries letters) || ltb 65535 words) }
-{
-    let most = tests_at(entries) + LETTER_WORDS + letters * MOST_MORE;
-    if most <= words {
-        return LONGEST < words;
-    }
-    let needed = words_needed(query, defines, entries, letters);
-    has_no_room(words, needed)
 }

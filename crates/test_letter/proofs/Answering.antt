@@ -9,7 +9,7 @@ use lib.Dec.{eqb, ltb, leb}
 use lib.IntN.{ℤ}
 use lib.ListN.{length}
 use mir.Syntax.{w64}
-use mir.Val.{Fits}
+use mir.Val.{Fits, bool_byte}
 use borrow.Author.Tests.{eqb-true, eq-eqb, ne_eqb, ltb-false, lt-leb, not-false}
 use Rattle.rules.specs.Basics.{pick, in_range, is_letter, every}
 use Rattle.rules.specs.Rows.{table_of, all_of, holds, judged_in, judged}
@@ -31,9 +31,14 @@ use Rattle.prepared.specs.Ready.{Given, PreparedAs}
 use Rattle.prepared.specs.declared.Prepared.{Prepared}
 use Rattle.judging.specs.Judging.{holds_from, judged_from, Judgeable}
 use Rattle.judging.proofs.Rules.{holds-judged}
-use Rattle.test_results.specs.declared.Tested.{Tested}
-use Rattle.test_results.specs.Results.{refused_test, tested}
-use Rattle.test_letter.specs.Tests.{Asks, TestedAs}
+use Rattle.test_letter.specs.declared.Tested.{Tested}
+use Rattle.test_letter.specs.Tests.{Asks, TestedAs, refused_test, tested}
+
+-- ---- a result
+
+pub found-is : (h : Bool) (k : ℕ) → ◌≡◌ {A = Tested} (record { answer = 0; holds = bool_byte h; judged = k; offset = 0 }) (tested h k)
+found-is true k = refl
+found-is false k = refl
 
 -- ---- the answers
 

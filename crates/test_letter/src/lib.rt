@@ -2,9 +2,9 @@
 // its kind 3 record were judged, up to and with the first that is not met (R-6). For every query,
 // all rows, every byte and every row: the promise is four equations with `test_of` of the rules.
 // Weakness: the query is prepared at each call, so a test costs about as much as reading the query.
-ghost use Rattle.std.specs.Prelude.{List, ℕ};
+ghost use Rattle.std.specs.Prelude.{◌≡◌, List, ℕ, ◌+◌, ◌≤◌, min};
 ghost use Rattle.prepared.specs.Ready.{Given};
-ghost use Rattle.test_letter.specs.Tests.{Asks, TestedAs};
+ghost use Rattle.test_letter.specs.Tests.{Asks, TestedAs, refused_test, tested};
 
 use comparisons::far_back;
 use judging::judge_letter;
@@ -12,7 +12,6 @@ use numbers::wide8;
 use prepared::{Prepared, prepare};
 use sizes::bad_rows;
 use table_room::tests_at;
-use test_results::{Tested, found, nearest, refused};
 
 // The letters A and Z, and the words of a letter in the table.
 const FIRST_LETTER: usize = 65;
@@ -20,6 +19,54 @@ const FIRST_LETTER: usize = 65;
 const LAST_LETTER: usize = 90;
 
 const LETTER: usize = 16;
+
+// A comparison looks so many rows back at the most.
+const FURTHEST: usize = 64;
+
+// What a test returns: the answer 1 to 10 or 14, with the offset of 5 and 14, or 0; and where it is
+// 0, whether the letter holds (1 or 0), and how many comparisons were judged.
+#[repr(C)]
+#[derive(Drop)]
+pub struct Tested {
+    pub answer: usize,
+    pub holds: usize,
+    pub judged: usize,
+    pub offset: usize,
+}
+
+fn refused(answer: usize, offset: usize) -> Tested
+    ensures { result ≡ refused_test answer offset }
+{
+    Tested {
+        answer,
+        holds: 0,
+        judged: 0,
+        offset,
+    }
+}
+
+fn found(holds: bool, judged: usize) -> Tested
+    ensures { result ≡ tested holds judged }
+{
+    Tested {
+        answer: 0,
+        holds: holds as usize,
+        judged,
+        offset: 0,
+    }
+}
+
+// The row that is judged for a row: from 64 rows behind the last on nothing is read.
+fn nearest(row: usize, n: usize) -> usize
+    requires { n ≤ 4096 }
+    ensures { (result ≡ min row (n + 64)) × (result ≤ 4160) }
+{
+    if row < n + FURTHEST {
+        row
+    } else {
+        n + FURTHEST
+    }
+}
 
 // The test of a letter of a prepared query.
 fn test_prepared(table: &[u16], p: Prepared, rows: &[i32], letter: usize, row: usize) -> Tested

@@ -237,8 +237,8 @@ module _ (s : List ℕ) (columns d : ℕ) (T : List ℕ) (at more : ℕ) (h : Te
       own-kept : (j : ℕ) → at ≤ j → j < at + 16 → get_or T₄ j 0 ≡ get_or T₃ j 0
       own-kept j f g = rest.kept j (λ a b. let c = h.before in omega arith)
 
-      first_is : comparison_in T₄ columns (at + 2) ≡ comparison_at s (d + 2)
-      first_is = comparison_same T₃ T₄ columns (at + 2) (λ j f g. own-kept j (omega arith) (omega arith)) ∙ first-is₃
+      first-is : comparison_in T₄ columns (at + 2) ≡ comparison_at s (d + 2)
+      first-is = comparison_same T₃ T₄ columns (at + 2) (λ j f g. own-kept j (omega arith) (omega arith)) ∙ first-is₃
 
       told : (c m : ℕ) (x : Comparison) (xs : List Comparison) → get_or T₄ at 0 ≡ c → (c ≡ 0 → ⊥) → get_or T₄ (at + 1) 0 ≡ m → comparison_in T₄ columns (at + 2) ≡ x →
           comparisons_in T₄ columns m (c - 1) ≡ xs → defined_in T₄ columns at ≡ x ∷ xs
@@ -254,7 +254,7 @@ module _ (s : List ℕ) (columns d : ℕ) (T : List ℕ) (at more : ℕ) (h : Te
       define_is : condition_in T₄ columns at ≡ defined_at s d
       define_is =
           by-comparisons T₄ columns at word-7
-          ∙ ap all_of (told count more (comparison_at s (d + 2)) (comparisons_at s (d + 2 + 12) (count - 1)) word-0 (λ z. let a = h.body.one in omega arith) word-1 first_is rest.is
+          ∙ ap all_of (told count more (comparison_at s (d + 2)) (comparisons_at s (d + 2 + 12) (count - 1)) word-0 (λ z. let a = h.body.one in omega arith) word-1 first-is rest.is
           ∙ sym (comparisons_first s (d + 2) count (let a = h.body.one in omega arith))
           ∙ ap (comparisons_at s (d + 2)) is-count)
           ∙ sym (defined-some s d h.some h.kind)

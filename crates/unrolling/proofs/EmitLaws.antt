@@ -3,7 +3,7 @@
 -- call.
 use mathlib.Core.Path.{◌≡◌, refl, sym, ap, ◌∙◌, subst}
 use mathlib.Core.Bool.{Bool, true, false}
-use mathlib.Core.List.{List, [], ◌∷◌, ◌++◌, append-nil}
+use mathlib.Core.List.{List, [], ◌∷◌, ◌++◌}
 use mathlib.Core.Logic.{inl, inr}
 use Prim.Native.Nat.{ℕ, suc, ◌+◌, ◌*◌, ◌-◌, ◌≤◌, ◌<◌, min}
 use native.Mathlib.Omega.{arith}
@@ -13,7 +13,7 @@ use lib.Dec.{eqb, ltb}
 use lib.ListN.{length, length-append}
 use Rattle.rules.specs.Basics.{pick}
 use Rattle.rules.specs.Language.{pattern, branch, factor, primary, Tree, one, more, last, next, letter, empty}
-use Rattle.rules.specs.Places.{Unrolled, unrolled, unroll, Place, p_letter, p_caret, p_dollar, p_end, size, sizes, fork, place_count}
+use Rattle.rules.specs.Places.{unrolled, unroll, Place, p_letter, p_caret, p_dollar, p_end, size, sizes, fork, place_count}
 use Rattle.laws.proofs.Counting.{unrolled-size}
 use Rattle.rules.specs.Working.{thin_place, thinned}
 use Rattle.nodes.specs.Nodes.{node_at}
@@ -27,9 +27,9 @@ use Rattle.place_codes.specs.Codes.{letter_code, anchor_code}
 use Rattle.place_codes.specs.Planes.{Planed, Low, slot, start_by, round_by}
 use Rattle.place_codes.specs.declared.Plane.{Plane}
 use Rattle.place_codes.specs.declared.Behind.{Behind}
-use Rattle.place_codes.proofs.CodeLaws.{start-end, start-low, round_low}
+use Rattle.place_codes.proofs.CodeLaws.{start-low, round_low}
 use Rattle.forks.specs.PlaneCode.{used, flags_copy, plane_of}
-use Rattle.forks.specs.Emitting.{choice_places, Parting, fork_places, Forking, tree_places, branch_places, body_places, turns, turn_places, Emitting, Branching, Factoring, Bodying, Turning, BodySize, BodyFlag}
+use Rattle.forks.specs.Emitting.{choice_places, Parting, fork_places, Forking, tree_places, branch_places, body_places, turns, turn_places, Emitting, Branching, Bodying, Turning, BodySize, BodyFlag}
 use Rattle.place_words.proofs.TableLaws.{fit-left, fit-right, emitted_two, emitted_none, emitted_one}
 use Rattle.unrolling.proofs.CodeLaws.{tree-length, branch-length, body-length, turn_length, seq-places, branch-more, branch_one, alt_places, factor-places, factor-size, turn_copy, turn_none, turn_option, turn_star}
 use Rattle.body_sizes.proofs.SizeLaws.{OnFactor}
@@ -62,9 +62,6 @@ not-alt_bit Group f = refl
 
 unfoldable pub emit_m : List ℕ → ℕ → ℕ
 emit_m s i = 400 * (node_at s i).height + 300 + alt_bit (node_at s i).sort
-
-unfoldable pub factor_m : List ℕ → ℕ → ℕ
-factor_m s i = 400 * (node_at s i).height + 250
 
 unfoldable pub branch_m : List ℕ → ℕ → ℕ
 branch_m s i = 400 * (node_at s i).height + 301
@@ -118,99 +115,89 @@ module _ (o : Plane) (s : List ℕ) (i : ℕ) (n : Node) (en : n ≡ node_at s i
       let x = exact h.tree h.top h.fits in
       nothing_put o T b w (tree_places o h.tree b k) (omega (arith, x.0, tree-length o h.tree b k))
 
-  -- the first part of a sequence
-  module _ (e : n.sort ≡ Sequence) (p : ℕ) (ep : p ≡ n.left) where
-    pub seq-part_in : Emitting o s i T b w k → 8 * p + 8 ≤ length s
-    seq-part_in h = subst (λ (v : ℕ). 8 * v + 8 ≤ length s) (sym ep) (at_in s n.left (seq-left s i n en (node_at s i).height refl (emit_at h) e).1)
+  -- a sequence
+  module _ (e : n.sort ≡ Sequence) (m : ℕ) (em : m ≡ (node_at s n.left).places) where
+    record SeqParts (nx : Behind) (p : Tree pattern) : Type 0 where
+      first : Tree factor
+      rest : Tree branch
+      left_top : Top (one (last first)) n.left s
+      right_top : Top (one rest) n.right s
+      split : tree_places o p b k ≡ tree_places o (one (last first)) b nx ++ tree_places o (one rest) (b + m) k
+      long : b + m ≡ b + length (tree_places o (one (last first)) b nx)
+      low : b + m ≤ 256
 
-    pub seq-less : Emitting o s i T b w k → factor_m s p < emit_m s i
-    unfolding factor_m emit_m
-    seq-less h = subst (λ (v : ℕ). factor_m s v < emit_m s i) (sym ep) (omega (arith, (seq-left s i n en (node_at s i).height refl (emit_at h) e).0))
+    seq-parts : (nx : Behind) → nx ≡ start_by o (b + m) (b + n.places) k → (p : Tree pattern) → Top p i s
+        → Fitting o T b w k (tree_places o p b k) → SeqParts nx p
+    unfolding place_count fork
+    seq-parts nx ex p t f =
+        as_seq s i n en (λ p. (n.places ≡ place_count p) × (b + (fork p + place_count p) ≤ 256) → SeqParts nx p) e
+        (λ f g q x.
+        let d = top_places s n.left (one (last f)) q.left in
+        let y = x.1 in
+        let c : m ≡ place_count f = omega arith in
+        let l = tree-length o (one (last f)) b nx in
+        record {
+          first = f;
+          rest = g;
+          left_top = q.left;
+          right_top = q.right;
+          split = seq-places o f g b k m (b + n.places) nx c (ap (λ (v : ℕ). b + v) x.0) ex;
+          long = omega arith;
+          low = omega arith;
+        })
+        p t (exact p t f)
 
-    pub seq-down : Emitting o s i T b w k → emit_m s n.right < emit_m s i
-    unfolding emit_m
-    seq-down h = omega (arith, (seq-right s i n en (node_at s i).height refl (emit_at h) e).0, alt_small (node_at s n.right).sort)
+    pub seq-left_in : Emitting o s i T b w k → 8 * n.left + 8 ≤ length s
+    seq-left_in h = at_in s n.left (seq-left s i n en (node_at s i).height refl (emit_at h) e).1
 
-    module _ (m : ℕ) (em : m ≡ (node_at s p).places) where
-      record SeqParts (nx : Behind) (t : Tree pattern) : Type 0 where
-        first : Tree factor
-        rest : Tree branch
-        left_top : Top (one (last first)) p s
-        right_top : Top (one rest) n.right s
-        split : tree_places o t b k ≡ tree_places o (one (last first)) b nx ++ tree_places o (one rest) (b + m) k
-        long : b + m ≡ b + length (tree_places o (one (last first)) b nx)
-        low : b + m ≤ 256
-        rest_long : m + length (tree_places o (one rest) (b + m) k) ≡ n.places
+    pub seq-mid : Emitting o s i T b w k → Fits-in w64 (b + m)
+    seq-mid h = let x = seq-parts _ refl h.tree h.top h.fits in record { fits = omega (arith, x.low) }
 
-      seq-parts : (nx : Behind) → nx ≡ start_by o (b + m) (b + n.places) k → (t : Tree pattern) → Top t i s
-          → Fitting o T b w k (tree_places o t b k) → SeqParts nx t
-      unfolding place_count fork
-      seq-parts nx ex t q f =
-          as_seq s i n en (λ t. (n.places ≡ place_count t) × (b + (fork t + place_count t) ≤ 256) → SeqParts nx t) e
-          (λ f g q x.
-          let top : Top (one (last f)) p s = subst (λ (v : ℕ). Top (one (last f)) v s) (sym ep) q.left in
-          let d = top_places s p (one (last f)) top in
-          let y = x.1 in
-          let c : m ≡ place_count f = omega arith in
-          let l = tree-length o (one (last f)) b nx in
-          let r = tree-length o (one g) (b + m) k in
-          let z = x.0 in
+    pub seq_start : Emitting o s i T b w k → Planed o × (b + m ≤ 256) × Low k
+    seq_start h = let x = seq-parts _ refl h.tree h.top h.fits in (h.fits.planed, x.low, h.fits.behind)
+
+    module _ (nx : Behind) (ex : nx ≡ start_by o (b + m) (b + n.places) k) (h : Emitting o s i T b w k) where
+      seq : SeqParts nx h.tree
+      seq = seq-parts nx ex h.tree h.top h.fits
+
+      first-emitting : Emitting o s n.left T b w nx
+      first-emitting =
           record {
-            first = f;
-            rest = g;
-            left_top = top;
-            right_top = q.right;
-            split = seq-places o f g b k m (b + n.places) nx c (ap (λ (v : ℕ). b + v) x.0) ex;
-            long = omega arith;
-            low = omega arith;
-            rest_long = omega arith;
-          })
-          t q (exact t q f)
+            tree = one (last seq.first);
+            top = seq.left_top;
+            fits = part_left o T b w k (tree_places o h.tree b k) (tree_places o (one (last seq.first)) b nx) (λ v. tree_places o (one seq.rest) v k)
+                (b + m) seq.split seq.long
+                nx (rw ex (start-low o (b + m) (b + n.places) k h.fits.planed seq.low h.fits.behind)) h.fits;
+          }
 
-      pub seq-mid : Emitting o s i T b w k → b + m ≤ 256
-      seq-mid h = (seq-parts _ refl h.tree h.top h.fits).low
+      pub seq-first : (u : ℕ) → emit_m s i ≡ u → (emit_m s n.left < u) × Emitting o s n.left T b w nx
+      unfolding emit_m
+      seq-first u eu = (omega (arith, (seq-left s i n en (node_at s i).height refl (emit_at h) e).0, alt_small (node_at s n.left).sort), first-emitting)
 
-      module _ (nx : Behind) (ex : nx ≡ start_by o (b + m) (b + n.places) k) (h : Emitting o s i T b w k) where
-        seq : SeqParts nx h.tree
-        seq = seq-parts nx ex h.tree h.top h.fits
+      module _ (T1 : List ℕ) (r : ℕ) (d : (g : Emitting o s n.left T b w nx) → Emitted o T T1 b w r (tree_places o g.tree b nx)) where
+        first_done : Emitted o T T1 b w r (tree_places o (one (last seq.first)) b nx)
+        unfolding first-emitting
+        first_done = d first-emitting
 
-        pub seq-first : Factoring o s p T b w nx
-        seq-first =
+        second-emitting : Emitting o s n.right T1 (b + m) r k
+        second-emitting =
             record {
-              of = seq.first;
-              top = seq.left_top;
-              fits = part_left o T b w k (tree_places o h.tree b k) (tree_places o (one (last seq.first)) b nx) (λ v. tree_places o (one seq.rest) v k)
-                  (b + m) seq.split seq.long
-                  nx (rw ex (start-low o (b + m) (b + n.places) k h.fits.planed seq.low h.fits.behind)) h.fits;
+              tree = one seq.rest;
+              top = seq.right_top;
+              fits = part_right o T b w k (tree_places o h.tree b k) (tree_places o (one (last seq.first)) b nx) (λ v. tree_places o (one seq.rest) v k)
+                  (b + m) seq.split seq.long T1 r first_done h.fits;
             }
 
-        module _ (T1 : List ℕ) (r : ℕ) (d : (g : Factoring o s p T b w nx) → Emitted o T T1 b w r (tree_places o (one (last g.of)) b nx)) where
-          first_done : Emitted o T T1 b w r (tree_places o (one (last seq.first)) b nx)
-          unfolding seq-first
-          first_done = d seq-first
+        pub seq-second : (u : ℕ) → emit_m s i ≡ u → (emit_m s n.right < u) × Emitting o s n.right T1 (b + m) r k
+        unfolding emit_m
+        seq-second u eu = (omega (arith, (seq-right s i n en (node_at s i).height refl (emit_at h) e).0, alt_small (node_at s n.right).sort), second-emitting)
 
-          seq-both : (T2 : List ℕ) (q : ℕ) → Emitted o T1 T2 (b + m) r q (tree_places o (one seq.rest) (b + m) k) → Emitted o T T2 b w q (tree_places o h.tree b k)
-          seq-both T2 q g =
-              part-both o T b w k (tree_places o h.tree b k) (tree_places o (one (last seq.first)) b nx) (λ v. tree_places o (one seq.rest) v k) (b + m)
-              seq.split seq.long T1 r first_done T2 q g
-
-          -- nothing is behind it
-          pub seq-ended : b + m ≡ b + n.places → Emitted o T T1 b w r (tree_places o h.tree b k)
-          seq-ended z = seq-both T1 r (nothing_put o T1 (b + m) r (tree_places o (one seq.rest) (b + m) k) (omega (arith, z, seq.rest_long)))
-
-          pub seq-second : Emitting o s n.right T1 (b + m) r k
-          seq-second =
-              record {
-                tree = one seq.rest;
-                top = seq.right_top;
-                fits = part_right o T b w k (tree_places o h.tree b k) (tree_places o (one (last seq.first)) b nx) (λ v. tree_places o (one seq.rest) v k)
-                    (b + m) seq.split seq.long T1 r first_done h.fits;
-              }
-
-          pub seq-done : (T2 : List ℕ) (q : ℕ) → ((g : Emitting o s n.right T1 (b + m) r k) → Emitted o T1 T2 (b + m) r q (tree_places o g.tree (b + m) k))
-              → Emitted o T T2 b w q (tree_places o h.tree b k)
-          unfolding seq-second
-          seq-done T2 q g = seq-both T2 q (g seq-second)
+        pub seq-done : (T2 : List ℕ) (q : ℕ) → ((g : Emitting o s n.right T1 (b + m) r k) → Emitted o T1 T2 (b + m) r q (tree_places o g.tree (b + m) k))
+            → Emitted o T T2 b w q (tree_places o h.tree b k)
+        unfolding second-emitting
+        seq-done T2 q g =
+            part-both o T b w k (tree_places o h.tree b k) (tree_places o (one (last seq.first)) b nx) (λ v. tree_places o (one seq.rest) v k) (b + m)
+            seq.split seq.long T1 r first_done T2 q (g second-emitting)
 
   -- an alternation
   module _ (e : n.sort ≡ Alternation) where
@@ -271,139 +258,72 @@ module _ (o : Plane) (s : List ℕ) (i : ℕ) (n : Node) (en : n ≡ node_at s i
             part-both o T b w k (tree_places o h.tree b k) (fork_places o h.tree b k) (λ v. branch_places o h.tree v k) (b + 1) alt.split one-long T1
             r fork-done T2 q (g inside-branching)
 
-  -- a factor is its own first part
+  -- a factor
   module _ (ns : n.sort ≡ Sequence → ⊥) (na : n.sort ≡ Alternation → ⊥) where
     record FactorOf (p : Tree pattern) : Type 0 where
       of : Tree factor
       is : p ≡ one (last of)
+      seen : FactorAt s n of
 
     factor-of : (p : Tree pattern) → Top p i s → FactorOf p
-    factor-of = as_any s i n en FactorOf (λ F q. record { of = F; is = refl }) (λ f b q. absurd (ns q.sort)) (λ b p q. absurd (na q.sort))
+    factor-of = as_any s i n en FactorOf (λ F q. record { of = F; is = refl; seen = q }) (λ f b q. absurd (ns q.sort)) (λ b p q. absurd (na q.sort))
 
-    pub alone-mid : Emitting o s i T b w k → b + n.places ≤ 256
-    alone-mid h = omega (arith, (exact h.tree h.top h.fits).0, (exact h.tree h.top h.fits).1)
+    pub emit_node : Emitting o s i T b w k → At s i
+    emit_node h = emit_at h
 
-    module _ (h : Emitting o s i T b w k) where
+    pub turn_order : Emitting o s i T b w k → n.low ≤ n.high
+    turn_order h = let F = factor-of h.tree h.top in F.seen.order.in_order
+
+    module _ (c : ℕ) (hc : BodySize s i c) (empty : Bool) (he : BodyFlag o s i empty) (m : ℕ) (em : m ≡ pick (eqb n.high 100) 100 (n.high - n.low)) (h : Emitting o s i T b w k) where
       F : FactorOf h.tree
       F = factor-of h.tree h.top
 
-      same : tree_places o h.tree b k ≡ tree_places o (one (last F.of)) b k
-      same = ap (λ (p : Tree pattern). tree_places o p b k) F.is
+      factor-top : Top (one (last F.of)) i s
+      factor-top = subst (λ (p : Tree pattern). Top p i s) F.is h.top
 
-      pub alone-first : Factoring o s i T b w k
-      alone-first = record { of = F.of; top = subst (λ (p : Tree pattern). Top p i s) F.is h.top; fits = subst (Fitting o T b w k) same h.fits }
+      more-is : m ≡ pick (eqb (highest_of F.of) 100) 100 (highest_of F.of - lower_of F.of)
+      more-is = em ∙ ap (λ (v : ℕ). pick (eqb v 100) 100 (v - n.low)) F.seen.high ∙ ap (λ (v : ℕ). pick (eqb (highest_of F.of) 100) 100 (highest_of F.of - v))
+          F.seen.low
 
-      pub alone-done : (T1 : List ℕ) (r : ℕ) → ((g : Factoring o s i T b w k) → Emitted o T T1 b w r (tree_places o (one (last g.of)) b k))
-          → Emitted o T T1 b w r (tree_places o h.tree b k)
-      unfolding alone-first
-      alone-done T1 r d = subst (Emitted o T T1 b w r) (sym same) (d alone-first)
+      same-places : tree_places o h.tree b k ≡ turn_places o n.low m F.of b k
+      same-places = ap (λ (p : Tree pattern). tree_places o p b k) F.is ∙ factor-places o F.of b k n.low m F.seen.bounds F.seen.low more-is
 
-pub alone-less : (s : List ℕ) (i : ℕ) → factor_m s i < emit_m s i
-unfolding factor_m emit_m
-alone-less s i = omega arith
+      factor-count : (n.places ≡ place_count F.of) × (place_count F.of ≤ 256)
+      unfolding place_count
+      factor-count =
+          let x = exact h.tree h.top h.fits in
+          let z : place_count h.tree ≡ place_count F.of = ap (λ (p : Tree pattern). place_count p) F.is in
+          (x.0 ∙ z, omega (arith, x.1))
 
--- ---- factor
+      more-small : m ≤ 100
+      more-small = rw em (low (eqb n.high 100))
+        where
+          low : (t : Bool) → pick t 100 (n.high - n.low) ≤ 100
+          low true = omega arith
+          low false = omega (arith, F.seen.order.high_small)
 
-pub factor-in : (o : Plane) (s : List ℕ) (i : ℕ) (T : List ℕ) (b w : ℕ) (k : Behind) → Factoring o s i T b w k → 8 * i + 8 ≤ length s
-factor-in o s i T b w k h = at_in s i (record { tree = one (last h.of); is = h.top })
+      turning : Turning o s i c n.lazy empty n.low m (b + n.places) T b w k
+      turning =
+          let z : size (unrolled (body F.of)) ≡ place_count (body F.of) = unrolled-size (body F.of) in
+          record {
+            of = F.of;
+            top = factor-top;
+            each = hc F.of factor-top factor-count.1 ∙ sym z;
+            reluctant = F.seen.lazy;
+            flags = he F.of factor-top;
+            ends = ap (λ (v : ℕ). b + v) (factor-count.0 ∙ sym (factor-size o F.of b k n.low m F.seen.bounds F.seen.low more-is));
+            few = (F.seen.order.low_small, more-small);
+            fits = subst (Fitting o T b w k) same-places h.fits;
+          }
 
-pub factor-node : (o : Plane) (s : List ℕ) (i : ℕ) (T : List ℕ) (b w : ℕ) (k : Behind) → Factoring o s i T b w k → At s i
-factor-node o s i T b w k h = record { tree = one (last h.of); is = h.top }
+      pub turn_first : (u : ℕ) → emit_m s i ≡ u → (round_m s i n.low m < u) × Turning o s i c n.lazy empty n.low m (b + n.places) T b w k
+      unfolding emit_m round_m
+      turn_first u eu = (omega (arith, F.seen.order.low_small, more-small), turning)
 
-module _ (o : Plane) (s : List ℕ) (i : ℕ) (n : Node) (en : n ≡ node_at s i) (T : List ℕ) (b w : ℕ) (k : Behind) where
-  seen : (h : Factoring o s i T b w k) → FactorAt s n h.of
-  seen h = as_any s i n en (OnFactor (FactorAt s n)) (λ F q. q) (λ f b q. tt) (λ b p q. tt) (one (last h.of)) h.top
-
-  pub turn_order : Factoring o s i T b w k → n.low ≤ n.high
-  turn_order h = (seen h).order.in_order
-
-  pub factor-end : Factoring o s i T b w k → Fits-in w64 (b + n.places)
-  factor-end h = let x = exact o s i n en T b w k (one (last h.of)) h.top h.fits in record { fits = omega (arith, x.0, x.1) }
-
-  -- no places
-  pub factor-none : n.places ≡ 0 → (h : Factoring o s i T b w k) → Emitted o T T b w w (tree_places o (one (last h.of)) b k)
-  unfolding fork
-  factor-none e h =
-      let x = exact o s i n en T b w k (one (last h.of)) h.top h.fits in
-      nothing_put o T b w (tree_places o (one (last h.of)) b k) (omega (arith, x.0, tree-length o (one (last h.of)) b k))
-
-  -- one round
-  module _ (eh : n.high ≡ 1) (el : n.low ≡ 1) (h : Factoring o s i T b w k) where
-    abbrev copied : Unrolled
-    copied = unrolled (body h.of)
-
-    abbrev ending : ℕ
-    ending = b + size (turns 1 0 (lazy_of h.of) copied)
-
-    one-turn : tree_places o (one (last h.of)) b k ≡ turn_places o 1 0 h.of b k
-    one-turn = factor-places o h.of b k 1 0 (seen h).bounds (sym el ∙ (seen h).low)
-        (ap (λ (v : ℕ). pick (eqb v 100) 100 (v - 1)) (sym eh ∙ (seen h).high) ∙ ap (λ (v : ℕ). pick (eqb (highest_of h.of) 100) 100 (highest_of h.of - v)) (sym el ∙ (seen h).low))
-
-    one_split : turn_places o 1 0 h.of b k ≡ body_places o h.of b (start_by o (b + size copied) ending k)
-    one_split = turn_copy o h.of (size copied) b k ending refl 1 0 0 (start_by o (b + size copied) ending k) refl refl refl
-        ∙ ap (λ (xs : List Place). body_places o h.of b (start_by o (b + size copied) ending k) ++ xs) (turn_none o h.of (size copied) (b + size copied) k ending refl)
-        ∙ append-nil (body_places o h.of b (start_by o (b + size copied) ending k))
-
-    -- its body ends where it does
-    one_end : b + size copied ≡ ending
-    one_end = let z : size copied ≡ place_count (body h.of) = unrolled-size (body h.of) in
-        omega (arith, z, turn_length o 1 0 h.of b k, ap length one_split, body-length o h.of b (start_by o (b + size copied) ending k))
-
-    one-body : tree_places o (one (last h.of)) b k ≡ body_places o h.of b k
-    one-body = one-turn ∙ one_split ∙ ap (body_places o h.of b) (sym (start-end o (b + size copied) ending k one_end))
-
-    pub once-body : Bodying o s i T b w k
-    once-body = record { of = h.of; top = h.top; fits = subst (Fitting o T b w k) one-body h.fits }
-
-    pub once-less : (u : ℕ) → factor_m s i ≡ u → body_m s i < u
-    unfolding factor_m body_m
-    once-less u eu = omega (arith, eu)
-
-    pub once-done : (T2 : List ℕ) (q : ℕ) → ((g : Bodying o s i T b w k) → Emitted o T T2 b w q (body_places o g.of b k)) → Emitted o T T2 b w q (tree_places o (one (last h.of)) b k)
-    unfolding once-body
-    once-done T2 q g = subst (Emitted o T T2 b w q) (sym one-body) (g once-body)
-
-  module _ (c : ℕ) (hc : BodySize s i c) (empty : Bool) (he : BodyFlag o s i empty) (m : ℕ) (em : m ≡ pick (eqb n.high 100) 100 (n.high - n.low)) (h : Factoring o s i T b w k) where
-    more-is : m ≡ pick (eqb (highest_of h.of) 100) 100 (highest_of h.of - lower_of h.of)
-    more-is = em ∙ ap (λ (v : ℕ). pick (eqb v 100) 100 (v - n.low)) (seen h).high ∙ ap (λ (v : ℕ). pick (eqb (highest_of h.of) 100) 100 (highest_of h.of - v))
-        (seen h).low
-
-    same-places : tree_places o (one (last h.of)) b k ≡ turn_places o n.low m h.of b k
-    same-places = factor-places o h.of b k n.low m (seen h).bounds (seen h).low more-is
-
-    factor-count : (n.places ≡ place_count h.of) × (place_count h.of ≤ 256)
-    unfolding place_count
-    factor-count = let x = exact o s i n en T b w k (one (last h.of)) h.top h.fits in (x.0, omega (arith, x.1))
-
-    more-small : m ≤ 100
-    more-small = rw em (low (eqb n.high 100))
-      where
-        low : (t : Bool) → pick t 100 (n.high - n.low) ≤ 100
-        low true = omega arith
-        low false = omega (arith, (seen h).order.high_small)
-
-    pub turn_first : Turning o s i c n.lazy empty n.low m (b + n.places) T b w k
-    turn_first =
-        let z : size (unrolled (body h.of)) ≡ place_count (body h.of) = unrolled-size (body h.of) in
-        record {
-          of = h.of;
-          top = h.top;
-          each = hc h.of h.top factor-count.1 ∙ sym z;
-          reluctant = (seen h).lazy;
-          flags = he h.of h.top;
-          ends = ap (λ (v : ℕ). b + v) (factor-count.0 ∙ sym (factor-size o h.of b k n.low m (seen h).bounds (seen h).low more-is));
-          few = ((seen h).order.low_small, more-small);
-          fits = subst (Fitting o T b w k) same-places h.fits;
-        }
-
-    pub turn_less : (u : ℕ) → factor_m s i ≡ u → round_m s i n.low m < u
-    unfolding factor_m round_m
-    turn_less u eu = omega (arith, (seen h).order.low_small, more-small)
-
-    pub turn_done : (T2 : List ℕ) (q : ℕ) → ((g : Turning o s i c n.lazy empty n.low m (b + n.places) T b w k)
-        → Emitted o T T2 b w q (turn_places o n.low m g.of b k)) → Emitted o T T2 b w q (tree_places o (one (last h.of)) b k)
-    unfolding turn_first
-    turn_done T2 q g = subst (Emitted o T T2 b w q) (sym same-places) (g turn_first)
+      pub turn_done : (T2 : List ℕ) (q : ℕ) → ((g : Turning o s i c n.lazy empty n.low m (b + n.places) T b w k)
+          → Emitted o T T2 b w q (turn_places o n.low m g.of b k)) → Emitted o T T2 b w q (tree_places o h.tree b k)
+      unfolding turning
+      turn_done T2 q g = subst (Emitted o T T2 b w q) (sym same-places) (g turning)
 
 pub emit_in : (o : Plane) (s : List ℕ) (i : ℕ) (T : List ℕ) (b w : ℕ) (k : Behind) → Emitting o s i T b w k → 8 * i + 8 ≤ length s
 emit_in o s i T b w k h = at_in s i (record { tree = h.tree; is = h.top })
@@ -626,74 +546,9 @@ module _ (o : Plane) (s : List ℕ) (i c : ℕ) (lazy empty : Bool) (n m end : �
     chosen-done : (T1 T2 : List ℕ) (r q : ℕ) → Emitted o T T1 b w r (choice_places o lazy co k) → Emitted o T1 T2 (b + 1) r q (Q (b + 1)) → Emitted o T T2 b w q whole
     chosen-done T1 T2 r q d g = part-both o T b w k whole (choice_places o lazy co k) Q (b + 1) whole-lazy one_more T1 r d T2 q g
 
-  -- a fork and a copy, and then m1 times more; nx is behind the copy
-  module _ (m1 : ℕ) (cp nx : Behind) (h : Turning o s i c lazy empty n m end T b w k)
-      (split : turn_places o n m h.of b k ≡ choice_places o (lazy_of h.of) cp.here k ++ (body_places o h.of (b + 1) nx ++ turn_places o 0 m1 h.of (b + 1 + c) k)) where
-    -- the copy and the rest, from the place v on
-    behind_fork : ℕ → List Place
-    behind_fork v = body_places o h.of v nx ++ turn_places o 0 m1 h.of (v + c) k
-
-    fork-split : turn_places o n m h.of b k ≡ choice_places o (lazy_of h.of) cp.here k ++ behind_fork (b + 1)
-    unfolding behind_fork
-    fork-split = split
-
-    fork-lengths : length (turn_places o n m h.of b k) ≡ 1 + (c + length (turn_places o 0 m1 h.of (b + 1 + c) k))
-    unfolding behind_fork
-    fork-lengths =
-        ap length fork-split ∙ length-append (choice_places o (lazy_of h.of) cp.here k) (behind_fork (b + 1))
-        ∙ ap (λ (v : ℕ). 1 + v) (length-append (body_places o h.of (b + 1) nx) (turn_places o 0 m1 h.of (b + 1 + c) k)
-        ∙ ap (λ (v : ℕ). v + length (turn_places o 0 m1 h.of (b + 1 + c) k)) (body-places h (b + 1) nx))
-
-    pub forked-low : b + 1 + c ≤ 256
-    forked-low = omega (arith, h.fits.place, fork-lengths)
-
-    pub forked-choose : Low cp → Parting o T b w lazy cp.here k
-    forked-choose l = choose h.of h.reluctant cp.here behind_fork (turn_places o n m h.of b k) fork-split (omega (arith, l.here)) h.fits
-
-    module _ (low : Low nx) (few : m1 ≤ 100) (T1 : List ℕ) (r : ℕ) (d : Emitted o T T1 b w r (choice_places o lazy cp.here k)) where
-      inside-fits : Fitting o T1 (b + 1) r k (body_places o h.of (b + 1) nx ++ turn_places o 0 m1 h.of (b + 1 + c) k)
-      unfolding behind_fork
-      inside-fits = chosen h.of h.reluctant cp.here behind_fork (turn_places o n m h.of b k) fork-split h.fits T1 r d
-
-      copy-behind : b + 1 + c ≡ b + 1 + length (body_places o h.of (b + 1) nx)
-      copy-behind = ap (λ (v : ℕ). b + 1 + v) (sym (body-places h (b + 1) nx))
-
-      pub forked-body : Bodying o s i T1 (b + 1) r nx
-      forked-body =
-          record {
-            of = h.of;
-            top = h.top;
-            fits = fit-left o T1 (b + 1) r k (body_places o h.of (b + 1) nx) (turn_places o 0 m1 h.of (b + 1 + c) k) nx low inside-fits;
-          }
-
-      module _ (T2 : List ℕ) (q : ℕ) (g : (t : Bodying o s i T1 (b + 1) r nx) → Emitted o T1 T2 (b + 1) r q (body_places o t.of (b + 1) nx)) where
-        forked-put : Emitted o T1 T2 (b + 1) r q (body_places o h.of (b + 1) nx)
-        unfolding forked-body
-        forked-put = g forked-body
-
-        pub forked-again : Turning o s i c lazy empty 0 m1 end T2 (b + 1 + c) q k
-        forked-again =
-            let l1 = turn_length o n m h.of b k in
-            let l2 = turn_length o 0 m1 h.of (b + 1 + c) k in
-            record {
-              of = h.of;
-              top = h.top;
-              each = h.each;
-              reluctant = h.reluctant;
-              flags = h.flags;
-              ends = omega (arith, h.ends, fork-lengths);
-              few = (omega arith, few);
-              fits = part_right o T1 (b + 1) r k (body_places o h.of (b + 1) nx ++ turn_places o 0 m1 h.of (b + 1 + c) k) (body_places o h.of (b + 1) nx)
-                  (λ v. turn_places o 0 m1 h.of v k) (b + 1 + c) refl copy-behind T2 q forked-put inside-fits;
-            }
-
-        pub forked-done : (T3 : List ℕ) (z : ℕ) → ((t : Turning o s i c lazy empty 0 m1 end T2 (b + 1 + c) q k) → Emitted o T2 T3 (b + 1 + c) q z (turn_places o 0 m1 t.of (b + 1 + c) k))
-            → Emitted o T T3 b w z (turn_places o n m h.of b k)
-        unfolding forked-again behind_fork
-        forked-done T3 z t =
-            chosen-done h.of h.reluctant cp.here behind_fork (turn_places o n m h.of b k) fork-split T1 T3 r z d
-            (part-both o T1 (b + 1) r k (body_places o h.of (b + 1) nx ++ turn_places o 0 m1 h.of (b + 1 + c) k) (body_places o h.of (b + 1) nx)
-            (λ v. turn_places o 0 m1 h.of v k) (b + 1 + c) refl copy-behind T2 q forked-put T3 z (t forked-again))
+  -- places that begin with a fork leave room for it
+  fork-low : (z : Bool) (co : ℕ) (ys : List Place) → Fitting o T b w k (choice_places o z co k ++ ys) → b + 1 + length ys ≤ 256
+  fork-low z co ys f = omega (arith, f.place, length-append (choice_places o z co k) ys)
 
   -- a fork and a copy that leads back to it
   module _ (l : n ≤ 0) (e : m ≡ 100) where
@@ -705,28 +560,55 @@ module _ (o : Plane) (s : List ℕ) (i c : ℕ) (lazy empty : Bool) (n m end : �
         h.ends ∙ ap (λ (v : ℕ). b + size (turns v m (lazy_of h.of) (unrolled (body h.of)))) (let z : n ≡ 0 = omega arith in z)
         ∙ ap (λ (v : ℕ). b + size (turns 0 v (lazy_of h.of) (unrolled (body h.of)))) e
 
-    -- what the end of a round asks
+    module _ (R : Behind) (er : R ≡ round_by o empty b k) (cp : Behind) (ec : cp ≡ start_by o (b + 1) end R) (h : Turning o s i c lazy empty n m end T b w k) where
+      round_is : R ≡ round_by o (flags_copy o (unrolled (body h.of))) b k
+      round_is = er ∙ ap (λ (t : Bool). round_by o t b k) h.flags
+
+      star-split : turn_places o n m h.of b k ≡ choice_places o (lazy_of h.of) cp.here k ++ body_places o h.of (b + 1) R
+      star-split = all_star h ∙ turn_star o h.of c b k end h.each R cp (star-ends h) round_is ec
+
+      star-low : b + 1 ≤ 256
+      star-low = omega (arith, fork-low (lazy_of h.of) cp.here (body_places o h.of (b + 1) R) (subst (Fitting o T b w k) star-split h.fits))
+
+      round_fits : Low R
+      round_fits = rw er (round_low o empty b k h.fits.planed (omega (arith, star-low)) h.fits.behind)
+
+      copy-small : Low cp
+      copy-small = rw ec (start-low o (b + 1) end R h.fits.planed star-low round_fits)
+
+      pub star-choose : Parting o T b w lazy cp.here k
+      star-choose =
+          choose h.of h.reluctant cp.here (λ v. body_places o h.of v R) (turn_places o n m h.of b k) star-split
+          (omega (arith, copy-small.here)) h.fits
+
+      module _ (T1 : List ℕ) (r : ℕ) (d : Emitted o T T1 b w r (choice_places o lazy cp.here k)) where
+        star-bodying : Bodying o s i T1 (b + 1) r R
+        star-bodying =
+            let f = chosen h.of h.reluctant cp.here (λ v. body_places o h.of v R) (turn_places o n m h.of b k) star-split
+            h.fits T1 r d in
+            record {
+              of = h.of;
+              top = h.top;
+              fits = record { planed = f.planed; long = f.long; small = f.small; place = f.place; way = f.way; behind = round_fits };
+            }
+
+        pub star-body : (u : ℕ) → round_m s i n m ≡ u → (body_m s i < u) × Bodying o s i T1 (b + 1) r R
+        unfolding round_m body_m
+        star-body u eu = (omega arith, star-bodying)
+
+        pub star-done : (T2 : List ℕ) (q : ℕ) → ((g : Bodying o s i T1 (b + 1) r R) → Emitted o T1 T2 (b + 1) r q (body_places o g.of (b + 1) R))
+            → Emitted o T T2 b w q (turn_places o n m h.of b k)
+        unfolding star-bodying
+        star-done T2 q g =
+            chosen-done h.of h.reluctant cp.here (λ v. body_places o h.of v R) (turn_places o n m h.of b k) star-split T1
+            T2 r q d (g star-bodying)
+
+    -- what the end of a round and the start of its copy ask
     pub star-round : Turning o s i c lazy empty n m end T b w k → Planed o × (b ≤ 256) × Low k
     star-round h = (h.fits.planed, omega (arith, h.fits.place), h.fits.behind)
 
-    module _ (R : Behind) (er : R ≡ round_by o empty b k) where
-      pub star-low : Turning o s i c lazy empty n m end T b w k → Low R
-      star-low h = rw er (round_low o empty b k h.fits.planed (omega (arith, h.fits.place)) h.fits.behind)
-
-      module _ (cp : Behind) (ec : cp ≡ start_by o (b + 1) end R) where
-        pub star-split : (h : Turning o s i c lazy empty n m end T b w k)
-            → turn_places o n m h.of b k ≡ choice_places o (lazy_of h.of) cp.here k ++ (body_places o h.of (b + 1) R ++ turn_places o 0 0 h.of (b + 1 + c) k)
-        star-split h =
-            all_star h ∙ turn_star o h.of c b k end h.each R cp (star-ends h) (er ∙ ap (λ (t : Bool). round_by o t b k) h.flags) ec
-            ∙ ap (λ (xs : List Place). choice_places o (lazy_of h.of) cp.here k ++ xs)
-            (sym (append-nil (body_places o h.of (b + 1) R)) ∙ ap (λ (xs : List Place). body_places o h.of (b + 1) R ++ xs) (sym (turn_none o h.of c (b + 1 + c) k end h.each)))
-
-      -- what the start of its copy asks
-      pub star-start : Turning o s i c lazy empty n m end T b w k → Planed o × (b + 1 ≤ 256) × Low R
-      star-start h = (h.fits.planed, omega (arith, forked-low 0 (start_by o (b + 1) end R) R h (star-split (start_by o (b + 1) end R) refl h)), star-low h)
-
-      pub star-copy : (cp : Behind) → cp ≡ start_by o (b + 1) end R → Turning o s i c lazy empty n m end T b w k → Low cp
-      star-copy cp ec h = let x = star-start h in rw ec (start-low o (b + 1) end R x.0 x.1 x.2)
+    pub star-start : (R : Behind) → R ≡ round_by o empty b k → Turning o s i c lazy empty n m end T b w k → Planed o × (b + 1 ≤ 256) × Low R
+    star-start R er h = (h.fits.planed, star-low R er (start_by o (b + 1) end R) refl h, round_fits R er (start_by o (b + 1) end R) refl h)
 
   -- a fork and a copy, and then fewer
   module _ (l : n ≤ 0) (e0 : m ≡ 0 → ⊥) (e100 : m ≡ 100 → ⊥) where
@@ -741,12 +623,107 @@ module _ (o : Plane) (s : List ℕ) (i c : ℕ) (lazy empty : Bool) (n m end : �
         h.ends ∙ ap (λ (v : ℕ). b + size (turns v m (lazy_of h.of) (unrolled (body h.of)))) (let z : n ≡ 0 = omega arith in z)
         ∙ ap (λ (v : ℕ). b + size (turns 0 v (lazy_of h.of) (unrolled (body h.of)))) (suc-more h).0
 
-    pub option_split : (cp : Behind) → cp ≡ start_by o (b + 1) end k → (nx : Behind) → nx ≡ start_by o (b + 1 + c) end k → (h : Turning o s i c lazy empty n m end T b w k)
-        → turn_places o n m h.of b k ≡ choice_places o (lazy_of h.of) cp.here k ++ (body_places o h.of (b + 1) nx ++ turn_places o 0 (m - 1) h.of (b + 1 + c) k)
-    option_split cp ec nx ex h = all_options h ∙ turn_option o h.of c b k end h.each (m - 1) cp nx (suc-more h).1 (option_ends h) ec ex
+    module _ (cp : Behind) (ec : cp ≡ start_by o (b + 1) end k) (h : Turning o s i c lazy empty n m end T b w k) where
+      -- the copy and the rest, from the place v on
+      behind_fork : Behind → ℕ → List Place
+      behind_fork nx v = body_places o h.of v nx ++ turn_places o 0 (m - 1) h.of (v + c) k
 
-    pub option_low : Turning o s i c lazy empty n m end T b w k → b + 1 + c ≤ 256
-    option_low h = forked-low (m - 1) (start_by o (b + 1) end k) (start_by o (b + 1 + c) end k) h (option_split _ refl _ refl h)
+      option_split : (nx : Behind) → nx ≡ start_by o (b + 1 + c) end k
+          → turn_places o n m h.of b k ≡ choice_places o (lazy_of h.of) cp.here k ++ behind_fork nx (b + 1)
+      unfolding behind_fork
+      option_split nx ex = all_options h ∙ turn_option o h.of c b k end h.each (m - 1) cp nx (suc-more h).1 (option_ends h) ec ex
+
+      option_lengths : (nx : Behind) → nx ≡ start_by o (b + 1 + c) end k
+          → length (turn_places o n m h.of b k) ≡ 1 + (c + length (turn_places o 0 (m - 1) h.of (b + 1 + c) k))
+      unfolding behind_fork
+      option_lengths nx ex =
+          ap length (option_split nx ex) ∙ length-append (choice_places o (lazy_of h.of) cp.here k) (behind_fork nx (b + 1))
+          ∙ ap (λ (v : ℕ). 1 + v) (length-append (body_places o h.of (b + 1) nx) (turn_places o 0 (m - 1) h.of (b + 1 + c) k)
+          ∙ ap (λ (v : ℕ). v + length (turn_places o 0 (m - 1) h.of (b + 1 + c) k)) (body-places h (b + 1) nx))
+
+      option_low : b + 1 + c ≤ 256
+      unfolding behind_fork
+      option_low =
+          let nx : Behind = start_by o (b + 1 + c) end k in
+          let f = fork-low (lazy_of h.of) cp.here (behind_fork nx (b + 1)) (subst (Fitting o T b w k) (option_split nx refl) h.fits) in
+          omega (arith, f, length-append (body_places o h.of (b + 1) nx) (turn_places o 0 (m - 1) h.of (b + 1 + c) k), body-places h (b + 1) nx)
+
+      copy-low_entry : Low cp
+      copy-low_entry = rw ec (start-low o (b + 1) end k h.fits.planed (omega (arith, option_low)) h.fits.behind)
+
+      pub option_choose : Parting o T b w lazy cp.here k
+      option_choose =
+          choose h.of h.reluctant cp.here (behind_fork (start_by o (b + 1 + c) end k))
+          (turn_places o n m h.of b k) (option_split _ refl)
+          (omega (arith, copy-low_entry.here)) h.fits
+
+      module _ (T1 : List ℕ) (r : ℕ) (d : Emitted o T T1 b w r (choice_places o lazy cp.here k)) (nx : Behind) (ex : nx ≡ start_by o (b + 1 + c) end k)
+        where
+          inside-fits : Fitting o T1 (b + 1) r k (body_places o h.of (b + 1) nx ++ turn_places o 0 (m - 1) h.of (b + 1 + c) k)
+          unfolding behind_fork
+          inside-fits = chosen h.of h.reluctant cp.here (behind_fork nx) (turn_places o n m h.of b k) (option_split nx ex) h.fits
+              T1 r d
+
+          option_long : b + 1 + c ≡ b + 1 + length (body_places o h.of (b + 1) nx)
+          option_long = ap (λ (v : ℕ). b + 1 + v) (sym (body-places h (b + 1) nx))
+
+          option_bodying : Bodying o s i T1 (b + 1) r nx
+          option_bodying =
+              record {
+                of = h.of;
+                top = h.top;
+                fits = fit-left o T1 (b + 1) r k (body_places o h.of (b + 1) nx) (turn_places o 0 (m - 1) h.of (b + 1 + c) k) nx
+                    (rw ex (start-low o (b + 1 + c) end k h.fits.planed option_low h.fits.behind)) inside-fits;
+              }
+
+          pub option_body : (u : ℕ) → round_m s i n m ≡ u → (body_m s i < u) × Bodying o s i T1 (b + 1) r nx
+          unfolding round_m body_m
+          option_body u eu = (omega arith, option_bodying)
+
+          module _ (T2 : List ℕ) (q : ℕ) (g : (t : Bodying o s i T1 (b + 1) r nx) → Emitted o T1 T2 (b + 1) r q (body_places o t.of (b + 1) nx)) where
+            option_put : Emitted o T1 T2 (b + 1) r q (body_places o h.of (b + 1) nx)
+            unfolding option_bodying
+            option_put = g option_bodying
+
+            option_turning : Turning o s i c lazy empty 0 (m - 1) end T2 (b + 1 + c) q k
+            option_turning =
+                let f = part_right o T1 (b + 1) r k (body_places o h.of (b + 1) nx ++ turn_places o 0 (m - 1) h.of (b + 1 + c) k) (body_places o h.of (b + 1) nx)
+                (λ v. turn_places o 0 (m - 1) h.of v k) (b + 1 + c) refl option_long T2 q option_put inside-fits in
+                let l1 = turn_length o n m h.of b k in
+                let l2 = turn_length o 0 (m - 1) h.of (b + 1 + c) k in
+                let l3 = option_lengths nx ex in
+                record {
+                  of = h.of;
+                  top = h.top;
+                  each = h.each;
+                  reluctant = h.reluctant;
+                  flags = h.flags;
+                  ends = omega (arith, h.ends, body-places h (b + 1) nx);
+                  few = (omega arith, omega (arith, h.few.1));
+                  fits = f;
+                }
+
+            pub option_again : (u : ℕ) → round_m s i n m ≡ u → (round_m s i 0 (m - 1) < u) × Turning o s i c lazy empty 0 (m - 1) end T2 (b + 1 + c) q k
+            unfolding round_m
+            option_again u eu = (omega (arith, (suc-more h).0), option_turning)
+
+            pub option_done : (T3 : List ℕ) (z : ℕ) → ((t : Turning o s i c lazy empty 0 (m - 1) end T2 (b + 1 + c) q k) → Emitted o T2 T3 (b + 1 + c) q z (turn_places o 0 (m - 1) t.of (b + 1 + c) k))
+                → Emitted o T T3 b w z (turn_places o n m h.of b k)
+            unfolding option_turning behind_fork
+            option_done T3 z t =
+                chosen-done h.of h.reluctant cp.here (behind_fork nx) (turn_places o n m h.of b k) (option_split nx ex) T1 T3 r z d
+                (part-both o T1 (b + 1) r k (body_places o h.of (b + 1) nx ++ turn_places o 0 (m - 1) h.of (b + 1 + c) k) (body_places o h.of (b + 1) nx)
+                (λ v. turn_places o 0 (m - 1) h.of v k) (b + 1 + c) refl option_long T2 q option_put T3 z (t option_turning))
+
+    pub option_more : Turning o s i c lazy empty n m end T b w k → Fits-in w64 (b + 1 + c)
+    option_more h = record { fits = omega (arith, option_low _ refl h) }
+
+    -- what the starts of the copy and of the rest ask
+    pub option_start : Turning o s i c lazy empty n m end T b w k → Planed o × (b + 1 ≤ 256) × Low k
+    option_start h = (h.fits.planed, omega (arith, option_low _ refl h), h.fits.behind)
+
+    pub option_rest : Turning o s i c lazy empty n m end T b w k → Planed o × (b + 1 + c ≤ 256) × Low k
+    option_rest h = (h.fits.planed, option_low _ refl h, h.fits.behind)
 
 -- ---- body
 

@@ -3,12 +3,9 @@
 // it does not have them. Parts of a sequence, branches and rounds are walked over by loops; a pair
 // of parentheses is a call, whose node is lower, so calls nest as deep as parentheses do. Weakness:
 // a factor's body is unrolled once for each of its copies, and all of it once for each plane.
-ghost use Rattle.std.specs.Prelude.{List, ℕ, ◌+◌, ◌<◌};
 ghost use Rattle.place_words.specs.Words.{Emitted};
-ghost use Rattle.rules.specs.Language.{one, last};
 ghost use Rattle.forks.specs.Emitting.{tree_places, branch_places, body_places, turn_places};
-ghost use Rattle.forks.specs.Emitting.{Emitting, Branching, FirstPart, Factoring, Bodying, Turning};
-ghost use Rattle.unrolling.specs.Turns.{Turned};
+ghost use Rattle.forks.specs.Emitting.{Emitting, Branching, Bodying, Turning};
 
 use body_sizes::{body_size, copy_has_flag};
 use forks::{branch_fork, fork};
@@ -28,21 +25,10 @@ struct Factor {
     behind: Behind,
 }
 
-// A turn of a factor's rounds: how many copies and forks are left behind it, where its body begins,
-// the word for the body's ways, and what is behind the body.
-#[derive(Drop)]
-struct Turn {
-    copies: usize,
-    forks: usize,
-    from: usize,
-    way: usize,
-    behind: Behind,
-}
-
 // The tree at i, its places numbered from b on and their ways from word w on, where k is behind it.
 // The parts of a sequence are walked over by a loop, as are branches and rounds below:
 // only parentheses take stack.
-#[cycle(body_branches_emit_in_rounds_rounds)]
+#[cycle(body_branches_emit_rounds)]
 pub fn emit(
     room: &[u16],
     i: usize,
@@ -71,70 +57,31 @@ pub fn emit(
         if end == from {
             return way;
         }
-        let part = first_part(sort, left, node);
-        let mid = from + places_at(room, part);
+        let Sort::Sequence = sort else {
+            let c = body_size(room, node);
+            let empty = copy_has_flag(room, node, o);
+            let low = n.low;
+            let m = turns_behind(low, n.high);
+            let f = Factor {
+                node,
+                body: c,
+                lazy: n.lazy,
+                empty,
+                end,
+                behind: k,
+            };
+            return rounds(room, f, low, m, table, o, from, way);
+        };
+        let mid = from + places_at(room, left);
         let next = start_at(o, mid, end, k);
-        way = in_rounds(room, part, table, o, from, way, next);
-        if mid == end {
-            return way;
-        }
+        way = emit(room, left, table, o, from, way, next);
         from = mid;
         node = right;
     }
 }
 
-// The first part of the node at i, which has this sort: its left one, or all of it.
-fn first_part(sort: Sort, left: usize, i: usize) -> usize
-    ensures { FirstPart sort left i result }
-{
-    if let Sort::Sequence = sort {
-        return left;
-    }
-    i
-}
-
-// The factor at i, in its rounds: most have one, which is the body. One without places is not gone
-// through, as it may have many rounds.
-#[cycle(body_branches_emit_in_rounds_rounds)]
-fn in_rounds(
-    room: &[u16],
-    i: usize,
-    table: &mut [u16],
-    o: Plane,
-    b: usize,
-    w: usize,
-    k: Behind,
-) -> usize
-    requires { Factoring o room.now i table.old b w k }
-    ensures { (h : Factoring o room.now i table.old b w k) → Emitted o table.old table.new b w result (tree_places o (one (last h.of)) b k) }
-{
-    let n = node_at(room, i);
-    if n.places == 0 {
-        return w;
-    }
-    if n.high == 1 {
-        if n.low == 1 {
-            return body(room, i, table, o, b, w, k);
-        }
-    }
-    let c = body_size(room, i);
-    let empty = copy_has_flag(room, i, o);
-    let low = n.low;
-    let m = turns_behind(low, n.high);
-    let end = b + n.places;
-    let f = Factor {
-        node: i,
-        body: c,
-        lazy: n.lazy,
-        empty,
-        end,
-        behind: k,
-    };
-    rounds(room, f, low, m, table, o, b, w)
-}
-
 // The branches of the pattern at i; the fork of an alternation is there already.
-#[cycle(body_branches_emit_in_rounds_rounds)]
+#[cycle(body_branches_emit_rounds)]
 fn branches(
     room: &[u16],
     i: usize,
@@ -170,7 +117,7 @@ fn branches(
 
 // The rounds of a factor: n copies of its body, then m times a fork and a copy, or for m = 100 a
 // fork and a copy that leads back to it.
-#[cycle(body_branches_emit_in_rounds_rounds)]
+#[cycle(body_branches_emit_rounds)]
 fn rounds(
     room: &[u16],
     f: Factor,
@@ -186,70 +133,45 @@ fn rounds(
 {
     let i = f.node;
     let c = f.body;
+    let lazy = f.lazy;
+    let empty = f.empty;
+    let end = f.end;
+    let k = f.behind;
     let mut copies = n;
     let mut forks = m;
     let mut from = b;
     let mut way = w;
-    while 0 < copies + forks {
-        let t = next_turn(f, copies, forks, table, o, from, way);
-        let first = t.from;
-        way = body(room, i, table, o, first, t.way, t.behind);
-        copies = t.copies;
-        forks = t.forks;
-        from = first + c;
-    }
-    way
-}
-
-// The next turn of a factor's rounds, of which n copies and m forks are left: its fork is put where
-// one is due. So the body is called in one place, and the compiler puts it there.
-fn next_turn(f: Factor, n: usize, m: usize, table: &mut [u16], o: Plane, b: usize, w: usize) -> Turn
-    requires { (0 < n + m) × ((s : List ℕ) × Turning o s f.node f.body f.lazy f.empty n m f.end table.old b w f.behind) }
-    ensures { (s : List ℕ) (h : Turning o s f.node f.body f.lazy f.empty n m f.end table.old b w f.behind) → Turned o s f.node f.body f.lazy f.empty n m f.end table.old b w f.behind h table.new result }
-{
-    let c = f.body;
-    let lazy = f.lazy;
-    let end = f.end;
-    let k = f.behind;
-    if 0 < n {
-        let behind = start_at(o, b + c, end, k);
-        let copies = n - 1;
-        return Turn {
-            copies,
-            forks: m,
-            from: b,
-            way: w,
-            behind,
-        };
-    }
-    let first = b + 1;
-    if m == 100 {
-        let behind = round_end(o, b, f.empty, k);
-        let copy = start_at(o, first, end, behind);
-        let way = fork(table, o, b, w, lazy, copy.here, k);
-        return Turn {
-            copies: 0,
-            forks: 0,
-            from: first,
-            way,
-            behind,
-        };
-    }
-    let copy = start_at(o, first, end, k);
-    let way = fork(table, o, b, w, lazy, copy.here, k);
-    let behind = start_at(o, first + c, end, k);
-    let forks = m - 1;
-    Turn {
-        copies: 0,
-        forks,
-        from: first,
-        way,
-        behind,
+    loop {
+        if 0 < copies {
+            let rest = from + c;
+            let next = start_at(o, rest, end, k);
+            way = body(room, i, table, o, from, way, next);
+            from = rest;
+            copies = copies - 1;
+            continue;
+        }
+        if forks == 0 {
+            return way;
+        }
+        let first = from + 1;
+        if forks == 100 {
+            let back = round_end(o, from, empty, k);
+            let copy = start_at(o, first, end, back);
+            let inside = fork(table, o, from, way, lazy, copy.here, k);
+            return body(room, i, table, o, first, inside, back);
+        }
+        let copy = start_at(o, first, end, k);
+        let inside = fork(table, o, from, way, lazy, copy.here, k);
+        let rest = first + c;
+        let next = start_at(o, rest, end, k);
+        way = body(room, i, table, o, first, inside, next);
+        from = rest;
+        forks = forks - 1;
     }
 }
 
 // The body of the factor at i, once. A letter that passes sets all flags that its place has.
-#[cycle(body_branches_emit_in_rounds_rounds)]
+#[cycle(body_branches_emit_rounds)]
 fn body(room: &[u16], i: usize, table: &mut [u16], o: Plane, b: usize, w: usize, k: Behind) -> usize
     requires { Bodying o room.now i table.old b w k }
     ensures { (h : Bodying o room.now i table.old b w k) → Emitted o table.old table.new b w result (body_places o h.of b k) }
@@ -263,11 +185,6 @@ fn body(room: &[u16], i: usize, table: &mut [u16], o: Plane, b: usize, w: usize,
         Sort::Empty => w,
         Sort::Sequence => w,
         Sort::Alternation => w,
-        Sort::Group => {
-            let values = k.values;
-            let here = k.here;
-            let set = k.set;
-            emit(room, left, table, o, b, w, Behind { values, here, set })
-        }
+        Sort::Group => emit(room, left, table, o, b, w, k),
     }
 }

@@ -96,8 +96,8 @@ module _ (H : Halting) (T : Layout) (holds : ℕ → ℕ → Bool) (n : ℕ) (qu
   pub back_at : w.top - 1 < length trail
   back_at = let r = roomy_top T n trail w.top w.steps top_room g.trailed in let k = h.going in omega arith
 
-  pub back-put : (a : ℕ) → a < 256 → (w.top - 1 < length trail) × (a < 256)
-  back-put a l = (back_at, l)
+  pub back_put : (a : ℕ) → a < 256 → (w.top - 1 < length trail) × (a < 256)
+  back_put a l = (back_at, l)
 
   -- ---- it fails
 
@@ -131,8 +131,8 @@ module _ (H : Halting) (T : Layout) (holds : ℕ → ℕ → Bool) (n : ℕ) (qu
     has-second : 0 < first
     has-second = word.some some
 
-    first_is : first ≡ 1
-    first_is = (second_is T q has-second).0
+    first-is : first ≡ 1
+    first-is = (second_is T q has-second).0
 
     stop-small : stop ≤ 256
     stop-small = g.legal.sized.many q place
@@ -275,7 +275,7 @@ module _ (H : Halting) (T : Layout) (holds : ℕ → ℕ → Bool) (n : ℕ) (qu
       way_here =
           let a = word.behind some in
           let b = word.before some in
-          let o = first_is in
+          let o = first-is in
           let d : j ≡ suc (j - first) = omega arith in
           ek ∙ ap (λ (i : ℕ). later_way T.words q i) d ∙ sym (ways-later T q (j - first) (omega arith))
 
@@ -345,14 +345,14 @@ module _ (H : Halting) (T : Layout) (holds : ℕ → ℕ → Bool) (n : ℕ) (qu
     r-is : r ≡ row_in e
     r-is = er.0 ∙ ap (λ (x : ℕ). row_in x) eu.0
 
-    pub back-base : r * P T < most_pairs
-    back-base = rw r-is (let b = below in let s = g.legal.small in omega arith)
+    pub back_base : r * P T < most_pairs
+    back_base = rw r-is (let b = below in let s = g.legal.small in omega arith)
 
-    pub back-pair : r * P T + p < most_pairs
-    back-pair = rw (p-is, r-is) (let b = below in let s = g.legal.small in omega arith)
+    pub back_pair : r * P T + p < most_pairs
+    back_pair = rw (p-is, r-is) (let b = below in let s = g.legal.small in omega arith)
 
-    pub back-marks : ((r * P T + p) / 8 < length notes) × (bit_at notes (r * P T + p) ≡ false)
-    back-marks = rw (p-is, r-is) (top_byte H T holds n quiet notes trail w g h.going, top_out H T holds n quiet notes trail w g h.going)
+    pub back_marks : ((r * P T + p) / 8 < length notes) × (bit_at notes (r * P T + p) ≡ false)
+    back_marks = rw (p-is, r-is) (top_byte H T holds n quiet notes trail w g h.going, top_out H T holds n quiet notes trail w g h.going)
 
     as_read : (notes' : List ℕ) → notes' ≡ marked notes (r * P T + p)
         → Backward H T holds n notes trail w (marked notes (row_in e * P T + q)) trail (walk_at (w.top - 1) w.steps q (row_in e) (row_in e * P T) 0)
@@ -370,37 +370,37 @@ module _ (H : Halting) (T : Layout) (holds : ℕ → ℕ → Bool) (n : ℕ) (qu
         some-way : 0 < j
         some-way = rw v-is at nz
 
-        pub back-words : 4 * p + 4 ≤ length T.words
-        back-words = rw p-is (let a = word.place in let l = g.legal.sized.long in omega arith)
+        pub back_words : 4 * p + 4 ≤ length T.words
+        back_words = rw p-is (let a = word.place in let l = g.legal.sized.long in omega arith)
 
-        pub back-later : LaterIn T.words p v
-        back-later = rw (p-is, v-is) (later-in some-way)
+        pub back_later : LaterIn T.words p v
+        back_later = rw (p-is, v-is) (later-in some-way)
 
         module _ (k : ℕ) (ek : (k ≡ later_way T.words p v) × (k < 65536)) where
           k-is : k ≡ later_way T.words q j
           k-is = ek.0 ∙ ap₂ (λ (x y : ℕ). later_way T.words x y) p-is v-is
 
-          pub back-noted : Noted notes (r * P T + k)
-          back-noted = rw r-is (way_noted some-way k k-is)
+          pub back_noted : Noted notes (r * P T + k)
+          back_noted = rw r-is (way_noted some-way k k-is)
 
           module _ (s : ℕ) (es : (s ≡ count_at T.words p) × (s < 65536)) where
-            s-is : s ≡ count_at T.words q
-            s-is = es.0 ∙ ap (λ (x : ℕ). count_at T.words x) p-is
+            s_is : s ≡ count_at T.words q
+            s_is = es.0 ∙ ap (λ (x : ℕ). count_at T.words x) p-is
 
-            pub back-stop : (v < 65536) × (s ≤ 256)
-            back-stop = (omega (arith, ev.1), rw s-is (stop-small some-way))
+            pub back_stop : (v < 65536) × (s ≤ 256)
+            back_stop = (omega (arith, ev.1), rw s_is (stop-small some-way))
 
             module _ (a : ℕ) (ea : (a ≡ after s v) × (a < 256)) (f : Bool) (ef : f ≡ bit_at notes (r * P T + k)) where
-              pub back-tried : (t : List ℕ) → t ≡ set trail (w.top - 1) (went_on a u) → (d : ℕ) → one_unless f ≡ d
+              pub back_tried : (t : List ℕ) → t ≡ set trail (w.top - 1) (went_on a u) → (d : ℕ) → one_unless f ≡ d
                   → Backward H T holds n notes trail w notes t (walk_at w.top w.steps k r (r * P T) d)
-              back-tried t et d ed =
+              back_tried t et d ed =
                   let x : Backward H T holds n notes trail w notes (trail₂ some-way) (try_at notes w.top w.steps k (row_in e) (row_in e * P T)) = way_tried some-way k k-is in
-                  let c : t ≡ trail₂ some-way = et ∙ ap₂ (λ (y z : ℕ). set trail (w.top - 1) (went_on y z)) (ea.0 ∙ ap₂ after s-is v-is) eu.0 in
+                  let c : t ≡ trail₂ some-way = et ∙ ap₂ (λ (y z : ℕ). set trail (w.top - 1) (went_on y z)) (ea.0 ∙ ap₂ after s_is v-is) eu.0 in
                   rw (c, ← ed, ef, r-is) x
 
               pub back_last : f ≡ true → a ≤ 0 → (notes' : List ℕ) → notes' ≡ marked notes (r * P T + p)
                   → Backward H T holds n notes trail w notes' trail (walk_at (w.top - 1) w.steps p r (r * P T) 0)
               back_last t z notes' en =
-                  let y : after (count_at T.words q) j ≡ 0 = sym (ea.0 ∙ ap₂ after s-is v-is) ∙ omega (arith, z) in
+                  let y : after (count_at T.words q) j ≡ 0 = sym (ea.0 ∙ ap₂ after s_is v-is) ∙ omega (arith, z) in
                   let o : bit_at notes (row_in e * P T + k) ≡ true = rw r-is at (sym ef ∙ t) in
                   as_read notes' en (popped (all_left some-way k k-is y o) q (row_in e) (row_in e * P T))

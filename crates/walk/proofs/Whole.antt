@@ -1,25 +1,25 @@
--- The loops: on while a pair is to be entered, back until one is, and both in turn; and a pair that
--- is tried where none is open, as an attempt does, from there to its result.
+-- The loops: on while a pair is to be entered, back until one is, and both in turn; and the
+-- attempt, from the pair that it tries to its result.
 use mathlib.Core.Path.{◌≡◌, refl, sym, ap, subst, ◌∙◌}
 use mathlib.Core.List.{List}
 use mathlib.Core.Bool.{Bool, true, false}
 use mathlib.Core.Logic.{◌≢◌}
-use Prim.Native.Nat.{ℕ, zero, suc, ◌+◌, ◌-◌, ◌*◌, ◌≤◌, ◌<◌}
+use Prim.Native.Nat.{ℕ, zero, suc, ◌+◌, ◌-◌, ◌*◌, ◌/◌, ◌≤◌, ◌<◌}
 use native.Mathlib.Nat.{not-suc-le-zero}
 use native.Mathlib.Decide.{ℕ_discrete}
 use native.Mathlib.Omega.{arith}
 use borrow.Author.Tests.{eq-eqb, ne_eqb}
-use lib.ListN.{get_or}
+use lib.ListN.{length, get_or}
 use Rattle.rules.specs.Report.{bit_at}
-use Rattle.rules.specs.Walk.{Halting, Outcome, enter_unless, inside, as_kept}
+use Rattle.rules.specs.Walk.{Halting, enter_unless, inside, as_kept}
 use Rattle.laws.proofs.Machine.{resume-one, resume-waits}
 use Rattle.rules.specs.Working.{bits_of, resume}
 use Rattle.laws.proofs.Notes.{bits_of-at}
 use Rattle.pairs.specs.declared.Walk.{Walk}
-use Rattle.pairs.specs.Layout.{Layout, P, N, graph_of, passes_by, waits_by, halts_in, entry_of}
+use Rattle.pairs.specs.Layout.{Layout, P, N, graph_of, passes_by, waits_by, halts_in, entry_of, most_pairs}
 use Rattle.table.specs.Table.{code_at, first_at}
 use Rattle.pairs.specs.Step.{one_unless, Mem, mem, place_in, way_in, stack, walk_at, try_at, waiting, entered_by, before, outcome_by, result_by, Noted, Enters}
-use Rattle.pairs.specs.State.{Word, Good, Next, Ends, Stands, State, Goes, Idle, Backs, Moves, left, rest_at, rest, resumed, entering, facing, comes, Reached, Onward, Backward, Descended, Waited, Retreated, Over, Ran, ReadyAt, tried_by, DoneAt, Idling, Quiet, Fair}
+use Rattle.pairs.specs.State.{Word, Good, Next, Ends, Stands, State, Goes, Idle, Backs, Moves, left, rest_at, rest, resumed, entering, facing, comes, Reached, Onward, Backward, Descended, Waited, Retreated, Over, Ran, Ready, attempt_by, Done, Idling, Quiet, Fair}
 use Rattle.pairs.proofs.Ways.{left-none, left-some, pair_row, pair_place}
 use Rattle.pairs.proofs.Going.{never, zero-two, one-two, zero-three, comes-idle, comes-next, faces_halt, reached_none, reached_on, top_end}
 use Rattle.pairs.proofs.Trying.{pair-in, three_one, before-waiting, before-other, fair_quiet, halts-fair, halts-spent, goes_enters, goes_on}
@@ -297,19 +297,26 @@ module _ (H : Halting) (T : Layout) (holds : ℕ → ℕ → Bool) (n : ℕ) (qu
         rw b (over_still c (rw b at g) (λ d. spent w.steps (o.down d)) (λ d. o.last d c))
   ]
 
--- ---- a pair that is tried where none is open: that of place q at a row, its number x
+module _ (T : Layout) (holds : ℕ → ℕ → Bool) (n : ℕ) (notes trail : List ℕ) (i s : ℕ) (h : Ready T holds n notes trail i s) where
+  abbrev F : List Bool
+  F = bits_of notes (N T n)
 
-module _ (T : Layout) (holds : ℕ → ℕ → Bool) (n : ℕ) (notes trail : List ℕ) (q row s : ℕ) (h : ReadyAt T holds n notes trail q row s) where
-  first_below : row * P T + q < N T n
-  first_below = pair-in (P T) n q row (row * P T) refl h.place h.row
+  first_below : i * P T + 0 < N T n
+  first_below = pair-in (P T) n 0 i (i * P T) refl h.legal.sized.some (let r = h.row in omega arith)
 
-  pub first_fits : row * P T < 18446744073709551616
+  pub first_fits : i * P T < 18446744073709551616
   first_fits = let b = first_below in let m = h.legal.small in omega arith
 
-  pub first-noted : Noted notes (row * P T + q)
+  first-noted : Noted notes (i * P T + 0)
   first-noted = let b = first_below in let no = h.noted in let sm = h.legal.small in (omega arith, omega arith)
 
-  first_good : (d : ℕ) → Good T holds n notes trail (walk_at 0 s q row (row * P T) d)
+  pub first_small : i * P T + 0 < most_pairs
+  first_small = first-noted.0
+
+  pub first-inside : (i * P T + 0) / 8 < length notes
+  first-inside = first-noted.1
+
+  first_good : (d : ℕ) → Good T holds n notes trail (walk_at 0 s 0 i (i * P T) d)
   unfolding stack
   first_good d =
       let a = h.steps in
@@ -325,81 +332,79 @@ module _ (T : Layout) (holds : ℕ → ℕ → Bool) (n : ℕ) (notes trail : Li
         steps = omega arith;
       }
 
-  bit_is : (b : Bool) → bit_at notes (row * P T + q) ≡ b → get_or (bits_of notes (N T n)) (row * P T + q) false ≡ b
-  bit_is b o = bits_of-at notes (N T n) (row * P T + q) first_below ∙ o
-
-  first_next : bit_at notes (row * P T + q) ≡ false → Next T holds n notes trail (walk_at 0 s q row (row * P T) 1) q row (row * P T)
+  first_next : bit_at notes (i * P T + 0) ≡ false → Next T holds n notes trail (walk_at 0 s 0 i (i * P T) 1) 0 i (i * P T)
   unfolding stack
   first_next o =
       record {
         good = first_good 1;
-        place = h.place;
+        place = h.legal.sized.some;
         base_is = refl;
-        opened = record { rising = (tt, tt); out = (bit_is false o, tt); pairs = (first_below, tt) };
+        opened = record { rising = (tt, tt); out = (bits_of-at notes (N T n) (i * P T + 0) first_below ∙ o, tt); pairs = (first_below, tt) };
         linked = tt;
         led = λ l. absurd (not-suc-le-zero l);
       }
 
-  first-stands : (b : Bool) → bit_at notes (row * P T + q) ≡ b → Stands T holds n notes trail (walk_at 0 s q row (row * P T) (one_unless b))
+  bit_is : (b : Bool) → bit_at notes (i * P T + 0) ≡ b → get_or F (i * P T) false ≡ b
+  bit_is b o = let z : i * P T + 0 ≡ i * P T = omega arith in rw z at (bits_of-at notes (N T n) (i * P T + 0) first_below ∙ o)
+
+  first-stands : (b : Bool) → bit_at notes (i * P T + 0) ≡ b → Stands T holds n notes trail (walk_at 0 s 0 i (i * P T) (one_unless b))
   unfolding one_unless
   first-stands true o = record { next = λ d. absurd (never d); known = omega arith; stuck = λ _ _ l. absurd (not-suc-le-zero l); ends = λ d. absurd (zero-two d) }
   first-stands false o = record { next = λ _. first_next o; known = omega arith; stuck = λ d. absurd (d refl); ends = λ d. absurd (one-two d) }
 
-  pub first-moves : (v : Walk) → v ≡ try_at notes 0 s q row (row * P T) → Moves T holds n notes trail v
+  pub first-moves : (v : Walk) → v ≡ try_at notes 0 s 0 i (i * P T) → Moves T holds n notes trail v
   first-moves v e =
       rw e (record {
-        state = record { good = first_good (one_unless (bit_at notes (row * P T + q))); stands = first-stands (bit_at notes (row * P T + q)) refl };
+        state = record { good = first_good (one_unless (bit_at notes (i * P T + 0))); stands = first-stands (bit_at notes (i * P T + 0)) refl };
         still = λ _. refl;
       })
 
-  module _ (H : Halting) (quiet : Quiet H T holds n) where
-    abbrev Tried : Outcome
-    Tried = tried_by H T holds n (bits_of notes (N T n)) s (row * P T + q)
+module _ (H : Halting) (T : Layout) (holds : ℕ → ℕ → Bool) (n : ℕ) (quiet : Quiet H T holds n) (notes trail : List ℕ) (i s : ℕ) (h : Ready T holds n notes trail i s) where
+  first-same : (b : Bool) → bit_at notes (i * P T + 0) ≡ b → comes H T holds n notes trail (walk_at 0 s 0 i (i * P T) (one_unless b)) ≡ attempt_by H T holds n (bits_of notes (N T n)) s i
+  unfolding comes facing resumed entering stack resume one_unless
+  first-same true o = rw (bit_is T holds n notes trail i s h true o)
+  first-same false o = rw (bit_is T holds n notes trail i s h false o) (go (H.spent s) refl)
+    where
+      go : (u : Bool) → H.spent s ≡ u
+          → facing H T holds n notes trail (walk_at 0 s 0 i (i * P T) 1) (i * P T + 0) ≡ enter_unless false (H.spent s) (inside H (graph_of T holds n) (N T n)) (as_kept (bits_of notes (N T n)) s) (i * P T)
+      go true d = rw d
+      go false d =
+          let z : i * P T + 0 ≡ i * P T = omega arith in
+          rw (d, z) (resume-one H (graph_of T holds n) (N T n) (bits_of notes (N T n)) (suc s) (i * P T))
 
-    first-same : (b : Bool) → bit_at notes (row * P T + q) ≡ b → comes H T holds n notes trail (walk_at 0 s q row (row * P T) (one_unless b)) ≡ Tried
-    unfolding comes facing resumed entering stack resume one_unless
-    first-same true o = rw (bit_is true o)
-    first-same false o = rw (bit_is false o) (go (H.spent s) refl)
-      where
-        go : (u : Bool) → H.spent s ≡ u
-            → facing H T holds n notes trail (walk_at 0 s q row (row * P T) 1) (row * P T + q)
-            ≡ enter_unless false (H.spent s) (inside H (graph_of T holds n) (N T n)) (as_kept (bits_of notes (N T n)) s) (row * P T + q)
-        go true d = rw d
-        go false d = rw d (resume-one H (graph_of T holds n) (N T n) (bits_of notes (N T n)) (suc s) (row * P T + q))
+  module _ (v : Walk) (e : v ≡ try_at notes 0 s 0 i (i * P T)) where
+    first-reached : Reached H T holds n notes trail (attempt_by H T holds n (bits_of notes (N T n)) s i) notes trail v
+    first-reached =
+        rw e (record {
+          good = first_good T holds n notes trail i s h (one_unless (bit_at notes (i * P T + 0)));
+          stands = first-stands T holds n notes trail i s h (bit_at notes (i * P T + 0)) refl;
+          same = first-same (bit_at notes (i * P T + 0)) refl;
+          notes_long = refl;
+          trail_long = refl;
+          notes_beyond = λ z l. refl;
+          trail_beyond = λ k l. refl;
+        })
 
-    module _ (v : Walk) (e : v ≡ try_at notes 0 s q row (row * P T)) where
-      first-reached : Reached H T holds n notes trail Tried notes trail v
-      first-reached =
-          rw e (record {
-            good = first_good (one_unless (bit_at notes (row * P T + q)));
-            stands = first-stands (bit_at notes (row * P T + q)) refl;
-            same = first-same (bit_at notes (row * P T + q)) refl;
-            notes_long = refl;
-            trail_long = refl;
-            notes_beyond = λ z l. refl;
-            trail_beyond = λ k l. refl;
-          })
+    pub attempt-done : (spends : (s : ℕ) → s < T.limit → H.spent s ≡ false) (spent : (s : ℕ) → T.limit ≤ s → H.spent s ≡ true)
+        → (notes' trail' : List ℕ) (r : Walk) → Ran H T holds n notes trail v notes' trail' r → Done H T holds n notes trail i s notes' trail' r
+    attempt-done spends spent notes' trail' r d =
+        let a : Reached H T holds n notes trail (attempt_by H T holds n (bits_of notes (N T n)) s i) notes' trail' (before r) =
+        reached_on H T holds n notes trail _ notes trail v notes' trail' (before r) first-reached d.reached in
+        record {
+          same = sym a.same ∙ over_comes H T holds n quiet notes' trail' r spends spent a.good d.over;
+          reached = a;
+          over = d.over;
+        }
 
-      pub tried-done : (spends : (s : ℕ) → s < T.limit → H.spent s ≡ false) (spent : (s : ℕ) → T.limit ≤ s → H.spent s ≡ true)
-          → (notes' trail' : List ℕ) (r : Walk) → Ran H T holds n notes trail v notes' trail' r → DoneAt H T holds n notes trail (row * P T + q) s notes' trail' r
-      tried-done spends spent notes' trail' r d =
-          let a : Reached H T holds n notes trail Tried notes' trail' (before r) =
-          reached_on H T holds n notes trail _ notes trail v notes' trail' (before r) first-reached d.reached in
-          record {
-            same = sym a.same ∙ over_comes H T holds n quiet notes' trail' r spends spent a.good d.over;
-            reached = a;
-            over = d.over;
-          }
+-- the attempt by what halts it by the definition
+module _ (T : Layout) (more : Bool) (holds : ℕ → ℕ → Bool) (n : ℕ) (notes trail : List ℕ) (i s : ℕ) (h : Ready T holds n notes trail i s) where
+  abbrev halts : Halting
+  halts = halts_in T more n
 
-  -- by what halts the walk by the definition
-  module _ (more : Bool) where
-    abbrev halts : Halting
-    halts = halts_in T more n
+  fair : Fair halts T more n
+  fair = halts-fair T h.legal.sized more n
 
-    fair : Fair halts T more n
-    fair = halts-fair T h.legal.sized more n
-
-    pub tried-halts : (v : Walk) → v ≡ try_at notes 0 s q row (row * P T) → (notes' trail' : List ℕ) (r : Walk) → ((H : Halting) → Fair H T more n → Ran H T holds n notes trail v notes' trail' r)
-        → DoneAt halts T holds n notes trail (row * P T + q) s notes' trail' r
-    tried-halts v e notes' trail' r d =
-        tried-done halts (fair_quiet halts T more holds n fair) v e fair.spends (halts-spent T h.legal.sized more n) notes' trail' r (d halts fair)
+  pub attempt-halts : (v : Walk) → v ≡ try_at notes 0 s 0 i (i * P T) → (notes' trail' : List ℕ) (r : Walk) → ((H : Halting) → Fair H T more n → Ran H T holds n notes trail v notes' trail' r)
+      → Done halts T holds n notes trail i s notes' trail' r
+  attempt-halts v e notes' trail' r d =
+      attempt-done halts T holds n (fair_quiet halts T more holds n fair) notes trail i s h v e fair.spends (halts-spent T h.legal.sized more n) notes' trail' r (d halts fair)

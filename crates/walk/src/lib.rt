@@ -1,19 +1,21 @@
-// The counted walk, over the table of places, lent notes (a bit for each pair: it has failed) and a
-// lent trail (the open pairs). A pair is the number row * P + place. Pairs are entered in one
-// function only, `enter`, which counts the entry, and it is called in one place. No pair is entered
-// that has failed, so an attempt takes no more steps than there are pairs. An attempt tries its
-// first pair (pairs::tried), and `go_on` walks from there until no pair is to be entered or END is
-// open; or until no step is left of the allowance: then it halts just before the next entry, with
-// its pair still to be entered; or until a letter waits for a row that is not yet there. The
-// promise is `Ran`, and of an attempt `DoneAt` (both in crates/pairs/specs/State): the result is
-// the definition's.
+// One attempt of the counted walk, over the table of places, lent notes (a bit for each pair: it
+// has failed) and a lent trail (the open pairs). A pair is the number row * P + place. Pairs are
+// entered in one function only, `enter`, which counts the entry, and it is called in one place. No
+// pair is entered that has failed, so an attempt takes no more steps than there are pairs. An
+// attempt is `begin`, which tries its first pair, and `go_on`, which walks from a state on until no
+// pair is to be entered or END is open; or until no step is left of the allowance: then it halts
+// just before the next entry, with its pair still to be entered; or until a letter waits for a row
+// that is not yet there. The promise is `Done` (crates/pairs/specs/State): the result is the
+// definition's.
+ghost use Rattle.std.specs.Prelude.{◌≡◌, ◌+◌, ◌*◌};
 ghost use Rattle.rules.specs.Walk.{Halting};
-ghost use Rattle.pairs.specs.Layout.{layout_of, letters_of, Tested};
-ghost use Rattle.pairs.specs.State.{Fair, Goes, Backing, Backward, Descended, Idling, Retreated, Moves, Ran};
+ghost use Rattle.pairs.specs.Layout.{layout_of, letters_of, halts_in, Tested};
+ghost use Rattle.pairs.specs.Step.{Noted, try_at};
+ghost use Rattle.pairs.specs.State.{Fair, Goes, Backing, Backward, Descended, Idling, Retreated, Moves, Ran, Ready, Done};
 
 use entering::enter;
 use pairs::{
-    BACK, ENTER, Walk, failed, mark, open_at, place_of, put_way, row_of, way_after, way_of,
+    BACK, ENTER, Walk, failed, mark, open_at, place_of, put_way, row_of, tried, way_after, way_of,
 };
 use table::{Extent, count_at, later_way};
 
@@ -128,4 +130,29 @@ pub fn go_on(
         w = retreat(table, notes, trail, size, w);
     }
     w
+}
+
+// An attempt begins: it tries the pair of the first place and the row.
+pub fn begin(notes: &[u8], places: usize, row: usize, steps: usize) -> Walk
+    requires { Noted notes.now (row * places + 0) }
+    ensures { result ≡ try_at notes.now 0 steps 0 row (row * places) }
+{
+    tried(notes, 0, steps, 0, row, row * places)
+}
+
+// An attempt at a row, with so many steps before it.
+pub fn attempt(
+    table: &[u16],
+    rows: &[i32],
+    notes: &mut [u8],
+    trail: &mut [u32],
+    size: Extent,
+    row: usize,
+    steps: usize,
+) -> Walk
+    requires { Tested table.now rows.now size × Ready (layout_of table.now size) (letters_of table.now rows.now size) size.rows notes.old trail.old row steps }
+    ensures { Done (halts_in (layout_of table.now size) size.more size.rows) (layout_of table.now size) (letters_of table.now rows.now size) size.rows notes.old trail.old row steps notes.new trail.new result }
+{
+    let first = begin(notes, size.places, row, steps);
+    go_on(table, rows, notes, trail, size, first)
 }

@@ -1,11 +1,11 @@
 -- `decode::read_head` meets its contract by the laws of Together.
 use borrow.Author.Rules.{rules}
-use Rattle.decode.proofs.Together.{first-uncut, first-whole, shape_inside, second-uncut, second-whole, head_is}
+use Rattle.decode.proofs.Together.{first-inside, first-whole, shape_inside, second-inside, second-whole, head_is}
 use Rattle.decode.proofs.read_head.Statement.{statement}
 use Rattle.decode.proofs.read_head.Tie as tie
 
-whole-at-requires : tie.Need-whole-at-requires
-whole-at-requires c κs = search (rules, first-uncut)
+record-at-requires : tie.Need-record-at-requires
+record-at-requires c κs = search (rules, first-inside)
 
 enum-known-shape : tie.Need-enum-known-shape
 enum-known-shape c = search rules
@@ -16,8 +16,8 @@ enum_told c = search rules
 returns : tie.Need-returns
 returns c = absurd (search (rules, first-whole))
 
-whole-at-requires-2 : tie.Need-whole-at-requires-2
-whole-at-requires-2 c κs = search (rules, second-uncut)
+record-at-requires-2 : tie.Need-record-at-requires-2
+record-at-requires-2 c κs = search (rules, second-inside)
 
 enum-known-start : tie.Need-enum-known-start
 enum-known-start c = search rules
@@ -38,11 +38,11 @@ pub read-head-spec : {M : Type 1} → statement M
 read-head-spec =
     tie.close
     (tie.spec
-    whole-at-requires
+    record-at-requires
     enum-known-shape
     enum_told
     returns
-    whole-at-requires-2
+    record-at-requires-2
     enum-known-start
     enum-told-2
     returns-2

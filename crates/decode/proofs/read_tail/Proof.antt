@@ -1,11 +1,11 @@
 -- `decode::read_tail` meets its contract by the laws of Together.
 use borrow.Author.Rules.{rules}
-use Rattle.decode.proofs.Together.{skip_uncut, skip_whole, skip_inside, target_inside, target_fits, measures_room, tail-is}
+use Rattle.decode.proofs.Together.{skip_there, skip_whole, skip_inside, target_inside, target_fits, measures_room, tail-is}
 use Rattle.decode.proofs.read_tail.Statement.{statement}
 use Rattle.decode.proofs.read_tail.Tie as tie
 
-whole-at-requires : tie.Need-whole-at-requires
-whole-at-requires c κs = search (rules, skip_uncut)
+record-at-requires : tie.Need-record-at-requires
+record-at-requires c κs = search (rules, skip_there)
 
 enum-known-start : tie.Need-enum-known-start
 enum-known-start c = search rules
@@ -35,7 +35,7 @@ pub read-tail-spec : {M : Type 1} → statement M
 read-tail-spec =
     tie.close
     (tie.spec
-    whole-at-requires
+    record-at-requires
     enum-known-start
     enum_told
     returns

@@ -1,10 +1,10 @@
--- `define_list::put_defines` meets its contract by the laws of Defines and Reading. The invariant is
+-- `decode::put_defines` meets its contract by the laws of Defines and Reading. The invariant is
 -- `Lettering`, of each letter's entry, of what was told of two and of the largest letter; the bytes
 -- left fall.
 use Prim.Native.Nat.{◌-◌}
 use lib.ListN.{length}
 use borrow.Author.Rules.{rules}
-use Rattle.define_list.proofs.Defines.{Lettering, lettering_none, lettering_uncut, lettering_end, lettering_cut, lettering_room, lettering_more, lettering_over}
+use Rattle.define_list.proofs.Defines.{Lettering, lettering_none, lettering_end, lettering_cut, lettering_room, lettering_more, lettering_over}
 use Rattle.records.proofs.Reading.{fewer}
 use Rattle.define_list.proofs.put_defines.Statement.{statement}
 use Rattle.define_list.proofs.put_defines.Tie as tie
@@ -18,8 +18,8 @@ decreases-loop s from defines₀ at₀ twice₀ letters₀ defines at twice lett
 loop-holds : tie.Need-loop-init invariant-loop decreases-loop
 loop-holds c = search (rules, lettering_none)
 
-whole-at-requires : tie.Need-whole-at-requires invariant-loop decreases-loop
-whole-at-requires c κs = search (rules, lettering_uncut)
+record-at-requires : tie.Need-record-at-requires invariant-loop decreases-loop
+record-at-requires c κs = search rules
 
 enum-known-kind : tie.Need-enum-known-kind invariant-loop decreases-loop
 enum-known-kind c = search rules
@@ -61,7 +61,7 @@ put-defines-spec =
     invariant-loop
     decreases-loop
     loop-holds
-    whole-at-requires
+    record-at-requires
     enum-known-kind
     enum_told
     returns

@@ -1,6 +1,6 @@
 -- `lot_answers::lot_answer` meets its contract: a law of proofs/Laws for each way through it.
 use borrow.Author.Rules.{rules}
-use Rattle.lot_answers.proofs.Laws.{answer-bad, largest_fits, few_pairs, pairs-fit, answer-short, answer-fewer, answer-none}
+use Rattle.lot_answers.proofs.Laws.{answer_bad, largest_fits, few_pairs, pairs-fit, answer_short, answer_fewer, answer_none}
 use Rattle.lot_answers.proofs.lot_answer.Statement.{statement}
 use Rattle.lot_answers.proofs.lot_answer.Tie as tie
 
@@ -8,7 +8,7 @@ bad-lot-requires : tie.Need-bad-lot-requires
 bad-lot-requires c κs = search rules
 
 returns : tie.Need-returns
-returns c = search (rules, answer-bad)
+returns c = search (rules, answer_bad)
 
 add-short-room : tie.Need-overflow-add-short-room
 add-short-room c = search (rules, largest_fits)
@@ -20,13 +20,13 @@ short-room-requires : tie.Need-short-room-requires
 short-room-requires c κs = search (rules, few_pairs)
 
 returns-2 : tie.Need-returns-2
-returns-2 c = search (rules, answer-short)
+returns-2 c = search (rules, answer_short)
 
 returns-3 : tie.Need-returns-3
-returns-3 c = search (rules, answer-fewer)
+returns-3 c = search (rules, answer_fewer)
 
 returns-4 : tie.Need-returns-4
-returns-4 c = search (rules, answer-none)
+returns-4 c = search (rules, answer_none)
 
 pub lot-answer-spec : {M : Type 1} → statement M
 lot-answer-spec =

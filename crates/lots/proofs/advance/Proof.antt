@@ -1,11 +1,11 @@
 -- `lots::advance` meets its contract by the laws of Advancing.
-use Rattle.lots.proofs.Advancing.{resuming_asks, advance_first, advance_later}
+use Rattle.lots.proofs.Advancing.{first-asks, taken_back, later-asks, advance_first, advance_later}
 use borrow.Author.Rules.{rules}
 use Rattle.lots.proofs.advance.Statement.{statement}
 use Rattle.lots.proofs.advance.Tie as tie
 
 search-requires : tie.Need-search-requires
-search-requires c κs = search rules
+search-requires c κs = search (rules, first-asks)
 
 same_length : tie.Need-same-length
 same_length c = search rules
@@ -22,8 +22,11 @@ same-length-4 c = search rules
 returns : tie.Need-returns
 returns c = search (rules, advance_first)
 
-resume-requires : tie.Need-resume-requires
-resume-requires c κs = search (rules, resuming_asks)
+taken-up-requires : tie.Need-taken-up-requires
+taken-up-requires c κs = search (rules, taken_back)
+
+go-on-requires : tie.Need-go-on-requires
+go-on-requires c κs = later-asks _ _ _ _ _ _ _ c.before.before.before.before.before.before.before.before.before.before.before.requires c.before.before.before.before.before.if1.false _ c.was_taken_up.ensures
 
 same-length-5 : tie.Need-same-length-5
 same-length-5 c = search rules
@@ -50,7 +53,8 @@ advance-spec =
     same-length-3
     same-length-4
     returns
-    resume-requires
+    taken-up-requires
+    go-on-requires
     same-length-5
     same-length-6
     same-length-7

@@ -3,7 +3,7 @@
 use Prim.Native.Nat.{◌-◌}
 use lib.ListN.{length}
 use borrow.Author.Rules.{rules}
-use Rattle.measure_list.proofs.Counting.{Counting, counting_none, counting_uncut, counting_bytes, counting_room, counting_more, counting_cut, counting_all}
+use Rattle.measure_list.proofs.Counting.{Counting, counting_none, counting_bytes, counting_room, counting_more, counting_cut, counting_all}
 use Rattle.records.proofs.Reading.{fewer}
 use Rattle.measure_list.proofs.put_measures.Statement.{statement}
 use Rattle.measure_list.proofs.put_measures.Tie as tie
@@ -17,8 +17,8 @@ decreases-loop s from measures₀ at₀ count₀ measures at count = length s - 
 loop-holds : tie.Need-loop-init invariant-loop decreases-loop
 loop-holds c = search (rules, counting_none)
 
-whole-at-requires : tie.Need-whole-at-requires invariant-loop decreases-loop
-whole-at-requires c κs = search (rules, counting_uncut)
+record-at-requires : tie.Need-record-at-requires invariant-loop decreases-loop
+record-at-requires c κs = search rules
 
 enum-known-start : tie.Need-enum-known-start invariant-loop decreases-loop
 enum-known-start c = search rules
@@ -54,7 +54,7 @@ put-measures-spec =
     invariant-loop
     decreases-loop
     loop-holds
-    whole-at-requires
+    record-at-requires
     enum-known-start
     enum_told
     returns

@@ -1,5 +1,5 @@
 -- `prepared::prepare` meets its contract by the laws of Short.
-use Rattle.reading.proofs.Short.{all_nodes, is-short}
+use Rattle.reading.proofs.Short.{all_nodes, short_nodes}
 use borrow.Author.Rules.{rules}
 use Rattle.prepared.proofs.prepare.Statement.{statement}
 use Rattle.prepared.proofs.prepare.Tie as tie
@@ -7,8 +7,11 @@ use Rattle.prepared.proofs.prepare.Tie as tie
 text-is-short-requires : tie.Need-text-is-short-requires
 text-is-short-requires c κs = search rules
 
-prepare-short-requires : tie.Need-prepare-short-requires
-prepare-short-requires c κs = search (rules, is-short)
+slice-aggregate-prepare-in : tie.Need-slice-aggregate-prepare-in
+slice-aggregate-prepare-in c = search rules
+
+prepare-in-requires : tie.Need-prepare-in-requires
+prepare-in-requires c κs = search (rules, short_nodes)
 
 same_length : tie.Need-same-length
 same_length c = search rules
@@ -16,11 +19,11 @@ same_length c = search rules
 returns : tie.Need-returns
 returns c = search rules
 
-slice-aggregate-prepare-in : tie.Need-slice-aggregate-prepare-in
-slice-aggregate-prepare-in c = search rules
+slice-aggregate-prepare-in-2 : tie.Need-slice-aggregate-prepare-in-2
+slice-aggregate-prepare-in-2 c = search rules
 
-prepare-in-requires : tie.Need-prepare-in-requires
-prepare-in-requires c κs = search (rules, all_nodes)
+prepare-in-requires-2 : tie.Need-prepare-in-requires-2
+prepare-in-requires-2 c κs = search (rules, all_nodes)
 
 same-length-2 : tie.Need-same-length-2
 same-length-2 c = search rules
@@ -33,10 +36,11 @@ prepare-spec =
     tie.close
     (tie.spec
     text-is-short-requires
-    prepare-short-requires
-    same_length
-    returns
     slice-aggregate-prepare-in
     prepare-in-requires
+    same_length
+    returns
+    slice-aggregate-prepare-in-2
+    prepare-in-requires-2
     same-length-2
     returns-2)

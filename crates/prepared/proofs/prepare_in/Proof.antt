@@ -20,8 +20,11 @@ returns c = search (rules, not-ready)
 mul-entries : tie.Need-overflow-mul-entries
 mul-entries c = all_fits _ _ _ _ _ _ c.before.before.before.before.read-query.ensures [] c.before.if1.false
 
-lacks-room-requires : tie.Need-lacks-room-requires
-lacks-room-requires c κs = search (rules, sizing)
+words-needed-requires : tie.Need-words-needed-requires
+words-needed-requires c κs = search (rules, sizing)
+
+has-no-room-requires : tie.Need-has-no-room-requires
+has-no-room-requires c κs = search rules
 
 not-prepared-requires-2 : tie.Need-not-prepared-requires-2
 not-prepared-requires-2 c κs = search rules
@@ -33,7 +36,7 @@ returns-2 : tie.Need-returns-2
 returns-2 c = search (rules, too_short)
 
 fill-requires : tie.Need-fill-requires
-fill-requires c κs = may_fill _ _ _ _ _ _ c.before.before.before.before.before.before.before.before.before.before.before.read-query.ensures _ c.before.before.before.before.before.before.before.before.if1.false _ c.before.before.before.before.before.lacks-room.ensures c.before.before.before.before.if2.false
+fill-requires c κs = may_fill _ _ _ _ _ _ c.before.before.before.before.before.before.before.before.before.before.before.before.read-query.ensures _ c.before.before.before.before.before.before.before.before.before.if1.false _ c.before.before.before.before.before.before.words-needed.ensures _ c.before.before.before.before.before.has-no-room.ensures c.before.before.before.before.if2.false
 
 same-length-3 : tie.Need-same-length-3
 same-length-3 c = search rules
@@ -53,7 +56,8 @@ prepare-in-spec =
     same_length
     returns
     mul-entries
-    lacks-room-requires
+    words-needed-requires
+    has-no-room-requires
     not-prepared-requires-2
     same-length-2
     returns-2

@@ -9,16 +9,13 @@ use Rattle.query.proofs.first_answer.Statement.{statement}
 use Rattle.query.proofs.first_answer.Tie as tie
 
 abbrev invariant-loop : tie.invariant-loop
-invariant-loop s at₀ stage₀ columns fit₀ at stage fit = Judged s at stage.at stage.left columns fit
+invariant-loop s at₀ stage₀ columns₀ fit₀ at stage columns fit = Judged s at stage.at stage.left columns fit
 
 abbrev decreases-loop : tie.decreases-loop
-decreases-loop s at₀ stage₀ columns fit₀ at stage fit = length s - at
-
-byte-or-zero-requires : tie.Need-byte-or-zero-requires invariant-loop decreases-loop
-byte-or-zero-requires c κs = search rules
+decreases-loop s at₀ stage₀ columns₀ fit₀ at stage columns fit = length s - at
 
 loop-holds : tie.Need-loop-init invariant-loop decreases-loop
-loop-holds c = search (rules, judged-none)
+loop-holds c = judged-none _
 
 record-at-requires : tie.Need-record-at-requires invariant-loop decreases-loop
 record-at-requires c κs = search rules
@@ -31,6 +28,9 @@ enum_told c = search rules
 
 returns : tie.Need-returns invariant-loop decreases-loop
 returns c = search (rules, judged-cut)
+
+columns-by-requires : tie.Need-columns-by-requires invariant-loop decreases-loop
+columns-by-requires c κs = search rules
 
 still-fit-requires : tie.Need-still-fit-requires invariant-loop decreases-loop
 still-fit-requires c κs = search (rules, body-inside)
@@ -59,12 +59,12 @@ first-answer-spec =
     (tie.spec
     invariant-loop
     decreases-loop
-    byte-or-zero-requires
     loop-holds
     record-at-requires
     enum-known-kind
     enum_told
     returns
+    columns-by-requires
     still-fit-requires
     after-requires
     loop-less

@@ -1,7 +1,7 @@
 -- `run_query` prints what the verdict prints: one law of proofs/Joined for each.
 use native.Mathlib.Omega.{arith}
 use borrow.Author.Rules.{rules}
-use Rattle.searched.proofs.Joined.{rows-within, rows_long, room-rows, room-entries, room-pairs, query_refused, query_large, query_found, query_searched}
+use Rattle.run.proofs.Joined.{rows-within, rows_long, room-rows, room-entries, room-pairs, query_refused, query_large, query_found, query_searched}
 use Rattle.run.proofs.run_query.Statement.{statement}
 use Rattle.run.proofs.run_query.Tie as tie
 

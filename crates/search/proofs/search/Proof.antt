@@ -1,11 +1,8 @@
--- `search::search` meets its contract by the law of Unlimited.
-use Rattle.search.proofs.Unlimited.{unlimited}
+-- `search::search` meets its contract by the laws of Answering.
+use Rattle.search.proofs.Answering.{unlimited}
 use borrow.Author.Rules.{rules}
 use Rattle.search.proofs.search.Statement.{statement}
 use Rattle.search.proofs.search.Tie as tie
-
-no-limit-requires : tie.Need-no-limit-requires
-no-limit-requires c κs = search rules
 
 search-within-requires : tie.Need-search-within-requires
 search-within-requires c κs = search rules
@@ -28,11 +25,4 @@ returns c = search (rules, unlimited)
 pub search-spec : {M : Type 1} → statement M
 search-spec =
     tie.close
-    (tie.spec
-    no-limit-requires
-    search-within-requires
-    same_length
-    same-length-2
-    same-length-3
-    same-length-4
-    returns)
+    (tie.spec search-within-requires same_length same-length-2 same-length-3 same-length-4 returns)

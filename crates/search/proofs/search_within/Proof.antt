@@ -1,14 +1,17 @@
--- `search::search_within` meets its contract: a short text has a search of its own.
-use Rattle.reading.proofs.Short.{is-short}
+-- `search::search_within` meets its contract by the laws of Answering.
+use Rattle.search.proofs.Answering.{may_run, has-run}
 use borrow.Author.Rules.{rules}
 use Rattle.search.proofs.search_within.Statement.{statement}
 use Rattle.search.proofs.search_within.Tie as tie
 
-text-is-short-requires : tie.Need-text-is-short-requires
-text-is-short-requires c κs = search rules
+slice-aggregate-prepare : tie.Need-slice-aggregate-prepare
+slice-aggregate-prepare c = search rules
 
-search-short-requires : tie.Need-search-short-requires
-search-short-requires c κs = search (rules, is-short)
+prepare-requires : tie.Need-prepare-requires
+prepare-requires c κs = search rules
+
+search-large-requires : tie.Need-search-large-requires
+search-large-requires c κs = search rules
 
 same_length : tie.Need-same-length
 same_length c = search rules
@@ -25,8 +28,11 @@ same-length-4 c = search rules
 returns : tie.Need-returns
 returns c = search rules
 
-search-large-requires : tie.Need-search-large-requires
-search-large-requires c κs = search rules
+slice-aggregate-run : tie.Need-slice-aggregate-run
+slice-aggregate-run c = search rules
+
+run-requires : tie.Need-run-requires
+run-requires c κs = search (rules, may_run)
 
 same-length-5 : tie.Need-same-length-5
 same-length-5 c = search rules
@@ -41,20 +47,22 @@ same-length-8 : tie.Need-same-length-8
 same-length-8 c = search rules
 
 returns-2 : tie.Need-returns-2
-returns-2 c = search rules
+returns-2 c = search (rules, has-run)
 
 pub search-within-spec : {M : Type 1} → statement M
 search-within-spec =
     tie.close
     (tie.spec
-    text-is-short-requires
-    search-short-requires
+    slice-aggregate-prepare
+    prepare-requires
+    search-large-requires
     same_length
     same-length-2
     same-length-3
     same-length-4
     returns
-    search-large-requires
+    slice-aggregate-run
+    run-requires
     same-length-5
     same-length-6
     same-length-7

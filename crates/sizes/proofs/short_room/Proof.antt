@@ -1,6 +1,6 @@
 -- `sizes::short_room` meets its contract: a law of proofs/Laws for each way through it.
 use borrow.Author.Rules.{rules}
-use Rattle.sizes.proofs.Laws.{notes_short, trail-short, both_long}
+use Rattle.sizes.proofs.Laws.{notes_short, trail_short, both_long}
 use Rattle.sizes.proofs.short_room.Statement.{statement}
 use Rattle.sizes.proofs.short_room.Tie as tie
 
@@ -11,7 +11,7 @@ returns : tie.Need-returns
 returns c = search (rules, notes_short)
 
 returns-2 : tie.Need-returns-2
-returns-2 c = search (rules, trail-short)
+returns-2 c = search (rules, trail_short)
 
 returns-3 : tie.Need-returns-3
 returns-3 c = search (rules, both_long)

@@ -1,11 +1,11 @@
 -- `sweep::go_on` meets its contract by the laws of Clearing.
-use Rattle.sweep.proofs.Clearing.{sound_starts, words_fit, went-waits, went_on}
+use Rattle.sweep.proofs.Clearing.{words_fit, went-waits, went_on}
 use borrow.Author.Rules.{rules}
 use Rattle.sweep.proofs.go_on.Statement.{statement}
 use Rattle.sweep.proofs.go_on.Tie as tie
 
 starts-requires : tie.Need-starts-requires
-starts-requires c κs = search (rules, sound_starts)
+starts-requires c κs = search rules
 
 same_length : tie.Need-same-length
 same_length c = search rules
@@ -38,7 +38,7 @@ same-length-8 : tie.Need-same-length-8
 same-length-8 c = search rules
 
 returns-2 : tie.Need-returns-2
-returns-2 c = went_on _ _ _ _ _ _ _ _ c.before.before.before.before.before.before.before.before.before.before.before.before.before.before.before.before.before.before.before.before.before.before.requires.1 _ _ _ _ _ c.before.before.before.before.before.before.before.before.before.before.before.before.before.starts.ensures (search rules) _ c.before.before.zero-words.ensures
+returns-2 c = went_on _ _ _ _ _ _ _ _ c.before.before.before.before.before.before.before.before.before.before.before.before.before.before.before.before.before.before.before.before.before.before.requires.1 _ _ _ _ _ c.before.before.before.before.before.before.before.before.before.before.before.before.before.starts.ensures _ c.before.before.zero-words.ensures
 
 pub go-on-spec : {M : Type 1} → statement M
 go-on-spec =

@@ -1,11 +1,8 @@
 -- `sweep::tell` meets its contract by the laws of Visiting.
-use Rattle.sweep.proofs.Visiting.{tell_row, tell_top, tell_reports, tell_halted, tell_waits, tell_none, tell_lone, tell_path}
+use Rattle.sweep.proofs.Visiting.{tell_row, tell_top, tell_reports, tell_halted, tell_waits, tell_none, tell_path}
 use borrow.Author.Rules.{rules}
 use Rattle.sweep.proofs.tell.Statement.{statement}
 use Rattle.sweep.proofs.tell.Tie as tie
-
-stopped-requires : tie.Need-stopped-requires
-stopped-requires c κs = search rules
 
 returns : tie.Need-returns
 returns c = search (rules, tell_halted)
@@ -22,12 +19,6 @@ add-after c = search (rules, tell_row)
 returns-3 : tie.Need-returns-3
 returns-3 c = search (rules, tell_none)
 
-stopped-requires-2 : tie.Need-stopped-requires-2
-stopped-requires-2 c κs = search rules
-
-returns-4 : tie.Need-returns-4
-returns-4 c = search (rules, tell_lone)
-
 write-match-requires : tie.Need-write-match-requires
 write-match-requires c κs = search (rules, tell_reports)
 
@@ -37,22 +28,10 @@ same_length c = search rules
 same-length-2 : tie.Need-same-length-2
 same-length-2 c = search rules
 
-returns-5 : tie.Need-returns-5
-returns-5 c = search (rules, tell_path)
+returns-4 : tie.Need-returns-4
+returns-4 c = search (rules, tell_path)
 
 pub tell-spec : {M : Type 1} → statement M
 tell-spec =
     tie.close
-    (tie.spec
-    stopped-requires
-    returns
-    add-opened
-    returns-2
-    add-after
-    returns-3
-    stopped-requires-2
-    returns-4
-    write-match-requires
-    same_length
-    same-length-2
-    returns-5)
+    (tie.spec returns add-opened returns-2 add-after returns-3 write-match-requires same_length same-length-2 returns-4)

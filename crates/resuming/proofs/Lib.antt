@@ -1,4 +1,0 @@
-pub mod Trying
-pub mod Counted
-pub mod Retrying
-pub mod Taking

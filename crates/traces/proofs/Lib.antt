@@ -1,2 +1,0 @@
-pub mod Retrace
-pub mod Retried
