@@ -2,6 +2,8 @@
 // letters reads a row behind its own. Such a query cannot be searched for while rows still come.
 // Promise: the answer is `looks_ahead` of the rules, of the query that the table stands for.
 // Weakness: every place is looked at, so a letter that stands at several is asked several times.
+#![tactic(auto)]
+
 ghost use Rattle.std.specs.Prelude.{◌≡◌, List, ℕ};
 ghost use Rattle.rules.specs.Lots.{looks_ahead};
 ghost use Rattle.prepared.specs.Ready.{Ready};

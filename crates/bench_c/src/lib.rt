@@ -3,6 +3,8 @@
 // library, since the second trusts its table: `Runs` asks that the table and the numbers are told
 // of some query, as the first tells them, and no caller in C can show that. Weakness: with another
 // table the second promises nothing, not even to stay within the slices.
+#![tactic(auto)]
+
 ghost use Rattle.std.specs.Prelude.{List, ℕ};
 ghost use Rattle.std.proofs.Math.Option.{some};
 ghost use Rattle.outcome.specs.Results.{lent, memory};

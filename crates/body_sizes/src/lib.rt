@@ -1,5 +1,7 @@
 // How many places a pattern and the body of a factor have, read from their nodes, and whether the
 // copy of a body has a flag (R-3).
+#![tactic(auto)]
+
 ghost use Rattle.trees.specs.Held.{At};
 ghost use Rattle.forks.specs.Emitting.{WholeSize, BodySize, BodyEmpty, BodyFlag};
 

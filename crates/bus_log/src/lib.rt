@@ -2,6 +2,8 @@
 // offered, 2 refused and 3 accepted. Two passes from its end, for an event that is none of these
 // and for the last refusal, and the type of the desk's answer. Each promise is an equation with a
 // plain statement about the rows (specs/Log).
+#![tactic(auto)]
+
 ghost use Rattle.std.specs.Prelude.{◌≡◌, ◌||◌, ℕ, ◌+◌, ◌*◌, ◌<◌, pos, length};
 ghost use Rattle.bus_log.specs.Log.{log_of, equal, is_event, is_known, unreadable, last_refusal, said as saidIs, handed as handedIs, held_at};
 
@@ -9,7 +11,7 @@ ghost use Rattle.bus_log.specs.Log.{log_of, equal, is_event, is_known, unreadabl
 // 0 where the answer is not 0. found: 1 where the log is held and has a refusal, else 0; row: that
 // of its last refusal, counted from 0.
 #[repr(C)]
-#[derive(Drop)]
+#[derive(Clone, Copy)]
 pub struct Verdict {
     pub answer: usize,
     pub verdict: usize,

@@ -4,6 +4,8 @@
 // the rules (specs/Calls). Any other state gets an answer too, which is left free: numbers that lie
 // outside their bounds are answered as a call out of order. Weakness: the rows behind the present
 // ones are not looked at, not even whether those that were present before are still the same.
+#![tactic(auto)]
+
 ghost use Rattle.std.specs.Prelude.{◌≡◌, List, ℕ};
 ghost use Rattle.prepared.specs.Ready.{Given};
 ghost use Rattle.calls.specs.Calls.{Calls};
@@ -18,7 +20,7 @@ use prepared::Prepared;
 use starting::{Terms, task_of};
 
 // A call: what was kept before it, how many rows are present, and whether it is the last.
-#[derive(Drop)]
+#[derive(Clone, Copy)]
 pub struct Call {
     pub feed: Feed,
     pub present: usize,
@@ -26,7 +28,7 @@ pub struct Call {
 }
 
 // What a call comes to: what is kept behind it, and its result.
-#[derive(Drop)]
+#[derive(Clone, Copy)]
 pub struct Fed {
     pub feed: Feed,
     pub outcome: Outcome,

@@ -3,6 +3,8 @@
 // Promise: the words say the comparison that stands in the query's bytes, and no other word is
 // changed (specs/Words). Weakness: the comparison's fields must fit, which the caller has to see
 // to.
+#![tactic(auto)]
+
 ghost use Rattle.std.specs.Prelude.{◌≡◌, true, ◌+◌, ◌≤◌, ◌<◌, pos, ◌+ℤ◌, length, get_or};
 ghost use Rattle.std.specs.Int.Signed.{le_z};
 ghost use Rattle.rules.specs.Basics.{signed8};

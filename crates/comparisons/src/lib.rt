@@ -4,6 +4,8 @@
 // Promise: a comparison is met exactly if `read_met` of specs/Spots says so, and at each row of the
 // partition that is `met` of the rules (proofs/Reading). No comparison behind the first that is not
 // met is looked at. Weakness: the words must lie in the table, which the caller has to see to.
+#![tactic(auto)]
+
 ghost use Rattle.std.specs.Prelude.{◌≡◌, ◌+◌, ◌*◌, ◌<◌, ◌≤◌, length, ℤ, pos, ◌+ℤ◌, int_le, int_lt, slice_index, slice_index_or};
 ghost use Rattle.std.specs.Int.Signed.{mag};
 ghost use Rattle.rules.specs.Rows.{compares};

@@ -7,6 +7,8 @@
 // table and leave one result, which the caller has to see to; all of them are looked at, even where
 // the first ones decide. `condition_holds` is for the search alone: a second caller would keep it as
 // a call in the walk's loop, so the public test of a letter has a loop of its own (crates/judging).
+#![tactic(auto)]
+
 ghost use Rattle.std.specs.Prelude.{◌≡◌, [], ◌+◌, ◌*◌, ◌%◌, ◌≤◌, ◌<◌, min, max, ltb, length, get_or};
 ghost use Rattle.rules.specs.Basics.{pick};
 ghost use Rattle.rules.specs.Rows.{is_yes, latest};

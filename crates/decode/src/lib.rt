@@ -3,6 +3,8 @@
 // 8). Comparisons and entries stay where they are, in the query's bytes, so a search reads the lent array of
 // indices and then the query itself. specs/Layout says what the arrays hold afterwards (`Decoded`).
 // A query comes here with no answer 1 to 3.
+#![tactic(auto)]
+
 ghost use Rattle.std.specs.Prelude.{◌≡◌};
 ghost use Rattle.query.specs.Order.{first_answer};
 ghost use Rattle.decode.specs.Layout.{DecodeRoom, Decoded};
@@ -16,7 +18,7 @@ use records::{Read, byte, record_at};
 // the skip mode, the letter that the skip names (0 for none), how many measures there are, whether
 // two DEFINEs are for one letter (answer 8), and a number from which on no letter (0 for A) has a
 // DEFINE.
-#[derive(Drop)]
+#[derive(Clone, Copy)]
 pub struct Parts {
     pub columns: usize,
     pub start: usize,
@@ -29,7 +31,7 @@ pub struct Parts {
 }
 
 // What the first two records say, the shape and the text, and the index behind them.
-#[derive(Drop)]
+#[derive(Clone, Copy)]
 struct Head {
     columns: usize,
     start: usize,
@@ -81,7 +83,7 @@ fn read_head(s: &[u8]) -> Head
 }
 
 // What stands behind the DEFINEs: the skip mode and its letter, and how many measures.
-#[derive(Drop)]
+#[derive(Clone, Copy)]
 struct Tail {
     skip: usize,
     target: usize,

@@ -1,6 +1,8 @@
 // The rules for the fields of DEFINEs (document 01, "Rows and query records", and R-7), which answer
 // 3 is about: the comparisons of kind 3, and the entries of kind 6 in postfix. Every function equals
 // the definition of its name.
+#![tactic(auto)]
+
 ghost use Rattle.std.specs.Prelude.{◌≡◌, ◌+◌, ◌*◌, ◌≤◌, ◌<◌, length, get_or};
 ghost use Rattle.rules.specs.Basics.{every_below};
 ghost use Rattle.rules.specs.Query.{comparison_fits, define_fits, entry_bytes, entry_fits, postfix_fits};

@@ -1,6 +1,8 @@
 // Where the DEFINE of each letter stands in the query, in one pass over the DEFINEs, and whether a
 // letter has two (answer 8). Comparisons and entries stay where they are, in the query's bytes. A
 // query comes here with no answer 1 to 3. What the lent array holds afterwards: specs/Defines, `PutDefines`.
+#![tactic(auto)]
+
 ghost use Rattle.std.specs.Prelude.{◌≡◌, ◌||◌, ◌-◌, max, get_or};
 ghost use Rattle.define_list.specs.Defines.{DefineRoom, PutDefine, DefinesRoom, PutDefines};
 
@@ -41,7 +43,7 @@ fn past(s: &[u8], start: usize, letters: usize) -> usize
 // What the pass over the DEFINEs finds: the index of the skip behind them, whether two of them are
 // for one letter, and a number from which on no letter has one, so that the letters behind it need
 // not be looked at.
-#[derive(Drop)]
+#[derive(Clone, Copy)]
 pub struct Behind {
     pub at: usize,
     pub twice: bool,

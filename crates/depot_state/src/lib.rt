@@ -2,6 +2,8 @@
 // a number, how many numbers of the list are used, and the two named columns. It stands for the
 // reports so far (specs/State); what each function writes, whatever the words hold, is in
 // specs/Steps.
+#![tactic(auto)]
+
 ghost use Rattle.std.specs.Prelude.{◌≡◌, ◌++◌, ◌≤◌, length, drop, replicate};
 ghost use Rattle.rules.specs.Basics.{pick};
 ghost use Rattle.depot_state.specs.State.{Begun};

@@ -2,6 +2,8 @@
 // by the depot and the month of their first rows. `begin` makes a new state, `partition` takes one
 // partition; both change nothing but what they are lent. What is promised is told from the reports
 // of the partitions so far (specs/Calls), from the search's promise alone.
+#![tactic(auto)]
+
 ghost use Rattle.outcome.specs.Results.{lent, memory};
 ghost use Rattle.depots.specs.Partition.{Parted};
 ghost use Rattle.depots.specs.Calls.{Calls};

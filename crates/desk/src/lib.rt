@@ -2,6 +2,8 @@
 // number), the verdict cleared, held or unreadable. It searches the log for `O R* C $` and rests on
 // the search's promise alone. The verdict is that of the rows in plain words (crates/bus_log), for
 // every input. What follows from the search's answer and matches is decided in crates/verdicts.
+#![tactic(auto)]
+
 ghost use Rattle.outcome.specs.Results.{lent};
 ghost use Rattle.desk.specs.Promise.{Desk};
 

@@ -1,4 +1,6 @@
 // A pair is entered, in one function only, `enter`, which counts the entry.
+#![tactic(auto)]
+
 ghost use Rattle.std.specs.Prelude.{◌≡◌, ◌+◌, ◌*◌, ◌<◌, ◌≤◌, length};
 ghost use Rattle.table.specs.Table.{code_at, first_at};
 ghost use Rattle.pairs.specs.Layout.{layout_of, letters_of, Tested, passes_by, waits_by, entry_of};

@@ -2,6 +2,8 @@
 // layout is that of crates/table/specs/Tests.
 // Promise: the words say the entries that stand in the query's bytes, and no other word is changed
 // (specs/Words). Weakness: the entries must fit, which the caller has to see to.
+#![tactic(auto)]
+
 ghost use Rattle.std.specs.Prelude.{◌≡◌, ◌≤◌, eqb};
 ghost use Rattle.rules.specs.Basics.{pick};
 ghost use Rattle.entry_words.specs.Words.{EntryRoom, EntryPut, EntriesRoom, EntriesPut, PostfixRoom, PostfixPut};

@@ -4,6 +4,8 @@
 // Promise: for what earlier calls left, result, buffers and what is kept are those of `call_of` of
 // the rules (specs/Calls). Weakness: any other state gets an answer too, and which one is left
 // free.
+#![tactic(auto)]
+
 ghost use Rattle.std.specs.Prelude.{◌≡◌, true, false};
 ghost use Rattle.outcome.specs.Results.{lent, memory};
 ghost use Rattle.calls.specs.Steps.{before as asked, after as left, as_before};

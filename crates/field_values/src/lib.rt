@@ -1,6 +1,8 @@
 // The rules for the values of fields, decided on numbers: offsets, the sides of a comparison, and a
 // measure's function, letter and column. What is tested is short, so all parts of a test are
 // computed and joined by both and either.
+#![tactic(auto)]
+
 ghost use Rattle.std.specs.Prelude.{◌≡◌, not, ◌&&◌, ◌||◌, ◌+◌, ◌-◌, ◌≤◌, ◌<◌, ltb, leb, eqb};
 ghost use Rattle.rules.specs.Basics.{pick, in_range};
 ghost use Rattle.rules.specs.Query.{offset_fits, left_fits, right_fits, function_fits};

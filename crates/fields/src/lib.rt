@@ -1,6 +1,8 @@
 // The rules for the fields of each kind of record (document 01, "Rows and query records"), which
 // answer 3 is about; those of DEFINEs stand in the crate define_fields. Every function equals the
 // definition of its name.
+#![tactic(auto)]
+
 ghost use Rattle.std.specs.Prelude.{◌≡◌, ◌+◌, ◌≤◌, length};
 ghost use Rattle.rules.specs.Query.{shape_fits, skip_fits, measure_fits, record_fits};
 ghost use Rattle.records.specs.Read.{record_of};

@@ -2,6 +2,8 @@
 // begin, and the fork between a copy of a factor and leaving it, each with the flags of one plane;
 // END where the place does not have these flags. Promise: a fork has each of its ways once, in the
 // order in which they are tried.
+#![tactic(auto)]
+
 ghost use Rattle.place_words.specs.Words.{PutOne, Emitted};
 ghost use Rattle.forks.specs.Emitting.{Starting, Started, TwoWays, two_places, Choosing, choice, Parting, choice_places, fork_places, Forking};
 

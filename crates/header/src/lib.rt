@@ -1,5 +1,7 @@
 // The lines in front of the report, and what is printed in its place: of a refused input, and of
 // one that is too large.
+#![tactic(auto)]
+
 ghost use Rattle.std.specs.Prelude.{◌+◌, ◌≤◌, length};
 ghost use Rattle.rules.specs.Basics.{pick, bytes};
 ghost use Rattle.rules.specs.Program.{refused_text, too_large};

@@ -3,6 +3,8 @@
 // is to be printed once the query and the rows are judged (specs/Verdict), both in the order of
 // document 01. proofs/Inputs and proofs/Verdicts say what is then known, and that the program
 // prints what each case prints.
+#![tactic(auto)]
+
 ghost use Rattle.std.specs.Prelude.{◌≡◌, ◌/◌, ◌≤◌, length};
 ghost use Rattle.rules.specs.Basics.{wrote};
 ghost use Rattle.rules.specs.Program.{rows_of};
@@ -23,7 +25,7 @@ const BAD_ROWS: u64 = 10;
 // What the lengths alone say of an input: that it is refused, with the answer's number; that it is
 // too large; or that its query and rows can be judged. The query is then at index 2 and on, up to
 // `rows`, where the rows begin.
-#[derive(Drop)]
+#[derive(Clone, Copy)]
 pub enum Input {
     Refused(u64),
     TooLarge,
@@ -32,7 +34,7 @@ pub enum Input {
 
 // What a query and its row bytes come to: a refusal, with the answer's number; too many pairs; or a
 // search.
-#[derive(Drop)]
+#[derive(Clone, Copy)]
 pub enum Verdict {
     Refused(u64),
     TooLarge,

@@ -3,6 +3,8 @@
 // Promise: words 7 to 15 of the letter say how it is tested and the interval of the comparison that
 // stands in the query's bytes, and no other word is changed (specs/Interval). Weakness: the bytes
 // and the words must be there, which the caller has to see to.
+#![tactic(auto)]
+
 ghost use Rattle.std.specs.Prelude.{◌≡◌, ◌+◌, ◌<◌, ◌≤◌, length};
 ghost use Rattle.table.specs.Tests.{raised, tested_by, low_of, width_of};
 ghost use Rattle.interval_words.specs.Interval.{written_number, Word64Put, NineRoom, NinePut, IntervalRoom, IntervalPut};

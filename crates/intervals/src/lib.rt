@@ -4,6 +4,8 @@
 // Promise: `inside_at` is true exactly if the number, raised, lies in the interval, and for the
 // interval of a comparison that is what its operator asks (proofs/Intervals). Weakness: only
 // numbers below 2^32 in size are tested, which a difference of two entries is.
+#![tactic(auto)]
+
 ghost use Rattle.std.specs.Prelude.{◌≡◌, ◌+◌, ◌<◌, ◌≤◌, length, ◌-ℤ◌};
 ghost use Rattle.std.specs.Int.Signed.{mag};
 ghost use Rattle.table.specs.Tests.{word64, raised, raised_word};

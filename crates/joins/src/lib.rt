@@ -1,5 +1,7 @@
 // An entry of the rows, and entries joined one by one: the sum so far, the lowest or the highest.
 // Promise: each join is that of the definition, exact in 64 bits.
+#![tactic(auto)]
+
 ghost use Rattle.std.specs.Prelude.{◌≡◌, ◌+◌, ◌≤◌, ◌<◌, ◌+ℤ◌};
 ghost use Rattle.std.specs.Int.Signed.{mag};
 ghost use Rattle.rules.specs.Basics.{pick};

@@ -1,5 +1,7 @@
 // A pattern's text judged: answers 4, 5 or 14, 6 and 7, the first that applies, with 5's or 14's
 // offset, P and R-3's factor F.
+#![tactic(auto)]
+
 ghost use Rattle.std.specs.Prelude.{◌≡◌};
 ghost use Rattle.primaries.specs.Readers.{Fits};
 ghost use Rattle.judge.specs.Judged.{refused_verdict, Judging};
@@ -11,7 +13,7 @@ use scan::too_deep;
 // answer: 0 if the pattern is good, else 4, 5, 14, 6 or 7. offset: the byte at which its text is
 // wrong (5), or the text's length (14); else 0. places: P, factor: F, and top: the top node of its
 // tree, if it is good; else all three are 0.
-#[derive(Drop)]
+#[derive(Clone, Copy)]
 pub struct Verdict {
     pub answer: usize,
     pub offset: usize,

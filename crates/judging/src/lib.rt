@@ -5,6 +5,8 @@
 // judges the first comparison by an interval and those behind it by the same `first_unmet` as here.
 // The loop over the entries of a DEFINE of kind 6 stands here once more (`entries_hold`), proved by
 // the laws of the search's own loop, which a second caller would make a call in the walk.
+#![tactic(auto)]
+
 ghost use Rattle.std.specs.Prelude.{◌≡◌, [], ◌+◌, ◌≤◌, length, get_or};
 ghost use Rattle.rules.specs.Rows.{is_yes, latest};
 ghost use Rattle.table.specs.Tests.{Entries};
@@ -26,7 +28,7 @@ const KIND: usize = 7;
 const BY_ENTRIES: usize = 3;
 
 // Whether a letter holds, and how many comparisons were judged.
-#[derive(Drop)]
+#[derive(Clone, Copy)]
 pub struct Judged {
     pub holds: bool,
     pub count: usize,

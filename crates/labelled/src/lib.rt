@@ -1,11 +1,13 @@
 // The rows of a match that a measure is over, by their labels: how many there are, the first and
 // the last of them.
+#![tactic(auto)]
+
 ghost use Rattle.std.specs.Prelude.{◌≡◌, ◌≤◌, length, drop};
 ghost use Rattle.rules.specs.Basics.{pick};
 ghost use Rattle.labelled.specs.Labelled.{is_of, count_of, IsFirst, IsLast};
 
 // A row of a measure: its index among the labels of the match.
-#[derive(Drop)]
+#[derive(Clone, Copy)]
 pub enum Found {
     At(usize),
     Nothing,

@@ -11,7 +11,7 @@ use borrow.Author.Tests.{le-leb}
 use Rattle.rules.specs.Basics.{pick, in_range, is_letter}
 use Rattle.rules.specs.Language.{Form, star, plus, opt, exactly, at_least, at_most, between, Rank, pattern, branch, factor, primary, Tree, more, next}
 use Rattle.rules.specs.Reader.{Reading, got, bad, left, peek, rest, skip_spaces, is_digit, number, bound_reached, reaching, bounded, Marked, unmarked, broken, marked, reluctant, shut, up_to, from, braces, quantifier, branch_ends, under, alt_on, alt_with, seq_on, seq_with, times_on, times_with, closed, parted, simple, primary_on, read}
-use Rattle.laws.proofs.GrammarSound.{pick-both, in_range, range_in}
+use Rattle.laws.proofs.GrammarSound.{pick-both, in_range_lem, range_in}
 
 rest-shorter : (s : List ℕ) → length (rest s) ≤ length s
 unfolding rest
@@ -133,7 +133,7 @@ module _ (m : ℕ) (v : List ℕ) where
   reaching-same n s =
       pick-both (λ (r : Reading ℕ). Same s r (reaching n (other s))) (in_range 49 57 (peek s)) _ _
       (λ z. pick-both (λ (r : Reading ℕ). Same s r (reaching n (other s))) (leb n (10 * (peek s - 48) + 9)) _ _
-      (λ y. far z y (number s) (number-left s (let k = in_range 49 57 (peek s) z in range_in 48 57 (peek s) (omega arith) k.1)) (number-far s))
+      (λ y. far z y (number s) (number-left s (let k = in_range_lem 49 57 (peek s) z in range_in 48 57 (peek s) (omega arith) k.1)) (number-far s))
       (λ y h. (h, simp (other-peek s h, z, y))))
       (λ z h. (h, simp (other-peek s h, z)))
     where

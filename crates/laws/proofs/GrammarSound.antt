@@ -26,9 +26,9 @@ pub both : (t u : Bool) → pick t u false ≡ true → (t ≡ true) × (u ≡ t
 both true u e = (refl, e)
 both false u e = absurd (false≢true e)
 
-pub in_range : (lo hi b : ℕ) → in_range lo hi b ≡ true → (lo ≤ b) × (b ≤ hi)
+pub in_range_lem : (lo hi b : ℕ) → in_range lo hi b ≡ true → (lo ≤ b) × (b ≤ hi)
 unfolding in_range
-in_range lo hi b e = let h = (and-eq-true_iff (leb lo b) (leb b hi)).0 e in (leb-true _ _ h.0, leb-true _ _ h.1)
+in_range_lem lo hi b e = let h = (and-eq-true_iff (leb lo b) (leb b hi)).0 e in (leb-true _ _ h.0, leb-true _ _ h.1)
 
 pub range_in : (lo hi b : ℕ) → lo ≤ b → b ≤ hi → in_range lo hi b ≡ true
 unfolding in_range
@@ -36,7 +36,7 @@ range_in lo hi b l h = simp (le-leb _ _ l, le-leb _ _ h)
 
 pub in_letters : (b : ℕ) → is_letter b ≡ true → (65 ≤ b) × (b ≤ 90)
 unfolding is_letter
-in_letters b e = in_range 65 90 b e
+in_letters b e = in_range_lem 65 90 b e
 
 pub letter-in : (b : ℕ) → 65 ≤ b → b ≤ 90 → is_letter b ≡ true
 unfolding is_letter
@@ -44,7 +44,7 @@ letter-in b l h = range_in 65 90 b l h
 
 in_digits : (b : ℕ) → is_digit b ≡ true → (48 ≤ b) × (b ≤ 57)
 unfolding is_digit
-in_digits b e = in_range 48 57 b e
+in_digits b e = in_range_lem 48 57 b e
 
 -- a byte that is not 0 stands first
 pub peeked : (s : List ℕ) (b : ℕ) → 1 ≤ b → peek s ≡ b → s ≡ b ∷ rest s
@@ -285,7 +285,7 @@ reaching-good : (n : ℕ) (s : List ℕ) → n ≤ 99 → GoodN (max 1 n) s (rea
 unfolding reaching GoodN bound_reached digits
 reaching-good n s small =
     pick-both (GoodN (max 1 n) s) (in_range 49 57 (peek s)) _ _
-    (λ d. let k = in_range 49 57 (peek s) d in let q = peeked s (peek s) (omega arith) refl in
+    (λ d. let k = in_range_lem 49 57 (peek s) d in let q = peeked s (peek s) (omega arith) refl in
     pick-both (GoodN (max 1 n) s) (leb n (10 * (peek s - 48) + 9)) _ _
     (λ e. let l = leb-true n (10 * (peek s - 48) + 9) e in
     subst (λ (r : Reading ℕ). GoodN (max 1 n) s (bound_reached n (rest s) r)) (sym (number-begun s k.0 k.1))

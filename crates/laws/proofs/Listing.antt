@@ -107,6 +107,7 @@ descends_map P Q f h (x ∷ xs) a = (λ z m. let r = Memᴰ.of_map f xs m in rw 
 module _ {A C : Type 0} (g : A → List C) where
   in_flat : {x : A} {c : C} (xs : List A) → Memᴰ x xs → Memᴰ c (g x) → Memᴰ c (flat_map g xs)
   unfolding flat_map
+  in_flat {x} {c} [] m n = elim m [ ]
   in_flat {x} {c} (y ∷ xs) (Memᴰ.head e) n = Memᴰ.append_left (flat_map g xs) (rw e at n)
   in_flat (y ∷ xs) (Memᴰ.tail m) n = Memᴰ.append_right (g y) (in_flat xs m n)
 
@@ -241,6 +242,7 @@ module _ {A : Type 0} (xs : List A) (complete : (x : A) → Memᴰ x xs) where
 in_those : {A : Type 0} (W : A → Type 0) (dec : (x : A) → Dec (W x)) → ((x : A) → IsProp (W x)) → (d : (x : A) × W x) (xs : List A) → Memᴰ d.0 xs
     → Memᴰ d (those W dec xs)
 unfolding those
+in_those W dec prop d [] m = elim m [ ]
 in_those W dec prop d (x ∷ xs) (Memᴰ.head e) = go (dec x)
   where
     go : (r : Dec (W x)) → Memᴰ d (add_if {W = W} x r (those W dec xs))

@@ -3,3 +3,4 @@
 // the one that it calls. The borrow checker covers no reference to a struct, so the C face's three
 // functions of this form cite these laws. There is no code here: proofs/Begins and proofs/Lent have
 // the laws. They stand in a crate of their own so that a check of the C face does not repeat them.
+#![tactic(auto)]

@@ -2,6 +2,8 @@
 // need else, so that the walk finds a test by its place and reckons nothing. Promise: no other word
 // is changed, and the table holds the same places (proofs/Same). Weakness: the ways of forks have
 // to stand behind the words of all places, which unrolling promises.
+#![tactic(auto)]
+
 ghost use Rattle.std.specs.Prelude.{◌+◌, ◌*◌, ◌≤◌, length};
 ghost use Rattle.letter_places.specs.Pointing.{Points, PointedOne, Pointing};
 

@@ -9,6 +9,8 @@
 // Weakness: the comparisons behind the first stand in another part of the table, and are judged in
 // the order of the query; and it has to be a row: position n, behind the last one, is not asked
 // about.
+#![tactic(auto)]
+
 ghost use Rattle.std.specs.Prelude.{◌≡◌, ◌&&◌, ◌+◌, ◌*◌, ◌-◌, ◌≤◌, ◌<◌, ltb, eqb, length, get_or};
 ghost use Rattle.rules.specs.Rows.{table_of, holds};
 ghost use Rattle.table.specs.Tests.{condition_in, First, LetterAt, Letters};

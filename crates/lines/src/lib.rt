@@ -1,5 +1,7 @@
 // The line of one match: its three numbers, its labels, and the results of its measures. It takes
 // at most 65 bytes, 21 for each measure and one for each label.
+#![tactic(auto)]
+
 ghost use Rattle.std.specs.Prelude.{◌+◌, ◌*◌, ◌≤◌, length, drop};
 ghost use Rattle.rules.specs.Program.{labels_text};
 ghost use Rattle.put.specs.Put.{Put};

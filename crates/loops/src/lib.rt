@@ -4,6 +4,8 @@
 // alternation or a factor of a sequence. So a level of parentheses takes two calls at most, and
 // parts and branches, however many, take no stack. The promises are equations with the definitions
 // on the tree (specs/Loops).
+#![tactic(auto)]
+
 ghost use Rattle.std.specs.Prelude.{◌≡◌, true, false, ◌-◌, ◌+◌, ◌≤◌, ◌^◌, min, max, eqb};
 ghost use Rattle.rules.specs.Basics.{pick};
 ghost use Rattle.trees.specs.Held.{At};

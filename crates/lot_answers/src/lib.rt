@@ -2,6 +2,8 @@
 // 11, 12 and 21 by rank, decided on numbers.
 // Promise: an equation with specs/Lot. Where the query has no answer of its own and does not look
 // ahead, that is the refusal of the rules for the call whose numbers they are (proofs/Refusals).
+#![tactic(auto)]
+
 ghost use Rattle.std.specs.Prelude.{◌≡◌};
 ghost use Rattle.lot_answers.specs.Lot.{Small, bad_numbers, lot_answer};
 
@@ -9,7 +11,7 @@ use sizes::{MOST_ROWS, short_room};
 
 // What a call is judged by: the places with their flags, the columns of a row, the largest number
 // of rows, the rows present now and before, and the lengths of the rows' slice, notes and trail.
-#[derive(Drop)]
+#[derive(Clone, Copy)]
 pub struct Measured {
     pub places: usize,
     pub columns: usize,

@@ -6,6 +6,8 @@
 // What the call before kept stands for the later search, and each call leaves what its definition
 // says (proofs/Standing, Calling). Weakness: a call's work is that of its new rows and of the open
 // pairs, each of which is entered once more.
+#![tactic(auto)]
+
 ghost use Rattle.std.specs.Prelude.{◌≡◌, ◌&&◌, ◌≤◌, leb};
 ghost use Rattle.lots.specs.Feeds.{new_feed, kept_in, Advances, Advanced};
 
@@ -16,7 +18,7 @@ use sweep::{go_on, search};
 // the rows present at the latest call that was not refused; whether there was one; its answer; the
 // start at which it waits, the matches and labels written, the steps, and how many pairs are open.
 #[repr(C)]
-#[derive(Drop)]
+#[derive(Clone, Copy)]
 pub struct Feed {
     pub largest: usize,
     pub allowance: usize,

@@ -1,5 +1,7 @@
 // The quantifiers of a pattern's text: the one at a position, or none, or at which byte it is
 // wrong.
+#![tactic(auto)]
+
 ghost use Rattle.std.specs.Prelude.{ℕ, ◌≤◌, length, drop};
 ghost use Rattle.rules.specs.Language.{Form};
 ghost use Rattle.rules.specs.Reader.{reluctant as reluctantly, quantifier as quantified, braces as braced, up_to, shut as shutWith, got};
@@ -8,7 +10,7 @@ ghost use Rattle.marks.specs.Shows.{Codes, Shows, bounded_by};
 use text_bytes::{number, peek, reaching, skip};
 
 // What stands at a quantifier's place: none, one that is broken at a byte, or one.
-#[derive(Drop)]
+#[derive(Clone, Copy)]
 pub enum Mark {
     Unmarked,
     Broken {

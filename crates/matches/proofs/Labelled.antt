@@ -86,16 +86,16 @@ up-length pl (x ∷ xs) vs =
     let b = label_length p vs in
     omega arith
 
-label_of : (c k : ℕ) (ks vs : List ℕ) (a x y z : Bool) → label_of (pick a (p_letter c k) (pick x (p_caret k) (pick y (p_dollar k) (pick z (p_fork ks) p_end)))) vs ≡ if_letter a c vs
-label_of c k ks vs true x y z = refl
-label_of c k ks vs false true y z = refl
-label_of c k ks vs false false true z = refl
-label_of c k ks vs false false false true = refl
-label_of c k ks vs false false false false = refl
+label_of_lem : (c k : ℕ) (ks vs : List ℕ) (a x y z : Bool) → label_of (pick a (p_letter c k) (pick x (p_caret k) (pick y (p_dollar k) (pick z (p_fork ks) p_end)))) vs ≡ if_letter a c vs
+label_of_lem c k ks vs true x y z = refl
+label_of_lem c k ks vs false true y z = refl
+label_of_lem c k ks vs false false true z = refl
+label_of_lem c k ks vs false false false true = refl
+label_of_lem c k ks vs false false false false = refl
 
 label_at : (T : Layout) (q : ℕ) (vs : List ℕ) → label_of (place_at T.words q) vs ≡ label_by (code_at T.words q) vs
 unfolding place_at place_by label_by
-label_at T q vs = label_of _ (first_at T.words q) (ways_of T.words q) vs (ltb (code_at T.words q) 26) (eqb (code_at T.words q) 26) (eqb (code_at T.words q) 27) (ltb (code_at T.words q) 30)
+label_at T q vs = label_of_lem _ (first_at T.words q) (ways_of T.words q) vs (ltb (code_at T.words q) 26) (eqb (code_at T.words q) 26) (eqb (code_at T.words q) 27) (ltb (code_at T.words q) 30)
 
 up-cons : (pl : List Place) (x : ℕ) (xs vs : List ℕ) → labels_up pl (x ∷ xs) vs ≡ labels_up pl xs (label_of (get_or pl (x % length pl) (p_fork [])) vs)
 unfolding labels_up

@@ -1,5 +1,7 @@
 // A match written into the report: its labels off the trail, its numbers, and whether it fits; and
 // how the search goes on behind it.
+#![tactic(auto)]
+
 ghost use Rattle.std.specs.Prelude.{◌≡◌, ◌+◌, ◌-◌, ◌<◌, length};
 ghost use Rattle.rules.specs.Basics.{wrote};
 ghost use Rattle.rules.specs.Search.{hit};
@@ -17,7 +19,7 @@ use table::{Extent, LETTERS, code_at};
 // What a search is asked beside its table: its extent, the number of pairs of the largest number of
 // rows, the word of the table at which the measures begin, how many they are, and where it goes on
 // behind a match.
-#[derive(Drop)]
+#[derive(Clone, Copy)]
 pub struct Task {
     pub size: Extent,
     pub pairs: usize,
@@ -30,7 +32,7 @@ pub struct Task {
 // matches and labels written; the steps; and, where it waits in an attempt, how many pairs are
 // open.
 #[repr(C)]
-#[derive(Drop)]
+#[derive(Clone, Copy)]
 pub struct Sweep {
     pub end: usize,
     pub row: usize,

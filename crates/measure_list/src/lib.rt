@@ -1,6 +1,8 @@
 // The measures of a query: the type Measure, a lent array of three bytes for each of up to 8, and
 // the same measures as words of a table. A query comes here with no answer 1 to 3. What the array
 // and the table hold afterwards: specs/Measures, `PutMeasures` and `MeasuresTabled`.
+#![tactic(auto)]
+
 ghost use Rattle.std.specs.Prelude.{◌≡◌, ◌+◌, ◌*◌, ◌≤◌, ◌<◌, length};
 ghost use Rattle.rules.specs.Query.{measure_at};
 ghost use Rattle.table.specs.Measures.{measure_in};
@@ -10,7 +12,7 @@ use records::{Read, record_at};
 
 // A measure of the query: the number of its function, the letter of its rows or 0 for all rows, and
 // its column.
-#[derive(Drop)]
+#[derive(Clone, Copy)]
 pub struct Measure {
     pub function: u8,
     pub letter: u8,

@@ -1,4 +1,6 @@
 // A measure of one match: COUNT, SUM, MIN, MAX, FIRST, LAST and AVG over the rows with a label.
+#![tactic(auto)]
+
 ghost use Rattle.std.specs.Prelude.{◌≡◌, [], ◌≤◌, ◌<◌, pos, length};
 ghost use Rattle.std.proofs.Math.Option.{some};
 ghost use Rattle.std.specs.Int.Signed.{quot_z};
@@ -14,7 +16,7 @@ use measure_list::Measure;
 use numbers::wide8;
 
 // A measure's value.
-#[derive(Drop)]
+#[derive(Clone, Copy)]
 pub enum Value {
     Null,
     Number(i64),

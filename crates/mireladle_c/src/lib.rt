@@ -3,6 +3,8 @@
 // include/mireladle.h says what a caller owes for the pointers, which no promise here can check. The
 // state of a search by lots is lent as a pointer too; the borrow checker does not cover these three
 // functions, and crates/lending has the laws that prove them.
+#![tactic(auto)]
+
 ghost use Rattle.std.specs.Prelude.{◌≡◌, true, false, length};
 ghost use Rattle.std.proofs.Math.Option.{none, some};
 ghost use Rattle.outcome.specs.Results.{lent, memory};
@@ -23,7 +25,7 @@ use test_letter::Tested;
 // How much to lend: the answer 1 to 10 or 14, with the offset of 5 and 14, or 0 with P, n, the
 // number of pairs and R-3's factor F.
 #[repr(C)]
-#[derive(Drop)]
+#[derive(Clone, Copy)]
 pub struct Room {
     pub answer: usize,
     pub places: usize,

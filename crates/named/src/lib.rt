@@ -1,6 +1,8 @@
 // What the depot-by-month table (request R-4) asks of a query's bytes alone: whether a named column
 // is outside the shape, which is the partition's answer 3, and how many measures a match has, by
 // which a report's numbers are parted. Each promise is an equation, for all bytes.
+#![tactic(auto)]
+
 ghost use Rattle.std.specs.Prelude.{◌≡◌, not, ◌&&◌, ◌+◌, ◌*◌, ◌≤◌, ◌<◌, ltb, eqb, length, get_or};
 ghost use Rattle.rules.specs.Basics.{pick};
 ghost use Rattle.rules.specs.Query.{parts};

@@ -1,12 +1,14 @@
 // A pattern's node, a struct by value, and nodes kept as words in a lent slice, eight to a node:
 // here a node is read from its words, and crates/put_nodes puts one there. What is put is read
 // back, and other words are unchanged (proofs/Put).
+#![tactic(auto)]
+
 ghost use Rattle.std.specs.Prelude.{◌≡◌, ◌+◌, ◌*◌, ◌≤◌, ◌<◌, ◌/◌, ◌%◌, eqb, length, get_or};
 ghost use Rattle.nodes.specs.Nodes.{node_at, sort_of};
 
 use numbers::wide16;
 
-#[derive(Drop)]
+#[derive(Clone, Copy)]
 pub enum Sort {
     Letter(u8),
     Anchor(u8),
@@ -20,7 +22,7 @@ pub enum Sort {
 // reluctant. low, high: its bounds, high 100 if it is unbounded; 1 and 1 without a quantifier.
 // left, right: the numbers of its parts' nodes. height: above that of each part. places: how many
 // places it unrolls to, counted up to 257; of an alternation without its fork.
-#[derive(Drop)]
+#[derive(Clone, Copy)]
 pub struct Node {
     pub sort: Sort,
     pub form: usize,

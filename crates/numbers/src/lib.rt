@@ -1,6 +1,8 @@
 // Numbers in other widths, each conversion once: bytes and words as wider numbers, numbers of
 // several bytes with the lowest first, and two's complement. Promise: each is the number that the
 // definitions say. All are proved here and used by every crate that reads bytes or words.
+#![tactic(auto)]
+
 ghost use Rattle.std.specs.Prelude.{◌≡◌, ◌+◌, ◌<◌, length};
 ghost use Rattle.std.specs.Int.Signed.{mag};
 ghost use Rattle.rules.specs.Basics.{le16, le32, signed8, signed32};

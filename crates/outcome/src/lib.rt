@@ -1,11 +1,13 @@
 // How a search ended: refused, done or stopped.
+#![tactic(auto)]
+
 ghost use Rattle.std.specs.Prelude.{◌≡◌};
 ghost use Rattle.outcome.specs.Results.{refusal};
 
 // How a search ended: the answer, the matches and labels written, the steps, and the offset of
 // answers 5 and 14.
 #[repr(C)]
-#[derive(Drop)]
+#[derive(Clone, Copy)]
 pub struct Outcome {
     pub answer: usize,
     pub matches: usize,

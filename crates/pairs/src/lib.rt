@@ -2,6 +2,8 @@
 // each pair: it has failed), the trail (the open pairs), and where the walk is then. A pair is the
 // number row * P + place. This is the one file that knows how a pair is numbered in the notes and
 // written on the trail.
+#![tactic(auto)]
+
 ghost use Rattle.std.specs.Prelude.{◌≡◌, Bool, false, ℕ, ◌+◌, ◌*◌, ◌/◌, ◌<◌, ◌≤◌, length, set, get_or};
 ghost use Rattle.rules.specs.Report.{bit_at};
 ghost use Rattle.rules.specs.Working.{marked};
@@ -15,7 +17,7 @@ use table::count_at;
 // its place, its row and its row times P; and what is to be done about that pair. All are numbers,
 // as a struct of whole words has no padding to be copied.
 #[repr(C)]
-#[derive(Drop)]
+#[derive(Clone, Copy)]
 pub struct Walk {
     pub top: usize,
     pub steps: usize,

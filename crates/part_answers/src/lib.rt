@@ -1,5 +1,7 @@
 // The answers of a query that is taken apart: its pattern judged, then its DEFINEs, measures and
 // skip, so answers 4 to 9 and 14, the first of them that there is.
+#![tactic(auto)]
+
 ghost use Rattle.reading.specs.Reading.{JudgeRoom, JudgedParts};
 
 use decode::Parts;

@@ -1,6 +1,8 @@
 // A pattern's text read into a tree: the four readers of the pattern language, in a cycle. The
 // tree's nodes go into a lent room, each behind its parts; `read_text` leaves there the nodes of
 // the tree that the text has, or says that it has none, and at which byte the text is wrong.
+#![tactic(auto)]
+
 ghost use Rattle.rules.specs.Language.{Rank};
 ghost use Rattle.primaries.specs.Readers.{Fits, PhraseReads, ReadsHead, TextSays};
 

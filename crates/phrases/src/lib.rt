@@ -1,6 +1,8 @@
 // Phrases made of their parts: a factor of a primary and its quantifier, and a sequence or an
 // alternation of parts that stand in the room, joined from the last on. The readers that call these
 // are in crates/pattern.
+#![tactic(auto)]
+
 ghost use Rattle.std.specs.Prelude.{◌≡◌, ◌+◌, max, true, false};
 ghost use Rattle.rules.specs.Reader.{branch_ends};
 ghost use Rattle.nodes.specs.Nodes.{put_node};

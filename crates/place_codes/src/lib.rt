@@ -2,6 +2,8 @@
 // and a round ends, the later word of a fork, and how many forks a factor has. With R-3 a place has
 // an entry of the table for each value of its flags; a plane is one value of the flags, for all
 // places. The words themselves are put by crates/place_words.
+#![tactic(auto)]
+
 ghost use Rattle.std.specs.Prelude.{◌≡◌, ◌+◌, ◌<◌, ◌-◌, ◌≤◌, length, get_or, eqb, leb};
 ghost use Rattle.rules.specs.Basics.{pick};
 ghost use Rattle.place_codes.specs.Codes.{fork_code, later_word, letter_code, anchor_code};
@@ -10,7 +12,7 @@ ghost use Rattle.place_codes.specs.Planes.{Planed, Low, slot, state_by, start_by
 use table::{CARET, DOLLAR, FORK, NEAR_FORK, TWO_WAYS, word_at};
 
 // The flags have so many values, F, and this is one of them.
-#[derive(Drop)]
+#[derive(Clone, Copy)]
 pub struct Plane {
     pub factor: usize,
     pub flags: usize,
@@ -18,7 +20,7 @@ pub struct Plane {
 
 // What is behind a part: how many values the flags of its places have, and the entry at which
 // matching goes on behind it, with the flags of a plane and with all flags set.
-#[derive(Drop)]
+#[derive(Clone, Copy)]
 pub struct Behind {
     pub values: usize,
     pub here: usize,

@@ -1,6 +1,8 @@
 // The words of the table of places, in the layout that crates/table reads: the words of a place,
 // and the ways of a fork. Promise: a way is put unless the fork has it. Weakness: a way is looked
 // for among all ways of its fork, so a fork of m ways costs m * m / 2 comparisons.
+#![tactic(auto)]
+
 ghost use Rattle.std.specs.Prelude.{◌≡◌, ◌-◌, ◌≤◌, length};
 ghost use Rattle.rules.specs.Basics.{has};
 ghost use Rattle.table.specs.Table.{span};

@@ -2,6 +2,8 @@
 // goes from plane to plane, and puts in each the entries of the tree's places, and END behind them.
 // Promise: the table holds the tree's places, each fork's ways once, and keeps to what the walk
 // relies on.
+#![tactic(auto)]
+
 ghost use Rattle.place_words.specs.Words.{Emitted};
 ghost use Rattle.forks.specs.Emitting.{Unrolling, PlacesTabled};
 ghost use Rattle.places.specs.Flat.{Flat, plane_places};

@@ -5,6 +5,8 @@
 // Promise (specs/Ready): an answer 1 to 9 or 14 with its offset; or the table and the numbers stand
 // for the query; or the table is too short, which one of MOST_WORDS words never is. Weakness: the
 // words that nothing reads are left as they are.
+#![tactic(auto)]
+
 ghost use Rattle.std.specs.Prelude.{◌≡◌};
 ghost use Rattle.reading.specs.Reading.{Nodes};
 ghost use Rattle.prepared.specs.Ready.{refused_prepared, Fills, Ready, PreparedAs};
@@ -21,7 +23,7 @@ use tests::put_tests;
 // places in its table, one for each value of their flags, the columns of a row, how many measures
 // it has, the skip mode of its record, and the letter that the skip names, 0 for none.
 #[repr(C)]
-#[derive(Drop)]
+#[derive(Clone, Copy)]
 pub struct Prepared {
     pub answer: usize,
     pub offset: usize,

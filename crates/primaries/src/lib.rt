@@ -1,6 +1,8 @@
 // A primary that is read: a letter or an anchor, `()`, or a pattern in parentheses, of which the
 // `)` is read here. What the readers of a pattern's text answer: a Step, and of a primary, whose
 // node is not yet in the room, a Head (specs/Readers).
+#![tactic(auto)]
+
 ghost use Rattle.std.specs.Prelude.{◌≡◌, ◌+◌, ◌≤◌, ◌<◌, false, length};
 ghost use Rattle.primaries.specs.Readers.{SkipTo, EmptyIs, ShutNeeds, ShutIs, SimpleSays};
 
@@ -11,7 +13,7 @@ use trees::{capped, plain_node};
 // What a reader answers: whether it read, where it ended or stopped, how many nodes there are then
 // (its own is the last), its height, its places counted up to 257, without the fork of an
 // alternation, and 1 for that fork.
-#[derive(Drop)]
+#[derive(Clone, Copy)]
 pub struct Step {
     pub ok: bool,
     pub at: usize,
@@ -22,7 +24,7 @@ pub struct Step {
 }
 
 // What the reader of a primary answers: its own node is not yet in the room.
-#[derive(Drop)]
+#[derive(Clone, Copy)]
 pub struct Head {
     pub ok: bool,
     pub at: usize,

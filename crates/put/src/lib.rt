@@ -1,6 +1,8 @@
 // Bytes, words and numbers in decimal, written into a lent buffer from an index on: each function
 // asks for room for its text, the buffer is otherwise as it was, and the result is the index behind
 // the text (specs/Put). A number of 64 bits takes at most 20 bytes, with its sign (proofs/Signed).
+#![tactic(auto)]
+
 ghost use Rattle.std.specs.Prelude.{◌≡◌, [], ◌∷◌, ◌+◌, ◌^◌, ◌≤◌, ◌<◌, length, nat_abs};
 ghost use Rattle.rules.specs.Program.{decimal, signed_decimal};
 ghost use Rattle.put.specs.Put.{Put};

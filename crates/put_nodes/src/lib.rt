@@ -1,5 +1,7 @@
 // A node put into its eight words of a lent slice (crates/nodes): its sort and byte in one word,
 // its form and reluctant mark in one, and a word for each number.
+#![tactic(auto)]
+
 ghost use Rattle.std.specs.Prelude.{◌≡◌, ◌+◌, ◌*◌, ◌≤◌, ◌<◌, length};
 ghost use Rattle.nodes.specs.Nodes.{put_node, word_of, bit_of_bool, Small};
 

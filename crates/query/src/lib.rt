@@ -2,6 +2,8 @@
 // Record or Cut. The promises are equations with document 01's tests over the whole query, for all
 // byte strings; records are read by the crate records, and the rules for their fields stand in the
 // crate fields.
+#![tactic(auto)]
+
 ghost use Rattle.std.specs.Prelude.{◌≡◌, true, false, ◌&&◌, ◌+◌, ◌-◌, ◌≤◌, ◌<◌, length, get_or, eqb};
 ghost use Rattle.rules.specs.Basics.{pick};
 ghost use Rattle.rules.specs.Query.{record_fits};
@@ -13,7 +15,7 @@ use records::{Read, is_define, record_at};
 
 // Where a pass stands in the order of kinds: it expects 0 the shape, 1 the text, 2 up to `left`
 // DEFINEs and the skip, 3 up to `left` measures; 4 is behind a kind out of order.
-#[derive(Drop)]
+#[derive(Clone, Copy)]
 struct Stage {
     at: usize,
     left: usize,

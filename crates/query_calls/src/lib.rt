@@ -2,6 +2,8 @@
 // is long enough, and the call is made over it (crates/calls).
 // Promise: that of a call (crates/calls, specs/Calls). Weakness: each call prepares the query anew,
 // since nothing kept is relied on.
+#![tactic(auto)]
+
 ghost use Rattle.std.specs.Prelude.{◌≡◌};
 ghost use Rattle.calls.specs.Calls.{Calls};
 ghost use Rattle.calls.specs.Steps.{before, after};

@@ -1,11 +1,13 @@
 // What reading a query comes to, letters that its pattern does not name, and how long its text is.
+#![tactic(auto)]
+
 ghost use Rattle.std.specs.Prelude.{◌≡◌, ◌&&◌, ◌≤◌, ◌<◌};
 ghost use Rattle.reading.specs.Reading.{known_in, foreign_in, refused_query, short_text};
 
 // What a query asks: its answer 1 to 9 or 14, with the offset of 5 and 14, or 0; where it is 0, P,
 // F, the top node of its pattern's tree, and its parts, with the letter that the skip names (0 for
 // none) and a number from which on no letter has a DEFINE.
-#[derive(Drop)]
+#[derive(Clone, Copy)]
 pub struct Query {
     pub answer: usize,
     pub offset: usize,
@@ -20,7 +22,7 @@ pub struct Query {
 }
 
 // How much to lend: the answer 1 to 10 or 14, with the offset of 5 and 14, or 0 with P, n and F.
-#[derive(Drop)]
+#[derive(Clone, Copy)]
 pub struct Size {
     pub answer: usize,
     pub places: usize,

@@ -3,6 +3,8 @@
 // (specs/Tests of the crate table): a spot of an offset above 0 is not below that of the next row.
 // Promise: equations with specs/Ahead, by the condition that the words of a letter tell.
 // Weakness: the words must lie in the table, which the caller has to see to.
+#![tactic(auto)]
+
 ghost use Rattle.std.specs.Prelude.{◌≡◌, ◌+◌, ◌*◌, ◌≤◌, ◌<◌, ltb, pos, length, get_or};
 ghost use Rattle.std.specs.Int.Signed.{lt_z};
 ghost use Rattle.rules.specs.Basics.{pick};

@@ -1,5 +1,7 @@
 // A query's bytes as records: each record read answers an enum, Record or Cut.
 // The promise is an equation with document 01's definition, at every index inside the query.
+#![tactic(auto)]
+
 ghost use Rattle.std.specs.Prelude.{◌≡◌, ◌+◌, ◌-◌, ◌<◌, length, get_or};
 ghost use Rattle.rules.specs.Query.{is_define};
 ghost use Rattle.records.specs.Read.{read_at};
@@ -13,7 +15,7 @@ pub const POSTFIX: usize = 6;
 
 // What stands at an index of the query: a whole record (its body starts at start and is len bytes
 // long, and next is behind it), or Cut.
-#[derive(Drop)]
+#[derive(Clone, Copy)]
 pub enum Read {
     Record {
         kind: usize,

@@ -3,6 +3,8 @@
 // fits. Sums are exact: 4,096 entries of 32 bits lie well within 64 bits. A measure takes at most
 // one pass over the labels of the match; over all rows, COUNT, FIRST and LAST take none. The
 // measures are words of the query's table (crates/table/specs/Measures).
+#![tactic(auto)]
+
 ghost use Rattle.std.specs.Prelude.{◌≡◌, List, [], ◌∷◌, ℕ, ◌+◌, ◌*◌, ◌≤◌, ◌<◌, pos, length};
 ghost use Rattle.rules.specs.Basics.{wrote};
 ghost use Rattle.rules.specs.Rows.{table_of, entry};
@@ -16,7 +18,7 @@ use measure_list::Measure;
 use measures::{Value, as_number, measure_of};
 
 // Where a query's measures stand in its table, how many they are, and the columns of a row.
-#[derive(Drop)]
+#[derive(Clone, Copy)]
 pub struct Measures {
     pub at: usize,
     pub count: usize,

@@ -3,6 +3,8 @@
 // and the measures; and how much a caller has to lend for it on some rows (`room`). Comparisons
 // stay in the query's bytes. For all bytes and rows; the promises are equations with document 01's
 // definitions.
+#![tactic(auto)]
+
 ghost use Rattle.std.specs.Prelude.{◌≡◌};
 ghost use Rattle.rules.specs.Answers.{room_of};
 ghost use Rattle.reading.specs.Reading.{Nodes, Space, Asked, as_room};

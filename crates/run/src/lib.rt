@@ -3,6 +3,8 @@
 // proofs/Running. It lends the search 8,192 report numbers, 65,536 label bytes and room for 16,000
 // pairs, all on the stack. The query is read three times: for its room, by the search, and for the
 // number of its measures, by which the report's numbers are parted.
+#![tactic(auto)]
+
 ghost use Rattle.std.specs.Prelude.{◌≤◌, length};
 ghost use Rattle.rules.specs.Answers.{task_of, walked};
 ghost use Rattle.rules.specs.Program.{search_text, printed_for};

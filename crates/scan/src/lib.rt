@@ -1,13 +1,15 @@
 // Passes over the bytes of a pattern's text: the depth of its parentheses, which answer 4 is about,
 // and whether a byte stands in it. The promises are equations with document 01's tests, for all
 // texts.
+#![tactic(auto)]
+
 ghost use Rattle.std.specs.Prelude.{◌≡◌, true, false, ◌+◌, ◌<◌, ◌^◌, length};
 ghost use Rattle.rules.specs.Basics.{has};
 ghost use Rattle.rules.specs.Answers.{deep};
 ghost use Rattle.scan.specs.Depth.{Behind};
 
 // Parentheses opened and closed so far. Their difference may be negative.
-#[derive(Drop)]
+#[derive(Clone, Copy)]
 pub struct Depth {
     pub opened: usize,
     pub closed: usize,

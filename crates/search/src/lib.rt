@@ -4,6 +4,8 @@
 // equation with the definition of documents 01 and 02, and the tender's demands with it
 // (specs/Promise). Nothing is allocated; the table lies on the stack. Weakness: `run` trusts its
 // table, so only a query that `prepare` wrote may be handed to it.
+#![tactic(auto)]
+
 ghost use Rattle.std.specs.Prelude.{List, ℕ};
 ghost use Rattle.std.proofs.Math.Option.{none, some};
 ghost use Rattle.outcome.specs.Results.{lent, memory};

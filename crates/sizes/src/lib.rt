@@ -1,6 +1,8 @@
 // Answers 10, 11 and 12 of document 01, decided on numbers: whether entries make whole rows and not
 // too many, and whether notes and trail are long enough. The promises are equations with
 // specs/Sizes.
+#![tactic(auto)]
+
 ghost use Rattle.std.specs.Prelude.{◌≡◌, ◌≤◌};
 ghost use Rattle.sizes.specs.Sizes.{bad_count, short_for};
 

@@ -2,6 +2,8 @@
 // labels. A labelled row may name no start: the letter labels no row of the match, or its first
 // row, at which the search would find the same match again. Promise: `next_row` equals the rules'
 // `next_start`.
+#![tactic(auto)]
+
 ghost use Rattle.std.specs.Prelude.{◌≡◌, ◌+◌, ◌≤◌, ◌<◌, length};
 ghost use Rattle.rules.specs.Answers.{skip_of};
 ghost use Rattle.rules.specs.Search.{first_with, last_with, next_start};
@@ -11,7 +13,7 @@ use numbers::wide8;
 
 // Where the search goes on behind a match with rows: behind its last row, one row behind its first,
 // or at its first or its last row with a letter.
-#[derive(Drop)]
+#[derive(Clone, Copy)]
 pub enum Skip {
     PastLastRow,
     ToNextRow,
@@ -36,7 +38,7 @@ pub fn skip_of(mode: usize, letter: usize) -> Skip
 }
 
 // Where the next attempt begins.
-#[derive(Drop)]
+#[derive(Clone, Copy)]
 pub enum Next {
     Start(usize),
     Nowhere,

@@ -2,6 +2,8 @@
 // all starts are tried, and the result says how it ended. Promise: result and all four buffers are
 // those of the definition's search of the query that the table stands for (specs/Starts).
 // Weakness: it tests nothing; who calls it has tested the rows and the room (crates/search).
+#![tactic(auto)]
+
 ghost use Rattle.std.specs.Prelude.{◌≡◌, List, ℕ, ◌≤◌};
 ghost use Rattle.outcome.specs.Results.{lent, memory};
 ghost use Rattle.prepared.specs.Ready.{Ready};
@@ -17,7 +19,7 @@ use table_room::{measures_at, tests_at};
 // On what terms a prepared query is searched for: how many rows there are, the largest number there
 // may be, by which notes and trail are measured, how many steps are allowed, and whether more rows
 // may come.
-#[derive(Drop)]
+#[derive(Clone, Copy)]
 pub struct Terms {
     pub rows: usize,
     pub largest: usize,

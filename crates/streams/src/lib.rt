@@ -7,6 +7,8 @@
 // Promised (specs/Streams) and proved: how many bytes were handed on, of an input of so many bytes.
 // Weak is that no contract of the kit's can name the bytes themselves: `compare --program` of
 // reference/ compares them, and rust/tests/program_streams.rs has streams that fail.
+#![tactic(auto)]
+
 ghost use Rattle.streams.specs.Streams.{Prints, Said};
 
 // The first so many bytes of an input decide what is printed of it: one more than a length, the
@@ -18,7 +20,7 @@ const MOST_PRINTED: usize = 245820;
 
 // How the program ended: all of the text was handed on; it was cut; or there was none, since the
 // input could not be read. `read` and `written` count bytes.
-#[derive(Drop)]
+#[derive(Clone, Copy)]
 pub enum Ended {
     Entire { read: usize, written: usize },
     Cut { read: usize, written: usize },

@@ -2,6 +2,8 @@
 // they are found; and the buffers left as the report says. A search that has waited for a row goes
 // on from the start of its attempt (`go_on`): the pairs that have failed are in the notes, so the
 // attempt comes straight to the pair that waited, and enters none but those that were open.
+#![tactic(auto)]
+
 ghost use Rattle.std.specs.Prelude.{◌≡◌, ◌≤◌, length};
 ghost use Rattle.rules.specs.Basics.{wrote};
 ghost use Rattle.rules.specs.Report.{zeros};

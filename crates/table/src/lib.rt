@@ -3,6 +3,8 @@
 // and the measures (specs/Measures). The words of a place are read by functions of their names, so
 // that their layout can change here alone. Weakness: what is read must lie in the table, which
 // whoever prepares a query has to see to (specs/Sized, Tests).
+#![tactic(auto)]
+
 ghost use Rattle.std.specs.Prelude.{◌≡◌, ◌+◌, ◌*◌, ◌≤◌, ◌<◌, length, get_or};
 ghost use Rattle.table.specs.Table.{code_at, first_at, later_at, count_at, later_way};
 ghost use Rattle.table.specs.Sized.{LaterIn};
@@ -12,7 +14,7 @@ use numbers::wide16;
 // How far a search reaches: the rows n, the columns of a row, the places P, the word of the table
 // at which the letters' tests begin, how many steps are allowed, and whether more rows may come.
 #[repr(C)]
-#[derive(Drop)]
+#[derive(Clone, Copy)]
 pub struct Extent {
     pub rows: usize,
     pub columns: usize,

@@ -1,6 +1,8 @@
 // The room that the table of a prepared query takes: where its measures and the tests of its
 // letters begin behind the words of its places, how many words it needs, and whether a table has so
 // many.
+#![tactic(auto)]
+
 ghost use Rattle.std.specs.Prelude.{◌≡◌, ◌≤◌, ltb, ◌||◌};
 ghost use Rattle.table_room.specs.Words.{measures_at, tests_at, Sizing, needed};
 

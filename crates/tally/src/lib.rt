@@ -2,6 +2,8 @@
 // and the counts of a report. The table is defined from the reports in specs/Table, and the code's
 // steps in specs/Counting. A count stays at the largest number that it can tell, which no 65,535
 // reports come near.
+#![tactic(auto)]
+
 ghost use Rattle.std.specs.Prelude.{◌≡◌, ℕ, ◌+◌, ◌*◌, ◌≤◌, ◌<◌, T, pos, nat_abs, length, get_or};
 ghost use Rattle.std.specs.Int.Signed.{mag, non_neg};
 ghost use Rattle.rules.specs.Rows.{table_of, entry};

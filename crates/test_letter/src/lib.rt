@@ -2,6 +2,8 @@
 // its kind 3 record were judged, up to and with the first that is not met (R-6). For every query,
 // all rows, every byte and every row: the promise is four equations with `test_of` of the rules.
 // Weakness: the query is prepared at each call, so a test costs about as much as reading the query.
+#![tactic(auto)]
+
 ghost use Rattle.std.specs.Prelude.{◌≡◌, List, ℕ, ◌+◌, ◌≤◌, min};
 ghost use Rattle.prepared.specs.Ready.{Given};
 ghost use Rattle.test_letter.specs.Tests.{Asks, TestedAs, refused_test, tested};
@@ -26,7 +28,7 @@ const FURTHEST: usize = 64;
 // What a test returns: the answer 1 to 10 or 14, with the offset of 5 and 14, or 0; and where it is
 // 0, whether the letter holds (1 or 0), and how many comparisons were judged.
 #[repr(C)]
-#[derive(Drop)]
+#[derive(Clone, Copy)]
 pub struct Tested {
     pub answer: usize,
     pub holds: usize,

@@ -3,6 +3,8 @@
 // Promise: for every letter the words say the condition of its DEFINE, and no word in front of the
 // tests is changed (specs/Prepared). Weakness: the DEFINEs must be sound, and the table large
 // enough, which the caller has to see to; `words_for` tells how large.
+#![tactic(auto)]
+
 ghost use Rattle.std.specs.Prelude.{◌≡◌, ◌+◌, ◌≤◌, ◌<◌};
 ghost use Rattle.tests.specs.Prepared.{more_of, words_for, TestCounted, TestsCountable, Preparable, Prepared};
 ghost use Rattle.tests.specs.Prepared.{LetterRoom, TestRoom, LetterPut, LettersPut, NoneRoom, NonePut};

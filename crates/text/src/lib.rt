@@ -2,6 +2,8 @@
 // search's counts and report buffers alone (crates/header, specs/Report), and takes at most 22
 // bytes for each number, one for each label and 60 more. proofs/Printed says that after the search
 // this is the text that document 01 asks for.
+#![tactic(auto)]
+
 ghost use Rattle.std.specs.Prelude.{◌≡◌, ◌+◌, ◌*◌, ◌≤◌, min, length};
 ghost use Rattle.put.specs.Put.{Put};
 ghost use Rattle.header.specs.Report.{lines_text, report_text, report_room, heading};

@@ -12,7 +12,7 @@ use lib.Seq.{drop-cons}
 use borrow.Author.Tests.{le-leb, lt-leb, eq-eqb, ne_eqb}
 use Rattle.rules.specs.Basics.{pick, in_range, is_letter}
 use Rattle.rules.specs.Reader.{Reading, got, bad, peek, rest, skip_spaces, is_digit, number, bound_reached, reaching}
-use Rattle.laws.proofs.GrammarSound.{in_range, range_in, number-begun}
+use Rattle.laws.proofs.GrammarSound.{in_range_lem, range_in, number-begun}
 use Rattle.text_bytes.specs.Numerals.{SaysNumber, no_number, Numeral, BoundReached}
 use Rattle.text_bytes.specs.declared.Value.{Value}
 
@@ -89,11 +89,11 @@ digit-high b h = simp (le-leb 48 b h)
 
 pub digits_from : (b v : ℕ) (d : Bool) → d ≡ is_digit b → d ≡ true → v ≡ b → 48 ≤ v
 unfolding is_digit
-digits_from b v d ed e ev = omega (arith, in_range 48 57 b (sym ed ∙ e))
+digits_from b v d ed e ev = omega (arith, in_range_lem 48 57 b (sym ed ∙ e))
 
 pub digits-to : (b : ℕ) (d : Bool) → d ≡ is_digit b → d ≡ true → b ≤ 57
 unfolding is_digit
-digits-to b d ed e = (in_range 48 57 b (sym ed ∙ e)).1
+digits-to b d ed e = (in_range_lem 48 57 b (sym ed ∙ e)).1
 
 -- ---- numbers
 

@@ -1,5 +1,7 @@
 // The bytes of a pattern's text: a byte, spaces, letters, digits, and numbers of one or two digits,
 // as they stand in the bounds of a quantifier. A number that is wrong tells at which byte.
+#![tactic(auto)]
+
 ghost use Rattle.std.specs.Prelude.{◌≡◌, ◌≤◌, length, drop};
 ghost use Rattle.rules.specs.Basics.{is_letter};
 ghost use Rattle.rules.specs.Reader.{peek as peeked, skip_spaces as skipped, is_digit, number as numbered};
@@ -8,7 +10,7 @@ ghost use Rattle.text_bytes.specs.Numerals.{Numeral, BoundReached, no_number};
 use numbers::wide8;
 
 // A number and where it ends, or where there is none.
-#[derive(Drop)]
+#[derive(Clone, Copy)]
 pub struct Value {
     pub ok: bool,
     pub value: usize,

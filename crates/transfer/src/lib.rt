@@ -11,6 +11,8 @@
 // A call that a signal interrupts before it moves a byte (EINTR) is made again, but not for ever,
 // so that the loops end. A stream that does not wait (EAGAIN) has failed: the language has no
 // `poll`, and how long to try again would be a guess.
+#![tactic(auto)]
+
 ghost use Rattle.std.specs.Prelude.{◌≡◌, ◌+◌, ◌≤◌, length, take};
 ghost use Rattle.std.specs.Int.{w64};
 ghost use Rattle.std.proofs.Common.{Fits};
@@ -21,7 +23,7 @@ const MOST_INTERRUPTIONS: usize = 1000;
 
 // What follows from a call: one more at `at`, where `left` more may be interrupted; that nothing
 // was moved, which is the end of an input; or that it failed.
-#[derive(Drop)]
+#[derive(Clone, Copy)]
 pub enum Step {
     Go { at: usize, left: usize },
     Still,
@@ -30,7 +32,7 @@ pub enum Step {
 
 // How reading an input went: read to its end, or to the end of the buffer, in so many bytes; or
 // not.
-#[derive(Drop)]
+#[derive(Clone, Copy)]
 pub enum Reading {
     Whole(usize),
     Unread,

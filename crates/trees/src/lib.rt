@@ -1,6 +1,8 @@
 // The nodes of a pattern's tree in a lent room, each behind its parts: what it is that a room holds
 // a tree (specs/Held), how many places rounds of a body take, and the first of a tree's nodes,
 // found from its top.
+#![tactic(auto)]
+
 ghost use Rattle.std.specs.Prelude.{◌≡◌, ◌+◌, ◌≤◌, min};
 ghost use Rattle.rules.specs.Language.{Rank, Tree};
 ghost use Rattle.trees.specs.Held.{Top, At};

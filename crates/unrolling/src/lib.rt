@@ -3,6 +3,8 @@
 // it does not have them. Parts of a sequence, branches and rounds are walked over by loops; a pair
 // of parentheses is a call, whose node is lower, so calls nest as deep as parentheses do. Weakness:
 // a factor's body is unrolled once for each of its copies, and all of it once for each plane.
+#![tactic(auto)]
+
 ghost use Rattle.place_words.specs.Words.{Emitted};
 ghost use Rattle.forks.specs.Emitting.{tree_places, branch_places, body_places, turn_places};
 ghost use Rattle.forks.specs.Emitting.{Emitting, Branching, Bodying, Turning};
@@ -15,7 +17,7 @@ use place_words::put_single;
 
 // A factor in its rounds: its node, the places of its body, whether it is reluctant, whether a copy
 // that leads back to its fork has a flag, the number behind its last place, and what is behind it.
-#[derive(Drop)]
+#[derive(Clone, Copy)]
 struct Factor {
     node: usize,
     body: usize,

@@ -2,6 +2,8 @@
 // answer and the number of matches of the desk's search of it. The promise is an equation
 // (specs/Verdicts). That the search has a match exactly where the log is cleared is no matter of
 // this crate: crates/desk has it from the search's promise.
+#![tactic(auto)]
+
 ghost use Rattle.std.specs.Prelude.{◌≡◌};
 ghost use Rattle.bus_log.specs.Log.{log_of};
 ghost use Rattle.verdicts.specs.Verdicts.{verdict_by};

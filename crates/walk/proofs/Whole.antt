@@ -24,9 +24,9 @@ use Rattle.pairs.proofs.Ways.{left-none, left-some, pair_row, pair_place}
 use Rattle.pairs.proofs.Going.{never, zero-two, one-two, zero-three, comes-idle, comes-next, faces_halt, reached_none, reached_on, top_end}
 use Rattle.pairs.proofs.Trying.{pair-in, three_one, before-waiting, before-other, fair_quiet, halts-fair, halts-spent, goes_enters, goes_on}
 
-pub state_of : (H : Halting) (T : Layout) (holds : ℕ → ℕ → Bool) (n : ℕ) (n₁ t₁ notes trail : List ℕ) (w₁ w : Walk)
+pub state_of_lem : (H : Halting) (T : Layout) (holds : ℕ → ℕ → Bool) (n : ℕ) (n₁ t₁ notes trail : List ℕ) (w₁ w : Walk)
     → Reached H T holds n n₁ t₁ (comes H T holds n n₁ t₁ w₁) notes trail w → State T holds n notes trail w
-state_of H T holds n n₁ t₁ notes trail w₁ w r = record { good = r.good; stands = r.stands }
+state_of_lem H T holds n n₁ t₁ notes trail w₁ w r = record { good = r.good; stands = r.stands }
 
 -- a state does not wait
 calm : (T : Layout) (holds : ℕ → ℕ → Bool) (n : ℕ) (notes trail : List ℕ) (w : Walk) → Stands T holds n notes trail w → w.status ≡ 3 → ⊥
@@ -59,7 +59,7 @@ module _ (H : Halting) (T : Layout) (more : Bool) (holds : ℕ → ℕ → Bool)
 
   module _ (few : w.steps < T.limit) where
     goes : Goes T holds n notes trail w
-    goes = record { state = state_of H T holds n n₁ t₁ notes trail w₁ w h.reached; down = h.down }
+    goes = record { state = state_of_lem H T holds n n₁ t₁ notes trail w₁ w h.reached; down = h.down }
 
     unspent : H.spent w.steps ≡ false
     unspent = fair.spends w.steps few
@@ -159,7 +159,7 @@ module _ (H : Halting) (T : Layout) (holds : ℕ → ℕ → Bool) (n : ℕ) (qu
   off_end l = record { reached = h.reached; less = h.less; still = λ _. omega arith }
 
   pub off_halts : 0 < w.top → (w.status ≡ 1 → ⊥) → Backs T holds n notes trail w
-  off_halts l d = record { idle = record { state = state_of H T holds n n₁ t₁ notes trail w₁ w h.reached; down = d; found = h.found }; going = l }
+  off_halts l d = record { idle = record { state = state_of_lem H T holds n n₁ t₁ notes trail w₁ w h.reached; down = d; found = h.found }; going = l }
 
   module _ (notes' trail' : List ℕ) (r : Walk) (o : Backward H T holds n notes trail w notes' trail' r) where
     pub off_more : Retreating H T holds n n₁ t₁ w₁ notes' trail' r
@@ -200,7 +200,7 @@ run_none H T holds n n₁ t₁ w₁ s = record { reached = reached_none H T hold
 
 module _ (H : Halting) (T : Layout) (holds : ℕ → ℕ → Bool) (n : ℕ) (quiet : Quiet H T holds n) (n₁ t₁ : List ℕ) (w₁ : Walk) (notes trail : List ℕ) (w : Walk) (h : Running H T holds n n₁ t₁ w₁ notes trail w) where
   pub run-goes : w.status ≡ 1 → Goes T holds n notes trail w
-  run-goes d = record { state = state_of H T holds n n₁ t₁ notes trail w₁ w h.reached; down = d }
+  run-goes d = record { state = state_of_lem H T holds n n₁ t₁ notes trail w₁ w h.reached; down = d }
 
   pub run_end : (w.status ≡ 1 → ⊥) → Ran H T holds n n₁ t₁ w₁ notes trail w
   run_end d =
@@ -240,7 +240,7 @@ module _ (H : Halting) (T : Layout) (holds : ℕ → ℕ → Bool) (n : ℕ) (qu
             halting = H;
             holds = holds;
             quiet = quiet;
-            idle = record { state = state_of H T holds n notes trail n₂ t₂ w w₂ (here moving); down = λ (e : w₂.status ≡ 1). never (sym o ∙ e); found = λ (e : w₂.status ≡ 2). zero-two (sym o ∙ e) };
+            idle = record { state = state_of_lem H T holds n notes trail n₂ t₂ w w₂ (here moving); down = λ (e : w₂.status ≡ 1). never (sym o ∙ e); found = λ (e : w₂.status ≡ 2). zero-two (sym o ∙ e) };
           }
 
       module _ (notes' trail' : List ℕ) (r : Walk) (back : (h : Idling T n n₂ t₂ w₂) → Retreated h.halting T h.holds n n₂ t₂ w₂ notes' trail' r) where

@@ -7,6 +7,8 @@
 // just before the next entry, with its pair still to be entered; or until a letter waits for a row
 // that is not yet there. The promise is `Done` (crates/pairs/specs/State): the result is the
 // definition's.
+#![tactic(auto)]
+
 ghost use Rattle.std.specs.Prelude.{◌≡◌, ◌+◌, ◌*◌};
 ghost use Rattle.rules.specs.Walk.{Halting};
 ghost use Rattle.pairs.specs.Layout.{layout_of, letters_of, halts_in, Tested};

@@ -25,7 +25,7 @@ same_length : tie.Need-same-length
 same_length c = search rules
 
 returns : tie.Need-returns
-returns c = put_letter _ _ _ _ _ c.before.before.before.before.before.requires _ c.before.before.code_at.ensures c.before.if1.true _ c.label_of.ensures refl
+returns c = put_letter _ _ _ _ _ c.before.before.before.before.before.requires _ c.before.before.code_at.ensures c.before.if1.true _ c.label_of_lem.ensures refl
 
 returns-2 : tie.Need-returns-2
 returns-2 c = put_other _ _ _ _ _ c.before.before.before.before.requires _ c.before.code_at.ensures c.if1.false refl
