@@ -1,0 +1,68 @@
+-- `comparison_words::put_five` meets its contract.
+use mathlib.Core.Path.{refl}
+use native.Mathlib.Omega.{arith}
+use Rattle.comparison_words.specs.Words.{set_five}
+use lib.ListN.{length-set}
+use borrow.Author.Rules.{rules}
+use Rattle.comparison_words.proofs.put_five.Goals as goal
+
+pub overflow_cast-table : goal.overflow_cast-table
+overflow_cast-table c = omega arith
+
+pub offset_bounds-table-at : goal.offset_bounds-table-at
+offset_bounds-table-at c = omega arith
+
+pub bounds-table-at : goal.bounds-table-at
+bounds-table-at c = omega arith
+
+pub overflow_cast-table-2 : goal.overflow_cast-table-2
+overflow_cast-table-2 c = omega arith
+
+pub overflow_add-table : goal.overflow_add-table
+overflow_add-table c = omega arith
+
+pub offset_bounds-table-at-2 : goal.offset_bounds-table-at-2
+offset_bounds-table-at-2 c = omega arith
+
+pub bounds-table-at-2 : goal.bounds-table-at-2
+bounds-table-at-2 c = simp length-set (omega arith)
+
+pub overflow_cast-table-3 : goal.overflow_cast-table-3
+overflow_cast-table-3 c = omega arith
+
+pub overflow_add-table-2 : goal.overflow_add-table-2
+overflow_add-table-2 c = omega arith
+
+pub offset_bounds-table-at-3 : goal.offset_bounds-table-at-3
+offset_bounds-table-at-3 c = omega arith
+
+pub bounds-table-at-3 : goal.bounds-table-at-3
+bounds-table-at-3 c = simp length-set (omega arith)
+
+pub overflow_cast-table-4 : goal.overflow_cast-table-4
+overflow_cast-table-4 c = omega arith
+
+pub overflow_add-table-3 : goal.overflow_add-table-3
+overflow_add-table-3 c = omega arith
+
+pub offset_bounds-table-at-4 : goal.offset_bounds-table-at-4
+offset_bounds-table-at-4 c = omega arith
+
+pub bounds-table-at-4 : goal.bounds-table-at-4
+bounds-table-at-4 c = simp length-set (omega arith)
+
+pub overflow_cast-table-5 : goal.overflow_cast-table-5
+overflow_cast-table-5 c = omega arith
+
+pub overflow_add-table-4 : goal.overflow_add-table-4
+overflow_add-table-4 c = omega arith
+
+pub offset_bounds-table-at-5 : goal.offset_bounds-table-at-5
+offset_bounds-table-at-5 c = omega arith
+
+pub bounds-table-at-5 : goal.bounds-table-at-5
+bounds-table-at-5 c = simp length-set (omega arith)
+
+pub returns : goal.returns
+unfolding set_five
+returns c = refl

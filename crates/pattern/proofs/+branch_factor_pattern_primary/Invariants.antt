@@ -1,0 +1,39 @@
+-- The functions `branch`, `factor`, `pattern`, `primary` of pattern, which call each other, meet
+-- their contracts. The measure: four times the bytes of text left, and a rank for each reader.
+-- Invariants of the loops over parts: Begun. Laws: ReaderLaws, PartLaws.
+use Rattle.primaries.proofs.PrimaryLaws.{before-end}
+use Rattle.pattern.proofs.ReaderLaws.{factor-fails, factor-fits, factor-ends, primary-simple, primary-empty, primary-again, primary-needs, primary-group}
+use Rattle.pattern.proofs.PartLaws.{Begun, begun-none, begun-fits, begun-length, begun-chained, branch-unread, branch-whole, branch_less, branch-again, pattern-unread, pattern-whole, pattern-less, pattern-again}
+use Rattle.nodes.specs.declared.Sort.TheVariants.{Sequence, Alternation}
+use Rattle.rules.specs.Language as language
+use borrow.Author.Tests.{not-true, not-false}
+use native.Mathlib.Omega.{arith}
+use lib.ListN.{length}
+use Prim.Native.Nat.{◌+◌, ◌*◌, ◌-◌}
+use borrow.Author.Rules.{rules}
+use Prim.Native.Nat.{ℕ, ◌<◌}
+use Rattle.pattern.proofs.+branch_factor_pattern_primary.Given as goal
+
+abbrev pub decreases-branch : goal.decreases-branch
+decreases-branch l = 4 * (length l.text.now - l.at) + 2
+
+abbrev pub decreases-factor : goal.decreases-factor
+decreases-factor l = 4 * (length l.text.now - l.at) + 1
+
+abbrev pub decreases-pattern : goal.decreases-pattern
+decreases-pattern l = 4 * (length l.text.now - l.at) + 3
+
+abbrev pub decreases-primary : goal.decreases-primary
+decreases-primary l = 4 * (length l.text.now - l.at) + 0
+
+abbrev pub invariant-branch-loop-f : goal.invariant-branch-loop-f
+invariant-branch-loop-f l = Begun language.branch l.text l.at l.count l.initial.room Sequence 0 l.from l.end l.room
+
+abbrev pub decreases-branch-loop-f : goal.decreases-branch-loop-f
+decreases-branch-loop-f l = length l.text - l.from
+
+abbrev pub invariant-pattern-loop-b : goal.invariant-pattern-loop-b
+invariant-pattern-loop-b l = Begun language.pattern l.text l.at l.count l.initial.room Alternation 1 l.from l.end l.room
+
+abbrev pub decreases-pattern-loop-b : goal.decreases-pattern-loop-b
+decreases-pattern-loop-b l = length l.text - l.from

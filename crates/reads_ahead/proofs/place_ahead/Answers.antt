@@ -1,0 +1,17 @@
+-- `reads_ahead::place_ahead` meets its contract: a law for each way through it.
+use Rattle.reads_ahead.proofs.Letters.{dollar-ahead, place-readable, by-letter, other_place}
+use borrow.Author.Rules.{rules}
+use Rattle.reads_ahead.proofs.place_ahead.Goals as goal
+
+pub returns-then-code-eq-DOLLAR : goal.returns-then-code-eq-DOLLAR
+returns-then-code-eq-DOLLAR c = search (rules, dollar-ahead)
+
+pub letter_ahead-requires : goal.letter_ahead-requires
+letter_ahead-requires c =
+    place-readable _ _ _ _ c.code_at-code.ensures.0 c.if-code-eq-DOLLAR.false c.requires.1 c.if-code-lt-LETTERS.true _ c.later_at.ensures.0
+
+pub returns-then-code-lt-LETTERS : goal.returns-then-code-lt-LETTERS
+returns-then-code-lt-LETTERS c = search (rules, by-letter)
+
+pub returns : goal.returns
+returns c = search (rules, other_place)
