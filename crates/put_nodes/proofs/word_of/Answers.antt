@@ -15,4 +15,4 @@ pub overflow_add-result : goal.overflow_add-result
 overflow_add-result c = omega arith
 
 pub returns-in-Anchor : goal.returns-in-Anchor
-returns-in-Anchor c = ap word_of (sym c.s-in-Anchor-1.given.1)
+returns-in-Anchor c = ap word_of (sym c.in-Anchor.is)

@@ -1,0 +1,14 @@
+-- `run_search` prints the report of the search's promise: the law `report-put` says that this is
+-- the search's text.
+use native.Mathlib.Omega.{arith}
+use borrow.Author.Rules.{rules}
+use Rattle.run.proofs.Running.{numbers-there, report-put}
+use Rattle.run.proofs.run_search.Goals as goal
+
+pub put_report-requires : goal.put_report-requires
+put_report-requires c = (search (rules, numbers-there), omega arith)
+
+pub returns : goal.returns
+returns c = let at-start = c.before.before.before.before.before.before.before.before.before.before.before.before.before.before.before.before.before.before.before in
+    report-put _ _ at-start.requires.0 _ _ _ _ _ _ _ _ _ c.search-end.ensures _ c.measures_of-measures.ensures (search rules) (search rules) (search rules) (search rules) _ _ _
+    c.put_report.ensures

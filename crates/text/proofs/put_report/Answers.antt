@@ -1,0 +1,13 @@
+-- `put_report` writes the header and the lines.
+use borrow.Author.Rules.{rules}
+use Rattle.header.proofs.Lines.{report-room, report-room_1, put_whole}
+use Rattle.text.proofs.put_report.Goals as goal
+
+pub put_header-lines-requires : goal.put_header-lines-requires
+put_header-lines-requires c = search (rules, report-room)
+
+pub put_lines-requires : goal.put_lines-requires
+put_lines-requires c = (search rules, search (rules, report-room_1))
+
+pub returns : goal.returns
+returns c = search (rules, put_whole)
