@@ -26,10 +26,10 @@ abbrev byte_held : ℤ → ℤ
 byte_held o = to_z w64 (of_z w64 (to_z w8 (of_z w8 o)))
 
 pub byte_fits : (o : ℤ) → SFits w8 o → SFits w64 (to_z w8 (of_z w8 o))
-byte_fits o f = subst (SFits w64) (sym (to_z-of_z f)) (sfits_widen tt f)
+byte_fits o f = subst (SFits w64) (sym (to_z-of_z f)) (sfits_widen {w = w8} {w' = w64} {z = o} (tt {0}) f)
 
 byte_is : (o : ℤ) → SFits w8 o → byte_held o ≡ o
-byte_is o f = ap (λ (z : ℤ). to_z w64 (of_z w64 z)) (to_z-of_z f) ∙ to_z-of_z (sfits_widen tt f)
+byte_is o f = ap (λ (z : ℤ). to_z w64 (of_z w64 z)) (to_z-of_z f) ∙ to_z-of_z {w = w64} (sfits_widen {w = w8} {w' = w64} {z = o} (tt {0}) f)
 
 -- a number that is not below 0 is its own magnitude
 not-below : (z : ℤ) → le_z (pos 0) z ≡ true → T (non_neg z)
@@ -77,7 +77,7 @@ offset_near b e = near_row (signed8 b) (and_left _ _ e)
 -- the code passes a byte's signed number on
 module _ (b : ℕ) (o : ℤ) (is : o ≡ signed8 b) (short : mag o < 128) where
   passed : to_z w8 (of_z w8 o) ≡ o
-  passed = to_z-of_z (record { sfits = short })
+  passed = to_z-of_z {w = w8} (record { sfits = short })
 
   passed_is : to_z w8 (of_z w8 o) ≡ signed8 b
   passed_is = passed ∙ is

@@ -45,7 +45,7 @@ pub fn partition(
     numbers: &mut [i64],
     labels: &mut [u8],
 ) -> Outcome
-    ensures { Calls (record { query = query.entry.now; rows = rows.now; buffers = lent notes.old trail.old numbers.old labels.old; state = state.old; list = list.old }) (record { memory = memory result notes.new trail.new numbers.new labels.new; state = state.new; list = list.new }) }
+    ensures { Calls (record { query = query.now; rows = rows.now; buffers = lent notes.old trail.old numbers.old labels.old; state = state.old; list = list.old }) (record { memory = memory result notes.new trail.new numbers.new labels.new; state = state.new; list = list.new }) }
 {
     if state.len() < LENGTH {
         return refused(NO_NUMBER, 0);

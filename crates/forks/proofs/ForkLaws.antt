@@ -467,10 +467,7 @@ module _ (o : Plane) (s : List ℕ) (i : ℕ) (T0 : List ℕ) (from to0 b0 k j :
       ways-no_more T1 r p h = L.so h T1 r (λ g. none_done o s j n en T from to b k e g T1 r p)
 
     -- the last branch
-    module _ (u : OneOf (0 ∷ 1 ∷ 2 ∷ 3 ∷ 5 ∷ []) (tag_of the_type n.sort)) where
-      na : n.sort ≡ Alternation → ⊥
-      na = not-alternation n.sort u
-
+    module _ (na : n.sort ≡ Alternation → ⊥) where
       pub ways-last_fits : Fits-in w64 (b + n.places)
       ways-last_fits = last_fits o s j n en T from to b k na L.now
 

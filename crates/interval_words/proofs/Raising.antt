@@ -59,4 +59,4 @@ pub raised_at : (s : List ℕ) (p w : ℕ) (z : ℤ) (r : ℕ) → w ≡ le32 s 
     (r ≡ raised (to_z w32 (of_z w32 z))) × (0 < r) × (r < 17179869184) → (r ≡ raised (written_number s p)) × (0 < r) × (r < 17179869184)
 unfolding written_number
 raised_at s p w z r e f g =
-    (g.0 ∙ ap raised (to_z-of_z (record { sfits = f.1 }) ∙ f.0 ∙ ap signed32 e), g.1, g.2)
+    (g.0 ∙ ap raised (to_z-of_z {w = w32} (record { sfits = f.1 }) ∙ f.0 ∙ ap signed32 e), g.1, g.2)

@@ -27,7 +27,7 @@ pub entry-is : (rows : List ℤ) (columns row column : ℕ) (r : ℤ) → mag (g
     → r ≡ to_z w32 (of_z w32 (get_or rows (row * columns + column) (pos 0)))
     → mag r < 2147483648 → (held r ≡ entry (table_of columns rows) row column) × (mag (held r) < 2147483648)
 unfolding entry table_of
-entry-is rows columns row column r f e g = rw (read_back r (omega arith)) (e ∙ to_z-of_z (record { sfits = f }), g)
+entry-is rows columns row column r f e g = rw (read_back r (omega arith)) (e ∙ to_z-of_z {w = w32} (record { sfits = f }), g)
 
 pub pos-held : (k : ℕ) → k ≤ 4096 → to_z w64 k ≡ pos k
 pos-held k h = simp (lt-ltb k 9223372036854775808 (omega arith))

@@ -2,7 +2,7 @@
 -- entered again, so the attempt enters the open pairs, one behind the other, and no other: each has
 -- as its first way that has not failed the one that was entered from it (`Trace`). With the steps
 -- of these entries taken back, what it comes to is what comes of the open pairs (`retraced`).
-use mathlib.Core.Path.{◌≡◌, refl, ap, sym, ◌∙◌}
+use mathlib.Core.Path.{◌≡◌, refl, ap, sym, ◌∙◌, subst}
 use mathlib.Core.List.{List, [], ◌∷◌}
 use mathlib.Core.Bool.{Bool, true, false, true≢false}
 use mathlib.Core.Logic.{◌⊎◌, inl, inr, ⊎_elim}
@@ -265,7 +265,7 @@ module _ (h : Halting) (ways : ℕ → Ways) (ρ : ℕ → ℕ) (N : ℕ) (falls
             let ez : z ≡ x = head_is F x z p b.1 in
             let t : ℕ = s - suc (length p) in
             let es : t + suc (length p) ≡ s = omega arith in
-            let tr : Trace h ways F x (x ∷ p) = rw ez at b.1 in
+            let tr : Trace h ways F x (x ∷ p) = subst (λ (v : ℕ). Trace h ways F x (v ∷ p)) ez b.1 in
             let g : inside h ways K (as_kept F (suc t)) x ≡ go_on h ways K (z ∷ p) (as_kept F s) =
             retraced p F len x t (starts i b.0) tr (λ j l'. free j (omega arith)) ∙ ap (λ (k : ℕ). go_on h ways K (x ∷ p) (as_kept F k)) es ∙ ap (λ (v : ℕ). go_on h ways K (v ∷ p) (as_kept F s)) (sym ez) in
             let out : get_or F x false ≡ false = rw ez at b.2.0 in

@@ -116,7 +116,7 @@ pub extern "C" fn mireladle_depots_partition(
     numbers: &mut [i64],
     labels: &mut [u8],
 ) -> Outcome
-    ensures { Calls (record { query = query.entry.now; rows = rows.now; buffers = lent notes.old trail.old numbers.old labels.old; state = state.old; list = list.old }) (record { memory = memory result notes.new trail.new numbers.new labels.new; state = state.new; list = list.new }) }
+    ensures { Calls (record { query = query.now; rows = rows.now; buffers = lent notes.old trail.old numbers.old labels.old; state = state.old; list = list.old }) (record { memory = memory result notes.new trail.new numbers.new labels.new; state = state.new; list = list.new }) }
 {
     depots::partition(state, list, query, rows, notes, trail, numbers, labels)
 }
@@ -150,7 +150,7 @@ pub extern "C" fn mireladle_more(
     numbers: &mut [i64],
     labels: &mut [u8],
 ) -> Outcome
-    ensures { LotCalls (record { feed = feed.entry.now; query = query.now; rows = rows.now; present = present; last = false; buffers = lent notes.old trail.old numbers.old labels.old }) (record { feed = feed.exit.now; memory = memory result notes.new trail.new numbers.new labels.new }) }
+    ensures { LotCalls (record { feed = feed.old; query = query.now; rows = rows.now; present = present; last = false; buffers = lent notes.old trail.old numbers.old labels.old }) (record { feed = feed.new; memory = memory result notes.new trail.new numbers.new labels.new }) }
 {
     let before = *feed;
     let fed = feeding::more(before, query, rows, present, notes, trail, numbers, labels);
@@ -171,7 +171,7 @@ pub extern "C" fn mireladle_last(
     numbers: &mut [i64],
     labels: &mut [u8],
 ) -> Outcome
-    ensures { LotCalls (record { feed = feed.entry.now; query = query.now; rows = rows.now; present = present; last = true; buffers = lent notes.old trail.old numbers.old labels.old }) (record { feed = feed.exit.now; memory = memory result notes.new trail.new numbers.new labels.new }) }
+    ensures { LotCalls (record { feed = feed.old; query = query.now; rows = rows.now; present = present; last = true; buffers = lent notes.old trail.old numbers.old labels.old }) (record { feed = feed.new; memory = memory result notes.new trail.new numbers.new labels.new }) }
 {
     let before = *feed;
     let fed = feeding::last(before, query, rows, present, notes, trail, numbers, labels);

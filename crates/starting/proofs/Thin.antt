@@ -13,7 +13,7 @@ use Rattle.laws.proofs.Distinct.{labels-thin}
 pub numbers-thin : (t : Table) (ms : List Measure) (pl : List Place) (k : ℕ) (xs : List Match) → numbers_of t ms (thinned pl) k xs ≡ numbers_of t ms pl k xs
 unfolding numbers_of
 numbers-thin t ms pl k [] = refl
-numbers-thin t ms pl k (x ∷ xs) = rw (labels-thin pl x.path, numbers-thin t ms pl (suc k) xs)
+numbers-thin t ms pl k (x ∷ xs) = simp (labels-thin pl x.path, numbers-thin t ms pl (suc k) xs)
 
 pub labels-of_thin : (pl : List Place) (xs : List Match) → labels_of (thinned pl) xs ≡ labels_of pl xs
 unfolding labels_of

@@ -78,7 +78,7 @@ fn visit(
     i: Sweep,
 ) -> Sweep
     requires { Visits table.now rows.now task notes.old trail.old labels.old i }
-    ensures { Visited (asked_of table.now rows.now task) notes.old notes.new trail.old trail.new numbers.entry.now numbers.new labels.old labels.new i result }
+    ensures { Visited (asked_of table.now rows.now task) notes.old notes.new trail.old trail.new numbers.old numbers.new labels.old labels.new i result }
 {
     let w = attempt(table, rows, notes, trail, task.size, i.row, i.steps);
     tell(table, rows, trail, numbers, labels, task, i, w)

@@ -121,7 +121,7 @@ pub fn go_on(
     from: Walk,
 ) -> Walk
     requires { Tested table.now rows.now size × Moves (layout_of table.now size) (letters_of table.now rows.now size) size.rows notes.old trail.old from }
-    ensures { (H : Halting) → Fair H (layout_of table.now size) size.more size.rows → Ran H (layout_of table.now size) (letters_of table.now rows.now size) size.rows notes.old trail.entry.now from notes.new trail.new result }
+    ensures { (H : Halting) → Fair H (layout_of table.now size) size.more size.rows → Ran H (layout_of table.now size) (letters_of table.now rows.now size) size.rows notes.old trail.old from notes.new trail.new result }
 {
     let mut w = from;
     while w.status == ENTER {

@@ -16,7 +16,7 @@ overflow_add-result c = whole-fits _ _ _ c.requires c.places_at-c.ensures _
     (omega arith)
 
 pub returns-in-Alternation : goal.returns-in-Alternation
-returns-in-Alternation c = whole-alt _ _ _ _ c.places_at-c.ensures c.sort_at-sort.ensures c.enum_told-1.given.1
+returns-in-Alternation c = whole-alt _ _ _ _ c.places_at-c.ensures c.sort_at-sort.ensures c.in-Alternation.is
 
 pub returns : goal.returns
-returns c = whole-one _ _ _ _ c.places_at-c.ensures c.sort_at-sort.ensures (not-alternation _ c.in_default.keys2)
+returns c = whole-one _ _ _ _ c.places_at-c.ensures c.sort_at-sort.ensures c.in_default.not-Alternation

@@ -1,4 +1,6 @@
 -- `entering::enter` meets its contract by the laws of Small and Letter.
+use mathlib.Core.Path.{ap}
+use mathlib.Core.Bool.{not}
 use native.Mathlib.Omega.{arith}
 use Rattle.pairs.proofs.Small.{fork-small, fork-inside, letter-inside, anchor_small, anchor_inside, enter-fork, enter-absent, anchor_shut, enter-end, enter-anchor}
 use Rattle.entering.proofs.Letter.{low-code, letter-shut, letter-stuck, letter-opens}
@@ -57,7 +59,7 @@ pub shape_of-notes-then-failed : goal.shape_of-notes-then-failed
 shape_of-notes-then-failed c = omega arith
 
 pub returns-then-failed : goal.returns-then-failed
-returns-then-failed c = letter-stuck _ _ _ _ _ _ _ _ _ c.requires.1 _ c.code_at-c.ensures (omega arith) (omega arith) _ c.letter_passes.ensures c.if-not-letter_passes.false _ c.first_at-k.ensures _ c.failed.ensures c.if-failed.true _ _ c.fails-then-failed.ensures
+returns-then-failed c = letter-stuck _ _ _ _ _ _ _ _ _ c.requires.1 _ c.code_at-c.ensures (omega arith) (omega arith) _ c.letter_passes.ensures (ap not c.if-not-letter_passes.false) _ c.first_at-k.ensures _ c.failed.ensures c.if-failed.true _ _ c.fails-then-failed.ensures
 
 pub overflow_add-opened : goal.overflow_add-opened
 overflow_add-opened c = omega arith
@@ -72,7 +74,7 @@ pub shape_of-trail-then-c-lt-LETTERS : goal.shape_of-trail-then-c-lt-LETTERS
 shape_of-trail-then-c-lt-LETTERS c = omega arith
 
 pub returns-then-c-lt-LETTERS : goal.returns-then-c-lt-LETTERS
-returns-then-c-lt-LETTERS c = letter-opens _ _ _ _ _ _ _ _ _ c.requires.1 _ c.code_at-c.ensures (omega arith) (omega arith) _ c.letter_passes.ensures c.if-not-letter_passes.false _ c.first_at-k.ensures _ c.failed.ensures c.if-failed.false _ c.push-then-c-lt-LETTERS.ensures
+returns-then-c-lt-LETTERS c = letter-opens _ _ _ _ _ _ _ _ _ c.requires.1 _ c.code_at-c.ensures (omega arith) (omega arith) _ c.letter_passes.ensures (ap not c.if-not-letter_passes.false) _ c.first_at-k.ensures _ c.failed.ensures c.if-failed.false _ c.push-then-c-lt-LETTERS.ensures
 
 pub shape_of-notes-then-not-anchor_passes : goal.shape_of-notes-then-not-anchor_passes
 shape_of-notes-then-not-anchor_passes c = omega arith

@@ -14,26 +14,20 @@ node_at-n-requires c = search (rules, ways-in)
 pub put_way-requires : goal.put_way-requires
 put_way-requires c = search (rules, ways-none)
 
-pub shape_of-table-then-n-eq0 : goal.shape_of-table-then-n-eq0
-shape_of-table-then-n-eq0 c = started_length _ _ _ _ _ _ _ _ _ _ _ (returns c c.requires)
-
 pub returns-then-n-eq0 : goal.returns-then-n-eq0
 returns-then-n-eq0 c = search (rules, ways-no_more)
 
 pub overflow_add-place : goal.overflow_add-place
-overflow_add-place c = search (rules, ways-last_fits)
+overflow_add-place c = search (rules, ways-last_fits, c.in_default.not-Alternation)
 
 pub start_entry-requires : goal.start_entry-requires
 start_entry-requires c = search (rules, ways-entry)
 
 pub put_way-requires-in_default : goal.put_way-requires-in_default
-put_way-requires-in_default c = search (rules, ways-last)
-
-pub shape_of-table-in_default : goal.shape_of-table-in_default
-shape_of-table-in_default c = started_length _ _ _ _ _ _ _ _ _ _ _ (returns-2 c c.requires)
+put_way-requires-in_default c = search (rules, ways-last, c.in_default.not-Alternation)
 
 pub returns-in_default : goal.returns-in_default
-returns-in_default c = search (rules, ways-all)
+returns-in_default c = search (rules, ways-all, c.in_default.not-Alternation)
 
 pub places_at-requires : goal.places_at-requires
 places_at-requires c = search (rules, ways-left)
@@ -52,3 +46,9 @@ loop-o-smaller c = search (rules, ways-down)
 
 pub loop-o-preserved : goal.loop-o-preserved
 loop-o-preserved c = search (rules, ways-again)
+
+pub shape_of-table-then-n-eq0 : goal.shape_of-table-then-n-eq0
+shape_of-table-then-n-eq0 c = started_length _ _ _ _ _ _ _ _ _ _ _ (returns-then-n-eq0 c c.requires)
+
+pub shape_of-table-in_default : goal.shape_of-table-in_default
+shape_of-table-in_default c = started_length _ _ _ _ _ _ _ _ _ _ _ (returns-in_default c c.requires)

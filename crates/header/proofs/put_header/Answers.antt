@@ -21,21 +21,11 @@ put_decimal-line-requires c = search (rules, header_room_3)
 pub put_byte-requires : goal.put_byte-requires
 unfolding bytes
 put_byte-requires c =
-    let b = c.before.before.before in
-    let d = b.before.before.before.before in
-    let e = d.before.before.before.before.before in
-    let f = e.before.before.before.before in
-    let g = f.before.before.before in
-    header_room_4 _ _ _ _ _ g.requires _ _ f.put-outcome.ensures _ _ e.put-decimal.ensures _ _ d.put-bytes.ensures _ _ b.put-decimal2.ensures
+    header_room_4 _ _ _ _ _ c.requires _ _ c.put_outcome-count.ensures _ _ c.put_decimal-word.ensures
+    _ _ c.put_bytes-number.ensures _ _ c.put_decimal-line.ensures
 
 pub returns : goal.returns
 unfolding bytes
 returns c =
-    let a = c.before.before in
-    let b = a.before.before.before.before in
-    let d = b.before.before.before.before in
-    let e = d.before.before.before.before.before in
-    let f = e.before.before.before.before in
-    let g = f.before.before.before in
-    put_head _ _ _ _ _ g.requires _ _ f.put-outcome.ensures _ _ e.put-decimal.ensures _ _ d.put-bytes.ensures _ _ b.put-decimal2.ensures
-    _ _ a.put_byte.ensures
+    put_head _ _ _ _ _ c.requires _ _ c.put_outcome-count.ensures _ _ c.put_decimal-word.ensures
+    _ _ c.put_bytes-number.ensures _ _ c.put_decimal-line.ensures _ _ c.put_byte.ensures

@@ -12,4 +12,4 @@ pub returns : goal.returns
 returns c =
     let a = c.args in
     plain-within (raised a.d) a.low a.width _ _ c.wrapping_sub_u64.result (c.raise.ensures ∙ ap raised (read_back a.d (omega arith)))
-    c.wrapping_sub_u64-plain.ensures c.wrapping_sub_u64.ensures (omega arith) (omega arith)
+    c.wrapping_sub_u64-plain.ensures.value c.wrapping_sub_u64.ensures.value (omega arith) (omega arith)

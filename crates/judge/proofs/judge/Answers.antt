@@ -27,7 +27,7 @@ pub nesting-nested-requires : goal.nesting-nested-requires
 nesting-nested-requires c = search (rules, top_at, not-false)
 
 pub returns-then-nested-gt-MOST_NESTED : goal.returns-then-nested-gt-MOST_NESTED
-returns-then-nested-gt-MOST_NESTED c = judge_loop _ _ _ _ c.read_text-p.ensures c.requires (not-false _ c.if-not-ok.false) _ c.too_deep.ensures c.if-too_deep.false _ c.nesting-nested.ensures.0 _ c.if-nested-gt-MOST_NESTED.true c.refused-then-nested-gt-MOST_NESTED.ensures
+returns-then-nested-gt-MOST_NESTED c = judge_loop _ _ _ _ c.read_text-p.ensures c.requires c.if-not-ok.false _ c.too_deep.ensures c.if-too_deep.false _ c.nesting-nested.ensures.0 _ c.if-nested-gt-MOST_NESTED.true c.refused-then-nested-gt-MOST_NESTED.ensures
 
 pub overflow_add-places : goal.overflow_add-places
 overflow_add-places c = search (rules, sum_fits, not-false)
@@ -36,7 +36,7 @@ pub overflow_add-places-2 : goal.overflow_add-places-2
 overflow_add-places-2 c = search (rules, more-fits, not-false)
 
 pub returns-then-places-gt256 : goal.returns-then-places-gt256
-returns-then-places-gt256 c = judge_many _ _ _ _ c.read_text-p.ensures c.requires (not-false _ c.if-not-ok.false) _ c.too_deep.ensures c.if-too_deep.false _ c.nesting-nested.ensures.0 _ c.if-nested-gt-MOST_NESTED.false c.if-places-gt256.true c.refused-then-places-gt256.ensures
+returns-then-places-gt256 c = judge_many _ _ _ _ c.read_text-p.ensures c.requires c.if-not-ok.false _ c.too_deep.ensures c.if-too_deep.false _ c.nesting-nested.ensures.0 _ c.if-nested-gt-MOST_NESTED.false c.if-places-gt256.true c.refused-then-places-gt256.ensures
 
 pub returns : goal.returns
-returns c = judge_good _ _ _ _ c.read_text-p.ensures c.requires (not-false _ c.if-not-ok.false) _ c.too_deep.ensures c.if-too_deep.false _ c.nesting-nested.ensures.0 c.if-nested-gt-MOST_NESTED.false c.if-places-gt256.false _ c.factor_of-factor.ensures.0
+returns c = judge_good _ _ _ _ c.read_text-p.ensures c.requires c.if-not-ok.false _ c.too_deep.ensures c.if-too_deep.false _ c.nesting-nested.ensures.0 c.if-nested-gt-MOST_NESTED.false c.if-places-gt256.false _ c.factor_of-factor.ensures.0

@@ -1,4 +1,6 @@
 -- `judging::judge_letter` meets its contract by the laws of Ways.
+use mathlib.Core.Path.{ap}
+use mathlib.Core.Bool.{not}
 use Rattle.judging.proofs.Ways.{entries-stand, by_entries, by-none, first-unmet, by_one, all_met, some-unmet, others-there, unmet_most}
 use native.Mathlib.Omega.{arith}
 use borrow.Author.Rules.{rules}
@@ -25,11 +27,11 @@ first_unmet-unmet-requires c =
 
 pub returns-then-unmet-others : goal.returns-then-unmet-others
 returns-then-unmet-others c =
-    all_met _ _ _ _ _ c.word_at.ensures.0 c.if-word_at-eq-BY_ENTRIES.false _ c.word_at-all.ensures.0 c.if-all-eq0.false _ c.comparison_met.ensures c.if-not-comparison_met.false _ _ c.word_at-2.ensures.0 c.first_unmet-unmet.ensures c.if-unmet-others.true
+    all_met _ _ _ _ _ c.word_at.ensures.0 c.if-word_at-eq-BY_ENTRIES.false _ c.word_at-all.ensures.0 c.if-all-eq0.false _ c.comparison_met.ensures (ap not c.if-not-comparison_met.false) _ _ c.word_at-2.ensures.0 c.first_unmet-unmet.ensures c.if-unmet-others.true
 
 pub overflow_add-result : goal.overflow_add-result
 overflow_add-result c = omega (arith, unmet_most _ _ _ _ _ _ c.first_unmet-unmet.ensures)
 
 pub returns : goal.returns
 returns c =
-    some-unmet _ _ _ _ _ c.word_at.ensures.0 c.if-word_at-eq-BY_ENTRIES.false _ c.word_at-all.ensures.0 c.if-all-eq0.false _ c.comparison_met.ensures c.if-not-comparison_met.false _ _ c.word_at-2.ensures.0 c.first_unmet-unmet.ensures c.if-unmet-others.false
+    some-unmet _ _ _ _ _ c.word_at.ensures.0 c.if-word_at-eq-BY_ENTRIES.false _ c.word_at-all.ensures.0 c.if-all-eq0.false _ c.comparison_met.ensures (ap not c.if-not-comparison_met.false) _ _ c.word_at-2.ensures.0 c.first_unmet-unmet.ensures c.if-unmet-others.false

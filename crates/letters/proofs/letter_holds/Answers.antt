@@ -1,4 +1,6 @@
 -- `letters::letter_holds` meets its contract by the laws of Testing.
+use mathlib.Core.Path.{ap}
+use mathlib.Core.Bool.{not}
 use Rattle.letters.proofs.Testing.{free_holds, base_fits, first-there, others-there, some-counted, first-unmet, by-others, entries-stand, by_entries}
 use mathlib.Core.Path.{sym, ◌∙◌}
 use native.Mathlib.Omega.{arith}
@@ -17,7 +19,7 @@ column_met-requires c =
 
 pub returns-then-not-column_met : goal.returns-then-not-column_met
 returns-then-not-column_met c =
-    first-unmet _ _ _ _ _ _ _ (omega arith) c.requires.2 c.requires.1 _ c.word_at-kind.ensures.0 (let e = c.if-kind-eq-COLUMN.true in omega arith) _ c.far_back-from.ensures _ c.column_met.ensures (search rules) c.if-not-column_met.true
+    first-unmet _ _ _ _ _ _ _ (omega arith) c.requires.2 c.requires.1 _ c.word_at-kind.ensures.0 (let e = c.if-kind-eq-COLUMN.true in omega arith) _ c.far_back-from.ensures _ c.column_met.ensures (search rules) (ap not c.if-not-column_met.true)
 
 pub others_met-requires : goal.others_met-requires
 others_met-requires c =
@@ -25,7 +27,7 @@ others_met-requires c =
 
 pub returns-then-kind-eq-COLUMN : goal.returns-then-kind-eq-COLUMN
 returns-then-kind-eq-COLUMN c =
-    by-others _ _ _ _ _ _ _ (omega arith) c.requires.2 c.requires.1 _ c.word_at-kind.ensures.0 (let e = c.if-kind-eq-COLUMN.true in omega arith) _ c.far_back-from.ensures _ c.column_met.ensures (search rules) _ _ c.if-not-column_met.false c.word_at.ensures.0 c.others_met.ensures
+    by-others _ _ _ _ _ _ _ (omega arith) c.requires.2 c.requires.1 _ c.word_at-kind.ensures.0 (let e = c.if-kind-eq-COLUMN.true in omega arith) _ c.far_back-from.ensures _ c.column_met.ensures (search rules) _ _ (ap not c.if-not-column_met.false) c.word_at.ensures.0 c.others_met.ensures
 
 pub number_met-requires : goal.number_met-requires
 number_met-requires c =
@@ -33,7 +35,7 @@ number_met-requires c =
 
 pub returns-then-not-number_met : goal.returns-then-not-number_met
 returns-then-not-number_met c =
-    first-unmet _ _ _ _ _ _ _ (omega arith) c.requires.2 c.requires.1 _ c.word_at-kind.ensures.0 (let e = c.if-kind-eq-NUMBER.true in omega arith) _ c.far_back-from.ensures _ c.number_met.ensures (search rules) c.if-not-number_met.true
+    first-unmet _ _ _ _ _ _ _ (omega arith) c.requires.2 c.requires.1 _ c.word_at-kind.ensures.0 (let e = c.if-kind-eq-NUMBER.true in omega arith) _ c.far_back-from.ensures _ c.number_met.ensures (search rules) (ap not c.if-not-number_met.true)
 
 pub others_met-requires-then-kind-eq-NUMBER : goal.others_met-requires-then-kind-eq-NUMBER
 others_met-requires-then-kind-eq-NUMBER c =
@@ -41,7 +43,7 @@ others_met-requires-then-kind-eq-NUMBER c =
 
 pub returns-then-kind-eq-NUMBER : goal.returns-then-kind-eq-NUMBER
 returns-then-kind-eq-NUMBER c =
-    by-others _ _ _ _ _ _ _ (omega arith) c.requires.2 c.requires.1 _ c.word_at-kind.ensures.0 (let e = c.if-kind-eq-NUMBER.true in omega arith) _ c.far_back-from.ensures _ c.number_met.ensures (search rules) _ _ c.if-not-number_met.false c.word_at-then-kind-eq-NUMBER.ensures.0 c.others_met-then-kind-eq-NUMBER.ensures
+    by-others _ _ _ _ _ _ _ (omega arith) c.requires.2 c.requires.1 _ c.word_at-kind.ensures.0 (let e = c.if-kind-eq-NUMBER.true in omega arith) _ c.far_back-from.ensures _ c.number_met.ensures (search rules) _ _ (ap not c.if-not-number_met.false) c.word_at-then-kind-eq-NUMBER.ensures.0 c.others_met-then-kind-eq-NUMBER.ensures
 
 pub returns-then-kind-eq-FREE : goal.returns-then-kind-eq-FREE
 returns-then-kind-eq-FREE c = search (rules, free_holds)

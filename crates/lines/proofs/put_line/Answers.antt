@@ -12,72 +12,37 @@ put_field-rows-requires c = search (rules, line-room_1)
 
 pub put_field-labels-requires : goal.put_field-labels-requires
 put_field-labels-requires c =
-    let f2 = c in
-    let p2 = f2.before.before.before.before in
-    let f1 = p2.before in
-    let p1 = f1.before.before.before.before in
-    let f0 = p1.before in
-    let z = f0.before.before.before.before in
-    line-room_2 _ _ _ z.args.numbers.now z.args.first z.args.own.now z.requires.1 (sfits_of f0.put-field-arg2.given)
-    _ _ p1.put-field.ensures (sfits_of f1.put-field-arg4.given) _ _ p2.put-field2.ensures (sfits_of f2.put-field-arg6.given)
+    line-room_2 _ _ _ c.args.numbers.now c.args.first c.args.own.now c.requires.own_in_bounds (sfits_of c.put_field-arg-2-1.given)
+    _ _ c.put_field-row.ensures (sfits_of c.put_field-arg-4-1.given) _ _ c.put_field-rows.ensures (sfits_of c.put_field-arg-6-1.given)
 
 pub put_labels-results-requires : goal.put_labels-results-requires
 put_labels-results-requires c =
-    let p3 = c.before.before.before in
-    let f2 = p3.before in
-    let p2 = f2.before.before.before.before in
-    let f1 = p2.before in
-    let p1 = f1.before.before.before.before in
-    let f0 = p1.before in
-    let z = f0.before.before.before.before in
-    line-room_3 _ _ _ z.args.numbers.now z.args.first z.args.own.now z.requires.1 (sfits_of f0.put-field-arg2.given)
-    _ _ p1.put-field.ensures (sfits_of f1.put-field-arg4.given) _ _ p2.put-field2.ensures (sfits_of f2.put-field-arg6.given)
-    _ _ p3.put-field3.ensures
+    line-room_3 _ _ _ c.args.numbers.now c.args.first c.args.own.now c.requires.own_in_bounds (sfits_of c.put_field-arg-2-1.given)
+    _ _ c.put_field-row.ensures (sfits_of c.put_field-arg-4-1.given) _ _ c.put_field-rows.ensures (sfits_of c.put_field-arg-6-1.given)
+    _ _ c.put_field-labels.ensures
 
-pub put_results-line-requires : goal.put_results-line-requires
-put_results-line-requires c =
-    let p4 = c.before.before.before in
-    let p3 = p4.before.before.before.before in
-    let f2 = p3.before in
-    let p2 = f2.before.before.before.before in
-    let f1 = p2.before in
-    let p1 = f1.before.before.before.before in
-    let f0 = p1.before in
-    let z = f0.before.before.before.before in (
-      omega arith,
-      line-room_4 _ _ _ z.args.numbers.now z.args.first z.args.own.now z.requires.1 (sfits_of f0.put-field-arg2.given)
-          _ _ p1.put-field.ensures (sfits_of f1.put-field-arg4.given) _ _ p2.put-field2.ensures (sfits_of f2.put-field-arg6.given)
-          _ _ p3.put-field3.ensures _ _ p4.put-labels.ensures,
-    )
+pub put_results-line-requires-clause-measures_in_bounds_2 : goal.put_results-line-requires-clause-measures_in_bounds_2
+put_results-line-requires-clause-measures_in_bounds_2 c =
+    line-room_4 _ _ _ c.args.numbers.now c.args.first c.args.own.now c.requires.own_in_bounds (sfits_of c.put_field-arg-2-1.given)
+    _ _ c.put_field-row.ensures (sfits_of c.put_field-arg-4-1.given) _ _ c.put_field-rows.ensures (sfits_of c.put_field-arg-6-1.given)
+    _ _ c.put_field-labels.ensures _ _ c.put_labels-results.ensures
 
 pub put_byte-requires : goal.put_byte-requires
 put_byte-requires c =
-    let p5 = c.before.before.before in
-    let p4 = p5.before.before.before.before in
-    let p3 = p4.before.before.before.before in
-    let f2 = p3.before in
-    let p2 = f2.before.before.before.before in
-    let f1 = p2.before in
-    let p1 = f1.before.before.before.before in
-    let f0 = p1.before in
-    let z = f0.before.before.before.before in
-    line-room_5 _ _ _ z.args.numbers.now z.args.first z.args.own.now z.requires.1 (sfits_of f0.put-field-arg2.given)
-    _ _ p1.put-field.ensures (sfits_of f1.put-field-arg4.given) _ _ p2.put-field2.ensures (sfits_of f2.put-field-arg6.given)
-    _ _ p3.put-field3.ensures _ _ p4.put-labels.ensures _ _ p5.put-results.ensures.0 p5.put-results.ensures.1
+    line-room_5 _ _ _ c.args.numbers.now c.args.first c.args.own.now c.requires.own_in_bounds (sfits_of c.put_field-arg-2-1.given)
+    _ _ c.put_field-row.ensures (sfits_of c.put_field-arg-4-1.given) _ _ c.put_field-rows.ensures (sfits_of c.put_field-arg-6-1.given)
+    _ _ c.put_field-labels.ensures _ _ c.put_labels-results.ensures _ _ c.put_results-line.ensures.put c.put_results-line.ensures.upper_bound
 
-pub returns : goal.returns
-returns c =
-    let p6 = c.before.before in
-    let p5 = p6.before.before.before.before in
-    let p4 = p5.before.before.before.before in
-    let p3 = p4.before.before.before.before in
-    let f2 = p3.before in
-    let p2 = f2.before.before.before.before in
-    let f1 = p2.before in
-    let p1 = f1.before.before.before.before in
-    let f0 = p1.before in
-    let z = f0.before.before.before.before in
-    put_one_line _ _ _ z.args.numbers.now z.args.first z.args.own.now z.requires.1 (sfits_of f0.put-field-arg2.given)
-    _ _ p1.put-field.ensures (sfits_of f1.put-field-arg4.given) _ _ p2.put-field2.ensures (sfits_of f2.put-field-arg6.given)
-    _ _ p3.put-field3.ensures _ _ p4.put-labels.ensures _ _ p5.put-results.ensures.0 p5.put-results.ensures.1
-    _ _ p6.put_byte.ensures
+pub returns-clause-put : goal.returns-clause-put
+returns-clause-put c =
+    (put_one_line _ _ _ c.args.numbers.now c.args.first c.args.own.now c.requires.own_in_bounds (sfits_of c.put_field-arg-2-1.given)
+    _ _ c.put_field-row.ensures (sfits_of c.put_field-arg-4-1.given) _ _ c.put_field-rows.ensures (sfits_of c.put_field-arg-6-1.given)
+    _ _ c.put_field-labels.ensures _ _ c.put_labels-results.ensures _ _ c.put_results-line.ensures.put c.put_results-line.ensures.upper_bound
+    _ _ c.put_byte.ensures).0
+
+pub returns-clause-upper_bound : goal.returns-clause-upper_bound
+returns-clause-upper_bound c =
+    (put_one_line _ _ _ c.args.numbers.now c.args.first c.args.own.now c.requires.own_in_bounds (sfits_of c.put_field-arg-2-1.given)
+    _ _ c.put_field-row.ensures (sfits_of c.put_field-arg-4-1.given) _ _ c.put_field-rows.ensures (sfits_of c.put_field-arg-6-1.given)
+    _ _ c.put_field-labels.ensures _ _ c.put_labels-results.ensures _ _ c.put_results-line.ensures.put c.put_results-line.ensures.upper_bound
+    _ _ c.put_byte.ensures).1

@@ -27,7 +27,7 @@ returns-in-Empty t c = search (rules, null_empty)
 
 pub can_be_empty-requires : goal.can_be_empty-requires
 can_be_empty-requires t c = seq-call _ _ _ _ c.loop-sort.invariant _ c.node_at-n.ensures _
-    c.requires.0 c.enum_told-in-Sequence-1.given.1
+    c.decreases c.in-Sequence.is
 
 pub loop-sort-smaller-then-can_be_empty : goal.loop-sort-smaller-then-can_be_empty
 loop-sort-smaller-then-can_be_empty t c = search (rules, seq-down)
@@ -40,7 +40,7 @@ returns-in-Sequence t c = search (rules, null_seq_no)
 
 pub can_be_empty-requires-in-Alternation : goal.can_be_empty-requires-in-Alternation
 can_be_empty-requires-in-Alternation t c = alt_call _ _ _ _ c.loop-sort.invariant _ c.node_at-n.ensures _
-    c.requires.0 c.enum_told-in-Alternation-1.given.1
+    c.decreases c.in-Alternation.is
 
 pub returns-then-can_be_empty-2 : goal.returns-then-can_be_empty-2
 returns-then-can_be_empty-2 t c = search (rules, null_alt)

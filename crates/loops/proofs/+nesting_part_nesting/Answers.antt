@@ -35,7 +35,7 @@ nesting-returns-in-Empty t c = (search (rules, nest-empty), omega arith)
 
 pub nesting-part_nesting-inside-requires : goal.nesting-part_nesting-inside-requires
 nesting-part_nesting-inside-requires t c = seq-look _ _ _ _ _ c.loop-inside.invariant _ c.node_at-n.ensures _
-    c.requires.0 c.enum_told-in-Sequence-1.given.1
+    c.decreases c.in-Sequence.is
 
 pub nesting-deepest-most-requires : goal.nesting-deepest-most-requires
 nesting-deepest-most-requires t c = (search (rules, few_around), search rules)
@@ -48,7 +48,7 @@ nesting-loop-inside-preserved-in-Sequence t c = search (rules, nest-seq)
 
 pub nesting-part_nesting-inside-requires-in-Alternation : goal.nesting-part_nesting-inside-requires-in-Alternation
 nesting-part_nesting-inside-requires-in-Alternation t c = alt_look _ _ _ _ _ c.loop-inside.invariant _ c.node_at-n.ensures _
-    c.requires.0 c.enum_told-in-Alternation-1.given.1
+    c.decreases c.in-Alternation.is
 
 pub nesting-deepest-most-requires-in-Alternation : goal.nesting-deepest-most-requires-in-Alternation
 nesting-deepest-most-requires-in-Alternation t c = (search (rules, few_around), search rules)

@@ -45,7 +45,7 @@ pub overflow_add-m-then-fits_whole : goal.overflow_add-m-then-fits_whole
 overflow_add-m-then-fits_whole c = omega arith
 
 pub returns-then-fits_whole : goal.returns-then-fits_whole
-returns-then-fits_whole c = tell_fits _ _ _ _ _ _ _ c.requires _ _ c.fits_whole.ensures c.if-fits_whole.true _ c.put_labels.ensures _ _ _ _ refl c.put_match.ensures.1 c.next_row-next.ensures c.behind_match.ensures
+returns-then-fits_whole c = tell_fits _ _ _ _ _ _ _ c.requires _ _ c.fits_whole.ensures c.if-fits_whole.true _ c.put_labels.ensures _ _ _ _ refl c.put_match.ensures.numbers c.next_row-next.ensures c.behind_match.ensures
 
 pub returns : goal.returns
 returns c = tell_full _ _ _ _ _ _ _ c.requires _ _ c.fits_whole.ensures (c.args.numbers.now) refl c.if-fits_whole.false

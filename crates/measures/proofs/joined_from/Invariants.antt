@@ -11,7 +11,7 @@ use Rattle.measures.proofs.RowsOf.{Joining, joining_first, joining_more, joining
 use Rattle.measures.proofs.joined_from.Given as goal
 
 abbrev pub invariant-loop-i : goal.invariant-loop-i
-invariant-loop-i l = Joining (table_of l.columns l.rows) l.function l.letter l.column l.first l.labels (to_z w64 l.value) l.i
+invariant-loop-i l = Joining (table_of l.columns l.rows) l.function l.letter l.column l.first l.labels l.value l.i
 
 abbrev pub decreases-loop-i : goal.decreases-loop-i
 decreases-loop-i l = length l.labels - l.i

@@ -11,7 +11,7 @@ returns-in_default c = search (rules, last-null)
 pub overflow_add-first : goal.overflow_add-first
 overflow_add-first c = omega (
   arith,
-  row_small _ _ _ _ _ c.requires _ (last-inside _ _ _ _ c.last_of.ensures c.last-1.given.1),
+  row_small _ _ _ _ _ c.requires _ (last-inside _ _ _ _ c.last_of.ensures c.in-At.is),
 )
 
 pub entry_at-requires : goal.entry_at-requires

@@ -9,13 +9,13 @@ returns-then-function-eq-COUNT c = gives-count _ _ _ _ _ _ _ c.requires.3 _ _ c.
     c.count_of.ensures.0 c.as_number.ensures (omega arith)
 
 pub returns-then-function-eq-SUM : goal.returns-then-function-eq-SUM
-returns-then-function-eq-SUM c = gives-joined _ _ _ _ _ _ 2 _ c.joined_from.type-inv c.if-function-eq-SUM.true (λ w. omega arith) (λ w. omega arith) c.joined_from.ensures
+returns-then-function-eq-SUM c = gives-joined _ _ _ _ _ _ 2 _ c.joined_from.type_inv c.if-function-eq-SUM.true (λ w. omega arith) (λ w. omega arith) c.joined_from.ensures
 
 pub returns-then-function-eq-MIN : goal.returns-then-function-eq-MIN
-returns-then-function-eq-MIN c = gives-joined _ _ _ _ _ _ 3 _ c.joined_from-then-function-eq-MIN.type-inv c.if-function-eq-MIN.true (λ w. omega arith) (λ w. omega arith) c.joined_from-then-function-eq-MIN.ensures
+returns-then-function-eq-MIN c = gives-joined _ _ _ _ _ _ 3 _ c.joined_from-then-function-eq-MIN.type_inv c.if-function-eq-MIN.true (λ w. omega arith) (λ w. omega arith) c.joined_from-then-function-eq-MIN.ensures
 
 pub returns-then-function-eq-MAX : goal.returns-then-function-eq-MAX
-returns-then-function-eq-MAX c = gives-joined _ _ _ _ _ _ 4 _ c.joined_from-then-function-eq-MAX.type-inv c.if-function-eq-MAX.true (λ w. omega arith) (λ w. omega arith) c.joined_from-then-function-eq-MAX.ensures
+returns-then-function-eq-MAX c = gives-joined _ _ _ _ _ _ 4 _ c.joined_from-then-function-eq-MAX.type_inv c.if-function-eq-MAX.true (λ w. omega arith) (λ w. omega arith) c.joined_from-then-function-eq-MAX.ensures
 
 pub overflow_add-first : goal.overflow_add-first
 overflow_add-first c = omega (

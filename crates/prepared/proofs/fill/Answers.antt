@@ -31,4 +31,4 @@ pub point-requires : goal.point-requires
 point-requires c = search (rules, fill_points)
 
 pub returns : goal.returns
-returns c = (refl, fill_ready _ _ _ _ _ _ c.requires _ c.put_in_table.ensures _ c.put_tests.ensures _ _ c.unroll-end.ensures _ c.point.ensures _ refl)
+returns c = record { ready = (refl, fill_ready _ _ _ _ _ _ c.requires _ c.put_in_table.ensures _ c.put_tests.ensures _ _ c.unroll-end.ensures _ c.point.ensures _ refl) }

@@ -39,4 +39,4 @@ pub skip-to-requires-2 : goal.skip-to-requires-2
 skip-to-requires-2 c = search (rules, letter-next, not-true, not-false)
 
 pub returns : goal.returns
-returns c = simple-letter _ _ _ _ c.peek-b.ensures _ _ _ _ _ c.if-b-eq94.false c.if-b-eq36.false c.is_letter.ensures (not-false _ c.if-not-is_letter.false) c.peek.ensures c.is_letter-2.ensures c.if-is_letter.false c.skip-to-2.ensures c.plain_node-node-2.ensures
+returns c = simple-letter _ _ _ _ c.peek-b.ensures _ _ _ _ _ c.if-b-eq94.false c.if-b-eq36.false c.is_letter.ensures c.if-not-is_letter.false c.peek.ensures c.is_letter-2.ensures c.if-is_letter.false c.skip-to-2.ensures c.plain_node-node-2.ensures

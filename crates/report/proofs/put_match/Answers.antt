@@ -5,4 +5,7 @@ use borrow.Author.Rules.{rules}
 use Rattle.report.proofs.put_match.Goals as goal
 
 pub returns : goal.returns
-returns c = (omega arith, match_is _ _ _ _ _ _ _ _ _ (omega arith) c.put_three.ensures c.put_measures.ensures)
+returns c = record {
+  behind = omega arith;
+  numbers = match_is _ _ _ _ _ _ _ _ _ (omega arith) c.put_three.ensures c.put_measures.ensures;
+}

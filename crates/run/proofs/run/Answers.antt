@@ -7,22 +7,26 @@ use Rattle.run.proofs.Running.{case_parted, ran_refused, ran_large, ran_query}
 use Rattle.run.proofs.run.Goals as goal
 
 pub slice_bounds-run_query-count : goal.slice_bounds-run_query-count
-slice_bounds-run_query-count c = let p = case_parted _ _ c.input_of-case.ensures _ c.case-in-Go-1.given.1 in omega arith
+slice_bounds-run_query-count c = let p = case_parted _ _ c.input_of-case.ensures _ c.in-Go.is in omega arith
 
 pub slice_bounds-run_query-start : goal.slice_bounds-run_query-start
-slice_bounds-run_query-start c = let p = case_parted _ _ c.input_of-case.ensures _ c.case-in-Go-1.given.1 in omega arith
+slice_bounds-run_query-start c = let p = case_parted _ _ c.input_of-case.ensures _ c.in-Go.is in omega arith
 
 pub slice_bounds-run_query-end : goal.slice_bounds-run_query-end
-slice_bounds-run_query-end c = let p = case_parted _ _ c.input_of-case.ensures _ c.case-in-Go-1.given.1 in omega arith
+slice_bounds-run_query-end c = let p = case_parted _ _ c.input_of-case.ensures _ c.in-Go.is in omega arith
 
 pub slice_bounds-run_query-count-in-Go : goal.slice_bounds-run_query-count-in-Go
-slice_bounds-run_query-count-in-Go c = let p = case_parted _ _ c.input_of-case.ensures _ c.case-in-Go-1.given.1 in omega arith
+slice_bounds-run_query-count-in-Go c = let p = case_parted _ _ c.input_of-case.ensures _ c.in-Go.is in omega arith
 
 pub slice_bounds-run_query-start-in-Go : goal.slice_bounds-run_query-start-in-Go
-slice_bounds-run_query-start-in-Go c = let p = case_parted _ _ c.input_of-case.ensures _ c.case-in-Go-1.given.1 in omega arith
+slice_bounds-run_query-start-in-Go c = let p = case_parted _ _ c.input_of-case.ensures _ c.in-Go.is in omega arith
 
 pub run_query-requires : goal.run_query-requires
-run_query-requires c = let p = case_parted _ _ c.input_of-case.ensures _ c.case-in-Go-1.given.1 in (simp (length-take, length-drop) (omega arith), omega arith)
+run_query-requires c =
+    let p = case_parted _ _ c.input_of-case.ensures _ c.in-Go.is in record {
+      bytes_len_bound = simp (length-take, length-drop) (omega arith);
+      in_bounds = omega arith;
+    }
 
 pub returns-in-Refused : goal.returns-in-Refused
 returns-in-Refused c = search (rules, ran_refused)

@@ -26,7 +26,7 @@ pub slice_bounds-run_search-end : goal.slice_bounds-run_search-end
 slice_bounds-run_search-end c = search (rules, rows_long)
 
 pub run_search-requires : goal.run_search-requires
-run_search-requires c = (search (rules, query_found), omega arith)
+run_search-requires c = record { found = search (rules, query_found); in_bounds = omega arith }
 
 pub returns-in-Refused : goal.returns-in-Refused
 returns-in-Refused c = search (rules, query_refused)

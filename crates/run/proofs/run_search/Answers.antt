@@ -6,9 +6,9 @@ use Rattle.run.proofs.Running.{numbers-there, report-put}
 use Rattle.run.proofs.run_search.Goals as goal
 
 pub put_report-requires : goal.put_report-requires
-put_report-requires c = (search (rules, numbers-there), omega arith)
+put_report-requires c = record { measures_in_bounds = search (rules, numbers-there); labels_in_bounds = omega arith }
 
 pub returns : goal.returns
-returns c = let at-start = c.before.before.before.before.before.before.before.before.before.before.before.before.before.before.before.before.before.before.before in
-    report-put _ _ at-start.requires.0 _ _ _ _ _ _ _ _ _ c.search-end.ensures _ c.measures_of-measures.ensures (search rules) (search rules) (search rules) (search rules) _ _ _
+returns c =
+    report-put _ _ c.requires.found _ _ _ _ _ _ _ _ _ c.search-end.ensures _ c.measures_of-measures.ensures (search rules) (search rules) (search rules) (search rules) _ _ _
     c.put_report.ensures

@@ -6,7 +6,7 @@ use borrow.Author.Rules.{rules}
 use Rattle.tally.proofs.count_all.Given as goal
 
 abbrev pub invariant-loop-i : goal.invariant-loop-i
-invariant-loop-i l = Counting l.initial.cells l.cells l.rows l.columns (record { l.depot = l.depot; l.month = l.month }) l.numbers l.stride l.matches l.i
+invariant-loop-i l = Counting l.initial.cells l.cells l.rows l.columns (record { depot = l.depot; month = l.month }) l.numbers l.stride l.matches l.i
 
 abbrev pub decreases-loop-i : goal.decreases-loop-i
 decreases-loop-i l = l.matches - l.i

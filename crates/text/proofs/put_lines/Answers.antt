@@ -33,28 +33,21 @@ pub slice_bounds-put_line-end : goal.slice_bounds-put_line-end
 slice_bounds-put_line-end c = omega arith
 
 pub put_line-behind-requires : goal.put_line-behind-requires
-put_line-behind-requires c =
-    let d = c.before.before in
-    let e = d.before.before.before in (
-      search (rules, lines_inside),
-      lines_room _ _ _ _ _ _ _ _ _ _ _ e.before.loop.invariant e.loop-test.true _ _
-          (sfits_of d.before.before.size-of-arg.given) d.before.type_size.ensures d.least.ensures,
-    )
+put_line-behind-requires c = record {
+  measures_in_bounds = search (rules, lines_inside);
+  own_in_bounds =
+      lines_room _ _ _ _ _ _ _ _ _ _ _ c.loop-left.invariant c.loop-left-test.true _ _ (sfits_of c.size_of-arg-1.given)
+      c.size_of.ensures c.least.ensures;
+}
 
 pub overflow_mul-first : goal.overflow_mul-first
-overflow_mul-first c =
-    let d = c.before.before.before.before.before.before.before.before in
-    omega (arith, lines_inside _ _ _ _ _ _ _ _ _ _ _ d.before.loop.invariant d.loop-test.true)
+overflow_mul-first c = omega (arith, lines_inside _ _ _ _ _ _ _ _ _ _ _ c.loop-left.invariant c.loop-left-test.true)
 
 pub overflow_add-first-in-loop-left : goal.overflow_add-first-in-loop-left
-overflow_add-first-in-loop-left c =
-    let d = c.before.before.before.before.before.before.before.before in
-    omega (arith, lines_inside _ _ _ _ _ _ _ _ _ _ _ d.before.loop.invariant d.loop-test.true)
+overflow_add-first-in-loop-left c = omega (arith, lines_inside _ _ _ _ _ _ _ _ _ _ _ c.loop-left.invariant c.loop-left-test.true)
 
 pub overflow_add-first-in-loop-left-2 : goal.overflow_add-first-in-loop-left-2
-overflow_add-first-in-loop-left-2 c =
-    let d = c.before.before.before.before.before.before.before.before in
-    omega (arith, lines_inside _ _ _ _ _ _ _ _ _ _ _ d.before.loop.invariant d.loop-test.true)
+overflow_add-first-in-loop-left-2 c = omega (arith, lines_inside _ _ _ _ _ _ _ _ _ _ _ c.loop-left.invariant c.loop-left-test.true)
 
 pub overflow_sub-left : goal.overflow_sub-left
 overflow_sub-left c = omega arith

@@ -7,7 +7,7 @@ pub put_header-lines-requires : goal.put_header-lines-requires
 put_header-lines-requires c = search (rules, report-room)
 
 pub put_lines-requires : goal.put_lines-requires
-put_lines-requires c = (search rules, search (rules, report-room_1))
+put_lines-requires c = record { measures_in_bounds = search rules; labels_in_bounds = search (rules, report-room_1) }
 
 pub returns : goal.returns
 returns c = search (rules, put_whole)

@@ -11,16 +11,16 @@ pub node_at-n-requires : goal.node_at-n-requires
 node_at-n-requires t c = search (rules, at_in)
 
 pub first_node-requires : goal.first_node-requires
-first_node-requires t c = seq-left _ _ _ c.node_at-n.ensures _ c.requires.0 c.requires.1
-    c.enum_told-in-Sequence-1.given.1
+first_node-requires t c = seq-left _ _ _ c.node_at-n.ensures _ c.decreases c.requires
+    c.in-Sequence.is
 
 pub first_node-requires-in-Alternation : goal.first_node-requires-in-Alternation
-first_node-requires-in-Alternation t c = alt_left _ _ _ c.node_at-n.ensures _ c.requires.0 c.requires.1
-    c.enum_told-in-Alternation-1.given.1
+first_node-requires-in-Alternation t c = alt_left _ _ _ c.node_at-n.ensures _ c.decreases c.requires
+    c.in-Alternation.is
 
 pub first_node-requires-in-Group : goal.first_node-requires-in-Group
-first_node-requires-in-Group t c = group-left _ _ _ c.node_at-n.ensures _ c.requires.0 c.requires.1
-    c.enum_told-in-Group-1.given.1
+first_node-requires-in-Group t c = group-left _ _ _ c.node_at-n.ensures _ c.decreases c.requires
+    c.in-Group.is
 
 pub returns-in-Letter : goal.returns-in-Letter
 returns-in-Letter t c = search (rules, first-letter)

@@ -1,4 +1,6 @@
 -- `walk::back` meets its contract by the laws of Backing.
+use mathlib.Core.Path.{ap}
+use mathlib.Core.Bool.{not}
 use native.Mathlib.Omega.{arith}
 use mathlib.Core.Logic.{inl, inr}
 use Rattle.pairs.proofs.Small.{is_one, is_zero, open_of}
@@ -40,7 +42,7 @@ pub shape_of-trail-then-not-failed : goal.shape_of-trail-then-not-failed
 shape_of-trail-then-not-failed c = omega arith
 
 pub returns-then-not-failed : goal.returns-then-not-failed
-returns-then-not-failed c = λ h. back_tried h.halting _ _ _ h.quiet _ _ _ h.backs _ c.open_at-e.ensures _ c.place_of-place.ensures _ c.row_of-row.ensures _ c.way_of-j.ensures c.if-j-gt0.true _ c.later_way-q.ensures _ c.count_at.ensures _ c.way_after-k.ensures _ c.failed.ensures _ c.put_way.ensures _ (is_one _ c.if-not-failed.true)
+returns-then-not-failed c = λ h. back_tried h.halting _ _ _ h.quiet _ _ _ h.backs _ c.open_at-e.ensures _ c.place_of-place.ensures _ c.row_of-row.ensures _ c.way_of-j.ensures c.if-j-gt0.true _ c.later_way-q.ensures _ c.count_at.ensures _ c.way_after-k.ensures _ c.failed.ensures _ c.put_way.ensures _ (is_one _ (ap not c.if-not-failed.true))
 
 pub put_way-requires-then-k-gt0 : goal.put_way-requires-then-k-gt0
 put_way-requires-then-k-gt0 c = back_put c.requires.halting _ _ _ c.requires.quiet _ _ _ c.requires.backs _ c.way_after-k.ensures.1
@@ -52,7 +54,7 @@ pub shape_of-trail-then-k-gt0 : goal.shape_of-trail-then-k-gt0
 shape_of-trail-then-k-gt0 c = omega arith
 
 pub returns-then-k-gt0 : goal.returns-then-k-gt0
-returns-then-k-gt0 c = λ h. back_tried h.halting _ _ _ h.quiet _ _ _ h.backs _ c.open_at-e.ensures _ c.place_of-place.ensures _ c.row_of-row.ensures _ c.way_of-j.ensures c.if-j-gt0.true _ c.later_way-q.ensures _ c.count_at.ensures _ c.way_after-k.ensures _ c.failed.ensures _ c.put_way-then-k-gt0.ensures _ (is_zero _ c.if-not-failed.false)
+returns-then-k-gt0 c = λ h. back_tried h.halting _ _ _ h.quiet _ _ _ h.backs _ c.open_at-e.ensures _ c.place_of-place.ensures _ c.row_of-row.ensures _ c.way_of-j.ensures c.if-j-gt0.true _ c.later_way-q.ensures _ c.count_at.ensures _ c.way_after-k.ensures _ c.failed.ensures _ c.put_way-then-k-gt0.ensures _ (is_zero _ (ap not c.if-not-failed.false))
 
 pub overflow_add-base-2 : goal.overflow_add-base-2
 overflow_add-base-2 c = omega (arith, back_pair c.requires.halting _ _ _ c.requires.quiet _ _ _ c.requires.backs _ c.open_at-e.ensures _ c.place_of-place.ensures _ c.row_of-row.ensures)
@@ -67,4 +69,4 @@ pub shape_of-trail : goal.shape_of-trail
 shape_of-trail c = omega arith
 
 pub returns : goal.returns
-returns c = λ h. elim c.if-j-gt0.branch [ inl t ↦ back_last h.halting _ _ _ h.quiet _ _ _ h.backs _ c.open_at-e.ensures _ c.place_of-place.ensures _ c.row_of-row.ensures _ c.way_of-j.ensures t.0.taken _ t.1.ensures _ t.2.ensures _ t.3.ensures _ t.5.ensures (open_of _ t.6.left) t.7.left _ c.mark.ensures | inr f ↦ back_none h.halting _ _ _ h.quiet _ _ _ h.backs _ c.open_at-e.ensures _ c.place_of-place.ensures _ c.row_of-row.ensures _ c.way_of-j.ensures f.left _ c.mark.ensures ]
+returns c = λ h. elim c.if-j-gt0.branch [ goal.then-j-gt0+else-not-failed+else-k-gt0 t ↦ back_last h.halting _ _ _ h.quiet _ _ _ h.backs _ c.open_at-e.ensures _ c.place_of-place.ensures _ c.row_of-row.ensures _ c.way_of-j.ensures t.if-j-gt0.true _ t.later_way-q.ensures _ t.count_at.ensures _ t.way_after-k.ensures _ t.failed.ensures t.if-not-failed.false t.if-k-gt0.false _ c.mark.ensures | goal.else-j-gt0 f ↦ back_none h.halting _ _ _ h.quiet _ _ _ h.backs _ c.open_at-e.ensures _ c.place_of-place.ensures _ c.row_of-row.ensures _ c.way_of-j.ensures f.if-j-gt0.false _ c.mark.ensures ]
