@@ -1,4 +1,4 @@
-//! Links the library of preparing and running, where it is there: `rt staticlib bench_c` builds it,
+//! Links the library of preparing and running, where it is there: `tools/build bench_c` builds it,
 //! and so does `bench/run`. Without it the bench has no workload `prepared`. And looks whether the
 //! product's library, which the package `mireladle` links, has an allowance of steps, the
 //! depot-by-month table and rows in lots: what an older one that MIRELADLE_LIB names has not is not
@@ -35,7 +35,7 @@ fn link_bench_c() {
         println!("cargo:rustc-cfg=bench_c");
     } else {
         println!(
-            "cargo:warning={} is missing: run `rt staticlib bench_c`, or nothing is run prepared",
+            "cargo:warning={} is missing: run `tools/build bench_c`, or nothing is run prepared",
             library.display()
         );
     }

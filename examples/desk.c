@@ -1,6 +1,6 @@
 /* The release desk through the C interface: judges the logs of four buses, and prints what it says.
  * Build, in the repository's root, and run:
- *   rt staticlib mireladle_c
+ *   tools/build mireladle_c
  *   cc -std=c11 -Iinclude examples/desk.c target/staticlib/libmireladle_c.a -o target/desk && target/desk
  */
 #include <inttypes.h>

@@ -1,7 +1,7 @@
 /* Rows while the bus is connected, through the C interface: a log comes row by row, and a patch that
  * was offered, refused and accepted is told with the row that accepts it.
  * Build, in the repository's root, and run:
- *   rt staticlib mireladle_c
+ *   tools/build mireladle_c
  *   cc -std=c11 -Iinclude examples/feed.c target/staticlib/libmireladle_c.a -o target/feed && target/feed
  */
 #include <inttypes.h>

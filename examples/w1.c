@@ -1,7 +1,7 @@
 /* Runs W1 of the bench sheet through the C interface: rows that rise (A) and then fall (B), with COUNT(A) and LAST(B).
  * It asks for the working room, lends static buffers, and prints the match row by row.
  * Build, in the repository's root, and run:
- *   rt staticlib mireladle_c
+ *   tools/build mireladle_c
  *   cc -std=c11 -Iinclude examples/w1.c target/staticlib/libmireladle_c.a -o target/w1 && target/w1
  */
 #include <inttypes.h>

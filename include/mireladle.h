@@ -1,8 +1,8 @@
 /*
  * Mireladle: a verified search for SQL row patterns (MATCH_RECOGNIZE) over ordered rows of whole numbers.
  *
- * This is the whole C interface of libmireladle_c.a, for C11 and C++17 on x86-64 Linux. `rt staticlib mireladle_c`
- * builds the library, which needs nothing beside the C library:
+ * This is the whole C interface of libmireladle_c.a, for C11 and C++17 on x86-64 Linux.
+ * `tools/build mireladle_c` builds the library, which needs nothing beside the C library:
  *
  *     cc -std=c11 -Iinclude yours.c target/staticlib/libmireladle_c.a
  *

@@ -1,7 +1,7 @@
 //! Links the product's static library into the program `compare` where it is
 //! there, and sets the cfg `mireladle`; all else in this package does without.
 //! MIRELADLE_LIB names the library's folder, and one that names none is an
-//! error; without it, the place where `rt staticlib mireladle_c` puts the library
+//! error; without it, the place where `tools/build mireladle_c` puts the library
 //! is looked at.
 
 use std::env;

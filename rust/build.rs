@@ -1,5 +1,5 @@
 //! Links the static library. It is looked for in the folder that the environment variable MIRELADLE_LIB names (a
-//! relative one counts from this package), and otherwise where `rt staticlib mireladle_c` puts it.
+//! relative one counts from this package), and otherwise where `tools/build mireladle_c` puts it.
 
 use std::env;
 use std::path::PathBuf;
@@ -14,7 +14,7 @@ fn main() {
     // Only a warning: `cargo check` and `cargo doc` do without the library.
     if !library.exists() {
         println!(
-            "cargo:warning={} is missing: run `rt staticlib mireladle_c`, or name the library's folder in MIRELADLE_LIB",
+            "cargo:warning={} is missing: run `tools/build mireladle_c`, or name the library's folder in MIRELADLE_LIB",
             library.display()
         );
     }

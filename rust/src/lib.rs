@@ -68,8 +68,9 @@
 //!
 //! # Linking
 //!
-//! The build looks for `libmireladle_c.a` in `../target/staticlib` beside this package, where `rt staticlib mireladle_c`
-//! puts it, or in the folder that the environment variable `MIRELADLE_LIB` names. It is for x86-64 Linux.
+//! The build looks for `libmireladle_c.a` in `../target/staticlib` beside this package, where
+//! `tools/build mireladle_c` puts it, or in the folder that the environment variable
+//! `MIRELADLE_LIB` names. It is for x86-64 Linux.
 //!
 //! # Promises
 //!

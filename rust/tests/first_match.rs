@@ -4,42 +4,70 @@
 
 #![allow(clippy::restriction)]
 
-use std::path::{Path, PathBuf};
+use std::path::PathBuf;
 use std::process::Command;
 
 const ROOT: &str = concat!(env!("CARGO_MANIFEST_DIR"), "/..");
 
-/// A folder with the script, and a folder of all commands that it may find.
+/// A folder with the script, and a folder of all commands that it may find. It is outside the
+/// checkout, where the kit refuses links and a second crates.txt, and goes with the test.
 struct Place {
     folder: PathBuf,
 }
 
+impl Drop for Place {
+    fn drop(&mut self) {
+        let _ = std::fs::remove_dir_all(&self.folder);
+    }
+}
+
 impl Place {
     fn new(name: &str, commands: &[&str]) -> Place {
-        let folder = Path::new(env!("CARGO_TARGET_TMPDIR")).join(name);
+        let own = format!("mireladle-{}-{name}", std::process::id());
+        let folder = std::env::temp_dir().join(own);
         let _ = std::fs::remove_dir_all(&folder);
         let place = Place { folder };
-        for part in ["tools", "crates", "bin"] {
+        let parts = [
+            "tools",
+            "crates/mireladle/src",
+            "crates/mireladle_c/src",
+            "bin",
+        ];
+        for part in parts {
             std::fs::create_dir_all(place.folder.join(part)).unwrap();
         }
         std::fs::write(place.folder.join("crates.txt"), CRATES).unwrap();
-        for script in ["first-match", "tools/built", "tools/prepare", "tools/prove"] {
+        for script in [
+            "first-match",
+            "tools/build",
+            "tools/built",
+            "tools/prepare",
+            "tools/prove",
+        ] {
             place.shell(&format!("cp '{ROOT}/{script}' '{script}'"));
         }
+        place.shell("touch crates/mireladle/src/main.rt crates/mireladle/stdin");
         for usual in [
-            "awk", "bash", "dirname", "find", "grep", "mkdir", "mktemp", "rm", "tail", "touch",
+            "awk", "bash", "cp", "dirname", "find", "grep", "mkdir", "mktemp", "rm", "tail",
+            "touch",
         ] {
             place.shell(&format!(
                 r#"ln -s "$(command -v {usual})" "$PWD/bin/{usual}""#
             ));
         }
         for command in commands {
-            // Notes its call, and makes the folders in which the kit puts what it builds.
-            let lines = format!("#!/usr/bin/env bash\\necho \"{command} $*\" >> called");
-            let made = "mkdir -p target/bin target/staticlib";
+            // Notes its call.
+            let note = format!(
+                "echo \"{command} $*\" >> '{}/called'",
+                place.folder.display()
+            );
             place.shell(&format!(
-                "printf '{lines}\\n{made}\\n' > 'bin/{command}'; chmod 755 'bin/{command}'"
+                "cat > 'bin/{command}' <<'EOF'\n#!/usr/bin/env bash\n{note}\nEOF\nchmod 755 'bin/{command}'"
             ));
+            // The kit makes, in the crate's folder, what is built there.
+            if *command == "rt" {
+                place.shell(&format!("cat >> bin/rt <<'EOF'\n{KIT_MAKES}\nEOF"));
+            }
         }
         place
     }
@@ -69,9 +97,14 @@ impl Place {
     }
 }
 
+/// A stand-in for what the kit makes, which says where it was called.
+const KIT_MAKES: &str = r#"name=${PWD##*/}; echo "  in $name" >> ../../called; mkdir -p out
+    if [ "$1" = run ]; then : > "out/$name"; else : > "out/lib$name.a"; fi"#;
+
 /// The program stands on 11 crates of the repository and on two of the kit, and the library on one.
-const CRATES: &str = "a:\nb: a\nc: a\nd: b c io\ne: d\nf: e\ng: f\nh: g\ni: h\nj: i\nk: j a\n\
-    mireladle_c: a\nmireladle: k os\nz: a\n";
+const CRATES: &str =
+    "# the crates\na:\nb: a\nc: a\nd: b c io\ne: d\nf: e\ng: f\nh: g\ni: h\nj: i\nk: j a\n\
+    mireladle_c staticlib: a\nmireladle: k os # z\nz: a\n";
 
 const MISSING: &str = "first-match: nothing was built or run, since these commands are missing:\n";
 const KIT: &str = "  rt: the Rattle kit, which proves and builds the program and the library; \
@@ -99,7 +132,7 @@ fn what_is_missing_is_told_before_anything_is_done() {
 #[test]
 fn what_is_there_is_called_in_order() {
     let place = Place::new("first-all", &["rt", "cargo", "cc"]);
-    let built = "rt check mireladle\nrt staticlib mireladle_c\n";
+    let built = "rt run\n  in mireladle\nrt lib\n  in mireladle_c\n";
     let said = format!("{PROGRAM}{LIBRARY}");
     assert_eq!(place.first_match(), (0, said, format!("{built}{SEARCH}")));
 }
@@ -111,7 +144,8 @@ const LIBRARY: &str = "mireladle_c: 2 crates to prove, which takes minutes where
 
 /// A stand-in for the kit that prints, for each crate, what the prover prints and its own line.
 const KIT_PRINTS: &str = r#"for c in a b c d e f g h i j k mireladle; do
-    echo "fn $c::proved: proved"; echo "logic=proved rt: $c"; echo "rt: $c proved (1 s)"; done"#;
+    echo "rt: chose --jobs 2 for $c"; echo "fn $c::proved: proved"; echo "logic=proved functions=1"
+    done >&2"#;
 
 #[test]
 fn crates_are_counted_and_the_provers_lines_left_out() {
@@ -134,13 +168,15 @@ fn crates_are_counted_and_the_provers_lines_left_out() {
 #[test]
 fn of_a_proof_that_fails_the_end_is_shown_and_nothing_else_is_done() {
     let place = Place::new("first-fails", &["rt", "cargo", "cc"]);
-    let fails =
-        "echo 'rt: k NOT PROVED (exit 1, 2 s)'; for n in {1..30}; do echo line $n; done; exit 1";
+    // `rt run` says what is proved on standard error.
+    let fails = "exec >&2; echo 'fn k::f: not proved: 1 goal'; echo 'rt: the library k did not build, so ..';
+        for n in {1..30}; do echo line $n; done; exit 1";
     place.shell(&format!("cat >> bin/rt <<'EOF'\n{fails}\nEOF"));
     let (status, said, called) = place.first_match();
-    assert_eq!((status, called.as_str()), (1, "rt check mireladle\n"));
-    let failed = "mireladle: `rt check mireladle` ended with status 1:\n\
-        rt: k NOT PROVED (exit 1, 2 s)\nline 11\n";
+    let tried = (1, "rt run\n  in mireladle\n");
+    assert_eq!((status, called.as_str()), tried);
+    let failed = "mireladle: `tools/build mireladle` ended with status 1:\n\
+        fn k::f: not proved: 1 goal\nrt: the library k did not build, so ..\nline 11\n";
     assert!(said.starts_with(&format!("{PROGRAM}{failed}")), "{said}");
     assert!(said.ends_with("line 29\nline 30\n"), "{said}");
     assert!(!place.folder.join("target/bin/mireladle").exists());

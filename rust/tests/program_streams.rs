@@ -2,7 +2,7 @@
 //! standard error, and of an input that it could not read to its end it prints nothing. It has no
 //! exit status to say so by.
 //!
-//! The program is the one at MIRELADLE_PROGRAM or, without that, target/bin/mireladle (`rt check
+//! The program is the one at MIRELADLE_PROGRAM or, without that, target/bin/mireladle (`tools/build
 //! mireladle`). What it prints of an input that is read whole is compared by `compare --program` of
 //! reference/.
 

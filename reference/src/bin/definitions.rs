@@ -20,32 +20,28 @@ const WITHIN: usize = 5;
 
 const HEAD: &str = "\
 -- Cases made by reference/src/bin/definitions.rs, not kept.
-use mathlib.Core.Bool.{Bool, _&&_}
-use mathlib.Core.List.{List, [], _∷_}
-use mathlib.Core.Option.{some}
-use Prim.Native.Nat.{ℕ}
-use lib.Dec.{eqb, T}
-use lib.IntN.{ℤ, pos, negsuc}
-use lib.ListN.{replicate}
-use Rattle·rules·specs.specs.Reader.{treeOf}
-use Rattle·rules·specs.specs.Answers.{deep, wrong, incomplete, nestedLoops, tooMany, P, firstOf, offsetAt, Buffers, Memory, searchOf, searchWithin}
-use Rattle·rules·specs.specs.Program.{printed}
-use Rattle·rules·specs.specs.Bench.{same, equalZ}
+use Rattle.std.specs.Prelude.{Bool, ◌&&◌, List, [], ◌∷◌, ℕ, eqb, ℤ, pos, negsuc, replicate}
+use Rattle.std.proofs.Math.Option.{some}
+use lib.Dec.{T}
+use Rattle.rules.specs.Reader.{tree_of}
+use Rattle.rules.specs.Answers.{deep, wrong, incomplete, nested_loops, too_many, P, first_of, offset_at, Buffers, Memory, search_of, search_within}
+use Rattle.rules.specs.Program.{printed}
+use Rattle.rules.specs.Bench.{same, equal_z}
 
 abbrev lent : ℕ → ℕ → ℕ → ℕ → Buffers
 lent a b c d = record { notes = replicate a 7; trail = replicate b 7; numbers = replicate c (pos 7); labels = replicate d 7 }
 
-abbrev sameResult : Memory → ℕ → ℕ → ℕ → ℕ → ℕ → Bool
-sameResult m a k l s o =
-    eqb (m .result .answer) a && (eqb (m .result .matches) k && (eqb (m .result .labels) l && (eqb (m .result .steps) s && eqb (m .result .offset) o)))
+abbrev same_result : Memory → ℕ → ℕ → ℕ → ℕ → ℕ → Bool
+same_result m a k l s o =
+    eqb m.result.answer a && (eqb m.result.matches k && (eqb m.result.labels l && (eqb m.result.steps s && eqb m.result.offset o)))
 
-abbrev sameBuffers : Memory → List ℕ → List ℕ → List ℤ → List ℕ → Bool
-sameBuffers m notes trail numbers labels =
-    same eqb (m .buffers .notes) notes && (same eqb (m .buffers .trail) trail && (same equalZ (m .buffers .numbers) numbers && same eqb (m .buffers .labels) labels))
+abbrev same_buffers : Memory → List ℕ → List ℕ → List ℤ → List ℕ → Bool
+same_buffers m notes trail numbers labels =
+    same eqb m.buffers.notes notes && (same eqb m.buffers.trail trail && (same equal_z m.buffers.numbers numbers && same eqb m.buffers.labels labels))
 
-abbrev textAnswer : List ℕ → ℕ
-unfolding deep treeOf wrong incomplete nestedLoops tooMany firstOf
-textAnswer t = firstOf ((4, deep 0 0 t) ∷ (5, wrong t) ∷ (14, incomplete t) ∷ (6, nestedLoops (treeOf t)) ∷ (7, tooMany (treeOf t)) ∷ [])
+abbrev text_answer : List ℕ → ℕ
+unfolding deep tree_of wrong incomplete nested_loops too_many first_of
+text_answer t = first_of ((4, deep 0 0 t) ∷ (5, wrong t) ∷ (14, incomplete t) ∷ (6, nested_loops (tree_of t)) ∷ (7, too_many (tree_of t)) ∷ [])
 ";
 
 fn main() -> ExitCode {
@@ -118,11 +114,11 @@ fn signed(items: &[i64]) -> String {
 
 fn search(out: &mut impl Write, number: usize, case: &cases::SearchCase) -> io::Result<()> {
     let (name, opened, called) = match case.allowance {
-        None => ("search", "searchOf", "searchOf".to_string()),
+        None => ("search", "search_of", "search_of".to_string()),
         Some(most) => (
             "within",
-            "searchWithin",
-            format!("searchWithin (some {most})"),
+            "search_within",
+            format!("search_within (some {most})"),
         ),
     };
     let name = format!("{name}{number}");
@@ -139,7 +135,7 @@ fn search(out: &mut impl Write, number: usize, case: &cases::SearchCase) -> io::
     let (notes, trail) = (list(&case.notes), list(&case.trail));
     let (numbers, labels) = (signed(&case.numbers), list(&case.labels));
     let buffers = format!("{notes} {trail} {numbers} {labels}");
-    let agrees = format!("sameResult {name} {result} && sameBuffers {name} {buffers}");
+    let agrees = format!("same_result {name} {result} && same_buffers {name} {buffers}");
     writeln!(
         out,
         "{name}-agrees : T ({agrees})\nunfolding {opened}\n{name}-agrees = tt\n"
@@ -148,12 +144,12 @@ fn search(out: &mut impl Write, number: usize, case: &cases::SearchCase) -> io::
 
 fn text(out: &mut impl Write, number: usize, case: &cases::TextCase) -> io::Result<()> {
     let text = list(&case.text);
-    let mut agrees = format!("eqb (textAnswer {text}) {}", case.answer);
-    agrees += &format!(" && eqb (offsetAt {text} {}) {}", case.answer, case.offset);
+    let mut agrees = format!("eqb (text_answer {text}) {}", case.answer);
+    agrees += &format!(" && eqb (offset_at {text} {}) {}", case.answer, case.offset);
     if case.answer == 0 {
-        agrees += &format!(" && eqb (P (treeOf {text})) {}", case.places);
+        agrees += &format!(" && eqb (P (tree_of {text})) {}", case.places);
     }
-    let opened = "deep treeOf wrong incomplete nestedLoops tooMany firstOf offsetAt P";
+    let opened = "deep tree_of wrong incomplete nested_loops too_many first_of offset_at P";
     writeln!(
         out,
         "text{number}-agrees : T ({agrees})\nunfolding {opened}\ntext{number}-agrees = tt\n"

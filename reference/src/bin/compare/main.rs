@@ -88,7 +88,7 @@ fn main() -> ExitCode {
         false => product(),
     };
     let Some(product) = product else {
-        println!("no library was there at the build: run `rt staticlib mireladle_c`");
+        println!("no library was there at the build: run `tools/build mireladle_c`");
         println!("0 passed, 1 failed");
         return ExitCode::FAILURE;
     };
