@@ -1,4 +1,4 @@
-// Preparing a query and running it as bench/ calls them, built by `rt staticlib bench_c`: each
+// Preparing a query and running it as bench/ calls them, built by `tools/build bench_c`: each
 // function is the proved one of its name, with the same promise. They are not in the product's
 // library, since the second trusts its table: `Runs` asks that the table and the numbers are told
 // of some query, as the first tells them, and no caller in C can show that. Weakness: with another

@@ -1,8 +1,8 @@
-// The face for C and Rust callers, built by `rt staticlib mireladle_c`: each function is the proved
+// The face for C and Rust callers, built by `tools/build mireladle_c`: each function is the proved
 // one of its name, with the same promise. A slice passes as a pointer and a length in elements;
 // include/mireladle.h says what a caller owes for the pointers, which no promise here can check. The
-// state of a search by lots is lent as a pointer too; the borrow checker does not cover these three
-// functions, and crates/lending has the laws that prove them.
+// state of a search by lots is lent as a pointer too: the three functions take it out, call by value
+// and store what comes back (crates/lending has the law of that form, for any function).
 #![tactic(auto)]
 
 ghost use Rattle.std.specs.Prelude.{◌≡◌, true, false, length};
