@@ -25,7 +25,7 @@ const REPORT: &str = include_str!("../../crates/mireladle/stdout");
 const UNREAD: &str = "mireladle: standard input could not be read: ";
 const UNWRITTEN: &str = "mireladle: standard output could not be written: ";
 
-/// The numbers of the two signals that end a program by themselves.
+/// The number of a signal that ends a program by itself.
 const SIGXFSZ: i32 = 25;
 
 fn program() -> PathBuf {
