@@ -80,6 +80,16 @@ pub fn in_lots() -> Vec<Workload> {
             rise_and_fall_query(),
             vec![rising],
         ),
+        Workload::new(
+            "back-lots",
+            "(A A A B | A A A C | A | B)* D with no D: one attempt is open, and goes back over rows",
+            pattern(1, "(A A A B | A A A C | A | B)* D")
+                .define('A', [col(0).lt(60)])
+                .define('B', [col(0).ge(40)])
+                .define('C', [col(0).gt(80)])
+                .define('D', [col(0).gt(1_000)]),
+            vec![nested_rows(MOST_ROWS)],
+        ),
     ]
 }
 

@@ -227,6 +227,68 @@ pub const SHORT: Size = Size {
     pairs: 200,
 };
 
+/// Patterns whose attempts stay open over many rows, and go back over one row or over several.
+const OPEN: [&[u8]; 14] = [
+    b"A+ B",
+    b"(A|B)* C",
+    b"(A B|A C)* D",
+    b"(A A A B|A A A C|A)* D",
+    b"(A{5} B|A{4} C|A|B)+ D",
+    b"((A|B)+ C?)+ D",
+    b"A* A* (B|A)* C",
+    b"(A+? B|A)* D",
+    b"^ (A|B|C)* D",
+    b"((A*)* B?)* D",
+    b"((A|B)*)* (C|D)",
+    b"(A?? B??)* C D",
+    b"(A|(B|C A){2,7})* D",
+    b"((A B)* (A C)*)* B D",
+];
+
+/// A search in lots, mostly of a row or two, whose attempts stay open over many rows: A holds at
+/// most of them and B at many, C at few and D at very few. Some have an allowance of steps.
+pub fn open(random: &mut Random, most_rows: usize) -> Cut {
+    let n = 8 + random.below(most_rows - 8);
+    let (rare, seldom) = (random.pick(&[0, 1, 4, 15]), random.pick(&[2, 10, 30]));
+    let rows = (0..n).map(|_| match random.below(100) {
+        it if it < rare => 9,
+        it if it < rare + seldom => 7,
+        it => random.pick(&[1, 1, 1, if it < 60 { 5 } else { 1 }]),
+    });
+    let rows: Vec<i32> = rows.collect();
+    let mut draft = Draft::new(1, random.pick(&OPEN), rows)
+        .define(b'A', &[draft::with_number(0, 0, 3, 6)])
+        .define(b'B', &[draft::with_number(0, 0, 6, 5)])
+        .define(b'C', &[draft::with_number(0, 0, 6, 7)])
+        .define(b'D', &[draft::with_number(0, 0, 1, 9)]);
+    let letters = draft.letters();
+    draft.defines().into_iter().rev().for_each(|at| {
+        if !letters.contains(&draft.records[at].1[0]) {
+            draft.records.remove(at);
+        }
+    });
+    let draft = match random.below(3) {
+        0 => draft.to_next_row(),
+        _ => draft,
+    };
+    let step = random.pick(&[1, 1, 1, 2, 5]);
+    let mut calls: Vec<Call> = (0..n).step_by(step).map(|it| whole(it, n, false)).collect();
+    if random.chance(30) {
+        calls.push(whole(n, n, false));
+    }
+    calls.push(whole(n, n, true));
+    let largest = (n + random.pick(&[0, 0, 3, 40])) as u64;
+    let mut input = with_largest(&draft, largest, [Room::Exact; 4]);
+    if random.chance(15) {
+        input.allowance = Some(random.below(20 * n) as u64);
+    }
+    Cut {
+        input,
+        largest,
+        calls,
+    }
+}
+
 /// A random search in lots; some look ahead, or are refused for something else.
 pub fn random(random: &mut Random, size: &Size, number: usize) -> Cut {
     let mut draft = match number % 16 {

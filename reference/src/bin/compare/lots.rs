@@ -40,6 +40,14 @@ pub fn middle(seed: u64) -> Cases {
     })
 }
 
+/// Attempts that stay open over many rows.
+pub fn open(seed: u64) -> Cases {
+    made(seed, |random, number| match number % 10 {
+        9 => cuttings::open(random, 200),
+        _ => cuttings::open(random, 60),
+    })
+}
+
 pub fn every_small(seed: u64) -> Cases {
     cases(seed, listed_cuttings::every_small(3))
 }

@@ -51,7 +51,7 @@ const fn random(
     }
 }
 
-pub const STREAMS: [Stream; 63] = [
+pub const STREAMS: [Stream; 64] = [
     listed(
         "texts",
         "room: every text of up to 5 bytes over two alphabets",
@@ -331,6 +331,12 @@ pub const STREAMS: [Stream; 63] = [
         "lots: the same up to 60 rows, some up to 500",
         1_000,
         lots::middle,
+    ),
+    random(
+        "lots-open",
+        "lots: attempts that stay open over many rows, up to 60, some up to 200",
+        600,
+        lots::open,
     ),
     listed(
         "within-small",
