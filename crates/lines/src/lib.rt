@@ -43,7 +43,7 @@ fn put_result(out: &mut [u8], at: usize, given: i64, res: i64) -> usize
 // The results of the measures, whose numbers begin at index `first`.
 fn put_results(out: &mut [u8], at: usize, measures: usize, numbers: &[i64], first: usize) -> usize
     requires measures_in_bounds { first + 2 * measures ≤ length numbers.now }
-    requires measures_in_bounds_2 { at + 21 * measures ≤ length out.old }
+    requires out_in_bounds { at + 21 * measures ≤ length out.old }
     ensures put { Put out.old at (results_text measures (drop first numbers.now)) out.new result }
     ensures upper_bound { result ≤ at + 21 * measures }
 {

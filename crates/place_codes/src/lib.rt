@@ -109,6 +109,7 @@ pub fn round_end(o: Plane, b: usize, empty: bool, k: Behind) -> Behind
 
 // The code of a fork by its first way, the place behind it and how many ways it has. A near fork
 // has a second way, so that the walk need not ask for it.
+#[tactic(auto, using(crate::proofs::CodeLaws::one_code, crate::proofs::CodeLaws::near_code, crate::proofs::CodeLaws::far_code))]
 pub fn fork_code(first: usize, behind: usize, count: usize) -> usize
     ensures { (result ≡ fork_code first behind count) × (result < 65536) }
 {

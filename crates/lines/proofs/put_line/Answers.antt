@@ -21,8 +21,8 @@ put_labels-results-requires c =
     _ _ c.put_field-row.ensures (sfits_of c.put_field-arg-4-1.given) _ _ c.put_field-rows.ensures (sfits_of c.put_field-arg-6-1.given)
     _ _ c.put_field-labels.ensures
 
-pub put_results-line-requires-clause-measures_in_bounds_2 : goal.put_results-line-requires-clause-measures_in_bounds_2
-put_results-line-requires-clause-measures_in_bounds_2 c =
+pub put_results-line-requires-clause-out_in_bounds : goal.put_results-line-requires-clause-out_in_bounds
+put_results-line-requires-clause-out_in_bounds c =
     line-room_4 _ _ _ c.args.numbers.now c.args.first c.args.own.now c.requires.own_in_bounds (sfits_of c.put_field-arg-2-1.given)
     _ _ c.put_field-row.ensures (sfits_of c.put_field-arg-4-1.given) _ _ c.put_field-rows.ensures (sfits_of c.put_field-arg-6-1.given)
     _ _ c.put_field-labels.ensures _ _ c.put_labels-results.ensures
