@@ -257,7 +257,8 @@ fn an_output_that_nobody_reads_is_told() {
 }
 
 /// The program ignores SIGPIPE from its start, as every program of its language does today: where
-/// the caller leaves the signal as it is, the failed write is told all the same.
+/// the caller leaves the signal as it is, the failed write is told all the same. (The test has its
+/// name from the time before, when the signal ended the program.)
 #[test]
 fn an_output_that_nobody_reads_ends_it() {
     let mut child = command().spawn().unwrap();
