@@ -1,67 +1,27 @@
--- A signed byte moves a row index: the code's sum is exact, and no overflow. And spots: what row 64
--- moved by an offset gives as a word, and that a spot gives back its offset and its column.
-use mathlib.Core.Path.{◌≡◌, refl, sym, ap, ◌∙◌, subst}
+-- Spots: what row 64 moved by an offset gives as a word, and that a spot gives back its offset and
+-- its column.
+use mathlib.Core.Path.{◌≡◌, refl, ap, ◌∙◌}
 use mathlib.Core.Bool.{true}
 use Prim.Native.Nat.{ℕ, suc, ◌+◌, ◌*◌, ◌-◌, ◌/◌, ◌≤◌, ◌<◌}
 use native.Mathlib.Omega.{arith}
 use native.Mathlib.Nat.{mul-le-mul, mul-add-mod_self_right, mul-add-div_right, mod-eq_of_lt, div-eq_of_lt}
-use lib.Dec.{T}
 use lib.IntN.{ℤ, pos, negsuc, nat_abs, ◌+ℤ◌, +ℤ_assoc, +ℤ_comm, +ℤ_idr}
-use lib.Signed.{mag, le_z, non_neg}
+use lib.Signed.{mag, le_z}
 use mir.Syntax.{w8, w64}
-use mir.Val.{Fits, SFits, to_z, of_z}
-use mir.Facts.{to_z-of_z, to_z_pos, sfits_widen, Fits-nat_abs}
+use mir.Val.{Fits, to_z, of_z}
+use mir.Facts.{to_z-of_z}
 use borrow.Author.Tests.{le-ltb, le-leb, leb-true}
 use Rattle.rules.specs.Basics.{signed8}
 use Rattle.rules.specs.Query.{offset_fits}
 use Rattle.laws.proofs.Choice.{clash, and_left}
-use Rattle.laws.proofs.Signed.{mag-add, sum_fits}
+use Rattle.laws.proofs.Signed.{mag-add}
 use Rattle.table.specs.Tests.{offset_of, column_of}
 use Rattle.comparison_words.specs.Words.{spot_of}
 
--- ---- a row index moved
-
--- what 64 bits hold of a signed byte
-abbrev byte_held : ℤ → ℤ
-byte_held o = to_z w64 (of_z w64 (to_z w8 (of_z w8 o)))
-
-pub byte_fits : (o : ℤ) → SFits w8 o → SFits w64 (to_z w8 (of_z w8 o))
-byte_fits o f = subst (SFits w64) (sym (to_z-of_z f)) (sfits_widen {w = w8} {w' = w64} {z = o} (tt {0}) f)
-
-byte_is : (o : ℤ) → SFits w8 o → byte_held o ≡ o
-byte_is o f = ap (λ (z : ℤ). to_z w64 (of_z w64 z)) (to_z-of_z f) ∙ to_z-of_z {w = w64} (sfits_widen {w = w8} {w' = w64} {z = o} (tt {0}) f)
-
 -- a number that is not below 0 is its own magnitude
-not-below : (z : ℤ) → le_z (pos 0) z ≡ true → T (non_neg z)
-not-below (pos k) e = tt
-not-below (negsuc k) e = clash e
-
 pub itself : (z : ℤ) → le_z (pos 0) z ≡ true → pos (nat_abs z) ≡ z
 itself (pos k) e = refl
 itself (negsuc k) e = clash e
-
-module _ (row : ℕ) (o : ℤ) (h : row ≤ 4096) (f : SFits w8 o) where
-  abbrev code_sum : ℤ
-  code_sum = to_z w64 row +ℤ byte_held o
-
-  sum_is : code_sum ≡ pos row +ℤ o
-  sum_is = ap (λ (z : ℤ). z +ℤ byte_held o) (to_z_pos w64 (omega arith)) ∙ ap (λ (z : ℤ). pos row +ℤ z) (byte_is o f)
-
-  row_fits : SFits w64 (pos row +ℤ o)
-  row_fits = sum_fits (pos row) o 4097 128 (omega arith) f.sfits (omega arith)
-
-  pub moved_sum : SFits w64 code_sum
-  moved_sum = subst (SFits w64) (sym sum_is) row_fits
-
-  held-is : to_z w64 (of_z w64 code_sum) ≡ pos row +ℤ o
-  held-is = to_z-of_z moved_sum ∙ sum_is
-
-  module _ (e : le_z (pos 0) (pos row +ℤ o) ≡ true) where
-    pub moved_cast : T (non_neg (to_z w64 (of_z w64 code_sum))) × Fits w64 (nat_abs (to_z w64 (of_z w64 code_sum)))
-    moved_cast = rw held-is (not-below (pos row +ℤ o) e, Fits-nat_abs tt row_fits)
-
-    pub moved_row : pos (nat_abs (to_z w64 (of_z w64 code_sum))) ≡ pos row +ℤ o
-    moved_row = ap (λ (z : ℤ). pos (nat_abs z)) held-is ∙ itself (pos row +ℤ o) e
 
 -- ---- row 64 moved
 

@@ -11,25 +11,21 @@ ghost use Rattle.rules.specs.Basics.{signed8};
 ghost use Rattle.rules.specs.Query.{offset_fits};
 ghost use Rattle.comparison_words.specs.Words.{spot_of, set_five, FiveRoom, ComparisonRoom, ComparisonPut, ComparisonsRoom, ComparisonsPut, comparison_words};
 
-use numbers::{le16_at, signed_byte, wide8};
+use letter_words::{COMPARISON_WORDS, HIGH, LEFT, LOW, RIGHT, WITH_COLUMN};
+use numbers::{le16_at, signed_byte};
 
-// The bytes of a comparison in the query, and its words in the table.
+// The bytes of a comparison in the query.
 pub const COMPARISON_BYTES: usize = 12;
-
-pub const COMPARISON_WORDS: usize = 5;
 
 // The row of a spot whose offset is 0: offsets go 64 rows back at the most.
 const SPOT_ROWS: usize = 64;
-
-// Word 0 is the operator, and so much more for each right kind.
-const RIGHT_KIND: usize = 8;
 
 // A signed byte moves a row index back or forward.
 fn moved(row: usize, offset: i8) -> usize
     requires { (row ≤ 4096) × (le_z (pos 0) (pos row +ℤ offset) ≡ true) }
     ensures { pos result ≡ pos row +ℤ offset }
 {
-    (row as i64 + offset as i64) as usize
+    (row as i64 + i64::from(offset)) as usize
 }
 
 // The spot of the entry whose column is byte i of the query, and whose offset the byte behind it.
@@ -37,27 +33,30 @@ fn spot_at(query: &[u8], columns: usize, i: usize) -> usize
     requires { (columns ≤ 8) × (i + 1 < length query.now) × (offset_fits (get_or query.now (i + 1) 0) ≡ true) }
     ensures { (result ≡ spot_of columns (signed8 (get_or query.now (i + 1) 0)) (get_or query.now i 0)) × (result < 65536) }
 {
-    moved(SPOT_ROWS, signed_byte(query[i + 1])) * columns + wide8(query[i])
+    moved(SPOT_ROWS, signed_byte(query[i + 1])) * columns + usize::from(query[i])
 }
 
-// Five words from word `at` on.
+// Five words from word `at` on, each written by itself: an array of them would have to be cast and
+// made again by the caller.
+#[tactic(auto, unfolding(crate::specs::Words::set_five))]
 fn put_five(table: &mut [u16], at: usize, a: usize, b: usize, c: usize, d: usize, e: usize)
     requires { FiveRoom table.old at a b c d e }
     ensures { table.new ≡ set_five table.old at (comparison_words a b c d e) }
 {
     table[at] = a as u16;
-    table[at + 1] = b as u16;
-    table[at + 2] = c as u16;
-    table[at + 3] = d as u16;
-    table[at + 4] = e as u16;
+    table[at + LEFT] = b as u16;
+    table[at + RIGHT] = c as u16;
+    table[at + LOW] = d as u16;
+    table[at + HIGH] = e as u16;
 }
 
-// The words of the comparison in the 12 bytes from index p on.
+// The words of the comparison in the 12 bytes from index p on. Query, columns and p stay apart, as
+// table and word do: p and the word differ at each call, so a struct would be made for each.
 pub fn put_comparison(query: &[u8], columns: usize, p: usize, table: &mut [u16], at: usize)
     requires { ComparisonRoom query.now columns p table.old at }
     ensures { ComparisonPut query.now columns p table.old table.new at }
 {
-    let sort = wide8(query[p + 2]) + wide8(query[p + 3]) * RIGHT_KIND;
+    let sort = usize::from(query[p + 2]) + usize::from(query[p + 3]) * WITH_COLUMN;
     let left = spot_at(query, columns, p);
     let right = spot_at(query, columns, p + 4);
     let low = le16_at(query, p + 8);
@@ -66,6 +65,7 @@ pub fn put_comparison(query: &[u8], columns: usize, p: usize, table: &mut [u16],
 }
 
 // The words of the `count` comparisons from index p on. Returns the word behind them.
+#[tactic(auto, using(crate::proofs::Several::several_room, crate::proofs::Several::several_all))]
 pub fn put_comparisons(
     query: &[u8],
     columns: usize,
@@ -77,8 +77,7 @@ pub fn put_comparisons(
     requires { ComparisonsRoom query.now columns p count table.old at }
     ensures { ComparisonsPut query.now columns p count table.old table.new at result }
 {
-    let mut k = 0;
-    while k < count {
+    for k in 0..count {
         put_comparison(
             query,
             columns,
@@ -86,7 +85,6 @@ pub fn put_comparisons(
             table,
             at + k * COMPARISON_WORDS,
         );
-        k += 1;
     }
     at + count * COMPARISON_WORDS
 }
