@@ -3,14 +3,14 @@
 use mathlib.Core.Path.{◌≡◌, refl, sym, ap, ◌∙◌}
 use mathlib.Core.Bool.{Bool, true, false, ◌&&◌}
 use mathlib.Core.List.{List, [], ◌∷◌, ◌++◌}
-use Prim.Native.Nat.{ℕ, suc, ◌+◌, ◌*◌, ◌-◌, ◌/◌, ◌%◌, ◌≤◌, ◌<◌}
+use Prim.Native.Nat.{ℕ, suc, ◌+◌, ◌*◌, ◌/◌, ◌%◌, ◌≤◌, ◌<◌}
 use native.Mathlib.Omega.{arith}
 use native.Mathlib.Numerals.{add-one}
 use lib.Dec.{eqb, leb, ltb}
 use lib.ListN.{length, get_or, set, length-set}
 use lib.Seq.{get_or-set_same, get_or-set_other}
 use borrow.Author.Tests.{eq-eqb, ne_eqb, leb-true, lt-ltb, le-ltb, eqb-true, eqb-false}
-use Rattle.rules.specs.Basics.{pick, in_range}
+use Rattle.rules.specs.Basics.{pick}
 use Rattle.rules.specs.Rows.{Comparison, Entry, compared, conj, disj, neg}
 use Rattle.rules.specs.Query.{comparison_at, comparison_fits, offset_fits, left_fits, right_fits, entry_bytes, entry_fits, read_entry, entries_end, read_entries}
 use Rattle.laws.proofs.Choice.{decided, and_left, and_right}
@@ -30,11 +30,7 @@ words_operator tag h = (simp (ne_eqb tag 0 h), omega arith)
 
 -- ---- one entry
 
--- the first word of a comparison that fits is below 16
-operator-few : (columns a b op : ℕ) → left_fits columns a b op ≡ true → op ≤ 6
-unfolding left_fits in_range
-operator-few columns a b op e = leb-true op 6 (and_right (leb 1 op) _ (and_right (offset_fits b) _ (and_right (ltb a columns) _ e)))
-
+-- the right kind of a comparison that fits
 kind_few : (columns k a b : ℕ) → right_fits columns k a b ≡ true → k ≤ 1
 unfolding right_fits
 kind_few columns k a b e = by (eqb k 0) refl e

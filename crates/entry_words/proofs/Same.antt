@@ -110,12 +110,6 @@ module _ (T T' : List ℕ) where
         let r : entries_in T' columns k (at + entry_words T at) ≡ entries_in T columns k (at + entry_words T at) = in_same k (at + entry_words T at) (λ j a b. h j (omega arith) b) in
         rw (w, e, r) refl
 
--- ---- how many words
-
-some_words : (t : Bool) → 1 ≤ pick t 5 1
-some_words true = omega arith
-some_words false = omega arith
-
 -- of an operator: AND and OR take one result away, NOT none
 module _ (s : List ℕ) (k p d : ℕ) (es : List Entry) (w : ℕ) (ih : (d : ℕ) → leaves_one d es ≡ true → w + 2 * d ≤ 3 * k + 2) where
   one_word : (t u : Bool) → leaves_one d (pick t conj (pick u disj neg) ∷ es) ≡ true → 1 + w + 2 * d ≤ 3 * suc k + 2

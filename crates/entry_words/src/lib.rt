@@ -8,31 +8,23 @@ ghost use Rattle.std.specs.Prelude.{◌≡◌, ◌≤◌, eqb};
 ghost use Rattle.rules.specs.Basics.{pick};
 ghost use Rattle.entry_words.specs.Words.{EntryRoom, EntryPut, EntriesRoom, EntriesPut, PostfixRoom, PostfixPut};
 
-use comparison_words::{COMPARISON_WORDS, put_comparison};
+use comparison_words::put_comparison;
 use field_values::{COMPARISON, entry_bytes};
-use numbers::wide8;
+use letter_words::{BY_ENTRIES, COMPARISON_WORDS, ENTRIES, KIND, MORE};
 
 // AND, OR and NOT are words above all that a comparison begins with: so much more than their bytes.
 const OPERATORS: usize = 15;
 
-// The words of a letter: where its entries stand, how many they are, how it is tested, and that it
-// is tested by its entries.
-const FROM: usize = 1;
-
-const COUNT: usize = 2;
-
-const KIND: usize = 7;
-
-const BY_ENTRIES: u16 = 3;
-
-// How many words an entry takes, by its first byte.
+// How many words an entry takes, by its first byte in the query; letter_words tells it by the first
+// word, which is another number.
 fn entry_words(tag: usize) -> usize
     ensures { (result ≡ pick (eqb tag 0) 5 1) × (result ≤ 5) }
 {
     if tag == COMPARISON {
-        return COMPARISON_WORDS;
+        COMPARISON_WORDS
+    } else {
+        1
     }
-    1
 }
 
 // The words of the entry at index p, whose first byte is `tag`.
@@ -52,15 +44,13 @@ fn put_entries(query: &[u8], columns: usize, p: usize, count: usize, table: &mut
     requires { EntriesRoom query.now columns p count table.old at }
     ensures { EntriesPut query.now columns p count table.old table.new at }
 {
-    let mut k = 0;
     let mut from = p;
     let mut to = at;
-    while k < count {
-        let tag = wide8(query[from]);
+    for _ in 0..count {
+        let tag = usize::from(query[from]);
         put_entry(query, columns, from, tag, table, to);
         from += entry_bytes(tag);
         to += entry_words(tag);
-        k += 1;
     }
 }
 
@@ -78,11 +68,11 @@ pub fn put_postfix(
     requires { PostfixRoom query.now columns d table.old at more }
     ensures { PostfixPut query.now columns d table.old table.new at more result }
 {
-    let count = wide8(query[d + 1]);
+    let count = usize::from(query[d + 1]);
     table[at] = 0;
-    table[at + FROM] = more as u16;
-    table[at + COUNT] = count as u16;
-    table[at + KIND] = BY_ENTRIES;
+    table[at + MORE] = more as u16;
+    table[at + ENTRIES] = count as u16;
+    table[at + KIND] = BY_ENTRIES as u16;
     put_entries(query, columns, d + 2, count, table, more);
     more + count * 3 + 2
 }

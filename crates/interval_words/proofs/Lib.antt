@@ -1,4 +1,3 @@
 mod Raising
-mod Choosing
 mod Writing
 pub mod First

@@ -9,15 +9,13 @@ ghost use Rattle.std.specs.Prelude.{◌≡◌, ◌+◌, ◌<◌, ◌≤◌, leng
 ghost use Rattle.table.specs.Tests.{raised, tested_by, low_of, width_of};
 ghost use Rattle.interval_words.specs.Interval.{written_number, Word64Put, NineRoom, NinePut, IntervalRoom, IntervalPut};
 
-use numbers::{le32_at, long, signed_word, wide8};
+use letter_words::{COLUMN, INTERVAL, KIND, NUMBER, RAISED_BY, WIDTH};
+use numbers::{le32_at, signed_word};
 
-// What a number is raised by: no number that a comparison meets is then below 0.
+// `RAISED_BY` as a signed number.
 const RAISE: i64 = 8589934592;
 
-// The same, as it is taken from the first number of an interval.
-const RAISED_BY: u64 = 8589934592;
-
-// The operators.
+// The operators; 6 is at least. They are bytes of the query and no enum: one match reads them.
 const EQUAL: usize = 1;
 
 const UNEQUAL: usize = 2;
@@ -28,34 +26,30 @@ const AT_MOST: usize = 4;
 
 const GREATER: usize = 5;
 
-// The largest number of 64 bits, and the one below it.
-const LARGEST: u64 = 18446744073709551615;
-
-const SECOND_LARGEST: u64 = 18446744073709551614;
-
-// The right kind of a comparison whose right side has a column, and how a letter is tested by it
-// and by any other.
-const COLUMN: usize = 1;
-
-const NUMBER: usize = 0;
+// An interval that may wrap at 2^64: its first number, and how many more there are.
+#[derive(Clone, Copy)]
+struct Interval {
+    low: u64,
+    width: u64,
+}
 
 // ---- how a letter is tested
 
-fn tested_by(kind: usize) -> usize
-    ensures { (result ≡ tested_by kind) × (result < 65536) }
+// The right kind of a comparison is 1 where its right side has a column.
+#[tactic(auto, unfolding(table::specs::Tests::tested_by))]
+fn tested_by(right_kind: usize) -> usize
+    ensures { (result ≡ tested_by right_kind) × (result < 65536) }
 {
-    if kind == COLUMN {
-        return COLUMN;
-    }
-    NUMBER
+    if right_kind == 1 { COLUMN } else { NUMBER }
 }
 
 // ---- the interval
 
+#[tactic(auto, unfolding(table::specs::Tests::raised))]
 fn raise_number(number: i32) -> u64
     ensures { (result ≡ raised number) × (0 < result) × (result < 17179869184) }
 {
-    (long(number) + RAISE) as u64
+    (i64::from(number) + RAISE) as u64
 }
 
 // The number of the comparison at index p, raised.
@@ -66,50 +60,22 @@ fn raised_at(query: &[u8], p: usize) -> u64
     raise_number(signed_word(le32_at(query, p + 8)))
 }
 
-// The first number of the interval of an operator and a number, raised.
-fn low_of(op: usize, x: u64) -> u64
-    requires { x < 17179869184 }
-    ensures { result ≡ low_of op x }
-{
-    if op == EQUAL {
-        return x;
-    }
-    if op == UNEQUAL {
-        return x + 1;
-    }
-    if op == LESS {
-        return 0;
-    }
-    if op == AT_MOST {
-        return 0;
-    }
-    if op == GREATER {
-        return x + 1;
-    }
-    x
-}
-
-// How many more numbers it has.
-fn width_of(op: usize, x: u64) -> u64
+// The interval of an operator and a number, raised.
+#[tactic(auto, unfolding(table::specs::Tests::low_of, table::specs::Tests::width_of))]
+fn interval_of(op: usize, x: u64) -> Interval
     requires { (0 < x) × (x < 17179869184) }
-    ensures { result ≡ width_of op x }
+    ensures low { result.low ≡ low_of op x }
+    ensures width { result.width ≡ width_of op x }
 {
-    if op == EQUAL {
-        return 0;
-    }
-    if op == UNEQUAL {
-        return SECOND_LARGEST;
-    }
-    if op == LESS {
-        return x - 1;
-    }
-    if op == AT_MOST {
-        return x;
-    }
-    if op == GREATER {
-        return SECOND_LARGEST - x;
-    }
-    LARGEST - x
+    let (low, width) = match op {
+        EQUAL => (x, 0),
+        UNEQUAL => (x + 1, u64::MAX - 1),
+        LESS => (0, x - 1),
+        AT_MOST => (0, x),
+        GREATER => (x + 1, u64::MAX - 1 - x),
+        _ => (x, u64::MAX - x),
+    };
+    Interval { low, width }
 }
 
 // ---- its words
@@ -126,13 +92,13 @@ fn put_word64(table: &mut [u16], at: usize, x: u64)
 }
 
 // Words 7 to 15 of the letter whose words begin at word `at`.
-fn put_nine(table: &mut [u16], at: usize, kind: usize, low: u64, width: u64)
+fn put_nine(table: &mut [u16], at: usize, kind: usize, interval: Interval)
     requires { NineRoom table.old at kind }
-    ensures { NinePut table.old table.new at kind low width }
+    ensures { NinePut table.old table.new at kind interval.low interval.width }
 {
-    table[at + 7] = kind as u16;
-    put_word64(table, at + 8, low);
-    put_word64(table, at + 12, width);
+    table[at + KIND] = kind as u16;
+    put_word64(table, at + INTERVAL, interval.low);
+    put_word64(table, at + WIDTH, interval.width);
 }
 
 // The same of the comparison in the 12 bytes from index p on.
@@ -140,10 +106,8 @@ pub fn put_interval(query: &[u8], p: usize, table: &mut [u16], at: usize)
     requires { IntervalRoom query.now p table.old at }
     ensures { IntervalPut query.now p table.old table.new at }
 {
-    let op = wide8(query[p + 2]);
-    let kind = tested_by(wide8(query[p + 3]));
-    let x = raised_at(query, p);
-    let low = std::num::wrapping_sub_u64(low_of(op, x), RAISED_BY);
-    let width = width_of(op, x);
-    put_nine(table, at, kind, low, width);
+    let kind = tested_by(usize::from(query[p + 3]));
+    let Interval { low, width } = interval_of(usize::from(query[p + 2]), raised_at(query, p));
+    let low = low.wrapping_sub(RAISED_BY);
+    put_nine(table, at, kind, Interval { low, width });
 }

@@ -35,6 +35,10 @@ pub const INTERVAL: usize = 8;
 
 pub const WIDTH: usize = 12;
 
+// What a number is raised by where it is tested, so that no number that a comparison meets is below
+// 0; the first number of an interval stands in the table less this.
+pub const RAISED_BY: u64 = 8589934592;
+
 // ---- how a letter is tested
 
 // By a first comparison whose right side is a number, or has a column.

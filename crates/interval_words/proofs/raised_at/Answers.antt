@@ -1,10 +1,6 @@
 -- `interval_words::raised_at` meets its contract by the law of Raising.
-use Rattle.std.proofs.Common.{arith, rules}
 use Rattle.interval_words.proofs.Raising.{raised_at}
 use Rattle.interval_words.proofs.raised_at.Goals as goal
-
-pub overflow_add-p : goal.overflow_add-p
-overflow_add-p c = omega arith
 
 pub returns : goal.returns
 returns c =
