@@ -6,6 +6,7 @@
 ghost use Rattle.std.specs.Prelude.{◌≡◌, ◌≤◌, ltb, ◌||◌};
 ghost use Rattle.table_room.specs.Words.{measures_at, tests_at, Sizing, needed};
 
+use letter_words::TEST_WORDS;
 use tests::words_for;
 
 // An entry's words and its ways are at most so many.
@@ -13,8 +14,7 @@ pub const PLACE_WORDS: usize = 7;
 
 pub const MEASURE_WORDS: usize = 24;
 
-const LETTER_WORDS: usize = 416;
-
+// The words of a table are told by numbers of 16 bits.
 const LONGEST: usize = 65535;
 
 // Where the measures of a query whose places have so many entries begin in its table.
@@ -37,17 +37,15 @@ pub fn tests_at(entries: usize) -> usize
 pub fn has_no_room(words: usize, needed: usize) -> bool
     ensures { result ≡ (ltb words needed || ltb 65535 words) }
 {
-    if words < needed {
-        return true;
-    }
-    LONGEST < words
+    words < needed || LONGEST < words
 }
 
 // How many words a query of so many entries needs.
+#[tactic(auto, unfolding(crate::specs::Words::needed))]
 pub fn words_needed(query: &[u8], defines: &[usize; 26], entries: usize, letters: usize) -> usize
     requires { Sizing query.now defines.now entries letters }
     ensures { (result ≡ needed query.now defines.now entries letters) × (result ≤ 16076) }
 {
     let more = words_for(query, defines, letters);
-    tests_at(entries) + LETTER_WORDS + more
+    tests_at(entries) + TEST_WORDS + more
 }

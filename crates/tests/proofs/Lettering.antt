@@ -60,9 +60,6 @@ module _ (s defines : List ℕ) (letters : ℕ) where
   counting_none h = record { asked = h; upto = omega arith; is = refl; few = omega arith }
 
   module _ (words l : ℕ) (h : Counting s defines letters words l) where
-    pub counting_room : l < letters → (get_or defines l 0 ≡ 0 → ⊥) → TestCounted s (get_or defines l 0)
-    counting_room g = h.asked.counted l (let u = h.asked.upto in omega arith)
-
     pub counting_more : l < letters → (m : ℕ) → (m ≡ more_of s (get_or defines l 0)) × (m ≤ 50) → Counting s defines letters (words + m) (l + 1)
     counting_more g m e = record {
       asked = h.asked;

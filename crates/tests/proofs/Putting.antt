@@ -103,10 +103,7 @@ module _ (s : List ℕ) (columns d : ℕ) (T : List ℕ) (at more : ℕ) (h : Le
         kept = λ j f g. get_or-set_other (set T at 0) (at + 7) j 2 0 (λ q. f (omega arith) (omega arith)) ∙ get_or-set_other T at j 0 0 (λ q. f (omega arith) (omega arith));
       }
 
-  -- where it has one, its header stands before its body
-  pub header_there : (d ≡ 0 → ⊥) → 2 ≤ d
-  header_there o = let a = (h.body o).header in omega arith
-
+  -- where it has one, its header can be read
   pub header_read : (d ≡ 0 → ⊥) → d - 2 + 1 < length s
   header_read o = let a = (h.body o).header in let b = (h.body o).there in omega arith
 

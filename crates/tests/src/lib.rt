@@ -5,24 +5,17 @@
 // enough, which the caller has to see to; `words_for` tells how large.
 #![tactic(auto)]
 
-ghost use Rattle.std.specs.Prelude.{◌≡◌, ◌+◌, ◌≤◌, ◌<◌};
+ghost use Rattle.std.specs.Prelude.{◌≡◌, ◌+◌, ◌≤◌, ◌<◌, length, slice_set};
 ghost use Rattle.tests.specs.Prepared.{more_of, words_for, TestCounted, TestsCountable, Preparable, Prepared};
 ghost use Rattle.tests.specs.Prepared.{LetterRoom, TestRoom, LetterPut, LettersPut, NoneRoom, NonePut};
 
-use comparison_words::{COMPARISON_BYTES, COMPARISON_WORDS, put_comparison, put_comparisons};
+use comparison_words::{COMPARISON_BYTES, put_comparison, put_comparisons};
 use entry_words::put_postfix;
 use interval_words::put_interval;
-use numbers::{le16_at, wide8};
+use letter_words::{COMPARISON_WORDS, FIRST, FREE, KIND, LETTER_WORDS, MORE, TEST_WORDS};
+use numbers::le16_at;
 use records::ALL_OF;
 use table::LETTERS;
-
-// The words of a letter, and which of them tells how it is tested.
-const LETTER_WORDS: usize = 16;
-
-const KIND: usize = 7;
-
-// A letter without DEFINE is not tested at all.
-const FREE: u16 = 2;
 
 // ---- how many words
 
@@ -35,7 +28,7 @@ fn more_of(query: &[u8], d: usize) -> usize
     if d == 0 {
         return 0;
     }
-    let count = wide8(query[d + 1]);
+    let count = usize::from(query[d + 1]);
     if le16_at(query, d - 2) == ALL_OF {
         return (count - 1) * COMPARISON_WORDS;
     }
@@ -48,17 +41,25 @@ pub fn words_for(query: &[u8], defines: &[usize; 26], letters: usize) -> usize
     ensures { (result ≡ words_for query.now defines.now letters) × (result ≤ 1300) }
 {
     let mut words = 0;
-    let mut letter = 0;
-    while letter < letters {
-        words += more_of(query, defines[letter]);
-        letter += 1;
+    for d in &defines[..letters] {
+        words += more_of(query, *d);
     }
     words
 }
 
 // ---- letters
 
-// The words of a letter whose DEFINE of kind 3 has its body at index d, as put_letter says.
+// The two words that say that the letter at word `at` has no DEFINE, so that it is not tested.
+fn put_free(table: &mut [u16], at: usize)
+    requires { at + 16 ≤ length table.old }
+    ensures { table.new ≡ slice_set (slice_set table.old at 0) (at + 7) 2 }
+{
+    table[at] = 0;
+    table[at + KIND] = FREE as u16;
+}
+
+// The words of a letter whose DEFINE of kind 3 has its body at index d, as put_letter says. As in
+// comparison_words, what is read and where it is written stay apart: d, at and more differ by letter.
 fn put_defined(
     query: &[u8],
     columns: usize,
@@ -70,11 +71,11 @@ fn put_defined(
     requires { TestRoom query.now columns d table.old at more }
     ensures { LetterPut query.now columns d table.old table.new at more result }
 {
-    let count = wide8(query[d + 1]);
+    let count = usize::from(query[d + 1]);
     let first = d + 2;
     table[at] = count as u16;
-    table[at + 1] = more as u16;
-    put_comparison(query, columns, first, table, at + 2);
+    table[at + MORE] = more as u16;
+    put_comparison(query, columns, first, table, at + FIRST);
     put_interval(query, first, table, at);
     put_comparisons(
         query,
@@ -87,7 +88,7 @@ fn put_defined(
 }
 
 // The words of a letter at word `at`, its comparisons behind the first, or its entries, from word
-// `more` on. Returns the word behind those. Two words of a letter without DEFINE, where d is 0, say so.
+// `more` on. Returns the word behind those. Where it has no DEFINE, d is 0.
 fn put_letter(
     query: &[u8],
     columns: usize,
@@ -100,8 +101,7 @@ fn put_letter(
     ensures { LetterPut query.now columns d table.old table.new at more result }
 {
     if d == 0 {
-        table[at] = 0;
-        table[at + KIND] = FREE;
+        put_free(table, at);
         return more;
     }
     if le16_at(query, d - 2) == ALL_OF {
@@ -122,18 +122,9 @@ fn put_letters(
     requires { Preparable query.now columns defines.now letters table.old tests }
     ensures { LettersPut query.now columns defines.now table.old table.new tests letters }
 {
-    let mut more = tests + LETTERS * LETTER_WORDS;
-    let mut l = 0;
-    while l < letters {
-        more = put_letter(
-            query,
-            columns,
-            defines[l],
-            table,
-            tests + l * LETTER_WORDS,
-            more,
-        );
-        l += 1;
+    let mut more = tests + TEST_WORDS;
+    for (l, d) in defines[..letters].iter().enumerate() {
+        more = put_letter(query, columns, *d, table, tests + l * LETTER_WORDS, more);
     }
 }
 
@@ -142,12 +133,8 @@ fn put_none(table: &mut [u16], tests: usize, letters: usize)
     requires { NoneRoom table.old tests letters }
     ensures { NonePut table.old table.new tests letters }
 {
-    let mut l = letters;
-    while l < LETTERS {
-        let own = tests + l * LETTER_WORDS;
-        table[own] = 0;
-        table[own + KIND] = FREE;
-        l += 1;
+    for l in letters..LETTERS {
+        put_free(table, tests + l * LETTER_WORDS);
     }
 }
 

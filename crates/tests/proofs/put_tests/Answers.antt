@@ -1,6 +1,5 @@
 -- `tests::put_tests` meets its contract by the laws of Lettering.
 use Rattle.tests.proofs.Lettering.{none-room, prepared}
-use borrow.Author.Rules.{rules}
 use Rattle.tests.proofs.put_tests.Goals as goal
 
 pub put_none-requires : goal.put_none-requires
