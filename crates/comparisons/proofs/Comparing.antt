@@ -1,23 +1,11 @@
 -- The operators by the bits of one number, as `compare` reads them.
-use Rattle.std.proofs.Common.{◌≡◌, ℕ, zero, suc, ◌+◌, ◌*◌, ◌/◌, ◌%◌, ◌^◌, ◌<◌, ◌≤◌, Bool, true, false, not, ◌&&◌, ◌||◌, eqb, ltb, leb, ℤ, pos, negsuc, refl, ap, ◌∙◌, arith, to_z-of_z, w64, SFits, to_z, of_z, ltb-false, ltb-true, le-leb}
+use Rattle.std.proofs.Common.{◌≡◌, ℕ, zero, suc, ◌+◌, ◌*◌, ◌/◌, ◌%◌, ◌^◌, ◌<◌, Bool, true, false, not, ◌&&◌, ◌||◌, eqb, ltb, leb, ℤ, pos, negsuc, refl, ap, ◌∙◌, arith, to_z-of_z, w64, SFits, to_z, of_z, ltb-false, ltb-true, le-leb}
 use lib.Signed.{lt_z, le_z}
 use mir.Val.{bool_byte}
 use borrow.Author.Tests.{lt-leb}
 use Rattle.rules.specs.Basics.{pick}
 use Rattle.rules.specs.Rows.{compares}
 use Rattle.laws.proofs.Choice.{decided, clash}
-use Rattle.comparisons.specs.Spots.{flag_of}
-
--- ---- a test as a number
-
-pub flag_is : (t : Bool) → bool_byte t ≡ flag_of t
-unfolding flag_of
-flag_is true = refl
-flag_is false = refl
-
-pub flag_few : (t : Bool) → bool_byte t ≤ 1
-flag_few true = omega arith
-flag_few false = omega arith
 
 -- ---- the four tests of two numbers by two of them
 
@@ -55,8 +43,7 @@ lt_le (negsuc a) (negsuc b) e = let l = ltb-true b a e in le-leb b a (omega arit
 
 -- t: a is at least b; u: a is above b
 unfoldable bit : ℕ → Bool → Bool → Bool
-unfolding flag_of
-bit op t u = eqb (14299990 / 2 ^ (op * 3 + (flag_of t + flag_of u)) % 2) 1
+bit op t u = eqb (14299990 / 2 ^ (op * 3 + (bool_byte t + bool_byte u)) % 2) 1
 
 unfoldable said : ℕ → Bool → Bool → Bool
 said op t u =
@@ -98,10 +85,10 @@ module _ (op : ℕ) (a b : ℤ) (fa : SFits w64 a) (fb : SFits w64 b) where
   lt_ba : lt_z (held b) (held a) ≡ lt_z b a
   lt_ba = rw (to_z-of_z fa, to_z-of_z fb)
 
-  pub by_bits : (t u : Bool) (x y : ℕ) → op < 8 → t ≡ le_z (held b) (held a) → x ≡ flag_of t → u ≡ lt_z (held b) (held a) → y ≡ flag_of u
+  pub by_bits : (t u : Bool) (x y : ℕ) → op < 8 → t ≡ le_z (held b) (held a) → x ≡ bool_byte t → u ≡ lt_z (held b) (held a) → y ≡ bool_byte u
       → eqb (14299990 / 2 ^ (op * 3 + (x + y)) % 2) 1 ≡ compares op a b
   unfolding bit
   by_bits t u x y h et ex eu ey =
-      ap (λ (k : ℕ). eqb (14299990 / 2 ^ (op * 3 + (k + y)) % 2) 1) (ex ∙ ap flag_of (et ∙ le_ba))
-      ∙ ap (λ (k : ℕ). eqb (14299990 / 2 ^ (op * 3 + (flag_of (le_z b a) + k)) % 2) 1) (ey ∙ ap flag_of (eu ∙ lt_ba))
+      ap (λ (k : ℕ). eqb (14299990 / 2 ^ (op * 3 + (k + y)) % 2) 1) (ex ∙ ap bool_byte (et ∙ le_ba))
+      ∙ ap (λ (k : ℕ). eqb (14299990 / 2 ^ (op * 3 + (bool_byte (le_z b a) + k)) % 2) 1) (ey ∙ ap bool_byte (eu ∙ lt_ba))
       ∙ eight op h (le_z b a) (lt_z b a) (lt_le b a) ∙ said-is op a b

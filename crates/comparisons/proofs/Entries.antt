@@ -1,7 +1,7 @@
 -- The entry at a spot of a row: its index is below the length of the rows exactly if the row that
 -- is read is one of the partition, and then it is that row's entry. The row itself may be any.
 use Rattle.std.proofs.Common.{◌≡◌, ℕ, suc, ◌+◌, ◌-◌, ◌*◌, ◌/◌, ◌%◌, ◌<◌, ◌≤◌, min, false, ltb, leb, List, length, ℤ, pos, negsuc, ◌+ℤ◌, sym, ap, ◌∙◌, le_refl, mod-lt, suc-mul, add-mul, mul-le-mul, div-add-mod', mul-div_cancel, arith, ltb-false, ltb-true, le-ltb, lt-ltb, leb-false, leb-true}
-use mathlib.Core.Option.{none, some}
+use mathlib.Core.Option.{none}
 use lib.IntN.{+ℤ_assoc}
 use Rattle.rules.specs.Rows.{table_of, entry, entry_at}
 use Rattle.laws.proofs.Choice.{decided}

@@ -33,9 +33,12 @@ unfolding spot_index
 index_is T at from x r e f = f ∙ rw e refl
 
 pub number_is : (T : List ℕ) (at x y : ℕ) (z v : ℤ) → x ≡ get_or T (at + 3) 0 → y ≡ get_or T (at + 4) 0 → z ≡ signed32 (x + y * 65536) → mag z < 2147483648
-    → v ≡ to_z w32 (of_z w32 z) → mag v < 2147483648 → held v ≡ number_in T at
+    → v ≡ to_z w32 (of_z w32 z) → (held v ≡ number_in T at) × (mag (held v) < 2147483648)
 unfolding number_in
-number_is T at x y z v ex ey ez fz ev fv = small v fv ∙ ev ∙ to_z-of_z {w = w32} (record { sfits = fz }) ∙ ez ∙ rw (ex, ey) refl
+number_is T at x y z v ex ey ez fz ev =
+    let e : v ≡ z = ev ∙ to_z-of_z {w = w32} (record { sfits = fz }) in
+    let f : held v ≡ z = rw e (small z fz) in
+    (f ∙ ez ∙ rw (ex, ey) refl, rw f fz)
 
 pub held-short : (z : ℤ) → mag z < 2147483648 → mag (held z) < 2147483648
 held-short z h = rw (small z h) h

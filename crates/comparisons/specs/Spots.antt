@@ -9,10 +9,6 @@ use Rattle.rules.specs.Basics.{pick}
 use Rattle.rules.specs.Rows.{plus_number, Truth, truth_by, is_yes}
 use Rattle.table.specs.Tests.{number_in}
 
--- 1 where the test is true
-unfoldable pub flag_of : Bool → ℕ
-flag_of t = pick t 1 0
-
 -- The index 64 rows before base, where spot 0 lies.
 pub record FarBack (columns base from : ℕ) : Type 0 where
   pub is : (from + columns * 64) % 18446744073709551616 ≡ base

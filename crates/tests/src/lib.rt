@@ -59,7 +59,7 @@ fn put_free(table: &mut [u16], at: usize)
 }
 
 // The words of a letter whose DEFINE of kind 3 has its body at index d, as put_letter says. As in
-// comparison_words, what is read and where it is written stay apart: d, at and more differ by letter.
+// comparison_words, what is read and where it is put stay apart: d, at and more differ by letter.
 fn put_defined(
     query: &[u8],
     columns: usize,

@@ -1,6 +1,6 @@
 -- `comparisons::first_unmet` meets its contract by the laws of Reading.
-use Rattle.std.proofs.Common.{◌-◌, arith, rules}
-use Rattle.comparisons.proofs.Reading.{Reading, reading_none, reading_more, reading_stop, reading_all}
+use Rattle.std.proofs.Common.{rules}
+use Rattle.comparisons.proofs.Reading.{reading_none, reading_more, reading_stop, reading_all}
 use Rattle.comparisons.proofs.first_unmet.Goals as goal
 
 pub loop-k-init : goal.loop-k-init
@@ -8,9 +8,6 @@ loop-k-init c = search (rules, reading_none)
 
 pub returns-then-not-comparison_met : goal.returns-then-not-comparison_met
 returns-then-not-comparison_met c = search (rules, reading_stop)
-
-pub loop-k-smaller : goal.loop-k-smaller
-loop-k-smaller c = omega arith
 
 pub loop-k-preserved : goal.loop-k-preserved
 loop-k-preserved c = search (rules, reading_more)
