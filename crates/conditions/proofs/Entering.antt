@@ -10,7 +10,7 @@ use lib.IntN.{ℤ}
 use lib.ListN.{length, get_or}
 use borrow.Author.Tests.{lt-ltb, le-ltb, eqb-true, eqb-false, leb-true, ne_eqb}
 use Rattle.rules.specs.Basics.{pick}
-use Rattle.rules.specs.Rows.{Truth, truth_and, truth_or, is_yes, latest, Entry, compared, conj, disj, neg}
+use Rattle.rules.specs.Rows.{Truth, truth_and, truth_or, latest, Entry, compared, conj, disj, neg}
 use Rattle.rules.specs.Query.{leaves_one}
 use Rattle.laws.proofs.Choice.{decided, and_left, and_right}
 use Rattle.table.specs.Tests.{comparison_in, entry_in, entry_words, entries_in, entries_behind, Entries}
@@ -20,12 +20,6 @@ use Rattle.conditions.specs.Results.{truth_number, stacked, joined_number, join_
 use Rattle.conditions.proofs.Numbers.{latest-few, sixteen, stacked-and, stacked-or, stacked-not, one_result}
 
 -- ---- one entry
-
-pub words_comparison : (word : ℕ) → word < 16 → (◌≡◌ {A = ℕ} 5 (pick (ltb word 16) 5 1)) × (5 ≤ 5)
-words_comparison word h = (simp (lt-ltb word 16 h), omega arith)
-
-pub words_operator : (word : ℕ) → 16 ≤ word → (◌≡◌ {A = ℕ} 1 (pick (ltb word 16) 5 1)) × (1 ≤ 5)
-words_operator word h = (simp (le-ltb word 16 h), omega arith)
 
 module _ (T : List ℕ) (rows : List ℤ) (from at word results : ℕ) where
   pub five_there : word ≡ get_or T at 0 → word < 16 → at + entry_words T at ≤ length T → at + 5 ≤ length T
@@ -177,17 +171,17 @@ module _ (T : List ℕ) (rows : List ℤ) (from at : ℕ) where
     pub few_latest : results % 4 ≤ 2
     few_latest = rw h.stack.is (latest-few h.rs)
 
-    pub evaluating_all : left ≤ 0 → eqb results 2 ≡ is_yes (latest (read_results T rows from (get_or T (at + 2) 0) (get_or T (at + 1) 0) []))
+    pub evaluating_all : left ≤ 0 → results ≡ truth_number (latest (read_results T rows from (get_or T (at + 2) 0) (get_or T (at + 1) 0) []))
     unfolding read_results entries_in leaves_one
     evaluating_all l =
         let z : left ≡ 0 = omega arith in
-        ap (λ (i : ℕ). eqb i 2) h.stack.is ∙ single h.rs (none_left (length h.rs) (rw z at h.stack.leaves))
-        ∙ sym (ap (λ (xs : List Truth). is_yes (latest xs)) (h.same ∙ ap (λ (i : ℕ). read_results T rows from i place h.rs) z))
+        h.stack.is ∙ single h.rs (none_left (length h.rs) (rw z at h.stack.leaves))
+        ∙ sym (ap (λ (xs : List Truth). truth_number (latest xs)) (h.same ∙ ap (λ (i : ℕ). read_results T rows from i place h.rs) z))
       where
         none_left : (d : ℕ) → leaves_one d (entries_in T 1 0 place) ≡ true → d ≡ 1
         none_left d e = eqb-true d 1 e
 
-        single : (rs : List Truth) → length rs ≡ 1 → eqb (stacked rs) 2 ≡ is_yes (latest rs)
+        single : (rs : List Truth) → length rs ≡ 1 → stacked rs ≡ truth_number (latest rs)
         single [] e = absurd (omega arith)
         single (v ∷ []) e = one_result v
         single (v ∷ (w ∷ rs)) e = absurd (let z : suc (suc (length rs)) ≡ 1 = e in omega arith)

@@ -4,7 +4,7 @@ use mathlib.Core.Path.{◌≡◌, refl, sym, ap, ◌∙◌}
 use mathlib.Core.Bool.{Bool, true, false, not, ◌&&◌, ◌||◌}
 use mathlib.Core.List.{List, [], ◌∷◌}
 use mathlib.Core.Option.{none, some}
-use Prim.Native.Nat.{ℕ, zero, suc, ◌+◌, ◌*◌, ◌-◌, ◌/◌, ◌%◌, ◌≤◌, ◌<◌, min, max}
+use Prim.Native.Nat.{ℕ, zero, suc, ◌+◌, ◌*◌, ◌-◌, ◌/◌, ◌%◌, ◌≤◌, ◌<◌}
 use native.Mathlib.Omega.{arith}
 use lib.Dec.{ltb, eqb}
 use lib.IntN.{ℤ, pos, ◌+ℤ◌}
@@ -69,21 +69,6 @@ module _ (T : List ℕ) (rows : List ℤ) (from at : ℕ) where
   pub is-unmet : (t r : Bool) → t ≡ known T rows from at → not t ≡ false → r ≡ read_met T rows from at → r ≡ false → (0 ≡ truth_number (read_truth T rows from at)) × (0 ≤ 2)
   unfolding truth_number
   is-unmet t r e n er y = (let z : known T rows from at ≡ true = sym e ∙ not-false t n in let w : read_met T rows from at ≡ false = sym er ∙ y in rw (told, z, w) refl, omega arith)
-
--- ---- operators
-
-module _ (word x b behind : ℕ) (is_b : b ≡ x % 4) (is-behind : behind ≡ x / 4) where
-  pub joined-and : word ≡ 16 → (m : ℕ) → m ≡ min (behind % 4) b → behind / 4 * 4 + m ≡ joined_number word x
-  unfolding joined_number
-  joined-and e m em = rw (eq-eqb word 16 e, em, is_b, is-behind) refl
-
-  pub joined-or : (word ≡ 16 → ⊥) → word ≡ 17 → (m : ℕ) → m ≡ max (behind % 4) b → behind / 4 * 4 + m ≡ joined_number word x
-  unfolding joined_number
-  joined-or n e m em = rw (ne_eqb word 16 n, eq-eqb word 17 e, em, is_b, is-behind) refl
-
-  pub joined-not : (word ≡ 16 → ⊥) → (word ≡ 17 → ⊥) → behind * 4 + (2 - b) ≡ joined_number word x
-  unfolding joined_number
-  joined-not n o = rw (ne_eqb word 16 n, ne_eqb word 17 o, is_b, is-behind) refl
 
 -- ---- lists of results
 
@@ -155,9 +140,15 @@ module _ (rs : List Truth) where
   stacked-not no word n o = rw (ne_eqb word 16 n, ne_eqb word 17 o) (omega arith)
   stacked-not unknown word n o = rw (ne_eqb word 16 n, ne_eqb word 17 o) (omega arith)
 
--- one result: whether it is true
-pub one_result : (v : Truth) → eqb (stacked (v ∷ [])) 2 ≡ is_yes (latest (v ∷ []))
-unfolding stacked truth_number is_yes latest
+-- one result: its number, and whether it is true
+pub one_result : (v : Truth) → stacked (v ∷ []) ≡ truth_number (latest (v ∷ []))
+unfolding stacked truth_number latest
 one_result yes = refl
 one_result no = refl
 one_result unknown = refl
+
+pub yes_number : (v : Truth) → eqb (truth_number v) 2 ≡ is_yes v
+unfolding truth_number is_yes
+yes_number yes = refl
+yes_number no = refl
+yes_number unknown = refl

@@ -11,20 +11,20 @@ ghost use Rattle.std.specs.Int.Signed.{mag};
 ghost use Rattle.table.specs.Tests.{word64, raised, raised_word};
 ghost use Rattle.intervals.specs.Intervals.{in_interval};
 
+use letter_words::RAISED_BY;
 use table::word_at;
 
-// The words of the interval's first number; behind them stands how many more there are.
-const WIDTH: usize = 4;
-
-// What a number is raised by.
-const RAISED_BY: u64 = 8589934592;
+// A number of 64 bits takes four words: behind those of the interval's first number stand those of
+// how many more there are.
+const WORDS: usize = 4;
 
 // A number plus 2^33: no number that a comparison meets is then below 0.
+#[tactic(auto, unfolding(table::specs::Tests::raised))]
 fn raise(d: i64) -> u64
     requires { mag d < 8589934592 }
     ensures { result ≡ raised d }
 {
-    (d + 8589934592) as u64
+    (d + RAISED_BY as i64) as u64
 }
 
 pub fn difference(a: i64, b: i64) -> i64
@@ -50,8 +50,7 @@ fn inside(d: i64, low: u64, width: u64) -> bool
     requires { mag d < 4294967296 }
     ensures { result ≡ in_interval (raised d) (raised_word low) width }
 {
-    let plain = std::num::wrapping_sub_u64(raise(d), RAISED_BY);
-    std::num::wrapping_sub_u64(plain, low) <= width
+    raise(d).wrapping_sub(RAISED_BY).wrapping_sub(low) <= width
 }
 
 // The same for the interval at word `at` of the table.
@@ -60,6 +59,6 @@ pub fn inside_at(table: &[u16], at: usize, d: i64) -> bool
     ensures { result ≡ in_interval (raised d) (raised_word (word64 table.now at)) (word64 table.now (at + 4)) }
 {
     let low = word64_at(table, at);
-    let width = word64_at(table, at + WIDTH);
+    let width = word64_at(table, at + WORDS);
     inside(d, low, width)
 }

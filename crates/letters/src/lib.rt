@@ -19,27 +19,8 @@ ghost use Rattle.comparisons.specs.Spots.{read_met, first_unmet};
 use comparisons::{entry, far_back, first_unmet, index_at};
 use conditions::condition_holds;
 use intervals::{difference, inside_at};
+use letter_words::{COLUMN, FIRST_LEFT, FIRST_RIGHT, FREE, INTERVAL, KIND, MORE, NUMBER};
 use table::{Extent, word_at};
-
-// Which words of a letter are what: where the comparisons behind the first stand, the spots of the
-// first one, how the letter is tested and its interval.
-const MORE: usize = 1;
-
-const LEFT: usize = 3;
-
-const RIGHT: usize = 4;
-
-const KIND: usize = 7;
-
-const INTERVAL: usize = 8;
-
-// How a letter is tested: by a first comparison whose right side has a column, or is a number; not
-// at all, as it is free; any other by its entries.
-const COLUMN: usize = 1;
-
-const NUMBER: usize = 0;
-
-const FREE: usize = 2;
 
 // Whether the first comparison is met, of the letter whose words begin at word `at`, at the row to
 // whose first entry `from` belongs: its right side has a column.
@@ -47,11 +28,11 @@ fn column_met(table: &[u16], at: usize, rows: &[i32], from: u64) -> bool
     requires { (at + 16 ≤ length table.now) × First table.now at × (get_or table.now (at + 7) 0 ≡ 1) }
     ensures { result ≡ read_met table.now rows.now from (at + 2) }
 {
-    let left = index_at(table, at + LEFT, from);
+    let left = index_at(table, at + FIRST_LEFT, from);
     if left >= rows.len() {
         return false;
     }
-    let right = index_at(table, at + RIGHT, from);
+    let right = index_at(table, at + FIRST_RIGHT, from);
     if right >= rows.len() {
         return false;
     }
@@ -64,7 +45,7 @@ fn number_met(table: &[u16], at: usize, rows: &[i32], from: u64) -> bool
     requires { (at + 16 ≤ length table.now) × First table.now at × (get_or table.now (at + 7) 0 ≡ 1 → ⊥) }
     ensures { result ≡ read_met table.now rows.now from (at + 2) }
 {
-    let left = index_at(table, at + LEFT, from);
+    let left = index_at(table, at + FIRST_LEFT, from);
     if left >= rows.len() {
         return false;
     }
@@ -88,22 +69,21 @@ pub fn letter_holds(table: &[u16], rows: &[i32], size: Extent, at: usize, row: u
     requires { (row < size.rows) × LetterAt size.tests at × Letters table.now size.tests rows.now size.columns size.rows }
     ensures { result ≡ (ltb row size.rows && holds (table_of size.columns rows.now) row (condition_in table.now size.columns at)) }
 {
-    let kind = word_at(table, at + KIND);
     let from = far_back(size.columns, row * size.columns);
-    if kind == COLUMN {
-        if !column_met(table, at, rows, from) {
-            return false;
+    match word_at(table, at + KIND) {
+        COLUMN => {
+            if !column_met(table, at, rows, from) {
+                return false;
+            }
+            others_met(table, at, word_at(table, at), rows, from)
         }
-        return others_met(table, at, word_at(table, at), rows, from);
-    }
-    if kind == NUMBER {
-        if !number_met(table, at, rows, from) {
-            return false;
+        NUMBER => {
+            if !number_met(table, at, rows, from) {
+                return false;
+            }
+            others_met(table, at, word_at(table, at), rows, from)
         }
-        return others_met(table, at, word_at(table, at), rows, from);
+        FREE => true,
+        _ => condition_holds(table, at, rows, from),
     }
-    if kind == FREE {
-        return true;
-    }
-    condition_holds(table, at, rows, from)
 }

@@ -14,28 +14,14 @@ ghost use Rattle.table.specs.Table.{code_at, later_at};
 ghost use Rattle.table.specs.Tests.{offset_of, comparison_in, comparisons_in, entry_words, entries_in, entries_behind};
 ghost use Rattle.reads_ahead.specs.Ahead.{Columns, some_ahead, entry_ahead, letter_ahead, place_ahead, Readable};
 
-use comparisons::{LEFT, RIGHT, WORDS};
+use letter_words::{
+    AND, BY_ENTRIES, COMPARISON_WORDS, ENTRIES, FIRST, KIND, LEFT, MORE, RIGHT, entry_words,
+};
 use table::{DOLLAR, LETTERS, code_at, later_at, word_at};
 
 // A spot counts from the first entry of 64 rows before its row, so from this many on it lies behind
 // its row.
 const ROWS_BEFORE: usize = 65;
-
-// Which words of a letter are what: where the comparisons behind the first, or the entries, stand;
-// how many entries; the first comparison; how the letter is tested.
-const MORE: usize = 1;
-
-const ENTRIES: usize = 2;
-
-const FIRST: usize = 2;
-
-const KIND: usize = 7;
-
-// How a letter is tested whose DEFINE is of kind 6.
-const BY_ENTRIES: usize = 3;
-
-// The least word of AND, OR and NOT.
-const AND: usize = 16;
 
 // Whether a spot lies in a row behind its own.
 fn spot_ahead(spot: usize, columns: usize) -> bool
@@ -50,10 +36,8 @@ fn comparison_ahead(table: &[u16], at: usize, columns: usize) -> bool
     requires { (at + 5 ≤ length table.now) × Columns columns }
     ensures { result ≡ ahead (comparison_in table.now columns at) }
 {
-    if spot_ahead(word_at(table, at + LEFT), columns) {
-        return true;
-    }
-    spot_ahead(word_at(table, at + RIGHT), columns)
+    spot_ahead(word_at(table, at + LEFT), columns)
+        || spot_ahead(word_at(table, at + RIGHT), columns)
 }
 
 // Whether one of `count` comparisons from word `at` on does.
@@ -61,14 +45,7 @@ fn comparisons_ahead(table: &[u16], at: usize, count: usize, columns: usize) -> 
     requires { (at + count * 5 ≤ length table.now) × Columns columns }
     ensures { result ≡ some_ahead (comparisons_in table.now columns at count) }
 {
-    let mut k = 0;
-    while k < count {
-        if comparison_ahead(table, at + k * WORDS, columns) {
-            return true;
-        }
-        k += 1;
-    }
-    false
+    (0..count).any(|k| comparison_ahead(table, at + k * COMPARISON_WORDS, columns))
 }
 
 // Whether the entry of kind 6 at word `at`, which is `word`, is a comparison that does.
@@ -76,20 +53,7 @@ fn entry_ahead(table: &[u16], at: usize, word: usize, columns: usize) -> bool
     requires { (word ≡ get_or table.now at 0) × (at + entry_words table.now at ≤ length table.now) × Columns columns }
     ensures { result ≡ entry_ahead table.now columns at }
 {
-    if word < AND {
-        return comparison_ahead(table, at, columns);
-    }
-    false
-}
-
-// How many words an entry takes that begins with this word.
-fn entry_words(word: usize) -> usize
-    ensures { (result ≡ pick (ltb word 16) 5 1) × (result ≤ 5) }
-{
-    if word < AND {
-        return WORDS;
-    }
-    1
+    word < AND && comparison_ahead(table, at, columns)
 }
 
 // Whether one of `count` entries of kind 6 from word `at` on does.
@@ -97,15 +61,13 @@ fn entries_ahead(table: &[u16], at: usize, count: usize, columns: usize) -> bool
     requires { (entries_behind table.now count at ≤ length table.now) × Columns columns }
     ensures { result ≡ some_ahead (compared_in (entries_in table.now columns count at)) }
 {
-    let mut left = count;
     let mut place = at;
-    while left > 0 {
+    for _ in 0..count {
         let word = word_at(table, place);
         if entry_ahead(table, place, word, columns) {
             return true;
         }
         place += entry_words(word);
-        left -= 1;
     }
     false
 }
@@ -142,11 +104,5 @@ pub fn place_ahead(table: &[u16], q: usize, columns: usize) -> bool
     ensures { result ≡ place_ahead table.now columns q }
 {
     let code = code_at(table, q);
-    if code == DOLLAR {
-        return true;
-    }
-    if code < LETTERS {
-        return letter_ahead(table, later_at(table, q), columns);
-    }
-    false
+    code == DOLLAR || code < LETTERS && letter_ahead(table, later_at(table, q), columns)
 }

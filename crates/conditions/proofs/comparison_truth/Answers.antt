@@ -2,7 +2,6 @@
 use mathlib.Core.Path.{ap}
 use mathlib.Core.Bool.{not}
 use Rattle.conditions.proofs.Numbers.{not_known, is-met, is-unmet}
-use borrow.Author.Rules.{rules}
 use Rattle.conditions.proofs.comparison_truth.Goals as goal
 
 pub returns-then-not-is_known : goal.returns-then-not-is_known
@@ -11,5 +10,5 @@ returns-then-not-is_known c = not_known _ _ _ _ _ c.is_known.ensures (ap not c.i
 pub returns-then-comparison_met : goal.returns-then-comparison_met
 returns-then-comparison_met c = is-met _ _ _ _ _ _ c.is_known.ensures (ap not c.if-not-is_known.false) c.comparison_met.ensures c.if-comparison_met.true
 
-pub returns : goal.returns
-returns c = is-unmet _ _ _ _ _ _ c.is_known.ensures (ap not c.if-not-is_known.false) c.comparison_met.ensures c.if-comparison_met.false
+pub returns-else-comparison_met : goal.returns-else-comparison_met
+returns-else-comparison_met c = is-unmet _ _ _ _ _ _ c.is_known.ensures (ap not c.if-not-is_known.false) c.comparison_met.ensures c.if-comparison_met.false

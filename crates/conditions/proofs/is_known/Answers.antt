@@ -1,17 +1,10 @@
 -- `conditions::is_known` meets its contract by the laws of Numbers.
 use Rattle.conditions.proofs.Numbers.{left_out, right_by, right-none}
-use native.Mathlib.Omega.{arith}
 use borrow.Author.Rules.{rules}
 use Rattle.conditions.proofs.is_known.Goals as goal
 
-pub overflow_add-at : goal.overflow_add-at
-overflow_add-at c = omega arith
-
 pub returns-then-index_at-rows : goal.returns-then-index_at-rows
 returns-then-index_at-rows c = search (rules, left_out)
-
-pub overflow_add-at-then-word_at-eq1 : goal.overflow_add-at-then-word_at-eq1
-overflow_add-at-then-word_at-eq1 c = omega arith
 
 pub returns-then-word_at-eq1 : goal.returns-then-word_at-eq1
 returns-then-word_at-eq1 c = search (rules, right_by)
