@@ -31,9 +31,7 @@ pub fn point(table: &mut [u16], places: usize, tests: usize)
     requires { Points table.old places tests }
     ensures { Pointing table.old table.new places tests }
 {
-    let mut q = 0;
-    while q < places {
+    for q in 0..places {
         point_one(table, q, tests);
-        q = q + 1;
     }
 }

@@ -5,9 +5,9 @@ use mathlib.Core.List.{List, [], ◌∷◌, ◌++◌}
 use Prim.Native.Nat.{ℕ, zero, suc, ◌+◌, ◌-◌, ◌≤◌, ◌<◌}
 use native.Mathlib.Omega.{arith}
 use lib.Dec.{eqb}
-use lib.ListN.{length, get_or, set, length-set}
-use lib.Seq.{get_or-set_same, get_or-set_other}
-use borrow.Author.Tests.{eq-eqb, ne_eqb}
+use lib.ListN.{length, get_or, set, length-set, take, drop}
+use lib.Seq.{get_or-set_same, get_or-set_other, drop-cons}
+use Rattle.std.specs.List.{list_any}
 use Rattle.rules.specs.Basics.{has}
 use Rattle.laws.proofs.Bounds.{has-append}
 use Rattle.rules.specs.Working.{fresh, keep_new}
@@ -16,36 +16,20 @@ use Rattle.place_words.specs.Words.{put_ways, WayPut, WayNeeds}
 
 -- ---- a way among words
 
-pub record Looked (T : List ℕ) (from to y j : ℕ) : Type 0 where
-  pub same : has y (span T from (to - from)) ≡ has y (span T j (to - j))
-  pub order : j ≤ to
-  pub inside : to ≤ length T
+-- the words from a word on are the end of the table that begins there
+pub span_taken : (T : List ℕ) (j m : ℕ) → j + m ≤ length T → span T j m ≡ take m (drop j T)
+unfolding span
+span_taken T j zero h = refl
+span_taken T j (suc m) h =
+    let l : j < length T = omega arith in
+    let e : suc j + m ≤ length T = omega arith in
+    rw (drop-cons T j 0 l) (ap (λ (ks : List ℕ). get_or T j 0 ∷ ks) (span_taken T (suc j) m e))
 
-pub looked_none : (T : List ℕ) (from to y : ℕ) → (from ≤ to) × (to ≤ length T) → Looked T from to y from
-looked_none T from to y h = record { same = refl; order = h.0; inside = h.1 }
-
-module _ (T : List ℕ) (from to y j : ℕ) (h : Looked T from to y j) where
-  pub looked_end : to ≤ j → false ≡ has y (span T from (to - from))
-  unfolding has span
-  looked_end l = sym (h.same ∙ ap (λ (m : ℕ). has y (span T j m)) (let e : to - j ≡ 0 = omega arith in e))
-
-  module _ (v : ℕ) (l : j < to) (ev : (v ≡ get_or T j 0) × (v < 65536)) where
-    looked_step : has y (span T j (to - j)) ≡ (eqb v y || has y (span T (j + 1) (to - (j + 1))))
-    unfolding has span
-    looked_step =
-        ap (λ (m : ℕ). has y (span T j m)) (let e : to - j ≡ suc (to - suc j) = omega arith in e)
-        ∙ ap (λ (x : ℕ). eqb x y || has y (span T (suc j) (to - suc j))) (sym ev.0)
-        ∙ ap (λ (i : ℕ). eqb v y || has y (span T i (to - i))) (let e : suc j ≡ j + 1 = omega arith in e)
-
-    pub looked_found : v ≡ y → true ≡ has y (span T from (to - from))
-    looked_found e = sym (h.same ∙ looked_step ∙ ap (λ (t : Bool). t || has y (span T (j + 1) (to - (j + 1)))) (eq-eqb v y e))
-
-    pub looked_more : (v ≡ y → ⊥) → Looked T from to y (j + 1)
-    looked_more n = record {
-      same = h.same ∙ looked_step ∙ ap (λ (t : Bool). t || has y (span T (j + 1) (to - (j + 1)))) (ne_eqb v y n);
-      order = omega arith;
-      inside = h.inside;
-    }
+-- a number stands among others if one of them is it
+pub has_any : (y : ℕ) (ks : List ℕ) → list_any (λ (v : ℕ). eqb v y) ks ≡ has y ks
+unfolding has
+has_any y [] = refl
+has_any y (k ∷ ks) = ap (λ (b : Bool). eqb k y || b) (has_any y ks)
 
 -- ---- a way that is put
 

@@ -12,6 +12,7 @@ use place_codes::{Plane, fork_code, later_word, slot_of};
 use table::{END, WORDS, word_at};
 
 // The words of place q.
+#[tactic(auto, unfolding(crate::specs::Words::put_words))]
 fn put_words(table: &mut [u16], q: usize, code: usize, first: usize, later: usize, count: usize)
     requires { Wording table.old q code first later count }
     ensures { table.new ≡ put_words table.old q (place_words code first later count) }
@@ -35,6 +36,7 @@ pub fn put_place(table: &mut [u16], b: usize, w: usize, code: usize, k: usize) -
 
 // Place b without ways in a plane, where its flags have so many values: END where it does not have
 // the plane's flags.
+#[tactic(auto, unfolding(crate::specs::Words::put_single))]
 pub fn put_single(
     table: &mut [u16],
     o: Plane,
@@ -72,14 +74,7 @@ fn among(table: &[u16], from: usize, to: usize, y: usize) -> bool
     requires { (from ≤ to) × (to ≤ length table.now) }
     ensures { result ≡ has y (span table.now from (to - from)) }
 {
-    let mut j = from;
-    while j < to {
-        if word_at(table, j) == y {
-            return true;
-        }
-        j = j + 1;
-    }
-    false
+    table[from..to].iter().any(|&word| usize::from(word) == y)
 }
 
 // Puts a way of a fork, unless it has it.

@@ -1,20 +1,16 @@
-use native.Mathlib.Omega.{arith}
-use Rattle.place_words.proofs.WayLaws.{Looked, looked_none, looked_end, looked_found, looked_more}
-use Prim.Native.Nat.{◌-◌}
-use borrow.Author.Rules.{rules}
+-- `place_words::among` meets its contract: a word is found among those of the span.
+use Rattle.std.proofs.Common.{◌≡◌, ◌-◌, ◌+◌, ◌≤◌, ◌∙◌, length, ℕ, take, drop, arith, rules, sym, ap}
+use Rattle.std.proofs.lemmas.Iterator.{YieldsList-from_slice}
+use Rattle.std.proofs.lemmas.Iterator.Search.{any_from_yields_List}
+use borrow.Author.Tests.{tests}
+use lib.Dec.{eqb}
+use Rattle.rules.specs.Basics.{has}
+use Rattle.place_words.proofs.WayLaws.{span_taken, has_any}
 use Rattle.place_words.proofs.among.Goals as goal
 
-pub loop-j-init : goal.loop-j-init
-loop-j-init c = search (rules, looked_none)
-
-pub returns-then-word_at-y : goal.returns-then-word_at-y
-returns-then-word_at-y c = search (rules, looked_found)
-
-pub overflow_add-j : goal.overflow_add-j
-overflow_add-j c = omega arith
-
-pub loop-j-preserved : goal.loop-j-preserved
-loop-j-preserved c = looked_more _ _ _ _ _ c.loop-j.invariant _ c.loop-j-test.true c.word_at.ensures c.if-word_at-y.false
-
 pub returns : goal.returns
-returns c = search (rules, looked_end)
+returns c =
+    any_from_yields_List (λ (v : ℕ). eqb v c.args.y) _ _ _ c.any.ensures.ran
+    (YieldsList-from_slice (take (c.args.to - c.args.from) (drop c.args.from c.args.table.now)) cc) (λ x b q k. search (rules, tests))
+    ∙ has_any c.args.y (take (c.args.to - c.args.from) (drop c.args.from c.args.table.now))
+    ∙ ap (has c.args.y) (sym (span_taken c.args.table.now c.args.from (c.args.to - c.args.from) (omega arith)))
