@@ -2,7 +2,7 @@
 -- take no row.
 use mathlib.Core.Path.{◌≡◌, refl, sym, ap, ◌∙◌}
 use mathlib.Core.List.{List}
-use mathlib.Core.Logic.{inl, inr}
+use mathlib.Core.Logic.{◌⊎◌, inl, inr}
 use mathlib.Core.Bool.{Bool, true, false}
 use Prim.Native.Nat.{ℕ, zero, suc, ◌+◌, ◌*◌, ◌-◌, ◌≤◌, ◌<◌}
 use native.Mathlib.Omega.{arith}
@@ -11,8 +11,8 @@ use mir.Val.{Fits as Fits-in}
 use mir.Syntax.{w64}
 use lib.ListN.{length}
 use borrow.Author.Tests.{lt-ltb, le-ltb}
-use Rattle.rules.specs.Language.{Form, star, plus, opt, exactly, at_least, at_most, between, lower, upper, InBounds, pattern, factor, primary, Tree, one, more, last, next, bare, times, letter, caret, dollar, empty, group, nullable}
-use Rattle.rules.specs.Places.{round_places, fork, place_count, unrolled, skips}
+use Rattle.rules.specs.Language.{Form, star, plus, opt, exactly, at_least, at_most, between, lower, upper, InBounds, pattern, factor, primary, Tree, one, more, last, next, bare, times, nullable}
+use Rattle.rules.specs.Places.{round_places, fork, place_count}
 use Rattle.nodes.specs.Nodes.{node_at}
 use Rattle.nodes.specs.declared.Sort.{Sort}
 use Rattle.nodes.specs.declared.Sort.TheVariants.{Letter, Anchor, Empty, Sequence, Alternation, Group}
@@ -68,11 +68,11 @@ module _ (s : List ℕ) (i : ℕ) (n : Node) (en : n ≡ node_at s i) where
   abbrev SizeIs : ℕ → Tree factor → Type 0
   SizeIs r F = place_count F ≤ 256 → r ≡ place_count (body F)
 
-  pub size-letter : (a : ℕ) → n.sort ≡ Letter a → BodySize s i 1
+  size-letter : (a : ℕ) → n.sort ≡ Letter a → BodySize s i 1
   unfolding place_count
   size-letter a e F t = as_letter s i n en (OnFactor (SizeIs 1)) a e (λ G q j h. sym (ap (λ (x : Tree primary). place_count x) j)) (one (last F)) t
 
-  pub size-anchor : (a : ℕ) → n.sort ≡ Anchor a → BodySize s i 1
+  size-anchor : (a : ℕ) → n.sort ≡ Anchor a → BodySize s i 1
   unfolding place_count
   size-anchor a e F t = as_anchor s i n en (OnFactor (SizeIs 1)) a e go (one (last F)) t
     where
@@ -80,38 +80,48 @@ module _ (s : List ℕ) (i : ℕ) (n : Node) (en : n ≡ node_at s i) where
       go G q (inl j) h = sym (ap (λ (x : Tree primary). place_count x) j.0)
       go G q (inr j) h = sym (ap (λ (x : Tree primary). place_count x) j.0)
 
-  pub size-empty : n.sort ≡ Empty → BodySize s i 0
+  size-empty : n.sort ≡ Empty → BodySize s i 0
   unfolding place_count
   size-empty e F t = as_empty s i n en (OnFactor (SizeIs 0)) e (λ G q j h. sym (ap (λ (x : Tree primary). place_count x) j)) (one (last F)) t
 
-  pub size-sequence : n.sort ≡ Sequence → BodySize s i 0
+  size-sequence : n.sort ≡ Sequence → BodySize s i 0
   size-sequence e F t = as_seq s i n en (OnFactor (SizeIs 0)) e (λ f b q. tt) (one (last F)) t
 
-  pub size-alternation : n.sort ≡ Alternation → BodySize s i 0
+  size-alternation : n.sort ≡ Alternation → BodySize s i 0
   size-alternation e F t = as_alt s i n en (OnFactor (SizeIs 0)) e (λ b p q. tt) (one (last F)) t
 
-  pub size-group : (r : ℕ) → n.sort ≡ Group → WholeSize s n.left r → BodySize s i r
+  pub size_group : (r : ℕ) → n.sort ≡ Group → WholeSize s n.left r → BodySize s i r
   unfolding place_count
-  size-group r e f F t =
+  size_group r e f F t =
       as_group s i n en (OnFactor (SizeIs r)) e
       (λ G q p g h.
       let j : place_count (body G) ≡ fork p + place_count p = ap (λ (x : Tree primary). place_count x) g.is in
       f p g.inside (omega (arith, body_less G q.bounds)) ∙ sym j)
       (one (last F)) t
 
-  pub size-inside : At s i → n.sort ≡ Group → At s n.left
-  size-inside a e = (group-left s i n en (node_at s i).height refl a e).1
+  -- the sorts that have one place, and those that have none
+  pub size_one : ((a : ℕ) × (n.sort ≡ Letter a)) ⊎ ((a : ℕ) × (n.sort ≡ Anchor a)) → BodySize s i 1
+  size_one (inl e) = size-letter e.0 e.1
+  size_one (inr e) = size-anchor e.0 e.1
+
+  pub size_none : (n.sort ≡ Empty) ⊎ ((n.sort ≡ Sequence) ⊎ (n.sort ≡ Alternation)) → BodySize s i 0
+  size_none (inl e) = size-empty e
+  size_none (inr (inl e)) = size-sequence e
+  size_none (inr (inr e)) = size-alternation e
+
+  pub size_inside : At s i → n.sort ≡ Group → At s n.left
+  size_inside a e = (group-left s i n en (node_at s i).height refl a e).1
 
   -- ---- can take no row
 
   abbrev EmptyIs : Bool → Tree factor → Type 0
   EmptyIs r F = r ≡ nullable (body F)
 
-  pub empty-letter : (a : ℕ) → n.sort ≡ Letter a → BodyEmpty s i false
+  empty-letter : (a : ℕ) → n.sort ≡ Letter a → BodyEmpty s i false
   unfolding nullable
   empty-letter a e F t = as_letter s i n en (OnFactor (EmptyIs false)) a e (λ G q j. sym (ap (λ (x : Tree primary). nullable x) j)) (one (last F)) t
 
-  pub empty-anchor : (a : ℕ) → n.sort ≡ Anchor a → BodyEmpty s i true
+  empty-anchor : (a : ℕ) → n.sort ≡ Anchor a → BodyEmpty s i true
   unfolding nullable
   empty-anchor a e F t = as_anchor s i n en (OnFactor (EmptyIs true)) a e go (one (last F)) t
     where
@@ -119,15 +129,25 @@ module _ (s : List ℕ) (i : ℕ) (n : Node) (en : n ≡ node_at s i) where
       go G q (inl j) = sym (ap (λ (x : Tree primary). nullable x) j.0)
       go G q (inr j) = sym (ap (λ (x : Tree primary). nullable x) j.0)
 
-  pub empty-empty : n.sort ≡ Empty → BodyEmpty s i true
+  empty-empty : n.sort ≡ Empty → BodyEmpty s i true
   unfolding nullable
   empty-empty e F t = as_empty s i n en (OnFactor (EmptyIs true)) e (λ G q j. sym (ap (λ (x : Tree primary). nullable x) j)) (one (last F)) t
 
-  pub empty-sequence : n.sort ≡ Sequence → BodyEmpty s i false
+  empty-sequence : n.sort ≡ Sequence → BodyEmpty s i false
   empty-sequence e F t = absurd (as_seq s i n en (OnFactor (λ G. ⊥)) e (λ f b q. tt) (one (last F)) t)
 
-  pub empty-alternation : n.sort ≡ Alternation → BodyEmpty s i false
+  empty-alternation : n.sort ≡ Alternation → BodyEmpty s i false
   empty-alternation e F t = absurd (as_alt s i n en (OnFactor (λ G. ⊥)) e (λ b p q. tt) (one (last F)) t)
+
+  -- the sorts that can take no row, and those that cannot
+  pub empty_can : ((a : ℕ) × (n.sort ≡ Anchor a)) ⊎ (n.sort ≡ Empty) → BodyEmpty s i true
+  empty_can (inl e) = empty-anchor e.0 e.1
+  empty_can (inr e) = empty-empty e
+
+  pub empty_cannot : ((a : ℕ) × (n.sort ≡ Letter a)) ⊎ ((n.sort ≡ Sequence) ⊎ (n.sort ≡ Alternation)) → BodyEmpty s i false
+  empty_cannot (inl e) = empty-letter e.0 e.1
+  empty_cannot (inr (inl e)) = empty-sequence e
+  empty_cannot (inr (inr e)) = empty-alternation e
 
   pub empty_group : (r : Bool) → n.sort ≡ Group → Nullable s n.left r → BodyEmpty s i r
   unfolding nullable

@@ -15,46 +15,37 @@ fn whole_size(room: &[u16], i: usize) -> usize
     ensures { WholeSize room.now i result }
 {
     let c = places_at(room, i);
-    let sort = sort_at(room, i);
-    if let Sort::Alternation = sort {
+    if let Sort::Alternation = sort_at(room, i) {
         return c + 1;
     }
     c
 }
 
 // The places of the body of the factor at i.
+#[tactic(auto, using(crate::proofs::SizeLaws::size_one, crate::proofs::SizeLaws::size_none, crate::proofs::SizeLaws::size_inside))]
 pub fn body_size(room: &[u16], i: usize) -> usize
     requires { At room.now i }
     ensures { BodySize room.now i result }
 {
     let n = node_at(room, i);
-    let sort = n.sort;
-    let left = n.left;
-    match sort {
-        Sort::Letter(_) => 1,
-        Sort::Anchor(_) => 1,
-        Sort::Empty => 0,
-        Sort::Sequence => 0,
-        Sort::Alternation => 0,
-        Sort::Group => whole_size(room, left),
+    match n.sort {
+        Sort::Letter(_) | Sort::Anchor(_) => 1,
+        Sort::Group => whole_size(room, n.left),
+        Sort::Empty | Sort::Sequence | Sort::Alternation => 0,
     }
 }
 
 // Whether the body of the factor at i can take no row.
+#[tactic(auto, using(crate::proofs::SizeLaws::empty_can, crate::proofs::SizeLaws::empty_cannot, crate::proofs::SizeLaws::size_inside))]
 fn body_is_empty(room: &[u16], i: usize) -> bool
     requires { At room.now i }
     ensures { BodyEmpty room.now i result }
 {
     let n = node_at(room, i);
-    let sort = n.sort;
-    let left = n.left;
-    match sort {
-        Sort::Letter(_) => false,
-        Sort::Anchor(_) => true,
-        Sort::Empty => true,
-        Sort::Sequence => false,
-        Sort::Alternation => false,
-        Sort::Group => can_be_empty(room, left),
+    match n.sort {
+        Sort::Anchor(_) | Sort::Empty => true,
+        Sort::Group => can_be_empty(room, n.left),
+        Sort::Letter(_) | Sort::Sequence | Sort::Alternation => false,
     }
 }
 
@@ -64,8 +55,5 @@ pub fn copy_has_flag(room: &[u16], i: usize, o: Plane) -> bool
     requires { At room.now i }
     ensures { BodyFlag o room.now i result }
 {
-    if o.factor <= 1 {
-        return false;
-    }
-    body_is_empty(room, i)
+    o.factor > 1 && body_is_empty(room, i)
 }

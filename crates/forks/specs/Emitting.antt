@@ -1,7 +1,7 @@
 -- What the functions that unroll a tree into a table need and promise: forks, parts of a tree, and
 -- the whole.
-use Rattle.std.specs.Prelude.{◌≡◌, Bool, true, List, [], ◌∷◌, ℕ, ◌+◌, ◌*◌, ◌-◌, ◌≤◌, ◌<◌, eqb, length, get_or}
-use Rattle.rules.specs.Basics.{pick, is_letter, every}
+use Rattle.std.specs.Prelude.{◌≡◌, Bool, true, List, [], ◌∷◌, ℕ, ◌+◌, ◌*◌, ◌-◌, ◌≤◌, ◌<◌, length, get_or, Option, Some, None}
+use Rattle.rules.specs.Basics.{is_letter, every}
 use Rattle.rules.specs.Language.{pattern, factor, Tree, one, last, letters, Written, nullable}
 use Rattle.rules.specs.Places.{Unrolled, u_star, copies, options, unrolled, unroll, Place, p_fork, ways_in_turn, size, sizes, places, fork, place_count, places_of, factor_of}
 use Rattle.rules.specs.Working.{distinct, fresh, thinned}
@@ -70,10 +70,15 @@ pub record Forking (o : Plane) (s : List ℕ) (i : ℕ) (T : List ℕ) (b w : �
 
 -- ---- a tree's places
 
--- n copies, then m times a fork and a copy, or for m = 100 a fork and a copy that leads back to it
-unfoldable pub turns : ℕ → ℕ → Bool → Unrolled → Unrolled
+-- m times a fork and a copy, or for no number a fork and a copy that leads back to it
+abbrev pub turns_on : Option ℕ → Bool → Unrolled → Unrolled
+turns_on None lazy t = u_star lazy t
+turns_on (Some m) lazy t = options m lazy t
+
+-- n copies, and these behind them
+unfoldable pub turns : ℕ → Option ℕ → Bool → Unrolled → Unrolled
 unfolding copies options
-turns n m lazy t = copies n t (pick (eqb m 100) (u_star lazy t) (options m lazy t))
+turns n m lazy t = copies n t (turns_on m lazy t)
 
 -- in a plane, numbered from b on, where k is behind them
 module _ (o : Plane) where
@@ -89,7 +94,7 @@ module _ (o : Plane) where
   body_places F b k = thinned (plane_of o (unrolled (body F)) b k)
 
   -- the turns of a factor's body
-  abbrev pub turn_places : ℕ → ℕ → Tree factor → ℕ → Behind → List Place
+  abbrev pub turn_places : ℕ → Option ℕ → Tree factor → ℕ → Behind → List Place
   turn_places n m F b k = thinned (plane_of o (turns n m (lazy_of F) (unrolled (body F))) b k)
 
 pub record Emitting (o : Plane) (s : List ℕ) (i : ℕ) (T : List ℕ) (b w : ℕ) (k : Behind) : Type 0 where
@@ -109,14 +114,13 @@ pub record Bodying (o : Plane) (s : List ℕ) (i : ℕ) (T : List ℕ) (b w : �
 
 -- c: the places of a body; lazy: the quantifier is reluctant; empty: a copy that leads back to its
 -- fork has a flag; end: the number behind the last place
-pub record Turning (o : Plane) (s : List ℕ) (i c : ℕ) (lazy empty : Bool) (n m end : ℕ) (T : List ℕ) (b w : ℕ) (k : Behind) : Type 0 where
+pub record Turning (o : Plane) (s : List ℕ) (i c : ℕ) (lazy empty : Bool) (n : ℕ) (m : Option ℕ) (end : ℕ) (T : List ℕ) (b w : ℕ) (k : Behind) : Type 0 where
   pub of : Tree factor
   pub top : Top (one (last of)) i s
   pub each : c ≡ size (unrolled (body of))
   pub reluctant : lazy ≡ lazy_of of
   pub flags : empty ≡ flags_copy o (unrolled (body of))
   pub ends : end ≡ b + size (turns n m (lazy_of of) (unrolled (body of)))
-  pub few : (n ≤ 99) × (m ≤ 100)
   pub fits : Fitting o T b w k (turn_places o n m of b k)
 
 -- r is the number of places of whatever tree has its top at i, if it has at most 256

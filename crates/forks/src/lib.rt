@@ -8,7 +8,7 @@ ghost use Rattle.place_words.specs.Words.{PutOne, Emitted};
 ghost use Rattle.forks.specs.Emitting.{Starting, Started, TwoWays, two_places, Choosing, choice, Parting, choice_places, fork_places, Forking};
 
 use nodes::{Sort, node_at, places_at};
-use place_codes::{Behind, Plane, slot_of, start_entry};
+use place_codes::{Behind, Plane};
 use place_words::{put_fork, put_place, put_way};
 use table::END;
 
@@ -41,15 +41,10 @@ fn fork_ways(
             return put_way(table, from, word, k);
         }
         let Sort::Alternation = sort else {
-            return put_way(
-                table,
-                from,
-                word,
-                start_entry(o, place, place + n.places, k),
-            );
+            return put_way(table, from, word, o.start_entry(place, place + n.places, k));
         };
         let end = place + places_at(room, left);
-        word = put_way(table, from, word, start_entry(o, place, end, k));
+        word = put_way(table, from, word, o.start_entry(place, end, k));
         place = end;
         node = right;
     }
@@ -68,7 +63,7 @@ pub fn branch_fork(
     requires { Forking o room.now i table.old b w k }
     ensures { (h : Forking o room.now i table.old b w k) → Emitted o table.old table.new b w result (fork_places o h.tree b k) }
 {
-    let q = slot_of(o, b);
+    let q = o.slot(b);
     if k.values <= o.flags {
         return put_place(table, q, w, END, 0);
     }
@@ -110,7 +105,7 @@ pub fn fork(
     requires { Parting o table.old b w lazy copy k }
     ensures { Emitted o table.old table.new b w result (choice_places o lazy copy k) }
 {
-    let q = slot_of(o, b);
+    let q = o.slot(b);
     if k.values <= o.flags {
         return put_place(table, q, w, END, 0);
     }

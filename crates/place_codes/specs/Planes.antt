@@ -1,7 +1,7 @@
 -- A plane of the table: the entries of all places for one value of their flags (R-3). Entry place
 -- times F plus flags is the place with these flags; where a place does not have so many flags, the
 -- entry is unused and holds END.
-use Rattle.std.specs.Prelude.{Bool, true, false, ℕ, ◌+◌, ◌*◌, ◌-◌, ◌≤◌, ◌<◌, eqb, ltb, leb}
+use Rattle.std.specs.Prelude.{Bool, true, false, ℕ, ◌+◌, ◌-◌, ◌≤◌, ◌<◌, eqb, ltb, leb}
 use Rattle.rules.specs.Basics.{pick}
 use Rattle.rules.specs.Places.{state_at}
 use Rattle.place_codes.specs.declared.Plane.{Plane}

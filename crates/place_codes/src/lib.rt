@@ -6,10 +6,13 @@
 
 ghost use Rattle.std.specs.Prelude.{◌≡◌, ◌+◌, ◌<◌, ◌-◌, ◌≤◌, length, get_or, eqb, leb};
 ghost use Rattle.rules.specs.Basics.{pick};
-ghost use Rattle.place_codes.specs.Codes.{fork_code, later_word, letter_code, anchor_code};
+ghost use Rattle.place_codes.specs.Codes.{fork_code, later_word, letter_code, anchor_code, turns_behind};
 ghost use Rattle.place_codes.specs.Planes.{Planed, Low, slot, state_by, start_by, round_by, start_no};
 
 use table::{CARET, DOLLAR, FORK, NEAR_FORK, TWO_WAYS, word_at};
+
+// The upper bound of an unbounded quantifier, as the nodes hold it: a word of the room is a number.
+const UNBOUNDED: usize = 100;
 
 // The flags have so many values, F, and this is one of them.
 #[derive(Clone, Copy)]
@@ -27,84 +30,83 @@ pub struct Behind {
     pub set: usize,
 }
 
-// The entry of place b.
-pub fn slot_of(o: Plane, b: usize) -> usize
-    requires { Planed o × (b ≤ 256) }
-    ensures { (result ≡ slot o b) × (result < 4096) }
-{
-    b * o.factor + o.flags
-}
-
-// What is behind a part where place b is, and the flags have so many values there.
-fn state_at(o: Plane, values: usize, b: usize) -> Behind
-    requires { Planed o × (b ≤ 256) × (1 ≤ values) × (values ≤ 8) }
-    ensures { result ≡ state_by o values b }
-{
-    let here = slot_of(o, b);
-    let set = b * o.factor + (values - 1);
-    Behind { values, here, set }
-}
-
-// Where a part begins whose places are numbered from b up to end, if k is behind it.
-pub fn start_at(o: Plane, b: usize, end: usize, k: Behind) -> Behind
-    requires { Planed o × (b ≤ 256) × Low k }
-    ensures { result ≡ start_by o b end k }
-{
-    if b == end {
-        return k;
+impl Plane {
+    // The entry of place b.
+    #[tactic(auto, unfolding(crate::specs::Planes::slot))]
+    pub fn slot(self, b: usize) -> usize
+        requires { Planed self × (b ≤ 256) }
+        ensures { (result ≡ slot self b) × (result < 4096) }
+    {
+        b * self.factor + self.flags
     }
-    state_at(o, k.values, b)
-}
 
-// The same by the entry alone, if entry k is behind it.
-pub fn start_entry(o: Plane, b: usize, end: usize, k: usize) -> usize
-    requires { Planed o × (b ≤ 256) × (k < 4096) }
-    ensures { (result ≡ start_no o b end k) × (result < 4096) }
-{
-    if b == end {
-        return k;
+    // What is behind a part where place b is, and the flags have so many values there.
+    #[tactic(auto, unfolding(crate::specs::Planes::state_by))]
+    fn state(self, values: usize, b: usize) -> Behind
+        requires { Planed self × (b ≤ 256) × (1 ≤ values) × (values ≤ 8) }
+        ensures { result ≡ state_by self values b }
+    {
+        Behind {
+            values,
+            here: self.slot(b),
+            set: b * self.factor + (values - 1),
+        }
     }
-    slot_of(o, b)
+
+    // Where a part begins whose places are numbered from b up to end, if k is behind it.
+    #[tactic(auto, unfolding(crate::specs::Planes::start_by))]
+    pub fn start(self, b: usize, end: usize, k: Behind) -> Behind
+        requires { Planed self × (b ≤ 256) × Low k }
+        ensures { result ≡ start_by self b end k }
+    {
+        if b == end {
+            return k;
+        }
+        self.state(k.values, b)
+    }
+
+    // The same by the entry alone, if entry k is behind it.
+    #[tactic(auto, unfolding(crate::specs::Planes::start_no))]
+    pub fn start_entry(self, b: usize, end: usize, k: usize) -> usize
+        requires { Planed self × (b ≤ 256) × (k < 4096) }
+        ensures { (result ≡ start_no self b end k) × (result < 4096) }
+    {
+        if b == end {
+            return k;
+        }
+        self.slot(b)
+    }
+
+    // What is behind a round of the copy at fork b, if k is behind the repetition. A round leads
+    // back to the fork; but where its body can take no row the copy has a flag, and a round in which
+    // it is not set ends the repetition.
+    #[tactic(auto, unfolding(crate::specs::Planes::round_by))]
+    pub fn round_end(self, b: usize, empty: bool, k: Behind) -> Behind
+        requires { Planed self × (b ≤ 256) × Low k }
+        ensures { result ≡ round_by self empty b k }
+    {
+        if !empty {
+            return self.state(k.values, b);
+        }
+        let fork = b * self.factor;
+        let here = if self.flags < k.values {
+            k.here
+        } else {
+            fork + (self.flags - k.values)
+        };
+        Behind {
+            values: doubled(k.values),
+            here,
+            set: fork + (k.values - 1),
+        }
+    }
 }
 
 // Twice as many values, up to 8.
 fn doubled(values: usize) -> usize
     ensures { result ≡ pick (leb values 4) (values + values) values }
 {
-    if values <= 4 {
-        return values + values;
-    }
-    values
-}
-
-// What is behind a round of the copy at fork b, if k is behind the repetition. A round leads back
-// to the fork; but where its body can take no row the copy has a flag, and a round in which it is
-// not set ends the repetition.
-pub fn round_end(o: Plane, b: usize, empty: bool, k: Behind) -> Behind
-    requires { Planed o × (b ≤ 256) × Low k }
-    ensures { result ≡ round_by o empty b k }
-{
-    let values = k.values;
-    if !empty {
-        return state_at(o, values, b);
-    }
-    let fork = b * o.factor;
-    let set = fork + (values - 1);
-    let inside = doubled(values);
-    if o.flags < values {
-        let here = k.here;
-        return Behind {
-            values: inside,
-            here,
-            set,
-        };
-    }
-    let here = fork + (o.flags - values);
-    Behind {
-        values: inside,
-        here,
-        set,
-    }
+    if values <= 4 { 2 * values } else { values }
 }
 
 // The code of a fork by its first way, the place behind it and how many ways it has. A near fork
@@ -151,13 +153,14 @@ pub fn anchor_code(c: u8) -> usize
     DOLLAR
 }
 
-// How many times a fork and a copy stand behind the copies; 100 if the quantifier is unbounded.
-pub fn turns_behind(low: usize, high: usize) -> usize
+// How many times a fork and a copy stand behind the copies; none if the quantifier is unbounded, for
+// then a fork and a copy that leads back to it stand there.
+pub fn turns_behind(low: usize, high: usize) -> Option<usize>
     requires { low ≤ high }
-    ensures { result ≡ pick (eqb high 100) 100 (high - low) }
+    ensures { result ≡ turns_behind low high }
 {
-    if high == 100 {
-        return 100;
+    if high == UNBOUNDED {
+        return None;
     }
-    high - low
+    Some(high - low)
 }

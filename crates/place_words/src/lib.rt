@@ -8,7 +8,7 @@ ghost use Rattle.rules.specs.Basics.{has};
 ghost use Rattle.table.specs.Table.{span};
 ghost use Rattle.place_words.specs.Words.{put_words, put_fork, put_single, Wording, Single, ForkNeeds, WayPut, WayNeeds, place_words};
 
-use place_codes::{Plane, fork_code, later_word, slot_of};
+use place_codes::{Plane, fork_code, later_word};
 use table::{END, WORDS, word_at};
 
 // The words of place q.
@@ -49,7 +49,7 @@ pub fn put_single(
     requires { Single table.old o b code k }
     ensures { (result ≡ w) × (table.new ≡ put_single table.old o b (place_words code k 0 0) values) }
 {
-    let q = slot_of(o, b);
+    let q = o.slot(b);
     if o.flags < values {
         return put_place(table, q, w, code, k);
     }

@@ -8,20 +8,20 @@ use Prim.Native.Nat.{ℕ, zero, suc, ◌+◌, ◌-◌, ◌*◌, ◌/◌, ◌%◌
 use native.Mathlib.Nat.{le_trans, not-suc-le-zero}
 use native.Mathlib.Omega.{arith}
 use lib.Arith.{digits_div, digits_mod}
-use lib.Dec.{eqb, ltb, leb}
+use lib.Dec.{eqb, ltb}
 use lib.ListN.{length, get_or}
-use lib.Pow.{pow_pos, pow_mono, ones_lt}
-use borrow.Author.Tests.{eq-eqb, ne_eqb, lt-ltb, le-ltb, ltb-true, ltb-false, eqb-true, eqb-false, le-leb}
+use lib.Pow.{pow_pos, pow_mono}
+use borrow.Author.Tests.{eq-eqb, ne_eqb, lt-ltb, le-ltb, ltb-true, le-leb}
 use Rattle.rules.specs.Basics.{pick}
 use Rattle.rules.specs.Language.{deeper}
-use Rattle.rules.specs.Places.{Unrolled, u_letter, u_caret, u_dollar, u_empty, u_seq, u_alt, u_opt, u_star, Branches, u_nil, u_cons, skips, nest, nests, full, state_at, size, sizes, start_of, starts_of, round_end, code, codes, ways_in_turn, Place, p_letter, p_caret, p_dollar, p_fork, p_end, Flagged, flagged, with_flags, flagged_places, places, spread}
+use Rattle.rules.specs.Places.{Unrolled, u_letter, u_caret, u_dollar, u_empty, u_seq, u_alt, u_opt, u_star, Branches, u_nil, u_cons, skips, nest, nests, full, state_at, size, start_of, starts_of, round_end, code, codes, ways_in_turn, Place, p_letter, p_caret, p_dollar, p_fork, p_end, Flagged, flagged, with_flags, flagged_places, places, spread}
 use Rattle.laws.proofs.Distinct.{thinned-append, thinned-at}
 use Rattle.laws.proofs.Level.{wider}
 use Rattle.laws.proofs.Lists.{get_d_tabulate}
 use Rattle.laws.proofs.Rank.{no_place, flagged-length, state_lt}
 use Rattle.rules.specs.Working.{thin_place, thinned}
 use Rattle.laws.proofs.SameBehind.{start_is}
-use Rattle.place_codes.specs.Planes.{slot, behind, state_by, start_by, start_no, round_by}
+use Rattle.place_codes.specs.Planes.{slot, behind, state_by, start_by, round_by}
 use Rattle.place_codes.specs.declared.Plane.{Plane}
 use Rattle.place_codes.specs.declared.Behind.{Behind}
 use Rattle.place_codes.proofs.CodeLaws.{start-entry}

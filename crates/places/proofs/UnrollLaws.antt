@@ -3,9 +3,9 @@
 -- relies on.
 use mathlib.Core.Path.{◌≡◌, refl, sym, ap, ◌∙◌}
 use mathlib.Core.Bool.{Bool, true, false}
-use mathlib.Core.List.{List, [], ◌∷◌, ◌++◌}
+use mathlib.Core.List.{List, [], ◌∷◌}
 use Prim.Native.Nat.{ℕ, zero, suc, ◌+◌, ◌*◌, ◌-◌, ◌/◌, ◌%◌, ◌^◌, ◌≤◌, ◌<◌}
-use native.Mathlib.Nat.{div-add-mod', mod-lt, div-lt_iff_lt-mul, mul-le-mul, add-zero}
+use native.Mathlib.Nat.{div-add-mod', mod-lt, div-lt_iff_lt-mul, mul-le-mul}
 use native.Mathlib.Omega.{arith}
 use mir.Val.{Fits as Fits-in}
 use mir.Syntax.{w64}
@@ -14,15 +14,14 @@ use lib.Dec.{ltb}
 use lib.Pow.{pow_pos}
 use lib.ListN.{length, get_or, length-append}
 use borrow.Author.Tests.{ltb-true, ltb-false}
-use Rattle.rules.specs.Language.{Tree, pattern, loop_nesting}
-use Rattle.rules.specs.Places.{unroll, Place, p_fork, p_end, size, nest, state_at, places, places_of, factor_of}
+use Rattle.rules.specs.Language.{Tree, pattern}
+use Rattle.rules.specs.Places.{unroll, p_fork, p_end, size, nest, places, places_of, factor_of}
 use Rattle.laws.proofs.Bounds.{Bounds, written-bounds}
 use Rattle.laws.proofs.Counting.{unroll-size, nest-counted, places-counted}
 use Rattle.laws.proofs.Distinct.{thinned-length}
 use Rattle.rules.specs.Working.{thinned}
 use Rattle.laws.proofs.ThinPlaces.{thinned-spelt}
-use Rattle.table.specs.Table.{code_at, first_at, later_at, count_at, place_at, places_from, places_in}
-use Rattle.table.specs.Sized.{Sized}
+use Rattle.table.specs.Table.{code_at, first_at, later_at, count_at, places_from, places_in}
 use Rattle.place_codes.specs.Planes.{Planed, Low, slot, behind, state_by}
 use Rattle.place_codes.specs.declared.Plane.{Plane}
 use Rattle.place_codes.specs.declared.Behind.{Behind}

@@ -9,7 +9,7 @@ ghost use Rattle.forks.specs.Emitting.{Unrolling, PlacesTabled};
 ghost use Rattle.places.specs.Flat.{Flat, plane_places};
 ghost use Rattle.std.specs.Prelude.{◌*◌};
 
-use place_codes::{Behind, Plane, slot_of};
+use place_codes::{Behind, Plane};
 use place_words::put_place;
 use table::{END, WORDS};
 use unrolling::emit;
@@ -28,7 +28,7 @@ fn unroll_plane(
     ensures { (h : Flat o room.now top places table.old w) → Emitted o table.old table.new 0 w result (plane_places o h.tree places) }
 {
     let last = places - 1;
-    let here = slot_of(o, last);
+    let here = o.slot(last);
     let set = last * o.factor;
     let k = Behind {
         values: 1,
@@ -47,11 +47,9 @@ pub fn unroll(room: &[u16], top: usize, places: usize, factor: usize, table: &mu
     ensures { (h : Unrolling room.now top places factor table.old) → PlacesTabled h.tree (places * factor) table.old table.new result }
 {
     let mut way = WORDS * (places * factor);
-    let mut flags = 0usize;
-    while flags < factor {
+    for flags in 0..factor {
         let o = Plane { factor, flags };
         way = unroll_plane(room, top, places, o, table, way);
-        flags = flags + 1;
     }
     way
 }

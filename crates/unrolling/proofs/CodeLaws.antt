@@ -3,11 +3,12 @@
 use mathlib.Core.Path.{◌≡◌, refl, sym, ap, ◌∙◌}
 use mathlib.Core.Bool.{Bool, true, false}
 use mathlib.Core.List.{List, [], ◌∷◌, ◌++◌, append-nil}
-use Prim.Native.Nat.{ℕ, suc, ◌+◌, ◌-◌, ◌≤◌, ◌<◌}
+use Prim.Native.Nat.{ℕ, suc, ◌+◌, ◌-◌, ◌≤◌}
 use native.Mathlib.Omega.{arith}
-use lib.Dec.{eqb, ltb}
+use lib.Dec.{ltb}
 use lib.ListN.{length, length-append}
 use borrow.Author.Tests.{ne_eqb}
+use Rattle.std.specs.Prelude.{Option, Some, None}
 use Rattle.rules.specs.Basics.{pick}
 use Rattle.rules.specs.Language.{Form, star, plus, opt, exactly, at_least, at_most, between, lower, upper, InBounds, pattern, branch, factor, Tree, one, more, last, next, bare, times}
 use Rattle.rules.specs.Places.{Unrolled, u_letter, u_caret, u_dollar, u_empty, u_seq, u_alt, u_opt, u_star, Branches, u_nil, u_cons, copies, options, behind, repeated, forked, unrolled, unroll, Place, p_fork, p_end, ways_in_turn, size, sizes, fork, place_count}
@@ -17,12 +18,13 @@ use Rattle.rules.specs.Working.{distinct, thin_place, thinned}
 use Rattle.marks.specs.Shows.{highest, high_of}
 use Rattle.trees.specs.Held.{body, lower_of, highest_of, lazy_of}
 use Rattle.trees.proofs.ByNode.{Bounded}
+use Rattle.place_codes.specs.Codes.{turns_behind}
 use Rattle.place_codes.specs.Planes.{start_by, round_by}
 use Rattle.place_codes.proofs.CodeLaws.{start-end}
 use Rattle.place_codes.specs.declared.Plane.{Plane}
 use Rattle.place_codes.specs.declared.Behind.{Behind}
 use Rattle.forks.specs.PlaneCode.{used, flags_copy, starts_in, plane_of, planes_of}
-use Rattle.forks.specs.Emitting.{choice_places, fork_places, tree_places, branch_places, body_places, turns, turn_places}
+use Rattle.forks.specs.Emitting.{choice_places, fork_places, tree_places, branch_places, body_places, turns_on, turns, turn_places}
 
 -- ---- parts of an unrolled pattern
 
@@ -79,13 +81,13 @@ module _ (o : Plane) where
       ∙ ap (λ (v : Behind). used o K (p_fork (distinct (ways_in_turn z k0.here K.here))) ∷ thinned (plane_of o t (suc B) v)) (sym er)
       ∙ ap (λ (v : ℕ). used o K (p_fork (distinct (ways_in_turn z k0.here K.here))) ∷ thinned (plane_of o t v R)) b1
 
-turns-star : (z : Bool) (t : Unrolled) → turns 0 100 z t ≡ u_star z t
+turns-star : (z : Bool) (t : Unrolled) → turns 0 None z t ≡ u_star z t
 unfolding turns copies
 turns-star z t = refl
 
-turns-options : (m : ℕ) (z : Bool) (t : Unrolled) → m < 100 → turns 0 m z t ≡ options m z t
+turns-options : (m : ℕ) (z : Bool) (t : Unrolled) → turns 0 (Some m) z t ≡ options m z t
 unfolding turns copies
-turns-options m z t h = ap (λ (b : Bool). pick b (u_star z t) (options m z t)) (ne_eqb m 100 (λ e. omega arith))
+turns-options m z t = refl
 
 options-suc : (m : ℕ) (z : Bool) (t : Unrolled) → options (suc m) z t ≡ u_opt z (u_seq t (options m z t))
 unfolding options
@@ -96,28 +98,26 @@ unfolding size
 opt-size z t = refl
 
 module _ (o : Plane) where
-  star-code : (z : Bool) (t : Unrolled) (B : ℕ) (K : Behind) (e : ℕ) (R k0 : Behind) → e ≡ B + size (turns 0 100 z t) → R ≡ round_by o (flags_copy o t) B K → k0 ≡ start_by o (B + 1) e R
-      → thinned (plane_of o (turns 0 100 z t) B K) ≡ choice_places o z k0.here K ++ thinned (plane_of o t (B + 1) R)
+  star-code : (z : Bool) (t : Unrolled) (B : ℕ) (K : Behind) (e : ℕ) (R k0 : Behind) → e ≡ B + size (turns 0 None z t) → R ≡ round_by o (flags_copy o t) B K → k0 ≡ start_by o (B + 1) e R
+      → thinned (plane_of o (turns 0 None z t) B K) ≡ choice_places o z k0.here K ++ thinned (plane_of o t (B + 1) R)
   star-code z t B K e R k0 ee er e0 =
       ap (λ (x : Unrolled). thinned (plane_of o x B K)) (turns-star z t) ∙ star-part o z t B K e R k0 (ee ∙ ap (λ (x : Unrolled). B + size x) (turns-star z t)) er e0
 
-  option_code : (z : Bool) (t : Unrolled) (m B : ℕ) (K : Behind) (c e : ℕ) (k0 k : Behind) → m < 99 → c ≡ size t → e ≡ B + size (turns 0 (suc m) z t) → k0 ≡ start_by o (B + 1) e K
+  option_code : (z : Bool) (t : Unrolled) (m B : ℕ) (K : Behind) (c e : ℕ) (k0 k : Behind) → c ≡ size t → e ≡ B + size (turns 0 (Some (suc m)) z t) → k0 ≡ start_by o (B + 1) e K
       → k ≡ start_by o (B + 1 + c) e K
-      → thinned (plane_of o (turns 0 (suc m) z t) B K) ≡ choice_places o z k0.here K ++ (thinned (plane_of o t (B + 1) k) ++ thinned (plane_of o (turns 0 m z t) (B + 1 + c) K))
-  option_code z t m B K c e k0 k h ec ee e0 ek =
-      let q : turns 0 (suc m) z t ≡ u_opt z (u_seq t (options m z t)) = turns-options (suc m) z t (omega arith) ∙ options-suc m z t in
+      → thinned (plane_of o (turns 0 (Some (suc m)) z t) B K) ≡ choice_places o z k0.here K ++ (thinned (plane_of o t (B + 1) k) ++ thinned (plane_of o (turns 0 (Some m) z t) (B + 1 + c) K))
+  option_code z t m B K c e k0 k ec ee e0 ek =
+      let q : turns 0 (Some (suc m)) z t ≡ u_opt z (u_seq t (options m z t)) = turns-options (suc m) z t ∙ options-suc m z t in
       let e2 : e ≡ B + size (u_opt z (u_seq t (options m z t))) = ee ∙ ap (λ (x : Unrolled). B + size x) q in
       let e3 : e ≡ B + 1 + size (u_seq t (options m z t)) = omega (arith, e2, opt-size z (u_seq t (options m z t))) in
       ap (λ (x : Unrolled). thinned (plane_of o x B K)) q
       ∙ opt-code o z (u_seq t (options m z t)) B K e k0 e2 e0
       ∙ ap (λ (xs : List Place). choice_places o z k0.here K ++ xs) (seq-code o t (options m z t) (B + 1) K c e k ec e3 ek)
       ∙ ap (λ (x : Unrolled). choice_places o z k0.here K ++ (thinned (plane_of o t (B + 1) k) ++ thinned (plane_of o x (B + 1 + c) K)))
-      (sym (turns-options m z t (omega arith)))
+      (sym (turns-options m z t))
 
-some-turns : (h l : ℕ) (z : Bool) (t : Unrolled) (m : ℕ) → h ≤ 99 → m ≡ pick (eqb h 100) 100 (h - l) → pick (eqb m 100) (u_star z t) (options m z t) ≡ options (h - l) z t
-some-turns h l z t m i e =
-    let q : m ≡ h - l = e ∙ ap (λ (b : Bool). pick b 100 (h - l)) (ne_eqb h 100 (λ u. omega arith)) in
-    rw q (ap (λ (b : Bool). pick b (u_star z t) (options (h - l) z t)) (ne_eqb (h - l) 100 (λ u. omega arith)))
+some-turns : (h l : ℕ) (z : Bool) (t : Unrolled) (m : Option ℕ) → h ≤ 99 → m ≡ turns_behind l h → turns_on m z t ≡ options (h - l) z t
+some-turns h l z t m i e = rw (e, ne_eqb h 100 (λ u. omega arith)) refl
 
 last-count : (F : Tree factor) → 0 + place_count (one (last F)) ≡ place_count F
 unfolding place_count
@@ -156,7 +156,7 @@ module _ (o : Plane) where
   pub body-length : (F : Tree factor) (b : ℕ) (k : Behind) → length (body_places o F b k) ≡ place_count (body F)
   body-length F b k = thinned-length (plane_of o (unrolled (body F)) b k) ∙ plane-length o (unrolled (body F)) b k ∙ unrolled-size (body F)
 
-  pub turn_length : (n m : ℕ) (F : Tree factor) (b : ℕ) (k : Behind) → length (turn_places o n m F b k) ≡ size (turns n m (lazy_of F) (unrolled (body F)))
+  pub turn_length : (n : ℕ) (m : Option ℕ) (F : Tree factor) (b : ℕ) (k : Behind) → length (turn_places o n m F b k) ≡ size (turns n m (lazy_of F) (unrolled (body F)))
   turn_length n m F b k = thinned-length (plane_of o (turns n m (lazy_of F) (unrolled (body F))) b k) ∙ plane-length o (turns n m (lazy_of F) (unrolled (body F))) b k
 
   -- ---- a sequence
@@ -194,9 +194,8 @@ module _ (o : Plane) where
 
 -- ---- a factor
 
--- the turns behind the copies: 100 for an unbounded quantifier, else how many
-turn_behind : (f : Form) (z : Bool) (t : Unrolled) (m : ℕ) → InBounds f → m ≡ pick (eqb (high_of f) 100) 100 (high_of f - lower f)
-    → pick (eqb m 100) (u_star z t) (options m z t) ≡ behind (upper f) (lower f) z t
+-- the turns behind the copies: how many, or none for an unbounded quantifier
+turn_behind : (f : Form) (z : Bool) (t : Unrolled) (m : Option ℕ) → InBounds f → m ≡ turns_behind (lower f) (high_of f) → turns_on m z t ≡ behind (upper f) (lower f) z t
 unfolding behind high_of highest upper lower InBounds
 turn_behind star z t m i e = rw e refl
 turn_behind plus z t m i e = rw e refl
@@ -207,13 +206,13 @@ turn_behind (at_most n) z t m i e = some-turns n 0 z t m i.1 e
 turn_behind (between l n) z t m i e = some-turns n l z t m i.2 e
 
 module _ (o : Plane) where
-  pub factor-places : (F : Tree factor) (B : ℕ) (K : Behind) (n m : ℕ) → Bounded F → n ≡ lower_of F → m ≡ pick (eqb (highest_of F) 100) 100 (highest_of F - lower_of F)
+  pub factor-places : (F : Tree factor) (B : ℕ) (K : Behind) (n : ℕ) (m : Option ℕ) → Bounded F → n ≡ lower_of F → m ≡ turns_behind (lower_of F) (highest_of F)
       → tree_places o (one (last F)) B K ≡ turn_places o n m F B K
   unfolding unroll unrolled forked turns repeated
   factor-places (bare x) B K n m i en em = rw (en, em) (bare-code o (unrolled x) B K)
   factor-places (times x f z) B K n m i en em = rw en (ap (λ (r : Unrolled). thinned (plane_of o (copies (lower f) (unrolled x) r) B K)) (sym (turn_behind f z (unrolled x) m i em)))
 
-  pub factor-size : (F : Tree factor) (B : ℕ) (K : Behind) (n m : ℕ) → Bounded F → n ≡ lower_of F → m ≡ pick (eqb (highest_of F) 100) 100 (highest_of F - lower_of F)
+  pub factor-size : (F : Tree factor) (B : ℕ) (K : Behind) (n : ℕ) (m : Option ℕ) → Bounded F → n ≡ lower_of F → m ≡ turns_behind (lower_of F) (highest_of F)
       → size (turns n m (lazy_of F) (unrolled (body F))) ≡ place_count F
   unfolding fork
   factor-size F B K n m i en em =
@@ -223,21 +222,21 @@ module _ (o : Plane) where
 -- ---- turns
 
 module _ (o : Plane) (F : Tree factor) (c B : ℕ) (K : Behind) (e : ℕ) (ec : c ≡ size (unrolled (body F))) where
-  pub turn_copy : (n n2 m : ℕ) (k : Behind) → n ≡ suc n2 → e ≡ B + size (turns n m (lazy_of F) (unrolled (body F))) → k ≡ start_by o (B + c) e K
+  pub turn_copy : (n n2 : ℕ) (m : Option ℕ) (k : Behind) → n ≡ suc n2 → e ≡ B + size (turns n m (lazy_of F) (unrolled (body F))) → k ≡ start_by o (B + c) e K
       → turn_places o n m F B K ≡ body_places o F B k ++ turn_places o n2 m F (B + c) K
   unfolding turns copies
   turn_copy n n2 m k en ee ek = rw en (seq-code o (unrolled (body F)) (turns n2 m (lazy_of F) (unrolled (body F))) B K c e k ec
       (ee ∙ ap (λ (x : ℕ). B + size (turns x m (lazy_of F) (unrolled (body F)))) en) ek)
 
-  pub turn_none : turn_places o 0 0 F B K ≡ []
+  pub turn_none : turn_places o 0 (Some 0) F B K ≡ []
   unfolding turns copies options plane_of thinned
   turn_none = refl
 
-  pub turn_option : (m : ℕ) (k0 k : Behind) → m < 99 → e ≡ B + size (turns 0 (suc m) (lazy_of F) (unrolled (body F))) → k0 ≡ start_by o (B + 1) e K
+  pub turn_option : (m : ℕ) (k0 k : Behind) → e ≡ B + size (turns 0 (Some (suc m)) (lazy_of F) (unrolled (body F))) → k0 ≡ start_by o (B + 1) e K
       → k ≡ start_by o (B + 1 + c) e K
-      → turn_places o 0 (suc m) F B K ≡ choice_places o (lazy_of F) k0.here K ++ (body_places o F (B + 1) k ++ turn_places o 0 m F (B + 1 + c) K)
-  turn_option m k0 k h ee e0 ek = option_code o (lazy_of F) (unrolled (body F)) m B K c e k0 k h ec ee e0 ek
+      → turn_places o 0 (Some (suc m)) F B K ≡ choice_places o (lazy_of F) k0.here K ++ (body_places o F (B + 1) k ++ turn_places o 0 (Some m) F (B + 1 + c) K)
+  turn_option m k0 k ee e0 ek = option_code o (lazy_of F) (unrolled (body F)) m B K c e k0 k ec ee e0 ek
 
-  pub turn_star : (R k0 : Behind) → e ≡ B + size (turns 0 100 (lazy_of F) (unrolled (body F))) → R ≡ round_by o (flags_copy o (unrolled (body F))) B K → k0 ≡ start_by o (B + 1) e R
-      → turn_places o 0 100 F B K ≡ choice_places o (lazy_of F) k0.here K ++ body_places o F (B + 1) R
+  pub turn_star : (R k0 : Behind) → e ≡ B + size (turns 0 None (lazy_of F) (unrolled (body F))) → R ≡ round_by o (flags_copy o (unrolled (body F))) B K → k0 ≡ start_by o (B + 1) e R
+      → turn_places o 0 None F B K ≡ choice_places o (lazy_of F) k0.here K ++ body_places o F (B + 1) R
   turn_star R k0 ee er e0 = star-code o (lazy_of F) (unrolled (body F)) B K e R k0 ee er e0

@@ -5,12 +5,13 @@ use mathlib.Core.Path.{◌≡◌, refl, sym, ap, ◌∙◌, subst}
 use mathlib.Core.Bool.{Bool, true, false}
 use mathlib.Core.List.{List, [], ◌∷◌, ◌++◌}
 use mathlib.Core.Logic.{inl, inr}
-use Prim.Native.Nat.{ℕ, suc, ◌+◌, ◌*◌, ◌-◌, ◌≤◌, ◌<◌, min}
+use Prim.Native.Nat.{ℕ, suc, ◌+◌, ◌*◌, ◌≤◌, ◌<◌, min}
 use native.Mathlib.Omega.{arith}
 use mir.Val.{Fits as Fits-in}
 use mir.Syntax.{w64}
-use lib.Dec.{eqb, ltb}
+use lib.Dec.{ltb}
 use lib.ListN.{length, length-append}
+use Rattle.std.specs.Prelude.{Option, Some, None}
 use Rattle.rules.specs.Basics.{pick}
 use Rattle.rules.specs.Language.{pattern, branch, factor, primary, Tree, one, more, last, next, letter, empty}
 use Rattle.rules.specs.Places.{unrolled, unroll, Place, p_letter, p_caret, p_dollar, p_end, size, sizes, fork, place_count}
@@ -23,7 +24,7 @@ use Rattle.nodes.specs.declared.Node.{Node}
 use Rattle.trees.specs.Held.{body, lower_of, highest_of, lazy_of, Top, At}
 use Rattle.trees.proofs.ByNode.{IsAnchor, FactorAt, GroupAt, as_any, as_seq, as_alt, as_letter, as_anchor, as_empty, as_group, at_in, seq-left, seq-right, alt_left, alt_right, group-left, top_places}
 use Rattle.place_words.specs.Words.{put_words, put_single, put_place, way_count, Fitting, Emitted, Single, place_words}
-use Rattle.place_codes.specs.Codes.{letter_code, anchor_code}
+use Rattle.place_codes.specs.Codes.{letter_code, anchor_code, turns_behind}
 use Rattle.place_codes.specs.Planes.{Planed, Low, slot, start_by, round_by}
 use Rattle.place_codes.specs.declared.Plane.{Plane}
 use Rattle.place_codes.specs.declared.Behind.{Behind}
@@ -66,8 +67,8 @@ emit_m s i = 400 * (node_at s i).height + 300 + alt_bit (node_at s i).sort
 unfoldable pub branch_m : List ℕ → ℕ → ℕ
 branch_m s i = 400 * (node_at s i).height + 301
 
-unfoldable pub round_m : List ℕ → ℕ → ℕ → ℕ → ℕ
-round_m s i n m = 400 * (node_at s i).height + 1 + n + m
+unfoldable pub round_m : List ℕ → ℕ → ℕ
+round_m s i = 400 * (node_at s i).height + 1
 
 unfoldable pub body_m : List ℕ → ℕ → ℕ
 body_m s i = 400 * (node_at s i).height
@@ -274,16 +275,15 @@ module _ (o : Plane) (s : List ℕ) (i : ℕ) (n : Node) (en : n ≡ node_at s i
     pub turn_order : Emitting o s i T b w k → n.low ≤ n.high
     turn_order h = let F = factor-of h.tree h.top in F.seen.order.in_order
 
-    module _ (c : ℕ) (hc : BodySize s i c) (empty : Bool) (he : BodyFlag o s i empty) (m : ℕ) (em : m ≡ pick (eqb n.high 100) 100 (n.high - n.low)) (h : Emitting o s i T b w k) where
+    module _ (c : ℕ) (hc : BodySize s i c) (empty : Bool) (he : BodyFlag o s i empty) (m : Option ℕ) (em : m ≡ turns_behind n.low n.high) (h : Emitting o s i T b w k) where
       F : FactorOf h.tree
       F = factor-of h.tree h.top
 
       factor-top : Top (one (last F.of)) i s
       factor-top = subst (λ (p : Tree pattern). Top p i s) F.is h.top
 
-      more-is : m ≡ pick (eqb (highest_of F.of) 100) 100 (highest_of F.of - lower_of F.of)
-      more-is = em ∙ ap (λ (v : ℕ). pick (eqb v 100) 100 (v - n.low)) F.seen.high ∙ ap (λ (v : ℕ). pick (eqb (highest_of F.of) 100) 100 (highest_of F.of - v))
-          F.seen.low
+      more-is : m ≡ turns_behind (lower_of F.of) (highest_of F.of)
+      more-is = em ∙ ap (λ (v : ℕ). turns_behind v n.high) F.seen.low ∙ ap (turns_behind (lower_of F.of)) F.seen.high
 
       same-places : tree_places o h.tree b k ≡ turn_places o n.low m F.of b k
       same-places = ap (λ (p : Tree pattern). tree_places o p b k) F.is ∙ factor-places o F.of b k n.low m F.seen.bounds F.seen.low more-is
@@ -295,13 +295,6 @@ module _ (o : Plane) (s : List ℕ) (i : ℕ) (n : Node) (en : n ≡ node_at s i
           let z : place_count h.tree ≡ place_count F.of = ap (λ (p : Tree pattern). place_count p) F.is in
           (x.0 ∙ z, omega (arith, x.1))
 
-      more-small : m ≤ 100
-      more-small = rw em (low (eqb n.high 100))
-        where
-          low : (t : Bool) → pick t 100 (n.high - n.low) ≤ 100
-          low true = omega arith
-          low false = omega (arith, F.seen.order.high_small)
-
       turning : Turning o s i c n.lazy empty n.low m (b + n.places) T b w k
       turning =
           let z : size (unrolled (body F.of)) ≡ place_count (body F.of) = unrolled-size (body F.of) in
@@ -312,13 +305,12 @@ module _ (o : Plane) (s : List ℕ) (i : ℕ) (n : Node) (en : n ≡ node_at s i
             reluctant = F.seen.lazy;
             flags = he F.of factor-top;
             ends = ap (λ (v : ℕ). b + v) (factor-count.0 ∙ sym (factor-size o F.of b k n.low m F.seen.bounds F.seen.low more-is));
-            few = (F.seen.order.low_small, more-small);
             fits = subst (Fitting o T b w k) same-places h.fits;
           }
 
-      pub turn_first : (u : ℕ) → emit_m s i ≡ u → (round_m s i n.low m < u) × Turning o s i c n.lazy empty n.low m (b + n.places) T b w k
+      pub turn_first : (u : ℕ) → emit_m s i ≡ u → (round_m s i < u) × Turning o s i c n.lazy empty n.low m (b + n.places) T b w k
       unfolding emit_m round_m
-      turn_first u eu = (omega (arith, F.seen.order.low_small, more-small), turning)
+      turn_first u eu = (omega arith, turning)
 
       pub turn_done : (T2 : List ℕ) (q : ℕ) → ((g : Turning o s i c n.lazy empty n.low m (b + n.places) T b w k)
           → Emitted o T T2 b w q (turn_places o n.low m g.of b k)) → Emitted o T T2 b w q (tree_places o h.tree b k)
@@ -441,38 +433,35 @@ module _ (o : Plane) (s : List ℕ) (i : ℕ) (n : Node) (en : n ≡ node_at s i
 
 -- ---- rounds
 
-module _ (o : Plane) (s : List ℕ) (i c : ℕ) (lazy empty : Bool) (n m end : ℕ) (T : List ℕ) (b w : ℕ) (k : Behind) where
+module _ (o : Plane) (s : List ℕ) (i c : ℕ) (lazy empty : Bool) (n : ℕ) (m : Option ℕ) (end : ℕ) (T : List ℕ) (b w : ℕ) (k : Behind) where
   -- a body's places
   body-places : (h : Turning o s i c lazy empty n m end T b w k) (v : ℕ) (j : Behind) → length (body_places o h.of v j) ≡ c
   body-places h v j = let z : size (unrolled (body h.of)) ≡ place_count (body h.of) = unrolled-size (body h.of) in body-length o h.of v j ∙ sym z ∙ sym h.each
 
   -- a copy
-  module _ (pos : 0 < n) where
-    suc-pred : n ≡ suc (n - 1)
-    suc-pred = omega arith
-
+  module _ (n2 : ℕ) (en : n ≡ suc n2) where
     module _ (nx : Behind) (ex : nx ≡ start_by o (b + c) end k) (h : Turning o s i c lazy empty n m end T b w k) where
-      copy-split : turn_places o n m h.of b k ≡ body_places o h.of b nx ++ turn_places o (n - 1) m h.of (b + c) k
-      copy-split = turn_copy o h.of c b k end h.each n (n - 1) m nx suc-pred h.ends ex
+      copy-split : turn_places o n m h.of b k ≡ body_places o h.of b nx ++ turn_places o n2 m h.of (b + c) k
+      copy-split = turn_copy o h.of c b k end h.each n n2 m nx en h.ends ex
 
       copy-long : b + c ≡ b + length (body_places o h.of b nx)
       copy-long = ap (λ (v : ℕ). b + v) (sym (body-places h b nx))
 
       copy-low : b + c ≤ 256
-      copy-low = let f : Fitting o T b w k (body_places o h.of b nx ++ turn_places o (n - 1) m h.of (b + c) k) = subst (Fitting o T b w k) copy-split h.fits in
-          let g = fit-left o T b w k (body_places o h.of b nx) (turn_places o (n - 1) m h.of (b + c) k) k h.fits.behind f in omega (arith, g.place, copy-long)
+      copy-low = let f : Fitting o T b w k (body_places o h.of b nx ++ turn_places o n2 m h.of (b + c) k) = subst (Fitting o T b w k) copy-split h.fits in
+          let g = fit-left o T b w k (body_places o h.of b nx) (turn_places o n2 m h.of (b + c) k) k h.fits.behind f in omega (arith, g.place, copy-long)
 
       copy-bodying : Bodying o s i T b w nx
       copy-bodying =
           record {
             of = h.of;
             top = h.top;
-            fits = part_left o T b w k (turn_places o n m h.of b k) (body_places o h.of b nx) (λ v. turn_places o (n - 1) m h.of v k) (b + c) copy-split
+            fits = part_left o T b w k (turn_places o n m h.of b k) (body_places o h.of b nx) (λ v. turn_places o n2 m h.of v k) (b + c) copy-split
                 copy-long
                 nx (rw ex (start-low o (b + c) end k h.fits.planed copy-low h.fits.behind)) h.fits;
           }
 
-      pub copy-first : (u : ℕ) → round_m s i n m ≡ u → (body_m s i < u) × Bodying o s i T b w nx
+      pub copy-first : (u : ℕ) → round_m s i ≡ u → (body_m s i < u) × Bodying o s i T b w nx
       unfolding round_m body_m
       copy-first u eu = (omega arith, copy-bodying)
 
@@ -481,13 +470,13 @@ module _ (o : Plane) (s : List ℕ) (i c : ℕ) (lazy empty : Bool) (n m end : �
         unfolding copy-bodying
         copy-put = d copy-bodying
 
-        copy-turning : Turning o s i c lazy empty (n - 1) m end T1 (b + c) r k
+        pub copy-turning : Turning o s i c lazy empty n2 m end T1 (b + c) r k
         copy-turning =
-            let f = part_right o T b w k (turn_places o n m h.of b k) (body_places o h.of b nx) (λ v. turn_places o (n - 1) m h.of v k) (b + c)
+            let f = part_right o T b w k (turn_places o n m h.of b k) (body_places o h.of b nx) (λ v. turn_places o n2 m h.of v k) (b + c)
             copy-split copy-long T1 r copy-put h.fits in
             let l1 = turn_length o n m h.of b k in
-            let l2 = turn_length o (n - 1) m h.of (b + c) k in
-            let l3 : length (turn_places o n m h.of b k) ≡ length (body_places o h.of b nx) + length (turn_places o (n - 1) m h.of (b + c) k) = ap
+            let l2 = turn_length o n2 m h.of (b + c) k in
+            let l3 : length (turn_places o n m h.of b k) ≡ length (body_places o h.of b nx) + length (turn_places o n2 m h.of (b + c) k) = ap
             length copy-split ∙ length-append (body_places o h.of b nx) _ in
             record {
               of = h.of;
@@ -496,19 +485,14 @@ module _ (o : Plane) (s : List ℕ) (i c : ℕ) (lazy empty : Bool) (n m end : �
               reluctant = h.reluctant;
               flags = h.flags;
               ends = omega (arith, h.ends, body-places h b nx);
-              few = (omega (arith, h.few.0), h.few.1);
               fits = f;
             }
 
-        pub copy-again : (u : ℕ) → round_m s i n m ≡ u → (round_m s i (n - 1) m < u) × Turning o s i c lazy empty (n - 1) m end T1 (b + c) r k
-        unfolding round_m
-        copy-again u eu = (omega arith, copy-turning)
-
-        pub copy_done : (T2 : List ℕ) (q : ℕ) → ((g : Turning o s i c lazy empty (n - 1) m end T1 (b + c) r k) → Emitted o T1 T2 (b + c) r q (turn_places o (n - 1) m g.of (b + c) k))
+        pub copy_done : (T2 : List ℕ) (q : ℕ) → ((g : Turning o s i c lazy empty n2 m end T1 (b + c) r k) → Emitted o T1 T2 (b + c) r q (turn_places o n2 m g.of (b + c) k))
             → Emitted o T T2 b w q (turn_places o n m h.of b k)
         unfolding copy-turning
         copy_done T2 q g =
-            part-both o T b w k (turn_places o n m h.of b k) (body_places o h.of b nx) (λ v. turn_places o (n - 1) m h.of v k) (b + c) copy-split
+            part-both o T b w k (turn_places o n m h.of b k) (body_places o h.of b nx) (λ v. turn_places o n2 m h.of v k) (b + c) copy-split
             copy-long T1 r copy-put T2 q (g copy-turning)
 
     pub copy-fits : Turning o s i c lazy empty n m end T b w k → Fits-in w64 (b + c)
@@ -518,10 +502,10 @@ module _ (o : Plane) (s : List ℕ) (i c : ℕ) (lazy empty : Bool) (n m end : �
     copy_start h = (h.fits.planed, copy-low _ refl h, h.fits.behind)
 
   -- nothing is left
-  pub none_done : n ≤ 0 → m ≡ 0 → (h : Turning o s i c lazy empty n m end T b w k) → Emitted o T T b w w (turn_places o n m h.of b k)
+  pub none_done : n ≤ 0 → m ≡ Some 0 → (h : Turning o s i c lazy empty n m end T b w k) → Emitted o T T b w w (turn_places o n m h.of b k)
   none_done l e h =
       let z : n ≡ 0 = omega arith in
-      subst (Emitted o T T b w w) (sym (ap (λ (v : ℕ). turn_places o v m h.of b k) z ∙ ap (λ (v : ℕ). turn_places o 0 v h.of b k) e
+      subst (Emitted o T T b w w) (sym (ap (λ (v : ℕ). turn_places o v m h.of b k) z ∙ ap (λ (v : Option ℕ). turn_places o 0 v h.of b k) e
       ∙ turn_none o h.of c b k end h.each)) (emitted_none o T b w)
 
   -- the place behind a fork
@@ -551,14 +535,14 @@ module _ (o : Plane) (s : List ℕ) (i c : ℕ) (lazy empty : Bool) (n m end : �
   fork-low z co ys f = omega (arith, f.place, length-append (choice_places o z co k) ys)
 
   -- a fork and a copy that leads back to it
-  module _ (l : n ≤ 0) (e : m ≡ 100) where
-    all_star : (h : Turning o s i c lazy empty n m end T b w k) → turn_places o n m h.of b k ≡ turn_places o 0 100 h.of b k
-    all_star h = ap (λ (v : ℕ). turn_places o v m h.of b k) (let z : n ≡ 0 = omega arith in z) ∙ ap (λ (v : ℕ). turn_places o 0 v h.of b k) e
+  module _ (l : n ≤ 0) (e : m ≡ None) where
+    all_star : (h : Turning o s i c lazy empty n m end T b w k) → turn_places o n m h.of b k ≡ turn_places o 0 None h.of b k
+    all_star h = ap (λ (v : ℕ). turn_places o v m h.of b k) (let z : n ≡ 0 = omega arith in z) ∙ ap (λ (v : Option ℕ). turn_places o 0 v h.of b k) e
 
-    star-ends : (h : Turning o s i c lazy empty n m end T b w k) → end ≡ b + size (turns 0 100 (lazy_of h.of) (unrolled (body h.of)))
+    star-ends : (h : Turning o s i c lazy empty n m end T b w k) → end ≡ b + size (turns 0 None (lazy_of h.of) (unrolled (body h.of)))
     star-ends h =
         h.ends ∙ ap (λ (v : ℕ). b + size (turns v m (lazy_of h.of) (unrolled (body h.of)))) (let z : n ≡ 0 = omega arith in z)
-        ∙ ap (λ (v : ℕ). b + size (turns 0 v (lazy_of h.of) (unrolled (body h.of)))) e
+        ∙ ap (λ (v : Option ℕ). b + size (turns 0 v (lazy_of h.of) (unrolled (body h.of)))) e
 
     module _ (R : Behind) (er : R ≡ round_by o empty b k) (cp : Behind) (ec : cp ≡ start_by o (b + 1) end R) (h : Turning o s i c lazy empty n m end T b w k) where
       round_is : R ≡ round_by o (flags_copy o (unrolled (body h.of))) b k
@@ -592,7 +576,7 @@ module _ (o : Plane) (s : List ℕ) (i c : ℕ) (lazy empty : Bool) (n m end : �
               fits = record { planed = f.planed; long = f.long; small = f.small; place = f.place; way = f.way; behind = round_fits };
             }
 
-        pub star-body : (u : ℕ) → round_m s i n m ≡ u → (body_m s i < u) × Bodying o s i T1 (b + 1) r R
+        pub star-body : (u : ℕ) → round_m s i ≡ u → (body_m s i < u) × Bodying o s i T1 (b + 1) r R
         unfolding round_m body_m
         star-body u eu = (omega arith, star-bodying)
 
@@ -611,42 +595,39 @@ module _ (o : Plane) (s : List ℕ) (i c : ℕ) (lazy empty : Bool) (n m end : �
     star-start R er h = (h.fits.planed, star-low R er (start_by o (b + 1) end R) refl h, round_fits R er (start_by o (b + 1) end R) refl h)
 
   -- a fork and a copy, and then fewer
-  module _ (l : n ≤ 0) (e0 : m ≡ 0 → ⊥) (e100 : m ≡ 100 → ⊥) where
-    suc-more : (h : Turning o s i c lazy empty n m end T b w k) → (m ≡ suc (m - 1)) × (m - 1 < 99)
-    suc-more h = (omega (arith, e0), omega (arith, e0, e100, h.few.1))
+  module _ (l : n ≤ 0) (m2 : ℕ) (em : m ≡ Some (suc m2)) where
+    all_options : (h : Turning o s i c lazy empty n m end T b w k) → turn_places o n m h.of b k ≡ turn_places o 0 (Some (suc m2)) h.of b k
+    all_options h = ap (λ (v : ℕ). turn_places o v m h.of b k) (let z : n ≡ 0 = omega arith in z) ∙ ap (λ (v : Option ℕ). turn_places o 0 v h.of b k) em
 
-    all_options : (h : Turning o s i c lazy empty n m end T b w k) → turn_places o n m h.of b k ≡ turn_places o 0 (suc (m - 1)) h.of b k
-    all_options h = ap (λ (v : ℕ). turn_places o v m h.of b k) (let z : n ≡ 0 = omega arith in z) ∙ ap (λ (v : ℕ). turn_places o 0 v h.of b k) (suc-more h).0
-
-    option_ends : (h : Turning o s i c lazy empty n m end T b w k) → end ≡ b + size (turns 0 (suc (m - 1)) (lazy_of h.of) (unrolled (body h.of)))
+    option_ends : (h : Turning o s i c lazy empty n m end T b w k) → end ≡ b + size (turns 0 (Some (suc m2)) (lazy_of h.of) (unrolled (body h.of)))
     option_ends h =
         h.ends ∙ ap (λ (v : ℕ). b + size (turns v m (lazy_of h.of) (unrolled (body h.of)))) (let z : n ≡ 0 = omega arith in z)
-        ∙ ap (λ (v : ℕ). b + size (turns 0 v (lazy_of h.of) (unrolled (body h.of)))) (suc-more h).0
+        ∙ ap (λ (v : Option ℕ). b + size (turns 0 v (lazy_of h.of) (unrolled (body h.of)))) em
 
     module _ (cp : Behind) (ec : cp ≡ start_by o (b + 1) end k) (h : Turning o s i c lazy empty n m end T b w k) where
       -- the copy and the rest, from the place v on
       behind_fork : Behind → ℕ → List Place
-      behind_fork nx v = body_places o h.of v nx ++ turn_places o 0 (m - 1) h.of (v + c) k
+      behind_fork nx v = body_places o h.of v nx ++ turn_places o 0 (Some m2) h.of (v + c) k
 
       option_split : (nx : Behind) → nx ≡ start_by o (b + 1 + c) end k
           → turn_places o n m h.of b k ≡ choice_places o (lazy_of h.of) cp.here k ++ behind_fork nx (b + 1)
       unfolding behind_fork
-      option_split nx ex = all_options h ∙ turn_option o h.of c b k end h.each (m - 1) cp nx (suc-more h).1 (option_ends h) ec ex
+      option_split nx ex = all_options h ∙ turn_option o h.of c b k end h.each m2 cp nx (option_ends h) ec ex
 
       option_lengths : (nx : Behind) → nx ≡ start_by o (b + 1 + c) end k
-          → length (turn_places o n m h.of b k) ≡ 1 + (c + length (turn_places o 0 (m - 1) h.of (b + 1 + c) k))
+          → length (turn_places o n m h.of b k) ≡ 1 + (c + length (turn_places o 0 (Some m2) h.of (b + 1 + c) k))
       unfolding behind_fork
       option_lengths nx ex =
           ap length (option_split nx ex) ∙ length-append (choice_places o (lazy_of h.of) cp.here k) (behind_fork nx (b + 1))
-          ∙ ap (λ (v : ℕ). 1 + v) (length-append (body_places o h.of (b + 1) nx) (turn_places o 0 (m - 1) h.of (b + 1 + c) k)
-          ∙ ap (λ (v : ℕ). v + length (turn_places o 0 (m - 1) h.of (b + 1 + c) k)) (body-places h (b + 1) nx))
+          ∙ ap (λ (v : ℕ). 1 + v) (length-append (body_places o h.of (b + 1) nx) (turn_places o 0 (Some m2) h.of (b + 1 + c) k)
+          ∙ ap (λ (v : ℕ). v + length (turn_places o 0 (Some m2) h.of (b + 1 + c) k)) (body-places h (b + 1) nx))
 
       option_low : b + 1 + c ≤ 256
       unfolding behind_fork
       option_low =
           let nx : Behind = start_by o (b + 1 + c) end k in
           let f = fork-low (lazy_of h.of) cp.here (behind_fork nx (b + 1)) (subst (Fitting o T b w k) (option_split nx refl) h.fits) in
-          omega (arith, f, length-append (body_places o h.of (b + 1) nx) (turn_places o 0 (m - 1) h.of (b + 1 + c) k), body-places h (b + 1) nx)
+          omega (arith, f, length-append (body_places o h.of (b + 1) nx) (turn_places o 0 (Some m2) h.of (b + 1 + c) k), body-places h (b + 1) nx)
 
       copy-low_entry : Low cp
       copy-low_entry = rw ec (start-low o (b + 1) end k h.fits.planed (omega (arith, option_low)) h.fits.behind)
@@ -659,7 +640,7 @@ module _ (o : Plane) (s : List ℕ) (i c : ℕ) (lazy empty : Bool) (n m end : �
 
       module _ (T1 : List ℕ) (r : ℕ) (d : Emitted o T T1 b w r (choice_places o lazy cp.here k)) (nx : Behind) (ex : nx ≡ start_by o (b + 1 + c) end k)
         where
-          inside-fits : Fitting o T1 (b + 1) r k (body_places o h.of (b + 1) nx ++ turn_places o 0 (m - 1) h.of (b + 1 + c) k)
+          inside-fits : Fitting o T1 (b + 1) r k (body_places o h.of (b + 1) nx ++ turn_places o 0 (Some m2) h.of (b + 1 + c) k)
           unfolding behind_fork
           inside-fits = chosen h.of h.reluctant cp.here (behind_fork nx) (turn_places o n m h.of b k) (option_split nx ex) h.fits
               T1 r d
@@ -672,11 +653,11 @@ module _ (o : Plane) (s : List ℕ) (i c : ℕ) (lazy empty : Bool) (n m end : �
               record {
                 of = h.of;
                 top = h.top;
-                fits = fit-left o T1 (b + 1) r k (body_places o h.of (b + 1) nx) (turn_places o 0 (m - 1) h.of (b + 1 + c) k) nx
+                fits = fit-left o T1 (b + 1) r k (body_places o h.of (b + 1) nx) (turn_places o 0 (Some m2) h.of (b + 1 + c) k) nx
                     (rw ex (start-low o (b + 1 + c) end k h.fits.planed option_low h.fits.behind)) inside-fits;
               }
 
-          pub option_body : (u : ℕ) → round_m s i n m ≡ u → (body_m s i < u) × Bodying o s i T1 (b + 1) r nx
+          pub option_body : (u : ℕ) → round_m s i ≡ u → (body_m s i < u) × Bodying o s i T1 (b + 1) r nx
           unfolding round_m body_m
           option_body u eu = (omega arith, option_bodying)
 
@@ -685,12 +666,12 @@ module _ (o : Plane) (s : List ℕ) (i c : ℕ) (lazy empty : Bool) (n m end : �
             unfolding option_bodying
             option_put = g option_bodying
 
-            option_turning : Turning o s i c lazy empty 0 (m - 1) end T2 (b + 1 + c) q k
+            pub option_turning : Turning o s i c lazy empty 0 (Some m2) end T2 (b + 1 + c) q k
             option_turning =
-                let f = part_right o T1 (b + 1) r k (body_places o h.of (b + 1) nx ++ turn_places o 0 (m - 1) h.of (b + 1 + c) k) (body_places o h.of (b + 1) nx)
-                (λ v. turn_places o 0 (m - 1) h.of v k) (b + 1 + c) refl option_long T2 q option_put inside-fits in
+                let f = part_right o T1 (b + 1) r k (body_places o h.of (b + 1) nx ++ turn_places o 0 (Some m2) h.of (b + 1 + c) k) (body_places o h.of (b + 1) nx)
+                (λ v. turn_places o 0 (Some m2) h.of v k) (b + 1 + c) refl option_long T2 q option_put inside-fits in
                 let l1 = turn_length o n m h.of b k in
-                let l2 = turn_length o 0 (m - 1) h.of (b + 1 + c) k in
+                let l2 = turn_length o 0 (Some m2) h.of (b + 1 + c) k in
                 let l3 = option_lengths nx ex in
                 record {
                   of = h.of;
@@ -699,21 +680,16 @@ module _ (o : Plane) (s : List ℕ) (i c : ℕ) (lazy empty : Bool) (n m end : �
                   reluctant = h.reluctant;
                   flags = h.flags;
                   ends = omega (arith, h.ends, body-places h (b + 1) nx);
-                  few = (omega arith, omega (arith, h.few.1));
                   fits = f;
                 }
 
-            pub option_again : (u : ℕ) → round_m s i n m ≡ u → (round_m s i 0 (m - 1) < u) × Turning o s i c lazy empty 0 (m - 1) end T2 (b + 1 + c) q k
-            unfolding round_m
-            option_again u eu = (omega (arith, (suc-more h).0), option_turning)
-
-            pub option_done : (T3 : List ℕ) (z : ℕ) → ((t : Turning o s i c lazy empty 0 (m - 1) end T2 (b + 1 + c) q k) → Emitted o T2 T3 (b + 1 + c) q z (turn_places o 0 (m - 1) t.of (b + 1 + c) k))
+            pub option_done : (T3 : List ℕ) (z : ℕ) → ((t : Turning o s i c lazy empty 0 (Some m2) end T2 (b + 1 + c) q k) → Emitted o T2 T3 (b + 1 + c) q z (turn_places o 0 (Some m2) t.of (b + 1 + c) k))
                 → Emitted o T T3 b w z (turn_places o n m h.of b k)
             unfolding option_turning behind_fork
             option_done T3 z t =
                 chosen-done h.of h.reluctant cp.here (behind_fork nx) (turn_places o n m h.of b k) (option_split nx ex) T1 T3 r z d
-                (part-both o T1 (b + 1) r k (body_places o h.of (b + 1) nx ++ turn_places o 0 (m - 1) h.of (b + 1 + c) k) (body_places o h.of (b + 1) nx)
-                (λ v. turn_places o 0 (m - 1) h.of v k) (b + 1 + c) refl option_long T2 q option_put T3 z (t option_turning))
+                (part-both o T1 (b + 1) r k (body_places o h.of (b + 1) nx ++ turn_places o 0 (Some m2) h.of (b + 1 + c) k) (body_places o h.of (b + 1) nx)
+                (λ v. turn_places o 0 (Some m2) h.of v k) (b + 1 + c) refl option_long T2 q option_put T3 z (t option_turning))
 
     pub option_more : Turning o s i c lazy empty n m end T b w k → Fits-in w64 (b + 1 + c)
     option_more h = record { fits = omega (arith, option_low _ refl h) }

@@ -12,17 +12,20 @@ ghost use Rattle.forks.specs.Emitting.{Emitting, Branching, Bodying, Turning};
 use body_sizes::{body_size, copy_has_flag};
 use forks::{branch_fork, fork};
 use nodes::{Sort, node_at, places_at};
-use place_codes::{Behind, Plane, anchor_code, letter_code, round_end, start_at, turns_behind};
+use place_codes::{Behind, Plane, anchor_code, letter_code, turns_behind};
 use place_words::put_single;
 
 // A factor in its rounds: its node, the places of its body, whether it is reluctant, whether a copy
-// that leads back to its fork has a flag, the number behind its last place, and what is behind it.
+// that leads back to its fork has a flag, how many copies it has, how many times a fork and a copy
+// stand behind them, the number behind its last place, and what is behind it.
 #[derive(Clone, Copy)]
 struct Factor {
     node: usize,
     body: usize,
     lazy: bool,
     empty: bool,
+    copies: usize,
+    turns: Option<usize>,
     end: usize,
     behind: Behind,
 }
@@ -48,37 +51,32 @@ pub fn emit(
     let mut way = w;
     loop {
         let n = node_at(room, node);
-        let sort = n.sort;
-        let left = n.left;
-        let right = n.right;
         let end = from + n.places;
-        if let Sort::Alternation = sort {
+        if let Sort::Alternation = n.sort {
             let inside = branch_fork(room, node, table, o, from, way, k);
             return branches(room, node, table, o, from + 1, inside, k);
         }
         if end == from {
             return way;
         }
-        let Sort::Sequence = sort else {
-            let c = body_size(room, node);
-            let empty = copy_has_flag(room, node, o);
-            let low = n.low;
-            let m = turns_behind(low, n.high);
+        let Sort::Sequence = n.sort else {
             let f = Factor {
                 node,
-                body: c,
+                body: body_size(room, node),
                 lazy: n.lazy,
-                empty,
+                empty: copy_has_flag(room, node, o),
+                copies: n.low,
+                turns: turns_behind(n.low, n.high),
                 end,
                 behind: k,
             };
-            return rounds(room, f, low, m, table, o, from, way);
+            return rounds(room, f, table, o, from, way);
         };
-        let mid = from + places_at(room, left);
-        let next = start_at(o, mid, end, k);
-        way = emit(room, left, table, o, from, way, next);
+        let mid = from + places_at(room, n.left);
+        let next = o.start(mid, end, k);
+        way = emit(room, n.left, table, o, from, way, next);
         from = mid;
-        node = right;
+        node = n.right;
     }
 }
 
@@ -101,75 +99,49 @@ fn branches(
     let mut way = w;
     loop {
         let n = node_at(room, node);
-        let sort = n.sort;
-        let left = n.left;
-        let right = n.right;
         if n.places == 0 {
             return way;
         }
-        let Sort::Alternation = sort else {
+        let Sort::Alternation = n.sort else {
             return emit(room, node, table, o, from, way, k);
         };
-        way = emit(room, left, table, o, from, way, k);
-        let after = from + places_at(room, left);
-        from = after;
-        node = right;
+        way = emit(room, n.left, table, o, from, way, k);
+        from += places_at(room, n.left);
+        node = n.right;
     }
 }
 
-// The rounds of a factor: n copies of its body, then m times a fork and a copy, or for m = 100 a
-// fork and a copy that leads back to it.
+// The rounds of a factor: its copies, and behind them so many times a fork and a copy, or a fork and
+// a copy that leads back to it.
 #[cycle(body_branches_emit_rounds)]
-fn rounds(
-    room: &[u16],
-    f: Factor,
-    n: usize,
-    m: usize,
-    table: &mut [u16],
-    o: Plane,
-    b: usize,
-    w: usize,
-) -> usize
-    requires { Turning o room.now f.node f.body f.lazy f.empty n m f.end table.old b w f.behind }
-    ensures { (h : Turning o room.now f.node f.body f.lazy f.empty n m f.end table.old b w f.behind) → Emitted o table.old table.new b w result (turn_places o n m h.of b f.behind) }
+fn rounds(room: &[u16], f: Factor, table: &mut [u16], o: Plane, b: usize, w: usize) -> usize
+    requires { Turning o room.now f.node f.body f.lazy f.empty f.copies f.turns f.end table.old b w f.behind }
+    ensures { (h : Turning o room.now f.node f.body f.lazy f.empty f.copies f.turns f.end table.old b w f.behind) → Emitted o table.old table.new b w result (turn_places o f.copies f.turns h.of b f.behind) }
 {
-    let i = f.node;
-    let c = f.body;
-    let lazy = f.lazy;
-    let empty = f.empty;
-    let end = f.end;
-    let k = f.behind;
-    let mut copies = n;
-    let mut forks = m;
     let mut from = b;
     let mut way = w;
-    loop {
-        if 0 < copies {
-            let rest = from + c;
-            let next = start_at(o, rest, end, k);
-            way = body(room, i, table, o, from, way, next);
-            from = rest;
-            copies = copies - 1;
-            continue;
-        }
-        if forks == 0 {
-            return way;
-        }
-        let first = from + 1;
-        if forks == 100 {
-            let back = round_end(o, from, empty, k);
-            let copy = start_at(o, first, end, back);
-            let inside = fork(table, o, from, way, lazy, copy.here, k);
-            return body(room, i, table, o, first, inside, back);
-        }
-        let copy = start_at(o, first, end, k);
-        let inside = fork(table, o, from, way, lazy, copy.here, k);
-        let rest = first + c;
-        let next = start_at(o, rest, end, k);
-        way = body(room, i, table, o, first, inside, next);
+    'copies: for _ in 0..f.copies {
+        let rest = from + f.body;
+        let next = o.start(rest, f.end, f.behind);
+        way = body(room, f.node, table, o, from, way, next);
         from = rest;
-        forks = forks - 1;
     }
+    let Some(turns) = f.turns else {
+        let back = o.round_end(from, f.empty, f.behind);
+        let copy = o.start(from + 1, f.end, back);
+        let inside = fork(table, o, from, way, f.lazy, copy.here, f.behind);
+        return body(room, f.node, table, o, from + 1, inside, back);
+    };
+    'turns: for _ in 0..turns {
+        let first = from + 1;
+        let copy = o.start(first, f.end, f.behind);
+        let inside = fork(table, o, from, way, f.lazy, copy.here, f.behind);
+        let rest = first + f.body;
+        let next = o.start(rest, f.end, f.behind);
+        way = body(room, f.node, table, o, first, inside, next);
+        from = rest;
+    }
+    way
 }
 
 // The body of the factor at i, once. A letter that passes sets all flags that its place has.
@@ -179,14 +151,10 @@ fn body(room: &[u16], i: usize, table: &mut [u16], o: Plane, b: usize, w: usize,
     ensures { (h : Bodying o room.now i table.old b w k) → Emitted o table.old table.new b w result (body_places o h.of b k) }
 {
     let n = node_at(room, i);
-    let sort = n.sort;
-    let left = n.left;
-    match sort {
+    match n.sort {
         Sort::Letter(c) => put_single(table, o, b, w, letter_code(c), k.set, k.values),
         Sort::Anchor(c) => put_single(table, o, b, w, anchor_code(c), k.here, k.values),
-        Sort::Empty => w,
-        Sort::Sequence => w,
-        Sort::Alternation => w,
-        Sort::Group => emit(room, left, table, o, b, w, k),
+        Sort::Group => emit(room, n.left, table, o, b, w, k),
+        Sort::Empty | Sort::Sequence | Sort::Alternation => w,
     }
 }

@@ -1,14 +1,10 @@
 -- `body_sizes::copy_has_flag` meets its contract. Laws: SizeLaws.
 use Rattle.body_sizes.proofs.SizeLaws.{flag_never, flag_if}
-use borrow.Author.Rules.{rules}
-use borrow.Author.Rules.{rules}
-use Rattle.body_sizes.proofs.copy_has_flag.Reads as reads
-use Rattle.body_sizes.proofs.copy_has_flag.Lts as lts
-use Rattle.body_sizes.proofs.body_is_empty.Reads as body-is-empty-reads
+use borrow.Author.Tests.{le-ltb}
 use Rattle.body_sizes.proofs.copy_has_flag.Goals as goal
 
-pub returns-then-o-le1 : goal.returns-then-o-le1
-returns-then-o-le1 c = search (rules, flag_never)
+pub returns-then-o-gt1 : goal.returns-then-o-gt1
+returns-then-o-gt1 c = flag_if _ _ _ _ c.if-o-gt1.true c.body_is_empty.ensures
 
-pub returns : goal.returns
-returns c = search (rules, flag_if)
+pub returns-else-o-gt1 : goal.returns-else-o-gt1
+returns-else-o-gt1 c = let e = c.if-o-gt1.false in rw (le-ltb 1 c.args.o.factor e) (flag_never _ _ _ e)

@@ -1,8 +1,7 @@
 -- `forks::fork_ways` meets its contract. The loop's invariant: WaysLeft; its measure: the node's
 -- height. Laws: ForkLaws.
-use Rattle.forks.proofs.ForkLaws.{WaysLeft, ways-entry, ways-start, ways-in, ways-none, ways-no_more, ways-last_fits, ways-last, ways-all, ways-left, ways-down, ways-fits, ways-one, ways-again, started_length}
+use Rattle.forks.proofs.ForkLaws.{WaysLeft}
 use Rattle.nodes.specs.Nodes.{node_at}
-use borrow.Author.Rules.{rules}
 use Rattle.forks.proofs.fork_ways.Given as goal
 
 abbrev pub invariant-loop-o : goal.invariant-loop-o

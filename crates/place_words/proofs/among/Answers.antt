@@ -1,5 +1,5 @@
 -- `place_words::among` meets its contract: a word is found among those of the span.
-use Rattle.std.proofs.Common.{◌≡◌, ◌-◌, ◌+◌, ◌≤◌, ◌∙◌, length, ℕ, take, drop, arith, rules, sym, ap}
+use Rattle.std.proofs.Common.{◌-◌, ◌∙◌, ℕ, take, drop, arith, rules, sym, ap}
 use Rattle.std.proofs.lemmas.Iterator.{YieldsList-from_slice}
 use Rattle.std.proofs.lemmas.Iterator.Search.{any_from_yields_List}
 use borrow.Author.Tests.{tests}
