@@ -186,9 +186,6 @@ module _ (T : Layout) (trail d : List ℕ) (top₁ fin : ℕ) where
         rw (z, v) at u.lab_is
 
     module _ (going : 0 < k) where
-      pub labelling_read : k - 1 < length trail
-      labelling_read = let a = u.within in let b = u.asks.trailed in omega arith
-
       abbrev code : ℕ
       code = code_at T.words (place_in (get_or trail (k - 1) 0))
 

@@ -4,8 +4,9 @@ use mathlib.Core.Path.{◌≡◌, refl, sym, ap, ◌∙◌, subst}
 use mathlib.Core.List.{List, [], ◌∷◌, ◌++◌, reverse_aux}
 use mathlib.Core.Bool.{Bool, true, false}
 use mathlib.Core.Option.{Option}
+use Rattle.std.specs.declared.option.Option as rust
 use Prim.Native.Nat.{ℕ, zero, suc, ◌+◌, ◌-◌, ◌*◌, ◌/◌, ◌%◌, ◌≤◌, ◌<◌}
-use native.Mathlib.Nat.{add-zero, mul-le-mul, mul-le-mul_right, le_trans}
+use native.Mathlib.Nat.{add-zero, mul-le-mul_right, le_trans}
 use native.Mathlib.Omega.{arith}
 use lib.Arith.{digits_div}
 use lib.IntN.{ℤ}
@@ -30,20 +31,9 @@ use Rattle.pairs.proofs.Trails.{path_top, path_linked, path_row, path_at}
 use Rattle.matches.specs.declared.Sweep.{Sweep}
 use Rattle.matches.specs.declared.Task.{Task}
 use Rattle.skips.specs.Skips.{skip_in, start_in}
-use Rattle.skips.specs.declared.Next.{Next}
-use Rattle.skips.specs.declared.Next.TheVariants.{Start, Nowhere}
 use Rattle.matches.specs.Asked.{asked_of, path_on, labels_on}
-use Rattle.matches.specs.Found.{Labels, swept, swept_on, Told, Reports}
+use Rattle.matches.specs.Found.{Labels, swept_on, Told, Reports}
 use Rattle.matches.proofs.Labelled.{Ends, rows_taken}
-
--- behind a match that is written
-pub on-nowhere : (next : Next) (n m l s : ℕ) → next ≡ Nowhere → swept 15 n m l s ≡ swept_on (start_in next) n m l s
-unfolding start_in
-on-nowhere next n m l s e = rw e
-
-pub on-start : (next : Next) (row n m l s : ℕ) → next ≡ Start row → swept 0 row m l s ≡ swept_on (start_in next) n m l s
-unfolding start_in
-on-start next row n m l s e = rw e
 
 -- the last pair of a path
 last_up : (d x : ℕ) (p xs : List ℕ) → last_of d (reverse_aux xs (x ∷ p)) ≡ last_of x p
@@ -114,15 +104,6 @@ module _ (W : List ℕ) (rows : List ℤ) (task : Task) (trail labs : List ℕ) 
       let t : takes (place_at T.words (pair_of w % P T)) ≡ 0 = rw (path_at T trail w h.path h.going) (takes-end T w.place h.last) in
       rw stack_is (omega arith)
 
-  pub tell_at : i.matches * (3 + 2 * count) ≤ 4096 * 19
-  tell_at =
-      let m = h.measured in
-      let a = m.few in
-      let b = m.few_rows in
-      let c = h.few in
-      let d = h.row in
-      mul-le-mul (let z : i.matches ≤ 4096 = omega arith in z) (let z : 3 + 2 * count ≤ 19 = omega arith in z)
-
   pub tell_row : i.row ≤ w.row
   tell_row = let r = rows_are in omega arith
 
@@ -186,21 +167,12 @@ module _ (W : List ℕ) (rows : List ℤ) (task : Task) (trail labs : List ℕ) 
               placed = omega arith;
             })
 
-        -- all that the next start is computed from is small
-        pub tell_next : (i.row ≤ 4096) × (w.row ≤ 4096) × (length (take (i.labels + taken - i.labels) (drop i.labels labs')) ≤ 4096)
-        tell_next =
-            let b = h.behind in
-            let e = h.row in
-            let f = h.measured.few_rows in
-            let r = rows_are in
-            rw part-is (omega arith, omega arith, omega arith)
-
         next-is : (skip : Skip) → next_start skip i.row (end_of (length (places_in T.words (P T))) p) ls ≡ next_start skip i.row w.row ls
         next-is skip =
             let l : last_of 0 p ≡ pair_of w = ap (λ (s : List ℕ). last_of 0 (reverse_aux s [])) stack_is ∙ last_up 0 (pair_of w) [] (stack (P T) trail (w.top - 1)) in
             ap (λ (j : ℕ). next_start skip i.row j ls) (rw (l, in_length T.words (P T)) (path_row T trail w h.path h.going))
 
-        pub tell_fits : (numbers numbers' : List ℤ) (nx : Next) (o : Sweep) → nums ≡ length numbers
+        pub tell_fits : (numbers numbers' : List ℤ) (nx : rust.Option ℕ) (o : Sweep) → nums ≡ length numbers
             → numbers' ≡ wrote numbers (i.matches * (3 + 2 * count)) (match_numbers (table_of columns rows) ms (i.matches + 1) i.row (take (i.labels + taken - i.labels) (drop i.labels labs')))
             → start_in nx ≡ next_start (skip_in task.skip) i.row w.row (take (i.labels + taken - i.labels) (drop i.labels labs'))
             → o ≡ swept_on (start_in nx) n (i.matches + 1) (i.labels + taken) w.steps

@@ -11,9 +11,10 @@ ghost use Rattle.skips.specs.Skips.{start_in};
 ghost use Rattle.matches.specs.Asked.{asked_of, labels_on, path_on};
 ghost use Rattle.matches.specs.Found.{OneMore, PutsLabel, Labels, swept_on, Told, Reports};
 
+use joins::MatchRows;
 use pairs::{Walk, open_at, place_of};
 use report::{Measures, fits_whole, put_match};
-use skips::{Next, Skip, next_row};
+use skips::{Skip, next_row};
 use table::{Extent, LETTERS, code_at};
 
 // What a search is asked beside its table: its extent, the number of pairs of the largest number of
@@ -87,31 +88,29 @@ fn put_labels(
     requires { Labels (layout table.now places 0) trail.now labels.old top end }
     ensures { labels.new ≡ wrote labels.old (end - length (labels_on (layout table.now places 0) trail.now top)) (labels_on (layout table.now places 0) trail.now top) }
 {
-    let mut k = top;
     let mut e = end;
-    while k > 0 {
-        k -= 1;
+    for k in (0..top).rev() {
         e = put_label(table, labels, place_of(open_at(trail, k)), e);
     }
 }
 
 // What a search has come to behind a match that is written: it goes on at the next start, or is
 // over where the match names none.
-fn behind_match(next: Next, rows: usize, matches: usize, labels: usize, steps: usize) -> Sweep
+fn behind_match(
+    next: Option<usize>,
+    rows: usize,
+    matches: usize,
+    labels: usize,
+    steps: usize,
+) -> Sweep
     ensures { result ≡ swept_on (start_in next) rows matches labels steps }
 {
-    let Next::Start(row) = next else {
-        return Sweep {
-            end: STUCK,
-            row: rows,
-            matches,
-            labels,
-            steps,
-            opened: 0,
-        };
+    let (end, row) = match next {
+        Some(row) => (DONE, row),
+        None => (STUCK, rows),
     };
     Sweep {
-        end: DONE,
+        end,
         row,
         matches,
         labels,
@@ -149,19 +148,15 @@ pub fn write_match(
         let measures = Measures {
             at: task.measures,
             count,
-            columns: size.columns,
         };
         let written = &labels[l..end];
-        put_match(
-            numbers,
-            m * (3 + 2 * count),
-            m + 1,
-            table,
-            measures,
+        let of = MatchRows {
             rows,
-            row,
-            written,
-        );
+            columns: size.columns,
+            first: row,
+            labels: written,
+        };
+        put_match(numbers, m * (3 + 2 * count), m + 1, table, measures, &of);
         let next = next_row(skip, row, behind, written);
         return behind_match(next, size.rows, m + 1, end, w.steps);
     }

@@ -62,9 +62,3 @@ module _ (l : List ℕ) (at a b c : ℕ) where
     pub three_2 : get_or (set_three l at a b c) (at + 2) 0 ≡ c
     unfolding set_three one two
     three_2 = let e = two-long in get_or-set_same two (at + 2) c 0 (omega arith)
-
--- three words that are three bytes, stored
-pub words_put : (l : List ℕ) (at a b c x y z : ℕ) → (x ≡ a) × (x < 256) → (y ≡ b) × (y < 256) → (z ≡ c) × (z < 256)
-    → (set (set (set l at x) (at + 1) y) (at + 2) z ≡ set_three l at a b c) × (a < 256) × (b < 256) × (c < 256)
-unfolding set_three
-words_put l at a b c x y z p q r = (rw (p.0, q.0, r.0), rw p.0 at p.1, rw q.0 at q.1, rw r.0 at r.1)

@@ -4,7 +4,7 @@ use mathlib.Core.List.{List, [], ◌∷◌, ◌++◌}
 use Prim.Native.Nat.{ℕ, zero, suc, ◌+◌, ◌*◌, ◌≤◌, ◌<◌}
 use native.Mathlib.Omega.{arith}
 use native.Mathlib.Numerals.{add-one}
-use lib.ListN.{length, get_or}
+use lib.ListN.{length}
 use Rattle.rules.specs.Basics.{tabulate}
 use Rattle.rules.specs.Query.{Measure}
 use Rattle.table.specs.Measures.{measure_in, measures_in}
@@ -17,12 +17,6 @@ tabulate-same zero f g h = refl
 tabulate-same (suc n) f g h =
     ap (λ (x : List Measure). x ++ (f n ∷ [])) (tabulate-same n f g (λ k q. h k (omega arith)))
     ∙ ap (λ (x : Measure). tabulate n g ++ (x ∷ [])) (h n (omega arith))
-
--- the measure of three bytes of the array
-pub measure_is : (l : List ℕ) (k a b c : ℕ) → a ≡ get_or l (k * 3) 0 → b ≡ get_or l (k * 3 + 1) 0 → c ≡ get_or l (k * 3 + 2) 0
-    → record { function = a; letter = b; column = c } ≡ measure_in l 0 k
-unfolding measure_in
-measure_is l k a b c ea eb ec = let e : 0 + k * 3 ≡ k * 3 = omega arith in rw (e, ea, eb, ec)
 
 module _ (l : List ℕ) (at k a b c : ℕ) where
   pub measure_old : (j : ℕ) → j < k → measure_in (set_three l (at + k * 3) a b c) at j ≡ measure_in l at j

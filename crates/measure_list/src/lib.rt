@@ -11,7 +11,8 @@ ghost use Rattle.measure_list.specs.Measures.{measure_of, set_three, MeasuresRoo
 use records::{Read, record_at};
 
 // A measure of the query: the number of its function, the letter of its rows or 0 for all rows, and
-// its column.
+// its column. The function is a number and no enum, since `measure_at` promises the bytes of the
+// array whatever they are.
 #[derive(Clone, Copy)]
 pub struct Measure {
     pub function: u8,
@@ -20,20 +21,6 @@ pub struct Measure {
 }
 
 impl Measure {
-    pub const COUNT: u8 = 1;
-
-    pub const SUM: u8 = 2;
-
-    pub const MIN: u8 = 3;
-
-    pub const MAX: u8 = 4;
-
-    pub const FIRST: u8 = 5;
-
-    pub const LAST: u8 = 6;
-
-    pub const AVG: u8 = 7;
-
     // The measure of a record's checked bytes.
     pub fn make(function: u8, letter: u8, column: u8) -> Measure
         ensures { (result.function ≡ function) × (result.letter ≡ letter) × (result.column ≡ column) }
@@ -47,6 +34,7 @@ impl Measure {
 }
 
 // Measure number k of the array.
+#[tactic(auto, unfolding(table::specs::Measures::measure_in))]
 pub fn measure_at(measures: &[u8; 24], k: usize) -> Measure
     requires { k < 8 }
     ensures { measure_of result ≡ measure_in measures.now 0 k }
@@ -56,6 +44,7 @@ pub fn measure_at(measures: &[u8; 24], k: usize) -> Measure
 }
 
 // The measure in a record's body.
+#[tactic(auto, unfolding(rules::specs::Query::measure_at))]
 fn measure_of(s: &[u8], start: usize) -> Measure
     requires { start + 4 ≤ length s.now }
     ensures { measure_of result ≡ measure_at s.now start }
@@ -63,6 +52,7 @@ fn measure_of(s: &[u8], start: usize) -> Measure
     Measure::make(s[start], s[start + 1], s[start + 2])
 }
 
+#[tactic(auto, unfolding(crate::specs::Measures::set_three))]
 fn put_measure(m: Measure, measures: &mut [u8; 24], k: usize)
     requires { k < 8 }
     ensures { measures.new ≡ set_three measures.old (k * 3) m.function m.letter m.column }
@@ -97,31 +87,12 @@ pub fn put_measures(s: &[u8], from: usize, measures: &mut [u8; 24]) -> usize
     count
 }
 
-// A byte as a word.
-fn word(x: u8) -> u16
-    ensures { (result ≡ x) × (result < 256) }
-{
-    x as u16
-}
-
-fn put_words(m: Measure, table: &mut [u16], at: usize)
-    requires { at + 3 ≤ length table.old }
-    ensures { (table.new ≡ set_three table.old at m.function m.letter m.column)
-        × (m.function < 256) × (m.letter < 256) × (m.column < 256) }
-{
-    table[at] = word(m.function);
-    table[at + 1] = word(m.letter);
-    table[at + 2] = word(m.column);
-}
-
 // The first `count` measures of the array as words of a table, from word `at` on.
 pub fn put_in_table(measures: &[u8; 24], count: usize, table: &mut [u16], at: usize)
     requires { (count ≤ 8) × (at + 24 ≤ length table.old) }
     ensures { MeasuresTabled measures.now count table.old table.new at }
 {
-    let mut k = 0;
-    while k < count {
-        put_words(measure_at(measures, k), table, at + k * 3);
-        k += 1;
+    for i in 0..count * 3 {
+        table[at + i] = u16::from(measures[i]);
     }
 }

@@ -1,27 +1,27 @@
--- What the code of measures and matches works with: document 01's numbers for each case of a
--- measure's value, and when a match's rows can be read and its numbers written.
+-- What the code of measures and matches works with: the numbers of a measure's functions, document
+-- 01's numbers for a measure's value, and when a match's rows can be read and its numbers written.
 use Rattle.std.specs.Prelude.{List, [], ◌∷◌, ℕ, ◌+◌, ◌*◌, ◌≤◌, ◌<◌, ℤ, pos, length, get_or}
-use Rattle.rules.specs.Query as Q
+use Rattle.std.specs.declared.option.Option.{Option}
+use Rattle.std.specs.declared.option.Option.TheVariants.{Some, None}
 use Rattle.measure_list.specs.Measures.{Measurable}
-use Rattle.measures.specs.declared.Value.{Value}
-use Rattle.measures.specs.declared.Value.TheVariants.{Null, Number}
+use Rattle.joins.specs.Entries.{number_of}
+use Rattle.measures.specs.declared.Function.{Function}
+use Rattle.measures.specs.declared.Function.TheVariants.{Count, Joined, First, Last, Avg}
 
--- a measure as the query has it
-abbrev pub measure_by : ℕ → ℕ → ℕ → Q.Measure
-measure_by function letter column = record { function = function; letter = letter; column = column }
+-- a function's number
+abbrev pub number_in : Function → ℕ
+number_in Count = 1
+number_in (Joined join) = number_of join
+number_in First = 5
+number_in Last = 6
+number_in Avg = 7
 
 -- document 01's numbers for a measure's value: 0 and 0 for null, 1 and the result for a number
-unfoldable pub numbers_for : Value → List ℤ
-numbers_for Null = pos 0 ∷ pos 0 ∷ []
-numbers_for (Number v) = pos 1 ∷ v ∷ []
+abbrev pub numbers_for : Option ℤ → List ℤ
+numbers_for None = pos 0 ∷ pos 0 ∷ []
+numbers_for (Some v) = pos 1 ∷ v ∷ []
 
 -- ---- what the code may read and write
-
--- the rows from `first` on, `long` of them, are there, and so is the column
-pub record Readable (rows : List ℤ) (columns first long column : ℕ) : Type 0 where
-  pub few : long ≤ 4096
-  pub there : (first + long) * columns ≤ length rows
-  pub is_column : column < columns
 
 -- the three words from index `at` on are there, and are bytes
 pub record ThreeBytes (T : List ℕ) (at : ℕ) : Type 0 where

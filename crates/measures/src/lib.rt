@@ -1,56 +1,55 @@
 // A measure of one match: COUNT, SUM, MIN, MAX, FIRST, LAST and AVG over the rows with a label.
 #![tactic(auto)]
 
-ghost use Rattle.std.specs.Prelude.{◌≡◌, [], ◌≤◌, ◌<◌, pos, length};
+ghost use Rattle.std.specs.Prelude.{◌≡◌, ◌≤◌, ◌<◌, pos};
 ghost use Rattle.std.proofs.Math.Option.{some};
 ghost use Rattle.std.specs.Int.Signed.{quot_z};
 ghost use Rattle.rules.specs.Rows.{table_of};
 ghost use Rattle.measure_list.specs.Measures.{measure_of};
-ghost use Rattle.rules.specs.Report.{values, over_some, result_of, measured, two_of};
-ghost use Rattle.measures.specs.Measures.{measure_by, numbers_for, Readable};
+ghost use Rattle.rules.specs.Report.{values, over_some, average_of, measured, two_of};
+ghost use Rattle.joins.specs.Entries.{number_of};
+ghost use Rattle.measures.specs.Measures.{number_in, numbers_for};
 ghost use Rattle.labelled.specs.Labelled.{FirstAt};
 
-use joins::{entry_at, take_row};
-use labelled::{Found, count_of, first_of, last_of};
+use joins::{Join, MatchRows};
+use labelled::{count_of, first_of, last_of};
 use measure_list::Measure;
-use numbers::wide8;
 
-// A measure's value.
-#[derive(Clone, Copy)]
-pub enum Value {
-    Null,
-    Number(i64),
+// What a measure computes from the entries of its rows.
+#[derive(Clone, Copy, PartialEq, Eq)]
+enum Function {
+    Count,
+    Joined(Join),
+    First,
+    Last,
+    Avg,
 }
 
-// SUM, MIN or MAX over the rows of a match, of which `at` is the measure's first: the labels are of
-// the rows from `first` on.
-fn joined_from(
-    function: u8,
-    letter: u8,
-    column: usize,
-    rows: &[i32],
-    columns: usize,
-    first: usize,
-    labels: &[u8],
-    at: usize,
-) -> i64
-    requires { (2 ≤ function) × (function ≤ 4) × Readable rows.now columns first (length labels.now) column × FirstAt letter labels.now at }
-    ensures { over_some function (values (table_of columns rows.now) (measure_by function letter column) first labels.now) ≡ some result }
+// The function of a number of the query's table.
+fn function_of(number: u8) -> Function
+    requires { (1 ≤ number) × (number ≤ 7) }
+    ensures { number_in result ≡ number }
 {
-    let mut value = entry_at(rows, columns, first + at, column);
-    let mut i = at + 1;
-    while i < labels.len() {
-        value = take_row(
-            function,
-            letter,
-            value,
-            labels[i],
-            rows,
-            columns,
-            first + i,
-            column,
-        );
-        i += 1;
+    match number {
+        1 => Function::Count,
+        2 => Function::Joined(Join::Sum),
+        3 => Function::Joined(Join::Min),
+        4 => Function::Joined(Join::Max),
+        5 => Function::First,
+        6 => Function::Last,
+        _ => Function::Avg,
+    }
+}
+
+// SUM, MIN or MAX over the rows of a match, of which row `at` is the measure's first.
+#[tactic(auto, using(crate::proofs::RowsOf::joining_first, crate::proofs::RowsOf::joining_more, crate::proofs::RowsOf::joining_all))]
+fn joined_from(join: Join, m: Measure, of: &MatchRows, at: usize) -> i64
+    requires { (m.column < of.now.columns) × FirstAt m.letter of.now.labels.now at }
+    ensures { over_some (number_of join) (values (table_of of.now.columns of.now.rows.now) (measure_of m) of.now.first of.now.labels.now) ≡ some result }
+{
+    let mut value = of.entry(at, m);
+    for i in at + 1..of.labels.len() {
+        value = of.take_row(i, m, join, value);
     }
     value
 }
@@ -71,141 +70,38 @@ fn quotient(sum: i64, count: usize) -> i64
     sum / as_number(count)
 }
 
-// COUNT of no rows is 0; the others are null.
-fn of_no_rows(function: u8) -> Value
-    ensures { numbers_for result ≡ two_of (result_of function []) }
-{
-    if function == Measure::COUNT {
-        return Value::Number(0);
-    }
-    Value::Null
-}
-
-// A measure other than LAST and AVG that has rows, of which `at` is the first.
-fn measure_from(
-    function: u8,
-    letter: u8,
-    column: usize,
-    rows: &[i32],
-    columns: usize,
-    first: usize,
-    labels: &[u8],
-    at: usize,
-) -> Value
-    requires { (1 ≤ function) × (function ≤ 5) × Readable rows.now columns first (length labels.now) column × FirstAt letter labels.now at }
-    ensures { numbers_for result ≡ two_of (measured (table_of columns rows.now) first labels.now (measure_by function letter column)) }
-{
-    if function == Measure::COUNT {
-        return Value::Number(as_number(count_of(letter, labels, at)));
-    }
-    if function == Measure::SUM {
-        return Value::Number(joined_from(
-            Measure::SUM,
-            letter,
-            column,
-            rows,
-            columns,
-            first,
-            labels,
-            at,
-        ));
-    }
-    if function == Measure::MIN {
-        return Value::Number(joined_from(
-            Measure::MIN,
-            letter,
-            column,
-            rows,
-            columns,
-            first,
-            labels,
-            at,
-        ));
-    }
-    if function == Measure::MAX {
-        return Value::Number(joined_from(
-            Measure::MAX,
-            letter,
-            column,
-            rows,
-            columns,
-            first,
-            labels,
-            at,
-        ));
-    }
-    Value::Number(entry_at(rows, columns, first + at, column))
-}
-
-// LAST over the rows of a match: the first of them is not sought.
-fn last_measure(
-    letter: u8,
-    column: usize,
-    rows: &[i32],
-    columns: usize,
-    first: usize,
-    labels: &[u8],
-) -> Value
-    requires { Readable rows.now columns first (length labels.now) column }
-    ensures { numbers_for result ≡ two_of (measured (table_of columns rows.now) first labels.now (measure_by 6 letter column)) }
-{
-    let Found::At(last) = last_of(letter, labels) else {
-        return Value::Null;
-    };
-    Value::Number(entry_at(rows, columns, first + last, column))
-}
-
 // AVG over the rows of a match: their sum divided by their number.
-fn average_measure(
-    letter: u8,
-    column: usize,
-    rows: &[i32],
-    columns: usize,
-    first: usize,
-    labels: &[u8],
-) -> Value
-    requires { Readable rows.now columns first (length labels.now) column }
-    ensures { numbers_for result ≡ two_of (measured (table_of columns rows.now) first labels.now (measure_by 7 letter column)) }
+#[tactic(auto, using(crate::proofs::RowsOf::average_null, crate::proofs::RowsOf::average_some))]
+fn average(m: Measure, of: &MatchRows) -> Option<i64>
+    requires { m.column < of.now.columns }
+    ensures { numbers_for result ≡ two_of (average_of (values (table_of of.now.columns of.now.rows.now) (measure_of m) of.now.first of.now.labels.now)) }
 {
-    let Found::At(at) = first_of(letter, labels) else {
-        return of_no_rows(Measure::AVG);
-    };
-    let sum = joined_from(
-        Measure::SUM,
-        letter,
-        column,
-        rows,
-        columns,
-        first,
-        labels,
-        at,
-    );
-    let count = count_of(letter, labels, at);
-    Value::Number(quotient(sum, count))
+    let at = first_of(m.letter, of.labels)?;
+    let sum = joined_from(Join::Sum, m, of, at);
+    Some(quotient(sum, count_of(m.letter, of.labels, at)))
 }
 
-// A measure over the rows of a match: the labels are of the rows from `first` on.
-pub fn measure_of(m: Measure, rows: &[i32], columns: usize, first: usize, labels: &[u8]) -> Value
-    requires { (1 ≤ m.function) × (m.function ≤ 7) × Readable rows.now columns first (length labels.now) m.column }
-    ensures { numbers_for result ≡ two_of (measured (table_of columns rows.now) first labels.now (measure_of m)) }
+// A measure over the rows of a match, or none where it is null. LAST does not seek the first of
+// them.
+#[tactic(auto, using(crate::proofs::RowsOf::counted, crate::proofs::RowsOf::null, crate::proofs::RowsOf::joined_to, crate::proofs::RowsOf::from_first, crate::proofs::RowsOf::from_last, crate::proofs::RowsOf::averaged))]
+pub fn measure_of(m: Measure, of: &MatchRows) -> Option<i64>
+    requires { (1 ≤ m.function) × (m.function ≤ 7) × (m.column < of.now.columns) }
+    ensures { numbers_for result ≡ two_of (measured (table_of of.now.columns of.now.rows.now) of.now.first of.now.labels.now (measure_of m)) }
 {
-    if m.function == Measure::LAST {
-        return last_measure(m.letter, wide8(m.column), rows, columns, first, labels);
+    match function_of(m.function) {
+        Function::Count => Some(as_number(count_of(m.letter, of.labels, 0))),
+        Function::Joined(join) => {
+            let at = first_of(m.letter, of.labels)?;
+            Some(joined_from(join, m, of, at))
+        }
+        Function::First => {
+            let at = first_of(m.letter, of.labels)?;
+            Some(of.entry(at, m))
+        }
+        Function::Last => {
+            let at = last_of(m.letter, of.labels)?;
+            Some(of.entry(at, m))
+        }
+        Function::Avg => average(m, of),
     }
-    if m.function == Measure::AVG {
-        return average_measure(m.letter, wide8(m.column), rows, columns, first, labels);
-    }
-    let Found::At(at) = first_of(m.letter, labels) else {
-        return of_no_rows(m.function);
-    };
-    measure_from(
-        m.function,
-        m.letter,
-        wide8(m.column),
-        rows,
-        columns,
-        first,
-        labels,
-        at,
-    )
 }

@@ -14,36 +14,35 @@ ghost use Rattle.measure_list.specs.Measures.{measure_of};
 ghost use Rattle.rules.specs.Report.{measure_numbers, match_numbers, lent_room, fits};
 ghost use Rattle.measures.specs.Measures.{numbers_for, ThreeBytes, Reportable, Appendable};
 
+use joins::MatchRows;
 use measure_list::Measure;
-use measures::{Value, as_number, measure_of};
+use measures::{as_number, measure_of};
 
-// Where a query's measures stand in its table, how many they are, and the columns of a row.
+// Where a query's measures stand in its table, and how many they are.
 #[derive(Clone, Copy)]
 pub struct Measures {
     pub at: usize,
     pub count: usize,
-    pub columns: usize,
 }
 
-// Two numbers written from index `at` on.
-fn put_two(numbers: &mut [i64], at: usize, a: i64, b: i64)
-    requires { at + 2 ≤ length numbers.old }
-    ensures { numbers.new ≡ wrote numbers.old at (a ∷ b ∷ []) }
+// Numbers written from index `at` on.
+#[tactic(auto, unfolding(rules::specs::Basics::wrote))]
+fn put(numbers: &mut [i64], at: usize, those: &[i64])
+    requires { at + length those.now ≤ length numbers.old }
+    ensures { numbers.new ≡ wrote numbers.old at those.now }
 {
-    numbers[at] = a;
-    numbers[at + 1] = b;
+    numbers[at..at + those.len()].copy_from_slice(those);
 }
 
 // 1 and the result, or 0 and 0 for null.
-fn put_value(numbers: &mut [i64], at: usize, value: Value)
+fn put_value(numbers: &mut [i64], at: usize, value: Option<i64>)
     requires { at + 2 ≤ length numbers.old }
     ensures { numbers.new ≡ wrote numbers.old at (numbers_for value) }
 {
-    let Value::Number(v) = value else {
-        put_two(numbers, at, 0, 0);
-        return;
-    };
-    put_two(numbers, at, 1, v);
+    match value {
+        Some(number) => put(numbers, at, &[1, number]),
+        None => put(numbers, at, &[0, 0]),
+    }
 }
 
 // A word of a measure, which is a byte.
@@ -55,6 +54,7 @@ fn byte_of(w: u16) -> u8
 }
 
 // Measure number k of the table, three words to a measure from word `at` on.
+#[tactic(auto, unfolding(table::specs::Measures::measure_in))]
 fn measure_at(table: &[u16], at: usize, k: usize) -> Measure
     requires { ThreeBytes table.now (at + k * 3) }
     ensures { measure_of result ≡ measure_in table.now at k }
@@ -68,64 +68,48 @@ fn measure_at(table: &[u16], at: usize, k: usize) -> Measure
 }
 
 // The measures of a match, from index `at` on.
-fn put_measures(
-    numbers: &mut [i64],
-    at: usize,
-    table: &[u16],
-    measures: Measures,
-    rows: &[i32],
-    first: usize,
-    labels: &[u8],
-)
-    requires { Reportable numbers.old at table.now measures.at measures.count rows.now measures.columns first (length labels.now) }
+#[tactic(auto, using(crate::proofs::Numbers::fits_parts, crate::proofs::Numbers::reported_none, crate::proofs::Numbers::reported_more))]
+fn put_measures(numbers: &mut [i64], at: usize, table: &[u16], measures: Measures, of: &MatchRows)
+    requires { Reportable numbers.old at table.now measures.at measures.count of.now.rows.now of.now.columns of.now.first (length of.now.labels.now) }
     ensures { numbers.new ≡ wrote numbers.old at
-        (measure_numbers (table_of measures.columns rows.now) first labels.now (measures_in table.now measures.at measures.count)) }
+        (measure_numbers (table_of of.now.columns of.now.rows.now) of.now.first of.now.labels.now (measures_in table.now measures.at measures.count)) }
 {
-    let mut k = 0;
-    while k < measures.count {
+    for k in 0..measures.count {
         let m = measure_at(table, measures.at, k);
-        let value = measure_of(m, rows, measures.columns, first, labels);
-        put_value(numbers, at + k * 2, value);
-        k += 1;
+        put_value(numbers, at + k * 2, measure_of(m, of));
     }
 }
 
-// The first three numbers of a match.
-fn put_three(numbers: &mut [i64], at: usize, a: usize, b: usize, c: usize)
-    requires { (at + 3 ≤ length numbers.old) × (a ≤ 4096) × (b ≤ 4096) × (c ≤ 4096) }
-    ensures { numbers.new ≡ wrote numbers.old at (pos a ∷ pos b ∷ pos c ∷ []) }
-{
-    numbers[at] = as_number(a);
-    numbers[at + 1] = as_number(b);
-    numbers[at + 2] = as_number(c);
-}
-
 // What match number `number` appends from index `at` on: its number, its first row, the rows taken,
-// and its measures. The labels are those of its rows, which start at `first`. The answer is the
-// index behind.
+// and its measures. The answer is the index behind.
+#[tactic(auto, using(crate::proofs::Numbers::match_reported))]
 pub fn put_match(
     numbers: &mut [i64],
     at: usize,
     number: usize,
     table: &[u16],
     measures: Measures,
-    rows: &[i32],
-    first: usize,
-    labels: &[u8],
+    of: &MatchRows,
 ) -> usize
-    requires { Appendable numbers.old at number table.now measures.at measures.count rows.now measures.columns first (length labels.now) }
+    requires { Appendable numbers.old at number table.now measures.at measures.count of.now.rows.now of.now.columns of.now.first (length of.now.labels.now) }
     ensures behind { result ≡ at + (3 + 2 * measures.count) }
     ensures numbers { numbers.new ≡ wrote numbers.old at
-        (match_numbers (table_of measures.columns rows.now) (measures_in table.now measures.at measures.count) number first labels.now) }
+        (match_numbers (table_of of.now.columns of.now.rows.now) (measures_in table.now measures.at measures.count) number of.now.first of.now.labels.now) }
 {
-    put_three(numbers, at, number, first, labels.len());
+    let three = [
+        as_number(number),
+        as_number(of.first),
+        as_number(of.labels.len()),
+    ];
+    put(numbers, at, &three);
     let behind = at + 3;
-    put_measures(numbers, behind, table, measures, rows, first, labels);
+    put_measures(numbers, behind, table, measures, of);
     behind + measures.count * 2
 }
 
 // Whether a match of `taken` rows fits whole behind `matches` matches with `written` labels, in
 // rooms of these lengths and with `count` measures.
+#[tactic(auto, unfolding(rules::specs::Report::fits))]
 pub fn fits_whole(
     nums: usize,
     labs: usize,
@@ -137,8 +121,5 @@ pub fn fits_whole(
     requires { (count ≤ 8) × (matches ≤ 4096) × (written ≤ labs) }
     ensures { (ms : List Q.Measure) (ls : List ℕ) → length ms ≡ count → length ls ≡ taken → result ≡ fits (lent_room nums labs ms) matches written ls }
 {
-    if nums < (matches + 1) * (3 + 2 * count) {
-        return false;
-    }
-    taken <= labs - written
+    (matches + 1) * (3 + 2 * count) <= nums && taken <= labs - written
 }

@@ -2,7 +2,6 @@
 use native.Mathlib.Omega.{arith}
 use mathlib.Core.Path.{refl}
 use Rattle.matches.proofs.Labelled.{puts_some, put_letter, put_other}
-use borrow.Author.Rules.{rules}
 use Rattle.matches.proofs.put_label.Goals as goal
 
 pub overflow_sub-labels : goal.overflow_sub-labels

@@ -1,13 +1,10 @@
--- `measure_list::put_in_table` meets its contract by the laws of Tabling. The invariant is
--- `Tabling`; the measures left fall.
-use Prim.Native.Nat.{◌-◌}
-use native.Mathlib.Omega.{arith}
-use borrow.Author.Rules.{rules}
-use Rattle.measure_list.proofs.Tabling.{Tabling, tabling_none, tabling_room, tabling_more, tabling_all}
+-- The first i bytes of the array are words of the table, and its other words are as they were.
+use Rattle.std.proofs.Common.{◌≡◌, ℕ, ◌+◌, ◌≤◌, ◌<◌, get_or}
 use Rattle.measure_list.proofs.put_in_table.Given as goal
 
-abbrev pub invariant-loop-k : goal.invariant-loop-k
-invariant-loop-k l = Tabling l.measures l.count l.initial.table l.table l.at l.k
-
-abbrev pub decreases-loop-k : goal.decreases-loop-k
-decreases-loop-k l = l.count - l.k
+abbrev pub invariant-loop-i : goal.invariant-loop-i
+invariant-loop-i l = record {
+  each : (j : ℕ) → j < l.i → get_or l.table (l.at + j) 0 ≡ get_or l.measures j 0;
+  before : (j : ℕ) → j < l.at → get_or l.table j 0 ≡ get_or l.initial.table j 0;
+  behind : (j : ℕ) → l.at + l.i ≤ j → get_or l.table j 0 ≡ get_or l.initial.table j 0;
+}

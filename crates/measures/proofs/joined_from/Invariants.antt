@@ -1,17 +1,18 @@
--- `measures::joined_from` meets its contract by the laws of RowsOf. The invariant and the measure
--- of its loop come first.
-use mir.Val.{to_z}
-use mir.Syntax.{w64}
-use Prim.Native.Nat.{◌-◌}
-use lib.ListN.{length}
-use native.Mathlib.Omega.{arith}
-use borrow.Author.Rules.{rules}
+-- The value is what the rows before row i give together, and small.
+use Rattle.std.proofs.Common.{◌≡◌, ◌*◌, ◌+◌, ◌≤◌, drop}
+use lib.Signed.{mag}
+use mathlib.Core.Option.{some}
+use Rattle.rules.specs.Report.{values, over_some, join_all}
 use Rattle.rules.specs.Rows.{table_of}
-use Rattle.measures.proofs.RowsOf.{Joining, joining_first, joining_more, joining_all, joining_fine, row_inside, row_small}
+use Rattle.measure_list.specs.Measures.{measure_of}
+use Rattle.joins.specs.Entries.{number_of}
 use Rattle.measures.proofs.joined_from.Given as goal
 
 abbrev pub invariant-loop-i : goal.invariant-loop-i
-invariant-loop-i l = Joining (table_of l.columns l.rows) l.function l.letter l.column l.first l.labels l.value l.i
-
-abbrev pub decreases-loop-i : goal.decreases-loop-i
-decreases-loop-i l = length l.labels - l.i
+invariant-loop-i l =
+    let t = table_of l.of.columns l.of.rows.now in
+    record {
+      small : mag l.value ≤ 2147483648 * l.i;
+      goes : over_some (number_of l.join) (values t (measure_of l.m) l.of.first l.of.labels.now)
+          ≡ some (join_all (number_of l.join) l.value (values t (measure_of l.m) (l.of.first + l.i) (drop l.i l.of.labels.now)));
+    }

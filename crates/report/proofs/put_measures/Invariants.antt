@@ -1,14 +1,11 @@
--- `report::put_measures` meets its contract by the laws of Numbers. The invariant and the measure
--- of its loop come first.
-use Prim.Native.Nat.{◌-◌}
-use native.Mathlib.Omega.{arith}
-use borrow.Author.Rules.{rules}
+-- The numbers of the first k measures are written.
+use Rattle.std.proofs.Common.{◌≡◌}
+use Rattle.rules.specs.Basics.{wrote}
+use Rattle.rules.specs.Report.{measure_numbers}
 use Rattle.rules.specs.Rows.{table_of}
-use Rattle.report.proofs.Numbers.{Reporting, reporting_none, reporting_more, reporting_all, three_bytes, function_from, function_upto, readable_one}
+use Rattle.table.specs.Measures.{measures_in}
 use Rattle.report.proofs.put_measures.Given as goal
 
 abbrev pub invariant-loop-k : goal.invariant-loop-k
-invariant-loop-k l = Reporting l.initial.numbers l.at l.table l.measures.at l.measures.count (table_of l.measures.columns l.rows) l.first l.labels l.numbers l.k
-
-abbrev pub decreases-loop-k : goal.decreases-loop-k
-decreases-loop-k l = l.measures.count - l.k
+invariant-loop-k l = l.numbers
+    ≡ wrote l.initial.numbers l.at (measure_numbers (table_of l.of.columns l.of.rows.now) l.of.first l.of.labels.now (measures_in l.table l.measures.at l.k))
