@@ -4,20 +4,19 @@ use mathlib.Core.Path.{◌≡◌, refl, sym, ap, ◌∙◌}
 use mathlib.Core.List.{List, [], ◌∷◌, ◌++◌}
 use mathlib.Core.Bool.{Bool, false}
 use Prim.Native.Nat.{ℕ, zero, suc, ◌+◌, ◌-◌, ◌*◌, ◌/◌, ◌%◌, ◌≤◌, ◌<◌}
-use native.Mathlib.Numerals.{add-one}
 use native.Mathlib.Decide.{dec_lt}
 use native.Mathlib.Omega.{arith}
 use lib.IntN.{ℤ}
-use lib.ListN.{length, get_or, set, take, drop, replicate, length-append, length-replicate, get_or-replicate, get_or-eq_default}
-use lib.Seq.{ext_get_or, set_split}
+use lib.ListN.{length, get_or, drop, replicate, length-append, length-replicate, get_or-replicate, get_or-eq_default}
+use lib.Seq.{ext_get_or}
 use Rattle.rules.specs.Basics.{wrote}
 use Rattle.rules.specs.Report.{bytes_for, bit_of, bit_at, zeros}
-use Rattle.laws.proofs.Appended.{wrote_none, wrote_on, length-wrote_at}
+use Rattle.laws.proofs.Appended.{length-wrote_at}
 use Rattle.laws.proofs.Lists.{front_wrote, beyond-wrote}
 use Rattle.laws.proofs.Notes.{bits_of-at, bits_from-length}
 use Rattle.rules.specs.Working.{bits_of}
 use Rattle.laws.proofs.NotesWritten.{wrote-over, notes_written}
-use Rattle.pairs.specs.Layout.{P, N, most_pairs}
+use Rattle.pairs.specs.Layout.{N, most_pairs}
 use Rattle.matches.specs.declared.Sweep.{Sweep}
 use Rattle.matches.specs.declared.Task.{Task}
 use Rattle.matches.specs.Found.{Searches}
@@ -31,44 +30,10 @@ pub zeros-long : (k : ℕ) → length (zeros k) ≡ k
 unfolding zeros
 zeros-long k = length-replicate k 0
 
-zeros-one : (k : ℕ) → zeros k ++ (0 ∷ []) ≡ zeros (suc k)
-unfolding zeros
-zeros-one zero = refl
-zeros-one (suc k) = ap (λ (l : List ℕ). 0 ∷ l) (zeros-one k)
-
-set-wrote : (l : List ℕ) (i v : ℕ) → i < length l → set l i v ≡ wrote l i (v ∷ [])
-unfolding wrote
-set-wrote l i v h = set_split l i v h ∙ ap (λ (k : ℕ). take i l ++ (v ∷ drop k l)) (let e : suc i ≡ i + 1 = omega arith in e)
-
-pub record Zeroed (s₀ : List ℕ) (count : ℕ) (s : List ℕ) (i : ℕ) : Type 0 where
-  pub room : count ≤ length s₀
-  pub upto : i ≤ count
-  pub is : s ≡ wrote s₀ 0 (zeros i)
-
-module _ (s₀ : List ℕ) (count : ℕ) where
-  pub zeroed-none : count ≤ length s₀ → Zeroed s₀ count s₀ 0
-  unfolding zeros
-  zeroed-none h = record { room = h; upto = omega arith; is = sym (wrote_none s₀ 0) }
-
-  module _ (s : List ℕ) (i : ℕ) (z : Zeroed s₀ count s i) where
-    fits : 0 + length (zeros i) ≤ length s₀
-    fits = let a = z.room in let b = z.upto in let c = zeros-long i in omega arith
-
-    pub zeroed-long : length s ≡ length s₀
-    zeroed-long = rw z.is (length-wrote_at s₀ 0 (zeros i) fits)
-
-    pub zeroed-room : i < count → i < length s
-    zeroed-room h = let a = z.room in let b = zeroed-long in omega arith
-
-    pub zeroed-more : i < count → Zeroed s₀ count (set s i 0) (i + 1)
-    zeroed-more h =
-        let c : i ≡ 0 + length (zeros i) = (let d = zeros-long i in omega arith) in
-        let a : wrote (wrote s₀ 0 (zeros i)) i (0 ∷ []) ≡ wrote s₀ 0 (zeros (i + 1)) =
-        ap (λ (k : ℕ). wrote (wrote s₀ 0 (zeros i)) k (0 ∷ [])) c ∙ wrote_on s₀ 0 (zeros i) fits (0 ∷ []) ∙ ap (wrote s₀ 0) (zeros-one i ∙ ap zeros (sym (add-one i))) in
-        record { room = z.room; upto = omega arith; is = set-wrote s i 0 (zeroed-room h) ∙ ap (λ (l : List ℕ). wrote l i (0 ∷ [])) z.is ∙ a }
-
-    pub zeroed-all : count ≤ i → s ≡ wrote s₀ 0 (zeros count)
-    zeroed-all h = let u = z.upto in let e : i ≡ count = omega arith in rw e at z.is
+-- the first numbers of a list, filled with zeros
+pub zeros_put : (s zs : List ℕ) (n k : ℕ) → n ≤ length s → zs ≡ replicate n 0 → n ≡ k → zs ++ drop n s ≡ wrote s 0 (zeros k)
+unfolding wrote zeros
+zeros_put s zs n k h e q = let z : 0 + n ≡ n = omega arith in rw (e, ← q, length-replicate {A = ℕ} n 0, z) refl
 
 -- ---- the search from a start on
 

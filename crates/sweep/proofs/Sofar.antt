@@ -2,22 +2,21 @@
 use mathlib.Core.Path.{◌≡◌, refl, sym, ap, ◌∙◌, subst}
 use mathlib.Core.List.{List, [], ◌∷◌, ◌++◌, append_assoc, append-nil}
 use mathlib.Core.Bool.{Bool, true, false}
-use mathlib.Core.Logic.{◌⊎◌, inl, inr, ⊎_elim}
 use mathlib.Core.Option.{Option, none, some}
-use Prim.Native.Nat.{ℕ, zero, suc, ◌+◌, ◌-◌, ◌*◌, ◌≤◌, ◌<◌}
-use native.Mathlib.Nat.{suc-mul, mul-le-mul, mul-le-mul_right}
+use Prim.Native.Nat.{ℕ, zero, suc, ◌+◌, ◌*◌, ◌≤◌, ◌<◌}
+use native.Mathlib.Nat.{suc-mul}
 use native.Mathlib.Omega.{arith}
 use lib.IntN.{ℤ}
-use lib.ListN.{length, get_or, replicate, length-append}
+use lib.ListN.{length, replicate, length-append}
 use borrow.Author.Tests.{lt-ltb, le-ltb}
 use Rattle.rules.specs.Answers.{halt_answer, end_answer}
 use Rattle.rules.specs.Basics.{wrote}
-use Rattle.rules.specs.Report.{bit_at, match_numbers, numbers_of, labels_of, lent_room, fits}
+use Rattle.rules.specs.Report.{match_numbers, numbers_of, labels_of, lent_room, fits}
 use Rattle.rules.specs.Search as R
 use Rattle.rules.specs.Search.{Match, End, Swept, Plan, Attempted, hit, miss, halts, halting_of, sweep, on_answer, with_match, walk_at, labels, end_of, plan_of, walk_search, Standing, stand_at, on_match}
 use Rattle.rules.specs.Walk.{Halt, out_of_steps, out_of_rows, pairs, first_at, pair_ways, Kept, as_kept}
 use Rattle.laws.proofs.Appended.{wrote_none, wrote_on, length-wrote_at, numbers_on, labels-on, fits-room}
-use Rattle.laws.proofs.Limits.{match-long, numbers_long}
+use Rattle.laws.proofs.Limits.{numbers_long}
 use Rattle.rules.specs.Working.{bits_of}
 use Rattle.laws.proofs.Starts.{next-on}
 use Rattle.pairs.specs.Layout.{P, N, graph_of, halts_in}
@@ -25,8 +24,8 @@ use Rattle.pairs.proofs.Ways.{in_length}
 use Rattle.matches.specs.declared.Sweep.{Sweep}
 use Rattle.matches.specs.declared.Task.{Task}
 use Rattle.matches.specs.Asked.{Asked, pl, width, search_of, asked_of}
-use Rattle.matches.specs.Found.{swept, open_by, swept_at, swept_on, next_at, Quiet, Written, ToldBy, Told, Visits, attempt_at, Visited, Searches}
-use Rattle.sweep.specs.Searched.{Sound, Beyond, pre, swp, SoFar, WaitsAt, Came, Searched}
+use Rattle.matches.specs.Found.{swept, swept_at, swept_on, next_at, Quiet, Written, ToldBy, Told, attempt_at, Visited}
+use Rattle.sweep.specs.Searched.{pre, swp, SoFar, WaitsAt, Came}
 
 abbrev pub M : Asked → ℕ
 M A = N A.layout A.n

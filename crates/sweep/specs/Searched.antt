@@ -13,7 +13,7 @@ use Rattle.pairs.specs.Step.{stack, pair_of}
 use Rattle.matches.specs.declared.Sweep.{Sweep}
 use Rattle.matches.specs.declared.Task.{Task}
 use Rattle.matches.specs.Asked.{Asked, pl, width, asked_of, search_of, path_on}
-use Rattle.matches.specs.Found.{open_by, Searches, Reports}
+use Rattle.matches.specs.Found.{Searches, Reports}
 
 -- ---- one start
 

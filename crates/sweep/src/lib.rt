@@ -34,33 +34,26 @@ fn tell(
     if w.status == ENTER {
         return Sweep {
             end: OUT_OF_STEPS,
-            row: i.row,
-            matches: i.matches,
-            labels: i.labels,
             steps: w.steps,
             opened: 0,
+            ..i
         };
     }
     if w.status == WAITS {
-        let opened = w.top + 1;
         return Sweep {
             end: OUT_OF_ROWS,
-            row: i.row,
-            matches: i.matches,
-            labels: i.labels,
             steps: w.steps,
-            opened,
+            opened: w.top + 1,
+            ..i
         };
     }
     if w.top == 0 {
-        let after = i.row + 1;
         return Sweep {
             end: DONE,
-            row: after,
-            matches: i.matches,
-            labels: i.labels,
+            row: i.row + 1,
             steps: w.steps,
             opened: 0,
+            ..i
         };
     }
     write_match(table, rows, trail, numbers, labels, task, i, w)
@@ -90,11 +83,8 @@ fn waiting(i: Sweep) -> Sweep
 {
     Sweep {
         end: OUT_OF_ROWS,
-        row: i.row,
-        matches: i.matches,
-        labels: i.labels,
-        steps: i.steps,
         opened: 0,
+        ..i
     }
 }
 
@@ -127,30 +117,6 @@ fn starts(
     i
 }
 
-// Zeros in the first `count` bytes.
-fn zero_bytes(s: &mut [u8], count: usize)
-    requires { count ≤ length s.old }
-    ensures { s.new ≡ wrote s.old 0 (zeros count) }
-{
-    let mut i = 0;
-    while i < count {
-        s[i] = 0;
-        i += 1;
-    }
-}
-
-// Zeros in the first `count` numbers.
-fn zero_words(s: &mut [u32], count: usize)
-    requires { count ≤ length s.old }
-    ensures { s.new ≡ wrote s.old 0 (zeros count) }
-{
-    let mut i = 0;
-    while i < count {
-        s[i] = 0;
-        i += 1;
-    }
-}
-
 // The search from a start on, with the notes as they are; the trail is cleared unless it waits.
 pub fn go_on(
     table: &[u16],
@@ -169,7 +135,7 @@ pub fn go_on(
     if r.end == OUT_OF_ROWS {
         return r;
     }
-    zero_words(trail, task.pairs);
+    trail[..task.pairs].fill(0);
     r
 }
 
@@ -186,7 +152,7 @@ pub fn search(
     requires { Searches table.now rows.now task notes.old trail.old × Measures table.now task notes.old trail.old }
     ensures { Answered table.now rows.now task notes.old trail.old numbers.old labels.old notes.new trail.new numbers.new labels.new result }
 {
-    zero_bytes(notes, (task.pairs + 7) / 8);
+    notes[..task.pairs.div_ceil(8)].fill(0);
     let first = Sweep {
         end: DONE,
         row: 0,

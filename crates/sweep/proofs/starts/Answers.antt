@@ -1,7 +1,6 @@
 -- `sweep::starts` meets its contract by the laws of Going. The invariant and the measure of its loop
 -- come first.
-use Rattle.sweep.proofs.Going.{Going, going_none, going_visits, going_numbers, going_labels, going_over, going_less, going_more, going_all, going_waits}
-use Prim.Native.Nat.{◌-◌}
+use Rattle.sweep.proofs.Going.{going_none, going_visits, going_numbers, going_labels, going_over, going_less, going_more, going_all, going_waits}
 use borrow.Author.Rules.{rules}
 use Rattle.sweep.proofs.starts.Goals as goal
 

@@ -1,8 +1,7 @@
 -- `sweep::starts` meets its contract by the laws of Going. The invariant and the measure of its loop
 -- come first.
-use Rattle.sweep.proofs.Going.{Going, going_none, going_visits, going_numbers, going_labels, going_over, going_less, going_more, going_all, going_waits}
+use Rattle.sweep.proofs.Going.{Going}
 use Prim.Native.Nat.{◌-◌}
-use borrow.Author.Rules.{rules}
 use Rattle.sweep.proofs.starts.Given as goal
 
 abbrev pub invariant-loop-i : goal.invariant-loop-i

@@ -6,14 +6,14 @@ use Rattle.sweep.proofs.tell.Goals as goal
 pub returns-then-w-eq-ENTER : goal.returns-then-w-eq-ENTER
 returns-then-w-eq-ENTER c = search (rules, tell_halted)
 
-pub overflow_add-opened : goal.overflow_add-opened
-overflow_add-opened c = search (rules, tell_top)
+pub overflow_add-result : goal.overflow_add-result
+overflow_add-result c = search (rules, tell_top)
 
 pub returns-then-w-eq-WAITS : goal.returns-then-w-eq-WAITS
 returns-then-w-eq-WAITS c = search (rules, tell_waits)
 
-pub overflow_add-after : goal.overflow_add-after
-overflow_add-after c = search (rules, tell_row)
+pub overflow_add-result-then-w-eq0 : goal.overflow_add-result-then-w-eq0
+overflow_add-result-then-w-eq0 c = search (rules, tell_row)
 
 pub returns-then-w-eq0 : goal.returns-then-w-eq0
 returns-then-w-eq0 c = search (rules, tell_none)
