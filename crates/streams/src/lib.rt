@@ -19,7 +19,6 @@ ghost use Rattle.std.specs.Io.KnownBytes.{Keeps};
 ghost use Rattle.streams.specs.Streams.{Prints, Said, HandsOn, IsQuiet};
 
 use std::io::{Read, Write};
-use transfer::Reading;
 
 // The first so many bytes of an input decide what is printed of it: one more than a length, the
 // longest query and the most row bytes take. So no more are read.
@@ -70,10 +69,9 @@ pub fn on_streams<R: Read, W: Write, E: Write>(
     ensures quiet { IsQuiet (E.contents errors.old) (E.contents errors.new) result }
 {
     let mut buf = [0u8; MOST_READ];
-    let reading = transfer::read_whole(input, &mut buf);
-    match reading {
-        Reading::Whole(read) => print(&buf[..read], output, errors),
-        Reading::Unread(reason) => {
+    match transfer::read_whole(input, &mut buf) {
+        Ok(read) => print(&buf[..read], output, errors),
+        Err(reason) => {
             let _ = writeln!(
                 errors,
                 "mireladle: standard input could not be read: {reason}"

@@ -15,11 +15,9 @@
 // `WouldBlock`) has failed: std has no `poll`, and how long to try again would be a guess.
 #![tactic(auto)]
 
-ghost use Rattle.std.specs.Prelude.{◌≡◌, ◌+◌, ◌≤◌, ◌↔◌, length, take, IsNone};
-ghost use Rattle.std.specs.Int.{w64};
-ghost use Rattle.std.proofs.Common.{Fits};
+ghost use Rattle.std.specs.Prelude.{◌≡◌, ◌+◌, ◌≤◌, ◌↔◌, length, take, IsNone, IfOk};
 ghost use Rattle.std.specs.Io.KnownBytes.{Appends};
-ghost use Rattle.transfer.specs.Transfer.{step_of, Steps, IsGivenUp, Reads, Writes, ReadWithin, ReadBytes};
+ghost use Rattle.transfer.specs.Transfer.{Moves, step_of, Steps, IsGivenUp, Reads, Writes, ReadBytes};
 
 use std::io;
 use std::io::{ErrorKind, Read, Write};
@@ -27,113 +25,85 @@ use std::io::{ErrorKind, Read, Write};
 // How often in all a call that a signal interrupted is made again.
 const MOST_INTERRUPTIONS: usize = 1000;
 
-// What follows from a call: one more at `at`, where `left` more may be interrupted; that nothing
-// was moved, which is the end of an input; or that it failed, and why.
+// A call of `read` or `write`: where in the buffer it begins, and how many calls, from it on, a
+// signal may interrupt.
 #[derive(Clone, Copy)]
-pub enum Step {
-    Go { at: usize, left: usize },
-    Still,
-    Broken(io::Error),
+pub struct Call {
+    pub at: usize,
+    pub left: usize,
 }
 
-// How reading an input went: read to its end, or to the end of the buffer, in so many bytes; or
-// not, and why.
-#[derive(Clone, Copy)]
-pub enum Reading {
-    Whole(usize),
-    Unread(io::Error),
-}
+// The first call.
+const FIRST: Call = Call {
+    at: 0,
+    left: MOST_INTERRUPTIONS,
+};
 
 // How writing a text went: how many bytes the calls took, and why the last one failed, where it
-// did.
+// did. Both at once, so no `Result`: of a text that was cut, the bytes taken count too.
 #[derive(Clone, Copy)]
 pub struct Writing {
     pub taken: usize,
     pub error: Option<io::Error>,
 }
 
-// What follows from a call at `at` that moved so many bytes, or that failed, and why.
-fn step_of(
-    failed: Option<io::Error>,
-    interrupted: bool,
-    moved: usize,
-    at: usize,
-    left: usize,
-) -> Step
-    requires { Fits w64 (at + moved) }
-    ensures { result ≡ step_of failed interrupted moved at left }
+// What follows from a call that moved so many bytes or failed: one more; none, where nothing was
+// moved, which is the end of an input; or that it failed, and why.
+fn step_of(moved: io::Result<usize>, call: Call) -> io::Result<Option<Call>>
+    requires { Moves moved call }
+    ensures { result ≡ step_of moved call }
 {
-    if let Some(error) = failed {
-        if interrupted {
-            if 0 < left {
-                return Step::Go { at, left: left - 1 };
-            }
-        }
-        return Step::Broken(error);
-    }
-    if moved == 0 {
-        return Step::Still;
-    }
-    Step::Go {
-        at: at + moved,
-        left,
+    let Call { at, left } = call;
+    match moved {
+        Ok(0) => Ok(None),
+        Ok(count) => Ok(Some(Call {
+            at: at + count,
+            left,
+        })),
+        Err(error) if error.kind() == ErrorKind::Interrupted && 0 < left => Ok(Some(Call {
+            at,
+            left: left - 1,
+        })),
+        Err(error) => Err(error),
     }
 }
 
 // One call of `read`, into what lies behind the bytes read so far.
-fn read_more<R: Read>(input: &mut R, buf: &mut [u8], at: usize, left: usize) -> Step
-    requires { at ≤ length buf.old }
-    ensures steps { Steps (length buf.old) at left result }
-    ensures buf_unchanged { take at buf.new ≡ take at buf.old }
-    ensures again { IsGivenUp left result }
-    ensures bytes { Reads (R.remaining input.old) (R.remaining input.new) buf.new at result }
+fn read_more<R: Read>(input: &mut R, buf: &mut [u8], call: Call) -> io::Result<Option<Call>>
+    requires { call.at ≤ length buf.old }
+    ensures steps { Steps (length buf.old) call result }
+    ensures buf_unchanged { take call.at buf.new ≡ take call.at buf.old }
+    ensures again { IsGivenUp call.left result }
+    ensures bytes { Reads (R.remaining input.old) (R.remaining input.new) buf.new call.at result }
 {
-    let got = input.read(&mut buf[at..]);
-    match got {
-        Ok(moved) => step_of(None, false, moved, at, left),
-        Err(error) => {
-            let interrupted = error.kind() == ErrorKind::Interrupted;
-            step_of(Some(error), interrupted, 0, at, left)
-        }
-    }
+    let moved = input.read(&mut buf[call.at..]);
+    step_of(moved, call)
 }
 
-// One call of `write`, of what is left of the text from `at` on.
-fn write_more<W: Write>(output: &mut W, text: &[u8], at: usize, left: usize) -> Step
-    requires { at ≤ length text.now }
-    ensures steps { Steps (length text.now) at left result }
-    ensures again { IsGivenUp left result }
-    ensures bytes { Writes (W.contents output.old) (W.contents output.new) text.now at result }
+// One call of `write`, of what is left of the text.
+fn write_more<W: Write>(output: &mut W, text: &[u8], call: Call) -> io::Result<Option<Call>>
+    requires { call.at ≤ length text.now }
+    ensures steps { Steps (length text.now) call result }
+    ensures again { IsGivenUp call.left result }
+    ensures bytes { Writes (W.contents output.old) (W.contents output.new) text.now call.at result }
 {
-    let put = output.write(&text[at..]);
-    match put {
-        Ok(moved) => step_of(None, false, moved, at, left),
-        Err(error) => {
-            let interrupted = error.kind() == ErrorKind::Interrupted;
-            step_of(Some(error), interrupted, 0, at, left)
-        }
-    }
+    let moved = output.write(&text[call.at..]);
+    step_of(moved, call)
 }
 
-// Reads until the input ends or the buffer is full.
-pub fn read_whole<R: Read>(input: &mut R, buf: &mut [u8]) -> Reading
-    ensures within { ReadWithin (length buf.old) result }
-    ensures bytes { ReadBytes (R.remaining input.old) (R.remaining input.new) buf.new result }
+// Reads until the input ends or the buffer is full; the result is how many bytes that is.
+pub fn read_whole<R: Read>(input: &mut R, buf: &mut [u8]) -> io::Result<usize>
+    ensures within { IfOk result (λ count. count ≤ length buf.old) }
+    ensures bytes { IfOk result (ReadBytes (R.remaining input.old) (R.remaining input.new) buf.new) }
 {
-    let mut at = 0;
-    let mut left = MOST_INTERRUPTIONS;
-    while at < buf.len() {
-        let step = read_more(input, buf, at, left);
-        match step {
-            Step::Go { at: a, left: l } => {
-                at = a;
-                left = l;
-            }
-            Step::Still => return Reading::Whole(at),
-            Step::Broken(error) => return Reading::Unread(error),
-        }
+    let mut call = FIRST;
+    while call.at < buf.len() {
+        let Some(next) = read_more(input, buf, call)? else {
+            break;
+        };
+        call = next;
     }
-    Reading::Whole(at)
+    Ok(call.at)
 }
 
 // Writes until all of the text is taken or a call takes nothing. A call that took nothing and did
@@ -143,31 +113,19 @@ pub fn write_whole<W: Write>(output: &mut W, text: &[u8]) -> Writing
     ensures told { IsNone result.error ↔ (result.taken ≡ length text.now) }
     ensures bytes { Appends (W.contents output.old) (W.contents output.new) (take result.taken text.now) }
 {
-    let mut at = 0;
-    let mut left = MOST_INTERRUPTIONS;
-    while at < text.len() {
-        let step = write_more(output, text, at, left);
-        match step {
-            Step::Go { at: a, left: l } => {
-                at = a;
-                left = l;
-            }
-            Step::Still => {
-                return Writing {
-                    taken: at,
-                    error: Some(io::Error::from(ErrorKind::WriteZero)),
-                };
-            }
-            Step::Broken(error) => {
-                return Writing {
-                    taken: at,
-                    error: Some(error),
-                };
-            }
+    let mut call = FIRST;
+    let error = 'calls: loop {
+        if call.at == text.len() {
+            break None;
         }
-    }
+        call = match write_more(output, text, call) {
+            Ok(Some(next)) => next,
+            Ok(None) => break Some(io::Error::from(ErrorKind::WriteZero)),
+            Err(error) => break Some(error),
+        };
+    };
     Writing {
-        taken: at,
-        error: None,
+        taken: call.at,
+        error,
     }
 }

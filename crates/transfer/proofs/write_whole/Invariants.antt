@@ -4,11 +4,11 @@ use Rattle.std.proofs.Common.{length, take, ◌-◌, ◌+◌, ◌≤◌}
 use Rattle.std.specs.Io.KnownBytes.{Appends}
 use Rattle.transfer.proofs.write_whole.Given as goal
 
-abbrev pub invariant-loop-at : goal.invariant-loop-at
-invariant-loop-at g l = record {
-  within : l.at ≤ length l.text;
-  bytes : Appends (g.W.Write.contents l.fn.output) (g.W.Write.contents l.output) (take l.at l.text);
+abbrev pub invariant-calls : goal.invariant-calls
+invariant-calls g l = record {
+  within : l.call.at ≤ length l.text;
+  bytes : Appends (g.W.Write.contents l.fn.output) (g.W.Write.contents l.output) (take l.call.at l.text);
 }
 
-abbrev pub decreases-loop-at : goal.decreases-loop-at
-decreases-loop-at g l = length l.text - l.at + l.left
+abbrev pub decreases-calls : goal.decreases-calls
+decreases-calls g l = length l.text - l.call.at + l.call.left
