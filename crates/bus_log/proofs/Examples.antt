@@ -1,7 +1,7 @@
 -- Logs and their verdicts, by the plain statement.
 use mathlib.Core.Path.{◌≡◌, refl}
 use mathlib.Core.List.{List, [], ◌∷◌, ◌++◌}
-use mathlib.Core.Option.{none, some}
+use Rattle.std.specs.Prelude.{Some, None}
 use Prim.Native.Nat.{ℕ}
 use lib.IntN.{ℤ, pos}
 use Rattle.bus_log.specs.Log.{log_of, said, held_at, verdict_of}
@@ -21,15 +21,15 @@ at_once = refl
 
 -- another base number, another patch number, a row behind the acceptance, an event that is not
 -- known, no rows
-pub other-base : verdict_of (log_of (row 1 7 5 ++ (row 2 7 5 ++ row 3 8 5))) ≡ held_at (some 1)
+pub other-base : verdict_of (log_of (row 1 7 5 ++ (row 2 7 5 ++ row 3 8 5))) ≡ held_at (Some 1)
 unfolding verdict_of log_of
 other-base = refl
 
-pub other-patch : verdict_of (log_of (row 1 7 5 ++ row 3 7 6)) ≡ held_at none
+pub other-patch : verdict_of (log_of (row 1 7 5 ++ row 3 7 6)) ≡ held_at None
 unfolding verdict_of log_of
 other-patch = refl
 
-pub not_last : verdict_of (log_of (row 2 7 5 ++ (row 1 7 5 ++ (row 2 7 5 ++ (row 3 7 5 ++ row 1 7 5))))) ≡ held_at (some 2)
+pub not_last : verdict_of (log_of (row 2 7 5 ++ (row 1 7 5 ++ (row 2 7 5 ++ (row 3 7 5 ++ row 1 7 5))))) ≡ held_at (Some 2)
 unfolding verdict_of log_of
 not_last = refl
 
@@ -37,6 +37,6 @@ pub not_known : verdict_of (log_of (row 4 7 5 ++ (row 1 7 5 ++ row 3 7 5))) ≡ 
 unfolding verdict_of log_of
 not_known = refl
 
-pub no-rows : verdict_of (log_of []) ≡ held_at none
+pub no-rows : verdict_of (log_of []) ≡ held_at None
 unfolding verdict_of log_of
 no-rows = refl

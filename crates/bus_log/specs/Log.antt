@@ -1,10 +1,13 @@
 -- Request R-14, the release desk: what a bus's log says, as plain statements about its rows, and
 -- the verdict on it. No pattern and no search is named here.
-use Rattle.std.specs.Prelude.{Bool, true, false, not, ◌&&◌, ◌||◌, List, ℕ, zero, suc, ◌+◌, eqb, ℤ, pos}
-use Rattle.std.proofs.Math.Option.{Option, none, some}
+use Rattle.std.specs.Prelude.{Bool, true, false, not, ◌&&◌, ◌||◌, List, ℕ, zero, suc, ◌+◌, eqb, ℤ, pos, Option, Some, None}
 use Rattle.std.specs.Int.Signed.{le_z}
 use Rattle.rules.specs.Basics.{pick, every_below}
 use Rattle.rules.specs.Rows.{Table, table_of, entry}
+use Rattle.bus_log.specs.declared.Event.{Event}
+use Rattle.bus_log.specs.declared.Event.TheVariants.{Offered, Refused, Accepted}
+use Rattle.bus_log.specs.declared.Release.{Release}
+use Rattle.bus_log.specs.declared.Release.TheVariants.{Cleared, Held, Unreadable}
 use Rattle.bus_log.specs.declared.Verdict.{Verdict}
 
 -- the log: rows of time (column 0), event (1), base number (2) and patch number (3)
@@ -15,6 +18,10 @@ log_of rows = table_of 4 rows
 -- two numbers are equal: each is at most the other
 unfoldable pub equal : ℤ → ℤ → Bool
 equal a b = le_z a b && le_z b a
+
+-- the event of a number: 1 offered, 2 refused, 3 accepted
+abbrev pub event_of : ℤ → Option Event
+event_of x = pick (equal x (pos 1)) (Some Offered) (pick (equal x (pos 2)) (Some Refused) (pick (equal x (pos 3)) (Some Accepted) None))
 
 -- the event of row i is k: 1 offered, 2 refused, 3 accepted
 unfoldable pub is_event : Table → ℕ → ℕ → Bool
@@ -34,8 +41,8 @@ some_below zero f = false
 some_below (suc n) f = f n || some_below n f
 
 unfoldable pub last_below : ℕ → (ℕ → Bool) → Option ℕ
-last_below zero f = none
-last_below (suc n) f = pick (f n) (some n) (last_below n f)
+last_below zero f = None
+last_below (suc n) f = pick (f n) (Some n) (last_below n f)
 
 -- some row has an event other than 1, 2 and 3
 unfoldable pub is_known : Table → ℕ → Bool
@@ -80,8 +87,14 @@ said v = record { answer = 0; verdict = v; found = 0; row = 0 }
 
 -- held, with the row of the last refusal if there is one
 abbrev pub held_at : Option ℕ → Verdict
-held_at none = said 2
-held_at (some i) = record { answer = 0; verdict = 2; found = 1; row = i }
+held_at None = said 2
+held_at (Some i) = record { answer = 0; verdict = 2; found = 1; row = i }
+
+-- these three by their numbers
+abbrev pub released_as : Release → Verdict
+released_as Cleared = said 1
+released_as (Held refusal) = held_at refusal
+released_as Unreadable = said 3
 
 -- unreadable comes first, then cleared, then held; no rows is held, with none
 unfoldable pub verdict_of : Table → Verdict

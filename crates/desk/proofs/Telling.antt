@@ -5,6 +5,7 @@ use mathlib.Core.Bool.{Bool, true, false, true≢false}
 use mathlib.Core.List.{List, [], ◌∷◌}
 use mathlib.Core.Logic.{inl, ◌↔◌}
 use mathlib.Core.Option.{Option, none, some}
+use Rattle.std.specs.Prelude.{Option as StdOption, Some, None}
 use Prim.Native.Nat.{ℕ, suc, ◌<◌}
 use native.Mathlib.Omega.{arith}
 use lib.Dec.{eqb}
@@ -91,9 +92,9 @@ cleared-says : (t : Table) → (verdict_of t).verdict ≡ 1 → (cleared t ≡ t
 unfolding verdict_of
 cleared-says t e = go (unreadable t) (cleared t) refl refl e
   where
-    held-not : (o : Option ℕ) → (held_at o).verdict ≡ 1 → ⊥
-    held-not none f = omega arith
-    held-not (some i) f = omega arith
+    held-not : (o : StdOption ℕ) → (held_at o).verdict ≡ 1 → ⊥
+    held-not None f = omega arith
+    held-not (Some i) f = omega arith
 
     go : (u c : Bool) → unreadable t ≡ u → cleared t ≡ c → (pick u (said 3) (pick c (said 1) (held_at (last_refusal t)))).verdict ≡ 1 → (cleared t ≡ true) × (unreadable t ≡ false)
     go true c a b f = absurd (omega arith)

@@ -6,9 +6,22 @@
 
 ghost use Rattle.std.specs.Prelude.{◌≡◌};
 ghost use Rattle.bus_log.specs.Log.{log_of};
-ghost use Rattle.verdicts.specs.Verdicts.{verdict_by};
+ghost use Rattle.verdicts.specs.Verdicts.{release_by, verdict_by};
 
-use bus_log::{CLEARED, UNREADABLE, Verdict, handed, held, is_unreadable, said};
+use bus_log::{Release, Verdict, handed, is_unreadable, last_refusal};
+
+// What is said of a log whose search is done and has so many matches.
+fn release_of(rows: &[i32], matches: usize) -> Release
+    ensures { result ≡ release_by (log_of rows.now) matches }
+{
+    if is_unreadable(rows) {
+        return Release::Unreadable;
+    }
+    if matches != 0 {
+        return Release::Cleared;
+    }
+    Release::Held(last_refusal(rows))
+}
 
 // The verdict on a log whose search has this answer and so many matches.
 pub fn verdict_on(rows: &[i32], answer: usize, matches: usize) -> Verdict
@@ -17,11 +30,5 @@ pub fn verdict_on(rows: &[i32], answer: usize, matches: usize) -> Verdict
     if answer != 0 {
         return handed(answer);
     }
-    if is_unreadable(rows) {
-        return said(UNREADABLE);
-    }
-    if matches != 0 {
-        return said(CLEARED);
-    }
-    held(rows)
+    release_of(rows, matches).into()
 }
