@@ -15,7 +15,8 @@ use Rattle.rules.specs.Working.{All}
 use Rattle.rules.specs.Entries.{Reported}
 use Rattle.laws.proofs.Appended.{wrote_none}
 use Rattle.laws.proofs.Lists.{length-wrote}
-use Rattle.tally.specs.Table.{NamedColumns, DepotReport, match_cell, occurs, belonging, counted, cells, listed}
+use Rattle.tally.specs.declared.NamedColumns.{NamedColumns}
+use Rattle.tally.specs.Table.{DepotReport, match_cell, occurs, belonging, counted, cells, listed}
 use Rattle.tally.specs.Counting.{all_up}
 use Rattle.tally.proofs.Tallying.{counted-on, listed-on, refused_none, done_all, cells-refused, cells-done, cells-long, match-cells, occurs-few, all_up-front, list_on, listed-done}
 use Rattle.depot_state.specs.State.{state_of, StateStands, Begun}

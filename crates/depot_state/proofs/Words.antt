@@ -31,34 +31,6 @@ pub rep_on : (n : ℕ) (ys : List ℕ) → replicate n 0 ++ (0 ∷ ys) ≡ repli
 rep_on zero ys = refl
 rep_on (suc n) ys = ap (λ (l : List ℕ). 0 ∷ l) (rep_on n ys)
 
-pub record Clearing (s₀ s : List ℕ) (i : ℕ) : Type 0 where
-  pub room : 771 ≤ length s₀
-  pub upto : i ≤ 771
-  pub is : s ≡ replicate i 0 ++ drop i s₀
-
-pub clearing_none : (s : List ℕ) → 771 ≤ length s → Clearing s s 0
-clearing_none s h = record { room = h; upto = omega arith; is = refl }
-
-module _ (s₀ s : List ℕ) (i : ℕ) (c : Clearing s₀ s i) where
-  pub clearing_long : length s ≡ length s₀
-  clearing_long =
-      let a : length s ≡ length (noughts i) + length (drop i s₀) = ap length c.is ∙ length-append (replicate i 0) (drop i s₀) in
-      omega (arith, a, rep_long i, length-drop i s₀, c.room, c.upto)
-
-  pub clearing_room : i < 771 → i < length s
-  clearing_room h = omega (arith, clearing_long, c.room)
-
-  pub clearing_more : i < 771 → Clearing s₀ (set s i 0) (i + 1)
-  clearing_more h =
-      let e : drop i s₀ ≡ get_or s₀ i 0 ∷ drop (suc i) s₀ = drop-cons s₀ i 0 (omega (arith, c.room)) in
-      let a : set s i 0 ≡ replicate i 0 ++ (0 ∷ drop (suc i) s₀) =
-      ap (λ (l : List ℕ). set l i 0) (c.is ∙ ap (λ (l : List ℕ). replicate i 0 ++ l) e) ∙ set_at (replicate i 0) (get_or s₀ i 0) (drop (suc i) s₀) 0 i (rep_long i) in
-      let z : i + 1 ≡ suc i = add-one i in
-      record { room = c.room; upto = omega arith; is = rw z (a ∙ rep_on i (drop (suc i) s₀)) }
-
-  pub clearing_all : 771 ≤ i → s ≡ replicate 771 0 ++ drop 771 s₀
-  clearing_all h = let z : i ≡ 771 = omega (arith, c.upto) in let e = c.is in rw z at e
-
 -- ---- behind a front of so many words
 
 pub get_d_tail : (xs ys : List ℕ) (n i : ℕ) → length xs ≡ n → get_or (xs ++ ys) (n + i) 0 ≡ get_or ys i 0
@@ -96,20 +68,16 @@ new_words s₀ a b h =
 -- ---- an entry of the list
 
 module _ (state list : List ℕ) where
-  pub no_room : length list < 2 → false ≡ list_fits state list
+  pub no_room : length list - get_or state 770 0 < 2 → false ≡ list_fits state list
   unfolding list_fits
   no_room h = sym (lt-leb (get_or state 770 0 + 2) (length list) (omega arith))
 
-  pub less_room : 2 ≤ length list → length list - 2 < get_or state 770 0 → false ≡ list_fits state list
+  pub some-room : 2 ≤ length list - get_or state 770 0 → true ≡ list_fits state list
   unfolding list_fits
-  less_room g h = sym (lt-leb (get_or state 770 0 + 2) (length list) (omega arith))
+  some-room h = sym (le-leb (get_or state 770 0 + 2) (length list) (omega arith))
 
-  pub some-room : 2 ≤ length list → get_or state 770 0 ≤ length list - 2 → true ≡ list_fits state list
-  unfolding list_fits
-  some-room g h = sym (le-leb (get_or state 770 0 + 2) (length list) (omega arith))
-
-  pub second-there : (v : ℕ) → 2 ≤ length list → get_or state 770 0 ≤ length list - 2 → get_or state 770 0 + 1 < length (set list (get_or state 770 0) v)
-  second-there v g h = rw (length-set list (get_or state 770 0) v) (omega arith)
+  pub second-there : (v : ℕ) → 2 ≤ length list - get_or state 770 0 → get_or state 770 0 + 1 < length (set list (get_or state 770 0) v)
+  second-there v h = rw (length-set list (get_or state 770 0) v) (omega arith)
 
 pub state_there : (state : List ℕ) (v : ℕ) → 773 ≤ length state → 769 < length (set state 770 v)
 state_there state v h = rw (length-set state 770 v) (omega arith)

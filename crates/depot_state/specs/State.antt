@@ -2,7 +2,8 @@
 -- reports of the partitions so far.
 use Rattle.std.specs.Prelude.{◌≡◌, List, [], ◌∷◌, ◌++◌, ℕ, ◌+◌, ◌*◌, ◌≤◌, ◌<◌, length, drop}
 use Rattle.rules.specs.Basics.{wrote}
-use Rattle.tally.specs.Table.{NamedColumns, DepotReport, counted, cells, listed}
+use Rattle.tally.specs.declared.NamedColumns.{NamedColumns}
+use Rattle.tally.specs.Table.{DepotReport, counted, cells, listed}
 
 -- the state's words: 64 times 12 cells and outside, how many partitions have a number, how many
 -- numbers of the list are used, and the two named columns; behind them whatever else was lent

@@ -4,7 +4,7 @@ use Rattle.std.specs.Prelude.{◌≡◌, Bool, false, List, ℕ, ◌+◌, ◌*�
 use Rattle.rules.specs.Basics.{pick}
 use Rattle.rules.specs.Rows.{table_of}
 use Rattle.rules.specs.Query.{misplaced, columns_of, parts}
-use Rattle.tally.specs.Table.{NamedColumns}
+use Rattle.tally.specs.declared.NamedColumns.{NamedColumns}
 use Rattle.tally.specs.Counting.{all_up, cells_in, Countable}
 
 -- the columns that a state names

@@ -10,9 +10,10 @@ ghost use Rattle.depot_state.specs.State.{Begun};
 ghost use Rattle.depot_state.specs.Steps.{list_fits, list_with, state_with, state_up, cells_named, Listing, Counts};
 
 use named::{measure_count, shape_of};
-use tally::count_all;
+use tally::{NamedColumns, Report, count_all};
 
-// Where the words stand, and how many there are.
+// Where the words stand, and how many there are. They are no struct: C lends them as a slice, which
+// may be too short (include/mireladle.h).
 pub const PARTITIONS: usize = 769;
 
 pub const LISTED: usize = 770;
@@ -31,14 +32,10 @@ fn clear(state: &mut [usize])
     requires { 771 ≤ length state.old }
     ensures { state.new ≡ replicate 771 0 ++ drop 771 state.old }
 {
-    let mut i = 0;
-    while i < DEPOT {
-        state[i] = 0;
-        i += 1;
-    }
+    state[..DEPOT].fill(0);
 }
 
-// A new state, with the two named columns.
+// A new state, with the two named columns. The result is 0 or NO_NUMBER, and no Result: C gets it.
 pub fn begin(state: &mut [usize], depot: usize, month: usize) -> usize
     ensures { Begun depot month state.old state.new result }
 {
@@ -57,10 +54,7 @@ pub fn list_one(state: &mut [usize], list: &mut [u32], answer: usize) -> bool
     ensures { (result ≡ list_fits state.old list.old) × (state.new ≡ pick result (state_with state.old) state.old) × (list.new ≡ pick result (list_with state.old list.old answer) list.old) }
 {
     let used = state[LISTED];
-    if list.len() < 2 {
-        return false;
-    }
-    if list.len() - 2 < used {
+    if list.len().saturating_sub(used) < 2 {
         return false;
     }
     let number = state[PARTITIONS] + 1;
@@ -77,10 +71,16 @@ pub fn count_done(state: &mut [usize], query: &[u8], rows: &[i32], numbers: &[i6
     ensures { state.new ≡ state_up state.old (cells_named state.old query.now rows.now numbers.now matches) }
 {
     let number = state[PARTITIONS] + 1;
-    let depot = state[DEPOT];
-    let month = state[MONTH];
-    let columns = shape_of(query);
-    let stride = 3 + 2 * measure_count(query);
-    count_all(state, rows, columns, depot, month, numbers, stride, matches);
+    let named = NamedColumns {
+        depot: state[DEPOT],
+        month: state[MONTH],
+    };
+    let report = Report {
+        rows,
+        columns: shape_of(query),
+        numbers,
+        stride: 3 + 2 * measure_count(query),
+    };
+    count_all(state, report, named, matches);
     state[PARTITIONS] = number;
 }

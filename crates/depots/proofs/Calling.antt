@@ -26,7 +26,8 @@ use Rattle.outcome.specs.declared.Outcome.{Outcome}
 use Rattle.outcome.specs.Results.{lent, memory, refusal}
 use Rattle.search.specs.Promise.{Promised}
 use Rattle.named.specs.Outside.{outside, is_three}
-use Rattle.tally.specs.Table.{NamedColumns, DepotReport, match_cell, listed}
+use Rattle.tally.specs.declared.NamedColumns.{NamedColumns}
+use Rattle.tally.specs.Table.{DepotReport, match_cell, listed}
 use Rattle.tally.specs.Counting.{cells_in, Countable}
 use Rattle.depot_state.specs.State.{StateStands}
 use Rattle.depot_state.specs.Steps.{named_in, list_fits, list_with, state_with, state_up, cells_named, Listing, Counts}
@@ -74,14 +75,14 @@ module _ (q : List ℕ) (rows : List ℤ) (before : Buffers) where
 
 -- ---- the search of a partition
 
-module _ (q : List ℕ) (depot month : ℕ) (rows : List ℤ) (t : Bool) (e : t ≡ is_three q depot month) where
+module _ (q : List ℕ) (w : NamedColumns) (rows : List ℤ) (t : Bool) (e : t ≡ is_three q w.depot w.month) where
   pub parted-three : (notes trail : List ℕ) (numbers : List ℤ) (labels : List ℕ) → t ≡ true → (r : Outcome) → r ≡ refusal 3 0
-      → Parted (record { depot = depot; month = month }) q rows (lent notes trail numbers labels) (memory r notes trail numbers labels)
+      → Parted w q rows (lent notes trail numbers labels) (memory r notes trail numbers labels)
   unfolding partition_of refused
   parted-three notes trail numbers labels f r g =
       record { whole = rw (← e, f, g); searched = λ h. absurd (true≢false (sym f ∙ e ∙ h)) }
 
-  pub parted-searched : (before : Buffers) (after : Memory) → t ≡ false → Promised none q rows before after → Parted (record { depot = depot; month = month }) q rows before after
+  pub parted-searched : (before : Buffers) (after : Memory) → t ≡ false → Promised none q rows before after → Parted w q rows before after
   unfolding partition_of search_of
   parted-searched before after f p = record { whole = rw (← e, f) p.whole; searched = λ h. p }
 

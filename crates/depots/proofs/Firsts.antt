@@ -27,7 +27,8 @@ use Rattle.rules.specs.Demands.{Demands}
 use Rattle.laws.proofs.Limits.{match-long, numbers_long, limits}
 use Rattle.laws.proofs.Lists.{length-wrote, front_wrote}
 use Rattle.modes.proofs.Done.{told}
-use Rattle.tally.specs.Table.{NamedColumns, cell_of, match_cell}
+use Rattle.tally.specs.declared.NamedColumns.{NamedColumns}
+use Rattle.tally.specs.Table.{cell_of, match_cell}
 use Rattle.tally.specs.Counting.{cell_in, cells_in, RowAt, Countable}
 
 -- the start of match i

@@ -3,7 +3,8 @@
 -- reports state and list stand then. Cells and list are told from the reports alone.
 use Rattle.std.specs.Prelude.{◌≡◌, List, [], ◌∷◌, ◌++◌, ◌⊎◌, ℕ, ◌+◌, ◌≤◌, ◌<◌, ℤ, length}
 use Rattle.rules.specs.Answers.{Buffers, Memory, refused}
-use Rattle.tally.specs.Table.{NamedColumns, DepotReport, listed}
+use Rattle.tally.specs.declared.NamedColumns.{NamedColumns}
+use Rattle.tally.specs.Table.{DepotReport, listed}
 use Rattle.depot_state.specs.State.{StateStands}
 use Rattle.depots.specs.Partition.{partition_of, depot_report}
 

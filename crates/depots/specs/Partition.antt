@@ -9,7 +9,8 @@ use Rattle.rules.specs.Answers.{Buffers, Memory, refused, search_of}
 use Rattle.rules.specs.Entries.{reported_in}
 use Rattle.search.specs.Promise.{Promised}
 use Rattle.named.specs.Outside.{is_three}
-use Rattle.tally.specs.Table.{NamedColumns, DepotReport}
+use Rattle.tally.specs.declared.NamedColumns.{NamedColumns}
+use Rattle.tally.specs.Table.{DepotReport}
 
 -- A named column outside the shape is answer 3, behind 1 and 2; else the partition's answer, its
 -- counts and its buffers are the search's. A refusal changes no buffer.

@@ -11,6 +11,7 @@ ghost use Rattle.depots.specs.Calls.{Calls};
 use depot_state::{DEPOT, LENGTH, MONTH, NO_NUMBER, PARTITIONS, count_done, list_one};
 use named::is_three;
 use outcome::{Outcome, refused};
+use tally::NamedColumns;
 
 // As many partitions as get a number.
 pub const MOST: usize = 65535;
@@ -18,17 +19,16 @@ pub const MOST: usize = 65535;
 // The search of one partition, or answer 3 where a named column is outside the shape.
 fn search_partition(
     query: &[u8],
-    depot: usize,
-    month: usize,
+    named: NamedColumns,
     rows: &[i32],
     notes: &mut [u8],
     trail: &mut [u32],
     numbers: &mut [i64],
     labels: &mut [u8],
 ) -> Outcome
-    ensures { Parted (record { depot = depot; month = month }) query.now rows.now (lent notes.old trail.old numbers.old labels.old) (memory result notes.new trail.new numbers.new labels.new) }
+    ensures { Parted named query.now rows.now (lent notes.old trail.old numbers.old labels.old) (memory result notes.new trail.new numbers.new labels.new) }
 {
-    if is_three(query, depot, month) {
+    if is_three(query, named.depot, named.month) {
         return refused(3, 0);
     }
     search::search(query, rows, notes, trail, numbers, labels)
@@ -54,9 +54,11 @@ pub fn partition(
     if MOST <= taken {
         return refused(NO_NUMBER, 0);
     }
-    let depot = state[DEPOT];
-    let month = state[MONTH];
-    let r = search_partition(query, depot, month, rows, notes, trail, numbers, labels);
+    let named = NamedColumns {
+        depot: state[DEPOT],
+        month: state[MONTH],
+    };
+    let r = search_partition(query, named, rows, notes, trail, numbers, labels);
     let answer = r.answer;
     if answer != 0 {
         if list_one(state, list, answer) {

@@ -7,7 +7,8 @@ use lib.IntN.{ℤ, pos, negsuc}
 use lib.ListN.{length}
 use Rattle.rules.specs.Rows.{Table}
 use Rattle.rules.specs.Entries.{Reported}
-use Rattle.tally.specs.Table.{NamedColumns, DepotReport, counted, cells, listed}
+use Rattle.tally.specs.declared.NamedColumns.{NamedColumns}
+use Rattle.tally.specs.Table.{DepotReport, counted, cells, listed}
 
 abbrev named : NamedColumns
 named = record { depot = 1; month = 2 }

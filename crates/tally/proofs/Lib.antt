@@ -1,4 +1,3 @@
-pub mod Cells
 pub mod Reading
 pub mod Tallying
 pub mod Examples

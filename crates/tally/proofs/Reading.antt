@@ -1,7 +1,8 @@
 -- The first rows of a report's matches as the code reads them, and the loop that counts them.
 use mathlib.Core.Path.{◌≡◌, refl, sym, ap, ap₂, ◌∙◌}
 use mathlib.Core.List.{List, [], ◌∷◌, ◌++◌}
-use Prim.Native.Nat.{ℕ, zero, suc, ◌+◌, ◌*◌, ◌≤◌, ◌<◌}
+use mathlib.Core.Bool.{Bool, true, false}
+use Prim.Native.Nat.{ℕ, zero, suc, ◌+◌, ◌*◌, ◌≤◌, ◌<◌, min}
 use native.Mathlib.Omega.{arith}
 use lib.IntN.{ℤ, pos, nat_abs}
 use lib.Signed.{mag, non_neg, nat_abs-le}
@@ -11,11 +12,12 @@ use lib.Seq.{set-get_or}
 use mir.Syntax.{w32, w64}
 use mir.Val.{Fits, SFits, to_z, of_z}
 use mir.Facts.{to_z-of_z}
-use borrow.Author.Tests.{lt-ltb, le-ltb}
-use Rattle.rules.specs.Basics.{tabulate}
+use borrow.Author.Tests.{ltb-true, ltb-false}
+use Rattle.rules.specs.Basics.{pick, tabulate}
 use Rattle.rules.specs.Rows.{table_of, entry}
 use Rattle.laws.proofs.Lists.{length-tabulate}
-use Rattle.tally.specs.Table.{NamedColumns, cell_of}
+use Rattle.tally.specs.declared.NamedColumns.{NamedColumns}
+use Rattle.tally.specs.Table.{cell_of}
 use Rattle.tally.specs.Counting.{one_more, up, all_up, cell_in, cells_in, RowAt, Countable}
 
 -- ---- one row
@@ -28,31 +30,35 @@ pub entry_read : (rows : List ℤ) (columns row column : ℕ) → mag (get_or ro
 unfolding entry table_of
 entry_read rows columns row column h = rw (to_z-of_z {w = w32} (record { sfits = h })) (refl, h)
 
-module _ (rows : List ℤ) (columns depot month : ℕ) (numbers : List ℤ) (at : ℕ) (x : RowAt rows columns (record { depot = depot; month = month }) numbers at) (row : ℕ)
+module _ (rows : List ℤ) (columns : ℕ) (w : NamedColumns) (numbers : List ℤ) (at : ℕ) (x : RowAt rows columns w numbers at) (row : ℕ)
     (e : row ≡ nat_abs (get_or numbers at (pos 0))) where
-  pub depot_there : row * columns + depot < length rows
+  pub depot_there : row * columns + w.depot < length rows
   depot_there = rw e x.depot_there
 
-  pub month_there : row * columns + month < length rows
+  pub month_there : row * columns + w.month < length rows
   month_there = rw e x.month_there
 
-  pub cell_read : (d m : ℤ) → d ≡ entry (table_of columns rows) row depot → mag d < 2147483648 → m ≡ entry (table_of columns rows) row month → mag m < 2147483648
-      → (r : ℕ) → r ≡ cell_of (to_z w32 (of_z w32 d)) (to_z w32 (of_z w32 m)) → r ≡ cell_in (table_of columns rows) (record { depot = depot; month = month }) numbers at
+  pub cell_read : (d m : ℤ) → d ≡ entry (table_of columns rows) row w.depot → mag d < 2147483648 → m ≡ entry (table_of columns rows) row w.month → mag m < 2147483648
+      → (r : ℕ) → r ≡ cell_of (to_z w32 (of_z w32 d)) (to_z w32 (of_z w32 m)) → r ≡ cell_in (table_of columns rows) w numbers at
   unfolding cell_in
   cell_read d m ed hd em hm r q =
       q
       ∙ ap₂ (λ (a b : ℤ). cell_of a b) (to_z-of_z {w = w32} (record { sfits = hd }) ∙ ed) (to_z-of_z {w = w32} (record { sfits = hm }) ∙ em)
-      ∙ ap (λ (k : ℕ). cell_of (entry (table_of columns rows) k depot) (entry (table_of columns rows) k month)) e
+      ∙ ap (λ (k : ℕ). cell_of (entry (table_of columns rows) k w.depot) (entry (table_of columns rows) k w.month)) e
 
 -- ---- one match
 
-pub up_more : (l : List ℕ) (c k : ℕ) → k ≡ get_or l c 0 → k < 18446744073709551615 → set l c (k + 1) ≡ up l c
-unfolding up one_more
-up_more l c k e h = rw (← e, lt-ltb k 18446744073709551615 h)
+one-more : (k : ℕ) → k ≤ 18446744073709551615 → min (k + 1) 18446744073709551615 ≡ one_more k
+unfolding one_more
+one-more k h = go (ltb k 18446744073709551615) refl h
+  where
+    go : (t : Bool) → ltb k 18446744073709551615 ≡ t → k ≤ 18446744073709551615 → min (k + 1) 18446744073709551615 ≡ pick t (k + 1) k
+    go true e h = let l = ltb-true k 18446744073709551615 e in omega arith
+    go false e h = let l = ltb-false k 18446744073709551615 e in omega arith
 
-pub up-most : (l : List ℕ) (c k : ℕ) → k ≡ get_or l c 0 → 18446744073709551615 ≤ k → l ≡ up l c
+pub up_more : (l : List ℕ) (c r : ℕ) → get_or l c 0 ≤ 18446744073709551615 → r ≡ min (get_or l c 0 + 1) 18446744073709551615 → set l c r ≡ up l c
 unfolding up one_more
-up-most l c k e h = rw (← e, le-ltb k 18446744073709551615 h) (let z : set l c (get_or l c 0) ≡ l = set-get_or l c 0 in rw e (sym z))
+up_more l c r h e = ap (set l c) (e ∙ one-more (get_or l c 0) h)
 
 pub up-long : (l : List ℕ) (c : ℕ) → length (up l c) ≡ length l
 unfolding up

@@ -17,7 +17,8 @@ use Rattle.rules.specs.Entries.{Reported}
 use Rattle.laws.proofs.Appended.{wrote_on}
 use Rattle.laws.proofs.Choice.{and_left, and_right}
 use Rattle.laws.proofs.Lists.{length-tabulate, get_d_tabulate}
-use Rattle.tally.specs.Table.{NamedColumns, DepotReport, known, cell_of, match_cell, occurs, belonging, counted, cells, listed}
+use Rattle.tally.specs.declared.NamedColumns.{NamedColumns}
+use Rattle.tally.specs.Table.{DepotReport, known, cell_of, match_cell, occurs, belonging, counted, cells, listed}
 use Rattle.tally.specs.Counting.{one_more, up, all_up}
 use Rattle.tally.proofs.Reading.{up-long}
 

@@ -3,7 +3,8 @@ use Rattle.std.specs.Prelude.{◌≡◌, List, [], ◌∷◌, ℕ, ◌+◌, ◌*
 use Rattle.std.specs.Int.Signed.{non_neg}
 use Rattle.rules.specs.Basics.{pick, tabulate}
 use Rattle.rules.specs.Rows.{Table, entry}
-use Rattle.tally.specs.Table.{NamedColumns, cell_of}
+use Rattle.tally.specs.declared.NamedColumns.{NamedColumns}
+use Rattle.tally.specs.Table.{cell_of}
 
 -- one more, up to the largest number
 unfoldable pub one_more : ℕ → ℕ

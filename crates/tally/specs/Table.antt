@@ -5,11 +5,7 @@ use Rattle.std.specs.Int.Signed.{le_z}
 use Rattle.rules.specs.Basics.{pick, tabulate}
 use Rattle.rules.specs.Rows.{Table, entry}
 use Rattle.rules.specs.Entries.{Reported}
-
--- the two named columns
-pub record NamedColumns : Type 0 where
-  pub depot : ℕ
-  pub month : ℕ
+use Rattle.tally.specs.declared.NamedColumns.{NamedColumns}
 
 -- the report of a partition: its answer, its rows, and its matches as they are read back from the
 -- report's buffers

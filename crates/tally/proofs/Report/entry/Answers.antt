@@ -1,7 +1,7 @@
--- `tally::entry_of` meets its contract by the laws of Reading.
+-- `tally::entry` meets its contract by the laws of Reading.
 use Rattle.tally.proofs.Reading.{entry_read}
 use borrow.Author.Rules.{rules}
-use Rattle.tally.proofs.entry_of.Goals as goal
+use Rattle.tally.proofs.Report.entry.Goals as goal
 
 pub returns : goal.returns
 returns c = search (rules, entry_read)
